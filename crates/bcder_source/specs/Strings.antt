@@ -1,5 +1,6 @@
 -- OCTET STRING and restricted character strings, in each mode (X.690 8.7, 8.23, 9.2, 10.2; X.680 clause 41).
-use Rattle.std.specs.Prelude.{◌≡◌, ℕ, ◌<◌, ◌≤◌, ◌⊎◌, List, [], ◌++◌, length, codes, All, Contains}
+use Rattle.std.specs.Prelude.{◌≡◌, ℕ, ◌<◌, ◌≤◌, ◌⊎◌, ◌==◌, List, [], ◌++◌, length, codes, All, IsTrue}
+use Rattle.std.specs.List.{list_any}
 use Rattle.bcder_source.specs.declared.mode.Mode.{Mode}
 use Rattle.bcder_source.specs.declared.mode.Mode.TheVariants.{Ber, Cer, Der}
 use Rattle.bcder_source.specs.Tags.{TagValue, universal}
@@ -44,9 +45,13 @@ IsLetter c = ((65 ≤ c) × (c ≤ 90)) ⊎ ((97 ≤ c) × (c ≤ 122))
 abbrev pub IsDigit : ℕ → Type 0
 IsDigit c = (48 ≤ c) × (c ≤ 57)
 
+-- One of these characters.
+abbrev pub IsOneOf : List ℕ → ℕ → Type 0
+IsOneOf marks c = IsTrue (list_any (λ m. m == c) marks)
+
 -- What a PrintableString has: letters, digits, space and some marks (X.680 41.4).
 abbrev pub IsPrintable : ℕ → Type 0
-IsPrintable c = IsLetter c ⊎ (IsDigit c ⊎ Contains (codes " '()+,-./:=?") c)
+IsPrintable c = IsLetter c ⊎ (IsDigit c ⊎ IsOneOf (codes " '()+,-./:=?") c)
 
 -- What an IA5String has: 00 to 7F (X.680 41.2).
 abbrev pub IsIa5 : ℕ → Type 0

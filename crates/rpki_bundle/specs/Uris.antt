@@ -59,3 +59,18 @@ lookup_key uri = map lower (take 8 uri) ++ lower_host (drop 8 uri)
 pub record IsLookupKey (text : List ℕ) : Type 0 where
   pub uri : IsUri text
   pub own_key : lookup_key text ≡ text
+
+-- Written in URI octets alone, and its first 8 octets are the scheme in any case.
+pub record HasScheme (scheme uri : List ℕ) : Type 0 where
+  pub plain : All IsUriOctet uri
+  pub scheme_is : map lower (take 8 uri) ≡ scheme
+
+-- What stands behind `rsync://`: a host, a slash and a module, and then nothing or a slash and a path.
+pub record IsModulePath (text : List ℕ) : Type 0 where
+  pub host : List ℕ
+  pub module_name : List ℕ
+  pub rest : List ℕ
+  pub whole : text ≡ host ++ (47 ∷ (module_name ++ rest))
+  pub host_is : IsSegment host
+  pub module_is : IsSegment module_name
+  pub rest_is : IsRest rest

@@ -1,13 +1,18 @@
-// A library with one function.
+//! Bundles: all that one run of the validator is told, in one DER value.
 #![tactic(auto)]
 
-ghost use Rattle.std.specs.Prelude.{◌≡◌};
-ghost use Rattle.rpki_bundle.specs.Echo.{echo_of};
+pub mod bundle;
+mod der;
+pub mod digest;
+mod entries;
+pub mod error;
+mod forms;
+pub mod parts;
+pub mod time;
+pub mod uri;
 
-// The `ensures` clause is the contract: what `echo` returns is `echo_of` of its argument, a definition
-// in `specs/Echo.antt`, which a caller's clause can cite too.
-pub fn echo(x: usize) -> usize
-    ensures { result ≡ echo_of x }
-{
-    x
-}
+pub use bundle::Bundle;
+pub use digest::Digester;
+pub use error::BundleError;
+pub use parts::{Locator, Object, Verdict};
+pub use time::Time;

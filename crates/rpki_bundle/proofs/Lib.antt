@@ -1,0 +1,13 @@
+mod Slices
+mod Lengths
+mod Contents
+mod Lists
+mod Members
+mod Wholes
+mod Numbers
+mod EntryFronts
+mod Orders
+pub mod UriLaws
+pub mod UriTexts
+pub mod Calendar
+pub mod Moments

@@ -1,0 +1,229 @@
+//! rsync and https URIs, and the keys under which they are looked up.
+
+ghost use Rattle.std.specs.Prelude.{◌≡◌, List, ℕ, ◌≤◌, ◌==◌, ◌++◌, map, take, drop, length, All, ◌↔◌, IsTrue, IfOk, MatchOption};
+ghost use Rattle.std.specs.Cmp.Lexicographic.{slice_cmp};
+ghost use Rattle.std.specs.List.{position_or_len};
+ghost use Rattle.std.specs.Ordering.{nat_cmp};
+ghost use Rattle.rpki_bundle.specs.Uris.{lower, IsUriOctet, HasScheme, IsModulePath, IsRsync, IsHttps, IsUri, IsLookupKey, lookup_key as key_of};
+
+use std::alloc::{AllocError, Global};
+use std::cmp::Ordering;
+
+/// How many octets stand before the first slash, or at all where there is none.
+fn segment_len(text: &[u8]) -> usize
+    ensures bound { result ≤ length text.now }
+    ensures place { result ≡ position_or_len (λ c. c == 47) text.now }
+{
+    text.iter()
+        .position(|octet| *octet == b'/')
+        .unwrap_or(text.len())
+}
+
+/// Whether the text is written in URI octets alone.
+fn is_plain(text: &[u8]) -> bool
+    ensures { IsTrue result ↔ All IsUriOctet text.now }
+{
+    text.iter().all(|octet| (0x21..=0x7E).contains(octet))
+}
+
+/// What stands behind the scheme, where the text has that scheme in any case and URI octets alone.
+fn after_scheme<'a>(text: &'a [u8], scheme: &[u8; 8]) -> Option<&'a [u8]>
+    ensures { MatchOption result (¬ HasScheme (map lower scheme.now) text.now)
+        (λ rest. HasScheme (map lower scheme.now) text.now × (rest.now ≡ drop 8 text.now)) }
+{
+    let (front, rest) = text.split_at_checked(8)?;
+    if is_plain(text) && front.eq_ignore_ascii_case(scheme) {
+        Some(rest)
+    } else {
+        None
+    }
+}
+
+/// Whether the text is a host, a slash and a module, and then nothing or a slash and a path.
+fn is_module_path(text: &[u8]) -> bool
+    ensures { IsTrue result ↔ IsModulePath text.now }
+{
+    let host = segment_len(text);
+    host > 0 && host < text.len() && segment_len(&text[host + 1..]) > 0
+}
+
+/// Whether the text is an rsync URI with a host and a module; the scheme may be in any case.
+pub fn is_rsync(text: &[u8]) -> bool
+    ensures { IsTrue result ↔ IsRsync text.now }
+{
+    match after_scheme(text, b"rsync://") {
+        Some(rest) => is_module_path(rest),
+        None => false,
+    }
+}
+
+/// Whether the text is an https URI with a host; the scheme may be in any case.
+pub fn is_https(text: &[u8]) -> bool
+    ensures { IsTrue result ↔ IsHttps text.now }
+{
+    match after_scheme(text, b"https://") {
+        Some(rest) => segment_len(rest) > 0,
+        None => false,
+    }
+}
+
+/// Whether the text is an rsync or an https URI.
+pub fn is_uri(text: &[u8]) -> bool
+    ensures { IsTrue result ↔ IsUri text.now }
+{
+    is_rsync(text) || is_https(text)
+}
+
+/// How many octets of the URI stand in lower case in its lookup key: the scheme and the host.
+fn folded_len(uri: &[u8]) -> usize
+    ensures bound { result ≤ length uri.now }
+    ensures key { key_of uri.now ≡ map lower (take result uri.now) ++ drop result uri.now }
+{
+    match uri.split_at_checked(8) {
+        Some((_, rest)) => 8 + segment_len(rest),
+        None => uri.len(),
+    }
+}
+
+/// Whether no octet of the text is a capital letter.
+fn has_no_capital(text: &[u8]) -> bool
+    ensures { IsTrue result ↔ (map lower text.now ≡ text.now) }
+{
+    !text.iter().any(|octet| octet.is_ascii_uppercase())
+}
+
+/// Whether the text is a URI that is its own lookup key: scheme and host in lower case.
+pub fn is_lookup_key(text: &[u8]) -> bool
+    ensures { IsTrue result ↔ IsLookupKey text.now }
+{
+    is_uri(text) && has_no_capital(&text[..folded_len(text)])
+}
+
+/// The order of a key against the lookup key of a URI, octet by octet, with no memory taken.
+pub fn cmp_lookup_key(key: &[u8], uri: &[u8]) -> Ordering
+    ensures { result ≡ slice_cmp nat_cmp key.now (key_of uri.now) }
+{
+    let (folded, rest) = uri.split_at(folded_len(uri));
+    let lowered = folded.iter().map(|octet| octet.to_ascii_lowercase());
+    key.iter().copied().cmp(lowered.chain(rest.iter().copied()))
+}
+
+/// The URI with its scheme and its host in lower case, under which it is looked up.
+pub fn lookup_key(alloc: Global, uri: &[u8]) -> Result<Vec<u8>, AllocError>
+    ensures { IfOk result (λ key. key.items ≡ key_of uri.now) }
+{
+    let (folded, rest) = uri.split_at(folded_len(uri));
+    folded
+        .iter()
+        .map(|octet| octet.to_ascii_lowercase())
+        .chain(rest.iter().copied())
+        .collect(alloc)
+}
+
+/// The lookup key of a URI is a URI, and its own lookup key.
+pub fn lookup_key_of_uri()
+    ensures { (uri : List ℕ) → IsUri uri → IsLookupKey (key_of uri) }
+{}
+
+/// The lookup key of a lookup key is that key.
+pub fn lookup_key_twice()
+    ensures { (uri : List ℕ) → key_of (key_of uri) ≡ key_of uri }
+{}
+
+#[cfg(test)]
+mod tests {
+    use super::*;
+    use std::test::Fail;
+
+    #[test]
+    fn rsync(rt: HostRuntime) {
+        let taken: [&[u8]; 4] = [
+            b"rsync://a/m",
+            b"rsync://a/m/",
+            b"RSYNC://R.Example/M/Ta",
+            b"rsync://h?#@:%/m//x/../y",
+        ];
+        for text in taken {
+            assert!(rt;
+                is_rsync(text) && is_uri(text) && !is_https(text),
+                "{text:?}"
+            );
+        }
+        let refused: [&[u8]; 14] = [
+            b"",
+            b"rsync://",
+            b"rsync:///m",
+            b"rsync://h",
+            b"rsync://h/",
+            b"rsync://h//x",
+            b"rsync:/h/m",
+            b"https://h/m",
+            b"rsync://h/m x",
+            b"rsync://h/m\x7F",
+            b"rsync://h/m\x80",
+            b"rsynC:/h/m",
+            b"rsynC://h",
+            b"rsynC:///h",
+        ];
+        for text in refused {
+            assert!(rt; !is_rsync(text), "{text:?}");
+        }
+    }
+
+    #[test]
+    fn https(rt: HostRuntime) {
+        let taken: [&[u8]; 3] = [b"https://h", b"https://h/", b"HTTPS://Ab.C/x"];
+        for text in taken {
+            assert!(rt;
+                is_https(text) && is_uri(text) && !is_rsync(text),
+                "{text:?}"
+            );
+        }
+        let refused: [&[u8]; 3] = [b"https://", b"https:///x", b"http://h"];
+        for text in refused {
+            assert!(rt; !is_https(text) && !is_uri(text), "{text:?}");
+        }
+    }
+
+    #[test]
+    fn lookup_keys(rt: HostRuntime) -> Result<(), Fail> {
+        let pairs: [(&[u8], &[u8]); 2] = [
+            (
+                b"RSYNC://R.Example/M/Ta/A.roa",
+                b"rsync://r.example/M/Ta/A.roa",
+            ),
+            (b"HTTPS://Ab.C", b"https://ab.c"),
+        ];
+        for (uri, wanted) in pairs {
+            let key = lookup_key(rt.alloc(), uri)?;
+            assert_eq!(rt; key.as_slice(), wanted);
+            assert!(rt; is_lookup_key(wanted) && !is_lookup_key(uri), "{uri:?}");
+        }
+        let keys: [(&[u8], bool); 4] = [
+            (b"rsync://a/m/x", true),
+            (b"rsync://A/m/x", false),
+            (b"Rsync://a/m/x", false),
+            (b"rsync://a/M/x", true),
+        ];
+        for (text, wanted) in keys {
+            assert_eq!(rt; is_lookup_key(text), wanted, "{text:?}");
+        }
+        Ok(())
+    }
+
+    #[test]
+    fn order(rt: HostRuntime) {
+        let uri = b"Rsync://R/M";
+        let orders: [(&[u8], Ordering); 6] = [
+            (b"rsync://r/M", Ordering::Equal),
+            (b"rsync://r/L", Ordering::Less),
+            (b"rsync://r/m", Ordering::Greater),
+            (b"rsync://r/", Ordering::Less),
+            (b"rsync://r/Mx", Ordering::Greater),
+            (b"", Ordering::Less),
+        ];
+        for (key, wanted) in orders {
+            assert_eq!(rt; cmp_lookup_key(key, uri), wanted, "{key:?}");
+        }
+    }
+}
