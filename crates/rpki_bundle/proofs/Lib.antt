@@ -11,3 +11,4 @@ pub mod UriLaws
 pub mod UriTexts
 pub mod Calendar
 pub mod Moments
+pub mod Bounds

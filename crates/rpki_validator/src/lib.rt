@@ -1,13 +1,11 @@
-// A library with one function.
+//! The validator: what a run prints of a bundle.
 #![tactic(auto)]
 
-ghost use Rattle.std.specs.Prelude.{◌≡◌};
-ghost use Rattle.rpki_validator.specs.Echo.{echo_of};
+pub mod counted;
+pub mod lines;
+pub mod runs;
+mod streams;
 
-// The `ensures` clause is the contract: what `echo` returns is `echo_of` of its argument, a definition
-// in `specs/Echo.antt`, which a caller's clause can cite too.
-pub fn echo(x: usize) -> usize
-    ensures { result ≡ echo_of x }
-{
-    x
-}
+pub use counted::Counted;
+pub use lines::Cause;
+pub use runs::{RunError, run};

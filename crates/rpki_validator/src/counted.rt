@@ -1,0 +1,142 @@
+//! Readers and writers that count their failures.
+ghost use Rattle.rpki_validator.specs.Counts.{CountsErrors, CountsStops, one_more};
+ghost use Rattle.std.specs.Io.KnownBytes.{Keeps, ReadConsumes, WriteAppends};
+ghost use Rattle.std.specs.Io.{ReadsAtMost, WritesAtMost};
+ghost use Rattle.std.specs.Prelude.{◌≡◌};
+
+use std::io::{self, Read, Write};
+
+/// A reader or a writer beside the count of its failures.
+#[derive(Drop)]
+pub struct Counted<T> {
+    /// The reader or writer itself.
+    pub inner: T,
+    /// How many of its calls failed.
+    pub failures: u64,
+}
+
+impl<T> Counted<T> {
+    /// Nothing has failed yet.
+    pub fn new(inner: T) -> Counted<T>
+        ensures inner { result.inner ≡ inner }
+        ensures none { result.failures ≡ 0 }
+    {
+        Counted { inner, failures: 0 }
+    }
+
+    /// How many calls failed so far; the count stops at `u64::MAX`.
+    pub fn failures(&self) -> u64
+        ensures { result ≡ self.now.failures }
+    {
+        self.failures
+    }
+
+    /// Counts one more failure.
+    fn count_failure(&mut self)
+        ensures inner { self.new.inner ≡ self.old.inner }
+        ensures failures { self.new.failures ≡ one_more self.old.failures }
+    {
+        self.failures = self.failures.saturating_add(1);
+    }
+}
+
+/// Reads as the inner reader does, and counts each error.
+impl<T: Read> Read for Counted<T> {
+    ghost remaining = { λ counted. T.remaining counted.inner };
+
+    /// Every call is one call of the inner reader: nothing is retried.
+    fn read(&mut self, buf: &mut [u8]) -> io::Result<usize>
+        ensures bound { ReadsAtMost result buf.new }
+        ensures bytes { ReadConsumes (T.remaining self.old.inner) (T.remaining self.new.inner) result buf.new }
+        ensures count { CountsErrors result self.old.failures self.new.failures }
+    {
+        let answer = self.inner.read(buf);
+        if answer.is_err() {
+            self.count_failure();
+        }
+        answer
+    }
+}
+
+/// Writes as the inner writer does, and counts each error and each write that takes nothing.
+impl<T: Write> Write for Counted<T> {
+    ghost contents = { λ counted. T.contents counted.inner };
+
+    /// Every call is one call of the inner writer: nothing is retried. A write that takes nothing
+    /// counts as a failure, since a writer that answers so takes no more.
+    fn write(&mut self, buf: &[u8]) -> io::Result<usize>
+        ensures bound { WritesAtMost result buf.now }
+        ensures bytes { WriteAppends (T.contents self.old.inner) (T.contents self.new.inner) result buf.now }
+        ensures count { CountsStops result self.old.failures self.new.failures }
+    {
+        let answer = self.inner.write(buf);
+        if let Ok(0) | Err(_) = answer {
+            self.count_failure();
+        }
+        answer
+    }
+
+    /// An error counts as a failure.
+    fn flush(&mut self) -> io::Result<()>
+        ensures bytes { Keeps (T.contents self.old.inner) (T.contents self.new.inner) }
+        ensures count { CountsErrors result self.old.failures self.new.failures }
+    {
+        let answer = self.inner.flush();
+        if answer.is_err() {
+            self.count_failure();
+        }
+        answer
+    }
+}
+
+#[cfg(test)]
+mod tests {
+    use super::*;
+    use std::io::ErrorKind;
+    use std::test::Fail;
+
+    /// Fails at every call.
+    #[derive(Drop)]
+    struct Broken;
+
+    impl Read for Broken {
+        fn read(&mut self, _buf: &mut [u8]) -> io::Result<usize> {
+            Err(io::Error::from(ErrorKind::Interrupted))
+        }
+    }
+
+    impl Write for Broken {
+        fn write(&mut self, _buf: &[u8]) -> io::Result<usize> {
+            Err(io::Error::from(ErrorKind::Interrupted))
+        }
+
+        fn flush(&mut self) -> io::Result<()> {
+            Err(io::Error::from(ErrorKind::Interrupted))
+        }
+    }
+
+    #[test]
+    fn counts_each_error(rt: HostRuntime) {
+        let mut broken = Counted::new(Broken);
+        assert_eq!(rt; broken.failures(), 0);
+        assert!(rt; broken.read(&mut [0; 3]).is_err());
+        assert_eq!(rt; broken.failures(), 1);
+        assert!(rt; broken.write(b"octet").is_err());
+        assert_eq!(rt; broken.failures(), 2);
+        assert!(rt; broken.flush().is_err());
+        assert_eq!(rt; broken.failures(), 3);
+    }
+
+    #[test]
+    fn counts_a_write_that_takes_nothing(rt: HostRuntime) -> Result<(), Fail> {
+        let mut room = [0; 3];
+        let mut writer = Counted::new(&mut room[..]);
+        assert_eq!(rt; writer.write(b"octet")?, 3);
+        assert_eq!(rt; writer.failures(), 0);
+        assert_eq!(rt; writer.write(b"et")?, 0);
+        assert_eq!(rt; writer.failures(), 1);
+        writer.flush()?;
+        assert_eq!(rt; writer.failures(), 1);
+        Ok(())
+    }
+}

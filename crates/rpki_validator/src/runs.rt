@@ -1,0 +1,96 @@
+//! One run: a bundle is read, and its lines are written.
+
+ghost use Rattle.std.specs.Prelude.{◌≡◌, ◌<◌, ◌-◌, ◌^◌, IfOk, IfErr, OnOk};
+ghost use Rattle.rpki_validator.specs.Run.{IsTextOf, TextFails, Prints, RunFails, CountsReads, CountsWrites};
+ghost use Rattle.rpki_validator.specs.declared.runs.RunError.TheVariants.{Memory as memory_error};
+
+use crate::counted::Counted;
+use crate::lines::{have_empty_texts, locator_lines};
+use crate::streams::{ReadFault, read_all, write_all};
+use rpki_bundle::{Bundle, BundleError, Digester};
+use std::alloc::{AllocError, Global};
+use std::io::{Read, Write};
+use thiserror::Error;
+
+/// Why a run ended before all was written.
+#[derive(Clone, Copy, Debug, PartialEq, Eq, Hash, Error)]
+pub enum RunError {
+    /// The reader answered an error.
+    #[error("read fault")]
+    Read,
+    /// What was read is no bundle.
+    #[error("not a bundle")]
+    NotABundle,
+    /// The bundle has a locator whose text isn't empty; such bundles aren't judged yet.
+    #[error("not yet")]
+    NotYet,
+    /// The writer answered an error, or took nothing.
+    #[error("write fault")]
+    Write,
+    /// A growth of memory was refused.
+    #[error("out of memory")]
+    Memory,
+}
+
+impl From<AllocError> for RunError {
+    ghost from_gives = { λ _ e. e ≡ memory_error };
+
+    fn from(_error: AllocError) -> Self {
+        RunError::Memory
+    }
+}
+
+// One octet more than any bundle has.
+const MOST_OCTETS: usize = 4_294_967_302;
+
+// All that is printed of the bundle that the octets are.
+fn text_of(alloc: Global, octets: &[u8]) -> Result<Vec<u8>, RunError>
+    ensures ok { IfOk result (λ text. IsTextOf octets.now text.items) }
+    ensures refused { IfErr result (λ e. TextFails e octets.now) }
+{
+    let bundle = match Bundle::decode(alloc, octets) {
+        Ok(bundle) => bundle,
+        Err(BundleError::NotABundle) => return Err(RunError::NotABundle),
+        Err(BundleError::Memory) => return Err(RunError::Memory),
+    };
+    if !have_empty_texts(bundle.locators()) {
+        return Err(RunError::NotYet);
+    }
+    match locator_lines(alloc, bundle.locators()) {
+        Ok(text) => Ok(text),
+        Err(_) => Err(RunError::Memory),
+    }
+}
+
+/// Reads a bundle to the end of its input, and writes its lines.
+///
+/// Reading stops at one octet more than a bundle can have. The whole text is made before its first octet is
+/// written, so that of the refusals only `Write` leaves anything written.
+pub fn run<R: Read, W: Write, D: Digester>(
+    alloc: Global,
+    reader: &mut Counted<R>,
+    writer: &mut Counted<W>,
+    _digester: &D,
+) -> Result<(), RunError>
+    requires few_reads { reader.old.failures < 2 ^ 64 - 1 }
+    requires few_writes { writer.old.failures < 2 ^ 64 - 1 }
+
+    ensures ok { OnOk result (Prints (R.remaining reader.old.inner) (R.remaining reader.new.inner) (W.contents writer.old.inner) (W.contents writer.new.inner)) }
+    ensures refused { IfErr result (λ e. RunFails e (R.remaining reader.old.inner) (R.remaining reader.new.inner) (W.contents writer.old.inner) (W.contents writer.new.inner)) }
+    ensures reads { CountsReads result reader.old.failures reader.new.failures }
+    ensures writes { CountsWrites result writer.old.failures writer.new.failures }
+{
+    let octets = match read_all(alloc, reader, MOST_OCTETS) {
+        Ok(octets) => octets,
+        Err(ReadFault::Read) => return Err(RunError::Read),
+        Err(ReadFault::Memory) => return Err(RunError::Memory),
+    };
+    let text = match text_of(alloc, octets.as_slice()) {
+        Ok(text) => text,
+        Err(error) => return Err(error),
+    };
+    match write_all(writer, text.as_slice()) {
+        Ok(()) => Ok(()),
+        Err(_) => Err(RunError::Write),
+    }
+}
