@@ -1,0 +1,41 @@
+//! The commands, each over any reader and writers; they answer the exit status.
+
+ghost use Rattle.std.specs.Prelude.{◌≡◌, ◌⊎◌, ◌<◌, ◌-◌, ◌^◌};
+ghost use Rattle.rpki_validator.specs.Run.{Prints, RunFails};
+ghost use Rattle.rpki_validator.specs.declared.runs.RunError.{RunError as RunErrorValue};
+ghost use Rattle.rpki_check.specs.declared.commands.TheConstants.{DONE, FAILED};
+
+use crate::digests::Fips;
+use rpki_validator::{Counted, run};
+use std::alloc::Global;
+use std::io::{Read, Write};
+
+/// All was done.
+pub const DONE: u8 = 0;
+
+/// Something was at fault, and the faults say what.
+pub const FAILED: u8 = 1;
+
+/// `check`: reads a bundle to the end, writes its lines, and tells what is at fault on `faults`.
+pub fn check<R: Read, W: Write, F: Write>(
+    alloc: Global,
+    reader: &mut Counted<R>,
+    writer: &mut Counted<W>,
+    faults: &mut F,
+) -> u8
+    requires few_reads { reader.old.failures < 2 ^ 64 - 1 }
+    requires few_writes { writer.old.failures < 2 ^ 64 - 1 }
+
+    ensures status { (result ≡ DONE) ⊎ (result ≡ FAILED) }
+    ensures done { result ≡ DONE → Prints (R.remaining reader.old.inner) (R.remaining reader.new.inner) (W.contents writer.old.inner) (W.contents writer.new.inner) }
+    ensures failed { result ≡ FAILED → (e : RunErrorValue) × RunFails e (R.remaining reader.old.inner) (R.remaining reader.new.inner) (W.contents writer.old.inner) (W.contents writer.new.inner) }
+{
+    match run(alloc, reader, writer, &Fips) {
+        Ok(()) => DONE,
+        Err(error) => {
+            // What can't be told is lost; the status says that there was something.
+            let _ = writeln!(faults, "{error}");
+            FAILED
+        }
+    }
+}
