@@ -1,6 +1,6 @@
 //! Laws of spellings: the contracts of functions that do nothing.
 
-ghost use Rattle.std.specs.Prelude.{◌≡◌, ◌≢◌, ◌+◌, ◌^◌, ◌≤◌, List, ℕ, [], ◌++◌, length};
+ghost use Rattle.std.specs.Prelude.{◌≡◌, ◌≢◌, List, ℕ, [], ◌++◌};
 ghost use Rattle.bcder_source.specs.declared.mode.Mode.{Mode as ModeValue};
 ghost use Rattle.bcder_source.specs.declared.mode.Mode.TheVariants.{Ber, Cer, Der};
 ghost use Rattle.bcder_source.specs.Tree.{Tree, Spells};
