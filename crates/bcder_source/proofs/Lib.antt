@@ -5,3 +5,4 @@ pub mod Canonical
 pub mod Modes
 pub mod Fronts
 pub mod Integers
+pub mod TagOctets

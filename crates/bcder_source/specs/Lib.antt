@@ -1,4 +1,6 @@
 pub mod Tags
+pub mod TagOctets
+pub mod Reads
 pub mod Octets
 pub mod Tree
 pub mod Front

@@ -3,5 +3,7 @@
 
 pub mod laws;
 pub mod mode;
+pub mod tag;
 
 pub use mode::Mode;
+pub use tag::Tag;

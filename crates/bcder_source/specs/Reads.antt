@@ -1,0 +1,14 @@
+-- What stands in front of octets, and how many octets it takes.
+use Rattle.std.specs.Prelude.{◌≡◌, ℕ, List, ◌++◌, length}
+
+-- A front of so many octets has the form P.
+pub record Begins (P : List ℕ → Type 0) (octets : List ℕ) (count : ℕ) : Type 0 where
+  pub text : List ℕ
+  pub rest : List ℕ
+  pub is : P text
+  pub whole : octets ≡ text ++ rest
+  pub long : length text ≡ count
+
+-- No front of the octets has the form P.
+pub record Lacks (P : List ℕ → Type 0) (octets : List ℕ) : Type 0 where
+  pub none : (text rest : List ℕ) → P text → octets ≡ text ++ rest → ⊥
