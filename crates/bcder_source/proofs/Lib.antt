@@ -6,3 +6,6 @@ pub mod Modes
 pub mod Fronts
 pub mod Integers
 pub mod TagOctets
+pub mod Slices
+pub mod Identifiers
+pub mod Lengths

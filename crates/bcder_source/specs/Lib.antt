@@ -7,3 +7,5 @@ pub mod Front
 pub mod Sequences
 pub mod Integers
 pub mod Strings
+pub mod Lengths
+pub mod Errors

@@ -1,7 +1,11 @@
 //! Tags (X.690 8.1.2).
 ghost use Rattle.std.specs.Prelude.{◌≡◌, ◌==◌, ◌&&◌, ◌↔◌, ◌<◌, ◌≤◌, ℕ, Bool, List, [], ◌∷◌, length, take, IsTrue, IfSome, IfNone, OnOk};
 ghost use Rattle.std.proofs.Common.{rules};
+ghost use Rattle.std.specs.Io.KnownBytes.{Appends};
+ghost use Rattle.bcder_source.specs.Octets.{form_bit, IsIdentifier};
 
+use std::fmt;
+use std::io;
 use std::marker::Model;
 
 /// A tag: a class and a number up to 2,097,151 (X.680 clause 8, X.690 8.1.2.2).
@@ -24,6 +28,13 @@ impl Model for Tag {
     ghost inverse = { λ t. record { octets = tag_octets t } };
 
     ghost inverse_ok = { λ a h. ap (λ (o : List ℕ). let r : Inside = record { octets = o } in r) (sym h.whole) };
+}
+
+// The form bit of a first octet.
+fn form_octet(constructed: bool) -> u8
+    ensures { result ≡ form_bit constructed }
+{
+    if constructed { 32 } else { 0 }
 }
 
 impl PartialEq for Tag {
@@ -256,7 +267,7 @@ impl Tag {
 
 impl Tag {
     // The tag of a class, as its number in bits 8 and 7.
-    fn new(class: u8, number: u32) -> Tag
+    pub(crate) fn new(class: u8, number: u32) -> Tag
         requires class { class < 4 }
         requires number { number ≤ 2097151 }
         ensures { result ≡ record { class = class; number = number } }
@@ -368,5 +379,71 @@ impl Tag {
             return (b as u32 - 128) * 128 + c as u32;
         }
         (b as u32 - 128) * 16384 + (c as u32 - 128) * 128 + d as u32
+    }
+
+    /// How many identifier octets the tag has, one to four.
+    pub fn encoded_len(self) -> usize
+        ensures { (constructed : Bool) (text : List ℕ) → IsIdentifier text constructed self → length text ≡ result }
+    {
+        let [first, b, c, _] = self.octets;
+        if first % 32 < 31 {
+            return 1;
+        }
+        if b < 128 {
+            return 2;
+        }
+        if c < 128 {
+            return 3;
+        }
+        4
+    }
+
+    // The identifier octets, in front of the four.
+    fn encoded(self, constructed: bool) -> ([u8; 4], usize)
+        ensures identifier { IsIdentifier (take result.1 result.0) constructed self }
+        ensures bound { result.1 ≤ 4 }
+    {
+        let [first, b, c, d] = self.octets;
+        let form = form_octet(constructed);
+        if first % 32 < 31 {
+            return ([first + form, 0, 0, 0], 1);
+        }
+        if b < 128 {
+            return ([first + form, b, 0, 0], 2);
+        }
+        if c < 128 {
+            return ([first + form, b, c, 0], 3);
+        }
+        ([first + form, b, c, d], 4)
+    }
+
+    /// Writes the identifier octets of a value with the tag, primitive or constructed (X.690 8.1.2).
+    pub fn write_encoded<W: io::Write>(self, constructed: bool, target: &mut W) -> io::Result<()>
+        ensures { OnOk result ((text : List ℕ) × IsIdentifier text constructed self × Appends (W.contents target.old) (W.contents target.new) text) }
+    {
+        let (octets, count) = self.encoded(constructed);
+        target.write_all(&octets[..count])
+    }
+}
+
+/// Prints the class and the number in brackets, as ASN.1 writes a tag: `[UNIVERSAL 2]`,
+/// `[APPLICATION 3]`, `[0]` for a context-specific one, `[PRIVATE 5]`.
+impl fmt::Display for Tag {
+    fn fmt<W: fmt::Write>(&self, f: &mut fmt::Formatter<W>) -> fmt::Result {
+        let number = self.number();
+        match self.class() {
+            0 => write!(f, "[UNIVERSAL {number}]"),
+            1 => write!(f, "[APPLICATION {number}]"),
+            2 => write!(f, "[{number}]"),
+            _ => write!(f, "[PRIVATE {number}]"),
+        }
+    }
+}
+
+/// Prints as `Display` does, within `Tag(..)`.
+impl fmt::Debug for Tag {
+    fn fmt<W: fmt::Write>(&self, f: &mut fmt::Formatter<W>) -> fmt::Result {
+        let tag = *self;
+        write!(f, "Tag({tag})")
     }
 }
