@@ -1,7 +1,7 @@
 -- Identifiers with a number from 31 up, by their first octet and those behind it.
-use Rattle.std.proofs.Common.{◌≡◌, ℕ, ◌+◌, ◌-◌, ◌*◌, ◌<◌, ◌≤◌, Bool, List, [], ◌∷◌, ◌++◌, length, get_or, take, drop, refl, sym, ap, ◌∙◌, subst, arith}
-use Rattle.bcder_source.specs.Tags.{TagValue, IsTag}
-use Rattle.bcder_source.specs.Octets.{form_bit, IsHigh, IsIdentifier}
+use Rattle.std.proofs.Common.{◌≡◌, ℕ, ◌+◌, ◌-◌, ◌*◌, ◌<◌, ◌≤◌, Bool, List, [], ◌∷◌, ◌++◌, length, get_or, take, drop, refl, sym, ap, ◌∙◌, arith}
+use Rattle.bcder_source.specs.Tags.{TagValue}
+use Rattle.bcder_source.specs.Octets.{form_bit, IsHigh}
 use Rattle.bcder_source.specs.Reads.{Begins, Lacks, Identifies}
 use Rattle.bcder_source.proofs.Unique.{first_octet, high_above}
 use Rattle.bcder_source.proofs.Slices.{rest_is, first1}

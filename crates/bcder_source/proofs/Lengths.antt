@@ -6,7 +6,7 @@ use Rattle.bcder_source.specs.declared.length.Length.{Length}
 use Rattle.bcder_source.specs.declared.length.Length.TheVariants.{Definite, Indefinite}
 use Rattle.bcder_source.specs.Octets.{IsLength}
 use Rattle.bcder_source.specs.Lengths.{SpellsLength}
-use Rattle.bcder_source.specs.Reads.{Begins, Lacks}
+use Rattle.bcder_source.specs.Reads.{Lacks}
 use Rattle.bcder_source.proofs.Slices.{rest_is, first1}
 
 -- Where no definite length is in front, and the first octet isn't `80`, there is no length.

@@ -9,3 +9,4 @@ pub mod TagOctets
 pub mod Slices
 pub mod Identifiers
 pub mod Lengths
+pub mod Moves

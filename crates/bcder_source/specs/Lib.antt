@@ -9,3 +9,5 @@ pub mod Integers
 pub mod Strings
 pub mod Lengths
 pub mod Errors
+pub mod Views
+pub mod Limits

@@ -4,9 +4,8 @@ ghost use Rattle.std.proofs.Common.{rules};
 ghost use Rattle.std.specs.Io.KnownBytes.{Appends};
 ghost use Rattle.bcder_source.specs.Octets.{form_bit, IsIdentifier};
 
-use std::fmt;
-use std::io;
 use std::marker::Model;
+use std::{fmt, io};
 
 /// A tag: a class and a number up to 2,097,151 (X.680 clause 8, X.690 8.1.2.2).
 #[derive(Clone, Copy, Eq, Hash)]

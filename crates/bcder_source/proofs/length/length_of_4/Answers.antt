@@ -1,4 +1,4 @@
-use Rattle.std.proofs.Common.{arith, ◌≡◌, ℕ, List, get_or, drop, [], ◌∷◌, refl, ap}
+use Rattle.std.proofs.Common.{arith, ℕ, List, get_or, drop, [], ◌∷◌, refl, ap}
 use Rattle.bcder_source.proofs.Slices.{first4}
 use Rattle.bcder_source.proofs.length.length_of_4.Goals as goal
 
