@@ -1,6 +1,7 @@
 //! The base of the codec: encoding modes, and what octets spell which trees.
 #![tactic(auto)]
 
+pub mod capture;
 pub mod error;
 pub mod identifier;
 pub mod laws;
@@ -12,6 +13,7 @@ pub mod pos;
 pub mod source;
 pub mod tag;
 
+pub use capture::CaptureSource;
 pub use error::{ContentError, DecodeError};
 pub use length::Length;
 pub use limited::LimitedSource;

@@ -96,6 +96,7 @@ impl<S: Source> Source for LimitedSource<S> {
         ensures same { view S.rest self.new ≡ view S.rest self.old }
         ensures rest { left (view S.rest self.new) ≡ left (view S.rest self.old) }
         ensures position { S.position self.new.source ≡ S.position self.old.source }
+        ensures kept { at_hand self.old.limit (S.available self.old.source) ≤ at_hand self.new.limit (S.available self.new.source) }
         ensures available { IfOk result (λ n. n ≡ at_hand self.new.limit (S.available self.new.source)) }
         ensures there { IfOk result (λ n. n ≤ length (left (view S.rest self.new))) }
         ensures bound { IfOk result (λ n. n < 2 ^ 63) }

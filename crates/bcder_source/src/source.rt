@@ -28,10 +28,11 @@ pub trait Source: Drop {
 
     /// Has at least `len` octets at hand, and answers how many are: fewer only where no more are left.
     ///
-    /// It changes neither the rest nor the position, whether it fails or not.
+    /// It changes neither the rest nor the position, whether it fails or not, and what is at hand stays so.
     fn request(&mut self, len: usize) -> Result<usize, Self::Error>
         ensures rest { rest self.new ≡ rest self.old }
         ensures position { position self.new ≡ position self.old }
+        ensures kept { available self.old ≤ available self.new }
         ensures available { IfOk result (λ n. n ≡ available self.new) }
         ensures there { IfOk result (λ n. n ≤ length (rest self.new)) }
         ensures bound { IfOk result (λ n. n < 2 ^ 63) }
