@@ -40,15 +40,12 @@ moved_both {a} {b} {c} {x} {y} m n = record {
   limit = m.limit ∙ ap (λ (z : Option ℕ). more_limit (length x) z) n.limit ∙ sym (more_more (length x) (length y) c.limit) ∙ ap (λ (z : ℕ). more_limit z c.limit) (sym (length-append x y));
 }
 
--- A step of so many octets, under a limit and under none.
+-- A step of so many octets under a limit.
 pub moved_on : (s r : List ℕ) (n l : ℕ) → r ≡ drop n s → n ≤ length s → n ≤ l → Moved (record { rest = s; limit = Some l }) (take n s) (record { rest = r; limit = Some (l - n) })
 moved_on s r n l e there within = record {
   rest = sym (take-append-drop n s) ∙ ap (λ (z : List ℕ). take n s ++ z) (sym e);
   limit = ap (λ (z : ℕ). Some z) (omega (arith, length-take-le n s there));
 }
-
-pub moved_free : (s r : List ℕ) (n : ℕ) → r ≡ drop n s → Moved (record { rest = s; limit = None }) (take n s) (record { rest = r; limit = None })
-moved_free s r n e = record { rest = sym (take-append-drop n s) ∙ ap (λ (z : List ℕ). take n s ++ z) (sym e); limit = refl }
 
 -- What may be read behind a step.
 pub drop_moved : {old new : View} (n : ℕ) → n ≤ length old.rest → Moved old (take n old.rest) new → left new ≡ drop n (left old)

@@ -34,3 +34,8 @@ pub record Reading : Type 0 where
 abbrev pub NextOctet : Option ℕ → List ℕ → List ℕ → Type 0
 NextOctet None old new = (old ≡ []) × (new ≡ [])
 NextOctet (Some octet) old new = old ≡ octet ∷ new
+
+-- The octets that were taken with it.
+abbrev pub octets_of : Option ℕ → List ℕ
+octets_of None = []
+octets_of (Some octet) = octet ∷ []

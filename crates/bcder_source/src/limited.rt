@@ -1,8 +1,8 @@
 //! Sources of which some octets at most are read.
-ghost use Rattle.std.specs.Prelude.{◌≡◌, ◌+◌, ◌-◌, ◌^◌, ◌<◌, ◌≤◌, ℕ, List, [], length, take, drop, min, IfOk, IfErr, OnOk, OnErr, Option, Some, None, IsSome};
-ghost use Rattle.bcder_source.specs.Errors.{OnContent, OnlyContent};
+ghost use Rattle.std.specs.Prelude.{◌≡◌, ◌+◌, ◌-◌, ◌^◌, ◌<◌, ◌≤◌, ℕ, List, [], ◌∷◌, length, take, drop, min, IfOk, IfErr, OnOk, OnErr, Option, Some, None, IsSome};
+ghost use Rattle.bcder_source.specs.Errors.{OnContent, OnlyContent, OnlyAtEnd};
 ghost use Rattle.bcder_source.specs.Limits.{view, within, Narrows, at_hand, IsSpent, IsShort};
-ghost use Rattle.bcder_source.specs.Views.{Moved, limited, left};
+ghost use Rattle.bcder_source.specs.Views.{Moved, NextOctet, octets_of, limited, left};
 
 use crate::{ContentError, DecodeError, Pos, Source};
 use bytes::Bytes;
@@ -131,6 +131,53 @@ impl<S: Source> Source for LimitedSource<S> {
         };
         self.limit = Some(limit - len);
         self.source.advance(len);
+    }
+
+    /// The default's steps; what they consume obeys the law of reading.
+    fn skip(&mut self, len: usize) -> Result<usize, S::Error>
+        ensures bound { IfOk result (λ n. n ≤ len) }
+        ensures there { IfOk result (λ n. n ≤ length (left (view S.rest self.old))) }
+        ensures moved { IfOk result (λ n. Moved (view S.rest self.old) (take n (S.rest self.old.source)) (view S.rest self.new)) }
+        ensures rest { IfOk result (λ n. left (view S.rest self.new) ≡ drop n (left (view S.rest self.old))) }
+        ensures short { IfOk result (λ n. n < len → left (view S.rest self.new) ≡ []) }
+        ensures same { OnErr result (view S.rest self.new ≡ view S.rest self.old) }
+        ensures failed { OnErr result (left (view S.rest self.new) ≡ left (view S.rest self.old)) }
+    {
+        let count = self.request(len)?;
+        let count = count.min(len);
+        self.advance(count);
+        Ok(count)
+    }
+
+    /// The default's steps; what they consume obeys the law of reading.
+    fn take_opt_u8(&mut self) -> Result<Option<u8>, S::Error>
+        ensures moved { IfOk result (λ octet. Moved (view S.rest self.old) (octets_of octet) (view S.rest self.new)) }
+        ensures taken { IfOk result (λ octet. NextOctet octet (left (view S.rest self.old)) (left (view S.rest self.new))) }
+        ensures same { OnErr result (view S.rest self.new ≡ view S.rest self.old) }
+        ensures failed { OnErr result (left (view S.rest self.new) ≡ left (view S.rest self.old)) }
+    {
+        self.request(1)?;
+        let Some(octet) = self.slice().first() else {
+            return Ok(None);
+        };
+        let octet = *octet;
+        self.advance(1);
+        Ok(Some(octet))
+    }
+
+    /// The default's steps; what they consume obeys the law of reading.
+    fn take_u8(&mut self) -> Result<u8, DecodeError<S::Error>>
+        ensures moved { IfOk result (λ octet. Moved (view S.rest self.old) (octet ∷ []) (view S.rest self.new)) }
+        ensures taken { IfOk result (λ octet. left (view S.rest self.old) ≡ octet ∷ left (view S.rest self.new)) }
+        ensures refused { IfErr result (λ e. OnlyAtEnd e (left (view S.rest self.old))) }
+        ensures same { OnErr result (view S.rest self.new ≡ view S.rest self.old) }
+        ensures failed { OnErr result (left (view S.rest self.new) ≡ left (view S.rest self.old)) }
+    {
+        match self.take_opt_u8() {
+            Ok(Some(octet)) => Ok(octet),
+            Ok(None) => Err(self.content_err(ContentError::Static("unexpected end of data"))),
+            Err(error) => Err(DecodeError::Source(error)),
+        }
     }
 }
 

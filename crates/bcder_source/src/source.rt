@@ -7,6 +7,7 @@ ghost use Rattle.bcder_source.specs.declared.error.DecodeError.TheVariants.{Cont
 use crate::{ContentError, DecodeError, Pos};
 use bytes::Bytes;
 use std::alloc::{AllocError, Global};
+use std::error::Error;
 
 /// Octets that are asked for piece by piece.
 ///
@@ -14,7 +15,7 @@ use std::alloc::{AllocError, Global};
 /// `position` how many were taken before: a position is for diagnostics alone.
 pub trait Source: Drop {
     /// How the source itself fails.
-    type Error: Drop;
+    type Error: Error;
 
     ghost rest: { Self → List ℕ };
 
