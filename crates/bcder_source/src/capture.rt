@@ -38,7 +38,7 @@ impl<'a, S: Source> CaptureSource<'a, S> {
         ensures len_kept { OnErr result (self.new.len ≡ self.old.len) }
     {
         let len = self.len;
-        let octets = self.source.bytes(alloc, 0, len)?;
+        let octets = (*self.source).bytes(alloc, 0, len)?;
         self.len = 0;
         self.source.advance(len);
         Ok(octets)
@@ -67,7 +67,7 @@ impl<'a, S: Source> Source for CaptureSource<'a, S> {
     ghost position = { λ s. min (S.position s.source.now + s.len) (2 ^ 64 - 1) };
 
     fn pos(&self) -> Pos {
-        self.source.pos() + Pos::from(self.len)
+        (*self.source).pos() + Pos::from(self.len)
     }
 
     fn request(&mut self, len: usize) -> Result<usize, S::Error>
@@ -88,13 +88,13 @@ impl<'a, S: Source> Source for CaptureSource<'a, S> {
     }
 
     fn slice(&self) -> &[u8] {
-        &self.source.slice()[self.len..]
+        &(*self.source).slice()[self.len..]
     }
 
     fn bytes(&self, alloc: Global, start: usize, end: usize) -> Result<Bytes, AllocError> {
         // Their count fits, so the sums do.
-        let _ = self.source.slice().len();
-        self.source.bytes(alloc, self.len + start, self.len + end)
+        let _ = (*self.source).slice().len();
+        (*self.source).bytes(alloc, self.len + start, self.len + end)
     }
 
     /// The octets are captured.
@@ -108,14 +108,14 @@ impl<'a, S: Source> Source for CaptureSource<'a, S> {
         ensures available { S.available self.new.source.now - self.new.len ≡ S.available self.old.source.now - self.old.len - len }
     {
         // Their count fits, so the sum does.
-        let _ = self.source.slice().len();
+        let _ = (*self.source).slice().len();
         self.len += len;
     }
 
     fn take_u8(&mut self) -> Result<u8, DecodeError<S::Error>> {
         match self.take_opt_u8() {
             Ok(Some(octet)) => Ok(octet),
-            Ok(None) => Err(self.content_err(ContentError::Static("unexpected end of data"))),
+            Ok(None) => Err((*self).content_err(ContentError::Static("unexpected end of data"))),
             Err(error) => Err(DecodeError::Source(error)),
         }
     }

@@ -157,7 +157,7 @@ impl<S: Source> Source for LimitedSource<S> {
         ensures failed { OnErr result (left (view S.rest self.new) ≡ left (view S.rest self.old)) }
     {
         self.request(1)?;
-        let Some(octet) = self.slice().first() else {
+        let Some(octet) = (*self).slice().first() else {
             return Ok(None);
         };
         let octet = *octet;
@@ -175,7 +175,7 @@ impl<S: Source> Source for LimitedSource<S> {
     {
         match self.take_opt_u8() {
             Ok(Some(octet)) => Ok(octet),
-            Ok(None) => Err(self.content_err(ContentError::Static("unexpected end of data"))),
+            Ok(None) => Err((*self).content_err(ContentError::Static("unexpected end of data"))),
             Err(error) => Err(DecodeError::Source(error)),
         }
     }
@@ -226,9 +226,9 @@ impl<S: Source> LimitedSource<S> {
             };
         };
         match self.request(limit) {
-            Ok(count) if count < limit => Err(self.content_err(ContentError::Static(
-                "unexpected end of data",
-            ))),
+            Ok(count) if count < limit => Err(
+                (*self).content_err(ContentError::Static("unexpected end of data")),
+            ),
             Ok(_) => {
                 self.advance(limit);
                 Ok(())
@@ -267,9 +267,9 @@ impl<S: Source> LimitedSource<S> {
             };
         };
         match self.request(limit) {
-            Ok(count) if count < limit => Err(self.content_err(ContentError::Static(
-                "unexpected end of data",
-            ))),
+            Ok(count) if count < limit => Err(
+                (*self).content_err(ContentError::Static("unexpected end of data")),
+            ),
             Ok(count) => Ok(count),
             Err(error) => Err(DecodeError::Source(error)),
         }
@@ -285,11 +285,11 @@ impl<S: Source> LimitedSource<S> {
             if limit == 0 {
                 return Ok(());
             }
-            return Err(self.content_err(ContentError::Static("trailing data")));
+            return Err((*self).content_err(ContentError::Static("trailing data")));
         }
         match self.source.request(1) {
             Ok(0) => Ok(()),
-            Ok(_) => Err(self.content_err(ContentError::Static("trailing data"))),
+            Ok(_) => Err((*self).content_err(ContentError::Static("trailing data"))),
             Err(error) => Err(DecodeError::Source(error)),
         }
     }

@@ -79,7 +79,7 @@ pub trait Source: Drop {
     {
         match self.take_opt_u8() {
             Ok(Some(octet)) => Ok(octet),
-            Ok(None) => Err(self.content_err(ContentError::Static("unexpected end of data"))),
+            Ok(None) => Err((*self).content_err(ContentError::Static("unexpected end of data"))),
             Err(error) => Err(DecodeError::Source(error)),
         }
     }
@@ -90,7 +90,7 @@ pub trait Source: Drop {
         ensures failed { OnErr result (rest self.new ≡ rest self.old) }
     {
         self.request(1)?;
-        let Some(octet) = self.slice().first() else {
+        let Some(octet) = (*self).slice().first() else {
             return Ok(None);
         };
         let octet = *octet;
@@ -118,4 +118,35 @@ pub trait IntoSource {
     /// The source, from its first octet on.
     fn into_source(self) -> Self::Source
         ensures { Self.Source.rest result ≡ octets self };
+}
+
+/// A source that is lent.
+impl<'a, T: Source> Source for &'a mut T {
+    type Error = T::Error;
+
+    ghost rest = { λ s. T.rest s.now };
+
+    ghost available = { λ s. T.available s.now };
+
+    ghost position = { λ s. T.position s.now };
+
+    fn pos(&self) -> Pos {
+        T::pos(*self)
+    }
+
+    fn request(&mut self, len: usize) -> Result<usize, T::Error> {
+        T::request(*self, len)
+    }
+
+    fn slice(&self) -> &[u8] {
+        T::slice(*self)
+    }
+
+    fn bytes(&self, alloc: Global, start: usize, end: usize) -> Result<Bytes, AllocError> {
+        T::bytes(*self, alloc, start, end)
+    }
+
+    fn advance(&mut self, len: usize) {
+        T::advance(*self, len)
+    }
 }
