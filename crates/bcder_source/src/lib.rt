@@ -22,3 +22,6 @@ pub use mode::Mode;
 pub use pos::Pos;
 pub use source::{IntoSource, Source};
 pub use tag::Tag;
+
+#[cfg(test)]
+mod tests;
