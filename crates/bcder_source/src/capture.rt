@@ -115,7 +115,9 @@ impl<'a, S: Source> Source for CaptureSource<'a, S> {
     fn take_u8(&mut self) -> Result<u8, DecodeError<S::Error>> {
         match self.take_opt_u8() {
             Ok(Some(octet)) => Ok(octet),
-            Ok(None) => Err((*self).content_err(ContentError::Static("unexpected end of data"))),
+            Ok(None) => Err(
+                (*self).content_err(ContentError::from_static("unexpected end of data")),
+            ),
             Err(error) => Err(DecodeError::Source(error)),
         }
     }

@@ -1,6 +1,7 @@
 //! Why octets can't be read.
-ghost use Rattle.std.specs.Prelude.{◌≡◌};
+ghost use Rattle.std.specs.Prelude.{◌≡◌, ◌≤◌, length};
 ghost use Rattle.bcder_source.specs.Errors.{SameCause};
+ghost use Rattle.bcder_source.specs.declared.error.ContentError.TheVariants.{Owned as owned_text};
 ghost use Rattle.bcder_source.specs.declared.error.DecodeError.TheVariants.{Memory as memory_error};
 
 use crate::{Pos, Tag};
@@ -8,12 +9,63 @@ use std::alloc::{AllocError, AllocFailed};
 use std::convert::Infallible;
 use std::error::Error;
 use std::fmt;
+use std::fmt::InlineText;
+use std::marker::Model;
+
+/// A short text that is kept without memory: the first 64 octets of it.
+///
+/// A clause sees the octets of the text.
+#[derive(Drop)]
+pub struct FixedText {
+    text: InlineText<64>,
+}
+
+impl Model for FixedText {
+    ghost use Rattle.std.specs.Prelude.{ℕ, List};
+    ghost use Rattle.std.specs.Fmt.InlineText.{inline_text};
+
+    ghost Value = { List ℕ };
+
+    ghost view = { λ a. inline_text a.text };
+}
+
+impl FixedText {
+    /// Keeps a text; of one over 64 octets only a front, which ends in dots.
+    pub fn new(text: &str) -> FixedText
+        ensures { length text.now ≤ 64 → result ≡ text.now }
+    {
+        FixedText {
+            text: InlineText::new().and_str(text, 64),
+        }
+    }
+
+    /// The text.
+    pub fn as_str(&self) -> &str
+        ensures { result.now ≡ self.now }
+    {
+        self.text.as_str()
+    }
+}
+
+/// Prints the text.
+impl fmt::Display for FixedText {
+    fn fmt<W: fmt::Write>(&self, f: &mut fmt::Formatter<W>) -> fmt::Result {
+        f.write_str(self.as_str())
+    }
+}
+
+/// Prints the text.
+impl fmt::Debug for FixedText {
+    fn fmt<W: fmt::Write>(&self, f: &mut fmt::Formatter<W>) -> fmt::Result {
+        f.write_str(self.as_str())
+    }
+}
 
 /// What is wrong with a content.
 #[derive(Debug, Drop)]
 pub enum ContentError {
     /// A fixed text.
-    Static(&'static str),
+    Static(FixedText),
     /// A text made for the case.
     Owned(String),
     /// A value with this tag was expected.
@@ -23,11 +75,19 @@ pub enum ContentError {
 }
 
 impl ContentError {
-    /// The error with a fixed text.
-    pub fn from_static(text: &'static str) -> ContentError
-        ensures { result ≡ ContentError.Static text.entry }
+    /// The error with a fixed text, of which 64 octets are kept.
+    pub fn from_static(text: &str) -> ContentError
+        ensures { length text.now ≤ 64 → result ≡ ContentError.Static text.now }
     {
-        ContentError::Static(text)
+        ContentError::Static(FixedText::new(text))
+    }
+}
+
+impl From<String> for ContentError {
+    ghost from_gives = { λ text e. e ≡ owned_text text };
+
+    fn from(text: String) -> ContentError {
+        ContentError::Owned(text)
     }
 }
 
@@ -35,7 +95,7 @@ impl ContentError {
 impl fmt::Display for ContentError {
     fn fmt<W: fmt::Write>(&self, f: &mut fmt::Formatter<W>) -> fmt::Result {
         match self {
-            ContentError::Static(text) => f.write_str(text),
+            ContentError::Static(text) => f.write_str(text.as_str()),
             ContentError::Owned(text) => f.write_str(text.as_str()),
             ContentError::ExpectedTag(tag) => write!(f, "expected {tag}"),
             ContentError::ExpectedInteger(number) => write!(f, "expected {number}"),

@@ -14,7 +14,7 @@ pub mod source;
 pub mod tag;
 
 pub use capture::CaptureSource;
-pub use error::{ContentError, DecodeError};
+pub use error::{ContentError, DecodeError, FixedText};
 pub use length::Length;
 pub use limited::LimitedSource;
 pub use memory::{BytesSource, SliceSource};

@@ -175,7 +175,9 @@ impl<S: Source> Source for LimitedSource<S> {
     {
         match self.take_opt_u8() {
             Ok(Some(octet)) => Ok(octet),
-            Ok(None) => Err((*self).content_err(ContentError::Static("unexpected end of data"))),
+            Ok(None) => Err(
+                (*self).content_err(ContentError::from_static("unexpected end of data")),
+            ),
             Err(error) => Err(DecodeError::Source(error)),
         }
     }
@@ -227,7 +229,7 @@ impl<S: Source> LimitedSource<S> {
         };
         match self.request(limit) {
             Ok(count) if count < limit => Err(
-                (*self).content_err(ContentError::Static("unexpected end of data")),
+                (*self).content_err(ContentError::from_static("unexpected end of data")),
             ),
             Ok(_) => {
                 self.advance(limit);
@@ -268,7 +270,7 @@ impl<S: Source> LimitedSource<S> {
         };
         match self.request(limit) {
             Ok(count) if count < limit => Err(
-                (*self).content_err(ContentError::Static("unexpected end of data")),
+                (*self).content_err(ContentError::from_static("unexpected end of data")),
             ),
             Ok(count) => Ok(count),
             Err(error) => Err(DecodeError::Source(error)),
@@ -285,11 +287,11 @@ impl<S: Source> LimitedSource<S> {
             if limit == 0 {
                 return Ok(());
             }
-            return Err((*self).content_err(ContentError::Static("trailing data")));
+            return Err((*self).content_err(ContentError::from_static("trailing data")));
         }
         match self.source.request(1) {
             Ok(0) => Ok(()),
-            Ok(_) => Err((*self).content_err(ContentError::Static("trailing data"))),
+            Ok(_) => Err((*self).content_err(ContentError::from_static("trailing data"))),
             Err(error) => Err(DecodeError::Source(error)),
         }
     }

@@ -79,7 +79,9 @@ pub trait Source: Drop {
     {
         match self.take_opt_u8() {
             Ok(Some(octet)) => Ok(octet),
-            Ok(None) => Err((*self).content_err(ContentError::Static("unexpected end of data"))),
+            Ok(None) => Err(
+                (*self).content_err(ContentError::from_static("unexpected end of data")),
+            ),
             Err(error) => Err(DecodeError::Source(error)),
         }
     }
