@@ -1,5 +1,7 @@
 //! A source that keeps what is taken from it.
-ghost use Rattle.std.specs.Prelude.{◌≡◌, ◌+◌, ◌-◌, ◌^◌, ◌<◌, ◌≤◌, ℕ, List, [], length, take, drop, min, slice_range, IfOk, IfErr, OnOk, OnErr};
+ghost use Rattle.std.specs.Prelude.{◌≡◌, ◌+◌, ◌-◌, ◌^◌, ◌<◌, ◌≤◌, ℕ, List, [], ◌∷◌, length, take, drop, min, slice_range, IfOk, IfErr, OnOk, OnErr};
+ghost use Rattle.bcder_source.specs.Errors.{OnlyAtEnd};
+ghost use Rattle.bcder_source.specs.Views.{NextOctet, octets_of};
 
 use crate::{ContentError, DecodeError, Pos, Source};
 use bytes::Bytes;
@@ -112,7 +114,52 @@ impl<'a, S: Source> Source for CaptureSource<'a, S> {
         self.len += len;
     }
 
-    fn take_u8(&mut self) -> Result<u8, DecodeError<S::Error>> {
+    /// The default's steps; what they take is captured.
+    fn skip(&mut self, len: usize) -> Result<usize, S::Error>
+        ensures same_reference { self.new.source.ghost_name ≡ self.old.source.ghost_name }
+        ensures source { S.rest self.new.source.now ≡ S.rest self.old.source.now }
+        ensures len { IfOk result (λ n. self.new.len ≡ self.old.len + n) }
+        ensures len_kept { OnErr result (self.new.len ≡ self.old.len) }
+        ensures bound { IfOk result (λ n. n ≤ len) }
+        ensures there { IfOk result (λ n. n ≤ length (drop self.old.len (S.rest self.old.source.now))) }
+        ensures rest { IfOk result (λ n. drop self.new.len (S.rest self.new.source.now) ≡ drop n (drop self.old.len (S.rest self.old.source.now))) }
+        ensures short { IfOk result (λ n. n < len → drop self.new.len (S.rest self.new.source.now) ≡ []) }
+        ensures failed { OnErr result (drop self.new.len (S.rest self.new.source.now) ≡ drop self.old.len (S.rest self.old.source.now)) }
+    {
+        let count = self.request(len)?;
+        let count = count.min(len);
+        self.advance(count);
+        Ok(count)
+    }
+
+    /// The default's steps; what they take is captured.
+    fn take_opt_u8(&mut self) -> Result<Option<u8>, S::Error>
+        ensures same_reference { self.new.source.ghost_name ≡ self.old.source.ghost_name }
+        ensures source { S.rest self.new.source.now ≡ S.rest self.old.source.now }
+        ensures len { IfOk result (λ octet. self.new.len ≡ self.old.len + length (octets_of octet)) }
+        ensures len_kept { OnErr result (self.new.len ≡ self.old.len) }
+        ensures taken { IfOk result (λ octet. NextOctet octet (drop self.old.len (S.rest self.old.source.now)) (drop self.new.len (S.rest self.new.source.now))) }
+        ensures failed { OnErr result (drop self.new.len (S.rest self.new.source.now) ≡ drop self.old.len (S.rest self.old.source.now)) }
+    {
+        self.request(1)?;
+        let Some(octet) = (*self).slice().first() else {
+            return Ok(None);
+        };
+        let octet = *octet;
+        self.advance(1);
+        Ok(Some(octet))
+    }
+
+    /// The default's steps; what they take is captured.
+    fn take_u8(&mut self) -> Result<u8, DecodeError<S::Error>>
+        ensures same_reference { self.new.source.ghost_name ≡ self.old.source.ghost_name }
+        ensures source { S.rest self.new.source.now ≡ S.rest self.old.source.now }
+        ensures len { OnOk result (self.new.len ≡ self.old.len + 1) }
+        ensures len_kept { OnErr result (self.new.len ≡ self.old.len) }
+        ensures taken { IfOk result (λ octet. drop self.old.len (S.rest self.old.source.now) ≡ octet ∷ drop self.new.len (S.rest self.new.source.now)) }
+        ensures refused { IfErr result (λ e. OnlyAtEnd e (drop self.old.len (S.rest self.old.source.now))) }
+        ensures failed { OnErr result (drop self.new.len (S.rest self.new.source.now) ≡ drop self.old.len (S.rest self.old.source.now)) }
+    {
         match self.take_opt_u8() {
             Ok(Some(octet)) => Ok(octet),
             Ok(None) => Err(
@@ -120,9 +167,5 @@ impl<'a, S: Source> Source for CaptureSource<'a, S> {
             ),
             Err(error) => Err(DecodeError::Source(error)),
         }
-    }
-
-    fn content_err(&self, error: ContentError) -> DecodeError<S::Error> {
-        DecodeError::content(error, self.pos())
     }
 }
