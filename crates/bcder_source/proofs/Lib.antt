@@ -5,3 +5,8 @@ pub mod Canonical
 pub mod Modes
 pub mod Fronts
 pub mod Integers
+pub mod TagOctets
+pub mod Slices
+pub mod Identifiers
+pub mod Lengths
+pub mod Moves

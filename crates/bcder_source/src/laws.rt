@@ -1,10 +1,11 @@
-//! Laws of spellings: the contracts of functions that do nothing.
+//! Laws of spellings and of reading: the contracts of functions that do nothing.
 
-ghost use Rattle.std.specs.Prelude.{◌≡◌, ◌≢◌, List, ℕ, [], ◌++◌};
+ghost use Rattle.std.specs.Prelude.{◌≡◌, ◌≢◌, ◌+◌, ◌^◌, ◌≤◌, List, ℕ, [], ◌++◌, length, None};
 ghost use Rattle.bcder_source.specs.declared.mode.Mode.{Mode as ModeValue};
 ghost use Rattle.bcder_source.specs.declared.mode.Mode.TheVariants.{Ber, Cer, Der};
 ghost use Rattle.bcder_source.specs.Tree.{Tree, Spells};
 ghost use Rattle.bcder_source.specs.Front.{Front};
+ghost use Rattle.bcder_source.specs.Views.{View, Moved, left};
 
 /// In each mode, octets have at most one tree in front, and one end of it.
 pub fn one_tree_in_front()
@@ -24,4 +25,19 @@ pub fn each_spelling_is_ber()
 /// In CER and in DER a tree has at most one spelling.
 pub fn one_spelling()
     ensures { (m : ModeValue) (t : Tree) (a b : List ℕ) → m ≢ Ber → Spells m t a → Spells m t b → a ≡ b }
+{}
+
+/// What is read stood in front of what might be read, and what may still be read is behind it.
+pub fn reading_takes_a_front()
+    ensures { (old new : View) (text : List ℕ) → Moved old text new → left old ≡ text ++ left new }
+{}
+
+/// Two readings, one behind the other, are one.
+pub fn readings_join()
+    ensures { (a b c : View) (x y : List ℕ) → Moved a x b → Moved b y c → Moved a (x ++ y) c }
+{}
+
+/// Reading from a slice is reading from a source with no limit.
+pub fn slices_are_read_alike()
+    ensures { (octets text rest : List ℕ) → octets ≡ text ++ rest → Moved (record { rest = octets; limit = None }) text (record { rest = rest; limit = None }) }
 {}
