@@ -1,5 +1,5 @@
 //! A source that keeps what is taken from it.
-ghost use Rattle.std.specs.Prelude.{◌≡◌, ◌+◌, ◌-◌, ◌^◌, ◌<◌, ◌≤◌, ℕ, List, [], ◌∷◌, length, take, drop, min, slice_range, IfOk, IfErr, OnOk, OnErr};
+ghost use Rattle.std.specs.Prelude.{◌≡◌, ◌+◌, ◌-◌, ◌^◌, ◌<◌, ◌≤◌, [], ◌∷◌, length, take, drop, min, IfOk, IfErr, OnOk, OnErr};
 ghost use Rattle.bcder_source.specs.Errors.{OnlyAtEnd};
 ghost use Rattle.bcder_source.specs.Views.{NextOctet, octets_of};
 

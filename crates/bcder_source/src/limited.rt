@@ -1,5 +1,5 @@
 //! Sources of which some octets at most are read.
-ghost use Rattle.std.specs.Prelude.{◌≡◌, ◌+◌, ◌-◌, ◌^◌, ◌<◌, ◌≤◌, ℕ, List, [], ◌∷◌, length, take, drop, min, IfOk, IfErr, OnOk, OnErr, Option, Some, None, IsSome};
+ghost use Rattle.std.specs.Prelude.{◌≡◌, ◌+◌, ◌-◌, ◌^◌, ◌<◌, ◌≤◌, [], ◌∷◌, length, take, drop, min, IfOk, IfErr, OnOk, OnErr, Option, Some, None, IsSome};
 ghost use Rattle.bcder_source.specs.Errors.{OnContent, OnlyContent, OnlyAtEnd};
 ghost use Rattle.bcder_source.specs.Limits.{view, within, Narrows, at_hand, IsSpent, IsShort};
 ghost use Rattle.bcder_source.specs.Views.{Moved, NextOctet, octets_of, limited, left};

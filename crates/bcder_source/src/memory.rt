@@ -1,5 +1,5 @@
 //! Sources over octets in memory.
-ghost use Rattle.std.specs.Prelude.{◌≡◌, ◌==◌, ◌+◌, ◌-◌, ◌^◌, ◌<◌, ◌≤◌, ℕ, List, [], length, take, drop, min, IfOk, OnOk, OnErr};
+ghost use Rattle.std.specs.Prelude.{◌≡◌, ◌==◌, ◌+◌, ◌-◌, ◌^◌, ◌<◌, ◌≤◌, length, take, drop, min, IfOk, OnOk, OnErr};
 ghost use Rattle.bcder_source.specs.Views.{Reading};
 
 use crate::{IntoSource, Pos, Source};

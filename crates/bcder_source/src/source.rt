@@ -1,5 +1,5 @@
 //! Sources of octets.
-ghost use Rattle.std.specs.Prelude.{◌≡◌, ◌+◌, ◌-◌, ◌^◌, ◌<◌, ◌≤◌, ℕ, List, [], ◌∷◌, length, take, drop, slice_range, IfOk, IfErr, OnErr};
+ghost use Rattle.std.specs.Prelude.{◌≡◌, ◌-◌, ◌^◌, ◌<◌, ◌≤◌, ℕ, List, [], ◌∷◌, length, take, drop, slice_range, IfOk, IfErr, OnErr};
 ghost use Rattle.bcder_source.specs.Errors.{OnlyAtEnd};
 ghost use Rattle.bcder_source.specs.Views.{NextOctet};
 ghost use Rattle.bcder_source.specs.declared.error.DecodeError.TheVariants.{Content as content_error};

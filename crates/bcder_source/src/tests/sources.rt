@@ -1,5 +1,5 @@
 //! Sources that give one octet at a time, and that fail midway.
-ghost use Rattle.std.specs.Prelude.{◌≡◌, ◌-◌, ◌^◌, ◌<◌, ◌≤◌, length, take, drop};
+ghost use Rattle.std.specs.Prelude.{◌-◌, ◌^◌, ◌<◌, ◌≤◌, length};
 
 use super::*;
 use std::alloc::{AllocError, Global};
