@@ -1,0 +1,130 @@
+#!/usr/bin/env python3
+"""Shows that the built program answers each refused growth of its memory as it should.
+
+    growths.py PROGRAM      (PROGRAM is crates/rpki_check/out/rpki_check)
+
+For each case the growths of one run are counted. Then each is refused in turn, and each with all that come
+after it. Such a run must either answer exactly as if none were refused, or print `out of memory` to standard
+error, with status 1 and nothing on standard output. `refuse_growth.c`, compiled by `cc` and preloaded, does the
+refusing; the right answers stand below.
+
+Prints `N passed, M failed`, a run being one test; exits with 1 where one failed.
+"""
+
+import os
+import subprocess
+import sys
+import tempfile
+
+HERE = os.path.dirname(os.path.abspath(__file__))
+sys.path.insert(0, os.path.join(HERE, "..", "bench"))
+sys.dont_write_bytecode = True
+
+from make_bundle import bundle, locator, made_objects, made_verdicts, object_at  # noqa: E402
+
+SECONDS = 20  # more than any run takes
+
+OUT_OF_MEMORY = (1, b"", b"out of memory\n")
+
+NOT_A_BUNDLE = (1, b"", b"not a bundle\n")
+
+# Version 0, moment 20250101000000Z, depth 32.
+HEAD = "020100 180F32303235303130313030303030305A 020120"
+
+
+def prints(text):
+    """The outcome of a run that prints that and finds nothing at fault."""
+    return 0, text, b""
+
+
+def many():
+    """The octets of 50 locators, 20 objects and 20 verdicts, and their outcome."""
+    names = [b"tal%02d" % number for number in range(50)]
+    octets = bundle([locator(name) for name in names], made_objects(20, 300), made_verdicts(20))
+    return octets, prints(b"".join(b"refused " + name + b" tal\n" for name in names))
+
+
+# What is read, and the right outcome: status, standard output and standard error.
+CASES = {
+    "empty-bundle": (bytes.fromhex(f"301D {HEAD} 3000 3000 3000"), prints(b"")),
+    "empty-locator": (
+        bytes.fromhex(f"3024 {HEAD} 3007 3005 130178 0400 3000 3000"),
+        prints(b"refused x tal\n"),
+    ),
+    "locator-order": (
+        bytes.fromhex(f"302B {HEAD} 300E 3005 130161 0400 3005 130162 0400 3000 3000"),
+        prints(b"refused a tal\nrefused b tal\n"),
+    ),
+    "locator-order, unsorted": (
+        bytes.fromhex(f"302B {HEAD} 300E 3005 130162 0400 3005 130161 0400 3000 3000"),
+        NOT_A_BUNDLE,
+    ),
+    "one-object": (bundle(objects=[object_at(b"rsync://a/m/x", b"")]), prints(b"")),
+    "many": many(),
+}
+
+
+def compiled(folder):
+    """The path of the shared object that refuses growths."""
+    path = os.path.join(folder, "refuse_growth.so")
+    source = os.path.join(HERE, "refuse_growth.c")
+    subprocess.run([os.environ.get("CC", "cc"), "-shared", "-fPIC", "-O1", "-o", path, source], check=True)
+    return path
+
+
+def run(program, shim, octets, refusal):
+    """One run's status, what it printed on both streams, and a `+` or `-` for each growth."""
+    with tempfile.TemporaryFile() as told:
+        environment = {"LD_PRELOAD": shim, "GROWTHS_FD": str(told.fileno()), **refusal}
+        done = subprocess.run(
+            [program, "check"],
+            input=octets,
+            capture_output=True,
+            env=environment,
+            pass_fds=[told.fileno()],
+            timeout=SECONDS,
+        )
+        told.seek(0)
+        return (done.returncode, done.stdout, done.stderr), told.read().decode()
+
+
+def refusals(count):
+    """The settings of the runs that follow the count, and how many growths are given before the first refused."""
+    for number in range(1, count + 1):
+        for word in ("REFUSE_AT", "REFUSE_FROM"):
+            yield {word: str(number)}, number - 1
+
+
+def try_case(program, shim, name):
+    """Whether each run of the case was right; prints a line for each that was not, and one for the case."""
+    octets, answer = CASES[name]
+    outcome, growths = run(program, shim, octets, {})
+    results = [outcome == answer]
+    if outcome != answer:
+        print(f"{name}, nothing refused: {outcome}")
+    answered = 0
+    for refusal, given in refusals(len(growths)):
+        outcome, told = run(program, shim, octets, refusal)
+        right = outcome in (answer, OUT_OF_MEMORY) and told.startswith("+" * given + "-")
+        results.append(right)
+        answered += outcome == answer
+        if not right:
+            print(f"{name}, {refusal}: {outcome}, growths {told}")
+    print(f"{name}: {len(growths)} growths, {len(results)} runs, {answered} answered in spite of a refusal")
+    return results
+
+
+def main():
+    if len(sys.argv) != 2:
+        sys.exit("usage: growths.py PROGRAM")
+    program = os.path.abspath(sys.argv[1])
+    with tempfile.TemporaryDirectory() as folder:
+        shim = compiled(folder)
+        results = [result for name in CASES for result in try_case(program, shim, name)]
+    failed = results.count(False)
+    print(f"{len(results) - failed} passed, {failed} failed")
+    sys.exit(1 if failed else 0)
+
+
+if __name__ == "__main__":
+    main()
