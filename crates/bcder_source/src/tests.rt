@@ -1,4 +1,6 @@
 //! Cases from outside, and each generic function and impl called once through its bound.
+ghost use Rattle.std.specs.Prelude.{◌≡◌, ◌↔◌, IsTrue};
+
 use crate::{
     BytesSource, CaptureSource, ContentError, DecodeError, IntoSource, Length, LimitedSource, Mode,
     Pos, SliceSource, Source, Tag,
@@ -7,6 +9,19 @@ use bytes::Bytes;
 use std::test::Fail;
 
 mod sources;
+
+// A constant is the tag that it says, and equality is that of class and number.
+fn sequence() -> Tag
+    ensures { result ≡ record { class = 0; number = 16 } }
+{
+    Tag::SEQUENCE
+}
+
+fn is_same(a: Tag, b: Tag) -> bool
+    ensures { IsTrue result ↔ (a ≡ b) }
+{
+    a == b
+}
 
 #[test]
 fn universal_tags_have_their_numbers(rt: HostRuntime) {

@@ -2,7 +2,7 @@
 ghost use Rattle.std.specs.Prelude.{◌-◌, ◌^◌, ◌<◌, ◌≤◌, length};
 
 use super::*;
-use std::alloc::{AllocError, Global};
+use std::alloc::{AllocError, AllocFailed, Global};
 use std::convert::Infallible;
 use std::error::Error;
 use std::fmt;
@@ -191,6 +191,7 @@ fn limits_end_a_content(rt: HostRuntime) -> Result<(), Fail> {
     assert!(rt; limited.take_all(alloc).is_err());
     limited.set_limit(None);
     assert_eq!(rt; limited.take_all(alloc)?.as_slice(), &OCTETS[3..]);
+    limited.skip_all()?;
     let mut rest = limited.unwrap();
     assert!(rt; rest.is_empty());
     assert!(rt; rest.take_u8().is_err());
@@ -249,6 +250,8 @@ fn refusals_keep_their_cause(rt: HostRuntime) -> Result<(), Fail> {
     assert_eq!(rt; format!(in alloc; "{fault}")?.as_str(), "fault");
     let memory: DecodeError<Fault> = DecodeError::from(AllocError);
     assert_eq!(rt; format!(in alloc; "{memory}")?.as_str(), "out of memory");
+    let growth: DecodeError<Fault> = DecodeError::from(AllocFailed { value: 1u8 });
+    assert_eq!(rt; format!(in alloc; "{growth}")?.as_str(), "out of memory");
     Ok(())
 }
 
