@@ -1,11 +1,14 @@
 mod Slices
 mod Lengths
 mod Contents
+pub mod Spellings
 mod Lists
 mod Members
 mod Wholes
 mod Numbers
 mod EntryFronts
+pub mod Texts
+pub mod OneBundle
 mod Orders
 pub mod UriLaws
 pub mod UriTexts

@@ -7,6 +7,7 @@ pub mod digest;
 mod entries;
 pub mod error;
 mod forms;
+pub mod laws;
 pub mod parts;
 pub mod time;
 pub mod uri;
