@@ -2,6 +2,7 @@ mod Slices
 mod Lengths
 mod Contents
 pub mod Spellings
+pub mod Writing
 mod Lists
 mod Members
 mod Wholes

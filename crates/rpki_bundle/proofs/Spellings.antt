@@ -1,6 +1,7 @@
 -- What octets spell numbers, strings and lists in DER, and that they do.
-use Rattle.std.proofs.Common.{◌≡◌, ◌≢◌, ℕ, ◌+◌, ◌*◌, ◌/◌, ◌%◌, ◌^◌, ◌<◌, Bool, true, false, List, [], ◌∷◌, ◌++◌, length, suc, refl, sym, ap, ◌∙◌, subst, append-nil, length-append, arith}
+use Rattle.std.proofs.Common.{◌≡◌, ◌≢◌, ℕ, ◌+◌, ◌*◌, ◌/◌, ◌%◌, ◌^◌, ◌<◌, ◌≤◌, Bool, true, false, List, [], ◌∷◌, ◌++◌, length, suc, refl, sym, ap, ◌∙◌, subst, append-nil, length-append, arith}
 use Rattle.std.proofs.lemmas.Bool.{ltb-true, ltb-false}
+use Rattle.std.proofs.lemmas.Bool.Decides.{nat_tests}
 use Rattle.std.proofs.lemmas.List.Elements.{All-cons}
 use Rattle.std.specs.Prelude.{All, nat_lt, if◌then◌else◌}
 use Rattle.std.specs.List.{flat_map}
@@ -28,6 +29,27 @@ length_by n false false false false h p q r s = (refl, omega arith, omega arith,
 pub length_is : (n : ℕ) → n < 2 ^ 32 → IsLength Der (length_octets n) n
 unfolding length_octets
 length_is n h = length_by n (nat_lt n 128) (nat_lt n 256) (nat_lt n 65536) (nat_lt n 16777216) h refl refl refl refl
+
+-- They are these, by how long they are.
+pub length1 : (n : ℕ) → n < 128 → length_octets n ≡ n ∷ []
+unfolding length_octets
+length1 n h = grind (arith, nat_tests)
+
+pub length2 : (n : ℕ) → 128 ≤ n → n < 256 → length_octets n ≡ 129 ∷ n ∷ []
+unfolding length_octets
+length2 n l h = grind (arith, nat_tests)
+
+pub length3 : (n : ℕ) → 256 ≤ n → n < 65536 → length_octets n ≡ 130 ∷ n / 256 ∷ n % 256 ∷ []
+unfolding length_octets
+length3 n l h = grind (arith, nat_tests)
+
+pub length4 : (n : ℕ) → 65536 ≤ n → n < 16777216 → length_octets n ≡ 131 ∷ n / 65536 ∷ n / 256 % 256 ∷ n % 256 ∷ []
+unfolding length_octets
+length4 n l h = grind (arith, nat_tests)
+
+pub length5 : (n : ℕ) → 16777216 ≤ n → length_octets n ≡ 132 ∷ n / 16777216 ∷ n / 65536 % 256 ∷ n / 256 % 256 ∷ n % 256 ∷ []
+unfolding length_octets
+length5 n l = grind (arith, nat_tests)
 
 -- A value by its identifier octet and its content.
 pub value_spelled : (identifier : ℕ) (k : Bool) (t : TagValue) (s c : List ℕ) → t.number < 31 → identifier ≡ t.class * 64 + form_bit k + t.number → Splits Der s k t c [] → (s ≡ value_octets identifier c) × (length c < 2 ^ 32)
@@ -171,3 +193,8 @@ spells_list {octets = octets} s xs l fits =
     let content : length (flat_map octets xs) < 2 ^ 32 = omega arith in
     let each = spells_each s xs l content in
     (constructed sequence_tag each.0, record { members = each.0; whole = refl; each = each.1 }, spells_sequence each.0 (flat_map octets xs) each.2 content)
+
+-- A length has one to five octets.
+pub length_octets_bound : (n : ℕ) → (1 ≤ length (length_octets n)) × (length (length_octets n) ≤ 5)
+unfolding length_octets
+length_octets_bound n = grind (arith, nat_tests)

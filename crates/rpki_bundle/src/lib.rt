@@ -9,6 +9,9 @@ pub mod error;
 mod forms;
 pub mod laws;
 pub mod parts;
+mod put;
+#[cfg(test)]
+mod tests;
 pub mod time;
 pub mod uri;
 
