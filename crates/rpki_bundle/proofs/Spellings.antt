@@ -14,7 +14,6 @@ use Rattle.bcder_source.specs.Sequences.{sequence, sequence_tag, forest, EachIs,
 use Rattle.bcder_source.proofs.Canonical.{spelled_length}
 use Rattle.bcder_source.proofs.Fronts.{whole_front, front_whole, split_primitive, split_constructed, primitive_front, sequence_front, length_bound}
 use Rattle.rpki_bundle.specs.Spellings.{length_octets, value_octets, sequence_octets, list_octets}
-use Rattle.rpki_bundle.specs.Lawful.{Spelling}
 use Rattle.rpki_bundle.proofs.Contents.{content_splits, splits_content}
 
 -- The octets of a length spell it.
@@ -157,6 +156,11 @@ spells_three i u v w tag low fits =
     spells_sequence (forest (primitive (universal i) u ∷ primitive (universal i) v ∷ primitive (universal i) w ∷ [])) (value_octets i u ++ (value_octets i v ++ value_octets i w))
     (value_octets i u, value_octets i v ++ value_octets i w, first, (value_octets i v, value_octets i w, second, (value_octets i w, [], third, refl, sym (append-nil (value_octets i w))), refl), refl)
     (omega arith)
+
+-- Trees of the form P are spelled by these octets, and lawful entries have such a tree.
+pub record Spelling {A : Type 0} (P : Tree → A → Type 0) (lawful : A → Type 0) (octets : A → List ℕ) : Type 0 where
+  pub needs : (t : Tree) (x : A) (a : List ℕ) → P t x → Spells Der t a → (a ≡ octets x) × lawful x
+  pub gives : (x : A) → lawful x → length (octets x) < 2 ^ 32 → (t : Tree) × P t x × Spells Der t (octets x)
 
 -- Entries, one behind the other,
 pub each_spelled : {A : Type 0} {P : Tree → A → Type 0} {lawful : A → Type 0} {octets : A → List ℕ} → Spelling P lawful octets → (ts : Trees) (xs : List A) (c : List ℕ) → EachIs P ts xs → SpellsAll Der ts c → (c ≡ flat_map octets xs) × All lawful xs

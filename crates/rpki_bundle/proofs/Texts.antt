@@ -12,10 +12,10 @@ use Rattle.rpki_bundle.specs.Uris.{IsUri, IsUriOctet}
 use Rattle.rpki_bundle.specs.Bundle.{BundleValue, BundleText, IsLocator, IsObject, IsVerdict}
 use Rattle.rpki_bundle.specs.EntryTrees.{locator_tree, object_tree, verdict_tree, locator_is, object_is, verdict_is}
 use Rattle.rpki_bundle.specs.Spellings.{value_octets, sequence_octets, locator_octets, object_octets, verdict_octets, list_octets, members_octets, bundle_octets}
-use Rattle.rpki_bundle.specs.Lawful.{IsLawfulLocator, IsLawfulObject, IsLawfulVerdict, IsLawful, Spelling}
+use Rattle.rpki_bundle.specs.Lawful.{IsLawfulLocator, IsLawfulObject, IsLawfulVerdict, IsLawful}
 use Rattle.rpki_bundle.proofs.EntryFronts.{locator_name}
 use Rattle.rpki_bundle.proofs.Moments.{one_text}
-use Rattle.rpki_bundle.proofs.Spellings.{primitive_spelled, spells_primitive, sequence_spelled, spells_sequence, value_longer, pair_spelled, spells_pair, three_spelled, spells_three, list_spelled, spells_list}
+use Rattle.rpki_bundle.proofs.Spellings.{Spelling, primitive_spelled, spells_primitive, sequence_spelled, spells_sequence, value_longer, pair_spelled, spells_pair, three_spelled, spells_three, list_spelled, spells_list}
 
 -- The three kinds of entries.
 pub locator_spelling : Spelling IsLocator IsLawfulLocator locator_octets

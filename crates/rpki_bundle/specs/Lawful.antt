@@ -1,7 +1,5 @@
 -- The bundles that some octets spell.
 use Rattle.std.specs.Prelude.{◌≡◌, ◌≢◌, ℕ, ◌<◌, ◌≤◌, ◌^◌, List, [], length, All}
-use Rattle.bcder_source.specs.declared.mode.Mode.TheVariants.{Der}
-use Rattle.bcder_source.specs.Tree.{Tree, Spells}
 use Rattle.bcder_source.specs.Strings.{IsPrintable}
 use Rattle.rpki_bundle.specs.declared.parts.Locator.{Locator}
 use Rattle.rpki_bundle.specs.declared.parts.Object.{Object}
@@ -41,8 +39,3 @@ pub record IsLawful (b : BundleValue) : Type 0 where
   pub objects : IsLawfulList IsLawfulObject (λ o. o.uri) b.objects
   pub verdicts : IsLawfulList IsLawfulVerdict verdict_row b.verdicts
   pub fits : length (members_octets text b) < 2 ^ 32
-
--- Trees of the form P are spelled by these octets, and lawful entries have such a tree.
-pub record Spelling {A : Type 0} (P : Tree → A → Type 0) (lawful : A → Type 0) (octets : A → List ℕ) : Type 0 where
-  pub needs : (t : Tree) (x : A) (a : List ℕ) → P t x → Spells Der t a → (a ≡ octets x) × lawful x
-  pub gives : (x : A) → lawful x → length (octets x) < 2 ^ 32 → (t : Tree) × P t x × Spells Der t (octets x)

@@ -1,4 +1,4 @@
-use Rattle.std.proofs.Common.{length, ◌∙◌, arith}
+use Rattle.std.proofs.Common.{◌∙◌, arith}
 use Rattle.rpki_bundle.proofs.Spellings.{length_octets_bound}
 use Rattle.rpki_bundle.proofs.Writing.{value_capped}
 use Rattle.rpki_bundle.proofs.put.value_size.Goals as goal
