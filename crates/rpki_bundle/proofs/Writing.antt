@@ -8,8 +8,9 @@ use Rattle.std.specs.List.{flat_map}
 use Rattle.std.specs.declared.result.Result.{Result}
 use Rattle.std.specs.declared.result.Result.TheVariants.{Ok, Err}
 use Rattle.rpki_bundle.specs.declared.parts.Verdict.{Verdict}
+use Rattle.rpki_bundle.specs.Bundle.{BundleValue}
 use Rattle.rpki_bundle.specs.Sizes.{capped}
-use Rattle.rpki_bundle.specs.Spellings.{length_octets, value_octets, sequence_octets, verdict_octets}
+use Rattle.rpki_bundle.specs.Spellings.{length_octets, value_octets, sequence_octets, locator_octets, object_octets, verdict_octets, list_octets, members_octets}
 use Rattle.rpki_bundle.proofs.Spellings.{value_longer, length1}
 
 -- What was written, by another name.
@@ -95,3 +96,13 @@ pub entry_within : {A : Type 0} (octets : A → List ℕ) (xs : List A) (i : ℕ
 entry_within octets [] i x e lt = absurd (omega arith)
 entry_within octets (y ∷ ys) zero x e lt = omega (arith, length-append (octets y) (flat_map octets ys), ap (λ z. length (octets z)) e)
 entry_within octets (y ∷ ys) (suc i) x e lt = omega (arith, length-append (octets y) (flat_map octets ys), entry_within octets ys i x e (omega arith))
+
+-- The members of a bundle, counted one by one.
+pub members_length : (text : List ℕ) (b : BundleValue) → length (members_octets text b) ≡ length (value_octets 24 text) + 6 + length (list_octets locator_octets b.locators) + length (list_octets object_octets b.objects) + length (list_octets verdict_octets b.verdicts)
+members_length text b =
+    let ls = list_octets locator_octets b.locators in
+    let os = list_octets object_octets b.objects in
+    let vs = list_octets verdict_octets b.verdicts in
+    let depth = value_octets 2 (b.depth ∷ []) in
+    let one = ap length (length1 1 (omega arith)) in
+    omega (arith, one, value_longer 2 (0 ∷ []), value_longer 2 (b.depth ∷ []), length-append (value_octets 2 (0 ∷ [])) (value_octets 24 text ++ (depth ++ (ls ++ (os ++ vs)))), length-append (value_octets 24 text) (depth ++ (ls ++ (os ++ vs))), length-append depth (ls ++ (os ++ vs)), length-append ls (os ++ vs), length-append os vs)
