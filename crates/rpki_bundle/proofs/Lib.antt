@@ -15,3 +15,4 @@ pub mod UriLaws
 pub mod UriTexts
 pub mod Calendar
 pub mod Moments
+pub mod Objects

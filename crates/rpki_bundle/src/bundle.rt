@@ -1,5 +1,10 @@
 ghost use Rattle.std.specs.Prelude.{◌≡◌, ◌↔◌, ℕ, ◌<◌, ◌≤◌, ◌^◌, List, length, IsTrue, IfSome, IfNone, IfOk, IfErr};
+ghost use Rattle.std.specs.Ordering.{nat_cmp};
+ghost use Rattle.std.specs.Cmp.Lexicographic.{slice_cmp};
 ghost use Rattle.bcder_source.specs.Integers.{IsNumber};
+ghost use Rattle.rpki_bundle.specs.Uris.{IsUri, lookup_key as key_of};
+ghost use Rattle.rpki_bundle.specs.Orders.{Ascends};
+ghost use Rattle.rpki_bundle.specs.Objects.{IsAt};
 ghost use Rattle.rpki_bundle.specs.Reading.{ReadsOne};
 ghost use Rattle.rpki_bundle.specs.declared.error.BundleError.TheVariants.{NotABundle as not_a_bundle};
 ghost use Rattle.rpki_bundle.specs.Errors.{OnNotABundle};
@@ -12,8 +17,10 @@ ghost use Rattle.rpki_bundle.specs.BundleParts.{ReadsHead, ReadsBundle};
 use crate::der::{SEQUENCE, take_primitive, take_sequence};
 use crate::entries::{is_lawful_list, list_size, put_list, take_list};
 use crate::put::{put_header, put_value, value_size};
+use crate::uri::{cmp_lookup_key, is_uri};
 use crate::{BundleError, Locator, Object, Time, Verdict};
 use std::alloc::{AllocError, Global};
+use std::cmp::Ordering;
 use std::marker::Model;
 
 // Universal tag numbers.
@@ -180,6 +187,23 @@ fn is_lawful(
     members_size(&moment.generalized(), locators, objects, verdicts) < 4294967296
 }
 
+// The octets of the object at the lookup key of a URI, among objects that ascend.
+fn find<'a>(objects: &'a [Object], uri: &[u8]) -> Option<&'a [u8]>
+    requires { Ascends (λ o. o.uri) objects.now }
+    ensures found { IfSome result (λ octets. IsAt objects.now (key_of uri.now) octets.now) }
+    ensures none { IfNone result ((octets : List ℕ) → IsAt objects.now (key_of uri.now) octets → ⊥) }
+{
+    let found = objects.binary_search_by(
+        |object: &Object| -> Ordering
+            ensures { result ≡ slice_cmp nat_cmp object.now.uri (key_of uri.entry.now) }
+        { cmp_lookup_key(object.uri.as_slice(), uri) },
+    );
+    match found {
+        Ok(i) => Some(objects[i].octets.as_slice()),
+        Err(_) => None,
+    }
+}
+
 impl Bundle {
     ghost use Rattle.rpki_bundle.specs.Bundle.{BundleValue, BundleText};
 
@@ -241,6 +265,17 @@ impl Bundle {
         put_list(&mut octets, objects)?;
         put_list(&mut octets, verdicts)?;
         Ok(octets)
+    }
+
+    /// The octets of the object at a URI, which is looked up by its lookup key; none for a text that is no URI.
+    pub fn get(&self, uri: &[u8]) -> Option<&[u8]>
+        ensures found { IfSome result (λ octets. IsUri uri.now × IsAt self.now.objects (key_of uri.now) octets.now) }
+        ensures none { IfNone result (IsUri uri.now → (octets : List ℕ) → IsAt self.now.objects (key_of uri.now) octets → ⊥) }
+    {
+        if !is_uri(uri) {
+            return None;
+        }
+        find(self.objects.as_slice(), uri)
     }
 
     /// The moment at which validity is judged.
