@@ -1,4 +1,4 @@
-//! The base of the codec: encoding modes, and what octets spell which trees.
+//! The base of the codec: modes, tags, lengths and sources of octets, and what octets spell which trees.
 #![tactic(auto)]
 
 pub mod capture;
