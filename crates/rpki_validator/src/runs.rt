@@ -7,6 +7,7 @@ ghost use Rattle.rpki_validator.specs.declared.runs.RunError.TheVariants.{Memory
 use crate::counted::Counted;
 use crate::lines::{have_empty_texts, locator_lines};
 use crate::streams::{ReadFault, read_all, write_all};
+use rpki_bundle::laws::bundle_length;
 use rpki_bundle::{Bundle, BundleError, Digester};
 use std::alloc::{AllocError, Global};
 use std::io::{Read, Write};
@@ -80,6 +81,8 @@ pub fn run<R: Read, W: Write, D: Digester>(
     ensures reads { CountsReads result reader.old.failures reader.new.failures }
     ensures writes { CountsWrites result writer.old.failures writer.new.failures }
 {
+    // So a bundle ends before the reading is stopped.
+    bundle_length();
     let octets = match read_all(alloc, reader, MOST_OCTETS) {
         Ok(octets) => octets,
         Err(ReadFault::Read) => return Err(RunError::Read),
