@@ -218,6 +218,7 @@ impl Bundle {
         verdicts: Vec<Verdict>,
     ) -> Result<Bundle, BundleError>
         ensures ok { IfOk result (λ b. b ≡ record { moment = moment; depth = depth; locators = locators.items; objects = objects.items; verdicts = verdicts.items }) }
+        ensures spelled { IfOk result (λ b. (octets : List ℕ) × BundleText octets b) }
         ensures refused { IfErr result (λ e. (e ≡ not_a_bundle) × ((octets : List ℕ) → BundleText octets (record { moment = moment; depth = depth; locators = locators.items; objects = objects.items; verdicts = verdicts.items }) → ⊥)) }
     {
         let (names, uris, digests) = (locators.as_slice(), objects.as_slice(), verdicts.as_slice());

@@ -113,7 +113,8 @@ fn takes_lawful_parts(rt: HostRuntime) -> Result<(), Fail> {
         assert_eq!(rt; again.depth(), depth);
         assert_eq!(rt; again.locators().len(), 2);
         assert_eq!(rt; again.get(uris[1]), Some(uris[1]));
-        assert_eq!(rt; again.verdicts()[0].signature, [3; 32]);
+        let verdict = again.verdicts().first().ok_or("one verdict")?;
+        assert_eq!(rt; verdict.signature, [3; 32]);
         assert_eq!(rt; again.encode(rt.alloc())?.as_slice(), octets.as_slice());
     }
     Ok(())
@@ -202,11 +203,8 @@ fn long_texts(rt: HostRuntime) -> Result<(), Fail> {
         let octets = bundle.encode(alloc)?;
         let again = Bundle::decode(alloc, octets.as_slice())?;
         assert_eq!(rt; octets.len(), length, "{size}");
-        assert_eq!(rt;
-            again.locators()[0].text.as_slice(),
-            text.as_slice(),
-            "{size}"
-        );
+        let locator = again.locators().first().ok_or("one locator")?;
+        assert_eq!(rt; locator.text.as_slice(), text.as_slice(), "{size}");
     }
     Ok(())
 }
