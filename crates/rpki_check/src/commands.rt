@@ -39,3 +39,6 @@ pub fn check<R: Read, W: Write, F: Write>(
         }
     }
 }
+
+#[cfg(test)]
+mod tests;
