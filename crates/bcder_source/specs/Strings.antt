@@ -10,7 +10,7 @@ abbrev pub octet_string_tag : TagValue
 octet_string_tag = universal 4
 
 abbrev mutual
-  -- BER: primitive, or segments that are OCTET STRINGs again, nested at will (8.7.3, 8.23.6).
+  -- BER: primitive, or segments that are OCTET STRINGs again, nested at will (8.7.3, 8.23.3).
   pub IsBerString : TagValue → Tree → List ℕ → Type 0
   IsBerString tag (primitive t v) octets = (t ≡ tag) × (v ≡ octets)
   IsBerString tag (constructed t ts) octets = (t ≡ tag) × AreSegments ts octets
@@ -53,7 +53,7 @@ IsOneOf marks c = IsTrue (list_any (λ m. m == c) marks)
 abbrev pub IsPrintable : ℕ → Type 0
 IsPrintable c = IsLetter c ⊎ (IsDigit c ⊎ IsOneOf (codes " '()+,-./:=?") c)
 
--- What an IA5String has: 00 to 7F (X.680 41.2).
+-- What an IA5String has: 00 to 7F (X.680 41.1, table 8).
 abbrev pub IsIa5 : ℕ → Type 0
 IsIa5 c = c < 128
 

@@ -1,3 +1,5 @@
+//! Bundles of version 0, made of parts, read and written.
+
 ghost use Rattle.std.specs.Prelude.{◌≡◌, ◌↔◌, ℕ, ◌<◌, ◌≤◌, ◌^◌, List, length, IsTrue, IfSome, IfNone, IfOk, IfErr};
 ghost use Rattle.std.specs.Ordering.{nat_cmp};
 ghost use Rattle.std.specs.Cmp.Lexicographic.{slice_cmp};
@@ -234,7 +236,10 @@ impl Bundle {
         })
     }
 
-    /// Reads a bundle of version 0, which all the octets have to be, in DER.
+    /// Reads a bundle of version 0, in DER.
+    ///
+    /// `NotABundle` where the octets, all of them, are none: octets behind the value are refused. `Memory` where a
+    /// growth was refused.
     pub fn decode(alloc: Global, octets: &[u8]) -> Result<Bundle, BundleError>
         ensures ok { IfOk result (BundleText octets.now) }
         ensures not_a_bundle { IfErr result (λ e. OnNotABundle e ((b : BundleValue) → BundleText octets.now b → ⊥)) }

@@ -1,3 +1,5 @@
+//! The digests that are handed in.
+
 ghost use Rattle.std.specs.Prelude.{◌≡◌, ℕ, List};
 
 /// The two digests that RPKI objects name. Each is a function of the octets; nothing else is asked of it.

@@ -1,3 +1,5 @@
+//! Why there is no bundle.
+
 ghost use Rattle.rpki_bundle.specs.declared.error.BundleError.TheVariants.{Memory as memory_error};
 ghost use Rattle.std.specs.Prelude.{◌≡◌};
 

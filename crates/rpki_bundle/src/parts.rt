@@ -1,3 +1,5 @@
+//! The entries of a bundle's lists.
+
 use bytes::Bytes;
 
 /// A trust anchor locator as it was handed in.

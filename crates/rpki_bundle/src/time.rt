@@ -1,3 +1,5 @@
+//! Moments, by jiff's calendar.
+
 ghost use Rattle.std.specs.Prelude.{◌≡◌, ℕ, ◌<◌, ◌*◌, ◌↔◌, IsSome, IfSome, IfNone, SomeIff, List, [], ◌∷◌};
 ghost use Rattle.rpki_bundle.specs.Pairs.{IsPairs, pair_text};
 ghost use Rattle.rpki_bundle.specs.Times.{digits};
@@ -27,7 +29,8 @@ impl Model for Time {
 impl Time {
     ghost use Rattle.rpki_bundle.specs.Times.{IsReal, IsMoment, seconds_of};
 
-    /// The moment with these parts, if the calendar has it.
+    /// The moment with these parts in UTC, if the calendar has it: a year to 9999, a month and a day of it, counted
+    /// from 1, an hour to 23, and minute and second to 59.
     pub fn utc(year: u16, month: u8, day: u8, hour: u8, minute: u8, second: u8) -> Option<Time>
         ensures { SomeIff result
             (IsReal (record { year = year; month = month; day = day; hour = hour; minute = minute; second = second }))

@@ -1,8 +1,8 @@
 //! The commands, each over any reader and writers; they answer the exit status.
 
 ghost use Rattle.std.specs.Prelude.{◌≡◌, ◌⊎◌, ◌<◌, ◌-◌, ◌^◌};
-ghost use Rattle.rpki_validator.specs.Run.{Prints, RunFails};
-ghost use Rattle.rpki_validator.specs.declared.runs.RunError.{RunError as RunErrorValue};
+ghost use Rattle.rpki_validator.specs.Run.{Prints};
+ghost use Rattle.rpki_check.specs.Checks.{EndsInFault};
 ghost use Rattle.rpki_check.specs.declared.commands.TheConstants.{DONE, FAILED};
 
 use crate::digests::Fips;
@@ -28,7 +28,8 @@ pub fn check<R: Read, W: Write, F: Write>(
 
     ensures status { (result ≡ DONE) ⊎ (result ≡ FAILED) }
     ensures done { result ≡ DONE → Prints (R.remaining reader.old.inner) (R.remaining reader.new.inner) (W.contents writer.old.inner) (W.contents writer.new.inner) }
-    ensures failed { result ≡ FAILED → (e : RunErrorValue) × RunFails e (R.remaining reader.old.inner) (R.remaining reader.new.inner) (W.contents writer.old.inner) (W.contents writer.new.inner) }
+    ensures done_counts { result ≡ DONE → (reader.new.failures ≡ reader.old.failures) × (writer.new.failures ≡ writer.old.failures) }
+    ensures failed { result ≡ FAILED → EndsInFault (R.remaining reader.old.inner) (R.remaining reader.new.inner) (W.contents writer.old.inner) (W.contents writer.new.inner) (record { before = reader.old.failures; after = reader.new.failures }) (record { before = writer.old.failures; after = writer.new.failures }) }
 {
     match run(alloc, reader, writer, &Fips) {
         Ok(()) => DONE,

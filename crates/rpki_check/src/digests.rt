@@ -1,3 +1,5 @@
+//! The program's digests, by sha2 and sha1.
+
 ghost use Rattle.sha1.specs.Sha1.{sha1 as sha1_of};
 ghost use Rattle.sha2.specs.Sha256.{sha256 as sha256_of};
 

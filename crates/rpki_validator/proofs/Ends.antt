@@ -30,7 +30,7 @@ has_text bounded read t = record { bundle = t.bundle; read = bundle_ended bounde
 -- A refusal before anything is written.
 pub text_refused : Bounded → (e : RunError) (octets seen : List ℕ) {before after : Option (List ℕ)} (w : Option (List ℕ)) → seen ≡ octets → ReadsUpTo most_octets before after octets → length octets ≤ most_octets → TextFails e seen → RunFails e before after w w
 text_refused bounded errors.Read octets seen w same read few f = absurd f
-text_refused bounded errors.NotABundle octets seen w same read few f = (record { octets = octets; read = read; none = λ b t. f b (subst (λ (s : List ℕ). BundleText s b) (sym same) t) }, keeps w)
+text_refused bounded errors.NotABundle octets seen w same read few f = (record { octets = octets; few = few; read = read; none = λ b t. f b (subst (λ (s : List ℕ). BundleText s b) (sym same) t) }, keeps w)
 text_refused bounded errors.NotYet octets seen w same read few f = (record { bundle = f.0; read = bundle_ended bounded read (subst (λ (s : List ℕ). BundleText s f.0) same f.1); some = f.2 }, keeps w)
 text_refused bounded errors.Write octets seen w same read few f = absurd f
 text_refused bounded errors.Memory octets seen w same read few f = (record { octets = octets; few = few; consumed = read.consumed }, keeps w)

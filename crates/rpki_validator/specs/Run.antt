@@ -21,6 +21,7 @@ pub record ReadsBundle (before after : Option (List ℕ)) (b : BundleValue) : Ty
 -- The reader gave all its octets, or as many as no bundle has, and they are those of no bundle.
 pub record ReadsNoBundle (before after : Option (List ℕ)) : Type 0 where
   pub octets : List ℕ
+  pub few : length octets ≤ most_octets
   pub read : ReadsUpTo most_octets before after octets
   pub none : (b : BundleValue) → BundleText octets b → ⊥
 

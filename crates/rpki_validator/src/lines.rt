@@ -12,7 +12,7 @@ use std::fmt;
 /// Why something is refused.
 #[derive(Clone, Copy, Debug, PartialEq, Eq, Hash)]
 pub enum Cause {
-    /// The text of a locator is none.
+    /// The locator's text is not the text of a locator.
     Tal,
 }
 
