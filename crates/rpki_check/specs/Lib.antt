@@ -1,0 +1,4 @@
+pub use Rattle.rpki_bundle.specs.Bundle
+pub mod Lines
+pub mod Verdicts
+pub mod Folders

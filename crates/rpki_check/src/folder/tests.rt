@@ -1,0 +1,2 @@
+//! What folders tell, by the pure part.
+use super::*;
