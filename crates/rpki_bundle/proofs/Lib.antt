@@ -6,7 +6,7 @@ mod Members
 mod Wholes
 mod Numbers
 mod EntryFronts
-mod Orders
+pub mod Orders
 pub mod UriLaws
 pub mod UriTexts
 pub mod Calendar

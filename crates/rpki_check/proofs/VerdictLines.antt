@@ -25,24 +25,24 @@ one_next {t} {d} {e} {r} {q} a b =
     let same : a.behind_space ≡ b.behind_space = cc in
     one_front a.digest_is (subst (λ (s : List ℕ). TakesDigest s e q) (sym same) b.digest_is)
 
+abbrev head : List ℕ → ℕ
+head [] = 0
+head (n ∷ ns) = n
+
 -- a line end that is there, or the end of all
 one_end : {t r q : List ℕ} → TakesEnd t r → TakesEnd t q → r ≡ q
 one_end {t} {r} {q} a b = at a.end b.end a.end_is b.end_is (sym a.whole ∙ b.whole)
   where
     at : (x y : List ℕ) → IsLineEnd x ⊎ ((x ≡ []) × (r ≡ [])) → IsLineEnd y ⊎ ((y ≡ []) × (q ≡ [])) → x ++ r ≡ y ++ q → r ≡ q
     at x y (inl (inl a)) (inl (inl b)) e = let f : 10 ∷ r ≡ 10 ∷ q = subst (λ (z : List ℕ). z ++ r ≡ 10 ∷ q) a (subst (λ (z : List ℕ). x ++ r ≡ z ++ q) b e) in cc
-    at x y (inl (inl a)) (inl (inr b)) e = let f : 10 ∷ r ≡ 13 ∷ 10 ∷ q = subst (λ (z : List ℕ). z ++ r ≡ 13 ∷ 10 ∷ q) a (subst (λ (z : List ℕ). x ++ r ≡ z ++ q) b e) in absurd (omega (arith, ap first f))
-    at x y (inl (inr a)) (inl (inl b)) e = let f : 13 ∷ 10 ∷ r ≡ 10 ∷ q = subst (λ (z : List ℕ). z ++ r ≡ 10 ∷ q) a (subst (λ (z : List ℕ). x ++ r ≡ z ++ q) b e) in absurd (omega (arith, ap first f))
+    at x y (inl (inl a)) (inl (inr b)) e = let f : 10 ∷ r ≡ 13 ∷ 10 ∷ q = subst (λ (z : List ℕ). z ++ r ≡ 13 ∷ 10 ∷ q) a (subst (λ (z : List ℕ). x ++ r ≡ z ++ q) b e) in absurd (omega (arith, ap head f))
+    at x y (inl (inr a)) (inl (inl b)) e = let f : 13 ∷ 10 ∷ r ≡ 10 ∷ q = subst (λ (z : List ℕ). z ++ r ≡ 10 ∷ q) a (subst (λ (z : List ℕ). x ++ r ≡ z ++ q) b e) in absurd (omega (arith, ap head f))
     at x y (inl (inr a)) (inl (inr b)) e = let f : 13 ∷ 10 ∷ r ≡ 13 ∷ 10 ∷ q = subst (λ (z : List ℕ). z ++ r ≡ 13 ∷ 10 ∷ q) a (subst (λ (z : List ℕ). x ++ r ≡ z ++ q) b e) in cc
     at x y (inr (a, s)) (inr (b, u)) e = s ∙ sym u
     at x y (inl (inl a)) (inr (b, u)) e = let f : 10 ∷ r ≡ [] = subst (λ (z : List ℕ). z ++ r ≡ []) a (subst (λ (z : List ℕ). x ++ r ≡ z ++ []) b (subst (λ (z : List ℕ). x ++ r ≡ y ++ z) u e)) in cc
     at x y (inl (inr a)) (inr (b, u)) e = let f : 13 ∷ 10 ∷ r ≡ [] = subst (λ (z : List ℕ). z ++ r ≡ []) a (subst (λ (z : List ℕ). x ++ r ≡ z ++ []) b (subst (λ (z : List ℕ). x ++ r ≡ y ++ z) u e)) in cc
     at x y (inr (a, s)) (inl (inl b)) e = let f : [] ≡ 10 ∷ q = subst (λ (z : List ℕ). [] ≡ z ++ q) b (subst (λ (z : List ℕ). z ++ [] ≡ y ++ q) a (subst (λ (z : List ℕ). x ++ z ≡ y ++ q) s e)) in cc
     at x y (inr (a, s)) (inl (inr b)) e = let f : [] ≡ 13 ∷ 10 ∷ q = subst (λ (z : List ℕ). [] ≡ z ++ q) b (subst (λ (z : List ℕ). z ++ [] ≡ y ++ q) a (subst (λ (z : List ℕ). x ++ z ≡ y ++ q) s e)) in cc
-
-    first : List ℕ → ℕ
-    first [] = 0
-    first (n ∷ ns) = n
 
 pub one_verdict_front : {t r q : List ℕ} {v w : Verdict} → TakesVerdict t v r → TakesVerdict t w q → Same v w r q
 one_verdict_front {t} {r} {q} {v} {w} a b =

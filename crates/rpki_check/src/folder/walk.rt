@@ -1,6 +1,6 @@
 //! The reading of a folder, one open folder at a time.
 
-ghost use Rattle.std.specs.Prelude.{◌≡◌, ◌++◌, ◌∷◌, codes, string_bytes, IfOk};
+ghost use Rattle.std.specs.Prelude.{◌≡◌, ◌+◌, ◌≤◌, ◌++◌, ◌∷◌, codes, string_bytes, vec_len, IfOk, OnOk};
 
 use crate::folder::files::{Kind, kind_of, read_file, read_if_there};
 use crate::folder::{Contents, Fault};
@@ -45,7 +45,9 @@ fn joined(alloc: Global, front: &str, name: &str) -> Result<String, AllocError>
 }
 
 // One entry less that may come; a read fault where there were enough.
-fn count_entry(entries_left: &mut u32) -> Result<(), Fault> {
+fn count_entry(entries_left: &mut u32) -> Result<(), Fault>
+    ensures { OnOk result (entries_left.new + 1 ≡ entries_left.old) }
+{
     if *entries_left == 0 {
         return Err(Fault::Read);
     }
@@ -62,7 +64,9 @@ impl Walk {
         path: &str,
         uri: String,
         level: u8,
-    ) -> Result<(), Fault> {
+    ) -> Result<(), Fault>
+        ensures { OnOk result (self.new.entries_left + vec_len self.new.pending ≤ self.old.entries_left + vec_len self.old.pending) }
+    {
         count_entry(&mut self.entries_left)?;
         match kind_of(rt, path)? {
             Kind::File(size) => {
@@ -88,7 +92,9 @@ impl Walk {
         rt: &R,
         alloc: Global,
         folder: Pending,
-    ) -> Result<(), Fault> {
+    ) -> Result<(), Fault>
+        ensures { OnOk result (self.new.entries_left + vec_len self.new.pending ≤ self.old.entries_left + vec_len self.old.pending) }
+    {
         for entry in fs::read_dir(rt, folder.path.as_str())? {
             let entry = entry?;
             let uri = joined(alloc, folder.uri.as_str(), entry.file_name())?;

@@ -1,6 +1,7 @@
-use Rattle.std.proofs.Common.{sym, subst}
-use Rattle.rpki_check.proofs.VerdictLines.{Reading, reading_begin, reading_next, reading_end, reading_stop, verdict_shorter}
-use Rattle.rpki_bundle.proofs.Lists.{is_nil, isnt_nil}
+use Rattle.std.proofs.Common.{◌≡◌, [], length, sym, ap, subst, arith}
+use Rattle.std.proofs.lemmas.Grind.{common_steps}
+use Rattle.std.proofs.lemmas.List.{nil_from_length}
+use Rattle.rpki_check.proofs.VerdictLines.{Reading, reading_next, reading_end, reading_stop, verdict_shorter}
 use Rattle.rpki_check.proofs.folder.verdicts.verdicts_of.Goals as goal
 
 pub loop-rest-smaller : goal.loop-rest-smaller
@@ -9,8 +10,12 @@ loop-rest-smaller c = verdict_shorter c.loop-rest.rest.now c.in-Some.behind.now 
 pub loop-rest-preserved : goal.loop-rest-preserved
 loop-rest-preserved c = subst (Reading c.args.text.now c.in-Some.behind.now) (sym c.in_ok-push.ensures.items) (reading_next c.loop-rest.invariant c.in-Some.ensures.found)
 
-pub loop-rest-init : goal.loop-rest-init
-loop-rest-init c = ?
+pub returns-in_default-clause-refused : goal.returns-in_default-clause-refused
+returns-in_default-clause-refused c =
+    let some = λ (e : c.loop-rest.rest.now ≡ []). let n = ap length e in absurd (grind (arith, common_steps)) in
+    reading_stop c.loop-rest.invariant some c.in_default.ensures.none
 
 pub returns-clause-ok : goal.returns-clause-ok
-returns-clause-ok c = reading_end c.loop-rest.invariant (is_nil _ c.is_empty.ensures c.loop-rest-test.false)
+returns-clause-ok c =
+    let none : length c.loop-rest.rest.now ≡ 0 = grind (arith, common_steps) in
+    reading_end c.loop-rest.invariant (nil_from_length c.loop-rest.rest.now none)
