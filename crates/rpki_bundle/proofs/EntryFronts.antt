@@ -1,9 +1,9 @@
 -- Entries in front of octets.
-use Rattle.std.proofs.Common.{◌≡◌, ◌≢◌, ℕ, false, true, List, [], ◌∷◌, length, refl, sym, ap, ◌∙◌, subst}
+use Rattle.std.proofs.Common.{◌≡◌, ◌≢◌, ℕ, false, true, List, [], ◌∷◌, length, refl, subst}
 use Rattle.std.specs.Prelude.{All}
 use Rattle.bcder_source.specs.declared.mode.Mode.TheVariants.{Der}
 use Rattle.bcder_source.specs.Tags.{TagValue, universal}
-use Rattle.bcder_source.specs.Tree.{Tree, Trees, primitive, constructed, more}
+use Rattle.bcder_source.specs.Tree.{Tree, Trees, primitive, more}
 use Rattle.bcder_source.specs.Front.{Front, Fields, Splits}
 use Rattle.bcder_source.specs.Sequences.{sequence, sequence_tag}
 use Rattle.bcder_source.specs.Strings.{IsPrintable}
@@ -14,9 +14,8 @@ use Rattle.rpki_bundle.specs.declared.parts.Object.{Object}
 use Rattle.rpki_bundle.specs.declared.parts.Verdict.{Verdict}
 use Rattle.rpki_bundle.specs.Bundle.{IsLocator, IsObject, IsVerdict}
 use Rattle.rpki_bundle.specs.EntryTrees.{locator_tree, object_tree, verdict_tree, locator_is, object_is, verdict_is}
-use Rattle.rpki_bundle.specs.Members.{IsVerdictContent, verdict_members}
+use Rattle.rpki_bundle.specs.Members.{IsVerdictContent}
 use Rattle.rpki_bundle.specs.Reading.{ReadsOne}
-use Rattle.rpki_bundle.specs.Uris.{IsLookupKey}
 
 pub locator_front : {s rest : List ℕ} {l : Locator} → ReadsOne IsLocator s l rest → Front Der s (locator_tree l) rest
 locator_front {s} {rest} one = subst (λ (t : Tree). Front Der s t rest) (locator_is one.form) one.front

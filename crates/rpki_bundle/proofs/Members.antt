@@ -1,8 +1,8 @@
 -- The members of a SEQUENCE, one after the other, in DER.
-use Rattle.std.proofs.Common.{◌≡◌, ℕ, true, false, List, [], refl, sym, subst}
+use Rattle.std.proofs.Common.{◌≡◌, ℕ, true, false, List, [], sym, subst}
 use Rattle.bcder_source.specs.declared.mode.Mode.TheVariants.{Der}
 use Rattle.bcder_source.specs.Tags.{TagValue}
-use Rattle.bcder_source.specs.Tree.{Tree, Trees, primitive, constructed, none, more}
+use Rattle.bcder_source.specs.Tree.{Trees, primitive, constructed, none, more}
 use Rattle.bcder_source.specs.Front.{Front, Fields, Splits}
 use Rattle.bcder_source.proofs.Fronts.{primitive_front, split_primitive, split_constructed, others_behind, first_front, fields_none}
 

@@ -1,5 +1,5 @@
 -- Small numbers and moments in front of octets.
-use Rattle.std.proofs.Common.{◌≡◌, ℕ, ◌<◌, false, List, [], ◌∷◌, length, get_or, refl, sym, ap, ◌∙◌, subst, arith}
+use Rattle.std.proofs.Common.{◌≡◌, ℕ, ◌<◌, false, List, [], ◌∷◌, length, get_or, refl, sym, subst, arith}
 use Rattle.bcder_source.specs.declared.mode.Mode.TheVariants.{Der}
 use Rattle.bcder_source.specs.Tags.{universal}
 use Rattle.bcder_source.specs.Tree.{Tree, primitive}

@@ -1,14 +1,19 @@
-ghost use Rattle.std.specs.Prelude.{◌≡◌, ℕ, ◌<◌, ◌≤◌, List, IfSome, IfNone, IfOk, IfErr};
+ghost use Rattle.std.specs.Prelude.{◌≡◌, ◌↔◌, ℕ, ◌<◌, ◌≤◌, ◌^◌, List, length, IsTrue, IfSome, IfNone, IfOk, IfErr};
 ghost use Rattle.bcder_source.specs.Integers.{IsNumber};
 ghost use Rattle.rpki_bundle.specs.Reading.{ReadsOne};
+ghost use Rattle.rpki_bundle.specs.declared.error.BundleError.TheVariants.{NotABundle as not_a_bundle};
 ghost use Rattle.rpki_bundle.specs.Errors.{OnNotABundle};
+ghost use Rattle.rpki_bundle.specs.Sizes.{capped};
+ghost use Rattle.rpki_bundle.specs.Spellings.{members_octets};
+ghost use Rattle.rpki_bundle.specs.Lawful.{IsLawful};
 ghost use Rattle.rpki_bundle.specs.Bundle.{BundleValue};
 ghost use Rattle.rpki_bundle.specs.BundleParts.{ReadsHead, ReadsBundle};
 
-use crate::der::{take_primitive, take_sequence};
-use crate::entries::take_list;
+use crate::der::{SEQUENCE, take_primitive, take_sequence};
+use crate::entries::{is_lawful_list, list_size, put_list, take_list};
+use crate::put::{put_header, put_value, value_size};
 use crate::{BundleError, Locator, Object, Time, Verdict};
-use std::alloc::Global;
+use std::alloc::{AllocError, Global};
 use std::marker::Model;
 
 // Universal tag numbers.
@@ -32,6 +37,13 @@ fn take_number(octets: &[u8]) -> Option<(u8, &[u8])>
         return None;
     }
     Some((number, rest))
+}
+
+// Whether a bundle may have the depth.
+fn is_depth(depth: u8) -> bool
+    ensures { IsTrue result ↔ ((1 ≤ depth) × (depth ≤ 32)) }
+{
+    (1..=32).contains(&depth)
 }
 
 // What stands before a bundle's lists, and what is behind it.
@@ -62,7 +74,7 @@ fn take_head(octets: &[u8]) -> Option<Head<'_>>
     let Some((depth, rest)) = take_number(rest) else {
         return None;
     };
-    if depth < 1 || depth > 32 {
+    if !is_depth(depth) {
         return None;
     }
     Some(Head {
@@ -88,11 +100,16 @@ impl Model for Bundle {
 
     ghost Value = { BundleValue };
 
+    ghost use Rattle.rpki_bundle.specs.Lawful.{IsLawful};
+
     ghost view = { λ b. record { moment = b.moment; depth = b.depth; locators = b.locators.items; objects = b.objects.items; verdicts = b.verdicts.items } };
+
+    ghost invariant = { λ b. IsLawful (record { moment = b.moment; depth = b.depth; locators = b.locators.items; objects = b.objects.items; verdicts = b.verdicts.items }) };
 }
 
 // The bundle whose members the octets are, all of them.
 fn bundle_of(alloc: Global, octets: &[u8]) -> Result<Bundle, BundleError>
+    requires { length octets.now < 2 ^ 32 }
     ensures ok { IfOk result (ReadsBundle octets.now) }
     ensures refused { IfErr result (λ e. OnNotABundle e ((b : BundleValue) → ReadsBundle octets.now b → ⊥)) }
 {
@@ -123,8 +140,74 @@ fn bundle_of(alloc: Global, octets: &[u8]) -> Result<Bundle, BundleError>
     })
 }
 
+// How many octets the members of a bundle with these parts have; a depth and a version have three each.
+fn members_size(
+    text: &[u8],
+    locators: &[Locator],
+    objects: &[Object],
+    verdicts: &[Verdict],
+) -> usize
+    ensures { (moment depth : ℕ) → result ≡ capped (length (members_octets text.now (record { moment = moment; depth = depth; locators = locators.now; objects = objects.now; verdicts = verdicts.now }))) }
+{
+    let head = value_size(text.len()).saturating_add(6);
+    head.saturating_add(list_size(locators))
+        .saturating_add(list_size(objects))
+        .saturating_add(list_size(verdicts))
+}
+
+// Whether a bundle may have these parts.
+fn is_lawful(
+    moment: Time,
+    depth: u8,
+    locators: &[Locator],
+    objects: &[Object],
+    verdicts: &[Verdict],
+) -> bool
+    ensures { IsTrue result ↔ IsLawful (record { moment = moment; depth = depth; locators = locators.now; objects = objects.now; verdicts = verdicts.now }) }
+{
+    if !is_depth(depth) {
+        return false;
+    }
+    if !is_lawful_list(locators) {
+        return false;
+    }
+    if !is_lawful_list(objects) {
+        return false;
+    }
+    if !is_lawful_list(verdicts) {
+        return false;
+    }
+    members_size(&moment.generalized(), locators, objects, verdicts) < 4294967296
+}
+
 impl Bundle {
     ghost use Rattle.rpki_bundle.specs.Bundle.{BundleValue, BundleText};
+
+    /// A bundle with these parts, which have to be those of some bundle: a depth of 1 to 32, names that are printable,
+    /// not empty and without a space, URIs that are their own lookup keys, each list strictly ascending, and no more
+    /// octets than a length can say. Nothing is sorted, and refused parts are dropped.
+    pub fn from_parts(
+        moment: Time,
+        depth: u8,
+        locators: Vec<Locator>,
+        objects: Vec<Object>,
+        verdicts: Vec<Verdict>,
+    ) -> Result<Bundle, BundleError>
+        ensures ok { IfOk result (λ b. b ≡ record { moment = moment; depth = depth; locators = locators.items; objects = objects.items; verdicts = verdicts.items }) }
+        ensures refused { IfErr result (λ e. (e ≡ not_a_bundle) × ((octets : List ℕ) → BundleText octets (record { moment = moment; depth = depth; locators = locators.items; objects = objects.items; verdicts = verdicts.items }) → ⊥)) }
+    {
+        let (names, uris, digests) = (locators.as_slice(), objects.as_slice(), verdicts.as_slice());
+        if !is_lawful(moment, depth, names, uris, digests) {
+            return Err(BundleError::NotABundle);
+        }
+        Ok(Bundle {
+            moment,
+            depth,
+            locators,
+            objects,
+            verdicts,
+        })
+    }
 
     /// Reads a bundle of version 0, which all the octets have to be, in DER.
     pub fn decode(alloc: Global, octets: &[u8]) -> Result<Bundle, BundleError>
@@ -138,6 +221,26 @@ impl Bundle {
             return Err(BundleError::NotABundle);
         }
         bundle_of(alloc, content)
+    }
+
+    /// The octets of the bundle: the only ones that are read as it.
+    pub fn encode(&self, alloc: Global) -> Result<Vec<u8>, AllocError>
+        ensures { IfOk result (λ v. BundleText v.items self.now) }
+    {
+        let text = self.moment.generalized();
+        let locators = self.locators.as_slice();
+        let objects = self.objects.as_slice();
+        let verdicts = self.verdicts.as_slice();
+        let size = members_size(&text, locators, objects, verdicts);
+        let mut octets = Vec::with_capacity(alloc, value_size(size))?;
+        put_header(&mut octets, SEQUENCE, size)?;
+        put_value(&mut octets, INTEGER, &[0])?;
+        put_value(&mut octets, GENERALIZED_TIME, &text)?;
+        put_value(&mut octets, INTEGER, &[self.depth])?;
+        put_list(&mut octets, locators)?;
+        put_list(&mut octets, objects)?;
+        put_list(&mut octets, verdicts)?;
+        Ok(octets)
     }
 
     /// The moment at which validity is judged.

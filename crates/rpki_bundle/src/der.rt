@@ -7,8 +7,8 @@ ghost use Rattle.bcder_source.specs.Front.{Splits};
 ghost use Rattle.bcder_source.specs.Sequences.{sequence_tag};
 ghost use Rattle.rpki_bundle.specs.Reading.{TakesLength, TakesContent};
 
-// The identifier octet of a SEQUENCE.
-const SEQUENCE: u8 = 0x30;
+/// The identifier octet of a SEQUENCE.
+pub const SEQUENCE: u8 = 0x30;
 
 // A length in the one octet behind `81`, and what is behind it.
 fn length_of_1(octets: &[u8]) -> Option<(u32, &[u8])>

@@ -1,6 +1,6 @@
 //! The entries of a bundle's lists, read from their trees.
 
-ghost use Rattle.std.specs.Prelude.{◌≡◌, ◌≢◌, ◌↔◌, ℕ, ◌<◌, ◌≤◌, List, [], ◌∷◌, false, All, IsTrue, IfSome, IfNone, length};
+ghost use Rattle.std.specs.Prelude.{◌≡◌, ◌≢◌, ◌↔◌, ℕ, ◌<◌, ◌≤◌, ◌^◌, List, [], ◌∷◌, ◌++◌, false, All, IsTrue, OnOk, IfSome, IfNone, length};
 ghost use Rattle.bcder_source.specs.declared.mode.Mode.TheVariants.{Der};
 ghost use Rattle.bcder_source.specs.Tags.{universal};
 ghost use Rattle.bcder_source.specs.Tree.{primitive};
@@ -9,13 +9,17 @@ ghost use Rattle.bcder_source.specs.Sequences.{sequence};
 ghost use Rattle.bcder_source.specs.Strings.{IsPrintable};
 ghost use Rattle.rpki_bundle.specs.declared.parts.Verdict.{Verdict as VerdictValue};
 ghost use Rattle.rpki_bundle.specs.Members.{IsVerdictContent};
+ghost use Rattle.rpki_bundle.specs.Sizes.{capped};
+ghost use Rattle.rpki_bundle.specs.Spellings.{value_octets, sequence_octets};
+ghost use Rattle.rpki_bundle.specs.Lawful.{IsName};
 
-use crate::der::{take_primitive, take_sequence};
+use crate::der::{SEQUENCE, take_primitive, take_sequence};
 use crate::entries::{Entry, stands_before};
+use crate::put::{put_header, put_value, value_size};
 use crate::uri::is_lookup_key;
 use crate::{BundleError, Locator, Object, Verdict};
 use bytes::Bytes;
-use std::alloc::Global;
+use std::alloc::{AllocError, Global};
 
 // Universal tag numbers.
 const OCTET_STRING: u8 = 4;
@@ -23,6 +27,9 @@ const OCTET_STRING: u8 = 4;
 const PRINTABLE_STRING: u8 = 19;
 
 const IA5_STRING: u8 = 22;
+
+// The octets of a verdict: three digests of 32 octets, each with two octets in front, and two more.
+const VERDICT_SIZE: usize = 104;
 
 // The contents of two strings in a SEQUENCE, and what is behind it.
 #[derive(Drop)]
@@ -57,6 +64,29 @@ fn take_pair<'a>(first: u8, second: u8, octets: &'a [u8]) -> Option<Pair<'a>>
     })
 }
 
+// How many octets two strings in a SEQUENCE have.
+fn pair_size(first: &[u8], second: &[u8]) -> usize
+    ensures { (a b : ℕ) → result ≡ capped (length (sequence_octets (value_octets a first.now ++ value_octets b second.now))) }
+{
+    value_size(value_size(first.len()).saturating_add(value_size(second.len())))
+}
+
+// Writes two strings of these tags in a SEQUENCE.
+fn put_pair(
+    into: &mut Vec<u8>,
+    tags: (u8, u8),
+    first: &[u8],
+    second: &[u8],
+) -> Result<(), AllocError>
+    requires { length (sequence_octets (value_octets tags.0 first.now ++ value_octets tags.1 second.now)) < 2 ^ 32 }
+    ensures { OnOk result (into.new.items ≡ into.old.items ++ sequence_octets (value_octets tags.0 first.now ++ value_octets tags.1 second.now)) }
+{
+    let size = value_size(first.len()).saturating_add(value_size(second.len()));
+    put_header(into, SEQUENCE, size)?;
+    put_value(into, tags.0, first)?;
+    put_value(into, tags.1, second)
+}
+
 // Whether a PrintableString may have the character.
 fn is_printable(octet: u8) -> bool
     ensures { IsTrue result ↔ IsPrintable octet }
@@ -66,7 +96,7 @@ fn is_printable(octet: u8) -> bool
 
 // Whether the text is the name of a locator: printable, not empty, without a space.
 fn is_name(text: &[u8]) -> bool
-    ensures { IsTrue result ↔ ((text.now ≢ []) × All (λ c. IsPrintable c × (c ≢ 32)) text.now) }
+    ensures { IsTrue result ↔ IsName text.now }
 {
     !text.is_empty()
         && text
@@ -77,6 +107,8 @@ fn is_name(text: &[u8]) -> bool
 impl Entry for Locator {
     ghost use Rattle.rpki_bundle.specs.Bundle.{IsLocator};
     ghost use Rattle.rpki_bundle.specs.EntryTrees.{one_locator};
+    ghost use Rattle.rpki_bundle.specs.Spellings.{locator_octets};
+    ghost use Rattle.rpki_bundle.specs.Lawful.{IsLawfulLocator};
 
     ghost form = { IsLocator };
 
@@ -98,12 +130,31 @@ impl Entry for Locator {
         stands_before(self.name.as_slice(), other.name.as_slice())
     }
 
+    ghost lawful = { IsLawfulLocator };
+
+    ghost octets_of = { locator_octets };
+
+    fn is_lawful(&self) -> bool {
+        is_name(self.name.as_slice())
+    }
+
+    fn size(&self) -> usize {
+        pair_size(self.name.as_slice(), self.text.as_slice())
+    }
+
+    fn put(&self, into: &mut Vec<u8>) -> Result<(), AllocError> {
+        let tags = (PRINTABLE_STRING, OCTET_STRING);
+        put_pair(into, tags, self.name.as_slice(), self.text.as_slice())
+    }
+
     ghost one_value = { one_locator };
 }
 
 impl Entry for Object {
     ghost use Rattle.rpki_bundle.specs.Bundle.{IsObject};
     ghost use Rattle.rpki_bundle.specs.EntryTrees.{one_object};
+    ghost use Rattle.rpki_bundle.specs.Spellings.{object_octets};
+    ghost use Rattle.rpki_bundle.specs.Lawful.{IsLawfulObject};
 
     ghost form = { IsObject };
 
@@ -123,6 +174,23 @@ impl Entry for Object {
 
     fn is_before(&self, other: &Self) -> bool {
         stands_before(self.uri.as_slice(), other.uri.as_slice())
+    }
+
+    ghost lawful = { IsLawfulObject };
+
+    ghost octets_of = { object_octets };
+
+    fn is_lawful(&self) -> bool {
+        is_lookup_key(self.uri.as_slice())
+    }
+
+    fn size(&self) -> usize {
+        pair_size(self.uri.as_slice(), self.octets.as_slice())
+    }
+
+    fn put(&self, into: &mut Vec<u8>) -> Result<(), AllocError> {
+        let tags = (IA5_STRING, OCTET_STRING);
+        put_pair(into, tags, self.uri.as_slice(), self.octets.as_slice())
     }
 
     ghost one_value = { one_object };
@@ -172,6 +240,8 @@ fn verdict_of(octets: &[u8]) -> Option<Verdict>
 impl Entry for Verdict {
     ghost use Rattle.rpki_bundle.specs.Bundle.{IsVerdict, verdict_row};
     ghost use Rattle.rpki_bundle.specs.EntryTrees.{one_verdict};
+    ghost use Rattle.rpki_bundle.specs.Spellings.{verdict_octets};
+    ghost use Rattle.rpki_bundle.specs.Lawful.{IsLawfulVerdict};
 
     ghost form = { IsVerdict };
 
@@ -193,6 +263,25 @@ impl Entry for Verdict {
             .then(self.message.cmp(&other.message))
             .then(self.signature.cmp(&other.signature))
             .is_lt()
+    }
+
+    ghost lawful = { IsLawfulVerdict };
+
+    ghost octets_of = { verdict_octets };
+
+    fn is_lawful(&self) -> bool {
+        true
+    }
+
+    fn size(&self) -> usize {
+        VERDICT_SIZE
+    }
+
+    fn put(&self, into: &mut Vec<u8>) -> Result<(), AllocError> {
+        put_header(into, SEQUENCE, VERDICT_SIZE - 2)?;
+        put_value(into, OCTET_STRING, &self.key)?;
+        put_value(into, OCTET_STRING, &self.message)?;
+        put_value(into, OCTET_STRING, &self.signature)
     }
 
     ghost one_value = { one_verdict };

@@ -7,7 +7,11 @@ pub mod digest;
 mod entries;
 pub mod error;
 mod forms;
+pub mod laws;
 pub mod parts;
+mod put;
+#[cfg(test)]
+mod tests;
 pub mod time;
 pub mod uri;
 

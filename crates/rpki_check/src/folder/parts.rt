@@ -47,20 +47,22 @@ pub struct Parts {
     pub verdicts: Vec<Verdict>,
 }
 
-// Sorts locators by their names.
-fn sort_locators(locators: &mut [Locator])
-    ensures permutation { IsPermutation locators.old locators.new }
-    ensures sorted { IsSortedOn (λ l. l.name) locators.new }
+// The locators, sorted by their names.
+fn sorted_locators(mut locators: Vec<Locator>) -> Vec<Locator>
+    ensures permutation { IsPermutation locators.items result.items }
+    ensures sorted { IsSortedOn (λ l. l.name) result.items }
 {
     locators.sort_unstable_by(|a, b| a.name.as_slice().cmp(&b.name.as_slice()));
+    locators
 }
 
-// Sorts objects by their URIs.
-fn sort_objects(objects: &mut [Object])
-    ensures permutation { IsPermutation objects.old objects.new }
-    ensures sorted { IsSortedOn (λ o. o.uri) objects.new }
+// The objects, sorted by their URIs.
+fn sorted_objects(mut objects: Vec<Object>) -> Vec<Object>
+    ensures permutation { IsPermutation objects.items result.items }
+    ensures sorted { IsSortedOn (λ o. o.uri) result.items }
 {
     objects.sort_unstable_by(|a, b| a.uri.as_slice().cmp(&b.uri.as_slice()));
+    objects
 }
 
 // The order of verdicts, by their 96 octets.
@@ -73,12 +75,13 @@ fn cmp_verdicts(a: &Verdict, b: &Verdict) -> Ordering
         .then(a.signature.cmp(&b.signature))
 }
 
-// Sorts verdicts by their 96 octets.
-fn sort_verdicts(verdicts: &mut [Verdict])
-    ensures permutation { IsPermutation verdicts.old verdicts.new }
-    ensures sorted { IsSortedOn verdict_row verdicts.new }
+// The verdicts, sorted by their 96 octets.
+fn sorted_verdicts(mut verdicts: Vec<Verdict>) -> Vec<Verdict>
+    ensures permutation { IsPermutation verdicts.items result.items }
+    ensures sorted { IsSortedOn verdict_row result.items }
 {
     verdicts.sort_unstable_by(|a, b| cmp_verdicts(a, b));
+    verdicts
 }
 
 /// The parts that the contents of a folder tell. Lists keep what was read, entries that occur twice included.
@@ -95,20 +98,15 @@ pub fn parts_of(alloc: Global, contents: Contents) -> Result<Parts, BundleError>
     if contents.verdicts.len() >= MOST_OCTETS {
         return Err(BundleError::NotABundle);
     }
-    let mut verdicts = match verdicts_of(alloc, contents.verdicts.as_slice()) {
+    let verdicts = match verdicts_of(alloc, contents.verdicts.as_slice()) {
         Ok(verdicts) => verdicts,
         Err(error) => return Err(error),
     };
-    let mut locators = contents.locators;
-    let mut objects = contents.objects;
-    sort_locators(locators.as_mut_slice());
-    sort_objects(objects.as_mut_slice());
-    sort_verdicts(verdicts.as_mut_slice());
     Ok(Parts {
         moment,
         depth,
-        locators,
-        objects,
-        verdicts,
+        locators: sorted_locators(contents.locators),
+        objects: sorted_objects(contents.objects),
+        verdicts: sorted_verdicts(verdicts),
     })
 }

@@ -5,6 +5,8 @@ use Rattle.rpki_bundle.specs.Reading.{ReadsOne}
 use Rattle.rpki_bundle.proofs.Lists.{weaker, is_nil, isnt_nil}
 use Rattle.rpki_bundle.proofs.Numbers.{same_behind, moved}
 use Rattle.rpki_bundle.proofs.Wholes.{same_rest}
+use Rattle.rpki_bundle.specs.BundleParts.{ReadsBundle}
+use Rattle.rpki_bundle.proofs.Texts.{with_lists, reads_lawful}
 use Rattle.rpki_bundle.proofs.bundle.bundle_of.Goals as goal
 
 pub returns-in_default-clause-refused : goal.returns-in_default-clause-refused
@@ -35,8 +37,9 @@ returns-then-not-is_empty-clause-refused c = λ b r.
     let objects = same_behind c.in-Ok-take_list.ensures.ok (moved locators r.objects_are) in
     isnt_nil _ c.is_empty.ensures c.if-not-is_empty.true (same_behind c.in-Ok-take_list-2.ensures.ok (moved objects r.verdicts_are))
 
-pub returns-clause-ok : goal.returns-clause-ok
-returns-clause-ok c =
+-- The members that were read are a bundle's, which is lawful.
+members : (c : goal.Else-not-is_empty) → ReadsBundle c.args.octets.now (with_lists c.in-Some.head.moment c.in-Some.head.depth c.in-Ok.list.0.items c.in-Ok-take_list.list.0.items c.in-Ok-take_list-2.list.0.items)
+members c =
     let end = is_nil _ c.is_empty.ensures c.if-not-is_empty.false in
     record {
       behind_head = c.in-Some.head.rest.now;
@@ -47,3 +50,9 @@ returns-clause-ok c =
       objects_are = c.in-Ok-take_list.ensures.ok;
       verdicts_are = subst (λ (z : List ℕ). ReadsOne (IsList IsVerdict verdict_row) c.in-Ok-take_list.list.1.now c.in-Ok-take_list-2.list.0.items z) end c.in-Ok-take_list-2.ensures.ok;
     }
+
+pub invariant_of-result : goal.invariant_of-result
+invariant_of-result c = reads_lawful c.requires (members c)
+
+pub returns-clause-ok : goal.returns-clause-ok
+returns-clause-ok c = members c

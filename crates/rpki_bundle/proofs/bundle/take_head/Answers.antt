@@ -1,10 +1,9 @@
-use Rattle.std.proofs.Common.{◌≡◌, ℕ, List, subst, arith}
+use Rattle.std.proofs.Common.{◌≡◌, ℕ, List, refl, subst, arith}
 use Rattle.bcder_source.specs.Integers.{IsNumber}
 use Rattle.rpki_bundle.specs.Reading.{ReadsOne}
 use Rattle.rpki_bundle.specs.Times.{IsMoment}
 use Rattle.rpki_bundle.proofs.Numbers.{same_behind, same_number, same_content, moment_content, moment_found, moved}
 use Rattle.rpki_bundle.proofs.bundle.take_head.Goals as goal
-use Rattle.rpki_bundle.proofs.bundle.take_head.Goals.{then-depth-lt1-via-then-depth-lt1, then-depth-lt1-via-else-depth-lt1+then-depth-gt32}
 
 pub returns-then-version-ne0-clause-none : goal.returns-then-version-ne0-clause-none
 returns-then-version-ne0-clause-none c = λ moment depth rest h.
@@ -30,12 +29,12 @@ returns-in_default-take_number-clause-none c = λ moment depth rest h.
     let behind = same_behind (moment_found c.in-Some-take_primitive.ensures.found c.in-Some-from_generalized.ensures.found) (moved version h.moment_is) in
     c.in_default-take_number.ensures.none depth rest (omega (arith, h.greatest)) (moved behind h.depth_is)
 
-pub returns-then-depth-lt1-clause-none : goal.returns-then-depth-lt1-clause-none
-returns-then-depth-lt1-clause-none c = λ moment depth rest h.
+pub returns-then-not-is_depth-clause-none : goal.returns-then-not-is_depth-clause-none
+returns-then-not-is_depth-clause-none c = λ moment depth rest h.
     let version = same_behind c.in-Some.ensures.found.0 h.version_is in
     let behind = same_behind (moment_found c.in-Some-take_primitive.ensures.found c.in-Some-from_generalized.ensures.found) (moved version h.moment_is) in
     let same = same_number c.in-Some-take_number.ensures.found.0 (moved behind h.depth_is) in
-    elim c.then-depth-lt1.branch [ then-depth-lt1-via-then-depth-lt1 w ↦ omega arith | then-depth-lt1-via-else-depth-lt1+then-depth-gt32 w ↦ omega arith ]
+    let not_depth = c.if-not-is_depth.ensures.1 (omega (arith, h.lowest), omega (arith, h.greatest)) in absurd cc
 
 pub returns-clause-found : goal.returns-clause-found
 returns-clause-found c =
@@ -46,6 +45,6 @@ returns-clause-found c =
       version_is = subst (λ (n : ℕ). ReadsOne IsNumber c.args.octets.now n c.in-Some.rest.now) zero c.in-Some.ensures.found.0;
       moment_is = moment_found c.in-Some-take_primitive.ensures.found c.in-Some-from_generalized.ensures.found;
       depth_is = c.in-Some-take_number.ensures.found.0;
-      lowest = c.if-depth-lt1.false;
-      greatest = c.if-depth-gt32.false;
+      lowest = (c.if-not-is_depth.ensures.0 refl).0;
+      greatest = (c.if-not-is_depth.ensures.0 refl).1;
     }

@@ -1,4 +1,4 @@
-use Rattle.std.proofs.Common.{length, ap, ◌∙◌, sym, arith, get_or}
+use Rattle.std.proofs.Common.{length, ap, arith, get_or}
 use Rattle.rpki_bundle.proofs.Numbers.{number_content, number_found, one_octet, same_content}
 use Rattle.rpki_bundle.proofs.bundle.take_number.Goals as goal
 

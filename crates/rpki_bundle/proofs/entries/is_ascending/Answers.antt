@@ -1,4 +1,4 @@
-use Rattle.std.proofs.Common.{refl, arith}
+use Rattle.std.proofs.Common.{refl}
 use Rattle.rpki_bundle.proofs.Orders.{ascends_end, ascends_not}
 use Rattle.rpki_bundle.proofs.entries.is_ascending.Goals as goal
 

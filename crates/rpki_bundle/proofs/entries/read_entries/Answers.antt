@@ -1,5 +1,4 @@
 use Rattle.std.proofs.Common.{sym, subst}
-use Rattle.std.proofs.lemmas.List.{nil_from_length}
 use Rattle.rpki_bundle.proofs.Lists.{Reading, front_shorter, reading_next, reading_end, reading_stop, weaker, is_nil, isnt_nil}
 use Rattle.rpki_bundle.proofs.entries.read_entries.Goals as goal
 

@@ -1,5 +1,4 @@
 use Rattle.std.proofs.Common.{sym, subst, arith}
-use Rattle.std.specs.List.Sorted.{IsPermutation}
 use Rattle.rpki_check.specs.Lines.{TellsMoment, TellsDepth}
 use Rattle.rpki_check.specs.Verdicts.{TellsVerdicts}
 use Rattle.rpki_check.proofs.folder.parts.parts_of.Goals as goal
@@ -20,11 +19,11 @@ returns-clause-ok c = record {
     depth_is = subst (λ s. TellsDepth s c.in-Some-depth_of.depth) c.as_slice-2.ensures.value c.in-Some-depth_of.ensures.found;
     short = omega arith;
     verdicts_are = subst (λ s. TellsVerdicts s c.in-Ok.verdicts.items) c.as_slice-3.ensures.value c.in-Ok.ensures.ok;
-    same_locators = subst (λ s. IsPermutation s c.sort_locators.new.locators) c.as_mut_slice.ensures.value c.sort_locators.ensures.permutation;
-    same_objects = subst (λ s. IsPermutation s c.sort_objects.new.objects) c.as_mut_slice-2.ensures.value c.sort_objects.ensures.permutation;
-    same_verdicts = subst (λ s. IsPermutation s c.sort_verdicts.new.verdicts) c.as_mut_slice-3.ensures.value c.sort_verdicts.ensures.permutation;
+    same_locators = c.sorted_locators.ensures.permutation;
+    same_objects = c.sorted_objects.ensures.permutation;
+    same_verdicts = c.sorted_verdicts.ensures.permutation;
   };
-  locators_sorted = c.sort_locators.ensures.sorted;
-  objects_sorted = c.sort_objects.ensures.sorted;
-  verdicts_sorted = c.sort_verdicts.ensures.sorted;
+  locators_sorted = c.sorted_locators.ensures.sorted;
+  objects_sorted = c.sorted_objects.ensures.sorted;
+  verdicts_sorted = c.sorted_verdicts.ensures.sorted;
 }

@@ -1,0 +1,61 @@
+//! Bundles by their octets.
+
+use crate::{Bundle, BundleError};
+use std::test::Fail;
+
+// No locators, no objects, no verdicts, at depth 32.
+const EMPTY: &[u8] =
+    b"\x30\x1D\x02\x01\x00\x18\x0F20250101000000Z\x02\x01\x20\x30\x00\x30\x00\x30\x00";
+
+// A locator `x` with an empty text.
+const ONE_LOCATOR: &[u8] =
+    b"\x30\x24\x02\x01\x00\x18\x0F20250101000000Z\x02\x01\x20\x30\x07\x30\x05\x13\x01x\x04\x00\x30\x00\x30\x00";
+
+// The locators `a` and `b`.
+const TWO_LOCATORS: &[u8] =
+    b"\x30\x2B\x02\x01\x00\x18\x0F20250101000000Z\x02\x01\x20\x30\x0E\x30\x05\x13\x01a\x04\x00\x30\x05\x13\x01b\x04\x00\x30\x00\x30\x00";
+
+// The object rsync://a/m/x, which is empty.
+const ONE_OBJECT: &[u8] =
+    b"\x30\x30\x02\x01\x00\x18\x0F20250101000000Z\x02\x01\x20\x30\x00\x30\x13\x30\x11\x16\x0Drsync://a/m/x\x04\x00\x30\x00";
+
+#[test]
+fn reads_bundles(rt: HostRuntime) -> Result<(), Fail> {
+    let bundles: [(&[u8], usize, usize); 4] = [
+        (EMPTY, 0, 0),
+        (ONE_LOCATOR, 1, 0),
+        (TWO_LOCATORS, 2, 0),
+        (ONE_OBJECT, 0, 1),
+    ];
+    for (octets, locators, objects) in bundles {
+        let bundle = Bundle::decode(rt.alloc(), octets)?;
+        assert_eq!(rt; bundle.moment().generalized(), *b"20250101000000Z");
+        assert_eq!(rt; bundle.depth(), 32);
+        assert_eq!(rt; bundle.locators().len(), locators);
+        assert_eq!(rt; bundle.objects().len(), objects);
+        assert_eq!(rt; bundle.verdicts().len(), 0);
+    }
+    Ok(())
+}
+
+#[test]
+fn refuses_other_octets(rt: HostRuntime) {
+    let refused: [&[u8]; 12] = [
+        b"",
+        b"\x30\x1D\x02\x01\x00\x18\x0F20250101000000Z\x02\x01\x20\x30\x00\x30\x00\x30\x00\x00",
+        b"\x30\x1D\x02\x01\x00\x18\x0F20250101000000Z\x02\x01\x20\x30\x00\x30\x00\x30",
+        b"\x30\x81\x1D\x02\x01\x00\x18\x0F20250101000000Z\x02\x01\x20\x30\x00\x30\x00\x30\x00",
+        b"\x30\x1D\x02\x01\x00\x18\x0F20250101000000Z\x02\x01\x00\x30\x00\x30\x00\x30\x00",
+        b"\x30\x1D\x02\x01\x00\x18\x0F20250101000000Z\x02\x01\x21\x30\x00\x30\x00\x30\x00",
+        b"\x30\x1D\x02\x01\x01\x18\x0F20250101000000Z\x02\x01\x20\x30\x00\x30\x00\x30\x00",
+        b"\x30\x1D\x02\x01\x00\x18\x0F20250229000000Z\x02\x01\x20\x30\x00\x30\x00\x30\x00",
+        b"\x30\x24\x02\x01\x00\x18\x0F20250101000000Z\x02\x01\x20\x30\x07\x30\x05\x13\x01 \x04\x00\x30\x00\x30\x00",
+        b"\x30\x2B\x02\x01\x00\x18\x0F20250101000000Z\x02\x01\x20\x30\x0E\x30\x05\x13\x01b\x04\x00\x30\x05\x13\x01a\x04\x00\x30\x00\x30\x00",
+        b"\x30\x30\x02\x01\x00\x18\x0F20250101000000Z\x02\x01\x20\x30\x00\x30\x13\x30\x11\x16\x0Drsync://A/m/x\x04\x00\x30\x00",
+        b"\x30\x43\x02\x01\x00\x18\x0F20250101000000Z\x02\x01\x20\x30\x00\x30\x26\x30\x11\x16\x0Drsync://a/m/x\x04\x00\x30\x11\x16\x0Drsync://a/m/x\x04\x00\x30\x00",
+    ];
+    for octets in refused {
+        let answer = Bundle::decode(rt.alloc(), octets);
+        assert_eq!(rt; answer.err(), Some(BundleError::NotABundle), "{octets:?}");
+    }
+}
