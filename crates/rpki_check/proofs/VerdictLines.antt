@@ -59,9 +59,18 @@ pub verdict_shorter : (t rest : List ℕ) (v : Verdict) → TakesVerdict t v res
 verdict_shorter t rest v a =
     let k = a.key_is in let m = a.message_is in let s = a.signature_is in let e = a.end_is in
     omega (
-      arith, hex_length k.digits v.key k.digest_is, ap length k.whole, length-append k.digits a.behind_key, ap length m.space, ap length m.digest_is.whole,
-      length-append m.digest_is.digits a.behind_message, ap length s.space, ap length s.digest_is.whole, length-append s.digest_is.digits a.behind_signature,
-      ap length e.whole, length-append e.end rest,
+      arith,
+      hex_length k.digits v.key k.digest_is,
+      ap length k.whole,
+      length-append k.digits a.behind_key,
+      ap length m.space,
+      ap length m.digest_is.whole,
+      length-append m.digest_is.digits a.behind_message,
+      ap length s.space,
+      ap length s.digest_is.whole,
+      length-append s.digest_is.digits a.behind_signature,
+      ap length e.whole,
+      length-append e.end rest,
     )
 
 -- These verdicts were read of the text, and rest is left.

@@ -2,3 +2,4 @@ pub use Rattle.rpki_bundle.specs.Bundle
 pub mod Lines
 pub mod Verdicts
 pub mod Folders
+pub mod Texts

@@ -5,13 +5,12 @@ mod lines;
 pub mod parts;
 mod verdicts;
 mod walk;
-
-pub use parts::{Contents, Parts, parts_of};
-pub use walk::read_folder;
+mod written;
 
 use std::alloc::{AllocError, AllocFailed};
 use std::io::{self, ErrorKind};
 use thiserror::Error;
+pub use written::write_bundle;
 
 /// Why a folder became no bundle.
 #[derive(Clone, Copy, Debug, PartialEq, Eq, Hash, Error)]
@@ -30,23 +29,32 @@ pub enum Fault {
     Memory,
 }
 
-impl From<AllocError> for Fault {
+/// Why a folder wasn't read.
+#[derive(Clone, Copy, Debug, PartialEq, Eq, Hash)]
+pub enum ReadFault {
+    /// Something in the folder can't be read, or is missing, or is too much.
+    Read,
+    /// A growth of memory was refused.
+    Memory,
+}
+
+impl From<AllocError> for ReadFault {
     fn from(_error: AllocError) -> Self {
-        Fault::Memory
+        ReadFault::Memory
     }
 }
 
-impl<T: Drop> From<AllocFailed<T>> for Fault {
+impl<T: Drop> From<AllocFailed<T>> for ReadFault {
     fn from(_failed: AllocFailed<T>) -> Self {
-        Fault::Memory
+        ReadFault::Memory
     }
 }
 
-impl From<io::Error> for Fault {
+impl From<io::Error> for ReadFault {
     fn from(error: io::Error) -> Self {
         match error.kind() {
-            ErrorKind::OutOfMemory => Fault::Memory,
-            _ => Fault::Read,
+            ErrorKind::OutOfMemory => ReadFault::Memory,
+            _ => ReadFault::Read,
         }
     }
 }

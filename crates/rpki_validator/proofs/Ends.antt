@@ -8,7 +8,7 @@ use Rattle.rpki_validator.specs.declared.runs.RunError.TheVariants as errors
 use Rattle.rpki_validator.specs.Streams.{ReadsUpTo, TakesSome}
 use Rattle.rpki_validator.specs.Run.{IsTextOf, HasText, ReadsBundle, Prints, StopsPrinting, RunFails, TextFails, most_octets}
 
-keeps : (w : Option (List ℕ)) → Keeps w w
+pub keeps : (w : Option (List ℕ)) → Keeps w w
 keeps None = tt
 keeps (Some xs) = refl
 

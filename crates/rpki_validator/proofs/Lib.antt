@@ -1,3 +1,3 @@
 mod Pieces
 mod Outputs
-mod Ends
+pub mod Ends

@@ -2,7 +2,7 @@
 
 ghost use Rattle.std.specs.Prelude.{◌≤◌, ◌^◌, length, IfOk};
 
-use crate::folder::Fault;
+use crate::folder::ReadFault;
 use std::alloc::Global;
 use std::fs;
 use std::io::{ErrorKind, Read};
@@ -26,21 +26,21 @@ pub(crate) enum Kind {
 }
 
 /// What stands at the path; a read fault for what is neither file nor folder, and for a broken link.
-pub(crate) fn kind_of<R: Files>(rt: &R, path: &str) -> Result<Kind, Fault> {
+pub(crate) fn kind_of<R: Files>(rt: &R, path: &str) -> Result<Kind, ReadFault> {
     match fs::metadata(rt, path) {
         Ok(found) if found.is_dir() => Ok(Kind::Folder),
         Ok(found) if found.is_file() => Ok(Kind::File(found.len())),
-        Ok(_) => Err(Fault::Read),
+        Ok(_) => Err(ReadFault::Read),
         Err(error) if error.kind() == ErrorKind::NotFound => absent(rt, path),
-        Err(error) => Err(Fault::from(error)),
+        Err(error) => Err(ReadFault::from(error)),
     }
 }
 
 // That there is not even a link.
-fn absent<R: Files>(rt: &R, path: &str) -> Result<Kind, Fault> {
+fn absent<R: Files>(rt: &R, path: &str) -> Result<Kind, ReadFault> {
     match fs::symlink_metadata(rt, path) {
         Err(error) if error.kind() == ErrorKind::NotFound => Ok(Kind::Absent),
-        _ => Err(Fault::Read),
+        _ => Err(ReadFault::Read),
     }
 }
 
@@ -49,11 +49,11 @@ pub(crate) fn read_if_there<R: Files>(
     rt: &R,
     alloc: Global,
     path: &str,
-) -> Result<Option<Vec<u8>>, Fault> {
+) -> Result<Option<Vec<u8>>, ReadFault> {
     match kind_of(rt, path)? {
         Kind::Absent => Ok(None),
         Kind::File(size) => Ok(Some(read_file(rt, alloc, path, size)?)),
-        Kind::Folder => Err(Fault::Read),
+        Kind::Folder => Err(ReadFault::Read),
     }
 }
 
@@ -63,7 +63,7 @@ pub(crate) fn read_file<R: Files>(
     alloc: Global,
     path: &str,
     size: u64,
-) -> Result<Vec<u8>, Fault>
+) -> Result<Vec<u8>, ReadFault>
     ensures { IfOk result (λ octets. length octets.items ≤ 2 ^ 32) }
 {
     let mut file = fs::open(rt, path)?;

@@ -45,7 +45,9 @@ pub(crate) fn depth_of(text: &[u8]) -> Option<u8>
         return Some(tens);
     }
     match end.split_first() {
-        Some((ones, end)) if ones.is_ascii_digit() && is_end(end) => Some(tens * 10 + (*ones - b'0')),
+        Some((ones, end)) if ones.is_ascii_digit() && is_end(end) => Some(
+            tens * 10 + (*ones - b'0'),
+        ),
         _ => None,
     }
 }

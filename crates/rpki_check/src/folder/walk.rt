@@ -2,8 +2,9 @@
 
 ghost use Rattle.std.specs.Prelude.{◌≡◌, ◌+◌, ◌≤◌, ◌++◌, ◌∷◌, codes, string_bytes, vec_len, IfOk, OnOk};
 
+use crate::folder::ReadFault;
 use crate::folder::files::{Kind, kind_of, read_file, read_if_there};
-use crate::folder::{Contents, Fault};
+use crate::folder::parts::Contents;
 use bytes::Bytes;
 use rpki_bundle::{Locator, Object};
 use std::alloc::{AllocError, Global};
@@ -45,11 +46,11 @@ fn joined(alloc: Global, front: &str, name: &str) -> Result<String, AllocError>
 }
 
 // One entry less that may come; a read fault where there were enough.
-fn count_entry(entries_left: &mut u32) -> Result<(), Fault>
+fn count_entry(entries_left: &mut u32) -> Result<(), ReadFault>
     ensures { OnOk result (entries_left.new + 1 ≡ entries_left.old) }
 {
     if *entries_left == 0 {
-        return Err(Fault::Read);
+        return Err(ReadFault::Read);
     }
     *entries_left -= 1;
     Ok(())
@@ -64,7 +65,7 @@ impl Walk {
         path: &str,
         uri: String,
         level: u8,
-    ) -> Result<(), Fault>
+    ) -> Result<(), ReadFault>
         ensures { OnOk result (self.new.entries_left + vec_len self.new.pending ≤ self.old.entries_left + vec_len self.old.pending) }
     {
         count_entry(&mut self.entries_left)?;
@@ -81,7 +82,7 @@ impl Walk {
                 let level = level + 1;
                 self.pending.push(Pending { path, uri, level })?;
             }
-            _ => return Err(Fault::Read),
+            _ => return Err(ReadFault::Read),
         }
         Ok(())
     }
@@ -92,7 +93,7 @@ impl Walk {
         rt: &R,
         alloc: Global,
         folder: Pending,
-    ) -> Result<(), Fault>
+    ) -> Result<(), ReadFault>
         ensures { OnOk result (self.new.entries_left + vec_len self.new.pending ≤ self.old.entries_left + vec_len self.old.pending) }
     {
         for entry in fs::read_dir(rt, folder.path.as_str())? {
@@ -110,10 +111,10 @@ impl Walk {
         alloc: Global,
         path: String,
         uri: &str,
-    ) -> Result<(), Fault> {
+    ) -> Result<(), ReadFault> {
         match kind_of(rt, path.as_str())? {
             Kind::Absent => return Ok(()),
-            Kind::File(_) => return Err(Fault::Read),
+            Kind::File(_) => return Err(ReadFault::Read),
             Kind::Folder => {}
         }
         let uri = String::from_str(alloc, uri)?;
@@ -135,11 +136,11 @@ fn read_locators<R: Files + AllocGlobal + Clone + Drop>(
     alloc: Global,
     path: &str,
     entries_left: &mut u32,
-) -> Result<Vec<Locator>, Fault> {
+) -> Result<Vec<Locator>, ReadFault> {
     let mut locators = Vec::new(alloc);
     match kind_of(rt, path)? {
         Kind::Absent => return Ok(locators),
-        Kind::File(_) => return Err(Fault::Read),
+        Kind::File(_) => return Err(ReadFault::Read),
         Kind::Folder => {}
     }
     for entry in fs::read_dir(rt, path)? {
@@ -147,7 +148,7 @@ fn read_locators<R: Files + AllocGlobal + Clone + Drop>(
         count_entry(entries_left)?;
         let path = entry.path();
         match (kind_of(rt, path.as_str())?, locator_name(entry.file_name())) {
-            (Kind::Absent, _) => return Err(Fault::Read),
+            (Kind::Absent, _) => return Err(ReadFault::Read),
             (Kind::File(size), Some(name)) => {
                 let name = Bytes::copy_from_slice(alloc, name.as_bytes())?;
                 let text = Bytes::from_vec(read_file(rt, alloc, path.as_str(), size)?)?;
@@ -165,10 +166,10 @@ fn locator_name(file: &str) -> Option<&str> {
 }
 
 // A file that has to be there.
-fn read_required<R: Files>(rt: &R, alloc: Global, path: &str) -> Result<Vec<u8>, Fault> {
+fn read_required<R: Files>(rt: &R, alloc: Global, path: &str) -> Result<Vec<u8>, ReadFault> {
     match read_if_there(rt, alloc, path)? {
         Some(octets) => Ok(octets),
-        None => Err(Fault::Read),
+        None => Err(ReadFault::Read),
     }
 }
 
@@ -177,9 +178,9 @@ pub fn read_folder<R: Files + AllocGlobal + Clone + Drop>(
     rt: &R,
     alloc: Global,
     folder: &str,
-) -> Result<Contents, Fault> {
+) -> Result<Contents, ReadFault> {
     if kind_of(rt, folder)? != Kind::Folder {
-        return Err(Fault::Read);
+        return Err(ReadFault::Read);
     }
     let moment = read_required(rt, alloc, joined(alloc, folder, "moment")?.as_str())?;
     let depth = read_required(rt, alloc, joined(alloc, folder, "depth")?.as_str())?;
