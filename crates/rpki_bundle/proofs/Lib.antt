@@ -10,7 +10,7 @@ mod Numbers
 mod EntryFronts
 pub mod Texts
 pub mod OneBundle
-mod Orders
+pub mod Orders
 pub mod UriLaws
 pub mod UriTexts
 pub mod Calendar

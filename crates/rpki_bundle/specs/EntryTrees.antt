@@ -64,7 +64,7 @@ one_object t x y p q =
     let octets : x.octets ≡ y.octets = cc in
     object_fields x y uri octets
 
-verdict_fields : (x y : Verdict) → x.key ≡ y.key → x.message ≡ y.message → x.signature ≡ y.signature → x ≡ y
+pub verdict_fields : (x y : Verdict) → x.key ≡ y.key → x.message ≡ y.message → x.signature ≡ y.signature → x ≡ y
 verdict_fields x y k m s =
     let one : x ≡ record { key = y.key; message = x.message; signature = x.signature } = ap (λ (z : List ℕ). let r : Verdict = record { key = z; message = x.message; signature = x.signature } in r) k in
     let two : record { key = y.key; message = x.message; signature = x.signature } ≡ record { key = y.key; message = y.message; signature = x.signature } = ap (λ (z : List ℕ). let r : Verdict = record { key = y.key; message = z; signature = x.signature } in r) m in

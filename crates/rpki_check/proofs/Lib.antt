@@ -1,0 +1,5 @@
+pub mod Hexes
+pub mod VerdictLines
+pub mod Sorting
+pub mod Options
+pub mod Splits

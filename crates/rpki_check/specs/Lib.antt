@@ -1,1 +1,6 @@
+pub use Rattle.rpki_bundle.specs.Bundle
 pub mod Checks
+pub mod Lines
+pub mod Verdicts
+pub mod Folders
+pub mod Texts

@@ -3,12 +3,15 @@
 ghost use Rattle.std.specs.Prelude.{◌≡◌, ◌⊎◌, ◌<◌, ◌-◌, ◌^◌};
 ghost use Rattle.rpki_validator.specs.Run.{Prints};
 ghost use Rattle.rpki_check.specs.Checks.{EndsInFault};
+ghost use Rattle.rpki_check.specs.Texts.{WritesText, EndsWithFault};
 ghost use Rattle.rpki_check.specs.declared.commands.TheConstants.{DONE, FAILED};
 
 use crate::digests::Fips;
+use crate::folder::write_bundle;
 use rpki_validator::{Counted, run};
 use std::alloc::Global;
 use std::io::{Read, Write};
+use std::rt::Files;
 
 /// All was done.
 pub const DONE: u8 = 0;
@@ -36,6 +39,31 @@ pub fn check<R: Read, W: Write, F: Write>(
         Err(error) => {
             // What can't be told is lost; the status says that there was something.
             let _ = writeln!(faults, "{error}");
+            FAILED
+        }
+    }
+}
+
+/// `bundle FOLDER`: reads a folder, writes the bundle that it tells, and tells what is at fault on `faults`.
+pub fn bundle<R: Files + AllocGlobal + Clone + Drop, W: Write, F: Write>(
+    rt: &R,
+    alloc: Global,
+    folder: &str,
+    writer: &mut Counted<W>,
+    faults: &mut F,
+) -> u8
+    requires few_writes { writer.old.failures < 2 ^ 64 - 1 }
+
+    ensures status { (result ≡ DONE) ⊎ (result ≡ FAILED) }
+    ensures done { result ≡ DONE → WritesText (W.contents writer.old.inner) (W.contents writer.new.inner) }
+    ensures done_count { result ≡ DONE → writer.new.failures ≡ writer.old.failures }
+    ensures failed { result ≡ FAILED → EndsWithFault (W.contents writer.old.inner) (W.contents writer.new.inner) writer.old.failures writer.new.failures }
+{
+    match write_bundle(rt, alloc, folder, writer) {
+        Ok(()) => DONE,
+        Err(fault) => {
+            // What can't be told is lost; the status says that there was something.
+            let _ = writeln!(faults, "{fault}");
             FAILED
         }
     }

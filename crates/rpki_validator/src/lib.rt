@@ -4,8 +4,9 @@
 pub mod counted;
 pub mod lines;
 pub mod runs;
-mod streams;
+pub mod streams;
 
 pub use counted::Counted;
 pub use lines::Cause;
 pub use runs::{RunError, run};
+pub use streams::{WriteFault, write_all};

@@ -30,7 +30,7 @@ impl From<AllocError> for ReadFault {
 
 /// A write failed, or took nothing.
 #[derive(Clone, Copy, Debug, PartialEq, Eq)]
-pub(crate) struct WriteFault;
+pub struct WriteFault;
 
 /// Reads until a read gives nothing, or until `limit` octets are there; it asks for no octet past
 /// `limit`, and retries nothing.
@@ -62,7 +62,7 @@ pub(crate) fn read_all<R: Read>(
 }
 
 /// Writes the whole of `text`, in as many writes as the writer needs, and retries nothing.
-pub(crate) fn write_all<W: Write>(writer: &mut Counted<W>, text: &[u8]) -> Result<(), WriteFault>
+pub fn write_all<W: Write>(writer: &mut Counted<W>, text: &[u8]) -> Result<(), WriteFault>
     requires few { writer.old.failures < 2 ^ 64 - 1 }
 
     ensures ok { OnOk result (Appends (W.contents writer.old.inner) (W.contents writer.new.inner) text.now) }

@@ -1,0 +1,33 @@
+-- Texts of one line in a folder: `moment` and `depth`.
+use Rattle.std.specs.Prelude.{◌≡◌, ℕ, ◌+◌, ◌/◌, ◌%◌, ◌≤◌, ◌⊎◌, List, [], ◌∷◌, ◌++◌}
+use Rattle.rpki_bundle.specs.Times.{IsMoment}
+
+-- A line feed (10), behind a carriage return (13) or not.
+abbrev pub IsLineEnd : List ℕ → Type 0
+IsLineEnd end = (end ≡ 10 ∷ []) ⊎ (end ≡ 13 ∷ 10 ∷ [])
+
+-- The end of a last line may be missing.
+abbrev pub IsEnd : List ℕ → Type 0
+IsEnd end = (end ≡ []) ⊎ IsLineEnd end
+
+-- YYYYMMDDHHMMSSZ, and then a line end or nothing.
+pub record TellsMoment (text : List ℕ) (moment : ℕ) : Type 0 where
+  pub line : List ℕ
+  pub end : List ℕ
+  pub whole : text ≡ line ++ end
+  pub line_is : IsMoment line moment
+  pub end_is : IsEnd end
+
+-- One or two decimal digits (48 to 57), the first of them not 0.
+abbrev pub IsDepth : List ℕ → ℕ → Type 0
+IsDepth line depth =
+    ((1 ≤ depth) × (depth ≤ 9) × (line ≡ (48 + depth) ∷ []))
+    ⊎ ((10 ≤ depth) × (depth ≤ 99) × (line ≡ (48 + depth / 10) ∷ (48 + depth % 10) ∷ []))
+
+-- A depth, and then a line end or nothing.
+pub record TellsDepth (text : List ℕ) (depth : ℕ) : Type 0 where
+  pub line : List ℕ
+  pub end : List ℕ
+  pub whole : text ≡ line ++ end
+  pub line_is : IsDepth line depth
+  pub end_is : IsEnd end

@@ -1,0 +1,86 @@
+//! Single files and folders: what stands at a path, and a file's octets.
+
+ghost use Rattle.std.specs.Prelude.{◌≤◌, ◌^◌, length, IfOk};
+
+use crate::folder::ReadFault;
+use std::alloc::Global;
+use std::fs;
+use std::io::{ErrorKind, Read};
+use std::rt::Files;
+
+// So many octets of a file are read at most.
+const MOST_OCTETS: usize = 4_294_967_296;
+
+// By how much a file's room grows at least, where the file is longer than the system said.
+const PIECE: usize = 4096;
+
+/// What stands at a path. A link stands for what it leads to.
+#[derive(Clone, Copy, Debug, PartialEq, Eq)]
+pub(crate) enum Kind {
+    /// Nothing, not even a link.
+    Absent,
+    /// A file, of so many octets as the system says.
+    File(u64),
+    /// A folder.
+    Folder,
+}
+
+/// What stands at the path; a read fault for what is neither file nor folder, and for a broken link.
+pub(crate) fn kind_of<R: Files>(rt: &R, path: &str) -> Result<Kind, ReadFault> {
+    match fs::metadata(rt, path) {
+        Ok(found) if found.is_dir() => Ok(Kind::Folder),
+        Ok(found) if found.is_file() => Ok(Kind::File(found.len())),
+        Ok(_) => Err(ReadFault::Read),
+        Err(error) if error.kind() == ErrorKind::NotFound => absent(rt, path),
+        Err(error) => Err(ReadFault::from(error)),
+    }
+}
+
+// That there is not even a link.
+fn absent<R: Files>(rt: &R, path: &str) -> Result<Kind, ReadFault> {
+    match fs::symlink_metadata(rt, path) {
+        Err(error) if error.kind() == ErrorKind::NotFound => Ok(Kind::Absent),
+        _ => Err(ReadFault::Read),
+    }
+}
+
+/// The octets of a file that may be missing.
+pub(crate) fn read_if_there<R: Files>(
+    rt: &R,
+    alloc: Global,
+    path: &str,
+) -> Result<Option<Vec<u8>>, ReadFault> {
+    match kind_of(rt, path)? {
+        Kind::Absent => Ok(None),
+        Kind::File(size) => Ok(Some(read_file(rt, alloc, path, size)?)),
+        Kind::Folder => Err(ReadFault::Read),
+    }
+}
+
+/// The octets of a file, or its first 2^32. Its size as the system says it gives the room to begin with.
+pub(crate) fn read_file<R: Files>(
+    rt: &R,
+    alloc: Global,
+    path: &str,
+    size: u64,
+) -> Result<Vec<u8>, ReadFault>
+    ensures { IfOk result (λ octets. length octets.items ≤ 2 ^ 32) }
+{
+    let mut file = fs::open(rt, path)?;
+    // One octet more, so that the end shows before the room is full.
+    let room = size.saturating_add(1).min(MOST_OCTETS as u64) as usize;
+    let mut octets = vec![in alloc; 0u8; room]?;
+    let mut filled = 0;
+    while filled < MOST_OCTETS {
+        if filled == octets.len() {
+            let more = filled.max(PIECE).min(MOST_OCTETS - filled);
+            octets.resize(filled + more, 0)?;
+        }
+        match file.read(&mut octets[filled..])? {
+            0 => break,
+            count => filled += count,
+        }
+    }
+    octets.truncate(filled);
+    Ok(octets)
+}
