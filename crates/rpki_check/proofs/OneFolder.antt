@@ -14,7 +14,7 @@ use Rattle.rpki_check.specs.declared.folder.parts.Contents.{Contents}
 use Rattle.rpki_check.specs.declared.folder.parts.Parts.{Parts}
 use Rattle.rpki_check.specs.Lines.{IsEnd, TellsMoment, TellsDepth}
 use Rattle.rpki_check.specs.Verdicts.{TellsVerdicts}
-use Rattle.rpki_check.specs.Folders.{IsSortedOn, Tells, TellsParts, value_of}
+use Rattle.rpki_check.specs.Folders.{IsSortedOn, TellsParts, value_of}
 use Rattle.rpki_check.specs.Texts.{TellsText}
 use Rattle.rpki_check.proofs.Moments.{moment_length}
 use Rattle.rpki_check.proofs.Ranks.{one_order}
