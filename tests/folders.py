@@ -136,7 +136,7 @@ def plain():
 
 def many():
     with Folder("sorted lists") as f:
-        names = [b"b", b"a", b"ab", b"B", b"~", b"a.b"]
+        names = [b"b", b"a", b"ab", b"B", b"z?", b"a.b"]
         for n in names:
             put(f.path, b"tals/" + n + b".tal", n * 3)
         uris = [b"rsync://a/m/x", b"rsync://a/m/b/c", b"https://h/z", b"rsync://a.b/m/x", b"https://h/y/z"]

@@ -3,3 +3,6 @@ pub mod VerdictLines
 pub mod Sorting
 pub mod Options
 pub mod Splits
+pub mod Moments
+pub mod Ranks
+pub mod OneFolder

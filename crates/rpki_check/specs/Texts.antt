@@ -1,13 +1,12 @@
 -- The octets that a folder becomes.
-use Rattle.std.specs.Prelude.{◌≡◌, ◌⊎◌, ℕ, ◌+◌, List, Option}
+use Rattle.std.specs.Prelude.{◌≡◌, ℕ, ◌+◌, List, Option}
 use Rattle.std.specs.Io.KnownBytes.{Appends, Keeps}
 use Rattle.rpki_bundle.specs.Bundle.{BundleValue, BundleText}
 use Rattle.rpki_validator.specs.Streams.{TakesSome}
-use Rattle.rpki_check.specs.Folders.{Tells, TellsParts, value_of}
+use Rattle.rpki_check.specs.Folders.{Tells}
 use Rattle.rpki_check.specs.declared.folder.Fault.{Fault}
 use Rattle.rpki_check.specs.declared.folder.Fault.TheVariants as faults
 use Rattle.rpki_check.specs.declared.folder.parts.Contents.{Contents}
-use Rattle.rpki_check.specs.declared.folder.parts.Parts.{Parts}
 
 -- The text of a bundle of all that was read.
 pub record TellsText (c : Contents) (text : List ℕ) : Type 0 where
@@ -15,15 +14,9 @@ pub record TellsText (c : Contents) (text : List ℕ) : Type 0 where
   pub told : Tells c bundle
   pub text_is : BundleText text bundle
 
--- The parts, sorted, are those of no bundle.
-pub record TellsLawless (c : Contents) : Type 0 where
-  pub parts : Parts
-  pub told : TellsParts c parts
-  pub lawless : (text : List ℕ) → BundleText text (value_of parts) → ⊥
-
--- A part is badly spelt, or the parts are those of no bundle.
+-- No octets are such a text.
 abbrev pub TellsNoText : Contents → Type 0
-TellsNoText c = ((b : BundleValue) → Tells c b → ⊥) ⊎ TellsLawless c
+TellsNoText c = (text : List ℕ) → TellsText c text → ⊥
 
 -- All of the text was written,
 pub record WritesText (before after : Option (List ℕ)) : Type 0 where

@@ -1,4 +1,4 @@
-use Rattle.std.proofs.Common.{◌≤◌, ◌-◌, ◌^◌, vec_len}
+use Rattle.std.proofs.Common.{◌≤◌, ◌-◌, vec_len}
 use Rattle.rpki_check.proofs.folder.files.read_file.Given as goal
 
 abbrev pub invariant-loop-filled : goal.invariant-loop-filled

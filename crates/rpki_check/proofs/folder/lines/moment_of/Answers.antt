@@ -1,7 +1,7 @@
 use Rattle.std.proofs.Common.{◌≡◌, length, sym, ◌∙◌, subst}
 use Rattle.bcder_source.proofs.Unique.{by_length}
 use Rattle.rpki_bundle.specs.Times.{IsMoment}
-use Rattle.rpki_bundle.proofs.Moments.{moment_is_pairs, pairs_shape}
+use Rattle.rpki_check.proofs.Moments.{moment_length}
 use Rattle.rpki_check.proofs.Options.{none_then}
 use Rattle.rpki_check.proofs.Splits.{split_whole}
 use Rattle.rpki_check.proofs.folder.lines.moment_of.Goals as goal
@@ -10,7 +10,7 @@ pub returns-clause-none : goal.returns-clause-none
 returns-clause-none c = none_then c.from_generalized.result c.from_generalized.ensures.none (λ lacks moment i.
     let front = c.in-Some.ensures.cases in
     let size : length i.line ≡ length c.in-Some.line.now =
-    (pairs_shape i.line _ (moment_is_pairs i.line i.line_is.civil i.line_is.real i.line_is.text_is)).0 ∙ sym front.3 in
+    moment_length i.line moment i.line_is ∙ sym front.3 in
     let whole = split_whole 15 c.args.text.now c.in-Some.line.now c.in-Some.end.now front.1 front.2 in
     let same = by_length i.line c.in-Some.line.now i.end c.in-Some.end.now size (sym i.whole ∙ whole) in
     lacks moment (subst (λ s. IsMoment s moment) same.front i.line_is))

@@ -1,4 +1,4 @@
-use Rattle.std.proofs.Common.{◌≡◌, [], ◌∷◌, inl, inr, refl, ap, ◌∙◌}
+use Rattle.std.proofs.Common.{[], ◌∷◌, inl, inr, refl, ap, ◌∙◌}
 use Rattle.std.proofs.lemmas.Option.{IfSome_then}
 use Rattle.rpki_check.proofs.folder.verdicts.behind_end.Goals as goal
 

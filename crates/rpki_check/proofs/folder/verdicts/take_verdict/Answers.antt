@@ -1,4 +1,4 @@
-use Rattle.std.proofs.Common.{sym, subst}
+use Rattle.std.proofs.Common.{subst}
 use Rattle.rpki_check.specs.Verdicts.{TakesNextDigest, TakesEnd}
 use Rattle.rpki_check.proofs.VerdictLines.{one_front, one_next}
 use Rattle.rpki_check.proofs.folder.verdicts.take_verdict.Goals as goal
