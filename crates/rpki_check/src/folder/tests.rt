@@ -4,7 +4,7 @@ use super::parts::{Contents, parts_of};
 use super::verdicts::verdicts_of;
 use super::written::text_of;
 use bytes::Bytes;
-use rpki_bundle::{BundleError, Locator, Object};
+use rpki_bundle::{BundleError, Locator, Object, Verdict};
 use std::alloc::Global;
 use std::test::Fail;
 
@@ -163,6 +163,10 @@ fn lines(rt: HostRuntime) {
 const LINE: &[u8] =
     b"000102030405060708090a0b0c0d0e0f101112131415161718191a1b1c1d1e1f 202122232425262728292a2b2c2d2e2f303132333435363738393a3b3c3d3e3f 404142434445464748494a4b4c4d4e4f505152535455565758595a5b5c5d5e5f";
 
+// The first, with a letter past F at its end.
+const WRONG: &[u8] =
+    b"000102030405060708090a0b0c0d0e0f101112131415161718191a1b1c1d1e1f 202122232425262728292a2b2c2d2e2f303132333435363738393a3b3c3d3e3f 404142434445464748494a4b4c4d4e4f505152535455565758595a5b5c5d5e5g";
+
 const OTHER: &[u8] =
     b"A0A1A2A3A4A5A6A7A8A9AAABACADAEAFB0B1B2B3B4B5B6B7B8B9BABBBCBDBEBF c0c1c2c3c4c5c6c7c8c9cacbcccdcecfd0d1d2d3d4d5d6d7d8d9dadbdcdddedf E0e1E2e3E4e5E6e7E8e9EaebecedeeefF0F1F2F3F4F5F6F7F8F9FAFBFCFDFEFF";
 
@@ -175,53 +179,58 @@ fn joined(alloc: Global, pieces: &[&[u8]]) -> Result<Vec<u8>, Fail> {
     Ok(text)
 }
 
+// Some octets of the first of the verdicts.
+fn first_of(verdicts: &[Verdict]) -> Option<(u8, u8, u8)> {
+    verdicts.first().map(|verdict| (verdict.key[0], verdict.message[31], verdict.signature[9]))
+}
+
 #[test]
-fn verdict_lines(rt: HostRuntime) -> Result<(), Fail> {
-    let texts: [[&[u8]; 4]; 5] = [
-        [OTHER, b"", b"", b""],
-        [OTHER, b"\n", b"", b""],
-        [OTHER, b"\r\n", LINE, b""],
-        [OTHER, b"\n", LINE, b"\r\n"],
-        [OTHER, b"\r\n", LINE, b"\n"],
-    ];
-    for pieces in texts {
-        let text = joined(rt.alloc(), &pieces)?;
+fn one_verdict_line(rt: HostRuntime) -> Result<(), Fail> {
+    for end in ["", "\n", "\r\n"] {
+        let text = joined(rt.alloc(), &[OTHER, end.as_bytes()])?;
         let verdicts = verdicts_of(rt.alloc(), text.as_slice())?;
-        assert_eq!(rt; verdicts.len(), if pieces[2].is_empty() { 1 } else { 2 });
-        assert_eq!(rt;
-            (
-                verdicts[0].key[0],
-                verdicts[0].message[31],
-                verdicts[0].signature[9]
-            ),
-            (0xA0, 0xDF, 0xE9)
-        );
-        let mut told = contents(rt.alloc(), MOMENT, b"32", text.as_slice())?;
-        put_locator(rt.alloc(), &mut told, b"x")?;
-        let parts = parts_of(rt.alloc(), told)?;
-        assert_eq!(rt; parts.verdicts.len(), verdicts.len());
-        assert_eq!(rt;
-            parts.verdicts[0].key[0],
-            if pieces[2].is_empty() { 0xA0 } else { 0 }
-        );
+        assert_eq!(rt; verdicts.len(), 1);
+        assert_eq!(rt; first_of(verdicts.as_slice()), Some((0xA0, 0xDF, 0xE9)));
     }
     assert_eq!(rt; verdicts_of(rt.alloc(), b"")?.len(), 0);
-    let wrong: [[&[u8]; 4]; 9] = [
-        [b"\n", b"", b"", b""],
-        [LINE, b"\r", b"", b""],
-        [LINE, b"\n\n", b"", b""],
-        [LINE, b"\n\n", OTHER, b"\n"],
-        [b"\n", LINE, b"", b""],
-        [LINE, OTHER, b"", b""],
-        [LINE, b" ", b"", b""],
-        [b" ", LINE, b"", b""],
-        [&LINE[..193], b"g", b"\n", b""],
-    ];
-    for pieces in wrong {
-        let text = joined(rt.alloc(), &pieces)?;
-        let verdicts = verdicts_of(rt.alloc(), text.as_slice());
-        assert_eq!(rt; verdicts.err(), Some(BundleError::NotABundle));
+    Ok(())
+}
+
+#[test]
+fn verdict_lines_in_any_order(rt: HostRuntime) -> Result<(), Fail> {
+    for end in ["", "\n", "\r\n"] {
+        let text = joined(rt.alloc(), &[OTHER, b"\r\n", LINE, end.as_bytes()])?;
+        let verdicts = verdicts_of(rt.alloc(), text.as_slice())?;
+        assert_eq!(rt; verdicts.len(), 2);
+        assert_eq!(rt; first_of(verdicts.as_slice()), Some((0xA0, 0xDF, 0xE9)));
+        let told = contents(rt.alloc(), MOMENT, b"32", text.as_slice())?;
+        let parts = parts_of(rt.alloc(), told)?;
+        assert_eq!(rt; parts.verdicts.len(), 2);
+        assert_eq!(rt;
+            first_of(parts.verdicts.as_slice()),
+            Some((0x00, 0x3F, 0x49))
+        );
     }
+    Ok(())
+}
+
+// That the text tells no verdicts.
+fn refuses(alloc: Global, pieces: &[&[u8]]) -> Result<bool, Fail> {
+    let text = joined(alloc, pieces)?;
+    Ok(verdicts_of(alloc, text.as_slice()).err() == Some(BundleError::NotABundle))
+}
+
+#[test]
+fn wrong_verdict_lines(rt: HostRuntime) -> Result<(), Fail> {
+    assert!(rt; refuses(rt.alloc(), &[b"\n"])?);
+    assert!(rt; refuses(rt.alloc(), &[LINE, b"\r"])?);
+    assert!(rt; refuses(rt.alloc(), &[LINE, b"\n\n"])?);
+    assert!(rt; refuses(rt.alloc(), &[LINE, b"\n\n", OTHER, b"\n"])?);
+    assert!(rt; refuses(rt.alloc(), &[b"\n", LINE])?);
+    assert!(rt; refuses(rt.alloc(), &[LINE, OTHER])?);
+    assert!(rt; refuses(rt.alloc(), &[LINE, b" "])?);
+    assert!(rt; refuses(rt.alloc(), &[b" ", LINE])?);
+    assert!(rt; refuses(rt.alloc(), &[WRONG, b"\n"])?);
     Ok(())
 }
 
