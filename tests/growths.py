@@ -44,8 +44,15 @@ def many():
     return octets, prints(b"".join(b"refused " + name + b" tal\n" for name in names))
 
 
-# What is read, and the right outcome: status, standard output and standard error.
-CASES = {
+def folder():
+    """The arguments that bundle the example folder, and their outcome: the example bundle, which has the same parts."""
+    examples = os.path.join(HERE, "..", "examples")
+    with open(os.path.join(examples, "empty-texts.bundle"), "rb") as octets:
+        return ["bundle", os.path.join(examples, "folder")], prints(octets.read())
+
+
+# What `check` reads, and the right outcome: status, standard output and standard error.
+CHECKS = {
     "empty-bundle": (bytes.fromhex(f"301D {HEAD} 3000 3000 3000"), prints(b"")),
     "empty-locator": (
         bytes.fromhex(f"3024 {HEAD} 3007 3005 130178 0400 3000 3000"),
@@ -63,6 +70,10 @@ CASES = {
     "many": many(),
 }
 
+# Arguments, standard input and the right outcome.
+CASES = {name: (["check"], octets, outcome) for name, (octets, outcome) in CHECKS.items()}
+CASES["folder"] = (folder()[0], b"", folder()[1])
+
 
 def compiled(folder):
     """The path of the shared object that refuses growths."""
@@ -72,12 +83,12 @@ def compiled(folder):
     return path
 
 
-def run(program, shim, octets, refusal):
+def run(program, shim, words, octets, refusal):
     """One run's status, what it printed on both streams, and a `+` or `-` for each growth."""
     with tempfile.TemporaryFile() as told:
         environment = {"LD_PRELOAD": shim, "GROWTHS_FD": str(told.fileno()), **refusal}
         done = subprocess.run(
-            [program, "check"],
+            [program, *words],
             input=octets,
             capture_output=True,
             env=environment,
@@ -97,14 +108,14 @@ def refusals(count):
 
 def try_case(program, shim, name):
     """Whether each run of the case was right; prints a line for each that was not, and one for the case."""
-    octets, answer = CASES[name]
-    outcome, growths = run(program, shim, octets, {})
+    words, octets, answer = CASES[name]
+    outcome, growths = run(program, shim, words, octets, {})
     results = [outcome == answer]
     if outcome != answer:
         print(f"{name}, nothing refused: {outcome}")
     answered = 0
     for refusal, given in refusals(len(growths)):
-        outcome, told = run(program, shim, octets, refusal)
+        outcome, told = run(program, shim, words, octets, refusal)
         right = outcome in (answer, OUT_OF_MEMORY) and told.startswith("+" * given + "-")
         results.append(right)
         answered += outcome == answer
