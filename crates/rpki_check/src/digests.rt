@@ -24,3 +24,19 @@ impl Digester for Fips {
         Sha1::digest(octets)
     }
 }
+
+#[cfg(test)]
+mod tests {
+    use super::*;
+
+    // The examples that NIST publishes with FIPS 180-4.
+    #[test]
+    fn digests_of_abc(rt: HostRuntime) {
+        let sha256 =
+            b"\xBA\x78\x16\xBF\x8F\x01\xCF\xEA\x41\x41\x40\xDE\x5D\xAE\x22\x23\xB0\x03\x61\xA3\x96\x17\x7A\x9C\xB4\x10\xFF\x61\xF2\x00\x15\xAD";
+        assert_eq!(rt; Fips.sha256(b"abc"), *sha256);
+        let sha1 =
+            b"\xA9\x99\x3E\x36\x47\x06\x81\x6A\xBA\x3E\x25\x71\x78\x50\xC2\x6C\x9C\xD0\xD8\x9D";
+        assert_eq!(rt; Fips.sha1(b"abc"), *sha1);
+    }
+}
