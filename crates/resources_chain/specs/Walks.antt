@@ -1,0 +1,41 @@
+-- What the walks over lists of blocks keep.
+use Rattle.std.specs.Prelude.{ℕ, ◌+◌, ◌<◌, ◌≤◌, ◌⊎◌, ◌↔◌, List, [], ◌∷◌}
+use Rattle.resources_chain.specs.Sets.{Run, InRun, InRuns, AreMaximal}
+
+-- Each of the runs begins at the number or before.
+abbrev pub BeginBy : ℕ → List Run → Type 0
+BeginBy n [] = Unit {0}
+BeginBy n (r ∷ rs) = (r.first ≤ n) × BeginBy n rs
+
+-- Each begins no later than those behind it.
+abbrev pub AreAscending : List Run → Type 0
+AreAscending [] = Unit {0}
+AreAscending (r ∷ []) = Unit {0}
+AreAscending (r ∷ s ∷ rs) = (r.first ≤ s.first) × AreAscending (s ∷ rs)
+
+-- There is none, or the first reaches the number.
+abbrev pub FirstReaches : ℕ → List Run → Type 0
+FirstReaches n [] = Unit {0}
+FirstReaches n (r ∷ rs) = n ≤ r.last
+
+-- Maximal runs with the numbers of others and of one more run, which begins behind them all.
+pub record Adds (old new : List Run) (r : Run) : Type 0 where
+  pub maximal : AreMaximal new
+  pub same : (n : ℕ) → InRuns new n ↔ (InRuns old n ⊎ InRun r n)
+  pub order : BeginBy r.first new
+
+-- Maximal runs with the numbers of others and of those of the run that aren't in `taken`.
+pub record AddsOutside (old new : List Run) (r : Run) (taken : List Run) : Type 0 where
+  pub maximal : AreMaximal new
+  pub same : (n : ℕ) → InRuns new n ↔ (InRuns old n ⊎ (InRun r n × ¬ (InRuns taken n)))
+
+-- Maximal runs that have the numbers behind `k` of others.
+pub record SameBehind (k : ℕ) (old new : List Run) : Type 0 where
+  pub maximal : AreMaximal new
+  pub same : (n : ℕ) → k < n → InRuns new n ↔ InRuns old n
+
+-- Maximal runs that have the numbers from `k` on of others, and end before `k` nowhere.
+pub record SameFrom (k : ℕ) (old new : List Run) : Type 0 where
+  pub maximal : AreMaximal new
+  pub same : (n : ℕ) → k ≤ n → InRuns new n ↔ InRuns old n
+  pub reaches : FirstReaches k new

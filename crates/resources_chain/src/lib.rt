@@ -1,0 +1,8 @@
+//! Sets of numbers as canonical lists of blocks, over any ordered type of numbers.
+#![tactic(auto)]
+
+pub mod block;
+pub mod laws;
+mod walk;
+
+pub use block::Block;

@@ -1,0 +1,205 @@
+//! Walks over sorted lists of blocks, from the front.
+
+ghost use Rattle.std.specs.Prelude.{◌≡◌, ℕ, ◌+◌, ◌<◌, ◌≤◌, ◌⊎◌, ◌↔◌, IsTrue, MatchOption, OnOk, IfOk, map, min, max};
+ghost use Rattle.resources_chain.specs.Sets.{InRun, InRuns, AreMaximal, IsRunsOf, InBoth, InFirstOnly, IsInside};
+ghost use Rattle.resources_chain.specs.Walks.{BeginBy, AreAscending, FirstReaches, Adds, AddsOutside, SameBehind, SameFrom};
+
+use crate::block::{Block, comes_before, ends_before};
+use std::alloc::{AllocError, Global};
+use std::ops::RangeInclusive;
+
+/// Adds the items of a block that begins behind all others begin.
+pub(crate) fn add<B: Block>(blocks: &mut Vec<B>, block: B) -> Result<(), AllocError>
+    requires maximal { AreMaximal (map B.run blocks.old.items) }
+    requires order { BeginBy (B.run block).first (map B.run blocks.old.items) }
+    ensures { OnOk result (Adds (map B.run blocks.old.items) (map B.run blocks.new.items) (B.run block)) }
+{
+    let Some(last) = blocks.pop() else {
+        blocks.push(block)?;
+        return Ok(());
+    };
+    match last.sum(&block) {
+        Some(joined) => blocks.push(joined)?,
+        None => {
+            blocks.push(last)?;
+            blocks.push(block)?;
+        }
+    }
+    Ok(())
+}
+
+/// The block of the items before this one, where there are any.
+fn part_before<B: Block>(block: &B, item: B::Item) -> Option<B>
+    ensures { MatchOption result (B.place item ≤ (B.run block.now).first) (λ part. ((B.run part).first ≡ (B.run block.now).first) × ((B.run part).last + 1 ≡ min ((B.run block.now).last + 1) (B.place item))) }
+{
+    let end = B::previous(item)?;
+    if comes_before::<B>(end, block.min()) {
+        return None;
+    }
+    let last = if comes_before::<B>(end, block.max()) {
+        end
+    } else {
+        block.max()
+    };
+    Some(B::new(RangeInclusive::new(block.min(), last)))
+}
+
+/// The block of the items behind this one, where there are any.
+fn part_behind<B: Block>(block: &B, item: B::Item) -> Option<B>
+    ensures { MatchOption result ((B.run block.now).last ≤ B.place item) (λ part. ((B.run part).first ≡ max (B.run block.now).first (B.place item + 1)) × ((B.run part).last ≡ (B.run block.now).last)) }
+{
+    let start = B::next(item)?;
+    if comes_before::<B>(block.max(), start) {
+        return None;
+    }
+    let first = if comes_before::<B>(start, block.min()) {
+        block.min()
+    } else {
+        start
+    };
+    Some(B::new(RangeInclusive::new(first, block.max())))
+}
+
+/// The block of the items of both, where there are any.
+fn common_part<B: Block>(one: &B, other: &B) -> Option<B>
+    ensures { MatchOption result (((B.run one.now).last < (B.run other.now).first) ⊎ ((B.run other.now).last < (B.run one.now).first))
+        (λ part. ((B.run part).first ≡ max (B.run one.now).first (B.run other.now).first) × ((B.run part).last ≡ min (B.run one.now).last (B.run other.now).last)) }
+{
+    if ends_before(one, other) || ends_before(other, one) {
+        return None;
+    }
+    let first = if comes_before::<B>(one.min(), other.min()) {
+        other.min()
+    } else {
+        one.min()
+    };
+    let last = if comes_before::<B>(one.max(), other.max()) {
+        one.max()
+    } else {
+        other.max()
+    };
+    Some(B::new(RangeInclusive::new(first, last)))
+}
+
+/// Adds the items of a block that aren't in `taken`; what is left of `taken` behind the block.
+fn add_outside<'a, B: Block>(blocks: &mut Vec<B>, block: B, taken: &'a [B]) -> Result<&'a [B], AllocError>
+    requires maximal { AreMaximal (map B.run blocks.old.items) }
+    requires taken_maximal { AreMaximal (map B.run taken.now) }
+    requires below { (n : ℕ) → InRuns (map B.run blocks.old.items) n → n < (B.run block).first }
+    ensures added { OnOk result (AddsOutside (map B.run blocks.old.items) (map B.run blocks.new.items) (B.run block) (map B.run taken.now)) }
+    ensures left { IfOk result (λ rest. SameBehind (B.run block).last (map B.run taken.now) (map B.run rest.now)) }
+{
+    let mut piece = block;
+    let mut rest = taken;
+    while let Some((first, behind)) = rest.split_first() {
+        if let Some(part) = part_before(&piece, first.min()) {
+            add(blocks, part)?;
+        }
+        let Some(part) = part_behind(&piece, first.max()) else {
+            return Ok(rest);
+        };
+        piece = part;
+        rest = behind;
+    }
+    add(blocks, piece)?;
+    Ok(rest)
+}
+
+/// The items of the first list that aren't in the second.
+pub(crate) fn difference<B: Block>(alloc: Global, blocks: &[B], taken: &[B]) -> Result<Vec<B>, AllocError>
+    requires maximal { AreMaximal (map B.run blocks.now) }
+    requires taken_maximal { AreMaximal (map B.run taken.now) }
+    ensures { IfOk result (λ v. IsRunsOf (InFirstOnly (map B.run blocks.now) (map B.run taken.now)) (map B.run v.items)) }
+{
+    let mut found = Vec::new(alloc);
+    let mut rest = blocks;
+    let mut taken = taken;
+    while let Some((first, behind)) = rest.split_first() {
+        taken = add_outside(&mut found, *first, taken)?;
+        rest = behind;
+    }
+    Ok(found)
+}
+
+/// The items of both lists.
+pub(crate) fn intersection<B: Block>(alloc: Global, one: &[B], other: &[B]) -> Result<Vec<B>, AllocError>
+    requires one_maximal { AreMaximal (map B.run one.now) }
+    requires other_maximal { AreMaximal (map B.run other.now) }
+    ensures { IfOk result (λ v. IsRunsOf (InBoth (map B.run one.now) (map B.run other.now)) (map B.run v.items)) }
+{
+    let mut found = Vec::new(alloc);
+    let mut left = one;
+    let mut right = other;
+    while let (Some((x, left_behind)), Some((y, right_behind))) = (left.split_first(), right.split_first()) {
+        if let Some(part) = common_part(x, y) {
+            add(&mut found, part)?;
+        }
+        if comes_before::<B>(x.max(), y.max()) {
+            left = left_behind;
+        } else {
+            right = right_behind;
+        }
+    }
+    Ok(found)
+}
+
+/// The blocks from the first one on that reaches the item.
+fn from_item<B: Block>(blocks: &[B], item: B::Item) -> &[B]
+    requires { AreMaximal (map B.run blocks.now) }
+    ensures { SameFrom (B.place item) (map B.run blocks.now) (map B.run result.now) }
+{
+    let mut rest = blocks;
+    while let Some((first, behind)) = rest.split_first() {
+        if !comes_before::<B>(first.max(), item) {
+            return rest;
+        }
+        rest = behind;
+    }
+    rest
+}
+
+/// Whether all items of the first list are in the second.
+pub(crate) fn is_inside<B: Block>(blocks: &[B], others: &[B]) -> bool
+    requires maximal { AreMaximal (map B.run blocks.now) }
+    requires others_maximal { AreMaximal (map B.run others.now) }
+    ensures { IsTrue result ↔ IsInside (map B.run blocks.now) (map B.run others.now) }
+{
+    let mut rest = blocks;
+    let mut others = others;
+    while let Some((first, behind)) = rest.split_first() {
+        others = from_item(others, first.min());
+        let Some((other, _)) = others.split_first() else {
+            return false;
+        };
+        if !first.is_encompassed(other) {
+            return false;
+        }
+        rest = behind;
+    }
+    true
+}
+
+/// Whether one of the blocks has the item.
+pub(crate) fn has_item<B: Block>(blocks: &[B], item: B::Item) -> bool
+    requires { AreMaximal (map B.run blocks.now) }
+    ensures { IsTrue result ↔ InRuns (map B.run blocks.now) (B.place item) }
+{
+    match from_item(blocks, item).split_first() {
+        Some((first, _)) => first.contains(item),
+        None => false,
+    }
+}
+
+/// The canonical list of the items of blocks that are sorted by where they begin.
+pub(crate) fn joined<B: Block>(alloc: Global, blocks: &[B]) -> Result<Vec<B>, AllocError>
+    requires { AreAscending (map B.run blocks.now) }
+    ensures { IfOk result (λ v. IsRunsOf (InRuns (map B.run blocks.now)) (map B.run v.items)) }
+{
+    let mut found = Vec::new(alloc);
+    let mut rest = blocks;
+    while let Some((first, behind)) = rest.split_first() {
+        add(&mut found, *first)?;
+        rest = behind;
+    }
+    Ok(found)
+}
