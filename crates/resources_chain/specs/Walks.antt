@@ -1,5 +1,5 @@
 -- What the walks over lists of blocks keep.
-use Rattle.std.specs.Prelude.{ℕ, ◌+◌, ◌<◌, ◌≤◌, ◌⊎◌, ◌↔◌, List, [], ◌∷◌}
+use Rattle.std.specs.Prelude.{ℕ, ◌≤◌, ◌⊎◌, ◌↔◌, List, [], ◌∷◌}
 use Rattle.resources_chain.specs.Sets.{Run, InRun, InRuns, AreMaximal}
 
 -- Each of the runs begins at the number or before.
@@ -24,18 +24,12 @@ pub record Adds (old new : List Run) (r : Run) : Type 0 where
   pub same : (n : ℕ) → InRuns new n ↔ (InRuns old n ⊎ InRun r n)
   pub order : BeginBy r.first new
 
--- Maximal runs with the numbers of others and of those of the run that aren't in `taken`.
-pub record AddsOutside (old new : List Run) (r : Run) (taken : List Run) : Type 0 where
+-- Maximal runs with the numbers of others and of a set besides.
+pub record AddsSet (old new : List Run) (P : ℕ → Type 0) : Type 0 where
   pub maximal : AreMaximal new
-  pub same : (n : ℕ) → InRuns new n ↔ (InRuns old n ⊎ (InRun r n × ¬ (InRuns taken n)))
+  pub same : (n : ℕ) → InRuns new n ↔ (InRuns old n ⊎ P n)
 
--- Maximal runs that have the numbers behind `k` of others.
-pub record SameBehind (k : ℕ) (old new : List Run) : Type 0 where
-  pub maximal : AreMaximal new
-  pub same : (n : ℕ) → k < n → InRuns new n ↔ InRuns old n
-
--- Maximal runs that have the numbers from `k` on of others, and end before `k` nowhere.
+-- Maximal runs that have the numbers of others from `k` on.
 pub record SameFrom (k : ℕ) (old new : List Run) : Type 0 where
   pub maximal : AreMaximal new
   pub same : (n : ℕ) → k ≤ n → InRuns new n ↔ InRuns old n
-  pub reaches : FirstReaches k new

@@ -2,7 +2,9 @@
 #![tactic(auto)]
 
 pub mod block;
+pub mod chain;
 pub mod laws;
 mod walk;
 
 pub use block::Block;
+pub use chain::OwnedChain;

@@ -2,10 +2,12 @@
 
 ghost use Rattle.std.specs.Prelude.{◌≡◌, ℕ, ◌+◌, ◌<◌, ◌≤◌, ◌⊎◌, ◌↔◌, IsTrue, MatchOption, OnOk, IfOk, map, min, max};
 ghost use Rattle.resources_chain.specs.Sets.{InRun, InRuns, AreMaximal, IsRunsOf, InBoth, InFirstOnly, IsInside};
-ghost use Rattle.resources_chain.specs.Walks.{BeginBy, AreAscending, FirstReaches, Adds, AddsOutside, SameBehind, SameFrom};
+ghost use Rattle.std.specs.Ordering.{nat_cmp};
+ghost use Rattle.resources_chain.specs.Walks.{BeginBy, AreAscending, FirstReaches, Adds, AddsSet, SameFrom};
 
 use crate::block::{Block, comes_before, ends_before};
 use std::alloc::{AllocError, Global};
+use std::cmp::Ordering;
 use std::ops::RangeInclusive;
 
 /// Adds the items of a block that begins behind all others begin.
@@ -81,20 +83,42 @@ fn common_part<B: Block>(one: &B, other: &B) -> Option<B>
     Some(B::new(RangeInclusive::new(first, last)))
 }
 
+/// Adds the items of a block before this item.
+fn add_before<B: Block>(blocks: &mut Vec<B>, block: &B, item: B::Item) -> Result<(), AllocError>
+    requires maximal { AreMaximal (map B.run blocks.old.items) }
+    requires below { (n : ℕ) → InRuns (map B.run blocks.old.items) n → n < (B.run block.now).first }
+    ensures { OnOk result (AddsSet (map B.run blocks.old.items) (map B.run blocks.new.items) (λ n. InRun (B.run block.now) n × (n < B.place item))) }
+{
+    match part_before(block, item) {
+        Some(part) => add(blocks, part),
+        None => Ok(()),
+    }
+}
+
+/// Adds the items of both blocks.
+fn add_common<B: Block>(blocks: &mut Vec<B>, one: &B, other: &B) -> Result<(), AllocError>
+    requires maximal { AreMaximal (map B.run blocks.old.items) }
+    requires below { (m n : ℕ) → InRuns (map B.run blocks.old.items) m → InRun (B.run one.now) n → InRun (B.run other.now) n → m < n }
+    ensures { OnOk result (AddsSet (map B.run blocks.old.items) (map B.run blocks.new.items) (λ n. InRun (B.run one.now) n × InRun (B.run other.now) n)) }
+{
+    match common_part(one, other) {
+        Some(part) => add(blocks, part),
+        None => Ok(()),
+    }
+}
+
 /// Adds the items of a block that aren't in `taken`; what is left of `taken` behind the block.
 fn add_outside<'a, B: Block>(blocks: &mut Vec<B>, block: B, taken: &'a [B]) -> Result<&'a [B], AllocError>
     requires maximal { AreMaximal (map B.run blocks.old.items) }
     requires taken_maximal { AreMaximal (map B.run taken.now) }
     requires below { (n : ℕ) → InRuns (map B.run blocks.old.items) n → n < (B.run block).first }
-    ensures added { OnOk result (AddsOutside (map B.run blocks.old.items) (map B.run blocks.new.items) (B.run block) (map B.run taken.now)) }
-    ensures left { IfOk result (λ rest. SameBehind (B.run block).last (map B.run taken.now) (map B.run rest.now)) }
+    ensures added { OnOk result (AddsSet (map B.run blocks.old.items) (map B.run blocks.new.items) (λ n. InRun (B.run block) n × ¬ (InRuns (map B.run taken.now) n))) }
+    ensures left { IfOk result (λ rest. SameFrom ((B.run block).last + 1) (map B.run taken.now) (map B.run rest.now)) }
 {
     let mut piece = block;
     let mut rest = taken;
     while let Some((first, behind)) = rest.split_first() {
-        if let Some(part) = part_before(&piece, first.min()) {
-            add(blocks, part)?;
-        }
+        add_before(blocks, &piece, first.min())?;
         let Some(part) = part_behind(&piece, first.max()) else {
             return Ok(rest);
         };
@@ -130,10 +154,11 @@ pub(crate) fn intersection<B: Block>(alloc: Global, one: &[B], other: &[B]) -> R
     let mut found = Vec::new(alloc);
     let mut left = one;
     let mut right = other;
-    while let (Some((x, left_behind)), Some((y, right_behind))) = (left.split_first(), right.split_first()) {
-        if let Some(part) = common_part(x, y) {
-            add(&mut found, part)?;
-        }
+    while let Some((x, left_behind)) = left.split_first() {
+        let Some((y, right_behind)) = right.split_first() else {
+            return Ok(found);
+        };
+        add_common(&mut found, x, y)?;
         if comes_before::<B>(x.max(), y.max()) {
             left = left_behind;
         } else {
@@ -146,7 +171,8 @@ pub(crate) fn intersection<B: Block>(alloc: Global, one: &[B], other: &[B]) -> R
 /// The blocks from the first one on that reaches the item.
 fn from_item<B: Block>(blocks: &[B], item: B::Item) -> &[B]
     requires { AreMaximal (map B.run blocks.now) }
-    ensures { SameFrom (B.place item) (map B.run blocks.now) (map B.run result.now) }
+    ensures same { SameFrom (B.place item) (map B.run blocks.now) (map B.run result.now) }
+    ensures reaches { FirstReaches (B.place item) (map B.run result.now) }
 {
     let mut rest = blocks;
     while let Some((first, behind)) = rest.split_first() {
@@ -202,4 +228,19 @@ pub(crate) fn joined<B: Block>(alloc: Global, blocks: &[B]) -> Result<Vec<B>, Al
         rest = behind;
     }
     Ok(found)
+}
+
+/// The order of two blocks by where they begin.
+fn by_beginning<B: Block>(one: &B, other: &B) -> Ordering
+    ensures { result ≡ nat_cmp (B.run one.now).first (B.run other.now).first }
+{
+    one.min().cmp(&other.min())
+}
+
+/// Sorts blocks by where they begin.
+pub(crate) fn sort<B: Block>(blocks: &mut Vec<B>)
+    ensures ascending { AreAscending (map B.run blocks.new.items) }
+    ensures same { (n : ℕ) → InRuns (map B.run blocks.new.items) n ↔ InRuns (map B.run blocks.old.items) n }
+{
+    blocks.sort_unstable_by(|one, other| by_beginning(one, other));
 }
