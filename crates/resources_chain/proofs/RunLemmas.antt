@@ -1,17 +1,10 @@
 -- What blocks are compared by: the bounds of two runs.
-use Rattle.std.proofs.Common.{◌≡◌, ℕ, ◌+◌, ◌<◌, ◌≤◌, ◌⊎◌, ◌↔◌, Bool, true, false, IsTrue, not, inl, inr, refl, ap, ◌∙◌, arith}
+use Rattle.std.proofs.Common.{◌≡◌, ℕ, ◌+◌, ◌<◌, ◌≤◌, ◌⊎◌, ◌↔◌, Bool, true, false, IsTrue, not, inl, inr, refl, arith}
 use Rattle.std.proofs.lemmas.Bool.Decides.{leb_tells}
 use Rattle.resources_chain.specs.Sets.{Run, InRun}
 
 pub le_or_lt : (a b : ℕ) → (a ≤ b) ⊎ (b < a)
 le_or_lt a b = elim (leb_tells a b) [ inl h ↦ inl h.1 | inr h ↦ inr h.1 ]
-
--- Runs of equal bounds are one.
-pub run_is : {r s : Run} → r.first ≡ s.first → r.last ≡ s.last → r ≡ s
-run_is {r} {s} f l =
-    let one : r ≡ record { first = s.first; last = r.last } = ap (λ (x : ℕ). let t : Run = record { first = x; last = r.last } in t) f in
-    let two : record { first = s.first; last = r.last } ≡ s = ap (λ (x : ℕ). let t : Run = record { first = s.first; last = x } in t) l in
-    one ∙ two
 
 -- Two runs of which the first doesn't end before the second overlap unless the second ends before the first.
 pub overlap_told : (a b : Run) (before : Bool) → a.first ≤ a.last → b.first ≤ b.last → (IsTrue false ↔ (a.last < b.first)) → (IsTrue before ↔ (b.last < a.first)) → IsTrue (not before) ↔ ((n : ℕ) × InRun a n × InRun b n)

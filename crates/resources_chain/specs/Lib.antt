@@ -1,2 +1,4 @@
 pub mod Sets
+pub mod Same
 pub mod Walks
+pub mod Shared

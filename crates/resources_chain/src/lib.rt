@@ -7,4 +7,7 @@ pub mod laws;
 mod walk;
 
 pub use block::Block;
-pub use chain::OwnedChain;
+pub use chain::{Chain, OwnedChain, SharedChain};
+
+#[cfg(test)]
+mod tests;

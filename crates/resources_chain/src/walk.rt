@@ -205,6 +205,15 @@ pub(crate) fn is_inside<B: Block>(blocks: &[B], others: &[B]) -> bool
     true
 }
 
+/// Whether the two lists have the same items.
+pub(crate) fn is_same<B: Block>(one: &[B], other: &[B]) -> bool
+    requires one_maximal { AreMaximal (map B.run one.now) }
+    requires other_maximal { AreMaximal (map B.run other.now) }
+    ensures { IsTrue result ↔ ((n : ℕ) → InRuns (map B.run one.now) n ↔ InRuns (map B.run other.now) n) }
+{
+    is_inside(one, other) && is_inside(other, one)
+}
+
 /// Whether one of the blocks has the item.
 pub(crate) fn has_item<B: Block>(blocks: &[B], item: B::Item) -> bool
     requires { AreMaximal (map B.run blocks.now) }
