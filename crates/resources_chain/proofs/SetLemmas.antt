@@ -1,5 +1,5 @@
 -- Sets of numbers, by their maximal runs.
-use Rattle.std.proofs.Common.{◌≡◌, ℕ, ◌+◌, ◌<◌, ◌≤◌, ◌⊎◌, ◌↔◌, Bool, IsTrue, length, map, nat_eq, true, false, List, [], ◌∷◌, ◌++◌, inl, inr, refl, sym, ap, ◌∙◌, subst, le_refl, arith}
+use Rattle.std.proofs.Common.{◌≡◌, ℕ, ◌+◌, ◌<◌, ◌≤◌, ◌⊎◌, ◌↔◌, Bool, IsTrue, length, map, nat_eq, List, [], ◌∷◌, ◌++◌, inl, inr, refl, sym, ap, ◌∙◌, subst, le_refl, arith}
 use Rattle.std.proofs.Common.{eq-eqb}
 use Rattle.std.proofs.lemmas.Bool.{eqb-true}
 use Rattle.std.proofs.lemmas.List.{map-append}
@@ -95,21 +95,24 @@ same_told_at {s} {t} {a} told e q m k h = same_told told s t m k h ∙ ap (λ (x
 pub in_append : (a b : List Run) (n : ℕ) → InRuns (a ++ b) n ↔ InEither a b n
 in_append [] b n = (λ i. inr i, λ i. elim i [ inl j ↦ absurd j | inr j ↦ j ])
 in_append (r ∷ a) b n =
-    let h = in_append a b n in
-    (λ i. elim i [
-      | inl j ↦ inl (inl j)
-      | inr j ↦ elim (h.0 j) [ inl k ↦ inl (inr k) | inr k ↦ inr k ]
-    ], λ i. elim i [
-      | inl j ↦ elim j [ inl k ↦ inl k | inr k ↦ inr (h.1 (inl k)) ]
-      | inr j ↦ inr (h.1 (inr j))
-    ])
+    let h = in_append a b n in (
+      λ i. elim i [
+        | inl j ↦ inl (inl j)
+        | inr j ↦ elim (h.0 j) [ inl k ↦ inl (inr k) | inr k ↦ inr k ]
+      ],
+      λ i. elim i [
+        | inl j ↦ elim j [ inl k ↦ inl k | inr k ↦ inr (h.1 (inl k)) ]
+        | inr j ↦ inr (h.1 (inr j))
+      ],
+    )
 
 -- No numbers, no blocks.
 pub none_told : {A : Type 0} (f : A → Run) (xs : List A) (runs : List Run) (told : Bool) → map f xs ≡ runs → AreMaximal (map f xs) → told ≡ nat_eq (length xs) 0 → IsTrue told ↔ ((n : ℕ) → InRuns runs n → ⊥)
 none_told f [] runs told e m t = (λ h n i. subst (λ (s : List Run). InRuns s n) (sym e) i, λ h. t ∙ eq-eqb 0 0 refl)
-none_told f (x ∷ xs) runs told e m t =
-    (λ h. absurd (let none : length (x ∷ xs) ≡ 0 = eqb-true (length (x ∷ xs)) 0 (sym t ∙ h) in omega arith),
-     λ h. absurd (h (f x).first (subst (λ (s : List Run). InRuns s (f x).first) e (inl (le_refl _, m.0)))))
+none_told f (x ∷ xs) runs told e m t = (
+  λ h. absurd (let none : length (x ∷ xs) ≡ 0 = eqb-true (length (x ∷ xs)) 0 (sym t ∙ h) in omega arith),
+  λ h. absurd (h (f x).first (subst (λ (s : List Run). InRuns s (f x).first) e (inl (le_refl _, m.0)))),
+)
 
 -- Runs of the blocks of two lists, one behind the other, are the union.
 pub runs_of_either : {A : Type 0} {all : List A} {a b c : List Run} (f : A → Run) (xs ys : List A) → IsRunsOf (InRuns (map f all)) c → all ≡ xs ++ ys → map f xs ≡ a → map f ys ≡ b → IsRunsOf (InEither a b) c

@@ -1,10 +1,10 @@
 -- The steps of the walks over lists of runs.
-use Rattle.std.proofs.Common.{◌≡◌, ℕ, ◌+◌, ◌<◌, ◌≤◌, ◌⊎◌, ◌↔◌, List, [], ◌∷◌, ◌++◌, length, map, max, min, true, false, IsTrue, inl, inr, refl, sym, ap, ◌∙◌, subst, le_refl, arith}
+use Rattle.std.proofs.Common.{◌≡◌, ℕ, ◌+◌, ◌<◌, ◌≤◌, ◌⊎◌, ◌↔◌, List, [], ◌∷◌, ◌++◌, length, map, max, true, false, IsTrue, inl, inr, refl, sym, ap, ◌∙◌, subst, le_refl, arith}
 use Rattle.std.proofs.lemmas.List.{map-append}
 use Rattle.resources_chain.specs.Sets.{Run, InRun, InRuns, StandsApart, AreMaximal, IsRunsOf, Touch, InBoth, InFirstOnly, IsInside}
 use Rattle.resources_chain.specs.Walks.{BeginBy, AreAscending, FirstReaches, Adds, AddsSet, SameFrom}
 use Rattle.resources_chain.proofs.RunLemmas.{le_or_lt}
-use Rattle.resources_chain.proofs.SetLemmas.{run_decides, past_gap, least}
+use Rattle.resources_chain.proofs.SetLemmas.{past_gap, least}
 
 -- No elements, no runs.
 pub no_runs : {A : Type 0} (f : A → Run) (xs : List A) → length xs ≡ 0 → map f xs ≡ []
@@ -50,14 +50,16 @@ snoc_begin (s ∷ rs) r k b = let h = snoc_begin rs r k b.1 in ((b.0, h.0), h.1)
 in_snoc : (rs : List Run) (r : Run) (n : ℕ) → InRuns (rs ++ r ∷ []) n ↔ (InRuns rs n ⊎ InRun r n)
 in_snoc [] r n = (λ i. elim i [ inl j ↦ inr j | inr j ↦ absurd j ], λ i. elim i [ inl j ↦ absurd j | inr j ↦ inl j ])
 in_snoc (s ∷ rs) r n =
-    let h = in_snoc rs r n in
-    (λ i. elim i [
-      | inl j ↦ inl (inl j)
-      | inr j ↦ elim (h.0 j) [ inl k ↦ inl (inr k) | inr k ↦ inr k ]
-    ], λ i. elim i [
-      | inl j ↦ elim j [ inl k ↦ inl k | inr k ↦ inr (h.1 (inl k)) ]
-      | inr j ↦ inr (h.1 (inr j))
-    ])
+    let h = in_snoc rs r n in (
+      λ i. elim i [
+        | inl j ↦ inl (inl j)
+        | inr j ↦ elim (h.0 j) [ inl k ↦ inl (inr k) | inr k ↦ inr k ]
+      ],
+      λ i. elim i [
+        | inl j ↦ elim j [ inl k ↦ inl k | inr k ↦ inr (h.1 (inl k)) ]
+        | inr j ↦ inr (h.1 (inr j))
+      ],
+    )
 
 apart_snoc : (k : ℕ) (rs : List Run) (r : Run) → StandsApart k rs → k + 1 < r.first → StandsApart k (rs ++ r ∷ [])
 apart_snoc k [] r a h = (h, tt)
@@ -98,13 +100,16 @@ add_joined front l r j m b p same =
     let high : l.first ≤ j.first = elim ((same j.first).0 (le_refl _, p)) [ inl i ↦ i.0 | inr i ↦ let x : r.first ≤ j.first = i.0 in omega arith ] in
     record {
       maximal = maximal_snoc front j parts.0 (end_mono front l.first j.first parts.1 high) p;
-      same = λ n. (λ i. elim ((in_snoc front j n).0 i) [
-        | inl k ↦ inl ((in_snoc front l n).1 (inl k))
-        | inr k ↦ elim ((same n).0 k) [ inl x ↦ inl ((in_snoc front l n).1 (inr x)) | inr x ↦ inr x ]
-      ], λ i. (in_snoc front j n).1 (elim i [
-        | inl k ↦ elim ((in_snoc front l n).0 k) [ inl x ↦ inl x | inr x ↦ inr ((same n).1 (inl x)) ]
-        | inr k ↦ inr ((same n).1 (inr k))
-      ]));
+      same = λ n. (
+        λ i. elim ((in_snoc front j n).0 i) [
+          | inl k ↦ inl ((in_snoc front l n).1 (inl k))
+          | inr k ↦ elim ((same n).0 k) [ inl x ↦ inl ((in_snoc front l n).1 (inr x)) | inr x ↦ inr x ]
+        ],
+        λ i. (in_snoc front j n).1 (elim i [
+          | inl k ↦ elim ((in_snoc front l n).0 k) [ inl x ↦ inl x | inr x ↦ inr ((same n).1 (inl x)) ]
+          | inr k ↦ inr ((same n).1 (inr k))
+        ]),
+      );
       order = begin_snoc front j r.first begins.0 (omega arith);
     }
 
@@ -153,13 +158,16 @@ before_first f rs n m h i = omega (arith, least f rs n m i)
 pub outside_ends : {old new next : List Run} {block piece f : Run} {taken behind : List Run} {low high : ℕ} → Outside old new block piece taken (f ∷ behind) → AddsSet new next (λ n. InRun piece n × (n < low)) → low ≡ f.first → piece.last ≤ high → high ≡ f.last → AddsSet old next (λ n. InRun block n × ¬ (InRuns taken n))
 outside_ends {f = f} {behind = behind} o a first h last = record {
   maximal = a.maximal;
-  same = λ n. (λ i. elim ((a.same n).0 i) [
-    | inl j ↦ (o.same n).0 (inl j)
-    | inr j ↦ (o.same n).0 (inr (j.0, before_first f behind n o.left.maximal (omega (arith, j.1))))
-  ], λ i. (a.same n).1 (elim ((o.same n).1 i) [
-    | inl j ↦ inl j
-    | inr j ↦ elim (le_or_lt f.first n) [ inl low ↦ absurd (j.1 (inl (low, omega (arith, j.0.1)))) | inr before ↦ inr (j.0, omega arith) ]
-  ]));
+  same = λ n. (
+    λ i. elim ((a.same n).0 i) [
+      | inl j ↦ (o.same n).0 (inl j)
+      | inr j ↦ (o.same n).0 (inr (j.0, before_first f behind n o.left.maximal (omega (arith, j.1))))
+    ],
+    λ i. (a.same n).1 (elim ((o.same n).1 i) [
+      | inl j ↦ inl j
+      | inr j ↦ elim (le_or_lt f.first n) [ inl low ↦ absurd (j.1 (inl (low, omega (arith, j.0.1)))) | inr before ↦ inr (j.0, omega arith) ]
+    ]),
+  );
 }
 
 -- The piece goes on behind the first of the runs.
@@ -171,22 +179,25 @@ outside_goes_on {block = block} {piece} {part} {f} {behind = behind} o a below f
       maximal = a.maximal;
       below = λ n i. elim ((a.same n).0 i) [ inl j ↦ omega (arith, o.below n j) | inr j ↦ omega (arith, j.1) ];
       ends = omega arith;
-      same = λ n. (λ i. elim i [
-        | inl j ↦ elim ((a.same n).0 j) [
-          | inl k ↦ (o.same n).0 (inl k)
-          | inr k ↦ (o.same n).0 (inr (k.0, before_first f behind n o.left.maximal (omega (arith, k.1))))
-        ]
-        | inr j ↦ (o.same n).0 (inr ((omega (arith, j.0.0), omega (arith, j.0.1)), λ w. elim w [ inl x ↦ omega (arith, x.1, j.0.0) | inr x ↦ j.1 x ]))
-      ], λ i. elim ((o.same n).1 i) [
-        | inl j ↦ inl ((a.same n).1 (inl j))
-        | inr j ↦ elim (le_or_lt f.first n) [
-          | inl low ↦ elim (le_or_lt n f.last) [
-            | inl within ↦ absurd (j.1 (inl (low, within)))
-            | inr behind_it ↦ inr ((omega (arith, j.0.0), omega (arith, j.0.1)), λ w. j.1 (inr w))
+      same = λ n. (
+        λ i. elim i [
+          | inl j ↦ elim ((a.same n).0 j) [
+            | inl k ↦ (o.same n).0 (inl k)
+            | inr k ↦ (o.same n).0 (inr (k.0, before_first f behind n o.left.maximal (omega (arith, k.1))))
           ]
-          | inr before ↦ inl ((a.same n).1 (inr (j.0, omega arith)))
-        ]
-      ]);
+          | inr j ↦ (o.same n).0 (inr ((omega (arith, j.0.0), omega (arith, j.0.1)), λ w. elim w [ inl x ↦ omega (arith, x.1, j.0.0) | inr x ↦ j.1 x ]))
+        ],
+        λ i. elim ((o.same n).1 i) [
+          | inl j ↦ inl ((a.same n).1 (inl j))
+          | inr j ↦ elim (le_or_lt f.first n) [
+            | inl low ↦ elim (le_or_lt n f.last) [
+              | inl within ↦ absurd (j.1 (inl (low, within)))
+              | inr behind_it ↦ inr ((omega (arith, j.0.0), omega (arith, j.0.1)), λ w. j.1 (inr w))
+            ]
+            | inr before ↦ inl ((a.same n).1 (inr (j.0, omega arith)))
+          ]
+        ],
+      );
       left = skip_first o.left (omega arith);
     }
 
@@ -194,8 +205,10 @@ outside_goes_on {block = block} {piece} {part} {f} {behind = behind} o a below f
 pub outside_rest : {old new next : List Run} {block piece : Run} {taken : List Run} → Outside old new block piece taken [] → Adds new next piece → AddsSet old next (λ n. InRun block n × ¬ (InRuns taken n))
 outside_rest o a = record {
   maximal = a.maximal;
-  same = λ n. (λ i. (o.same n).0 (elim ((a.same n).0 i) [ inl j ↦ inl j | inr j ↦ inr (j, λ w. w) ]),
-    λ i. (a.same n).1 (elim ((o.same n).1 i) [ inl j ↦ inl j | inr j ↦ inr j.0 ]));
+  same = λ n. (
+    λ i. (o.same n).0 (elim ((a.same n).0 i) [ inl j ↦ inl j | inr j ↦ inr (j, λ w. w) ]),
+    λ i. (a.same n).1 (elim ((o.same n).1 i) [ inl j ↦ inl j | inr j ↦ inr j.0 ]),
+  );
 }
 
 -- What two lists have found of their difference, and what is left of both.
@@ -229,16 +242,19 @@ differs_step {behind = behind} {f = f} d s l =
         | inl k ↦ d.below x y k (inr j)
         | inr k ↦ omega (arith, k.0.1, past_gap f.last behind y d.rest_maximal.1 j)
       ];
-      same = λ n. (λ i. (d.same n).0 (elim i [
-        | inl j ↦ elim ((s.same n).0 j) [ inl k ↦ inl k | inr k ↦ inr (inl k.0, k.1) ]
-        | inr j ↦ inr (inr j.0, λ w. j.1 ((l.same n (omega (arith, past_gap f.last behind n d.rest_maximal.1 j.0))).1 w))
-      ]), λ i. elim ((d.same n).1 i) [
-        | inl j ↦ inl ((s.same n).1 (inl j))
-        | inr j ↦ elim j.0 [
-          | inl k ↦ inl ((s.same n).1 (inr (k, j.1)))
-          | inr k ↦ inr (k, λ w. j.1 ((l.same n (omega (arith, past_gap f.last behind n d.rest_maximal.1 k))).0 w))
-        ]
-      ]);
+      same = λ n. (
+        λ i. (d.same n).0 (elim i [
+          | inl j ↦ elim ((s.same n).0 j) [ inl k ↦ inl k | inr k ↦ inr (inl k.0, k.1) ]
+          | inr j ↦ inr (inr j.0, λ w. j.1 ((l.same n (omega (arith, past_gap f.last behind n d.rest_maximal.1 j.0))).1 w))
+        ]),
+        λ i. elim ((d.same n).1 i) [
+          | inl j ↦ inl ((s.same n).1 (inl j))
+          | inr j ↦ elim j.0 [
+            | inl k ↦ inl ((s.same n).1 (inr (k, j.1)))
+            | inr k ↦ inr (k, λ w. j.1 ((l.same n (omega (arith, past_gap f.last behind n d.rest_maximal.1 k))).0 w))
+          ]
+        ],
+      );
     }
 
 pub differs_end : {a b found taken : List Run} → Differs a b found [] taken → IsRunsOf (InFirstOnly a b) found
@@ -284,19 +300,22 @@ meets_left {left = left} {right} {x} {y} m s h =
         | inl f ↦ m.below p q f (inr j) k
         | inr f ↦ omega (arith, f.0.1, past_gap x.last left q m.left_maximal.1 j)
       ];
-      same = λ n. (λ i. (m.same n).0 (elim i [
-        | inl j ↦ elim ((s.same n).0 j) [ inl k ↦ inl k | inr k ↦ inr (inl k.0, inl k.1) ]
-        | inr j ↦ inr (inr j.0, j.1)
-      ]), λ i. elim ((m.same n).1 i) [
-        | inl j ↦ inl ((s.same n).1 (inl j))
-        | inr j ↦ elim j.0 [
-          | inl k ↦ elim j.1 [
-            | inl w ↦ inl ((s.same n).1 (inr (k, w)))
-            | inr w ↦ absurd (omega (arith, k.1, past_gap y.last right n m.right_maximal.1 w))
+      same = λ n. (
+        λ i. (m.same n).0 (elim i [
+          | inl j ↦ elim ((s.same n).0 j) [ inl k ↦ inl k | inr k ↦ inr (inl k.0, inl k.1) ]
+          | inr j ↦ inr (inr j.0, j.1)
+        ]),
+        λ i. elim ((m.same n).1 i) [
+          | inl j ↦ inl ((s.same n).1 (inl j))
+          | inr j ↦ elim j.0 [
+            | inl k ↦ elim j.1 [
+              | inl w ↦ inl ((s.same n).1 (inr (k, w)))
+              | inr w ↦ absurd (omega (arith, k.1, past_gap y.last right n m.right_maximal.1 w))
+            ]
+            | inr k ↦ inr (k, j.1)
           ]
-          | inr k ↦ inr (k, j.1)
-        ]
-      ]);
+        ],
+      );
     }
 
 -- The run on the right ends first.
@@ -321,22 +340,26 @@ pub in_first : (f y : Run) (ys : List Run) → f.first ≤ f.last → AreMaximal
 in_first f y ys p m reach inside n i =
     let low : y.first ≤ f.first = least y ys f.first m (inside f.first (le_refl _, p)) in
     let here : f.first ≤ n = i.0 in
-    let end : n ≤ f.last = i.1 in
-    (omega arith, elim (le_or_lt n y.last) [
-      | inl h ↦ h
-      | inr h ↦ absurd (elim (inside (y.last + 1) (omega arith, omega arith)) [
-        | inl k ↦ omega (arith, k.1)
-        | inr k ↦ omega (arith, past_gap y.last ys (y.last + 1) m.1 k)
-      ])
-    ])
+    let end : n ≤ f.last = i.1 in (
+      omega arith,
+      elim (le_or_lt n y.last) [
+        | inl h ↦ h
+        | inr h ↦ absurd (elim (inside (y.last + 1) (omega arith, omega arith)) [
+          | inl k ↦ omega (arith, k.1)
+          | inr k ↦ omega (arith, past_gap y.last ys (y.last + 1) m.1 k)
+        ])
+      ],
+    )
 
 -- A number that the first run reaches is in the list exactly where it is in that run.
 pub at_first : {k : ℕ} {R : Type 0} {old left : List Run} {y : Run} → SameFrom k old (y ∷ left) → k ≤ y.last → (R ↔ InRun y k) → R ↔ InRuns old k
-at_first {k} {left = left} {y} l reach told =
-    (λ r. (l.same k (le_refl _)).0 (inl (told.0 r)), λ i. told.1 (elim ((l.same k (le_refl _)).1 i) [
-      | inl j ↦ j
-      | inr j ↦ absurd (omega (arith, past_gap y.last left k l.maximal.1 j))
-    ]))
+at_first {k} {left = left} {y} l reach told = (
+  λ r. (l.same k (le_refl _)).0 (inl (told.0 r)),
+  λ i. told.1 (elim ((l.same k (le_refl _)).1 i) [
+    | inl j ↦ j
+    | inr j ↦ absurd (omega (arith, past_gap y.last left k l.maximal.1 j))
+  ]),
+)
 
 -- The first run isn't inside the one that reaches it.
 pub inside_not : {k : ℕ} {a b behind others left : List Run} {f y : Run} → Insides a b (f ∷ behind) others → SameFrom k others (y ∷ left) → k ≤ y.last → k ≡ f.first → (IsTrue false ↔ ((n : ℕ) → InRun f n → InRun y n)) → IsTrue false ↔ IsInside a b
@@ -350,10 +373,13 @@ inside_step {behind = behind} {f = f} s l e within =
     record {
       rest_maximal = s.rest_maximal.2;
       others_maximal = l.maximal;
-      same = (λ h. s.same.0 (λ n i. elim i [
-        | inl j ↦ (l.same n (omega (arith, j.0))).0 (inl (within n j))
-        | inr j ↦ (l.same n (omega (arith, past_gap f.last behind n s.rest_maximal.1 j))).0 (h n j)
-      ]), λ h n i. (l.same n (omega (arith, past_gap f.last behind n s.rest_maximal.1 i))).1 (s.same.1 h n (inr i)));
+      same = (
+        λ h. s.same.0 (λ n i. elim i [
+          | inl j ↦ (l.same n (omega (arith, j.0))).0 (inl (within n j))
+          | inr j ↦ (l.same n (omega (arith, past_gap f.last behind n s.rest_maximal.1 j))).0 (h n j)
+        ]),
+        λ h n i. (l.same n (omega (arith, past_gap f.last behind n s.rest_maximal.1 i))).1 (s.same.1 h n (inr i)),
+      );
     }
 
 -- Where blocks in the order of their beginnings are joined: what is found, and what is left.
@@ -385,13 +411,16 @@ joins_step {next = next} {behind} {f} j s =
       maximal = s.maximal;
       ascending = o.0;
       order = o.1;
-      same = λ n. (λ i. (j.same n).0 (elim i [
-        | inl k ↦ elim ((s.same n).0 k) [ inl x ↦ inl x | inr x ↦ inr (inl x) ]
-        | inr k ↦ inr (inr k)
-      ]), λ i. elim ((j.same n).1 i) [
-        | inl k ↦ inl ((s.same n).1 (inl k))
-        | inr k ↦ elim k [ inl x ↦ inl ((s.same n).1 (inr x)) | inr x ↦ inr x ]
-      ]);
+      same = λ n. (
+        λ i. (j.same n).0 (elim i [
+          | inl k ↦ elim ((s.same n).0 k) [ inl x ↦ inl x | inr x ↦ inr (inl x) ]
+          | inr k ↦ inr (inr k)
+        ]),
+        λ i. elim ((j.same n).1 i) [
+          | inl k ↦ inl ((s.same n).1 (inl k))
+          | inr k ↦ elim k [ inl x ↦ inl ((s.same n).1 (inr x)) | inr x ↦ inr x ]
+        ],
+      );
     }
 
 pub joins_end : {all found : List Run} → Joins all found [] → IsRunsOf (InRuns all) found

@@ -30,16 +30,17 @@ runs_eq_tells [] [] = (λ t. refl, λ e. refl)
 runs_eq_tells [] (s ∷ ss) = (λ t. absurd cc, λ e. absurd cc)
 runs_eq_tells (r ∷ rs) [] = (λ t. absurd cc, λ e. absurd cc)
 runs_eq_tells (r ∷ rs) (s ∷ ss) =
-    let three = all_three (r.first == s.first) (r.last == s.last) (runs_eq rs ss) in
-    (λ t.
-      let parts = three.0 t in
-      let heads : r ≡ s = run_is (eqb-true r.first s.first parts.0) (eqb-true r.last s.last parts.1) in
-      let tails : rs ≡ ss = (runs_eq_tells rs ss).0 parts.2 in
-      cc,
-     λ e.
-      let heads : r ≡ s = cc in
-      let tails : rs ≡ ss = cc in
-      three.1 (eq-eqb r.first s.first (ap (λ (x : Run). x.first) heads), eq-eqb r.last s.last (ap (λ (x : Run). x.last) heads), (runs_eq_tells rs ss).1 tails))
+    let three = all_three (r.first == s.first) (r.last == s.last) (runs_eq rs ss) in (
+      λ t.
+          let parts = three.0 t in
+          let heads : r ≡ s = run_is (eqb-true r.first s.first parts.0) (eqb-true r.last s.last parts.1) in
+          let tails : rs ≡ ss = (runs_eq_tells rs ss).0 parts.2 in
+          cc,
+      λ e.
+          let heads : r ≡ s = cc in
+          let tails : rs ≡ ss = cc in
+          three.1 (eq-eqb r.first s.first (ap (λ (x : Run). x.first) heads), eq-eqb r.last s.last (ap (λ (x : Run). x.last) heads), (runs_eq_tells rs ss).1 tails),
+    )
 
 -- Tests that tell one thing give one answer.
 pub one_answer : {P : Type 0} (a b : Bool) → (IsTrue a ↔ P) → (IsTrue b ↔ P) → a ≡ b
@@ -53,6 +54,6 @@ runs_eq_equiv = record {
   refl = λ x. (runs_eq_tells x x).1 refl;
   symm = λ x y. one_answer {P = x ≡ y} (runs_eq x y) (runs_eq y x) (runs_eq_tells x y) (λ t. sym ((runs_eq_tells y x).0 t), λ e. (runs_eq_tells y x).1 (sym e));
   congr = λ x y z t.
-    let e : x ≡ y = (runs_eq_tells x y).0 t in
-    one_answer {P = x ≡ z} (runs_eq x z) (runs_eq y z) (runs_eq_tells x z) (λ h. e ∙ (runs_eq_tells y z).0 h, λ h. (runs_eq_tells y z).1 (sym e ∙ h));
+      let e : x ≡ y = (runs_eq_tells x y).0 t in
+      one_answer {P = x ≡ z} (runs_eq x z) (runs_eq y z) (runs_eq_tells x z) (λ h. e ∙ (runs_eq_tells y z).0 h, λ h. (runs_eq_tells y z).1 (sym e ∙ h));
 }

@@ -82,7 +82,8 @@ pub trait Block: Copy {
     final fn is_encompassed(&self, other: &Self) -> bool
         ensures { IsTrue result ↔ ((n : ℕ) → InRun (run self.now) n → InRun (run other.now) n) }
     {
-        !comes_before::<Self>(self.min(), other.min()) && !comes_before::<Self>(other.max(), self.max())
+        !comes_before::<Self>(self.min(), other.min())
+            && !comes_before::<Self>(other.max(), self.max())
     }
 
     /// The block of all items of both where the two overlap or touch.

@@ -35,9 +35,7 @@ impl<'a, B: Block> Chain<'a, B> {
     pub fn empty() -> Self
         ensures { IsRunsOf (λ n. ⊥) result }
     {
-        Chain {
-            blocks: &[],
-        }
+        Chain { blocks: &[] }
     }
 
     /// The blocks.
@@ -70,7 +68,11 @@ impl<'a, B: Block> Chain<'a, B> {
     }
 
     /// What is left of the chain when it is trimmed to the other; `None` where nothing is trimmed.
-    pub fn trim(&self, alloc: Global, other: &Chain<'_, B>) -> Result<Option<OwnedChain<B>>, AllocError>
+    pub fn trim(
+        &self,
+        alloc: Global,
+        other: &Chain<'_, B>,
+    ) -> Result<Option<OwnedChain<B>>, AllocError>
         ensures { IfOk result (λ t. MatchOption t (IsInside self.now other.now) (λ c. ¬ (IsInside self.now other.now) × IsRunsOf (InBoth self.now other.now) c)) }
     {
         if self.is_encompassed(other) {
@@ -80,7 +82,11 @@ impl<'a, B: Block> Chain<'a, B> {
     }
 
     /// The items that aren't in the other chain.
-    pub fn difference(&self, alloc: Global, other: &Chain<'_, B>) -> Result<OwnedChain<B>, AllocError>
+    pub fn difference(
+        &self,
+        alloc: Global,
+        other: &Chain<'_, B>,
+    ) -> Result<OwnedChain<B>, AllocError>
         ensures { IfOk result (λ c. IsRunsOf (InFirstOnly self.now other.now) c) }
     {
         Ok(OwnedChain {
@@ -89,7 +95,11 @@ impl<'a, B: Block> Chain<'a, B> {
     }
 
     /// The items of both chains.
-    pub fn intersection(&self, alloc: Global, other: &Chain<'_, B>) -> Result<OwnedChain<B>, AllocError>
+    pub fn intersection(
+        &self,
+        alloc: Global,
+        other: &Chain<'_, B>,
+    ) -> Result<OwnedChain<B>, AllocError>
         ensures { IfOk result (λ c. IsRunsOf (InBoth self.now other.now) c) }
     {
         Ok(OwnedChain {
@@ -163,7 +173,10 @@ impl<B: Block> OwnedChain<B> {
     }
 
     /// The chain of all items of the blocks that come, in any order.
-    pub fn from_iter<I: Iterator<Item = B> + Drop>(alloc: Global, blocks: I) -> Result<Self, AllocError>
+    pub fn from_iter<I: Iterator<Item = B> + Drop>(
+        alloc: Global,
+        blocks: I,
+    ) -> Result<Self, AllocError>
         requires can { I.can_next blocks }
         requires ends { IsFinite (I.remaining blocks) }
         ensures { IfOk result (λ c. (came : List B) × DrainsIf I.next_gives ⊤ blocks came × IsRunsOf (InRuns (map B.run came)) c) }
@@ -177,9 +190,7 @@ impl<B: Block> OwnedChain<B> {
         requires { AreMaximal (map B.run blocks.items) }
         ensures { IsRunsOf (InRuns (map B.run blocks.items)) result }
     {
-        OwnedChain {
-            blocks,
-        }
+        OwnedChain { blocks }
     }
 
     /// The chain, borrowed.
@@ -247,7 +258,10 @@ impl<B: Block> SharedChain<B> {
     }
 
     /// The chain of all items of the blocks that come, in any order.
-    pub fn from_iter<I: Iterator<Item = B> + Drop>(alloc: Global, blocks: I) -> Result<Self, AllocError>
+    pub fn from_iter<I: Iterator<Item = B> + Drop>(
+        alloc: Global,
+        blocks: I,
+    ) -> Result<Self, AllocError>
         requires can { I.can_next blocks }
         requires ends { IsFinite (I.remaining blocks) }
         ensures { IfOk result (λ c. (came : List B) × DrainsIf I.next_gives ⊤ blocks came × IsRunsOf (InRuns (map B.run came)) c) }

@@ -108,7 +108,11 @@ fn add_common<B: Block>(blocks: &mut Vec<B>, one: &B, other: &B) -> Result<(), A
 }
 
 /// Adds the items of a block that aren't in `taken`; what is left of `taken` behind the block.
-fn add_outside<'a, B: Block>(blocks: &mut Vec<B>, block: B, taken: &'a [B]) -> Result<&'a [B], AllocError>
+fn add_outside<'a, B: Block>(
+    blocks: &mut Vec<B>,
+    block: B,
+    taken: &'a [B],
+) -> Result<&'a [B], AllocError>
     requires maximal { AreMaximal (map B.run blocks.old.items) }
     requires taken_maximal { AreMaximal (map B.run taken.now) }
     requires below { (n : ℕ) → InRuns (map B.run blocks.old.items) n → n < (B.run block).first }
@@ -130,7 +134,11 @@ fn add_outside<'a, B: Block>(blocks: &mut Vec<B>, block: B, taken: &'a [B]) -> R
 }
 
 /// The items of the first list that aren't in the second.
-pub(crate) fn difference<B: Block>(alloc: Global, blocks: &[B], taken: &[B]) -> Result<Vec<B>, AllocError>
+pub(crate) fn difference<B: Block>(
+    alloc: Global,
+    blocks: &[B],
+    taken: &[B],
+) -> Result<Vec<B>, AllocError>
     requires maximal { AreMaximal (map B.run blocks.now) }
     requires taken_maximal { AreMaximal (map B.run taken.now) }
     ensures { IfOk result (λ v. IsRunsOf (InFirstOnly (map B.run blocks.now) (map B.run taken.now)) (map B.run v.items)) }
@@ -146,7 +154,11 @@ pub(crate) fn difference<B: Block>(alloc: Global, blocks: &[B], taken: &[B]) -> 
 }
 
 /// The items of both lists.
-pub(crate) fn intersection<B: Block>(alloc: Global, one: &[B], other: &[B]) -> Result<Vec<B>, AllocError>
+pub(crate) fn intersection<B: Block>(
+    alloc: Global,
+    one: &[B],
+    other: &[B],
+) -> Result<Vec<B>, AllocError>
     requires one_maximal { AreMaximal (map B.run one.now) }
     requires other_maximal { AreMaximal (map B.run other.now) }
     ensures { IfOk result (λ v. IsRunsOf (InBoth (map B.run one.now) (map B.run other.now)) (map B.run v.items)) }

@@ -1,4 +1,5 @@
-ghost use Rattle.std.specs.Prelude.{◌≡◌, ◌<◌, ◌≤◌};
+ghost use Rattle.std.specs.Prelude.{◌≡◌, ◌≤◌, refl};
+ghost use Rattle.resources_chain.specs.Items.{made_alike};
 ghost use Rattle.std.specs.Range.{range_inclusive_start, range_inclusive_end};
 
 use crate::block::Block;
@@ -36,7 +37,11 @@ impl Block for Octets {
 
     ghost run = { λ b. record { first = b.min.value; last = b.max.value } };
 
-    fn new(bounds: RangeInclusive<Octet>) -> Self {
+    fn new(bounds: RangeInclusive<Octet>) -> Self
+        requires { (range_inclusive_start bounds).value ≤ (range_inclusive_end bounds).value }
+        ensures first { result.min.value ≡ (range_inclusive_start bounds).value }
+        ensures last { result.max.value ≡ (range_inclusive_end bounds).value }
+    {
         let (min, max) = bounds.into_inner();
         Octets { min, max }
     }
@@ -65,9 +70,9 @@ impl Block for Octets {
 
     ghost item_within = { λ x. x.in_range };
 
-    ghost item_is_its_place = { λ x y e. ? };
+    ghost item_is_its_place = { λ x y e. made_alike (λ v h. record { value = v; in_range = h }) x.value y.value x.in_range y.in_range e };
 
-    ghost item_order = { λ x y. ? };
+    ghost item_order = { λ x y. refl };
 
     ghost run_within = { λ b. (b.ordered, b.max.in_range) };
 }

@@ -1,4 +1,4 @@
-use Rattle.std.proofs.Common.{List, ◌++◌, map, ap, ◌∙◌}
+use Rattle.std.proofs.Common.{◌++◌, map, ap, ◌∙◌}
 use Rattle.std.proofs.lemmas.Result.{IfOk-weaker}
 use Rattle.resources_chain.specs.Sets.{InRuns, IsRunsOf, InEither}
 use Rattle.resources_chain.proofs.SetLemmas.{runs_of_either}
