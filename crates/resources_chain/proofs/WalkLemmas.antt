@@ -1,10 +1,12 @@
 -- The steps of the walks over lists of runs.
-use Rattle.std.proofs.Common.{◌≡◌, ℕ, ◌+◌, ◌<◌, ◌≤◌, ◌⊎◌, ◌↔◌, List, [], ◌∷◌, ◌++◌, length, map, max, true, false, IsTrue, inl, inr, refl, sym, ap, ◌∙◌, subst, le_refl, arith}
-use Rattle.std.proofs.lemmas.List.{map-append}
+use Rattle.std.proofs.Common.{◌≡◌, ℕ, ◌+◌, ◌<◌, ◌≤◌, ◌⊎◌, ◌↔◌, List, [], ◌∷◌, ◌++◌, length, map, take, max, ◌-◌, nat_eq, Bool, eq-eqb, append_assoc, append-nil, length-append, false, IsTrue, inl, inr, refl, sym, ap, ◌∙◌, subst, le_refl, arith}
+use Rattle.std.proofs.lemmas.List.{map-append, take-map, length-map}
+use Rattle.std.proofs.lemmas.Bool.{eqb-true}
+use Rattle.std.proofs.Math.Seq.{take-append_seam}
 use Rattle.resources_chain.specs.Sets.{Run, InRun, InRuns, StandsApart, AreMaximal, IsRunsOf, Touch, InBoth, InFirstOnly, IsInside}
-use Rattle.resources_chain.specs.Walks.{BeginBy, AreAscending, FirstReaches, Adds, AddsSet, SameFrom}
+use Rattle.resources_chain.specs.Walks.{BeginBy, AreAscending, FirstReaches, Adds, AddsSet, SameFrom, InsideUpTo, FirstOutside}
 use Rattle.resources_chain.proofs.RunLemmas.{le_or_lt}
-use Rattle.resources_chain.proofs.SetLemmas.{past_gap, least}
+use Rattle.resources_chain.proofs.SetLemmas.{past_gap, least, in_append}
 
 -- No elements, no runs.
 pub no_runs : {A : Type 0} (f : A → Run) (xs : List A) → length xs ≡ 0 → map f xs ≡ []
@@ -15,11 +17,9 @@ no_runs f (x ∷ xs) e = absurd (omega arith)
 pub snoc_runs : {A : Type 0} {all : List A} (f : A → Run) (xs : List A) (x : A) → all ≡ xs ++ x ∷ [] → map f all ≡ map f xs ++ f x ∷ []
 snoc_runs f xs x e = ap (map f) e ∙ map-append f xs (x ∷ [])
 
-pub holds : {P : Type 0} → P → IsTrue true ↔ P
-holds p = (λ t. p, λ q. refl)
-
-pub fails : {P : Type 0} → (P → ⊥) → IsTrue false ↔ P
-fails n = (λ t. absurd cc, λ p. absurd (n p))
+-- What is told not to hold doesn't.
+pub refuted : {P : Type 0} → (IsTrue false ↔ P) → P → ⊥
+refuted told p = let wrong : IsTrue false = told.1 p in absurd cc
 
 -- Each of the runs ends at least one number before this one.
 abbrev pub EndApart : List Run → ℕ → Type 0
@@ -260,37 +260,37 @@ differs_step {behind = behind} {f = f} d s l =
 pub differs_end : {a b found taken : List Run} → Differs a b found [] taken → IsRunsOf (InFirstOnly a b) found
 differs_end d = record { maximal = d.maximal; same = λ n. (λ i. (d.same n).0 (inl i), λ i. elim ((d.same n).1 i) [ inl j ↦ j | inr j ↦ absurd j.0 ]) }
 
--- What two lists have found of their intersection, and what is left of both.
-pub record Meets (a b found left right : List Run) : Type 0 where
+-- The set P, as what is found of it and what is left of two lists that have the rest of it in common.
+pub record Meets (P : ℕ → Type 0) (found left right : List Run) : Type 0 where
   pub maximal : AreMaximal found
   pub left_maximal : AreMaximal left
   pub right_maximal : AreMaximal right
   pub below : (m n : ℕ) → InRuns found m → InRuns left n → InRuns right n → m < n
-  pub same : (n : ℕ) → (InRuns found n ⊎ (InRuns left n × InRuns right n)) ↔ InBoth a b n
+  pub same : (n : ℕ) → (InRuns found n ⊎ (InRuns left n × InRuns right n)) ↔ P n
 
-pub meets_start : {a b : List Run} → AreMaximal a → AreMaximal b → Meets a b [] a b
-meets_start m k = record {
-  maximal = tt;
+pub meets_start : {found a b : List Run} → AreMaximal found → AreMaximal a → AreMaximal b → ((m n : ℕ) → InRuns found m → InRuns a n → InRuns b n → m < n) → Meets (λ n. InRuns found n ⊎ InBoth a b n) found a b
+meets_start f m k below = record {
+  maximal = f;
   left_maximal = m;
   right_maximal = k;
-  below = λ x y i. absurd i;
-  same = λ n. (λ i. elim i [ inl j ↦ absurd j | inr j ↦ j ], λ i. inr i);
+  below = below;
+  same = λ n. (λ i. i, λ i. i);
 }
 
-pub meets_at : {a b found left right s t : List Run} → Meets a b found left right → left ≡ s → right ≡ t → Meets a b found s t
-meets_at {a} {b} {found} {left} {right} {s} m e q = subst (λ (x : List Run). Meets a b found s x) q (subst (λ (x : List Run). Meets a b found x right) e m)
+pub meets_at : {P : ℕ → Type 0} {found left right s t : List Run} → Meets P found left right → left ≡ s → right ≡ t → Meets P found s t
+meets_at {P} {found} {left} {right} {s} m e q = subst (λ (x : List Run). Meets P found s x) q (subst (λ (x : List Run). Meets P found x right) e m)
 
-meets_swap : {a b found left right : List Run} → Meets a b found left right → Meets b a found right left
+meets_swap : {P : ℕ → Type 0} {found left right : List Run} → Meets P found left right → Meets P found right left
 meets_swap m = record {
   maximal = m.maximal;
   left_maximal = m.right_maximal;
   right_maximal = m.left_maximal;
   below = λ x y i j k. m.below x y i k j;
-  same = λ n. (λ i. let h = (m.same n).0 (elim i [ inl j ↦ inl j | inr j ↦ inr (j.1, j.0) ]) in (h.1, h.0), λ i. elim ((m.same n).1 (i.1, i.0)) [ inl j ↦ inl j | inr j ↦ inr (j.1, j.0) ]);
+  same = λ n. (λ i. (m.same n).0 (elim i [ inl j ↦ inl j | inr j ↦ inr (j.1, j.0) ]), λ i. elim ((m.same n).1 i) [ inl j ↦ inl j | inr j ↦ inr (j.1, j.0) ]);
 }
 
 -- The run on the left ends first.
-pub meets_left : {a b found next left right : List Run} {x y : Run} → Meets a b found (x ∷ left) (y ∷ right) → AddsSet found next (λ n. InRun x n × InRun y n) → x.last ≤ y.last → Meets a b next left (y ∷ right)
+pub meets_left : {P : ℕ → Type 0} {found next left right : List Run} {x y : Run} → Meets P found (x ∷ left) (y ∷ right) → AddsSet found next (λ n. InRun x n × InRun y n) → x.last ≤ y.last → Meets P next left (y ∷ right)
 meets_left {left = left} {right} {x} {y} m s h =
     record {
       maximal = s.maximal;
@@ -319,21 +319,18 @@ meets_left {left = left} {right} {x} {y} m s h =
     }
 
 -- The run on the right ends first.
-pub meets_right : {a b found next left right : List Run} {x y : Run} → Meets a b found (x ∷ left) (y ∷ right) → AddsSet found next (λ n. InRun x n × InRun y n) → y.last ≤ x.last → Meets a b next (x ∷ left) right
+pub meets_right : {P : ℕ → Type 0} {found next left right : List Run} {x y : Run} → Meets P found (x ∷ left) (y ∷ right) → AddsSet found next (λ n. InRun x n × InRun y n) → y.last ≤ x.last → Meets P next (x ∷ left) right
 meets_right m s h =
     meets_swap (meets_left (meets_swap m) (record { maximal = s.maximal; same = λ n. (λ i. elim ((s.same n).0 i) [ inl j ↦ inl j | inr j ↦ inr (j.1, j.0) ], λ i. (s.same n).1 (elim i [ inl j ↦ inl j | inr j ↦ inr (j.1, j.0) ])) }) h)
 
-pub meets_end : {a b found left right : List Run} → Meets a b found left right → ((n : ℕ) → InRuns left n → InRuns right n → ⊥) → IsRunsOf (InBoth a b) found
-meets_end m f = record { maximal = m.maximal; same = λ n. (λ i. (m.same n).0 (inl i), λ i. elim ((m.same n).1 i) [ inl j ↦ j | inr j ↦ absurd (f n j.0 j.1) ]) }
+pub meets_end : {found left right : List Run} (old a b : List Run) → Meets (λ n. InRuns old n ⊎ InBoth a b n) found left right → ((n : ℕ) → InRuns left n → InRuns right n → ⊥) → AddsSet old found (InBoth a b)
+meets_end old a b m f = record { maximal = m.maximal; same = λ n. (λ i. (m.same n).0 (inl i), λ i. elim ((m.same n).1 i) [ inl j ↦ j | inr j ↦ absurd (f n j.0 j.1) ]) }
 
--- A list is inside another exactly where what is left of it is inside what is left of the other.
-pub record Insides (a b rest others : List Run) : Type 0 where
-  pub rest_maximal : AreMaximal rest
-  pub others_maximal : AreMaximal others
-  pub same : IsInside rest others ↔ IsInside a b
-
-pub insides_at : {a b rest others s t : List Run} → Insides a b rest others → rest ≡ s → others ≡ t → Insides a b s t
-insides_at {a} {b} {rest} {others} {s} i e q = subst (λ (x : List Run). Insides a b s x) q (subst (λ (x : List Run). Insides a b x others) e i)
+-- What is added to nothing is the set.
+pub adds_to_none : {found old : List Run} {P : ℕ → Type 0} → AddsSet old found P → old ≡ [] → IsRunsOf P found
+adds_to_none {found} {old} {P} s e =
+    let t = subst (λ (x : List Run). AddsSet x found P) e s in
+    record { maximal = t.maximal; same = λ n. (λ i. elim ((t.same n).0 i) [ inl j ↦ absurd j | inr j ↦ j ], λ i. (t.same n).1 (inr i)) }
 
 -- A run that is inside a list, the first run of which reaches it, is inside that first one.
 pub in_first : (f y : Run) (ys : List Run) → f.first ≤ f.last → AreMaximal (y ∷ ys) → f.first ≤ y.last → ((n : ℕ) → InRun f n → InRuns (y ∷ ys) n) → (n : ℕ) → InRun f n → InRun y n
@@ -361,24 +358,123 @@ at_first {k} {left = left} {y} l reach told = (
   ]),
 )
 
--- The first run isn't inside the one that reaches it.
-pub inside_not : {k : ℕ} {a b behind others left : List Run} {f y : Run} → Insides a b (f ∷ behind) others → SameFrom k others (y ∷ left) → k ≤ y.last → k ≡ f.first → (IsTrue false ↔ ((n : ℕ) → InRun f n → InRun y n)) → IsTrue false ↔ IsInside a b
-inside_not {left = left} {f} {y} s l reach e told =
-    (λ t. absurd cc, λ inside. told.1 (in_first f y left s.rest_maximal.0 l.maximal (omega arith) (λ n i. (l.same n (omega (arith, i.0))).1 (s.same.1 inside n (inl i)))))
+apart_append : (k : ℕ) (f r : List Run) → StandsApart k (f ++ r) → StandsApart k f × StandsApart k r
+apart_append k [] r a = (tt, a)
+apart_append k (s ∷ f) r a = let h = apart_append k f r a.1 in ((a.0, h.0), h.1)
 
--- The first run is inside the one that reaches it.
-pub inside_step : {k : ℕ} {a b behind others left : List Run} {f y : Run} → Insides a b (f ∷ behind) others → SameFrom k others (y ∷ left) → k ≡ f.first → ((n : ℕ) → InRun f n → InRun y n) → Insides a b behind (y ∷ left)
-inside_step {behind = behind} {f = f} s l e within =
-    let whole : f.first ≤ f.last = s.rest_maximal.0 in
+-- The parts of maximal runs are maximal, and the numbers of the first part are below those of the second.
+pub maximal_append : (f r : List Run) → AreMaximal (f ++ r) → AreMaximal f × AreMaximal r × ((m n : ℕ) → InRuns f m → InRuns r n → m < n)
+maximal_append [] r m = (tt, m, λ x y i. absurd i)
+maximal_append (s ∷ f) r m =
+    let h = maximal_append f r m.2 in
+    let a = apart_append s.last f r m.1 in (
+      (m.0, a.0, h.0),
+      h.1,
+      λ x y i j. elim i [
+        | inl k ↦ omega (arith, k.1, past_gap s.last r y a.1 j)
+        | inr k ↦ h.2 x y k j
+      ],
+    )
+
+-- The three facts of `maximal_append`, for a list and what is left of it.
+pub parts_of : {a b rest left : List Run} → (u : InsideUpTo a b rest left) → AreMaximal u.front × AreMaximal rest × ((m n : ℕ) → InRuns u.front m → InRuns rest n → m < n)
+parts_of {rest = rest} u = maximal_append u.front rest (subst (λ (s : List Run). AreMaximal s) u.whole u.maximal)
+
+pub up_to_start : {a b : List Run} → AreMaximal a → AreMaximal b → InsideUpTo a b a b
+up_to_start m k = record { front = []; whole = refl; inside = λ n i. absurd i; maximal = m; left_maximal = k; same = λ n i. (λ j. j, λ j. j) }
+
+pub up_to_at : {a b rest left s t : List Run} → InsideUpTo a b rest left → rest ≡ s → left ≡ t → InsideUpTo a b s t
+up_to_at {a} {b} {rest} {left} {s} u e q = subst (λ (x : List Run). InsideUpTo a b s x) q (subst (λ (x : List Run). InsideUpTo a b x left) e u)
+
+-- The other list goes on to where it reaches the first run.
+pub up_to_next : {k : ℕ} {a b behind left next : List Run} {f : Run} → InsideUpTo a b (f ∷ behind) left → SameFrom k left next → k ≡ f.first → InsideUpTo a b (f ∷ behind) next
+up_to_next {k} {behind = behind} {f = f} u s e =
     record {
-      rest_maximal = s.rest_maximal.2;
-      others_maximal = l.maximal;
-      same = (
-        λ h. s.same.0 (λ n i. elim i [
-          | inl j ↦ (l.same n (omega (arith, j.0))).0 (inl (within n j))
-          | inr j ↦ (l.same n (omega (arith, past_gap f.last behind n s.rest_maximal.1 j))).0 (h n j)
+      front = u.front;
+      whole = u.whole;
+      inside = u.inside;
+      maximal = u.maximal;
+      left_maximal = s.maximal;
+      same = λ n i.
+          let low : k ≤ n = omega (arith, least f behind n (parts_of u).1 i) in
+          (λ j. (u.same n i).0 ((s.same n low).0 j), λ j. (s.same n low).1 ((u.same n i).1 j));
+    }
+
+-- The first run is inside.
+pub up_to_step : {a b behind left : List Run} {f y : Run} → InsideUpTo a b (f ∷ behind) (y ∷ left) → ((n : ℕ) → InRun f n → InRun y n) → InsideUpTo a b behind (y ∷ left)
+up_to_step {behind = behind} {f = f} u within =
+    record {
+      front = u.front ++ f ∷ [];
+      whole = u.whole ∙ sym (append_assoc u.front (f ∷ []) behind);
+      inside = λ n i. elim ((in_snoc u.front f n).0 i) [
+        | inl j ↦ u.inside n j
+        | inr j ↦ (u.same n (inl j)).0 (inl (within n j))
+      ];
+      maximal = u.maximal;
+      left_maximal = u.left_maximal;
+      same = λ n i. u.same n (inr i);
+    }
+
+-- Nothing is left that could hold the first run.
+pub outside_none : {a b behind : List Run} {f : Run} → InsideUpTo a b (f ∷ behind) [] → FirstOutside (f ∷ behind) []
+outside_none {f = f} u = λ h. h f.first (le_refl _, (parts_of u).1.0)
+
+-- The first run isn't inside the one that reaches it.
+pub outside_told : {k : ℕ} {a b behind left : List Run} {f y : Run} → InsideUpTo a b (f ∷ behind) (y ∷ left) → k ≤ y.last → k ≡ f.first → (IsTrue false ↔ ((n : ℕ) → InRun f n → InRun y n)) → FirstOutside (f ∷ behind) (y ∷ left)
+outside_told {left = left} {f} {y} u reach e told =
+    λ inside. let wrong : IsTrue false = told.1 (in_first f y left (parts_of u).1.0 u.left_maximal (omega arith) inside) in absurd cc
+
+pub first_outside_at : (rest left : List Run) {s t : List Run} → rest ≡ s → left ≡ t → FirstOutside s t → FirstOutside rest left
+first_outside_at rest left {s} e q o = subst (λ (x : List Run). FirstOutside x left) (sym e) (subst (λ (x : List Run). FirstOutside s x) (sym q) o)
+
+-- A list of which nothing is left is inside.
+pub all_inside : {a b left : List Run} → InsideUpTo a b [] left → IsInside a b
+all_inside u n i = u.inside n (subst (λ (s : List Run). InRuns s n) (u.whole ∙ append-nil u.front) i)
+
+-- A list of which the first run left isn't inside isn't inside.
+pub some_outside : {a b behind left : List Run} {f : Run} → InsideUpTo a b (f ∷ behind) left → FirstOutside (f ∷ behind) left → IsInside a b → ⊥
+some_outside {behind = behind} {f = f} u stops inside =
+    stops (λ n i. (u.same n (inl i)).1 (inside n (subst (λ (s : List Run). InRuns s n) (sym u.whole) ((in_append u.front (f ∷ behind) n).1 (inr (inl i))))))
+
+-- Whether something is left tells whether the list is inside.
+pub inside_told : {A : Type 0} {a b left : List Run} (f : A → Run) (xs : List A) (told : Bool) → InsideUpTo a b (map f xs) left → FirstOutside (map f xs) left → told ≡ nat_eq (length xs) 0 → IsTrue told ↔ IsInside a b
+inside_told f [] told u stops t = (λ h. all_inside u, λ h. t ∙ eq-eqb 0 0 refl)
+inside_told f (x ∷ xs) told u stops t =
+    (λ h. absurd (let none : length (x ∷ xs) ≡ 0 = eqb-true (length (x ∷ xs)) 0 (sym t ∙ h) in omega arith), λ h. absurd (some_outside u stops h))
+
+-- The blocks before those that are left.
+pub front_is : {A : Type 0} {front : List Run} (f : A → Run) (xs ys : List A) → map f xs ≡ front ++ map f ys → map f (take (length xs - length ys) xs) ≡ front
+front_is {front = front} f xs ys e =
+    let sizes : length (map f xs) ≡ length (front ++ map f ys) = ap length e in
+    let size : length xs - length ys ≡ length front = omega (arith, length-map xs f, length-map ys f, length-append front (map f ys)) in
+    sym (take-map f (length xs - length ys) xs) ∙ ap (take (length xs - length ys)) e ∙ ap (λ (k : ℕ). take k (front ++ map f ys)) size ∙ take-append_seam front (map f ys)
+
+-- A copy of the blocks before those that are left: its runs are the front, they are maximal, and their numbers are
+-- below those that are left.
+pub cut_is : {A : Type 0} {b left : List Run} {cut : List A} (f : A → Run) (xs ys : List A) (u : InsideUpTo (map f xs) b (map f ys) left) → cut ≡ take (length xs - length ys) xs → map f cut ≡ u.front
+cut_is f xs ys u e = ap (map f) e ∙ front_is f xs ys u.whole
+
+pub cut_maximal : {a b rest left cut : List Run} (u : InsideUpTo a b rest left) → cut ≡ u.front → AreMaximal cut
+cut_maximal u e = subst (λ (s : List Run). AreMaximal s) (sym e) (parts_of u).0
+
+pub cut_below : {a b rest left cut : List Run} (u : InsideUpTo a b rest left) → cut ≡ u.front → (m n : ℕ) → InRuns cut m → InRuns rest n → m < n
+cut_below u e m n i j = (parts_of u).2 m n (subst (λ (s : List Run). InRuns s m) e i) j
+
+-- What is before the first run that is outside, and what of the rest is in the other list, is the intersection.
+pub trimmed_is : {a b rest left cut found : List Run} → (u : InsideUpTo a b rest left) → cut ≡ u.front → AddsSet cut found (InBoth rest left) → IsRunsOf (InBoth a b) found
+trimmed_is {a} {rest = rest} {left} {found = found} u e s =
+    let t = subst (λ (x : List Run). AddsSet x found (InBoth rest left)) e s in
+    record {
+      maximal = t.maximal;
+      same = λ n. (
+        λ i. elim ((t.same n).0 i) [
+          | inl j ↦ (subst (λ (x : List Run). InRuns x n) (sym u.whole) ((in_append u.front rest n).1 (inl j)), u.inside n j)
+          | inr j ↦ (subst (λ (x : List Run). InRuns x n) (sym u.whole) ((in_append u.front rest n).1 (inr j.0)), (u.same n j.0).0 j.1)
+        ],
+        λ i. (t.same n).1 (elim ((in_append u.front rest n).0 (subst (λ (x : List Run). InRuns x n) u.whole i.0)) [
+          | inl j ↦ inl j
+          | inr j ↦ inr (j, (u.same n j).1 i.1)
         ]),
-        λ h n i. (l.same n (omega (arith, past_gap f.last behind n s.rest_maximal.1 i))).1 (s.same.1 h n (inr i)),
       );
     }
 

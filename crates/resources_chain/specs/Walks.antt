@@ -1,6 +1,6 @@
 -- What the walks over lists of blocks keep.
-use Rattle.std.specs.Prelude.{ℕ, ◌≤◌, ◌⊎◌, ◌↔◌, List, [], ◌∷◌}
-use Rattle.resources_chain.specs.Sets.{Run, InRun, InRuns, AreMaximal}
+use Rattle.std.specs.Prelude.{ℕ, ◌≤◌, ◌⊎◌, ◌↔◌, ◌≡◌, List, [], ◌∷◌, ◌++◌}
+use Rattle.resources_chain.specs.Sets.{Run, InRun, InRuns, AreMaximal, IsInside}
 
 -- Each of the runs begins at the number or before.
 abbrev pub BeginBy : ℕ → List Run → Type 0
@@ -33,3 +33,17 @@ pub record AddsSet (old new : List Run) (P : ℕ → Type 0) : Type 0 where
 pub record SameFrom (k : ℕ) (old new : List Run) : Type 0 where
   pub maximal : AreMaximal new
   pub same : (n : ℕ) → k ≤ n → InRuns new n ↔ InRuns old n
+
+-- Two lists, and what is left of both where all runs before `rest` are inside the other list.
+pub record InsideUpTo (a b rest left : List Run) : Type 0 where
+  pub front : List Run
+  pub whole : a ≡ front ++ rest
+  pub inside : IsInside front b
+  pub maximal : AreMaximal a
+  pub left_maximal : AreMaximal left
+  pub same : (n : ℕ) → InRuns rest n → InRuns left n ↔ InRuns b n
+
+-- There is none, or the first isn't inside the other list.
+abbrev pub FirstOutside : List Run → List Run → Type 0
+FirstOutside [] left = Unit {0}
+FirstOutside (r ∷ rs) left = ¬ ((n : ℕ) → InRun r n → InRuns left n)

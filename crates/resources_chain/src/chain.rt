@@ -75,10 +75,10 @@ impl<'a, B: Block> Chain<'a, B> {
     ) -> Result<Option<OwnedChain<B>>, AllocError>
         ensures { IfOk result (λ t. MatchOption t (IsInside self.now other.now) (λ c. ¬ (IsInside self.now other.now) × IsRunsOf (InBoth self.now other.now) c)) }
     {
-        if self.is_encompassed(other) {
-            return Ok(None);
+        match walk::trim(alloc, self.blocks, other.blocks)? {
+            Some(blocks) => Ok(Some(OwnedChain { blocks })),
+            None => Ok(None),
         }
-        Ok(Some(self.intersection(alloc, other)?))
     }
 
     /// The items that aren't in the other chain.

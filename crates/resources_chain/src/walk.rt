@@ -3,7 +3,7 @@
 ghost use Rattle.std.specs.Prelude.{◌≡◌, ℕ, ◌+◌, ◌<◌, ◌≤◌, ◌⊎◌, ◌↔◌, IsTrue, MatchOption, OnOk, IfOk, map, min, max};
 ghost use Rattle.resources_chain.specs.Sets.{InRun, InRuns, AreMaximal, IsRunsOf, InBoth, InFirstOnly, IsInside};
 ghost use Rattle.std.specs.Ordering.{nat_cmp};
-ghost use Rattle.resources_chain.specs.Walks.{BeginBy, AreAscending, FirstReaches, Adds, AddsSet, SameFrom};
+ghost use Rattle.resources_chain.specs.Walks.{BeginBy, AreAscending, FirstReaches, Adds, AddsSet, SameFrom, InsideUpTo, FirstOutside};
 
 use crate::block::{Block, comes_before, ends_before};
 use std::alloc::{AllocError, Global};
@@ -153,6 +153,30 @@ pub(crate) fn difference<B: Block>(
     Ok(found)
 }
 
+/// Adds the items of both lists, which come behind all others.
+fn add_all_common<B: Block>(blocks: &mut Vec<B>, one: &[B], other: &[B]) -> Result<(), AllocError>
+    requires maximal { AreMaximal (map B.run blocks.old.items) }
+    requires one_maximal { AreMaximal (map B.run one.now) }
+    requires other_maximal { AreMaximal (map B.run other.now) }
+    requires below { (m n : ℕ) → InRuns (map B.run blocks.old.items) m → InRuns (map B.run one.now) n → InRuns (map B.run other.now) n → m < n }
+    ensures { OnOk result (AddsSet (map B.run blocks.old.items) (map B.run blocks.new.items) (InBoth (map B.run one.now) (map B.run other.now))) }
+{
+    let mut left = one;
+    let mut right = other;
+    while let Some((x, left_behind)) = left.split_first() {
+        let Some((y, right_behind)) = right.split_first() else {
+            return Ok(());
+        };
+        add_common(blocks, x, y)?;
+        if comes_before::<B>(x.max(), y.max()) {
+            left = left_behind;
+        } else {
+            right = right_behind;
+        }
+    }
+    Ok(())
+}
+
 /// The items of both lists.
 pub(crate) fn intersection<B: Block>(
     alloc: Global,
@@ -164,19 +188,7 @@ pub(crate) fn intersection<B: Block>(
     ensures { IfOk result (λ v. IsRunsOf (InBoth (map B.run one.now) (map B.run other.now)) (map B.run v.items)) }
 {
     let mut found = Vec::new(alloc);
-    let mut left = one;
-    let mut right = other;
-    while let Some((x, left_behind)) = left.split_first() {
-        let Some((y, right_behind)) = right.split_first() else {
-            return Ok(found);
-        };
-        add_common(&mut found, x, y)?;
-        if comes_before::<B>(x.max(), y.max()) {
-            left = left_behind;
-        } else {
-            right = right_behind;
-        }
-    }
+    add_all_common(&mut found, one, other)?;
     Ok(found)
 }
 
@@ -196,25 +208,56 @@ fn from_item<B: Block>(blocks: &[B], item: B::Item) -> &[B]
     rest
 }
 
+/// The blocks from the first one on that isn't inside the other list, and what is left of that list from there on.
+fn from_outside<'a, 'b, B: Block>(blocks: &'a [B], others: &'b [B]) -> (&'a [B], &'b [B])
+    requires maximal { AreMaximal (map B.run blocks.now) }
+    requires others_maximal { AreMaximal (map B.run others.now) }
+    ensures parts { InsideUpTo (map B.run blocks.now) (map B.run others.now) (map B.run result.0.now) (map B.run result.1.now) }
+    ensures stops { FirstOutside (map B.run result.0.now) (map B.run result.1.now) }
+{
+    let mut rest = blocks;
+    let mut left = others;
+    while let Some((first, behind)) = rest.split_first() {
+        left = from_item(left, first.min());
+        let Some((other, _)) = left.split_first() else {
+            return (rest, left);
+        };
+        if !first.is_encompassed(other) {
+            return (rest, left);
+        }
+        rest = behind;
+    }
+    (rest, left)
+}
+
 /// Whether all items of the first list are in the second.
 pub(crate) fn is_inside<B: Block>(blocks: &[B], others: &[B]) -> bool
     requires maximal { AreMaximal (map B.run blocks.now) }
     requires others_maximal { AreMaximal (map B.run others.now) }
     ensures { IsTrue result ↔ IsInside (map B.run blocks.now) (map B.run others.now) }
 {
-    let mut rest = blocks;
-    let mut others = others;
-    while let Some((first, behind)) = rest.split_first() {
-        others = from_item(others, first.min());
-        let Some((other, _)) = others.split_first() else {
-            return false;
-        };
-        if !first.is_encompassed(other) {
-            return false;
-        }
-        rest = behind;
+    let (rest, _) = from_outside(blocks, others);
+    rest.is_empty()
+}
+
+/// The items of both lists, unless all of the first list are in the second.
+pub(crate) fn trim<B: Block>(
+    alloc: Global,
+    blocks: &[B],
+    others: &[B],
+) -> Result<Option<Vec<B>>, AllocError>
+    requires maximal { AreMaximal (map B.run blocks.now) }
+    requires others_maximal { AreMaximal (map B.run others.now) }
+    ensures { IfOk result (λ t. MatchOption t (IsInside (map B.run blocks.now) (map B.run others.now))
+        (λ v. ¬ (IsInside (map B.run blocks.now) (map B.run others.now)) × IsRunsOf (InBoth (map B.run blocks.now) (map B.run others.now)) (map B.run v.items))) }
+{
+    let (rest, left) = from_outside(blocks, others);
+    if rest.is_empty() {
+        return Ok(None);
     }
-    true
+    let mut found = Vec::from_slice(alloc, &blocks[..blocks.len() - rest.len()])?;
+    add_all_common(&mut found, rest, left)?;
+    Ok(Some(found))
 }
 
 /// Whether the two lists have the same items.

@@ -1,7 +1,7 @@
 use Rattle.std.proofs.Common.{◌≤◌, map, inl, refl, sym, ap, arith}
 use Rattle.resources_chain.proofs.RunLemmas.{not_before}
 use Rattle.resources_chain.proofs.WalkLemmas.{meets_at, meets_left, meets_right}
-use Rattle.resources_chain.proofs.walk.intersection.Goals as goal
+use Rattle.resources_chain.proofs.walk.add_all_common.Goals as goal
 
 pub add_common-requires-clause-below : goal.add_common-requires-clause-below
 add_common-requires-clause-below g c =

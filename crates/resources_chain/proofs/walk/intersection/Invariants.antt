@@ -1,9 +1,0 @@
-use Rattle.std.proofs.Common.{◌+◌, map, length}
-use Rattle.resources_chain.proofs.WalkLemmas.{Meets}
-use Rattle.resources_chain.proofs.walk.intersection.Given as goal
-
-abbrev pub invariant-loop-x : goal.invariant-loop-x
-invariant-loop-x g l = Meets (map g.B.Block.run l.one) (map g.B.Block.run l.other) (map g.B.Block.run l.found.items) (map g.B.Block.run l.left) (map g.B.Block.run l.right)
-
-abbrev pub decreases-loop-x : goal.decreases-loop-x
-decreases-loop-x g l = length l.left + length l.right
