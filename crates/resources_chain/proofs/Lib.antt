@@ -1,0 +1,4 @@
+pub mod RunLemmas
+pub mod SetLemmas
+pub mod WalkLemmas
+pub mod SortLemmas

@@ -1,0 +1,5 @@
+pub mod Sets
+pub mod Same
+pub mod Walks
+pub mod Shared
+pub mod Items
