@@ -102,13 +102,14 @@ const BUNDLES: [(&str, &str, Outcome); 8] = [
 ];
 
 #[rattlefmt::skip]
-const NO_BUNDLES: [(&str, &str); 23] = [
+const NO_BUNDLES: [(&str, &str); 24] = [
     ("the outer length FFFFFFFF", "30 84 FF FF FF FF"),
     ("the outer length FFFFFFFF, and members", "30 84 FF FF FF FF H 02 01 20 30 00 30 00 30 00"),
     ("an inner length FFFFFFFF", "30 21 H 02 01 20 30 00 30 00 30 84 FF FF FF FF"),
     ("an indefinite length", "30 80 H 02 01 20 30 00 30 00 30 00 00 00"),
     ("a SET", "31 1D H 02 01 20 30 00 30 00 30 00"),
     ("a seventh member", "30 1F H 02 01 20 30 00 30 00 30 00 30 00"),
+    ("a bundle behind a bundle", "30 1D H 02 01 20 30 00 30 00 30 00 30 1D H 02 01 20 30 00 30 00 30 00"),
     (
         "version 1",
         "30 1D 02 01 01 18 0F 32 30 32 35 30 31 30 31 30 30 30 30 30 30 5A 02 01 20 30 00 30 00 30 00",
@@ -283,12 +284,27 @@ fn no_bundles(rt: HostRuntime) -> Result<(), Fail> {
 }
 
 #[test]
-fn cuts(rt: HostRuntime) -> Result<(), Fail> {
+fn cut_and_longer(rt: HostRuntime) -> Result<(), Fail> {
     for text in [EMPTY_LOCATOR, ONE_OBJECT] {
-        let octets = octets_of(rt.alloc(), text)?;
+        let mut octets = octets_of(rt.alloc(), text)?;
         for len in 0..octets.len() {
-            assert_check(&rt, text, &octets[..len], ample(rt.alloc()), NOT_A_BUNDLE);
+            let case = format!(in rt.alloc(); "{len} octets of {text}")?;
+            assert_check(
+                &rt,
+                case.as_str(),
+                &octets[..len],
+                ample(rt.alloc()),
+                NOT_A_BUNDLE,
+            );
         }
+        octets.push(0)?;
+        assert_check(
+            &rt,
+            text,
+            octets.as_slice(),
+            ample(rt.alloc()),
+            NOT_A_BUNDLE,
+        );
     }
     Ok(())
 }
