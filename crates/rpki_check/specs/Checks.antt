@@ -1,5 +1,5 @@
 -- What `check` did where it answers that something was at fault.
-use Rattle.std.specs.Prelude.{ℕ, List, Option, Result, Err}
+use Rattle.std.specs.Prelude.{ℕ, List, Option, Err}
 use Rattle.rpki_validator.specs.declared.runs.RunError.{RunError}
 use Rattle.rpki_validator.specs.Run.{RunFails, CountsReads, CountsWrites}
 
