@@ -4,7 +4,6 @@ ghost use Rattle.std.specs.Prelude.{◌≡◌, ◌⊎◌, ◌<◌, ◌-◌, ◌^
 ghost use Rattle.rpki_validator.specs.Run.{Prints};
 ghost use Rattle.rpki_check.specs.Checks.{EndsInFault};
 ghost use Rattle.rpki_check.specs.Texts.{WritesText, EndsWithFault};
-ghost use Rattle.rpki_check.specs.declared.commands.TheConstants.{DONE, FAILED};
 
 use crate::digests::Fips;
 use crate::folder::write_bundle;
@@ -13,10 +12,10 @@ use std::alloc::Global;
 use std::io::{Read, Write};
 use std::rt::Files;
 
-/// All was done.
+/// The exit status where all was done.
 pub const DONE: u8 = 0;
 
-/// Something was at fault, and the faults say what.
+/// The exit status where something was at fault, which the faults say.
 pub const FAILED: u8 = 1;
 
 /// `check`: reads a bundle to the end, writes its lines, and tells what is at fault on `faults`.
@@ -29,10 +28,10 @@ pub fn check<R: Read, W: Write, F: Write>(
     requires few_reads { reader.old.failures < 2 ^ 64 - 1 }
     requires few_writes { writer.old.failures < 2 ^ 64 - 1 }
 
-    ensures status { (result ≡ DONE) ⊎ (result ≡ FAILED) }
-    ensures done { result ≡ DONE → Prints (R.remaining reader.old.inner) (R.remaining reader.new.inner) (W.contents writer.old.inner) (W.contents writer.new.inner) }
-    ensures done_counts { result ≡ DONE → (reader.new.failures ≡ reader.old.failures) × (writer.new.failures ≡ writer.old.failures) }
-    ensures failed { result ≡ FAILED → EndsInFault (R.remaining reader.old.inner) (R.remaining reader.new.inner) (W.contents writer.old.inner) (W.contents writer.new.inner) (record { before = reader.old.failures; after = reader.new.failures }) (record { before = writer.old.failures; after = writer.new.failures }) }
+    ensures status { (result ≡ 0) ⊎ (result ≡ 1) }
+    ensures done { result ≡ 0 → Prints (R.remaining reader.old.inner) (R.remaining reader.new.inner) (W.contents writer.old.inner) (W.contents writer.new.inner) }
+    ensures done_counts { result ≡ 0 → (reader.new.failures ≡ reader.old.failures) × (writer.new.failures ≡ writer.old.failures) }
+    ensures failed { result ≡ 1 → EndsInFault (R.remaining reader.old.inner) (R.remaining reader.new.inner) (W.contents writer.old.inner) (W.contents writer.new.inner) (record { before = reader.old.failures; after = reader.new.failures }) (record { before = writer.old.failures; after = writer.new.failures }) }
 {
     match run(alloc, reader, writer, &Fips) {
         Ok(()) => DONE,
@@ -54,10 +53,10 @@ pub fn bundle<R: Files + AllocGlobal + Clone + Drop, W: Write, F: Write>(
 ) -> u8
     requires few_writes { writer.old.failures < 2 ^ 64 - 1 }
 
-    ensures status { (result ≡ DONE) ⊎ (result ≡ FAILED) }
-    ensures done { result ≡ DONE → WritesText (W.contents writer.old.inner) (W.contents writer.new.inner) }
-    ensures done_count { result ≡ DONE → writer.new.failures ≡ writer.old.failures }
-    ensures failed { result ≡ FAILED → EndsWithFault (W.contents writer.old.inner) (W.contents writer.new.inner) writer.old.failures writer.new.failures }
+    ensures status { (result ≡ 0) ⊎ (result ≡ 1) }
+    ensures done { result ≡ 0 → WritesText (W.contents writer.old.inner) (W.contents writer.new.inner) }
+    ensures done_count { result ≡ 0 → writer.new.failures ≡ writer.old.failures }
+    ensures failed { result ≡ 1 → EndsWithFault (W.contents writer.old.inner) (W.contents writer.new.inner) writer.old.failures writer.new.failures }
 {
     match write_bundle(rt, alloc, folder, writer) {
         Ok(()) => DONE,

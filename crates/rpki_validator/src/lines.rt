@@ -1,6 +1,6 @@
 //! The lines that a run prints.
 
-ghost use Rattle.std.specs.Prelude.{◌≡◌, ◌++◌, IsTrue, ◌↔◌, IfOk, OnOk, All, []};
+ghost use Rattle.std.specs.Prelude.{◌≡◌, ◌++◌, IsTrue, ◌↔◌, IfOk, OnOk, All, [], Some};
 ghost use Rattle.std.specs.List.{flat_map};
 ghost use Rattle.rpki_validator.specs.declared.lines.Cause.TheVariants.{Tal};
 ghost use Rattle.rpki_validator.specs.Lines.{cause_text, refusal_line};
@@ -27,7 +27,10 @@ impl Cause {
     }
 }
 
+/// Prints the word.
 impl fmt::Display for Cause {
+    ghost output = { λ cause. Some (cause_text cause) };
+
     fn fmt<W: fmt::Write>(&self, f: &mut fmt::Formatter<W>) -> fmt::Result {
         f.write_str(self.text())
     }
