@@ -1,5 +1,5 @@
 -- Sets of numbers, by their maximal runs.
-use Rattle.std.proofs.Common.{◌≡◌, ℕ, ◌+◌, ◌<◌, ◌≤◌, ◌⊎◌, ◌↔◌, Bool, IsTrue, length, map, nat_eq, List, [], ◌∷◌, ◌++◌, inl, inr, refl, sym, ap, ◌∙◌, subst, le_refl, arith}
+use Rattle.std.proofs.Common.{◌≡◌, ℕ, ◌+◌, ◌<◌, ◌≤◌, ◌⊎◌, ◌↔◌, Bool, true, IsTrue, length, map, nat_eq, List, [], ◌∷◌, ◌++◌, inl, inr, refl, sym, ap, ◌∙◌, subst, le_refl, arith}
 use Rattle.std.proofs.Common.{eq-eqb}
 use Rattle.std.proofs.lemmas.Bool.{eqb-true}
 use Rattle.std.proofs.lemmas.List.{map-append}
@@ -135,3 +135,8 @@ inside_both a b c f r n = (λ i. ((r.same n).0 i).0, λ i. (r.same n).1 (i, f n 
 -- The set without numbers has the empty list.
 pub no_list : {a : List Run} → IsRunsOf (λ n. ⊥) a → a ≡ []
 no_list {a} r = one_list a [] r.maximal tt (λ n. (λ i. (r.same n).0 i, λ i. absurd i))
+
+-- A list of maximal runs that is told to have no numbers is that of the empty set.
+pub empty_is : {empty listed chain : List Run} → IsRunsOf (λ n. ⊥) empty → listed ≡ chain → AreMaximal chain → (IsTrue true ↔ ((n : ℕ) → InRuns listed n → ⊥)) → empty ≡ chain
+empty_is {empty} {chain = chain} r e m told =
+    one_list empty chain r.maximal m (λ n. (λ i. absurd ((r.same n).0 i), λ i. absurd (told.0 refl n (subst (λ (s : List Run). InRuns s n) (sym e) i))))

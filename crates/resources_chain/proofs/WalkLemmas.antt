@@ -3,8 +3,8 @@ use Rattle.std.proofs.Common.{◌≡◌, ℕ, ◌+◌, ◌<◌, ◌≤◌, ◌�
 use Rattle.std.proofs.lemmas.List.{map-append, take-map, length-map}
 use Rattle.std.proofs.lemmas.Bool.{eqb-true}
 use Rattle.std.proofs.Math.Seq.{take-append_seam}
-use Rattle.resources_chain.specs.Sets.{Run, InRun, InRuns, StandsApart, AreMaximal, IsRunsOf, Touch, InBoth, InFirstOnly, IsInside}
-use Rattle.resources_chain.specs.Walks.{BeginBy, AreAscending, FirstReaches, Adds, AddsSet, SameFrom, InsideUpTo, FirstOutside}
+use Rattle.resources_chain.specs.Sets.{Run, InRun, InRuns, StandsApart, AreMaximal, IsRunsOf, Touch, InEither, InBoth, InFirstOnly, IsInside}
+use Rattle.resources_chain.specs.Walks.{BeginBy, AreAscending, BeginByFirst, BeginFrom, FirstReaches, Adds, AddsSet, SameFrom, InsideUpTo, FirstOutside}
 use Rattle.resources_chain.proofs.RunLemmas.{le_or_lt}
 use Rattle.resources_chain.proofs.SetLemmas.{past_gap, least, in_append}
 
@@ -478,29 +478,24 @@ trimmed_is {a} {rest = rest} {left} {found = found} u e s =
       );
     }
 
--- Where blocks in the order of their beginnings are joined: what is found, and what is left.
-abbrev pub BeginByFirst : List Run → List Run → Type 0
-BeginByFirst found [] = Unit {0}
-BeginByFirst found (r ∷ rs) = BeginBy r.first found
-
-pub record Joins (all found rest : List Run) : Type 0 where
+-- Where blocks in the order of their beginnings are added to others: what is found, and what is left.
+pub record Joins (P : ℕ → Type 0) (found rest : List Run) : Type 0 where
   pub maximal : AreMaximal found
   pub ascending : AreAscending rest
   pub order : BeginByFirst found rest
-  pub same : (n : ℕ) → (InRuns found n ⊎ InRuns rest n) ↔ InRuns all n
+  pub same : (n : ℕ) → (InRuns found n ⊎ InRuns rest n) ↔ P n
 
-pub joins_at : {all found rest s : List Run} → Joins all found rest → rest ≡ s → Joins all found s
-joins_at {all} {found} j e = subst (λ (x : List Run). Joins all found x) e j
+pub joins_at : {P : ℕ → Type 0} {found rest s : List Run} → Joins P found rest → rest ≡ s → Joins P found s
+joins_at {P} {found} j e = subst (λ (x : List Run). Joins P found x) e j
 
-pub joins_start : (all : List Run) → AreAscending all → Joins all [] all
-joins_start [] a = record { maximal = tt; ascending = a; order = tt; same = λ n. (λ i. elim i [ inl j ↦ j | inr j ↦ j ], λ i. inr i) }
-joins_start (r ∷ rs) a = record { maximal = tt; ascending = a; order = tt; same = λ n. (λ i. elim i [ inl j ↦ absurd j | inr j ↦ j ], λ i. inr i) }
+pub joins_start : (found rest : List Run) → AreMaximal found → AreAscending rest → BeginByFirst found rest → Joins (λ n. InRuns found n ⊎ InRuns rest n) found rest
+joins_start found rest m a b = record { maximal = m; ascending = a; order = b; same = λ n. (λ i. i, λ i. i) }
 
 joins_order : (found rest : List Run) (f : Run) → AreAscending (f ∷ rest) → BeginBy f.first found → AreAscending rest × BeginByFirst found rest
 joins_order found [] f a b = (tt, tt)
 joins_order found (r ∷ rest) f a b = (a.1, begin_mono found f.first r.first b a.0)
 
-pub joins_step : {all found next behind : List Run} {f : Run} → Joins all found (f ∷ behind) → Adds found next f → Joins all next behind
+pub joins_step : {P : ℕ → Type 0} {found next behind : List Run} {f : Run} → Joins P found (f ∷ behind) → Adds found next f → Joins P next behind
 joins_step {next = next} {behind} {f} j s =
     let o = joins_order next behind f j.ascending s.order in
     record {
@@ -519,5 +514,100 @@ joins_step {next = next} {behind} {f} j s =
       );
     }
 
-pub joins_end : {all found : List Run} → Joins all found [] → IsRunsOf (InRuns all) found
-joins_end j = record { maximal = j.maximal; same = λ n. (λ i. (j.same n).0 (inl i), λ i. elim ((j.same n).1 i) [ inl k ↦ k | inr k ↦ absurd k ]) }
+pub joins_end : {found : List Run} (old all : List Run) → Joins (λ n. InRuns old n ⊎ InRuns all n) found [] → AddsSet old found (InRuns all)
+joins_end old all j = record { maximal = j.maximal; same = λ n. (λ i. (j.same n).0 (inl i), λ i. elim ((j.same n).1 i) [ inl k ↦ k | inr k ↦ absurd k ]) }
+
+-- Where nothing is there yet, blocks may begin anywhere.
+pub begins_none : (rest : List Run) → BeginByFirst [] rest
+begins_none [] = tt
+begins_none (r ∷ rest) = tt
+
+-- Maximal runs ascend.
+pub maximal_ascends : (rs : List Run) → AreMaximal rs → AreAscending rs
+maximal_ascends [] m = tt
+maximal_ascends (r ∷ []) m = tt
+maximal_ascends (r ∷ s ∷ rs) m = (let p : r.first ≤ r.last = m.0 in let a : r.last + 1 < s.first = m.1.0 in omega arith, maximal_ascends (s ∷ rs) m.2)
+
+-- What two lists have found of their union, and what is left of both.
+pub record Merges (P : ℕ → Type 0) (found left right : List Run) : Type 0 where
+  pub maximal : AreMaximal found
+  pub left_maximal : AreMaximal left
+  pub right_maximal : AreMaximal right
+  pub left_order : BeginByFirst found left
+  pub right_order : BeginByFirst found right
+  pub same : (n : ℕ) → (InRuns found n ⊎ (InRuns left n ⊎ InRuns right n)) ↔ P n
+
+pub merges_start : (a b : List Run) → AreMaximal a → AreMaximal b → Merges (InEither a b) [] a b
+merges_start a b m k =
+    record {
+      maximal = tt;
+      left_maximal = m;
+      right_maximal = k;
+      left_order = begins_none a;
+      right_order = begins_none b;
+      same = λ n. (λ i. elim i [ inl j ↦ absurd j | inr j ↦ j ], λ i. inr i);
+    }
+
+pub merges_at : {P : ℕ → Type 0} {found left right s t : List Run} → Merges P found left right → left ≡ s → right ≡ t → Merges P found s t
+merges_at {P} {found} {left} {right} {s} m e q = subst (λ (x : List Run). Merges P found s x) q (subst (λ (x : List Run). Merges P found x right) e m)
+
+merges_swap : {P : ℕ → Type 0} {found left right : List Run} → Merges P found left right → Merges P found right left
+merges_swap m =
+    record {
+      maximal = m.maximal;
+      left_maximal = m.right_maximal;
+      right_maximal = m.left_maximal;
+      left_order = m.right_order;
+      right_order = m.left_order;
+      same = λ n. (
+        λ i. (m.same n).0 (elim i [ inl j ↦ inl j | inr j ↦ elim j [ inl k ↦ inr (inr k) | inr k ↦ inr (inl k) ] ]),
+        λ i. elim ((m.same n).1 i) [ inl j ↦ inl j | inr j ↦ elim j [ inl k ↦ inr (inr k) | inr k ↦ inr (inl k) ] ],
+      );
+    }
+
+begins_on : (found rest : List Run) (k : ℕ) → BeginBy k found → BeginFrom k rest → BeginByFirst found rest
+begins_on found [] k b f = tt
+begins_on found (r ∷ rest) k b f = begin_mono found k r.first b f
+
+behind_from : (x : Run) (rest : List Run) → AreMaximal (x ∷ rest) → BeginFrom x.first rest
+behind_from x [] m = tt
+behind_from x (r ∷ rest) m = let p : x.first ≤ x.last = m.0 in let a : x.last + 1 < r.first = m.1.0 in omega arith
+
+-- The run on the left begins first.
+pub merges_left : {P : ℕ → Type 0} {found next left right : List Run} {x : Run} {k : ℕ} → Merges P found (x ∷ left) right → Adds found next x → k ≡ x.first → BeginFrom k right → Merges P next left right
+merges_left {next = next} {left} {right} {x} m s e f =
+    record {
+      maximal = s.maximal;
+      left_maximal = m.left_maximal.2;
+      right_maximal = m.right_maximal;
+      left_order = begins_on next left x.first s.order (behind_from x left m.left_maximal);
+      right_order = begins_on next right x.first s.order (subst (λ (j : ℕ). BeginFrom j right) e f);
+      same = λ n. (
+        λ i. (m.same n).0 (elim i [
+          | inl j ↦ elim ((s.same n).0 j) [ inl k ↦ inl k | inr k ↦ inr (inl (inl k)) ]
+          | inr j ↦ elim j [ inl k ↦ inr (inl (inr k)) | inr k ↦ inr (inr k) ]
+        ]),
+        λ i. elim ((m.same n).1 i) [
+          | inl j ↦ inl ((s.same n).1 (inl j))
+          | inr j ↦ elim j [
+            | inl k ↦ elim k [ inl w ↦ inl ((s.same n).1 (inr w)) | inr w ↦ inr (inl w) ]
+            | inr k ↦ inr (inr k)
+          ]
+        ],
+      );
+    }
+
+-- The run on the right begins first.
+pub merges_right : {P : ℕ → Type 0} {found next left right : List Run} {x y : Run} {k : ℕ} → Merges P found (x ∷ left) (y ∷ right) → Adds found next y → k ≡ x.first → y.first < k → Merges P next (x ∷ left) right
+merges_right {x = x} {y} m s e f = merges_swap (merges_left (merges_swap m) s refl (omega arith))
+
+-- Nothing is left on the left, and what is on the right is added.
+pub merges_end : {P : ℕ → Type 0} {found next right : List Run} → Merges P found [] right → AddsSet found next (InRuns right) → IsRunsOf P next
+merges_end m s =
+    record {
+      maximal = s.maximal;
+      same = λ n. (
+        λ i. (m.same n).0 (elim ((s.same n).0 i) [ inl j ↦ inl j | inr j ↦ inr (inr j) ]),
+        λ i. (s.same n).1 (elim ((m.same n).1 i) [ inl j ↦ inl j | inr j ↦ elim j [ inl k ↦ absurd k | inr k ↦ inr k ] ]),
+      );
+    }

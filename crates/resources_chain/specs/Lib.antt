@@ -3,3 +3,5 @@ pub mod Same
 pub mod Walks
 pub mod Shared
 pub mod Items
+pub mod Choices
+pub mod Claims

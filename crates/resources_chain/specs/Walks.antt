@@ -13,6 +13,16 @@ AreAscending [] = Unit {0}
 AreAscending (r ∷ []) = Unit {0}
 AreAscending (r ∷ s ∷ rs) = (r.first ≤ s.first) × AreAscending (s ∷ rs)
 
+-- Each of the first runs begins where the first of the others does, or before; where there are no others, anywhere.
+abbrev pub BeginByFirst : List Run → List Run → Type 0
+BeginByFirst found [] = Unit {0}
+BeginByFirst found (r ∷ rs) = BeginBy r.first found
+
+-- There is none, or the first begins at the number or behind.
+abbrev pub BeginFrom : ℕ → List Run → Type 0
+BeginFrom n [] = Unit {0}
+BeginFrom n (r ∷ rs) = n ≤ r.first
+
 -- There is none, or the first reaches the number.
 abbrev pub FirstReaches : ℕ → List Run → Type 0
 FirstReaches n [] = Unit {0}

@@ -1,6 +1,6 @@
 //! Chains: canonical lists of blocks, which stand for sets of numbers.
 
-ghost use Rattle.std.specs.Prelude.{◌≡◌, ℕ, ◌↔◌, List, IsTrue, MatchOption, IfOk, map, ⊤};
+ghost use Rattle.std.specs.Prelude.{◌≡◌, ℕ, ◌↔◌, List, IsTrue, MatchOption, MatchResult, IfOk, map, ⊤};
 ghost use Rattle.std.specs.Cmp.{partial_equiv_from_equiv};
 ghost use Rattle.std.specs.Iterator.{IsFinite, DrainsIf};
 ghost use Rattle.resources_chain.specs.Sets.{InRuns, AreMaximal, IsRunsOf, InEither, InBoth, InFirstOnly, IsInside};
@@ -111,9 +111,21 @@ impl<'a, B: Block> Chain<'a, B> {
     pub fn union(&self, alloc: Global, other: &Chain<'_, B>) -> Result<OwnedChain<B>, AllocError>
         ensures { IfOk result (λ c. IsRunsOf (InEither self.now other.now) c) }
     {
-        let mut blocks = Vec::from_slice(alloc, self.blocks)?;
-        blocks.extend_from_slice(other.blocks)?;
-        OwnedChain::from_vec(alloc, blocks)
+        Ok(OwnedChain {
+            blocks: walk::union(alloc, self.blocks, other.blocks)?,
+        })
+    }
+}
+
+impl<'a, B: Block> Clone for Chain<'a, B> {
+    ghost is_clone = { λ chain copy. copy ≡ chain };
+
+    ghost is_infallible = { λ _. ⊤ };
+
+    fn clone(&self) -> Result<Self, AllocError> {
+        Ok(Chain {
+            blocks: self.blocks,
+        })
     }
 }
 
@@ -204,6 +216,16 @@ impl<B: Block> OwnedChain<B> {
     }
 }
 
+impl<B: Block> Clone for OwnedChain<B> {
+    ghost is_clone = { λ chain copy. copy ≡ chain };
+
+    fn clone(&self) -> Result<Self, AllocError> {
+        Ok(OwnedChain {
+            blocks: Vec::from_slice(*self.blocks.allocator(), &self.blocks)?,
+        })
+    }
+}
+
 impl<B: Block> PartialEq for OwnedChain<B> {
     ghost eq = { runs_eq };
 
@@ -229,12 +251,14 @@ pub struct SharedChain<B: Block> {
 
 impl<B: Block> Model for SharedChain<B> {
     ghost use Rattle.std.specs.Prelude.{List};
-    ghost use Rattle.resources_chain.specs.Sets.{Run};
+    ghost use Rattle.resources_chain.specs.Sets.{Run, AreMaximal};
     ghost use Rattle.resources_chain.specs.Shared.{shared_runs};
 
     ghost Value = { List Run };
 
     ghost view = { λ a. shared_runs a.chain };
+
+    ghost invariant = { λ a. AreMaximal (shared_runs a.chain) };
 }
 
 impl<B: Block> SharedChain<B> {
@@ -247,7 +271,8 @@ impl<B: Block> SharedChain<B> {
 
     /// The chain, to be shared.
     pub fn from_owned(alloc: Global, chain: OwnedChain<B>) -> Result<Self, AllocError>
-        ensures { IfOk result (λ c. IsRunsOf (InRuns chain) c) }
+        ensures runs { IfOk result (λ c. c ≡ chain) }
+        ensures set { IfOk result (λ c. IsRunsOf (InRuns chain) c) }
     {
         if chain.as_chain().is_empty() {
             return Ok(SharedChain::empty());
@@ -278,6 +303,30 @@ impl<B: Block> SharedChain<B> {
             return Chain::empty();
         };
         chain.as_chain()
+    }
+}
+
+impl<B: Block> Default for SharedChain<B> {
+    ghost is_default = { IsRunsOf (λ n. ⊥) };
+
+    fn default() -> Self {
+        SharedChain::empty()
+    }
+}
+
+impl<B: Block> Clone for SharedChain<B> {
+    ghost is_clone = { λ chain copy. copy ≡ chain };
+
+    /// The same chain, with one owner more. It takes no memory: it fails only where the count of owners is full.
+    fn clone(&self) -> Result<Self, AllocError>
+        ensures cases { MatchResult result (λ copy. copy ≡ self.now) (λ _. ¬ ⊥) }
+        ensures maximal { IfOk result AreMaximal }
+    {
+        let chain = match &self.chain {
+            Some(chain) => Some(chain.clone()?),
+            None => None,
+        };
+        Ok(SharedChain { chain })
     }
 }
 

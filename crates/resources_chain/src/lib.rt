@@ -3,11 +3,15 @@
 
 pub mod block;
 pub mod chain;
+pub mod choice;
+pub mod claims;
 pub mod laws;
 mod walk;
 
 pub use block::Block;
 pub use chain::{Chain, OwnedChain, SharedChain};
+pub use choice::{InheritedResources, ResourcesChoice};
+pub use claims::{Claim, ClaimError, Overclaim};
 
 #[cfg(test)]
 mod tests;

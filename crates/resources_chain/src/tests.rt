@@ -1,4 +1,5 @@
 //! Chains at blocks of octets, of numbers of 32 bits and of 128.
+mod claims;
 mod octet;
 mod wide;
 mod word;

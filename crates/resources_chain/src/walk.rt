@@ -1,9 +1,9 @@
 //! Walks over sorted lists of blocks, from the front.
 
-ghost use Rattle.std.specs.Prelude.{◌≡◌, ℕ, ◌+◌, ◌<◌, ◌≤◌, ◌⊎◌, ◌↔◌, IsTrue, MatchOption, OnOk, IfOk, map, min, max};
-ghost use Rattle.resources_chain.specs.Sets.{InRun, InRuns, AreMaximal, IsRunsOf, InBoth, InFirstOnly, IsInside};
+ghost use Rattle.std.specs.Prelude.{◌≡◌, ℕ, ◌+◌, ◌<◌, ◌≤◌, ◌⊎◌, ◌↔◌, IsTrue, MatchOption, OnOk, IfOk, ◌∷◌, map, min, max};
+ghost use Rattle.resources_chain.specs.Sets.{InRun, InRuns, AreMaximal, IsRunsOf, InEither, InBoth, InFirstOnly, IsInside};
 ghost use Rattle.std.specs.Ordering.{nat_cmp};
-ghost use Rattle.resources_chain.specs.Walks.{BeginBy, AreAscending, FirstReaches, Adds, AddsSet, SameFrom, InsideUpTo, FirstOutside};
+ghost use Rattle.resources_chain.specs.Walks.{BeginBy, AreAscending, BeginByFirst, BeginFrom, FirstReaches, Adds, AddsSet, SameFrom, InsideUpTo, FirstOutside};
 
 use crate::block::{Block, comes_before, ends_before};
 use std::alloc::{AllocError, Global};
@@ -280,17 +280,66 @@ pub(crate) fn has_item<B: Block>(blocks: &[B], item: B::Item) -> bool
     }
 }
 
+/// Adds the items of blocks that are sorted by where they begin, none of them before where others begin.
+fn add_all<B: Block>(blocks: &mut Vec<B>, others: &[B]) -> Result<(), AllocError>
+    requires maximal { AreMaximal (map B.run blocks.old.items) }
+    requires ascending { AreAscending (map B.run others.now) }
+    requires order { BeginByFirst (map B.run blocks.old.items) (map B.run others.now) }
+    ensures { OnOk result (AddsSet (map B.run blocks.old.items) (map B.run blocks.new.items) (InRuns (map B.run others.now))) }
+{
+    let mut rest = others;
+    while let Some((first, behind)) = rest.split_first() {
+        add(blocks, *first)?;
+        rest = behind;
+    }
+    Ok(())
+}
+
 /// The canonical list of the items of blocks that are sorted by where they begin.
 pub(crate) fn joined<B: Block>(alloc: Global, blocks: &[B]) -> Result<Vec<B>, AllocError>
     requires { AreAscending (map B.run blocks.now) }
     ensures { IfOk result (λ v. IsRunsOf (InRuns (map B.run blocks.now)) (map B.run v.items)) }
 {
     let mut found = Vec::new(alloc);
-    let mut rest = blocks;
-    while let Some((first, behind)) = rest.split_first() {
-        add(&mut found, *first)?;
-        rest = behind;
+    add_all(&mut found, blocks)?;
+    Ok(found)
+}
+
+/// The first block where it begins before the item, and the blocks behind it.
+fn first_before<B: Block>(blocks: &[B], item: B::Item) -> Option<(&B, &[B])>
+    ensures { MatchOption result (BeginFrom (B.place item) (map B.run blocks.now))
+        (λ parts. (blocks.now ≡ parts.0.now ∷ parts.1.now) × ((B.run parts.0.now).first < B.place item)) }
+{
+    let (first, behind) = blocks.split_first()?;
+    if comes_before::<B>(first.min(), item) {
+        Some((first, behind))
+    } else {
+        None
     }
+}
+
+/// The items of one of the lists or of both.
+pub(crate) fn union<B: Block>(alloc: Global, one: &[B], other: &[B]) -> Result<Vec<B>, AllocError>
+    requires one_maximal { AreMaximal (map B.run one.now) }
+    requires other_maximal { AreMaximal (map B.run other.now) }
+    ensures { IfOk result (λ v. IsRunsOf (InEither (map B.run one.now) (map B.run other.now)) (map B.run v.items)) }
+{
+    let mut found = Vec::new(alloc);
+    let mut left = one;
+    let mut right = other;
+    while let Some((x, left_behind)) = left.split_first() {
+        match first_before(right, x.min()) {
+            Some((y, right_behind)) => {
+                add(&mut found, *y)?;
+                right = right_behind;
+            }
+            None => {
+                add(&mut found, *x)?;
+                left = left_behind;
+            }
+        }
+    }
+    add_all(&mut found, right)?;
     Ok(found)
 }
 

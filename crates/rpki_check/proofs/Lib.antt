@@ -6,3 +6,4 @@ pub mod Splits
 pub mod Moments
 pub mod Ranks
 pub mod OneFolder
+pub mod Words

@@ -1,4 +1,5 @@
 pub use Rattle.rpki_bundle.specs.Bundle
+pub mod Arguments
 pub mod Checks
 pub mod Lines
 pub mod Verdicts

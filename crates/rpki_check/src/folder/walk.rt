@@ -1,6 +1,6 @@
 //! The reading of a folder, one open folder at a time.
 
-ghost use Rattle.std.specs.Prelude.{◌≡◌, ◌+◌, ◌≤◌, ◌++◌, ◌∷◌, codes, string_bytes, vec_len, IfOk, OnOk};
+ghost use Rattle.std.specs.Prelude.{◌≡◌, ◌+◌, ◌≤◌, ◌++◌, ◌∷◌, codes, string_bytes, vec_len, IfOk, IfErr, OnOk, MatchOption, ◌≢◌, ℕ, List};
 
 use crate::folder::ReadFault;
 use crate::folder::files::{Kind, kind_of, read_file, read_if_there};
@@ -47,7 +47,8 @@ fn joined(alloc: Global, front: &str, name: &str) -> Result<String, AllocError>
 
 // One entry less that may come; a read fault where there were enough.
 fn count_entry(entries_left: &mut u32) -> Result<(), ReadFault>
-    ensures { OnOk result (entries_left.new + 1 ≡ entries_left.old) }
+    ensures counted { OnOk result (entries_left.new + 1 ≡ entries_left.old) }
+    ensures enough { IfErr result (λ fault. (fault ≡ ReadFault.Read) × (entries_left.old ≡ 0) × (entries_left.new ≡ 0)) }
 {
     if *entries_left == 0 {
         return Err(ReadFault::Read);
@@ -161,7 +162,9 @@ fn read_locators<R: Files + AllocGlobal + Clone + Drop>(
 }
 
 // The name of the locator that a file of this name holds.
-fn locator_name(file: &str) -> Option<&str> {
+fn locator_name(file: &str) -> Option<&str>
+    ensures { MatchOption result ((name : List ℕ) → file.now ≢ name ++ codes ".tal") (λ name. file.now ≡ name.now ++ codes ".tal") }
+{
     file.strip_suffix(".tal")
 }
 

@@ -12,4 +12,4 @@ returns g c =
     IfOk-weaker c.from_owned.result
     (λ v. IsRunsOf (InRuns c.in_ok-from_iter.field-0) v)
     (λ v. (came : List g.row.B.Denot) × DrainsIf g.I.Iterator.next_gives ⊤ c.args.blocks came × IsRunsOf (InRuns (map g.B.Block.run came)) v)
-    (λ v h. (made.0, made.1, runs_of_equal h made.2.same)) c.from_owned.ensures
+    (λ v h. (made.0, made.1, runs_of_equal h made.2.same)) c.from_owned.ensures.set

@@ -1,0 +1,10 @@
+-- Contents that were lent to a closure.
+use Rattle.std.proofs.Common.{◌≡◌, ℕ, List, sym, ap}
+use Rattle.bcder_content.specs.declared.constructed.Constructed.{Constructed}
+use Rattle.bcder_content.specs.declared.content.Content.{Content}
+use Rattle.bcder_content.specs.Contents.{ValuesLeft}
+use Rattle.bcder_content.specs.Either.{Shows}
+use Rattle.bcder_content.specs.Here.{here}
+
+pub shows_back : {S : Type 0} (rest : S → List ℕ) (c : Content S) (b : Constructed S) → b ≡ c.values.now → Shows rest c (here rest b)
+shows_back rest c b e = record { left_is = ap (here rest) (sym e) }

@@ -1,0 +1,23 @@
+pub mod Numbers
+pub mod Primitives
+pub mod Opening
+pub mod Windows
+pub mod Took
+pub mod Taking
+pub mod Inside
+pub mod Nexts
+pub mod Decoding
+pub mod Capturing
+pub mod Kept
+pub mod Forests
+pub mod Choices
+pub mod Unique
+pub mod KeptOne
+pub mod Lending
+pub mod Eithers
+mod SkipMoves
+mod SkipLevels
+mod SkipSteps
+mod SkipContents
+pub mod Anything
+pub mod Parts

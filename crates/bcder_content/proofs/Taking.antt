@@ -1,0 +1,138 @@
+-- What the parts of a reading by a closure say of the values that are next.
+use Rattle.std.proofs.Common.{◌≡◌, ℕ, ◌+◌, ◌*◌, ◌<◌, inl, inr, Bool, true, false, List, [], ◌∷◌, ◌++◌, Option, Some, None, IsTrue, IsFalse, ◌↔◌, refl, sym, ap, ◌∙◌, subst, append_assoc, arith}
+use Rattle.bcder_source.specs.declared.mode.Mode.{Mode}
+use Rattle.bcder_source.specs.declared.error.DecodeError.{DecodeError}
+use Rattle.bcder_source.specs.declared.error.ContentError.{ContentError}
+use Rattle.bcder_source.specs.declared.pos.Pos.{Pos}
+use Rattle.bcder_source.specs.declared.error.DecodeError.TheVariants.{Content, Source, Memory}
+use Rattle.bcder_source.specs.Errors.{OnContent, OnlyContent}
+use Rattle.bcder_source.specs.Tags.{TagValue, IsTag}
+use Rattle.bcder_source.specs.Octets.{IsIdentifier}
+use Rattle.bcder_source.specs.Reads.{Begins, Lacks, IsEnd}
+use Rattle.bcder_source.specs.Tree.{Tree, Trees, primitive, constructed, none, more}
+use Rattle.bcder_source.specs.Front.{Front}
+use Rattle.bcder_source.specs.Views.{View, left, limited, Moved}
+use Rattle.bcder_source.proofs.Moves.{left_moved}
+use Rattle.bcder_content.specs.declared.ending.Ending.{Ending}
+use Rattle.bcder_content.specs.declared.ending.Ending.TheVariants.{Definite, Indefinite, Unbounded}
+use Rattle.bcder_content.specs.declared.ending.Span.{Span}
+use Rattle.bcder_content.specs.Contents.{ValuesLeft, octets, Took, Ahead, EndsHere, Ended, Unlike, tag_of, form_of}
+use Rattle.bcder_content.specs.Openings.{Opens, Closes, ending_of, NoValue, OfTag, NotOfTag}
+use Rattle.bcder_content.specs.Ran.{Enters, NoneOf, Comes}
+use Rattle.bcder_content.specs.Stops.{NoneAhead, EndsUnread}
+use Rattle.bcder_content.proofs.Opening.{HeadIn, tree_head, opens_tag, front_moves, here_ends}
+use Rattle.bcder_content.proofs.Windows.{Shown, one_tag, no_end_in, shown_whole}
+use Rattle.bcder_content.proofs.Took.{took_front}
+
+-- A fact for another reason.
+pub weaker : {E P Q : Type 0} (e : DecodeError E) → (P → Q) → OnContent e P → OnContent e Q
+weaker (Content x pos) f p = f p
+weaker (Source x) f p = tt
+weaker Memory f p = tt
+
+pub only_weaker : {E P Q : Type 0} (e : DecodeError E) → (P → Q) → OnlyContent e P → OnlyContent e Q
+only_weaker (Content x pos) f p = f p
+only_weaker (Source x) f p = tt
+only_weaker Memory f p = p
+
+pub only_on : {E P Q : Type 0} (e : DecodeError E) → (P → Q) → OnlyContent e P → OnContent e Q
+only_on (Content x pos) f p = f p
+only_on (Source x) f p = tt
+only_on Memory f p = tt
+
+pub on_content : {E P : Type 0} (e : DecodeError E) → P → OnContent e P
+on_content (Content x pos) p = p
+on_content (Source x) p = tt
+on_content Memory p = tt
+
+-- End-of-contents is at hand where the content can end with it.
+pub end_told : {v : View} {o : List ℕ} (b : Bool) → Shown 2 (left v) o → (IsTrue b → Begins IsEnd o 2) → (IsFalse b → Lacks IsEnd o) → IsTrue b ↔ ((w : View) × Moved v (0 ∷ 0 ∷ []) w)
+end_told {v} {o} true s ends lacks = (λ y. here (ends y), λ h. refl)
+  where
+    here : Begins IsEnd o 2 → (w : View) × Moved v (0 ∷ 0 ∷ []) w
+    here b =
+        let e : o ≡ (0 ∷ 0 ∷ []) ++ b.rest = b.whole ∙ ap (λ (z : List ℕ). z ++ b.rest) b.is in
+        let m = front_moves v (0 ∷ 0 ∷ []) _ (shown_whole (left v) (0 ∷ 0 ∷ []) b.rest s.count (sym s.is ∙ e)) in
+        (m.0, m.1)
+end_told {v} {o} false s ends lacks = (λ y. absurd (not_true y), λ h. absurd (no_end_in s (lacks refl) h.0 h.1))
+  where
+    not_true : false ≡ true → ⊥
+    not_true e = absurd cc
+
+-- The identifier of a tree in front is of its tag.
+pub tree_of_tag : {m : Mode} {s rest : List ℕ} (u : Tree) → Front m s u rest → OfTag (tag_of u) s
+tree_of_tag u f =
+    let h = tree_head u f in
+    let d = h.head.head in
+    record {
+      form = form_of u;
+      identifier = d.identifier;
+      rest = d.size ++ h.behind;
+      tag = d.tag;
+      is = d.identifier_is;
+      whole = h.head.whole ∙ ap (λ (z : List ℕ). z ++ h.behind) d.whole ∙ append_assoc d.identifier d.size h.behind;
+    }
+
+-- Identifier octets of a tag that values have are some, and don't begin with 0.
+no_identifier : (i x : List ℕ) (k : Bool) (t : TagValue) → IsTag t → IsIdentifier i k t → i ++ x ≡ [] → ⊥
+no_identifier [] x k t p h e = h
+no_identifier (a ∷ i) x k t p h e = absurd cc
+
+not_zero : (i x y : List ℕ) (k : Bool) (t : TagValue) → IsTag t → IsIdentifier i k t → i ++ x ≡ 0 ∷ y → ⊥
+not_zero [] x y k t p h e = h
+not_zero (a ∷ []) x y true t p h e = let z : a ≡ 0 = cc in omega arith
+not_zero (a ∷ []) x y false t p h e = let z : a ≡ 0 = cc in omega arith
+not_zero (a ∷ b ∷ i) x y k t p h e = let z : a ≡ 0 = cc in omega arith
+
+-- Behind an identifier there is more than the end.
+pub goes_on : {v : ValuesLeft} {tag : TagValue} → OfTag tag (left (octets v)) → Ended v → ⊥
+goes_on {v} {tag} o e = at v.end v.limit refl e.ends
+  where
+    at : (end : Ending) (l : Option ℕ) → v.limit ≡ l → EndsHere end (octets v) → ⊥
+    at Definite l n h = no_identifier o.identifier o.rest o.form tag o.tag o.is (sym o.whole ∙ ap (λ (z : Option ℕ). limited z v.rest) h)
+    at Indefinite l n h = not_zero o.identifier o.rest _ o.form tag o.tag o.is (sym o.whole ∙ left_moved h.1)
+    at Unbounded l n h = no_identifier o.identifier o.rest o.form tag o.tag o.is (sym o.whole ∙ h)
+
+pub comes_of : {v : ValuesLeft} {tag : TagValue} → OfTag tag (left (octets v)) → Comes v tag
+comes_of {v} {tag} o = record {
+  tagged = λ t a. one_tag (tree_of_tag t (took_front a.1)) o;
+  goes_on = goes_on o;
+}
+
+pub unlike_of : {v : ValuesLeft} {tag : TagValue} → v.failed ≡ false → NotOfTag tag (left (octets v)) → Unlike v tag
+unlike_of {v} {tag} sound n = record {
+  sound = sound;
+  none = λ t a e. n.none (subst (λ (z : TagValue). OfTag z (left (octets v))) e (tree_of_tag t (took_front a.1)));
+}
+
+-- On a content that has failed nothing comes.
+pub comes_failed : {v : ValuesLeft} {tag : TagValue} → v.failed ≡ true → Comes v tag
+comes_failed {v} e = record { tagged = λ t a. absurd (unsound a.1.goes.before); goes_on = λ h. unsound h.sound }
+  where
+    unsound : v.failed ≡ false → ⊥
+    unsound s = let f : true ≡ false = sym e ∙ s in absurd cc
+
+pub none_failed : {v : ValuesLeft} → v.failed ≡ true → NoneAhead v
+none_failed {v} e = record { none = λ t a. let f : true ≡ false = sym e ∙ a.1.goes.before in absurd cc }
+
+-- Where no value is in front none is next.
+pub none_ahead : {v : ValuesLeft} → NoValue v.mode (octets v) → NoneAhead v
+none_ahead n = record { none = λ t a. n.none t _ (took_front a.1) }
+
+-- A value was opened: no other tag and no other form is next.
+pub other_tag : {old inner : ValuesLeft} {k : Bool} {t : TagValue} {span : Span} (tag : TagValue) (form : Bool) → Enters old k t span inner → (t ≡ tag → ⊥) → NoneOf old tag form
+other_tag tag form n differ = record { none = λ u a e f. differ (sym (opens_tag u n.opens (took_front a.1)).0 ∙ e) }
+
+pub other_form : {old inner : ValuesLeft} {k : Bool} {t : TagValue} {span : Span} (tag : TagValue) (form : Bool) → Enters old k t span inner → (k ≡ form → ⊥) → NoneOf old tag form
+other_form tag form n differ = record { none = λ u a e f. differ (sym (opens_tag u n.opens (took_front a.1)).1 ∙ f) }
+
+pub none_of : {v : ValuesLeft} (tag : TagValue) (form : Bool) → NoneAhead v → NoneOf v tag form
+none_of tag form n = record { none = λ t a e f. n.none t a }
+
+-- A content that can't be left goes on.
+pub ends_unread : {v : View} {failed : Bool} (span : Span) → ((w : View) → Closes span v w → ⊥) → EndsUnread span failed v
+ends_unread {v} span n = record { goes_on = λ s e. let w = here_ends span v e in n w.0 w.1 }
+
+-- A content error, for a reason.
+pub refused_by : {E P : Type 0} {r : DecodeError E} {x : ContentError} → ((pos : Pos) × (r ≡ Content x pos)) → P → OnlyContent r P
+refused_by {E} {P} {r} {x} is p = subst (λ (e : DecodeError E). OnlyContent e P) (sym is.1) p

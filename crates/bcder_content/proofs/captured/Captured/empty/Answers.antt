@@ -1,0 +1,6 @@
+use Rattle.std.proofs.Common.{sym}
+use Rattle.bcder_source.specs.Tree.{none}
+use Rattle.bcder_content.proofs.captured.Captured.empty.Goals as goal
+
+pub invariant_of-result : goal.invariant_of-result
+invariant_of-result c = record { trees = none; spelled = c.new.ensures }

@@ -1,0 +1,8 @@
+use Rattle.std.proofs.Common.{refl, rules}
+use Rattle.bcder_content.proofs.Lending.{shows_back}
+use Rattle.bcder_content.proofs.constructed.Constructed.run_alone.Goals as goal
+
+pub returns : goal.returns
+returns g c = λ tag.
+    let k = (c.requires.keeps _ _ _ c.op.ensures).reference in
+    (_, _, record { left_is = refl }, (let h = shows_back g.S.Source.rest c.op.new.arg2 in search rules), refl, c.op.ensures)

@@ -1,0 +1,9 @@
+use Rattle.std.proofs.Common.{◌↔◌, Bool, IsTrue, true, false, subst}
+use Rattle.bcder_content.specs.Contents.{Ended}
+use Rattle.bcder_content.specs.Either.{ByContent, AnyKind, OfForm}
+use Rattle.bcder_content.specs.Here.{here}
+use Rattle.bcder_content.proofs.Eithers.{takes_next_failed, takes_next_refused}
+use Rattle.bcder_content.proofs.constructed.Constructed.take_opt_value.Goals as goal
+
+pub returns-in-Err-clause-taken : goal.returns-in-Err-clause-taken
+returns-in-Err-clause-taken g c = record { cases = takes_next_failed (ByContent g.S.Source.rest g.F.FnOnce c.args.op) AnyKind (here g.S.Source.rest c.args.self.now) _ c.in-Err.error c.in-Err.ensures.refused }

@@ -1,0 +1,43 @@
+use Rattle.std.proofs.Common.{refl, ◌∙◌}
+use Rattle.bcder_content.specs.Here.{here, plain}
+use Rattle.bcder_content.specs.Ran.{no_octets, refused_octets, octets_go_on}
+use Rattle.bcder_content.proofs.Taking.{on_content, only_on}
+use Rattle.bcder_content.proofs.constructed.Constructed.take_primitive_if.Goals as goal
+
+pub returns-in-Err-op-clause-ran : goal.returns-in-Err-op-clause-ran
+returns-in-Err-op-clause-ran g c = record {
+  cases = on_content c.in-Err-op.error (refused_octets c.in-Ok.outer.span (plain g.S.Source.rest c.op.new.arg2) (record {
+    given = c.open_if.new.self.octets;
+    left = c.op.new.arg2;
+    enters = (let n = c.in-Ok.ensures.entered in record { opens = n.opens; mode = n.mode; before = n.before; sound = n.sound });
+    met = record { shown = _; shows = refl; left = _; met = c.in-Err-op.ensures; leaves = refl };
+    ends = refl;
+  }));
+}
+
+pub returns-in-Ok-close-clause-ran : goal.returns-in-Ok-close-clause-ran
+returns-in-Ok-close-clause-ran g c = let l = c.in-Ok-close.ensures.left in record {
+  cases = (
+    c.in-Ok.outer.span,
+    plain g.S.Source.rest c.op.new.arg2,
+    record {
+      given = c.open_if.new.self.octets;
+      left = c.op.new.arg2;
+      enters = (let n = c.in-Ok.ensures.entered in record { opens = n.opens; mode = n.mode; before = n.before; sound = n.sound });
+      met = record { shown = _; shows = refl; left = _; met = c.in-Ok-op.ensures; leaves = refl };
+      ends = refl;
+    },
+    record { closes = l.closes; mode = l.mode_is ∙ c.in-Ok.ensures.around.0; ending = l.end_is ∙ c.in-Ok.ensures.around.1; sound = l.sound; behind = l.behind },
+  );
+}
+
+pub returns-in-Err-close-clause-ran : goal.returns-in-Err-close-clause-ran
+returns-in-Err-close-clause-ran g c = record {
+  cases = only_on c.in-Err-close.error (octets_go_on c.in-Ok.outer.span (plain g.S.Source.rest c.op.new.arg2) c.in-Ok-op.value (record {
+    given = c.open_if.new.self.octets;
+    left = c.op.new.arg2;
+    enters = (let n = c.in-Ok.ensures.entered in record { opens = n.opens; mode = n.mode; before = n.before; sound = n.sound });
+    met = record { shown = _; shows = refl; left = _; met = c.in-Ok-op.ensures; leaves = refl };
+    ends = refl;
+  })) c.in-Err-close.ensures.refused;
+}

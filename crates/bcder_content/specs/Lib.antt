@@ -1,0 +1,17 @@
+pub mod Contents
+pub mod Openings
+pub mod Here
+pub mod Plain
+pub mod Exact
+pub mod Grammar
+pub mod Ran
+pub mod Stops
+pub mod Kept
+pub mod Captures
+pub mod Either
+pub mod Nodes
+pub mod Values
+pub mod Skips
+pub mod SkipLevels
+pub mod Sliced
+pub mod Examples

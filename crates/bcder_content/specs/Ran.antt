@@ -1,0 +1,149 @@
+-- What a reading by a closure was.
+use Rattle.std.specs.Prelude.{◌≡◌, ℕ, Bool, true, false, List, Result, Ok, Err, Option, Some, None}
+use Rattle.std.specs.Fn.{Once, FnOnceReturnsAtMut}
+use denote.Ref.{MutBor}
+use Rattle.bcder_source.specs.declared.mode.Mode.{Mode}
+use Rattle.bcder_source.specs.Tags.{TagValue}
+use Rattle.bcder_source.specs.Tree.{Tree}
+use Rattle.bcder_source.specs.Errors.{OnContent}
+use Rattle.bcder_source.specs.declared.error.DecodeError.{DecodeError}
+use Rattle.bcder_content.specs.declared.ending.Ending.TheVariants.{Unbounded}
+use Rattle.bcder_content.specs.declared.ending.Span.{Span}
+use Rattle.bcder_content.specs.declared.constructed.Constructed.{Constructed}
+use Rattle.bcder_content.specs.declared.primitive.Primitive.{Primitive}
+use Rattle.bcder_content.specs.Contents.{OctetsLeft, ValuesLeft, octets, Ahead, Ended, Unlike, tag_of, form_of}
+use Rattle.bcder_content.specs.Plain.{octets_in}
+use Rattle.bcder_content.specs.Openings.{Opens, Closes, ending_of}
+use Rattle.bcder_content.specs.Here.{here, plain}
+use Rattle.bcder_content.specs.Stops.{EndsUnread}
+
+-- Reading went from the content's values into the one in front, which has that form and tag.
+pub record Enters (old : ValuesLeft) (form : Bool) (tag : TagValue) (span : Span) (inner : ValuesLeft) : Type 0 where
+  pub opens : Opens old.mode (octets old) form tag span (octets inner)
+  pub mode : inner.mode ≡ old.mode
+  pub end : inner.end ≡ ending_of span
+  pub before : old.failed ≡ false
+  pub sound : inner.failed ≡ false
+
+-- And back, behind the value.
+pub record Leaves (old : ValuesLeft) (span : Span) (end new : ValuesLeft) : Type 0 where
+  pub closes : Closes span (octets end) (octets new)
+  pub mode : new.mode ≡ old.mode
+  pub ending : new.end ≡ old.end
+  pub sound : end.failed ≡ false
+  pub behind : new.failed ≡ false
+
+-- No value of that tag and form is next.
+pub record NoneOf (old : ValuesLeft) (tag : TagValue) (form : Bool) : Type 0 where
+  pub none : (t : Tree) → Ahead old t → tag_of t ≡ tag → form_of t ≡ form → ⊥
+
+-- A value of that tag is next, as far as its identifier tells.
+pub record Comes (old : ValuesLeft) (tag : TagValue) : Type 0 where
+  pub tagged : (t : Tree) → Ahead old t → tag_of t ≡ tag
+  pub goes_on : Ended old → ⊥
+
+-- What is read by a closure: the values of a constructed value, or the octets of a primitive one.
+abbrev pub Reader : Type 0 → Type 0 → Type 0 → Type 0 → Type 1
+Reader F V T E = Once F (MutBor V × Unit {0}) (Result T (DecodeError E) × (MutBor V × Unit {0}))
+
+-- The closure was given the values of the value in front, and answered.
+pub record RanOn {F S T E : Type 0} (rest : S → List ℕ) (g : Reader F (Constructed S) T E) (op : F) (old : ValuesLeft) (tag : TagValue) (span : Span) (r : Result T (DecodeError E)) (end : ValuesLeft) : Type 0 where
+  pub given : Constructed S
+  pub left : Constructed S
+  pub enters : Enters old true tag span (here rest given)
+  pub met : FnOnceReturnsAtMut g op given r left
+  pub ends : here rest left ≡ end
+
+-- Why the octets were refused: no such value is next, the closure refused, or it left values unread.
+pub data RanRefused {F S T E : Type 0} (rest : S → List ℕ) (g : Reader F (Constructed S) T E) (op : F) (old : ValuesLeft) (tag : TagValue) (e : DecodeError E) : Type 0 where
+  no_value : NoneOf old tag true → RanRefused rest g op old tag e
+  refused : (span : Span) (end : ValuesLeft) → RanOn rest g op old tag span (Err e) end → RanRefused rest g op old tag e
+  goes_on : (span : Span) (end : ValuesLeft) (x : T) → RanOn rest g op old tag span (Ok x) end → EndsUnread span end.failed (octets end) → RanRefused rest g op old tag e
+
+abbrev pub RanCases : {F S T E : Type 0} → (S → List ℕ) → Reader F (Constructed S) T E → F → ValuesLeft → TagValue → Result T (DecodeError E) → ValuesLeft → Type 0
+RanCases {F} {S} {T} {E} rest g op old tag (Ok x) new = (span : Span) × (end : ValuesLeft) × RanOn rest g op old tag span (Ok x) end × Leaves old span end new
+RanCases {F} {S} {T} {E} rest g op old tag (Err e) new = OnContent e (RanRefused rest g op old tag e)
+
+-- The closure read the values of a constructed value with that tag, all of them.
+pub record Ran {F S T E : Type 0} (rest : S → List ℕ) (g : Reader F (Constructed S) T E) (op : F) (old : ValuesLeft) (tag : TagValue) (r : Result T (DecodeError E)) (new : ValuesLeft) : Type 0 where
+  pub cases : RanCases rest g op old tag r new
+
+abbrev pub RanOptCases : {F S T E : Type 0} → (S → List ℕ) → Reader F (Constructed S) T E → F → ValuesLeft → TagValue → Result (Option T) (DecodeError E) → ValuesLeft → Type 0
+RanOptCases {F} {S} {T} {E} rest g op old tag (Ok (Some x)) new = Ran rest g op old tag (Ok x) new
+RanOptCases rest g op old tag (Ok None) new = (new ≡ old) × Unlike old tag
+RanOptCases rest g op old tag (Err e) new = OnContent e (Comes old tag) × Ran rest g op old tag (Err e) new
+
+-- The same, where a value of that tag is next.
+pub record RanOpt {F S T E : Type 0} (rest : S → List ℕ) (g : Reader F (Constructed S) T E) (op : F) (old : ValuesLeft) (tag : TagValue) (r : Result (Option T) (DecodeError E)) (new : ValuesLeft) : Type 0 where
+  pub cases : RanOptCases rest g op old tag r new
+
+-- Reading went from the content's values to the octets of the one in front, which is primitive and has that tag.
+pub record EntersOctets (old : ValuesLeft) (tag : TagValue) (span : Span) (inner : OctetsLeft) : Type 0 where
+  pub opens : Opens old.mode (octets old) false tag span (octets_in inner)
+  pub mode : inner.mode ≡ old.mode
+  pub before : old.failed ≡ false
+  pub sound : inner.failed ≡ false
+
+-- And back, behind the value.
+pub record LeavesOctets (old : ValuesLeft) (span : Span) (end : OctetsLeft) (new : ValuesLeft) : Type 0 where
+  pub closes : Closes span (octets_in end) (octets new)
+  pub mode : new.mode ≡ old.mode
+  pub ending : new.end ≡ old.end
+  pub sound : end.failed ≡ false
+  pub behind : new.failed ≡ false
+
+-- The closure was given the octets of the value in front, and answered.
+pub record PlainRanOn {F S T E : Type 0} (rest : S → List ℕ) (g : Reader F (Primitive S) T E) (op : F) (old : ValuesLeft) (tag : TagValue) (span : Span) (r : Result T (DecodeError E)) (end : OctetsLeft) : Type 0 where
+  pub given : Primitive S
+  pub left : Primitive S
+  pub enters : EntersOctets old tag span (plain rest given)
+  pub met : FnOnceReturnsAtMut g op given r left
+  pub ends : plain rest left ≡ end
+
+-- Why the octets were refused: no such value is next, the closure refused, or it left octets unread.
+pub data PlainRefused {F S T E : Type 0} (rest : S → List ℕ) (g : Reader F (Primitive S) T E) (op : F) (old : ValuesLeft) (tag : TagValue) (e : DecodeError E) : Type 0 where
+  no_octets : NoneOf old tag false → PlainRefused rest g op old tag e
+  refused_octets : (span : Span) (end : OctetsLeft) → PlainRanOn rest g op old tag span (Err e) end → PlainRefused rest g op old tag e
+  octets_go_on : (span : Span) (end : OctetsLeft) (x : T) → PlainRanOn rest g op old tag span (Ok x) end → EndsUnread span end.failed (octets_in end) → PlainRefused rest g op old tag e
+
+abbrev pub PlainRanCases : {F S T E : Type 0} → (S → List ℕ) → Reader F (Primitive S) T E → F → ValuesLeft → TagValue → Result T (DecodeError E) → ValuesLeft → Type 0
+PlainRanCases {F} {S} {T} {E} rest g op old tag (Ok x) new = (span : Span) × (end : OctetsLeft) × PlainRanOn rest g op old tag span (Ok x) end × LeavesOctets old span end new
+PlainRanCases {F} {S} {T} {E} rest g op old tag (Err e) new = OnContent e (PlainRefused rest g op old tag e)
+
+-- The closure read the octets of a primitive value with that tag, all of them.
+pub record PlainRan {F S T E : Type 0} (rest : S → List ℕ) (g : Reader F (Primitive S) T E) (op : F) (old : ValuesLeft) (tag : TagValue) (r : Result T (DecodeError E)) (new : ValuesLeft) : Type 0 where
+  pub cases : PlainRanCases rest g op old tag r new
+
+abbrev pub PlainRanOptCases : {F S T E : Type 0} → (S → List ℕ) → Reader F (Primitive S) T E → F → ValuesLeft → TagValue → Result (Option T) (DecodeError E) → ValuesLeft → Type 0
+PlainRanOptCases {F} {S} {T} {E} rest g op old tag (Ok (Some x)) new = PlainRan rest g op old tag (Ok x) new
+PlainRanOptCases rest g op old tag (Ok None) new = (new ≡ old) × Unlike old tag
+PlainRanOptCases rest g op old tag (Err e) new = OnContent e (Comes old tag) × PlainRan rest g op old tag (Err e) new
+
+-- The same, where a value of that tag is next.
+pub record PlainRanOpt {F S T E : Type 0} (rest : S → List ℕ) (g : Reader F (Primitive S) T E) (op : F) (old : ValuesLeft) (tag : TagValue) (r : Result (Option T) (DecodeError E)) (new : ValuesLeft) : Type 0 where
+  pub cases : PlainRanOptCases rest g op old tag r new
+
+-- A source that is read from its beginning.
+abbrev pub fresh : Mode → List ℕ → ValuesLeft
+fresh m rest = record { mode = m; end = Unbounded; failed = false; rest = rest; limit = None }
+
+-- The closure was given a content, and answered.
+pub record RanIn {F S T E : Type 0} (rest : S → List ℕ) (g : Reader F (Constructed S) T E) (op : F) (v : ValuesLeft) (r : Result T (DecodeError E)) (end : ValuesLeft) : Type 0 where
+  pub given : Constructed S
+  pub left : Constructed S
+  pub starts : here rest given ≡ v
+  pub met : FnOnceReturnsAtMut g op given r left
+  pub ends : here rest left ≡ end
+
+-- Why the octets of a source were refused: the closure refused, or a read of its was refused before.
+pub data RanInRefused {F S T E : Type 0} (rest : S → List ℕ) (g : Reader F (Constructed S) T E) (op : F) (v : ValuesLeft) (e : DecodeError E) : Type 0 where
+  refused_in : (end : ValuesLeft) → RanIn rest g op v (Err e) end → RanInRefused rest g op v e
+  failed_in : (end : ValuesLeft) (x : T) → RanIn rest g op v (Ok x) end → end.failed ≡ true → RanInRefused rest g op v e
+
+abbrev pub DecodedCases : {F S T E : Type 0} → (S → List ℕ) → Reader F (Constructed S) T E → F → ValuesLeft → Result T (DecodeError E) → Type 0
+DecodedCases {F} {S} {T} {E} rest g op v (Ok x) = (end : ValuesLeft) × RanIn rest g op v (Ok x) end × (end.failed ≡ false)
+DecodedCases {F} {S} {T} {E} rest g op v (Err e) = OnContent e (RanInRefused rest g op v e)
+
+-- The closure read a source from its beginning; what it left unread doesn't matter.
+pub record Decoded {F S T E : Type 0} (rest : S → List ℕ) (g : Reader F (Constructed S) T E) (op : F) (v : ValuesLeft) (r : Result T (DecodeError E)) : Type 0 where
+  pub cases : DecodedCases rest g op v r

@@ -1,0 +1,36 @@
+-- What a reading of a primitive content by a closure was.
+use Rattle.std.specs.Prelude.{◌≡◌, ℕ, Bool, true, false, List, length, Result, Ok, Err, Option, Some, None}
+use Rattle.std.specs.Fn.{FnOnceReturnsAtMut}
+use Rattle.bcder_source.specs.Errors.{OnlyContent}
+use Rattle.bcder_source.specs.declared.error.DecodeError.{DecodeError}
+use Rattle.bcder_source.specs.declared.mode.Mode.{Mode}
+use Rattle.bcder_content.specs.declared.primitive.Primitive.{Primitive}
+use Rattle.bcder_content.specs.Contents.{OctetsLeft}
+use Rattle.bcder_content.specs.Plain.{Drained}
+use Rattle.bcder_content.specs.Here.{plain}
+use Rattle.bcder_content.specs.Ran.{Reader}
+
+-- A content of just these octets.
+abbrev pub content_of : Mode → List ℕ → OctetsLeft
+content_of m octets = record { mode = m; failed = false; rest = octets; limit = Some (length octets) }
+
+-- The closure was given the content, and answered.
+pub record RanOnOctets {F S T E : Type 0} (rest : S → List ℕ) (g : Reader F (Primitive S) T E) (op : F) (given : OctetsLeft) (r : Result T (DecodeError E)) (end : OctetsLeft) : Type 0 where
+  pub begun : Primitive S
+  pub left : Primitive S
+  pub begins : plain rest begun ≡ given
+  pub met : FnOnceReturnsAtMut g op begun r left
+  pub ends : plain rest left ≡ end
+
+-- Why a content was refused: the closure refused it, with that very error, or it left octets unread.
+pub data SliceRefused {F S T E : Type 0} (rest : S → List ℕ) (g : Reader F (Primitive S) T E) (op : F) (given : OctetsLeft) (e : DecodeError E) : Type 0 where
+  refused : (end : OctetsLeft) → RanOnOctets rest g op given (Err e) end → SliceRefused rest g op given e
+  goes_on : (end : OctetsLeft) (x : T) → RanOnOctets rest g op given (Ok x) end → (Drained end → ⊥) → OnlyContent e (Unit {0}) → SliceRefused rest g op given e
+
+abbrev pub SliceCases : {F S T E : Type 0} → (S → List ℕ) → Reader F (Primitive S) T E → F → OctetsLeft → Result T (DecodeError E) → Type 0
+SliceCases {F} {S} {T} {E} rest g op given (Ok x) = (end : OctetsLeft) × RanOnOctets rest g op given (Ok x) end × Drained end
+SliceCases {F} {S} {T} {E} rest g op given (Err e) = SliceRefused rest g op given e
+
+-- The closure read the octets, all of them.
+pub record RanOnSlice {F S T E : Type 0} (rest : S → List ℕ) (g : Reader F (Primitive S) T E) (op : F) (given : OctetsLeft) (r : Result T (DecodeError E)) : Type 0 where
+  pub cases : SliceCases rest g op given r

@@ -1,0 +1,74 @@
+//! Sources that are read from their beginning.
+ghost use Rattle.std.specs.Prelude.{◌≡◌, ℕ, List};
+ghost use Rattle.bcder_source.specs.declared.mode.Mode.{Mode as ModeValue};
+ghost use Rattle.bcder_content.specs.Ran.{Decoded, fresh};
+
+use crate::constructed::Constructed;
+use crate::ending::Ending;
+use crate::primitive::Primitive;
+use bcder_source::{ContentError, DecodeError, IntoSource, LimitedSource, Mode, Source};
+
+impl<S: Source> Constructed<S> {
+    /// What a closure reads from the beginning of a source, in that mode. Octets behind what it reads
+    /// stay unread.
+    pub fn decode<
+        I: IntoSource<Source = S>,
+        T: Drop,
+        F: FnOnce(&mut Constructed<S>) -> Result<T, DecodeError<S::Error>>,
+    >(source: I, mode: Mode, op: F) -> Result<T, DecodeError<S::Error>>
+        requires { F.IsAlwaysCallable op }
+        ensures { Decoded S.rest F.FnOnce op (fresh mode (I.octets source)) result }
+    {
+        let source = LimitedSource::new(source.into_source());
+        let start = source.pos();
+        let mut content = Constructed {
+            octets: Primitive {
+                source,
+                mode,
+                failed: false,
+                start,
+            },
+            end: Ending::Unbounded,
+            constructed: true,
+        };
+        let value = match op(&mut content) {
+            Ok(value) => value,
+            Err(error) => return Err(error),
+        };
+        if content.octets.failed {
+            return Err(content.content_err(ContentError::from_static("a read was refused before")));
+        }
+        Ok(value)
+    }
+}
+
+/// Modes in which sources are read.
+pub trait Decode {
+    ghost mode: { Self → ModeValue };
+
+    /// What a closure reads from the beginning of a source, in this mode. Octets behind what it reads
+    /// stay unread.
+    fn decode<
+        I: IntoSource,
+        T: Drop,
+        F: FnOnce(
+            &mut Constructed<I::Source>,
+        ) -> Result<T, DecodeError<<I::Source as Source>::Error>>,
+    >(self, source: I, op: F) -> Result<T, DecodeError<<I::Source as Source>::Error>>
+        requires { F.IsAlwaysCallable op }
+        ensures { Decoded I.Source.rest F.FnOnce op (fresh (mode self) (I.octets source)) result };
+}
+
+impl Decode for Mode {
+    ghost mode = { λ m. m };
+
+    fn decode<
+        I: IntoSource,
+        T: Drop,
+        F: FnOnce(
+            &mut Constructed<I::Source>,
+        ) -> Result<T, DecodeError<<I::Source as Source>::Error>>,
+    >(self, source: I, op: F) -> Result<T, DecodeError<<I::Source as Source>::Error>> {
+        Constructed::decode(source, self, op)
+    }
+}

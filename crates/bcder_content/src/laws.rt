@@ -1,0 +1,32 @@
+//! Laws of reading: the contracts of functions that do nothing.
+//!
+//! Whether a value is skipped, captured or taken by a closure that walks through it, in each mode and
+//! over each source: it is the value that stands in front of what may be read, and behind it the
+//! content stands at one place (`Took` and `Ahead` in the contracts of `skip_one`, `capture_one`,
+//! `take_constructed_if` and the others).
+ghost use Rattle.std.specs.Prelude.{◌≡◌, ◌↔◌, ℕ, List, false};
+ghost use Rattle.bcder_source.specs.Tree.{Tree, Trees};
+ghost use Rattle.bcder_source.specs.Front.{Front};
+ghost use Rattle.bcder_source.specs.Views.{left};
+ghost use Rattle.bcder_content.specs.Contents.{ValuesLeft, octets, Took, Ahead, Ended, Whole};
+
+/// A value is next exactly where it stands in front of what may be read of a content that hasn't
+/// failed.
+pub fn next_stands_in_front()
+    ensures { (v : ValuesLeft) (t : Tree) → Ahead v t ↔ ((v.failed ≡ false) × ((rest : List ℕ) × Front v.mode (left (octets v)) t rest)) }
+{}
+
+/// One value at most is next, and reading it ends at one place.
+pub fn one_next()
+    ensures { (v w x : ValuesLeft) (t u : Tree) → Took v t w → Took v u x → (t ≡ u) × (w ≡ x) }
+{}
+
+/// Where a content has ended no value is next.
+pub fn ended_or_next()
+    ensures { (v : ValuesLeft) (t : Tree) → Ended v → Ahead v t → ⊥ }
+{}
+
+/// The values of a content to its end are one list.
+pub fn one_content()
+    ensures { (v : ValuesLeft) (ts us : Trees) → Whole v ts → Whole v us → ts ≡ us }
+{}

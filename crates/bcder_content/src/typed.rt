@@ -1,0 +1,179 @@
+//! Values of simple types, and of sequences and sets.
+ghost use Rattle.std.specs.Prelude.{◌≡◌, ◌^◌, IfErr, OnErr, true};
+ghost use Rattle.bcder_source.specs.Tags.{universal};
+ghost use Rattle.bcder_content.specs.Exact.{ReadsAs, ReadsOptAs};
+ghost use Rattle.bcder_content.specs.Grammar.{OctetsOf};
+ghost use Rattle.bcder_content.specs.Here.{here};
+ghost use Rattle.bcder_content.specs.Ran.{Ran, RanOpt};
+ghost use Rattle.bcder_content.specs.Values.{IsBoolean, IsNull, IsUnsigned, IsValue};
+
+use crate::constructed::Constructed;
+use bcder_source::{DecodeError, Source, Tag};
+
+/// Values of simple types. A value that is read must be next; an optional one is there where a value
+/// with its tag is next.
+impl<S: Source> Constructed<S> {
+    /// The truth of a BOOLEAN (X.690 8.2, 11.1).
+    pub fn take_bool(&mut self) -> Result<bool, DecodeError<S::Error>>
+        ensures reads { ReadsAs (λ b. b) (OctetsOf (universal 1) (IsBoolean (here S.rest self.old).mode)) (here S.rest self.old) result (here S.rest self.new) }
+        ensures failed { OnErr result ((here S.rest self.new).failed ≡ true) }
+    {
+        self.take_primitive_if(Tag::BOOLEAN, |prim| prim.to_bool())
+    }
+
+    /// The truth of a BOOLEAN, if one is next (X.690 8.2, 11.1).
+    pub fn take_opt_bool(&mut self) -> Result<Option<bool>, DecodeError<S::Error>>
+        ensures reads { ReadsOptAs (λ b. b) (universal 1) (OctetsOf (universal 1) (IsBoolean (here S.rest self.old).mode)) (here S.rest self.old) result (here S.rest self.new) }
+        ensures failed { OnErr result ((here S.rest self.new).failed ≡ true) }
+    {
+        self.take_opt_primitive_if(Tag::BOOLEAN, |prim| prim.to_bool())
+    }
+
+    /// Reads a NULL (X.690 8.8).
+    pub fn take_null(&mut self) -> Result<(), DecodeError<S::Error>>
+        ensures reads { ReadsAs (λ x. x) (OctetsOf (universal 5) (IsNull)) (here S.rest self.old) result (here S.rest self.new) }
+        ensures failed { OnErr result ((here S.rest self.new).failed ≡ true) }
+    {
+        self.take_primitive_if(Tag::NULL, |prim| prim.to_null())
+    }
+
+    /// Reads a NULL, if one is next, and tells whether (X.690 8.8).
+    pub fn take_opt_null(&mut self) -> Result<Option<()>, DecodeError<S::Error>>
+        ensures reads { ReadsOptAs (λ x. x) (universal 5) (OctetsOf (universal 5) (IsNull)) (here S.rest self.old) result (here S.rest self.new) }
+        ensures failed { OnErr result ((here S.rest self.new).failed ≡ true) }
+    {
+        self.take_opt_primitive_if(Tag::NULL, |prim| prim.to_null())
+    }
+
+    /// The number of an INTEGER (X.690 8.3) that fits a `u8`; any other is refused.
+    pub fn take_u8(&mut self) -> Result<u8, DecodeError<S::Error>>
+        ensures reads { ReadsAs (λ n. n) (OctetsOf (universal 2) (IsUnsigned (2 ^ 8))) (here S.rest self.old) result (here S.rest self.new) }
+        ensures failed { OnErr result ((here S.rest self.new).failed ≡ true) }
+    {
+        self.take_primitive_if(Tag::INTEGER, |prim| prim.to_u8())
+    }
+
+    /// The number of an INTEGER, if one is next (X.690 8.3); one that doesn't fit a `u8` is refused.
+    pub fn take_opt_u8(&mut self) -> Result<Option<u8>, DecodeError<S::Error>>
+        ensures reads { ReadsOptAs (λ n. n) (universal 2) (OctetsOf (universal 2) (IsUnsigned (2 ^ 8))) (here S.rest self.old) result (here S.rest self.new) }
+        ensures failed { OnErr result ((here S.rest self.new).failed ≡ true) }
+    {
+        self.take_opt_primitive_if(Tag::INTEGER, |prim| prim.to_u8())
+    }
+
+    /// The number of an INTEGER (X.690 8.3) that fits a `u16`; any other is refused.
+    pub fn take_u16(&mut self) -> Result<u16, DecodeError<S::Error>>
+        ensures reads { ReadsAs (λ n. n) (OctetsOf (universal 2) (IsUnsigned (2 ^ 16))) (here S.rest self.old) result (here S.rest self.new) }
+        ensures failed { OnErr result ((here S.rest self.new).failed ≡ true) }
+    {
+        self.take_primitive_if(Tag::INTEGER, |prim| prim.to_u16())
+    }
+
+    /// The number of an INTEGER, if one is next (X.690 8.3); one that doesn't fit a `u16` is refused.
+    pub fn take_opt_u16(&mut self) -> Result<Option<u16>, DecodeError<S::Error>>
+        ensures reads { ReadsOptAs (λ n. n) (universal 2) (OctetsOf (universal 2) (IsUnsigned (2 ^ 16))) (here S.rest self.old) result (here S.rest self.new) }
+        ensures failed { OnErr result ((here S.rest self.new).failed ≡ true) }
+    {
+        self.take_opt_primitive_if(Tag::INTEGER, |prim| prim.to_u16())
+    }
+
+    /// The number of an INTEGER (X.690 8.3) that fits a `u32`; any other is refused.
+    pub fn take_u32(&mut self) -> Result<u32, DecodeError<S::Error>>
+        ensures reads { ReadsAs (λ n. n) (OctetsOf (universal 2) (IsUnsigned (2 ^ 32))) (here S.rest self.old) result (here S.rest self.new) }
+        ensures failed { OnErr result ((here S.rest self.new).failed ≡ true) }
+    {
+        self.take_primitive_if(Tag::INTEGER, |prim| prim.to_u32())
+    }
+
+    /// The number of an INTEGER, if one is next (X.690 8.3); one that doesn't fit a `u32` is refused.
+    pub fn take_opt_u32(&mut self) -> Result<Option<u32>, DecodeError<S::Error>>
+        ensures reads { ReadsOptAs (λ n. n) (universal 2) (OctetsOf (universal 2) (IsUnsigned (2 ^ 32))) (here S.rest self.old) result (here S.rest self.new) }
+        ensures failed { OnErr result ((here S.rest self.new).failed ≡ true) }
+    {
+        self.take_opt_primitive_if(Tag::INTEGER, |prim| prim.to_u32())
+    }
+
+    /// The number of an INTEGER (X.690 8.3) that fits a `u64`; any other is refused.
+    pub fn take_u64(&mut self) -> Result<u64, DecodeError<S::Error>>
+        ensures reads { ReadsAs (λ n. n) (OctetsOf (universal 2) (IsUnsigned (2 ^ 64))) (here S.rest self.old) result (here S.rest self.new) }
+        ensures failed { OnErr result ((here S.rest self.new).failed ≡ true) }
+    {
+        self.take_primitive_if(Tag::INTEGER, |prim| prim.to_u64())
+    }
+
+    /// The number of an INTEGER, if one is next (X.690 8.3); one that doesn't fit a `u64` is refused.
+    pub fn take_opt_u64(&mut self) -> Result<Option<u64>, DecodeError<S::Error>>
+        ensures reads { ReadsOptAs (λ n. n) (universal 2) (OctetsOf (universal 2) (IsUnsigned (2 ^ 64))) (here S.rest self.old) result (here S.rest self.new) }
+        ensures failed { OnErr result ((here S.rest self.new).failed ≡ true) }
+    {
+        self.take_opt_primitive_if(Tag::INTEGER, |prim| prim.to_u64())
+    }
+
+    /// Reads an INTEGER (X.690 8.3) of that number; any other is refused.
+    pub fn skip_u8_if(&mut self, expected: u8) -> Result<(), DecodeError<S::Error>>
+        ensures reads { ReadsAs (λ x. x) (OctetsOf (universal 2) (IsValue (IsUnsigned (2 ^ 8)) expected)) (here S.rest self.old) result (here S.rest self.new) }
+        ensures failed { OnErr result ((here S.rest self.new).failed ≡ true) }
+    {
+        self.take_primitive_if(Tag::INTEGER, |prim| prim.skip_u8_if(expected))
+    }
+
+    /// Reads an INTEGER of that number, if an INTEGER is next, and tells whether (X.690 8.3); any other
+    /// number is refused.
+    pub fn skip_opt_u8_if(&mut self, expected: u8) -> Result<Option<()>, DecodeError<S::Error>>
+        ensures reads { ReadsOptAs (λ x. x) (universal 2) (OctetsOf (universal 2) (IsValue (IsUnsigned (2 ^ 8)) expected)) (here S.rest self.old) result (here S.rest self.new) }
+        ensures failed { OnErr result ((here S.rest self.new).failed ≡ true) }
+    {
+        self.take_opt_primitive_if(Tag::INTEGER, |prim| prim.skip_u8_if(expected))
+    }
+}
+
+/// Sequences and sets, by closures that read their values.
+impl<S: Source> Constructed<S> {
+    /// A SEQUENCE (X.690 8.9, 8.10), by a closure that reads its values.
+    pub fn take_sequence<
+        T: Drop,
+        F: FnOnce(&mut Constructed<S>) -> Result<T, DecodeError<S::Error>>,
+    >(&mut self, op: F) -> Result<T, DecodeError<S::Error>>
+        requires { F.IsAlwaysCallable op }
+        ensures ran { Ran S.rest F.FnOnce op (here S.rest self.old) (universal 16) result (here S.rest self.new) }
+        ensures failed { OnErr result ((here S.rest self.new).failed ≡ true) }
+    {
+        self.take_constructed_if(Tag::SEQUENCE, op)
+    }
+
+    /// A SEQUENCE (X.690 8.9, 8.10), if one is next, by a closure that reads its values.
+    pub fn take_opt_sequence<
+        T: Drop,
+        F: FnOnce(&mut Constructed<S>) -> Result<T, DecodeError<S::Error>>,
+    >(&mut self, op: F) -> Result<Option<T>, DecodeError<S::Error>>
+        requires { F.IsAlwaysCallable op }
+        ensures ran { RanOpt S.rest F.FnOnce op (here S.rest self.old) (universal 16) result (here S.rest self.new) }
+        ensures failed { OnErr result ((here S.rest self.new).failed ≡ true) }
+    {
+        self.take_opt_constructed_if(Tag::SEQUENCE, op)
+    }
+
+    /// A SET (X.690 8.11, 8.12), by a closure that reads its values.
+    pub fn take_set<T: Drop, F: FnOnce(&mut Constructed<S>) -> Result<T, DecodeError<S::Error>>>(
+        &mut self,
+        op: F,
+    ) -> Result<T, DecodeError<S::Error>>
+        requires { F.IsAlwaysCallable op }
+        ensures ran { Ran S.rest F.FnOnce op (here S.rest self.old) (universal 17) result (here S.rest self.new) }
+        ensures failed { OnErr result ((here S.rest self.new).failed ≡ true) }
+    {
+        self.take_constructed_if(Tag::SET, op)
+    }
+
+    /// A SET (X.690 8.11, 8.12), if one is next, by a closure that reads its values.
+    pub fn take_opt_set<
+        T: Drop,
+        F: FnOnce(&mut Constructed<S>) -> Result<T, DecodeError<S::Error>>,
+    >(&mut self, op: F) -> Result<Option<T>, DecodeError<S::Error>>
+        requires { F.IsAlwaysCallable op }
+        ensures ran { RanOpt S.rest F.FnOnce op (here S.rest self.old) (universal 17) result (here S.rest self.new) }
+        ensures failed { OnErr result ((here S.rest self.new).failed ≡ true) }
+    {
+        self.take_opt_constructed_if(Tag::SET, op)
+    }
+}

@@ -1,0 +1,44 @@
+use Rattle.std.proofs.Common.{Some, None, lit<, sym}
+use Rattle.std.proofs.lemmas.Str.Pattern.{split_parts}
+use Rattle.std.proofs.lemmas.Result.{err_from_is_err_and}
+use Rattle.resources_addr.proofs.MaxLenTexts.{fault_alone, fault_before}
+use Rattle.resources_addr.proofs.addr.texts.prefix_and_max_len.Goals as goal
+
+pub returns-in_err-prefix_part : goal.returns-in_err-prefix_part
+returns-in_err-prefix_part c =
+    let p = err_from_is_err_and c.from_residual.result c.from_residual.ensures.1 in
+    let none = split_parts 45 c.args.text.now None c.in_default.ensures.cases (lit< tt) in
+    rw (p.1, p.2) (fault_alone c.args.text.now _ none c.in_err-prefix_part.ensures)
+
+pub returns-in_default : goal.returns-in_default
+returns-in_default c =
+    (split_parts 45 c.args.text.now None c.in_default.ensures.cases (lit< tt), c.in_ok-prefix_part.ensures)
+
+pub returns-in_err-prefix : goal.returns-in_err-prefix
+returns-in_err-prefix c =
+    let p = err_from_is_err_and c.from_residual-in_err-prefix.result c.from_residual-in_err-prefix.ensures.1 in
+    let parts = split_parts 45 c.args.text.now (Some (c.in-Some.prefix, c.in-Some.digits)) c.in-Some.ensures.cases (lit< tt) in
+    rw (p.1, p.2)
+    (fault_before c.args.text.now c.in-Some.prefix.now c.in-Some.digits.now _ (record { whole = parts.0; first = parts.1 }) c.in_err-prefix.ensures)
+
+pub returns-in-Ok : goal.returns-in-Ok
+returns-in-Ok c =
+    let parts = split_parts 45 c.args.text.now (Some (c.in-Some.prefix, c.in-Some.digits)) c.in-Some.ensures.cases (lit< tt) in
+    let number = c.in-Ok.ensures in (
+      c.in-Some.prefix.now,
+      c.in-Some.digits.now,
+      record { whole = parts.0; first = parts.1 },
+      c.in_ok-prefix.ensures,
+      record { numeral = number.0.0.0; value = sym number.0.1; fits = rw number.0.1 number.0.0.1 },
+    )
+
+pub returns-in-Err : goal.returns-in-Err
+returns-in-Err c =
+    let parts = split_parts 45 c.args.text.now (Some (c.in-Some.prefix, c.in-Some.digits)) c.in-Some.ensures.cases (lit< tt) in (
+      c.in-Some.prefix.now,
+      c.in-Some.digits.now,
+      c.in_ok-prefix.prefix,
+      record { whole = parts.0; first = parts.1 },
+      c.in_ok-prefix.ensures,
+      λ n h. c.in-Err.ensures.0 (h.numeral, rw h.value h.fits),
+    )

@@ -1,0 +1,21 @@
+-- Sets of numbers as lists, each number once, ascending.
+use Rattle.std.specs.Prelude.{◌≡◌, ℕ, ◌<◌, ◌⊎◌, ◌↔◌, List, [], ◌∷◌}
+
+abbrev pub InList : List ℕ → ℕ → Type 0
+InList [] n = ⊥
+InList (x ∷ xs) n = (n ≡ x) ⊎ InList xs n
+
+-- Each number of the list is greater.
+abbrev pub IsBelow : ℕ → List ℕ → Type 0
+IsBelow n [] = Unit {0}
+IsBelow n (x ∷ xs) = (n < x) × IsBelow n xs
+
+-- Each number is smaller than all behind it.
+abbrev pub IsAscending : List ℕ → Type 0
+IsAscending [] = Unit {0}
+IsAscending (x ∷ xs) = IsBelow x xs × IsAscending xs
+
+-- The numbers of the set that P tells, ascending.
+pub record IsListOf (P : ℕ → Type 0) (numbers : List ℕ) : Type 0 where
+  pub ascending : IsAscending numbers
+  pub same : (n : ℕ) → InList numbers n ↔ P n

@@ -1,0 +1,105 @@
+-- Whole IPv4 addresses.
+use Rattle.std.proofs.Common.{◌≡◌, ℕ, suc, ◌+◌, ◌-◌, ◌*◌, ◌/◌, ◌%◌, ◌^◌, ◌<◌, ◌≤◌, ◌⊎◌, ◌↔◌, inl, inr, List, [], ◌∷◌, ◌++◌, ap, sym, subst, ◌∙◌, arith, refl}
+use Rattle.std.proofs.lemmas.Bool.Decides.{leb_tells}
+use Rattle.std.proofs.lemmas.Nat.{pow_pos, pow-add, mod_low}
+use Rattle.resources_chain.specs.Sets.{Run, InRun, InRuns, IsRunsOf, StandsApart, AreMaximal}
+use Rattle.resources_ip.specs.Prefixes.{span_of, first_of, last_of, prefix_run}
+use Rattle.resources_ip.specs.Whole.{IsWhole, AreWhole}
+
+-- Whole runs have all numbers or none that begin with the same 32 bits.
+pub whole_run : (r : Run) → IsWhole r → (n m : ℕ) → n / 2 ^ 96 ≡ m / 2 ^ 96 → InRun r n → InRun r m
+whole_run r w n m e h = (omega (arith, w.0, h.0, e), omega (arith, w.1, h.1, e))
+
+-- The numbers of lists one behind the other.
+in_either : (a b : List Run) (n : ℕ) → InRuns (a ++ b) n → InRuns a n ⊎ InRuns b n
+in_either [] b n h = inr h
+in_either (r ∷ a) b n (inl h) = inl (inl h)
+in_either (r ∷ a) b n (inr h) = elim (in_either a b n h) [ inl x ↦ inl (inr x) | inr y ↦ inr y ]
+
+in_first : (a b : List Run) (n : ℕ) → InRuns a n → InRuns (a ++ b) n
+in_first [] b n h = absurd h
+in_first (r ∷ a) b n (inl h) = inl h
+in_first (r ∷ a) b n (inr h) = inr (in_first a b n h)
+
+in_second : (a b : List Run) (n : ℕ) → InRuns b n → InRuns (a ++ b) n
+in_second [] b n h = h
+in_second (r ∷ a) b n h = inr (in_second a b n h)
+
+-- One whole run more.
+pub whole_push : (runs : List Run) (r : Run) → AreWhole runs → IsWhole r → AreWhole (runs ++ r ∷ [])
+whole_push runs r all one n m e h =
+    elim (in_either runs (r ∷ []) n h) [
+      | inl x ↦ in_first runs (r ∷ []) m (all n m e x)
+      | inr y ↦ in_second runs (r ∷ []) m (elim y [ inl z ↦ inl (whole_run r one n m e z) | inr z ↦ absurd z ])
+    ]
+
+pub whole_set : (runs set : List Run) → AreWhole runs → IsRunsOf (InRuns runs) set → AreWhole set
+whole_set runs set all is n m e h = (is.same m).1 (all n m e ((is.same n).0 h))
+
+-- Multiples of a greater power of two.
+high : (q j : ℕ) → 96 ≤ j → (q * 2 ^ j) % 2 ^ 96 ≡ 0
+high q j h =
+    let parts : 2 ^ j ≡ 2 ^ (j - 96) * 2 ^ 96 = ap (λ (k : ℕ). 2 ^ k) (omega arith) ∙ pow-add 2 (j - 96) 96 in
+    let e : q * 2 ^ j ≡ q * 2 ^ (j - 96) * 2 ^ 96 + 0 = ap (λ (k : ℕ). q * k) parts ∙ grind arith in
+    ap (λ (k : ℕ). k % 2 ^ 96) e ∙ mod_low (q * 2 ^ (j - 96)) 96 0 (pow_pos 96)
+
+-- A prefix of at most 32 bits is over whole addresses, and so is a range filled up with ones.
+pub whole_prefix : (addr len : ℕ) → len ≤ 32 → first_of len addr ≡ addr → IsWhole (prefix_run addr len)
+whole_prefix addr len h clear =
+    let j : ℕ = 128 - len in
+    let low : addr % 2 ^ 96 ≡ 0 = sym (ap (λ (k : ℕ). k % 2 ^ 96) clear) ∙ high (addr / 2 ^ j) j (omega arith) in
+    let span : (1 * 2 ^ j) % 2 ^ 96 ≡ 0 = high 1 j (omega arith) in
+    (low, omega (arith, low, span, pow_pos j))
+
+pub whole_filled : (first last : ℕ) → first % 2 ^ 96 ≡ 0 → (let r : Run = record { first = first; last = last_of 32 last } in IsWhole r)
+whole_filled first last h = (h, omega arith)
+
+-- Numbers of runs that stand apart from a number are greater by two at least.
+behind : (n k : ℕ) (runs : List Run) → StandsApart n runs → AreMaximal runs → InRuns runs k → n + 1 < k
+behind n k [] apart maximal h = absurd h
+behind n k (r ∷ runs) apart maximal (inl h) = omega (arith, apart.0, h.0)
+behind n k (r ∷ runs) apart maximal (inr h) = behind n k runs apart.1 maximal.2 h
+
+starts_whole : (r : Run) (runs : List Run) → AreMaximal (r ∷ runs) → AreWhole (r ∷ runs) → r.first % 2 ^ 96 ≡ 0
+starts_whole r runs maximal whole =
+    elim (leb_tells (r.first % 2 ^ 96) 0) [
+      | inl le ↦ omega (arith, le.1)
+      | inr lt ↦ absurd (elim (whole r.first (r.first - 1) (omega (arith, lt.1)) (inl (omega arith, maximal.0))) [
+        | inl h ↦ omega (arith, h.0, lt.1)
+        | inr h ↦ omega (arith, behind r.last (r.first - 1) runs maximal.1 maximal.2 h, maximal.0)
+      ])
+    ]
+
+ends_whole : (r : Run) (runs : List Run) → AreMaximal (r ∷ runs) → AreWhole (r ∷ runs) → r.last % 2 ^ 96 ≡ 2 ^ 96 - 1
+ends_whole r runs maximal whole =
+    elim (leb_tells (2 ^ 96 - 1) (r.last % 2 ^ 96)) [
+      | inl le ↦ omega (arith, le.1)
+      | inr lt ↦ absurd (elim (whole r.last (r.last + 1) (omega (arith, lt.1)) (inl (maximal.0, omega arith))) [
+        | inl h ↦ omega (arith, h.1)
+        | inr h ↦ omega (arith, behind r.last (r.last + 1) runs maximal.1 maximal.2 h)
+      ])
+    ]
+
+-- A set is over whole addresses exactly where its first run and the set of the others are.
+pub whole_step : (r : Run) (runs : List Run) → AreMaximal (r ∷ runs) → AreWhole (r ∷ runs) ↔ (IsWhole r × AreWhole runs)
+whole_step r runs maximal = (
+  λ whole.
+      let one : IsWhole r = (starts_whole r runs maximal whole, ends_whole r runs maximal whole) in (
+        one,
+        λ n m e h. elim (whole n m e (inr h)) [
+          | inl x ↦ absurd (let y = whole_run r one m n (sym e) x in omega (arith, behind r.last n runs maximal.1 maximal.2 h, y.1))
+          | inr x ↦ x
+        ],
+      ),
+  λ parts n m e h. elim h [ inl x ↦ inl (whole_run r parts.0 n m e x) | inr x ↦ inr (parts.1 n m e x) ],
+)
+
+-- The same of a list that begins so.
+pub whole_first : (left : List Run) (r : Run) (rest : List Run) → left ≡ r ∷ rest → AreMaximal left → AreWhole left → IsWhole r
+whole_first left r rest e maximal whole = ((whole_step r rest (subst (λ (l : List Run). AreMaximal l) e maximal)).0 (subst (λ (l : List Run). AreWhole l) e whole)).0
+
+pub whole_rest : (left : List Run) (r : Run) (rest : List Run) → left ≡ r ∷ rest → AreMaximal left → IsWhole r → AreMaximal rest × (AreWhole left ↔ AreWhole rest)
+whole_rest left r rest e maximal one =
+    let m : AreMaximal (r ∷ rest) = subst (λ (l : List Run). AreMaximal l) e maximal in
+    let step = whole_step r rest m in
+    (m.2, (λ w. (step.0 (subst (λ (l : List Run). AreWhole l) e w)).1, λ w. subst (λ (l : List Run). AreWhole l) (sym e) (step.1 (one, w))))
