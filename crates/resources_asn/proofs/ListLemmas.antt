@@ -1,5 +1,5 @@
 -- Ascending lists of numbers.
-use Rattle.std.proofs.Common.{◌≡◌, ℕ, ◌+◌, ◌<◌, ◌⊎◌, ◌↔◌, List, [], ◌∷◌, ◌++◌, inl, inr, refl, sym, arith}
+use Rattle.std.proofs.Common.{◌≡◌, ℕ, ◌<◌, ◌⊎◌, ◌↔◌, List, [], ◌∷◌, ◌++◌, inl, inr, refl, sym, arith}
 use Rattle.resources_asn.specs.Listed.{InList, IsBelow, IsAscending, IsListOf}
 
 -- A number below a list is below each of its numbers, and the other way round.
