@@ -4,15 +4,16 @@ use Rattle.std.proofs.Math.Nat.{eq-or-lt_of_le}
 use Rattle.std.proofs.lemmas.List.FromFn.{length-range_with_len}
 use Rattle.std.specs.Prelude.{length}
 use Rattle.std.specs.List.{range_with_len}
-use Rattle.resources_chain.specs.Sets.{Run, InRun, InRuns, StandsApart, AreMaximal}
+use Rattle.resources_chain.specs.Sets.{Run, InRun, InRuns, AreMaximal}
+use Rattle.resources_chain.proofs.SetLemmas.{past_gap}
 use Rattle.resources_as.specs.Blocks.{as_run, as_run_within}
 use Rattle.resources_as.specs.declared.block.AsBlock.{AsBlock}
-use Rattle.resources_as.specs.Listed.{IsListOf}
+use Rattle.resources_asn.specs.Listed.{IsListOf}
 use Rattle.resources_as.specs.Counted.{run_count, runs_count, run_numbers, runs_numbers}
 use Rattle.std.specs.Prelude.{Option, Some, None, MatchOption}
-use Rattle.resources_as.specs.Numbers.{Number}
+use Rattle.resources_asn.specs.Numbers.{Number}
 use Rattle.resources_as.specs.Left.{numbers_left}
-use Rattle.resources_as.proofs.ListLemmas.{list_cons, list_nil, list_append}
+use Rattle.resources_asn.proofs.ListLemmas.{list_cons, list_nil, list_append}
 
 abbrev pub InSpan : ℕ → ℕ → ℕ → Type 0
 InSpan first count n = (first ≤ n) × (n < first + count)
@@ -36,16 +37,11 @@ pub run_length : (r : Run) → length (run_numbers r) ≡ run_count r
 unfolding run_numbers
 run_length r = length-range_with_len r.first (run_count r)
 
--- What is in runs that stand apart is behind.
-pub apart_behind : (k : ℕ) (rs : List Run) → StandsApart k rs → (n : ℕ) → InRuns rs n → k + 1 < n
-apart_behind k [] s n i = absurd i
-apart_behind k (r ∷ rs) s n i = elim i [ inl j ↦ (let h = s.0 in omega arith) | inr j ↦ apart_behind k rs s.1 n j ]
-
 -- The numbers of maximal runs are their list.
 pub runs_list : (rs : List Run) → AreMaximal rs → IsListOf (InRuns rs) (runs_numbers rs)
 runs_list [] m = list_nil (λ n i. absurd i)
 runs_list (r ∷ rs) m =
-    list_append (run_numbers r) (runs_numbers rs) (run_list r) (runs_list rs m.2) (λ a b i j. let h = apart_behind r.last rs m.1 b j in omega arith) (λ n. (λ i. i, λ i. i))
+    list_append (run_numbers r) (runs_numbers rs) (run_list r) (runs_list rs m.2) (λ a b i j. let h = past_gap r.last rs b m.1 j in omega arith) (λ n. (λ i. i, λ i. i))
 
 pub runs_length : (rs : List Run) → length (runs_numbers rs) ≡ runs_count rs
 runs_length [] = refl

@@ -2,7 +2,7 @@
 use Rattle.std.proofs.Common.{◌≡◌, ℕ, ◌+◌, List, [], ◌∷◌, ◌++◌, map, sym, ap, ◌∙◌}
 use Rattle.std.specs.Prelude.{Option, Some, None}
 use Rattle.std.specs.Iterator.{YieldsFirstBy}
-use Rattle.resources_as.specs.Numbers.{Number}
+use Rattle.resources_asn.specs.Numbers.{Number}
 use Rattle.resources_as.specs.Blocks.{as_run, as_run_within}
 use Rattle.resources_as.specs.Counted.{run_numbers, runs_numbers}
 use Rattle.resources_as.specs.declared.block.AsBlock.{AsBlock}

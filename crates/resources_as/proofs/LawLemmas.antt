@@ -3,8 +3,8 @@ use Rattle.std.proofs.Common.{◌≡◌, ℕ, List, ap, ◌∙◌}
 use Rattle.std.specs.Prelude.{length}
 use Rattle.resources_chain.specs.Sets.{Run, InRuns, AreMaximal}
 use Rattle.resources_as.specs.Counted.{runs_count, runs_numbers}
-use Rattle.resources_as.specs.Listed.{IsListOf}
-use Rattle.resources_as.proofs.ListLemmas.{same_list}
+use Rattle.resources_asn.specs.Listed.{IsListOf}
+use Rattle.resources_asn.proofs.ListLemmas.{same_list}
 use Rattle.resources_as.proofs.CountLemmas.{runs_list, runs_length}
 
 pub counted : (runs : List Run) (numbers : List ℕ) → AreMaximal runs → IsListOf (InRuns runs) numbers → length numbers ≡ runs_count runs

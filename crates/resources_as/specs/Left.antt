@@ -1,6 +1,6 @@
 -- What an iterator over a block has left.
 use Rattle.std.specs.Prelude.{ℕ, ◌≤◌, List, [], Option, Some, None}
-use Rattle.resources_as.specs.Numbers.{Number}
+use Rattle.resources_asn.specs.Numbers.{Number}
 use Rattle.resources_as.specs.Counted.{run_numbers}
 
 -- The numbers from the next to the last; where there is no next, none.

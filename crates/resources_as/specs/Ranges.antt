@@ -5,7 +5,7 @@ use Rattle.std.proofs.Common.{ap, arith, subst}
 use Rattle.std.proofs.Math.Bridge.{le_prop}
 use Rattle.resources_chain.specs.Sets.{Run}
 use Rattle.resources_chain.specs.Items.{made_alike}
-use Rattle.resources_as.specs.Numbers.{Number, number_at, number_code}
+use Rattle.resources_asn.specs.Numbers.{Number, number_at, number_code}
 
 -- The numbers from the first to the last, both included.
 pub record Range : Type 0 where

@@ -7,8 +7,8 @@ ghost use Rattle.std.specs.Ordering.{on, eq_of_both};
 ghost use Rattle.std.specs.Range.{range_inclusive_start, range_inclusive_end};
 ghost use Rattle.resources_as.specs.Blocks.{as_run, run_text};
 
-use crate::asn::Asn;
-use crate::range::AsRange;
+use crate::range::{AsRange, predecessor, successor};
+use resources_asn::Asn;
 use resources_chain::Block;
 use std::fmt;
 use std::ops::RangeInclusive;
@@ -101,7 +101,7 @@ impl AsBlock {
 }
 
 impl Block for AsBlock {
-    ghost use Rattle.resources_as.specs.Numbers.{same_number};
+    ghost use Rattle.resources_asn.specs.Numbers.{same_number};
     ghost use Rattle.resources_as.specs.Blocks.{as_run_within};
 
     type Item = Asn;
@@ -130,11 +130,11 @@ impl Block for AsBlock {
     }
 
     fn next(item: Asn) -> Option<Asn> {
-        item.successor()
+        successor(item)
     }
 
     fn previous(item: Asn) -> Option<Asn> {
-        item.predecessor()
+        predecessor(item)
     }
 
     ghost item_within = { λ n. n.in_range };

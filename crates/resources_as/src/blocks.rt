@@ -10,13 +10,13 @@ ghost use Rattle.resources_chain.specs.declared.claims.Overclaim.TheVariants.{Re
 ghost use Rattle.resources_chain.specs.Claims.{Lists, FitsIn, Kept, Refuses, HeldAlong, FitsAlong, RefusesAlong};
 ghost use Rattle.resources_as.specs.Blocks.{as_run};
 ghost use Rattle.resources_as.specs.Counted.{runs_count};
-ghost use Rattle.resources_as.specs.Listed.{IsListOf};
+ghost use Rattle.resources_asn.specs.Listed.{IsListOf};
 
-use crate::asn::Asn;
 use crate::block::AsBlock;
 use crate::claims::OverclaimedAsResources;
 use crate::iter::{AsBlocksIter, AsnIter};
 use crate::resources::{AsResources, InheritedAsResources};
+use resources_asn::Asn;
 use resources_chain::{ClaimError, Overclaim, OwnedChain, SharedChain};
 use std::alloc::{AllocError, Global};
 use std::marker::Model;

@@ -3,7 +3,7 @@
 ghost use Rattle.std.specs.Prelude.{◌≡◌};
 ghost use Rattle.resources_as.specs.declared.error.FromStrError.TheVariants as Cause;
 
-use crate::asn::ParseAsnError;
+use resources_asn::ParseAsnError;
 use std::alloc::AllocError;
 use thiserror::Error;
 

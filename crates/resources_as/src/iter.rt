@@ -6,8 +6,9 @@ ghost use Rattle.resources_as.specs.Blocks.{as_run};
 ghost use Rattle.resources_as.specs.Counted.{run_numbers, runs_numbers};
 ghost use Rattle.resources_as.specs.Left.{numbers_left, IsLeft};
 
-use crate::asn::Asn;
 use crate::block::AsBlock;
+use crate::range::successor;
+use resources_asn::Asn;
 use std::marker::Model;
 
 /// The numbers of a block, ascending. Contracts see the list of those that are left.
@@ -60,7 +61,7 @@ fn behind(asn: Asn, last: Asn) -> Option<Asn>
     ensures left { numbers_left (Some asn) last ≡ asn.value ∷ numbers_left result last }
     ensures within { IsLeft result last }
 {
-    if asn == last { None } else { asn.successor() }
+    if asn == last { None } else { successor(asn) }
 }
 
 /// The blocks of a set of AS numbers, ascending. Contracts see the numbers of each block that is left.

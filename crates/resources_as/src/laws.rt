@@ -1,14 +1,11 @@
 //! Laws of sets of AS numbers: the contracts of functions that do nothing.
 
-ghost use Rattle.std.specs.Prelude.{◌≡◌, ◌↔◌, ℕ, List, length};
+ghost use Rattle.std.specs.Prelude.{◌≡◌, ℕ, List, length};
 ghost use Rattle.resources_chain.specs.Sets.{Run, InRuns, AreMaximal};
+ghost use Rattle.resources_asn.specs.Listed.{IsListOf};
 ghost use Rattle.resources_as.specs.Counted.{runs_count, runs_numbers};
-ghost use Rattle.resources_as.specs.Listed.{InList, IsAscending, IsListOf};
 
-/// A set has one list.
-pub fn one_list_of_a_set()
-    ensures { (xs ys : List ℕ) → IsAscending xs → IsAscending ys → ((n : ℕ) → InList xs n ↔ InList ys n) → xs ≡ ys }
-{}
+pub use resources_asn::laws::one_list_of_a_set;
 
 /// The numbers of maximal runs, run by run, are the list of their set.
 pub fn runs_are_listed()

@@ -1,10 +1,10 @@
 //! Ranges of AS numbers.
 
-ghost use Rattle.std.specs.Prelude.{◌≡◌, ◌+◌, ◌≤◌, ◌++◌, codes, Some, refl};
+ghost use Rattle.std.specs.Prelude.{◌≡◌, ◌+◌, ◌≤◌, ◌++◌, codes, Some, MatchOption, refl};
 ghost use Rattle.std.specs.Fmt.{decimal};
 ghost use Rattle.std.specs.Range.{range_inclusive_start, range_inclusive_end};
 
-use crate::asn::Asn;
+use resources_asn::Asn;
 use resources_chain::Block;
 use std::fmt;
 use std::marker::Model;
@@ -72,7 +72,7 @@ impl AsRange {
 
 impl Block for AsRange {
     ghost use Rattle.resources_as.specs.Ranges.{range_run};
-    ghost use Rattle.resources_as.specs.Numbers.{same_number};
+    ghost use Rattle.resources_asn.specs.Numbers.{same_number};
 
     type Item = Asn;
 
@@ -100,11 +100,11 @@ impl Block for AsRange {
     }
 
     fn next(item: Asn) -> Option<Asn> {
-        item.successor()
+        successor(item)
     }
 
     fn previous(item: Asn) -> Option<Asn> {
-        item.predecessor()
+        predecessor(item)
     }
 
     ghost item_within = { λ n. n.in_range };
@@ -124,4 +124,18 @@ impl fmt::Display for AsRange {
         let (min, max) = (self.min, self.max);
         write!(f, "{min}-{max}")
     }
+}
+
+/// The AS number behind this one; none behind the largest.
+pub(crate) fn successor(asn: Asn) -> Option<Asn>
+    ensures { MatchOption result (asn.value ≡ 4294967295) (λ after. after.value ≡ asn.value + 1) }
+{
+    asn.into_u32().checked_add(1).map(Asn::from_u32)
+}
+
+/// The AS number before this one; none before the smallest.
+pub(crate) fn predecessor(asn: Asn) -> Option<Asn>
+    ensures { MatchOption result (asn.value ≡ 0) (λ before. before.value + 1 ≡ asn.value) }
+{
+    asn.into_u32().checked_sub(1).map(Asn::from_u32)
 }

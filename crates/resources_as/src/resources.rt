@@ -5,7 +5,7 @@ ghost use Rattle.std.specs.Fn.{FnOnceReturnsAtMut};
 ghost use Rattle.resources_chain.specs.declared.choice.ResourcesChoice.TheVariants.{Missing, Inherit, Blocks};
 ghost use Rattle.resources_chain.specs.Sets.{Run, IsRunsOf};
 ghost use Rattle.resources_chain.specs.Claims.{Lists};
-ghost use Rattle.resources_as.specs.Choices.{listed, IsChoiceOf};
+ghost use Rattle.resources_chain.specs.Choices.{listed, IsChoiceOf};
 
 use crate::block::AsBlock;
 use crate::blocks::{AsBlocks, AsBlocksBuilder};

@@ -1,13 +1,12 @@
-//! AS numbers, their sets and what is claimed of them.
-mod asns;
+//! Blocks of AS numbers, their sets and what is claimed of them.
 mod claims;
 mod sets;
 mod texts;
 
-use crate::asn::Asn;
 use crate::block::AsBlock;
 use crate::blocks::{AsBlocks, AsBlocksBuilder};
 use crate::range::AsRange;
+use resources_asn::Asn;
 use std::alloc::Global;
 use std::test::Fail;
 

@@ -1,11 +1,11 @@
 //! Blocks and sets of AS numbers written and read: `AS1, AS3-AS5`.
 
-use crate::asn::Asn;
 use crate::block::AsBlock;
 use crate::blocks::{AsBlocks, AsBlocksBuilder};
 use crate::error::FromStrError;
 use crate::range::AsRange;
 use crate::resources::AsResources;
+use resources_asn::Asn;
 use std::alloc::Global;
 use std::fmt;
 use std::str::FromStr;

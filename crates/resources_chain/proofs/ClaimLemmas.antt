@@ -8,7 +8,7 @@ use Rattle.resources_chain.specs.declared.claims.Overclaim.TheVariants.{Refuse, 
 use Rattle.resources_chain.specs.declared.claims.ClaimError.{ClaimError}
 use Rattle.resources_chain.specs.declared.claims.ClaimError.TheVariants.{Overclaimed, Memory}
 use Rattle.resources_chain.specs.Sets.{Run, InRuns, AreMaximal, IsRunsOf, InFirstOnly, IsInside}
-use Rattle.resources_chain.specs.Claims.{Choice, Keeps, FitsIn, Kept, Unfit, Refuses, Path, AllKeep, HeldAlong, FitsAlong, RefusesAlong}
+use Rattle.resources_chain.specs.Claims.{Choice, Keeps, FitsIn, Kept, Unfit, Refuses, Path, path_of, AllKeep, HeldAlong, FitsAlong, RefusesAlong}
 use Rattle.resources_chain.proofs.SetLemmas.{runs_of_equal, inside_exactly}
 use Rattle.resources_chain.proofs.WalkLemmas.{refuted}
 
@@ -117,3 +117,8 @@ took_more f xs i x p e =
 pub cut_at : {A B : Type 0} (f : A → B) (xs : List A) (i : ℕ) (x : A) → i < length xs → x ≡ get_or xs i x → map f xs ≡ map f (take i xs) ++ f x ∷ map f (drop (suc i) xs)
 cut_at f xs i x p e =
     ap (map f) (sym (take-append-drop i xs)) ∙ map-append f (take i xs) (drop i xs) ∙ ap (λ ys. map f (take i xs) ++ map f ys) (drop-cons xs i x p) ∙ ap (λ y. map f (take i xs) ++ f y ∷ map f (drop (suc i) xs)) (sym e)
+
+-- A path of choices as they stand is itself.
+pub path_is : (path : Path) → path_of (λ (c : Choice). c) path ≡ path
+path_is [] = refl
+path_is (claim ∷ path) = ap (λ (behind : Path). claim ∷ behind) (path_is path)

@@ -1,5 +1,6 @@
 -- Choices of resources, and what is made of the set that one lists.
-use Rattle.std.specs.Prelude.{◌≡◌}
+use Rattle.std.specs.Prelude.{◌≡◌, List, []}
+use Rattle.resources_chain.specs.Sets.{Run, InRuns, IsRunsOf}
 use Rattle.resources_chain.specs.declared.choice.ResourcesChoice.{ResourcesChoice}
 use Rattle.resources_chain.specs.declared.choice.ResourcesChoice.TheVariants.{Missing, Inherit, Blocks}
 
@@ -20,3 +21,13 @@ abbrev pub TurnsInto : {T : Type 0} → (T → Type 0) → (T → T → Type 0) 
 TurnsInto is_none is_clone Missing made = is_none made
 TurnsInto is_none is_clone Inherit made = ⊥
 TurnsInto is_none is_clone (Blocks blocks) made = is_clone blocks made
+
+-- The runs that came, in any order; none where there is no list.
+abbrev pub listed : ResourcesChoice (List Run) → List Run
+listed Missing = []
+listed Inherit = []
+listed (Blocks runs) = runs
+
+-- The second choice is the first, with the maximal runs of the set of those that came.
+abbrev pub IsChoiceOf : ResourcesChoice (List Run) → ResourcesChoice (List Run) → Type 0
+IsChoiceOf = MapsTo (λ runs set. IsRunsOf (InRuns runs) set)

@@ -1,8 +1,8 @@
 use super::{block, blocks};
-use crate::asn::Asn;
 use crate::block::AsBlock;
 use crate::blocks::{AsBlocks, AsBlocksBuilder};
 use crate::range::AsRange;
+use resources_asn::Asn;
 use resources_chain::Block;
 use std::ops::RangeInclusive;
 use std::test::Fail;
@@ -41,6 +41,34 @@ fn blocks_are_their_numbers(rt: HostRuntime) -> Result<(), Fail> {
     assert!(rt; AsBlock::all().is_whole_range());
     assert!(rt; !block(1, LAST).is_whole_range());
     assert!(rt; !block(0, LAST - 1).is_whole_range());
+    Ok(())
+}
+
+#[test]
+fn blocks_are_changed(rt: HostRuntime) -> Result<(), Fail> {
+    let (three, nine) = (Asn::from_u32(3), Asn::from_u32(9));
+    let mut changed = AsBlock::Range(AsRange::new(three, nine));
+    changed.set_min(nine);
+    assert_eq!(rt; changed, block(9, 9));
+    changed.set_min(Asn::MIN);
+    changed.set_max(Asn::from_u32(4));
+    assert_eq!(rt; changed, block(0, 4));
+    assert_eq!(rt;
+        (changed.min(), changed.max()),
+        (Asn::MIN, Asn::from_u32(4))
+    );
+    Ok(())
+}
+
+#[test]
+fn numbers_of_a_block(rt: HostRuntime) -> Result<(), Fail> {
+    let mut numbers = block(LAST - 1, LAST).iter();
+    assert_eq!(rt; numbers.next(), Some(Asn::from_u32(LAST - 1)));
+    assert_eq!(rt; numbers.next(), Some(Asn::MAX));
+    assert_eq!(rt; (numbers.next(), numbers.next()), (None, None));
+    let mut numbers = block(7, 7).into_iter();
+    assert_eq!(rt; numbers.next(), Some(Asn::from_u32(7)));
+    assert_eq!(rt; numbers.next(), None);
     Ok(())
 }
 
@@ -140,6 +168,25 @@ fn sets_inside_sets(rt: HostRuntime) -> Result<(), Fail> {
         one.intersection_assign(alloc, &other)?;
         assert!(rt; one == both);
     }
+    Ok(())
+}
+
+#[test]
+fn blocks_in_any_order(rt: HostRuntime) -> Result<(), Fail> {
+    let alloc = rt.alloc();
+    let came = vec![in alloc;
+        block(7, 9),
+        block(3, 4),
+        block(5, 6),
+        block(20, 22),
+        block(0, 1),
+    ]?;
+    let set = AsBlocks::from_iter(alloc, came.into_iter())?;
+    let mut left = set.iter();
+    assert_eq!(rt; left.next(), Some(block(0, 1)));
+    assert_eq!(rt; left.next(), Some(block(3, 9)));
+    assert_eq!(rt; left.next(), Some(block(20, 22)));
+    assert_eq!(rt; left.next(), None);
     Ok(())
 }
 

@@ -1,10 +1,10 @@
 use super::{block, blocks};
-use crate::asn::Asn;
 use crate::block::AsBlock;
 use crate::blocks::{AsBlocks, AsBlocksBuilder};
 use crate::error::FromStrError;
 use crate::range::AsRange;
 use crate::resources::{AsResources, InheritedAsResources};
+use resources_asn::Asn;
 use std::test::Fail;
 
 #[test]

@@ -1,9 +1,0 @@
-use Rattle.std.proofs.Common.{ap, ◌∙◌}
-use Rattle.resources_as.specs.Chosen.{values}
-use Rattle.resources_as.proofs.SmallLemmas.{one_only_list}
-use Rattle.resources_as.proofs.small_set.SmallAsnSet.symmetric_difference.Goals as goal
-
-pub returns : goal.returns
-returns c =
-    one_only_list c.deref.result.now c.deref-2.result.now _ _ _
-    (ap values c.deref.ensures.value ∙ c.self.view_is) (ap values c.deref-2.ensures.value ∙ c.other.view_is) c.new.ensures

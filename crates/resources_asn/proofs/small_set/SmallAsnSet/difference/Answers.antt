@@ -1,0 +1,9 @@
+use Rattle.std.proofs.Common.{ap, ◌∙◌}
+use Rattle.resources_asn.specs.Chosen.{values}
+use Rattle.resources_asn.proofs.SmallLemmas.{first_list}
+use Rattle.resources_asn.proofs.small_set.SmallAsnSet.difference.Goals as goal
+
+pub returns : goal.returns
+returns c =
+    first_list c.deref.result.now c.deref-2.result.now _ _ _
+    (ap values c.deref.ensures.value ∙ c.self.view_is) (ap values c.deref-2.ensures.value ∙ c.other.view_is) c.new.ensures

@@ -1,0 +1,16 @@
+//! AS numbers (RFC 6793), and small sets of them.
+#![tactic(auto)]
+
+pub mod asn;
+pub mod laws;
+mod selection;
+pub mod small_set;
+
+pub use asn::{Asn, ParseAsnError};
+pub use small_set::{
+    SmallAsnSet, SmallSetDifference, SmallSetIntersection, SmallSetIter,
+    SmallSetSymmetricDifference, SmallSetUnion,
+};
+
+#[cfg(test)]
+mod tests;
