@@ -3,7 +3,7 @@ use Rattle.std.proofs.Common.{List, [], ◌∷◌, inl, inr}
 use Rattle.std.specs.Prelude.{map}
 use Rattle.resources_ip.specs.declared.v4.Ipv4Block.{Ipv4Block}
 use Rattle.resources_ip.specs.Families.{run_of_v4, v4_whole}
-use Rattle.resources_ip.specs.Whole.{AreWhole}
+use Rattle.resources_ip.specs.WholeSets.{AreWhole}
 use Rattle.resources_ip.proofs.WholeLemmas.{whole_run}
 
 pub whole_blocks : (blocks : List Ipv4Block) → AreWhole (map run_of_v4 blocks)

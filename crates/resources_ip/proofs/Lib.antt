@@ -1,9 +1,4 @@
-pub mod Masks
-pub mod PrefixLemmas
-pub mod TextLemmas
 pub mod WholeLemmas
-pub mod BlockText
 pub mod PathLemmas
 pub mod OnOkLemma
 pub mod FamilyLemmas
-pub mod CoverLemmas

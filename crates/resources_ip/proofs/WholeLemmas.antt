@@ -3,8 +3,9 @@ use Rattle.std.proofs.Common.{◌≡◌, ℕ, suc, ◌+◌, ◌-◌, ◌*◌, �
 use Rattle.std.proofs.lemmas.Bool.Decides.{leb_tells}
 use Rattle.std.proofs.lemmas.Nat.{pow_pos, pow-add, mod_low}
 use Rattle.resources_chain.specs.Sets.{Run, InRun, InRuns, IsRunsOf, StandsApart, AreMaximal}
-use Rattle.resources_ip.specs.Prefixes.{span_of, first_of, last_of, prefix_run}
-use Rattle.resources_ip.specs.Whole.{IsWhole, AreWhole}
+use Rattle.resources_ip_block.specs.Prefixes.{span_of, first_of, last_of, prefix_run}
+use Rattle.resources_ip_block.specs.Whole.{IsWhole}
+use Rattle.resources_ip.specs.WholeSets.{AreWhole}
 
 -- Whole runs have all numbers or none that begin with the same 32 bits.
 pub whole_run : (r : Run) → IsWhole r → (n m : ℕ) → n / 2 ^ 96 ≡ m / 2 ^ 96 → InRun r n → InRun r m
@@ -35,24 +36,6 @@ whole_push runs r all one n m e h =
 
 pub whole_set : (runs set : List Run) → AreWhole runs → IsRunsOf (InRuns runs) set → AreWhole set
 whole_set runs set all is n m e h = (is.same m).1 (all n m e ((is.same n).0 h))
-
--- Multiples of a greater power of two.
-high : (q j : ℕ) → 96 ≤ j → (q * 2 ^ j) % 2 ^ 96 ≡ 0
-high q j h =
-    let parts : 2 ^ j ≡ 2 ^ (j - 96) * 2 ^ 96 = ap (λ (k : ℕ). 2 ^ k) (omega arith) ∙ pow-add 2 (j - 96) 96 in
-    let e : q * 2 ^ j ≡ q * 2 ^ (j - 96) * 2 ^ 96 + 0 = ap (λ (k : ℕ). q * k) parts ∙ grind arith in
-    ap (λ (k : ℕ). k % 2 ^ 96) e ∙ mod_low (q * 2 ^ (j - 96)) 96 0 (pow_pos 96)
-
--- A prefix of at most 32 bits is over whole addresses, and so is a range filled up with ones.
-pub whole_prefix : (addr len : ℕ) → len ≤ 32 → first_of len addr ≡ addr → IsWhole (prefix_run addr len)
-whole_prefix addr len h clear =
-    let j : ℕ = 128 - len in
-    let low : addr % 2 ^ 96 ≡ 0 = sym (ap (λ (k : ℕ). k % 2 ^ 96) clear) ∙ high (addr / 2 ^ j) j (omega arith) in
-    let span : (1 * 2 ^ j) % 2 ^ 96 ≡ 0 = high 1 j (omega arith) in
-    (low, omega (arith, low, span, pow_pos j))
-
-pub whole_filled : (first last : ℕ) → first % 2 ^ 96 ≡ 0 → (let r : Run = record { first = first; last = last_of 32 last } in IsWhole r)
-whole_filled first last h = (h, omega arith)
 
 -- Numbers of runs that stand apart from a number are greater by two at least.
 behind : (n k : ℕ) (runs : List Run) → StandsApart n runs → AreMaximal runs → InRuns runs k → n + 1 < k

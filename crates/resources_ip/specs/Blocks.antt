@@ -1,6 +1,6 @@
 -- What contracts see of sets of addresses, and of the blocks that are left to come.
 use Rattle.std.specs.Prelude.{ℕ, ◌<◌, ◌^◌, List}
-use Rattle.resources_ip.specs.declared.block.IpBlock.{IpBlock}
+use Rattle.resources_ip_block.specs.declared.block.IpBlock.{IpBlock}
 use Rattle.resources_ip.specs.declared.blocks.IpBlockIter.{IpBlockIter}
 
 -- Each number of 128 bits is an address.

@@ -9,14 +9,14 @@ ghost use Rattle.resources_chain.specs.declared.choice.ResourcesChoice.{Resource
 ghost use Rattle.resources_chain.specs.declared.claims.Overclaim.TheVariants.{Refuse};
 ghost use Rattle.resources_chain.specs.Claims.{Lists, FitsIn, Kept, Refuses, HeldAlong, FitsAlong, RefusesAlong};
 ghost use Rattle.resources_ip.specs.declared.resources.InheritedIpResources.{InheritedIpResources};
-ghost use Rattle.resources_ip.specs.Block.{run_of_block};
-ghost use Rattle.resources_ip.specs.Whole.{AreWhole};
+ghost use Rattle.resources_ip_block.specs.Block.{run_of_block};
+ghost use Rattle.resources_ip.specs.WholeSets.{AreWhole};
 ghost use Rattle.resources_ip.specs.Blocks.{IsAddress, blocks_left};
 
-use crate::block::IpBlock;
 use crate::claims::OverclaimedIpResources;
 use crate::resources::{InheritedIpResources, IpResources};
 use resources_chain::{ClaimError, Overclaim, OwnedChain, SharedChain};
+use resources_ip_block::IpBlock;
 use std::alloc::{AllocError, Global};
 use std::marker::Model;
 
@@ -296,7 +296,7 @@ pub struct IpBlocksBuilder {
 impl Model for IpBlocksBuilder {
     ghost use Rattle.std.specs.Prelude.{List, map};
     ghost use Rattle.resources_chain.specs.Sets.{Run};
-    ghost use Rattle.resources_ip.specs.Block.{run_of_block};
+    ghost use Rattle.resources_ip_block.specs.Block.{run_of_block};
 
     ghost Value = { List Run };
 

@@ -1,110 +1,16 @@
-//! Blocks and sets of addresses written and read: `10.0.0.0/8, 11.0.0.0-11.0.0.9`.
+//! Sets of addresses written and read: `10.0.0.0/8, 11.0.0.0-11.0.0.9`.
 
-ghost use Rattle.std.specs.Prelude.{◌≡◌, ℕ, List, IfOk, Some};
-ghost use Rattle.std.specs.Fmt.{DisplaysOnOk};
-ghost use Rattle.resources_ip.specs.declared.addr.AddressFamily.TheVariants.{Ipv4};
-ghost use Rattle.resources_ip.specs.Block.{run_of_block};
-ghost use Rattle.resources_ip.specs.Text.{v4_text, v6_text, IsBlockText};
-ghost use Rattle.resources_ip.specs.Whole.{IsWhole, AreWhole};
+ghost use Rattle.std.specs.Prelude.{◌≡◌, IfOk};
+ghost use Rattle.resources_ip_block.specs.declared.addr.AddressFamily.TheVariants.{Ipv4};
+ghost use Rattle.resources_ip_block.specs.Block.{run_of_block};
+ghost use Rattle.resources_ip_block.specs.Whole.{IsWhole};
+ghost use Rattle.resources_ip.specs.WholeSets.{AreWhole};
 
-use crate::addr::AddressFamily;
-use crate::block::IpBlock;
 use crate::blocks::{IpBlocks, IpBlocksBuilder};
-use crate::error::FromStrError;
-use crate::prefix::Prefix;
-use crate::range::AddressRange;
+use resources_ip_block::{AddressFamily, FromStrError, IpBlock};
+pub use resources_ip_block::{DisplayV4Block, DisplayV6Block};
 use std::alloc::Global;
 use std::fmt;
-use std::str::FromStr;
-
-impl IpBlock {
-    /// The IPv4 prefix or range of a text.
-    pub fn from_v4_str(text: &str) -> Result<Self, FromStrError>
-        ensures { IfOk result (λ b. IsWhole (run_of_block b)) }
-    {
-        if text.contains('/') {
-            return Ok(IpBlock::Prefix(Prefix::from_v4_str(text)?));
-        }
-        Ok(IpBlock::Range(AddressRange::from_v4_str(text)?))
-    }
-
-    /// The IPv6 prefix or range of a text.
-    pub fn from_v6_str(text: &str) -> Result<Self, FromStrError> {
-        if text.contains('/') {
-            return Ok(IpBlock::Prefix(Prefix::from_v6_str(text)?));
-        }
-        Ok(IpBlock::Range(AddressRange::from_v6_str(text)?))
-    }
-
-    /// Writes the block as a prefix where it is one, else as a range, of IPv4.
-    pub fn fmt_v4<W: fmt::Write>(&self, f: &mut fmt::Formatter<W>) -> fmt::Result
-        ensures { (text : List ℕ) × IsBlockText v4_text (run_of_block self.now) text × DisplaysOnOk W.Write.write_str_gives f.old result (Some text) f.new }
-    {
-        match self.as_prefix() {
-            Ok(prefix) => prefix.fmt_v4(f),
-            Err(range) => range.fmt_v4(f),
-        }
-    }
-
-    /// Writes the block as a prefix where it is one, else as a range, of IPv6.
-    pub fn fmt_v6<W: fmt::Write>(&self, f: &mut fmt::Formatter<W>) -> fmt::Result
-        ensures { (text : List ℕ) × IsBlockText v6_text (run_of_block self.now) text × DisplaysOnOk W.Write.write_str_gives f.old result (Some text) f.new }
-    {
-        match self.as_prefix() {
-            Ok(prefix) => prefix.fmt_v6(f),
-            Err(range) => range.fmt_v6(f),
-        }
-    }
-
-    /// The block, to be printed as IPv4.
-    pub fn display_v4(self) -> DisplayV4Block
-        ensures { result.0 ≡ self }
-    {
-        DisplayV4Block(self)
-    }
-
-    /// The block, to be printed as IPv6.
-    pub fn display_v6(self) -> DisplayV6Block
-        ensures { result.0 ≡ self }
-    {
-        DisplayV6Block(self)
-    }
-}
-
-/// The block of a text of either family; an IPv6 one has a colon.
-impl FromStr for IpBlock {
-    type Err = FromStrError;
-
-    fn from_str(text: &str) -> Result<Self, FromStrError> {
-        if text.contains('/') {
-            return match AddressFamily::of_text(text) {
-                AddressFamily::Ipv4 => IpBlock::from_v4_str(text),
-                AddressFamily::Ipv6 => IpBlock::from_v6_str(text),
-            };
-        }
-        Ok(IpBlock::Range(text.parse::<AddressRange>()?))
-    }
-}
-
-/// Prints a block as IPv4.
-#[derive(Clone, Copy, Debug)]
-pub struct DisplayV4Block(pub IpBlock);
-
-impl fmt::Display for DisplayV4Block {
-    fn fmt<W: fmt::Write>(&self, f: &mut fmt::Formatter<W>) -> fmt::Result {
-        self.0.fmt_v4(f)
-    }
-}
-
-/// Prints a block as IPv6.
-#[derive(Clone, Copy, Debug)]
-pub struct DisplayV6Block(pub IpBlock);
-
-impl fmt::Display for DisplayV6Block {
-    fn fmt<W: fmt::Write>(&self, f: &mut fmt::Formatter<W>) -> fmt::Result {
-        self.0.fmt_v6(f)
-    }
-}
 
 /// Prints the blocks of a set, as those of one family, with `, ` between them.
 #[derive(Clone, Copy, Debug)]

@@ -8,9 +8,9 @@ ghost use Rattle.resources_chain.specs.Sets.{Run, InRuns, IsRunsOf};
 ghost use Rattle.resources_chain.specs.Claims.{Lists};
 ghost use Rattle.resources_ip.specs.Choices.{listed, IsChoiceOf};
 
-use crate::block::IpBlock;
 use crate::blocks::{IpBlocks, IpBlocksBuilder};
 use resources_chain::{Claim, InheritedResources, ResourcesChoice, SharedChain};
+use resources_ip_block::IpBlock;
 use std::alloc::{AllocError, Global};
 use std::marker::Model;
 use thiserror::Error;

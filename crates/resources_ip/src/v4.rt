@@ -6,17 +6,16 @@ ghost use Rattle.std.specs.Iterator.{IsFinite, DrainsIf};
 ghost use Rattle.resources_chain.specs.declared.choice.ResourcesChoice.TheVariants.{Blocks};
 ghost use Rattle.resources_chain.specs.Sets.{InRuns, IsRunsOf};
 ghost use Rattle.resources_chain.specs.Same.{runs_eq, runs_eq_equiv};
-ghost use Rattle.resources_ip.specs.Address.{bits_of};
-ghost use Rattle.resources_ip.specs.Block.{run_of_block};
+ghost use Rattle.resources_ip_block.specs.Address.{bits_of};
+ghost use Rattle.resources_ip_block.specs.Block.{run_of_block};
 ghost use Rattle.resources_ip.specs.Blocks.{IsAddress};
-ghost use Rattle.resources_ip.specs.Whole.{IsWhole, AreWhole};
+ghost use Rattle.resources_ip_block.specs.Whole.{IsWhole};
+ghost use Rattle.resources_ip.specs.WholeSets.{AreWhole};
 
-use crate::addr::{Addr, AddressFamily};
-use crate::block::IpBlock;
 use crate::blocks::{IpBlocks, IpBlocksBuilder};
-use crate::error::FromStrError;
 use crate::listed::{IpBlocksForFamily, read_list};
 use crate::resources::IpResources;
+use resources_ip_block::{Addr, AddressFamily, FromStrError, IpBlock};
 use std::alloc::{AllocError, Global};
 use std::fmt;
 use std::marker::Model;
@@ -98,7 +97,7 @@ pub struct Ipv4Blocks {
 impl Model for Ipv4Blocks {
     ghost use Rattle.std.specs.Prelude.{List};
     ghost use Rattle.resources_chain.specs.Sets.{Run};
-    ghost use Rattle.resources_ip.specs.Whole.{AreWhole};
+    ghost use Rattle.resources_ip.specs.WholeSets.{AreWhole};
 
     ghost Value = { List Run };
 

@@ -1,0 +1,20 @@
+use Rattle.std.proofs.Common.{subst, List}
+use Rattle.resources_chain.specs.Sets.{Run}
+use Rattle.resources_ip_block.specs.Address.{bits_of}
+use Rattle.resources_ip_block.specs.Prefix.{prefix_addr, prefix_len, run_of_prefix}
+use Rattle.resources_ip_block.specs.Range.{run_of_range}
+use Rattle.resources_ip_block.specs.Text.{v4_text, slashed, dashed, IsBlockText}
+use Rattle.resources_ip_block.proofs.BlockText.{prefix_text, range_text}
+use Rattle.resources_ip_block.proofs.block.IpBlock.fmt_v4.Goals as goal
+
+pub returns-in-Ok : goal.returns-in-Ok
+returns-in-Ok g c =
+    let p = c.in-Ok.prefix in
+    let text = slashed (v4_text (bits_of (prefix_addr p))) (prefix_len p) in
+    (text, subst (λ (r : Run). IsBlockText v4_text r text) c.in-Ok.ensures (prefix_text v4_text p), c.fmt_v4.ensures)
+
+pub returns-in-Err : goal.returns-in-Err
+returns-in-Err g c =
+    let r = run_of_range c.in-Err.range in
+    let text = dashed (v4_text r.first) (v4_text r.last) in
+    (text, subst (λ (s : Run). IsBlockText v4_text s text) c.in-Err.ensures.0 (range_text v4_text r (rw c.in-Err.ensures.0 c.in-Err.ensures.1)), c.fmt_v4-in-Err.ensures)

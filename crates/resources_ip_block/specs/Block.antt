@@ -1,0 +1,17 @@
+-- What contracts see of a block.
+use Rattle.std.specs.Prelude.{◌≤◌}
+use Rattle.resources_chain.specs.Sets.{Run}
+use Rattle.resources_ip_block.specs.declared.block.IpBlock.{IpBlock}
+use Rattle.resources_ip_block.specs.declared.block.IpBlock.TheVariants as Of
+use Rattle.resources_ip_block.specs.Prefix.{run_of_prefix}
+use Rattle.resources_ip_block.specs.Range.{run_of_range, range_within}
+use Rattle.resources_ip_block.specs.PrefixLaws.{prefix_within}
+
+-- The addresses of a prefix or of a range.
+abbrev pub run_of_block : IpBlock → Run
+run_of_block (Of.Prefix p) = run_of_prefix p
+run_of_block (Of.Range r) = run_of_range r
+
+pub block_within : (b : IpBlock) → ((run_of_block b).first ≤ (run_of_block b).last) × ((run_of_block b).last ≤ 340282366920938463463374607431768211455)
+block_within (Of.Prefix p) = prefix_within p
+block_within (Of.Range r) = range_within r

@@ -1,0 +1,11 @@
+pub mod Prefixes
+pub mod Address
+pub mod Prefix
+pub mod Range
+pub mod PrefixLaws
+pub mod Block
+pub mod BlockEq
+pub mod Text
+pub mod Family
+pub mod Whole
+pub mod Cover

@@ -1,0 +1,73 @@
+//! The prefixes that cover a range of addresses.
+
+ghost use Rattle.std.specs.Prelude.{◌≡◌, ◌≤◌, List};
+ghost use Rattle.std.specs.Iterator.{Drains};
+ghost use Rattle.resources_ip_block.specs.Prefix.{prefix_len, run_of_prefix};
+ghost use Rattle.resources_ip_block.specs.Range.{run_of_range};
+ghost use Rattle.resources_ip_block.specs.Cover.{IsCover, IsFirst, IsBehind, filled, gives, left_at_most};
+
+use crate::prefix::Prefix;
+use crate::range::AddressRange;
+
+/// The prefixes that cover a range, as few as there can be, ascending.
+#[derive(Clone, Copy, Debug)]
+pub struct RangePrefixes {
+    left: Option<AddressRange>,
+}
+
+impl AddressRange {
+    /// The prefixes that cover the range: those that lie in it and whose parent doesn't, ascending. There is no
+    /// shorter list of prefixes with exactly its addresses.
+    pub fn to_v6_prefixes(self) -> RangePrefixes
+        ensures { (prefixes : List _) → Drains gives result prefixes → IsCover (run_of_range self) prefixes }
+    {
+        RangePrefixes { left: Some(self) }
+    }
+
+    /// The same over whole IPv4 addresses, from the first 32 bits of its first address to those of its last.
+    pub fn to_v4_prefixes(self) -> RangePrefixes
+        ensures { (prefixes : List _) → Drains gives result prefixes → IsCover (filled (run_of_range self)) prefixes }
+    {
+        AddressRange::new(self.min().to_min(32), self.max().to_max(32)).to_v6_prefixes()
+    }
+
+    // The longest of the prefixes that lie in the range and begin where it does.
+    fn first_prefix(self) -> Prefix
+        ensures { IsFirst (run_of_range self) result }
+    {
+        for len in 0..128 {
+            let prefix = Prefix::new(self.min(), len);
+            if prefix.min() == self.min() && prefix.max() <= self.max() {
+                return prefix;
+            }
+        }
+        Prefix::new(self.min(), 128)
+    }
+
+    // What is left of the range behind a prefix that begins where it does.
+    fn behind(self, prefix: Prefix) -> Option<AddressRange>
+        requires { IsFirst (run_of_range self) prefix }
+        ensures { IsBehind (run_of_range self) prefix result }
+    {
+        let min = prefix.max().next()?;
+        if self.max() < min {
+            return None;
+        }
+        Some(AddressRange::new(min, self.max()))
+    }
+}
+
+impl Iterator for RangePrefixes {
+    type Item = Prefix;
+
+    ghost next_gives = { gives };
+
+    ghost remaining = { left_at_most };
+
+    fn next(&mut self) -> Option<Prefix> {
+        let range = self.left?;
+        let prefix = range.first_prefix();
+        self.left = range.behind(prefix);
+        Some(prefix)
+    }
+}
