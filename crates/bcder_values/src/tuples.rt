@@ -1,0 +1,1 @@
+//! Values one behind the other.
