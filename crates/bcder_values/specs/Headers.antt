@@ -1,8 +1,8 @@
 -- Identifier and length octets that stand in every mode.
 use Rattle.std.specs.Prelude.{◌≡◌, ℕ, ◌^◌, ◌≤◌, Bool, List, Option}
-use Rattle.bcder_source.specs.declared.mode.Mode.{Mode}
-use Rattle.bcder_source.specs.Tags.{TagValue}
-use Rattle.bcder_source.specs.Tree.{IsHeader}
+use Rattle.bcder_tree.specs.declared.mode.Mode.{Mode}
+use Rattle.bcder_tree.specs.Tags.{TagValue}
+use Rattle.bcder_tree.specs.Tree.{IsHeader}
 use Rattle.bcder_values.specs.Writing.{TookFront}
 use Rattle.bcder_values.specs.declared.error.EncodeError.{EncodeError}
 use Rattle.bcder_values.specs.declared.error.EncodeError.TheVariants as errors

@@ -1,9 +1,9 @@
 -- What was written, and what a refusal left.
 use Rattle.std.specs.Prelude.{◌≡◌, ℕ, ◌^◌, ◌<◌, List, ◌++◌, length, Option}
 use Rattle.std.specs.Io.KnownBytes.{Appends}
-use Rattle.bcder_source.specs.declared.mode.Mode.{Mode}
-use Rattle.bcder_source.specs.declared.mode.Mode.TheVariants.{Cer}
-use Rattle.bcder_source.specs.Tree.{Trees}
+use Rattle.bcder_tree.specs.declared.mode.Mode.{Mode}
+use Rattle.bcder_tree.specs.declared.mode.Mode.TheVariants.{Cer}
+use Rattle.bcder_tree.specs.Tree.{Trees}
 use Rattle.bcder_values.specs.declared.error.EncodeError.{EncodeError}
 use Rattle.bcder_values.specs.declared.error.EncodeError.TheVariants as errors
 

@@ -1,14 +1,14 @@
 //! What stands in front of contents.
 
 ghost use Rattle.std.specs.Prelude.{◌≡◌, ◌-◌, ◌^◌, ◌≤◌, Bool, List, ℕ, length, IfOk, IfErr, OnOk};
-ghost use Rattle.bcder_source.specs.Tags.{IsTag};
+ghost use Rattle.bcder_tree.specs.Tags.{IsTag};
 ghost use Rattle.bcder_values.specs.Headers.{IsHeaderIn, HeaderRefused};
 ghost use Rattle.bcder_values.specs.Writing.{HasLength, Wrote, TookFront};
 ghost use Rattle.bcder_values.specs.declared.error.EncodeError.TheVariants.{TooLong, Write as write_refused};
 
 use crate::EncodeError;
 use crate::write::write_octets;
-use bcder_source::{Length, Tag};
+use bcder_tree::{Length, Tag};
 use std::io::Write;
 
 // The most octets of a content that four length octets can tell.

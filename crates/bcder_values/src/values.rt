@@ -1,13 +1,13 @@
 //! Values that can be written.
 
 ghost use Rattle.std.specs.Prelude.{◌≡◌, ℕ, List, IfOk, IfErr, OnOk};
-ghost use Rattle.bcder_source.specs.declared.mode.Mode.{Mode as ModeValue};
-ghost use Rattle.bcder_source.specs.Tree.{Trees};
+ghost use Rattle.bcder_tree.specs.declared.mode.Mode.{Mode as ModeValue};
+ghost use Rattle.bcder_tree.specs.Tree.{Trees};
 ghost use Rattle.bcder_values.specs.Encoded.{SpellsSome};
 ghost use Rattle.bcder_values.specs.Writing.{HasLength, Wrote, CannotWrite, WriteRefused};
 
 use crate::EncodeError;
-use bcder_source::Mode;
+use bcder_tree::Mode;
 use std::io::Write;
 
 /// Values that can be written, one behind the other.
