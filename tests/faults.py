@@ -16,18 +16,13 @@ import sys
 import tempfile
 import time
 
-HERE = os.path.dirname(os.path.abspath(__file__))
-sys.path.insert(0, os.path.join(HERE, "..", "bench"))
 sys.dont_write_bytecode = True
 
+from outcomes import NOT_A_BUNDLE, OUT_OF_MEMORY, SECONDS  # noqa: E402, before make_bundle
 from make_bundle import bundle, locator, made_lines, made_locators, object_at, value, verdict  # noqa: E402
-
-SECONDS = 20  # more than any run takes
 
 READ_FAULT = (1, b"", b"read fault\n")
 WRITE_FAULT = (1, b"", b"write fault\n")
-NOT_A_BUNDLE = (1, b"", b"not a bundle\n")
-OUT_OF_MEMORY = (1, b"", b"out of memory\n")
 USAGE = (1, b"", b"usage: rpki_check check | rpki_check bundle FOLDER\n")
 
 EMPTY = bundle()

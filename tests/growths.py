@@ -16,17 +16,10 @@ import subprocess
 import sys
 import tempfile
 
-HERE = os.path.dirname(os.path.abspath(__file__))
-sys.path.insert(0, os.path.join(HERE, "..", "bench"))
 sys.dont_write_bytecode = True
 
+from outcomes import HERE, NOT_A_BUNDLE, OUT_OF_MEMORY, SECONDS  # noqa: E402, before make_bundle
 from make_bundle import bundle, locator, made_objects, made_verdicts, object_at  # noqa: E402
-
-SECONDS = 20  # more than any run takes
-
-OUT_OF_MEMORY = (1, b"", b"out of memory\n")
-
-NOT_A_BUNDLE = (1, b"", b"not a bundle\n")
 
 # Version 0, moment 20250101000000Z, depth 32.
 HEAD = "020100 180F32303235303130313030303030305A 020120"

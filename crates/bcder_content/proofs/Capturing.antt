@@ -2,12 +2,12 @@
 use Rattle.std.proofs.Common.{◌≡◌, ℕ, ◌+◌, ◌-◌, ◌<◌, ◌≤◌, true, false, Bool, List, [], ◌∷◌, ◌++◌, length, take, drop, slice_range, Result, Ok, Err, Option, Some, None, refl, sym, ap, ◌∙◌, subst, length-append, arith}
 use Rattle.std.proofs.lemmas.List.{take_at, take_all, take-take, length-take}
 use Rattle.std.specs.Fn.{FnOnceReturnsAtMut}
-use Rattle.bcder_source.specs.declared.mode.Mode.{Mode}
+use Rattle.bcder_tree.specs.declared.mode.Mode.{Mode}
 use Rattle.bcder_source.specs.declared.limited.LimitedSource.{LimitedSource}
 use Rattle.bcder_source.specs.declared.error.DecodeError.{DecodeError}
 use Rattle.bcder_source.specs.declared.error.DecodeError.TheVariants.{Content, Source, Memory}
 use Rattle.bcder_source.specs.Errors.{OnContent}
-use Rattle.bcder_source.specs.Tree.{Tree, Trees, SpellsAll}
+use Rattle.bcder_tree.specs.Tree.{Tree, Trees, SpellsAll}
 use Rattle.bcder_source.specs.Views.{View, Reading, left, limited, Moved}
 use Rattle.bcder_content.specs.declared.constructed.Constructed.{Constructed}
 use Rattle.bcder_content.specs.Contents.{ValuesLeft, octets, Goes, TookAll}

@@ -2,13 +2,13 @@
 use Rattle.std.proofs.Common.{◌≡◌, ℕ, true, false, List, Result, Ok, Err, Option, None, refl, sym, ap, ◌∙◌, subst}
 use denote.Ref.{MutBor}
 use Rattle.std.specs.Fn.{FnOnceReturnsAtMut}
-use Rattle.bcder_source.specs.declared.mode.Mode.{Mode}
+use Rattle.bcder_tree.specs.declared.mode.Mode.{Mode}
 use Rattle.bcder_source.specs.declared.limited.LimitedSource.{LimitedSource}
 use Rattle.bcder_source.specs.declared.error.DecodeError.{DecodeError}
 use Rattle.bcder_source.specs.declared.error.DecodeError.TheVariants.{Content, Source, Memory}
 use Rattle.bcder_source.specs.Errors.{OnContent}
-use Rattle.bcder_source.specs.Tree.{Tree, Trees, SpellsAll}
-use Rattle.bcder_source.specs.Front.{Front}
+use Rattle.bcder_tree.specs.Tree.{Tree, Trees, SpellsAll}
+use Rattle.bcder_tree.specs.Front.{Front}
 use Rattle.bcder_source.specs.Views.{View, left, Moved}
 use Rattle.bcder_source.proofs.Moves.{left_moved}
 use Rattle.bcder_content.specs.declared.ending.Ending.TheVariants.{Unbounded}

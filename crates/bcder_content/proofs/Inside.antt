@@ -2,13 +2,13 @@
 use Rattle.std.proofs.Common.{◌≡◌, ℕ, Bool, true, false, List, Result, Ok, Err, Option, Some, None, refl, sym, ap, ◌∙◌, subst}
 use Rattle.std.specs.Fn.{FnOnceReturnsAtMut}
 use denote.Ref.{MutBor}
-use Rattle.bcder_source.specs.declared.mode.Mode.{Mode}
+use Rattle.bcder_tree.specs.declared.mode.Mode.{Mode}
 use Rattle.bcder_source.specs.declared.error.DecodeError.{DecodeError}
 use Rattle.bcder_source.specs.declared.error.DecodeError.TheVariants.{Content, Source, Memory}
 use Rattle.bcder_source.specs.Errors.{OnContent}
-use Rattle.bcder_source.specs.Tags.{TagValue}
-use Rattle.bcder_source.specs.Tree.{Tree, Trees, primitive, constructed, Spells, SpellsAll}
-use Rattle.bcder_source.specs.Front.{Front}
+use Rattle.bcder_tree.specs.Tags.{TagValue}
+use Rattle.bcder_tree.specs.Tree.{Tree, Trees, primitive, constructed, Spells, SpellsAll}
+use Rattle.bcder_tree.specs.Front.{Front}
 use Rattle.bcder_source.specs.Views.{View, left, Moved}
 use Rattle.bcder_content.specs.declared.ending.Ending.{Ending}
 use Rattle.bcder_content.specs.declared.ending.Span.{Span}

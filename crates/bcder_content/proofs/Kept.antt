@@ -1,11 +1,11 @@
 -- A closure that reads values exactly, where their octets are kept.
 use Rattle.std.proofs.Common.{◌≡◌, ℕ, true, false, List, [], ◌∷◌, ◌++◌, length, take, Result, Ok, Err, IfOk, IfErr, Option, Some, None, refl, sym, ap, ◌∙◌, subst, arith}
 use Rattle.std.proofs.lemmas.List.{append_cancel_left, append_cancel_right, take-take}
-use Rattle.bcder_source.specs.declared.mode.Mode.{Mode}
+use Rattle.bcder_tree.specs.declared.mode.Mode.{Mode}
 use Rattle.bcder_source.specs.declared.error.DecodeError.{DecodeError}
 use Rattle.bcder_source.specs.declared.error.DecodeError.TheVariants.{Content, Source, Memory}
 use Rattle.bcder_source.specs.Errors.{OnContent}
-use Rattle.bcder_source.specs.Tree.{Tree, Trees, Spells, SpellsAll}
+use Rattle.bcder_tree.specs.Tree.{Tree, Trees, Spells, SpellsAll}
 use Rattle.bcder_source.specs.Views.{View, Reading, left, limited, Moved}
 use Rattle.bcder_source.proofs.Moves.{left_moved}
 use Rattle.bcder_content.specs.declared.ending.Ending.{Ending}

@@ -1,7 +1,7 @@
 -- Values in front, and values that are next.
 use Rattle.std.proofs.Common.{◌≡◌, ℕ, false, List, refl}
-use Rattle.bcder_source.specs.Tree.{Tree}
-use Rattle.bcder_source.specs.Front.{Front}
+use Rattle.bcder_tree.specs.Tree.{Tree}
+use Rattle.bcder_tree.specs.Front.{Front}
 use Rattle.bcder_source.specs.Views.{left}
 use Rattle.bcder_content.specs.Contents.{ValuesLeft, octets, Ahead}
 use Rattle.bcder_content.proofs.Opening.{front_moves}

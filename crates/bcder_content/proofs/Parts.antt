@@ -2,8 +2,8 @@
 use Rattle.std.proofs.Common.{◌≡◌, ℕ, ◌+◌, ◌-◌, ◌≤◌, true, false, List, [], ◌∷◌, ◌++◌, length, drop, Result, Ok, Err, Option, Some, None, refl, sym, ap, ◌∙◌, subst, append-nil, length-append, arith}
 use Rattle.std.proofs.Math.Seq.{drop-append_seam}
 use Rattle.std.specs.Fn.{FnOnceReturnsAtMut}
-use Rattle.bcder_source.specs.declared.mode.Mode.{Mode}
-use Rattle.bcder_source.specs.Tree.{Tree, Trees, none, more, SpellsAll}
+use Rattle.bcder_tree.specs.declared.mode.Mode.{Mode}
+use Rattle.bcder_tree.specs.Tree.{Tree, Trees, none, more, SpellsAll}
 use Rattle.bcder_source.specs.Views.{Reading, left, limited, more_limit}
 use Rattle.bcder_content.specs.declared.ending.Ending.{Ending}
 use Rattle.bcder_content.specs.declared.ending.Ending.TheVariants.{Unbounded}

@@ -1,14 +1,14 @@
 -- Skipping values of a content.
 use Rattle.std.proofs.Common.{◌≡◌, ℕ, ◌<◌, Bool, List, [], ◌∷◌, length, length-append, Result, Ok, Err, Option, Some, None, sym, ap, subst, arith}
-use Rattle.bcder_source.specs.declared.mode.Mode.{Mode}
+use Rattle.bcder_tree.specs.declared.mode.Mode.{Mode}
 use Rattle.bcder_source.specs.declared.error.ContentError.{ContentError}
 use Rattle.bcder_source.specs.declared.error.DecodeError.{DecodeError}
 use Rattle.bcder_source.specs.declared.error.DecodeError.TheVariants.{Content, Source, Memory}
-use Rattle.bcder_source.specs.Tags.{TagValue}
-use Rattle.bcder_source.specs.Tree.{Tree, Trees, none, more, Spells}
+use Rattle.bcder_tree.specs.Tags.{TagValue}
+use Rattle.bcder_tree.specs.Tree.{Tree, Trees, none, more, Spells}
 use Rattle.bcder_source.specs.Views.{left}
-use Rattle.bcder_source.proofs.Fronts.{whole_front}
-use Rattle.bcder_source.proofs.Trees.{tree_goes_on}
+use Rattle.bcder_tree.proofs.Fronts.{whole_front}
+use Rattle.bcder_tree.proofs.Trees.{tree_goes_on}
 use Rattle.bcder_content.specs.Contents.{ValuesLeft, octets, Took, TookAll, Ended, Whole}
 use Rattle.bcder_content.specs.Exact.{Lacks, ReadsNextAs}
 use Rattle.bcder_content.specs.Grammar.{Any}

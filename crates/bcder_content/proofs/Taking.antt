@@ -1,16 +1,16 @@
 -- What the parts of a reading by a closure say of the values that are next.
 use Rattle.std.proofs.Common.{◌≡◌, ℕ, ◌+◌, ◌*◌, ◌<◌, inl, inr, Bool, true, false, List, [], ◌∷◌, ◌++◌, Option, Some, None, IsTrue, IsFalse, ◌↔◌, refl, sym, ap, ◌∙◌, subst, append_assoc, arith}
-use Rattle.bcder_source.specs.declared.mode.Mode.{Mode}
+use Rattle.bcder_tree.specs.declared.mode.Mode.{Mode}
 use Rattle.bcder_source.specs.declared.error.DecodeError.{DecodeError}
 use Rattle.bcder_source.specs.declared.error.ContentError.{ContentError}
 use Rattle.bcder_source.specs.declared.pos.Pos.{Pos}
 use Rattle.bcder_source.specs.declared.error.DecodeError.TheVariants.{Content, Source, Memory}
 use Rattle.bcder_source.specs.Errors.{OnContent, OnlyContent}
-use Rattle.bcder_source.specs.Tags.{TagValue, IsTag}
-use Rattle.bcder_source.specs.Octets.{IsIdentifier}
-use Rattle.bcder_source.specs.Reads.{Begins, Lacks, IsEnd}
-use Rattle.bcder_source.specs.Tree.{Tree, Trees, primitive, constructed, none, more}
-use Rattle.bcder_source.specs.Front.{Front}
+use Rattle.bcder_tree.specs.Tags.{TagValue, IsTag}
+use Rattle.bcder_tree.specs.Octets.{IsIdentifier}
+use Rattle.bcder_tree.specs.Reads.{Begins, Lacks, IsEnd}
+use Rattle.bcder_tree.specs.Tree.{Tree, Trees, primitive, constructed, none, more}
+use Rattle.bcder_tree.specs.Front.{Front}
 use Rattle.bcder_source.specs.Views.{View, left, limited, Moved}
 use Rattle.bcder_source.proofs.Moves.{left_moved}
 use Rattle.bcder_content.specs.declared.ending.Ending.{Ending}

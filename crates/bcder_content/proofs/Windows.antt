@@ -4,20 +4,20 @@ use mathlib.Core.Bool.{beq}
 use Rattle.std.proofs.lemmas.List.{take-append-drop, length-take, length-take-le}
 use Rattle.std.proofs.lemmas.Bool.{cases_lt, eqb-true, eq-eqb}
 use Rattle.std.proofs.Math.Seq.{drop-append_seam}
-use Rattle.bcder_source.specs.declared.mode.Mode.{Mode}
-use Rattle.bcder_source.specs.declared.length.Length.{Length}
-use Rattle.bcder_source.specs.declared.length.Length.TheVariants.{Definite as LengthIs, Indefinite as NoLength}
-use Rattle.bcder_source.specs.Tags.{TagValue, IsTag}
-use Rattle.bcder_source.specs.Octets.{IsIdentifier, IsHigh}
-use Rattle.bcder_source.specs.Lengths.{SpellsLength}
+use Rattle.bcder_tree.specs.declared.mode.Mode.{Mode}
+use Rattle.bcder_tree.specs.declared.length.Length.{Length}
+use Rattle.bcder_tree.specs.declared.length.Length.TheVariants.{Definite as LengthIs, Indefinite as NoLength}
+use Rattle.bcder_tree.specs.Tags.{TagValue, IsTag}
+use Rattle.bcder_tree.specs.Octets.{IsIdentifier, IsHigh}
+use Rattle.bcder_tree.specs.Lengths.{SpellsLength}
 use Rattle.bcder_source.specs.Views.{View, left, Moved}
 use Rattle.bcder_source.proofs.Moves.{left_moved}
-use Rattle.bcder_source.proofs.Unique.{tag_is}
+use Rattle.bcder_tree.proofs.Unique.{tag_is}
 use Rattle.bcder_content.specs.declared.header.Header.{Header}
-use Rattle.bcder_source.specs.Reads.{Begins, Lacks, Identifies, IsEnd}
-use Rattle.bcder_source.proofs.Unique.{one_identifier}
-use Rattle.bcder_source.proofs.Slices.{rest_is}
-use Rattle.bcder_source.proofs.Fronts.{length_bound}
+use Rattle.bcder_tree.specs.Reads.{Begins, Lacks, Identifies, IsEnd}
+use Rattle.bcder_tree.proofs.Unique.{one_identifier}
+use Rattle.bcder_tree.proofs.Slices.{rest_is}
+use Rattle.bcder_tree.proofs.Fronts.{length_bound}
 use Rattle.bcder_content.specs.Openings.{IsHead, Heads, NoHead, OfTag, NotOfTag}
 
 -- What is in front of a part of the octets is in front of them all.

@@ -1,8 +1,8 @@
 -- Contents that are read: what is left of them, and which values are next (X.690 8.1).
 use Rattle.std.specs.Prelude.{◌≡◌, ℕ, Bool, true, false, List, [], ◌∷◌, Option, Some, None}
-use Rattle.bcder_source.specs.declared.mode.Mode.{Mode}
-use Rattle.bcder_source.specs.Tags.{TagValue}
-use Rattle.bcder_source.specs.Tree.{Tree, Trees, primitive, constructed, Spells, SpellsAll}
+use Rattle.bcder_tree.specs.declared.mode.Mode.{Mode}
+use Rattle.bcder_tree.specs.Tags.{TagValue}
+use Rattle.bcder_tree.specs.Tree.{Tree, Trees, primitive, constructed, Spells, SpellsAll}
 use Rattle.bcder_source.specs.Views.{View, left, Moved}
 use Rattle.bcder_content.specs.declared.ending.Ending.{Ending}
 use Rattle.bcder_content.specs.declared.ending.Ending.TheVariants.{Definite, Indefinite, Unbounded}

@@ -1,8 +1,8 @@
 -- Grammars of the worked readers.
 use Rattle.std.specs.Prelude.{◌≡◌, ℕ, ◌^◌, List, Option, map}
-use Rattle.bcder_source.specs.declared.mode.Mode.{Mode}
-use Rattle.bcder_source.specs.Tags.{universal}
-use Rattle.bcder_source.specs.Tree.{Tree, Trees}
+use Rattle.bcder_tree.specs.declared.mode.Mode.{Mode}
+use Rattle.bcder_tree.specs.Tags.{universal}
+use Rattle.bcder_tree.specs.Tree.{Tree, Trees}
 use Rattle.bcder_content.specs.Grammar.{Inside, OctetsOf, Such, OneOf, As, ExactlyOf, End, Rest, Then, Opt, Default, Many}
 use Rattle.bcder_content.specs.Values.{IsUnsigned, AnyOctets}
 use Rattle.bcder_content.specs.declared.examples.Version.{Version}

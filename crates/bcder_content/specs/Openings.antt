@@ -1,13 +1,13 @@
 -- How a value begins and ends: the header in front of its content, and what is behind it (X.690 8.1.1 to 8.1.5).
 use Rattle.std.specs.Prelude.{◌≡◌, ℕ, ◌+◌, Bool, true, false, List, [], ◌∷◌, ◌++◌, length, Option, Some, None}
-use Rattle.bcder_source.specs.declared.mode.Mode.{Mode}
-use Rattle.bcder_source.specs.declared.length.Length.{Length}
-use Rattle.bcder_source.specs.declared.length.Length.TheVariants.{Definite as LengthIs, Indefinite as NoLength}
-use Rattle.bcder_source.specs.Tags.{TagValue, IsTag}
-use Rattle.bcder_source.specs.Octets.{IsIdentifier}
-use Rattle.bcder_source.specs.Lengths.{SpellsLength}
-use Rattle.bcder_source.specs.Tree.{Tree, IsHeader, HasDefinite, HasIndefinite}
-use Rattle.bcder_source.specs.Front.{Front}
+use Rattle.bcder_tree.specs.declared.mode.Mode.{Mode}
+use Rattle.bcder_tree.specs.declared.length.Length.{Length}
+use Rattle.bcder_tree.specs.declared.length.Length.TheVariants.{Definite as LengthIs, Indefinite as NoLength}
+use Rattle.bcder_tree.specs.Tags.{TagValue, IsTag}
+use Rattle.bcder_tree.specs.Octets.{IsIdentifier}
+use Rattle.bcder_tree.specs.Lengths.{SpellsLength}
+use Rattle.bcder_tree.specs.Tree.{Tree, IsHeader, HasDefinite, HasIndefinite}
+use Rattle.bcder_tree.specs.Front.{Front}
 use Rattle.bcder_source.specs.Views.{View, left, more_limit, Moved}
 use Rattle.bcder_content.specs.declared.ending.Ending.{Ending}
 use Rattle.bcder_content.specs.declared.ending.Ending.TheVariants.{Definite, Indefinite}

@@ -2,9 +2,9 @@
 use Rattle.std.specs.Prelude.{◌≡◌, ℕ, Bool, true, false, List, Result, Ok, Err, Option, Some, None}
 use Rattle.std.specs.Fn.{Once, FnOnceReturnsAtMut}
 use denote.Ref.{MutBor}
-use Rattle.bcder_source.specs.declared.mode.Mode.{Mode}
-use Rattle.bcder_source.specs.Tags.{TagValue}
-use Rattle.bcder_source.specs.Tree.{Tree}
+use Rattle.bcder_tree.specs.declared.mode.Mode.{Mode}
+use Rattle.bcder_tree.specs.Tags.{TagValue}
+use Rattle.bcder_tree.specs.Tree.{Tree}
 use Rattle.bcder_source.specs.Errors.{OnContent}
 use Rattle.bcder_source.specs.declared.error.DecodeError.{DecodeError}
 use Rattle.bcder_content.specs.declared.ending.Ending.TheVariants.{Unbounded}

@@ -3,7 +3,7 @@ use Rattle.std.specs.Prelude.{◌≡◌, ℕ, Bool, true, false, List, length, R
 use Rattle.std.specs.Fn.{FnOnceReturnsAtMut}
 use Rattle.bcder_source.specs.Errors.{OnlyContent}
 use Rattle.bcder_source.specs.declared.error.DecodeError.{DecodeError}
-use Rattle.bcder_source.specs.declared.mode.Mode.{Mode}
+use Rattle.bcder_tree.specs.declared.mode.Mode.{Mode}
 use Rattle.bcder_content.specs.declared.primitive.Primitive.{Primitive}
 use Rattle.bcder_content.specs.Contents.{OctetsLeft}
 use Rattle.bcder_content.specs.Plain.{Drained}

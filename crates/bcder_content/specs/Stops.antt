@@ -1,7 +1,7 @@
 -- What the parts of a reading say.
 use Rattle.std.specs.Prelude.{◌≡◌, Bool, true, false}
-use Rattle.bcder_source.specs.declared.mode.Mode.{Mode}
-use Rattle.bcder_source.specs.Tree.{Tree}
+use Rattle.bcder_tree.specs.declared.mode.Mode.{Mode}
+use Rattle.bcder_tree.specs.Tree.{Tree}
 use Rattle.bcder_source.specs.Views.{View}
 use Rattle.bcder_content.specs.declared.ending.Ending.{Ending}
 use Rattle.bcder_content.specs.declared.ending.Span.{Span}

@@ -1,7 +1,7 @@
 //! Contents of values.
 ghost use Rattle.std.specs.Prelude.{◌≡◌, ◌↔◌, Bool, true, false, IfOk, IfErr, OnOk, OnErr, IsTrue};
 ghost use Rattle.bcder_source.specs.Errors.{OnContent, OnlyContent};
-ghost use Rattle.bcder_source.specs.Tags.{TagValue};
+ghost use Rattle.bcder_tree.specs.Tags.{TagValue};
 ghost use Rattle.bcder_source.specs.declared.error.DecodeError.TheVariants.{Content as content_error};
 ghost use Rattle.bcder_content.specs.Contents.{octets, EndsHere, Ended, Unlike};
 ghost use Rattle.bcder_content.specs.Here.{here, plain};

@@ -1,6 +1,6 @@
 //! Sources that are read from their beginning.
 ghost use Rattle.std.specs.Prelude.{◌≡◌, ℕ, List};
-ghost use Rattle.bcder_source.specs.declared.mode.Mode.{Mode as ModeValue};
+ghost use Rattle.bcder_tree.specs.declared.mode.Mode.{Mode as ModeValue};
 ghost use Rattle.bcder_content.specs.Ran.{Decoded, fresh};
 
 use crate::constructed::Constructed;

@@ -1,7 +1,7 @@
 //! Readers as a user of this crate writes them, proved exact: what they take is of their grammar, and
 //! what is of their grammar they take. docs/READERS.md walks through them.
 ghost use Rattle.std.specs.Prelude.{ℕ, List, map};
-ghost use Rattle.bcder_source.specs.Tags.{universal};
+ghost use Rattle.bcder_tree.specs.Tags.{universal};
 ghost use Rattle.bcder_content.specs.Captures.{rest_of};
 ghost use Rattle.bcder_content.specs.Exact.{ReadsAs, ReadsAllAs};
 ghost use Rattle.bcder_content.specs.Examples.{IsEntry, IsEntryBody, IsLogBody, IsName, IsPiece, IsSealedBody, IsSettingsBody, IsVersion, IsVersionBody, entry_fields, log_fields, name_value, no_value, sealed_fields, settings_fields, version_fields};

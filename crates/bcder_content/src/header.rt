@@ -1,9 +1,9 @@
 //! Where values begin and end (X.690 8.1.1 to 8.1.5): what skipping and taking stand on.
 ghost use Rattle.std.specs.Prelude.{◌≡◌, ◌≤◌, ◌+◌, ℕ, Option, IfOk, IfSome, IfNone, OnErr, IsTrue, IsFalse, ◌↔◌, true, false};
 ghost use Rattle.bcder_source.specs.Limits.{view, at_hand};
-ghost use Rattle.bcder_source.specs.Reads.{Begins, Identifies};
-ghost use Rattle.bcder_source.specs.Tags.{TagValue};
-ghost use Rattle.bcder_source.specs.Tree.{HasDefinite, HasIndefinite};
+ghost use Rattle.bcder_tree.specs.Reads.{Begins, Identifies};
+ghost use Rattle.bcder_tree.specs.Tags.{TagValue};
+ghost use Rattle.bcder_tree.specs.Tree.{HasDefinite, HasIndefinite};
 ghost use Rattle.bcder_source.specs.Views.{View, left, more_limit};
 ghost use Rattle.bcder_content.specs.Openings.{Opens, Closes, NoValue, Heads, NoHead, OfTag, NotOfTag, Starts};
 

@@ -5,8 +5,8 @@
 //! content stands at one place (`Took` and `Ahead` in the contracts of `skip_one`, `capture_one`,
 //! `take_constructed_if` and the others).
 ghost use Rattle.std.specs.Prelude.{◌≡◌, ◌↔◌, ℕ, List, false};
-ghost use Rattle.bcder_source.specs.Tree.{Tree, Trees};
-ghost use Rattle.bcder_source.specs.Front.{Front};
+ghost use Rattle.bcder_tree.specs.Tree.{Tree, Trees};
+ghost use Rattle.bcder_tree.specs.Front.{Front};
 ghost use Rattle.bcder_source.specs.Views.{left};
 ghost use Rattle.bcder_content.specs.Contents.{ValuesLeft, octets, Took, Ahead, Ended, Whole};
 

@@ -1,6 +1,6 @@
 //! Values of simple types, and of sequences and sets.
 ghost use Rattle.std.specs.Prelude.{◌≡◌, ◌^◌, IfErr, OnErr, true};
-ghost use Rattle.bcder_source.specs.Tags.{universal};
+ghost use Rattle.bcder_tree.specs.Tags.{universal};
 ghost use Rattle.bcder_content.specs.Exact.{ReadsAs, ReadsOptAs};
 ghost use Rattle.bcder_content.specs.Grammar.{OctetsOf};
 ghost use Rattle.bcder_content.specs.Here.{here};

@@ -1,11 +1,11 @@
 -- A value by its identifier octet, its length and its content.
 use Rattle.std.proofs.Common.{◌≡◌, ℕ, ◌+◌, ◌*◌, ◌<◌, Bool, Option, Some, None, List, [], ◌∷◌, ◌++◌, refl, ap, ◌∙◌, arith}
 use Rattle.std.specs.Prelude.{IfSome, IfNone}
-use Rattle.bcder_source.specs.declared.mode.Mode.TheVariants.{Der}
-use Rattle.bcder_source.specs.Tags.{TagValue}
-use Rattle.bcder_source.specs.Octets.{form_bit}
-use Rattle.bcder_source.specs.Front.{Splits}
-use Rattle.bcder_source.proofs.Fronts.{one_octet_header}
+use Rattle.bcder_tree.specs.declared.mode.Mode.TheVariants.{Der}
+use Rattle.bcder_tree.specs.Tags.{TagValue}
+use Rattle.bcder_tree.specs.Octets.{form_bit}
+use Rattle.bcder_tree.specs.Front.{Splits}
+use Rattle.bcder_tree.proofs.Fronts.{one_octet_header}
 use Rattle.rpki_bundle.specs.Reading.{TakesContent}
 
 -- Behind its identifier octet, a value of a low tag splits.

@@ -1,14 +1,14 @@
 -- Entries in front of octets.
 use Rattle.std.proofs.Common.{◌≡◌, ◌≢◌, ℕ, false, true, List, [], ◌∷◌, length, refl, subst}
 use Rattle.std.specs.Prelude.{All}
-use Rattle.bcder_source.specs.declared.mode.Mode.TheVariants.{Der}
-use Rattle.bcder_source.specs.Tags.{TagValue, universal}
-use Rattle.bcder_source.specs.Tree.{Tree, Trees, primitive, more}
-use Rattle.bcder_source.specs.Front.{Front, Fields, Splits}
-use Rattle.bcder_source.specs.Sequences.{sequence, sequence_tag}
-use Rattle.bcder_source.specs.Strings.{IsPrintable}
-use Rattle.bcder_source.proofs.Trees.{one_tree}
-use Rattle.bcder_source.proofs.Fronts.{content_trees, first_front, sequence_front, split_primitive}
+use Rattle.bcder_tree.specs.declared.mode.Mode.TheVariants.{Der}
+use Rattle.bcder_tree.specs.Tags.{TagValue, universal}
+use Rattle.bcder_tree.specs.Tree.{Tree, Trees, primitive, more}
+use Rattle.bcder_tree.specs.Front.{Front, Fields, Splits}
+use Rattle.bcder_tree.specs.Sequences.{sequence, sequence_tag}
+use Rattle.bcder_tree.specs.Strings.{IsPrintable}
+use Rattle.bcder_tree.proofs.Trees.{one_tree}
+use Rattle.bcder_tree.proofs.Fronts.{content_trees, first_front, sequence_front, split_primitive}
 use Rattle.rpki_bundle.specs.declared.parts.Locator.{Locator}
 use Rattle.rpki_bundle.specs.declared.parts.Object.{Object}
 use Rattle.rpki_bundle.specs.declared.parts.Verdict.{Verdict}

@@ -1,8 +1,8 @@
 -- A length by its first octet and the others.
 use Rattle.std.proofs.Common.{◌≡◌, ℕ, ◌-◌, ◌≤◌, List, [], ◌∷◌, ◌++◌, length, get_or, take, drop, Option, Some, None, sym, ap, ◌∙◌, subst}
 use Rattle.std.specs.Prelude.{IfSome, IfNone}
-use Rattle.bcder_source.specs.declared.mode.Mode.TheVariants.{Der}
-use Rattle.bcder_source.specs.Octets.{IsLength}
+use Rattle.bcder_tree.specs.declared.mode.Mode.TheVariants.{Der}
+use Rattle.bcder_tree.specs.Octets.{IsLength}
 use Rattle.rpki_bundle.specs.Reading.{TakesLength, TakesContent}
 use Rattle.rpki_bundle.proofs.Slices.{first1, rest_is}
 

@@ -1,12 +1,12 @@
 -- Lists of entries, read one after the other.
 use Rattle.std.proofs.Common.{◌≡◌, ℕ, ◌<◌, Bool, true, false, eqb, List, [], ◌∷◌, ◌++◌, length, refl, sym, ap, ◌∙◌, subst, append_assoc, append-nil, length-append, arith}
 use Rattle.std.proofs.lemmas.Bool.{eqb-true}
-use Rattle.bcder_source.specs.declared.mode.Mode.TheVariants.{Der}
-use Rattle.bcder_source.specs.Tree.{Tree, Trees, primitive, constructed, none, more}
-use Rattle.bcder_source.specs.Front.{Front, Fields, Splits}
-use Rattle.bcder_source.specs.Sequences.{sequence_tag, EachIs}
-use Rattle.bcder_source.proofs.Fronts.{split_primitive, split_constructed, header_positive, first_front, others_behind, fields_none, fields_more, fields_end, sequence_front, content_trees}
-use Rattle.bcder_source.proofs.Trees.{one_fields}
+use Rattle.bcder_tree.specs.declared.mode.Mode.TheVariants.{Der}
+use Rattle.bcder_tree.specs.Tree.{Tree, Trees, primitive, constructed, none, more}
+use Rattle.bcder_tree.specs.Front.{Front, Fields, Splits}
+use Rattle.bcder_tree.specs.Sequences.{sequence_tag, EachIs}
+use Rattle.bcder_tree.proofs.Fronts.{split_primitive, split_constructed, header_positive, first_front, others_behind, fields_none, fields_more, fields_end, sequence_front, content_trees}
+use Rattle.bcder_tree.proofs.Trees.{one_fields}
 use Rattle.rpki_bundle.specs.declared.error.BundleError.{BundleError}
 use Rattle.rpki_bundle.specs.declared.error.BundleError.TheVariants.{NotABundle, Memory}
 use Rattle.rpki_bundle.specs.Errors.{OnNotABundle}

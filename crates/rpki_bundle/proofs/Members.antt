@@ -1,10 +1,10 @@
 -- The members of a SEQUENCE, one after the other, in DER.
 use Rattle.std.proofs.Common.{◌≡◌, ℕ, true, false, List, [], sym, subst}
-use Rattle.bcder_source.specs.declared.mode.Mode.TheVariants.{Der}
-use Rattle.bcder_source.specs.Tags.{TagValue}
-use Rattle.bcder_source.specs.Tree.{Trees, primitive, constructed, none, more}
-use Rattle.bcder_source.specs.Front.{Front, Fields, Splits}
-use Rattle.bcder_source.proofs.Fronts.{primitive_front, split_primitive, split_constructed, others_behind, first_front, fields_none}
+use Rattle.bcder_tree.specs.declared.mode.Mode.TheVariants.{Der}
+use Rattle.bcder_tree.specs.Tags.{TagValue}
+use Rattle.bcder_tree.specs.Tree.{Trees, primitive, constructed, none, more}
+use Rattle.bcder_tree.specs.Front.{Front, Fields, Splits}
+use Rattle.bcder_tree.proofs.Fronts.{primitive_front, split_primitive, split_constructed, others_behind, first_front, fields_none}
 
 -- Where no constructed value of a tag is in front, no tree of that tag is.
 pub no_constructed : {s : List ℕ} {t : TagValue} → ((c b : List ℕ) → Splits Der s true t c b → ⊥) → (ts : Trees) (rest : List ℕ) → Front Der s (constructed t ts) rest → ⊥

@@ -1,13 +1,13 @@
 -- Small numbers and moments in front of octets.
 use Rattle.std.proofs.Common.{◌≡◌, ℕ, ◌<◌, false, List, [], ◌∷◌, length, get_or, refl, sym, subst, arith}
-use Rattle.bcder_source.specs.declared.mode.Mode.TheVariants.{Der}
-use Rattle.bcder_source.specs.Tags.{universal}
-use Rattle.bcder_source.specs.Tree.{Tree, primitive}
-use Rattle.bcder_source.specs.Front.{Front, Splits}
-use Rattle.bcder_source.specs.Integers.{IsNumber}
-use Rattle.bcder_source.proofs.Trees.{one_tree}
-use Rattle.bcder_source.proofs.Integers.{one_number, small_number, number_small}
-use Rattle.bcder_source.proofs.Fronts.{primitive_front, split_primitive, one_split}
+use Rattle.bcder_tree.specs.declared.mode.Mode.TheVariants.{Der}
+use Rattle.bcder_tree.specs.Tags.{universal}
+use Rattle.bcder_tree.specs.Tree.{Tree, primitive}
+use Rattle.bcder_tree.specs.Front.{Front, Splits}
+use Rattle.bcder_tree.specs.Integers.{IsNumber}
+use Rattle.bcder_tree.proofs.Trees.{one_tree}
+use Rattle.bcder_tree.proofs.Integers.{one_number, small_number, number_small}
+use Rattle.bcder_tree.proofs.Fronts.{primitive_front, split_primitive, one_split}
 use Rattle.rpki_bundle.specs.TimeForms.{IsGeneralizedTime}
 use Rattle.rpki_bundle.specs.Times.{IsMoment}
 use Rattle.rpki_bundle.specs.Reading.{ReadsOne}

@@ -1,13 +1,13 @@
 -- Octets spell one bundle at most.
 use Rattle.std.proofs.Common.{◌≡◌, ℕ, ◌+◌, ◌^◌, ◌≤◌, List, [], ◌∷◌, length, subst}
-use Rattle.bcder_source.specs.declared.mode.Mode.TheVariants.{Der}
-use Rattle.bcder_source.specs.Tags.{universal}
-use Rattle.bcder_source.specs.Tree.{Tree, Trees, primitive, constructed, Spells}
-use Rattle.bcder_source.specs.Sequences.{sequence, sequence_tag, forest, EachIs, IsSequenceOf}
-use Rattle.bcder_source.specs.Integers.{IsNumber}
-use Rattle.bcder_source.proofs.Trees.{one_tree}
-use Rattle.bcder_source.proofs.Integers.{one_number}
-use Rattle.bcder_source.proofs.Fronts.{whole_front, sequence_bound}
+use Rattle.bcder_tree.specs.declared.mode.Mode.TheVariants.{Der}
+use Rattle.bcder_tree.specs.Tags.{universal}
+use Rattle.bcder_tree.specs.Tree.{Tree, Trees, primitive, constructed, Spells}
+use Rattle.bcder_tree.specs.Sequences.{sequence, sequence_tag, forest, EachIs, IsSequenceOf}
+use Rattle.bcder_tree.specs.Integers.{IsNumber}
+use Rattle.bcder_tree.proofs.Trees.{one_tree}
+use Rattle.bcder_tree.proofs.Integers.{one_number}
+use Rattle.bcder_tree.proofs.Fronts.{whole_front, sequence_bound}
 use Rattle.rpki_bundle.specs.Times.{IsMoment}
 use Rattle.rpki_bundle.specs.TimeForms.{IsGeneralizedTime}
 use Rattle.rpki_bundle.specs.EntryTrees.{one_locator, one_object, one_verdict}

@@ -1,12 +1,12 @@
 -- The octets that spell a bundle are one row, and lawful bundles have them.
 use Rattle.std.proofs.Common.{◌≡◌, ℕ, ◌^◌, ◌<◌, inl, inr, List, [], ◌∷◌, ◌++◌, true, length, refl, sym, ap, ◌∙◌, subst, append-nil, length-append, arith}
 use Rattle.std.specs.Prelude.{All}
-use Rattle.bcder_source.specs.declared.mode.Mode.TheVariants.{Der}
-use Rattle.bcder_source.specs.Tags.{universal}
-use Rattle.bcder_source.specs.Tree.{Tree, Trees, primitive, constructed, Spells}
-use Rattle.bcder_source.specs.Sequences.{sequence, sequence_tag, forest}
-use Rattle.bcder_source.specs.Integers.{IsNumber}
-use Rattle.bcder_source.proofs.Integers.{small_number, number_small}
+use Rattle.bcder_tree.specs.declared.mode.Mode.TheVariants.{Der}
+use Rattle.bcder_tree.specs.Tags.{universal}
+use Rattle.bcder_tree.specs.Tree.{Tree, Trees, primitive, constructed, Spells}
+use Rattle.bcder_tree.specs.Sequences.{sequence, sequence_tag, forest}
+use Rattle.bcder_tree.specs.Integers.{IsNumber}
+use Rattle.bcder_tree.proofs.Integers.{small_number, number_small}
 use Rattle.rpki_bundle.specs.TimeForms.{IsGeneralizedTime}
 use Rattle.rpki_bundle.specs.Uris.{IsUri, IsUriOctet}
 use Rattle.rpki_bundle.specs.Bundle.{BundleValue, BundleText, IsLocator, IsObject, IsVerdict}

@@ -1,10 +1,10 @@
 -- Bundles by their members.
 use Rattle.std.proofs.Common.{◌≡◌, ℕ, true, List, [], ◌∷◌, refl, subst}
-use Rattle.bcder_source.specs.declared.mode.Mode.TheVariants.{Der}
-use Rattle.bcder_source.specs.Tree.{Tree}
-use Rattle.bcder_source.specs.Front.{Front, Fields, Splits}
-use Rattle.bcder_source.specs.Sequences.{sequence, sequence_tag, forest}
-use Rattle.bcder_source.proofs.Fronts.{whole_front, front_whole, sequence_front, content_trees, fields_more, fields_none, fields_end, first_front}
+use Rattle.bcder_tree.specs.declared.mode.Mode.TheVariants.{Der}
+use Rattle.bcder_tree.specs.Tree.{Tree}
+use Rattle.bcder_tree.specs.Front.{Front, Fields, Splits}
+use Rattle.bcder_tree.specs.Sequences.{sequence, sequence_tag, forest}
+use Rattle.bcder_tree.proofs.Fronts.{whole_front, front_whole, sequence_front, content_trees, fields_more, fields_none, fields_end, first_front}
 use Rattle.rpki_bundle.specs.Bundle.{BundleValue, BundleText}
 use Rattle.rpki_bundle.specs.BundleParts.{ReadsHead, ReadsBundle}
 use Rattle.rpki_bundle.proofs.Numbers.{same_behind, moved}

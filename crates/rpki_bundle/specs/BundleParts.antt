@@ -1,6 +1,6 @@
 -- A bundle by the members of its SEQUENCE, one behind the other.
 use Rattle.std.specs.Prelude.{ℕ, ◌≤◌, List, []}
-use Rattle.bcder_source.specs.Integers.{IsNumber}
+use Rattle.bcder_tree.specs.Integers.{IsNumber}
 use Rattle.rpki_bundle.specs.TimeForms.{IsGeneralizedTime}
 use Rattle.rpki_bundle.specs.Bundle.{BundleValue, IsLocator, IsObject, IsVerdict, verdict_row}
 use Rattle.rpki_bundle.specs.Entries.{IsList}

@@ -1,9 +1,9 @@
 -- Lists of entries.
 use Rattle.std.specs.Prelude.{ℕ, List}
-use Rattle.bcder_source.specs.declared.mode.Mode.TheVariants.{Der}
-use Rattle.bcder_source.specs.Tree.{Tree, Trees}
-use Rattle.bcder_source.specs.Front.{Fields}
-use Rattle.bcder_source.specs.Sequences.{EachIs, IsSequenceOf}
+use Rattle.bcder_tree.specs.declared.mode.Mode.TheVariants.{Der}
+use Rattle.bcder_tree.specs.Tree.{Tree, Trees}
+use Rattle.bcder_tree.specs.Front.{Fields}
+use Rattle.bcder_tree.specs.Sequences.{EachIs, IsSequenceOf}
 use Rattle.rpki_bundle.specs.Orders.{Ascends}
 
 -- The octets spell trees of the form P, one behind the other, which stand for these.

@@ -1,10 +1,10 @@
 -- The contents of entries.
 use Rattle.std.specs.Prelude.{◌≡◌, ℕ, List, [], ◌∷◌, length}
-use Rattle.bcder_source.specs.declared.mode.Mode.TheVariants.{Der}
-use Rattle.bcder_source.specs.Tags.{universal}
-use Rattle.bcder_source.specs.Tree.{Trees, primitive}
-use Rattle.bcder_source.specs.Front.{Fields}
-use Rattle.bcder_source.specs.Sequences.{forest}
+use Rattle.bcder_tree.specs.declared.mode.Mode.TheVariants.{Der}
+use Rattle.bcder_tree.specs.Tags.{universal}
+use Rattle.bcder_tree.specs.Tree.{Trees, primitive}
+use Rattle.bcder_tree.specs.Front.{Fields}
+use Rattle.bcder_tree.specs.Sequences.{forest}
 use Rattle.rpki_bundle.specs.declared.parts.Verdict.{Verdict}
 
 -- The members of a verdict.

@@ -1,9 +1,9 @@
 -- What readers take from the front of octets, in DER.
 use Rattle.std.specs.Prelude.{◌≡◌, ℕ, List, ◌∷◌, ◌++◌, length}
-use Rattle.bcder_source.specs.declared.mode.Mode.TheVariants.{Der}
-use Rattle.bcder_source.specs.Octets.{IsLength}
-use Rattle.bcder_source.specs.Tree.{Tree}
-use Rattle.bcder_source.specs.Front.{Front}
+use Rattle.bcder_tree.specs.declared.mode.Mode.TheVariants.{Der}
+use Rattle.bcder_tree.specs.Octets.{IsLength}
+use Rattle.bcder_tree.specs.Tree.{Tree}
+use Rattle.bcder_tree.specs.Front.{Front}
 
 -- The octets of a length behind those of it that are known, and what is behind them.
 pub record TakesLength (known octets : List ℕ) (n : ℕ) (rest : List ℕ) : Type 0 where

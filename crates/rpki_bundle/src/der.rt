@@ -1,10 +1,10 @@
 //! A plain reader of DER: values with one identifier octet and a definite length, from the front of octets.
 
 ghost use Rattle.std.specs.Prelude.{◌≡◌, ℕ, ◌<◌, ◌≤◌, [], ◌∷◌, List, true, false, IfSome, IfNone, length};
-ghost use Rattle.bcder_source.specs.declared.mode.Mode.TheVariants.{Der};
-ghost use Rattle.bcder_source.specs.Tags.{universal};
-ghost use Rattle.bcder_source.specs.Front.{Splits};
-ghost use Rattle.bcder_source.specs.Sequences.{sequence_tag};
+ghost use Rattle.bcder_tree.specs.declared.mode.Mode.TheVariants.{Der};
+ghost use Rattle.bcder_tree.specs.Tags.{universal};
+ghost use Rattle.bcder_tree.specs.Front.{Splits};
+ghost use Rattle.bcder_tree.specs.Sequences.{sequence_tag};
 ghost use Rattle.rpki_bundle.specs.Reading.{TakesLength, TakesContent};
 
 /// The identifier octet of a SEQUENCE.

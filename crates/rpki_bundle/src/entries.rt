@@ -2,7 +2,7 @@
 
 ghost use Rattle.std.specs.Prelude.{◌≡◌, ◌↔◌, ℕ, ◌<◌, ◌^◌, ◌++◌, List, IsTrue, OnOk, IfOk, IfErr, All, length};
 ghost use Rattle.std.specs.List.{flat_map};
-ghost use Rattle.bcder_source.specs.Tree.{Tree};
+ghost use Rattle.bcder_tree.specs.Tree.{Tree};
 ghost use Rattle.rpki_bundle.specs.Orders.{IsBefore, Ascends};
 ghost use Rattle.rpki_bundle.specs.Reading.{ReadsOne, LacksOne};
 ghost use Rattle.rpki_bundle.specs.Entries.{ReadsEach, LacksEach, IsList};

@@ -1,12 +1,12 @@
 //! The entries of a bundle's lists, read from their trees.
 
 ghost use Rattle.std.specs.Prelude.{◌≡◌, ◌≢◌, ◌↔◌, ℕ, ◌<◌, ◌≤◌, ◌^◌, List, [], ◌∷◌, ◌++◌, false, All, IsTrue, OnOk, IfSome, IfNone, length};
-ghost use Rattle.bcder_source.specs.declared.mode.Mode.TheVariants.{Der};
-ghost use Rattle.bcder_source.specs.Tags.{universal};
-ghost use Rattle.bcder_source.specs.Tree.{primitive};
-ghost use Rattle.bcder_source.specs.Front.{Front, Splits};
-ghost use Rattle.bcder_source.specs.Sequences.{sequence};
-ghost use Rattle.bcder_source.specs.Strings.{IsPrintable};
+ghost use Rattle.bcder_tree.specs.declared.mode.Mode.TheVariants.{Der};
+ghost use Rattle.bcder_tree.specs.Tags.{universal};
+ghost use Rattle.bcder_tree.specs.Tree.{primitive};
+ghost use Rattle.bcder_tree.specs.Front.{Front, Splits};
+ghost use Rattle.bcder_tree.specs.Sequences.{sequence};
+ghost use Rattle.bcder_tree.specs.Strings.{IsPrintable};
 ghost use Rattle.rpki_bundle.specs.declared.parts.Verdict.{Verdict as VerdictValue};
 ghost use Rattle.rpki_bundle.specs.Members.{IsVerdictContent};
 ghost use Rattle.rpki_bundle.specs.Sizes.{capped};

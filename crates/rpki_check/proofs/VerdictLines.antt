@@ -1,6 +1,6 @@
 -- Lines of verdicts, read one after the other.
 use Rattle.std.proofs.Common.{◌≡◌, ℕ, ◌<◌, ◌⊎◌, inl, inr, List, [], ◌∷◌, ◌++◌, length, sym, ap, ◌∙◌, subst, append_assoc, append-nil, length-append, arith}
-use Rattle.bcder_source.proofs.Unique.{by_length}
+use Rattle.bcder_tree.proofs.Unique.{by_length}
 use Rattle.rpki_bundle.specs.EntryTrees.{verdict_fields}
 use Rattle.rpki_bundle.specs.declared.parts.Verdict.{Verdict}
 use Rattle.rpki_check.specs.Lines.{IsLineEnd}

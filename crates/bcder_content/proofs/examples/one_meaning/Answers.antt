@@ -1,5 +1,5 @@
 use Rattle.std.proofs.Common.{◌≡◌, ℕ, sym, ap, ◌∙◌, arith}
-use Rattle.bcder_source.specs.Tags.{TagValue, universal}
+use Rattle.bcder_tree.specs.Tags.{TagValue, universal}
 use Rattle.bcder_content.specs.Examples.{IsSmall, IsVersion, IsPiece}
 use Rattle.bcder_content.specs.Grammar.{One}
 use Rattle.bcder_content.proofs.Unique.{octets_tagged, inside_tagged, as_tagged, octets_one, unsigned_one, any_octets_one, inside_one, such_one, as_one, one_of_one, end_one, rest_one, then_one, opt_one, default_one, many_one}

@@ -1,5 +1,5 @@
 use Rattle.std.proofs.Common.{◌≡◌, ℕ, ap, arith}
-use Rattle.bcder_source.specs.Tags.{TagValue, universal}
+use Rattle.bcder_tree.specs.Tags.{TagValue, universal}
 use Rattle.bcder_content.specs.Examples.{by_number, by_version}
 use Rattle.bcder_content.proofs.Choices.{stop_value, first_gives, second_gives, choice_lacks, second_lacks, as_gives, as_lacks, as_lacks_tagged}
 use Rattle.bcder_content.proofs.Forests.{there, absent}

@@ -1,5 +1,5 @@
 use Rattle.std.proofs.Common.{subst}
-use Rattle.bcder_source.specs.declared.mode.Mode.{Mode}
+use Rattle.bcder_tree.specs.declared.mode.Mode.{Mode}
 use Rattle.bcder_content.specs.Exact.{ReadsAllAs}
 use Rattle.bcder_content.specs.Examples.{sealed_fields, IsSealedBody}
 use Rattle.bcder_content.specs.Here.{here}

@@ -1,5 +1,5 @@
 use Rattle.std.proofs.Common.{◌≡◌, ℕ, List, refl, subst, arith}
-use Rattle.bcder_source.specs.Integers.{IsNumber}
+use Rattle.bcder_tree.specs.Integers.{IsNumber}
 use Rattle.rpki_bundle.specs.Reading.{ReadsOne}
 use Rattle.rpki_bundle.specs.Times.{IsMoment}
 use Rattle.rpki_bundle.proofs.Numbers.{same_behind, same_number, same_content, moment_content, moment_found, moved}

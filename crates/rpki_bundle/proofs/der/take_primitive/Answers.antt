@@ -1,5 +1,5 @@
 use Rattle.std.proofs.Common.{false, arith}
-use Rattle.bcder_source.specs.Tags.{universal}
+use Rattle.bcder_tree.specs.Tags.{universal}
 use Rattle.rpki_bundle.proofs.Contents.{splits_found, splits_lacks}
 use Rattle.rpki_bundle.proofs.der.take_primitive.Goals as goal
 

@@ -1,5 +1,5 @@
 use Rattle.std.proofs.Common.{true, refl, arith}
-use Rattle.bcder_source.specs.Sequences.{sequence_tag}
+use Rattle.bcder_tree.specs.Sequences.{sequence_tag}
 use Rattle.rpki_bundle.proofs.Contents.{splits_found, splits_lacks}
 use Rattle.rpki_bundle.proofs.der.take_sequence.Goals as goal
 

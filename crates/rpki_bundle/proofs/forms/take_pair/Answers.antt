@@ -1,4 +1,4 @@
-use Rattle.bcder_source.proofs.Fronts.{primitive_front, sequence_front, content_trees, fields_more, fields_end}
+use Rattle.bcder_tree.proofs.Fronts.{primitive_front, sequence_front, content_trees, fields_more, fields_end}
 use Rattle.rpki_bundle.proofs.Lists.{is_nil, isnt_nil}
 use Rattle.rpki_bundle.proofs.Members.{no_constructed, no_primitive, primitive_behind, no_members}
 use Rattle.rpki_bundle.proofs.forms.take_pair.Goals as goal

@@ -1,4 +1,4 @@
-use Rattle.bcder_source.proofs.Fronts.{primitive_front, fields_more, fields_end}
+use Rattle.bcder_tree.proofs.Fronts.{primitive_front, fields_more, fields_end}
 use Rattle.rpki_bundle.proofs.Lists.{is_nil, isnt_nil}
 use Rattle.rpki_bundle.proofs.Members.{primitive_behind, no_members}
 use Rattle.rpki_bundle.proofs.EntryFronts.{no_digest}

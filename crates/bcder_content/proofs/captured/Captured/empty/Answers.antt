@@ -1,5 +1,5 @@
 use Rattle.std.proofs.Common.{sym}
-use Rattle.bcder_source.specs.Tree.{none}
+use Rattle.bcder_tree.specs.Tree.{none}
 use Rattle.bcder_content.proofs.captured.Captured.empty.Goals as goal
 
 pub invariant_of-result : goal.invariant_of-result

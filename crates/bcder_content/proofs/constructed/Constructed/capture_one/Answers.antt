@@ -1,5 +1,5 @@
 use Rattle.bcder_content.proofs.Kept.{exact_one}
-use Rattle.bcder_source.specs.Tree.{none, more}
+use Rattle.bcder_tree.specs.Tree.{none, more}
 use Rattle.bcder_content.proofs.Took.{took_one}
 use Rattle.bcder_content.proofs.constructed.Constructed.capture_one.Goals as goal
 

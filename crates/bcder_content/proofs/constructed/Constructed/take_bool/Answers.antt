@@ -1,5 +1,5 @@
 use Rattle.std.proofs.Common.{rules, subst, Bool}
-use Rattle.bcder_source.specs.declared.mode.Mode.{Mode}
+use Rattle.bcder_tree.specs.declared.mode.Mode.{Mode}
 use Rattle.bcder_content.specs.Here.{plain}
 use Rattle.bcder_content.specs.Plain.{ReadsOctetsAs}
 use Rattle.bcder_content.specs.Values.{IsBoolean}

@@ -1,5 +1,5 @@
 use Rattle.std.proofs.Common.{◌≡◌, sym, subst, ap}
-use Rattle.bcder_source.specs.declared.mode.Mode.{Mode}
+use Rattle.bcder_tree.specs.declared.mode.Mode.{Mode}
 use Rattle.bcder_content.specs.Contents.{OctetsLeft}
 use Rattle.bcder_content.specs.Values.{IsBoolean}
 use Rattle.bcder_content.proofs.Primitives.{refused_whole}

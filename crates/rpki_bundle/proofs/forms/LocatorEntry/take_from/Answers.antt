@@ -1,6 +1,6 @@
 use Rattle.std.proofs.Common.{subst, ◌≢◌, List, ℕ, []}
 use Rattle.std.specs.Prelude.{All}
-use Rattle.bcder_source.specs.Strings.{IsPrintable}
+use Rattle.bcder_tree.specs.Strings.{IsPrintable}
 use Rattle.rpki_bundle.proofs.EntryFronts.{locator_front, same_first, locator_name}
 use Rattle.rpki_bundle.proofs.forms.LocatorEntry.take_from.Goals as goal
 

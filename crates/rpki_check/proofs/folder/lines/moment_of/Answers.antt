@@ -1,5 +1,5 @@
 use Rattle.std.proofs.Common.{◌≡◌, length, sym, ◌∙◌, subst}
-use Rattle.bcder_source.proofs.Unique.{by_length}
+use Rattle.bcder_tree.proofs.Unique.{by_length}
 use Rattle.rpki_bundle.specs.Times.{IsMoment}
 use Rattle.rpki_check.proofs.Moments.{moment_length}
 use Rattle.rpki_check.proofs.Options.{none_then}

@@ -1,5 +1,5 @@
 use Rattle.std.proofs.Common.{◌≡◌, Ok, length, sym, ap, ◌∙◌, subst, arith, length-append}
-use Rattle.bcder_source.proofs.Unique.{by_length}
+use Rattle.bcder_tree.proofs.Unique.{by_length}
 use Rattle.hex.specs.Hex.{decode_sized}
 use Rattle.rpki_check.specs.Verdicts.{IsHex}
 use Rattle.rpki_check.proofs.Hexes.{decoded_from_hex, hex_from_decoded, hex_length}

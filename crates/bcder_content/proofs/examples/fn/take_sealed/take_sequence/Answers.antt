@@ -1,6 +1,6 @@
 use Rattle.std.proofs.Common.{rules}
 use Rattle.bcder_content.proofs.Forests.{begin, next, stop, done}
-use Rattle.bcder_source.specs.Tree.{none, more}
+use Rattle.bcder_tree.specs.Tree.{none, more}
 use Rattle.bcder_content.proofs.Took.{took_one}
 use Rattle.bcder_content.proofs.KeptOne.{exact_capture_one}
 use Rattle.bcder_content.proofs.examples.fn.take_sealed.take_sequence.Goals as goal

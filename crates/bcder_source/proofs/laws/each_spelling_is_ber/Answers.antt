@@ -1,5 +1,0 @@
-use Rattle.bcder_source.proofs.Modes.{to_ber}
-use Rattle.bcder_source.proofs.laws.each_spelling_is_ber.Goals as goal
-
-pub returns : goal.returns
-returns c = to_ber

@@ -1,0 +1,11 @@
+pub mod Unique
+pub mod Parts
+pub mod Trees
+pub mod Canonical
+pub mod Modes
+pub mod Fronts
+pub mod Integers
+pub mod TagOctets
+pub mod Slices
+pub mod Identifiers
+pub mod Lengths

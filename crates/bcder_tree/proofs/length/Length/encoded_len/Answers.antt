@@ -1,0 +1,11 @@
+use Rattle.std.proofs.Common.{length, ap, subst}
+use Rattle.bcder_tree.specs.declared.length.Length.{Length}
+use Rattle.bcder_tree.specs.declared.mode.Mode.TheVariants.{Der}
+use Rattle.bcder_tree.specs.Lengths.{SpellsLength}
+use Rattle.bcder_tree.proofs.length.Length.encoded_len.Goals as goal
+
+pub returns-in-Definite : goal.returns-in-Definite
+returns-in-Definite c = λ text h. c.shortest_len.ensures text (subst (λ (l : Length). SpellsLength Der l text) c.in-Definite.is (h Der))
+
+pub returns-in-Indefinite : goal.returns-in-Indefinite
+returns-in-Indefinite c = λ text h. ap length (subst (λ (l : Length). SpellsLength Der l text) c.in-Indefinite.is (h Der))

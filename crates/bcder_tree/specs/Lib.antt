@@ -1,0 +1,10 @@
+pub mod Tags
+pub mod TagOctets
+pub mod Reads
+pub mod Octets
+pub mod Tree
+pub mod Front
+pub mod Sequences
+pub mod Integers
+pub mod Strings
+pub mod Lengths
