@@ -106,7 +106,8 @@ fn long_length(mode: Mode, first: u8, octets: &[u8]) -> Option<(usize, usize)>
 
 // How many octets the shortest spelling takes.
 fn shortest_len(size: usize) -> usize
-    ensures { (text : List ℕ) → IsLength Der text size → length text ≡ result }
+    ensures len { (text : List ℕ) → IsLength Der text size → length text ≡ result }
+    ensures bound { result ≤ 5 }
 {
     if size < 128 {
         return 1;
@@ -160,7 +161,8 @@ impl Length {
     /// How many length octets are written, one to five.
     pub fn encoded_len(self) -> usize
         requires { IsWritable self }
-        ensures { (text : List ℕ) → SpellsEverywhere self text → length text ≡ result }
+        ensures len { (text : List ℕ) → SpellsEverywhere self text → length text ≡ result }
+        ensures bound { result ≤ 5 }
     {
         match self {
             Length::Definite(size) => shortest_len(size),

@@ -382,7 +382,8 @@ impl Tag {
 
     /// How many identifier octets the tag has, one to four.
     pub fn encoded_len(self) -> usize
-        ensures { (constructed : Bool) (text : List ℕ) → IsIdentifier text constructed self → length text ≡ result }
+        ensures len { (constructed : Bool) (text : List ℕ) → IsIdentifier text constructed self → length text ≡ result }
+        ensures bound { result ≤ 4 }
     {
         let [first, b, c, _] = self.octets;
         if first % 32 < 31 {

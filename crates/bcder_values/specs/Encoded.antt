@@ -1,9 +1,9 @@
 -- What values stand for, and what is written of them (X.690 8.1, 9.1, 10.1).
-use Rattle.std.specs.Prelude.{◌≡◌, ℕ, ◌^◌, ◌<◌, List, [], ◌∷◌, ◌++◌, length}
+use Rattle.std.specs.Prelude.{◌≡◌, ℕ, ◌^◌, ◌<◌, List, [], ◌++◌, length}
 use Rattle.bcder_tree.specs.declared.mode.Mode.{Mode}
 use Rattle.bcder_tree.specs.declared.mode.Mode.TheVariants.{Ber, Cer, Der}
 use Rattle.bcder_tree.specs.Tags.{TagValue}
-use Rattle.bcder_tree.specs.Tree.{Tree, Trees, primitive, constructed, none, more, IsPrimitive, IsConstructed, SpellsAll}
+use Rattle.bcder_tree.specs.Tree.{Trees, primitive, constructed, none, more, IsPrimitive, IsConstructed, SpellsAll}
 
 -- In BER values are written as in DER, with definite lengths in the fewest octets.
 abbrev pub written_as : Mode → Mode
@@ -15,6 +15,13 @@ written_as Der = Der
 abbrev pub joined : Trees → Trees → Trees
 joined none us = us
 joined (more t ts) us = more t (joined ts us)
+
+-- No values, and nothing written.
+abbrev pub NoTree : Trees → Type 0
+NoTree ts = ts ≡ none
+
+abbrev pub NoText : List ℕ → Type 0
+NoText text = text ≡ []
 
 -- One primitive value, with content octets of P.
 pub record IsPlain (tag : TagValue) (P : List ℕ → Type 0) (ts : Trees) : Type 0 where

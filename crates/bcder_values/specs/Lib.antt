@@ -1,3 +1,9 @@
 pub mod Writing
 pub mod Headers
 pub mod Encoded
+pub mod Laws
+pub mod Frames
+pub mod Wraps
+pub mod Contents
+pub mod Plains
+pub mod Choices

@@ -1,10 +1,10 @@
 //! What stands in front of contents.
 
-ghost use Rattle.std.specs.Prelude.{◌≡◌, ◌-◌, ◌^◌, ◌≤◌, Bool, List, ℕ, length, IfOk, IfErr, OnOk};
+ghost use Rattle.std.specs.Prelude.{◌≡◌, ◌+◌, ◌^◌, ◌<◌, ◌≤◌, Bool, List, ℕ, length, IfOk, IfErr, OnOk};
 ghost use Rattle.bcder_tree.specs.Tags.{IsTag};
 ghost use Rattle.bcder_values.specs.Headers.{IsHeaderIn, HeaderRefused};
 ghost use Rattle.bcder_values.specs.Writing.{HasLength, Wrote, TookFront};
-ghost use Rattle.bcder_values.specs.declared.error.EncodeError.TheVariants.{TooLong, Write as write_refused};
+ghost use Rattle.bcder_values.specs.declared.error.EncodeError.TheVariants.{TooLong as too_long, Write as refusal};
 
 use crate::EncodeError;
 use crate::write::write_octets;
@@ -14,20 +14,50 @@ use std::io::Write;
 // The most octets of a content that four length octets can tell.
 const MAX_LEN: usize = 0xFFFF_FFFF;
 
-/// How many octets a value has in definite form, whose content has so many.
+// How many octets stand in front of a content.
+pub(crate) fn header_len(tag: Tag, constructed: bool, content_len: usize) -> usize
+    requires tag { IsTag tag }
+    requires few { content_len < 2 ^ 32 }
+    ensures len { HasLength (IsHeaderIn constructed tag content_len) result }
+    ensures bound { result ≤ 9 }
+{
+    let (_, identifier) = tag.encoded(constructed);
+    let (_, size) = Length::encoded(content_len);
+    identifier + size
+}
+
+/// How many octets a value in definite form has whose content has so many.
 ///
 /// `TooLong` where these are more than 2^32 - 1.
 pub fn total_encoded_len(tag: Tag, content_len: usize) -> Result<usize, EncodeError>
-    requires { IsTag tag }
-    ensures len { IfOk result (λ n. (form : Bool) → HasLength (λ text. IsHeaderIn form tag content_len text) (n - content_len)) }
-    ensures total { IfOk result (λ n. content_len ≤ n) }
-    ensures refused { IfErr result (λ e. (e ≡ TooLong) × (2 ^ 32 ≤ content_len)) }
+    ensures len { IfOk result (λ n. (form : Bool) (header : List ℕ) → IsHeaderIn form tag content_len header → n ≡ length header + content_len) }
+    ensures few { IfOk result (λ n. content_len < 2 ^ 32) }
+    ensures refused { IfErr result (λ e. (e ≡ too_long) × (2 ^ 32 ≤ content_len)) }
 {
     if content_len > MAX_LEN {
         return Err(EncodeError::TooLong);
     }
-    let header = tag.encoded_len() + Length::Definite(content_len).encoded_len();
-    Ok(header + content_len)
+    let identifier = tag.encoded_len();
+    let size = Length::Definite(content_len).encoded_len();
+    Ok(identifier + size + content_len)
+}
+
+// Writes a header whose length can be told.
+pub(crate) fn put_header<W: Write>(
+    target: &mut W,
+    tag: Tag,
+    constructed: bool,
+    content_len: usize,
+) -> Result<(), EncodeError>
+    requires tag { IsTag tag }
+    requires few { content_len < 2 ^ 32 }
+    ensures written { OnOk result (Wrote (IsHeaderIn constructed tag content_len) (W.contents target.old) (W.contents target.new)) }
+    ensures refused { IfErr result (λ e. (e ≡ refusal) × TookFront (IsHeaderIn constructed tag content_len) (W.contents target.old) (W.contents target.new)) }
+{
+    let (identifier, long) = tag.encoded(constructed);
+    let (size, wide) = Length::encoded(content_len);
+    write_octets(target, &identifier[..long])?;
+    write_octets(target, &size[..wide])
 }
 
 /// Writes the identifier octets and the length octets of a value in definite form (X.690 8.1.2, 8.1.3), the
@@ -47,8 +77,5 @@ pub fn write_header<W: Write>(
     if content_len > MAX_LEN {
         return Err(EncodeError::TooLong);
     }
-    let (octets, count) = tag.encoded(constructed);
-    write_octets(target, &octets[..count])?;
-    let (octets, count) = Length::encoded(content_len);
-    write_octets(target, &octets[..count])
+    put_header(target, tag, constructed, content_len)
 }

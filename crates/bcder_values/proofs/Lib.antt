@@ -1,0 +1,4 @@
+pub mod Pieces
+pub mod Headers
+pub mod Compose
+pub mod Wrapping
