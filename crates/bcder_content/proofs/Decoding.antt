@@ -11,7 +11,7 @@ use Rattle.bcder_tree.specs.Tree.{Tree, Trees, SpellsAll}
 use Rattle.bcder_tree.specs.Front.{Front}
 use Rattle.bcder_source.specs.Views.{View, left, Moved}
 use Rattle.bcder_source.proofs.Moves.{left_moved}
-use Rattle.bcder_content.specs.declared.ending.Ending.TheVariants.{Unbounded}
+use Rattle.bcder_header.specs.declared.ending.Ending.TheVariants.{Unbounded}
 use Rattle.bcder_content.specs.declared.constructed.Constructed.{Constructed}
 use Rattle.bcder_content.specs.Contents.{ValuesLeft, octets, Took, Ahead}
 use Rattle.bcder_content.specs.Exact.{Lacks, ReadsAs, DecodesAs}

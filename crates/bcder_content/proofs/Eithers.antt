@@ -6,13 +6,13 @@ use Rattle.bcder_source.specs.declared.error.DecodeError.TheVariants.{Content, S
 use Rattle.bcder_source.specs.Errors.{OnContent, OnlyContent}
 use Rattle.bcder_tree.specs.Tags.{TagValue}
 use Rattle.bcder_tree.specs.Tree.{Tree}
-use Rattle.bcder_content.specs.declared.ending.Ending.{Ending}
-use Rattle.bcder_content.specs.declared.ending.Span.{Span}
+use Rattle.bcder_header.specs.declared.ending.Ending.{Ending}
+use Rattle.bcder_header.specs.declared.ending.Span.{Span}
 use Rattle.bcder_content.specs.Contents.{ValuesLeft, octets, Ahead, Ended, tag_of, form_of}
 use Rattle.bcder_content.specs.Stops.{NoneAhead, EndsUnread, LeftBy}
 use Rattle.bcder_content.specs.Ran.{Enters, Leaves}
 use Rattle.bcder_content.specs.Either.{Meeting, RanAny, AnyRefused, none_wanted, any_refused, any_goes_on, TakesCases, Takes, TakesNextCases, OfForm, WithTag}
-use Rattle.bcder_content.proofs.Opening.{opens_tag}
+use Rattle.bcder_header.proofs.Opening.{opens_tag}
 use Rattle.bcder_content.proofs.Took.{took_front}
 use Rattle.bcder_content.proofs.Taking.{weaker, only_on, on_content, none_failed}
 

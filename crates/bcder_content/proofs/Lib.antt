@@ -1,7 +1,3 @@
-pub mod Numbers
-pub mod Primitives
-pub mod Opening
-pub mod Windows
 pub mod Took
 pub mod Taking
 pub mod Inside
@@ -15,9 +11,6 @@ pub mod Unique
 pub mod KeptOne
 pub mod Lending
 pub mod Eithers
-mod SkipMoves
-mod SkipLevels
-mod SkipSteps
 mod SkipContents
 pub mod Anything
 pub mod Parts

@@ -13,15 +13,15 @@ use Rattle.bcder_tree.specs.Tree.{Tree, Trees, primitive, constructed, none, mor
 use Rattle.bcder_tree.specs.Front.{Front}
 use Rattle.bcder_source.specs.Views.{View, left, limited, Moved}
 use Rattle.bcder_source.proofs.Moves.{left_moved}
-use Rattle.bcder_content.specs.declared.ending.Ending.{Ending}
-use Rattle.bcder_content.specs.declared.ending.Ending.TheVariants.{Definite, Indefinite, Unbounded}
-use Rattle.bcder_content.specs.declared.ending.Span.{Span}
+use Rattle.bcder_header.specs.declared.ending.Ending.{Ending}
+use Rattle.bcder_header.specs.declared.ending.Ending.TheVariants.{Definite, Indefinite, Unbounded}
+use Rattle.bcder_header.specs.declared.ending.Span.{Span}
 use Rattle.bcder_content.specs.Contents.{ValuesLeft, octets, Took, Ahead, EndsHere, Ended, Unlike, tag_of, form_of}
-use Rattle.bcder_content.specs.Openings.{Opens, Closes, ending_of, NoValue, OfTag, NotOfTag}
+use Rattle.bcder_header.specs.Openings.{Opens, Closes, ending_of, NoValue, OfTag, NotOfTag}
 use Rattle.bcder_content.specs.Ran.{Enters, NoneOf, Comes}
 use Rattle.bcder_content.specs.Stops.{NoneAhead, EndsUnread}
-use Rattle.bcder_content.proofs.Opening.{HeadIn, tree_head, opens_tag, front_moves, here_ends}
-use Rattle.bcder_content.proofs.Windows.{Shown, one_tag, no_end_in, shown_whole}
+use Rattle.bcder_header.proofs.Opening.{HeadIn, tree_head, opens_tag, front_moves, here_ends}
+use Rattle.bcder_header.proofs.Windows.{Shown, one_tag, no_end_in, shown_whole}
 use Rattle.bcder_content.proofs.Took.{took_front}
 
 -- A fact for another reason.

@@ -8,8 +8,8 @@ use Rattle.bcder_source.specs.Views.{View, left, limited, more_limit, Moved}
 use Rattle.bcder_tree.proofs.Trees.{one_tree, tree_goes_on}
 use Rattle.bcder_tree.proofs.Parts.{Ends}
 use Rattle.bcder_source.proofs.Moves.{left_moved, moved_none, moved_both, more_more}
-use Rattle.bcder_content.specs.declared.ending.Ending.{Ending}
-use Rattle.bcder_content.specs.declared.ending.Ending.TheVariants.{Definite, Indefinite, Unbounded}
+use Rattle.bcder_header.specs.declared.ending.Ending.{Ending}
+use Rattle.bcder_header.specs.declared.ending.Ending.TheVariants.{Definite, Indefinite, Unbounded}
 use Rattle.bcder_content.specs.Exact.{ReadsNextAs}
 use Rattle.bcder_content.specs.Contents.{ValuesLeft, octets, Goes, Took, TookAll, Ahead, EndsHere, Ended, Whole}
 

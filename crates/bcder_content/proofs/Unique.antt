@@ -4,7 +4,7 @@ use Rattle.bcder_tree.specs.declared.mode.Mode.{Mode}
 use Rattle.bcder_tree.specs.Tags.{TagValue}
 use Rattle.bcder_tree.specs.Tree.{Tree, Trees, primitive, constructed, none, more}
 use Rattle.bcder_content.specs.Contents.{tag_of}
-use Rattle.bcder_content.specs.Values.{IsUnsigned, AnyOctets}
+use Rattle.bcder_primitive.specs.Values.{IsUnsigned, AnyOctets}
 use Rattle.bcder_content.specs.Grammar.{Inside, OctetsOf, Any, Such, OneOf, As, End, Rest, Then, Without, OptCases, Opt, Default, ManyCases, Many, Tagged, One, OneAll, OneOctets}
 
 -- Tags.

@@ -1,21 +1,14 @@
 -- Contents that are read: what is left of them, and which values are next (X.690 8.1).
-use Rattle.std.specs.Prelude.{◌≡◌, ℕ, Bool, true, false, List, [], ◌∷◌, Option, Some, None}
+use Rattle.std.specs.Prelude.{◌≡◌, ℕ, Bool, false, List, Option}
 use Rattle.bcder_tree.specs.declared.mode.Mode.{Mode}
 use Rattle.bcder_tree.specs.Tags.{TagValue}
-use Rattle.bcder_tree.specs.Tree.{Tree, Trees, primitive, constructed, Spells, SpellsAll}
-use Rattle.bcder_source.specs.Views.{View, left, Moved}
-use Rattle.bcder_content.specs.declared.ending.Ending.{Ending}
-use Rattle.bcder_content.specs.declared.ending.Ending.TheVariants.{Definite, Indefinite, Unbounded}
+use Rattle.bcder_tree.specs.Tree.{Tree, Trees, Spells, SpellsAll}
+use Rattle.bcder_source.specs.Views.{View, Moved}
+use Rattle.bcder_header.specs.declared.ending.Ending.{Ending}
+pub use Rattle.bcder_header.specs.Openings.{EndsHere, tag_of, form_of}
+pub use Rattle.bcder_primitive.specs.Plain.{OctetsLeft}
 
--- What is left of the content octets of a primitive value: the mode, whether a read of it was refused, the rest of the
--- source, and how many octets of it may be read.
-pub record OctetsLeft : Type 0 where
-  pub mode : Mode
-  pub failed : Bool
-  pub rest : List ℕ
-  pub limit : Option ℕ
-
--- What is left of a content of values: the same, and how it ends.
+-- What is left of a content of values: the same as of octets, and how it ends.
 pub record ValuesLeft : Type 0 where
   pub mode : Mode
   pub end : Ending
@@ -51,12 +44,6 @@ pub record TookAll (old : ValuesLeft) (ts : Trees) (new : ValuesLeft) : Type 0 w
 abbrev pub Ahead : ValuesLeft → Tree → Type 0
 Ahead v t = (w : ValuesLeft) × Took v t w
 
--- Where a content ends: behind so many octets (8.1.3.3), before end-of-contents (8.1.3.6, 8.1.5), or with the source.
-abbrev pub EndsHere : Ending → View → Type 0
-EndsHere Definite v = v.limit ≡ Some 0
-EndsHere Indefinite v = (w : View) × Moved v (0 ∷ 0 ∷ []) w
-EndsHere Unbounded v = left v ≡ []
-
 -- No value is left of the content, and no read of it was refused.
 pub record Ended (v : ValuesLeft) : Type 0 where
   pub sound : v.failed ≡ false
@@ -67,15 +54,6 @@ pub record Whole (v : ValuesLeft) (ts : Trees) : Type 0 where
   pub behind : ValuesLeft
   pub took : TookAll v ts behind
   pub ended : Ended behind
-
--- Tag and form of a value.
-abbrev pub tag_of : Tree → TagValue
-tag_of (primitive t v) = t
-tag_of (constructed t ts) = t
-
-abbrev pub form_of : Tree → Bool
-form_of (primitive t v) = false
-form_of (constructed t ts) = true
 
 -- No value of that tag is next, and no read was refused.
 pub record Unlike (v : ValuesLeft) (tag : TagValue) : Type 0 where

@@ -6,12 +6,12 @@ use Rattle.bcder_tree.specs.Tags.{TagValue}
 use Rattle.bcder_tree.specs.Tree.{Tree, Trees, primitive, constructed}
 use Rattle.bcder_source.specs.Errors.{OnContent, OnlyContent}
 use Rattle.bcder_source.specs.declared.error.DecodeError.{DecodeError}
-use Rattle.bcder_content.specs.declared.ending.Span.{Span}
+use Rattle.bcder_header.specs.declared.ending.Span.{Span}
 use Rattle.bcder_content.specs.declared.content.Content.{Content}
 use Rattle.bcder_content.specs.declared.constructed.Constructed.{Constructed}
-use Rattle.bcder_content.specs.declared.primitive.Primitive.{Primitive}
+use Rattle.bcder_primitive.specs.declared.primitive.Primitive.{Primitive}
 use Rattle.bcder_content.specs.Contents.{OctetsLeft, ValuesLeft, octets, Ahead, Ended, Unlike, tag_of, form_of}
-use Rattle.bcder_content.specs.Plain.{ReadsOctetsAs}
+use Rattle.bcder_primitive.specs.Plain.{ReadsOctetsAs}
 use Rattle.bcder_content.specs.Exact.{ReadsAllAs}
 use Rattle.bcder_content.specs.Here.{here, plain}
 use Rattle.bcder_content.specs.Stops.{EndsUnread}

@@ -1,12 +1,8 @@
 -- What contracts see of a content.
 use Rattle.std.specs.Prelude.{ℕ, List}
-use Rattle.bcder_content.specs.declared.primitive.Primitive.{Primitive}
 use Rattle.bcder_content.specs.declared.constructed.Constructed.{Constructed}
-use Rattle.bcder_content.specs.Contents.{OctetsLeft, ValuesLeft}
-
--- What is left of a primitive content, by the rest of its source.
-abbrev pub plain : {S : Type 0} → (S → List ℕ) → Primitive S → OctetsLeft
-plain rest p = record { mode = p.mode; failed = p.failed; rest = rest p.source.source; limit = p.source.limit }
+use Rattle.bcder_content.specs.Contents.{ValuesLeft}
+pub use Rattle.bcder_primitive.specs.Plain.{plain}
 
 -- What is left of a content of values, by the rest of its source.
 abbrev pub here : {S : Type 0} → (S → List ℕ) → Constructed S → ValuesLeft

@@ -1,7 +1,10 @@
+pub use Rattle.bcder_header.specs.Openings
+pub use Rattle.bcder_header.specs.Nodes
+pub use Rattle.bcder_primitive.specs.Plain
+pub use Rattle.bcder_primitive.specs.Sliced
+pub use Rattle.bcder_primitive.specs.Values
 pub mod Contents
-pub mod Openings
 pub mod Here
-pub mod Plain
 pub mod Exact
 pub mod Grammar
 pub mod Ran
@@ -9,9 +12,4 @@ pub mod Stops
 pub mod Kept
 pub mod Captures
 pub mod Either
-pub mod Nodes
-pub mod Values
 pub mod Skips
-pub mod SkipLevels
-pub mod Sliced
-pub mod Examples

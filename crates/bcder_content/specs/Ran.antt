@@ -1,21 +1,21 @@
 -- What a reading by a closure was.
 use Rattle.std.specs.Prelude.{◌≡◌, ℕ, Bool, true, false, List, Result, Ok, Err, Option, Some, None}
-use Rattle.std.specs.Fn.{Once, FnOnceReturnsAtMut}
-use denote.Ref.{MutBor}
+use Rattle.std.specs.Fn.{FnOnceReturnsAtMut}
 use Rattle.bcder_tree.specs.declared.mode.Mode.{Mode}
 use Rattle.bcder_tree.specs.Tags.{TagValue}
 use Rattle.bcder_tree.specs.Tree.{Tree}
 use Rattle.bcder_source.specs.Errors.{OnContent}
 use Rattle.bcder_source.specs.declared.error.DecodeError.{DecodeError}
-use Rattle.bcder_content.specs.declared.ending.Ending.TheVariants.{Unbounded}
-use Rattle.bcder_content.specs.declared.ending.Span.{Span}
+use Rattle.bcder_header.specs.declared.ending.Ending.TheVariants.{Unbounded}
+use Rattle.bcder_header.specs.declared.ending.Span.{Span}
 use Rattle.bcder_content.specs.declared.constructed.Constructed.{Constructed}
-use Rattle.bcder_content.specs.declared.primitive.Primitive.{Primitive}
+use Rattle.bcder_primitive.specs.declared.primitive.Primitive.{Primitive}
 use Rattle.bcder_content.specs.Contents.{OctetsLeft, ValuesLeft, octets, Ahead, Ended, Unlike, tag_of, form_of}
-use Rattle.bcder_content.specs.Plain.{octets_in}
-use Rattle.bcder_content.specs.Openings.{Opens, Closes, ending_of}
+use Rattle.bcder_primitive.specs.Plain.{octets_in}
+use Rattle.bcder_header.specs.Openings.{Opens, Closes, ending_of}
 use Rattle.bcder_content.specs.Here.{here, plain}
 use Rattle.bcder_content.specs.Stops.{EndsUnread}
+pub use Rattle.bcder_primitive.specs.Sliced.{Reader}
 
 -- Reading went from the content's values into the one in front, which has that form and tag.
 pub record Enters (old : ValuesLeft) (form : Bool) (tag : TagValue) (span : Span) (inner : ValuesLeft) : Type 0 where
@@ -41,10 +41,6 @@ pub record NoneOf (old : ValuesLeft) (tag : TagValue) (form : Bool) : Type 0 whe
 pub record Comes (old : ValuesLeft) (tag : TagValue) : Type 0 where
   pub tagged : (t : Tree) → Ahead old t → tag_of t ≡ tag
   pub goes_on : Ended old → ⊥
-
--- What is read by a closure: the values of a constructed value, or the octets of a primitive one.
-abbrev pub Reader : Type 0 → Type 0 → Type 0 → Type 0 → Type 1
-Reader F V T E = Once F (MutBor V × Unit {0}) (Result T (DecodeError E) × (MutBor V × Unit {0}))
 
 -- The closure was given the values of the value in front, and answered.
 pub record RanOn {F S T E : Type 0} (rest : S → List ℕ) (g : Reader F (Constructed S) T E) (op : F) (old : ValuesLeft) (tag : TagValue) (span : Span) (r : Result T (DecodeError E)) (end : ValuesLeft) : Type 0 where

@@ -3,10 +3,10 @@ use Rattle.std.specs.Prelude.{◌≡◌, Bool, true, false}
 use Rattle.bcder_tree.specs.declared.mode.Mode.{Mode}
 use Rattle.bcder_tree.specs.Tree.{Tree}
 use Rattle.bcder_source.specs.Views.{View}
-use Rattle.bcder_content.specs.declared.ending.Ending.{Ending}
-use Rattle.bcder_content.specs.declared.ending.Span.{Span}
+use Rattle.bcder_header.specs.declared.ending.Ending.{Ending}
+use Rattle.bcder_header.specs.declared.ending.Span.{Span}
 use Rattle.bcder_content.specs.Contents.{ValuesLeft, octets, Ahead, EndsHere}
-use Rattle.bcder_content.specs.Openings.{Closes, ending_of}
+use Rattle.bcder_header.specs.Openings.{Closes, ending_of}
 
 -- No value is next.
 pub record NoneAhead (v : ValuesLeft) : Type 0 where

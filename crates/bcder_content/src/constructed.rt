@@ -5,7 +5,7 @@ ghost use Rattle.bcder_tree.specs.Tags.{TagValue};
 ghost use Rattle.bcder_source.specs.declared.error.DecodeError.TheVariants.{Content as content_error};
 ghost use Rattle.bcder_content.specs.Contents.{octets, EndsHere, Ended, Unlike};
 ghost use Rattle.bcder_content.specs.Here.{here, plain};
-ghost use Rattle.bcder_content.specs.Openings.{ending_of};
+ghost use Rattle.bcder_header.specs.Openings.{ending_of};
 ghost use Rattle.bcder_content.specs.Ran.{Enters, Leaves, NoneOf, Comes, Ran, RanOpt, PlainRan, PlainRanOpt};
 ghost use Rattle.bcder_content.specs.Stops.{NoneAhead, EndsUnread, LeftBy};
 

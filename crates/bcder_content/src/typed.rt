@@ -5,7 +5,7 @@ ghost use Rattle.bcder_content.specs.Exact.{ReadsAs, ReadsOptAs};
 ghost use Rattle.bcder_content.specs.Grammar.{OctetsOf};
 ghost use Rattle.bcder_content.specs.Here.{here};
 ghost use Rattle.bcder_content.specs.Ran.{Ran, RanOpt};
-ghost use Rattle.bcder_content.specs.Values.{IsBoolean, IsNull, IsUnsigned, IsValue};
+ghost use Rattle.bcder_primitive.specs.Values.{IsBoolean, IsNull, IsUnsigned, IsValue};
 
 use crate::constructed::Constructed;
 use bcder_source::{DecodeError, Source, Tag};

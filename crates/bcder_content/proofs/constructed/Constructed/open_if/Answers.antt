@@ -1,4 +1,4 @@
-use Rattle.bcder_content.proofs.Windows.{tags_unequal, bools_differ}
+use Rattle.bcder_header.proofs.Windows.{tags_unequal, bools_differ}
 use Rattle.bcder_content.proofs.Taking.{only_weaker, none_of, other_tag, other_form, refused_by}
 use Rattle.bcder_content.proofs.constructed.Constructed.open_if.Goals as goal
 

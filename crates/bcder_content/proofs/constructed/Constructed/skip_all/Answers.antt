@@ -1,5 +1,5 @@
 use Rattle.bcder_content.specs.Here.{here}
-use Rattle.bcder_content.proofs.SkipSteps.{content_weaker}
+use Rattle.bcder_header.proofs.SkipSteps.{content_weaker}
 use Rattle.bcder_content.proofs.SkipContents.{all_first, all_next, all_done, all_refused, took_shorter}
 use Rattle.bcder_content.proofs.constructed.Constructed.skip_all.Goals as goal
 

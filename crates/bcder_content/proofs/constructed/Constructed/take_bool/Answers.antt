@@ -1,8 +1,8 @@
 use Rattle.std.proofs.Common.{rules, subst, Bool}
 use Rattle.bcder_tree.specs.declared.mode.Mode.{Mode}
 use Rattle.bcder_content.specs.Here.{plain}
-use Rattle.bcder_content.specs.Plain.{ReadsOctetsAs}
-use Rattle.bcder_content.specs.Values.{IsBoolean}
+use Rattle.bcder_primitive.specs.Plain.{ReadsOctetsAs}
+use Rattle.bcder_primitive.specs.Values.{IsBoolean}
 use Rattle.bcder_content.proofs.Inside.{exact_octets}
 use Rattle.bcder_content.proofs.constructed.Constructed.take_bool.Goals as goal
 

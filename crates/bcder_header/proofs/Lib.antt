@@ -1,0 +1,5 @@
+pub mod Opening
+pub mod Windows
+pub mod SkipMoves
+pub mod SkipLevels
+pub mod SkipSteps

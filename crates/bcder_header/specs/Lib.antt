@@ -1,0 +1,4 @@
+pub mod Openings
+pub mod Nodes
+pub mod SkipLevels
+pub mod Skips

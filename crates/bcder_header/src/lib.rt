@@ -1,0 +1,8 @@
+//! Where values begin and end, and skipping one: in three modes, without recursion.
+#![tactic(auto)]
+
+pub mod ending;
+pub mod header;
+pub mod skip;
+
+pub use ending::Ending;

@@ -1,0 +1,7 @@
+//! Contents of primitive values, with BOOLEAN, NULL and INTEGER by their octets.
+#![tactic(auto)]
+
+mod integers;
+pub mod primitive;
+
+pub use primitive::Primitive;

@@ -1,0 +1,12 @@
+use Rattle.std.proofs.Common.{length, map}
+use Rattle.bcder_readers.specs.Examples.{IsEntry, entry_fields}
+use Rattle.bcder_content.specs.Grammar.{Many}
+use Rattle.bcder_content.specs.Here.{here}
+use Rattle.bcder_content.proofs.Forests.{Listing}
+use Rattle.bcder_readers.proofs.examples.fn.take_log.fn.take_sequence.take_sequence.Given as goal
+
+abbrev pub invariant-loop-entries : goal.invariant-loop-entries
+invariant-loop-entries g l = Listing (Many IsEntry) IsEntry (λ xs. xs) (map entry_fields l.entries.items) (here g.S.Source.rest l.fn.cons) (here g.S.Source.rest l.cons)
+
+abbrev pub decreases-loop-entries : goal.decreases-loop-entries
+decreases-loop-entries g l = length (g.S.Source.rest l.cons.octets.source.source)

@@ -1,0 +1,22 @@
+use Rattle.std.proofs.Common.{rules}
+use Rattle.bcder_content.proofs.Forests.{begin, next, stop, done}
+use Rattle.bcder_tree.specs.Tree.{none, more}
+use Rattle.bcder_content.proofs.Took.{took_one}
+use Rattle.bcder_content.proofs.KeptOne.{exact_capture_one}
+use Rattle.bcder_readers.proofs.examples.fn.take_sealed.take_sequence.Goals as goal
+
+pub capture-requires : goal.capture-requires
+capture-requires g c = record { callable = search rules; reads = record { each = λ p q x h. (more h.tree none, took_one h.took) } }
+
+pub returns-in_err-version : goal.returns-in_err-version
+returns-in_err-version g c = stop _ _ _ _ (begin _ _) c.from_residual.ensures (exact_capture_one (record { each = λ p q r m h. h }) c.in_err-version.ensures.captures)
+
+pub returns-in_err-check : goal.returns-in_err-check
+returns-in_err-check g c =
+    let s = next (begin _ _) (exact_capture_one (record { each = λ p q r m h. h }) c.in_ok-version.ensures.captures) in
+    stop _ _ _ _ s c.from_residual-in_err-check.ensures c.in_err-check.ensures.reads
+
+pub returns : goal.returns
+returns g c =
+    let s = next (begin _ _) (exact_capture_one (record { each = λ p q r m h. h }) c.in_ok-version.ensures.captures) in
+    done (next s c.in_ok-check.ensures.reads)
