@@ -19,3 +19,10 @@ ContentRefused m P same old new errors.CerUnsupported = NoContent m P errors.Cer
 ContentRefused m P same old new errors.TooLong = NoContent m P errors.TooLong × same
 ContentRefused m P same old new errors.Write = TookFront P old new
 ContentRefused m P same old new errors.Memory = ⊥
+
+-- Why there are no bytes of them: they aren't written, or there was no memory.
+abbrev pub BytesRefused : Mode → (List ℕ → Type 0) → EncodeError → Type 0
+BytesRefused m P errors.CerUnsupported = NoContent m P errors.CerUnsupported
+BytesRefused m P errors.TooLong = NoContent m P errors.TooLong
+BytesRefused m P errors.Write = ⊥
+BytesRefused m P errors.Memory = Unit {0}

@@ -4,7 +4,7 @@ use Rattle.bcder_tree.specs.declared.mode.Mode.{Mode}
 use Rattle.bcder_tree.specs.Tree.{Trees, none, more, SpellsAll}
 use Rattle.bcder_values.specs.Encoded.{joined, AreBoth, WritesBoth, SpellsSome}
 
-joined_spelled : (m : Mode) (ts us : Trees) (a b : List ℕ) → SpellsAll m ts a → SpellsAll m us b → SpellsAll m (joined ts us) (a ++ b)
+pub joined_spelled : (m : Mode) (ts us : Trees) (a b : List ℕ) → SpellsAll m ts a → SpellsAll m us b → SpellsAll m (joined ts us) (a ++ b)
 joined_spelled m none us a b s t = subst (SpellsAll m us) (sym (ap (λ l. l ++ b) s)) t
 joined_spelled m (more t ts) us a b s u = (s.0, s.1 ++ b, s.2, joined_spelled m ts us s.1 b s.3 u, ap (λ l. l ++ b) s.4 ∙ append_assoc s.0 s.1 b)
 

@@ -7,3 +7,5 @@ pub mod Wraps
 pub mod Contents
 pub mod Plains
 pub mod Choices
+pub mod Captures
+pub mod Gathered

@@ -1,8 +1,8 @@
 -- What was written, and what a refusal left.
-use Rattle.std.specs.Prelude.{◌≡◌, ℕ, ◌^◌, ◌<◌, List, ◌++◌, length, Option}
+use Rattle.std.specs.Prelude.{◌≡◌, ◌≢◌, ℕ, ◌^◌, ◌<◌, List, ◌++◌, length, Option}
 use Rattle.std.specs.Io.KnownBytes.{Appends}
 use Rattle.bcder_tree.specs.declared.mode.Mode.{Mode}
-use Rattle.bcder_tree.specs.declared.mode.Mode.TheVariants.{Cer}
+use Rattle.bcder_tree.specs.declared.mode.Mode.TheVariants.{Ber}
 use Rattle.bcder_tree.specs.Tree.{Trees}
 use Rattle.bcder_values.specs.declared.error.EncodeError.{EncodeError}
 use Rattle.bcder_values.specs.declared.error.EncodeError.TheVariants as errors
@@ -28,10 +28,10 @@ pub record TookFront (P : List ℕ → Type 0) (old new : Option (List ℕ)) : T
   pub whole : text ≡ taken ++ others
   pub appended : Appends old new taken
 
--- Why values aren't written: in CER they have no form, or there is no text of theirs with lengths that can be told,
+-- Why values aren't written: they have no form in CER (or, captured in one mode, none in another but BER), or there is no text of theirs with lengths that can be told,
 -- and octets that can be counted.
 abbrev pub CannotWrite : Mode → (Trees → Type 0) → (List ℕ → Type 0) → EncodeError → Type 0
-CannotWrite m T P errors.CerUnsupported = (m ≡ Cer) × ((ts : Trees) → T ts → ⊥)
+CannotWrite m T P errors.CerUnsupported = (m ≢ Ber) × ((ts : Trees) → T ts → ⊥)
 CannotWrite m T P errors.TooLong = (text : List ℕ) → P text → length text < 2 ^ 64 → ⊥
 CannotWrite m T P errors.Write = ⊥
 CannotWrite m T P errors.Memory = ⊥

@@ -1,6 +1,7 @@
 //! Values that are written, in three modes: the writing half of the codec.
 #![tactic(auto)]
 
+pub mod captured;
 pub mod choice;
 pub mod constructed;
 pub mod error;
@@ -11,6 +12,7 @@ pub mod tuples;
 pub mod values;
 mod write;
 
+pub use captured::CapturedBuilder;
 pub use choice::{Choice2, Choice3, Nothing};
 pub use constructed::{Constructed, sequence, sequence_as, set, set_as};
 pub use error::EncodeError;

@@ -4,13 +4,16 @@ ghost use Rattle.std.specs.Prelude.{◌≡◌, ◌^◌, ◌<◌, ℕ, List, IfOk
 ghost use Rattle.bcder_tree.specs.declared.mode.Mode.{Mode as ModeValue};
 ghost use Rattle.bcder_tree.specs.Tags.{TagValue, IsTag};
 ghost use Rattle.bcder_values.specs.Encoded.{IsPlain, WritesPlain};
-ghost use Rattle.bcder_values.specs.Contents.{NoContent, ContentRefused};
+ghost use Rattle.bcder_values.specs.Contents.{NoContent, ContentRefused, BytesRefused};
 ghost use Rattle.bcder_values.specs.Plains.{plain_spelled, plain_one};
 ghost use Rattle.bcder_values.specs.Writing.{HasLength, Wrote};
 
+use crate::captured::filled;
 use crate::header::{header_len, put_header};
 use crate::{EncodeError, Values};
 use bcder_tree::{Mode, Tag};
+use bytes::Bytes;
+use std::alloc::Global;
 use std::io::Write;
 
 /// The content of primitive values.
@@ -62,6 +65,27 @@ pub trait PrimitiveContent {
         ensures content { result.content ≡ self }
     {
         Primitive { tag, content: self }
+    }
+
+    /// The content octets, in bytes of their own.
+    final fn to_encoded_bytes(&self, alloc: Global, mode: Mode) -> Result<Bytes, EncodeError>
+    where
+        Self: Sized,
+        ensures encoded { IfOk result (content self.now mode) }
+        ensures refused { IfErr result (BytesRefused mode (content self.now mode)) }
+    {
+        let len = self.encoded_len(mode)?;
+        let Ok(mut octets) = Vec::with_capacity(alloc, len) else {
+            return Err(EncodeError::Memory);
+        };
+        match self.write_encoded(mode, &mut octets) {
+            Ok(()) => {}
+            Err(error) => return Err(filled(error)),
+        }
+        match Bytes::from_vec(octets) {
+            Ok(bytes) => Ok(bytes),
+            Err(_) => Err(EncodeError::Memory),
+        }
     }
 
     // A tag that values have.

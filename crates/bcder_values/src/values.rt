@@ -3,11 +3,15 @@
 ghost use Rattle.std.specs.Prelude.{◌≡◌, ℕ, List, IfOk, IfErr, OnOk};
 ghost use Rattle.bcder_tree.specs.declared.mode.Mode.{Mode as ModeValue};
 ghost use Rattle.bcder_tree.specs.Tree.{Trees};
+ghost use Rattle.bcder_tree.specs.Tags.{IsTag};
 ghost use Rattle.bcder_values.specs.Encoded.{SpellsSome};
+ghost use Rattle.bcder_values.specs.Gathered.{ExtendRefused};
 ghost use Rattle.bcder_values.specs.Writing.{HasLength, Wrote, CannotWrite, WriteRefused};
 
-use crate::EncodeError;
-use bcder_tree::Mode;
+use crate::{CapturedBuilder, Constructed, EncodeError};
+use bcder_content::Captured;
+use bcder_tree::{Mode, Tag};
+use std::alloc::Global;
 use std::io::Write;
 
 /// Values that can be written, one behind the other.
@@ -34,6 +38,31 @@ pub trait Values {
     fn write_encoded<W: Write>(&self, mode: Mode, target: &mut W) -> Result<(), EncodeError>
         ensures written { OnOk result (Wrote (writes self.now mode) (W.contents target.old) (W.contents target.new)) }
         ensures refused { IfErr result (WriteRefused mode (trees self.now mode) (writes self.now mode) (target.new ≡ target.old) (W.contents target.old) (W.contents target.new)) };
+
+    /// The values within a constructed value of that tag: an explicit tag (X.690 8.14).
+    final fn explicit(self, tag: Tag) -> Constructed<Self>
+    where
+        Self: Sized,
+        requires { IsTag tag }
+        ensures tag { result.tag ≡ tag }
+        ensures inner { result.inner ≡ self }
+    {
+        Constructed { tag, inner: self }
+    }
+
+    /// The octets that are written, captured.
+    final fn to_captured(&self, alloc: Global, mode: Mode) -> Result<Captured, EncodeError>
+    where
+        Self: Sized,
+        ensures captured { IfOk result (λ c. writes self.now mode c.octets) }
+        ensures mode { IfOk result (λ c. c.mode ≡ mode) }
+        ensures refused { IfErr result (ExtendRefused mode (trees self.now mode) (writes self.now mode)) }
+    {
+        let len = self.encoded_len(mode)?;
+        let mut builder = CapturedBuilder::with_capacity(alloc, len, mode)?;
+        builder.extend(self)?;
+        builder.freeze()
+    }
 
     // What is written spells the values.
     ghost spelled: { (x : Self) (m : ModeValue) (text : List ℕ) → writes x m text → SpellsSome m (trees x m) text };
