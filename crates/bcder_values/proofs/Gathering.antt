@@ -1,5 +1,5 @@
 -- Values that are gathered spell values.
-use Rattle.std.proofs.Common.{◌≡◌, ℕ, List, [], ◌++◌, sym, subst, refl, Option, Some}
+use Rattle.std.proofs.Common.{◌≡◌, ℕ, List, [], sym, subst, Some}
 use Rattle.bcder_tree.specs.declared.mode.Mode.{Mode}
 use Rattle.bcder_tree.specs.Tree.{Trees, none, SpellsAll}
 use Rattle.bcder_content.specs.Kept.{SpellsValues}

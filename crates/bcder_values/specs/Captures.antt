@@ -1,5 +1,5 @@
 -- Captured octets, as they are written again.
-use Rattle.std.proofs.Common.{◌≡◌, ℕ, ◌⊎◌, inl, inr, List, refl, sym, ◌∙◌, subst}
+use Rattle.std.proofs.Common.{◌≡◌, ℕ, ◌⊎◌, inl, inr, List, sym, ◌∙◌, subst}
 use Rattle.bcder_tree.specs.declared.mode.Mode.{Mode}
 use Rattle.bcder_tree.specs.declared.mode.Mode.TheVariants.{Ber}
 use Rattle.bcder_tree.specs.Tree.{Trees, SpellsAll}

@@ -9,3 +9,4 @@ pub mod Plains
 pub mod Choices
 pub mod Captures
 pub mod Gathered
+pub mod Returns

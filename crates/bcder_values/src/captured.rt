@@ -103,10 +103,7 @@ impl CapturedBuilder {
     }
 
     /// The captured values, to go on behind them; their octets are copied.
-    pub fn from_captured(
-        alloc: Global,
-        captured: &Captured,
-    ) -> Result<CapturedBuilder, EncodeError>
+    pub fn from_captured(alloc: Global, captured: &Captured) -> Result<CapturedBuilder, EncodeError>
         ensures made { IfOk result (λ b. b ≡ captured.now) }
         ensures refused { IfErr result (λ e. e ≡ memory_refused) }
     {

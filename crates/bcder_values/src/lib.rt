@@ -7,6 +7,7 @@ pub mod constructed;
 pub mod error;
 mod frame;
 pub mod header;
+pub mod laws;
 pub mod primitive;
 pub mod tuples;
 pub mod values;
