@@ -106,7 +106,8 @@ fn long_length(mode: Mode, first: u8, octets: &[u8]) -> Option<(usize, usize)>
 
 // How many octets the shortest spelling takes.
 fn shortest_len(size: usize) -> usize
-    ensures { (text : List ℕ) → IsLength Der text size → length text ≡ result }
+    ensures len { (text : List ℕ) → IsLength Der text size → length text ≡ result }
+    ensures bound { result ≤ 5 }
 {
     if size < 128 {
         return 1;
@@ -160,7 +161,8 @@ impl Length {
     /// How many length octets are written, one to five.
     pub fn encoded_len(self) -> usize
         requires { IsWritable self }
-        ensures { (text : List ℕ) → SpellsEverywhere self text → length text ≡ result }
+        ensures len { (text : List ℕ) → SpellsEverywhere self text → length text ≡ result }
+        ensures bound { result ≤ 5 }
     {
         match self {
             Length::Definite(size) => shortest_len(size),
@@ -168,8 +170,8 @@ impl Length {
         }
     }
 
-    // The octets of a definite length, in front of the five.
-    fn encoded(length: usize) -> ([u8; 5], usize)
+    /// The octets of a definite length (X.690 8.1.3), the fewest: they stand in front of the five, and are so many.
+    pub fn encoded(length: usize) -> ([u8; 5], usize)
         requires { length < 2 ^ 32 }
         ensures octets { SpellsEverywhere (Length.Definite length) (take result.1 result.0) }
         ensures bound { result.1 ≤ 5 }

@@ -382,7 +382,8 @@ impl Tag {
 
     /// How many identifier octets the tag has, one to four.
     pub fn encoded_len(self) -> usize
-        ensures { (constructed : Bool) (text : List ℕ) → IsIdentifier text constructed self → length text ≡ result }
+        ensures len { (constructed : Bool) (text : List ℕ) → IsIdentifier text constructed self → length text ≡ result }
+        ensures bound { result ≤ 4 }
     {
         let [first, b, c, _] = self.octets;
         if first % 32 < 31 {
@@ -397,8 +398,9 @@ impl Tag {
         4
     }
 
-    // The identifier octets, in front of the four.
-    fn encoded(self, constructed: bool) -> ([u8; 4], usize)
+    /// The identifier octets of a value with the tag, primitive or constructed (X.690 8.1.2): they stand in
+    /// front of the four, and are so many.
+    pub fn encoded(self, constructed: bool) -> ([u8; 4], usize)
         ensures identifier { IsIdentifier (take result.1 result.0) constructed self }
         ensures bound { result.1 ≤ 4 }
     {

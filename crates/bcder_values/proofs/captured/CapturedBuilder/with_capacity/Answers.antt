@@ -1,0 +1,5 @@
+use Rattle.bcder_values.proofs.Gathering.{no_values}
+use Rattle.bcder_values.proofs.captured.CapturedBuilder.with_capacity.Goals as goal
+
+pub invariant_of-result : goal.invariant_of-result
+invariant_of-result c = no_values _ _ c.in-Ok.ensures.items

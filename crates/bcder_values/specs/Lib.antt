@@ -1,0 +1,12 @@
+pub mod Writing
+pub mod Headers
+pub mod Encoded
+pub mod Laws
+pub mod Frames
+pub mod Wraps
+pub mod Contents
+pub mod Plains
+pub mod Choices
+pub mod Captures
+pub mod Gathered
+pub mod Returns

@@ -1,0 +1,125 @@
+//! Primitive values.
+
+ghost use Rattle.std.specs.Prelude.{◌≡◌, ◌^◌, ◌<◌, ℕ, List, IfOk, IfErr, OnOk};
+ghost use Rattle.bcder_tree.specs.declared.mode.Mode.{Mode as ModeValue};
+ghost use Rattle.bcder_tree.specs.Tags.{TagValue, IsTag};
+ghost use Rattle.bcder_values.specs.Encoded.{IsPlain, WritesPlain};
+ghost use Rattle.bcder_values.specs.Contents.{NoContent, ContentRefused, BytesRefused};
+ghost use Rattle.bcder_values.specs.Plains.{plain_spelled, plain_one};
+ghost use Rattle.bcder_values.specs.Writing.{HasLength, Wrote};
+
+use crate::captured::filled;
+use crate::header::{header_len, put_header};
+use crate::{EncodeError, Values};
+use bcder_tree::{Mode, Tag};
+use bytes::Bytes;
+use std::alloc::Global;
+use std::io::Write;
+
+/// The content of primitive values.
+///
+/// `content` are the content octets in a mode, always the same.
+pub trait PrimitiveContent {
+    /// The tag of its type.
+    const TAG: Tag;
+
+    ghost TAG: { TagValue };
+
+    ghost content: { Self → ModeValue → List ℕ → Type 0 };
+
+    /// How many content octets it has.
+    ///
+    /// `CerUnsupported` where it has no primitive form in CER, and `TooLong` where it has more than 2^32 - 1.
+    fn encoded_len(&self, mode: Mode) -> Result<usize, EncodeError>
+        ensures len { IfOk result (HasLength (content self.now mode)) }
+        ensures few { IfOk result (λ n. n < 2 ^ 32) }
+        ensures refused { IfErr result (NoContent mode (content self.now mode)) };
+
+    /// Writes the content octets.
+    ///
+    /// Where `encoded_len` refuses, nothing is written. `Write` where the writer refuses, which then has
+    /// taken a front of the octets.
+    fn write_encoded<W: Write>(&self, mode: Mode, target: &mut W) -> Result<(), EncodeError>
+        ensures written { OnOk result (Wrote (content self.now mode) (W.contents target.old) (W.contents target.new)) }
+        ensures refused { IfErr result (ContentRefused mode (content self.now mode) (target.new ≡ target.old) (W.contents target.old) (W.contents target.new)) };
+
+    /// The primitive value with its type's tag.
+    final fn encode(self) -> Primitive<Self>
+    where
+        Self: Sized,
+        ensures tag { result.tag ≡ TAG }
+        ensures content { result.content ≡ self }
+    {
+        Primitive {
+            tag: Self::TAG,
+            content: self,
+        }
+    }
+
+    /// The primitive value with an implicit tag (X.690 8.14).
+    final fn encode_as(self, tag: Tag) -> Primitive<Self>
+    where
+        Self: Sized,
+        requires { IsTag tag }
+        ensures tag { result.tag ≡ tag }
+        ensures content { result.content ≡ self }
+    {
+        Primitive { tag, content: self }
+    }
+
+    /// The content octets, in bytes of their own.
+    final fn to_encoded_bytes(&self, alloc: Global, mode: Mode) -> Result<Bytes, EncodeError>
+    where
+        Self: Sized,
+        ensures encoded { IfOk result (content self.now mode) }
+        ensures refused { IfErr result (BytesRefused mode (content self.now mode)) }
+    {
+        let len = self.encoded_len(mode)?;
+        let Ok(mut octets) = Vec::with_capacity(alloc, len) else {
+            return Err(EncodeError::Memory);
+        };
+        match self.write_encoded(mode, &mut octets) {
+            Ok(()) => {}
+            Err(error) => return Err(filled(error)),
+        }
+        match Bytes::from_vec(octets) {
+            Ok(bytes) => Ok(bytes),
+            Err(_) => Err(EncodeError::Memory),
+        }
+    }
+
+    // A tag that values have.
+    ghost is_tag: { IsTag TAG };
+
+    // The content is always the same.
+    ghost one_content: { (x : Self) (m : ModeValue) (a b : List ℕ) → content x m a → content x m b → a ≡ b };
+}
+
+/// A primitive value (X.690 8.1.2.5).
+#[derive(Drop)]
+pub struct Primitive<P> {
+    pub tag: Tag,
+    pub content: P,
+    ghost is_tag: { IsTag tag },
+}
+
+impl<P: PrimitiveContent> Values for Primitive<P> {
+    ghost trees = { λ x m. IsPlain x.tag (P.content x.content m) };
+
+    ghost writes = { λ x m. WritesPlain m x.tag (P.content x.content m) };
+
+    fn encoded_len(&self, mode: Mode) -> Result<usize, EncodeError> {
+        let content = self.content.encoded_len(mode)?;
+        Ok(header_len(self.tag, false, content) + content)
+    }
+
+    fn write_encoded<W: Write>(&self, mode: Mode, target: &mut W) -> Result<(), EncodeError> {
+        let content = self.content.encoded_len(mode)?;
+        put_header(target, self.tag, false, content)?;
+        self.content.write_encoded(mode, target)
+    }
+
+    ghost spelled = { λ x m text w. plain_spelled m text w };
+
+    ghost one_text = { λ x m a b. plain_one m (P.one_content x.content m) a b };
+}
