@@ -21,3 +21,4 @@ mod SkipSteps
 mod SkipContents
 pub mod Anything
 pub mod Parts
+pub mod Memories

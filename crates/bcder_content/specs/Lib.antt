@@ -15,3 +15,4 @@ pub mod Skips
 pub mod SkipLevels
 pub mod Sliced
 pub mod Examples
+pub mod Memory
