@@ -14,3 +14,4 @@ pub mod Eithers
 mod SkipContents
 pub mod Anything
 pub mod Parts
+pub mod Memories

@@ -13,3 +13,4 @@ pub mod Kept
 pub mod Captures
 pub mod Either
 pub mod Skips
+pub mod Memory

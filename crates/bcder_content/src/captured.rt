@@ -2,6 +2,7 @@
 ghost use Rattle.std.specs.Prelude.{◌≡◌, ◌≤◌, [], length, IfOk, IfErr};
 ghost use Rattle.bcder_content.specs.Captures.{rest_of, ReadsValues, ReadsPart, RefusesPart, ReadsFront, RefusesFront};
 ghost use Rattle.bcder_content.specs.Kept.{SpellsValues};
+ghost use Rattle.bcder_content.specs.Memory.{OnMemory, InErr};
 ghost use Rattle.bcder_content.specs.Ran.{Decoded, fresh};
 
 use crate::constructed::Constructed;
@@ -114,6 +115,7 @@ impl Captured {
     >(self, op: F) -> Result<T, DecodeError<Infallible>>
         requires { F.IsAlwaysCallable op }
         ensures decoded { Decoded rest_of F.FnOnce op (fresh self.mode self.octets) result }
+        ensures memory { IfErr result (λ e. OnMemory e (InErr rest_of F.FnOnce op (fresh self.mode self.octets) e)) }
         ensures spelled { SpellsValues self.mode self.octets }
     {
         Constructed::decode(self.bytes, self.mode, op)

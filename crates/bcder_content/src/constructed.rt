@@ -5,6 +5,7 @@ ghost use Rattle.bcder_tree.specs.Tags.{TagValue};
 ghost use Rattle.bcder_source.specs.declared.error.DecodeError.TheVariants.{Content as content_error};
 ghost use Rattle.bcder_content.specs.Contents.{octets, EndsHere, Ended, Unlike};
 ghost use Rattle.bcder_content.specs.Here.{here, plain};
+ghost use Rattle.bcder_content.specs.Memory.{OnMemory, RanErr, PlainErr};
 ghost use Rattle.bcder_header.specs.Openings.{ending_of};
 ghost use Rattle.bcder_content.specs.Ran.{Enters, Leaves, NoneOf, Comes, Ran, RanOpt, PlainRan, PlainRanOpt};
 ghost use Rattle.bcder_content.specs.Stops.{NoneAhead, EndsUnread, LeftBy};
@@ -208,6 +209,7 @@ impl<S: Source> Constructed<S> {
         requires { F.IsAlwaysCallable op }
         ensures ran { Ran S.rest F.FnOnce op (here S.rest self.old) tag result (here S.rest self.new) }
         ensures failed { OnErr result ((here S.rest self.new).failed ≡ true) }
+        ensures memory { IfErr result (λ e. OnMemory e (RanErr S.rest F.FnOnce op (here S.rest self.old) tag e)) }
     {
         let outer = match self.open_if(tag, true) {
             Ok(outer) => outer,
@@ -234,6 +236,7 @@ impl<S: Source> Constructed<S> {
         requires { F.IsAlwaysCallable op }
         ensures ran { RanOpt S.rest F.FnOnce op (here S.rest self.old) tag result (here S.rest self.new) }
         ensures failed { OnErr result ((here S.rest self.new).failed ≡ true) }
+        ensures memory { IfErr result (λ e. OnMemory e (RanErr S.rest F.FnOnce op (here S.rest self.old) tag e)) }
     {
         match self.comes(tag) {
             Ok(true) => {}
@@ -254,6 +257,7 @@ impl<S: Source> Constructed<S> {
         requires { F.IsAlwaysCallable op }
         ensures ran { PlainRan S.rest F.FnOnce op (here S.rest self.old) tag result (here S.rest self.new) }
         ensures failed { OnErr result ((here S.rest self.new).failed ≡ true) }
+        ensures memory { IfErr result (λ e. OnMemory e (PlainErr S.rest F.FnOnce op (here S.rest self.old) tag e)) }
     {
         let outer = match self.open_if(tag, false) {
             Ok(outer) => outer,
@@ -280,6 +284,7 @@ impl<S: Source> Constructed<S> {
         requires { F.IsAlwaysCallable op }
         ensures ran { PlainRanOpt S.rest F.FnOnce op (here S.rest self.old) tag result (here S.rest self.new) }
         ensures failed { OnErr result ((here S.rest self.new).failed ≡ true) }
+        ensures memory { IfErr result (λ e. OnMemory e (PlainErr S.rest F.FnOnce op (here S.rest self.old) tag e)) }
     {
         match self.comes(tag) {
             Ok(true) => {}

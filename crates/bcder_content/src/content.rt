@@ -6,6 +6,7 @@ ghost use Rattle.bcder_source.specs.declared.error.DecodeError.TheVariants.{Cont
 ghost use Rattle.bcder_content.specs.Contents.{Ended};
 ghost use Rattle.bcder_content.specs.Either.{SameContent, Shows, RunsOctets, RunsValues, ByContent, ByContentAlone, ByValues, ByOctets, Takes, TakesNext, TakesOpt, AnyKind, OfForm, WithTag};
 ghost use Rattle.bcder_content.specs.Here.{here};
+ghost use Rattle.bcder_content.specs.Memory.{OnMemory, AnyErr};
 
 use crate::constructed::Constructed;
 use crate::primitive::Primitive;
@@ -128,6 +129,7 @@ impl<S: Source> Constructed<S> {
         requires keeps { (t p q : _) (r : _) → F.post op t p r q → SameContent p.now q.now }
         ensures taken { Takes (ByContent S.rest F.FnOnce op) AnyKind (here S.rest self.old) result (here S.rest self.new) }
         ensures failed { OnErr result ((here S.rest self.new).failed ≡ true) }
+        ensures memory { IfErr result (λ e. OnMemory e (AnyErr (ByContent S.rest F.FnOnce op) (here S.rest self.old) e)) }
     {
         let (tag, _, outer) = match self.open() {
             Ok(found) => found,
@@ -155,6 +157,7 @@ impl<S: Source> Constructed<S> {
         requires keeps { (t p q : _) (r : _) → F.post op t p r q → SameContent p.now q.now }
         ensures taken { TakesNext (ByContent S.rest F.FnOnce op) AnyKind (here S.rest self.old) result (here S.rest self.new) }
         ensures failed { OnErr result ((here S.rest self.new).failed ≡ true) }
+        ensures memory { IfErr result (λ e. OnMemory e (AnyErr (ByContent S.rest F.FnOnce op) (here S.rest self.old) e)) }
     {
         match self.ends() {
             Ok(false) => {}
@@ -176,6 +179,7 @@ impl<S: Source> Constructed<S> {
         requires keeps { (p q : _) (r : _) → F.post op p r q → SameContent p.now q.now }
         ensures taken { Takes (ByContentAlone S.rest F.FnOnce op) (WithTag tag) (here S.rest self.old) result (here S.rest self.new) }
         ensures failed { OnErr result ((here S.rest self.new).failed ≡ true) }
+        ensures memory { IfErr result (λ e. OnMemory e (AnyErr (ByContentAlone S.rest F.FnOnce op) (here S.rest self.old) e)) }
     {
         let (found, _, outer) = match self.open() {
             Ok(found) => found,
@@ -206,6 +210,7 @@ impl<S: Source> Constructed<S> {
         requires keeps { (p q : _) (r : _) → F.post op p r q → SameContent p.now q.now }
         ensures taken { TakesOpt (ByContentAlone S.rest F.FnOnce op) tag (here S.rest self.old) result (here S.rest self.new) }
         ensures failed { OnErr result ((here S.rest self.new).failed ≡ true) }
+        ensures memory { IfErr result (λ e. OnMemory e (AnyErr (ByContentAlone S.rest F.FnOnce op) (here S.rest self.old) e)) }
     {
         match self.comes(tag) {
             Ok(true) => {}
@@ -227,6 +232,7 @@ impl<S: Source> Constructed<S> {
         requires callable { F.IsAlwaysCallable op }
         ensures taken { Takes (ByValues S.rest F.FnOnce op) (OfForm true) (here S.rest self.old) result (here S.rest self.new) }
         ensures failed { OnErr result ((here S.rest self.new).failed ≡ true) }
+        ensures memory { IfErr result (λ e. OnMemory e (AnyErr (ByValues S.rest F.FnOnce op) (here S.rest self.old) e)) }
     {
         let (tag, constructed, outer) = match self.open() {
             Ok(found) => found,
@@ -256,6 +262,7 @@ impl<S: Source> Constructed<S> {
         requires callable { F.IsAlwaysCallable op }
         ensures taken { TakesNext (ByValues S.rest F.FnOnce op) (OfForm true) (here S.rest self.old) result (here S.rest self.new) }
         ensures failed { OnErr result ((here S.rest self.new).failed ≡ true) }
+        ensures memory { IfErr result (λ e. OnMemory e (AnyErr (ByValues S.rest F.FnOnce op) (here S.rest self.old) e)) }
     {
         match self.ends() {
             Ok(false) => {}
@@ -277,6 +284,7 @@ impl<S: Source> Constructed<S> {
         requires callable { F.IsAlwaysCallable op }
         ensures taken { Takes (ByOctets S.rest F.FnOnce op) (OfForm false) (here S.rest self.old) result (here S.rest self.new) }
         ensures failed { OnErr result ((here S.rest self.new).failed ≡ true) }
+        ensures memory { IfErr result (λ e. OnMemory e (AnyErr (ByOctets S.rest F.FnOnce op) (here S.rest self.old) e)) }
     {
         let (tag, constructed, outer) = match self.open() {
             Ok(found) => found,
@@ -306,6 +314,7 @@ impl<S: Source> Constructed<S> {
         requires callable { F.IsAlwaysCallable op }
         ensures taken { TakesNext (ByOctets S.rest F.FnOnce op) (OfForm false) (here S.rest self.old) result (here S.rest self.new) }
         ensures failed { OnErr result ((here S.rest self.new).failed ≡ true) }
+        ensures memory { IfErr result (λ e. OnMemory e (AnyErr (ByOctets S.rest F.FnOnce op) (here S.rest self.old) e)) }
     {
         match self.ends() {
             Ok(false) => {}

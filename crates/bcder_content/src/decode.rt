@@ -1,6 +1,7 @@
 //! Sources that are read from their beginning.
-ghost use Rattle.std.specs.Prelude.{◌≡◌, ℕ, List};
+ghost use Rattle.std.specs.Prelude.{◌≡◌, ℕ, List, IfErr};
 ghost use Rattle.bcder_tree.specs.declared.mode.Mode.{Mode as ModeValue};
+ghost use Rattle.bcder_content.specs.Memory.{OnMemory, InErr};
 ghost use Rattle.bcder_content.specs.Ran.{Decoded, fresh};
 
 use crate::constructed::Constructed;
@@ -17,7 +18,8 @@ impl<S: Source> Constructed<S> {
         F: FnOnce(&mut Constructed<S>) -> Result<T, DecodeError<S::Error>>,
     >(source: I, mode: Mode, op: F) -> Result<T, DecodeError<S::Error>>
         requires { F.IsAlwaysCallable op }
-        ensures { Decoded S.rest F.FnOnce op (fresh mode (I.octets source)) result }
+        ensures decoded { Decoded S.rest F.FnOnce op (fresh mode (I.octets source)) result }
+        ensures memory { IfErr result (λ e. OnMemory e (InErr S.rest F.FnOnce op (fresh mode (I.octets source)) e)) }
     {
         let source = LimitedSource::new(source.into_source());
         let start = source.pos();
@@ -56,7 +58,8 @@ pub trait Decode {
         ) -> Result<T, DecodeError<<I::Source as Source>::Error>>,
     >(self, source: I, op: F) -> Result<T, DecodeError<<I::Source as Source>::Error>>
         requires { F.IsAlwaysCallable op }
-        ensures { Decoded I.Source.rest F.FnOnce op (fresh (mode self) (I.octets source)) result };
+        ensures decoded { Decoded I.Source.rest F.FnOnce op (fresh (mode self) (I.octets source)) result }
+        ensures memory { IfErr result (λ e. OnMemory e (InErr I.Source.rest F.FnOnce op (fresh (mode self) (I.octets source)) e)) };
 }
 
 impl Decode for Mode {

@@ -1,9 +1,11 @@
 //! Values of simple types, and of sequences and sets.
-ghost use Rattle.std.specs.Prelude.{◌≡◌, ◌^◌, IfErr, OnErr, true};
+ghost use Rattle.std.specs.Prelude.{◌≡◌, ◌≢◌, ◌^◌, IfErr, OnErr, true};
+ghost use Rattle.bcder_source.specs.declared.error.DecodeError.TheVariants.{Memory};
 ghost use Rattle.bcder_tree.specs.Tags.{universal};
 ghost use Rattle.bcder_content.specs.Exact.{ReadsAs, ReadsOptAs};
 ghost use Rattle.bcder_content.specs.Grammar.{OctetsOf};
 ghost use Rattle.bcder_content.specs.Here.{here};
+ghost use Rattle.bcder_content.specs.Memory.{OnMemory, RanErr};
 ghost use Rattle.bcder_content.specs.Ran.{Ran, RanOpt};
 ghost use Rattle.bcder_primitive.specs.Values.{IsBoolean, IsNull, IsUnsigned, IsValue};
 
@@ -17,6 +19,7 @@ impl<S: Source> Constructed<S> {
     pub fn take_bool(&mut self) -> Result<bool, DecodeError<S::Error>>
         ensures reads { ReadsAs (λ b. b) (OctetsOf (universal 1) (IsBoolean (here S.rest self.old).mode)) (here S.rest self.old) result (here S.rest self.new) }
         ensures failed { OnErr result ((here S.rest self.new).failed ≡ true) }
+        ensures no_memory { IfErr result (λ e. e ≢ Memory) }
     {
         self.take_primitive_if(Tag::BOOLEAN, |prim| prim.to_bool())
     }
@@ -25,6 +28,7 @@ impl<S: Source> Constructed<S> {
     pub fn take_opt_bool(&mut self) -> Result<Option<bool>, DecodeError<S::Error>>
         ensures reads { ReadsOptAs (λ b. b) (universal 1) (OctetsOf (universal 1) (IsBoolean (here S.rest self.old).mode)) (here S.rest self.old) result (here S.rest self.new) }
         ensures failed { OnErr result ((here S.rest self.new).failed ≡ true) }
+        ensures no_memory { IfErr result (λ e. e ≢ Memory) }
     {
         self.take_opt_primitive_if(Tag::BOOLEAN, |prim| prim.to_bool())
     }
@@ -33,6 +37,7 @@ impl<S: Source> Constructed<S> {
     pub fn take_null(&mut self) -> Result<(), DecodeError<S::Error>>
         ensures reads { ReadsAs (λ x. x) (OctetsOf (universal 5) (IsNull)) (here S.rest self.old) result (here S.rest self.new) }
         ensures failed { OnErr result ((here S.rest self.new).failed ≡ true) }
+        ensures no_memory { IfErr result (λ e. e ≢ Memory) }
     {
         self.take_primitive_if(Tag::NULL, |prim| prim.to_null())
     }
@@ -41,6 +46,7 @@ impl<S: Source> Constructed<S> {
     pub fn take_opt_null(&mut self) -> Result<Option<()>, DecodeError<S::Error>>
         ensures reads { ReadsOptAs (λ x. x) (universal 5) (OctetsOf (universal 5) (IsNull)) (here S.rest self.old) result (here S.rest self.new) }
         ensures failed { OnErr result ((here S.rest self.new).failed ≡ true) }
+        ensures no_memory { IfErr result (λ e. e ≢ Memory) }
     {
         self.take_opt_primitive_if(Tag::NULL, |prim| prim.to_null())
     }
@@ -49,6 +55,7 @@ impl<S: Source> Constructed<S> {
     pub fn take_u8(&mut self) -> Result<u8, DecodeError<S::Error>>
         ensures reads { ReadsAs (λ n. n) (OctetsOf (universal 2) (IsUnsigned (2 ^ 8))) (here S.rest self.old) result (here S.rest self.new) }
         ensures failed { OnErr result ((here S.rest self.new).failed ≡ true) }
+        ensures no_memory { IfErr result (λ e. e ≢ Memory) }
     {
         self.take_primitive_if(Tag::INTEGER, |prim| prim.to_u8())
     }
@@ -57,6 +64,7 @@ impl<S: Source> Constructed<S> {
     pub fn take_opt_u8(&mut self) -> Result<Option<u8>, DecodeError<S::Error>>
         ensures reads { ReadsOptAs (λ n. n) (universal 2) (OctetsOf (universal 2) (IsUnsigned (2 ^ 8))) (here S.rest self.old) result (here S.rest self.new) }
         ensures failed { OnErr result ((here S.rest self.new).failed ≡ true) }
+        ensures no_memory { IfErr result (λ e. e ≢ Memory) }
     {
         self.take_opt_primitive_if(Tag::INTEGER, |prim| prim.to_u8())
     }
@@ -65,6 +73,7 @@ impl<S: Source> Constructed<S> {
     pub fn take_u16(&mut self) -> Result<u16, DecodeError<S::Error>>
         ensures reads { ReadsAs (λ n. n) (OctetsOf (universal 2) (IsUnsigned (2 ^ 16))) (here S.rest self.old) result (here S.rest self.new) }
         ensures failed { OnErr result ((here S.rest self.new).failed ≡ true) }
+        ensures no_memory { IfErr result (λ e. e ≢ Memory) }
     {
         self.take_primitive_if(Tag::INTEGER, |prim| prim.to_u16())
     }
@@ -73,6 +82,7 @@ impl<S: Source> Constructed<S> {
     pub fn take_opt_u16(&mut self) -> Result<Option<u16>, DecodeError<S::Error>>
         ensures reads { ReadsOptAs (λ n. n) (universal 2) (OctetsOf (universal 2) (IsUnsigned (2 ^ 16))) (here S.rest self.old) result (here S.rest self.new) }
         ensures failed { OnErr result ((here S.rest self.new).failed ≡ true) }
+        ensures no_memory { IfErr result (λ e. e ≢ Memory) }
     {
         self.take_opt_primitive_if(Tag::INTEGER, |prim| prim.to_u16())
     }
@@ -81,6 +91,7 @@ impl<S: Source> Constructed<S> {
     pub fn take_u32(&mut self) -> Result<u32, DecodeError<S::Error>>
         ensures reads { ReadsAs (λ n. n) (OctetsOf (universal 2) (IsUnsigned (2 ^ 32))) (here S.rest self.old) result (here S.rest self.new) }
         ensures failed { OnErr result ((here S.rest self.new).failed ≡ true) }
+        ensures no_memory { IfErr result (λ e. e ≢ Memory) }
     {
         self.take_primitive_if(Tag::INTEGER, |prim| prim.to_u32())
     }
@@ -89,6 +100,7 @@ impl<S: Source> Constructed<S> {
     pub fn take_opt_u32(&mut self) -> Result<Option<u32>, DecodeError<S::Error>>
         ensures reads { ReadsOptAs (λ n. n) (universal 2) (OctetsOf (universal 2) (IsUnsigned (2 ^ 32))) (here S.rest self.old) result (here S.rest self.new) }
         ensures failed { OnErr result ((here S.rest self.new).failed ≡ true) }
+        ensures no_memory { IfErr result (λ e. e ≢ Memory) }
     {
         self.take_opt_primitive_if(Tag::INTEGER, |prim| prim.to_u32())
     }
@@ -97,6 +109,7 @@ impl<S: Source> Constructed<S> {
     pub fn take_u64(&mut self) -> Result<u64, DecodeError<S::Error>>
         ensures reads { ReadsAs (λ n. n) (OctetsOf (universal 2) (IsUnsigned (2 ^ 64))) (here S.rest self.old) result (here S.rest self.new) }
         ensures failed { OnErr result ((here S.rest self.new).failed ≡ true) }
+        ensures no_memory { IfErr result (λ e. e ≢ Memory) }
     {
         self.take_primitive_if(Tag::INTEGER, |prim| prim.to_u64())
     }
@@ -105,6 +118,7 @@ impl<S: Source> Constructed<S> {
     pub fn take_opt_u64(&mut self) -> Result<Option<u64>, DecodeError<S::Error>>
         ensures reads { ReadsOptAs (λ n. n) (universal 2) (OctetsOf (universal 2) (IsUnsigned (2 ^ 64))) (here S.rest self.old) result (here S.rest self.new) }
         ensures failed { OnErr result ((here S.rest self.new).failed ≡ true) }
+        ensures no_memory { IfErr result (λ e. e ≢ Memory) }
     {
         self.take_opt_primitive_if(Tag::INTEGER, |prim| prim.to_u64())
     }
@@ -113,6 +127,7 @@ impl<S: Source> Constructed<S> {
     pub fn skip_u8_if(&mut self, expected: u8) -> Result<(), DecodeError<S::Error>>
         ensures reads { ReadsAs (λ x. x) (OctetsOf (universal 2) (IsValue (IsUnsigned (2 ^ 8)) expected)) (here S.rest self.old) result (here S.rest self.new) }
         ensures failed { OnErr result ((here S.rest self.new).failed ≡ true) }
+        ensures no_memory { IfErr result (λ e. e ≢ Memory) }
     {
         self.take_primitive_if(Tag::INTEGER, |prim| prim.skip_u8_if(expected))
     }
@@ -122,6 +137,7 @@ impl<S: Source> Constructed<S> {
     pub fn skip_opt_u8_if(&mut self, expected: u8) -> Result<Option<()>, DecodeError<S::Error>>
         ensures reads { ReadsOptAs (λ x. x) (universal 2) (OctetsOf (universal 2) (IsValue (IsUnsigned (2 ^ 8)) expected)) (here S.rest self.old) result (here S.rest self.new) }
         ensures failed { OnErr result ((here S.rest self.new).failed ≡ true) }
+        ensures no_memory { IfErr result (λ e. e ≢ Memory) }
     {
         self.take_opt_primitive_if(Tag::INTEGER, |prim| prim.skip_u8_if(expected))
     }
@@ -137,6 +153,7 @@ impl<S: Source> Constructed<S> {
         requires { F.IsAlwaysCallable op }
         ensures ran { Ran S.rest F.FnOnce op (here S.rest self.old) (universal 16) result (here S.rest self.new) }
         ensures failed { OnErr result ((here S.rest self.new).failed ≡ true) }
+        ensures memory { IfErr result (λ e. OnMemory e (RanErr S.rest F.FnOnce op (here S.rest self.old) (universal 16) e)) }
     {
         self.take_constructed_if(Tag::SEQUENCE, op)
     }
@@ -149,6 +166,7 @@ impl<S: Source> Constructed<S> {
         requires { F.IsAlwaysCallable op }
         ensures ran { RanOpt S.rest F.FnOnce op (here S.rest self.old) (universal 16) result (here S.rest self.new) }
         ensures failed { OnErr result ((here S.rest self.new).failed ≡ true) }
+        ensures memory { IfErr result (λ e. OnMemory e (RanErr S.rest F.FnOnce op (here S.rest self.old) (universal 16) e)) }
     {
         self.take_opt_constructed_if(Tag::SEQUENCE, op)
     }
@@ -161,6 +179,7 @@ impl<S: Source> Constructed<S> {
         requires { F.IsAlwaysCallable op }
         ensures ran { Ran S.rest F.FnOnce op (here S.rest self.old) (universal 17) result (here S.rest self.new) }
         ensures failed { OnErr result ((here S.rest self.new).failed ≡ true) }
+        ensures memory { IfErr result (λ e. OnMemory e (RanErr S.rest F.FnOnce op (here S.rest self.old) (universal 17) e)) }
     {
         self.take_constructed_if(Tag::SET, op)
     }
@@ -173,6 +192,7 @@ impl<S: Source> Constructed<S> {
         requires { F.IsAlwaysCallable op }
         ensures ran { RanOpt S.rest F.FnOnce op (here S.rest self.old) (universal 17) result (here S.rest self.new) }
         ensures failed { OnErr result ((here S.rest self.new).failed ≡ true) }
+        ensures memory { IfErr result (λ e. OnMemory e (RanErr S.rest F.FnOnce op (here S.rest self.old) (universal 17) e)) }
     {
         self.take_opt_constructed_if(Tag::SET, op)
     }

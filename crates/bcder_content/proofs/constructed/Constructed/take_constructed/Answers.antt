@@ -3,6 +3,7 @@ use Rattle.bcder_content.specs.Either.{ByValues, AnyKind, OfForm, WithTag}
 use Rattle.bcder_content.specs.Here.{here}
 use Rattle.bcder_header.proofs.Windows.{tags_unequal, tags_same, not_true, not_false}
 use Rattle.bcder_content.proofs.Eithers.{takes_none, takes_other, takes_refused, takes_unread, takes_value}
+use Rattle.bcder_content.proofs.Memories.{no_want, any_wanted}
 use Rattle.bcder_content.proofs.constructed.Constructed.take_constructed.Goals as goal
 
 pub returns-in-Err-clause-taken : goal.returns-in-Err-clause-taken
@@ -19,3 +20,12 @@ returns-in-Ok-close-clause-taken g c = record { cases = takes_value (ByValues g.
 
 pub returns-in-Err-close-clause-taken : goal.returns-in-Err-close-clause-taken
 returns-in-Err-close-clause-taken g c = record { cases = takes_unread (ByValues g.S.Source.rest g.F.FnOnce c.args.op) (OfForm true) (here g.S.Source.rest c.args.self.now) (here g.S.Source.rest c.args.self.now) c.in-Ok-op.value c.in-Err-close.error c.in-Ok.ensures.entered (subst (λ (f : Bool). ByValues g.S.Source.rest g.F.FnOnce c.args.op f c.in-Ok.found.0 (here g.S.Source.rest c.open.new.self) (Ok c.in-Ok-op.value) (here g.S.Source.rest c.op.new.arg3)) (sym c.if-not-constructed.false) (_, _, refl, refl, c.in-Ok-op.ensures)) c.in-Err-close.ensures.refused }
+
+pub returns-in-Err-clause-memory : goal.returns-in-Err-clause-memory
+returns-in-Err-clause-memory g c = no_want _ _ c.in-Err.error c.in-Err.ensures.refused
+
+pub returns-in-Err-op-clause-memory : goal.returns-in-Err-op-clause-memory
+returns-in-Err-op-clause-memory g c = any_wanted (ByValues g.S.Source.rest g.F.FnOnce c.args.op) (here g.S.Source.rest c.args.self.now) c.in-Err-op.error c.in-Ok.ensures.entered (subst (λ (f : Bool). ByValues g.S.Source.rest g.F.FnOnce c.args.op f c.in-Ok.found.0 (here g.S.Source.rest c.open.new.self) (Err c.in-Err-op.error) (here g.S.Source.rest c.op.new.arg3)) (sym c.if-not-constructed.false) (_, _, refl, refl, c.in-Err-op.ensures))
+
+pub returns-in-Err-close-clause-memory : goal.returns-in-Err-close-clause-memory
+returns-in-Err-close-clause-memory g c = no_want _ _ c.in-Err-close.error c.in-Err-close.ensures.refused

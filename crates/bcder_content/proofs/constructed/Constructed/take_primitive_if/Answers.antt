@@ -2,6 +2,7 @@ use Rattle.std.proofs.Common.{refl, ◌∙◌}
 use Rattle.bcder_content.specs.Here.{here, plain}
 use Rattle.bcder_content.specs.Ran.{no_octets, refused_octets, octets_go_on}
 use Rattle.bcder_content.proofs.Taking.{on_content, only_on}
+use Rattle.bcder_content.proofs.Memories.{no_want, wanted}
 use Rattle.bcder_content.proofs.constructed.Constructed.take_primitive_if.Goals as goal
 
 pub returns-in-Err-op-clause-ran : goal.returns-in-Err-op-clause-ran
@@ -41,3 +42,22 @@ returns-in-Err-close-clause-ran g c = record {
     ends = refl;
   })) c.in-Err-close.ensures.refused;
 }
+
+pub returns-in-Err-clause-memory : goal.returns-in-Err-clause-memory
+returns-in-Err-clause-memory g c = no_want _ _ c.in-Err.error c.in-Err.ensures.refused
+
+pub returns-in-Err-op-clause-memory : goal.returns-in-Err-op-clause-memory
+returns-in-Err-op-clause-memory g c = wanted c.in-Err-op.error (record {
+  span = c.in-Ok.outer.span;
+  end = plain g.S.Source.rest c.op.new.arg2;
+  ran = record {
+    given = c.open_if.new.self.octets;
+    left = c.op.new.arg2;
+    enters = (let n = c.in-Ok.ensures.entered in record { opens = n.opens; mode = n.mode; before = n.before; sound = n.sound });
+    met = record { shown = _; shows = refl; left = _; met = c.in-Err-op.ensures; leaves = refl };
+    ends = refl;
+  };
+})
+
+pub returns-in-Err-close-clause-memory : goal.returns-in-Err-close-clause-memory
+returns-in-Err-close-clause-memory g c = no_want _ _ c.in-Err-close.error c.in-Err-close.ensures.refused

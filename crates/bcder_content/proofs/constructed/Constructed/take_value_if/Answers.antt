@@ -3,6 +3,7 @@ use Rattle.bcder_content.specs.Either.{ByContentAlone, AnyKind, OfForm, WithTag}
 use Rattle.bcder_content.specs.Here.{here}
 use Rattle.bcder_header.proofs.Windows.{tags_unequal, tags_same, not_true, not_false}
 use Rattle.bcder_content.proofs.Eithers.{takes_none, takes_other, takes_refused, takes_unread, takes_value}
+use Rattle.bcder_content.proofs.Memories.{no_want, any_wanted}
 use Rattle.bcder_content.proofs.constructed.Constructed.take_value_if.Goals as goal
 
 pub returns-in-Err-clause-taken : goal.returns-in-Err-clause-taken
@@ -19,3 +20,12 @@ returns-in-Ok-close-clause-taken g c = record { cases = takes_value (ByContentAl
 
 pub returns-in-Err-close-clause-taken : goal.returns-in-Err-close-clause-taken
 returns-in-Err-close-clause-taken g c = record { cases = takes_unread (ByContentAlone g.S.Source.rest g.F.FnOnce c.args.op) (WithTag c.args.tag) (here g.S.Source.rest c.args.self.now) (here g.S.Source.rest c.args.self.now) c.in-Ok-run_alone.value c.in-Err-close.error c.in-Ok.ensures.entered (subst (λ (f : Bool). ByContentAlone g.S.Source.rest g.F.FnOnce c.args.op f c.in-Ok.found.0 (here g.S.Source.rest c.open.new.self) (Ok c.in-Ok-run_alone.value) (here g.S.Source.rest c.run_alone.new.self)) c.in-Ok.ensures.form (c.in-Ok-run_alone.ensures c.in-Ok.found.0)) c.in-Err-close.ensures.refused }
+
+pub returns-in-Err-clause-memory : goal.returns-in-Err-clause-memory
+returns-in-Err-clause-memory g c = no_want _ _ c.in-Err.error c.in-Err.ensures.refused
+
+pub returns-in-Err-run_alone-clause-memory : goal.returns-in-Err-run_alone-clause-memory
+returns-in-Err-run_alone-clause-memory g c = any_wanted (ByContentAlone g.S.Source.rest g.F.FnOnce c.args.op) (here g.S.Source.rest c.args.self.now) c.in-Err-run_alone.error c.in-Ok.ensures.entered (subst (λ (f : Bool). ByContentAlone g.S.Source.rest g.F.FnOnce c.args.op f c.in-Ok.found.0 (here g.S.Source.rest c.open.new.self) (Err c.in-Err-run_alone.error) (here g.S.Source.rest c.run_alone.new.self)) c.in-Ok.ensures.form (c.in-Err-run_alone.ensures c.in-Ok.found.0))
+
+pub returns-in-Err-close-clause-memory : goal.returns-in-Err-close-clause-memory
+returns-in-Err-close-clause-memory g c = no_want _ _ c.in-Err-close.error c.in-Err-close.ensures.refused
