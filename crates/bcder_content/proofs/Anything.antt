@@ -1,5 +1,5 @@
 -- A closure that reads a content of any form or tag exactly makes an exact reader of the value.
-use Rattle.std.proofs.Common.{◌≡◌, ℕ, Bool, true, false, List, Result, Ok, Err, Option, Some, None, refl, sym, ap, ◌∙◌, subst}
+use Rattle.std.proofs.Common.{◌≡◌, ℕ, Bool, true, false, List, Result, Ok, Err, Option, Some, None, ap, ◌∙◌, subst}
 use Rattle.bcder_tree.specs.declared.mode.Mode.{Mode}
 use Rattle.bcder_source.specs.declared.error.DecodeError.{DecodeError}
 use Rattle.bcder_source.specs.declared.error.DecodeError.TheVariants.{Content, Source, Memory}
@@ -9,12 +9,12 @@ use Rattle.bcder_tree.specs.Tree.{Tree, Trees, primitive, constructed}
 use Rattle.bcder_header.specs.declared.ending.Ending.{Ending}
 use Rattle.bcder_header.specs.declared.ending.Span.{Span}
 use Rattle.bcder_header.specs.declared.ending.Span.TheVariants.{Until, ToEnd}
-use Rattle.bcder_content.specs.Contents.{OctetsLeft, ValuesLeft, octets, Ahead, EndsHere, Ended, Took, tag_of, form_of}
-use Rattle.bcder_primitive.specs.Plain.{LacksOctets, GivesOctets, Drained}
+use Rattle.bcder_content.specs.Contents.{ValuesLeft, octets, Ahead, EndsHere, Ended, tag_of, form_of}
+use Rattle.bcder_primitive.specs.Plain.{LacksOctets}
 use Rattle.bcder_header.specs.Openings.{ending_of}
-use Rattle.bcder_content.specs.Exact.{Gives, Lacks, ReadsAs, LacksTagged, ReadsOptAs, ReadsNextAs, LacksAll, GivesAll}
+use Rattle.bcder_content.specs.Exact.{Gives, Lacks, ReadsAs, ReadsOptAs, ReadsNextAs, LacksAll}
 use Rattle.bcder_content.specs.Stops.{EndsUnread}
-use Rattle.bcder_content.specs.Ran.{Enters, Leaves, EntersOctets, LeavesOctets, Comes}
+use Rattle.bcder_content.specs.Ran.{Enters, Leaves, EntersOctets, LeavesOctets}
 use Rattle.bcder_content.specs.Either.{in_octets, Meeting, RanAny, AnyRefused, none_wanted, any_refused, any_goes_on, TakesCases, Takes, TakesNextCases, TakesNext, TakesOptCases, TakesOpt, WithTag, ReadsInAs}
 use Rattle.bcder_header.proofs.Opening.{opens_tag}
 use Rattle.bcder_content.proofs.Took.{took_front}

@@ -1,20 +1,19 @@
 -- Octets of values that are kept.
-use Rattle.std.proofs.Common.{◌≡◌, ℕ, ◌+◌, ◌-◌, ◌<◌, ◌≤◌, true, false, Bool, List, [], ◌∷◌, ◌++◌, length, take, drop, slice_range, Result, Ok, Err, Option, Some, None, refl, sym, ap, ◌∙◌, subst, length-append, arith}
+use Rattle.std.proofs.Common.{◌≡◌, ℕ, ◌-◌, ◌≤◌, false, Bool, List, length, take, slice_range, Ok, Err, Option, Some, None, refl, sym, ap, ◌∙◌, subst, length-append, arith}
 use Rattle.std.proofs.lemmas.List.{take_at, take_all, take-take, length-take}
 use Rattle.std.specs.Fn.{FnOnceReturnsAtMut}
-use Rattle.bcder_tree.specs.declared.mode.Mode.{Mode}
 use Rattle.bcder_source.specs.declared.limited.LimitedSource.{LimitedSource}
 use Rattle.bcder_source.specs.declared.error.DecodeError.{DecodeError}
 use Rattle.bcder_source.specs.declared.error.DecodeError.TheVariants.{Content, Source, Memory}
 use Rattle.bcder_source.specs.Errors.{OnContent}
-use Rattle.bcder_tree.specs.Tree.{Tree, Trees, SpellsAll}
+use Rattle.bcder_tree.specs.Tree.{Trees, SpellsAll}
 use Rattle.bcder_source.specs.Views.{View, Reading, left, limited, Moved}
 use Rattle.bcder_content.specs.declared.constructed.Constructed.{Constructed}
-use Rattle.bcder_content.specs.Contents.{ValuesLeft, octets, Goes, TookAll}
+use Rattle.bcder_content.specs.Contents.{ValuesLeft, octets, TookAll}
 use Rattle.bcder_content.specs.Here.{here}
 use Rattle.bcder_content.specs.Kept.{CapturedValue, SpellsValues}
-use Rattle.bcder_content.specs.Ran.{Reader, RanIn}
-use Rattle.bcder_content.specs.Captures.{rest_of, cut, ReadsSome, RefusesIn, Keeps, KeepsNone, was_failed, was_refused, CapturesCases, Rebased}
+use Rattle.bcder_content.specs.Ran.{Reader}
+use Rattle.bcder_content.specs.Captures.{rest_of, cut, ReadsSome, RefusesIn, Keeps, KeepsNone, was_refused, CapturesCases, Rebased}
 
 whole : (n : ℕ) (s : List ℕ) → n ≡ length s → take n s ≡ s
 whole n s e = take_all n s (omega (arith, e))

@@ -1,12 +1,12 @@
 -- Values that pass a test, mean something, or are one of two (CHOICE).
-use Rattle.std.proofs.Common.{Bool, ◌≡◌, ℕ, true, false, List, Option, Some, None, Result, Ok, Err, refl, sym, ap, ◌∙◌, subst, inl, inr}
+use Rattle.std.proofs.Common.{Bool, ◌≡◌, Result, Ok, Err, refl, sym, ◌∙◌, subst, inl, inr}
 use Rattle.std.specs.Result.{IsErr, IsErrAnd}
 use Rattle.bcder_tree.specs.Tags.{TagValue}
 use Rattle.bcder_tree.specs.Tree.{Tree, Trees}
 use Rattle.bcder_source.specs.Errors.{OnContent}
 use Rattle.bcder_source.specs.declared.error.DecodeError.{DecodeError}
-use Rattle.bcder_content.specs.Contents.{ValuesLeft, TookAll, Ahead, Unlike, tag_of}
-use Rattle.bcder_content.specs.Exact.{Gives, Lacks, LacksTagged, LacksAll, GivesAll, ReadsAs, ReadsAllAs}
+use Rattle.bcder_content.specs.Contents.{ValuesLeft, Unlike}
+use Rattle.bcder_content.specs.Exact.{Gives, Lacks, LacksTagged, LacksAll, ReadsAs}
 use Rattle.bcder_content.specs.Grammar.{Such, OneOf, As, Then, Tagged, One}
 use Rattle.bcder_content.proofs.Taking.{weaker}
 use Rattle.bcder_content.proofs.Took.{one_took}

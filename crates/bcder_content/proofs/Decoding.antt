@@ -1,22 +1,19 @@
 -- Sources that are read from their beginning.
-use Rattle.std.proofs.Common.{◌≡◌, ℕ, true, false, List, Result, Ok, Err, Option, None, refl, sym, ap, ◌∙◌, subst}
+use Rattle.std.proofs.Common.{◌≡◌, ℕ, true, false, List, Result, Ok, Err, None, refl, sym, ap, ◌∙◌, subst}
 use denote.Ref.{MutBor}
 use Rattle.std.specs.Fn.{FnOnceReturnsAtMut}
 use Rattle.bcder_tree.specs.declared.mode.Mode.{Mode}
 use Rattle.bcder_source.specs.declared.limited.LimitedSource.{LimitedSource}
 use Rattle.bcder_source.specs.declared.error.DecodeError.{DecodeError}
 use Rattle.bcder_source.specs.declared.error.DecodeError.TheVariants.{Content, Source, Memory}
-use Rattle.bcder_source.specs.Errors.{OnContent}
-use Rattle.bcder_tree.specs.Tree.{Tree, Trees, SpellsAll}
-use Rattle.bcder_tree.specs.Front.{Front}
-use Rattle.bcder_source.specs.Views.{View, left, Moved}
-use Rattle.bcder_source.proofs.Moves.{left_moved}
+use Rattle.bcder_tree.specs.Tree.{Tree}
+use Rattle.bcder_source.specs.Views.{left}
 use Rattle.bcder_header.specs.declared.ending.Ending.TheVariants.{Unbounded}
 use Rattle.bcder_content.specs.declared.constructed.Constructed.{Constructed}
-use Rattle.bcder_content.specs.Contents.{ValuesLeft, octets, Took, Ahead}
-use Rattle.bcder_content.specs.Exact.{Lacks, ReadsAs, DecodesAs}
+use Rattle.bcder_content.specs.Contents.{ValuesLeft, octets}
+use Rattle.bcder_content.specs.Exact.{ReadsAs, DecodesAs}
 use Rattle.bcder_content.specs.Here.{here}
-use Rattle.bcder_content.specs.Ran.{Reader, fresh, RanIn, RanInRefused, refused_in, failed_in, DecodedCases, Decoded}
+use Rattle.bcder_content.specs.Ran.{Reader, fresh, RanIn, refused_in, failed_in, DecodedCases, Decoded}
 use Rattle.bcder_content.proofs.Took.{took_front}
 use Rattle.bcder_content.proofs.Nexts.{front_next}
 

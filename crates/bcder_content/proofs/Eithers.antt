@@ -1,20 +1,18 @@
 -- Parts of readings by closures of any kind.
-use Rattle.std.proofs.Common.{◌≡◌, ◌↔◌, ℕ, Bool, true, false, IsTrue, List, Result, Ok, Err, Option, Some, None, refl, sym, ap, ◌∙◌, subst}
+use Rattle.std.proofs.Common.{◌≡◌, ◌↔◌, Bool, true, false, IsTrue, Ok, Err, sym, ◌∙◌, subst}
 use Rattle.bcder_tree.specs.declared.mode.Mode.{Mode}
 use Rattle.bcder_source.specs.declared.error.DecodeError.{DecodeError}
-use Rattle.bcder_source.specs.declared.error.DecodeError.TheVariants.{Content, Source, Memory}
-use Rattle.bcder_source.specs.Errors.{OnContent, OnlyContent}
+use Rattle.bcder_source.specs.Errors.{OnlyContent}
 use Rattle.bcder_tree.specs.Tags.{TagValue}
-use Rattle.bcder_tree.specs.Tree.{Tree}
 use Rattle.bcder_header.specs.declared.ending.Ending.{Ending}
 use Rattle.bcder_header.specs.declared.ending.Span.{Span}
-use Rattle.bcder_content.specs.Contents.{ValuesLeft, octets, Ahead, Ended, tag_of, form_of}
+use Rattle.bcder_content.specs.Contents.{ValuesLeft, octets, Ended, form_of}
 use Rattle.bcder_content.specs.Stops.{NoneAhead, EndsUnread, LeftBy}
-use Rattle.bcder_content.specs.Ran.{Enters, Leaves}
-use Rattle.bcder_content.specs.Either.{Meeting, RanAny, AnyRefused, none_wanted, any_refused, any_goes_on, TakesCases, Takes, TakesNextCases, OfForm, WithTag}
+use Rattle.bcder_content.specs.Ran.{Enters}
+use Rattle.bcder_content.specs.Either.{Meeting, none_wanted, any_refused, any_goes_on, TakesCases, Takes, TakesNextCases}
 use Rattle.bcder_header.proofs.Opening.{opens_tag}
 use Rattle.bcder_content.proofs.Took.{took_front}
-use Rattle.bcder_content.proofs.Taking.{weaker, only_on, on_content, none_failed}
+use Rattle.bcder_content.proofs.Taking.{only_on, on_content, none_failed}
 
 module _ {T E : Type 0} (meets : Meeting T E) (wants : TagValue → Bool → Type 0) (old new : ValuesLeft) where
   -- No value is next.

@@ -1,5 +1,5 @@
 -- How a reader of a content is proved: field by field, in the order of its grammar.
-use Rattle.std.proofs.Common.{map, ◌≡◌, ℕ, Bool, true, false, List, [], ◌∷◌, ◌++◌, Option, Some, None, Result, Ok, Err, refl, sym, ap, ◌∙◌, subst, append_assoc, append-nil, inl, inr}
+use Rattle.std.proofs.Common.{map, ◌≡◌, Bool, true, false, List, [], ◌∷◌, ◌++◌, Option, Some, None, Result, Ok, Err, refl, sym, ap, ◌∙◌, subst, append_assoc, append-nil, inl, inr}
 use Rattle.std.specs.Result.{IsErr, IsErrAnd}
 use Rattle.std.specs.Option.{option_map, unwrap_or}
 use Rattle.std.proofs.lemmas.List.{map-append}
@@ -9,11 +9,11 @@ use Rattle.bcder_tree.specs.Tree.{Tree, Trees, none, more}
 use Rattle.bcder_source.specs.Errors.{OnContent}
 use Rattle.bcder_source.specs.declared.error.DecodeError.{DecodeError}
 use Rattle.bcder_content.specs.Contents.{ValuesLeft, Took, TookAll, Ahead, Ended, Whole, Unlike, tag_of}
-use Rattle.bcder_content.specs.Exact.{Gives, Lacks, LacksTagged, LacksAll, GivesAll, ReadsAllAs, ReadsOptAs, ReadsNextAs}
+use Rattle.bcder_content.specs.Exact.{Gives, Lacks, LacksTagged, LacksAll, GivesAll, ReadsAllAs}
 use Rattle.bcder_content.specs.Grammar.{End, Rest, Then, Without, OptCases, Opt, Default, ManyCases, Many, Tagged}
 use Rattle.bcder_content.specs.Skips.{SkipsAll, NotWhole}
 use Rattle.bcder_content.proofs.Taking.{weaker}
-use Rattle.bcder_content.proofs.Took.{took_none, took_more, none_stays, more_splits, one_took, ended_none, whole_none, whole_first, whole_others}
+use Rattle.bcder_content.proofs.Took.{took_none, took_more, more_splits, one_took, ended_none, whole_none, whole_first, whole_others}
 
 -- `?` passes a refusal on.
 passed_on : {A B D E : Type 0} (f : D → A) {P : Trees → A → Type 0} {start : ValuesLeft} (new : ValuesLeft) (r : Result D (DecodeError E)) (e : DecodeError E) → IsErr r × IsErrAnd r (λ x. x ≡ e) → (B → LacksAll P start) → OnContent e B → ReadsAllAs f P start r new

@@ -1,5 +1,5 @@
 -- A closure that reads a content exactly makes an exact reader of the value.
-use Rattle.std.proofs.Common.{◌≡◌, ℕ, Bool, true, false, List, Result, Ok, Err, Option, Some, None, refl, sym, ap, ◌∙◌, subst}
+use Rattle.std.proofs.Common.{◌≡◌, ℕ, true, false, List, Result, Ok, Err, Option, Some, None, refl, sym, ap, ◌∙◌, subst}
 use Rattle.std.specs.Fn.{FnOnceReturnsAtMut}
 use denote.Ref.{MutBor}
 use Rattle.bcder_tree.specs.declared.mode.Mode.{Mode}
@@ -7,25 +7,23 @@ use Rattle.bcder_source.specs.declared.error.DecodeError.{DecodeError}
 use Rattle.bcder_source.specs.declared.error.DecodeError.TheVariants.{Content, Source, Memory}
 use Rattle.bcder_source.specs.Errors.{OnContent}
 use Rattle.bcder_tree.specs.Tags.{TagValue}
-use Rattle.bcder_tree.specs.Tree.{Tree, Trees, primitive, constructed, Spells, SpellsAll}
-use Rattle.bcder_tree.specs.Front.{Front}
-use Rattle.bcder_source.specs.Views.{View, left, Moved}
+use Rattle.bcder_tree.specs.Tree.{Tree, Trees, primitive, constructed, SpellsAll}
+use Rattle.bcder_source.specs.Views.{Moved}
 use Rattle.bcder_header.specs.declared.ending.Ending.{Ending}
 use Rattle.bcder_header.specs.declared.ending.Span.{Span}
 use Rattle.bcder_header.specs.declared.ending.Span.TheVariants.{Until, ToEnd}
 use Rattle.bcder_content.specs.declared.constructed.Constructed.{Constructed}
 use Rattle.bcder_primitive.specs.declared.primitive.Primitive.{Primitive}
-use Rattle.bcder_content.specs.Contents.{OctetsLeft, ValuesLeft, octets, Took, TookAll, Ahead, EndsHere, Ended, Whole, Unlike, tag_of, form_of}
+use Rattle.bcder_content.specs.Contents.{OctetsLeft, ValuesLeft, octets, Took, TookAll, Ahead, EndsHere, Ended, Whole, tag_of, form_of}
 use Rattle.bcder_primitive.specs.Plain.{octets_in, WholeOctets, LacksOctets, GivesOctets, Drained, ReadsOctetsAs}
-use Rattle.bcder_header.specs.Openings.{Closes, ending_of}
-use Rattle.bcder_content.specs.Exact.{Gives, Lacks, ReadsAs, LacksTagged, ReadsOptAs, LacksAll, GivesAll, ReadsAllAs}
+use Rattle.bcder_header.specs.Openings.{ending_of}
+use Rattle.bcder_content.specs.Exact.{Lacks, ReadsAs, LacksTagged, ReadsOptAs, LacksAll, GivesAll, ReadsAllAs}
 use Rattle.bcder_content.specs.Grammar.{Inside, OctetsOf}
 use Rattle.bcder_content.specs.Here.{here, plain}
 use Rattle.bcder_content.specs.Stops.{EndsUnread}
-use Rattle.bcder_content.specs.Ran.{Enters, Leaves, EntersOctets, LeavesOctets, NoneOf, Comes, Reader, RanOn, RanRefused, no_value, refused, goes_on, RanCases, Ran, RanOptCases, RanOpt, PlainRanOn, PlainRefused, no_octets, refused_octets, octets_go_on, PlainRanCases, PlainRan, PlainRanOptCases, PlainRanOpt}
+use Rattle.bcder_content.specs.Ran.{Enters, Leaves, EntersOctets, LeavesOctets, Comes, Reader, RanRefused, no_value, refused, goes_on, RanCases, Ran, RanOptCases, RanOpt, PlainRefused, no_octets, refused_octets, octets_go_on, PlainRanCases, PlainRan, PlainRanOptCases, PlainRanOpt}
 use Rattle.bcder_header.proofs.Opening.{constructed_closed, primitive_closed, constructed_content, primitive_content, ends_here}
 use Rattle.bcder_content.proofs.Took.{took_front}
-use Rattle.bcder_content.proofs.Taking.{weaker}
 
 -- Each call of the closure, in that mode, reads the content exactly.
 pub record ReadsEach {F S T B E : Type 0} (m : Mode) (rest : S → List ℕ) (g : Reader F (Constructed S) T E) (op : F) (f : T → B) (P : Trees → B → Type 0) : Type 0 where

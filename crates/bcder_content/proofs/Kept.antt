@@ -1,12 +1,12 @@
 -- A closure that reads values exactly, where their octets are kept.
-use Rattle.std.proofs.Common.{◌≡◌, ℕ, true, false, List, [], ◌∷◌, ◌++◌, length, take, Result, Ok, Err, IfOk, IfErr, Option, Some, None, refl, sym, ap, ◌∙◌, subst, arith}
+use Rattle.std.proofs.Common.{◌≡◌, ℕ, true, false, List, [], ◌∷◌, length, Result, Ok, Err, IfOk, IfErr, Option, Some, None, refl, sym, ap, ◌∙◌, subst, arith}
 use Rattle.std.proofs.lemmas.List.{append_cancel_left, append_cancel_right, take-take}
 use Rattle.bcder_tree.specs.declared.mode.Mode.{Mode}
 use Rattle.bcder_source.specs.declared.error.DecodeError.{DecodeError}
 use Rattle.bcder_source.specs.declared.error.DecodeError.TheVariants.{Content, Source, Memory}
 use Rattle.bcder_source.specs.Errors.{OnContent}
 use Rattle.bcder_tree.specs.Tree.{Tree, Trees, Spells, SpellsAll}
-use Rattle.bcder_source.specs.Views.{View, Reading, left, limited, Moved}
+use Rattle.bcder_source.specs.Views.{Reading, left, limited}
 use Rattle.bcder_source.proofs.Moves.{left_moved}
 use Rattle.bcder_header.specs.declared.ending.Ending.{Ending}
 use Rattle.bcder_header.specs.declared.ending.Ending.TheVariants.{Definite, Indefinite, Unbounded}
@@ -16,12 +16,12 @@ use Rattle.bcder_content.specs.Skips.{SkipsAll, NotWhole}
 use denote.Ref.{MutBor}
 use Rattle.bcder_source.specs.declared.error.ContentError.{ContentError}
 use Rattle.bcder_source.specs.declared.pos.Pos.{Pos}
-use Rattle.bcder_content.specs.Exact.{LacksAll, GivesAll, ReadsAs, ReadsAllAs}
+use Rattle.bcder_content.specs.Exact.{LacksAll, ReadsAs, ReadsAllAs}
 use Rattle.bcder_content.specs.Grammar.{Any, Exactly, ExactlyAll}
 use Rattle.bcder_content.specs.Here.{here}
 use Rattle.bcder_content.specs.Kept.{CapturedValue}
 use Rattle.bcder_content.specs.Ran.{Reader, RanIn}
-use Rattle.bcder_content.specs.Captures.{rest_of, cut, ReadsValues, Keeps, KeepsNone, was_failed, was_refused, CapturesCases, Captures, CapturesAll}
+use Rattle.bcder_content.specs.Captures.{rest_of, cut, Keeps, was_failed, was_refused, CapturesCases, Captures, CapturesAll}
 use Rattle.bcder_header.proofs.Opening.{front_moves, cancel_more}
 use Rattle.bcder_content.proofs.Inside.{ReadsEach, each_met}
 

@@ -2,7 +2,6 @@
 use Rattle.std.proofs.Common.{◌≡◌, ℕ, List, sym, ap}
 use Rattle.bcder_content.specs.declared.constructed.Constructed.{Constructed}
 use Rattle.bcder_content.specs.declared.content.Content.{Content}
-use Rattle.bcder_content.specs.Contents.{ValuesLeft}
 use Rattle.bcder_content.specs.Either.{Shows}
 use Rattle.bcder_content.specs.Here.{here}
 

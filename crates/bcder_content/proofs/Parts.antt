@@ -1,17 +1,17 @@
 -- Captured octets of which a part was read.
-use Rattle.std.proofs.Common.{◌≡◌, ℕ, ◌+◌, ◌-◌, ◌≤◌, true, false, List, [], ◌∷◌, ◌++◌, length, drop, Result, Ok, Err, Option, Some, None, refl, sym, ap, ◌∙◌, subst, append-nil, length-append, arith}
+use Rattle.std.proofs.Common.{◌≡◌, ℕ, ◌-◌, List, [], ◌++◌, length, drop, Ok, Option, Some, None, refl, sym, ap, ◌∙◌, subst, append-nil, length-append, arith}
 use Rattle.std.proofs.Math.Seq.{drop-append_seam}
 use Rattle.std.specs.Fn.{FnOnceReturnsAtMut}
 use Rattle.bcder_tree.specs.declared.mode.Mode.{Mode}
-use Rattle.bcder_tree.specs.Tree.{Tree, Trees, none, more, SpellsAll}
+use Rattle.bcder_tree.specs.Tree.{Trees, none, more, SpellsAll}
 use Rattle.bcder_source.specs.Views.{Reading, left, limited, more_limit}
 use Rattle.bcder_header.specs.declared.ending.Ending.{Ending}
 use Rattle.bcder_header.specs.declared.ending.Ending.TheVariants.{Unbounded}
 use Rattle.bcder_content.specs.declared.constructed.Constructed.{Constructed}
-use Rattle.bcder_content.specs.Contents.{ValuesLeft, octets, Took, TookAll, EndsHere, Ended, Whole}
+use Rattle.bcder_content.specs.Contents.{ValuesLeft, octets, Took, TookAll, EndsHere, Whole}
 use Rattle.bcder_content.specs.Here.{here}
 use Rattle.bcder_content.specs.Kept.{SpellsValues}
-use Rattle.bcder_content.specs.Ran.{Reader, RanIn, fresh}
+use Rattle.bcder_content.specs.Ran.{Reader, fresh}
 use Rattle.bcder_content.specs.Captures.{rest_of, ReadsFront}
 use Rattle.bcder_content.proofs.Took.{more_splits, whole_others, whole_none, ended_none, none_stays}
 

@@ -1,5 +1,5 @@
 -- What the parts of a reading by a closure say of the values that are next.
-use Rattle.std.proofs.Common.{◌≡◌, ℕ, ◌+◌, ◌*◌, ◌<◌, inl, inr, Bool, true, false, List, [], ◌∷◌, ◌++◌, Option, Some, None, IsTrue, IsFalse, ◌↔◌, refl, sym, ap, ◌∙◌, subst, append_assoc, arith}
+use Rattle.std.proofs.Common.{◌≡◌, ℕ, Bool, true, false, List, [], ◌∷◌, ◌++◌, Option, IsTrue, IsFalse, ◌↔◌, refl, sym, ap, ◌∙◌, subst, append_assoc, arith}
 use Rattle.bcder_tree.specs.declared.mode.Mode.{Mode}
 use Rattle.bcder_source.specs.declared.error.DecodeError.{DecodeError}
 use Rattle.bcder_source.specs.declared.error.ContentError.{ContentError}
@@ -9,18 +9,18 @@ use Rattle.bcder_source.specs.Errors.{OnContent, OnlyContent}
 use Rattle.bcder_tree.specs.Tags.{TagValue, IsTag}
 use Rattle.bcder_tree.specs.Octets.{IsIdentifier}
 use Rattle.bcder_tree.specs.Reads.{Begins, Lacks, IsEnd}
-use Rattle.bcder_tree.specs.Tree.{Tree, Trees, primitive, constructed, none, more}
+use Rattle.bcder_tree.specs.Tree.{Tree}
 use Rattle.bcder_tree.specs.Front.{Front}
 use Rattle.bcder_source.specs.Views.{View, left, limited, Moved}
 use Rattle.bcder_source.proofs.Moves.{left_moved}
 use Rattle.bcder_header.specs.declared.ending.Ending.{Ending}
 use Rattle.bcder_header.specs.declared.ending.Ending.TheVariants.{Definite, Indefinite, Unbounded}
 use Rattle.bcder_header.specs.declared.ending.Span.{Span}
-use Rattle.bcder_content.specs.Contents.{ValuesLeft, octets, Took, Ahead, EndsHere, Ended, Unlike, tag_of, form_of}
-use Rattle.bcder_header.specs.Openings.{Opens, Closes, ending_of, NoValue, OfTag, NotOfTag}
+use Rattle.bcder_content.specs.Contents.{ValuesLeft, octets, EndsHere, Ended, Unlike, tag_of, form_of}
+use Rattle.bcder_header.specs.Openings.{Closes, NoValue, OfTag, NotOfTag}
 use Rattle.bcder_content.specs.Ran.{Enters, NoneOf, Comes}
 use Rattle.bcder_content.specs.Stops.{NoneAhead, EndsUnread}
-use Rattle.bcder_header.proofs.Opening.{HeadIn, tree_head, opens_tag, front_moves, here_ends}
+use Rattle.bcder_header.proofs.Opening.{tree_head, opens_tag, front_moves, here_ends}
 use Rattle.bcder_header.proofs.Windows.{Shown, one_tag, no_end_in, shown_whole}
 use Rattle.bcder_content.proofs.Took.{took_front}
 

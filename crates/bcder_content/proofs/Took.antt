@@ -1,10 +1,10 @@
 -- Reading values one behind the other: what was next, and what is left.
-use Rattle.std.proofs.Common.{◌≡◌, ℕ, ◌+◌, Bool, false, List, [], ◌∷◌, ◌++◌, length, Option, Some, None, Ok, refl, sym, ap, ◌∙◌, subst, append_assoc, length-append, arith}
+use Rattle.std.proofs.Common.{◌≡◌, ℕ, ◌+◌, Bool, false, List, [], ◌++◌, length, Option, Some, None, Ok, refl, sym, ap, ◌∙◌, subst, append_assoc, length-append, arith}
 use Rattle.std.proofs.lemmas.List.{append_cancel_left, append_cancel_right}
 use Rattle.bcder_tree.specs.declared.mode.Mode.{Mode}
-use Rattle.bcder_tree.specs.Tree.{Tree, Trees, none, more, Spells, SpellsAll}
+use Rattle.bcder_tree.specs.Tree.{Tree, Trees, none, more, SpellsAll}
 use Rattle.bcder_tree.specs.Front.{Front}
-use Rattle.bcder_source.specs.Views.{View, left, limited, more_limit, Moved}
+use Rattle.bcder_source.specs.Views.{left, limited, more_limit}
 use Rattle.bcder_tree.proofs.Trees.{one_tree, tree_goes_on}
 use Rattle.bcder_tree.proofs.Parts.{Ends}
 use Rattle.bcder_source.proofs.Moves.{left_moved, moved_none, moved_both, more_more}

@@ -1,5 +1,5 @@
 -- What capturing was: values read by a closure, and their octets kept.
-use Rattle.std.specs.Prelude.{◌≡◌, ℕ, true, false, ◌⊎◌, List, length, Result, Ok, Err}
+use Rattle.std.specs.Prelude.{◌≡◌, ℕ, true, List, length, Result, Ok, Err}
 use denote.Ref.{MutBor}
 use Rattle.bcder_tree.specs.declared.mode.Mode.{Mode}
 use Rattle.bcder_source.specs.declared.pos.Pos.{Pos}
@@ -7,7 +7,7 @@ use Rattle.bcder_source.specs.declared.error.ContentError.{ContentError}
 use Rattle.bcder_source.specs.declared.error.DecodeError.{DecodeError}
 use Rattle.bcder_source.specs.declared.error.DecodeError.TheVariants.{Content, Source, Memory}
 use Rattle.bcder_source.specs.Errors.{OnContent}
-use Rattle.bcder_tree.specs.Tree.{Trees, SpellsAll}
+use Rattle.bcder_tree.specs.Tree.{Trees}
 use Rattle.bcder_source.specs.Views.{Reading, left}
 use Rattle.bcder_content.specs.declared.constructed.Constructed.{Constructed}
 use Rattle.bcder_content.specs.Contents.{ValuesLeft, octets, Goes, TookAll, Ended}

@@ -1,9 +1,9 @@
 -- Exact readers: what they read is in the grammar, and what is in the grammar they read.
-use Rattle.std.specs.Prelude.{◌≡◌, ℕ, Bool, List, Result, Ok, Err, Option, Some, None}
+use Rattle.std.specs.Prelude.{◌≡◌, ℕ, List, Result, Ok, Err, Option, Some, None}
 use Rattle.bcder_tree.specs.declared.mode.Mode.{Mode}
 use Rattle.bcder_tree.specs.Tags.{TagValue}
 use Rattle.bcder_tree.specs.Front.{Front}
-use Rattle.bcder_tree.specs.Tree.{Tree, Trees, primitive, constructed}
+use Rattle.bcder_tree.specs.Tree.{Tree, Trees}
 use Rattle.bcder_source.specs.Errors.{OnContent}
 use Rattle.bcder_source.specs.declared.error.DecodeError.{DecodeError}
 use Rattle.bcder_content.specs.Contents.{ValuesLeft, Took, TookAll, Ahead, Ended, Whole, Unlike, tag_of}

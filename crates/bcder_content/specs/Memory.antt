@@ -1,5 +1,5 @@
 -- Want of memory: what a closure answers, and no read of its own.
-use Rattle.std.specs.Prelude.{ℕ, Bool, List, Result, Err}
+use Rattle.std.specs.Prelude.{ℕ, Bool, List, Err}
 use Rattle.bcder_source.specs.declared.error.DecodeError.{DecodeError}
 use Rattle.bcder_source.specs.declared.error.DecodeError.TheVariants.{Content, Source, Memory}
 use Rattle.bcder_tree.specs.Tags.{TagValue}

@@ -1,5 +1,5 @@
 -- What the parts of a reading say.
-use Rattle.std.specs.Prelude.{◌≡◌, Bool, true, false}
+use Rattle.std.specs.Prelude.{◌≡◌, Bool, false}
 use Rattle.bcder_tree.specs.declared.mode.Mode.{Mode}
 use Rattle.bcder_tree.specs.Tree.{Tree}
 use Rattle.bcder_source.specs.Views.{View}

@@ -1,4 +1,3 @@
-use Rattle.std.proofs.Common.{sym}
 use Rattle.bcder_tree.specs.Tree.{none}
 use Rattle.bcder_content.proofs.captured.Captured.empty.Goals as goal
 

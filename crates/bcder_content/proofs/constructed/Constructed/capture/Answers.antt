@@ -1,5 +1,4 @@
-use Rattle.std.proofs.Common.{refl, ap, subst}
-use Rattle.bcder_source.specs.Limits.{view}
+use Rattle.std.proofs.Common.{ap, subst}
 use Rattle.bcder_source.specs.Views.{View}
 use Rattle.bcder_content.specs.Here.{here}
 use Rattle.bcder_content.specs.Captures.{RefusesIn}

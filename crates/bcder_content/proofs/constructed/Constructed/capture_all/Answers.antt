@@ -1,4 +1,4 @@
-use Rattle.bcder_content.proofs.Kept.{AllEach, exact_all}
+use Rattle.bcder_content.proofs.Kept.{exact_all}
 use Rattle.bcder_content.proofs.constructed.Constructed.capture_all.Goals as goal
 
 pub returns-clause-captured : goal.returns-clause-captured

@@ -1,4 +1,4 @@
-use Rattle.std.proofs.Common.{refl, sym, ap, ◌∙◌, length}
+use Rattle.std.proofs.Common.{refl}
 use Rattle.bcder_content.specs.Here.{here}
 use Rattle.bcder_content.proofs.Capturing.{starts, reads_some, slice_long}
 use Rattle.bcder_content.proofs.constructed.Constructed.count_read.Goals as goal

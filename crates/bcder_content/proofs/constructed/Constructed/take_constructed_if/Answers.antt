@@ -1,6 +1,6 @@
 use Rattle.std.proofs.Common.{refl, ◌∙◌}
-use Rattle.bcder_content.specs.Here.{here, plain}
-use Rattle.bcder_content.specs.Ran.{no_value, refused, goes_on}
+use Rattle.bcder_content.specs.Here.{here}
+use Rattle.bcder_content.specs.Ran.{refused, goes_on}
 use Rattle.bcder_content.proofs.Taking.{on_content, only_on}
 use Rattle.bcder_content.proofs.Memories.{no_want, wanted}
 use Rattle.bcder_content.proofs.constructed.Constructed.take_constructed_if.Goals as goal

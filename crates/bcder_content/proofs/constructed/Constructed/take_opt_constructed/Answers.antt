@@ -1,6 +1,6 @@
-use Rattle.std.proofs.Common.{◌↔◌, Bool, IsTrue, true, false, subst}
+use Rattle.std.proofs.Common.{◌↔◌, Bool, IsTrue, true, subst}
 use Rattle.bcder_content.specs.Contents.{Ended}
-use Rattle.bcder_content.specs.Either.{ByValues, AnyKind, OfForm}
+use Rattle.bcder_content.specs.Either.{ByValues, OfForm}
 use Rattle.bcder_content.specs.Here.{here}
 use Rattle.bcder_content.proofs.Eithers.{takes_next_failed, takes_next_refused}
 use Rattle.bcder_content.proofs.constructed.Constructed.take_opt_constructed.Goals as goal

@@ -1,8 +1,6 @@
-use Rattle.std.proofs.Common.{◌↔◌, Bool, IsTrue, true, false, subst}
-use Rattle.bcder_content.specs.Contents.{Ended}
-use Rattle.bcder_content.specs.Either.{ByContent, AnyKind, OfForm}
+use Rattle.bcder_content.specs.Either.{ByContent, AnyKind}
 use Rattle.bcder_content.specs.Here.{here}
-use Rattle.bcder_content.proofs.Eithers.{takes_next_failed, takes_next_refused}
+use Rattle.bcder_content.proofs.Eithers.{takes_next_failed}
 use Rattle.bcder_content.proofs.constructed.Constructed.take_opt_value.Goals as goal
 
 pub returns-in-Err-clause-taken : goal.returns-in-Err-clause-taken

@@ -1,6 +1,6 @@
 use Rattle.std.proofs.Common.{refl, ◌∙◌}
-use Rattle.bcder_content.specs.Here.{here, plain}
-use Rattle.bcder_content.specs.Ran.{no_octets, refused_octets, octets_go_on}
+use Rattle.bcder_content.specs.Here.{plain}
+use Rattle.bcder_content.specs.Ran.{refused_octets, octets_go_on}
 use Rattle.bcder_content.proofs.Taking.{on_content, only_on}
 use Rattle.bcder_content.proofs.Memories.{no_want, wanted}
 use Rattle.bcder_content.proofs.constructed.Constructed.take_primitive_if.Goals as goal

@@ -1,4 +1,3 @@
-use Rattle.std.proofs.Common.{None}
 use Rattle.std.specs.declared.string.ParseError.{Infallible}
 use Rattle.bcder_content.specs.Captures.{rest_of}
 use Rattle.bcder_content.specs.Grammar.{Any}
