@@ -1,3 +1,4 @@
 pub mod ListLemmas
 pub mod ChosenLemmas
 pub mod SmallLemmas
+pub mod TextLemmas

@@ -1,3 +1,4 @@
 pub mod Numbers
 pub mod Listed
 pub mod Chosen
+pub mod Texts

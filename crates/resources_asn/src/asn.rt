@@ -1,8 +1,9 @@
 //! AS numbers.
 
-ghost use Rattle.std.specs.Prelude.{◌≡◌, ◌+◌, ◌≤◌, ◌++◌, codes, Some};
+ghost use Rattle.std.specs.Prelude.{◌≡◌, ℕ, ◌+◌, ◌≤◌, ◌++◌, ◌↔◌, codes, Some};
 ghost use Rattle.std.specs.Fmt.{decimal};
 ghost use Rattle.std.specs.Int.{w32, to_be_bytes};
+ghost use Rattle.resources_asn.specs.Texts.{IsDigitText, IsAsnText, Reads};
 
 use std::error::Error;
 use std::fmt;
@@ -97,19 +98,32 @@ impl fmt::Display for Asn {
     }
 }
 
-/// Reads decimal digits, with or without `AS` in any case in front of them.
+/// Reads decimal digits (RFC 5396 section 2), with or without `AS` in any case in front of them; zeros or one plus may
+/// stand before the digits. No other text is read.
 impl FromStr for Asn {
     type Err = ParseAsnError;
 
+    ghost from_str_gives = { Reads };
+
     fn from_str(text: &str) -> Result<Self, ParseAsnError> {
-        let digits = match text.split_at_checked(2) {
-            Some((front, digits)) if front.eq_ignore_ascii_case("AS") => digits,
-            _ => text,
-        };
-        match digits.parse::<u32>() {
+        match digits_of(text).parse::<u32>() {
             Ok(number) => Ok(Asn::from_u32(number)),
             Err(_) => Err(ParseAsnError),
         }
+    }
+}
+
+/// What stands behind `AS`, in any case; all of a text that doesn't begin so.
+fn digits_of(text: &str) -> &str
+    ensures { (n : ℕ) → IsAsnText text.now n ↔ IsDigitText result.now n }
+{
+    let Some((front, digits)) = text.split_at_checked(2) else {
+        return text;
+    };
+    if front.eq_ignore_ascii_case("AS") {
+        digits
+    } else {
+        text
     }
 }
 
