@@ -18,6 +18,3 @@ pub use resources_ip_block::{
 };
 pub use v4::{Ipv4Block, Ipv4Blocks};
 pub use v6::{Ipv6Block, Ipv6Blocks};
-
-#[cfg(test)]
-mod tests;
