@@ -13,6 +13,8 @@ mod integers;
 pub mod laws;
 pub mod primitive;
 pub mod skip;
+#[cfg(test)]
+mod tests;
 pub mod typed;
 
 pub use captured::Captured;

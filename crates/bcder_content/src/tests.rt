@@ -1,6 +1,8 @@
 //! Cases from outside, and each public call once.
 
+mod cases;
 mod examples;
 mod skip;
+mod support;
 mod taking;
 mod typed;
