@@ -5,3 +5,6 @@ mod integers;
 pub mod primitive;
 
 pub use primitive::Primitive;
+
+#[cfg(test)]
+mod tests;

@@ -2,3 +2,5 @@
 #![tactic(auto)]
 
 pub mod examples;
+#[cfg(test)]
+mod tests;

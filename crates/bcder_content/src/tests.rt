@@ -1,6 +1,7 @@
 //! Cases from outside, and each public call once.
 
-mod examples;
+mod cases;
 mod skip;
+mod support;
 mod taking;
 mod typed;

@@ -1,0 +1,193 @@
+#!/usr/bin/env python3
+"""Shows the time that reading, skipping and capturing values take, and how it grows with their number.
+
+    content.py [FOLDER [BCDER]]
+
+In FOLDER, or in a temporary folder, a repository of three crates is made: copies of crates/bcder_source and
+crates/bcder_content, with their out/ where they have one, and the program content.rt.in, which `rt run` proves and
+builds (a quarter of an hour from nothing; a folder that is given is used again). Small values are a SEQUENCE OF
+INTEGERs of one octet each, read by take_opt_u64 and by skip_one; one deep value is as many SEQUENCEs in each other,
+skipped with a visitor and captured. All are read from a slice, in DER. Each size is run ten times, of which the best
+time counts; making the octets isn't measured. What each reading tells is compared with the right answer.
+
+BCDER is the folder that `dpkg -x` made of Debian's packages librust-bcder-dev, librust-bytes-dev and
+librust-smallvec-dev: where it is given, content.rs.in is built with it by cargo, and its times stand beside.
+
+Target: twice the values take at most 2.3 times the time. Exits with 1 where it is missed or an answer is wrong.
+"""
+
+import os
+import shutil
+import subprocess
+import sys
+import tempfile
+
+SIZES = (1_000_000, 2_000_000)
+RUNS = 10
+MOST_GROWTH = 2.3
+
+BENCH = os.path.dirname(os.path.abspath(__file__))
+CRATES = os.path.join(BENCH, os.pardir, "crates")
+LIBRARIES = ("bcder_source", "bcder_content")
+NAME = "content_bench"
+READINGS = ("take_opt_u64", "skip_one", "skip", "capture_one")
+
+CARGO = """[package]
+name = "content_bench"
+version = "0.0.0"
+edition = "2021"
+
+[dependencies]
+bcder = {{ path = "{registry}/{bcder}" }}
+
+[patch.crates-io]
+bytes = {{ path = "{registry}/{bytes}" }}
+smallvec = {{ path = "{registry}/{smallvec}" }}
+"""
+
+
+def header(length):
+    """How many octets the header of a SEQUENCE with such a content has."""
+    return 2 if length < 128 else 2 + (length.bit_length() + 7) // 8
+
+
+def deep(levels):
+    """How many octets so many SEQUENCEs in each other have."""
+    length = 0
+    for _ in range(levels):
+        length += header(length)
+    return length
+
+
+def answers(size):
+    """Of each reading the octets that there are to read, and what is told of them."""
+    small = 3 * size + header(3 * size)
+    nested = deep(size)
+    return {
+        "take_opt_u64": (small, sum(number % 128 for number in range(size))),
+        "skip_one": (small, size),
+        "skip": (nested, size),
+        "capture_one": (nested, nested),
+    }
+
+
+def write(path, text):
+    with open(path, "w") as file:
+        file.write(text)
+
+
+def make(folder):
+    """Makes the repository, or brings the one that is there up to date."""
+    for library in LIBRARIES:
+        for part in ("src", "specs", "proofs", "out"):
+            if os.path.isdir(os.path.join(CRATES, library, part)):
+                shutil.copytree(
+                    os.path.join(CRATES, library, part),
+                    os.path.join(folder, "crates", library, part),
+                    dirs_exist_ok=True,
+                )
+    source = os.path.join(folder, "crates", NAME, "src")
+    os.makedirs(source, exist_ok=True)
+    shutil.copy(os.path.join(BENCH, "content.rt.in"), os.path.join(source, "main.rt"))
+    needs = ("bcder_source: bytes", "bcder_content: bcder_source bytes smallvec", f"{NAME}: bcder_content bcder_source")
+    write(os.path.join(folder, "crates.txt"), "".join(f"{line}\n" for line in needs))
+    write(os.path.join(folder, "HANDLES"), "Handles allowed: none.\n")
+
+
+def run(command, folder):
+    """Runs a command that has to succeed."""
+    done = subprocess.run(command, cwd=folder, capture_output=True, text=True)
+    if done.returncode != 0:
+        sys.exit(done.stdout + done.stderr)
+
+
+def build(folder):
+    """Proves and builds the program; its path."""
+    crate = os.path.join(folder, "crates", NAME)
+    run(["rt", "run", "--", "1"], crate)
+    return os.path.join(crate, "out", NAME)
+
+
+def build_rust(folder, packages):
+    """Builds the same program in Rust over Debian's crates; its path."""
+    registry = os.path.join(os.path.abspath(packages), "usr", "share", "cargo", "registry")
+    found = {name.rsplit("-", 1)[0]: name for name in os.listdir(registry)}
+    crate = os.path.join(folder, "rust")
+    os.makedirs(os.path.join(crate, "src"), exist_ok=True)
+    write(os.path.join(crate, "Cargo.toml"), CARGO.format(registry=registry, **found))
+    shutil.copy(os.path.join(BENCH, "content.rs.in"), os.path.join(crate, "src", "main.rs"))
+    run(["cargo", "build", "--release", "--offline"], crate)
+    return os.path.join(crate, "target", "release", NAME)
+
+
+def run_once(program, size):
+    """Of each reading the nanoseconds, and the octets read with what was told."""
+    told = subprocess.run([program, str(size)], capture_output=True, text=True, check=True).stdout
+    rows = [line.split() for line in told.splitlines()]
+    return {name: (int(nanos), (int(octets), int(answer))) for name, nanos, octets, answer in rows}
+
+
+def measure(program, size):
+    """Of each reading the octets, the seconds of the best run, and whether all answers were right."""
+    wanted = answers(size)
+    runs = [run_once(program, size) for _ in range(RUNS)]
+    return {
+        name: (
+            wanted[name][0],
+            min(run[name][0] for run in runs) / 1e9,
+            all(run[name][1] == wanted[name] for run in runs),
+        )
+        for name in READINGS
+    }
+
+
+def print_rows(rows, others):
+    """The table; how many targets were missed or answers wrong."""
+    print("| reading      |    values |    MB |     ms | MB/s | growth | bcder, ms | ratio |")
+    print("|---|---:|---:|---:|---:|---|---:|---:|")
+    failures = 0
+    for name in READINGS:
+        before = None
+        for size in SIZES:
+            octets, seconds, right = rows[size][name]
+            factor = seconds / before if before else None
+            missed = factor is not None and factor > MOST_GROWTH
+            note = f"x {factor:.2f}{' MISSED' if missed else ''}" if factor else ""
+            note += "" if right else " WRONG ANSWER"
+            other = others[size][name][1] if others else None
+            beside = f"{other * 1e3:.1f} | {seconds / other:.2f}" if other else " | "
+            print(
+                f"| {name:<12} | {size:>9,} | {octets / 1e6:>5.2f} | {seconds * 1e3:>6.1f} "
+                f"| {octets / seconds / 1e6:>4.0f} | {note} | {beside} |"
+            )
+            failures += missed + (not right)
+            before = seconds
+    return failures
+
+
+def bench(folder, packages):
+    """Makes, builds and measures; how many targets were missed or answers wrong."""
+    make(folder)
+    program = build(folder)
+    others = None
+    if packages is not None:
+        rust = build_rust(folder, packages)
+        others = {size: measure(rust, size) for size in SIZES}
+    return print_rows({size: measure(program, size) for size in SIZES}, others)
+
+
+def main():
+    if len(sys.argv) > 3:
+        sys.exit("usage: content.py [FOLDER [BCDER]]")
+    packages = sys.argv[2] if len(sys.argv) == 3 else None
+    if len(sys.argv) > 1:
+        failures = bench(sys.argv[1], packages)
+    else:
+        with tempfile.TemporaryDirectory() as folder:
+            failures = bench(folder, packages)
+    print(f"{failures} targets missed or answers wrong" if failures else "all targets met")
+    sys.exit(1 if failures else 0)
+
+
+if __name__ == "__main__":
+    main()

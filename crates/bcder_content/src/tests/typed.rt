@@ -1,0 +1,218 @@
+//! Cases from outside for the simple types: truths, values by their tags, and sources that fail or end early.
+
+use super::support::{Faulty, MODES, Refusal, Values, told, values};
+use crate::{Constructed, Decode, Primitive};
+use bcder_source::{ContentError, DecodeError, LimitedSource, Mode, Pos, SliceSource, Source};
+use std::test::Fail;
+
+// A primitive content of so many octets of a source.
+fn content_of<S: Source>(source: S, limit: usize) -> Primitive<S> {
+    Primitive {
+        source: LimitedSource {
+            source,
+            limit: Some(limit),
+        },
+        mode: Mode::Ber,
+        failed: false,
+        start: Pos::from(0),
+    }
+}
+
+// Four octets, of which two can be read.
+fn faulty(limit: usize) -> Primitive<Faulty<'static>> {
+    content_of(Faulty::new(b"\x01\x02\x03\x04", 2), limit)
+}
+
+#[test]
+fn a_source_that_fails_is_told(rt: HostRuntime) {
+    assert_eq!(rt; told(faulty(4).to_u32()), "fault");
+    assert_eq!(rt; told(faulty(4).take_all(rt.alloc())), "fault");
+    assert_eq!(rt; told(faulty(4).skip_all()), "fault");
+    assert_eq!(rt; faulty(2).to_u16().ok(), Some(258));
+}
+
+#[test]
+fn a_content_stays_failed(rt: HostRuntime) {
+    let mut content = faulty(4);
+    assert_eq!(rt; told(content.to_u32()), "fault");
+    assert_eq!(rt; told(content.to_u32()), "refused");
+    assert_eq!(rt; told(content.take_all(rt.alloc())), "refused");
+    assert_eq!(rt; told(content.skip_all()), "refused");
+}
+
+// Two octets, where four are said to be.
+fn ended() -> Primitive<SliceSource<'static>> {
+    content_of(SliceSource::new(b"\x01\x02"), 4)
+}
+
+#[test]
+fn a_source_that_ends_early_is_refused(rt: HostRuntime) {
+    let mut content = ended();
+    assert_eq!(rt; content.remaining(), 4);
+    assert_eq!(rt; told(content.to_u32()), "refused");
+    assert_eq!(rt; told(content.to_bool()), "refused");
+    assert_eq!(rt; told(ended().take_all(rt.alloc())), "refused");
+    let mut content = ended();
+    assert_eq!(rt; told(content.skip_all()), "refused");
+    assert_eq!(rt; told(content.to_null()), "refused");
+}
+
+#[test]
+fn octets_are_taken_one_by_one_and_all(rt: HostRuntime) -> Result<(), Fail> {
+    let mut content = content_of(SliceSource::new(b"\x05\x06\x07\x08\x09"), 4);
+    content.set_mode(Mode::Cer);
+    assert_eq!(rt; content.mode(), Mode::Cer);
+    assert_eq!(rt; content.take_u8()?, 5);
+    assert_eq!(rt; content.remaining(), 3);
+    assert_eq!(rt; content.skip(1).ok(), Some(1));
+    assert_eq!(rt; content.take_all(rt.alloc())?.as_slice(), [7, 8].as_slice());
+    assert_eq!(rt; content.take_opt_u8().ok(), Some(None));
+    content.to_null()?;
+    Ok(())
+}
+
+// Values, and the truth of a BOOLEAN in BER, and in CER and DER (X.690 8.2.2, 11.1).
+const TRUTHS: [(&[u8], Option<bool>, Option<bool>); 7] = [
+    (b"\x01\x01\x00", Some(false), Some(false)),
+    (b"\x01\x01\x01", Some(true), None),
+    (b"\x01\x01\xfe", Some(true), None),
+    (b"\x01\x01\xff", Some(true), Some(true)),
+    (b"\x01\x00", None, None),
+    (b"\x01\x02\x00\x00", None, None),
+    (b"\x02\x01\x00", None, None),
+];
+
+fn truth(mode: Mode, octets: &[u8]) -> Option<bool> {
+    mode.decode(octets, Constructed::take_bool).ok()
+}
+
+#[test]
+fn truths_are_by_mode(rt: HostRuntime) {
+    for (octets, basic, strict) in &TRUTHS {
+        assert_eq!(rt; truth(Mode::Ber, octets), *basic);
+        assert_eq!(rt; truth(Mode::Cer, octets), *strict);
+        assert_eq!(rt; truth(Mode::Der, octets), *strict);
+    }
+}
+
+// What the number of an INTEGER in front is as each of the types.
+fn taken(mode: Mode, octets: &[u8]) -> [Option<u64>; 4] {
+    [
+        mode.decode(octets, Constructed::take_u8)
+            .ok()
+            .map(u64::from),
+        mode.decode(octets, Constructed::take_u16)
+            .ok()
+            .map(u64::from),
+        mode.decode(octets, Constructed::take_u32)
+            .ok()
+            .map(u64::from),
+        mode.decode(octets, Constructed::take_u64).ok(),
+    ]
+}
+
+fn taken_null(mode: Mode, octets: &[u8]) -> &'static str {
+    told(mode.decode(octets, Constructed::take_null))
+}
+
+#[test]
+fn simple_values_are_taken(rt: HostRuntime) {
+    for mode in MODES {
+        assert_eq!(rt; taken(mode, b"\x02\x02\x00\x05"), [None; 4]);
+        assert_eq!(rt; taken(mode, b"\x02\x01\x05"), [Some(5); 4]);
+        assert_eq!(rt; taken_null(mode, b"\x05\x00"), "read");
+        assert_eq!(rt; taken_null(mode, b"\x05\x01\x00"), "refused");
+    }
+}
+
+// The number of an INTEGER, if one is in front, as each of the types.
+fn taken_if_there(octets: &[u8]) -> Result<[Option<u64>; 3], Refusal> {
+    let mode = Mode::Der;
+    Ok([
+        mode.decode(octets, Constructed::take_opt_u16)?
+            .map(u64::from),
+        mode.decode(octets, Constructed::take_opt_u32)?
+            .map(u64::from),
+        mode.decode(octets, Constructed::take_opt_u64)?,
+    ])
+}
+
+const NUMBER: &[u8] = b"\x02\x02\x01\x00";
+
+const STRING: &[u8] = b"\x04\x00";
+
+#[test]
+fn optional_numbers_are_there_by_their_tag(rt: HostRuntime) -> Result<(), Fail> {
+    assert_eq!(rt; taken_if_there(NUMBER)?, [Some(256); 3]);
+    assert_eq!(rt; taken_if_there(STRING)?, [None; 3]);
+    assert_eq!(rt;
+        told(Mode::Der.decode(NUMBER, Constructed::take_opt_u8)),
+        "refused"
+    );
+    Ok(())
+}
+
+#[test]
+fn optional_values_are_there_by_their_tag(rt: HostRuntime) -> Result<(), Fail> {
+    let mut content = values(Mode::Der, b"\x05\x00\x01\x01\xff\x02\x01\x07");
+    assert_eq!(rt; content.take_opt_bool()?, None);
+    assert_eq!(rt; content.take_opt_null()?, Some(()));
+    assert_eq!(rt; content.take_opt_null()?, None);
+    assert_eq!(rt; content.take_opt_u8()?, None);
+    assert_eq!(rt; content.take_opt_bool()?, Some(true));
+    assert_eq!(rt; content.take_opt_u8()?, Some(7));
+    Ok(())
+}
+
+// Three INTEGERs: 1, 2, 2; and a string.
+const VERSIONS: &[u8] = b"\x02\x01\x01\x02\x01\x02\x02\x01\x02\x04\x00";
+
+#[test]
+fn a_version_is_skipped(rt: HostRuntime) -> Result<(), Fail> {
+    let mut content = values(Mode::Der, VERSIONS);
+    content.skip_u8_if(1)?;
+    content.skip_u8_if(2)?;
+    assert_eq!(rt; content.skip_opt_u8_if(2)?, Some(()));
+    assert_eq!(rt; content.skip_opt_u8_if(2)?, None);
+    assert_eq!(rt; told(content.skip_u8_if(2)), "refused");
+    Ok(())
+}
+
+#[test]
+fn another_version_is_told(rt: HostRuntime) {
+    let wanted = match values(Mode::Der, VERSIONS).skip_u8_if(3) {
+        Err(DecodeError::Content(ContentError::ExpectedInteger(number), _)) => Some(number),
+        _ => None,
+    };
+    assert_eq!(rt; wanted, Some(3));
+    let optional = values(Mode::Der, VERSIONS).skip_opt_u8_if(3);
+    assert_eq!(rt; told(optional), "refused");
+}
+
+// A SEQUENCE with 7 in it, and a SET with 9 in it.
+const BOTH: &[u8] = b"\x30\x03\x02\x01\x07\x31\x03\x02\x01\x09";
+
+fn both() -> Values<'static> {
+    values(Mode::Der, BOTH)
+}
+
+#[test]
+fn sequences_and_sets_are_taken_by_their_tags(rt: HostRuntime) -> Result<(), Fail> {
+    let mut content = both();
+    assert_eq!(rt; content.take_sequence(Constructed::take_u8)?, 7);
+    assert_eq!(rt; content.take_set(Constructed::take_u8)?, 9);
+    assert_eq!(rt; told(both().take_set(Constructed::take_u8)), "refused");
+    let mut set = values(Mode::Der, b"\x31\x03\x02\x01\x09");
+    assert_eq!(rt; told(set.take_sequence(Constructed::take_u8)), "refused");
+    Ok(())
+}
+
+#[test]
+fn optional_sequences_and_sets_are_there_by_their_tags(rt: HostRuntime) -> Result<(), Fail> {
+    let mut content = both();
+    assert_eq!(rt; content.take_opt_set(Constructed::take_u8)?, None);
+    assert_eq!(rt; content.take_opt_sequence(Constructed::take_u8)?, Some(7));
+    assert_eq!(rt; content.take_opt_sequence(Constructed::take_u8)?, None);
+    assert_eq!(rt; content.take_opt_set(Constructed::take_u8)?, Some(9));
+    Ok(())
+}
