@@ -7,3 +7,4 @@ pub mod Wraps
 pub mod Contents
 pub mod Plains
 pub mod Choices
+pub mod Lists

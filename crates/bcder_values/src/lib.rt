@@ -6,6 +6,7 @@ pub mod constructed;
 pub mod error;
 mod frame;
 pub mod header;
+pub mod list;
 pub mod primitive;
 pub mod tuples;
 pub mod values;
