@@ -18,3 +18,6 @@ pub use error::EncodeError;
 pub use header::{total_encoded_len, write_header};
 pub use primitive::{Primitive, PrimitiveContent};
 pub use values::Values;
+
+#[cfg(test)]
+mod tests;
