@@ -9,7 +9,7 @@ use Rattle.bcder_values.specs.Writing.{HasLength, TookFront, WriteRefused}
 use Rattle.bcder_values.specs.Encoded.{WritesBoth, SpellsSome}
 use Rattle.bcder_values.specs.Contents.{ContentRefused}
 
-both_length : {P Q : List ℕ → Type 0} (text : List ℕ) (w : WritesBoth P Q text) → length text ≡ length w.first + length w.second
+pub both_length : {P Q : List ℕ → Type 0} (text : List ℕ) (w : WritesBoth P Q text) → length text ≡ length w.first + length w.second
 both_length text w = ap length w.whole ∙ length-append w.first w.second
 
 -- How many octets both have.

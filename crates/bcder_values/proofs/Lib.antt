@@ -4,3 +4,4 @@ pub mod Compose
 pub mod Wrapping
 pub mod Gathering
 pub mod Returning
+pub mod Lists

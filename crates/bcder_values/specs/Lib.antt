@@ -10,3 +10,4 @@ pub mod Choices
 pub mod Captures
 pub mod Gathered
 pub mod Returns
+pub mod Lists

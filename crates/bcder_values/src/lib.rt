@@ -8,6 +8,7 @@ pub mod error;
 mod frame;
 pub mod header;
 pub mod laws;
+pub mod list;
 pub mod primitive;
 pub mod tuples;
 pub mod values;
@@ -20,3 +21,6 @@ pub use error::EncodeError;
 pub use header::{total_encoded_len, write_header};
 pub use primitive::{Primitive, PrimitiveContent};
 pub use values::Values;
+
+#[cfg(test)]
+mod tests;

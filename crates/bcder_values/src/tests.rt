@@ -1,0 +1,3 @@
+//! Tests of what no clause says: octets as the standards have them.
+
+mod lists;
