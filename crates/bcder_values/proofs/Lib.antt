@@ -2,3 +2,4 @@ pub mod Pieces
 pub mod Headers
 pub mod Compose
 pub mod Wrapping
+pub mod Numbers

@@ -6,4 +6,6 @@ pub mod Frames
 pub mod Wraps
 pub mod Contents
 pub mod Plains
+pub mod Integers
+pub mod Simple
 pub mod Choices
