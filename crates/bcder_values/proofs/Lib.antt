@@ -3,3 +3,4 @@ pub mod Headers
 pub mod Compose
 pub mod Wrapping
 pub mod Numbers
+pub mod Booleans

@@ -1,18 +1,15 @@
-//! BOOLEANs, NULL and octets, as the content of primitive values.
+//! BOOLEANs and NULL, as the content of primitive values.
 
 ghost use Rattle.std.proofs.Common.{rules};
 ghost use Rattle.bcder_tree.specs.declared.mode.Mode.TheVariants.{Der};
 ghost use Rattle.bcder_tree.specs.Tags.{universal};
-ghost use Rattle.bcder_primitive.specs.Values.{IsBoolean, IsNull, AnyOctets};
-ghost use Rattle.bcder_values.specs.Simple.{one_boolean, one_null, one_string};
+ghost use Rattle.bcder_primitive.specs.Values.{IsBoolean, IsNull};
+ghost use Rattle.bcder_values.specs.Simple.{one_boolean, one_null};
 
 use crate::write::write_octets;
 use crate::{EncodeError, PrimitiveContent};
 use bcder_tree::{Mode, Tag};
 use std::io::Write;
-
-// The most octets of a content that four length octets can tell.
-const MAX_LEN: usize = 0xFFFF_FFFF;
 
 /// A BOOLEAN (X.690 8.2): `FF` for true in every mode (11.1).
 impl PrimitiveContent for bool {
@@ -57,56 +54,4 @@ impl PrimitiveContent for () {
     ghost is_tag = { Prim.search rules };
 
     ghost one_content = { λ x m. one_null x };
-}
-
-/// The octets of an OCTET STRING (X.690 8.7), as they are.
-///
-/// `TooLong` where they are more than 2^32 - 1.
-impl PrimitiveContent for &[u8] {
-    const TAG: Tag = Tag::OCTET_STRING;
-
-    ghost TAG = { universal 4 };
-
-    ghost content = { λ x m content. AnyOctets content x.now };
-
-    fn encoded_len(&self, _mode: Mode) -> Result<usize, EncodeError> {
-        let octets = *self;
-        if octets.len() > MAX_LEN {
-            return Err(EncodeError::TooLong);
-        }
-        Ok(octets.len())
-    }
-
-    fn write_encoded<W: Write>(&self, _mode: Mode, target: &mut W) -> Result<(), EncodeError> {
-        let octets = *self;
-        if octets.len() > MAX_LEN {
-            return Err(EncodeError::TooLong);
-        }
-        write_octets(target, octets)
-    }
-
-    ghost is_tag = { Prim.search rules };
-
-    ghost one_content = { λ x m. one_string x.now };
-}
-
-/// The content that another value has.
-impl<P: PrimitiveContent> PrimitiveContent for &P {
-    const TAG: Tag = P::TAG;
-
-    ghost TAG = { P.TAG };
-
-    ghost content = { λ x m. P.content x.now m };
-
-    fn encoded_len(&self, mode: Mode) -> Result<usize, EncodeError> {
-        (**self).encoded_len(mode)
-    }
-
-    fn write_encoded<W: Write>(&self, mode: Mode, target: &mut W) -> Result<(), EncodeError> {
-        (**self).write_encoded(mode, target)
-    }
-
-    ghost is_tag = { P.is_tag };
-
-    ghost one_content = { λ x m. P.one_content x.now m };
 }
