@@ -9,6 +9,7 @@ pub mod header;
 pub mod integers;
 pub mod primitive;
 pub mod simple;
+mod tests;
 pub mod tuples;
 pub mod values;
 mod write;
