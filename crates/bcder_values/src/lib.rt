@@ -19,4 +19,5 @@ pub use constructed::{Constructed, sequence, sequence_as, set, set_as};
 pub use error::EncodeError;
 pub use header::{total_encoded_len, write_header};
 pub use primitive::{Primitive, PrimitiveContent};
+pub use simple::Octets;
 pub use values::Values;

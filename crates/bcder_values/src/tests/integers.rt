@@ -1,6 +1,6 @@
-//! Numbers, BOOLEANs and NULL.
+//! Numbers, BOOLEANs, NULL and octets.
 use super::is_written;
-use crate::{PrimitiveContent, Values};
+use crate::{Octets, PrimitiveContent, Values};
 use bcder_tree::Mode;
 use std::alloc::Global;
 use std::test::Fail;
@@ -187,5 +187,38 @@ fn values_with_their_headers(rt: HostRuntime) -> Result<(), Fail> {
     assert!(rt; is_whole(alloc, &(-129_i32).encode(), b"\x02\x02\xFF\x7F".as_slice())?);
     assert!(rt; is_whole(alloc, &true.encode(), b"\x01\x01\xFF".as_slice())?);
     assert!(rt; is_whole(alloc, &().encode(), b"\x05\x00".as_slice())?);
+    Ok(())
+}
+
+#[test]
+fn octet_strings(rt: HostRuntime) -> Result<(), Fail> {
+    // By hand, after X.690 8.1.3.4, 8.1.3.5 and 8.7.
+    let alloc = rt.alloc();
+    let few = b"\x00\xFF".as_slice();
+    assert!(rt; is_written(alloc, &Octets(few), few)?);
+    assert!(rt; is_whole(alloc, &Octets(few).encode(), b"\x04\x02\x00\xFF".as_slice())?);
+    assert!(rt;
+        is_whole(
+            alloc,
+            &Octets(b"".as_slice()).encode(),
+            b"\x04\x00".as_slice()
+        )?
+    );
+    Ok(())
+}
+
+#[test]
+fn header_of_a_long_slice(rt: HostRuntime) -> Result<(), Fail> {
+    // 300 is 01 2C, in two octets behind 82.
+    let long = [7_u8; 300];
+    let mut octets: Vec<u8> = Vec::new(rt.alloc());
+    let value = Octets(long.as_slice()).encode();
+    value.write_encoded(Mode::Der, &mut octets)?;
+    assert_eq!(rt; octets.len(), 304);
+    assert!(rt;
+        octets
+            .as_slice()
+            .starts_with(b"\x04\x82\x01\x2C\x07".as_slice())
+    );
     Ok(())
 }
