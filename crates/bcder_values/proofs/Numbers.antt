@@ -1,5 +1,5 @@
 -- The octets of numbers in two's complement (X.690 8.3.3), and those in front that only repeat the sign.
-use Rattle.std.proofs.Common.{◌≡◌, ℕ, zero, suc, ◌+◌, ◌-◌, ◌*◌, ◌/◌, ◌%◌, ◌^◌, ◌<◌, ◌≤◌, List, [], ◌∷◌, length, All, get_or, take, drop, refl, sym, ap, ◌∙◌, subst, arith, ◌⊎◌, inl, inr, Option, length-drop}
+use Rattle.std.proofs.Common.{◌≡◌, ℕ, zero, suc, ◌+◌, ◌-◌, ◌*◌, ◌/◌, ◌%◌, ◌^◌, ◌<◌, ◌≤◌, List, [], ◌∷◌, length, All, get_or, take, drop, sym, ap, ◌∙◌, subst, arith, inl, inr, Option, length-drop}
 use Rattle.std.proofs.Math.Nat.{pow-succ'}
 use Rattle.std.proofs.Math.Arith.{mod-mul}
 use Rattle.std.proofs.lemmas.Bool.{cases_lt}
@@ -8,7 +8,7 @@ use mir.Syntax.{Width, w128}
 use Rattle.std.proofs.Math.Facts.{to_z-of_z}
 use Rattle.std.specs.Prelude.{ℤ, pos, negsuc}
 use Rattle.std.specs.Int.{byte_at, bytes_high_first}
-use Rattle.bcder_tree.specs.Integers.{number_behind, number_of, IsShortest}
+use Rattle.bcder_tree.specs.Integers.{number_behind, IsShortest}
 use Rattle.bcder_tree.proofs.Slices.{rest_is}
 use Rattle.bcder_primitive.specs.Values.{IsSigned, IsTwosComplement, IsWithin}
 use Rattle.bcder_primitive.proofs.Numbers.{further}

@@ -1,4 +1,4 @@
-use Rattle.std.proofs.Common.{ℕ, ◌≤◌, length}
+use Rattle.std.proofs.Common.{◌≤◌, length}
 use Rattle.std.specs.Prelude.{ℤ}
 use Rattle.bcder_primitive.specs.Values.{IsTwosComplement}
 use Rattle.bcder_values.proofs.integers.shortest.Given as goal
