@@ -5,3 +5,5 @@ pub mod Wrapping
 pub mod Gathering
 pub mod Returning
 pub mod Lists
+pub mod Numbers
+pub mod Booleans

@@ -6,6 +6,8 @@ pub mod Frames
 pub mod Wraps
 pub mod Contents
 pub mod Plains
+pub mod Integers
+pub mod Simple
 pub mod Choices
 pub mod Captures
 pub mod Gathered

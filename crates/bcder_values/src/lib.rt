@@ -9,7 +9,9 @@ mod frame;
 pub mod header;
 pub mod laws;
 pub mod list;
+pub mod integers;
 pub mod primitive;
+pub mod simple;
 pub mod tuples;
 pub mod values;
 mod write;
@@ -20,6 +22,7 @@ pub use constructed::{Constructed, sequence, sequence_as, set, set_as};
 pub use error::EncodeError;
 pub use header::{total_encoded_len, write_header};
 pub use primitive::{Primitive, PrimitiveContent};
+pub use simple::Octets;
 pub use values::Values;
 
 #[cfg(test)]

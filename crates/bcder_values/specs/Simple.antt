@@ -1,0 +1,14 @@
+-- That BOOLEANs, NULL and octet strings have one content (X.690 8.2, 8.7, 8.8).
+use Rattle.std.proofs.Common.{◌≡◌, Bool, true, false, List, ℕ, [], ◌∷◌, sym, ap, ◌∙◌}
+use Rattle.bcder_tree.specs.declared.mode.Mode.TheVariants.{Der}
+use Rattle.bcder_primitive.specs.Values.{IsBoolean, IsNull, AnyOctets}
+
+pub one_boolean : (x : Bool) (a b : List ℕ) → IsBoolean Der a x → IsBoolean Der b x → a ≡ b
+one_boolean true a b v w = v.whole ∙ ap (λ o. o ∷ []) (v.truth ∙ sym w.truth) ∙ sym w.whole
+one_boolean false a b v w = v.whole ∙ ap (λ o. o ∷ []) (v.truth ∙ sym w.truth) ∙ sym w.whole
+
+pub one_null : (x : Unit {0}) (a b : List ℕ) → IsNull a x → IsNull b x → a ≡ b
+one_null x a b v w = v.empty ∙ sym w.empty
+
+pub one_string : (x a b : List ℕ) → AnyOctets a x → AnyOctets b x → a ≡ b
+one_string x a b v w = v.same ∙ sym w.same

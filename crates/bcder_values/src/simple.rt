@@ -1,0 +1,94 @@
+//! BOOLEANs, NULL and octets, as the content of primitive values.
+
+ghost use Rattle.std.proofs.Common.{rules};
+ghost use Rattle.bcder_tree.specs.declared.mode.Mode.TheVariants.{Der};
+ghost use Rattle.bcder_tree.specs.Tags.{universal};
+ghost use Rattle.bcder_primitive.specs.Values.{IsBoolean, IsNull, AnyOctets};
+ghost use Rattle.bcder_values.specs.Simple.{one_boolean, one_null, one_string};
+
+use crate::write::write_octets;
+use crate::{EncodeError, PrimitiveContent};
+use bcder_tree::{Mode, Tag};
+use std::convert::AsSlice;
+use std::io::Write;
+
+// The most octets of a content that four length octets can tell.
+const MAX_LEN: usize = 0xFFFF_FFFF;
+
+/// A BOOLEAN (X.690 8.2): `FF` for true in every mode (11.1).
+impl PrimitiveContent for bool {
+    const TAG: Tag = Tag::BOOLEAN;
+
+    ghost TAG = { universal 1 };
+
+    ghost content = { λ x m content. IsBoolean Der content x };
+
+    fn encoded_len(&self, _mode: Mode) -> Result<usize, EncodeError> {
+        Ok(1)
+    }
+
+    fn write_encoded<W: Write>(&self, _mode: Mode, target: &mut W) -> Result<(), EncodeError> {
+        if *self {
+            return write_octets(target, &[255]);
+        }
+        write_octets(target, &[0])
+    }
+
+    ghost is_tag = { Prim.search rules };
+
+    ghost one_content = { λ x m. one_boolean x };
+}
+
+/// NULL (X.690 8.8), which has no content octets.
+impl PrimitiveContent for () {
+    const TAG: Tag = Tag::NULL;
+
+    ghost TAG = { universal 5 };
+
+    ghost content = { λ x m content. IsNull content x };
+
+    fn encoded_len(&self, _mode: Mode) -> Result<usize, EncodeError> {
+        Ok(0)
+    }
+
+    fn write_encoded<W: Write>(&self, _mode: Mode, target: &mut W) -> Result<(), EncodeError> {
+        write_octets(target, &[])
+    }
+
+    ghost is_tag = { Prim.search rules };
+
+    ghost one_content = { λ x m. one_null x };
+}
+
+/// The octets of an OCTET STRING (X.690 8.7), as they are: a slice, or what lends one.
+#[derive(Clone, Copy, Debug, PartialEq, Eq, Drop)]
+pub struct Octets<T>(pub T);
+
+/// `TooLong` where the octets are more than 2^32 - 1.
+impl<T: AsSlice<u8>> PrimitiveContent for Octets<T> {
+    const TAG: Tag = Tag::OCTET_STRING;
+
+    ghost TAG = { universal 4 };
+
+    ghost content = { λ x m content. AnyOctets content (T.items x.0) };
+
+    fn encoded_len(&self, _mode: Mode) -> Result<usize, EncodeError> {
+        let octets = self.0.as_slice();
+        if octets.len() > MAX_LEN {
+            return Err(EncodeError::TooLong);
+        }
+        Ok(octets.len())
+    }
+
+    fn write_encoded<W: Write>(&self, _mode: Mode, target: &mut W) -> Result<(), EncodeError> {
+        let octets = self.0.as_slice();
+        if octets.len() > MAX_LEN {
+            return Err(EncodeError::TooLong);
+        }
+        write_octets(target, octets)
+    }
+
+    ghost is_tag = { Prim.search rules };
+
+    ghost one_content = { λ x m. one_string (T.items x.0) };
+}
