@@ -8,12 +8,10 @@ ghost use Rattle.bcder_values.specs.Wraps.{wrapped_spelled, wrapped_one};
 ghost use Rattle.std.specs.Prelude.{◌≡◌};
 
 use crate::frame::{closing_len, opening_len, put_closing, put_opening};
+use crate::header::MAX_LEN;
 use crate::{EncodeError, Values};
 use bcder_tree::{Mode, Tag};
 use std::io::Write;
-
-// The most octets of a content that four length octets can tell.
-const MAX_LEN: usize = 0xFFFF_FFFF;
 
 /// A constructed value (X.690 8.1.2.5) around values: in BER and DER of definite length, in CER of indefinite.
 #[derive(Drop)]

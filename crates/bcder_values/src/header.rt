@@ -12,7 +12,7 @@ use bcder_tree::{Length, Tag};
 use std::io::Write;
 
 // The most octets of a content that four length octets can tell.
-const MAX_LEN: usize = 0xFFFF_FFFF;
+pub(crate) const MAX_LEN: usize = 0xFFFF_FFFF;
 
 // How many octets stand in front of a content.
 pub(crate) fn header_len(tag: Tag, constructed: bool, content_len: usize) -> usize

@@ -6,14 +6,12 @@ ghost use Rattle.bcder_tree.specs.Tags.{universal};
 ghost use Rattle.bcder_primitive.specs.Values.{IsBoolean, IsNull, AnyOctets};
 ghost use Rattle.bcder_values.specs.Simple.{one_boolean, one_null, one_string};
 
+use crate::header::MAX_LEN;
 use crate::write::write_octets;
 use crate::{EncodeError, PrimitiveContent};
 use bcder_tree::{Mode, Tag};
 use std::convert::AsSlice;
 use std::io::Write;
-
-// The most octets of a content that four length octets can tell.
-const MAX_LEN: usize = 0xFFFF_FFFF;
 
 /// A BOOLEAN (X.690 8.2): `FF` for true in every mode (11.1).
 impl PrimitiveContent for bool {
