@@ -59,6 +59,8 @@ impl PrimitiveContent for () {
 }
 
 /// The octets of an OCTET STRING (X.690 8.7), as they are: a slice, or what lends one.
+///
+/// They are primitive in CER, too, where more than 1000 octets should be constructed (9.2).
 #[derive(Clone, Copy, Debug, PartialEq, Eq, Drop)]
 pub struct Octets<T>(pub T);
 
