@@ -3,8 +3,8 @@
 
     content.py [FOLDER [BCDER]]
 
-In FOLDER, or in a temporary folder, a repository of three crates is made: copies of crates/bcder_source and
-crates/bcder_content, with their out/ where they have one, and the program content.rt.in, which `rt run` proves and
+In FOLDER, or in a temporary folder, a repository is made: copies of crates/bcder_content and what
+it stands on, with their out/ where they have one, and the program content.rt.in, which `rt run` proves and
 builds (a quarter of an hour from nothing; a folder that is given is used again). Small values are a SEQUENCE OF
 INTEGERs of one octet each, read by take_opt_u64 and by skip_one; one deep value is as many SEQUENCEs in each other,
 skipped with a visitor and captured. All are read from a slice, in DER. Each size is run ten times, of which the best
@@ -28,7 +28,14 @@ MOST_GROWTH = 2.3
 
 BENCH = os.path.dirname(os.path.abspath(__file__))
 CRATES = os.path.join(BENCH, os.pardir, "crates")
-LIBRARIES = ("bcder_source", "bcder_content")
+# What the program stands on: each library with those below it.
+LIBRARIES = {
+    "bcder_tree": "",
+    "bcder_source": "bcder_tree bytes",
+    "bcder_header": "bcder_source bcder_tree smallvec",
+    "bcder_primitive": "bcder_source bcder_tree bytes",
+    "bcder_content": "bcder_header bcder_primitive bcder_source bcder_tree bytes",
+}
 NAME = "content_bench"
 READINGS = ("take_opt_u64", "skip_one", "skip", "capture_one")
 
@@ -89,8 +96,8 @@ def make(folder):
     source = os.path.join(folder, "crates", NAME, "src")
     os.makedirs(source, exist_ok=True)
     shutil.copy(os.path.join(BENCH, "content.rt.in"), os.path.join(source, "main.rt"))
-    needs = ("bcder_source: bytes", "bcder_content: bcder_source bytes smallvec", f"{NAME}: bcder_content bcder_source")
-    write(os.path.join(folder, "crates.txt"), "".join(f"{line}\n" for line in needs))
+    needs = {**LIBRARIES, NAME: "bcder_content bcder_source"}
+    write(os.path.join(folder, "crates.txt"), "".join(f"{name}: {below}\n" for name, below in needs.items()))
     write(os.path.join(folder, "HANDLES"), "Handles allowed: none.\n")
 
 
