@@ -1,5 +1,6 @@
 //! Cases from outside, and each public call once.
 
+mod captures;
 mod cases;
 mod skip;
 mod support;
