@@ -1,7 +1,7 @@
 //! Numbers, BOOLEANs, NULL and octets.
 use super::is_written;
-use crate::{Octets, PrimitiveContent, Values};
 use bcder_tree::Mode;
+use bcder_values::{Octets, PrimitiveContent, Values};
 use std::alloc::Global;
 use std::test::Fail;
 

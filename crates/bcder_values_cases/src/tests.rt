@@ -1,10 +1,11 @@
 //! Octets that are known from outside.
 
+mod borrowed;
 mod integers;
 mod lists;
 
-use crate::PrimitiveContent;
 use bcder_tree::Mode;
+use bcder_values::PrimitiveContent;
 use std::alloc::Global;
 use std::test::Fail;
 

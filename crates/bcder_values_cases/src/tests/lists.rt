@@ -3,12 +3,11 @@ ghost use Rattle.std.specs.Prelude.{◌≡◌, ◌^◌, ◌≤◌, Some, replica
 ghost use Rattle.std.proofs.Common.{◌∙◌, rules, sym};
 ghost use Rattle.bcder_tree.specs.Tags.{universal};
 
-use crate::write::write_octets;
-use crate::{
-    Choice2, Choice3, EncodeError, Nothing, Primitive, PrimitiveContent, Values, sequence,
-    sequence_as, set,
-};
 use bcder_tree::{Mode, Tag};
+use bcder_values::{
+    Choice2, Choice3, EncodeError, Nothing, Primitive, PrimitiveContent, Values, sequence,
+    sequence_as, set, write_octets,
+};
 use std::alloc::Global;
 use std::io::{self, Write};
 use std::test::Fail;
@@ -22,11 +21,13 @@ struct Few {
 }
 
 impl PrimitiveContent for Few {
-    const TAG: Tag = Tag::OCTET_STRING;
-
-    ghost TAG = { universal 4 };
+    ghost type_tag = { universal 4 };
 
     ghost content = { λ x m text. text ≡ take x.count x.octets };
+
+    fn tag() -> Tag {
+        Tag::OCTET_STRING
+    }
 
     fn encoded_len(&self, _mode: Mode) -> Result<usize, EncodeError> {
         Ok(self.octets[..self.count].len())
@@ -49,11 +50,13 @@ struct Huge {
 }
 
 impl PrimitiveContent for Huge {
-    const TAG: Tag = Tag::OCTET_STRING;
-
-    ghost TAG = { universal 4 };
+    ghost type_tag = { universal 4 };
 
     ghost content = { λ x m text. text ≡ replicate x.count 0 };
+
+    fn tag() -> Tag {
+        Tag::OCTET_STRING
+    }
 
     fn encoded_len(&self, _mode: Mode) -> Result<usize, EncodeError> {
         Err(EncodeError::TooLong)
