@@ -6,8 +6,8 @@ ghost use Rattle.bcder_content.specs.Grammar.{OctetsOf};
 ghost use Rattle.bcder_content.specs.Here.{here};
 ghost use Rattle.bcder_primitive.specs.Values.{IsNull};
 
-use super::support::{Values, told, values};
-use crate::Captured;
+use crate::support::{Refusal, Values, told};
+use bcder_content::{Captured, Decode};
 use bcder_source::Mode;
 use std::alloc::Global;
 use std::test::Fail;
@@ -26,7 +26,8 @@ fn take_part(captured: &mut Captured) -> &'static str {
 
 #[test]
 fn captured_octets_are_read_in_part(rt: HostRuntime) -> Result<(), Fail> {
-    let mut parts = values(Mode::Der, &PARTS).capture_all(rt.alloc())?;
+    let alloc = rt.alloc();
+    let mut parts = Mode::Der.decode(&PARTS[..], |cons| cons.capture_all(alloc))?;
     assert_eq!(rt; take_part(&mut parts), "read");
     assert_eq!(rt; parts.as_slice(), &PARTS[2..]);
     assert_eq!(rt; take_part(&mut parts), "refused");
@@ -45,12 +46,21 @@ fn capture_null(alloc: Global, cons: &mut Values<'_>) -> &'static str {
     ))
 }
 
+// A capture that is refused, the number that stands there, and a capture of nothing.
+fn capture_and_read(
+    alloc: Global,
+    cons: &mut Values<'_>,
+) -> Result<(&'static str, u8, &'static str), Refusal> {
+    let refused = capture_null(alloc, cons);
+    let number = cons.take_u8()?;
+    Ok((refused, number, told(cons.capture_one(alloc))))
+}
+
 #[test]
 fn a_refused_capture_leaves_the_content(rt: HostRuntime) -> Result<(), Fail> {
     let alloc = rt.alloc();
-    let mut cons = values(Mode::Der, &[0x02, 0x01, 0x05]);
-    assert_eq!(rt; capture_null(alloc, &mut cons), "refused");
-    assert_eq!(rt; cons.take_u8()?, 5);
-    assert_eq!(rt; told(cons.capture_one(alloc)), "refused");
+    let octets = [0x02, 0x01, 0x05];
+    let answers = Mode::Der.decode(&octets[..], |cons| capture_and_read(alloc, cons))?;
+    assert_eq!(rt; answers, ("refused", 5, "refused"));
     Ok(())
 }

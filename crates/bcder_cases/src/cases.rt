@@ -1,19 +1,14 @@
 //! The worked cases of the codec's core, by their names.
 ghost use Rattle.bcder_content.specs.Either.{SameContent};
 
-use super::support::{MODES, Refusal, Values, told, values};
-use crate::{Constructed, Content, Decode};
+use crate::support::{MODES, Refusal, Values, told};
+use bcder_content::{Constructed, Content, Decode};
 use bcder_source::{Mode, SliceSource, Tag};
 use std::alloc::Global;
 
 // How skipping the value in front is answered in BER, CER and DER.
 fn skipped(alloc: Global, octets: &[u8]) -> [&'static str; 3] {
-    let [ber, cer, der] = MODES;
-    [
-        told(values(ber, octets).skip_one(alloc)),
-        told(values(cer, octets).skip_one(alloc)),
-        told(values(der, octets).skip_one(alloc)),
-    ]
+    MODES.map(|mode| told(mode.decode(octets, |cons| cons.skip_one(alloc))))
 }
 
 const NOWHERE: [&str; 3] = ["refused"; 3];

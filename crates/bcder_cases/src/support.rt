@@ -1,8 +1,8 @@
-//! What the tests share: answers in a word, contents over any source, and a source that fails.
+//! What the tests share: answers in a word, and a source that fails.
 ghost use Rattle.std.specs.Prelude.{◌^◌, ◌<◌, ◌≤◌, length};
 
-use crate::{Constructed, Ending, Primitive};
-use bcder_source::{DecodeError, IntoSource, LimitedSource, Mode, Pos, SliceSource, Source};
+use bcder_content::Constructed;
+use bcder_source::{DecodeError, Mode, Pos, SliceSource, Source};
 use bytes::Bytes;
 use std::alloc::{AllocError, Global};
 use std::convert::Infallible;
@@ -24,24 +24,6 @@ pub(crate) fn told<T: Drop, E: Drop>(answer: Result<T, DecodeError<E>>) -> &'sta
         Err(DecodeError::Source(_)) => "fault",
         Err(DecodeError::Memory) => "memory",
     }
-}
-
-// The content that is all of a source.
-pub(crate) fn content<S: Source>(mode: Mode, source: S) -> Constructed<S> {
-    Constructed {
-        octets: Primitive {
-            source: LimitedSource::new(source),
-            mode,
-            failed: false,
-            start: Pos::from(0),
-        },
-        end: Ending::Unbounded,
-        constructed: true,
-    }
-}
-
-pub(crate) fn values<'a>(mode: Mode, octets: &'a [u8]) -> Values<'a> {
-    content(mode, octets.into_source())
 }
 
 #[derive(Debug, Drop)]
