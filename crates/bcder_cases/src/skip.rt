@@ -1,8 +1,8 @@
 //! Skipping.
 
-use crate::support::{Faulty, MODES, Refusal, Values, told};
+use crate::support::{MODES, Refusal, Told, Values, told};
+use bcder_content::Decode;
 use bcder_content::skip::skip_value;
-use bcder_content::{Constructed, Decode};
 use bcder_source::{ContentError, IntoSource, LimitedSource, Mode, Tag};
 use std::alloc::{AllocError, Global};
 use std::test::Fail;
@@ -92,7 +92,7 @@ fn a_value_comes_before_those_in_it(rt: HostRuntime) {
             Ok(())
         })
     });
-    assert_eq!(rt; told(answer), "read");
+    assert_eq!(rt; told(answer), Told::Read);
     assert!(rt; right);
     assert_eq!(rt; left.next(), None);
 }
@@ -103,7 +103,7 @@ fn each_cut_is_refused(rt: HostRuntime) {
     for end in 0..11 {
         let cut = &NESTED[..end];
         let answer = Mode::Ber.decode(cut, |cons| cons.skip(alloc, anything));
-        assert_eq!(rt; told(answer), "refused");
+        assert_eq!(rt; told(answer), Told::Refused);
         assert_eq!(rt; left_behind(alloc, Mode::Ber, cut), None);
     }
     assert_eq!(rt; left_behind(alloc, Mode::Ber, &NESTED), Some(0));
@@ -134,7 +134,7 @@ fn a_refusal_has_its_text_and_position(rt: HostRuntime) -> Result<(), Fail> {
 }
 
 // A value that is refused, and each call behind that.
-fn skip_refused(alloc: Global, cons: &mut Values<'_>) -> [&'static str; 5] {
+fn skip_refused(alloc: Global, cons: &mut Values<'_>) -> [Told; 5] {
     [
         told(cons.skip_opt(alloc, no_octets)),
         told(cons.skip_one(alloc)),
@@ -146,13 +146,13 @@ fn skip_refused(alloc: Global, cons: &mut Values<'_>) -> [&'static str; 5] {
 
 #[test]
 fn a_refused_value_fails_the_content(rt: HostRuntime) {
-    let mut answers = ["read"; 5];
+    let mut answers = [Told::Read; 5];
     let whole = Mode::Ber.decode(&NESTED[..], |cons| {
         answers = skip_refused(rt.alloc(), cons);
         Ok(())
     });
-    assert_eq!(rt; answers, ["refused"; 5]);
-    assert_eq!(rt; told(whole), "refused");
+    assert_eq!(rt; answers, [Told::Refused; 5]);
+    assert_eq!(rt; told(whole), Told::Refused);
 }
 
 // BOOLEAN, an empty SEQUENCE, an empty OCTET STRING.
@@ -175,12 +175,12 @@ fn values_are_skipped_to_the_end(rt: HostRuntime) -> Result<(), Fail> {
     let answers = Mode::Der.decode(&THREE[..], |cons| skip_to_the_end(alloc, cons))?;
     assert_eq!(rt; answers, [Some(()), Some(()), None, None]);
     let no_mode = Mode::Cer.decode(&THREE[..], |cons| cons.skip_all(alloc));
-    assert_eq!(rt; told(no_mode), "refused");
+    assert_eq!(rt; told(no_mode), Told::Refused);
     Ok(())
 }
 
 // One value more than there is, and the call behind that.
-fn skip_behind_the_end(alloc: Global, cons: &mut Values<'_>) -> [&'static str; 3] {
+fn skip_behind_the_end(alloc: Global, cons: &mut Values<'_>) -> [Told; 3] {
     [
         told(cons.skip_all(alloc)),
         told(cons.skip(alloc, anything)),
@@ -190,13 +190,13 @@ fn skip_behind_the_end(alloc: Global, cons: &mut Values<'_>) -> [&'static str; 3
 
 #[test]
 fn behind_the_end_there_is_none(rt: HostRuntime) {
-    let mut answers = ["read"; 3];
+    let mut answers = [Told::Read; 3];
     let whole = Mode::Ber.decode(b"".as_slice(), |cons| {
         answers = skip_behind_the_end(rt.alloc(), cons);
         Ok(())
     });
-    assert_eq!(rt; answers, ["read", "refused", "refused"]);
-    assert_eq!(rt; told(whole), "refused");
+    assert_eq!(rt; answers, [Told::Read, Told::Refused, Told::Refused]);
+    assert_eq!(rt; told(whole), Told::Refused);
 }
 
 // A length as it is spelled in DER, the last octet first.
@@ -299,26 +299,4 @@ fn a_million_values_lie_in_each_other(rt: HostRuntime) -> Result<(), Fail> {
     let octets = nested_open(alloc, 1_000_000)?;
     assert_eq!(rt; depth(alloc, Mode::Cer, octets.as_slice()), Some(999_999));
     Ok(())
-}
-
-// A call that the source refuses, and two behind that.
-fn skip_faulty(alloc: Global, cons: &mut Constructed<Faulty<'_>>) -> [&'static str; 3] {
-    [
-        told(cons.skip_opt(alloc, anything)),
-        told(cons.skip_one(alloc)),
-        told(cons.skip_all(alloc)),
-    ]
-}
-
-#[test]
-fn a_fault_of_the_source_is_told_as_such(rt: HostRuntime) {
-    for good in 0..11 {
-        let mut answers = ["read"; 3];
-        let whole = Mode::Ber.decode(Faulty::new(&NESTED, good), |cons| {
-            answers = skip_faulty(rt.alloc(), cons);
-            Ok(())
-        });
-        assert_eq!(rt; answers, ["fault", "refused", "refused"]);
-        assert_eq!(rt; told(whole), "refused");
-    }
 }

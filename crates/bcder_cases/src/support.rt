@@ -1,4 +1,4 @@
-//! What the tests share: answers in a word, and a source that fails.
+//! What the tests share: answers by their kind, and a source that fails.
 ghost use Rattle.std.specs.Prelude.{◌^◌, ◌<◌, ◌≤◌, length};
 
 use bcder_content::Constructed;
@@ -16,13 +16,23 @@ pub(crate) type Refusal = DecodeError<Infallible>;
 
 pub(crate) const MODES: [Mode; 3] = [Mode::Ber, Mode::Cer, Mode::Der];
 
-// How a read was answered: it was made, or the octets, the source or the memory refused it.
-pub(crate) fn told<T: Drop, E: Drop>(answer: Result<T, DecodeError<E>>) -> &'static str {
+// How a read was answered: it was made, or made with another meaning, or the octets, the source or the
+// memory refused it.
+#[derive(Clone, Copy, Debug, PartialEq, Eq)]
+pub(crate) enum Told {
+    Read,
+    Other,
+    Refused,
+    Fault,
+    Memory,
+}
+
+pub(crate) fn told<T: Drop, E: Drop>(answer: Result<T, DecodeError<E>>) -> Told {
     match answer {
-        Ok(_) => "read",
-        Err(DecodeError::Content(_, _)) => "refused",
-        Err(DecodeError::Source(_)) => "fault",
-        Err(DecodeError::Memory) => "memory",
+        Ok(_) => Told::Read,
+        Err(DecodeError::Content(_, _)) => Told::Refused,
+        Err(DecodeError::Source(_)) => Told::Fault,
+        Err(DecodeError::Memory) => Told::Memory,
     }
 }
 

@@ -1,7 +1,7 @@
 //! Values taken by closures, captured, and decoded.
 ghost use Rattle.bcder_content.specs.Either.{SameContent};
 
-use crate::support::{Refusal, Values, told};
+use crate::support::{Refusal, Told, Values, told};
 use bcder_content::{Captured, Content, Decode, Primitive};
 use bcder_source::{ContentError, Mode, SliceSource, Tag};
 use bytes::Bytes;
@@ -109,13 +109,13 @@ fn take_number_in_a_value(cons: &mut Values<'_>) -> Result<(bool, Tag, u8), Refu
 #[test]
 fn a_content_of_the_other_form_is_refused(rt: HostRuntime) {
     let primitive = Mode::Der.decode(&VALUE[2..9], take_null_in_a_number);
-    assert_eq!(rt; told(primitive), "refused");
+    assert_eq!(rt; told(primitive), Told::Refused);
     let constructed = Mode::Der.decode(&VALUE[5..9], take_number_in_a_value);
-    assert_eq!(rt; told(constructed), "refused");
+    assert_eq!(rt; told(constructed), Told::Refused);
 }
 
 // All values are skipped; memory is wanted for none of these.
-fn skip_values(alloc: Global, mode: Mode, tag: Tag) -> &'static str {
+fn skip_values(alloc: Global, mode: Mode, tag: Tag) -> Told {
     told(mode.decode(&VALUE[..], |cons| {
         cons.take_constructed_if(tag, |cons| cons.skip_all(alloc))
     }))
@@ -124,19 +124,19 @@ fn skip_values(alloc: Global, mode: Mode, tag: Tag) -> &'static str {
 #[test]
 fn a_value_has_its_tag_form_and_mode(rt: HostRuntime) {
     let alloc = rt.alloc();
-    assert_eq!(rt; skip_values(alloc, Mode::Der, Tag::SEQUENCE), "read");
-    assert_eq!(rt; skip_values(alloc, Mode::Der, Tag::SET), "refused");
-    assert_eq!(rt; skip_values(alloc, Mode::Cer, Tag::SEQUENCE), "refused");
+    assert_eq!(rt; skip_values(alloc, Mode::Der, Tag::SEQUENCE), Told::Read);
+    assert_eq!(rt; skip_values(alloc, Mode::Der, Tag::SET), Told::Refused);
+    assert_eq!(rt; skip_values(alloc, Mode::Cer, Tag::SEQUENCE), Told::Refused);
     let octets = Mode::Der.decode(&VALUE[..], |cons| {
         cons.take_primitive_if(Tag::SEQUENCE, |prim| prim.skip_all())
     });
-    assert_eq!(rt; told(octets), "refused");
+    assert_eq!(rt; told(octets), Told::Refused);
 }
 
 #[test]
 fn what_is_left_unread_is_refused(rt: HostRuntime) {
     let unread = Mode::Der.decode(&VALUE[..], |cons| cons.take_sequence(|cons| cons.take_u8()));
-    assert_eq!(rt; told(unread), "refused");
+    assert_eq!(rt; told(unread), Told::Refused);
 }
 
 // A refused read, and then an answer all the same.
@@ -153,8 +153,14 @@ fn read_again(cons: &mut Values<'_>) -> Result<u8, Refusal> {
 
 #[test]
 fn a_refusal_that_is_passed_over_still_refuses(rt: HostRuntime) {
-    assert_eq!(rt; told(Mode::Der.decode(&VALUE[..], pass_over)), "refused");
-    assert_eq!(rt; told(Mode::Der.decode(&VALUE[2..5], read_again)), "refused");
+    assert_eq!(rt;
+        told(Mode::Der.decode(&VALUE[..], pass_over)),
+        Told::Refused
+    );
+    assert_eq!(rt;
+        told(Mode::Der.decode(&VALUE[2..5], read_again)),
+        Told::Refused
+    );
 }
 
 // The first value of a sequence, and all others.
