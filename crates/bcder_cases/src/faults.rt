@@ -2,7 +2,7 @@
 ghost use Rattle.std.specs.Prelude.{◌^◌, ◌<◌, ◌≤◌, length};
 ghost use Rattle.bcder_content.specs.Either.{SameContent};
 
-use crate::support::{Fault, Told, told};
+use crate::support::{Answer, Fault, told};
 use bcder_content::{Captured, Constructed, Content, Decode, Primitive};
 use bcder_source::{ContentError, DecodeError, Mode, Pos, Source, Tag};
 use bytes::Bytes;
@@ -96,13 +96,13 @@ type Refusal = DecodeError<Fault>;
 // A call that reads.
 trait Call {
     // How the call is answered.
-    fn make(&self, cons: &mut Values) -> Told;
+    fn make(&self, cons: &mut Values) -> Answer;
 }
 
 // How a call is answered, and then again, where the source fails at one request.
-fn answers<C: Call>(octets: &'static [u8], before: usize, call: &C) -> (Told, Told) {
-    let mut first = Told::Other;
-    let mut second = Told::Other;
+fn answers<C: Call>(octets: &'static [u8], before: usize, call: &C) -> (Answer, Answer) {
+    let mut first = Answer::Other;
+    let mut second = Answer::Other;
     let _ = Mode::Ber.decode(Failing::at(octets, before), |cons| {
         first = call.make(cons);
         second = call.make(cons);
@@ -113,13 +113,13 @@ fn answers<C: Call>(octets: &'static [u8], before: usize, call: &C) -> (Told, To
 
 // Whether each request that a call makes, and there is one, is told as a fault where it fails, and the call
 // behind that is answered so.
-fn fails_in_turn<C: Call>(octets: &'static [u8], then: Told, call: &C) -> bool {
+fn fails_in_turn<C: Call>(octets: &'static [u8], then: Answer, call: &C) -> bool {
     for before in 0usize..64 {
         let (first, second) = answers(octets, before, call);
-        if first == Told::Read {
+        if first == Answer::Read {
             return before > 0;
         }
-        if first != Told::Fault || second != then {
+        if first != Answer::Fault || second != then {
             return false;
         }
     }
@@ -128,7 +128,7 @@ fn fails_in_turn<C: Call>(octets: &'static [u8], then: Told, call: &C) -> bool {
 
 // A read fails, and leaves its content failed.
 fn fails<C: Call>(octets: &'static [u8], call: &C) -> bool {
-    fails_in_turn(octets, Told::Refused, call)
+    fails_in_turn(octets, Answer::Refused, call)
 }
 
 // A SEQUENCE and a SET of indefinite length with a NULL in it.
@@ -152,7 +152,7 @@ enum Number {
 }
 
 impl Call for Number {
-    fn make(&self, cons: &mut Values) -> Told {
+    fn make(&self, cons: &mut Values) -> Answer {
         match self {
             Number::U8 => told(cons.take_u8()),
             Number::U16 => told(cons.take_u16()),
@@ -173,7 +173,7 @@ enum OptNumber {
 }
 
 impl Call for OptNumber {
-    fn make(&self, cons: &mut Values) -> Told {
+    fn make(&self, cons: &mut Values) -> Answer {
         match self {
             OptNumber::U8 => told(cons.take_opt_u8()),
             OptNumber::U16 => told(cons.take_opt_u16()),
@@ -211,7 +211,7 @@ enum Simple {
 }
 
 impl Call for Simple {
-    fn make(&self, cons: &mut Values) -> Told {
+    fn make(&self, cons: &mut Values) -> Answer {
         match self {
             Simple::Truth => told(cons.take_bool()),
             Simple::OptTruth => told(cons.take_opt_bool()),
@@ -246,7 +246,7 @@ fn no_octets(_: Tag, prim: &mut Primitive<Failing>) -> Result<(), Refusal> {
 }
 
 impl Call for Octets {
-    fn make(&self, cons: &mut Values) -> Told {
+    fn make(&self, cons: &mut Values) -> Answer {
         match &self.0 {
             Way::Tagged => told(cons.take_primitive_if(Tag::NULL, Primitive::to_null)),
             Way::OptTagged => told(cons.take_opt_primitive_if(Tag::NULL, Primitive::to_null)),
@@ -272,7 +272,7 @@ fn null_behind(_: Tag, cons: &mut Values) -> Result<(), Refusal> {
 }
 
 impl Call for Inner {
-    fn make(&self, cons: &mut Values) -> Told {
+    fn make(&self, cons: &mut Values) -> Answer {
         match &self.0 {
             Way::Tagged => told(cons.take_constructed_if(Tag::SEQUENCE, Constructed::take_null)),
             Way::OptTagged => {
@@ -308,7 +308,7 @@ fn null_of(_: Tag, content: &mut Content<'_, Failing>) -> Result<(), Refusal>
 }
 
 impl Call for Either {
-    fn make(&self, cons: &mut Values) -> Told {
+    fn make(&self, cons: &mut Values) -> Answer {
         match &self.0 {
             Way::Tagged => told(cons.take_value_if(Tag::SEQUENCE, null_in)),
             Way::OptTagged => told(cons.take_opt_value_if(Tag::SEQUENCE, null_in)),
@@ -335,7 +335,7 @@ enum Named {
 }
 
 impl Call for Named {
-    fn make(&self, cons: &mut Values) -> Told {
+    fn make(&self, cons: &mut Values) -> Answer {
         match self {
             Named::Sequence => told(cons.take_sequence(Constructed::take_null)),
             Named::OptSequence => told(cons.take_opt_sequence(Constructed::take_null)),
@@ -369,7 +369,7 @@ fn anything(_: Tag, _: bool, _: usize) -> Result<(), ContentError> {
 }
 
 impl Call for Skip {
-    fn make(&self, cons: &mut Values) -> Told {
+    fn make(&self, cons: &mut Values) -> Answer {
         let alloc = self.1;
         match &self.0 {
             How::Opt => told(cons.skip_opt(alloc, anything)),
@@ -390,10 +390,10 @@ fn skipped_values(rt: HostRuntime) {
 }
 
 // How a capture is answered: it was made where it has the octets of the whole sequence.
-fn captured(answer: Result<Captured, Refusal>) -> Told {
+fn captured(answer: Result<Captured, Refusal>) -> Answer {
     match answer {
-        Ok(captured) if captured.as_slice() == SEQUENCE.as_slice() => Told::Read,
-        Ok(_) => Told::Other,
+        Ok(captured) if captured.as_slice() == SEQUENCE.as_slice() => Answer::Read,
+        Ok(_) => Answer::Other,
         Err(error) => told(Err::<(), Refusal>(error)),
     }
 }
@@ -409,7 +409,7 @@ enum Extent {
 struct Capture(Extent, Global);
 
 impl Call for Capture {
-    fn make(&self, cons: &mut Values) -> Told {
+    fn make(&self, cons: &mut Values) -> Answer {
         let alloc = self.1;
         match &self.0 {
             Extent::Some => captured(cons.capture(alloc, |cons| cons.skip_all(alloc))),
@@ -423,15 +423,15 @@ impl Call for Capture {
 #[test]
 fn a_refused_request_leaves_what_is_captured(rt: HostRuntime) {
     let alloc = rt.alloc();
-    assert!(rt; fails_in_turn(&SEQUENCE, Told::Read, &Capture(Extent::Some, alloc)));
-    assert!(rt; fails_in_turn(&SEQUENCE, Told::Read, &Capture(Extent::One, alloc)));
-    assert!(rt; fails_in_turn(&SEQUENCE, Told::Read, &Capture(Extent::All, alloc)));
+    assert!(rt; fails_in_turn(&SEQUENCE, Answer::Read, &Capture(Extent::Some, alloc)));
+    assert!(rt; fails_in_turn(&SEQUENCE, Answer::Read, &Capture(Extent::One, alloc)));
+    assert!(rt; fails_in_turn(&SEQUENCE, Answer::Read, &Capture(Extent::All, alloc)));
 }
 
 // How a call is answered, first while there is no memory, and then when there is.
-fn dry_answers<C: Call>(octets: &'static [u8], call: &C) -> (Told, Told) {
-    let mut first = Told::Other;
-    let mut last = Told::Other;
+fn dry_answers<C: Call>(octets: &'static [u8], call: &C) -> (Answer, Answer) {
+    let mut first = Answer::Other;
+    let mut last = Answer::Other;
     let _ = Mode::Ber.decode(Failing::dry(octets, 20), |cons| {
         first = call.make(cons);
         last = last_answer(call, cons);
@@ -441,32 +441,32 @@ fn dry_answers<C: Call>(octets: &'static [u8], call: &C) -> (Told, Told) {
 }
 
 // How a call is answered when there is memory.
-fn last_answer<C: Call>(call: &C, cons: &mut Values) -> Told {
+fn last_answer<C: Call>(call: &C, cons: &mut Values) -> Answer {
     for _ in 0..20 {
         let answer = call.make(cons);
-        if answer != Told::Memory {
+        if answer != Answer::Memory {
             return answer;
         }
     }
-    Told::Memory
+    Answer::Memory
 }
 
 #[test]
 fn want_of_memory_leaves_what_is_captured(rt: HostRuntime) {
     let alloc = rt.alloc();
     let some = dry_answers(&SEQUENCE, &Capture(Extent::Some, alloc));
-    assert_eq!(rt; some, (Told::Memory, Told::Read));
+    assert_eq!(rt; some, (Answer::Memory, Answer::Read));
     let one = dry_answers(&SEQUENCE, &Capture(Extent::One, alloc));
-    assert_eq!(rt; one, (Told::Memory, Told::Read));
+    assert_eq!(rt; one, (Answer::Memory, Answer::Read));
     let all = dry_answers(&SEQUENCE, &Capture(Extent::All, alloc));
-    assert_eq!(rt; all, (Told::Memory, Told::Read));
+    assert_eq!(rt; all, (Answer::Memory, Answer::Read));
 }
 
 #[derive(Drop)]
 struct TakeAll(Global);
 
 impl Call for TakeAll {
-    fn make(&self, cons: &mut Values) -> Told {
+    fn make(&self, cons: &mut Values) -> Answer {
         let alloc = self.0;
         told(cons.take_primitive_if(Tag::INTEGER, |prim| prim.take_all(alloc)))
     }
@@ -475,5 +475,5 @@ impl Call for TakeAll {
 #[test]
 fn octets_that_there_is_no_memory_for(rt: HostRuntime) {
     let octets = dry_answers(&INTEGER, &TakeAll(rt.alloc()));
-    assert_eq!(rt; octets, (Told::Memory, Told::Refused));
+    assert_eq!(rt; octets, (Answer::Memory, Answer::Refused));
 }

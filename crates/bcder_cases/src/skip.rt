@@ -1,6 +1,6 @@
 //! Skipping.
 
-use crate::support::{MODES, Refusal, Told, Values, told};
+use crate::support::{Answer, MODES, Refusal, Values, told};
 use bcder_content::Decode;
 use bcder_content::skip::skip_value;
 use bcder_source::{ContentError, IntoSource, LimitedSource, Mode, Tag};
@@ -92,7 +92,7 @@ fn a_value_comes_before_those_in_it(rt: HostRuntime) {
             Ok(())
         })
     });
-    assert_eq!(rt; told(answer), Told::Read);
+    assert_eq!(rt; told(answer), Answer::Read);
     assert!(rt; right);
     assert_eq!(rt; left.next(), None);
 }
@@ -103,7 +103,7 @@ fn each_cut_is_refused(rt: HostRuntime) {
     for end in 0..11 {
         let cut = &NESTED[..end];
         let answer = Mode::Ber.decode(cut, |cons| cons.skip(alloc, anything));
-        assert_eq!(rt; told(answer), Told::Refused);
+        assert_eq!(rt; told(answer), Answer::Refused);
         assert_eq!(rt; left_behind(alloc, Mode::Ber, cut), None);
     }
     assert_eq!(rt; left_behind(alloc, Mode::Ber, &NESTED), Some(0));
@@ -134,7 +134,7 @@ fn a_refusal_has_its_text_and_position(rt: HostRuntime) -> Result<(), Fail> {
 }
 
 // A value that is refused, and each call behind that.
-fn skip_refused(alloc: Global, cons: &mut Values<'_>) -> [Told; 5] {
+fn skip_refused(alloc: Global, cons: &mut Values<'_>) -> [Answer; 5] {
     [
         told(cons.skip_opt(alloc, no_octets)),
         told(cons.skip_one(alloc)),
@@ -146,13 +146,13 @@ fn skip_refused(alloc: Global, cons: &mut Values<'_>) -> [Told; 5] {
 
 #[test]
 fn a_refused_value_fails_the_content(rt: HostRuntime) {
-    let mut answers = [Told::Read; 5];
+    let mut answers = [Answer::Read; 5];
     let whole = Mode::Ber.decode(&NESTED[..], |cons| {
         answers = skip_refused(rt.alloc(), cons);
         Ok(())
     });
-    assert_eq!(rt; answers, [Told::Refused; 5]);
-    assert_eq!(rt; told(whole), Told::Refused);
+    assert_eq!(rt; answers, [Answer::Refused; 5]);
+    assert_eq!(rt; told(whole), Answer::Refused);
 }
 
 // BOOLEAN, an empty SEQUENCE, an empty OCTET STRING.
@@ -175,12 +175,12 @@ fn values_are_skipped_to_the_end(rt: HostRuntime) -> Result<(), Fail> {
     let answers = Mode::Der.decode(&THREE[..], |cons| skip_to_the_end(alloc, cons))?;
     assert_eq!(rt; answers, [Some(()), Some(()), None, None]);
     let no_mode = Mode::Cer.decode(&THREE[..], |cons| cons.skip_all(alloc));
-    assert_eq!(rt; told(no_mode), Told::Refused);
+    assert_eq!(rt; told(no_mode), Answer::Refused);
     Ok(())
 }
 
 // One value more than there is, and the call behind that.
-fn skip_behind_the_end(alloc: Global, cons: &mut Values<'_>) -> [Told; 3] {
+fn skip_behind_the_end(alloc: Global, cons: &mut Values<'_>) -> [Answer; 3] {
     [
         told(cons.skip_all(alloc)),
         told(cons.skip(alloc, anything)),
@@ -190,13 +190,13 @@ fn skip_behind_the_end(alloc: Global, cons: &mut Values<'_>) -> [Told; 3] {
 
 #[test]
 fn behind_the_end_there_is_none(rt: HostRuntime) {
-    let mut answers = [Told::Read; 3];
+    let mut answers = [Answer::Read; 3];
     let whole = Mode::Ber.decode(b"".as_slice(), |cons| {
         answers = skip_behind_the_end(rt.alloc(), cons);
         Ok(())
     });
-    assert_eq!(rt; answers, [Told::Read, Told::Refused, Told::Refused]);
-    assert_eq!(rt; told(whole), Told::Refused);
+    assert_eq!(rt; answers, [Answer::Read, Answer::Refused, Answer::Refused]);
+    assert_eq!(rt; told(whole), Answer::Refused);
 }
 
 // A length as it is spelled in DER, the last octet first.

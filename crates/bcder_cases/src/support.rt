@@ -19,7 +19,7 @@ pub(crate) const MODES: [Mode; 3] = [Mode::Ber, Mode::Cer, Mode::Der];
 // How a read was answered: it was made, or made with another meaning, or the octets, the source or the
 // memory refused it.
 #[derive(Clone, Copy, Debug, PartialEq, Eq)]
-pub(crate) enum Told {
+pub(crate) enum Answer {
     Read,
     Other,
     Refused,
@@ -27,12 +27,12 @@ pub(crate) enum Told {
     Memory,
 }
 
-pub(crate) fn told<T: Drop, E: Drop>(answer: Result<T, DecodeError<E>>) -> Told {
+pub(crate) fn told<T: Drop, E: Drop>(answer: Result<T, DecodeError<E>>) -> Answer {
     match answer {
-        Ok(_) => Told::Read,
-        Err(DecodeError::Content(_, _)) => Told::Refused,
-        Err(DecodeError::Source(_)) => Told::Fault,
-        Err(DecodeError::Memory) => Told::Memory,
+        Ok(_) => Answer::Read,
+        Err(DecodeError::Content(_, _)) => Answer::Refused,
+        Err(DecodeError::Source(_)) => Answer::Fault,
+        Err(DecodeError::Memory) => Answer::Memory,
     }
 }
 

@@ -1,7 +1,7 @@
 //! Values taken by closures, captured, and decoded.
 ghost use Rattle.bcder_content.specs.Either.{SameContent};
 
-use crate::support::{Refusal, Told, Values, told};
+use crate::support::{Answer, Refusal, Values, told};
 use bcder_content::{Captured, Content, Decode, Primitive};
 use bcder_source::{ContentError, Mode, SliceSource, Tag};
 use bytes::Bytes;
@@ -109,13 +109,13 @@ fn take_number_in_a_value(cons: &mut Values<'_>) -> Result<(bool, Tag, u8), Refu
 #[test]
 fn a_content_of_the_other_form_is_refused(rt: HostRuntime) {
     let primitive = Mode::Der.decode(&VALUE[2..9], take_null_in_a_number);
-    assert_eq!(rt; told(primitive), Told::Refused);
+    assert_eq!(rt; told(primitive), Answer::Refused);
     let constructed = Mode::Der.decode(&VALUE[5..9], take_number_in_a_value);
-    assert_eq!(rt; told(constructed), Told::Refused);
+    assert_eq!(rt; told(constructed), Answer::Refused);
 }
 
 // All values are skipped; memory is wanted for none of these.
-fn skip_values(alloc: Global, mode: Mode, tag: Tag) -> Told {
+fn skip_values(alloc: Global, mode: Mode, tag: Tag) -> Answer {
     told(mode.decode(&VALUE[..], |cons| {
         cons.take_constructed_if(tag, |cons| cons.skip_all(alloc))
     }))
@@ -124,19 +124,22 @@ fn skip_values(alloc: Global, mode: Mode, tag: Tag) -> Told {
 #[test]
 fn a_value_has_its_tag_form_and_mode(rt: HostRuntime) {
     let alloc = rt.alloc();
-    assert_eq!(rt; skip_values(alloc, Mode::Der, Tag::SEQUENCE), Told::Read);
-    assert_eq!(rt; skip_values(alloc, Mode::Der, Tag::SET), Told::Refused);
-    assert_eq!(rt; skip_values(alloc, Mode::Cer, Tag::SEQUENCE), Told::Refused);
+    assert_eq!(rt; skip_values(alloc, Mode::Der, Tag::SEQUENCE), Answer::Read);
+    assert_eq!(rt; skip_values(alloc, Mode::Der, Tag::SET), Answer::Refused);
+    assert_eq!(rt;
+        skip_values(alloc, Mode::Cer, Tag::SEQUENCE),
+        Answer::Refused
+    );
     let octets = Mode::Der.decode(&VALUE[..], |cons| {
         cons.take_primitive_if(Tag::SEQUENCE, |prim| prim.skip_all())
     });
-    assert_eq!(rt; told(octets), Told::Refused);
+    assert_eq!(rt; told(octets), Answer::Refused);
 }
 
 #[test]
 fn what_is_left_unread_is_refused(rt: HostRuntime) {
     let unread = Mode::Der.decode(&VALUE[..], |cons| cons.take_sequence(|cons| cons.take_u8()));
-    assert_eq!(rt; told(unread), Told::Refused);
+    assert_eq!(rt; told(unread), Answer::Refused);
 }
 
 // A refused read, and then an answer all the same.
@@ -155,11 +158,11 @@ fn read_again(cons: &mut Values<'_>) -> Result<u8, Refusal> {
 fn a_refusal_that_is_passed_over_still_refuses(rt: HostRuntime) {
     assert_eq!(rt;
         told(Mode::Der.decode(&VALUE[..], pass_over)),
-        Told::Refused
+        Answer::Refused
     );
     assert_eq!(rt;
         told(Mode::Der.decode(&VALUE[2..5], read_again)),
-        Told::Refused
+        Answer::Refused
     );
 }
 

@@ -1,6 +1,6 @@
 //! Cases from outside for the simple types: truths, values by their tags, and sources that fail or end early.
 
-use crate::support::{Faulty, MODES, Refusal, Told, Values, told};
+use crate::support::{Answer, Faulty, MODES, Refusal, Values, told};
 use bcder_content::{Constructed, Decode, Primitive};
 use bcder_source::{ContentError, DecodeError, LimitedSource, Mode, Pos, SliceSource, Source};
 use std::test::Fail;
@@ -25,19 +25,19 @@ fn faulty(limit: usize) -> Primitive<Faulty<'static>> {
 
 #[test]
 fn a_source_that_fails_is_told(rt: HostRuntime) {
-    assert_eq!(rt; told(faulty(4).to_u32()), Told::Fault);
-    assert_eq!(rt; told(faulty(4).take_all(rt.alloc())), Told::Fault);
-    assert_eq!(rt; told(faulty(4).skip_all()), Told::Fault);
+    assert_eq!(rt; told(faulty(4).to_u32()), Answer::Fault);
+    assert_eq!(rt; told(faulty(4).take_all(rt.alloc())), Answer::Fault);
+    assert_eq!(rt; told(faulty(4).skip_all()), Answer::Fault);
     assert_eq!(rt; faulty(2).to_u16().ok(), Some(258));
 }
 
 #[test]
 fn a_content_stays_failed(rt: HostRuntime) {
     let mut content = faulty(4);
-    assert_eq!(rt; told(content.to_u32()), Told::Fault);
-    assert_eq!(rt; told(content.to_u32()), Told::Refused);
-    assert_eq!(rt; told(content.take_all(rt.alloc())), Told::Refused);
-    assert_eq!(rt; told(content.skip_all()), Told::Refused);
+    assert_eq!(rt; told(content.to_u32()), Answer::Fault);
+    assert_eq!(rt; told(content.to_u32()), Answer::Refused);
+    assert_eq!(rt; told(content.take_all(rt.alloc())), Answer::Refused);
+    assert_eq!(rt; told(content.skip_all()), Answer::Refused);
 }
 
 // Two octets, where four are said to be.
@@ -49,12 +49,12 @@ fn ended() -> Primitive<SliceSource<'static>> {
 fn a_source_that_ends_early_is_refused(rt: HostRuntime) {
     let mut content = ended();
     assert_eq!(rt; content.remaining(), 4);
-    assert_eq!(rt; told(content.to_u32()), Told::Refused);
-    assert_eq!(rt; told(content.to_bool()), Told::Refused);
-    assert_eq!(rt; told(ended().take_all(rt.alloc())), Told::Refused);
+    assert_eq!(rt; told(content.to_u32()), Answer::Refused);
+    assert_eq!(rt; told(content.to_bool()), Answer::Refused);
+    assert_eq!(rt; told(ended().take_all(rt.alloc())), Answer::Refused);
     let mut content = ended();
-    assert_eq!(rt; told(content.skip_all()), Told::Refused);
-    assert_eq!(rt; told(content.to_null()), Told::Refused);
+    assert_eq!(rt; told(content.skip_all()), Answer::Refused);
+    assert_eq!(rt; told(content.to_null()), Answer::Refused);
 }
 
 #[test]
@@ -111,7 +111,7 @@ fn taken(mode: Mode, octets: &[u8]) -> [Option<u64>; 4] {
     ]
 }
 
-fn taken_null(mode: Mode, octets: &[u8]) -> Told {
+fn taken_null(mode: Mode, octets: &[u8]) -> Answer {
     told(mode.decode(octets, Constructed::take_null))
 }
 
@@ -120,8 +120,8 @@ fn simple_values_are_taken(rt: HostRuntime) {
     for mode in MODES {
         assert_eq!(rt; taken(mode, b"\x02\x02\x00\x05"), [None; 4]);
         assert_eq!(rt; taken(mode, b"\x02\x01\x05"), [Some(5); 4]);
-        assert_eq!(rt; taken_null(mode, b"\x05\x00"), Told::Read);
-        assert_eq!(rt; taken_null(mode, b"\x05\x01\x00"), Told::Refused);
+        assert_eq!(rt; taken_null(mode, b"\x05\x00"), Answer::Read);
+        assert_eq!(rt; taken_null(mode, b"\x05\x01\x00"), Answer::Refused);
     }
 }
 
@@ -147,7 +147,7 @@ fn optional_numbers_are_there_by_their_tag(rt: HostRuntime) -> Result<(), Fail> 
     assert_eq!(rt; taken_if_there(STRING)?, [None; 3]);
     assert_eq!(rt;
         told(Mode::Der.decode(NUMBER, Constructed::take_opt_u8)),
-        Told::Refused
+        Answer::Refused
     );
     Ok(())
 }
@@ -186,7 +186,7 @@ fn a_version_is_skipped(rt: HostRuntime) -> Result<(), Fail> {
     let skipped = Mode::Der.decode(VERSIONS, skip_versions)?;
     assert_eq!(rt; skipped, [Some(()), None]);
     let string = Mode::Der.decode(STRING, |cons| cons.skip_u8_if(2));
-    assert_eq!(rt; told(string), Told::Refused);
+    assert_eq!(rt; told(string), Answer::Refused);
     Ok(())
 }
 
@@ -198,7 +198,7 @@ fn another_version_is_told(rt: HostRuntime) {
     };
     assert_eq!(rt; wanted, Some(3));
     let optional = Mode::Der.decode(VERSIONS, |cons| cons.skip_opt_u8_if(3));
-    assert_eq!(rt; told(optional), Told::Refused);
+    assert_eq!(rt; told(optional), Answer::Refused);
 }
 
 // A SEQUENCE with 7 in it, and a SET with 9 in it.
@@ -215,10 +215,10 @@ fn take_both(cons: &mut Values<'_>) -> Result<(u8, u8), Refusal> {
 fn sequences_and_sets_are_taken_by_their_tags(rt: HostRuntime) -> Result<(), Fail> {
     assert_eq!(rt; Mode::Der.decode(BOTH, take_both)?, (7, 9));
     let no_set = Mode::Der.decode(BOTH, |cons| cons.take_set(Constructed::take_u8));
-    assert_eq!(rt; told(no_set), Told::Refused);
+    assert_eq!(rt; told(no_set), Answer::Refused);
     let set = b"\x31\x03\x02\x01\x09".as_slice();
     let no_sequence = Mode::Der.decode(set, |cons| cons.take_sequence(Constructed::take_u8));
-    assert_eq!(rt; told(no_sequence), Told::Refused);
+    assert_eq!(rt; told(no_sequence), Answer::Refused);
     Ok(())
 }
 
