@@ -1,8 +1,8 @@
 //! Values taken by closures, captured, and decoded.
 ghost use Rattle.bcder_content.specs.Either.{SameContent};
 
-use super::support::{Refusal, Values, told, values};
-use crate::{Captured, Content, Decode, Primitive};
+use crate::support::{Answer, Refusal, Values, told};
+use bcder_content::{Captured, Content, Decode, Primitive};
 use bcder_source::{ContentError, Mode, SliceSource, Tag};
 use bytes::Bytes;
 use std::alloc::Global;
@@ -80,45 +80,66 @@ fn null_in(content: &mut Content<'_, SliceSource<'_>>) -> Result<bool, Refusal>
     Ok(constructed)
 }
 
+// A number, and a NULL in a value, each by its form; and what is behind them.
+fn take_by_form(cons: &mut Values<'_>) -> Result<((bool, Tag, u8), bool, bool), Refusal> {
+    let number = cons.take_value(number_in)?;
+    let absent = cons.take_opt_value_if(Tag::NULL, null_in)?;
+    let null = cons.take_value_if(Tag::CTX_0, null_in)?;
+    let behind = cons.take_opt_value(number_in)?;
+    Ok((number, null, absent.is_none() && behind.is_none()))
+}
+
 #[test]
 fn contents_are_told_by_their_form(rt: HostRuntime) -> Result<(), Fail> {
-    let mut cons = values(Mode::Der, &VALUE[2..9]);
-    assert_eq!(rt; cons.take_value(number_in)?, (true, Tag::INTEGER, 5));
-    assert_eq!(rt; cons.take_opt_value_if(Tag::NULL, null_in)?, None);
-    assert_eq!(rt; cons.take_value_if(Tag::CTX_0, null_in)?, true);
-    assert_eq!(rt; cons.take_opt_value(number_in)?, None);
+    let (number, null, no_others) = Mode::Der.decode(&VALUE[2..9], take_by_form)?;
+    assert_eq!(rt; number, (true, Tag::INTEGER, 5));
+    assert!(rt; null);
+    assert!(rt; no_others);
     Ok(())
+}
+
+fn take_null_in_a_number(cons: &mut Values<'_>) -> Result<bool, Refusal> {
+    cons.take_value_if(Tag::INTEGER, null_in)
+}
+
+fn take_number_in_a_value(cons: &mut Values<'_>) -> Result<(bool, Tag, u8), Refusal> {
+    cons.take_value(number_in)
 }
 
 #[test]
 fn a_content_of_the_other_form_is_refused(rt: HostRuntime) {
-    let mut cons = values(Mode::Der, &VALUE[2..9]);
-    assert_eq!(rt; told(cons.take_value_if(Tag::INTEGER, null_in)), "refused");
-    let mut cons = values(Mode::Der, &VALUE[5..9]);
-    assert_eq!(rt; told(cons.take_value(number_in)), "refused");
+    let primitive = Mode::Der.decode(&VALUE[2..9], take_null_in_a_number);
+    assert_eq!(rt; told(primitive), Answer::Refused);
+    let constructed = Mode::Der.decode(&VALUE[5..9], take_number_in_a_value);
+    assert_eq!(rt; told(constructed), Answer::Refused);
 }
 
 // All values are skipped; memory is wanted for none of these.
-fn skip_values(alloc: Global, mode: Mode, tag: Tag) -> &'static str {
-    let mut cons = values(mode, &VALUE);
-    told(cons.take_constructed_if(tag, |cons| cons.skip_all(alloc)))
+fn skip_values(alloc: Global, mode: Mode, tag: Tag) -> Answer {
+    told(mode.decode(&VALUE[..], |cons| {
+        cons.take_constructed_if(tag, |cons| cons.skip_all(alloc))
+    }))
 }
 
 #[test]
 fn a_value_has_its_tag_form_and_mode(rt: HostRuntime) {
     let alloc = rt.alloc();
-    assert_eq!(rt; skip_values(alloc, Mode::Der, Tag::SEQUENCE), "read");
-    assert_eq!(rt; skip_values(alloc, Mode::Der, Tag::SET), "refused");
-    assert_eq!(rt; skip_values(alloc, Mode::Cer, Tag::SEQUENCE), "refused");
-    let mut cons = values(Mode::Der, &VALUE);
-    let octets = cons.take_primitive_if(Tag::SEQUENCE, |prim| prim.skip_all());
-    assert_eq!(rt; told(octets), "refused");
+    assert_eq!(rt; skip_values(alloc, Mode::Der, Tag::SEQUENCE), Answer::Read);
+    assert_eq!(rt; skip_values(alloc, Mode::Der, Tag::SET), Answer::Refused);
+    assert_eq!(rt;
+        skip_values(alloc, Mode::Cer, Tag::SEQUENCE),
+        Answer::Refused
+    );
+    let octets = Mode::Der.decode(&VALUE[..], |cons| {
+        cons.take_primitive_if(Tag::SEQUENCE, |prim| prim.skip_all())
+    });
+    assert_eq!(rt; told(octets), Answer::Refused);
 }
 
 #[test]
 fn what_is_left_unread_is_refused(rt: HostRuntime) {
-    let mut cons = values(Mode::Der, &VALUE);
-    assert_eq!(rt; told(cons.take_sequence(|cons| cons.take_u8())), "refused");
+    let unread = Mode::Der.decode(&VALUE[..], |cons| cons.take_sequence(|cons| cons.take_u8()));
+    assert_eq!(rt; told(unread), Answer::Refused);
 }
 
 // A refused read, and then an answer all the same.
@@ -135,8 +156,14 @@ fn read_again(cons: &mut Values<'_>) -> Result<u8, Refusal> {
 
 #[test]
 fn a_refusal_that_is_passed_over_still_refuses(rt: HostRuntime) {
-    assert_eq!(rt; told(Mode::Der.decode(&VALUE[..], pass_over)), "refused");
-    assert_eq!(rt; told(Mode::Der.decode(&VALUE[2..5], read_again)), "refused");
+    assert_eq!(rt;
+        told(Mode::Der.decode(&VALUE[..], pass_over)),
+        Answer::Refused
+    );
+    assert_eq!(rt;
+        told(Mode::Der.decode(&VALUE[2..5], read_again)),
+        Answer::Refused
+    );
 }
 
 // The first value of a sequence, and all others.
@@ -149,8 +176,9 @@ fn capture_both(alloc: Global, cons: &mut Values<'_>) -> Result<(Captured, Captu
 #[test]
 fn octets_are_captured_as_they_stand(rt: HostRuntime) -> Result<(), Fail> {
     let alloc = rt.alloc();
-    let mut cons = values(Mode::Der, &VALUE);
-    let (first, rest) = cons.take_sequence(|cons| capture_both(alloc, cons))?;
+    let (first, rest) = Mode::Der.decode(&VALUE[..], |cons| {
+        cons.take_sequence(|cons| capture_both(alloc, cons))
+    })?;
     assert_eq!(rt; first.as_slice(), &VALUE[2..5]);
     assert_eq!(rt; rest.as_slice(), &VALUE[5..13]);
     assert_eq!(rt; first.mode(), Mode::Der);

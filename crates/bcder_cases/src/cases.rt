@@ -1,31 +1,26 @@
 //! The worked cases of the codec's core, by their names.
 ghost use Rattle.bcder_content.specs.Either.{SameContent};
 
-use super::support::{MODES, Refusal, Values, told, values};
-use crate::{Constructed, Content, Decode};
+use crate::support::{Answer, MODES, Refusal, Values, told};
+use bcder_content::{Constructed, Content, Decode};
 use bcder_source::{Mode, SliceSource, Tag};
 use std::alloc::Global;
 
 // How skipping the value in front is answered in BER, CER and DER.
-fn skipped(alloc: Global, octets: &[u8]) -> [&'static str; 3] {
-    let [ber, cer, der] = MODES;
-    [
-        told(values(ber, octets).skip_one(alloc)),
-        told(values(cer, octets).skip_one(alloc)),
-        told(values(der, octets).skip_one(alloc)),
-    ]
+fn skipped(alloc: Global, octets: &[u8]) -> [Answer; 3] {
+    MODES.map(|mode| told(mode.decode(octets, |cons| cons.skip_one(alloc))))
 }
 
-const NOWHERE: [&str; 3] = ["refused"; 3];
+const NOWHERE: [Answer; 3] = [Answer::Refused; 3];
 
 // X.690 8.1.3, 8.1.2.4, 10.1: the octets, and how skipping them is answered.
-const CORE: [(&[u8], [&str; 3]); 7] = [
+const CORE: [(&[u8], [Answer; 3]); 7] = [
     (
         &[0x30, 0x80, 0x02, 0x01, 0x05, 0x00, 0x00],
-        ["read", "read", "refused"],
+        [Answer::Read, Answer::Read, Answer::Refused],
     ),
     (&[0x05, 0x80, 0x00, 0x00], NOWHERE),
-    (&[0x1F, 0xFF, 0xFF, 0x7F, 0x00], ["read"; 3]),
+    (&[0x1F, 0xFF, 0xFF, 0x7F, 0x00], [Answer::Read; 3]),
     (&[0x1F, 0x81, 0x80, 0x80, 0x00, 0x00], NOWHERE),
     (&[0x1F, 0x1E, 0x00], NOWHERE),
     (&[0x1F, 0x80, 0x1F, 0x00], NOWHERE),
@@ -62,9 +57,13 @@ fn codec_core_cases_integer_and_boolean(rt: HostRuntime) {
     let [ber, cer, der] = MODES;
     for mode in MODES {
         let integer = mode.decode(&[0x02, 0x02, 0x00, 0x05][..], Constructed::take_u8);
-        assert_eq!(rt; told(integer), "refused");
+        assert_eq!(rt; told(integer), Answer::Refused);
     }
-    for (mode, wanted) in [(ber, "read"), (cer, "refused"), (der, "refused")] {
+    for (mode, wanted) in [
+        (ber, Answer::Read),
+        (cer, Answer::Refused),
+        (der, Answer::Refused),
+    ] {
         let boolean = mode.decode(&[0x01, 0x01, 0x01][..], Constructed::take_bool);
         assert_eq!(rt; told(boolean), wanted);
     }
@@ -74,6 +73,6 @@ fn codec_core_cases_integer_and_boolean(rt: HostRuntime) {
 #[test]
 fn codec_values_length(rt: HostRuntime) {
     let octets = [0x04, 0x81, 0x05, 0x01, 0x02, 0x03, 0x04, 0x05];
-    let wanted = ["read", "refused", "refused"];
+    let wanted = [Answer::Read, Answer::Refused, Answer::Refused];
     assert_eq!(rt; skipped(rt.alloc(), &octets), wanted);
 }

@@ -1,8 +1,8 @@
-//! What the tests share: answers in a word, contents over any source, and a source that fails.
+//! What the tests share: answers by their kind, and a source that fails.
 ghost use Rattle.std.specs.Prelude.{◌^◌, ◌<◌, ◌≤◌, length};
 
-use crate::{Constructed, Ending, Primitive};
-use bcder_source::{DecodeError, IntoSource, LimitedSource, Mode, Pos, SliceSource, Source};
+use bcder_content::Constructed;
+use bcder_source::{DecodeError, Mode, Pos, SliceSource, Source};
 use bytes::Bytes;
 use std::alloc::{AllocError, Global};
 use std::convert::Infallible;
@@ -16,32 +16,24 @@ pub(crate) type Refusal = DecodeError<Infallible>;
 
 pub(crate) const MODES: [Mode; 3] = [Mode::Ber, Mode::Cer, Mode::Der];
 
-// How a read was answered: it was made, or the octets, the source or the memory refused it.
-pub(crate) fn told<T: Drop, E: Drop>(answer: Result<T, DecodeError<E>>) -> &'static str {
+// How a read was answered: it was made, or made with another meaning, or the octets, the source or the
+// memory refused it.
+#[derive(Clone, Copy, Debug, PartialEq, Eq)]
+pub(crate) enum Answer {
+    Read,
+    Other,
+    Refused,
+    Fault,
+    Memory,
+}
+
+pub(crate) fn told<T: Drop, E: Drop>(answer: Result<T, DecodeError<E>>) -> Answer {
     match answer {
-        Ok(_) => "read",
-        Err(DecodeError::Content(_, _)) => "refused",
-        Err(DecodeError::Source(_)) => "fault",
-        Err(DecodeError::Memory) => "memory",
+        Ok(_) => Answer::Read,
+        Err(DecodeError::Content(_, _)) => Answer::Refused,
+        Err(DecodeError::Source(_)) => Answer::Fault,
+        Err(DecodeError::Memory) => Answer::Memory,
     }
-}
-
-// The content that is all of a source.
-pub(crate) fn content<S: Source>(mode: Mode, source: S) -> Constructed<S> {
-    Constructed {
-        octets: Primitive {
-            source: LimitedSource::new(source),
-            mode,
-            failed: false,
-            start: Pos::from(0),
-        },
-        end: Ending::Unbounded,
-        constructed: true,
-    }
-}
-
-pub(crate) fn values<'a>(mode: Mode, octets: &'a [u8]) -> Values<'a> {
-    content(mode, octets.into_source())
 }
 
 #[derive(Debug, Drop)]

@@ -1,7 +1,7 @@
 //! Cases from outside for the simple types: truths, values by their tags, and sources that fail or end early.
 
-use super::support::{Faulty, MODES, Refusal, Values, told, values};
-use crate::{Constructed, Decode, Primitive};
+use crate::support::{Answer, Faulty, MODES, Refusal, Values, told};
+use bcder_content::{Constructed, Decode, Primitive};
 use bcder_source::{ContentError, DecodeError, LimitedSource, Mode, Pos, SliceSource, Source};
 use std::test::Fail;
 
@@ -25,19 +25,19 @@ fn faulty(limit: usize) -> Primitive<Faulty<'static>> {
 
 #[test]
 fn a_source_that_fails_is_told(rt: HostRuntime) {
-    assert_eq!(rt; told(faulty(4).to_u32()), "fault");
-    assert_eq!(rt; told(faulty(4).take_all(rt.alloc())), "fault");
-    assert_eq!(rt; told(faulty(4).skip_all()), "fault");
+    assert_eq!(rt; told(faulty(4).to_u32()), Answer::Fault);
+    assert_eq!(rt; told(faulty(4).take_all(rt.alloc())), Answer::Fault);
+    assert_eq!(rt; told(faulty(4).skip_all()), Answer::Fault);
     assert_eq!(rt; faulty(2).to_u16().ok(), Some(258));
 }
 
 #[test]
 fn a_content_stays_failed(rt: HostRuntime) {
     let mut content = faulty(4);
-    assert_eq!(rt; told(content.to_u32()), "fault");
-    assert_eq!(rt; told(content.to_u32()), "refused");
-    assert_eq!(rt; told(content.take_all(rt.alloc())), "refused");
-    assert_eq!(rt; told(content.skip_all()), "refused");
+    assert_eq!(rt; told(content.to_u32()), Answer::Fault);
+    assert_eq!(rt; told(content.to_u32()), Answer::Refused);
+    assert_eq!(rt; told(content.take_all(rt.alloc())), Answer::Refused);
+    assert_eq!(rt; told(content.skip_all()), Answer::Refused);
 }
 
 // Two octets, where four are said to be.
@@ -49,12 +49,12 @@ fn ended() -> Primitive<SliceSource<'static>> {
 fn a_source_that_ends_early_is_refused(rt: HostRuntime) {
     let mut content = ended();
     assert_eq!(rt; content.remaining(), 4);
-    assert_eq!(rt; told(content.to_u32()), "refused");
-    assert_eq!(rt; told(content.to_bool()), "refused");
-    assert_eq!(rt; told(ended().take_all(rt.alloc())), "refused");
+    assert_eq!(rt; told(content.to_u32()), Answer::Refused);
+    assert_eq!(rt; told(content.to_bool()), Answer::Refused);
+    assert_eq!(rt; told(ended().take_all(rt.alloc())), Answer::Refused);
     let mut content = ended();
-    assert_eq!(rt; told(content.skip_all()), "refused");
-    assert_eq!(rt; told(content.to_null()), "refused");
+    assert_eq!(rt; told(content.skip_all()), Answer::Refused);
+    assert_eq!(rt; told(content.to_null()), Answer::Refused);
 }
 
 #[test]
@@ -111,7 +111,7 @@ fn taken(mode: Mode, octets: &[u8]) -> [Option<u64>; 4] {
     ]
 }
 
-fn taken_null(mode: Mode, octets: &[u8]) -> &'static str {
+fn taken_null(mode: Mode, octets: &[u8]) -> Answer {
     told(mode.decode(octets, Constructed::take_null))
 }
 
@@ -120,8 +120,8 @@ fn simple_values_are_taken(rt: HostRuntime) {
     for mode in MODES {
         assert_eq!(rt; taken(mode, b"\x02\x02\x00\x05"), [None; 4]);
         assert_eq!(rt; taken(mode, b"\x02\x01\x05"), [Some(5); 4]);
-        assert_eq!(rt; taken_null(mode, b"\x05\x00"), "read");
-        assert_eq!(rt; taken_null(mode, b"\x05\x01\x00"), "refused");
+        assert_eq!(rt; taken_null(mode, b"\x05\x00"), Answer::Read);
+        assert_eq!(rt; taken_null(mode, b"\x05\x01\x00"), Answer::Refused);
     }
 }
 
@@ -147,72 +147,93 @@ fn optional_numbers_are_there_by_their_tag(rt: HostRuntime) -> Result<(), Fail> 
     assert_eq!(rt; taken_if_there(STRING)?, [None; 3]);
     assert_eq!(rt;
         told(Mode::Der.decode(NUMBER, Constructed::take_opt_u8)),
-        "refused"
+        Answer::Refused
     );
     Ok(())
 }
 
+// A NULL, a BOOLEAN and an INTEGER, each asked for where it isn't next, too.
+fn take_in_turn(cons: &mut Values<'_>) -> Result<(bool, Option<bool>, Option<u8>), Refusal> {
+    let no_truth = cons.take_opt_bool()?.is_none();
+    let null = cons.take_opt_null()?.is_some();
+    let no_null = cons.take_opt_null()?.is_none();
+    let no_number = cons.take_opt_u8()?.is_none();
+    let truth = cons.take_opt_bool()?;
+    let number = cons.take_opt_u8()?;
+    Ok((no_truth && null && no_null && no_number, truth, number))
+}
+
 #[test]
 fn optional_values_are_there_by_their_tag(rt: HostRuntime) -> Result<(), Fail> {
-    let mut content = values(Mode::Der, b"\x05\x00\x01\x01\xff\x02\x01\x07");
-    assert_eq!(rt; content.take_opt_bool()?, None);
-    assert_eq!(rt; content.take_opt_null()?, Some(()));
-    assert_eq!(rt; content.take_opt_null()?, None);
-    assert_eq!(rt; content.take_opt_u8()?, None);
-    assert_eq!(rt; content.take_opt_bool()?, Some(true));
-    assert_eq!(rt; content.take_opt_u8()?, Some(7));
+    let octets = b"\x05\x00\x01\x01\xff\x02\x01\x07".as_slice();
+    let taken = Mode::Der.decode(octets, take_in_turn)?;
+    assert_eq!(rt; taken, (true, Some(true), Some(7)));
     Ok(())
 }
 
 // Three INTEGERs: 1, 2, 2; and a string.
 const VERSIONS: &[u8] = b"\x02\x01\x01\x02\x01\x02\x02\x01\x02\x04\x00";
 
+// The three numbers, and where the string is next.
+fn skip_versions(cons: &mut Values<'_>) -> Result<[Option<()>; 2], Refusal> {
+    cons.skip_u8_if(1)?;
+    cons.skip_u8_if(2)?;
+    Ok([cons.skip_opt_u8_if(2)?, cons.skip_opt_u8_if(2)?])
+}
+
 #[test]
 fn a_version_is_skipped(rt: HostRuntime) -> Result<(), Fail> {
-    let mut content = values(Mode::Der, VERSIONS);
-    content.skip_u8_if(1)?;
-    content.skip_u8_if(2)?;
-    assert_eq!(rt; content.skip_opt_u8_if(2)?, Some(()));
-    assert_eq!(rt; content.skip_opt_u8_if(2)?, None);
-    assert_eq!(rt; told(content.skip_u8_if(2)), "refused");
+    let skipped = Mode::Der.decode(VERSIONS, skip_versions)?;
+    assert_eq!(rt; skipped, [Some(()), None]);
+    let string = Mode::Der.decode(STRING, |cons| cons.skip_u8_if(2));
+    assert_eq!(rt; told(string), Answer::Refused);
     Ok(())
 }
 
 #[test]
 fn another_version_is_told(rt: HostRuntime) {
-    let wanted = match values(Mode::Der, VERSIONS).skip_u8_if(3) {
+    let wanted = match Mode::Der.decode(VERSIONS, |cons| cons.skip_u8_if(3)) {
         Err(DecodeError::Content(ContentError::ExpectedInteger(number), _)) => Some(number),
         _ => None,
     };
     assert_eq!(rt; wanted, Some(3));
-    let optional = values(Mode::Der, VERSIONS).skip_opt_u8_if(3);
-    assert_eq!(rt; told(optional), "refused");
+    let optional = Mode::Der.decode(VERSIONS, |cons| cons.skip_opt_u8_if(3));
+    assert_eq!(rt; told(optional), Answer::Refused);
 }
 
 // A SEQUENCE with 7 in it, and a SET with 9 in it.
 const BOTH: &[u8] = b"\x30\x03\x02\x01\x07\x31\x03\x02\x01\x09";
 
-fn both() -> Values<'static> {
-    values(Mode::Der, BOTH)
+// Both, by their names.
+fn take_both(cons: &mut Values<'_>) -> Result<(u8, u8), Refusal> {
+    let in_sequence = cons.take_sequence(Constructed::take_u8)?;
+    let in_set = cons.take_set(Constructed::take_u8)?;
+    Ok((in_sequence, in_set))
 }
 
 #[test]
 fn sequences_and_sets_are_taken_by_their_tags(rt: HostRuntime) -> Result<(), Fail> {
-    let mut content = both();
-    assert_eq!(rt; content.take_sequence(Constructed::take_u8)?, 7);
-    assert_eq!(rt; content.take_set(Constructed::take_u8)?, 9);
-    assert_eq!(rt; told(both().take_set(Constructed::take_u8)), "refused");
-    let mut set = values(Mode::Der, b"\x31\x03\x02\x01\x09");
-    assert_eq!(rt; told(set.take_sequence(Constructed::take_u8)), "refused");
+    assert_eq!(rt; Mode::Der.decode(BOTH, take_both)?, (7, 9));
+    let no_set = Mode::Der.decode(BOTH, |cons| cons.take_set(Constructed::take_u8));
+    assert_eq!(rt; told(no_set), Answer::Refused);
+    let set = b"\x31\x03\x02\x01\x09".as_slice();
+    let no_sequence = Mode::Der.decode(set, |cons| cons.take_sequence(Constructed::take_u8));
+    assert_eq!(rt; told(no_sequence), Answer::Refused);
     Ok(())
+}
+
+// Both where they are next, and where they aren't.
+fn take_both_if_there(cons: &mut Values<'_>) -> Result<[Option<u8>; 4], Refusal> {
+    let no_set = cons.take_opt_set(Constructed::take_u8)?;
+    let in_sequence = cons.take_opt_sequence(Constructed::take_u8)?;
+    let no_sequence = cons.take_opt_sequence(Constructed::take_u8)?;
+    let in_set = cons.take_opt_set(Constructed::take_u8)?;
+    Ok([no_set, in_sequence, no_sequence, in_set])
 }
 
 #[test]
 fn optional_sequences_and_sets_are_there_by_their_tags(rt: HostRuntime) -> Result<(), Fail> {
-    let mut content = both();
-    assert_eq!(rt; content.take_opt_set(Constructed::take_u8)?, None);
-    assert_eq!(rt; content.take_opt_sequence(Constructed::take_u8)?, Some(7));
-    assert_eq!(rt; content.take_opt_sequence(Constructed::take_u8)?, None);
-    assert_eq!(rt; content.take_opt_set(Constructed::take_u8)?, Some(9));
+    let taken = Mode::Der.decode(BOTH, take_both_if_there)?;
+    assert_eq!(rt; taken, [None, Some(7), None, Some(9)]);
     Ok(())
 }

@@ -1,7 +1,8 @@
 //! Skipping.
 
-use super::support::{Faulty, MODES, content, told, values};
-use crate::skip::skip_value;
+use crate::support::{Answer, MODES, Refusal, Values, told};
+use bcder_content::Decode;
+use bcder_content::skip::skip_value;
 use bcder_source::{ContentError, IntoSource, LimitedSource, Mode, Tag};
 use std::alloc::{AllocError, Global};
 use std::test::Fail;
@@ -85,11 +86,13 @@ const TOLD: [(Tag, bool, usize); 4] = [
 fn a_value_comes_before_those_in_it(rt: HostRuntime) {
     let mut left = TOLD.iter();
     let mut right = true;
-    let answer = values(Mode::Ber, &NESTED).skip(rt.alloc(), |tag, constructed, depth| {
-        right = right && left.next() == Some(&(tag, constructed, depth));
-        Ok(())
+    let answer = Mode::Ber.decode(&NESTED[..], |cons| {
+        cons.skip(rt.alloc(), |tag, constructed, depth| {
+            right = right && left.next() == Some(&(tag, constructed, depth));
+            Ok(())
+        })
     });
-    assert_eq!(rt; told(answer), "read");
+    assert_eq!(rt; told(answer), Answer::Read);
     assert!(rt; right);
     assert_eq!(rt; left.next(), None);
 }
@@ -99,10 +102,8 @@ fn each_cut_is_refused(rt: HostRuntime) {
     let alloc = rt.alloc();
     for end in 0..11 {
         let cut = &NESTED[..end];
-        assert_eq!(rt;
-            told(values(Mode::Ber, cut).skip(alloc, anything)),
-            "refused"
-        );
+        let answer = Mode::Ber.decode(cut, |cons| cons.skip(alloc, anything));
+        assert_eq!(rt; told(answer), Answer::Refused);
         assert_eq!(rt; left_behind(alloc, Mode::Ber, cut), None);
     }
     assert_eq!(rt; left_behind(alloc, Mode::Ber, &NESTED), Some(0));
@@ -124,7 +125,7 @@ fn anything(_: Tag, _: bool, _: usize) -> Result<(), ContentError> {
 #[test]
 fn a_refusal_has_its_text_and_position(rt: HostRuntime) -> Result<(), Fail> {
     let alloc = rt.alloc();
-    let text = match values(Mode::Ber, &NESTED).skip_opt(alloc, no_octets) {
+    let text = match Mode::Ber.decode(&NESTED[..], |cons| cons.skip_opt(alloc, no_octets)) {
         Ok(_) => String::new(alloc),
         Err(error) => format!(in alloc; "{error}")?,
     };
@@ -132,42 +133,70 @@ fn a_refusal_has_its_text_and_position(rt: HostRuntime) -> Result<(), Fail> {
     Ok(())
 }
 
+// A value that is refused, and each call behind that.
+fn skip_refused(alloc: Global, cons: &mut Values<'_>) -> [Answer; 5] {
+    [
+        told(cons.skip_opt(alloc, no_octets)),
+        told(cons.skip_one(alloc)),
+        told(cons.skip_all(alloc)),
+        told(cons.skip(alloc, anything)),
+        told(cons.skip_opt(alloc, anything)),
+    ]
+}
+
 #[test]
 fn a_refused_value_fails_the_content(rt: HostRuntime) {
-    let alloc = rt.alloc();
-    let mut cons = values(Mode::Ber, &NESTED);
-    assert_eq!(rt; told(cons.skip_opt(alloc, no_octets)), "refused");
-    assert_eq!(rt; told(cons.skip_one(alloc)), "refused");
-    assert_eq!(rt; told(cons.skip_all(alloc)), "refused");
-    assert_eq!(rt; told(cons.skip(alloc, anything)), "refused");
-    assert_eq!(rt; told(cons.skip_opt(alloc, anything)), "refused");
+    let mut answers = [Answer::Read; 5];
+    let whole = Mode::Ber.decode(&NESTED[..], |cons| {
+        answers = skip_refused(rt.alloc(), cons);
+        Ok(())
+    });
+    assert_eq!(rt; answers, [Answer::Refused; 5]);
+    assert_eq!(rt; told(whole), Answer::Refused);
 }
 
 // BOOLEAN, an empty SEQUENCE, an empty OCTET STRING.
 const THREE: [u8; 7] = [0x01, 0x01, 0xFF, 0x30, 0x00, 0x04, 0x00];
 
-#[test]
-fn values_are_skipped_to_the_end(rt: HostRuntime) -> Result<(), Fail> {
-    let alloc = rt.alloc();
-    let mut cons = values(Mode::Der, &THREE);
-    assert_eq!(rt; cons.skip_one(alloc)?, Some(()));
-    assert_eq!(rt; cons.skip_opt(alloc, anything)?, Some(()));
+// All values, and what is behind them.
+fn skip_to_the_end(alloc: Global, cons: &mut Values<'_>) -> Result<[Option<()>; 4], Refusal> {
+    let first = cons.skip_one(alloc)?;
+    let second = cons.skip_opt(alloc, anything)?;
     cons.skip_all(alloc)?;
-    assert_eq!(rt; cons.skip_one(alloc)?, None);
-    assert_eq!(rt; cons.skip_opt(alloc, anything)?, None);
+    let none = cons.skip_one(alloc)?;
+    let none_either = cons.skip_opt(alloc, anything)?;
     cons.skip_all(alloc)?;
-    Ok(())
+    Ok([first, second, none, none_either])
 }
 
 #[test]
-fn behind_the_end_there_is_none(rt: HostRuntime) -> Result<(), Fail> {
+fn values_are_skipped_to_the_end(rt: HostRuntime) -> Result<(), Fail> {
     let alloc = rt.alloc();
-    let mut cons = values(Mode::Ber, &[]);
-    cons.skip_all(alloc)?;
-    assert_eq!(rt; told(cons.skip(alloc, anything)), "refused");
-    assert_eq!(rt; told(cons.skip_one(alloc)), "refused");
-    assert_eq!(rt; told(values(Mode::Cer, &THREE).skip_all(alloc)), "refused");
+    let answers = Mode::Der.decode(&THREE[..], |cons| skip_to_the_end(alloc, cons))?;
+    assert_eq!(rt; answers, [Some(()), Some(()), None, None]);
+    let no_mode = Mode::Cer.decode(&THREE[..], |cons| cons.skip_all(alloc));
+    assert_eq!(rt; told(no_mode), Answer::Refused);
     Ok(())
+}
+
+// One value more than there is, and the call behind that.
+fn skip_behind_the_end(alloc: Global, cons: &mut Values<'_>) -> [Answer; 3] {
+    [
+        told(cons.skip_all(alloc)),
+        told(cons.skip(alloc, anything)),
+        told(cons.skip_one(alloc)),
+    ]
+}
+
+#[test]
+fn behind_the_end_there_is_none(rt: HostRuntime) {
+    let mut answers = [Answer::Read; 3];
+    let whole = Mode::Ber.decode(b"".as_slice(), |cons| {
+        answers = skip_behind_the_end(rt.alloc(), cons);
+        Ok(())
+    });
+    assert_eq!(rt; answers, [Answer::Read, Answer::Refused, Answer::Refused]);
+    assert_eq!(rt; told(whole), Answer::Refused);
 }
 
 // A length as it is spelled in DER, the last octet first.
@@ -217,9 +246,11 @@ fn nested_open(alloc: Global, levels: usize) -> Result<Vec<u8>, AllocError> {
 // The greatest depth of a value in the one in front.
 fn depth(alloc: Global, mode: Mode, octets: &[u8]) -> Option<usize> {
     let mut greatest = 0;
-    let answer = values(mode, octets).skip(alloc, |_, _, depth| {
-        greatest = greatest.max(depth);
-        Ok(())
+    let answer = mode.decode(octets, |cons| {
+        cons.skip(alloc, |_, _, depth| {
+            greatest = greatest.max(depth);
+            Ok(())
+        })
     });
     match answer {
         Ok(()) => Some(greatest),
@@ -268,15 +299,4 @@ fn a_million_values_lie_in_each_other(rt: HostRuntime) -> Result<(), Fail> {
     let octets = nested_open(alloc, 1_000_000)?;
     assert_eq!(rt; depth(alloc, Mode::Cer, octets.as_slice()), Some(999_999));
     Ok(())
-}
-
-#[test]
-fn a_fault_of_the_source_is_told_as_such(rt: HostRuntime) {
-    let alloc = rt.alloc();
-    for good in 0..11 {
-        let mut cons = content(Mode::Ber, Faulty::new(&NESTED, good));
-        assert_eq!(rt; told(cons.skip_opt(alloc, anything)), "fault");
-        assert_eq!(rt; told(cons.skip_one(alloc)), "refused");
-        assert_eq!(rt; told(cons.skip_all(alloc)), "refused");
-    }
 }
