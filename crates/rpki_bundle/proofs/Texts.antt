@@ -19,9 +19,7 @@ use Rattle.std.specs.declared.result.Result.TheVariants.{Ok}
 use Rattle.rpki_bundle.specs.Times.{IsMoment}
 use Rattle.rpki_bundle.specs.Sizes.{capped}
 use Rattle.rpki_bundle.specs.Lawful.{IsLawfulLocator, IsLawfulObject, IsLawfulVerdict, IsLawful}
-use Rattle.rpki_bundle.specs.BundleParts.{ReadsBundle}
-use Rattle.rpki_bundle.proofs.EntryFronts.{locator_name}
-use Rattle.rpki_bundle.proofs.Wholes.{bundle_found}
+use Rattle.rpki_bundle.proofs.BundleGrammar.{locator_name, uri_plain}
 use Rattle.rpki_bundle.proofs.Writing.{appended, wrote_list}
 use Rattle.rpki_bundle.proofs.Moments.{one_text}
 use Rattle.rpki_bundle.proofs.Spellings.{Spelling, spells_value, primitive_spelled, spells_primitive, sequence_spelled, spells_sequence, value_longer, pair_spelled, spells_pair, three_spelled, spells_three, list_spelled, spells_list}
@@ -36,10 +34,6 @@ locator_spelling = record {
     spells_pair 19 4 l.name l.text (omega arith) (omega arith) (omega arith) (omega arith) fits,
   );
 }
-
-uri_plain : {uri : List ℕ} → IsUri uri → All IsUriOctet uri
-uri_plain (inl r) = r.plain
-uri_plain (inr r) = r.plain
 
 pub object_spelling : Spelling IsObject IsLawfulObject object_octets
 object_spelling = record {
@@ -168,12 +162,6 @@ one_bundle_text {b = b} p q =
     let x = text_told p in
     let y = text_told q in
     x.whole ∙ ap (λ (z : List ℕ). bundle_octets z b) (one_text x.lawful.text y.lawful.text b.moment x.lawful.moment y.lawful.moment) ∙ sym y.whole
-
--- A bundle by the members that were read of it is lawful.
-pub reads_lawful : {c : List ℕ} {b : BundleValue} → length c < 2 ^ 32 → ReadsBundle c b → IsLawful b
-reads_lawful {c} {b} fits r =
-    let text : BundleText (sequence_octets c) b = bundle_found (spells_value 48 true sequence_tag c (omega arith) (omega arith) (omega arith) (omega arith) fits) refl r in
-    (text_told text).lawful
 
 -- Whatever text tells the moment, the members have as many octets, and the bundle has that text.
 pub by_text : {b : BundleValue} (l : IsLawful b) (text : List ℕ) → IsMoment text b.moment → (length (members_octets text b) < 2 ^ 32) × BundleText (bundle_octets text b) b

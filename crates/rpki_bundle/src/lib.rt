@@ -2,7 +2,6 @@
 #![tactic(auto)]
 
 pub mod bundle;
-mod der;
 pub mod digest;
 mod entries;
 pub mod error;
@@ -10,10 +9,12 @@ mod forms;
 pub mod laws;
 pub mod parts;
 mod put;
+mod reader;
 #[cfg(test)]
 mod tests;
 pub mod time;
 pub mod uri;
+mod whole;
 
 pub use bundle::Bundle;
 pub use digest::Digester;

@@ -6,6 +6,9 @@ ghost use Rattle.rpki_bundle.specs.Spellings.{length_octets, value_octets};
 
 use std::alloc::AllocError;
 
+/// The identifier octet of a SEQUENCE.
+pub const SEQUENCE: u8 = 0x30;
+
 // How many octets say a length.
 fn length_size(n: usize) -> usize
     ensures { result ≡ length (length_octets n) }
