@@ -1,5 +1,5 @@
 -- The grammar of bundles says what their definition does.
-use Rattle.std.proofs.Common.{◌≡◌, ◌≢◌, ℕ, ◌^◌, ◌<◌, List, [], ◌∷◌, ◌++◌, inl, inr, refl, sym, ap, ◌∙◌, subst, append-nil, arith}
+use Rattle.std.proofs.Common.{◌≡◌, ◌≢◌, ℕ, ◌^◌, ◌<◌, List, [], ◌∷◌, ◌++◌, length, inl, inr, refl, sym, ap, ◌∙◌, subst, append-nil, arith}
 use Rattle.std.specs.Prelude.{All}
 use Rattle.bcder_tree.specs.declared.mode.Mode.TheVariants.{Der}
 use Rattle.bcder_tree.specs.Tags.{TagValue, universal}
@@ -16,7 +16,7 @@ use Rattle.rpki_bundle.specs.TimeForms.{IsGeneralizedTime}
 use Rattle.rpki_bundle.specs.Uris.{IsUri, IsUriOctet}
 use Rattle.rpki_bundle.specs.Orders.{Ascends}
 use Rattle.rpki_bundle.specs.Bundle.{BundleValue, IsLocator, IsObject, IsVerdict, verdict_row, IsBundle, BundleText}
-use Rattle.rpki_bundle.specs.Grammars.{IsVersion, IsMomentString, IsDepthNumber, as_locator, as_object, as_verdict, as_bundle, IsLocatorRow, IsObjectRow, IsVerdictRow, AreRows, IsBundleTree, IsBundleAlone}
+use Rattle.rpki_bundle.specs.Grammars.{IsVersion, IsMomentString, IsDepthNumber, IsDigestString, as_locator, as_object, as_verdict, as_bundle, IsLocatorRow, IsObjectRow, IsVerdictRow, AreRows, IsBundleTree, IsBundleAlone}
 
 -- Strings by their octets.
 string_of : {tag : TagValue} {t : Tree} {x : List ℕ} → OctetsOf tag AnyOctets t x → t ≡ primitive tag x
@@ -24,6 +24,12 @@ string_of {tag} p = p.whole ∙ ap (λ (z : List ℕ). primitive tag z) p.is.sam
 
 string_is : {tag : TagValue} {t : Tree} {x : List ℕ} → t ≡ primitive tag x → OctetsOf tag AnyOctets t x
 string_is {x = x} e = record { content = x; whole = e; is = record { same = refl } }
+
+digest_of : {t : Tree} {x : List ℕ} → IsDigestString t x → (t ≡ primitive (universal 4) x) × (length x ≡ 32)
+digest_of p = (p.whole ∙ ap (λ (z : List ℕ). primitive (universal 4) z) p.is.same, ap length (sym p.is.same) ∙ p.is.long)
+
+digest_is : {t : Tree} {x : List ℕ} → (t ≡ primitive (universal 4) x) × (length x ≡ 32) → IsDigestString t x
+digest_is {x = x} i = record { content = x; whole = i.0; is = record { same = refl; long = i.1 } }
 
 -- The trees of two fields, and of three.
 two : {ts us vs : Trees} {t u : Tree} → ts ≡ more t us → us ≡ more u vs → vs ≡ none → ts ≡ more t (more u none)
@@ -114,9 +120,9 @@ verdict_of {t} {v} p =
       message = g.first;
       signature = h.first;
       whole = p.is.whole ∙ ap (constructed (universal 16)) (three f.whole g.whole h.whole h.rest.ended);
-      key_is = (string_of f.is.is, f.is.meets);
-      message_is = (string_of g.is.is, g.is.meets);
-      signature_is = (string_of h.is.is, h.is.meets);
+      key_is = digest_of f.is;
+      message_is = digest_of g.is;
+      signature_is = digest_of h.is;
     } in subst (λ (z : Verdict). IsVerdict t z) (sym p.means) made
 
 verdict_row_is : {t : Tree} {v : Verdict} → IsVerdict t v → IsVerdictRow t v
@@ -129,13 +135,13 @@ verdict_row_is {v = v} i = record {
       first = i.key;
       others = more i.message (more i.signature none);
       whole = refl;
-      is = record { is = string_is i.key_is.0; meets = i.key_is.1 };
+      is = digest_is i.key_is;
       rest = record {
         first = i.message;
         others = more i.signature none;
         whole = refl;
-        is = record { is = string_is i.message_is.0; meets = i.message_is.1 };
-        rest = record { first = i.signature; others = none; whole = refl; is = record { is = string_is i.signature_is.0; meets = i.signature_is.1 }; rest = record { ended = refl } };
+        is = digest_is i.message_is;
+        rest = record { first = i.signature; others = none; whole = refl; is = digest_is i.signature_is; rest = record { ended = refl } };
       };
     };
   };

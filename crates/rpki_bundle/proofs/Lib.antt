@@ -1,5 +1,6 @@
 pub mod BundleGrammar
 pub mod Reading
+pub mod Digests
 mod Contents
 pub mod Spellings
 pub mod Writing

@@ -41,11 +41,12 @@ abbrev pub IsUriString : Tree → List ℕ → Type 0
 IsUriString = Such (OctetsOf (universal 22) AnyOctets) IsLookupKey
 
 -- OCTET STRING (SIZE (32))
-abbrev pub IsDigest : List ℕ → Type 0
-IsDigest octets = length octets ≡ 32
+pub record IsDigest (content octets : List ℕ) : Type 0 where
+  pub same : content ≡ octets
+  pub long : length content ≡ 32
 
 abbrev pub IsDigestString : Tree → List ℕ → Type 0
-IsDigestString = Such IsOctets IsDigest
+IsDigestString = OctetsOf (universal 4) IsDigest
 
 -- Two strings.
 abbrev pub Strings : Type 0

@@ -1,4 +1,5 @@
 -- That rows have the tag of SEQUENCE, and one meaning.
+use Rattle.std.proofs.Common.{sym, ◌∙◌}
 use Rattle.bcder_tree.specs.Tags.{universal}
 use Rattle.bcder_content.specs.Grammar.{One, Tagged}
 use Rattle.bcder_content.proofs.Unique.{octets_one, any_octets_one, such_one, inside_one, then_one, end_one, as_one, as_tagged, inside_tagged}
@@ -8,7 +9,7 @@ octets : One IsOctets
 octets = octets_one any_octets_one
 
 digest : One IsDigestString
-digest = such_one octets
+digest = octets_one (record { one = λ content x y p q. sym p.same ∙ q.same })
 
 pub one_locator : One IsLocatorRow
 one_locator = let name : One IsNameString = such_one (octets_one any_octets_one) in as_one (inside_one (then_one name (then_one octets end_one)))

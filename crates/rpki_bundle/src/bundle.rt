@@ -12,28 +12,20 @@ ghost use Rattle.rpki_bundle.specs.Ends.{ReadsToEndAs, Refuses};
 ghost use Rattle.rpki_bundle.specs.Errors.{OnNotABundle};
 ghost use Rattle.rpki_bundle.specs.Grammars.{IsBundleAlone};
 ghost use Rattle.rpki_bundle.specs.PartFields.{parts_alone, parts_value};
-ghost use Rattle.rpki_bundle.specs.Sizes.{capped};
-ghost use Rattle.rpki_bundle.specs.Spellings.{members_octets};
 ghost use Rattle.rpki_bundle.specs.Lawful.{IsLawful};
 
-use crate::entries::{is_lawful_list, list_size, put_list};
-use crate::put::{SEQUENCE, put_header, put_value, value_size};
+use crate::entries::is_lawful_list;
 use crate::reader::is_depth;
 use crate::uri::{cmp_lookup_key, is_uri};
 use crate::whole::{Parts, take_alone};
+use crate::writer::{members_len, write_members};
 use crate::{BundleError, Locator, Object, Time, Verdict};
 use bcder_content::Decode;
 use bcder_source::{DecodeError, Mode};
-use bytes::Bytes;
 use std::alloc::{AllocError, Global};
 use std::cmp::Ordering;
 use std::convert::Infallible;
 use std::marker::Model;
-
-// Universal tag numbers.
-const INTEGER: u8 = 2;
-
-const GENERALIZED_TIME: u8 = 24;
 
 /// All that one run of the validator is told: a moment, the greatest length of chains, trust anchor locators,
 /// published objects, and the signatures that are good.
@@ -90,21 +82,6 @@ fn refusal(error: DecodeError<Infallible>) -> BundleError
     }
 }
 
-// How many octets the members of a bundle with these parts have; a depth and a version have three each.
-fn members_size(
-    text: &[u8],
-    locators: &[Locator],
-    objects: &[Object],
-    verdicts: &[Verdict],
-) -> usize
-    ensures { (moment depth : ℕ) → result ≡ capped (length (members_octets text.now (record { moment = moment; depth = depth; locators = locators.now; objects = objects.now; verdicts = verdicts.now }))) }
-{
-    let head = value_size(text.len()).saturating_add(6);
-    head.saturating_add(list_size(locators))
-        .saturating_add(list_size(objects))
-        .saturating_add(list_size(verdicts))
-}
-
 // Whether a bundle may have these parts.
 fn is_lawful(
     moment: Time,
@@ -127,7 +104,8 @@ fn is_lawful(
     if !is_lawful_list(verdicts) {
         return false;
     }
-    members_size(&moment.generalized(), locators, objects, verdicts) < 4294967296
+    let text = moment.generalized();
+    members_len(Mode::Der, &text, depth, locators, objects, verdicts).is_ok()
 }
 
 // The octets of the object at the lookup key of a URI, among objects that ascend.
@@ -185,9 +163,8 @@ impl Bundle {
         ensures ok { IfOk result (BundleText octets.now) }
         ensures not_a_bundle { IfErr result (λ e. OnNotABundle e ((b : BundleValue) → BundleText octets.now b → ⊥)) }
     {
-        let source = Bytes::copy_from_slice(alloc, octets)?;
         let read = Mode::Der.decode(
-            source,
+            octets,
             |cons|
                 ensures { ReadsToEndAs parts_alone IsBundleAlone (here (λ s. s.rest) cons.old) result (here (λ s. s.rest) cons.new) }
             { take_alone(alloc, cons) },
@@ -206,16 +183,17 @@ impl Bundle {
         let locators = self.locators.as_slice();
         let objects = self.objects.as_slice();
         let verdicts = self.verdicts.as_slice();
-        let size = members_size(&text, locators, objects, verdicts);
-        let mut octets = Vec::with_capacity(alloc, value_size(size))?;
-        put_header(&mut octets, SEQUENCE, size)?;
-        put_value(&mut octets, INTEGER, &[0])?;
-        put_value(&mut octets, GENERALIZED_TIME, &text)?;
-        put_value(&mut octets, INTEGER, &[self.depth])?;
-        put_list(&mut octets, locators)?;
-        put_list(&mut octets, objects)?;
-        put_list(&mut octets, verdicts)?;
-        Ok(octets)
+        let depth = self.depth;
+        let size = match members_len(Mode::Der, &text, depth, locators, objects, verdicts) {
+            Ok(size) => size,
+            Err(_) => unreachable!(),
+        };
+        let mut octets = Vec::with_capacity(alloc, size)?;
+        let mode = Mode::Der;
+        match write_members(mode, &text, depth, locators, objects, verdicts, &mut octets) {
+            Ok(()) => Ok(octets),
+            Err(_) => Err(AllocError),
+        }
     }
 
     /// The octets of the object at a URI, which is looked up by its lookup key; none for a text that is no URI.

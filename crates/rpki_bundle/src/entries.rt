@@ -1,7 +1,6 @@
 //! Lists of entries, each read once from the front on.
 
-ghost use Rattle.std.specs.Prelude.{◌≡◌, ◌↔◌, ℕ, ◌<◌, ◌^◌, ◌++◌, List, IsTrue, OnOk, All, length};
-ghost use Rattle.std.specs.List.{flat_map};
+ghost use Rattle.std.specs.Prelude.{◌↔◌, ℕ, List, IsTrue};
 ghost use Rattle.bcder_content.specs.Exact.{ReadsAs, ReadsAllAs, ReadsOptAs};
 ghost use Rattle.bcder_content.specs.Grammar.{Many, One, Tagged};
 ghost use Rattle.bcder_content.specs.Here.{here};
@@ -9,17 +8,15 @@ ghost use Rattle.bcder_tree.specs.Tags.{universal};
 ghost use Rattle.bcder_tree.specs.Tree.{Tree};
 ghost use Rattle.rpki_bundle.specs.Grammars.{AreRows};
 ghost use Rattle.rpki_bundle.specs.Orders.{IsBefore, Ascends};
-ghost use Rattle.rpki_bundle.specs.Sizes.{capped};
-ghost use Rattle.rpki_bundle.specs.Spellings.{list_octets};
 ghost use Rattle.rpki_bundle.specs.Lawful.{IsLawfulList};
 
-use crate::put::{SEQUENCE, put_header, value_size};
 use bcder_content::Constructed;
 use bcder_source::{ContentError, DecodeError, Source};
-use std::alloc::{AllocError, Global};
+use bcder_values::Values;
+use std::alloc::Global;
 
 /// What a list of a bundle has as its entries.
-pub trait Entry: Drop {
+pub trait Entry: Values + Drop {
     // The grammar of an entry.
     ghost form: { Tree → Self → Type 0 };
 
@@ -42,21 +39,9 @@ pub trait Entry: Drop {
     // What holds of the entries that bundles have.
     ghost lawful: { Self → Type 0 };
 
-    // The octets of an entry.
-    ghost octets_of: { Self → List ℕ };
-
     /// Whether bundles may have it.
     fn is_lawful(&self) -> bool
         ensures { IsTrue result ↔ lawful self.now };
-
-    /// How many octets it has.
-    fn size(&self) -> usize
-        ensures { result ≡ capped (length (octets_of self.now)) };
-
-    /// Writes its octets.
-    fn put(&self, into: &mut Vec<u8>) -> Result<(), AllocError>
-        requires { length (octets_of self.now) < 2 ^ 32 }
-        ensures { OnOk result (into.new.items ≡ into.old.items ++ octets_of self.now) };
 
     // Entries are SEQUENCEs, and each is read in one way.
     ghost is_sequence: { Tagged (universal 16) form };
@@ -117,34 +102,4 @@ pub fn is_lawful_list<E: Entry>(entries: &[E]) -> bool
         }
     }
     is_ascending(entries)
-}
-
-// How many octets the entries have together.
-fn entries_size<E: Entry>(entries: &[E]) -> usize
-    ensures { result ≡ capped (length (flat_map E.octets_of entries.now)) }
-{
-    let mut size: usize = 0;
-    for entry in entries {
-        size = size.saturating_add(entry.size());
-    }
-    size
-}
-
-/// How many octets the list has.
-pub fn list_size<E: Entry>(entries: &[E]) -> usize
-    ensures { result ≡ capped (length (list_octets E.octets_of entries.now)) }
-{
-    value_size(entries_size(entries))
-}
-
-/// Writes the list's octets.
-pub fn put_list<E: Entry>(into: &mut Vec<u8>, entries: &[E]) -> Result<(), AllocError>
-    requires { length (list_octets E.octets_of entries.now) < 2 ^ 32 }
-    ensures { OnOk result (into.new.items ≡ into.old.items ++ list_octets E.octets_of entries.now) }
-{
-    put_header(into, SEQUENCE, entries_size(entries))?;
-    for entry in entries {
-        entry.put(into)?;
-    }
-    Ok(())
 }

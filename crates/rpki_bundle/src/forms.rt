@@ -1,58 +1,44 @@
 //! The entries of a bundle's lists.
 
-ghost use Rattle.std.specs.Prelude.{◌≡◌, ◌↔◌, ℕ, ◌<◌, ◌^◌, ◌++◌, OnOk, length};
 ghost use Rattle.bcder_content.specs.Exact.{ReadsAllAs};
 ghost use Rattle.bcder_content.specs.Here.{here};
 ghost use Rattle.rpki_bundle.specs.Grammars.{IsLocatorBody, IsObjectBody, IsVerdictBody, digest_fields, locator_fields, object_fields};
-ghost use Rattle.rpki_bundle.specs.Sizes.{capped};
-ghost use Rattle.rpki_bundle.specs.Spellings.{value_octets, sequence_octets};
 
 use crate::entries::{Entry, stands_before};
-use crate::put::{SEQUENCE, put_header, put_value, value_size};
 use crate::reader::{is_name, take_digest, take_name, take_octets, take_uri};
 use crate::uri::is_lookup_key;
+use crate::writer::{pair_len, triple_len, write_pair, write_triple};
 use crate::{Locator, Object, Verdict};
 use bcder_content::Constructed;
-use bcder_source::{DecodeError, Source, Tag};
-use std::alloc::{AllocError, Global};
+use bcder_source::{DecodeError, Mode, Source, Tag};
+use bcder_values::{EncodeError, Values};
+use std::alloc::Global;
+use std::io::Write;
 
-// Universal tag numbers.
-const OCTET_STRING: u8 = 4;
+/// A SEQUENCE of its strings.
+impl Values for Locator {
+    ghost use Rattle.rpki_bundle.specs.Written.{AreLocator, WritesLocator, pair_spelled, pair_one};
 
-const PRINTABLE_STRING: u8 = 19;
+    ghost trees = { AreLocator };
 
-const IA5_STRING: u8 = 22;
+    ghost writes = { WritesLocator };
 
-// The octets of a verdict: three digests of 32 octets, each with two octets in front, and two more.
-const VERDICT_SIZE: usize = 104;
+    fn encoded_len(&self, mode: Mode) -> Result<usize, EncodeError> {
+        pair_len(mode, Tag::PRINTABLE_STRING, &self.name, &self.text)
+    }
 
-// How many octets two strings in a SEQUENCE have.
-fn pair_size(first: &[u8], second: &[u8]) -> usize
-    ensures { (a b : ℕ) → result ≡ capped (length (sequence_octets (value_octets a first.now ++ value_octets b second.now))) }
-{
-    value_size(value_size(first.len()).saturating_add(value_size(second.len())))
-}
+    fn write_encoded<W: Write>(&self, mode: Mode, target: &mut W) -> Result<(), EncodeError> {
+        write_pair(mode, Tag::PRINTABLE_STRING, &self.name, &self.text, target)
+    }
 
-// Writes two strings of these tags in a SEQUENCE.
-fn put_pair(
-    into: &mut Vec<u8>,
-    tags: (u8, u8),
-    first: &[u8],
-    second: &[u8],
-) -> Result<(), AllocError>
-    requires { length (sequence_octets (value_octets tags.0 first.now ++ value_octets tags.1 second.now)) < 2 ^ 32 }
-    ensures { OnOk result (into.new.items ≡ into.old.items ++ sequence_octets (value_octets tags.0 first.now ++ value_octets tags.1 second.now)) }
-{
-    let size = value_size(first.len()).saturating_add(value_size(second.len()));
-    put_header(into, SEQUENCE, size)?;
-    put_value(into, tags.0, first)?;
-    put_value(into, tags.1, second)
+    ghost spelled = { λ x m. pair_spelled m };
+
+    ghost one_text = { λ x m. pair_one m };
 }
 
 impl Entry for Locator {
     ghost use Rattle.rpki_bundle.specs.Grammars.{IsLocatorRow};
     ghost use Rattle.rpki_bundle.specs.RowLaws.{one_locator, locator_tagged};
-    ghost use Rattle.rpki_bundle.specs.Spellings.{locator_octets};
     ghost use Rattle.rpki_bundle.specs.Lawful.{IsLawfulLocator};
 
     ghost form = { IsLocatorRow };
@@ -80,19 +66,8 @@ impl Entry for Locator {
 
     ghost lawful = { IsLawfulLocator };
 
-    ghost octets_of = { locator_octets };
-
     fn is_lawful(&self) -> bool {
         is_name(self.name.as_slice())
-    }
-
-    fn size(&self) -> usize {
-        pair_size(self.name.as_slice(), self.text.as_slice())
-    }
-
-    fn put(&self, into: &mut Vec<u8>) -> Result<(), AllocError> {
-        let tags = (PRINTABLE_STRING, OCTET_STRING);
-        put_pair(into, tags, self.name.as_slice(), self.text.as_slice())
     }
 
     ghost is_sequence = { locator_tagged };
@@ -100,10 +75,30 @@ impl Entry for Locator {
     ghost one_value = { one_locator };
 }
 
+/// A SEQUENCE of its strings.
+impl Values for Object {
+    ghost use Rattle.rpki_bundle.specs.Written.{AreObject, WritesObject, pair_spelled, pair_one};
+
+    ghost trees = { AreObject };
+
+    ghost writes = { WritesObject };
+
+    fn encoded_len(&self, mode: Mode) -> Result<usize, EncodeError> {
+        pair_len(mode, Tag::IA5_STRING, &self.uri, &self.octets)
+    }
+
+    fn write_encoded<W: Write>(&self, mode: Mode, target: &mut W) -> Result<(), EncodeError> {
+        write_pair(mode, Tag::IA5_STRING, &self.uri, &self.octets, target)
+    }
+
+    ghost spelled = { λ x m. pair_spelled m };
+
+    ghost one_text = { λ x m. pair_one m };
+}
+
 impl Entry for Object {
     ghost use Rattle.rpki_bundle.specs.Grammars.{IsObjectRow};
     ghost use Rattle.rpki_bundle.specs.RowLaws.{one_object, object_tagged};
-    ghost use Rattle.rpki_bundle.specs.Spellings.{object_octets};
     ghost use Rattle.rpki_bundle.specs.Lawful.{IsLawfulObject};
 
     ghost form = { IsObjectRow };
@@ -131,19 +126,8 @@ impl Entry for Object {
 
     ghost lawful = { IsLawfulObject };
 
-    ghost octets_of = { object_octets };
-
     fn is_lawful(&self) -> bool {
         is_lookup_key(self.uri.as_slice())
-    }
-
-    fn size(&self) -> usize {
-        pair_size(self.uri.as_slice(), self.octets.as_slice())
-    }
-
-    fn put(&self, into: &mut Vec<u8>) -> Result<(), AllocError> {
-        let tags = (IA5_STRING, OCTET_STRING);
-        put_pair(into, tags, self.uri.as_slice(), self.octets.as_slice())
     }
 
     ghost is_sequence = { object_tagged };
@@ -151,11 +135,31 @@ impl Entry for Object {
     ghost one_value = { one_object };
 }
 
+/// A SEQUENCE of its strings.
+impl Values for Verdict {
+    ghost use Rattle.rpki_bundle.specs.Written.{AreVerdict, WritesVerdict, triple_spelled, triple_one};
+
+    ghost trees = { AreVerdict };
+
+    ghost writes = { WritesVerdict };
+
+    fn encoded_len(&self, mode: Mode) -> Result<usize, EncodeError> {
+        triple_len(mode, &self.key, &self.message, &self.signature)
+    }
+
+    fn write_encoded<W: Write>(&self, mode: Mode, target: &mut W) -> Result<(), EncodeError> {
+        write_triple(mode, &self.key, &self.message, &self.signature, target)
+    }
+
+    ghost spelled = { λ x m. triple_spelled m };
+
+    ghost one_text = { λ x m. triple_one m };
+}
+
 impl Entry for Verdict {
     ghost use Rattle.rpki_bundle.specs.Bundle.{verdict_row};
     ghost use Rattle.rpki_bundle.specs.Grammars.{IsVerdictRow};
     ghost use Rattle.rpki_bundle.specs.RowLaws.{one_verdict, verdict_tagged};
-    ghost use Rattle.rpki_bundle.specs.Spellings.{verdict_octets};
     ghost use Rattle.rpki_bundle.specs.Lawful.{IsLawfulVerdict};
 
     ghost form = { IsVerdictRow };
@@ -170,9 +174,9 @@ impl Entry for Verdict {
             |cons|
                 ensures { ReadsAllAs digest_fields IsVerdictBody (here S.rest cons.old) result (here S.rest cons.new) }
             {
-                let key = take_digest(alloc, cons)?;
-                let message = take_digest(alloc, cons)?;
-                let signature = take_digest(alloc, cons)?;
+                let key = take_digest(cons)?;
+                let message = take_digest(cons)?;
+                let signature = take_digest(cons)?;
                 Ok(Verdict {
                     key,
                     message,
@@ -192,21 +196,8 @@ impl Entry for Verdict {
 
     ghost lawful = { IsLawfulVerdict };
 
-    ghost octets_of = { verdict_octets };
-
     fn is_lawful(&self) -> bool {
         true
-    }
-
-    fn size(&self) -> usize {
-        VERDICT_SIZE
-    }
-
-    fn put(&self, into: &mut Vec<u8>) -> Result<(), AllocError> {
-        put_header(into, SEQUENCE, VERDICT_SIZE - 2)?;
-        put_value(into, OCTET_STRING, &self.key)?;
-        put_value(into, OCTET_STRING, &self.message)?;
-        put_value(into, OCTET_STRING, &self.signature)
     }
 
     ghost is_sequence = { verdict_tagged };

@@ -8,13 +8,13 @@ pub mod error;
 mod forms;
 pub mod laws;
 pub mod parts;
-mod put;
 mod reader;
 #[cfg(test)]
 mod tests;
 pub mod time;
 pub mod uri;
 mod whole;
+mod writer;
 
 pub use bundle::Bundle;
 pub use digest::Digester;

@@ -7,12 +7,12 @@ ghost use Rattle.bcder_content.specs.Here.{here, plain};
 ghost use Rattle.bcder_primitive.specs.Plain.{ReadsOctetsAs};
 ghost use Rattle.bcder_primitive.specs.Values.{AnyOctets};
 ghost use Rattle.bcder_tree.specs.Strings.{IsPrintable};
-ghost use Rattle.rpki_bundle.specs.Grammars.{IsDepthNumber, IsDigestString, IsMomentString, IsNameString, IsUriString};
+ghost use Rattle.rpki_bundle.specs.Grammars.{IsDepthNumber, IsDigest, IsDigestString, IsMomentString, IsNameString, IsUriString};
 ghost use Rattle.rpki_bundle.specs.Lawful.{IsName};
 
 use crate::Time;
 use crate::uri::is_lookup_key;
-use bcder_content::Constructed;
+use bcder_content::{Constructed, Primitive};
 use bcder_source::{ContentError, DecodeError, Source, Tag};
 use bytes::Bytes;
 use std::alloc::Global;
@@ -85,18 +85,35 @@ pub fn take_uri<S: Source>(
     Ok(uri)
 }
 
+// The digest that all octets of a content are.
+fn digest<S: Source>(prim: &mut Primitive<S>) -> Result<[u8; 32], DecodeError<S::Error>>
+    ensures { ReadsOctetsAs (λ digest. digest) IsDigest (plain S.rest prim.old) result (plain S.rest prim.new) }
+{
+    if prim.failed {
+        return Err(prim.content_err(ContentError::from_static("no digest")));
+    }
+    let _count = match prim.request(32) {
+        Ok(count) => count,
+        Err(error) => return Err(DecodeError::Source(error)),
+    };
+    let digest = match <[u8; 32]>::try_from((*prim).slice()) {
+        Ok(digest) => digest,
+        Err(_) => return Err(prim.content_err(ContentError::from_static("no digest"))),
+    };
+    prim.advance(32);
+    Ok(digest)
+}
+
 /// A digest, as an OCTET STRING of 32 octets.
-pub fn take_digest<S: Source>(
-    alloc: Global,
-    cons: &mut Constructed<S>,
-) -> Result<[u8; 32], DecodeError<S::Error>>
+pub fn take_digest<S: Source>(cons: &mut Constructed<S>) -> Result<[u8; 32], DecodeError<S::Error>>
     ensures { ReadsAs (λ digest. digest) IsDigestString (here S.rest cons.old) result (here S.rest cons.new) }
 {
-    let octets = take_octets(alloc, cons, Tag::OCTET_STRING)?;
-    match <&[u8; 32]>::try_from(octets.as_slice()) {
-        Ok(digest) => Ok(*digest),
-        Err(_) => Err(cons.content_err(ContentError::from_static("no digest"))),
-    }
+    cons.take_primitive_if(
+        Tag::OCTET_STRING,
+        |prim|
+            ensures { ReadsOctetsAs (λ digest. digest) IsDigest (plain S.rest prim.old) result (plain S.rest prim.new) }
+        { digest(prim) },
+    )
 }
 
 /// A moment.

@@ -1,8 +1,6 @@
-use Rattle.std.proofs.Common.{ℕ, List, sym, subst}
+use Rattle.std.proofs.Common.{sym, subst}
 use Rattle.std.specs.declared.convert.Infallible.{Infallible}
 use Rattle.rpki_bundle.specs.Bundle.{BundleValue, BundleText}
-use Rattle.rpki_bundle.specs.Errors.{OnNotABundle}
-use Rattle.rpki_bundle.specs.PartFields.{parts_value}
 use Rattle.rpki_bundle.proofs.Reading.{text_decoded, parts_text, refused_text}
 use Rattle.rpki_bundle.proofs.Texts.{text_told}
 use Rattle.rpki_bundle.proofs.bundle.Bundle.decode.Goals as goal
@@ -11,9 +9,7 @@ pub bundle_of-requires : goal.bundle_of-requires
 bundle_of-requires c = (text_told (parts_text Infallible c.in-Ok.parts (text_decoded (record { each = λ p q r h. h }) c.in-Ok.ensures.decoded))).lawful
 
 pub returns-in-Ok-clause-ok : goal.returns-in-Ok-clause-ok
-returns-in-Ok-clause-ok c =
-    let text = subst (λ (o : List ℕ). BundleText o (parts_value c.in-Ok.parts)) c.in_ok-source.ensures (parts_text Infallible c.in-Ok.parts (text_decoded (record { each = λ p q r h. h }) c.in-Ok.ensures.decoded)) in
-    subst (λ (b : BundleValue). BundleText c.args.octets.now b) (sym c.bundle_of.ensures) text
+returns-in-Ok-clause-ok c = subst (λ (b : BundleValue). BundleText c.args.octets.now b) (sym c.bundle_of.ensures) (parts_text Infallible c.in-Ok.parts (text_decoded (record { each = λ p q r h. h }) c.in-Ok.ensures.decoded))
 
 pub returns-in-Err-clause-not_a_bundle : goal.returns-in-Err-clause-not_a_bundle
-returns-in-Err-clause-not_a_bundle c = subst (λ (o : List ℕ). OnNotABundle c.refusal.result ((b : BundleValue) → BundleText o b → ⊥)) c.in_ok-source.ensures (refused_text _ c.in-Err.error c.refusal.result c.refusal.ensures (text_decoded (record { each = λ p q r h. h }) c.in-Err.ensures.decoded))
+returns-in-Err-clause-not_a_bundle c = refused_text _ c.in-Err.error c.refusal.result c.refusal.ensures (text_decoded (record { each = λ p q r h. h }) c.in-Err.ensures.decoded)
