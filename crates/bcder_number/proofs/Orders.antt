@@ -1,10 +1,9 @@
 -- The order of numbers, by their content octets.
-use Rattle.std.proofs.Common.{◌≡◌, ℕ, zero, suc, ◌+◌, ◌*◌, ◌^◌, ◌<◌, ◌≤◌, Bool, true, false, List, [], ◌∷◌, length, All, refl, sym, ap, ◌∙◌, subst, arith}
-use Rattle.std.proofs.Math.Nat.{pow-succ', mul-le-mul_right}
-use Rattle.std.proofs.lemmas.Bool.{cases_lt}
+use Rattle.std.proofs.Common.{◌≡◌, ℕ, ◌+◌, ◌*◌, ◌^◌, ◌<◌, ◌≤◌, Bool, true, false, List, [], ◌∷◌, length, All, refl, sym, ap, ◌∙◌, subst, arith}
+use Rattle.std.proofs.Math.Nat.{mul-le-mul_right}
 use Rattle.std.proofs.lemmas.Int.{ints}
 use Rattle.std.proofs.lemmas.Cmp.{ranked}
-use Rattle.std.proofs.lemmas.List.Elements.{All-head, All-tail}
+use Rattle.std.proofs.lemmas.List.Elements.{All-tail}
 use Rattle.std.proofs.lemmas.Slice.Eq.{bytes_eq-Decides}
 use Rattle.std.specs.Cmp.{int_cmp_is, signed_Decides}
 use Rattle.std.specs.Cmp.Lexicographic.{slice_cmp, pointwise}
@@ -12,7 +11,7 @@ use Rattle.std.specs.Ordering.{MatchOrdering, nat_cmp, int_cmp, int_eq, ordering
 use Rattle.std.specs.Prelude.{ℤ, pos, negsuc, ◌<ℤ◌, nat_eq}
 use Rattle.std.specs.declared.cmp.Ordering.{Ordering}
 use Rattle.std.specs.declared.cmp.Ordering.TheVariants.{Less, Equal, Greater}
-use Rattle.bcder_tree.specs.Integers.{number_behind, IsShortest}
+use Rattle.bcder_tree.specs.Integers.{number_behind}
 use Rattle.bcder_primitive.specs.Values.{IsNegative}
 use Rattle.bcder_primitive.proofs.Numbers.{number_low, number_high}
 use Rattle.bcder_number.specs.Integers.{IsInteger}

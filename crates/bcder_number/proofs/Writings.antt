@@ -1,7 +1,6 @@
 -- What is said of the octets of a number is said of the number.
 use Rattle.std.proofs.Common.{◌≡◌, ℕ, ◌^◌, ◌<◌, ◌≤◌, List, length, refl, sym, subst, arith, Option}
-use Rattle.std.specs.Prelude.{ℤ, pos, negsuc, Result, Ok, Err, IfOk, IfErr}
-use Rattle.std.proofs.lemmas.Result.{MatchResult-at_ok}
+use Rattle.std.specs.Prelude.{ℤ, pos, negsuc, Result, Ok, Err, IfErr}
 use Rattle.bcder_tree.specs.declared.mode.Mode.{Mode}
 use Rattle.bcder_tree.specs.declared.mode.Mode.TheVariants.{Cer, Der}
 use Rattle.bcder_primitive.specs.Values.{AnyOctets, IsSigned, IsWithin}
@@ -9,7 +8,6 @@ use Rattle.bcder_values.specs.declared.error.EncodeError.{EncodeError}
 use Rattle.bcder_values.specs.declared.error.EncodeError.TheVariants as errors
 use Rattle.bcder_values.specs.Contents.{NoContent, ContentRefused, BytesRefused}
 use Rattle.bcder_values.specs.Integers.{WritesUnsigned}
-use Rattle.bcder_values.specs.Writing.{TookFront}
 use Rattle.bcder_number.specs.Integers.{IsInteger}
 use Rattle.bcder_number.specs.Contents.{content, content_is, few_octets, one_integer, steps}
 

@@ -1,4 +1,4 @@
-use Rattle.std.proofs.Common.{◌≡◌, true, false, refl}
+use Rattle.std.proofs.Common.{◌≡◌, true, false}
 use Rattle.bcder_primitive.specs.Plain.{plain}
 use Rattle.bcder_primitive.proofs.Primitives.{through, weaker_content}
 use Rattle.bcder_number.specs.Integers.{IsInteger}
