@@ -1,0 +1,11 @@
+//! Object identifiers (X.690 8.19): read, compared, taken apart, printed and written.
+#![tactic(auto)]
+
+mod component;
+mod content;
+mod iter;
+pub mod laws;
+pub mod oid;
+mod text;
+
+pub use oid::{ConstOid, Oid};
