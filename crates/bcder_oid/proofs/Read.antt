@@ -1,5 +1,5 @@
 -- Contents of object identifiers.
-use Rattle.std.proofs.Common.{◌≡◌, ℕ, ◌+◌, ◌<◌, ◌≤◌, Some, false, List, [], ◌∷◌, ◌++◌, length, get_or, take, drop, refl, sym, ap, ◌∙◌, subst, arith}
+use Rattle.std.proofs.Common.{◌≡◌, ℕ, ◌<◌, ◌≤◌, Some, false, List, [], ◌∷◌, ◌++◌, length, get_or, take, drop, refl, sym, ap, ◌∙◌, subst, arith}
 use Rattle.std.proofs.lemmas.List.{length-append, get_or_push}
 use Rattle.bcder_primitive.specs.Plain.{OctetsLeft, WholeOctets, LacksOctets, GivesOctets}
 use Rattle.bcder_primitive.proofs.Primitives.{gives_whole}

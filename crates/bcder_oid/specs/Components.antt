@@ -63,3 +63,9 @@ number_at Later n = n
 -- The number of a component.
 abbrev pub number_of : Component → ℕ
 number_of c = number_at c.place (base128 c.octets.now)
+
+-- What a subidentifier from 80 up has more than the component at a place behind the first.
+abbrev pub less_at : Place → ℕ
+less_at First = 0
+less_at Second = 80
+less_at Later = 0

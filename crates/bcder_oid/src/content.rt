@@ -27,6 +27,13 @@ fn is_identifier(octets: &[u8]) -> bool
     }
 }
 
+// Whether octets are the same.
+fn are_same(first: &[u8], second: &[u8]) -> bool
+    ensures { IsTrue result ↔ (first.now ≡ second.now) }
+{
+    first == second
+}
+
 // Marks a content as failed, and refuses it.
 fn refuse<S: Source>(prim: &mut Primitive<S>, text: &str) -> DecodeError<S::Error>
     ensures error { OnlyContent result (Unit {0}) }
@@ -90,7 +97,7 @@ fn skip_octets<S: Source>(
     ensures no_memory { IfErr result (λ e. e ≢ Memory) }
 {
     let count = at_hand(prim)?;
-    let is_expected = front(prim, count) == expected;
+    let is_expected = are_same(front(prim, count), expected);
     if is_expected {
         pass(prim, count);
         return Ok(());

@@ -6,6 +6,8 @@ mod content;
 mod iter;
 pub mod laws;
 pub mod oid;
+#[cfg(test)]
+mod tests;
 mod text;
 
 pub use oid::{ConstOid, Oid};

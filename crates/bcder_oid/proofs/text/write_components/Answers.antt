@@ -1,4 +1,4 @@
-use Rattle.std.proofs.Common.{◌≡◌, ℕ, List, ◌∷◌, ◌+◌, ◌*◌, ◌<◌, ◌≤◌, ap, ◌∙◌, subst, arith}
+use Rattle.std.proofs.Common.{◌≡◌, ℕ, List, ◌∷◌, ◌+◌, ◌*◌, ◌<◌, ap, ◌∙◌, subst, arith}
 use Rattle.bcder_oid.specs.Subidentifiers.{IsShortest, InTurn}
 use Rattle.bcder_oid.proofs.Written.{spells}
 use Rattle.bcder_oid.proofs.text.write_components.Goals as goal
