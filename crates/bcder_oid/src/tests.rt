@@ -3,6 +3,7 @@
 use crate::oid::{ConstOid, Oid, ParseOidError};
 use bcder_content::Decode;
 use bcder_source::{DecodeError, Mode};
+use bcder_values::{PrimitiveContent, Values};
 use std::alloc::{AllocError, Global};
 use std::convert::Infallible;
 use std::test::Fail;
@@ -219,5 +220,15 @@ fn optional_identifiers(rt: HostRuntime) -> Result<(), Fail> {
     assert!(rt; read_opt(rt.alloc(), &[6, 1, 1, 6, 1, 2])?);
     assert!(rt; !read_opt(rt.alloc(), &[6, 1, 1, 5, 0])?);
     assert!(rt; !read_opt(rt.alloc(), &[5, 0])?);
+    Ok(())
+}
+
+#[test]
+fn identifiers_are_written(rt: HostRuntime) -> Result<(), Fail> {
+    for mode in [Mode::Ber, Mode::Cer, Mode::Der] {
+        let mut octets = Vec::new(rt.alloc());
+        COMMON_NAME.encode().write_encoded(mode, &mut octets)?;
+        assert_eq!(rt; octets.as_slice(), [6, 3, 0x55, 4, 3].as_slice());
+    }
     Ok(())
 }
