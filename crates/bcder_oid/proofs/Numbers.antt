@@ -1,5 +1,5 @@
 -- Subidentifiers one behind the other, and the numbers that they are.
-use Rattle.std.proofs.Common.{◌≡◌, ℕ, zero, suc, ◌+◌, ◌*◌, ◌/◌, ◌%◌, ◌^◌, ◌<◌, ◌≤◌, ◌↔◌, inl, inr, List, [], ◌∷◌, ◌++◌, length, take, drop, get_or, refl, sym, ap, ◌∙◌, arith, All, add-one, append_assoc}
+use Rattle.std.proofs.Common.{◌≡◌, ℕ, zero, suc, ◌+◌, ◌*◌, ◌/◌, ◌%◌, ◌^◌, ◌<◌, ◌≤◌, inl, inr, List, [], ◌∷◌, ◌++◌, length, take, drop, get_or, refl, sym, ap, ◌∙◌, arith, All, add-one, append_assoc}
 use Rattle.std.specs.Prelude.{min}
 use Rattle.std.proofs.lemmas.Bool.{cases_lt, cond_below, cond_above}
 use Rattle.std.proofs.lemmas.List.{append-nil, take_more}
@@ -7,7 +7,7 @@ use Rattle.std.proofs.lemmas.List.Elements.{All-head, All-tail}
 use Rattle.bcder_oid.specs.Subidentifiers.{base128_behind, base128, IsSubidentifier, InTurn}
 use Rattle.bcder_oid.specs.declared.component.Place.{Place}
 use Rattle.bcder_oid.specs.declared.component.Place.TheVariants.{First, Second, Later}
-use Rattle.bcder_oid.specs.Components.{numbers_behind, number_at, less_at, IsRoot, AreComponents, first_of, second_of, split_first, components_of, HasComponents}
+use Rattle.bcder_oid.specs.Components.{numbers_behind, number_at, IsRoot, AreComponents, first_of, second_of, split_first, components_of, HasComponents}
 
 -- Bit 8 is set on each octet.
 abbrev pub High : List ℕ → Type 0
@@ -114,20 +114,3 @@ pub near_at : (p : Place) (n : ℕ) → number_at p (min n (2 ^ 33)) < 2 ^ 32 �
 near_at First n h = omega arith
 near_at Second n h = omega arith
 near_at Later n h = omega arith
-
--- Two sums are the same where their last digits are, and what is in front of them with the carries.
-pub digit_step : (a v d m b w e n : ℕ) → a ≡ v * 128 + d → b ≡ w * 128 + e → (m + d) % 128 ≡ (n + e) % 128 → (a + m ≡ b + n) ↔ (v + (m + d) / 128 ≡ w + (n + e) / 128)
-digit_step a v d m b w e n p q r = (λ h. omega arith, λ h. omega arith)
-
-pub digit_differs : (a v d m b w e n : ℕ) → a ≡ v * 128 + d → b ≡ w * 128 + e → ((m + d) % 128 ≡ (n + e) % 128 → ⊥) → a + m ≡ b + n → ⊥
-digit_differs a v d m b w e n p q r h = r (omega arith)
-
-pub no_digits : (v : List ℕ) → length v ≡ 0 → base128 v ≡ 0
-no_digits [] e = refl
-no_digits (a ∷ v) e = absurd (omega arith)
-
--- The subidentifier of a component above 2^32.
-pub far_less : (p : Place) (n : ℕ) → 2 ^ 32 ≤ number_at p n → n ≡ number_at p n + less_at p
-far_less First n h = absurd (omega arith)
-far_less Second n h = omega arith
-far_less Later n h = omega arith

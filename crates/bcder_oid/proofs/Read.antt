@@ -1,22 +1,9 @@
 -- Contents of object identifiers.
-use Rattle.std.proofs.Common.{◌≡◌, ℕ, ◌<◌, ◌≤◌, Some, false, List, [], ◌∷◌, ◌++◌, length, get_or, take, drop, refl, sym, ap, ◌∙◌, subst, arith}
-use Rattle.std.proofs.lemmas.List.{length-append, get_or_push}
+use Rattle.std.proofs.Common.{◌≡◌, ℕ, ◌≤◌, Some, false, List, length, take, drop, sym, ap, ◌∙◌, subst}
 use Rattle.bcder_primitive.specs.Plain.{OctetsLeft, WholeOctets, LacksOctets, GivesOctets}
 use Rattle.bcder_primitive.proofs.Primitives.{gives_whole}
-use Rattle.bcder_oid.specs.Identifiers.{IsIdentifier}
-
--- A list has one last element.
-last_same : (v w : List ℕ) (a b : ℕ) → v ++ a ∷ [] ≡ w ++ b ∷ [] → a ≡ b
-last_same v w a b e =
-    let l : length v ≡ length w = omega (arith, ap length e, length-append v (a ∷ []), length-append w (b ∷ [])) in
-    sym (get_or_push v a 0 (length w) l) ∙ ap (λ (z : List ℕ). get_or z (length w) 0) e ∙ get_or_push w b 0 (length w) refl
-
--- Whether octets are those of an identifier, by the last.
-pub identifier_ends : (s v : List ℕ) (a : ℕ) → s ≡ v ++ a ∷ [] → IsIdentifier s → a < 128
-identifier_ends s v a e i = let f : a ≡ i.last = last_same v i.front a i.last (sym e ∙ i.whole) in let l = i.ends in omega arith
-
-pub no_identifier : (s : List ℕ) → length s ≡ 0 → IsIdentifier s → ⊥
-no_identifier s e i = omega (arith, ap length i.whole, length-append i.front (i.last ∷ []))
+use Rattle.bcder_content.specs.Grammar.{OneOctets}
+use Rattle.bcder_oid.specs.Identifiers.{IsOid}
 
 -- All octets of a content were passed over, which are of the grammar.
 pub gives_front : {A : Type 0} (P : List ℕ → A → Type 0) {old mid new : OctetsLeft} {n : ℕ} {s : List ℕ} {x : A} → mid ≡ old → old.failed ≡ false → old.limit ≡ Some n → s ≡ take n mid.rest → n ≤ length mid.rest → P s x
@@ -30,3 +17,7 @@ gives_front {A} P {old} {mid} {new} {n} {s} {x} same sound limit front there is 
 -- There are no such octets.
 pub lacks_any : {A : Type 0} (P : List ℕ → A → Type 0) (p : OctetsLeft) → ((text : List ℕ) → WholeOctets p text → ⊥) → LacksOctets P p
 lacks_any P p none = record { none = λ text x is w. none text w }
+
+-- Content octets are read in one way.
+pub oid_one : OneOctets IsOid
+oid_one = record { one = λ content x y p q. sym p.same ∙ q.same }

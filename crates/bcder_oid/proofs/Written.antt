@@ -1,16 +1,13 @@
 -- Subidentifiers as they are written: the fewest octets.
 use Rattle.std.proofs.Common.{◌≡◌, ◌≢◌, ℕ, ◌+◌, ◌*◌, ◌/◌, ◌%◌, ◌<◌, ◌≤◌, List, [], ◌∷◌, ◌++◌, refl, sym, ap, ◌∙◌, subst, arith, append_assoc}
 use Rattle.std.proofs.lemmas.List.{append-nil}
-use Rattle.std.proofs.lemmas.List.Elements.{All-nil, All-push}
+use Rattle.std.proofs.lemmas.List.Elements.{All-push}
 use Rattle.bcder_oid.specs.Subidentifiers.{base128, IsShort, IsShortest, InTurn}
 use Rattle.bcder_oid.specs.Components.{AreComponents}
 use Rattle.bcder_oid.specs.Texts.{HighOctets, Spells}
 use Rattle.bcder_oid.proofs.Numbers.{base128_push}
 
--- The octets of a subidentifier but the last, for zero.
-pub high_none : (n : ℕ) → n ≡ 0 → HighOctets [] n
-high_none n e = record { more = All-nil (λ a. 128 ≤ a); value = sym e; short = tt; some = λ z. refl }
-
+-- One octet behind others.
 short_push : (v : List ℕ) (a : ℕ) → IsShort v → (v ≡ [] → a ≢ 128) → IsShort (v ++ a ∷ [])
 short_push [] a s h = h refl
 short_push (b ∷ v) a s h = s
@@ -18,13 +15,12 @@ short_push (b ∷ v) a s h = s
 empty_none : (v : List ℕ) (n : ℕ) → base128 v ≡ n → v ≡ [] → n ≡ 0
 empty_none v n e z = sym e ∙ ap base128 z
 
--- And one more.
+-- One octet more of a subidentifier, but the last.
 pub high_more : (v : List ℕ) (n : ℕ) → 0 < n → HighOctets v (n / 128) → HighOctets (v ++ (128 + n % 128) ∷ []) n
 high_more v n h o = record {
   more = All-push (λ a. 128 ≤ a) v (128 + n % 128) o.more (omega arith);
   value = base128_push 0 v (128 + n % 128) ∙ (let e = o.value in omega arith);
   short = short_push v (128 + n % 128) o.short (λ z f. let e = empty_none v (n / 128) o.value z in omega arith);
-  some = λ z. absurd (omega arith);
 }
 
 -- The last octet.

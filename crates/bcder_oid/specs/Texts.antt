@@ -59,9 +59,8 @@ pub record IsFirstPiece (text front behind : List ℕ) : Type 0 where
   pub whole : text ≡ front ++ 46 ∷ behind
   pub first : LacksDot front
 
--- The octets of a subidentifier but the last: with bit 8 set, for a number the fewest.
+-- The octets of a subidentifier but the last: with bit 8 set, and the fewest for their number.
 pub record HighOctets (octets : List ℕ) (n : ℕ) : Type 0 where
   pub more : All (λ a. 128 ≤ a) octets
   pub value : base128 octets ≡ n
   pub short : IsShort octets
-  pub some : n ≡ 0 → octets ≡ []

@@ -15,11 +15,13 @@ use std::io::Write;
 ///
 /// `TooLong` where the octets are more than 2^32 - 1.
 impl<T: AsSlice<u8>> PrimitiveContent for Oid<T> {
-    const TAG: Tag = Tag::OID;
-
-    ghost TAG = { universal 6 };
+    ghost type_tag = { universal 6 };
 
     ghost content = { λ x m content. AnyOctets content (T.items x.0) };
+
+    fn tag() -> Tag {
+        Tag::OID
+    }
 
     fn encoded_len(&self, mode: Mode) -> Result<usize, EncodeError> {
         Octets(self.as_slice()).encoded_len(mode)
