@@ -123,7 +123,12 @@ impl PartialEq for Component<'_> {
     fn eq(&self, other: &Self) -> bool {
         match ((*self).to_u32(), (*other).to_u32()) {
             (Some(number), Some(other)) => number == other,
-            (None, None) => are_same(self.octets, less(other.place), other.octets, less(self.place)),
+            (None, None) => are_same(
+                self.octets,
+                less(other.place),
+                other.octets,
+                less(self.place),
+            ),
             _ => false,
         }
     }

@@ -192,10 +192,7 @@ impl Oid<Bytes> {
 
 impl<T: AsSlice<u8>> Oid<T> {
     /// Skips an OBJECT IDENTIFIER that is this one, by its octets; any other value is refused.
-    pub fn skip_if<S: Source>(
-        &self,
-        cons: &mut Constructed<S>,
-    ) -> Result<(), DecodeError<S::Error>>
+    pub fn skip_if<S: Source>(&self, cons: &mut Constructed<S>) -> Result<(), DecodeError<S::Error>>
         ensures reads { ReadsAs (λ x. x) (OctetsOf (universal 6) (AreOctets (T.items self.now.0))) (here S.rest cons.old) result (here S.rest cons.new) }
         ensures failed { OnErr result ((here S.rest cons.new).failed ≡ true) }
         ensures no_memory { IfErr result (λ e. e ≢ Memory) }

@@ -30,14 +30,38 @@ const TABLE: [(&str, &[u8]); 28] = [
     ("1.3.6.1.5.5.7.14.2", &[0x2B, 6, 1, 5, 5, 7, 0x0E, 2]),
     ("1.3.6.1.5.5.7.48.13", &[0x2B, 6, 1, 5, 5, 7, 0x30, 0x0D]),
     ("1.2.840.113549", &[0x2A, 0x86, 0x48, 0x86, 0xF7, 0x0D]),
-    ("1.2.840.113549.1.1.11", &[0x2A, 0x86, 0x48, 0x86, 0xF7, 0x0D, 1, 1, 0x0B]),
-    ("1.2.840.10045.3.1.7", &[0x2A, 0x86, 0x48, 0xCE, 0x3D, 3, 1, 7]),
-    ("2.16.840.1.101.3.4.2.1", &[0x60, 0x86, 0x48, 1, 0x65, 3, 4, 2, 1]),
-    ("1.2.840.113549.1.7.2", &[0x2A, 0x86, 0x48, 0x86, 0xF7, 0x0D, 1, 7, 2]),
-    ("1.2.840.113549.1.9.5", &[0x2A, 0x86, 0x48, 0x86, 0xF7, 0x0D, 1, 9, 5]),
-    ("1.2.840.113549.1.9.16.1.24", &[0x2A, 0x86, 0x48, 0x86, 0xF7, 0x0D, 1, 9, 0x10, 1, 0x18]),
-    ("1.2.840.113549.1.9.16.1.49", &[0x2A, 0x86, 0x48, 0x86, 0xF7, 0x0D, 1, 9, 0x10, 1, 0x31]),
-    ("1.2.840.113549.1.9.16.2.46", &[0x2A, 0x86, 0x48, 0x86, 0xF7, 0x0D, 1, 9, 0x10, 2, 0x2E]),
+    (
+        "1.2.840.113549.1.1.11",
+        &[0x2A, 0x86, 0x48, 0x86, 0xF7, 0x0D, 1, 1, 0x0B],
+    ),
+    (
+        "1.2.840.10045.3.1.7",
+        &[0x2A, 0x86, 0x48, 0xCE, 0x3D, 3, 1, 7],
+    ),
+    (
+        "2.16.840.1.101.3.4.2.1",
+        &[0x60, 0x86, 0x48, 1, 0x65, 3, 4, 2, 1],
+    ),
+    (
+        "1.2.840.113549.1.7.2",
+        &[0x2A, 0x86, 0x48, 0x86, 0xF7, 0x0D, 1, 7, 2],
+    ),
+    (
+        "1.2.840.113549.1.9.5",
+        &[0x2A, 0x86, 0x48, 0x86, 0xF7, 0x0D, 1, 9, 5],
+    ),
+    (
+        "1.2.840.113549.1.9.16.1.24",
+        &[0x2A, 0x86, 0x48, 0x86, 0xF7, 0x0D, 1, 9, 0x10, 1, 0x18],
+    ),
+    (
+        "1.2.840.113549.1.9.16.1.49",
+        &[0x2A, 0x86, 0x48, 0x86, 0xF7, 0x0D, 1, 9, 0x10, 1, 0x31],
+    ),
+    (
+        "1.2.840.113549.1.9.16.2.46",
+        &[0x2A, 0x86, 0x48, 0x86, 0xF7, 0x0D, 1, 9, 0x10, 2, 0x2E],
+    ),
 ];
 
 fn text_of(alloc: Global, octets: &[u8]) -> Result<String, AllocError> {
@@ -71,7 +95,10 @@ const ODD: [(&str, &[u8]); 5] = [
     ("", &[0x80]),
     ("2.5.29", &[0x55, 0x1D, 0x93]),
     ("2.5.5", &[0x55, 0x80, 0x80, 0x05]),
-    ("1.2.(not implemented).1", &[0x2A, 0x90, 0x80, 0x80, 0x80, 0x00, 0x01]),
+    (
+        "1.2.(not implemented).1",
+        &[0x2A, 0x90, 0x80, 0x80, 0x80, 0x00, 0x01],
+    ),
 ];
 
 #[test]
@@ -125,7 +152,10 @@ const COMMON_NAME: ConstOid = Oid(&[0x55, 4, 3]);
 fn components_come_in_turn(rt: HostRuntime) {
     let mut components = COMMON_NAME.iter();
     for number in [2, 5, 4, 3] {
-        assert_eq!(rt; components.next().map(|component| component.to_u32()), Some(Some(number)));
+        assert_eq!(rt;
+            components.next().map(|component| component.to_u32()),
+            Some(Some(number))
+        );
     }
     assert!(rt; components.next().is_none());
 }
@@ -133,9 +163,15 @@ fn components_come_in_turn(rt: HostRuntime) {
 #[test]
 fn large_components_are_equal_by_number(rt: HostRuntime) {
     // 2.4294967296.4294967296, and 4294967296 with a zero in front.
-    let oid = Oid([0x90, 0x80, 0x80, 0x80, 0x50, 0x90, 0x80, 0x80, 0x80, 0, 0x80, 0x90, 0x80, 0x80, 0x80, 0]);
+    let oid = Oid([
+        0x90, 0x80, 0x80, 0x80, 0x50, 0x90, 0x80, 0x80, 0x80, 0, 0x80, 0x90, 0x80, 0x80, 0x80, 0,
+    ]);
     let mut components = oid.iter().skip(1);
-    let (Some(second), Some(third), Some(fourth)) = (components.next(), components.next(), components.next()) else {
+    let (Some(second), Some(third), Some(fourth)) = (
+        components.next(),
+        components.next(),
+        components.next(),
+    ) else {
         assert!(rt; false);
         return;
     };
@@ -205,14 +241,11 @@ fn one_identifier_is_skipped(rt: HostRuntime) {
 }
 
 fn read_opt(alloc: Global, octets: &[u8]) -> Result<bool, Refusal> {
-    Mode::Der.decode(
-        octets,
-        |cons| {
-            let skipped = Oid::skip_opt_in(cons)?;
-            let oid = Oid::take_opt_from(cons, alloc)?;
-            Ok(skipped.is_some() && oid.is_some())
-        },
-    )
+    Mode::Der.decode(octets, |cons| {
+        let skipped = Oid::skip_opt_in(cons)?;
+        let oid = Oid::take_opt_from(cons, alloc)?;
+        Ok(skipped.is_some() && oid.is_some())
+    })
 }
 
 #[test]
