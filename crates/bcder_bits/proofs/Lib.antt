@@ -1,0 +1,5 @@
+pub mod BitLists
+pub mod Padding
+pub mod Readings
+pub mod ContentReadings
+pub mod Writings
