@@ -3,3 +3,4 @@ pub mod Padding
 pub mod Readings
 pub mod ContentReadings
 pub mod Writings
+pub mod SameBits

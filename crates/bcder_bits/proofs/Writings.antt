@@ -16,7 +16,7 @@ cleared-push unused [] a = refl
 cleared-push unused (b ∷ []) a = refl
 cleared-push unused (b ∷ c ∷ v) a = ap (λ (l : List ℕ). b ∷ l) (cleared-push unused (c ∷ v) a)
 
-length-cleared : (unused : ℕ) (v : List ℕ) → length (cleared unused v) ≡ length v
+pub length-cleared : (unused : ℕ) (v : List ℕ) → length (cleared unused v) ≡ length v
 length-cleared unused [] = refl
 length-cleared unused (a ∷ []) = refl
 length-cleared unused (a ∷ b ∷ v) = ap suc (length-cleared unused (b ∷ v))
