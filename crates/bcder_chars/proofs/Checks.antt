@@ -54,3 +54,23 @@ if_none (Some x) h = tt
 pub on_err : {A E P : Type 0} (r : Result A E) → P → OnErr r P
 on_err (Ok x) h = tt
 on_err (Err e) h = h
+
+no_more : {Has : ℕ → Type 0} {spell : ℕ → List ℕ} → ((d : ℕ) → Has d → 1 ≤ length (spell d)) → (octets : List ℕ) (c : ℕ) (cs : List ℕ) → Tells Has spell octets [] → Tells Has spell octets (c ∷ cs) → ⊥
+no_more {Has} {spell} some octets c cs t u =
+    let e : spell c ++ flat_map spell cs ≡ [] = u.spelled ∙ sym t.spelled in
+    let long : length (spell c ++ flat_map spell cs) ≡ 0 = ap length e in
+    omega (arith, length-append (spell c) (flat_map spell cs), some c (All-head Has c cs u.has))
+
+-- Octets tell one list of characters.
+pub one_chars : {Has : ℕ → Type 0} {spell : ℕ → List ℕ} → ((d : ℕ) → Has d → 1 ≤ length (spell d)) → HasOneStart Has spell → (octets a b : List ℕ) → Tells Has spell octets a → Tells Has spell octets b → a ≡ b
+one_chars some one octets [] [] t u = refl
+one_chars some one octets [] (d ∷ ds) t u = absurd (no_more some octets d ds t u)
+one_chars some one octets (c ∷ cs) [] t u = absurd (no_more some octets c cs u t)
+one_chars {Has} {spell} some one octets (c ∷ cs) (d ∷ ds) t u =
+    let s = first_of_text octets c cs t in
+    let r = first_of_text octets d ds u in
+    let head : c ≡ d = one.char octets c d (flat_map spell cs) (flat_map spell ds) s r in
+    let tail : cs ≡ ds = one_chars some one (flat_map spell cs) cs ds
+        (record { has = All-tail Has c cs t.has; spelled = refl })
+        (record { has = All-tail Has d ds u.has; spelled = one.behind octets d c (flat_map spell ds) (flat_map spell cs) r s }) in
+    cc

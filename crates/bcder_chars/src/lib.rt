@@ -6,6 +6,7 @@
 
 pub mod char_set;
 pub mod error;
+pub mod laws;
 mod octet_set;
 pub mod sets;
 mod utf8;
