@@ -116,11 +116,13 @@ fn put_content<W: Write>(
 /// `CerUnsupported` where it has more than 1000 content octets in CER, the count of unused bits among them
 /// (9.2); `TooLong` where it has more than 2^32 - 1.
 impl PrimitiveContent for BitString {
-    const TAG: Tag = Tag::BIT_STRING;
-
-    ghost TAG = { bit_string_tag };
+    ghost type_tag = { bit_string_tag };
 
     ghost content = { λ v m. WritesBits m v };
+
+    fn tag() -> Tag {
+        Tag::BIT_STRING
+    }
 
     fn encoded_len(&self, mode: Mode) -> Result<usize, EncodeError> {
         content_len(mode, self.unused(), self.as_slice())
@@ -150,11 +152,13 @@ pub type BitSliceEncoder<T> = Primitive<BitSlice<T>>;
 
 /// What is written, and what isn't, is as of a `BitString`.
 impl<T: AsSlice<u8>> PrimitiveContent for BitSlice<T> {
-    const TAG: Tag = Tag::BIT_STRING;
-
-    ghost TAG = { bit_string_tag };
+    ghost type_tag = { bit_string_tag };
 
     ghost content = { λ x m. WritesBits m (record { unused = x.unused; octets = T.items x.octets }) };
+
+    fn tag() -> Tag {
+        Tag::BIT_STRING
+    }
 
     fn encoded_len(&self, mode: Mode) -> Result<usize, EncodeError> {
         content_len(mode, self.unused, self.octets.as_slice())
