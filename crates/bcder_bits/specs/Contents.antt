@@ -11,7 +11,7 @@ last_octet [] = 0
 last_octet (a ∷ []) = a
 last_octet (a ∷ b ∷ v) = last_octet (b ∷ v)
 
--- The unused bits are zero in CER and DER (11.2.1); in BER they may be set (8.6.2.4).
+-- The unused bits are zero in CER and DER (11.2.1); in BER they may be set.
 abbrev pub IsPadded : Mode → BitsValue → Type 0
 IsPadded Ber v = Unit {0}
 IsPadded Cer v = last_octet v.octets % 2 ^ v.unused ≡ 0

@@ -1,6 +1,6 @@
 -- Texts of ASCII, whose octets are their characters.
-use Rattle.std.proofs.Common.{◌≡◌, ℕ, ◌<◌, inl, inr, lit<, get_or, List, [], ◌∷◌, length, map, refl, sym, ap, ◌∙◌, subst}
-use Rattle.std.specs.Prelude.{◌↔◌, All, IsAscii, IsUtf8, chars, flat_map, encode_utf8_all}
+use Rattle.std.proofs.Common.{◌≡◌, ℕ, ◌<◌, inl, inr, lit<, get_or, List, length, sym, ◌∙◌, subst}
+use Rattle.std.specs.Prelude.{◌↔◌, All, IsAscii, IsUtf8, chars}
 use Rattle.std.proofs.lemmas.List.{map-id, get_or_past}
 use Rattle.std.proofs.lemmas.Bool.{cases_lt}
 use Rattle.std.proofs.lemmas.List.Concat.{flat_map_single}

@@ -1,7 +1,7 @@
 -- Fronts of octets that are UTF-8.
-use Rattle.std.proofs.Common.{◌≡◌, ℕ, ◌≤◌, ◌<◌, ◌+◌, inl, inr, min, true, List, [], ◌∷◌, ◌++◌, length, take, drop, refl, sym, ap, append_assoc, take-append-drop, ◌∙◌, subst, arith}
+use Rattle.std.proofs.Common.{◌≡◌, ℕ, ◌≤◌, ◌+◌, inl, inr, min, true, List, [], ◌∷◌, ◌++◌, length, take, drop, refl, sym, ap, append_assoc, take-append-drop, ◌∙◌, subst, arith}
 use Rattle.std.specs.Prelude.{◌↔◌, encode_utf8, encode_utf8_all, IsUtf8, All, chars, flat_map}
-use Rattle.std.specs.Char.{IsScalar, len_utf8}
+use Rattle.std.specs.Char.{len_utf8}
 use Rattle.std.specs.Str.{all_scalars, IsValidUpTo}
 use lib.Utf8.{scalar}
 use Rattle.std.proofs.lemmas.Bool.{and_parts, and_from, cases_lt}

@@ -1,12 +1,11 @@
 -- Laws of the sets: a character has octets, and one stands in front at most.
-use Rattle.std.proofs.Common.{◌≡◌, ℕ, ◌<◌, ◌≤◌, ◌⊎◌, inl, inr, ◌==◌, ◌||◌, Bool, true, false, List, [], ◌∷◌, ◌++◌, length, IsTrue, sym, ap, ◌∙◌, arith, lit≤}
+use Rattle.std.proofs.Common.{◌≡◌, ℕ, ◌<◌, ◌≤◌, inl, inr, ◌∷◌, length, sym, ◌∙◌, arith, lit≤}
 use Rattle.std.specs.Prelude.{encode_utf8, codes}
-use Rattle.std.specs.List.{list_any}
 use Rattle.std.proofs.lemmas.Str.{length-encode, len_utf8_bounds, encode_same}
 use Rattle.std.proofs.lemmas.Bool.Decides.{nat_tests}
 use Rattle.bcder_tree.specs.Strings.{IsOneOf}
-use Rattle.bcder_chars.specs.Sets.{IsDigit, IsUnicode, IsNumeric, IsPrintable, IsIa5, alone}
-use Rattle.bcder_chars.specs.Texts.{Starts, HasOneStart}
+use Rattle.bcder_chars.specs.Sets.{IsUnicode, IsNumeric, IsPrintable, IsIa5, alone}
+use Rattle.bcder_chars.specs.Texts.{HasOneStart}
 
 pub alone_some : (Has : ℕ → Type 0) (c : ℕ) → Has c → 1 ≤ length (alone c)
 alone_some Has c h = lit≤ tt

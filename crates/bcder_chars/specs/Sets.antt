@@ -1,5 +1,5 @@
 -- The character sets (X.680 clause 41, X.690 8.23).
-use Rattle.std.specs.Prelude.{◌≡◌, ℕ, ◌⊎◌, List, [], ◌∷◌, encode_utf8}
+use Rattle.std.specs.Prelude.{◌≡◌, ℕ, ◌⊎◌, List, [], ◌∷◌}
 use Rattle.std.specs.Char.{IsScalar}
 pub use Rattle.bcder_tree.specs.Strings.{IsDigit, IsPrintable, IsIa5}
 

@@ -1,5 +1,5 @@
 -- Texts: characters of a set, and the octets that spell them (X.680 clause 41, X.690 8.23).
-use Rattle.std.specs.Prelude.{◌≡◌, ℕ, List, [], ◌∷◌, ◌++◌, All, flat_map}
+use Rattle.std.specs.Prelude.{◌≡◌, ℕ, List, [], ◌++◌, All, flat_map}
 
 -- The octets are a text of the set, with these characters: each is in the set, and its octets stand one behind the other.
 pub record Tells (Has : ℕ → Type 0) (spell : ℕ → List ℕ) (octets chars : List ℕ) : Type 0 where
