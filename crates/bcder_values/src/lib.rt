@@ -15,6 +15,7 @@ pub mod primitive;
 pub mod simple;
 pub mod tuples;
 pub mod values;
+pub mod walk;
 mod write;
 
 pub use captured::CapturedBuilder;
@@ -23,8 +24,9 @@ pub use constructed::{Constructed, sequence, sequence_as, set, set_as};
 pub use error::EncodeError;
 pub use header::{total_encoded_len, write_header};
 pub use items::{Encodes, Itself, Slice};
-pub use list::slice;
+pub use list::{iter, slice};
 pub use primitive::{Primitive, PrimitiveContent};
 pub use simple::Octets;
 pub use values::Values;
+pub use walk::{Iter, Walk};
 pub use write::write_octets;

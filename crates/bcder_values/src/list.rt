@@ -4,7 +4,7 @@ ghost use Rattle.std.specs.Prelude.{◌≡◌};
 ghost use Rattle.bcder_values.specs.Lists.{AreAll, WritesAll, all_spelled, all_one};
 
 use crate::items::{len_of_each, write_each};
-use crate::{EncodeError, Itself, Slice, Values};
+use crate::{EncodeError, Iter, Itself, Slice, Values};
 use bcder_tree::Mode;
 use std::io::Write;
 
@@ -14,6 +14,13 @@ pub fn slice<'a, U, E>(items: &'a [U], by: E) -> Slice<'a, U, E>
     ensures by { result.by ≡ by }
 {
     Slice { items, by }
+}
+
+/// The values of a walk.
+pub fn iter<T>(walk: T) -> Iter<T>
+    ensures { result.0 ≡ walk }
+{
+    Iter(walk)
 }
 
 /// All values, in their order.
