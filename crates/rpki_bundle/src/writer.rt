@@ -1,4 +1,7 @@
 //! What is written of bundles and of their entries, by the codec.
+//!
+//! All is generic over what lends the octets: the toolchain covers no call that takes a struct with a borrow
+//! and a fact of its own by value, as `sequence` of borrowed strings would be.
 
 ghost use Rattle.std.specs.Prelude.{◌≡◌, IfOk, IfErr, OnOk};
 ghost use Rattle.bcder_tree.specs.Tags.{IsTag};
