@@ -114,19 +114,19 @@ impl<T: AsSlice<u8>> PrimitiveContent for Octets<T> {
     }
 
     fn encoded_len(&self, _mode: Mode) -> Result<usize, EncodeError> {
-        let octets = self.0.as_slice();
-        if octets.len() > MAX_LEN {
+        let lent = self.0.as_slice();
+        if lent.len() > MAX_LEN {
             return Err(EncodeError::TooLong);
         }
-        Ok(octets.len())
+        Ok(lent.len())
     }
 
     fn write_encoded<W: Write>(&self, _mode: Mode, target: &mut W) -> Result<(), EncodeError> {
-        let octets = self.0.as_slice();
-        if octets.len() > MAX_LEN {
+        let lent = self.0.as_slice();
+        if lent.len() > MAX_LEN {
             return Err(EncodeError::TooLong);
         }
-        write_octets(target, octets)
+        write_octets(target, lent)
     }
 
     ghost is_tag = { Prim.search rules };

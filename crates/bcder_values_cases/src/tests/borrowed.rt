@@ -7,7 +7,8 @@ ghost use Rattle.bcder_values.specs.Simple.{one_string};
 
 use bcder_tree::{Mode, Tag};
 use bcder_values::{
-    CapturedBuilder, EncodeError, Encodes, Primitive, PrimitiveContent, Values, sequence, slice,
+    CapturedBuilder, Constructed, EncodeError, Encodes, Primitive, PrimitiveContent, Values,
+    sequence, set_as, slice, total_encoded_len, write_header,
 };
 use std::test::Fail;
 
@@ -87,5 +88,31 @@ fn what_is_gathered(rt: HostRuntime) -> Result<(), Fail> {
     assert_eq!(rt; builder.extend(&values), Err(EncodeError::CerUnsupported));
     let none = builder.freeze()?;
     assert!(rt; none.as_slice().is_empty());
+    Ok(())
+}
+
+#[test]
+fn headers_and_bytes(rt: HostRuntime) -> Result<(), Fail> {
+    // By hand, after X.690 8.1.2, 8.1.3, 8.3 and 8.14: 300 is 01 2C.
+    let alloc = rt.alloc();
+    let mut header: Vec<u8> = Vec::new(alloc);
+    write_header(&mut header, Tag::SEQUENCE, true, 300)?;
+    assert_eq!(rt; header.as_slice(), [0x30, 0x82, 1, 0x2C].as_slice());
+    assert_eq!(rt; total_encoded_len(Tag::SEQUENCE, 300), Ok(304));
+    let refused = write_header(&mut header, Tag::SEQUENCE, true, 0x1_0000_0000);
+    assert_eq!(rt; refused, Err(EncodeError::TooLong));
+    assert_eq!(rt; header.len(), 4);
+    assert_eq!(rt;
+        total_encoded_len(Tag::SEQUENCE, 0x1_0000_0000),
+        Err(EncodeError::TooLong)
+    );
+    let bytes = 300_u16.to_encoded_bytes(alloc, Mode::Cer)?;
+    assert_eq!(rt; bytes.as_slice(), [1, 0x2C].as_slice());
+    let values = set_as(Tag::CTX_2, true.encode().explicit(Tag::CTX_0));
+    let written = Constructed::new(Tag::CTX_1, values).to_captured(alloc, Mode::Der)?;
+    assert_eq!(rt;
+        written.as_slice(),
+        [0xA1, 7, 0xA2, 5, 0xA0, 3, 1, 1, 255].as_slice()
+    );
     Ok(())
 }
