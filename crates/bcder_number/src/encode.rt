@@ -14,11 +14,13 @@ use std::io::Write;
 
 /// The number's only content octets, in every mode. `TooLong` where they are more than 2^32 - 1.
 impl PrimitiveContent for Integer {
-    const TAG: Tag = Tag::INTEGER;
-
-    ghost TAG = { universal 2 };
+    ghost type_tag = { universal 2 };
 
     ghost content = { λ x m content. IsInteger content x };
+
+    fn tag() -> Tag {
+        Tag::INTEGER
+    }
 
     fn encoded_len(&self, mode: Mode) -> Result<usize, EncodeError> {
         let octets = Octets(self.as_slice());
@@ -37,11 +39,13 @@ impl PrimitiveContent for Integer {
 
 /// The number's only content octets, in every mode. `TooLong` where they are more than 2^32 - 1.
 impl PrimitiveContent for Unsigned {
-    const TAG: Tag = Tag::INTEGER;
-
-    ghost TAG = { universal 2 };
+    ghost type_tag = { universal 2 };
 
     ghost content = { λ n m content. IsNatural content n };
+
+    fn tag() -> Tag {
+        Tag::INTEGER
+    }
 
     fn encoded_len(&self, mode: Mode) -> Result<usize, EncodeError> {
         let integer = self.as_integer();

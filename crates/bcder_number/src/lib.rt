@@ -8,7 +8,7 @@
 //! Conversions are calls by name (`Integer::from_u64`, `to_u64`) in place of `From` and `TryFrom`, which take no
 //! allocator and have no reference to read; so is the comparison across types (`equals_unsigned`), and
 //! `as_slice`, `as_bytes`, `as_integer` stand for `AsRef`. `Unsigned::from_slice` and `from_bytes` take content octets
-//! alone: as few as can be, with the sign clear. `PrimitiveContent` is that of the values, not of references.
+//! alone: as few as can be, with the sign clear.
 #![tactic(auto)]
 
 pub mod convert;
