@@ -1,6 +1,6 @@
 //! Object identifiers of texts: `1.2.840.113549`.
 
-ghost use Rattle.std.specs.Prelude.{◌≡◌, ◌+◌, ◌*◌, ◌^◌, ◌<◌, ◌≤◌, ◌++◌, ◌∷◌, [], ℕ, List, IfOk, IfErr, OnOk, MatchOption, MatchResult};
+ghost use Rattle.std.specs.Prelude.{◌≡◌, ◌++◌, ◌∷◌, ℕ, List, IfOk, IfErr, OnOk, MatchOption};
 ghost use Rattle.bcder_oid.specs.Subidentifiers.{InTurn, IsShortest};
 ghost use Rattle.bcder_oid.specs.Texts.{IsComponentText, IsDotted, MayBegin, Spells, ReadsText, OnRefused, HighOctets, IsLastPiece, IsFirstPiece};
 
