@@ -89,7 +89,7 @@ fn codec_values(rt: HostRuntime) -> Result<(), Fail> {
     assert!(rt; read(alloc, Mode::Der, octets).is_none());
     assert!(rt; read(alloc, Mode::Cer, octets).is_none());
     let bits = read(alloc, Mode::Ber, octets).ok_or("refused")?;
-    assert_eq!(rt; bits.octet(0), 255);
+    assert_eq!(rt; bits.octet_slice(), Some(b"\xFF".as_slice()));
     let value = bits.encode();
     assert_eq!(rt; written(alloc, Mode::Ber, &value)?.as_slice(), octets);
     assert_eq!(rt;
@@ -133,6 +133,7 @@ fn each_call(rt: HostRuntime) -> Result<(), Fail> {
     let alloc = rt.alloc();
     let bits = BitString::new(4, Bytes::copy_from_slice(alloc, b"\x12\x30")?);
     assert_eq!(rt; bits.octet_len(), 2);
+    assert_eq!(rt; bits.octet(1), 0x30);
     assert_eq!(rt; bits.octet_slice(), Some(b"\x12\x30".as_slice()));
     let octets: Vec<u8> = bits.octets().collect(alloc)?;
     assert_eq!(rt; octets.as_slice(), b"\x12\x30".as_slice());

@@ -71,6 +71,6 @@ one_chars {Has} {spell} some one octets (c ∷ cs) (d ∷ ds) t u =
     let r = first_of_text octets d ds u in
     let head : c ≡ d = one.char octets c d (flat_map spell cs) (flat_map spell ds) s r in
     let tail : cs ≡ ds = one_chars some one (flat_map spell cs) cs ds
-        (record { has = All-tail Has c cs t.has; spelled = refl })
-        (record { has = All-tail Has d ds u.has; spelled = one.behind octets d c (flat_map spell ds) (flat_map spell cs) r s }) in
+    (record { has = All-tail Has c cs t.has; spelled = refl })
+    (record { has = All-tail Has d ds u.has; spelled = one.behind octets d c (flat_map spell ds) (flat_map spell cs) r s }) in
     cc
