@@ -15,3 +15,4 @@ mod SkipContents
 pub mod Anything
 pub mod Parts
 pub mod Memories
+pub mod Perhaps
