@@ -16,3 +16,4 @@ pub mod Anything
 pub mod Parts
 pub mod Passing
 pub mod Memories
+pub mod Perhaps

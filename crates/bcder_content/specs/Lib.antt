@@ -14,3 +14,4 @@ pub mod Captures
 pub mod Either
 pub mod Skips
 pub mod Memory
+pub mod Perhaps

@@ -1,3 +1,4 @@
 pub mod CountLemmas
 pub mod IterLemmas
 pub mod LawLemmas
+pub mod Reading

@@ -3,3 +3,5 @@ pub mod Blocks
 pub mod Counted
 pub mod Left
 pub mod Choices
+pub mod Encodings
+pub mod Reading

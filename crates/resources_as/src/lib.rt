@@ -4,6 +4,7 @@
 pub mod block;
 pub mod blocks;
 pub mod claims;
+mod der;
 pub mod error;
 pub mod iter;
 pub mod laws;
@@ -22,6 +23,3 @@ pub use resources_asn::{
     Asn, ParseAsnError, SmallAsnSet, SmallSetDifference, SmallSetIntersection, SmallSetIter,
     SmallSetSymmetricDifference, SmallSetUnion, asn, small_set,
 };
-
-#[cfg(test)]
-mod tests;

@@ -1,0 +1,12 @@
+use Rattle.std.proofs.Common.{length}
+use Rattle.bcder_content.specs.Grammar.{Many}
+use Rattle.bcder_content.specs.Here.{here}
+use Rattle.bcder_content.proofs.Forests.{Listing}
+use Rattle.resources_as.specs.Encodings.{IsAsBlock}
+use Rattle.resources_as.proofs.der.take_blocks.Given as goal
+
+abbrev pub invariant-loop-blocks : goal.invariant-loop-blocks
+invariant-loop-blocks g l = Listing (Many IsAsBlock) IsAsBlock (λ xs. xs) l.blocks (here g.S.Source.rest l.fn.cons) (here g.S.Source.rest l.cons)
+
+abbrev pub decreases-loop-blocks : goal.decreases-loop-blocks
+decreases-loop-blocks g l = length (g.S.Source.rest l.cons.octets.source.source)

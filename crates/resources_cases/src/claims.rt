@@ -1,0 +1,58 @@
+//! What a line asks.
+
+use resources_chain::Overclaim;
+
+/// A question about sets, or about what a path of claims holds.
+#[derive(Clone, Copy, Debug, PartialEq, Eq)]
+pub enum Question {
+    /// The set of a text, printed.
+    Read,
+    /// Whether all of the first set is in the second.
+    Within,
+    Union,
+    Intersection,
+    Difference,
+    /// What a claim under a policy holds below the set of an issuer.
+    Issued(Overclaim),
+    /// Whether an issuer covers all that is listed.
+    Covered,
+    /// What a path of claims holds below a root.
+    Path,
+    /// Resources that are inherited, missing or listed, printed, and their set.
+    Resources,
+    /// How many numbers there are; of addresses, whether they are whole IPv4 addresses.
+    Count,
+    /// The first numbers, one by one; of a range of addresses, its prefixes.
+    Each,
+    /// The resources that octets in hexadecimal digits encode in DER.
+    Decode,
+}
+
+impl Question {
+    pub fn of(word: &str) -> Option<Question> {
+        match word {
+            "read" => Some(Question::Read),
+            "within" => Some(Question::Within),
+            "union" => Some(Question::Union),
+            "intersection" => Some(Question::Intersection),
+            "difference" => Some(Question::Difference),
+            "refuse" => Some(Question::Issued(Overclaim::Refuse)),
+            "trim" => Some(Question::Issued(Overclaim::Trim)),
+            "covered" => Some(Question::Covered),
+            "path" => Some(Question::Path),
+            "resources" => Some(Question::Resources),
+            "count" => Some(Question::Count),
+            "each" => Some(Question::Each),
+            "decode" => Some(Question::Decode),
+            _ => None,
+        }
+    }
+}
+
+// The policy of a word.
+pub fn policy(word: &str) -> Overclaim {
+    if word == "trim" {
+        return Overclaim::Trim;
+    }
+    Overclaim::Refuse
+}

@@ -1,0 +1,277 @@
+#!/usr/bin/env python3
+"""Writes the questions and answers of crates/resources_cases: tests/resources_cases.py
+
+The answers come from Python's own integers, sets of ranges and `ipaddress`, and from the worked case
+`resource-cases`. The gate runs the program on `stdin`, and compares what it prints with `stdout`.
+"""
+
+import ipaddress
+import pathlib
+import random
+
+FOLDER = pathlib.Path(__file__).resolve().parent.parent / "crates" / "resources_cases"
+rng = random.Random(3779)
+
+
+def maximal(ranges):
+    """Maximal runs, ascending."""
+    runs = []
+    for first, last in sorted(ranges):
+        if runs and first <= runs[-1][1] + 1:
+            runs[-1] = (runs[-1][0], max(runs[-1][1], last))
+        else:
+            runs.append((first, last))
+    return runs
+
+
+def inside(runs, ends):
+    """Each range between two neighbouring ends is in the runs or out of them."""
+    return {(a, b) for a, b in zip(ends, ends[1:]) if any(f <= a and b - 1 <= l for f, l in runs)}
+
+
+def cut(one, other):
+    ends = sorted({e for f, l in one + other for e in (f, l + 1)})
+    return inside(one, ends), inside(other, ends)
+
+
+def joined(parts):
+    return maximal([(a, b - 1) for a, b in parts])
+
+
+def union(one, other):
+    return maximal(one + other)
+
+
+def intersection(one, other):
+    a, b = cut(one, other)
+    return joined(a & b)
+
+
+def difference(one, other):
+    a, b = cut(one, other)
+    return joined(a - b)
+
+
+class Numbers:
+    word, bits, what = "as", 32, "AS"
+
+    def block(self, first, last):
+        return f"AS{first}" if first == last else f"AS{first}-AS{last}"
+
+    def spelled(self, first, last):
+        prefix = lambda: rng.choice(["AS", "as", "As", ""])
+        if first == last and rng.random() < 0.8:
+            return f"{prefix()}{first}"
+        return f"{prefix()}{first}-{prefix()}{last}"
+
+
+class Addresses:
+    def __init__(self, version):
+        self.word = f"v{version}"
+        self.what = f"IPv{version}"
+        self.address = (None, None, None, None, ipaddress.IPv4Address, None, ipaddress.IPv6Address)[version]
+        self.network = ipaddress.IPv4Network if version == 4 else ipaddress.IPv6Network
+        self.bits = 32 if version == 4 else 128
+
+    def prefixes(self, first, last):
+        return list(ipaddress.summarize_address_range(self.address(first), self.address(last)))
+
+    def block(self, first, last):
+        prefixes = self.prefixes(first, last)
+        return str(prefixes[0]) if len(prefixes) == 1 else f"{self.address(first)}-{self.address(last)}"
+
+    def spelled(self, first, last):
+        if rng.random() < 0.5:
+            return f"{self.address(first)}-{self.address(last)}"
+        return self.block(first, last)
+
+
+class Questions:
+    def __init__(self):
+        self.rows = []
+
+    def ask(self, answer, *words):
+        self.rows.append(("\t".join(words), answer))
+
+    def text(self, kind, runs):
+        return ", ".join(kind.block(f, l) for f, l in runs)
+
+    def spelled(self, kind, ranges):
+        return rng.choice([", ", ","]).join(kind.spelled(f, l) for f, l in ranges)
+
+
+def ranges(kind, most):
+    """Ranges that overlap and touch, near one place or at the ends of all numbers."""
+    top = 2 ** kind.bits - 1
+    base = rng.choice([0, top - 99, 0x0A00_0000 << (kind.bits - 32), rng.randrange(top - 100)])
+    made = []
+    for _ in range(rng.randrange(most + 1)):
+        first = base + rng.randrange(90)
+        made.append((first, min(top, first + rng.choice([0, 0, 1, 3, 7, 9]))))
+    return made
+
+
+def sets(q, kind, reads, pairs):
+    for _ in range(reads):
+        r = ranges(kind, 6)
+        q.ask(q.text(kind, maximal(r)), kind.word, "read", q.spelled(kind, r))
+    for _ in range(pairs):
+        r = ranges(kind, 6)
+        s = [(f + rng.randrange(3), l + 3) for f, l in r if l + 3 < 2 ** kind.bits] + ranges(kind, 3)
+        one, other = maximal(r), maximal(s)
+        two = q.spelled(kind, r), q.spelled(kind, s)
+        q.ask(q.text(kind, union(one, other)), kind.word, "union", *two)
+        q.ask(q.text(kind, intersection(one, other)), kind.word, "intersection", *two)
+        q.ask(q.text(kind, difference(one, other)), kind.word, "difference", *two)
+        q.ask("true" if difference(one, other) == [] else "false", kind.word, "within", *two)
+        q.ask("true", kind.word, "within", q.spelled(kind, intersection(one, other)), two[0])
+        claims(q, kind, one, other, two)
+
+
+def outside(q, kind, runs):
+    return f"refused: overclaimed {kind.what} resources: {q.text(kind, runs)}"
+
+
+def claims(q, kind, one, other, two):
+    held, over = intersection(other, one), difference(other, one)
+    q.ask(q.text(kind, held), kind.word, "trim", *two)
+    q.ask(outside(q, kind, over) if over else q.text(kind, held), kind.word, "refuse", *two)
+    q.ask(outside(q, kind, over) if over else q.text(kind, one), kind.word, "covered", *two)
+
+
+def paths(q, kind, count):
+    for _ in range(count):
+        root = maximal(ranges(kind, 6)) or [(5, 9)]
+        held, words, answer = root, [], None
+        for _ in range(rng.randrange(5)):
+            policy = rng.choice(["trim", "refuse"])
+            listed = [(f + rng.randrange(2), l) for f, l in held if f < l] + rng.choice([[], [], ranges(kind, 1)])
+            if rng.random() < 0.3:
+                words += [policy, "inherit"]
+                continue
+            words += [policy, q.spelled(kind, listed)]
+            if answer is None and policy == "refuse" and difference(maximal(listed), held):
+                answer = outside(q, kind, difference(maximal(listed), held))
+            held = intersection(maximal(listed), held)
+            if kind.word == "as" and listed == []:
+                held = []
+        q.ask(q.text(kind, held) if answer is None else answer, kind.word, "path", q.spelled(kind, root), *words)
+
+
+def numbers(q):
+    kind = Numbers()
+    for _ in range(60):
+        r = maximal(ranges(kind, 5))
+        each = [n for f, l in r for n in range(f, l + 1)]
+        q.ask(str(len(each)), kind.word, "count", q.spelled(kind, r))
+        q.ask("".join(f"AS{n};" for n in each[:12]), kind.word, "each", q.spelled(kind, r))
+    q.ask("4294967296", "as", "count", "AS0-AS4294967295")
+    q.ask("AS4294967294;AS4294967295;", "as", "each", "AS4294967294-AS4294967295")
+    q.ask("refused: inherited AS resources", "as", "resources", "inherit")
+    q.ask(": ", "as", "resources", "")
+    q.ask("AS1-AS2, AS9: AS1-AS2, AS9", "as", "resources", "AS9,AS1,AS2")
+    q.ask("AS0-AS1", "as", "union", "AS0", "AS1")
+    for bad in (",", "AS1,", ", AS1", "AS1, , AS2"):
+        q.ask("refused: invalid list of AS blocks", "as", "read", bad)
+    for bad in ("AS1,  AS2", " AS1", "AS1 ,AS2", "inherit", "AS1-", "-AS1", "AS1 - AS2", "x", "AS4294967296", "AS"):
+        q.ask("refused: invalid AS number", "as", "read", bad)
+    for bad in ("AS1, AS9-AS2", "AS5-AS1", "AS1-AS2-AS3"):
+        q.ask("refused: invalid AS range", "as", "read", bad)
+    q.ask("refused: invalid AS number", "as", "resources", "Inherit")
+    q.ask("refused: overclaimed AS resources: AS64512", "as", "refuse", "AS64496-AS64511", "AS64500, AS64512")
+    q.ask("AS64500", "as", "trim", "AS64496-AS64511", "AS64500, AS64512")
+
+
+def tlv(tag, content):
+    size = len(content)
+    octets = size.to_bytes((size.bit_length() + 7) // 8, "big")
+    return bytes([tag, size] if size < 128 else [tag, 128 + len(octets), *octets]) + content
+
+
+def integer(n):
+    return tlv(2, n.to_bytes(n.bit_length() // 8 + 1, "big", signed=True))
+
+
+def as_block(first, last):
+    return integer(first) if first == last else tlv(0x30, integer(first) + integer(last))
+
+
+def as_resources(content):
+    return tlv(0x30, tlv(0xA0, content))
+
+
+def encodings(q):
+    kind = Numbers()
+    for _ in range(100):
+        r = ranges(kind, 6)
+        octets = as_resources(tlv(0x30, b"".join(as_block(*block) for block in r)))
+        q.ask(q.text(kind, maximal(r)) + ".", "as", "decode", octets.hex())
+    # `resource-cases`: refused, inherited, and the empty set that is listed.
+    q.ask("refused: no AS resources", "as", "decode", "3000")
+    q.ask("inherit.", "as", "decode", "3004a0020500")
+    q.ask(".", "as", "decode", "3004a0023000")
+    q.ask("AS5.", "as", "decode", (as_resources(tlv(0x30, as_block(5, 5))) + b"behind").hex())
+    one = tlv(0x30, integer(7))
+    for octets in (
+        b"",
+        tlv(0x30, tlv(0xA0, b"")),
+        tlv(0x31, tlv(0xA0, one)),
+        tlv(0x30, tlv(0xA1, one)),
+        tlv(0x30, tlv(0xA0, one) + tlv(0xA1, one)),
+        tlv(0x30, one),
+        as_resources(one + one),
+        as_resources(tlv(5, b"0")),
+        as_resources(tlv(0x30, tlv(0x30, integer(9) + integer(8)))),
+        as_resources(tlv(0x30, tlv(0x30, integer(8)))),
+        as_resources(tlv(0x30, tlv(0x30, integer(8) + integer(9) + integer(10)))),
+        as_resources(tlv(0x30, integer(2 ** 32))),
+        as_resources(tlv(0x30, tlv(0x30, integer(1) + integer(2 ** 32)))),
+        as_resources(tlv(0x30, integer(-1))),
+        as_resources(tlv(0x30, tlv(2, b"\0\5"))),
+        as_resources(tlv(0x30, tlv(4, b"5"))),
+        as_resources(tlv(0x30, integer(7) + tlv(5, b""))),
+        bytes.fromhex("3080a080308002010500000000000000"[:-2]),
+        as_resources(tlv(0x30, integer(7)))[:-1],
+    ):
+        q.ask("refused: no AS resources", "as", "decode", octets.hex())
+    q.ask("AS4294967295.", "as", "decode", as_resources(tlv(0x30, integer(2 ** 32 - 1))).hex())
+
+
+def addresses(q):
+    for version in (4, 6):
+        kind = Addresses(version)
+        for _ in range(60):
+            for first, last in maximal(ranges(kind, 2)):
+                each = "".join(f"{p};" for p in kind.prefixes(first, last))
+                q.ask(each, kind.word, "each", f"{kind.address(first)}-{kind.address(last)}")
+        q.ask("refused: inherited IP resources", kind.word, "resources", "inherit")
+        q.ask("", kind.word, "resources", "none")
+        q.ask("", kind.word, "resources", "")
+    q.ask("10.0.0.0/9", "v4", "path", "10.0.0.0/8", "trim", "10.0.0.0/9, 11.0.0.0/8", "refuse", "inherit")
+    q.ask("::ffff:192.0.2.1/128", "v6", "read", "::ffff:192.0.2.1/128")
+    q.ask("::ffff:192.0.2.1-::ffff:192.0.2.2", "v6", "read", "::ffff:c000:202/128, ::ffff:c000:201/128")
+    q.ask("true", "v4", "count", "10.0.0.0/8, 12.0.0.1-12.0.0.9")
+    q.ask("true", "v6", "count", "a00::/8")
+    q.ask("false", "v6", "count", "2001:db8::/32, 2001:db9::/33")
+    q.ask("0.0.0.0/0", "v4", "union", "0.0.0.0/1", "128.0.0.0/1")
+    q.ask("::/0", "v6", "union", "::/1", "8000::/1")
+    return q
+
+
+def main():
+    q = Questions()
+    sets(q, Numbers(), 400, 25)
+    sets(q, Addresses(4), 300, 25)
+    sets(q, Addresses(6), 300, 25)
+    for kind in (Numbers(), Addresses(4), Addresses(6)):
+        paths(q, kind, 40)
+    numbers(q)
+    encodings(q)
+    addresses(q)
+    (FOLDER / "stdin").write_text("".join(f"{question}\n" for question, _ in q.rows))
+    (FOLDER / "stdout").write_text("".join(f"{answer}\n" for _, answer in q.rows))
+    print(len(q.rows), "questions")
+
+
+if __name__ == "__main__":
+    main()
