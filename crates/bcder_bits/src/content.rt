@@ -17,13 +17,13 @@ impl BitString {
     /// The next value, a BIT STRING (X.690 8.6, 9.2, 11.2); any other is refused, and so is a constructed
     /// one. Where the source shares its octets none is copied.
     pub fn take_from<S: Source>(
-        cons: &mut Constructed<S>,
         alloc: Global,
+        cons: &mut Constructed<S>,
     ) -> Result<BitString, DecodeError<S::Error>>
         ensures reads { ReadsAs (λ v. v) (OctetsOf bit_string_tag (IsBitString (here S.rest cons.old).mode)) (here S.rest cons.old) result (here S.rest cons.new) }
         ensures failed { OnErr result ((here S.rest cons.new).failed ≡ true) }
     {
-        cons.take_primitive_if(Tag::BIT_STRING, |prim| take_bits(prim, alloc))
+        cons.take_primitive_if(Tag::BIT_STRING, |prim| take_bits(alloc, prim))
     }
 
     /// Goes past the next value, a BIT STRING; what `take_from` refuses is refused. It takes no memory.
@@ -37,12 +37,12 @@ impl BitString {
 
     /// The bit string of a value's content, whatever the value's tag; a constructed content is refused.
     pub fn from_content<S: Source>(
-        content: &mut Content<'_, S>,
         alloc: Global,
+        content: &mut Content<'_, S>,
     ) -> Result<BitString, DecodeError<S::Error>>
         ensures same { SameContent content.old content.new }
         ensures reads { (tag : _) → ReadsContentAs S.rest (λ v. v) (OctetsOf tag (IsBitString (here S.rest content.old.values.now).mode)) tag content.old result content.new }
     {
-        content.primitive(|prim| take_bits(prim, alloc))
+        content.primitive(|prim| take_bits(alloc, prim))
     }
 }

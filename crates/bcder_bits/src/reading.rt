@@ -84,9 +84,9 @@ fn pass<S: Source>(prim: &mut Primitive<S>, count: usize)
 
 // The bit string that octets at hand spell.
 fn bits_at_hand<S: Source>(
+    alloc: Global,
     prim: &mut Primitive<S>,
     count: usize,
-    alloc: Global,
 ) -> Result<BitString, DecodeError<S::Error>>
     requires at_hand { count ≤ S.available prim.old.source.source }
     requires is { IsAnyBits (plain S.rest prim.old).mode (take count (plain S.rest prim.old).rest) tt }
@@ -108,14 +108,14 @@ fn bits_at_hand<S: Source>(
 
 /// The bit string of a primitive content, all of it.
 pub(crate) fn take_bits<S: Source>(
-    prim: &mut Primitive<S>,
     alloc: Global,
+    prim: &mut Primitive<S>,
 ) -> Result<BitString, DecodeError<S::Error>>
     ensures reads { ReadsOctetsAs (λ v. v) (IsBitString (plain S.rest prim.old).mode) (plain S.rest prim.old) result (plain S.rest prim.new) }
     ensures failed { OnErr result ((plain S.rest prim.new).failed ≡ true) }
 {
     let count = request_bits(prim)?;
-    let bits = bits_at_hand(prim, count, alloc)?;
+    let bits = bits_at_hand(alloc, prim, count)?;
     pass(prim, count);
     Ok(bits)
 }

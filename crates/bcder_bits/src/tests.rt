@@ -12,7 +12,7 @@ const MODES: [Mode; 3] = [Mode::Ber, Mode::Cer, Mode::Der];
 
 // The bit string that a source begins with.
 fn read(alloc: Global, mode: Mode, octets: &[u8]) -> Option<BitString> {
-    Constructed::decode(octets, mode, |cons| BitString::take_from(cons, alloc)).ok()
+    Constructed::decode(octets, mode, |cons| BitString::take_from(alloc, cons)).ok()
 }
 
 // Whether one is gone past.
@@ -153,7 +153,7 @@ fn contents(rt: HostRuntime) -> Result<(), Fail> {
     let alloc = rt.alloc();
     let octets = b"\x81\x03\x04\x12\x30".as_slice();
     let bits = Constructed::decode(octets, Mode::Der, |cons| {
-        cons.take_value(|_, content| BitString::from_content(content, alloc))
+        cons.take_value(|_, content| BitString::from_content(alloc, content))
     })?;
     assert_eq!(rt; bits.unused(), 4);
     Ok(())

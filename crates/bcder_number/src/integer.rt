@@ -48,19 +48,19 @@ impl Integer {
 
     /// An INTEGER, which must be next.
     pub fn take_from<S: Source>(
-        cons: &mut Constructed<S>,
         alloc: Global,
+        cons: &mut Constructed<S>,
     ) -> Result<Integer, DecodeError<S::Error>>
         ensures reads { ReadsAs (λ x. x) (OctetsOf (universal 2) IsInteger) (here S.rest cons.old) result (here S.rest cons.new) }
         ensures failed { OnErr result ((here S.rest cons.new).failed ≡ true) }
     {
-        cons.take_primitive_if(Tag::INTEGER, |prim| Integer::from_primitive(prim, alloc))
+        cons.take_primitive_if(Tag::INTEGER, |prim| Integer::from_primitive(alloc, prim))
     }
 
     /// The INTEGER whose content octets are left; where the source shares its octets none is copied.
     pub fn from_primitive<S: Source>(
-        prim: &mut Primitive<S>,
         alloc: Global,
+        prim: &mut Primitive<S>,
     ) -> Result<Integer, DecodeError<S::Error>>
         ensures reads { ReadsOctetsAs (λ x. x) IsInteger (plain S.rest prim.old) result (plain S.rest prim.new) }
         ensures failed { OnErr result ((plain S.rest prim.new).failed ≡ true) }

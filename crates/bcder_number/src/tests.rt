@@ -15,7 +15,7 @@ use std::hash::{DefaultHasher, Hash, Hasher};
 /// The number with these content octets.
 fn number(alloc: Global, octets: &[u8]) -> Result<Integer, DecodeError<Infallible>> {
     Primitive::decode_slice(octets, Mode::Der, |prim| {
-        Integer::from_primitive(prim, alloc)
+        Integer::from_primitive(alloc, prim)
     })
 }
 

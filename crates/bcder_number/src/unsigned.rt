@@ -86,24 +86,24 @@ impl Unsigned {
 
     /// An INTEGER from 0 up, which must be next.
     pub fn take_from<S: Source>(
-        cons: &mut Constructed<S>,
         alloc: Global,
+        cons: &mut Constructed<S>,
     ) -> Result<Unsigned, DecodeError<S::Error>>
         ensures reads { ReadsAs (λ n. n) (OctetsOf (universal 2) IsNatural) (here S.rest cons.old) result (here S.rest cons.new) }
         ensures failed { OnErr result ((here S.rest cons.new).failed ≡ true) }
     {
-        cons.take_primitive_if(Tag::INTEGER, |prim| Unsigned::from_primitive(prim, alloc))
+        cons.take_primitive_if(Tag::INTEGER, |prim| Unsigned::from_primitive(alloc, prim))
     }
 
     /// The INTEGER from 0 up whose content octets are left; where the source shares its octets none is copied.
     pub fn from_primitive<S: Source>(
-        prim: &mut Primitive<S>,
         alloc: Global,
+        prim: &mut Primitive<S>,
     ) -> Result<Unsigned, DecodeError<S::Error>>
         ensures reads { ReadsOctetsAs (λ n. n) IsNatural (plain S.rest prim.old) result (plain S.rest prim.new) }
         ensures failed { OnErr result ((plain S.rest prim.new).failed ≡ true) }
     {
-        let integer = Integer::from_primitive(prim, alloc)?;
+        let integer = Integer::from_primitive(alloc, prim)?;
         if !integer.is_negative() {
             return Ok(Unsigned::new(integer));
         }

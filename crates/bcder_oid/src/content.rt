@@ -129,24 +129,24 @@ impl Oid<Bytes> {
 
     /// The octets of an OBJECT IDENTIFIER (X.690 8.19); where the source shares its octets none is copied.
     pub fn take_from<S: Source>(
-        cons: &mut Constructed<S>,
         alloc: Global,
+        cons: &mut Constructed<S>,
     ) -> Result<Self, DecodeError<S::Error>>
         ensures reads { ReadsAs (λ oid. oid.0) (OctetsOf (universal 6) IsOid) (here S.rest cons.old) result (here S.rest cons.new) }
         ensures failed { OnErr result ((here S.rest cons.new).failed ≡ true) }
     {
-        cons.take_primitive_if(Tag::OID, |prim| Oid::from_primitive(prim, alloc))
+        cons.take_primitive_if(Tag::OID, |prim| Oid::from_primitive(alloc, prim))
     }
 
     /// The octets of an OBJECT IDENTIFIER, if one is next (X.690 8.19).
     pub fn take_opt_from<S: Source>(
-        cons: &mut Constructed<S>,
         alloc: Global,
+        cons: &mut Constructed<S>,
     ) -> Result<Option<Self>, DecodeError<S::Error>>
         ensures reads { ReadsOptAs (λ oid. oid.0) (universal 6) (OctetsOf (universal 6) IsOid) (here S.rest cons.old) result (here S.rest cons.new) }
         ensures failed { OnErr result ((here S.rest cons.new).failed ≡ true) }
     {
-        cons.take_opt_primitive_if(Tag::OID, |prim| Oid::from_primitive(prim, alloc))
+        cons.take_opt_primitive_if(Tag::OID, |prim| Oid::from_primitive(alloc, prim))
     }
 
     /// Skips the content of an OBJECT IDENTIFIER: one or more octets, of which the last has bit 8 clear.
@@ -166,8 +166,8 @@ impl Oid<Bytes> {
 
     /// The content of an OBJECT IDENTIFIER: one or more octets, of which the last has bit 8 clear.
     pub fn from_primitive<S: Source>(
-        prim: &mut Primitive<S>,
         alloc: Global,
+        prim: &mut Primitive<S>,
     ) -> Result<Self, DecodeError<S::Error>>
         ensures reads { ReadsOctetsAs (λ oid. oid.0) IsOid (plain S.rest prim.old) result (plain S.rest prim.new) }
         ensures failed { OnErr result ((plain S.rest prim.new).failed ≡ true) }

@@ -182,7 +182,7 @@ fn large_components_are_equal_by_number(rt: HostRuntime) {
 type Refusal = DecodeError<Infallible>;
 
 fn read(alloc: Global, mode: Mode, octets: &[u8]) -> Result<Oid, Refusal> {
-    mode.decode(octets, |cons| Oid::take_from(cons, alloc))
+    mode.decode(octets, |cons| Oid::take_from(alloc, cons))
 }
 
 fn skip(mode: Mode, octets: &[u8]) -> Result<(), Refusal> {
@@ -243,7 +243,7 @@ fn one_identifier_is_skipped(rt: HostRuntime) {
 fn read_opt(alloc: Global, octets: &[u8]) -> Result<bool, Refusal> {
     Mode::Der.decode(octets, |cons| {
         let skipped = Oid::skip_opt_in(cons)?;
-        let oid = Oid::take_opt_from(cons, alloc)?;
+        let oid = Oid::take_opt_from(alloc, cons)?;
         Ok(skipped.is_some() && oid.is_some())
     })
 }

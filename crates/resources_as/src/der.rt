@@ -113,8 +113,8 @@ impl AsResources {
     /// Anything else is refused: no `asnum`, routing domains, a number over 32 bits, a range that ends before it
     /// begins.
     pub fn take_from<S: Source>(
-        cons: &mut Constructed<S>,
         alloc: Global,
+        cons: &mut Constructed<S>,
     ) -> Result<AsResources, DecodeError<S::Error>>
         ensures { ReadsAs (λ r. r) IsAsResources (here S.rest cons.old) result (here S.rest cons.new) }
     {

@@ -74,7 +74,7 @@ fn decode(alloc: Global, digits: &str) -> Result<String> {
     let octets = hex::decode(alloc, digits)?;
     let read = Mode::Der.decode(
         octets.as_slice(),
-        |cons| AsResources::take_from(cons, alloc),
+        |cons| AsResources::take_from(alloc, cons),
     );
     match read {
         Ok(resources) => Ok(format!(in alloc; "{resources}.")?),

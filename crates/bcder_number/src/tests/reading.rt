@@ -65,8 +65,8 @@ const LONG: [u8; 23] =
 #[test]
 fn a_long_number_is_read_and_written(rt: HostRuntime) -> Result<(), Fail> {
     let alloc = rt.alloc();
-    let integer = Mode::Der.decode(&LONG[..], |cons| Integer::take_from(cons, alloc))?;
-    let unsigned = Mode::Der.decode(&LONG[..], |cons| Unsigned::take_from(cons, alloc))?;
+    let integer = Mode::Der.decode(&LONG[..], |cons| Integer::take_from(alloc, cons))?;
+    let unsigned = Mode::Der.decode(&LONG[..], |cons| Unsigned::take_from(alloc, cons))?;
     assert!(rt; integer.equals_unsigned(&unsigned));
     assert_eq!(rt; integer.to_u128(), Err(OverflowError));
     assert_eq!(rt; integer.as_slice(), &LONG[2..]);
