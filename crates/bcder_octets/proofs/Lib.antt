@@ -1,2 +1,7 @@
-pub mod Walk
 pub mod Cuts
+pub mod Gathering
+pub mod Rows
+pub mod Strings
+pub mod Visiting
+pub mod Walk
+pub mod Written

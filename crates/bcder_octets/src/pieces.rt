@@ -104,19 +104,19 @@ fn may_stand(before: usize, piece: &[u8]) -> bool
 pub(crate) fn join_cut(alloc: Global, octets: &[u8]) -> Result<Option<Vec<u8>>, AllocError>
     ensures { IfOk result (λ r. (ts : Trees) (pieces : List (List ℕ)) → SpellsAll Ber ts octets.now → ArePlain ts pieces → TellsCut (λ v. v.items) ts r) }
 {
-    let mut out = Vec::new(alloc);
+    let mut cut = Vec::new(alloc);
     let mut rest = octets;
     let mut before = SEGMENT;
     while let Some((piece, behind)) = next_piece(rest) {
         if !may_stand(before, piece) {
             return Ok(None);
         }
-        out.extend_from_slice(piece)?;
+        cut.extend_from_slice(piece)?;
         before = piece.len();
         rest = behind;
     }
-    if out.len() <= SEGMENT {
+    if cut.len() <= SEGMENT {
         return Ok(None);
     }
-    Ok(Some(out))
+    Ok(Some(cut))
 }

@@ -10,10 +10,10 @@ loop-piece-preserved c = cutting_next c.loop-piece.invariant c.in-Some.ensures.f
 
 pub returns-then-len-le-SEGMENT : goal.returns-then-len-le-SEGMENT
 returns-then-len-le-SEGMENT c = λ ts pieces s plain.
-    let few : length c.loop-piece.out.items ≤ 1000 = search rules in
+    let few : length c.loop-piece.cut.items ≤ 1000 = search rules in
     cutting_short (λ (v : List ℕ). v) c.loop-piece.invariant c.in_default.ensures.none few ts s
 
 pub returns : goal.returns
 returns c = λ ts pieces s plain.
-    let long : 1000 < length c.loop-piece.out.items = search rules in
+    let long : 1000 < length c.loop-piece.cut.items = search rules in
     (cutting_done c.loop-piece.invariant c.in_default.ensures.none long ts pieces s plain, long)
