@@ -1,5 +1,5 @@
 -- Segments of 1000 octets, and a last one of 1 to 1000, as pieces.
-use Rattle.std.proofs.Common.{◌≡◌, ◌↔◌, Bool, true, false, IsTrue, Some, None, ℕ, ◌<◌, ◌≤◌, List, [], ◌∷◌, ◌++◌, length, refl, sym, ap, ◌∙◌, subst, append-nil, arith}
+use Rattle.std.proofs.Common.{◌≡◌, ◌↔◌, Bool, true, false, IsTrue, None, ℕ, ◌<◌, ◌≤◌, List, [], ◌∷◌, ◌++◌, length, refl, sym, ap, ◌∙◌, subst, append-nil, arith}
 use Rattle.std.specs.List.{concat}
 use Rattle.bcder_tree.specs.Tree.{Tree, Trees, primitive, none, more}
 use Rattle.bcder_tree.specs.Strings.{octet_string_tag, AreCerSegments}

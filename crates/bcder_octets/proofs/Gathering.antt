@@ -1,23 +1,19 @@
 -- Segments that are captured, and the string that they are.
-use Rattle.std.proofs.Common.{◌≡◌, ◌<◌, ℕ, Bool, true, false, List, [], ◌∷◌, ◌++◌, length, Result, Ok, Err, Option, Some, None, refl, sym, ap, subst, length-append, arith}
-use Rattle.std.specs.Result.{IsErr, IsErrAnd}
+use Rattle.std.proofs.Common.{◌≡◌, ◌<◌, ℕ, Bool, true, false, List, [], ◌∷◌, ◌++◌, length, refl, sym, ap, subst, length-append, arith}
 use Rattle.bcder_tree.specs.declared.mode.Mode.{Mode}
 use Rattle.bcder_tree.specs.declared.mode.Mode.TheVariants.{Ber}
-use Rattle.bcder_tree.specs.Tree.{Tree, Trees, primitive, none, more, Spells, SpellsAll}
-use Rattle.bcder_tree.specs.Strings.{octet_string_tag, AreSegments, AreCerSegments}
+use Rattle.bcder_tree.specs.Tree.{Tree, Trees, none, more, Spells, SpellsAll}
+use Rattle.bcder_tree.specs.Strings.{AreSegments, AreCerSegments}
 use Rattle.bcder_tree.proofs.Fronts.{whole_front}
 use Rattle.bcder_tree.proofs.Modes.{all_to_ber}
 use Rattle.bcder_tree.proofs.Trees.{tree_goes_on}
-use Rattle.bcder_source.specs.Errors.{OnContent}
-use Rattle.bcder_source.specs.declared.error.DecodeError.{DecodeError}
 use Rattle.bcder_content.specs.Contents.{ValuesLeft, Took, Ended}
-use Rattle.bcder_content.specs.Exact.{Gives, Lacks, LacksAll, GivesAll, ReadsAllAs}
+use Rattle.bcder_content.specs.Exact.{Gives, Lacks, LacksAll, GivesAll}
 use Rattle.bcder_content.specs.Grammar.{ManyCases, Many, ExactlyAll}
-use Rattle.bcder_content.specs.Kept.{CapturedValue}
 use Rattle.bcder_content.proofs.Forests.{Listing, list_next, list_over, many_lacks}
 use Rattle.bcder_content.proofs.Took.{one_whole}
-use Rattle.bcder_octets.specs.Pieces.{ArePlain, TellsCut}
-use Rattle.bcder_octets.specs.Parts.{IsPart, PartCases, PartsCases, AllParts, AreCut}
+use Rattle.bcder_octets.specs.Pieces.{ArePlain}
+use Rattle.bcder_octets.specs.Parts.{IsPart, PartsCases, AllParts, AreCut}
 use Rattle.bcder_octets.proofs.Cuts.{cut_pieces}
 
 -- A value has octets.

@@ -1,32 +1,31 @@
 -- Reading strings, by the readers of their contents.
-use Rattle.std.proofs.Common.{◌≡◌, ◌↔◌, IsTrue, ℕ, ◌+◌, ◌<◌, ◌≤◌, Bool, true, false, List, [], ◌∷◌, ◌++◌, length, Result, Ok, Err, IsOk, Option, Some, None, refl, sym, ap, ◌∙◌, subst, length-append, arith}
+use Rattle.std.proofs.Common.{◌≡◌, ◌↔◌, IsTrue, ℕ, ◌+◌, ◌≤◌, Bool, true, false, List, length, Result, Ok, Err, Option, Some, None, refl, sym, ap, ◌∙◌, subst, arith}
 use Rattle.std.specs.Fn.{FnOnceReturnsAtMut}
 use denote.Ref.{MutBor}
 use Rattle.bcder_tree.specs.declared.mode.Mode.{Mode}
 use Rattle.bcder_tree.specs.declared.mode.Mode.TheVariants.{Ber, Cer, Der}
 use Rattle.bcder_tree.specs.Tags.{TagValue}
 use Rattle.bcder_tree.specs.Tree.{Tree, Trees, primitive, constructed}
-use Rattle.bcder_tree.specs.Strings.{octet_string_tag, IsString}
+use Rattle.bcder_tree.specs.Strings.{IsString}
 use Rattle.bcder_source.specs.declared.error.DecodeError.{DecodeError}
 use Rattle.bcder_source.specs.declared.error.DecodeError.TheVariants.{Content as content_error, Source, Memory}
 use Rattle.bcder_source.specs.Views.{more_limit}
-use Rattle.bcder_header.specs.declared.ending.Span.{Span}
 use Rattle.bcder_header.proofs.Opening.{opens_tag}
 use Rattle.bcder_primitive.specs.declared.primitive.Primitive.{Primitive}
-use Rattle.bcder_primitive.specs.Plain.{OctetsLeft, LacksOctets, GivesOctets, WholeOctets, ReadsOctetsAs}
+use Rattle.bcder_primitive.specs.Plain.{OctetsLeft, LacksOctets, GivesOctets, ReadsOctetsAs}
 use Rattle.bcder_primitive.specs.Values.{AnyOctets}
 use Rattle.bcder_content.specs.declared.constructed.Constructed.{Constructed}
 use Rattle.bcder_content.specs.declared.content.Content.{Content}
-use Rattle.bcder_content.specs.Contents.{ValuesLeft, Ahead, tag_of}
-use Rattle.bcder_content.specs.Exact.{Gives, Lacks, ReadsAs, ReadsOptAs, LacksAll, GivesAll, ReadsAllAs}
+use Rattle.bcder_content.specs.Contents.{ValuesLeft, tag_of}
+use Rattle.bcder_content.specs.Exact.{Gives, Lacks, ReadsAs, ReadsOptAs, ReadsAllAs}
 use Rattle.bcder_content.specs.Here.{here, plain}
 use Rattle.bcder_content.specs.Ran.{Reader}
-use Rattle.bcder_content.specs.Either.{in_octets, Shows, Meeting, RanAny, none_wanted, any_refused, any_goes_on, TakesCases, Takes, TakesOptCases, TakesOpt, AnyKind, WithTag, ReadsInAs, ReadsContentAs, OctetsRun, RunsOctets, ValuesRun, RunsValues}
+use Rattle.bcder_content.specs.Either.{Shows, Meeting, none_wanted, any_refused, any_goes_on, TakesCases, Takes, TakesOptCases, TakesOpt, AnyKind, WithTag, ReadsInAs, ReadsContentAs, OctetsRun, RunsOctets, ValuesRun, RunsValues}
 use Rattle.bcder_content.proofs.Anything.{AnyReads, exact_any}
 use Rattle.bcder_content.proofs.Inside.{ReadsEach, each_met, PlainEach, tagged_lacks}
 use Rattle.bcder_content.proofs.Took.{took_front}
 use Rattle.bcder_octets.proofs.Cuts.{not_so}
-use Rattle.bcder_octets.specs.Parts.{FitsWhole, IsWhole, AreCut, AreParts, ReadsString}
+use Rattle.bcder_octets.specs.Parts.{FitsWhole, IsWhole, AreParts, ReadsString}
 
 -- Contents of primitive values.
 

@@ -1,16 +1,16 @@
 -- What is written of a string is one (X.690 8.7, 9.2, 10.2).
-use Rattle.std.proofs.Common.{◌≡◌, ◌⊎◌, inl, inr, ℕ, ◌<◌, ◌≤◌, Bool, true, false, List, [], ◌∷◌, ◌++◌, length, take, drop, zero, suc, refl, sym, ap, ◌∙◌, subst, append-nil, length-drop, arith}
+use Rattle.std.proofs.Common.{◌≡◌, inl, inr, ℕ, ◌<◌, ◌≤◌, Bool, true, false, List, [], ◌∷◌, ◌++◌, length, take, drop, zero, suc, refl, sym, ap, ◌∙◌, subst, append-nil, length-drop, arith}
 use Rattle.std.specs.Prelude.{nat_lt}
 use Rattle.std.proofs.lemmas.Bool.{cases_lt, ltb-true, lt-ltb}
 use Rattle.std.proofs.lemmas.List.{take-append-drop, length-take-le}
 use Rattle.bcder_tree.specs.declared.mode.Mode.{Mode}
 use Rattle.bcder_tree.specs.declared.mode.Mode.TheVariants.{Ber, Cer, Der}
 use Rattle.bcder_tree.specs.Tags.{TagValue}
-use Rattle.bcder_tree.specs.Tree.{Tree, Trees, primitive, constructed, none, more}
-use Rattle.bcder_tree.specs.Strings.{octet_string_tag, AreCerSegments, IsString}
-use Rattle.bcder_values.specs.Encoded.{joined, AreBoth, IsPlain}
+use Rattle.bcder_tree.specs.Tree.{Trees, primitive, constructed, none, more}
+use Rattle.bcder_tree.specs.Strings.{octet_string_tag, AreCerSegments}
+use Rattle.bcder_values.specs.Encoded.{joined, AreBoth}
 use Rattle.bcder_values.specs.Lists.{AreAll}
-use Rattle.bcder_octets.specs.Segments.{rows, segments, IsSegment, AreSegmentsOf, is_cut, FormTrees, StringTrees}
+use Rattle.bcder_octets.specs.Segments.{rows, segments, IsSegment, AreSegmentsOf, FormTrees, StringTrees}
 use Rattle.bcder_octets.specs.Written.{WrittenString}
 
 cons_segments : (a b octets : List ℕ) (second ts : Trees) → ts ≡ more (primitive octet_string_tag a) second → length a ≡ 1000 → AreCerSegments second b → octets ≡ a ++ b → AreCerSegments ts octets

@@ -3,8 +3,8 @@ use Rattle.std.specs.Prelude.{◌≡◌, ℕ, ◌<◌, ◌≤◌, ◌⊎◌, Boo
 use Rattle.bcder_tree.specs.declared.mode.Mode.TheVariants.{Ber}
 use Rattle.bcder_tree.specs.declared.length.Length.{Length}
 use Rattle.bcder_tree.specs.Tags.{TagValue}
-use Rattle.bcder_tree.specs.Tree.{Tree, Trees, primitive, constructed, none, more, IsHeader}
-use Rattle.bcder_tree.specs.Strings.{octet_string_tag, IsBerString, AreCerSegments}
+use Rattle.bcder_tree.specs.Tree.{Trees, primitive, none, more, IsHeader}
+use Rattle.bcder_tree.specs.Strings.{octet_string_tag, AreCerSegments}
 use Rattle.bcder_header.specs.Openings.{IsHead, Heads}
 use Rattle.bcder_octets.specs.declared.pieces.Item.{Item}
 use Rattle.bcder_octets.specs.declared.pieces.Item.TheVariants.{Piece, Around, End}

@@ -1,4 +1,4 @@
-use Rattle.std.proofs.Common.{◌<◌, ◌≤◌, ℕ, List, length, refl, arith, rules}
+use Rattle.std.proofs.Common.{◌<◌, ◌≤◌, ℕ, List, length, refl, rules}
 use Rattle.bcder_octets.proofs.Cuts.{cutting_next, cutting_refused, cutting_short, cutting_done, not_so}
 use Rattle.bcder_octets.proofs.pieces.join_cut.Goals as goal
 

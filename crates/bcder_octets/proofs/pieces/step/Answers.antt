@@ -1,5 +1,4 @@
-use Rattle.std.proofs.Common.{◌≡◌, ◌<◌, ℕ, ◌-◌, length, drop, take, sym, ap, subst, arith, ◌∙◌, true, false}
-use Rattle.bcder_tree.specs.declared.length.Length.TheVariants.{Definite as LengthIs}
+use Rattle.std.proofs.Common.{◌≡◌, length, sym, ap, subst, arith, ◌∙◌, true, false}
 use Rattle.bcder_tree.proofs.Slices.{rest_is}
 use Rattle.bcder_octets.specs.Pieces.{Holds}
 use Rattle.bcder_octets.proofs.Walk.{DefiniteAt, definite_at, piece_at, next_at, piece_fits, past_header, none_left, past_closing}
