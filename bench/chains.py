@@ -3,28 +3,32 @@
 
     chains.py [FOLDER]
 
-In FOLDER, or in a temporary folder, a repository of two crates is made: a copy of crates/resources_chain, and the
-program chains.rt.in, which `rt run` proves and builds (two minutes from nothing; a folder that is given is used
-again). The two chains have the same number of blocks, each of which overlaps with one of the other chain and
-stands apart from the rest. Each size is run thirty times, of which the best time counts; building the chains isn't
-measured. The number of blocks and the sum of their ends are compared with the right ones.
+In FOLDER, or in a temporary folder, a repository of two crates is made: a copy of crates/resources_chain with its
+out/, and the program chains.rt.in, which `rt run` proves and builds (two minutes from nothing; a folder that is
+given is used again). The two chains have the same number of blocks, each of which overlaps with one of the other
+chain and stands apart from the rest. Each size is run thirty times, of which the best time counts; building the
+chains isn't measured. The number of blocks and the sum of their ends are compared with the right ones.
 
 Target: twice the blocks take at most 2.5 times the time. Exits with 1 where it is missed or an answer is wrong.
 """
 
 import os
-import shutil
 import subprocess
 import sys
 import tempfile
+
+sys.dont_write_bytecode = True
+import copies  # noqa: E402
+import growth  # noqa: E402
 
 SIZES = (50_000, 100_000, 200_000)
 RUNS = 30
 MOST_GROWTH = 2.5
 
 BENCH = os.path.dirname(os.path.abspath(__file__))
-CHAIN = os.path.join(BENCH, os.pardir, "crates", "resources_chain")
 NAME = "chains_bench"
+HEAD = """| operation  | blocks each |     ms | ns a block | growth |
+|---|---:|---:|---:|---|"""
 
 
 def answers(blocks):
@@ -37,28 +41,9 @@ def answers(blocks):
     }
 
 
-def make(folder):
-    """Makes the repository, or brings the one that is there up to date."""
-    for part in ("src", "specs", "proofs"):
-        shutil.copytree(
-            os.path.join(CHAIN, part),
-            os.path.join(folder, "crates", "resources_chain", part),
-            dirs_exist_ok=True,
-        )
-    source = os.path.join(folder, "crates", NAME, "src")
-    os.makedirs(source, exist_ok=True)
-    shutil.copy(os.path.join(BENCH, "chains.rt.in"), os.path.join(source, "main.rt"))
-    for name, text in (
-        ("crates.txt", f"resources_chain:\n{NAME}: resources_chain\n"),
-        ("HANDLES", "Handles allowed: none.\n"),
-    ):
-        with open(os.path.join(folder, name), "w") as file:
-            file.write(text)
-
-
 def build(folder):
-    """Proves and builds the program; its path."""
-    crate = os.path.join(folder, "crates", NAME)
+    """Makes the repository, and proves and builds the program; its path."""
+    crate = copies.make(folder, NAME, os.path.join(BENCH, "chains.rt.in"), ["resources_chain"])
     done = subprocess.run(["rt", "run", "--", "1"], cwd=crate, capture_output=True, text=True)
     if done.returncode != 0:
         sys.exit(done.stdout + done.stderr)
@@ -82,30 +67,17 @@ def measure(program, blocks):
     }
 
 
-def print_rows(rows):
-    """The table; how many targets were missed or answers wrong."""
-    print("| operation  | blocks each |     ms | ns a block | growth |")
-    print("|---|---:|---:|---:|---|")
-    failures = 0
-    for name in ("trim", "difference"):
-        before = None
-        for blocks in SIZES:
-            seconds, right = rows[blocks][name]
-            factor = seconds / before if before else None
-            missed = factor is not None and factor > MOST_GROWTH
-            note = f"x {factor:.2f}{' MISSED' if missed else ''}" if factor else ""
-            note += "" if right else " WRONG ANSWER"
-            print(f"| {name:<10} | {blocks:>11,} | {seconds * 1e3:>6.2f} | {seconds * 1e9 / blocks:>10.1f} | {note} |")
-            failures += missed + (not right)
-            before = seconds
-    return failures
+def cells(name, blocks, row):
+    """The cells in front of the growth; none stands behind it."""
+    seconds, _ = row
+    return [f"{name:<10}", f"{blocks:>11,}", f"{seconds * 1e3:>6.2f}", f"{seconds * 1e9 / blocks:>10.1f}"], []
 
 
 def bench(folder):
     """Makes, builds and measures; how many targets were missed or answers wrong."""
-    make(folder)
     program = build(folder)
-    return print_rows({blocks: measure(program, blocks) for blocks in SIZES})
+    rows = {blocks: measure(program, blocks) for blocks in SIZES}
+    return growth.print_rows(HEAD, ("trim", "difference"), SIZES, rows, MOST_GROWTH, cells)
 
 
 def main():

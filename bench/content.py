@@ -7,13 +7,16 @@ In FOLDER, or in a temporary folder, a repository is made: copies of crates/bcde
 it stands on, with their out/ where they have one, and the program content.rt.in, which `rt run` proves and
 builds (a quarter of an hour from nothing; a folder that is given is used again). Small values are a SEQUENCE OF
 INTEGERs of one octet each, read by take_opt_u64 and by skip_one; one deep value is as many SEQUENCEs in each other,
-skipped with a visitor and captured. All are read from a slice, in DER. Each size is run ten times, of which the best
-time counts; making the octets isn't measured. What each reading tells is compared with the right answer.
+skipped with a visitor and captured. All are read from a slice, in DER. Each size is run fifteen times, of which the
+best time counts; making the octets isn't measured. What each reading tells is compared with the right answer. On a
+machine with other work the whole is run as `chrt -f 1 python3 content.py ..`, so that no run is interrupted.
 
 BCDER is the folder that `dpkg -x` made of Debian's packages librust-bcder-dev, librust-bytes-dev and
-librust-smallvec-dev: where it is given, content.rs.in is built with it by cargo, and its times stand beside.
+librust-smallvec-dev: where it is given, content.rs.in is built with it by cargo, run in turns with the other, and its
+times stand beside.
 
-Target: twice the values take at most 2.3 times the time. Exits with 1 where it is missed or an answer is wrong.
+Targets: twice the values take at most 2.5 times the time, and each reading at most 1.5 times that of the Rust crate.
+Exits with 1 where one is missed or an answer is wrong.
 """
 
 import os
@@ -22,21 +25,19 @@ import subprocess
 import sys
 import tempfile
 
-SIZES = (1_000_000, 2_000_000)
-RUNS = 10
-MOST_GROWTH = 2.3
+sys.dont_write_bytecode = True
+import copies  # noqa: E402
+import growth  # noqa: E402
+
+SIZES = (1_000_000, 2_000_000, 4_000_000)
+RUNS = 15
+MOST_GROWTH = 2.5
+MOST_RATIO = 1.5
 
 BENCH = os.path.dirname(os.path.abspath(__file__))
-CRATES = os.path.join(BENCH, os.pardir, "crates")
-# What the program stands on: each library with those below it.
-LIBRARIES = {
-    "bcder_tree": "",
-    "bcder_source": "bcder_tree bytes",
-    "bcder_header": "bcder_source bcder_tree smallvec",
-    "bcder_primitive": "bcder_source bcder_tree bytes",
-    "bcder_content": "bcder_header bcder_primitive bcder_source bcder_tree bytes",
-}
 NAME = "content_bench"
+HEAD = """| reading      |    values |    MB |     ms | MB/s | growth | bcder, ms | ratio |
+|---|---:|---:|---:|---:|---|---:|---:|"""
 READINGS = ("take_opt_u64", "skip_one", "skip", "capture_one")
 
 CARGO = """[package]
@@ -83,24 +84,6 @@ def write(path, text):
         file.write(text)
 
 
-def make(folder):
-    """Makes the repository, or brings the one that is there up to date."""
-    for library in LIBRARIES:
-        for part in ("src", "specs", "proofs", "out"):
-            if os.path.isdir(os.path.join(CRATES, library, part)):
-                shutil.copytree(
-                    os.path.join(CRATES, library, part),
-                    os.path.join(folder, "crates", library, part),
-                    dirs_exist_ok=True,
-                )
-    source = os.path.join(folder, "crates", NAME, "src")
-    os.makedirs(source, exist_ok=True)
-    shutil.copy(os.path.join(BENCH, "content.rt.in"), os.path.join(source, "main.rt"))
-    needs = {**LIBRARIES, NAME: "bcder_content bcder_source"}
-    write(os.path.join(folder, "crates.txt"), "".join(f"{name}: {below}\n" for name, below in needs.items()))
-    write(os.path.join(folder, "HANDLES"), "Handles allowed: none.\n")
-
-
 def run(command, folder):
     """Runs a command that has to succeed."""
     done = subprocess.run(command, cwd=folder, capture_output=True, text=True)
@@ -109,8 +92,8 @@ def run(command, folder):
 
 
 def build(folder):
-    """Proves and builds the program; its path."""
-    crate = os.path.join(folder, "crates", NAME)
+    """Makes the repository, and proves and builds the program; its path."""
+    crate = copies.make(folder, NAME, os.path.join(BENCH, "content.rt.in"), ["bcder_content", "bcder_source"])
     run(["rt", "run", "--", "1"], crate)
     return os.path.join(crate, "out", NAME)
 
@@ -134,53 +117,58 @@ def run_once(program, size):
     return {name: (int(nanos), (int(octets), int(answer))) for name, nanos, octets, answer in rows}
 
 
-def measure(program, size):
-    """Of each reading the octets, the seconds of the best run, and whether all answers were right."""
+def measure(programs, size):
+    """Of each program and reading the octets, the seconds of the best run, and whether all answers were right.
+
+    The programs take turns, so that other work on the machine slows each as much."""
     wanted = answers(size)
-    runs = [run_once(program, size) for _ in range(RUNS)]
-    return {
-        name: (
-            wanted[name][0],
-            min(run[name][0] for run in runs) / 1e9,
-            all(run[name][1] == wanted[name] for run in runs),
-        )
-        for name in READINGS
-    }
-
-
-def print_rows(rows, others):
-    """The table; how many targets were missed or answers wrong."""
-    print("| reading      |    values |    MB |     ms | MB/s | growth | bcder, ms | ratio |")
-    print("|---|---:|---:|---:|---:|---|---:|---:|")
-    failures = 0
-    for name in READINGS:
-        before = None
-        for size in SIZES:
-            octets, seconds, right = rows[size][name]
-            factor = seconds / before if before else None
-            missed = factor is not None and factor > MOST_GROWTH
-            note = f"x {factor:.2f}{' MISSED' if missed else ''}" if factor else ""
-            note += "" if right else " WRONG ANSWER"
-            other = others[size][name][1] if others else None
-            beside = f"{other * 1e3:.1f} | {seconds / other:.2f}" if other else " | "
-            print(
-                f"| {name:<12} | {size:>9,} | {octets / 1e6:>5.2f} | {seconds * 1e3:>6.1f} "
-                f"| {octets / seconds / 1e6:>4.0f} | {note} | {beside} |"
+    runs = [[run_once(program, size) for program in programs] for _ in range(RUNS)]
+    return [
+        {
+            name: (
+                wanted[name][0],
+                min(run[name][0] for run in of_program) / 1e9,
+                all(run[name][1] == wanted[name] for run in of_program),
             )
-            failures += missed + (not right)
-            before = seconds
-    return failures
+            for name in READINGS
+        }
+        for of_program in zip(*runs)
+    ]
+
+
+def cells_beside(others):
+    """What makes the cells of a row, where the other program's times stand behind the growth."""
+
+    def cells(name, size, row):
+        octets, seconds, _ = row
+        front = [f"{name:<12}", f"{size:>9,}", f"{octets / 1e6:>5.2f}", f"{seconds * 1e3:>6.1f}"]
+        front.append(f"{octets / seconds / 1e6:>4.0f}")
+        if others is None:
+            return front, ["", ""]
+        other = others[size][name][1]
+        missed = " MISSED" if seconds > MOST_RATIO * other else ""
+        return front, [f"{other * 1e3:.1f}", f"{seconds / other:.2f}{missed}"]
+
+    return cells
+
+
+def slower(rows, others):
+    """How many readings take longer than they may beside the other program."""
+    if others is None:
+        return 0
+    return sum(rows[size][name][1] > MOST_RATIO * others[size][name][1] for size in SIZES for name in READINGS)
 
 
 def bench(folder, packages):
     """Makes, builds and measures; how many targets were missed or answers wrong."""
-    make(folder)
-    program = build(folder)
-    others = None
+    programs = [build(folder)]
     if packages is not None:
-        rust = build_rust(folder, packages)
-        others = {size: measure(rust, size) for size in SIZES}
-    return print_rows({size: measure(program, size) for size in SIZES}, others)
+        programs.append(build_rust(folder, packages))
+    measured = {size: measure(programs, size) for size in SIZES}
+    rows = {size: found[0] for size, found in measured.items()}
+    others = {size: found[1] for size, found in measured.items()} if packages is not None else None
+    failures = growth.print_rows(HEAD, READINGS, SIZES, rows, MOST_GROWTH, cells_beside(others))
+    return failures + slower(rows, others)
 
 
 def main():

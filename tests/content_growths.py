@@ -3,7 +3,7 @@
 
     content_growths.py [FOLDER]
 
-In FOLDER, or in a temporary folder, a repository is made of crates/bcder_source, crates/bcder_content and the
+In FOLDER, or in a temporary folder, a repository is made of crates/bcder_content with what it stands on and the
 program content_growths.rt.in, which `rt try` runs with no proof, half a minute for each growth. The program itself
 tells what is wrong: a refused growth has to be answered `Memory`, a refused skip leaves its content failed, and a
 refused capture or part leaves all as it was. Exits with 1 where anything is told.
@@ -12,37 +12,23 @@ refused capture or part leaves all as it was. Exits with 1 where anything is tol
 import itertools
 import os
 import re
-import shutil
 import subprocess
 import sys
 import tempfile
 
 TESTS = os.path.dirname(os.path.abspath(__file__))
-CRATES = os.path.join(TESTS, os.pardir, "crates")
-LIBRARIES = ("bcder_source", "bcder_content")
+sys.dont_write_bytecode = True
+sys.path.insert(0, os.path.join(TESTS, os.pardir, "bench"))
+
+import copies  # noqa: E402
+
 NAME = "content_growths"
-NEEDS = """bcder_source: bytes
-bcder_content: bcder_source bytes smallvec
-content_growths: bcder_content bcder_source
-"""
 
 
 def make(folder):
     """Makes the repository; the program's folder."""
-    for library in LIBRARIES:
-        for part in ("src", "specs", "proofs"):
-            shutil.copytree(
-                os.path.join(CRATES, library, part),
-                os.path.join(folder, "crates", library, part),
-                dirs_exist_ok=True,
-            )
-    crate = os.path.join(folder, "crates", NAME)
-    os.makedirs(os.path.join(crate, "src"), exist_ok=True)
-    shutil.copy(os.path.join(TESTS, f"{NAME}.rt.in"), os.path.join(crate, "src", "main.rt"))
-    for name, text in (("crates.txt", NEEDS), ("HANDLES", "Handles allowed: none.\n")):
-        with open(os.path.join(folder, name), "w") as file:
-            file.write(text)
-    return crate
+    source = os.path.join(TESTS, f"{NAME}.rt.in")
+    return copies.make(folder, NAME, source, ["bcder_content", "bcder_source"])
 
 
 def run(crate, flags):

@@ -14,4 +14,5 @@ pub mod Eithers
 mod SkipContents
 pub mod Anything
 pub mod Parts
+pub mod Passing
 pub mod Memories

@@ -8,8 +8,6 @@ pub mod content;
 pub mod decode;
 pub mod laws;
 pub mod skip;
-#[cfg(test)]
-mod tests;
 pub mod typed;
 
 pub use bcder_header::{Ending, ending, header};

@@ -1,6 +1,7 @@
 //! Readers as a user of `bcder_content` writes them, proved exact: what they take is of their grammar, and
 //! what is of their grammar they take. docs/READERS.md walks through them.
-ghost use Rattle.std.specs.Prelude.{ℕ, List, map};
+ghost use Rattle.std.specs.Prelude.{◌≢◌, ℕ, List, map, IfErr};
+ghost use Rattle.bcder_source.specs.declared.error.DecodeError.TheVariants.{Memory};
 ghost use Rattle.bcder_tree.specs.Tags.{universal};
 ghost use Rattle.bcder_content.specs.Captures.{rest_of};
 ghost use Rattle.bcder_content.specs.Exact.{ReadsAs, ReadsAllAs};
@@ -71,11 +72,13 @@ pub enum Name {
 
 /// Two fields.
 pub fn take_version<S: Source>(cons: &mut Constructed<S>) -> Result<Version, DecodeError<S::Error>>
-    ensures { ReadsAs version_fields IsVersion (here S.rest cons.old) result (here S.rest cons.new) }
+    ensures reads { ReadsAs version_fields IsVersion (here S.rest cons.old) result (here S.rest cons.new) }
+    ensures no_memory { IfErr result (λ e. e ≢ Memory) }
 {
     cons.take_sequence(
         |cons|
-            ensures { ReadsAllAs version_fields IsVersionBody (here S.rest cons.old) result (here S.rest cons.new) }
+            ensures reads { ReadsAllAs version_fields IsVersionBody (here S.rest cons.old) result (here S.rest cons.new) }
+            ensures no_memory { IfErr result (λ e. e ≢ Memory) }
         {
             let major = cons.take_u8()?;
             let minor = cons.take_u8()?;
@@ -170,7 +173,8 @@ pub fn take_settings<S: Source>(
 
 /// One of two values, by their tags.
 pub fn take_name<S: Source>(cons: &mut Constructed<S>) -> Result<Name, DecodeError<S::Error>>
-    ensures { ReadsAs name_value IsName (here S.rest cons.old) result (here S.rest cons.new) }
+    ensures reads { ReadsAs name_value IsName (here S.rest cons.old) result (here S.rest cons.new) }
+    ensures no_memory { IfErr result (λ e. e ≢ Memory) }
 {
     if let Some(number) = cons.take_opt_u8()? {
         return Ok(Name::Number(number));

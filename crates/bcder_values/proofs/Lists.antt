@@ -6,7 +6,9 @@ use Rattle.bcder_tree.specs.Tree.{Trees}
 use Rattle.bcder_values.specs.declared.error.EncodeError.{EncodeError}
 use Rattle.bcder_values.specs.declared.error.EncodeError.TheVariants as errors
 use Rattle.bcder_values.specs.Encoded.{WritesBoth}
-use Rattle.bcder_values.specs.Lists.{AreAll, WritesAll, all_one}
+use Rattle.bcder_values.specs.Choices.{nothing_one}
+use Rattle.bcder_values.specs.Laws.{both_one}
+use Rattle.bcder_values.specs.Lists.{AreAll, WritesAll}
 use Rattle.bcder_values.specs.Writing.{HasLength, Wrote, CannotWrite}
 use Rattle.bcder_values.proofs.Compose.{has_both, too_many, both_length}
 use Rattle.bcder_values.proofs.Pieces.{wrote_as, wrote_both}
@@ -63,13 +65,18 @@ one_cannot m T P xs x ys errors.TooLong h = λ text w few.
 one_cannot m T P xs x ys errors.Write h = h
 one_cannot m T P xs x ys errors.Memory h = h
 
--- Nor where a front of them can't be counted.
-pub front_too_many : {V : Type 0} (P : V → List ℕ → Type 0) {a b : ℕ} → ((v : V) (x y : List ℕ) → P v x → P v y → x ≡ y) → (xs : List V) (x : V) (ys : List V)
+-- What is written of one more is always the same, too.
+pub one_more : {V : Type 0} (P : V → List ℕ → Type 0) (xs : List V) (x : V) → ((a b : List ℕ) → WritesAll P xs a → WritesAll P xs b → a ≡ b) → ((a b : List ℕ) → P x a → P x b → a ≡ b)
+    → (a b : List ℕ) → WritesAll P (xs ++ (x ∷ [])) a → WritesAll P (xs ++ (x ∷ [])) b → a ≡ b
+one_more P xs x front one a b v w = both_one front (both_one one nothing_one) a b (all_split P xs (x ∷ []) a v) (all_split P xs (x ∷ []) b w)
+
+-- All can't be written where a front of them can't be counted.
+pub front_too_many : {V : Type 0} (P : V → List ℕ → Type 0) {a b : ℕ} (xs : List V) (x : V) (ys : List V) → ((a b : List ℕ) → WritesAll P xs a → WritesAll P xs b → a ≡ b) → ((a b : List ℕ) → P x a → P x b → a ≡ b)
     → HasLength (WritesAll P xs) a → HasLength (P x) b → 2 ^ 64 ≤ a + b → (text : List ℕ) → WritesAll P (xs ++ (x ∷ ys)) text → length text < 2 ^ 64 → ⊥
-front_too_many P one xs x ys h k many text w few =
+front_too_many P xs x ys fronts one h k many text w few =
     let s = all_split P xs (x ∷ ys) text w in
     let outer = both_length text s in
     let inner = both_length s.second s.is_second in
     let front : WritesBoth (WritesAll P xs) (P x) (s.first ++ s.is_second.first) = record { first = s.first; second = s.is_second.first; is_first = s.is_first; is_second = s.is_second.is_first; whole = refl } in
     let long = both_length _ front in
-    too_many (all_one one xs) (one x) h k many _ front (omega arith)
+    too_many fronts one h k many _ front (omega arith)

@@ -103,11 +103,13 @@ fn put_signed<W: Write>(target: &mut W, number: i128) -> Result<(), EncodeError>
 
 /// An INTEGER from 0 up (X.690 8.3), in the fewest octets.
 impl PrimitiveContent for u8 {
-    const TAG: Tag = Tag::INTEGER;
-
-    ghost TAG = { universal 2 };
+    ghost type_tag = { universal 2 };
 
     ghost content = { λ x m. WritesUnsigned (2 ^ 8) x };
+
+    fn tag() -> Tag {
+        Tag::INTEGER
+    }
 
     fn encoded_len(&self, _mode: Mode) -> Result<usize, EncodeError> {
         Ok(unsigned_len(u128::from(*self)))
@@ -124,11 +126,13 @@ impl PrimitiveContent for u8 {
 
 /// An INTEGER from 0 up (X.690 8.3), in the fewest octets.
 impl PrimitiveContent for u16 {
-    const TAG: Tag = Tag::INTEGER;
-
-    ghost TAG = { universal 2 };
+    ghost type_tag = { universal 2 };
 
     ghost content = { λ x m. WritesUnsigned (2 ^ 16) x };
+
+    fn tag() -> Tag {
+        Tag::INTEGER
+    }
 
     fn encoded_len(&self, _mode: Mode) -> Result<usize, EncodeError> {
         Ok(unsigned_len(u128::from(*self)))
@@ -145,11 +149,13 @@ impl PrimitiveContent for u16 {
 
 /// An INTEGER from 0 up (X.690 8.3), in the fewest octets.
 impl PrimitiveContent for u32 {
-    const TAG: Tag = Tag::INTEGER;
-
-    ghost TAG = { universal 2 };
+    ghost type_tag = { universal 2 };
 
     ghost content = { λ x m. WritesUnsigned (2 ^ 32) x };
+
+    fn tag() -> Tag {
+        Tag::INTEGER
+    }
 
     fn encoded_len(&self, _mode: Mode) -> Result<usize, EncodeError> {
         Ok(unsigned_len(u128::from(*self)))
@@ -166,11 +172,13 @@ impl PrimitiveContent for u32 {
 
 /// An INTEGER from 0 up (X.690 8.3), in the fewest octets.
 impl PrimitiveContent for u64 {
-    const TAG: Tag = Tag::INTEGER;
-
-    ghost TAG = { universal 2 };
+    ghost type_tag = { universal 2 };
 
     ghost content = { λ x m. WritesUnsigned (2 ^ 64) x };
+
+    fn tag() -> Tag {
+        Tag::INTEGER
+    }
 
     fn encoded_len(&self, _mode: Mode) -> Result<usize, EncodeError> {
         Ok(unsigned_len(u128::from(*self)))
@@ -187,11 +195,13 @@ impl PrimitiveContent for u64 {
 
 /// An INTEGER from 0 up (X.690 8.3), in the fewest octets.
 impl PrimitiveContent for u128 {
-    const TAG: Tag = Tag::INTEGER;
-
-    ghost TAG = { universal 2 };
+    ghost type_tag = { universal 2 };
 
     ghost content = { λ x m. WritesUnsigned (2 ^ 128) x };
+
+    fn tag() -> Tag {
+        Tag::INTEGER
+    }
 
     fn encoded_len(&self, _mode: Mode) -> Result<usize, EncodeError> {
         Ok(unsigned_len(*self))
@@ -208,11 +218,13 @@ impl PrimitiveContent for u128 {
 
 /// An INTEGER (X.690 8.3), in the fewest octets.
 impl PrimitiveContent for i8 {
-    const TAG: Tag = Tag::INTEGER;
-
-    ghost TAG = { universal 2 };
+    ghost type_tag = { universal 2 };
 
     ghost content = { λ x m content. IsSigned (2 ^ 7) content x };
+
+    fn tag() -> Tag {
+        Tag::INTEGER
+    }
 
     fn encoded_len(&self, _mode: Mode) -> Result<usize, EncodeError> {
         Ok(signed_len(i128::from(*self)))
@@ -229,11 +241,13 @@ impl PrimitiveContent for i8 {
 
 /// An INTEGER (X.690 8.3), in the fewest octets.
 impl PrimitiveContent for i16 {
-    const TAG: Tag = Tag::INTEGER;
-
-    ghost TAG = { universal 2 };
+    ghost type_tag = { universal 2 };
 
     ghost content = { λ x m content. IsSigned (2 ^ 15) content x };
+
+    fn tag() -> Tag {
+        Tag::INTEGER
+    }
 
     fn encoded_len(&self, _mode: Mode) -> Result<usize, EncodeError> {
         Ok(signed_len(i128::from(*self)))
@@ -250,11 +264,13 @@ impl PrimitiveContent for i16 {
 
 /// An INTEGER (X.690 8.3), in the fewest octets.
 impl PrimitiveContent for i32 {
-    const TAG: Tag = Tag::INTEGER;
-
-    ghost TAG = { universal 2 };
+    ghost type_tag = { universal 2 };
 
     ghost content = { λ x m content. IsSigned (2 ^ 31) content x };
+
+    fn tag() -> Tag {
+        Tag::INTEGER
+    }
 
     fn encoded_len(&self, _mode: Mode) -> Result<usize, EncodeError> {
         Ok(signed_len(i128::from(*self)))
@@ -271,11 +287,13 @@ impl PrimitiveContent for i32 {
 
 /// An INTEGER (X.690 8.3), in the fewest octets.
 impl PrimitiveContent for i64 {
-    const TAG: Tag = Tag::INTEGER;
-
-    ghost TAG = { universal 2 };
+    ghost type_tag = { universal 2 };
 
     ghost content = { λ x m content. IsSigned (2 ^ 63) content x };
+
+    fn tag() -> Tag {
+        Tag::INTEGER
+    }
 
     fn encoded_len(&self, _mode: Mode) -> Result<usize, EncodeError> {
         Ok(signed_len(i128::from(*self)))
@@ -292,11 +310,13 @@ impl PrimitiveContent for i64 {
 
 /// An INTEGER (X.690 8.3), in the fewest octets.
 impl PrimitiveContent for i128 {
-    const TAG: Tag = Tag::INTEGER;
-
-    ghost TAG = { universal 2 };
+    ghost type_tag = { universal 2 };
 
     ghost content = { λ x m content. IsSigned (2 ^ 127) content x };
+
+    fn tag() -> Tag {
+        Tag::INTEGER
+    }
 
     fn encoded_len(&self, _mode: Mode) -> Result<usize, EncodeError> {
         Ok(signed_len(*self))

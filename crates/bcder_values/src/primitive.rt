@@ -18,14 +18,15 @@ use std::io::Write;
 
 /// The content of primitive values.
 ///
-/// `content` are the content octets in a mode, always the same.
+/// `type_tag` is the tag of its type, and `content` are the content octets in a mode, always the same.
 pub trait PrimitiveContent {
-    /// The tag of its type.
-    const TAG: Tag;
-
-    ghost TAG: { TagValue };
+    ghost type_tag: { TagValue };
 
     ghost content: { Self → ModeValue → List ℕ → Type 0 };
+
+    /// The tag of its type.
+    fn tag() -> Tag
+        ensures { result ≡ type_tag };
 
     /// How many content octets it has.
     ///
@@ -47,11 +48,11 @@ pub trait PrimitiveContent {
     final fn encode(self) -> Primitive<Self>
     where
         Self: Sized,
-        ensures tag { result.tag ≡ TAG }
+        ensures tag { result.tag ≡ type_tag }
         ensures content { result.content ≡ self }
     {
         Primitive {
-            tag: Self::TAG,
+            tag: Self::tag(),
             content: self,
         }
     }
@@ -63,6 +64,30 @@ pub trait PrimitiveContent {
         requires { IsTag tag }
         ensures tag { result.tag ≡ tag }
         ensures content { result.content ≡ self }
+    {
+        Primitive { tag, content: self }
+    }
+
+    /// The same as `encode`, of what is borrowed.
+    final fn encode_ref(&self) -> Primitive<&Self>
+    where
+        Self: Sized,
+        ensures tag { result.tag ≡ type_tag }
+        ensures content { result.content.now ≡ self.now }
+    {
+        Primitive {
+            tag: Self::tag(),
+            content: self,
+        }
+    }
+
+    /// The same as `encode_as`, of what is borrowed.
+    final fn encode_ref_as(&self, tag: Tag) -> Primitive<&Self>
+    where
+        Self: Sized,
+        requires { IsTag tag }
+        ensures tag { result.tag ≡ tag }
+        ensures content { result.content.now ≡ self.now }
     {
         Primitive { tag, content: self }
     }
@@ -89,10 +114,33 @@ pub trait PrimitiveContent {
     }
 
     // A tag that values have.
-    ghost is_tag: { IsTag TAG };
+    ghost is_tag: { IsTag type_tag };
 
     // The content is always the same.
     ghost one_content: { (x : Self) (m : ModeValue) (a b : List ℕ) → content x m a → content x m b → a ≡ b };
+}
+
+/// What is borrowed has the tag and the content octets of what it leads to.
+impl<P: PrimitiveContent> PrimitiveContent for &P {
+    ghost type_tag = { P.type_tag };
+
+    ghost content = { λ x m. P.content x.now m };
+
+    fn tag() -> Tag {
+        P::tag()
+    }
+
+    fn encoded_len(&self, mode: Mode) -> Result<usize, EncodeError> {
+        (**self).encoded_len(mode)
+    }
+
+    fn write_encoded<W: Write>(&self, mode: Mode, target: &mut W) -> Result<(), EncodeError> {
+        (**self).write_encoded(mode, target)
+    }
+
+    ghost is_tag = { P.is_tag };
+
+    ghost one_content = { λ x m. P.one_content x.now m };
 }
 
 /// A primitive value (X.690 8.1.2.5).

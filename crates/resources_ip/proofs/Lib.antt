@@ -1,4 +1,2 @@
 pub mod WholeLemmas
-pub mod PathLemmas
-pub mod OnOkLemma
 pub mod FamilyLemmas

@@ -1,9 +1,8 @@
 -- Whole IPv4 addresses.
-use Rattle.std.proofs.Common.{◌≡◌, ℕ, suc, ◌+◌, ◌-◌, ◌*◌, ◌/◌, ◌%◌, ◌^◌, ◌<◌, ◌≤◌, ◌⊎◌, ◌↔◌, inl, inr, List, [], ◌∷◌, ◌++◌, ap, sym, subst, ◌∙◌, arith, refl}
+use Rattle.std.proofs.Common.{◌≡◌, ℕ, ◌+◌, ◌-◌, ◌/◌, ◌%◌, ◌^◌, ◌↔◌, inl, inr, List, [], ◌∷◌, ◌++◌, sym, subst, arith}
 use Rattle.std.proofs.lemmas.Bool.Decides.{leb_tells}
-use Rattle.std.proofs.lemmas.Nat.{pow_pos, pow-add, mod_low}
-use Rattle.resources_chain.specs.Sets.{Run, InRun, InRuns, IsRunsOf, StandsApart, AreMaximal}
-use Rattle.resources_ip_block.specs.Prefixes.{span_of, first_of, last_of, prefix_run}
+use Rattle.resources_chain.specs.Sets.{Run, InRun, InRuns, IsRunsOf, AreMaximal}
+use Rattle.resources_chain.proofs.SetLemmas.{in_append, past_gap}
 use Rattle.resources_ip_block.specs.Whole.{IsWhole}
 use Rattle.resources_ip.specs.WholeSets.{AreWhole}
 
@@ -11,37 +10,16 @@ use Rattle.resources_ip.specs.WholeSets.{AreWhole}
 pub whole_run : (r : Run) → IsWhole r → (n m : ℕ) → n / 2 ^ 96 ≡ m / 2 ^ 96 → InRun r n → InRun r m
 whole_run r w n m e h = (omega (arith, w.0, h.0, e), omega (arith, w.1, h.1, e))
 
--- The numbers of lists one behind the other.
-in_either : (a b : List Run) (n : ℕ) → InRuns (a ++ b) n → InRuns a n ⊎ InRuns b n
-in_either [] b n h = inr h
-in_either (r ∷ a) b n (inl h) = inl (inl h)
-in_either (r ∷ a) b n (inr h) = elim (in_either a b n h) [ inl x ↦ inl (inr x) | inr y ↦ inr y ]
-
-in_first : (a b : List Run) (n : ℕ) → InRuns a n → InRuns (a ++ b) n
-in_first [] b n h = absurd h
-in_first (r ∷ a) b n (inl h) = inl h
-in_first (r ∷ a) b n (inr h) = inr (in_first a b n h)
-
-in_second : (a b : List Run) (n : ℕ) → InRuns b n → InRuns (a ++ b) n
-in_second [] b n h = h
-in_second (r ∷ a) b n h = inr (in_second a b n h)
-
 -- One whole run more.
 pub whole_push : (runs : List Run) (r : Run) → AreWhole runs → IsWhole r → AreWhole (runs ++ r ∷ [])
 whole_push runs r all one n m e h =
-    elim (in_either runs (r ∷ []) n h) [
-      | inl x ↦ in_first runs (r ∷ []) m (all n m e x)
-      | inr y ↦ in_second runs (r ∷ []) m (elim y [ inl z ↦ inl (whole_run r one n m e z) | inr z ↦ absurd z ])
+    elim ((in_append runs (r ∷ []) n).0 h) [
+      | inl x ↦ (in_append runs (r ∷ []) m).1 (inl (all n m e x))
+      | inr y ↦ (in_append runs (r ∷ []) m).1 (inr (elim y [ inl z ↦ inl (whole_run r one n m e z) | inr z ↦ absurd z ]))
     ]
 
 pub whole_set : (runs set : List Run) → AreWhole runs → IsRunsOf (InRuns runs) set → AreWhole set
 whole_set runs set all is n m e h = (is.same m).1 (all n m e ((is.same n).0 h))
-
--- Numbers of runs that stand apart from a number are greater by two at least.
-behind : (n k : ℕ) (runs : List Run) → StandsApart n runs → AreMaximal runs → InRuns runs k → n + 1 < k
-behind n k [] apart maximal h = absurd h
-behind n k (r ∷ runs) apart maximal (inl h) = omega (arith, apart.0, h.0)
-behind n k (r ∷ runs) apart maximal (inr h) = behind n k runs apart.1 maximal.2 h
 
 starts_whole : (r : Run) (runs : List Run) → AreMaximal (r ∷ runs) → AreWhole (r ∷ runs) → r.first % 2 ^ 96 ≡ 0
 starts_whole r runs maximal whole =
@@ -49,7 +27,7 @@ starts_whole r runs maximal whole =
       | inl le ↦ omega (arith, le.1)
       | inr lt ↦ absurd (elim (whole r.first (r.first - 1) (omega (arith, lt.1)) (inl (omega arith, maximal.0))) [
         | inl h ↦ omega (arith, h.0, lt.1)
-        | inr h ↦ omega (arith, behind r.last (r.first - 1) runs maximal.1 maximal.2 h, maximal.0)
+        | inr h ↦ omega (arith, past_gap r.last runs (r.first - 1) maximal.1 h, maximal.0)
       ])
     ]
 
@@ -59,7 +37,7 @@ ends_whole r runs maximal whole =
       | inl le ↦ omega (arith, le.1)
       | inr lt ↦ absurd (elim (whole r.last (r.last + 1) (omega (arith, lt.1)) (inl (maximal.0, omega arith))) [
         | inl h ↦ omega (arith, h.1)
-        | inr h ↦ omega (arith, behind r.last (r.last + 1) runs maximal.1 maximal.2 h)
+        | inr h ↦ omega (arith, past_gap r.last runs (r.last + 1) maximal.1 h)
       ])
     ]
 
@@ -70,7 +48,7 @@ whole_step r runs maximal = (
       let one : IsWhole r = (starts_whole r runs maximal whole, ends_whole r runs maximal whole) in (
         one,
         λ n m e h. elim (whole n m e (inr h)) [
-          | inl x ↦ absurd (let y = whole_run r one m n (sym e) x in omega (arith, behind r.last n runs maximal.1 maximal.2 h, y.1))
+          | inl x ↦ absurd (let y = whole_run r one m n (sym e) x in omega (arith, past_gap r.last runs n maximal.1 h, y.1))
           | inr x ↦ x
         ],
       ),

@@ -2,7 +2,6 @@
 use Rattle.resources_chain.specs.Sets.{Run}
 use Rattle.resources_ip.specs.declared.v4.Ipv4Block.{Ipv4Block}
 use Rattle.resources_ip.specs.declared.v6.Ipv6Block.{Ipv6Block}
-use Rattle.resources_ip_block.specs.declared.block.IpBlock.{IpBlock}
 use Rattle.resources_ip_block.specs.Block.{run_of_block}
 use Rattle.resources_ip_block.specs.Whole.{IsWhole}
 

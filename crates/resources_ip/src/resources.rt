@@ -6,7 +6,7 @@ ghost use Rattle.resources_chain.specs.declared.choice.ResourcesChoice.{Resource
 ghost use Rattle.resources_chain.specs.declared.choice.ResourcesChoice.TheVariants.{Missing, Inherit, Blocks};
 ghost use Rattle.resources_chain.specs.Sets.{Run, InRuns, IsRunsOf};
 ghost use Rattle.resources_chain.specs.Claims.{Lists};
-ghost use Rattle.resources_ip.specs.Choices.{listed, IsChoiceOf};
+ghost use Rattle.resources_chain.specs.Choices.{listed, IsChoiceOf};
 
 use crate::blocks::{IpBlocks, IpBlocksBuilder};
 use resources_chain::{Claim, InheritedResources, ResourcesChoice, SharedChain};

@@ -1,12 +1,16 @@
 -- A value by its identifier octet, its length and its content.
-use Rattle.std.proofs.Common.{◌≡◌, ℕ, ◌+◌, ◌*◌, ◌<◌, Bool, Option, Some, None, List, [], ◌∷◌, ◌++◌, refl, ap, ◌∙◌, arith}
-use Rattle.std.specs.Prelude.{IfSome, IfNone}
+use Rattle.std.proofs.Common.{◌≡◌, ℕ, ◌+◌, ◌*◌, ◌<◌, Bool, List, [], ◌∷◌, ◌++◌, length, refl, ap, ◌∙◌, arith}
 use Rattle.bcder_tree.specs.declared.mode.Mode.TheVariants.{Der}
 use Rattle.bcder_tree.specs.Tags.{TagValue}
-use Rattle.bcder_tree.specs.Octets.{form_bit}
+use Rattle.bcder_tree.specs.Octets.{form_bit, IsLength}
 use Rattle.bcder_tree.specs.Front.{Splits}
 use Rattle.bcder_tree.proofs.Fronts.{one_octet_header}
-use Rattle.rpki_bundle.specs.Reading.{TakesContent}
+
+-- One identifier octet, a length, as many content octets, and what is behind them.
+pub record TakesContent (identifier : ℕ) (octets content behind : List ℕ) : Type 0 where
+  pub size : List ℕ
+  pub size_is : IsLength Der size (length content)
+  pub whole : octets ≡ identifier ∷ (size ++ (content ++ behind))
 
 -- Behind its identifier octet, a value of a low tag splits.
 pub content_splits : (identifier : ℕ) (k : Bool) (t : TagValue) (s content behind : List ℕ) → t.class < 4 → 0 < t.class + t.number → t.number < 31 → identifier ≡ t.class * 64 + form_bit k + t.number → TakesContent identifier s content behind → Splits Der s k t content behind
@@ -25,12 +29,3 @@ splits_content identifier k t s content behind low first c =
       size_is = c.header_is.size_is;
       whole = c.whole ∙ ap (λ (z : List ℕ). z ++ (content ++ behind)) (header ∙ octet);
     }
-
--- The same of what a reader answers.
-pub splits_found : {A : Type 0} (identifier : ℕ) (k : Bool) (t : TagValue) (s : List ℕ) (content behind : A → List ℕ) (r : Option A) → t.class < 4 → 0 < t.class + t.number → t.number < 31 → identifier ≡ t.class * 64 + form_bit k + t.number → IfSome r (λ x. TakesContent identifier s (content x) (behind x)) → IfSome r (λ x. Splits Der s k t (content x) (behind x))
-splits_found identifier k t s content behind None class tag low first c = tt
-splits_found identifier k t s content behind (Some x) class tag low first c = content_splits identifier k t s (content x) (behind x) class tag low first c
-
-pub splits_lacks : {A : Type 0} (identifier : ℕ) (k : Bool) (t : TagValue) (s : List ℕ) (r : Option A) → t.number < 31 → identifier ≡ t.class * 64 + form_bit k + t.number → IfNone r ((content behind : List ℕ) → TakesContent identifier s content behind → ⊥) → IfNone r ((content behind : List ℕ) → Splits Der s k t content behind → ⊥)
-splits_lacks identifier k t s (Some x) low first c = tt
-splits_lacks identifier k t s None low first c = λ content behind x. c content behind (splits_content identifier k t s content behind low first x)

@@ -1,13 +1,9 @@
-mod Slices
-mod Lengths
+pub mod BundleGrammar
+pub mod Reading
+pub mod Digests
 mod Contents
 pub mod Spellings
 pub mod Writing
-mod Lists
-mod Members
-mod Wholes
-mod Numbers
-mod EntryFronts
 pub mod Texts
 pub mod OneBundle
 pub mod Orders

@@ -1,8 +1,8 @@
 -- Octets spell one bundle at most.
-use Rattle.std.proofs.Common.{◌≡◌, ℕ, ◌+◌, ◌^◌, ◌≤◌, List, [], ◌∷◌, length, subst}
+use Rattle.std.proofs.Common.{◌≡◌, ℕ, ◌+◌, ◌^◌, ◌≤◌, List, [], ◌∷◌, length, refl, subst}
 use Rattle.bcder_tree.specs.declared.mode.Mode.TheVariants.{Der}
 use Rattle.bcder_tree.specs.Tags.{universal}
-use Rattle.bcder_tree.specs.Tree.{Tree, Trees, primitive, constructed, Spells}
+use Rattle.bcder_tree.specs.Tree.{Tree, Trees, primitive, constructed, none, more, Spells}
 use Rattle.bcder_tree.specs.Sequences.{sequence, sequence_tag, forest, EachIs, IsSequenceOf}
 use Rattle.bcder_tree.specs.Integers.{IsNumber}
 use Rattle.bcder_tree.proofs.Trees.{one_tree}
@@ -12,8 +12,18 @@ use Rattle.rpki_bundle.specs.Times.{IsMoment}
 use Rattle.rpki_bundle.specs.TimeForms.{IsGeneralizedTime}
 use Rattle.rpki_bundle.specs.EntryTrees.{one_locator, one_object, one_verdict}
 use Rattle.rpki_bundle.specs.Bundle.{BundleValue, BundleText}
-use Rattle.rpki_bundle.proofs.Lists.{one_each}
 use Rattle.rpki_bundle.proofs.Moments.{one_moment}
+
+-- The entries of a list, where each tree stands for one.
+one_each : {A : Type 0} {P : Tree → A → Type 0} → ((t : Tree) (x y : A) → P t x → P t y → x ≡ y) → (ts : Trees) (xs ys : List A) → EachIs P ts xs → EachIs P ts ys → xs ≡ ys
+one_each one none [] [] i j = refl
+one_each one none [] (y ∷ ys) i j = absurd j
+one_each one none (x ∷ xs) ys i j = absurd i
+one_each one (more t ts) [] ys i j = absurd i
+one_each one (more t ts) (x ∷ xs) [] i j = absurd j
+one_each one (more t ts) (x ∷ xs) (y ∷ ys) i j =
+    let first : x ≡ y = one t x y i.0 j.0 in
+    let others : xs ≡ ys = one_each one ts xs ys i.1 j.1 in cc
 
 -- A GeneralizedTime tells one moment,
 same_moment : {t u : Tree} {m n : ℕ} → IsGeneralizedTime t m → IsGeneralizedTime u n → t ≡ u → m ≡ n

@@ -29,27 +29,6 @@ pub length_is : (n : ℕ) → n < 2 ^ 32 → IsLength Der (length_octets n) n
 unfolding length_octets
 length_is n h = length_by n (nat_lt n 128) (nat_lt n 256) (nat_lt n 65536) (nat_lt n 16777216) h refl refl refl refl
 
--- They are these, by how long they are.
-pub length1 : (n : ℕ) → n < 128 → length_octets n ≡ n ∷ []
-unfolding length_octets
-length1 n h = grind (arith, nat_tests)
-
-pub length2 : (n : ℕ) → 128 ≤ n → n < 256 → length_octets n ≡ 129 ∷ n ∷ []
-unfolding length_octets
-length2 n l h = grind (arith, nat_tests)
-
-pub length3 : (n : ℕ) → 256 ≤ n → n < 65536 → length_octets n ≡ 130 ∷ n / 256 ∷ n % 256 ∷ []
-unfolding length_octets
-length3 n l h = grind (arith, nat_tests)
-
-pub length4 : (n : ℕ) → 65536 ≤ n → n < 16777216 → length_octets n ≡ 131 ∷ n / 65536 ∷ n / 256 % 256 ∷ n % 256 ∷ []
-unfolding length_octets
-length4 n l h = grind (arith, nat_tests)
-
-pub length5 : (n : ℕ) → 16777216 ≤ n → length_octets n ≡ 132 ∷ n / 16777216 ∷ n / 65536 % 256 ∷ n / 256 % 256 ∷ n % 256 ∷ []
-unfolding length_octets
-length5 n l = grind (arith, nat_tests)
-
 -- A value by its identifier octet and its content.
 pub value_spelled : (identifier : ℕ) (k : Bool) (t : TagValue) (s c : List ℕ) → t.number < 31 → identifier ≡ t.class * 64 + form_bit k + t.number → Splits Der s k t c [] → (s ≡ value_octets identifier c) × (length c < 2 ^ 32)
 unfolding value_octets

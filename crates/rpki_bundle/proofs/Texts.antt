@@ -1,5 +1,5 @@
 -- The octets that spell a bundle are one row, and lawful bundles have them.
-use Rattle.std.proofs.Common.{◌≡◌, ℕ, ◌^◌, ◌<◌, inl, inr, List, [], ◌∷◌, ◌++◌, true, length, refl, sym, ap, ◌∙◌, subst, append-nil, length-append, arith}
+use Rattle.std.proofs.Common.{◌≡◌, ℕ, ◌^◌, ◌<◌, inl, inr, Some, List, [], ◌∷◌, ◌++◌, true, length, refl, sym, ap, ◌∙◌, subst, append-nil, length-append, arith}
 use Rattle.std.specs.Prelude.{All}
 use Rattle.bcder_tree.specs.declared.mode.Mode.TheVariants.{Der}
 use Rattle.bcder_tree.specs.Tags.{universal}
@@ -15,15 +15,14 @@ use Rattle.rpki_bundle.specs.Spellings.{length_octets, value_octets, sequence_oc
 use Rattle.rpki_bundle.specs.declared.parts.Locator.{Locator}
 use Rattle.rpki_bundle.specs.declared.parts.Object.{Object}
 use Rattle.rpki_bundle.specs.declared.parts.Verdict.{Verdict}
-use Rattle.std.specs.declared.result.Result.TheVariants.{Ok}
 use Rattle.rpki_bundle.specs.Times.{IsMoment}
-use Rattle.rpki_bundle.specs.Sizes.{capped}
 use Rattle.rpki_bundle.specs.Lawful.{IsLawfulLocator, IsLawfulObject, IsLawfulVerdict, IsLawful}
-use Rattle.rpki_bundle.specs.BundleParts.{ReadsBundle}
-use Rattle.rpki_bundle.proofs.EntryFronts.{locator_name}
-use Rattle.rpki_bundle.proofs.Wholes.{bundle_found}
-use Rattle.rpki_bundle.proofs.Writing.{appended, wrote_list}
+use Rattle.rpki_bundle.proofs.BundleGrammar.{locator_name, uri_plain}
+use Rattle.bcder_values.specs.declared.error.EncodeError.{EncodeError}
+use Rattle.bcder_values.specs.Writing.{Wrote, CannotWrite}
+use Rattle.rpki_bundle.specs.Written.{AreBundle, WritesBundle}
 use Rattle.rpki_bundle.proofs.Moments.{one_text}
+use Rattle.rpki_bundle.proofs.Writing.{wrote_bundle, never_refused}
 use Rattle.rpki_bundle.proofs.Spellings.{Spelling, spells_value, primitive_spelled, spells_primitive, sequence_spelled, spells_sequence, value_longer, pair_spelled, spells_pair, three_spelled, spells_three, list_spelled, spells_list}
 
 -- The three kinds of entries.
@@ -36,10 +35,6 @@ locator_spelling = record {
     spells_pair 19 4 l.name l.text (omega arith) (omega arith) (omega arith) (omega arith) fits,
   );
 }
-
-uri_plain : {uri : List ℕ} → IsUri uri → All IsUriOctet uri
-uri_plain (inl r) = r.plain
-uri_plain (inr r) = r.plain
 
 pub object_spelling : Spelling IsObject IsLawfulObject object_octets
 object_spelling = record {
@@ -169,12 +164,6 @@ one_bundle_text {b = b} p q =
     let y = text_told q in
     x.whole ∙ ap (λ (z : List ℕ). bundle_octets z b) (one_text x.lawful.text y.lawful.text b.moment x.lawful.moment y.lawful.moment) ∙ sym y.whole
 
--- A bundle by the members that were read of it is lawful.
-pub reads_lawful : {c : List ℕ} {b : BundleValue} → length c < 2 ^ 32 → ReadsBundle c b → IsLawful b
-reads_lawful {c} {b} fits r =
-    let text : BundleText (sequence_octets c) b = bundle_found (spells_value 48 true sequence_tag c (omega arith) (omega arith) (omega arith) (omega arith) fits) refl r in
-    (text_told text).lawful
-
 -- Whatever text tells the moment, the members have as many octets, and the bundle has that text.
 pub by_text : {b : BundleValue} (l : IsLawful b) (text : List ℕ) → IsMoment text b.moment → (length (members_octets text b) < 2 ^ 32) × BundleText (bundle_octets text b) b
 by_text {b} l text m = subst (λ (z : List ℕ). (length (members_octets z b) < 2 ^ 32) × BundleText (bundle_octets z b) b) (one_text l.text text b.moment l.moment m) (l.fits, lawful_text l)
@@ -186,35 +175,16 @@ with_lists m d ls os vs = record { moment = m; depth = d; locators = ls; objects
 pub same_lists : {m d : ℕ} {ls ks : List Locator} {os ps : List Object} {vs ws : List Verdict} → ls ≡ ks → os ≡ ps → vs ≡ ws → with_lists m d ls os vs ≡ with_lists m d ks ps ws
 same_lists {m} {d} p q r = λ i. record { moment = m; depth = d; locators = p i; objects = q i; verdicts = r i }
 
--- What was written of a lawful bundle is its text, and its members fit a length.
-pub record Encodes (text : List ℕ) (size : ℕ) (b v : BundleValue) : Type 0 where
-  pub size_is : size ≡ length (members_octets text b)
-  pub fits : length (members_octets text b) < 2 ^ 32
-  pub text_is : (o : List ℕ) → o ≡ bundle_octets text b → BundleText o v
+-- What was written behind nothing is the text of a lawful bundle.
+wrote_text : (text : List ℕ) (b : BundleValue) (old new : List ℕ) → IsLawful b → IsMoment text b.moment → old ≡ [] → Wrote (WritesBundle text b Der) (Some old) (Some new) → BundleText new b
+wrote_text text b old new l m e h =
+    let w = wrote_bundle text b (omega (arith, l.greatest)) h.is in
+    let whole : new ≡ bundle_octets text b = h.appended ∙ ap (λ (z : List ℕ). z ++ h.text) e ∙ w.whole in
+    subst (λ (z : List ℕ). BundleText z b) (sym whole) (by_text l text m).1
 
-pub encodes : {m d : ℕ} {ls ks : List Locator} {os ps : List Object} {vs ws : List Verdict} {v : BundleValue} (text : List ℕ) (size : ℕ) → IsLawful (with_lists m d ks ps ws) → with_lists m d ks ps ws ≡ v → ls ≡ ks → os ≡ ps → vs ≡ ws → IsMoment text m
-    → ((moment depth : ℕ) → size ≡ capped (length (members_octets text (with_lists moment depth ls os vs)))) → Encodes text size (with_lists m d ls os vs) v
-encodes {m} {d} {ls} {ks} {os} {ps} {vs} {ws} {v} text size l view p q r moment sized =
-    let parts : with_lists m d ls os vs ≡ with_lists m d ks ps ws = same_lists p q r in
-    let texts = by_text (subst IsLawful (sym parts) l) text moment in
-    record {
-      size_is = omega (arith, sized m d, texts.0);
-      fits = texts.0;
-      text_is = λ o e. subst (λ (z : BundleValue). BundleText o z) (parts ∙ view) (subst (λ (z : List ℕ). BundleText z (with_lists m d ls os vs)) (sym e) texts.1);
-    }
+pub wrote_view : (text : List ℕ) (b v : BundleValue) (old new : List ℕ) → b ≡ v → IsLawful b → IsMoment text b.moment → old ≡ [] → Wrote (WritesBundle text b Der) (Some old) (Some new) → BundleText new v
+wrote_view text b v old new view l m e h = subst (λ (z : BundleValue). BundleText new z) view (wrote_text text b old new l m e h)
 
--- Seven writes, one behind the other.
-behind : {now new : List ℕ} (old x y : List ℕ) → now ≡ old ++ x → new ≡ now ++ y → new ≡ old ++ (x ++ y)
-behind {new = new} old x y e h = appended {A = ℕ} {E = ℕ} old x y new (Ok 0) e h
-
-pub bundle_written : (text : List ℕ) (b : BundleValue) (size : ℕ) {o0 o1 o2 o3 o4 o5 o6 o7 : List ℕ} → size ≡ length (members_octets text b) → o0 ≡ [] → o1 ≡ o0 ++ (48 ∷ length_octets size) → o2 ≡ o1 ++ value_octets 2 (0 ∷ []) → o3 ≡ o2 ++ value_octets 24 text → o4 ≡ o3 ++ value_octets 2 (b.depth ∷ [])
-    → o5 ≡ o4 ++ list_octets locator_octets b.locators → o6 ≡ o5 ++ list_octets object_octets b.objects → o7 ≡ o6 ++ list_octets verdict_octets b.verdicts → o7 ≡ bundle_octets text b
-bundle_written text b size {o0} {o1} {o2} {o3} {o4} {o5} s e0 e1 e2 e3 e4 e5 e6 e7 =
-    let vs = list_octets verdict_octets b.verdicts in
-    let os = list_octets object_octets b.objects in
-    let ls = list_octets locator_octets b.locators in
-    let depth = value_octets 2 (b.depth ∷ []) in
-    wrote_list o0 (members_octets text b) size s e1
-    (behind o1 (value_octets 2 (0 ∷ [])) (value_octets 24 text ++ (depth ++ (ls ++ (os ++ vs)))) e2
-    (behind o2 (value_octets 24 text) (depth ++ (ls ++ (os ++ vs))) e3 (behind o3 depth (ls ++ (os ++ vs)) e4 (behind o4 ls (os ++ vs) e5 (behind o5 os vs e6 e7)))))
-    ∙ ap (λ (z : List ℕ). z ++ bundle_octets text b) e0
+-- A lawful bundle is never refused.
+pub lawful_written : (text : List ℕ) (b : BundleValue) (e : EncodeError) → IsLawful b → IsMoment text b.moment → CannotWrite Der (AreBundle text b Der) (WritesBundle text b Der) e → ⊥
+lawful_written text b e l m h = never_refused text b e (omega (arith, l.greatest)) (by_text l text m).0 h

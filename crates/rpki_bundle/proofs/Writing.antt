@@ -1,108 +1,223 @@
--- Octets that are written behind others, and how many there are.
-use Rattle.std.proofs.Common.{◌≡◌, ℕ, ◌+◌, ◌^◌, ◌<◌, ◌≤◌, zero, suc, inl, inr, List, [], ◌∷◌, ◌++◌, length, get_or, take, sym, ap, ◌∙◌, append_assoc, append-nil, length-append, arith}
-use Rattle.std.proofs.lemmas.Bool.{cases_lt}
-use Rattle.std.proofs.lemmas.List.{take_more}
-use Rattle.std.proofs.lemmas.List.Concat.{flat_map-append}
-use Rattle.std.specs.Prelude.{OnOk, is_ok, if◌then◌else◌, min}
+-- What the codec's encoders write of a bundle are its octets in DER.
+use Rattle.std.proofs.Common.{◌≡◌, ℕ, ◌+◌, ◌*◌, ◌^◌, ◌<◌, ◌≤◌, true, List, [], ◌∷◌, ◌++◌, length, Result, Ok, Err, refl, sym, ap, ◌∙◌, subst, append-nil, length-append, arith}
+use Rattle.std.specs.Prelude.{All, IfOk, IfErr, is_ok}
 use Rattle.std.specs.List.{flat_map}
-use Rattle.std.specs.declared.result.Result.{Result}
-use Rattle.std.specs.declared.result.Result.TheVariants.{Ok, Err}
+use Rattle.bcder_tree.specs.declared.mode.Mode.TheVariants.{Der}
+use Rattle.bcder_tree.specs.Tags.{universal}
+use Rattle.bcder_tree.specs.Tree.{Tree, primitive, Spells, IsConstructed, definite, indefinite}
+use Rattle.bcder_tree.specs.Front.{Splits}
+use Rattle.bcder_tree.specs.Integers.{IsNumber}
+use Rattle.bcder_tree.proofs.Integers.{small_number, number_small}
+use Rattle.bcder_values.specs.declared.error.EncodeError.{EncodeError}
+use Rattle.bcder_values.specs.declared.error.EncodeError.TheVariants.{CerUnsupported, TooLong, Write, Memory}
+use Rattle.bcder_values.specs.Encoded.{WritesWrapped, WritesBoth, SpellsSome}
+use Rattle.bcder_values.specs.Integers.{WritesUnsigned}
+use Rattle.bcder_values.specs.Laws.{both_spelled}
+use Rattle.bcder_values.specs.Lists.{WritesAll, all_spelled}
+use Rattle.bcder_values.specs.Plains.{plain_spelled}
+use Rattle.bcder_values.specs.Wraps.{wrapped_spelled}
+use Rattle.bcder_values.specs.Writing.{HasLength, CannotWrite}
+use Rattle.rpki_bundle.specs.declared.parts.Locator.{Locator}
+use Rattle.rpki_bundle.specs.declared.parts.Object.{Object}
 use Rattle.rpki_bundle.specs.declared.parts.Verdict.{Verdict}
 use Rattle.rpki_bundle.specs.Bundle.{BundleValue}
-use Rattle.rpki_bundle.specs.Sizes.{capped}
-use Rattle.rpki_bundle.specs.Spellings.{length_octets, value_octets, sequence_octets, locator_octets, object_octets, verdict_octets, list_octets, members_octets}
-use Rattle.rpki_bundle.proofs.Spellings.{value_longer, length1}
+use Rattle.rpki_bundle.specs.Spellings.{value_octets, sequence_octets, locator_octets, object_octets, verdict_octets, list_octets, members_octets, bundle_octets}
+use Rattle.rpki_bundle.specs.Written.{WritesText, WritesInteger, WritesPair, WritesTriple, WritesLocator, WritesObject, WritesVerdict, AreBundle, WritesBundle, pair_spelled, triple_spelled}
+use Rattle.rpki_bundle.proofs.Spellings.{value_spelled, spells_value, primitive_spelled, spells_primitive, value_longer, length_octets_bound}
 
--- What was written, by another name.
-pub wrote : {A E : Type 0} {new x y : List ℕ} (old : List ℕ) (r : Result A E) → x ≡ y → new ≡ (if is_ok r then old ++ x else old) → OnOk r (new ≡ old ++ y)
-wrote old (Ok a) e h = h ∙ ap (λ (z : List ℕ). old ++ z) e
-wrote old (Err a) e h = tt
+-- A string,
+text_octets : {n : ℕ} {v o : List ℕ} → n < 31 → WritesText Der (universal n) v o → o ≡ value_octets n v
+text_octets {n} {v} {o} low w =
+    let spelled : Spells Der (primitive (universal n) w.content) o = w.spelled in
+    primitive_spelled low spelled ∙ ap (value_octets n) w.is.same
 
--- The content was written behind a header.
-pub wrote_value : {A E : Type 0} {new now : List ℕ} (old c : List ℕ) (identifier : ℕ) (r : Result A E) → now ≡ old ++ (identifier ∷ length_octets (length c)) → new ≡ (if is_ok r then now ++ c else now) → OnOk r (new ≡ old ++ value_octets identifier c)
-unfolding value_octets
-wrote_value old c identifier (Ok a) e h = h ∙ ap (λ (z : List ℕ). z ++ c) e ∙ append_assoc old (identifier ∷ length_octets (length c)) c
-wrote_value old c identifier (Err a) e h = tt
+octets_text : (n : ℕ) (v : List ℕ) → 0 < n → n < 31 → length v < 2 ^ 32 → WritesText Der (universal n) v (value_octets n v)
+octets_text n v tag low fits = record { content = v; is = record { same = refl }; spelled = spells_primitive n v tag low fits }
 
--- The size of a value by that of its content.
-pub value_capped : (identifier n size : ℕ) (c : List ℕ) → n ≡ capped (length c) → size ≡ length (length_octets n) → min (n + (1 + size)) 18446744073709551615 ≡ capped (length (value_octets identifier c))
-value_capped identifier n size c e s =
-    elim (cases_lt (length c) 18446744073709551615) [
-      | inl lt ↦
-          let same : n ≡ length c = omega arith in
-          let octets : length (length_octets n) ≡ length (length_octets (length c)) = ap (λ (z : ℕ). length (length_octets z)) same in
-          omega (arith, value_longer identifier c)
-      | inr ge ↦ omega (arith, value_longer identifier c)
-    ]
+-- a small number,
+small_content : {n : ℕ} {content : List ℕ} → n < 128 → WritesUnsigned (2 ^ 8) n content → content ≡ n ∷ []
+small_content {n} {content} low w =
+    let number : IsNumber (primitive (universal 2) content) n = record { content = content; whole = refl; shortest = w.is.shortest; positive = w.is.positive; value = w.is.value } in
+    let same : primitive (universal 2) content ≡ primitive (universal 2) (n ∷ []) = small_number number low in cc
 
--- Two writes, one behind the other.
-pub appended : {A E : Type 0} {now : List ℕ} (old x y new : List ℕ) (r : Result A E) → now ≡ old ++ x → OnOk r (new ≡ now ++ y) → OnOk r (new ≡ old ++ (x ++ y))
-appended old x y new (Ok a) e h = h ∙ ap (λ (z : List ℕ). z ++ y) e ∙ append_assoc old x y
-appended old x y new (Err a) e h = tt
+integer_octets : {n : ℕ} {o : List ℕ} → n < 128 → WritesInteger Der n o → o ≡ value_octets 2 (n ∷ [])
+integer_octets {n} {o} low w =
+    let spelled : Spells Der (primitive (universal 2) w.content) o = w.spelled in
+    primitive_spelled (omega arith) spelled ∙ ap (value_octets 2) (small_content low w.is)
 
--- The members of a SEQUENCE were written behind its header.
-pub wrote_content : {A E : Type 0} {now : List ℕ} (old c new : List ℕ) (n : ℕ) (r : Result A E) → n ≡ length c → now ≡ old ++ (48 ∷ length_octets n) → OnOk r (new ≡ now ++ c) → OnOk r (new ≡ old ++ sequence_octets c)
-unfolding value_octets
-wrote_content old c new n (Ok a) e f h =
-    h ∙ ap (λ (z : List ℕ). z ++ c) f ∙ append_assoc old (48 ∷ length_octets n) c ∙ ap (λ (z : ℕ). old ++ (48 ∷ (length_octets z ++ c))) e
-wrote_content old c new n (Err a) e f h = tt
+one_octet : (n : ℕ) → n < 128 → All (λ a. a < 256) (n ∷ [])
+one_octet n low = grind arith
 
-pub wrote_list : {now new : List ℕ} (old c : List ℕ) (n : ℕ) → n ≡ length c → now ≡ old ++ (48 ∷ length_octets n) → new ≡ now ++ c → new ≡ old ++ sequence_octets c
-wrote_list {new = new} old c n e f h = wrote_content {A = ℕ} {E = ℕ} old c new n (Ok 0) e f h
+octets_integer : (n : ℕ) → n < 128 → WritesInteger Der n (value_octets 2 (n ∷ []))
+octets_integer n low = record {
+  content = n ∷ [];
+  is = record { octets = one_octet n low; is = record { shortest = tt; positive = low; value = omega arith; below = omega arith } };
+  spelled = spells_primitive 2 (n ∷ []) (omega arith) (omega arith) (omega arith);
+}
 
--- A SEQUENCE of two values is longer than each, and as long as a number can say.
-pub record PairSizes (a b : ℕ) (v w : List ℕ) : Type 0 where
-  pub first : length v < 2 ^ 32
-  pub second : length w < 2 ^ 32
-  pub content : length (value_octets a v ++ value_octets b w) < 2 ^ 32
-  pub sum : length (value_octets a v ++ value_octets b w) ≡ length (value_octets a v) + length (value_octets b w)
+-- and a SEQUENCE.
+constructed_splits : {o content : List ℕ} → IsConstructed Der o (universal 16) content → Splits Der o true (universal 16) content []
+constructed_splits {o} {content} (definite d header is whole) = record { header = header; header_is = is; whole = whole ∙ ap (λ (z : List ℕ). header ++ z) (sym (append-nil content)) }
+constructed_splits (indefinite d identifier tag is whole) = absurd d
 
-pub pair_sizes : (a b : ℕ) (v w : List ℕ) → length (sequence_octets (value_octets a v ++ value_octets b w)) < 2 ^ 32 → PairSizes a b v w
-pair_sizes a b v w h =
-    let size = value_longer 48 (value_octets a v ++ value_octets b w) in
-    let sum = length-append (value_octets a v) (value_octets b w) in
-    record { first = omega (arith, value_longer a v); second = omega (arith, value_longer b w); content = omega arith; sum = sum }
+pub wrapped_octets : {P : List ℕ → Type 0} {o : List ℕ} (w : WritesWrapped Der (universal 16) P o) → o ≡ sequence_octets w.content
+wrapped_octets {o = o} w = (value_spelled 48 true (universal 16) o w.content (omega arith) (omega arith) (constructed_splits w.spelled)).0
 
--- A digest has 34 octets, and a verdict 104.
-digest_octets : (v : List ℕ) → length v ≡ 32 → length (value_octets 4 v) ≡ 34
-digest_octets v e = omega (arith, value_longer 4 v, ap length (length1 (length v) (omega arith)))
+pub octets_wrapped : (P : List ℕ → Type 0) (c : List ℕ) → P c → length c < 2 ^ 32 → WritesWrapped Der (universal 16) P (sequence_octets c)
+octets_wrapped P c p fits =
+    let x = spells_value 48 true (universal 16) c (omega arith) (omega arith) (omega arith) (omega arith) fits in
+    record { content = c; is = p; few = fits; spelled = definite tt x.header x.header_is (x.whole ∙ ap (λ (z : List ℕ). x.header ++ z) (append-nil c)) }
 
-pub verdict_content : (v : Verdict) → length v.key ≡ 32 → length v.message ≡ 32 → length v.signature ≡ 32 → length (value_octets 4 v.key ++ (value_octets 4 v.message ++ value_octets 4 v.signature)) ≡ 102
-verdict_content v k m s = omega (arith, digest_octets v.key k, digest_octets v.message m, digest_octets v.signature s, length-append (value_octets 4 v.key) (value_octets 4 v.message ++ value_octets 4 v.signature), length-append (value_octets 4 v.message) (value_octets 4 v.signature))
+-- Two parts, one behind the other.
+joined : {a b c d : List ℕ} → a ≡ b → c ≡ d → a ++ c ≡ b ++ d
+joined {a} {b} {c} {d} p q = ap (λ (z : List ℕ). z ++ c) p ∙ ap (λ (z : List ℕ). b ++ z) q
 
-pub verdict_size : (v : Verdict) → length v.key ≡ 32 → length v.message ≡ 32 → length v.signature ≡ 32 → length (verdict_octets v) ≡ 104
-verdict_size v k m s =
-    let content = value_octets 4 v.key ++ (value_octets 4 v.message ++ value_octets 4 v.signature) in
-    let size : length content ≡ 102 = verdict_content v k m s in
-    omega (arith, value_longer 48 content, ap length (length1 (length content) (omega arith)))
+-- Two strings, and three.
+pair_octets : {n : ℕ} {a b o : List ℕ} → n < 31 → WritesPair Der (universal n) a b o → o ≡ sequence_octets (value_octets n a ++ value_octets 4 b)
+pair_octets low w = wrapped_octets w ∙ ap sequence_octets (w.is.whole ∙ joined (text_octets low w.is.is_first) (text_octets (omega arith) w.is.is_second))
 
--- One more entry, in octets and in their number.
-pub entry_next : {A : Type 0} (octets : A → List ℕ) (xs : List A) (i : ℕ) (x : A) → x ≡ get_or xs i x → i < length xs → flat_map octets (take (i + 1) xs) ≡ flat_map octets (take i xs) ++ octets x
-entry_next octets xs i x e lt =
-    ap (flat_map octets) (take_more xs i x lt) ∙ flat_map-append octets (take i xs) (get_or xs i x ∷ [])
-    ∙ ap (λ (z : List ℕ). flat_map octets (take i xs) ++ z) (append-nil (octets (get_or xs i x)) ∙ ap octets (sym e))
+octets_pair : (n : ℕ) (a b : List ℕ) → 0 < n → n < 31 → length (sequence_octets (value_octets n a ++ value_octets 4 b)) < 2 ^ 32 → WritesPair Der (universal n) a b (sequence_octets (value_octets n a ++ value_octets 4 b))
+octets_pair n a b tag low fits =
+    let size = value_longer 48 (value_octets n a ++ value_octets 4 b) in
+    let sum = length-append (value_octets n a) (value_octets 4 b) in
+    let first = octets_text n a tag low (omega (arith, value_longer n a)) in
+    let second = octets_text 4 b (omega arith) (omega arith) (omega (arith, value_longer 4 b)) in
+    octets_wrapped (WritesBoth (WritesText Der (universal n) a) (WritesText Der (universal 4) b)) (value_octets n a ++ value_octets 4 b)
+    (record { first = value_octets n a; second = value_octets 4 b; is_first = first; is_second = second; whole = refl })
+    (omega arith)
 
-pub entry_written : {A : Type 0} {now new : List ℕ} (octets : A → List ℕ) (old : List ℕ) (xs : List A) (i : ℕ) (x : A) → x ≡ get_or xs i x → i < length xs → now ≡ old ++ flat_map octets (take i xs) → new ≡ now ++ octets x → new ≡ old ++ flat_map octets (take (i + 1) xs)
-entry_written octets old xs i x e lt h w =
-    w ∙ ap (λ (z : List ℕ). z ++ octets x) h ∙ append_assoc old (flat_map octets (take i xs)) (octets x) ∙ ap (λ (z : List ℕ). old ++ z) (sym (entry_next octets xs i x e lt))
+triple_octets : {a b c o : List ℕ} → WritesTriple Der a b c o → o ≡ sequence_octets (value_octets 4 a ++ (value_octets 4 b ++ value_octets 4 c))
+triple_octets w =
+    let behind = w.is.is_second in
+    let tail = behind.whole ∙ joined (text_octets (omega arith) behind.is_first) (text_octets (omega arith) behind.is_second) in
+    wrapped_octets w ∙ ap sequence_octets (w.is.whole ∙ joined (text_octets (omega arith) w.is.is_first) tail)
 
-pub entry_more : {A : Type 0} {size more : ℕ} (octets : A → List ℕ) (xs : List A) (i : ℕ) (x : A) → x ≡ get_or xs i x → i < length xs → size ≡ capped (length (flat_map octets (take i xs))) → more ≡ capped (length (octets x)) → min (size + more) 18446744073709551615 ≡ capped (length (flat_map octets (take (i + 1) xs)))
-entry_more octets xs i x e lt s m =
-    let next = ap length (entry_next octets xs i x e lt) in
-    omega (arith, next, length-append (flat_map octets (take i xs)) (octets x))
+octets_triple : (a b c : List ℕ) → length (sequence_octets (value_octets 4 a ++ (value_octets 4 b ++ value_octets 4 c))) < 2 ^ 32 → WritesTriple Der a b c (sequence_octets (value_octets 4 a ++ (value_octets 4 b ++ value_octets 4 c)))
+octets_triple a b c fits =
+    let size = value_longer 48 (value_octets 4 a ++ (value_octets 4 b ++ value_octets 4 c)) in
+    let sum = length-append (value_octets 4 a) (value_octets 4 b ++ value_octets 4 c) in
+    let next = length-append (value_octets 4 b) (value_octets 4 c) in
+    let first = octets_text 4 a (omega arith) (omega arith) (omega (arith, value_longer 4 a)) in
+    let second = octets_text 4 b (omega arith) (omega arith) (omega (arith, value_longer 4 b)) in
+    let third = octets_text 4 c (omega arith) (omega arith) (omega (arith, value_longer 4 c)) in
+    octets_wrapped (WritesBoth (WritesText Der (universal 4) a) (WritesBoth (WritesText Der (universal 4) b) (WritesText Der (universal 4) c))) (value_octets 4 a ++ (value_octets 4 b ++ value_octets 4 c))
+    (record { first = value_octets 4 a; second = value_octets 4 b ++ value_octets 4 c; is_first = first; is_second = record { first = value_octets 4 b; second = value_octets 4 c; is_first = second; is_second = third; whole = refl }; whole = refl })
+    (omega arith)
 
--- No entry is longer than all of them.
-pub entry_within : {A : Type 0} (octets : A → List ℕ) (xs : List A) (i : ℕ) (x : A) → x ≡ get_or xs i x → i < length xs → length (octets x) ≤ length (flat_map octets xs)
-entry_within octets [] i x e lt = absurd (omega arith)
-entry_within octets (y ∷ ys) zero x e lt = omega (arith, length-append (octets y) (flat_map octets ys), ap (λ z. length (octets z)) e)
-entry_within octets (y ∷ ys) (suc i) x e lt = omega (arith, length-append (octets y) (flat_map octets ys), entry_within octets ys i x e (omega arith))
+-- How an entry is written.
+record Entries {A : Type 0} (writes : A → List ℕ → Type 0) (octets : A → List ℕ) : Type 0 where
+  wrote : (x : A) (o : List ℕ) → writes x o → o ≡ octets x
+  written : (x : A) → length (octets x) < 2 ^ 32 → writes x (octets x)
 
--- The members of a bundle, counted one by one.
-pub members_length : (text : List ℕ) (b : BundleValue) → length (members_octets text b) ≡ length (value_octets 24 text) + 6 + length (list_octets locator_octets b.locators) + length (list_octets object_octets b.objects) + length (list_octets verdict_octets b.verdicts)
-members_length text b =
+locators : Entries (λ l. WritesLocator l Der) locator_octets
+locators = record { wrote = λ l o w. pair_octets (omega arith) w; written = λ l fits. octets_pair 19 l.name l.text (omega arith) (omega arith) fits }
+
+objects : Entries (λ o. WritesObject o Der) object_octets
+objects = record { wrote = λ x o w. pair_octets (omega arith) w; written = λ x fits. octets_pair 22 x.uri x.octets (omega arith) (omega arith) fits }
+
+verdicts : Entries (λ v. WritesVerdict v Der) verdict_octets
+verdicts = record { wrote = λ v o w. triple_octets w; written = λ v fits. octets_triple v.key v.message v.signature fits }
+
+-- All of a list.
+all_octets : {A : Type 0} {writes : A → List ℕ → Type 0} {octets : A → List ℕ} → Entries writes octets → (xs : List A) (o : List ℕ) → WritesAll writes xs o → o ≡ flat_map octets xs
+all_octets e [] o w = w
+all_octets e (x ∷ xs) o w = w.whole ∙ joined (e.wrote x w.first w.is_first) (all_octets e xs w.second w.is_second)
+
+octets_all : {A : Type 0} {writes : A → List ℕ → Type 0} {octets : A → List ℕ} → Entries writes octets → (xs : List A) → length (flat_map octets xs) < 2 ^ 32 → WritesAll writes xs (flat_map octets xs)
+octets_all e [] fits = refl
+octets_all {octets = octets} e (x ∷ xs) fits =
+    let sum = length-append (octets x) (flat_map octets xs) in
+    record { first = octets x; second = flat_map octets xs; is_first = e.written x (omega arith); is_second = octets_all e xs (omega arith); whole = refl }
+
+row_octets : {A : Type 0} {writes : A → List ℕ → Type 0} {octets : A → List ℕ} → Entries writes octets → (xs : List A) (o : List ℕ) → WritesWrapped Der (universal 16) (WritesAll writes xs) o → o ≡ list_octets octets xs
+row_octets e xs o w = wrapped_octets w ∙ ap sequence_octets (all_octets e xs w.content w.is)
+
+octets_row : {A : Type 0} {writes : A → List ℕ → Type 0} {octets : A → List ℕ} → Entries writes octets → (xs : List A) → length (list_octets octets xs) < 2 ^ 32 → WritesWrapped Der (universal 16) (WritesAll writes xs) (list_octets octets xs)
+octets_row {writes = writes} {octets} e xs fits =
+    let size = value_longer 48 (flat_map octets xs) in
+    let content : length (flat_map octets xs) < 2 ^ 32 = omega arith in
+    octets_wrapped (WritesAll writes xs) (flat_map octets xs) (octets_all e xs content) content
+
+-- A bundle's octets were written, and its members fit a length.
+pub record WroteBundle (text : List ℕ) (b : BundleValue) (o : List ℕ) : Type 0 where
+  pub whole : o ≡ bundle_octets text b
+  pub fits : length (members_octets text b) < 2 ^ 32
+
+pub wrote_bundle : (text : List ℕ) (b : BundleValue) {o : List ℕ} → b.depth < 128 → WritesBundle text b Der o → WroteBundle text b o
+wrote_bundle text b {o} low w =
+    let m1 = w.is in
+    let m2 = m1.is_second in
+    let m3 = m2.is_second in
+    let m4 = m3.is_second in
+    let m5 = m4.is_second in
+    let content : w.content ≡ members_octets text b =
+    m1.whole ∙ joined (integer_octets (omega arith) m1.is_first)
+    (m2.whole ∙ joined (text_octets (omega arith) m2.is_first)
+    (m3.whole ∙ joined (integer_octets low m3.is_first)
+    (m4.whole ∙ joined (row_octets locators b.locators m4.first m4.is_first)
+    (m5.whole ∙ joined (row_octets objects b.objects m5.first m5.is_first) (row_octets verdicts b.verdicts m5.second m5.is_second))))) in
+    record { whole = wrapped_octets w ∙ ap sequence_octets content; fits = subst (λ (z : List ℕ). length z < 2 ^ 32) content w.few }
+
+pub bundle_written : (text : List ℕ) (b : BundleValue) → b.depth < 128 → length (members_octets text b) < 2 ^ 32 → WritesBundle text b Der (bundle_octets text b)
+bundle_written text b low fits =
+    let version = value_octets 2 (0 ∷ []) in
+    let moment = value_octets 24 text in
+    let depth = value_octets 2 (b.depth ∷ []) in
     let ls = list_octets locator_octets b.locators in
     let os = list_octets object_octets b.objects in
     let vs = list_octets verdict_octets b.verdicts in
-    let depth = value_octets 2 (b.depth ∷ []) in
-    let one = ap length (length1 1 (omega arith)) in
-    omega (arith, one, value_longer 2 (0 ∷ []), value_longer 2 (b.depth ∷ []), length-append (value_octets 2 (0 ∷ [])) (value_octets 24 text ++ (depth ++ (ls ++ (os ++ vs)))), length-append (value_octets 24 text) (depth ++ (ls ++ (os ++ vs))), length-append depth (ls ++ (os ++ vs)), length-append ls (os ++ vs), length-append os vs)
+    let end2 = length-append version (moment ++ (depth ++ (ls ++ (os ++ vs)))) in
+    let end3 = length-append moment (depth ++ (ls ++ (os ++ vs))) in
+    let end4 = length-append depth (ls ++ (os ++ vs)) in
+    let end5 = length-append ls (os ++ vs) in
+    let end6 = length-append os vs in
+    let size = value_longer 24 text in
+    let first = octets_integer 0 (omega arith) in
+    let second = octets_text 24 text (omega arith) (omega arith) (omega arith) in
+    let third = octets_integer b.depth low in
+    let fourth = octets_row locators b.locators (omega arith) in
+    let fifth = octets_row objects b.objects (omega arith) in
+    let sixth = octets_row verdicts b.verdicts (omega arith) in
+    octets_wrapped _ (members_octets text b) (record {
+      first = version;
+      second = moment ++ (depth ++ (ls ++ (os ++ vs)));
+      is_first = first;
+      is_second = record {
+        first = moment;
+        second = depth ++ (ls ++ (os ++ vs));
+        is_first = second;
+        is_second = record {
+          first = depth;
+          second = ls ++ (os ++ vs);
+          is_first = third;
+          is_second = record { first = ls; second = os ++ vs; is_first = fourth; is_second = record { first = os; second = vs; is_first = fifth; is_second = sixth; whole = refl }; whole = refl };
+          whole = refl;
+        };
+        whole = refl;
+      };
+      whole = refl;
+    }) fits
+
+-- What is written of a bundle spells values.
+bundle_spells : (text : List ℕ) (b : BundleValue) (o : List ℕ) → WritesBundle text b Der o → SpellsSome Der (AreBundle text b Der) o
+bundle_spells text b =
+    wrapped_spelled Der (both_spelled Der (plain_spelled Der) (both_spelled Der (plain_spelled Der) (both_spelled Der (plain_spelled Der)
+    (both_spelled Der (wrapped_spelled Der (all_spelled Der (λ l o w. pair_spelled Der o w) b.locators))
+    (both_spelled Der (wrapped_spelled Der (all_spelled Der (λ x o w. pair_spelled Der o w) b.objects))
+    (wrapped_spelled Der (all_spelled Der (λ v o w. triple_spelled Der o w) b.verdicts)))))))
+
+-- A bundle whose members fit a length is never refused,
+pub never_refused : (text : List ℕ) (b : BundleValue) (e : EncodeError) → b.depth < 128 → length (members_octets text b) < 2 ^ 32 → CannotWrite Der (AreBundle text b Der) (WritesBundle text b Der) e → ⊥
+never_refused text b CerUnsupported low fits h = let s = bundle_spells text b _ (bundle_written text b low fits) in h.1 s.trees s.is
+never_refused text b TooLong low fits h = h (bundle_octets text b) (bundle_written text b low fits) (omega (arith, value_longer 48 (members_octets text b), length_octets_bound (length (members_octets text b))))
+never_refused text b Write low fits h = h
+never_refused text b Memory low fits h = h
+
+-- and one that is counted fits it.
+pub counted_fits : (text : List ℕ) (b : BundleValue) (r : Result ℕ EncodeError) → b.depth < 128 → IfOk r (HasLength (WritesBundle text b Der)) → is_ok r ≡ true → length (members_octets text b) < 2 ^ 32
+counted_fits text b (Ok n) low h e = (wrote_bundle text b low h.is).fits
+counted_fits text b (Err x) low h e = absurd cc
+
+pub fits_counted : (text : List ℕ) (b : BundleValue) (r : Result ℕ EncodeError) → b.depth < 128 → IfErr r (CannotWrite Der (AreBundle text b Der) (WritesBundle text b Der)) → length (members_octets text b) < 2 ^ 32 → is_ok r ≡ true
+fits_counted text b (Ok n) low h fits = refl
+fits_counted text b (Err e) low h fits = absurd (never_refused text b e low fits h)

@@ -3,95 +3,29 @@
 ghost use Rattle.std.specs.Prelude.{◌≡◌, ◌↔◌, ℕ, ◌<◌, ◌≤◌, ◌^◌, List, length, IsTrue, IfSome, IfNone, IfOk, IfErr};
 ghost use Rattle.std.specs.Ordering.{nat_cmp};
 ghost use Rattle.std.specs.Cmp.Lexicographic.{slice_cmp};
-ghost use Rattle.bcder_tree.specs.Integers.{IsNumber};
 ghost use Rattle.rpki_bundle.specs.Uris.{IsUri, lookup_key as key_of};
 ghost use Rattle.rpki_bundle.specs.Orders.{Ascends};
 ghost use Rattle.rpki_bundle.specs.Objects.{IsAt};
-ghost use Rattle.rpki_bundle.specs.Reading.{ReadsOne};
 ghost use Rattle.rpki_bundle.specs.declared.error.BundleError.TheVariants.{NotABundle as not_a_bundle};
+ghost use Rattle.bcder_content.specs.Here.{here};
+ghost use Rattle.rpki_bundle.specs.Ends.{ReadsToEndAs, Refuses};
 ghost use Rattle.rpki_bundle.specs.Errors.{OnNotABundle};
-ghost use Rattle.rpki_bundle.specs.Sizes.{capped};
-ghost use Rattle.rpki_bundle.specs.Spellings.{members_octets};
+ghost use Rattle.rpki_bundle.specs.Grammars.{IsBundleAlone};
+ghost use Rattle.rpki_bundle.specs.PartFields.{parts_alone, parts_value};
 ghost use Rattle.rpki_bundle.specs.Lawful.{IsLawful};
-ghost use Rattle.rpki_bundle.specs.Bundle.{BundleValue};
-ghost use Rattle.rpki_bundle.specs.BundleParts.{ReadsHead, ReadsBundle};
 
-use crate::der::{SEQUENCE, take_primitive, take_sequence};
-use crate::entries::{is_lawful_list, list_size, put_list, take_list};
-use crate::put::{put_header, put_value, value_size};
+use crate::entries::is_lawful_list;
+use crate::reader::is_depth;
 use crate::uri::{cmp_lookup_key, is_uri};
+use crate::whole::{Parts, take_alone};
+use crate::writer::{members_len, write_members};
 use crate::{BundleError, Locator, Object, Time, Verdict};
+use bcder_content::Decode;
+use bcder_source::{DecodeError, Mode};
 use std::alloc::{AllocError, Global};
 use std::cmp::Ordering;
+use std::convert::Infallible;
 use std::marker::Model;
-
-// Universal tag numbers.
-const INTEGER: u8 = 2;
-
-const GENERALIZED_TIME: u8 = 24;
-
-// An INTEGER below 128 in front, and what is behind it.
-fn take_number(octets: &[u8]) -> Option<(u8, &[u8])>
-    ensures found { IfSome result (λ r. ReadsOne IsNumber octets.now r.0 r.1.now × (r.0 < 128)) }
-    ensures none { IfNone result ((n : ℕ) (rest : List ℕ) → n < 128 → ReadsOne IsNumber octets.now n rest → ⊥) }
-{
-    let Some((content, rest)) = take_primitive(INTEGER, octets) else {
-        return None;
-    };
-    if content.len() != 1 {
-        return None;
-    }
-    let number = content[0];
-    if number >= 128 {
-        return None;
-    }
-    Some((number, rest))
-}
-
-// Whether a bundle may have the depth.
-fn is_depth(depth: u8) -> bool
-    ensures { IsTrue result ↔ ((1 ≤ depth) × (depth ≤ 32)) }
-{
-    (1..=32).contains(&depth)
-}
-
-// What stands before a bundle's lists, and what is behind it.
-#[derive(Drop)]
-struct Head<'a> {
-    moment: Time,
-    depth: u8,
-    rest: &'a [u8],
-}
-
-// Version 0, a moment and a depth of 1 to 32.
-fn take_head(octets: &[u8]) -> Option<Head<'_>>
-    ensures found { IfSome result (λ h. ReadsHead octets.now h.moment h.depth h.rest.now) }
-    ensures none { IfNone result ((moment depth : ℕ) (rest : List ℕ) → ReadsHead octets.now moment depth rest → ⊥) }
-{
-    let Some((version, rest)) = take_number(octets) else {
-        return None;
-    };
-    if version != 0 {
-        return None;
-    }
-    let Some((text, rest)) = take_primitive(GENERALIZED_TIME, rest) else {
-        return None;
-    };
-    let Some(moment) = Time::from_generalized(text) else {
-        return None;
-    };
-    let Some((depth, rest)) = take_number(rest) else {
-        return None;
-    };
-    if !is_depth(depth) {
-        return None;
-    }
-    Some(Head {
-        moment,
-        depth,
-        rest,
-    })
-}
 
 /// All that one run of the validator is told: a moment, the greatest length of chains, trust anchor locators,
 /// published objects, and the signatures that are good.
@@ -116,52 +50,36 @@ impl Model for Bundle {
     ghost invariant = { λ b. IsLawful (record { moment = b.moment; depth = b.depth; locators = b.locators.items; objects = b.objects.items; verdicts = b.verdicts.items }) };
 }
 
-// The bundle whose members the octets are, all of them.
-fn bundle_of(alloc: Global, octets: &[u8]) -> Result<Bundle, BundleError>
-    requires { length octets.now < 2 ^ 32 }
-    ensures ok { IfOk result (ReadsBundle octets.now) }
-    ensures refused { IfErr result (λ e. OnNotABundle e ((b : BundleValue) → ReadsBundle octets.now b → ⊥)) }
+// The bundle of what was read.
+fn bundle_of(parts: Parts) -> Bundle
+    requires { IsLawful (parts_value parts) }
+    ensures { result ≡ parts_value parts }
 {
-    let Some(head) = take_head(octets) else {
-        return Err(BundleError::NotABundle);
-    };
-    let (locators, rest) = match take_list::<Locator>(alloc, head.rest) {
-        Ok(list) => list,
-        Err(error) => return Err(error),
-    };
-    let (objects, rest) = match take_list::<Object>(alloc, rest) {
-        Ok(list) => list,
-        Err(error) => return Err(error),
-    };
-    let (verdicts, rest) = match take_list::<Verdict>(alloc, rest) {
-        Ok(list) => list,
-        Err(error) => return Err(error),
-    };
-    if !rest.is_empty() {
-        return Err(BundleError::NotABundle);
-    }
-    Ok(Bundle {
-        moment: head.moment,
-        depth: head.depth,
+    let Parts {
+        moment,
+        depth,
         locators,
         objects,
         verdicts,
-    })
+    } = parts;
+    Bundle {
+        moment,
+        depth,
+        locators,
+        objects,
+        verdicts,
+    }
 }
 
-// How many octets the members of a bundle with these parts have; a depth and a version have three each.
-fn members_size(
-    text: &[u8],
-    locators: &[Locator],
-    objects: &[Object],
-    verdicts: &[Verdict],
-) -> usize
-    ensures { (moment depth : ℕ) → result ≡ capped (length (members_octets text.now (record { moment = moment; depth = depth; locators = locators.now; objects = objects.now; verdicts = verdicts.now }))) }
+// Why octets are no bundle, by why they can't be read.
+fn refusal(error: DecodeError<Infallible>) -> BundleError
+    ensures { Refuses error result }
 {
-    let head = value_size(text.len()).saturating_add(6);
-    head.saturating_add(list_size(locators))
-        .saturating_add(list_size(objects))
-        .saturating_add(list_size(verdicts))
+    match error {
+        DecodeError::Content(_, _) => BundleError::NotABundle,
+        DecodeError::Source(never) => match never {},
+        DecodeError::Memory => BundleError::Memory,
+    }
 }
 
 // Whether a bundle may have these parts.
@@ -186,7 +104,8 @@ fn is_lawful(
     if !is_lawful_list(verdicts) {
         return false;
     }
-    members_size(&moment.generalized(), locators, objects, verdicts) < 4294967296
+    let text = moment.generalized();
+    members_len(Mode::Der, &text, depth, locators, objects, verdicts).is_ok()
 }
 
 // The octets of the object at the lookup key of a URI, among objects that ascend.
@@ -244,13 +163,16 @@ impl Bundle {
         ensures ok { IfOk result (BundleText octets.now) }
         ensures not_a_bundle { IfErr result (λ e. OnNotABundle e ((b : BundleValue) → BundleText octets.now b → ⊥)) }
     {
-        let Some((content, behind)) = take_sequence(octets) else {
-            return Err(BundleError::NotABundle);
-        };
-        if !behind.is_empty() {
-            return Err(BundleError::NotABundle);
+        let read = Mode::Der.decode(
+            octets,
+            |cons|
+                ensures { ReadsToEndAs parts_alone IsBundleAlone (here (λ s. s.rest) cons.old) result (here (λ s. s.rest) cons.new) }
+            { take_alone(alloc, cons) },
+        );
+        match read {
+            Ok(parts) => Ok(bundle_of(parts)),
+            Err(error) => Err(refusal(error)),
         }
-        bundle_of(alloc, content)
     }
 
     /// The octets of the bundle: the only ones that are read as it.
@@ -261,16 +183,17 @@ impl Bundle {
         let locators = self.locators.as_slice();
         let objects = self.objects.as_slice();
         let verdicts = self.verdicts.as_slice();
-        let size = members_size(&text, locators, objects, verdicts);
-        let mut octets = Vec::with_capacity(alloc, value_size(size))?;
-        put_header(&mut octets, SEQUENCE, size)?;
-        put_value(&mut octets, INTEGER, &[0])?;
-        put_value(&mut octets, GENERALIZED_TIME, &text)?;
-        put_value(&mut octets, INTEGER, &[self.depth])?;
-        put_list(&mut octets, locators)?;
-        put_list(&mut octets, objects)?;
-        put_list(&mut octets, verdicts)?;
-        Ok(octets)
+        let depth = self.depth;
+        let size = match members_len(Mode::Der, &text, depth, locators, objects, verdicts) {
+            Ok(size) => size,
+            Err(_) => unreachable!(),
+        };
+        let mut octets = Vec::with_capacity(alloc, size)?;
+        let mode = Mode::Der;
+        match write_members(mode, &text, depth, locators, objects, verdicts, &mut octets) {
+            Ok(()) => Ok(octets),
+            Err(_) => Err(AllocError),
+        }
     }
 
     /// The octets of the object at a URI, which is looked up by its lookup key; none for a text that is no URI.

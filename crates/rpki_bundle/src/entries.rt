@@ -1,35 +1,36 @@
 //! Lists of entries, each read once from the front on.
 
-ghost use Rattle.std.specs.Prelude.{◌≡◌, ◌↔◌, ℕ, ◌<◌, ◌^◌, ◌++◌, List, IsTrue, OnOk, IfOk, IfErr, All, length};
-ghost use Rattle.std.specs.List.{flat_map};
+ghost use Rattle.std.specs.Prelude.{◌↔◌, ℕ, List, IsTrue};
+ghost use Rattle.bcder_content.specs.Exact.{ReadsAs, ReadsAllAs, ReadsOptAs};
+ghost use Rattle.bcder_content.specs.Grammar.{Many, One, Tagged};
+ghost use Rattle.bcder_content.specs.Here.{here};
+ghost use Rattle.bcder_tree.specs.Tags.{universal};
 ghost use Rattle.bcder_tree.specs.Tree.{Tree};
+ghost use Rattle.rpki_bundle.specs.Grammars.{AreRows};
 ghost use Rattle.rpki_bundle.specs.Orders.{IsBefore, Ascends};
-ghost use Rattle.rpki_bundle.specs.Reading.{ReadsOne, LacksOne};
-ghost use Rattle.rpki_bundle.specs.Entries.{ReadsEach, LacksEach, IsList};
-ghost use Rattle.rpki_bundle.specs.Errors.{OnNotABundle};
-ghost use Rattle.rpki_bundle.specs.Sizes.{capped};
-ghost use Rattle.rpki_bundle.specs.Spellings.{list_octets};
 ghost use Rattle.rpki_bundle.specs.Lawful.{IsLawfulList};
 
-use crate::BundleError;
-use crate::der::{SEQUENCE, take_sequence};
-use crate::put::{put_header, value_size};
-use std::alloc::{AllocError, Global};
+use bcder_content::Constructed;
+use bcder_source::{ContentError, DecodeError, Source};
+use bcder_values::Values;
+use std::alloc::Global;
 
 /// What a list of a bundle has as its entries.
-pub trait Entry: Drop {
-    // The form of an entry's tree.
+pub trait Entry: Values + Drop {
+    // The grammar of an entry.
     ghost form: { Tree → Self → Type 0 };
 
     // The octets by which entries are ordered.
     ghost sort_key: { Self → List ℕ };
 
-    /// The entry in front, and what is behind it.
-    fn take_from(alloc: Global, octets: &[u8]) -> Result<(Self, &[u8]), BundleError>
+    /// The next entry, if a SEQUENCE is next.
+    fn take_opt<S: Source>(
+        alloc: Global,
+        cons: &mut Constructed<S>,
+    ) -> Result<Option<Self>, DecodeError<S::Error>>
     where
         Self: Sized,
-        ensures ok { IfOk result (λ r. ReadsOne form octets.now r.0 r.1.now) }
-        ensures refused { IfErr result (λ e. OnNotABundle e (LacksOne form octets.now)) };
+        ensures { ReadsOptAs (λ entry. entry) (universal 16) form (here S.rest cons.old) result (here S.rest cons.new) };
 
     /// Whether it stands before another one.
     fn is_before(&self, other: &Self) -> bool
@@ -38,24 +39,14 @@ pub trait Entry: Drop {
     // What holds of the entries that bundles have.
     ghost lawful: { Self → Type 0 };
 
-    // The octets of an entry.
-    ghost octets_of: { Self → List ℕ };
-
     /// Whether bundles may have it.
     fn is_lawful(&self) -> bool
         ensures { IsTrue result ↔ lawful self.now };
 
-    /// How many octets it has.
-    fn size(&self) -> usize
-        ensures { result ≡ capped (length (octets_of self.now)) };
+    // Entries are SEQUENCEs, and each is read in one way.
+    ghost is_sequence: { Tagged (universal 16) form };
 
-    /// Writes its octets.
-    fn put(&self, into: &mut Vec<u8>) -> Result<(), AllocError>
-        requires { length (octets_of self.now) < 2 ^ 32 }
-        ensures { OnOk result (into.new.items ≡ into.old.items ++ octets_of self.now) };
-
-    // A tree stands for one entry.
-    ghost one_value: { (t : Tree) (x y : Self) → form t x → form t y → x ≡ y };
+    ghost one_value: { One form };
 }
 
 /// Whether one row of octets stands before another.
@@ -63,25 +54,6 @@ pub fn stands_before(row: &[u8], other: &[u8]) -> bool
     ensures { IsTrue result ↔ IsBefore row.now other.now }
 {
     row.cmp(&other).is_lt()
-}
-
-// Entries that the octets are, one behind the other, in any order.
-fn read_entries<E: Entry>(alloc: Global, octets: &[u8]) -> Result<Vec<E>, BundleError>
-    ensures ok { IfOk result (λ v. ReadsEach E.form octets.now v.items) }
-    ensures refused { IfErr result (λ e. OnNotABundle e (LacksEach E.form octets.now)) }
-{
-    let mut entries = Vec::new(alloc);
-    let mut rest = octets;
-    while !rest.is_empty() {
-        match E::take_from(alloc, rest) {
-            Ok((entry, behind)) => {
-                entries.push(entry)?;
-                rest = behind;
-            }
-            Err(error) => return Err(error),
-        }
-    }
-    Ok(entries)
 }
 
 /// Whether each entry stands before the next.
@@ -96,22 +68,28 @@ pub fn is_ascending<E: Entry>(entries: &[E]) -> bool
     true
 }
 
-/// The list of entries in front, strictly ascending, and what is behind it.
-pub fn take_list<E: Entry>(alloc: Global, octets: &[u8]) -> Result<(Vec<E>, &[u8]), BundleError>
-    ensures ok { IfOk result (λ r. ReadsOne (IsList E.form E.sort_key) octets.now r.0.items r.1.now) }
-    ensures refused { IfErr result (λ e. OnNotABundle e (LacksOne (IsList E.form E.sort_key) octets.now)) }
+/// A list of entries, strictly ascending.
+pub fn take_list<E: Entry, S: Source>(
+    alloc: Global,
+    cons: &mut Constructed<S>,
+) -> Result<Vec<E>, DecodeError<S::Error>>
+    ensures { ReadsAs (λ entries. entries.items) (AreRows E.form E.sort_key) (here S.rest cons.old) result (here S.rest cons.new) }
 {
-    let Some((content, rest)) = take_sequence(octets) else {
-        return Err(BundleError::NotABundle);
-    };
-    let entries = match read_entries::<E>(alloc, content) {
-        Ok(entries) => entries,
-        Err(error) => return Err(error),
-    };
+    let entries = cons.take_sequence(
+        |cons|
+            ensures { ReadsAllAs (λ entries. entries.items) (Many E.form) (here S.rest cons.old) result (here S.rest cons.new) }
+        {
+            let mut entries = Vec::new(alloc);
+            while let Some(entry) = E::take_opt(alloc, cons)? {
+                entries.push(entry)?;
+            }
+            Ok(entries)
+        },
+    )?;
     if !is_ascending(entries.as_slice()) {
-        return Err(BundleError::NotABundle);
+        return Err(cons.content_err(ContentError::from_static("entries out of order")));
     }
-    Ok((entries, rest))
+    Ok(entries)
 }
 
 /// Whether bundles may have the list.
@@ -124,34 +102,4 @@ pub fn is_lawful_list<E: Entry>(entries: &[E]) -> bool
         }
     }
     is_ascending(entries)
-}
-
-// How many octets the entries have together.
-fn entries_size<E: Entry>(entries: &[E]) -> usize
-    ensures { result ≡ capped (length (flat_map E.octets_of entries.now)) }
-{
-    let mut size: usize = 0;
-    for entry in entries {
-        size = size.saturating_add(entry.size());
-    }
-    size
-}
-
-/// How many octets the list has.
-pub fn list_size<E: Entry>(entries: &[E]) -> usize
-    ensures { result ≡ capped (length (list_octets E.octets_of entries.now)) }
-{
-    value_size(entries_size(entries))
-}
-
-/// Writes the list's octets.
-pub fn put_list<E: Entry>(into: &mut Vec<u8>, entries: &[E]) -> Result<(), AllocError>
-    requires { length (list_octets E.octets_of entries.now) < 2 ^ 32 }
-    ensures { OnOk result (into.new.items ≡ into.old.items ++ list_octets E.octets_of entries.now) }
-{
-    put_header(into, SEQUENCE, entries_size(entries))?;
-    for entry in entries {
-        entry.put(into)?;
-    }
-    Ok(())
 }

@@ -2,18 +2,19 @@
 #![tactic(auto)]
 
 pub mod bundle;
-mod der;
 pub mod digest;
 mod entries;
 pub mod error;
 mod forms;
 pub mod laws;
 pub mod parts;
-mod put;
+mod reader;
 #[cfg(test)]
 mod tests;
 pub mod time;
 pub mod uri;
+mod whole;
+mod writer;
 
 pub use bundle::Bundle;
 pub use digest::Digester;

@@ -9,18 +9,18 @@ use Rattle.bcder_readers.proofs.examples.take_name.Goals as goal
 apart : universal 2 ≡ universal 16 → ⊥
 apart e = let n : ◌≡◌ {A = ℕ} 2 16 = ap (λ (t : TagValue). t.number) e in omega arith
 
-pub returns-in_err-number : goal.returns-in_err-number
-returns-in_err-number g c = stop_value _ _ _ _ c.from_residual.ensures (λ l. choice_lacks (as_tagged (inside_tagged _ _)) apart (as_lacks_tagged by_number l)) c.in_err-number.ensures.reads
+pub returns-in_err-number-clause-reads : goal.returns-in_err-number-clause-reads
+returns-in_err-number-clause-reads g c = stop_value _ _ _ _ c.from_residual.ensures (λ l. choice_lacks (as_tagged (inside_tagged _ _)) apart (as_lacks_tagged by_number l)) c.in_err-number.ensures.reads
 
-pub returns-in-Some : goal.returns-in-Some
-returns-in-Some g c = first_gives _ (as_gives by_number (there _ _ _ c.in-Some.is c.in_ok-number.ensures.reads))
+pub returns-in-Some-clause-reads : goal.returns-in-Some-clause-reads
+returns-in-Some-clause-reads g c = first_gives _ (as_gives by_number (there _ _ _ c.in-Some.is c.in_ok-number.ensures.reads))
 
-pub returns-in_err-take_version : goal.returns-in_err-take_version
-returns-in_err-take_version g c =
+pub returns-in_err-take_version-clause-reads : goal.returns-in_err-take_version-clause-reads
+returns-in_err-take_version-clause-reads g c =
     let none = absent _ _ _ c.in_default.is c.in_ok-number.ensures.reads in
-    stop_value _ _ _ _ c.from_residual-in_err-take_version.ensures (λ l. second_lacks (as_tagged (octets_tagged _ _)) none (as_lacks by_version l)) c.in_err-take_version.ensures
+    stop_value _ _ _ _ c.from_residual-in_err-take_version.ensures (λ l. second_lacks (as_tagged (octets_tagged _ _)) none (as_lacks by_version l)) c.in_err-take_version.ensures.reads
 
-pub returns : goal.returns
-returns g c =
+pub returns-clause-reads : goal.returns-clause-reads
+returns-clause-reads g c =
     let none = absent _ _ _ c.in_default.is c.in_ok-number.ensures.reads in
-    second_gives _ none (as_gives by_version c.in_ok-take_version.ensures)
+    second_gives _ none (as_gives by_version c.in_ok-take_version.ensures.reads)

@@ -1,17 +1,16 @@
-use Rattle.std.proofs.Common.{refl, subst, sym}
+use Rattle.std.proofs.Common.{refl, sym, subst}
+use Rattle.bcder_content.proofs.Choices.{such_gives, such_lacks, such_refused, stop_value}
+use Rattle.bcder_content.proofs.Inside.{exact_each}
+use Rattle.bcder_content.proofs.Taking.{on_content}
+use Rattle.bcder_content.proofs.Unique.{inside_one, many_one}
 use Rattle.rpki_bundle.specs.Orders.{Ascends}
-use Rattle.rpki_bundle.proofs.Lists.{list_found, list_none, list_lacks, list_disordered, weaker}
 use Rattle.rpki_bundle.proofs.entries.take_list.Goals as goal
 
-pub returns-in_default-clause-refused : goal.returns-in_default-clause-refused
-returns-in_default-clause-refused g c = list_none c.in_default.ensures.none
+pub returns-in_err-entries : goal.returns-in_err-entries
+returns-in_err-entries g c = stop_value _ _ _ _ c.from_residual.ensures (λ l. such_lacks l) (exact_each (record { each = λ p q r m h. h }) c.in_err-entries.ensures.ran)
 
-pub returns-in-Err-clause-refused : goal.returns-in-Err-clause-refused
-returns-in-Err-clause-refused g c = weaker c.in-Err.error _ _ (list_lacks c.in-Some.ensures.found) c.in-Err.ensures.refused
+pub returns-then-not-is_ascending : goal.returns-then-not-is_ascending
+returns-then-not-is_ascending g c = on_content _ (such_refused (inside_one (many_one g.met.E.Entry.one_value)) (exact_each (record { each = λ p q r m h. h }) c.in_ok-entries.ensures.ran) (λ a. let t = c.if-not-is_ascending.ensures.1 (subst (Ascends g.E.Entry.sort_key) (sym c.as_slice.ensures.value) a) in absurd cc))
 
-pub returns-then-not-is_ascending-clause-refused :
-    goal.returns-then-not-is_ascending-clause-refused
-returns-then-not-is_ascending-clause-refused g c = list_disordered g.met.E.Entry.one_value c.in-Some.ensures.found c.in-Ok.ensures.ok (λ a. let t = c.if-not-is_ascending.ensures.1 (subst (Ascends g.E.Entry.sort_key) (sym c.as_slice.ensures.value) a) in cc)
-
-pub returns-clause-ok : goal.returns-clause-ok
-returns-clause-ok g c = list_found c.in-Some.ensures.found c.in-Ok.ensures.ok (subst (Ascends g.E.Entry.sort_key) c.as_slice.ensures.value (c.if-not-is_ascending.ensures.0 refl))
+pub returns : goal.returns
+returns g c = such_gives (exact_each (record { each = λ p q r m h. h }) c.in_ok-entries.ensures.ran) (subst (Ascends g.E.Entry.sort_key) c.as_slice.ensures.value (c.if-not-is_ascending.ensures.0 refl))

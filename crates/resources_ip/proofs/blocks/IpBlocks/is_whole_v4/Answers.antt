@@ -1,6 +1,5 @@
-use Rattle.std.proofs.Common.{◌≡◌, ◌∷◌, List, Bool, true, false, IsTrue, ap, sym, ◌∙◌}
+use Rattle.std.proofs.Common.{◌≡◌, ◌∷◌, List, IsTrue, ap, sym, ◌∙◌}
 use Rattle.std.specs.Prelude.{map}
-use Rattle.resources_chain.specs.Sets.{Run}
 use Rattle.resources_ip_block.specs.declared.block.IpBlock.{IpBlock}
 use Rattle.resources_ip_block.specs.Block.{run_of_block}
 use Rattle.resources_ip.specs.Blocks.{blocks_left}

@@ -1,8 +1,3 @@
-use Rattle.std.proofs.Common.{◌≡◌, List, subst}
-use Rattle.std.specs.Prelude.{map}
-use Rattle.resources_chain.specs.Sets.{Run}
-use Rattle.resources_ip.specs.Families.{run_of_v4, v4_whole}
-use Rattle.resources_ip.specs.WholeSets.{AreWhole}
 use Rattle.resources_ip.proofs.FamilyLemmas.{whole_blocks}
 use Rattle.resources_ip.proofs.WholeLemmas.{whole_set}
 use Rattle.resources_ip.proofs.v4.Ipv4Blocks.from_iter.Goals as goal

@@ -1,0 +1,53 @@
+"""A repository of its own, of some crates of this one and a program over them."""
+
+import os
+import shutil
+
+PARTS = ("src", "specs", "proofs", "out")
+ROOT = os.path.join(os.path.dirname(os.path.abspath(__file__)), os.pardir)
+
+
+def stands_on():
+    """Of each crate the libraries that it stands on, by crates.txt."""
+    with open(os.path.join(ROOT, "crates.txt")) as file:
+        rows = [line.split(":") for line in file if ":" in line and not line.startswith("#")]
+    return {name.strip(): below.split() for name, below in rows}
+
+
+def with_those_below(names, needs):
+    """Those of the names that are crates of the repository, with all that they stand on."""
+    found = {name for name in names if name in needs}
+    for name in list(found):
+        found |= with_those_below(needs[name], needs)
+    return found
+
+
+def copy(folder, libraries):
+    """Copies the crates among the libraries and all that they stand on, with their out/ where they have one, or brings
+    the copies that are there up to date; of each the libraries that it stands on."""
+    needs = stands_on()
+    copied = {name: needs[name] for name in sorted(with_those_below(libraries, needs))}
+    for name in copied:
+        for part in PARTS:
+            there = os.path.join(ROOT, "crates", name, part)
+            if os.path.isdir(there):
+                shutil.copytree(there, os.path.join(folder, "crates", name, part), dirs_exist_ok=True)
+    write_rows(folder, copied)
+    shutil.copy(os.path.join(ROOT, "HANDLES"), os.path.join(folder, "HANDLES"))
+    return copied
+
+
+def write_rows(folder, needs):
+    """Writes crates.txt."""
+    with open(os.path.join(folder, "crates.txt"), "w") as file:
+        file.writelines(f"{name}: {' '.join(below)}\n" for name, below in needs.items())
+
+
+def make(folder, program, source, libraries):
+    """Makes the repository in the folder, of copied crates and a program of one file; the program's folder."""
+    copied = copy(folder, libraries)
+    crate = os.path.join(folder, "crates", program)
+    os.makedirs(os.path.join(crate, "src"), exist_ok=True)
+    shutil.copy(source, os.path.join(crate, "src", "main.rt"))
+    write_rows(folder, {**copied, program: libraries})
+    return crate

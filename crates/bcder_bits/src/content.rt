@@ -1,0 +1,48 @@
+//! Bit strings taken from contents of values.
+ghost use Rattle.std.specs.Prelude.{◌≡◌, ◌≢◌, true, IfErr, OnErr};
+ghost use Rattle.bcder_source.specs.declared.error.DecodeError.TheVariants.{Memory};
+ghost use Rattle.bcder_content.specs.Either.{SameContent, ReadsContentAs};
+ghost use Rattle.bcder_content.specs.Exact.{ReadsAs};
+ghost use Rattle.bcder_content.specs.Grammar.{OctetsOf};
+ghost use Rattle.bcder_content.specs.Here.{here};
+ghost use Rattle.bcder_bits.specs.Contents.{IsAnyBits, IsBitString, bit_string_tag};
+
+use crate::BitString;
+use crate::reading::{skip_bits, take_bits};
+use bcder_content::{Constructed, Content};
+use bcder_source::{DecodeError, Source, Tag};
+use std::alloc::Global;
+
+impl BitString {
+    /// The next value, a BIT STRING (X.690 8.6, 9.2, 11.2); any other is refused, and so is a constructed
+    /// one. Where the source shares its octets none is copied.
+    pub fn take_from<S: Source>(
+        cons: &mut Constructed<S>,
+        alloc: Global,
+    ) -> Result<BitString, DecodeError<S::Error>>
+        ensures reads { ReadsAs (λ v. v) (OctetsOf bit_string_tag (IsBitString (here S.rest cons.old).mode)) (here S.rest cons.old) result (here S.rest cons.new) }
+        ensures failed { OnErr result ((here S.rest cons.new).failed ≡ true) }
+    {
+        cons.take_primitive_if(Tag::BIT_STRING, |prim| take_bits(prim, alloc))
+    }
+
+    /// Goes past the next value, a BIT STRING; what `take_from` refuses is refused. It takes no memory.
+    pub fn skip_in<S: Source>(cons: &mut Constructed<S>) -> Result<(), DecodeError<S::Error>>
+        ensures reads { ReadsAs (λ x. x) (OctetsOf bit_string_tag (IsAnyBits (here S.rest cons.old).mode)) (here S.rest cons.old) result (here S.rest cons.new) }
+        ensures failed { OnErr result ((here S.rest cons.new).failed ≡ true) }
+        ensures no_memory { IfErr result (λ e. e ≢ Memory) }
+    {
+        cons.take_primitive_if(Tag::BIT_STRING, |prim| skip_bits(prim))
+    }
+
+    /// The bit string of a value's content, whatever the value's tag; a constructed content is refused.
+    pub fn from_content<S: Source>(
+        content: &mut Content<'_, S>,
+        alloc: Global,
+    ) -> Result<BitString, DecodeError<S::Error>>
+        ensures same { SameContent content.old content.new }
+        ensures reads { (tag : _) → ReadsContentAs S.rest (λ v. v) (OctetsOf tag (IsBitString (here S.rest content.old.values.now).mode)) tag content.old result content.new }
+    {
+        content.primitive(|prim| take_bits(prim, alloc))
+    }
+}

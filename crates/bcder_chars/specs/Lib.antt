@@ -1,0 +1,3 @@
+pub mod Texts
+pub mod Sets
+pub mod Laws

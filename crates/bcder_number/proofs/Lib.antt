@@ -1,0 +1,4 @@
+pub mod Orders
+pub mod Readings
+pub mod Slices
+pub mod Writings

@@ -1,0 +1,4 @@
+pub mod Integers
+pub mod Contents
+pub mod Conversions
+pub mod Hashed

@@ -1,0 +1,126 @@
+//! INTEGERs of any size (X.690 8.3).
+
+ghost use Rattle.std.specs.Prelude.{◌≡◌, ◌≢◌, ◌↔◌, ◌^◌, ◌<◌, ◌≤◌, ◌<ℤ◌, ℕ, ℤ, pos, IsTrue, IfOk, IfErr, OnErr, MatchResult, ⊤, true};
+ghost use Rattle.bcder_tree.specs.Tags.{universal};
+ghost use Rattle.bcder_source.specs.declared.error.DecodeError.TheVariants.{Memory};
+ghost use Rattle.bcder_primitive.specs.Plain.{plain, ReadsOctetsAs};
+ghost use Rattle.bcder_primitive.specs.Values.{IsSigned, IsUnsigned, IsWithin};
+ghost use Rattle.bcder_content.specs.Exact.{ReadsAs};
+ghost use Rattle.bcder_content.specs.Grammar.{OctetsOf};
+ghost use Rattle.bcder_content.specs.Here.{here};
+ghost use Rattle.bcder_number.specs.Integers.{IsInteger};
+
+use crate::error::OverflowError;
+use crate::octets;
+use bcder_content::Constructed;
+use bcder_primitive::Primitive;
+use bcder_source::{ContentError, DecodeError, Source};
+use bcder_tree::Tag;
+use bytes::Bytes;
+use std::alloc::{AllocError, Global};
+use std::marker::Model;
+
+/// An INTEGER of any size, as its content octets (X.690 8.3), which copies share. Contracts see the number.
+#[derive(Debug, Drop)]
+pub struct Integer {
+    octets: Bytes,
+}
+
+impl Model for Integer {
+    ghost use Rattle.std.specs.Prelude.{ℤ};
+    ghost use Rattle.bcder_number.specs.Integers.{IsInteger, told};
+
+    ghost Value = { ℤ };
+
+    ghost view = { λ i. told i.octets };
+
+    ghost invariant = { λ i. IsInteger i.octets (told i.octets) };
+}
+
+impl Integer {
+    // The number with these content octets.
+    pub(crate) fn new(octets: Bytes) -> Integer
+        requires { (x : ℤ) × IsInteger octets x }
+        ensures { IsInteger octets result }
+    {
+        Integer { octets }
+    }
+
+    /// An INTEGER, which must be next.
+    pub fn take_from<S: Source>(
+        cons: &mut Constructed<S>,
+        alloc: Global,
+    ) -> Result<Integer, DecodeError<S::Error>>
+        ensures reads { ReadsAs (λ x. x) (OctetsOf (universal 2) IsInteger) (here S.rest cons.old) result (here S.rest cons.new) }
+        ensures failed { OnErr result ((here S.rest cons.new).failed ≡ true) }
+    {
+        cons.take_primitive_if(Tag::INTEGER, |prim| Integer::from_primitive(prim, alloc))
+    }
+
+    /// The INTEGER whose content octets are left; where the source shares its octets none is copied.
+    pub fn from_primitive<S: Source>(
+        prim: &mut Primitive<S>,
+        alloc: Global,
+    ) -> Result<Integer, DecodeError<S::Error>>
+        ensures reads { ReadsOctetsAs (λ x. x) IsInteger (plain S.rest prim.old) result (plain S.rest prim.new) }
+        ensures failed { OnErr result ((plain S.rest prim.new).failed ≡ true) }
+    {
+        let octets = prim.take_all(alloc)?;
+        if octets::is_integer(octets.as_slice()) {
+            return Ok(Integer::new(octets));
+        }
+        prim.failed = true;
+        Err(prim.content_err(ContentError::from_static("invalid integer")))
+    }
+
+    /// Whether the number is 0.
+    pub fn is_zero(&self) -> bool
+        ensures { IsTrue result ↔ (self.now ≡ pos 0) }
+    {
+        octets::is_zero(self.as_slice())
+    }
+
+    /// Whether the number is above 0; of 0 it is false.
+    pub fn is_positive(&self) -> bool
+        ensures { IsTrue result ↔ (pos 0 <ℤ self.now) }
+    {
+        !self.is_negative() && !self.is_zero()
+    }
+
+    /// Whether the number is below 0.
+    pub fn is_negative(&self) -> bool
+        ensures { IsTrue result ↔ (self.now <ℤ pos 0) }
+    {
+        octets::is_negative(self.as_slice())
+    }
+
+    /// The content octets, the only ones of the number.
+    pub fn as_slice(&self) -> &[u8]
+        ensures { IsInteger result.now self.now }
+    {
+        self.octets.as_slice()
+    }
+
+    /// The content octets, the only ones of the number.
+    pub fn as_bytes(&self) -> &Bytes
+        ensures { IsInteger result.now self.now }
+    {
+        &self.octets
+    }
+
+    /// The content octets, the only ones of the number; none is copied.
+    pub fn into_bytes(self) -> Bytes
+        ensures { IsInteger result self }
+    {
+        self.octets
+    }
+}
+
+/// The same number. It takes no memory, but a count of copies can be full.
+impl Clone for Integer {
+    ghost is_clone = { λ x copy. copy ≡ x };
+
+    fn clone(&self) -> Result<Integer, AllocError> {
+        Ok(Integer::new(self.octets.clone()?))
+    }
+}

@@ -1,0 +1,175 @@
+//! INTEGERs from 0 up, of any size (X.690 8.3).
+
+ghost use Rattle.std.specs.Prelude.{◌≡◌, ◌≢◌, ◌↔◌, ◌<ℤ◌, ℕ, pos, IsTrue, IfOk, IfErr, OnErr, true};
+ghost use Rattle.bcder_tree.specs.Tags.{universal};
+ghost use Rattle.bcder_primitive.specs.Plain.{plain, ReadsOctetsAs};
+ghost use Rattle.bcder_content.specs.Exact.{ReadsAs};
+ghost use Rattle.bcder_content.specs.Grammar.{OctetsOf};
+ghost use Rattle.bcder_content.specs.Here.{here};
+ghost use Rattle.bcder_number.specs.Integers.{IsNatural};
+
+use crate::error::{InvalidInteger, OverflowError};
+use crate::integer::Integer;
+use crate::octets;
+use bcder_content::Constructed;
+use bcder_primitive::Primitive;
+use bcder_source::{ContentError, DecodeError, Source};
+use bcder_tree::Tag;
+use bytes::Bytes;
+use std::alloc::{AllocError, Global};
+use std::marker::Model;
+
+/// An INTEGER from 0 up, of any size (X.690 8.3), which copies share. Contracts see the number.
+#[derive(Debug, Drop)]
+pub struct Unsigned {
+    integer: Integer,
+}
+
+impl Model for Unsigned {
+    ghost use Rattle.std.specs.Prelude.{◌≡◌, ℕ, pos, unsigned_abs};
+
+    ghost Value = { ℕ };
+
+    ghost view = { λ u. unsigned_abs u.integer };
+
+    ghost invariant = { λ u. u.integer ≡ pos (unsigned_abs u.integer) };
+}
+
+impl Unsigned {
+    // The number, which is from 0 up.
+    pub(crate) fn new(integer: Integer) -> Unsigned
+        requires { (n : ℕ) × (integer ≡ pos n) }
+        ensures { integer ≡ pos result }
+    {
+        Unsigned { integer }
+    }
+
+    /// The number with these content octets, of which a copy is made.
+    ///
+    /// `Invalid` where they aren't the content octets of an INTEGER from 0 up: as few as can be, with the sign clear.
+    pub fn from_slice(alloc: Global, octets: &[u8]) -> Result<Unsigned, InvalidInteger>
+        ensures given { IfOk result (λ n. IsNatural octets.now n) }
+        ensures refused { IfErr result (λ e. e ≡ InvalidInteger.Invalid → (n : ℕ) → IsNatural octets.now n → ⊥) }
+    {
+        if !octets::is_natural(octets) {
+            return Err(InvalidInteger::Invalid);
+        }
+        let Ok(octets) = Bytes::copy_from_slice(alloc, octets) else {
+            return Err(InvalidInteger::Memory);
+        };
+        Ok(Unsigned::new(Integer::new(octets)))
+    }
+
+    /// The number with these content octets, which are kept as they are.
+    ///
+    /// `Invalid` where they aren't the content octets of an INTEGER from 0 up: as few as can be, with the sign clear.
+    pub fn from_bytes(octets: Bytes) -> Result<Unsigned, InvalidInteger>
+        ensures given { IfOk result (λ n. IsNatural octets n) }
+        ensures refused { IfErr result (λ e. (e ≡ InvalidInteger.Invalid) × ((n : ℕ) → IsNatural octets n → ⊥)) }
+    {
+        if !octets::is_natural(octets.as_slice()) {
+            return Err(InvalidInteger::Invalid);
+        }
+        Ok(Unsigned::new(Integer::new(octets)))
+    }
+
+    /// The number, if it is from 0 up.
+    pub fn from_integer(integer: Integer) -> Result<Unsigned, OverflowError>
+        ensures given { IfOk result (λ n. integer ≡ pos n) }
+        ensures refused { IfErr result (λ _. integer <ℤ pos 0) }
+    {
+        if integer.is_negative() {
+            return Err(OverflowError);
+        }
+        Ok(Unsigned::new(integer))
+    }
+
+    /// An INTEGER from 0 up, which must be next.
+    pub fn take_from<S: Source>(
+        cons: &mut Constructed<S>,
+        alloc: Global,
+    ) -> Result<Unsigned, DecodeError<S::Error>>
+        ensures reads { ReadsAs (λ n. n) (OctetsOf (universal 2) IsNatural) (here S.rest cons.old) result (here S.rest cons.new) }
+        ensures failed { OnErr result ((here S.rest cons.new).failed ≡ true) }
+    {
+        cons.take_primitive_if(Tag::INTEGER, |prim| Unsigned::from_primitive(prim, alloc))
+    }
+
+    /// The INTEGER from 0 up whose content octets are left; where the source shares its octets none is copied.
+    pub fn from_primitive<S: Source>(
+        prim: &mut Primitive<S>,
+        alloc: Global,
+    ) -> Result<Unsigned, DecodeError<S::Error>>
+        ensures reads { ReadsOctetsAs (λ n. n) IsNatural (plain S.rest prim.old) result (plain S.rest prim.new) }
+        ensures failed { OnErr result ((plain S.rest prim.new).failed ≡ true) }
+    {
+        let integer = Integer::from_primitive(prim, alloc)?;
+        if !integer.is_negative() {
+            return Ok(Unsigned::new(integer));
+        }
+        prim.failed = true;
+        Err(prim.content_err(ContentError::from_static("invalid integer")))
+    }
+
+    /// The content octets, the only ones of the number.
+    pub fn as_slice(&self) -> &[u8]
+        ensures { IsNatural result.now self.now }
+    {
+        self.integer.as_slice()
+    }
+
+    /// The content octets, the only ones of the number.
+    pub fn as_bytes(&self) -> &Bytes
+        ensures { IsNatural result.now self.now }
+    {
+        self.integer.as_bytes()
+    }
+
+    /// The content octets, the only ones of the number; none is copied.
+    pub fn into_bytes(self) -> Bytes
+        ensures { IsNatural result self }
+    {
+        self.integer.into_bytes()
+    }
+
+    /// The same number.
+    pub fn as_integer(&self) -> &Integer
+        ensures { result.now ≡ pos self.now }
+    {
+        &self.integer
+    }
+
+    /// The same number.
+    pub fn into_integer(self) -> Integer
+        ensures { result ≡ pos self }
+    {
+        self.integer
+    }
+}
+
+/// The same number. It takes no memory, but a count of copies can be full.
+impl Clone for Unsigned {
+    ghost is_clone = { λ n copy. copy ≡ n };
+
+    fn clone(&self) -> Result<Unsigned, AllocError> {
+        Ok(Unsigned::new(self.as_integer().clone()?))
+    }
+}
+
+/// The same number.
+impl From<Unsigned> for Integer {
+    ghost from_gives = { λ n x. x ≡ pos n };
+
+    fn from(number: Unsigned) -> Integer {
+        number.into_integer()
+    }
+}
+
+impl Integer {
+    /// Whether this is the same number as the other.
+    pub fn equals_unsigned(&self, other: &Unsigned) -> bool
+        ensures { IsTrue result ↔ (self.now ≡ pos other.now) }
+    {
+        self == other.as_integer()
+    }
+}

@@ -1,0 +1,13 @@
+use Rattle.std.proofs.Common.{Global}
+use Rattle.bytes.specs.declared.shared.Bytes.{Bytes}
+use Rattle.bcder_oid.specs.declared.oid.Oid.{Oid}
+use Rattle.bcder_primitive.specs.Plain.{plain}
+use Rattle.bcder_primitive.proofs.Primitives.{through, weaker}
+use Rattle.bcder_oid.specs.Identifiers.{IsOid}
+use Rattle.bcder_oid.proofs.Read.{lacks_any}
+use Rattle.bcder_oid.proofs.content.Oid+Bytes.from_primitive.Goals as goal
+
+pub returns-in_err-count-clause-reads : goal.returns-in_err-count-clause-reads
+returns-in_err-count-clause-reads g c =
+    through (λ (oid : Oid (Bytes Global)). oid.0) IsOid (plain g.S.Source.rest c.args.prim.now) _ c.from_residual.result c.in_err-count.field-0.0 c.from_residual.ensures.0 c.from_residual.ensures.1
+    (weaker c.in_err-count.field-0.0 (lacks_any IsOid (plain g.S.Source.rest c.args.prim.now)) c.in_err-count.ensures.refused)

@@ -1,0 +1,6 @@
+use Rattle.bcder_content.proofs.Unique.{octets_one}
+use Rattle.bcder_oid.proofs.Read.{oid_one}
+use Rattle.bcder_oid.proofs.laws.one_meaning.Goals as goal
+
+pub returns : goal.returns
+returns c = octets_one oid_one

@@ -1,0 +1,5 @@
+pub mod Subidentifiers
+pub mod Identifiers
+pub mod Components
+pub mod Printed
+pub mod Texts

@@ -1,0 +1,66 @@
+-- Texts of object identifiers: components in decimal digits, with dots (46) between them.
+use Rattle.std.specs.Prelude.{◌≡◌, ◌≢◌, ℕ, ◌^◌, ◌<◌, ◌≤◌, List, [], ◌∷◌, ◌++◌, All}
+use Rattle.std.specs.Str.Parse.{IsNumeral, digits_value, without_leading_plus}
+use Rattle.bcder_oid.specs.Subidentifiers.{base128, IsShort, InTurn, IsShortest}
+use Rattle.bcder_oid.specs.Components.{AreComponents}
+use Rattle.bcder_oid.specs.declared.text.ParseOidError.{ParseOidError}
+use Rattle.bcder_oid.specs.declared.text.ParseOidError.TheVariants.{Memory}
+
+-- Decimal digits of a number of 32 bits; zeros or one plus may stand in front.
+pub record IsComponentText (text : List ℕ) (n : ℕ) : Type 0 where
+  pub numeral : IsNumeral 10 (without_leading_plus text)
+  pub value : digits_value 10 (without_leading_plus text) ≡ n
+  pub fits : n < 2 ^ 32
+
+-- The texts of one or more numbers, with dots between them.
+abbrev pub IsDotted : List ℕ → List ℕ → Type 0
+IsDotted text [] = ⊥
+IsDotted text (n ∷ []) = IsComponentText text n
+IsDotted text (n ∷ m ∷ ns) = (first : List ℕ) × (rest : List ℕ) × (text ≡ first ++ 46 ∷ rest) × IsComponentText first n × IsDotted rest (m ∷ ns)
+
+-- Two or more components; the first is at most 2, and the second below 40 where the first is 0 or 1.
+abbrev pub MayBegin : List ℕ → Type 0
+MayBegin [] = ⊥
+MayBegin (x ∷ []) = ⊥
+MayBegin (x ∷ y ∷ cs) = (x ≤ 2) × (x < 2 → y < 40)
+
+-- The text of an identifier with these components.
+pub record IsOidText (text cs : List ℕ) : Type 0 where
+  pub dotted : IsDotted text cs
+  pub begins : MayBegin cs
+
+-- The octets of these components, the fewest.
+pub record Spells (octets cs : List ℕ) : Type 0 where
+  pub numbers : List ℕ
+  pub spelled : InTurn IsShortest octets numbers
+  pub components : AreComponents numbers cs
+
+-- The octets of the identifier of a text.
+pub record ReadsText (text octets : List ℕ) : Type 0 where
+  pub components : List ℕ
+  pub text_is : IsOidText text components
+  pub octets_are : Spells octets components
+
+-- A fact for each refusal but want of memory.
+abbrev pub OnRefused : ParseOidError → Type 0 → Type 0
+OnRefused Memory fact = Unit {0}
+OnRefused other fact = fact
+
+-- No dot stands in the text.
+abbrev pub LacksDot : List ℕ → Type 0
+LacksDot text = All (λ a. a ≢ 46) text
+
+-- All of a text without a dot; and what is in front of the first dot, and behind it.
+pub record IsLastPiece (text front : List ℕ) : Type 0 where
+  pub same : front ≡ text
+  pub last : LacksDot text
+
+pub record IsFirstPiece (text front behind : List ℕ) : Type 0 where
+  pub whole : text ≡ front ++ 46 ∷ behind
+  pub first : LacksDot front
+
+-- The octets of a subidentifier but the last: with bit 8 set, and the fewest for their number.
+pub record HighOctets (octets : List ℕ) (n : ℕ) : Type 0 where
+  pub more : All (λ a. 128 ≤ a) octets
+  pub value : base128 octets ≡ n
+  pub short : IsShort octets

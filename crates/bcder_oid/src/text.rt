@@ -1,0 +1,146 @@
+//! Object identifiers of texts: `1.2.840.113549`.
+
+ghost use Rattle.std.specs.Prelude.{◌≡◌, ◌+◌, ◌*◌, ◌^◌, ◌<◌, ◌≤◌, ◌++◌, ◌∷◌, [], ℕ, List, IfOk, IfErr, OnOk, MatchOption, MatchResult};
+ghost use Rattle.bcder_oid.specs.Subidentifiers.{InTurn, IsShortest};
+ghost use Rattle.bcder_oid.specs.Texts.{IsComponentText, IsDotted, MayBegin, Spells, ReadsText, OnRefused, HighOctets, IsLastPiece, IsFirstPiece};
+
+use crate::oid::Oid;
+use bytes::Bytes;
+use std::alloc::{AllocError, Global};
+use thiserror::Error;
+
+/// Why a text is no object identifier.
+#[derive(Debug, Drop, Error)]
+pub enum ParseOidError {
+    /// There is one component alone, or none.
+    #[error("at least two components required")]
+    TooFew,
+    /// A component isn't a number of 32 bits in decimal digits.
+    #[error("only integer components allowed")]
+    Component,
+    /// The first component is above 2.
+    #[error("first component can only be 0, 1, or 2")]
+    First,
+    /// The second component is above 39, where the first is 0 or 1.
+    #[error("second component for 0 and 1 must be less than 40")]
+    Second,
+    /// Memory was wanted.
+    #[error("out of memory")]
+    Memory,
+}
+
+impl Oid<Bytes> {
+    /// The object identifier of a text: two or more numbers up to `u32::MAX` in decimal digits, with dots between
+    /// them; the first is at most 2, and the second below 40 where the first is 0 or 1 (X.690 8.19.4).
+    ///
+    /// Zeros or one plus may stand in front of digits. The octets are the fewest.
+    pub fn from_str(alloc: Global, text: &str) -> Result<Self, ParseOidError>
+        ensures reads { IfOk result (λ oid. ReadsText text.now oid.0) }
+        ensures refused { IfErr result (λ e. OnRefused e ((octets : List ℕ) → ReadsText text.now octets → ⊥)) }
+    {
+        let numbers = read_numbers(alloc, text)?;
+        let octets = write_components(alloc, &numbers)?;
+        match Bytes::from_vec(octets) {
+            Ok(octets) => Ok(Oid(octets)),
+            Err(_) => Err(ParseOidError::Memory),
+        }
+    }
+}
+
+// The number of a component's text.
+fn component(text: &str) -> Result<u32, ParseOidError>
+    ensures reads { IfOk result (λ n. IsComponentText text.now n) }
+    ensures refused { IfErr result (λ e. OnRefused e ((n : ℕ) → IsComponentText text.now n → ⊥)) }
+{
+    match text.parse::<u32>() {
+        Ok(number) => Ok(number),
+        Err(_) => Err(ParseOidError::Component),
+    }
+}
+
+// The text in front of the first dot, and what is behind the dot.
+fn piece(text: &str) -> (&str, Option<&str>)
+    ensures { MatchOption result.1 (IsLastPiece text.now result.0.now) (λ behind. IsFirstPiece text.now result.0.now behind.now) }
+{
+    match text.split_once('.') {
+        Some((front, behind)) => (front, Some(behind)),
+        None => (text, None),
+    }
+}
+
+// The numbers of a text, with dots between them.
+fn read_numbers(alloc: Global, text: &str) -> Result<Vec<u32>, ParseOidError>
+    ensures reads { IfOk result (λ v. IsDotted text.now v.items) }
+    ensures refused { IfErr result (λ e. OnRefused e ((ns : List ℕ) → IsDotted text.now ns → ⊥)) }
+{
+    let mut numbers = Vec::new(alloc);
+    let mut rest = text;
+    loop {
+        let (front, behind) = piece(rest);
+        let number = component(front)?;
+        let Ok(()) = numbers.push(number) else {
+            return Err(ParseOidError::Memory);
+        };
+        let Some(behind) = behind else {
+            return Ok(numbers);
+        };
+        rest = behind;
+    }
+}
+
+// The octets of components.
+fn write_components(alloc: Global, components: &[u32]) -> Result<Vec<u8>, ParseOidError>
+    ensures begins { OnOk result (MayBegin components.now) }
+    ensures spells { IfOk result (λ v. Spells v.items components.now) }
+    ensures refused { IfErr result (λ e. OnRefused e (MayBegin components.now → ⊥)) }
+{
+    let Some((first, behind)) = components.split_first() else {
+        return Err(ParseOidError::TooFew);
+    };
+    let Some((second, others)) = behind.split_first() else {
+        return Err(ParseOidError::TooFew);
+    };
+    if *first > 2 {
+        return Err(ParseOidError::First);
+    }
+    if *first < 2 && *second >= 40 {
+        return Err(ParseOidError::Second);
+    }
+    let root = 40 * u64::from(*first) + u64::from(*second);
+    match write_numbers(alloc, root, others) {
+        Ok(octets) => Ok(octets),
+        Err(_) => Err(ParseOidError::Memory),
+    }
+}
+
+// The subidentifiers of numbers, one behind the other.
+fn write_numbers(alloc: Global, root: u64, others: &[u32]) -> Result<Vec<u8>, AllocError>
+    ensures { IfOk result (λ v. InTurn IsShortest v.items (root ∷ others.now)) }
+{
+    let mut octets = Vec::new(alloc);
+    push_number(&mut octets, root)?;
+    for number in others {
+        push_number(&mut octets, u64::from(*number))?;
+    }
+    Ok(octets)
+}
+
+// Puts a subidentifier behind octets, in the fewest.
+fn push_number(octets: &mut Vec<u8>, number: u64) -> Result<(), AllocError>
+    ensures { OnOk result ((text : List ℕ) × (octets.new.items ≡ octets.old.items ++ text) × IsShortest text number) }
+{
+    push_high(octets, number / 128)?;
+    octets.push((number % 128) as u8)?;
+    Ok(())
+}
+
+// Puts the octets of a subidentifier but the last behind octets: none for zero.
+fn push_high(octets: &mut Vec<u8>, number: u64) -> Result<(), AllocError>
+    ensures { OnOk result ((text : List ℕ) × (octets.new.items ≡ octets.old.items ++ text) × HighOctets text number) }
+{
+    if number > 0 {
+        push_high(octets, number / 128)?;
+        octets.push((128 + number % 128) as u8)?;
+    }
+    Ok(())
+}

@@ -1,0 +1,134 @@
+-- Exact readers of values by what they mean, of strings that are tested, and of all octets of a source.
+use Rattle.std.proofs.Common.{◌≡◌, ℕ, true, false, List, [], ◌++◌, Option, Some, None, Result, Ok, Err, refl, sym, ap, ◌∙◌, subst, append-nil}
+use denote.Ref.{MutBor}
+use Rattle.std.specs.Fn.{FnOnceReturnsAtMut}
+use Rattle.std.specs.Result.{IsErrAnd}
+use Rattle.bcder_tree.specs.declared.mode.Mode.{Mode}
+use Rattle.bcder_tree.specs.declared.mode.Mode.TheVariants.{Der}
+use Rattle.bcder_tree.specs.Tags.{TagValue}
+use Rattle.bcder_tree.specs.Tree.{Tree, Trees, primitive, none, more, SpellsAll}
+use Rattle.bcder_source.specs.Errors.{OnContent}
+use Rattle.bcder_source.specs.Views.{Moved, limited, more_limit}
+use Rattle.bcder_source.specs.declared.error.DecodeError.{DecodeError}
+use Rattle.bcder_source.specs.declared.error.DecodeError.TheVariants.{Content, Source, Memory}
+use Rattle.bcder_primitive.specs.Values.{AnyOctets}
+use Rattle.bcder_content.specs.declared.constructed.Constructed.{Constructed}
+use Rattle.bcder_content.specs.Contents.{ValuesLeft, octets, EndsHere, TookAll, Ended, Whole}
+use Rattle.bcder_content.specs.Exact.{Gives, Lacks, ReadsAs, LacksTagged, ReadsOptAs, LacksAll, GivesAll, ReadsAllAs}
+use Rattle.bcder_content.specs.Grammar.{OctetsOf, As, End}
+use Rattle.bcder_content.specs.Here.{here}
+use Rattle.bcder_content.specs.Ran.{Reader, fresh, RanIn, RanInRefused, refused_in, failed_in, DecodedCases, Decoded}
+use Rattle.bcder_content.proofs.Choices.{as_gives, as_lacks, as_lacks_tagged}
+use Rattle.bcder_content.proofs.Taking.{weaker}
+use Rattle.bcder_content.proofs.Took.{one_took, whole_none}
+use Rattle.rpki_bundle.specs.declared.error.BundleError.{BundleError}
+use Rattle.rpki_bundle.specs.declared.whole.Parts.{Parts}
+use Rattle.rpki_bundle.specs.Bundle.{BundleValue, BundleText}
+use Rattle.rpki_bundle.specs.Ends.{ReadsToEndAs, Refuses}
+use Rattle.rpki_bundle.specs.Errors.{OnNotABundle}
+use Rattle.rpki_bundle.specs.Grammars.{IsBundleAlone}
+use Rattle.rpki_bundle.specs.PartFields.{parts_value, parts_alone}
+use Rattle.rpki_bundle.proofs.BundleGrammar.{text_of, text_alone}
+
+-- What a value means that was read.
+pub meaning : {A B C E : Type 0} (f : A → B) (g : B → C) (Q : Tree → B → Type 0) (old new : ValuesLeft) (r : Result A (DecodeError E)) → ReadsAs f Q old r new → ReadsAs (λ x. g (f x)) (As Q g) old r new
+meaning f g Q old new (Ok x) h = as_gives g h
+meaning f g Q old new (Err e) h = weaker e (as_lacks g) h
+
+pub opt_meaning : {A B C E : Type 0} (f : A → B) (g : B → C) (tag : TagValue) (Q : Tree → B → Type 0) (old new : ValuesLeft) (r : Result (Option A) (DecodeError E)) → ReadsOptAs f tag Q old r new → ReadsOptAs (λ x. g (f x)) tag (As Q g) old r new
+opt_meaning f g tag Q old new (Ok (Some x)) h = as_gives g h
+opt_meaning f g tag Q old new (Ok None) h = h
+opt_meaning f g tag Q old new (Err e) h = weaker e (as_lacks_tagged g) h
+
+-- Octets that were read mean something, or nothing.
+pub octets_mean : {A : Type 0} {tag : TagValue} {P : List ℕ → A → Type 0} {now new : ValuesLeft} {text : List ℕ} {x : A} → Gives (OctetsOf tag AnyOctets) now text new → P text x → Gives (OctetsOf tag P) now x new
+octets_mean {tag = tag} {text = text} g p = record { tree = g.tree; is = record { content = text; whole = g.is.whole ∙ ap (λ (z : List ℕ). primitive tag z) g.is.is.same; is = p }; took = g.took }
+
+pub octets_lack : {A : Type 0} {tag : TagValue} {P : List ℕ → A → Type 0} {now : ValuesLeft} → Lacks (OctetsOf tag AnyOctets) now → Lacks (OctetsOf tag P) now
+octets_lack l = record { none = λ t x p a. l.none t p.content (record { content = p.content; whole = p.whole; is = record { same = refl } }) a }
+
+pub octets_refused : {A : Type 0} {tag : TagValue} {P : List ℕ → A → Type 0} {now new : ValuesLeft} {text : List ℕ} → Gives (OctetsOf tag AnyOctets) now text new → ((x : A) → P text x → ⊥) → Lacks (OctetsOf tag P) now
+octets_refused {A} {tag} {P} {text = text} g refuses = record {
+  none = λ t x p a.
+      let same : g.tree ≡ t = (one_took g.took a.1).0 in
+      let left : g.tree ≡ primitive tag g.is.content = g.is.whole in
+      let right : t ≡ primitive tag p.content = p.whole in
+      let means : g.is.content ≡ text = g.is.is.same in
+      let content : p.content ≡ text = cc in
+      refuses x (subst (λ (z : List ℕ). P z x) content p.is);
+}
+
+-- Where a content goes on, it hasn't ended.
+pub end_lacks : {v : ValuesLeft} → (Ended v → ⊥) → LacksAll End v
+end_lacks {v} goes_on = record { none = λ ts y p w. goes_on (whole_none (subst (Whole v) p.ended w)) }
+
+-- A refusal in front of the end.
+pub ends_err : {A B E : Type 0} (f : A → B) (P : Trees → B → Type 0) (old new : ValuesLeft) (r : Result A (DecodeError E)) (x : DecodeError E) → IsErrAnd r (λ y. y ≡ x) → ReadsAllAs f P old r new → ReadsToEndAs f P old r new
+ends_err f P old new (Ok y) x e h = absurd e
+ends_err f P old new (Err y) x e h = h
+
+-- What a reader up to the end says of all octets of a source.
+abbrev pub ReadsText : {A B E : Type 0} → (A → B) → Mode → (Trees → B → Type 0) → List ℕ → Result A (DecodeError E) → Type 0
+ReadsText f m P o (Ok x) = (ts : Trees) × P ts (f x) × SpellsAll m ts o
+ReadsText {A} {B} f m P o (Err e) = OnContent e ((ts : Trees) (x : B) → P ts x → SpellsAll m ts o → ⊥)
+
+-- All values of a source.
+spelled_whole : (m : Mode) (ts : Trees) (o : List ℕ) → SpellsAll m ts o → Whole (fresh m o) ts
+spelled_whole m ts o s =
+    let moved : Moved (octets (fresh m o)) o (octets (fresh m [])) = record { rest = sym (append-nil o); limit = refl } in
+    let took : TookAll (fresh m o) ts (fresh m []) = record { text = o; spelled = s; goes = record { moved = moved; mode = refl; end = refl; before = refl; behind = refl } } in
+    record { behind = fresh m []; took = took; ended = record { sound = refl; ends = refl } }
+
+nothing_left : (m : Mode) (o : List ℕ) (end : ValuesLeft) (n : ℕ) (l : Option ℕ) → end.limit ≡ l → None ≡ more_limit n l → end.end ≡ (fresh m o).end → EndsHere end.end (octets end) → end.rest ≡ []
+nothing_left m o end n None e k u h =
+    let P : _ → Type 0 = λ z. EndsHere z (octets end) in
+    let ends : limited end.limit end.rest ≡ [] = subst P u h in
+    subst (λ (z : Option ℕ). limited z end.rest ≡ []) e ends
+nothing_left m o end n (Some a) e k u h = absurd cc
+
+whole_spelled : {m : Mode} {ts : Trees} {o : List ℕ} {end : ValuesLeft} → TookAll (fresh m o) ts end → Ended end → SpellsAll m ts o
+whole_spelled {m} {ts} {o} {end} k e =
+    let left : end.rest ≡ [] = nothing_left m o end _ end.limit refl k.goes.moved.limit k.goes.end e.ends in
+    let whole : o ≡ k.text = k.goes.moved.rest ∙ ap (λ (z : List ℕ). k.text ++ z) left ∙ append-nil k.text in
+    subst (λ (z : List ℕ). SpellsAll m ts z) (sym whole) k.spelled
+
+-- Each call of the closure reads a content up to its end.
+pub record EndsEach {F S T B E : Type 0} (rest : S → List ℕ) (g : Reader F (Constructed S) T E) (op : F) (f : T → B) (P : Trees → B → Type 0) : Type 0 where
+  pub each : (p q : MutBor (Constructed S)) (r : Result T (DecodeError E)) → g.post op (p, tt) (r, (q, tt)) → ReadsToEndAs f P (here rest p.now) r (here rest q.now)
+
+end_met : {F S T B E : Type 0} {rest : S → List ℕ} {g : Reader F (Constructed S) T E} {op : F} {f : T → B} {P : Trees → B → Type 0} → EndsEach rest g op f P → (given stop : Constructed S) (r : Result T (DecodeError E)) → FnOnceReturnsAtMut g op given r stop → ReadsToEndAs f P (here rest given) r (here rest stop)
+end_met {F} {S} {T} {B} {E} {rest} {g} {op} {f} {P} exact given stop r met =
+    subst (λ (v : Constructed S). ReadsToEndAs f P (here rest v) r (here rest stop)) met.shows
+    (subst (λ (w : Constructed S). ReadsToEndAs f P (here rest met.shown.now) r (here rest w)) met.leaves
+    (exact.each met.shown met.left r met.met))
+
+in_fresh : {F S T B E : Type 0} {rest : S → List ℕ} {g : Reader F (Constructed S) T E} {op : F} {f : T → B} {P : Trees → B → Type 0} {v : ValuesLeft} {r : Result T (DecodeError E)} {end : ValuesLeft} → EndsEach rest g op f P → RanIn rest g op v r end → ReadsToEndAs f P v r end
+in_fresh {F} {S} {T} {B} {E} {rest} {g} {op} {f} {P} {v} {r} {end} exact on =
+    subst (λ (w : ValuesLeft). ReadsToEndAs f P v r w) on.ends
+    (subst (λ (w : ValuesLeft). ReadsToEndAs f P w r (here rest on.left)) on.starts
+    (end_met exact on.given on.left r on.met))
+
+decoded_cases : {F S T B E : Type 0} (m : Mode) {rest : S → List ℕ} {g : Reader F (Constructed S) T E} {op : F} {f : T → B} {P : Trees → B → Type 0} (o : List ℕ) (r : Result T (DecodeError E)) → EndsEach rest g op f P → DecodedCases rest g op (fresh m o) r → ReadsText f m P o r
+decoded_cases m o (Ok x) exact h =
+    let given = in_fresh exact h.1 in
+    (given.0.trees, given.0.is, whole_spelled given.0.took given.1)
+decoded_cases m o (Err (Content x pos)) exact h = λ ts y p s.
+    elim h [
+      | refused_in end on ↦ (in_fresh exact on).none ts y p (spelled_whole m ts o s)
+      | failed_in end v on failed ↦ let given = in_fresh exact on in let e : true ≡ false = sym failed ∙ given.1.sound in absurd cc
+    ]
+decoded_cases m o (Err (Source x)) exact h = tt
+decoded_cases m o (Err Memory) exact h = tt
+
+-- Decoding with a closure that reads up to the end.
+pub text_decoded : {F S T B E : Type 0} {m : Mode} {rest : S → List ℕ} {g : Reader F (Constructed S) T E} {op : F} {f : T → B} {P : Trees → B → Type 0} {o : List ℕ} {r : Result T (DecodeError E)} → EndsEach rest g op f P → Decoded rest g op (fresh m o) r → ReadsText f m P o r
+text_decoded {m = m} {o = o} {r} exact h = decoded_cases m o r exact h.cases
+
+-- A bundle is told by octets that were read as one, and by none that were refused.
+pub parts_text : (E : Type 0) {o : List ℕ} (p : Parts) → ReadsText {E = E} parts_alone Der IsBundleAlone o (Ok p) → BundleText o (parts_value p)
+parts_text E p h = text_of h.1 h.2
+
+pub refused_text : {E : Type 0} (o : List ℕ) (e : DecodeError E) (r : BundleError) → Refuses e r → ReadsText {E = E} parts_alone Der IsBundleAlone o (Err e) → OnNotABundle r ((b : BundleValue) → BundleText o b → ⊥)
+refused_text o (Content x pos) r i h = subst (λ (z : BundleError). OnNotABundle z ((b : BundleValue) → BundleText o b → ⊥)) (sym i) (λ b t. let a = text_alone t in h (more t.tree none) (b, tt) a.0 a.1)
+refused_text o (Source x) r i h = absurd i
+refused_text o Memory r i h = subst (λ (z : BundleError). OnNotABundle z ((b : BundleValue) → BundleText o b → ⊥)) (sym i) tt

@@ -1,0 +1,7 @@
+use Rattle.bcder_content.proofs.Inside.{exact_opt}
+use Rattle.rpki_bundle.specs.Grammars.{locator_fields, as_locator}
+use Rattle.rpki_bundle.proofs.Reading.{opt_meaning}
+use Rattle.rpki_bundle.proofs.forms.LocatorEntry.take_opt.Goals as goal
+
+pub returns : goal.returns
+returns g c = opt_meaning locator_fields as_locator _ _ _ _ _ (exact_opt (record { each = λ p q r m h. h }) c.take_opt_sequence.ensures.ran)

@@ -1,0 +1,21 @@
+-- Readers of all octets of a source, and what their refusals say.
+use Rattle.std.specs.Prelude.{◌≡◌, Result, Ok, Err}
+use Rattle.bcder_tree.specs.Tree.{Trees}
+use Rattle.bcder_source.specs.Errors.{OnContent}
+use Rattle.bcder_source.specs.declared.error.DecodeError.{DecodeError}
+use Rattle.bcder_source.specs.declared.error.DecodeError.TheVariants.{Content, Source, Memory}
+use Rattle.bcder_content.specs.Contents.{ValuesLeft, Ended}
+use Rattle.bcder_content.specs.Exact.{LacksAll, GivesAll}
+use Rattle.rpki_bundle.specs.declared.error.BundleError.{BundleError}
+use Rattle.rpki_bundle.specs.declared.error.BundleError.TheVariants as bundle_error
+
+-- A reader of a whole content, up to its end, by what its answer means.
+abbrev pub ReadsToEndAs : {A B E : Type 0} → (A → B) → (Trees → B → Type 0) → ValuesLeft → Result A (DecodeError E) → ValuesLeft → Type 0
+ReadsToEndAs f P old (Ok x) new = GivesAll P old (f x) new × Ended new
+ReadsToEndAs f P old (Err e) new = OnContent e (LacksAll P old)
+
+-- Refused octets are no bundle, want of memory stays so, and a source in memory doesn't fail.
+abbrev pub Refuses : {E : Type 0} → DecodeError E → BundleError → Type 0
+Refuses (Content x pos) e = e ≡ bundle_error.NotABundle
+Refuses (Source x) e = ⊥
+Refuses Memory e = e ≡ bundle_error.Memory

@@ -1,0 +1,116 @@
+-- Bundles by the words of grammars: what is read of a value, field by field, and what it means.
+use Rattle.std.specs.Prelude.{◌≡◌, ℕ, ◌^◌, ◌≤◌, List, length}
+use Rattle.bcder_tree.specs.Tags.{universal}
+use Rattle.bcder_tree.specs.Tree.{Tree, Trees}
+use Rattle.bcder_primitive.specs.Values.{IsUnsigned, IsValue, AnyOctets}
+use Rattle.bcder_content.specs.Grammar.{Inside, OctetsOf, Such, As, End, Then, Many}
+use Rattle.rpki_bundle.specs.declared.parts.Locator.{Locator}
+use Rattle.rpki_bundle.specs.declared.parts.Object.{Object}
+use Rattle.rpki_bundle.specs.declared.parts.Verdict.{Verdict}
+use Rattle.rpki_bundle.specs.Times.{IsMoment}
+use Rattle.rpki_bundle.specs.Uris.{IsLookupKey}
+use Rattle.rpki_bundle.specs.Orders.{Ascends}
+use Rattle.rpki_bundle.specs.Lawful.{IsName}
+use Rattle.rpki_bundle.specs.Bundle.{BundleValue, verdict_row}
+
+-- INTEGER 0
+abbrev pub IsVersion : Tree → Unit {0} → Type 0
+IsVersion = OctetsOf (universal 2) (IsValue (IsUnsigned (2 ^ 8)) 0)
+
+-- GeneralizedTime, in its one form
+abbrev pub IsMomentString : Tree → ℕ → Type 0
+IsMomentString = OctetsOf (universal 24) IsMoment
+
+-- INTEGER (1..32)
+abbrev pub IsDepth : ℕ → Type 0
+IsDepth n = (1 ≤ n) × (n ≤ 32)
+
+abbrev pub IsDepthNumber : Tree → ℕ → Type 0
+IsDepthNumber = Such (OctetsOf (universal 2) (IsUnsigned (2 ^ 8))) IsDepth
+
+-- OCTET STRING
+abbrev pub IsOctets : Tree → List ℕ → Type 0
+IsOctets = OctetsOf (universal 4) AnyOctets
+
+-- PrintableString: a name
+abbrev pub IsNameString : Tree → List ℕ → Type 0
+IsNameString = Such (OctetsOf (universal 19) AnyOctets) IsName
+
+-- IA5String: a lookup key
+abbrev pub IsUriString : Tree → List ℕ → Type 0
+IsUriString = Such (OctetsOf (universal 22) AnyOctets) IsLookupKey
+
+-- OCTET STRING (SIZE (32))
+pub record IsDigest (content octets : List ℕ) : Type 0 where
+  pub same : content ≡ octets
+  pub long : length content ≡ 32
+
+abbrev pub IsDigestString : Tree → List ℕ → Type 0
+IsDigestString = OctetsOf (universal 4) IsDigest
+
+-- Two strings.
+abbrev pub Strings : Type 0
+Strings = List ℕ × (List ℕ × Unit {0})
+
+-- Locator ::= SEQUENCE { name PrintableString, text OCTET STRING }
+abbrev pub locator_fields : Locator → Strings
+locator_fields l = (l.name, (l.text, tt))
+
+abbrev pub as_locator : Strings → Locator
+as_locator f = record { name = f.0; text = f.1.0 }
+
+abbrev pub IsLocatorBody : Trees → Strings → Type 0
+IsLocatorBody = Then IsNameString (Then IsOctets End)
+
+abbrev pub IsLocatorRow : Tree → Locator → Type 0
+IsLocatorRow = As (Inside (universal 16) IsLocatorBody) as_locator
+
+-- Object ::= SEQUENCE { uri IA5String, octets OCTET STRING }
+abbrev pub object_fields : Object → Strings
+object_fields o = (o.uri, (o.octets, tt))
+
+abbrev pub as_object : Strings → Object
+as_object f = record { uri = f.0; octets = f.1.0 }
+
+abbrev pub IsObjectBody : Trees → Strings → Type 0
+IsObjectBody = Then IsUriString (Then IsOctets End)
+
+abbrev pub IsObjectRow : Tree → Object → Type 0
+IsObjectRow = As (Inside (universal 16) IsObjectBody) as_object
+
+-- Verdict ::= SEQUENCE { key, message, signature OCTET STRING (SIZE (32)) }
+abbrev pub Digests : Type 0
+Digests = List ℕ × Strings
+
+abbrev pub digest_fields : Verdict → Digests
+digest_fields v = (v.key, (v.message, (v.signature, tt)))
+
+abbrev pub as_verdict : Digests → Verdict
+as_verdict f = record { key = f.0; message = f.1.0; signature = f.1.1.0 }
+
+abbrev pub IsVerdictBody : Trees → Digests → Type 0
+IsVerdictBody = Then IsDigestString (Then IsDigestString (Then IsDigestString End))
+
+abbrev pub IsVerdictRow : Tree → Verdict → Type 0
+IsVerdictRow = As (Inside (universal 16) IsVerdictBody) as_verdict
+
+-- SEQUENCE OF, strictly ascending by the rows of octets
+abbrev pub AreRows : {A : Type 0} → (Tree → A → Type 0) → (A → List ℕ) → Tree → List A → Type 0
+AreRows Q row = Such (Inside (universal 16) (Many Q)) (Ascends row)
+
+-- Bundle ::= SEQUENCE { version, moment, depth, locators, objects, verdicts }
+abbrev pub BundleFields : Type 0
+BundleFields = Unit {0} × (ℕ × (ℕ × (List Locator × (List Object × (List Verdict × Unit {0})))))
+
+abbrev pub as_bundle : BundleFields → BundleValue
+as_bundle f = record { moment = f.1.0; depth = f.1.1.0; locators = f.1.1.1.0; objects = f.1.1.1.1.0; verdicts = f.1.1.1.1.1.0 }
+
+abbrev pub IsBundleBody : Trees → BundleFields → Type 0
+IsBundleBody = Then IsVersion (Then IsMomentString (Then IsDepthNumber (Then (AreRows IsLocatorRow (λ l. l.name)) (Then (AreRows IsObjectRow (λ o. o.uri)) (Then (AreRows IsVerdictRow verdict_row) End)))))
+
+abbrev pub IsBundleTree : Tree → BundleValue → Type 0
+IsBundleTree = As (Inside (universal 16) IsBundleBody) as_bundle
+
+-- A bundle, and nothing behind it.
+abbrev pub IsBundleAlone : Trees → BundleValue × Unit {0} → Type 0
+IsBundleAlone = Then IsBundleTree End

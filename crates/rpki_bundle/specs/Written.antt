@@ -1,0 +1,95 @@
+-- What is written of bundles and of their entries: the codec's encoders, by the words of its specification.
+use Rattle.std.specs.Prelude.{ℕ, ◌^◌, List}
+use Rattle.bcder_tree.specs.declared.mode.Mode.{Mode}
+use Rattle.bcder_tree.specs.Tags.{TagValue, universal}
+use Rattle.bcder_tree.specs.Tree.{Trees}
+use Rattle.bcder_primitive.specs.Values.{AnyOctets}
+use Rattle.bcder_values.specs.Encoded.{IsPlain, WritesPlain, IsWrapped, WritesWrapped, AreBoth, WritesBoth, SpellsSome}
+use Rattle.bcder_values.specs.Integers.{WritesUnsigned}
+use Rattle.bcder_values.specs.Laws.{both_spelled, both_one}
+use Rattle.bcder_values.specs.Lists.{AreAll, WritesAll}
+use Rattle.bcder_values.specs.Plains.{plain_spelled, plain_one}
+use Rattle.bcder_values.specs.Simple.{one_string}
+use Rattle.bcder_values.specs.Wraps.{wrapped_spelled, wrapped_one}
+use Rattle.std.proofs.Common.{◌≡◌}
+use Rattle.rpki_bundle.specs.declared.parts.Locator.{Locator}
+use Rattle.rpki_bundle.specs.declared.parts.Object.{Object}
+use Rattle.rpki_bundle.specs.declared.parts.Verdict.{Verdict}
+use Rattle.rpki_bundle.specs.Bundle.{BundleValue}
+
+-- One string of that tag.
+abbrev pub IsText : TagValue → List ℕ → Trees → Type 0
+IsText tag octets = IsPlain tag (λ c. AnyOctets c octets)
+
+abbrev pub WritesText : Mode → TagValue → List ℕ → List ℕ → Type 0
+WritesText m tag octets = WritesPlain m tag (λ c. AnyOctets c octets)
+
+-- One INTEGER.
+abbrev pub IsInteger : ℕ → Trees → Type 0
+IsInteger n = IsPlain (universal 2) (WritesUnsigned (2 ^ 8) n)
+
+abbrev pub WritesInteger : Mode → ℕ → List ℕ → Type 0
+WritesInteger m n = WritesPlain m (universal 2) (WritesUnsigned (2 ^ 8) n)
+
+-- Two strings, or three, in a SEQUENCE.
+abbrev pub IsPair : TagValue → List ℕ → List ℕ → Trees → Type 0
+IsPair tag a b = IsWrapped (universal 16) (AreBoth (IsText tag a) (IsText (universal 4) b))
+
+abbrev pub WritesPair : Mode → TagValue → List ℕ → List ℕ → List ℕ → Type 0
+WritesPair m tag a b = WritesWrapped m (universal 16) (WritesBoth (WritesText m tag a) (WritesText m (universal 4) b))
+
+abbrev pub IsTriple : List ℕ → List ℕ → List ℕ → Trees → Type 0
+IsTriple a b c = IsWrapped (universal 16) (AreBoth (IsText (universal 4) a) (AreBoth (IsText (universal 4) b) (IsText (universal 4) c)))
+
+abbrev pub WritesTriple : Mode → List ℕ → List ℕ → List ℕ → List ℕ → Type 0
+WritesTriple m a b c = WritesWrapped m (universal 16) (WritesBoth (WritesText m (universal 4) a) (WritesBoth (WritesText m (universal 4) b) (WritesText m (universal 4) c)))
+
+-- The entries of lists.
+abbrev pub AreLocator : Locator → Mode → Trees → Type 0
+AreLocator l m = IsPair (universal 19) l.name l.text
+
+abbrev pub WritesLocator : Locator → Mode → List ℕ → Type 0
+WritesLocator l m = WritesPair m (universal 19) l.name l.text
+
+abbrev pub AreObject : Object → Mode → Trees → Type 0
+AreObject o m = IsPair (universal 22) o.uri o.octets
+
+abbrev pub WritesObject : Object → Mode → List ℕ → Type 0
+WritesObject o m = WritesPair m (universal 22) o.uri o.octets
+
+abbrev pub AreVerdict : Verdict → Mode → Trees → Type 0
+AreVerdict v m = IsTriple v.key v.message v.signature
+
+abbrev pub WritesVerdict : Verdict → Mode → List ℕ → Type 0
+WritesVerdict v m = WritesTriple m v.key v.message v.signature
+
+-- The members of a bundle of version 0, by what is written of its lists.
+abbrev pub AreMembers : List ℕ → ℕ → (Trees → Type 0) → (Trees → Type 0) → (Trees → Type 0) → Trees → Type 0
+AreMembers text depth P Q R =
+    IsWrapped (universal 16) (AreBoth (IsInteger 0) (AreBoth (IsText (universal 24) text) (AreBoth (IsInteger depth)
+    (AreBoth (IsWrapped (universal 16) P) (AreBoth (IsWrapped (universal 16) Q) (IsWrapped (universal 16) R))))))
+
+abbrev pub WritesMembers : Mode → List ℕ → ℕ → (List ℕ → Type 0) → (List ℕ → Type 0) → (List ℕ → Type 0) → List ℕ → Type 0
+WritesMembers m text depth P Q R =
+    WritesWrapped m (universal 16) (WritesBoth (WritesInteger m 0) (WritesBoth (WritesText m (universal 24) text) (WritesBoth (WritesInteger m depth)
+    (WritesBoth (WritesWrapped m (universal 16) P) (WritesBoth (WritesWrapped m (universal 16) Q) (WritesWrapped m (universal 16) R))))))
+
+-- A bundle, the moment being told by that text.
+abbrev pub AreBundle : List ℕ → BundleValue → Mode → Trees → Type 0
+AreBundle text b m = AreMembers text b.depth (AreAll (λ l. AreLocator l m) b.locators) (AreAll (λ o. AreObject o m) b.objects) (AreAll (λ v. AreVerdict v m) b.verdicts)
+
+abbrev pub WritesBundle : List ℕ → BundleValue → Mode → List ℕ → Type 0
+WritesBundle text b m = WritesMembers m text b.depth (WritesAll (λ l. WritesLocator l m) b.locators) (WritesAll (λ o. WritesObject o m) b.objects) (WritesAll (λ v. WritesVerdict v m) b.verdicts)
+
+-- What is written of entries spells their values, and is always the same.
+pub pair_spelled : (m : Mode) {tag : TagValue} {a b : List ℕ} (text : List ℕ) → WritesPair m tag a b text → SpellsSome m (IsPair tag a b) text
+pair_spelled m = wrapped_spelled m (both_spelled m (plain_spelled m) (plain_spelled m))
+
+pub triple_spelled : (m : Mode) {a b c : List ℕ} (text : List ℕ) → WritesTriple m a b c text → SpellsSome m (IsTriple a b c) text
+triple_spelled m = wrapped_spelled m (both_spelled m (plain_spelled m) (both_spelled m (plain_spelled m) (plain_spelled m)))
+
+pub pair_one : (m : Mode) {tag : TagValue} {a b : List ℕ} (s t : List ℕ) → WritesPair m tag a b s → WritesPair m tag a b t → s ≡ t
+pair_one m {a = a} {b} = wrapped_one m (both_one (plain_one m (one_string a)) (plain_one m (one_string b)))
+
+pub triple_one : (m : Mode) {a b c : List ℕ} (s t : List ℕ) → WritesTriple m a b c s → WritesTriple m a b c t → s ≡ t
+triple_one m {a} {b} {c} = wrapped_one m (both_one (plain_one m (one_string a)) (both_one (plain_one m (one_string b)) (plain_one m (one_string c))))

@@ -1,0 +1,142 @@
+//! The fields of bundles and of their entries, read by the codec.
+
+ghost use Rattle.std.specs.Prelude.{◌↔◌, ◌≡◌, ◌≤◌, IsTrue};
+ghost use Rattle.bcder_content.specs.Exact.{ReadsAs};
+ghost use Rattle.bcder_content.specs.Grammar.{OctetsOf};
+ghost use Rattle.bcder_content.specs.Here.{here, plain};
+ghost use Rattle.bcder_primitive.specs.Plain.{ReadsOctetsAs};
+ghost use Rattle.bcder_primitive.specs.Values.{AnyOctets};
+ghost use Rattle.bcder_tree.specs.Strings.{IsPrintable};
+ghost use Rattle.rpki_bundle.specs.Grammars.{IsDepthNumber, IsDigest, IsDigestString, IsMomentString, IsNameString, IsUriString};
+ghost use Rattle.rpki_bundle.specs.Lawful.{IsName};
+
+use crate::Time;
+use crate::uri::is_lookup_key;
+use bcder_content::{Constructed, Primitive};
+use bcder_source::{ContentError, DecodeError, Source, Tag};
+use bytes::Bytes;
+use std::alloc::Global;
+
+// Whether a PrintableString may have the character.
+fn is_printable(octet: u8) -> bool
+    ensures { IsTrue result ↔ IsPrintable octet }
+{
+    octet.is_ascii_alphanumeric() || b" '()+,-./:=?".contains(&octet)
+}
+
+/// Whether the text is the name of a locator: printable, not empty, without a space.
+pub fn is_name(text: &[u8]) -> bool
+    ensures { IsTrue result ↔ IsName text.now }
+{
+    !text.is_empty()
+        && text
+            .iter()
+            .all(|octet| is_printable(*octet) && *octet != b' ')
+}
+
+/// Whether a bundle may have the depth.
+pub fn is_depth(depth: u8) -> bool
+    ensures { IsTrue result ↔ ((1 ≤ depth) × (depth ≤ 32)) }
+{
+    (1..=32).contains(&depth)
+}
+
+/// The octets of a primitive value with that tag.
+pub fn take_octets<S: Source>(
+    alloc: Global,
+    cons: &mut Constructed<S>,
+    tag: Tag,
+) -> Result<Bytes, DecodeError<S::Error>>
+    ensures { ReadsAs (λ octets. octets) (OctetsOf tag AnyOctets) (here S.rest cons.old) result (here S.rest cons.new) }
+{
+    cons.take_primitive_if(
+        tag,
+        |prim|
+            ensures { ReadsOctetsAs (λ octets. octets) AnyOctets (plain S.rest prim.old) result (plain S.rest prim.new) }
+        { prim.take_all(alloc) },
+    )
+}
+
+/// The name of a locator.
+pub fn take_name<S: Source>(
+    alloc: Global,
+    cons: &mut Constructed<S>,
+) -> Result<Bytes, DecodeError<S::Error>>
+    ensures { ReadsAs (λ octets. octets) IsNameString (here S.rest cons.old) result (here S.rest cons.new) }
+{
+    let name = take_octets(alloc, cons, Tag::PRINTABLE_STRING)?;
+    if !is_name(name.as_slice()) {
+        return Err(cons.content_err(ContentError::from_static("no name")));
+    }
+    Ok(name)
+}
+
+/// A URI that is its own lookup key.
+pub fn take_uri<S: Source>(
+    alloc: Global,
+    cons: &mut Constructed<S>,
+) -> Result<Bytes, DecodeError<S::Error>>
+    ensures { ReadsAs (λ octets. octets) IsUriString (here S.rest cons.old) result (here S.rest cons.new) }
+{
+    let uri = take_octets(alloc, cons, Tag::IA5_STRING)?;
+    if !is_lookup_key(uri.as_slice()) {
+        return Err(cons.content_err(ContentError::from_static("no lookup key")));
+    }
+    Ok(uri)
+}
+
+// The digest that all octets of a content are.
+fn digest<S: Source>(prim: &mut Primitive<S>) -> Result<[u8; 32], DecodeError<S::Error>>
+    ensures { ReadsOctetsAs (λ digest. digest) IsDigest (plain S.rest prim.old) result (plain S.rest prim.new) }
+{
+    if prim.failed {
+        return Err(prim.content_err(ContentError::from_static("no digest")));
+    }
+    let _count = match prim.request(32) {
+        Ok(count) => count,
+        Err(error) => return Err(DecodeError::Source(error)),
+    };
+    let digest = match <[u8; 32]>::try_from((*prim).slice()) {
+        Ok(digest) => digest,
+        Err(_) => return Err(prim.content_err(ContentError::from_static("no digest"))),
+    };
+    prim.advance(32);
+    Ok(digest)
+}
+
+/// A digest, as an OCTET STRING of 32 octets.
+pub fn take_digest<S: Source>(cons: &mut Constructed<S>) -> Result<[u8; 32], DecodeError<S::Error>>
+    ensures { ReadsAs (λ digest. digest) IsDigestString (here S.rest cons.old) result (here S.rest cons.new) }
+{
+    cons.take_primitive_if(
+        Tag::OCTET_STRING,
+        |prim|
+            ensures { ReadsOctetsAs (λ digest. digest) IsDigest (plain S.rest prim.old) result (plain S.rest prim.new) }
+        { digest(prim) },
+    )
+}
+
+/// A moment.
+pub fn take_moment<S: Source>(
+    alloc: Global,
+    cons: &mut Constructed<S>,
+) -> Result<Time, DecodeError<S::Error>>
+    ensures { ReadsAs (λ moment. moment) IsMomentString (here S.rest cons.old) result (here S.rest cons.new) }
+{
+    let text = take_octets(alloc, cons, Tag::GENERALIZED_TIME)?;
+    match Time::from_generalized(text.as_slice()) {
+        Some(moment) => Ok(moment),
+        None => Err(cons.content_err(ContentError::from_static("no moment"))),
+    }
+}
+
+/// A depth of 1 to 32.
+pub fn take_depth<S: Source>(cons: &mut Constructed<S>) -> Result<u8, DecodeError<S::Error>>
+    ensures { ReadsAs (λ depth. depth) IsDepthNumber (here S.rest cons.old) result (here S.rest cons.new) }
+{
+    let depth = cons.take_u8()?;
+    if !is_depth(depth) {
+        return Err(cons.content_err(ContentError::from_static("a depth of 1 to 32")));
+    }
+    Ok(depth)
+}

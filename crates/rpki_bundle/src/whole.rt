@@ -1,0 +1,72 @@
+//! Bundles, read by the codec up to the end of their octets.
+
+ghost use Rattle.bcder_content.specs.Exact.{ReadsAs, ReadsAllAs};
+ghost use Rattle.bcder_content.specs.Here.{here};
+ghost use Rattle.rpki_bundle.specs.Ends.{ReadsToEndAs};
+ghost use Rattle.rpki_bundle.specs.Grammars.{IsBundleAlone, IsBundleBody, IsBundleTree};
+ghost use Rattle.rpki_bundle.specs.PartFields.{parts_alone, parts_fields, parts_value};
+
+use crate::entries::take_list;
+use crate::reader::{take_depth, take_moment};
+use crate::{Locator, Object, Time, Verdict};
+use bcder_content::Constructed;
+use bcder_source::{ContentError, DecodeError, Source};
+use std::alloc::Global;
+
+/// What was read of a bundle.
+#[derive(Drop)]
+pub struct Parts {
+    /// The moment at which validity is judged.
+    pub moment: Time,
+    /// The greatest length of chains.
+    pub depth: u8,
+    /// The trust anchor locators.
+    pub locators: Vec<Locator>,
+    /// The objects.
+    pub objects: Vec<Object>,
+    /// The good signatures.
+    pub verdicts: Vec<Verdict>,
+}
+
+// A bundle of version 0.
+fn take_bundle<S: Source>(
+    alloc: Global,
+    cons: &mut Constructed<S>,
+) -> Result<Parts, DecodeError<S::Error>>
+    ensures { ReadsAs parts_value IsBundleTree (here S.rest cons.old) result (here S.rest cons.new) }
+{
+    cons.take_sequence(
+        |cons|
+            ensures { ReadsAllAs parts_fields IsBundleBody (here S.rest cons.old) result (here S.rest cons.new) }
+        {
+            cons.skip_u8_if(0)?;
+            let moment = take_moment(alloc, cons)?;
+            let depth = take_depth(cons)?;
+            let locators = take_list::<Locator, S>(alloc, cons)?;
+            let objects = take_list::<Object, S>(alloc, cons)?;
+            let verdicts = take_list::<Verdict, S>(alloc, cons)?;
+            Ok(Parts {
+                moment,
+                depth,
+                locators,
+                objects,
+                verdicts,
+            })
+        },
+    )
+}
+
+/// A bundle, behind which the source has ended.
+pub fn take_alone<S: Source>(
+    alloc: Global,
+    cons: &mut Constructed<S>,
+) -> Result<Parts, DecodeError<S::Error>>
+    ensures { ReadsToEndAs parts_alone IsBundleAlone (here S.rest cons.old) result (here S.rest cons.new) }
+{
+    let parts = take_bundle(alloc, cons)?;
+    let behind = cons.skip_one(alloc)?;
+    if let Some(_skipped) = behind {
+        return Err(cons.content_err(ContentError::from_static("octets behind the bundle")));
+    }
+    Ok(parts)
+}

@@ -1,0 +1,216 @@
+//! What is written of bundles and of their entries, by the codec.
+
+ghost use Rattle.std.specs.Prelude.{◌≡◌, IfOk, IfErr, OnOk};
+ghost use Rattle.bcder_tree.specs.Tags.{IsTag};
+ghost use Rattle.bcder_values.specs.Writing.{HasLength, Wrote, CannotWrite, WriteRefused};
+ghost use Rattle.rpki_bundle.specs.Written.{AreMembers, IsPair, IsTriple, WritesMembers, WritesPair, WritesTriple};
+
+use bcder_source::{Mode, Tag};
+use bcder_values::{Constructed, EncodeError, Octets, Primitive, Values};
+use std::convert::AsSlice;
+use std::io::Write;
+
+/// How many octets a string of that tag and an OCTET STRING have, in a SEQUENCE.
+pub fn pair_len<T: AsSlice<u8> + Drop>(
+    mode: Mode,
+    tag: Tag,
+    first: T,
+    second: T,
+) -> Result<usize, EncodeError>
+    requires { IsTag tag }
+    ensures len { IfOk result (HasLength (WritesPair mode tag (T.items first) (T.items second))) }
+    ensures refused { IfErr result (CannotWrite mode (IsPair tag (T.items first) (T.items second)) (WritesPair mode tag (T.items first) (T.items second))) }
+{
+    let first = Primitive {
+        tag,
+        content: Octets(first),
+    };
+    let second = Primitive {
+        tag: Tag::OCTET_STRING,
+        content: Octets(second),
+    };
+    let values = Constructed {
+        tag: Tag::SEQUENCE,
+        inner: (first, second),
+    };
+    values.encoded_len(mode)
+}
+
+/// Writes a string of that tag and an OCTET STRING, in a SEQUENCE.
+pub fn write_pair<T: AsSlice<u8> + Drop, W: Write>(
+    mode: Mode,
+    tag: Tag,
+    first: T,
+    second: T,
+    target: &mut W,
+) -> Result<(), EncodeError>
+    requires { IsTag tag }
+    ensures written { OnOk result (Wrote (WritesPair mode tag (T.items first) (T.items second)) (W.contents target.old) (W.contents target.new)) }
+    ensures refused { IfErr result (WriteRefused mode (IsPair tag (T.items first) (T.items second)) (WritesPair mode tag (T.items first) (T.items second)) (target.new ≡ target.old) (W.contents target.old) (W.contents target.new)) }
+{
+    let first = Primitive {
+        tag,
+        content: Octets(first),
+    };
+    let second = Primitive {
+        tag: Tag::OCTET_STRING,
+        content: Octets(second),
+    };
+    let values = Constructed {
+        tag: Tag::SEQUENCE,
+        inner: (first, second),
+    };
+    values.write_encoded(mode, target)
+}
+
+/// How many octets three OCTET STRINGs have, in a SEQUENCE.
+pub fn triple_len<T: AsSlice<u8> + Drop>(
+    mode: Mode,
+    first: T,
+    second: T,
+    third: T,
+) -> Result<usize, EncodeError>
+    ensures len { IfOk result (HasLength (WritesTriple mode (T.items first) (T.items second) (T.items third))) }
+    ensures refused { IfErr result (CannotWrite mode (IsTriple (T.items first) (T.items second) (T.items third)) (WritesTriple mode (T.items first) (T.items second) (T.items third))) }
+{
+    let tag = Tag::OCTET_STRING;
+    let first = Primitive {
+        tag,
+        content: Octets(first),
+    };
+    let second = Primitive {
+        tag,
+        content: Octets(second),
+    };
+    let third = Primitive {
+        tag,
+        content: Octets(third),
+    };
+    let values = Constructed {
+        tag: Tag::SEQUENCE,
+        inner: (first, second, third),
+    };
+    values.encoded_len(mode)
+}
+
+/// Writes three OCTET STRINGs, in a SEQUENCE.
+pub fn write_triple<T: AsSlice<u8> + Drop, W: Write>(
+    mode: Mode,
+    first: T,
+    second: T,
+    third: T,
+    target: &mut W,
+) -> Result<(), EncodeError>
+    ensures written { OnOk result (Wrote (WritesTriple mode (T.items first) (T.items second) (T.items third)) (W.contents target.old) (W.contents target.new)) }
+    ensures refused { IfErr result (WriteRefused mode (IsTriple (T.items first) (T.items second) (T.items third)) (WritesTriple mode (T.items first) (T.items second) (T.items third)) (target.new ≡ target.old) (W.contents target.old) (W.contents target.new)) }
+{
+    let tag = Tag::OCTET_STRING;
+    let first = Primitive {
+        tag,
+        content: Octets(first),
+    };
+    let second = Primitive {
+        tag,
+        content: Octets(second),
+    };
+    let third = Primitive {
+        tag,
+        content: Octets(third),
+    };
+    let values = Constructed {
+        tag: Tag::SEQUENCE,
+        inner: (first, second, third),
+    };
+    values.write_encoded(mode, target)
+}
+
+/// How many octets a bundle has.
+pub fn members_len<T: AsSlice<u8> + Drop, A: Values + Drop, B: Values + Drop, C: Values + Drop>(
+    mode: Mode,
+    text: T,
+    depth: u8,
+    locators: A,
+    objects: B,
+    verdicts: C,
+) -> Result<usize, EncodeError>
+    ensures len { IfOk result (HasLength (WritesMembers mode (T.items text) depth (A.writes locators mode) (B.writes objects mode) (C.writes verdicts mode))) }
+    ensures refused { IfErr result (CannotWrite mode (AreMembers (T.items text) depth (A.trees locators mode) (B.trees objects mode) (C.trees verdicts mode)) (WritesMembers mode (T.items text) depth (A.writes locators mode) (B.writes objects mode) (C.writes verdicts mode))) }
+{
+    let tag = Tag::INTEGER;
+    let version = Primitive { tag, content: 0u8 };
+    let moment = Primitive {
+        tag: Tag::GENERALIZED_TIME,
+        content: Octets(text),
+    };
+    let depth = Primitive {
+        tag,
+        content: depth,
+    };
+    let tag = Tag::SEQUENCE;
+    let locators = Constructed {
+        tag,
+        inner: locators,
+    };
+    let objects = Constructed {
+        tag,
+        inner: objects,
+    };
+    let verdicts = Constructed {
+        tag,
+        inner: verdicts,
+    };
+    let values = Constructed {
+        tag,
+        inner: (version, moment, depth, locators, objects, verdicts),
+    };
+    values.encoded_len(mode)
+}
+
+/// Writes a bundle.
+pub fn write_members<
+    T: AsSlice<u8> + Drop,
+    A: Values + Drop,
+    B: Values + Drop,
+    C: Values + Drop,
+    W: Write,
+>(
+    mode: Mode,
+    text: T,
+    depth: u8,
+    locators: A,
+    objects: B,
+    verdicts: C,
+    target: &mut W,
+) -> Result<(), EncodeError>
+    ensures written { OnOk result (Wrote (WritesMembers mode (T.items text) depth (A.writes locators mode) (B.writes objects mode) (C.writes verdicts mode)) (W.contents target.old) (W.contents target.new)) }
+    ensures refused { IfErr result (WriteRefused mode (AreMembers (T.items text) depth (A.trees locators mode) (B.trees objects mode) (C.trees verdicts mode)) (WritesMembers mode (T.items text) depth (A.writes locators mode) (B.writes objects mode) (C.writes verdicts mode)) (target.new ≡ target.old) (W.contents target.old) (W.contents target.new)) }
+{
+    let tag = Tag::INTEGER;
+    let version = Primitive { tag, content: 0u8 };
+    let moment = Primitive {
+        tag: Tag::GENERALIZED_TIME,
+        content: Octets(text),
+    };
+    let depth = Primitive {
+        tag,
+        content: depth,
+    };
+    let tag = Tag::SEQUENCE;
+    let locators = Constructed {
+        tag,
+        inner: locators,
+    };
+    let objects = Constructed {
+        tag,
+        inner: objects,
+    };
+    let verdicts = Constructed {
+        tag,
+        inner: verdicts,
+    };
+    let values = Constructed {
+        tag,
+        inner: (version, moment, depth, locators, objects, verdicts),
+    };
+    values.write_encoded(mode, target)
+}
