@@ -108,8 +108,8 @@ pub cut_refused : {old new : ValuesLeft} {octets : List ℕ} → GivesAll (Exact
 cut_refused {old} {new} {octets} g refuses = record {
   none = λ ts y s w.
       let never : Ended new → ⊥ = λ e.
-          let same : ts ≡ g.trees = one_whole ts g.trees w (record { behind = new; took = g.took; ended = e }) in
-          let p = cut_pieces ts y s.segments in
-          refuses ts p.0 (subst (λ (us : Trees). SpellsAll Ber us octets) (sym same) (all_to_ber old.mode g.trees octets g.is.spelled)) p.1 y s.segments s.long in
+      let same : ts ≡ g.trees = one_whole ts g.trees w (record { behind = new; took = g.took; ended = e }) in
+      let p = cut_pieces ts y s.segments in
+      refuses ts p.0 (subst (λ (us : Trees). SpellsAll Ber us octets) (sym same) (all_to_ber old.mode g.trees octets g.is.spelled)) p.1 y s.segments s.long in
       (cut_lack (g.only never)).none ts y s w;
 }

@@ -91,7 +91,7 @@ primitive_read {F} {S} {E} {rest} {g} {op} c d r tag v each form ran shows =
     let exact : PlainEach m rest g op (λ x. x) (IsWhole m) = record { each = λ p q s e h. subst (λ (z : Mode). ReadsOctetsAs (λ x. x) (IsWhole z) (plain rest p.now) s (plain rest q.now)) e (each p q s h) } in
     let read = plain_met exact k.octets l.octets r mode run.1 in
     subst (λ (b : Bool). ReadsInAs (λ x. x) (IsString m tag) b tag (here rest k) r (here rest l)) (sym form)
-      (octets_same (plain rest k.octets) (plain rest l.octets) r (λ t x w. whole_string m tag t x w) (λ t x s. string_whole m tag t x s) read)
+    (octets_same (plain rest k.octets) (plain rest l.octets) r (λ t x w. whole_string m tag t x w) (λ t x s. string_whole m tag t x s) read)
 
 -- The content of a constructed one.
 pub constructed_read : {F S E : Type 0} {rest : S → List ℕ} {g : Reader F (Constructed S) (List ℕ) E} {op : F} (c d : Content S) (r : Result (List ℕ) (DecodeError E)) (tag : TagValue) (v : ValuesLeft) → ((p q : MutBor (Constructed S)) (r : Result (List ℕ) (DecodeError E)) → g.post op (p, tt) (r, (q, tt)) → ReadsAllAs (λ x. x) (AreParts (here rest p.now).mode) (here rest p.now) r (here rest q.now))
@@ -105,7 +105,7 @@ constructed_read {F} {S} {E} {rest} {g} {op} c d r tag v each form ran shows =
     let exact : ReadsEach m rest g op (λ x. x) (AreParts m) = record { each = λ p q s e h. subst (λ (z : Mode). ReadsAllAs (λ x. x) (AreParts z) (here rest p.now) s (here rest q.now)) e (each p q s h) } in
     let read = each_met exact k l r mode run in
     subst (λ (b : Bool). ReadsInAs (λ x. x) (IsString m tag) b tag (here rest k) r (here rest l)) (sym form)
-      (values_same (here rest k) (here rest l) r (λ t x w. parts_string m tag t x w) (λ t x s. string_parts m tag t x s) read)
+    (values_same (here rest k) (here rest l) r (λ t x w. parts_string m tag t x w) (λ t x s. string_parts m tag t x s) read)
 
 -- Values with a tag.
 
@@ -158,14 +158,14 @@ string_cases {meets = meets} tag old new (Ok x) exact h =
     let found = opens_tag given.tree h.5.enters.opens (took_front given.took) in
     record { tree = given.tree; is = tagged_string old.mode tag given.tree x (found.0 ∙ h.4) given.is; took = given.took }
 string_cases {meets = meets} tag old new (Err (content_error e pos)) exact h = elim h [
-    | none_wanted n ↦ record { none = λ t y s a. n t a (string_tag old.mode tag t y s) }
-    | any_refused form u span end on ↦
-        let all : Takes meets AnyKind old (Err (content_error e pos)) new = record { cases = any_refused form u span end on } in
-        lacks_tagged old.mode tag (exact_any {r = Err (content_error e pos)} (record { wanted = λ t y s. tt }) (any_reads old.mode exact) all)
-    | any_goes_on form u span end y on unread ↦
-        let all : Takes meets AnyKind old (Err (content_error e pos)) new = record { cases = any_goes_on form u span end y on unread } in
-        lacks_tagged old.mode tag (exact_any {r = Err (content_error e pos)} (record { wanted = λ t z s. tt }) (any_reads old.mode exact) all)
-  ]
+  | none_wanted n ↦ record { none = λ t y s a. n t a (string_tag old.mode tag t y s) }
+  | any_refused form u span end on ↦
+      let all : Takes meets AnyKind old (Err (content_error e pos)) new = record { cases = any_refused form u span end on } in
+      lacks_tagged old.mode tag (exact_any {r = Err (content_error e pos)} (record { wanted = λ t y s. tt }) (any_reads old.mode exact) all)
+  | any_goes_on form u span end y on unread ↦
+      let all : Takes meets AnyKind old (Err (content_error e pos)) new = record { cases = any_goes_on form u span end y on unread } in
+      lacks_tagged old.mode tag (exact_any {r = Err (content_error e pos)} (record { wanted = λ t z s. tt }) (any_reads old.mode exact) all)
+]
 string_cases tag old new (Err (Source e)) exact h = tt
 string_cases tag old new (Err Memory) exact h = tt
 

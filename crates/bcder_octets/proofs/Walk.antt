@@ -163,9 +163,13 @@ mutual
         let inner = all_marks ts s.0 v (0 ∷ 0 ∷ rest) (around ∷ others) s.2 b.1 (0 ∷ 0 ∷ [], rest, refl, inl refl, m) in
         record {
           marks = around ∷ inner.marks;
-          is = (i ++ (128 ∷ []), s.0 ++ (0 ∷ 0 ∷ rest),
+          is = (
+            i ++ (128 ∷ []),
+            s.0 ++ (0 ∷ 0 ∷ rest),
             ap (λ (z : List ℕ). z ++ rest) whole ∙ append_assoc i (128 ∷ s.0 ++ (0 ∷ 0 ∷ [])) rest ∙ ap (λ (z : List ℕ). i ++ (128 ∷ z)) (append_assoc s.0 (0 ∷ 0 ∷ []) rest) ∙ sym (append_assoc i (128 ∷ []) (s.0 ++ (0 ∷ 0 ∷ rest))),
-            inr (u, NoLength, record { identifier = i; size = 128 ∷ []; whole = refl; tag = tag_is; identifier_is = is; size_is = refl }), inner.is);
+            inr (u, NoLength, record { identifier = i; size = 128 ∷ []; whole = refl; tag = tag_is; identifier_is = is; size_is = refl }),
+            inner.is,
+          );
           whole = inner.whole;
         }
   ]

@@ -32,18 +32,18 @@ unfolding rows
 rows_segments zero octets ts p q a = absurd (omega arith)
 rows_segments (suc n) [] ts p q a = absurd (omega arith)
 rows_segments (suc n) (x ∷ v) ts p q a = elim (cases_lt 1000 (length (x ∷ v))) [
-    | inl long ↦
-        let behind : 1 ≤ length (drop 1000 (x ∷ v)) = omega (arith, length-drop 1000 (x ∷ v)) in
-        let others = rows_segments n (drop 1000 (x ∷ v)) a.second (omega (arith, length-drop 1000 (x ∷ v))) behind a.is_second in
-        cons_segments (take 1000 (x ∷ v)) (drop 1000 (x ∷ v)) (x ∷ v) a.second ts (first_tree a) (length-take-le 1000 (x ∷ v) (omega arith)) others (sym (take-append-drop 1000 (x ∷ v)))
-    | inr short ↦
-        let few : length (x ∷ v) ≤ 1000 = omega arith in
-        let over : drop 1000 (x ∷ v) ≡ [] = none_behind (x ∷ v) few in
-        let whole : take 1000 (x ∷ v) ≡ x ∷ v = sym (append-nil (take 1000 (x ∷ v))) ∙ ap (λ (z : List ℕ). take 1000 (x ∷ v) ++ z) (sym over) ∙ take-append-drop 1000 (x ∷ v) in
-        let last : a.second ≡ none = rows_none n a.second (subst (λ (z : List ℕ). AreAll IsSegment (rows n z) a.second) over a.is_second) in
-        let one : ts ≡ more (primitive octet_string_tag (x ∷ v)) none = first_tree a ∙ ap (λ (z : Trees). more (primitive octet_string_tag (take 1000 (x ∷ v))) z) last ∙ ap (λ (z : List ℕ). more (primitive octet_string_tag z) none) whole in
-        subst (λ (t : Trees). AreCerSegments t (x ∷ v)) (sym one) (refl, q, few)
-  ]
+  | inl long ↦
+      let behind : 1 ≤ length (drop 1000 (x ∷ v)) = omega (arith, length-drop 1000 (x ∷ v)) in
+      let others = rows_segments n (drop 1000 (x ∷ v)) a.second (omega (arith, length-drop 1000 (x ∷ v))) behind a.is_second in
+      cons_segments (take 1000 (x ∷ v)) (drop 1000 (x ∷ v)) (x ∷ v) a.second ts (first_tree a) (length-take-le 1000 (x ∷ v) (omega arith)) others (sym (take-append-drop 1000 (x ∷ v)))
+  | inr short ↦
+      let few : length (x ∷ v) ≤ 1000 = omega arith in
+      let over : drop 1000 (x ∷ v) ≡ [] = none_behind (x ∷ v) few in
+      let whole : take 1000 (x ∷ v) ≡ x ∷ v = sym (append-nil (take 1000 (x ∷ v))) ∙ ap (λ (z : List ℕ). take 1000 (x ∷ v) ++ z) (sym over) ∙ take-append-drop 1000 (x ∷ v) in
+      let last : a.second ≡ none = rows_none n a.second (subst (λ (z : List ℕ). AreAll IsSegment (rows n z) a.second) over a.is_second) in
+      let one : ts ≡ more (primitive octet_string_tag (x ∷ v)) none = first_tree a ∙ ap (λ (z : Trees). more (primitive octet_string_tag (take 1000 (x ∷ v))) z) last ∙ ap (λ (z : List ℕ). more (primitive octet_string_tag z) none) whole in
+      subst (λ (t : Trees). AreCerSegments t (x ∷ v)) (sym one) (refl, q, few)
+]
   where
     none_behind : (s : List ℕ) → length s ≤ 1000 → drop 1000 s ≡ []
     none_behind s h = empty (drop 1000 s) (omega (arith, length-drop 1000 s))
@@ -67,9 +67,9 @@ written_string Cer tag octets ts p = at (nat_lt 1000 (length octets)) refl p
     at : (b : Bool) → nat_lt 1000 (length octets) ≡ b → FormTrees b tag octets ts → WrittenString Cer tag octets ts
     at false e q =
         let few : length octets ≤ 1000 = elim (cases_lt 1000 (length octets)) [
-            | inl long ↦ let t : true ≡ false = sym (lt-ltb 1000 (length octets) long) ∙ e in absurd cc
-            | inr short ↦ omega arith
-          ] in
+          | inl long ↦ let t : true ≡ false = sym (lt-ltb 1000 (length octets) long) ∙ e in absurd cc
+          | inr short ↦ omega arith
+        ] in
         record { tree = primitive tag octets; alone = plain_string q; is = (refl, refl, few) }
     at true e q =
         let long : 1000 < length octets = ltb-true 1000 (length octets) e in

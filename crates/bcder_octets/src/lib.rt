@@ -24,3 +24,6 @@ pub use encode::{OctetSliceEncoder, OctetStringEncoder};
 pub use iter::{OctetStringIter, OctetStringOctets};
 pub use source::OctetStringSource;
 pub use string::OctetString;
+
+#[cfg(test)]
+mod tests;

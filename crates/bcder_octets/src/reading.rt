@@ -52,7 +52,8 @@ fn skip_nested<S: Source>(
 {
     cons.skip_opt(
         alloc,
-        |tag, constructed, _| ensures { IsOk result ↔ FitsPart true tag constructed }
+        |tag, constructed, _|
+            ensures { IsOk result ↔ FitsPart true tag constructed }
         {
             if tag == Tag::OCTET_STRING {
                 Ok(())
@@ -72,7 +73,8 @@ fn skip_plain<S: Source>(
 {
     cons.skip_opt(
         alloc,
-        |tag, constructed, _| ensures { IsOk result ↔ FitsPart false tag constructed }
+        |tag, constructed, _|
+            ensures { IsOk result ↔ FitsPart false tag constructed }
         {
             if tag == Tag::OCTET_STRING && !constructed {
                 Ok(())

@@ -112,7 +112,8 @@ impl OctetString {
     {
         cons.take_value_if(
             Tag::OCTET_STRING,
-            |content| ensures { ReadsString S.rest content.old result content.new }
+            |content|
+                ensures { ReadsString S.rest content.old result content.new }
             { take_content(alloc, content) },
         )
     }
@@ -127,7 +128,8 @@ impl OctetString {
     {
         cons.take_opt_value_if(
             Tag::OCTET_STRING,
-            |content| ensures { ReadsString S.rest content.old result content.new }
+            |content|
+                ensures { ReadsString S.rest content.old result content.new }
             { take_content(alloc, content) },
         )
     }

@@ -19,5 +19,5 @@ pub returns : goal.returns
 returns g c =
     let same : c.new.result ≡ c.in-Some.octets.items = c.new.ensures ∙ c.in_ok-octets-2.ensures.ok in
     cut_given c.in_ok-captured.ensures (λ ts pieces s plain.
-        let t = rw c.in-Some.is at (c.in_ok-octets.ensures ts pieces (subst (SpellsAll Ber ts) (sym c.as_slice.ensures.octets) s) plain) in
-        (subst (AreCerSegments ts) (sym same) t.0, subst (λ (z : List ℕ). 1000 < length z) (sym same) t.1))
+    let t = rw c.in-Some.is at (c.in_ok-octets.ensures ts pieces (subst (SpellsAll Ber ts) (sym c.as_slice.ensures.octets) s) plain) in
+    (subst (AreCerSegments ts) (sym same) t.0, subst (λ (z : List ℕ). 1000 < length z) (sym same) t.1))
