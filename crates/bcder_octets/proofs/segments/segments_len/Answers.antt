@@ -2,6 +2,7 @@ use Rattle.std.proofs.Common.{◌≡◌, ◌+◌, ◌++◌, ◌∷◌, [], ◌�
 use Rattle.std.proofs.lemmas.Grind.{common_steps}
 use Rattle.bcder_values.proofs.Lists.{has_one_more, one_cannot, front_too_many}
 use Rattle.bcder_values.proofs.Pieces.{stopped}
+use Rattle.bcder_values.specs.Lists.{all_one}
 use Rattle.bcder_values.specs.Plains.{plain_one}
 use Rattle.bcder_values.specs.Simple.{one_string}
 use Rattle.bcder_values.specs.Writing.{HasLength}
@@ -19,7 +20,7 @@ pub returns-in-None-clause-refused : goal.returns-in-None-clause-refused
 returns-in-None-clause-refused c =
     let before = c.loop-first.invariant in
     let whole = before.whole ∙ ap (λ l. before.counted ++ l) c.in-Some.ensures.found in
-    rw whole (front_too_many (WritesSegment c.args.mode) (λ s. plain_one c.args.mode (one_string s)) before.counted c.in-Some.first.now (segments c.in-Some.others.now) before.long c.in_ok-len.ensures.len (grind (arith, common_steps)))
+    rw whole (front_too_many (WritesSegment c.args.mode) before.counted c.in-Some.first.now (segments c.in-Some.others.now) (all_one (λ s. plain_one c.args.mode (one_string s)) before.counted) (plain_one c.args.mode (one_string c.in-Some.first.now)) before.long c.in_ok-len.ensures.len (grind (arith, common_steps)))
 
 pub loop-first-preserved : goal.loop-first-preserved
 loop-first-preserved c =
