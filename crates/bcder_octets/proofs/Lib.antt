@@ -1,5 +1,6 @@
 pub mod Cuts
 pub mod Gathering
+pub mod Meaning
 pub mod Rows
 pub mod Strings
 pub mod Visiting
