@@ -1,0 +1,216 @@
+-- Reading strings, by the readers of their contents.
+use Rattle.std.proofs.Common.{◌≡◌, ◌↔◌, IsTrue, ℕ, ◌+◌, ◌≤◌, Bool, true, false, List, length, Result, Ok, Err, Option, Some, None, refl, sym, ap, ◌∙◌, subst, arith}
+use Rattle.std.specs.Fn.{FnOnceReturnsAtMut}
+use denote.Ref.{MutBor}
+use Rattle.bcder_tree.specs.declared.mode.Mode.{Mode}
+use Rattle.bcder_tree.specs.declared.mode.Mode.TheVariants.{Ber, Cer, Der}
+use Rattle.bcder_tree.specs.Tags.{TagValue}
+use Rattle.bcder_tree.specs.Tree.{Tree, Trees, primitive, constructed}
+use Rattle.bcder_tree.specs.Strings.{IsString}
+use Rattle.bcder_source.specs.declared.error.DecodeError.{DecodeError}
+use Rattle.bcder_source.specs.declared.error.DecodeError.TheVariants.{Content as content_error, Source, Memory}
+use Rattle.bcder_source.specs.Views.{more_limit}
+use Rattle.bcder_header.proofs.Opening.{opens_tag}
+use Rattle.bcder_primitive.specs.declared.primitive.Primitive.{Primitive}
+use Rattle.bcder_primitive.specs.Plain.{OctetsLeft, LacksOctets, GivesOctets, ReadsOctetsAs}
+use Rattle.bcder_primitive.specs.Values.{AnyOctets}
+use Rattle.bcder_content.specs.declared.constructed.Constructed.{Constructed}
+use Rattle.bcder_content.specs.declared.content.Content.{Content}
+use Rattle.bcder_content.specs.Contents.{ValuesLeft, tag_of}
+use Rattle.bcder_content.specs.Exact.{Gives, Lacks, ReadsAs, ReadsOptAs, ReadsAllAs}
+use Rattle.bcder_content.specs.Here.{here, plain}
+use Rattle.bcder_content.specs.Ran.{Reader}
+use Rattle.bcder_content.specs.Either.{Shows, Meeting, none_wanted, any_refused, any_goes_on, TakesCases, Takes, TakesOptCases, TakesOpt, AnyKind, WithTag, ReadsInAs, ReadsContentAs, OctetsRun, RunsOctets, ValuesRun, RunsValues}
+use Rattle.bcder_content.proofs.Anything.{AnyReads, exact_any}
+use Rattle.bcder_content.proofs.Inside.{ReadsEach, each_met, PlainEach, tagged_lacks}
+use Rattle.bcder_content.proofs.Took.{took_front}
+use Rattle.bcder_octets.proofs.Cuts.{not_so}
+use Rattle.bcder_octets.specs.Parts.{FitsWhole, IsWhole, AreParts, ReadsString}
+
+-- Contents of primitive values.
+
+whole_string : (m : Mode) (tag : TagValue) (content octets : List ℕ) → IsWhole m content octets → IsString m tag (primitive tag content) octets
+whole_string Ber tag content octets w = (refl, w.same)
+whole_string Cer tag content octets w = (refl, w.same, w.fits)
+whole_string Der tag content octets w = ap (λ (z : List ℕ). primitive tag z) w.same
+
+string_whole : (m : Mode) (tag : TagValue) (content octets : List ℕ) → IsString m tag (primitive tag content) octets → IsWhole m content octets
+string_whole Ber tag content octets s = record { same = s.1; fits = tt }
+string_whole Cer tag content octets s = record { same = s.1; fits = s.2 }
+string_whole Der tag content octets s = let same : content ≡ octets = cc (s) in record { same = same; fits = tt }
+
+-- Of constructed ones.
+
+parts_string : (m : Mode) (tag : TagValue) (ts : Trees) (octets : List ℕ) → AreParts m ts octets → IsString m tag (constructed tag ts) octets
+parts_string Ber tag ts octets p = (refl, p)
+parts_string Cer tag ts octets p = (refl, p.segments, p.long)
+parts_string Der tag ts octets p = absurd p
+
+string_parts : (m : Mode) (tag : TagValue) (ts : Trees) (octets : List ℕ) → IsString m tag (constructed tag ts) octets → AreParts m ts octets
+string_parts Ber tag ts octets s = s.1
+string_parts Cer tag ts octets s = record { segments = s.1; long = s.2 }
+string_parts Der tag ts octets s = let e : constructed tag ts ≡ primitive tag octets = s in cc
+
+string_tag : (m : Mode) (tag : TagValue) (t : Tree) (octets : List ℕ) → IsString m tag t octets → tag_of t ≡ tag
+string_tag Ber tag (primitive u v) octets s = s.0
+string_tag Ber tag (constructed u ts) octets s = s.0
+string_tag Cer tag (primitive u v) octets s = s.0
+string_tag Cer tag (constructed u ts) octets s = s.0
+string_tag Der tag t octets s = ap tag_of s
+
+-- Readers of grammars that say the same.
+
+octets_same : {E : Type 0} {P Q : List ℕ → List ℕ → Type 0} (old new : OctetsLeft) (r : Result (List ℕ) (DecodeError E)) → ((c x : List ℕ) → P c x → Q c x) → ((c x : List ℕ) → Q c x → P c x) → ReadsOctetsAs (λ x. x) P old r new → ReadsOctetsAs (λ x. x) Q old r new
+octets_same old new (Ok x) f g h = record { text = h.text; is = f h.text x h.is; goes = h.goes; only = λ on. record { none = λ t y q w. (h.only on).none t y (g t y q) w } }
+octets_same old new (Err (content_error e pos)) f g h = record { none = λ t y q w. h.none t y (g t y q) w }
+octets_same old new (Err (Source e)) f g h = tt
+octets_same old new (Err Memory) f g h = tt
+
+values_same : {E : Type 0} {P Q : Trees → List ℕ → Type 0} (old new : ValuesLeft) (r : Result (List ℕ) (DecodeError E)) → ((c : Trees) (x : List ℕ) → P c x → Q c x) → ((c : Trees) (x : List ℕ) → Q c x → P c x) → ReadsAllAs (λ x. x) P old r new → ReadsAllAs (λ x. x) Q old r new
+values_same old new (Ok x) f g h = record { trees = h.trees; is = f h.trees x h.is; took = h.took; only = λ on. record { none = λ t y q w. (h.only on).none t y (g t y q) w } }
+values_same old new (Err (content_error e pos)) f g h = record { none = λ t y q w. h.none t y (g t y q) w }
+values_same old new (Err (Source e)) f g h = tt
+values_same old new (Err Memory) f g h = tt
+
+-- The content of a primitive value.
+
+plain_met : {F S E : Type 0} {m : Mode} {rest : S → List ℕ} {g : Reader F (Primitive S) (List ℕ) E} {op : F} {P : List ℕ → List ℕ → Type 0} → PlainEach m rest g op (λ x. x) P → (given stop : Primitive S) (r : Result (List ℕ) (DecodeError E)) → (plain rest given).mode ≡ m → FnOnceReturnsAtMut g op given r stop → ReadsOctetsAs (λ x. x) P (plain rest given) r (plain rest stop)
+plain_met {F} {S} {E} {m} {rest} {g} {op} {P} exact given stop r mode met =
+    subst (λ (v : Primitive S). ReadsOctetsAs (λ x. x) P (plain rest v) r (plain rest stop)) met.shows
+    (subst (λ (w : Primitive S). ReadsOctetsAs (λ x. x) P (plain rest met.shown.now) r (plain rest w)) met.leaves
+    (exact.each met.shown met.left r (ap (λ (v : Primitive S). (plain rest v).mode) met.shows ∙ mode) met.met))
+
+pub primitive_read : {F S E : Type 0} {rest : S → List ℕ} {g : Reader F (Primitive S) (List ℕ) E} {op : F} (c d : Content S) (r : Result (List ℕ) (DecodeError E)) (tag : TagValue) (v : ValuesLeft) → ((p q : MutBor (Primitive S)) (r : Result (List ℕ) (DecodeError E)) → g.post op (p, tt) (r, (q, tt)) → ReadsOctetsAs (λ x. x) (IsWhole (plain rest p.now).mode) (plain rest p.now) r (plain rest q.now))
+    → c.values.now.constructed ≡ false → RunsOctets rest g op c r d → Shows rest c v → ReadsContentAs rest (λ x. x) (IsString v.mode tag) tag c r d
+primitive_read {F} {S} {E} {rest} {g} {op} c d r tag v each form ran shows =
+    let k = c.values.now in
+    let l = d.values.now in
+    let m : Mode = v.mode in
+    let mode : (plain rest k.octets).mode ≡ m = ap (λ (w : ValuesLeft). w.mode) shows.left_is in
+    let run : OctetsRun g op false k r l = subst (λ (b : Bool). OctetsRun g op b k r l) form ran.runs in
+    let exact : PlainEach m rest g op (λ x. x) (IsWhole m) = record { each = λ p q s e h. subst (λ (z : Mode). ReadsOctetsAs (λ x. x) (IsWhole z) (plain rest p.now) s (plain rest q.now)) e (each p q s h) } in
+    let read = plain_met exact k.octets l.octets r mode run.1 in
+    subst (λ (b : Bool). ReadsInAs (λ x. x) (IsString m tag) b tag (here rest k) r (here rest l)) (sym form)
+    (octets_same (plain rest k.octets) (plain rest l.octets) r (λ t x w. whole_string m tag t x w) (λ t x s. string_whole m tag t x s) read)
+
+-- The content of a constructed one.
+pub constructed_read : {F S E : Type 0} {rest : S → List ℕ} {g : Reader F (Constructed S) (List ℕ) E} {op : F} (c d : Content S) (r : Result (List ℕ) (DecodeError E)) (tag : TagValue) (v : ValuesLeft) → ((p q : MutBor (Constructed S)) (r : Result (List ℕ) (DecodeError E)) → g.post op (p, tt) (r, (q, tt)) → ReadsAllAs (λ x. x) (AreParts (here rest p.now).mode) (here rest p.now) r (here rest q.now))
+    → c.values.now.constructed ≡ true → RunsValues rest g op c r d → Shows rest c v → ReadsContentAs rest (λ x. x) (IsString v.mode tag) tag c r d
+constructed_read {F} {S} {E} {rest} {g} {op} c d r tag v each form ran shows =
+    let k = c.values.now in
+    let l = d.values.now in
+    let m : Mode = v.mode in
+    let mode : (here rest k).mode ≡ m = ap (λ (w : ValuesLeft). w.mode) shows.left_is in
+    let run : ValuesRun g op true k r l = subst (λ (b : Bool). ValuesRun g op b k r l) form ran.runs in
+    let exact : ReadsEach m rest g op (λ x. x) (AreParts m) = record { each = λ p q s e h. subst (λ (z : Mode). ReadsAllAs (λ x. x) (AreParts z) (here rest p.now) s (here rest q.now)) e (each p q s h) } in
+    let read = each_met exact k l r mode run in
+    subst (λ (b : Bool). ReadsInAs (λ x. x) (IsString m tag) b tag (here rest k) r (here rest l)) (sym form)
+    (values_same (here rest k) (here rest l) r (λ t x w. parts_string m tag t x w) (λ t x s. string_parts m tag t x s) read)
+
+-- Values with a tag.
+
+-- A string with the tag that it has.
+abbrev AnyString : Mode → Tree → List ℕ → Type 0
+AnyString m t octets = IsString m (tag_of t) t octets
+
+tagged_string : (m : Mode) (tag : TagValue) (t : Tree) (octets : List ℕ) → tag_of t ≡ tag → AnyString m t octets → IsString m tag t octets
+tagged_string m tag t octets e s = subst (λ (u : TagValue). IsString m u t octets) e s
+
+any_string : (m : Mode) (tag : TagValue) (t : Tree) (octets : List ℕ) → IsString m tag t octets → AnyString m t octets
+any_string m tag t octets s = subst (λ (u : TagValue). IsString m u t octets) (sym (string_tag m tag t octets s)) s
+
+-- A meeting with the content of a string, by a reader of it.
+pub record MeetsString {S E : Type 0} (rest : S → List ℕ) (form : Bool) (v : ValuesLeft) (r : Result (List ℕ) (DecodeError E)) (w : ValuesLeft) : Type 0 where
+  pub old : Content S
+  pub new : Content S
+  pub shows_old : Shows rest old v
+  pub shows_new : Shows rest new w
+  pub form_is : old.values.now.constructed ≡ form
+  pub read : ReadsString rest old r new
+
+-- Each meeting is one by such a reader.
+pub record EachString {S E : Type 0} (rest : S → List ℕ) (meets : Meeting (List ℕ) E) : Type 0 where
+  pub each : (form : Bool) (tag : TagValue) (v : ValuesLeft) (r : Result (List ℕ) (DecodeError E)) (w : ValuesLeft) → meets form tag v r w → MeetsString rest form v r w
+
+any_reads : {S E : Type 0} {rest : S → List ℕ} {meets : Meeting (List ℕ) E} (m : Mode) → EachString rest meets → AnyReads meets m (λ x. x) (AnyString m)
+any_reads {S} {E} {rest} {meets} m exact = record { each = λ form tag v r w mode met. at form tag v r w mode (exact.each form tag v r w met) }
+  where
+    of_form : (form : Bool) (tag : TagValue) (v : ValuesLeft) (r : Result (List ℕ) (DecodeError E)) (w : ValuesLeft) → ReadsInAs (λ x. x) (IsString m tag) form tag v r w → ReadsInAs (λ x. x) (AnyString m) form tag v r w
+    of_form true tag v r w h = h
+    of_form false tag v r w h = h
+
+    at : (form : Bool) (tag : TagValue) (v : ValuesLeft) (r : Result (List ℕ) (DecodeError E)) (w : ValuesLeft) → v.mode ≡ m → MeetsString rest form v r w → ReadsInAs (λ x. x) (AnyString m) form tag v r w
+    at form tag v r w mode met =
+        let k = met.old.values.now in
+        let l = met.new.values.now in
+        let one = subst (λ (b : Bool). ReadsInAs (λ x. x) (IsString v.mode tag) b tag (here rest k) r (here rest l)) met.form_is (met.read.reads tag v met.shows_old) in
+        let two = subst (λ (z : ValuesLeft). ReadsInAs (λ x. x) (IsString v.mode tag) form tag z r (here rest l)) met.shows_old.left_is one in
+        let three = subst (λ (z : ValuesLeft). ReadsInAs (λ x. x) (IsString v.mode tag) form tag v r z) met.shows_new.left_is two in
+        of_form form tag v r w (subst (λ (n : Mode). ReadsInAs (λ x. x) (IsString n tag) form tag v r w) mode three)
+
+lacks_tagged : (m : Mode) (tag : TagValue) {old : ValuesLeft} → Lacks (AnyString m) old → Lacks (IsString m tag) old
+lacks_tagged m tag l = record { none = λ t x s a. l.none t x (any_string m tag t x s) a }
+
+string_cases : {S E : Type 0} {rest : S → List ℕ} {meets : Meeting (List ℕ) E} (tag : TagValue) (old new : ValuesLeft) (r : Result (List ℕ) (DecodeError E)) → EachString rest meets → TakesCases meets (WithTag tag) old r new → ReadsAs (λ x. x) (IsString old.mode tag) old r new
+string_cases {meets = meets} tag old new (Ok x) exact h =
+    let all : Takes meets AnyKind old (Ok x) new = record { cases = (h.0, h.1, h.2, h.3, tt, h.5, h.6) } in
+    let given : Gives (AnyString old.mode) old x new = exact_any {r = Ok x} (record { wanted = λ t y s. tt }) (any_reads old.mode exact) all in
+    let found = opens_tag given.tree h.5.enters.opens (took_front given.took) in
+    record { tree = given.tree; is = tagged_string old.mode tag given.tree x (found.0 ∙ h.4) given.is; took = given.took }
+string_cases {meets = meets} tag old new (Err (content_error e pos)) exact h = elim h [
+  | none_wanted n ↦ record { none = λ t y s a. n t a (string_tag old.mode tag t y s) }
+  | any_refused form u span end on ↦
+      let all : Takes meets AnyKind old (Err (content_error e pos)) new = record { cases = any_refused form u span end on } in
+      lacks_tagged old.mode tag (exact_any {r = Err (content_error e pos)} (record { wanted = λ t y s. tt }) (any_reads old.mode exact) all)
+  | any_goes_on form u span end y on unread ↦
+      let all : Takes meets AnyKind old (Err (content_error e pos)) new = record { cases = any_goes_on form u span end y on unread } in
+      lacks_tagged old.mode tag (exact_any {r = Err (content_error e pos)} (record { wanted = λ t z s. tt }) (any_reads old.mode exact) all)
+]
+string_cases tag old new (Err (Source e)) exact h = tt
+string_cases tag old new (Err Memory) exact h = tt
+
+pub string_taken : {S E : Type 0} {rest : S → List ℕ} {meets : Meeting (List ℕ) E} {tag : TagValue} {old new : ValuesLeft} {r : Result (List ℕ) (DecodeError E)} → Takes meets (WithTag tag) old r new → EachString rest meets → ReadsAs (λ x. x) (IsString old.mode tag) old r new
+string_taken {tag = tag} {old} {new} {r} h exact = string_cases tag old new r exact h.cases
+
+opt_cases : {S E : Type 0} {rest : S → List ℕ} {meets : Meeting (List ℕ) E} (tag : TagValue) (old new : ValuesLeft) (r : Result (Option (List ℕ)) (DecodeError E)) → EachString rest meets → TakesOptCases meets tag old r new → ReadsOptAs (λ x. x) tag (IsString old.mode tag) old r new
+opt_cases tag old new (Ok (Some x)) exact h = string_cases tag old new (Ok x) exact h.cases
+opt_cases tag old new (Ok None) exact h = h
+opt_cases tag old new (Err e) exact h = tagged_lacks (IsString old.mode tag) old tag e h.0 (string_cases tag old new (Err e) exact h.1.cases)
+
+pub string_taken_opt : {S E : Type 0} {rest : S → List ℕ} {meets : Meeting (List ℕ) E} {tag : TagValue} {old new : ValuesLeft} {r : Result (Option (List ℕ)) (DecodeError E)} → TakesOpt meets tag old r new → EachString rest meets → ReadsOptAs (λ x. x) tag (IsString old.mode tag) old r new
+string_taken_opt {tag = tag} {old} {new} {r} h exact = opt_cases tag old new r exact h.cases
+
+-- A string in one piece.
+
+limit_grows : (n k : ℕ) (old new : Option ℕ) → old ≡ more_limit n new → old ≡ more_limit k (Some 0) → n ≤ k
+limit_grows n k old None e f = let no : None ≡ Some (k + 0) = sym e ∙ f in absurd cc
+limit_grows n k old (Some m) e f = let same : Some (n + m) ≡ Some (k + 0) = sym e ∙ f in let sizes : n + m ≡ k + 0 = cc in omega arith
+
+fits_shorter : (m : Mode) (t x : List ℕ) → length x ≤ length t → FitsWhole m t → FitsWhole m x
+fits_shorter Ber t x short f = tt
+fits_shorter Cer t x short f = omega arith
+fits_shorter Der t x short f = tt
+
+pub whole_lacks : {m : Mode} {old : OctetsLeft} → LacksOctets AnyOctets old → LacksOctets (IsWhole m) old
+whole_lacks l = record { none = λ t y w h. l.none t y (record { same = w.same }) h }
+
+pub whole_gives : {m : Mode} {old new : OctetsLeft} {x : List ℕ} → GivesOctets AnyOctets old x new → FitsWhole m x → GivesOctets (IsWhole m) old x new
+whole_gives {m} g f = record {
+  text = g.text;
+  is = record { same = g.is.same; fits = subst (FitsWhole m) (sym g.is.same) f };
+  goes = g.goes;
+  only = λ on. whole_lacks (g.only on);
+}
+
+pub too_long : {m : Mode} {old new : OctetsLeft} {x : List ℕ} → (FitsWhole m x → ⊥) → GivesOctets AnyOctets old x new → LacksOctets (IsWhole m) old
+too_long {m} {old} {new} {x} never g = record {
+  none = λ t y w h.
+      let ends : old.limit ≡ more_limit (length t) (Some 0) = subst (λ (l : Option ℕ). old.limit ≡ more_limit (length t) l) h.drained.ends h.goes.moved.limit in
+      let grows : length g.text ≤ length t = limit_grows (length g.text) (length t) old.limit new.limit g.goes.moved.limit ends in
+      never (fits_shorter m t x (omega (arith, grows, ap length g.is.same)) w.fits);
+}
+
+-- A value that isn't primitive is constructed.
+pub not_primitive : {r : Bool} (form : Bool) → IsTrue r ↔ (form ≡ false) → r ≡ false → form ≡ true
+not_primitive true told is = refl
+not_primitive false told is = absurd (not_so told is refl)

@@ -1,0 +1,29 @@
+//! OCTET STRING (X.690 8.7, 9.2, 10.2), read and written in three modes.
+//!
+//! In BER a string is primitive, or in segments that are OCTET STRINGs, nested at will; in CER it is primitive to
+//! 1000 octets, else in primitive segments of 1000 and a last one of 1 to 1000; in DER it is primitive. Contracts
+//! see a string as its octets, whatever its segments were, and so do equality, order and hash.
+//!
+//! What differs from the Rust crate: a string that is read in segments is joined then, without recursion on the
+//! input, and no octet of a string in one piece is copied where the source shares them. So `as_slice` lends the
+//! octets of each string, and `iter` gives one piece. Reading, `to_bytes` and `into_bytes` take an allocator and
+//! answer a `Result`. A string is compared with octets by `is_slice`. In CER segments are read and written as the
+//! standard has them. In BER a string is written as in DER, in one piece. There is no `encode_wrapped` yet.
+#![tactic(auto)]
+
+pub mod encode;
+pub mod iter;
+pub mod laws;
+mod pieces;
+mod reading;
+mod segments;
+pub mod source;
+pub mod string;
+
+pub use encode::{OctetSliceEncoder, OctetStringEncoder};
+pub use iter::{OctetStringIter, OctetStringOctets};
+pub use source::OctetStringSource;
+pub use string::OctetString;
+
+#[cfg(test)]
+mod tests;

@@ -1,0 +1,196 @@
+//! Strings that are read.
+
+ghost use Rattle.std.specs.Prelude.{◌≡◌, ◌↔◌, IsTrue, IsOk, true, false};
+ghost use Rattle.bcder_tree.specs.Strings.{AreSegments};
+ghost use Rattle.bcder_content.specs.Captures.{rest_of};
+ghost use Rattle.bcder_content.specs.Exact.{ReadsAllAs, ReadsNextAs};
+ghost use Rattle.bcder_content.specs.Grammar.{ExactlyAll};
+ghost use Rattle.bcder_content.specs.Here.{here, plain};
+ghost use Rattle.bcder_primitive.specs.Plain.{ReadsOctetsAs};
+ghost use Rattle.bcder_octets.specs.Parts.{FitsWhole, IsWhole, AreCut, AreParts, FitsPart, IsPart, AllParts, ReadsString};
+
+use crate::pieces::{SEGMENT, join, join_cut};
+use crate::string::OctetString;
+use bcder_content::content::Content;
+use bcder_content::{Captured, Constructed, Primitive};
+use bcder_source::{ContentError, DecodeError, Mode, Source, Tag};
+use bytes::Bytes;
+use std::alloc::Global;
+
+// Whether a string of these octets may stand in one piece (X.690 9.2).
+fn fits_whole(mode: Mode, octets: &Bytes) -> bool
+    ensures { IsTrue result ↔ FitsWhole mode octets.now }
+{
+    match mode {
+        Mode::Ber | Mode::Der => true,
+        Mode::Cer => octets.len() <= SEGMENT,
+    }
+}
+
+// A string in one piece: in CER it has at most 1000 octets (X.690 9.2).
+fn take_whole<S: Source>(
+    alloc: Global,
+    prim: &mut Primitive<S>,
+) -> Result<OctetString, DecodeError<S::Error>>
+    ensures { ReadsOctetsAs (λ octets. octets) (IsWhole (plain S.rest prim.old).mode) (plain S.rest prim.old) result (plain S.rest prim.new) }
+{
+    let mode = (*prim).mode();
+    let octets = prim.take_all(alloc)?;
+    if !fits_whole(mode, &octets) {
+        return Err((*prim).content_err(ContentError::from_static("a long string in one piece")));
+    }
+    Ok(OctetString::new(octets))
+}
+
+// Goes past the next segment with all that is in it, where one is next: an OCTET STRING in which all values
+// are such.
+fn skip_nested<S: Source>(
+    alloc: Global,
+    cons: &mut Constructed<S>,
+) -> Result<Option<()>, DecodeError<S::Error>>
+    ensures { ReadsNextAs (λ x. x) (IsPart true) (here S.rest cons.old) result (here S.rest cons.new) }
+{
+    cons.skip_opt(
+        alloc,
+        |tag, constructed, _|
+            ensures { IsOk result ↔ FitsPart true tag constructed }
+        {
+            if tag == Tag::OCTET_STRING {
+                Ok(())
+            } else {
+                Err(ContentError::from_static("no segment of an octet string"))
+            }
+        },
+    )
+}
+
+// The same, of primitive segments alone.
+fn skip_plain<S: Source>(
+    alloc: Global,
+    cons: &mut Constructed<S>,
+) -> Result<Option<()>, DecodeError<S::Error>>
+    ensures { ReadsNextAs (λ x. x) (IsPart false) (here S.rest cons.old) result (here S.rest cons.new) }
+{
+    cons.skip_opt(
+        alloc,
+        |tag, constructed, _|
+            ensures { IsOk result ↔ FitsPart false tag constructed }
+        {
+            if tag == Tag::OCTET_STRING && !constructed {
+                Ok(())
+            } else {
+                Err(ContentError::from_static("no primitive segment of an octet string"))
+            }
+        },
+    )
+}
+
+// Goes past the next segment, where one is next.
+fn skip_part<S: Source>(
+    alloc: Global,
+    cons: &mut Constructed<S>,
+    nested: bool,
+) -> Result<Option<()>, DecodeError<S::Error>>
+    ensures { ReadsNextAs (λ x. x) (IsPart nested) (here S.rest cons.old) result (here S.rest cons.new) }
+{
+    match nested {
+        true => skip_nested(alloc, cons),
+        false => skip_plain(alloc, cons),
+    }
+}
+
+// Goes past all segments that are left.
+fn skip_parts<S: Source>(
+    alloc: Global,
+    cons: &mut Constructed<S>,
+    nested: bool,
+) -> Result<(), DecodeError<S::Error>>
+    ensures { ReadsAllAs (λ x. x) (AllParts nested) (here S.rest cons.old) result (here S.rest cons.new) }
+{
+    loop {
+        match skip_part(alloc, cons, nested) {
+            Ok(Some(())) => {}
+            Ok(None) => return Ok(()),
+            Err(error) => return Err(error),
+        }
+    }
+}
+
+// The octets of all segments.
+fn capture_parts<S: Source>(
+    alloc: Global,
+    cons: &mut Constructed<S>,
+    nested: bool,
+) -> Result<Captured, DecodeError<S::Error>>
+    ensures { ReadsAllAs (λ c. c.octets) (ExactlyAll (here S.rest cons.old).mode (AllParts nested)) (here S.rest cons.old) result (here S.rest cons.new) }
+{
+    cons.capture(
+        alloc,
+        |cons|
+            ensures { ReadsAllAs (λ x. x) (AllParts nested) (here rest_of cons.old) result (here rest_of cons.new) }
+        { skip_parts(alloc, cons, nested) },
+    )
+}
+
+// A string in segments, nested at will (8.7.3).
+fn take_nested<S: Source>(
+    alloc: Global,
+    cons: &mut Constructed<S>,
+) -> Result<OctetString, DecodeError<S::Error>>
+    ensures { ReadsAllAs (λ octets. octets) AreSegments (here S.rest cons.old) result (here S.rest cons.new) }
+{
+    let captured = capture_parts(alloc, cons, true)?;
+    let octets = join(alloc, captured.as_slice())?;
+    let octets = Bytes::from_vec(octets)?;
+    Ok(OctetString::new(octets))
+}
+
+// A string of more than 1000 octets in segments of 1000, and a last one of 1 to 1000 (9.2).
+fn take_cut<S: Source>(
+    alloc: Global,
+    cons: &mut Constructed<S>,
+) -> Result<OctetString, DecodeError<S::Error>>
+    ensures { ReadsAllAs (λ octets. octets) AreCut (here S.rest cons.old) result (here S.rest cons.new) }
+{
+    let captured = capture_parts(alloc, cons, false)?;
+    let Some(octets) = join_cut(alloc, captured.as_slice())? else {
+        return Err((*cons).content_err(ContentError::from_static("segments of other lengths")));
+    };
+    let octets = Bytes::from_vec(octets)?;
+    Ok(OctetString::new(octets))
+}
+
+// A string in segments, as the mode has it.
+fn take_parts<S: Source>(
+    alloc: Global,
+    cons: &mut Constructed<S>,
+) -> Result<OctetString, DecodeError<S::Error>>
+    ensures { ReadsAllAs (λ octets. octets) (AreParts (here S.rest cons.old).mode) (here S.rest cons.old) result (here S.rest cons.new) }
+{
+    match (*cons).mode() {
+        Mode::Ber => take_nested(alloc, cons),
+        Mode::Cer => take_cut(alloc, cons),
+        Mode::Der => Err((*cons).content_err(ContentError::from_static("a string in segments"))),
+    }
+}
+
+// The content of a string, of either form.
+pub(crate) fn take_content<S: Source>(
+    alloc: Global,
+    content: &mut Content<'_, S>,
+) -> Result<OctetString, DecodeError<S::Error>>
+    ensures { ReadsString S.rest content.old result content.new }
+{
+    if (*content).is_primitive() {
+        return content.primitive(
+            |prim|
+                ensures { ReadsOctetsAs (λ octets. octets) (IsWhole (plain S.rest prim.old).mode) (plain S.rest prim.old) result (plain S.rest prim.new) }
+            { take_whole(alloc, prim) },
+        );
+    }
+    content.constructed(
+        |cons|
+            ensures { ReadsAllAs (λ octets. octets) (AreParts (here S.rest cons.old).mode) (here S.rest cons.old) result (here S.rest cons.new) }
+        { take_parts(alloc, cons) },
+    )
+}

@@ -1,0 +1,146 @@
+//! `OctetString`.
+
+ghost use Rattle.std.specs.Prelude.{◌≡◌, ◌↔◌, [], length, IsTrue, IfOk, IsSomeAnd, OnErr, true};
+ghost use Rattle.bcder_tree.specs.Strings.{octet_string_tag, IsOctetString};
+ghost use Rattle.bcder_content.specs.Exact.{ReadsAs, ReadsOptAs};
+ghost use Rattle.bcder_content.specs.Here.{here};
+ghost use Rattle.bcder_octets.specs.Parts.{ReadsString};
+
+use crate::reading::take_content;
+use bcder_content::Constructed;
+use bcder_content::content::Content;
+use bcder_source::{DecodeError, Source, Tag};
+use bytes::Bytes;
+use std::alloc::{AllocError, Global};
+use std::marker::Model;
+
+/// An OCTET STRING (X.690 8.7), by its octets alone, whatever its segments were. Contracts see the octets.
+///
+/// Equality, order and hash are those of the octets.
+#[derive(Clone, Debug, Default, Drop, PartialEq, Eq, PartialOrd, Ord, Hash)]
+pub struct OctetString {
+    octets: Bytes,
+}
+
+impl Model for OctetString {
+    ghost use Rattle.std.specs.Prelude.{ℕ, List};
+
+    ghost Value = { List ℕ };
+
+    ghost view = { λ a. a.octets };
+
+    ghost inverse = { λ octets. record { octets = octets } };
+}
+
+impl OctetString {
+    /// The string of these octets, which are shared.
+    pub fn new(octets: Bytes) -> OctetString
+        ensures { result ≡ octets }
+    {
+        OctetString { octets }
+    }
+
+    // The octets.
+    pub(crate) fn as_octets(&self) -> &[u8]
+        ensures { result.now ≡ self.now }
+    {
+        self.octets.as_slice()
+    }
+
+    // The octets, shared.
+    pub(crate) fn into_octets(self) -> Bytes
+        ensures { result ≡ self }
+    {
+        self.octets
+    }
+
+    /// How many octets the string has.
+    pub fn len(&self) -> usize
+        ensures { result ≡ length self.now }
+    {
+        self.octets.len()
+    }
+
+    /// Whether the string has no octet.
+    pub fn is_empty(&self) -> bool
+        ensures { IsTrue result ↔ (self.now ≡ []) }
+    {
+        self.octets.len() == 0
+    }
+
+    /// The octets, where they lie in one piece; they always do.
+    pub fn as_slice(&self) -> Option<&[u8]>
+        ensures { IsSomeAnd result (λ octets. octets.now ≡ self.now) }
+    {
+        Some(self.as_octets())
+    }
+
+    /// Whether the string has just these octets.
+    pub fn is_slice(&self, octets: &[u8]) -> bool
+        ensures { IsTrue result ↔ (self.now ≡ octets.now) }
+    {
+        self.octets.as_slice() == octets
+    }
+
+    /// The octets, shared where they lie in one piece.
+    pub fn to_bytes(&self, _alloc: Global) -> Result<Bytes, AllocError>
+        ensures { IfOk result (λ octets. octets ≡ self.now) }
+    {
+        self.octets.clone()
+    }
+
+    /// The octets, shared where they lie in one piece.
+    pub fn into_bytes(self, _alloc: Global) -> Result<Bytes, AllocError>
+        ensures { IfOk result (λ octets. octets ≡ self) }
+    {
+        Ok(self.octets)
+    }
+}
+
+/// Strings that are read.
+impl OctetString {
+    /// The next value, an OCTET STRING (X.690 8.7): in BER primitive, or in segments, nested at will; in CER
+    /// primitive to 1000 octets, else in segments of 1000 (9.2); in DER primitive (10.2).
+    ///
+    /// Any other value is refused.
+    pub fn take_from<S: Source>(
+        alloc: Global,
+        cons: &mut Constructed<S>,
+    ) -> Result<OctetString, DecodeError<S::Error>>
+        ensures reads { ReadsAs (λ octets. octets) (IsOctetString (here S.rest cons.old).mode) (here S.rest cons.old) result (here S.rest cons.new) }
+        ensures failed { OnErr result ((here S.rest cons.new).failed ≡ true) }
+    {
+        cons.take_value_if(
+            Tag::OCTET_STRING,
+            |content|
+                ensures { ReadsString S.rest content.old result content.new }
+            { take_content(alloc, content) },
+        )
+    }
+
+    /// The same, where a value with that tag is next; else nothing is read.
+    pub fn take_opt_from<S: Source>(
+        alloc: Global,
+        cons: &mut Constructed<S>,
+    ) -> Result<Option<OctetString>, DecodeError<S::Error>>
+        ensures reads { ReadsOptAs (λ octets. octets) octet_string_tag (IsOctetString (here S.rest cons.old).mode) (here S.rest cons.old) result (here S.rest cons.new) }
+        ensures failed { OnErr result ((here S.rest cons.new).failed ≡ true) }
+    {
+        cons.take_opt_value_if(
+            Tag::OCTET_STRING,
+            |content|
+                ensures { ReadsString S.rest content.old result content.new }
+            { take_content(alloc, content) },
+        )
+    }
+
+    /// The string whose content that is, whatever its tag: for implicit tags (8.14).
+    pub fn from_content<S: Source>(
+        alloc: Global,
+        content: &mut Content<'_, S>,
+    ) -> Result<OctetString, DecodeError<S::Error>>
+        ensures { ReadsString S.rest content.old result content.new }
+    {
+        take_content(alloc, content)
+    }
+}

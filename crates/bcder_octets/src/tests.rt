@@ -1,0 +1,150 @@
+//! Worked cases of OCTET STRING.
+
+ghost use Rattle.bcder_content.specs.Either.{SameContent};
+
+use crate::OctetString;
+use bcder_content::Decode;
+use bcder_source::{IntoSource, Mode, Source, Tag};
+use bcder_values::Values;
+use bytes::Bytes;
+use std::alloc::{AllocError, Global};
+use std::test::Fail;
+
+// `ab` in segments, one of them empty.
+const AB: [u8; 12] = [
+    0x24, 0x80, 0x04, 0x01, 0x61, 0x04, 0x00, 0x04, 0x01, 0x62, 0x00, 0x00,
+];
+
+// What is read in front of octets; None where they are refused.
+fn read(alloc: Global, mode: Mode, octets: &[u8]) -> Option<OctetString> {
+    mode.decode(octets, |cons| OctetString::take_from(alloc, cons))
+        .ok()
+}
+
+// These octets in a row, so many times `a`, and behind them some more.
+fn around(alloc: Global, front: &[u8], count: usize, behind: &[u8]) -> Result<Vec<u8>, AllocError> {
+    let mut octets = Vec::new(alloc);
+    octets.extend_from_slice(front)?;
+    for _ in 0..count {
+        octets.push(0x61)?;
+    }
+    octets.extend_from_slice(behind)?;
+    Ok(octets)
+}
+
+// string-cases, the part that is read: segments in BER alone.
+#[test]
+fn segments_are_a_string_in_ber_alone(rt: HostRuntime) -> Result<(), Fail> {
+    let alloc = rt.alloc();
+    let string = read(alloc, Mode::Ber, &AB).ok_or("refused")?;
+    assert!(rt; string.is_slice(b"ab"));
+    assert!(rt; read(alloc, Mode::Cer, &AB).is_none());
+    assert!(rt; read(alloc, Mode::Der, &AB).is_none());
+    Ok(())
+}
+
+// string-cases, the part that is read: in CER 1,000 octets stand in one piece, and 1,001 in segments.
+#[test]
+fn cer_cuts_behind_1000_octets(rt: HostRuntime) -> Result<(), Fail> {
+    let alloc = rt.alloc();
+    let whole = around(alloc, &[0x04, 0x82, 0x03, 0xE8], 1000, &[])?;
+    assert_eq!(rt; whole.len(), 1004);
+    let string = read(alloc, Mode::Cer, whole.as_slice()).ok_or("refused")?;
+    assert_eq!(rt; string.len(), 1000);
+    let cut = around(
+        alloc,
+        &[0x24, 0x80, 0x04, 0x82, 0x03, 0xE8],
+        1000,
+        &[0x04, 0x01, 0x62, 0x00, 0x00],
+    )?;
+    assert_eq!(rt; cut.len(), 1011);
+    let string = read(alloc, Mode::Cer, cut.as_slice()).ok_or("refused")?;
+    assert_eq!(rt; string.len(), 1001);
+    assert_eq!(rt; string.octets().last(), Some(0x62));
+    assert!(rt; read(alloc, Mode::Der, cut.as_slice()).is_none());
+    let long = around(alloc, &[0x04, 0x82, 0x03, 0xE9], 1001, &[])?;
+    assert!(rt; read(alloc, Mode::Cer, long.as_slice()).is_none());
+    assert!(rt; read(alloc, Mode::Der, long.as_slice()).is_some());
+    Ok(())
+}
+
+// Segments in each other, of both forms of length; an implicit tag around segments that are OCTET STRINGs.
+#[test]
+fn segments_nest(rt: HostRuntime) -> Result<(), Fail> {
+    let alloc = rt.alloc();
+    let nested = [
+        0x24, 0x0C, 0x24, 0x80, 0x04, 0x01, 0x61, 0x00, 0x00, 0x24, 0x03, 0x04, 0x01, 0x62,
+    ];
+    let string = read(alloc, Mode::Ber, &nested).ok_or("refused")?;
+    assert!(rt; string.is_slice(b"ab"));
+    let other = [0x24, 0x03, 0x0C, 0x01, 0x61];
+    assert!(rt; read(alloc, Mode::Ber, &other).is_none());
+    Ok(())
+}
+
+// The calls on a string in memory.
+#[test]
+fn strings_are_their_octets(rt: HostRuntime) -> Result<(), Fail> {
+    let alloc = rt.alloc();
+    let string = OctetString::new(Bytes::copy_from_slice(alloc, b"abc")?);
+    assert_eq!(rt; string.len(), 3);
+    assert!(rt; !string.is_empty());
+    assert_eq!(rt; string.as_slice(), Some(b"abc".as_slice()));
+    assert!(rt; string.iter().next() == Some(b"abc".as_slice()));
+    assert_eq!(rt; string.octets().count(), 3);
+    let same = string.clone()?;
+    assert!(rt; same == string);
+    assert_eq!(rt; same.to_bytes(alloc)?.as_slice(), b"abc".as_slice());
+    let mut source = same.into_source();
+    assert_eq!(rt; source.take_opt_u8()?, Some(0x61));
+    assert_eq!(rt; string.into_bytes(alloc)?.as_slice(), b"abc".as_slice());
+    assert!(rt; OctetString::default().is_empty());
+    Ok(())
+}
+
+// A string with an implicit tag; none where another tag is next.
+#[test]
+fn implicit_tags(rt: HostRuntime) -> Result<(), Fail> {
+    let alloc = rt.alloc();
+    let octets = [0xA0, 0x03, 0x04, 0x01, 0x61];
+    let found = Mode::Ber.decode(&octets[..], |cons| {
+        let none = OctetString::take_opt_from(alloc, cons)?;
+        let string = cons.take_value_if(
+            Tag::CTX_0,
+            |content|
+                ensures { SameContent content.old content.new }
+            { OctetString::from_content(alloc, content) },
+        )?;
+        Ok((none.is_none(), string))
+    })?;
+    assert!(rt; found.0);
+    assert!(rt; found.1.is_slice(b"a"));
+    Ok(())
+}
+
+// What is written of a string of so many octets, and the string that is read of it.
+fn written(alloc: Global, mode: Mode, count: usize) -> Result<Option<(usize, OctetString)>, Fail> {
+    let octets = around(alloc, &[], count, &[])?;
+    let string = OctetString::new(Bytes::copy_from_slice(alloc, octets.as_slice())?);
+    let text = string.encode_ref().to_captured(alloc, mode)?;
+    let len = string.encode().encoded_len(mode)?;
+    match read(alloc, mode, text.as_slice()) {
+        Some(string) if len == text.as_slice().len() => Ok(Some((len, string))),
+        _ => Ok(None),
+    }
+}
+
+// string-cases, the part that is written: 1,000 octets in 1,004, and in CER 1,001 in 1,011.
+#[test]
+fn cer_writes_segments(rt: HostRuntime) -> Result<(), Fail> {
+    let alloc = rt.alloc();
+    let (len, string) = written(alloc, Mode::Cer, 1000)?.ok_or("other octets")?;
+    assert_eq!(rt; (len, string.len()), (1004, 1000));
+    let (len, string) = written(alloc, Mode::Cer, 1001)?.ok_or("other octets")?;
+    assert_eq!(rt; (len, string.len()), (1011, 1001));
+    let (len, string) = written(alloc, Mode::Der, 1001)?.ok_or("other octets")?;
+    assert_eq!(rt; (len, string.len()), (1005, 1001));
+    let text = OctetString::encode_slice(b"ab".as_slice()).to_captured(alloc, Mode::Ber)?;
+    assert_eq!(rt; text.as_slice(), [0x04, 0x02, 0x61, 0x62].as_slice());
+    Ok(())
+}
