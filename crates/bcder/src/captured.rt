@@ -1,0 +1,4 @@
+//! Values that are kept as they are spelled, and put together of encoded ones.
+
+pub use bcder_content::Captured;
+pub use bcder_values::CapturedBuilder;

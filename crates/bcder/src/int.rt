@@ -1,0 +1,3 @@
+//! INTEGERs of any size.
+
+pub use bcder_number::{Integer, InvalidInteger, OverflowError, Unsigned};

@@ -1,0 +1,33 @@
+//! BER, CER and DER (X.690): values read and written, with integers, object identifiers and strings.
+//!
+//! This is the face of the codec: a port of the Rust crate `bcder` 0.7.7 in which each call is proved to meet its
+//! contract. The parts below it are crates of their own, whose `specs/` have the definitions that contracts cite.
+//!
+//! | Module | Has |
+//! |---|---|
+//! | [`decode`] | sources, contents that closures read, and errors |
+//! | [`encode`] | values that can be written, and how they are put together |
+//! | [`int`] | INTEGERs of any size |
+//! | [`oid`] | object identifiers |
+//! | [`string`] | bit strings, octet strings and character sets |
+//! | [`captured`] | values that are kept as they are spelled |
+//!
+//! What differs from the Rust crate: what takes memory is given an allocator, first of all, and answers a `Result`
+//! (want of memory is an error of its own, and never another answer); nothing panics; a content owns its source;
+//! a refused read leaves its content failed. Each part's page has the rest.
+#![tactic(auto)]
+
+pub mod captured;
+pub mod decode;
+pub mod encode;
+pub mod int;
+pub mod oid;
+pub mod string;
+
+pub use bcder_bits::BitString;
+pub use bcder_content::Captured;
+pub use bcder_number::{Integer, Unsigned};
+pub use bcder_octets::OctetString;
+pub use bcder_oid::{ConstOid, Oid};
+pub use bcder_tree::{Mode, Tag};
+pub use bcder_values::CapturedBuilder;

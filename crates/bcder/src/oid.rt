@@ -1,0 +1,3 @@
+//! Object identifiers.
+
+pub use bcder_oid::oid::{Component, ConstOid, Iter, Oid, ParseOidError};
