@@ -89,6 +89,7 @@ impl<S: Source> Constructed<S> {
     }
 
     // Whether the content has ended, as far as its octets tell.
+    #[inline(always)]
     pub(crate) fn is_ended(&mut self) -> Result<bool, S::Error>
         ensures same { here S.rest self.new ≡ here S.rest self.old }
         ensures told { IfOk result (λ b. IsTrue b ↔ EndsHere (here S.rest self.old).end (octets (here S.rest self.old))) }
@@ -104,6 +105,7 @@ impl<S: Source> Constructed<S> {
     }
 
     // Whether a value of that tag is next.
+    #[inline(always)]
     pub(crate) fn comes(&mut self, tag: Tag) -> Result<bool, DecodeError<S::Error>>
         ensures same { OnOk result (here S.rest self.new ≡ here S.rest self.old) }
         ensures yes { IfOk result (λ b. b ≡ true → Comes (here S.rest self.old) tag) }
@@ -121,6 +123,7 @@ impl<S: Source> Constructed<S> {
     }
 
     // Goes into the value in front: its tag, its form, and what is around it.
+    #[inline(always)]
     pub(crate) fn open(&mut self) -> Result<(Tag, bool, Outer), DecodeError<S::Error>>
         ensures entered { IfOk result (λ r. Enters (here S.rest self.old) r.1 r.0 r.2.span (here S.rest self.new)) }
         ensures form { IfOk result (λ r. self.new.constructed ≡ r.1) }
@@ -156,6 +159,7 @@ impl<S: Source> Constructed<S> {
     }
 
     // Goes into the value in front, where it has that tag and form.
+    #[inline(always)]
     fn open_if(&mut self, tag: Tag, constructed: bool) -> Result<Outer, DecodeError<S::Error>>
         ensures entered { IfOk result (λ outer. Enters (here S.rest self.old) constructed tag outer.span (here S.rest self.new)) }
         ensures around { IfOk result (λ outer. (outer.mode ≡ (here S.rest self.old).mode) × (outer.end ≡ (here S.rest self.old).end)) }
@@ -176,6 +180,7 @@ impl<S: Source> Constructed<S> {
     }
 
     // Goes behind the value whose content was read, all of it.
+    #[inline(always)]
     pub(crate) fn close(&mut self, outer: Outer) -> Result<(), DecodeError<S::Error>>
         ensures left { OnOk result (LeftBy outer.span outer.mode outer.end (here S.rest self.old) (here S.rest self.new)) }
         ensures refused { IfErr result (λ e. OnlyContent e (EndsUnread outer.span (here S.rest self.old).failed (octets (here S.rest self.old)))) }
@@ -202,6 +207,7 @@ impl<S: Source> Constructed<S> {
 /// Values that closures read, all of their content.
 impl<S: Source> Constructed<S> {
     /// A constructed value with that tag, by a closure that reads its values.
+    #[inline(always)]
     pub fn take_constructed_if<
         T: Drop,
         F: FnOnce(&mut Constructed<S>) -> Result<T, DecodeError<S::Error>>,
@@ -229,6 +235,7 @@ impl<S: Source> Constructed<S> {
     }
 
     /// The same, where a value with that tag is next; else nothing is read.
+    #[inline(always)]
     pub fn take_opt_constructed_if<
         T: Drop,
         F: FnOnce(&mut Constructed<S>) -> Result<T, DecodeError<S::Error>>,
@@ -250,6 +257,7 @@ impl<S: Source> Constructed<S> {
     }
 
     /// A primitive value with that tag, by a closure that reads its octets.
+    #[inline(always)]
     pub fn take_primitive_if<
         T: Drop,
         F: FnOnce(&mut Primitive<S>) -> Result<T, DecodeError<S::Error>>,
@@ -277,6 +285,7 @@ impl<S: Source> Constructed<S> {
     }
 
     /// The same, where a value with that tag is next; else nothing is read.
+    #[inline(always)]
     pub fn take_opt_primitive_if<
         T: Drop,
         F: FnOnce(&mut Primitive<S>) -> Result<T, DecodeError<S::Error>>,

@@ -31,6 +31,7 @@ struct Header {
 }
 
 // The header in front of octets.
+#[inline(always)]
 fn read_header(mode: Mode, octets: &[u8]) -> Option<Header>
     ensures found { IfSome result (λ h. Heads mode h.constructed h.tag h.length h.count octets.now) }
     ensures none { IfNone result (NoHead mode octets.now) }
@@ -50,6 +51,7 @@ fn read_header(mode: Mode, octets: &[u8]) -> Option<Header>
 }
 
 // The header in front, left unread.
+#[inline(always)]
 fn peek<S: Source>(mode: Mode, source: &mut LimitedSource<S>) -> Result<Option<Header>, S::Error>
     ensures same { view S.rest source.new ≡ view S.rest source.old }
     ensures found { IfOk result (λ r. IfSome r (λ h. Heads mode h.constructed h.tag h.length h.count (left (view S.rest source.old)))) }
@@ -81,6 +83,7 @@ fn has_indefinite(mode: Mode) -> bool
 }
 
 // The limit behind a header and a content of those lengths, if there is room for them.
+#[inline(always)]
 fn limit_behind(limit: Option<usize>, count: usize, length: usize) -> Option<Option<usize>>
     ensures found { IfSome result (λ outer. limit ≡ more_limit (count + length) outer) }
     ensures none { IfNone result ((outer : Option ℕ) → limit ≡ more_limit (count + length) outer → ⊥) }
@@ -98,6 +101,7 @@ fn limit_behind(limit: Option<usize>, count: usize, length: usize) -> Option<Opt
 }
 
 // How a value with such a header ends, if that mode has such values and there is room for it.
+#[inline(always)]
 fn span_of(
     mode: Mode,
     limit: Option<usize>,
@@ -128,6 +132,7 @@ fn span_of(
 }
 
 // Goes into the value whose header is in front, if that can begin one.
+#[inline(always)]
 fn enter_at<S: Source>(
     mode: Mode,
     source: &mut LimitedSource<S>,
@@ -156,6 +161,7 @@ fn enter_at<S: Source>(
 
 /// Goes into the value in front: from then on its content is what may be read. None where no value
 /// is in front.
+#[inline(always)]
 pub fn enter<S: Source>(
     mode: Mode,
     source: &mut LimitedSource<S>,
@@ -185,6 +191,7 @@ pub fn enter<S: Source>(
 }
 
 /// Whether a value of that tag is in front, as far as its identifier tells.
+#[inline(always)]
 pub fn is_next<S: Source>(source: &mut LimitedSource<S>, tag: Tag) -> Result<bool, S::Error>
     ensures same { view S.rest source.new ≡ view S.rest source.old }
     ensures yes { IfOk result (λ b. IsTrue b → OfTag tag (left (view S.rest source.old))) }
@@ -198,6 +205,7 @@ pub fn is_next<S: Source>(source: &mut LimitedSource<S>, tag: Tag) -> Result<boo
 }
 
 /// Goes behind the value whose content is read, where that has ended.
+#[inline(always)]
 pub fn leave<S: Source>(source: &mut LimitedSource<S>, span: Span) -> Result<bool, S::Error>
     ensures yes { IfOk result (λ b. IsTrue b → Closes span (view S.rest source.old) (view S.rest source.new)) }
     ensures no { IfOk result (λ b. IsFalse b → (w : View) → Closes span (view S.rest source.old) w → ⊥) }

@@ -45,6 +45,7 @@ impl Entry for Locator {
 
     ghost sort_key = { λ l. l.name };
 
+    #[inline(always)]
     fn take_opt<S: Source>(
         alloc: Global,
         cons: &mut Constructed<S>,
@@ -105,6 +106,7 @@ impl Entry for Object {
 
     ghost sort_key = { λ o. o.uri };
 
+    #[inline(always)]
     fn take_opt<S: Source>(
         alloc: Global,
         cons: &mut Constructed<S>,
@@ -166,6 +168,7 @@ impl Entry for Verdict {
 
     ghost sort_key = { verdict_row };
 
+    #[inline(always)]
     fn take_opt<S: Source>(
         alloc: Global,
         cons: &mut Constructed<S>,

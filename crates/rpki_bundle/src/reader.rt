@@ -42,6 +42,7 @@ pub fn is_depth(depth: u8) -> bool
 }
 
 /// The octets of a primitive value with that tag.
+#[inline(always)]
 pub fn take_octets<S: Source>(
     alloc: Global,
     cons: &mut Constructed<S>,
@@ -58,6 +59,7 @@ pub fn take_octets<S: Source>(
 }
 
 /// The name of a locator.
+#[inline(always)]
 pub fn take_name<S: Source>(
     alloc: Global,
     cons: &mut Constructed<S>,
@@ -86,6 +88,7 @@ pub fn take_uri<S: Source>(
 }
 
 // The digest that all octets of a content are.
+#[inline(always)]
 fn digest<S: Source>(prim: &mut Primitive<S>) -> Result<[u8; 32], DecodeError<S::Error>>
     ensures { ReadsOctetsAs (λ digest. digest) IsDigest (plain S.rest prim.old) result (plain S.rest prim.new) }
 {
@@ -105,6 +108,7 @@ fn digest<S: Source>(prim: &mut Primitive<S>) -> Result<[u8; 32], DecodeError<S:
 }
 
 /// A digest, as an OCTET STRING of 32 octets.
+#[inline(always)]
 pub fn take_digest<S: Source>(cons: &mut Constructed<S>) -> Result<[u8; 32], DecodeError<S::Error>>
     ensures { ReadsAs (λ digest. digest) IsDigestString (here S.rest cons.old) result (here S.rest cons.new) }
 {
