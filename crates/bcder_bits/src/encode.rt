@@ -2,9 +2,9 @@
 ghost use Rattle.std.proofs.Common.{rules};
 ghost use Rattle.std.specs.Prelude.{◌≡◌, ◌-◌, ◌^◌, ◌<◌, ◌≤◌, ◌%◌, false, length, IsTrue, IfOk, IfErr, OnOk};
 ghost use Rattle.bcder_tree.specs.Tags.{IsTag};
-ghost use Rattle.bcder_values.specs.Contents.{NoContent, ContentRefused};
-ghost use Rattle.bcder_values.specs.Writing.{HasLength, Wrote, TookFront};
-ghost use Rattle.bcder_values.specs.declared.error.EncodeError.TheVariants.{Write as refusal};
+ghost use Rattle.bcder_written.specs.Contents.{NoContent, ContentRefused};
+ghost use Rattle.bcder_written.specs.Writing.{HasLength, Wrote, TookFront};
+ghost use Rattle.bcder_written.specs.declared.error.EncodeError.TheVariants.{Write as refusal};
 ghost use Rattle.bcder_bits.specs.Bits.{BitsValue, IsBits};
 ghost use Rattle.bcder_bits.specs.Contents.{WritesBits, bit_string_tag, cleared, padded_in};
 ghost use Rattle.bcder_bits.specs.Written.{one_bits};

@@ -4,10 +4,10 @@ use Rattle.std.specs.Prelude.{ℤ, pos, negsuc, Result, Ok, Err, IfErr}
 use Rattle.bcder_tree.specs.declared.mode.Mode.{Mode}
 use Rattle.bcder_tree.specs.declared.mode.Mode.TheVariants.{Cer, Der}
 use Rattle.bcder_primitive.specs.Values.{AnyOctets, IsSigned, IsWithin}
-use Rattle.bcder_values.specs.declared.error.EncodeError.{EncodeError}
-use Rattle.bcder_values.specs.declared.error.EncodeError.TheVariants as errors
-use Rattle.bcder_values.specs.Contents.{NoContent, ContentRefused, BytesRefused}
-use Rattle.bcder_values.specs.Integers.{WritesUnsigned}
+use Rattle.bcder_written.specs.declared.error.EncodeError.{EncodeError}
+use Rattle.bcder_written.specs.declared.error.EncodeError.TheVariants as errors
+use Rattle.bcder_written.specs.Contents.{NoContent, ContentRefused, BytesRefused}
+use Rattle.bcder_written.specs.Integers.{WritesUnsigned}
 use Rattle.bcder_number.specs.Integers.{IsInteger}
 use Rattle.bcder_number.specs.Contents.{content, content_is, few_octets, one_integer, steps}
 

@@ -8,7 +8,7 @@ use Rattle.std.specs.Prelude.{ℤ, pos, negsuc}
 use Rattle.bcder_tree.specs.Integers.{number_behind, number_of, IsShortest, IsPositive}
 use Rattle.bcder_primitive.specs.Values.{IsSigned, IsNegative, IsTwosComplement, IsWithin}
 use Rattle.bcder_primitive.proofs.Numbers.{number_low, number_high, further}
-use Rattle.bcder_values.specs.Integers.{one_signed}
+use Rattle.bcder_written.specs.Integers.{one_signed}
 use Rattle.bcder_number.specs.Integers.{IsInteger, told}
 
 -- How far a number is from 0, or from -1.

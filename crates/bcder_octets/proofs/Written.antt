@@ -8,7 +8,7 @@ use Rattle.bcder_tree.specs.declared.mode.Mode.TheVariants.{Ber, Cer, Der}
 use Rattle.bcder_tree.specs.Tags.{TagValue}
 use Rattle.bcder_tree.specs.Tree.{Trees, primitive, constructed, none, more}
 use Rattle.bcder_tree.specs.Strings.{octet_string_tag, AreCerSegments}
-use Rattle.bcder_values.specs.Encoded.{joined, AreBoth}
+use Rattle.bcder_written.specs.Encoded.{joined, AreBoth}
 use Rattle.bcder_values.specs.Lists.{AreAll}
 use Rattle.bcder_octets.specs.Segments.{rows, segments, IsSegment, AreSegmentsOf, FormTrees, StringTrees}
 use Rattle.bcder_octets.specs.Written.{WrittenString}

@@ -4,7 +4,7 @@ ghost use Rattle.std.specs.Prelude.{◌≡◌, IfOk, IfErr, OnOk};
 ghost use Rattle.bcder_tree.specs.Tags.{IsTag};
 ghost use Rattle.bcder_tree.specs.Strings.{octet_string_tag};
 ghost use Rattle.bcder_octets.specs.Segments.{is_cut as is_cut_of, StringTrees, WritesString, string_spelled, string_one};
-ghost use Rattle.bcder_values.specs.Writing.{HasLength, Wrote, CannotWrite, WriteRefused};
+ghost use Rattle.bcder_written.specs.Writing.{HasLength, Wrote, CannotWrite, WriteRefused};
 
 use crate::pieces::SEGMENT;
 use crate::segments::Segments;
@@ -28,7 +28,7 @@ fn is_cut(mode: Mode, octets: &[u8]) -> bool
 fn string_len(tag: Tag, octets: &[u8], mode: Mode) -> Result<usize, EncodeError>
     requires { IsTag tag }
     ensures len { IfOk result (HasLength (WritesString mode tag octets.now)) }
-    ensures refused { IfErr result (CannotWrite mode (StringTrees mode tag octets.now) (WritesString mode tag octets.now)) }
+    ensures refused { IfErr result (CannotWrite (StringTrees mode tag octets.now) (WritesString mode tag octets.now)) }
 {
     if is_cut(mode, octets) {
         let value = Constructed {
@@ -53,7 +53,7 @@ fn write_string<W: Write>(
 ) -> Result<(), EncodeError>
     requires { IsTag tag }
     ensures written { OnOk result (Wrote (WritesString mode tag octets.now) (W.contents target.old) (W.contents target.new)) }
-    ensures refused { IfErr result (WriteRefused mode (StringTrees mode tag octets.now) (WritesString mode tag octets.now) (target.new ≡ target.old) (W.contents target.old) (W.contents target.new)) }
+    ensures refused { IfErr result (WriteRefused (StringTrees mode tag octets.now) (WritesString mode tag octets.now) (target.new ≡ target.old) (W.contents target.old) (W.contents target.new)) }
 {
     if is_cut(mode, octets) {
         let value = Constructed {

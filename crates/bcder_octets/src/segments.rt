@@ -2,7 +2,7 @@
 
 ghost use Rattle.std.specs.Prelude.{◌≡◌, ◌<◌, [], ◌∷◌, length, IfOk, IfErr, IfSome, IfNone, OnOk};
 ghost use Rattle.bcder_octets.specs.Segments.{segments, IsSegment, WritesSegment, AreSegmentsOf, WritesSegments, segments_spelled, segments_one};
-ghost use Rattle.bcder_values.specs.Writing.{HasLength, Wrote, CannotWrite, WriteRefused};
+ghost use Rattle.bcder_written.specs.Writing.{HasLength, Wrote, CannotWrite, WriteRefused};
 
 use crate::pieces::SEGMENT;
 use bcder_source::{Mode, Tag};
@@ -34,7 +34,7 @@ fn first_segment<'a>(octets: &'a [u8]) -> Option<(&'a [u8], &'a [u8])>
 // How many octets a segment has when it is written.
 fn segment_len(segment: &[u8], mode: Mode) -> Result<usize, EncodeError>
     ensures len { IfOk result (HasLength (WritesSegment mode segment.now)) }
-    ensures refused { IfErr result (CannotWrite mode (IsSegment segment.now) (WritesSegment mode segment.now)) }
+    ensures refused { IfErr result (CannotWrite (IsSegment segment.now) (WritesSegment mode segment.now)) }
 {
     let value = Primitive {
         tag: Tag::OCTET_STRING,
@@ -46,7 +46,7 @@ fn segment_len(segment: &[u8], mode: Mode) -> Result<usize, EncodeError>
 // Writes one segment.
 fn write_segment<W: Write>(segment: &[u8], mode: Mode, target: &mut W) -> Result<(), EncodeError>
     ensures written { OnOk result (Wrote (WritesSegment mode segment.now) (W.contents target.old) (W.contents target.new)) }
-    ensures refused { IfErr result (WriteRefused mode (IsSegment segment.now) (WritesSegment mode segment.now) (target.new ≡ target.old) (W.contents target.old) (W.contents target.new)) }
+    ensures refused { IfErr result (WriteRefused (IsSegment segment.now) (WritesSegment mode segment.now) (target.new ≡ target.old) (W.contents target.old) (W.contents target.new)) }
 {
     let value = Primitive {
         tag: Tag::OCTET_STRING,
@@ -58,7 +58,7 @@ fn write_segment<W: Write>(segment: &[u8], mode: Mode, target: &mut W) -> Result
 // How many octets all segments have when they are written.
 fn segments_len(octets: &[u8], mode: Mode) -> Result<usize, EncodeError>
     ensures len { IfOk result (HasLength (WritesSegments mode octets.now)) }
-    ensures refused { IfErr result (CannotWrite mode (AreSegmentsOf octets.now) (WritesSegments mode octets.now)) }
+    ensures refused { IfErr result (CannotWrite (AreSegmentsOf octets.now) (WritesSegments mode octets.now)) }
 {
     let mut sum = 0usize;
     let mut rest = octets;
@@ -76,7 +76,7 @@ fn segments_len(octets: &[u8], mode: Mode) -> Result<usize, EncodeError>
 // Writes all segments, or nothing where `segments_len` refuses.
 fn write_segments<W: Write>(octets: &[u8], mode: Mode, target: &mut W) -> Result<(), EncodeError>
     ensures written { OnOk result (Wrote (WritesSegments mode octets.now) (W.contents target.old) (W.contents target.new)) }
-    ensures refused { IfErr result (WriteRefused mode (AreSegmentsOf octets.now) (WritesSegments mode octets.now) (target.new ≡ target.old) (W.contents target.old) (W.contents target.new)) }
+    ensures refused { IfErr result (WriteRefused (AreSegmentsOf octets.now) (WritesSegments mode octets.now) (target.new ≡ target.old) (W.contents target.old) (W.contents target.new)) }
 {
     segments_len(octets, mode)?;
     let mut rest = octets;

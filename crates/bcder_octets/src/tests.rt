@@ -5,7 +5,7 @@ ghost use Rattle.bcder_content.specs.Either.{SameContent};
 use crate::OctetString;
 use bcder_content::Decode;
 use bcder_source::{IntoSource, Mode, Source, Tag};
-use bcder_values::Values;
+use bcder_values::{EncodeError, PrimitiveContent, Values, sequence};
 use bytes::Bytes;
 use std::alloc::{AllocError, Global};
 use std::test::Fail;
@@ -146,5 +146,41 @@ fn cer_writes_segments(rt: HostRuntime) -> Result<(), Fail> {
     assert_eq!(rt; (len, string.len()), (1005, 1001));
     let text = OctetString::encode_slice(b"ab".as_slice()).to_captured(alloc, Mode::Ber)?;
     assert_eq!(rt; text.as_slice(), [0x04, 0x02, 0x61, 0x62].as_slice());
+    Ok(())
+}
+
+// Values in a string, as OpenSSL writes it (`asn1parse -genconf`, OCTWRAP); and by hand after X.690 9.1, with values
+// of CER in a string with an implicit tag.
+#[test]
+fn values_in_a_string(rt: HostRuntime) -> Result<(), Fail> {
+    let alloc = rt.alloc();
+    let values = sequence((true.encode(), 300_u16.encode()));
+    let string = OctetString::encode_wrapped(Mode::Der, values);
+    let want = b"\x04\x09\x30\x07\x01\x01\xFF\x02\x02\x01\x2C".as_slice();
+    for mode in [Mode::Ber, Mode::Der] {
+        assert_eq!(rt; string.to_captured(alloc, mode)?.as_slice(), want);
+        assert_eq!(rt; string.encoded_len(mode), Ok(11));
+    }
+    let values = sequence(true.encode());
+    let other = OctetString::encode_wrapped_as(Mode::Cer, values, Tag::CTX_1);
+    let want = b"\x81\x07\x30\x80\x01\x01\xFF\x00\x00".as_slice();
+    assert_eq!(rt; other.to_captured(alloc, Mode::Ber)?.as_slice(), want);
+    Ok(())
+}
+
+// A string around values is refused in CER, and so is one that holds such a string, written in CER.
+#[test]
+fn no_values_are_wrapped_in_cer(rt: HostRuntime) -> Result<(), Fail> {
+    let mut octets: Vec<u8> = Vec::new(rt.alloc());
+    let refused = Err(EncodeError::CerUnsupported);
+    let string = OctetString::encode_wrapped(Mode::Der, true.encode());
+    assert_eq!(rt;
+        string.encoded_len(Mode::Cer),
+        Err(EncodeError::CerUnsupported)
+    );
+    assert_eq!(rt; string.write_encoded(Mode::Cer, &mut octets), refused);
+    let around = OctetString::encode_wrapped(Mode::Cer, string);
+    assert_eq!(rt; around.write_encoded(Mode::Ber, &mut octets), refused);
+    assert!(rt; octets.is_empty());
     Ok(())
 }

@@ -3,7 +3,7 @@
 ghost use Rattle.std.proofs.Common.{rules};
 ghost use Rattle.bcder_tree.specs.Tags.{universal};
 ghost use Rattle.bcder_primitive.specs.Values.{AnyOctets};
-ghost use Rattle.bcder_values.specs.Simple.{one_string};
+ghost use Rattle.bcder_written.specs.Simple.{one_string};
 
 use crate::oid::Oid;
 use bcder_tree::{Mode, Tag};

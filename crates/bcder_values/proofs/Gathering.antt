@@ -3,9 +3,9 @@ use Rattle.std.proofs.Common.{◌≡◌, ℕ, List, [], sym, subst, Some}
 use Rattle.bcder_tree.specs.declared.mode.Mode.{Mode}
 use Rattle.bcder_tree.specs.Tree.{Trees, none, SpellsAll}
 use Rattle.bcder_content.specs.Kept.{SpellsValues}
-use Rattle.bcder_values.specs.Encoded.{joined, SpellsSome}
+use Rattle.bcder_written.specs.Encoded.{joined, SpellsSome}
 use Rattle.bcder_values.specs.Laws.{joined_spelled}
-use Rattle.bcder_values.specs.Writing.{Wrote}
+use Rattle.bcder_written.specs.Writing.{Wrote}
 
 pub no_values : (m : Mode) (octets : List ℕ) → octets ≡ [] → SpellsValues m octets
 no_values m octets e = record { trees = none; spelled = e }

@@ -1,9 +1,4 @@
-pub mod Pieces
-pub mod Headers
-pub mod Compose
 pub mod Wrapping
 pub mod Gathering
 pub mod Returning
 pub mod Lists
-pub mod Numbers
-pub mod Booleans

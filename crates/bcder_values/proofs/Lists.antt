@@ -1,17 +1,16 @@
 -- Lists of values, of which a front was written.
 use Rattle.std.proofs.Common.{◌≡◌, ℕ, ◌^◌, ◌<◌, ◌≤◌, ◌+◌, List, [], ◌∷◌, ◌++◌, length, refl, sym, ap, ◌∙◌, append_assoc, append-nil, subst, arith}
 use Rattle.std.specs.Prelude.{Option}
-use Rattle.bcder_tree.specs.declared.mode.Mode.{Mode}
 use Rattle.bcder_tree.specs.Tree.{Trees}
-use Rattle.bcder_values.specs.declared.error.EncodeError.{EncodeError}
-use Rattle.bcder_values.specs.declared.error.EncodeError.TheVariants as errors
-use Rattle.bcder_values.specs.Encoded.{WritesBoth}
+use Rattle.bcder_written.specs.declared.error.EncodeError.{EncodeError}
+use Rattle.bcder_written.specs.declared.error.EncodeError.TheVariants as errors
+use Rattle.bcder_written.specs.Encoded.{WritesBoth}
 use Rattle.bcder_values.specs.Choices.{nothing_one}
 use Rattle.bcder_values.specs.Laws.{both_one}
 use Rattle.bcder_values.specs.Lists.{AreAll, WritesAll}
-use Rattle.bcder_values.specs.Writing.{HasLength, Wrote, CannotWrite}
-use Rattle.bcder_values.proofs.Compose.{has_both, too_many, both_length}
-use Rattle.bcder_values.proofs.Pieces.{wrote_as, wrote_both}
+use Rattle.bcder_written.specs.Writing.{HasLength, Wrote, CannotWrite}
+use Rattle.bcder_written.proofs.Compose.{has_both, too_many, both_length}
+use Rattle.bcder_written.proofs.Pieces.{wrote_as, wrote_both}
 use Rattle.bcder_values.proofs.Wrapping.{has_as}
 
 -- A list is written as its front, and behind that what follows.
@@ -55,15 +54,15 @@ tree_among T [] x ys ts a = (a.first, a.is_first)
 tree_among T (y ∷ xs) x ys ts a = tree_among T xs x ys a.second a.is_second
 
 -- All can't be written where one of them can't.
-pub one_cannot : {V : Type 0} (m : Mode) (T : V → Trees → Type 0) (P : V → List ℕ → Type 0) (xs : List V) (x : V) (ys : List V) (e : EncodeError) → CannotWrite m (T x) (P x) e → CannotWrite m (AreAll T (xs ++ (x ∷ ys))) (WritesAll P (xs ++ (x ∷ ys))) e
-one_cannot m T P xs x ys errors.CerUnsupported h = (h.0, λ ts a. let t = tree_among T xs x ys ts a in h.1 t.0 t.1)
-one_cannot m T P xs x ys errors.TooLong h = λ text w few.
+pub one_cannot : {V : Type 0} (T : V → Trees → Type 0) (P : V → List ℕ → Type 0) (xs : List V) (x : V) (ys : List V) (e : EncodeError) → CannotWrite (T x) (P x) e → CannotWrite (AreAll T (xs ++ (x ∷ ys))) (WritesAll P (xs ++ (x ∷ ys))) e
+one_cannot T P xs x ys errors.CerUnsupported h = λ ts a. let t = tree_among T xs x ys ts a in h t.0 t.1
+one_cannot T P xs x ys errors.TooLong h = λ text w few.
     let s = all_split P xs (x ∷ ys) text w in
     let outer = both_length text s in
     let inner = both_length s.second s.is_second in
     h s.is_second.first s.is_second.is_first (omega arith)
-one_cannot m T P xs x ys errors.Write h = h
-one_cannot m T P xs x ys errors.Memory h = h
+one_cannot T P xs x ys errors.Write h = h
+one_cannot T P xs x ys errors.Memory h = h
 
 -- What is written of one more is always the same, too.
 pub one_more : {V : Type 0} (P : V → List ℕ → Type 0) (xs : List V) (x : V) → ((a b : List ℕ) → WritesAll P xs a → WritesAll P xs b → a ≡ b) → ((a b : List ℕ) → P x a → P x b → a ≡ b)

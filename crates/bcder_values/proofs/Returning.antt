@@ -7,7 +7,7 @@ use Rattle.bcder_tree.proofs.Canonical.{one_spellings}
 use Rattle.bcder_source.specs.Views.{Moved}
 use Rattle.bcder_content.specs.Contents.{Whole, TookAll, octets}
 use Rattle.bcder_content.specs.Ran.{fresh}
-use Rattle.bcder_values.specs.Encoded.{SpellsSome}
+use Rattle.bcder_written.specs.Encoded.{SpellsSome}
 use Rattle.bcder_values.specs.Returns.{ReadAgain, WrittenAlone}
 
 all_read : (m : Mode) (ts : Trees) (text : List ℕ) → SpellsAll m ts text → Whole (fresh m text) ts

@@ -1,13 +1,7 @@
-pub mod Writing
-pub mod Headers
-pub mod Encoded
 pub mod Laws
 pub mod Frames
 pub mod Wraps
-pub mod Contents
 pub mod Plains
-pub mod Integers
-pub mod Simple
 pub mod Choices
 pub mod Captures
 pub mod Gathered

@@ -6,7 +6,7 @@ use Rattle.bcder_tree.specs.Tags.{TagValue}
 use Rattle.bcder_tree.specs.Tree.{primitive, none, more, IsPrimitive}
 use Rattle.bcder_tree.proofs.Modes.{ber_header}
 use Rattle.bcder_tree.proofs.Canonical.{spelled_header}
-use Rattle.bcder_values.specs.Encoded.{written_as, IsPlain, WritesPlain, SpellsSome}
+use Rattle.bcder_written.specs.Encoded.{written_as, IsPlain, WritesPlain, SpellsSome}
 use Rattle.bcder_values.specs.Wraps.{one_spelled}
 
 -- The form that is written stands in the mode.

@@ -1,15 +1,15 @@
 //! Captured octets that are written, and values that are gathered as such.
 
 ghost use Rattle.std.specs.Prelude.{◌≡◌, [], IfOk, IfErr, OnOk};
-ghost use Rattle.bcder_values.specs.Gathered.{Extended, ExtendRefused, FillRefused};
+ghost use Rattle.bcder_values.specs.Gathered.{Extended, ExtendRefused};
 ghost use Rattle.bcder_values.specs.Captures.{StandsIn, CapturedTrees, CapturedText, captured_spelled, captured_one};
-ghost use Rattle.bcder_values.specs.declared.error.EncodeError.TheVariants.{Memory as memory_refused};
+ghost use Rattle.bcder_written.specs.declared.error.EncodeError.TheVariants.{Memory as memory_refused};
 ghost use Rattle.std.specs.Prelude.{◌↔◌, IsTrue};
 
-use crate::write::write_octets;
-use crate::{EncodeError, Values};
+use crate::Values;
 use bcder_content::Captured;
 use bcder_tree::Mode;
+use bcder_written::{EncodeError, write_octets};
 use bytes::Bytes;
 use std::alloc::Global;
 use std::io::Write;
@@ -66,16 +66,6 @@ impl Model for CapturedBuilder {
     ghost invariant = { λ a. SpellsValues a.mode a.octets.items };
 }
 
-// A refusal of a writer that is memory.
-pub(crate) fn filled(error: EncodeError) -> EncodeError
-    ensures { FillRefused error result }
-{
-    match error {
-        EncodeError::Write => EncodeError::Memory,
-        other => other,
-    }
-}
-
 impl CapturedBuilder {
     /// No values yet, in that mode.
     pub fn new(alloc: Global, mode: Mode) -> CapturedBuilder
@@ -121,7 +111,7 @@ impl CapturedBuilder {
     /// Where `encoded_len` refuses them, or memory is wanted and refused, the builder is as it was.
     pub fn extend<V: Values>(&mut self, values: &V) -> Result<(), EncodeError>
         ensures extended { OnOk result (Extended (V.writes values.now self.old.mode) self.old self.new) }
-        ensures refused { IfErr result (ExtendRefused self.old.mode (V.trees values.now self.old.mode) (V.writes values.now self.old.mode)) }
+        ensures refused { IfErr result (ExtendRefused (V.trees values.now self.old.mode) (V.writes values.now self.old.mode)) }
         ensures kept { IfErr result (λ e. self.new ≡ self.old) }
     {
         let before = self.octets.len();
@@ -129,7 +119,7 @@ impl CapturedBuilder {
             Ok(()) => Ok(()),
             Err(error) => {
                 self.octets.truncate(before);
-                Err(filled(error))
+                Err(error.of_memory())
             }
         }
     }

@@ -3,9 +3,9 @@
 ghost use Rattle.std.specs.Prelude.{◌≡◌, ◌↔◌, ℕ, List, IfOk, IfErr, OnOk};
 ghost use Rattle.bcder_tree.specs.declared.mode.Mode.{Mode as ModeValue};
 ghost use Rattle.bcder_tree.specs.Tree.{Trees};
-ghost use Rattle.bcder_values.specs.Encoded.{SpellsSome};
+ghost use Rattle.bcder_written.specs.Encoded.{SpellsSome};
 ghost use Rattle.bcder_values.specs.Lists.{AreAll, WritesAll, all_spelled, all_one};
-ghost use Rattle.bcder_values.specs.Writing.{HasLength, Wrote, CannotWrite, WriteRefused};
+ghost use Rattle.bcder_written.specs.Writing.{HasLength, Wrote, CannotWrite, WriteRefused};
 
 use crate::{EncodeError, Values};
 use bcder_tree::Mode;
@@ -69,7 +69,7 @@ fn len_of_item<'a, U, E: Encodes<'a, U>>(
     mode: Mode,
 ) -> Result<usize, EncodeError>
     ensures len { IfOk result (HasLength (E.writes by.now item.now mode)) }
-    ensures refused { IfErr result (CannotWrite mode (E.trees by.now item.now mode) (E.writes by.now item.now mode)) }
+    ensures refused { IfErr result (CannotWrite (E.trees by.now item.now mode) (E.writes by.now item.now mode)) }
     ensures one { (a b : List ℕ) → E.writes by.now item.now mode a → E.writes by.now item.now mode b → a ≡ b }
 {
     let values = by.values_of(item);
@@ -84,7 +84,7 @@ fn write_item<'a, U, E: Encodes<'a, U>, W: Write>(
     target: &mut W,
 ) -> Result<(), EncodeError>
     ensures written { OnOk result (Wrote (E.writes by.now item.now mode) (W.contents target.old) (W.contents target.new)) }
-    ensures refused { IfErr result (WriteRefused mode (E.trees by.now item.now mode) (E.writes by.now item.now mode) (target.new ≡ target.old) (W.contents target.old) (W.contents target.new)) }
+    ensures refused { IfErr result (WriteRefused (E.trees by.now item.now mode) (E.writes by.now item.now mode) (target.new ≡ target.old) (W.contents target.old) (W.contents target.new)) }
     ensures spelled { (text : List ℕ) → E.writes by.now item.now mode text → SpellsSome mode (E.trees by.now item.now mode) text }
 {
     let values = by.values_of(item);
@@ -98,7 +98,7 @@ pub(crate) fn len_of_each<'a, U, E: Encodes<'a, U>>(
     mode: Mode,
 ) -> Result<usize, EncodeError>
     ensures len { IfOk result (HasLength (WritesAll (λ x. E.writes by.now x mode) items.now)) }
-    ensures refused { IfErr result (CannotWrite mode (AreAll (λ x. E.trees by.now x mode) items.now) (WritesAll (λ x. E.writes by.now x mode) items.now)) }
+    ensures refused { IfErr result (CannotWrite (AreAll (λ x. E.trees by.now x mode) items.now) (WritesAll (λ x. E.writes by.now x mode) items.now)) }
 {
     let mut sum = 0usize;
     let mut rest = items;
@@ -121,7 +121,7 @@ pub(crate) fn write_each<'a, U, E: Encodes<'a, U>, W: Write>(
     target: &mut W,
 ) -> Result<(), EncodeError>
     ensures written { OnOk result (Wrote (WritesAll (λ x. E.writes by.now x mode) items.now) (W.contents target.old) (W.contents target.new)) }
-    ensures refused { IfErr result (WriteRefused mode (AreAll (λ x. E.trees by.now x mode) items.now) (WritesAll (λ x. E.writes by.now x mode) items.now) (target.new ≡ target.old) (W.contents target.old) (W.contents target.new)) }
+    ensures refused { IfErr result (WriteRefused (AreAll (λ x. E.trees by.now x mode) items.now) (WritesAll (λ x. E.writes by.now x mode) items.now) (target.new ≡ target.old) (W.contents target.old) (W.contents target.new)) }
 {
     len_of_each(by, items, mode)?;
     let mut rest = items;

@@ -3,6 +3,9 @@
 ghost use Rattle.std.specs.Prelude.{◌≢◌, List, ℕ};
 ghost use Rattle.bcder_tree.specs.declared.mode.Mode.{Mode as ModeValue};
 ghost use Rattle.bcder_tree.specs.declared.mode.Mode.TheVariants.{Ber};
+ghost use Rattle.bcder_tree.specs.Tree.{Trees};
+ghost use Rattle.bcder_written.specs.Writing.{CannotWrite};
+ghost use Rattle.bcder_written.specs.declared.error.EncodeError.TheVariants.{CerUnsupported as cer_unsupported};
 ghost use Rattle.bcder_values.specs.Returns.{ReadAgain, WrittenAlone};
 
 use crate::Values;
@@ -16,4 +19,10 @@ pub fn what_is_written_is_read<V: Values>()
 /// In CER and in DER nothing else spells them.
 pub fn only_spelling<V: Values>()
     ensures { (x : V) (m : ModeValue) (text : List ℕ) → m ≢ Ber → V.writes x m text → WrittenAlone m (V.trees x m) text }
+{}
+
+/// Values that have a form in a mode aren't refused there as `CerUnsupported`: in BER just where they hold what has
+/// none in a mode of its own.
+pub fn refused_without_a_form<V: Values>()
+    ensures { (x : V) (m : ModeValue) (ts : Trees) → V.trees x m ts → CannotWrite (V.trees x m) (V.writes x m) cer_unsupported → ⊥ }
 {}

@@ -4,29 +4,23 @@
 pub mod captured;
 pub mod choice;
 pub mod constructed;
-pub mod error;
 mod frame;
-pub mod header;
-pub mod integers;
 pub mod items;
 pub mod laws;
 pub mod list;
-pub mod primitive;
-pub mod simple;
+mod plain;
 pub mod tuples;
 pub mod values;
 pub mod walk;
-mod write;
 
+pub use bcder_written::{
+    EncodeError, Octets, Primitive, PrimitiveContent, error, header, integers, primitive, simple,
+    total_encoded_len, write_header, write_octets,
+};
 pub use captured::CapturedBuilder;
 pub use choice::{Choice2, Choice3, Nothing};
 pub use constructed::{Constructed, sequence, sequence_as, set, set_as};
-pub use error::EncodeError;
-pub use header::{total_encoded_len, write_header};
 pub use items::{Encodes, Itself, Slice};
 pub use list::{iter, slice};
-pub use primitive::{Primitive, PrimitiveContent};
-pub use simple::Octets;
 pub use values::Values;
 pub use walk::{Iter, Walk};
-pub use write::write_octets;

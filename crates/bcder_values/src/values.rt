@@ -4,9 +4,9 @@ ghost use Rattle.std.specs.Prelude.{◌≡◌, ℕ, List, IfOk, IfErr, OnOk};
 ghost use Rattle.bcder_tree.specs.declared.mode.Mode.{Mode as ModeValue};
 ghost use Rattle.bcder_tree.specs.Tree.{Trees};
 ghost use Rattle.bcder_tree.specs.Tags.{IsTag};
-ghost use Rattle.bcder_values.specs.Encoded.{SpellsSome};
+ghost use Rattle.bcder_written.specs.Encoded.{SpellsSome};
 ghost use Rattle.bcder_values.specs.Gathered.{ExtendRefused};
-ghost use Rattle.bcder_values.specs.Writing.{HasLength, Wrote, CannotWrite, WriteRefused};
+ghost use Rattle.bcder_written.specs.Writing.{HasLength, Wrote, CannotWrite, WriteRefused};
 
 use crate::{CapturedBuilder, Constructed, EncodeError};
 use bcder_content::Captured;
@@ -25,11 +25,11 @@ pub trait Values {
 
     /// How many octets are written.
     ///
-    /// `CerUnsupported` where it has no form in CER, and `TooLong` where a content has more than 2^32 - 1
-    /// octets, or all octets are more than can be counted.
+    /// `CerUnsupported` where they have no form in the mode, as some in CER, and `TooLong` where a content has more
+    /// than 2^32 - 1 octets, or all octets are more than can be counted.
     fn encoded_len(&self, mode: Mode) -> Result<usize, EncodeError>
         ensures len { IfOk result (HasLength (writes self.now mode)) }
-        ensures refused { IfErr result (CannotWrite mode (trees self.now mode) (writes self.now mode)) };
+        ensures refused { IfErr result (CannotWrite (trees self.now mode) (writes self.now mode)) };
 
     /// Writes the values.
     ///
@@ -37,7 +37,7 @@ pub trait Values {
     /// taken a front of the octets.
     fn write_encoded<W: Write>(&self, mode: Mode, target: &mut W) -> Result<(), EncodeError>
         ensures written { OnOk result (Wrote (writes self.now mode) (W.contents target.old) (W.contents target.new)) }
-        ensures refused { IfErr result (WriteRefused mode (trees self.now mode) (writes self.now mode) (target.new ≡ target.old) (W.contents target.old) (W.contents target.new)) };
+        ensures refused { IfErr result (WriteRefused (trees self.now mode) (writes self.now mode) (target.new ≡ target.old) (W.contents target.old) (W.contents target.new)) };
 
     /// The values within a constructed value of that tag: an explicit tag (X.690 8.14).
     final fn explicit(self, tag: Tag) -> Constructed<Self>
@@ -56,7 +56,7 @@ pub trait Values {
         Self: Sized,
         ensures captured { IfOk result (λ c. writes self.now mode c.octets) }
         ensures mode { IfOk result (λ c. c.mode ≡ mode) }
-        ensures refused { IfErr result (ExtendRefused mode (trees self.now mode) (writes self.now mode)) }
+        ensures refused { IfErr result (ExtendRefused (trees self.now mode) (writes self.now mode)) }
     {
         let len = self.encoded_len(mode)?;
         let mut builder = CapturedBuilder::with_capacity(alloc, len, mode)?;

@@ -2,7 +2,7 @@
 
 ghost use Rattle.std.specs.Prelude.{◌≡◌, [], ◌∷◌, List, MatchOption, IfOk, IfErr, OnOk};
 ghost use Rattle.bcder_values.specs.Lists.{AreAll, WritesAll, all_spelled, all_one};
-ghost use Rattle.bcder_values.specs.Writing.{HasLength, Wrote, CannotWrite, WriteRefused};
+ghost use Rattle.bcder_written.specs.Writing.{HasLength, Wrote, CannotWrite, WriteRefused};
 
 use crate::{EncodeError, Values};
 use bcder_tree::Mode;
@@ -35,7 +35,7 @@ pub struct Iter<T>(pub T);
 // How many octets all values have together.
 fn len_of_walk<T: Walk>(walk: &T, mode: Mode) -> Result<usize, EncodeError>
     ensures len { IfOk result (HasLength (WritesAll (λ v. T.Item.writes v mode) (T.items walk.now))) }
-    ensures refused { IfErr result (CannotWrite mode (AreAll (λ v. T.Item.trees v mode) (T.items walk.now)) (WritesAll (λ v. T.Item.writes v mode) (T.items walk.now))) }
+    ensures refused { IfErr result (CannotWrite (AreAll (λ v. T.Item.trees v mode) (T.items walk.now)) (WritesAll (λ v. T.Item.writes v mode) (T.items walk.now))) }
 {
     let mut sum = 0usize;
     let mut rest = walk.again();
@@ -52,7 +52,7 @@ fn len_of_walk<T: Walk>(walk: &T, mode: Mode) -> Result<usize, EncodeError>
 // Writes all values, or nothing where `len_of_walk` refuses.
 fn write_walk<T: Walk, W: Write>(walk: &T, mode: Mode, target: &mut W) -> Result<(), EncodeError>
     ensures written { OnOk result (Wrote (WritesAll (λ v. T.Item.writes v mode) (T.items walk.now)) (W.contents target.old) (W.contents target.new)) }
-    ensures refused { IfErr result (WriteRefused mode (AreAll (λ v. T.Item.trees v mode) (T.items walk.now)) (WritesAll (λ v. T.Item.writes v mode) (T.items walk.now)) (target.new ≡ target.old) (W.contents target.old) (W.contents target.new)) }
+    ensures refused { IfErr result (WriteRefused (AreAll (λ v. T.Item.trees v mode) (T.items walk.now)) (WritesAll (λ v. T.Item.writes v mode) (T.items walk.now)) (target.new ≡ target.old) (W.contents target.old) (W.contents target.new)) }
 {
     len_of_walk(walk, mode)?;
     let mut rest = walk.again();

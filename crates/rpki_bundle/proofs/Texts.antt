@@ -18,8 +18,8 @@ use Rattle.rpki_bundle.specs.declared.parts.Verdict.{Verdict}
 use Rattle.rpki_bundle.specs.Times.{IsMoment}
 use Rattle.rpki_bundle.specs.Lawful.{IsLawfulLocator, IsLawfulObject, IsLawfulVerdict, IsLawful}
 use Rattle.rpki_bundle.proofs.BundleGrammar.{locator_name, uri_plain}
-use Rattle.bcder_values.specs.declared.error.EncodeError.{EncodeError}
-use Rattle.bcder_values.specs.Writing.{Wrote, CannotWrite}
+use Rattle.bcder_written.specs.declared.error.EncodeError.{EncodeError}
+use Rattle.bcder_written.specs.Writing.{Wrote, CannotWrite}
 use Rattle.rpki_bundle.specs.Written.{AreBundle, WritesBundle}
 use Rattle.rpki_bundle.proofs.Moments.{one_text}
 use Rattle.rpki_bundle.proofs.Writing.{wrote_bundle, never_refused}
@@ -186,5 +186,5 @@ pub wrote_view : (text : List ℕ) (b v : BundleValue) (old new : List ℕ) → 
 wrote_view text b v old new view l m e h = subst (λ (z : BundleValue). BundleText new z) view (wrote_text text b old new l m e h)
 
 -- A lawful bundle is never refused.
-pub lawful_written : (text : List ℕ) (b : BundleValue) (e : EncodeError) → IsLawful b → IsMoment text b.moment → CannotWrite Der (AreBundle text b Der) (WritesBundle text b Der) e → ⊥
+pub lawful_written : (text : List ℕ) (b : BundleValue) (e : EncodeError) → IsLawful b → IsMoment text b.moment → CannotWrite (AreBundle text b Der) (WritesBundle text b Der) e → ⊥
 lawful_written text b e l m h = never_refused text b e (omega (arith, l.greatest)) (by_text l text m).0 h

@@ -8,15 +8,15 @@ use Rattle.bcder_tree.specs.Tree.{Tree, primitive, Spells, IsConstructed, defini
 use Rattle.bcder_tree.specs.Front.{Splits}
 use Rattle.bcder_tree.specs.Integers.{IsNumber}
 use Rattle.bcder_tree.proofs.Integers.{small_number, number_small}
-use Rattle.bcder_values.specs.declared.error.EncodeError.{EncodeError}
-use Rattle.bcder_values.specs.declared.error.EncodeError.TheVariants.{CerUnsupported, TooLong, Write, Memory}
-use Rattle.bcder_values.specs.Encoded.{WritesWrapped, WritesBoth, SpellsSome}
-use Rattle.bcder_values.specs.Integers.{WritesUnsigned}
+use Rattle.bcder_written.specs.declared.error.EncodeError.{EncodeError}
+use Rattle.bcder_written.specs.declared.error.EncodeError.TheVariants.{CerUnsupported, TooLong, Write, Memory}
+use Rattle.bcder_written.specs.Encoded.{WritesWrapped, WritesBoth, SpellsSome}
+use Rattle.bcder_written.specs.Integers.{WritesUnsigned}
 use Rattle.bcder_values.specs.Laws.{both_spelled}
 use Rattle.bcder_values.specs.Lists.{WritesAll, all_spelled}
 use Rattle.bcder_values.specs.Plains.{plain_spelled}
 use Rattle.bcder_values.specs.Wraps.{wrapped_spelled}
-use Rattle.bcder_values.specs.Writing.{HasLength, CannotWrite}
+use Rattle.bcder_written.specs.Writing.{HasLength, CannotWrite}
 use Rattle.rpki_bundle.specs.declared.parts.Locator.{Locator}
 use Rattle.rpki_bundle.specs.declared.parts.Object.{Object}
 use Rattle.rpki_bundle.specs.declared.parts.Verdict.{Verdict}
@@ -207,8 +207,8 @@ bundle_spells text b =
     (wrapped_spelled Der (all_spelled Der (λ v o w. triple_spelled Der o w) b.verdicts)))))))
 
 -- A bundle whose members fit a length is never refused,
-pub never_refused : (text : List ℕ) (b : BundleValue) (e : EncodeError) → b.depth < 128 → length (members_octets text b) < 2 ^ 32 → CannotWrite Der (AreBundle text b Der) (WritesBundle text b Der) e → ⊥
-never_refused text b CerUnsupported low fits h = let s = bundle_spells text b _ (bundle_written text b low fits) in h.1 s.trees s.is
+pub never_refused : (text : List ℕ) (b : BundleValue) (e : EncodeError) → b.depth < 128 → length (members_octets text b) < 2 ^ 32 → CannotWrite (AreBundle text b Der) (WritesBundle text b Der) e → ⊥
+never_refused text b CerUnsupported low fits h = let s = bundle_spells text b _ (bundle_written text b low fits) in h s.trees s.is
 never_refused text b TooLong low fits h = h (bundle_octets text b) (bundle_written text b low fits) (omega (arith, value_longer 48 (members_octets text b), length_octets_bound (length (members_octets text b))))
 never_refused text b Write low fits h = h
 never_refused text b Memory low fits h = h
@@ -218,6 +218,6 @@ pub counted_fits : (text : List ℕ) (b : BundleValue) (r : Result ℕ EncodeErr
 counted_fits text b (Ok n) low h e = (wrote_bundle text b low h.is).fits
 counted_fits text b (Err x) low h e = absurd cc
 
-pub fits_counted : (text : List ℕ) (b : BundleValue) (r : Result ℕ EncodeError) → b.depth < 128 → IfErr r (CannotWrite Der (AreBundle text b Der) (WritesBundle text b Der)) → length (members_octets text b) < 2 ^ 32 → is_ok r ≡ true
+pub fits_counted : (text : List ℕ) (b : BundleValue) (r : Result ℕ EncodeError) → b.depth < 128 → IfErr r (CannotWrite (AreBundle text b Der) (WritesBundle text b Der)) → length (members_octets text b) < 2 ^ 32 → is_ok r ≡ true
 fits_counted text b (Ok n) low h fits = refl
 fits_counted text b (Err e) low h fits = absurd (never_refused text b e low fits h)

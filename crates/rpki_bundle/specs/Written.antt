@@ -4,12 +4,12 @@ use Rattle.bcder_tree.specs.declared.mode.Mode.{Mode}
 use Rattle.bcder_tree.specs.Tags.{TagValue, universal}
 use Rattle.bcder_tree.specs.Tree.{Trees}
 use Rattle.bcder_primitive.specs.Values.{AnyOctets}
-use Rattle.bcder_values.specs.Encoded.{IsPlain, WritesPlain, IsWrapped, WritesWrapped, AreBoth, WritesBoth, SpellsSome}
-use Rattle.bcder_values.specs.Integers.{WritesUnsigned}
+use Rattle.bcder_written.specs.Encoded.{IsPlain, WritesPlain, IsWrapped, WritesWrapped, AreBoth, WritesBoth, SpellsSome}
+use Rattle.bcder_written.specs.Integers.{WritesUnsigned}
 use Rattle.bcder_values.specs.Laws.{both_spelled, both_one}
 use Rattle.bcder_values.specs.Lists.{AreAll, WritesAll}
 use Rattle.bcder_values.specs.Plains.{plain_spelled, plain_one}
-use Rattle.bcder_values.specs.Simple.{one_string}
+use Rattle.bcder_written.specs.Simple.{one_string}
 use Rattle.bcder_values.specs.Wraps.{wrapped_spelled, wrapped_one}
 use Rattle.std.proofs.Common.{◌≡◌}
 use Rattle.rpki_bundle.specs.declared.parts.Locator.{Locator}

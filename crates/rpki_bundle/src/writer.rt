@@ -5,7 +5,7 @@
 
 ghost use Rattle.std.specs.Prelude.{◌≡◌, IfOk, IfErr, OnOk};
 ghost use Rattle.bcder_tree.specs.Tags.{IsTag};
-ghost use Rattle.bcder_values.specs.Writing.{HasLength, Wrote, CannotWrite, WriteRefused};
+ghost use Rattle.bcder_written.specs.Writing.{HasLength, Wrote, CannotWrite, WriteRefused};
 ghost use Rattle.rpki_bundle.specs.Written.{AreMembers, IsPair, IsTriple, WritesMembers, WritesPair, WritesTriple};
 
 use bcder_source::{Mode, Tag};
@@ -22,7 +22,7 @@ pub fn pair_len<T: AsSlice<u8> + Drop>(
 ) -> Result<usize, EncodeError>
     requires { IsTag tag }
     ensures len { IfOk result (HasLength (WritesPair mode tag (T.items first) (T.items second))) }
-    ensures refused { IfErr result (CannotWrite mode (IsPair tag (T.items first) (T.items second)) (WritesPair mode tag (T.items first) (T.items second))) }
+    ensures refused { IfErr result (CannotWrite (IsPair tag (T.items first) (T.items second)) (WritesPair mode tag (T.items first) (T.items second))) }
 {
     let first = Primitive {
         tag,
@@ -49,7 +49,7 @@ pub fn write_pair<T: AsSlice<u8> + Drop, W: Write>(
 ) -> Result<(), EncodeError>
     requires { IsTag tag }
     ensures written { OnOk result (Wrote (WritesPair mode tag (T.items first) (T.items second)) (W.contents target.old) (W.contents target.new)) }
-    ensures refused { IfErr result (WriteRefused mode (IsPair tag (T.items first) (T.items second)) (WritesPair mode tag (T.items first) (T.items second)) (target.new ≡ target.old) (W.contents target.old) (W.contents target.new)) }
+    ensures refused { IfErr result (WriteRefused (IsPair tag (T.items first) (T.items second)) (WritesPair mode tag (T.items first) (T.items second)) (target.new ≡ target.old) (W.contents target.old) (W.contents target.new)) }
 {
     let first = Primitive {
         tag,
@@ -74,7 +74,7 @@ pub fn triple_len<T: AsSlice<u8> + Drop>(
     third: T,
 ) -> Result<usize, EncodeError>
     ensures len { IfOk result (HasLength (WritesTriple mode (T.items first) (T.items second) (T.items third))) }
-    ensures refused { IfErr result (CannotWrite mode (IsTriple (T.items first) (T.items second) (T.items third)) (WritesTriple mode (T.items first) (T.items second) (T.items third))) }
+    ensures refused { IfErr result (CannotWrite (IsTriple (T.items first) (T.items second) (T.items third)) (WritesTriple mode (T.items first) (T.items second) (T.items third))) }
 {
     let tag = Tag::OCTET_STRING;
     let first = Primitive {
@@ -105,7 +105,7 @@ pub fn write_triple<T: AsSlice<u8> + Drop, W: Write>(
     target: &mut W,
 ) -> Result<(), EncodeError>
     ensures written { OnOk result (Wrote (WritesTriple mode (T.items first) (T.items second) (T.items third)) (W.contents target.old) (W.contents target.new)) }
-    ensures refused { IfErr result (WriteRefused mode (IsTriple (T.items first) (T.items second) (T.items third)) (WritesTriple mode (T.items first) (T.items second) (T.items third)) (target.new ≡ target.old) (W.contents target.old) (W.contents target.new)) }
+    ensures refused { IfErr result (WriteRefused (IsTriple (T.items first) (T.items second) (T.items third)) (WritesTriple mode (T.items first) (T.items second) (T.items third)) (target.new ≡ target.old) (W.contents target.old) (W.contents target.new)) }
 {
     let tag = Tag::OCTET_STRING;
     let first = Primitive {
@@ -137,7 +137,7 @@ pub fn members_len<T: AsSlice<u8> + Drop, A: Values + Drop, B: Values + Drop, C:
     verdicts: C,
 ) -> Result<usize, EncodeError>
     ensures len { IfOk result (HasLength (WritesMembers mode (T.items text) depth (A.writes locators mode) (B.writes objects mode) (C.writes verdicts mode))) }
-    ensures refused { IfErr result (CannotWrite mode (AreMembers (T.items text) depth (A.trees locators mode) (B.trees objects mode) (C.trees verdicts mode)) (WritesMembers mode (T.items text) depth (A.writes locators mode) (B.writes objects mode) (C.writes verdicts mode))) }
+    ensures refused { IfErr result (CannotWrite (AreMembers (T.items text) depth (A.trees locators mode) (B.trees objects mode) (C.trees verdicts mode)) (WritesMembers mode (T.items text) depth (A.writes locators mode) (B.writes objects mode) (C.writes verdicts mode))) }
 {
     let tag = Tag::INTEGER;
     let version = Primitive { tag, content: 0u8 };
@@ -186,7 +186,7 @@ pub fn write_members<
     target: &mut W,
 ) -> Result<(), EncodeError>
     ensures written { OnOk result (Wrote (WritesMembers mode (T.items text) depth (A.writes locators mode) (B.writes objects mode) (C.writes verdicts mode)) (W.contents target.old) (W.contents target.new)) }
-    ensures refused { IfErr result (WriteRefused mode (AreMembers (T.items text) depth (A.trees locators mode) (B.trees objects mode) (C.trees verdicts mode)) (WritesMembers mode (T.items text) depth (A.writes locators mode) (B.writes objects mode) (C.writes verdicts mode)) (target.new ≡ target.old) (W.contents target.old) (W.contents target.new)) }
+    ensures refused { IfErr result (WriteRefused (AreMembers (T.items text) depth (A.trees locators mode) (B.trees objects mode) (C.trees verdicts mode)) (WritesMembers mode (T.items text) depth (A.writes locators mode) (B.writes objects mode) (C.writes verdicts mode)) (target.new ≡ target.old) (W.contents target.old) (W.contents target.new)) }
 {
     let tag = Tag::INTEGER;
     let version = Primitive { tag, content: 0u8 };

@@ -1,9 +1,9 @@
 //! What is borrowed, items of a slice, and what is gathered.
 ghost use Rattle.bcder_tree.specs.Tags.{universal};
 ghost use Rattle.bcder_primitive.specs.Values.{AnyOctets};
-ghost use Rattle.bcder_values.specs.Encoded.{IsPlain, WritesPlain};
+ghost use Rattle.bcder_written.specs.Encoded.{IsPlain, WritesPlain};
 ghost use Rattle.bcder_values.specs.Plains.{plain_spelled, plain_one};
-ghost use Rattle.bcder_values.specs.Simple.{one_string};
+ghost use Rattle.bcder_written.specs.Simple.{one_string};
 
 use bcder_tree::{Mode, Tag};
 use bcder_values::{

@@ -1,11 +1,11 @@
 use Rattle.std.proofs.Common.{◌≡◌, ◌+◌, ◌++◌, ◌∷◌, [], ◌∙◌, sym, ap, append_assoc, append-nil, subst, arith}
 use Rattle.std.proofs.lemmas.Grind.{common_steps}
 use Rattle.bcder_values.proofs.Lists.{has_one_more, one_cannot, front_too_many}
-use Rattle.bcder_values.proofs.Pieces.{stopped}
+use Rattle.bcder_written.proofs.Pieces.{stopped}
 use Rattle.bcder_values.specs.Lists.{all_one}
 use Rattle.bcder_values.specs.Plains.{plain_one}
-use Rattle.bcder_values.specs.Simple.{one_string}
-use Rattle.bcder_values.specs.Writing.{HasLength}
+use Rattle.bcder_written.specs.Simple.{one_string}
+use Rattle.bcder_written.specs.Writing.{HasLength}
 use Rattle.bcder_octets.specs.Segments.{segments, IsSegment, WritesSegment}
 use Rattle.bcder_octets.proofs.segments.segments_len.Goals as goal
 
@@ -13,7 +13,7 @@ pub returns-in_err-len-clause-refused : goal.returns-in_err-len-clause-refused
 returns-in_err-len-clause-refused c =
     let before = c.loop-first.invariant in
     let whole = before.whole ∙ ap (λ l. before.counted ++ l) c.in-Some.ensures.found in
-    let refused = one_cannot c.args.mode IsSegment (WritesSegment c.args.mode) before.counted c.in-Some.first.now (segments c.in-Some.others.now) _ c.in_err-len.ensures.refused in
+    let refused = one_cannot IsSegment (WritesSegment c.args.mode) before.counted c.in-Some.first.now (segments c.in-Some.others.now) _ c.in_err-len.ensures.refused in
     stopped _ _ _ c.from_residual.ensures (rw whole refused)
 
 pub returns-in-None-clause-refused : goal.returns-in-None-clause-refused

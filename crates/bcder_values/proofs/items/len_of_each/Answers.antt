@@ -1,6 +1,6 @@
 use Rattle.bcder_values.proofs.Lists.{has_one_more, one_more, one_cannot, front_too_many}
-use Rattle.bcder_values.proofs.Pieces.{stopped}
-use Rattle.bcder_values.specs.Writing.{HasLength}
+use Rattle.bcder_written.proofs.Pieces.{stopped}
+use Rattle.bcder_written.specs.Writing.{HasLength}
 use Rattle.bcder_values.proofs.items.len_of_each.Goals as goal
 use Rattle.std.proofs.Common.{◌≡◌, ◌+◌, ◌++◌, ◌∷◌, [], ◌∙◌, sym, ap, append_assoc, subst, arith}
 use Rattle.std.proofs.lemmas.Grind.{common_steps}
@@ -9,7 +9,7 @@ pub returns-in_err-len-clause-refused : goal.returns-in_err-len-clause-refused
 returns-in_err-len-clause-refused g c =
     let before = c.loop-first.invariant in
     let whole = before.whole ∙ ap (λ l. before.counted ++ l) c.in-Some.ensures.cases.0 in
-    let refused = one_cannot c.args.mode (λ x. g.E.Encodes.trees c.args.by.now x c.args.mode) (λ x. g.E.Encodes.writes c.args.by.now x c.args.mode) before.counted c.in-Some.first.now c.in-Some.others.now _ c.in_err-len.ensures.refused in
+    let refused = one_cannot (λ x. g.E.Encodes.trees c.args.by.now x c.args.mode) (λ x. g.E.Encodes.writes c.args.by.now x c.args.mode) before.counted c.in-Some.first.now c.in-Some.others.now _ c.in_err-len.ensures.refused in
     stopped _ _ _ c.from_residual.ensures (rw whole refused)
 
 pub returns-in-None-clause-refused : goal.returns-in-None-clause-refused

@@ -1,9 +1,9 @@
-use Rattle.bcder_values.proofs.Compose.{first_length, second_length, written_refused, writer_refused}
+use Rattle.bcder_written.proofs.Compose.{first_length, second_length, written_refused, writer_refused}
 use Rattle.bcder_values.proofs.Lists.{all_split, all_joined, wrote_one_more}
-use Rattle.bcder_values.proofs.Pieces.{stopped, front_as, front_first, front_second}
+use Rattle.bcder_written.proofs.Pieces.{stopped, front_as, front_first, front_second}
 use Rattle.bcder_values.proofs.Wrapping.{has_as}
 use Rattle.bcder_values.specs.Lists.{WritesAll}
-use Rattle.bcder_values.specs.Writing.{HasLength}
+use Rattle.bcder_written.specs.Writing.{HasLength}
 use Rattle.bcder_values.proofs.items.write_each.Goals as goal
 use Rattle.std.proofs.Common.{◌++◌, ◌∷◌, [], ◌∙◌, sym, ap, append_assoc, subst, arith}
 
@@ -20,7 +20,7 @@ returns-in_err-write_item-clause-refused g c =
     let r = written_refused c.args.mode _ _ _ _ _ _ _ c.in_err-write_item.ensures.spelled first.1 first.2 c.in_err-write_item.ensures.refused in
     let others = behind.1.is in
     let front = front_as (all_joined P before.done (x ∷ xs)) (front_second before.written (front_first others.second others.is_second r.1)) in
-    stopped _ _ _ c.from_residual-in_err-write_item.ensures (writer_refused c.args.mode _ _ _ _ _ _ r.0 (rw whole front))
+    stopped _ _ _ c.from_residual-in_err-write_item.ensures (writer_refused _ _ _ _ _ _ r.0 (rw whole front))
 
 pub loop-first-preserved : goal.loop-first-preserved
 loop-first-preserved g c =

@@ -1,7 +1,7 @@
 use Rattle.bcder_values.proofs.Lists.{has_one_more, one_cannot, front_too_many}
-use Rattle.bcder_values.proofs.Pieces.{stopped}
+use Rattle.bcder_written.proofs.Pieces.{stopped}
 use Rattle.bcder_values.specs.Lists.{all_one}
-use Rattle.bcder_values.specs.Writing.{HasLength}
+use Rattle.bcder_written.specs.Writing.{HasLength}
 use Rattle.bcder_values.proofs.walk.len_of_walk.Goals as goal
 use Rattle.std.proofs.Common.{◌≡◌, ◌+◌, ◌++◌, ◌∷◌, [], ◌∙◌, refl, sym, ap, append_assoc, subst, arith}
 use Rattle.std.proofs.lemmas.Grind.{common_steps}
@@ -10,7 +10,7 @@ pub returns-in_err-len-clause-refused : goal.returns-in_err-len-clause-refused
 returns-in_err-len-clause-refused g c =
     let before = c.loop-item.invariant in
     let whole = before.whole ∙ ap (λ l. before.counted ++ l) c.in-Some.ensures in
-    let refused = one_cannot c.args.mode (λ v. g.T.Item.Values.trees v c.args.mode) (λ v. g.T.Item.Values.writes v c.args.mode) before.counted c.in-Some.item (g.T.Walk.items c.next.new.self) _ c.in_err-len.ensures.refused in
+    let refused = one_cannot (λ v. g.T.Item.Values.trees v c.args.mode) (λ v. g.T.Item.Values.writes v c.args.mode) before.counted c.in-Some.item (g.T.Walk.items c.next.new.self) _ c.in_err-len.ensures.refused in
     stopped _ _ _ c.from_residual.ensures (rw whole refused)
 
 pub returns-in-None-clause-refused : goal.returns-in-None-clause-refused

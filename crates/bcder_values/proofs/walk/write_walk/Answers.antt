@@ -1,10 +1,10 @@
 use Rattle.std.proofs.KnownBytes.{Appends-nil}
-use Rattle.bcder_values.proofs.Compose.{first_length, second_length, written_refused, writer_refused}
+use Rattle.bcder_written.proofs.Compose.{first_length, second_length, written_refused, writer_refused}
 use Rattle.bcder_values.proofs.Lists.{all_split, all_joined, wrote_one_more}
-use Rattle.bcder_values.proofs.Pieces.{stopped, front_as, front_first, front_second}
+use Rattle.bcder_written.proofs.Pieces.{stopped, front_as, front_first, front_second}
 use Rattle.bcder_values.proofs.Wrapping.{has_as}
 use Rattle.bcder_values.specs.Lists.{WritesAll}
-use Rattle.bcder_values.specs.Writing.{HasLength}
+use Rattle.bcder_written.specs.Writing.{HasLength}
 use Rattle.bcder_values.proofs.walk.write_walk.Goals as goal
 use Rattle.std.proofs.Common.{◌++◌, ◌∷◌, [], ◌∙◌, refl, sym, ap, append_assoc, subst, arith}
 
@@ -21,7 +21,7 @@ returns-in_err-write_encoded-clause-refused g c =
     let r = written_refused c.args.mode _ _ _ _ _ _ _ (g.met.T.Item.Values.spelled x c.args.mode) first.1 first.2 c.in_err-write_encoded.ensures.refused in
     let others = behind.1.is in
     let front = front_as (all_joined P before.done (x ∷ xs)) (front_second before.written (front_first others.second others.is_second r.1)) in
-    stopped _ _ _ c.from_residual-in_err-write_encoded.ensures (writer_refused c.args.mode _ _ _ _ _ _ r.0 (rw whole front))
+    stopped _ _ _ c.from_residual-in_err-write_encoded.ensures (writer_refused _ _ _ _ _ _ r.0 (rw whole front))
 
 pub loop-item-init : goal.loop-item-init
 loop-item-init g c = record {

@@ -1,5 +1,5 @@
-use Rattle.bcder_values.proofs.Compose.{written_refused, writer_refused, has_both}
-use Rattle.bcder_values.proofs.Pieces.{stopped, wrote_as, wrote_both, front_as, front_first, front_second}
+use Rattle.bcder_written.proofs.Compose.{written_refused, writer_refused, has_both}
+use Rattle.bcder_written.proofs.Pieces.{stopped, wrote_as, wrote_both, front_as, front_first, front_second}
 use Rattle.bcder_values.proofs.Wrapping.{wrapped, all_long, closing_of}
 use Rattle.bcder_values.proofs.constructed.ConstructedValues.write_encoded.Goals as goal
 use Rattle.std.proofs.Common.{arith}
@@ -12,7 +12,7 @@ returns-in_err-put_opening-clause-refused g c =
     let e = c.in_err-put_opening.ensures.refused in
     let rest = has_both content (closing_of c.args.mode).1 in
     stopped _ _ _ c.from_residual-in_err-put_opening.ensures
-    (writer_refused c.args.mode _ _ _ _ _ _ e.0 (front_as (wrapped c.args.mode (omega arith) long) (front_first rest.text rest.is e.1)))
+    (writer_refused _ _ _ _ _ _ e.0 (front_as (wrapped c.args.mode (omega arith) long) (front_first rest.text rest.is e.1)))
 
 pub returns-in_err-write_encoded-clause-refused : goal.returns-in_err-write_encoded-clause-refused
 returns-in_err-write_encoded-clause-refused g c =
@@ -21,7 +21,7 @@ returns-in_err-write_encoded-clause-refused g c =
     let closing = (closing_of c.args.mode).1 in
     let r = written_refused c.args.mode _ _ _ _ _ _ _ (g.met.V.Values.spelled c.args.self.now.inner c.args.mode) content (omega arith) c.in_err-write_encoded.ensures.refused in
     stopped _ _ _ c.from_residual-in_err-write_encoded.ensures
-    (writer_refused c.args.mode _ _ _ _ _ _ r.0 (front_as (wrapped c.args.mode (omega arith) long) (front_second c.in_ok-put_opening.ensures.written (front_first closing.text closing.is r.1))))
+    (writer_refused _ _ _ _ _ _ r.0 (front_as (wrapped c.args.mode (omega arith) long) (front_second c.in_ok-put_opening.ensures.written (front_first closing.text closing.is r.1))))
 
 pub returns-clause-written : goal.returns-clause-written
 returns-clause-written g c =
@@ -32,4 +32,4 @@ pub returns-clause-refused : goal.returns-clause-refused
 returns-clause-refused g c =
     let long = all_long (g.met.V.Values.one_text c.args.self.now.inner c.args.mode) c.in_ok-content.ensures.len in
     IfErr-weaker _ _ _ (λ e h.
-    writer_refused c.args.mode _ _ _ _ _ e h.0 (front_as (wrapped c.args.mode (omega arith) long) (front_second c.in_ok-put_opening.ensures.written (front_second c.in_ok-write_encoded.ensures.written h.1)))) c.put_closing.ensures.refused
+    writer_refused _ _ _ _ _ e h.0 (front_as (wrapped c.args.mode (omega arith) long) (front_second c.in_ok-put_opening.ensures.written (front_second c.in_ok-write_encoded.ensures.written h.1)))) c.put_closing.ensures.refused

@@ -1,0 +1,29 @@
+-- Headers in the fewest octets.
+use Rattle.std.proofs.Common.{◌≡◌, ℕ, ◌+◌, Bool, List, ◌++◌, length, refl, sym, ap, ◌∙◌}
+use Rattle.std.proofs.lemmas.List.{length-append}
+use Rattle.bcder_tree.specs.declared.length.Length.TheVariants.{Definite}
+use Rattle.bcder_tree.specs.Tags.{TagValue, IsTag}
+use Rattle.bcder_tree.specs.Octets.{IsIdentifier}
+use Rattle.bcder_tree.specs.Lengths.{SpellsEverywhere}
+use Rattle.bcder_written.specs.Headers.{IsHeaderIn}
+use Rattle.bcder_written.specs.Encoded.{WritesBoth}
+
+pub header_in : {form : Bool} {t : TagValue} {n : ℕ} (i l : List ℕ) → IsTag t → IsIdentifier i form t → SpellsEverywhere (Definite n) l → IsHeaderIn form t n (i ++ l)
+header_in i l tag is size = record { identifier = i; size = l; whole = refl; tag = tag; identifier_is = is; size_is = size }
+
+-- One text behind the other.
+pub header_of : {form : Bool} {t : TagValue} {n : ℕ} (i l : List ℕ) → IsTag t → IsIdentifier i form t → SpellsEverywhere (Definite n) l → (text : List ℕ) → WritesBoth (λ x. x ≡ i) (λ x. x ≡ l) text → IsHeaderIn form t n text
+header_of i l tag is size text w = record {
+  identifier = i;
+  size = l;
+  whole = w.whole ∙ ap (λ x. x ++ w.second) w.is_first ∙ ap (λ x. i ++ x) w.is_second;
+  tag = tag;
+  identifier_is = is;
+  size_is = size;
+}
+
+pub header_length : {form : Bool} {t : TagValue} {n a b : ℕ} (header : List ℕ) (h : IsHeaderIn form t n header) → length h.identifier ≡ a → length h.size ≡ b → a + b + n ≡ length header + n
+header_length {n = n} {a = a} header h p q =
+    let whole : length header ≡ length h.identifier + length h.size = ap length h.whole ∙ length-append h.identifier h.size in
+    let first : length h.identifier + length h.size ≡ a + length h.size = ap (λ k. k + length h.size) p in
+    sym (ap (λ k. k + n) (whole ∙ first ∙ ap (λ k. a + k) q))

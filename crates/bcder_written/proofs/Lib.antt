@@ -1,0 +1,5 @@
+pub mod Pieces
+pub mod Headers
+pub mod Compose
+pub mod Numbers
+pub mod Booleans

@@ -1,0 +1,14 @@
+use Rattle.bcder_written.proofs.Pieces.{takes_more}
+use Rattle.bcder_written.proofs.write.write_octets.Goals as goal
+use Rattle.std.proofs.Common.{◌++◌, take}
+use Rattle.std.proofs.KnownBytes.{Appends-trans}
+
+pub loop-preserved : goal.loop-preserved
+loop-preserved g c =
+    let before = c.loop.invariant in
+    let rest = c.loop.rest.now in
+    record {
+      taken = before.taken ++ take c.in_ok-count.count rest;
+      whole = takes_more _ _ rest c.in_ok-count.count before.whole;
+      appended = Appends-trans _ _ _ _ _ before.appended c.in_ok-count.ensures.written;
+    }

@@ -1,0 +1,135 @@
+//! BOOLEANs, NULL and octets, as the content of primitive values.
+
+ghost use Rattle.std.proofs.Common.{rules};
+ghost use Rattle.std.specs.Prelude.{◌≡◌};
+ghost use Rattle.bcder_tree.specs.declared.mode.Mode.TheVariants.{Der};
+ghost use Rattle.bcder_tree.specs.Tags.{universal};
+ghost use Rattle.bcder_primitive.specs.Values.{IsBoolean, IsNull, AnyOctets};
+ghost use Rattle.bcder_written.specs.Simple.{one_boolean, one_null, one_string};
+
+use crate::header::MAX_LEN;
+use crate::write::write_octets;
+use crate::{EncodeError, PrimitiveContent};
+use bcder_tree::{Mode, Tag};
+use std::convert::AsSlice;
+use std::io::Write;
+
+/// A BOOLEAN (X.690 8.2): `FF` for true in every mode (11.1).
+impl PrimitiveContent for bool {
+    ghost type_tag = { universal 1 };
+
+    ghost content = { λ x m content. IsBoolean Der content x };
+
+    fn tag() -> Tag {
+        Tag::BOOLEAN
+    }
+
+    fn encoded_len(&self, _mode: Mode) -> Result<usize, EncodeError> {
+        Ok(1)
+    }
+
+    fn write_encoded<W: Write>(&self, _mode: Mode, target: &mut W) -> Result<(), EncodeError> {
+        if *self {
+            return write_octets(target, &[255]);
+        }
+        write_octets(target, &[0])
+    }
+
+    ghost is_tag = { Prim.search rules };
+
+    ghost one_content = { λ x m. one_boolean x };
+}
+
+/// NULL (X.690 8.8), which has no content octets.
+impl PrimitiveContent for () {
+    ghost type_tag = { universal 5 };
+
+    ghost content = { λ x m content. IsNull content x };
+
+    fn tag() -> Tag {
+        Tag::NULL
+    }
+
+    fn encoded_len(&self, _mode: Mode) -> Result<usize, EncodeError> {
+        Ok(0)
+    }
+
+    fn write_encoded<W: Write>(&self, _mode: Mode, target: &mut W) -> Result<(), EncodeError> {
+        write_octets(target, &[])
+    }
+
+    ghost is_tag = { Prim.search rules };
+
+    ghost one_content = { λ x m. one_null x };
+}
+
+/// The octets of an OCTET STRING (X.690 8.7), as they are.
+///
+/// They are primitive in CER, too, where more than 1000 octets should be constructed (9.2). `TooLong` where
+/// they are more than 2^32 - 1.
+impl PrimitiveContent for &[u8] {
+    ghost type_tag = { universal 4 };
+
+    ghost content = { λ x m content. AnyOctets content x.now };
+
+    fn tag() -> Tag
+        ensures { result ≡ universal 4 }
+    {
+        Tag::OCTET_STRING
+    }
+
+    fn encoded_len(&self, _mode: Mode) -> Result<usize, EncodeError> {
+        let octets = *self;
+        if octets.len() > MAX_LEN {
+            return Err(EncodeError::TooLong);
+        }
+        Ok(octets.len())
+    }
+
+    fn write_encoded<W: Write>(&self, _mode: Mode, target: &mut W) -> Result<(), EncodeError> {
+        let octets = *self;
+        if octets.len() > MAX_LEN {
+            return Err(EncodeError::TooLong);
+        }
+        write_octets(target, octets)
+    }
+
+    ghost is_tag = { Prim.search rules };
+
+    ghost one_content = { λ x m. one_string x.now };
+}
+
+/// The octets of an OCTET STRING (X.690 8.7), as they are, of what lends a slice of them.
+#[derive(Clone, Copy, Debug, PartialEq, Eq, Drop)]
+pub struct Octets<T>(pub T);
+
+/// As for a slice.
+impl<T: AsSlice<u8>> PrimitiveContent for Octets<T> {
+    ghost type_tag = { universal 4 };
+
+    ghost content = { λ x m content. AnyOctets content (T.items x.0) };
+
+    fn tag() -> Tag {
+        Tag::OCTET_STRING
+    }
+
+    fn encoded_len(&self, _mode: Mode) -> Result<usize, EncodeError> {
+        let lent = self.0.as_slice();
+        if lent.len() > MAX_LEN {
+            return Err(EncodeError::TooLong);
+        }
+        Ok(lent.len())
+    }
+
+    fn write_encoded<W: Write>(&self, _mode: Mode, target: &mut W) -> Result<(), EncodeError> {
+        let lent = self.0.as_slice();
+        if lent.len() > MAX_LEN {
+            return Err(EncodeError::TooLong);
+        }
+        write_octets(target, lent)
+    }
+
+    ghost is_tag = { Prim.search rules };
+
+    ghost one_content = { λ x m. one_string (T.items x.0) };
+}

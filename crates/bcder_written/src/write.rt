@@ -1,0 +1,43 @@
+//! Octets that are written whole.
+
+ghost use Rattle.std.specs.Prelude.{◌≡◌, ◌≤◌, length, take, IfOk, IfErr, OnOk};
+ghost use Rattle.std.specs.Io.KnownBytes.{Appends, Keeps};
+ghost use Rattle.bcder_written.specs.Writing.{TookFront};
+ghost use Rattle.bcder_written.specs.declared.error.EncodeError.TheVariants.{Write as refusal};
+
+use crate::EncodeError;
+use std::io::{ErrorKind, Write};
+
+// Writes a front of the octets, and answers how many; none where the write was interrupted.
+fn write_some<W: Write>(target: &mut W, octets: &[u8]) -> Result<usize, EncodeError>
+    ensures bound { IfOk result (λ n. n ≤ length octets.now) }
+    ensures written { IfOk result (λ n. Appends (W.contents target.old) (W.contents target.new) (take n octets.now)) }
+    ensures refused { IfErr result (λ e. (e ≡ refusal) × Keeps (W.contents target.old) (W.contents target.new)) }
+{
+    match target.write(octets) {
+        Ok(0) => Err(EncodeError::Write),
+        Ok(count) => Ok(count),
+        Err(error) => {
+            if error.kind() == ErrorKind::Interrupted {
+                return Ok(0);
+            }
+            Err(EncodeError::Write)
+        }
+    }
+}
+
+/// Writes all the octets; a write that was interrupted is tried again.
+pub fn write_octets<W: Write>(target: &mut W, octets: &[u8]) -> Result<(), EncodeError>
+    ensures written { OnOk result (Appends (W.contents target.old) (W.contents target.new) octets.now) }
+    ensures refused { IfErr result (λ e. (e ≡ refusal) × TookFront (λ text. text ≡ octets.now) (W.contents target.old) (W.contents target.new)) }
+{
+    let mut rest = octets;
+    for _ in 0..usize::MAX {
+        if rest.is_empty() {
+            return Ok(());
+        }
+        let count = write_some(target, rest)?;
+        rest = &rest[count..];
+    }
+    Err(EncodeError::Write)
+}
