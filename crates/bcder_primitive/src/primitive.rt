@@ -343,6 +343,7 @@ impl<S: Source> Primitive<S> {
     }
 
     /// All octets of the content; where the source shares its octets none is copied.
+    #[inline(always)]
     pub fn take_all(&mut self, alloc: Global) -> Result<Bytes, DecodeError<S::Error>>
         ensures reads { ReadsOctetsAs (λ octets. octets) AnyOctets (plain S.rest self.old) result (plain S.rest self.new) }
         ensures failed { OnErr result ((plain S.rest self.new).failed ≡ true) }

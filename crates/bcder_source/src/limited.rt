@@ -242,6 +242,7 @@ impl<S: Source> LimitedSource<S> {
     /// Takes all octets up to the limit, or to the end of the source, and answers them.
     ///
     /// The content is refused where the source ends before the limit.
+    #[inline(always)]
     pub fn take_all(&mut self, alloc: Global) -> Result<Bytes, DecodeError<S::Error>>
         ensures octets { IfOk result (λ b. b ≡ left (view S.rest self.old)) }
         ensures moved { IfOk result (λ b. Moved (view S.rest self.old) b (view S.rest self.new)) }
@@ -255,6 +256,7 @@ impl<S: Source> LimitedSource<S> {
     }
 
     // Has all octets up to the limit at hand, and answers how many they are.
+    #[inline(always)]
     fn all(&mut self) -> Result<usize, DecodeError<S::Error>>
         ensures same { view S.rest self.new ≡ view S.rest self.old }
         ensures all { IfOk result (λ n. n ≡ length (left (view S.rest self.new))) }

@@ -39,6 +39,7 @@ impl Tag {
     /// None where no front of the octets is an identifier: where the octets end within it, where a
     /// number to 30 stands in the long form or a long form begins with `80`, where the number is over
     /// 2,097,151, and where the tag is universal 0, which no value has.
+    #[inline(always)]
     pub fn read(octets: &[u8]) -> Option<(Tag, bool, usize)>
         ensures found { IfSome result (λ r. Begins (Identifies r.1 r.0) octets.now r.2) }
         ensures none { IfNone result ((constructed : Bool) (t : TagValue) → Lacks (Identifies constructed t) octets.now) }

@@ -129,6 +129,7 @@ impl Length {
     ///
     /// None where no front of the octets is a length in that mode: where the octets end within it,
     /// where it begins with `85` or above, and in CER and DER where it isn't the shortest.
+    #[inline(always)]
     pub fn read(mode: Mode, octets: &[u8]) -> Option<(Length, usize)>
         ensures found { IfSome result (λ r. Begins (SpellsLength mode r.0) octets.now r.1) }
         ensures none { IfNone result ((l : LengthValue) → Lacks (SpellsLength mode l) octets.now) }
