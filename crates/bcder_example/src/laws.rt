@@ -1,0 +1,20 @@
+//! Laws of notices: the contracts of functions that do nothing.
+
+ghost use Rattle.std.specs.Prelude.{ℕ, List};
+ghost use Rattle.bcder_tree.specs.declared.mode.Mode.{Mode as ModeValue};
+ghost use Rattle.bcder_content.specs.Grammar.{End, One, Then};
+ghost use Rattle.bcder_oid.specs.Identifiers.{IsIdentifier};
+ghost use Rattle.bcder_values.specs.Returns.{ReadAgain};
+ghost use Rattle.bcder_example.specs.declared.notice.Notice.{Notice};
+ghost use Rattle.bcder_example.specs.Notices.{IsNotice, WritesNotice, read_fields};
+
+/// A value is one notice at most.
+pub fn one_meaning()
+    ensures { (m : ModeValue) → One (IsNotice m) }
+{}
+
+/// A notice that is written, whose identifier is one, is read again: it is the only value in front of what was written,
+/// and has the same fields, but for the padding of its flags.
+pub fn what_is_written_is_read()
+    ensures { (n : Notice) (m : ModeValue) (text : List ℕ) → IsIdentifier n.id.0 → WritesNotice m n text → ReadAgain m (λ ts. Then (IsNotice m) End ts (read_fields m n, tt)) text }
+{}
