@@ -9,7 +9,7 @@
 //! | [`encode`] | values that can be written, and how they are put together |
 //! | [`int`] | INTEGERs of any size |
 //! | [`oid`] | object identifiers |
-//! | [`string`] | bit strings, octet strings and character sets |
+//! | [`string`] | bit strings, octet strings, and restricted character strings with their sets |
 //! | [`captured`] | values that are kept as they are spelled |
 //!
 //! What differs from the Rust crate: what takes memory is given an allocator, first of all, and answers a `Result`
@@ -29,5 +29,6 @@ pub use bcder_content::Captured;
 pub use bcder_number::{Integer, Unsigned};
 pub use bcder_octets::OctetString;
 pub use bcder_oid::{ConstOid, Oid};
+pub use bcder_strings::{Ia5String, NumericString, PrintableString, Utf8String};
 pub use bcder_tree::{Mode, Tag};
 pub use bcder_values::CapturedBuilder;

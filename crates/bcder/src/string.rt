@@ -1,4 +1,4 @@
-//! Bit strings, octet strings, and the character sets of restricted strings.
+//! Bit strings, octet strings, and restricted character strings.
 
 pub use bcder_bits::{BitSlice, BitSliceEncoder, BitString, BitStringIter};
 pub use bcder_chars::{
@@ -7,4 +7,8 @@ pub use bcder_chars::{
 pub use bcder_octets::{
     OctetSliceEncoder, OctetString, OctetStringEncoder, OctetStringIter, OctetStringOctets,
     OctetStringSource,
+};
+pub use bcder_strings::{
+    Ia5String, NumericString, PrintableString, RestrictedString, RestrictedStringChars,
+    RestrictedStringError, Utf8String,
 };

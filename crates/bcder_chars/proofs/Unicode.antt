@@ -1,14 +1,15 @@
 -- Fronts of octets that are UTF-8.
-use Rattle.std.proofs.Common.{◌≡◌, ℕ, ◌≤◌, ◌+◌, inl, inr, min, true, List, [], ◌∷◌, ◌++◌, length, take, drop, refl, sym, ap, append_assoc, take-append-drop, ◌∙◌, subst, arith}
-use Rattle.std.specs.Prelude.{◌↔◌, encode_utf8, encode_utf8_all, IsUtf8, All, chars, flat_map}
+use Rattle.std.proofs.Common.{◌≡◌, ℕ, ◌≤◌, ◌+◌, inl, inr, min, true, List, [], ◌∷◌, ◌++◌, length, take, drop, sym, ap, append_assoc, take-append-drop, ◌∙◌, subst, arith}
+use Rattle.std.specs.Prelude.{◌↔◌, encode_utf8, IsUtf8, All, chars}
 use Rattle.std.specs.Char.{len_utf8}
 use Rattle.std.specs.Str.{all_scalars, IsValidUpTo}
 use lib.Utf8.{scalar}
-use Rattle.std.proofs.lemmas.Bool.{and_parts, and_from, cases_lt}
+use Rattle.std.proofs.lemmas.Bool.{and_parts, cases_lt}
 use Rattle.std.proofs.lemmas.List.{length-append, length-take-le, take-take}
 use Rattle.std.proofs.lemmas.Str.{cons_from_encodes, length-encode, len_utf8_bounds, IsUtf8-encode, encodes-chars, scalars-chars}
-use Rattle.std.proofs.lemmas.List.Elements.{All-nil, All-cons, All-head, All-tail}
+use Rattle.std.proofs.lemmas.List.Elements.{All-nil, All-cons}
 use Rattle.std.proofs.Math.Seq.{take-append_seam}
+use Rattle.bcder_chars.specs.Laws.{all_are_scalars, joined}
 use Rattle.bcder_chars.specs.Sets.{IsUnicode}
 use Rattle.bcder_chars.specs.Texts.{Starts, Tells, IsText}
 
@@ -45,14 +46,6 @@ scalars_all [] e = All-nil IsUnicode
 scalars_all (c ∷ cs) e =
     let p = and_parts (scalar c) (all_scalars cs) e in
     All-cons IsUnicode c cs p.0 (scalars_all cs p.1)
-
-all_are_scalars : (cs : List ℕ) → All IsUnicode cs → all_scalars cs ≡ true
-all_are_scalars [] h = refl
-all_are_scalars (c ∷ cs) h = and_from (scalar c) (all_scalars cs) (All-head IsUnicode c cs h) (all_are_scalars cs (All-tail IsUnicode c cs h))
-
-joined : (cs : List ℕ) → flat_map encode_utf8 cs ≡ encode_utf8_all cs
-joined [] = refl
-joined (c ∷ cs) = ap (λ (l : List ℕ). encode_utf8 c ++ l) (joined cs)
 
 -- The characters of a text in UTF-8 are those that its octets tell.
 pub utf8_tells : (octets : List ℕ) → IsUtf8 octets → Tells IsUnicode encode_utf8 octets (chars octets)

@@ -1,17 +1,28 @@
 //! Character sets.
 ghost use Rattle.std.specs.Prelude.{◌≡◌, ◌≤◌, ℕ, List, [], length, chars, All, IfOk, IfSome, IfNone, OnOk, OnErr};
+ghost use Rattle.bcder_tree.specs.Tags.{TagValue, IsTag};
 ghost use Rattle.bcder_chars.specs.Texts.{Tells, IsText, Starts, NoStart, HasOneStart};
 
 use crate::CharSetError;
+use bcder_tree::Tag;
 
 /// A set of characters, and how octets spell them (X.680 clause 41, X.690 8.23).
 ///
-/// `has` are its characters, by their codes, and `spell` are the octets of one. A text is characters of the
-/// set, the octets of each behind those of the one before.
+/// `type_tag` is the tag of its strings, `has` are its characters, by their codes, and `spell` are the octets of
+/// one. A text is characters of the set, the octets of each behind those of the one before; `chars_of` are the
+/// characters of a text's octets.
 pub trait CharSet {
+    ghost type_tag: { TagValue };
+
     ghost has: { ℕ → Type 0 };
 
     ghost spell: { ℕ → List ℕ };
+
+    ghost chars_of: { List ℕ → List ℕ };
+
+    /// The tag of its strings (X.680 8.4, table 1).
+    fn tag() -> Tag
+        ensures { result ≡ type_tag };
 
     /// The character in front of octets, and what is behind it; None where there are no octets.
     fn next_char(octets: &[u8]) -> Result<Option<(char, &[u8])>, CharSetError>
@@ -23,6 +34,12 @@ pub trait CharSet {
     fn from_str(text: &str) -> Result<&[u8], CharSetError>
         ensures told { IfOk result (λ octets. Tells has spell octets.now (chars text.now)) }
         ensures refused { OnErr result (All has (chars text.now) → ⊥) };
+
+    // A tag that values have.
+    ghost is_tag: { IsTag type_tag };
+
+    // Octets that tell characters tell these.
+    ghost told: { (octets text : List ℕ) → Tells has spell octets text → chars_of octets ≡ text };
 
     // A character has octets.
     ghost some_octet: { (c : ℕ) → has c → 1 ≤ length (spell c) };

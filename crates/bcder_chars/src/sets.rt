@@ -1,20 +1,31 @@
 //! The sets of the restricted character strings.
-ghost use Rattle.std.specs.Prelude.{encode_utf8};
-ghost use Rattle.bcder_chars.specs.Laws.{alone_some, alone_one, utf8_some, utf8_one, numeric_ascii, printable_ascii, ia5_ascii};
+ghost use Rattle.std.specs.Prelude.{encode_utf8, chars};
+ghost use Rattle.std.proofs.Common.{rules};
+ghost use Rattle.bcder_tree.specs.Tags.{universal};
+ghost use Rattle.bcder_chars.specs.Laws.{alone_some, alone_one, alone_told, utf8_some, utf8_one, utf8_told, numeric_ascii, printable_ascii, ia5_ascii};
 ghost use Rattle.bcder_chars.specs.Sets.{IsUnicode, IsNumeric, IsPrintable, IsIa5, alone};
 
 use crate::octet_set::{OctetSet, next_of, text_of};
 use crate::utf8::first_char;
 use crate::{CharSet, CharSetError};
+use bcder_tree::Tag;
 
 /// The characters of a UTF8String, in UTF-8 (X.680 41.16, X.690 8.23.10, RFC 3629).
 #[derive(Clone, Copy, Debug, PartialEq, Eq)]
 pub struct Utf8CharSet;
 
 impl CharSet for Utf8CharSet {
+    ghost type_tag = { universal 12 };
+
     ghost has = { IsUnicode };
 
     ghost spell = { encode_utf8 };
+
+    ghost chars_of = { chars };
+
+    fn tag() -> Tag {
+        Tag::UTF8_STRING
+    }
 
     fn next_char(octets: &[u8]) -> Result<Option<(char, &[u8])>, CharSetError> {
         if octets.is_empty() {
@@ -29,6 +40,10 @@ impl CharSet for Utf8CharSet {
     fn from_str(text: &str) -> Result<&[u8], CharSetError> {
         Ok(text.as_bytes())
     }
+
+    ghost is_tag = { Prim.search rules };
+
+    ghost told = { utf8_told };
 
     ghost some_octet = { utf8_some };
 
@@ -50,9 +65,17 @@ impl OctetSet for NumericCharSet {
 }
 
 impl CharSet for NumericCharSet {
+    ghost type_tag = { universal 18 };
+
     ghost has = { IsNumeric };
 
     ghost spell = { alone };
+
+    ghost chars_of = { λ octets. octets };
+
+    fn tag() -> Tag {
+        Tag::NUMERIC_STRING
+    }
 
     fn next_char(octets: &[u8]) -> Result<Option<(char, &[u8])>, CharSetError> {
         next_of::<NumericCharSet>(octets)
@@ -61,6 +84,10 @@ impl CharSet for NumericCharSet {
     fn from_str(text: &str) -> Result<&[u8], CharSetError> {
         text_of::<NumericCharSet>(text)
     }
+
+    ghost is_tag = { Prim.search rules };
+
+    ghost told = { alone_told };
 
     ghost some_octet = { alone_some IsNumeric };
 
@@ -82,9 +109,17 @@ impl OctetSet for PrintableCharSet {
 }
 
 impl CharSet for PrintableCharSet {
+    ghost type_tag = { universal 19 };
+
     ghost has = { IsPrintable };
 
     ghost spell = { alone };
+
+    ghost chars_of = { λ octets. octets };
+
+    fn tag() -> Tag {
+        Tag::PRINTABLE_STRING
+    }
 
     fn next_char(octets: &[u8]) -> Result<Option<(char, &[u8])>, CharSetError> {
         next_of::<PrintableCharSet>(octets)
@@ -93,6 +128,10 @@ impl CharSet for PrintableCharSet {
     fn from_str(text: &str) -> Result<&[u8], CharSetError> {
         text_of::<PrintableCharSet>(text)
     }
+
+    ghost is_tag = { Prim.search rules };
+
+    ghost told = { alone_told };
 
     ghost some_octet = { alone_some IsPrintable };
 
@@ -114,9 +153,17 @@ impl OctetSet for Ia5CharSet {
 }
 
 impl CharSet for Ia5CharSet {
+    ghost type_tag = { universal 22 };
+
     ghost has = { IsIa5 };
 
     ghost spell = { alone };
+
+    ghost chars_of = { λ octets. octets };
+
+    fn tag() -> Tag {
+        Tag::IA5_STRING
+    }
 
     fn next_char(octets: &[u8]) -> Result<Option<(char, &[u8])>, CharSetError> {
         next_of::<Ia5CharSet>(octets)
@@ -125,6 +172,10 @@ impl CharSet for Ia5CharSet {
     fn from_str(text: &str) -> Result<&[u8], CharSetError> {
         text_of::<Ia5CharSet>(text)
     }
+
+    ghost is_tag = { Prim.search rules };
+
+    ghost told = { alone_told };
 
     ghost some_octet = { alone_some IsIa5 };
 

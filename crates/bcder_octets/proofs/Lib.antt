@@ -1,3 +1,4 @@
+pub mod Contents
 pub mod Cuts
 pub mod Gathering
 pub mod Meaning

@@ -10,22 +10,20 @@ use Rattle.bcder_tree.specs.Strings.{IsString}
 use Rattle.bcder_source.specs.declared.error.DecodeError.{DecodeError}
 use Rattle.bcder_source.specs.declared.error.DecodeError.TheVariants.{Content as content_error, Source, Memory}
 use Rattle.bcder_source.specs.Views.{more_limit}
-use Rattle.bcder_header.proofs.Opening.{opens_tag}
 use Rattle.bcder_primitive.specs.declared.primitive.Primitive.{Primitive}
 use Rattle.bcder_primitive.specs.Plain.{OctetsLeft, LacksOctets, GivesOctets, ReadsOctetsAs}
 use Rattle.bcder_primitive.specs.Values.{AnyOctets}
 use Rattle.bcder_content.specs.declared.constructed.Constructed.{Constructed}
 use Rattle.bcder_content.specs.declared.content.Content.{Content}
 use Rattle.bcder_content.specs.Contents.{ValuesLeft, tag_of}
-use Rattle.bcder_content.specs.Exact.{Gives, Lacks, ReadsAs, ReadsOptAs, ReadsAllAs}
+use Rattle.bcder_content.specs.Exact.{ReadsAllAs}
 use Rattle.bcder_content.specs.Here.{here, plain}
 use Rattle.bcder_content.specs.Ran.{Reader}
-use Rattle.bcder_content.specs.Either.{Shows, Meeting, none_wanted, any_refused, any_goes_on, TakesCases, Takes, TakesOptCases, TakesOpt, AnyKind, WithTag, ReadsInAs, ReadsContentAs, OctetsRun, RunsOctets, ValuesRun, RunsValues}
-use Rattle.bcder_content.proofs.Anything.{AnyReads, exact_any}
-use Rattle.bcder_content.proofs.Inside.{ReadsEach, each_met, PlainEach, tagged_lacks}
-use Rattle.bcder_content.proofs.Took.{took_front}
+use Rattle.bcder_content.specs.Either.{Shows, ReadsInAs, ReadsContentAs, OctetsRun, RunsOctets, ValuesRun, RunsValues}
+use Rattle.bcder_content.proofs.Inside.{ReadsEach, each_met, PlainEach}
+use Rattle.bcder_octets.proofs.Contents.{HasTag}
 use Rattle.bcder_octets.proofs.Cuts.{not_so}
-use Rattle.bcder_octets.specs.Parts.{FitsWhole, IsWhole, AreParts, ReadsString}
+use Rattle.bcder_octets.specs.Parts.{FitsWhole, IsWhole, AreParts}
 
 -- Contents of primitive values.
 
@@ -57,6 +55,10 @@ string_tag Ber tag (constructed u ts) octets s = s.0
 string_tag Cer tag (primitive u v) octets s = s.0
 string_tag Cer tag (constructed u ts) octets s = s.0
 string_tag Der tag t octets s = ap tag_of s
+
+-- A string has the tag that it is read with.
+pub string_tagged : HasTag IsString
+string_tagged = record { tagged = λ m tag. record { tagged = λ t x s. string_tag m tag t x s } }
 
 -- Readers of grammars that say the same.
 
@@ -106,79 +108,6 @@ constructed_read {F} {S} {E} {rest} {g} {op} c d r tag v each form ran shows =
     let read = each_met exact k l r mode run in
     subst (λ (b : Bool). ReadsInAs (λ x. x) (IsString m tag) b tag (here rest k) r (here rest l)) (sym form)
     (values_same (here rest k) (here rest l) r (λ t x w. parts_string m tag t x w) (λ t x s. string_parts m tag t x s) read)
-
--- Values with a tag.
-
--- A string with the tag that it has.
-abbrev AnyString : Mode → Tree → List ℕ → Type 0
-AnyString m t octets = IsString m (tag_of t) t octets
-
-tagged_string : (m : Mode) (tag : TagValue) (t : Tree) (octets : List ℕ) → tag_of t ≡ tag → AnyString m t octets → IsString m tag t octets
-tagged_string m tag t octets e s = subst (λ (u : TagValue). IsString m u t octets) e s
-
-any_string : (m : Mode) (tag : TagValue) (t : Tree) (octets : List ℕ) → IsString m tag t octets → AnyString m t octets
-any_string m tag t octets s = subst (λ (u : TagValue). IsString m u t octets) (sym (string_tag m tag t octets s)) s
-
--- A meeting with the content of a string, by a reader of it.
-pub record MeetsString {S E : Type 0} (rest : S → List ℕ) (form : Bool) (v : ValuesLeft) (r : Result (List ℕ) (DecodeError E)) (w : ValuesLeft) : Type 0 where
-  pub old : Content S
-  pub new : Content S
-  pub shows_old : Shows rest old v
-  pub shows_new : Shows rest new w
-  pub form_is : old.values.now.constructed ≡ form
-  pub read : ReadsString rest old r new
-
--- Each meeting is one by such a reader.
-pub record EachString {S E : Type 0} (rest : S → List ℕ) (meets : Meeting (List ℕ) E) : Type 0 where
-  pub each : (form : Bool) (tag : TagValue) (v : ValuesLeft) (r : Result (List ℕ) (DecodeError E)) (w : ValuesLeft) → meets form tag v r w → MeetsString rest form v r w
-
-any_reads : {S E : Type 0} {rest : S → List ℕ} {meets : Meeting (List ℕ) E} (m : Mode) → EachString rest meets → AnyReads meets m (λ x. x) (AnyString m)
-any_reads {S} {E} {rest} {meets} m exact = record { each = λ form tag v r w mode met. at form tag v r w mode (exact.each form tag v r w met) }
-  where
-    of_form : (form : Bool) (tag : TagValue) (v : ValuesLeft) (r : Result (List ℕ) (DecodeError E)) (w : ValuesLeft) → ReadsInAs (λ x. x) (IsString m tag) form tag v r w → ReadsInAs (λ x. x) (AnyString m) form tag v r w
-    of_form true tag v r w h = h
-    of_form false tag v r w h = h
-
-    at : (form : Bool) (tag : TagValue) (v : ValuesLeft) (r : Result (List ℕ) (DecodeError E)) (w : ValuesLeft) → v.mode ≡ m → MeetsString rest form v r w → ReadsInAs (λ x. x) (AnyString m) form tag v r w
-    at form tag v r w mode met =
-        let k = met.old.values.now in
-        let l = met.new.values.now in
-        let one = subst (λ (b : Bool). ReadsInAs (λ x. x) (IsString v.mode tag) b tag (here rest k) r (here rest l)) met.form_is (met.read.reads tag v met.shows_old) in
-        let two = subst (λ (z : ValuesLeft). ReadsInAs (λ x. x) (IsString v.mode tag) form tag z r (here rest l)) met.shows_old.left_is one in
-        let three = subst (λ (z : ValuesLeft). ReadsInAs (λ x. x) (IsString v.mode tag) form tag v r z) met.shows_new.left_is two in
-        of_form form tag v r w (subst (λ (n : Mode). ReadsInAs (λ x. x) (IsString n tag) form tag v r w) mode three)
-
-lacks_tagged : (m : Mode) (tag : TagValue) {old : ValuesLeft} → Lacks (AnyString m) old → Lacks (IsString m tag) old
-lacks_tagged m tag l = record { none = λ t x s a. l.none t x (any_string m tag t x s) a }
-
-string_cases : {S E : Type 0} {rest : S → List ℕ} {meets : Meeting (List ℕ) E} (tag : TagValue) (old new : ValuesLeft) (r : Result (List ℕ) (DecodeError E)) → EachString rest meets → TakesCases meets (WithTag tag) old r new → ReadsAs (λ x. x) (IsString old.mode tag) old r new
-string_cases {meets = meets} tag old new (Ok x) exact h =
-    let all : Takes meets AnyKind old (Ok x) new = record { cases = (h.0, h.1, h.2, h.3, tt, h.5, h.6) } in
-    let given : Gives (AnyString old.mode) old x new = exact_any {r = Ok x} (record { wanted = λ t y s. tt }) (any_reads old.mode exact) all in
-    let found = opens_tag given.tree h.5.enters.opens (took_front given.took) in
-    record { tree = given.tree; is = tagged_string old.mode tag given.tree x (found.0 ∙ h.4) given.is; took = given.took }
-string_cases {meets = meets} tag old new (Err (content_error e pos)) exact h = elim h [
-  | none_wanted n ↦ record { none = λ t y s a. n t a (string_tag old.mode tag t y s) }
-  | any_refused form u span end on ↦
-      let all : Takes meets AnyKind old (Err (content_error e pos)) new = record { cases = any_refused form u span end on } in
-      lacks_tagged old.mode tag (exact_any {r = Err (content_error e pos)} (record { wanted = λ t y s. tt }) (any_reads old.mode exact) all)
-  | any_goes_on form u span end y on unread ↦
-      let all : Takes meets AnyKind old (Err (content_error e pos)) new = record { cases = any_goes_on form u span end y on unread } in
-      lacks_tagged old.mode tag (exact_any {r = Err (content_error e pos)} (record { wanted = λ t z s. tt }) (any_reads old.mode exact) all)
-]
-string_cases tag old new (Err (Source e)) exact h = tt
-string_cases tag old new (Err Memory) exact h = tt
-
-pub string_taken : {S E : Type 0} {rest : S → List ℕ} {meets : Meeting (List ℕ) E} {tag : TagValue} {old new : ValuesLeft} {r : Result (List ℕ) (DecodeError E)} → Takes meets (WithTag tag) old r new → EachString rest meets → ReadsAs (λ x. x) (IsString old.mode tag) old r new
-string_taken {tag = tag} {old} {new} {r} h exact = string_cases tag old new r exact h.cases
-
-opt_cases : {S E : Type 0} {rest : S → List ℕ} {meets : Meeting (List ℕ) E} (tag : TagValue) (old new : ValuesLeft) (r : Result (Option (List ℕ)) (DecodeError E)) → EachString rest meets → TakesOptCases meets tag old r new → ReadsOptAs (λ x. x) tag (IsString old.mode tag) old r new
-opt_cases tag old new (Ok (Some x)) exact h = string_cases tag old new (Ok x) exact h.cases
-opt_cases tag old new (Ok None) exact h = h
-opt_cases tag old new (Err e) exact h = tagged_lacks (IsString old.mode tag) old tag e h.0 (string_cases tag old new (Err e) exact h.1.cases)
-
-pub string_taken_opt : {S E : Type 0} {rest : S → List ℕ} {meets : Meeting (List ℕ) E} {tag : TagValue} {old new : ValuesLeft} {r : Result (Option (List ℕ)) (DecodeError E)} → TakesOpt meets tag old r new → EachString rest meets → ReadsOptAs (λ x. x) tag (IsString old.mode tag) old r new
-string_taken_opt {tag = tag} {old} {new} {r} h exact = opt_cases tag old new r exact h.cases
 
 -- A string in one piece.
 

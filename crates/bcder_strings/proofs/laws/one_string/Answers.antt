@@ -1,0 +1,6 @@
+use Rattle.bcder_content.proofs.Unique.{such_one}
+use Rattle.bcder_octets.proofs.Meaning.{one_string}
+use Rattle.bcder_strings.proofs.laws.one_string.Goals as goal
+
+pub returns : goal.returns
+returns g c = λ m tag. such_one (record { one = λ t x y p q. one_string m tag t x y p q })

@@ -1,0 +1,8 @@
+-- What a refusal of a text says.
+use Rattle.bcder_strings.specs.declared.error.RestrictedStringError.{RestrictedStringError}
+use Rattle.bcder_strings.specs.declared.error.RestrictedStringError.TheVariants.{CharSet, Memory}
+
+-- A fact where a character was refused.
+abbrev pub OnCharSet : RestrictedStringError → Type 0 → Type 0
+OnCharSet CharSet fact = fact
+OnCharSet Memory fact = Unit {0}

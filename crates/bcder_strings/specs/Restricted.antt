@@ -1,0 +1,27 @@
+-- Restricted character strings (X.690 8.23): octet strings under a tag of their own, whose octets are a text.
+use Rattle.std.specs.Prelude.{◌≡◌, ℕ, List, Result}
+use Rattle.bcder_tree.specs.declared.mode.Mode.{Mode}
+use Rattle.bcder_tree.specs.Tags.{TagValue}
+use Rattle.bcder_tree.specs.Tree.{Tree, Trees, none, more}
+use Rattle.bcder_tree.specs.Strings.{IsString}
+use Rattle.bcder_chars.specs.Texts.{IsText}
+use Rattle.bcder_source.specs.declared.error.DecodeError.{DecodeError}
+use Rattle.bcder_content.specs.Contents.{ValuesLeft}
+use Rattle.bcder_content.specs.declared.content.Content.{Content}
+use Rattle.bcder_content.specs.Either.{SameContent, Shows, ReadsContentAs}
+use Rattle.bcder_content.specs.Grammar.{Such}
+
+-- The octets of a string with that tag, its own or an implicit one, which are a text of the set.
+abbrev pub IsRestricted : (ℕ → Type 0) → (ℕ → List ℕ) → Mode → TagValue → Tree → List ℕ → Type 0
+IsRestricted Has spell m tag = Such (IsString m tag) (IsText Has spell)
+
+-- A reader of the content of a restricted string, whatever its tag.
+pub record ReadsText {S E : Type 0} (Has : ℕ → Type 0) (spell : ℕ → List ℕ) (rest : S → List ℕ) (old : Content S) (r : Result (List ℕ) (DecodeError E)) (new : Content S) : Type 0 where
+  pub same : SameContent old new
+  pub reads : (tag : TagValue) (v : ValuesLeft) → Shows rest old v → ReadsContentAs rest (λ octets. octets) (IsRestricted Has spell v.mode tag) tag old r new
+
+-- The values are one, which is a restricted string of these octets.
+pub record WrittenText (Has : ℕ → Type 0) (spell : ℕ → List ℕ) (m : Mode) (tag : TagValue) (octets : List ℕ) (ts : Trees) : Type 0 where
+  pub tree : Tree
+  pub alone : ts ≡ more tree none
+  pub is : IsRestricted Has spell m tag tree octets

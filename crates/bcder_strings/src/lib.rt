@@ -1,0 +1,25 @@
+//! Restricted character strings: UTF8String, NumericString, PrintableString, IA5String (X.680 41, X.690 8.23).
+//!
+//! A restricted string is an octet string under the tag of its kind, whose octets are a text of the kind's
+//! characters. In BER it is primitive, or in segments that are OCTET STRINGs; in CER it is primitive to 1000 octets,
+//! else in segments of 1000; in DER it is primitive. Contracts see its octets, and so do equality, order and hash.
+//!
+//! What differs from the Rust crate: what takes memory is given an allocator and answers a `Result`; `from_str` and
+//! `from_string` refuse with `RestrictedStringError`, which has a cause for want of memory; in place of `Deref` there
+//! are `as_octet_string`, `into_octet_string` and the calls of an octet string by name; `chars` in place of an
+//! `IntoIterator`.
+#![tactic(auto)]
+
+pub mod chars;
+pub mod encode;
+pub mod error;
+pub mod laws;
+mod reading;
+pub mod string;
+
+pub use chars::RestrictedStringChars;
+pub use error::RestrictedStringError;
+pub use string::{Ia5String, NumericString, PrintableString, RestrictedString, Utf8String};
+
+#[cfg(test)]
+mod tests;

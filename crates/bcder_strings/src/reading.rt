@@ -1,0 +1,106 @@
+//! Strings that are read.
+
+ghost use Rattle.std.specs.Prelude.{◌≡◌, ◌↔◌, IsTrue, OnErr, true};
+ghost use Rattle.bcder_chars.specs.Texts.{IsText};
+ghost use Rattle.bcder_content.specs.Either.{IsRefusal, SameContent};
+ghost use Rattle.bcder_content.specs.Exact.{ReadsAs, ReadsOptAs};
+ghost use Rattle.bcder_content.specs.Here.{here};
+ghost use Rattle.bcder_strings.specs.Restricted.{IsRestricted, ReadsText};
+
+use crate::string::{RestrictedString, octets_of};
+use bcder_chars::CharSet;
+use bcder_content::Constructed;
+use bcder_content::content::Content;
+use bcder_octets::OctetString;
+use bcder_source::{ContentError, DecodeError, Source};
+use std::alloc::Global;
+
+// Refuses a content, from its beginning.
+fn refuse<S: Source>(content: &mut Content<'_, S>) -> Result<OctetString, DecodeError<S::Error>>
+    ensures same { SameContent content.old content.new }
+    ensures refused { IsRefusal result }
+{
+    if (*content).is_primitive() {
+        return content.primitive(
+            |prim|
+                ensures { IsRefusal result }
+            { Err(prim.content_err(ContentError::from_static("invalid character string"))) },
+        );
+    }
+    content.constructed(
+        |cons|
+            ensures { IsRefusal result }
+        { Err(cons.content_err(ContentError::from_static("invalid character string"))) },
+    )
+}
+
+// The octets of a content that is a text of the set.
+fn take_text<L: CharSet, S: Source>(
+    alloc: Global,
+    content: &mut Content<'_, S>,
+) -> Result<OctetString, DecodeError<S::Error>>
+    ensures { ReadsText L.has L.spell S.rest content.old result content.new }
+{
+    let octets = OctetString::from_content(alloc, content)?;
+    match L::check(octets_of(&octets)) {
+        Ok(()) => Ok(octets),
+        Err(_) => refuse(content),
+    }
+}
+
+/// Strings that are read.
+impl<L: CharSet> RestrictedString<L> {
+    /// The next value, a string with the tag of its kind (X.690 8.23): in BER primitive, or in segments that are
+    /// OCTET STRINGs, nested at will; in CER primitive to 1000 octets, else in segments of 1000 (9.2); in DER
+    /// primitive (10.2).
+    ///
+    /// Any other value is refused, and one whose octets are no text of the set.
+    pub fn take_from<S: Source>(
+        alloc: Global,
+        cons: &mut Constructed<S>,
+    ) -> Result<Self, DecodeError<S::Error>>
+        ensures reads { ReadsAs (λ octets. octets) (IsRestricted L.has L.spell (here S.rest cons.old).mode L.type_tag) (here S.rest cons.old) result (here S.rest cons.new) }
+        ensures failed { OnErr result ((here S.rest cons.new).failed ≡ true) }
+    {
+        let tag = L::tag();
+        let octets = cons.take_value_if(
+            tag,
+            |content|
+                ensures { ReadsText L.has L.spell S.rest content.old result content.new }
+            { take_text::<L, S>(alloc, content) },
+        )?;
+        Ok(RestrictedString::of_text(octets))
+    }
+
+    /// The same, where a value with that tag is next; else nothing is read.
+    pub fn take_opt_from<S: Source>(
+        alloc: Global,
+        cons: &mut Constructed<S>,
+    ) -> Result<Option<Self>, DecodeError<S::Error>>
+        ensures reads { ReadsOptAs (λ octets. octets) L.type_tag (IsRestricted L.has L.spell (here S.rest cons.old).mode L.type_tag) (here S.rest cons.old) result (here S.rest cons.new) }
+        ensures failed { OnErr result ((here S.rest cons.new).failed ≡ true) }
+    {
+        let taken = cons.take_opt_value_if(
+            L::tag(),
+            |content|
+                ensures { ReadsText L.has L.spell S.rest content.old result content.new }
+            { take_text::<L, S>(alloc, content) },
+        );
+        match taken {
+            Ok(Some(octets)) => Ok(Some(RestrictedString::of_text(octets))),
+            Ok(None) => Ok(None),
+            Err(error) => Err(error),
+        }
+    }
+
+    /// The string whose content that is, whatever its tag: for implicit tags (8.14).
+    pub fn from_content<S: Source>(
+        alloc: Global,
+        content: &mut Content<'_, S>,
+    ) -> Result<Self, DecodeError<S::Error>>
+        ensures { ReadsText L.has L.spell S.rest content.old result content.new }
+    {
+        let octets = take_text::<L, S>(alloc, content)?;
+        Ok(RestrictedString::of_text(octets))
+    }
+}
