@@ -237,6 +237,149 @@ def encodings(q):
     q.ask("AS4294967295.", "as", "decode", as_resources(tlv(0x30, integer(2 ** 32 - 1))).hex())
 
 
+def bits(value, count):
+    """A BIT STRING of the first `count` of all bits of `value`, in DER."""
+    size = (count + 7) // 8
+    return tlv(3, bytes([8 * size - count]) + (value << (8 * size - count)).to_bytes(size, "big"))
+
+
+def shortest(kind, address, end):
+    """How many bits are left of an address where those at its end, zeros or ones, are cut."""
+    count = kind.bits
+    while count and address >> (kind.bits - count) & 1 == end:
+        count -= 1
+    return count
+
+
+def end_of_range(kind, address, end):
+    count = rng.randrange(shortest(kind, address, end), kind.bits + 1)
+    return bits(address >> (kind.bits - count), count)
+
+
+def ip_block(kind, first, last):
+    prefixes = kind.prefixes(first, last)
+    if len(prefixes) == 1 and rng.random() < 0.7:
+        count = prefixes[0].prefixlen
+        return bits(first >> (kind.bits - count), count)
+    return tlv(0x30, end_of_range(kind, first, 0) + end_of_range(kind, last, 1))
+
+
+def ip_blocks(kind, listed):
+    return tlv(0x30, b"".join(ip_block(kind, *block) for block in listed))
+
+
+def ip_family(version, content):
+    return tlv(0x30, tlv(4, bytes([0, 1 if version == 4 else 2])) + content)
+
+
+NULL = tlv(5, b"")
+NO_IP = "refused: no IP resources"
+
+
+def families(q):
+    kinds = {4: Addresses(4), 6: Addresses(6)}
+    for _ in range(250):
+        said = {4: "missing", 6: "missing"}
+        octets = b""
+        for version in rng.choice([(4,), (6,), (4, 6), (6, 4)]):
+            kind = kinds[version]
+            listed = rng.choice([None, ranges(kind, 6), ranges(kind, 6), [wide(kind)]])
+            octets += ip_family(version, NULL if listed is None else ip_blocks(kind, listed))
+            said[version] = "inherit" if listed is None else f"[{q.text(kind, maximal(listed))}]"
+        octets = tlv(0x30, octets)
+        q.ask(f"{said[4]} {said[6]}", "ip", "decode", octets.hex())
+        q.ask(f"{said[4]} {said[6]}", "ip", "decode", (octets + b"behind").hex())
+        q.ask(NO_IP, "ip", "decode", octets[:-1].hex())
+    # `resource-cases`: IPv4 inherited and IPv6 missing; no families at all.
+    q.ask("inherit missing", "ip", "decode", "30083006040200010500")
+    q.ask(NO_IP, "ip", "decode", "3000")
+    refused_families(q, kinds)
+    in_other_modes(q)
+
+
+def wide(kind):
+    """A range between any two addresses."""
+    return tuple(sorted(rng.randrange(2 ** rng.randrange(1, kind.bits + 1)) for _ in range(2)))
+
+
+def refused_families(q, kinds):
+    v4 = lambda content: tlv(0x30, ip_family(4, content))
+    v6 = lambda content: tlv(0x30, ip_family(6, content))
+    ten = bits(10, 8)
+    q.ask("[] missing", "ip", "decode", v4(tlv(0x30, b"")).hex())
+    q.ask("[0.0.0.0/0] missing", "ip", "decode", v4(tlv(0x30, bits(0, 0))).hex())
+    q.ask("missing [::/0]", "ip", "decode", v6(tlv(0x30, tlv(0x30, bits(0, 0) + bits(0, 0)))).hex())
+    q.ask("[10.0.0.0/8] missing", "ip", "decode", v4(tlv(0x30, ten)).hex())
+    q.ask("[10.0.0.0-12.255.255.255] missing", "ip", "decode", v4(tlv(0x30, tlv(0x30, bits(5, 7) + bits(12, 8)))).hex())
+    q.ask("[10.0.0.1/32] missing", "ip", "decode", v4(tlv(0x30, bits(0x0A000001, 32))).hex())
+    q.ask("missing [::1/128]", "ip", "decode", v6(tlv(0x30, bits(1, 128))).hex())
+    q.ask("missing [a00::/33]", "ip", "decode", v6(tlv(0x30, bits(0x0A00000000000000 >> 31, 33))).hex())
+    for octets in (
+        b"",
+        tlv(0x31, ip_family(4, NULL)),
+        tlv(0x30, ip_family(4, NULL) + ip_family(4, NULL)),
+        tlv(0x30, ip_family(6, NULL) + ip_family(6, tlv(0x30, b""))),
+        tlv(0x30, ip_family(4, NULL) + ip_family(6, NULL) + ip_family(4, NULL)),
+        tlv(0x30, ip_family(4, NULL) + NULL),
+        tlv(0x30, NULL + ip_family(4, NULL)),
+        tlv(0x30, tlv(0x30, tlv(4, b"\0\1"))),
+        tlv(0x30, tlv(0x30, NULL + tlv(4, b"\0\1"))),
+        tlv(0x30, tlv(0x30, tlv(4, b"\0\1") + NULL + NULL)),
+        tlv(0x30, tlv(0x30, tlv(4, b"\0\3") + NULL)),
+        tlv(0x30, tlv(0x30, tlv(4, b"\0\0") + NULL)),
+        tlv(0x30, tlv(0x30, tlv(4, b"\1\0") + NULL)),
+        tlv(0x30, tlv(0x30, tlv(4, b"\1") + NULL)),
+        tlv(0x30, tlv(0x30, tlv(4, b"") + NULL)),
+        tlv(0x30, tlv(0x30, tlv(4, b"\0\1\1") + NULL)),
+        tlv(0x30, tlv(0x30, tlv(3, b"\0\0\1") + NULL)),
+        v4(tlv(5, b"0")),
+        v4(tlv(4, b"0")),
+        v4(ten),
+        v4(tlv(0x30, NULL)),
+        v4(tlv(0x30, ten + NULL)),
+        v4(tlv(0x30, tlv(0x30, NULL))),
+        # More bits than an address has.
+        v4(tlv(0x30, bits(5, 33))),
+        v4(tlv(0x30, bits(5, 40))),
+        v4(tlv(0x30, bits(5, 128))),
+        v6(tlv(0x30, bits(5, 129))),
+        v6(tlv(0x30, bits(5, 8 * 17))),
+        v6(tlv(0x30, bits(5, 8 * 300))),
+        v4(tlv(0x30, tlv(0x30, ten + bits(5, 33)))),
+        v4(tlv(0x30, tlv(0x30, bits(5, 33) + ten))),
+        # Set padding bits, more than 7, some of nothing, no count at all.
+        v4(tlv(0x30, tlv(3, b"\1\x0B"))),
+        v4(tlv(0x30, tlv(3, b"\7\xFF"))),
+        v4(tlv(0x30, tlv(3, b"\x08\x0A\0"))),
+        v4(tlv(0x30, tlv(3, b"\1"))),
+        v4(tlv(0x30, tlv(3, b""))),
+        v4(tlv(0x30, tlv(0x23, ten))),
+        # Ranges: the last before the first, one end, three.
+        v4(tlv(0x30, tlv(0x30, bits(11, 8) + bits(10, 8)))),
+        v4(tlv(0x30, tlv(0x30, bits(0x0A000001, 32) + bits(0x0A000000, 32)))),
+        v6(tlv(0x30, tlv(0x30, bits(1, 1) + bits(0, 1)))),
+        v4(tlv(0x30, tlv(0x30, ten))),
+        v4(tlv(0x30, tlv(0x30, ten + ten + ten))),
+        v4(tlv(0x30, tlv(0x30, b""))),
+    ):
+        q.ask(NO_IP, "ip", "decode", octets.hex())
+
+
+def in_other_modes(q):
+    """Set padding, indefinite lengths and strings in segments are for BER; CER has indefinite lengths alone."""
+    padded = "30 0D 30 0B 04 02 00 01 30 05 03 03 04 0A 1F"
+    q.ask("[10.16.0.0/12] missing", "ip", "decode", bytes.fromhex(padded).hex(), "ber")
+    q.ask(NO_IP, "ip", "decode", bytes.fromhex(padded).hex())
+    segments = "30 0C 30 0A 24 06 04 01 00 04 01 02 05 00"
+    q.ask("missing inherit", "ip", "decode", bytes.fromhex(segments).hex(), "ber")
+    q.ask(NO_IP, "ip", "decode", bytes.fromhex(segments).hex())
+    indefinite = "30 80 30 80 04 02 00 01 30 80 03 02 00 0A 00 00 00 00 00 00"
+    for mode in ("ber", "cer"):
+        q.ask("[10.0.0.0/8] missing", "ip", "decode", bytes.fromhex(indefinite).hex(), mode)
+    q.ask(NO_IP, "ip", "decode", bytes.fromhex(indefinite).hex())
+    q.ask(NO_IP, "ip", "decode", "30083006040200010500", "cer")
+
+
 def addresses(q):
     for version in (4, 6):
         kind = Addresses(version)
@@ -268,6 +411,7 @@ def main():
     numbers(q)
     encodings(q)
     addresses(q)
+    families(q)
     (FOLDER / "stdin").write_text("".join(f"{question}\n" for question, _ in q.rows))
     (FOLDER / "stdout").write_text("".join(f"{answer}\n" for _, answer in q.rows))
     print(len(q.rows), "questions")

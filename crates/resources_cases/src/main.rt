@@ -6,6 +6,7 @@
 
 mod addresses;
 mod claims;
+mod families;
 mod numbers;
 
 use anyhow::{Result, anyhow};
@@ -19,6 +20,7 @@ fn answer(alloc: Global, words: &[&str]) -> Result<String> {
     };
     match Question::of(*question) {
         Some(question) if *kind == "as" => numbers::answer(alloc, question, rest),
+        Some(question) if *kind == "ip" => families::answer(alloc, question, rest),
         Some(question) => addresses::answer(alloc, *kind, question, rest),
         None => Err(anyhow!("no such question")),
     }

@@ -1,2 +1,4 @@
 pub mod WholeLemmas
 pub mod FamilyLemmas
+pub mod Gathered
+pub mod Mentioned

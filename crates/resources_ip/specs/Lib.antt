@@ -2,6 +2,8 @@ pub mod Blocks
 pub mod WholeSets
 pub mod Choices
 pub mod Families
+pub mod Encodings
+pub mod Reading
 pub use Rattle.resources_ip_block.specs.Address
 pub use Rattle.resources_ip_block.specs.Block
 pub use Rattle.resources_ip_block.specs.Cover

@@ -3,6 +3,7 @@
 
 pub mod blocks;
 pub mod claims;
+mod der;
 pub mod listed;
 pub mod resources;
 pub mod v4;
@@ -11,7 +12,7 @@ pub mod v6;
 pub use blocks::{IpBlockIter, IpBlocks, IpBlocksBuilder};
 pub use claims::{OverclaimedIpResources, OverclaimedIpv4Resources, OverclaimedIpv6Resources};
 pub use listed::IpBlocksForFamily;
-pub use resources::{InheritedIpResources, IpResources, IpResourcesBuilder};
+pub use resources::{InheritedIpResources, IpFamilies, IpResources, IpResourcesBuilder};
 pub use resources_ip_block::{
     Addr, AddressFamily, AddressRange, DisplayV4Block, DisplayV6Block, FromStrError, IpBlock,
     Prefix, RangePrefixes, addr, block, cover, error, laws, prefix, range,

@@ -34,6 +34,15 @@ impl Model for IpResources {
     ghost inverse = { λ choice. record { choice = choice } };
 }
 
+/// What a certificate has of the addresses of both families (RFC 3779 2.2.3.1).
+#[derive(Debug, Drop)]
+pub struct IpFamilies {
+    /// Of IPv4 addresses.
+    pub v4: IpResources,
+    /// Of IPv6 addresses.
+    pub v6: IpResources,
+}
+
 impl IpResources {
     /// The issuer's addresses.
     pub fn inherit() -> Self

@@ -4,3 +4,7 @@ pub mod TextLemmas
 pub mod WholePrefix
 pub mod BlockText
 pub mod CoverLemmas
+pub mod Filled
+pub mod Contents
+pub mod Values
+pub mod Blocks

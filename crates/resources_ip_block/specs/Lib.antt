@@ -9,3 +9,6 @@ pub mod Text
 pub mod Family
 pub mod Whole
 pub mod Cover
+pub mod Encodings
+pub mod Contents
+pub mod BlockEncodings

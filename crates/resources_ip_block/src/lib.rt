@@ -4,6 +4,7 @@
 pub mod addr;
 pub mod block;
 pub mod cover;
+mod der;
 pub mod error;
 pub mod laws;
 pub mod prefix;

@@ -1,0 +1,13 @@
+use Rattle.std.proofs.Common.{subst}
+use Rattle.bcder_tree.specs.declared.mode.Mode.{Mode}
+use Rattle.bcder_content.specs.Exact.{ReadsAllAs}
+use Rattle.bcder_content.specs.Here.{here}
+use Rattle.bcder_content.proofs.Inside.{exact_each}
+use Rattle.resources_ip.specs.Encodings.{AreFamilyFields}
+use Rattle.resources_ip.specs.Reading.{family_choice}
+use Rattle.resources_ip.proofs.der.take_family.Goals as goal
+
+pub returns : goal.returns
+returns g c =
+    let rest = g.S.Source.rest in
+    exact_each (record { each = λ p q r m h. subst (λ (z : Mode). ReadsAllAs family_choice (AreFamilyFields z) (here rest p.now) r (here rest q.now)) m h }) c.take_sequence.ensures.ran

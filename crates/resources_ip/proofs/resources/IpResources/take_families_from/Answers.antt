@@ -1,0 +1,13 @@
+use Rattle.std.proofs.Common.{subst}
+use Rattle.bcder_tree.specs.declared.mode.Mode.{Mode}
+use Rattle.bcder_content.specs.Exact.{ReadsAllAs}
+use Rattle.bcder_content.specs.Here.{here}
+use Rattle.bcder_content.proofs.Inside.{exact_each}
+use Rattle.resources_ip.specs.Encodings.{AreIpFamilies}
+use Rattle.resources_ip.specs.Reading.{family_choices}
+use Rattle.resources_ip.proofs.resources.IpResources.take_families_from.Goals as goal
+
+pub returns-clause-reads : goal.returns-clause-reads
+returns-clause-reads g c =
+    let rest = g.S.Source.rest in
+    exact_each (record { each = λ p q r m h. subst (λ (z : Mode). ReadsAllAs family_choices (AreIpFamilies z) (here rest p.now) r (here rest q.now)) m h }) c.take_sequence.ensures.ran
