@@ -8,7 +8,7 @@ use Rattle.bcder_content.specs.Grammar.{OctetsOf, End, Then}
 use Rattle.bcder_oid.specs.Identifiers.{IsIdentifier, IsOid}
 use Rattle.bcder_octets.specs.Segments.{StringTrees}
 use Rattle.bcder_octets.proofs.Written.{written_string}
-use Rattle.bcder_values.specs.Encoded.{AreBoth, IsPlain, SpellsSome, joined}
+use Rattle.bcder_written.specs.Encoded.{AreBoth, IsPlain, SpellsSome, joined}
 use Rattle.bcder_example.specs.declared.notice.Notice.{Notice}
 use Rattle.bcder_example.specs.Notices.{IsNotice, AreNotice, WritesNotice, notice_spelled, read_fields}
 

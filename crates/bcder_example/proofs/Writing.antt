@@ -5,7 +5,7 @@ use Rattle.bcder_tree.specs.Tags.{TagValue, universal}
 use Rattle.bcder_tree.specs.Tree.{Trees}
 use Rattle.bcder_tree.specs.Strings.{octet_string_tag}
 use Rattle.bcder_octets.specs.Segments.{StringTrees, WritesString}
-use Rattle.bcder_values.specs.Encoded.{IsWrapped, WritesWrapped}
+use Rattle.bcder_written.specs.Encoded.{IsWrapped, WritesWrapped}
 use Rattle.bcder_example.specs.declared.notice.Notice.{Notice}
 use Rattle.bcder_example.specs.Notices.{AreFields, WritesFields, AreNotice, WritesNotice}
 

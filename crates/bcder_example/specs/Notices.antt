@@ -13,10 +13,10 @@ use Rattle.bcder_bits.specs.Bits.{BitsValue}
 use Rattle.bcder_bits.specs.Contents.{IsBitString, WritesBits, padded_in}
 use Rattle.bcder_bits.specs.Written.{one_bits}
 use Rattle.bcder_octets.specs.Segments.{StringTrees, WritesString, string_spelled, string_one}
-use Rattle.bcder_values.specs.Encoded.{AreBoth, WritesBoth, IsPlain, WritesPlain, IsWrapped, WritesWrapped, SpellsSome}
+use Rattle.bcder_written.specs.Encoded.{AreBoth, WritesBoth, IsPlain, WritesPlain, IsWrapped, WritesWrapped, SpellsSome}
 use Rattle.bcder_values.specs.Laws.{both_spelled, both_one}
 use Rattle.bcder_values.specs.Plains.{plain_spelled, plain_one}
-use Rattle.bcder_values.specs.Simple.{one_string}
+use Rattle.bcder_written.specs.Simple.{one_string}
 use Rattle.bcder_values.specs.Wraps.{wrapped_spelled, wrapped_one}
 use Rattle.bcder_example.specs.declared.notice.Notice.{Notice}
 
