@@ -2,13 +2,13 @@
 """Compares what the codec reads with what the Rust crate bcder reads: tests/bcder_answers.py BCDER [FOLDER]
 
 BCDER is the folder that `dpkg -x` made of Debian's packages librust-bcder-dev, librust-bytes-dev and
-librust-smallvec-dev. In FOLDER, or a temporary one, bcder_answers.rs.in is built with them by cargo; the other program is
-crates/bcder_answers, which `rt run` proves and builds.
+librust-smallvec-dev. In FOLDER, or a temporary one, bcder_answers.rs.in is built with them by cargo; the other
+program is crates/bcder_answers, which `rt run` proves and builds.
 
-Both answer the same questions, in each mode: of each kind of value on 10,000 octet strings, half of them made of values
-and then changed in places, half of them chance; on all octet strings of up to two octets; and on all of three octets that
-begin with one of the tags of TAGS. Each answer that differs has to be of one of the CLASSES: a test by this script's own
-reading of the octets, with the reason. Exits with 1 where one isn't.
+Both answer the same questions, in each mode: of each kind of value on 10,000 octet strings, half of them made of
+values, a third of these changed in one place, half of them chance; on all octet strings of up to two octets; and on all
+of three octets that begin with one of the tags of TAGS. Each answer that differs has to be of one of the CLASSES: a
+test by this script's own reading of the octets, with the reason. Exits with 1 where one isn't.
 
 With --record, some 2,000 questions on which both agree are written to crates/bcder_answers/stdin, and the Rust crate's
 answers to stdout: the gate runs the program on them.
@@ -105,7 +105,8 @@ class Maker:
         return self.value(5, b"" if self.rng.random() < 0.9 else self.some(2))
 
     def oid(self):
-        parts = [self.rng.choice([0, 39, 40, 79, 80, 127, 128, 2**14, 2**20, 2**27, 2**32 - 1, 2**35]) for _ in range(4)]
+        numbers = [0, 39, 40, 79, 80, 127, 128, 2**14, 2**20, 2**27, 2**32 - 1, 2**35]
+        parts = [self.rng.choice(numbers) for _ in range(4)]
         return self.value(6, b"".join(base_128(part) for part in parts[: self.rng.randrange(1, 5)]))
 
     def bits(self):
@@ -292,37 +293,40 @@ def tag_forms(mode, kind, octets, theirs, ours):
     def is_other(tag):
         return len(tag) > 1 and (tag[1] == 0x80 or len(tag) == 2 and tag[1] < 31)
 
-    return refused_here(theirs, ours) and any(is_other(tag) for tag, _, _, _ in headers(octets))
+    return refused_here(octets, theirs, ours) and any(is_other(tag) for tag, _, _, _ in headers(octets))
 
 
 def constructed_ends(mode, kind, octets, theirs, ours):
-    return refused_here(theirs, ours) and any(tag == b"\0" and form for tag, form, _, _ in headers(octets))
+    return refused_here(octets, theirs, ours) and any(tag == b"\0" and form for tag, form, _, _ in headers(octets))
 
 
 def length_forms(mode, kind, octets, theirs, ours):
     def is_other(form, length):
         return form and (mode == "cer" and length is not None or mode == "der" and length is None)
 
-    found = any(is_other(form, length) for _, form, length, _ in headers(octets))
-    return kind in EXTENTS and refused_here(theirs, ours) and found
+    if kind not in EXTENTS or not refused_here(octets, theirs, ours):
+        return False
+    return any(is_other(form, length) for _, form, length, _ in headers(octets))
 
 
 def unused_counts(mode, kind, octets, theirs, ours):
-    if kind != "bits" or not refused_here(theirs, ours):
+    if kind != "bits" or not refused_here(octets, theirs, ours):
         return False
     unused, *bits = content(octets)
     return unused > 7 or unused > 0 and not bits
 
 
 def padding_bits(mode, kind, octets, theirs, ours):
-    if kind != "bits" or mode == "ber" or not refused_here(theirs, ours):
+    if kind != "bits" or mode == "ber" or not refused_here(octets, theirs, ours):
         return False
     unused, *bits = content(octets)
     return unused < 8 and bits != [] and bits[-1] % 2**unused != 0
 
 
 def identifier_ends(mode, kind, octets, theirs, ours):
-    return kind == "oid" and refused_here(theirs, ours) and (content(octets) == b"" or content(octets)[-1] >= 128)
+    if kind != "oid" or not refused_here(octets, theirs, ours):
+        return False
+    return content(octets) == b"" or content(octets)[-1] >= 128
 
 
 def large_components(mode, kind, octets, theirs, ours):
@@ -333,14 +337,15 @@ def large_components(mode, kind, octets, theirs, ours):
 
 
 def segments(mode, kind, octets, theirs, ours):
-    if kind != "octets" or mode != "cer" or not refused_here(theirs, ours):
+    if kind != "octets" or mode != "cer" or not refused_here(octets, theirs, ours):
         return False
     sizes = [length for tag, form, length, _ in headers(octets) if tag == b"\4" and not form]
     return not (len(sizes) > 1 and all(size == 1000 for size in sizes[:-1]) and 1 <= sizes[-1] <= 1000)
 
 
-def refused_here(theirs, ours):
-    return ours == "refused" and theirs != "refused"
+def refused_here(octets, theirs, ours):
+    """Whether the value in front is whole, and refused here alone."""
+    return ours == "refused" and theirs != "refused" and is_whole(octets)
 
 
 CLASSES = {

@@ -33,24 +33,22 @@ IsNoticeBody m = Then (OctetsOf (universal 6) IsOid) (Then (OctetsOf (universal 
 abbrev pub IsNotice : Mode → Tree → Fields → Type 0
 IsNotice m = Inside (universal 16) (IsNoticeBody m)
 
--- What is written of a notice: a SEQUENCE of its fields, the last of them the note. The padding of flags is the mode's.
-abbrev pub AreFields : Mode → Notice → (Trees → Type 0) → Trees → Type 0
-AreFields m n Note =
-    AreBoth (IsPlain (universal 6) (λ content. AnyOctets content n.id.0))
-    (AreBoth (IsPlain (universal 2) (λ content. IsNatural content n.serial))
-    (AreBoth (IsPlain (universal 3) (WritesBits m n.flags)) Note))
-
-abbrev pub WritesFields : Mode → Notice → (List ℕ → Type 0) → List ℕ → Type 0
-WritesFields m n Note =
-    WritesBoth (WritesPlain m (universal 6) (λ content. AnyOctets content n.id.0))
-    (WritesBoth (WritesPlain m (universal 2) (λ content. IsNatural content n.serial))
-    (WritesBoth (WritesPlain m (universal 3) (WritesBits m n.flags)) Note))
-
+-- What is written of a notice: a SEQUENCE of its fields. The padding of flags is the mode's.
 abbrev pub AreNotice : Mode → Notice → Trees → Type 0
-AreNotice m n = IsWrapped (universal 16) (AreFields m n (StringTrees m octet_string_tag n.note))
+AreNotice m n =
+    IsWrapped (universal 16)
+    (AreBoth (IsPlain (universal 6) (λ content. AnyOctets content n.id.0))
+    (AreBoth (IsPlain (universal 2) (λ content. IsNatural content n.serial))
+    (AreBoth (IsPlain (universal 3) (WritesBits m n.flags))
+    (StringTrees m octet_string_tag n.note))))
 
 abbrev pub WritesNotice : Mode → Notice → List ℕ → Type 0
-WritesNotice m n = WritesWrapped m (universal 16) (WritesFields m n (WritesString m octet_string_tag n.note))
+WritesNotice m n =
+    WritesWrapped m (universal 16)
+    (WritesBoth (WritesPlain m (universal 6) (λ content. AnyOctets content n.id.0))
+    (WritesBoth (WritesPlain m (universal 2) (λ content. IsNatural content n.serial))
+    (WritesBoth (WritesPlain m (universal 3) (WritesBits m n.flags))
+    (WritesString m octet_string_tag n.note))))
 
 pub notice_spelled : (m : Mode) (n : Notice) (text : List ℕ) → WritesNotice m n text → SpellsSome m (AreNotice m n) text
 notice_spelled m n = wrapped_spelled m (both_spelled m (plain_spelled m) (both_spelled m (plain_spelled m) (both_spelled m (plain_spelled m) (string_spelled m octet_string_tag n.note))))

@@ -1,12 +1,14 @@
 //! Notices.
 
 ghost use Rattle.std.specs.Prelude.{◌≡◌, true, OnErr};
+ghost use Rattle.bcder_tree.specs.Tags.{universal};
 ghost use Rattle.bcder_content.specs.Exact.{ReadsAs, ReadsAllAs};
 ghost use Rattle.bcder_content.specs.Here.{here};
 ghost use Rattle.bcder_example.specs.Notices.{IsNotice, IsNoticeBody, notice_fields};
 
 use bcder::decode::{Constructed, DecodeError, Source};
 use bcder::encode::{self, EncodeError, PrimitiveContent, Values};
+use bcder::string::OctetSliceEncoder;
 use bcder::{BitString, Mode, OctetString, Oid, Tag, Unsigned};
 use std::alloc::Global;
 use std::io::Write;
@@ -23,6 +25,16 @@ pub struct Notice {
     /// Any octets.
     pub note: OctetString,
 }
+
+/// The encoders of a notice's fields, in a SEQUENCE.
+type Encoder<'a> = encode::Constructed<
+    (
+        encode::Primitive<&'a Oid>,
+        encode::Primitive<&'a Unsigned>,
+        encode::Primitive<&'a BitString>,
+        OctetSliceEncoder<&'a [u8]>,
+    ),
+>;
 
 impl Notice {
     /// The notice that is next; any other value is refused. Where the source shares its octets none is copied.
@@ -50,6 +62,25 @@ impl Notice {
             },
         )
     }
+
+    // The encoders of the fields, in a SEQUENCE.
+    fn encode_ref(&self) -> Encoder<'_>
+        ensures sequence { result.tag ≡ universal 16 }
+        ensures id { (result.inner.0.tag ≡ universal 6) × (result.inner.0.content.now.0 ≡ self.now.id.0) }
+        ensures serial { (result.inner.1.tag ≡ universal 2) × (result.inner.1.content.now ≡ self.now.serial) }
+        ensures flags { (result.inner.2.tag ≡ universal 3) × (result.inner.2.content.now ≡ self.now.flags) }
+        ensures note { (result.inner.3.tag ≡ universal 4) × (result.inner.3.octets.now ≡ self.now.note) }
+    {
+        encode::Constructed {
+            tag: Tag::SEQUENCE,
+            inner: (
+                self.id.encode_ref(),
+                self.serial.encode_ref(),
+                self.flags.encode_ref(),
+                self.note.encode_ref(),
+            ),
+        }
+    }
 }
 
 /// A SEQUENCE of the fields. An identifier is written by its octets, whatever they are.
@@ -64,48 +95,12 @@ impl Values for Notice {
     ghost writes = { λ n m. WritesNotice m n };
 
     fn encoded_len(&self, mode: Mode) -> Result<usize, EncodeError> {
-        let fields = (
-            encode::Primitive {
-                tag: Tag::OID,
-                content: &self.id,
-            },
-            encode::Primitive {
-                tag: Tag::INTEGER,
-                content: &self.serial,
-            },
-            encode::Primitive {
-                tag: Tag::BIT_STRING,
-                content: &self.flags,
-            },
-            self.note.encode_ref(),
-        );
-        let value = encode::Constructed {
-            tag: Tag::SEQUENCE,
-            inner: fields,
-        };
+        let value = self.encode_ref();
         value.encoded_len(mode)
     }
 
     fn write_encoded<W: Write>(&self, mode: Mode, target: &mut W) -> Result<(), EncodeError> {
-        let fields = (
-            encode::Primitive {
-                tag: Tag::OID,
-                content: &self.id,
-            },
-            encode::Primitive {
-                tag: Tag::INTEGER,
-                content: &self.serial,
-            },
-            encode::Primitive {
-                tag: Tag::BIT_STRING,
-                content: &self.flags,
-            },
-            self.note.encode_ref(),
-        );
-        let value = encode::Constructed {
-            tag: Tag::SEQUENCE,
-            inner: fields,
-        };
+        let value = self.encode_ref();
         value.write_encoded(mode, target)
     }
 

@@ -49,7 +49,10 @@ fn a_notice_is_written_and_read_again(rt: HostRuntime) -> Result<(), Fail> {
     for mode in [Mode::Ber, Mode::Cer, Mode::Der] {
         let captured = notice.to_captured(alloc, mode)?;
         assert_eq!(rt; captured.as_slice().len(), notice.encoded_len(mode)?);
-        assert_eq!(rt; captured.as_slice() == WRITTEN.as_slice(), mode != Mode::Cer);
+        assert_eq!(rt;
+            captured.as_slice() == WRITTEN.as_slice(),
+            mode != Mode::Cer
+        );
         let again = captured.decode(|cons| Notice::take_from(alloc, cons))?;
         assert!(rt; again.note == notice.note && again.flags == notice.flags);
     }
