@@ -6,5 +6,5 @@ pub use bcder_chars::{
 };
 pub use bcder_octets::{
     OctetSliceEncoder, OctetString, OctetStringEncoder, OctetStringIter, OctetStringOctets,
-    OctetStringSource,
+    OctetStringSource, WrappingOctetStringEncoder,
 };

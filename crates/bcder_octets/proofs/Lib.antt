@@ -6,3 +6,4 @@ pub mod Strings
 pub mod Visiting
 pub mod Walk
 pub mod Written
+pub mod Around

@@ -8,7 +8,8 @@
 //! input, and no octet of a string in one piece is copied where the source shares them. So `as_slice` lends the
 //! octets of each string, and `iter` gives one piece. Reading, `to_bytes` and `into_bytes` take an allocator and
 //! answer a `Result`. A string is compared with octets by `is_slice`. In CER segments are read and written as the
-//! standard has them. In BER a string is written as in DER, in one piece. There is no `encode_wrapped` yet.
+//! standard has them. In BER a string is written as in DER, in one piece. What `encode_wrapped` makes is refused in CER,
+//! as `CerUnsupported`.
 #![tactic(auto)]
 
 pub mod encode;
@@ -19,11 +20,13 @@ mod reading;
 mod segments;
 pub mod source;
 pub mod string;
+pub mod wrapping;
 
 pub use encode::{OctetSliceEncoder, OctetStringEncoder};
 pub use iter::{OctetStringIter, OctetStringOctets};
 pub use source::OctetStringSource;
 pub use string::OctetString;
+pub use wrapping::WrappingOctetStringEncoder;
 
 #[cfg(test)]
 mod tests;
