@@ -6,7 +6,7 @@ pub use bcder_chars::{
 };
 pub use bcder_octets::{
     OctetSliceEncoder, OctetString, OctetStringEncoder, OctetStringIter, OctetStringOctets,
-    OctetStringSource,
+    OctetStringSource, WrappingOctetStringEncoder,
 };
 pub use bcder_strings::{
     Ia5String, NumericString, PrintableString, RestrictedString, RestrictedStringChars,
