@@ -295,6 +295,37 @@ def families(q):
     q.ask(NO_IP, "ip", "decode", "3000")
     refused_families(q, kinds)
     in_other_modes(q)
+    written_blocks(q, kinds)
+    family_alone(q)
+
+
+def written_block(kind, first, last):
+    """A prefix where it is one, and else the shortest bit strings of both ends."""
+    prefixes = kind.prefixes(first, last)
+    if len(prefixes) == 1:
+        count = prefixes[0].prefixlen
+        return bits(first >> (kind.bits - count), count)
+    low, high = shortest(kind, first, 0), shortest(kind, last, 1)
+    return tlv(0x30, bits(first >> (kind.bits - low), low) + bits(last >> (kind.bits - high), high))
+
+
+def written_blocks(q, kinds):
+    for version, kind in kinds.items():
+        family = tlv(4, bytes([0, 1 if version == 4 else 2]))
+        listed = [ranges(kind, 4) or [(5, 9)] for _ in range(40)] + [[wide(kind)] for _ in range(60)]
+        for one in listed + [[(0, 2 ** kind.bits - 1)], [(1, 2 ** kind.bits - 1)], [(0, 2 ** kind.bits - 2)], [(0, 0)]]:
+            octets = b"".join(written_block(kind, *block) for block in maximal(one))
+            q.ask((family + octets).hex(), "ip", "encode", q.spelled(kind, one))
+
+
+def family_alone(q):
+    q.ask("Some(()) Some(Ipv6)", "ip", "family", "0402000104020002")
+    q.ask("Some(()) Some(Ipv4)", "ip", "family", "0402000204020001")
+    q.ask("Some(()) None", "ip", "family", "040200010500")
+    q.ask("Some(()) None", "ip", "family", "04020002")
+    q.ask("None None", "ip", "family", "0500")
+    for octets in ("0402000104020003", "04020100", "040100", "0403000101", "0402000104"):
+        q.ask("refused: no family", "ip", "family", octets)
 
 
 def wide(kind):

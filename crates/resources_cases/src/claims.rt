@@ -26,6 +26,10 @@ pub enum Question {
     Each,
     /// The resources that octets in hexadecimal digits encode in DER.
     Decode,
+    /// The blocks of a set in DER, one behind the other, and their family.
+    Encode,
+    /// The family in front of octets, and what is behind it.
+    Family,
 }
 
 impl Question {
@@ -44,6 +48,8 @@ impl Question {
             "count" => Some(Question::Count),
             "each" => Some(Question::Each),
             "decode" => Some(Question::Decode),
+            "encode" => Some(Question::Encode),
+            "family" => Some(Question::Family),
             _ => None,
         }
     }

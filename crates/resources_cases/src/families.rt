@@ -4,7 +4,8 @@ use crate::claims::Question;
 use anyhow::{Result, anyhow};
 use bcder_content::Decode;
 use bcder_source::{DecodeError, Mode};
-use resources_ip::{IpBlocksForFamily, IpResources};
+use bcder_values::Values;
+use resources_ip::{AddressFamily, IpBlocks, IpBlocksForFamily, IpResources};
 use std::alloc::Global;
 
 // What is said of a family.
@@ -42,12 +43,48 @@ fn decode(alloc: Global, mode: Mode, digits: &str) -> Result<String> {
     }
 }
 
-/// The answer to a question about octets in hexadecimal digits, in DER, or in the mode that a word names.
+// The octets that are written of values.
+fn written<V: Values>(alloc: Global, text: &mut String, values: &V) -> Result<()> {
+    let captured = values.to_captured(alloc, Mode::Der)?;
+    text.push_str(hex::encode(alloc, captured.as_slice())?.as_str())?;
+    Ok(())
+}
+
+// The family of a text of blocks, and the blocks of its set.
+fn encode(alloc: Global, listed: &str) -> Result<String> {
+    let set = IpBlocks::from_str(alloc, listed)?;
+    let mut text = String::new(alloc);
+    written(alloc, &mut text, &AddressFamily::of_text(listed).encode())?;
+    for block in set.iter() {
+        written(alloc, &mut text, &block.encode())?;
+    }
+    Ok(text)
+}
+
+// The family in front of octets, gone past, and a second one behind it.
+fn family(alloc: Global, digits: &str) -> Result<String> {
+    let octets = hex::decode(alloc, digits)?;
+    let read = Mode::Der.decode(octets.as_slice(), |cons| {
+        let first = AddressFamily::skip_opt_in(alloc, cons)?;
+        let second = AddressFamily::take_opt_from(alloc, cons)?;
+        Ok((first, second))
+    });
+    match read {
+        Ok((first, second)) => Ok(format!(in alloc; "{first:?} {second:?}")?),
+        Err(DecodeError::Memory) => Err(anyhow!("out of memory")),
+        Err(_) => Err(anyhow!("no family")),
+    }
+}
+
+/// The answer to a question about octets in hexadecimal digits, in DER, or in the mode that a word names; or about
+/// blocks that are written.
 pub fn answer(alloc: Global, question: Question, words: &[&str]) -> Result<String> {
     match (question, words) {
         (Question::Decode, [digits]) => decode(alloc, Mode::Der, *digits),
         (Question::Decode, [digits, "ber"]) => decode(alloc, Mode::Ber, *digits),
         (Question::Decode, [digits, "cer"]) => decode(alloc, Mode::Cer, *digits),
+        (Question::Encode, [listed]) => encode(alloc, *listed),
+        (Question::Family, [digits]) => family(alloc, *digits),
         _ => Err(anyhow!("octets alone are asked about")),
     }
 }

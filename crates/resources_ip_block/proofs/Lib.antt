@@ -8,3 +8,7 @@ pub mod Filled
 pub mod Contents
 pub mod Values
 pub mod Blocks
+pub mod Spelled
+pub mod Told
+pub mod Again
+pub mod WholeBlocks

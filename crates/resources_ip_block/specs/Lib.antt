@@ -12,3 +12,4 @@ pub mod Cover
 pub mod Encodings
 pub mod Contents
 pub mod BlockEncodings
+pub mod Written

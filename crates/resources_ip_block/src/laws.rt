@@ -1,10 +1,19 @@
 //! Laws of prefixes and ranges: the contracts of functions that do nothing.
 
 ghost use Rattle.std.specs.Prelude.{◌≡◌, ◌↔◌, ◌≤◌, ℕ};
+ghost use Rattle.bcder_tree.specs.declared.mode.Mode.{Mode as ModeValue};
+ghost use Rattle.bcder_tree.specs.Tree.{Tree, Trees};
+ghost use Rattle.bcder_values.specs.declared.choice.Choice2.{Choice2 as EitherValue};
+ghost use Rattle.bcder_values.specs.declared.primitive.Primitive.{Primitive as PrimitiveValue};
 ghost use Rattle.resources_chain.specs.Sets.{Run, InRun};
+ghost use Rattle.resources_ip_block.specs.declared.addr.AddressFamily.{AddressFamily as FamilyValue};
+ghost use Rattle.resources_ip_block.specs.declared.addr.AddressFamily.TheVariants.{Ipv4};
+ghost use Rattle.resources_ip_block.specs.declared.prefix.Prefix.{Prefix as PrefixValue};
+ghost use Rattle.resources_ip_block.specs.BlockEncodings.{IsBlock};
 ghost use Rattle.resources_ip_block.specs.Cover.{IsLargest, filled};
 ghost use Rattle.resources_ip_block.specs.Prefixes.{first_of, prefix_run};
 ghost use Rattle.resources_ip_block.specs.Whole.{IsWhole};
+ghost use Rattle.resources_ip_block.specs.Written.{BlockTrees, EncodesBlock, FitsRun, RangeValue, ReadsBlock};
 
 /// A prefix has exactly the addresses that begin with its bits (RFC 3779 2.1.1).
 #[tactic(auto, using(crate::proofs::CoverLemmas::shared_bits))]
@@ -22,4 +31,16 @@ pub fn whole_addresses_are_filled()
 #[tactic(auto, using(crate::proofs::CoverLemmas::short_v4))]
 pub fn prefixes_of_whole_addresses_are_short()
     ensures { (r : Run) (addr len : ℕ) → IsLargest (filled r) addr len → len ≤ 32 }
+{}
+
+/// What is written of a block is one value, which is read as a block with the same addresses, in each mode
+/// (RFC 3779 2.2.3.7); as one of IPv4 where it is over whole addresses.
+#[tactic(auto, using(crate::proofs::Again::block_again))]
+pub fn a_block_is_read_again()
+    ensures { (m : ModeValue) (family : FamilyValue) (run : Run) (x : EitherValue (PrimitiveValue PrefixValue) RangeValue) (ts : Trees) → run.first ≤ run.last → FitsRun family run → EncodesBlock run x → BlockTrees m x ts → ReadsBlock m family run ts }
+{}
+
+/// A block that is read as one of IPv4 is over whole addresses.
+pub fn v4_blocks_are_whole()
+    ensures { (m : ModeValue) (t : Tree) (run : Run) → IsBlock m Ipv4 t run → IsWhole run }
 {}

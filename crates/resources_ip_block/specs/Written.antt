@@ -1,0 +1,79 @@
+-- What is written of families, prefixes, ranges and blocks (RFC 3779 2.2.3).
+use Rattle.std.specs.Prelude.{◌≡◌, ℕ, ◌+◌, ◌-◌, ◌*◌, ◌/◌, ◌≤◌, take}
+use Rattle.std.specs.Int.{to_be_bytes, w128}
+use Rattle.bcder_tree.specs.declared.mode.Mode.{Mode}
+use Rattle.bcder_tree.specs.Tags.{universal}
+use Rattle.bcder_tree.specs.Tree.{Tree, Trees, none, more}
+use Rattle.bcder_bits.specs.Bits.{BitsValue}
+use Rattle.bcder_bits.specs.Contents.{WritesBits, bit_string_tag}
+use Rattle.bcder_values.specs.declared.choice.Choice2.{Choice2}
+use Rattle.bcder_values.specs.declared.choice.Choice2.TheVariants.{One, Two}
+use Rattle.bcder_values.specs.declared.constructed.Constructed.{Constructed}
+use Rattle.bcder_values.specs.declared.primitive.Primitive.{Primitive}
+use Rattle.bcder_values.specs.Choices.{AreEither}
+use Rattle.bcder_values.specs.Encoded.{AreBoth, IsPlain, IsWrapped}
+use Rattle.resources_chain.specs.Sets.{Run}
+use Rattle.resources_ip_block.specs.declared.addr.AddressFamily.{AddressFamily}
+use Rattle.resources_ip_block.specs.declared.addr.AddressFamily.TheVariants.{Ipv4, Ipv6}
+use Rattle.resources_ip_block.specs.declared.prefix.Prefix.{Prefix}
+use Rattle.resources_ip_block.specs.Address.{bits_of}
+use Rattle.resources_ip_block.specs.Prefix.{prefix_addr, prefix_len, run_of_prefix}
+use Rattle.resources_ip_block.specs.Prefixes.{first_of, last_of, prefix_run}
+use Rattle.resources_ip_block.specs.BlockEncodings.{IsBlock}
+use Rattle.resources_ip_block.specs.Whole.{IsWhole}
+
+-- How many octets so many bits have.
+abbrev pub octet_count : ℕ → ℕ
+octet_count len = (len + 7) / 8
+
+-- The bits of a prefix, as many as its length (2.2.3.8).
+abbrev pub spelled_bits : Prefix → BitsValue
+spelled_bits p = record { unused = 8 * octet_count (prefix_len p) - prefix_len p; octets = take (octet_count (prefix_len p)) (to_be_bytes w128 (bits_of (prefix_addr p))) }
+
+-- The bits of a first address, without the zeros at its end (2.2.3.9).
+pub record IsShortestMin (first : ℕ) (p : Prefix) : Type 0 where
+  pub begins : (run_of_prefix p).first ≡ first
+  pub shortest : (len : ℕ) → len ≤ 128 → first_of len first ≡ first → prefix_len p ≤ len
+
+-- Those of a last one, without the ones at its end (2.2.3.9).
+pub record IsShortestMax (last : ℕ) (p : Prefix) : Type 0 where
+  pub ends : (run_of_prefix p).last ≡ last
+  pub shortest : (len : ℕ) → len ≤ 128 → last_of len last ≡ last → prefix_len p ≤ len
+
+-- A range, as it is written.
+abbrev pub RangeValue : Type 0
+RangeValue = Constructed (Primitive Prefix × Primitive Prefix)
+
+-- A SEQUENCE of the shortest bit strings for the ends of a run.
+pub record EncodesRange (run : Run) (x : RangeValue) : Type 0 where
+  pub tag_is : x.tag ≡ universal 16
+  pub min_tag : x.inner.0.tag ≡ bit_string_tag
+  pub max_tag : x.inner.1.tag ≡ bit_string_tag
+  pub min_is : IsShortestMin run.first x.inner.0.content
+  pub max_is : IsShortestMax run.last x.inner.1.content
+
+-- A run as a prefix where it is one, and else as a range (2.2.3.7).
+abbrev pub EncodesBlock : Run → Choice2 (Primitive Prefix) RangeValue → Type 0
+EncodesBlock run (One x) = (x.tag ≡ bit_string_tag) × (run_of_prefix x.content ≡ run)
+EncodesBlock run (Two x) = EncodesRange run x × ((addr len : ℕ) → len ≤ 128 → first_of len addr ≡ addr → ¬ (prefix_run addr len ≡ run))
+
+-- The trees that are written (X.690 8.6, 8.9): one value of a prefix, of a range, of a block.
+abbrev pub PrefixTrees : Mode → Primitive Prefix → Trees → Type 0
+PrefixTrees m x = IsPlain x.tag (WritesBits m (spelled_bits x.content))
+
+abbrev pub RangeTrees : Mode → RangeValue → Trees → Type 0
+RangeTrees m x = IsWrapped x.tag (AreBoth (PrefixTrees m x.inner.0) (PrefixTrees m x.inner.1))
+
+abbrev pub BlockTrees : Mode → Choice2 (Primitive Prefix) RangeValue → Trees → Type 0
+BlockTrees m = AreEither (PrefixTrees m) (RangeTrees m)
+
+-- A run that a family can tell: of IPv4 whole addresses.
+abbrev pub FitsRun : AddressFamily → Run → Type 0
+FitsRun Ipv4 run = IsWhole run
+FitsRun Ipv6 run = Unit {0}
+
+-- The trees are one, which is read as a block of the run.
+pub record ReadsBlock (m : Mode) (family : AddressFamily) (run : Run) (ts : Trees) : Type 0 where
+  pub tree : Tree
+  pub alone : ts ≡ more tree none
+  pub is : IsBlock m family tree run
