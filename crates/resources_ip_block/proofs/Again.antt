@@ -9,8 +9,8 @@ use Rattle.bcder_tree.specs.Tree.{Tree, Trees, primitive, constructed, none, mor
 use Rattle.bcder_bits.specs.Contents.{WritesBits, bit_string_tag}
 use Rattle.bcder_values.specs.declared.choice.Choice2.{Choice2}
 use Rattle.bcder_values.specs.declared.choice.Choice2.TheVariants.{One, Two}
-use Rattle.bcder_values.specs.declared.primitive.Primitive.{Primitive}
-use Rattle.bcder_values.specs.Encoded.{joined}
+use Rattle.bcder_written.specs.declared.primitive.Primitive.{Primitive}
+use Rattle.bcder_written.specs.Encoded.{joined}
 use Rattle.resources_chain.specs.Sets.{Run}
 use Rattle.resources_ip_block.specs.declared.addr.AddressFamily.{AddressFamily}
 use Rattle.resources_ip_block.specs.declared.addr.AddressFamily.TheVariants.{Ipv4, Ipv6}

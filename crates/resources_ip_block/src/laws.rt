@@ -4,7 +4,7 @@ ghost use Rattle.std.specs.Prelude.{◌≡◌, ◌↔◌, ◌≤◌, ℕ};
 ghost use Rattle.bcder_tree.specs.declared.mode.Mode.{Mode as ModeValue};
 ghost use Rattle.bcder_tree.specs.Tree.{Tree, Trees};
 ghost use Rattle.bcder_values.specs.declared.choice.Choice2.{Choice2 as EitherValue};
-ghost use Rattle.bcder_values.specs.declared.primitive.Primitive.{Primitive as PrimitiveValue};
+ghost use Rattle.bcder_written.specs.declared.primitive.Primitive.{Primitive as PrimitiveValue};
 ghost use Rattle.resources_chain.specs.Sets.{Run, InRun};
 ghost use Rattle.resources_ip_block.specs.declared.addr.AddressFamily.{AddressFamily as FamilyValue};
 ghost use Rattle.resources_ip_block.specs.declared.addr.AddressFamily.TheVariants.{Ipv4};

@@ -8,8 +8,8 @@ use Rattle.resources_ip_block.specs.Address.{bits_of}
 use Rattle.resources_ip_block.specs.Prefix.{prefix_len}
 use Rattle.resources_ip_block.specs.Written.{octet_count}
 use Rattle.resources_ip_block.proofs.Spelled.{same_spelled}
-use Rattle.bcder_values.specs.Contents.{NoContent}
-use Rattle.bcder_values.specs.Writing.{HasLength}
+use Rattle.bcder_written.specs.Contents.{NoContent}
+use Rattle.bcder_written.specs.Writing.{HasLength}
 use Rattle.resources_ip_block.proofs.encode.PrefixPrimitiveContent.encoded_len.Goals as goal
 
 pub returns-clause-len : goal.returns-clause-len

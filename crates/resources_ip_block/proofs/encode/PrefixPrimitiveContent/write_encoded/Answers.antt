@@ -8,8 +8,8 @@ use Rattle.resources_ip_block.specs.Address.{bits_of}
 use Rattle.resources_ip_block.specs.Prefix.{prefix_len}
 use Rattle.resources_ip_block.specs.Written.{octet_count}
 use Rattle.resources_ip_block.proofs.Spelled.{same_spelled}
-use Rattle.bcder_values.specs.Contents.{ContentRefused}
-use Rattle.bcder_values.specs.Writing.{Wrote}
+use Rattle.bcder_written.specs.Contents.{ContentRefused}
+use Rattle.bcder_written.specs.Writing.{Wrote}
 use Rattle.resources_ip_block.proofs.encode.PrefixPrimitiveContent.write_encoded.Goals as goal
 
 pub returns-clause-written : goal.returns-clause-written
