@@ -7,46 +7,30 @@ use Rattle.bcder_content.specs.Exact.{Gives, Lacks, ReadsAs}
 use Rattle.bcder_source.specs.declared.error.DecodeError.{DecodeError}
 use Rattle.bcder_content.proofs.Choices.{as_gives, as_lacks}
 use Rattle.bcder_content.proofs.Taking.{weaker}
-use Rattle.bcder_content.specs.Grammar.{Inside, As, Many, Tagged, One}
-use Rattle.bcder_content.proofs.Unique.{octets_tagged, inside_tagged, such_tagged, as_tagged, octets_one, unsigned_one, inside_one, then_one, end_one}
+use Rattle.bcder_content.specs.Grammar.{Inside, As, Many, Tagged}
+use Rattle.bcder_content.proofs.Unique.{octets_tagged, as_tagged}
 use Rattle.resources_chain.specs.Sets.{Run, InRuns, IsRunsOf}
-use Rattle.resources_chain.specs.declared.choice.ResourcesChoice.TheVariants.{Blocks}
-use Rattle.resources_as.specs.Encodings.{AreEnds, Ends, InheritsAs, IsAsBlock, IsAsId, IsAsRange, ListsAs, alone, from_to}
-
-pub id_tagged : Tagged (universal 2) (As IsAsId alone)
-id_tagged = as_tagged (octets_tagged _ _)
-
-pub range_tagged : Tagged (universal 16) (As IsAsRange from_to)
-range_tagged = as_tagged (such_tagged (inside_tagged _ _))
+use Rattle.resources_as_block.specs.Encodings.{IsAsBlock}
+use Rattle.resources_as.specs.Encodings.{InheritsAs, IsAsSet, ListsAs}
 
 pub inherit_tagged : Tagged (universal 5) InheritsAs
 inherit_tagged = as_tagged (octets_tagged _ _)
 
-pub list_tagged : Tagged (universal 16) ListsAs
-list_tagged = record { tagged = λ t x p. ap tag_of p.is.whole }
+set_tagged : Tagged (universal 16) IsAsSet
+set_tagged = record { tagged = λ t x p. ap tag_of p.is.whole }
 
-pub id_is_no_sequence : universal 2 ≡ universal 16 → ⊥
-id_is_no_sequence e = let n : ◌≡◌ {A = ℕ} 2 16 = ap (λ (t : TagValue). t.number) e in omega arith
+pub list_tagged : Tagged (universal 16) ListsAs
+list_tagged = as_tagged set_tagged
 
 pub null_is_no_sequence : universal 5 ≡ universal 16 → ⊥
 null_is_no_sequence e = let n : ◌≡◌ {A = ℕ} 5 16 = ap (λ (t : TagValue). t.number) e in omega arith
 
--- Two numbers are read in one way.
-pub ends_one : One (Inside (universal 16) AreEnds)
-ends_one = inside_one (then_one (octets_one unsigned_one) (then_one (octets_one unsigned_one) end_one))
-
-pub same_ends : {a b c d : ℕ} → c ≡ a → d ≡ b → ◌≡◌ {A = Ends} (a, (b, tt)) (c, (d, tt))
-same_ends e f = cc
-
-pub same_alone : {a b : ℕ} → b ≡ a → alone a ≡ alone b
-same_alone e = cc
-
 -- A list of blocks, by their union.
-pub list_gives : {now new : ValuesLeft} {runs set : List Run} → Gives (Inside (universal 16) (Many IsAsBlock)) now runs new → IsRunsOf (InRuns runs) set → Gives ListsAs now (Blocks set) new
-list_gives {runs = runs} {set} g u = record { tree = g.tree; is = record { runs = runs; is = g.is; set = set; union = u; whole = refl }; took = g.took }
+pub set_gives : {now new : ValuesLeft} {runs set : List Run} → Gives (Inside (universal 16) (Many IsAsBlock)) now runs new → IsRunsOf (InRuns runs) set → Gives IsAsSet now set new
+set_gives {runs = runs} g u = record { tree = g.tree; is = record { runs = runs; is = g.is; union = u }; took = g.took }
 
-pub list_lacks : {now : ValuesLeft} → Lacks (Inside (universal 16) (Many IsAsBlock)) now → Lacks ListsAs now
-list_lacks l = record { none = λ t x p a. l.none t p.runs p.is a }
+pub set_lacks : {now : ValuesLeft} → Lacks (Inside (universal 16) (Many IsAsBlock)) now → Lacks IsAsSet now
+set_lacks l = record { none = λ t x p a. l.none t p.runs p.is a }
 
 -- A reader of a value is one of what the value means.
 pub as_reads : {A B C E : Type 0} (f : A → B) (Q : Tree → B → Type 0) (h : B → C) (old new : ValuesLeft) (r : Result A (DecodeError E)) → ReadsAs f Q old r new → ReadsAs (λ x. h (f x)) (As Q h) old r new

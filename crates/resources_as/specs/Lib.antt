@@ -1,7 +1,3 @@
-pub mod Ranges
-pub mod Blocks
-pub mod Counted
-pub mod Left
 pub mod Choices
 pub mod Encodings
-pub mod Reading
+pub mod Written

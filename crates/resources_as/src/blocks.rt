@@ -8,14 +8,13 @@ ghost use Rattle.resources_chain.specs.Same.{runs_eq, runs_eq_equiv};
 ghost use Rattle.resources_chain.specs.declared.choice.ResourcesChoice.TheVariants.{Inherit};
 ghost use Rattle.resources_chain.specs.declared.claims.Overclaim.TheVariants.{Refuse};
 ghost use Rattle.resources_chain.specs.Claims.{Lists, FitsIn, Kept, Refuses, HeldAlong, FitsAlong, RefusesAlong};
-ghost use Rattle.resources_as.specs.Blocks.{as_run};
-ghost use Rattle.resources_as.specs.Counted.{runs_count};
+ghost use Rattle.resources_as_block.specs.Blocks.{as_run};
+ghost use Rattle.resources_as_block.specs.Counted.{runs_count};
 ghost use Rattle.resources_asn.specs.Listed.{IsListOf};
 
-use crate::block::AsBlock;
 use crate::claims::OverclaimedAsResources;
-use crate::iter::{AsBlocksIter, AsnIter};
 use crate::resources::{AsResources, InheritedAsResources};
+use resources_as_block::{AsBlock, AsBlocksIter, AsnIter};
 use resources_asn::Asn;
 use resources_chain::{ClaimError, Overclaim, OwnedChain, SharedChain};
 use std::alloc::{AllocError, Global};
@@ -228,6 +227,13 @@ impl AsBlocks {
         }
     }
 
+    /// The blocks of the set, ascending.
+    pub(crate) fn as_blocks(&self) -> &[AsBlock]
+        ensures { map as_run result.now ≡ self.now }
+    {
+        self.chain.as_chain().as_slice()
+    }
+
     /// The chain of the set.
     pub(crate) fn as_shared(&self) -> &SharedChain<AsBlock>
         ensures { result.now ≡ self.now }
@@ -303,7 +309,7 @@ pub struct AsBlocksBuilder {
 impl Model for AsBlocksBuilder {
     ghost use Rattle.std.specs.Prelude.{List, map};
     ghost use Rattle.resources_chain.specs.Sets.{Run};
-    ghost use Rattle.resources_as.specs.Blocks.{as_run};
+    ghost use Rattle.resources_as_block.specs.Blocks.{as_run};
 
     ghost Value = { List Run };
 

@@ -1,18 +1,20 @@
-//! Laws of sets of AS numbers: the contracts of functions that do nothing.
+//! Laws of AS resources: the contracts of functions that do nothing.
 
-ghost use Rattle.std.specs.Prelude.{◌≡◌, ℕ, List, length};
-ghost use Rattle.resources_chain.specs.Sets.{Run, InRuns, AreMaximal};
-ghost use Rattle.resources_asn.specs.Listed.{IsListOf};
-ghost use Rattle.resources_as.specs.Counted.{runs_count, runs_numbers};
+ghost use Rattle.std.specs.Prelude.{◌≡◌};
+ghost use Rattle.bcder_tree.specs.Tree.{Tree, Trees};
+ghost use Rattle.resources_chain.specs.Claims.{Choice};
+ghost use Rattle.resources_chain.specs.declared.choice.ResourcesChoice.TheVariants.{Missing};
+ghost use Rattle.resources_as.specs.Encodings.{IsAsResources};
+ghost use Rattle.resources_as.specs.Written.{AreAsResources, HasMaximal, MeansJust};
 
-pub use resources_asn::laws::one_list_of_a_set;
+pub use resources_as_block::laws::{one_list_of_a_set, runs_are_counted, runs_are_listed};
 
-/// The numbers of maximal runs, run by run, are the list of their set.
-pub fn runs_are_listed()
-    ensures { (runs : List Run) → AreMaximal runs → IsListOf (InRuns runs) (runs_numbers runs) }
+/// What is written of AS resources that aren't missing is one value, which a reader takes for just these.
+pub fn what_is_written_means_just_these()
+    ensures { (choice : Choice) (ts : Trees) → HasMaximal choice → ¬ (choice ≡ Missing) → AreAsResources choice ts → MeansJust choice ts }
 {}
 
-/// The count of maximal runs is how many numbers are in their set.
-pub fn runs_are_counted()
-    ensures { (runs : List Run) (numbers : List ℕ) → AreMaximal runs → IsListOf (InRuns runs) numbers → length numbers ≡ runs_count runs }
+/// A value is AS resources in one way at most.
+pub fn one_meaning()
+    ensures { (t : Tree) (one other : Choice) → IsAsResources t one → IsAsResources t other → one ≡ other }
 {}

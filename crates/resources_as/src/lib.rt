@@ -1,24 +1,20 @@
 //! AS numbers and AS resources (RFC 3779 section 3).
 #![tactic(auto)]
 
-pub mod block;
 pub mod blocks;
 pub mod claims;
 mod der;
-pub mod error;
-pub mod iter;
 pub mod laws;
-pub mod range;
 pub mod resources;
 mod text;
+mod write;
 
-pub use block::AsBlock;
 pub use blocks::{AsBlocks, AsBlocksBuilder};
 pub use claims::OverclaimedAsResources;
-pub use error::FromStrError;
-pub use iter::{AsBlockIter, AsBlocksIter, AsnIter};
-pub use range::AsRange;
 pub use resources::{AsResources, AsResourcesBuilder, InheritedAsResources};
+pub use resources_as_block::{
+    AsBlock, AsBlockIter, AsBlocksIter, AsRange, AsnIter, FromStrError, block, error, iter, range,
+};
 pub use resources_asn::{
     Asn, ParseAsnError, SmallAsnSet, SmallSetDifference, SmallSetIntersection, SmallSetIter,
     SmallSetSymmetricDifference, SmallSetUnion, asn, small_set,

@@ -7,8 +7,8 @@ ghost use Rattle.resources_chain.specs.Sets.{Run, IsRunsOf};
 ghost use Rattle.resources_chain.specs.Claims.{Lists};
 ghost use Rattle.resources_chain.specs.Choices.{listed, IsChoiceOf};
 
-use crate::block::AsBlock;
 use crate::blocks::{AsBlocks, AsBlocksBuilder};
+use resources_as_block::AsBlock;
 use resources_chain::{Claim, InheritedResources, ResourcesChoice, SharedChain};
 use std::alloc::{AllocError, Global};
 use std::fmt;
@@ -81,6 +81,13 @@ impl AsResources {
         ensures { IsTrue result ↔ ¬ (self.now ≡ Missing) }
     {
         self.choice.is_present()
+    }
+
+    /// The choice.
+    pub(crate) fn choice(&self) -> &ResourcesChoice<AsBlocks>
+        ensures { result.now ≡ self.now }
+    {
+        &self.choice
     }
 
     /// The set that is listed; none where AS numbers are missing. Those of an issuer can't be told.

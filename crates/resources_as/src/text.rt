@@ -1,33 +1,10 @@
-//! Blocks and sets of AS numbers written and read: `AS1, AS3-AS5`.
+//! Sets of AS numbers written and read: `AS1, AS3-AS5`.
 
-use crate::block::AsBlock;
 use crate::blocks::{AsBlocks, AsBlocksBuilder};
-use crate::error::FromStrError;
-use crate::range::AsRange;
 use crate::resources::AsResources;
-use resources_asn::Asn;
+use resources_as_block::{AsBlock, FromStrError};
 use std::alloc::Global;
 use std::fmt;
-use std::str::FromStr;
-
-/// Reads one AS number, or two with a dash between.
-impl FromStr for AsBlock {
-    type Err = FromStrError;
-
-    fn from_str(text: &str) -> Result<Self, FromStrError> {
-        let Some((min, max)) = text.split_once('-') else {
-            return Ok(AsBlock::Id(text.parse::<Asn>()?));
-        };
-        if max.contains('-') {
-            return Err(FromStrError::BadRange);
-        }
-        let (min, max) = (min.parse::<Asn>()?, max.parse::<Asn>()?);
-        if max < min {
-            return Err(FromStrError::BadRange);
-        }
-        Ok(AsBlock::Range(AsRange::new(min, max)))
-    }
-}
 
 impl AsBlocks {
     /// The set of a text: blocks with `,` or `, ` between them, in any order; of the empty text, no AS numbers.

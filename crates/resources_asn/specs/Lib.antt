@@ -2,3 +2,4 @@ pub mod Numbers
 pub mod Listed
 pub mod Chosen
 pub mod Texts
+pub mod Encodings

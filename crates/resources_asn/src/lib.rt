@@ -2,6 +2,7 @@
 #![tactic(auto)]
 
 pub mod asn;
+mod der;
 pub mod laws;
 mod selection;
 pub mod small_set;

@@ -1,8 +1,7 @@
-use Rattle.bcder_content.proofs.Choices.{stop_value, second_gives, choice_lacks, second_lacks, as_lacks_tagged}
+use Rattle.bcder_content.proofs.Choices.{stop_value, second_gives, choice_lacks, second_lacks, as_gives, as_lacks, as_lacks_tagged}
 use Rattle.bcder_content.proofs.Forests.{absent}
-use Rattle.bcder_content.proofs.Inside.{exact_each}
-use Rattle.resources_as.proofs.Reading.{inherit_tagged, list_tagged, null_is_no_sequence, list_gives, list_lacks}
-use Rattle.resources_as.specs.Encodings.{IsAsChoice, inherits}
+use Rattle.resources_as.proofs.Reading.{inherit_tagged, list_tagged, null_is_no_sequence}
+use Rattle.resources_as.specs.Encodings.{IsAsChoice, inherits, lists}
 use Rattle.bcder_content.specs.Exact.{Gives}
 use Rattle.bcder_content.specs.Here.{here}
 use Rattle.resources_chain.specs.Claims.{Choice}
@@ -12,14 +11,14 @@ use Rattle.resources_as.proofs.der.take_choice.Goals as goal
 pub returns-in_err-inherit : goal.returns-in_err-inherit
 returns-in_err-inherit g c = stop_value _ _ _ _ c.from_residual.ensures (λ l. choice_lacks list_tagged null_is_no_sequence (as_lacks_tagged inherits l)) c.in_err-inherit.ensures.reads
 
-pub returns-in_err-blocks : goal.returns-in_err-blocks
-returns-in_err-blocks g c =
+pub returns-in_err-set : goal.returns-in_err-set
+returns-in_err-set g c =
     let none = absent _ _ _ c.in_default.is c.in_ok-inherit.ensures.reads in
-    stop_value _ _ _ _ c.from_residual-in_err-blocks.ensures (λ l. second_lacks inherit_tagged none (list_lacks l)) (exact_each (record { each = λ p q r m h. h }) c.in_err-blocks.ensures.ran)
+    stop_value _ _ _ _ c.from_residual-in_err-set.ensures (λ l. second_lacks inherit_tagged none (as_lacks lists l)) c.in_err-set.ensures
 
 pub returns : goal.returns
 returns g c =
     let none = absent _ _ _ c.in_default.is c.in_ok-inherit.ensures.reads in
     let rest = g.S.Source.rest in
-    let given = second_gives _ none (list_gives (exact_each (record { each = λ p q r m h. h }) c.in_ok-blocks.ensures.ran) c.in_ok-set.ensures) in
-    subst (λ (x : Choice). Gives IsAsChoice (here rest c.args.cons.now) x (here rest c.take_sequence.new.self)) (sym c.blocks-2.ensures) given
+    let given = second_gives _ none (as_gives lists c.in_ok-set.ensures) in
+    subst (λ (x : Choice). Gives IsAsChoice (here rest c.args.cons.now) x (here rest c.take_from.new.cons)) (sym c.blocks-2.ensures) given

@@ -1,0 +1,89 @@
+-- What is written of AS resources means just these.
+use Rattle.std.proofs.Common.{◌≡◌, ◌≢◌, ℕ, List, refl, sym, subst, inl, inr}
+use Rattle.bcder_tree.specs.Tags.{TagValue, universal, context}
+use Rattle.bcder_tree.specs.Tree.{Tree, Trees, primitive, constructed, none, more}
+use Rattle.bcder_primitive.specs.Values.{IsNull}
+use Rattle.bcder_content.specs.Grammar.{Inside, OctetsOf, OneOf, As, Then, Many, One, OneOctets}
+use Rattle.bcder_content.proofs.Unique.{octets_one, inside_one, as_one, one_of_one, end_one, then_one, many_one}
+use Rattle.bcder_values.specs.Encoded.{IsPlain, IsWrapped}
+use Rattle.resources_chain.specs.Sets.{Run, InRuns, AreMaximal, IsRunsOf}
+use Rattle.resources_chain.specs.Claims.{Choice}
+use Rattle.resources_chain.specs.declared.choice.ResourcesChoice.TheVariants.{Missing, Inherit, Blocks}
+use Rattle.resources_chain.proofs.SetLemmas.{one_list_of}
+use Rattle.resources_as_block.specs.Encodings.{IsAsBlock}
+use Rattle.resources_as_block.proofs.Again.{IsOne, blocks_are, block_one}
+use Rattle.resources_as.specs.Encodings.{InheritsAs, IsAsSet, ListsAs, IsAsChoice, IsAsResources}
+use Rattle.resources_as.specs.Written.{AreAsBlocks, AreIdentifiers, AreAsResources, HasMaximal, MeansJust}
+use Rattle.resources_as.proofs.Reading.{inherit_tagged, list_tagged, null_is_no_sequence}
+
+set_is : (runs : List Run) (ts : Trees) → AreMaximal runs → IsWrapped (universal 16) (AreAsBlocks runs) ts → IsOne IsAsSet runs ts
+set_is runs ts m p = record {
+  tree = constructed (universal 16) p.values;
+  whole = p.whole;
+  is = record {
+    runs = runs;
+    is = record { values = p.values; whole = refl; is = record { cases = blocks_are runs p.values m p.is } };
+    union = record { maximal = m; same = λ n. (λ i. i, λ i. i) };
+  };
+}
+
+null_is : (ts : Trees) → IsPlain (universal 5) (λ content. IsNull content tt) ts → IsOne IsAsChoice Inherit ts
+null_is ts p = record {
+  tree = primitive (universal 5) p.content;
+  whole = p.whole;
+  is = record { cases = inl (record { x = tt; is = record { content = p.content; whole = refl; is = p.is }; means = refl }) };
+}
+
+list_is : (runs : List Run) (ts : Trees) → AreMaximal runs → IsWrapped (universal 16) (AreAsBlocks runs) ts → IsOne IsAsChoice (Blocks runs) ts
+list_is runs ts m p = let a = set_is runs ts m p in record { tree = a.tree; whole = a.whole; is = record { cases = inr (record { x = runs; is = a.is; means = refl }) } }
+
+identifiers_are : (P : Trees → Type 0) (choice : Choice) → ((ts : Trees) → P ts → IsOne IsAsChoice choice ts) → (ts : Trees) → AreIdentifiers P ts → IsOne IsAsResources choice ts
+identifiers_are P choice inner ts p =
+    let a = inner p.is.values p.is.is in
+    record {
+      tree = constructed (universal 16) p.values;
+      whole = p.whole;
+      is = record {
+        x = ((choice, tt), tt);
+        is = record {
+          values = p.values;
+          whole = refl;
+          is = record {
+            first = constructed (context 0) p.is.values;
+            others = none;
+            whole = p.is.whole;
+            is = record { values = p.is.values; whole = refl; is = record { first = a.tree; others = none; whole = a.whole; is = a.is; rest = record { ended = refl } } };
+            rest = record { ended = refl };
+          };
+        };
+        means = refl;
+      };
+    }
+
+-- AS resources have one meaning.
+null_one : OneOctets IsNull
+null_one = record { one = λ content x y p q. refl }
+
+set_one : One IsAsSet
+set_one = record {
+  one = λ t x y p q.
+      let same : p.runs ≡ q.runs = (inside_one (many_one block_one)).one t p.runs q.runs p.is q.is in
+      one_list_of p.union (subst (λ (runs : List Run). IsRunsOf (InRuns runs) y) (sym same) q.union);
+}
+
+choice_one : One IsAsChoice
+choice_one = one_of_one inherit_tagged list_tagged null_is_no_sequence (as_one (octets_one null_one)) (as_one set_one)
+
+pub resources_one : One IsAsResources
+resources_one = as_one (inside_one (then_one (inside_one (then_one choice_one end_one)) end_one))
+
+just : (choice : Choice) (ts : Trees) → IsOne IsAsResources choice ts → MeansJust choice ts
+just choice ts a = record { tree = a.tree; whole = a.whole; is = a.is; only = λ other p. resources_one.one a.tree other choice p a.is }
+
+pub means_just : (choice : Choice) (ts : Trees) → HasMaximal choice → choice ≢ Missing → AreAsResources choice ts → MeansJust choice ts
+means_just Missing ts m there p = absurd (there refl)
+means_just Inherit ts m there p = just Inherit ts (identifiers_are (IsPlain (universal 5) (λ content. IsNull content tt)) Inherit null_is ts p)
+means_just (Blocks runs) ts m there p = just (Blocks runs) ts (identifiers_are (IsWrapped (universal 16) (AreAsBlocks runs)) (Blocks runs) (λ us q. list_is runs us m q) ts p)
+
+pub one_choice : (t : Tree) (one other : Choice) → IsAsResources t one → IsAsResources t other → one ≡ other
+one_choice t one other p q = resources_one.one t one other p q

@@ -1,0 +1,34 @@
+-- Blocks of AS numbers in an encoding (RFC 3779 3.2.3.5 to 3.2.3.9).
+use Rattle.std.specs.Prelude.{ℕ, ◌≤◌}
+use Rattle.bcder_tree.specs.Tags.{universal}
+use Rattle.bcder_tree.specs.Tree.{Tree, Trees}
+use Rattle.bcder_content.specs.Grammar.{Inside, Such, OneOf, As, End, Then}
+use Rattle.resources_chain.specs.Sets.{Run}
+use Rattle.resources_asn.specs.Encodings.{IsAsId, whichever}
+
+abbrev pub alone : ℕ → Run
+alone n = record { first = n; last = n }
+
+-- ASRange ::= SEQUENCE { min ASId, max ASId }, of which min isn't above max (3.2.3.7 to 3.2.3.9).
+abbrev pub Ends : Type 0
+Ends = ℕ × (ℕ × Unit {0})
+
+abbrev pub InOrder : Ends → Type 0
+InOrder ends = ends.0 ≤ ends.1.0
+
+abbrev pub from_to : Ends → Run
+from_to ends = record { first = ends.0; last = ends.1.0 }
+
+abbrev pub AreEnds : Trees → Ends → Type 0
+AreEnds = Then IsAsId (Then IsAsId End)
+
+abbrev pub IsAsRange : Tree → Ends → Type 0
+IsAsRange = Such (Inside (universal 16) AreEnds) InOrder
+
+-- ASIdOrRange ::= CHOICE { id ASId, range ASRange } (3.2.3.5).
+abbrev pub IsAsBlock : Tree → Run → Type 0
+IsAsBlock = OneOf (As IsAsId alone) (As IsAsRange from_to)
+
+-- Whichever it is.
+abbrev pub IsAnyAsBlock : Tree → Unit {0} → Type 0
+IsAnyAsBlock = As IsAsBlock whichever

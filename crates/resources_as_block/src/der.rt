@@ -1,0 +1,81 @@
+//! Blocks of AS numbers that are read from an encoding (RFC 3779 section 3.2.3.5).
+
+ghost use Rattle.bcder_tree.specs.Tags.{universal};
+ghost use Rattle.bcder_content.specs.Exact.{ReadsOptAs, ReadsAllAs};
+ghost use Rattle.bcder_content.specs.Here.{here};
+ghost use Rattle.bcder_content.specs.Perhaps.{ReadsIfAs};
+ghost use Rattle.resources_as_block.specs.Blocks.{as_run};
+ghost use Rattle.resources_as_block.specs.Encodings.{AreEnds, IsAsBlock, IsAsRange, IsAnyAsBlock};
+ghost use Rattle.resources_as_block.specs.Reading.{bounds_ends, range_ends};
+
+use crate::block::AsBlock;
+use crate::range::AsRange;
+use bcder_content::Constructed;
+use bcder_source::{ContentError, DecodeError, Source};
+use resources_asn::Asn;
+
+// The two numbers of a range, in any order.
+#[derive(Clone, Copy, Debug)]
+struct Bounds {
+    min: u32,
+    max: u32,
+}
+
+// A range, if a SEQUENCE is next.
+fn take_opt_range<S: Source>(
+    cons: &mut Constructed<S>,
+) -> Result<Option<AsRange>, DecodeError<S::Error>>
+    ensures { ReadsOptAs range_ends (universal 16) IsAsRange (here S.rest cons.old) result (here S.rest cons.new) }
+{
+    let bounds = cons.take_opt_sequence(
+        |cons|
+            ensures { ReadsAllAs bounds_ends AreEnds (here S.rest cons.old) result (here S.rest cons.new) }
+        {
+            let min = cons.take_u32()?;
+            let max = cons.take_u32()?;
+            Ok(Bounds { min, max })
+        },
+    )?;
+    let Some(bounds) = bounds else {
+        return Ok(None);
+    };
+    if bounds.max < bounds.min {
+        return Err(cons.content_err(ContentError::from_static(
+            "an AS range that ends before it begins",
+        )));
+    }
+    Ok(Some(AsRange::new(Asn::from_u32(bounds.min), Asn::from_u32(bounds.max))))
+}
+
+impl AsBlock {
+    /// A number or a range, if a value is next that may be one: an INTEGER or a SEQUENCE. Where another is next,
+    /// nothing is read.
+    pub fn take_opt_from<S: Source>(
+        cons: &mut Constructed<S>,
+    ) -> Result<Option<AsBlock>, DecodeError<S::Error>>
+        ensures { ReadsIfAs as_run IsAsBlock (here S.rest cons.old) result (here S.rest cons.new) }
+    {
+        let id = cons.take_opt_u32()?;
+        if let Some(id) = id {
+            return Ok(Some(AsBlock::Id(Asn::from_u32(id))));
+        }
+        let range = take_opt_range(cons)?;
+        match range {
+            Some(range) => Ok(Some(AsBlock::Range(range))),
+            None => Ok(None),
+        }
+    }
+
+    /// Skips a number or a range, as `take_opt_from` reads one, and tells whether one was there.
+    pub fn skip_opt_in<S: Source>(
+        cons: &mut Constructed<S>,
+    ) -> Result<Option<()>, DecodeError<S::Error>>
+        ensures { ReadsIfAs (λ x. x) IsAnyAsBlock (here S.rest cons.old) result (here S.rest cons.new) }
+    {
+        let block = AsBlock::take_opt_from(cons)?;
+        match block {
+            Some(_) => Ok(Some(())),
+            None => Ok(None),
+        }
+    }
+}

@@ -1,0 +1,17 @@
+-- AS numbers in an encoding (RFC 3779 3.2.3.10).
+use Rattle.std.specs.Prelude.{ℕ, ◌^◌}
+use Rattle.bcder_tree.specs.Tags.{universal}
+use Rattle.bcder_tree.specs.Tree.{Tree}
+use Rattle.bcder_primitive.specs.Values.{IsUnsigned}
+use Rattle.bcder_content.specs.Grammar.{OctetsOf, As}
+
+-- ASId ::= INTEGER, of 32 bits (3.2.3.10).
+abbrev pub IsAsId : Tree → ℕ → Type 0
+IsAsId = OctetsOf (universal 2) (IsUnsigned (2 ^ 32))
+
+-- Whichever it is.
+abbrev pub whichever : {A : Type 0} → A → Unit {0}
+whichever x = tt
+
+abbrev pub IsAnyAsId : Tree → Unit {0} → Type 0
+IsAnyAsId = As IsAsId whichever
