@@ -5,7 +5,7 @@ use Rattle.bcder_tree.specs.Tree.{Tree, Trees, primitive, constructed, none, mor
 use Rattle.bcder_primitive.specs.Values.{IsNull}
 use Rattle.bcder_content.specs.Grammar.{Inside, OctetsOf, OneOf, As, Then, Many, One, OneOctets}
 use Rattle.bcder_content.proofs.Unique.{octets_one, inside_one, as_one, one_of_one, end_one, then_one, many_one}
-use Rattle.bcder_values.specs.Encoded.{IsPlain, IsWrapped}
+use Rattle.bcder_written.specs.Encoded.{IsPlain, IsWrapped}
 use Rattle.resources_chain.specs.Sets.{Run, InRuns, AreMaximal, IsRunsOf}
 use Rattle.resources_chain.specs.Claims.{Choice}
 use Rattle.resources_chain.specs.declared.choice.ResourcesChoice.TheVariants.{Missing, Inherit, Blocks}

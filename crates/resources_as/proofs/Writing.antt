@@ -2,7 +2,7 @@
 use Rattle.std.proofs.Common.{◌≡◌, ℕ, List, [], ◌∷◌, map, refl, ap, ◌∙◌, subst}
 use Rattle.bcder_tree.specs.declared.mode.Mode.{Mode}
 use Rattle.bcder_tree.specs.Tree.{Trees}
-use Rattle.bcder_values.specs.Encoded.{AreBoth, WritesBoth}
+use Rattle.bcder_written.specs.Encoded.{AreBoth, WritesBoth}
 use Rattle.bcder_values.specs.Lists.{AreAll, WritesAll}
 use Rattle.resources_chain.specs.Sets.{Run}
 use Rattle.resources_as_block.specs.Blocks.{as_run}

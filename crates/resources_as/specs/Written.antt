@@ -4,11 +4,11 @@ use Rattle.bcder_tree.specs.declared.mode.Mode.{Mode}
 use Rattle.bcder_tree.specs.Tags.{TagValue, universal, context}
 use Rattle.bcder_tree.specs.Tree.{Tree, Trees, none, more}
 use Rattle.bcder_primitive.specs.Values.{IsNull}
-use Rattle.bcder_values.specs.Encoded.{NoTree, NoText, IsPlain, WritesPlain, IsWrapped, WritesWrapped, SpellsSome}
+use Rattle.bcder_written.specs.Encoded.{NoTree, NoText, IsPlain, WritesPlain, IsWrapped, WritesWrapped, SpellsSome}
 use Rattle.bcder_values.specs.Choices.{nothing_spelled, nothing_one}
 use Rattle.bcder_values.specs.Lists.{AreAll, WritesAll, all_spelled, all_one}
 use Rattle.bcder_values.specs.Plains.{plain_spelled, plain_one}
-use Rattle.bcder_values.specs.Simple.{one_null}
+use Rattle.bcder_written.specs.Simple.{one_null}
 use Rattle.bcder_values.specs.Wraps.{wrapped_spelled, wrapped_one}
 use Rattle.resources_chain.specs.Sets.{Run, AreMaximal}
 use Rattle.resources_chain.specs.Claims.{Choice}

@@ -2,8 +2,8 @@
 
 ghost use Rattle.std.specs.Prelude.{◌≡◌, IfOk, IfErr, OnOk};
 ghost use Rattle.bcder_tree.specs.Tags.{universal};
-ghost use Rattle.bcder_values.specs.Encoded.{IsWrapped, WritesWrapped};
-ghost use Rattle.bcder_values.specs.Writing.{HasLength, Wrote, CannotWrite, WriteRefused};
+ghost use Rattle.bcder_written.specs.Encoded.{IsWrapped, WritesWrapped};
+ghost use Rattle.bcder_written.specs.Writing.{HasLength, Wrote, CannotWrite, WriteRefused};
 ghost use Rattle.resources_chain.specs.declared.choice.ResourcesChoice.TheVariants.{Inherit};
 ghost use Rattle.resources_as.specs.Written.{AreIdentifiers, WritesIdentifiers, AreAsBlocks, WritesAsBlocks, AreAsResources, WritesAsResources, blocks_spelled, blocks_one, resources_spelled, resources_one};
 
@@ -45,7 +45,7 @@ impl AsBlocks {
 // How many octets AS resources have around what they say.
 fn identifiers_len<V: Values + Drop>(mode: Mode, inner: V) -> Result<usize, EncodeError>
     ensures len { IfOk result (HasLength (WritesIdentifiers mode (V.writes inner mode))) }
-    ensures refused { IfErr result (CannotWrite mode (AreIdentifiers (V.trees inner mode)) (WritesIdentifiers mode (V.writes inner mode))) }
+    ensures refused { IfErr result (CannotWrite (AreIdentifiers (V.trees inner mode)) (WritesIdentifiers mode (V.writes inner mode))) }
 {
     let asnum = Constructed {
         tag: Tag::CTX_0,
@@ -65,7 +65,7 @@ fn write_identifiers<V: Values + Drop, W: Write>(
     target: &mut W,
 ) -> Result<(), EncodeError>
     ensures written { OnOk result (Wrote (WritesIdentifiers mode (V.writes inner mode)) (W.contents target.old) (W.contents target.new)) }
-    ensures refused { IfErr result (WriteRefused mode (AreIdentifiers (V.trees inner mode)) (WritesIdentifiers mode (V.writes inner mode)) (target.new ≡ target.old) (W.contents target.old) (W.contents target.new)) }
+    ensures refused { IfErr result (WriteRefused (AreIdentifiers (V.trees inner mode)) (WritesIdentifiers mode (V.writes inner mode)) (target.new ≡ target.old) (W.contents target.old) (W.contents target.new)) }
 {
     let asnum = Constructed {
         tag: Tag::CTX_0,
@@ -81,7 +81,7 @@ fn write_identifiers<V: Values + Drop, W: Write>(
 // How many octets `inherit` has, as AS resources.
 fn inherit_len(mode: Mode) -> Result<usize, EncodeError>
     ensures len { IfOk result (HasLength (WritesAsResources mode Inherit)) }
-    ensures refused { IfErr result (CannotWrite mode (AreAsResources Inherit) (WritesAsResources mode Inherit)) }
+    ensures refused { IfErr result (CannotWrite (AreAsResources Inherit) (WritesAsResources mode Inherit)) }
 {
     let inherit = Primitive {
         tag: Tag::NULL,
@@ -93,7 +93,7 @@ fn inherit_len(mode: Mode) -> Result<usize, EncodeError>
 // Writes `inherit`, as AS resources.
 fn write_inherit<W: Write>(mode: Mode, target: &mut W) -> Result<(), EncodeError>
     ensures written { OnOk result (Wrote (WritesAsResources mode Inherit) (W.contents target.old) (W.contents target.new)) }
-    ensures refused { IfErr result (WriteRefused mode (AreAsResources Inherit) (WritesAsResources mode Inherit) (target.new ≡ target.old) (W.contents target.old) (W.contents target.new)) }
+    ensures refused { IfErr result (WriteRefused (AreAsResources Inherit) (WritesAsResources mode Inherit) (target.new ≡ target.old) (W.contents target.old) (W.contents target.new)) }
 {
     let inherit = Primitive {
         tag: Tag::NULL,
@@ -105,7 +105,7 @@ fn write_inherit<W: Write>(mode: Mode, target: &mut W) -> Result<(), EncodeError
 // How many octets a list of blocks has, as AS resources.
 fn list_len<V: Values + Drop>(mode: Mode, blocks: V) -> Result<usize, EncodeError>
     ensures len { IfOk result (HasLength (WritesIdentifiers mode (WritesWrapped mode (universal 16) (V.writes blocks mode)))) }
-    ensures refused { IfErr result (CannotWrite mode (AreIdentifiers (IsWrapped (universal 16) (V.trees blocks mode))) (WritesIdentifiers mode (WritesWrapped mode (universal 16) (V.writes blocks mode)))) }
+    ensures refused { IfErr result (CannotWrite (AreIdentifiers (IsWrapped (universal 16) (V.trees blocks mode))) (WritesIdentifiers mode (WritesWrapped mode (universal 16) (V.writes blocks mode)))) }
 {
     let list = Constructed {
         tag: Tag::SEQUENCE,
@@ -121,7 +121,7 @@ fn write_list<V: Values + Drop, W: Write>(
     target: &mut W,
 ) -> Result<(), EncodeError>
     ensures written { OnOk result (Wrote (WritesIdentifiers mode (WritesWrapped mode (universal 16) (V.writes blocks mode))) (W.contents target.old) (W.contents target.new)) }
-    ensures refused { IfErr result (WriteRefused mode (AreIdentifiers (IsWrapped (universal 16) (V.trees blocks mode))) (WritesIdentifiers mode (WritesWrapped mode (universal 16) (V.writes blocks mode))) (target.new ≡ target.old) (W.contents target.old) (W.contents target.new)) }
+    ensures refused { IfErr result (WriteRefused (AreIdentifiers (IsWrapped (universal 16) (V.trees blocks mode))) (WritesIdentifiers mode (WritesWrapped mode (universal 16) (V.writes blocks mode))) (target.new ≡ target.old) (W.contents target.old) (W.contents target.new)) }
 {
     let list = Constructed {
         tag: Tag::SEQUENCE,

@@ -5,7 +5,7 @@ use Rattle.bcder_tree.specs.Tags.{TagValue, universal, context}
 use Rattle.bcder_tree.specs.Tree.{Tree, Trees, primitive, constructed, none, more}
 use Rattle.bcder_content.specs.Grammar.{Inside, OctetsOf, Such, OneOf, As, End, Then, Many, ManyCases, Tagged, One, OneAll}
 use Rattle.bcder_content.proofs.Unique.{octets_one, unsigned_one, inside_one, such_one, as_one, one_of_one, end_one, then_one, many_one}
-use Rattle.bcder_values.specs.Encoded.{IsPlain, IsWrapped, AreBoth, joined}
+use Rattle.bcder_written.specs.Encoded.{IsPlain, IsWrapped, AreBoth, joined}
 use Rattle.bcder_values.specs.Lists.{AreAll}
 use Rattle.resources_chain.specs.Sets.{Run, InRuns, AreMaximal, IsRunsOf}
 use Rattle.resources_chain.specs.Same.{run_is}

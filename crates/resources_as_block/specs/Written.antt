@@ -3,8 +3,8 @@ use Rattle.std.specs.Prelude.{◌≡◌, ℕ, ◌^◌, ◌==◌, Bool, true, fal
 use Rattle.bcder_tree.specs.declared.mode.Mode.{Mode}
 use Rattle.bcder_tree.specs.Tags.{universal}
 use Rattle.bcder_tree.specs.Tree.{Trees}
-use Rattle.bcder_values.specs.Encoded.{IsPlain, WritesPlain, IsWrapped, WritesWrapped, AreBoth, WritesBoth, SpellsSome}
-use Rattle.bcder_values.specs.Integers.{WritesUnsigned, one_unsigned}
+use Rattle.bcder_written.specs.Encoded.{IsPlain, WritesPlain, IsWrapped, WritesWrapped, AreBoth, WritesBoth, SpellsSome}
+use Rattle.bcder_written.specs.Integers.{WritesUnsigned, one_unsigned}
 use Rattle.bcder_values.specs.Laws.{both_spelled, both_one}
 use Rattle.bcder_values.specs.Plains.{plain_spelled, plain_one}
 use Rattle.bcder_values.specs.Wraps.{wrapped_spelled, wrapped_one}

@@ -1,7 +1,7 @@
 //! Blocks of AS numbers that are written (RFC 3779 section 3.2.3.5).
 
 ghost use Rattle.std.specs.Prelude.{◌≡◌, ◌==◌, ℕ, IfOk, IfErr, OnOk};
-ghost use Rattle.bcder_values.specs.Writing.{HasLength, Wrote, CannotWrite, WriteRefused};
+ghost use Rattle.bcder_written.specs.Writing.{HasLength, Wrote, CannotWrite, WriteRefused};
 ghost use Rattle.resources_as_block.specs.Blocks.{as_run};
 ghost use Rattle.resources_as_block.specs.Ranges.{range_run};
 ghost use Rattle.resources_as_block.specs.Written.{AreAsId, WritesAsId, AreIdOrRange, WritesIdOrRange, AreAsRange, WritesAsRange, AreAsBlock, WritesAsBlock, range_spelled, range_one, block_spelled, block_one};
@@ -16,7 +16,7 @@ use std::io::Write;
 // How many octets a number has.
 fn id_len(mode: Mode, number: Asn) -> Result<usize, EncodeError>
     ensures len { IfOk result (HasLength (WritesAsId mode number.value)) }
-    ensures refused { IfErr result (CannotWrite mode (AreAsId number.value) (WritesAsId mode number.value)) }
+    ensures refused { IfErr result (CannotWrite (AreAsId number.value) (WritesAsId mode number.value)) }
 {
     let values = Primitive {
         tag: Tag::INTEGER,
@@ -28,7 +28,7 @@ fn id_len(mode: Mode, number: Asn) -> Result<usize, EncodeError>
 // Writes a number.
 fn write_id<W: Write>(mode: Mode, number: Asn, target: &mut W) -> Result<(), EncodeError>
     ensures written { OnOk result (Wrote (WritesAsId mode number.value) (W.contents target.old) (W.contents target.new)) }
-    ensures refused { IfErr result (WriteRefused mode (AreAsId number.value) (WritesAsId mode number.value) (target.new ≡ target.old) (W.contents target.old) (W.contents target.new)) }
+    ensures refused { IfErr result (WriteRefused (AreAsId number.value) (WritesAsId mode number.value) (target.new ≡ target.old) (W.contents target.old) (W.contents target.new)) }
 {
     let values = Primitive {
         tag: Tag::INTEGER,
@@ -40,7 +40,7 @@ fn write_id<W: Write>(mode: Mode, number: Asn, target: &mut W) -> Result<(), Enc
 // How many octets the two numbers of a range have, in their SEQUENCE.
 fn range_len(mode: Mode, min: Asn, max: Asn) -> Result<usize, EncodeError>
     ensures len { IfOk result (HasLength (WritesAsRange mode (record { first = min.value; last = max.value }))) }
-    ensures refused { IfErr result (CannotWrite mode (AreAsRange (record { first = min.value; last = max.value })) (WritesAsRange mode (record { first = min.value; last = max.value }))) }
+    ensures refused { IfErr result (CannotWrite (AreAsRange (record { first = min.value; last = max.value })) (WritesAsRange mode (record { first = min.value; last = max.value }))) }
 {
     let min = Primitive {
         tag: Tag::INTEGER,
@@ -60,7 +60,7 @@ fn range_len(mode: Mode, min: Asn, max: Asn) -> Result<usize, EncodeError>
 // Writes the two numbers of a range, in their SEQUENCE.
 fn write_range<W: Write>(mode: Mode, min: Asn, max: Asn, target: &mut W) -> Result<(), EncodeError>
     ensures written { OnOk result (Wrote (WritesAsRange mode (record { first = min.value; last = max.value })) (W.contents target.old) (W.contents target.new)) }
-    ensures refused { IfErr result (WriteRefused mode (AreAsRange (record { first = min.value; last = max.value })) (WritesAsRange mode (record { first = min.value; last = max.value })) (target.new ≡ target.old) (W.contents target.old) (W.contents target.new)) }
+    ensures refused { IfErr result (WriteRefused (AreAsRange (record { first = min.value; last = max.value })) (WritesAsRange mode (record { first = min.value; last = max.value })) (target.new ≡ target.old) (W.contents target.old) (W.contents target.new)) }
 {
     let min = Primitive {
         tag: Tag::INTEGER,
@@ -80,7 +80,7 @@ fn write_range<W: Write>(mode: Mode, min: Asn, max: Asn, target: &mut W) -> Resu
 // How many octets a block has: a number where it has one alone, else a range.
 fn block_len(mode: Mode, min: Asn, max: Asn) -> Result<usize, EncodeError>
     ensures len { IfOk result (HasLength (WritesAsBlock mode (record { first = min.value; last = max.value }))) }
-    ensures refused { IfErr result (CannotWrite mode (AreAsBlock (record { first = min.value; last = max.value })) (WritesAsBlock mode (record { first = min.value; last = max.value }))) }
+    ensures refused { IfErr result (CannotWrite (AreAsBlock (record { first = min.value; last = max.value })) (WritesAsBlock mode (record { first = min.value; last = max.value }))) }
 {
     if min.into_u32() == max.into_u32() {
         id_len(mode, min)
@@ -92,7 +92,7 @@ fn block_len(mode: Mode, min: Asn, max: Asn) -> Result<usize, EncodeError>
 // Writes a block: a number where it has one alone, else a range.
 fn write_block<W: Write>(mode: Mode, min: Asn, max: Asn, target: &mut W) -> Result<(), EncodeError>
     ensures written { OnOk result (Wrote (WritesAsBlock mode (record { first = min.value; last = max.value })) (W.contents target.old) (W.contents target.new)) }
-    ensures refused { IfErr result (WriteRefused mode (AreAsBlock (record { first = min.value; last = max.value })) (WritesAsBlock mode (record { first = min.value; last = max.value })) (target.new ≡ target.old) (W.contents target.old) (W.contents target.new)) }
+    ensures refused { IfErr result (WriteRefused (AreAsBlock (record { first = min.value; last = max.value })) (WritesAsBlock mode (record { first = min.value; last = max.value })) (target.new ≡ target.old) (W.contents target.old) (W.contents target.new)) }
 {
     if min.into_u32() == max.into_u32() {
         write_id(mode, min, target)

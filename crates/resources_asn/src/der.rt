@@ -6,7 +6,7 @@ ghost use Rattle.bcder_tree.specs.Tags.{universal};
 ghost use Rattle.bcder_source.specs.declared.error.DecodeError.TheVariants.{Memory};
 ghost use Rattle.bcder_content.specs.Exact.{ReadsAs, ReadsOptAs};
 ghost use Rattle.bcder_content.specs.Here.{here};
-ghost use Rattle.bcder_values.specs.Integers.{WritesUnsigned, one_unsigned};
+ghost use Rattle.bcder_written.specs.Integers.{WritesUnsigned, one_unsigned};
 ghost use Rattle.resources_asn.specs.Encodings.{IsAsId, IsAnyAsId};
 
 use crate::asn::Asn;

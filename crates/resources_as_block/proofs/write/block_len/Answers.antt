@@ -1,15 +1,15 @@
 use Rattle.std.proofs.Common.{◌≡◌, Bool, true, false, subst, sym, rules}
 use Rattle.std.specs.Prelude.{◌==◌, IfErr}
-use Rattle.bcder_values.specs.Writing.{CannotWrite}
+use Rattle.bcder_written.specs.Writing.{CannotWrite}
 use Rattle.resources_as_block.specs.Written.{AreIdOrRange, WritesIdOrRange}
 use Rattle.resources_as_block.proofs.write.block_len.Goals as goal
 
 pub returns-then-into_u32-clause-refused : goal.returns-then-into_u32-clause-refused
 returns-then-into_u32-clause-refused c =
     let one : (c.args.min.value == c.args.max.value) ≡ true = search rules in
-    subst (λ (z : Bool). IfErr c.id_len.result (CannotWrite c.args.mode (AreIdOrRange z (record { first = c.args.min.value; last = c.args.max.value })) (WritesIdOrRange z c.args.mode (record { first = c.args.min.value; last = c.args.max.value })))) (sym one) c.id_len.ensures.refused
+    subst (λ (z : Bool). IfErr c.id_len.result (CannotWrite (AreIdOrRange z (record { first = c.args.min.value; last = c.args.max.value })) (WritesIdOrRange z c.args.mode (record { first = c.args.min.value; last = c.args.max.value })))) (sym one) c.id_len.ensures.refused
 
 pub returns-else-into_u32-clause-refused : goal.returns-else-into_u32-clause-refused
 returns-else-into_u32-clause-refused c =
     let more : (c.args.min.value == c.args.max.value) ≡ false = search rules in
-    subst (λ (z : Bool). IfErr c.range_len.result (CannotWrite c.args.mode (AreIdOrRange z (record { first = c.args.min.value; last = c.args.max.value })) (WritesIdOrRange z c.args.mode (record { first = c.args.min.value; last = c.args.max.value })))) (sym more) c.range_len.ensures.refused
+    subst (λ (z : Bool). IfErr c.range_len.result (CannotWrite (AreIdOrRange z (record { first = c.args.min.value; last = c.args.max.value })) (WritesIdOrRange z c.args.mode (record { first = c.args.min.value; last = c.args.max.value })))) (sym more) c.range_len.ensures.refused

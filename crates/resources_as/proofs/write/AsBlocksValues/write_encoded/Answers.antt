@@ -1,6 +1,6 @@
 use Rattle.std.proofs.Common.{◌≡◌}
 use Rattle.std.specs.Prelude.{IfErr, OnOk}
-use Rattle.bcder_values.specs.Writing.{Wrote, WriteRefused}
+use Rattle.bcder_written.specs.Writing.{Wrote, WriteRefused}
 use Rattle.resources_as.proofs.Writing.{of_runs}
 use Rattle.resources_as.proofs.write.AsBlocksValues.write_encoded.Goals as goal
 
@@ -12,4 +12,4 @@ returns-clause-written g c =
 pub returns-clause-refused : goal.returns-clause-refused
 returns-clause-refused g c =
     let contents = g.W.Write.contents in
-    of_runs c.args.mode (λ T P. IfErr c.write_encoded.result (WriteRefused c.args.mode T P (c.write_encoded.new.target ≡ c.args.target.now) (contents c.args.target.now) (contents c.write_encoded.new.target))) c.as_blocks.result.now c.as_blocks.ensures c.write_encoded.ensures.refused
+    of_runs c.args.mode (λ T P. IfErr c.write_encoded.result (WriteRefused T P (c.write_encoded.new.target ≡ c.args.target.now) (contents c.args.target.now) (contents c.write_encoded.new.target))) c.as_blocks.result.now c.as_blocks.ensures c.write_encoded.ensures.refused

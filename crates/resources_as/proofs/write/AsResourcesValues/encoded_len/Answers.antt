@@ -1,14 +1,14 @@
 use Rattle.std.proofs.Common.{◌≡◌, sym, subst, ◌∙◌}
 use Rattle.std.specs.Prelude.{IfErr}
-use Rattle.bcder_values.specs.Writing.{CannotWrite}
+use Rattle.bcder_written.specs.Writing.{CannotWrite}
 use Rattle.resources_chain.specs.Claims.{Choice}
 use Rattle.resources_as.specs.Written.{AreAsResources, WritesAsResources}
 use Rattle.resources_as.proofs.write.AsResourcesValues.encoded_len.Goals as goal
 
 pub returns-in-Inherit-clause-refused : goal.returns-in-Inherit-clause-refused
 returns-in-Inherit-clause-refused c =
-    subst (λ (x : Choice). IfErr c.inherit_len.result (CannotWrite c.args.mode (AreAsResources x) (WritesAsResources c.args.mode x))) (sym c.in-Inherit.is ∙ c.choice.ensures) c.inherit_len.ensures.refused
+    subst (λ (x : Choice). IfErr c.inherit_len.result (CannotWrite (AreAsResources x) (WritesAsResources c.args.mode x))) (sym c.in-Inherit.is ∙ c.choice.ensures) c.inherit_len.ensures.refused
 
 pub returns-in-Blocks-clause-refused : goal.returns-in-Blocks-clause-refused
 returns-in-Blocks-clause-refused c =
-    subst (λ (x : Choice). IfErr c.list_len.result (CannotWrite c.args.mode (AreAsResources x) (WritesAsResources c.args.mode x))) (sym c.in-Blocks.is ∙ c.choice.ensures) c.list_len.ensures.refused
+    subst (λ (x : Choice). IfErr c.list_len.result (CannotWrite (AreAsResources x) (WritesAsResources c.args.mode x))) (sym c.in-Blocks.is ∙ c.choice.ensures) c.list_len.ensures.refused

@@ -2,11 +2,11 @@ use Rattle.std.proofs.Common.{◌≡◌, ap}
 use Rattle.std.specs.Prelude.{IfErr}
 use Rattle.resources_chain.specs.Sets.{Run}
 use Rattle.resources_asn.specs.Numbers.{Number}
-use Rattle.bcder_values.specs.Writing.{CannotWrite}
+use Rattle.bcder_written.specs.Writing.{CannotWrite}
 use Rattle.resources_as_block.specs.Written.{AreAsRange, WritesAsRange}
 use Rattle.resources_as_block.proofs.Writing.{as_ends}
 use Rattle.resources_as_block.proofs.write.AsRangeValues.encoded_len.Goals as goal
 
 pub returns-clause-refused : goal.returns-clause-refused
 returns-clause-refused c =
-    as_ends (λ (r : Run). IfErr c.range_len.result (CannotWrite c.args.mode (AreAsRange r) (WritesAsRange c.args.mode r))) (ap (λ (n : Number). n.value) c.min.ensures) (ap (λ (n : Number). n.value) c.max.ensures) c.range_len.ensures.refused
+    as_ends (λ (r : Run). IfErr c.range_len.result (CannotWrite (AreAsRange r) (WritesAsRange c.args.mode r))) (ap (λ (n : Number). n.value) c.min.ensures) (ap (λ (n : Number). n.value) c.max.ensures) c.range_len.ensures.refused

@@ -2,11 +2,11 @@ use Rattle.std.proofs.Common.{◌≡◌, ap}
 use Rattle.std.specs.Prelude.{IfErr}
 use Rattle.resources_chain.specs.Sets.{Run}
 use Rattle.resources_asn.specs.Numbers.{Number}
-use Rattle.bcder_values.specs.Writing.{WriteRefused}
+use Rattle.bcder_written.specs.Writing.{WriteRefused}
 use Rattle.resources_as_block.specs.Written.{AreAsRange, WritesAsRange}
 use Rattle.resources_as_block.proofs.Writing.{as_ends}
 use Rattle.resources_as_block.proofs.write.AsRangeValues.write_encoded.Goals as goal
 
 pub returns-clause-refused : goal.returns-clause-refused
 returns-clause-refused g c =
-    as_ends (λ (r : Run). IfErr c.write_range.result (WriteRefused c.args.mode (AreAsRange r) (WritesAsRange c.args.mode r) (c.write_range.new.target ≡ c.args.target.now) (g.W.Write.contents c.args.target.now) (g.W.Write.contents c.write_range.new.target))) (ap (λ (n : Number). n.value) c.min.ensures) (ap (λ (n : Number). n.value) c.max.ensures) c.write_range.ensures.refused
+    as_ends (λ (r : Run). IfErr c.write_range.result (WriteRefused (AreAsRange r) (WritesAsRange c.args.mode r) (c.write_range.new.target ≡ c.args.target.now) (g.W.Write.contents c.args.target.now) (g.W.Write.contents c.write_range.new.target))) (ap (λ (n : Number). n.value) c.min.ensures) (ap (λ (n : Number). n.value) c.max.ensures) c.write_range.ensures.refused
