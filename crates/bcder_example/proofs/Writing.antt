@@ -8,11 +8,7 @@ use Rattle.bcder_number.specs.Integers.{IsNatural}
 use Rattle.bcder_bits.specs.Bits.{BitsValue}
 use Rattle.bcder_bits.specs.Contents.{WritesBits}
 use Rattle.bcder_octets.specs.Segments.{StringTrees, WritesString}
-<<<<<<< HEAD
-use Rattle.bcder_written.specs.Encoded.{IsWrapped, WritesWrapped}
-=======
 use Rattle.bcder_written.specs.Encoded.{AreBoth, WritesBoth, IsPlain, WritesPlain, IsWrapped, WritesWrapped}
->>>>>>> 7964ab7734f6361d6ea0c7f3cd4859057b464721
 use Rattle.bcder_example.specs.declared.notice.Notice.{Notice}
 use Rattle.bcder_example.specs.Notices.{AreNotice, WritesNotice}
 

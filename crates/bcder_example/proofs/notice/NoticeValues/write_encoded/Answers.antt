@@ -1,12 +1,6 @@
-<<<<<<< HEAD
-use Rattle.std.proofs.Common.{◌≡◌, IfErr}
-use Rattle.bcder_written.specs.Writing.{WriteRefused}
-use Rattle.bcder_example.proofs.Writing.{said}
-=======
 use Rattle.std.proofs.Common.{◌≡◌, OnOk, IfErr}
 use Rattle.bcder_written.specs.Writing.{Wrote, WriteRefused}
 use Rattle.bcder_example.proofs.Writing.{said, same_lent}
->>>>>>> 7964ab7734f6361d6ea0c7f3cd4859057b464721
 use Rattle.bcder_example.proofs.notice.NoticeValues.write_encoded.Goals as goal
 
 pub returns-clause-written : goal.returns-clause-written
@@ -20,10 +14,5 @@ pub returns-clause-refused : goal.returns-clause-refused
 returns-clause-refused g c =
     let e = c.encode_ref-value.ensures in
     let contents = g.W.Write.contents in
-<<<<<<< HEAD
-    said (λ T P. IfErr c.write_encoded.result (WriteRefused T P (c.write_encoded.new.target ≡ c.args.target.now) (contents c.args.target.now) (contents c.write_encoded.new.target)))
-    c.args.self.now c.encode_ref.ensures.tag c.encode_ref.ensures.octets c.write_encoded.ensures.refused
-=======
     said (λ T P. IfErr c.write_encoded.result (WriteRefused T P (c.write_encoded.new.target ≡ c.args.target.now) (contents c.args.target.now) (contents c.write_encoded.new.target)))
     c.args.mode c.args.self.now _ (same_lent e.sequence e.id e.serial e.flags e.note) c.write_encoded.ensures.refused
->>>>>>> 7964ab7734f6361d6ea0c7f3cd4859057b464721
