@@ -10,6 +10,3 @@ pub mod laws;
 
 pub use ids::OverclaimIds;
 pub use resources_chain::Overclaim;
-
-#[cfg(test)]
-mod tests;
