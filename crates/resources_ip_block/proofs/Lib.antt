@@ -12,3 +12,4 @@ pub mod Spelled
 pub mod Told
 pub mod Again
 pub mod WholeBlocks
+pub mod Writing

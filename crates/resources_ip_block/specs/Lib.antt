@@ -13,3 +13,4 @@ pub mod Encodings
 pub mod Contents
 pub mod BlockEncodings
 pub mod Written
+pub mod WrittenBlock

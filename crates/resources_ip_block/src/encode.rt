@@ -8,6 +8,7 @@ ghost use Rattle.bcder_bits.specs.Written.{one_bits};
 ghost use Rattle.resources_ip_block.specs.Block.{run_of_block};
 ghost use Rattle.resources_ip_block.specs.Encodings.{family_octets};
 ghost use Rattle.resources_ip_block.specs.Range.{run_of_range};
+ghost use Rattle.resources_ip_block.specs.WrittenBlock.{AreIpBlock, WritesIpBlock, block_one, block_spelled};
 ghost use Rattle.resources_ip_block.specs.Written.{EncodesBlock, EncodesRange, IsShortestMax, IsShortestMin, octet_count, spelled_bits};
 
 use crate::addr::AddressFamily;
@@ -17,7 +18,9 @@ use crate::range::AddressRange;
 use bcder_bits::BitSlice;
 use bcder_octets::{OctetSliceEncoder, OctetString};
 use bcder_tree::{Mode, Tag};
-use bcder_values::{Choice2, Constructed, EncodeError, Primitive, PrimitiveContent, sequence};
+use bcder_values::{
+    Choice2, Constructed, EncodeError, Primitive, PrimitiveContent, Values, sequence,
+};
 use std::io::Write;
 
 /// A range that is written.
@@ -132,4 +135,25 @@ impl IpBlock {
             Err(range) => Choice2::Two(range.encode()),
         }
     }
+}
+
+/// A prefix where the block has the addresses of one, and else a range, whatever it was made of (RFC 3779 2.2.3.7).
+impl Values for IpBlock {
+    ghost trees = { λ b m. AreIpBlock m (run_of_block b) };
+
+    ghost writes = { λ b m. WritesIpBlock m (run_of_block b) };
+
+    fn encoded_len(&self, mode: Mode) -> Result<usize, EncodeError> {
+        let block = self.encode();
+        block.encoded_len(mode)
+    }
+
+    fn write_encoded<W: Write>(&self, mode: Mode, target: &mut W) -> Result<(), EncodeError> {
+        let block = self.encode();
+        block.write_encoded(mode, target)
+    }
+
+    ghost spelled = { λ b m. block_spelled m (run_of_block b) };
+
+    ghost one_text = { λ b m. block_one m (run_of_block b) };
 }
