@@ -17,3 +17,4 @@ pub mod Parts
 pub mod Passing
 pub mod Memories
 pub mod Perhaps
+pub mod Tagged

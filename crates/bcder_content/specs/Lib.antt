@@ -15,3 +15,4 @@ pub mod Either
 pub mod Skips
 pub mod Memory
 pub mod Perhaps
+pub mod Tagged

@@ -15,7 +15,7 @@ use bcder_source::{ContentError, DecodeError, Mode, Source, Tag};
 /// The content of a value, which is primitive or constructed.
 #[derive(Drop)]
 pub struct Content<'a, S> {
-    values: &'a mut Constructed<S>,
+    pub(crate) values: &'a mut Constructed<S>,
 }
 
 impl<'a, S: Source> Content<'a, S> {

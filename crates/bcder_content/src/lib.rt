@@ -6,6 +6,7 @@ pub mod captured;
 pub mod constructed;
 pub mod content;
 pub mod decode;
+pub mod either;
 pub mod laws;
 pub mod skip;
 pub mod typed;
