@@ -1,7 +1,5 @@
 -- Readers of a value's content, whatever the value's tag: of octets, and of values with a tag.
 use Rattle.std.proofs.Common.{◌≡◌, ℕ, Bool, true, false, List, Result, Ok, Err, Option, Some, None, refl, sym, ap, ◌∙◌, subst}
-use Rattle.std.specs.Fn.{Once}
-use denote.Ref.{MutBor}
 use Rattle.bcder_tree.specs.declared.mode.Mode.{Mode}
 use Rattle.bcder_tree.specs.Tags.{TagValue}
 use Rattle.bcder_tree.specs.Tree.{Tree, primitive}
@@ -12,7 +10,7 @@ use Rattle.bcder_primitive.specs.Plain.{OctetsLeft, LacksOctets, ReadsOctetsAs, 
 use Rattle.bcder_primitive.proofs.Primitives.{weaker_content}
 use Rattle.bcder_content.specs.declared.content.Content.{Content}
 use Rattle.bcder_content.specs.Contents.{ValuesLeft, tag_of}
-use Rattle.bcder_content.specs.Either.{Shows, SameContent, ByContentAlone, none_wanted, any_refused, any_goes_on, TakesCases, Takes, TakesOptCases, TakesOpt, AnyKind, WithTag, ReadsInAs}
+use Rattle.bcder_content.specs.Either.{Shows, SameContent, Meeting, none_wanted, any_refused, any_goes_on, TakesCases, Takes, TakesOptCases, TakesOpt, AnyKind, WithTag, ReadsInAs}
 use Rattle.bcder_content.specs.Exact.{Gives, Lacks, ReadsAs, ReadsOptAs}
 use Rattle.bcder_content.specs.Grammar.{OctetsOf}
 use Rattle.bcder_content.specs.Here.{here}
@@ -46,9 +44,18 @@ octets_tagged_read {rest = rest} {f} {P} {old} {mid} {new} {r} begun form same h
 
 -- Values with a tag, by closures that read their contents.
 
--- Each call of the closure reads the content exactly, whatever the value's tag.
-pub record ContentEach {F A B S E : Type 0} (rest : S → List ℕ) (g : Once F (MutBor (Content S) × Unit {0}) (Result A (DecodeError E) × (MutBor (Content S) × Unit {0}))) (op : F) (f : A → B) (P : Mode → TagValue → Tree → B → Type 0) : Type 0 where
-  pub each : (p q : MutBor (Content S)) (r : Result A (DecodeError E)) → g.post op (p, tt) (r, (q, tt)) → ReadsTagged rest f P p.now r q.now
+-- A meeting with a content, by a reader of it that knows no tag.
+pub record MeetsTagged {A B S E : Type 0} (rest : S → List ℕ) (f : A → B) (P : Mode → TagValue → Tree → B → Type 0) (form : Bool) (v : ValuesLeft) (r : Result A (DecodeError E)) (w : ValuesLeft) : Type 0 where
+  pub old : Content S
+  pub new : Content S
+  pub before : Shows rest old v
+  pub behind : Shows rest new w
+  pub form_is : old.values.now.constructed ≡ form
+  pub reads : ReadsTagged rest f P old r new
+
+-- Each meeting is one by such a reader.
+pub record EachTagged {A B S E : Type 0} (rest : S → List ℕ) (f : A → B) (P : Mode → TagValue → Tree → B → Type 0) (meets : Meeting A E) : Type 0 where
+  pub each : (form : Bool) (tag : TagValue) (v : ValuesLeft) (r : Result A (DecodeError E)) (w : ValuesLeft) → meets form tag v r w → MeetsTagged rest f P form v r w
 
 -- Values of the grammar for a tag have it.
 pub record HasTag {B : Type 0} (P : Mode → TagValue → Tree → B → Type 0) : Type 0 where
@@ -65,29 +72,29 @@ own_form : {A B E : Type 0} (f : A → B) (P : Mode → TagValue → Tree → B 
 own_form f P m true tag v r w h = h
 own_form f P m false tag v r w h = h
 
-own_met : {A B S E : Type 0} {rest : S → List ℕ} {f : A → B} {P : Mode → TagValue → Tree → B → Type 0} (m : Mode) (form : Bool) (tag : TagValue) (v : ValuesLeft) (r : Result A (DecodeError E)) (w : ValuesLeft) (old new : Content S) → v.mode ≡ m → Shows rest old v → Shows rest new w → old.values.now.constructed ≡ form → ReadsTagged rest f P old r new → ReadsInAs f (Own P m) form tag v r w
-own_met {rest = rest} {f} {P} m form tag v r w old new mode before behind same met =
-    let k = old.values.now in
-    let l = new.values.now in
+own_met : {A B S E : Type 0} {rest : S → List ℕ} {f : A → B} {P : Mode → TagValue → Tree → B → Type 0} (m : Mode) (form : Bool) (tag : TagValue) (v : ValuesLeft) (r : Result A (DecodeError E)) (w : ValuesLeft) → v.mode ≡ m → MeetsTagged rest f P form v r w → ReadsInAs f (Own P m) form tag v r w
+own_met {rest = rest} {f} {P} m form tag v r w mode met =
+    let k = met.old.values.now in
+    let l = met.new.values.now in
     let n = (here rest k).mode in
-    let one = subst (λ (b : Bool). ReadsInAs f (P n tag) b tag (here rest k) r (here rest l)) same (met.reads tag) in
-    let two = subst (λ (z : ValuesLeft). ReadsInAs f (P z.mode tag) form tag z r (here rest l)) before.left_is one in
-    let three = subst (λ (z : ValuesLeft). ReadsInAs f (P v.mode tag) form tag v r z) behind.left_is two in
+    let one = subst (λ (b : Bool). ReadsInAs f (P n tag) b tag (here rest k) r (here rest l)) met.form_is (met.reads.reads tag) in
+    let two = subst (λ (z : ValuesLeft). ReadsInAs f (P z.mode tag) form tag z r (here rest l)) met.before.left_is one in
+    let three = subst (λ (z : ValuesLeft). ReadsInAs f (P v.mode tag) form tag v r z) met.behind.left_is two in
     own_form f P m form tag v r w (subst (λ (k : Mode). ReadsInAs f (P k tag) form tag v r w) mode three)
 
 own_lacks : {B : Type 0} (P : Mode → TagValue → Tree → B → Type 0) → HasTag P → (m : Mode) (tag : TagValue) {old : ValuesLeft} → Lacks (Own P m) old → Lacks (P m tag) old
 own_lacks P has m tag l = record { none = λ t x p a. l.none t x (subst (λ (u : TagValue). P m u t x) (sym (has.has m tag t x p)) p) a }
 
-module _ {F A B S E : Type 0} {rest : S → List ℕ} {g : Once F (MutBor (Content S) × Unit {0}) (Result A (DecodeError E) × (MutBor (Content S) × Unit {0}))} {op : F} {f : A → B} {P : Mode → TagValue → Tree → B → Type 0} (has : HasTag P) (exact : ContentEach rest g op f P) where
-  own_reads : (m : Mode) → AnyReads (ByContentAlone rest g op) m f (Own P m)
-  own_reads m = record { each = λ form tag v r w mode met. own_met m form tag v r w met.0.now met.1.now mode met.2 met.3 met.4 (exact.each met.0 met.1 r met.5) }
+module _ {A B S E : Type 0} {rest : S → List ℕ} {f : A → B} {P : Mode → TagValue → Tree → B → Type 0} {meets : Meeting A E} (has : HasTag P) (exact : EachTagged rest f P meets) where
+  own_reads : (m : Mode) → AnyReads meets m f (Own P m)
+  own_reads m = record { each = λ form tag v r w mode met. own_met m form tag v r w mode (exact.each form tag v r w met) }
 
-  any_lacks : (tag : TagValue) (old new : ValuesLeft) (e : _) (pos : _) → Takes (ByContentAlone rest g op) AnyKind old (Err (content_error e pos)) new → Lacks (P old.mode tag) old
+  any_lacks : (tag : TagValue) (old new : ValuesLeft) (e : _) (pos : _) → Takes meets AnyKind old (Err (content_error e pos)) new → Lacks (P old.mode tag) old
   any_lacks tag old new e pos all = own_lacks P has old.mode tag (exact_any {r = Err (content_error e pos)} (record { wanted = λ t y s. tt }) (own_reads old.mode) all)
 
-  own_cases : (tag : TagValue) (old new : ValuesLeft) (r : Result A (DecodeError E)) → TakesCases (ByContentAlone rest g op) (WithTag tag) old r new → ReadsAs f (P old.mode tag) old r new
+  own_cases : (tag : TagValue) (old new : ValuesLeft) (r : Result A (DecodeError E)) → TakesCases meets (WithTag tag) old r new → ReadsAs f (P old.mode tag) old r new
   own_cases tag old new (Ok x) h =
-      let all : Takes (ByContentAlone rest g op) AnyKind old (Ok x) new = record { cases = (h.0, h.1, h.2, h.3, tt, h.5, h.6) } in
+      let all : Takes meets AnyKind old (Ok x) new = record { cases = (h.0, h.1, h.2, h.3, tt, h.5, h.6) } in
       let given : Gives (Own P old.mode) old (f x) new = exact_any {r = Ok x} (record { wanted = λ t y s. tt }) (own_reads old.mode) all in
       let found = opens_tag given.tree h.5.enters.opens (took_front given.took) in
       record { tree = given.tree; is = subst (λ (u : TagValue). P old.mode u given.tree (f x)) (found.0 ∙ h.4) given.is; took = given.took }
@@ -99,15 +106,15 @@ module _ {F A B S E : Type 0} {rest : S → List ℕ} {g : Once F (MutBor (Conte
   own_cases tag old new (Err (Source e)) h = tt
   own_cases tag old new (Err Memory) h = tt
 
-  own_opt_cases : (tag : TagValue) (old new : ValuesLeft) (r : Result (Option A) (DecodeError E)) → TakesOptCases (ByContentAlone rest g op) tag old r new → ReadsOptAs f tag (P old.mode tag) old r new
+  own_opt_cases : (tag : TagValue) (old new : ValuesLeft) (r : Result (Option A) (DecodeError E)) → TakesOptCases meets tag old r new → ReadsOptAs f tag (P old.mode tag) old r new
   own_opt_cases tag old new (Ok (Some x)) h = own_cases tag old new (Ok x) h.cases
   own_opt_cases tag old new (Ok None) h = h
   own_opt_cases tag old new (Err e) h = tagged_lacks (P old.mode tag) old tag e h.0 (own_cases tag old new (Err e) h.1.cases)
 
   -- A value of the tag.
-  pub exact_tagged : {tag : TagValue} {old new : ValuesLeft} {r : Result A (DecodeError E)} → Takes (ByContentAlone rest g op) (WithTag tag) old r new → ReadsAs f (P old.mode tag) old r new
+  pub exact_tagged : {tag : TagValue} {old new : ValuesLeft} {r : Result A (DecodeError E)} → Takes meets (WithTag tag) old r new → ReadsAs f (P old.mode tag) old r new
   exact_tagged {tag} {old} {new} {r} h = own_cases tag old new r h.cases
 
   -- The same, where one is next.
-  pub exact_tagged_opt : {tag : TagValue} {old new : ValuesLeft} {r : Result (Option A) (DecodeError E)} → TakesOpt (ByContentAlone rest g op) tag old r new → ReadsOptAs f tag (P old.mode tag) old r new
+  pub exact_tagged_opt : {tag : TagValue} {old new : ValuesLeft} {r : Result (Option A) (DecodeError E)} → TakesOpt meets tag old r new → ReadsOptAs f tag (P old.mode tag) old r new
   exact_tagged_opt {tag} {old} {new} {r} h = own_opt_cases tag old new r h.cases
