@@ -4,6 +4,7 @@ pub mod Choices
 pub mod Families
 pub mod Encodings
 pub mod Reading
+pub mod Written
 pub use Rattle.resources_ip_block.specs.Address
 pub use Rattle.resources_ip_block.specs.Block
 pub use Rattle.resources_ip_block.specs.Cover

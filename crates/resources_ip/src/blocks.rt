@@ -207,6 +207,13 @@ impl IpBlocks {
         resources.to_blocks()
     }
 
+    // The blocks, ascending.
+    pub(crate) fn as_blocks(&self) -> &[IpBlock]
+        ensures { map run_of_block result.now ≡ self.now }
+    {
+        self.chain.as_chain().as_slice()
+    }
+
     // The chain.
     pub(crate) fn as_shared(&self) -> &SharedChain<IpBlock>
         ensures { result.now ≡ self.now }

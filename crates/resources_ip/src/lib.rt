@@ -4,10 +4,12 @@
 pub mod blocks;
 pub mod claims;
 mod der;
+pub mod laws;
 pub mod listed;
 pub mod resources;
 pub mod v4;
 pub mod v6;
+mod write;
 
 pub use blocks::{IpBlockIter, IpBlocks, IpBlocksBuilder};
 pub use claims::{OverclaimedIpResources, OverclaimedIpv4Resources, OverclaimedIpv6Resources};
@@ -15,7 +17,7 @@ pub use listed::IpBlocksForFamily;
 pub use resources::{InheritedIpResources, IpFamilies, IpResources, IpResourcesBuilder};
 pub use resources_ip_block::{
     Addr, AddressFamily, AddressRange, DisplayV4Block, DisplayV6Block, FromStrError, IpBlock,
-    Prefix, RangePrefixes, addr, block, cover, error, laws, prefix, range,
+    Prefix, RangePrefixes, addr, block, cover, error, prefix, range,
 };
 pub use v4::{Ipv4Block, Ipv4Blocks};
 pub use v6::{Ipv6Block, Ipv6Blocks};

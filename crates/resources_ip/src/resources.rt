@@ -92,6 +92,13 @@ impl IpResources {
         self.choice.is_present()
     }
 
+    // The choice.
+    pub(crate) fn choice(&self) -> &ResourcesChoice<IpBlocks>
+        ensures { result.now ≡ self.now }
+    {
+        &self.choice
+    }
+
     /// The set that is listed; none where the addresses are missing. Those of an issuer can't be told.
     pub fn to_blocks(&self) -> Result<IpBlocks, InheritedIpResources>
         ensures set { IfOk result (λ s. IsRunsOf (Lists self.now) s) }
