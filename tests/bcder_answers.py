@@ -6,9 +6,10 @@ librust-smallvec-dev. In FOLDER, or a temporary one, bcder_answers.rs.in is buil
 program is crates/bcder_answers, which `rt run` proves and builds.
 
 Both answer the same questions, in each mode: of each kind of value on 10,000 octet strings, half of them made of
-values, a third of these changed in one place, half of them chance; on all octet strings of up to two octets; and on all
-of three octets that begin with one of the tags of TAGS. Each answer that differs has to be of one of the CLASSES: a
-test by this script's own reading of the octets, with the reason. Exits with 1 where one isn't.
+values, a third of these changed in one place, half of them chance; on all octet strings of up to two octets; on all of
+three octets that begin with one of the tags of TAGS; and of UTF8Strings with all contents of two octets, and those of
+three and four octets of EDGES. Each answer that differs has to be of one of the CLASSES: a test by this script's own
+reading of the octets, with the reason. Exits with 1 where one isn't.
 
 With --record, some 2,000 questions on which both agree are written to crates/bcder_answers/stdin, and the Rust crate's
 answers to stdout: the gate runs the program on them.
@@ -20,21 +21,24 @@ import os
 import pathlib
 import random
 import shutil
+import string
 import subprocess
 import sys
 import tempfile
+import typing
 
 ROOT = pathlib.Path(__file__).resolve().parent.parent
 CRATE = ROOT / "crates" / "bcder_answers"
 MODES = ("ber", "cer", "der")
 INTEGERS = ("i8", "u8", "i64", "u64", "u128", "integer", "unsigned")
 EXTENTS = ("skip", "capture")
-KINDS = (*INTEGERS, "boolean", "null", "oid", "bits", "octets", *EXTENTS)
+TEXTS = {"utf8": 12, "numeric": 18, "printable": 19, "ia5": 22}
+KINDS = (*INTEGERS, "boolean", "null", "oid", "bits", "octets", *TEXTS, *EXTENTS)
 COUNT = 10_000
-RECORDED = 24
+RECORDED = 20
 
 # The first octet of a primitive value of a kind.
-FIRST = {**{kind: 2 for kind in INTEGERS}, "boolean": 1, "null": 5, "oid": 6, "bits": 3, "octets": 4}
+FIRST = {**{kind: 2 for kind in INTEGERS}, "boolean": 1, "null": 5, "oid": 6, "bits": 3, "octets": 4, **TEXTS}
 
 # First octets of strings of three octets, and the kinds that are asked of these.
 TAGS = {
@@ -45,13 +49,29 @@ TAGS = {
     0x04: ("octets", *EXTENTS),
     0x05: ("null", *EXTENTS),
     0x06: ("oid", *EXTENTS),
+    0x0C: ("utf8", *EXTENTS),
+    0x12: ("numeric", *EXTENTS),
+    0x13: ("printable", *EXTENTS),
+    0x16: ("ia5", *EXTENTS),
     0x1F: EXTENTS,
     0x20: EXTENTS,
     0x22: ("integer", "u64", *EXTENTS),
     0x24: ("octets", *EXTENTS),
+    0x2C: ("utf8", *EXTENTS),
     0x30: EXTENTS,
     0x3F: EXTENTS,
     0xA0: EXTENTS,
+}
+
+# Octets at which the forms of UTF-8 begin and end (RFC 3629 4), and those beside them.
+EDGES = bytes.fromhex("00 7f 80 8f 90 9f a0 bf c0 c1 c2 df e0 e1 ec ed ee ef f0 f1 f3 f4 f5 f7 f8 ff")
+
+# The characters of restricted strings (X.680 41): all, but of UTF8Strings the first and last of each length.
+CHARACTERS = {
+    "utf8": "a\0\x7f\x80\u07ff\u0800\ud7ff\ue000\uffff\U00010000\U0010ffff",
+    "numeric": string.digits + " ",
+    "printable": string.ascii_letters + string.digits + " '()+,-./:=?",
+    "ia5": "".join(map(chr, range(128))),
 }
 
 CARGO = """[package]
@@ -122,13 +142,24 @@ class Maker:
         parts = b"".join(self.octets(depth + 1) for _ in range(self.rng.randrange(4)))
         return self.value(4, parts, True)
 
+    def text(self):
+        """A restricted string, with a character of any other now and then, primitive or in segments cut anywhere."""
+        kind = self.rng.choice(list(TEXTS))
+        others = "".join(CHARACTERS.values()) if self.rng.random() < 0.3 else CHARACTERS[kind]
+        octets = "".join(self.rng.choice(others) for _ in range(self.rng.randrange(5))).encode()
+        if self.rng.random() < 0.6:
+            return self.value(TEXTS[kind], octets)
+        at = self.rng.randrange(len(octets) + 1)
+        return self.value(TEXTS[kind], self.value(4, octets[:at]) + self.value(4, octets[at:]), True)
+
     def cut(self):
-        """An OCTET STRING of segments of about 1000 octets (X.690 9.2)."""
+        """An OCTET STRING or a restricted string of segments of about 1000 octets (X.690 9.2)."""
         sizes = [1000] * self.rng.randrange(1, 3) + [self.rng.choice([0, 1, 999, 1000, 1001])]
         if self.rng.random() < 0.3:
             self.rng.shuffle(sizes)
-        parts = b"".join(b"\4" + shortest(size) + bytes(size) for size in sizes)
-        return b"\x24\x80" + parts + b"\0\0"
+        octet = self.rng.choice([b"\0", b"0"])
+        parts = b"".join(b"\4" + shortest(size) + octet * size for size in sizes)
+        return bytes([0x20 | self.rng.choice([4, 4, *TEXTS.values()]), 0x80]) + parts + b"\0\0"
 
     def nested(self, depth=0):
         """A value of any kind, or some in each other."""
@@ -154,8 +185,9 @@ class Maker:
 
     def made(self):
         """A value with what is behind it, changed in one of three."""
-        kinds = [self.integer, self.integer, self.boolean, self.null, self.oid, self.bits, self.octets, self.nested]
-        octets = self.cut() if self.rng.random() < 0.01 else self.rng.choice(kinds)()
+        kinds = [self.integer, self.boolean, self.null, self.oid, self.bits, self.octets, self.nested]
+        kinds += [self.integer, self.text, self.text]
+        octets = self.cut() if self.rng.random() < 0.02 else self.rng.choice(kinds)()
         if self.rng.random() < 1 / 3:
             octets = self.changed(octets)
         return octets + self.rng.choice([b"", b"", self.some(3)])
@@ -200,6 +232,13 @@ def three_questions(first):
         yield from itertools.product(MODES, TAGS[first], [bytes([first, *rest])])
 
 
+def utf8_questions():
+    """Contents of UTF8Strings: all of two octets, and those of three and four octets of EDGES."""
+    contents = [range(256)] * 2, [EDGES] * 3, [EDGES] * 4
+    for octets in itertools.chain.from_iterable(itertools.product(*octets) for octets in contents):
+        yield from itertools.product(MODES, ["utf8"], [bytes([TEXTS["utf8"], len(octets), *octets])])
+
+
 # What the Rust crate's headers are, as this script reads them.
 
 
@@ -225,14 +264,24 @@ def read_length(octets, at):
     return int.from_bytes(octets[at + 1 : end], "big"), end
 
 
+class Header(typing.NamedTuple):
+    """A header, and where its length octets and its content begin."""
+
+    tag: bytes
+    constructed: bool
+    length: typing.Optional[int]
+    length_at: int
+    at: int
+
+
 def headers(octets):
-    """Each header of the value in front and the values in it: tag, whether constructed, length, content's beginning."""
+    """Each header of the value in front and the values in it."""
     at, ends = 0, []
     while True:
         constructed = octets[at] & 0x20 != 0
-        tag, at = read_tag(octets, at)
-        length, at = read_length(octets, at)
-        yield tag, constructed, length, at
+        tag, length_at = read_tag(octets, at)
+        length, at = read_length(octets, length_at)
+        yield Header(tag, constructed, length, length_at, at)
         if constructed:
             ends.append(None if length is None else at + length)
         elif tag == b"\0" and ends and ends[-1] is None:
@@ -248,7 +297,7 @@ def headers(octets):
 def is_whole(octets):
     """Whether a whole value stands in front."""
     try:
-        ends = [at + (length or 0) for _, form, length, at in headers(octets)]
+        ends = [header.at + (header.length or 0) for header in headers(octets)]
     except IndexError:
         return False
     return max(ends) <= len(octets)
@@ -256,8 +305,29 @@ def is_whole(octets):
 
 def content(octets):
     """The content octets of a primitive value in front."""
-    _, _, length, at = next(headers(octets))
-    return octets[at : at + length]
+    header = next(headers(octets))
+    return octets[header.at : header.at + header.length]
+
+
+def joined(octets):
+    """The octets of the string in front, those of its segments joined (X.690 8.7.3)."""
+    parts = [header for header in headers(octets) if header.tag != b"\0" and not header.constructed]
+    return b"".join(octets[part.at : part.at + part.length] for part in parts)
+
+
+def segment_sizes(octets):
+    """How many octets each primitive segment of the string in front has."""
+    _, *parts = headers(octets)
+    return [part.length for part in parts if part.tag == b"\4" and not part.constructed]
+
+
+def is_text(kind, octets):
+    """Whether octets are a text of that kind."""
+    try:
+        text = octets.decode()
+    except UnicodeDecodeError:
+        return False
+    return kind == "utf8" or all(character in CHARACTERS[kind] for character in text)
 
 
 def subidentifiers(octets):
@@ -293,11 +363,22 @@ def tag_forms(mode, kind, octets, theirs, ours):
     def is_other(tag):
         return len(tag) > 1 and (tag[1] == 0x80 or len(tag) == 2 and tag[1] < 31)
 
-    return refused_here(octets, theirs, ours) and any(is_other(tag) for tag, _, _, _ in headers(octets))
+    return refused_here(octets, theirs, ours) and any(is_other(header.tag) for header in headers(octets))
 
 
 def constructed_ends(mode, kind, octets, theirs, ours):
-    return refused_here(octets, theirs, ours) and any(tag == b"\0" and form for tag, form, _, _ in headers(octets))
+    return refused_here(octets, theirs, ours) and any(
+        header.tag == b"\0" and header.constructed for header in headers(octets)
+    )
+
+
+def long_ends(mode, kind, octets, theirs, ours):
+    def is_end(header):
+        return header.tag == b"\0" and not header.constructed and header.length == 0
+
+    if not refused_here(octets, theirs, ours):
+        return False
+    return any(is_end(header) and octets[header.length_at] != 0 for header in headers(octets))
 
 
 def length_forms(mode, kind, octets, theirs, ours):
@@ -306,7 +387,7 @@ def length_forms(mode, kind, octets, theirs, ours):
 
     if kind not in EXTENTS or not refused_here(octets, theirs, ours):
         return False
-    return any(is_other(form, length) for _, form, length, _ in headers(octets))
+    return any(is_other(header.constructed, header.length) for header in headers(octets))
 
 
 def unused_counts(mode, kind, octets, theirs, ours):
@@ -336,11 +417,23 @@ def large_components(mode, kind, octets, theirs, ours):
     return right and any(len(part) > 3 for part in subidentifiers(content(octets)))
 
 
-def segments(mode, kind, octets, theirs, ours):
-    if kind != "octets" or mode != "cer" or not refused_here(octets, theirs, ours):
+def texts(mode, kind, octets, theirs, ours):
+    return kind == "utf8" and refused_here(octets, theirs, ours) and not is_text(kind, joined(octets))
+
+
+def empty_segments(mode, kind, octets, theirs, ours):
+    if kind not in TEXTS or mode != "ber" or theirs != "panic" or not is_whole(octets):
         return False
-    sizes = [length for tag, form, length, _ in headers(octets) if tag == b"\4" and not form]
-    return not (len(sizes) > 1 and all(size == 1000 for size in sizes[:-1]) and 1 <= sizes[-1] <= 1000)
+    right = f"ok x{joined(octets).hex()}" if is_text(kind, joined(octets)) else "refused"
+    return 0 in segment_sizes(octets) and ours.rsplit(" ", 1)[0] == right
+
+
+def segments(mode, kind, octets, theirs, ours):
+    if kind not in ("octets", *TEXTS) or mode != "cer" or not refused_here(octets, theirs, ours):
+        return False
+    sizes = segment_sizes(octets)
+    right = len(sizes) > 1 and all(size == 1000 for size in sizes[:-1]) and 1 <= sizes[-1] <= 1000
+    return octets[0] & 0x20 != 0 and not right
 
 
 def refused_here(octets, theirs, ours):
@@ -358,6 +451,9 @@ CLASSES = {
     "padding bits": (padding_bits, "zeros in CER and DER (X.690 11.2.1)"),
     "identifiers without an end": (identifier_ends, "refused: bit 8 ends a subidentifier (X.690 8.19.2)"),
     "large components": (large_components, "printed where they are below 2^32, else told as not implemented"),
+    "octets that are no UTF-8": (texts, "refused: overlong forms, surrogates, numbers above 10FFFF (RFC 3629 3, 4)"),
+    "empty segments of texts": (empty_segments, "they panic; here a segment may be empty (X.690 8.7.3)"),
+    "end-of-contents with a long length": (long_ends, "refused: it is two zero octets (X.690 8.1.5)"),
     "segments in CER": (segments, "of 1000 octets, and a last one of 1 to 1000 (X.690 9.2)"),
 }
 
@@ -427,6 +523,7 @@ def compare_all(programs):
     compare(programs, short_questions(), counts)
     for first in TAGS:
         compare(programs, three_questions(first), counts)
+    compare(programs, utf8_questions(), counts)
     for name, count in counts.most_common():
         print(f"{count:>9,}  {name or 'without a reason'}")
     return counts[None]
