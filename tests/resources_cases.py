@@ -432,6 +432,60 @@ def addresses(q):
     return q
 
 
+def written(q):
+    """AS resources and bare blocks in DER, from sets in any form."""
+    kind = Numbers()
+    for r in [ranges(kind, 6) for _ in range(80)] + [[], [(0, 2 ** 32 - 1)], [(127, 127), (129, 255)], [(32767, 32768)]]:
+        bare = b"".join(as_block(*block) for block in maximal(r))
+        text = q.spelled(kind, r)
+        q.ask(f"{as_resources(tlv(0x30, bare)).hex()} {bare.hex()}" if r else " ", "as", "encode", text)
+    q.ask("3004a0020500", "as", "encode", "inherit")
+
+
+THREE = (Numbers(), Addresses(4), Addresses(6))
+
+
+def print_set(q, three):
+    return "asn: '{}', ipv4: '{}', ipv6: '{}'".format(*(q.text(kind, runs) for kind, runs in zip(THREE, three)))
+
+
+def print_changes(q, added, removed):
+    def kinds(name, three):
+        parts = [f" {word}: {q.text(kind, runs)}" for word, kind, runs in zip(("asn", "ipv4", "ipv6"), THREE, three) if runs]
+        return name + "".join(parts) if parts else ""
+
+    parts = [part for part in (kinds("Added:", added), kinds("Removed:", removed)) if part]
+    return " ".join(parts) or "<no changes in resources>"
+
+
+def of_all(q):
+    for _ in range(60):
+        r = [rng.choice([[], ranges(kind, 4), ranges(kind, 4)]) for kind in THREE]
+        s = [rng.choice([[], list(a), a + ranges(kind, 2), [(f, l) for f, l in a if rng.random() < 0.5]]) for kind, a in zip(THREE, r)]
+        one, other = [maximal(a) for a in r], [maximal(a) for a in s]
+        words = [q.spelled(kind, a) for kind, a in zip(THREE, r)]
+        two = words + [q.spelled(kind, a) for kind, a in zip(THREE, s)]
+        each = lambda f, a, b: [f(x, y) for x, y in zip(a, b)]
+        added, removed = each(difference, one, other), each(difference, other, one)
+        q.ask(print_set(q, one), "all", "read", *words)
+        q.ask(print_set(q, one), "all", "resources", *(word or "none" if i else word for i, word in enumerate(words)))
+        is_none = "true" if one == [[], [], []] else "false"
+        q.ask(is_none, "all", "count", *words)
+        q.ask(f"{print_set(q, one)}; true; {is_none}; {q.text(THREE[0], one[0])}", "all", "each", *words)
+        q.ask(print_set(q, each(union, one, other)), "all", "union", *two)
+        q.ask(print_set(q, each(intersection, one, other)), "all", "intersection", *two)
+        q.ask("true" if added == [[], [], []] else "false", "all", "within", *two)
+        changes = f"{print_changes(q, added, removed)}; {print_set(q, added)}; {print_set(q, removed)}"
+        q.ask(changes, "all", "difference", *two)
+    for i in range(3):
+        words = ["AS1", "10.0.0.0/8", "::/0"]
+        words[i] = "inherit"
+        q.ask("refused: cannot determine resources: some are inherited", "all", "resources", *words)
+    q.ask("refused: cannot parse ASN resources: invalid AS number", "all", "read", "x", "y", "z")
+    q.ask("1.3.6.1.5.5.7.14.2 1.3.6.1.5.5.7.1.7 1.3.6.1.5.5.7.1.8 true", "refuse", "identifiers")
+    q.ask("1.3.6.1.5.5.7.14.3 1.3.6.1.5.5.7.1.28 1.3.6.1.5.5.7.1.29 true", "trim", "identifiers")
+
+
 def main():
     q = Questions()
     sets(q, Numbers(), 400, 25)
@@ -443,6 +497,8 @@ def main():
     encodings(q)
     addresses(q)
     families(q)
+    written(q)
+    of_all(q)
     (FOLDER / "stdin").write_text("".join(f"{question}\n" for question, _ in q.rows))
     (FOLDER / "stdout").write_text("".join(f"{answer}\n" for _, answer in q.rows))
     print(len(q.rows), "questions")

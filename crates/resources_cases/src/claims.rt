@@ -26,10 +26,13 @@ pub enum Question {
     Each,
     /// The resources that octets in hexadecimal digits encode in DER.
     Decode,
-    /// The blocks of a set in DER, one behind the other, and their family.
+    /// The octets in DER, in hexadecimal digits: of AS resources, and of the blocks that they list; or of a family of
+    /// addresses and the blocks of a set of it, one behind the other.
     Encode,
     /// The family in front of octets, and what is behind it.
     Family,
+    /// The object identifiers of a policy.
+    Identifiers,
 }
 
 impl Question {
@@ -50,6 +53,7 @@ impl Question {
             "decode" => Some(Question::Decode),
             "encode" => Some(Question::Encode),
             "family" => Some(Question::Family),
+            "identifiers" => Some(Question::Identifiers),
             _ => None,
         }
     }

@@ -8,6 +8,7 @@ mod addresses;
 mod claims;
 mod families;
 mod numbers;
+mod sets;
 
 use anyhow::{Result, anyhow};
 use claims::Question;
@@ -19,8 +20,10 @@ fn answer(alloc: Global, words: &[&str]) -> Result<String> {
         return Err(anyhow!("no question"));
     };
     match Question::of(*question) {
+        Some(Question::Identifiers) => sets::identifiers(alloc, *kind),
         Some(question) if *kind == "as" => numbers::answer(alloc, question, rest),
         Some(question) if *kind == "ip" => families::answer(alloc, question, rest),
+        Some(question) if *kind == "all" => sets::answer(alloc, question, rest),
         Some(question) => addresses::answer(alloc, *kind, question, rest),
         None => Err(anyhow!("no such question")),
     }

@@ -4,6 +4,7 @@ use crate::claims::{Question, policy};
 use anyhow::{Result, anyhow};
 use bcder_content::Decode;
 use bcder_source::{DecodeError, Mode};
+use bcder_values::Values;
 use resources_as::{AsBlocks, AsResources, OverclaimedAsResources};
 use resources_chain::{ClaimError, Overclaim};
 use std::alloc::Global;
@@ -83,6 +84,23 @@ fn decode(alloc: Global, digits: &str) -> Result<String> {
     }
 }
 
+// The octets that are written of values.
+fn written<V: Values>(alloc: Global, values: &V) -> Result<String> {
+    let captured = values.to_captured(alloc, Mode::Der)?;
+    Ok(hex::encode(alloc, captured.as_slice())?)
+}
+
+// The octets of resources in DER, and of the blocks that they list, which are bare.
+fn encode(alloc: Global, text: &str) -> Result<String> {
+    let resources = resources(alloc, text)?;
+    let whole = written(alloc, resources.encode_ref())?;
+    let Ok(blocks) = resources.to_blocks() else {
+        return Ok(whole);
+    };
+    let bare = written(alloc, &blocks.encode())?;
+    Ok(format!(in alloc; "{whole} {bare}")?)
+}
+
 fn issued(alloc: Global, issuer: &AsBlocks, policy: Overclaim, text: &str) -> Result<String> {
     let claim = resources(alloc, text)?;
     held(alloc, issuer.verify_issued(alloc, &claim, policy))
@@ -116,6 +134,7 @@ fn of_one(alloc: Global, question: Question, text: &str) -> Result<String> {
     match question {
         Question::Resources => return listed(alloc, &resources(alloc, text)?),
         Question::Decode => return decode(alloc, text),
+        Question::Encode => return encode(alloc, text),
         _ => {}
     }
     let set = set(alloc, text)?;
