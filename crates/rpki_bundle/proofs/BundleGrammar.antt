@@ -6,8 +6,11 @@ use Rattle.bcder_tree.specs.Tags.{TagValue, universal}
 use Rattle.bcder_tree.specs.Tree.{Tree, Trees, primitive, constructed, none, more, Spells, SpellsAll}
 use Rattle.bcder_tree.specs.Sequences.{sequence, EachIs, IsSequenceOf}
 use Rattle.bcder_tree.specs.Integers.{IsNumber}
-use Rattle.bcder_tree.specs.Strings.{IsPrintable}
-use Rattle.bcder_primitive.specs.Values.{IsUnsigned, IsValue, AnyOctets}
+use Rattle.bcder_tree.specs.Strings.{IsPrintable, IsIa5}
+use Rattle.bcder_primitive.specs.Values.{IsUnsigned, IsValue}
+use Rattle.bcder_chars.specs.Sets.{alone}
+use Rattle.bcder_chars.specs.Texts.{IsText}
+use Rattle.bcder_chars.proofs.Ascii.{ascii_text}
 use Rattle.bcder_content.specs.Grammar.{Inside, OctetsOf, ManyCases, Many}
 use Rattle.rpki_bundle.specs.declared.parts.Locator.{Locator}
 use Rattle.rpki_bundle.specs.declared.parts.Object.{Object}
@@ -15,16 +18,18 @@ use Rattle.rpki_bundle.specs.declared.parts.Verdict.{Verdict}
 use Rattle.rpki_bundle.specs.TimeForms.{IsGeneralizedTime}
 use Rattle.rpki_bundle.specs.Uris.{IsUri, IsUriOctet}
 use Rattle.rpki_bundle.specs.Orders.{Ascends}
+use Rattle.rpki_bundle.specs.Lawful.{IsName, IsWord}
 use Rattle.rpki_bundle.specs.Bundle.{BundleValue, IsLocator, IsObject, IsVerdict, verdict_row, IsBundle, BundleText}
 use Rattle.rpki_bundle.specs.Grammars.{IsVersion, IsMomentString, IsDepthNumber, IsDigestString, as_locator, as_object, as_verdict, as_bundle, IsLocatorRow, IsObjectRow, IsVerdictRow, AreRows, IsBundleTree, IsBundleAlone}
 
--- Strings by their octets.
-string_of : {tag : TagValue} {t : Tree} {x : List ℕ} → OctetsOf tag AnyOctets t x → t ≡ primitive tag x
-string_of {tag} p = p.whole ∙ ap (λ (z : List ℕ). primitive tag z) p.is.same
+-- Names that are words are names.
+pub name_of : (text : List ℕ) → IsText IsPrintable alone text → IsWord text → IsName text
+name_of text t w = let printable = (ascii_text IsPrintable text).0 t in (w.0, λ k d h. (printable k d h, w.1 k d h))
 
-string_is : {tag : TagValue} {t : Tree} {x : List ℕ} → t ≡ primitive tag x → OctetsOf tag AnyOctets t x
-string_is {x = x} e = record { content = x; whole = e; is = record { same = refl } }
+pub name_text : (text : List ℕ) → IsName text → IsText IsPrintable alone text × IsWord text
+name_text text n = ((ascii_text IsPrintable text).1 (λ k d h. (n.1 k d h).0), (n.0, λ k d h. (n.1 k d h).1))
 
+-- Digests by their octets.
 digest_of : {t : Tree} {x : List ℕ} → IsDigestString t x → (t ≡ primitive (universal 4) x) × (length x ≡ 32)
 digest_of p = (p.whole ∙ ap (λ (z : List ℕ). primitive (universal 4) z) p.is.same, ap length (sym p.is.same) ∙ p.is.long)
 
@@ -47,7 +52,7 @@ uri_plain (inl r) = r.plain
 uri_plain (inr r) = r.plain
 
 -- Locators.
-locator_of : {t : Tree} {l : Locator} → IsLocatorRow t l → IsLocator t l
+locator_of : {t : Tree} {l : Locator} → IsLocatorRow Der t l → IsLocator t l
 locator_of {t} {l} p =
     let f = p.is.is in
     let g = f.rest in
@@ -55,13 +60,13 @@ locator_of {t} {l} p =
       name = f.first;
       text = g.first;
       whole = p.is.whole ∙ ap (constructed (universal 16)) (two f.whole g.whole g.rest.ended);
-      name_is = (string_of f.is.is, λ k d h. (f.is.meets.1 k d h).0);
+      name_is = (f.is.is.is, (ascii_text IsPrintable p.x.0).0 f.is.is.meets);
       some = f.is.meets.0;
-      no_space = λ k d h. (f.is.meets.1 k d h).1;
-      text_is = string_of g.is;
+      no_space = f.is.meets.1;
+      text_is = g.is;
     } in subst (λ (z : Locator). IsLocator t z) (sym p.means) made
 
-locator_row : {t : Tree} {l : Locator} → IsLocator t l → IsLocatorRow t l
+locator_row : {t : Tree} {l : Locator} → IsLocator t l → IsLocatorRow Der t l
 locator_row {l = l} i = record {
   x = (l.name, (l.text, tt));
   is = record {
@@ -71,15 +76,15 @@ locator_row {l = l} i = record {
       first = i.name;
       others = more i.text none;
       whole = refl;
-      is = record { is = string_is i.name_is.0; meets = locator_name i };
-      rest = record { first = i.text; others = none; whole = refl; is = string_is i.text_is; rest = record { ended = refl } };
+      is = record { is = record { is = i.name_is.0; meets = (ascii_text IsPrintable l.name).1 i.name_is.1 }; meets = (i.some, i.no_space) };
+      rest = record { first = i.text; others = none; whole = refl; is = i.text_is; rest = record { ended = refl } };
     };
   };
   means = refl;
 }
 
 -- Objects.
-object_of : {t : Tree} {o : Object} → IsObjectRow t o → IsObject t o
+object_of : {t : Tree} {o : Object} → IsObjectRow Der t o → IsObject t o
 object_of {t} {o} p =
     let f = p.is.is in
     let g = f.rest in
@@ -87,12 +92,12 @@ object_of {t} {o} p =
       uri = f.first;
       octets = g.first;
       whole = p.is.whole ∙ ap (constructed (universal 16)) (two f.whole g.whole g.rest.ended);
-      uri_is = (string_of f.is.is, λ k d h. let plain = uri_plain f.is.meets.uri k d h in omega arith);
+      uri_is = (f.is.is.is, (ascii_text IsIa5 p.x.0).0 f.is.is.meets);
       own_key = f.is.meets;
-      octets_are = string_of g.is;
+      octets_are = g.is;
     } in subst (λ (z : Object). IsObject t z) (sym p.means) made
 
-object_row : {t : Tree} {o : Object} → IsObject t o → IsObjectRow t o
+object_row : {t : Tree} {o : Object} → IsObject t o → IsObjectRow Der t o
 object_row {o = o} i = record {
   x = (o.uri, (o.octets, tt));
   is = record {
@@ -102,8 +107,8 @@ object_row {o = o} i = record {
       first = i.uri;
       others = more i.octets none;
       whole = refl;
-      is = record { is = string_is i.uri_is.0; meets = i.own_key };
-      rest = record { first = i.octets; others = none; whole = refl; is = string_is i.octets_are; rest = record { ended = refl } };
+      is = record { is = record { is = i.uri_is.0; meets = (ascii_text IsIa5 o.uri).1 i.uri_is.1 }; meets = i.own_key };
+      rest = record { first = i.octets; others = none; whole = refl; is = i.octets_are; rest = record { ended = refl } };
     };
   };
   means = refl;
@@ -194,7 +199,7 @@ six : {ts us vs ws xs ys zs : Trees} {t u v w x y : Tree} → ts ≡ more t us �
 six a b c d e f g = cc
 
 -- A bundle.
-pub bundle_of : {t : Tree} {b : BundleValue} → IsBundleTree t b → IsBundle t b
+pub bundle_of : {t : Tree} {b : BundleValue} → IsBundleTree Der t b → IsBundle t b
 bundle_of {t} {b} p =
     let v = p.is.is in
     let m = v.rest in
@@ -223,7 +228,7 @@ bundle_of {t} {b} p =
       verdicts_ascend = g.is.meets;
     } in subst (λ (z : BundleValue). IsBundle t z) (sym p.means) made
 
-pub bundle_tree : {t : Tree} {b : BundleValue} → IsBundle t b → IsBundleTree t b
+pub bundle_tree : {t : Tree} {b : BundleValue} → IsBundle t b → IsBundleTree Der t b
 bundle_tree {b = b} i = record {
   x = (tt, (b.moment, (b.depth, (b.locators, (b.objects, (b.verdicts, tt))))));
   is = record {
@@ -265,7 +270,7 @@ bundle_tree {b = b} i = record {
 }
 
 -- A bundle alone is the text of one.
-pub text_of : {ts : Trees} {o : List ℕ} {x : BundleValue × Unit {0}} → IsBundleAlone ts x → SpellsAll Der ts o → BundleText o x.0
+pub text_of : {ts : Trees} {o : List ℕ} {x : BundleValue × Unit {0}} → IsBundleAlone Der ts x → SpellsAll Der ts o → BundleText o x.0
 text_of {ts} {o} p s =
     let trees : ts ≡ more p.first none = p.whole ∙ ap (more p.first) p.rest.ended in
     let q : SpellsAll Der (more p.first none) o = subst (λ (z : Trees). SpellsAll Der z o) trees s in
@@ -273,7 +278,7 @@ text_of {ts} {o} p s =
     let whole : o ≡ q.0 = q.4 ∙ ap (λ (z : List ℕ). q.0 ++ z) end ∙ append-nil q.0 in
     record { tree = p.first; form = bundle_of p.is; spelled = subst (λ (z : List ℕ). Spells Der p.first z) (sym whole) q.2 }
 
-pub text_alone : {o : List ℕ} {b : BundleValue} (t : BundleText o b) → IsBundleAlone (more t.tree none) (b, tt) × SpellsAll Der (more t.tree none) o
+pub text_alone : {o : List ℕ} {b : BundleValue} (t : BundleText o b) → IsBundleAlone Der (more t.tree none) (b, tt) × SpellsAll Der (more t.tree none) o
 text_alone {o} t = (
   record { first = t.tree; others = none; whole = refl; is = bundle_tree t.form; rest = record { ended = refl } },
   (o, [], t.spelled, refl, sym (append-nil o)),

@@ -1,4 +1,5 @@
 pub mod BundleGrammar
+pub mod Modes
 pub mod Reading
 pub mod Digests
 mod Contents

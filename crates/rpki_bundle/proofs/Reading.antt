@@ -67,6 +67,10 @@ pub ends_err : {A B E : Type 0} (f : A → B) (P : Trees → B → Type 0) (old 
 ends_err f P old new (Ok y) x e h = absurd e
 ends_err f P old new (Err y) x e h = h
 
+-- A reader up to the end, in the mode that it has.
+pub ends_in : {A B E : Type 0} (f : A → B) (P : Mode → Trees → B → Type 0) {m k : Mode} (old new : ValuesLeft) (r : Result A (DecodeError E)) → m ≡ k → ReadsToEndAs f (P m) old r new → ReadsToEndAs f (P k) old r new
+ends_in f P old new r e h = subst (λ (z : Mode). ReadsToEndAs f (P z) old r new) e h
+
 -- What a reader up to the end says of all octets of a source.
 abbrev pub ReadsText : {A B E : Type 0} → (A → B) → Mode → (Trees → B → Type 0) → List ℕ → Result A (DecodeError E) → Type 0
 ReadsText f m P o (Ok x) = (ts : Trees) × P ts (f x) × SpellsAll m ts o
@@ -92,43 +96,43 @@ whole_spelled {m} {ts} {o} {end} k e =
     let whole : o ≡ k.text = k.goes.moved.rest ∙ ap (λ (z : List ℕ). k.text ++ z) left ∙ append-nil k.text in
     subst (λ (z : List ℕ). SpellsAll m ts z) (sym whole) k.spelled
 
--- Each call of the closure reads a content up to its end.
-pub record EndsEach {F S T B E : Type 0} (rest : S → List ℕ) (g : Reader F (Constructed S) T E) (op : F) (f : T → B) (P : Trees → B → Type 0) : Type 0 where
-  pub each : (p q : MutBor (Constructed S)) (r : Result T (DecodeError E)) → g.post op (p, tt) (r, (q, tt)) → ReadsToEndAs f P (here rest p.now) r (here rest q.now)
+-- Each call of the closure, in that mode, reads a content up to its end.
+pub record EndsEach {F S T B E : Type 0} (m : Mode) (rest : S → List ℕ) (g : Reader F (Constructed S) T E) (op : F) (f : T → B) (P : Trees → B → Type 0) : Type 0 where
+  pub each : (p q : MutBor (Constructed S)) (r : Result T (DecodeError E)) → (here rest p.now).mode ≡ m → g.post op (p, tt) (r, (q, tt)) → ReadsToEndAs f P (here rest p.now) r (here rest q.now)
 
-end_met : {F S T B E : Type 0} {rest : S → List ℕ} {g : Reader F (Constructed S) T E} {op : F} {f : T → B} {P : Trees → B → Type 0} → EndsEach rest g op f P → (given stop : Constructed S) (r : Result T (DecodeError E)) → FnOnceReturnsAtMut g op given r stop → ReadsToEndAs f P (here rest given) r (here rest stop)
-end_met {F} {S} {T} {B} {E} {rest} {g} {op} {f} {P} exact given stop r met =
+end_met : {F S T B E : Type 0} {m : Mode} {rest : S → List ℕ} {g : Reader F (Constructed S) T E} {op : F} {f : T → B} {P : Trees → B → Type 0} → EndsEach m rest g op f P → (given stop : Constructed S) (r : Result T (DecodeError E)) → (here rest given).mode ≡ m → FnOnceReturnsAtMut g op given r stop → ReadsToEndAs f P (here rest given) r (here rest stop)
+end_met {F} {S} {T} {B} {E} {m} {rest} {g} {op} {f} {P} exact given stop r mode met =
     subst (λ (v : Constructed S). ReadsToEndAs f P (here rest v) r (here rest stop)) met.shows
     (subst (λ (w : Constructed S). ReadsToEndAs f P (here rest met.shown.now) r (here rest w)) met.leaves
-    (exact.each met.shown met.left r met.met))
+    (exact.each met.shown met.left r (ap (λ (v : Constructed S). (here rest v).mode) met.shows ∙ mode) met.met))
 
-in_fresh : {F S T B E : Type 0} {rest : S → List ℕ} {g : Reader F (Constructed S) T E} {op : F} {f : T → B} {P : Trees → B → Type 0} {v : ValuesLeft} {r : Result T (DecodeError E)} {end : ValuesLeft} → EndsEach rest g op f P → RanIn rest g op v r end → ReadsToEndAs f P v r end
-in_fresh {F} {S} {T} {B} {E} {rest} {g} {op} {f} {P} {v} {r} {end} exact on =
+in_fresh : {F S T B E : Type 0} {m : Mode} {rest : S → List ℕ} {g : Reader F (Constructed S) T E} {op : F} {f : T → B} {P : Trees → B → Type 0} {v : ValuesLeft} {r : Result T (DecodeError E)} {end : ValuesLeft} → EndsEach m rest g op f P → v.mode ≡ m → RanIn rest g op v r end → ReadsToEndAs f P v r end
+in_fresh {F} {S} {T} {B} {E} {m} {rest} {g} {op} {f} {P} {v} {r} {end} exact mode on =
     subst (λ (w : ValuesLeft). ReadsToEndAs f P v r w) on.ends
     (subst (λ (w : ValuesLeft). ReadsToEndAs f P w r (here rest on.left)) on.starts
-    (end_met exact on.given on.left r on.met))
+    (end_met exact on.given on.left r (ap (λ (w : ValuesLeft). w.mode) on.starts ∙ mode) on.met))
 
-decoded_cases : {F S T B E : Type 0} (m : Mode) {rest : S → List ℕ} {g : Reader F (Constructed S) T E} {op : F} {f : T → B} {P : Trees → B → Type 0} (o : List ℕ) (r : Result T (DecodeError E)) → EndsEach rest g op f P → DecodedCases rest g op (fresh m o) r → ReadsText f m P o r
+decoded_cases : {F S T B E : Type 0} (m : Mode) {rest : S → List ℕ} {g : Reader F (Constructed S) T E} {op : F} {f : T → B} {P : Trees → B → Type 0} (o : List ℕ) (r : Result T (DecodeError E)) → EndsEach m rest g op f P → DecodedCases rest g op (fresh m o) r → ReadsText f m P o r
 decoded_cases m o (Ok x) exact h =
-    let given = in_fresh exact h.1 in
+    let given = in_fresh exact refl h.1 in
     (given.0.trees, given.0.is, whole_spelled given.0.took given.1)
 decoded_cases m o (Err (Content x pos)) exact h = λ ts y p s.
     elim h [
-      | refused_in end on ↦ (in_fresh exact on).none ts y p (spelled_whole m ts o s)
-      | failed_in end v on failed ↦ let given = in_fresh exact on in let e : true ≡ false = sym failed ∙ given.1.sound in absurd cc
+      | refused_in end on ↦ (in_fresh exact refl on).none ts y p (spelled_whole m ts o s)
+      | failed_in end v on failed ↦ let given = in_fresh exact refl on in let e : true ≡ false = sym failed ∙ given.1.sound in absurd cc
     ]
 decoded_cases m o (Err (Source x)) exact h = tt
 decoded_cases m o (Err Memory) exact h = tt
 
 -- Decoding with a closure that reads up to the end.
-pub text_decoded : {F S T B E : Type 0} {m : Mode} {rest : S → List ℕ} {g : Reader F (Constructed S) T E} {op : F} {f : T → B} {P : Trees → B → Type 0} {o : List ℕ} {r : Result T (DecodeError E)} → EndsEach rest g op f P → Decoded rest g op (fresh m o) r → ReadsText f m P o r
+pub text_decoded : {F S T B E : Type 0} {m : Mode} {rest : S → List ℕ} {g : Reader F (Constructed S) T E} {op : F} {f : T → B} {P : Trees → B → Type 0} {o : List ℕ} {r : Result T (DecodeError E)} → EndsEach m rest g op f P → Decoded rest g op (fresh m o) r → ReadsText f m P o r
 text_decoded {m = m} {o = o} {r} exact h = decoded_cases m o r exact h.cases
 
 -- A bundle is told by octets that were read as one, and by none that were refused.
-pub parts_text : (E : Type 0) {o : List ℕ} (p : Parts) → ReadsText {E = E} parts_alone Der IsBundleAlone o (Ok p) → BundleText o (parts_value p)
+pub parts_text : (E : Type 0) {o : List ℕ} (p : Parts) → ReadsText {E = E} parts_alone Der (IsBundleAlone Der) o (Ok p) → BundleText o (parts_value p)
 parts_text E p h = text_of h.1 h.2
 
-pub refused_text : {E : Type 0} (o : List ℕ) (e : DecodeError E) (r : BundleError) → Refuses e r → ReadsText {E = E} parts_alone Der IsBundleAlone o (Err e) → OnNotABundle r ((b : BundleValue) → BundleText o b → ⊥)
+pub refused_text : {E : Type 0} (o : List ℕ) (e : DecodeError E) (r : BundleError) → Refuses e r → ReadsText {E = E} parts_alone Der (IsBundleAlone Der) o (Err e) → OnNotABundle r ((b : BundleValue) → BundleText o b → ⊥)
 refused_text o (Content x pos) r i h = subst (λ (z : BundleError). OnNotABundle z ((b : BundleValue) → BundleText o b → ⊥)) (sym i) (λ b t. let a = text_alone t in h (more t.tree none) (b, tt) a.0 a.1)
 refused_text o (Source x) r i h = absurd i
 refused_text o Memory r i h = subst (λ (z : BundleError). OnNotABundle z ((b : BundleValue) → BundleText o b → ⊥)) (sym i) tt

@@ -202,8 +202,8 @@ bundle_written text b low fits =
 bundle_spells : (text : List ℕ) (b : BundleValue) (o : List ℕ) → WritesBundle text b Der o → SpellsSome Der (AreBundle text b Der) o
 bundle_spells text b =
     wrapped_spelled Der (both_spelled Der (plain_spelled Der) (both_spelled Der (plain_spelled Der) (both_spelled Der (plain_spelled Der)
-    (both_spelled Der (wrapped_spelled Der (all_spelled Der (λ l o w. pair_spelled Der o w) b.locators))
-    (both_spelled Der (wrapped_spelled Der (all_spelled Der (λ x o w. pair_spelled Der o w) b.objects))
+    (both_spelled Der (wrapped_spelled Der (all_spelled Der (λ l o w. pair_spelled Der (universal 19) l.name l.text o w) b.locators))
+    (both_spelled Der (wrapped_spelled Der (all_spelled Der (λ x o w. pair_spelled Der (universal 22) x.uri x.octets o w) b.objects))
     (wrapped_spelled Der (all_spelled Der (λ v o w. triple_spelled Der o w) b.verdicts)))))))
 
 -- A bundle whose members fit a length is never refused,

@@ -1,8 +1,12 @@
--- Bundles by the words of grammars: what is read of a value, field by field, and what it means.
+-- Bundles by the words of grammars: what is read of a value in each mode, field by field, and what it means.
 use Rattle.std.specs.Prelude.{◌≡◌, ℕ, ◌^◌, ◌≤◌, List, length}
+use Rattle.bcder_tree.specs.declared.mode.Mode.{Mode}
 use Rattle.bcder_tree.specs.Tags.{universal}
 use Rattle.bcder_tree.specs.Tree.{Tree, Trees}
-use Rattle.bcder_primitive.specs.Values.{IsUnsigned, IsValue, AnyOctets}
+use Rattle.bcder_tree.specs.Strings.{IsPrintable, IsIa5, IsOctetString}
+use Rattle.bcder_primitive.specs.Values.{IsUnsigned, IsValue}
+use Rattle.bcder_chars.specs.Sets.{alone}
+use Rattle.bcder_strings.specs.Restricted.{IsRestricted}
 use Rattle.bcder_content.specs.Grammar.{Inside, OctetsOf, Such, As, End, Then, Many}
 use Rattle.rpki_bundle.specs.declared.parts.Locator.{Locator}
 use Rattle.rpki_bundle.specs.declared.parts.Object.{Object}
@@ -10,7 +14,7 @@ use Rattle.rpki_bundle.specs.declared.parts.Verdict.{Verdict}
 use Rattle.rpki_bundle.specs.Times.{IsMoment}
 use Rattle.rpki_bundle.specs.Uris.{IsLookupKey}
 use Rattle.rpki_bundle.specs.Orders.{Ascends}
-use Rattle.rpki_bundle.specs.Lawful.{IsName}
+use Rattle.rpki_bundle.specs.Lawful.{IsWord}
 use Rattle.rpki_bundle.specs.Bundle.{BundleValue, verdict_row}
 
 -- INTEGER 0
@@ -28,17 +32,13 @@ IsDepth n = (1 ≤ n) × (n ≤ 32)
 abbrev pub IsDepthNumber : Tree → ℕ → Type 0
 IsDepthNumber = Such (OctetsOf (universal 2) (IsUnsigned (2 ^ 8))) IsDepth
 
--- OCTET STRING
-abbrev pub IsOctets : Tree → List ℕ → Type 0
-IsOctets = OctetsOf (universal 4) AnyOctets
-
 -- PrintableString: a name
-abbrev pub IsNameString : Tree → List ℕ → Type 0
-IsNameString = Such (OctetsOf (universal 19) AnyOctets) IsName
+abbrev pub IsNameString : Mode → Tree → List ℕ → Type 0
+IsNameString m = Such (IsRestricted IsPrintable alone m (universal 19)) IsWord
 
 -- IA5String: a lookup key
-abbrev pub IsUriString : Tree → List ℕ → Type 0
-IsUriString = Such (OctetsOf (universal 22) AnyOctets) IsLookupKey
+abbrev pub IsUriString : Mode → Tree → List ℕ → Type 0
+IsUriString m = Such (IsRestricted IsIa5 alone m (universal 22)) IsLookupKey
 
 -- OCTET STRING (SIZE (32))
 pub record IsDigest (content octets : List ℕ) : Type 0 where
@@ -59,11 +59,11 @@ locator_fields l = (l.name, (l.text, tt))
 abbrev pub as_locator : Strings → Locator
 as_locator f = record { name = f.0; text = f.1.0 }
 
-abbrev pub IsLocatorBody : Trees → Strings → Type 0
-IsLocatorBody = Then IsNameString (Then IsOctets End)
+abbrev pub IsLocatorBody : Mode → Trees → Strings → Type 0
+IsLocatorBody m = Then (IsNameString m) (Then (IsOctetString m) End)
 
-abbrev pub IsLocatorRow : Tree → Locator → Type 0
-IsLocatorRow = As (Inside (universal 16) IsLocatorBody) as_locator
+abbrev pub IsLocatorRow : Mode → Tree → Locator → Type 0
+IsLocatorRow m = As (Inside (universal 16) (IsLocatorBody m)) as_locator
 
 -- Object ::= SEQUENCE { uri IA5String, octets OCTET STRING }
 abbrev pub object_fields : Object → Strings
@@ -72,11 +72,11 @@ object_fields o = (o.uri, (o.octets, tt))
 abbrev pub as_object : Strings → Object
 as_object f = record { uri = f.0; octets = f.1.0 }
 
-abbrev pub IsObjectBody : Trees → Strings → Type 0
-IsObjectBody = Then IsUriString (Then IsOctets End)
+abbrev pub IsObjectBody : Mode → Trees → Strings → Type 0
+IsObjectBody m = Then (IsUriString m) (Then (IsOctetString m) End)
 
-abbrev pub IsObjectRow : Tree → Object → Type 0
-IsObjectRow = As (Inside (universal 16) IsObjectBody) as_object
+abbrev pub IsObjectRow : Mode → Tree → Object → Type 0
+IsObjectRow m = As (Inside (universal 16) (IsObjectBody m)) as_object
 
 -- Verdict ::= SEQUENCE { key, message, signature OCTET STRING (SIZE (32)) }
 abbrev pub Digests : Type 0
@@ -105,12 +105,12 @@ BundleFields = Unit {0} × (ℕ × (ℕ × (List Locator × (List Object × (Lis
 abbrev pub as_bundle : BundleFields → BundleValue
 as_bundle f = record { moment = f.1.0; depth = f.1.1.0; locators = f.1.1.1.0; objects = f.1.1.1.1.0; verdicts = f.1.1.1.1.1.0 }
 
-abbrev pub IsBundleBody : Trees → BundleFields → Type 0
-IsBundleBody = Then IsVersion (Then IsMomentString (Then IsDepthNumber (Then (AreRows IsLocatorRow (λ l. l.name)) (Then (AreRows IsObjectRow (λ o. o.uri)) (Then (AreRows IsVerdictRow verdict_row) End)))))
+abbrev pub IsBundleBody : Mode → Trees → BundleFields → Type 0
+IsBundleBody m = Then IsVersion (Then IsMomentString (Then IsDepthNumber (Then (AreRows (IsLocatorRow m) (λ l. l.name)) (Then (AreRows (IsObjectRow m) (λ o. o.uri)) (Then (AreRows IsVerdictRow verdict_row) End)))))
 
-abbrev pub IsBundleTree : Tree → BundleValue → Type 0
-IsBundleTree = As (Inside (universal 16) IsBundleBody) as_bundle
+abbrev pub IsBundleTree : Mode → Tree → BundleValue → Type 0
+IsBundleTree m = As (Inside (universal 16) (IsBundleBody m)) as_bundle
 
 -- A bundle, and nothing behind it.
-abbrev pub IsBundleAlone : Trees → BundleValue × Unit {0} → Type 0
-IsBundleAlone = Then IsBundleTree End
+abbrev pub IsBundleAlone : Mode → Trees → BundleValue × Unit {0} → Type 0
+IsBundleAlone m = Then (IsBundleTree m) End

@@ -10,6 +10,10 @@ use Rattle.rpki_bundle.specs.Orders.{Ascends}
 use Rattle.rpki_bundle.specs.Bundle.{BundleValue, verdict_row}
 use Rattle.rpki_bundle.specs.Spellings.{members_octets}
 
+-- Not empty, and without a space (32).
+abbrev pub IsWord : List ℕ → Type 0
+IsWord text = (text ≢ []) × All (λ c. c ≢ 32) text
+
 -- A name: printable, not empty, without a space (32).
 abbrev pub IsName : List ℕ → Type 0
 IsName text = (text ≢ []) × All (λ c. IsPrintable c × (c ≢ 32)) text

@@ -1,30 +1,41 @@
 -- That rows have the tag of SEQUENCE, and one meaning.
-use Rattle.std.proofs.Common.{sym, ◌∙◌}
-use Rattle.bcder_tree.specs.Tags.{universal}
+use Rattle.std.proofs.Common.{ℕ, List, sym, ◌∙◌}
+use Rattle.bcder_tree.specs.declared.mode.Mode.{Mode}
+use Rattle.bcder_tree.specs.Tags.{TagValue, universal}
+use Rattle.bcder_tree.specs.Strings.{IsString, IsPrintable, IsIa5, IsOctetString}
+use Rattle.bcder_chars.specs.Sets.{alone}
 use Rattle.bcder_content.specs.Grammar.{One, Tagged}
-use Rattle.bcder_content.proofs.Unique.{octets_one, any_octets_one, such_one, inside_one, then_one, end_one, as_one, as_tagged, inside_tagged}
-use Rattle.rpki_bundle.specs.Grammars.{IsOctets, IsNameString, IsUriString, IsDigestString, IsLocatorRow, IsObjectRow, IsVerdictRow}
+use Rattle.bcder_content.proofs.Unique.{octets_one, such_one, inside_one, then_one, end_one, as_one, as_tagged, inside_tagged}
+use Rattle.bcder_octets.proofs.Meaning.{one_string}
+use Rattle.bcder_strings.specs.Restricted.{IsRestricted}
+use Rattle.rpki_bundle.specs.Grammars.{IsNameString, IsUriString, IsDigestString, IsLocatorRow, IsObjectRow, IsVerdictRow}
 
-octets : One IsOctets
-octets = octets_one any_octets_one
+string : (m : Mode) (tag : TagValue) → One (IsString m tag)
+string m tag = record { one = λ t x y p q. one_string m tag t x y p q }
+
+pub octets : (m : Mode) → One (IsOctetString m)
+octets m = string m (universal 4)
+
+pub text : (Has : ℕ → Type 0) (spell : ℕ → List ℕ) (m : Mode) (tag : TagValue) → One (IsRestricted Has spell m tag)
+text Has spell m tag = such_one (string m tag)
 
 digest : One IsDigestString
 digest = octets_one (record { one = λ content x y p q. sym p.same ∙ q.same })
 
-pub one_locator : One IsLocatorRow
-one_locator = let name : One IsNameString = such_one (octets_one any_octets_one) in as_one (inside_one (then_one name (then_one octets end_one)))
+pub one_locator : (m : Mode) → One (IsLocatorRow m)
+one_locator m = let name : One (IsNameString m) = such_one (text IsPrintable alone m (universal 19)) in as_one (inside_one (then_one name (then_one (octets m) end_one)))
 
-pub one_object : One IsObjectRow
-one_object = let uri : One IsUriString = such_one (octets_one any_octets_one) in as_one (inside_one (then_one uri (then_one octets end_one)))
+pub one_object : (m : Mode) → One (IsObjectRow m)
+one_object m = let uri : One (IsUriString m) = such_one (text IsIa5 alone m (universal 22)) in as_one (inside_one (then_one uri (then_one (octets m) end_one)))
 
 pub one_verdict : One IsVerdictRow
 one_verdict = as_one (inside_one (then_one digest (then_one digest (then_one digest end_one))))
 
-pub locator_tagged : Tagged (universal 16) IsLocatorRow
-locator_tagged = as_tagged (inside_tagged _ _)
+pub locator_tagged : (m : Mode) → Tagged (universal 16) (IsLocatorRow m)
+locator_tagged m = as_tagged (inside_tagged _ _)
 
-pub object_tagged : Tagged (universal 16) IsObjectRow
-object_tagged = as_tagged (inside_tagged _ _)
+pub object_tagged : (m : Mode) → Tagged (universal 16) (IsObjectRow m)
+object_tagged m = as_tagged (inside_tagged _ _)
 
 pub verdict_tagged : Tagged (universal 16) IsVerdictRow
 verdict_tagged = as_tagged (inside_tagged _ _)

@@ -6,6 +6,7 @@ use Rattle.bcder_tree.specs.Tree.{Trees}
 use Rattle.bcder_primitive.specs.Values.{AnyOctets}
 use Rattle.bcder_written.specs.Encoded.{IsPlain, WritesPlain, IsWrapped, WritesWrapped, AreBoth, WritesBoth, SpellsSome}
 use Rattle.bcder_written.specs.Integers.{WritesUnsigned}
+use Rattle.bcder_octets.specs.Segments.{StringTrees, WritesString, string_spelled, string_one}
 use Rattle.bcder_values.specs.Laws.{both_spelled, both_one}
 use Rattle.bcder_values.specs.Lists.{AreAll, WritesAll}
 use Rattle.bcder_values.specs.Plains.{plain_spelled, plain_one}
@@ -17,7 +18,7 @@ use Rattle.rpki_bundle.specs.declared.parts.Object.{Object}
 use Rattle.rpki_bundle.specs.declared.parts.Verdict.{Verdict}
 use Rattle.rpki_bundle.specs.Bundle.{BundleValue}
 
--- One string of that tag.
+-- One primitive value of that tag.
 abbrev pub IsText : TagValue → List ℕ → Trees → Type 0
 IsText tag octets = IsPlain tag (λ c. AnyOctets c octets)
 
@@ -31,12 +32,12 @@ IsInteger n = IsPlain (universal 2) (WritesUnsigned (2 ^ 8) n)
 abbrev pub WritesInteger : Mode → ℕ → List ℕ → Type 0
 WritesInteger m n = WritesPlain m (universal 2) (WritesUnsigned (2 ^ 8) n)
 
--- Two strings, or three, in a SEQUENCE.
-abbrev pub IsPair : TagValue → List ℕ → List ℕ → Trees → Type 0
-IsPair tag a b = IsWrapped (universal 16) (AreBoth (IsText tag a) (IsText (universal 4) b))
+-- Two strings, or three primitive ones, in a SEQUENCE.
+abbrev pub IsPair : Mode → TagValue → List ℕ → List ℕ → Trees → Type 0
+IsPair m tag a b = IsWrapped (universal 16) (AreBoth (StringTrees m tag a) (StringTrees m (universal 4) b))
 
 abbrev pub WritesPair : Mode → TagValue → List ℕ → List ℕ → List ℕ → Type 0
-WritesPair m tag a b = WritesWrapped m (universal 16) (WritesBoth (WritesText m tag a) (WritesText m (universal 4) b))
+WritesPair m tag a b = WritesWrapped m (universal 16) (WritesBoth (WritesString m tag a) (WritesString m (universal 4) b))
 
 abbrev pub IsTriple : List ℕ → List ℕ → List ℕ → Trees → Type 0
 IsTriple a b c = IsWrapped (universal 16) (AreBoth (IsText (universal 4) a) (AreBoth (IsText (universal 4) b) (IsText (universal 4) c)))
@@ -46,13 +47,13 @@ WritesTriple m a b c = WritesWrapped m (universal 16) (WritesBoth (WritesText m 
 
 -- The entries of lists.
 abbrev pub AreLocator : Locator → Mode → Trees → Type 0
-AreLocator l m = IsPair (universal 19) l.name l.text
+AreLocator l m = IsPair m (universal 19) l.name l.text
 
 abbrev pub WritesLocator : Locator → Mode → List ℕ → Type 0
 WritesLocator l m = WritesPair m (universal 19) l.name l.text
 
 abbrev pub AreObject : Object → Mode → Trees → Type 0
-AreObject o m = IsPair (universal 22) o.uri o.octets
+AreObject o m = IsPair m (universal 22) o.uri o.octets
 
 abbrev pub WritesObject : Object → Mode → List ℕ → Type 0
 WritesObject o m = WritesPair m (universal 22) o.uri o.octets
@@ -82,14 +83,14 @@ abbrev pub WritesBundle : List ℕ → BundleValue → Mode → List ℕ → Typ
 WritesBundle text b m = WritesMembers m text b.depth (WritesAll (λ l. WritesLocator l m) b.locators) (WritesAll (λ o. WritesObject o m) b.objects) (WritesAll (λ v. WritesVerdict v m) b.verdicts)
 
 -- What is written of entries spells their values, and is always the same.
-pub pair_spelled : (m : Mode) {tag : TagValue} {a b : List ℕ} (text : List ℕ) → WritesPair m tag a b text → SpellsSome m (IsPair tag a b) text
-pair_spelled m = wrapped_spelled m (both_spelled m (plain_spelled m) (plain_spelled m))
+pub pair_spelled : (m : Mode) (tag : TagValue) (a b : List ℕ) (text : List ℕ) → WritesPair m tag a b text → SpellsSome m (IsPair m tag a b) text
+pair_spelled m tag a b = wrapped_spelled m (both_spelled m (string_spelled m tag a) (string_spelled m (universal 4) b))
 
 pub triple_spelled : (m : Mode) {a b c : List ℕ} (text : List ℕ) → WritesTriple m a b c text → SpellsSome m (IsTriple a b c) text
 triple_spelled m = wrapped_spelled m (both_spelled m (plain_spelled m) (both_spelled m (plain_spelled m) (plain_spelled m)))
 
-pub pair_one : (m : Mode) {tag : TagValue} {a b : List ℕ} (s t : List ℕ) → WritesPair m tag a b s → WritesPair m tag a b t → s ≡ t
-pair_one m {a = a} {b} = wrapped_one m (both_one (plain_one m (one_string a)) (plain_one m (one_string b)))
+pub pair_one : (m : Mode) (tag : TagValue) (a b : List ℕ) (s t : List ℕ) → WritesPair m tag a b s → WritesPair m tag a b t → s ≡ t
+pair_one m tag a b = wrapped_one m (both_one (string_one m tag a) (string_one m (universal 4) b))
 
 pub triple_one : (m : Mode) {a b c : List ℕ} (s t : List ℕ) → WritesTriple m a b c s → WritesTriple m a b c t → s ≡ t
 triple_one m {a} {b} {c} = wrapped_one m (both_one (plain_one m (one_string a)) (both_one (plain_one m (one_string b)) (plain_one m (one_string c))))

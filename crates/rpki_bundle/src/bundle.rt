@@ -166,7 +166,7 @@ impl Bundle {
         let read = Mode::Der.decode(
             octets,
             |cons|
-                ensures { ReadsToEndAs parts_alone IsBundleAlone (here (λ s. s.rest) cons.old) result (here (λ s. s.rest) cons.new) }
+                ensures { ReadsToEndAs parts_alone (IsBundleAlone (here (λ s. s.rest) cons.old).mode) (here (λ s. s.rest) cons.old) result (here (λ s. s.rest) cons.new) }
             { take_alone(alloc, cons) },
         );
         match read {

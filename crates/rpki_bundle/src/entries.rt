@@ -4,6 +4,7 @@ ghost use Rattle.std.specs.Prelude.{◌↔◌, ℕ, List, IsTrue};
 ghost use Rattle.bcder_content.specs.Exact.{ReadsAs, ReadsAllAs, ReadsOptAs};
 ghost use Rattle.bcder_content.specs.Grammar.{Many, One, Tagged};
 ghost use Rattle.bcder_content.specs.Here.{here};
+ghost use Rattle.bcder_tree.specs.declared.mode.Mode.{Mode};
 ghost use Rattle.bcder_tree.specs.Tags.{universal};
 ghost use Rattle.bcder_tree.specs.Tree.{Tree};
 ghost use Rattle.rpki_bundle.specs.Grammars.{AreRows};
@@ -17,8 +18,8 @@ use std::alloc::Global;
 
 /// What a list of a bundle has as its entries.
 pub trait Entry: Values + Drop {
-    // The grammar of an entry.
-    ghost form: { Tree → Self → Type 0 };
+    // The grammar of an entry, in each mode.
+    ghost form: { Mode → Tree → Self → Type 0 };
 
     // The octets by which entries are ordered.
     ghost sort_key: { Self → List ℕ };
@@ -30,7 +31,7 @@ pub trait Entry: Values + Drop {
     ) -> Result<Option<Self>, DecodeError<S::Error>>
     where
         Self: Sized,
-        ensures { ReadsOptAs (λ entry. entry) (universal 16) form (here S.rest cons.old) result (here S.rest cons.new) };
+        ensures { ReadsOptAs (λ entry. entry) (universal 16) (form (here S.rest cons.old).mode) (here S.rest cons.old) result (here S.rest cons.new) };
 
     /// Whether it stands before another one.
     fn is_before(&self, other: &Self) -> bool
@@ -44,9 +45,9 @@ pub trait Entry: Values + Drop {
         ensures { IsTrue result ↔ lawful self.now };
 
     // Entries are SEQUENCEs, and each is read in one way.
-    ghost is_sequence: { Tagged (universal 16) form };
+    ghost is_sequence: { (m : Mode) → Tagged (universal 16) (form m) };
 
-    ghost one_value: { One form };
+    ghost one_value: { (m : Mode) → One (form m) };
 }
 
 /// Whether one row of octets stands before another.
@@ -73,11 +74,11 @@ pub fn take_list<E: Entry, S: Source>(
     alloc: Global,
     cons: &mut Constructed<S>,
 ) -> Result<Vec<E>, DecodeError<S::Error>>
-    ensures { ReadsAs (λ entries. entries.items) (AreRows E.form E.sort_key) (here S.rest cons.old) result (here S.rest cons.new) }
+    ensures { ReadsAs (λ entries. entries.items) (AreRows (E.form (here S.rest cons.old).mode) E.sort_key) (here S.rest cons.old) result (here S.rest cons.new) }
 {
     let entries = cons.take_sequence(
         |cons|
-            ensures { ReadsAllAs (λ entries. entries.items) (Many E.form) (here S.rest cons.old) result (here S.rest cons.new) }
+            ensures { ReadsAllAs (λ entries. entries.items) (Many (E.form (here S.rest cons.old).mode)) (here S.rest cons.old) result (here S.rest cons.new) }
         {
             let mut entries = Vec::new(alloc);
             while let Some(entry) = E::take_opt(alloc, cons)? {

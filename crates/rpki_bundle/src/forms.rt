@@ -17,6 +17,7 @@ use std::io::Write;
 
 /// A SEQUENCE of its strings.
 impl Values for Locator {
+    ghost use Rattle.bcder_tree.specs.Tags.{universal};
     ghost use Rattle.rpki_bundle.specs.Written.{AreLocator, WritesLocator, pair_spelled, pair_one};
 
     ghost trees = { AreLocator };
@@ -31,9 +32,9 @@ impl Values for Locator {
         write_pair(mode, Tag::PRINTABLE_STRING, &self.name, &self.text, target)
     }
 
-    ghost spelled = { λ x m. pair_spelled m };
+    ghost spelled = { λ l m. pair_spelled m (universal 19) l.name l.text };
 
-    ghost one_text = { λ x m. pair_one m };
+    ghost one_text = { λ l m. pair_one m (universal 19) l.name l.text };
 }
 
 impl Entry for Locator {
@@ -52,10 +53,10 @@ impl Entry for Locator {
     ) -> Result<Option<Self>, DecodeError<S::Error>> {
         cons.take_opt_sequence(
             |cons|
-                ensures { ReadsAllAs locator_fields IsLocatorBody (here S.rest cons.old) result (here S.rest cons.new) }
+                ensures { ReadsAllAs locator_fields (IsLocatorBody (here S.rest cons.old).mode) (here S.rest cons.old) result (here S.rest cons.new) }
             {
                 let name = take_name(alloc, cons)?;
-                let text = take_octets(alloc, cons, Tag::OCTET_STRING)?;
+                let text = take_octets(alloc, cons)?;
                 Ok(Locator { name, text })
             },
         )
@@ -78,6 +79,7 @@ impl Entry for Locator {
 
 /// A SEQUENCE of its strings.
 impl Values for Object {
+    ghost use Rattle.bcder_tree.specs.Tags.{universal};
     ghost use Rattle.rpki_bundle.specs.Written.{AreObject, WritesObject, pair_spelled, pair_one};
 
     ghost trees = { AreObject };
@@ -92,9 +94,9 @@ impl Values for Object {
         write_pair(mode, Tag::IA5_STRING, &self.uri, &self.octets, target)
     }
 
-    ghost spelled = { λ x m. pair_spelled m };
+    ghost spelled = { λ o m. pair_spelled m (universal 22) o.uri o.octets };
 
-    ghost one_text = { λ x m. pair_one m };
+    ghost one_text = { λ o m. pair_one m (universal 22) o.uri o.octets };
 }
 
 impl Entry for Object {
@@ -113,10 +115,10 @@ impl Entry for Object {
     ) -> Result<Option<Self>, DecodeError<S::Error>> {
         cons.take_opt_sequence(
             |cons|
-                ensures { ReadsAllAs object_fields IsObjectBody (here S.rest cons.old) result (here S.rest cons.new) }
+                ensures { ReadsAllAs object_fields (IsObjectBody (here S.rest cons.old).mode) (here S.rest cons.old) result (here S.rest cons.new) }
             {
                 let uri = take_uri(alloc, cons)?;
-                let octets = take_octets(alloc, cons, Tag::OCTET_STRING)?;
+                let octets = take_octets(alloc, cons)?;
                 Ok(Object { uri, octets })
             },
         )
@@ -164,7 +166,7 @@ impl Entry for Verdict {
     ghost use Rattle.rpki_bundle.specs.RowLaws.{one_verdict, verdict_tagged};
     ghost use Rattle.rpki_bundle.specs.Lawful.{IsLawfulVerdict};
 
-    ghost form = { IsVerdictRow };
+    ghost form = { λ m. IsVerdictRow };
 
     ghost sort_key = { verdict_row };
 
@@ -203,7 +205,7 @@ impl Entry for Verdict {
         true
     }
 
-    ghost is_sequence = { verdict_tagged };
+    ghost is_sequence = { λ m. verdict_tagged };
 
-    ghost one_value = { one_verdict };
+    ghost one_value = { λ m. one_verdict };
 }

@@ -1,37 +1,41 @@
 //! The fields of bundles and of their entries, read by the codec.
 
 ghost use Rattle.std.specs.Prelude.{◌↔◌, ◌≡◌, ◌≤◌, IsTrue};
+ghost use Rattle.bcder_tree.specs.Strings.{IsOctetString};
+ghost use Rattle.bcder_tree.specs.Tags.{universal};
 ghost use Rattle.bcder_content.specs.Exact.{ReadsAs};
 ghost use Rattle.bcder_content.specs.Grammar.{OctetsOf};
 ghost use Rattle.bcder_content.specs.Here.{here, plain};
 ghost use Rattle.bcder_primitive.specs.Plain.{ReadsOctetsAs};
 ghost use Rattle.bcder_primitive.specs.Values.{AnyOctets};
-ghost use Rattle.bcder_tree.specs.Strings.{IsPrintable};
 ghost use Rattle.rpki_bundle.specs.Grammars.{IsDepthNumber, IsDigest, IsDigestString, IsMomentString, IsNameString, IsUriString};
-ghost use Rattle.rpki_bundle.specs.Lawful.{IsName};
+ghost use Rattle.rpki_bundle.specs.Lawful.{IsName, IsWord};
 
 use crate::Time;
 use crate::uri::is_lookup_key;
+use bcder_chars::{CharSet, PrintableCharSet};
 use bcder_content::{Constructed, Primitive};
+use bcder_octets::OctetString;
 use bcder_source::{ContentError, DecodeError, Source, Tag};
+use bcder_strings::{Ia5String, PrintableString};
 use bytes::Bytes;
 use std::alloc::Global;
 
-// Whether a PrintableString may have the character.
-fn is_printable(octet: u8) -> bool
-    ensures { IsTrue result ↔ IsPrintable octet }
+// Whether the text isn't empty, and has no space.
+fn is_word(text: &[u8]) -> bool
+    ensures { IsTrue result ↔ IsWord text.now }
 {
-    octet.is_ascii_alphanumeric() || b" '()+,-./:=?".contains(&octet)
+    !text.is_empty() && text.iter().all(|octet| *octet != b' ')
 }
 
 /// Whether the text is the name of a locator: printable, not empty, without a space.
 pub fn is_name(text: &[u8]) -> bool
     ensures { IsTrue result ↔ IsName text.now }
 {
-    !text.is_empty()
-        && text
-            .iter()
-            .all(|octet| is_printable(*octet) && *octet != b' ')
+    match PrintableCharSet::check(text) {
+        Ok(()) => is_word(text),
+        Err(_) => false,
+    }
 }
 
 /// Whether a bundle may have the depth.
@@ -41,21 +45,17 @@ pub fn is_depth(depth: u8) -> bool
     (1..=32).contains(&depth)
 }
 
-/// The octets of a primitive value with that tag.
+/// The octets of an OCTET STRING.
 #[inline(always)]
 pub fn take_octets<S: Source>(
     alloc: Global,
     cons: &mut Constructed<S>,
-    tag: Tag,
 ) -> Result<Bytes, DecodeError<S::Error>>
-    ensures { ReadsAs (λ octets. octets) (OctetsOf tag AnyOctets) (here S.rest cons.old) result (here S.rest cons.new) }
+    ensures { ReadsAs (λ octets. octets) (IsOctetString (here S.rest cons.old).mode) (here S.rest cons.old) result (here S.rest cons.new) }
 {
-    cons.take_primitive_if(
-        tag,
-        |prim|
-            ensures { ReadsOctetsAs (λ octets. octets) AnyOctets (plain S.rest prim.old) result (plain S.rest prim.new) }
-        { prim.take_all(alloc) },
-    )
+    let string = OctetString::take_from(alloc, cons)?;
+    let octets = string.into_bytes(alloc)?;
+    Ok(octets)
 }
 
 /// The name of a locator.
@@ -64,10 +64,11 @@ pub fn take_name<S: Source>(
     alloc: Global,
     cons: &mut Constructed<S>,
 ) -> Result<Bytes, DecodeError<S::Error>>
-    ensures { ReadsAs (λ octets. octets) IsNameString (here S.rest cons.old) result (here S.rest cons.new) }
+    ensures { ReadsAs (λ octets. octets) (IsNameString (here S.rest cons.old).mode) (here S.rest cons.old) result (here S.rest cons.new) }
 {
-    let name = take_octets(alloc, cons, Tag::PRINTABLE_STRING)?;
-    if !is_name(name.as_slice()) {
+    let string = PrintableString::take_from(alloc, cons)?;
+    let name = string.into_bytes(alloc)?;
+    if !is_word(name.as_slice()) {
         return Err(cons.content_err(ContentError::from_static("no name")));
     }
     Ok(name)
@@ -78,9 +79,10 @@ pub fn take_uri<S: Source>(
     alloc: Global,
     cons: &mut Constructed<S>,
 ) -> Result<Bytes, DecodeError<S::Error>>
-    ensures { ReadsAs (λ octets. octets) IsUriString (here S.rest cons.old) result (here S.rest cons.new) }
+    ensures { ReadsAs (λ octets. octets) (IsUriString (here S.rest cons.old).mode) (here S.rest cons.old) result (here S.rest cons.new) }
 {
-    let uri = take_octets(alloc, cons, Tag::IA5_STRING)?;
+    let string = Ia5String::take_from(alloc, cons)?;
+    let uri = string.into_bytes(alloc)?;
     if !is_lookup_key(uri.as_slice()) {
         return Err(cons.content_err(ContentError::from_static("no lookup key")));
     }
@@ -120,6 +122,21 @@ pub fn take_digest<S: Source>(cons: &mut Constructed<S>) -> Result<[u8; 32], Dec
     )
 }
 
+// The octets of a time.
+fn take_text<S: Source>(
+    alloc: Global,
+    cons: &mut Constructed<S>,
+) -> Result<Bytes, DecodeError<S::Error>>
+    ensures { ReadsAs (λ octets. octets) (OctetsOf (universal 24) AnyOctets) (here S.rest cons.old) result (here S.rest cons.new) }
+{
+    cons.take_primitive_if(
+        Tag::GENERALIZED_TIME,
+        |prim|
+            ensures { ReadsOctetsAs (λ octets. octets) AnyOctets (plain S.rest prim.old) result (plain S.rest prim.new) }
+        { prim.take_all(alloc) },
+    )
+}
+
 /// A moment.
 pub fn take_moment<S: Source>(
     alloc: Global,
@@ -127,7 +144,7 @@ pub fn take_moment<S: Source>(
 ) -> Result<Time, DecodeError<S::Error>>
     ensures { ReadsAs (λ moment. moment) IsMomentString (here S.rest cons.old) result (here S.rest cons.new) }
 {
-    let text = take_octets(alloc, cons, Tag::GENERALIZED_TIME)?;
+    let text = take_text(alloc, cons)?;
     match Time::from_generalized(text.as_slice()) {
         Some(moment) => Ok(moment),
         None => Err(cons.content_err(ContentError::from_static("no moment"))),

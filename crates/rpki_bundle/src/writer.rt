@@ -8,6 +8,7 @@ ghost use Rattle.bcder_tree.specs.Tags.{IsTag};
 ghost use Rattle.bcder_written.specs.Writing.{HasLength, Wrote, CannotWrite, WriteRefused};
 ghost use Rattle.rpki_bundle.specs.Written.{AreMembers, IsPair, IsTriple, WritesMembers, WritesPair, WritesTriple};
 
+use bcder_octets::OctetSliceEncoder;
 use bcder_source::{Mode, Tag};
 use bcder_values::{Constructed, EncodeError, Octets, Primitive, Values};
 use std::convert::AsSlice;
@@ -22,15 +23,12 @@ pub fn pair_len<T: AsSlice<u8> + Drop>(
 ) -> Result<usize, EncodeError>
     requires { IsTag tag }
     ensures len { IfOk result (HasLength (WritesPair mode tag (T.items first) (T.items second))) }
-    ensures refused { IfErr result (CannotWrite (IsPair tag (T.items first) (T.items second)) (WritesPair mode tag (T.items first) (T.items second))) }
+    ensures refused { IfErr result (CannotWrite (IsPair mode tag (T.items first) (T.items second)) (WritesPair mode tag (T.items first) (T.items second))) }
 {
-    let first = Primitive {
-        tag,
-        content: Octets(first),
-    };
-    let second = Primitive {
+    let first = OctetSliceEncoder { tag, octets: first };
+    let second = OctetSliceEncoder {
         tag: Tag::OCTET_STRING,
-        content: Octets(second),
+        octets: second,
     };
     let values = Constructed {
         tag: Tag::SEQUENCE,
@@ -49,15 +47,12 @@ pub fn write_pair<T: AsSlice<u8> + Drop, W: Write>(
 ) -> Result<(), EncodeError>
     requires { IsTag tag }
     ensures written { OnOk result (Wrote (WritesPair mode tag (T.items first) (T.items second)) (W.contents target.old) (W.contents target.new)) }
-    ensures refused { IfErr result (WriteRefused (IsPair tag (T.items first) (T.items second)) (WritesPair mode tag (T.items first) (T.items second)) (target.new ≡ target.old) (W.contents target.old) (W.contents target.new)) }
+    ensures refused { IfErr result (WriteRefused (IsPair mode tag (T.items first) (T.items second)) (WritesPair mode tag (T.items first) (T.items second)) (target.new ≡ target.old) (W.contents target.old) (W.contents target.new)) }
 {
-    let first = Primitive {
-        tag,
-        content: Octets(first),
-    };
-    let second = Primitive {
+    let first = OctetSliceEncoder { tag, octets: first };
+    let second = OctetSliceEncoder {
         tag: Tag::OCTET_STRING,
-        content: Octets(second),
+        octets: second,
     };
     let values = Constructed {
         tag: Tag::SEQUENCE,

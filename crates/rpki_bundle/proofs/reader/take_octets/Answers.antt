@@ -1,5 +1,9 @@
-use Rattle.bcder_content.proofs.Inside.{exact_octets}
+use Rattle.bcder_content.proofs.Choices.{stop_value}
+use Rattle.rpki_bundle.proofs.Modes.{gives_same}
 use Rattle.rpki_bundle.proofs.reader.take_octets.Goals as goal
 
+pub returns-in_err-string : goal.returns-in_err-string
+returns-in_err-string g c = stop_value _ _ _ _ c.from_residual.ensures (λ l. l) c.in_err-string.ensures.reads
+
 pub returns : goal.returns
-returns g c = exact_octets (record { each = λ p q r m h. h }) c.take_primitive_if.ensures.ran
+returns g c = gives_same c.in_ok-octets.ensures c.in_ok-string.ensures.reads

@@ -1,15 +1,19 @@
 use Rattle.std.proofs.Common.{refl, sym, subst}
+use Rattle.bcder_tree.specs.Tags.{universal}
+use Rattle.bcder_chars.specs.Sets.{IsIa5, alone}
+use Rattle.bcder_content.specs.Here.{here}
 use Rattle.bcder_content.proofs.Choices.{such_gives, such_lacks, such_refused, stop_value}
 use Rattle.bcder_content.proofs.Taking.{on_content}
-use Rattle.bcder_content.proofs.Unique.{octets_one, any_octets_one}
 use Rattle.rpki_bundle.specs.Uris.{IsLookupKey}
+use Rattle.rpki_bundle.specs.RowLaws.{text}
+use Rattle.rpki_bundle.proofs.Modes.{gives_same}
 use Rattle.rpki_bundle.proofs.reader.take_uri.Goals as goal
 
-pub returns-in_err-uri : goal.returns-in_err-uri
-returns-in_err-uri g c = stop_value _ _ _ _ c.from_residual.ensures (λ l. such_lacks l) c.in_err-uri.ensures
+pub returns-in_err-string : goal.returns-in_err-string
+returns-in_err-string g c = stop_value _ _ _ _ c.from_residual.ensures (λ l. such_lacks l) c.in_err-string.ensures.reads
 
 pub returns-then-not-is_lookup_key : goal.returns-then-not-is_lookup_key
-returns-then-not-is_lookup_key g c = on_content _ (such_refused (octets_one any_octets_one) c.in_ok-uri.ensures (λ h. let t = c.if-not-is_lookup_key.ensures.1 (subst IsLookupKey (sym c.as_slice.ensures) h) in absurd cc))
+returns-then-not-is_lookup_key g c = on_content _ (such_refused (text IsIa5 alone (here g.S.Source.rest c.args.cons.now).mode (universal 22)) (gives_same c.in_ok-uri.ensures c.in_ok-string.ensures.reads) (λ h. let t = c.if-not-is_lookup_key.ensures.1 (subst IsLookupKey (sym c.as_slice.ensures) h) in absurd cc))
 
 pub returns : goal.returns
-returns g c = such_gives c.in_ok-uri.ensures (subst IsLookupKey c.as_slice.ensures (c.if-not-is_lookup_key.ensures.0 refl))
+returns g c = such_gives (gives_same c.in_ok-uri.ensures c.in_ok-string.ensures.reads) (subst IsLookupKey c.as_slice.ensures (c.if-not-is_lookup_key.ensures.0 refl))

@@ -18,11 +18,13 @@ returns-in_err-behind g c = ends_err _ _ _ _ _ _ c.from_residual-in_err-behind.e
 
 pub returns-in-Some : goal.returns-in-Some
 returns-in-Some g c =
-    let s = next (begin IsBundleAlone _) c.in_ok-parts.ensures in
+    let m = (here g.S.Source.rest c.args.cons.now).mode in
+    let s = next (begin (IsBundleAlone m) _) c.in_ok-parts.ensures in
     let value = there_next _ _ c.in-Some.is c.in_ok-behind.ensures.skipped in
     on_content _ (s.lacks (end_lacks (λ e. ended_none e value.took)))
 
 pub returns : goal.returns
 returns g c =
+    let m = (here g.S.Source.rest c.args.cons.now).mode in
     let end = absent_next _ _ _ c.in_default.is c.in_ok-behind.ensures.skipped in
-    subst (λ (v : ValuesLeft). GivesAll IsBundleAlone (here g.S.Source.rest c.args.cons.now) (parts_alone c.in_ok-parts.parts) v × Ended v) (sym end.0) (done (next (begin _ _) c.in_ok-parts.ensures), end.1)
+    subst (λ (v : ValuesLeft). GivesAll (IsBundleAlone m) (here g.S.Source.rest c.args.cons.now) (parts_alone c.in_ok-parts.parts) v × Ended v) (sym end.0) (done (next (begin _ _) c.in_ok-parts.ensures), end.1)

@@ -1,11 +1,14 @@
-use Rattle.std.proofs.Common.{length}
+use Rattle.std.proofs.Common.{◌≡◌, length}
 use Rattle.bcder_content.specs.Grammar.{Many}
 use Rattle.bcder_content.specs.Here.{here}
 use Rattle.bcder_content.proofs.Forests.{Listing}
 use Rattle.rpki_bundle.proofs.entries.fn.take_list.take_sequence.Given as goal
 
 abbrev pub invariant-loop-entries : goal.invariant-loop-entries
-invariant-loop-entries g l = Listing (Many g.E.Entry.form) g.E.Entry.form (λ xs. xs) l.entries.items (here g.S.Source.rest l.fn.cons) (here g.S.Source.rest l.cons)
+invariant-loop-entries g l =
+    let start = here g.S.Source.rest l.fn.cons in
+    let now = here g.S.Source.rest l.cons in
+    (now.mode ≡ start.mode) × Listing (Many (g.E.Entry.form start.mode)) (g.E.Entry.form start.mode) (λ xs. xs) l.entries.items start now
 
 abbrev pub decreases-loop-entries : goal.decreases-loop-entries
 decreases-loop-entries g l = length (g.S.Source.rest l.cons.octets.source.source)

@@ -1,11 +1,14 @@
+use Rattle.bcder_tree.specs.Strings.{IsOctetString}
 use Rattle.bcder_content.proofs.Forests.{begin, next, stop, done}
+use Rattle.bcder_content.proofs.Taking.{weaker}
+use Rattle.rpki_bundle.proofs.Modes.{mode_behind, gives_in, lacks_in}
 use Rattle.rpki_bundle.proofs.forms.fn.ObjectEntry.take_opt.take_opt_sequence.Goals as goal
 
 pub returns-in_err-uri : goal.returns-in_err-uri
 returns-in_err-uri g c = stop _ _ _ _ (begin _ _) c.from_residual.ensures c.in_err-uri.ensures
 
 pub returns-in_err-octets : goal.returns-in_err-octets
-returns-in_err-octets g c = stop _ _ _ _ (next (begin _ _) c.in_ok-uri.ensures) c.from_residual-in_err-octets.ensures c.in_err-octets.ensures
+returns-in_err-octets g c = stop _ _ _ _ (next (begin _ _) c.in_ok-uri.ensures) c.from_residual-in_err-octets.ensures (weaker _ (lacks_in IsOctetString (mode_behind c.in_ok-uri.ensures)) c.in_err-octets.ensures)
 
 pub returns : goal.returns
-returns g c = done (next (next (begin _ _) c.in_ok-uri.ensures) c.in_ok-octets.ensures)
+returns g c = done (next (next (begin _ _) c.in_ok-uri.ensures) (gives_in IsOctetString (mode_behind c.in_ok-uri.ensures) c.in_ok-octets.ensures))

@@ -1,0 +1,5 @@
+use Rattle.bcder_content.proofs.Inside.{exact_octets}
+use Rattle.rpki_bundle.proofs.reader.take_text.Goals as goal
+
+pub returns : goal.returns
+returns g c = exact_octets (record { each = λ p q r m h. h }) c.take_primitive_if.ensures.ran
