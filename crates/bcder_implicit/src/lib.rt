@@ -1,0 +1,33 @@
+//! Simple values with implicit tags, read by their content alone, whatever their tag (X.690 8.14): an exact reader of
+//! such a value, and cases of the calls of `Content` that read one. No crate stands on it.
+//!
+//! It is a crate of its own so that the crates above `bcder_content` needn't wait for its tests.
+#![tactic(auto)]
+
+ghost use Rattle.std.specs.Prelude.{◌^◌};
+ghost use Rattle.bcder_content.specs.Exact.{ReadsAs};
+ghost use Rattle.bcder_content.specs.Grammar.{OctetsOf};
+ghost use Rattle.bcder_content.specs.Here.{here};
+ghost use Rattle.bcder_content.specs.Tagged.{ReadsTagged};
+ghost use Rattle.bcder_primitive.specs.Values.{IsUnsigned};
+
+use bcder_content::Constructed;
+use bcder_source::{DecodeError, Source, Tag};
+
+/// The number of an INTEGER with that tag in place of its own, which fits a `u8`.
+pub fn take_tagged_u8<S: Source>(
+    cons: &mut Constructed<S>,
+    tag: Tag,
+) -> Result<u8, DecodeError<S::Error>>
+    ensures { ReadsAs (λ n. n) (OctetsOf tag (IsUnsigned (2 ^ 8))) (here S.rest cons.old) result (here S.rest cons.new) }
+{
+    cons.take_value_if(
+        tag,
+        |content|
+            ensures { ReadsTagged S.rest (λ n. n) (λ _ tag. OctetsOf tag (IsUnsigned (2 ^ 8))) content.old result content.new }
+        { content.to_u8() },
+    )
+}
+
+#[cfg(test)]
+mod tests;
