@@ -1,4 +1,4 @@
-//! IP resources: addresses and blocks of them, sets, and claims; read, and blocks written.
+//! IP resources: addresses and blocks of them, sets, and claims; read, and written a family at a time.
 
 pub use resources_ip::{
     Addr, AddressFamily, AddressRange, DisplayV4Block, DisplayV6Block, FromStrError,

@@ -12,7 +12,7 @@
 //! | [`chain`] | blocks of any kind, and chains of them |
 //! | [`choice`] | what a certificate says of one kind: nothing, `inherit`, or a set |
 //! | [`asres`] | AS resources: blocks, sets and claims, read and written |
-//! | [`ipres`] | IP resources: blocks, sets and claims, read; families, prefixes, ranges and blocks are written, too |
+//! | [`ipres`] | IP resources: blocks, sets and claims, read, and written a family at a time |
 //! | [`set`] | sets of all three kinds, and what two of them differ in |
 //! | [`overclaim`] | what becomes of numbers that the issuer doesn't hold, and the object identifiers that tell it |
 //!
@@ -37,7 +37,7 @@
 //! - `SmallAsnSet::from_iter` keeps a number that comes twice once. What is printed of an IPv6 address that maps an
 //!   IPv4 one is read as the same address again.
 //!
-//! Sets of addresses and IP resources aren't written in DER yet.
+//! Both families of IP resources aren't written as one value yet.
 #![tactic(auto)]
 
 pub mod addr;
