@@ -235,6 +235,18 @@ def encodings(q):
     ):
         q.ask("refused: no AS resources", "as", "decode", octets.hex())
     q.ask("AS4294967295.", "as", "decode", as_resources(tlv(0x30, integer(2 ** 32 - 1))).hex())
+    # A refused read leaves its content failed; where no block is next, nothing is read.
+    for octets in (integer(5), tlv(0x30, integer(8) + integer(9)), b"", tlv(5, b"")):
+        q.ask("goes on", "as", "forgotten", octets.hex())
+    for octets in (
+        tlv(0x30, integer(9) + integer(8)),
+        tlv(0x30, integer(8)),
+        tlv(0x30, integer(8) + integer(9) + integer(10)),
+        integer(2 ** 32),
+        integer(-1),
+        integer(5)[:1],
+    ):
+        q.ask("refused: the content failed", "as", "forgotten", octets.hex())
 
 
 def bits(value, count):
@@ -429,7 +441,21 @@ def addresses(q):
     q.ask("false", "v6", "count", "2001:db8::/32, 2001:db9::/33")
     q.ask("0.0.0.0/0", "v4", "union", "0.0.0.0/1", "128.0.0.0/1")
     q.ask("::/0", "v6", "union", "::/1", "8000::/1")
-    return q
+    refused_lists(q)
+
+
+def refused_lists(q):
+    for bad in (",", "10.0.0.0/8,", "10.0.0.0/8, ", ",10.0.0.0/8", "10.0.0.0/8,,11.0.0.0/8"):
+        q.ask("refused: invalid list of blocks", "v4", "read", bad)
+    for bad in (" 10.0.0.0/8", "10.0.0.0/8,  11.0.0.0/8", "10.0.0/8", "10.0.0.0-"):
+        q.ask("refused: invalid address", "v4", "read", bad)
+    q.ask("refused: invalid prefix length", "v4", "read", "10.0.0.0/8 , 11.0.0.0/8")
+    q.ask("refused: addresses of different families", "v4", "read", "10.0.0.0/8, 2001:db8::/32")
+    q.ask("refused: addresses of different families", "v4", "read", "2001:db8::/32")
+    q.ask("refused: addresses of different families", "v6", "read", "2001:db8::/32, 10.0.0.0/8")
+    q.ask("refused: addresses of different families", "v6", "read", "10.0.0.0/8")
+    q.ask("refused: invalid range", "v4", "read", "11.0.0.0/8, 10.0.0.9-10.0.0.0")
+    q.ask("refused: missing separator", "v6", "read", "2001:db8::")
 
 
 def written(q):
@@ -440,6 +466,28 @@ def written(q):
         text = q.spelled(kind, r)
         q.ask(f"{as_resources(tlv(0x30, bare)).hex()} {bare.hex()}" if r else " ", "as", "encode", text)
     q.ask("3004a0020500", "as", "encode", "inherit")
+
+
+def written_families(q):
+    """Both families of IP resources as one value, from sets in any form: IPv4 first, and none that is missing."""
+    kinds = {4: Addresses(4), 6: Addresses(6)}
+    for _ in range(120):
+        words, octets = [], b""
+        for version, kind in kinds.items():
+            listed = rng.choice(["missing", "inherit", ranges(kind, 4), [wide(kind)]])
+            words.append(listed if isinstance(listed, str) else q.spelled(kind, listed))
+            if listed == "inherit":
+                octets += ip_family(version, NULL)
+            elif listed != "missing":
+                blocks = b"".join(written_block(kind, *block) for block in maximal(listed))
+                octets += ip_family(version, tlv(0x30, blocks))
+        q.ask(tlv(0x30, octets).hex() if octets else "", "ip", "encode", *words)
+    q.ask("", "ip", "encode", "missing", "missing")
+    q.ask("30083006040200010500", "ip", "encode", "inherit", "missing", "ber")
+    inherit_in_cer = "30 80 30 80 04 02 00 01 05 00 00 00 00 00"
+    q.ask(bytes.fromhex(inherit_in_cer).hex(), "ip", "encode", "inherit", "missing", "cer")
+    none_in_cer = "30 80 30 80 04 02 00 02 30 80 00 00 00 00 00 00"
+    q.ask(bytes.fromhex(none_in_cer).hex(), "ip", "encode", "missing", "", "cer")
 
 
 THREE = (Numbers(), Addresses(4), Addresses(6))
@@ -499,6 +547,7 @@ def main():
     families(q)
     written(q)
     of_all(q)
+    written_families(q)
     (FOLDER / "stdin").write_text("".join(f"{question}\n" for question, _ in q.rows))
     (FOLDER / "stdout").write_text("".join(f"{answer}\n" for _, answer in q.rows))
     print(len(q.rows), "questions")

@@ -11,6 +11,7 @@
 //! | [`oid`] | object identifiers |
 //! | [`string`] | bit strings, octet strings, and restricted character strings with their sets |
 //! | [`captured`] | values that are kept as they are spelled |
+//! | [`laws`] | what follows for values and their spellings, as functions that do nothing |
 //!
 //! What differs from the Rust crate: what takes memory is given an allocator, first of all, and answers a `Result`
 //! (want of memory is an error of its own, and never another answer); nothing panics; a content owns its source;
@@ -21,6 +22,7 @@ pub mod captured;
 pub mod decode;
 pub mod encode;
 pub mod int;
+pub mod laws;
 pub mod oid;
 pub mod string;
 

@@ -1,7 +1,7 @@
 //! Bit strings taken from contents of values.
 ghost use Rattle.std.specs.Prelude.{◌≡◌, ◌≢◌, true, IfErr, OnErr};
 ghost use Rattle.bcder_source.specs.declared.error.DecodeError.TheVariants.{Memory};
-ghost use Rattle.bcder_content.specs.Either.{SameContent, ReadsContentAs};
+ghost use Rattle.bcder_content.specs.Either.{SameContent, left_of, ReadsContentAs};
 ghost use Rattle.bcder_content.specs.Exact.{ReadsAs};
 ghost use Rattle.bcder_content.specs.Grammar.{OctetsOf};
 ghost use Rattle.bcder_content.specs.Here.{here};
@@ -35,13 +35,15 @@ impl BitString {
         cons.take_primitive_if(Tag::BIT_STRING, |prim| skip_bits(prim))
     }
 
-    /// The bit string of a value's content, whatever the value's tag; a constructed content is refused.
+    /// The bit string of a value's content, whatever the value's tag; a constructed content is refused. Where it is
+    /// refused, the content is failed.
     pub fn from_content<S: Source>(
         alloc: Global,
         content: &mut Content<'_, S>,
     ) -> Result<BitString, DecodeError<S::Error>>
         ensures same { SameContent content.old content.new }
-        ensures reads { (tag : _) → ReadsContentAs S.rest (λ v. v) (OctetsOf tag (IsBitString (here S.rest content.old.values.now).mode)) tag content.old result content.new }
+        ensures reads { (tag : _) → ReadsContentAs S.rest (λ v. v) (OctetsOf tag (IsBitString (left_of S.rest content.old).mode)) tag content.old result content.new }
+        ensures failed { OnErr result ((left_of S.rest content.new).failed ≡ true) }
     {
         content.primitive(|prim| take_bits(alloc, prim))
     }

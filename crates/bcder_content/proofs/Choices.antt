@@ -1,7 +1,7 @@
 -- Values that pass a test, mean something, or are one of two (CHOICE).
-use Rattle.std.proofs.Common.{Bool, ◌≡◌, Result, Ok, Err, refl, sym, ◌∙◌, subst, inl, inr}
+use Rattle.std.proofs.Common.{Bool, ℕ, ◌≡◌, Result, Ok, Err, refl, sym, ap, ◌∙◌, subst, inl, inr}
 use Rattle.std.specs.Result.{IsErr, IsErrAnd}
-use Rattle.bcder_tree.specs.Tags.{TagValue}
+use Rattle.bcder_tree.specs.Tags.{TagValue, universal}
 use Rattle.bcder_tree.specs.Tree.{Tree, Trees}
 use Rattle.bcder_source.specs.Errors.{OnContent}
 use Rattle.bcder_source.specs.declared.error.DecodeError.{DecodeError}
@@ -47,7 +47,20 @@ as_lacks f l = record { none = λ t y p a. l.none t p.x p.is a }
 pub as_lacks_tagged : {A B : Type 0} {tag : TagValue} {Q : Tree → A → Type 0} (f : A → B) {now : ValuesLeft} → LacksTagged tag Q now → LacksTagged tag (As Q f) now
 as_lacks_tagged f l = record { tagged = l.tagged; lacks = as_lacks f l.lacks; goes_on = l.goes_on }
 
+-- A reader of a value is one of what the value means.
+pub as_reads : {A B C E : Type 0} (f : A → B) (Q : Tree → B → Type 0) (h : B → C) (old new : ValuesLeft) (r : Result A (DecodeError E)) → ReadsAs f Q old r new → ReadsAs (λ x. h (f x)) (As Q h) old r new
+as_reads f Q h old new (Ok x) reads = as_gives h reads
+as_reads f Q h old new (Err e) reads = weaker e (as_lacks h) reads
+
+-- What was read, by another name.
+pub gives_same : {A : Type 0} {Q : Tree → A → Type 0} {old new : ValuesLeft} {x y : A} → y ≡ x → Gives Q old x new → Gives Q old y new
+gives_same {A} {Q} {old} {new} e g = subst (λ (z : A). Gives Q old z new) (sym e) g
+
 -- A choice.
+
+-- Tags with two numbers are two.
+pub universal_apart : {n k : ℕ} → (n ≡ k → ⊥) → universal n ≡ universal k → ⊥
+universal_apart apart e = apart (ap (λ (t : TagValue). t.number) e)
 
 pub first_gives : {A : Type 0} {Q : Tree → A → Type 0} (R : Tree → A → Type 0) {now new : ValuesLeft} {x : A} → Gives Q now x new → Gives (OneOf Q R) now x new
 first_gives R g = record { tree = g.tree; is = record { cases = inl g.is }; took = g.took }

@@ -38,7 +38,7 @@ each_met {F} {S} {T} {B} {E} {m} {rest} {g} {op} {f} {P} exact given stop r mode
     (subst (λ (w : Constructed S). ReadsAllAs f P (here rest met.shown.now) r (here rest w)) met.leaves
     (exact.each met.shown met.left r (ap (λ (v : Constructed S). (here rest v).mode) met.shows ∙ mode) met.met))
 
-plain_met : {F S T B E : Type 0} {m : Mode} {rest : S → List ℕ} {g : Reader F (Primitive S) T E} {op : F} {f : T → B} {P : List ℕ → B → Type 0} → PlainEach m rest g op f P → (given stop : Primitive S) (r : Result T (DecodeError E)) → (plain rest given).mode ≡ m → FnOnceReturnsAtMut g op given r stop → ReadsOctetsAs f P (plain rest given) r (plain rest stop)
+pub plain_met : {F S T B E : Type 0} {m : Mode} {rest : S → List ℕ} {g : Reader F (Primitive S) T E} {op : F} {f : T → B} {P : List ℕ → B → Type 0} → PlainEach m rest g op f P → (given stop : Primitive S) (r : Result T (DecodeError E)) → (plain rest given).mode ≡ m → FnOnceReturnsAtMut g op given r stop → ReadsOctetsAs f P (plain rest given) r (plain rest stop)
 plain_met {F} {S} {T} {B} {E} {m} {rest} {g} {op} {f} {P} exact given stop r mode met =
     subst (λ (v : Primitive S). ReadsOctetsAs f P (plain rest v) r (plain rest stop)) met.shows
     (subst (λ (w : Primitive S). ReadsOctetsAs f P (plain rest met.shown.now) r (plain rest w)) met.leaves

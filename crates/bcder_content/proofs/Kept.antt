@@ -112,7 +112,7 @@ ran_in {v = v} {end} Q each on =
 kept_spelled : {F D : Type 0} {g : Reader F (Constructed Reading) (Unit {0}) D} {op : F} {v new : ValuesLeft} {c : CapturedValue} {t : Tree} (h : Keeps g op v c new) → Took (cut v) t h.end → Spells v.mode t c.octets
 kept_spelled {v = v} {c = c} {t} h k = subst (Spells v.mode t) (same_text k.goes h.took.goes ∙ h.kept) k.spelled
 
-ahead_cut : {v : ValuesLeft} {t : Tree} → Ahead v t → Ahead (cut v) t
+pub ahead_cut : {v : ValuesLeft} {t : Tree} → Ahead v t → Ahead (cut v) t
 ahead_cut a = (cut a.0, record { text = a.1.text; spelled = a.1.spelled; goes = goes_cut a.1.goes })
 
 -- Capturing with a closure that reads one value of any kind.

@@ -6,7 +6,7 @@ use Rattle.bcder_source.specs.declared.error.DecodeError.TheVariants.{Content, S
 use Rattle.bcder_tree.specs.Tree.{Tree, Spells}
 use Rattle.bcder_source.specs.Views.{Reading}
 use Rattle.bcder_content.specs.declared.constructed.Constructed.{Constructed}
-use Rattle.bcder_content.specs.Contents.{ValuesLeft, Ahead}
+use Rattle.bcder_content.specs.Contents.{ValuesLeft}
 use Rattle.bcder_content.specs.Exact.{Lacks, ReadsAs}
 use Rattle.bcder_content.specs.Grammar.{ExactlyOf}
 use Rattle.bcder_content.specs.Here.{here}
@@ -14,10 +14,7 @@ use Rattle.bcder_content.specs.Kept.{CapturedValue}
 use Rattle.bcder_content.specs.Ran.{Reader, RanIn}
 use Rattle.bcder_content.specs.Captures.{rest_of, cut, was_failed, was_refused, CapturesCases, Captures}
 use Rattle.bcder_content.proofs.Decoding.{ValueEach, value_met}
-use Rattle.bcder_content.proofs.Kept.{goes_cut, same_text}
-
-ahead_cut : {v : ValuesLeft} {t : Tree} → Ahead v t → Ahead (cut v) t
-ahead_cut a = (cut a.0, record { text = a.1.text; spelled = a.1.spelled; goes = goes_cut a.1.goes })
+use Rattle.bcder_content.proofs.Kept.{ahead_cut, same_text}
 
 lacks_kept : {B : Type 0} {P : Tree → B → Type 0} {v : ValuesLeft} (m : Mode) → Lacks P (cut v) → Lacks (ExactlyOf m P) v
 lacks_kept m l = record { none = λ t o p a. l.none t p.x p.is (ahead_cut a) }

@@ -18,3 +18,6 @@ pub mod Passing
 pub mod Memories
 pub mod Perhaps
 pub mod Tagged
+pub mod Modes
+pub mod Within
+pub mod Failing

@@ -1,5 +1,5 @@
 -- How readers of a value that may be next are proved, and loops over them.
-use Rattle.std.proofs.Common.{◌≡◌, List, [], ◌++◌, Option, Some, None, Result, Ok, Err, refl, sym, ap, ◌∙◌, subst, append-nil}
+use Rattle.std.proofs.Common.{◌≡◌, List, [], Option, Some, None, Result, Ok, Err, refl, sym, ap, ◌∙◌, subst, append-nil}
 use Rattle.std.specs.Result.{IsErr, IsErrAnd}
 use Rattle.bcder_tree.specs.Tags.{TagValue}
 use Rattle.bcder_tree.specs.Tree.{Tree, Trees, none}
@@ -7,9 +7,9 @@ use Rattle.bcder_source.specs.Errors.{OnContent}
 use Rattle.bcder_source.specs.declared.error.DecodeError.{DecodeError}
 use Rattle.bcder_content.specs.Contents.{ValuesLeft, Ended, Unlike, tag_of}
 use Rattle.bcder_content.specs.Exact.{Gives, Lacks, LacksTagged, GivesAll, ReadsOptAs}
-use Rattle.bcder_content.specs.Grammar.{OneOf, Many, Such, Tagged, One}
+use Rattle.bcder_content.specs.Grammar.{OneOf, Many, Such, As, Tagged, One}
 use Rattle.bcder_content.specs.Perhaps.{NoneNext, ReadsIfAs}
-use Rattle.bcder_content.proofs.Choices.{both_lack, choice_lacks, second_lacks, such_lacks, such_refused}
+use Rattle.bcder_content.proofs.Choices.{as_lacks, both_lack, choice_lacks, second_lacks, such_lacks, such_refused}
 use Rattle.bcder_content.proofs.Forests.{Listing, many_lacks, unlike_lacks}
 use Rattle.bcder_content.proofs.Taking.{weaker}
 use Rattle.bcder_content.proofs.Took.{took_none, ended_none, one_took}
@@ -36,6 +36,10 @@ pub stop_opt_value : {A B C E : Type 0} (f : A → B) (tag : TagValue) {P : Tree
     → IsErr r × IsErrAnd r (λ x. x ≡ e) → (C → LacksTagged tag P now) → OnContent e C → ReadsOptAs f tag P now r new
 stop_opt_value f tag new (Ok x) e a h fact = absurd a.1
 stop_opt_value {E = E} f tag {P} {now} new (Err x) e a h fact = subst (λ (y : DecodeError E). OnContent y (LacksTagged tag P now)) (sym a.1) (weaker e h fact)
+
+-- None is next, whatever it would mean.
+pub as_none_next : {A B : Type 0} {Q : Tree → A → Type 0} (f : A → B) (old new : ValuesLeft) → (new ≡ old) × NoneNext Q old → (new ≡ old) × NoneNext (As Q f) old
+as_none_next f old new p = (p.0, record { sound = p.1.sound; lacks = as_lacks f p.1.lacks })
 
 -- A value of that tag that doesn't pass a test.
 pub such_lacks_tagged : {A : Type 0} {tag : TagValue} {Q : Tree → A → Type 0} {passes : A → Type 0} {now : ValuesLeft} → LacksTagged tag Q now → LacksTagged tag (Such Q passes) now

@@ -1,14 +1,11 @@
 -- Skipping values of a content.
-use Rattle.std.proofs.Common.{◌≡◌, ℕ, ◌<◌, Bool, List, [], ◌∷◌, length, length-append, Result, Ok, Err, Option, Some, None, sym, ap, subst, arith}
-use Rattle.bcder_tree.specs.declared.mode.Mode.{Mode}
+use Rattle.std.proofs.Common.{◌≡◌, ℕ, Bool, Result, Ok, Err, Option, Some, None, sym, subst}
 use Rattle.bcder_source.specs.declared.error.ContentError.{ContentError}
 use Rattle.bcder_source.specs.declared.error.DecodeError.{DecodeError}
 use Rattle.bcder_source.specs.declared.error.DecodeError.TheVariants.{Content, Source, Memory}
 use Rattle.bcder_tree.specs.Tags.{TagValue}
-use Rattle.bcder_tree.specs.Tree.{Tree, Trees, none, more, Spells}
+use Rattle.bcder_tree.specs.Tree.{Tree, Trees, none, more}
 use Rattle.bcder_source.specs.Views.{left}
-use Rattle.bcder_tree.proofs.Fronts.{whole_front}
-use Rattle.bcder_tree.proofs.Trees.{tree_goes_on}
 use Rattle.bcder_content.specs.Contents.{ValuesLeft, octets, Took, TookAll, Ended, Whole}
 use Rattle.bcder_content.specs.Exact.{Lacks, ReadsNextAs}
 use Rattle.bcder_content.specs.Grammar.{Any}
@@ -22,14 +19,6 @@ stops_next {F} step p old mid error e s = subst (λ (v : ValuesLeft). StopsNext 
 -- Where a content has ended no value is next.
 pub ended_stops : {F : Type 0} (step : Visits F) (p : F) (old : ValuesLeft) (error : ContentError) → Ended old → StopsNext step p old error
 ended_stops step p old error e = record { refused = λ t a. absurd (ended_none e a.1) }
-
--- A value has octets.
-pub some_octets : (m : Mode) (t : Tree) (text : List ℕ) → Spells m t text → 0 < length text
-some_octets m t [] h = absurd (tree_goes_on t (whole_front h) tt)
-some_octets m t (a ∷ text) h = omega arith
-
-pub took_shorter : (v w : ValuesLeft) (t : Tree) → Took v t w → length w.rest < length v.rest
-took_shorter v w t k = omega (arith, ap length k.goes.moved.rest, length-append k.text w.rest, some_octets v.mode t k.text k.spelled)
 
 -- What the loop over all values keeps.
 pub record AllUnder (start now : ValuesLeft) : Type 0 where

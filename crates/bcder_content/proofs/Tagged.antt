@@ -10,7 +10,7 @@ use Rattle.bcder_primitive.specs.Plain.{OctetsLeft, LacksOctets, ReadsOctetsAs, 
 use Rattle.bcder_primitive.proofs.Primitives.{weaker_content}
 use Rattle.bcder_content.specs.declared.content.Content.{Content}
 use Rattle.bcder_content.specs.Contents.{ValuesLeft, tag_of}
-use Rattle.bcder_content.specs.Either.{Shows, SameContent, Meeting, none_wanted, any_refused, any_goes_on, TakesCases, Takes, TakesOptCases, TakesOpt, AnyKind, WithTag, ReadsInAs}
+use Rattle.bcder_content.specs.Either.{Shows, SameContent, Meeting, none_wanted, any_refused, any_goes_on, TakesCases, Takes, TakesOptCases, TakesOpt, AnyKind, WithTag, ReadsInAs, ReadsContentAs}
 use Rattle.bcder_content.specs.Exact.{Gives, Lacks, ReadsAs, ReadsOptAs}
 use Rattle.bcder_content.specs.Grammar.{OctetsOf}
 use Rattle.bcder_content.specs.Here.{here}
@@ -21,10 +21,10 @@ use Rattle.bcder_content.proofs.Took.{took_front}
 
 -- Octets of the grammar are a primitive value of the grammar.
 
-octets_lack : {B : Type 0} {P : List ℕ → B → Type 0} {old : OctetsLeft} (tag : TagValue) → LacksOctets P old → LacksOctets (λ (c : List ℕ) (x : B). OctetsOf tag P (primitive tag c) x) old
+pub octets_lack : {B : Type 0} {P : List ℕ → B → Type 0} {old : OctetsLeft} (tag : TagValue) → LacksOctets P old → LacksOctets (λ (c : List ℕ) (x : B). OctetsOf tag P (primitive tag c) x) old
 octets_lack {P = P} tag l = record { none = λ c x p whole. let same : p.content ≡ c = cc in l.none c x (subst (λ (o : List ℕ). P o x) same p.is) whole }
 
-octets_read : {A B E : Type 0} (f : A → B) (P : List ℕ → B → Type 0) (tag : TagValue) (old new : OctetsLeft) (r : Result A (DecodeError E)) → ReadsOctetsAs f P old r new → ReadsOctetsAs f (λ (c : List ℕ) (x : B). OctetsOf tag P (primitive tag c) x) old r new
+pub octets_read : {A B E : Type 0} (f : A → B) (P : List ℕ → B → Type 0) (tag : TagValue) (old new : OctetsLeft) (r : Result A (DecodeError E)) → ReadsOctetsAs f P old r new → ReadsOctetsAs f (λ (c : List ℕ) (x : B). OctetsOf tag P (primitive tag c) x) old r new
 octets_read f P tag old new (Ok x) g = record {
   text = g.text;
   is = record { content = g.text; whole = refl; is = g.is };
@@ -51,7 +51,7 @@ pub record MeetsTagged {A B S E : Type 0} (rest : S → List ℕ) (f : A → B) 
   pub before : Shows rest old v
   pub behind : Shows rest new w
   pub form_is : old.values.now.constructed ≡ form
-  pub reads : ReadsTagged rest f P old r new
+  pub reads : (tag : TagValue) → ReadsContentAs rest f (P (here rest old.values.now).mode tag) tag old r new
 
 -- Each meeting is one by such a reader.
 pub record EachTagged {A B S E : Type 0} (rest : S → List ℕ) (f : A → B) (P : Mode → TagValue → Tree → B → Type 0) (meets : Meeting A E) : Type 0 where
@@ -77,7 +77,7 @@ own_met {rest = rest} {f} {P} m form tag v r w mode met =
     let k = met.old.values.now in
     let l = met.new.values.now in
     let n = (here rest k).mode in
-    let one = subst (λ (b : Bool). ReadsInAs f (P n tag) b tag (here rest k) r (here rest l)) met.form_is (met.reads.reads tag) in
+    let one = subst (λ (b : Bool). ReadsInAs f (P n tag) b tag (here rest k) r (here rest l)) met.form_is (met.reads tag) in
     let two = subst (λ (z : ValuesLeft). ReadsInAs f (P z.mode tag) form tag z r (here rest l)) met.before.left_is one in
     let three = subst (λ (z : ValuesLeft). ReadsInAs f (P v.mode tag) form tag v r z) met.behind.left_is two in
     own_form f P m form tag v r w (subst (λ (k : Mode). ReadsInAs f (P k tag) form tag v r w) mode three)

@@ -1,28 +1,25 @@
 -- What the parts of a reading by a closure say of the values that are next.
-use Rattle.std.proofs.Common.{◌≡◌, ℕ, Bool, true, false, List, [], ◌∷◌, ◌++◌, Option, IsTrue, IsFalse, ◌↔◌, refl, sym, ap, ◌∙◌, subst, append_assoc, arith}
+use Rattle.std.proofs.Common.{◌≡◌, ℕ, Bool, true, false, List, [], ◌∷◌, ◌++◌, IsTrue, IsFalse, ◌↔◌, refl, sym, ap, ◌∙◌, subst, append_assoc}
 use Rattle.bcder_tree.specs.declared.mode.Mode.{Mode}
 use Rattle.bcder_source.specs.declared.error.DecodeError.{DecodeError}
 use Rattle.bcder_source.specs.declared.error.ContentError.{ContentError}
 use Rattle.bcder_source.specs.declared.pos.Pos.{Pos}
 use Rattle.bcder_source.specs.declared.error.DecodeError.TheVariants.{Content, Source, Memory}
 use Rattle.bcder_source.specs.Errors.{OnContent, OnlyContent}
-use Rattle.bcder_tree.specs.Tags.{TagValue, IsTag}
-use Rattle.bcder_tree.specs.Octets.{IsIdentifier}
+use Rattle.bcder_tree.specs.Tags.{TagValue}
 use Rattle.bcder_tree.specs.Reads.{Begins, Lacks, IsEnd}
 use Rattle.bcder_tree.specs.Tree.{Tree}
 use Rattle.bcder_tree.specs.Front.{Front}
-use Rattle.bcder_source.specs.Views.{View, left, limited, Moved}
-use Rattle.bcder_source.proofs.Moves.{left_moved}
-use Rattle.bcder_header.specs.declared.ending.Ending.{Ending}
-use Rattle.bcder_header.specs.declared.ending.Ending.TheVariants.{Definite, Indefinite, Unbounded}
+use Rattle.bcder_tree.proofs.Parts.{Ends, identifier_goes_on}
+use Rattle.bcder_source.specs.Views.{View, left, Moved}
 use Rattle.bcder_header.specs.declared.ending.Span.{Span}
-use Rattle.bcder_content.specs.Contents.{ValuesLeft, octets, EndsHere, Ended, Unlike, tag_of, form_of}
+use Rattle.bcder_content.specs.Contents.{ValuesLeft, octets, Ended, Unlike, tag_of, form_of}
 use Rattle.bcder_header.specs.Openings.{Closes, NoValue, OfTag, NotOfTag}
 use Rattle.bcder_content.specs.Ran.{Enters, NoneOf, Comes}
 use Rattle.bcder_content.specs.Stops.{NoneAhead, EndsUnread}
 use Rattle.bcder_header.proofs.Opening.{tree_head, opens_tag, front_moves, here_ends}
 use Rattle.bcder_header.proofs.Windows.{Shown, one_tag, no_end_in, shown_whole}
-use Rattle.bcder_content.proofs.Took.{took_front}
+use Rattle.bcder_content.proofs.Took.{took_front, ended_front}
 
 -- A fact for another reason.
 pub weaker : {E P Q : Type 0} (e : DecodeError E) → (P → Q) → OnContent e P → OnContent e Q
@@ -73,25 +70,9 @@ tree_of_tag u f =
       whole = h.head.whole ∙ ap (λ (z : List ℕ). z ++ h.behind) d.whole ∙ append_assoc d.identifier d.size h.behind;
     }
 
--- Identifier octets of a tag that values have are some, and don't begin with 0.
-no_identifier : (i x : List ℕ) (k : Bool) (t : TagValue) → IsTag t → IsIdentifier i k t → i ++ x ≡ [] → ⊥
-no_identifier [] x k t p h e = h
-no_identifier (a ∷ i) x k t p h e = absurd cc
-
-not_zero : (i x y : List ℕ) (k : Bool) (t : TagValue) → IsTag t → IsIdentifier i k t → i ++ x ≡ 0 ∷ y → ⊥
-not_zero [] x y k t p h e = h
-not_zero (a ∷ []) x y true t p h e = let z : a ≡ 0 = cc in omega arith
-not_zero (a ∷ []) x y false t p h e = let z : a ≡ 0 = cc in omega arith
-not_zero (a ∷ b ∷ i) x y k t p h e = let z : a ≡ 0 = cc in omega arith
-
 -- Behind an identifier there is more than the end.
 pub goes_on : {v : ValuesLeft} {tag : TagValue} → OfTag tag (left (octets v)) → Ended v → ⊥
-goes_on {v} {tag} o e = at v.end v.limit refl e.ends
-  where
-    at : (end : Ending) (l : Option ℕ) → v.limit ≡ l → EndsHere end (octets v) → ⊥
-    at Definite l n h = no_identifier o.identifier o.rest o.form tag o.tag o.is (sym o.whole ∙ ap (λ (z : Option ℕ). limited z v.rest) h)
-    at Indefinite l n h = not_zero o.identifier o.rest _ o.form tag o.tag o.is (sym o.whole ∙ left_moved h.1)
-    at Unbounded l n h = no_identifier o.identifier o.rest o.form tag o.tag o.is (sym o.whole ∙ h)
+goes_on {tag = tag} o e = identifier_goes_on o.identifier o.rest o.form tag o.tag o.is (subst Ends o.whole (ended_front e))
 
 pub comes_of : {v : ValuesLeft} {tag : TagValue} → OfTag tag (left (octets v)) → Comes v tag
 comes_of {v} {tag} o = record {

@@ -1,15 +1,17 @@
 -- Reading values one behind the other: what was next, and what is left.
-use Rattle.std.proofs.Common.{◌≡◌, ℕ, ◌+◌, Bool, false, List, [], ◌++◌, length, Option, Some, None, Ok, refl, sym, ap, ◌∙◌, subst, append_assoc, length-append, arith}
+use Rattle.std.proofs.Common.{◌≡◌, ℕ, ◌<◌, Bool, false, List, [], ◌∷◌, ◌++◌, length, Option, None, Ok, refl, sym, ap, ◌∙◌, subst, append_assoc, length-append, arith}
 use Rattle.std.proofs.lemmas.List.{append_cancel_left, append_cancel_right}
 use Rattle.bcder_tree.specs.declared.mode.Mode.{Mode}
-use Rattle.bcder_tree.specs.Tree.{Tree, Trees, none, more, SpellsAll}
+use Rattle.bcder_tree.specs.Tree.{Tree, Trees, none, more, Spells, SpellsAll}
 use Rattle.bcder_tree.specs.Front.{Front}
 use Rattle.bcder_source.specs.Views.{left, limited, more_limit}
+use Rattle.bcder_tree.proofs.Fronts.{whole_front}
 use Rattle.bcder_tree.proofs.Trees.{one_tree, tree_goes_on}
 use Rattle.bcder_tree.proofs.Parts.{Ends}
 use Rattle.bcder_source.proofs.Moves.{left_moved, moved_none, moved_both, more_more}
 use Rattle.bcder_header.specs.declared.ending.Ending.{Ending}
 use Rattle.bcder_header.specs.declared.ending.Ending.TheVariants.{Definite, Indefinite, Unbounded}
+use Rattle.bcder_header.proofs.Opening.{cancel_more}
 use Rattle.bcder_content.specs.Exact.{ReadsNextAs}
 use Rattle.bcder_content.specs.Contents.{ValuesLeft, octets, Goes, Took, TookAll, Ahead, EndsHere, Ended, Whole}
 
@@ -23,19 +25,12 @@ same_left {v} {w} m e f r l =
     ∙ ap (λ (z : Bool). content w.mode w.end z v.rest v.limit) f ∙ ap (λ (z : List ℕ). content w.mode w.end w.failed z v.limit) r
     ∙ ap (λ (z : Option ℕ). content w.mode w.end w.failed w.rest z) l
 
--- Limits behind the same number of octets are one.
-same_limit : (n : ℕ) (l k : Option ℕ) → more_limit n l ≡ more_limit n k → l ≡ k
-same_limit n None None e = refl
-same_limit n (Some a) (Some b) e = let sums : n + a ≡ n + b = cc in ap (λ (z : ℕ). Some z) (omega arith)
-same_limit n None (Some b) e = absurd cc
-same_limit n (Some a) None e = absurd cc
-
 -- What is left behind the same octets of a content is one.
 same_goes : {v w x : ValuesLeft} {a : List ℕ} → Goes v a w → Goes v a x → w ≡ x
 same_goes {v} {w} {x} {a} g h =
     same_left (g.mode ∙ sym h.mode) (g.end ∙ sym h.end) (g.behind ∙ sym h.behind)
     (append_cancel_left a w.rest x.rest (sym g.moved.rest ∙ h.moved.rest))
-    (same_limit (length a) w.limit x.limit (sym g.moved.limit ∙ h.moved.limit))
+    (cancel_more (length a) w.limit x.limit (sym g.moved.limit ∙ h.moved.limit))
 
 -- The value that was read stood in front.
 pub took_front : {v w : ValuesLeft} {t : Tree} → Took v t w → Front v.mode (left (octets v)) t (left (octets w))
@@ -87,13 +82,24 @@ more_splits {v} {x} {t} {ts} k =
     record { behind = mid; first = record { text = a; spelled = k.spelled.2; goes = front }; others = record { text = b; spelled = k.spelled.3; goes = back } }
 
 -- Where a content ends no value is next.
-pub ended_none : {v w : ValuesLeft} {t : Tree} → Ended v → Took v t w → ⊥
-ended_none {v} {w} {t} e k = tree_goes_on t (took_front k) (at v.end v.limit e.ends)
+pub ended_front : {v : ValuesLeft} → Ended v → Ends (left (octets v))
+ended_front {v} e = at v.end v.limit e.ends
   where
     at : (end : Ending) (l : Option ℕ) → EndsHere end (record { rest = v.rest; limit = l }) → Ends (limited l v.rest)
     at Definite l h = subst (λ (z : Option ℕ). Ends (limited z v.rest)) (sym h) tt
     at Indefinite l h = subst Ends (sym (left_moved h.1)) refl
     at Unbounded l h = subst Ends (sym h) tt
+
+pub ended_none : {v w : ValuesLeft} {t : Tree} → Ended v → Took v t w → ⊥
+ended_none {t = t} e k = tree_goes_on t (took_front k) (ended_front e)
+
+-- A value has octets.
+some_octets : (m : Mode) (t : Tree) (text : List ℕ) → Spells m t text → 0 < length text
+some_octets m t [] h = absurd (tree_goes_on t (whole_front h) tt)
+some_octets m t (a ∷ text) h = omega arith
+
+pub took_shorter : (v w : ValuesLeft) (t : Tree) → Took v t w → length w.rest < length v.rest
+took_shorter v w t k = omega (arith, ap length k.goes.moved.rest, length-append k.text w.rest, some_octets v.mode t k.text k.spelled)
 
 pub whole_none : {v : ValuesLeft} → Whole v none → Ended v
 whole_none w = subst Ended (sym (none_stays w.took)) w.ended

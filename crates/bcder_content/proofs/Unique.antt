@@ -30,13 +30,13 @@ one_of_tagged g h = record {
 
 -- One reading of a value.
 
-same_content : {t u : TagValue} {v w : List ℕ} → primitive t v ≡ primitive u w → v ≡ w
+pub same_content : {t u : TagValue} {v w : List ℕ} → primitive t v ≡ primitive u w → v ≡ w
 same_content e = cc
 
-same_values : {t u : TagValue} {ts us : Trees} → constructed t ts ≡ constructed u us → ts ≡ us
+pub same_values : {t u : TagValue} {ts us : Trees} → constructed t ts ≡ constructed u us → ts ≡ us
 same_values e = cc
 
-same_trees : {t u : Tree} {ts us : Trees} → more t ts ≡ more u us → (t ≡ u) × (ts ≡ us)
+pub same_trees : {t u : Tree} {ts us : Trees} → more t ts ≡ more u us → (t ≡ u) × (ts ≡ us)
 same_trees e = (cc, cc)
 
 pub octets_one : {A : Type 0} {tag : TagValue} {P : List ℕ → A → Type 0} → OneOctets P → One (OctetsOf tag P)

@@ -25,9 +25,17 @@ in_octets v = record { mode = v.mode; failed = v.failed; rest = v.rest; limit = 
 pub record SameContent {S : Type 0} (old new : Content S) : Type 0 where
   pub reference : old.values.ghost_name ≡ new.values.ghost_name
 
--- What is left of a content.
+-- What is left of a content of a value, by the rest of its source.
+abbrev pub left_of : {S : Type 0} → (S → List ℕ) → Content S → ValuesLeft
+left_of rest c = here rest c.values.now
+
+-- Its form: whether the value is constructed.
+abbrev pub form_in : {S : Type 0} → Content S → Bool
+form_in c = c.values.now.constructed
+
+-- That is left of a content.
 pub record Shows {S : Type 0} (rest : S → List ℕ) (c : Content S) (v : ValuesLeft) : Type 0 where
-  pub left_is : here rest c.values.now ≡ v
+  pub left_is : left_of rest c ≡ v
 
 -- How a closure may meet a content of a value: its form and tag, what is left of it, the answer, and what is left then.
 abbrev pub Meeting : Type 0 → Type 0 → Type 1
@@ -39,11 +47,11 @@ TagReader F V T E = Once F (TagValue × (MutBor V × Unit {0})) (Result T (Decod
 
 -- By a closure that is given the tag and a content of either form.
 abbrev pub ByContent : {F S T E : Type 0} → (S → List ℕ) → TagReader F (Content S) T E → F → Meeting T E
-ByContent {F} {S} rest g op form tag v r w = (p : MutBor (Content S)) × (q : MutBor (Content S)) × Shows rest p.now v × Shows rest q.now w × (p.now.values.now.constructed ≡ form) × g.post op (tag, (p, tt)) (r, (q, tt))
+ByContent {F} {S} rest g op form tag v r w = (p : MutBor (Content S)) × (q : MutBor (Content S)) × Shows rest p.now v × Shows rest q.now w × (form_in p.now ≡ form) × g.post op (tag, (p, tt)) (r, (q, tt))
 
 -- By one that is given the content alone.
 abbrev pub ByContentAlone : {F S T E : Type 0} → (S → List ℕ) → Once F (MutBor (Content S) × Unit {0}) (Result T (DecodeError E) × (MutBor (Content S) × Unit {0})) → F → Meeting T E
-ByContentAlone {F} {S} rest g op form tag v r w = (p : MutBor (Content S)) × (q : MutBor (Content S)) × Shows rest p.now v × Shows rest q.now w × (p.now.values.now.constructed ≡ form) × g.post op (p, tt) (r, (q, tt))
+ByContentAlone {F} {S} rest g op form tag v r w = (p : MutBor (Content S)) × (q : MutBor (Content S)) × Shows rest p.now v × Shows rest q.now w × (form_in p.now ≡ form) × g.post op (p, tt) (r, (q, tt))
 
 -- By one that is given the tag and the values of a constructed value.
 abbrev pub ByValues : {F S T E : Type 0} → (S → List ℕ) → TagReader F (Constructed S) T E → F → Meeting T E
@@ -110,25 +118,25 @@ ReadsInAs f P false tag v r w = ReadsOctetsAs f (λ (c : List ℕ) x. P (primiti
 
 -- The same, of a content of either form that a closure was given.
 abbrev pub ReadsContentAs : {A B E S : Type 0} → (S → List ℕ) → (A → B) → (Tree → B → Type 0) → TagValue → Content S → Result A (DecodeError E) → Content S → Type 0
-ReadsContentAs rest f P tag c r d = ReadsInAs f P c.values.now.constructed tag (here rest c.values.now) r (here rest d.values.now)
+ReadsContentAs rest f P tag c r d = ReadsInAs f P (form_in c) tag (left_of rest c) r (left_of rest d)
 
 -- Only the octets were refused.
 abbrev pub IsRefusal : {T E : Type 0} → Result T (DecodeError E) → Type 0
 IsRefusal (Ok x) = ⊥
 IsRefusal (Err e) = OnlyContent e (Unit {0})
 
-abbrev pub OctetsRun : {F S T E : Type 0} → Once F (MutBor (Primitive S) × Unit {0}) (Result T (DecodeError E) × (MutBor (Primitive S) × Unit {0})) → F → Bool → Constructed S → Result T (DecodeError E) → Constructed S → Type 0
-OctetsRun g op false c r d = (d.end ≡ c.end) × FnOnceReturnsAtMut g op c.octets r d.octets
-OctetsRun g op true c r d = IsRefusal r
+abbrev pub OctetsRun : {F S T E : Type 0} → (S → List ℕ) → Once F (MutBor (Primitive S) × Unit {0}) (Result T (DecodeError E) × (MutBor (Primitive S) × Unit {0})) → F → Bool → Constructed S → Result T (DecodeError E) → Constructed S → Type 0
+OctetsRun rest g op false c r d = (d.end ≡ c.end) × FnOnceReturnsAtMut g op c.octets r d.octets
+OctetsRun rest g op true c r d = IsRefusal r × ((here rest d).failed ≡ true)
 
--- The closure read the octets of a primitive content; another was refused.
+-- The closure read the octets of a primitive content; another was refused, and is failed.
 pub record RunsOctets {F S T E : Type 0} (rest : S → List ℕ) (g : Once F (MutBor (Primitive S) × Unit {0}) (Result T (DecodeError E) × (MutBor (Primitive S) × Unit {0}))) (op : F) (c : Content S) (r : Result T (DecodeError E)) (d : Content S) : Type 0 where
-  pub runs : OctetsRun g op c.values.now.constructed c.values.now r d.values.now
+  pub runs : OctetsRun rest g op (form_in c) c.values.now r d.values.now
 
-abbrev pub ValuesRun : {F S T E : Type 0} → Once F (MutBor (Constructed S) × Unit {0}) (Result T (DecodeError E) × (MutBor (Constructed S) × Unit {0})) → F → Bool → Constructed S → Result T (DecodeError E) → Constructed S → Type 0
-ValuesRun g op false c r d = IsRefusal r
-ValuesRun g op true c r d = FnOnceReturnsAtMut g op c r d
+abbrev pub ValuesRun : {F S T E : Type 0} → (S → List ℕ) → Once F (MutBor (Constructed S) × Unit {0}) (Result T (DecodeError E) × (MutBor (Constructed S) × Unit {0})) → F → Bool → Constructed S → Result T (DecodeError E) → Constructed S → Type 0
+ValuesRun rest g op false c r d = IsRefusal r × ((here rest d).failed ≡ true)
+ValuesRun rest g op true c r d = FnOnceReturnsAtMut g op c r d
 
--- The closure read the values of a constructed content; another was refused.
+-- The closure read the values of a constructed content; another was refused, and is failed.
 pub record RunsValues {F S T E : Type 0} (rest : S → List ℕ) (g : Once F (MutBor (Constructed S) × Unit {0}) (Result T (DecodeError E) × (MutBor (Constructed S) × Unit {0}))) (op : F) (c : Content S) (r : Result T (DecodeError E)) (d : Content S) : Type 0 where
-  pub runs : ValuesRun g op c.values.now.constructed c.values.now r d.values.now
+  pub runs : ValuesRun rest g op (form_in c) c.values.now r d.values.now

@@ -4,7 +4,7 @@ ghost use Rattle.std.specs.Fn.{FnOnceReturnsAtMut};
 ghost use Rattle.bcder_source.specs.Errors.{OnlyContent};
 ghost use Rattle.bcder_source.specs.declared.error.DecodeError.TheVariants.{Content as content_error};
 ghost use Rattle.bcder_content.specs.Contents.{Ended};
-ghost use Rattle.bcder_content.specs.Either.{SameContent, Shows, RunsOctets, RunsValues, ByContent, ByContentAlone, ByValues, ByOctets, Takes, TakesNext, TakesOpt, AnyKind, OfForm, WithTag};
+ghost use Rattle.bcder_content.specs.Either.{SameContent, left_of, form_in, RunsOctets, RunsValues, ByContent, ByContentAlone, ByValues, ByOctets, Takes, TakesNext, TakesOpt, AnyKind, OfForm, WithTag};
 ghost use Rattle.bcder_content.specs.Here.{here};
 ghost use Rattle.bcder_content.specs.Memory.{OnMemory, AnyErr};
 
@@ -21,26 +21,36 @@ pub struct Content<'a, S> {
 impl<'a, S: Source> Content<'a, S> {
     /// By which rules the content is read.
     pub fn mode(&self) -> Mode
-        ensures { result ≡ (here S.rest self.now.values.now).mode }
+        ensures { result ≡ (left_of S.rest self.now).mode }
     {
         self.values.octets.mode
     }
 
     /// Whether the value is primitive.
     pub fn is_primitive(&self) -> bool
-        ensures { IsTrue result ↔ (self.now.values.now.constructed ≡ false) }
+        ensures { IsTrue result ↔ (form_in self.now ≡ false) }
     {
         !self.values.constructed
     }
 
     /// Whether the value is constructed.
     pub fn is_constructed(&self) -> bool
-        ensures { IsTrue result ↔ (self.now.values.now.constructed ≡ true) }
+        ensures { IsTrue result ↔ (form_in self.now ≡ true) }
     {
         self.values.constructed
     }
 
-    /// What a closure reads from the octets of a primitive value; another is refused.
+    /// From now on the content is failed: each later read of it is refused. So a reader leaves it that finds
+    /// what it read unfit.
+    pub fn fail(&mut self)
+        ensures same { SameContent self.old self.new }
+        ensures failed { (left_of S.rest self.new).failed ≡ true }
+    {
+        self.values.fail();
+    }
+
+    /// What a closure reads from the octets of a primitive value. Another is refused, and the content is failed
+    /// then.
     pub fn primitive<T: Drop, F: FnOnce(&mut Primitive<S>) -> Result<T, DecodeError<S::Error>>>(
         &mut self,
         op: F,
@@ -56,7 +66,8 @@ impl<'a, S: Source> Content<'a, S> {
         op(&mut self.values.octets)
     }
 
-    /// What a closure reads from the values of a constructed value; another is refused.
+    /// What a closure reads from the values of a constructed value. Another is refused, and the content is failed
+    /// then.
     pub fn constructed<T: Drop, F: FnOnce(&mut Constructed<S>) -> Result<T, DecodeError<S::Error>>>(
         &mut self,
         op: F,

@@ -2,9 +2,8 @@
 ghost use Rattle.std.specs.Prelude.{◌≡◌, ◌≢◌, ◌^◌, false, true, IfErr, OnErr, OnOk};
 ghost use Rattle.bcder_source.specs.declared.error.DecodeError.TheVariants.{Content as content_error, Memory};
 ghost use Rattle.bcder_primitive.specs.Values.{IsNull, IsUnsigned, IsValue};
-ghost use Rattle.bcder_content.specs.Either.{SameContent};
+ghost use Rattle.bcder_content.specs.Either.{SameContent, left_of, form_in};
 ghost use Rattle.bcder_content.specs.Grammar.{OctetsOf};
-ghost use Rattle.bcder_content.specs.Here.{here};
 ghost use Rattle.bcder_content.specs.Tagged.{ReadsTagged};
 
 use crate::content::Content;
@@ -23,11 +22,11 @@ impl<'a, S: Source> Content<'a, S> {
     // Refuses a constructed value, where octets are wanted; the content is failed from now on.
     fn want_octets(&mut self) -> Result<(), DecodeError<S::Error>>
         ensures same { OnOk result (self.new ≡ self.old) }
-        ensures primitive { OnOk result (self.old.values.now.constructed ≡ false) }
+        ensures primitive { OnOk result (form_in self.old ≡ false) }
         ensures kept { SameContent self.old self.new }
-        ensures constructed { OnErr result (self.old.values.now.constructed ≡ true) }
+        ensures constructed { OnErr result (form_in self.old ≡ true) }
         ensures refused { IfErr result (λ e. (error pos : _) × (e ≡ content_error error pos)) }
-        ensures failed { OnErr result ((here S.rest self.new.values.now).failed ≡ true) }
+        ensures failed { OnErr result ((left_of S.rest self.new).failed ≡ true) }
     {
         if self.values.constructed {
             let error = ContentError::from_static("expected a primitive value");
@@ -39,7 +38,7 @@ impl<'a, S: Source> Content<'a, S> {
     /// The number of an INTEGER (X.690 8.3) that fits a `u8`; any other is refused, and none is cut.
     pub fn to_u8(&mut self) -> Result<u8, DecodeError<S::Error>>
         ensures reads { ReadsTagged S.rest (λ n. n) (λ _ tag. OctetsOf tag (IsUnsigned (2 ^ 8))) self.old result self.new }
-        ensures failed { OnErr result ((here S.rest self.new.values.now).failed ≡ true) }
+        ensures failed { OnErr result ((left_of S.rest self.new).failed ≡ true) }
         ensures no_memory { IfErr result (λ e. e ≢ Memory) }
     {
         match self.want_octets() {
@@ -51,7 +50,7 @@ impl<'a, S: Source> Content<'a, S> {
     /// The number of an INTEGER (X.690 8.3) that fits a `u16`; any other is refused, and none is cut.
     pub fn to_u16(&mut self) -> Result<u16, DecodeError<S::Error>>
         ensures reads { ReadsTagged S.rest (λ n. n) (λ _ tag. OctetsOf tag (IsUnsigned (2 ^ 16))) self.old result self.new }
-        ensures failed { OnErr result ((here S.rest self.new.values.now).failed ≡ true) }
+        ensures failed { OnErr result ((left_of S.rest self.new).failed ≡ true) }
         ensures no_memory { IfErr result (λ e. e ≢ Memory) }
     {
         match self.want_octets() {
@@ -63,7 +62,7 @@ impl<'a, S: Source> Content<'a, S> {
     /// The number of an INTEGER (X.690 8.3) that fits a `u32`; any other is refused, and none is cut.
     pub fn to_u32(&mut self) -> Result<u32, DecodeError<S::Error>>
         ensures reads { ReadsTagged S.rest (λ n. n) (λ _ tag. OctetsOf tag (IsUnsigned (2 ^ 32))) self.old result self.new }
-        ensures failed { OnErr result ((here S.rest self.new.values.now).failed ≡ true) }
+        ensures failed { OnErr result ((left_of S.rest self.new).failed ≡ true) }
         ensures no_memory { IfErr result (λ e. e ≢ Memory) }
     {
         match self.want_octets() {
@@ -75,7 +74,7 @@ impl<'a, S: Source> Content<'a, S> {
     /// The number of an INTEGER (X.690 8.3) that fits a `u64`; any other is refused, and none is cut.
     pub fn to_u64(&mut self) -> Result<u64, DecodeError<S::Error>>
         ensures reads { ReadsTagged S.rest (λ n. n) (λ _ tag. OctetsOf tag (IsUnsigned (2 ^ 64))) self.old result self.new }
-        ensures failed { OnErr result ((here S.rest self.new.values.now).failed ≡ true) }
+        ensures failed { OnErr result ((left_of S.rest self.new).failed ≡ true) }
         ensures no_memory { IfErr result (λ e. e ≢ Memory) }
     {
         match self.want_octets() {
@@ -87,7 +86,7 @@ impl<'a, S: Source> Content<'a, S> {
     /// Reads a NULL (X.690 8.8): there is no octet.
     pub fn to_null(&mut self) -> Result<(), DecodeError<S::Error>>
         ensures reads { ReadsTagged S.rest (λ x. x) (λ _ tag. OctetsOf tag IsNull) self.old result self.new }
-        ensures failed { OnErr result ((here S.rest self.new.values.now).failed ≡ true) }
+        ensures failed { OnErr result ((left_of S.rest self.new).failed ≡ true) }
         ensures no_memory { IfErr result (λ e. e ≢ Memory) }
     {
         match self.want_octets() {
@@ -99,7 +98,7 @@ impl<'a, S: Source> Content<'a, S> {
     /// Reads an INTEGER (X.690 8.3) of that number; any other is refused.
     pub fn skip_u8_if(&mut self, expected: u8) -> Result<(), DecodeError<S::Error>>
         ensures reads { ReadsTagged S.rest (λ x. x) (λ _ tag. OctetsOf tag (IsValue (IsUnsigned (2 ^ 8)) expected)) self.old result self.new }
-        ensures failed { OnErr result ((here S.rest self.new.values.now).failed ≡ true) }
+        ensures failed { OnErr result ((left_of S.rest self.new).failed ≡ true) }
         ensures no_memory { IfErr result (λ e. e ≢ Memory) }
     {
         match self.want_octets() {

@@ -1,3 +1,2 @@
-mod Modes
 mod Again
 mod Writing

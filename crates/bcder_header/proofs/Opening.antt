@@ -1,18 +1,17 @@
 -- Where values begin and end.
-use Rattle.std.proofs.Common.{◌≡◌, inl, inr, ℕ, ◌+◌, ◌-◌, ◌<◌, ◌≤◌, Bool, true, false, List, [], ◌∷◌, ◌++◌, length, take, drop, Option, Some, None, refl, sym, ap, ◌∙◌, subst, append_assoc, length-append, arith}
+use Rattle.std.proofs.Common.{◌≡◌, inl, inr, ℕ, ◌+◌, ◌-◌, ◌≤◌, Bool, true, false, List, [], ◌∷◌, ◌++◌, length, take, drop, Option, Some, None, refl, sym, ap, ◌∙◌, subst, append_assoc, length-append, arith}
 use Rattle.std.proofs.lemmas.List.{take-append-drop, length-take, length-take-le}
-use Rattle.std.proofs.Math.Seq.{drop-append_seam}
 use Rattle.bcder_tree.specs.declared.mode.Mode.{Mode}
 use Rattle.bcder_tree.specs.declared.length.Length.{Length}
 use Rattle.bcder_tree.specs.declared.length.Length.TheVariants.{Definite as LengthIs, Indefinite as NoLength}
 use Rattle.bcder_tree.specs.Tags.{TagValue, IsTag}
-use Rattle.bcder_tree.specs.Octets.{IsIdentifier, IsLength}
+use Rattle.bcder_tree.specs.Octets.{IsIdentifier}
 use Rattle.bcder_tree.specs.Lengths.{SpellsLength}
 use Rattle.bcder_tree.specs.Tree.{Tree, Trees, primitive, constructed, IsHeader, Spells, SpellsAll, HasDefinite, HasIndefinite, definite, indefinite}
-use Rattle.bcder_tree.specs.Front.{Front, Fields, Splits}
+use Rattle.bcder_tree.specs.Front.{Front, Splits}
 use Rattle.bcder_source.specs.Views.{View, left, limited, more_limit, Moved}
 use Rattle.bcder_tree.proofs.Unique.{by_length, one_identifier, one_length}
-use Rattle.bcder_tree.proofs.Parts.{split_primitive, constructed_parts}
+use Rattle.bcder_tree.proofs.Parts.{not_indefinite, split_primitive, constructed_parts}
 use Rattle.bcder_tree.proofs.Parts as parts
 use Rattle.bcder_source.proofs.Moves.{limited_sum, more_more, moved_both, left_moved}
 use Rattle.bcder_header.specs.declared.ending.Span.{Span}
@@ -30,16 +29,6 @@ pub record SameHead (k q : Bool) (t u : TagValue) (l n : Length) (a b x y : List
   pub size : l ≡ n
   pub text : a ≡ b
   pub behind : x ≡ y
-
--- No definite length begins as an indefinite one.
-not_indefinite : (m : Mode) (l x y : List ℕ) (n : ℕ) → IsLength m l n → l ++ x ≡ 128 ∷ y → ⊥
-not_indefinite m [] x y n h e = h
-not_indefinite m (a ∷ []) x y n h e = grind arith
-not_indefinite m (a ∷ b ∷ []) x y n h e = grind arith
-not_indefinite m (a ∷ b ∷ c ∷ []) x y n h e = grind arith
-not_indefinite m (a ∷ b ∷ c ∷ d ∷ []) x y n h e = grind arith
-not_indefinite m (a ∷ b ∷ c ∷ d ∷ f ∷ []) x y n h e = grind arith
-not_indefinite m (a ∷ b ∷ c ∷ d ∷ f ∷ g ∷ _) x y n h e = h
 
 record SameSize (l n : Length) (a b x y : List ℕ) : Type 0 where
   size : l ≡ n
@@ -67,7 +56,8 @@ one_head {m} {k} {q} {t} {u} {l} {n} {s} {a} {b} {x} {y} f g =
     let z = one_size m l n h.size i.size x y h.size_is i.size_is o.rest in
     record { form = o.form; tag = o.tag; size = z.size; text = h.whole ∙ ap (λ (w : List ℕ). w ++ h.size) o.front ∙ ap (λ (w : List ℕ). i.identifier ++ w) z.text ∙ sym i.whole; behind = z.behind }
 
-head_of : {m : Mode} {k : Bool} {t : TagValue} {n : ℕ} {h : List ℕ} → IsHeader m h k t n → IsHead m h k t (LengthIs n)
+-- A header of definite length.
+pub head_of : {m : Mode} {k : Bool} {t : TagValue} {n : ℕ} {h : List ℕ} → IsHeader m h k t n → IsHead m h k t (LengthIs n)
 head_of h = record { identifier = h.identifier; size = h.size; whole = h.whole; tag = h.tag; identifier_is = h.identifier_is; size_is = h.size_is }
 
 append_same : (a x y : List ℕ) → a ++ x ≡ a ++ y → x ≡ y

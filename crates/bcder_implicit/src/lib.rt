@@ -4,7 +4,8 @@
 //! It is a crate of its own so that the crates above `bcder_content` needn't wait for its tests.
 #![tactic(auto)]
 
-ghost use Rattle.std.specs.Prelude.{◌^◌};
+ghost use Rattle.std.specs.Prelude.{◌≡◌, ◌≢◌, ◌^◌, IfErr, OnErr, true};
+ghost use Rattle.bcder_source.specs.declared.error.DecodeError.TheVariants.{Memory};
 ghost use Rattle.bcder_content.specs.Exact.{ReadsAs};
 ghost use Rattle.bcder_content.specs.Grammar.{OctetsOf};
 ghost use Rattle.bcder_content.specs.Here.{here};
@@ -19,12 +20,15 @@ pub fn take_tagged_u8<S: Source>(
     cons: &mut Constructed<S>,
     tag: Tag,
 ) -> Result<u8, DecodeError<S::Error>>
-    ensures { ReadsAs (λ n. n) (OctetsOf tag (IsUnsigned (2 ^ 8))) (here S.rest cons.old) result (here S.rest cons.new) }
+    ensures reads { ReadsAs (λ n. n) (OctetsOf tag (IsUnsigned (2 ^ 8))) (here S.rest cons.old) result (here S.rest cons.new) }
+    ensures failed { OnErr result ((here S.rest cons.new).failed ≡ true) }
+    ensures no_memory { IfErr result (λ e. e ≢ Memory) }
 {
     cons.take_value_if(
         tag,
         |content|
-            ensures { ReadsTagged S.rest (λ n. n) (λ _ tag. OctetsOf tag (IsUnsigned (2 ^ 8))) content.old result content.new }
+            ensures reads { ReadsTagged S.rest (λ n. n) (λ _ tag. OctetsOf tag (IsUnsigned (2 ^ 8))) content.old result content.new }
+            ensures no_memory { IfErr result (λ e. e ≢ Memory) }
         { content.to_u8() },
     )
 }

@@ -9,7 +9,8 @@ use Rattle.bcder_written.specs.declared.error.EncodeError.TheVariants as errors
 use Rattle.bcder_written.specs.Contents.{NoContent, ContentRefused, BytesRefused}
 use Rattle.bcder_written.specs.Integers.{WritesUnsigned}
 use Rattle.bcder_number.specs.Integers.{IsInteger}
-use Rattle.bcder_number.specs.Contents.{content, content_is, few_octets, one_integer, steps}
+use Rattle.bcder_written.specs.Integers.{steps}
+use Rattle.bcder_number.specs.Contents.{content, content_is, few_octets, one_integer}
 
 -- Few octets are refused for want of memory alone.
 pub only_memory : (P : List ℕ → Type 0) (r : Result (List ℕ) EncodeError) (v : List ℕ) → P v → length v ≤ 17 → IfErr r (BytesRefused Der P) → IfErr r (λ e. e ≡ errors.Memory)

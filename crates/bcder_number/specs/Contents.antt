@@ -1,20 +1,15 @@
 -- A number has one content, and a content is one number (X.690 8.3).
 use Rattle.std.proofs.Common.{◌≡◌, ℕ, zero, suc, ◌+◌, ◌-◌, ◌*◌, ◌/◌, ◌%◌, ◌^◌, ◌<◌, ◌≤◌, List, [], ◌∷◌, ◌++◌, length, All, refl, sym, ap, ◌∙◌, subst, arith, inl, inr}
-use Rattle.std.proofs.Math.Nat.{pow-succ', mul-le-mul_right}
+use Rattle.std.proofs.Math.Nat.{pow-succ'}
 use Rattle.std.proofs.lemmas.Bool.{cases_lt}
 use Rattle.std.proofs.lemmas.List.{length-append}
-use Rattle.std.proofs.lemmas.List.Elements.{All-nil, All-cons, All-tail, All-append}
+use Rattle.std.proofs.lemmas.List.Elements.{All-nil, All-cons, All-append}
 use Rattle.std.specs.Prelude.{ℤ, pos, negsuc}
 use Rattle.bcder_tree.specs.Integers.{number_behind, number_of, IsShortest, IsPositive}
 use Rattle.bcder_primitive.specs.Values.{IsSigned, IsNegative, IsTwosComplement, IsWithin}
-use Rattle.bcder_primitive.proofs.Numbers.{number_low, number_high, further}
-use Rattle.bcder_written.specs.Integers.{one_signed}
+use Rattle.bcder_primitive.proofs.Numbers.{number_high, further}
+use Rattle.bcder_written.specs.Integers.{near, one_signed, steps}
 use Rattle.bcder_number.specs.Integers.{IsInteger, told}
-
--- How far a number is from 0, or from -1.
-abbrev pub steps : ℤ → ℕ
-steps (pos n) = n
-steps (negsuc k) = k
 
 -- A number is within a bound behind it,
 within_steps : (x : ℤ) → IsWithin (steps x + 1) x
@@ -150,23 +145,11 @@ pub content_is : (x : ℤ) → IsInteger (content x) x
 unfolding content
 content_is x = (has_below (steps x) x (enough (steps x))).1
 
--- Numbers that are near have few of them,
+-- Numbers that are near have few of them.
 few_of : (k : ℕ) (x : ℤ) → steps x < 128 * 256 ^ k → length (content x) ≤ suc k
 few_of k x low =
     let h = has_below k x low in
     omega (arith, ap length (one_integer x (content x) h.0 (content_is x) h.1), h.2)
-
--- and with few octets a number is near.
-near : (v : List ℕ) (x : ℤ) (k : ℕ) → IsInteger v x → length v ≡ suc k → steps x < 128 * 256 ^ k
-near [] x k is long = absurd is.shortest
-near (a ∷ v) (pos n) k is long =
-    let low : a < 128 = is.value.0 in
-    let p : (0 * 256 + a + 1) * 256 ^ length v ≤ 128 * 256 ^ length v = mul-le-mul_right (256 ^ length v) (omega arith) in
-    omega (arith, number_high (0 * 256 + a) v (All-tail (λ a. a < 256) a v is.octets), is.value.1, ap (λ (z : ℕ). 256 ^ z) (let e : length v ≡ k = omega arith in e))
-near (a ∷ v) (negsuc n) k is long =
-    let high : 128 ≤ a = is.value.0 in
-    let p : 128 * 256 ^ length v ≤ (0 * 256 + a) * 256 ^ length v = mul-le-mul_right (256 ^ length v) (omega arith) in
-    omega (arith, number_low (0 * 256 + a) v, is.value.1, pow-succ' 256 (length v), ap (λ (z : ℕ). 256 ^ z) (let e : length v ≡ k = omega arith in e))
 
 -- Longer contents are of numbers that are further away.
 pub further_away : (a b : List ℕ) (x y : ℤ) → IsInteger a x → IsInteger b y → length a < length b → steps x < steps y
@@ -175,7 +158,7 @@ further_away (a ∷ v) b x y s t h =
     elim (cases_lt (steps x) (steps y)) [
       | inl l ↦ l
       | inr r ↦
-          let low = near (a ∷ v) x (length v) s refl in
+          let low = near a v x s.octets s.value in
           absurd (omega (arith, few_of (length v) y (omega (arith, low)), ap length (one_integer y b (content y) t (content_is y))))
     ]
 

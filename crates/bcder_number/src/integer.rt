@@ -46,7 +46,7 @@ impl Integer {
         Integer { octets }
     }
 
-    /// An INTEGER, which must be next.
+    /// An INTEGER (X.690 8.3), which must be next.
     pub fn take_from<S: Source>(
         alloc: Global,
         cons: &mut Constructed<S>,

@@ -50,6 +50,7 @@ impl Unsigned {
     pub fn from_slice(alloc: Global, octets: &[u8]) -> Result<Unsigned, InvalidInteger>
         ensures given { IfOk result (λ n. IsNatural octets.now n) }
         ensures refused { IfErr result (λ e. e ≡ InvalidInteger.Invalid → (n : ℕ) → IsNatural octets.now n → ⊥) }
+        ensures memory { IfErr result (λ e. e ≡ InvalidInteger.Memory → (n : ℕ) × IsNatural octets.now n) }
     {
         if !octets::is_natural(octets) {
             return Err(InvalidInteger::Invalid);
@@ -84,7 +85,7 @@ impl Unsigned {
         Ok(Unsigned::new(integer))
     }
 
-    /// An INTEGER from 0 up, which must be next.
+    /// An INTEGER (X.690 8.3) from 0 up, which must be next.
     pub fn take_from<S: Source>(
         alloc: Global,
         cons: &mut Constructed<S>,
@@ -130,6 +131,13 @@ impl Unsigned {
         ensures { IsNatural result self }
     {
         self.integer.into_bytes()
+    }
+
+    /// Whether the number is 0.
+    pub fn is_zero(&self) -> bool
+        ensures { IsTrue result ↔ (self.now ≡ 0) }
+    {
+        self.integer.is_zero()
     }
 
     /// The same number.

@@ -1,13 +1,10 @@
 -- Segments that are captured, and the string that they are.
-use Rattle.std.proofs.Common.{◌≡◌, ◌<◌, ℕ, Bool, true, false, List, [], ◌∷◌, ◌++◌, length, refl, sym, ap, subst, length-append, arith}
-use Rattle.bcder_tree.specs.declared.mode.Mode.{Mode}
+use Rattle.std.proofs.Common.{◌≡◌, ◌<◌, ℕ, Bool, true, false, List, [], ◌∷◌, ◌++◌, length, refl, sym, subst}
 use Rattle.bcder_tree.specs.declared.mode.Mode.TheVariants.{Ber}
-use Rattle.bcder_tree.specs.Tree.{Tree, Trees, none, more, Spells, SpellsAll}
+use Rattle.bcder_tree.specs.Tree.{Trees, none, more, SpellsAll}
 use Rattle.bcder_tree.specs.Strings.{AreSegments, AreCerSegments}
-use Rattle.bcder_tree.proofs.Fronts.{whole_front}
 use Rattle.bcder_tree.proofs.Modes.{all_to_ber}
-use Rattle.bcder_tree.proofs.Trees.{tree_goes_on}
-use Rattle.bcder_content.specs.Contents.{ValuesLeft, Took, Ended}
+use Rattle.bcder_content.specs.Contents.{ValuesLeft, Ended}
 use Rattle.bcder_content.specs.Exact.{Gives, Lacks, LacksAll, GivesAll}
 use Rattle.bcder_content.specs.Grammar.{ManyCases, Many, ExactlyAll}
 use Rattle.bcder_content.proofs.Forests.{Listing, list_next, list_over, many_lacks}
@@ -15,14 +12,6 @@ use Rattle.bcder_content.proofs.Took.{one_whole}
 use Rattle.bcder_octets.specs.Pieces.{ArePlain}
 use Rattle.bcder_octets.specs.Parts.{IsPart, PartsCases, AllParts, AreCut}
 use Rattle.bcder_octets.proofs.Cuts.{cut_pieces}
-
--- A value has octets.
-some_octets : (m : Mode) (t : Tree) (text : List ℕ) → Spells m t text → 0 < length text
-some_octets m t [] h = absurd (tree_goes_on t (whole_front h) tt)
-some_octets m t (a ∷ text) h = omega arith
-
-pub took_shorter : (v w : ValuesLeft) (t : Tree) → Took v t w → length w.rest < length v.rest
-took_shorter v w t k = omega (arith, ap length k.goes.moved.rest, length-append k.text w.rest, some_octets v.mode t k.text k.spelled)
 
 many_parts : (nested : Bool) (ts : Trees) (xs : List (Unit {0})) → ManyCases (IsPart nested) ts xs → PartsCases nested ts
 many_parts true ts [] m = ([], subst (λ (us : Trees). AreSegments us []) (sym m) refl)

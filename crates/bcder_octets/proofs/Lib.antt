@@ -1,4 +1,3 @@
-pub mod Contents
 pub mod Cuts
 pub mod Gathering
 pub mod Meaning
@@ -8,3 +7,4 @@ pub mod Visiting
 pub mod Walk
 pub mod Written
 pub mod Around
+pub mod InOnePiece

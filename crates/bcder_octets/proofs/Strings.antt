@@ -1,6 +1,5 @@
 -- Reading strings, by the readers of their contents.
 use Rattle.std.proofs.Common.{◌≡◌, ◌↔◌, IsTrue, ℕ, ◌+◌, ◌≤◌, Bool, true, false, List, length, Result, Ok, Err, Option, Some, None, refl, sym, ap, ◌∙◌, subst, arith}
-use Rattle.std.specs.Fn.{FnOnceReturnsAtMut}
 use denote.Ref.{MutBor}
 use Rattle.bcder_tree.specs.declared.mode.Mode.{Mode}
 use Rattle.bcder_tree.specs.declared.mode.Mode.TheVariants.{Ber, Cer, Der}
@@ -19,11 +18,12 @@ use Rattle.bcder_content.specs.Contents.{ValuesLeft, tag_of}
 use Rattle.bcder_content.specs.Exact.{ReadsAllAs}
 use Rattle.bcder_content.specs.Here.{here, plain}
 use Rattle.bcder_content.specs.Ran.{Reader}
-use Rattle.bcder_content.specs.Either.{Shows, ReadsInAs, ReadsContentAs, OctetsRun, RunsOctets, ValuesRun, RunsValues}
-use Rattle.bcder_content.proofs.Inside.{ReadsEach, each_met, PlainEach}
-use Rattle.bcder_octets.proofs.Contents.{HasTag}
+use Rattle.bcder_content.specs.Either.{SameContent, left_of, form_in, Shows, ReadsInAs, ReadsContentAs, OctetsRun, RunsOctets, ValuesRun, RunsValues}
+use Rattle.bcder_content.proofs.Failing.{refused_still}
+use Rattle.bcder_content.proofs.Inside.{ReadsEach, each_met, PlainEach, plain_met}
+use Rattle.bcder_content.proofs.Tagged.{HasTag}
 use Rattle.bcder_octets.proofs.Cuts.{not_so}
-use Rattle.bcder_octets.specs.Parts.{FitsWhole, IsWhole, AreParts}
+use Rattle.bcder_octets.specs.Parts.{FitsWhole, IsWhole, AreParts, ReadsString}
 
 -- Contents of primitive values.
 
@@ -58,7 +58,18 @@ string_tag Der tag t octets s = ap tag_of s
 
 -- A string has the tag that it is read with.
 pub string_tagged : HasTag IsString
-string_tagged = record { tagged = λ m tag. record { tagged = λ t x s. string_tag m tag t x s } }
+string_tagged = record { has = string_tag }
+
+-- A reader of the content of a string reads it in the mode that the content has.
+pub string_reads : {S E : Type 0} {rest : S → List ℕ} {old new : Content S} {r : Result (List ℕ) (DecodeError E)} → ReadsString rest old r new → (tag : TagValue) → ReadsContentAs rest (λ x. x) (IsString (here rest old.values.now).mode tag) tag old r new
+string_reads h tag = h.reads tag _ (record { left_is = refl })
+
+-- A refused reading stays so, whatever is done to the content then.
+pub refused_string : {S E : Type 0} {rest : S → List ℕ} {old mid new : Content S} {e : DecodeError E} → SameContent mid new → ReadsString rest old (Err e) mid → ReadsString rest old (Err e) new
+refused_string {rest = rest} {old} {mid} {new} {e} same h = record {
+  same = record { reference = h.same.reference ∙ same.reference };
+  reads = λ tag v s. refused_still (λ (x : List ℕ). x) (IsString v.mode tag) (form_in old) tag (left_of rest old) (left_of rest mid) (left_of rest new) e (h.reads tag v s);
+}
 
 -- Readers of grammars that say the same.
 
@@ -76,12 +87,6 @@ values_same old new (Err Memory) f g h = tt
 
 -- The content of a primitive value.
 
-plain_met : {F S E : Type 0} {m : Mode} {rest : S → List ℕ} {g : Reader F (Primitive S) (List ℕ) E} {op : F} {P : List ℕ → List ℕ → Type 0} → PlainEach m rest g op (λ x. x) P → (given stop : Primitive S) (r : Result (List ℕ) (DecodeError E)) → (plain rest given).mode ≡ m → FnOnceReturnsAtMut g op given r stop → ReadsOctetsAs (λ x. x) P (plain rest given) r (plain rest stop)
-plain_met {F} {S} {E} {m} {rest} {g} {op} {P} exact given stop r mode met =
-    subst (λ (v : Primitive S). ReadsOctetsAs (λ x. x) P (plain rest v) r (plain rest stop)) met.shows
-    (subst (λ (w : Primitive S). ReadsOctetsAs (λ x. x) P (plain rest met.shown.now) r (plain rest w)) met.leaves
-    (exact.each met.shown met.left r (ap (λ (v : Primitive S). (plain rest v).mode) met.shows ∙ mode) met.met))
-
 pub primitive_read : {F S E : Type 0} {rest : S → List ℕ} {g : Reader F (Primitive S) (List ℕ) E} {op : F} (c d : Content S) (r : Result (List ℕ) (DecodeError E)) (tag : TagValue) (v : ValuesLeft) → ((p q : MutBor (Primitive S)) (r : Result (List ℕ) (DecodeError E)) → g.post op (p, tt) (r, (q, tt)) → ReadsOctetsAs (λ x. x) (IsWhole (plain rest p.now).mode) (plain rest p.now) r (plain rest q.now))
     → c.values.now.constructed ≡ false → RunsOctets rest g op c r d → Shows rest c v → ReadsContentAs rest (λ x. x) (IsString v.mode tag) tag c r d
 primitive_read {F} {S} {E} {rest} {g} {op} c d r tag v each form ran shows =
@@ -89,7 +94,7 @@ primitive_read {F} {S} {E} {rest} {g} {op} c d r tag v each form ran shows =
     let l = d.values.now in
     let m : Mode = v.mode in
     let mode : (plain rest k.octets).mode ≡ m = ap (λ (w : ValuesLeft). w.mode) shows.left_is in
-    let run : OctetsRun g op false k r l = subst (λ (b : Bool). OctetsRun g op b k r l) form ran.runs in
+    let run : OctetsRun rest g op false k r l = subst (λ (b : Bool). OctetsRun rest g op b k r l) form ran.runs in
     let exact : PlainEach m rest g op (λ x. x) (IsWhole m) = record { each = λ p q s e h. subst (λ (z : Mode). ReadsOctetsAs (λ x. x) (IsWhole z) (plain rest p.now) s (plain rest q.now)) e (each p q s h) } in
     let read = plain_met exact k.octets l.octets r mode run.1 in
     subst (λ (b : Bool). ReadsInAs (λ x. x) (IsString m tag) b tag (here rest k) r (here rest l)) (sym form)
@@ -103,7 +108,7 @@ constructed_read {F} {S} {E} {rest} {g} {op} c d r tag v each form ran shows =
     let l = d.values.now in
     let m : Mode = v.mode in
     let mode : (here rest k).mode ≡ m = ap (λ (w : ValuesLeft). w.mode) shows.left_is in
-    let run : ValuesRun g op true k r l = subst (λ (b : Bool). ValuesRun g op b k r l) form ran.runs in
+    let run : ValuesRun rest g op true k r l = subst (λ (b : Bool). ValuesRun rest g op b k r l) form ran.runs in
     let exact : ReadsEach m rest g op (λ x. x) (AreParts m) = record { each = λ p q s e h. subst (λ (z : Mode). ReadsAllAs (λ x. x) (AreParts z) (here rest p.now) s (here rest q.now)) e (each p q s h) } in
     let read = each_met exact k l r mode run in
     subst (λ (b : Bool). ReadsInAs (λ x. x) (IsString m tag) b tag (here rest k) r (here rest l)) (sym form)

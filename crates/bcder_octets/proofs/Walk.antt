@@ -5,21 +5,15 @@ use Rattle.std.proofs.Math.Seq.{take-append_seam, drop-append_seam}
 use Rattle.bcder_tree.specs.declared.mode.Mode.TheVariants.{Ber}
 use Rattle.bcder_tree.specs.declared.length.Length.{Length}
 use Rattle.bcder_tree.specs.declared.length.Length.TheVariants.{Definite as LengthIs, Indefinite as NoLength}
-use Rattle.bcder_tree.specs.Tags.{TagValue, IsTag}
+use Rattle.bcder_tree.specs.Tags.{TagValue}
 use Rattle.bcder_tree.specs.Octets.{IsIdentifier}
-use Rattle.bcder_tree.specs.Tree.{Tree, Trees, primitive, constructed, none, more, IsHeader, definite, indefinite, Spells, SpellsAll}
+use Rattle.bcder_tree.specs.Tree.{Tree, Trees, primitive, constructed, none, more, definite, indefinite, Spells, SpellsAll}
 use Rattle.bcder_tree.specs.Front.{Splits}
 use Rattle.bcder_tree.specs.Strings.{octet_string_tag, IsBerString, AreSegments}
-use Rattle.bcder_tree.proofs.Parts.{Ends}
-use Rattle.bcder_header.specs.Openings.{IsHead, Heads, NoHead}
-use Rattle.bcder_header.proofs.Opening.{HeadIn, one_head, split_head}
+use Rattle.bcder_tree.proofs.Parts.{Ends, identifier_goes_on}
+use Rattle.bcder_header.specs.Openings.{Heads, NoHead}
+use Rattle.bcder_header.proofs.Opening.{HeadIn, head_of, one_head, split_head}
 use Rattle.bcder_octets.specs.Pieces.{IsHeaded, IsAround, Mark, holds, around, Marks, held, Holds, NextPiece, ArePlain}
-
-identifier_goes_on : (i x : List ℕ) (k : Bool) (t : TagValue) → IsTag t → IsIdentifier i k t → Ends (i ++ x) → ⊥
-identifier_goes_on [] x k t p h e = h
-identifier_goes_on (a ∷ []) x true t p h e = omega arith
-identifier_goes_on (a ∷ []) x false t p h e = omega arith
-identifier_goes_on (a ∷ b ∷ i) x k t p h e = omega arith
 
 -- Octets that begin with a header are some, and do not begin with 0.
 head_goes_on : {k : Bool} {t : TagValue} {l : Length} {s text behind : List ℕ} → HeadIn Ber k t l s text behind → Ends s → ⊥
@@ -134,9 +128,6 @@ past_closing {s} pieces n two h =
     ]
 
 -- The marks of strings.
-
-head_of : {h : List ℕ} {k : Bool} {t : TagValue} {n : ℕ} → IsHeader Ber h k t n → IsHead Ber h k t (LengthIs n)
-head_of h = record { identifier = h.identifier; size = h.size; whole = h.whole; tag = h.tag; identifier_is = h.identifier_is; size_is = h.size_is }
 
 -- Marks of octets whose pieces are v, joined, and then those of others.
 record Tells (v octets : List ℕ) (others : List Mark) : Type 0 where

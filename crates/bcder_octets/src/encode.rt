@@ -75,7 +75,9 @@ fn write_string<W: Write>(
 /// `TooLong` where a content has more than 2^32 - 1 octets.
 #[derive(Drop)]
 pub struct OctetSliceEncoder<T> {
+    /// The tag of the string.
     pub tag: Tag,
+    /// The octets that are lent.
     pub octets: T,
     ghost is_tag: { IsTag tag },
 }
@@ -101,7 +103,9 @@ impl<T: AsSlice<u8>> Values for OctetSliceEncoder<T> {
 /// An OCTET STRING as it is written, as by `OctetSliceEncoder`.
 #[derive(Drop)]
 pub struct OctetStringEncoder {
+    /// The tag of the string.
     pub tag: Tag,
+    /// The string.
     pub string: OctetString,
     ghost is_tag: { IsTag tag },
 }

@@ -1,12 +1,15 @@
 //! Strings that are read.
 
-ghost use Rattle.std.specs.Prelude.{◌≡◌, ◌↔◌, IsTrue, IsOk, true, false};
-ghost use Rattle.bcder_tree.specs.Strings.{AreSegments};
+ghost use Rattle.std.specs.Prelude.{◌≡◌, ◌↔◌, IsTrue, IsOk, OnErr, true, false};
+ghost use Rattle.bcder_tree.specs.Strings.{AreSegments, IsOctetString, octet_string_tag};
+ghost use Rattle.bcder_tree.specs.declared.mode.Mode.TheVariants.{Der};
 ghost use Rattle.bcder_content.specs.Captures.{rest_of};
-ghost use Rattle.bcder_content.specs.Exact.{ReadsAllAs, ReadsNextAs};
-ghost use Rattle.bcder_content.specs.Grammar.{ExactlyAll};
+ghost use Rattle.bcder_content.specs.Either.{left_of};
+ghost use Rattle.bcder_content.specs.Exact.{ReadsAllAs, ReadsAs, ReadsNextAs};
+ghost use Rattle.bcder_content.specs.Grammar.{ExactlyAll, OctetsOf};
 ghost use Rattle.bcder_content.specs.Here.{here, plain};
 ghost use Rattle.bcder_primitive.specs.Plain.{ReadsOctetsAs};
+ghost use Rattle.bcder_primitive.specs.Values.{AnyOctets};
 ghost use Rattle.bcder_octets.specs.Parts.{FitsWhole, IsWhole, AreCut, AreParts, FitsPart, IsPart, AllParts, ReadsString};
 
 use crate::pieces::{SEGMENT, join, join_cut};
@@ -175,7 +178,7 @@ fn take_parts<S: Source>(
 }
 
 // The content of a string, of either form.
-pub(crate) fn take_content<S: Source>(
+fn read_content<S: Source>(
     alloc: Global,
     content: &mut Content<'_, S>,
 ) -> Result<OctetString, DecodeError<S::Error>>
@@ -193,4 +196,68 @@ pub(crate) fn take_content<S: Source>(
             ensures { ReadsAllAs (λ octets. octets) (AreParts (here S.rest cons.old).mode) (here S.rest cons.old) result (here S.rest cons.new) }
         { take_parts(alloc, cons) },
     )
+}
+
+// The same; where it is refused, the content is failed.
+pub(crate) fn take_content<S: Source>(
+    alloc: Global,
+    content: &mut Content<'_, S>,
+) -> Result<OctetString, DecodeError<S::Error>>
+    ensures reads { ReadsString S.rest content.old result content.new }
+    ensures failed { OnErr result ((left_of S.rest content.new).failed ≡ true) }
+{
+    match read_content(alloc, content) {
+        Ok(octets) => Ok(octets),
+        Err(error) => {
+            content.fail();
+            Err(error)
+        }
+    }
+}
+
+// The next value, a string as the mode has it.
+pub(crate) fn take_string<S: Source>(
+    alloc: Global,
+    cons: &mut Constructed<S>,
+) -> Result<OctetString, DecodeError<S::Error>>
+    ensures reads { ReadsAs (λ octets. octets) (IsOctetString (here S.rest cons.old).mode) (here S.rest cons.old) result (here S.rest cons.new) }
+    ensures failed { OnErr result ((here S.rest cons.new).failed ≡ true) }
+{
+    cons.take_value_if(
+        Tag::OCTET_STRING,
+        |content|
+            ensures { ReadsString S.rest content.old result content.new }
+        { take_content(alloc, content) },
+    )
+}
+
+// The octets of the next value, a string in one piece.
+fn take_octets<S: Source>(
+    alloc: Global,
+    cons: &mut Constructed<S>,
+) -> Result<Bytes, DecodeError<S::Error>>
+    ensures reads { ReadsAs (λ octets. octets) (OctetsOf octet_string_tag AnyOctets) (here S.rest cons.old) result (here S.rest cons.new) }
+    ensures failed { OnErr result ((here S.rest cons.new).failed ≡ true) }
+{
+    cons.take_primitive_if(
+        Tag::OCTET_STRING,
+        |prim|
+            ensures { ReadsOctetsAs (λ octets. octets) AnyOctets (plain S.rest prim.old) result (plain S.rest prim.new) }
+        { prim.take_all(alloc) },
+    )
+}
+
+// The next value, a string in one piece, as DER has it (X.690 10.2). It is the same as `take_string`, in fewer steps.
+#[inline(always)]
+pub(crate) fn take_piece<S: Source>(
+    alloc: Global,
+    cons: &mut Constructed<S>,
+) -> Result<OctetString, DecodeError<S::Error>>
+    ensures reads { ReadsAs (λ octets. octets) (IsOctetString Der) (here S.rest cons.old) result (here S.rest cons.new) }
+    ensures failed { OnErr result ((here S.rest cons.new).failed ≡ true) }
+{
+    match take_octets(alloc, cons) {
+        Ok(octets) => Ok(OctetString::new(octets)),
+        Err(error) => Err(error),
+    }
 }

@@ -2,14 +2,15 @@
 
 ghost use Rattle.std.specs.Prelude.{◌≡◌, ◌↔◌, [], length, IsTrue, IfOk, IsSomeAnd, OnErr, true};
 ghost use Rattle.bcder_tree.specs.Strings.{octet_string_tag, IsOctetString};
+ghost use Rattle.bcder_content.specs.Either.{left_of};
 ghost use Rattle.bcder_content.specs.Exact.{ReadsAs, ReadsOptAs};
 ghost use Rattle.bcder_content.specs.Here.{here};
 ghost use Rattle.bcder_octets.specs.Parts.{ReadsString};
 
-use crate::reading::take_content;
+use crate::reading::{take_content, take_piece, take_string};
 use bcder_content::Constructed;
 use bcder_content::content::Content;
-use bcder_source::{DecodeError, Source, Tag};
+use bcder_source::{DecodeError, Mode, Source, Tag};
 use bytes::Bytes;
 use std::alloc::{AllocError, Global};
 use std::marker::Model;
@@ -110,12 +111,10 @@ impl OctetString {
         ensures reads { ReadsAs (λ octets. octets) (IsOctetString (here S.rest cons.old).mode) (here S.rest cons.old) result (here S.rest cons.new) }
         ensures failed { OnErr result ((here S.rest cons.new).failed ≡ true) }
     {
-        cons.take_value_if(
-            Tag::OCTET_STRING,
-            |content|
-                ensures { ReadsString S.rest content.old result content.new }
-            { take_content(alloc, content) },
-        )
+        match cons.mode() {
+            Mode::Der => take_piece(alloc, cons),
+            Mode::Ber | Mode::Cer => take_string(alloc, cons),
+        }
     }
 
     /// The same, where a value with that tag is next; else nothing is read.
@@ -134,12 +133,14 @@ impl OctetString {
         )
     }
 
-    /// The string whose content that is, whatever its tag: for implicit tags (8.14).
+    /// The string whose content that is, whatever its tag: for implicit tags (8.14). Where it is refused, the content
+    /// is failed.
     pub fn from_content<S: Source>(
         alloc: Global,
         content: &mut Content<'_, S>,
     ) -> Result<OctetString, DecodeError<S::Error>>
-        ensures { ReadsString S.rest content.old result content.new }
+        ensures reads { ReadsString S.rest content.old result content.new }
+        ensures failed { OnErr result ((left_of S.rest content.new).failed ≡ true) }
     {
         take_content(alloc, content)
     }

@@ -3,11 +3,12 @@
 ghost use Rattle.bcder_content.specs.Either.{SameContent};
 
 use crate::OctetString;
-use bcder_content::Decode;
-use bcder_source::{IntoSource, Mode, Source, Tag};
+use bcder_content::{Content, Decode};
+use bcder_source::{DecodeError, IntoSource, Mode, SliceSource, Source, Tag};
 use bcder_values::{EncodeError, PrimitiveContent, Values, sequence};
 use bytes::Bytes;
 use std::alloc::{AllocError, Global};
+use std::convert::Infallible;
 use std::test::Fail;
 
 // `ab` in segments, one of them empty.
@@ -120,6 +121,42 @@ fn implicit_tags(rt: HostRuntime) -> Result<(), Fail> {
     assert!(rt; found.0);
     assert!(rt; found.1.is_slice(b"a"));
     Ok(())
+}
+
+// The string of a content; and then what is left of the content, whatever became of the string.
+fn string_and_rest(
+    alloc: Global,
+    content: &mut Content<'_, SliceSource<'_>>,
+) -> Result<(), DecodeError<Infallible>>
+    ensures { SameContent content.old content.new }
+{
+    let _ = OctetString::from_content(alloc, content);
+    content.constructed(|cons| cons.skip_all(alloc))
+}
+
+// Whether what is left of a content is read behind a string.
+fn goes_on(alloc: Global, mode: Mode, octets: &[u8]) -> bool {
+    mode.decode(octets, |cons| {
+        cons.take_value_if(
+            Tag::OCTET_STRING,
+            |content|
+                ensures { SameContent content.old content.new }
+            { string_and_rest(alloc, content) },
+        )
+    })
+    .is_ok()
+}
+
+// A string that is refused leaves its content failed, whether its segments were read before or not.
+#[test]
+fn nothing_is_read_behind_a_refusal(rt: HostRuntime) {
+    let alloc = rt.alloc();
+    let definite = [0x24, 0x03, 0x04, 0x01, 0x61];
+    let indefinite = [0x24, 0x80, 0x04, 0x01, 0x61, 0x00, 0x00];
+    assert!(rt; goes_on(alloc, Mode::Ber, &definite));
+    assert!(rt; goes_on(alloc, Mode::Ber, &indefinite));
+    assert!(rt; !goes_on(alloc, Mode::Der, &definite));
+    assert!(rt; !goes_on(alloc, Mode::Cer, &indefinite));
 }
 
 // What is written of a string of so many octets, and the string that is read of it.

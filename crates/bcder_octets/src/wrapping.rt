@@ -23,7 +23,9 @@ use std::io::Write;
 pub struct WrappingOctetStringEncoder<V> {
     /// The mode of the values.
     pub mode: Mode,
+    /// The values in the string.
     pub values: V,
+    /// The tag of the string.
     pub tag: Tag,
     ghost is_tag: { IsTag tag },
 }

@@ -3,7 +3,7 @@ use Rattle.std.proofs.Common.{◌≡◌, ◌≢◌, ℕ, ◌<◌, Option, Some, 
 use denote.Ref.{Bor}
 use Rattle.std.proofs.lemmas.List.{length-append}
 use Rattle.std.proofs.lemmas.List.Elements.{All-head, All-tail}
-use Rattle.std.specs.Prelude.{MatchOption, IfErr}
+use Rattle.std.specs.Prelude.{MatchOption, IfErr, OnOk}
 use Rattle.std.specs.Result.{IsErr, IsErrAnd}
 use Rattle.bcder_oid.specs.declared.text.ParseOidError.{ParseOidError}
 use Rattle.bcder_oid.specs.declared.text.ParseOidError.TheVariants as errors
@@ -110,7 +110,20 @@ refused_numbers {text} {ns} {ms} h e none octets r =
 pub refused_text : {text : List ℕ} → ((ns : List ℕ) → IsDotted text ns → ⊥) → (octets : List ℕ) → ReadsText text octets → ⊥
 refused_text none octets r = none r.components r.text_is.dotted
 
--- Refusals that `?` passes on.
+-- The first two numbers of a text are those of its first two pieces.
+pub first_two : {text rest front : List ℕ} {x y : ℕ} (o : Option (Bor (List ℕ))) → Going text (x ∷ []) rest → MatchOption o (IsLastPiece rest front) (λ b. IsFirstPiece rest front b.now) → IsComponentText front y → (ns : List ℕ) → IsDotted text ns
+    → (ms : List ℕ) × (ns ≡ x ∷ y ∷ ms)
+first_two {text} {x = x} {y} None g p c ns h = ([], one_dotted text ns (x ∷ y ∷ []) h (last_read g p c))
+first_two (Some b) g p c ns h = let r = (go_on g p c).back ns h in (r.0, r.1)
+
+-- So they tell whether it is one of an identifier.
+pub may_begin : {text : List ℕ} {x y : ℕ} → ((ns : List ℕ) → IsDotted text ns → (ms : List ℕ) × (ns ≡ x ∷ y ∷ ms)) → MayBegin (x ∷ y ∷ []) → (ns : List ℕ) → IsDotted text ns → MayBegin ns
+may_begin two m ns h = let t = two ns h in subst MayBegin (sym t.1) m
+
+pub no_begin : {text : List ℕ} {x y : ℕ} → ((ns : List ℕ) → IsDotted text ns → (ms : List ℕ) × (ns ≡ x ∷ y ∷ ms)) → (MayBegin (x ∷ y ∷ []) → ⊥) → (octets : List ℕ) → ReadsText text octets → ⊥
+no_begin two none octets r = let t = two r.components r.text_is.dotted in none (subst MayBegin t.1 r.text_is.begins)
+
+-- Refusals that are passed on.
 weaker : (F G : Type 0) (e : ParseOidError) → (F → G) → OnRefused e F → OnRefused e G
 weaker F G errors.TooFew f h = f h
 weaker F G errors.Component f h = f h
@@ -121,3 +134,11 @@ weaker F G errors.Memory f h = tt
 pub through : {A F G : Type 0} (r : Result A ParseOidError) (e : ParseOidError) → IsErr r × IsErrAnd r (λ x. x ≡ e) → (F → G) → OnRefused e F → IfErr r (λ x. OnRefused x G)
 through (Ok x) e a f h = tt
 through {F = F} {G} (Err x) e a f h = subst (λ (y : ParseOidError). OnRefused y G) (sym a.1) (weaker F G e f h)
+
+pub on_err : {A F G : Type 0} (r : Result A ParseOidError) → (F → G) → IfErr r (λ e. OnRefused e F) → IfErr r (λ e. OnRefused e G)
+on_err (Ok x) f h = tt
+on_err {F = F} {G} (Err e) f h = weaker F G e f h
+
+pub on_ok : {A F G : Type 0} (r : Result A ParseOidError) → (F → G) → OnOk r F → OnOk r G
+on_ok (Ok x) f h = f h
+on_ok (Err e) f h = tt

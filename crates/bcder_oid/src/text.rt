@@ -1,8 +1,8 @@
 //! Object identifiers of texts: `1.2.840.113549`.
 
-ghost use Rattle.std.specs.Prelude.{◌≡◌, ◌++◌, ◌∷◌, ℕ, List, IfOk, IfErr, OnOk, MatchOption};
+ghost use Rattle.std.specs.Prelude.{◌≡◌, ◌≢◌, ◌++◌, ◌∷◌, [], ℕ, List, IfOk, IfErr, OnOk, MatchOption};
 ghost use Rattle.bcder_oid.specs.Subidentifiers.{InTurn, IsShortest};
-ghost use Rattle.bcder_oid.specs.Texts.{IsComponentText, IsDotted, MayBegin, Spells, ReadsText, OnRefused, HighOctets, IsLastPiece, IsFirstPiece};
+ghost use Rattle.bcder_oid.specs.Texts.{IsComponentText, IsDotted, IsOidText, MayBegin, Spells, ReadsText, OnRefused, HighOctets, IsLastPiece, IsFirstPiece};
 
 use crate::oid::Oid;
 use bytes::Bytes;
@@ -33,24 +33,85 @@ impl Oid<Bytes> {
     /// The object identifier of a text: two or more numbers up to `u32::MAX` in decimal digits, with dots between
     /// them; the first is at most 2, and the second below 40 where the first is 0 or 1 (X.690 8.19.4).
     ///
-    /// Zeros or one plus may stand in front of digits. The octets are the fewest.
+    /// Zeros or one plus may stand in front of digits. The octets are the fewest. Where memory is wanted, the text is
+    /// that of an identifier.
     pub fn from_str(alloc: Global, text: &str) -> Result<Self, ParseOidError>
         ensures reads { IfOk result (λ oid. ReadsText text.now oid.0) }
         ensures refused { IfErr result (λ e. OnRefused e ((octets : List ℕ) → ReadsText text.now octets → ⊥)) }
+        ensures memory { IfErr result (λ e. e ≡ ParseOidError.Memory → (components : List ℕ) × IsOidText text.now components) }
     {
-        let numbers = read_numbers(alloc, text)?;
-        let octets = write_components(alloc, &numbers)?;
-        match Bytes::from_vec(octets) {
-            Ok(octets) => Ok(Oid(octets)),
-            Err(_) => Err(ParseOidError::Memory),
+        match read_text(alloc, text) {
+            Ok(oid) => Ok(oid),
+            Err(ParseOidError::Memory) => {
+                judge(text)?;
+                Err(ParseOidError::Memory)
+            }
+            Err(error) => Err(error),
         }
     }
+}
+
+// The object identifier of a text.
+fn read_text(alloc: Global, text: &str) -> Result<Oid<Bytes>, ParseOidError>
+    ensures reads { IfOk result (λ oid. ReadsText text.now oid.0) }
+    ensures refused { IfErr result (λ e. OnRefused e ((octets : List ℕ) → ReadsText text.now octets → ⊥)) }
+{
+    let numbers = read_numbers(alloc, text)?;
+    let octets = write_components(alloc, &numbers)?;
+    match Bytes::from_vec(octets) {
+        Ok(octets) => Ok(Oid(octets)),
+        Err(_) => Err(ParseOidError::Memory),
+    }
+}
+
+// Refuses a text that is of no identifier; it takes no memory.
+fn judge(text: &str) -> Result<(), ParseOidError>
+    ensures reads { OnOk result ((components : List ℕ) × IsOidText text.now components) }
+    ensures refused { IfErr result (λ e. OnRefused e ((octets : List ℕ) → ReadsText text.now octets → ⊥)) }
+    ensures no_memory { IfErr result (λ e. e ≢ ParseOidError.Memory) }
+{
+    judge_numbers(text)?;
+    judge_front(text)
+}
+
+// Refuses a text that isn't of numbers with dots between them.
+fn judge_numbers(text: &str) -> Result<(), ParseOidError>
+    ensures reads { OnOk result ((ns : List ℕ) × IsDotted text.now ns) }
+    ensures refused { IfErr result (λ e. OnRefused e ((ns : List ℕ) → IsDotted text.now ns → ⊥)) }
+    ensures no_memory { IfErr result (λ e. e ≢ ParseOidError.Memory) }
+{
+    let mut rest = text;
+    loop {
+        let (front, behind) = piece(rest);
+        component(front)?;
+        let Some(behind) = behind else {
+            return Ok(());
+        };
+        rest = behind;
+    }
+}
+
+// Refuses a text whose first two numbers begin no identifier.
+fn judge_front(text: &str) -> Result<(), ParseOidError>
+    ensures begins { OnOk result ((ns : List ℕ) → IsDotted text.now ns → MayBegin ns) }
+    ensures refused { IfErr result (λ e. OnRefused e ((octets : List ℕ) → ReadsText text.now octets → ⊥)) }
+    ensures no_memory { IfErr result (λ e. e ≢ ParseOidError.Memory) }
+{
+    let (front, behind) = piece(text);
+    let first = component(front)?;
+    let Some(behind) = behind else {
+        return Err(ParseOidError::TooFew);
+    };
+    let (front, _) = piece(behind);
+    let second = component(front)?;
+    judge_components(first, second)
 }
 
 // The number of a component's text.
 fn component(text: &str) -> Result<u32, ParseOidError>
     ensures reads { IfOk result (λ n. IsComponentText text.now n) }
     ensures refused { IfErr result (λ e. OnRefused e ((n : ℕ) → IsComponentText text.now n → ⊥)) }
+    ensures no_memory { IfErr result (λ e. e ≢ ParseOidError.Memory) }
 {
     match text.parse::<u32>() {
         Ok(number) => Ok(number),
@@ -88,6 +149,21 @@ fn read_numbers(alloc: Global, text: &str) -> Result<Vec<u32>, ParseOidError>
     }
 }
 
+// Refuses numbers that may not be the first two components (X.690 8.19.4).
+fn judge_components(first: u32, second: u32) -> Result<(), ParseOidError>
+    ensures begins { OnOk result (MayBegin (first ∷ second ∷ [])) }
+    ensures refused { IfErr result (λ e. OnRefused e (MayBegin (first ∷ second ∷ []) → ⊥)) }
+    ensures no_memory { IfErr result (λ e. e ≢ ParseOidError.Memory) }
+{
+    if first > 2 {
+        return Err(ParseOidError::First);
+    }
+    if first < 2 && second >= 40 {
+        return Err(ParseOidError::Second);
+    }
+    Ok(())
+}
+
 // The octets of components.
 fn write_components(alloc: Global, components: &[u32]) -> Result<Vec<u8>, ParseOidError>
     ensures begins { OnOk result (MayBegin components.now) }
@@ -100,12 +176,7 @@ fn write_components(alloc: Global, components: &[u32]) -> Result<Vec<u8>, ParseO
     let Some((second, others)) = behind.split_first() else {
         return Err(ParseOidError::TooFew);
     };
-    if *first > 2 {
-        return Err(ParseOidError::First);
-    }
-    if *first < 2 && *second >= 40 {
-        return Err(ParseOidError::Second);
-    }
+    judge_components(*first, *second)?;
     let root = 40 * u64::from(*first) + u64::from(*second);
     match write_numbers(alloc, root, others) {
         Ok(octets) => Ok(octets),

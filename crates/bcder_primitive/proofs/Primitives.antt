@@ -1,15 +1,15 @@
 -- What a reading of a whole primitive content was.
-use Rattle.std.proofs.Common.{◌≡◌, ℕ, zero, suc, ◌⊎◌, inl, inr, ◌+◌, ◌≤◌, Bool, true, false, List, [], ◌∷◌, ◌++◌, length, take, drop, Option, Some, None, Result, Ok, Err, refl, sym, ap, ◌∙◌, subst, arith}
+use Rattle.std.proofs.Common.{◌≡◌, ℕ, zero, suc, ◌⊎◌, inl, inr, ◌+◌, ◌≤◌, Bool, true, false, List, ◌++◌, length, take, drop, Option, Some, None, Result, Ok, Err, refl, sym, ap, ◌∙◌, subst, arith}
 use Rattle.std.specs.Result.{IsErr, IsErrAnd}
 use Rattle.std.proofs.lemmas.List.{take-append-drop, length-take-le}
 use Rattle.std.proofs.Math.Seq.{take-append_seam}
 use Rattle.bcder_source.specs.Errors.{OnContent, OnlyContent}
 use Rattle.bcder_source.specs.declared.error.DecodeError.{DecodeError}
 use Rattle.bcder_source.specs.declared.error.DecodeError.TheVariants.{Content, Source, Memory}
-use Rattle.bcder_source.specs.Views.{View, left, limited, more_limit, Moved}
-use Rattle.bcder_source.specs.Limits.{IsShort, IsSpent}
+use Rattle.bcder_source.specs.Views.{more_limit, Moved}
+use Rattle.bcder_source.specs.Limits.{IsSpent}
 use Rattle.bcder_primitive.specs.Values.{IsUnsigned, IsValue}
-use Rattle.bcder_primitive.specs.Plain.{OctetsLeft, octets_in, GoesBy, Drained, WholeOctets, LacksOctets, GivesOctets, ReadsOctetsAs}
+use Rattle.bcder_primitive.specs.Plain.{OctetsLeft, octets_in, Drained, WholeOctets, LacksOctets, GivesOctets, ReadsOctetsAs}
 
 -- A refusal by what stands in front says less.
 pub weaker : {E : Type 0} {F G : Type 0} (e : DecodeError E) → (F → G) → OnlyContent e F → OnContent e G
@@ -34,6 +34,12 @@ whole_is {p} {text} {n} e w =
     let same : n ≡ length text + 0 = cc in
     let long : length text ≡ n = omega arith in
     (sym (take-append_seam text w.behind.rest) ∙ ap (λ (z : List ℕ). take (length text) z) (sym w.goes.moved.rest) ∙ ap (λ (z : ℕ). take z p.rest) long, long)
+
+-- All octets of a content are one row.
+pub same_octets : {p : OctetsLeft} {s t : List ℕ} → WholeOctets p s → WholeOctets p t → s ≡ t
+same_octets {p} {s} {t} v w =
+    let limit : p.limit ≡ Some (length t + 0) = w.goes.moved.limit ∙ ap (more_limit (length t)) w.drained.ends in
+    (whole_is limit v).0 ∙ sym (whole_is limit w).0
 
 -- What lacks its octets lacks all.
 pub lacks_whole : {A : Type 0} (P : List ℕ → A → Type 0) {p : OctetsLeft} {n : ℕ} → p.limit ≡ Some n → ((x : A) → P (take n p.rest) x → ⊥) → LacksOctets P p
@@ -111,10 +117,6 @@ value_given {A} P {old} {y = y} e g = record {
   only = λ goes_on. record { none = λ t x is w. (g.only goes_on).none t y is.is w };
 }
 
-abbrev count : Option ℕ → ℕ
-count None = 0
-count (Some n) = n
-
 -- Another value was read, so the content isn't of that one.
 pub other_value : {A : Type 0} (P : List ℕ → A → Type 0) {old new : OctetsLeft} {x y : A} → ((t : List ℕ) → P t x → P t y → x ≡ y) → (x ≡ y → ⊥) → GivesOctets P old x new → LacksOctets (IsValue P y) old
 other_value {A} P {old} {new} {x} {y} one other g =
@@ -122,17 +124,10 @@ other_value {A} P {old} {new} {x} {y} one other g =
       | inl d ↦ record {
         none = λ t u is w.
             let whole : WholeOctets old g.text = record { behind = new; goes = g.goes; drained = d } in
-            other (one t (subst (λ (z : List ℕ). P z x) (same_text whole w) g.is) is.is);
+            other (one t (subst (λ (z : List ℕ). P z x) (same_octets whole w) g.is) is.is);
       }
       | inr goes_on ↦ record { none = λ t u is w. (g.only goes_on).none t y is.is w }
     ]
-  where
-    limit_at : (l : Option ℕ) (t : List ℕ) → old.limit ≡ l → WholeOctets old t → t ≡ take (count l) old.rest
-    limit_at None t e w = let h : None ≡ more_limit (length t) (Some 0) = sym e ∙ w.goes.moved.limit ∙ ap (more_limit (length t)) w.drained.ends in absurd cc
-    limit_at (Some n) t e w = (whole_is e w).0
-
-    same_text : {s t : List ℕ} → WholeOctets old s → WholeOctets old t → s ≡ t
-    same_text {s} {t} v w = limit_at old.limit s refl v ∙ sym (limit_at old.limit t refl w)
 
 -- A content is one number.
 pub one_unsigned : {bound : ℕ} (t : List ℕ) (x y : ℕ) → IsUnsigned bound t x → IsUnsigned bound t y → x ≡ y

@@ -1,6 +1,6 @@
 //! Readers as a user of `bcder_content` writes them, proved exact: what they take is of their grammar, and
 //! what is of their grammar they take. docs/READERS.md walks through them.
-ghost use Rattle.std.specs.Prelude.{◌≢◌, ℕ, List, map, IfErr};
+ghost use Rattle.std.specs.Prelude.{◌≡◌, ◌≢◌, ℕ, List, map, IfErr, OnErr, true};
 ghost use Rattle.bcder_source.specs.declared.error.DecodeError.TheVariants.{Memory};
 ghost use Rattle.bcder_tree.specs.Tags.{universal};
 ghost use Rattle.bcder_content.specs.Captures.{rest_of};
@@ -73,6 +73,7 @@ pub enum Name {
 /// Two fields.
 pub fn take_version<S: Source>(cons: &mut Constructed<S>) -> Result<Version, DecodeError<S::Error>>
     ensures reads { ReadsAs version_fields IsVersion (here S.rest cons.old) result (here S.rest cons.new) }
+    ensures failed { OnErr result ((here S.rest cons.new).failed ≡ true) }
     ensures no_memory { IfErr result (λ e. e ≢ Memory) }
 {
     cons.take_sequence(

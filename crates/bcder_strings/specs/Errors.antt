@@ -6,3 +6,8 @@ use Rattle.bcder_strings.specs.declared.error.RestrictedStringError.TheVariants.
 abbrev pub OnCharSet : RestrictedStringError → Type 0 → Type 0
 OnCharSet CharSet fact = fact
 OnCharSet Memory fact = Unit {0}
+
+-- A fact where memory was wanted.
+abbrev pub OnMemory : RestrictedStringError → Type 0 → Type 0
+OnMemory CharSet fact = Unit {0}
+OnMemory Memory fact = fact

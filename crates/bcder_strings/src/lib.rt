@@ -20,6 +20,3 @@ pub mod string;
 pub use chars::RestrictedStringChars;
 pub use error::RestrictedStringError;
 pub use string::{Ia5String, NumericString, PrintableString, RestrictedString, Utf8String};
-
-#[cfg(test)]
-mod tests;

@@ -2,7 +2,7 @@
 
 ghost use Rattle.std.specs.Prelude.{◌≡◌, ◌↔◌, IsTrue, OnErr, true};
 ghost use Rattle.bcder_chars.specs.Texts.{IsText};
-ghost use Rattle.bcder_content.specs.Either.{IsRefusal, SameContent};
+ghost use Rattle.bcder_content.specs.Either.{SameContent, left_of};
 ghost use Rattle.bcder_content.specs.Exact.{ReadsAs, ReadsOptAs};
 ghost use Rattle.bcder_content.specs.Here.{here};
 ghost use Rattle.bcder_strings.specs.Restricted.{IsRestricted, ReadsText};
@@ -15,36 +15,27 @@ use bcder_octets::OctetString;
 use bcder_source::{ContentError, DecodeError, Source};
 use std::alloc::Global;
 
-// Refuses a content, from its beginning.
-fn refuse<S: Source>(content: &mut Content<'_, S>) -> Result<OctetString, DecodeError<S::Error>>
+// The refusal of a content whose octets are no text of the set; the content is failed from now on.
+fn no_text<S: Source>(content: &mut Content<'_, S>) -> DecodeError<S::Error>
     ensures same { SameContent content.old content.new }
-    ensures refused { IsRefusal result }
+    ensures failed { (left_of S.rest content.new).failed ≡ true }
 {
-    if (*content).is_primitive() {
-        return content.primitive(
-            |prim|
-                ensures { IsRefusal result }
-            { Err(prim.content_err(ContentError::from_static("invalid character string"))) },
-        );
-    }
-    content.constructed(
-        |cons|
-            ensures { IsRefusal result }
-        { Err(cons.content_err(ContentError::from_static("invalid character string"))) },
-    )
+    content.fail();
+    (*content).content_err(ContentError::from_static("invalid character string"))
 }
 
-// The octets of a content that is a text of the set.
+// The octets of a content that is a text of the set; where it is refused, the content is failed.
 fn take_text<L: CharSet, S: Source>(
     alloc: Global,
     content: &mut Content<'_, S>,
 ) -> Result<OctetString, DecodeError<S::Error>>
-    ensures { ReadsText L.has L.spell S.rest content.old result content.new }
+    ensures reads { ReadsText L.has L.spell S.rest content.old result content.new }
+    ensures failed { OnErr result ((left_of S.rest content.new).failed ≡ true) }
 {
     let octets = OctetString::from_content(alloc, content)?;
     match L::check(octets_of(&octets)) {
         Ok(()) => Ok(octets),
-        Err(_) => refuse(content),
+        Err(_) => Err(no_text(content)),
     }
 }
 
@@ -93,12 +84,14 @@ impl<L: CharSet> RestrictedString<L> {
         }
     }
 
-    /// The string whose content that is, whatever its tag: for implicit tags (8.14).
+    /// The string whose content that is, whatever its tag: for implicit tags (8.14). Where it is refused, the content
+    /// is failed.
     pub fn from_content<S: Source>(
         alloc: Global,
         content: &mut Content<'_, S>,
     ) -> Result<Self, DecodeError<S::Error>>
-        ensures { ReadsText L.has L.spell S.rest content.old result content.new }
+        ensures reads { ReadsText L.has L.spell S.rest content.old result content.new }
+        ensures failed { OnErr result ((left_of S.rest content.new).failed ≡ true) }
     {
         let octets = take_text::<L, S>(alloc, content)?;
         Ok(RestrictedString::of_text(octets))

@@ -8,7 +8,7 @@ ghost use Rattle.std.specs.Cmp.{partial_equiv_from_equiv};
 ghost use Rattle.std.specs.Cmp.Rules.{hashing};
 ghost use Rattle.std.proofs.Common.{rules, refl};
 ghost use Rattle.bcder_chars.specs.Texts.{Tells, IsText};
-ghost use Rattle.bcder_strings.specs.Errors.{OnCharSet};
+ghost use Rattle.bcder_strings.specs.Errors.{OnCharSet, OnMemory};
 
 use crate::chars::RestrictedStringChars;
 use crate::error::RestrictedStringError;
@@ -90,6 +90,7 @@ impl<L: CharSet> RestrictedString<L> {
     pub fn from_str(alloc: Global, text: &str) -> Result<Self, RestrictedStringError>
         ensures told { IfOk result (λ string. Tells L.has L.spell string (chars_of_text text.now)) }
         ensures refused { IfErr result (λ e. OnCharSet e (All L.has (chars_of_text text.now) → ⊥)) }
+        ensures memory { IfErr result (λ e. OnMemory e (All L.has (chars_of_text text.now))) }
     {
         let Ok(octets) = L::from_str(text) else {
             return Err(RestrictedStringError::CharSet);
@@ -104,6 +105,7 @@ impl<L: CharSet> RestrictedString<L> {
     pub fn from_string(alloc: Global, text: String) -> Result<Self, RestrictedStringError>
         ensures told { IfOk result (λ string. Tells L.has L.spell string (chars_of_text (string_bytes text))) }
         ensures refused { IfErr result (λ e. OnCharSet e (All L.has (chars_of_text (string_bytes text)) → ⊥)) }
+        ensures memory { IfErr result (λ e. OnMemory e (All L.has (chars_of_text (string_bytes text)))) }
     {
         let Ok(octets) = L::from_str(text.as_str()) else {
             return Err(RestrictedStringError::CharSet);

@@ -29,7 +29,7 @@ pub record Opens (s : List ℕ) (t : TagValue) (content behind : List ℕ) : Typ
   pub whole : s ≡ identifier ++ (128 ∷ (content ++ (0 ∷ 0 ∷ behind)))
 
 -- No definite length begins as an indefinite one.
-not_indefinite : (m : Mode) (l x y : List ℕ) (n : ℕ) → IsLength m l n → l ++ x ≡ 128 ∷ y → ⊥
+pub not_indefinite : (m : Mode) (l x y : List ℕ) (n : ℕ) → IsLength m l n → l ++ x ≡ 128 ∷ y → ⊥
 not_indefinite m [] x y n h e = h
 not_indefinite m (a ∷ []) x y n h e = grind arith
 not_indefinite m (a ∷ b ∷ []) x y n h e = grind arith
@@ -57,7 +57,8 @@ abbrev pub Ends : List ℕ → Type 0
 Ends [] = Unit {0}
 Ends (z ∷ _) = z ≡ 0
 
-identifier_goes_on : (i x : List ℕ) (k : Bool) (t : TagValue) → IsTag t → IsIdentifier i k t → Ends (i ++ x) → ⊥
+-- Identifier octets of a tag that values have are some, and do not begin with 0.
+pub identifier_goes_on : (i x : List ℕ) (k : Bool) (t : TagValue) → IsTag t → IsIdentifier i k t → Ends (i ++ x) → ⊥
 identifier_goes_on [] x k t p h e = h
 identifier_goes_on (a ∷ []) x true t p h e = omega arith
 identifier_goes_on (a ∷ []) x false t p h e = omega arith

@@ -10,7 +10,8 @@ use Rattle.bcder_content.specs.Ran.{fresh}
 use Rattle.bcder_written.specs.Encoded.{SpellsSome}
 use Rattle.bcder_values.specs.Returns.{ReadAgain, WrittenAlone}
 
-all_read : (m : Mode) (ts : Trees) (text : List ℕ) → SpellsAll m ts text → Whole (fresh m text) ts
+-- All values of octets.
+pub all_read : (m : Mode) (ts : Trees) (text : List ℕ) → SpellsAll m ts text → Whole (fresh m text) ts
 all_read m ts text s =
     let moved : Moved (octets (fresh m text)) text (octets (fresh m [])) = record { rest = sym (append-nil text); limit = refl } in
     let took : TookAll (fresh m text) ts (fresh m []) = record { text = text; spelled = s; goes = record { moved = moved; mode = refl; end = refl; before = refl; behind = refl } } in

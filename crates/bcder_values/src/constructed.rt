@@ -17,7 +17,9 @@ use std::io::Write;
 /// A constructed value (X.690 8.1.2.5) around values: in BER and DER of definite length, in CER of indefinite.
 #[derive(Drop)]
 pub struct Constructed<V> {
+    /// The tag of the value.
     pub tag: Tag,
+    /// The values in it.
     pub inner: V,
     ghost is_tag: { IsTag tag },
 }

@@ -58,7 +58,9 @@ impl<'a, V: Values + 'a> Encodes<'a, V> for Itself {
 /// The items of a slice, and how each is written.
 #[derive(Clone, Copy, Debug, Drop)]
 pub struct Slice<'a, U, E> {
+    /// The items, in their order.
     pub items: &'a [U],
+    /// How each is written.
     pub by: E,
 }
 

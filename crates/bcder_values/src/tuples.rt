@@ -7,6 +7,25 @@ use crate::{EncodeError, Values};
 use bcder_tree::Mode;
 use std::io::Write;
 
+/// Values alone.
+impl<A: Values> Values for (A,) {
+    ghost trees = { λ x m. A.trees x.0 m };
+
+    ghost writes = { λ x m. A.writes x.0 m };
+
+    fn encoded_len(&self, mode: Mode) -> Result<usize, EncodeError> {
+        self.0.encoded_len(mode)
+    }
+
+    fn write_encoded<W: Write>(&self, mode: Mode, target: &mut W) -> Result<(), EncodeError> {
+        self.0.write_encoded(mode, target)
+    }
+
+    ghost spelled = { λ x m. A.spelled x.0 m };
+
+    ghost one_text = { λ x m. A.one_text x.0 m };
+}
+
 /// Values, and others behind them.
 impl<A: Values, B: Values> Values for (A, B) {
     ghost trees = { λ x m. AreBoth (A.trees x.0 m) (B.trees x.1 m) };

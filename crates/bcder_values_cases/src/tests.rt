@@ -3,6 +3,7 @@
 mod borrowed;
 mod integers;
 mod lists;
+mod walks;
 
 use bcder_tree::Mode;
 use bcder_values::PrimitiveContent;

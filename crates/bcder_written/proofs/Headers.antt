@@ -1,6 +1,5 @@
 -- Headers in the fewest octets.
-use Rattle.std.proofs.Common.{◌≡◌, ℕ, ◌+◌, Bool, List, ◌++◌, length, refl, sym, ap, ◌∙◌}
-use Rattle.std.proofs.lemmas.List.{length-append}
+use Rattle.std.proofs.Common.{◌≡◌, ℕ, Bool, List, ◌++◌, refl, ap, ◌∙◌}
 use Rattle.bcder_tree.specs.declared.length.Length.TheVariants.{Definite}
 use Rattle.bcder_tree.specs.Tags.{TagValue, IsTag}
 use Rattle.bcder_tree.specs.Octets.{IsIdentifier}
@@ -21,9 +20,3 @@ header_of i l tag is size text w = record {
   identifier_is = is;
   size_is = size;
 }
-
-pub header_length : {form : Bool} {t : TagValue} {n a b : ℕ} (header : List ℕ) (h : IsHeaderIn form t n header) → length h.identifier ≡ a → length h.size ≡ b → a + b + n ≡ length header + n
-header_length {n = n} {a = a} header h p q =
-    let whole : length header ≡ length h.identifier + length h.size = ap length h.whole ∙ length-append h.identifier h.size in
-    let first : length h.identifier + length h.size ≡ a + length h.size = ap (λ k. k + length h.size) p in
-    sym (ap (λ k. k + n) (whole ∙ first ∙ ap (λ k. a + k) q))

@@ -32,12 +32,12 @@ same_digits p q (a ∷ v) (b ∷ w) n vs ws e =
     (omega arith, cc)
 
 -- How far a number is from 0, or from -1.
-abbrev steps : ℤ → ℕ
+abbrev pub steps : ℤ → ℕ
 steps (pos n) = n
 steps (negsuc k) = k
 
 -- With octets behind the first, a number reaches so far,
-near : (a : ℕ) (v : List ℕ) (x : ℤ) → All (λ a. a < 256) (a ∷ v) → IsTwosComplement (a ∷ v) x → steps x < 128 * 256 ^ length v
+pub near : (a : ℕ) (v : List ℕ) (x : ℤ) → All (λ a. a < 256) (a ∷ v) → IsTwosComplement (a ∷ v) x → steps x < 128 * 256 ^ length v
 near a v (pos n) all is =
     let low : a < 128 = is.0 in
     let p : (0 * 256 + a + 1) * 256 ^ length v ≤ 128 * 256 ^ length v = mul-le-mul_right (256 ^ length v) (omega arith) in

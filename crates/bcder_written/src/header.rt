@@ -1,6 +1,8 @@
 //! What stands in front of contents.
 
 ghost use Rattle.std.specs.Prelude.{◌≡◌, ◌+◌, ◌^◌, ◌<◌, ◌≤◌, Bool, List, ℕ, length, IfOk, IfErr, OnOk};
+ghost use Rattle.bcder_tree.specs.Lengths.{SpellsEverywhere};
+ghost use Rattle.bcder_tree.specs.Octets.{IsIdentifier};
 ghost use Rattle.bcder_tree.specs.Tags.{IsTag};
 ghost use Rattle.bcder_written.specs.Headers.{IsHeaderIn, HeaderRefused};
 ghost use Rattle.bcder_written.specs.Writing.{HasLength, Wrote, TookFront};
@@ -30,7 +32,7 @@ pub fn header_len(tag: Tag, constructed: bool, content_len: usize) -> usize
 ///
 /// `TooLong` where these are more than 2^32 - 1.
 pub fn total_encoded_len(tag: Tag, content_len: usize) -> Result<usize, EncodeError>
-    ensures len { IfOk result (λ n. (form : Bool) (header : List ℕ) → IsHeaderIn form tag content_len header → n ≡ length header + content_len) }
+    ensures len { IfOk result (λ n. (form : Bool) (identifier size : List ℕ) → IsIdentifier identifier form tag → SpellsEverywhere (Length.Definite content_len) size → n ≡ length identifier + length size + content_len) }
     ensures few { IfOk result (λ n. content_len < 2 ^ 32) }
     ensures refused { IfErr result (λ e. (e ≡ too_long) × (2 ^ 32 ≤ content_len)) }
 {

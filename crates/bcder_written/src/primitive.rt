@@ -5,6 +5,7 @@ ghost use Rattle.bcder_tree.specs.declared.mode.Mode.{Mode as ModeValue};
 ghost use Rattle.bcder_tree.specs.Tags.{TagValue, IsTag};
 ghost use Rattle.bcder_written.specs.Contents.{NoContent, ContentRefused, BytesRefused};
 ghost use Rattle.bcder_written.specs.Writing.{HasLength, Wrote};
+ghost use Rattle.bcder_written.specs.declared.error.EncodeError.TheVariants.{Memory as no_memory};
 
 use crate::EncodeError;
 use bcder_tree::{Mode, Tag};
@@ -88,12 +89,13 @@ pub trait PrimitiveContent {
         Primitive { tag, content: self }
     }
 
-    /// The content octets, in bytes of their own.
+    /// The content octets, in bytes of their own. Memory is wanted only where there are such octets.
     final fn to_encoded_bytes(&self, alloc: Global, mode: Mode) -> Result<Bytes, EncodeError>
     where
         Self: Sized,
         ensures encoded { IfOk result (content self.now mode) }
         ensures refused { IfErr result (BytesRefused mode (content self.now mode)) }
+        ensures memory { IfErr result (λ e. e ≡ no_memory → (n : ℕ) × HasLength (content self.now mode) n × (n < 2 ^ 32)) }
     {
         let len = self.encoded_len(mode)?;
         let Ok(mut octets) = Vec::with_capacity(alloc, len) else {
@@ -142,7 +144,9 @@ impl<P: PrimitiveContent> PrimitiveContent for &P {
 /// A primitive value (X.690 8.1.2.5).
 #[derive(Drop)]
 pub struct Primitive<P> {
+    /// The tag of the value.
     pub tag: Tag,
+    /// Of what its content octets are written.
     pub content: P,
     ghost is_tag: { IsTag tag },
 }

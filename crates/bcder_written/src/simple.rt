@@ -1,11 +1,11 @@
 //! BOOLEANs, NULL and octets, as the content of primitive values.
 
 ghost use Rattle.std.proofs.Common.{rules};
-ghost use Rattle.std.specs.Prelude.{◌≡◌};
+ghost use Rattle.std.specs.Prelude.{◌≡◌, ◌<◌, ◌≤◌, false, IsTrue};
 ghost use Rattle.bcder_tree.specs.declared.mode.Mode.TheVariants.{Der};
 ghost use Rattle.bcder_tree.specs.Tags.{universal};
 ghost use Rattle.bcder_primitive.specs.Values.{IsBoolean, IsNull, AnyOctets};
-ghost use Rattle.bcder_written.specs.Simple.{one_boolean, one_null, one_string};
+ghost use Rattle.bcder_written.specs.Simple.{IsOnePiece, one_boolean, one_null, one_piece, one_string};
 
 use crate::header::MAX_LEN;
 use crate::write::write_octets;
@@ -63,14 +63,25 @@ impl PrimitiveContent for () {
     ghost one_content = { λ x m. one_null x };
 }
 
-/// The octets of an OCTET STRING (X.690 8.7), as they are.
+// The most octets of a string that CER has in one piece (X.690 9.2).
+const MAX_PIECE: usize = 1000;
+
+// Whether so many octets have no primitive form as a string in CER (X.690 9.2).
+fn is_cut(mode: Mode, len: usize) -> bool
+    ensures long { IsTrue result → (mode ≡ Mode.Cer) × (1000 < len) }
+    ensures short { result ≡ false → mode ≡ Mode.Cer → len ≤ 1000 }
+{
+    mode.is_cer() && len > MAX_PIECE
+}
+
+/// The octets of an OCTET STRING (X.690 8.7), in one piece.
 ///
-/// They are primitive in CER, too, where more than 1000 octets should be constructed (9.2). `TooLong` where
+/// `CerUnsupported` where they are more than 1000 in CER, which has them in segments (9.2); `TooLong` where
 /// they are more than 2^32 - 1.
 impl PrimitiveContent for &[u8] {
     ghost type_tag = { universal 4 };
 
-    ghost content = { λ x m content. AnyOctets content x.now };
+    ghost content = { λ x m content. IsOnePiece m content x.now };
 
     fn tag() -> Tag
         ensures { result ≡ universal 4 }
@@ -78,16 +89,22 @@ impl PrimitiveContent for &[u8] {
         Tag::OCTET_STRING
     }
 
-    fn encoded_len(&self, _mode: Mode) -> Result<usize, EncodeError> {
+    fn encoded_len(&self, mode: Mode) -> Result<usize, EncodeError> {
         let octets = *self;
+        if is_cut(mode, octets.len()) {
+            return Err(EncodeError::CerUnsupported);
+        }
         if octets.len() > MAX_LEN {
             return Err(EncodeError::TooLong);
         }
         Ok(octets.len())
     }
 
-    fn write_encoded<W: Write>(&self, _mode: Mode, target: &mut W) -> Result<(), EncodeError> {
+    fn write_encoded<W: Write>(&self, mode: Mode, target: &mut W) -> Result<(), EncodeError> {
         let octets = *self;
+        if is_cut(mode, octets.len()) {
+            return Err(EncodeError::CerUnsupported);
+        }
         if octets.len() > MAX_LEN {
             return Err(EncodeError::TooLong);
         }
@@ -96,14 +113,17 @@ impl PrimitiveContent for &[u8] {
 
     ghost is_tag = { Prim.search rules };
 
-    ghost one_content = { λ x m. one_string x.now };
+    ghost one_content = { λ x m. one_piece m x.now };
 }
 
-/// The octets of an OCTET STRING (X.690 8.7), as they are, of what lends a slice of them.
+/// The content octets of a primitive value as they are, of what lends a slice of them.
+///
+/// No rule of a type is applied to them, so types write theirs by it. With its own tag it is an OCTET STRING, which
+/// CER has in one piece up to 1000 octets alone (X.690 9.2): `&[u8]` refuses more, and octet strings are cut.
 #[derive(Clone, Copy, Debug, PartialEq, Eq, Drop)]
 pub struct Octets<T>(pub T);
 
-/// As for a slice.
+/// `TooLong` where they are more than 2^32 - 1.
 impl<T: AsSlice<u8>> PrimitiveContent for Octets<T> {
     ghost type_tag = { universal 4 };
 

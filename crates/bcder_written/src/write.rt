@@ -1,6 +1,6 @@
 //! Octets that are written whole.
 
-ghost use Rattle.std.specs.Prelude.{◌≡◌, ◌≤◌, length, take, IfOk, IfErr, OnOk};
+ghost use Rattle.std.specs.Prelude.{◌≡◌, ◌≤◌, length, take, IfOk, IfErr, OnOk, OnErr};
 ghost use Rattle.std.specs.Io.KnownBytes.{Appends, Keeps};
 ghost use Rattle.bcder_written.specs.Writing.{TookFront};
 ghost use Rattle.bcder_written.specs.declared.error.EncodeError.TheVariants.{Write as refusal};
@@ -26,18 +26,21 @@ fn write_some<W: Write>(target: &mut W, octets: &[u8]) -> Result<usize, EncodeEr
     }
 }
 
-/// Writes all the octets; a write that was interrupted is tried again.
+/// Writes all the octets; a write that was interrupted is tried again. Where there are none nothing is refused.
 pub fn write_octets<W: Write>(target: &mut W, octets: &[u8]) -> Result<(), EncodeError>
     ensures written { OnOk result (Appends (W.contents target.old) (W.contents target.new) octets.now) }
     ensures refused { IfErr result (λ e. (e ≡ refusal) × TookFront (λ text. text ≡ octets.now) (W.contents target.old) (W.contents target.new)) }
+    ensures some { OnErr result (1 ≤ length octets.now) }
 {
     let mut rest = octets;
-    for _ in 0..usize::MAX {
-        if rest.is_empty() {
-            return Ok(());
+    let mut turns = 0;
+    while !rest.is_empty() {
+        if turns == usize::MAX {
+            return Err(EncodeError::Write);
         }
+        turns += 1;
         let count = write_some(target, rest)?;
         rest = &rest[count..];
     }
-    Err(EncodeError::Write)
+    Ok(())
 }

@@ -12,9 +12,10 @@
 //! | [`chain`] | blocks of any kind, and chains of them |
 //! | [`choice`] | what a certificate says of one kind: nothing, `inherit`, or a set |
 //! | [`asres`] | AS resources: blocks, sets and claims, read and written |
-//! | [`ipres`] | IP resources: blocks, sets and claims, read, and written a family at a time |
+//! | [`ipres`] | IP resources: blocks, sets and claims, read and written |
 //! | [`set`] | sets of all three kinds, and what two of them differ in |
 //! | [`overclaim`] | what becomes of numbers that the issuer doesn't hold, and the object identifiers that tell it |
+//! | [`laws`] | what follows for sets and their encodings, as functions that do nothing |
 //!
 //! What is at the root is what `rpki::repository::resources` has there: [`Prefix`] is the one that clears host bits,
 //! and `addr::Prefix` refuses them.
@@ -29,15 +30,14 @@
 //! - A refused claim is a [`ClaimError`], with the numbers outside. `verify_path` is new: it folds `verify_issued`
 //!   along a path.
 //! - AS numbers, blocks, sets and resources are values that can be written, and `encode` answers them as they are.
-//!   Both families of IP resources are read together, as an [`IpFamilies`], of which at least one is there.
+//!   Both families of IP resources are read together, as an [`IpFamilies`], of which at least one is there, and
+//!   written together, as that or by [`IpResources::encode_families`].
 //! - The identifiers of [`Overclaim`] are calls of the trait [`OverclaimIds`].
 //! - [`Ipv4Blocks`] has whole IPv4 addresses alone: `from_blocks` has that as a condition on the caller.
 //! - A [`ResourceSet`] is made of a certificate's resources by `from_resources`. A [`ResourceDiff`] lends what was
 //!   added and what was removed.
 //! - `SmallAsnSet::from_iter` keeps a number that comes twice once. What is printed of an IPv6 address that maps an
 //!   IPv4 one is read as the same address again.
-//!
-//! Both families of IP resources aren't written as one value yet.
 #![tactic(auto)]
 
 pub mod addr;
@@ -46,6 +46,7 @@ pub mod asres;
 pub mod chain;
 pub mod choice;
 pub mod ipres;
+pub mod laws;
 pub mod overclaim;
 pub mod set;
 
@@ -57,9 +58,9 @@ pub use asres::{
 pub use choice::{InheritedResources, ResourcesChoice};
 pub use ipres::{
     Addr, AddressFamily, AddressRange, DisplayV4Block, DisplayV6Block, InheritedIpResources,
-    IpBlock, IpBlocks, IpBlocksBuilder, IpBlocksForFamily, IpFamilies, IpResources,
-    IpResourcesBuilder, Ipv4Block, Ipv4Blocks, Ipv6Block, Ipv6Blocks, OverclaimedIpResources,
-    OverclaimedIpv4Resources, OverclaimedIpv6Resources, Prefix,
+    IpBlock, IpBlocks, IpBlocksBuilder, IpBlocksForFamily, IpFamilies, IpFamiliesEncoder,
+    IpResources, IpResourcesBuilder, Ipv4Block, Ipv4Blocks, Ipv6Block, Ipv6Blocks,
+    OverclaimedIpResources, OverclaimedIpv4Resources, OverclaimedIpv6Resources, Prefix,
 };
 pub use overclaim::{ClaimError, Overclaim, OverclaimIds};
 pub use set::{InheritError, ResourceDiff, ResourceSet};

@@ -1,29 +1,33 @@
 -- What is written of AS resources means just these.
-use Rattle.std.proofs.Common.{◌≡◌, ◌≢◌, ℕ, List, refl, sym, subst, inl, inr}
-use Rattle.bcder_tree.specs.Tags.{TagValue, universal, context}
-use Rattle.bcder_tree.specs.Tree.{Tree, Trees, primitive, constructed, none, more}
+use Rattle.std.proofs.Common.{◌≡◌, ◌≢◌, List, refl, sym, subst, inl, inr, arith}
+use Rattle.bcder_tree.specs.Tags.{universal, context}
+use Rattle.bcder_tree.specs.Tree.{Tree, Trees, primitive, constructed, none}
 use Rattle.bcder_primitive.specs.Values.{IsNull}
-use Rattle.bcder_content.specs.Grammar.{Inside, OctetsOf, OneOf, As, Then, Many, One, OneOctets}
+use Rattle.bcder_content.specs.Grammar.{Inside, OctetsOf, OneOf, As, Then, Many, One, OneAll, OneOctets}
+use Rattle.bcder_content.proofs.Choices.{universal_apart}
 use Rattle.bcder_content.proofs.Unique.{octets_one, inside_one, as_one, one_of_one, end_one, then_one, many_one}
 use Rattle.bcder_written.specs.Encoded.{IsPlain, IsWrapped}
 use Rattle.resources_chain.specs.Sets.{Run, InRuns, AreMaximal, IsRunsOf}
 use Rattle.resources_chain.specs.Claims.{Choice}
 use Rattle.resources_chain.specs.declared.choice.ResourcesChoice.TheVariants.{Missing, Inherit, Blocks}
 use Rattle.resources_chain.proofs.SetLemmas.{one_list_of}
-use Rattle.resources_as_block.specs.Encodings.{IsAsBlock}
 use Rattle.resources_as_block.proofs.Again.{IsOne, blocks_are, block_one}
-use Rattle.resources_as.specs.Encodings.{InheritsAs, IsAsSet, ListsAs, IsAsChoice, IsAsResources}
+use Rattle.resources_as.specs.Encodings.{AreBlocks, InheritsAs, IsAsSet, ListsAs, IsAsChoice, IsAsResources}
 use Rattle.resources_as.specs.Written.{AreAsBlocks, AreIdentifiers, AreAsResources, HasMaximal, MeansJust}
-use Rattle.resources_as.proofs.Reading.{inherit_tagged, list_tagged, null_is_no_sequence}
+use Rattle.resources_as.proofs.Reading.{inherit_tagged, list_tagged}
 
 set_is : (runs : List Run) (ts : Trees) → AreMaximal runs → IsWrapped (universal 16) (AreAsBlocks runs) ts → IsOne IsAsSet runs ts
 set_is runs ts m p = record {
   tree = constructed (universal 16) p.values;
   whole = p.whole;
   is = record {
-    runs = runs;
-    is = record { values = p.values; whole = refl; is = record { cases = blocks_are runs p.values m p.is } };
-    union = record { maximal = m; same = λ n. (λ i. i, λ i. i) };
+    values = p.values;
+    whole = refl;
+    is = record {
+      runs = runs;
+      are = record { cases = blocks_are runs p.values m p.is };
+      union = record { maximal = m; same = λ n. (λ i. i, λ i. i) };
+    };
   };
 }
 
@@ -64,15 +68,15 @@ identifiers_are P choice inner ts p =
 null_one : OneOctets IsNull
 null_one = record { one = λ content x y p q. refl }
 
-set_one : One IsAsSet
-set_one = record {
-  one = λ t x y p q.
-      let same : p.runs ≡ q.runs = (inside_one (many_one block_one)).one t p.runs q.runs p.is q.is in
+blocks_one : OneAll AreBlocks
+blocks_one = record {
+  one = λ ts x y p q.
+      let same : p.runs ≡ q.runs = (many_one block_one).one ts p.runs q.runs p.are q.are in
       one_list_of p.union (subst (λ (runs : List Run). IsRunsOf (InRuns runs) y) (sym same) q.union);
 }
 
 choice_one : One IsAsChoice
-choice_one = one_of_one inherit_tagged list_tagged null_is_no_sequence (as_one (octets_one null_one)) (as_one set_one)
+choice_one = one_of_one inherit_tagged list_tagged (universal_apart (λ e. omega arith)) (as_one (octets_one null_one)) (as_one (inside_one blocks_one))
 
 pub resources_one : One IsAsResources
 resources_one = as_one (inside_one (then_one (inside_one (then_one choice_one end_one)) end_one))

@@ -1,38 +1,33 @@
 -- What reading AS resources rests on: tags, one meaning of a value, and lists by their sets.
-use Rattle.std.proofs.Common.{◌≡◌, ℕ, List, Result, Ok, Err, refl, ap, arith}
-use Rattle.bcder_tree.specs.Tags.{TagValue, universal}
-use Rattle.bcder_tree.specs.Tree.{Tree}
-use Rattle.bcder_content.specs.Contents.{ValuesLeft, tag_of}
-use Rattle.bcder_content.specs.Exact.{Gives, Lacks, ReadsAs}
+use Rattle.std.proofs.Common.{◌≡◌, ℕ, List, Result, Ok, Err, ap, subst, sym}
+use Rattle.std.specs.Result.{IsErr, IsErrAnd}
+use Rattle.bcder_tree.specs.Tags.{universal}
+use Rattle.bcder_source.specs.Errors.{OnContent}
+use Rattle.bcder_content.specs.Contents.{ValuesLeft}
+use Rattle.bcder_content.specs.Exact.{GivesAll, LacksAll, ReadsAllAs, ReadsAs}
 use Rattle.bcder_source.specs.declared.error.DecodeError.{DecodeError}
-use Rattle.bcder_content.proofs.Choices.{as_gives, as_lacks}
 use Rattle.bcder_content.proofs.Taking.{weaker}
-use Rattle.bcder_content.specs.Grammar.{Inside, As, Many, Tagged}
-use Rattle.bcder_content.proofs.Unique.{octets_tagged, as_tagged}
+use Rattle.bcder_content.specs.Grammar.{As, Many, Tagged}
+use Rattle.bcder_content.proofs.Unique.{octets_tagged, as_tagged, inside_tagged}
 use Rattle.resources_chain.specs.Sets.{Run, InRuns, IsRunsOf}
 use Rattle.resources_as_block.specs.Encodings.{IsAsBlock}
-use Rattle.resources_as.specs.Encodings.{InheritsAs, IsAsSet, ListsAs}
+use Rattle.resources_as.specs.Encodings.{AreBlocks, InheritsAs, ListsAs}
 
 pub inherit_tagged : Tagged (universal 5) InheritsAs
 inherit_tagged = as_tagged (octets_tagged _ _)
 
-set_tagged : Tagged (universal 16) IsAsSet
-set_tagged = record { tagged = λ t x p. ap tag_of p.is.whole }
-
 pub list_tagged : Tagged (universal 16) ListsAs
-list_tagged = as_tagged set_tagged
+list_tagged = as_tagged (inside_tagged _ _)
 
-pub null_is_no_sequence : universal 5 ≡ universal 16 → ⊥
-null_is_no_sequence e = let n : ◌≡◌ {A = ℕ} 5 16 = ap (λ (t : TagValue). t.number) e in omega arith
+-- Blocks mean their union.
+pub blocks_stop : {C E : Type 0} (f : C → List Run) (v w : ValuesLeft) (r : Result C (DecodeError E)) (e : DecodeError E) → IsErr r × IsErrAnd r (λ x. x ≡ e) → OnContent e (LacksAll (Many IsAsBlock) v) → ReadsAllAs f AreBlocks v r w
+blocks_stop f v w (Ok y) e a l = absurd a.1
+blocks_stop {E = E} f v w (Err x) e a l = subst (λ (z : DecodeError E). OnContent z (LacksAll AreBlocks v)) (sym a.1) (weaker e (λ lacks. record { none = λ ts set p whole. lacks.none ts p.runs p.are whole }) l)
 
--- A list of blocks, by their union.
-pub set_gives : {now new : ValuesLeft} {runs set : List Run} → Gives (Inside (universal 16) (Many IsAsBlock)) now runs new → IsRunsOf (InRuns runs) set → Gives IsAsSet now set new
-set_gives {runs = runs} g u = record { tree = g.tree; is = record { runs = runs; is = g.is; union = u }; took = g.took }
-
-pub set_lacks : {now : ValuesLeft} → Lacks (Inside (universal 16) (Many IsAsBlock)) now → Lacks IsAsSet now
-set_lacks l = record { none = λ t x p a. l.none t p.runs p.is a }
-
--- A reader of a value is one of what the value means.
-pub as_reads : {A B C E : Type 0} (f : A → B) (Q : Tree → B → Type 0) (h : B → C) (old new : ValuesLeft) (r : Result A (DecodeError E)) → ReadsAs f Q old r new → ReadsAs (λ x. h (f x)) (As Q h) old r new
-as_reads f Q h old new (Ok x) reads = as_gives h reads
-as_reads f Q h old new (Err e) reads = weaker e (as_lacks h) reads
+pub blocks_given : (runs : List Run) {v w : ValuesLeft} {set : List Run} → GivesAll (Many IsAsBlock) v runs w → IsRunsOf (InRuns runs) set → GivesAll AreBlocks v set w
+blocks_given runs g union = record {
+  trees = g.trees;
+  took = g.took;
+  is = record { runs = runs; are = g.is; union = union };
+  only = λ on. record { none = λ ts set p whole. (g.only on).none ts p.runs p.are whole };
+}

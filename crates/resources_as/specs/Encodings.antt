@@ -10,10 +10,13 @@ use Rattle.resources_chain.specs.declared.choice.ResourcesChoice.TheVariants.{In
 use Rattle.resources_as_block.specs.Encodings.{IsAsBlock}
 
 -- asIdsOrRanges SEQUENCE OF ASIdOrRange (3.2.3.4), in any order: they mean their union.
-pub record IsAsSet (t : Tree) (set : List Run) : Type 0 where
+pub record AreBlocks (ts : Trees) (set : List Run) : Type 0 where
   pub runs : List Run
-  pub is : Inside (universal 16) (Many IsAsBlock) t runs
+  pub are : Many IsAsBlock ts runs
   pub union : IsRunsOf (InRuns runs) set
+
+abbrev pub IsAsSet : Tree → List Run → Type 0
+IsAsSet = Inside (universal 16) AreBlocks
 
 abbrev pub lists : List Run → Choice
 lists set = Blocks set

@@ -5,7 +5,7 @@ ghost use Rattle.std.specs.Cmp.{partial_equiv_from_equiv};
 ghost use Rattle.std.specs.Iterator.{IsFinite, DrainsIf};
 ghost use Rattle.resources_chain.specs.Sets.{Run, InRuns, AreMaximal, IsRunsOf, InEither, InBoth, InFirstOnly, IsInside};
 ghost use Rattle.resources_chain.specs.Same.{runs_eq, runs_eq_equiv};
-ghost use Rattle.resources_chain.specs.declared.choice.ResourcesChoice.TheVariants.{Inherit};
+ghost use Rattle.resources_chain.specs.declared.choice.ResourcesChoice.TheVariants.{Missing, Inherit};
 ghost use Rattle.resources_chain.specs.declared.claims.Overclaim.TheVariants.{Refuse};
 ghost use Rattle.resources_chain.specs.Claims.{Lists, FitsIn, Kept, Refuses, HeldAlong, FitsAlong, RefusesAlong};
 ghost use Rattle.resources_as_block.specs.Blocks.{as_run};
@@ -172,6 +172,7 @@ impl AsBlocks {
     pub fn from_resources(resources: &AsResources) -> Result<Self, InheritedAsResources>
         ensures set { IfOk result (λ s. IsRunsOf (Lists resources.now) s) }
         ensures inherited { IsErrOf result InheritedAsResources.Inherited ↔ (resources.now ≡ Inherit) }
+        ensures present { OnErr result (¬ (resources.now ≡ Missing)) }
     {
         resources.to_blocks()
     }
@@ -188,6 +189,7 @@ impl AsBlocks {
         ensures fits { OnOk result (FitsIn mode resources.now (InRuns self.now)) }
         ensures held { IfOk result (λ held. IsRunsOf (Kept resources.now (InRuns self.now)) held) }
         ensures refused { IfErr result (Refuses mode resources.now (InRuns self.now)) }
+        ensures present { OnErr result (¬ (resources.now ≡ Missing)) }
     {
         match self.chain.verify_issued(alloc, resources, mode) {
             Ok(chain) => Ok(AsBlocks { chain }),
@@ -195,7 +197,8 @@ impl AsBlocks {
         }
     }
 
-    /// Whether an issuer that holds this set has all AS numbers that are listed, whatever the policy.
+    /// Whether an issuer that holds this set has all AS numbers that are listed, whatever the policy. Memory is wanted
+    /// only to tell those that it doesn't have.
     pub fn verify_covered(
         &self,
         alloc: Global,
@@ -203,6 +206,7 @@ impl AsBlocks {
     ) -> Result<(), ClaimError<OverclaimedAsResources>>
         ensures fits { OnOk result (FitsIn Refuse resources.now (InRuns self.now)) }
         ensures refused { IfErr result (Refuses Refuse resources.now (InRuns self.now)) }
+        ensures unfit { OnErr result (¬ (FitsIn Refuse resources.now (InRuns self.now))) }
     {
         match self.chain.verify_covered(alloc, resources) {
             Ok(()) => Ok(()),

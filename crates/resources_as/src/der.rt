@@ -1,12 +1,12 @@
 //! AS resources that are read from an encoding (RFC 3779 section 3.2.3).
 
-ghost use Rattle.std.specs.Prelude.{List};
+ghost use Rattle.std.specs.Prelude.{◌≡◌, List, true, OnErr};
 ghost use Rattle.bcder_tree.specs.Tags.{context};
 ghost use Rattle.bcder_content.specs.Exact.{ReadsAs, ReadsAllAs};
 ghost use Rattle.bcder_content.specs.Grammar.{Inside, Then, End, Many};
 ghost use Rattle.bcder_content.specs.Here.{here};
 ghost use Rattle.resources_as_block.specs.Encodings.{IsAsBlock};
-ghost use Rattle.resources_as.specs.Encodings.{AreAsIdentifiers, IsAsChoice, IsAsResources, IsAsSet, only_choice};
+ghost use Rattle.resources_as.specs.Encodings.{AreAsIdentifiers, AreBlocks, IsAsChoice, IsAsResources, IsAsSet, only_choice};
 
 use crate::blocks::{AsBlocks, AsBlocksBuilder};
 use crate::resources::AsResources;
@@ -29,24 +29,32 @@ fn take_blocks<S: Source>(
     Ok(blocks)
 }
 
+// The union of all blocks of a content.
+fn blocks_in<S: Source>(
+    alloc: Global,
+    cons: &mut Constructed<S>,
+) -> Result<AsBlocks, DecodeError<S::Error>>
+    ensures { ReadsAllAs (λ s. s) AreBlocks (here S.rest cons.old) result (here S.rest cons.new) }
+{
+    let blocks = take_blocks(alloc, cons)?;
+    let set = blocks.finalize(alloc)?;
+    Ok(set)
+}
+
 impl AsBlocks {
     /// The set of a SEQUENCE OF blocks, in any order (RFC 3779 section 3.2.3.4).
     pub fn take_from<S: Source>(
         alloc: Global,
         cons: &mut Constructed<S>,
     ) -> Result<AsBlocks, DecodeError<S::Error>>
-        ensures { ReadsAs (λ s. s) IsAsSet (here S.rest cons.old) result (here S.rest cons.new) }
+        ensures reads { ReadsAs (λ s. s) IsAsSet (here S.rest cons.old) result (here S.rest cons.new) }
+        ensures failed { OnErr result ((here S.rest cons.new).failed ≡ true) }
     {
-        let blocks = cons.take_sequence(
+        cons.take_sequence(
             |cons|
-                ensures { ReadsAllAs (λ b. b) (Many IsAsBlock) (here S.rest cons.old) result (here S.rest cons.new) }
-            {
-                let blocks = take_blocks(alloc, cons)?;
-                Ok(blocks)
-            },
-        )?;
-        let set = blocks.finalize(alloc)?;
-        Ok(set)
+                ensures { ReadsAllAs (λ s. s) AreBlocks (here S.rest cons.old) result (here S.rest cons.new) }
+            { blocks_in(alloc, cons) },
+        )
     }
 }
 
@@ -75,7 +83,8 @@ impl AsResources {
         alloc: Global,
         cons: &mut Constructed<S>,
     ) -> Result<AsResources, DecodeError<S::Error>>
-        ensures { ReadsAs (λ r. r) IsAsResources (here S.rest cons.old) result (here S.rest cons.new) }
+        ensures reads { ReadsAs (λ r. r) IsAsResources (here S.rest cons.old) result (here S.rest cons.new) }
+        ensures failed { OnErr result ((here S.rest cons.new).failed ≡ true) }
     {
         cons.take_sequence(
             |cons|

@@ -44,7 +44,7 @@ impl AsResources {
         }
     }
 
-    /// No AS numbers are mentioned.
+    /// No AS numbers are mentioned (RFC 3779 section 3.2.3).
     pub fn missing() -> Self
         ensures { result ≡ Missing }
     {
@@ -94,6 +94,7 @@ impl AsResources {
     pub fn to_blocks(&self) -> Result<AsBlocks, InheritedAsResources>
         ensures set { IfOk result (λ s. IsRunsOf (Lists self.now) s) }
         ensures inherited { IsErrOf result InheritedAsResources.Inherited ↔ (self.now ≡ Inherit) }
+        ensures present { OnErr result (¬ (self.now ≡ Missing)) }
     {
         match &self.choice {
             ResourcesChoice::Missing => Ok(AsBlocks::empty()),
@@ -229,9 +230,10 @@ impl AsResourcesBuilder {
         }
     }
 
-    /// The resources.
+    /// The resources. Memory is wanted only for a list.
     pub fn finalize(self, alloc: Global) -> Result<AsResources, AllocError>
-        ensures { IfOk result (λ resources. IsChoiceOf self resources) }
+        ensures choice { IfOk result (λ resources. IsChoiceOf self resources) }
+        ensures listed { OnErr result ((runs : List Run) × (self ≡ Blocks runs)) }
     {
         Ok(match self.choice {
             ResourcesChoice::Missing => AsResources::missing(),

@@ -34,7 +34,7 @@ impl Values for AsBlocks {
 }
 
 impl AsBlocks {
-    /// The set as values that can be written: its blocks, with no SEQUENCE around them.
+    /// The set as values that can be written: its blocks (RFC 3779 section 3.2.3.4), with no SEQUENCE around them.
     pub fn encode(self) -> AsBlocks
         ensures { result ≡ self }
     {
@@ -158,7 +158,7 @@ impl Values for AsResources {
 }
 
 impl AsResources {
-    /// The resources as values that can be written.
+    /// The resources as values that can be written (RFC 3779 section 3.2.3).
     pub fn encode(self) -> AsResources
         ensures { result ≡ self }
     {

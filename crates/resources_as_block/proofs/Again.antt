@@ -1,19 +1,19 @@
 -- What is written of blocks of AS numbers means just these.
-use Rattle.std.proofs.Common.{◌≡◌, ℕ, ◌≤◌, ◌==◌, Bool, true, false, List, [], ◌∷◌, refl, sym, ap, ◌∙◌, subst, inl, inr}
+use Rattle.std.proofs.Common.{◌≡◌, ℕ, ◌≤◌, ◌==◌, Bool, true, false, List, [], ◌∷◌, refl, sym, ap, ◌∙◌, inl, inr, arith}
 use Rattle.std.proofs.lemmas.Bool.{eqb-true}
-use Rattle.bcder_tree.specs.Tags.{TagValue, universal, context}
+use Rattle.bcder_tree.specs.Tags.{universal}
 use Rattle.bcder_tree.specs.Tree.{Tree, Trees, primitive, constructed, none, more}
-use Rattle.bcder_content.specs.Grammar.{Inside, OctetsOf, Such, OneOf, As, End, Then, Many, ManyCases, Tagged, One, OneAll}
-use Rattle.bcder_content.proofs.Unique.{octets_one, unsigned_one, inside_one, such_one, as_one, one_of_one, end_one, then_one, many_one}
+use Rattle.bcder_content.specs.Grammar.{Inside, OctetsOf, OneOf, As, End, Then, Many, ManyCases, Tagged, One, OneAll}
+use Rattle.bcder_content.proofs.Unique.{octets_one, unsigned_one, inside_one, as_one, one_of_one, end_one, then_one, many_one}
 use Rattle.bcder_written.specs.Encoded.{IsPlain, IsWrapped, AreBoth, joined}
+use Rattle.bcder_content.proofs.Choices.{universal_apart}
 use Rattle.bcder_values.specs.Lists.{AreAll}
-use Rattle.resources_chain.specs.Sets.{Run, InRuns, AreMaximal, IsRunsOf}
+use Rattle.resources_chain.specs.Sets.{Run, AreMaximal}
 use Rattle.resources_chain.specs.Same.{run_is}
-use Rattle.resources_chain.proofs.SetLemmas.{one_list_of}
 use Rattle.resources_asn.specs.Encodings.{IsAsId}
-use Rattle.resources_as_block.specs.Encodings.{Ends, InOrder, AreEnds, IsAsRange, IsAsBlock, alone, from_to}
+use Rattle.resources_as_block.specs.Encodings.{Ends, AreEnds, IsAsRange, IsAsBlock, alone, from_to}
 use Rattle.resources_as_block.specs.Written.{AreAsId, AreAsRange, AreIdOrRange, AreAsBlock}
-use Rattle.resources_as_block.proofs.Reading.{id_tagged, range_tagged, id_is_no_sequence, ends_one}
+use Rattle.resources_as_block.proofs.Reading.{id_tagged, range_tagged, ordered_one}
 
 -- One value of the grammar with that meaning.
 pub record IsOne {A : Type 0} (Q : Tree → A → Type 0) (x : A) (ts : Trees) : Type 0 where
@@ -43,7 +43,7 @@ range_is r ts order p = record {
   whole = p.whole;
   is = record {
     x = (r.first, (r.last, tt));
-    is = record { is = record { values = p.values; whole = refl; is = ends_are r p.values p.is }; meets = order };
+    is = record { values = p.values; whole = refl; is = record { are = ends_are r p.values p.is; ordered = order } };
     means = refl;
   };
 }
@@ -68,4 +68,4 @@ blocks_are (r ∷ runs) ts m p =
 
 -- A block has one meaning.
 pub block_one : One IsAsBlock
-block_one = one_of_one id_tagged range_tagged id_is_no_sequence (as_one (octets_one unsigned_one)) (as_one (such_one ends_one))
+block_one = one_of_one id_tagged range_tagged (universal_apart (λ e. omega arith)) (as_one (octets_one unsigned_one)) (as_one (inside_one ordered_one))

@@ -1,30 +1,54 @@
 -- What reading blocks of AS numbers rests on: tags, and one meaning of a value.
-use Rattle.std.proofs.Common.{◌≡◌, ℕ, ap, arith}
+use Rattle.std.proofs.Common.{◌≡◌, ◌≤◌, ℕ, Result, Ok, Err, ap, arith, subst, sym}
+use Rattle.std.specs.Result.{IsErr, IsErrAnd}
 use Rattle.bcder_tree.specs.Tags.{TagValue, universal}
-use Rattle.bcder_content.specs.Contents.{ValuesLeft}
-use Rattle.bcder_content.specs.Grammar.{Inside, As, Tagged, One}
+use Rattle.bcder_tree.specs.Tree.{Trees}
+use Rattle.bcder_source.specs.Errors.{OnContent}
+use Rattle.bcder_source.specs.declared.error.DecodeError.{DecodeError}
+use Rattle.bcder_content.specs.Contents.{ValuesLeft, Whole}
+use Rattle.bcder_content.specs.Exact.{GivesAll, LacksAll, ReadsAllAs}
+use Rattle.bcder_content.specs.Grammar.{As, OneAll, Tagged}
 use Rattle.bcder_content.specs.Perhaps.{NoneNext}
 use Rattle.bcder_content.proofs.Choices.{as_lacks}
-use Rattle.bcder_content.proofs.Unique.{octets_tagged, inside_tagged, such_tagged, as_tagged, octets_one, unsigned_one, inside_one, then_one, end_one}
+use Rattle.bcder_content.proofs.Taking.{on_content, weaker}
+use Rattle.bcder_content.proofs.Took.{one_whole}
+use Rattle.bcder_content.proofs.Unique.{octets_tagged, inside_tagged, as_tagged, octets_one, unsigned_one, then_one, end_one}
 use Rattle.resources_asn.specs.Encodings.{IsAsId, whichever}
-use Rattle.resources_as_block.specs.Encodings.{AreEnds, Ends, IsAsRange, IsAsBlock, IsAnyAsBlock, alone, from_to}
+use Rattle.resources_as_block.specs.Encodings.{AreEnds, AreOrdered, Ends, IsAsRange, IsAsBlock, IsAnyAsBlock, alone, from_to}
 
 pub id_tagged : Tagged (universal 2) (As IsAsId alone)
 id_tagged = as_tagged (octets_tagged _ _)
 
 pub range_tagged : Tagged (universal 16) (As IsAsRange from_to)
-range_tagged = as_tagged (such_tagged (inside_tagged _ _))
-
-pub id_is_no_sequence : universal 2 ≡ universal 16 → ⊥
-id_is_no_sequence e = let n : ◌≡◌ {A = ℕ} 2 16 = ap (λ (t : TagValue). t.number) e in omega arith
+range_tagged = as_tagged (inside_tagged _ _)
 
 -- Two numbers are read in one way.
-pub ends_one : One (Inside (universal 16) AreEnds)
-ends_one = inside_one (then_one (octets_one unsigned_one) (then_one (octets_one unsigned_one) end_one))
+ends_one : OneAll AreEnds
+ends_one = then_one (octets_one unsigned_one) (then_one (octets_one unsigned_one) end_one)
+
+pub ordered_one : OneAll AreOrdered
+ordered_one = record { one = λ ts x y p q. ends_one.one ts x y p.are q.are }
+
+-- Two numbers that are read are tested for their order.
+pub ordered_stop : {C E : Type 0} (f : C → Ends) (v w : ValuesLeft) (r : Result C (DecodeError E)) (e : DecodeError E) → IsErr r × IsErrAnd r (λ x. x ≡ e) → OnContent e (LacksAll AreEnds v) → ReadsAllAs f AreOrdered v r w
+ordered_stop f v w (Ok y) e a l = absurd a.1
+ordered_stop {E = E} f v w (Err x) e a l = subst (λ (z : DecodeError E). OnContent z (LacksAll AreOrdered v)) (sym a.1) (weaker e (λ lacks. record { none = λ ts y p whole. lacks.none ts y p.are whole }) l)
+
+pub ordered_given : {v w : ValuesLeft} (x y : Ends) → x ≡ y → GivesAll AreEnds v x w → x.0 ≤ x.1.0 → GivesAll AreOrdered v y w
+ordered_given {v} {w} x y same g order = subst (λ (z : Ends). GivesAll AreOrdered v z w) same (record {
+  trees = g.trees;
+  took = g.took;
+  is = record { are = g.is; ordered = order };
+  only = λ on. record { none = λ ts z p whole. (g.only on).none ts z p.are whole };
+})
+
+pub ordered_unfit : {E : Type 0} (e : DecodeError E) {v w : ValuesLeft} (x : Ends) → GivesAll AreEnds v x w → (x.0 ≤ x.1.0 → ⊥) → OnContent e (LacksAll AreOrdered v)
+ordered_unfit e {v} {w} x g turned = on_content e (record {
+  none = λ ts z p whole. (g.only (λ ended.
+      let all : Whole v g.trees = record { behind = w; took = g.took; ended = ended } in
+      let same : z ≡ x = ends_one.one ts z x p.are (subst (λ (us : Trees). AreEnds us x) (one_whole g.trees ts all whole) g.is) in
+      turned (subst (λ (u : Ends). u.0 ≤ u.1.0) same p.ordered))).none ts z p.are whole;
+})
 
 pub same_ends : {a b c d : ℕ} → c ≡ a → d ≡ b → ◌≡◌ {A = Ends} (a, (b, tt)) (c, (d, tt))
 same_ends e f = cc
-
--- Where no block is next, none is, whichever it may be.
-pub none_of_any : (old new : ValuesLeft) → (new ≡ old) × NoneNext IsAsBlock old → (new ≡ old) × NoneNext IsAnyAsBlock old
-none_of_any old new p = (p.0, record { sound = p.1.sound; lacks = as_lacks whichever p.1.lacks })

@@ -2,7 +2,7 @@
 use Rattle.std.specs.Prelude.{ℕ, ◌≤◌}
 use Rattle.bcder_tree.specs.Tags.{universal}
 use Rattle.bcder_tree.specs.Tree.{Tree, Trees}
-use Rattle.bcder_content.specs.Grammar.{Inside, Such, OneOf, As, End, Then}
+use Rattle.bcder_content.specs.Grammar.{Inside, OneOf, As, End, Then}
 use Rattle.resources_chain.specs.Sets.{Run}
 use Rattle.resources_asn.specs.Encodings.{IsAsId, whichever}
 
@@ -13,17 +13,18 @@ alone n = record { first = n; last = n }
 abbrev pub Ends : Type 0
 Ends = ℕ × (ℕ × Unit {0})
 
-abbrev pub InOrder : Ends → Type 0
-InOrder ends = ends.0 ≤ ends.1.0
-
 abbrev pub from_to : Ends → Run
 from_to ends = record { first = ends.0; last = ends.1.0 }
 
 abbrev pub AreEnds : Trees → Ends → Type 0
 AreEnds = Then IsAsId (Then IsAsId End)
 
+pub record AreOrdered (ts : Trees) (ends : Ends) : Type 0 where
+  pub are : AreEnds ts ends
+  pub ordered : ends.0 ≤ ends.1.0
+
 abbrev pub IsAsRange : Tree → Ends → Type 0
-IsAsRange = Such (Inside (universal 16) AreEnds) InOrder
+IsAsRange = Inside (universal 16) AreOrdered
 
 -- ASIdOrRange ::= CHOICE { id ASId, range ASRange } (3.2.3.5).
 abbrev pub IsAsBlock : Tree → Run → Type 0

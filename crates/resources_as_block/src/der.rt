@@ -1,11 +1,13 @@
 //! Blocks of AS numbers that are read from an encoding (RFC 3779 section 3.2.3.5).
 
+ghost use Rattle.std.specs.Prelude.{◌≡◌, ◌≢◌, true, IfErr, OnErr};
 ghost use Rattle.bcder_tree.specs.Tags.{universal};
+ghost use Rattle.bcder_source.specs.declared.error.DecodeError.TheVariants.{Memory};
 ghost use Rattle.bcder_content.specs.Exact.{ReadsOptAs, ReadsAllAs};
 ghost use Rattle.bcder_content.specs.Here.{here};
 ghost use Rattle.bcder_content.specs.Perhaps.{ReadsIfAs};
 ghost use Rattle.resources_as_block.specs.Blocks.{as_run};
-ghost use Rattle.resources_as_block.specs.Encodings.{AreEnds, IsAsBlock, IsAsRange, IsAnyAsBlock};
+ghost use Rattle.resources_as_block.specs.Encodings.{AreEnds, AreOrdered, IsAsBlock, IsAsRange, IsAnyAsBlock};
 ghost use Rattle.resources_as_block.specs.Reading.{bounds_ends, range_ends};
 
 use crate::block::AsBlock;
@@ -21,39 +23,55 @@ struct Bounds {
     max: u32,
 }
 
-// A range, if a SEQUENCE is next.
-fn take_opt_range<S: Source>(
-    cons: &mut Constructed<S>,
-) -> Result<Option<AsRange>, DecodeError<S::Error>>
-    ensures { ReadsOptAs range_ends (universal 16) IsAsRange (here S.rest cons.old) result (here S.rest cons.new) }
+// The two numbers of a range.
+fn bounds_in<S: Source>(cons: &mut Constructed<S>) -> Result<Bounds, DecodeError<S::Error>>
+    ensures reads { ReadsAllAs bounds_ends AreEnds (here S.rest cons.old) result (here S.rest cons.new) }
+    ensures no_memory { IfErr result (λ e. e ≢ Memory) }
 {
-    let bounds = cons.take_opt_sequence(
-        |cons|
-            ensures { ReadsAllAs bounds_ends AreEnds (here S.rest cons.old) result (here S.rest cons.new) }
-        {
-            let min = cons.take_u32()?;
-            let max = cons.take_u32()?;
-            Ok(Bounds { min, max })
-        },
-    )?;
-    let Some(bounds) = bounds else {
-        return Ok(None);
-    };
+    let min = cons.take_u32()?;
+    let max = cons.take_u32()?;
+    Ok(Bounds { min, max })
+}
+
+// The range of the content of a SEQUENCE.
+fn range_in<S: Source>(cons: &mut Constructed<S>) -> Result<AsRange, DecodeError<S::Error>>
+    ensures reads { ReadsAllAs range_ends AreOrdered (here S.rest cons.old) result (here S.rest cons.new) }
+    ensures no_memory { IfErr result (λ e. e ≢ Memory) }
+{
+    let bounds = bounds_in(cons)?;
     if bounds.max < bounds.min {
         return Err(cons.content_err(ContentError::from_static(
             "an AS range that ends before it begins",
         )));
     }
-    Ok(Some(AsRange::new(Asn::from_u32(bounds.min), Asn::from_u32(bounds.max))))
+    Ok(AsRange::new(Asn::from_u32(bounds.min), Asn::from_u32(bounds.max)))
+}
+
+// A range, if a SEQUENCE is next.
+fn take_opt_range<S: Source>(
+    cons: &mut Constructed<S>,
+) -> Result<Option<AsRange>, DecodeError<S::Error>>
+    ensures reads { ReadsOptAs range_ends (universal 16) IsAsRange (here S.rest cons.old) result (here S.rest cons.new) }
+    ensures failed { OnErr result ((here S.rest cons.new).failed ≡ true) }
+    ensures no_memory { IfErr result (λ e. e ≢ Memory) }
+{
+    cons.take_opt_sequence(
+        |cons|
+            ensures reads { ReadsAllAs range_ends AreOrdered (here S.rest cons.old) result (here S.rest cons.new) }
+            ensures no_memory { IfErr result (λ e. e ≢ Memory) }
+        { range_in(cons) },
+    )
 }
 
 impl AsBlock {
-    /// A number or a range, if a value is next that may be one: an INTEGER or a SEQUENCE. Where another is next,
-    /// nothing is read.
+    /// A number or a range (RFC 3779 section 3.2.3.5), if a value is next that may be one: an INTEGER or a SEQUENCE.
+    /// Where another is next, nothing is read.
     pub fn take_opt_from<S: Source>(
         cons: &mut Constructed<S>,
     ) -> Result<Option<AsBlock>, DecodeError<S::Error>>
-        ensures { ReadsIfAs as_run IsAsBlock (here S.rest cons.old) result (here S.rest cons.new) }
+        ensures reads { ReadsIfAs as_run IsAsBlock (here S.rest cons.old) result (here S.rest cons.new) }
+        ensures failed { OnErr result ((here S.rest cons.new).failed ≡ true) }
+        ensures no_memory { IfErr result (λ e. e ≢ Memory) }
     {
         let id = cons.take_opt_u32()?;
         if let Some(id) = id {
@@ -70,7 +88,9 @@ impl AsBlock {
     pub fn skip_opt_in<S: Source>(
         cons: &mut Constructed<S>,
     ) -> Result<Option<()>, DecodeError<S::Error>>
-        ensures { ReadsIfAs (λ x. x) IsAnyAsBlock (here S.rest cons.old) result (here S.rest cons.new) }
+        ensures reads { ReadsIfAs (λ x. x) IsAnyAsBlock (here S.rest cons.old) result (here S.rest cons.new) }
+        ensures failed { OnErr result ((here S.rest cons.new).failed ≡ true) }
+        ensures no_memory { IfErr result (λ e. e ≢ Memory) }
     {
         let block = AsBlock::take_opt_from(cons)?;
         match block {

@@ -18,7 +18,7 @@ use std::io::Write;
 
 /// Reading. A number over 32 bits is refused.
 impl Asn {
-    /// The AS number of an INTEGER.
+    /// The AS number of an INTEGER (RFC 3779 section 3.2.3.10).
     pub fn take_from<S: Source>(cons: &mut Constructed<S>) -> Result<Self, DecodeError<S::Error>>
         ensures reads { ReadsAs (λ a. a.value) IsAsId (here S.rest cons.old) result (here S.rest cons.new) }
         ensures failed { OnErr result ((here S.rest cons.new).failed ≡ true) }
@@ -30,7 +30,7 @@ impl Asn {
         }
     }
 
-    /// The AS number of an INTEGER, if one is next.
+    /// The AS number of an INTEGER, if one is next (RFC 3779 section 3.2.3.10).
     pub fn take_opt_from<S: Source>(
         cons: &mut Constructed<S>,
     ) -> Result<Option<Self>, DecodeError<S::Error>>
@@ -45,7 +45,7 @@ impl Asn {
         }
     }
 
-    /// Skips the INTEGER of an AS number.
+    /// Skips the INTEGER of an AS number (RFC 3779 section 3.2.3.10).
     pub fn skip_in<S: Source>(cons: &mut Constructed<S>) -> Result<(), DecodeError<S::Error>>
         ensures reads { ReadsAs (λ x. x) IsAnyAsId (here S.rest cons.old) result (here S.rest cons.new) }
         ensures failed { OnErr result ((here S.rest cons.new).failed ≡ true) }

@@ -4,9 +4,9 @@ use crate::claims::{Question, policy};
 use anyhow::{Result, anyhow};
 use resources_chain::{ClaimError, Overclaim};
 use resources_ip::{
-    AddressRange, IpBlock, IpBlocks, IpBlocksForFamily, IpResources, Ipv4Blocks, Ipv6Blocks,
-    OverclaimedIpResources,
+    AddressRange, IpBlock, IpBlocks, IpBlocksForFamily, IpResources, OverclaimedIpResources,
 };
+use resources_ip_family::{Ipv4Blocks, Ipv6Blocks};
 use std::alloc::Global;
 
 /// What a claim comes to.

@@ -22,12 +22,14 @@ pub enum Question {
     Resources,
     /// How many numbers there are; of addresses, whether they are whole IPv4 addresses.
     Count,
+    /// Whether a content goes on where the refusal of the block in front is forgotten.
+    Forgotten,
     /// The first numbers, one by one; of a range of addresses, its prefixes.
     Each,
     /// The resources that octets in hexadecimal digits encode in DER.
     Decode,
-    /// The octets in DER, in hexadecimal digits: of AS resources, and of the blocks that they list; or of a family of
-    /// addresses and the blocks of a set of it, one behind the other.
+    /// The octets in DER, in hexadecimal digits: of AS resources, and of the blocks that they list; of a family of
+    /// addresses and the blocks of a set of it, one behind the other; or of both families in one value.
     Encode,
     /// The family in front of octets, and what is behind it.
     Family,
@@ -49,6 +51,7 @@ impl Question {
             "path" => Some(Question::Path),
             "resources" => Some(Question::Resources),
             "count" => Some(Question::Count),
+            "forgotten" => Some(Question::Forgotten),
             "each" => Some(Question::Each),
             "decode" => Some(Question::Decode),
             "encode" => Some(Question::Encode),

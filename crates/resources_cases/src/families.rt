@@ -44,8 +44,8 @@ fn decode(alloc: Global, mode: Mode, digits: &str) -> Result<String> {
 }
 
 // The octets that are written of values.
-fn written<V: Values>(alloc: Global, text: &mut String, values: &V) -> Result<()> {
-    let captured = values.to_captured(alloc, Mode::Der)?;
+fn written<V: Values>(alloc: Global, text: &mut String, values: &V, mode: Mode) -> Result<()> {
+    let captured = values.to_captured(alloc, mode)?;
     text.push_str(hex::encode(alloc, captured.as_slice())?.as_str())?;
     Ok(())
 }
@@ -54,10 +54,38 @@ fn written<V: Values>(alloc: Global, text: &mut String, values: &V) -> Result<()
 fn encode(alloc: Global, listed: &str) -> Result<String> {
     let set = IpBlocks::from_str(alloc, listed)?;
     let mut text = String::new(alloc);
-    written(alloc, &mut text, &AddressFamily::of_text(listed).encode())?;
+    written(
+        alloc,
+        &mut text,
+        &AddressFamily::of_text(listed).encode(),
+        Mode::Der,
+    )?;
     for block in set.iter() {
-        written(alloc, &mut text, &block.encode())?;
+        written(alloc, &mut text, &block.encode(), Mode::Der)?;
     }
+    Ok(text)
+}
+
+// The resources of a word, or of a text of blocks.
+fn resources(alloc: Global, word: &str) -> Result<IpResources> {
+    match word {
+        "missing" => Ok(IpResources::missing()),
+        "inherit" => Ok(IpResources::inherit()),
+        listed => Ok(IpResources::blocks(IpBlocks::from_str(alloc, listed)?)),
+    }
+}
+
+// Both families as one value.
+fn encode_families(alloc: Global, mode: Mode, v4: &str, v6: &str) -> Result<String> {
+    let v4 = resources(alloc, v4)?;
+    let v6 = resources(alloc, v6)?;
+    let mut text = String::new(alloc);
+    written(
+        alloc,
+        &mut text,
+        &IpResources::encode_families(&v4, &v6),
+        mode,
+    )?;
     Ok(text)
 }
 
@@ -77,13 +105,16 @@ fn family(alloc: Global, digits: &str) -> Result<String> {
 }
 
 /// The answer to a question about octets in hexadecimal digits, in DER, or in the mode that a word names; or about
-/// blocks that are written.
+/// blocks, or resources of both families, that are written.
 pub fn answer(alloc: Global, question: Question, words: &[&str]) -> Result<String> {
     match (question, words) {
         (Question::Decode, [digits]) => decode(alloc, Mode::Der, *digits),
         (Question::Decode, [digits, "ber"]) => decode(alloc, Mode::Ber, *digits),
         (Question::Decode, [digits, "cer"]) => decode(alloc, Mode::Cer, *digits),
         (Question::Encode, [listed]) => encode(alloc, *listed),
+        (Question::Encode, [v4, v6]) => encode_families(alloc, Mode::Der, *v4, *v6),
+        (Question::Encode, [v4, v6, "ber"]) => encode_families(alloc, Mode::Ber, *v4, *v6),
+        (Question::Encode, [v4, v6, "cer"]) => encode_families(alloc, Mode::Cer, *v4, *v6),
         (Question::Family, [digits]) => family(alloc, *digits),
         _ => Err(anyhow!("octets alone are asked about")),
     }

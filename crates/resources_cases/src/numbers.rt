@@ -5,7 +5,7 @@ use anyhow::{Result, anyhow};
 use bcder_content::Decode;
 use bcder_source::{DecodeError, Mode};
 use bcder_values::Values;
-use resources_as::{AsBlocks, AsResources, OverclaimedAsResources};
+use resources_as::{AsBlock, AsBlocks, AsResources, OverclaimedAsResources};
 use resources_chain::{ClaimError, Overclaim};
 use std::alloc::Global;
 
@@ -84,6 +84,19 @@ fn decode(alloc: Global, digits: &str) -> Result<String> {
     }
 }
 
+// A content goes on behind a block, but not behind a refusal that is forgotten.
+fn forgotten(alloc: Global, digits: &str) -> Result<String> {
+    let octets = hex::decode(alloc, digits)?;
+    let read = Mode::Der.decode(octets.as_slice(), |cons| {
+        let _ = AsBlock::take_opt_from(cons);
+        Ok(())
+    });
+    match read {
+        Ok(()) => Ok(format!(in alloc; "goes on")?),
+        Err(_) => Err(anyhow!("the content failed")),
+    }
+}
+
 // The octets that are written of values.
 fn written<V: Values>(alloc: Global, values: &V) -> Result<String> {
     let captured = values.to_captured(alloc, Mode::Der)?;
@@ -135,6 +148,7 @@ fn of_one(alloc: Global, question: Question, text: &str) -> Result<String> {
         Question::Resources => return listed(alloc, &resources(alloc, text)?),
         Question::Decode => return decode(alloc, text),
         Question::Encode => return encode(alloc, text),
+        Question::Forgotten => return forgotten(alloc, text),
         _ => {}
     }
     let set = set(alloc, text)?;

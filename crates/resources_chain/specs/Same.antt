@@ -11,7 +11,7 @@ runs_eq [] (s ∷ ss) = false
 runs_eq (r ∷ rs) [] = false
 runs_eq (r ∷ rs) (s ∷ ss) = (r.first == s.first) && (r.last == s.last) && runs_eq rs ss
 
-all_three : (a b c : Bool) → IsTrue (a && b && c) ↔ (IsTrue a × IsTrue b × IsTrue c)
+pub all_three : (a b c : Bool) → IsTrue (a && b && c) ↔ (IsTrue a × IsTrue b × IsTrue c)
 all_three true true true = (λ t. (refl, refl, refl), λ t. refl)
 all_three true true false = (λ t. absurd cc, λ t. absurd (let h : false ≡ true = t.2 in cc))
 all_three true false c = (λ t. absurd cc, λ t. absurd (let h : false ≡ true = t.1 in cc))

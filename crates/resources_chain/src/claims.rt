@@ -1,9 +1,9 @@
 //! The claim rule: what a certificate holds by what it lists, its policy and what its issuer holds.
 
-ghost use Rattle.std.specs.Prelude.{◌≡◌, ◌↔◌, List, IfOk, IfErr, OnOk};
+ghost use Rattle.std.specs.Prelude.{◌≡◌, ◌↔◌, List, IfOk, IfErr, OnOk, OnErr};
 ghost use Rattle.resources_chain.specs.Sets.{Run, InRuns, InBoth, IsRunsOf, IsInside};
 ghost use Rattle.resources_chain.specs.declared.choice.ResourcesChoice.{ResourcesChoice};
-ghost use Rattle.resources_chain.specs.declared.choice.ResourcesChoice.TheVariants.{Blocks};
+ghost use Rattle.resources_chain.specs.declared.choice.ResourcesChoice.TheVariants.{Missing, Blocks};
 ghost use Rattle.resources_chain.specs.declared.claims.Overclaim.TheVariants.{Refuse};
 ghost use Rattle.resources_chain.specs.declared.claims.ClaimError.TheVariants.{Memory};
 ghost use Rattle.resources_chain.specs.Choices.{choice_map};
@@ -79,7 +79,7 @@ impl<B: Block> Claim for ResourcesChoice<SharedChain<B>> {
 impl<B: Block> SharedChain<B> {
     /// What a certificate holds that claims so much below this issuer: nothing where the kind is missing, the
     /// issuer's numbers where it is inherited, and otherwise what it lists and the issuer holds. Under `Refuse` it
-    /// may list nothing else.
+    /// may list nothing else (RFC 6487 section 7.2, RFC 8360 section 4.2).
     pub fn verify_issued<C: Claim<Block = B>>(
         &self,
         alloc: Global,
@@ -89,6 +89,7 @@ impl<B: Block> SharedChain<B> {
         ensures fits { OnOk result (FitsIn mode (C.choice claim.now) (InRuns self.now)) }
         ensures held { IfOk result (λ held. IsRunsOf (Kept (C.choice claim.now) (InRuns self.now)) held) }
         ensures refused { IfErr result (Refuses mode (C.choice claim.now) (InRuns self.now)) }
+        ensures present { OnErr result (¬ (C.choice claim.now ≡ Missing)) }
     {
         match claim.as_choice() {
             ResourcesChoice::Missing => Ok(SharedChain::empty()),
@@ -103,7 +104,8 @@ impl<B: Block> SharedChain<B> {
         }
     }
 
-    /// Whether this issuer holds all numbers that are listed, whatever the policy.
+    /// Whether this issuer holds all numbers that are listed (RFC 6487 section 7.2), whatever the policy. Memory is
+    /// wanted only to tell those that it doesn't hold.
     pub fn verify_covered<C: Claim<Block = B>>(
         &self,
         alloc: Global,
@@ -111,6 +113,7 @@ impl<B: Block> SharedChain<B> {
     ) -> Result<(), ClaimError<SharedChain<B>>>
         ensures fits { OnOk result (FitsIn Refuse (C.choice claim.now) (InRuns self.now)) }
         ensures refused { IfErr result (Refuses Refuse (C.choice claim.now) (InRuns self.now)) }
+        ensures unfit { OnErr result (¬ (FitsIn Refuse (C.choice claim.now) (InRuns self.now))) }
     {
         match claim.as_choice() {
             ResourcesChoice::Blocks(blocks) => self.verify_has(alloc, blocks),
@@ -119,7 +122,7 @@ impl<B: Block> SharedChain<B> {
     }
 
     /// What the last of these certificates holds, each of which is issued by the one before and the first by the
-    /// root, which holds this chain; or the first refusal.
+    /// root, which holds this chain; or the first refusal (RFC 6487 section 7.2, RFC 8360 section 4.2).
     pub fn verify_path<C: Claim<Block = B>>(
         &self,
         alloc: Global,
@@ -144,6 +147,7 @@ impl<B: Block> SharedChain<B> {
     ) -> Result<(), ClaimError<SharedChain<B>>>
         ensures fits { OnOk result (IsInside blocks.now self.now) }
         ensures refused { IfErr result (Refuses Refuse (Blocks blocks.now) (InRuns self.now)) }
+        ensures unfit { OnErr result (¬ (IsInside blocks.now self.now)) }
     {
         let (listed, held) = (blocks.as_chain(), self.as_chain());
         if listed.is_encompassed(&held) {

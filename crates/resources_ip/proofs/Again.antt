@@ -1,15 +1,15 @@
 -- What is written of IP resources is read again as the same.
-use Rattle.std.proofs.Common.{◌≡◌, ◌≢◌, List, [], ◌∷◌, inl, inr, refl, ap, ◌∙◌}
+use Rattle.std.proofs.Common.{◌≢◌, List, [], ◌∷◌, inl, inr, refl, ap, ◌∙◌}
 use Rattle.bcder_tree.specs.declared.mode.Mode.{Mode}
 use Rattle.bcder_tree.specs.Tags.{universal}
-use Rattle.bcder_tree.specs.Tree.{Tree, Trees, primitive, constructed, none, more}
-use Rattle.bcder_content.specs.Grammar.{Many, ManyCases}
+use Rattle.bcder_tree.specs.Tree.{Trees, primitive, constructed}
+use Rattle.bcder_content.specs.Grammar.{ManyCases}
 use Rattle.bcder_written.specs.Encoded.{joined}
 use Rattle.resources_chain.specs.Claims.{Choice}
 use Rattle.resources_chain.specs.Sets.{Run, AreMaximal}
 use Rattle.resources_chain.specs.declared.choice.ResourcesChoice.TheVariants.{Missing, Inherit, Blocks}
-use Rattle.resources_ip_block.specs.declared.addr.AddressFamily.{AddressFamily}
-use Rattle.resources_ip_block.specs.declared.addr.AddressFamily.TheVariants.{Ipv4, Ipv6}
+use Rattle.resources_ip_prefix.specs.declared.addr.AddressFamily.{AddressFamily}
+use Rattle.resources_ip_prefix.specs.declared.addr.AddressFamily.TheVariants.{Ipv4, Ipv6}
 use Rattle.resources_ip_block.specs.BlockEncodings.{IsBlock}
 use Rattle.resources_ip_block.specs.Written.{FitsRun}
 use Rattle.resources_ip_block.proofs.Again.{block_again}

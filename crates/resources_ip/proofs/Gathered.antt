@@ -1,9 +1,8 @@
 -- What reading blocks and choices rests on.
-use Rattle.std.proofs.Common.{◌≡◌, ℕ, List, [], ◌∷◌, ◌++◌, Result, Ok, Err, refl, ap, ◌∙◌, subst, arith}
+use Rattle.std.proofs.Common.{◌≡◌, ℕ, List, [], ◌∷◌, ◌++◌, Result, refl, ap, ◌∙◌, subst, arith}
 use Rattle.std.specs.Result.{IsErr, IsErrAnd}
 use Rattle.bcder_tree.specs.declared.mode.Mode.{Mode}
 use Rattle.bcder_tree.specs.Tags.{TagValue, universal}
-use Rattle.bcder_tree.specs.Tree.{Trees}
 use Rattle.bcder_source.specs.Errors.{OnContent}
 use Rattle.bcder_source.specs.declared.error.DecodeError.{DecodeError}
 use Rattle.bcder_content.specs.Contents.{ValuesLeft, Ended}
@@ -12,11 +11,11 @@ use Rattle.bcder_content.specs.Grammar.{As, Many, Tagged}
 use Rattle.bcder_content.specs.Perhaps.{NoneNext}
 use Rattle.bcder_content.proofs.Forests.{Listing, begin, list_begin, list_next, list_stop_next}
 use Rattle.bcder_content.proofs.Perhaps.{list_done}
+use Rattle.bcder_content.proofs.Within.{AllWithin, all_gives, all_stop}
 use Rattle.bcder_content.proofs.Unique.{as_tagged, inside_tagged, octets_tagged}
 use Rattle.resources_chain.specs.Sets.{Run, InRuns, IsRunsOf}
-use Rattle.resources_ip_block.specs.declared.addr.AddressFamily.{AddressFamily}
+use Rattle.resources_ip_prefix.specs.declared.addr.AddressFamily.{AddressFamily}
 use Rattle.resources_ip_block.specs.BlockEncodings.{IsBlock}
-use Rattle.resources_ip_block.proofs.Blocks.{AllWithin, all_gives, all_stop}
 use Rattle.resources_ip.specs.Encodings.{AreBlocks, Inherits, IsBlockList, lists}
 
 -- A loop has read these blocks, in the mode in which it began.
@@ -58,13 +57,3 @@ inherit_tagged = as_tagged (octets_tagged _ _)
 
 pub list_tagged : {m : Mode} {family : AddressFamily} → Tagged (universal 16) (As (IsBlockList m family) lists)
 list_tagged = as_tagged (inside_tagged _ _)
-
-pub null_is_no_sequence : universal 5 ≡ universal 16 → ⊥
-null_is_no_sequence e = let n : ◌≡◌ {A = ℕ} 5 16 = ap (λ (t : TagValue). t.number) e in omega arith
-
--- Where nothing was read the mode is the same.
-pub list_there : {family : AddressFamily} {m n : Mode} {v w : ValuesLeft} {set : List Run} → n ≡ m → Gives (IsBlockList n family) v set w → Gives (IsBlockList m family) v set w
-list_there {family} {v = v} {w} {set} e g = subst (λ (k : Mode). Gives (IsBlockList k family) v set w) e g
-
-pub no_list_in : {family : AddressFamily} {m n : Mode} {v : ValuesLeft} → n ≡ m → Lacks (IsBlockList n family) v → Lacks (IsBlockList m family) v
-no_list_in {family} {v = v} e l = subst (λ (k : Mode). Lacks (IsBlockList k family) v) e l

@@ -1,6 +1,8 @@
 pub mod WholeLemmas
-pub mod FamilyLemmas
 pub mod Gathered
 pub mod Mentioned
+pub mod Meaning
 pub mod Again
 pub mod Writing
+pub mod BothFamilies
+pub mod Fitting

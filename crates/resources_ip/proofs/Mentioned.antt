@@ -1,26 +1,27 @@
 -- What reading families rests on: their fields, and that each is mentioned once.
-use Rattle.std.proofs.Common.{◌≡◌, ◌≢◌, List, [], ◌∷◌, Option, Some, None, Result, Ok, Err, refl, sym, ap, ◌∙◌, subst}
+use Rattle.std.proofs.Common.{◌≡◌, ◌≢◌, List, [], ◌∷◌, Option, Some, None, Result, Ok, Err, refl, sym, ◌∙◌, subst}
 use Rattle.std.specs.Result.{IsErr, IsErrAnd}
 use Rattle.bcder_tree.specs.declared.mode.Mode.{Mode}
 use Rattle.bcder_tree.specs.Tags.{universal}
-use Rattle.bcder_tree.specs.Tree.{Tree, Trees, constructed, none, more}
+use Rattle.bcder_tree.specs.Tree.{Tree, Trees, none, more}
 use Rattle.bcder_tree.specs.Strings.{octet_string_tag}
 use Rattle.bcder_source.specs.Errors.{OnContent}
 use Rattle.bcder_source.specs.declared.error.DecodeError.{DecodeError}
 use Rattle.bcder_content.specs.Contents.{ValuesLeft, Whole}
-use Rattle.bcder_content.specs.Exact.{Gives, Lacks, LacksTagged, LacksAll, GivesAll, ReadsAllAs}
-use Rattle.bcder_content.specs.Grammar.{End, Many, ManyCases, Opt, OptCases, Then, Without, One, Tagged}
-use Rattle.bcder_content.proofs.Forests.{begin, next, done, first_lacks, Perhaps}
+use Rattle.bcder_content.specs.Exact.{Gives, Lacks, LacksAll, GivesAll, ReadsAllAs}
+use Rattle.bcder_content.specs.Grammar.{End, ManyCases, Then, Without, One, Tagged}
+use Rattle.bcder_content.proofs.Forests.{begin, next, done, first_lacks}
 use Rattle.bcder_content.proofs.Taking.{on_content, weaker}
 use Rattle.bcder_content.proofs.Took.{one_took, whole_first}
-use Rattle.bcder_content.proofs.Unique.{inside_tagged}
+use Rattle.bcder_content.proofs.Modes.{gives_in, lacks_in}
+use Rattle.bcder_content.proofs.Within.{AllWithin, all_gives, all_stop, all_unfit}
+use Rattle.bcder_content.proofs.Unique.{inside_tagged, same_trees, same_values}
 use Rattle.bcder_octets.proofs.Meaning.{one_string}
 use Rattle.resources_chain.specs.Claims.{Choice}
-use Rattle.resources_ip_block.specs.declared.addr.AddressFamily.{AddressFamily}
-use Rattle.resources_ip_block.specs.declared.addr.AddressFamily.TheVariants.{Ipv4, Ipv6}
-use Rattle.resources_ip_block.specs.Encodings.{IsFamily, family_octets}
-use Rattle.resources_ip_block.proofs.Blocks.{AllWithin, all_gives, all_stop, all_unfit}
-use Rattle.resources_ip.specs.Encodings.{AreFamilyFields, AreIpFamilies, EachOnce, FamilyChoice, FamilyChoices, IsIpChoice, IsIpFamily, NoneOf, choices_of}
+use Rattle.resources_ip_prefix.specs.declared.addr.AddressFamily.{AddressFamily}
+use Rattle.resources_ip_prefix.specs.declared.addr.AddressFamily.TheVariants.{Ipv4, Ipv6}
+use Rattle.resources_ip_prefix.specs.Encodings.{IsFamily, family_octets}
+use Rattle.resources_ip.specs.Encodings.{AreFamilyFields, AreIpFamilies, EachOnce, FamilyChoice, FamilyChoices, IsIpChoice, IsIpFamily, choices_of}
 use Rattle.resources_ip.specs.Reading.{ArePair, PairFields, Repeats, all_of}
 
 -- The octets of a family tell it.
@@ -53,48 +54,30 @@ fields_first_stop {E = E} f m v w (Err x) e a l = subst (λ (z : DecodeError E).
   none = λ ts z p whole. lacks.none p.are.first z.family p.are.is (whole_first (subst (Whole v) p.are.whole whole));
 }) l)
 
--- The mode stays.
-choice_in : {family : AddressFamily} {m n : Mode} {v w : ValuesLeft} {x : Choice} → n ≡ m → Gives (IsIpChoice n family) v x w → Gives (IsIpChoice m family) v x w
-choice_in {family} {v = v} {w} {x} e g = subst (λ (k : Mode). Gives (IsIpChoice k family) v x w) e g
-
-no_choice_in : {family : AddressFamily} {m n : Mode} {v : ValuesLeft} → n ≡ m → Lacks (IsIpChoice n family) v → Lacks (IsIpChoice m family) v
-no_choice_in {family} {v = v} e l = subst (λ (k : Mode). Lacks (IsIpChoice k family) v) e l
-
 pub fields_stop : {C E : Type 0} (f : C → FamilyChoice) (m : Mode) (family : AddressFamily) {v mid : ValuesLeft} (w : ValuesLeft) (r : Result C (DecodeError E)) (e : DecodeError E) → Gives (IsFamily m) v family mid → m ≡ v.mode → IsErr r × IsErrAnd r (λ x. x ≡ e) → OnContent e (Lacks (IsIpChoice mid.mode family) mid) → ReadsAllAs f (AreFamilyFields m) v r w
 fields_stop f m family w (Ok y) e given mode a l = absurd a.1
 fields_stop {E = E} f m family {v} {mid} w (Err x) e given mode a l =
     subst (λ (z : DecodeError E). OnContent z (LacksAll (AreFamilyFields m) v)) (sym a.1) (weaker e (λ lacks.
     let s = next (begin (Fields m family) v) given in
-    fields_lack given (s.lacks (first_lacks End (no_choice_in (given.took.goes.mode ∙ sym mode) lacks)))) l)
+    fields_lack given (s.lacks (first_lacks End (lacks_in (λ (n : Mode). IsIpChoice n family) (given.took.goes.mode ∙ sym mode) lacks)))) l)
 
 pub fields_given : (m : Mode) (family : AddressFamily) {v mid w : ValuesLeft} {choice : Choice} → Gives (IsFamily m) v family mid → m ≡ v.mode → Gives (IsIpChoice mid.mode family) mid choice w → GivesAll (AreFamilyFields m) v (record { family = family; choice = choice }) w
 fields_given m family {v} given mode second =
     let s = next (begin (Fields m family) v) given in
-    let all = done (next s (choice_in (given.took.goes.mode ∙ sym mode) second)) in
+    let all = done (next s (gives_in (λ (n : Mode). IsIpChoice n family) (given.took.goes.mode ∙ sym mode) second)) in
     record { trees = all.trees; took = all.took; is = record { are = all.is }; only = λ on. fields_lack given (all.only on) }
 
 pub family_tagged : {m : Mode} → Tagged (universal 16) (IsIpFamily m)
 family_tagged = inside_tagged _ _
 
--- The mode stays between two families.
-pub opt_family_in : {A : Type 0} (f : A → FamilyChoice) {m n : Mode} (v w : ValuesLeft) (o : Option A) → n ≡ m → Perhaps f (universal 16) (IsIpFamily n) v o w → Perhaps f (universal 16) (IsIpFamily m) v o w
-opt_family_in f v w o e h = subst (λ (k : Mode). Perhaps f (universal 16) (IsIpFamily k) v o w) e h
-
-pub no_family_in : {m n : Mode} {v : ValuesLeft} → n ≡ m → LacksTagged (universal 16) (IsIpFamily n) v → LacksTagged (universal 16) (IsIpFamily m) v
-no_family_in {v = v} e l = subst (λ (k : Mode). LacksTagged (universal 16) (IsIpFamily k) v) e l
-
 -- A value is of one family.
-same_values : {tag : _} {ts us : Trees} → constructed tag ts ≡ constructed tag us → ts ≡ us
-same_values e = cc
-
-same_trees : {t u : Tree} {ts us : Trees} → more t ts ≡ more u us → (t ≡ u) × (ts ≡ us)
-same_trees e = (cc, cc)
+pub one_family_in : {m : Mode} (ts : Trees) (x y : FamilyChoice) → AreFamilyFields m ts x → AreFamilyFields m ts y → x.family ≡ y.family
+one_family_in {m} ts x y p q =
+    let first = (same_trees (sym p.are.whole ∙ q.are.whole)).0 in
+    family_one.one q.are.first x.family y.family (subst (λ (u : Tree). IsFamily m u x.family) first p.are.is) q.are.is
 
 one_family : {m : Mode} (t : Tree) (x y : FamilyChoice) → IsIpFamily m t x → IsIpFamily m t y → x.family ≡ y.family
-one_family {m} t x y p q =
-    let values : p.values ≡ q.values = same_values (sym p.whole ∙ q.whole) in
-    let first = (same_trees (sym p.is.are.whole ∙ values ∙ q.is.are.whole)).0 in
-    family_one.one q.is.are.first x.family y.family (subst (λ (u : Tree). IsFamily m u x.family) first p.is.are.is) q.is.are.is
+one_family {m} t x y p q = one_family_in q.values x y (subst (λ (ts : Trees). AreFamilyFields m ts x) (same_values (sym p.whole ∙ q.whole)) p.is) q.is
 
 -- There are no three families.
 no_third : (f g h : AddressFamily) → g ≢ f → h ≢ f → h ≢ g → ⊥

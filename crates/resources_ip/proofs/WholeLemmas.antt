@@ -3,7 +3,7 @@ use Rattle.std.proofs.Common.{◌≡◌, ℕ, ◌+◌, ◌-◌, ◌/◌, ◌%◌
 use Rattle.std.proofs.lemmas.Bool.Decides.{leb_tells}
 use Rattle.resources_chain.specs.Sets.{Run, InRun, InRuns, IsRunsOf, AreMaximal}
 use Rattle.resources_chain.proofs.SetLemmas.{in_append, past_gap}
-use Rattle.resources_ip_block.specs.Whole.{IsWhole}
+use Rattle.resources_ip_prefix.specs.Whole.{IsWhole}
 use Rattle.resources_ip.specs.WholeSets.{AreWhole}
 
 -- Whole runs have all numbers or none that begin with the same 32 bits.

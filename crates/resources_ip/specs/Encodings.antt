@@ -8,10 +8,10 @@ use Rattle.bcder_content.specs.Grammar.{As, End, Inside, Many, OctetsOf, OneOf, 
 use Rattle.resources_chain.specs.Sets.{Run, InRuns, IsRunsOf}
 use Rattle.resources_chain.specs.Claims.{Choice}
 use Rattle.resources_chain.specs.declared.choice.ResourcesChoice.TheVariants.{Missing, Inherit, Blocks}
-use Rattle.resources_ip_block.specs.declared.addr.AddressFamily.{AddressFamily}
-use Rattle.resources_ip_block.specs.declared.addr.AddressFamily.TheVariants.{Ipv4, Ipv6}
+use Rattle.resources_ip_prefix.specs.declared.addr.AddressFamily.{AddressFamily}
+use Rattle.resources_ip_prefix.specs.declared.addr.AddressFamily.TheVariants.{Ipv4, Ipv6}
 use Rattle.resources_ip_block.specs.BlockEncodings.{IsBlock}
-use Rattle.resources_ip_block.specs.Encodings.{IsFamily}
+use Rattle.resources_ip_prefix.specs.Encodings.{IsFamily}
 
 -- addressesOrRanges SEQUENCE OF IPAddressOrRange (2.2.3.6), in any order: they mean their union.
 pub record AreBlocks (m : Mode) (family : AddressFamily) (ts : Trees) (set : List Run) : Type 0 where

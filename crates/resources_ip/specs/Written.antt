@@ -13,8 +13,8 @@ use Rattle.bcder_values.specs.Wraps.{wrapped_spelled, wrapped_one}
 use Rattle.resources_chain.specs.Sets.{Run, AreMaximal}
 use Rattle.resources_chain.specs.Claims.{Choice}
 use Rattle.resources_chain.specs.declared.choice.ResourcesChoice.TheVariants.{Missing, Inherit, Blocks}
-use Rattle.resources_ip_block.specs.declared.addr.AddressFamily.{AddressFamily}
-use Rattle.resources_ip_block.specs.declared.addr.AddressFamily.TheVariants.{Ipv4, Ipv6}
+use Rattle.resources_ip_prefix.specs.declared.addr.AddressFamily.{AddressFamily}
+use Rattle.resources_ip_prefix.specs.declared.addr.AddressFamily.TheVariants.{Ipv4, Ipv6}
 use Rattle.resources_ip_block.specs.WrittenBlock.{AreIpBlock, WritesIpBlock, block_spelled, block_one}
 use Rattle.resources_ip.specs.Encodings.{IsBlockList, IsIpChoice}
 use Rattle.resources_ip.specs.WholeSets.{AreWhole}

@@ -160,6 +160,7 @@ impl IpBlocks {
         ensures fits { OnOk result (FitsIn mode resources.now (InRuns self.now)) }
         ensures held { IfOk result (λ held. IsRunsOf (Kept resources.now (InRuns self.now)) held) }
         ensures refused { IfErr result (Refuses mode resources.now (InRuns self.now)) }
+        ensures present { OnErr result (¬ (resources.now ≡ ResourcesChoice.Missing)) }
     {
         match self.chain.verify_issued(alloc, resources, mode) {
             Ok(chain) => Ok(IpBlocks { chain }),
@@ -167,7 +168,8 @@ impl IpBlocks {
         }
     }
 
-    /// Whether an issuer that holds this set has all addresses that are listed, whatever the policy.
+    /// Whether an issuer that holds this set has all addresses that are listed, whatever the policy. Memory is wanted
+    /// only to tell those that it doesn't have.
     pub fn verify_covered(
         &self,
         alloc: Global,
@@ -175,6 +177,7 @@ impl IpBlocks {
     ) -> Result<(), ClaimError<OverclaimedIpResources>>
         ensures fits { OnOk result (FitsIn Refuse resources.now (InRuns self.now)) }
         ensures refused { IfErr result (Refuses Refuse resources.now (InRuns self.now)) }
+        ensures unfit { OnErr result (¬ (FitsIn Refuse resources.now (InRuns self.now))) }
     {
         match self.chain.verify_covered(alloc, resources) {
             Ok(()) => Ok(()),
@@ -203,6 +206,7 @@ impl IpBlocks {
     pub fn from_resources(resources: &IpResources) -> Result<Self, InheritedIpResources>
         ensures set { IfOk result (λ s. IsRunsOf (Lists resources.now) s) }
         ensures inherited { IsErrOf result InheritedIpResources.Inherited ↔ (resources.now ≡ ResourcesChoice.Inherit) }
+        ensures present { OnErr result (¬ (resources.now ≡ ResourcesChoice.Missing)) }
     {
         resources.to_blocks()
     }

@@ -1,13 +1,16 @@
 //! Laws of IP resources: the contracts of functions that do nothing.
 
-ghost use Rattle.std.specs.Prelude.{◌≡◌, List};
+ghost use Rattle.std.specs.Prelude.{◌≡◌, ℕ, [], List};
 ghost use Rattle.bcder_tree.specs.declared.mode.Mode.{Mode as ModeValue};
-ghost use Rattle.bcder_tree.specs.Tree.{Trees};
+ghost use Rattle.bcder_tree.specs.Tree.{Tree, Trees};
 ghost use Rattle.resources_chain.specs.Claims.{Choice};
 ghost use Rattle.resources_chain.specs.Sets.{Run};
 ghost use Rattle.resources_chain.specs.declared.choice.ResourcesChoice.TheVariants.{Missing};
-ghost use Rattle.resources_ip_block.specs.declared.addr.AddressFamily.{AddressFamily as FamilyValue};
+ghost use Rattle.resources_ip_prefix.specs.declared.addr.AddressFamily.{AddressFamily as FamilyValue};
+ghost use Rattle.resources_ip_prefix.specs.declared.addr.AddressFamily.TheVariants.{Ipv4, Ipv6};
+ghost use Rattle.resources_ip.specs.Encodings.{FamilyChoices, IsBlockList, IsIpAddrBlocks, IsIpChoice};
 ghost use Rattle.resources_ip.specs.Written.{AreIpList, AreIpResources, FitsChoice, FitsSet, ReadsChoice, ReadsList};
+ghost use Rattle.resources_ip.specs.WrittenFamilies.{FamiliesTrees, ReadsFamilies, WritesFamilies, both};
 
 pub use resources_ip_block::laws::{
     a_block_is_read_again, prefix_is_shared_bits, prefixes_of_whole_addresses_are_short,
@@ -26,4 +29,27 @@ pub fn a_set_is_read_again()
 #[tactic(auto, using(crate::proofs::Again::choice_again))]
 pub fn a_choice_is_read_again()
     ensures { (m : ModeValue) (family : FamilyValue) (choice : Choice) (ts : Trees) → FitsChoice family choice → ¬ (choice ≡ Missing) → AreIpResources m choice ts → ReadsChoice m family choice ts }
+{}
+
+/// What is written of both families is one value where either isn't missing, which is read as the same choices, in each
+/// mode (RFC 3779 2.2.3.1); where both are missing nothing is written.
+#[tactic(auto, using(crate::proofs::BothFamilies::families_again))]
+pub fn families_are_read_again()
+    ensures read { (m : ModeValue) (v4 v6 : Choice) (ts : Trees) → FitsChoice Ipv4 v4 → FitsChoice Ipv6 v6 → ¬ ((v4 ≡ Missing) × (v6 ≡ Missing)) → FamiliesTrees m (both v4 v6) ts → ReadsFamilies m (both v4 v6) ts }
+    ensures nothing { (m : ModeValue) (text : List ℕ) → WritesFamilies m (both Missing Missing) text → text ≡ [] }
+{}
+
+/// A value has one meaning: as IP resources of both families (RFC 3779 2.2.3), as what is said of one family
+/// (2.2.3.4), and as a list of blocks (2.2.3.6).
+pub fn one_meaning()
+    ensures families { (m : ModeValue) (t : Tree) (one other : FamilyChoices) → IsIpAddrBlocks m t one → IsIpAddrBlocks m t other → one ≡ other }
+    ensures choice { (m : ModeValue) (family : FamilyValue) (t : Tree) (one other : Choice) → IsIpChoice m family t one → IsIpChoice m family t other → one ≡ other }
+    ensures list { (m : ModeValue) (family : FamilyValue) (t : Tree) (one other : List Run) → IsBlockList m family t one → IsBlockList m family t other → one ≡ other }
+{}
+
+/// What is read of both families fits them, and isn't missing in both: so it can be written, and is read again.
+pub fn families_that_are_read_fit()
+    ensures v4 { (m : ModeValue) (t : Tree) (x : FamilyChoices) → IsIpAddrBlocks m t x → FitsChoice Ipv4 x.v4 }
+    ensures v6 { (m : ModeValue) (t : Tree) (x : FamilyChoices) → IsIpAddrBlocks m t x → FitsChoice Ipv6 x.v6 }
+    ensures any { (m : ModeValue) (t : Tree) (x : FamilyChoices) → IsIpAddrBlocks m t x → ¬ ((x.v4 ≡ Missing) × (x.v6 ≡ Missing)) }
 {}

@@ -4,20 +4,18 @@
 pub mod blocks;
 pub mod claims;
 mod der;
+mod families;
 pub mod laws;
 pub mod listed;
 pub mod resources;
-pub mod v4;
-pub mod v6;
 mod write;
 
 pub use blocks::{IpBlockIter, IpBlocks, IpBlocksBuilder};
 pub use claims::{OverclaimedIpResources, OverclaimedIpv4Resources, OverclaimedIpv6Resources};
+pub use families::IpFamiliesEncoder;
 pub use listed::IpBlocksForFamily;
 pub use resources::{InheritedIpResources, IpFamilies, IpResources, IpResourcesBuilder};
 pub use resources_ip_block::{
     Addr, AddressFamily, AddressRange, DisplayV4Block, DisplayV6Block, FromStrError, IpBlock,
     Prefix, RangePrefixes, addr, block, cover, error, prefix, range,
 };
-pub use v4::{Ipv4Block, Ipv4Blocks};
-pub use v6::{Ipv6Block, Ipv6Blocks};

@@ -1,9 +1,10 @@
 //! Sets of addresses written and read: `10.0.0.0/8, 11.0.0.0-11.0.0.9`.
 
 ghost use Rattle.std.specs.Prelude.{◌≡◌, IfOk};
-ghost use Rattle.resources_ip_block.specs.declared.addr.AddressFamily.TheVariants.{Ipv4};
+ghost use Rattle.resources_ip_prefix.specs.declared.addr.AddressFamily.TheVariants.{Ipv4, Ipv6};
 ghost use Rattle.resources_ip_block.specs.Block.{run_of_block};
-ghost use Rattle.resources_ip_block.specs.Whole.{IsWhole};
+ghost use Rattle.resources_ip_prefix.specs.Whole.{IsWhole};
+ghost use Rattle.resources_ip.specs.Shown.{shown_family, shown_set};
 ghost use Rattle.resources_ip.specs.WholeSets.{AreWhole};
 
 use crate::blocks::{IpBlocks, IpBlocksBuilder};
@@ -21,7 +22,10 @@ pub struct IpBlocksForFamily<'a> {
 
 impl<'a> IpBlocksForFamily<'a> {
     /// The set, to be printed as IPv4.
-    pub fn v4(blocks: &'a IpBlocks) -> Self {
+    pub fn v4(blocks: &'a IpBlocks) -> Self
+        ensures family { shown_family result ≡ Ipv4 }
+        ensures set { shown_set result ≡ blocks.now }
+    {
         IpBlocksForFamily {
             family: AddressFamily::Ipv4,
             blocks,
@@ -29,7 +33,10 @@ impl<'a> IpBlocksForFamily<'a> {
     }
 
     /// The set, to be printed as IPv6.
-    pub fn v6(blocks: &'a IpBlocks) -> Self {
+    pub fn v6(blocks: &'a IpBlocks) -> Self
+        ensures family { shown_family result ≡ Ipv6 }
+        ensures set { shown_set result ≡ blocks.now }
+    {
         IpBlocksForFamily {
             family: AddressFamily::Ipv6,
             blocks,
@@ -62,13 +69,9 @@ impl IpBlocks {
     }
 }
 
-// The set of a text of blocks of the family.
+/// The set of a text of blocks of the family, with `,` or `, ` between them, in any order.
 #[tactic(auto, using(crate::proofs::WholeLemmas::whole_push, crate::proofs::WholeLemmas::whole_set))]
-pub(crate) fn read_list(
-    alloc: Global,
-    family: AddressFamily,
-    text: &str,
-) -> Result<IpBlocks, FromStrError>
+pub fn read_list(alloc: Global, family: AddressFamily, text: &str) -> Result<IpBlocks, FromStrError>
     ensures { IfOk result (λ s. family ≡ Ipv4 → AreWhole s) }
 {
     let mut blocks = IpBlocksBuilder::new(alloc);

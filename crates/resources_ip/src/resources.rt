@@ -44,7 +44,7 @@ pub struct IpFamilies {
 }
 
 impl IpResources {
-    /// The issuer's addresses.
+    /// The issuer's addresses (RFC 3779 2.2.3.5).
     pub fn inherit() -> Self
         ensures { result ≡ Inherit }
     {
@@ -53,7 +53,7 @@ impl IpResources {
         }
     }
 
-    /// No addresses of this family are mentioned.
+    /// No addresses of this family are mentioned (RFC 3779 2.2.3.1).
     pub fn missing() -> Self
         ensures { result ≡ Missing }
     {
@@ -103,6 +103,7 @@ impl IpResources {
     pub fn to_blocks(&self) -> Result<IpBlocks, InheritedIpResources>
         ensures set { IfOk result (λ s. IsRunsOf (Lists self.now) s) }
         ensures inherited { IsErrOf result InheritedIpResources.Inherited ↔ (self.now ≡ Inherit) }
+        ensures present { OnErr result (¬ (self.now ≡ Missing)) }
     {
         match &self.choice {
             ResourcesChoice::Missing => Ok(IpBlocks::empty()),
@@ -223,9 +224,10 @@ impl IpResourcesBuilder {
         }
     }
 
-    /// The resources.
+    /// The resources. Memory is wanted only for a list.
     pub fn finalize(self, alloc: Global) -> Result<IpResources, AllocError>
-        ensures { IfOk result (λ resources. IsChoiceOf self resources) }
+        ensures choice { IfOk result (λ resources. IsChoiceOf self resources) }
+        ensures listed { OnErr result ((runs : List Run) × (self ≡ Blocks runs)) }
     {
         Ok(match self.choice {
             ResourcesChoice::Missing => IpResources::missing(),

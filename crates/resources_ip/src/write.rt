@@ -41,7 +41,7 @@ impl Values for IpBlocks {
 }
 
 impl IpBlocks {
-    /// The set as values that can be written: the list of a family.
+    /// The set as values that can be written: the list of a family (RFC 3779 2.2.3.6).
     pub fn encode(self) -> IpBlocks
         ensures { result ≡ self }
     {
@@ -108,7 +108,7 @@ impl Values for IpResources {
 }
 
 impl IpResources {
-    /// The resources as values that can be written.
+    /// The resources as values that can be written: what is said of a family (RFC 3779 2.2.3.4).
     pub fn encode(self) -> IpResources
         ensures { result ≡ self }
     {

@@ -1,30 +1,29 @@
 -- What is written of blocks is read again as the same addresses.
-use Rattle.std.proofs.Common.{◌≡◌, ℕ, zero, suc, ◌+◌, ◌-◌, ◌*◌, ◌/◌, ◌%◌, ◌^◌, ◌<◌, ◌≤◌, ◌⊎◌, inl, inr, List, refl, sym, ap, ◌∙◌, subst, arith}
+use Rattle.std.proofs.Common.{◌≡◌, ℕ, ◌+◌, ◌-◌, ◌%◌, ◌^◌, ◌<◌, ◌≤◌, inl, inr, refl, sym, ap, ◌∙◌, subst, arith}
 use Rattle.std.proofs.lemmas.Bool.Decides.{leb_tells}
 use Rattle.std.proofs.Math.Pow.{pow-lt}
 use Rattle.std.proofs.lemmas.Nat.{pow_pos}
 use Rattle.bcder_tree.specs.declared.mode.Mode.{Mode}
 use Rattle.bcder_tree.specs.Tags.{TagValue, universal}
 use Rattle.bcder_tree.specs.Tree.{Tree, Trees, primitive, constructed, none, more}
-use Rattle.bcder_bits.specs.Contents.{WritesBits, bit_string_tag}
+use Rattle.bcder_bits.specs.Contents.{bit_string_tag}
 use Rattle.bcder_values.specs.declared.choice.Choice2.{Choice2}
 use Rattle.bcder_values.specs.declared.choice.Choice2.TheVariants.{One, Two}
 use Rattle.bcder_written.specs.declared.primitive.Primitive.{Primitive}
 use Rattle.bcder_written.specs.Encoded.{joined}
 use Rattle.resources_chain.specs.Sets.{Run}
-use Rattle.resources_ip_block.specs.declared.addr.AddressFamily.{AddressFamily}
-use Rattle.resources_ip_block.specs.declared.addr.AddressFamily.TheVariants.{Ipv4, Ipv6}
-use Rattle.resources_ip_block.specs.declared.prefix.Prefix.{Prefix}
-use Rattle.resources_ip_block.specs.Address.{bits_of}
-use Rattle.resources_ip_block.specs.BlockEncodings.{AreOrdered, IsBlock, IsRange, beginning}
-use Rattle.resources_ip_block.specs.Encodings.{IsAddress, prefix_bits}
-use Rattle.resources_ip_block.specs.Family.{max_len_of}
-use Rattle.resources_ip_block.specs.Prefix.{prefix_addr, prefix_len, len_within, run_of_prefix}
-use Rattle.resources_ip_block.specs.Prefixes.{first_of, last_of, prefix_run, span_of}
-use Rattle.resources_ip_block.specs.Whole.{IsWhole}
-use Rattle.resources_ip_block.specs.Written.{BlockTrees, EncodesBlock, EncodesRange, FitsRun, IsShortestMax, IsShortestMin, PrefixTrees, RangeTrees, RangeValue, ReadsBlock, spelled_bits}
-use Rattle.resources_ip_block.proofs.Blocks.{same_run}
-use Rattle.resources_ip_block.proofs.Told.{prefix_read}
+use Rattle.resources_chain.specs.Same.{run_is}
+use Rattle.resources_ip_prefix.specs.declared.addr.AddressFamily.{AddressFamily}
+use Rattle.resources_ip_prefix.specs.declared.addr.AddressFamily.TheVariants.{Ipv4, Ipv6}
+use Rattle.resources_ip_prefix.specs.declared.prefix.Prefix.{Prefix}
+use Rattle.resources_ip_prefix.specs.Address.{bits_of}
+use Rattle.resources_ip_block.specs.BlockEncodings.{AreOrdered}
+use Rattle.resources_ip_prefix.specs.Encodings.{IsAddress, prefix_bits}
+use Rattle.resources_ip_prefix.specs.Family.{max_len_of}
+use Rattle.resources_ip_prefix.specs.Prefix.{prefix_addr, prefix_len, len_within, run_of_prefix}
+use Rattle.resources_ip_prefix.specs.Prefixes.{span_of}
+use Rattle.resources_ip_block.specs.Written.{BlockTrees, EncodesBlock, EncodesRange, FitsRun, IsShortestMax, IsShortestMin, PrefixTrees, RangeTrees, RangeValue, ReadsBlock}
+use Rattle.resources_ip_prefix.proofs.Told.{prefix_read}
 
 -- A prefix of whole IPv4 addresses has at most 32 bits.
 short_run : (first len : ℕ) → len ≤ 128 → first % 2 ^ 96 ≡ 0 → (first + (span_of len - 1)) % 2 ^ 96 ≡ 2 ^ 96 - 1 → len ≤ 32
@@ -70,7 +69,7 @@ range_again m family run x ts order fits e t =
     let ordered : AreOrdered m family t.values run = record {
       ends = (prefix_bits x.inner.0.content, (prefix_bits x.inner.1.content, tt));
       are = record { first = min.tree; others = more max.tree none; whole = values; is = min.is; rest = record { first = max.tree; others = none; whole = refl; is = max.is; rest = record { ended = refl } } };
-      from_min_to_max = same_run (sym e.min_is.begins) (sym e.max_is.ends);
+      from_min_to_max = run_is (sym e.min_is.begins) (sym e.max_is.ends);
       ordered = order;
     } in
     record {

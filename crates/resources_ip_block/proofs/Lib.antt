@@ -1,15 +1,7 @@
-pub mod Masks
 pub mod PrefixLemmas
-pub mod TextLemmas
-pub mod WholePrefix
 pub mod BlockText
 pub mod CoverLemmas
-pub mod Filled
-pub mod Contents
-pub mod Values
 pub mod Blocks
-pub mod Spelled
-pub mod Told
 pub mod Again
 pub mod WholeBlocks
 pub mod Writing

@@ -3,7 +3,7 @@ use Rattle.std.proofs.Common.{◌≡◌, ℕ, suc, ◌+◌, ◌-◌, ◌*◌, �
 use Rattle.std.specs.Int.Count.{count_leading_zeros, leading_unique}
 use Rattle.std.proofs.lemmas.Nat.{pow_pos}
 use Rattle.resources_chain.specs.Sets.{Run}
-use Rattle.resources_ip_block.specs.Prefixes.{span_of, first_of, prefix_run}
+use Rattle.resources_ip_prefix.specs.Prefixes.{span_of, first_of, prefix_run}
 
 -- The length of a prefix is told by how far its last address is from its first.
 pub length_told : (size len : ℕ) → len ≤ 128 → size ≡ span_of len - 1 → len ≡ count_leading_zeros 128 size

@@ -4,12 +4,12 @@ use Rattle.bcder_tree.specs.declared.mode.Mode.{Mode}
 use Rattle.bcder_tree.specs.Tree.{Tree}
 use Rattle.bcder_bits.specs.Bits.{bits}
 use Rattle.resources_chain.specs.Sets.{Run}
-use Rattle.resources_ip_block.specs.declared.addr.AddressFamily.TheVariants.{Ipv4}
+use Rattle.resources_ip_prefix.specs.declared.addr.AddressFamily.TheVariants.{Ipv4}
 use Rattle.resources_ip_block.specs.BlockEncodings.{IsBlock, beginning}
-use Rattle.resources_ip_block.specs.Encodings.{FirstBits, IsAddress, filled}
-use Rattle.resources_ip_block.specs.Whole.{IsWhole}
-use Rattle.resources_ip_block.proofs.CoverLemmas.{own_first}
-use Rattle.resources_ip_block.proofs.WholePrefix.{whole_prefix}
+use Rattle.resources_ip_prefix.specs.Encodings.{FirstBits, IsAddress, filled}
+use Rattle.resources_ip_prefix.specs.Whole.{IsWhole}
+use Rattle.resources_ip_prefix.proofs.Spans.{own_first}
+use Rattle.resources_ip_prefix.proofs.WholePrefix.{whole_prefix}
 
 v4_address : (m : Mode) (t : Tree) (x : FirstBits) → IsAddress m Ipv4 t x → IsWhole (beginning x)
 v4_address m t x p = subst (λ (y : FirstBits). IsWhole (beginning y)) (sym p.means) (whole_prefix _ _ p.is.meets (own_first _ (filled 16 p.x.octets)))

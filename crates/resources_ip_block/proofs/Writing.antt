@@ -9,7 +9,7 @@ use Rattle.bcder_written.specs.declared.error.EncodeError.TheVariants as errors
 use Rattle.bcder_written.specs.declared.primitive.Primitive.{Primitive}
 use Rattle.bcder_written.specs.Writing.{HasLength, Wrote, TookFront, CannotWrite, WriteRefused}
 use Rattle.resources_chain.specs.Sets.{Run}
-use Rattle.resources_ip_block.specs.declared.prefix.Prefix.{Prefix}
+use Rattle.resources_ip_prefix.specs.declared.prefix.Prefix.{Prefix}
 use Rattle.resources_ip_block.specs.Written.{BlockTrees, EncodesBlock, RangeValue}
 use Rattle.resources_ip_block.specs.WrittenBlock.{AreIpBlock, WritesIpBlock, BlockText, same_block, block_text, block_trees}
 

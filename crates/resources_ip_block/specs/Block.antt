@@ -3,9 +3,9 @@ use Rattle.std.specs.Prelude.{◌≤◌}
 use Rattle.resources_chain.specs.Sets.{Run}
 use Rattle.resources_ip_block.specs.declared.block.IpBlock.{IpBlock}
 use Rattle.resources_ip_block.specs.declared.block.IpBlock.TheVariants as Of
-use Rattle.resources_ip_block.specs.Prefix.{run_of_prefix}
+use Rattle.resources_ip_prefix.specs.Prefix.{run_of_prefix}
 use Rattle.resources_ip_block.specs.Range.{run_of_range, range_within}
-use Rattle.resources_ip_block.specs.PrefixLaws.{prefix_within}
+use Rattle.resources_ip_prefix.specs.PrefixLaws.{prefix_within}
 
 -- The addresses of a prefix or of a range.
 abbrev pub run_of_block : IpBlock → Run

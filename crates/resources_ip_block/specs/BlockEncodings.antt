@@ -5,10 +5,10 @@ use Rattle.bcder_tree.specs.Tags.{universal}
 use Rattle.bcder_tree.specs.Tree.{Tree, Trees}
 use Rattle.bcder_content.specs.Grammar.{As, End, Inside, OneOf, Then}
 use Rattle.resources_chain.specs.Sets.{Run}
-use Rattle.resources_ip_block.specs.declared.addr.AddressFamily.{AddressFamily}
+use Rattle.resources_ip_prefix.specs.declared.addr.AddressFamily.{AddressFamily}
 use Rattle.resources_ip_block.specs.declared.der.Bounds.{Bounds}
-use Rattle.resources_ip_block.specs.Encodings.{FirstBits, IsAddress, prefix_bits}
-use Rattle.resources_ip_block.specs.Prefixes.{prefix_run}
+use Rattle.resources_ip_prefix.specs.Encodings.{FirstBits, IsAddress, prefix_bits}
+use Rattle.resources_ip_prefix.specs.Prefixes.{prefix_run}
 
 -- The addresses that begin with the bits: from these with zeros behind them to these with ones.
 abbrev pub beginning : FirstBits → Run

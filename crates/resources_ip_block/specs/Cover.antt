@@ -3,11 +3,11 @@ use Rattle.std.specs.Prelude.{◌≡◌, ℕ, ◌+◌, ◌-◌, ◌≤◌, ◌�
 use Rattle.std.specs.Iterator.{Count, at_most}
 use Rattle.resources_chain.specs.Sets.{Run, InRun, InRuns}
 use Rattle.resources_ip_block.specs.declared.cover.RangePrefixes.{RangePrefixes}
-use Rattle.resources_ip_block.specs.declared.prefix.Prefix.{Prefix}
+use Rattle.resources_ip_prefix.specs.declared.prefix.Prefix.{Prefix}
 use Rattle.resources_ip_block.specs.declared.range.AddressRange.{AddressRange}
-use Rattle.resources_ip_block.specs.Address.{bits_of}
-use Rattle.resources_ip_block.specs.Prefix.{prefix_addr, prefix_len, run_of_prefix}
-use Rattle.resources_ip_block.specs.Prefixes.{span_of, first_of, last_of}
+use Rattle.resources_ip_prefix.specs.Address.{bits_of}
+use Rattle.resources_ip_prefix.specs.Prefix.{prefix_addr, prefix_len, run_of_prefix}
+use Rattle.resources_ip_prefix.specs.Prefixes.{span_of, first_of, last_of}
 use Rattle.resources_ip_block.specs.Range.{run_of_range}
 
 -- The prefix of this address and length lies in the run.

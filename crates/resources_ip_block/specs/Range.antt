@@ -2,7 +2,7 @@
 use Rattle.std.specs.Prelude.{◌≤◌}
 use Rattle.resources_chain.specs.Sets.{Run}
 use Rattle.resources_ip_block.specs.declared.range.AddressRange.{AddressRange}
-use Rattle.resources_ip_block.specs.Address.{bits_of, bits_within}
+use Rattle.resources_ip_prefix.specs.Address.{bits_of, bits_within}
 
 -- The addresses from the first to the last (RFC 3779 2.2.3.9).
 abbrev pub run_of_range : AddressRange → Run

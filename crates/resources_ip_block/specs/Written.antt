@@ -1,4 +1,4 @@
--- What is written of families, prefixes, ranges and blocks (RFC 3779 2.2.3).
+-- What is written of ranges and blocks (RFC 3779 2.2.3).
 use Rattle.std.specs.Prelude.{◌≡◌, ℕ, ◌+◌, ◌-◌, ◌*◌, ◌/◌, ◌≤◌, take}
 use Rattle.std.specs.Int.{to_be_bytes, w128}
 use Rattle.bcder_tree.specs.declared.mode.Mode.{Mode}
@@ -13,22 +13,15 @@ use Rattle.bcder_written.specs.declared.primitive.Primitive.{Primitive}
 use Rattle.bcder_values.specs.Choices.{AreEither}
 use Rattle.bcder_written.specs.Encoded.{AreBoth, IsPlain, IsWrapped}
 use Rattle.resources_chain.specs.Sets.{Run}
-use Rattle.resources_ip_block.specs.declared.addr.AddressFamily.{AddressFamily}
-use Rattle.resources_ip_block.specs.declared.addr.AddressFamily.TheVariants.{Ipv4, Ipv6}
-use Rattle.resources_ip_block.specs.declared.prefix.Prefix.{Prefix}
-use Rattle.resources_ip_block.specs.Address.{bits_of}
-use Rattle.resources_ip_block.specs.Prefix.{prefix_addr, prefix_len, run_of_prefix}
-use Rattle.resources_ip_block.specs.Prefixes.{first_of, last_of, prefix_run}
+use Rattle.resources_ip_prefix.specs.declared.addr.AddressFamily.{AddressFamily}
+use Rattle.resources_ip_prefix.specs.declared.addr.AddressFamily.TheVariants.{Ipv4, Ipv6}
+use Rattle.resources_ip_prefix.specs.declared.prefix.Prefix.{Prefix}
+use Rattle.resources_ip_prefix.specs.Address.{bits_of}
+use Rattle.resources_ip_prefix.specs.Prefix.{prefix_addr, prefix_len, run_of_prefix}
+use Rattle.resources_ip_prefix.specs.Prefixes.{first_of, last_of, prefix_run}
+use Rattle.resources_ip_prefix.specs.Written.{spelled_bits}
 use Rattle.resources_ip_block.specs.BlockEncodings.{IsBlock}
-use Rattle.resources_ip_block.specs.Whole.{IsWhole}
-
--- How many octets so many bits have.
-abbrev pub octet_count : ℕ → ℕ
-octet_count len = (len + 7) / 8
-
--- The bits of a prefix, as many as its length (2.2.3.8).
-abbrev pub spelled_bits : Prefix → BitsValue
-spelled_bits p = record { unused = 8 * octet_count (prefix_len p) - prefix_len p; octets = take (octet_count (prefix_len p)) (to_be_bytes w128 (bits_of (prefix_addr p))) }
+use Rattle.resources_ip_prefix.specs.Whole.{IsWhole}
 
 -- The bits of a first address, without the zeros at its end (2.2.3.9).
 pub record IsShortestMin (first : ℕ) (p : Prefix) : Type 0 where

@@ -19,11 +19,12 @@ use Rattle.bcder_values.specs.Laws.{both_spelled, both_one}
 use Rattle.bcder_values.specs.Plains.{plain_spelled, plain_one}
 use Rattle.bcder_values.specs.Wraps.{wrapped_spelled, wrapped_one}
 use Rattle.resources_chain.specs.Sets.{Run}
-use Rattle.resources_ip_block.specs.declared.prefix.Prefix.{Prefix}
-use Rattle.resources_ip_block.specs.Address.{bits_of}
-use Rattle.resources_ip_block.specs.Prefix.{prefix_addr, prefix_len, run_of_prefix, len_within, host_clear}
-use Rattle.resources_ip_block.specs.Prefixes.{first_of, last_of, span_of}
-use Rattle.resources_ip_block.specs.Written.{BlockTrees, EncodesBlock, EncodesRange, IsShortestMax, IsShortestMin, PrefixTrees, RangeTrees, RangeValue, octet_count, spelled_bits}
+use Rattle.resources_ip_prefix.specs.declared.prefix.Prefix.{Prefix}
+use Rattle.resources_ip_prefix.specs.Address.{bits_of}
+use Rattle.resources_ip_prefix.specs.Prefix.{prefix_addr, prefix_len, run_of_prefix, len_within, host_clear}
+use Rattle.resources_ip_prefix.specs.Prefixes.{first_of, last_of, span_of}
+use Rattle.resources_ip_block.specs.Written.{BlockTrees, EncodesBlock, EncodesRange, IsShortestMax, IsShortestMin, PrefixTrees, RangeTrees, RangeValue}
+use Rattle.resources_ip_prefix.specs.Written.{octet_count, spelled_bits}
 
 -- The octets that are written of a prefix, of a range, of a block.
 abbrev pub PrefixText : Mode → Primitive Prefix → List ℕ → Type 0

@@ -2,16 +2,15 @@
 
 ghost use Rattle.std.specs.Prelude.{◌≡◌, ℕ, ◌≤◌, ◌↔◌, ◌≢◌, IsTrue, MatchResult, refl};
 ghost use Rattle.std.specs.Range.{range_inclusive_start, range_inclusive_end};
-ghost use Rattle.resources_ip_block.specs.Address.{bits_of, bits_within, one_addr};
-ghost use Rattle.resources_ip_block.specs.Prefix.{run_of_prefix};
-ghost use Rattle.resources_ip_block.specs.Prefixes.{first_of, prefix_run};
-ghost use Rattle.resources_ip_block.specs.Whole.{IsWhole};
+ghost use Rattle.resources_ip_prefix.specs.Address.{bits_of, bits_within, one_addr};
+ghost use Rattle.resources_ip_prefix.specs.Prefix.{run_of_prefix};
+ghost use Rattle.resources_ip_prefix.specs.Prefixes.{first_of, prefix_run};
+ghost use Rattle.resources_ip_prefix.specs.Whole.{IsWhole};
 ghost use Rattle.resources_ip_block.specs.Range.{run_of_range};
 
-use crate::addr::Addr;
-use crate::prefix::Prefix;
-use crate::range::AddressRange;
+use crate::range::{AddressRange, after, before};
 use resources_chain::Block;
+use resources_ip_prefix::{Addr, Prefix};
 use std::ops::RangeInclusive;
 
 /// A prefix or a range of addresses (RFC 3779 2.2.3.7).
@@ -114,11 +113,11 @@ impl Block for IpBlock {
     }
 
     fn next(item: Addr) -> Option<Addr> {
-        item.next()
+        after(item)
     }
 
     fn previous(item: Addr) -> Option<Addr> {
-        item.previous()
+        before(item)
     }
 
     ghost item_within = { bits_within };

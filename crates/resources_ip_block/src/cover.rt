@@ -2,12 +2,12 @@
 
 ghost use Rattle.std.specs.Prelude.{◌≡◌, ◌≤◌, List};
 ghost use Rattle.std.specs.Iterator.{Drains};
-ghost use Rattle.resources_ip_block.specs.Prefix.{prefix_len, run_of_prefix};
+ghost use Rattle.resources_ip_prefix.specs.Prefix.{prefix_len, run_of_prefix};
 ghost use Rattle.resources_ip_block.specs.Range.{run_of_range};
 ghost use Rattle.resources_ip_block.specs.Cover.{IsCover, IsFirst, IsBehind, filled, gives, left_at_most};
 
-use crate::prefix::Prefix;
-use crate::range::AddressRange;
+use crate::range::{AddressRange, after};
+use resources_ip_prefix::Prefix;
 
 /// The prefixes that cover a range, as few as there can be, ascending.
 #[derive(Clone, Copy, Debug)]
@@ -49,7 +49,7 @@ impl AddressRange {
         requires { IsFirst (run_of_range self) prefix }
         ensures { IsBehind (run_of_range self) prefix result }
     {
-        let min = prefix.max().next()?;
+        let min = after(prefix.max())?;
         if self.max() < min {
             return None;
         }

@@ -1,25 +1,20 @@
-//! Laws of prefixes and ranges: the contracts of functions that do nothing.
+//! Laws of prefixes, ranges and blocks: the contracts of functions that do nothing.
 
-ghost use Rattle.std.specs.Prelude.{◌≡◌, ◌↔◌, ◌≤◌, ℕ};
+ghost use Rattle.std.specs.Prelude.{◌≡◌, ◌≤◌, ℕ};
 ghost use Rattle.bcder_tree.specs.declared.mode.Mode.{Mode as ModeValue};
 ghost use Rattle.bcder_tree.specs.Tree.{Tree, Trees};
 ghost use Rattle.bcder_values.specs.declared.choice.Choice2.{Choice2 as EitherValue};
 ghost use Rattle.bcder_written.specs.declared.primitive.Primitive.{Primitive as PrimitiveValue};
-ghost use Rattle.resources_chain.specs.Sets.{Run, InRun};
-ghost use Rattle.resources_ip_block.specs.declared.addr.AddressFamily.{AddressFamily as FamilyValue};
-ghost use Rattle.resources_ip_block.specs.declared.addr.AddressFamily.TheVariants.{Ipv4};
-ghost use Rattle.resources_ip_block.specs.declared.prefix.Prefix.{Prefix as PrefixValue};
+ghost use Rattle.resources_chain.specs.Sets.{Run};
+ghost use Rattle.resources_ip_prefix.specs.declared.addr.AddressFamily.{AddressFamily as FamilyValue};
+ghost use Rattle.resources_ip_prefix.specs.declared.addr.AddressFamily.TheVariants.{Ipv4};
+ghost use Rattle.resources_ip_prefix.specs.declared.prefix.Prefix.{Prefix as PrefixValue};
 ghost use Rattle.resources_ip_block.specs.BlockEncodings.{IsBlock};
 ghost use Rattle.resources_ip_block.specs.Cover.{IsLargest, filled};
-ghost use Rattle.resources_ip_block.specs.Prefixes.{first_of, prefix_run};
-ghost use Rattle.resources_ip_block.specs.Whole.{IsWhole};
+ghost use Rattle.resources_ip_prefix.specs.Whole.{IsWhole};
 ghost use Rattle.resources_ip_block.specs.Written.{BlockTrees, EncodesBlock, FitsRun, RangeValue, ReadsBlock};
 
-/// A prefix has exactly the addresses that begin with its bits (RFC 3779 2.1.1).
-#[tactic(auto, using(crate::proofs::CoverLemmas::shared_bits))]
-pub fn prefix_is_shared_bits()
-    ensures { (addr len n : ℕ) → first_of len addr ≡ addr → InRun (prefix_run addr len) n ↔ (first_of len n ≡ addr) }
-{}
+pub use resources_ip_prefix::laws::prefix_is_shared_bits;
 
 /// Over whole IPv4 addresses `to_v4_prefixes` and `to_v6_prefixes` cover the same.
 #[tactic(auto, using(crate::proofs::CoverLemmas::whole_filled))]

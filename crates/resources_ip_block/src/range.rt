@@ -1,14 +1,13 @@
 //! Ranges of addresses.
 
-ghost use Rattle.std.specs.Prelude.{◌≡◌, ◌≢◌, ℕ, ◌≤◌, MatchResult, refl};
+ghost use Rattle.std.specs.Prelude.{◌≡◌, ◌≢◌, ◌+◌, ℕ, ◌≤◌, MatchOption, MatchResult, refl};
 ghost use Rattle.std.specs.Range.{range_inclusive_start, range_inclusive_end};
-ghost use Rattle.resources_ip_block.specs.Address.{bits_of, bits_within, one_addr};
-ghost use Rattle.resources_ip_block.specs.Prefix.{run_of_prefix};
-ghost use Rattle.resources_ip_block.specs.Prefixes.{first_of, prefix_run};
+ghost use Rattle.resources_ip_prefix.specs.Address.{bits_of, bits_within, one_addr};
+ghost use Rattle.resources_ip_prefix.specs.Prefix.{run_of_prefix};
+ghost use Rattle.resources_ip_prefix.specs.Prefixes.{first_of, prefix_run};
 
-use crate::addr::Addr;
-use crate::prefix::Prefix;
 use resources_chain::Block;
+use resources_ip_prefix::{Addr, Prefix};
 use std::ops::RangeInclusive;
 
 /// The addresses from one on up to another, both included (RFC 3779 2.2.3.9).
@@ -82,6 +81,20 @@ impl AddressRange {
     }
 }
 
+// The address behind this one; none behind the last.
+pub(crate) fn after(addr: Addr) -> Option<Addr>
+    ensures { MatchOption result (bits_of addr ≡ 340282366920938463463374607431768211455) (λ next. bits_of next ≡ bits_of addr + 1) }
+{
+    Some(Addr::from_bits(addr.to_bits().checked_add(1)?))
+}
+
+// The address before this one; none before the first.
+pub(crate) fn before(addr: Addr) -> Option<Addr>
+    ensures { MatchOption result (bits_of addr ≡ 0) (λ previous. bits_of previous + 1 ≡ bits_of addr) }
+{
+    Some(Addr::from_bits(addr.to_bits().checked_sub(1)?))
+}
+
 impl Block for AddressRange {
     ghost use Rattle.resources_ip_block.specs.Range.{run_of_range, range_within};
 
@@ -111,11 +124,11 @@ impl Block for AddressRange {
     }
 
     fn next(item: Addr) -> Option<Addr> {
-        item.next()
+        after(item)
     }
 
     fn previous(item: Addr) -> Option<Addr> {
-        item.previous()
+        before(item)
     }
 
     ghost item_within = { bits_within };

@@ -1,125 +1,19 @@
-//! Addresses, prefixes, ranges and blocks written and read: `10.0.0.1`, `10.0.0.0/8`, `10.0.0.0-10.0.0.9`.
+//! Ranges and blocks written and read: `10.0.0.0-10.0.0.9`, `10.0.0.0/8`.
 
-ghost use Rattle.std.specs.Prelude.{◌≡◌, ◌≤◌, ◌*◌, ◌^◌, ℕ, List, IfOk, IfErr, MatchResult, Some};
+ghost use Rattle.std.specs.Prelude.{◌≡◌, ℕ, List, IfOk, Some};
 ghost use Rattle.std.specs.Fmt.{DisplaysOnOk};
-ghost use Rattle.std.specs.Net.Addr.{ipv4_bits, ipv6_bits, MatchIp};
-ghost use Rattle.std.specs.Net.Grammar.{IsIpText, IsIpv4Text, IsIpv6Text};
-ghost use Rattle.resources_ip_block.specs.Address.{bits_of};
+ghost use Rattle.resources_ip_prefix.specs.Address.{bits_of};
+ghost use Rattle.resources_ip_prefix.specs.Text.{v4_text, v6_text};
+ghost use Rattle.resources_ip_prefix.specs.Whole.{IsWhole};
 ghost use Rattle.resources_ip_block.specs.Block.{run_of_block};
-ghost use Rattle.resources_ip_block.specs.Family.{max_len_of};
-ghost use Rattle.resources_ip_block.specs.Prefix.{prefix_addr, prefix_len, run_of_prefix};
 ghost use Rattle.resources_ip_block.specs.Range.{run_of_range};
-ghost use Rattle.resources_ip_block.specs.Whole.{IsWhole};
-ghost use Rattle.resources_ip_block.specs.Text.{v4_text, v6_text, slashed, dashed, IsBlockText};
+ghost use Rattle.resources_ip_block.specs.BlockText.{dashed, IsBlockText};
 
-use crate::addr::{Addr, AddressFamily};
 use crate::block::IpBlock;
-use crate::error::FromStrError;
-use crate::prefix::Prefix;
 use crate::range::AddressRange;
+use resources_ip_prefix::{Addr, AddressFamily, FromStrError, Prefix};
 use std::fmt;
-use std::net::{AddrParseError, IpAddr, Ipv4Addr, Ipv6Addr};
 use std::str::FromStr;
-
-impl Addr {
-    /// The address of a dotted text.
-    pub fn from_v4_str(text: &str) -> Result<Self, AddrParseError>
-        ensures { MatchResult result
-            (λ a. (ip : _) × IsIpv4Text text.now ip × (bits_of a ≡ ipv4_bits ip * 2 ^ 96))
-            (λ _. (ip : _) → ¬ (IsIpv4Text text.now ip)) }
-    {
-        Ok(Addr::from_v4(text.parse::<Ipv4Addr>()?))
-    }
-
-    /// The address of a text in groups (RFC 4291 2.2), whose end may be dotted.
-    pub fn from_v6_str(text: &str) -> Result<Self, AddrParseError>
-        ensures { MatchResult result
-            (λ a. (ip : _) × IsIpv6Text text.now ip × (bits_of a ≡ ipv6_bits ip))
-            (λ _. (ip : _) → ¬ (IsIpv6Text text.now ip)) }
-    {
-        Ok(Addr::from_v6(text.parse::<Ipv6Addr>()?))
-    }
-
-    /// Writes the first 32 bits as an IPv4 address.
-    pub fn fmt_v4<W: fmt::Write>(self, f: &mut fmt::Formatter<W>) -> fmt::Result
-        ensures { DisplaysOnOk W.Write.write_str_gives f.old result (Some (v4_text (bits_of self))) f.new }
-    {
-        write!(f, "{}", self.to_v4())
-    }
-
-    /// Writes the bits as an IPv6 address (RFC 5952).
-    pub fn fmt_v6<W: fmt::Write>(self, f: &mut fmt::Formatter<W>) -> fmt::Result
-        ensures { DisplaysOnOk W.Write.write_str_gives f.old result (Some (v6_text (bits_of self))) f.new }
-    {
-        write!(f, "{}", self.to_v6())
-    }
-}
-
-/// The address of a text of either family.
-impl FromStr for Addr {
-    type Err = AddrParseError;
-
-    ghost from_str_gives = { λ text verdict. MatchResult verdict
-        (λ a. (ip : _) × IsIpText text ip × MatchIp ip (λ v4. bits_of a ≡ ipv4_bits v4 * 2 ^ 96) (λ v6. bits_of a ≡ ipv6_bits v6))
-        (λ _. (ip : _) → ¬ (IsIpText text ip)) };
-
-    fn from_str(text: &str) -> Result<Self, AddrParseError> {
-        Ok(match text.parse::<IpAddr>()? {
-            IpAddr::V4(addr) => Addr::from_v4(addr),
-            IpAddr::V6(addr) => Addr::from_v6(addr),
-        })
-    }
-}
-
-impl Prefix {
-    /// The prefix of a text `10.0.0.0/8`; host bits are cleared.
-    pub fn from_v4_str(text: &str) -> Result<Self, FromStrError>
-        ensures len { IfOk result (λ p. prefix_len p ≤ 32) }
-        ensures whole { IfOk result (λ p. IsWhole (run_of_prefix p)) }
-    {
-        let Some((addr, len)) = text.split_once('/') else {
-            return Err(FromStrError::MissingSeparator);
-        };
-        let addr = Addr::from_v4_str(addr).map_err(|_| FromStrError::Addr)?;
-        Ok(Prefix::new(addr, length_of(AddressFamily::Ipv4, len)?))
-    }
-
-    /// The prefix of a text `2001:db8::/32`; host bits are cleared.
-    pub fn from_v6_str(text: &str) -> Result<Self, FromStrError> {
-        let Some((addr, len)) = text.split_once('/') else {
-            return Err(FromStrError::MissingSeparator);
-        };
-        let addr = Addr::from_v6_str(addr).map_err(|_| FromStrError::Addr)?;
-        Ok(Prefix::new(addr, length_of(AddressFamily::Ipv6, len)?))
-    }
-
-    /// Writes the IPv4 prefix.
-    pub fn fmt_v4<W: fmt::Write>(self, f: &mut fmt::Formatter<W>) -> fmt::Result
-        ensures { DisplaysOnOk W.Write.write_str_gives f.old result (Some (slashed (v4_text (bits_of (prefix_addr self))) (prefix_len self))) f.new }
-    {
-        write!(f, "{}/{}", self.addr().to_v4(), self.addr_len())
-    }
-
-    /// Writes the IPv6 prefix.
-    pub fn fmt_v6<W: fmt::Write>(self, f: &mut fmt::Formatter<W>) -> fmt::Result
-        ensures { DisplaysOnOk W.Write.write_str_gives f.old result (Some (slashed (v6_text (bits_of (prefix_addr self))) (prefix_len self))) f.new }
-    {
-        write!(f, "{}/{}", self.addr().to_v6(), self.addr_len())
-    }
-}
-
-// The length of a prefix, in decimal digits.
-fn length_of(family: AddressFamily, text: &str) -> Result<u8, FromStrError>
-    ensures { IfOk result (λ len. len ≤ max_len_of family) }
-{
-    if text.starts_with('+') {
-        return Err(FromStrError::PrefixLen);
-    }
-    match text.parse::<u8>() {
-        Ok(len) if len <= family.max_addr_len() => Ok(len),
-        _ => Err(FromStrError::PrefixLen),
-    }
-}
 
 impl AddressRange {
     /// The range of a text `10.0.0.0-10.0.0.9`, over whole IPv4 addresses.

@@ -1,18 +1,16 @@
 #!/usr/bin/env python3
 """Writes the tables of recorded values, by Python's own `ipaddress`.
 
-In this crate's folder, and then in that of resources_ip:
+In this crate's folder:
 
-    python3 tests/recorded.py PREFIXES RANGES COVERS > src/tests/recorded.rt && rt fmt
-    python3 ../resources_ip_block/tests/recorded.py SETS > src/tests/recorded.rt && rt fmt
+    python3 tests/recorded.py > src/tests/recorded.rt && rt fmt
 
 A row of prefixes or ranges has a text, how it is printed, and its first and last address of 128 bits; a row of covers
-a range and the prefixes that cover it; a row of sets a list and how its set is printed.
+a range and the prefixes that cover it.
 """
 
 import ipaddress
 import random
-import sys
 
 random.seed(3779)
 
@@ -77,48 +75,17 @@ def cover_rows(version):
         yield f'("{first}-{last}", &[{listed}]),'
 
 
-def set_rows(version):
-    """Lists of blocks in any order, and the set of their addresses."""
-    base = 0x0A000000 if version == 4 else 0x20010DB8 << 96
-    for count in [1, 2, 3, 5, 8]:
-        runs = []
-        texts = []
-        for _ in range(count):
-            first = base + random.randrange(64)
-            last = first + random.randrange(16)
-            if random.randrange(2):
-                length = (32 if version == 4 else 128) - random.randrange(5)
-                network = ipaddress.ip_network((first, length), strict=False)
-                first, last = int(network.network_address), int(network.broadcast_address)
-                texts.append(str(network))
-            else:
-                texts.append(f"{address_of(version, first)}-{address_of(version, last)}")
-            runs.append((first, last))
-        members = sorted({number for first, last in runs for number in range(first, last + 1)})
-        joined = []
-        for number in members:
-            if joined and joined[-1][1] + 1 == number:
-                joined[-1][1] = number
-            else:
-                joined.append([number, number])
-        printed = ", ".join(text_of(address_of(version, a), address_of(version, b)) for a, b in joined)
-        separator = random.choice([",", ", "])
-        yield f'("{separator.join(texts)}", "{printed}"),'
-
-
 def table(name, of, rows):
     rows = list(rows)
-    if name[3:] in sys.argv[1:]:
-        print(f"\npub const {name}: [{of}; {len(rows)}] = [")
-        for row in rows:
-            print(f"    {row}")
-        print("];")
+    print(f"\npub const {name}: [{of}; {len(rows)}] = [")
+    for row in rows:
+        print(f"    {row}")
+    print("];")
 
 
 if __name__ == "__main__":
-    print("//! What Python's `ipaddress` says; tests/recorded.py of `resources_ip_block` writes this file.")
+    print("//! What Python's `ipaddress` says; tests/recorded.py writes this file.")
     for version, name in [(4, "V4"), (6, "V6")]:
         table(f"{name}_PREFIXES", "(&str, &str, u128, u128)", prefix_rows(version))
         table(f"{name}_RANGES", "(&str, &str, u128, u128)", range_rows(version))
-        table(f"{name}_SETS", "(&str, &str)", set_rows(version))
         table(f"{name}_COVERS", "(&str, &[&str])", cover_rows(version))

@@ -3,7 +3,7 @@
 ghost use Rattle.std.specs.Prelude.{IfOk};
 ghost use Rattle.resources_chain.specs.Sets.{IsRunsOf, InEither, InBoth, InFirstOnly};
 
-use resources_ip::{Ipv4Blocks, Ipv6Blocks};
+use resources_ip_family::{Ipv4Blocks, Ipv6Blocks};
 use std::alloc::{AllocError, Global};
 
 /// The IPv4 addresses of either set.

@@ -1,7 +1,7 @@
 pub mod BundleGrammar
-pub mod Modes
 pub mod Reading
 pub mod Digests
+pub mod DigestWords
 mod Contents
 pub mod Spellings
 pub mod Writing

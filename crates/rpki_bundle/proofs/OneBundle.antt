@@ -41,7 +41,8 @@ same_list {P = P} {t} {u} {xs} {ys} one i j e =
     let members : j.members ≡ i.members = cc in
     one_each one i.members xs ys i.each (subst (λ (z : Trees). EachIs P z ys) members j.each)
 
-bundle_fields : (x y : BundleValue) → x.moment ≡ y.moment → x.depth ≡ y.depth → x.locators ≡ y.locators → x.objects ≡ y.objects → x.verdicts ≡ y.verdicts → x ≡ y
+-- Bundles of the same parts are one.
+pub bundle_fields : (x y : BundleValue) → x.moment ≡ y.moment → x.depth ≡ y.depth → x.locators ≡ y.locators → x.objects ≡ y.objects → x.verdicts ≡ y.verdicts → x ≡ y
 bundle_fields x y m d l o v = λ i. record { moment = m i; depth = d i; locators = l i; objects = o i; verdicts = v i }
 
 pub one_bundle : {s : List ℕ} {b c : BundleValue} → BundleText s b → BundleText s c → b ≡ c

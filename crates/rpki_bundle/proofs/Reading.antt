@@ -8,19 +8,20 @@ use Rattle.bcder_tree.specs.declared.mode.Mode.TheVariants.{Der}
 use Rattle.bcder_tree.specs.Tags.{TagValue}
 use Rattle.bcder_tree.specs.Tree.{Tree, Trees, primitive, none, more, SpellsAll}
 use Rattle.bcder_source.specs.Errors.{OnContent}
-use Rattle.bcder_source.specs.Views.{Moved, limited, more_limit}
+use Rattle.bcder_source.specs.Views.{limited, more_limit}
 use Rattle.bcder_source.specs.declared.error.DecodeError.{DecodeError}
 use Rattle.bcder_source.specs.declared.error.DecodeError.TheVariants.{Content, Source, Memory}
 use Rattle.bcder_primitive.specs.Values.{AnyOctets}
 use Rattle.bcder_content.specs.declared.constructed.Constructed.{Constructed}
 use Rattle.bcder_content.specs.Contents.{ValuesLeft, octets, EndsHere, TookAll, Ended, Whole}
-use Rattle.bcder_content.specs.Exact.{Gives, Lacks, ReadsAs, LacksTagged, ReadsOptAs, LacksAll, GivesAll, ReadsAllAs}
+use Rattle.bcder_content.specs.Exact.{Gives, Lacks, ReadsAs, ReadsOptAs, LacksAll, ReadsAllAs}
 use Rattle.bcder_content.specs.Grammar.{OctetsOf, As, End}
 use Rattle.bcder_content.specs.Here.{here}
-use Rattle.bcder_content.specs.Ran.{Reader, fresh, RanIn, RanInRefused, refused_in, failed_in, DecodedCases, Decoded}
+use Rattle.bcder_content.specs.Ran.{Reader, fresh, RanIn, refused_in, failed_in, DecodedCases, Decoded}
 use Rattle.bcder_content.proofs.Choices.{as_gives, as_lacks, as_lacks_tagged}
 use Rattle.bcder_content.proofs.Taking.{weaker}
 use Rattle.bcder_content.proofs.Took.{one_took, whole_none}
+use Rattle.bcder_values.proofs.Returning.{all_read}
 use Rattle.rpki_bundle.specs.declared.error.BundleError.{BundleError}
 use Rattle.rpki_bundle.specs.declared.whole.Parts.{Parts}
 use Rattle.rpki_bundle.specs.Bundle.{BundleValue, BundleText}
@@ -77,11 +78,6 @@ ReadsText f m P o (Ok x) = (ts : Trees) × P ts (f x) × SpellsAll m ts o
 ReadsText {A} {B} f m P o (Err e) = OnContent e ((ts : Trees) (x : B) → P ts x → SpellsAll m ts o → ⊥)
 
 -- All values of a source.
-spelled_whole : (m : Mode) (ts : Trees) (o : List ℕ) → SpellsAll m ts o → Whole (fresh m o) ts
-spelled_whole m ts o s =
-    let moved : Moved (octets (fresh m o)) o (octets (fresh m [])) = record { rest = sym (append-nil o); limit = refl } in
-    let took : TookAll (fresh m o) ts (fresh m []) = record { text = o; spelled = s; goes = record { moved = moved; mode = refl; end = refl; before = refl; behind = refl } } in
-    record { behind = fresh m []; took = took; ended = record { sound = refl; ends = refl } }
 
 nothing_left : (m : Mode) (o : List ℕ) (end : ValuesLeft) (n : ℕ) (l : Option ℕ) → end.limit ≡ l → None ≡ more_limit n l → end.end ≡ (fresh m o).end → EndsHere end.end (octets end) → end.rest ≡ []
 nothing_left m o end n None e k u h =
@@ -118,7 +114,7 @@ decoded_cases m o (Ok x) exact h =
     (given.0.trees, given.0.is, whole_spelled given.0.took given.1)
 decoded_cases m o (Err (Content x pos)) exact h = λ ts y p s.
     elim h [
-      | refused_in end on ↦ (in_fresh exact refl on).none ts y p (spelled_whole m ts o s)
+      | refused_in end on ↦ (in_fresh exact refl on).none ts y p (all_read m ts o s)
       | failed_in end v on failed ↦ let given = in_fresh exact refl on in let e : true ≡ false = sym failed ∙ given.1.sound in absurd cc
     ]
 decoded_cases m o (Err (Source x)) exact h = tt

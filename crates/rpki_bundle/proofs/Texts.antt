@@ -1,6 +1,5 @@
 -- The octets that spell a bundle are one row, and lawful bundles have them.
-use Rattle.std.proofs.Common.{◌≡◌, ℕ, ◌^◌, ◌<◌, inl, inr, Some, List, [], ◌∷◌, ◌++◌, true, length, refl, sym, ap, ◌∙◌, subst, append-nil, length-append, arith}
-use Rattle.std.specs.Prelude.{All}
+use Rattle.std.proofs.Common.{◌≡◌, ℕ, ◌^◌, ◌<◌, Some, List, [], ◌∷◌, ◌++◌, length, refl, sym, ap, ◌∙◌, subst, append-nil, length-append, arith}
 use Rattle.bcder_tree.specs.declared.mode.Mode.TheVariants.{Der}
 use Rattle.bcder_tree.specs.Tags.{universal}
 use Rattle.bcder_tree.specs.Tree.{Tree, Trees, primitive, constructed, Spells}
@@ -8,10 +7,9 @@ use Rattle.bcder_tree.specs.Sequences.{sequence, sequence_tag, forest}
 use Rattle.bcder_tree.specs.Integers.{IsNumber}
 use Rattle.bcder_tree.proofs.Integers.{small_number, number_small}
 use Rattle.rpki_bundle.specs.TimeForms.{IsGeneralizedTime}
-use Rattle.rpki_bundle.specs.Uris.{IsUri, IsUriOctet}
 use Rattle.rpki_bundle.specs.Bundle.{BundleValue, BundleText, IsLocator, IsObject, IsVerdict}
 use Rattle.rpki_bundle.specs.EntryTrees.{locator_tree, object_tree, verdict_tree, locator_is, object_is, verdict_is}
-use Rattle.rpki_bundle.specs.Spellings.{length_octets, value_octets, sequence_octets, locator_octets, object_octets, verdict_octets, list_octets, members_octets, bundle_octets}
+use Rattle.rpki_bundle.specs.Spellings.{value_octets, sequence_octets, locator_octets, object_octets, verdict_octets, list_octets, members_octets, bundle_octets}
 use Rattle.rpki_bundle.specs.declared.parts.Locator.{Locator}
 use Rattle.rpki_bundle.specs.declared.parts.Object.{Object}
 use Rattle.rpki_bundle.specs.declared.parts.Verdict.{Verdict}
@@ -22,8 +20,8 @@ use Rattle.bcder_written.specs.declared.error.EncodeError.{EncodeError}
 use Rattle.bcder_written.specs.Writing.{Wrote, CannotWrite}
 use Rattle.rpki_bundle.specs.Written.{AreBundle, WritesBundle}
 use Rattle.rpki_bundle.proofs.Moments.{one_text}
-use Rattle.rpki_bundle.proofs.Writing.{wrote_bundle, never_refused}
-use Rattle.rpki_bundle.proofs.Spellings.{Spelling, spells_value, primitive_spelled, spells_primitive, sequence_spelled, spells_sequence, value_longer, pair_spelled, spells_pair, three_spelled, spells_three, list_spelled, spells_list}
+use Rattle.rpki_bundle.proofs.Writing.{joined, wrote_bundle, never_refused}
+use Rattle.rpki_bundle.proofs.Spellings.{Spelling, primitive_spelled, spells_primitive, sequence_spelled, spells_sequence, value_longer, pair_spelled, spells_pair, three_spelled, spells_three, list_spelled, spells_list}
 
 -- The three kinds of entries.
 pub locator_spelling : Spelling IsLocator IsLawfulLocator locator_octets
@@ -105,9 +103,6 @@ text_told {o} {b} x =
       };
       whole = s.whole ∙ ap sequence_octets content;
     }
-  where
-    joined : {a b c d : List ℕ} → a ≡ b → c ≡ d → a ++ c ≡ b ++ d
-    joined {a} {b} {c} {d} p q = ap (λ (z : List ℕ). z ++ c) p ∙ ap (λ (z : List ℕ). b ++ z) q
 
 -- A lawful bundle has a text.
 pub lawful_text : {b : BundleValue} (l : IsLawful b) → BundleText (bundle_octets l.text b) b

@@ -1,13 +1,13 @@
 -- What the codec's encoders write of a bundle are its octets in DER.
-use Rattle.std.proofs.Common.{◌≡◌, ℕ, ◌+◌, ◌*◌, ◌^◌, ◌<◌, ◌≤◌, true, List, [], ◌∷◌, ◌++◌, length, Result, Ok, Err, refl, sym, ap, ◌∙◌, subst, append-nil, length-append, arith}
+use Rattle.std.proofs.Common.{◌≡◌, ℕ, ◌+◌, ◌^◌, ◌<◌, true, List, [], ◌∷◌, ◌++◌, length, Result, Ok, Err, refl, sym, ap, ◌∙◌, subst, append-nil, length-append, arith}
 use Rattle.std.specs.Prelude.{All, IfOk, IfErr, is_ok}
 use Rattle.std.specs.List.{flat_map}
 use Rattle.bcder_tree.specs.declared.mode.Mode.TheVariants.{Der}
 use Rattle.bcder_tree.specs.Tags.{universal}
-use Rattle.bcder_tree.specs.Tree.{Tree, primitive, Spells, IsConstructed, definite, indefinite}
+use Rattle.bcder_tree.specs.Tree.{primitive, Spells, IsConstructed, definite, indefinite}
 use Rattle.bcder_tree.specs.Front.{Splits}
 use Rattle.bcder_tree.specs.Integers.{IsNumber}
-use Rattle.bcder_tree.proofs.Integers.{small_number, number_small}
+use Rattle.bcder_tree.proofs.Integers.{small_number}
 use Rattle.bcder_written.specs.declared.error.EncodeError.{EncodeError}
 use Rattle.bcder_written.specs.declared.error.EncodeError.TheVariants.{CerUnsupported, TooLong, Write, Memory}
 use Rattle.bcder_written.specs.Encoded.{WritesWrapped, WritesBoth, SpellsSome}
@@ -17,9 +17,6 @@ use Rattle.bcder_values.specs.Lists.{WritesAll, all_spelled}
 use Rattle.bcder_values.specs.Plains.{plain_spelled}
 use Rattle.bcder_values.specs.Wraps.{wrapped_spelled}
 use Rattle.bcder_written.specs.Writing.{HasLength, CannotWrite}
-use Rattle.rpki_bundle.specs.declared.parts.Locator.{Locator}
-use Rattle.rpki_bundle.specs.declared.parts.Object.{Object}
-use Rattle.rpki_bundle.specs.declared.parts.Verdict.{Verdict}
 use Rattle.rpki_bundle.specs.Bundle.{BundleValue}
 use Rattle.rpki_bundle.specs.Spellings.{value_octets, sequence_octets, locator_octets, object_octets, verdict_octets, list_octets, members_octets, bundle_octets}
 use Rattle.rpki_bundle.specs.Written.{WritesText, WritesInteger, WritesPair, WritesTriple, WritesLocator, WritesObject, WritesVerdict, AreBundle, WritesBundle, pair_spelled, triple_spelled}
@@ -69,7 +66,7 @@ octets_wrapped P c p fits =
     record { content = c; is = p; few = fits; spelled = definite tt x.header x.header_is (x.whole ∙ ap (λ (z : List ℕ). x.header ++ z) (append-nil c)) }
 
 -- Two parts, one behind the other.
-joined : {a b c d : List ℕ} → a ≡ b → c ≡ d → a ++ c ≡ b ++ d
+pub joined : {a b c d : List ℕ} → a ≡ b → c ≡ d → a ++ c ≡ b ++ d
 joined {a} {b} {c} {d} p q = ap (λ (z : List ℕ). z ++ c) p ∙ ap (λ (z : List ℕ). b ++ z) q
 
 -- Two strings, and three.

@@ -11,9 +11,8 @@ ghost use Rattle.rpki_bundle.specs.Grammars.{AreRows};
 ghost use Rattle.rpki_bundle.specs.Orders.{IsBefore, Ascends};
 ghost use Rattle.rpki_bundle.specs.Lawful.{IsLawfulList};
 
-use bcder_content::Constructed;
-use bcder_source::{ContentError, DecodeError, Source};
-use bcder_values::Values;
+use bcder::decode::{Constructed, ContentError, DecodeError, Source};
+use bcder::encode::Values;
 use std::alloc::Global;
 
 /// What a list of a bundle has as its entries.

@@ -1,17 +1,20 @@
 //! The entries of a bundle's lists.
 
-ghost use Rattle.bcder_content.specs.Exact.{ReadsAllAs};
+ghost use Rattle.bcder_content.specs.Exact.{ReadsAllAs, ReadsOptAs};
 ghost use Rattle.bcder_content.specs.Here.{here};
-ghost use Rattle.rpki_bundle.specs.Grammars.{IsLocatorBody, IsObjectBody, IsVerdictBody, digest_fields, locator_fields, object_fields};
+ghost use Rattle.bcder_tree.specs.Tags.{universal};
+ghost use Rattle.rpki_bundle.specs.Grammars.{IsLocatorBody, IsObjectBody, IsVerdictBody, IsVerdictRow, locator_fields, object_fields};
+ghost use Rattle.rpki_bundle.specs.Words.{verdict_of, words_fields};
 
 use crate::entries::{Entry, stands_before};
 use crate::reader::{is_name, take_digest, take_name, take_octets, take_uri};
 use crate::uri::is_lookup_key;
+use crate::words::VerdictWords;
 use crate::writer::{pair_len, triple_len, write_pair, write_triple};
 use crate::{Locator, Object, Verdict};
-use bcder_content::Constructed;
-use bcder_source::{DecodeError, Mode, Source, Tag};
-use bcder_values::{EncodeError, Values};
+use bcder::decode::{Constructed, DecodeError, Source};
+use bcder::encode::{EncodeError, Values};
+use bcder::{Mode, Tag};
 use std::alloc::Global;
 use std::io::Write;
 
@@ -139,6 +142,29 @@ impl Entry for Object {
     ghost one_value = { one_object };
 }
 
+// The next verdict, in words.
+#[inline(always)]
+fn take_words<S: Source>(
+    cons: &mut Constructed<S>,
+) -> Result<Option<VerdictWords>, DecodeError<S::Error>>
+    ensures { ReadsOptAs verdict_of (universal 16) IsVerdictRow (here S.rest cons.old) result (here S.rest cons.new) }
+{
+    cons.take_opt_sequence(
+        |cons|
+            ensures { ReadsAllAs words_fields IsVerdictBody (here S.rest cons.old) result (here S.rest cons.new) }
+        {
+            let key = take_digest(cons)?;
+            let message = take_digest(cons)?;
+            let signature = take_digest(cons)?;
+            Ok(VerdictWords {
+                key,
+                message,
+                signature,
+            })
+        },
+    )
+}
+
 /// A SEQUENCE of its strings.
 impl Values for Verdict {
     ghost use Rattle.rpki_bundle.specs.Written.{AreVerdict, WritesVerdict, triple_spelled, triple_one};
@@ -175,20 +201,11 @@ impl Entry for Verdict {
         alloc: Global,
         cons: &mut Constructed<S>,
     ) -> Result<Option<Self>, DecodeError<S::Error>> {
-        cons.take_opt_sequence(
-            |cons|
-                ensures { ReadsAllAs digest_fields IsVerdictBody (here S.rest cons.old) result (here S.rest cons.new) }
-            {
-                let key = take_digest(cons)?;
-                let message = take_digest(cons)?;
-                let signature = take_digest(cons)?;
-                Ok(Verdict {
-                    key,
-                    message,
-                    signature,
-                })
-            },
-        )
+        match take_words(cons) {
+            Ok(Some(words)) => Ok(Some(words.verdict())),
+            Ok(None) => Ok(None),
+            Err(error) => Err(error),
+        }
     }
 
     fn is_before(&self, other: &Self) -> bool {

@@ -14,6 +14,7 @@ mod tests;
 pub mod time;
 pub mod uri;
 mod whole;
+mod words;
 mod writer;
 
 pub use bundle::Bundle;

@@ -10,14 +10,14 @@ ghost use Rattle.bcder_primitive.specs.Plain.{ReadsOctetsAs};
 ghost use Rattle.bcder_primitive.specs.Values.{AnyOctets};
 ghost use Rattle.rpki_bundle.specs.Grammars.{IsDepthNumber, IsDigest, IsDigestString, IsMomentString, IsNameString, IsUriString};
 ghost use Rattle.rpki_bundle.specs.Lawful.{IsName, IsWord};
+ghost use Rattle.rpki_bundle.specs.Words.{octets_of};
 
 use crate::Time;
 use crate::uri::is_lookup_key;
-use bcder_chars::{CharSet, PrintableCharSet};
-use bcder_content::{Constructed, Primitive};
-use bcder_octets::OctetString;
-use bcder_source::{ContentError, DecodeError, Source, Tag};
-use bcder_strings::{Ia5String, PrintableString};
+use crate::words::DigestWords;
+use bcder::decode::{Constructed, ContentError, DecodeError, Primitive, Source};
+use bcder::string::{CharSet, PrintableCharSet};
+use bcder::{Ia5String, OctetString, PrintableString, Tag};
 use bytes::Bytes;
 use std::alloc::Global;
 
@@ -91,8 +91,8 @@ pub fn take_uri<S: Source>(
 
 // The digest that all octets of a content are.
 #[inline(always)]
-fn digest<S: Source>(prim: &mut Primitive<S>) -> Result<[u8; 32], DecodeError<S::Error>>
-    ensures { ReadsOctetsAs (λ digest. digest) IsDigest (plain S.rest prim.old) result (plain S.rest prim.new) }
+fn digest<S: Source>(prim: &mut Primitive<S>) -> Result<DigestWords, DecodeError<S::Error>>
+    ensures { ReadsOctetsAs octets_of IsDigest (plain S.rest prim.old) result (plain S.rest prim.new) }
 {
     if prim.failed {
         return Err(prim.content_err(ContentError::from_static("no digest")));
@@ -106,18 +106,20 @@ fn digest<S: Source>(prim: &mut Primitive<S>) -> Result<[u8; 32], DecodeError<S:
         Err(_) => return Err(prim.content_err(ContentError::from_static("no digest"))),
     };
     prim.advance(32);
-    Ok(digest)
+    Ok(DigestWords::of(&digest))
 }
 
 /// A digest, as an OCTET STRING of 32 octets.
 #[inline(always)]
-pub fn take_digest<S: Source>(cons: &mut Constructed<S>) -> Result<[u8; 32], DecodeError<S::Error>>
-    ensures { ReadsAs (λ digest. digest) IsDigestString (here S.rest cons.old) result (here S.rest cons.new) }
+pub fn take_digest<S: Source>(
+    cons: &mut Constructed<S>,
+) -> Result<DigestWords, DecodeError<S::Error>>
+    ensures { ReadsAs octets_of IsDigestString (here S.rest cons.old) result (here S.rest cons.new) }
 {
     cons.take_primitive_if(
         Tag::OCTET_STRING,
         |prim|
-            ensures { ReadsOctetsAs (λ digest. digest) IsDigest (plain S.rest prim.old) result (plain S.rest prim.new) }
+            ensures { ReadsOctetsAs octets_of IsDigest (plain S.rest prim.old) result (plain S.rest prim.new) }
         { digest(prim) },
     )
 }

@@ -9,8 +9,7 @@ ghost use Rattle.rpki_bundle.specs.PartFields.{parts_alone, parts_fields, parts_
 use crate::entries::take_list;
 use crate::reader::{take_depth, take_moment};
 use crate::{Locator, Object, Time, Verdict};
-use bcder_content::Constructed;
-use bcder_source::{ContentError, DecodeError, Source};
+use bcder::decode::{Constructed, ContentError, DecodeError, Source};
 use std::alloc::Global;
 
 /// What was read of a bundle.

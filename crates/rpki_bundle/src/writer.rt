@@ -8,9 +8,9 @@ ghost use Rattle.bcder_tree.specs.Tags.{IsTag};
 ghost use Rattle.bcder_written.specs.Writing.{HasLength, Wrote, CannotWrite, WriteRefused};
 ghost use Rattle.rpki_bundle.specs.Written.{AreMembers, IsPair, IsTriple, WritesMembers, WritesPair, WritesTriple};
 
-use bcder_octets::OctetSliceEncoder;
-use bcder_source::{Mode, Tag};
-use bcder_values::{Constructed, EncodeError, Octets, Primitive, Values};
+use bcder::encode::{Constructed, EncodeError, Octets, Primitive, Values};
+use bcder::string::OctetSliceEncoder;
+use bcder::{Mode, Tag};
 use std::convert::AsSlice;
 use std::io::Write;
 

@@ -3,13 +3,12 @@ use Rattle.std.proofs.Common.{◌≡◌, ℕ, ◌+◌, ◌/◌, ◌%◌, ◌≤�
 use Rattle.std.proofs.lemmas.List.Sorted.{IsPermutation-sym, IsPermutation-trans}
 use Rattle.std.specs.List.Sorted.{IsPermutation}
 use Rattle.bcder_tree.proofs.Unique.{by_length}
-use Rattle.rpki_bundle.specs.declared.parts.Locator.{Locator}
-use Rattle.rpki_bundle.specs.declared.parts.Object.{Object}
 use Rattle.rpki_bundle.specs.declared.parts.Verdict.{Verdict}
-use Rattle.rpki_bundle.specs.Bundle.{BundleValue, verdict_row}
+use Rattle.rpki_bundle.specs.Bundle.{verdict_row}
 use Rattle.rpki_bundle.specs.Orders.{Ascends}
 use Rattle.rpki_bundle.specs.Times.{IsMoment}
 use Rattle.rpki_bundle.proofs.Moments.{one_moment}
+use Rattle.rpki_bundle.proofs.OneBundle.{bundle_fields}
 use Rattle.rpki_check.specs.declared.folder.parts.Contents.{Contents}
 use Rattle.rpki_check.specs.declared.folder.parts.Parts.{Parts}
 use Rattle.rpki_check.specs.Lines.{IsEnd, TellsMoment, TellsDepth}
@@ -67,18 +66,6 @@ one_list_told t (v ∷ vs) (w ∷ ws) a b =
     let first : v ≡ w = same.value in
     cc
 
-made : ℕ → ℕ → List Locator → List Object → List Verdict → BundleValue
-made m d l o v = record { moment = m; depth = d; locators = l; objects = o; verdicts = v }
-
-made_of : (b : BundleValue) → made b.moment b.depth b.locators b.objects b.verdicts ≡ b
-unfolding made
-made_of b = refl
-
-same_fields : (b c : BundleValue) → b.moment ≡ c.moment → b.depth ≡ c.depth → b.locators ≡ c.locators → b.objects ≡ c.objects → b.verdicts ≡ c.verdicts → b ≡ c
-same_fields b c m d l o v =
-    let same : made b.moment b.depth b.locators b.objects b.verdicts ≡ made c.moment c.depth c.locators c.objects c.verdicts = cc in
-    sym (made_of b) ∙ same ∙ made_of c
-
 -- one list in two orders, of which one is sorted and one ascends
 one_sorted : {X : Type 0} (row : X → List ℕ) (read ys zs : List X) → IsPermutation read ys → IsPermutation read zs → IsSortedOn row ys → Ascends row zs → zs ≡ ys
 one_sorted row read ys zs p q s a = sym (one_order row ys zs (IsPermutation-trans ys read zs (IsPermutation-sym read ys p) q) s a)
@@ -90,7 +77,7 @@ one_told {c} {p} {text} a t =
     let form = t.text_is.form in
     let same = one_list_told c.verdicts.items told.verdicts a.told.verdicts told.verdicts_are a.told.verdicts_are in
     let again : IsPermutation a.told.verdicts t.bundle.verdicts = subst (λ (vs : List Verdict). IsPermutation vs t.bundle.verdicts) same told.same_verdicts in
-    same_fields t.bundle (value_of p)
+    bundle_fields t.bundle (value_of p)
     (one_moment_told told.moment_is a.told.moment_is)
     (one_depth_told told.depth_is a.told.depth_is)
     (one_sorted (λ l. l.name) c.locators.items p.locators.items t.bundle.locators a.told.same_locators told.same_locators a.locators_sorted form.locators_ascend)

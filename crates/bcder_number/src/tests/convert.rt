@@ -127,5 +127,7 @@ fn numbers_from_0_up(rt: HostRuntime) -> Result<(), Fail> {
     assert!(rt; Integer::from_u32(alloc, 40000)?.equals_unsigned(&number));
     assert!(rt; !Integer::from_i16(alloc, -25536)?.equals_unsigned(&number));
     assert!(rt; Unsigned::from_integer(Integer::from_i8(alloc, -1)?).is_err());
+    assert!(rt; !number.is_zero());
+    assert!(rt; Unsigned::from_u8(alloc, 0)?.is_zero());
     Ok(())
 }

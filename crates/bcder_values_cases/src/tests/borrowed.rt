@@ -1,9 +1,8 @@
 //! What is borrowed, items of a slice, and what is gathered.
 ghost use Rattle.bcder_tree.specs.Tags.{universal};
-ghost use Rattle.bcder_primitive.specs.Values.{AnyOctets};
 ghost use Rattle.bcder_written.specs.Encoded.{IsPlain, WritesPlain};
 ghost use Rattle.bcder_values.specs.Plains.{plain_spelled, plain_one};
-ghost use Rattle.bcder_written.specs.Simple.{one_string};
+ghost use Rattle.bcder_written.specs.Simple.{IsOnePiece, one_piece};
 
 use bcder_tree::{Mode, Tag};
 use bcder_values::{
@@ -23,9 +22,9 @@ struct AsStrings;
 impl<'a> Encodes<'a, Name> for AsStrings {
     type Given = Primitive<&'a [u8]>;
 
-    ghost trees = { λ e x m. IsPlain (universal 4) (λ content. AnyOctets content x.0) };
+    ghost trees = { λ e x m. IsPlain (universal 4) (λ content. IsOnePiece m content x.0) };
 
-    ghost writes = { λ e x m. WritesPlain m (universal 4) (λ content. AnyOctets content x.0) };
+    ghost writes = { λ e x m. WritesPlain m (universal 4) (λ content. IsOnePiece m content x.0) };
 
     fn values_of(&self, item: &'a Name) -> Primitive<&'a [u8]> {
         item.0.as_slice().encode()
@@ -33,7 +32,7 @@ impl<'a> Encodes<'a, Name> for AsStrings {
 
     ghost spelled = { λ e x m text w. plain_spelled m text w };
 
-    ghost one_text = { λ e x m a b. plain_one m (one_string x.0) a b };
+    ghost one_text = { λ e x m a b. plain_one m (one_piece m x.0) a b };
 }
 
 #[test]

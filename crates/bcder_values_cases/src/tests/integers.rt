@@ -1,7 +1,7 @@
 //! Numbers, BOOLEANs, NULL and octets.
 use super::is_written;
 use bcder_tree::Mode;
-use bcder_values::{Octets, PrimitiveContent, Values};
+use bcder_values::{EncodeError, Octets, PrimitiveContent, Values};
 use std::alloc::Global;
 use std::test::Fail;
 
@@ -220,5 +220,28 @@ fn header_of_a_long_slice(rt: HostRuntime) -> Result<(), Fail> {
             .as_slice()
             .starts_with(b"\x04\x82\x01\x2C\x07".as_slice())
     );
+    Ok(())
+}
+
+#[test]
+fn octets_in_one_piece(rt: HostRuntime) -> Result<(), Fail> {
+    // X.690 9.2: in CER a primitive string has at most 1000 octets; 1000 is 03 E8, in two octets behind 82.
+    let long = [7_u8; 1001];
+    let alloc = rt.alloc();
+    let most = (&long[..1000]).encode();
+    let more = long.as_slice().encode();
+    assert_eq!(rt; most.encoded_len(Mode::Cer), Ok(1004));
+    assert_eq!(rt;
+        more.encoded_len(Mode::Cer),
+        Err(EncodeError::CerUnsupported)
+    );
+    assert_eq!(rt; more.encoded_len(Mode::Ber), Ok(1005));
+    assert_eq!(rt; more.encoded_len(Mode::Der), Ok(1005));
+    let mut octets: Vec<u8> = Vec::new(alloc);
+    let answer = more.write_encoded(Mode::Cer, &mut octets);
+    assert_eq!(rt; answer, Err(EncodeError::CerUnsupported));
+    assert!(rt; octets.is_empty());
+    most.write_encoded(Mode::Cer, &mut octets)?;
+    assert_eq!(rt; octets.len(), 1004);
     Ok(())
 }

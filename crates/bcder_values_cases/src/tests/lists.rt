@@ -189,6 +189,16 @@ fn a_tuple_of_twelve(rt: HostRuntime) {
 }
 
 #[test]
+fn a_tuple_of_one(rt: HostRuntime) {
+    // By hand: X.690 8.3, 8.9.
+    let values = sequence((5_u8.encode(),));
+    let (taken, answer) = written(rt.alloc(), &values, Mode::Der, 99);
+    assert_eq!(rt; answer, Ok(()));
+    assert_eq!(rt; taken.as_slice(), [0x30, 3, 2, 1, 5].as_slice());
+    assert_eq!(rt; values.encoded_len(Mode::Der), Ok(5));
+}
+
+#[test]
 fn a_writer_refuses(rt: HostRuntime) {
     let pair = [one(1), two(2, 3)];
     let values = sequence(pair.as_slice());

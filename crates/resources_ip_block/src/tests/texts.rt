@@ -1,9 +1,8 @@
-//! Texts of addresses, prefixes, ranges and blocks, and of errors.
+//! Texts of ranges and blocks.
 
 use super::recorded::{V4_COVERS, V4_PREFIXES, V4_RANGES, V6_COVERS, V6_PREFIXES, V6_RANGES};
-use crate::{Addr, AddressRange, FromStrError, IpBlock, Prefix};
+use crate::{AddressRange, FromStrError, IpBlock, Prefix};
 use std::alloc::Global;
-use std::fmt;
 use std::test::Fail;
 
 // A text, how it is printed, and the first and last address.
@@ -92,50 +91,9 @@ fn v6_covers_are_those_of_python(rt: HostRuntime) -> Result<(), Fail> {
     Ok(())
 }
 
-/// Prints an address as IPv4.
-#[derive(Drop)]
-struct V4(Addr);
-
-impl fmt::Display for V4 {
-    fn fmt<W: fmt::Write>(&self, f: &mut fmt::Formatter<W>) -> fmt::Result {
-        self.0.fmt_v4(f)
-    }
-}
-
-/// Prints an address as IPv6.
-#[derive(Drop)]
-struct V6(Addr);
-
-impl fmt::Display for V6 {
-    fn fmt<W: fmt::Write>(&self, f: &mut fmt::Formatter<W>) -> fmt::Result {
-        self.0.fmt_v6(f)
-    }
-}
-
+// `::ffff:192.0.2.0/120` prints and reads as itself (RFC 5952 section 5).
 #[test]
-fn addresses_are_printed(rt: HostRuntime) -> Result<(), Fail> {
-    let addr = Addr::from_bits(0x2001_0DB8 << 96 | 1);
-    assert_eq!(rt; V4(addr).to_string(rt.alloc())?.as_str(), "32.1.13.184");
-    assert_eq!(rt; V6(addr).to_string(rt.alloc())?.as_str(), "2001:db8::1");
-    Ok(())
-}
-
-#[test]
-fn addresses_are_read(rt: HostRuntime) -> Result<(), Fail> {
-    assert!(rt; Addr::from_v4_str("192.0.2.1")?.to_bits() == 0xC000_0201 << 96);
-    assert!(rt; Addr::from_v6_str("2001:db8::1")?.to_bits() == 0x2001_0DB8 << 96 | 1);
-    assert!(rt; Addr::from_v4_str("::1").is_err());
-    assert!(rt; Addr::from_v6_str("1.2.3.4").is_err());
-    Ok(())
-}
-
-// `::ffff:192.0.2.1` prints and reads as itself (RFC 5952 section 5).
-#[test]
-fn mapped_addresses_are_read_back(rt: HostRuntime) -> Result<(), Fail> {
-    let mapped = "::ffff:192.0.2.1";
-    let addr: Addr = mapped.parse()?;
-    assert_eq!(rt; addr.to_bits(), 0xFFFF_C000_0201);
-    assert_eq!(rt; V6(addr).to_string(rt.alloc())?.as_str(), mapped);
+fn mapped_blocks_are_read_back(rt: HostRuntime) -> Result<(), Fail> {
     for text in ["::ffff:192.0.2.0/120", "::ffff:192.0.2.1-::ffff:192.0.2.9"] {
         let block: IpBlock = text.parse()?;
         assert_eq!(rt; block.display_v6().to_string(rt.alloc())?.as_str(), text);
@@ -170,23 +128,4 @@ fn texts_that_are_refused(rt: HostRuntime) {
     }
     assert!(rt; IpBlock::from_v4_str("2001:db8::/32").is_err());
     assert!(rt; IpBlock::from_v6_str("10.0.0.0/8").is_err());
-}
-
-#[test]
-fn errors_are_told(rt: HostRuntime) -> Result<(), Fail> {
-    for (error, text) in [
-        (FromStrError::Addr, "invalid address"),
-        (FromStrError::PrefixLen, "invalid prefix length"),
-        (FromStrError::MissingSeparator, "missing separator"),
-        (
-            FromStrError::FamilyMismatch,
-            "addresses of different families",
-        ),
-        (FromStrError::BadBlocks, "invalid list of blocks"),
-        (FromStrError::BadRange, "invalid range"),
-        (FromStrError::Memory, "out of memory"),
-    ] {
-        assert_eq!(rt; error.to_string(rt.alloc())?.as_str(), text);
-    }
-    Ok(())
 }

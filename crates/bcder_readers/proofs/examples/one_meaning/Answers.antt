@@ -1,7 +1,7 @@
-use Rattle.std.proofs.Common.{◌≡◌, ℕ, sym, ap, ◌∙◌, arith}
-use Rattle.bcder_tree.specs.Tags.{TagValue, universal}
-use Rattle.bcder_readers.specs.Examples.{IsSmall, IsVersion, IsPiece}
+use Rattle.std.proofs.Common.{arith}
+use Rattle.bcder_readers.specs.Examples.{IsSmall, IsVersion}
 use Rattle.bcder_content.specs.Grammar.{One}
+use Rattle.bcder_content.proofs.Choices.{universal_apart}
 use Rattle.bcder_content.proofs.Unique.{octets_tagged, inside_tagged, as_tagged, octets_one, unsigned_one, any_octets_one, inside_one, such_one, as_one, one_of_one, end_one, rest_one, then_one, opt_one, default_one, many_one}
 use Rattle.bcder_readers.proofs.examples.one_meaning.Goals as goal
 
@@ -11,14 +11,11 @@ small = octets_one unsigned_one
 numbers : One IsVersion
 numbers = inside_one (then_one small (then_one small end_one))
 
-apart : universal 2 ≡ universal 16 → ⊥
-apart e = let n : ◌≡◌ {A = ℕ} 2 16 = ap (λ (t : TagValue). t.number) e in omega arith
-
 pub returns : goal.returns
 returns c = record {
   version = numbers;
   log = inside_one (opt_one (octets_tagged _ _) small (then_one (inside_one (many_one numbers)) end_one));
   settings = inside_one (then_one (such_one small) (default_one (octets_tagged _ _) small rest_one));
-  name = one_of_one (as_tagged (octets_tagged _ _)) (as_tagged (inside_tagged _ _)) apart (as_one small) (as_one numbers);
+  name = one_of_one (as_tagged (octets_tagged _ _)) (as_tagged (inside_tagged _ _)) (universal_apart (λ e. omega arith)) (as_one small) (as_one numbers);
   pieces = inside_one (many_one (octets_one any_octets_one));
 }

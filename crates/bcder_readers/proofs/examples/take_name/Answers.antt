@@ -1,16 +1,12 @@
-use Rattle.std.proofs.Common.{◌≡◌, ℕ, ap, arith}
-use Rattle.bcder_tree.specs.Tags.{TagValue, universal}
+use Rattle.std.proofs.Common.{arith}
 use Rattle.bcder_readers.specs.Examples.{by_number, by_version}
-use Rattle.bcder_content.proofs.Choices.{stop_value, first_gives, second_gives, choice_lacks, second_lacks, as_gives, as_lacks, as_lacks_tagged}
+use Rattle.bcder_content.proofs.Choices.{stop_value, first_gives, second_gives, choice_lacks, second_lacks, as_gives, as_lacks, as_lacks_tagged, universal_apart}
 use Rattle.bcder_content.proofs.Forests.{there, absent}
 use Rattle.bcder_content.proofs.Unique.{octets_tagged, inside_tagged, as_tagged}
 use Rattle.bcder_readers.proofs.examples.take_name.Goals as goal
 
-apart : universal 2 ≡ universal 16 → ⊥
-apart e = let n : ◌≡◌ {A = ℕ} 2 16 = ap (λ (t : TagValue). t.number) e in omega arith
-
 pub returns-in_err-number-clause-reads : goal.returns-in_err-number-clause-reads
-returns-in_err-number-clause-reads g c = stop_value _ _ _ _ c.from_residual.ensures (λ l. choice_lacks (as_tagged (inside_tagged _ _)) apart (as_lacks_tagged by_number l)) c.in_err-number.ensures.reads
+returns-in_err-number-clause-reads g c = stop_value _ _ _ _ c.from_residual.ensures (λ l. choice_lacks (as_tagged (inside_tagged _ _)) (universal_apart (λ e. omega arith)) (as_lacks_tagged by_number l)) c.in_err-number.ensures.reads
 
 pub returns-in-Some-clause-reads : goal.returns-in-Some-clause-reads
 returns-in-Some-clause-reads g c = first_gives _ (as_gives by_number (there _ _ _ c.in-Some.is c.in_ok-number.ensures.reads))

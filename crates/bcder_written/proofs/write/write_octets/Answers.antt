@@ -3,10 +3,10 @@ use Rattle.bcder_written.proofs.write.write_octets.Goals as goal
 use Rattle.std.proofs.Common.{◌++◌, take}
 use Rattle.std.proofs.KnownBytes.{Appends-trans}
 
-pub loop-preserved : goal.loop-preserved
-loop-preserved g c =
-    let before = c.loop.invariant in
-    let rest = c.loop.rest.now in
+pub loop-rest-preserved : goal.loop-rest-preserved
+loop-rest-preserved g c =
+    let before = c.loop-rest.invariant in
+    let rest = c.loop-rest.rest.now in
     record {
       taken = before.taken ++ take c.in_ok-count.count rest;
       whole = takes_more _ _ rest c.in_ok-count.count before.whole;

@@ -1,5 +1,5 @@
 use Rattle.std.proofs.Common.{◌≡◌}
-use Rattle.resources_ip_block.specs.declared.addr.AddressFamily.TheVariants.{Ipv4}
+use Rattle.resources_ip_prefix.specs.declared.addr.AddressFamily.TheVariants.{Ipv4}
 use Rattle.resources_ip.specs.WholeSets.{AreWhole}
 use Rattle.resources_ip.proofs.listed.read_list.Given as goal
 

@@ -1,6 +1,8 @@
+use Rattle.bcder_tree.specs.declared.mode.Mode.{Mode}
 use Rattle.bcder_content.proofs.Forests.{begin, next, stop, done}
 use Rattle.bcder_content.proofs.Taking.{weaker}
-use Rattle.resources_ip_block.proofs.Blocks.{address_in, no_address_in}
+use Rattle.bcder_content.proofs.Modes.{mode_behind, gives_in, lacks_in}
+use Rattle.resources_ip_prefix.specs.Encodings.{IsAddress}
 use Rattle.resources_ip_block.proofs.der.bounds_in.Goals as goal
 
 pub returns-in_err-min : goal.returns-in_err-min
@@ -9,9 +11,9 @@ returns-in_err-min g c = stop _ _ _ _ (begin _ _) c.from_residual.ensures c.in_e
 pub returns-in_err-max : goal.returns-in_err-max
 returns-in_err-max g c =
     let min = c.in_ok-min.ensures.reads in
-    stop _ _ _ _ (next (begin _ _) min) c.from_residual-in_err-max.ensures (weaker _ (λ l. no_address_in c.args.family min.took.goes.mode l) c.in_err-max.ensures.reads)
+    stop _ _ _ _ (next (begin _ _) min) c.from_residual-in_err-max.ensures (weaker _ (lacks_in (λ (m : Mode). IsAddress m c.args.family) (mode_behind min)) c.in_err-max.ensures.reads)
 
 pub returns : goal.returns
 returns g c =
     let min = c.in_ok-min.ensures.reads in
-    done (next (next (begin _ _) min) (address_in c.args.family min.took.goes.mode c.in_ok-max.ensures.reads))
+    done (next (next (begin _ _) min) (gives_in (λ (m : Mode). IsAddress m c.args.family) (mode_behind min) c.in_ok-max.ensures.reads))

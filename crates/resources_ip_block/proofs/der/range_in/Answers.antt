@@ -1,7 +1,8 @@
 use Rattle.std.proofs.Common.{arith, ◌∙◌}
+use Rattle.resources_chain.specs.Same.{run_is}
 use Rattle.resources_ip_block.specs.BlockEncodings.{bounds_ends}
 use Rattle.resources_ip_block.specs.Range.{run_of_range}
-use Rattle.resources_ip_block.proofs.Blocks.{range_stop, range_given, range_unfit, same_run}
+use Rattle.resources_ip_block.proofs.Blocks.{range_stop, range_given, range_unfit}
 use Rattle.resources_ip_block.proofs.der.range_in.Goals as goal
 
 pub returns-in_err-bounds : goal.returns-in_err-bounds
@@ -11,4 +12,4 @@ pub returns-then-to_bits : goal.returns-then-to_bits
 returns-then-to_bits g c = range_unfit _ c.args.family (bounds_ends c.in_ok-bounds.bounds) c.content_err.result c.in_ok-bounds.ensures (omega (arith, c.if-to_bits.true, c.to_bits.ensures, c.to_bits-2.ensures, c.min-min.ensures, c.max-max.ensures))
 
 pub returns : goal.returns
-returns g c = range_given _ c.args.family (bounds_ends c.in_ok-bounds.bounds) c.in_ok-bounds.ensures (c.new.ensures ∙ same_run c.min-min.ensures c.max-max.ensures) c.new.result.ordered
+returns g c = range_given _ c.args.family (bounds_ends c.in_ok-bounds.bounds) c.in_ok-bounds.ensures (c.new.ensures ∙ run_is c.min-min.ensures c.max-max.ensures) c.new.result.ordered

@@ -6,7 +6,7 @@ use Rattle.bcder_content.proofs.Inside.{exact_each}
 use Rattle.bcder_content.proofs.Taking.{on_content}
 use Rattle.bcder_content.proofs.Unique.{inside_one, many_one}
 use Rattle.rpki_bundle.specs.Orders.{Ascends}
-use Rattle.rpki_bundle.proofs.Modes.{all_in}
+use Rattle.bcder_content.proofs.Modes.{all_in}
 use Rattle.rpki_bundle.proofs.entries.take_list.Goals as goal
 
 pub returns-in_err-entries : goal.returns-in_err-entries

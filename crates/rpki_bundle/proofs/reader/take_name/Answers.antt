@@ -2,11 +2,10 @@ use Rattle.std.proofs.Common.{refl, sym, subst}
 use Rattle.bcder_tree.specs.Tags.{universal}
 use Rattle.bcder_chars.specs.Sets.{IsPrintable, alone}
 use Rattle.bcder_content.specs.Here.{here}
-use Rattle.bcder_content.proofs.Choices.{such_gives, such_lacks, such_refused, stop_value}
+use Rattle.bcder_content.proofs.Choices.{gives_same, such_gives, such_lacks, such_refused, stop_value}
 use Rattle.bcder_content.proofs.Taking.{on_content}
 use Rattle.rpki_bundle.specs.Lawful.{IsWord}
 use Rattle.rpki_bundle.specs.RowLaws.{text}
-use Rattle.rpki_bundle.proofs.Modes.{gives_same}
 use Rattle.rpki_bundle.proofs.reader.take_name.Goals as goal
 
 pub returns-in_err-string : goal.returns-in_err-string

@@ -1,6 +1,7 @@
-use Rattle.std.proofs.Common.{rules, subst}
+use Rattle.std.proofs.Common.{rules, ◌≡◌, true, OnErr, subst}
 use Rattle.bcder_tree.specs.declared.mode.Mode.{Mode}
 use Rattle.bcder_content.specs.Here.{plain}
+use Rattle.bcder_content.proofs.Failing.{octets_fail}
 use Rattle.bcder_primitive.specs.Plain.{ReadsOctetsAs}
 use Rattle.bcder_bits.specs.Bits.{BitsValue}
 use Rattle.bcder_bits.specs.Contents.{IsBitString}
@@ -12,4 +13,11 @@ returns-clause-reads g c = λ tag. content_reads (λ v. v) (IsBitString c.args.c
   each = λ p q r mode m.
       let h : ReadsOctetsAs (λ (v : BitsValue). v) (IsBitString (plain g.S.Source.rest p.now).mode) (plain g.S.Source.rest p.now) r (plain g.S.Source.rest q.now) = search rules in
       subst (λ (z : Mode). ReadsOctetsAs (λ (v : BitsValue). v) (IsBitString z) (plain g.S.Source.rest p.now) r (plain g.S.Source.rest q.now)) mode h;
+}) c.primitive.ensures.ran
+
+pub returns-clause-failed : goal.returns-clause-failed
+returns-clause-failed g c = octets_fail _ (record {
+  each = λ p q r m.
+      let h : OnErr r ((plain g.S.Source.rest q.now).failed ≡ true) = search rules in
+      h;
 }) c.primitive.ensures.ran

@@ -1,6 +1,7 @@
 use Rattle.bcder_content.specs.Here.{here}
 use Rattle.bcder_header.proofs.SkipSteps.{content_weaker}
-use Rattle.bcder_content.proofs.SkipContents.{all_first, all_next, all_done, all_refused, took_shorter}
+use Rattle.bcder_content.proofs.SkipContents.{all_first, all_next, all_done, all_refused}
+use Rattle.bcder_content.proofs.Took.{took_shorter}
 use Rattle.bcder_content.proofs.constructed.Constructed.skip_all.Goals as goal
 
 pub loop-error-init : goal.loop-error-init

@@ -1,7 +1,6 @@
-use Rattle.bcder_tree.specs.Strings.{IsString}
-use Rattle.bcder_octets.proofs.Contents.{content_taken_opt}
-use Rattle.bcder_octets.proofs.Strings.{string_tagged}
+use Rattle.bcder_content.proofs.Tagged.{exact_tagged_opt}
+use Rattle.bcder_octets.proofs.Strings.{string_tagged, string_reads}
 use Rattle.bcder_octets.proofs.string.OctetString.take_opt_from.Goals as goal
 
 pub returns-clause-reads : goal.returns-clause-reads
-returns-clause-reads g c = content_taken_opt IsString string_tagged c.take_opt_value_if.ensures.taken (record { each = λ form tag v r w met. record { old = met.0.now; new = met.1.now; shows_old = met.2; shows_new = met.3; form_is = met.4; read = met.5.reads } })
+returns-clause-reads g c = exact_tagged_opt string_tagged (record { each = λ form tag v r w met. record { old = met.0.now; new = met.1.now; before = met.2; behind = met.3; form_is = met.4; reads = string_reads met.5 } }) c.take_opt_value_if.ensures.taken

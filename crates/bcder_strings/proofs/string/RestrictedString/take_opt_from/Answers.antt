@@ -1,20 +1,20 @@
-use Rattle.bcder_strings.proofs.Texts.{text_taken_opt}
+use Rattle.bcder_strings.proofs.Texts.{text_reads, text_taken_opt}
 use Rattle.bcder_strings.proofs.string.RestrictedString.take_opt_from.Goals as goal
 
 pub of_text-requires : goal.of_text-requires
 of_text-requires g c =
     let t = rw c.in-Ok-Some.field-0-is at c.in-Ok-Some.ensures.taken in
-    (text_taken_opt c.tag.ensures t (record { each = λ form tag v r w met. record { old = met.0.now; new = met.1.now; shows_old = met.2; shows_new = met.3; form_is = met.4; read = met.5.reads } })).is.meets
+    (text_taken_opt c.tag.ensures t (record { each = λ form tag v r w met. record { old = met.0.now; new = met.1.now; before = met.2; behind = met.3; form_is = met.4; reads = text_reads met.5 } })).is.meets
 
 pub returns-in-Ok-Some-clause-reads : goal.returns-in-Ok-Some-clause-reads
 returns-in-Ok-Some-clause-reads g c =
     let t = rw c.in-Ok-Some.field-0-is at c.in-Ok-Some.ensures.taken in
-    rw c.of_text.ensures (text_taken_opt c.tag.ensures t (record { each = λ form tag v r w met. record { old = met.0.now; new = met.1.now; shows_old = met.2; shows_new = met.3; form_is = met.4; read = met.5.reads } }))
+    rw c.of_text.ensures (text_taken_opt c.tag.ensures t (record { each = λ form tag v r w met. record { old = met.0.now; new = met.1.now; before = met.2; behind = met.3; form_is = met.4; reads = text_reads met.5 } }))
 
 pub returns-in-Ok-None-clause-reads : goal.returns-in-Ok-None-clause-reads
 returns-in-Ok-None-clause-reads g c =
     let t = rw c.in-Ok-None.field-0-is at c.in-Ok-None.ensures.taken in
-    text_taken_opt c.tag.ensures t (record { each = λ form tag v r w met. record { old = met.0.now; new = met.1.now; shows_old = met.2; shows_new = met.3; form_is = met.4; read = met.5.reads } })
+    text_taken_opt c.tag.ensures t (record { each = λ form tag v r w met. record { old = met.0.now; new = met.1.now; before = met.2; behind = met.3; form_is = met.4; reads = text_reads met.5 } })
 
 pub returns-in-Err-clause-reads : goal.returns-in-Err-clause-reads
-returns-in-Err-clause-reads g c = text_taken_opt c.tag.ensures c.in-Err.ensures.taken (record { each = λ form tag v r w met. record { old = met.0.now; new = met.1.now; shows_old = met.2; shows_new = met.3; form_is = met.4; read = met.5.reads } })
+returns-in-Err-clause-reads g c = text_taken_opt c.tag.ensures c.in-Err.ensures.taken (record { each = λ form tag v r w met. record { old = met.0.now; new = met.1.now; before = met.2; behind = met.3; form_is = met.4; reads = text_reads met.5 } })

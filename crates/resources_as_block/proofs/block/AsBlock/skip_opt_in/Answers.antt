@@ -1,12 +1,11 @@
 use Rattle.bcder_content.proofs.Choices.{as_lacks}
-use Rattle.bcder_content.proofs.Perhaps.{absent_if, stop_if}
+use Rattle.bcder_content.proofs.Perhaps.{absent_if, stop_if, as_none_next}
 use Rattle.resources_asn.specs.Encodings.{whichever}
-use Rattle.resources_as_block.proofs.Reading.{none_of_any}
 use Rattle.resources_as_block.specs.Blocks.{as_run}
 use Rattle.resources_as_block.proofs.block.AsBlock.skip_opt_in.Goals as goal
 
-pub returns-in_err-block : goal.returns-in_err-block
-returns-in_err-block g c = stop_if (λ x. x) _ _ _ c.from_residual.ensures (λ l. (as_lacks whichever l.0, l.1)) c.in_err-block.ensures
+pub returns-in_err-block-clause-reads : goal.returns-in_err-block-clause-reads
+returns-in_err-block-clause-reads g c = stop_if (λ x. x) _ _ _ c.from_residual.ensures (λ l. (as_lacks whichever l.0, l.1)) c.in_err-block.ensures.reads
 
-pub returns-in-None : goal.returns-in-None
-returns-in-None g c = none_of_any _ _ (absent_if as_run _ _ c.in-None.is c.in_ok-block.ensures)
+pub returns-in-None-clause-reads : goal.returns-in-None-clause-reads
+returns-in-None-clause-reads g c = as_none_next whichever _ _ (absent_if as_run _ _ c.in-None.is c.in_ok-block.ensures.reads)

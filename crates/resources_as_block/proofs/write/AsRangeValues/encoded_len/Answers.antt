@@ -1,4 +1,4 @@
-use Rattle.std.proofs.Common.{◌≡◌, ap}
+use Rattle.std.proofs.Common.{ap}
 use Rattle.std.specs.Prelude.{IfErr}
 use Rattle.resources_chain.specs.Sets.{Run}
 use Rattle.resources_asn.specs.Numbers.{Number}

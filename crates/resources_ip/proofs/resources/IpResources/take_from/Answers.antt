@@ -1,15 +1,17 @@
-use Rattle.std.proofs.Common.{ap}
+use Rattle.std.proofs.Common.{ap, arith}
+use Rattle.bcder_tree.specs.declared.mode.Mode.{Mode}
 use Rattle.bcder_content.specs.Contents.{ValuesLeft}
-use Rattle.bcder_content.proofs.Choices.{stop_value, as_lacks, choice_lacks, second_lacks, as_lacks_tagged}
+use Rattle.bcder_content.proofs.Choices.{stop_value, as_lacks, choice_lacks, second_lacks, as_lacks_tagged, universal_apart}
 use Rattle.bcder_content.proofs.Forests.{absent}
-use Rattle.resources_ip.specs.Encodings.{inherits, lists}
-use Rattle.resources_ip.proofs.Gathered.{inherit_tagged, list_tagged, null_is_no_sequence, no_list_in}
+use Rattle.bcder_content.proofs.Modes.{lacks_in}
+use Rattle.resources_ip.specs.Encodings.{IsBlockList, inherits, lists}
+use Rattle.resources_ip.proofs.Gathered.{inherit_tagged, list_tagged}
 use Rattle.resources_ip.proofs.resources.IpResources.take_from.Goals as goal
 
 pub returns-in_err-inherit-clause-reads : goal.returns-in_err-inherit-clause-reads
-returns-in_err-inherit-clause-reads g c = stop_value _ _ _ _ c.from_residual.ensures (λ l. choice_lacks list_tagged null_is_no_sequence (as_lacks_tagged inherits l)) c.in_err-inherit.ensures.reads
+returns-in_err-inherit-clause-reads g c = stop_value _ _ _ _ c.from_residual.ensures (λ l. choice_lacks list_tagged (universal_apart (λ e. omega arith)) (as_lacks_tagged inherits l)) c.in_err-inherit.ensures.reads
 
 pub returns-in_err-blocks-clause-reads : goal.returns-in_err-blocks-clause-reads
 returns-in_err-blocks-clause-reads g c =
     let none = absent _ _ _ c.in_default.is c.in_ok-inherit.ensures.reads in
-    stop_value _ _ _ _ c.from_residual-in_err-blocks.ensures (λ l. second_lacks inherit_tagged none (as_lacks lists (no_list_in (ap (λ (v : ValuesLeft). v.mode) none.0) l))) c.in_err-blocks.ensures.reads
+    stop_value _ _ _ _ c.from_residual-in_err-blocks.ensures (λ l. second_lacks inherit_tagged none (as_lacks lists (lacks_in (λ (m : Mode). IsBlockList m c.args.family) (ap (λ (v : ValuesLeft). v.mode) none.0) l))) c.in_err-blocks.ensures.reads

@@ -1,4 +1,3 @@
-use Rattle.std.proofs.Common.{◌≡◌}
 use Rattle.std.specs.Prelude.{IfOk, IfErr}
 use Rattle.bcder_tree.specs.Tags.{universal}
 use Rattle.bcder_written.specs.Encoded.{IsWrapped, WritesWrapped}

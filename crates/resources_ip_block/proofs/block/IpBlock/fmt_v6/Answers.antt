@@ -1,9 +1,10 @@
 use Rattle.std.proofs.Common.{subst, List}
 use Rattle.resources_chain.specs.Sets.{Run}
-use Rattle.resources_ip_block.specs.Address.{bits_of}
-use Rattle.resources_ip_block.specs.Prefix.{prefix_addr, prefix_len, run_of_prefix}
+use Rattle.resources_ip_prefix.specs.Address.{bits_of}
+use Rattle.resources_ip_prefix.specs.Prefix.{prefix_addr, prefix_len, run_of_prefix}
 use Rattle.resources_ip_block.specs.Range.{run_of_range}
-use Rattle.resources_ip_block.specs.Text.{v6_text, slashed, dashed, IsBlockText}
+use Rattle.resources_ip_prefix.specs.Text.{v6_text, slashed}
+use Rattle.resources_ip_block.specs.BlockText.{dashed, IsBlockText}
 use Rattle.resources_ip_block.proofs.BlockText.{prefix_text, range_text}
 use Rattle.resources_ip_block.proofs.block.IpBlock.fmt_v6.Goals as goal
 

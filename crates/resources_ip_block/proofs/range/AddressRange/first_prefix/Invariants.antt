@@ -1,5 +1,5 @@
 use Rattle.std.proofs.Common.{◌≡◌, ◌≤◌, ◌<◌, ◌+◌, ◌-◌, ℕ}
-use Rattle.resources_ip_block.specs.Prefixes.{first_of, span_of}
+use Rattle.resources_ip_prefix.specs.Prefixes.{first_of, span_of}
 use Rattle.resources_ip_block.specs.Range.{run_of_range}
 use Rattle.resources_ip_block.proofs.range.AddressRange.first_prefix.Given as goal
 

@@ -1,4 +1,4 @@
-use Rattle.resources_ip_block.proofs.TextLemmas.{v4_of}
+use Rattle.resources_ip_prefix.proofs.TextLemmas.{v4_of}
 use Rattle.resources_ip_block.specs.Range.{run_of_range}
 use Rattle.resources_ip_block.proofs.range.AddressRange.fmt_v4.Goals as goal
 

@@ -1,6 +1,6 @@
 use Rattle.std.proofs.Common.{◌≡◌, ◌-◌, ◌∙◌, ℕ, Bool, true, false, refl, sym, ap, arith, eq-eqb}
 use Rattle.resources_ip_block.proofs.PrefixLemmas.{tried}
-use Rattle.resources_ip_block.specs.Address.{bits_of}
+use Rattle.resources_ip_prefix.specs.Address.{bits_of}
 use Rattle.resources_ip_block.specs.Range.{run_of_range}
 use Rattle.resources_ip_block.proofs.range.AddressRange.into_prefix.Goals as goal
 use Rattle.resources_ip_block.proofs.range.AddressRange.into_prefix.Goals.{else-eq-via-then-eq+else-eq-2, else-eq-via-else-eq}

@@ -6,7 +6,7 @@ use Rattle.bcder_content.proofs.Taking.{weaker}
 use Rattle.rpki_bundle.specs.declared.parts.Locator.{Locator}
 use Rattle.rpki_bundle.specs.declared.parts.Object.{Object}
 use Rattle.rpki_bundle.specs.Grammars.{AreRows, IsLocatorRow, IsObjectRow}
-use Rattle.rpki_bundle.proofs.Modes.{mode_behind, gives_in, lacks_in}
+use Rattle.bcder_content.proofs.Modes.{mode_behind, gives_in, lacks_in}
 use Rattle.rpki_bundle.proofs.whole.fn.take_bundle.take_sequence.Goals as goal
 
 abbrev locators : Mode → Tree → List Locator → Type 0

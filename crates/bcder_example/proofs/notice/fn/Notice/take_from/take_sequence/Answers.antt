@@ -6,7 +6,7 @@ use Rattle.bcder_bits.specs.Contents.{IsBitString}
 use Rattle.bcder_content.specs.Grammar.{OctetsOf}
 use Rattle.bcder_content.proofs.Forests.{begin, next, stop, done}
 use Rattle.bcder_content.proofs.Taking.{weaker}
-use Rattle.bcder_example.proofs.Modes.{mode_behind, gives_in, lacks_in}
+use Rattle.bcder_content.proofs.Modes.{mode_behind, gives_in, lacks_in}
 use Rattle.bcder_example.proofs.notice.fn.Notice.take_from.take_sequence.Goals as goal
 
 pub returns-in_err-id : goal.returns-in_err-id

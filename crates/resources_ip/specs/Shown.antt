@@ -1,0 +1,11 @@
+-- What contracts see of a set that is to be printed as one of a family.
+use Rattle.std.specs.Prelude.{List}
+use Rattle.resources_chain.specs.Sets.{Run}
+use Rattle.resources_ip_prefix.specs.declared.addr.AddressFamily.{AddressFamily}
+use Rattle.resources_ip.specs.declared.listed.IpBlocksForFamily.{IpBlocksForFamily}
+
+abbrev pub shown_family : IpBlocksForFamily → AddressFamily
+shown_family s = s.family
+
+abbrev pub shown_set : IpBlocksForFamily → List Run
+shown_set s = s.blocks.now

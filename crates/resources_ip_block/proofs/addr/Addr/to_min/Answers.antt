@@ -1,6 +1,0 @@
-use Rattle.std.proofs.Common.{◌∙◌}
-use Rattle.resources_ip_block.proofs.Masks.{cleared}
-use Rattle.resources_ip_block.proofs.addr.Addr.to_min.Goals as goal
-
-pub returns : goal.returns
-returns c = c.from_bits.ensures ∙ rw (c.host_mask.ensures, c.to_bits-bits.ensures) (cleared _ _)

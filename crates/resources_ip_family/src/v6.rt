@@ -1,0 +1,208 @@
+//! IPv6 blocks and sets.
+
+ghost use Rattle.std.specs.Prelude.{◌≡◌, ◌↔◌, ◌<◌, ℕ, List, IsTrue, IfOk, MatchResult, map, ⊤};
+ghost use Rattle.std.specs.Cmp.{partial_equiv_from_equiv};
+ghost use Rattle.std.specs.Iterator.{IsFinite, DrainsIf};
+ghost use Rattle.resources_chain.specs.declared.choice.ResourcesChoice.TheVariants.{Blocks};
+ghost use Rattle.resources_chain.specs.Sets.{InRuns, IsRunsOf};
+ghost use Rattle.resources_chain.specs.Same.{runs_eq, runs_eq_equiv};
+ghost use Rattle.resources_ip_prefix.specs.Address.{bits_of};
+ghost use Rattle.resources_ip_block.specs.Block.{run_of_block};
+ghost use Rattle.resources_ip.specs.Blocks.{IsAddress};
+
+use resources_ip::listed::read_list;
+use resources_ip::{IpBlocks, IpBlocksBuilder, IpBlocksForFamily, IpResources};
+use resources_ip_block::{Addr, AddressFamily, FromStrError, IpBlock};
+use std::alloc::{AllocError, Global};
+use std::fmt;
+use std::marker::Model;
+use std::str::FromStr;
+
+/// A block of IPv6 addresses.
+#[derive(Clone, Copy, Debug)]
+pub struct Ipv6Block {
+    block: IpBlock,
+}
+
+impl Ipv6Block {
+    ghost use Rattle.resources_ip_family.specs.Families.{run_of_v6};
+
+    /// The block of all addresses.
+    pub fn all() -> Self
+        ensures { run_of_v6 result ≡ record { first = 0; last = 340282366920938463463374607431768211455 } }
+    {
+        Ipv6Block {
+            block: IpBlock::all(),
+        }
+    }
+
+    /// Whether the block has all addresses.
+    pub fn is_slash_zero(&self) -> bool
+        ensures { IsTrue result ↔ (run_of_v6 self.now ≡ record { first = 0; last = 340282366920938463463374607431768211455 }) }
+    {
+        self.block.is_slash_zero()
+    }
+
+    /// The first address.
+    pub fn min(&self) -> Addr
+        ensures { bits_of result ≡ (run_of_v6 self.now).first }
+    {
+        self.block.min()
+    }
+
+    /// The last address.
+    pub fn max(&self) -> Addr
+        ensures { bits_of result ≡ (run_of_v6 self.now).last }
+    {
+        self.block.max()
+    }
+}
+
+impl From<Ipv6Block> for IpBlock {
+    ghost use Rattle.resources_ip_family.specs.Families.{run_of_v6};
+
+    ghost from_gives = { λ v6 b. run_of_block b ≡ run_of_v6 v6 };
+
+    fn from(block: Ipv6Block) -> Self {
+        block.block
+    }
+}
+
+/// The block of a text `2001:db8::/32` or `2001:db8::-2001:db8::9`.
+impl FromStr for Ipv6Block {
+    type Err = FromStrError;
+
+    fn from_str(text: &str) -> Result<Self, FromStrError> {
+        let block = IpBlock::from_v6_str(text)?;
+        Ok(Ipv6Block { block })
+    }
+}
+
+impl fmt::Display for Ipv6Block {
+    fn fmt<W: fmt::Write>(&self, f: &mut fmt::Formatter<W>) -> fmt::Result {
+        self.block.fmt_v6(f)
+    }
+}
+
+/// A set of IPv6 addresses. Contracts see the runs of its blocks.
+#[derive(Debug, Drop)]
+pub struct Ipv6Blocks {
+    blocks: IpBlocks,
+}
+
+impl Model for Ipv6Blocks {
+    ghost use Rattle.std.specs.Prelude.{List};
+    ghost use Rattle.resources_chain.specs.Sets.{Run};
+
+    ghost Value = { List Run };
+
+    ghost view = { λ a. a.blocks };
+}
+
+impl Ipv6Blocks {
+    ghost use Rattle.resources_ip_family.specs.Families.{run_of_v6};
+
+    /// The set without addresses.
+    pub fn empty() -> Self
+        ensures { IsRunsOf (λ n. ⊥) result }
+    {
+        Ipv6Blocks {
+            blocks: IpBlocks::empty(),
+        }
+    }
+
+    /// The set of all addresses.
+    pub fn all(alloc: Global) -> Result<Self, AllocError>
+        ensures { IfOk result (λ s. IsRunsOf IsAddress s) }
+    {
+        Ok(Ipv6Blocks {
+            blocks: IpBlocks::all(alloc)?,
+        })
+    }
+
+    /// The set of the addresses of the blocks that come, in any order.
+    pub fn from_iter<I: Iterator<Item = Ipv6Block> + Drop>(
+        alloc: Global,
+        blocks: I,
+    ) -> Result<Self, AllocError>
+        requires can { I.can_next blocks }
+        requires ends { IsFinite (I.remaining blocks) }
+        ensures { IfOk result (λ s. (came : List _) × DrainsIf I.next_gives ⊤ blocks came × IsRunsOf (InRuns (map run_of_v6 came)) s) }
+    {
+        let mut listed = IpBlocksBuilder::new(alloc);
+        for block in blocks {
+            listed.push(block.block)?;
+        }
+        Ok(Ipv6Blocks {
+            blocks: listed.finalize(alloc)?,
+        })
+    }
+
+    /// The set.
+    pub fn from_blocks(blocks: IpBlocks) -> Self
+        ensures { result ≡ blocks }
+    {
+        Ipv6Blocks { blocks }
+    }
+
+    /// The set of a text: blocks with `,` or `, ` between them, in any order.
+    pub fn from_str(alloc: Global, text: &str) -> Result<Self, FromStrError> {
+        let blocks = read_list(alloc, AddressFamily::Ipv6, text)?;
+        Ok(Ipv6Blocks { blocks })
+    }
+
+    /// The set, as one of either family.
+    pub fn as_blocks(&self) -> &IpBlocks
+        ensures { result.now ≡ self.now }
+    {
+        &self.blocks
+    }
+
+    /// The set, as one of either family.
+    pub fn into_blocks(self) -> IpBlocks
+        ensures { result ≡ self }
+    {
+        self.blocks
+    }
+
+    /// Resources that list the set, even where it is empty.
+    pub fn to_ip_resources(&self) -> Result<IpResources, AllocError>
+        ensures { IfOk result (λ resources. resources ≡ Blocks self.now) }
+    {
+        Ok(IpResources::blocks(self.blocks.clone()?))
+    }
+}
+
+impl Clone for Ipv6Blocks {
+    ghost is_clone = { λ set copy. copy ≡ set };
+
+    /// The same set. It takes no memory, but a count of its copies can be full.
+    fn clone(&self) -> Result<Self, AllocError> {
+        Ok(Ipv6Blocks {
+            blocks: self.blocks.clone()?,
+        })
+    }
+}
+
+impl PartialEq for Ipv6Blocks {
+    ghost eq = { runs_eq };
+
+    fn eq(&self, other: &Self) -> bool
+        ensures value { result ≡ runs_eq self.now other.now }
+        ensures set { IsTrue result ↔ ((n : ℕ) → InRuns self.now n ↔ InRuns other.now n) }
+    {
+        self.blocks == other.blocks
+    }
+
+    ghost laws = { partial_equiv_from_equiv runs_eq_equiv };
+}
+
+impl Eq for Ipv6Blocks {
+    ghost laws = { runs_eq_equiv };
+}
+
+impl fmt::Display for Ipv6Blocks {
+    fn fmt<W: fmt::Write>(&self, f: &mut fmt::Formatter<W>) -> fmt::Result {
+        IpBlocksForFamily::v6(&self.blocks).fmt(f)
+    }
+}

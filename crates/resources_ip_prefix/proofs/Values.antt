@@ -1,0 +1,85 @@
+-- What is read of families and of addresses: the values that strings tell, and those that tell none.
+use Rattle.std.proofs.Common.{◌≡◌, ◌↔◌, Bool, false, IsTrue, List, ℕ, Result, Ok, Err, ap, subst}
+use Rattle.std.specs.Result.{IsErr, IsErrAnd}
+use Rattle.bcder_tree.specs.declared.mode.Mode.{Mode}
+use Rattle.bcder_tree.specs.Tags.{TagValue}
+use Rattle.bcder_tree.specs.Tree.{constructed}
+use Rattle.bcder_tree.specs.Strings.{IsString}
+use Rattle.bcder_source.specs.declared.error.DecodeError.{DecodeError}
+use Rattle.bcder_bits.specs.Bits.{BitsValue}
+use Rattle.bcder_bits.specs.Contents.{IsBitString}
+use Rattle.bcder_bits.proofs.Readings.{bit_string_one}
+use Rattle.bcder_content.specs.declared.content.Content.{Content}
+use Rattle.bcder_content.specs.Contents.{tag_of}
+use Rattle.bcder_content.specs.Either.{SameContent, ReadsContentAs}
+use Rattle.bcder_content.specs.Grammar.{OctetsOf, One}
+use Rattle.bcder_content.specs.Here.{here}
+use Rattle.bcder_content.specs.Tagged.{ReadsTagged}
+use Rattle.bcder_content.proofs.Tagged.{HasTag}
+use Rattle.bcder_content.proofs.Unique.{octets_one}
+use Rattle.bcder_content.proofs.Within.{Within, content_gives, content_stop, content_unfit}
+use Rattle.bcder_octets.specs.Parts.{ReadsString}
+use Rattle.bcder_octets.proofs.Cuts.{not_so}
+use Rattle.bcder_octets.proofs.Meaning.{one_string}
+use Rattle.bcder_octets.proofs.Strings.{string_tagged, string_reads}
+use Rattle.resources_ip_prefix.specs.declared.addr.AddressFamily.{AddressFamily}
+use Rattle.resources_ip_prefix.specs.declared.addr.AddressFamily.TheVariants.{Ipv4, Ipv6}
+use Rattle.resources_ip_prefix.specs.declared.prefix.Prefix.{Prefix}
+use Rattle.resources_ip_prefix.specs.Encodings.{FitsFamily, IsAddressIn, IsFamilyIn, family_octets, prefix_bits, told_by}
+
+-- Families.
+
+family_within : (m : Mode) (tag : TagValue) → Within (IsFamilyIn m tag) (IsString m tag)
+family_within m tag t family p = (family_octets family, p.is)
+
+pub family_stop : {S E : Type 0} {rest : S → List ℕ} {old new : Content S} (r : Result AddressFamily (DecodeError E)) (e : DecodeError E) → IsErr r × IsErrAnd r (λ x. x ≡ e) → ReadsString rest old (Err e) new → ReadsTagged rest (λ f. f) IsFamilyIn old r new
+family_stop {rest = rest} {old} {new} r e a g =
+    let v = here rest old.values.now in
+    record { same = g.same; reads = λ tag. content_stop (λ (x : List ℕ). x) (λ f. f) (IsString v.mode tag) (IsFamilyIn v.mode tag) old.values.now.constructed tag v (here rest new.values.now) r e a (family_within v.mode tag) (string_reads g tag) }
+
+pub family_given : {S E : Type 0} {rest : S → List ℕ} {old new : Content S} {octets : List ℕ} {family : AddressFamily} → ReadsString {E = E} rest old (Ok octets) new → octets ≡ family_octets family → ReadsTagged {E = E} rest (λ f. f) IsFamilyIn old (Ok family) new
+family_given {E = E} {rest = rest} {old} {new} g e =
+    let v = here rest old.values.now in
+    record { same = g.same; reads = λ tag. content_gives E (λ (x : List ℕ). x) (λ f. f) (IsString v.mode tag) (IsFamilyIn v.mode tag) old.values.now.constructed tag v (here rest new.values.now) (λ t s. record { is = subst (λ (o : List ℕ). IsString v.mode tag t o) e s }) (family_within v.mode tag) (string_reads g tag) }
+
+pub family_unfit : {S E : Type 0} {rest : S → List ℕ} {old new : Content S} {octets : List ℕ} (e : DecodeError E) → ReadsString {E = E} rest old (Ok octets) new → ((family : AddressFamily) → octets ≡ family_octets family → ⊥) → ReadsTagged {E = E} rest (λ (f : AddressFamily). f) IsFamilyIn old (Err e) new
+family_unfit {rest = rest} {old} {new} {octets} e g none =
+    let v = here rest old.values.now in
+    record { same = g.same; reads = λ tag. content_unfit (λ (x : List ℕ). x) (λ f. f) (IsString v.mode tag) (IsFamilyIn v.mode tag) old.values.now.constructed tag v (here rest new.values.now) (here rest new.values.now) e (λ t family p s. none family (one_string v.mode tag t octets (family_octets family) s p.is)) (family_within v.mode tag) (string_reads g tag) }
+
+pub family_has_tag : HasTag IsFamilyIn
+family_has_tag = record { has = λ m tag t family p. string_tagged.has m tag t (family_octets family) p.is }
+
+-- Addresses.
+
+pub bits_one : {m : Mode} {tag : TagValue} → One (OctetsOf tag (IsBitString m))
+bits_one = octets_one bit_string_one
+
+address_within : (family : AddressFamily) (m : Mode) (tag : TagValue) → Within (IsAddressIn family m tag) (OctetsOf tag (IsBitString m))
+address_within family m tag t z p = (p.x, p.is.is)
+
+pub prefix_stop : {S E : Type 0} {rest : S → List ℕ} {old new : Content S} (family : AddressFamily) (r : Result Prefix (DecodeError E)) (e : DecodeError E) → IsErr r × IsErrAnd r (λ x. x ≡ e) → SameContent old new
+    → ((tag : TagValue) → ReadsContentAs {A = BitsValue} rest (λ v. v) (OctetsOf tag (IsBitString (here rest old.values.now).mode)) tag old (Err e) new) → ReadsTagged rest prefix_bits (IsAddressIn family) old r new
+prefix_stop {rest = rest} {old} {new} family r e a same g =
+    let v = here rest old.values.now in
+    record { same = same; reads = λ tag. content_stop (λ (x : BitsValue). x) prefix_bits (OctetsOf tag (IsBitString v.mode)) (IsAddressIn family v.mode tag) old.values.now.constructed tag v (here rest new.values.now) r e a (address_within family v.mode tag) (g tag) }
+
+pub prefix_given : {S E : Type 0} {rest : S → List ℕ} {old new : Content S} (bits : BitsValue) (family : AddressFamily) {p : Prefix} → SameContent old new
+    → ((tag : TagValue) → ReadsContentAs {A = BitsValue} {E = E} rest (λ v. v) (OctetsOf tag (IsBitString (here rest old.values.now).mode)) tag old (Ok bits) new) → FitsFamily family bits × (prefix_bits p ≡ told_by bits) → ReadsTagged {E = E} rest prefix_bits (IsAddressIn family) old (Ok p) new
+prefix_given {E = E} {rest = rest} {old} {new} bits family same g fits =
+    let v = here rest old.values.now in
+    record { same = same; reads = λ tag. content_gives E (λ (x : BitsValue). x) prefix_bits (OctetsOf tag (IsBitString v.mode)) (IsAddressIn family v.mode tag) old.values.now.constructed tag v (here rest new.values.now) (λ t s. record { x = bits; is = record { is = s; meets = fits.0 }; means = fits.1 }) (address_within family v.mode tag) (g tag) }
+
+pub prefix_unfit : {S E : Type 0} {rest : S → List ℕ} {old new : Content S} (bits : BitsValue) (family : AddressFamily) (e : DecodeError E) → SameContent old new
+    → ((tag : TagValue) → ReadsContentAs {A = BitsValue} {E = E} rest (λ v. v) (OctetsOf tag (IsBitString (here rest old.values.now).mode)) tag old (Ok bits) new) → ¬ (FitsFamily family bits) → ReadsTagged {E = E} rest prefix_bits (IsAddressIn family) old (Err e) new
+prefix_unfit {rest = rest} {old} {new} bits family e same g unfit =
+    let v = here rest old.values.now in
+    record { same = same; reads = λ tag. content_unfit (λ (x : BitsValue). x) prefix_bits (OctetsOf tag (IsBitString v.mode)) (IsAddressIn family v.mode tag) old.values.now.constructed tag v (here rest new.values.now) (here rest new.values.now) e (λ t z p s. unfit (subst (FitsFamily family) (bits_one.one t p.x bits p.is.is s) p.is.meets)) (address_within family v.mode tag) (g tag) }
+
+pub address_has_tag : (family : AddressFamily) → HasTag (IsAddressIn family)
+address_has_tag family = record { has = λ m tag t x p. ap tag_of p.is.is.whole }
+
+-- Octets that are neither of the two.
+pub family_neither : {a b : Bool} {octets : List ℕ} → IsTrue a ↔ (octets ≡ family_octets Ipv4) → a ≡ false → IsTrue b ↔ (octets ≡ family_octets Ipv6) → b ≡ false → (family : AddressFamily) → octets ≡ family_octets family → ⊥
+family_neither first isnt second neither Ipv4 e = not_so first isnt e
+family_neither first isnt second neither Ipv6 e = not_so second neither e

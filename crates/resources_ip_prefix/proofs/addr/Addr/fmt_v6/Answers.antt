@@ -1,0 +1,6 @@
+use Rattle.resources_ip_prefix.proofs.TextLemmas.{v6_of}
+use Rattle.resources_ip_prefix.specs.Address.{bits_of}
+use Rattle.resources_ip_prefix.proofs.addr.Addr.fmt_v6.Goals as goal
+
+pub returns : goal.returns
+returns g c = λ plain ok. rw (v6_of c.to_v6.result (bits_of c.args.self) c.to_v6.ensures) at (c.write.ensures.writes plain ok)

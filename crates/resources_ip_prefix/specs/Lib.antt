@@ -1,0 +1,9 @@
+pub mod Prefixes
+pub mod Address
+pub mod Prefix
+pub mod PrefixLaws
+pub mod Text
+pub mod Family
+pub mod Whole
+pub mod Encodings
+pub mod Written

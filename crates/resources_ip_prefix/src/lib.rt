@@ -1,0 +1,17 @@
+//! IP addresses of both families, and prefixes, as numbers of 128 bits (RFC 3779 section 2).
+#![tactic(auto)]
+
+pub mod addr;
+mod der;
+mod encode;
+pub mod error;
+pub mod laws;
+pub mod prefix;
+mod text;
+
+pub use addr::{Addr, AddressFamily};
+pub use error::FromStrError;
+pub use prefix::Prefix;
+
+#[cfg(test)]
+mod tests;

@@ -1,0 +1,3 @@
+//! Texts, and each public call once.
+mod texts;
+mod values;
