@@ -1,15 +1,24 @@
 #!/usr/bin/env python3
-"""Tries wrong bodies of a crate, at the gate and beside it: the check must refuse each.
+"""Tries wrong bodies of crates, at the gate and beside it: the check must refuse each.
 
-    edits.py [--in FOLDER] CRATE [NAME..]
+    edits.py [--in FOLDER] [--stale] CRATE[/NAME]..
+    edits.py --list
 
-In FOLDER, or in a temporary folder, copies of the crate and of those below it are made, with their out/. The crate has
-to be proved as it stands. Then each edit of crates/CRATE/must-fail and tests/edits/CRATE, or those of the names alone,
-is applied to the copy and checked over what the checks before it kept, some twenty seconds each. A line says of each
-whether it was refused, and at which functions. Exits with 1 where one wasn't, or can't be applied.
+Of each crate the edits of crates/CRATE/must-fail and tests/edits/CRATE are tried, or the named one; with --stale only
+those that weren't tried at the present state of the crate. In FOLDER, or in a temporary folder, copies of the crate and
+of those below it are made, with their out/. The crate has to be proved as it stands. Then edits of different functions
+are applied together and checked once, over what the checks before kept; the check names each function that has no
+proof. An edit whose function wasn't reached, because a function that it calls was refused, is tried again alone.
+
+A line says of each whether it was refused. tests/edits/TRIED.tsv keeps what was tried at which state of the crate (a
+digest of its sources, specs and proofs and of the edit); --list prints the edits that it doesn't have so. Exits with 1
+where an edit wasn't refused or can't be applied.
 """
 
+import argparse
+import datetime
 import glob
+import hashlib
 import os
 import re
 import subprocess
@@ -17,18 +26,12 @@ import sys
 import tempfile
 
 HERE = os.path.dirname(os.path.abspath(__file__))
+TRIED = os.path.join(HERE, "edits", "TRIED.tsv")
+REFUSED = "refused"
 sys.dont_write_bytecode = True
 sys.path.insert(0, os.path.join(HERE, os.pardir, "bench"))
 
 import copies  # noqa: E402
-
-
-def edits_of(crate, names):
-    """The paths of the edits, by their names."""
-    folders = (os.path.join(copies.ROOT, "crates", crate, "must-fail"), os.path.join(HERE, "edits", crate))
-    paths = [path for folder in folders for path in sorted(glob.glob(os.path.join(folder, "*.edit")))]
-    found = {os.path.basename(path).removesuffix(".edit"): path for path in paths}
-    return {name: path for name, path in found.items() if not names or name in names}
 
 
 def read(path):
@@ -41,78 +44,214 @@ def write(path, text):
         file.write(text)
 
 
-def edited(edit, folder):
-    """The texts that the edit makes, by their paths; None where it can't be applied."""
-    texts, path, old = {}, None, None
-    for line in read(edit).split("\n"):
-        kind, _, text = line.partition(" ")
-        if kind == "file:":
-            path = os.path.join(folder, text.strip())
-            texts.setdefault(path, read(path) if os.path.exists(path) else "")
-        elif kind == "old:":
-            old = text
-        elif kind == "new:":
-            if texts[path].count(old) != 1:
+class Edit:
+    """A wrong body: its crate, its name, and the pairs of old and new text by file."""
+
+    def __init__(self, path):
+        self.crate = os.path.basename(os.path.dirname(path))
+        if self.crate == "must-fail":
+            self.crate = os.path.basename(os.path.dirname(os.path.dirname(path)))
+        self.name = os.path.basename(path).removesuffix(".edit")
+        self.text = read(path)
+        self.pairs = []
+        file = old = None
+        for line in self.text.split("\n"):
+            kind, _, text = line.partition(" ")
+            if kind == "file:":
+                file = text.strip()
+            elif kind == "old:":
+                old = text
+            elif kind == "new:":
+                self.pairs.append((file, old, text))
+
+    def applied(self, texts, folder):
+        """The texts by file with the edit applied to them, None where it can't be."""
+        made = dict(texts)
+        for file, old, new in self.pairs:
+            path = os.path.join(folder, file)
+            if file not in made:
+                made[file] = read(path) if os.path.exists(path) else ""
+            if made[file].count(old) != 1:
                 return None
-            texts[path] = texts[path].replace(old, text)
-    return texts
+            made[file] = made[file].replace(old, new)
+        return made
+
+    def functions(self, folder):
+        """The modules and functions in which the edit stands, None where a text stands in no function."""
+        found = set()
+        for file, old, _ in self.pairs:
+            path = os.path.join(folder, file)
+            text = read(path) if os.path.exists(path) else ""
+            if not file.startswith("src/") or text.count(old) != 1:
+                return None
+            names = re.findall(r"\bfn (\w+)", text[: text.index(old) + len(old)])
+            if not names:
+                return None
+            module = re.sub(r"(/mod)?\.rt$", "", file.removeprefix("src/")).replace("/", "::")
+            found.add(("" if module in ("lib", "main") else module, names[-1]))
+        return found
+
+    def state(self):
+        """A digest of the crate as it stands in the repository, and of the edit."""
+        digest = hashlib.sha256(self.text.encode())
+        crate = os.path.join(copies.ROOT, "crates", self.crate)
+        for part in ("src", "specs", "proofs"):
+            for at, folders, files in sorted(os.walk(os.path.join(crate, part))):
+                folders.sort()
+                for name in sorted(files):
+                    path = os.path.join(at, name)
+                    digest.update(os.path.relpath(path, crate).encode() + b"\0" + read(path).encode() + b"\0")
+        return digest.hexdigest()[:16]
+
+
+def edits_of(crate, names):
+    """The edits of a crate, those of the names alone where there are some."""
+    folders = (os.path.join(copies.ROOT, "crates", crate, "must-fail"), os.path.join(HERE, "edits", crate))
+    found = [Edit(path) for folder in folders for path in sorted(glob.glob(os.path.join(folder, "*.edit")))]
+    return [edit for edit in found if not names or edit.name in names]
+
+
+def tried():
+    """What was tried: of each crate and name the state, the day and the answer."""
+    rows = read(TRIED).splitlines() if os.path.exists(TRIED) else []
+    return {tuple(row.split("\t")[:2]): row.split("\t")[2:] for row in rows}
+
+
+def is_stale(edit, rows):
+    row = rows.get((edit.crate, edit.name))
+    return row is None or row[0] != edit.state() or not row[2].startswith(REFUSED)
+
+
+def record(edit, answer):
+    rows = tried()
+    rows[edit.crate, edit.name] = [edit.state(), str(datetime.date.today()), answer]
+    write(TRIED, "".join("\t".join([*key, *row]) + "\n" for key, row in sorted(rows.items())))
 
 
 def check(folder):
-    """Whether the crate is proved, False where it isn't and None where the prover wasn't reached, and which functions
-    have no proof."""
+    """Whether the crate is proved, None where the prover wasn't reached; of each function how it ended; what was said."""
     done = subprocess.run(["rt", "check"], cwd=folder, capture_output=True, text=True)
-    lines = (done.stdout + done.stderr).rstrip("\n").split("\n")
-    open_functions = re.findall(r"^fn (\S+): (?:not proved|no proof)", "\n".join(lines), re.MULTILINE)
-    verdicts = [line for line in lines if line.startswith("logic=")]
-    proved = verdicts[-1].startswith("logic=proved") if verdicts else None
-    if proved is None or not (proved or open_functions):
-        open_functions = [line for line in lines if "error" in line][:1]
-    return proved, open_functions
+    said = done.stdout + done.stderr
+    verdicts = re.findall(r"^logic=(\S+)", said, re.MULTILINE)
+    ends = dict(re.findall(r"^(?:fn|impl|trait|struct|enum|const) (\S+): (.*)$", said, re.MULTILINE))
+    return (verdicts[-1] == "proved" if verdicts else None), ends, said
 
 
-def try_edit(edit, folder):
-    """How the check of the crate with the edit ended; the crate is put back."""
-    texts = edited(edit, folder)
+def is_refused(end):
+    """Whether a function has no proof by itself, and not because it waits for another's."""
+    return (end.startswith("not proved") and "waits for" not in end) or end.startswith("no proof")
+
+
+def refused_at(edit, folder, ends):
+    """The functions of the edit that were refused by themselves."""
+    found = []
+    for module, function in edit.functions(folder) or ():
+        for path, end in ends.items():
+            parts = path.split("::")
+            in_module = module == "" or "::".join(parts[1:]).startswith(module + "::")
+            if in_module and function in re.split(r"[:/]+", path) and is_refused(end):
+                found.append(path)
+    return found
+
+
+def with_texts(folder, texts, call):
+    """What the call answers while the files have these texts; they are put back."""
+    before = {file: read(os.path.join(folder, file)) for file in texts}
+    for file, text in texts.items():
+        write(os.path.join(folder, file), text)
+    try:
+        return call()
+    finally:
+        for file, text in before.items():
+            write(os.path.join(folder, file), text)
+
+
+def try_alone(edit, folder):
+    texts = edit.applied({}, folder)
     if not texts:
         return "CAN'T BE APPLIED"
-    before = {path: read(path) for path in texts}
-    for path, text in texts.items():
-        write(path, text)
-    proved, where = check(folder)
-    for path, text in before.items():
-        write(path, text)
+    proved, ends, said = with_texts(folder, texts, lambda: check(folder))
+    if proved:
+        return "NOT REFUSED"
+    where = refused_at(edit, folder, ends) or [path for path, end in ends.items() if is_refused(end)]
+    if proved is None or not where:
+        errors = [line for line in said.split("\n") if "error" in line][:1]
+        return f"DIDN'T REACH THE PROVER: {' '.join(errors)[:160]}"
+    return f"{REFUSED}: {' '.join(sorted(where))[:160]}"
+
+
+def groups(edits, folder):
+    """The edits in groups that can stand in one copy together: no two in one function, each text there once."""
+    left = list(edits)
+    while left:
+        group, texts, used, others = [], {}, set(), []
+        for edit in left:
+            functions = edit.functions(folder)
+            made = edit.applied(texts, folder) if functions and not used & functions else None
+            if made is None:
+                others.append(edit)
+            else:
+                group, texts, used = [*group, edit], made, used | functions
+        if not group:
+            yield from ([edit] for edit in others)
+            return
+        yield group
+        left = others
+
+
+def try_group(group, folder):
+    """The answers to the edits of a group, None for those that have to be tried alone."""
+    if len(group) == 1:
+        return [None]
+    texts = {}
+    for edit in group:
+        texts = edit.applied(texts, folder)
+    proved, ends, _ = with_texts(folder, texts, lambda: check(folder))
     if proved is None:
-        return f"DIDN'T REACH THE PROVER: {' '.join(where)}"
-    return "NOT REFUSED" if proved else f"refused: {' '.join(where)}"
+        return [None for _ in group]
+    where = [refused_at(edit, folder, ends) for edit in group]
+    return [f"{REFUSED}: {' '.join(sorted(paths))[:160]}" if paths else None for paths in where]
 
 
-def try_all(folder, crate, names):
-    """Tries the edits; how many were not refused."""
+def try_crate(folder, crate, edits):
+    """Tries the edits of a crate; how many were not refused."""
     copies.copy(folder, [crate])
     crate_folder = os.path.join(folder, "crates", crate)
     if check(crate_folder)[0] is not True:
         sys.exit(f"{crate} isn't proved as it stands")
     failures = 0
-    for name, edit in edits_of(crate, names).items():
-        told = try_edit(edit, crate_folder)
-        failures += not told.startswith("refused")
-        print(f"{name}: {told}", flush=True)
+    for group in groups(edits, crate_folder):
+        for edit, answer in zip(group, try_group(group, crate_folder)):
+            answer = answer or try_alone(edit, crate_folder)
+            failures += not answer.startswith(REFUSED)
+            record(edit, answer)
+            print(f"{crate}/{edit.name}: {answer}", flush=True)
     return failures
 
 
 def main():
-    words = sys.argv[1:]
-    folder = None
-    if words[:1] == ["--in"] and len(words) > 2:
-        folder, words = words[1], words[2:]
-    if not words or words[0].startswith("-"):
-        sys.exit("usage: edits.py [--in FOLDER] CRATE [NAME..]")
-    if folder is not None:
-        failures = try_all(folder, words[0], words[1:])
-    else:
-        with tempfile.TemporaryDirectory() as made:
-            failures = try_all(made, words[0], words[1:])
+    parser = argparse.ArgumentParser(description="Tries wrong bodies, which the check must refuse.")
+    parser.add_argument("--in", dest="folder", help="the folder for the copies")
+    parser.add_argument("--stale", action="store_true", help="only those that weren't tried at the present state")
+    parser.add_argument("--list", action="store_true", help="print those that weren't tried at the present state")
+    parser.add_argument("words", nargs="*", metavar="CRATE[/NAME]")
+    given = parser.parse_args()
+    wanted = {}
+    for word in given.words or (sorted(copies.stands_on()) if given.list else []):
+        crate, _, name = word.partition("/")
+        wanted.setdefault(crate, []).extend([name] if name else [])
+    if not wanted:
+        parser.error("no crate is named")
+    rows = tried()
+    edits = {crate: edits_of(crate, names) for crate, names in wanted.items()}
+    if given.list or given.stale:
+        edits = {crate: [edit for edit in found if is_stale(edit, rows)] for crate, found in edits.items()}
+    if given.list:
+        print("\n".join(f"{edit.crate}/{edit.name}" for found in edits.values() for edit in found))
+        return
+    with tempfile.TemporaryDirectory() as made:
+        folder = given.folder or made
+        failures = sum(try_crate(folder, crate, found) for crate, found in edits.items() if found)
     sys.exit(1 if failures else 0)
 
 
