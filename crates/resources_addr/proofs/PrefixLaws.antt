@@ -9,6 +9,7 @@ use Rattle.resources_addr.specs.Prefixes.{Family, Ipv4, Ipv6, PrefixValue, IsPre
 use Rattle.resources_addr.specs.MaxLens.{MaxLenValue}
 use Rattle.resources_addr.specs.MaxLenTexts.{IsMaxLenText}
 use Rattle.resources_addr.specs.Orders.{nat_same}
+use Rattle.resources_addr.specs.Starts.{start_cmp}
 use Rattle.resources_addr.proofs.MaxLenTexts.{max_len_once}
 use Rattle.std.specs.Prelude.{List}
 
@@ -51,6 +52,39 @@ not_before p q hp hq c t =
                 let same = nat_same (last_of p) (last_of q) both.0 in
                 let spans : span q.family q.len ≤ span p.family p.len = omega arith in
                 longer (width q.family) p.len q.len (subst (λ (f : Family). p.len ≤ width f) c.0 hp.fits) hq.fits (subst (λ (f : Family). span q.family q.len ≤ span f p.len) c.0 spans) (below_is q.len p.len both.1)
+          ]
+    ]
+
+above_is : (x y : ℕ) → nat_cmp x y ≡ Greater → y < x
+above_is x y e = subst (λ (r : Ordering). MatchOrdering r (x < y) (x ≡ y) (y < x)) e (ranks x y)
+
+then_greater : (r s : Ordering) → ordering_then r s ≡ Greater → (r ≡ Greater) ⊎ ((r ≡ Equal) × (s ≡ Greater))
+then_greater Less s e = absurd cc
+then_greater Equal s e = inr (refl, e)
+then_greater Greater s e = inl refl
+
+family_not_greater : (f g : Family) → f ≡ g → ¬ (family_cmp f g ≡ Greater)
+family_not_greater Ipv4 Ipv4 e l = absurd cc
+family_not_greater Ipv4 Ipv6 e l = absurd cc
+family_not_greater Ipv6 Ipv4 e l = absurd cc
+family_not_greater Ipv6 Ipv6 e l = absurd cc
+
+-- A prefix isn't listed behind one that it covers.
+pub not_behind : (p q : PrefixValue) → IsPrefix p → IsPrefix q → Covers p q → ¬ (start_cmp p q ≡ Greater)
+not_behind p q hp hq c t =
+    let some_p : 0 < span p.family p.len = pow_pos (width p.family - p.len) in
+    let some_q : 0 < span q.family q.len = pow_pos (width q.family - q.len) in
+    let low = (c.1 q.first (omega arith, omega arith)).0 in
+    let high = (c.1 (last_of q) (omega arith, omega arith)).1 in
+    elim (then_greater (family_cmp p.family q.family) (ordering_then (nat_cmp p.first q.first) (nat_cmp p.len q.len)) t) [
+      | inl f ↦ family_not_greater p.family q.family c.0 f
+      | inr later ↦
+          elim (then_greater (nat_cmp p.first q.first) (nat_cmp p.len q.len) later.1) [
+            | inl l ↦ let more = above_is p.first q.first l in omega arith
+            | inr both ↦
+                let same = nat_same p.first q.first both.0 in
+                let spans : span q.family q.len ≤ span p.family p.len = omega arith in
+                longer (width q.family) p.len q.len (subst (λ (f : Family). p.len ≤ width f) c.0 hp.fits) hq.fits (subst (λ (f : Family). span q.family q.len ≤ span f p.len) c.0 spans) (above_is p.len q.len both.1)
           ]
     ]
 

@@ -6,3 +6,4 @@ pub mod PrefixTexts
 pub mod MaxLenTexts
 pub mod Held
 pub mod Orders
+pub mod Starts

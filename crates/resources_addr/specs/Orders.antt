@@ -32,10 +32,10 @@ family_alike Ipv4 Ipv6 h e = absurd cc
 family_alike Ipv6 Ipv4 h e = absurd cc
 family_alike Ipv6 Ipv6 h e = refl
 
-family_total : IsTotalOrder family_cmp
+pub family_total : IsTotalOrder family_cmp
 family_total = record { antisymm = family_turned; trans = family_chain; congr = family_alike }
 
-family_same : (f g : Family) → family_cmp f g ≡ Equal → f ≡ g
+pub family_same : (f g : Family) → family_cmp f g ≡ Equal → f ≡ g
 family_same Ipv4 Ipv4 e = refl
 family_same Ipv4 Ipv6 e = absurd cc
 family_same Ipv6 Ipv4 e = absurd cc
@@ -50,7 +50,7 @@ prefix_total =
 abbrev pub prefix_eq : PrefixValue → PrefixValue → Bool
 prefix_eq p q = is_eq (family_cmp p.family q.family) && (p.first == q.first) && (p.len == q.len)
 
-prefix_is : {p q : PrefixValue} → p.family ≡ q.family → p.first ≡ q.first → p.len ≡ q.len → p ≡ q
+pub prefix_is : {p q : PrefixValue} → p.family ≡ q.family → p.first ≡ q.first → p.len ≡ q.len → p ≡ q
 prefix_is f n l = λ i. record { family = f i; first = n i; len = l i }
 
 all_three : (a b c : Bool) → a && b && c ≡ true → (a ≡ true) × (b ≡ true) × (c ≡ true)
@@ -77,7 +77,7 @@ prefix_eq_tells p q = (
 pub prefix_equiv : IsEquivalence prefix_eq
 prefix_equiv = decided prefix_eq prefix_eq_tells
 
-both_equal : (r s : Ordering) → ordering_then r s ≡ Equal → (r ≡ Equal) × (s ≡ Equal)
+pub both_equal : (r s : Ordering) → ordering_then r s ≡ Equal → (r ≡ Equal) × (s ≡ Equal)
 both_equal Less s e = absurd cc
 both_equal Equal s e = (refl, e)
 both_equal Greater s e = absurd cc

@@ -1,10 +1,13 @@
 //! Laws of prefixes: the contracts of functions that do nothing.
 
 ghost use Rattle.std.specs.Prelude.{◌≡◌, ◌↔◌, ◌≤◌, ◌<◌, ◌/◌, ◌^◌, ℕ, List, IsTrue};
+ghost use Rattle.std.specs.Cmp.{IsTotalOrder};
 ghost use Rattle.std.specs.Ordering.{is_lt};
+ghost use Rattle.std.specs.declared.cmp.Ordering.TheVariants.{Equal, Greater};
 ghost use Rattle.resources_addr.specs.Prefixes.{Family, PrefixValue, IsPrefix, width, span, prefix_around, Has, Covers, prefix_cmp};
 ghost use Rattle.resources_addr.specs.MaxLens.{MaxLenValue, IsMaxLen, max_len_cmp};
 ghost use Rattle.resources_addr.specs.Orders.{prefix_eq, max_len_eq};
+ghost use Rattle.resources_addr.specs.Starts.{start_cmp};
 ghost use Rattle.resources_addr.specs.PrefixTexts.{IsPrefixText, prefix_text};
 ghost use Rattle.resources_addr.specs.MaxLenTexts.{IsMaxLenText, max_len_text};
 
@@ -24,6 +27,15 @@ pub fn prefix_around_has_address()
 /// A prefix isn't before one that it covers.
 pub fn covering_is_not_before()
     ensures { (p q : PrefixValue) → IsPrefix p → IsPrefix q → Covers p q → ¬ (IsTrue (is_lt (prefix_cmp p q))) }
+{}
+
+/// The order in which prefixes are listed is total, and tells all prefixes apart; one that covers another isn't behind
+/// it.
+#[tactic(auto, using(crate::specs::Starts::start_total, crate::specs::Starts::start_same, crate::proofs::PrefixLaws::not_behind))]
+pub fn start_order_is_total()
+    ensures total { IsTotalOrder start_cmp }
+    ensures equal { (p q : PrefixValue) → (start_cmp p q ≡ Equal) ↔ (p ≡ q) }
+    ensures covering { (p q : PrefixValue) → IsPrefix p → IsPrefix q → Covers p q → ¬ (start_cmp p q ≡ Greater) }
 {}
 
 /// The test `==` tells equality.

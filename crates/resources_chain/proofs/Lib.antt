@@ -1,5 +1,7 @@
 pub mod RunLemmas
+pub mod RowLemmas
 pub mod SetLemmas
 pub mod WalkLemmas
 pub mod SortLemmas
 pub mod ClaimLemmas
+pub mod PlaceLemmas

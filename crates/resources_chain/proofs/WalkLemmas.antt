@@ -257,6 +257,22 @@ differs_step {behind = behind} {f = f} d s l =
       );
     }
 
+-- Where only what isn't before the first is left of `taken`.
+pub differs_skip : {k : ℕ} {found next taken skipped : List Run} {f : Run} → AddsSet found next (λ n. InRun f n × ¬ (InRuns skipped n)) → SameFrom k taken skipped → k ≡ f.first → AddsSet found next (λ n. InRun f n × ¬ (InRuns taken n))
+differs_skip {k = k} {f = f} a s e = record {
+  maximal = a.maximal;
+  same = λ n. (
+    λ i. elim ((a.same n).0 i) [ inl j ↦ inl j | inr j ↦ inr (j.0, λ w. j.1 ((s.same n (omega (arith, j.0.0))).1 w)) ],
+    λ i. (a.same n).1 (elim i [ inl j ↦ inl j | inr j ↦ inr (j.0, λ w. j.1 ((s.same n (omega (arith, j.0.0))).0 w)) ]),
+  );
+}
+
+pub same_on : {k l : ℕ} {old new next : List Run} → SameFrom k old new → SameFrom l new next → k ≤ l → SameFrom l old next
+same_on s t h = record {
+  maximal = t.maximal;
+  same = λ n low. (λ i. (s.same n (omega arith)).0 ((t.same n low).0 i), λ i. (t.same n low).1 ((s.same n (omega arith)).1 i));
+}
+
 pub differs_end : {a b found taken : List Run} → Differs a b found [] taken → IsRunsOf (InFirstOnly a b) found
 differs_end d = record { maximal = d.maximal; same = λ n. (λ i. (d.same n).0 (inl i), λ i. elim ((d.same n).1 i) [ inl j ↦ j | inr j ↦ absurd j.0 ]) }
 
@@ -323,6 +339,25 @@ pub meets_right : {P : ℕ → Type 0} {found next left right : List Run} {x y :
 meets_right m s h =
     meets_swap (meets_left (meets_swap m) (record { maximal = s.maximal; same = λ n. (λ i. elim ((s.same n).0 i) [ inl j ↦ inl j | inr j ↦ inr (j.1, j.0) ], λ i. (s.same n).1 (elim i [ inl j ↦ inl j | inr j ↦ inr (j.1, j.0) ])) }) h)
 
+-- On the right only what isn't before all of the left is left.
+pub meets_from : {P : ℕ → Type 0} {k : ℕ} {found left right next : List Run} {x : Run} → Meets P found (x ∷ left) right → SameFrom k right next → k ≡ x.first → Meets P found (x ∷ left) next
+meets_from {k = k} {left = left} {x = x} m s e =
+    let low : (n : ℕ) → InRuns (x ∷ left) n → k ≤ n = λ n i. omega (arith, least x left n m.left_maximal i) in
+    record {
+      maximal = m.maximal;
+      left_maximal = m.left_maximal;
+      right_maximal = s.maximal;
+      below = λ p q i j h. m.below p q i j ((s.same q (low q j)).0 h);
+      same = λ n. (
+        λ i. (m.same n).0 (elim i [ inl j ↦ inl j | inr j ↦ inr (j.0, (s.same n (low n j.0)).0 j.1) ]),
+        λ i. elim ((m.same n).1 i) [ inl j ↦ inl j | inr j ↦ inr (j.0, (s.same n (low n j.0)).1 j.1) ],
+      );
+    }
+
+-- On the left only what isn't before all of the right is left.
+pub meets_left_from : {P : ℕ → Type 0} {k : ℕ} {found left right next : List Run} {y : Run} → Meets P found left (y ∷ right) → SameFrom k left next → k ≡ y.first → Meets P found next (y ∷ right)
+meets_left_from m s e = meets_swap (meets_from (meets_swap m) s e)
+
 pub meets_end : {found left right : List Run} (old a b : List Run) → Meets (λ n. InRuns old n ⊎ InBoth a b n) found left right → ((n : ℕ) → InRuns left n → InRuns right n → ⊥) → AddsSet old found (InBoth a b)
 meets_end old a b m f = record { maximal = m.maximal; same = λ n. (λ i. (m.same n).0 (inl i), λ i. elim ((m.same n).1 i) [ inl j ↦ j | inr j ↦ absurd (f n j.0 j.1) ]) }
 
@@ -348,14 +383,18 @@ in_first f y ys p m reach inside n i =
       ],
     )
 
--- A number that the first run reaches is in the list exactly where it is in that run.
-pub at_first : {k : ℕ} {R : Type 0} {old left : List Run} {y : Run} → SameFrom k old (y ∷ left) → k ≤ y.last → (R ↔ InRun y k) → R ↔ InRuns old k
-at_first {k} {left = left} {y} l reach told = (
-  λ r. (l.same k (le_refl _)).0 (inl (told.0 r)),
-  λ i. told.1 (elim ((l.same k (le_refl _)).1 i) [
-    | inl j ↦ j
-    | inr j ↦ absurd (omega (arith, past_gap y.last left k l.maximal.1 j))
-  ]),
+-- A run is in the list exactly where it is in the first that reaches its beginning.
+pub block_at_first : {k : ℕ} {R : Type 0} {old left : List Run} {y : Run} (r : Run) → SameFrom k old (y ∷ left) → k ≤ y.last → k ≡ r.first → r.first ≤ r.last → (R ↔ ((n : ℕ) → InRun r n → InRun y n)) → R ↔ ((n : ℕ) → InRun r n → InRuns old n)
+block_at_first {left = left} {y} r l reach e p told = (
+  λ t n i. (l.same n (omega (arith, i.0))).0 (inl (told.0 t n i)),
+  λ inside. told.1 (in_first r y left p l.maximal (omega arith) (λ n i. (l.same n (omega (arith, i.0))).1 (inside n i))),
+)
+
+-- And in none where none reaches it.
+pub block_at_none : {k : ℕ} {old rest : List Run} (r : Run) → SameFrom k old rest → rest ≡ [] → k ≡ r.first → r.first ≤ r.last → IsTrue false ↔ ((n : ℕ) → InRun r n → InRuns old n)
+block_at_none {k} {old} r l none e p = (
+  λ t. absurd cc,
+  λ inside. absurd (((subst (λ (s : List Run). SameFrom k old s) none l).same r.first (omega arith)).1 (inside r.first (le_refl _, p))),
 )
 
 apart_append : (k : ℕ) (f r : List Run) → StandsApart k (f ++ r) → StandsApart k f × StandsApart k r

@@ -5,3 +5,6 @@ pub mod Shared
 pub mod Items
 pub mod Choices
 pub mod Claims
+pub mod Kinds
+pub mod Places
+pub mod Rows

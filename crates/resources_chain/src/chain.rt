@@ -1,12 +1,15 @@
 //! Chains: canonical lists of blocks, which stand for sets of numbers.
 
-ghost use Rattle.std.specs.Prelude.{◌≡◌, ℕ, ◌↔◌, List, IsTrue, MatchOption, MatchResult, IfOk, map, ⊤};
+ghost use Rattle.std.specs.Prelude.{◌≡◌, ◌<◌, ◌≤◌, ℕ, ◌↔◌, List, IsTrue, MatchOption, MatchResult, IfOk, length, map, ⊤};
 ghost use Rattle.std.specs.Cmp.{partial_equiv_from_equiv};
 ghost use Rattle.std.specs.Iterator.{IsFinite, DrainsIf};
-ghost use Rattle.resources_chain.specs.Sets.{InRuns, AreMaximal, IsRunsOf, InEither, InBoth, InFirstOnly, IsInside};
+ghost use Rattle.resources_chain.specs.Places.{run_at};
+ghost use Rattle.resources_chain.specs.Rows.{Looks};
+ghost use Rattle.resources_chain.specs.Sets.{InRun, InRuns, AreMaximal, IsRunsOf, InEither, InBoth, InFirstOnly, IsInside};
 ghost use Rattle.resources_chain.specs.Same.{runs_eq, runs_eq_equiv};
 
 use crate::block::Block;
+use crate::place::place_of;
 use crate::walk;
 use std::alloc::{AllocError, Global};
 use std::marker::Model;
@@ -57,7 +60,26 @@ impl<'a, B: Block> Chain<'a, B> {
     pub fn contains_item(&self, item: B::Item) -> bool
         ensures { IsTrue result ↔ InRuns self.now (B.place item) }
     {
-        walk::has_item(self.blocks, item)
+        let mut probes = 0;
+        self.find(item, &mut probes).is_some()
+    }
+
+    /// Whether all items of the block are in the chain.
+    pub fn contains_block(&self, block: &B) -> bool
+        ensures { IsTrue result ↔ ((n : ℕ) → InRun (B.run block.now) n → InRuns self.now n) }
+    {
+        walk::has_block(self.blocks, block)
+    }
+
+    /// The place of the block that has the item, where one has. It looks at some of the blocks, at most as often as their
+    /// number has binary digits, and adds the looks to `probes`.
+    pub fn find(&self, item: B::Item, probes: &mut u64) -> Option<usize>
+        requires { probes.old ≤ 18446744073709551551 }
+        ensures place { MatchOption result (¬ (InRuns self.now (B.place item)))
+            (λ k. (k < length self.now) × InRun (run_at self.now k) (B.place item)) }
+        ensures probes { Looks (length self.now) probes.old probes.new }
+    {
+        place_of(self.blocks, item, probes)
     }
 
     /// Whether all items are in the other chain.

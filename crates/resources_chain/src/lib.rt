@@ -6,12 +6,15 @@ pub mod chain;
 pub mod choice;
 pub mod claims;
 pub mod laws;
+mod place;
+pub mod row;
 mod walk;
 
 pub use block::Block;
 pub use chain::{Chain, OwnedChain, SharedChain};
 pub use choice::{InheritedResources, ResourcesChoice};
 pub use claims::{Claim, ClaimError, Overclaim};
+pub use row::{Row, halve};
 
 #[cfg(test)]
 mod tests;

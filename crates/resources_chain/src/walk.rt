@@ -1,11 +1,12 @@
-//! Walks over sorted lists of blocks, from the front.
+//! Walks over sorted lists of blocks. Where they skip blocks, they find the next place by halving.
 
 ghost use Rattle.std.specs.Prelude.{◌≡◌, ℕ, ◌+◌, ◌<◌, ◌≤◌, ◌⊎◌, ◌↔◌, IsTrue, MatchOption, OnOk, IfOk, ◌∷◌, map, min, max};
 ghost use Rattle.resources_chain.specs.Sets.{InRun, InRuns, AreMaximal, IsRunsOf, InEither, InBoth, InFirstOnly, IsInside};
 ghost use Rattle.std.specs.Ordering.{nat_cmp};
-ghost use Rattle.resources_chain.specs.Walks.{BeginBy, AreAscending, BeginByFirst, BeginFrom, FirstReaches, Adds, AddsSet, SameFrom, InsideUpTo, FirstOutside};
+ghost use Rattle.resources_chain.specs.Walks.{BeginBy, AreAscending, BeginByFirst, BeginFrom, Adds, AddsSet, SameFrom, InsideUpTo, FirstOutside};
 
 use crate::block::{Block, comes_before, ends_before};
+use crate::place::from_item;
 use std::alloc::{AllocError, Global};
 use std::cmp::Ordering;
 use std::ops::RangeInclusive;
@@ -147,7 +148,7 @@ pub(crate) fn difference<B: Block>(
     let mut rest = blocks;
     let mut taken = taken;
     while let Some((first, behind)) = rest.split_first() {
-        taken = add_outside(&mut found, *first, taken)?;
+        taken = add_outside(&mut found, *first, from_item(taken, first.min()))?;
         rest = behind;
     }
     Ok(found)
@@ -164,12 +165,13 @@ fn add_all_common<B: Block>(blocks: &mut Vec<B>, one: &[B], other: &[B]) -> Resu
     let mut left = one;
     let mut right = other;
     while let Some((x, left_behind)) = left.split_first() {
+        right = from_item(right, x.min());
         let Some((y, right_behind)) = right.split_first() else {
             return Ok(());
         };
         add_common(blocks, x, y)?;
         if comes_before::<B>(x.max(), y.max()) {
-            left = left_behind;
+            left = from_item(left_behind, y.min());
         } else {
             right = right_behind;
         }
@@ -190,22 +192,6 @@ pub(crate) fn intersection<B: Block>(
     let mut found = Vec::new(alloc);
     add_all_common(&mut found, one, other)?;
     Ok(found)
-}
-
-/// The blocks from the first one on that reaches the item.
-fn from_item<B: Block>(blocks: &[B], item: B::Item) -> &[B]
-    requires { AreMaximal (map B.run blocks.now) }
-    ensures same { SameFrom (B.place item) (map B.run blocks.now) (map B.run result.now) }
-    ensures reaches { FirstReaches (B.place item) (map B.run result.now) }
-{
-    let mut rest = blocks;
-    while let Some((first, behind)) = rest.split_first() {
-        if !comes_before::<B>(first.max(), item) {
-            return rest;
-        }
-        rest = behind;
-    }
-    rest
 }
 
 /// The blocks from the first one on that isn't inside the other list, and what is left of that list from there on.
@@ -240,6 +226,17 @@ pub(crate) fn is_inside<B: Block>(blocks: &[B], others: &[B]) -> bool
     rest.is_empty()
 }
 
+/// Whether all items of the block are in the list.
+pub(crate) fn has_block<B: Block>(blocks: &[B], block: &B) -> bool
+    requires { AreMaximal (map B.run blocks.now) }
+    ensures { IsTrue result ↔ ((n : ℕ) → InRun (B.run block.now) n → InRuns (map B.run blocks.now) n) }
+{
+    match from_item(blocks, block.min()).split_first() {
+        Some((first, _)) => block.is_encompassed(first),
+        None => false,
+    }
+}
+
 /// The items of both lists, unless all of the first list are in the second.
 pub(crate) fn trim<B: Block>(
     alloc: Global,
@@ -267,17 +264,6 @@ pub(crate) fn is_same<B: Block>(one: &[B], other: &[B]) -> bool
     ensures { IsTrue result ↔ ((n : ℕ) → InRuns (map B.run one.now) n ↔ InRuns (map B.run other.now) n) }
 {
     is_inside(one, other) && is_inside(other, one)
-}
-
-/// Whether one of the blocks has the item.
-pub(crate) fn has_item<B: Block>(blocks: &[B], item: B::Item) -> bool
-    requires { AreMaximal (map B.run blocks.now) }
-    ensures { IsTrue result ↔ InRuns (map B.run blocks.now) (B.place item) }
-{
-    match from_item(blocks, item).split_first() {
-        Some((first, _)) => first.contains(item),
-        None => false,
-    }
 }
 
 /// Adds the items of blocks that are sorted by where they begin, none of them before where others begin.

@@ -2,10 +2,11 @@
 
 ghost use Rattle.std.specs.Prelude.{◌≡◌, ◌-◌, ◌+◌, ◌<◌, ◌≤◌, ◌^◌, ◌↔◌, IsTrue, MatchResult, refl};
 ghost use Rattle.std.specs.Net.Addr.{MatchIp, IsIpv4OfBits, IsIpv6OfBits, ipv4_bits, ipv6_bits};
-ghost use Rattle.resources_addr.specs.Prefixes.{width, family_of, bits_of, IsPrefix, prefix_around, last_of, Covers, prefix_cmp, Ipv4, Ipv6};
+ghost use Rattle.resources_addr.specs.Prefixes.{width, family_of, bits_of, IsPrefix, prefix_around, last_of, Covers, family_cmp, prefix_cmp, Ipv4, Ipv6};
 ghost use Rattle.std.specs.Cmp.{partial_equiv_from_equiv, po};
 ghost use Rattle.std.specs.Ordering.{as_partial_cmp};
 ghost use Rattle.resources_addr.specs.Orders.{prefix_total, prefix_eq, prefix_equiv, prefix_ties, prefix_fed, prefix_alike};
+ghost use Rattle.resources_addr.specs.Starts.{start_cmp};
 ghost use Rattle.resources_addr.specs.Held.{family_in};
 ghost use Rattle.resources_addr.specs.Refusals.{IsNoPrefix, IsTooLong};
 
@@ -31,6 +32,17 @@ impl Kind {
         match self {
             Kind::V4 => 32,
             Kind::V6 => 128,
+        }
+    }
+
+    // IPv4 before IPv6.
+    fn order(self, other: Self) -> Ordering
+        ensures { result ≡ family_cmp (family_in self) (family_in other) }
+    {
+        match (self, other) {
+            (Kind::V4, Kind::V6) => Ordering::Less,
+            (Kind::V6, Kind::V4) => Ordering::Greater,
+            _ => Ordering::Equal,
         }
     }
 }
@@ -203,6 +215,16 @@ impl Prefix {
         self.kind == other.kind && self.first <= other.first && other.last() <= self.last()
     }
 
+    /// The order in which prefixes are listed: by family, IPv4 first, then by the first address, then by length, the
+    /// shorter first. So a prefix stands before those that it covers.
+    pub fn cmp_by_start(&self, other: &Self) -> Ordering
+        ensures { result ≡ start_cmp self.now other.now }
+    {
+        let by_address = self.first.cmp(&other.first);
+        let by_length = self.len.cmp(&other.len);
+        self.kind.order(other.kind).then(by_address.then(by_length))
+    }
+
     // How many bits an address of the prefix's family has.
     pub(super) fn addr_len(self) -> u8
         ensures { result ≡ width self.family }
@@ -243,14 +265,9 @@ impl Ord for Prefix {
     ghost matches_eq = { prefix_ties };
 
     fn cmp(&self, other: &Prefix) -> Ordering {
-        match (self.kind, other.kind) {
-            (Kind::V4, Kind::V6) => Ordering::Less,
-            (Kind::V6, Kind::V4) => Ordering::Greater,
-            _ => self
-                .last()
-                .cmp(&other.last())
-                .then(other.len.cmp(&self.len)),
-        }
+        let by_last = self.last().cmp(&other.last());
+        let by_length = other.len.cmp(&self.len);
+        self.kind.order(other.kind).then(by_last.then(by_length))
     }
 }
 
