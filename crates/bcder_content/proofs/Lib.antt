@@ -21,3 +21,10 @@ pub mod Tagged
 pub mod Modes
 pub mod Within
 pub mod Failing
+pub mod Simple
+pub mod Meaning
+pub mod InMode
+pub mod Gathering
+pub mod Choosing
+pub mod Keeping
+pub mod Fronts

@@ -16,3 +16,6 @@ pub mod Skips
 pub mod Memory
 pub mod Perhaps
 pub mod Tagged
+pub mod InMode
+pub mod Words
+pub mod Texts

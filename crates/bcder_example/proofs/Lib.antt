@@ -1,2 +1,0 @@
-mod Again
-mod Writing

@@ -3,18 +3,17 @@
 ghost use Rattle.std.specs.Prelude.{ℕ, List};
 ghost use Rattle.bcder_tree.specs.declared.mode.Mode.{Mode as ModeValue};
 ghost use Rattle.bcder_content.specs.Grammar.{End, One, Then};
-ghost use Rattle.bcder_oid.specs.Identifiers.{IsIdentifier};
 ghost use Rattle.bcder_values.specs.Returns.{ReadAgain};
 ghost use Rattle.bcder_example.specs.declared.notice.Notice.{Notice};
-ghost use Rattle.bcder_example.specs.Notices.{IsNotice, WritesNotice, read_fields};
+ghost use Rattle.bcder_example.specs.Notices.{notice, notice_fields};
 
 /// A value is one notice at most.
 pub fn one_meaning()
-    ensures { (m : ModeValue) → One (IsNotice m) }
+    ensures { (m : ModeValue) → One (notice.reads m) }
 {}
 
 /// A notice that is written, whose identifier is one, is read again: it is the only value in front of what was written,
 /// and has the same fields, but for the padding of its flags.
 pub fn what_is_written_is_read()
-    ensures { (n : Notice) (m : ModeValue) (text : List ℕ) → IsIdentifier n.id.0 → WritesNotice m n text → ReadAgain m (λ ts. Then (IsNotice m) End ts (read_fields m n, tt)) text }
+    ensures { (n : Notice) (m : ModeValue) (text : List ℕ) → notice.lawful (notice_fields n) → notice.writes (notice_fields n) m text → ReadAgain m (λ ts. Then (notice.reads m) End ts (notice.again m (notice_fields n), tt)) text }
 {}

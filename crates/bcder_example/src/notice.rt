@@ -2,9 +2,10 @@
 
 ghost use Rattle.std.specs.Prelude.{◌≡◌, true, OnErr};
 ghost use Rattle.bcder_tree.specs.Tags.{universal};
-ghost use Rattle.bcder_content.specs.Exact.{ReadsAs, ReadsAllAs};
+ghost use Rattle.bcder_content.specs.Exact.{ReadsAs};
+ghost use Rattle.bcder_content.specs.InMode.{ReadsFields};
 ghost use Rattle.bcder_content.specs.Here.{here};
-ghost use Rattle.bcder_example.specs.Notices.{IsNotice, IsNoticeBody, notice_fields};
+ghost use Rattle.bcder_example.specs.Notices.{lends, notice, notice_body, notice_fields, notice_lends};
 
 use bcder::decode::{Constructed, DecodeError, Source};
 use bcder::encode::{self, EncodeError, PrimitiveContent, Values};
@@ -42,34 +43,47 @@ impl Notice {
         alloc: Global,
         cons: &mut Constructed<S>,
     ) -> Result<Notice, DecodeError<S::Error>>
-        ensures reads { ReadsAs notice_fields (IsNotice (here S.rest cons.old).mode) (here S.rest cons.old) result (here S.rest cons.new) }
+        ensures reads {
+            ReadsAs notice_fields (notice.reads (here S.rest cons.old).mode)
+                (here S.rest cons.old) result (here S.rest cons.new)
+        }
         ensures failed { OnErr result ((here S.rest cons.new).failed ≡ true) }
     {
         cons.take_sequence(
             |cons|
-                ensures { ReadsAllAs notice_fields (IsNoticeBody (here S.rest cons.old).mode) (here S.rest cons.old) result (here S.rest cons.new) }
-            {
-                let id = Oid::take_from(alloc, cons)?;
-                let serial = Unsigned::take_from(alloc, cons)?;
-                let flags = BitString::take_from(alloc, cons)?;
-                let note = OctetString::take_from(alloc, cons)?;
-                Ok(Notice {
-                    id,
-                    serial,
-                    flags,
-                    note,
-                })
-            },
+                ensures {
+                    ReadsFields notice_fields notice_body.reads
+                        (here S.rest cons.old) result (here S.rest cons.new)
+                }
+            { Notice::take_fields(alloc, cons) },
         )
+    }
+
+    // The fields of a notice, up to the end of their content.
+    fn take_fields<S: Source>(
+        alloc: Global,
+        cons: &mut Constructed<S>,
+    ) -> Result<Notice, DecodeError<S::Error>>
+        ensures {
+            ReadsFields notice_fields notice_body.reads
+                (here S.rest cons.old) result (here S.rest cons.new)
+        }
+    {
+        let id = Oid::take_from(alloc, cons)?;
+        let serial = Unsigned::take_from(alloc, cons)?;
+        let flags = BitString::take_from(alloc, cons)?;
+        let note = OctetString::take_from(alloc, cons)?;
+        Ok(Notice {
+            id,
+            serial,
+            flags,
+            note,
+        })
     }
 
     // The encoders of the fields, in a SEQUENCE.
     fn encode_ref(&self) -> Encoder<'_>
-        ensures sequence { result.tag ≡ universal 16 }
-        ensures id { (result.inner.0.tag ≡ universal 6) × (result.inner.0.content.now.0 ≡ self.now.id.0) }
-        ensures serial { (result.inner.1.tag ≡ universal 2) × (result.inner.1.content.now ≡ self.now.serial) }
-        ensures flags { (result.inner.2.tag ≡ universal 3) × (result.inner.2.content.now ≡ self.now.flags) }
-        ensures note { (result.inner.3.tag ≡ universal 4) × (result.inner.3.octets.now ≡ self.now.note) }
+        ensures { lends result.tag (result.inner.0.tag, result.inner.0.content.now.0) (result.inner.1.tag, result.inner.1.content.now) (result.inner.2.tag, result.inner.2.content.now) (result.inner.3.tag, result.inner.3.octets.now) ≡ notice_lends self.now }
     {
         encode::Constructed {
             tag: Tag::SEQUENCE,
@@ -88,11 +102,11 @@ impl Notice {
 /// `CerUnsupported` where `flags` has more than 1000 content octets in CER (X.690 9.2); `TooLong` where a content has
 /// more than 2^32 - 1 octets.
 impl Values for Notice {
-    ghost use Rattle.bcder_example.specs.Notices.{AreNotice, WritesNotice, notice_spelled, notice_one};
+    ghost use Rattle.bcder_example.specs.Notices.{notice, notice_fields};
 
-    ghost trees = { λ n m. AreNotice m n };
+    ghost trees = { λ n. notice.trees (notice_fields n) };
 
-    ghost writes = { λ n m. WritesNotice m n };
+    ghost writes = { λ n. notice.writes (notice_fields n) };
 
     fn encoded_len(&self, mode: Mode) -> Result<usize, EncodeError> {
         let value = self.encode_ref();
@@ -104,7 +118,7 @@ impl Values for Notice {
         value.write_encoded(mode, target)
     }
 
-    ghost spelled = { λ n m. notice_spelled m n };
+    ghost spelled = { λ n. notice.spelled (notice_fields n) };
 
-    ghost one_text = { λ n m. notice_one m n };
+    ghost one_text = { λ n. notice.one_text (notice_fields n) };
 }

@@ -2,3 +2,4 @@ pub mod Wrapping
 pub mod Gathering
 pub mod Returning
 pub mod Lists
+pub mod Lent

@@ -7,3 +7,8 @@ pub mod Captures
 pub mod Gathered
 pub mod Returns
 pub mod Lists
+pub mod Forms
+pub mod OptionalForms
+pub mod ListForms
+pub mod ChoiceForms
+pub mod KeptForms

@@ -1,6 +1,7 @@
 use Rattle.bcder_values.proofs.Returning.{read_again}
-use Rattle.bcder_example.proofs.Again.{notice_spelled_again}
+use Rattle.bcder_values.specs.Forms.{written_again}
+use Rattle.bcder_example.specs.Notices.{notice, notice_fields}
 use Rattle.bcder_example.proofs.laws.what_is_written_is_read.Goals as goal
 
 pub returns : goal.returns
-returns c = λ n m text i w. read_again m text (notice_spelled_again m n text i w)
+returns c = λ n m text l w. read_again m text (written_again notice (tt, (tt, (tt, tt))) (notice_fields n) m text l w)

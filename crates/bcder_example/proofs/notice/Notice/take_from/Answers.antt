@@ -1,12 +1,6 @@
-use Rattle.std.proofs.Common.{subst}
-use Rattle.bcder_tree.specs.declared.mode.Mode.{Mode}
-use Rattle.bcder_content.specs.Exact.{ReadsAllAs}
-use Rattle.bcder_content.specs.Here.{here}
-use Rattle.bcder_content.proofs.Inside.{exact_each}
-use Rattle.bcder_example.specs.Notices.{IsNoticeBody, notice_fields}
+use Rattle.bcder_example.specs.Notices.{notice_body}
+use Rattle.bcder_content.proofs.InMode.{inside}
 use Rattle.bcder_example.proofs.notice.Notice.take_from.Goals as goal
 
 pub returns-clause-reads : goal.returns-clause-reads
-returns-clause-reads g c =
-    let rest = g.S.Source.rest in
-    exact_each (record { each = λ p q r m h. subst (λ (z : Mode). ReadsAllAs notice_fields (IsNoticeBody z) (here rest p.now) r (here rest q.now)) m h }) c.take_sequence.ensures.ran
+returns-clause-reads g c = inside {P = notice_body.reads} (record { each = λ p q r h. h }) c.take_sequence.ensures.ran
