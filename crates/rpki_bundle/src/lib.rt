@@ -9,8 +9,6 @@ mod forms;
 pub mod laws;
 pub mod parts;
 mod reader;
-#[cfg(test)]
-mod tests;
 pub mod time;
 pub mod uri;
 mod whole;

@@ -64,16 +64,3 @@ pub(crate) fn locator_lines(alloc: Global, locators: &[Locator]) -> Result<Vec<u
     }
     Ok(lines)
 }
-
-#[cfg(test)]
-mod tests {
-    use super::*;
-    use std::test::Fail;
-
-    #[test]
-    fn texts(rt: HostRuntime) -> Result<(), Fail> {
-        assert_eq!(rt; Cause::Tal.text(), "tal");
-        assert_eq!(rt; Cause::Tal.to_string(rt.alloc())?.as_str(), "tal");
-        Ok(())
-    }
-}

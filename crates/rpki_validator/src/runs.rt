@@ -97,24 +97,3 @@ pub fn run<R: Read, W: Write, D: Digester>(
         Err(_) => Err(RunError::Write),
     }
 }
-
-#[cfg(test)]
-mod tests {
-    use super::*;
-    use std::test::Fail;
-
-    #[test]
-    fn texts(rt: HostRuntime) -> Result<(), Fail> {
-        let table = [
-            (RunError::Read, "read fault"),
-            (RunError::NotABundle, "not a bundle"),
-            (RunError::NotYet, "not yet"),
-            (RunError::Write, "write fault"),
-            (RunError::Memory, "out of memory"),
-        ];
-        for (error, text) in table {
-            assert_eq!(rt; error.to_string(rt.alloc())?.as_str(), text);
-        }
-        Ok(())
-    }
-}

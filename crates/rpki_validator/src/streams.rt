@@ -78,6 +78,3 @@ pub fn write_all<W: Write>(writer: &mut Counted<W>, text: &[u8]) -> Result<(), W
     }
     Ok(())
 }
-
-#[cfg(test)]
-mod tests;

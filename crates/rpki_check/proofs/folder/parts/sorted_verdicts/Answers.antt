@@ -1,7 +1,0 @@
-use Rattle.std.proofs.Common.{rules}
-use Rattle.rpki_bundle.specs.Bundle.{verdict_row}
-use Rattle.rpki_check.proofs.Sorting.{sorted_on}
-use Rattle.rpki_check.proofs.folder.parts.sorted_verdicts.Goals as goal
-
-pub returns-clause-sorted : goal.returns-clause-sorted
-returns-clause-sorted c = sorted_on verdict_row _ c.sort_unstable_by.ensures.sorted (λ f a r q k. search rules)

@@ -1,9 +1,0 @@
-use Rattle.std.proofs.Common.{length}
-use Rattle.rpki_check.proofs.VerdictLines.{Reading}
-use Rattle.rpki_check.proofs.folder.verdicts.verdicts_of.Given as goal
-
-abbrev pub invariant-loop-rest : goal.invariant-loop-rest
-invariant-loop-rest l = Reading l.text l.rest l.verdicts.items
-
-abbrev pub decreases-loop-rest : goal.decreases-loop-rest
-decreases-loop-rest l = length l.rest

@@ -1,5 +1,0 @@
-use Rattle.std.proofs.Common.{◌+◌, ◌≤◌, vec_len}
-use Rattle.rpki_check.proofs.folder.walk.Walk.list.Given as goal
-
-abbrev pub invariant-loop-entry : goal.invariant-loop-entry
-invariant-loop-entry g l = l.self.entries_left + vec_len l.self.pending ≤ l.fn.self.entries_left + vec_len l.fn.self.pending

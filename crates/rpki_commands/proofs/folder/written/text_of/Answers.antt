@@ -1,0 +1,20 @@
+use Rattle.std.proofs.Common.{sym, subst}
+use Rattle.rpki_bundle.specs.Bundle.{BundleText}
+use Rattle.rpki_bundle.specs.declared.error.BundleError.{BundleError}
+use Rattle.rpki_bundle.specs.declared.error.BundleError.TheVariants.{NotABundle, Memory}
+use Rattle.rpki_bundle.specs.Errors.{OnNotABundle}
+use Rattle.rpki_commands.specs.Texts.{TellsNoText}
+use Rattle.rpki_commands.proofs.OneFolder.{one_told}
+use Rattle.rpki_commands.proofs.folder.written.text_of.Goals as goal
+
+weaker : (e : BundleError) {P Q : Type 0} → OnNotABundle e P → (P → Q) → OnNotABundle e Q
+weaker NotABundle p f = f p
+weaker Memory p f = p
+
+pub returns-in-Err-clause-refused : goal.returns-in-Err-clause-refused
+returns-in-Err-clause-refused c = weaker c.in-Err.error c.in-Err.ensures.refused (λ none text t. none t.bundle t.told)
+
+pub returns-in-Err-from_parts-clause-refused : goal.returns-in-Err-from_parts-clause-refused
+returns-in-Err-from_parts-clause-refused c =
+    subst (λ e. OnNotABundle e (TellsNoText c.args.contents)) (sym c.in-Err-from_parts.ensures.refused.0) (λ text t.
+    c.in-Err-from_parts.ensures.refused.1 text (subst (BundleText text) (one_told c.in-Ok.ensures.ok t) t.text_is))

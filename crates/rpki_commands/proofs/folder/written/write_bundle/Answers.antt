@@ -1,0 +1,32 @@
+use Rattle.std.proofs.Common.{subst, refl, ℕ, List, Option, Some, None}
+use Rattle.std.specs.Io.KnownBytes.{Appends, Keeps}
+use Rattle.rpki_validator.specs.Streams.{TakesSome}
+use Rattle.rpki_bundle.specs.Errors.{OnNotABundle}
+use Rattle.rpki_commands.specs.Texts.{TellsNoText}
+use Rattle.rpki_commands.proofs.folder.written.write_bundle.Goals as goal
+
+keeps : (w : Option (List ℕ)) → Keeps w w
+keeps None = tt
+keeps (Some xs) = refl
+
+pub returns-in-Err-NotABundle-clause-refused : goal.returns-in-Err-NotABundle-clause-refused
+returns-in-Err-NotABundle-clause-refused g c = (
+  keeps _,
+  (c.in-Ok.contents, subst (λ e. OnNotABundle e (TellsNoText c.in-Ok.contents)) c.in-Err-NotABundle.field-0-is c.in-Err-NotABundle.ensures.refused),
+)
+
+pub returns-in-Ok-write_all-clause-ok : goal.returns-in-Ok-write_all-clause-ok
+returns-in-Ok-write_all-clause-ok g c = record {
+  contents = c.in-Ok.contents;
+  text = c.in-Ok-text_of.text.items;
+  told = c.in-Ok-text_of.ensures.ok;
+  written = subst (Appends _ _) c.as_slice.ensures.value c.in-Ok-write_all.ensures.ok;
+}
+
+pub returns-clause-refused : goal.returns-clause-refused
+returns-clause-refused g c = record {
+  contents = c.in-Ok.contents;
+  text = c.in-Ok-text_of.text.items;
+  told = c.in-Ok-text_of.ensures.ok;
+  written = subst (TakesSome _ _) c.as_slice.ensures.value c.in-Err.ensures.err;
+}

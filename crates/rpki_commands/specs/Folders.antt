@@ -1,0 +1,43 @@
+-- What the contents of a folder tell.
+use Rattle.std.specs.Prelude.{ℕ, ◌^◌, ◌<◌, List, length}
+use Rattle.std.specs.Ordering.{nat_cmp}
+use Rattle.std.specs.Cmp.Lexicographic.{slice_cmp}
+use Rattle.std.specs.List.Sorted.{IsPermutation, IsSortedByKey}
+use Rattle.rpki_bundle.specs.declared.parts.Verdict.{Verdict}
+use Rattle.rpki_bundle.specs.Bundle.{BundleValue, verdict_row}
+use Rattle.rpki_commands.specs.Lines.{TellsMoment, TellsDepth}
+use Rattle.rpki_commands.specs.Verdicts.{TellsVerdicts}
+use Rattle.rpki_commands.specs.declared.folder.parts.Contents.{Contents}
+use Rattle.rpki_commands.specs.declared.folder.parts.Parts.{Parts}
+
+-- None of the list stands before the one in front of it, compared by rows of octets.
+abbrev pub IsSortedOn : {X : Type 0} → (X → List ℕ) → List X → Type 0
+IsSortedOn row xs = IsSortedByKey row (slice_cmp nat_cmp) xs
+
+-- The parts, with all that was read and nothing else, the lists in any order.
+pub record Tells (c : Contents) (b : BundleValue) : Type 0 where
+  pub verdicts : List Verdict
+  pub moment_is : TellsMoment c.moment.items b.moment
+  pub depth_is : TellsDepth c.depth.items b.depth
+  pub short : length c.verdicts.items < 2 ^ 32
+  pub verdicts_are : TellsVerdicts c.verdicts.items verdicts
+  pub same_locators : IsPermutation c.locators.items b.locators
+  pub same_objects : IsPermutation c.objects.items b.objects
+  pub same_verdicts : IsPermutation verdicts b.verdicts
+
+-- What parts are in a bundle.
+abbrev pub value_of : Parts → BundleValue
+value_of p = record {
+  moment = p.moment;
+  depth = p.depth;
+  locators = p.locators.items;
+  objects = p.objects.items;
+  verdicts = p.verdicts.items;
+}
+
+-- The parts, sorted.
+pub record TellsParts (c : Contents) (p : Parts) : Type 0 where
+  pub told : Tells c (value_of p)
+  pub locators_sorted : IsSortedOn (λ l. l.name) p.locators.items
+  pub objects_sorted : IsSortedOn (λ o. o.uri) p.objects.items
+  pub verdicts_sorted : IsSortedOn verdict_row p.verdicts.items

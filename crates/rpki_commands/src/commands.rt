@@ -1,0 +1,69 @@
+//! The commands, each over any reader and writers; they answer the exit status.
+
+ghost use Rattle.std.specs.Prelude.{◌≡◌, ◌⊎◌, ◌<◌, ◌-◌, ◌^◌};
+ghost use Rattle.rpki_validator.specs.Run.{Prints};
+ghost use Rattle.rpki_commands.specs.Checks.{EndsInFault};
+ghost use Rattle.rpki_commands.specs.Texts.{WritesText, EndsWithFault};
+
+use crate::digests::Fips;
+use crate::folder::write_bundle;
+use rpki_validator::{Counted, run};
+use std::alloc::Global;
+use std::io::{Read, Write};
+use std::rt::Files;
+
+/// The exit status where all was done.
+pub const DONE: u8 = 0;
+
+/// The exit status where something was at fault, which the faults say.
+pub const FAILED: u8 = 1;
+
+/// `check`: reads a bundle to the end, writes its lines, and tells what is at fault on `faults`.
+pub fn check<R: Read, W: Write, F: Write>(
+    alloc: Global,
+    reader: &mut Counted<R>,
+    writer: &mut Counted<W>,
+    faults: &mut F,
+) -> u8
+    requires few_reads { reader.old.failures < 2 ^ 64 - 1 }
+    requires few_writes { writer.old.failures < 2 ^ 64 - 1 }
+
+    ensures status { (result ≡ 0) ⊎ (result ≡ 1) }
+    ensures done { result ≡ 0 → Prints (R.remaining reader.old.inner) (R.remaining reader.new.inner) (W.contents writer.old.inner) (W.contents writer.new.inner) }
+    ensures done_counts { result ≡ 0 → (reader.new.failures ≡ reader.old.failures) × (writer.new.failures ≡ writer.old.failures) }
+    ensures failed { result ≡ 1 → EndsInFault (R.remaining reader.old.inner) (R.remaining reader.new.inner) (W.contents writer.old.inner) (W.contents writer.new.inner) (record { before = reader.old.failures; after = reader.new.failures }) (record { before = writer.old.failures; after = writer.new.failures }) }
+{
+    match run(alloc, reader, writer, &Fips) {
+        Ok(()) => DONE,
+        Err(error) => {
+            // What can't be told is lost; the status says that there was something.
+            let _ = writeln!(faults, "{error}");
+            FAILED
+        }
+    }
+}
+
+/// `bundle FOLDER`: reads a folder, writes the bundle that it tells, and tells what is at fault on `faults`.
+pub fn bundle<R: Files + AllocGlobal + Clone + Drop, W: Write, F: Write>(
+    rt: &R,
+    alloc: Global,
+    folder: &str,
+    writer: &mut Counted<W>,
+    faults: &mut F,
+) -> u8
+    requires few_writes { writer.old.failures < 2 ^ 64 - 1 }
+
+    ensures status { (result ≡ 0) ⊎ (result ≡ 1) }
+    ensures done { result ≡ 0 → WritesText (W.contents writer.old.inner) (W.contents writer.new.inner) }
+    ensures done_count { result ≡ 0 → writer.new.failures ≡ writer.old.failures }
+    ensures failed { result ≡ 1 → EndsWithFault (W.contents writer.old.inner) (W.contents writer.new.inner) writer.old.failures writer.new.failures }
+{
+    match write_bundle(rt, alloc, folder, writer) {
+        Ok(()) => DONE,
+        Err(fault) => {
+            // What can't be told is lost; the status says that there was something.
+            let _ = writeln!(faults, "{fault}");
+            FAILED
+        }
+    }
+}

@@ -1,0 +1,60 @@
+//! A folder that becomes a bundle: what is read of it, and the parts that this tells.
+
+mod files;
+mod lines;
+pub mod parts;
+mod verdicts;
+mod walk;
+mod written;
+
+use std::alloc::{AllocError, AllocFailed};
+use std::io::{self, ErrorKind};
+use thiserror::Error;
+pub use written::write_bundle;
+
+/// Why a folder became no bundle.
+#[derive(Clone, Copy, Debug, PartialEq, Eq, Hash, Error)]
+pub enum Fault {
+    /// Something in the folder can't be read, or is missing, or is too much.
+    #[error("read fault")]
+    Read,
+    /// What was read tells no bundle.
+    #[error("not a bundle")]
+    NotABundle,
+    /// The writer answered an error, or took nothing.
+    #[error("write fault")]
+    Write,
+    /// A growth of memory was refused.
+    #[error("out of memory")]
+    Memory,
+}
+
+/// Why a folder wasn't read.
+#[derive(Clone, Copy, Debug, PartialEq, Eq, Hash)]
+pub enum ReadFault {
+    /// Something in the folder can't be read, or is missing, or is too much.
+    Read,
+    /// A growth of memory was refused.
+    Memory,
+}
+
+impl From<AllocError> for ReadFault {
+    fn from(_error: AllocError) -> Self {
+        ReadFault::Memory
+    }
+}
+
+impl<T: Drop> From<AllocFailed<T>> for ReadFault {
+    fn from(_failed: AllocFailed<T>) -> Self {
+        ReadFault::Memory
+    }
+}
+
+impl From<io::Error> for ReadFault {
+    fn from(error: io::Error) -> Self {
+        match error.kind() {
+            ErrorKind::OutOfMemory => ReadFault::Memory,
+            _ => ReadFault::Read,
+        }
+    }
+}

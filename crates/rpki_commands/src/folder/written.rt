@@ -1,0 +1,68 @@
+//! The bundle that a folder tells, written.
+
+ghost use Rattle.std.specs.Prelude.{◌≡◌, ◌<◌, ◌-◌, ◌^◌, IfOk, IfErr, OnOk, MatchResult};
+ghost use Rattle.rpki_bundle.specs.Errors.{OnNotABundle};
+ghost use Rattle.rpki_commands.specs.Texts.{TellsText, TellsNoText, WritesText, BundleFails, CountsFault};
+
+use crate::folder::parts::{Contents, parts_of};
+use crate::folder::walk::read_folder;
+use crate::folder::{Fault, ReadFault};
+use rpki_bundle::{Bundle, BundleError};
+use rpki_validator::{Counted, write_all};
+use std::alloc::Global;
+use std::io::Write;
+use std::rt::Files;
+
+/// The octets of the bundle that the contents of a folder tell.
+pub fn text_of(alloc: Global, contents: Contents) -> Result<Vec<u8>, BundleError>
+    ensures ok { IfOk result (λ text. TellsText contents text.items) }
+    ensures refused { IfErr result (λ e. OnNotABundle e (TellsNoText contents)) }
+{
+    let parts = match parts_of(alloc, contents) {
+        Ok(parts) => parts,
+        Err(error) => return Err(error),
+    };
+    let bundle = match Bundle::from_parts(
+        parts.moment,
+        parts.depth,
+        parts.locators,
+        parts.objects,
+        parts.verdicts,
+    ) {
+        Ok(bundle) => bundle,
+        Err(error) => return Err(error),
+    };
+    match bundle.encode(alloc) {
+        Ok(text) => Ok(text),
+        Err(_) => Err(BundleError::Memory),
+    }
+}
+
+/// Reads a folder, and writes the bundle that it tells. Nothing is written before all was read.
+pub fn write_bundle<R: Files + AllocGlobal + Clone + Drop, W: Write>(
+    rt: &R,
+    alloc: Global,
+    folder: &str,
+    writer: &mut Counted<W>,
+) -> Result<(), Fault>
+    requires few_writes { writer.old.failures < 2 ^ 64 - 1 }
+
+    ensures ok { OnOk result (WritesText (W.contents writer.old.inner) (W.contents writer.new.inner)) }
+    ensures refused { IfErr result (λ e. BundleFails e (W.contents writer.old.inner) (W.contents writer.new.inner)) }
+    ensures count { MatchResult result (λ _. writer.new.failures ≡ writer.old.failures) (λ e. CountsFault e writer.old.failures writer.new.failures) }
+{
+    let contents = match read_folder(rt, alloc, folder) {
+        Ok(contents) => contents,
+        Err(ReadFault::Read) => return Err(Fault::Read),
+        Err(ReadFault::Memory) => return Err(Fault::Memory),
+    };
+    let text = match text_of(alloc, contents) {
+        Ok(text) => text,
+        Err(BundleError::NotABundle) => return Err(Fault::NotABundle),
+        Err(BundleError::Memory) => return Err(Fault::Memory),
+    };
+    match write_all(writer, text.as_slice()) {
+        Ok(()) => Ok(()),
+        Err(_) => Err(Fault::Write),
+    }
+}
