@@ -1,6 +1,7 @@
 -- Octets have one text of a grammar in front at most, and it is read in one way, whatever the mode.
 use Rattle.std.proofs.Common.{◌≡◌, ℕ, true, List, [], ◌∷◌, ◌++◌, length, refl, sym, ap, ◌∙◌, subst, append_assoc, length-append, arith}
 use Rattle.bcder_tree.specs.declared.mode.Mode.{Mode}
+use Rattle.bcder_tree.specs.declared.mode.Mode.TheVariants.{Der}
 use Rattle.bcder_tree.specs.Tags.{TagValue, IsTag}
 use Rattle.bcder_tree.specs.Octets.{IsIdentifier}
 use Rattle.bcder_tree.specs.Tree.{Tree, Trees, Spells, IsHeader, IsConstructed, definite, indefinite}
@@ -9,7 +10,7 @@ use Rattle.bcder_tree.proofs.Unique.{by_length}
 use Rattle.bcder_tree.proofs.Parts.{Opens, Ends, one_split, not_mixed, one_open}
 use Rattle.bcder_tree.proofs.Trees.{one_tree, one_trees}
 use Rattle.bcder_content.specs.Grammar.{One, OneAll}
-use Rattle.bcder_content.specs.Texts.{SpellsOf, InOrder, WithOctets, Wraps, Joins, NoOctets, InFront}
+use Rattle.bcder_content.specs.Texts.{SpellsOf, InOrder, WithOctets, Wraps, Joins, NoOctets, InFront, ReadsFront}
 
 -- Of two texts in front of the same octets, whatever is behind them.
 pub record OneFront {A : Type 0} (P : List ℕ → A → Type 0) : Type 0 where
@@ -104,3 +105,10 @@ wraps_one {A} {m} {tag} {P} o = record { one = λ a b u v x y p q e. let r = at 
 -- So octets read in one way.
 pub in_front_one : {A : Type 0} {P : List ℕ → A → Type 0} → OneFront P → (octets : List ℕ) (x y : A) → InFront P octets x → InFront P octets y → x ≡ y
 in_front_one o octets x y p q = (o.one p.text q.text p.rest q.rest x y p.is q.is (sym p.whole ∙ q.whole)).1
+
+-- What was decoded in DER stands in front of the octets, and where nothing was decoded nothing stands there.
+pub front_reads : {A : Type 0} {Q : Tree → A → Type 0} {o : List ℕ} {x : A} → (t : Tree) × (rest : List ℕ) × Front Der o t rest × Q t x → ReadsFront Q o x
+front_reads d = record { text = d.2.text; rest = d.1; whole = d.2.whole; is = record { tree = d.0; is = d.3; spelled = d.2.spelled } }
+
+pub front_lacks : {A : Type 0} {Q : Tree → A → Type 0} {o : List ℕ} → ((t : Tree) (x : A) (rest : List ℕ) → Q t x → Front Der o t rest → ⊥) → (x : A) → ReadsFront Q o x → ⊥
+front_lacks refuses x p = refuses p.is.tree x p.rest p.is.is (record { text = p.text; spelled = p.is.spelled; whole = p.whole })

@@ -1,5 +1,5 @@
 -- How a reader of a content is proved field by field, in the mode of the content: no step speaks of the mode.
-use Rattle.std.proofs.Common.{◌≡◌, ℕ, Bool, true, false, List, [], ◌∷◌, ◌++◌, Option, Some, None, Result, Ok, Err, refl, sym, ap, ◌∙◌, subst}
+use Rattle.std.proofs.Common.{map, ◌≡◌, ℕ, Bool, true, false, List, [], ◌∷◌, ◌++◌, Option, Some, None, Result, Ok, Err, refl, sym, ap, ◌∙◌, subst}
 use Rattle.std.specs.Result.{IsErr, IsErrAnd}
 use Rattle.std.specs.Option.{option_map, unwrap_or}
 use denote.Ref.{MutBor}
@@ -213,6 +213,12 @@ items_begin s = record { so_far = at.list_begin s.so_far; mode = s.mode }
 pub items_next : {A B : Type 0} {P : Mode → Trees → B → Type 0} {Q : Mode → Tree → A → Type 0} {k : List A → B} {xs ys : List A} {x : A}
     {start now new : ValuesLeft} → Items P Q k xs start now → Gives (Q now.mode) now x new → ys ≡ xs ++ (x ∷ []) → Items P Q k ys start new
 items_next {Q = Q} s g e = record { so_far = at.list_next s.so_far (gives_in Q s.mode g) e; mode = g.took.goes.mode ∙ s.mode }
+
+-- One more value was read, where the loop's values mean those of the grammar by f.
+pub items_next_as : {A B D : Type 0} {P : Mode → Trees → B → Type 0} {Q : Mode → Tree → A → Type 0} {k : List A → B} (f : D → A) (xs : List D)
+    {ys : List D} {x : D} {start now new : ValuesLeft}
+    → Items P Q k (map f xs) start now → Gives (Q now.mode) now (f x) new → ys ≡ xs ++ (x ∷ []) → Items P Q k (map f ys) start new
+items_next_as {Q = Q} f xs s g e = record { so_far = at.list_next_as f xs s.so_far (gives_in Q s.mode g) e; mode = g.took.goes.mode ∙ s.mode }
 
 -- The loop ends where no value of that tag is next.
 pub items_end : {A B D E : Type 0} {P : Mode → Trees → B → Type 0} {tag : TagValue} {Q : Mode → Tree → A → Type 0} {k : List A → B} {xs : List A}

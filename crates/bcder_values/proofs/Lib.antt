@@ -3,3 +3,4 @@ pub mod Gathering
 pub mod Returning
 pub mod Lists
 pub mod Lent
+pub mod KeptRead

@@ -7,7 +7,8 @@ use Rattle.bcder_tree.specs.Tree.{Tree, Trees, primitive, constructed, none, mor
 use Rattle.bcder_content.specs.Contents.{tag_of}
 use Rattle.bcder_content.specs.Grammar.{Inside, OctetsOf, As, End, Then, One, OneAll, OneOctets}
 use Rattle.bcder_content.proofs.Unique.{octets_one, inside_one, as_one, then_one, end_one, same_trees}
-use Rattle.bcder_written.specs.Encoded.{AreBoth, WritesBoth, IsPlain, WritesPlain, IsWrapped, WritesWrapped, SpellsSome, joined}
+use Rattle.bcder_written.specs.Encoded.{NoTree, NoText, AreBoth, WritesBoth, IsPlain, WritesPlain, IsWrapped, WritesWrapped, SpellsSome, joined}
+use Rattle.bcder_values.specs.Choices.{nothing_spelled, nothing_one}
 use Rattle.bcder_values.specs.Laws.{both_spelled, both_one}
 use Rattle.bcder_values.specs.Plains.{plain_spelled, plain_one}
 use Rattle.bcder_values.specs.Wraps.{wrapped_spelled, wrapped_one}
@@ -82,6 +83,9 @@ plain {A} tag o = record {
   };
   one_meaning = λ s m c. octets_one (o.one_meaning m);
 }
+
+pub not_more : {t : Tree} {ts : Trees} → none ≡ more t ts → ⊥
+not_more e = cc
 
 -- The first of values, where it is told.
 pub first_of : {A : Type 0} (Q : Tree → A → Type 0) (has : TagValue → Type 0) {x : A} {t u : Tree} {ts us : Trees}
@@ -176,6 +180,24 @@ mapped {A} {B} to from f = record {
 -- A value within a constructed one of that tag: an explicit tag (X.690 8.14).
 abbrev pub explicit : {A : Type 0} → TagValue → Form A → Form A
 explicit tag f = mapped (λ x. x.0) (λ x. (x, tt)) (wrapped tag (last f))
+
+-- No values.
+abbrev pub ended : Forms (Unit {0})
+ended = record {
+  reads = λ m. End;
+  lawful = λ x. Unit {0};
+  again = λ m x. x;
+  trees = λ x m. NoTree;
+  writes = λ x m. NoText;
+  begins = λ t. ⊥;
+  sound = Unit {0};
+  clear = λ m. Unit {0};
+  spelled = λ x m. nothing_spelled m;
+  one_text = λ x m. nothing_one;
+  first = λ m ts x p t us e. not_more (sym p.ended ∙ e);
+  is_read = λ s x m ts l p. record { ended = p };
+  one_meaning = λ s m c. end_one;
+}
 
 -- What is written of a lawful value is read again, as the only value.
 pub written_again : {A : Type 0} (f : Form A) → f.sound → (x : A) (m : Mode) (text : List ℕ) → f.lawful x → f.writes x m text

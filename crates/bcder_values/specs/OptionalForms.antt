@@ -5,11 +5,11 @@ use Rattle.bcder_tree.specs.declared.mode.Mode.{Mode}
 use Rattle.bcder_tree.specs.Tags.{TagValue}
 use Rattle.bcder_tree.specs.Tree.{Tree, Trees, none, more}
 use Rattle.bcder_content.specs.Contents.{tag_of}
-use Rattle.bcder_content.specs.Grammar.{Then, Without, OptCases, Opt, Default, Tagged}
-use Rattle.bcder_content.proofs.Unique.{opt_one, default_one, same_trees}
+use Rattle.bcder_content.specs.Grammar.{End, Then, Without, OptCases, Opt, Default, Tagged}
+use Rattle.bcder_content.proofs.Unique.{end_one, opt_one, default_one, same_trees}
 use Rattle.bcder_written.specs.Encoded.{NoTree, AreBoth, WritesBoth, joined}
 use Rattle.bcder_values.specs.Choices.{AreOptional, WritesOptional, optional_spelled, optional_one}
-use Rattle.bcder_values.specs.Forms.{Form, Forms}
+use Rattle.bcder_values.specs.Forms.{Form, Forms, ended}
 use Rattle.bcder_values.specs.Laws.{both_spelled, both_one}
 
 -- All values of a form have that tag, and what is behind it never begins with it.
@@ -112,4 +112,52 @@ default {A} {B} tag f missing shown g = record {
       default_of missing (f.again m x.0) (option_map (f.again m) (shown x.0)) (again_shown f missing shown s.1.0 m x.0)
       (cases_read tag f g s.0 (shown x.0) x.1 m ts s.1.1.0 s.1.1.1 l.0 l.1 p);
   one_meaning = λ s m c. default_one (tagged_by f g s.0 m) (f.one_meaning s.1.1.0 m c.0) (g.one_meaning s.1.1.1 m c.1);
+}
+
+-- At the end of a content.
+
+joined_none : (ts : Trees) → joined ts none ≡ ts
+joined_none none = refl
+joined_none (more t ts) = ap (more t) (joined_none ts)
+
+-- Values with none behind them.
+pub with_none : (T : Trees → Type 0) {ts : Trees} → T ts → AreBoth T NoTree ts
+with_none T {ts} p = record { first = ts; second = none; is_first = p; is_second = refl; whole = sym (joined_none ts) }
+
+-- A value of that tag, or none, as the last.
+abbrev pub last_maybe : {A : Type 0} → TagValue → Form A → Forms (Option A × Unit {0})
+last_maybe {A} tag f = record {
+  reads = λ m. Opt tag (f.reads m) End;
+  lawful = λ x. LawfulOption f.lawful x.0;
+  again = λ m x. (option_map (f.again m) x.0, tt);
+  trees = λ x m. AreOptional (λ v. f.trees v m) x.0;
+  writes = λ x m. WritesOptional (λ v. f.writes v m) x.0;
+  begins = λ t. f.has t ⊎ ⊥;
+  sound = Apart tag f ended × f.sound;
+  clear = f.clear;
+  spelled = λ x m. optional_spelled m (λ v. f.spelled v m) x.0;
+  one_text = λ x m. optional_one (λ v. f.one_text v m) x.0;
+  first = λ m ts x p. first_cases tag f ended m ts x.0 x.1 p.cases;
+  is_read = λ s x m ts l p. record { cases = cases_read tag f ended s.0 x.0 tt m ts s.1 tt l tt (with_none (AreOptional (λ v. f.trees v m) x.0) p) };
+  one_meaning = λ s m c. opt_one (tagged_by f ended s.0 m) (f.one_meaning s.1 m c) end_one;
+}
+
+-- The same with a default.
+abbrev pub last_default : {A : Type 0} → TagValue → Form A → A → (A → Option A) → Forms (A × Unit {0})
+last_default {A} tag f missing shown = record {
+  reads = λ m. Default tag (f.reads m) missing End;
+  lawful = λ x. LawfulOption f.lawful (shown x.0);
+  again = λ m x. (f.again m x.0, tt);
+  trees = λ x m. AreOptional (λ v. f.trees v m) (shown x.0);
+  writes = λ x m. WritesOptional (λ v. f.writes v m) (shown x.0);
+  begins = λ t. f.has t ⊎ ⊥;
+  sound = Apart tag f ended × (Shows f missing shown × f.sound);
+  clear = f.clear;
+  spelled = λ x m. optional_spelled m (λ v. f.spelled v m) (shown x.0);
+  one_text = λ x m. optional_one (λ v. f.one_text v m) (shown x.0);
+  first = λ m ts x p. first_default tag f ended missing m ts x p;
+  is_read = λ s x m ts l p.
+      default_of missing (f.again m x.0) (option_map (f.again m) (shown x.0)) (again_shown f missing shown s.1.0 m x.0)
+      (cases_read tag f ended s.0 (shown x.0) tt m ts s.1.1 tt l tt (with_none (AreOptional (λ v. f.trees v m) (shown x.0)) p));
+  one_meaning = λ s m c. default_one (tagged_by f ended s.0 m) (f.one_meaning s.1.1 m c) end_one;
 }
