@@ -3,7 +3,7 @@ use Rattle.std.proofs.Common.{◌≡◌, ◌≢◌, List, refl, sym, subst, inl,
 use Rattle.bcder_tree.specs.Tags.{universal, context}
 use Rattle.bcder_tree.specs.Tree.{Tree, Trees, primitive, constructed, none}
 use Rattle.bcder_primitive.specs.Values.{IsNull}
-use Rattle.bcder_content.specs.Grammar.{Inside, OctetsOf, OneOf, As, Then, Many, One, OneAll, OneOctets}
+use Rattle.bcder_content.specs.Grammar.{One, OneAll, OneOctets}
 use Rattle.bcder_content.proofs.Choices.{universal_apart}
 use Rattle.bcder_content.proofs.Unique.{octets_one, inside_one, as_one, one_of_one, end_one, then_one, many_one}
 use Rattle.bcder_written.specs.Encoded.{IsPlain, IsWrapped}
@@ -12,7 +12,7 @@ use Rattle.resources_chain.specs.Claims.{Choice}
 use Rattle.resources_chain.specs.declared.choice.ResourcesChoice.TheVariants.{Missing, Inherit, Blocks}
 use Rattle.resources_chain.proofs.SetLemmas.{one_list_of}
 use Rattle.resources_as_block.proofs.Again.{IsOne, blocks_are, block_one}
-use Rattle.resources_as.specs.Encodings.{AreBlocks, InheritsAs, IsAsSet, ListsAs, IsAsChoice, IsAsResources}
+use Rattle.resources_as.specs.Encodings.{AreBlocks, IsAsSet, IsAsChoice, IsAsResources}
 use Rattle.resources_as.specs.Written.{AreAsBlocks, AreIdentifiers, AreAsResources, HasMaximal, MeansJust}
 use Rattle.resources_as.proofs.Reading.{inherit_tagged, list_tagged}
 

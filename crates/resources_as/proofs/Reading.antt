@@ -1,13 +1,13 @@
 -- What reading AS resources rests on: tags, one meaning of a value, and lists by their sets.
-use Rattle.std.proofs.Common.{◌≡◌, ℕ, List, Result, Ok, Err, ap, subst, sym}
+use Rattle.std.proofs.Common.{◌≡◌, List, Result, Ok, Err, subst, sym}
 use Rattle.std.specs.Result.{IsErr, IsErrAnd}
 use Rattle.bcder_tree.specs.Tags.{universal}
 use Rattle.bcder_source.specs.Errors.{OnContent}
 use Rattle.bcder_content.specs.Contents.{ValuesLeft}
-use Rattle.bcder_content.specs.Exact.{GivesAll, LacksAll, ReadsAllAs, ReadsAs}
+use Rattle.bcder_content.specs.Exact.{GivesAll, LacksAll, ReadsAllAs}
 use Rattle.bcder_source.specs.declared.error.DecodeError.{DecodeError}
 use Rattle.bcder_content.proofs.Taking.{weaker}
-use Rattle.bcder_content.specs.Grammar.{As, Many, Tagged}
+use Rattle.bcder_content.specs.Grammar.{Many, Tagged}
 use Rattle.bcder_content.proofs.Unique.{octets_tagged, as_tagged, inside_tagged}
 use Rattle.resources_chain.specs.Sets.{Run, InRuns, IsRunsOf}
 use Rattle.resources_as_block.specs.Encodings.{IsAsBlock}

@@ -1,5 +1,5 @@
 -- Blocks that are written, by the runs of each.
-use Rattle.std.proofs.Common.{◌≡◌, ℕ, List, [], ◌∷◌, map, refl, ap, ◌∙◌, subst}
+use Rattle.std.proofs.Common.{◌≡◌, ℕ, List, [], ◌∷◌, map, refl, ap, subst}
 use Rattle.bcder_tree.specs.declared.mode.Mode.{Mode}
 use Rattle.bcder_tree.specs.Tree.{Trees}
 use Rattle.bcder_written.specs.Encoded.{AreBoth, WritesBoth}

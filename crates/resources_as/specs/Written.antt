@@ -1,7 +1,7 @@
 -- What is written of AS resources (RFC 3779 3.2.3), in their canonical form (3.2.3.4).
 use Rattle.std.specs.Prelude.{◌≡◌, ℕ, List}
 use Rattle.bcder_tree.specs.declared.mode.Mode.{Mode}
-use Rattle.bcder_tree.specs.Tags.{TagValue, universal, context}
+use Rattle.bcder_tree.specs.Tags.{universal, context}
 use Rattle.bcder_tree.specs.Tree.{Tree, Trees, none, more}
 use Rattle.bcder_primitive.specs.Values.{IsNull}
 use Rattle.bcder_written.specs.Encoded.{NoTree, NoText, IsPlain, WritesPlain, IsWrapped, WritesWrapped, SpellsSome}

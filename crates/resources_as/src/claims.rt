@@ -38,6 +38,13 @@ impl OverclaimedAsResources {
     {
         &self.blocks
     }
+
+    /// The AS numbers, handed over.
+    pub fn into_blocks(self) -> AsBlocks
+        ensures { result ≡ self }
+    {
+        self.blocks
+    }
 }
 
 impl fmt::Display for OverclaimedAsResources {

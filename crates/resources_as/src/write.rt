@@ -40,6 +40,13 @@ impl AsBlocks {
     {
         self
     }
+
+    /// The same as `encode`, of what is borrowed.
+    pub fn encode_ref(&self) -> &AsBlocks
+        ensures { result.now ≡ self.now }
+    {
+        self
+    }
 }
 
 // How many octets AS resources have around what they say.

@@ -1,5 +1,5 @@
 -- Blocks of AS numbers (RFC 3779 section 3.2.3.5): a number, or a range.
-use Rattle.std.specs.Prelude.{ℕ, ◌≤◌, ◌++◌, ◌==◌, if◌then◌else◌, List, codes}
+use Rattle.std.specs.Prelude.{ℕ, ◌<◌, ◌≤◌, ◌++◌, ◌==◌, if◌then◌else◌, List, codes}
 use Rattle.std.specs.Fmt.{decimal}
 use Rattle.std.proofs.Common.{le_refl}
 use Rattle.resources_chain.specs.Sets.{Run}
@@ -16,6 +16,11 @@ as_run (Range r) = range_run r
 pub as_run_within : (b : AsBlock) → ((as_run b).first ≤ (as_run b).last) × ((as_run b).last ≤ 4294967295)
 as_run_within (Id n) = (le_refl n.value, n.in_range)
 as_run_within (Range r) = (r.ordered, r.last.in_range)
+
+-- One number alone is no range.
+abbrev pub HasOneForm : AsBlock → Type 0
+HasOneForm (Id n) = Unit {0}
+HasOneForm (Range r) = r.first.value < r.last.value
 
 -- How a block of these numbers is written: `AS1`, `AS1-AS5`.
 abbrev pub run_text : Run → List ℕ

@@ -5,7 +5,7 @@ ghost use Rattle.std.proofs.Common.{rules};
 ghost use Rattle.std.specs.Cmp.Rules.{comparing};
 ghost use Rattle.std.specs.Ordering.{on, eq_of_both};
 ghost use Rattle.std.specs.Range.{range_inclusive_start, range_inclusive_end};
-ghost use Rattle.resources_as_block.specs.Blocks.{as_run, run_text};
+ghost use Rattle.resources_as_block.specs.Blocks.{as_run, run_text, HasOneForm};
 
 use crate::range::{AsRange, predecessor, successor};
 use resources_asn::Asn;
@@ -66,6 +66,7 @@ impl AsBlock {
         requires { min.value ≤ max.value }
         ensures first { (as_run result).first ≡ min.value }
         ensures last { (as_run result).last ≡ max.value }
+        ensures form { HasOneForm result }
     {
         if min == max {
             AsBlock::Id(min)
@@ -79,6 +80,7 @@ impl AsBlock {
         requires { min.value ≤ (as_run self.old).last }
         ensures first { (as_run self.new).first ≡ min.value }
         ensures last { (as_run self.new).last ≡ (as_run self.old).last }
+        ensures form { HasOneForm self.new }
     {
         *self = AsBlock::between(min, self.max());
     }
@@ -88,6 +90,7 @@ impl AsBlock {
         requires { (as_run self.old).first ≤ max.value }
         ensures first { (as_run self.new).first ≡ (as_run self.old).first }
         ensures last { (as_run self.new).last ≡ max.value }
+        ensures form { HasOneForm self.new }
     {
         *self = AsBlock::between(self.min(), max);
     }

@@ -3,3 +3,4 @@ pub mod Listed
 pub mod Chosen
 pub mod Texts
 pub mod Encodings
+pub mod Origins

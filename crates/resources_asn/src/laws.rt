@@ -1,9 +1,18 @@
-//! Laws of sets of AS numbers as lists: the contracts of functions that do nothing.
+//! Laws of sets of AS numbers as lists, and of origins: the contracts of functions that do nothing.
 
 ghost use Rattle.std.specs.Prelude.{◌≡◌, ◌↔◌, ℕ, List};
+ghost use Rattle.std.specs.Cmp.{IsTotalOrder};
+ghost use Rattle.std.specs.declared.cmp.Ordering.TheVariants.{Equal};
 ghost use Rattle.resources_asn.specs.Listed.{InList, IsAscending};
+ghost use Rattle.resources_asn.specs.Origins.{OriginValue, origin_cmp};
 
 /// A set has one list.
 pub fn one_list_of_a_set()
     ensures { (xs ys : List ℕ) → IsAscending xs → IsAscending ys → ((n : ℕ) → InList xs n ↔ InList ys n) → xs ≡ ys }
+{}
+
+/// The order in which origins are listed is total, and tells all origins apart.
+pub fn origins_are_ordered()
+    ensures total { IsTotalOrder origin_cmp }
+    ensures equal { (x y : OriginValue) → (origin_cmp x y ≡ Equal) ↔ (x ≡ y) }
 {}

@@ -4,10 +4,12 @@
 pub mod asn;
 mod der;
 pub mod laws;
+pub mod origin;
 mod selection;
 pub mod small_set;
 
 pub use asn::{Asn, ParseAsnError};
+pub use origin::Origin;
 pub use small_set::{
     SmallAsnSet, SmallSetDifference, SmallSetIntersection, SmallSetIter,
     SmallSetSymmetricDifference, SmallSetUnion,

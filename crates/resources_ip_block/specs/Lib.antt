@@ -13,3 +13,4 @@ pub use Rattle.resources_ip_prefix.specs.Prefix
 pub use Rattle.resources_ip_prefix.specs.Prefixes
 pub use Rattle.resources_ip_prefix.specs.Text
 pub use Rattle.resources_ip_prefix.specs.Whole
+pub use Rattle.resources_ip_prefix.specs.Wide

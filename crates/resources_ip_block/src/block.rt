@@ -6,6 +6,7 @@ ghost use Rattle.resources_ip_prefix.specs.Address.{bits_of, bits_within, one_ad
 ghost use Rattle.resources_ip_prefix.specs.Prefix.{run_of_prefix};
 ghost use Rattle.resources_ip_prefix.specs.Prefixes.{first_of, prefix_run};
 ghost use Rattle.resources_ip_prefix.specs.Whole.{IsWhole};
+ghost use Rattle.resources_ip_prefix.specs.Wide.{wide_run};
 ghost use Rattle.resources_ip_block.specs.Range.{run_of_range};
 
 use crate::range::{AddressRange, after, before};
@@ -66,6 +67,14 @@ impl IpBlock {
     {
         const HOST: u128 = u128::MAX >> 32;
         self.min().to_bits() & HOST == 0 && self.max().to_bits() & HOST == HOST
+    }
+
+    /// The block of the addresses of a prefix that knows its family: those of IPv4 are the first 32 of 128 bits
+    /// (RFC 3779 2.1.1).
+    pub fn from_addr_prefix(prefix: resources_addr::addr::Prefix) -> Self
+        ensures { run_of_block result ≡ wide_run prefix }
+    {
+        IpBlock::Prefix(Prefix::from_addr_prefix(prefix))
     }
 
     // The prefix of the same addresses, or else the range.

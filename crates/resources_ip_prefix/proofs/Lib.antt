@@ -6,3 +6,4 @@ pub mod Filled
 pub mod Values
 pub mod Spelled
 pub mod Told
+pub mod WideLemmas

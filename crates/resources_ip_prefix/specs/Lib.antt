@@ -7,3 +7,4 @@ pub mod Family
 pub mod Whole
 pub mod Encodings
 pub mod Written
+pub mod Wide

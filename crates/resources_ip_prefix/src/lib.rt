@@ -2,6 +2,7 @@
 #![tactic(auto)]
 
 pub mod addr;
+mod convert;
 mod der;
 mod encode;
 pub mod error;

@@ -104,13 +104,10 @@ impl Prefix {
     }
 }
 
-// The length of a prefix, in decimal digits.
+// The length of a prefix, in decimal digits; zeros or one plus may stand in front.
 fn length_of(family: AddressFamily, text: &str) -> Result<u8, FromStrError>
     ensures { IfOk result (λ len. len ≤ max_len_of family) }
 {
-    if text.starts_with('+') {
-        return Err(FromStrError::PrefixLen);
-    }
     match text.parse::<u8>() {
         Ok(len) if len <= family.max_addr_len() => Ok(len),
         _ => Err(FromStrError::PrefixLen),
