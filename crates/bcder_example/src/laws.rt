@@ -1,4 +1,4 @@
-//! Laws of notices: the contracts of functions that do nothing.
+//! Laws of the types that are written: the contracts of functions that do nothing.
 
 ghost use Rattle.std.specs.Prelude.{ℕ, List};
 ghost use Rattle.bcder_tree.specs.declared.mode.Mode.{Mode as ModeValue};
@@ -6,6 +6,8 @@ ghost use Rattle.bcder_content.specs.Grammar.{End, One, Then};
 ghost use Rattle.bcder_values.specs.Returns.{ReadAgain};
 ghost use Rattle.bcder_example.specs.declared.notice.Notice.{Notice};
 ghost use Rattle.bcder_example.specs.Notices.{notice, notice_fields};
+ghost use Rattle.bcder_example.specs.Signed.{signed, signed_fields};
+ghost use Rattle.bcder_example.specs.declared.signed.Signed.{Signed};
 
 /// A value is one notice at most.
 pub fn one_meaning()
@@ -16,4 +18,12 @@ pub fn one_meaning()
 /// and has the same fields, but for the padding of its flags.
 pub fn what_is_written_is_read()
     ensures { (n : Notice) (m : ModeValue) (text : List ℕ) → notice.lawful (notice_fields n) → notice.writes (notice_fields n) m text → ReadAgain m (λ ts. Then (notice.reads m) End ts (notice.again m (notice_fields n), tt)) text }
+{}
+
+/// What is written of a signed structure is read again, where the octets that are kept spell the body in each mode in
+/// which they stand, and the algorithm is an identifier.
+pub fn what_is_signed_is_read()
+    ensures { (s : Signed) (m : ModeValue) (text : List ℕ) → signed.lawful (signed_fields s)
+        → signed.writes (signed_fields s) m text
+        → ReadAgain m (λ ts. Then (signed.reads m) End ts (signed.again m (signed_fields s), tt)) text }
 {}

@@ -43,18 +43,14 @@ impl Notice {
         alloc: Global,
         cons: &mut Constructed<S>,
     ) -> Result<Notice, DecodeError<S::Error>>
-        ensures reads {
-            ReadsAs notice_fields (notice.reads (here S.rest cons.old).mode)
-                (here S.rest cons.old) result (here S.rest cons.new)
-        }
+        ensures reads { ReadsAs notice_fields (notice.reads (here S.rest cons.old).mode)
+            (here S.rest cons.old) result (here S.rest cons.new) }
         ensures failed { OnErr result ((here S.rest cons.new).failed ≡ true) }
     {
         cons.take_sequence(
             |cons|
-                ensures {
-                    ReadsFields notice_fields notice_body.reads
-                        (here S.rest cons.old) result (here S.rest cons.new)
-                }
+                ensures { ReadsFields notice_fields notice_body.reads
+                    (here S.rest cons.old) result (here S.rest cons.new) }
             { Notice::take_fields(alloc, cons) },
         )
     }
@@ -64,10 +60,8 @@ impl Notice {
         alloc: Global,
         cons: &mut Constructed<S>,
     ) -> Result<Notice, DecodeError<S::Error>>
-        ensures {
-            ReadsFields notice_fields notice_body.reads
-                (here S.rest cons.old) result (here S.rest cons.new)
-        }
+        ensures { ReadsFields notice_fields notice_body.reads
+            (here S.rest cons.old) result (here S.rest cons.new) }
     {
         let id = Oid::take_from(alloc, cons)?;
         let serial = Unsigned::take_from(alloc, cons)?;

@@ -1,0 +1,23 @@
+use Rattle.std.proofs.Common.{ℕ, List, sym, subst}
+use Rattle.bcder_tree.specs.Strings.{octet_string_tag}
+use Rattle.bcder_content.specs.Texts.{ReadsFront}
+use Rattle.bcder_content.proofs.Choices.{gives_same, stop_value}
+use Rattle.bcder_content.proofs.Fronts.{front_lacks, front_reads}
+use Rattle.bcder_content.proofs.Keeping.{same_refusal}
+use Rattle.bcder_content.proofs.Meaning.{means_gives, means_lacks, means_refused}
+use Rattle.bcder_content.proofs.Taking.{weaker}
+use Rattle.bcder_octets.proofs.Meaning.{one_string}
+use Rattle.bcder_example.specs.Versions.{IsVersion, version_fields}
+use Rattle.bcder_example.proofs.inner.take_inner.Goals as goal
+
+pub returns-in_err-string : goal.returns-in_err-string
+returns-in_err-string g c = stop_value _ _ _ _ c.from_residual.ensures (λ l. means_lacks l) c.in_err-string.ensures.reads
+
+pub returns-in-Err : goal.returns-in-Err
+returns-in-Err g c = same_refusal _ _ _ c.convert.ensures (weaker _ (λ none.
+    means_refused (record { one = λ t x y p q. one_string _ octet_string_tag t x y p q }) (gives_same c.in_ok-octets.ensures c.in_ok-string.ensures.reads)
+    (λ x p. front_lacks none x (subst (λ (o : List ℕ). ReadsFront IsVersion o x) (sym c.as_slice.ensures) p))) c.in-Err.ensures)
+
+pub returns : goal.returns
+returns g c = means_gives (gives_same c.in_ok-octets.ensures c.in_ok-string.ensures.reads)
+    (subst (λ (o : List ℕ). ReadsFront IsVersion o (version_fields c.in-Ok.version)) c.as_slice.ensures (front_reads c.in-Ok.ensures))

@@ -1,0 +1,9 @@
+use Rattle.bcder_example.specs.Signed.{lent}
+use Rattle.bcder_values.proofs.Lent.{write_lent, write_refused}
+use Rattle.bcder_example.proofs.signed.SignedValues.write_encoded.Goals as goal
+
+pub returns-clause-written : goal.returns-clause-written
+returns-clause-written g c = write_lent lent c.args.mode _ _ _ c.encode_ref-value.ensures c.write_encoded.ensures.written
+
+pub returns-clause-refused : goal.returns-clause-refused
+returns-clause-refused g c = write_refused lent c.args.mode _ _ _ _ c.encode_ref-value.ensures c.write_encoded.ensures.refused

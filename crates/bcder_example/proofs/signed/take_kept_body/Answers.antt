@@ -1,0 +1,15 @@
+use Rattle.bcder_content.proofs.Choices.{stop_value}
+use Rattle.bcder_content.proofs.Keeping.{same_refusal}
+use Rattle.bcder_content.proofs.Taking.{weaker}
+use Rattle.bcder_values.proofs.KeptRead.{kept_in_gives, kept_in_lacks, kept_in_refused}
+use Rattle.bcder_example.specs.Signed.{body}
+use Rattle.bcder_example.proofs.signed.take_kept_body.Goals as goal
+
+pub returns-in_err-octets : goal.returns-in_err-octets
+returns-in_err-octets g c = stop_value _ _ _ _ c.from_residual.ensures (λ l. kept_in_lacks body.reads l) c.in_err-octets.ensures.captured
+
+pub returns-in-Err : goal.returns-in-Err
+returns-in-Err g c = same_refusal _ _ _ c.convert.ensures (weaker _ (λ none. kept_in_refused body.reads c.in_ok-octets.ensures.captured c.mode-mode.ensures c.as_slice.ensures.octets none) c.in-Err.ensures)
+
+pub returns : goal.returns
+returns g c = kept_in_gives body.reads c.in_ok-octets.ensures.captured c.in_ok-octets.ensures.mode c.mode-mode.ensures c.as_slice.ensures.octets c.in-Ok.ensures

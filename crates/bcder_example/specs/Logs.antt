@@ -1,0 +1,41 @@
+-- Grammars of logs, and of strings in pieces.
+use Rattle.std.specs.Prelude.{ℕ, List, Option, map}
+use Rattle.bcder_tree.specs.declared.mode.Mode.{Mode}
+use Rattle.bcder_tree.specs.Tags.{universal}
+use Rattle.bcder_tree.specs.Tree.{Tree, Trees}
+use Rattle.bcder_content.specs.Grammar.{Inside, OctetsOf, End, Then, Opt, Many}
+use Rattle.bcder_primitive.specs.Values.{AnyOctets}
+use Rattle.bcder_example.specs.declared.lists.Entry.{Entry}
+use Rattle.bcder_example.specs.declared.lists.Log.{Log}
+use Rattle.bcder_example.specs.Versions.{IsSmall, Numbers}
+
+-- Entry ::= SEQUENCE { kind INTEGER, size INTEGER }
+abbrev pub entry_fields : Entry → Numbers
+entry_fields e = (e.kind, (e.size, tt))
+
+abbrev pub IsEntryBody : Mode → Trees → Numbers → Type 0
+IsEntryBody m = Then IsSmall (Then IsSmall End)
+
+abbrev pub IsEntry : Tree → Numbers → Type 0
+IsEntry = Inside (universal 16) (Then IsSmall (Then IsSmall End))
+
+-- SEQUENCE OF Entry
+abbrev pub AreEntries : Mode → Trees → List Numbers → Type 0
+AreEntries m = Many IsEntry
+
+-- Log ::= SEQUENCE { most INTEGER OPTIONAL, entries SEQUENCE OF Entry }
+abbrev pub LogFields : Type 0
+LogFields = Option ℕ × (List Numbers × Unit {0})
+
+abbrev pub log_fields : Log → LogFields
+log_fields l = (l.most, (map entry_fields l.entries.items, tt))
+
+abbrev pub IsLogBody : Mode → Trees → LogFields → Type 0
+IsLogBody m = Opt (universal 2) IsSmall (Then (Inside (universal 16) (AreEntries m)) End)
+
+-- A piece of an OCTET STRING (X.690 8.7.3.2), by its octets.
+abbrev pub IsPiece : Tree → List ℕ → Type 0
+IsPiece = OctetsOf (universal 4) AnyOctets
+
+abbrev pub ArePieces : Mode → Trees → List (List ℕ) → Type 0
+ArePieces m = Many IsPiece
