@@ -16,7 +16,7 @@ use Rattle.rpki_bundle.specs.declared.parts.Locator.{Locator}
 use Rattle.rpki_bundle.specs.declared.parts.Object.{Object}
 use Rattle.rpki_bundle.specs.declared.parts.Verdict.{Verdict}
 use Rattle.rpki_bundle.specs.TimeForms.{IsGeneralizedTime}
-use Rattle.rpki_bundle.specs.Uris.{IsUri, IsUriOctet}
+use Rattle.certs_uri.specs.Uris.{IsUri, IsUriOctet}
 use Rattle.rpki_bundle.specs.Orders.{Ascends}
 use Rattle.rpki_bundle.specs.Lawful.{IsName, IsWord}
 use Rattle.rpki_bundle.specs.Bundle.{BundleValue, IsLocator, IsObject, IsVerdict, verdict_row, IsBundle, BundleText}

@@ -8,8 +8,8 @@ pub mod Writing
 pub mod Texts
 pub mod OneBundle
 pub mod Orders
-pub mod UriLaws
-pub mod UriTexts
-pub mod Calendar
-pub mod Moments
+pub use Rattle.certs_uri.proofs.UriLaws
+pub use Rattle.certs_uri.proofs.UriTexts
+pub use Rattle.certs_time.proofs.Calendar
+pub use Rattle.certs_time.proofs.Moments
 pub mod Objects

@@ -8,11 +8,11 @@ use Rattle.bcder_tree.specs.Integers.{IsNumber}
 use Rattle.bcder_tree.proofs.Trees.{one_tree}
 use Rattle.bcder_tree.proofs.Integers.{one_number}
 use Rattle.bcder_tree.proofs.Fronts.{whole_front, sequence_bound}
-use Rattle.rpki_bundle.specs.Times.{IsMoment}
+use Rattle.certs_time.specs.Times.{IsMoment}
 use Rattle.rpki_bundle.specs.TimeForms.{IsGeneralizedTime}
 use Rattle.rpki_bundle.specs.EntryTrees.{one_locator, one_object, one_verdict}
 use Rattle.rpki_bundle.specs.Bundle.{BundleValue, BundleText}
-use Rattle.rpki_bundle.proofs.Moments.{one_moment}
+use Rattle.certs_time.proofs.Moments.{one_moment}
 
 -- The entries of a list, where each tree stands for one.
 one_each : {A : Type 0} {P : Tree → A → Type 0} → ((t : Tree) (x y : A) → P t x → P t y → x ≡ y) → (ts : Trees) (xs ys : List A) → EachIs P ts xs → EachIs P ts ys → xs ≡ ys

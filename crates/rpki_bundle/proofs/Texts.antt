@@ -13,13 +13,13 @@ use Rattle.rpki_bundle.specs.Spellings.{value_octets, sequence_octets, locator_o
 use Rattle.rpki_bundle.specs.declared.parts.Locator.{Locator}
 use Rattle.rpki_bundle.specs.declared.parts.Object.{Object}
 use Rattle.rpki_bundle.specs.declared.parts.Verdict.{Verdict}
-use Rattle.rpki_bundle.specs.Times.{IsMoment}
+use Rattle.certs_time.specs.Times.{IsMoment}
 use Rattle.rpki_bundle.specs.Lawful.{IsLawfulLocator, IsLawfulObject, IsLawfulVerdict, IsLawful}
 use Rattle.rpki_bundle.proofs.BundleGrammar.{locator_name, uri_plain}
 use Rattle.bcder_written.specs.declared.error.EncodeError.{EncodeError}
 use Rattle.bcder_written.specs.Writing.{Wrote, CannotWrite}
 use Rattle.rpki_bundle.specs.Written.{AreBundle, WritesBundle}
-use Rattle.rpki_bundle.proofs.Moments.{one_text}
+use Rattle.certs_time.proofs.Moments.{one_text}
 use Rattle.rpki_bundle.proofs.Writing.{joined, wrote_bundle, never_refused}
 use Rattle.rpki_bundle.proofs.Spellings.{Spelling, primitive_spelled, spells_primitive, sequence_spelled, spells_sequence, value_longer, pair_spelled, spells_pair, three_spelled, spells_three, list_spelled, spells_list}
 

@@ -10,7 +10,7 @@ use Rattle.rpki_bundle.specs.declared.parts.Locator.{Locator}
 use Rattle.rpki_bundle.specs.declared.parts.Object.{Object}
 use Rattle.rpki_bundle.specs.declared.parts.Verdict.{Verdict}
 use Rattle.rpki_bundle.specs.TimeForms.{IsGeneralizedTime}
-use Rattle.rpki_bundle.specs.Uris.{IsLookupKey}
+use Rattle.certs_uri.specs.Uris.{IsLookupKey}
 use Rattle.rpki_bundle.specs.Orders.{Ascends}
 
 -- What a bundle tells.

@@ -11,8 +11,8 @@ use Rattle.bcder_content.specs.Grammar.{Inside, OctetsOf, Such, As, End, Then, M
 use Rattle.rpki_bundle.specs.declared.parts.Locator.{Locator}
 use Rattle.rpki_bundle.specs.declared.parts.Object.{Object}
 use Rattle.rpki_bundle.specs.declared.parts.Verdict.{Verdict}
-use Rattle.rpki_bundle.specs.Times.{IsMoment}
-use Rattle.rpki_bundle.specs.Uris.{IsLookupKey}
+use Rattle.certs_time.specs.Times.{IsMoment}
+use Rattle.certs_uri.specs.Uris.{IsLookupKey}
 use Rattle.rpki_bundle.specs.Orders.{Ascends}
 use Rattle.rpki_bundle.specs.Lawful.{IsWord}
 use Rattle.rpki_bundle.specs.Bundle.{BundleValue, verdict_row}

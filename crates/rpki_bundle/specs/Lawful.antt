@@ -4,8 +4,8 @@ use Rattle.bcder_tree.specs.Strings.{IsPrintable}
 use Rattle.rpki_bundle.specs.declared.parts.Locator.{Locator}
 use Rattle.rpki_bundle.specs.declared.parts.Object.{Object}
 use Rattle.rpki_bundle.specs.declared.parts.Verdict.{Verdict}
-use Rattle.rpki_bundle.specs.Times.{IsMoment}
-use Rattle.rpki_bundle.specs.Uris.{IsLookupKey}
+use Rattle.certs_time.specs.Times.{IsMoment}
+use Rattle.certs_uri.specs.Uris.{IsLookupKey}
 use Rattle.rpki_bundle.specs.Orders.{Ascends}
 use Rattle.rpki_bundle.specs.Bundle.{BundleValue, verdict_row}
 use Rattle.rpki_bundle.specs.Spellings.{members_octets}

@@ -4,7 +4,7 @@ use Rattle.bcder_chars.specs.Sets.{IsIa5, alone}
 use Rattle.bcder_content.specs.Here.{here}
 use Rattle.bcder_content.proofs.Choices.{gives_same, such_gives, such_lacks, such_refused, stop_value}
 use Rattle.bcder_content.proofs.Taking.{on_content}
-use Rattle.rpki_bundle.specs.Uris.{IsLookupKey}
+use Rattle.certs_uri.specs.Uris.{IsLookupKey}
 use Rattle.rpki_bundle.specs.RowLaws.{text}
 use Rattle.rpki_bundle.proofs.reader.take_uri.Goals as goal
 

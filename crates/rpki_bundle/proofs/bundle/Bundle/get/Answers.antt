@@ -1,6 +1,6 @@
 use Rattle.std.proofs.Common.{◌∙◌, ap}
 use Rattle.rpki_bundle.specs.Bundle.{BundleValue}
-use Rattle.rpki_bundle.specs.Uris.{IsUri, lookup_key}
+use Rattle.certs_uri.specs.Uris.{IsUri, lookup_key}
 use Rattle.rpki_bundle.proofs.Objects.{none_found}
 use Rattle.rpki_bundle.proofs.bundle.Bundle.get.Goals as goal
 

@@ -1,0 +1,4 @@
+pub mod Times
+pub mod Pairs
+pub mod Forms
+pub mod Periods

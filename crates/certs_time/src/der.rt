@@ -1,0 +1,90 @@
+//! Moments that are read (RFC 5280 4.1.2.5).
+
+ghost use Rattle.std.specs.Prelude.{◌≡◌, ◌≢◌, ℕ, true, IfErr, OnErr};
+ghost use Rattle.bcder_tree.specs.Tags.{universal};
+ghost use Rattle.bcder_source.specs.Errors.{OnlyContent};
+ghost use Rattle.bcder_source.specs.declared.error.DecodeError.TheVariants.{Memory};
+ghost use Rattle.bcder_primitive.specs.Plain.{plain, ReadsOctetsAs};
+ghost use Rattle.bcder_content.specs.Exact.{ReadsAs, ReadsOptAs};
+ghost use Rattle.bcder_content.specs.Grammar.{OctetsOf};
+ghost use Rattle.bcder_content.specs.Here.{here};
+ghost use Rattle.certs_time.specs.Forms.{IsShortMoment, IsTime, Tells};
+ghost use Rattle.certs_time.specs.Times.{IsMoment};
+
+use crate::text::Form;
+use crate::time::Time;
+use bcder_content::{Constructed, Primitive};
+use bcder_source::{ContentError, DecodeError, Source};
+use bcder_tree::Tag;
+
+// Marks a content as failed, and refuses it.
+fn refuse<S: Source>(prim: &mut Primitive<S>) -> DecodeError<S::Error>
+    ensures error { OnlyContent result (Unit {0}) }
+    ensures failed { (plain S.rest prim.new).failed ≡ true }
+{
+    prim.failed = true;
+    prim.content_err(ContentError::from_static("invalid time"))
+}
+
+// The moment that all octets of a content tell in the form.
+#[inline(always)]
+fn moment<S: Source>(prim: &mut Primitive<S>, form: Form) -> Result<Time, DecodeError<S::Error>>
+    ensures reads { ReadsOctetsAs (λ t. t) (Tells form) (plain S.rest prim.old) result (plain S.rest prim.new) }
+    ensures failed { OnErr result ((plain S.rest prim.new).failed ≡ true) }
+    ensures no_memory { IfErr result (λ e. e ≢ Memory) }
+{
+    if prim.failed {
+        return Err(refuse(prim));
+    }
+    let _count = match prim.request(form.len()) {
+        Ok(count) => count,
+        Err(error) => return Err(DecodeError::Source(error)),
+    };
+    match form.moment((*prim).slice()) {
+        Some(moment) => {
+            prim.advance(form.len());
+            Ok(moment)
+        }
+        None => Err(refuse(prim)),
+    }
+}
+
+// The moment of a UTCTime, if one is next.
+fn take_opt_utc_time<S: Source>(
+    cons: &mut Constructed<S>,
+) -> Result<Option<Time>, DecodeError<S::Error>>
+    ensures reads { ReadsOptAs (λ t. t) (universal 23) (OctetsOf (universal 23) IsShortMoment) (here S.rest cons.old) result (here S.rest cons.new) }
+    ensures failed { OnErr result ((here S.rest cons.new).failed ≡ true) }
+    ensures no_memory { IfErr result (λ e. e ≢ Memory) }
+{
+    cons.take_opt_primitive_if(Tag::UTC_TIME, |prim| moment(prim, Form::Utc))
+}
+
+/// Reading. A time is primitive in every mode.
+impl Time {
+    /// A UTCTime or a GeneralizedTime (RFC 5280 4.1.2.5).
+    pub fn take_from<S: Source>(cons: &mut Constructed<S>) -> Result<Time, DecodeError<S::Error>>
+        ensures reads { ReadsAs (λ t. t) IsTime (here S.rest cons.old) result (here S.rest cons.new) }
+        ensures failed { OnErr result ((here S.rest cons.new).failed ≡ true) }
+        ensures no_memory { IfErr result (λ e. e ≢ Memory) }
+    {
+        let short = take_opt_utc_time(cons)?;
+        match short {
+            Some(moment) => Ok(moment),
+            None => Time::take_generalized_from(cons),
+        }
+    }
+
+    /// A GeneralizedTime (RFC 5280 4.1.2.5.2).
+    pub fn take_generalized_from<S: Source>(
+        cons: &mut Constructed<S>,
+    ) -> Result<Time, DecodeError<S::Error>>
+        ensures reads { ReadsAs (λ t. t) (OctetsOf (universal 24) IsMoment) (here S.rest cons.old) result (here S.rest cons.new) }
+        ensures failed { OnErr result ((here S.rest cons.new).failed ≡ true) }
+        ensures no_memory { IfErr result (λ e. e ≢ Memory) }
+    {
+        cons.take_primitive_if(Tag::GENERALIZED_TIME, |prim| {
+            moment(prim, Form::Generalized)
+        })
+    }
+}

@@ -1,0 +1,46 @@
+//! Laws of moments and validity: the contracts of functions that do nothing.
+
+ghost use Rattle.std.specs.Prelude.{◌≡◌, ◌↔◌, ℕ, List};
+ghost use Rattle.std.specs.declared.cmp.Ordering.TheVariants.{Equal};
+ghost use Rattle.bcder_tree.specs.declared.mode.Mode.{Mode as ModeValue};
+ghost use Rattle.bcder_tree.specs.Tags.{TagValue, universal};
+ghost use Rattle.bcder_tree.specs.Tree.{Tree, Trees, primitive};
+ghost use Rattle.bcder_primitive.specs.Values.{AnyOctets};
+ghost use Rattle.bcder_content.specs.Grammar.{End, One, Then};
+ghost use Rattle.bcder_written.specs.Encoded.{WritesBoth, WritesPlain, WritesWrapped};
+ghost use Rattle.bcder_values.specs.Returns.{ReadAgain};
+ghost use Rattle.certs_time.specs.Forms.{IsTime, IsValidity, WritesTime};
+
+use crate::time::Time;
+
+/// The order of moments agrees with their equality.
+pub fn order_agrees_with_equality()
+    ensures { (a b : ℕ) → (⟦<Time as Ord>⟧.cmp a b ≡ Equal) ↔ (a ≡ b) }
+{}
+
+/// A value tells one moment at most, or one validity.
+pub fn one_meaning()
+    ensures time { One IsTime }
+    ensures validity { One IsValidity }
+{}
+
+/// What is written of a moment is always the same value.
+pub fn one_time_is_written()
+    ensures { (moment : ℕ) (t u : Tree) → WritesTime moment t → WritesTime moment u → t ≡ u }
+{}
+
+/// What is written of a moment is read again as that moment.
+pub fn times_are_read_again()
+    ensures value { (moment : ℕ) (t : Tree) → WritesTime moment t → IsTime t moment }
+    ensures octets { (moment : ℕ) (tag : TagValue) (content : List ℕ) (m : ModeValue) (text : List ℕ)
+        → WritesTime moment (primitive tag content) → WritesPlain m tag (λ octets. AnyOctets octets content) text
+        → ReadAgain m (λ ts. Then IsTime End ts (moment, tt)) text }
+{}
+
+/// What is written of a validity is read again as that validity.
+pub fn validity_is_read_again()
+    ensures { (not_before not_after : ℕ) (tag other : TagValue) (first second : List ℕ) (m : ModeValue) (text : List ℕ)
+        → WritesTime not_before (primitive tag first) → WritesTime not_after (primitive other second)
+        → WritesWrapped m (universal 16) (WritesBoth (WritesPlain m tag (λ octets. AnyOctets octets first)) (WritesPlain m other (λ octets. AnyOctets octets second))) text
+        → ReadAgain m (λ ts. Then IsValidity End ts ((not_before, (not_after, tt)), tt)) text }
+{}

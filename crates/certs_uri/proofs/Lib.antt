@@ -1,0 +1,2 @@
+pub mod UriLaws
+pub mod UriTexts
