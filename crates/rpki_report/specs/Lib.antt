@@ -1,0 +1,4 @@
+pub mod Views
+pub mod Orders
+pub mod Groups
+pub mod Report
