@@ -1,5 +1,5 @@
 pub use Rattle.bcder_tree.specs.Tags
-pub use Rattle.bcder_tree.specs.TagOctets
+pub use Rattle.bcder_tree.specs.TagLimits
 pub use Rattle.bcder_tree.specs.Reads
 pub use Rattle.bcder_tree.specs.Octets
 pub use Rattle.bcder_tree.specs.Tree

@@ -5,7 +5,6 @@ pub mod Canonical
 pub mod Modes
 pub mod Fronts
 pub mod Integers
-pub mod TagOctets
 pub mod Slices
 pub mod Identifiers
 pub mod Lengths

@@ -1,5 +1,5 @@
 pub mod Tags
-pub mod TagOctets
+pub mod TagLimits
 pub mod Reads
 pub mod Octets
 pub mod Tree

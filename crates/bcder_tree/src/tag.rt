@@ -7,26 +7,33 @@ ghost use Rattle.bcder_tree.specs.Octets.{form_bit, IsIdentifier};
 use std::marker::Model;
 use std::{fmt, io};
 
+// The classes, by the numbers that they have in bits 8 and 7 of a first identifier octet (X.690 8.1.2.2).
+const UNIVERSAL: u8 = 0;
+
+const APPLICATION: u8 = 1;
+
+const CONTEXT: u8 = 2;
+
+const PRIVATE: u8 = 3;
+
 /// A tag: a class and a number up to 2,097,151 (X.680 clause 8, X.690 8.1.2.2).
 #[derive(Clone, Copy, Eq, Hash)]
 pub struct Tag {
-    octets: [u8; 4],
+    class: u8,
+    number: u32,
 }
 
 impl Model for Tag {
     ghost use Rattle.bcder_tree.specs.Tags.{TagValue};
-    ghost use Rattle.bcder_tree.specs.TagOctets.{tag_in, tag_octets, KeepsTag};
-    ghost use Rattle.std.proofs.Common.{List, ℕ, sym, ap};
+    ghost use Rattle.bcder_tree.specs.TagLimits.{IsToldTag};
 
     ghost Value = { TagValue };
 
-    ghost view = { λ a. tag_in a.octets };
+    ghost view = { λ a. record { class = a.class; number = a.number } };
 
-    ghost invariant = { λ a. KeepsTag a.octets };
+    ghost invariant = { λ a. IsToldTag (record { class = a.class; number = a.number }) };
 
-    ghost inverse = { λ t. record { octets = tag_octets t } };
-
-    ghost inverse_ok = { λ a h. ap (λ (o : List ℕ). let r : Inside = record { octets = o } in r) (sym h.whole) };
+    ghost inverse = { λ t. record { class = t.class; number = t.number } };
 }
 
 // The form bit of a first octet.
@@ -42,7 +49,7 @@ impl PartialEq for Tag {
     ghost laws = { Prim.search rules };
 
     fn eq(&self, other: &Tag) -> bool {
-        self.octets == other.octets
+        self.class == other.class && self.number == other.number
     }
 }
 
@@ -50,217 +57,260 @@ impl PartialEq for Tag {
 impl Tag {
     /// End-of-contents (X.690 8.1.5); no value has this tag.
     pub const END_OF_VALUE: Tag = Tag {
-        octets: [0, 0, 0, 0],
+        class: UNIVERSAL,
+        number: 0,
     };
 
     /// BOOLEAN.
     pub const BOOLEAN: Tag = Tag {
-        octets: [1, 0, 0, 0],
+        class: UNIVERSAL,
+        number: 1,
     };
 
     /// INTEGER.
     pub const INTEGER: Tag = Tag {
-        octets: [2, 0, 0, 0],
+        class: UNIVERSAL,
+        number: 2,
     };
 
     /// BIT STRING.
     pub const BIT_STRING: Tag = Tag {
-        octets: [3, 0, 0, 0],
+        class: UNIVERSAL,
+        number: 3,
     };
 
     /// OCTET STRING.
     pub const OCTET_STRING: Tag = Tag {
-        octets: [4, 0, 0, 0],
+        class: UNIVERSAL,
+        number: 4,
     };
 
     /// NULL.
     pub const NULL: Tag = Tag {
-        octets: [5, 0, 0, 0],
+        class: UNIVERSAL,
+        number: 5,
     };
 
     /// OBJECT IDENTIFIER.
     pub const OID: Tag = Tag {
-        octets: [6, 0, 0, 0],
+        class: UNIVERSAL,
+        number: 6,
     };
 
     /// ObjectDescriptor.
     pub const OBJECT_DESCRIPTOR: Tag = Tag {
-        octets: [7, 0, 0, 0],
+        class: UNIVERSAL,
+        number: 7,
     };
 
     /// EXTERNAL.
     pub const EXTERNAL: Tag = Tag {
-        octets: [8, 0, 0, 0],
+        class: UNIVERSAL,
+        number: 8,
     };
 
     /// REAL.
     pub const REAL: Tag = Tag {
-        octets: [9, 0, 0, 0],
+        class: UNIVERSAL,
+        number: 9,
     };
 
     /// ENUMERATED.
     pub const ENUMERATED: Tag = Tag {
-        octets: [10, 0, 0, 0],
+        class: UNIVERSAL,
+        number: 10,
     };
 
     /// EMBEDDED PDV.
     pub const EMBEDDED_PDV: Tag = Tag {
-        octets: [11, 0, 0, 0],
+        class: UNIVERSAL,
+        number: 11,
     };
 
     /// UTF8String.
     pub const UTF8_STRING: Tag = Tag {
-        octets: [12, 0, 0, 0],
+        class: UNIVERSAL,
+        number: 12,
     };
 
     /// RELATIVE-OID.
     pub const RELATIVE_OID: Tag = Tag {
-        octets: [13, 0, 0, 0],
+        class: UNIVERSAL,
+        number: 13,
     };
 
     /// TIME.
     pub const TIME: Tag = Tag {
-        octets: [14, 0, 0, 0],
+        class: UNIVERSAL,
+        number: 14,
     };
 
     /// SEQUENCE and SEQUENCE OF.
     pub const SEQUENCE: Tag = Tag {
-        octets: [16, 0, 0, 0],
+        class: UNIVERSAL,
+        number: 16,
     };
 
     /// SET and SET OF.
     pub const SET: Tag = Tag {
-        octets: [17, 0, 0, 0],
+        class: UNIVERSAL,
+        number: 17,
     };
 
     /// NumericString.
     pub const NUMERIC_STRING: Tag = Tag {
-        octets: [18, 0, 0, 0],
+        class: UNIVERSAL,
+        number: 18,
     };
 
     /// PrintableString.
     pub const PRINTABLE_STRING: Tag = Tag {
-        octets: [19, 0, 0, 0],
+        class: UNIVERSAL,
+        number: 19,
     };
 
     /// TeletexString.
     pub const TELETEX_STRING: Tag = Tag {
-        octets: [20, 0, 0, 0],
+        class: UNIVERSAL,
+        number: 20,
     };
 
     /// VideotexString.
     pub const VIDEOTEX_STRING: Tag = Tag {
-        octets: [21, 0, 0, 0],
+        class: UNIVERSAL,
+        number: 21,
     };
 
     /// IA5String.
     pub const IA5_STRING: Tag = Tag {
-        octets: [22, 0, 0, 0],
+        class: UNIVERSAL,
+        number: 22,
     };
 
     /// UTCTime.
     pub const UTC_TIME: Tag = Tag {
-        octets: [23, 0, 0, 0],
+        class: UNIVERSAL,
+        number: 23,
     };
 
     /// GeneralizedTime.
     pub const GENERALIZED_TIME: Tag = Tag {
-        octets: [24, 0, 0, 0],
+        class: UNIVERSAL,
+        number: 24,
     };
 
     /// GraphicString.
     pub const GRAPHIC_STRING: Tag = Tag {
-        octets: [25, 0, 0, 0],
+        class: UNIVERSAL,
+        number: 25,
     };
 
     /// VisibleString.
     pub const VISIBLE_STRING: Tag = Tag {
-        octets: [26, 0, 0, 0],
+        class: UNIVERSAL,
+        number: 26,
     };
 
     /// GeneralString.
     pub const GENERAL_STRING: Tag = Tag {
-        octets: [27, 0, 0, 0],
+        class: UNIVERSAL,
+        number: 27,
     };
 
     /// UniversalString.
     pub const UNIVERSAL_STRING: Tag = Tag {
-        octets: [28, 0, 0, 0],
+        class: UNIVERSAL,
+        number: 28,
     };
 
     /// CHARACTER STRING.
     pub const CHARACTER_STRING: Tag = Tag {
-        octets: [29, 0, 0, 0],
+        class: UNIVERSAL,
+        number: 29,
     };
 
     /// BMPString.
     pub const BMP_STRING: Tag = Tag {
-        octets: [30, 0, 0, 0],
+        class: UNIVERSAL,
+        number: 30,
     };
 
     /// DATE.
     pub const DATE: Tag = Tag {
-        octets: [31, 31, 0, 0],
+        class: UNIVERSAL,
+        number: 31,
     };
 
     /// TIME-OF-DAY.
     pub const TIME_OF_DAY: Tag = Tag {
-        octets: [31, 32, 0, 0],
+        class: UNIVERSAL,
+        number: 32,
     };
 
     /// DATE-TIME.
     pub const DATE_TIME: Tag = Tag {
-        octets: [31, 33, 0, 0],
+        class: UNIVERSAL,
+        number: 33,
     };
 
     /// DURATION.
     pub const DURATION: Tag = Tag {
-        octets: [31, 34, 0, 0],
+        class: UNIVERSAL,
+        number: 34,
     };
 
     /// OID-IRI.
     pub const OID_IRI: Tag = Tag {
-        octets: [31, 35, 0, 0],
+        class: UNIVERSAL,
+        number: 35,
     };
 
     /// RELATIVE-OID-IRI.
     pub const RELATIVE_OID_IRI: Tag = Tag {
-        octets: [31, 36, 0, 0],
+        class: UNIVERSAL,
+        number: 36,
     };
 
     /// The context-specific tag 0.
     pub const CTX_0: Tag = Tag {
-        octets: [128, 0, 0, 0],
+        class: CONTEXT,
+        number: 0,
     };
 
     /// The context-specific tag 1.
     pub const CTX_1: Tag = Tag {
-        octets: [129, 0, 0, 0],
+        class: CONTEXT,
+        number: 1,
     };
 
     /// The context-specific tag 2.
     pub const CTX_2: Tag = Tag {
-        octets: [130, 0, 0, 0],
+        class: CONTEXT,
+        number: 2,
     };
 
     /// The context-specific tag 3.
     pub const CTX_3: Tag = Tag {
-        octets: [131, 0, 0, 0],
+        class: CONTEXT,
+        number: 3,
     };
 
     /// The context-specific tag 4.
     pub const CTX_4: Tag = Tag {
-        octets: [132, 0, 0, 0],
+        class: CONTEXT,
+        number: 4,
     };
 
     /// The context-specific tag 5.
     pub const CTX_5: Tag = Tag {
-        octets: [133, 0, 0, 0],
+        class: CONTEXT,
+        number: 5,
     };
 
     /// The context-specific tag 6.
     pub const CTX_6: Tag = Tag {
-        octets: [134, 0, 0, 0],
+        class: CONTEXT,
+        number: 6,
     };
 }
 
@@ -271,28 +321,7 @@ impl Tag {
         requires number { number ≤ 2097151 }
         ensures { result ≡ record { class = class; number = number } }
     {
-        let first = class * 64;
-        if number < 31 {
-            return Tag {
-                octets: [first + number as u8, 0, 0, 0],
-            };
-        }
-        let first = first + 31;
-        let last = (number % 128) as u8;
-        if number < 128 {
-            return Tag {
-                octets: [first, last, 0, 0],
-            };
-        }
-        let middle = (number / 128 % 128) as u8 + 128;
-        if number < 16384 {
-            return Tag {
-                octets: [first, middle, last, 0],
-            };
-        }
-        Tag {
-            octets: [first, (number / 16384) as u8 + 128, middle, last],
-        }
+        Tag { class, number }
     }
 
     /// The universal tag of a number.
@@ -300,7 +329,7 @@ impl Tag {
         requires { number ≤ 2097151 }
         ensures { result ≡ record { class = 0; number = number } }
     {
-        Tag::new(0, number)
+        Tag::new(UNIVERSAL, number)
     }
 
     /// The application tag of a number.
@@ -308,7 +337,7 @@ impl Tag {
         requires { number ≤ 2097151 }
         ensures { result ≡ record { class = 1; number = number } }
     {
-        Tag::new(1, number)
+        Tag::new(APPLICATION, number)
     }
 
     /// The context-specific tag of a number.
@@ -316,7 +345,7 @@ impl Tag {
         requires { number ≤ 2097151 }
         ensures { result ≡ record { class = 2; number = number } }
     {
-        Tag::new(2, number)
+        Tag::new(CONTEXT, number)
     }
 
     /// The private tag of a number.
@@ -324,60 +353,42 @@ impl Tag {
         requires { number ≤ 2097151 }
         ensures { result ≡ record { class = 3; number = number } }
     {
-        Tag::new(3, number)
-    }
-
-    // The class: 0 universal, 1 application, 2 context-specific, 3 private.
-    fn class(self) -> u8
-        ensures value { result ≡ self.class }
-        ensures bound { result < 4 }
-    {
-        self.octets[0] / 64
+        Tag::new(PRIVATE, number)
     }
 
     /// Whether the class is universal.
     pub fn is_universal(self) -> bool
         ensures { IsTrue result ↔ (self.class ≡ 0) }
     {
-        self.class() == 0
+        self.class == UNIVERSAL
     }
 
     /// Whether the class is application.
     pub fn is_application(self) -> bool
         ensures { IsTrue result ↔ (self.class ≡ 1) }
     {
-        self.class() == 1
+        self.class == APPLICATION
     }
 
     /// Whether the class is context-specific.
     pub fn is_context_specific(self) -> bool
         ensures { IsTrue result ↔ (self.class ≡ 2) }
     {
-        self.class() == 2
+        self.class == CONTEXT
     }
 
     /// Whether the class is private.
     pub fn is_private(self) -> bool
         ensures { IsTrue result ↔ (self.class ≡ 3) }
     {
-        self.class() == 3
+        self.class == PRIVATE
     }
 
     /// The number of the tag.
     pub fn number(self) -> u32
         ensures { result ≡ self.number }
     {
-        let [first, b, c, d] = self.octets;
-        if first % 32 < 31 {
-            return (first % 32) as u32;
-        }
-        if b < 128 {
-            return b as u32;
-        }
-        if c < 128 {
-            return (b as u32 - 128) * 128 + c as u32;
-        }
-        (b as u32 - 128) * 16384 + (c as u32 - 128) * 128 + d as u32
+        self.number
     }
 
     /// How many identifier octets the tag has, one to four.
@@ -385,17 +396,12 @@ impl Tag {
         ensures len { (constructed : Bool) (text : List ℕ) → IsIdentifier text constructed self → length text ≡ result }
         ensures bound { result ≤ 4 }
     {
-        let [first, b, c, _] = self.octets;
-        if first % 32 < 31 {
-            return 1;
+        match self.number {
+            0..31 => 1,
+            31..128 => 2,
+            128..16384 => 3,
+            _ => 4,
         }
-        if b < 128 {
-            return 2;
-        }
-        if c < 128 {
-            return 3;
-        }
-        4
     }
 
     /// The identifier octets of a value with the tag, primitive or constructed (X.690 8.1.2): they stand in
@@ -404,18 +410,20 @@ impl Tag {
         ensures identifier { IsIdentifier (take result.1 result.0) constructed self }
         ensures bound { result.1 ≤ 4 }
     {
-        let [first, b, c, d] = self.octets;
-        let form = form_octet(constructed);
-        if first % 32 < 31 {
-            return ([first + form, 0, 0, 0], 1);
+        let first = self.class * 64 + form_octet(constructed);
+        if self.number < 31 {
+            return ([first + self.number as u8, 0, 0, 0], 1);
         }
-        if b < 128 {
-            return ([first + form, b, 0, 0], 2);
+        let first = first + 31;
+        let last = (self.number % 128) as u8;
+        if self.number < 128 {
+            return ([first, last, 0, 0], 2);
         }
-        if c < 128 {
-            return ([first + form, b, c, 0], 3);
+        let middle = (self.number / 128 % 128) as u8 + 128;
+        if self.number < 16384 {
+            return ([first, middle, last, 0], 3);
         }
-        ([first + form, b, c, d], 4)
+        ([first, (self.number / 16384) as u8 + 128, middle, last], 4)
     }
 
     /// Writes the identifier octets of a value with the tag, primitive or constructed (X.690 8.1.2).
@@ -431,11 +439,11 @@ impl Tag {
 /// `[APPLICATION 3]`, `[0]` for a context-specific one, `[PRIVATE 5]`.
 impl fmt::Display for Tag {
     fn fmt<W: fmt::Write>(&self, f: &mut fmt::Formatter<W>) -> fmt::Result {
-        let number = self.number();
-        match self.class() {
-            0 => write!(f, "[UNIVERSAL {number}]"),
-            1 => write!(f, "[APPLICATION {number}]"),
-            2 => write!(f, "[{number}]"),
+        let number = self.number;
+        match self.class {
+            UNIVERSAL => write!(f, "[UNIVERSAL {number}]"),
+            APPLICATION => write!(f, "[APPLICATION {number}]"),
+            CONTEXT => write!(f, "[{number}]"),
             _ => write!(f, "[PRIVATE {number}]"),
         }
     }

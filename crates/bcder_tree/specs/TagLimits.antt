@@ -1,0 +1,8 @@
+-- The tags that the codec tells.
+use Rattle.std.specs.Prelude.{ℕ, ◌<◌, ◌≤◌}
+use Rattle.bcder_tree.specs.Tags.{TagValue}
+
+-- One of the four classes, and a number that three octets of seven bits spell (X.690 8.1.2.4).
+pub record IsToldTag (t : TagValue) : Type 0 where
+  pub class : t.class < 4
+  pub number : t.number ≤ 2097151
