@@ -25,7 +25,7 @@ list_fits : (m : Mode) (family : AddressFamily) (t : Tree) (set : List Run) → 
 list_fits m Ipv4 t set p = (p.is.union.maximal, whole_set p.is.runs set (whole_list m p.values p.is.runs p.is.are.cases) p.is.union)
 list_fits m Ipv6 t set p = p.is.union.maximal
 
-choice_fits : (m : Mode) (family : AddressFamily) (t : Tree) (choice : Choice) → IsIpChoice m family t choice → FitsChoice family choice
+pub choice_fits : (m : Mode) (family : AddressFamily) (t : Tree) (choice : Choice) → IsIpChoice m family t choice → FitsChoice family choice
 choice_fits m family t choice p = elim p.cases [
   | inl q ↦ subst (λ (c : Choice). FitsChoice family c) (sym q.means) tt
   | inr q ↦ subst (λ (c : Choice). FitsChoice family c) (sym q.means) (list_fits m family t q.x q.is)

@@ -6,3 +6,4 @@ pub mod Again
 pub mod Writing
 pub mod BothFamilies
 pub mod Fitting
+pub mod WideSets

@@ -15,3 +15,4 @@ pub use Rattle.resources_ip_prefix.specs.Prefixes
 pub use Rattle.resources_ip_block.specs.Range
 pub use Rattle.resources_ip_prefix.specs.Text
 pub use Rattle.resources_ip_prefix.specs.Whole
+pub use Rattle.resources_ip_prefix.specs.Wide

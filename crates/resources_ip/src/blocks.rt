@@ -3,20 +3,22 @@
 ghost use Rattle.std.specs.Prelude.{◌≡◌, ◌<◌, ◌++◌, ◌∷◌, [], ℕ, ◌↔◌, List, IsTrue, IsErrOf, IfOk, IfErr, OnOk, OnErr, map, ⊤, MatchResult};
 ghost use Rattle.std.specs.Cmp.{partial_equiv_from_equiv};
 ghost use Rattle.std.specs.Iterator.{IsFinite, DrainsIf, YieldsFirst, item_count};
-ghost use Rattle.resources_chain.specs.Sets.{InRuns, AreMaximal, IsRunsOf, InEither, InBoth, InFirstOnly, IsInside};
+ghost use Rattle.resources_chain.specs.Sets.{InRun, InRuns, AreMaximal, IsRunsOf, InEither, InBoth, InFirstOnly, IsInside};
 ghost use Rattle.resources_chain.specs.Same.{runs_eq, runs_eq_equiv};
 ghost use Rattle.resources_chain.specs.declared.choice.ResourcesChoice.{ResourcesChoice};
 ghost use Rattle.resources_chain.specs.declared.claims.Overclaim.TheVariants.{Refuse};
 ghost use Rattle.resources_chain.specs.Claims.{Lists, FitsIn, Kept, Refuses, HeldAlong, FitsAlong, RefusesAlong};
 ghost use Rattle.resources_ip.specs.declared.resources.InheritedIpResources.{InheritedIpResources};
 ghost use Rattle.resources_ip_block.specs.Block.{run_of_block};
+ghost use Rattle.resources_ip_prefix.specs.Prefix.{run_of_prefix};
+ghost use Rattle.resources_ip_prefix.specs.Wide.{wide_run};
 ghost use Rattle.resources_ip.specs.WholeSets.{AreWhole};
 ghost use Rattle.resources_ip.specs.Blocks.{IsAddress, blocks_left};
 
 use crate::claims::OverclaimedIpResources;
 use crate::resources::{InheritedIpResources, IpResources};
 use resources_chain::{ClaimError, Overclaim, OwnedChain, SharedChain};
-use resources_ip_block::IpBlock;
+use resources_ip_block::{IpBlock, Prefix};
 use std::alloc::{AllocError, Global};
 use std::marker::Model;
 
@@ -94,6 +96,7 @@ impl IpBlocks {
     pub fn iter(&self) -> IpBlockIter<'_>
         ensures blocks { map run_of_block (blocks_left result) ≡ self.now }
         ensures maximal { AreMaximal self.now }
+        ensures addresses { (n : ℕ) → InRuns self.now n → IsAddress n }
     {
         IpBlockIter {
             rest: self.chain.as_chain().as_slice(),
@@ -107,6 +110,27 @@ impl IpBlocks {
         let outer = self.chain.as_chain();
         let inner = other.chain.as_chain();
         inner.is_encompassed(&outer)
+    }
+
+    /// Whether all addresses of the block are in the set.
+    pub fn contains_block(&self, block: &IpBlock) -> bool
+        ensures { IsTrue result ↔ ((n : ℕ) → InRun (run_of_block block.now) n → InRuns self.now n) }
+    {
+        self.chain.as_chain().contains_block(block)
+    }
+
+    /// Whether all addresses of the prefix are in the set.
+    pub fn contains_prefix(&self, prefix: Prefix) -> bool
+        ensures { IsTrue result ↔ ((n : ℕ) → InRun (run_of_prefix prefix) n → InRuns self.now n) }
+    {
+        self.contains_block(&IpBlock::Prefix(prefix))
+    }
+
+    /// Whether all addresses of the prefix are in the set, which is one of the prefix's family.
+    pub fn contains_addr_prefix(&self, prefix: resources_addr::addr::Prefix) -> bool
+        ensures { IsTrue result ↔ ((n : ℕ) → InRun (wide_run prefix) n → InRuns self.now n) }
+    {
+        self.contains_block(&IpBlock::from_addr_prefix(prefix))
     }
 
     /// The addresses of either set.
@@ -308,6 +332,8 @@ impl Model for IpBlocksBuilder {
     ghost use Rattle.std.specs.Prelude.{List, map};
     ghost use Rattle.resources_chain.specs.Sets.{Run};
     ghost use Rattle.resources_ip_block.specs.Block.{run_of_block};
+    ghost use Rattle.resources_ip_prefix.specs.Prefix.{run_of_prefix};
+    ghost use Rattle.resources_ip_prefix.specs.Wide.{wide_run};
 
     ghost Value = { List Run };
 

@@ -40,6 +40,13 @@ impl OverclaimedIpResources {
         &self.blocks
     }
 
+    /// The addresses, handed over.
+    pub fn into_blocks(self) -> IpBlocks
+        ensures { result ≡ self }
+    {
+        self.blocks
+    }
+
     /// The refusal, of IPv4.
     pub fn v4(self) -> OverclaimedIpv4Resources
         ensures { result.0 ≡ self }

@@ -1,14 +1,17 @@
 //! Laws of IP resources: the contracts of functions that do nothing.
 
-ghost use Rattle.std.specs.Prelude.{◌≡◌, ℕ, [], List};
+ghost use Rattle.std.specs.Prelude.{◌≡◌, ◌↔◌, ◌⊎◌, ℕ, [], List};
 ghost use Rattle.bcder_tree.specs.declared.mode.Mode.{Mode as ModeValue};
 ghost use Rattle.bcder_tree.specs.Tree.{Tree, Trees};
-ghost use Rattle.resources_chain.specs.Claims.{Choice};
-ghost use Rattle.resources_chain.specs.Sets.{Run};
+ghost use Rattle.resources_chain.specs.Claims.{Choice, Kept};
+ghost use Rattle.resources_chain.specs.Kinds.{HasNumber, KeepsNumber, Kind, Ipv4 as V4};
+ghost use Rattle.resources_chain.specs.Sets.{Run, InRuns, InEither, IsInside, IsRunsOf};
 ghost use Rattle.resources_chain.specs.declared.choice.ResourcesChoice.TheVariants.{Missing};
 ghost use Rattle.resources_ip_prefix.specs.declared.addr.AddressFamily.{AddressFamily as FamilyValue};
 ghost use Rattle.resources_ip_prefix.specs.declared.addr.AddressFamily.TheVariants.{Ipv4, Ipv6};
 ghost use Rattle.resources_ip.specs.Encodings.{FamilyChoices, IsBlockList, IsIpAddrBlocks, IsIpChoice};
+ghost use Rattle.resources_ip.specs.Blocks.{IsAddress};
+ghost use Rattle.resources_ip.specs.WholeSets.{AreWhole, ListsWhole};
 ghost use Rattle.resources_ip.specs.Written.{AreIpList, AreIpResources, FitsChoice, FitsSet, ReadsChoice, ReadsList};
 ghost use Rattle.resources_ip.specs.WrittenFamilies.{FamiliesTrees, ReadsFamilies, WritesFamilies, both};
 
@@ -52,4 +55,29 @@ pub fn families_that_are_read_fit()
     ensures v4 { (m : ModeValue) (t : Tree) (x : FamilyChoices) → IsIpAddrBlocks m t x → FitsChoice Ipv4 x.v4 }
     ensures v6 { (m : ModeValue) (t : Tree) (x : FamilyChoices) → IsIpAddrBlocks m t x → FitsChoice Ipv6 x.v6 }
     ensures any { (m : ModeValue) (t : Tree) (x : FamilyChoices) → IsIpAddrBlocks m t x → ¬ ((x.v4 ≡ Missing) × (x.v6 ≡ Missing)) }
+{}
+
+/// What is read of a family fits it, and where it is IPv4 lists whole addresses.
+pub fn choices_that_are_read_fit()
+    ensures fits { (m : ModeValue) (family : FamilyValue) (t : Tree) (choice : Choice) → IsIpChoice m family t choice → FitsChoice family choice }
+    ensures whole { (choice : Choice) → FitsChoice Ipv4 choice → ListsWhole choice }
+{}
+
+/// Sets over whole IPv4 addresses are sets of numbers of 32 bits: one is inside another, and they are equal, exactly where
+/// it is so by the addresses that they have.
+pub fn whole_sets_are_sets_of_addresses()
+    ensures inside { (a b : List Run) → AreWhole a → AreWhole b → ((n : ℕ) → InRuns a n → IsAddress n) → IsInside a b ↔ ((n : ℕ) → HasNumber V4 a n → HasNumber V4 b n) }
+    ensures same { (a b : List Run) → AreWhole a → AreWhole b → ((n : ℕ) → InRuns a n → IsAddress n) → ((n : ℕ) → InRuns b n → IsAddress n) → ((n : ℕ) → InRuns a n ↔ InRuns b n) ↔ ((n : ℕ) → HasNumber V4 a n ↔ HasNumber V4 b n) }
+{}
+
+/// A union has the numbers of either set, and what is kept below an issuer has those that it holds and that are listed or
+/// inherited: of each kind, by its own numbers.
+pub fn numbers_of_sets()
+    ensures union { (kind : Kind) (a b set : List Run) (n : ℕ) → IsRunsOf (InEither a b) set → HasNumber kind set n ↔ (HasNumber kind a n ⊎ HasNumber kind b n) }
+    ensures kept { (kind : Kind) (choice : Choice) (held set : List Run) (n : ℕ) → IsRunsOf (Kept choice (InRuns held)) set → HasNumber kind set n ↔ (KeepsNumber kind choice n × HasNumber kind held n) }
+{}
+
+/// What is kept of a set over whole IPv4 addresses by a choice that lists whole ones is over whole ones.
+pub fn what_is_kept_is_whole()
+    ensures { (choice : Choice) (held set : List Run) → ListsWhole choice → AreWhole held → IsRunsOf (Kept choice (InRuns held)) set → AreWhole set }
 {}

@@ -35,7 +35,7 @@ impl Model for IpResources {
 }
 
 /// What a certificate has of the addresses of both families (RFC 3779 2.2.3.1).
-#[derive(Debug, Drop)]
+#[derive(Clone, Debug, Drop, PartialEq, Eq)]
 pub struct IpFamilies {
     /// Of IPv4 addresses.
     pub v4: IpResources,
@@ -175,6 +175,14 @@ impl Model for IpResourcesBuilder {
     ghost Value = { ResourcesChoice (List Run) };
 
     ghost view = { λ a. a.choice };
+}
+
+impl Default for IpResourcesBuilder {
+    ghost is_default = { λ builder. builder ≡ Missing };
+
+    fn default() -> Self {
+        IpResourcesBuilder::new()
+    }
 }
 
 impl IpResourcesBuilder {
