@@ -7,9 +7,9 @@
 //!
 //! | Module | Has |
 //! |---|---|
-//! | [`asn`] | AS numbers, read and written, and small sets of them |
+//! | [`asn`] | AS numbers, read and written, small sets of them, and origins in the order of lists |
 //! | [`addr`] | strict prefixes, as texts and route origins have them |
-//! | [`chain`] | blocks of any kind, and chains of them |
+//! | [`chain`] | blocks of any kind, chains of them, and the search that halves a row |
 //! | [`choice`] | what a certificate says of one kind: nothing, `inherit`, or a set |
 //! | [`asres`] | AS resources: blocks, sets and claims, read and written |
 //! | [`ipres`] | IP resources: blocks, sets and claims, read and written |

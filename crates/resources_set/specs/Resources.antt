@@ -2,6 +2,7 @@
 use Rattle.std.specs.Prelude.{◌≡◌, ℕ, ◌/◌, ◌^◌, ◌⊎◌, ◌↔◌, List}
 use Rattle.resources_chain.specs.Sets.{Run, InRuns, IsRunsOf, InFirstOnly, IsInside}
 use Rattle.resources_chain.specs.Claims.{Choice, Lists}
+pub use Rattle.resources_ip.specs.WholeSets.{ListsWhole}
 use Rattle.resources_chain.specs.declared.choice.ResourcesChoice.TheVariants.{Inherit}
 
 -- The maximal runs of each kind.
@@ -52,7 +53,3 @@ pub record AreChanges (now before : Resources) (changes : Changes) : Type 0 wher
 -- Some kind is inherited.
 abbrev pub SomeInherit : Choice → Choice → Choice → Type 0
 SomeInherit asn ipv4 ipv6 = (asn ≡ Inherit) ⊎ (ipv4 ≡ Inherit) ⊎ (ipv6 ≡ Inherit)
-
--- Of the numbers that begin with the same 32 bits all or none are listed.
-abbrev pub ListsWhole : Choice → Type 0
-ListsWhole choice = (n m : ℕ) → n / 2 ^ 96 ≡ m / 2 ^ 96 → Lists choice n → Lists choice m
