@@ -126,7 +126,7 @@ impl BitString {
 impl Clone for BitString {
     ghost is_clone = { λ bits copy. copy ≡ bits };
 
-    /// The same bits; no octet is copied.
+    /// A clone has equal bits; no octet is copied.
     fn clone(&self) -> Result<Self, AllocError> {
         Ok(BitString {
             unused: self.unused,

@@ -184,7 +184,7 @@ impl BitString {
         BitSlice { octets, unused }.encode()
     }
 
-    /// The same with an implicit tag (X.690 8.14).
+    /// Encodes the bits of a slice under an implicit tag (X.690 8.14).
     pub fn encode_slice_as<T: AsSlice<u8>>(octets: T, unused: u8, tag: Tag) -> BitSliceEncoder<T>
         requires lawful { IsBits (record { unused = unused; octets = T.items octets }) }
         requires is_tag { IsTag tag }

@@ -32,7 +32,7 @@ fn gather<S: Source>(source: &mut LimitedSource<S>) -> Result<usize, S::Error>
     }
 }
 
-// The same refusal, where the octets began at that position.
+// The refusal as it is told where the octets began at that position.
 fn rebased<E>(error: DecodeError<Infallible>, start: Pos) -> DecodeError<E>
     ensures { Rebased error result }
 {

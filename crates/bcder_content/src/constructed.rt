@@ -234,7 +234,7 @@ impl<S: Source> Constructed<S> {
         }
     }
 
-    /// The same, where a value with that tag is next; else nothing is read.
+    /// Takes the next constructed value where it has that tag; else nothing is read.
     #[inline(always)]
     pub fn take_opt_constructed_if<
         T: Drop,
@@ -284,7 +284,7 @@ impl<S: Source> Constructed<S> {
         }
     }
 
-    /// The same, where a value with that tag is next; else nothing is read.
+    /// Takes the next primitive value where it has that tag; else nothing is read.
     #[inline(always)]
     pub fn take_opt_primitive_if<
         T: Drop,

@@ -99,7 +99,7 @@ impl<S: Source> Constructed<S> {
         op(tag, &mut content)
     }
 
-    // The same, for a closure that isn't given the tag.
+    // Runs a closure that isn't given the tag.
     fn run_alone<T: Drop, F: FnOnce(&mut Content<'_, S>) -> Result<T, DecodeError<S::Error>>>(
         &mut self,
         op: F,
@@ -159,7 +159,7 @@ impl<S: Source> Constructed<S> {
         }
     }
 
-    /// The same, unless the content has ended.
+    /// Takes the next value, unless the content has ended.
     pub fn take_opt_value<
         T: Drop,
         F: FnOnce(Tag, &mut Content<'_, S>) -> Result<T, DecodeError<S::Error>>,
@@ -212,7 +212,7 @@ impl<S: Source> Constructed<S> {
         }
     }
 
-    /// The same, where a value with that tag is next; else nothing is read.
+    /// Takes the next value where it has that tag; else nothing is read.
     pub fn take_opt_value_if<
         T: Drop,
         F: FnOnce(&mut Content<'_, S>) -> Result<T, DecodeError<S::Error>>,
@@ -265,7 +265,7 @@ impl<S: Source> Constructed<S> {
         }
     }
 
-    /// The same, unless the content has ended.
+    /// Takes the next constructed value, unless the content has ended.
     pub fn take_opt_constructed<
         T: Drop,
         F: FnOnce(Tag, &mut Constructed<S>) -> Result<T, DecodeError<S::Error>>,
@@ -317,7 +317,7 @@ impl<S: Source> Constructed<S> {
         }
     }
 
-    /// The same, unless the content has ended.
+    /// Takes the next primitive value, unless the content has ended.
     pub fn take_opt_primitive<
         T: Drop,
         F: FnOnce(Tag, &mut Primitive<S>) -> Result<T, DecodeError<S::Error>>,

@@ -116,7 +116,7 @@ impl Integer {
     }
 }
 
-/// The same number. It takes no memory, but a count of copies can be full.
+/// A clone is an equal number. It takes no memory, but a count of copies can be full.
 impl Clone for Integer {
     ghost is_clone = { λ x copy. copy ≡ x };
 

@@ -140,14 +140,14 @@ impl Unsigned {
         self.integer.is_zero()
     }
 
-    /// The same number.
+    /// The number as an `Integer`, borrowed.
     pub fn as_integer(&self) -> &Integer
         ensures { result.now ≡ pos self.now }
     {
         &self.integer
     }
 
-    /// The same number.
+    /// The number as an `Integer`.
     pub fn into_integer(self) -> Integer
         ensures { result ≡ pos self }
     {
@@ -155,7 +155,7 @@ impl Unsigned {
     }
 }
 
-/// The same number. It takes no memory, but a count of copies can be full.
+/// A clone is an equal number. It takes no memory, but a count of copies can be full.
 impl Clone for Unsigned {
     ghost is_clone = { λ n copy. copy ≡ n };
 
@@ -164,7 +164,7 @@ impl Clone for Unsigned {
     }
 }
 
-/// The same number.
+/// An unsigned number is an integer.
 impl From<Unsigned> for Integer {
     ghost from_gives = { λ n x. x ≡ pos n };
 

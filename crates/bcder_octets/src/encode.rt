@@ -141,7 +141,7 @@ impl OctetString {
         }
     }
 
-    /// The same with an implicit tag (X.690 8.14).
+    /// Encodes the string under an implicit tag (X.690 8.14).
     pub fn encode_as(self, tag: Tag) -> OctetStringEncoder
         requires { IsTag tag }
         ensures tag { result.tag ≡ tag }
@@ -161,7 +161,7 @@ impl OctetString {
         }
     }
 
-    /// The same with an implicit tag (8.14).
+    /// Encodes the borrowed string under an implicit tag (X.690 8.14).
     pub fn encode_ref_as(&self, tag: Tag) -> OctetSliceEncoder<&[u8]>
         requires { IsTag tag }
         ensures tag { result.tag ≡ tag }
@@ -184,7 +184,7 @@ impl OctetString {
         }
     }
 
-    /// The same with an implicit tag (8.14).
+    /// Encodes a slice under an implicit tag (X.690 8.14).
     pub fn encode_slice_as<T: AsSlice<u8>>(octets: T, tag: Tag) -> OctetSliceEncoder<T>
         requires { IsTag tag }
         ensures tag { result.tag ≡ tag }

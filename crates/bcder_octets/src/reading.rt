@@ -67,7 +67,7 @@ fn skip_nested<S: Source>(
     )
 }
 
-// The same, of primitive segments alone.
+// Skips primitive segments alone.
 fn skip_plain<S: Source>(
     alloc: Global,
     cons: &mut Constructed<S>,
@@ -198,7 +198,7 @@ fn read_content<S: Source>(
     )
 }
 
-// The same; where it is refused, the content is failed.
+// Takes a string from a content; where it is refused, the content is failed.
 pub(crate) fn take_content<S: Source>(
     alloc: Global,
     content: &mut Content<'_, S>,

@@ -117,7 +117,7 @@ impl OctetString {
         }
     }
 
-    /// The same, where a value with that tag is next; else nothing is read.
+    /// Reads the next value where it is an OCTET STRING by its tag; else nothing is read.
     pub fn take_opt_from<S: Source>(
         alloc: Global,
         cons: &mut Constructed<S>,

@@ -94,7 +94,7 @@ impl OctetString {
         }
     }
 
-    /// The same with an implicit tag (8.14).
+    /// Wraps values under an implicit tag (X.690 8.14).
     pub fn encode_wrapped_as<V>(mode: Mode, values: V, tag: Tag) -> WrappingOctetStringEncoder<V>
         requires { IsTag tag }
         ensures mode { result.mode ≡ mode }

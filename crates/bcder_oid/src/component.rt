@@ -114,7 +114,7 @@ impl Component<'_> {
     }
 }
 
-/// The same number.
+/// Components are equal where their numbers are.
 impl PartialEq for Component<'_> {
     ghost eq = { λ x y. nat_eq (number_of x) (number_of y) };
 

@@ -126,7 +126,7 @@ impl<E> DecodeError<E> {
 }
 
 impl DecodeError<Infallible> {
-    /// The same refusal for a source that may fail. The cause is kept.
+    /// The refusal for a source that may fail. The cause is kept.
     pub fn convert<E>(self) -> DecodeError<E>
         ensures { SameCause self result }
     {

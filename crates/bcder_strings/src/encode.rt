@@ -18,7 +18,7 @@ impl<L: CharSet> RestrictedString<L> {
         self.into_octet_string().encode_as(L::tag())
     }
 
-    /// The same with an implicit tag (8.14).
+    /// Encodes the string under an implicit tag (X.690 8.14).
     pub fn encode_as(self, tag: Tag) -> OctetStringEncoder
         requires { IsTag tag }
         ensures tag { result.tag ≡ tag }
@@ -35,7 +35,7 @@ impl<L: CharSet> RestrictedString<L> {
         OctetString::encode_slice_as(self.as_octets(), L::tag())
     }
 
-    /// The same with an implicit tag (8.14).
+    /// Encodes the borrowed string under an implicit tag (X.690 8.14).
     pub fn encode_ref_as(&self, tag: Tag) -> OctetSliceEncoder<&[u8]>
         requires { IsTag tag }
         ensures tag { result.tag ≡ tag }

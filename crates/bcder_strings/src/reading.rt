@@ -63,7 +63,7 @@ impl<L: CharSet> RestrictedString<L> {
         Ok(RestrictedString::of_text(octets))
     }
 
-    /// The same, where a value with that tag is next; else nothing is read.
+    /// Reads the next value where it has the kind's tag; else nothing is read.
     pub fn take_opt_from<S: Source>(
         alloc: Global,
         cons: &mut Constructed<S>,

@@ -198,7 +198,7 @@ impl<L: CharSet> RestrictedString<L> {
     }
 }
 
-/// The same string; no octet is copied.
+/// A clone is an equal string; no octet is copied.
 impl<L: CharSet> Clone for RestrictedString<L> {
     ghost is_clone = { λ string copy. copy ≡ string };
 

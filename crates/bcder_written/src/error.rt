@@ -23,7 +23,7 @@ pub enum EncodeError {
 }
 
 impl EncodeError {
-    /// The same error, of a writer that is memory: that refuses for want of it.
+    /// The error as it is told of a writer that is memory: it refuses where memory has run out.
     pub fn of_memory(self) -> EncodeError
         ensures { FillRefused self result }
     {

@@ -65,7 +65,7 @@ pub trait PrimitiveContent {
         Primitive { tag, content: self }
     }
 
-    /// The same as `encode`, of what is borrowed.
+    /// Encodes the borrowed value, as `encode` does.
     final fn encode_ref(&self) -> Primitive<&Self>
     where
         Self: Sized,
@@ -78,7 +78,7 @@ pub trait PrimitiveContent {
         }
     }
 
-    /// The same as `encode_as`, of what is borrowed.
+    /// Encodes the borrowed value under a tag, as `encode_as` does.
     final fn encode_ref_as(&self, tag: Tag) -> Primitive<&Self>
     where
         Self: Sized,

@@ -246,7 +246,7 @@ impl AsBlocks {
     }
 }
 
-/// The same refusal, with the set of the chain.
+// The refusal with the set of the chain.
 fn overclaimed(error: ClaimError<SharedChain<AsBlock>>) -> ClaimError<OverclaimedAsResources>
     ensures { result ≡ error }
 {
@@ -261,7 +261,7 @@ fn overclaimed(error: ClaimError<SharedChain<AsBlock>>) -> ClaimError<Overclaime
 impl Clone for AsBlocks {
     ghost is_clone = { λ set copy. copy ≡ set };
 
-    /// The same set. It takes no memory, but a count of its copies can be full.
+    /// A clone is an equal set. It takes no memory, but a count of its copies can be full.
     fn clone(&self) -> Result<Self, AllocError>
         ensures cases { MatchResult result (λ copy. copy ≡ self.now) (λ _. ¬ ⊥) }
         ensures maximal { IfOk result AreMaximal }

@@ -41,7 +41,7 @@ impl AsBlocks {
         self
     }
 
-    /// The same as `encode`, of what is borrowed.
+    /// Encodes the borrowed set, as `encode` does.
     pub fn encode_ref(&self) -> &AsBlocks
         ensures { result.now ≡ self.now }
     {
@@ -172,7 +172,7 @@ impl AsResources {
         self
     }
 
-    /// The same as `encode`, of what is borrowed.
+    /// Encodes the borrowed resources, as `encode` does.
     pub fn encode_ref(&self) -> &AsResources
         ensures { result.now ≡ self.now }
     {

@@ -131,7 +131,7 @@ impl SmallAsnSet {
 impl Clone for SmallAsnSet {
     ghost is_clone = { λ set copy. copy ≡ set };
 
-    /// The same set.
+    /// A clone has equal numbers.
     fn clone(&self) -> Result<Self, AllocError> {
         let asns = Vec::from_slice(*self.asns.allocator(), &self.asns)?;
         Ok(SmallAsnSet::from_vec_unchecked(asns))

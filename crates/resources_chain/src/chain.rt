@@ -339,7 +339,7 @@ impl<B: Block> Default for SharedChain<B> {
 impl<B: Block> Clone for SharedChain<B> {
     ghost is_clone = { λ chain copy. copy ≡ chain };
 
-    /// The same chain, with one owner more. It takes no memory: it fails only where the count of owners is full.
+    /// A clone is an equal chain, with one owner more. It takes no memory: it fails only where the count of owners is full.
     fn clone(&self) -> Result<Self, AllocError>
         ensures cases { MatchResult result (λ copy. copy ≡ self.now) (λ _. ¬ ⊥) }
         ensures maximal { IfOk result AreMaximal }

@@ -36,7 +36,7 @@ impl<T> ResourcesChoice<T> {
         !matches!(self, ResourcesChoice::Missing)
     }
 
-    /// The same choice, its set borrowed.
+    /// The choice with its set borrowed.
     pub fn as_ref(&self) -> ResourcesChoice<&T>
         ensures { choice_map (λ blocks. blocks.now) result ≡ self.now }
     {
@@ -47,7 +47,7 @@ impl<T> ResourcesChoice<T> {
         }
     }
 
-    /// The same choice, with what the function makes of a set that is listed.
+    /// The choice with what the function makes of a set that is listed.
     pub fn map_blocks<U, F: FnOnce(T) -> U>(self, f: F) -> ResourcesChoice<U>
         requires { (blocks : T) → self ≡ Blocks blocks → F.pre f blocks }
         ensures { MapsTo (F.post f) self result }

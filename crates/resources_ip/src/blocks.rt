@@ -259,7 +259,7 @@ impl IpBlocks {
     }
 }
 
-// The same error, with the set of the chain.
+// The error with the set of the chain.
 fn overclaimed(error: ClaimError<SharedChain<IpBlock>>) -> ClaimError<OverclaimedIpResources>
     ensures { result ≡ error }
 {
@@ -274,7 +274,7 @@ fn overclaimed(error: ClaimError<SharedChain<IpBlock>>) -> ClaimError<Overclaime
 impl Clone for IpBlocks {
     ghost is_clone = { λ set copy. copy ≡ set };
 
-    /// The same set. It takes no memory, but a count of its copies can be full.
+    /// A clone is an equal set. It takes no memory, but a count of its copies can be full.
     fn clone(&self) -> Result<Self, AllocError>
         ensures cases { MatchResult result (λ copy. copy ≡ self.now) (λ _. ¬ ⊥) }
         ensures maximal { IfOk result AreMaximal }

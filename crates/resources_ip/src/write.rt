@@ -48,7 +48,7 @@ impl IpBlocks {
         self
     }
 
-    /// The same as `encode`, of what is borrowed.
+    /// Encodes the borrowed set, as `encode` does.
     pub fn encode_ref(&self) -> &IpBlocks
         ensures { result.now ≡ self.now }
     {
@@ -115,7 +115,7 @@ impl IpResources {
         self
     }
 
-    /// The same as `encode`, of what is borrowed.
+    /// Encodes the borrowed resources, as `encode` does.
     pub fn encode_ref(&self) -> &IpResources
         ensures { result.now ≡ self.now }
     {

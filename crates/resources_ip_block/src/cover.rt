@@ -24,7 +24,7 @@ impl AddressRange {
         RangePrefixes { left: Some(self) }
     }
 
-    /// The same over whole IPv4 addresses, from the first 32 bits of its first address to those of its last.
+    /// The prefixes over whole IPv4 addresses, from the first 32 bits of its first address to those of its last.
     pub fn to_v4_prefixes(self) -> RangePrefixes
         ensures { (prefixes : List _) → Drains gives result prefixes → IsCover (filled (run_of_range self)) prefixes }
     {

@@ -73,7 +73,7 @@ impl AddressRange {
         )
     }
 
-    /// The same, where a SEQUENCE is next; else nothing is read.
+    /// Reads a range where a SEQUENCE is next; else nothing is read.
     pub fn take_opt_from<S: Source>(
         alloc: Global,
         cons: &mut Constructed<S>,

@@ -185,7 +185,7 @@ impl Ipv4Blocks {
 impl Clone for Ipv4Blocks {
     ghost is_clone = { λ set copy. copy ≡ set };
 
-    /// The same set. It takes no memory, but a count of its copies can be full.
+    /// A clone is an equal set. It takes no memory, but a count of its copies can be full.
     fn clone(&self) -> Result<Self, AllocError> {
         Ok(Ipv4Blocks {
             blocks: self.blocks.clone()?,

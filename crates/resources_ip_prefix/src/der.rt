@@ -56,7 +56,7 @@ impl AddressFamily {
         )
     }
 
-    /// The same, where an OCTET STRING is next; else nothing is read.
+    /// Reads a family where an OCTET STRING is next; else nothing is read.
     pub fn take_opt_from<S: Source>(
         alloc: Global,
         cons: &mut Constructed<S>,
@@ -156,7 +156,7 @@ impl Prefix {
         )
     }
 
-    /// The same, where a BIT STRING is next; else nothing is read.
+    /// Reads a prefix where a BIT STRING is next; else nothing is read.
     pub fn take_opt_from<S: Source>(
         alloc: Global,
         cons: &mut Constructed<S>,

@@ -251,7 +251,7 @@ impl Default for ResourceSet {
 impl Clone for ResourceSet {
     ghost is_clone = { λ set copy. copy ≡ set };
 
-    /// The same set. It takes no memory, but a count of its copies can be full.
+    /// A clone is an equal set. It takes no memory, but a count of its copies can be full.
     fn clone(&self) -> Result<Self, AllocError> {
         Ok(ResourceSet {
             asn: self.asn.clone()?,

@@ -51,7 +51,7 @@ impl FromStr for Prefix {
 }
 
 impl Prefix {
-    /// The same, with host bits cleared.
+    /// Reads a prefix whose host bits may be set; they are cleared.
     pub fn from_str_relaxed(text: &str) -> Result<Self, ParsePrefixError>
         ensures { Reads IsRelaxedText TooLong text.now result }
     {
