@@ -68,7 +68,7 @@ pub adds_same : (p : Provision) (cs : List Customer) (c d : Customer) → d.numb
 adds_same p cs c d en ep eq pairs g =
     let de : d ≡ record { number = p.customer; providers = c.providers ++ p.provider ∷ [] } = λ i. record { number = (en ∙ eq) i; providers = ep i } in
     let pd : provisions_of d ≡ provisions_of c ++ p ∷ [] =
-        ap provisions_of de ∙ (map_push (λ (q : ℕ). let y : Provision = record { customer = p.customer; provider = q } in y) c.providers p.provider ∙ ap (λ (n : ℕ). map (λ (q : ℕ). let y : Provision = record { customer = n; provider = q } in y) c.providers ++ p ∷ []) (sym eq)) in
+    ap provisions_of de ∙ (map_push (λ (q : ℕ). let y : Provision = record { customer = p.customer; provider = q } in y) c.providers p.provider ∙ ap (λ (n : ℕ). map (λ (q : ℕ). let y : Provision = record { customer = n; provider = q } in y) c.providers ++ p ∷ []) (sym eq)) in
     record {
       whole = ap (λ (xs : List Provision). xs ++ p ∷ []) (g.whole ∙ flat_last cs c) ∙ (append_assoc (flat_map provisions_of cs) (provisions_of c) (p ∷ []) ∙ (ap (λ (xs : List Provision). flat_map provisions_of cs ++ xs) (sym pd) ∙ sym (flat_last cs d)));
       some = some_push cs d (some_front cs c g.some) (λ e. not_empty c.providers p.provider (sym ep ∙ e));
@@ -153,11 +153,11 @@ are (c ∷ cs) s a d =
     let zs : List Provision = flat_map provisions_of cs in
     let r : AreCustomersOf (Mem zs) cs = are cs (sorted_behind provision_cmp ys zs s) a.1 d.1 in
     let le : (e : Customer) → Mem cs e → c.number ≤ e.number = λ e m.
-        let p = some_of c.providers a.0 in let q = some_of e.providers (some_at cs e a.1 m) in
-        elim (cmp_parts (record { customer = c.number; provider = p.0 }) (record { customer = e.number; provider = q.0 }) (sorted_across provision_cmp ys zs s _ _ (provisions_in c p.0 p.1) (flat_in cs e q.0 m q.1))) [
-          | inl l ↦ let h : c.number < e.number = l in omega arith
-          | inr b ↦ let h : c.number ≡ e.number = b.0 in omega arith
-        ] in
+    let p = some_of c.providers a.0 in let q = some_of e.providers (some_at cs e a.1 m) in
+    elim (cmp_parts (record { customer = c.number; provider = p.0 }) (record { customer = e.number; provider = q.0 }) (sorted_across provision_cmp ys zs s _ _ (provisions_in c p.0 p.1) (flat_in cs e q.0 m q.1))) [
+      | inl l ↦ let h : c.number < e.number = l in omega arith
+      | inr b ↦ let h : c.number ≡ e.number = b.0 in omega arith
+    ] in
     let below = less_all c cs le d.0 r.ascending in
     record {
       ascending = (each_of (λ n. c.number < n) (map (λ (d : Customer). d.number) cs) (λ n m. let h = (mem_map (λ (d : Customer). d.number) cs n).0 m in subst (λ (k : ℕ). c.number < k) h.2 (below h.0 h.1)), r.ascending);
@@ -216,7 +216,7 @@ module _ (xs ys zs : List CodeCustomer) (pair : CodeProvision) (pairs : List Pro
   other_step last next ms ex em ey en n =
       let h = subst (λ (cs : List Customer). Gathers pairs cs) (ap (map customer_of) ex ∙ map_push customer_of zs last) g in
       let y : map customer_of ys ≡ (map customer_of zs ++ customer_of last ∷ []) ++ customer_of next ∷ [] =
-          ap (map customer_of) ey ∙ (map_push customer_of ms next ∙ ap (λ (cs : List Customer). cs ++ customer_of next ∷ []) (ap (map customer_of) em ∙ map_push customer_of zs last)) in
+      ap (map customer_of) ey ∙ (map_push customer_of ms next ∙ ap (λ (cs : List Customer). cs ++ customer_of next ∷ []) (ap (map customer_of) em ∙ map_push customer_of zs last)) in
       subst (λ (cs : List Customer). Gathers (pairs ++ provision_of pair ∷ []) cs) (sym y) (adds_other (provision_of pair) (map customer_of zs) (customer_of last) (customer_of next) en n pairs h)
 
   pub first_step : (next : CodeCustomer) → length xs ≡ 0 → length zs ≡ 0 → ys ≡ zs ++ next ∷ [] → customer_of next ≡ record { number = pair.customer.value; providers = pair.provider.value ∷ [] } → Gathers (pairs ++ provision_of pair ∷ []) (map customer_of ys)

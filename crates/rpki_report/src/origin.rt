@@ -30,8 +30,11 @@ impl Origin {
     /// The AS number may announce prefixes in this one of the family, of at most that length.
     pub fn new(asn: Asn, family: AddressFamily, prefix: Prefix, max_len: u8) -> Self
         ensures { origin_of result ≡ record {
-            kind = kind_of family; addr = bits_of (prefix_addr prefix); len = prefix_len prefix;
-            max_len = max_len; asn = asn.value
+          kind = kind_of family;
+          addr = bits_of (prefix_addr prefix);
+          len = prefix_len prefix;
+          max_len = max_len;
+          asn = asn.value;
         } }
     {
         Origin {

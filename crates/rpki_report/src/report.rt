@@ -29,8 +29,10 @@ impl Model for Report {
     ghost Value = { ReportValue };
 
     ghost view = { λ r. record {
-        origins = map origin_of r.origins.items; customers = map customer_of r.customers.items;
-        refusals = map refusal_of r.refusals.items; witnesses = map trace_of r.witnesses.items
+      origins = map origin_of r.origins.items;
+      customers = map customer_of r.customers.items;
+      refusals = map refusal_of r.refusals.items;
+      witnesses = map trace_of r.witnesses.items;
     } };
 }
 

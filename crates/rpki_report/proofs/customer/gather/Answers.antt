@@ -18,5 +18,5 @@ pub loop-pair-preserved : goal.loop-pair-preserved
 loop-pair-preserved c =
     let xs = c.args.pairs.now in let i = c.loop-pair.pair-index in
     let e : map provision_of (take (i + 1) xs) ≡ map provision_of (take i xs) ++ provision_of c.pair-item.result ∷ [] =
-        ap (map provision_of) (take_more xs i c.pair-item.result c.loop-pair-test.true) ∙ (map_push provision_of (take i xs) (get_or xs i c.pair-item.result) ∙ ap (λ (q : CodeProvision). map provision_of (take i xs) ++ provision_of q ∷ []) (sym c.pair-item.is)) in
+    ap (map provision_of) (take_more xs i c.pair-item.result c.loop-pair-test.true) ∙ (map_push provision_of (take i xs) (get_or xs i c.pair-item.result) ∙ ap (λ (q : CodeProvision). map provision_of (take i xs) ++ provision_of q ∷ []) (sym c.pair-item.is)) in
     subst (λ (ps : List Provision). Gathers ps (map customer_of c.add.new.all.items)) (sym e) (c.in_ok-add.ensures (map provision_of (take i xs)) c.loop-pair.invariant)

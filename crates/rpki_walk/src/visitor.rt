@@ -1,0 +1,51 @@
+//! Who is told what a walk finds.
+
+ghost use Rattle.std.specs.Prelude.{◌≡◌, ℕ, List, OnOk};
+ghost use Rattle.rpki_rules.specs.Kinds.{InSet};
+ghost use Rattle.rpki_report.specs.Views.{way_of};
+ghost use Rattle.rpki_walk.specs.Facts.{Told, Refuses, ShownBy, ReachedBy, Gains};
+
+use crate::steps::Steps;
+use bytes::Bytes;
+use rpki_report::Path;
+use rpki_rules::Cause;
+use std::alloc::{AllocError, Global};
+use std::rc::Rc;
+
+/// What is done with what a walk finds: each call tells one thing.
+pub trait Visitor<S: Steps> {
+    // What it was told; it keeps no more than what it wants.
+    ghost has: { Self → Told → Type 0 };
+
+    ghost wants: { Told → Type 0 };
+
+    // The URIs that it looks for in what authorities name.
+    ghost uris: { Self → List (List ℕ) };
+
+    /// An accepted chain has this last certificate.
+    fn visit(&mut self, alloc: Global, steps: &mut S, ca: &S::Authority) -> Result<(), AllocError>
+        ensures gained { OnOk result (Gains wants (has self.old)
+            (ReachedBy (uris self.old) (S.world steps.old) (InSet (S.sets ca.now)) (S.cert ca.now)) (has self.new)) }
+        ensures kept { uris self.new ≡ uris self.old }
+        ensures same { S.world steps.new ≡ S.world steps.old };
+
+    /// What has this name is refused.
+    fn refuse(&mut self, name: &Bytes, why: Cause) -> Result<(), AllocError>
+        ensures gained { OnOk result (Gains wants (has self.old) (λ x. Refuses name.now why ≡ x) (has self.new)) }
+        ensures kept { uris self.new ≡ uris self.old };
+
+    /// The object with this lookup key is good by this chain.
+    fn show(
+        &mut self,
+        steps: &S,
+        path: &Rc<Path>,
+        object: &Bytes,
+        payload: S::Payload,
+    ) -> Result<(), AllocError>
+        ensures gained { OnOk result (Gains wants (has self.old) (ShownBy (record {
+          locator = (way_of path.now.value).locator;
+          chain = (way_of path.now.value).chain;
+          object = object.now;
+        }) (S.payload payload)) (has self.new)) }
+        ensures kept { uris self.new ≡ uris self.old };
+}
