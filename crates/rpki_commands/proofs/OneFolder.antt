@@ -6,8 +6,8 @@ use Rattle.bcder_tree.proofs.Unique.{by_length}
 use Rattle.rpki_bundle.specs.declared.parts.Verdict.{Verdict}
 use Rattle.rpki_bundle.specs.Bundle.{verdict_row}
 use Rattle.rpki_bundle.specs.Orders.{Ascends}
-use Rattle.rpki_bundle.specs.Times.{IsMoment}
-use Rattle.rpki_bundle.proofs.Moments.{one_moment}
+use Rattle.certs_time.specs.Times.{IsMoment}
+use Rattle.certs_time.proofs.Moments.{one_moment}
 use Rattle.rpki_bundle.proofs.OneBundle.{bundle_fields}
 use Rattle.rpki_commands.specs.declared.folder.parts.Contents.{Contents}
 use Rattle.rpki_commands.specs.declared.folder.parts.Parts.{Parts}

@@ -2,7 +2,7 @@
 use Rattle.std.proofs.Common.{◌≡◌, ℕ, ◌+◌, List, [], ◌∷◌, ◌++◌, map, length, Some, inl, inr, refl, sym, ap, subst, ◌∙◌, arith}
 use Rattle.std.proofs.lemmas.List.{length-map, length-append}
 use Rattle.bcder_tree.proofs.Unique.{by_length}
-use Rattle.rpki_bundle.specs.Uris.{lower, lookup_key}
+use Rattle.certs_uri.specs.Uris.{lower, lookup_key}
 use Rattle.rpki_readings.specs.Certs.{CertText, one_cert, CrlText, one_crl}
 use Rattle.rpki_readings.specs.Objects.{Object, ManifestText, one_manifest, RoaText, one_roa, AspaText, one_aspa}
 use Rattle.rpki_rules.specs.World.{World}

@@ -5,7 +5,7 @@ use Rattle.bcder_tree.specs.Tree.{Trees, none, more}
 use Rattle.bcder_tree.specs.Sequences.{EachIs}
 use Rattle.rpki_bundle.specs.declared.parts.Object.{Object}
 use Rattle.rpki_bundle.specs.Bundle.{IsObject}
-use Rattle.rpki_bundle.specs.Uris.{IsLookupKey}
+use Rattle.certs_uri.specs.Uris.{IsLookupKey}
 use Rattle.rpki_rules.specs.Words.{Each}
 use Rattle.rpki_rules.specs.World.{World, find_object}
 use Rattle.rpki_rules.specs.Points.{Link, Anchor}

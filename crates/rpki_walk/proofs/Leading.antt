@@ -3,7 +3,7 @@ use Rattle.std.proofs.Common.{◌≡◌, ◌≢◌, ℕ, ◌+◌, ◌<◌, ◌�
 use Rattle.resources_chain.specs.Claims.{Lists}
 use Rattle.resources_set.specs.Resources.{Resources}
 use Rattle.rpki_bundle.specs.declared.parts.Locator.{Locator}
-use Rattle.rpki_bundle.specs.Uris.{lookup_key}
+use Rattle.certs_uri.specs.Uris.{lookup_key}
 use Rattle.rpki_readings.specs.Certs.{Key, Cert, CertText, one_cert}
 use Rattle.rpki_readings.specs.Locators.{LocatorText, https_first}
 use Rattle.objects_forms.proofs.Locators.{one_locator}
