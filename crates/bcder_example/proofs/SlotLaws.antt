@@ -1,5 +1,5 @@
 -- Extensions, one by one and all together.
-use Rattle.std.proofs.Common.{◌≡◌, ◌⊎◌, ℕ, Bool, true, false, List, [], ◌∷◌, ◌++◌, Option, Some, None, Result, Ok, Err, refl, sym, ap, ◌∙◌, subst, append-nil, append_assoc, inl, inr, bytes_eq, if◌then◌else◌, OnOk, IfErr}
+use Rattle.std.proofs.Common.{◌≡◌, ℕ, Bool, true, false, List, [], ◌∷◌, ◌++◌, Option, Some, None, Result, Ok, Err, refl, sym, ap, subst, append-nil, inl, inr, bytes_eq, if◌then◌else◌, OnOk, IfErr}
 use Rattle.std.proofs.lemmas.Slice.Eq.{bytes_eq-Decides}
 use Rattle.bcder_tree.specs.declared.mode.Mode.TheVariants.{Der}
 use Rattle.bcder_tree.specs.Tree.{Tree}
@@ -8,15 +8,15 @@ use Rattle.bcder_source.specs.Errors.{OnContent}
 use Rattle.bcder_source.specs.declared.error.DecodeError.{DecodeError}
 use Rattle.bcder_content.specs.declared.constructed.Constructed.{Constructed}
 use Rattle.bcder_content.specs.Captures.{rest_of}
-use Rattle.bcder_content.specs.Ran.{Reader, Decoded, fresh}
+use Rattle.bcder_content.specs.Ran.{Reader}
 use Rattle.bcder_content.proofs.Decoding.{ValueEach, exact_decode}
 use Rattle.bcder_content.proofs.Fronts.{front_lacks, front_reads}
 use Rattle.bcder_example.specs.declared.slots.Need.{Need}
-use Rattle.bcder_example.specs.declared.slots.Need.TheVariants.{Must, MustNot, May}
+use Rattle.bcder_example.specs.declared.slots.Need.TheVariants.{Must, MustNot}
 use Rattle.bcder_example.specs.declared.slots.AddError.{AddError}
 use Rattle.bcder_example.specs.declared.slots.AddError.TheVariants.{Fault, Memory}
 use Rattle.bcder_example.specs.Extensions.{Extension}
-use Rattle.bcder_example.specs.Slots.{Meets, of_kind, IsOptional, Each, IsKnownOrSkipped, Found, HasExtensions, Sets, Adds, OnFault, Told, PutsOnce, CannotPut, twice, unmet, unread}
+use Rattle.bcder_example.specs.Slots.{of_kind, IsOptional, Each, IsKnownOrSkipped, Found, HasExtensions, Sets, Adds, OnFault, Told, PutsOnce, CannotPut, twice, unmet, unread}
 
 of_kind_append : (k : List ℕ) (xs ys : List Extension) → of_kind k (xs ++ ys) ≡ of_kind k xs ++ of_kind k ys
 of_kind_append k [] ys = refl

@@ -5,7 +5,7 @@ use Rattle.bcder_tree.specs.Tags.{universal}
 use Rattle.bcder_tree.specs.Tree.{Tree, Trees}
 use Rattle.bcder_tree.specs.Strings.{IsOctetString}
 use Rattle.bcder_primitive.specs.Values.{IsBoolean}
-use Rattle.bcder_content.specs.Grammar.{Inside, OctetsOf, As, End, Rest, Then, Default, Such}
+use Rattle.bcder_content.specs.Grammar.{Inside, OctetsOf, As, End, Then, Default, Such}
 use Rattle.bcder_oid.specs.Identifiers.{IsOid}
 use Rattle.bcder_bits.specs.Bits.{BitsValue}
 use Rattle.bcder_bits.specs.Contents.{IsBitString, bit_string_tag}

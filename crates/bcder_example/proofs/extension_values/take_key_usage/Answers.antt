@@ -1,9 +1,8 @@
-use Rattle.std.proofs.Common.{refl}
 use Rattle.bcder_content.proofs.Choices.{stop_value}
 use Rattle.bcder_content.proofs.Taking.{on_content}
 use Rattle.bcder_content.proofs.Unique.{octets_one}
 use Rattle.bcder_bits.proofs.Readings.{bit_string_one}
-use Rattle.bcder_content.proofs.Meaning.{means_gives, means_lacks, means_refused}
+use Rattle.bcder_content.proofs.Meaning.{means_lacks, means_refused}
 use Rattle.bcder_example.proofs.extension_values.take_key_usage.Goals as goal
 
 pub returns-in_err-bits : goal.returns-in_err-bits
