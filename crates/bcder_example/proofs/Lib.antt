@@ -1,0 +1,2 @@
+mod ExtensionOnes
+mod SlotLaws

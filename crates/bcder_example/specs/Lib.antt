@@ -5,3 +5,5 @@ pub mod Sealed
 pub mod Signed
 pub mod Limits
 pub mod Inner
+pub mod Extensions
+pub mod Slots

@@ -3,10 +3,12 @@
 ghost use Rattle.std.specs.Prelude.{◌≡◌, ◌^◌, OnErr, true};
 ghost use Rattle.bcder_tree.specs.Tags.{context};
 ghost use Rattle.bcder_content.specs.Exact.{ReadsAs, ReadsOptAs};
+ghost use Rattle.bcder_content.specs.Grammar.{One};
 ghost use Rattle.bcder_content.specs.Here.{here, plain};
 ghost use Rattle.bcder_content.specs.InMode.{ReadsFields};
 ghost use Rattle.bcder_primitive.specs.Plain.{ReadsOctetsAs};
 ghost use Rattle.bcder_primitive.specs.Values.{IsUnsigned};
+ghost use Rattle.bcder_tree.specs.declared.mode.Mode.{Mode as ModeValue};
 ghost use Rattle.bcder_example.specs.Limits.{IsMost, limits, limits_content, limits_fields};
 ghost use Rattle.bcder_example.specs.Limits.{number, number_content, only};
 
@@ -93,3 +95,8 @@ impl Limits {
         )
     }
 }
+
+/// A value has one meaning as limits.
+pub fn one_meaning()
+    ensures { (m : ModeValue) → One (limits.reads m) }
+{}

@@ -1,6 +1,7 @@
 //! An optional field, and as many values as there are; the pieces of a string.
 
 ghost use Rattle.std.specs.Prelude.{◌≡◌, OnErr, map, true};
+ghost use Rattle.bcder_tree.specs.declared.mode.Mode.{Mode as ModeValue};
 ghost use Rattle.bcder_tree.specs.Tags.{universal};
 ghost use Rattle.bcder_content.specs.Exact.{ReadsAs, ReadsOptAs};
 ghost use Rattle.bcder_content.specs.Grammar.{Inside, Many, One};
@@ -159,5 +160,6 @@ pub fn take_pieces<S: Source>(
 /// A value of these grammars has one meaning.
 pub fn one_meaning()
     ensures entry { One IsEntry }
+    ensures log { (m : ModeValue) → One (Inside (universal 16) (IsLogBody m)) }
     ensures pieces { One (Inside (universal 4) (Many IsPiece)) }
 {}

@@ -2,6 +2,7 @@
 
 ghost use Rattle.std.specs.Prelude.{◌≡◌, ◌≢◌, IfErr, OnErr, true};
 ghost use Rattle.bcder_source.specs.declared.error.DecodeError.TheVariants.{Memory};
+ghost use Rattle.bcder_tree.specs.declared.mode.Mode.{Mode as ModeValue};
 ghost use Rattle.bcder_tree.specs.Tags.{universal};
 ghost use Rattle.bcder_content.specs.Exact.{ReadsAs};
 ghost use Rattle.bcder_content.specs.Grammar.{Inside, One};
@@ -116,5 +117,6 @@ pub fn take_name<S: Source>(cons: &mut Constructed<S>) -> Result<Name, DecodeErr
 /// A value of these grammars has one meaning.
 pub fn one_meaning()
     ensures version { One IsVersion }
+    ensures settings { (m : ModeValue) → One (Inside (universal 16) (IsSettingsBody m)) }
     ensures name { One IsName }
 {}

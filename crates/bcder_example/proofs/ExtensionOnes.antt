@@ -1,0 +1,19 @@
+-- Extensions are read in one way.
+use Rattle.bcder_tree.specs.declared.mode.Mode.{Mode}
+use Rattle.bcder_tree.specs.Tags.{universal}
+use Rattle.bcder_tree.specs.Strings.{IsOctetString, octet_string_tag}
+use Rattle.bcder_content.specs.Grammar.{One, Tagged}
+use Rattle.bcder_content.proofs.Simple.{boolean_one}
+use Rattle.bcder_content.proofs.Unique.{octets_tagged, inside_tagged, as_tagged, octets_one, inside_one, as_one, end_one, then_one, default_one}
+use Rattle.bcder_oid.proofs.Read.{oid_one}
+use Rattle.bcder_octets.proofs.Meaning.{one_string}
+use Rattle.bcder_example.specs.Extensions.{IsExtension}
+
+string : (m : Mode) → One (IsOctetString m)
+string m = record { one = λ t x y p q. one_string m octet_string_tag t x y p q }
+
+pub extension_one : {m : Mode} → One (IsExtension m)
+extension_one {m} = as_one (inside_one (then_one (octets_one oid_one) (default_one (octets_tagged _ _) (octets_one (boolean_one m)) (then_one (string m) end_one))))
+
+pub extension_tagged : {m : Mode} → Tagged (universal 16) (IsExtension m)
+extension_tagged {m} = as_tagged (inside_tagged _ _)

@@ -1,0 +1,45 @@
+use Rattle.std.proofs.Common.{◌≡◌, ◌⊎◌, inl, inr, ℕ, zero, suc, Bool, true, false, refl, ap, arith}
+use Rattle.std.specs.Option.{unwrap_or}
+use Rattle.bcder_tree.specs.Tags.{TagValue, context, universal}
+use Rattle.bcder_example.specs.Limits.{limits, shown_truth, shown_version}
+use Rattle.bcder_example.proofs.limits.one_meaning.Goals as goal
+
+version_told : (x : ℕ) → unwrap_or (shown_version x) 1 ≡ x
+version_told zero = refl
+version_told (suc zero) = refl
+version_told (suc (suc n)) = refl
+
+truth_told : (x : Bool) → unwrap_or (shown_truth x) false ≡ x
+truth_told false = refl
+truth_told true = refl
+
+-- No field behind another one has its tag.
+behind_version : (context 0 ≡ context 1) ⊎ ((context 0 ≡ universal 1) ⊎ ⊥) → ⊥
+behind_version (inl e) = let n : ◌≡◌ {A = ℕ} 0 1 = ap (λ (t : TagValue). t.number) e in omega arith
+behind_version (inr (inl e)) = let n : ◌≡◌ {A = ℕ} 2 0 = ap (λ (t : TagValue). t.class) e in omega arith
+behind_version (inr (inr e)) = e
+
+behind_most : (context 1 ≡ universal 1) ⊎ ⊥ → ⊥
+behind_most (inl e) = let n : ◌≡◌ {A = ℕ} 2 0 = ap (λ (t : TagValue). t.class) e in omega arith
+behind_most (inr e) = e
+
+sound : limits.sound
+sound = (
+  record { is = λ t e. e; behind = behind_version },
+  (
+    record { shows = version_told; same = λ m. refl },
+    (
+      tt,
+      (
+        record { is = λ t e. e; behind = behind_most },
+        (
+          tt,
+          (record { is = λ t e. e; behind = λ e. e }, (record { shows = truth_told; same = λ m. refl }, tt)),
+        ),
+      ),
+    ),
+  ),
+)
+
+pub returns : goal.returns
+returns c = λ m. limits.one_meaning sound m (tt, (tt, tt))

@@ -1,0 +1,14 @@
+use Rattle.std.proofs.Common.{ℕ, List, Err, subst}
+use Rattle.bcder_tree.specs.declared.mode.Mode.TheVariants.{Der}
+use Rattle.bcder_source.specs.declared.error.DecodeError.TheVariants.{Content}
+use Rattle.bcder_content.specs.Captures.{rest_of}
+use Rattle.bcder_content.specs.Ran.{Decoded, fresh}
+use Rattle.bcder_example.specs.Slots.{unread}
+use Rattle.bcder_example.proofs.slots.put_once.Goals as goal
+
+pub returns-in-Err-Content-clause-refused : goal.returns-in-Err-Content-clause-refused
+returns-in-Err-Content-clause-refused g c =
+    let x = c.in-Err-Content.field-0-0 in
+    let pos = c.in-Err-Content.field-0-1 in
+    let d = rw c.in-Err-Content.field-0-is at c.in-Err-Content.ensures.decoded in
+    unread x pos (subst (λ (o : List ℕ). Decoded rest_of g.F.FnOnce c.args.op (fresh Der o) (Err (Content x pos))) c.in-Some.ensures d)
