@@ -13,8 +13,8 @@ mod streams;
 mod times;
 mod uris;
 
-use anyhow::Result;
 use answers::Answer;
+use anyhow::Result;
 use std::io::{BufRead, BufReader};
 
 // The answer to the question of a line.
