@@ -1,7 +1,5 @@
 //! Simple values with implicit tags, read by their content alone, whatever their tag (X.690 8.14): an exact reader of
-//! such a value, and cases of the calls of `Content` that read one. No crate stands on it.
-//!
-//! It is a crate of its own so that the crates above `bcder_content` needn't wait for its tests.
+//! such a value, to copy. No library stands on it.
 #![tactic(auto)]
 
 ghost use Rattle.std.specs.Prelude.{◌≡◌, ◌≢◌, ◌^◌, IfErr, OnErr, true};
@@ -32,6 +30,3 @@ pub fn take_tagged_u8<S: Source>(
         { content.to_u8() },
     )
 }
-
-#[cfg(test)]
-mod tests;
