@@ -60,10 +60,13 @@ fn known(alloc: Global, bits: &BitString) -> Answer {
 
 fn read(alloc: Global, mode: Mode, octets: &[u8], call: &str) -> Answer {
     let read = mode.decode(octets, |cons| take(alloc, cons, call));
-    text(alloc, match read {
-        Ok(bits) => Ok(known(alloc, &bits)?),
-        Err(error) => Err(error),
-    })
+    text(
+        alloc,
+        match read {
+            Ok(bits) => Ok(known(alloc, &bits)?),
+            Err(error) => Err(error),
+        },
+    )
 }
 
 /// What is known of a bit string in front of octets, or whether one is gone past.

@@ -27,7 +27,10 @@ fn octets_of(tag: Tag, prim: &mut Primitive<Trickle<'_>>) -> Result<u8, Refusal>
 pub fn primitive(alloc: Global, cons: &mut Values<'_>, step: Step<'_>) -> Answer {
     let tag = named_tag(step.second);
     match step.first {
-        "tagged" => told(alloc, cons.take_primitive_if(tag, |prim| octets_of(tag, prim))),
+        "tagged" => told(
+            alloc,
+            cons.take_primitive_if(tag, |prim| octets_of(tag, prim)),
+        ),
         "opt-tagged" => told(
             alloc,
             cons.take_opt_primitive_if(tag, |prim| octets_of(tag, prim)),
@@ -35,7 +38,10 @@ pub fn primitive(alloc: Global, cons: &mut Values<'_>, step: Step<'_>) -> Answer
         "next" => told(alloc, cons.take_primitive(octets_of)),
         "opt-next" => told(alloc, cons.take_opt_primitive(octets_of)),
         "skip" => told(alloc, cons.take_primitive_if(tag, |prim| prim.skip_all())),
-        _ => octets(alloc, cons.take_primitive_if(tag, |prim| prim.take_all(alloc))),
+        _ => octets(
+            alloc,
+            cons.take_primitive_if(tag, |prim| prim.take_all(alloc)),
+        ),
     }
 }
 
@@ -43,14 +49,23 @@ pub fn primitive(alloc: Global, cons: &mut Values<'_>, step: Step<'_>) -> Answer
 pub fn constructed(alloc: Global, cons: &mut Values<'_>, step: Step<'_>) -> Answer {
     let (tag, word) = step.tag_and_word();
     match step.first {
-        "tagged" => told(alloc, cons.take_constructed_if(tag, |cons| inner(cons, word))),
+        "tagged" => told(
+            alloc,
+            cons.take_constructed_if(tag, |cons| inner(cons, word)),
+        ),
         "opt-tagged" => told(
             alloc,
             cons.take_opt_constructed_if(tag, |cons| inner(cons, word)),
         ),
         "next" => told(alloc, cons.take_constructed(|_, cons| inner(cons, word))),
-        "opt-next" => told(alloc, cons.take_opt_constructed(|_, cons| inner(cons, word))),
-        _ => told(alloc, cons.take_constructed_if(tag, |cons| cons.skip_all(alloc))),
+        "opt-next" => told(
+            alloc,
+            cons.take_opt_constructed(|_, cons| inner(cons, word)),
+        ),
+        _ => told(
+            alloc,
+            cons.take_constructed_if(tag, |cons| cons.skip_all(alloc)),
+        ),
     }
 }
 

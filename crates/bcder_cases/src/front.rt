@@ -57,11 +57,7 @@ fn null(alloc: Global, cons: &mut Values<'_, '_>) -> Result<String, Refusal> {
 }
 
 // A number, a truth or NULL that is next, printed; None where the kind is another.
-fn number(
-    alloc: Global,
-    kind: &str,
-    cons: &mut Values<'_, '_>,
-) -> Result<Option<String>, Refusal> {
+fn number(alloc: Global, kind: &str, cons: &mut Values<'_, '_>) -> Result<Option<String>, Refusal> {
     let text = match kind {
         "i8" | "i64" => cons.take_primitive_if(Tag::INTEGER, |prim| signed(alloc, kind, prim)),
         "u8" | "u64" | "u128" => {
@@ -101,11 +97,7 @@ fn text<L: CharSet>(alloc: Global, cons: &mut Values<'_, '_>) -> Result<String, 
 }
 
 // An object identifier or a string that is next, printed; None where the kind is another.
-fn string(
-    alloc: Global,
-    kind: &str,
-    cons: &mut Values<'_, '_>,
-) -> Result<Option<String>, Refusal> {
+fn string(alloc: Global, kind: &str, cons: &mut Values<'_, '_>) -> Result<Option<String>, Refusal> {
     let text = match kind {
         "oid" => identifier(alloc, cons),
         "bits" => bits(alloc, cons),
@@ -134,11 +126,7 @@ fn capture(alloc: Global, cons: &mut Values<'_, '_>) -> Result<String, Refusal> 
 }
 
 // The value that is next, whatever it is; None where the kind is another.
-fn extent(
-    alloc: Global,
-    kind: &str,
-    cons: &mut Values<'_, '_>,
-) -> Result<Option<String>, Refusal> {
+fn extent(alloc: Global, kind: &str, cons: &mut Values<'_, '_>) -> Result<Option<String>, Refusal> {
     match kind {
         "skip" => Ok(Some(skip(alloc, cons)?)),
         "capture" => Ok(Some(capture(alloc, cons)?)),

@@ -50,7 +50,14 @@ fn repeated(alloc: Global, octets: &[u8]) -> Answer {
 fn same(alloc: Global, octets: &[u8]) -> Answer {
     let oid = Oid(octets);
     let name = Oid(COMMON_NAME.as_slice());
-    shown(alloc, [COMMON_NAME.equals(&oid), oid == name, hashed(&oid) == hashed(&name)])
+    shown(
+        alloc,
+        [
+            COMMON_NAME.equals(&oid),
+            oid == name,
+            hashed(&oid) == hashed(&name),
+        ],
+    )
 }
 
 // How reading an identifier is answered in one way; its octets where it is taken.
@@ -58,7 +65,10 @@ fn read(alloc: Global, mode: Mode, octets: &[u8], call: &str) -> Answer {
     match call {
         "take" => told(
             alloc,
-            mode.decode(octets, |cons| Ok(COMMON_NAME.equals(&Oid::take_from(alloc, cons)?))),
+            mode.decode(
+                octets,
+                |cons| Ok(COMMON_NAME.equals(&Oid::take_from(alloc, cons)?)),
+            ),
         ),
         "skip" => told(alloc, mode.decode(octets, |cons| Oid::skip_in(cons))),
         "opt" => told(
@@ -87,7 +97,10 @@ fn read(alloc: Global, mode: Mode, octets: &[u8], call: &str) -> Answer {
 fn errors(alloc: Global) -> Answer {
     let (few, component) = (ParseOidError::TooFew, ParseOidError::Component);
     let (first, second) = (ParseOidError::First, ParseOidError::Second);
-    format!(in alloc; "{few}; {component}; {first}; {second}; {}", ParseOidError::Memory)
+    format!(in alloc;
+        "{few}; {component}; {first}; {second}; {}",
+        ParseOidError::Memory
+    )
 }
 
 /// The octets of a text, what is printed of octets, and how octets are read.

@@ -14,7 +14,11 @@ use std::hash::{DefaultHasher, Hash, Hasher};
 
 /// The number with these content octets.
 pub fn number(alloc: Global, octets: &[u8]) -> Result<Integer, DecodeError<Infallible>> {
-    Primitive::decode_slice(octets, Mode::Der, |prim| Integer::from_primitive(alloc, prim))
+    Primitive::decode_slice(
+        octets,
+        Mode::Der,
+        |prim| Integer::from_primitive(alloc, prim),
+    )
 }
 
 // The number as one of Rust's types.
@@ -48,10 +52,13 @@ fn known(alloc: Global, number: &Integer) -> Answer {
 
 fn read(alloc: Global, octets: &[u8]) -> Answer {
     let read = number(alloc, octets);
-    text(alloc, match read {
-        Ok(number) => Ok(known(alloc, &number)?),
-        Err(error) => Err(error),
-    })
+    text(
+        alloc,
+        match read {
+            Ok(number) => Ok(known(alloc, &number)?),
+            Err(error) => Err(error),
+        },
+    )
 }
 
 // The number that a text tells, of a type.
@@ -140,7 +147,10 @@ pub fn answer(alloc: Global, words: &[&str]) -> Result<String> {
             let one = hex::decode(alloc, *one)?;
             let other = hex::decode(alloc, *other)?;
             let other = Unsigned::from_slice(alloc, other.as_slice())?;
-            Ok(shown(alloc, number(alloc, one.as_slice())?.equals_unsigned(&other))?)
+            Ok(shown(
+                alloc,
+                number(alloc, one.as_slice())?.equals_unsigned(&other),
+            )?)
         }
         ["order", others @ ..] => order(alloc, others),
         _ => Ok(errors(alloc)?),

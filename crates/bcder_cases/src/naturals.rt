@@ -41,10 +41,13 @@ fn read(alloc: Global, octets: &[u8]) -> Answer {
         Mode::Der,
         |prim| Unsigned::from_primitive(alloc, prim),
     );
-    text(alloc, match read {
-        Ok(number) => Ok(known(alloc, &number)?),
-        Err(error) => Err(error),
-    })
+    text(
+        alloc,
+        match read {
+            Ok(number) => Ok(known(alloc, &number)?),
+            Err(error) => Err(error),
+        },
+    )
 }
 
 // The octets of a number that was made, or why none is.

@@ -16,16 +16,46 @@ pub const TYPES: [&str; 10] = [
 // What the calls of a content read.
 fn primitive(alloc: Global, mode: Mode, octets: &[u8], kind: &str) -> Answer {
     match kind {
-        "u8" => told(alloc, Primitive::decode_slice(octets, mode, Primitive::to_u8)),
-        "u16" => told(alloc, Primitive::decode_slice(octets, mode, Primitive::to_u16)),
-        "u32" => told(alloc, Primitive::decode_slice(octets, mode, Primitive::to_u32)),
-        "u64" => told(alloc, Primitive::decode_slice(octets, mode, Primitive::to_u64)),
-        "u128" => told(alloc, Primitive::decode_slice(octets, mode, Primitive::to_u128)),
-        "i8" => told(alloc, Primitive::decode_slice(octets, mode, Primitive::to_i8)),
-        "i16" => told(alloc, Primitive::decode_slice(octets, mode, Primitive::to_i16)),
-        "i32" => told(alloc, Primitive::decode_slice(octets, mode, Primitive::to_i32)),
-        "i64" => told(alloc, Primitive::decode_slice(octets, mode, Primitive::to_i64)),
-        _ => told(alloc, Primitive::decode_slice(octets, mode, Primitive::to_i128)),
+        "u8" => told(
+            alloc,
+            Primitive::decode_slice(octets, mode, Primitive::to_u8),
+        ),
+        "u16" => told(
+            alloc,
+            Primitive::decode_slice(octets, mode, Primitive::to_u16),
+        ),
+        "u32" => told(
+            alloc,
+            Primitive::decode_slice(octets, mode, Primitive::to_u32),
+        ),
+        "u64" => told(
+            alloc,
+            Primitive::decode_slice(octets, mode, Primitive::to_u64),
+        ),
+        "u128" => told(
+            alloc,
+            Primitive::decode_slice(octets, mode, Primitive::to_u128),
+        ),
+        "i8" => told(
+            alloc,
+            Primitive::decode_slice(octets, mode, Primitive::to_i8),
+        ),
+        "i16" => told(
+            alloc,
+            Primitive::decode_slice(octets, mode, Primitive::to_i16),
+        ),
+        "i32" => told(
+            alloc,
+            Primitive::decode_slice(octets, mode, Primitive::to_i32),
+        ),
+        "i64" => told(
+            alloc,
+            Primitive::decode_slice(octets, mode, Primitive::to_i64),
+        ),
+        _ => told(
+            alloc,
+            Primitive::decode_slice(octets, mode, Primitive::to_i128),
+        ),
     }
 }
 

@@ -63,17 +63,17 @@ fn known(alloc: Global, string: &OctetString) -> Answer {
 
 fn read(alloc: Global, mode: Mode, octets: &[u8], call: &str) -> Answer {
     let read = mode.decode(octets, |cons| take(alloc, cons, call));
-    text(alloc, match read {
-        Ok(string) => Ok(known(alloc, &string)?),
-        Err(error) => Err(error),
-    })
+    text(
+        alloc,
+        match read {
+            Ok(string) => Ok(known(alloc, &string)?),
+            Err(error) => Err(error),
+        },
+    )
 }
 
 // The string of a content; and then what is left of the content, whatever became of the string.
-fn string_and_rest(
-    alloc: Global,
-    content: &mut Content<'_, SliceSource<'_>>,
-) -> Result<(), Refusal>
+fn string_and_rest(alloc: Global, content: &mut Content<'_, SliceSource<'_>>) -> Result<(), Refusal>
     ensures { SameContent content.old content.new }
 {
     let _ = OctetString::from_content(alloc, content);

@@ -203,8 +203,10 @@ fn cut(alloc: Global, octets: &[u8], words: &[&str]) -> Answer {
 // The errors of contents, printed.
 fn errors(alloc: Global) -> Answer {
     let unexpected = ContentError::from_static("unexpected");
-    let refused: DecodeError<Infallible> =
-        DecodeError::content(unexpected, Pos::from(3) + Pos::from(4));
+    let refused: DecodeError<Infallible> = DecodeError::content(
+        unexpected,
+        Pos::from(3) + Pos::from(4),
+    );
     let refused: DecodeError<Fault> = refused.convert();
     let tag = ContentError::ExpectedTag(Tag::SEQUENCE);
     let number = ContentError::ExpectedInteger(1);

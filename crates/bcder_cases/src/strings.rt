@@ -24,7 +24,8 @@ fn octets<L: CharSet>(alloc: Global, string: &RestrictedString<L>) -> Answer {
     let shared = digits(alloc, string.to_bytes(alloc)?.as_slice())?;
     let kept = digits(alloc, string.clone()?.into_bytes(alloc)?.as_slice())?;
     let whole = string.clone()?.into_octet_string();
-    let is_same = *string.as_octet_string() == whole && string.is_slice(whole.as_slice().unwrap_or(&[]));
+    let is_same = *string.as_octet_string() == whole
+        && string.is_slice(whole.as_slice().unwrap_or(&[]));
     format!(in alloc; "{octets} {shared} {kept} {is_same}")
 }
 
@@ -77,10 +78,13 @@ fn take<L: CharSet>(
 
 fn read<L: CharSet>(alloc: Global, mode: Mode, octets: &[u8], call: &str) -> Answer {
     let read = mode.decode(octets, |cons| take::<L>(alloc, cons, call));
-    text(alloc, match read {
-        Ok(string) => Ok(known(alloc, &string)?),
-        Err(error) => Err(error),
-    })
+    text(
+        alloc,
+        match read {
+            Ok(string) => Ok(known(alloc, &string)?),
+            Err(error) => Err(error),
+        },
+    )
 }
 
 // How many octets a string has, where it is next, and one behind it.
@@ -152,7 +156,10 @@ fn of_set<L: CharSet>(alloc: Global, words: &[&str]) -> Result<String> {
 
 // The errors of strings, printed.
 fn errors(alloc: Global) -> Answer {
-    let (set, memory) = (RestrictedStringError::CharSet, RestrictedStringError::Memory);
+    let (set, memory) = (
+        RestrictedStringError::CharSet,
+        RestrictedStringError::Memory,
+    );
     format!(in alloc; "{set}; {memory}")
 }
 

@@ -143,7 +143,10 @@ fn length_written(alloc: Global, length: u32) -> Result<String> {
 fn indefinite_written(alloc: Global) -> Result<String> {
     let mut octets: Vec<u8> = Vec::new(alloc);
     Length::Indefinite.write_encoded(&mut octets)?;
-    let (len, is_zero) = (Length::Indefinite.encoded_len(), Length::Indefinite.is_zero());
+    let (len, is_zero) = (
+        Length::Indefinite.encoded_len(),
+        Length::Indefinite.is_zero(),
+    );
     let octets = digits(alloc, octets.as_slice())?;
     Ok(format!(in alloc; "{len} {is_zero} {octets}")?)
 }

@@ -10,7 +10,9 @@ ghost use Rattle.bcder_written.specs.Simple.{IsOnePiece, one_piece};
 use crate::answers::Answer;
 use crate::writing::To;
 use bcder_tree::Tag;
-use bcder_values::{Encodes, Itself, Primitive, PrimitiveContent, Values, Walk, iter, sequence, slice};
+use bcder_values::{
+    Encodes, Itself, Primitive, PrimitiveContent, Values, Walk, iter, sequence, slice,
+};
 
 // A BOOLEAN as a value.
 fn flag(content: bool) -> Primitive<bool>
