@@ -12,15 +12,26 @@ use bcder_content::{Content, Primitive};
 use bcder_source::{ContentError, Tag};
 use std::alloc::Global;
 
-// The number of an INTEGER, or 0 for a NULL; another value is refused.
-fn octets_of(tag: Tag, prim: &mut Primitive<Trickle<'_>>) -> Result<u8, Refusal> {
-    if tag == Tag::NULL {
-        return prim.to_null().map(|()| 0);
-    }
+// A NULL, told as 0.
+fn null_of(prim: &mut Primitive<Trickle<'_>>) -> Result<u8, Refusal> {
+    prim.to_null().map(|()| 0)
+}
+
+// The number of an INTEGER; another value is refused.
+fn number_of(tag: Tag, prim: &mut Primitive<Trickle<'_>>) -> Result<u8, Refusal> {
     if tag != Tag::INTEGER {
         return Err(prim.content_err(ContentError::ExpectedTag(Tag::INTEGER)));
     }
     prim.to_u8()
+}
+
+// The number of an INTEGER, or 0 for a NULL.
+fn octets_of(tag: Tag, prim: &mut Primitive<Trickle<'_>>) -> Result<u8, Refusal> {
+    if tag == Tag::NULL {
+        null_of(prim)
+    } else {
+        number_of(tag, prim)
+    }
 }
 
 /// A primitive value: `tagged` has the tag of the first word, `next` is whatever is next, and either may be missing.
