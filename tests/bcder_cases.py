@@ -252,6 +252,7 @@ def primitives(q):
     q.ask("1 2 258", "source", "four", "010201020304", "u8", "u8", "to-u16")
     q.ask("3 () () ()", "source", "four", "07070707", "skip 3", "is 7", "null", "skip-all")
     q.ask("3 refused refused", "source", "four", "07070701", "skip 3", "is 7", "null")
+    q.ask("3 expected [UNIVERSAL 2] (at position 0) 1", "source", "four", "07070701", "skip 3", "refuse-all", "u8")
 
 
 def content(q, answer, mode, octets, *steps):
@@ -358,9 +359,9 @@ def taking(q):
     content(q, "Some(5) ()", "der", NUMBER.hex(), "primitive opt-next INTEGER")
     content(q, "refused refused", "der", STRING.hex(), "primitive next INTEGER")
     forms = ("value next x octets", "value opt-tagged NULL null", "value tagged CTX_0 null", "value opt-next x octets")
-    number = "(Tag([UNIVERSAL 2]), (true, false, 5))"
-    content(q, f"{number} None (false, true, 0) None ()", "der", (NUMBER + NULL_IN_0).hex(), *forms)
-    content(q, "Some((true, false, 5)) ()", "der", NUMBER.hex(), "value opt-tagged INTEGER octets")
+    number = "(Tag([UNIVERSAL 2]), 5)"
+    content(q, f"{number} None 0 None ()", "der", (NUMBER + NULL_IN_0).hex(), *forms)
+    content(q, "Some(5) ()", "der", NUMBER.hex(), "value opt-tagged INTEGER octets")
     content(q, f"Some({number}) ()", "der", NUMBER.hex(), "value opt-next x octets")
     content(q, "refused refused", "der", (NUMBER + NULL_IN_0).hex(), "value tagged INTEGER null")
     content(q, "refused refused", "der", NULL_IN_0.hex(), "value next x octets")
@@ -446,10 +447,10 @@ def faults(q):
     rows += [(null, f"primitive opt-{way} NULL", "Some(0)") for way in ("tagged", "next")]
     rows += [(sequence, f"constructed {way} SEQUENCE null", "0") for way in ("tagged", "next")]
     rows += [(sequence, f"constructed opt-{way} SEQUENCE null", "Some(0)") for way in ("tagged", "next")]
-    rows += [(sequence, "value tagged SEQUENCE null", "(false, true, 0)")]
-    rows += [(sequence, "value opt-tagged SEQUENCE null", "Some((false, true, 0))")]
-    rows += [(sequence, "value next x null", f"({tag}, (false, true, 0))")]
-    rows += [(sequence, "value opt-next x null", f"Some(({tag}, (false, true, 0)))")]
+    rows += [(sequence, "value tagged SEQUENCE null", "0")]
+    rows += [(sequence, "value opt-tagged SEQUENCE null", "Some(0)")]
+    rows += [(sequence, "value next x null", f"({tag}, 0)")]
+    rows += [(sequence, "value opt-next x null", f"Some(({tag}, 0))")]
     rows += [(sequence, "named sequence null", "0"), (sequence, "named opt-sequence null", "Some(0)")]
     rows += [(of_set, "named set null", "0"), (of_set, "named opt-set null", "Some(0)")]
     rows += [(sequence, "skip opt", "Some(())"), (sequence, "skip next", "()")]
@@ -1013,6 +1014,8 @@ def readers(q):
     read("refused", "null", "der", seven)
     read("0", "seven", "der", seven)
     read("refused", "seven", "der", eight)
+    read("(true, false)", "form", "der", "04 00")
+    read("(false, true)", "form", "der", "30 00")
     version = "30 06 02 01 01 02 01 07"
     read("(1, 7)", "version", "der", version)
     # One number alone, a third one, a string, a negative number, and a SET.

@@ -9,7 +9,7 @@ use crate::steps::Step;
 use crate::tags::named_tag;
 use crate::trickle::Trickle;
 use bcder_content::{Content, Primitive};
-use bcder_source::{ContentError, Tag};
+use bcder_source::Tag;
 use std::alloc::Global;
 
 // A NULL, told as 0.
@@ -17,20 +17,12 @@ fn null_of(prim: &mut Primitive<Trickle<'_>>) -> Result<u8, Refusal> {
     prim.to_null().map(|()| 0)
 }
 
-// The number of an INTEGER; another value is refused.
-fn number_of(tag: Tag, prim: &mut Primitive<Trickle<'_>>) -> Result<u8, Refusal> {
-    if tag != Tag::INTEGER {
-        return Err(prim.content_err(ContentError::ExpectedTag(Tag::INTEGER)));
-    }
-    prim.to_u8()
-}
-
 // The number of an INTEGER, or 0 for a NULL.
 fn octets_of(tag: Tag, prim: &mut Primitive<Trickle<'_>>) -> Result<u8, Refusal> {
     if tag == Tag::NULL {
         null_of(prim)
     } else {
-        number_of(tag, prim)
+        prim.to_u8()
     }
 }
 
@@ -91,16 +83,14 @@ pub fn named(alloc: Global, cons: &mut Values<'_>, step: Step<'_>) -> Answer {
     }
 }
 
-// Of a value with a number or a NULL in it, or that is a number: its form and the number.
-fn either(content: &mut Content<'_, Trickle<'_>>, word: &str) -> Result<(bool, bool, u8), Refusal>
+// The number of a value, or what a closure reads of the values in it.
+fn either(content: &mut Content<'_, Trickle<'_>>, word: &str) -> Result<u8, Refusal>
     ensures { SameContent content.old content.new }
 {
-    let (primitive, constructed) = (content.is_primitive(), content.is_constructed());
-    let number = match word {
+    match word {
         "octets" => content.primitive(|prim| prim.to_u8()),
         _ => content.constructed(|cons| inner(cons, word)),
-    }?;
-    Ok((primitive, constructed, number))
+    }
 }
 
 // The same with its tag.
@@ -108,11 +98,11 @@ fn tagged(
     tag: Tag,
     content: &mut Content<'_, Trickle<'_>>,
     word: &str,
-) -> Result<(Tag, (bool, bool, u8)), Refusal>
+) -> Result<(Tag, u8), Refusal>
     ensures { SameContent content.old content.new }
 {
-    let found = either(content, word)?;
-    Ok((tag, found))
+    let number = either(content, word)?;
+    Ok((tag, number))
 }
 
 /// A value of either form.

@@ -111,6 +111,22 @@ fn tagged(cons: &mut Values<'_>, word: &str) -> Result<u64, Refusal> {
     )
 }
 
+// Of which form a value is: whether it is primitive, and whether it is constructed.
+fn form(content: &mut Content<'_, SliceSource<'_>>) -> Result<(bool, bool), Refusal>
+    ensures { SameContent content.old content.new }
+{
+    Ok((content.is_primitive(), content.is_constructed()))
+}
+
+// The form of the empty value that is next.
+fn form_of_next(cons: &mut Values<'_>) -> Result<(bool, bool), Refusal> {
+    cons.take_value(
+        |_, content|
+            ensures { SameContent content.old content.new }
+        { form(content) },
+    )
+}
+
 // The fields of a notice.
 fn notice_told(alloc: Global, notice: &Notice) -> Answer {
     let id = notice.id.to_string(alloc)?;
@@ -143,6 +159,7 @@ fn notice(alloc: Global, mode: Mode, octets: &[u8]) -> Result<String> {
 // What a reader of fields of a few octets tells.
 fn small(alloc: Global, kind: &str, mode: Mode, octets: &[u8]) -> Answer {
     match kind {
+        "form" => told(alloc, mode.decode(octets, |cons| form_of_next(cons))),
         "name" => told(alloc, mode.decode(octets, |cons| name(cons))),
         "version" => told(alloc, mode.decode(octets, |cons| version(cons))),
         "settings" => told(alloc, mode.decode(octets, |cons| settings(alloc, cons))),

@@ -120,9 +120,16 @@ impl<S: Source> Steps for Primitive<S> {
             "is" => told(alloc, self.skip_u8_if(step.octet())),
             "skip-all" => told(alloc, self.skip_all()),
             "take-all" => octets(alloc, self.take_all(alloc)),
+            "refuse-all" => refused_content(alloc, self),
             _ => any(alloc, self, step),
         }
     }
+}
+
+// The refusal of a content, from its beginning.
+fn refused_content<S: Source>(alloc: Global, prim: &Primitive<S>) -> Answer {
+    let error = prim.content_err(ContentError::ExpectedTag(Tag::INTEGER));
+    format!(in alloc; "{error}")
 }
 
 // A primitive content of so many octets of a source.
