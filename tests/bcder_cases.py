@@ -737,6 +737,10 @@ def octet_strings(q):
     for mode in MODES:
         read(known_octets(b"ab") if mode == "ber" else "refused", mode, ab)
         read(known_octets(b"abc"), mode, tlv(4, b"abc"))
+    # X.690 8.7.3.2: the string `AB CD EF` in two pieces.
+    pieces = unhex("24 80 04 02 AB CD 04 01 EF 00 00")
+    for mode in MODES:
+        read(known_octets(unhex("AB CD EF")) if mode == "ber" else "refused", mode, pieces)
     # In CER 1,000 octets stand in one piece, in 1,004 octets, and 1,001 in segments, in 1,011.
     few, many = b"a" * 1000, b"a" * 1000 + b"b"
     cut = constructed("cer", 0x24, segments(many))
@@ -994,15 +998,8 @@ def refusing_writers(q):
         write(q, f"Ok(11) Err(Write) {told(octets[:room])}", "der", "wrapped", "", room)
 
 
-# 1.3.6.1.4.1.32473.1, 9000000000000000000001 (hexadecimal), the bits 1 and 5, and `hello`, as OpenSSL's
-# `asn1parse -genconf` writes them.
-NOTICE = unhex(
-    "30 24 06 09 2B 06 01 04 01 81 FD 59 01 02 0C 00 90 00 00 00 00 00 00 00 00 00 01 03 02 02 44 04 05 68 65 6C 6C 6F"
-)
-
-
-def readers(q):
-    read = lambda answer, kind, mode, octets: q.ask(answer, "reader", kind, mode, unhex(octets).hex())
+def forms(q):
+    read = lambda answer, kind, mode, octets: q.ask(answer, "tagged", kind, mode, unhex(octets).hex())
     # A value with the tag [5] in place of its own: INTEGER 7, and 256, NULL, INTEGER 8; in a constructed value; another tag.
     seven, inside, elsewhere, wide, null, eight = "85 01 07", "A5 03 02 01 07", "86 01 07", "85 02 01 00", "85 00", "85 01 08"
     for octets, answer in ((seven, "7"), (inside, "refused"), (elsewhere, "refused"), (wide, "refused"), (null, "refused")):
@@ -1014,52 +1011,9 @@ def readers(q):
     read("refused", "null", "der", seven)
     read("0", "seven", "der", seven)
     read("refused", "seven", "der", eight)
+    # Whether a value is primitive, and whether it is constructed.
     read("(true, false)", "form", "der", "04 00")
     read("(false, true)", "form", "der", "30 00")
-    version = "30 06 02 01 01 02 01 07"
-    read("(1, 7)", "version", "der", version)
-    # One number alone, a third one, a string, a negative number, and a SET.
-    for octets in (
-        "30 03 02 01 01", "30 09 02 01 01 02 01 07 02 01 00", "30 06 02 01 01 04 01 07", "30 06 02 01 01 02 01 80",
-        "31 06 02 01 01 02 01 07",
-    ):  # fmt: skip
-        read("refused", "version", "der", octets)
-    definite = "30 15 02 01 09 30 10 30 06 02 01 01 02 01 02 30 06 02 01 03 02 01 04"
-    indefinite = "30 80 30 80 30 80 02 01 01 02 01 02 00 00 00 00 00 00"
-    read("Some(9) (1, 2) (3, 4)", "log", "der", definite)
-    read("None (1, 2)", "log", "cer", indefinite)
-    read("refused", "log", "der", indefinite)
-    read("refused", "log", "cer", definite)
-    # In BER the length of the version has two octets.
-    read("x308106020101020102 5", "sealed", "ber", "30 0C 30 81 06 02 01 01 02 01 02 02 01 05")
-    read("refused", "sealed", "der", "30 0C 30 81 06 02 01 01 02 01 02 02 01 05")
-    for octets, answer in (
-        ("30 03 02 01 00", "(0, 3)"),
-        ("30 0A 02 01 00 02 01 08 05 00 05 00", "(0, 8)"),
-        ("30 03 02 01 01", "refused"),
-        ("30 04 02 01 00 05", "refused"),
-    ):
-        read(answer, "settings", "der", octets)
-    read("(false, 9)", "name", "der", "02 01 09")
-    read("(true, 7)", "name", "der", version)
-    read("refused", "name", "der", "04 01 09")
-    # X.690 8.7.3.2: the string `AB CD EF` in two pieces.
-    pieces = "24 80 04 02 AB CD 04 01 EF 00 00"
-    for mode in ("ber", "cer"):
-        read("xabcd xef", "pieces", mode, pieces)
-    read("refused", "pieces", "der", pieces)
-    read("refused", "pieces", "ber", "24 80 24 80 00 00 00 00")
-    cer = constructed("cer", 0x30, NOTICE[2:])
-    fields = f"1.3.6.1.4.1.32473.1 {told(NOTICE[15:27])} 2/x44 x{b'hello'.hex()}"
-    spelled = f"38 {told(NOTICE)} {len(cer)} {told(cer)} 38 {told(NOTICE)}"
-    for mode in ("ber", "der"):
-        read(f"{fields} {spelled}", "notice", mode, NOTICE.hex())
-    read(f"{fields} {spelled}", "notice", "cer", cer.hex())
-    # In DER the length of the value has to be definite, and in CER indefinite.
-    read("refused", "notice", "cer", NOTICE.hex())
-    read("refused", "notice", "der", cer.hex())
-    read("refused", "notice", "ber", NOTICE[:37].hex())
-    read("refused", "notice", "ber", NOTICE[2:].hex())
 
 
 def recorded():
@@ -1074,7 +1028,7 @@ def main():
     q.rows += recorded()
     for topic in (
         tags, lengths, sources, primitives, core_cases, skipping, taking, captures, scalars, faults, numbers, integers,
-        identifiers, octet_strings, texts, strings, writing, lists, refusing_writers, readers,
+        identifiers, octet_strings, texts, strings, writing, lists, refusing_writers, forms,
     ):  # fmt: skip
         topic(q)
     (FOLDER / "stdin").write_text("".join(f"{question}\n" for question, _ in q.rows))

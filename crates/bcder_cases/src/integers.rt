@@ -1,7 +1,7 @@
 //! INTEGERs of any size.
 
 use crate::answers::{Answer, digits, shown, text};
-use crate::numbers::TYPES;
+use crate::numbers::{KINDS, Kind};
 use crate::steps::push;
 use anyhow::{Result, anyhow};
 use bcder_content::Primitive;
@@ -22,17 +22,17 @@ pub fn number(alloc: Global, octets: &[u8]) -> Result<Integer, DecodeError<Infal
 }
 
 // The number as one of Rust's types.
-fn converted(alloc: Global, number: &Integer, kind: &str) -> Answer {
+fn converted(alloc: Global, number: &Integer, kind: Kind) -> Answer {
     match kind {
-        "u8" => shown(alloc, number.to_u8().ok()),
-        "u16" => shown(alloc, number.to_u16().ok()),
-        "u32" => shown(alloc, number.to_u32().ok()),
-        "u64" => shown(alloc, number.to_u64().ok()),
-        "u128" => shown(alloc, number.to_u128().ok()),
-        "i8" => shown(alloc, number.to_i8().ok()),
-        "i16" => shown(alloc, number.to_i16().ok()),
-        "i32" => shown(alloc, number.to_i32().ok()),
-        "i64" => shown(alloc, number.to_i64().ok()),
+        Kind::U8 => shown(alloc, number.to_u8().ok()),
+        Kind::U16 => shown(alloc, number.to_u16().ok()),
+        Kind::U32 => shown(alloc, number.to_u32().ok()),
+        Kind::U64 => shown(alloc, number.to_u64().ok()),
+        Kind::U128 => shown(alloc, number.to_u128().ok()),
+        Kind::I8 => shown(alloc, number.to_i8().ok()),
+        Kind::I16 => shown(alloc, number.to_i16().ok()),
+        Kind::I32 => shown(alloc, number.to_i32().ok()),
+        Kind::I64 => shown(alloc, number.to_i64().ok()),
         _ => shown(alloc, number.to_i128().ok()),
     }
 }
@@ -43,7 +43,7 @@ fn known(alloc: Global, number: &Integer) -> Answer {
     let signs = [number.is_negative(), number.is_zero(), number.is_positive()];
     let signs = shown(alloc, signs)?;
     push(&mut text, signs.as_str())?;
-    for kind in &TYPES {
+    for kind in &KINDS {
         let answer = converted(alloc, number, *kind)?;
         push(&mut text, answer.as_str())?;
     }

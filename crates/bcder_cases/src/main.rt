@@ -8,6 +8,7 @@ mod contents;
 mod extents;
 mod faults;
 mod fields;
+mod forms;
 mod front;
 mod identifiers;
 mod integers;
@@ -15,7 +16,6 @@ mod lists;
 mod naturals;
 mod numbers;
 mod octets;
-mod readers;
 mod scalars;
 mod skips;
 mod sources;
@@ -49,7 +49,7 @@ fn of_reading(alloc: Global, topic: &str, words: &[&str]) -> Result<String> {
         "fails" => faults::fails(alloc, words),
         "dry" => faults::dry(alloc, words),
         "skip" => skips::answer(alloc, words),
-        "reader" => readers::answer(alloc, words),
+        "tagged" => forms::answer(alloc, words),
         _ => Err(anyhow!("no such topic")),
     }
 }

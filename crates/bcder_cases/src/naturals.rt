@@ -2,7 +2,7 @@
 
 use crate::answers::{Answer, digits, shown, text};
 use crate::integers::{number, sign};
-use crate::numbers::TYPES;
+use crate::numbers::{KINDS, Kind};
 use crate::steps::push;
 use anyhow::{Result, anyhow};
 use bcder_content::Primitive;
@@ -12,13 +12,13 @@ use bytes::Bytes;
 use std::alloc::Global;
 
 // The number as one of Rust's types.
-fn converted(alloc: Global, number: &Unsigned, kind: &str) -> Answer {
+fn converted(alloc: Global, number: &Unsigned, kind: Kind) -> Answer {
     match kind {
-        "u8" => shown(alloc, number.to_u8().ok()),
-        "u16" => shown(alloc, number.to_u16().ok()),
-        "u32" => shown(alloc, number.to_u32().ok()),
-        "u64" => shown(alloc, number.to_u64().ok()),
-        "u128" => shown(alloc, number.to_u128().ok()),
+        Kind::U8 => shown(alloc, number.to_u8().ok()),
+        Kind::U16 => shown(alloc, number.to_u16().ok()),
+        Kind::U32 => shown(alloc, number.to_u32().ok()),
+        Kind::U64 => shown(alloc, number.to_u64().ok()),
+        Kind::U128 => shown(alloc, number.to_u128().ok()),
         _ => shown(alloc, ()),
     }
 }
@@ -28,7 +28,7 @@ fn known(alloc: Global, number: &Unsigned) -> Answer {
     let mut text = digits(alloc, number.as_slice())?;
     let is_zero = shown(alloc, number.is_zero())?;
     push(&mut text, is_zero.as_str())?;
-    for kind in &TYPES {
+    for kind in &KINDS {
         let answer = converted(alloc, number, *kind)?;
         push(&mut text, answer.as_str())?;
     }

@@ -1,146 +1,106 @@
 //! Numbers of Rust's types, of contents in octets.
 
 use crate::answers::{Answer, shown, told};
+use crate::sources::content_of;
 use crate::steps::push;
 use anyhow::{Result, anyhow};
 use bcder_content::Primitive;
 use bcder_number::{Integer, Unsigned};
-use bcder_source::Mode;
+use bcder_source::{Mode, SliceSource};
 use std::alloc::Global;
 
-/// The types of numbers.
-pub const TYPES: [&str; 10] = [
-    "u8", "u16", "u32", "u64", "u128", "i8", "i16", "i32", "i64", "i128",
+// A content of octets at hand.
+type Content<'a> = Primitive<SliceSource<'a>>;
+
+/// A type of numbers.
+#[derive(Clone, Copy)]
+pub enum Kind {
+    U8,
+    U16,
+    U32,
+    U64,
+    U128,
+    I8,
+    I16,
+    I32,
+    I64,
+    I128,
+}
+
+/// The types of numbers, in the order of the answers.
+pub const KINDS: [Kind; 10] = [
+    Kind::U8,
+    Kind::U16,
+    Kind::U32,
+    Kind::U64,
+    Kind::U128,
+    Kind::I8,
+    Kind::I16,
+    Kind::I32,
+    Kind::I64,
+    Kind::I128,
 ];
 
 // What the calls of a content read.
-fn primitive(alloc: Global, mode: Mode, octets: &[u8], kind: &str) -> Answer {
+fn primitive(alloc: Global, prim: &mut Content<'_>, kind: Kind) -> Answer {
     match kind {
-        "u8" => told(
-            alloc,
-            Primitive::decode_slice(octets, mode, Primitive::to_u8),
-        ),
-        "u16" => told(
-            alloc,
-            Primitive::decode_slice(octets, mode, Primitive::to_u16),
-        ),
-        "u32" => told(
-            alloc,
-            Primitive::decode_slice(octets, mode, Primitive::to_u32),
-        ),
-        "u64" => told(
-            alloc,
-            Primitive::decode_slice(octets, mode, Primitive::to_u64),
-        ),
-        "u128" => told(
-            alloc,
-            Primitive::decode_slice(octets, mode, Primitive::to_u128),
-        ),
-        "i8" => told(
-            alloc,
-            Primitive::decode_slice(octets, mode, Primitive::to_i8),
-        ),
-        "i16" => told(
-            alloc,
-            Primitive::decode_slice(octets, mode, Primitive::to_i16),
-        ),
-        "i32" => told(
-            alloc,
-            Primitive::decode_slice(octets, mode, Primitive::to_i32),
-        ),
-        "i64" => told(
-            alloc,
-            Primitive::decode_slice(octets, mode, Primitive::to_i64),
-        ),
-        _ => told(
-            alloc,
-            Primitive::decode_slice(octets, mode, Primitive::to_i128),
-        ),
+        Kind::U8 => told(alloc, prim.to_u8()),
+        Kind::U16 => told(alloc, prim.to_u16()),
+        Kind::U32 => told(alloc, prim.to_u32()),
+        Kind::U64 => told(alloc, prim.to_u64()),
+        Kind::U128 => told(alloc, prim.to_u128()),
+        Kind::I8 => told(alloc, prim.to_i8()),
+        Kind::I16 => told(alloc, prim.to_i16()),
+        Kind::I32 => told(alloc, prim.to_i32()),
+        Kind::I64 => told(alloc, prim.to_i64()),
+        _ => told(alloc, prim.to_i128()),
     }
 }
 
 // What the calls of numbers of any size read.
-fn integer(alloc: Global, mode: Mode, octets: &[u8], kind: &str) -> Answer {
+fn integer(alloc: Global, prim: &mut Content<'_>, kind: Kind) -> Answer {
     match kind {
-        "u8" => told(
-            alloc,
-            Primitive::decode_slice(octets, mode, |prim| Integer::u8_from_primitive(prim)),
-        ),
-        "u16" => told(
-            alloc,
-            Primitive::decode_slice(octets, mode, |prim| Integer::u16_from_primitive(prim)),
-        ),
-        "u32" => told(
-            alloc,
-            Primitive::decode_slice(octets, mode, |prim| Integer::u32_from_primitive(prim)),
-        ),
-        "u64" => told(
-            alloc,
-            Primitive::decode_slice(octets, mode, |prim| Integer::u64_from_primitive(prim)),
-        ),
-        "u128" => told(
-            alloc,
-            Primitive::decode_slice(octets, mode, |prim| Integer::u128_from_primitive(prim)),
-        ),
-        "i8" => told(
-            alloc,
-            Primitive::decode_slice(octets, mode, |prim| Integer::i8_from_primitive(prim)),
-        ),
-        "i16" => told(
-            alloc,
-            Primitive::decode_slice(octets, mode, |prim| Integer::i16_from_primitive(prim)),
-        ),
-        "i32" => told(
-            alloc,
-            Primitive::decode_slice(octets, mode, |prim| Integer::i32_from_primitive(prim)),
-        ),
-        "i64" => told(
-            alloc,
-            Primitive::decode_slice(octets, mode, |prim| Integer::i64_from_primitive(prim)),
-        ),
-        _ => told(
-            alloc,
-            Primitive::decode_slice(octets, mode, |prim| Integer::i128_from_primitive(prim)),
-        ),
+        Kind::U8 => told(alloc, Integer::u8_from_primitive(prim)),
+        Kind::U16 => told(alloc, Integer::u16_from_primitive(prim)),
+        Kind::U32 => told(alloc, Integer::u32_from_primitive(prim)),
+        Kind::U64 => told(alloc, Integer::u64_from_primitive(prim)),
+        Kind::U128 => told(alloc, Integer::u128_from_primitive(prim)),
+        Kind::I8 => told(alloc, Integer::i8_from_primitive(prim)),
+        Kind::I16 => told(alloc, Integer::i16_from_primitive(prim)),
+        Kind::I32 => told(alloc, Integer::i32_from_primitive(prim)),
+        Kind::I64 => told(alloc, Integer::i64_from_primitive(prim)),
+        _ => told(alloc, Integer::i128_from_primitive(prim)),
     }
 }
 
 // What the calls of numbers from 0 up read.
-fn unsigned(alloc: Global, mode: Mode, octets: &[u8], kind: &str) -> Answer {
+fn unsigned(alloc: Global, prim: &mut Content<'_>, kind: Kind) -> Answer {
     match kind {
-        "u8" => told(
-            alloc,
-            Primitive::decode_slice(octets, mode, |prim| Unsigned::u8_from_primitive(prim)),
-        ),
-        "u16" => told(
-            alloc,
-            Primitive::decode_slice(octets, mode, |prim| Unsigned::u16_from_primitive(prim)),
-        ),
-        "u32" => told(
-            alloc,
-            Primitive::decode_slice(octets, mode, |prim| Unsigned::u32_from_primitive(prim)),
-        ),
-        "u64" => told(
-            alloc,
-            Primitive::decode_slice(octets, mode, |prim| Unsigned::u64_from_primitive(prim)),
-        ),
-        "u128" => told(
-            alloc,
-            Primitive::decode_slice(octets, mode, |prim| Unsigned::u128_from_primitive(prim)),
-        ),
+        Kind::U8 => told(alloc, Unsigned::u8_from_primitive(prim)),
+        Kind::U16 => told(alloc, Unsigned::u16_from_primitive(prim)),
+        Kind::U32 => told(alloc, Unsigned::u32_from_primitive(prim)),
+        Kind::U64 => told(alloc, Unsigned::u64_from_primitive(prim)),
+        Kind::U128 => told(alloc, Unsigned::u128_from_primitive(prim)),
         _ => shown(alloc, ()),
     }
 }
 
-// What the calls of one kind read as each type.
+// What a call of one kind reads of a content as a type.
+fn read(alloc: Global, by: &str, prim: &mut Content<'_>, kind: Kind) -> Answer {
+    match by {
+        "primitive" => primitive(alloc, prim, kind),
+        "integer" => integer(alloc, prim, kind),
+        _ => unsigned(alloc, prim, kind),
+    }
+}
+
+// What the calls of one kind read of octets as each type.
 fn each(alloc: Global, by: &str, mode: Mode, octets: &[u8]) -> Answer {
     let mut text = String::new(alloc);
-    for kind in &TYPES {
-        let answer = match by {
-            "primitive" => primitive(alloc, mode, octets, *kind)?,
-            "integer" => integer(alloc, mode, octets, *kind)?,
-            _ => unsigned(alloc, mode, octets, *kind)?,
-        };
+    for kind in &KINDS {
+        let mut prim = content_of(SliceSource::new(octets), octets.len());
+        prim.mode = mode;
+        let answer = read(alloc, by, &mut prim, *kind)?;
         push(&mut text, answer.as_str())?;
     }
     Ok(text)

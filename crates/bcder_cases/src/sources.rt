@@ -132,8 +132,8 @@ fn refused_content<S: Source>(alloc: Global, prim: &Primitive<S>) -> Answer {
     format!(in alloc; "{error}")
 }
 
-// A primitive content of so many octets of a source.
-fn content_of<S: Source>(source: S, limit: usize) -> Primitive<S> {
+/// A primitive content of so many octets of a source, in BER.
+pub fn content_of<S: Source>(source: S, limit: usize) -> Primitive<S> {
     Primitive {
         source: LimitedSource {
             source,
