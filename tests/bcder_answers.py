@@ -3,7 +3,7 @@
 
 BCDER is the folder that `dpkg -x` made of Debian's packages librust-bcder-dev, librust-bytes-dev and
 librust-smallvec-dev. In FOLDER, or a temporary one, bcder_answers.rs.in is built with them by cargo; the other
-program is crates/bcder_answers, which `rt run` proves and builds.
+program is crates/bcder_cases, which `rt run` proves and builds.
 
 Both answer the same questions, in each mode: of each kind of value on 10,000 octet strings, half of them made of
 values, a third of these changed in one place, half of them chance; on all octet strings of up to two octets; on all of
@@ -11,8 +11,8 @@ three octets that begin with one of the tags of TAGS; and of UTF8Strings with al
 three and four octets of EDGES. Each answer that differs has to be of one of the CLASSES: a test by this script's own
 reading of the octets, with the reason. Exits with 1 where one isn't.
 
-With --record, some 2,000 questions on which both agree are written to crates/bcder_answers/stdin, and the Rust crate's
-answers to stdout: the gate runs the program on them.
+With --record, some 2,000 questions on which both agree are written to bcder_answers.txt, with the Rust crate's answers;
+`bcder_cases.py` puts them among the questions on which the gate runs the program.
 """
 
 import collections
@@ -28,7 +28,8 @@ import tempfile
 import typing
 
 ROOT = pathlib.Path(__file__).resolve().parent.parent
-CRATE = ROOT / "crates" / "bcder_answers"
+CRATE = ROOT / "crates" / "bcder_cases"
+RECORD = ROOT / "tests" / "bcder_answers.txt"
 MODES = ("ber", "cer", "der")
 INTEGERS = ("i8", "u8", "i64", "u64", "u128", "integer", "unsigned")
 EXTENTS = ("skip", "capture")
@@ -487,17 +488,24 @@ def build_rust(folder, packages):
 def build():
     """Proves and builds the program of the crate; its path."""
     run(["rt", "run"], CRATE)
-    return str(CRATE / "out" / "bcder_answers")
+    return str(CRATE / "out" / "bcder_cases")
 
 
-def line(question):
+def words(question):
     mode, kind, octets = question
-    return f"{mode} {kind} {octets.hex()}\n"
+    return f"{mode} {kind} {octets.hex()}"
+
+
+def line(program, question):
+    """The question as a program is asked it."""
+    if pathlib.Path(program).name == "bcder_cases":
+        return "front\t" + words(question).replace(" ", "\t") + "\n"
+    return words(question) + "\n"
 
 
 def answers(program, questions):
     """What a program answers to the questions."""
-    text = "".join(line(question) for question in questions)
+    text = "".join(line(program, question) for question in questions)
     told = subprocess.run([program], input=text, capture_output=True, text=True, check=True).stdout.splitlines()
     if len(told) != len(questions):
         sys.exit(f"{program}: {len(told)} answers to {len(questions)} questions")
@@ -514,7 +522,7 @@ def compare(programs, questions, counts):
         name = class_of(question, theirs, ours)
         counts[name] += 1
         if name is None and counts[name] <= 50:
-            print(f"{line(question).strip()}: theirs {theirs}, ours {ours}")
+            print(f"{words(question)}: theirs {theirs}, ours {ours}")
 
 
 def compare_all(programs):
@@ -543,17 +551,16 @@ def record(programs):
         if theirs == ours:
             rows[question[:2], ours != "refused"].append((question, theirs))
     kept = [row for of_kind in rows.values() for row in of_kind[:RECORDED]]
-    (CRATE / "stdin").write_text("".join(line(question) for question, _ in kept))
-    (CRATE / "stdout").write_text("".join(f"{answer}\n" for _, answer in kept))
+    RECORD.write_text("".join(f"{words(question)} = {answer}\n" for question, answer in kept))
     print(f"{len(kept)} questions recorded")
 
 
 def main():
-    words = [word for word in sys.argv[1:] if word != "--record"]
-    if len(words) not in (1, 2):
+    given = [word for word in sys.argv[1:] if word != "--record"]
+    if len(given) not in (1, 2):
         sys.exit("usage: bcder_answers.py [--record] BCDER [FOLDER]")
     with tempfile.TemporaryDirectory() as folder:
-        programs = [build_rust(words[1] if len(words) == 2 else folder, words[0]), build()]
+        programs = [build_rust(given[1] if len(given) == 2 else folder, given[0]), build()]
         if "--record" in sys.argv:
             record(programs)
         elif compare_all(programs) > 0:

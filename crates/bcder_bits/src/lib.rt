@@ -15,6 +15,3 @@ mod reading;
 
 pub use bit_string::{BitString, BitStringIter};
 pub use encode::{BitSlice, BitSliceEncoder};
-
-#[cfg(test)]
-mod tests;

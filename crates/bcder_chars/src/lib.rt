@@ -14,6 +14,3 @@ mod utf8;
 pub use char_set::CharSet;
 pub use error::CharSetError;
 pub use sets::{Ia5CharSet, NumericCharSet, PrintableCharSet, Utf8CharSet};
-
-#[cfg(test)]
-mod tests;

@@ -24,6 +24,3 @@ pub mod unsigned;
 pub use error::{InvalidInteger, OverflowError};
 pub use integer::Integer;
 pub use unsigned::Unsigned;
-
-#[cfg(test)]
-mod tests;

@@ -27,6 +27,3 @@ pub use iter::{OctetStringIter, OctetStringOctets};
 pub use source::OctetStringSource;
 pub use string::OctetString;
 pub use wrapping::WrappingOctetStringEncoder;
-
-#[cfg(test)]
-mod tests;

@@ -22,8 +22,6 @@ mod content;
 mod iter;
 pub mod laws;
 pub mod oid;
-#[cfg(test)]
-mod tests;
 mod text;
 mod write;
 

@@ -5,6 +5,3 @@ mod integers;
 pub mod primitive;
 
 pub use primitive::Primitive;
-
-#[cfg(test)]
-mod tests;

@@ -16,6 +16,3 @@ pub use limited::LimitedSource;
 pub use memory::{BytesSource, SliceSource};
 pub use pos::Pos;
 pub use source::{IntoSource, Source};
-
-#[cfg(test)]
-mod tests;

@@ -10,6 +10,3 @@ pub mod tag;
 pub use length::Length;
 pub use mode::Mode;
 pub use tag::Tag;
-
-#[cfg(test)]
-mod tests;

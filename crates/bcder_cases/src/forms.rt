@@ -1,0 +1,71 @@
+//! Values with another tag in place of their own, and the forms of contents.
+
+ghost use Rattle.bcder_content.specs.Either.{SameContent};
+
+use crate::answers::{Answer, told};
+use anyhow::{Result, anyhow};
+use bcder_content::{Constructed, Content, Decode};
+use bcder_source::{DecodeError, Mode, SliceSource, Tag};
+use std::alloc::Global;
+use std::convert::Infallible;
+
+type Values<'a> = Constructed<SliceSource<'a>>;
+
+type Refusal = DecodeError<Infallible>;
+
+// What the content of a value tells, whatever its tag; 0 where that is no number.
+fn content(content: &mut Content<'_, SliceSource<'_>>, word: &str) -> Result<u64, Refusal>
+    ensures { SameContent content.old content.new }
+{
+    match word {
+        "u8" => content.to_u8().map(u64::from),
+        "u16" => content.to_u16().map(u64::from),
+        "u32" => content.to_u32().map(u64::from),
+        "u64" => content.to_u64(),
+        "null" => content.to_null().map(|()| 0),
+        _ => content.skip_u8_if(7).map(|()| 0),
+    }
+}
+
+// A value with the tag [5] in place of its own.
+fn tagged(cons: &mut Values<'_>, word: &str) -> Result<u64, Refusal> {
+    cons.take_value_if(
+        Tag::CTX_5,
+        |inner|
+            ensures { SameContent inner.old inner.new }
+        { content(inner, word) },
+    )
+}
+
+// Of which form a value is: whether it is primitive, and whether it is constructed.
+fn form(content: &mut Content<'_, SliceSource<'_>>) -> Result<(bool, bool), Refusal>
+    ensures { SameContent content.old content.new }
+{
+    Ok((content.is_primitive(), content.is_constructed()))
+}
+
+// The form of the empty value that is next.
+fn form_of_next(cons: &mut Values<'_>) -> Result<(bool, bool), Refusal> {
+    cons.take_value(
+        |_, content|
+            ensures { SameContent content.old content.new }
+        { form(content) },
+    )
+}
+
+// The form of the value in octets, or what it tells.
+fn read(alloc: Global, kind: &str, mode: Mode, octets: &[u8]) -> Answer {
+    match kind {
+        "form" => told(alloc, mode.decode(octets, |cons| form_of_next(cons))),
+        _ => told(alloc, mode.decode(octets, |cons| tagged(cons, kind))),
+    }
+}
+
+/// What the content of a value in octets tells, by the kind of call.
+pub fn answer(alloc: Global, words: &[&str]) -> Result<String> {
+    let [kind, mode, digits] = words else {
+        return Err(anyhow!("no form"));
+    };
+    let octets = hex::decode(alloc, *digits)?;
+    Ok(read(alloc, *kind, crate::mode(*mode), octets.as_slice())?)
+}
