@@ -10,7 +10,8 @@ use std::alloc::{AllocError, Global};
 
 // Appends a space and the number for each provider.
 fn push_providers(alloc: Global, text: &mut Vec<u8>, providers: &[Asn]) -> Result<(), AllocError>
-    ensures { OnOk result (text.new.items ≡ text.old.items ++ flat_map (λ p. codes " " ++ asn_text p.value) providers.now) }
+    ensures { OnOk result (text.new.items ≡
+        text.old.items ++ flat_map (λ p. codes " " ++ asn_text p.value) providers.now) }
 {
     for provider in providers {
         text.extend_from_slice(format!(in alloc; " {provider}")?.as_bytes())?;
@@ -20,7 +21,8 @@ fn push_providers(alloc: Global, text: &mut Vec<u8>, providers: &[Asn]) -> Resul
 
 // aspa AS64496 AS64497 AS64498
 fn push_line(alloc: Global, text: &mut Vec<u8>, customer: &Customer) -> Result<(), AllocError>
-    ensures { OnOk result (text.new.items ≡ text.old.items ++ customer_line (customer_of customer.now)) }
+    ensures { OnOk result (text.new.items ≡
+        text.old.items ++ customer_line (customer_of customer.now)) }
 {
     let number = customer.number();
     text.extend_from_slice(format!(in alloc; "aspa {number}")?.as_bytes())?;
@@ -35,7 +37,8 @@ pub(crate) fn push_all(
     text: &mut Vec<u8>,
     customers: &[Customer],
 ) -> Result<(), AllocError>
-    ensures { OnOk result (text.new.items ≡ text.old.items ++ flat_map (λ c. customer_line (customer_of c)) customers.now) }
+    ensures { OnOk result (text.new.items ≡
+        text.old.items ++ flat_map (λ c. customer_line (customer_of c)) customers.now) }
 {
     for customer in customers {
         push_line(alloc, text, customer)?;

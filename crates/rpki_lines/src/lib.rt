@@ -17,7 +17,8 @@ use std::alloc::{AllocError, Global};
 /// The lines of origins, then of customers, then of refusals, each with a line feed at its end.
 pub fn render(alloc: Global, report: &Report) -> Result<Vec<u8>, AllocError>
     ensures lines { IfOk result (λ text. text.items ≡ report_text report.now) }
-    ensures output { IfOk result (λ text. (w : World) → IsReport w report.now → IsOutput w text.items) }
+    ensures output { IfOk result (λ text.
+        (w : World) → IsReport w report.now → IsOutput w text.items) }
 {
     let mut text = Vec::new(alloc);
     origins::push_all(alloc, &mut text, report.origins())?;

@@ -21,7 +21,9 @@ struct FamilyPrefix {
 }
 
 impl fmt::Display for FamilyPrefix {
-    ghost output = { λ p. Some (slashed (address_text (kind_of p.family) (bits_of (prefix_addr p.prefix))) (prefix_len p.prefix)) };
+    ghost output = { λ p. Some (slashed
+        (address_text (kind_of p.family) (bits_of (prefix_addr p.prefix)))
+        (prefix_len p.prefix)) };
 
     fn fmt<W: fmt::Write>(&self, f: &mut fmt::Formatter<W>) -> fmt::Result {
         match self.family {
@@ -50,7 +52,8 @@ pub(crate) fn push_all(
     text: &mut Vec<u8>,
     origins: &[Origin],
 ) -> Result<(), AllocError>
-    ensures { OnOk result (text.new.items ≡ text.old.items ++ flat_map (λ o. origin_line (origin_of o)) origins.now) }
+    ensures { OnOk result (text.new.items ≡
+        text.old.items ++ flat_map (λ o. origin_line (origin_of o)) origins.now) }
 {
     for origin in origins {
         text.extend_from_slice(line_of(alloc, origin)?.as_bytes())?;

@@ -10,7 +10,8 @@ use std::alloc::AllocError;
 
 // refused rsync://example.net/a.roa object
 fn push_line(text: &mut Vec<u8>, refusal: &Refusal) -> Result<(), AllocError>
-    ensures { OnOk result (text.new.items ≡ text.old.items ++ refusal_line (refusal_of refusal.now)) }
+    ensures { OnOk result (text.new.items ≡
+        text.old.items ++ refusal_line (refusal_of refusal.now)) }
 {
     text.extend_from_slice(b"refused ")?;
     text.extend_from_slice(refusal.name().as_slice())?;
@@ -21,7 +22,8 @@ fn push_line(text: &mut Vec<u8>, refusal: &Refusal) -> Result<(), AllocError>
 
 /// Appends a line for each refusal.
 pub(crate) fn push_all(text: &mut Vec<u8>, refusals: &[Refusal]) -> Result<(), AllocError>
-    ensures { OnOk result (text.new.items ≡ text.old.items ++ flat_map (λ r. refusal_line (refusal_of r)) refusals.now) }
+    ensures { OnOk result (text.new.items ≡
+        text.old.items ++ flat_map (λ r. refusal_line (refusal_of r)) refusals.now) }
 {
     for refusal in refusals {
         push_line(text, refusal)?;
