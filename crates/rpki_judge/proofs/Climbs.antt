@@ -1,12 +1,11 @@
 -- Climbing one certificate further.
-use Rattle.std.proofs.Common.{◌≡◌, ℕ, ◌+◌, ◌-◌, ◌≤◌, ◌⊎◌, ◌↔◌, Bool, true, false, List, [], ◌∷◌, ◌++◌, length, Some, None, inl, inr, refl, sym, ap, subst, arith}
+use Rattle.std.proofs.Common.{◌≡◌, ℕ, ◌+◌, ◌≤◌, ◌↔◌, Bool, true, false, List, [], ◌∷◌, ◌++◌, Some, None, inl, inr, sym, subst, arith}
 use Rattle.std.specs.Prelude.{IsTrue}
 use Rattle.resources_chain.specs.Claims.{Choice}
 use Rattle.resources_chain.specs.declared.choice.ResourcesChoice.TheVariants.{Missing, Inherit, Blocks}
 use Rattle.resources_chain.specs.declared.claims.Overclaim.{Overclaim}
 use Rattle.resources_chain.specs.declared.claims.Overclaim.TheVariants.{Refuse, Trim}
 use Rattle.resources_set.specs.Resources.{Resources}
-use Rattle.rpki_readings.specs.Certs.{Cert}
 use Rattle.rpki_readings.specs.Objects.{Object}
 use Rattle.rpki_rules.specs.Kinds.{Kind, claim, InSet}
 use Rattle.rpki_rules.specs.World.{World}
@@ -16,16 +15,15 @@ use Rattle.rpki_rules.specs.Attests.{Payload, IsSigned}
 use Rattle.rpki_rules.specs.Judge.{NeedAbove, NeedWith, NeedAt, Needs, Climbs}
 use Rattle.rpki_laws.proofs.Readings.{one_point, one_signed}
 use Rattle.rpki_judge.specs.declared.judging.Judgement.{Judgement}
-use Rattle.rpki_judge.specs.Needed.{IsNeed}
 use Rattle.rpki_judge.specs.Climbing.{IsRaised, IsNeedOfFile, IsJudgedUp, ClimbedOn, IsJudgedAt}
 
-above_less : (m : Overclaim) (c : Choice) (need less : ℕ → Type 0) → ((n : ℕ) → less n → need n) → (n : ℕ) → NeedAbove m c less n → NeedAbove m c need n
+pub above_less : (m : Overclaim) (c : Choice) (need less : ℕ → Type 0) → ((n : ℕ) → less n → need n) → (n : ℕ) → NeedAbove m c less n → NeedAbove m c need n
 above_less Refuse Missing need less f n i = f n i
 above_less Refuse Inherit need less f n i = f n i
 above_less Refuse (Blocks runs) need less f n i = i
 above_less Trim c need less f n i = f n i
 
-with_less : (m : Overclaim) (c : Choice) (need less : ℕ → Type 0) → ((n : ℕ) → less n → need n) → (n : ℕ) → NeedWith m c less n → NeedWith m c need n
+pub with_less : (m : Overclaim) (c : Choice) (need less : ℕ → Type 0) → ((n : ℕ) → less n → need n) → (n : ℕ) → NeedWith m c less n → NeedWith m c need n
 with_less Refuse c need less f n (inl l) = inl l
 with_less Refuse c need less f n (inr i) = inr (f n i)
 with_less Trim c need less f n i = f n i
@@ -41,7 +39,7 @@ climbs_less w name a (c ∷ cs) need less f h =
       h.3,
       h.4,
       climbs_less w name a cs (NeedAt c.cert p need) (NeedAt c.cert p less)
-      (λ k. with_less m.tbs.overclaim (claim m k) (NeedAbove c.cert.tbs.overclaim (claim c.cert k) (need k)) (NeedAbove c.cert.tbs.overclaim (claim c.cert k) (less k)) (above_less c.cert.tbs.overclaim (claim c.cert k) (need k) (less k) (f k))) h.5,
+          (λ k. with_less m.tbs.overclaim (claim m k) (NeedAbove c.cert.tbs.overclaim (claim c.cert k) (need k)) (NeedAbove c.cert.tbs.overclaim (claim c.cert k) (less k)) (above_less c.cert.tbs.overclaim (claim c.cert k) (need k) (less k) (f k))) h.5,
     )
 
 -- The first of links is the chain's last.

@@ -1,8 +1,8 @@
 -- Chains as lists of links, the last first.
-use Rattle.std.proofs.Common.{◌≡◌, ℕ, suc, ◌+◌, ◌≤◌, ◌<◌, ◌↔◌, Bool, true, false, List, [], ◌∷◌, ◌++◌, map, length, inl, inr, refl, sym, ap, subst, ◌∙◌, arith}
+use Rattle.std.proofs.Common.{◌≡◌, ℕ, ◌≤◌, ◌<◌, true, false, List, [], ◌∷◌, ◌++◌, map, length, inl, inr, refl, sym, ap, subst, ◌∙◌, arith}
 use Rattle.std.proofs.lemmas.List.{length-append}
 use Rattle.std.specs.Prelude.{IsTrue}
-use Rattle.rpki_rules.specs.Words.{Mem, Each, NoRepeat}
+use Rattle.rpki_rules.specs.Words.{Mem, NoRepeat}
 use Rattle.rpki_rules.specs.Kinds.{Kind}
 use Rattle.rpki_rules.specs.World.{World}
 use Rattle.rpki_rules.specs.Points.{Link}
@@ -15,7 +15,7 @@ use Rattle.rpki_laws.proofs.Lists.{mem_append}
 use Rattle.rpki_laws.proofs.Readings.{first_held, one_cert_at}
 use Rattle.rpki_laws.proofs.Judging.{judging_is_exact}
 use Rattle.rpki_judge.specs.declared.judging.Judgement.{Judgement}
-use Rattle.rpki_judge.specs.Climbing.{identifier_of, AreAt, places_of, ClimbedOn, IsJudgedAt}
+use Rattle.rpki_judge.specs.Climbing.{identifier_of, AreAt, places_of, IsJudgedAt}
 
 -- Lists with one more at their ends that are one.
 pub record SameEnds {X : Type 0} (xs ys : List X) (x y : X) : Type 0 where

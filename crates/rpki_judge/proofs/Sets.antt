@@ -1,5 +1,5 @@
 -- What is needed by what is claimed, and by the certificates that claim it.
-use Rattle.std.proofs.Common.{◌≡◌, ℕ, ◌↔◌, sym, subst}
+use Rattle.std.proofs.Common.{◌≡◌, ℕ, sym, subst}
 use Rattle.resources_chain.specs.Sets.{IsRunsOf}
 use Rattle.resources_chain.specs.Claims.{Choice, Lists, Keeps}
 use Rattle.resources_chain.specs.declared.claims.Overclaim.{Overclaim}

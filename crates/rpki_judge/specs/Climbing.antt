@@ -3,8 +3,8 @@ use Rattle.std.specs.Prelude.{◌≡◌, ℕ, ◌+◌, ◌-◌, ◌≤◌, ◌�
 use Rattle.resources_set.specs.Resources.{Resources}
 use Rattle.rpki_readings.specs.Certs.{Cert}
 use Rattle.rpki_readings.specs.Objects.{Object}
-use Rattle.rpki_rules.specs.Words.{Mem, Each, NoRepeat}
-use Rattle.rpki_rules.specs.Kinds.{Kind, InSet}
+use Rattle.rpki_rules.specs.Words.{Mem, Each}
+use Rattle.rpki_rules.specs.Kinds.{InSet}
 use Rattle.rpki_rules.specs.World.{World}
 use Rattle.rpki_rules.specs.Points.{Link, Point, IsPoint}
 use Rattle.rpki_rules.specs.Chains.{last_of, CertAt, IsCerFile, IsSound}

@@ -2,7 +2,6 @@
 use Rattle.std.specs.Prelude.{◌≡◌, ℕ}
 use Rattle.resources_chain.specs.Sets.{InRuns, IsRunsOf}
 use Rattle.resources_chain.specs.Claims.{Choice, Lists, Keeps}
-use Rattle.resources_chain.specs.declared.claims.Overclaim.{Overclaim}
 use Rattle.resources_set.specs.Resources.{Resources}
 use Rattle.rpki_readings.specs.Certs.{Cert}
 use Rattle.rpki_rules.specs.Kinds.{Kind, Ipv4, Ipv6, As, of_kind, InSet}

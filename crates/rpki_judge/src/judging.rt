@@ -32,7 +32,10 @@ impl Judgement {
         requires { self.points < usize.MAX }
         ensures { result ≡ record { yes = self.yes; points = self.points + 1 } }
     {
-        Judgement { yes: self.yes, points: self.points + 1 }
+        Judgement {
+            yes: self.yes,
+            points: self.points + 1,
+        }
     }
 }
 
