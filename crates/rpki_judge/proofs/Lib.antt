@@ -1,0 +1,4 @@
+mod Sets
+mod Links
+mod Climbs
+mod Steps

@@ -1,0 +1,3 @@
+pub mod Needed
+pub mod Evidence
+pub mod Climbing
