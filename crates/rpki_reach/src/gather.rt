@@ -1,0 +1,51 @@
+//! The sets of the authorities that name one of the URIs.
+
+ghost use Rattle.std.specs.Prelude.{◌≡◌};
+ghost use Rattle.rpki_reach.specs.Gathered.{has_gathered, IsReaches};
+
+use crate::keys::names_any;
+use crate::naming::Naming;
+use bytes::Bytes;
+use resources_set::ResourceSet;
+use rpki_report::Path;
+use rpki_rules::Cause;
+use rpki_walk::Visitor;
+use std::alloc::{AllocError, Global};
+use std::rc::Rc;
+
+/// The URIs, and what the authorities hold that were found to name one of them.
+#[derive(Drop)]
+pub(crate) struct Gatherer<'a> {
+    pub(crate) uris: &'a [Bytes],
+    pub(crate) sets: Vec<ResourceSet>,
+}
+
+impl<'a, S: Naming> Visitor<S> for Gatherer<'a> {
+    ghost has = { has_gathered };
+
+    ghost wants = { IsReaches };
+
+    ghost uris = { λ g. g.uris.now };
+
+    fn visit(&mut self, alloc: Global, steps: &mut S, ca: &S::Authority) -> Result<(), AllocError> {
+        let keys = steps.named_keys(alloc, ca)?;
+        if names_any(self.uris, &keys) {
+            self.sets.push(steps.held(ca)?)?;
+        }
+        Ok(())
+    }
+
+    fn refuse(&mut self, _name: &Bytes, _why: Cause) -> Result<(), AllocError> {
+        Ok(())
+    }
+
+    fn show(
+        &mut self,
+        _steps: &S,
+        _path: &Rc<Path>,
+        _object: &Bytes,
+        _payload: S::Payload,
+    ) -> Result<(), AllocError> {
+        Ok(())
+    }
+}
