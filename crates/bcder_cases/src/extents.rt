@@ -10,8 +10,8 @@ ghost use Rattle.bcder_primitive.specs.Values.{IsNull};
 use crate::answers::{Answer, digits, refusal, shown, told};
 use crate::contents::{Refusal, Values};
 use crate::steps::{Step, push};
-use bcder_content::Captured;
-use bcder_source::{ContentError, Tag};
+use bcder_content::{Captured, Constructed};
+use bcder_source::{ContentError, Mode, Source, Tag};
 use std::alloc::Global;
 
 // Octet strings are refused, where that is wanted.
@@ -90,14 +90,42 @@ fn captured(alloc: Global, how: &str, read: Result<Captured, Refusal>) -> Answer
     }
 }
 
-/// Captures a value or all values, or what a closure reads; the second word says what is told of it.
-pub fn capture(alloc: Global, cons: &mut Values<'_>, step: Step<'_>) -> Answer {
-    let how = step.second;
-    match step.first {
-        "one" => captured(alloc, how, cons.capture_one(alloc)),
-        "all" => captured(alloc, how, cons.capture_all(alloc)),
-        "null" => captured(alloc, how, capture_null(alloc, cons)),
-        "some" => captured(alloc, how, cons.capture(alloc, |cons| cons.skip_all(alloc))),
-        _ => shown(alloc, cons.mode()),
+// Captures a value.
+fn capture_one(alloc: Global, cons: &mut Values<'_>) -> Result<Captured, Refusal> {
+    cons.capture_one(alloc)
+}
+
+// Captures all values.
+fn capture_all(alloc: Global, cons: &mut Values<'_>) -> Result<Captured, Refusal> {
+    cons.capture_all(alloc)
+}
+
+// Captures what a closure goes past.
+fn capture_skipped(alloc: Global, cons: &mut Values<'_>) -> Result<Captured, Refusal> {
+    cons.capture(alloc, |cons| cons.skip_all(alloc))
+}
+
+// The mode of a content over any source.
+fn mode_of<S: Source>(cons: &mut Constructed<S>) -> Mode {
+    cons.mode()
+}
+
+// Captures a value, all values, or what a closure reads or goes past.
+fn captured_by(alloc: Global, cons: &mut Values<'_>, kind: &str) -> Result<Captured, Refusal> {
+    match kind {
+        "one" => capture_one(alloc, cons),
+        "all" => capture_all(alloc, cons),
+        "null" => capture_null(alloc, cons),
+        _ => capture_skipped(alloc, cons),
     }
+}
+
+/// Captures a value or all values, or what a closure reads; the second word says what is told of it. The mode alone is
+/// told where the first word is of no capture.
+pub fn capture(alloc: Global, cons: &mut Values<'_>, step: Step<'_>) -> Answer {
+    if matches!(step.first, "one" | "all" | "null" | "some") {
+        let read = captured_by(alloc, cons, step.first);
+        return captured(alloc, step.second, read);
+    }
+    shown(alloc, mode_of(cons))
 }
