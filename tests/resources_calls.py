@@ -414,13 +414,13 @@ def addresses(q):
 
 def prefix_texts(q):
     missing, address, length = "missing separator", "invalid address", "invalid prefix length"
-    for text in ("192.0.2.255/24", "10.0.0.0/0", "10.1.2.3/32", "255.255.255.255/1", "0.0.0.0/08"):
-        network = ipaddress.ip_network(text.replace("/08", "/8"), strict=False)
+    for text in ("192.0.2.255/24", "10.0.0.0/0", "10.1.2.3/32", "255.255.255.255/1", "0.0.0.0/08", "10.0.0.0/+8"):
+        network = ipaddress.ip_network(text.replace("/08", "/8").replace("/+", "/"), strict=False)
         start, last = as_bits(4, int(network.network_address)), as_bits(4, int(network.broadcast_address)) + 2**96 - 1
         v4, v6 = both_texts(start)
         q.ask([start, network.prefixlen, start, last, f"{v4}/{network.prefixlen}", f"{v6}/{network.prefixlen}", address], "addr", "prefix", text)
-    for text in ("2001:db8::1/32", "::/0", "::1/128", "::ffff:192.0.2.9/120", "8000::/1"):
-        network = ipaddress.ip_network(text, strict=False)
+    for text in ("2001:db8::1/32", "::/0", "::1/128", "::ffff:192.0.2.9/120", "8000::/1", "2001:db8::/+32"):
+        network = ipaddress.ip_network(text.replace("/+", "/"), strict=False)
         start, last = int(network.network_address), int(network.broadcast_address)
         v4, v6 = both_texts(start)
         q.ask([address, start, network.prefixlen, start, last, f"{v4}/{network.prefixlen}", f"{v6}/{network.prefixlen}"], "addr", "prefix", text)
@@ -429,12 +429,10 @@ def prefix_texts(q):
         ("", missing, missing),
         ("10.0.0/8", address, address),
         ("10.0.0.0/33", length, address),
-        ("10.0.0.0/+8", length, address),
         ("10.0.0.0/", length, address),
         ("10.0.0.0/8/9", length, address),
         ("10.0.0.0/256", length, address),
         ("2001:db8::/129", address, length),
-        ("2001:db8::/+32", address, length),
         ("2001:db8::/", address, length),
         ("/8", address, address),
     ):
@@ -461,7 +459,7 @@ def block_texts(first, last):
 def read_block(text):
     """The version, the first and the last address of a text that is one."""
     if "/" in text:
-        network = ipaddress.ip_network(text, strict=False)
+        network = ipaddress.ip_network(text.replace("/+", "/"), strict=False)
         version, first, last = network.version, int(network.network_address), int(network.broadcast_address)
     else:
         (version, first), (_, last) = map(parsed, text.split("-"))
@@ -545,7 +543,6 @@ def refused_blocks(q):
         ("10.0.0.0 - 10.0.0.9", address),
         ("10.0.0.0/33", length),
         ("10.0.0.0/", length),
-        ("10.0.0.0/+8", length),
         ("10.0.0.0/8/9", length),
         ("10.0.0.9-10.0.0.0", order_),
     ):
@@ -553,6 +550,8 @@ def refused_blocks(q):
         q.ask([refusal, v6, refusal], "block", "read", text)
     for text, refusal in (("2001:db8:/32", address), ("2001:db8::/129", length), ("2001:db8::/", length), ("2001:db8::9-2001:db8::1", order_)):
         q.ask([address, refusal, refusal], "block", "read", text)
+    _, first, last = read_block("10.0.0.0/+8")
+    q.ask([first, last, address, first, last], "block", "read", "10.0.0.0/+8")
     for text in ("10.0.0.0-2001:db8::", "2001:db8::-10.0.0.0"):
         q.ask([address, address, mixed], "block", "read", text)
         q.ask([address, address, mixed], "range", "read", text)

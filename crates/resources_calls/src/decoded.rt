@@ -10,37 +10,46 @@ use resources_ip::{
     Addr, AddressFamily, AddressRange, IpBlock, IpBlocks, IpBlocksForFamily, IpResources, Prefix,
 };
 use std::alloc::Global;
+use std::iter::once;
 
 // A number, one that is gone past, and one that may be there.
-fn asns(answer: &mut Answer, octets: &[u8]) {
+fn numbers_in(octets: &[u8]) -> Option<(Asn, Option<Asn>)> {
     let read = Mode::Der.decode(octets, |cons| {
         let first = Asn::take_from(cons)?;
         Asn::skip_in(cons)?;
         Ok((first, Asn::take_opt_from(cons)?))
     });
-    match read {
-        Ok((first, third)) => {
+    read.ok()
+}
+
+fn asns(answer: &mut Answer, octets: &[u8]) {
+    match numbers_in(octets) {
+        Some((first, third)) => {
             answer.say(&first);
             answer.say_some(&third);
         }
-        Err(_) => answer.say(&"refused"),
+        None => answer.say(&"refused"),
     }
 }
 
-// A block, one that is gone past, and one more, where they are there.
-fn blocks(answer: &mut Answer, octets: &[u8]) {
+// A block, whether one that is gone past was there, and one more that may be there.
+fn blocks_in(octets: &[u8]) -> Option<(Option<AsBlock>, bool, Option<AsBlock>)> {
     let read = Mode::Der.decode(octets, |cons| {
         let first = AsBlock::take_opt_from(cons)?;
         let second = AsBlock::skip_opt_in(cons)?;
-        Ok((first, second, AsBlock::take_opt_from(cons)?))
+        Ok((first, second.is_some(), AsBlock::take_opt_from(cons)?))
     });
-    match read {
-        Ok((first, second, third)) => {
+    read.ok()
+}
+
+fn blocks(answer: &mut Answer, octets: &[u8]) {
+    match blocks_in(octets) {
+        Some((first, second, third)) => {
             answer.say_some(&first);
-            answer.say(&second.is_some());
+            answer.say(&second);
             answer.say_some(&third);
         }
-        Err(_) => answer.say(&"refused"),
+        None => answer.say(&"refused"),
     }
 }
 
@@ -157,7 +166,7 @@ fn write_as(alloc: Global, answer: &mut Answer, text: &str) -> Result<()> {
     if let AsBlock::Range(range) = block {
         written(alloc, answer, &range.encode())?;
     }
-    let set = AsBlocks::from_iter(alloc, [block].into_iter())?;
+    let set = AsBlocks::from_iter(alloc, once(block))?;
     written(alloc, answer, &set.encode())
 }
 
@@ -180,7 +189,7 @@ fn write_ip(alloc: Global, answer: &mut Answer, text: &str) -> Result<()> {
     written(alloc, answer, &block.encode())?;
     written(alloc, answer, &block)?;
     write_range(alloc, answer, block.min(), block.max())?;
-    let set = IpBlocks::from_iter(alloc, [block].into_iter())?;
+    let set = IpBlocks::from_iter(alloc, once(block))?;
     written(alloc, answer, set.encode_ref())?;
     let resources = IpResources::blocks(set.clone()?);
     written(alloc, answer, resources.encode_ref())?;
