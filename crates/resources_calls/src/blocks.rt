@@ -5,6 +5,7 @@ use anyhow::{Result, anyhow};
 use resources_as::{AsBlock, AsBlocks, AsBlocksBuilder, AsRange, Asn};
 use resources_chain::Block;
 use std::alloc::Global;
+use std::iter::once;
 use std::ops::RangeInclusive;
 
 // A block by itself, and its first numbers.
@@ -66,7 +67,7 @@ fn range(answer: &mut Answer, min: Asn, max: Asn) {
 
 // The set of two blocks by an iterator and by a builder, and that of the blocks of it.
 fn set(alloc: Global, answer: &mut Answer, one: AsBlock, other: AsBlock) -> Result<()> {
-    let gathered = AsBlocks::from_iter(alloc, [other, one].into_iter())?;
+    let gathered = AsBlocks::from_iter(alloc, once(other).chain(once(one)))?;
     answer.say(&gathered);
     let mut builder = AsBlocksBuilder::new(alloc);
     builder.push(one)?;

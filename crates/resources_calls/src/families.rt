@@ -5,6 +5,7 @@ use anyhow::{Result, anyhow};
 use resources_ip::{IpBlock, IpBlocks, IpResources};
 use resources_ip_family::{Ipv4Block, Ipv4Blocks, Ipv6Block, Ipv6Blocks};
 use std::alloc::Global;
+use std::iter::once;
 
 fn v4_block(answer: &mut Answer, block: Ipv4Block) {
     answer.say(&block);
@@ -26,8 +27,9 @@ fn v6_block(answer: &mut Answer, block: Ipv6Block) {
 fn v4_sets(alloc: Global, answer: &mut Answer, text: &str, pair: [&str; 2]) -> Result<()> {
     let set = Ipv4Blocks::from_str(alloc, text)?;
     let [one, other] = pair;
-    let blocks = [one.parse::<Ipv4Block>()?, other.parse::<Ipv4Block>()?];
-    let joined = Ipv4Blocks::from_iter(alloc, blocks.into_iter())?;
+    let one = one.parse::<Ipv4Block>()?;
+    let other = other.parse::<Ipv4Block>()?;
+    let joined = Ipv4Blocks::from_iter(alloc, once(one).chain(once(other)))?;
     answer.say(&format_args!("[{set}]"));
     answer.say(&joined);
     answer.say(&(set == joined));
@@ -43,8 +45,9 @@ fn v4_sets(alloc: Global, answer: &mut Answer, text: &str, pair: [&str; 2]) -> R
 fn v6_sets(alloc: Global, answer: &mut Answer, text: &str, pair: [&str; 2]) -> Result<()> {
     let set = Ipv6Blocks::from_str(alloc, text)?;
     let [one, other] = pair;
-    let blocks = [one.parse::<Ipv6Block>()?, other.parse::<Ipv6Block>()?];
-    let joined = Ipv6Blocks::from_iter(alloc, blocks.into_iter())?;
+    let one = one.parse::<Ipv6Block>()?;
+    let other = other.parse::<Ipv6Block>()?;
+    let joined = Ipv6Blocks::from_iter(alloc, once(one).chain(once(other)))?;
     answer.say(&format_args!("[{set}]"));
     answer.say(&joined);
     answer.say(&(set == joined));

@@ -8,6 +8,7 @@ use resources_ip::{
     IpBlock, IpBlocks, IpBlocksBuilder, IpBlocksForFamily, IpResources, IpResourcesBuilder,
 };
 use std::alloc::{AllocError, Global};
+use std::iter::once;
 
 // A set of addresses, as IPv6.
 fn print(answer: &mut Answer, set: &IpBlocks) {
@@ -89,7 +90,7 @@ fn build_ip(alloc: Global, words: &[&str]) -> Result<IpResources> {
 
 // The set of two blocks by an iterator and by a builder, and that of the blocks of it.
 fn set(alloc: Global, answer: &mut Answer, one: IpBlock, other: IpBlock) -> Result<()> {
-    let gathered = IpBlocks::from_iter(alloc, [other, one].into_iter())?;
+    let gathered = IpBlocks::from_iter(alloc, once(other).chain(once(one)))?;
     print(answer, &gathered);
     let mut builder = IpBlocksBuilder::new(alloc);
     builder.push(one)?;
