@@ -3,5 +3,3 @@
 
 pub mod addr;
 pub mod laws;
-#[cfg(test)]
-mod tests;

@@ -14,6 +14,3 @@ pub use small_set::{
     SmallAsnSet, SmallSetDifference, SmallSetIntersection, SmallSetIter,
     SmallSetSymmetricDifference, SmallSetUnion,
 };
-
-#[cfg(test)]
-mod tests;

@@ -15,6 +15,3 @@ pub use chain::{Chain, OwnedChain, SharedChain};
 pub use choice::{InheritedResources, ResourcesChoice};
 pub use claims::{Claim, ClaimError, Overclaim};
 pub use row::{Row, halve};
-
-#[cfg(test)]
-mod tests;

@@ -15,6 +15,3 @@ pub use encode::{IpBlockEncoder, RangeEncoder};
 pub use range::AddressRange;
 pub use resources_ip_prefix::{Addr, AddressFamily, FromStrError, Prefix, addr, error, prefix};
 pub use text::{DisplayV4Block, DisplayV6Block};
-
-#[cfg(test)]
-mod tests;

@@ -13,6 +13,3 @@ mod text;
 pub use addr::{Addr, AddressFamily};
 pub use error::FromStrError;
 pub use prefix::Prefix;
-
-#[cfg(test)]
-mod tests;

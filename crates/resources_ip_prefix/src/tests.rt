@@ -1,3 +1,0 @@
-//! Texts, and each public call once.
-mod texts;
-mod values;
