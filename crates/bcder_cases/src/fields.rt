@@ -93,7 +93,7 @@ fn either(content: &mut Content<'_, Trickle<'_>>, word: &str) -> Result<u8, Refu
     }
 }
 
-// The same with its tag.
+// A field is read together with its tag.
 fn tagged(
     tag: Tag,
     content: &mut Content<'_, Trickle<'_>>,

@@ -17,7 +17,7 @@ pub fn take(alloc: Global, cons: &mut Values<'_>, step: Step<'_>) -> Answer {
     }
 }
 
-/// The same, where it is next.
+/// Reads the value where it is next; else nothing is read.
 pub fn take_opt(alloc: Global, cons: &mut Values<'_>, step: Step<'_>) -> Answer {
     match step.first {
         "bool" => told(alloc, cons.take_opt_bool()),

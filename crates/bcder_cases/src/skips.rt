@@ -67,7 +67,7 @@ fn nested(alloc: Global, levels: usize) -> Result<Vec<u8>, AllocError> {
     Ok(octets)
 }
 
-// The same of indefinite length.
+// Nested values of indefinite length.
 fn nested_open(alloc: Global, levels: usize) -> Result<Vec<u8>, AllocError> {
     let mut octets: Vec<u8> = Vec::new(alloc);
     for _ in 0..levels {

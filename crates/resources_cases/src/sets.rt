@@ -29,7 +29,7 @@ fn v4_resources(alloc: Global, text: &str) -> Result<IpResources>
     }
 }
 
-// The same of IPv6.
+// Answers questions about sets of IPv6 addresses.
 fn v6_resources(alloc: Global, text: &str) -> Result<IpResources> {
     match text {
         "inherit" => Ok(IpResources::inherit()),
