@@ -357,6 +357,14 @@ def taking(q):
     )  # fmt: skip
     content(q, "None None Some(5) None None None None ()", "der", NUMBER.hex(), *optional)
     content(q, "Some(5) ()", "der", NUMBER.hex(), "primitive opt-next INTEGER")
+    # An optional value is missing where the content ends or another tag is next (X.690 8.1.2), also in front of octets
+    # that are no value; where its tag is next, or no identifier octets are, it is refused.
+    for way, tag, form in (("primitive", "INTEGER", ""), ("constructed", "SEQUENCE", " null"), ("value", "INTEGER", " octets")):
+        content(q, "None ()", "ber", "", f"{way} opt-tagged {tag}{form}")
+        content(q, "None ()", "ber", "01 05 01", f"{way} opt-tagged {tag}{form}")
+        content(q, "refused refused", "ber", "1F", f"{way} opt-tagged {tag}{form}")
+        content(q, "refused refused", "ber", "1F 80 01", f"{way} opt-tagged {tag}{form}")
+    content(q, "refused refused", "der", "02 05 01", "primitive opt-tagged INTEGER")
     content(q, "refused refused", "der", STRING.hex(), "primitive next INTEGER")
     forms = ("value next x octets", "value opt-tagged NULL null", "value tagged CTX_0 null", "value opt-next x octets")
     number = "(Tag([UNIVERSAL 2]), 5)"

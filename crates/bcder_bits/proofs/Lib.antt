@@ -4,3 +4,6 @@ pub mod Readings
 pub mod ContentReadings
 pub mod Writings
 pub mod SameBits
+pub mod of_bcder_content
+pub mod of_bcder_primitive
+pub mod of_bcder_written

@@ -4,8 +4,8 @@ use Rattle.std.proofs.Math.Nat.{div-add-mod, div-div-eq-div-mul, mul-div-mul_lef
 use Rattle.std.proofs.lemmas.Nat.{pow_pos, pow-add}
 use Rattle.std.proofs.lemmas.List.{ext_get_or}
 use Rattle.std.proofs.lemmas.Option.{unwrap_or-slice_get}
-use Rattle.bcder_tree.specs.declared.mode.Mode.{Mode}
-use Rattle.bcder_tree.specs.declared.mode.Mode.TheVariants.{Ber, Cer, Der}
+use Rattle.bcder_bits.specs.bcder_tree.declared.mode.Mode.{Mode}
+use Rattle.bcder_bits.specs.bcder_tree.declared.mode.Mode.TheVariants.{Ber, Cer, Der}
 use Rattle.bcder_bits.specs.Bits.{BitsValue, IsBits, bits}
 use Rattle.bcder_bits.specs.Contents.{cleared, padded_in}
 use Rattle.bcder_bits.proofs.BitLists.{length-bits, bit_there}

@@ -1,13 +1,13 @@
 -- Contents of bit strings that are written.
 use Rattle.std.proofs.Common.{◌≡◌, ℕ, ◌+◌, ◌-◌, ◌*◌, ◌/◌, ◌%◌, ◌^◌, ◌<◌, ◌≤◌, suc, List, [], ◌∷◌, ◌++◌, length, Option, refl, sym, ap, ◌∙◌, subst, arith}
 use Rattle.std.proofs.Math.Nat.{div-add-mod, mul-mod_right, zero-mod}
-use Rattle.bcder_tree.specs.declared.mode.Mode.{Mode}
-use Rattle.bcder_tree.specs.declared.mode.Mode.TheVariants.{Ber, Cer, Der}
-use Rattle.bcder_written.specs.Contents.{ContentRefused}
-use Rattle.bcder_written.specs.Writing.{TookFront}
-use Rattle.bcder_written.specs.declared.error.EncodeError.{EncodeError}
-use Rattle.bcder_written.specs.declared.error.EncodeError.TheVariants as errors
-use Rattle.bcder_written.specs.Encoded.{WritesBoth}
+use Rattle.bcder_bits.specs.bcder_tree.declared.mode.Mode.{Mode}
+use Rattle.bcder_bits.specs.bcder_tree.declared.mode.Mode.TheVariants.{Ber, Cer, Der}
+use Rattle.bcder_bits.specs.bcder_written.Contents.{ContentRefused}
+use Rattle.bcder_bits.specs.bcder_written.Writing.{TookFront}
+use Rattle.bcder_bits.specs.bcder_written.declared.error.EncodeError.{EncodeError}
+use Rattle.bcder_bits.specs.bcder_written.declared.error.EncodeError.TheVariants as errors
+use Rattle.bcder_bits.specs.bcder_written.Encoded.{WritesBoth}
 use Rattle.bcder_bits.specs.Bits.{BitsValue, IsBits}
 use Rattle.bcder_bits.specs.Contents.{WritesBits, cleared, last_octet, padded_in}
 

@@ -1,8 +1,8 @@
 -- The content octets of a BIT STRING, in each mode (X.690 8.6, 9.2, 11.2). Its constructed form is left out of this codec.
 use Rattle.std.specs.Prelude.{◌≡◌, ℕ, ◌-◌, ◌%◌, ◌^◌, ◌≤◌, List, [], ◌∷◌, length}
-use Rattle.bcder_tree.specs.declared.mode.Mode.{Mode}
-use Rattle.bcder_tree.specs.declared.mode.Mode.TheVariants.{Ber, Cer, Der}
-use Rattle.bcder_tree.specs.Tags.{TagValue, universal}
+use Rattle.bcder_bits.specs.bcder_tree.declared.mode.Mode.{Mode}
+use Rattle.bcder_bits.specs.bcder_tree.declared.mode.Mode.TheVariants.{Ber, Cer, Der}
+use Rattle.bcder_bits.specs.bcder_tree.Tags.{TagValue, universal}
 use Rattle.bcder_bits.specs.Bits.{BitsValue, IsBits}
 
 -- The last octet; 0 where there is none.

@@ -1,6 +1,6 @@
 -- That a bit string has one content in a mode (X.690 11.2).
 use Rattle.std.proofs.Common.{◌≡◌, ℕ, List, sym, ◌∙◌}
-use Rattle.bcder_tree.specs.declared.mode.Mode.{Mode}
+use Rattle.bcder_bits.specs.bcder_tree.declared.mode.Mode.{Mode}
 use Rattle.bcder_bits.specs.Bits.{BitsValue}
 use Rattle.bcder_bits.specs.Contents.{WritesBits}
 

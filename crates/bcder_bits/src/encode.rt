@@ -1,17 +1,17 @@
 //! Bit strings that are written.
 ghost use Rattle.std.proofs.Common.{rules};
 ghost use Rattle.std.specs.Prelude.{◌≡◌, ◌-◌, ◌^◌, ◌<◌, ◌≤◌, ◌%◌, false, length, IsTrue, IfOk, IfErr, OnOk};
-ghost use Rattle.bcder_tree.specs.Tags.{IsTag};
-ghost use Rattle.bcder_written.specs.Contents.{NoContent, ContentRefused};
-ghost use Rattle.bcder_written.specs.Writing.{HasLength, Wrote, TookFront};
-ghost use Rattle.bcder_written.specs.declared.error.EncodeError.TheVariants.{Write as refusal};
+ghost use Rattle.bcder_bits.specs.bcder_tree.Tags.{IsTag};
+ghost use Rattle.bcder_bits.specs.bcder_written.Contents.{NoContent, ContentRefused};
+ghost use Rattle.bcder_bits.specs.bcder_written.Writing.{HasLength, Wrote, TookFront};
+ghost use Rattle.bcder_bits.specs.bcder_written.declared.error.EncodeError.TheVariants.{Write as refusal};
 ghost use Rattle.bcder_bits.specs.Bits.{BitsValue, IsBits};
 ghost use Rattle.bcder_bits.specs.Contents.{WritesBits, bit_string_tag, cleared, padded_in};
 ghost use Rattle.bcder_bits.specs.Written.{one_bits};
 
 use crate::BitString;
+use crate::bcder_tree::{Mode, Tag};
 use crate::parse::MAX_CER_LEN;
-use bcder_tree::{Mode, Tag};
 use bcder_values::{EncodeError, Octets, Primitive, PrimitiveContent};
 use std::convert::AsSlice;
 use std::io::Write;

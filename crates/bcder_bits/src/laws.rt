@@ -1,7 +1,7 @@
 //! Laws of bit strings: the contracts of functions that do nothing.
 
 ghost use Rattle.std.specs.Prelude.{◌≡◌};
-ghost use Rattle.bcder_tree.specs.declared.mode.Mode.{Mode as ModeValue};
+ghost use Rattle.bcder_bits.specs.bcder_tree.declared.mode.Mode.{Mode as ModeValue};
 ghost use Rattle.bcder_bits.specs.Bits.{BitsValue, IsBits, bits};
 ghost use Rattle.bcder_bits.specs.Contents.{padded_in};
 

@@ -3,7 +3,7 @@ ghost use Rattle.std.specs.Prelude.{◌≡◌, ◌↔◌, ◌<◌, ◌%◌, ◌^
 ghost use Rattle.bcder_bits.specs.Bits.{BitsValue, IsBits};
 ghost use Rattle.bcder_bits.specs.Contents.{IsAnyBits, IsPadded, IsShortIn, last_octet};
 
-use bcder_tree::Mode;
+use crate::bcder_tree::Mode;
 
 /// How many content octets a bit string has at most in CER (X.690 9.2).
 pub(crate) const MAX_CER_LEN: usize = 1000;

@@ -1,6 +1,6 @@
 //! How answers are printed.
 
-use bcder_source::DecodeError;
+use bcder::decode::DecodeError;
 use bytes::Bytes;
 use std::alloc::{AllocError, Global};
 use std::fmt::Debug;

@@ -3,9 +3,8 @@
 use crate::answers::{Answer, digits, shown, text, told};
 use crate::steps::push;
 use anyhow::{Result, anyhow};
-use bcder_bits::BitString;
-use bcder_content::{Constructed, Decode};
-use bcder_source::{DecodeError, Mode, SliceSource};
+use bcder::decode::{Constructed, Decode, DecodeError, SliceSource};
+use bcder::{BitString, Mode};
 use std::alloc::Global;
 use std::convert::Infallible;
 

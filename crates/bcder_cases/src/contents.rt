@@ -5,8 +5,8 @@ use crate::steps::{Step, Steps, push, run};
 use crate::trickle::{Fault, Trickle};
 use crate::{extents, fields, scalars};
 use anyhow::{Result, anyhow};
-use bcder_content::{Constructed, Decode};
-use bcder_source::{DecodeError, Mode};
+use bcder::Mode;
+use bcder::decode::{Constructed, Decode, DecodeError};
 use std::alloc::Global;
 
 /// Values of a source that may fail.

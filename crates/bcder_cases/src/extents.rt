@@ -1,17 +1,17 @@
 //! Values that are skipped, or captured as they stand.
 
-ghost use Rattle.bcder_tree.specs.Tags.{universal};
-ghost use Rattle.bcder_content.specs.Captures.{rest_of};
-ghost use Rattle.bcder_content.specs.Exact.{ReadsAs};
-ghost use Rattle.bcder_content.specs.Grammar.{OctetsOf};
-ghost use Rattle.bcder_content.specs.Here.{here};
-ghost use Rattle.bcder_primitive.specs.Values.{IsNull};
+ghost use Rattle.bcder_cases.specs.bcder_tree.Tags.{universal};
+ghost use Rattle.bcder_cases.specs.bcder_content.Captures.{rest_of};
+ghost use Rattle.bcder_cases.specs.bcder_content.Exact.{ReadsAs};
+ghost use Rattle.bcder_cases.specs.bcder_content.Grammar.{OctetsOf};
+ghost use Rattle.bcder_cases.specs.bcder_content.Here.{here};
+ghost use Rattle.bcder_cases.specs.bcder_primitive.Values.{IsNull};
 
 use crate::answers::{Answer, digits, refusal, shown, told};
 use crate::contents::{Refusal, Values};
 use crate::steps::{Step, push};
-use bcder_content::{Captured, Constructed};
-use bcder_source::{ContentError, Mode, Source, Tag};
+use bcder::decode::{Constructed, ContentError, Source};
+use bcder::{Captured, Mode, Tag};
 use std::alloc::Global;
 
 // Octet strings are refused, where that is wanted.

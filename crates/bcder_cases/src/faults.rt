@@ -5,8 +5,8 @@ use crate::contents::Values;
 use crate::steps::{Step, Steps, push};
 use crate::trickle::Trickle;
 use anyhow::{Result, anyhow};
-use bcder_content::Decode;
-use bcder_source::Mode;
+use bcder::Mode;
+use bcder::decode::Decode;
 use std::alloc::Global;
 
 /// The most requests and retries.

@@ -1,6 +1,6 @@
 //! Values that are taken by closures, by their tags and forms.
 
-ghost use Rattle.bcder_content.specs.Either.{SameContent};
+ghost use Rattle.bcder_cases.specs.bcder_content.Either.{SameContent};
 
 use crate::answers::{Answer, octets, told};
 use crate::contents::{Refusal, Values};
@@ -8,8 +8,8 @@ use crate::scalars::inner;
 use crate::steps::Step;
 use crate::tags::named_tag;
 use crate::trickle::Trickle;
-use bcder_content::{Content, Primitive};
-use bcder_source::Tag;
+use bcder::Tag;
+use bcder::decode::{Content, Primitive};
 use std::alloc::Global;
 
 // A NULL, told as 0.

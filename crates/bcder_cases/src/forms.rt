@@ -1,11 +1,11 @@
 //! Values with another tag in place of their own, and the forms of contents.
 
-ghost use Rattle.bcder_content.specs.Either.{SameContent};
+ghost use Rattle.bcder_cases.specs.bcder_content.Either.{SameContent};
 
 use crate::answers::{Answer, told};
 use anyhow::{Result, anyhow};
-use bcder_content::{Constructed, Content, Decode};
-use bcder_source::{DecodeError, Mode, SliceSource, Tag};
+use bcder::decode::{Constructed, Content, Decode, DecodeError, SliceSource};
+use bcder::{Mode, Tag};
 use std::alloc::Global;
 use std::convert::Infallible;
 

@@ -4,10 +4,9 @@ use crate::answers::{Answer, digits, shown, told};
 use crate::integers::hashed;
 use crate::steps::push;
 use anyhow::{Result, anyhow};
-use bcder_content::{Decode, Primitive};
-use bcder_oid::oid::ParseOidError;
-use bcder_oid::{ConstOid, Oid};
-use bcder_source::Mode;
+use bcder::decode::{Decode, Primitive};
+use bcder::oid::ParseOidError;
+use bcder::{ConstOid, Mode, Oid};
 use std::alloc::Global;
 
 // 2.5.4.3 (X.520).

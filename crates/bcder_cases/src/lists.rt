@@ -2,16 +2,15 @@
 
 ghost use Rattle.std.specs.Prelude.{◌≡◌, ◌^◌, ◌≤◌, replicate};
 ghost use Rattle.std.proofs.Common.{◌∙◌, rules, sym};
-ghost use Rattle.bcder_tree.specs.Tags.{universal};
+ghost use Rattle.bcder_cases.specs.bcder_tree.Tags.{universal};
 
 use crate::answers::{Answer, digits, shown};
 use crate::writing::To;
-use bcder_content::Captured;
-use bcder_tree::{Mode, Tag};
-use bcder_values::{
-    CapturedBuilder, Choice2, Choice3, Constructed, EncodeError, Nothing, Octets, Primitive,
-    PrimitiveContent, Values, sequence, sequence_as, set, set_as, total_encoded_len, write_header,
+use bcder::encode::{
+    Choice2, Choice3, Constructed, EncodeError, Nothing, Octets, Primitive, PrimitiveContent,
+    Values, sequence, sequence_as, set, set_as, total_encoded_len, write_header,
 };
+use bcder::{Captured, CapturedBuilder, Mode, Tag};
 use bytes::Bytes;
 use std::alloc::{AllocError, Global};
 use std::io::Write;

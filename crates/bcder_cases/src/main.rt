@@ -28,7 +28,7 @@ mod walks;
 mod writing;
 
 use anyhow::{Result, anyhow};
-use bcder_source::Mode;
+use bcder::{Mode, bcder_source};
 use std::alloc::Global;
 
 /// The mode of a word.

@@ -5,9 +5,8 @@ use crate::integers::{number, sign};
 use crate::numbers::{KINDS, Kind};
 use crate::steps::push;
 use anyhow::{Result, anyhow};
-use bcder_content::Primitive;
-use bcder_number::{Integer, Unsigned};
-use bcder_source::Mode;
+use bcder::decode::Primitive;
+use bcder::{Integer, Mode, Unsigned};
 use bytes::Bytes;
 use std::alloc::Global;
 

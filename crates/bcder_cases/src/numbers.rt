@@ -4,9 +4,8 @@ use crate::answers::{Answer, shown, told};
 use crate::sources::content_of;
 use crate::steps::push;
 use anyhow::{Result, anyhow};
-use bcder_content::Primitive;
-use bcder_number::{Integer, Unsigned};
-use bcder_source::{Mode, SliceSource};
+use bcder::decode::{Primitive, SliceSource};
+use bcder::{Integer, Mode, Unsigned};
 use std::alloc::Global;
 
 // A content of octets at hand.

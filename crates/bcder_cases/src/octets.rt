@@ -1,13 +1,12 @@
 //! Octet strings.
 
-ghost use Rattle.bcder_content.specs.Either.{SameContent};
+ghost use Rattle.bcder_cases.specs.bcder_content.Either.{SameContent};
 
 use crate::answers::{Answer, digits, shown, text, told};
 use crate::integers::sign;
 use anyhow::{Result, anyhow};
-use bcder_content::{Constructed, Content, Decode};
-use bcder_octets::OctetString;
-use bcder_source::{DecodeError, Mode, SliceSource, Tag};
+use bcder::decode::{Constructed, Content, Decode, DecodeError, SliceSource};
+use bcder::{Mode, OctetString, Tag};
 use bytes::Bytes;
 use std::alloc::Global;
 use std::convert::Infallible;

@@ -2,8 +2,8 @@
 
 use crate::answers::{Answer, shown};
 use anyhow::{Result, anyhow};
-use bcder_content::Decode;
-use bcder_source::{ContentError, Mode, Tag};
+use bcder::decode::{ContentError, Decode};
+use bcder::{Mode, Tag};
 use std::alloc::{AllocError, Global};
 
 // What is told of the values that are skipped: tag, form and depth.

@@ -4,12 +4,11 @@ use crate::answers::{Answer, digits, octets, plain, shown, told};
 use crate::steps::{Step, Steps, push, run};
 use crate::trickle::{Fault, Trickle};
 use anyhow::{Result, anyhow};
-use bcder_content::Primitive;
-use bcder_octets::OctetString;
-use bcder_source::{
-    BytesSource, CaptureSource, ContentError, DecodeError, IntoSource, LimitedSource, Mode, Pos,
-    SliceSource, Source, Tag,
+use bcder::decode::{
+    BytesSource, CaptureSource, ContentError, DecodeError, IntoSource, LimitedSource, Pos,
+    Primitive, SliceSource, Source,
 };
+use bcder::{Mode, OctetString, Tag};
 use bytes::Bytes;
 use std::alloc::{AllocError, AllocFailed, Global};
 use std::convert::Infallible;

@@ -2,7 +2,7 @@
 
 use crate::answers::Answer;
 use crate::tags::named_tag;
-use bcder_source::Tag;
+use bcder::Tag;
 use std::alloc::{AllocError, Global};
 
 /// A step: a name, and up to two words for it.

@@ -1,15 +1,17 @@
 //! Restricted strings.
 
-ghost use Rattle.bcder_content.specs.Either.{SameContent};
+ghost use Rattle.bcder_cases.specs.bcder_content.Either.{SameContent};
 
 use crate::answers::{Answer, digits, shown, text, told};
 use crate::integers::sign;
 use crate::octets::string;
 use anyhow::{Result, anyhow};
-use bcder_chars::{CharSet, Ia5CharSet, NumericCharSet, PrintableCharSet, Utf8CharSet};
-use bcder_content::{Constructed, Content, Decode};
-use bcder_source::{DecodeError, Mode, SliceSource, Tag};
-use bcder_strings::{RestrictedString, RestrictedStringError};
+use bcder::decode::{Constructed, Content, Decode, DecodeError, SliceSource};
+use bcder::string::{
+    CharSet, Ia5CharSet, NumericCharSet, PrintableCharSet, RestrictedString, RestrictedStringError,
+    Utf8CharSet,
+};
+use bcder::{Mode, Tag};
 use std::alloc::Global;
 use std::convert::Infallible;
 use std::fmt::Debug;

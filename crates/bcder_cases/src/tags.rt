@@ -1,9 +1,9 @@
 //! Tags and lengths, and the octets of both.
 
 use crate::answers::{Answer, digits, shown};
+use crate::bcder_source::Length;
 use anyhow::{Result, anyhow};
-use bcder_source::Length;
-use bcder_tree::Tag;
+use bcder::Tag;
 use std::alloc::Global;
 
 // The tags that have names.

@@ -2,7 +2,7 @@
 
 use crate::answers::{Answer, digits, shown};
 use anyhow::{Result, anyhow};
-use bcder_chars::{
+use bcder::string::{
     CharSet, CharSetError, Ia5CharSet, NumericCharSet, PrintableCharSet, Utf8CharSet,
 };
 use std::alloc::Global;

@@ -2,7 +2,7 @@
 
 ghost use Rattle.std.specs.Prelude.{◌-◌, ◌^◌, ◌<◌, ◌≤◌, length};
 
-use bcder_source::{Pos, Source};
+use bcder::decode::{Pos, Source};
 use bytes::Bytes;
 use std::alloc::{AllocError, Global};
 use std::error::Error;
@@ -24,6 +24,8 @@ impl Error for Fault {}
 #[derive(Drop)]
 pub struct Trickle<'a> {
     octets: &'a [u8],
+    // How many octets were taken.
+    taken: usize,
     // How many octets are at hand.
     good: usize,
     // How many requests are answered before one that fails.
@@ -41,6 +43,7 @@ impl<'a> Trickle<'a> {
     pub fn new(octets: &'a [u8]) -> Trickle<'a> {
         Trickle {
             octets,
+            taken: 0,
             good: 0,
             before: usize::MAX,
             most: usize::MAX,
@@ -77,10 +80,10 @@ impl<'a> Source for Trickle<'a> {
 
     ghost available = { λ s. s.good };
 
-    ghost position = { λ s. 0 };
+    ghost position = { λ s. s.taken };
 
     fn pos(&self) -> Pos {
-        Pos::from(0)
+        Pos::from(self.taken)
     }
 
     fn request(&mut self, len: usize) -> Result<usize, Fault> {
@@ -112,6 +115,7 @@ impl<'a> Source for Trickle<'a> {
     fn advance(&mut self, len: usize) {
         *self = Trickle {
             octets: &self.octets[len..],
+            taken: self.taken.saturating_add(len),
             good: self.good - len,
             before: self.before,
             most: self.most.saturating_sub(len),

@@ -2,15 +2,15 @@
 
 ghost use Rattle.std.specs.Prelude.{◌≡◌, map};
 ghost use Rattle.bcder_cases.specs.Flags.{flag as flag_of};
-ghost use Rattle.bcder_tree.specs.Tags.{universal};
-ghost use Rattle.bcder_written.specs.Encoded.{IsPlain, WritesPlain};
-ghost use Rattle.bcder_values.specs.Plains.{plain_spelled, plain_one};
-ghost use Rattle.bcder_written.specs.Simple.{IsOnePiece, one_piece};
+ghost use Rattle.bcder_cases.specs.bcder_tree.Tags.{universal};
+ghost use Rattle.bcder_cases.specs.bcder_written.Encoded.{IsPlain, WritesPlain};
+ghost use Rattle.bcder_cases.specs.bcder_values.Plains.{plain_spelled, plain_one};
+ghost use Rattle.bcder_cases.specs.bcder_written.Simple.{IsOnePiece, one_piece};
 
 use crate::answers::Answer;
 use crate::writing::To;
-use bcder_tree::Tag;
-use bcder_values::{
+use bcder::Tag;
+use bcder::encode::{
     Encodes, Itself, Primitive, PrimitiveContent, Values, Walk, iter, sequence, slice,
 };
 

@@ -6,14 +6,9 @@ use crate::answers::{Answer, digits, shown};
 use crate::steps::push;
 use crate::{lists, walks};
 use anyhow::{Result, anyhow};
-use bcder_bits::BitString;
-use bcder_content::Decode;
-use bcder_number::Unsigned;
-use bcder_octets::OctetString;
-use bcder_oid::Oid;
-use bcder_source::{Mode, Tag};
-use bcder_strings::{Ia5String, PrintableString};
-use bcder_values::{Octets, PrimitiveContent, Values, sequence};
+use bcder::decode::Decode;
+use bcder::encode::{Octets, PrimitiveContent, Values, sequence};
+use bcder::{BitString, Ia5String, Mode, OctetString, Oid, PrintableString, Tag, Unsigned};
 use std::alloc::Global;
 use std::io::{self, Write};
 

@@ -2,18 +2,19 @@
 use Rattle.std.proofs.Common.{◌≡◌, ℕ, ◌-◌, ◌≤◌, false, Bool, List, length, take, slice_range, Ok, Err, Option, Some, None, refl, sym, ap, ◌∙◌, subst, length-append, arith}
 use Rattle.std.proofs.lemmas.List.{take_at, take_all, take-take, length-take}
 use Rattle.std.specs.Fn.{FnOnceReturnsAtMut}
-use Rattle.bcder_source.specs.declared.limited.LimitedSource.{LimitedSource}
-use Rattle.bcder_source.specs.declared.error.DecodeError.{DecodeError}
-use Rattle.bcder_source.specs.declared.error.DecodeError.TheVariants.{Content, Source, Memory}
-use Rattle.bcder_source.specs.Errors.{OnContent}
-use Rattle.bcder_tree.specs.Tree.{Trees, SpellsAll}
-use Rattle.bcder_source.specs.Views.{View, Reading, left, limited, Moved}
+use Rattle.bcder_content.specs.bcder_source.declared.limited.LimitedSource.{LimitedSource}
+use Rattle.bcder_content.specs.bcder_source.declared.error.DecodeError.{DecodeError}
+use Rattle.bcder_content.specs.bcder_source.declared.error.DecodeError.TheVariants.{Content, Source, Memory}
+use Rattle.bcder_content.specs.bcder_source.Errors.{OnContent, OnMemory}
+use Rattle.bcder_content.specs.bcder_tree.Tree.{Trees, SpellsAll}
+use Rattle.bcder_content.specs.bcder_source.Views.{View, Reading, left, limited, Moved}
 use Rattle.bcder_content.specs.declared.constructed.Constructed.{Constructed}
 use Rattle.bcder_content.specs.Contents.{ValuesLeft, octets, TookAll}
 use Rattle.bcder_content.specs.Here.{here}
 use Rattle.bcder_content.specs.Kept.{CapturedValue, SpellsValues}
 use Rattle.bcder_content.specs.Ran.{Reader}
-use Rattle.bcder_content.specs.Captures.{rest_of, cut, ReadsSome, RefusesIn, Keeps, KeepsNone, was_refused, CapturesCases, Rebased}
+use Rattle.bcder_content.proofs.Taking.{on_content}
+use Rattle.bcder_content.specs.Captures.{rest_of, cut, ReadsSome, RefusesIn, Keeps, KeepsNone, was_refused, Wants, closure_wants, RefusedAt, refused_behind, CapturesCases, Rebased}
 
 whole : (n : ℕ) (s : List ℕ) → n ≡ length s → take n s ≡ s
 whole n s e = take_all n s (omega (arith, e))
@@ -48,10 +49,22 @@ spells_kept {v = v} {count} s bytes e =
     let n : count - 0 ≡ count = omega arith in
     sym (e ∙ ap (λ (k : ℕ). take k (left (octets v))) n ∙ front)
 
-pub captures_refused : {F D E : Type 0} {g : Reader F (Constructed Reading) (Unit {0}) D} {op : F} {v new : ValuesLeft} (e : DecodeError D) (r : DecodeError E) → RefusesIn g op v e → Rebased e r → new ≡ v → CapturesCases g op v (Err r) new
-captures_refused {g = g} {op} {v} {new} (Content x pos) r h same n = (n, subst (λ (z : DecodeError _). OnContent z (KeepsNone g op v)) (sym same.1) (was_refused x pos h.end h.ran))
-captures_refused {g = g} {op} {v} (Source x) r h same n = absurd same
-captures_refused {g = g} {op} {v} Memory r h same n = (n, subst (λ (z : DecodeError _). OnContent z (KeepsNone g op v)) (sym same) tt)
+pub captures_refused : {F D E : Type 0} {g : Reader F (Constructed Reading) (Unit {0}) D} {op : F} {v new : ValuesLeft} (start : ℕ) (e : DecodeError D) (r : DecodeError E) → RefusesIn g op v e → Rebased start e r → new ≡ v → CapturesCases g op v (Err r) new
+captures_refused {g = g} {op} {v} {new} start (Content x pos) r h same n = (n, subst (λ (z : DecodeError _). OnContent z (KeepsNone g op v)) (sym same) (was_refused x pos h.end h.ran))
+captures_refused {g = g} {op} {v} start (Source x) r h same n = absurd same
+captures_refused {g = g} {op} {v} start Memory r h same n = (n, subst (λ (z : DecodeError _). OnContent z (KeepsNone g op v)) (sym same) tt)
+
+-- A refusal by the closure is told at its place.
+pub refused_place : {F D E : Type 0} {g : Reader F (Constructed Reading) (Unit {0}) D} {op : F} {v : ValuesLeft} (start : ℕ) (e : DecodeError D) (r : DecodeError E) → RefusesIn g op v e → Rebased start e r → OnContent r (RefusedAt g op v start r)
+refused_place start (Content x pos) r h same = on_content r (refused_behind x pos h.end h.ran same)
+refused_place start (Source x) r h same = absurd same
+refused_place {g = g} {op} {v} start Memory r h same = subst (λ (z : DecodeError _). OnContent z (RefusedAt g op v start z)) (sym same) tt
+
+-- Want of memory that is told again is the closure's.
+pub wants_rebased : {F D E : Type 0} {g : Reader F (Constructed Reading) (Unit {0}) D} {op : F} {v : ValuesLeft} (start : ℕ) (e : DecodeError D) (r : DecodeError E) → RefusesIn g op v e → Rebased start e r → OnMemory r (Wants g op v)
+wants_rebased {g = g} {op} {v} start (Content x pos) r h same = subst (λ (z : DecodeError _). OnMemory z (Wants g op v)) (sym same) tt
+wants_rebased start (Source x) r h same = absurd same
+wants_rebased {g = g} {op} {v} start Memory r h same = subst (λ (z : DecodeError _). OnMemory z (Wants g op v)) (sym same) (closure_wants h.end h.ran)
 
 -- The content, over a source of which the same is left.
 abbrev pub over : ValuesLeft → View → ValuesLeft

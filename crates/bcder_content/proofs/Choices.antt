@@ -1,10 +1,10 @@
 -- Values that pass a test, mean something, or are one of two (CHOICE).
 use Rattle.std.proofs.Common.{Bool, ℕ, ◌≡◌, Result, Ok, Err, refl, sym, ap, ◌∙◌, subst, inl, inr}
 use Rattle.std.specs.Result.{IsErr, IsErrAnd}
-use Rattle.bcder_tree.specs.Tags.{TagValue, universal}
-use Rattle.bcder_tree.specs.Tree.{Tree, Trees}
-use Rattle.bcder_source.specs.Errors.{OnContent}
-use Rattle.bcder_source.specs.declared.error.DecodeError.{DecodeError}
+use Rattle.bcder_content.specs.bcder_tree.Tags.{TagValue, universal}
+use Rattle.bcder_content.specs.bcder_tree.Tree.{Tree, Trees}
+use Rattle.bcder_content.specs.bcder_source.Errors.{OnContent}
+use Rattle.bcder_content.specs.bcder_source.declared.error.DecodeError.{DecodeError}
 use Rattle.bcder_content.specs.Contents.{ValuesLeft, Unlike}
 use Rattle.bcder_content.specs.Exact.{Gives, Lacks, LacksTagged, LacksAll, ReadsAs}
 use Rattle.bcder_content.specs.Grammar.{Such, OneOf, As, Then, Tagged, One}
@@ -45,7 +45,7 @@ pub as_lacks : {A B : Type 0} {Q : Tree → A → Type 0} (f : A → B) {now : V
 as_lacks f l = record { none = λ t y p a. l.none t p.x p.is a }
 
 pub as_lacks_tagged : {A B : Type 0} {tag : TagValue} {Q : Tree → A → Type 0} (f : A → B) {now : ValuesLeft} → LacksTagged tag Q now → LacksTagged tag (As Q f) now
-as_lacks_tagged f l = record { tagged = l.tagged; lacks = as_lacks f l.lacks; goes_on = l.goes_on }
+as_lacks_tagged f l = record { tagged = l.tagged; lacks = as_lacks f l.lacks; goes_on = l.goes_on; other = l.other }
 
 -- A reader of a value is one of what the value means.
 pub as_reads : {A B C E : Type 0} (f : A → B) (Q : Tree → B → Type 0) (h : B → C) (old new : ValuesLeft) (r : Result A (DecodeError E)) → ReadsAs f Q old r new → ReadsAs (λ x. h (f x)) (As Q h) old r new

@@ -1,10 +1,10 @@
 -- A field that tells what stands behind it.
 use Rattle.std.proofs.Common.{◌≡◌, Bool, true, Result, Err, refl, subst, ◌∙◌}
 use Rattle.std.specs.Result.{IsErr, IsErrAnd}
-use Rattle.bcder_tree.specs.declared.mode.Mode.{Mode}
-use Rattle.bcder_tree.specs.Tree.{Tree, Trees, more}
-use Rattle.bcder_source.specs.Errors.{OnContent}
-use Rattle.bcder_source.specs.declared.error.DecodeError.{DecodeError}
+use Rattle.bcder_content.specs.bcder_tree.declared.mode.Mode.{Mode}
+use Rattle.bcder_content.specs.bcder_tree.Tree.{Tree, Trees, more}
+use Rattle.bcder_content.specs.bcder_source.Errors.{OnContent}
+use Rattle.bcder_content.specs.bcder_source.declared.error.DecodeError.{DecodeError}
 use Rattle.bcder_content.specs.Contents.{ValuesLeft, Whole}
 use Rattle.bcder_content.specs.Exact.{Gives, Lacks, LacksAll}
 use Rattle.bcder_content.specs.Grammar.{One}

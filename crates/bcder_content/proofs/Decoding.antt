@@ -2,12 +2,12 @@
 use Rattle.std.proofs.Common.{◌≡◌, ℕ, true, false, List, Result, Ok, Err, None, refl, sym, ap, ◌∙◌, subst}
 use denote.Ref.{MutBor}
 use Rattle.std.specs.Fn.{FnOnceReturnsAtMut}
-use Rattle.bcder_tree.specs.declared.mode.Mode.{Mode}
-use Rattle.bcder_source.specs.declared.limited.LimitedSource.{LimitedSource}
-use Rattle.bcder_source.specs.declared.error.DecodeError.{DecodeError}
-use Rattle.bcder_source.specs.declared.error.DecodeError.TheVariants.{Content, Source, Memory}
-use Rattle.bcder_tree.specs.Tree.{Tree}
-use Rattle.bcder_source.specs.Views.{left}
+use Rattle.bcder_content.specs.bcder_tree.declared.mode.Mode.{Mode}
+use Rattle.bcder_content.specs.bcder_source.declared.limited.LimitedSource.{LimitedSource}
+use Rattle.bcder_content.specs.bcder_source.declared.error.DecodeError.{DecodeError}
+use Rattle.bcder_content.specs.bcder_source.declared.error.DecodeError.TheVariants.{Content, Source, Memory}
+use Rattle.bcder_content.specs.bcder_tree.Tree.{Tree}
+use Rattle.bcder_content.specs.bcder_source.Views.{left}
 use Rattle.bcder_header.specs.declared.ending.Ending.TheVariants.{Unbounded}
 use Rattle.bcder_content.specs.declared.constructed.Constructed.{Constructed}
 use Rattle.bcder_content.specs.Contents.{ValuesLeft, octets}

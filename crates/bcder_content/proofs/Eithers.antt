@@ -1,9 +1,9 @@
 -- Parts of readings by closures of any kind.
 use Rattle.std.proofs.Common.{◌≡◌, ◌↔◌, Bool, true, false, IsTrue, Ok, Err, sym, ◌∙◌, subst}
-use Rattle.bcder_tree.specs.declared.mode.Mode.{Mode}
-use Rattle.bcder_source.specs.declared.error.DecodeError.{DecodeError}
-use Rattle.bcder_source.specs.Errors.{OnlyContent}
-use Rattle.bcder_tree.specs.Tags.{TagValue}
+use Rattle.bcder_content.specs.bcder_tree.declared.mode.Mode.{Mode}
+use Rattle.bcder_content.specs.bcder_source.declared.error.DecodeError.{DecodeError}
+use Rattle.bcder_content.specs.bcder_source.Errors.{OnlyContent}
+use Rattle.bcder_content.specs.bcder_tree.Tags.{TagValue}
 use Rattle.bcder_header.specs.declared.ending.Ending.{Ending}
 use Rattle.bcder_header.specs.declared.ending.Span.{Span}
 use Rattle.bcder_content.specs.Contents.{ValuesLeft, octets, Ended, form_of}

@@ -1,14 +1,14 @@
 -- Octets have one text of a grammar in front at most, and it is read in one way, whatever the mode.
 use Rattle.std.proofs.Common.{◌≡◌, ℕ, true, List, [], ◌∷◌, ◌++◌, length, refl, sym, ap, ◌∙◌, subst, append_assoc, length-append, arith}
-use Rattle.bcder_tree.specs.declared.mode.Mode.{Mode}
-use Rattle.bcder_tree.specs.declared.mode.Mode.TheVariants.{Der}
-use Rattle.bcder_tree.specs.Tags.{TagValue, IsTag}
-use Rattle.bcder_tree.specs.Octets.{IsIdentifier}
-use Rattle.bcder_tree.specs.Tree.{Tree, Trees, Spells, IsHeader, IsConstructed, definite, indefinite}
-use Rattle.bcder_tree.specs.Front.{Front, Fields, Splits}
-use Rattle.bcder_tree.proofs.Unique.{by_length}
-use Rattle.bcder_tree.proofs.Parts.{Opens, Ends, one_split, not_mixed, one_open}
-use Rattle.bcder_tree.proofs.Trees.{one_tree, one_trees}
+use Rattle.bcder_content.specs.bcder_tree.declared.mode.Mode.{Mode}
+use Rattle.bcder_content.specs.bcder_tree.declared.mode.Mode.TheVariants.{Der}
+use Rattle.bcder_content.specs.bcder_tree.Tags.{TagValue, IsTag}
+use Rattle.bcder_content.specs.bcder_tree.Octets.{IsIdentifier}
+use Rattle.bcder_content.specs.bcder_tree.Tree.{Tree, Trees, Spells, IsHeader, IsConstructed, definite, indefinite}
+use Rattle.bcder_content.specs.bcder_tree.Front.{Front, Fields, Splits}
+use Rattle.bcder_content.proofs.of_bcder_tree.Unique.{by_length}
+use Rattle.bcder_content.proofs.of_bcder_tree.Parts.{Opens, Ends, one_split, not_mixed, one_open}
+use Rattle.bcder_content.proofs.of_bcder_tree.Trees.{one_tree, one_trees}
 use Rattle.bcder_content.specs.Grammar.{One, OneAll}
 use Rattle.bcder_content.specs.Texts.{SpellsOf, InOrder, WithOctets, Wraps, Joins, NoOctets, InFront, ReadsFront}
 

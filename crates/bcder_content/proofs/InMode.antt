@@ -3,11 +3,11 @@ use Rattle.std.proofs.Common.{map, ◌≡◌, ℕ, Bool, true, false, List, [], 
 use Rattle.std.specs.Result.{IsErr, IsErrAnd}
 use Rattle.std.specs.Option.{option_map, unwrap_or}
 use denote.Ref.{MutBor}
-use Rattle.bcder_tree.specs.declared.mode.Mode.{Mode}
-use Rattle.bcder_tree.specs.Tags.{TagValue}
-use Rattle.bcder_tree.specs.Tree.{Tree, Trees}
-use Rattle.bcder_source.specs.Errors.{OnContent}
-use Rattle.bcder_source.specs.declared.error.DecodeError.{DecodeError}
+use Rattle.bcder_content.specs.bcder_tree.declared.mode.Mode.{Mode}
+use Rattle.bcder_content.specs.bcder_tree.Tags.{TagValue}
+use Rattle.bcder_content.specs.bcder_tree.Tree.{Tree, Trees}
+use Rattle.bcder_content.specs.bcder_source.Errors.{OnContent}
+use Rattle.bcder_content.specs.bcder_source.declared.error.DecodeError.{DecodeError}
 use Rattle.bcder_content.specs.declared.constructed.Constructed.{Constructed}
 use Rattle.bcder_content.specs.Contents.{ValuesLeft, Unlike, Ended}
 use Rattle.bcder_content.specs.Exact.{Gives, Lacks, LacksTagged, LacksAll, GivesAll, ReadsAs, ReadsOptAs}

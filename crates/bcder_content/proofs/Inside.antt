@@ -2,13 +2,13 @@
 use Rattle.std.proofs.Common.{◌≡◌, ℕ, true, false, List, Result, Ok, Err, Option, Some, None, refl, sym, ap, ◌∙◌, subst}
 use Rattle.std.specs.Fn.{FnOnceReturnsAtMut}
 use denote.Ref.{MutBor}
-use Rattle.bcder_tree.specs.declared.mode.Mode.{Mode}
-use Rattle.bcder_source.specs.declared.error.DecodeError.{DecodeError}
-use Rattle.bcder_source.specs.declared.error.DecodeError.TheVariants.{Content, Source, Memory}
-use Rattle.bcder_source.specs.Errors.{OnContent}
-use Rattle.bcder_tree.specs.Tags.{TagValue}
-use Rattle.bcder_tree.specs.Tree.{Tree, Trees, primitive, constructed, SpellsAll}
-use Rattle.bcder_source.specs.Views.{Moved}
+use Rattle.bcder_content.specs.bcder_tree.declared.mode.Mode.{Mode}
+use Rattle.bcder_content.specs.bcder_source.declared.error.DecodeError.{DecodeError}
+use Rattle.bcder_content.specs.bcder_source.declared.error.DecodeError.TheVariants.{Content, Source, Memory}
+use Rattle.bcder_content.specs.bcder_source.Errors.{OnContent}
+use Rattle.bcder_content.specs.bcder_tree.Tags.{TagValue}
+use Rattle.bcder_content.specs.bcder_tree.Tree.{Tree, Trees, primitive, constructed, SpellsAll}
+use Rattle.bcder_content.specs.bcder_source.Views.{Moved}
 use Rattle.bcder_header.specs.declared.ending.Ending.{Ending}
 use Rattle.bcder_header.specs.declared.ending.Span.{Span}
 use Rattle.bcder_header.specs.declared.ending.Span.TheVariants.{Until, ToEnd}
@@ -23,7 +23,7 @@ use Rattle.bcder_content.specs.Here.{here, plain}
 use Rattle.bcder_content.specs.Stops.{EndsUnread}
 use Rattle.bcder_content.specs.Ran.{Enters, Leaves, EntersOctets, LeavesOctets, Comes, Reader, RanRefused, no_value, refused, goes_on, RanCases, Ran, RanOptCases, RanOpt, PlainRefused, no_octets, refused_octets, octets_go_on, PlainRanCases, PlainRan, PlainRanOptCases, PlainRanOpt}
 use Rattle.bcder_header.proofs.Opening.{constructed_closed, primitive_closed, constructed_content, primitive_content, ends_here}
-use Rattle.bcder_content.proofs.Took.{took_front}
+use Rattle.bcder_content.proofs.Took.{took_front, one_took}
 
 -- Each call of the closure, in that mode, reads the content exactly.
 pub record ReadsEach {F S T B E : Type 0} (m : Mode) (rest : S → List ℕ) (g : Reader F (Constructed S) T E) (op : F) (f : T → B) (P : Trees → B → Type 0) : Type 0 where
@@ -63,6 +63,17 @@ pub took_inside : {old inner end new : ValuesLeft} {tag : TagValue} {span : Span
 took_inside {old} {inner} {end} {new} {tag} {span} {ts} n k l =
     let c = constructed_closed n.opens (subst (λ (m : Mode). SpellsAll m ts k.text) n.mode k.spelled) k.goes.moved l.closes in
     record { text = c.text; spelled = c.spelled; goes = record { moved = c.moved; mode = l.mode; end = l.ending; before = n.before; behind = l.behind } }
+
+-- Whoever goes into a value that can be taken finds its values, and leaves it where taking it ends.
+pub walked : {old inner new : ValuesLeft} {tag : TagValue} {span : Span} (ts : Trees) → Enters old true tag span inner → Took old (constructed tag ts) new → (end : ValuesLeft) × TookAll inner ts end × Leaves old span end new
+unfolding whole_inside
+walked {old} {inner} {new} {tag} {span} ts n k =
+    let c = constructed_content n.opens (took_front k) in
+    let w = whole_inside ts n (new, k) in
+    let behind : ValuesLeft = record { mode = old.mode; end = old.end; failed = false; rest = c.new.rest; limit = c.new.limit } in
+    let leaves : Leaves old span w.behind behind = record { closes = c.closes; mode = refl; ending = refl; sound = refl; behind = refl } in
+    let same : behind ≡ new = (one_took (took_inside n w.took leaves) k).1 in
+    (w.behind, w.took, subst (λ (v : ValuesLeft). Leaves old span w.behind v) same leaves)
 
 inside_lacks : {B : Type 0} {P : Trees → B → Type 0} {old inner : ValuesLeft} {tag : TagValue} {span : Span} → Enters old true tag span inner → LacksAll P inner → Lacks (Inside tag P) old
 inside_lacks {B} {P} {old} n l = record { none = λ t x p a. l.none p.values x p.is (whole_inside p.values n (subst (Ahead old) p.whole a)) }
@@ -104,7 +115,7 @@ exact_each {old = old} {new} {tag} {r} exact h = inside_cases old new tag r exac
 
 -- A refusal where a value of that tag comes.
 pub tagged_lacks : {E B : Type 0} (P : Tree → B → Type 0) (old : ValuesLeft) (tag : TagValue) (e : DecodeError E) → OnContent e (Comes old tag) → OnContent e (Lacks P old) → OnContent e (LacksTagged tag P old)
-tagged_lacks P old tag (Content x pos) c l = record { tagged = c.tagged; lacks = l; goes_on = c.goes_on }
+tagged_lacks P old tag (Content x pos) c l = record { tagged = c.tagged; lacks = l; goes_on = c.goes_on; other = c.other }
 tagged_lacks P old tag (Source x) c l = tt
 tagged_lacks P old tag Memory c l = tt
 

@@ -1,12 +1,12 @@
 -- A value whose octets are kept, and read again.
 use Rattle.std.proofs.Common.{◌≡◌, ℕ, List, [], sym, subst, append-nil}
-use Rattle.bcder_tree.specs.declared.mode.Mode.{Mode}
-use Rattle.bcder_tree.specs.Tree.{Tree, Spells}
-use Rattle.bcder_tree.specs.Front.{Front}
-use Rattle.bcder_tree.proofs.Trees.{one_tree}
-use Rattle.bcder_source.specs.Errors.{OnContent, SameCause}
-use Rattle.bcder_source.specs.declared.error.DecodeError.{DecodeError}
-use Rattle.bcder_source.specs.declared.error.DecodeError.TheVariants.{Content, Source, Memory}
+use Rattle.bcder_content.specs.bcder_tree.declared.mode.Mode.{Mode}
+use Rattle.bcder_content.specs.bcder_tree.Tree.{Tree, Spells}
+use Rattle.bcder_content.specs.bcder_tree.Front.{Front}
+use Rattle.bcder_content.proofs.of_bcder_tree.Trees.{one_tree}
+use Rattle.bcder_content.specs.bcder_source.Errors.{OnContent, SameCause}
+use Rattle.bcder_content.specs.bcder_source.declared.error.DecodeError.{DecodeError}
+use Rattle.bcder_content.specs.bcder_source.declared.error.DecodeError.TheVariants.{Content, Source, Memory}
 use Rattle.bcder_content.specs.Contents.{ValuesLeft}
 use Rattle.bcder_content.specs.Exact.{Gives, Lacks}
 use Rattle.bcder_content.specs.Grammar.{Exactly}

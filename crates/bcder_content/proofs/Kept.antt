@@ -1,29 +1,30 @@
 -- A closure that reads values exactly, where their octets are kept.
-use Rattle.std.proofs.Common.{◌≡◌, ℕ, true, false, List, [], ◌∷◌, length, Result, Ok, Err, IfOk, IfErr, Option, Some, None, refl, sym, ap, ◌∙◌, subst, arith}
+use Rattle.std.proofs.Common.{◌≡◌, ℕ, ◌≤◌, true, false, List, [], ◌∷◌, length, Result, Ok, Err, IfOk, IfErr, Option, Some, None, refl, sym, ap, ◌∙◌, subst, arith}
 use Rattle.std.proofs.lemmas.List.{append_cancel_left, append_cancel_right, take-take}
-use Rattle.bcder_tree.specs.declared.mode.Mode.{Mode}
-use Rattle.bcder_source.specs.declared.error.DecodeError.{DecodeError}
-use Rattle.bcder_source.specs.declared.error.DecodeError.TheVariants.{Content, Source, Memory}
-use Rattle.bcder_source.specs.Errors.{OnContent}
-use Rattle.bcder_tree.specs.Tree.{Tree, Trees, Spells, SpellsAll}
-use Rattle.bcder_source.specs.Views.{Reading, left, limited}
-use Rattle.bcder_source.proofs.Moves.{left_moved}
+use Rattle.bcder_content.specs.bcder_tree.declared.mode.Mode.{Mode}
+use Rattle.bcder_content.specs.bcder_source.declared.error.DecodeError.{DecodeError}
+use Rattle.bcder_content.specs.bcder_source.declared.error.DecodeError.TheVariants.{Content, Source, Memory}
+use Rattle.bcder_content.specs.bcder_source.Errors.{OnContent}
+use Rattle.bcder_content.specs.bcder_tree.Tree.{Tree, Trees, none, more, Spells, SpellsAll}
+use Rattle.bcder_content.specs.bcder_source.Views.{Reading, left, limited}
+use Rattle.bcder_content.proofs.of_bcder_source.Moves.{left_moved}
 use Rattle.bcder_header.specs.declared.ending.Ending.{Ending}
 use Rattle.bcder_header.specs.declared.ending.Ending.TheVariants.{Definite, Indefinite, Unbounded}
 use Rattle.bcder_content.specs.declared.constructed.Constructed.{Constructed}
 use Rattle.bcder_content.specs.Contents.{ValuesLeft, octets, Goes, Took, TookAll, Ahead, EndsHere, Ended, Whole}
 use Rattle.bcder_content.specs.Skips.{SkipsAll, NotWhole}
 use denote.Ref.{MutBor}
-use Rattle.bcder_source.specs.declared.error.ContentError.{ContentError}
-use Rattle.bcder_source.specs.declared.pos.Pos.{Pos}
+use Rattle.bcder_content.specs.bcder_source.declared.error.ContentError.{ContentError}
+use Rattle.bcder_content.specs.bcder_source.declared.pos.Pos.{Pos}
 use Rattle.bcder_content.specs.Exact.{LacksAll, ReadsAs, ReadsAllAs}
 use Rattle.bcder_content.specs.Grammar.{Any, Exactly, ExactlyAll}
 use Rattle.bcder_content.specs.Here.{here}
 use Rattle.bcder_content.specs.Kept.{CapturedValue}
 use Rattle.bcder_content.specs.Ran.{Reader, RanIn}
-use Rattle.bcder_content.specs.Captures.{rest_of, cut, Keeps, was_failed, was_refused, CapturesCases, Captures, CapturesAll}
+use Rattle.bcder_content.specs.Captures.{rest_of, cut, Keeps, ReadsSome, was_failed, was_refused, Wants, closure_wants, octets_want, CapturesCases, Captures, CapturesAll}
 use Rattle.bcder_header.proofs.Opening.{front_moves, cancel_more}
 use Rattle.bcder_content.proofs.Inside.{ReadsEach, each_met}
+use Rattle.bcder_content.proofs.Took.{ended_none, more_splits}
 
 -- Cutting at the limit changes nothing of what may be read.
 limited_twice : (l : Option ℕ) (s : List ℕ) → limited l (limited l s) ≡ limited l s
@@ -114,6 +115,27 @@ kept_spelled {v = v} {c = c} {t} h k = subst (Spells v.mode t) (same_text k.goes
 
 pub ahead_cut : {v : ValuesLeft} {t : Tree} → Ahead v t → Ahead (cut v) t
 ahead_cut a = (cut a.0, record { text = a.1.text; spelled = a.1.spelled; goes = goes_cut a.1.goes })
+
+-- The very octets that were kept were read.
+pub keeps_goes : {F D E : Type 0} {g : Reader F (Constructed Reading) (Unit {0}) D} {op : F} {v new : ValuesLeft} (r : Result CapturedValue (DecodeError E)) → Captures g op v r new → IfOk r (λ c. Goes v c.octets new)
+keeps_goes (Ok c) h = h.cases.goes
+keeps_goes (Err e) h = tt
+
+-- Where octets of values were read the content hadn't ended.
+some_unended : {F D : Type 0} {g : Reader F (Constructed Reading) (Unit {0}) D} {op : F} {v : ValuesLeft} {count : ℕ} → ReadsSome g op v count → 1 ≤ count → Ended v → ⊥
+some_unended {v = v} {count} s some e = at s.trees s.took s.long
+  where
+    at : (ts : Trees) (k : TookAll (cut v) ts s.end) → length k.text ≡ count → ⊥
+    at none k long = let t : length k.text ≡ 0 = ap length k.spelled in let n : ⊥ = omega (arith, t, long, some) in n
+    at (more t ts) k long = ended_none (ended_cut e) (more_splits k).first
+
+-- Where the closure wants no memory at the end of a content, none is wanted there.
+pub wants_unended : {F D : Type 0} {g : Reader F (Constructed Reading) (Unit {0}) D} {op : F} {v : ValuesLeft} → ((p q : MutBor (Constructed Reading)) → g.post op (p, tt) (Err Memory, (q, tt)) → Ended (here rest_of p.now) → ⊥) → Wants g op v → Ended v → ⊥
+wants_unended each w e =
+    elim w [
+      | closure_wants end ran ↦ ran_in (λ a b. Ended a → ⊥) each ran (ended_cut e)
+      | octets_want count some s ↦ some_unended s some e
+    ]
 
 -- Capturing with a closure that reads one value of any kind.
 pub record AnyEach {F D : Type 0} (g : Reader F (Constructed Reading) (Unit {0}) D) (op : F) : Type 0 where

@@ -1,10 +1,10 @@
 -- A closure that reads one value exactly, where its octets are kept.
 use Rattle.std.proofs.Common.{◌≡◌, true, false, Result, Ok, Err, refl, sym, ap, ◌∙◌, subst}
-use Rattle.bcder_tree.specs.declared.mode.Mode.{Mode}
-use Rattle.bcder_source.specs.declared.error.DecodeError.{DecodeError}
-use Rattle.bcder_source.specs.declared.error.DecodeError.TheVariants.{Content, Source, Memory}
-use Rattle.bcder_tree.specs.Tree.{Tree, Spells}
-use Rattle.bcder_source.specs.Views.{Reading}
+use Rattle.bcder_content.specs.bcder_tree.declared.mode.Mode.{Mode}
+use Rattle.bcder_content.specs.bcder_source.declared.error.DecodeError.{DecodeError}
+use Rattle.bcder_content.specs.bcder_source.declared.error.DecodeError.TheVariants.{Content, Source, Memory}
+use Rattle.bcder_content.specs.bcder_tree.Tree.{Tree, Spells}
+use Rattle.bcder_content.specs.bcder_source.Views.{Reading}
 use Rattle.bcder_content.specs.declared.constructed.Constructed.{Constructed}
 use Rattle.bcder_content.specs.Contents.{ValuesLeft}
 use Rattle.bcder_content.specs.Exact.{Lacks, ReadsAs}

@@ -28,3 +28,7 @@ pub mod Gathering
 pub mod Choosing
 pub mod Keeping
 pub mod Fronts
+pub mod of_bcder_header
+pub mod of_bcder_primitive
+pub mod of_bcder_source
+pub mod of_bcder_tree

@@ -1,8 +1,8 @@
 -- Values of which only some mean something, and readers of what values mean.
 use Rattle.std.proofs.Common.{◌≡◌, Option, Some, None, Result, Ok, Err, subst}
-use Rattle.bcder_tree.specs.Tags.{TagValue}
-use Rattle.bcder_tree.specs.Tree.{Tree}
-use Rattle.bcder_source.specs.declared.error.DecodeError.{DecodeError}
+use Rattle.bcder_content.specs.bcder_tree.Tags.{TagValue}
+use Rattle.bcder_content.specs.bcder_tree.Tree.{Tree}
+use Rattle.bcder_content.specs.bcder_source.declared.error.DecodeError.{DecodeError}
 use Rattle.bcder_content.specs.Contents.{ValuesLeft}
 use Rattle.bcder_content.specs.Exact.{Gives, Lacks, LacksTagged, ReadsOptAs}
 use Rattle.bcder_content.specs.Grammar.{As, One, Tagged}
@@ -29,7 +29,7 @@ means_lacks l = record { none = λ t y p a. l.none t p.x p.is a }
 
 pub means_lacks_tagged : {A B : Type 0} {tag : TagValue} {Q : Tree → A → Type 0} {R : A → B → Type 0} {now : ValuesLeft}
     → LacksTagged tag Q now → LacksTagged tag (Means Q R) now
-means_lacks_tagged l = record { tagged = l.tagged; lacks = means_lacks l.lacks; goes_on = l.goes_on }
+means_lacks_tagged l = record { tagged = l.tagged; lacks = means_lacks l.lacks; goes_on = l.goes_on; other = l.other }
 
 -- A value was read that means nothing.
 pub means_refused : {A B : Type 0} {Q : Tree → A → Type 0} {R : A → B → Type 0} {now new : ValuesLeft} {x : A}

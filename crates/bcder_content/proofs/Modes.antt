@@ -1,9 +1,9 @@
 -- Fields whose grammar names the mode, behind others: the mode is that of the beginning, since no field changes it.
 use Rattle.std.proofs.Common.{◌≡◌, Option, Result, subst}
-use Rattle.bcder_tree.specs.declared.mode.Mode.{Mode}
-use Rattle.bcder_tree.specs.Tags.{TagValue}
-use Rattle.bcder_tree.specs.Tree.{Tree, Trees}
-use Rattle.bcder_source.specs.declared.error.DecodeError.{DecodeError}
+use Rattle.bcder_content.specs.bcder_tree.declared.mode.Mode.{Mode}
+use Rattle.bcder_content.specs.bcder_tree.Tags.{TagValue}
+use Rattle.bcder_content.specs.bcder_tree.Tree.{Tree, Trees}
+use Rattle.bcder_content.specs.bcder_source.declared.error.DecodeError.{DecodeError}
 use Rattle.bcder_content.specs.Contents.{ValuesLeft}
 use Rattle.bcder_content.specs.Exact.{Gives, Lacks, LacksTagged, ReadsAllAs}
 use Rattle.bcder_content.proofs.Forests.{Perhaps}

@@ -1,8 +1,8 @@
 -- Values in front, and values that are next.
 use Rattle.std.proofs.Common.{◌≡◌, ℕ, false, List, refl}
-use Rattle.bcder_tree.specs.Tree.{Tree}
-use Rattle.bcder_tree.specs.Front.{Front}
-use Rattle.bcder_source.specs.Views.{left}
+use Rattle.bcder_content.specs.bcder_tree.Tree.{Tree}
+use Rattle.bcder_content.specs.bcder_tree.Front.{Front}
+use Rattle.bcder_content.specs.bcder_source.Views.{left}
 use Rattle.bcder_content.specs.Contents.{ValuesLeft, octets, Ahead}
 use Rattle.bcder_header.proofs.Opening.{front_moves}
 

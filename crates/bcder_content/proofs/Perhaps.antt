@@ -1,18 +1,19 @@
 -- How readers of a value that may be next are proved, and loops over them.
 use Rattle.std.proofs.Common.{◌≡◌, List, [], Option, Some, None, Result, Ok, Err, refl, sym, ap, ◌∙◌, subst, append-nil}
 use Rattle.std.specs.Result.{IsErr, IsErrAnd}
-use Rattle.bcder_tree.specs.Tags.{TagValue}
-use Rattle.bcder_tree.specs.Tree.{Tree, Trees, none}
-use Rattle.bcder_source.specs.Errors.{OnContent}
-use Rattle.bcder_source.specs.declared.error.DecodeError.{DecodeError}
+use Rattle.bcder_content.specs.bcder_tree.Tags.{TagValue}
+use Rattle.bcder_content.specs.bcder_tree.Tree.{Tree, Trees, none}
+use Rattle.bcder_content.specs.bcder_source.Errors.{OnContent}
+use Rattle.bcder_content.specs.bcder_source.declared.error.DecodeError.{DecodeError}
 use Rattle.bcder_content.specs.Contents.{ValuesLeft, Ended, Unlike, tag_of}
 use Rattle.bcder_content.specs.Exact.{Gives, Lacks, LacksTagged, GivesAll, ReadsOptAs}
 use Rattle.bcder_content.specs.Grammar.{OneOf, Many, Such, As, Tagged, One}
 use Rattle.bcder_content.specs.Perhaps.{NoneNext, ReadsIfAs}
 use Rattle.bcder_content.proofs.Choices.{as_lacks, both_lack, choice_lacks, second_lacks, such_lacks, such_refused}
 use Rattle.bcder_content.proofs.Forests.{Listing, many_lacks, unlike_lacks}
-use Rattle.bcder_content.proofs.Taking.{weaker}
-use Rattle.bcder_content.proofs.Took.{took_none, ended_none, one_took}
+use Rattle.bcder_content.proofs.Taking.{weaker, tree_of_tag}
+use Rattle.bcder_header.proofs.Windows.{one_tag}
+use Rattle.bcder_content.proofs.Took.{took_none, took_front, ended_none, one_took}
 
 -- What reading a value that may be next says.
 abbrev pub PerhapsOf : {A B : Type 0} → (A → B) → (Tree → B → Type 0) → ValuesLeft → Option A → ValuesLeft → Type 0
@@ -43,13 +44,14 @@ as_none_next f old new p = (p.0, record { sound = p.1.sound; lacks = as_lacks f 
 
 -- A value of that tag that doesn't pass a test.
 pub such_lacks_tagged : {A : Type 0} {tag : TagValue} {Q : Tree → A → Type 0} {passes : A → Type 0} {now : ValuesLeft} → LacksTagged tag Q now → LacksTagged tag (Such Q passes) now
-such_lacks_tagged l = record { tagged = l.tagged; lacks = such_lacks l.lacks; goes_on = l.goes_on }
+such_lacks_tagged l = record { tagged = l.tagged; lacks = such_lacks l.lacks; goes_on = l.goes_on; other = l.other }
 
 pub such_refused_tagged : {A : Type 0} {tag : TagValue} {Q : Tree → A → Type 0} {passes : A → Type 0} {now new : ValuesLeft} {x : A} → Tagged tag Q → One Q → Gives Q now x new → (passes x → ⊥) → LacksTagged tag (Such Q passes) now
 such_refused_tagged {x = x} g one given refuses = record {
   tagged = λ u a. ap tag_of (sym (one_took given.took a.1).0) ∙ g.tagged given.tree x given.is;
   lacks = such_refused one given refuses;
   goes_on = λ e. ended_none e given.took;
+  other = λ sound o. o.apart (one_tag o.front (tree_of_tag given.tree (took_front given.took)) ∙ g.tagged given.tree x given.is);
 }
 
 -- Of a choice, none of the first is next, and then none of the second; or one of the second's tag isn't of it.

@@ -1,7 +1,7 @@
 -- Simple values that are read in one way.
 use Rattle.std.proofs.Common.{◌≡◌, ℕ, Bool, true, false, List, [], ◌∷◌, refl, sym, ◌∙◌, subst}
-use Rattle.bcder_tree.specs.declared.mode.Mode.{Mode}
-use Rattle.bcder_tree.specs.declared.mode.Mode.TheVariants.{Ber, Cer, Der}
+use Rattle.bcder_content.specs.bcder_tree.declared.mode.Mode.{Mode}
+use Rattle.bcder_content.specs.bcder_tree.declared.mode.Mode.TheVariants.{Ber, Cer, Der}
 use Rattle.bcder_primitive.specs.Values.{IsTruth, IsBoolean}
 use Rattle.bcder_content.specs.Grammar.{OneOctets, One}
 use Rattle.bcder_content.specs.Words.{Itself}

@@ -1,25 +1,25 @@
 -- What the parts of a reading by a closure say of the values that are next.
-use Rattle.std.proofs.Common.{◌≡◌, ℕ, Bool, true, false, List, [], ◌∷◌, ◌++◌, IsTrue, IsFalse, ◌↔◌, refl, sym, ap, ◌∙◌, subst, append_assoc}
-use Rattle.bcder_tree.specs.declared.mode.Mode.{Mode}
-use Rattle.bcder_source.specs.declared.error.DecodeError.{DecodeError}
-use Rattle.bcder_source.specs.declared.error.ContentError.{ContentError}
-use Rattle.bcder_source.specs.declared.pos.Pos.{Pos}
-use Rattle.bcder_source.specs.declared.error.DecodeError.TheVariants.{Content, Source, Memory}
-use Rattle.bcder_source.specs.Errors.{OnContent, OnlyContent}
-use Rattle.bcder_tree.specs.Tags.{TagValue}
-use Rattle.bcder_tree.specs.Reads.{Begins, Lacks, IsEnd}
-use Rattle.bcder_tree.specs.Tree.{Tree}
-use Rattle.bcder_tree.specs.Front.{Front}
-use Rattle.bcder_tree.proofs.Parts.{Ends, identifier_goes_on}
-use Rattle.bcder_source.specs.Views.{View, left, Moved}
+use Rattle.std.proofs.Common.{◌≡◌, inl, inr, ℕ, Bool, true, false, List, [], ◌∷◌, ◌++◌, IsTrue, IsFalse, ◌↔◌, refl, sym, ap, ◌∙◌, subst, append_assoc}
+use Rattle.bcder_content.specs.bcder_tree.declared.mode.Mode.{Mode}
+use Rattle.bcder_content.specs.bcder_source.declared.error.DecodeError.{DecodeError}
+use Rattle.bcder_content.specs.bcder_source.declared.error.ContentError.{ContentError}
+use Rattle.bcder_content.specs.bcder_source.declared.pos.Pos.{Pos}
+use Rattle.bcder_content.specs.bcder_source.declared.error.DecodeError.TheVariants.{Content, Source, Memory}
+use Rattle.bcder_content.specs.bcder_source.Errors.{OnContent, OnlyContent}
+use Rattle.bcder_content.specs.bcder_tree.Tags.{TagValue}
+use Rattle.bcder_content.specs.bcder_tree.Reads.{Begins, Lacks, IsEnd}
+use Rattle.bcder_content.specs.bcder_tree.Tree.{Tree}
+use Rattle.bcder_content.specs.bcder_tree.Front.{Front}
+use Rattle.bcder_content.proofs.of_bcder_tree.Parts.{Ends, identifier_goes_on}
+use Rattle.bcder_content.specs.bcder_source.Views.{View, left, Moved}
 use Rattle.bcder_header.specs.declared.ending.Span.{Span}
-use Rattle.bcder_content.specs.Contents.{ValuesLeft, octets, Ended, Unlike, tag_of, form_of}
-use Rattle.bcder_header.specs.Openings.{Closes, NoValue, OfTag, NotOfTag}
+use Rattle.bcder_content.specs.Contents.{ValuesLeft, octets, Ended, Unlike, Untold, tag_of, form_of}
+use Rattle.bcder_header.specs.Openings.{Closes, NoValue, OfTag, OfOther}
 use Rattle.bcder_content.specs.Ran.{Enters, NoneOf, Comes}
-use Rattle.bcder_content.specs.Stops.{NoneAhead, EndsUnread}
+use Rattle.bcder_content.specs.Stops.{NoneAhead, EndsUnread, NamesTag}
 use Rattle.bcder_header.proofs.Opening.{tree_head, opens_tag, front_moves, here_ends}
 use Rattle.bcder_header.proofs.Windows.{Shown, one_tag, no_end_in, shown_whole}
-use Rattle.bcder_content.proofs.Took.{took_front, ended_front}
+use Rattle.bcder_content.proofs.Took.{took_front, ended_front, ended_none}
 
 -- A fact for another reason.
 pub weaker : {E P Q : Type 0} (e : DecodeError E) → (P → Q) → OnContent e P → OnContent e Q
@@ -78,20 +78,47 @@ pub comes_of : {v : ValuesLeft} {tag : TagValue} → OfTag tag (left (octets v))
 comes_of {v} {tag} o = record {
   tagged = λ t a. one_tag (tree_of_tag t (took_front a.1)) o;
   goes_on = goes_on o;
+  other = λ sound w. w.apart (one_tag w.front o);
 }
 
-pub unlike_of : {v : ValuesLeft} {tag : TagValue} → v.failed ≡ false → NotOfTag tag (left (octets v)) → Unlike v tag
-unlike_of {v} {tag} sound n = record {
+-- Identifier octets of another tag are next, or the content has ended.
+pub unlike_other : {v : ValuesLeft} {tag : TagValue} → v.failed ≡ false → OfOther tag (left (octets v)) → Unlike v tag
+unlike_other sound o = record {
   sound = sound;
-  none = λ t a e. n.none (subst (λ (z : TagValue). OfTag z (left (octets v))) e (tree_of_tag t (took_front a.1)));
+  none = λ t a e. o.apart (one_tag o.front (tree_of_tag t (took_front a.1)) ∙ e);
+  other = inr o;
+}
+
+pub unlike_ended : {v : ValuesLeft} {tag : TagValue} → Ended v → Unlike v tag
+unlike_ended e = record { sound = e.sound; none = λ t a n. ended_none e a.1; other = inl e }
+
+-- Where no identifier octets are next, no value is.
+pub untold_none : {v : ValuesLeft} → Untold v → NoneAhead v
+untold_none u = record { none = λ t a. (u.none a.1.goes.before).none (tag_of t) (tree_of_tag t (took_front a.1)) }
+
+pub untold_comes : {v : ValuesLeft} {tag : TagValue} → Untold v → Comes v tag
+untold_comes u = record {
+  tagged = λ t a. absurd ((untold_none u).none t a);
+  goes_on = u.goes_on;
+  other = λ sound o. (u.none sound).none o.tag o.front;
 }
 
 -- On a content that has failed nothing comes.
-pub comes_failed : {v : ValuesLeft} {tag : TagValue} → v.failed ≡ true → Comes v tag
-comes_failed {v} e = record { tagged = λ t a. absurd (unsound a.1.goes.before); goes_on = λ h. unsound h.sound }
+pub untold_failed : {v : ValuesLeft} → v.failed ≡ true → Untold v
+untold_failed {v} e = record { goes_on = λ h. unsound h.sound; none = λ s. absurd (unsound s) }
   where
     unsound : v.failed ≡ false → ⊥
     unsound s = let f : true ≡ false = sym e ∙ s in absurd cc
+
+-- A value with the tag that was expected is next, so that none is named.
+pub tag_named : {E : Type 0} {old inner : ValuesLeft} {k : Bool} {tag : TagValue} {span : Span} (e : DecodeError E) → Enters old k tag span inner → OnContent e (NamesTag old tag e)
+tag_named e n = on_content e (record { names = λ u a d. absurd (d (opens_tag u n.opens (took_front a.1)).0) })
+
+pub tag_named_as : {E : Type 0} {old inner : ValuesLeft} {k : Bool} {tag found : TagValue} {span : Span} (e : DecodeError E) → found ≡ tag → Enters old k found span inner → OnContent e (NamesTag old tag e)
+tag_named_as e s n = on_content e (record { names = λ u a d. absurd (d ((opens_tag u n.opens (took_front a.1)).0 ∙ s)) })
+
+pub none_named : {E : Type 0} (old : ValuesLeft) (tag : TagValue) (e : DecodeError E) → OnlyContent e (NoneAhead old) → OnContent e (NamesTag old tag e)
+none_named old tag e h = only_on e (λ n. record { names = λ u a d. absurd (n.none u a) }) h
 
 pub none_failed : {v : ValuesLeft} → v.failed ≡ true → NoneAhead v
 none_failed {v} e = record { none = λ t a. let f : true ≡ false = sym e ∙ a.1.goes.before in absurd cc }

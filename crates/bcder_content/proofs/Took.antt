@@ -1,14 +1,14 @@
 -- Reading values one behind the other: what was next, and what is left.
 use Rattle.std.proofs.Common.{◌≡◌, ℕ, ◌<◌, Bool, false, List, [], ◌∷◌, ◌++◌, length, Option, None, Ok, refl, sym, ap, ◌∙◌, subst, append_assoc, length-append, arith}
 use Rattle.std.proofs.lemmas.List.{append_cancel_left, append_cancel_right}
-use Rattle.bcder_tree.specs.declared.mode.Mode.{Mode}
-use Rattle.bcder_tree.specs.Tree.{Tree, Trees, none, more, Spells, SpellsAll}
-use Rattle.bcder_tree.specs.Front.{Front}
-use Rattle.bcder_source.specs.Views.{left, limited, more_limit}
-use Rattle.bcder_tree.proofs.Fronts.{whole_front}
-use Rattle.bcder_tree.proofs.Trees.{one_tree, tree_goes_on}
-use Rattle.bcder_tree.proofs.Parts.{Ends}
-use Rattle.bcder_source.proofs.Moves.{left_moved, moved_none, moved_both, more_more}
+use Rattle.bcder_content.specs.bcder_tree.declared.mode.Mode.{Mode}
+use Rattle.bcder_content.specs.bcder_tree.Tree.{Tree, Trees, none, more, Spells, SpellsAll}
+use Rattle.bcder_content.specs.bcder_tree.Front.{Front}
+use Rattle.bcder_content.specs.bcder_source.Views.{left, limited, more_limit}
+use Rattle.bcder_content.proofs.of_bcder_tree.Fronts.{whole_front}
+use Rattle.bcder_content.proofs.of_bcder_tree.Trees.{one_tree, tree_goes_on}
+use Rattle.bcder_content.proofs.of_bcder_tree.Parts.{Ends}
+use Rattle.bcder_content.proofs.of_bcder_source.Moves.{left_moved, moved_none, moved_both, more_more}
 use Rattle.bcder_header.specs.declared.ending.Ending.{Ending}
 use Rattle.bcder_header.specs.declared.ending.Ending.TheVariants.{Definite, Indefinite, Unbounded}
 use Rattle.bcder_header.proofs.Opening.{cancel_more}

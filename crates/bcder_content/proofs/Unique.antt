@@ -1,7 +1,7 @@
 -- Grammars by which a value is read in one way, and those whose values all have one tag.
 use Rattle.std.proofs.Common.{◌≡◌, ℕ, List, [], ◌∷◌, Option, Some, None, refl, sym, ap, ◌∙◌, subst, inl, inr}
-use Rattle.bcder_tree.specs.Tags.{TagValue}
-use Rattle.bcder_tree.specs.Tree.{Tree, Trees, primitive, constructed, none, more}
+use Rattle.bcder_content.specs.bcder_tree.Tags.{TagValue}
+use Rattle.bcder_content.specs.bcder_tree.Tree.{Tree, Trees, primitive, constructed, none, more}
 use Rattle.bcder_content.specs.Contents.{tag_of}
 use Rattle.bcder_primitive.specs.Values.{IsUnsigned, AnyOctets}
 use Rattle.bcder_content.specs.Grammar.{Inside, OctetsOf, Any, Such, OneOf, As, End, Rest, Then, OptCases, Opt, Default, ManyCases, Many, Tagged, One, OneAll, OneOctets}

@@ -2,10 +2,10 @@
 -- what they make of it.
 use Rattle.std.proofs.Common.{◌≡◌, Bool, true, false, List, ℕ, Result, Ok, Err, sym, subst}
 use Rattle.std.specs.Result.{IsErr, IsErrAnd}
-use Rattle.bcder_tree.specs.Tags.{TagValue}
-use Rattle.bcder_tree.specs.Tree.{Tree, Trees, primitive, constructed}
-use Rattle.bcder_source.specs.Errors.{OnContent}
-use Rattle.bcder_source.specs.declared.error.DecodeError.{DecodeError}
+use Rattle.bcder_content.specs.bcder_tree.Tags.{TagValue}
+use Rattle.bcder_content.specs.bcder_tree.Tree.{Tree, Trees, primitive, constructed}
+use Rattle.bcder_content.specs.bcder_source.Errors.{OnContent}
+use Rattle.bcder_content.specs.bcder_source.declared.error.DecodeError.{DecodeError}
 use Rattle.bcder_primitive.specs.Plain.{WholeOctets}
 use Rattle.bcder_primitive.proofs.Primitives.{same_octets}
 use Rattle.bcder_content.specs.Contents.{ValuesLeft, Whole}

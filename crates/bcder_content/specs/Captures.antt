@@ -1,14 +1,14 @@
 -- What capturing was: values read by a closure, and their octets kept.
-use Rattle.std.specs.Prelude.{◌≡◌, ℕ, true, List, length, Result, Ok, Err}
+use Rattle.std.specs.Prelude.{◌≡◌, ◌+◌, ◌-◌, ◌^◌, ◌≤◌, ℕ, min, true, List, length, Result, Ok, Err}
 use denote.Ref.{MutBor}
-use Rattle.bcder_tree.specs.declared.mode.Mode.{Mode}
-use Rattle.bcder_source.specs.declared.pos.Pos.{Pos}
-use Rattle.bcder_source.specs.declared.error.ContentError.{ContentError}
-use Rattle.bcder_source.specs.declared.error.DecodeError.{DecodeError}
-use Rattle.bcder_source.specs.declared.error.DecodeError.TheVariants.{Content, Source, Memory}
-use Rattle.bcder_source.specs.Errors.{OnContent}
-use Rattle.bcder_tree.specs.Tree.{Trees}
-use Rattle.bcder_source.specs.Views.{Reading, left}
+use Rattle.bcder_content.specs.bcder_tree.declared.mode.Mode.{Mode}
+use Rattle.bcder_content.specs.bcder_source.declared.pos.Pos.{Pos}
+use Rattle.bcder_content.specs.bcder_source.declared.error.ContentError.{ContentError}
+use Rattle.bcder_content.specs.bcder_source.declared.error.DecodeError.{DecodeError}
+use Rattle.bcder_content.specs.bcder_source.declared.error.DecodeError.TheVariants.{Content, Source, Memory}
+use Rattle.bcder_content.specs.bcder_source.Errors.{OnContent}
+use Rattle.bcder_content.specs.bcder_tree.Tree.{Trees}
+use Rattle.bcder_content.specs.bcder_source.Views.{Reading, left}
 use Rattle.bcder_content.specs.declared.constructed.Constructed.{Constructed}
 use Rattle.bcder_content.specs.Contents.{ValuesLeft, octets, Goes, TookAll, Ended}
 use Rattle.bcder_content.specs.Here.{here}
@@ -40,6 +40,17 @@ pub record RefusesIn {F D : Type 0} (g : Reader F (Constructed Reading) (Unit {0
   pub end : ValuesLeft
   pub ran : RanIn rest_of g op (cut v) (Err e) end
 
+-- Why the octets were refused, and where: a read was refused before, or the closure refused, and its position counts
+-- from where capturing began.
+pub data RefusedAt {F D E : Type 0} (g : Reader F (Constructed Reading) (Unit {0}) D) (op : F) (v : ValuesLeft) (start : ℕ) (e : DecodeError E) : Type 0 where
+  refused_before : v.failed ≡ true → RefusedAt g op v start e
+  refused_behind : (x : ContentError) (pos : Pos) (end : ValuesLeft) → RanIn rest_of g op (cut v) (Err (Content x pos)) end → e ≡ Content x (min (start + pos) (2 ^ 64 - 1)) → RefusedAt g op v start e
+
+-- Memory is wanted: by the closure, or for the octets of values that it read, which are some.
+pub data Wants {F D : Type 0} (g : Reader F (Constructed Reading) (Unit {0}) D) (op : F) (v : ValuesLeft) : Type 0 where
+  closure_wants : (end : ValuesLeft) → RanIn rest_of g op (cut v) (Err Memory) end → Wants g op v
+  octets_want : (count : ℕ) → 1 ≤ count → ReadsSome g op v count → Wants g op v
+
 -- The closure read values from the content's octets, which are kept, and now are read of the content too.
 pub record Keeps {F E : Type 0} (g : Reader F (Constructed Reading) (Unit {0}) E) (op : F) (v : ValuesLeft) (c : CapturedValue) (new : ValuesLeft) : Type 0 where
   pub end : ValuesLeft
@@ -63,11 +74,11 @@ CapturesCases g op v (Err e) new = (new ≡ v) × OnContent e (KeepsNone g op v)
 pub record Captures {F D E : Type 0} (g : Reader F (Constructed Reading) (Unit {0}) D) (op : F) (v : ValuesLeft) (r : Result CapturedValue (DecodeError E)) (new : ValuesLeft) : Type 0 where
   pub cases : CapturesCases g op v r new
 
--- The same refusal, at another position.
-abbrev pub Rebased : {D E : Type 0} → DecodeError D → DecodeError E → Type 0
-Rebased (Content x pos) r = (p : Pos) × (r ≡ Content x p)
-Rebased (Source x) r = ⊥
-Rebased Memory r = r ≡ Memory
+-- The same refusal, at a position that counts from another start.
+abbrev pub Rebased : {D E : Type 0} → ℕ → DecodeError D → DecodeError E → Type 0
+Rebased start (Content x pos) r = r ≡ Content x (min (start + pos) (2 ^ 64 - 1))
+Rebased start (Source x) r = ⊥
+Rebased start Memory r = r ≡ Memory
 
 -- All values that are left were read, and their octets are kept.
 pub record CapturesAll (v : ValuesLeft) (c : CapturedValue) (new : ValuesLeft) : Type 0 where

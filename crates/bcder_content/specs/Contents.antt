@@ -1,10 +1,11 @@
 -- Contents that are read: what is left of them, and which values are next (X.690 8.1).
-use Rattle.std.specs.Prelude.{◌≡◌, ℕ, Bool, false, List, Option}
-use Rattle.bcder_tree.specs.declared.mode.Mode.{Mode}
-use Rattle.bcder_tree.specs.Tags.{TagValue}
-use Rattle.bcder_tree.specs.Tree.{Tree, Trees, Spells, SpellsAll}
-use Rattle.bcder_source.specs.Views.{View, Moved}
+use Rattle.std.specs.Prelude.{◌≡◌, ◌⊎◌, ℕ, Bool, false, List, Option}
+use Rattle.bcder_content.specs.bcder_tree.declared.mode.Mode.{Mode}
+use Rattle.bcder_content.specs.bcder_tree.Tags.{TagValue}
+use Rattle.bcder_content.specs.bcder_tree.Tree.{Tree, Trees, Spells, SpellsAll}
+use Rattle.bcder_content.specs.bcder_source.Views.{View, Moved, left}
 use Rattle.bcder_header.specs.declared.ending.Ending.{Ending}
+use Rattle.bcder_header.specs.Openings.{OfOther, NoTag}
 pub use Rattle.bcder_header.specs.Openings.{EndsHere, tag_of, form_of}
 pub use Rattle.bcder_primitive.specs.Plain.{OctetsLeft}
 
@@ -55,7 +56,14 @@ pub record Whole (v : ValuesLeft) (ts : Trees) : Type 0 where
   pub took : TookAll v ts behind
   pub ended : Ended behind
 
--- No value of that tag is next, and no read was refused.
+-- No value of that tag is next, and no read was refused: the content has ended, or the next identifier octets are of
+-- another tag.
 pub record Unlike (v : ValuesLeft) (tag : TagValue) : Type 0 where
   pub sound : v.failed ≡ false
   pub none : (t : Tree) → Ahead v t → tag_of t ≡ tag → ⊥
+  pub other : Ended v ⊎ OfOther tag (left (octets v))
+
+-- There are octets, but no identifier octets of a value; or a read was refused before.
+pub record Untold (v : ValuesLeft) : Type 0 where
+  pub goes_on : Ended v → ⊥
+  pub none : v.failed ≡ false → NoTag (left (octets v))

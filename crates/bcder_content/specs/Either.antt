@@ -2,10 +2,10 @@
 use Rattle.std.specs.Prelude.{◌≡◌, ℕ, Bool, true, false, List, Result, Ok, Err, Option, Some, None}
 use Rattle.std.specs.Fn.{Once, FnOnceReturnsAtMut}
 use denote.Ref.{MutBor}
-use Rattle.bcder_tree.specs.Tags.{TagValue}
-use Rattle.bcder_tree.specs.Tree.{Tree, Trees, primitive, constructed}
-use Rattle.bcder_source.specs.Errors.{OnContent, OnlyContent}
-use Rattle.bcder_source.specs.declared.error.DecodeError.{DecodeError}
+use Rattle.bcder_content.specs.bcder_tree.Tags.{TagValue}
+use Rattle.bcder_content.specs.bcder_tree.Tree.{Tree, Trees, primitive, constructed}
+use Rattle.bcder_content.specs.bcder_source.Errors.{OnContent, OnlyOctets}
+use Rattle.bcder_content.specs.bcder_source.declared.error.DecodeError.{DecodeError}
 use Rattle.bcder_header.specs.declared.ending.Span.{Span}
 use Rattle.bcder_content.specs.declared.content.Content.{Content}
 use Rattle.bcder_content.specs.declared.constructed.Constructed.{Constructed}
@@ -120,10 +120,10 @@ ReadsInAs f P false tag v r w = ReadsOctetsAs f (λ (c : List ℕ) x. P (primiti
 abbrev pub ReadsContentAs : {A B E S : Type 0} → (S → List ℕ) → (A → B) → (Tree → B → Type 0) → TagValue → Content S → Result A (DecodeError E) → Content S → Type 0
 ReadsContentAs rest f P tag c r d = ReadsInAs f P (form_in c) tag (left_of rest c) r (left_of rest d)
 
--- Only the octets were refused.
+-- Only the octets were refused, and no source was read.
 abbrev pub IsRefusal : {T E : Type 0} → Result T (DecodeError E) → Type 0
 IsRefusal (Ok x) = ⊥
-IsRefusal (Err e) = OnlyContent e (Unit {0})
+IsRefusal (Err e) = OnlyOctets e (Unit {0})
 
 abbrev pub OctetsRun : {F S T E : Type 0} → (S → List ℕ) → Once F (MutBor (Primitive S) × Unit {0}) (Result T (DecodeError E) × (MutBor (Primitive S) × Unit {0})) → F → Bool → Constructed S → Result T (DecodeError E) → Constructed S → Type 0
 OctetsRun rest g op false c r d = (d.end ≡ c.end) × FnOnceReturnsAtMut g op c.octets r d.octets

@@ -1,12 +1,14 @@
 -- Exact readers: what they read is in the grammar, and what is in the grammar they read.
-use Rattle.std.specs.Prelude.{◌≡◌, ℕ, List, Result, Ok, Err, Option, Some, None}
-use Rattle.bcder_tree.specs.declared.mode.Mode.{Mode}
-use Rattle.bcder_tree.specs.Tags.{TagValue}
-use Rattle.bcder_tree.specs.Front.{Front}
-use Rattle.bcder_tree.specs.Tree.{Tree, Trees}
-use Rattle.bcder_source.specs.Errors.{OnContent}
-use Rattle.bcder_source.specs.declared.error.DecodeError.{DecodeError}
-use Rattle.bcder_content.specs.Contents.{ValuesLeft, Took, TookAll, Ahead, Ended, Whole, Unlike, tag_of}
+use Rattle.std.specs.Prelude.{◌≡◌, ℕ, false, List, Result, Ok, Err, Option, Some, None}
+use Rattle.bcder_content.specs.bcder_tree.declared.mode.Mode.{Mode}
+use Rattle.bcder_content.specs.bcder_tree.Tags.{TagValue}
+use Rattle.bcder_content.specs.bcder_tree.Front.{Front}
+use Rattle.bcder_content.specs.bcder_tree.Tree.{Tree, Trees}
+use Rattle.bcder_content.specs.bcder_source.Errors.{OnContent}
+use Rattle.bcder_content.specs.bcder_source.declared.error.DecodeError.{DecodeError}
+use Rattle.bcder_content.specs.bcder_source.Views.{left}
+use Rattle.bcder_header.specs.Openings.{OfOther}
+use Rattle.bcder_content.specs.Contents.{ValuesLeft, octets, Took, TookAll, Ahead, Ended, Whole, Unlike, tag_of}
 
 -- The next value was read, and it is of the grammar.
 pub record Gives {A : Type 0} (P : Tree → A → Type 0) (old : ValuesLeft) (x : A) (new : ValuesLeft) : Type 0 where
@@ -23,11 +25,12 @@ abbrev pub ReadsAs : {A B E : Type 0} → (A → B) → (Tree → B → Type 0) 
 ReadsAs f P old (Ok x) new = Gives P old (f x) new
 ReadsAs f P old (Err e) new = OnContent e (Lacks P old)
 
--- A value of that tag is next, but none of the grammar.
+-- The next identifier octets aren't of another tag, but no value of the grammar is next.
 pub record LacksTagged {A : Type 0} (tag : TagValue) (P : Tree → A → Type 0) (old : ValuesLeft) : Type 0 where
   pub tagged : (t : Tree) → Ahead old t → tag_of t ≡ tag
   pub lacks : Lacks P old
   pub goes_on : Ended old → ⊥
+  pub other : old.failed ≡ false → OfOther tag (left (octets old)) → ⊥
 
 -- A reader of an optional value, which is there where its tag is next.
 abbrev pub ReadsOptAs : {A B E : Type 0} → (A → B) → TagValue → (Tree → B → Type 0) → ValuesLeft → Result (Option A) (DecodeError E) → ValuesLeft → Type 0

@@ -1,8 +1,8 @@
 -- Grammars of values, put together from grammars of their parts (X.680: SEQUENCE, SEQUENCE OF, OPTIONAL, DEFAULT, CHOICE).
 use Rattle.std.specs.Prelude.{◌≡◌, ℕ, ◌⊎◌, List, [], ◌∷◌, Option, Some, None}
-use Rattle.bcder_tree.specs.declared.mode.Mode.{Mode}
-use Rattle.bcder_tree.specs.Tags.{TagValue}
-use Rattle.bcder_tree.specs.Tree.{Tree, Trees, primitive, constructed, none, more, Spells, SpellsAll}
+use Rattle.bcder_content.specs.bcder_tree.declared.mode.Mode.{Mode}
+use Rattle.bcder_content.specs.bcder_tree.Tags.{TagValue}
+use Rattle.bcder_content.specs.bcder_tree.Tree.{Tree, Trees, primitive, constructed, none, more, Spells, SpellsAll}
 use Rattle.bcder_content.specs.Contents.{tag_of}
 
 -- A constructed value of that tag, by its values.

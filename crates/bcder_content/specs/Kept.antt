@@ -1,7 +1,7 @@
 -- Octets that were captured.
 use Rattle.std.specs.Prelude.{ℕ, List}
-use Rattle.bcder_tree.specs.declared.mode.Mode.{Mode}
-use Rattle.bcder_tree.specs.Tree.{Trees, SpellsAll}
+use Rattle.bcder_content.specs.bcder_tree.declared.mode.Mode.{Mode}
+use Rattle.bcder_content.specs.bcder_tree.Tree.{Trees, SpellsAll}
 
 -- The octets, and in which mode they spell values.
 pub record CapturedValue : Type 0 where

@@ -19,3 +19,8 @@ pub mod Tagged
 pub mod InMode
 pub mod Words
 pub mod Texts
+-- What stands below, for the crates above.
+pub use Rattle.bcder_header.specs as bcder_header
+pub use Rattle.bcder_primitive.specs as bcder_primitive
+pub use Rattle.bcder_header.specs.bcder_source as bcder_source
+pub use Rattle.bcder_header.specs.bcder_tree as bcder_tree

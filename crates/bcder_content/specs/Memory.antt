@@ -1,20 +1,14 @@
 -- Want of memory: what a closure answers, and no read of its own.
 use Rattle.std.specs.Prelude.{ℕ, Bool, List, Err}
-use Rattle.bcder_source.specs.declared.error.DecodeError.{DecodeError}
-use Rattle.bcder_source.specs.declared.error.DecodeError.TheVariants.{Content, Source, Memory}
-use Rattle.bcder_tree.specs.Tags.{TagValue}
+use Rattle.bcder_content.specs.bcder_source.declared.error.DecodeError.{DecodeError}
+pub use Rattle.bcder_content.specs.bcder_source.Errors.{OnMemory}
+use Rattle.bcder_content.specs.bcder_tree.Tags.{TagValue}
 use Rattle.bcder_header.specs.declared.ending.Span.{Span}
 use Rattle.bcder_content.specs.declared.constructed.Constructed.{Constructed}
 use Rattle.bcder_primitive.specs.declared.primitive.Primitive.{Primitive}
 use Rattle.bcder_content.specs.Contents.{OctetsLeft, ValuesLeft}
 use Rattle.bcder_content.specs.Ran.{Reader, RanOn, PlainRanOn, RanIn}
 use Rattle.bcder_content.specs.Either.{Meeting, RanAny}
-
--- A fact for want of memory.
-abbrev pub OnMemory : {E : Type 0} → DecodeError E → Type 0 → Type 0
-OnMemory (Content error pos) fact = Unit {0}
-OnMemory (Source error) fact = Unit {0}
-OnMemory Memory fact = fact
 
 -- The closure was given the values of the value in front, and answered that error.
 pub record RanErr {F S T E : Type 0} (rest : S → List ℕ) (g : Reader F (Constructed S) T E) (op : F) (old : ValuesLeft) (tag : TagValue) (e : DecodeError E) : Type 0 where

@@ -1,8 +1,8 @@
 -- Readers of a value that may be next, whatever its tags: a CHOICE that is OPTIONAL, or those of a SEQUENCE OF a CHOICE.
 use Rattle.std.specs.Prelude.{◌≡◌, false, Result, Ok, Err, Option, Some, None}
-use Rattle.bcder_tree.specs.Tree.{Tree}
-use Rattle.bcder_source.specs.Errors.{OnContent}
-use Rattle.bcder_source.specs.declared.error.DecodeError.{DecodeError}
+use Rattle.bcder_content.specs.bcder_tree.Tree.{Tree}
+use Rattle.bcder_content.specs.bcder_source.Errors.{OnContent}
+use Rattle.bcder_content.specs.bcder_source.declared.error.DecodeError.{DecodeError}
 use Rattle.bcder_content.specs.Contents.{ValuesLeft, Ended}
 use Rattle.bcder_content.specs.Exact.{Gives, Lacks}
 

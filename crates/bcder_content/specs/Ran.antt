@@ -1,18 +1,19 @@
 -- What a reading by a closure was.
 use Rattle.std.specs.Prelude.{◌≡◌, ℕ, Bool, true, false, List, Result, Ok, Err, Option, Some, None}
 use Rattle.std.specs.Fn.{FnOnceReturnsAtMut}
-use Rattle.bcder_tree.specs.declared.mode.Mode.{Mode}
-use Rattle.bcder_tree.specs.Tags.{TagValue}
-use Rattle.bcder_tree.specs.Tree.{Tree}
-use Rattle.bcder_source.specs.Errors.{OnContent}
-use Rattle.bcder_source.specs.declared.error.DecodeError.{DecodeError}
+use Rattle.bcder_content.specs.bcder_tree.declared.mode.Mode.{Mode}
+use Rattle.bcder_content.specs.bcder_tree.Tags.{TagValue}
+use Rattle.bcder_content.specs.bcder_tree.Tree.{Tree}
+use Rattle.bcder_content.specs.bcder_source.Errors.{OnContent}
+use Rattle.bcder_content.specs.bcder_source.declared.error.DecodeError.{DecodeError}
+use Rattle.bcder_content.specs.bcder_source.Views.{left}
 use Rattle.bcder_header.specs.declared.ending.Ending.TheVariants.{Unbounded}
 use Rattle.bcder_header.specs.declared.ending.Span.{Span}
 use Rattle.bcder_content.specs.declared.constructed.Constructed.{Constructed}
 use Rattle.bcder_primitive.specs.declared.primitive.Primitive.{Primitive}
 use Rattle.bcder_content.specs.Contents.{OctetsLeft, ValuesLeft, octets, Ahead, Ended, Unlike, tag_of, form_of}
 use Rattle.bcder_primitive.specs.Plain.{octets_in}
-use Rattle.bcder_header.specs.Openings.{Opens, Closes, ending_of}
+use Rattle.bcder_header.specs.Openings.{Opens, Closes, OfOther, ending_of}
 use Rattle.bcder_content.specs.Here.{here, plain}
 use Rattle.bcder_content.specs.Stops.{EndsUnread}
 pub use Rattle.bcder_primitive.specs.Sliced.{Reader}
@@ -37,10 +38,12 @@ pub record Leaves (old : ValuesLeft) (span : Span) (end new : ValuesLeft) : Type
 pub record NoneOf (old : ValuesLeft) (tag : TagValue) (form : Bool) : Type 0 where
   pub none : (t : Tree) → Ahead old t → tag_of t ≡ tag → form_of t ≡ form → ⊥
 
--- A value of that tag is next, as far as its identifier tells.
+-- A value of that tag is next, as far as its identifier tells, or there are octets and no identifier octets of a
+-- value; or a read was refused before.
 pub record Comes (old : ValuesLeft) (tag : TagValue) : Type 0 where
   pub tagged : (t : Tree) → Ahead old t → tag_of t ≡ tag
   pub goes_on : Ended old → ⊥
+  pub other : old.failed ≡ false → OfOther tag (left (octets old)) → ⊥
 
 -- The closure was given the values of the value in front, and answered.
 pub record RanOn {F S T E : Type 0} (rest : S → List ℕ) (g : Reader F (Constructed S) T E) (op : F) (old : ValuesLeft) (tag : TagValue) (span : Span) (r : Result T (DecodeError E)) (end : ValuesLeft) : Type 0 where

@@ -1,8 +1,8 @@
 -- Skipping values of a content, while a visitor is told of each value in them.
 use Rattle.std.specs.Prelude.{◌≡◌, Result, Ok, Err, Option, Some, None}
-use Rattle.bcder_source.specs.declared.error.ContentError.{ContentError}
-use Rattle.bcder_source.specs.declared.error.DecodeError.{DecodeError}
-use Rattle.bcder_tree.specs.Tree.{Tree, Trees}
+use Rattle.bcder_content.specs.bcder_source.declared.error.ContentError.{ContentError}
+use Rattle.bcder_content.specs.bcder_source.declared.error.DecodeError.{DecodeError}
+use Rattle.bcder_content.specs.bcder_tree.Tree.{Tree, Trees}
 use Rattle.bcder_header.specs.Nodes.{nodes}
 use Rattle.bcder_content.specs.Contents.{ValuesLeft, Took, TookAll, Ahead, Ended, Whole}
 pub use Rattle.bcder_header.specs.Skips.{Visits, Accepts, Refuses, OnError, Skips, Stops}

@@ -1,9 +1,9 @@
 -- Readers of a value's content, whatever the value's tag.
 use Rattle.std.specs.Prelude.{List, ℕ, Result}
-use Rattle.bcder_tree.specs.declared.mode.Mode.{Mode}
-use Rattle.bcder_tree.specs.Tags.{TagValue}
-use Rattle.bcder_tree.specs.Tree.{Tree}
-use Rattle.bcder_source.specs.declared.error.DecodeError.{DecodeError}
+use Rattle.bcder_content.specs.bcder_tree.declared.mode.Mode.{Mode}
+use Rattle.bcder_content.specs.bcder_tree.Tags.{TagValue}
+use Rattle.bcder_content.specs.bcder_tree.Tree.{Tree}
+use Rattle.bcder_content.specs.bcder_source.declared.error.DecodeError.{DecodeError}
 use Rattle.bcder_content.specs.declared.content.Content.{Content}
 use Rattle.bcder_content.specs.Either.{ReadsContentAs, SameContent}
 use Rattle.bcder_content.specs.Here.{here}

@@ -1,10 +1,10 @@
 -- Grammars of octets. In BER the values that are read do not tell the octets that spelled them; where octets are signed,
 -- a grammar speaks of these very octets, from the outermost value down to them.
 use Rattle.std.specs.Prelude.{◌≡◌, ℕ, List, [], ◌++◌}
-use Rattle.bcder_tree.specs.declared.mode.Mode.{Mode}
-use Rattle.bcder_tree.specs.declared.mode.Mode.TheVariants.{Der}
-use Rattle.bcder_tree.specs.Tags.{TagValue}
-use Rattle.bcder_tree.specs.Tree.{Tree, Trees, Spells, SpellsAll, IsConstructed}
+use Rattle.bcder_content.specs.bcder_tree.declared.mode.Mode.{Mode}
+use Rattle.bcder_content.specs.bcder_tree.declared.mode.Mode.TheVariants.{Der}
+use Rattle.bcder_content.specs.bcder_tree.Tags.{TagValue}
+use Rattle.bcder_content.specs.bcder_tree.Tree.{Tree, Trees, Spells, SpellsAll, IsConstructed}
 
 -- The octets spell a value of Q.
 pub record SpellsOf {A : Type 0} (m : Mode) (Q : Tree → A → Type 0) (text : List ℕ) (x : A) : Type 0 where

@@ -1,8 +1,8 @@
 -- Further words of grammars: what a list of values says together, what only some values mean, fields that tell what
 -- stands behind them, and values whose octets are kept.
 use Rattle.std.specs.Prelude.{◌≡◌, ℕ, List}
-use Rattle.bcder_tree.specs.declared.mode.Mode.{Mode}
-use Rattle.bcder_tree.specs.Tree.{Tree, Trees, more, Spells}
+use Rattle.bcder_content.specs.bcder_tree.declared.mode.Mode.{Mode}
+use Rattle.bcder_content.specs.bcder_tree.Tree.{Tree, Trees, more, Spells}
 use Rattle.bcder_content.specs.Grammar.{Many}
 
 -- Values of Q, one for each of a list, and what the list says by R (SEQUENCE OF whose values are tested together).

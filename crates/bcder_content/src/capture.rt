@@ -1,24 +1,28 @@
 //! Octets of values that are kept as they stand.
-ghost use Rattle.std.specs.Prelude.{◌≡◌, false, IfOk, IfErr, OnOk, OnErr, length};
-ghost use Rattle.bcder_source.specs.Errors.{OnContent};
-ghost use Rattle.bcder_source.specs.Limits.{view, at_hand};
-ghost use Rattle.bcder_source.specs.Views.{left};
-ghost use Rattle.bcder_content.specs.Here.{here};
-ghost use Rattle.bcder_content.specs.Captures.{rest_of, cut, ReadsValues, ReadsSome, Captures, CapturesAll, RefusesIn, Rebased};
+ghost use Rattle.std.specs.Prelude.{◌≡◌, ◌≤◌, false, IfOk, IfErr, OnOk, OnErr, length, slice_range};
+ghost use Rattle.bcder_content.specs.bcder_source.Errors.{OnContent};
+ghost use Rattle.bcder_content.specs.bcder_source.Limits.{view, at_hand};
+ghost use Rattle.bcder_content.specs.bcder_source.Views.{left};
+ghost use Rattle.bcder_content.specs.Here.{here, SameFrame};
+ghost use Rattle.bcder_content.specs.Captures.{rest_of, cut, ReadsValues, ReadsSome, Wants, Captures, CapturesAll, RefusesIn, RefusedAt, Rebased};
+ghost use Rattle.bcder_content.specs.Contents.{Goes, Ended};
 ghost use Rattle.bcder_content.specs.Exact.{ReadsAs};
 ghost use Rattle.bcder_content.specs.Grammar.{Any, Exactly};
+ghost use Rattle.bcder_content.specs.Memory.{OnMemory};
 ghost use Rattle.bcder_content.specs.Skips.{SkipsAll, NotWhole};
 
+use crate::bcder_source::{ContentError, DecodeError, LimitedSource, Pos, SliceSource, Source};
 use crate::captured::Captured;
 use crate::constructed::Constructed;
 use crate::primitive::Primitive;
-use bcder_source::{ContentError, DecodeError, LimitedSource, Pos, SliceSource, Source};
-use std::alloc::Global;
+use bytes::Bytes;
+use std::alloc::{AllocError, Global};
 use std::convert::Infallible;
 
 // Has all octets at hand that may be read, and answers how many they are.
 fn gather<S: Source>(source: &mut LimitedSource<S>) -> Result<usize, S::Error>
     ensures same { view S.rest source.new ≡ view S.rest source.old }
+    ensures position { S.position source.new.source ≡ S.position source.old.source }
     ensures all { IfOk result (λ n. n ≡ length (left (view S.rest source.new))) }
     ensures at_hand { IfOk result (λ n. n ≡ at_hand source.new.limit (S.available source.new.source)) }
 {
@@ -32,9 +36,25 @@ fn gather<S: Source>(source: &mut LimitedSource<S>) -> Result<usize, S::Error>
     }
 }
 
+// The first octets that may be read, which are at hand; where there are none no memory is wanted.
+fn front<S: Source>(
+    source: &LimitedSource<S>,
+    alloc: Global,
+    count: usize,
+) -> Result<Bytes, AllocError>
+    requires { count ≤ at_hand source.now.limit (S.available source.now.source) }
+    ensures octets { IfOk result (λ b. b ≡ slice_range (left (view S.rest source.now)) 0 count) }
+    ensures some { OnErr result (1 ≤ count) }
+{
+    if count == 0 {
+        return Ok(Bytes::new());
+    }
+    source.bytes(alloc, 0, count)
+}
+
 // The refusal as it is told where the octets began at that position.
 fn rebased<E>(error: DecodeError<Infallible>, start: Pos) -> DecodeError<E>
-    ensures { Rebased error result }
+    ensures { Rebased start error result }
 {
     match error {
         DecodeError::Content(error, pos) => DecodeError::Content(error, start + pos),
@@ -84,6 +104,11 @@ impl<S: Source> Constructed<S> {
         requires callable { F.IsAlwaysCallable op }
         requires reads { ReadsValues rest_of F.FnOnce op }
         ensures captures { Captures F.FnOnce op (here S.rest self.old) result (here S.rest self.new) }
+        ensures place { IfErr result (λ e. OnContent e (
+            RefusedAt F.FnOnce op (here S.rest self.old)
+            (S.position self.old.octets.source.source) e)) }
+        ensures memory { IfErr result (λ e. OnMemory e (Wants F.FnOnce op (here S.rest self.old))) }
+        ensures frame { OnOk result (SameFrame self.old self.new) }
     {
         if self.octets.failed {
             return Err((*self).content_err(ContentError::from_static("a read was refused before")));
@@ -97,7 +122,7 @@ impl<S: Source> Constructed<S> {
             Ok(count) => count,
             Err(error) => return Err(rebased(error, start)),
         };
-        let bytes = match self.octets.source.bytes(alloc, 0, count) {
+        let bytes = match front(&self.octets.source, alloc, count) {
             Ok(bytes) => bytes,
             Err(_) => return Err(DecodeError::Memory),
         };
@@ -109,13 +134,17 @@ impl<S: Source> Constructed<S> {
     /// value is left, the content is as it was.
     pub fn capture_one(&mut self, alloc: Global) -> Result<Captured, DecodeError<S::Error>>
         ensures captured { ReadsAs (λ c. c.octets) (Exactly (here S.rest self.old).mode) (here S.rest self.old) result (here S.rest self.new) }
+        ensures goes { IfOk result (λ c. Goes (here S.rest self.old) c.octets (here S.rest self.new)) }
         ensures mode { IfOk result (λ c. c.mode ≡ (here S.rest self.old).mode) }
+        ensures memory { IfErr result (λ e. OnMemory e (Ended (here S.rest self.old) → ⊥)) }
+        ensures frame { OnOk result (SameFrame self.old self.new) }
         ensures kept { OnErr result (here S.rest self.new ≡ here S.rest self.old) }
     {
         self.capture(
             alloc,
             |cons|
-                ensures { ReadsAs (λ x. x) Any (here rest_of cons.old) result (here rest_of cons.new) }
+                ensures reads { ReadsAs (λ x. x) Any (here rest_of cons.old) result (here rest_of cons.new) }
+                ensures memory { IfErr result (λ e. OnMemory e (Ended (here rest_of cons.old) → ⊥)) }
             {
                 match cons.skip_one(alloc) {
                     Ok(Some(())) => Ok(()),
@@ -131,8 +160,10 @@ impl<S: Source> Constructed<S> {
     /// The octets of all values that are left, up to the end of the content; they are then read of the
     /// content. Where that is refused the content is as it was.
     pub fn capture_all(&mut self, alloc: Global) -> Result<Captured, DecodeError<S::Error>>
+        ensures frame { OnOk result (SameFrame self.old self.new) }
         ensures captured { IfOk result (λ c. CapturesAll (here S.rest self.old) c (here S.rest self.new)) }
         ensures refused { IfErr result (λ e. OnContent e (NotWhole (here S.rest self.old))) }
+        ensures memory { IfErr result (λ e. OnMemory e (Ended (here S.rest self.old) → ⊥)) }
         ensures kept { OnErr result (here S.rest self.new ≡ here S.rest self.old) }
     {
         self.capture(
@@ -140,6 +171,7 @@ impl<S: Source> Constructed<S> {
             |cons|
                 ensures skipped { OnOk result (SkipsAll (here rest_of cons.old) (here rest_of cons.new)) }
                 ensures refused { IfErr result (λ e. OnContent e (NotWhole (here rest_of cons.old))) }
+                ensures memory { IfErr result (λ e. OnMemory e (Ended (here rest_of cons.old) → ⊥)) }
             { cons.skip_all(alloc) },
         )
     }

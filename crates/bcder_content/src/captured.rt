@@ -5,17 +5,17 @@ ghost use Rattle.bcder_content.specs.Kept.{SpellsValues};
 ghost use Rattle.bcder_content.specs.Memory.{OnMemory, InErr};
 ghost use Rattle.bcder_content.specs.Ran.{Decoded, fresh};
 
+use crate::bcder_source::{BytesSource, DecodeError, LimitedSource, Mode, Pos, SliceSource};
 use crate::constructed::Constructed;
 use crate::ending::Ending;
 use crate::primitive::Primitive;
-use bcder_source::{BytesSource, DecodeError, LimitedSource, Mode, Pos, SliceSource};
 use bytes::Bytes;
 use std::convert::Infallible;
 use std::marker::Model;
 
 /// Octets of values, one behind the other, as they were spelled in a mode. Contracts see the mode
-/// and the octets.
-#[derive(Drop)]
+/// and the octets. A clone shares them.
+#[derive(Clone, Debug, Drop)]
 pub struct Captured {
     bytes: Bytes,
     mode: Mode,

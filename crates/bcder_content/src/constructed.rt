@@ -1,19 +1,20 @@
 //! Contents of values.
 ghost use Rattle.std.specs.Prelude.{◌≡◌, ◌↔◌, Bool, true, false, IfOk, IfErr, OnOk, OnErr, IsTrue};
-ghost use Rattle.bcder_source.specs.Errors.{OnContent, OnlyContent};
-ghost use Rattle.bcder_tree.specs.Tags.{TagValue};
-ghost use Rattle.bcder_source.specs.declared.error.DecodeError.TheVariants.{Content as content_error};
-ghost use Rattle.bcder_content.specs.Contents.{octets, EndsHere, Ended, Unlike};
-ghost use Rattle.bcder_content.specs.Here.{here, plain};
+ghost use Rattle.bcder_content.specs.bcder_source.Errors.{OnContent, OnlyContent};
+ghost use Rattle.bcder_content.specs.bcder_source.Views.{left};
+ghost use Rattle.bcder_content.specs.bcder_tree.Tags.{TagValue};
+ghost use Rattle.bcder_content.specs.bcder_source.declared.error.DecodeError.TheVariants.{Content as content_error};
+ghost use Rattle.bcder_content.specs.Contents.{octets, EndsHere, Ended, Unlike, Untold};
+ghost use Rattle.bcder_content.specs.Here.{here, plain, start_of, SameFrame};
 ghost use Rattle.bcder_content.specs.Memory.{OnMemory, RanErr, PlainErr};
-ghost use Rattle.bcder_header.specs.Openings.{ending_of};
+ghost use Rattle.bcder_header.specs.Openings.{ending_of, OfTag};
 ghost use Rattle.bcder_content.specs.Ran.{Enters, Leaves, NoneOf, Comes, Ran, RanOpt, PlainRan, PlainRanOpt};
-ghost use Rattle.bcder_content.specs.Stops.{NoneAhead, EndsUnread, LeftBy};
+ghost use Rattle.bcder_content.specs.Stops.{NoneAhead, NamesTag, EndsUnread, LeftBy};
 
+use crate::bcder_source::{ContentError, DecodeError, Mode, Pos, Source, Tag};
 use crate::ending::{Ending, Span};
 use crate::header;
 use crate::primitive::Primitive;
-use bcder_source::{ContentError, DecodeError, Mode, Pos, Source, Tag};
 
 /// A content of values: of a constructed value, or of a source.
 ///
@@ -57,13 +58,14 @@ impl<S: Source> Constructed<S> {
 
     /// The refusal of the content, from its beginning.
     pub fn content_err(&self, error: ContentError) -> DecodeError<S::Error>
-        ensures { (pos : _) × (result ≡ content_error error pos) }
+        ensures { result ≡ content_error error (start_of self.now) }
     {
         DecodeError::content(error, self.octets.start)
     }
 
-    // The content is failed from now on.
-    pub(crate) fn fail(&mut self)
+    /// From now on the content is failed: each later read of it is refused. So a reader leaves it that
+    /// finds what it read unfit.
+    pub fn fail(&mut self)
         ensures { here S.rest self.new ≡ record { mode = (here S.rest self.old).mode; end = (here S.rest self.old).end; failed = true; rest = (here S.rest self.old).rest; limit = (here S.rest self.old).limit } }
     {
         self.octets.failed = true;
@@ -92,6 +94,7 @@ impl<S: Source> Constructed<S> {
     #[inline(always)]
     pub(crate) fn is_ended(&mut self) -> Result<bool, S::Error>
         ensures same { here S.rest self.new ≡ here S.rest self.old }
+        ensures frame { SameFrame self.old self.new }
         ensures told { IfOk result (λ b. IsTrue b ↔ EndsHere (here S.rest self.old).end (octets (here S.rest self.old))) }
     {
         match self.end {
@@ -104,20 +107,31 @@ impl<S: Source> Constructed<S> {
         }
     }
 
-    // Whether a value of that tag is next.
+    // Whether a value of that tag is next, as far as its identifier octets tell. Where there are octets,
+    // but no identifier octets of a value, the content is refused.
     #[inline(always)]
     pub(crate) fn comes(&mut self, tag: Tag) -> Result<bool, DecodeError<S::Error>>
         ensures same { OnOk result (here S.rest self.new ≡ here S.rest self.old) }
+        ensures frame { OnOk result (SameFrame self.old self.new) }
         ensures yes { IfOk result (λ b. b ≡ true → Comes (here S.rest self.old) tag) }
+        ensures told { IfOk result (λ b. b ≡ true → OfTag tag (left (octets (here S.rest self.old)))) }
         ensures no { IfOk result (λ b. b ≡ false → Unlike (here S.rest self.old) tag) }
-        ensures refused { IfErr result (λ e. OnlyContent e ((here S.rest self.old).failed ≡ true)) }
+        ensures refused { IfErr result (λ e. OnlyContent e (Untold (here S.rest self.old))) }
         ensures failed { OnErr result ((here S.rest self.new).failed ≡ true) }
     {
         if self.octets.failed {
             return Err(self.refuse(ContentError::from_static("a read was refused before")));
         }
-        match header::is_next(&mut self.octets.source, tag) {
-            Ok(next) => Ok(next),
+        let found = match header::next_tag(&mut self.octets.source) {
+            Ok(found) => found,
+            Err(error) => return Err(self.broken(error)),
+        };
+        if let Some(found) = found {
+            return Ok(found == tag);
+        }
+        match self.is_ended() {
+            Ok(true) => Ok(false),
+            Ok(false) => Err(self.refuse(ContentError::from_static("no identifier"))),
             Err(error) => Err(self.broken(error)),
         }
     }
@@ -128,6 +142,9 @@ impl<S: Source> Constructed<S> {
         ensures entered { IfOk result (λ r. Enters (here S.rest self.old) r.1 r.0 r.2.span (here S.rest self.new)) }
         ensures form { IfOk result (λ r. self.new.constructed ≡ r.1) }
         ensures around { IfOk result (λ r. (r.2.mode ≡ (here S.rest self.old).mode) × (r.2.end ≡ (here S.rest self.old).end)) }
+        ensures frame { IfOk result (λ r.
+            (r.2.constructed ≡ self.old.constructed) × (r.2.start ≡ start_of self.old)) }
+        ensures start { OnOk result (start_of self.new ≡ S.position self.new.octets.source.source) }
         ensures refused { IfErr result (λ e. OnlyContent e (NoneAhead (here S.rest self.old))) }
         ensures failed { OnErr result ((here S.rest self.new).failed ≡ true) }
     {
@@ -163,7 +180,10 @@ impl<S: Source> Constructed<S> {
     fn open_if(&mut self, tag: Tag, constructed: bool) -> Result<Outer, DecodeError<S::Error>>
         ensures entered { IfOk result (λ outer. Enters (here S.rest self.old) constructed tag outer.span (here S.rest self.new)) }
         ensures around { IfOk result (λ outer. (outer.mode ≡ (here S.rest self.old).mode) × (outer.end ≡ (here S.rest self.old).end)) }
+        ensures frame { IfOk result (λ outer.
+            (outer.constructed ≡ self.old.constructed) × (outer.start ≡ start_of self.old)) }
         ensures refused { IfErr result (λ e. OnlyContent e (NoneOf (here S.rest self.old) tag constructed)) }
+        ensures named { IfErr result (λ e. OnContent e (NamesTag (here S.rest self.old) tag e)) }
         ensures failed { OnErr result ((here S.rest self.new).failed ≡ true) }
     {
         let (found, form, outer) = match self.open() {
@@ -183,6 +203,8 @@ impl<S: Source> Constructed<S> {
     #[inline(always)]
     pub(crate) fn close(&mut self, outer: Outer) -> Result<(), DecodeError<S::Error>>
         ensures left { OnOk result (LeftBy outer.span outer.mode outer.end (here S.rest self.old) (here S.rest self.new)) }
+        ensures frame { OnOk result (
+            (self.new.constructed ≡ outer.constructed) × (start_of self.new ≡ outer.start)) }
         ensures refused { IfErr result (λ e. OnlyContent e (EndsUnread outer.span (here S.rest self.old).failed (octets (here S.rest self.old)))) }
         ensures failed { OnErr result ((here S.rest self.new).failed ≡ true) }
     {
@@ -214,6 +236,8 @@ impl<S: Source> Constructed<S> {
     >(&mut self, tag: Tag, op: F) -> Result<T, DecodeError<S::Error>>
         requires { F.IsAlwaysCallable op }
         ensures ran { Ran S.rest F.FnOnce op (here S.rest self.old) tag result (here S.rest self.new) }
+        ensures frame { OnOk result (SameFrame self.old self.new) }
+        ensures named { IfErr result (λ e. OnContent e (NamesTag (here S.rest self.old) tag e)) }
         ensures failed { OnErr result ((here S.rest self.new).failed ≡ true) }
         ensures memory { IfErr result (λ e. OnMemory e (RanErr S.rest F.FnOnce op (here S.rest self.old) tag e)) }
     {
@@ -242,6 +266,7 @@ impl<S: Source> Constructed<S> {
     >(&mut self, tag: Tag, op: F) -> Result<Option<T>, DecodeError<S::Error>>
         requires { F.IsAlwaysCallable op }
         ensures ran { RanOpt S.rest F.FnOnce op (here S.rest self.old) tag result (here S.rest self.new) }
+        ensures frame { OnOk result (SameFrame self.old self.new) }
         ensures failed { OnErr result ((here S.rest self.new).failed ≡ true) }
         ensures memory { IfErr result (λ e. OnMemory e (RanErr S.rest F.FnOnce op (here S.rest self.old) tag e)) }
     {
@@ -264,6 +289,8 @@ impl<S: Source> Constructed<S> {
     >(&mut self, tag: Tag, op: F) -> Result<T, DecodeError<S::Error>>
         requires { F.IsAlwaysCallable op }
         ensures ran { PlainRan S.rest F.FnOnce op (here S.rest self.old) tag result (here S.rest self.new) }
+        ensures frame { OnOk result (SameFrame self.old self.new) }
+        ensures named { IfErr result (λ e. OnContent e (NamesTag (here S.rest self.old) tag e)) }
         ensures failed { OnErr result ((here S.rest self.new).failed ≡ true) }
         ensures memory { IfErr result (λ e. OnMemory e (PlainErr S.rest F.FnOnce op (here S.rest self.old) tag e)) }
     {
@@ -292,6 +319,7 @@ impl<S: Source> Constructed<S> {
     >(&mut self, tag: Tag, op: F) -> Result<Option<T>, DecodeError<S::Error>>
         requires { F.IsAlwaysCallable op }
         ensures ran { PlainRanOpt S.rest F.FnOnce op (here S.rest self.old) tag result (here S.rest self.new) }
+        ensures frame { OnOk result (SameFrame self.old self.new) }
         ensures failed { OnErr result ((here S.rest self.new).failed ≡ true) }
         ensures memory { IfErr result (λ e. OnMemory e (PlainErr S.rest F.FnOnce op (here S.rest self.old) tag e)) }
     {

@@ -1,16 +1,17 @@
 //! Contents of either form, and values of any tag.
 ghost use Rattle.std.specs.Prelude.{◌≡◌, ◌↔◌, true, false, IsTrue, IfErr, IfOk, OnOk, OnErr};
 ghost use Rattle.std.specs.Fn.{FnOnceReturnsAtMut};
-ghost use Rattle.bcder_source.specs.Errors.{OnlyContent};
-ghost use Rattle.bcder_source.specs.declared.error.DecodeError.TheVariants.{Content as content_error};
+ghost use Rattle.bcder_content.specs.bcder_source.Errors.{OnContent, OnlyContent};
+ghost use Rattle.bcder_content.specs.bcder_source.declared.error.DecodeError.TheVariants.{Content as content_error};
 ghost use Rattle.bcder_content.specs.Contents.{Ended};
 ghost use Rattle.bcder_content.specs.Either.{SameContent, left_of, form_in, RunsOctets, RunsValues, ByContent, ByContentAlone, ByValues, ByOctets, Takes, TakesNext, TakesOpt, AnyKind, OfForm, WithTag};
-ghost use Rattle.bcder_content.specs.Here.{here};
+ghost use Rattle.bcder_content.specs.Here.{here, SameFrame};
 ghost use Rattle.bcder_content.specs.Memory.{OnMemory, AnyErr};
+ghost use Rattle.bcder_content.specs.Stops.{NamesTag};
 
+use crate::bcder_source::{ContentError, DecodeError, Mode, Source, Tag};
 use crate::constructed::Constructed;
 use crate::primitive::Primitive;
-use bcder_source::{ContentError, DecodeError, Mode, Source, Tag};
 
 /// The content of a value, which is primitive or constructed.
 #[derive(Drop)]
@@ -115,6 +116,7 @@ impl<S: Source> Constructed<S> {
     // Whether the content has ended; one of which a read was refused before is refused again.
     fn ends(&mut self) -> Result<bool, DecodeError<S::Error>>
         ensures same { OnOk result (here S.rest self.new ≡ here S.rest self.old) }
+        ensures frame { OnOk result (SameFrame self.old self.new) }
         ensures told { IfOk result (λ b. IsTrue b ↔ Ended (here S.rest self.old)) }
         ensures refused { IfErr result (λ e. OnlyContent e ((here S.rest self.old).failed ≡ true)) }
         ensures failed { OnErr result ((here S.rest self.new).failed ≡ true) }
@@ -139,6 +141,7 @@ impl<S: Source> Constructed<S> {
         requires callable { F.IsAlwaysCallable op }
         requires keeps { (t p q : _) (r : _) → F.post op t p r q → SameContent p.now q.now }
         ensures taken { Takes (ByContent S.rest F.FnOnce op) AnyKind (here S.rest self.old) result (here S.rest self.new) }
+        ensures frame { OnOk result (SameFrame self.old self.new) }
         ensures failed { OnErr result ((here S.rest self.new).failed ≡ true) }
         ensures memory { IfErr result (λ e. OnMemory e (AnyErr (ByContent S.rest F.FnOnce op) (here S.rest self.old) e)) }
     {
@@ -167,6 +170,7 @@ impl<S: Source> Constructed<S> {
         requires callable { F.IsAlwaysCallable op }
         requires keeps { (t p q : _) (r : _) → F.post op t p r q → SameContent p.now q.now }
         ensures taken { TakesNext (ByContent S.rest F.FnOnce op) AnyKind (here S.rest self.old) result (here S.rest self.new) }
+        ensures frame { OnOk result (SameFrame self.old self.new) }
         ensures failed { OnErr result ((here S.rest self.new).failed ≡ true) }
         ensures memory { IfErr result (λ e. OnMemory e (AnyErr (ByContent S.rest F.FnOnce op) (here S.rest self.old) e)) }
     {
@@ -189,6 +193,8 @@ impl<S: Source> Constructed<S> {
         requires callable { F.IsAlwaysCallable op }
         requires keeps { (p q : _) (r : _) → F.post op p r q → SameContent p.now q.now }
         ensures taken { Takes (ByContentAlone S.rest F.FnOnce op) (WithTag tag) (here S.rest self.old) result (here S.rest self.new) }
+        ensures frame { OnOk result (SameFrame self.old self.new) }
+        ensures named { IfErr result (λ e. OnContent e (NamesTag (here S.rest self.old) tag e)) }
         ensures failed { OnErr result ((here S.rest self.new).failed ≡ true) }
         ensures memory { IfErr result (λ e. OnMemory e (AnyErr (ByContentAlone S.rest F.FnOnce op) (here S.rest self.old) e)) }
     {
@@ -220,6 +226,7 @@ impl<S: Source> Constructed<S> {
         requires callable { F.IsAlwaysCallable op }
         requires keeps { (p q : _) (r : _) → F.post op p r q → SameContent p.now q.now }
         ensures taken { TakesOpt (ByContentAlone S.rest F.FnOnce op) tag (here S.rest self.old) result (here S.rest self.new) }
+        ensures frame { OnOk result (SameFrame self.old self.new) }
         ensures failed { OnErr result ((here S.rest self.new).failed ≡ true) }
         ensures memory { IfErr result (λ e. OnMemory e (AnyErr (ByContentAlone S.rest F.FnOnce op) (here S.rest self.old) e)) }
     {
@@ -242,6 +249,7 @@ impl<S: Source> Constructed<S> {
     >(&mut self, op: F) -> Result<T, DecodeError<S::Error>>
         requires callable { F.IsAlwaysCallable op }
         ensures taken { Takes (ByValues S.rest F.FnOnce op) (OfForm true) (here S.rest self.old) result (here S.rest self.new) }
+        ensures frame { OnOk result (SameFrame self.old self.new) }
         ensures failed { OnErr result ((here S.rest self.new).failed ≡ true) }
         ensures memory { IfErr result (λ e. OnMemory e (AnyErr (ByValues S.rest F.FnOnce op) (here S.rest self.old) e)) }
     {
@@ -272,6 +280,7 @@ impl<S: Source> Constructed<S> {
     >(&mut self, op: F) -> Result<Option<T>, DecodeError<S::Error>>
         requires callable { F.IsAlwaysCallable op }
         ensures taken { TakesNext (ByValues S.rest F.FnOnce op) (OfForm true) (here S.rest self.old) result (here S.rest self.new) }
+        ensures frame { OnOk result (SameFrame self.old self.new) }
         ensures failed { OnErr result ((here S.rest self.new).failed ≡ true) }
         ensures memory { IfErr result (λ e. OnMemory e (AnyErr (ByValues S.rest F.FnOnce op) (here S.rest self.old) e)) }
     {
@@ -294,6 +303,7 @@ impl<S: Source> Constructed<S> {
     >(&mut self, op: F) -> Result<T, DecodeError<S::Error>>
         requires callable { F.IsAlwaysCallable op }
         ensures taken { Takes (ByOctets S.rest F.FnOnce op) (OfForm false) (here S.rest self.old) result (here S.rest self.new) }
+        ensures frame { OnOk result (SameFrame self.old self.new) }
         ensures failed { OnErr result ((here S.rest self.new).failed ≡ true) }
         ensures memory { IfErr result (λ e. OnMemory e (AnyErr (ByOctets S.rest F.FnOnce op) (here S.rest self.old) e)) }
     {
@@ -324,6 +334,7 @@ impl<S: Source> Constructed<S> {
     >(&mut self, op: F) -> Result<Option<T>, DecodeError<S::Error>>
         requires callable { F.IsAlwaysCallable op }
         ensures taken { TakesNext (ByOctets S.rest F.FnOnce op) (OfForm false) (here S.rest self.old) result (here S.rest self.new) }
+        ensures frame { OnOk result (SameFrame self.old self.new) }
         ensures failed { OnErr result ((here S.rest self.new).failed ≡ true) }
         ensures memory { IfErr result (λ e. OnMemory e (AnyErr (ByOctets S.rest F.FnOnce op) (here S.rest self.old) e)) }
     {

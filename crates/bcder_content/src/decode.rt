@@ -1,13 +1,13 @@
 //! Sources that are read from their beginning.
 ghost use Rattle.std.specs.Prelude.{◌≡◌, ℕ, List, IfErr};
-ghost use Rattle.bcder_tree.specs.declared.mode.Mode.{Mode as ModeValue};
+ghost use Rattle.bcder_content.specs.bcder_tree.declared.mode.Mode.{Mode as ModeValue};
 ghost use Rattle.bcder_content.specs.Memory.{OnMemory, InErr};
 ghost use Rattle.bcder_content.specs.Ran.{Decoded, fresh};
 
+use crate::bcder_source::{ContentError, DecodeError, IntoSource, LimitedSource, Mode, Source};
 use crate::constructed::Constructed;
 use crate::ending::Ending;
 use crate::primitive::Primitive;
-use bcder_source::{ContentError, DecodeError, IntoSource, LimitedSource, Mode, Source};
 
 impl<S: Source> Constructed<S> {
     /// What a closure reads from the beginning of a source, in that mode. Octets behind what it reads

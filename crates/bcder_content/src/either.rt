@@ -1,20 +1,21 @@
 //! Numbers and NULL of contents of either form: for values with implicit tags.
 ghost use Rattle.std.specs.Prelude.{◌≡◌, ◌≢◌, ◌^◌, false, true, IfErr, OnErr, OnOk};
-ghost use Rattle.bcder_source.specs.declared.error.DecodeError.TheVariants.{Content as content_error, Memory};
+ghost use Rattle.bcder_content.specs.bcder_source.declared.error.DecodeError.TheVariants.{Content as content_error, Memory};
 ghost use Rattle.bcder_primitive.specs.Values.{IsNull, IsUnsigned, IsValue};
 ghost use Rattle.bcder_content.specs.Either.{SameContent, left_of, form_in};
 ghost use Rattle.bcder_content.specs.Grammar.{OctetsOf};
+ghost use Rattle.bcder_content.specs.Here.{start_of};
 ghost use Rattle.bcder_content.specs.Tagged.{ReadsTagged};
 
+use crate::bcder_source::{ContentError, DecodeError, Source};
 use crate::content::Content;
-use bcder_source::{ContentError, DecodeError, Source};
 
 /// Simple values by their content alone, whatever their tag: for implicit tags (X.690 8.14). A constructed
 /// value is none of them. A read that is refused leaves the content failed.
 impl<'a, S: Source> Content<'a, S> {
     /// The refusal of the content, from its beginning.
     pub fn content_err(&self, error: ContentError) -> DecodeError<S::Error>
-        ensures { (pos : _) × (result ≡ content_error error pos) }
+        ensures { result ≡ content_error error (start_of self.now.values.now) }
     {
         self.values.content_err(error)
     }

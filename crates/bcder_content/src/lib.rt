@@ -11,7 +11,8 @@ pub mod laws;
 pub mod skip;
 pub mod typed;
 
-pub use bcder_header::{Ending, ending, header};
+pub use bcder_header::{Ending, bcder_source, bcder_tree, ending, header};
+pub use bcder_primitive;
 pub use bcder_primitive::{Primitive, primitive};
 pub use captured::Captured;
 pub use constructed::Constructed;

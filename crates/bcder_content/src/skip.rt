@@ -1,14 +1,16 @@
 //! Skipping values, without recursion.
 ghost use Rattle.std.specs.Prelude.{◌≡◌, IfErr, OnOk, OnErr, true};
-ghost use Rattle.bcder_source.specs.Errors.{OnContent};
+ghost use Rattle.bcder_content.specs.bcder_source.Errors.{OnContent};
 ghost use Rattle.bcder_content.specs.Exact.{ReadsNextAs};
 ghost use Rattle.bcder_content.specs.Grammar.{Any};
-ghost use Rattle.bcder_content.specs.Here.{here};
+ghost use Rattle.bcder_content.specs.Contents.{Ended};
+ghost use Rattle.bcder_content.specs.Here.{here, SameFrame};
+ghost use Rattle.bcder_content.specs.Memory.{OnMemory};
 ghost use Rattle.bcder_content.specs.Skips.{OnError, SkipsOpt, SkipsNext, StopsNext, SkipsAll, NotWhole};
 
+use crate::bcder_source::{ContentError, DecodeError, Source, Tag};
 use crate::constructed::Constructed;
 pub use bcder_header::skip::skip_value;
-use bcder_source::{ContentError, DecodeError, Source, Tag};
 use std::alloc::Global;
 
 impl<S: Source> Constructed<S> {
@@ -23,6 +25,8 @@ impl<S: Source> Constructed<S> {
     ) -> Result<Option<()>, DecodeError<S::Error>>
         requires callable { F.IsAlwaysCallable op }
         ensures skipped { SkipsOpt F.step op (here S.rest self.old) result (here S.rest self.new) }
+        ensures frame { OnOk result (SameFrame self.old self.new) }
+        ensures memory { IfErr result (λ e. OnMemory e (Ended (here S.rest self.old) → ⊥)) }
         ensures failed { OnErr result ((here S.rest self.new).failed ≡ true) }
     {
         if self.octets.failed {
@@ -48,7 +52,8 @@ impl<S: Source> Constructed<S> {
     /// those in it.
     ///
     /// The content is refused where no value is next, and with the error of `op` where that
-    /// refuses a value. Memory is wanted where more than 16 values lie in each other.
+    /// refuses a value. Memory is wanted only where more than 16 values lie in each
+    /// other, and never where the content has ended.
     pub fn skip<F: FnMut(Tag, bool, usize) -> Result<(), ContentError>>(
         &mut self,
         alloc: Global,
@@ -57,6 +62,8 @@ impl<S: Source> Constructed<S> {
         requires callable { F.IsAlwaysCallable op }
         ensures skipped { OnOk result (SkipsNext F.step op (here S.rest self.old) (here S.rest self.new)) }
         ensures refused { IfErr result (λ e. OnError e (StopsNext F.step op (here S.rest self.old))) }
+        ensures frame { OnOk result (SameFrame self.old self.new) }
+        ensures memory { IfErr result (λ e. OnMemory e (Ended (here S.rest self.old) → ⊥)) }
         ensures failed { OnErr result ((here S.rest self.new).failed ≡ true) }
     {
         match self.skip_opt(alloc, op) {
@@ -71,6 +78,8 @@ impl<S: Source> Constructed<S> {
     /// None where the content has ended.
     pub fn skip_one(&mut self, alloc: Global) -> Result<Option<()>, DecodeError<S::Error>>
         ensures skipped { ReadsNextAs (λ x. x) Any (here S.rest self.old) result (here S.rest self.new) }
+        ensures frame { OnOk result (SameFrame self.old self.new) }
+        ensures memory { IfErr result (λ e. OnMemory e (Ended (here S.rest self.old) → ⊥)) }
         ensures failed { OnErr result ((here S.rest self.new).failed ≡ true) }
     {
         self.skip_opt(alloc, |_, _, _| Ok(()))
@@ -80,6 +89,8 @@ impl<S: Source> Constructed<S> {
     pub fn skip_all(&mut self, alloc: Global) -> Result<(), DecodeError<S::Error>>
         ensures skipped { OnOk result (SkipsAll (here S.rest self.old) (here S.rest self.new)) }
         ensures refused { IfErr result (λ e. OnContent e (NotWhole (here S.rest self.old))) }
+        ensures frame { OnOk result (SameFrame self.old self.new) }
+        ensures memory { IfErr result (λ e. OnMemory e (Ended (here S.rest self.old) → ⊥)) }
         ensures failed { OnErr result ((here S.rest self.new).failed ≡ true) }
     {
         loop {

@@ -1,16 +1,18 @@
 //! Values of simple types, and of sequences and sets.
-ghost use Rattle.std.specs.Prelude.{◌≡◌, ◌≢◌, ◌^◌, IfErr, OnErr, true};
-ghost use Rattle.bcder_source.specs.declared.error.DecodeError.TheVariants.{Memory};
-ghost use Rattle.bcder_tree.specs.Tags.{universal};
+ghost use Rattle.std.specs.Prelude.{◌≡◌, ◌≢◌, ◌^◌, IfErr, OnOk, OnErr, true};
+ghost use Rattle.bcder_content.specs.bcder_source.Errors.{OnContent};
+ghost use Rattle.bcder_content.specs.bcder_source.declared.error.DecodeError.TheVariants.{Memory};
+ghost use Rattle.bcder_content.specs.bcder_tree.Tags.{universal};
 ghost use Rattle.bcder_content.specs.Exact.{ReadsAs, ReadsOptAs};
 ghost use Rattle.bcder_content.specs.Grammar.{OctetsOf};
-ghost use Rattle.bcder_content.specs.Here.{here};
+ghost use Rattle.bcder_content.specs.Here.{here, SameFrame};
 ghost use Rattle.bcder_content.specs.Memory.{OnMemory, RanErr};
 ghost use Rattle.bcder_content.specs.Ran.{Ran, RanOpt};
+ghost use Rattle.bcder_content.specs.Stops.{NamesTag};
 ghost use Rattle.bcder_primitive.specs.Values.{IsBoolean, IsNull, IsUnsigned, IsValue};
 
+use crate::bcder_source::{DecodeError, Source, Tag};
 use crate::constructed::Constructed;
-use bcder_source::{DecodeError, Source, Tag};
 
 /// Values of simple types. A value that is read must be next; an optional one is there where a value
 /// with its tag is next.
@@ -18,6 +20,8 @@ impl<S: Source> Constructed<S> {
     /// The truth of a BOOLEAN (X.690 8.2, 11.1).
     pub fn take_bool(&mut self) -> Result<bool, DecodeError<S::Error>>
         ensures reads { ReadsAs (λ b. b) (OctetsOf (universal 1) (IsBoolean (here S.rest self.old).mode)) (here S.rest self.old) result (here S.rest self.new) }
+        ensures frame { OnOk result (SameFrame self.old self.new) }
+        ensures named { IfErr result (λ e. OnContent e (NamesTag (here S.rest self.old) (universal 1) e)) }
         ensures failed { OnErr result ((here S.rest self.new).failed ≡ true) }
         ensures no_memory { IfErr result (λ e. e ≢ Memory) }
     {
@@ -27,6 +31,7 @@ impl<S: Source> Constructed<S> {
     /// The truth of a BOOLEAN, if one is next (X.690 8.2, 11.1).
     pub fn take_opt_bool(&mut self) -> Result<Option<bool>, DecodeError<S::Error>>
         ensures reads { ReadsOptAs (λ b. b) (universal 1) (OctetsOf (universal 1) (IsBoolean (here S.rest self.old).mode)) (here S.rest self.old) result (here S.rest self.new) }
+        ensures frame { OnOk result (SameFrame self.old self.new) }
         ensures failed { OnErr result ((here S.rest self.new).failed ≡ true) }
         ensures no_memory { IfErr result (λ e. e ≢ Memory) }
     {
@@ -36,6 +41,8 @@ impl<S: Source> Constructed<S> {
     /// Reads a NULL (X.690 8.8).
     pub fn take_null(&mut self) -> Result<(), DecodeError<S::Error>>
         ensures reads { ReadsAs (λ x. x) (OctetsOf (universal 5) (IsNull)) (here S.rest self.old) result (here S.rest self.new) }
+        ensures frame { OnOk result (SameFrame self.old self.new) }
+        ensures named { IfErr result (λ e. OnContent e (NamesTag (here S.rest self.old) (universal 5) e)) }
         ensures failed { OnErr result ((here S.rest self.new).failed ≡ true) }
         ensures no_memory { IfErr result (λ e. e ≢ Memory) }
     {
@@ -45,6 +52,7 @@ impl<S: Source> Constructed<S> {
     /// Reads a NULL, if one is next, and tells whether (X.690 8.8).
     pub fn take_opt_null(&mut self) -> Result<Option<()>, DecodeError<S::Error>>
         ensures reads { ReadsOptAs (λ x. x) (universal 5) (OctetsOf (universal 5) (IsNull)) (here S.rest self.old) result (here S.rest self.new) }
+        ensures frame { OnOk result (SameFrame self.old self.new) }
         ensures failed { OnErr result ((here S.rest self.new).failed ≡ true) }
         ensures no_memory { IfErr result (λ e. e ≢ Memory) }
     {
@@ -54,6 +62,8 @@ impl<S: Source> Constructed<S> {
     /// The number of an INTEGER (X.690 8.3) that fits a `u8`; any other is refused.
     pub fn take_u8(&mut self) -> Result<u8, DecodeError<S::Error>>
         ensures reads { ReadsAs (λ n. n) (OctetsOf (universal 2) (IsUnsigned (2 ^ 8))) (here S.rest self.old) result (here S.rest self.new) }
+        ensures frame { OnOk result (SameFrame self.old self.new) }
+        ensures named { IfErr result (λ e. OnContent e (NamesTag (here S.rest self.old) (universal 2) e)) }
         ensures failed { OnErr result ((here S.rest self.new).failed ≡ true) }
         ensures no_memory { IfErr result (λ e. e ≢ Memory) }
     {
@@ -63,6 +73,7 @@ impl<S: Source> Constructed<S> {
     /// The number of an INTEGER, if one is next (X.690 8.3); one that doesn't fit a `u8` is refused.
     pub fn take_opt_u8(&mut self) -> Result<Option<u8>, DecodeError<S::Error>>
         ensures reads { ReadsOptAs (λ n. n) (universal 2) (OctetsOf (universal 2) (IsUnsigned (2 ^ 8))) (here S.rest self.old) result (here S.rest self.new) }
+        ensures frame { OnOk result (SameFrame self.old self.new) }
         ensures failed { OnErr result ((here S.rest self.new).failed ≡ true) }
         ensures no_memory { IfErr result (λ e. e ≢ Memory) }
     {
@@ -72,6 +83,8 @@ impl<S: Source> Constructed<S> {
     /// The number of an INTEGER (X.690 8.3) that fits a `u16`; any other is refused.
     pub fn take_u16(&mut self) -> Result<u16, DecodeError<S::Error>>
         ensures reads { ReadsAs (λ n. n) (OctetsOf (universal 2) (IsUnsigned (2 ^ 16))) (here S.rest self.old) result (here S.rest self.new) }
+        ensures frame { OnOk result (SameFrame self.old self.new) }
+        ensures named { IfErr result (λ e. OnContent e (NamesTag (here S.rest self.old) (universal 2) e)) }
         ensures failed { OnErr result ((here S.rest self.new).failed ≡ true) }
         ensures no_memory { IfErr result (λ e. e ≢ Memory) }
     {
@@ -81,6 +94,7 @@ impl<S: Source> Constructed<S> {
     /// The number of an INTEGER, if one is next (X.690 8.3); one that doesn't fit a `u16` is refused.
     pub fn take_opt_u16(&mut self) -> Result<Option<u16>, DecodeError<S::Error>>
         ensures reads { ReadsOptAs (λ n. n) (universal 2) (OctetsOf (universal 2) (IsUnsigned (2 ^ 16))) (here S.rest self.old) result (here S.rest self.new) }
+        ensures frame { OnOk result (SameFrame self.old self.new) }
         ensures failed { OnErr result ((here S.rest self.new).failed ≡ true) }
         ensures no_memory { IfErr result (λ e. e ≢ Memory) }
     {
@@ -90,6 +104,8 @@ impl<S: Source> Constructed<S> {
     /// The number of an INTEGER (X.690 8.3) that fits a `u32`; any other is refused.
     pub fn take_u32(&mut self) -> Result<u32, DecodeError<S::Error>>
         ensures reads { ReadsAs (λ n. n) (OctetsOf (universal 2) (IsUnsigned (2 ^ 32))) (here S.rest self.old) result (here S.rest self.new) }
+        ensures frame { OnOk result (SameFrame self.old self.new) }
+        ensures named { IfErr result (λ e. OnContent e (NamesTag (here S.rest self.old) (universal 2) e)) }
         ensures failed { OnErr result ((here S.rest self.new).failed ≡ true) }
         ensures no_memory { IfErr result (λ e. e ≢ Memory) }
     {
@@ -99,6 +115,7 @@ impl<S: Source> Constructed<S> {
     /// The number of an INTEGER, if one is next (X.690 8.3); one that doesn't fit a `u32` is refused.
     pub fn take_opt_u32(&mut self) -> Result<Option<u32>, DecodeError<S::Error>>
         ensures reads { ReadsOptAs (λ n. n) (universal 2) (OctetsOf (universal 2) (IsUnsigned (2 ^ 32))) (here S.rest self.old) result (here S.rest self.new) }
+        ensures frame { OnOk result (SameFrame self.old self.new) }
         ensures failed { OnErr result ((here S.rest self.new).failed ≡ true) }
         ensures no_memory { IfErr result (λ e. e ≢ Memory) }
     {
@@ -108,6 +125,8 @@ impl<S: Source> Constructed<S> {
     /// The number of an INTEGER (X.690 8.3) that fits a `u64`; any other is refused.
     pub fn take_u64(&mut self) -> Result<u64, DecodeError<S::Error>>
         ensures reads { ReadsAs (λ n. n) (OctetsOf (universal 2) (IsUnsigned (2 ^ 64))) (here S.rest self.old) result (here S.rest self.new) }
+        ensures frame { OnOk result (SameFrame self.old self.new) }
+        ensures named { IfErr result (λ e. OnContent e (NamesTag (here S.rest self.old) (universal 2) e)) }
         ensures failed { OnErr result ((here S.rest self.new).failed ≡ true) }
         ensures no_memory { IfErr result (λ e. e ≢ Memory) }
     {
@@ -117,6 +136,7 @@ impl<S: Source> Constructed<S> {
     /// The number of an INTEGER, if one is next (X.690 8.3); one that doesn't fit a `u64` is refused.
     pub fn take_opt_u64(&mut self) -> Result<Option<u64>, DecodeError<S::Error>>
         ensures reads { ReadsOptAs (λ n. n) (universal 2) (OctetsOf (universal 2) (IsUnsigned (2 ^ 64))) (here S.rest self.old) result (here S.rest self.new) }
+        ensures frame { OnOk result (SameFrame self.old self.new) }
         ensures failed { OnErr result ((here S.rest self.new).failed ≡ true) }
         ensures no_memory { IfErr result (λ e. e ≢ Memory) }
     {
@@ -126,6 +146,8 @@ impl<S: Source> Constructed<S> {
     /// Reads an INTEGER (X.690 8.3) of that number; any other is refused.
     pub fn skip_u8_if(&mut self, expected: u8) -> Result<(), DecodeError<S::Error>>
         ensures reads { ReadsAs (λ x. x) (OctetsOf (universal 2) (IsValue (IsUnsigned (2 ^ 8)) expected)) (here S.rest self.old) result (here S.rest self.new) }
+        ensures frame { OnOk result (SameFrame self.old self.new) }
+        ensures named { IfErr result (λ e. OnContent e (NamesTag (here S.rest self.old) (universal 2) e)) }
         ensures failed { OnErr result ((here S.rest self.new).failed ≡ true) }
         ensures no_memory { IfErr result (λ e. e ≢ Memory) }
     {
@@ -136,6 +158,7 @@ impl<S: Source> Constructed<S> {
     /// number is refused.
     pub fn skip_opt_u8_if(&mut self, expected: u8) -> Result<Option<()>, DecodeError<S::Error>>
         ensures reads { ReadsOptAs (λ x. x) (universal 2) (OctetsOf (universal 2) (IsValue (IsUnsigned (2 ^ 8)) expected)) (here S.rest self.old) result (here S.rest self.new) }
+        ensures frame { OnOk result (SameFrame self.old self.new) }
         ensures failed { OnErr result ((here S.rest self.new).failed ≡ true) }
         ensures no_memory { IfErr result (λ e. e ≢ Memory) }
     {
@@ -152,6 +175,8 @@ impl<S: Source> Constructed<S> {
     >(&mut self, op: F) -> Result<T, DecodeError<S::Error>>
         requires { F.IsAlwaysCallable op }
         ensures ran { Ran S.rest F.FnOnce op (here S.rest self.old) (universal 16) result (here S.rest self.new) }
+        ensures frame { OnOk result (SameFrame self.old self.new) }
+        ensures named { IfErr result (λ e. OnContent e (NamesTag (here S.rest self.old) (universal 16) e)) }
         ensures failed { OnErr result ((here S.rest self.new).failed ≡ true) }
         ensures memory { IfErr result (λ e. OnMemory e (RanErr S.rest F.FnOnce op (here S.rest self.old) (universal 16) e)) }
     {
@@ -165,6 +190,7 @@ impl<S: Source> Constructed<S> {
     >(&mut self, op: F) -> Result<Option<T>, DecodeError<S::Error>>
         requires { F.IsAlwaysCallable op }
         ensures ran { RanOpt S.rest F.FnOnce op (here S.rest self.old) (universal 16) result (here S.rest self.new) }
+        ensures frame { OnOk result (SameFrame self.old self.new) }
         ensures failed { OnErr result ((here S.rest self.new).failed ≡ true) }
         ensures memory { IfErr result (λ e. OnMemory e (RanErr S.rest F.FnOnce op (here S.rest self.old) (universal 16) e)) }
     {
@@ -178,6 +204,8 @@ impl<S: Source> Constructed<S> {
     ) -> Result<T, DecodeError<S::Error>>
         requires { F.IsAlwaysCallable op }
         ensures ran { Ran S.rest F.FnOnce op (here S.rest self.old) (universal 17) result (here S.rest self.new) }
+        ensures frame { OnOk result (SameFrame self.old self.new) }
+        ensures named { IfErr result (λ e. OnContent e (NamesTag (here S.rest self.old) (universal 17) e)) }
         ensures failed { OnErr result ((here S.rest self.new).failed ≡ true) }
         ensures memory { IfErr result (λ e. OnMemory e (RanErr S.rest F.FnOnce op (here S.rest self.old) (universal 17) e)) }
     {
@@ -191,6 +219,7 @@ impl<S: Source> Constructed<S> {
     >(&mut self, op: F) -> Result<Option<T>, DecodeError<S::Error>>
         requires { F.IsAlwaysCallable op }
         ensures ran { RanOpt S.rest F.FnOnce op (here S.rest self.old) (universal 17) result (here S.rest self.new) }
+        ensures frame { OnOk result (SameFrame self.old self.new) }
         ensures failed { OnErr result ((here S.rest self.new).failed ≡ true) }
         ensures memory { IfErr result (λ e. OnMemory e (RanErr S.rest F.FnOnce op (here S.rest self.old) (universal 17) e)) }
     {

@@ -1,12 +1,12 @@
 -- Extensions are read in one way.
-use Rattle.bcder_tree.specs.declared.mode.Mode.{Mode}
-use Rattle.bcder_tree.specs.Tags.{universal}
-use Rattle.bcder_tree.specs.Strings.{IsOctetString, octet_string_tag}
-use Rattle.bcder_content.specs.Grammar.{One, Tagged}
-use Rattle.bcder_content.proofs.Simple.{boolean_one}
-use Rattle.bcder_content.proofs.Unique.{octets_tagged, inside_tagged, as_tagged, octets_one, inside_one, as_one, end_one, then_one, default_one}
-use Rattle.bcder_oid.proofs.Read.{oid_one}
-use Rattle.bcder_octets.proofs.Meaning.{one_string}
+use Rattle.bcder_example.specs.bcder_tree.declared.mode.Mode.{Mode}
+use Rattle.bcder_example.specs.bcder_tree.Tags.{universal}
+use Rattle.bcder_example.specs.bcder_tree.Strings.{IsOctetString, octet_string_tag}
+use Rattle.bcder_example.specs.bcder_content.Grammar.{One, Tagged}
+use Rattle.bcder_example.proofs.of_bcder_content.Simple.{boolean_one}
+use Rattle.bcder_example.proofs.of_bcder_content.Unique.{octets_tagged, inside_tagged, as_tagged, octets_one, inside_one, as_one, end_one, then_one, default_one}
+use Rattle.bcder_example.proofs.of_bcder_oid.Read.{oid_one}
+use Rattle.bcder_example.proofs.of_bcder_octets.Meaning.{one_string}
 use Rattle.bcder_example.specs.Extensions.{IsExtension}
 
 string : (m : Mode) → One (IsOctetString m)

@@ -1,2 +1,7 @@
 mod ExtensionOnes
 mod SlotLaws
+pub mod of_bcder_bits
+pub mod of_bcder_content
+pub mod of_bcder_octets
+pub mod of_bcder_oid
+pub mod of_bcder_values

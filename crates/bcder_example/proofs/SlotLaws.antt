@@ -1,16 +1,16 @@
 -- Extensions, one by one and all together.
 use Rattle.std.proofs.Common.{◌≡◌, ℕ, Bool, true, false, List, [], ◌∷◌, ◌++◌, Option, Some, None, Result, Ok, Err, refl, sym, ap, subst, append-nil, inl, inr, bytes_eq, if◌then◌else◌, OnOk, IfErr}
 use Rattle.std.proofs.lemmas.Slice.Eq.{bytes_eq-Decides}
-use Rattle.bcder_tree.specs.declared.mode.Mode.TheVariants.{Der}
-use Rattle.bcder_tree.specs.Tree.{Tree}
-use Rattle.bcder_source.specs.Views.{Reading}
-use Rattle.bcder_source.specs.Errors.{OnContent}
-use Rattle.bcder_source.specs.declared.error.DecodeError.{DecodeError}
-use Rattle.bcder_content.specs.declared.constructed.Constructed.{Constructed}
-use Rattle.bcder_content.specs.Captures.{rest_of}
-use Rattle.bcder_content.specs.Ran.{Reader}
-use Rattle.bcder_content.proofs.Decoding.{ValueEach, exact_decode}
-use Rattle.bcder_content.proofs.Fronts.{front_lacks, front_reads}
+use Rattle.bcder_example.specs.bcder_tree.declared.mode.Mode.TheVariants.{Der}
+use Rattle.bcder_example.specs.bcder_tree.Tree.{Tree}
+use Rattle.bcder_example.specs.bcder_source.Views.{Reading}
+use Rattle.bcder_example.specs.bcder_source.Errors.{OnContent}
+use Rattle.bcder_example.specs.bcder_source.declared.error.DecodeError.{DecodeError}
+use Rattle.bcder_example.specs.bcder_content.declared.constructed.Constructed.{Constructed}
+use Rattle.bcder_example.specs.bcder_content.Captures.{rest_of}
+use Rattle.bcder_example.specs.bcder_content.Ran.{Reader}
+use Rattle.bcder_example.proofs.of_bcder_content.Decoding.{ValueEach, exact_decode}
+use Rattle.bcder_example.proofs.of_bcder_content.Fronts.{front_lacks, front_reads}
 use Rattle.bcder_example.specs.declared.slots.Need.{Need}
 use Rattle.bcder_example.specs.declared.slots.Need.TheVariants.{Must, MustNot}
 use Rattle.bcder_example.specs.declared.slots.AddError.{AddError}

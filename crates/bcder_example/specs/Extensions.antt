@@ -1,18 +1,18 @@
 -- Extensions of certificates (RFC 5280 4.2), each by its octets, and values of some of them.
 use Rattle.std.specs.Prelude.{◌≡◌, ℕ, Bool, false, List, [], ◌∷◌, length}
-use Rattle.bcder_tree.specs.declared.mode.Mode.{Mode}
-use Rattle.bcder_tree.specs.Tags.{universal}
-use Rattle.bcder_tree.specs.Tree.{Tree, Trees}
-use Rattle.bcder_tree.specs.Strings.{IsOctetString}
-use Rattle.bcder_primitive.specs.Values.{IsBoolean}
-use Rattle.bcder_content.specs.Grammar.{Inside, OctetsOf, As, End, Then, Default, Such}
-use Rattle.bcder_oid.specs.Identifiers.{IsOid}
-use Rattle.bcder_bits.specs.Bits.{BitsValue}
-use Rattle.bcder_bits.specs.Contents.{IsBitString, bit_string_tag}
+use Rattle.bcder_example.specs.bcder_tree.declared.mode.Mode.{Mode}
+use Rattle.bcder_example.specs.bcder_tree.Tags.{universal}
+use Rattle.bcder_example.specs.bcder_tree.Tree.{Tree, Trees}
+use Rattle.bcder_example.specs.bcder_tree.Strings.{IsOctetString}
+use Rattle.bcder_example.specs.bcder_primitive.Values.{IsBoolean}
+use Rattle.bcder_example.specs.bcder_content.Grammar.{Inside, OctetsOf, As, End, Then, Default, Such}
+use Rattle.bcder_example.specs.bcder_oid.Identifiers.{IsOid}
+use Rattle.bcder_example.specs.bcder_bits.Bits.{BitsValue}
+use Rattle.bcder_example.specs.bcder_bits.Contents.{IsBitString, bit_string_tag}
 use Rattle.bcder_example.specs.declared.extension.RawExtension.{RawExtension}
 use Rattle.bcder_example.specs.declared.extension_values.KeyUsage.{KeyUsage}
 use Rattle.bcder_example.specs.declared.extension_values.KeyUsage.TheVariants.{Ca, Ee}
-use Rattle.bcder_content.specs.Words.{Means}
+use Rattle.bcder_example.specs.bcder_content.Words.{Means}
 
 pub record Extension : Type 0 where
   pub kind : List ℕ

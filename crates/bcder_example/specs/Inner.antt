@@ -1,9 +1,9 @@
 -- Values within the octets of an OCTET STRING.
-use Rattle.bcder_tree.specs.declared.mode.Mode.{Mode}
-use Rattle.bcder_tree.specs.Strings.{IsOctetString}
-use Rattle.bcder_tree.specs.Tree.{Tree}
-use Rattle.bcder_content.specs.Texts.{ReadsFront}
-use Rattle.bcder_content.specs.Words.{Means}
+use Rattle.bcder_example.specs.bcder_tree.declared.mode.Mode.{Mode}
+use Rattle.bcder_example.specs.bcder_tree.Strings.{IsOctetString}
+use Rattle.bcder_example.specs.bcder_tree.Tree.{Tree}
+use Rattle.bcder_example.specs.bcder_content.Texts.{ReadsFront}
+use Rattle.bcder_example.specs.bcder_content.Words.{Means}
 use Rattle.bcder_example.specs.Versions.{IsVersion, Numbers}
 
 -- An OCTET STRING that begins with a version, in DER.

@@ -1,12 +1,12 @@
 -- Limits, with fields that may be missing.
 use Rattle.std.proofs.Common.{ℕ, zero, suc, ◌^◌, Bool, true, false, Option, Some, None}
-use Rattle.bcder_tree.specs.declared.mode.Mode.{Mode}
-use Rattle.bcder_tree.specs.Tags.{context, universal}
-use Rattle.bcder_tree.specs.Tree.{Tree}
-use Rattle.bcder_content.specs.Grammar.{OctetsOf}
-use Rattle.bcder_primitive.specs.Values.{IsUnsigned}
-use Rattle.bcder_values.specs.Forms.{Form, Forms, explicit, last, wrapped}
-use Rattle.bcder_values.specs.OptionalForms.{default, last_default, maybe}
+use Rattle.bcder_example.specs.bcder_tree.declared.mode.Mode.{Mode}
+use Rattle.bcder_example.specs.bcder_tree.Tags.{context, universal}
+use Rattle.bcder_example.specs.bcder_tree.Tree.{Tree}
+use Rattle.bcder_example.specs.bcder_content.Grammar.{OctetsOf}
+use Rattle.bcder_example.specs.bcder_primitive.Values.{IsUnsigned}
+use Rattle.bcder_example.specs.bcder_values.Forms.{Form, Forms, explicit, last, wrapped}
+use Rattle.bcder_example.specs.bcder_values.OptionalForms.{default, last_default, maybe}
 use Rattle.bcder.specs.Kinds.{boolean, unsigned, unsigned_at}
 use Rattle.bcder_example.specs.declared.limits.Limits.{Limits}
 

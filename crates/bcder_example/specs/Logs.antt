@@ -1,10 +1,10 @@
 -- Grammars of logs, and of strings in pieces.
 use Rattle.std.specs.Prelude.{ℕ, List, Option, map}
-use Rattle.bcder_tree.specs.declared.mode.Mode.{Mode}
-use Rattle.bcder_tree.specs.Tags.{universal}
-use Rattle.bcder_tree.specs.Tree.{Tree, Trees}
-use Rattle.bcder_content.specs.Grammar.{Inside, OctetsOf, End, Then, Opt, Many}
-use Rattle.bcder_primitive.specs.Values.{AnyOctets}
+use Rattle.bcder_example.specs.bcder_tree.declared.mode.Mode.{Mode}
+use Rattle.bcder_example.specs.bcder_tree.Tags.{universal}
+use Rattle.bcder_example.specs.bcder_tree.Tree.{Tree, Trees}
+use Rattle.bcder_example.specs.bcder_content.Grammar.{Inside, OctetsOf, End, Then, Opt, Many}
+use Rattle.bcder_example.specs.bcder_primitive.Values.{AnyOctets}
 use Rattle.bcder_example.specs.declared.lists.Entry.{Entry}
 use Rattle.bcder_example.specs.declared.lists.Log.{Log}
 use Rattle.bcder_example.specs.Versions.{IsSmall, Numbers}

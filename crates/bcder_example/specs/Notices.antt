@@ -1,9 +1,9 @@
 -- Notices: SEQUENCE { id OBJECT IDENTIFIER, serial INTEGER (0..MAX), flags BIT STRING, note OCTET STRING }.
 use Rattle.std.specs.Prelude.{ℕ, List}
-use Rattle.bcder_tree.specs.Tags.{TagValue, universal}
-use Rattle.bcder_bits.specs.Bits.{BitsValue}
+use Rattle.bcder_example.specs.bcder_tree.Tags.{TagValue, universal}
+use Rattle.bcder_example.specs.bcder_bits.Bits.{BitsValue}
 use Rattle.bcder_example.specs.declared.notice.Notice.{Notice}
-use Rattle.bcder_values.specs.Forms.{Form, Forms, both, last, wrapped}
+use Rattle.bcder_example.specs.bcder_values.Forms.{Form, Forms, both, last, wrapped}
 use Rattle.bcder.specs.Kinds.{oid, natural, bits, octets, oid_at, natural_at, bits_at, octets_at}
 
 -- The octets of the identifier, the number, the bits, and the octets of the note.

@@ -1,8 +1,8 @@
 -- The grammar of sealed versions.
 use Rattle.std.specs.Prelude.{ℕ, List}
-use Rattle.bcder_tree.specs.declared.mode.Mode.{Mode}
-use Rattle.bcder_tree.specs.Tree.{Trees}
-use Rattle.bcder_content.specs.Grammar.{As, ExactlyOf, End, Then}
+use Rattle.bcder_example.specs.bcder_tree.declared.mode.Mode.{Mode}
+use Rattle.bcder_example.specs.bcder_tree.Tree.{Trees}
+use Rattle.bcder_example.specs.bcder_content.Grammar.{As, ExactlyOf, End, Then}
 use Rattle.bcder_example.specs.declared.kept.Sealed.{Sealed}
 use Rattle.bcder_example.specs.Versions.{IsSmall, IsVersion, Numbers}
 

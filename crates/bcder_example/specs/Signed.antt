@@ -1,10 +1,10 @@
 -- Signed structures: the octets that are signed are kept as they stand, and read.
 use Rattle.std.specs.Prelude.{ℕ, List}
-use Rattle.bcder_tree.specs.Tags.{TagValue, universal}
-use Rattle.bcder_bits.specs.Bits.{BitsValue}
-use Rattle.bcder_content.specs.Kept.{CapturedValue}
-use Rattle.bcder_values.specs.Forms.{Form, Forms, both, explicit, last, wrapped}
-use Rattle.bcder_values.specs.KeptForms.{kept}
+use Rattle.bcder_example.specs.bcder_tree.Tags.{TagValue, universal}
+use Rattle.bcder_example.specs.bcder_bits.Bits.{BitsValue}
+use Rattle.bcder_example.specs.bcder_content.Kept.{CapturedValue}
+use Rattle.bcder_example.specs.bcder_values.Forms.{Form, Forms, both, explicit, last, wrapped}
+use Rattle.bcder_example.specs.bcder_values.KeptForms.{kept}
 use Rattle.bcder.specs.Kinds.{bits, bits_at, natural, octets, oid, oid_at}
 use Rattle.bcder_example.specs.declared.signed.Body.{Body}
 use Rattle.bcder_example.specs.declared.signed.Signed.{Signed}

@@ -1,22 +1,22 @@
 -- Extensions that are known, each at most once, critical as it must be; the unknown are not critical and skipped.
 use Rattle.std.specs.Prelude.{◌≡◌, ◌⊎◌, ℕ, Bool, true, false, List, [], ◌∷◌, Option, Some, None, Ok, Err, bytes_eq, if◌then◌else◌}
-use Rattle.bcder_tree.specs.declared.mode.Mode.TheVariants.{Der}
-use Rattle.bcder_tree.specs.Tree.{Tree}
-use Rattle.bcder_source.specs.declared.error.ContentError.{ContentError}
-use Rattle.bcder_source.specs.declared.pos.Pos.{Pos}
-use Rattle.bcder_source.specs.declared.error.DecodeError.{DecodeError}
-use Rattle.bcder_source.specs.declared.error.DecodeError.TheVariants.{Content, Memory as want}
-use Rattle.bcder_source.specs.Views.{Reading}
-use Rattle.bcder_content.specs.declared.constructed.Constructed.{Constructed}
-use Rattle.bcder_content.specs.Captures.{rest_of}
-use Rattle.bcder_content.specs.Ran.{Reader, Decoded, fresh}
+use Rattle.bcder_example.specs.bcder_tree.declared.mode.Mode.TheVariants.{Der}
+use Rattle.bcder_example.specs.bcder_tree.Tree.{Tree}
+use Rattle.bcder_example.specs.bcder_source.declared.error.ContentError.{ContentError}
+use Rattle.bcder_example.specs.bcder_source.declared.pos.Pos.{Pos}
+use Rattle.bcder_example.specs.bcder_source.declared.error.DecodeError.{DecodeError}
+use Rattle.bcder_example.specs.bcder_source.declared.error.DecodeError.TheVariants.{Content, Memory as want}
+use Rattle.bcder_example.specs.bcder_source.Views.{Reading}
+use Rattle.bcder_example.specs.bcder_content.declared.constructed.Constructed.{Constructed}
+use Rattle.bcder_example.specs.bcder_content.Captures.{rest_of}
+use Rattle.bcder_example.specs.bcder_content.Ran.{Reader, Decoded, fresh}
 use Rattle.bcder_example.specs.declared.slots.Need.{Need}
 use Rattle.bcder_example.specs.declared.slots.Need.TheVariants.{Must, MustNot, May}
 use Rattle.bcder_example.specs.declared.slots.AddError.{AddError}
 use Rattle.bcder_example.specs.declared.slots.AddError.TheVariants.{Fault, Memory}
 use Rattle.bcder_example.specs.declared.slots.Slots.{Slots}
 use Rattle.bcder_example.specs.declared.extension_values.KeyUsage.{KeyUsage}
-use Rattle.bcder_content.specs.Texts.{ReadsFront}
+use Rattle.bcder_example.specs.bcder_content.Texts.{ReadsFront}
 use Rattle.bcder_example.specs.Extensions.{Extension, IsBasicConstraints, IsKeyIdentifier, IsKeyUsage, basic_constraints, subject_key_identifier, key_usage}
 
 abbrev pub Meets : Need → Bool → Type 0

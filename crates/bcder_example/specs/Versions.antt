@@ -1,10 +1,10 @@
 -- Grammars of versions, settings and names.
 use Rattle.std.specs.Prelude.{◌≡◌, ℕ, ◌^◌}
-use Rattle.bcder_tree.specs.declared.mode.Mode.{Mode}
-use Rattle.bcder_tree.specs.Tags.{universal}
-use Rattle.bcder_tree.specs.Tree.{Tree, Trees}
-use Rattle.bcder_content.specs.Grammar.{Inside, OctetsOf, Such, OneOf, As, End, Rest, Then, Default}
-use Rattle.bcder_primitive.specs.Values.{IsUnsigned}
+use Rattle.bcder_example.specs.bcder_tree.declared.mode.Mode.{Mode}
+use Rattle.bcder_example.specs.bcder_tree.Tags.{universal}
+use Rattle.bcder_example.specs.bcder_tree.Tree.{Tree, Trees}
+use Rattle.bcder_example.specs.bcder_content.Grammar.{Inside, OctetsOf, Such, OneOf, As, End, Rest, Then, Default}
+use Rattle.bcder_example.specs.bcder_primitive.Values.{IsUnsigned}
 use Rattle.bcder_example.specs.declared.versions.Version.{Version}
 use Rattle.bcder_example.specs.declared.versions.Settings.{Settings}
 use Rattle.bcder_example.specs.declared.versions.Name.{Name}

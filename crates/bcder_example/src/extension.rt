@@ -1,9 +1,9 @@
 //! One extension.
 
-ghost use Rattle.bcder_tree.specs.Tags.{universal};
-ghost use Rattle.bcder_content.specs.Exact.{ReadsOptAs};
-ghost use Rattle.bcder_content.specs.Here.{here};
-ghost use Rattle.bcder_content.specs.InMode.{ReadsFields};
+ghost use Rattle.bcder_example.specs.bcder_tree.Tags.{universal};
+ghost use Rattle.bcder_example.specs.bcder_content.Exact.{ReadsOptAs};
+ghost use Rattle.bcder_example.specs.bcder_content.Here.{here};
+ghost use Rattle.bcder_example.specs.bcder_content.InMode.{ReadsFields};
 ghost use Rattle.bcder_example.specs.Extensions.{IsExtension, IsExtensionBody, raw_fields, raw_value};
 
 use bcder::decode::{Constructed, DecodeError, Source};

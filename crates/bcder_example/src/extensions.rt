@@ -1,12 +1,12 @@
 //! The list of extensions.
 
 ghost use Rattle.std.specs.Prelude.{◌≡◌, OnErr, true};
-ghost use Rattle.bcder_tree.specs.Tags.{universal};
-ghost use Rattle.bcder_content.specs.Exact.{ReadsAs};
-ghost use Rattle.bcder_content.specs.Grammar.{Inside};
-ghost use Rattle.bcder_content.specs.Here.{here};
-ghost use Rattle.bcder_content.specs.InMode.{ReadsFields};
-ghost use Rattle.bcder_content.specs.Words.{Gathers};
+ghost use Rattle.bcder_example.specs.bcder_tree.Tags.{universal};
+ghost use Rattle.bcder_example.specs.bcder_content.Exact.{ReadsAs};
+ghost use Rattle.bcder_example.specs.bcder_content.Grammar.{Inside};
+ghost use Rattle.bcder_example.specs.bcder_content.Here.{here};
+ghost use Rattle.bcder_example.specs.bcder_content.InMode.{ReadsFields};
+ghost use Rattle.bcder_example.specs.bcder_content.Words.{Gathers};
 ghost use Rattle.bcder_example.specs.Extensions.{IsExtension};
 ghost use Rattle.bcder_example.specs.Slots.{HasExtensions, found_of, Told};
 

@@ -1,12 +1,12 @@
 //! Simple values with implicit tags, read by their content alone, whatever their tag (X.690 8.14).
 
 ghost use Rattle.std.specs.Prelude.{◌≡◌, ◌≢◌, ◌^◌, IfErr, OnErr, true};
-ghost use Rattle.bcder_source.specs.declared.error.DecodeError.TheVariants.{Memory};
-ghost use Rattle.bcder_content.specs.Exact.{ReadsAs};
-ghost use Rattle.bcder_content.specs.Grammar.{OctetsOf};
-ghost use Rattle.bcder_content.specs.Here.{here};
-ghost use Rattle.bcder_content.specs.Tagged.{ReadsTagged};
-ghost use Rattle.bcder_primitive.specs.Values.{IsUnsigned};
+ghost use Rattle.bcder_example.specs.bcder_source.declared.error.DecodeError.TheVariants.{Memory};
+ghost use Rattle.bcder_example.specs.bcder_content.Exact.{ReadsAs};
+ghost use Rattle.bcder_example.specs.bcder_content.Grammar.{OctetsOf};
+ghost use Rattle.bcder_example.specs.bcder_content.Here.{here};
+ghost use Rattle.bcder_example.specs.bcder_content.Tagged.{ReadsTagged};
+ghost use Rattle.bcder_example.specs.bcder_primitive.Values.{IsUnsigned};
 
 use bcder::Tag;
 use bcder::decode::{Constructed, DecodeError, Source};

@@ -1,10 +1,10 @@
 //! A value within the octets of an OCTET STRING, in DER, read from their front.
 
 ghost use Rattle.std.specs.Prelude.{◌≡◌};
-ghost use Rattle.bcder_tree.specs.declared.mode.Mode.TheVariants.{Der};
-ghost use Rattle.bcder_content.specs.Captures.{rest_of};
-ghost use Rattle.bcder_content.specs.Exact.{DecodesAs, ReadsAs};
-ghost use Rattle.bcder_content.specs.Here.{here};
+ghost use Rattle.bcder_example.specs.bcder_tree.declared.mode.Mode.TheVariants.{Der};
+ghost use Rattle.bcder_example.specs.bcder_content.Captures.{rest_of};
+ghost use Rattle.bcder_example.specs.bcder_content.Exact.{DecodesAs, ReadsAs};
+ghost use Rattle.bcder_example.specs.bcder_content.Here.{here};
 ghost use Rattle.bcder_example.specs.Inner.{IsInner};
 ghost use Rattle.bcder_example.specs.Versions.{IsVersion, version_fields};
 

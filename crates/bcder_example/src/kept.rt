@@ -1,12 +1,12 @@
 //! A field whose octets are kept as they stand.
 
 ghost use Rattle.std.specs.Prelude.{◌≡◌, OnErr, true};
-ghost use Rattle.bcder_tree.specs.Tags.{universal};
-ghost use Rattle.bcder_content.specs.Captures.{rest_of};
-ghost use Rattle.bcder_content.specs.Exact.{ReadsAs};
-ghost use Rattle.bcder_content.specs.Grammar.{As, Inside};
-ghost use Rattle.bcder_content.specs.Here.{here};
-ghost use Rattle.bcder_content.specs.InMode.{ReadsFields};
+ghost use Rattle.bcder_example.specs.bcder_tree.Tags.{universal};
+ghost use Rattle.bcder_example.specs.bcder_content.Captures.{rest_of};
+ghost use Rattle.bcder_example.specs.bcder_content.Exact.{ReadsAs};
+ghost use Rattle.bcder_example.specs.bcder_content.Grammar.{As, Inside};
+ghost use Rattle.bcder_example.specs.bcder_content.Here.{here};
+ghost use Rattle.bcder_example.specs.bcder_content.InMode.{ReadsFields};
 ghost use Rattle.bcder_example.specs.Sealed.{IsSealedBody, no_value, sealed_fields};
 ghost use Rattle.bcder_example.specs.Versions.{IsVersion};
 

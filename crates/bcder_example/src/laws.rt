@@ -1,9 +1,9 @@
 //! Laws of the types that are written: the contracts of functions that do nothing.
 
 ghost use Rattle.std.specs.Prelude.{ℕ, List};
-ghost use Rattle.bcder_tree.specs.declared.mode.Mode.{Mode as ModeValue};
-ghost use Rattle.bcder_content.specs.Grammar.{End, One, Then};
-ghost use Rattle.bcder_values.specs.Returns.{ReadAgain};
+ghost use Rattle.bcder_example.specs.bcder_tree.declared.mode.Mode.{Mode as ModeValue};
+ghost use Rattle.bcder_example.specs.bcder_content.Grammar.{End, One, Then};
+ghost use Rattle.bcder_example.specs.bcder_values.Returns.{ReadAgain};
 ghost use Rattle.bcder_example.specs.declared.notice.Notice.{Notice};
 ghost use Rattle.bcder_example.specs.Notices.{notice, notice_fields};
 ghost use Rattle.bcder_example.specs.Signed.{signed, signed_fields};

@@ -1,14 +1,14 @@
 //! Fields that may be missing, with explicit and with implicit tags.
 
 ghost use Rattle.std.specs.Prelude.{◌≡◌, ◌^◌, OnErr, true};
-ghost use Rattle.bcder_tree.specs.Tags.{context};
-ghost use Rattle.bcder_content.specs.Exact.{ReadsAs, ReadsOptAs};
-ghost use Rattle.bcder_content.specs.Grammar.{One};
-ghost use Rattle.bcder_content.specs.Here.{here, plain};
-ghost use Rattle.bcder_content.specs.InMode.{ReadsFields};
-ghost use Rattle.bcder_primitive.specs.Plain.{ReadsOctetsAs};
-ghost use Rattle.bcder_primitive.specs.Values.{IsUnsigned};
-ghost use Rattle.bcder_tree.specs.declared.mode.Mode.{Mode as ModeValue};
+ghost use Rattle.bcder_example.specs.bcder_tree.Tags.{context};
+ghost use Rattle.bcder_example.specs.bcder_content.Exact.{ReadsAs, ReadsOptAs};
+ghost use Rattle.bcder_example.specs.bcder_content.Grammar.{One};
+ghost use Rattle.bcder_example.specs.bcder_content.Here.{here, plain};
+ghost use Rattle.bcder_example.specs.bcder_content.InMode.{ReadsFields};
+ghost use Rattle.bcder_example.specs.bcder_primitive.Plain.{ReadsOctetsAs};
+ghost use Rattle.bcder_example.specs.bcder_primitive.Values.{IsUnsigned};
+ghost use Rattle.bcder_example.specs.bcder_tree.declared.mode.Mode.{Mode as ModeValue};
 ghost use Rattle.bcder_example.specs.Limits.{IsMost, limits, limits_content, limits_fields};
 ghost use Rattle.bcder_example.specs.Limits.{number, number_content, only};
 

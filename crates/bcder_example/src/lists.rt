@@ -1,16 +1,16 @@
 //! An optional field, and as many values as there are; the pieces of a string.
 
 ghost use Rattle.std.specs.Prelude.{◌≡◌, OnErr, map, true};
-ghost use Rattle.bcder_tree.specs.declared.mode.Mode.{Mode as ModeValue};
-ghost use Rattle.bcder_tree.specs.Tags.{universal};
-ghost use Rattle.bcder_content.specs.Exact.{ReadsAs, ReadsOptAs};
-ghost use Rattle.bcder_content.specs.Grammar.{Inside, Many, One};
-ghost use Rattle.bcder_content.specs.Here.{here, plain};
-ghost use Rattle.bcder_content.specs.InMode.{ReadsFields};
+ghost use Rattle.bcder_example.specs.bcder_tree.declared.mode.Mode.{Mode as ModeValue};
+ghost use Rattle.bcder_example.specs.bcder_tree.Tags.{universal};
+ghost use Rattle.bcder_example.specs.bcder_content.Exact.{ReadsAs, ReadsOptAs};
+ghost use Rattle.bcder_example.specs.bcder_content.Grammar.{Inside, Many, One};
+ghost use Rattle.bcder_example.specs.bcder_content.Here.{here, plain};
+ghost use Rattle.bcder_example.specs.bcder_content.InMode.{ReadsFields};
 ghost use Rattle.bcder_example.specs.Logs.{AreEntries, ArePieces, IsEntry, IsEntryBody, IsLogBody, IsPiece};
 ghost use Rattle.bcder_example.specs.Logs.{entry_fields, log_fields};
-ghost use Rattle.bcder_primitive.specs.Plain.{ReadsOctetsAs};
-ghost use Rattle.bcder_primitive.specs.Values.{AnyOctets};
+ghost use Rattle.bcder_example.specs.bcder_primitive.Plain.{ReadsOctetsAs};
+ghost use Rattle.bcder_example.specs.bcder_primitive.Values.{AnyOctets};
 
 use bcder::Tag;
 use bcder::decode::{Constructed, DecodeError, Source};

@@ -1,10 +1,10 @@
 //! Notices.
 
 ghost use Rattle.std.specs.Prelude.{◌≡◌, true, OnErr};
-ghost use Rattle.bcder_tree.specs.Tags.{universal};
-ghost use Rattle.bcder_content.specs.Exact.{ReadsAs};
-ghost use Rattle.bcder_content.specs.InMode.{ReadsFields};
-ghost use Rattle.bcder_content.specs.Here.{here};
+ghost use Rattle.bcder_example.specs.bcder_tree.Tags.{universal};
+ghost use Rattle.bcder_example.specs.bcder_content.Exact.{ReadsAs};
+ghost use Rattle.bcder_example.specs.bcder_content.InMode.{ReadsFields};
+ghost use Rattle.bcder_example.specs.bcder_content.Here.{here};
 ghost use Rattle.bcder_example.specs.Notices.{lends, notice, notice_body, notice_fields, notice_lends};
 
 use bcder::decode::{Constructed, DecodeError, Source};

@@ -1,12 +1,12 @@
 //! A signed structure: a body whose exact octets are kept, since the signature is over them, and which is read of them.
 
 ghost use Rattle.std.specs.Prelude.{◌≡◌, true, OnErr};
-ghost use Rattle.bcder_tree.specs.Tags.{universal};
-ghost use Rattle.bcder_content.specs.Captures.{rest_of};
-ghost use Rattle.bcder_content.specs.Exact.{DecodesAs, ReadsAs};
-ghost use Rattle.bcder_content.specs.Here.{here};
-ghost use Rattle.bcder_content.specs.InMode.{ReadsFields};
-ghost use Rattle.bcder_values.specs.KeptForms.{KeptIn};
+ghost use Rattle.bcder_example.specs.bcder_tree.Tags.{universal};
+ghost use Rattle.bcder_example.specs.bcder_content.Captures.{rest_of};
+ghost use Rattle.bcder_example.specs.bcder_content.Exact.{DecodesAs, ReadsAs};
+ghost use Rattle.bcder_example.specs.bcder_content.Here.{here};
+ghost use Rattle.bcder_example.specs.bcder_content.InMode.{ReadsFields};
+ghost use Rattle.bcder_example.specs.bcder_values.KeptForms.{KeptIn};
 ghost use Rattle.bcder_example.specs.Signed.{algorithm, algorithm_content, body, body_content};
 ghost use Rattle.bcder_example.specs.Signed.{body_fields, kept_body, lends, only};
 ghost use Rattle.bcder_example.specs.Signed.{signed, signed_content, signed_fields, signed_lends};

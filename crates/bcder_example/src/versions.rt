@@ -1,13 +1,13 @@
 //! Fields in their order, one that is tested, one with a default, and a choice between two values.
 
 ghost use Rattle.std.specs.Prelude.{◌≡◌, ◌≢◌, IfErr, OnErr, true};
-ghost use Rattle.bcder_source.specs.declared.error.DecodeError.TheVariants.{Memory};
-ghost use Rattle.bcder_tree.specs.declared.mode.Mode.{Mode as ModeValue};
-ghost use Rattle.bcder_tree.specs.Tags.{universal};
-ghost use Rattle.bcder_content.specs.Exact.{ReadsAs};
-ghost use Rattle.bcder_content.specs.Grammar.{Inside, One};
-ghost use Rattle.bcder_content.specs.Here.{here};
-ghost use Rattle.bcder_content.specs.InMode.{ReadsFields};
+ghost use Rattle.bcder_example.specs.bcder_source.declared.error.DecodeError.TheVariants.{Memory};
+ghost use Rattle.bcder_example.specs.bcder_tree.declared.mode.Mode.{Mode as ModeValue};
+ghost use Rattle.bcder_example.specs.bcder_tree.Tags.{universal};
+ghost use Rattle.bcder_example.specs.bcder_content.Exact.{ReadsAs};
+ghost use Rattle.bcder_example.specs.bcder_content.Grammar.{Inside, One};
+ghost use Rattle.bcder_example.specs.bcder_content.Here.{here};
+ghost use Rattle.bcder_example.specs.bcder_content.InMode.{ReadsFields};
 ghost use Rattle.bcder_example.specs.Versions.{IsName, IsSettingsBody, IsVersion, IsVersionBody};
 ghost use Rattle.bcder_example.specs.Versions.{name_value, settings_fields, version_fields};
 

@@ -1,18 +1,18 @@
 -- Where values begin and end.
 use Rattle.std.proofs.Common.{◌≡◌, inl, inr, ℕ, ◌+◌, ◌-◌, ◌≤◌, Bool, true, false, List, [], ◌∷◌, ◌++◌, length, take, drop, Option, Some, None, refl, sym, ap, ◌∙◌, subst, append_assoc, length-append, arith}
 use Rattle.std.proofs.lemmas.List.{take-append-drop, length-take, length-take-le}
-use Rattle.bcder_tree.specs.declared.mode.Mode.{Mode}
-use Rattle.bcder_tree.specs.declared.length.Length.{Length}
-use Rattle.bcder_tree.specs.declared.length.Length.TheVariants.{Definite as LengthIs, Indefinite as NoLength}
-use Rattle.bcder_tree.specs.Tags.{TagValue, IsTag}
-use Rattle.bcder_tree.specs.Octets.{IsIdentifier}
-use Rattle.bcder_tree.specs.Lengths.{SpellsLength}
-use Rattle.bcder_tree.specs.Tree.{Tree, Trees, primitive, constructed, IsHeader, Spells, SpellsAll, HasDefinite, HasIndefinite, definite, indefinite}
-use Rattle.bcder_tree.specs.Front.{Front, Splits}
+use Rattle.bcder_header.specs.bcder_tree.declared.mode.Mode.{Mode}
+use Rattle.bcder_header.specs.bcder_tree.declared.length.Length.{Length}
+use Rattle.bcder_header.specs.bcder_tree.declared.length.Length.TheVariants.{Definite as LengthIs, Indefinite as NoLength}
+use Rattle.bcder_header.specs.bcder_tree.Tags.{TagValue, IsTag}
+use Rattle.bcder_header.specs.bcder_tree.Octets.{IsIdentifier}
+use Rattle.bcder_header.specs.bcder_tree.Lengths.{SpellsLength}
+use Rattle.bcder_header.specs.bcder_tree.Tree.{Tree, Trees, primitive, constructed, IsHeader, Spells, SpellsAll, HasDefinite, HasIndefinite, definite, indefinite}
+use Rattle.bcder_header.specs.bcder_tree.Front.{Front, Splits}
 use Rattle.bcder_source.specs.Views.{View, left, limited, more_limit, Moved}
-use Rattle.bcder_tree.proofs.Unique.{by_length, one_identifier, one_length}
-use Rattle.bcder_tree.proofs.Parts.{not_indefinite, split_primitive, constructed_parts}
-use Rattle.bcder_tree.proofs.Parts as parts
+use Rattle.bcder_header.proofs.of_bcder_tree.Unique.{by_length, one_identifier, one_length}
+use Rattle.bcder_header.proofs.of_bcder_tree.Parts.{not_indefinite, split_primitive, constructed_parts}
+use Rattle.bcder_header.proofs.of_bcder_tree.Parts as parts
 use Rattle.bcder_source.proofs.Moves.{limited_sum, more_more, moved_both, left_moved}
 use Rattle.bcder_header.specs.declared.ending.Span.{Span}
 use Rattle.bcder_header.specs.declared.ending.Span.TheVariants.{Until, ToEnd}

@@ -1,12 +1,12 @@
 -- The laws of what is to come, for any K behind it.
 use Rattle.std.proofs.Common.{◌≡◌, ℕ, ◌+◌, Bool, true, false, List, [], ◌∷◌, ◌++◌, refl, sym, ap, ◌∙◌, subst, append_assoc}
-use Rattle.bcder_tree.specs.declared.mode.Mode.{Mode}
-use Rattle.bcder_tree.specs.Tags.{TagValue}
-use Rattle.bcder_tree.specs.Tree.{Tree, Trees, primitive, constructed, none, more, SpellsAll}
-use Rattle.bcder_tree.specs.Front.{Front}
+use Rattle.bcder_header.specs.bcder_tree.declared.mode.Mode.{Mode}
+use Rattle.bcder_header.specs.bcder_tree.Tags.{TagValue}
+use Rattle.bcder_header.specs.bcder_tree.Tree.{Tree, Trees, primitive, constructed, none, more, SpellsAll}
+use Rattle.bcder_header.specs.bcder_tree.Front.{Front}
 use Rattle.bcder_source.specs.Views.{View, left, Moved}
 use Rattle.bcder_source.proofs.Moves.{moved_none, moved_both}
-use Rattle.bcder_tree.proofs.Trees.{tree_goes_on}
+use Rattle.bcder_header.proofs.of_bcder_tree.Trees.{tree_goes_on}
 use Rattle.bcder_header.specs.declared.ending.Span.{Span}
 use Rattle.bcder_header.specs.Nodes.{Node, nodes, nodes_all}
 use Rattle.bcder_header.specs.Openings.{Opens, Closes}

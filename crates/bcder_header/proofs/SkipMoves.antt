@@ -1,13 +1,13 @@
 -- Moves over octets, and where two of them end at one place.
 use Rattle.std.proofs.Common.{◌≡◌, ℕ, ◌+◌, List, [], ◌++◌, length, Option, refl, sym, ap, ◌∙◌, subst, append_assoc, length-append}
 use Rattle.std.proofs.lemmas.List.{append_cancel_left, append_cancel_right}
-use Rattle.bcder_tree.specs.declared.mode.Mode.{Mode}
-use Rattle.bcder_tree.specs.Tree.{Tree, Spells}
-use Rattle.bcder_tree.specs.Front.{Front}
+use Rattle.bcder_header.specs.bcder_tree.declared.mode.Mode.{Mode}
+use Rattle.bcder_header.specs.bcder_tree.Tree.{Tree, Spells}
+use Rattle.bcder_header.specs.bcder_tree.Front.{Front}
 use Rattle.bcder_source.specs.Views.{View, left, limited, more_limit, Moved}
 use Rattle.bcder_source.proofs.Moves.{left_moved, more_more}
-use Rattle.bcder_tree.proofs.Trees.{one_tree}
-use Rattle.bcder_tree.proofs.Parts.{Ends}
+use Rattle.bcder_header.proofs.of_bcder_tree.Trees.{one_tree}
+use Rattle.bcder_header.proofs.of_bcder_tree.Parts.{Ends}
 use Rattle.bcder_header.specs.declared.ending.Span.{Span}
 use Rattle.bcder_header.specs.declared.ending.Span.TheVariants.{Until, ToEnd}
 use Rattle.bcder_header.specs.Openings.{Closes}

@@ -5,17 +5,17 @@ use Rattle.std.proofs.lemmas.Option.{slice_get-get_or, same_Some}
 use Rattle.std.proofs.lemmas.List.{take_more, take_all, reverse-append, length-reverse}
 use Rattle.std.proofs.lemmas.Fn.{FoldsTo-push}
 use mathlib.Core.List.{reverse}
-use Rattle.bcder_tree.specs.declared.mode.Mode.{Mode}
+use Rattle.bcder_header.specs.bcder_tree.declared.mode.Mode.{Mode}
 use Rattle.bcder_source.specs.declared.error.ContentError.{ContentError}
 use Rattle.bcder_source.specs.declared.error.DecodeError.{DecodeError}
 use Rattle.bcder_source.specs.declared.error.DecodeError.TheVariants.{Content, Source, Memory}
 use Rattle.bcder_source.specs.Errors.{OnContent, OnlyContent}
 use Rattle.bcder_source.specs.Limits.{IsSpent, IsShort}
-use Rattle.bcder_tree.specs.Tags.{TagValue}
-use Rattle.bcder_tree.specs.Tree.{Tree, primitive, constructed}
-use Rattle.bcder_tree.specs.Front.{Front}
+use Rattle.bcder_header.specs.bcder_tree.Tags.{TagValue}
+use Rattle.bcder_header.specs.bcder_tree.Tree.{Tree, primitive, constructed}
+use Rattle.bcder_header.specs.bcder_tree.Front.{Front}
 use Rattle.bcder_source.specs.Views.{View, left, more_limit, Moved}
-use Rattle.bcder_tree.proofs.Fronts.{header_long}
+use Rattle.bcder_header.proofs.of_bcder_tree.Fronts.{header_long}
 use Rattle.bcder_header.specs.declared.ending.Span.{Span}
 use Rattle.bcder_header.specs.declared.ending.Span.TheVariants.{Until, ToEnd}
 use Rattle.bcder_header.specs.Nodes.{Node, nodes, nodes_all}

@@ -1,24 +1,24 @@
 -- Headers and identifiers in what lies at hand of octets.
-use Rattle.std.proofs.Common.{◌≡◌, ℕ, ◌+◌, ◌-◌, ◌<◌, ◌≤◌, inl, inr, Bool, List, [], ◌∷◌, ◌++◌, length, take, drop, Option, Some, None, IfSome, IfNone, IsTrue, IsFalse, not, ◌==◌, ◌&&◌, true, false, refl, sym, ap, ◌∙◌, subst, append_assoc, length-append, zero, suc, arith}
+use Rattle.std.proofs.Common.{◌≡◌, ℕ, ◌+◌, ◌-◌, ◌<◌, ◌≤◌, inl, inr, Bool, List, [], ◌∷◌, ◌++◌, length, take, drop, Option, Some, None, IfSome, IfNone, IsTrue, IsFalse, not, ◌==◌, ◌&&◌, true, false, refl, sym, ap, ◌∙◌, append_assoc, length-append, zero, suc, arith}
 use mathlib.Core.Bool.{beq}
-use Rattle.std.proofs.lemmas.List.{take-append-drop, length-take, length-take-le}
+use Rattle.std.proofs.lemmas.List.{take-append-drop}
 use Rattle.std.proofs.lemmas.Bool.{cases_lt, eqb-true, eq-eqb}
 use Rattle.std.proofs.Math.Seq.{drop-append_seam}
-use Rattle.bcder_tree.specs.declared.mode.Mode.{Mode}
-use Rattle.bcder_tree.specs.declared.length.Length.{Length}
-use Rattle.bcder_tree.specs.declared.length.Length.TheVariants.{Definite as LengthIs, Indefinite as NoLength}
-use Rattle.bcder_tree.specs.Tags.{TagValue, IsTag}
-use Rattle.bcder_tree.specs.Octets.{IsIdentifier, IsHigh}
-use Rattle.bcder_tree.specs.Lengths.{SpellsLength}
+use Rattle.bcder_header.specs.bcder_tree.declared.mode.Mode.{Mode}
+use Rattle.bcder_header.specs.bcder_tree.declared.length.Length.{Length}
+use Rattle.bcder_header.specs.bcder_tree.declared.length.Length.TheVariants.{Definite as LengthIs, Indefinite as NoLength}
+use Rattle.bcder_header.specs.bcder_tree.Tags.{TagValue}
+use Rattle.bcder_header.specs.bcder_tree.Octets.{IsIdentifier, IsHigh}
+use Rattle.bcder_header.specs.bcder_tree.Lengths.{SpellsLength}
 use Rattle.bcder_source.specs.Views.{View, left, Moved}
 use Rattle.bcder_source.proofs.Moves.{left_moved}
-use Rattle.bcder_tree.proofs.Unique.{tag_is}
+use Rattle.bcder_header.proofs.of_bcder_tree.Unique.{tag_is}
 use Rattle.bcder_header.specs.declared.header.Header.{Header}
-use Rattle.bcder_tree.specs.Reads.{Begins, Lacks, Identifies, IsEnd}
-use Rattle.bcder_tree.proofs.Unique.{one_identifier}
-use Rattle.bcder_tree.proofs.Slices.{rest_is}
-use Rattle.bcder_tree.proofs.Fronts.{length_bound}
-use Rattle.bcder_header.specs.Openings.{IsHead, Heads, NoHead, OfTag, NotOfTag}
+use Rattle.bcder_header.specs.bcder_tree.Reads.{Begins, Lacks, Identifies, IsEnd}
+use Rattle.bcder_header.proofs.of_bcder_tree.Unique.{one_identifier}
+use Rattle.bcder_header.proofs.of_bcder_tree.Slices.{rest_is}
+use Rattle.bcder_header.proofs.of_bcder_tree.Fronts.{length_bound}
+use Rattle.bcder_header.specs.Openings.{IsHead, Heads, NoHead, OfTag, NoTag}
 
 -- What is in front of a part of the octets is in front of them all.
 pub shown_whole : (s text y : List ℕ) (n : ℕ) → take n s ≡ text ++ y → s ≡ text ++ (y ++ drop n s)
@@ -138,11 +138,8 @@ no_size {m} {k} {t} {before} s a none = record {
       (none l).none h.size rest h.size_is (rest_is before s ∙ behind ∙ o.rest);
 }
 
-pub no_tag_in : {t : TagValue} {s octets : List ℕ} → Shown 4 s octets → ((k : Bool) (u : TagValue) → Lacks (Identifies k u) octets) → NotOfTag t s
-no_tag_in {t} w none = record { none = λ o. let a = of_tag_at_hand w o in (none a.form t).none a.identifier a.rest (a.tag, a.is) a.whole }
-
-pub other_tag_in : {t u : TagValue} {s octets : List ℕ} → Shown 4 s octets → OfTag u octets → (u ≡ t → ⊥) → NotOfTag t s
-other_tag_in w o differ = record { none = λ a. differ (one_tag (of_tag_in w o) a) }
+pub no_tag_in : {s octets : List ℕ} → Shown 4 s octets → ((k : Bool) (u : TagValue) → Lacks (Identifies k u) octets) → NoTag s
+no_tag_in w none = record { none = λ t o. let a = of_tag_at_hand w o in (none a.form t).none a.identifier a.rest (a.tag, a.is) a.whole }
 
 both : (x y : Bool) → (x && y) ≡ true → (x ≡ true) × (y ≡ true)
 both true true e = (refl, refl)

@@ -1,7 +1,7 @@
 -- The values of a tree, each before those that it holds.
 use Rattle.std.specs.Prelude.{ℕ, ◌+◌, Bool, true, false, List, [], ◌∷◌, ◌++◌}
-use Rattle.bcder_tree.specs.Tags.{TagValue}
-use Rattle.bcder_tree.specs.Tree.{Tree, Trees, primitive, constructed, none, more}
+use Rattle.bcder_header.specs.bcder_tree.Tags.{TagValue}
+use Rattle.bcder_header.specs.bcder_tree.Tree.{Tree, Trees, primitive, constructed, none, more}
 
 -- A value's tag, whether it is constructed, and how many values it lies in.
 pub record Node : Type 0 where

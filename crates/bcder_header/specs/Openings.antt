@@ -1,13 +1,13 @@
 -- How a value begins and ends: the header in front of its content, and what is behind it (X.690 8.1.1 to 8.1.5).
-use Rattle.std.specs.Prelude.{◌≡◌, ℕ, ◌+◌, Bool, true, false, List, [], ◌∷◌, ◌++◌, length, Option, Some, None}
-use Rattle.bcder_tree.specs.declared.mode.Mode.{Mode}
-use Rattle.bcder_tree.specs.declared.length.Length.{Length}
-use Rattle.bcder_tree.specs.declared.length.Length.TheVariants.{Definite as LengthIs, Indefinite as NoLength}
-use Rattle.bcder_tree.specs.Tags.{TagValue, IsTag}
-use Rattle.bcder_tree.specs.Octets.{IsIdentifier}
-use Rattle.bcder_tree.specs.Lengths.{SpellsLength}
-use Rattle.bcder_tree.specs.Tree.{Tree, primitive, constructed, IsHeader, HasDefinite, HasIndefinite}
-use Rattle.bcder_tree.specs.Front.{Front}
+use Rattle.std.specs.Prelude.{◌≡◌, ℕ, ◌+◌, Bool, true, false, List, [], ◌∷◌, ◌++◌, length, Option, Some}
+use Rattle.bcder_header.specs.bcder_tree.declared.mode.Mode.{Mode}
+use Rattle.bcder_header.specs.bcder_tree.declared.length.Length.{Length}
+use Rattle.bcder_header.specs.bcder_tree.declared.length.Length.TheVariants.{Definite as LengthIs, Indefinite as NoLength}
+use Rattle.bcder_header.specs.bcder_tree.Tags.{TagValue, IsTag}
+use Rattle.bcder_header.specs.bcder_tree.Octets.{IsIdentifier}
+use Rattle.bcder_header.specs.bcder_tree.Lengths.{SpellsLength}
+use Rattle.bcder_header.specs.bcder_tree.Tree.{Tree, primitive, constructed, IsHeader, HasDefinite, HasIndefinite}
+use Rattle.bcder_header.specs.bcder_tree.Front.{Front}
 use Rattle.bcder_source.specs.Views.{View, left, more_limit, Moved}
 use Rattle.bcder_header.specs.declared.ending.Ending.{Ending}
 use Rattle.bcder_header.specs.declared.ending.Ending.TheVariants.{Definite, Indefinite, Unbounded}
@@ -85,7 +85,7 @@ Starts m limit form (LengthIs n) count ToEnd = ⊥
 Starts m limit form NoLength count (Until outer) = ⊥
 Starts m limit form NoLength count ToEnd = (form ≡ true) × HasIndefinite m
 
--- Identifier octets of that tag are in front, or of none with that tag.
+-- Identifier octets of that tag are in front (8.1.2).
 pub record OfTag (t : TagValue) (octets : List ℕ) : Type 0 where
   pub form : Bool
   pub identifier : List ℕ
@@ -94,5 +94,12 @@ pub record OfTag (t : TagValue) (octets : List ℕ) : Type 0 where
   pub is : IsIdentifier identifier form t
   pub whole : octets ≡ identifier ++ rest
 
-pub record NotOfTag (t : TagValue) (octets : List ℕ) : Type 0 where
-  pub none : OfTag t octets → ⊥
+-- Identifier octets of another tag are in front.
+pub record OfOther (t : TagValue) (octets : List ℕ) : Type 0 where
+  pub tag : TagValue
+  pub apart : tag ≡ t → ⊥
+  pub front : OfTag tag octets
+
+-- No identifier octets of a value are in front.
+pub record NoTag (octets : List ℕ) : Type 0 where
+  pub none : (t : TagValue) → OfTag t octets → ⊥

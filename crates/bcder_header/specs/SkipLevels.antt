@@ -1,7 +1,7 @@
 -- What is still to come behind a place within values: by the values around it, from the innermost on.
 use Rattle.std.specs.Prelude.{◌≡◌, ℕ, List, [], ◌∷◌, ◌++◌, length}
-use Rattle.bcder_tree.specs.declared.mode.Mode.{Mode}
-use Rattle.bcder_tree.specs.Tree.{Tree, Trees, Spells, SpellsAll}
+use Rattle.bcder_header.specs.bcder_tree.declared.mode.Mode.{Mode}
+use Rattle.bcder_header.specs.bcder_tree.Tree.{Tree, Trees, Spells, SpellsAll}
 use Rattle.bcder_source.specs.Views.{View, Moved}
 use Rattle.bcder_header.specs.declared.ending.Span.{Span}
 use Rattle.bcder_header.specs.Openings.{Closes}

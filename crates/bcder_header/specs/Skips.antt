@@ -1,13 +1,13 @@
 -- Skipping a value, while a visitor is told of each value in it.
 use Rattle.std.specs.Prelude.{◌≡◌, ℕ, Bool, List, ◌∷◌, ◌++◌, Result, Ok, Err}
 use Rattle.std.specs.List.{FoldsTo}
-use Rattle.bcder_tree.specs.declared.mode.Mode.{Mode}
+use Rattle.bcder_header.specs.bcder_tree.declared.mode.Mode.{Mode}
 use Rattle.bcder_source.specs.declared.error.ContentError.{ContentError}
 use Rattle.bcder_source.specs.declared.error.DecodeError.{DecodeError}
 use Rattle.bcder_source.specs.declared.error.DecodeError.TheVariants.{Content, Source, Memory}
-use Rattle.bcder_tree.specs.Tags.{TagValue}
-use Rattle.bcder_tree.specs.Tree.{Tree, Spells}
-use Rattle.bcder_tree.specs.Front.{Front}
+use Rattle.bcder_header.specs.bcder_tree.Tags.{TagValue}
+use Rattle.bcder_header.specs.bcder_tree.Tree.{Tree, Spells}
+use Rattle.bcder_header.specs.bcder_tree.Front.{Front}
 use Rattle.bcder_source.specs.Views.{View, left, Moved}
 use Rattle.bcder_header.specs.Nodes.{Node, nodes}
 

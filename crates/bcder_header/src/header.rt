@@ -1,11 +1,11 @@
 //! Where values begin and end (X.690 8.1.1 to 8.1.5): what skipping and taking stand on.
 ghost use Rattle.std.specs.Prelude.{◌≡◌, ◌≤◌, ◌+◌, ℕ, Option, IfOk, IfSome, IfNone, OnErr, IsTrue, IsFalse, ◌↔◌, true, false};
 ghost use Rattle.bcder_source.specs.Limits.{view, at_hand};
-ghost use Rattle.bcder_tree.specs.Reads.{Begins, Identifies};
-ghost use Rattle.bcder_tree.specs.Tags.{TagValue};
-ghost use Rattle.bcder_tree.specs.Tree.{HasDefinite, HasIndefinite};
+ghost use Rattle.bcder_header.specs.bcder_tree.Reads.{Begins, Identifies};
+ghost use Rattle.bcder_header.specs.bcder_tree.Tags.{TagValue};
+ghost use Rattle.bcder_header.specs.bcder_tree.Tree.{HasDefinite, HasIndefinite};
 ghost use Rattle.bcder_source.specs.Views.{View, left, more_limit};
-ghost use Rattle.bcder_header.specs.Openings.{Opens, Closes, NoValue, Heads, NoHead, OfTag, NotOfTag, Starts};
+ghost use Rattle.bcder_header.specs.Openings.{Opens, Closes, NoValue, Heads, NoHead, OfTag, NoTag, Starts};
 
 use crate::ending::Span;
 use bcder_source::{Length, LimitedSource, Mode, Source, Tag};
@@ -190,17 +190,18 @@ pub fn enter<S: Source>(
     }
 }
 
-/// Whether a value of that tag is in front, as far as its identifier tells.
+/// The tag that the identifier octets in front have (X.690 8.1.2). None where no identifier octets
+/// of a value are in front.
 #[inline(always)]
-pub fn is_next<S: Source>(source: &mut LimitedSource<S>, tag: Tag) -> Result<bool, S::Error>
+pub fn next_tag<S: Source>(source: &mut LimitedSource<S>) -> Result<Option<Tag>, S::Error>
     ensures same { view S.rest source.new ≡ view S.rest source.old }
-    ensures yes { IfOk result (λ b. IsTrue b → OfTag tag (left (view S.rest source.old))) }
-    ensures no { IfOk result (λ b. IsFalse b → NotOfTag tag (left (view S.rest source.old))) }
+    ensures found { IfOk result (λ r. IfSome r (λ tag. OfTag tag (left (view S.rest source.old)))) }
+    ensures none { IfOk result (λ r. IfNone r (NoTag (left (view S.rest source.old)))) }
 {
     source.request(4)?;
     match Tag::read((*source).slice()) {
-        Some((found, _, _)) => Ok(found == tag),
-        None => Ok(false),
+        Some((tag, _, _)) => Ok(Some(tag)),
+        None => Ok(None),
     }
 }
 

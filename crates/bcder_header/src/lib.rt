@@ -5,4 +5,6 @@ pub mod ending;
 pub mod header;
 pub mod skip;
 
+pub use bcder_source;
+pub use bcder_source::bcder_tree;
 pub use ending::Ending;

@@ -1,7 +1,7 @@
 //! Skipping a value, without recursion.
 ghost use Rattle.std.specs.Prelude.{◌≡◌, ◌≤◌, ◌<◌, [], ◌∷◌, length, IfOk, IfErr, OnOk, IsTrue, IsFalse};
 ghost use mathlib.Core.List.{reverse};
-ghost use Rattle.bcder_tree.specs.declared.mode.Mode.{Mode as ModeValue};
+ghost use Rattle.bcder_header.specs.bcder_tree.declared.mode.Mode.{Mode as ModeValue};
 ghost use Rattle.bcder_source.specs.Errors.{OnContent};
 ghost use Rattle.bcder_source.specs.Limits.{view};
 ghost use Rattle.bcder_source.specs.Views.{View};

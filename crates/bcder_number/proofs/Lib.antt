@@ -2,3 +2,6 @@ pub mod Orders
 pub mod Readings
 pub mod Slices
 pub mod Writings
+pub mod of_bcder_content
+pub mod of_bcder_primitive
+pub mod of_bcder_written

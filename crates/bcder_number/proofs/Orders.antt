@@ -11,9 +11,9 @@ use Rattle.std.specs.Ordering.{MatchOrdering, nat_cmp, int_cmp, int_eq, ordering
 use Rattle.std.specs.Prelude.{ℤ, pos, negsuc, ◌<ℤ◌, nat_eq}
 use Rattle.std.specs.declared.cmp.Ordering.{Ordering}
 use Rattle.std.specs.declared.cmp.Ordering.TheVariants.{Less, Equal, Greater}
-use Rattle.bcder_tree.specs.Integers.{number_behind}
-use Rattle.bcder_primitive.specs.Values.{IsNegative}
-use Rattle.bcder_primitive.proofs.Numbers.{number_low, number_high}
+use Rattle.bcder_number.specs.bcder_tree.Integers.{number_behind}
+use Rattle.bcder_number.specs.bcder_primitive.Values.{IsNegative}
+use Rattle.bcder_number.proofs.of_bcder_primitive.Numbers.{number_low, number_high}
 use Rattle.bcder_number.specs.Integers.{IsInteger}
 use Rattle.bcder_number.specs.Contents.{single, one_integer, one_number, further_away}
 

@@ -2,9 +2,9 @@
 use Rattle.std.proofs.Common.{◌≡◌, ℕ, List, refl, sym, ◌∙◌, subst, arith}
 use Rattle.std.proofs.lemmas.Int.{ints}
 use Rattle.std.specs.Prelude.{ℤ, pos, ◌<ℤ◌}
-use Rattle.bcder_primitive.specs.Values.{AnyOctets}
-use Rattle.bcder_primitive.specs.Plain.{OctetsLeft, LacksOctets, GivesOctets}
-use Rattle.bcder_primitive.proofs.Primitives.{other_value}
+use Rattle.bcder_number.specs.bcder_primitive.Values.{AnyOctets}
+use Rattle.bcder_number.specs.bcder_primitive.Plain.{OctetsLeft, LacksOctets, GivesOctets}
+use Rattle.bcder_number.proofs.of_bcder_primitive.Primitives.{other_value}
 use Rattle.bcder_number.specs.Integers.{IsInteger, IsNatural, told}
 use Rattle.bcder_number.specs.Contents.{told_is, one_number}
 

@@ -1,14 +1,14 @@
 -- A content of just some octets, read as a whole.
 use Rattle.std.proofs.Common.{◌≡◌, ℕ, ◌<◌, List, [], length, take, Option, Some, None, false, refl, sym, ap, ◌∙◌, subst, arith, append-nil}
 use Rattle.std.proofs.Math.Seq.{take-length}
-use Rattle.bcder_tree.specs.declared.mode.Mode.{Mode}
-use Rattle.bcder_source.specs.Errors.{OnContent}
-use Rattle.bcder_source.specs.Views.{more_limit}
-use Rattle.bcder_source.specs.declared.error.DecodeError.{DecodeError}
-use Rattle.bcder_source.specs.declared.error.DecodeError.TheVariants.{Content, Source, Memory}
-use Rattle.bcder_primitive.specs.Plain.{OctetsLeft, WholeOctets, LacksOctets, GivesOctets}
-use Rattle.bcder_primitive.specs.Sliced.{content_of}
-use Rattle.bcder_primitive.proofs.Primitives.{whole_is}
+use Rattle.bcder_number.specs.bcder_tree.declared.mode.Mode.{Mode}
+use Rattle.bcder_number.specs.bcder_source.Errors.{OnContent}
+use Rattle.bcder_number.specs.bcder_source.Views.{more_limit}
+use Rattle.bcder_number.specs.bcder_source.declared.error.DecodeError.{DecodeError}
+use Rattle.bcder_number.specs.bcder_source.declared.error.DecodeError.TheVariants.{Content, Source, Memory}
+use Rattle.bcder_number.specs.bcder_primitive.Plain.{OctetsLeft, WholeOctets, LacksOctets, GivesOctets}
+use Rattle.bcder_number.specs.bcder_primitive.Sliced.{content_of}
+use Rattle.bcder_number.proofs.of_bcder_primitive.Primitives.{whole_is}
 
 whole_slice : (m : Mode) (v : List ℕ) → WholeOctets (content_of m v) v
 whole_slice m v = record {

@@ -1,15 +1,15 @@
 -- What is said of the octets of a number is said of the number.
 use Rattle.std.proofs.Common.{◌≡◌, ℕ, ◌^◌, ◌<◌, ◌≤◌, List, length, refl, sym, subst, arith, Option}
 use Rattle.std.specs.Prelude.{ℤ, pos, negsuc, Result, Ok, Err, IfErr}
-use Rattle.bcder_tree.specs.declared.mode.Mode.{Mode}
-use Rattle.bcder_tree.specs.declared.mode.Mode.TheVariants.{Cer, Der}
-use Rattle.bcder_primitive.specs.Values.{AnyOctets, IsSigned, IsWithin}
-use Rattle.bcder_written.specs.declared.error.EncodeError.{EncodeError}
-use Rattle.bcder_written.specs.declared.error.EncodeError.TheVariants as errors
-use Rattle.bcder_written.specs.Contents.{NoContent, ContentRefused, BytesRefused}
-use Rattle.bcder_written.specs.Integers.{WritesUnsigned}
+use Rattle.bcder_number.specs.bcder_tree.declared.mode.Mode.{Mode}
+use Rattle.bcder_number.specs.bcder_tree.declared.mode.Mode.TheVariants.{Cer, Der}
+use Rattle.bcder_number.specs.bcder_primitive.Values.{AnyOctets, IsSigned, IsWithin}
+use Rattle.bcder_number.specs.bcder_written.declared.error.EncodeError.{EncodeError}
+use Rattle.bcder_number.specs.bcder_written.declared.error.EncodeError.TheVariants as errors
+use Rattle.bcder_number.specs.bcder_written.Contents.{NoContent, ContentRefused, BytesRefused}
+use Rattle.bcder_number.specs.bcder_written.Integers.{WritesUnsigned}
 use Rattle.bcder_number.specs.Integers.{IsInteger}
-use Rattle.bcder_written.specs.Integers.{steps}
+use Rattle.bcder_number.specs.bcder_written.Integers.{steps}
 use Rattle.bcder_number.specs.Contents.{content, content_is, few_octets, one_integer}
 
 -- Few octets are refused for want of memory alone.

@@ -5,10 +5,10 @@ use Rattle.std.proofs.lemmas.Bool.{cases_lt}
 use Rattle.std.proofs.lemmas.List.{length-append}
 use Rattle.std.proofs.lemmas.List.Elements.{All-nil, All-cons, All-append}
 use Rattle.std.specs.Prelude.{ℤ, pos, negsuc}
-use Rattle.bcder_tree.specs.Integers.{number_behind, number_of, IsShortest, IsPositive}
-use Rattle.bcder_primitive.specs.Values.{IsSigned, IsNegative, IsTwosComplement, IsWithin}
-use Rattle.bcder_primitive.proofs.Numbers.{number_high, further}
-use Rattle.bcder_written.specs.Integers.{near, one_signed, steps}
+use Rattle.bcder_number.specs.bcder_tree.Integers.{number_behind, number_of, IsShortest, IsPositive}
+use Rattle.bcder_number.specs.bcder_primitive.Values.{IsSigned, IsNegative, IsTwosComplement, IsWithin}
+use Rattle.bcder_values.proofs.of_bcder_primitive.Numbers.{number_high, further}
+use Rattle.bcder_number.specs.bcder_written.Integers.{near, one_signed, steps}
 use Rattle.bcder_number.specs.Integers.{IsInteger, told}
 
 -- A number is within a bound behind it,

@@ -1,6 +1,6 @@
 -- Numbers of any size as numbers of a type.
 use Rattle.std.specs.Prelude.{◌≡◌, ℕ, ℤ, pos, ◌<◌, Result, Ok, Err}
-use Rattle.bcder_primitive.specs.Values.{IsWithin}
+use Rattle.bcder_number.specs.bcder_primitive.Values.{IsWithin}
 
 -- The number, or it isn't from 0 up and below the bound.
 abbrev pub TellsUnsigned : {E : Type 0} → ℕ → ℤ → Result ℕ E → Type 0

@@ -1,7 +1,7 @@
 -- INTEGERs of any size, by their content octets (X.690 8.3).
 use Rattle.std.specs.Prelude.{ℕ, ℤ, pos, negsuc, ◌-◌, ◌^◌, ◌<◌, List, [], ◌∷◌, length, All, nat_lt, if◌then◌else◌}
-use Rattle.bcder_tree.specs.Integers.{number_of, IsShortest}
-use Rattle.bcder_primitive.specs.Values.{IsTwosComplement}
+use Rattle.bcder_number.specs.bcder_tree.Integers.{number_of, IsShortest}
+use Rattle.bcder_number.specs.bcder_primitive.Values.{IsTwosComplement}
 
 -- The content octets of an INTEGER (8.3): as few octets as can be (8.3.2), which are the number in two's complement (8.3.3).
 pub record IsInteger (content : List ℕ) (x : ℤ) : Type 0 where

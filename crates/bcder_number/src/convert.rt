@@ -1,17 +1,17 @@
 //! Numbers of Rust's types, and INTEGERs of any size.
 
 ghost use Rattle.std.specs.Prelude.{◌≡◌, ◌≢◌, ◌+◌, ◌^◌, ◌<◌, ◌≤◌, pos, true, IfOk, IfErr, OnErr};
-ghost use Rattle.bcder_source.specs.declared.error.DecodeError.TheVariants.{Memory};
-ghost use Rattle.bcder_primitive.specs.Plain.{plain, ReadsOctetsAs};
-ghost use Rattle.bcder_primitive.specs.Values.{IsSigned, IsUnsigned, IsWithin};
+ghost use Rattle.bcder_number.specs.bcder_source.declared.error.DecodeError.TheVariants.{Memory};
+ghost use Rattle.bcder_number.specs.bcder_primitive.Plain.{plain, ReadsOctetsAs};
+ghost use Rattle.bcder_number.specs.bcder_primitive.Values.{IsSigned, IsUnsigned, IsWithin};
 ghost use Rattle.bcder_number.specs.Conversions.{TellsSigned, TellsUnsigned};
 
+use crate::bcder_primitive::Primitive;
+use crate::bcder_source::{DecodeError, Source};
+use crate::bcder_tree::Mode;
 use crate::error::OverflowError;
 use crate::integer::Integer;
 use crate::octets;
-use bcder_primitive::Primitive;
-use bcder_source::{DecodeError, Source};
-use bcder_tree::Mode;
 use bcder_values::{EncodeError, PrimitiveContent};
 use bytes::Bytes;
 use std::alloc::{AllocError, Global};

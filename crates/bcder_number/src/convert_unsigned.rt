@@ -1,15 +1,15 @@
 //! Numbers of Rust's types, and INTEGERs from 0 up of any size.
 
 ghost use Rattle.std.specs.Prelude.{◌≡◌, ◌≢◌, ◌^◌, ◌<◌, ◌≤◌, true, IfOk, IfErr, OnErr};
-ghost use Rattle.bcder_source.specs.declared.error.DecodeError.TheVariants.{Memory};
-ghost use Rattle.bcder_primitive.specs.Plain.{plain, ReadsOctetsAs};
-ghost use Rattle.bcder_primitive.specs.Values.{IsUnsigned};
+ghost use Rattle.bcder_number.specs.bcder_source.declared.error.DecodeError.TheVariants.{Memory};
+ghost use Rattle.bcder_number.specs.bcder_primitive.Plain.{plain, ReadsOctetsAs};
+ghost use Rattle.bcder_number.specs.bcder_primitive.Values.{IsUnsigned};
 
+use crate::bcder_primitive::Primitive;
+use crate::bcder_source::{DecodeError, Source};
 use crate::error::OverflowError;
 use crate::integer::Integer;
 use crate::unsigned::Unsigned;
-use bcder_primitive::Primitive;
-use bcder_source::{DecodeError, Source};
 use std::alloc::{AllocError, Global};
 
 /// From numbers of Rust's types. They take memory, of which few octets are wanted.

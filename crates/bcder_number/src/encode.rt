@@ -2,13 +2,13 @@
 
 ghost use Rattle.std.proofs.Common.{rules};
 ghost use Rattle.std.specs.Prelude.{pos};
-ghost use Rattle.bcder_tree.specs.Tags.{universal};
+ghost use Rattle.bcder_number.specs.bcder_tree.Tags.{universal};
 ghost use Rattle.bcder_number.specs.Integers.{IsInteger, IsNatural};
 ghost use Rattle.bcder_number.specs.Contents.{one_integer};
 
+use crate::bcder_tree::{Mode, Tag};
 use crate::integer::Integer;
 use crate::unsigned::Unsigned;
-use bcder_tree::{Mode, Tag};
 use bcder_values::{EncodeError, Octets, PrimitiveContent};
 use std::io::Write;
 

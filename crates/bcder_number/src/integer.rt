@@ -1,21 +1,24 @@
 //! INTEGERs of any size (X.690 8.3).
 
 ghost use Rattle.std.specs.Prelude.{◌≡◌, ◌≢◌, ◌↔◌, ◌^◌, ◌<◌, ◌≤◌, ◌<ℤ◌, ℕ, ℤ, pos, IsTrue, IfOk, IfErr, OnErr, MatchResult, ⊤, true};
-ghost use Rattle.bcder_tree.specs.Tags.{universal};
-ghost use Rattle.bcder_source.specs.declared.error.DecodeError.TheVariants.{Memory};
-ghost use Rattle.bcder_primitive.specs.Plain.{plain, ReadsOctetsAs};
-ghost use Rattle.bcder_primitive.specs.Values.{IsSigned, IsUnsigned, IsWithin};
-ghost use Rattle.bcder_content.specs.Exact.{ReadsAs};
-ghost use Rattle.bcder_content.specs.Grammar.{OctetsOf};
-ghost use Rattle.bcder_content.specs.Here.{here};
+ghost use Rattle.bcder_number.specs.bcder_tree.Tags.{universal};
+ghost use Rattle.bcder_number.specs.bcder_source.declared.error.DecodeError.TheVariants.{Memory};
+ghost use Rattle.bcder_number.specs.bcder_primitive.Plain.{plain, ReadsOctetsAs};
+ghost use Rattle.bcder_number.specs.bcder_primitive.Values.{IsSigned, IsUnsigned, IsWithin};
+ghost use Rattle.bcder_number.specs.bcder_content.Exact.{ReadsAs};
+ghost use Rattle.bcder_number.specs.bcder_content.Grammar.{OctetsOf};
+ghost use Rattle.bcder_number.specs.bcder_content.Here.{here};
+ghost use Rattle.bcder_number.specs.bcder_content.Memory.{OnMemory};
+ghost use Rattle.bcder_whole.specs.Ahead.{HasOctets, HasNext};
 ghost use Rattle.bcder_number.specs.Integers.{IsInteger};
 
+use crate::bcder_content::Constructed;
+use crate::bcder_primitive::Primitive;
+use crate::bcder_source::{ContentError, DecodeError, Source};
+use crate::bcder_tree::Tag;
 use crate::error::OverflowError;
 use crate::octets;
-use bcder_content::Constructed;
-use bcder_primitive::Primitive;
-use bcder_source::{ContentError, DecodeError, Source};
-use bcder_tree::Tag;
+use bcder_whole::whole::{front, request_all, take_front};
 use bytes::Bytes;
 use std::alloc::{AllocError, Global};
 use std::marker::Model;
@@ -46,31 +49,38 @@ impl Integer {
         Integer { octets }
     }
 
-    /// An INTEGER (X.690 8.3), which must be next.
+    /// An INTEGER (X.690 8.3), which must be next. Memory is wanted only where it is.
     pub fn take_from<S: Source>(
         alloc: Global,
         cons: &mut Constructed<S>,
     ) -> Result<Integer, DecodeError<S::Error>>
         ensures reads { ReadsAs (λ x. x) (OctetsOf (universal 2) IsInteger) (here S.rest cons.old) result (here S.rest cons.new) }
         ensures failed { OnErr result ((here S.rest cons.new).failed ≡ true) }
+        ensures memory { IfErr result (λ e. OnMemory e (HasNext (OctetsOf (universal 2) IsInteger) (here S.rest cons.old))) }
     {
         cons.take_primitive_if(Tag::INTEGER, |prim| Integer::from_primitive(alloc, prim))
     }
 
-    /// The INTEGER whose content octets are left; where the source shares its octets none is copied.
+    /// The INTEGER whose content octets are left; where the source shares its octets none is copied. Memory is wanted only
+    /// where they are those of an INTEGER.
     pub fn from_primitive<S: Source>(
         alloc: Global,
         prim: &mut Primitive<S>,
     ) -> Result<Integer, DecodeError<S::Error>>
         ensures reads { ReadsOctetsAs (λ x. x) IsInteger (plain S.rest prim.old) result (plain S.rest prim.new) }
         ensures failed { OnErr result ((plain S.rest prim.new).failed ≡ true) }
+        ensures memory { IfErr result (λ e. OnMemory e (HasOctets IsInteger (plain S.rest prim.old))) }
     {
-        let octets = prim.take_all(alloc)?;
-        if octets::is_integer(octets.as_slice()) {
-            return Ok(Integer::new(octets));
+        let count = request_all(prim)?;
+        let is_integer = octets::is_integer(front(prim, count));
+        if !is_integer {
+            prim.failed = true;
+            return Err((*prim).content_err(ContentError::from_static("invalid integer")));
         }
-        prim.failed = true;
-        Err(prim.content_err(ContentError::from_static("invalid integer")))
+        match take_front(alloc, prim, count) {
+            Ok(octets) => Ok(Integer::new(octets)),
+            Err(error) => Err(error),
+        }
     }
 
     /// Whether the number is 0.

@@ -21,6 +21,7 @@ mod octets;
 pub mod order;
 pub mod unsigned;
 
+pub use bcder_values::{bcder_content, bcder_primitive, bcder_source, bcder_tree};
 pub use error::{InvalidInteger, OverflowError};
 pub use integer::Integer;
 pub use unsigned::Unsigned;

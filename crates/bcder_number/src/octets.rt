@@ -2,15 +2,15 @@
 
 ghost use Rattle.std.specs.Prelude.{◌≡◌, ◌↔◌, ◌^◌, ◌<◌, ℕ, ℤ, [], ◌∷◌, IsTrue, IfSome, IfNone};
 ghost use Rattle.std.specs.Ordering.{int_cmp};
-ghost use Rattle.bcder_tree.specs.declared.mode.Mode.TheVariants.{Der};
-ghost use Rattle.bcder_tree.specs.Integers.{number_of, IsShortest};
-ghost use Rattle.bcder_primitive.specs.Plain.{plain};
-ghost use Rattle.bcder_primitive.specs.Sliced.{content_of as whole_content};
-ghost use Rattle.bcder_primitive.specs.Values.{IsSigned, IsUnsigned, IsNegative};
+ghost use Rattle.bcder_number.specs.bcder_tree.declared.mode.Mode.TheVariants.{Der};
+ghost use Rattle.bcder_number.specs.bcder_tree.Integers.{number_of, IsShortest};
+ghost use Rattle.bcder_number.specs.bcder_primitive.Plain.{plain};
+ghost use Rattle.bcder_number.specs.bcder_primitive.Sliced.{content_of as whole_content};
+ghost use Rattle.bcder_number.specs.bcder_primitive.Values.{IsSigned, IsUnsigned, IsNegative};
 ghost use Rattle.bcder_number.specs.Integers.{IsInteger, IsNatural, told};
 
-use bcder_primitive::Primitive;
-use bcder_source::{LimitedSource, Mode, SliceSource, Source};
+use crate::bcder_primitive::Primitive;
+use crate::bcder_source::{LimitedSource, Mode, SliceSource, Source};
 use std::cmp::Ordering;
 
 // Whether octets are some, and of several the first nine bits aren't all alike (8.3.1, 8.3.2).

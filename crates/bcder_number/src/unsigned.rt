@@ -1,20 +1,23 @@
 //! INTEGERs from 0 up, of any size (X.690 8.3).
 
 ghost use Rattle.std.specs.Prelude.{◌≡◌, ◌≢◌, ◌↔◌, ◌<ℤ◌, ℕ, pos, IsTrue, IfOk, IfErr, OnErr, true};
-ghost use Rattle.bcder_tree.specs.Tags.{universal};
-ghost use Rattle.bcder_primitive.specs.Plain.{plain, ReadsOctetsAs};
-ghost use Rattle.bcder_content.specs.Exact.{ReadsAs};
-ghost use Rattle.bcder_content.specs.Grammar.{OctetsOf};
-ghost use Rattle.bcder_content.specs.Here.{here};
+ghost use Rattle.bcder_number.specs.bcder_tree.Tags.{universal};
+ghost use Rattle.bcder_number.specs.bcder_primitive.Plain.{plain, ReadsOctetsAs};
+ghost use Rattle.bcder_number.specs.bcder_content.Exact.{ReadsAs};
+ghost use Rattle.bcder_number.specs.bcder_content.Grammar.{OctetsOf};
+ghost use Rattle.bcder_number.specs.bcder_content.Here.{here};
+ghost use Rattle.bcder_number.specs.bcder_content.Memory.{OnMemory};
+ghost use Rattle.bcder_whole.specs.Ahead.{HasOctets, HasNext};
 ghost use Rattle.bcder_number.specs.Integers.{IsNatural};
 
+use crate::bcder_content::Constructed;
+use crate::bcder_primitive::Primitive;
+use crate::bcder_source::{ContentError, DecodeError, Source};
+use crate::bcder_tree::Tag;
 use crate::error::{InvalidInteger, OverflowError};
 use crate::integer::Integer;
 use crate::octets;
-use bcder_content::Constructed;
-use bcder_primitive::Primitive;
-use bcder_source::{ContentError, DecodeError, Source};
-use bcder_tree::Tag;
+use bcder_whole::whole::{front, request_all, take_front};
 use bytes::Bytes;
 use std::alloc::{AllocError, Global};
 use std::marker::Model;
@@ -85,31 +88,38 @@ impl Unsigned {
         Ok(Unsigned::new(integer))
     }
 
-    /// An INTEGER (X.690 8.3) from 0 up, which must be next.
+    /// An INTEGER (X.690 8.3) from 0 up, which must be next. Memory is wanted only where it is.
     pub fn take_from<S: Source>(
         alloc: Global,
         cons: &mut Constructed<S>,
     ) -> Result<Unsigned, DecodeError<S::Error>>
         ensures reads { ReadsAs (λ n. n) (OctetsOf (universal 2) IsNatural) (here S.rest cons.old) result (here S.rest cons.new) }
         ensures failed { OnErr result ((here S.rest cons.new).failed ≡ true) }
+        ensures memory { IfErr result (λ e. OnMemory e (HasNext (OctetsOf (universal 2) IsNatural) (here S.rest cons.old))) }
     {
         cons.take_primitive_if(Tag::INTEGER, |prim| Unsigned::from_primitive(alloc, prim))
     }
 
-    /// The INTEGER from 0 up whose content octets are left; where the source shares its octets none is copied.
+    /// The INTEGER from 0 up whose content octets are left; where the source shares its octets none is copied. Memory is
+    /// wanted only where they are those of such an INTEGER.
     pub fn from_primitive<S: Source>(
         alloc: Global,
         prim: &mut Primitive<S>,
     ) -> Result<Unsigned, DecodeError<S::Error>>
         ensures reads { ReadsOctetsAs (λ n. n) IsNatural (plain S.rest prim.old) result (plain S.rest prim.new) }
         ensures failed { OnErr result ((plain S.rest prim.new).failed ≡ true) }
+        ensures memory { IfErr result (λ e. OnMemory e (HasOctets IsNatural (plain S.rest prim.old))) }
     {
-        let integer = Integer::from_primitive(alloc, prim)?;
-        if !integer.is_negative() {
-            return Ok(Unsigned::new(integer));
+        let count = request_all(prim)?;
+        let is_natural = octets::is_natural(front(prim, count));
+        if !is_natural {
+            prim.failed = true;
+            return Err((*prim).content_err(ContentError::from_static("invalid integer")));
         }
-        prim.failed = true;
-        Err(prim.content_err(ContentError::from_static("invalid integer")))
+        match take_front(alloc, prim, count) {
+            Ok(octets) => Ok(Unsigned::new(Integer::new(octets))),
+            Err(error) => Err(error),
+        }
     }
 
     /// The content octets, the only ones of the number.

@@ -1,11 +1,11 @@
 -- Strings around values: what is written of them, and why they are refused.
 use Rattle.std.proofs.Common.{◌≡◌, ◌≢◌, ℕ, false, List, length, refl}
-use Rattle.bcder_tree.specs.declared.mode.Mode.{Mode}
-use Rattle.bcder_tree.specs.declared.mode.Mode.TheVariants.{Ber, Cer, Der}
-use Rattle.bcder_tree.specs.Tags.{TagValue}
-use Rattle.bcder_tree.specs.Tree.{Trees, primitive}
-use Rattle.bcder_written.specs.Encoded.{WritesBoth, SpellsSome}
-use Rattle.bcder_written.specs.Headers.{IsHeaderIn}
+use Rattle.bcder_octets.specs.bcder_tree.declared.mode.Mode.{Mode}
+use Rattle.bcder_octets.specs.bcder_tree.declared.mode.Mode.TheVariants.{Ber, Cer, Der}
+use Rattle.bcder_octets.specs.bcder_tree.Tags.{TagValue}
+use Rattle.bcder_octets.specs.bcder_tree.Tree.{Trees, primitive}
+use Rattle.bcder_octets.specs.bcder_written.Encoded.{WritesBoth, SpellsSome}
+use Rattle.bcder_octets.specs.bcder_written.Headers.{IsHeaderIn}
 use Rattle.bcder_values.proofs.Returning.{read_again}
 use Rattle.bcder_values.proofs.Wrapping.{plain}
 use Rattle.bcder_octets.specs.Wrapping.{IsAround, WritesAround, WrapsAgain}

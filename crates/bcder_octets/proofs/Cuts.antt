@@ -1,10 +1,10 @@
 -- Segments of 1000 octets, and a last one of 1 to 1000, as pieces.
 use Rattle.std.proofs.Common.{◌≡◌, ◌↔◌, Bool, true, false, IsTrue, None, ℕ, ◌<◌, ◌≤◌, List, [], ◌∷◌, ◌++◌, length, refl, sym, ap, ◌∙◌, subst, append-nil, arith}
 use Rattle.std.specs.List.{concat}
-use Rattle.bcder_tree.specs.Tree.{Tree, Trees, primitive, none, more}
-use Rattle.bcder_tree.specs.Strings.{octet_string_tag, AreCerSegments}
-use Rattle.bcder_tree.specs.declared.mode.Mode.TheVariants.{Ber}
-use Rattle.bcder_tree.specs.Tree.{SpellsAll}
+use Rattle.bcder_octets.specs.bcder_tree.Tree.{Tree, Trees, primitive, none, more}
+use Rattle.bcder_octets.specs.bcder_tree.Strings.{octet_string_tag, AreCerSegments}
+use Rattle.bcder_octets.specs.bcder_tree.declared.mode.Mode.TheVariants.{Ber}
+use Rattle.bcder_octets.specs.bcder_tree.Tree.{SpellsAll}
 use Rattle.bcder_octets.specs.Pieces.{ArePlain, MayStand, CutIn, Holds, NextPiece, TellsCut}
 use Rattle.bcder_octets.proofs.Walk.{Going, going_begin, going_next, going_all, plain_held}
 

@@ -1,14 +1,14 @@
 -- Segments that are captured, and the string that they are.
 use Rattle.std.proofs.Common.{◌≡◌, ◌<◌, ℕ, Bool, true, false, List, [], ◌∷◌, ◌++◌, length, refl, sym, subst}
-use Rattle.bcder_tree.specs.declared.mode.Mode.TheVariants.{Ber}
-use Rattle.bcder_tree.specs.Tree.{Trees, none, more, SpellsAll}
-use Rattle.bcder_tree.specs.Strings.{AreSegments, AreCerSegments}
-use Rattle.bcder_tree.proofs.Modes.{all_to_ber}
-use Rattle.bcder_content.specs.Contents.{ValuesLeft, Ended}
-use Rattle.bcder_content.specs.Exact.{Gives, Lacks, LacksAll, GivesAll}
-use Rattle.bcder_content.specs.Grammar.{ManyCases, Many, ExactlyAll}
-use Rattle.bcder_content.proofs.Forests.{Listing, list_next, list_over, many_lacks}
-use Rattle.bcder_content.proofs.Took.{one_whole}
+use Rattle.bcder_octets.specs.bcder_tree.declared.mode.Mode.TheVariants.{Ber}
+use Rattle.bcder_octets.specs.bcder_tree.Tree.{Trees, none, more, SpellsAll}
+use Rattle.bcder_octets.specs.bcder_tree.Strings.{AreSegments, AreCerSegments}
+use Rattle.bcder_octets.proofs.of_bcder_tree.Modes.{all_to_ber}
+use Rattle.bcder_octets.specs.bcder_content.Contents.{ValuesLeft, Ended}
+use Rattle.bcder_octets.specs.bcder_content.Exact.{Gives, Lacks, LacksAll, GivesAll}
+use Rattle.bcder_octets.specs.bcder_content.Grammar.{ManyCases, Many, ExactlyAll}
+use Rattle.bcder_octets.proofs.of_bcder_content.Forests.{Listing, list_next, list_over, many_lacks}
+use Rattle.bcder_octets.proofs.of_bcder_content.Took.{one_whole}
 use Rattle.bcder_octets.specs.Pieces.{ArePlain}
 use Rattle.bcder_octets.specs.Parts.{IsPart, PartsCases, AllParts, AreCut}
 use Rattle.bcder_octets.proofs.Cuts.{cut_pieces}

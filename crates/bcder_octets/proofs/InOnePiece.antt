@@ -1,14 +1,14 @@
 -- In DER a string is a primitive value, whose octets are those of the string (X.690 10.2).
 use Rattle.std.proofs.Common.{◌≡◌, ℕ, List, Result, refl, sym, ap, ◌∙◌, subst}
-use Rattle.bcder_tree.specs.declared.mode.Mode.{Mode}
-use Rattle.bcder_tree.specs.declared.mode.Mode.TheVariants.{Der}
-use Rattle.bcder_tree.specs.Strings.{IsOctetString, octet_string_tag}
-use Rattle.bcder_tree.specs.Tree.{primitive}
-use Rattle.bcder_source.specs.declared.error.DecodeError.{DecodeError}
-use Rattle.bcder_primitive.specs.Values.{AnyOctets}
-use Rattle.bcder_content.specs.Contents.{ValuesLeft}
-use Rattle.bcder_content.specs.Exact.{Gives, Lacks, ReadsAs}
-use Rattle.bcder_content.specs.Grammar.{OctetsOf}
+use Rattle.bcder_octets.specs.bcder_tree.declared.mode.Mode.{Mode}
+use Rattle.bcder_octets.specs.bcder_tree.declared.mode.Mode.TheVariants.{Der}
+use Rattle.bcder_octets.specs.bcder_tree.Strings.{IsOctetString, octet_string_tag}
+use Rattle.bcder_octets.specs.bcder_tree.Tree.{primitive}
+use Rattle.bcder_octets.specs.bcder_source.declared.error.DecodeError.{DecodeError}
+use Rattle.bcder_octets.specs.bcder_primitive.Values.{AnyOctets}
+use Rattle.bcder_octets.specs.bcder_content.Contents.{ValuesLeft}
+use Rattle.bcder_octets.specs.bcder_content.Exact.{Gives, Lacks, ReadsAs}
+use Rattle.bcder_octets.specs.bcder_content.Grammar.{OctetsOf}
 
 pub piece_given : {old new : ValuesLeft} {octets string : List ℕ} → string ≡ octets → Gives (OctetsOf octet_string_tag AnyOctets) old octets new → Gives (IsOctetString Der) old string new
 piece_given {string = string} same g = record { tree = g.tree; is = g.is.whole ∙ ap (λ (z : List ℕ). primitive octet_string_tag z) (g.is.is.same ∙ sym same); took = g.took }

@@ -8,3 +8,9 @@ pub mod Walk
 pub mod Written
 pub mod Around
 pub mod InOnePiece
+pub mod Wanting
+pub mod of_bcder_content
+pub mod of_bcder_header
+pub mod of_bcder_primitive
+pub mod of_bcder_tree
+pub mod of_bcder_written

@@ -1,10 +1,10 @@
 -- A value is one string at most.
 use Rattle.std.proofs.Common.{◌≡◌, ℕ, List, ◌++◌, sym, ap, ◌∙◌}
-use Rattle.bcder_tree.specs.declared.mode.Mode.{Mode}
-use Rattle.bcder_tree.specs.declared.mode.Mode.TheVariants.{Ber, Cer, Der}
-use Rattle.bcder_tree.specs.Tags.{TagValue}
-use Rattle.bcder_tree.specs.Tree.{Tree, Trees, primitive, constructed, none, more}
-use Rattle.bcder_tree.specs.Strings.{octet_string_tag, IsBerString, AreSegments, AreCerSegments, IsString}
+use Rattle.bcder_octets.specs.bcder_tree.declared.mode.Mode.{Mode}
+use Rattle.bcder_octets.specs.bcder_tree.declared.mode.Mode.TheVariants.{Ber, Cer, Der}
+use Rattle.bcder_octets.specs.bcder_tree.Tags.{TagValue}
+use Rattle.bcder_octets.specs.bcder_tree.Tree.{Tree, Trees, primitive, constructed, none, more}
+use Rattle.bcder_octets.specs.bcder_tree.Strings.{octet_string_tag, IsBerString, AreSegments, AreCerSegments, IsString}
 
 both_same : {a b c d : List ℕ} → a ≡ c → b ≡ d → a ++ b ≡ c ++ d
 both_same {b = b} {c = c} p q = ap (λ (z : List ℕ). z ++ b) p ∙ ap (λ (z : List ℕ). c ++ z) q

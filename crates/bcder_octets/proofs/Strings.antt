@@ -1,38 +1,38 @@
 -- Reading strings, by the readers of their contents.
 use Rattle.std.proofs.Common.{◌≡◌, ◌↔◌, IsTrue, ℕ, ◌+◌, ◌≤◌, Bool, true, false, List, length, Result, Ok, Err, Option, Some, None, refl, sym, ap, ◌∙◌, subst, arith}
 use denote.Ref.{MutBor}
-use Rattle.bcder_tree.specs.declared.mode.Mode.{Mode}
-use Rattle.bcder_tree.specs.declared.mode.Mode.TheVariants.{Ber, Cer, Der}
-use Rattle.bcder_tree.specs.Tags.{TagValue}
-use Rattle.bcder_tree.specs.Tree.{Tree, Trees, primitive, constructed}
-use Rattle.bcder_tree.specs.Strings.{IsString}
-use Rattle.bcder_source.specs.declared.error.DecodeError.{DecodeError}
-use Rattle.bcder_source.specs.declared.error.DecodeError.TheVariants.{Content as content_error, Source, Memory}
-use Rattle.bcder_source.specs.Views.{more_limit}
-use Rattle.bcder_primitive.specs.declared.primitive.Primitive.{Primitive}
-use Rattle.bcder_primitive.specs.Plain.{OctetsLeft, LacksOctets, GivesOctets, ReadsOctetsAs}
-use Rattle.bcder_primitive.specs.Values.{AnyOctets}
-use Rattle.bcder_content.specs.declared.constructed.Constructed.{Constructed}
-use Rattle.bcder_content.specs.declared.content.Content.{Content}
-use Rattle.bcder_content.specs.Contents.{ValuesLeft, tag_of}
-use Rattle.bcder_content.specs.Exact.{ReadsAllAs}
-use Rattle.bcder_content.specs.Here.{here, plain}
-use Rattle.bcder_content.specs.Ran.{Reader}
-use Rattle.bcder_content.specs.Either.{SameContent, left_of, form_in, Shows, ReadsInAs, ReadsContentAs, OctetsRun, RunsOctets, ValuesRun, RunsValues}
-use Rattle.bcder_content.proofs.Failing.{refused_still}
-use Rattle.bcder_content.proofs.Inside.{ReadsEach, each_met, PlainEach, plain_met}
-use Rattle.bcder_content.proofs.Tagged.{HasTag}
+use Rattle.bcder_octets.specs.bcder_tree.declared.mode.Mode.{Mode}
+use Rattle.bcder_octets.specs.bcder_tree.declared.mode.Mode.TheVariants.{Ber, Cer, Der}
+use Rattle.bcder_octets.specs.bcder_tree.Tags.{TagValue}
+use Rattle.bcder_octets.specs.bcder_tree.Tree.{Tree, Trees, primitive, constructed}
+use Rattle.bcder_octets.specs.bcder_tree.Strings.{IsString}
+use Rattle.bcder_octets.specs.bcder_source.declared.error.DecodeError.{DecodeError}
+use Rattle.bcder_octets.specs.bcder_source.declared.error.DecodeError.TheVariants.{Content as content_error, Source, Memory}
+use Rattle.bcder_octets.specs.bcder_source.Views.{more_limit}
+use Rattle.bcder_octets.specs.bcder_primitive.declared.primitive.Primitive.{Primitive}
+use Rattle.bcder_octets.specs.bcder_primitive.Plain.{OctetsLeft, LacksOctets, GivesOctets, ReadsOctetsAs}
+use Rattle.bcder_octets.specs.bcder_primitive.Values.{AnyOctets}
+use Rattle.bcder_octets.specs.bcder_content.declared.constructed.Constructed.{Constructed}
+use Rattle.bcder_octets.specs.bcder_content.declared.content.Content.{Content}
+use Rattle.bcder_octets.specs.bcder_content.Contents.{ValuesLeft, tag_of}
+use Rattle.bcder_octets.specs.bcder_content.Exact.{ReadsAllAs}
+use Rattle.bcder_octets.specs.bcder_content.Here.{here, plain}
+use Rattle.bcder_octets.specs.bcder_content.Ran.{Reader}
+use Rattle.bcder_octets.specs.bcder_content.Either.{SameContent, left_of, form_in, Shows, ReadsInAs, ReadsContentAs, OctetsRun, RunsOctets, ValuesRun, RunsValues}
+use Rattle.bcder_octets.proofs.of_bcder_content.Failing.{refused_still}
+use Rattle.bcder_octets.proofs.of_bcder_content.Inside.{ReadsEach, each_met, PlainEach, plain_met}
+use Rattle.bcder_octets.proofs.of_bcder_content.Tagged.{HasTag}
 use Rattle.bcder_octets.proofs.Cuts.{not_so}
 use Rattle.bcder_octets.specs.Parts.{FitsWhole, IsWhole, AreParts, ReadsString}
 
 -- Contents of primitive values.
 
-whole_string : (m : Mode) (tag : TagValue) (content octets : List ℕ) → IsWhole m content octets → IsString m tag (primitive tag content) octets
+pub whole_string : (m : Mode) (tag : TagValue) (content octets : List ℕ) → IsWhole m content octets → IsString m tag (primitive tag content) octets
 whole_string Ber tag content octets w = (refl, w.same)
 whole_string Cer tag content octets w = (refl, w.same, w.fits)
 whole_string Der tag content octets w = ap (λ (z : List ℕ). primitive tag z) w.same
 
-string_whole : (m : Mode) (tag : TagValue) (content octets : List ℕ) → IsString m tag (primitive tag content) octets → IsWhole m content octets
+pub string_whole : (m : Mode) (tag : TagValue) (content octets : List ℕ) → IsString m tag (primitive tag content) octets → IsWhole m content octets
 string_whole Ber tag content octets s = record { same = s.1; fits = tt }
 string_whole Cer tag content octets s = record { same = s.1; fits = s.2 }
 string_whole Der tag content octets s = let same : content ≡ octets = cc (s) in record { same = same; fits = tt }
@@ -73,7 +73,7 @@ refused_string {rest = rest} {old} {mid} {new} {e} same h = record {
 
 -- Readers of grammars that say the same.
 
-octets_same : {E : Type 0} {P Q : List ℕ → List ℕ → Type 0} (old new : OctetsLeft) (r : Result (List ℕ) (DecodeError E)) → ((c x : List ℕ) → P c x → Q c x) → ((c x : List ℕ) → Q c x → P c x) → ReadsOctetsAs (λ x. x) P old r new → ReadsOctetsAs (λ x. x) Q old r new
+pub octets_same : {E : Type 0} {P Q : List ℕ → List ℕ → Type 0} (old new : OctetsLeft) (r : Result (List ℕ) (DecodeError E)) → ((c x : List ℕ) → P c x → Q c x) → ((c x : List ℕ) → Q c x → P c x) → ReadsOctetsAs (λ x. x) P old r new → ReadsOctetsAs (λ x. x) Q old r new
 octets_same old new (Ok x) f g h = record { text = h.text; is = f h.text x h.is; goes = h.goes; only = λ on. record { none = λ t y q w. (h.only on).none t y (g t y q) w } }
 octets_same old new (Err (content_error e pos)) f g h = record { none = λ t y q w. h.none t y (g t y q) w }
 octets_same old new (Err (Source e)) f g h = tt

@@ -1,16 +1,16 @@
 -- A visitor that lets only segments pass.
 use Rattle.std.proofs.Common.{◌≡◌, ◌↔◌, ℕ, ◌+◌, Bool, true, false, List, [], ◌∷◌, ◌++◌, Result, Ok, Err, IsOk, Option, Some, None, refl, sym, ap, subst}
-use Rattle.bcder_tree.specs.Tags.{TagValue}
-use Rattle.bcder_tree.specs.Tree.{Tree, Trees, primitive, constructed, none, more}
-use Rattle.bcder_tree.specs.Strings.{octet_string_tag, IsBerString, AreSegments}
-use Rattle.bcder_source.specs.declared.error.ContentError.{ContentError}
-use Rattle.bcder_source.specs.declared.error.DecodeError.{DecodeError}
-use Rattle.bcder_source.specs.declared.error.DecodeError.TheVariants.{Content, Source, Memory}
-use Rattle.bcder_header.specs.Nodes.{Node, nodes, nodes_all}
-use Rattle.bcder_header.specs.Skips.{Visits, Accepts, Refuses}
-use Rattle.bcder_content.specs.Contents.{ValuesLeft}
-use Rattle.bcder_content.specs.Exact.{ReadsNextAs}
-use Rattle.bcder_content.specs.Skips.{SkipsOpt}
+use Rattle.bcder_octets.specs.bcder_tree.Tags.{TagValue}
+use Rattle.bcder_octets.specs.bcder_tree.Tree.{Tree, Trees, primitive, constructed, none, more}
+use Rattle.bcder_octets.specs.bcder_tree.Strings.{octet_string_tag, IsBerString, AreSegments}
+use Rattle.bcder_octets.specs.bcder_source.declared.error.ContentError.{ContentError}
+use Rattle.bcder_octets.specs.bcder_source.declared.error.DecodeError.{DecodeError}
+use Rattle.bcder_octets.specs.bcder_source.declared.error.DecodeError.TheVariants.{Content, Source, Memory}
+use Rattle.bcder_octets.specs.bcder_header.Nodes.{Node, nodes, nodes_all}
+use Rattle.bcder_octets.specs.bcder_header.Skips.{Visits, Accepts, Refuses}
+use Rattle.bcder_octets.specs.bcder_content.Contents.{ValuesLeft}
+use Rattle.bcder_octets.specs.bcder_content.Exact.{ReadsNextAs}
+use Rattle.bcder_octets.specs.bcder_content.Skips.{SkipsOpt}
 use Rattle.bcder_octets.specs.Parts.{FitsPart, PartCases, IsPart}
 
 abbrev AllFit : Bool → List Node → Type 0

@@ -2,17 +2,17 @@
 use Rattle.std.proofs.Common.{◌≡◌, inl, inr, ◌⊎◌, ℕ, ◌<◌, ◌≤◌, Bool, true, false, List, [], ◌∷◌, ◌++◌, length, take, drop, refl, sym, ap, ◌∙◌, subst, append_assoc, append-nil, length-append, arith}
 use Rattle.std.specs.List.{concat}
 use Rattle.std.proofs.Math.Seq.{take-append_seam, drop-append_seam}
-use Rattle.bcder_tree.specs.declared.mode.Mode.TheVariants.{Ber}
-use Rattle.bcder_tree.specs.declared.length.Length.{Length}
-use Rattle.bcder_tree.specs.declared.length.Length.TheVariants.{Definite as LengthIs, Indefinite as NoLength}
-use Rattle.bcder_tree.specs.Tags.{TagValue}
-use Rattle.bcder_tree.specs.Octets.{IsIdentifier}
-use Rattle.bcder_tree.specs.Tree.{Tree, Trees, primitive, constructed, none, more, definite, indefinite, Spells, SpellsAll}
-use Rattle.bcder_tree.specs.Front.{Splits}
-use Rattle.bcder_tree.specs.Strings.{octet_string_tag, IsBerString, AreSegments}
-use Rattle.bcder_tree.proofs.Parts.{Ends, identifier_goes_on}
-use Rattle.bcder_header.specs.Openings.{Heads, NoHead}
-use Rattle.bcder_header.proofs.Opening.{HeadIn, head_of, one_head, split_head}
+use Rattle.bcder_octets.specs.bcder_tree.declared.mode.Mode.TheVariants.{Ber}
+use Rattle.bcder_octets.specs.bcder_tree.declared.length.Length.{Length}
+use Rattle.bcder_octets.specs.bcder_tree.declared.length.Length.TheVariants.{Definite as LengthIs, Indefinite as NoLength}
+use Rattle.bcder_octets.specs.bcder_tree.Tags.{TagValue}
+use Rattle.bcder_octets.specs.bcder_tree.Octets.{IsIdentifier}
+use Rattle.bcder_octets.specs.bcder_tree.Tree.{Tree, Trees, primitive, constructed, none, more, definite, indefinite, Spells, SpellsAll}
+use Rattle.bcder_octets.specs.bcder_tree.Front.{Splits}
+use Rattle.bcder_octets.specs.bcder_tree.Strings.{octet_string_tag, IsBerString, AreSegments}
+use Rattle.bcder_octets.proofs.of_bcder_tree.Parts.{Ends, identifier_goes_on}
+use Rattle.bcder_octets.specs.bcder_header.Openings.{Heads, NoHead}
+use Rattle.bcder_octets.proofs.of_bcder_header.Opening.{HeadIn, head_of, one_head, split_head}
 use Rattle.bcder_octets.specs.Pieces.{IsHeaded, IsAround, Mark, holds, around, Marks, held, Holds, NextPiece, ArePlain}
 
 -- Octets that begin with a header are some, and do not begin with 0.

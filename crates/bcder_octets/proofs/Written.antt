@@ -3,12 +3,12 @@ use Rattle.std.proofs.Common.{◌≡◌, inl, inr, ℕ, ◌<◌, ◌≤◌, Bool
 use Rattle.std.specs.Prelude.{nat_lt}
 use Rattle.std.proofs.lemmas.Bool.{cases_lt, ltb-true, lt-ltb}
 use Rattle.std.proofs.lemmas.List.{take-append-drop, length-take-le}
-use Rattle.bcder_tree.specs.declared.mode.Mode.{Mode}
-use Rattle.bcder_tree.specs.declared.mode.Mode.TheVariants.{Ber, Cer, Der}
-use Rattle.bcder_tree.specs.Tags.{TagValue}
-use Rattle.bcder_tree.specs.Tree.{Trees, primitive, constructed, none, more}
-use Rattle.bcder_tree.specs.Strings.{octet_string_tag, AreCerSegments}
-use Rattle.bcder_written.specs.Encoded.{joined, AreBoth}
+use Rattle.bcder_octets.specs.bcder_tree.declared.mode.Mode.{Mode}
+use Rattle.bcder_octets.specs.bcder_tree.declared.mode.Mode.TheVariants.{Ber, Cer, Der}
+use Rattle.bcder_octets.specs.bcder_tree.Tags.{TagValue}
+use Rattle.bcder_octets.specs.bcder_tree.Tree.{Trees, primitive, constructed, none, more}
+use Rattle.bcder_octets.specs.bcder_tree.Strings.{octet_string_tag, AreCerSegments}
+use Rattle.bcder_octets.specs.bcder_written.Encoded.{joined, AreBoth}
 use Rattle.bcder_values.specs.Lists.{AreAll}
 use Rattle.bcder_octets.specs.Segments.{rows, segments, IsSegment, AreSegmentsOf, FormTrees, StringTrees}
 use Rattle.bcder_octets.specs.Written.{WrittenString}

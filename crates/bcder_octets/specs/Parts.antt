@@ -1,14 +1,14 @@
 -- What the content of a string holds, by mode and form (X.690 8.7, 9.2, 10.2).
 use Rattle.std.specs.Prelude.{◌≡◌, ℕ, ◌<◌, ◌≤◌, Bool, true, false, List, length, Result}
-use Rattle.bcder_tree.specs.declared.mode.Mode.{Mode}
-use Rattle.bcder_tree.specs.declared.mode.Mode.TheVariants.{Ber, Cer, Der}
-use Rattle.bcder_tree.specs.Tags.{TagValue}
-use Rattle.bcder_tree.specs.Tree.{Tree, Trees, primitive}
-use Rattle.bcder_tree.specs.Strings.{octet_string_tag, IsBerString, AreSegments, AreCerSegments, IsString}
-use Rattle.bcder_source.specs.declared.error.DecodeError.{DecodeError}
-use Rattle.bcder_content.specs.Contents.{ValuesLeft}
-use Rattle.bcder_content.specs.declared.content.Content.{Content}
-use Rattle.bcder_content.specs.Either.{SameContent, Shows, ReadsContentAs}
+use Rattle.bcder_octets.specs.bcder_tree.declared.mode.Mode.{Mode}
+use Rattle.bcder_octets.specs.bcder_tree.declared.mode.Mode.TheVariants.{Ber, Cer, Der}
+use Rattle.bcder_octets.specs.bcder_tree.Tags.{TagValue}
+use Rattle.bcder_octets.specs.bcder_tree.Tree.{Tree, Trees, primitive}
+use Rattle.bcder_octets.specs.bcder_tree.Strings.{octet_string_tag, IsBerString, AreSegments, AreCerSegments, IsString}
+use Rattle.bcder_octets.specs.bcder_source.declared.error.DecodeError.{DecodeError}
+use Rattle.bcder_octets.specs.bcder_content.Contents.{ValuesLeft}
+use Rattle.bcder_octets.specs.bcder_content.declared.content.Content.{Content}
+use Rattle.bcder_octets.specs.bcder_content.Either.{SameContent, Shows, ReadsContentAs}
 use Rattle.bcder_octets.specs.Pieces.{ArePlain}
 
 -- In CER a string in one piece has at most 1000 octets (9.2).

@@ -1,11 +1,11 @@
 -- Octets that spell segments, as the primitive values in them, in their order.
 use Rattle.std.specs.Prelude.{◌≡◌, ℕ, ◌<◌, ◌≤◌, ◌⊎◌, Bool, true, false, List, [], ◌∷◌, ◌++◌, length, Option, Some, None}
-use Rattle.bcder_tree.specs.declared.mode.Mode.TheVariants.{Ber}
-use Rattle.bcder_tree.specs.declared.length.Length.{Length}
-use Rattle.bcder_tree.specs.Tags.{TagValue}
-use Rattle.bcder_tree.specs.Tree.{Trees, primitive, none, more, IsHeader}
-use Rattle.bcder_tree.specs.Strings.{octet_string_tag, AreCerSegments}
-use Rattle.bcder_header.specs.Openings.{IsHead, Heads}
+use Rattle.bcder_octets.specs.bcder_tree.declared.mode.Mode.TheVariants.{Ber}
+use Rattle.bcder_octets.specs.bcder_tree.declared.length.Length.{Length}
+use Rattle.bcder_octets.specs.bcder_tree.Tags.{TagValue}
+use Rattle.bcder_octets.specs.bcder_tree.Tree.{Trees, primitive, none, more, IsHeader}
+use Rattle.bcder_octets.specs.bcder_tree.Strings.{octet_string_tag, AreCerSegments}
+use Rattle.bcder_octets.specs.bcder_header.Openings.{IsHead, Heads}
 use Rattle.bcder_octets.specs.declared.pieces.Item.{Item}
 use Rattle.bcder_octets.specs.declared.pieces.Item.TheVariants.{Piece, Around, End}
 

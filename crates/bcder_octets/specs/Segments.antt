@@ -1,16 +1,16 @@
 -- The segments in which a string is written in CER (X.690 9.2).
 use Rattle.std.proofs.Common.{◌≡◌, ℕ, List, [], ◌∷◌, length, take, drop, zero, suc, Bool, true, false}
 use Rattle.std.specs.Prelude.{nat_lt}
-use Rattle.bcder_tree.specs.declared.mode.Mode.{Mode}
-use Rattle.bcder_tree.specs.declared.mode.Mode.TheVariants.{Ber, Cer, Der}
-use Rattle.bcder_tree.specs.Tags.{TagValue}
-use Rattle.bcder_tree.specs.Tree.{Trees}
-use Rattle.bcder_tree.specs.Strings.{octet_string_tag}
-use Rattle.bcder_primitive.specs.Values.{AnyOctets}
-use Rattle.bcder_written.specs.Encoded.{IsPlain, WritesPlain, IsWrapped, WritesWrapped, SpellsSome}
+use Rattle.bcder_octets.specs.bcder_tree.declared.mode.Mode.{Mode}
+use Rattle.bcder_octets.specs.bcder_tree.declared.mode.Mode.TheVariants.{Ber, Cer, Der}
+use Rattle.bcder_octets.specs.bcder_tree.Tags.{TagValue}
+use Rattle.bcder_octets.specs.bcder_tree.Tree.{Trees}
+use Rattle.bcder_octets.specs.bcder_tree.Strings.{octet_string_tag}
+use Rattle.bcder_octets.specs.bcder_primitive.Values.{AnyOctets}
+use Rattle.bcder_octets.specs.bcder_written.Encoded.{IsPlain, WritesPlain, IsWrapped, WritesWrapped, SpellsSome}
 use Rattle.bcder_values.specs.Lists.{AreAll, WritesAll, all_spelled, all_one}
 use Rattle.bcder_values.specs.Plains.{plain_spelled, plain_one}
-use Rattle.bcder_written.specs.Simple.{one_string}
+use Rattle.bcder_octets.specs.bcder_written.Simple.{one_string}
 use Rattle.bcder_values.specs.Wraps.{wrapped_spelled, wrapped_one}
 
 -- The octets in rows of 1000, and a last one of 1 to 1000; at most so many rows.

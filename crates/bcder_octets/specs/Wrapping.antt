@@ -1,10 +1,10 @@
 -- Strings whose content is what other values are written as.
 use Rattle.std.proofs.Common.{◌≡◌, ◌≢◌, ℕ, List}
-use Rattle.bcder_tree.specs.declared.mode.Mode.{Mode}
-use Rattle.bcder_tree.specs.declared.mode.Mode.TheVariants.{Cer}
-use Rattle.bcder_tree.specs.Tags.{TagValue}
-use Rattle.bcder_tree.specs.Tree.{Trees}
-use Rattle.bcder_written.specs.Encoded.{IsPlain, WritesPlain, SpellsSome}
+use Rattle.bcder_octets.specs.bcder_tree.declared.mode.Mode.{Mode}
+use Rattle.bcder_octets.specs.bcder_tree.declared.mode.Mode.TheVariants.{Cer}
+use Rattle.bcder_octets.specs.bcder_tree.Tags.{TagValue}
+use Rattle.bcder_octets.specs.bcder_tree.Tree.{Trees}
+use Rattle.bcder_octets.specs.bcder_written.Encoded.{IsPlain, WritesPlain, SpellsSome}
 use Rattle.bcder_values.specs.Plains.{plain_spelled, plain_one}
 use Rattle.bcder_values.specs.Returns.{ReadAgain}
 use Rattle.bcder_octets.specs.Written.{WrittenString}

@@ -1,15 +1,15 @@
 //! Strings that are written.
 
 ghost use Rattle.std.specs.Prelude.{◌≡◌, IfOk, IfErr, OnOk};
-ghost use Rattle.bcder_tree.specs.Tags.{IsTag};
-ghost use Rattle.bcder_tree.specs.Strings.{octet_string_tag};
+ghost use Rattle.bcder_octets.specs.bcder_tree.Tags.{IsTag};
+ghost use Rattle.bcder_octets.specs.bcder_tree.Strings.{octet_string_tag};
 ghost use Rattle.bcder_octets.specs.Segments.{is_cut as is_cut_of, StringTrees, WritesString, string_spelled, string_one};
-ghost use Rattle.bcder_written.specs.Writing.{HasLength, Wrote, CannotWrite, WriteRefused};
+ghost use Rattle.bcder_octets.specs.bcder_written.Writing.{HasLength, Wrote, CannotWrite, WriteRefused};
 
+use crate::bcder_source::{Mode, Tag};
 use crate::pieces::SEGMENT;
 use crate::segments::Segments;
 use crate::string::OctetString;
-use bcder_source::{Mode, Tag};
 use bcder_values::{Constructed, EncodeError, Octets, Primitive, Values};
 use std::convert::AsSlice;
 use std::io::Write;

@@ -22,6 +22,7 @@ pub mod source;
 pub mod string;
 pub mod wrapping;
 
+pub use bcder_values::{bcder_content, bcder_source};
 pub use encode::{OctetSliceEncoder, OctetStringEncoder};
 pub use iter::{OctetStringIter, OctetStringOctets};
 pub use source::OctetStringSource;

@@ -1,13 +1,13 @@
 //! The segments of a string, within octets that were captured.
 
 ghost use Rattle.std.specs.Prelude.{[], ◌≡◌, ◌↔◌, IsTrue, ◌<◌, ◌≤◌, ℕ, List, length, IfOk, IfSome, IfNone};
-ghost use Rattle.bcder_tree.specs.Tree.{Trees, SpellsAll};
-ghost use Rattle.bcder_tree.specs.Strings.{AreSegments};
-ghost use Rattle.bcder_tree.specs.declared.mode.Mode.TheVariants.{Ber};
-ghost use Rattle.bcder_header.specs.Openings.{NoHead};
+ghost use Rattle.bcder_octets.specs.bcder_tree.Tree.{Trees, SpellsAll};
+ghost use Rattle.bcder_octets.specs.bcder_tree.Strings.{AreSegments};
+ghost use Rattle.bcder_octets.specs.bcder_tree.declared.mode.Mode.TheVariants.{Ber};
+ghost use Rattle.bcder_octets.specs.bcder_header.Openings.{NoHead};
 ghost use Rattle.bcder_octets.specs.Pieces.{IsHeaded, Holds, StepsTo, IsShorter, NextPiece, ArePlain, MayStand, TellsCut};
 
-use bcder_source::{Length, Mode, Tag};
+use crate::bcder_source::{Length, Mode, Tag};
 use std::alloc::{AllocError, Global};
 
 // How many octets a segment has in CER, but for the last (X.690 9.2).

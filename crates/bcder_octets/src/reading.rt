@@ -1,27 +1,31 @@
 //! Strings that are read.
 
-ghost use Rattle.std.specs.Prelude.{◌≡◌, ◌↔◌, IsTrue, IsOk, OnErr, true, false};
-ghost use Rattle.bcder_tree.specs.Strings.{AreSegments, IsOctetString, octet_string_tag};
-ghost use Rattle.bcder_tree.specs.declared.mode.Mode.TheVariants.{Der};
-ghost use Rattle.bcder_content.specs.Captures.{rest_of};
-ghost use Rattle.bcder_content.specs.Either.{left_of};
-ghost use Rattle.bcder_content.specs.Exact.{ReadsAllAs, ReadsAs, ReadsNextAs};
-ghost use Rattle.bcder_content.specs.Grammar.{ExactlyAll, OctetsOf};
-ghost use Rattle.bcder_content.specs.Here.{here, plain};
-ghost use Rattle.bcder_primitive.specs.Plain.{ReadsOctetsAs};
-ghost use Rattle.bcder_primitive.specs.Values.{AnyOctets};
+ghost use Rattle.std.specs.Prelude.{◌≡◌, ◌↔◌, IsTrue, IsOk, IfErr, OnErr, true, false};
+ghost use Rattle.bcder_octets.specs.bcder_tree.Strings.{AreSegments, IsOctetString, octet_string_tag};
+ghost use Rattle.bcder_octets.specs.bcder_tree.declared.mode.Mode.TheVariants.{Der};
+ghost use Rattle.bcder_octets.specs.bcder_content.Captures.{rest_of};
+ghost use Rattle.bcder_octets.specs.bcder_content.Either.{left_of};
+ghost use Rattle.bcder_octets.specs.bcder_content.Exact.{ReadsAllAs, ReadsAs, ReadsNextAs};
+ghost use Rattle.bcder_octets.specs.bcder_content.Grammar.{ExactlyAll, OctetsOf};
+ghost use Rattle.bcder_octets.specs.bcder_content.Here.{here, plain};
+ghost use Rattle.bcder_octets.specs.bcder_content.Memory.{OnMemory};
+ghost use Rattle.bcder_octets.specs.bcder_primitive.Plain.{ReadsOctetsAs};
+ghost use Rattle.bcder_octets.specs.bcder_primitive.Values.{AnyOctets};
+ghost use Rattle.bcder_whole.specs.Ahead.{HasOctets, HasNext};
+ghost use Rattle.bcder_octets.specs.Wants.{WantsString, WantsNext};
 ghost use Rattle.bcder_octets.specs.Parts.{FitsWhole, IsWhole, AreCut, AreParts, FitsPart, IsPart, AllParts, ReadsString};
 
+use crate::bcder_content::content::Content;
+use crate::bcder_content::{Captured, Constructed, Primitive};
+use crate::bcder_source::{ContentError, DecodeError, Mode, Source, Tag};
 use crate::pieces::{SEGMENT, join, join_cut};
 use crate::string::OctetString;
-use bcder_content::content::Content;
-use bcder_content::{Captured, Constructed, Primitive};
-use bcder_source::{ContentError, DecodeError, Mode, Source, Tag};
+use bcder_whole::whole::{front, refuse, request_all, take_front};
 use bytes::Bytes;
 use std::alloc::Global;
 
 // Whether a string of these octets may stand in one piece (X.690 9.2).
-fn fits_whole(mode: Mode, octets: &Bytes) -> bool
+fn fits_whole(mode: Mode, octets: &[u8]) -> bool
     ensures { IsTrue result ↔ FitsWhole mode octets.now }
 {
     match mode {
@@ -35,14 +39,18 @@ fn take_whole<S: Source>(
     alloc: Global,
     prim: &mut Primitive<S>,
 ) -> Result<OctetString, DecodeError<S::Error>>
-    ensures { ReadsOctetsAs (λ octets. octets) (IsWhole (plain S.rest prim.old).mode) (plain S.rest prim.old) result (plain S.rest prim.new) }
+    ensures reads { ReadsOctetsAs (λ octets. octets) (IsWhole (plain S.rest prim.old).mode) (plain S.rest prim.old) result (plain S.rest prim.new) }
+    ensures memory { IfErr result (λ e. OnMemory e (HasOctets (IsWhole (plain S.rest prim.old).mode) (plain S.rest prim.old))) }
 {
-    let mode = (*prim).mode();
-    let octets = prim.take_all(alloc)?;
-    if !fits_whole(mode, &octets) {
-        return Err((*prim).content_err(ContentError::from_static("a long string in one piece")));
+    let count = request_all(prim)?;
+    let fits = fits_whole(prim.mode, front(prim, count));
+    if !fits {
+        return Err(refuse(prim, "a long string in one piece"));
     }
-    Ok(OctetString::new(octets))
+    match take_front(alloc, prim, count) {
+        Ok(octets) => Ok(OctetString::new(octets)),
+        Err(error) => Err(error),
+    }
 }
 
 // Goes past the next segment with all that is in it, where one is next: an OCTET STRING in which all values
@@ -168,7 +176,8 @@ fn take_parts<S: Source>(
     alloc: Global,
     cons: &mut Constructed<S>,
 ) -> Result<OctetString, DecodeError<S::Error>>
-    ensures { ReadsAllAs (λ octets. octets) (AreParts (here S.rest cons.old).mode) (here S.rest cons.old) result (here S.rest cons.new) }
+    ensures reads { ReadsAllAs (λ octets. octets) (AreParts (here S.rest cons.old).mode) (here S.rest cons.old) result (here S.rest cons.new) }
+    ensures memory { IfErr result (λ e. OnMemory e ((here S.rest cons.old).mode ≡ Der → ⊥)) }
 {
     match (*cons).mode() {
         Mode::Ber => take_nested(alloc, cons),
@@ -182,18 +191,21 @@ fn read_content<S: Source>(
     alloc: Global,
     content: &mut Content<'_, S>,
 ) -> Result<OctetString, DecodeError<S::Error>>
-    ensures { ReadsString S.rest content.old result content.new }
+    ensures reads { ReadsString S.rest content.old result content.new }
+    ensures memory { IfErr result (λ e. OnMemory e (WantsString IsWhole S.rest content.old)) }
 {
     if (*content).is_primitive() {
         return content.primitive(
             |prim|
-                ensures { ReadsOctetsAs (λ octets. octets) (IsWhole (plain S.rest prim.old).mode) (plain S.rest prim.old) result (plain S.rest prim.new) }
+                ensures reads { ReadsOctetsAs (λ octets. octets) (IsWhole (plain S.rest prim.old).mode) (plain S.rest prim.old) result (plain S.rest prim.new) }
+                ensures memory { IfErr result (λ e. OnMemory e (HasOctets (IsWhole (plain S.rest prim.old).mode) (plain S.rest prim.old))) }
             { take_whole(alloc, prim) },
         );
     }
     content.constructed(
         |cons|
-            ensures { ReadsAllAs (λ octets. octets) (AreParts (here S.rest cons.old).mode) (here S.rest cons.old) result (here S.rest cons.new) }
+            ensures reads { ReadsAllAs (λ octets. octets) (AreParts (here S.rest cons.old).mode) (here S.rest cons.old) result (here S.rest cons.new) }
+            ensures memory { IfErr result (λ e. OnMemory e ((here S.rest cons.old).mode ≡ Der → ⊥)) }
         { take_parts(alloc, cons) },
     )
 }
@@ -205,6 +217,7 @@ pub(crate) fn take_content<S: Source>(
 ) -> Result<OctetString, DecodeError<S::Error>>
     ensures reads { ReadsString S.rest content.old result content.new }
     ensures failed { OnErr result ((left_of S.rest content.new).failed ≡ true) }
+    ensures memory { IfErr result (λ e. OnMemory e (WantsString IsWhole S.rest content.old)) }
 {
     match read_content(alloc, content) {
         Ok(octets) => Ok(octets),
@@ -222,13 +235,33 @@ pub(crate) fn take_string<S: Source>(
 ) -> Result<OctetString, DecodeError<S::Error>>
     ensures reads { ReadsAs (λ octets. octets) (IsOctetString (here S.rest cons.old).mode) (here S.rest cons.old) result (here S.rest cons.new) }
     ensures failed { OnErr result ((here S.rest cons.new).failed ≡ true) }
+    ensures memory { IfErr result (λ e. OnMemory e (WantsNext IsWhole (here S.rest cons.old))) }
 {
     cons.take_value_if(
         Tag::OCTET_STRING,
         |content|
-            ensures { ReadsString S.rest content.old result content.new }
+            ensures reads { ReadsString S.rest content.old result content.new }
+            ensures memory { IfErr result (λ e. OnMemory e (WantsString IsWhole S.rest content.old)) }
         { take_content(alloc, content) },
     )
+}
+
+// All octets of a content.
+#[inline(always)]
+fn take_all<S: Source>(
+    alloc: Global,
+    prim: &mut Primitive<S>,
+) -> Result<Bytes, DecodeError<S::Error>>
+    ensures reads { ReadsOctetsAs (λ octets. octets) AnyOctets (plain S.rest prim.old) result (plain S.rest prim.new) }
+    ensures memory { IfErr result (λ e. OnMemory e (HasOctets AnyOctets (plain S.rest prim.old))) }
+{
+    let count = request_all(prim)?;
+    // They are as many as were asked for.
+    front(prim, count);
+    match take_front(alloc, prim, count) {
+        Ok(octets) => Ok(octets),
+        Err(error) => Err(error),
+    }
 }
 
 // The octets of the next value, a string in one piece.
@@ -238,12 +271,14 @@ fn take_octets<S: Source>(
 ) -> Result<Bytes, DecodeError<S::Error>>
     ensures reads { ReadsAs (λ octets. octets) (OctetsOf octet_string_tag AnyOctets) (here S.rest cons.old) result (here S.rest cons.new) }
     ensures failed { OnErr result ((here S.rest cons.new).failed ≡ true) }
+    ensures memory { IfErr result (λ e. OnMemory e (HasNext (OctetsOf octet_string_tag AnyOctets) (here S.rest cons.old))) }
 {
     cons.take_primitive_if(
         Tag::OCTET_STRING,
         |prim|
-            ensures { ReadsOctetsAs (λ octets. octets) AnyOctets (plain S.rest prim.old) result (plain S.rest prim.new) }
-        { prim.take_all(alloc) },
+            ensures reads { ReadsOctetsAs (λ octets. octets) AnyOctets (plain S.rest prim.old) result (plain S.rest prim.new) }
+            ensures memory { IfErr result (λ e. OnMemory e (HasOctets AnyOctets (plain S.rest prim.old))) }
+        { take_all(alloc, prim) },
     )
 }
 
@@ -255,6 +290,7 @@ pub(crate) fn take_piece<S: Source>(
 ) -> Result<OctetString, DecodeError<S::Error>>
     ensures reads { ReadsAs (λ octets. octets) (IsOctetString Der) (here S.rest cons.old) result (here S.rest cons.new) }
     ensures failed { OnErr result ((here S.rest cons.new).failed ≡ true) }
+    ensures memory { IfErr result (λ e. OnMemory e (HasNext (IsOctetString Der) (here S.rest cons.old))) }
 {
     match take_octets(alloc, cons) {
         Ok(octets) => Ok(OctetString::new(octets)),

@@ -2,10 +2,10 @@
 
 ghost use Rattle.std.specs.Prelude.{◌≡◌, ◌<◌, [], ◌∷◌, length, IfOk, IfErr, IfSome, IfNone, OnOk};
 ghost use Rattle.bcder_octets.specs.Segments.{segments, IsSegment, WritesSegment, AreSegmentsOf, WritesSegments, segments_spelled, segments_one};
-ghost use Rattle.bcder_written.specs.Writing.{HasLength, Wrote, CannotWrite, WriteRefused};
+ghost use Rattle.bcder_octets.specs.bcder_written.Writing.{HasLength, Wrote, CannotWrite, WriteRefused};
 
+use crate::bcder_source::{Mode, Tag};
 use crate::pieces::SEGMENT;
-use bcder_source::{Mode, Tag};
 use bcder_values::{EncodeError, Octets, Primitive, Values};
 use std::io::Write;
 

@@ -2,8 +2,8 @@
 
 ghost use Rattle.std.specs.Prelude.{◌≡◌, length};
 
+use crate::bcder_source::{BytesSource, IntoSource, Pos, Source};
 use crate::string::OctetString;
-use bcder_source::{BytesSource, IntoSource, Pos, Source};
 use bytes::Bytes;
 use std::alloc::{AllocError, Global};
 use std::convert::Infallible;
@@ -18,7 +18,7 @@ pub struct OctetStringSource {
 }
 
 impl Model for OctetStringSource {
-    ghost use Rattle.bcder_source.specs.Views.{Reading};
+    ghost use Rattle.bcder_octets.specs.bcder_source.Views.{Reading};
 
     ghost Value = { Reading };
 

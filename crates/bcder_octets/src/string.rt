@@ -1,16 +1,20 @@
 //! `OctetString`.
 
-ghost use Rattle.std.specs.Prelude.{◌≡◌, ◌↔◌, [], length, IsTrue, IfOk, IsSomeAnd, OnErr, true};
-ghost use Rattle.bcder_tree.specs.Strings.{octet_string_tag, IsOctetString};
-ghost use Rattle.bcder_content.specs.Either.{left_of};
-ghost use Rattle.bcder_content.specs.Exact.{ReadsAs, ReadsOptAs};
-ghost use Rattle.bcder_content.specs.Here.{here};
-ghost use Rattle.bcder_octets.specs.Parts.{ReadsString};
+ghost use Rattle.std.specs.Prelude.{◌≡◌, ◌↔◌, [], length, IsTrue, IfOk, IfErr, IsSomeAnd, OnErr, true};
+ghost use Rattle.bcder_octets.specs.bcder_tree.Strings.{octet_string_tag, IsOctetString};
+ghost use Rattle.bcder_octets.specs.bcder_content.Either.{left_of};
+ghost use Rattle.bcder_octets.specs.bcder_content.Exact.{ReadsAs, ReadsOptAs};
+ghost use Rattle.bcder_octets.specs.bcder_content.Here.{here};
+ghost use Rattle.bcder_octets.specs.bcder_content.Memory.{OnMemory};
+ghost use Rattle.bcder_octets.specs.bcder_tree.declared.mode.Mode.TheVariants.{Der};
+ghost use Rattle.bcder_whole.specs.Ahead.{HasNext};
+ghost use Rattle.bcder_octets.specs.Wants.{WantsString, WantsNext};
+ghost use Rattle.bcder_octets.specs.Parts.{IsWhole, ReadsString};
 
+use crate::bcder_content::Constructed;
+use crate::bcder_content::content::Content;
+use crate::bcder_source::{DecodeError, Mode, Source, Tag};
 use crate::reading::{take_content, take_piece, take_string};
-use bcder_content::Constructed;
-use bcder_content::content::Content;
-use bcder_source::{DecodeError, Mode, Source, Tag};
 use bytes::Bytes;
 use std::alloc::{AllocError, Global};
 use std::marker::Model;
@@ -103,13 +107,16 @@ impl OctetString {
     /// The next value, an OCTET STRING (X.690 8.7): in BER primitive, or in segments, nested at will; in CER
     /// primitive to 1000 octets, else in segments of 1000 (9.2); in DER primitive (10.2).
     ///
-    /// Any other value is refused.
+    /// Any other value is refused. Memory is wanted only where a string in one piece is next, or within segments; in DER
+    /// only where an OCTET STRING is next.
     pub fn take_from<S: Source>(
         alloc: Global,
         cons: &mut Constructed<S>,
     ) -> Result<OctetString, DecodeError<S::Error>>
         ensures reads { ReadsAs (λ octets. octets) (IsOctetString (here S.rest cons.old).mode) (here S.rest cons.old) result (here S.rest cons.new) }
         ensures failed { OnErr result ((here S.rest cons.new).failed ≡ true) }
+        ensures memory { IfErr result (λ e. OnMemory e (WantsNext IsWhole (here S.rest cons.old))) }
+        ensures memory_in_der { IfErr result (λ e. OnMemory e ((here S.rest cons.old).mode ≡ Der → HasNext (IsOctetString Der) (here S.rest cons.old))) }
     {
         match cons.mode() {
             Mode::Der => take_piece(alloc, cons),
@@ -117,30 +124,34 @@ impl OctetString {
         }
     }
 
-    /// Reads the next value where it is an OCTET STRING by its tag; else nothing is read.
+    /// Reads the next value where it is an OCTET STRING by its tag; else nothing is read. Memory is wanted as by
+    /// `take_from`.
     pub fn take_opt_from<S: Source>(
         alloc: Global,
         cons: &mut Constructed<S>,
     ) -> Result<Option<OctetString>, DecodeError<S::Error>>
         ensures reads { ReadsOptAs (λ octets. octets) octet_string_tag (IsOctetString (here S.rest cons.old).mode) (here S.rest cons.old) result (here S.rest cons.new) }
         ensures failed { OnErr result ((here S.rest cons.new).failed ≡ true) }
+        ensures memory { IfErr result (λ e. OnMemory e (WantsNext IsWhole (here S.rest cons.old))) }
     {
         cons.take_opt_value_if(
             Tag::OCTET_STRING,
             |content|
-                ensures { ReadsString S.rest content.old result content.new }
+                ensures reads { ReadsString S.rest content.old result content.new }
+                ensures memory { IfErr result (λ e. OnMemory e (WantsString IsWhole S.rest content.old)) }
             { take_content(alloc, content) },
         )
     }
 
     /// The string whose content that is, whatever its tag: for implicit tags (8.14). Where it is refused, the content
-    /// is failed.
+    /// is failed. Memory is wanted only where it is a string in one piece, or within segments, which DER lacks.
     pub fn from_content<S: Source>(
         alloc: Global,
         content: &mut Content<'_, S>,
     ) -> Result<OctetString, DecodeError<S::Error>>
         ensures reads { ReadsString S.rest content.old result content.new }
         ensures failed { OnErr result ((left_of S.rest content.new).failed ≡ true) }
+        ensures memory { IfErr result (λ e. OnMemory e (WantsString IsWhole S.rest content.old)) }
     {
         take_content(alloc, content)
     }

@@ -1,15 +1,15 @@
 //! Strings whose content is what other values are written as.
 
 ghost use Rattle.std.specs.Prelude.{◌≡◌, ◌≢◌, ◌^◌, ◌<◌, IfOk, IfErr, OnOk, IsErrAnd};
-ghost use Rattle.bcder_tree.specs.declared.mode.Mode.TheVariants.{Cer};
-ghost use Rattle.bcder_tree.specs.Tags.{IsTag};
-ghost use Rattle.bcder_tree.specs.Strings.{octet_string_tag};
+ghost use Rattle.bcder_octets.specs.bcder_tree.declared.mode.Mode.TheVariants.{Cer};
+ghost use Rattle.bcder_octets.specs.bcder_tree.Tags.{IsTag};
+ghost use Rattle.bcder_octets.specs.bcder_tree.Strings.{octet_string_tag};
 ghost use Rattle.bcder_octets.specs.Wrapping.{IsAround, WritesAround, around_spelled, around_one};
-ghost use Rattle.bcder_written.specs.Writing.{HasLength, Wrote, CannotWrite, WriteRefused};
-ghost use Rattle.bcder_written.specs.declared.error.EncodeError.TheVariants.{CerUnsupported as cer_unsupported};
+ghost use Rattle.bcder_octets.specs.bcder_written.Writing.{HasLength, Wrote, CannotWrite, WriteRefused};
+ghost use Rattle.bcder_octets.specs.bcder_written.declared.error.EncodeError.TheVariants.{CerUnsupported as cer_unsupported};
 
+use crate::bcder_source::{Mode, Tag};
 use crate::string::OctetString;
-use bcder_source::{Mode, Tag};
 use bcder_values::header::{MAX_LEN, header_len, put_header};
 use bcder_values::{EncodeError, Values};
 use std::io::Write;

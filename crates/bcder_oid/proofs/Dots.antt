@@ -7,7 +7,7 @@ use Rattle.std.specs.Prelude.{MatchOption, IfErr, OnOk}
 use Rattle.std.specs.Result.{IsErr, IsErrAnd}
 use Rattle.bcder_oid.specs.declared.text.ParseOidError.{ParseOidError}
 use Rattle.bcder_oid.specs.declared.text.ParseOidError.TheVariants as errors
-use Rattle.bcder_oid.specs.Texts.{OnRefused, MayBegin, ReadsText, IsComponentText, IsDotted, LacksDot, IsLastPiece, IsFirstPiece}
+use Rattle.bcder_oid.specs.Texts.{OnRefused, FrontRefused, NumbersRefused, WhyRefused, MayBegin, ReadsText, IsComponentText, IsDotted, LacksDot, IsLastPiece, IsFirstPiece}
 use Rattle.bcder_oid.proofs.Numerals.{one_number, no_dot}
 
 -- A text is cut at its first dot in one way.
@@ -142,3 +142,52 @@ on_err {F = F} {G} (Err e) f h = weaker F G e f h
 pub on_ok : {A F G : Type 0} (r : Result A ParseOidError) → (F → G) → OnOk r F → OnOk r G
 on_ok (Ok x) f h = f h
 on_ok (Err e) f h = tt
+
+-- The first test that fails.
+pub front_why : (text ms : List ℕ) (x y : ℕ) (e : ParseOidError) → IsDotted text (x ∷ y ∷ ms) → FrontRefused e x y → WhyRefused e text
+front_why text ms x y errors.TooFew h f = absurd f
+front_why text ms x y errors.Component h f = absurd f
+front_why text ms x y errors.First h f = (x, y, ms, h, f)
+front_why text ms x y errors.Second h f = (x, y, ms, h, f.0, f.1)
+front_why text ms x y errors.Memory h f = absurd f
+
+pub front_numbers : {ns ms : List ℕ} {x y : ℕ} (e : ParseOidError) → ns ≡ x ∷ y ∷ ms → FrontRefused e x y → NumbersRefused e ns
+front_numbers errors.TooFew h f = absurd f
+front_numbers errors.Component h f = absurd f
+front_numbers {ms = ms} {x} {y} errors.First h f = (x, y, ms, h, f)
+front_numbers {ms = ms} {x} {y} errors.Second h f = (x, y, ms, h, f.0, f.1)
+front_numbers errors.Memory h f = absurd f
+
+numbers_why : (text : List ℕ) (ns : List ℕ) (e : ParseOidError) → IsDotted text ns → NumbersRefused e ns → WhyRefused e text
+numbers_why text [] e h f = absurd h
+numbers_why text (n ∷ []) errors.TooFew h f = (n, h)
+numbers_why text (n ∷ m ∷ ns) errors.TooFew h f = absurd (let g : length (n ∷ m ∷ ns) < 2 = f in omega arith)
+numbers_why text ns errors.Component h f = absurd f
+numbers_why text ns errors.First h f = (f.0, f.1, f.2, subst (IsDotted text) f.3 h, f.4)
+numbers_why text ns errors.Second h f = (f.0, f.1, f.2, subst (IsDotted text) f.3 h, f.4, f.5)
+numbers_why text ns errors.Memory h f = tt
+
+-- Causes that are passed on.
+pub component_why : {A F : Type 0} {text : List ℕ} (r : Result A ParseOidError) (e : ParseOidError) → IsErr r × IsErrAnd r (λ x. x ≡ e) → e ≡ errors.Component → (F → (ns : List ℕ) → IsDotted text ns → ⊥) → OnRefused e F → IfErr r (λ x. WhyRefused x text)
+component_why (Ok x) e a c f h = tt
+component_why {F = F} {text} (Err x) e a c f h = subst (λ (y : ParseOidError). WhyRefused y text) (sym (a.1 ∙ c)) (f (subst (λ (y : ParseOidError). OnRefused y F) c h))
+
+why_through : {A : Type 0} (text : List ℕ) (r : Result A ParseOidError) (e : ParseOidError) → IsErr r × IsErrAnd r (λ x. x ≡ e) → WhyRefused e text → IfErr r (λ x. WhyRefused x text)
+why_through text (Ok x) e a h = tt
+why_through text (Err x) e a h = subst (λ (y : ParseOidError). WhyRefused y text) (sym a.1) h
+
+pub numbers_through : {A : Type 0} (text : List ℕ) {ns ms : List ℕ} (r : Result A ParseOidError) (e : ParseOidError) → IsErr r × IsErrAnd r (λ x. x ≡ e) → IsDotted text ns → ms ≡ ns → NumbersRefused e ms → IfErr r (λ x. WhyRefused x text)
+numbers_through text {ns} r e a d same h = why_through text r e a (numbers_why text ns e d (subst (NumbersRefused e) same h))
+
+pub front_through : {A : Type 0} {ns ms : List ℕ} {x y : ℕ} (r : Result A ParseOidError) (e : ParseOidError) → IsErr r × IsErrAnd r (λ z. z ≡ e) → ns ≡ x ∷ y ∷ ms → FrontRefused e x y → IfErr r (λ z. NumbersRefused z ns)
+front_through (Ok x) e a same f = tt
+front_through {ns = ns} (Err x) e a same f = subst (λ (z : ParseOidError). NumbersRefused z ns) (sym a.1) (front_numbers e same f)
+
+-- A cause, whatever the text's numbers are; and one by the first two of them.
+pub for_any : {A : Type 0} (text : List ℕ) (r : Result A ParseOidError) → IfErr r (λ e. WhyRefused e text) → IfErr r (λ e. (ns : List ℕ) → IsDotted text ns → WhyRefused e text)
+for_any text (Ok x) h = tt
+for_any text (Err e) h = λ ns d. h
+
+pub front_any : {A : Type 0} {text : List ℕ} {x y : ℕ} (r : Result A ParseOidError) → ((ns : List ℕ) → IsDotted text ns → (ms : List ℕ) × (ns ≡ x ∷ y ∷ ms)) → IfErr r (λ e. FrontRefused e x y) → IfErr r (λ e. (ns : List ℕ) → IsDotted text ns → WhyRefused e text)
+front_any (Ok x) two f = tt
+front_any {text = text} {x} {y} (Err e) two f = λ ns d. let t = two ns d in front_why text t.0 x y e (subst (IsDotted text) t.1 d) f

@@ -5,3 +5,5 @@ pub mod Dots
 pub mod Written
 pub mod Lines
 pub mod Read
+pub mod of_bcder_content
+pub mod of_bcder_primitive

@@ -1,10 +1,10 @@
 -- Texts of object identifiers: components in decimal digits, with dots (46) between them.
-use Rattle.std.specs.Prelude.{◌≡◌, ◌≢◌, ℕ, ◌^◌, ◌<◌, ◌≤◌, List, [], ◌∷◌, ◌++◌, All}
+use Rattle.std.specs.Prelude.{◌≡◌, ◌≢◌, ℕ, ◌^◌, ◌<◌, ◌≤◌, List, [], ◌∷◌, ◌++◌, length, All}
 use Rattle.std.specs.Str.Parse.{IsNumeral, digits_value, without_leading_plus}
 use Rattle.bcder_oid.specs.Subidentifiers.{base128, IsShort, InTurn, IsShortest}
 use Rattle.bcder_oid.specs.Components.{AreComponents}
 use Rattle.bcder_oid.specs.declared.text.ParseOidError.{ParseOidError}
-use Rattle.bcder_oid.specs.declared.text.ParseOidError.TheVariants.{Memory}
+use Rattle.bcder_oid.specs.declared.text.ParseOidError.TheVariants.{TooFew, Component, First, Second, Memory}
 
 -- Decimal digits of a number of 32 bits; zeros or one plus may stand in front.
 pub record IsComponentText (text : List ℕ) (n : ℕ) : Type 0 where
@@ -45,6 +45,31 @@ pub record ReadsText (text octets : List ℕ) : Type 0 where
 abbrev pub OnRefused : ParseOidError → Type 0 → Type 0
 OnRefused Memory fact = Unit {0}
 OnRefused other fact = fact
+
+-- The first test that two numbers fail in front of others: the first is above 2, or it is below and the second above 39.
+abbrev pub FrontRefused : ParseOidError → ℕ → ℕ → Type 0
+FrontRefused TooFew x y = ⊥
+FrontRefused Component x y = ⊥
+FrontRefused First x y = 2 < x
+FrontRefused Second x y = (x < 2) × (40 ≤ y)
+FrontRefused Memory x y = ⊥
+
+-- The first test that numbers fail: they are two at least, and the first two may stand in front.
+abbrev pub NumbersRefused : ParseOidError → List ℕ → Type 0
+NumbersRefused TooFew ns = length ns < 2
+NumbersRefused Component ns = ⊥
+NumbersRefused First ns = (x : ℕ) × (y : ℕ) × (ms : List ℕ) × (ns ≡ x ∷ y ∷ ms) × (2 < x)
+NumbersRefused Second ns = (x : ℕ) × (y : ℕ) × (ms : List ℕ) × (ns ≡ x ∷ y ∷ ms) × (x < 2) × (40 ≤ y)
+NumbersRefused Memory ns = Unit {0}
+
+-- The first test that a text fails. It is of numbers with dots between them; they are two at least; the first is at most
+-- 2; and the second is below 40 where the first is 0 or 1. No text fails two of them so.
+abbrev pub WhyRefused : ParseOidError → List ℕ → Type 0
+WhyRefused TooFew text = (n : ℕ) × IsDotted text (n ∷ [])
+WhyRefused Component text = (ns : List ℕ) → IsDotted text ns → ⊥
+WhyRefused First text = (x : ℕ) × (y : ℕ) × (ns : List ℕ) × IsDotted text (x ∷ y ∷ ns) × (2 < x)
+WhyRefused Second text = (x : ℕ) × (y : ℕ) × (ns : List ℕ) × IsDotted text (x ∷ y ∷ ns) × (x < 2) × (40 ≤ y)
+WhyRefused Memory text = Unit {0}
 
 -- No dot stands in the text.
 abbrev pub LacksDot : List ℕ → Type 0

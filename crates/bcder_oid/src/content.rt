@@ -1,18 +1,20 @@
 //! Object identifiers read from contents.
 
-ghost use Rattle.std.specs.Prelude.{◌≡◌, ◌↔◌, ◌≢◌, ◌≤◌, List, ℕ, length, take, drop, IfOk, IfErr, OnOk, OnErr, IsTrue, Some, true, false};
-ghost use Rattle.bcder_source.specs.Errors.{OnlyContent};
-ghost use Rattle.bcder_source.specs.declared.error.DecodeError.TheVariants.{Memory};
-ghost use Rattle.bcder_tree.specs.Tags.{universal};
-ghost use Rattle.bcder_primitive.specs.Plain.{plain, WholeOctets, ReadsOctetsAs};
-ghost use Rattle.bcder_content.specs.Exact.{ReadsAs, ReadsOptAs};
-ghost use Rattle.bcder_content.specs.Grammar.{OctetsOf};
-ghost use Rattle.bcder_content.specs.Here.{here};
+ghost use Rattle.std.specs.Prelude.{◌≡◌, ◌↔◌, ◌≢◌, IfErr, OnErr, IsTrue, true};
+ghost use Rattle.bcder_oid.specs.bcder_source.declared.error.DecodeError.TheVariants.{Memory};
+ghost use Rattle.bcder_oid.specs.bcder_tree.Tags.{universal};
+ghost use Rattle.bcder_oid.specs.bcder_primitive.Plain.{plain, ReadsOctetsAs};
+ghost use Rattle.bcder_oid.specs.bcder_content.Exact.{ReadsAs, ReadsOptAs};
+ghost use Rattle.bcder_oid.specs.bcder_content.Grammar.{OctetsOf};
+ghost use Rattle.bcder_oid.specs.bcder_content.Here.{here};
+ghost use Rattle.bcder_oid.specs.bcder_content.Memory.{OnMemory};
+ghost use Rattle.bcder_whole.specs.Ahead.{HasOctets, HasNext};
 ghost use Rattle.bcder_oid.specs.Identifiers.{IsIdentifier, IsOid, IsAnyOid, AreOctets};
 
+use crate::bcder_content::{Constructed, Primitive};
+use crate::bcder_source::{DecodeError, Source, Tag};
 use crate::oid::Oid;
-use bcder_content::{Constructed, Primitive};
-use bcder_source::{ContentError, DecodeError, Source, Tag};
+use bcder_whole::whole::{front, pass, refuse, request_all, take_front};
 use bytes::Bytes;
 use std::alloc::Global;
 use std::convert::AsSlice;
@@ -34,59 +36,6 @@ fn are_same(first: &[u8], second: &[u8]) -> bool
     first == second
 }
 
-// Marks a content as failed, and refuses it.
-fn refuse<S: Source>(prim: &mut Primitive<S>, text: &str) -> DecodeError<S::Error>
-    ensures error { OnlyContent result (Unit {0}) }
-    ensures failed { plain S.rest prim.new ≡ record (plain S.rest prim.old) { failed = true } }
-{
-    prim.failed = true;
-    (*prim).source.content_err(ContentError::from_static(text))
-}
-
-// Has all octets of a content at hand, and answers how many.
-fn at_hand<S: Source>(prim: &mut Primitive<S>) -> Result<usize, DecodeError<S::Error>>
-    ensures same { OnOk result (plain S.rest prim.new ≡ plain S.rest prim.old) }
-    ensures sound { OnOk result ((plain S.rest prim.old).failed ≡ false) }
-    ensures all { IfOk result (λ n. (plain S.rest prim.old).limit ≡ Some n) }
-    ensures available { IfOk result (λ n. n ≤ S.available prim.new.source.source) }
-    ensures refused { IfErr result (λ e. OnlyContent e ((text : List ℕ) → WholeOctets (plain S.rest prim.old) text → ⊥)) }
-    ensures failed { OnErr result ((plain S.rest prim.new).failed ≡ true) }
-{
-    if prim.failed {
-        return Err(refuse(prim, "a read was refused before"));
-    }
-    let Some(limit) = prim.source.limit else {
-        return Err(refuse(prim, "unexpected end of data"));
-    };
-    match prim.source.source.request(limit) {
-        Ok(count) if count < limit => Err(refuse(prim, "unexpected end of data")),
-        Ok(_) => Ok(limit),
-        Err(error) => {
-            prim.failed = true;
-            Err(DecodeError::Source(error))
-        }
-    }
-}
-
-// The first octets, which are at hand.
-fn front<S: Source>(prim: &Primitive<S>, count: usize) -> &[u8]
-    requires { count ≤ S.available prim.now.source.source }
-    ensures value { result.now ≡ take count (plain S.rest prim.now).rest }
-    ensures there { count ≤ length (plain S.rest prim.now).rest }
-{
-    &prim.source.source.slice()[..count]
-}
-
-// Goes behind all octets of a content, which are at hand.
-fn pass<S: Source>(prim: &mut Primitive<S>, count: usize)
-    requires limit { (plain S.rest prim.old).limit ≡ Some count }
-    requires available { count ≤ S.available prim.old.source.source }
-    ensures { plain S.rest prim.new ≡ record (plain S.rest prim.old) { rest = drop count (plain S.rest prim.old).rest; limit = Some 0 } }
-{
-    prim.source.source.advance(count);
-    prim.source.limit = Some(0);
-}
-
 // Goes past a content that is just these octets.
 fn skip_octets<S: Source>(
     prim: &mut Primitive<S>,
@@ -96,7 +45,7 @@ fn skip_octets<S: Source>(
     ensures failed { OnErr result ((plain S.rest prim.new).failed ≡ true) }
     ensures no_memory { IfErr result (λ e. e ≢ Memory) }
 {
-    let count = at_hand(prim)?;
+    let count = request_all(prim)?;
     let is_expected = are_same(front(prim, count), expected);
     if is_expected {
         pass(prim, count);
@@ -127,24 +76,27 @@ impl Oid<Bytes> {
         cons.take_opt_primitive_if(Tag::OID, |prim| Oid::skip_primitive(prim))
     }
 
-    /// The octets of an OBJECT IDENTIFIER (X.690 8.19); where the source shares its octets none is copied.
+    /// The octets of an OBJECT IDENTIFIER (X.690 8.19); where the source shares its octets none is copied. Memory is wanted
+    /// only where one is next.
     pub fn take_from<S: Source>(
         alloc: Global,
         cons: &mut Constructed<S>,
     ) -> Result<Self, DecodeError<S::Error>>
         ensures reads { ReadsAs (λ oid. oid.0) (OctetsOf (universal 6) IsOid) (here S.rest cons.old) result (here S.rest cons.new) }
         ensures failed { OnErr result ((here S.rest cons.new).failed ≡ true) }
+        ensures memory { IfErr result (λ e. OnMemory e (HasNext (OctetsOf (universal 6) IsOid) (here S.rest cons.old))) }
     {
         cons.take_primitive_if(Tag::OID, |prim| Oid::from_primitive(alloc, prim))
     }
 
-    /// The octets of an OBJECT IDENTIFIER, if one is next (X.690 8.19).
+    /// The octets of an OBJECT IDENTIFIER, if one is next (X.690 8.19). Memory is wanted only then.
     pub fn take_opt_from<S: Source>(
         alloc: Global,
         cons: &mut Constructed<S>,
     ) -> Result<Option<Self>, DecodeError<S::Error>>
         ensures reads { ReadsOptAs (λ oid. oid.0) (universal 6) (OctetsOf (universal 6) IsOid) (here S.rest cons.old) result (here S.rest cons.new) }
         ensures failed { OnErr result ((here S.rest cons.new).failed ≡ true) }
+        ensures memory { IfErr result (λ e. OnMemory e (HasNext (OctetsOf (universal 6) IsOid) (here S.rest cons.old))) }
     {
         cons.take_opt_primitive_if(Tag::OID, |prim| Oid::from_primitive(alloc, prim))
     }
@@ -155,7 +107,7 @@ impl Oid<Bytes> {
         ensures failed { OnErr result ((plain S.rest prim.new).failed ≡ true) }
         ensures no_memory { IfErr result (λ e. e ≢ Memory) }
     {
-        let count = at_hand(prim)?;
+        let count = request_all(prim)?;
         let is_oid = is_identifier(front(prim, count));
         if is_oid {
             pass(prim, count);
@@ -164,28 +116,24 @@ impl Oid<Bytes> {
         Err(refuse(prim, "invalid object identifier"))
     }
 
-    /// The content of an OBJECT IDENTIFIER: one or more octets, of which the last has bit 8 clear.
+    /// The content of an OBJECT IDENTIFIER: one or more octets, of which the last has bit 8 clear. Memory is wanted only
+    /// where it is such.
     pub fn from_primitive<S: Source>(
         alloc: Global,
         prim: &mut Primitive<S>,
     ) -> Result<Self, DecodeError<S::Error>>
         ensures reads { ReadsOctetsAs (λ oid. oid.0) IsOid (plain S.rest prim.old) result (plain S.rest prim.new) }
         ensures failed { OnErr result ((plain S.rest prim.new).failed ≡ true) }
+        ensures memory { IfErr result (λ e. OnMemory e (HasOctets IsOid (plain S.rest prim.old))) }
     {
-        let count = at_hand(prim)?;
+        let count = request_all(prim)?;
         let is_oid = is_identifier(front(prim, count));
         if !is_oid {
             return Err(refuse(prim, "invalid object identifier"));
         }
-        match prim.source.source.bytes(alloc, 0, count) {
-            Ok(octets) => {
-                pass(prim, count);
-                Ok(Oid(octets))
-            }
-            Err(_) => {
-                prim.failed = true;
-                Err(DecodeError::Memory)
-            }
+        match take_front(alloc, prim, count) {
+            Ok(octets) => Ok(Oid(octets)),
+            Err(error) => Err(error),
         }
     }
 }

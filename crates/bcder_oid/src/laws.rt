@@ -1,8 +1,8 @@
 //! Laws of object identifiers. These functions do nothing: their contracts are the laws.
 
 ghost use Rattle.std.specs.Prelude.{◌≡◌, ◌↔◌, ℕ, List};
-ghost use Rattle.bcder_tree.specs.Tags.{universal};
-ghost use Rattle.bcder_content.specs.Grammar.{OctetsOf, One};
+ghost use Rattle.bcder_oid.specs.bcder_tree.Tags.{universal};
+ghost use Rattle.bcder_oid.specs.bcder_content.Grammar.{OctetsOf, One};
 ghost use Rattle.bcder_oid.specs.Components.{HasComponents, components_of};
 ghost use Rattle.bcder_oid.specs.Identifiers.{IsIdentifier, IsOid, AreSubidentifiers};
 

@@ -25,4 +25,5 @@ pub mod oid;
 mod text;
 mod write;
 
+pub use bcder_values::{bcder_content, bcder_source, bcder_tree};
 pub use oid::{ConstOid, Oid};

@@ -2,7 +2,7 @@
 
 ghost use Rattle.std.specs.Prelude.{◌≡◌, ◌≢◌, ◌++◌, ◌∷◌, [], ℕ, List, IfOk, IfErr, OnOk, MatchOption};
 ghost use Rattle.bcder_oid.specs.Subidentifiers.{InTurn, IsShortest};
-ghost use Rattle.bcder_oid.specs.Texts.{IsComponentText, IsDotted, IsOidText, MayBegin, Spells, ReadsText, OnRefused, HighOctets, IsLastPiece, IsFirstPiece};
+ghost use Rattle.bcder_oid.specs.Texts.{IsComponentText, IsDotted, IsOidText, MayBegin, Spells, ReadsText, OnRefused, FrontRefused, NumbersRefused, WhyRefused, HighOctets, IsLastPiece, IsFirstPiece};
 
 use crate::oid::Oid;
 use bytes::Bytes;
@@ -33,11 +33,13 @@ impl Oid<Bytes> {
     /// The object identifier of a text: two or more numbers up to `u32::MAX` in decimal digits, with dots between
     /// them; the first is at most 2, and the second below 40 where the first is 0 or 1 (X.690 8.19.4).
     ///
-    /// Zeros or one plus may stand in front of digits. The octets are the fewest. Where memory is wanted, the text is
-    /// that of an identifier.
+    /// Zeros or one plus may stand in front of digits. The octets are the fewest. A refusal tells the first test that
+    /// fails: that all are numbers, that they are two at least, and then the first two. Where memory is wanted, the text
+    /// is that of an identifier.
     pub fn from_str(alloc: Global, text: &str) -> Result<Self, ParseOidError>
         ensures reads { IfOk result (λ oid. ReadsText text.now oid.0) }
         ensures refused { IfErr result (λ e. OnRefused e ((octets : List ℕ) → ReadsText text.now octets → ⊥)) }
+        ensures cause { IfErr result (λ e. WhyRefused e text.now) }
         ensures memory { IfErr result (λ e. e ≡ ParseOidError.Memory → (components : List ℕ) × IsOidText text.now components) }
     {
         match read_text(alloc, text) {
@@ -55,6 +57,7 @@ impl Oid<Bytes> {
 fn read_text(alloc: Global, text: &str) -> Result<Oid<Bytes>, ParseOidError>
     ensures reads { IfOk result (λ oid. ReadsText text.now oid.0) }
     ensures refused { IfErr result (λ e. OnRefused e ((octets : List ℕ) → ReadsText text.now octets → ⊥)) }
+    ensures cause { IfErr result (λ e. WhyRefused e text.now) }
 {
     let numbers = read_numbers(alloc, text)?;
     let octets = write_components(alloc, &numbers)?;
@@ -69,6 +72,7 @@ fn judge(text: &str) -> Result<(), ParseOidError>
     ensures reads { OnOk result ((components : List ℕ) × IsOidText text.now components) }
     ensures refused { IfErr result (λ e. OnRefused e ((octets : List ℕ) → ReadsText text.now octets → ⊥)) }
     ensures no_memory { IfErr result (λ e. e ≢ ParseOidError.Memory) }
+    ensures cause { IfErr result (λ e. WhyRefused e text.now) }
 {
     judge_numbers(text)?;
     judge_front(text)
@@ -79,6 +83,7 @@ fn judge_numbers(text: &str) -> Result<(), ParseOidError>
     ensures reads { OnOk result ((ns : List ℕ) × IsDotted text.now ns) }
     ensures refused { IfErr result (λ e. OnRefused e ((ns : List ℕ) → IsDotted text.now ns → ⊥)) }
     ensures no_memory { IfErr result (λ e. e ≢ ParseOidError.Memory) }
+    ensures cause { IfErr result (λ e. WhyRefused e text.now) }
 {
     let mut rest = text;
     loop {
@@ -96,6 +101,7 @@ fn judge_front(text: &str) -> Result<(), ParseOidError>
     ensures begins { OnOk result ((ns : List ℕ) → IsDotted text.now ns → MayBegin ns) }
     ensures refused { IfErr result (λ e. OnRefused e ((octets : List ℕ) → ReadsText text.now octets → ⊥)) }
     ensures no_memory { IfErr result (λ e. e ≢ ParseOidError.Memory) }
+    ensures cause { IfErr result (λ e. (ns : List ℕ) → IsDotted text.now ns → WhyRefused e text.now) }
 {
     let (front, behind) = piece(text);
     let first = component(front)?;
@@ -112,6 +118,7 @@ fn component(text: &str) -> Result<u32, ParseOidError>
     ensures reads { IfOk result (λ n. IsComponentText text.now n) }
     ensures refused { IfErr result (λ e. OnRefused e ((n : ℕ) → IsComponentText text.now n → ⊥)) }
     ensures no_memory { IfErr result (λ e. e ≢ ParseOidError.Memory) }
+    ensures cause { IfErr result (λ e. e ≡ ParseOidError.Component) }
 {
     match text.parse::<u32>() {
         Ok(number) => Ok(number),
@@ -133,6 +140,7 @@ fn piece(text: &str) -> (&str, Option<&str>)
 fn read_numbers(alloc: Global, text: &str) -> Result<Vec<u32>, ParseOidError>
     ensures reads { IfOk result (λ v. IsDotted text.now v.items) }
     ensures refused { IfErr result (λ e. OnRefused e ((ns : List ℕ) → IsDotted text.now ns → ⊥)) }
+    ensures cause { IfErr result (λ e. WhyRefused e text.now) }
 {
     let mut numbers = Vec::new(alloc);
     let mut rest = text;
@@ -154,6 +162,7 @@ fn judge_components(first: u32, second: u32) -> Result<(), ParseOidError>
     ensures begins { OnOk result (MayBegin (first ∷ second ∷ [])) }
     ensures refused { IfErr result (λ e. OnRefused e (MayBegin (first ∷ second ∷ []) → ⊥)) }
     ensures no_memory { IfErr result (λ e. e ≢ ParseOidError.Memory) }
+    ensures cause { IfErr result (λ e. FrontRefused e first second) }
 {
     if first > 2 {
         return Err(ParseOidError::First);
@@ -169,6 +178,7 @@ fn write_components(alloc: Global, components: &[u32]) -> Result<Vec<u8>, ParseO
     ensures begins { OnOk result (MayBegin components.now) }
     ensures spells { IfOk result (λ v. Spells v.items components.now) }
     ensures refused { IfErr result (λ e. OnRefused e (MayBegin components.now → ⊥)) }
+    ensures cause { IfErr result (λ e. NumbersRefused e components.now) }
 {
     let Some((first, behind)) = components.split_first() else {
         return Err(ParseOidError::TooFew);

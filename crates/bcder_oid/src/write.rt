@@ -1,12 +1,12 @@
 //! Object identifiers that are written.
 
 ghost use Rattle.std.proofs.Common.{rules};
-ghost use Rattle.bcder_tree.specs.Tags.{universal};
-ghost use Rattle.bcder_primitive.specs.Values.{AnyOctets};
-ghost use Rattle.bcder_written.specs.Simple.{one_string};
+ghost use Rattle.bcder_oid.specs.bcder_tree.Tags.{universal};
+ghost use Rattle.bcder_oid.specs.bcder_primitive.Values.{AnyOctets};
+ghost use Rattle.bcder_oid.specs.bcder_written.Simple.{one_string};
 
+use crate::bcder_tree::{Mode, Tag};
 use crate::oid::Oid;
-use bcder_tree::{Mode, Tag};
 use bcder_values::{EncodeError, Octets, PrimitiveContent};
 use std::convert::AsSlice;
 use std::io::Write;

@@ -5,10 +5,10 @@ use Rattle.std.proofs.lemmas.Bool.{cases_lt}
 use Rattle.std.proofs.lemmas.Int.{ints, to_z_pos}
 use mir.Val.{Fits, to_z, of_z}
 use mir.Syntax.{w8, w128}
-use Rattle.bcder_tree.proofs.Slices.{rest_is}
+use Rattle.bcder_primitive.proofs.of_bcder_tree.Slices.{rest_is}
 use Rattle.std.proofs.lemmas.List.Elements.{All-head, All-tail, All-from_get_or}
 use Rattle.std.specs.Prelude.{ℤ, pos, negsuc}
-use Rattle.bcder_tree.specs.Integers.{number_behind, number_of, IsShortest, IsPositive}
+use Rattle.bcder_primitive.specs.bcder_tree.Integers.{number_behind, number_of, IsShortest, IsPositive}
 use Rattle.bcder_primitive.specs.Values.{IsUnsigned, IsSigned, IsNegative, IsTwosComplement, IsWithin}
 
 -- One octet more.

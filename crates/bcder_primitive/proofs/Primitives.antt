@@ -3,13 +3,19 @@ use Rattle.std.proofs.Common.{◌≡◌, ℕ, zero, suc, ◌⊎◌, inl, inr, �
 use Rattle.std.specs.Result.{IsErr, IsErrAnd}
 use Rattle.std.proofs.lemmas.List.{take-append-drop, length-take-le}
 use Rattle.std.proofs.Math.Seq.{take-append_seam}
-use Rattle.bcder_source.specs.Errors.{OnContent, OnlyContent}
+use Rattle.bcder_source.specs.Errors.{OnContent, OnlyContent, OnlyOctets}
 use Rattle.bcder_source.specs.declared.error.DecodeError.{DecodeError}
 use Rattle.bcder_source.specs.declared.error.DecodeError.TheVariants.{Content, Source, Memory}
 use Rattle.bcder_source.specs.Views.{more_limit, Moved}
 use Rattle.bcder_source.specs.Limits.{IsSpent}
 use Rattle.bcder_primitive.specs.Values.{IsUnsigned, IsValue}
 use Rattle.bcder_primitive.specs.Plain.{OctetsLeft, octets_in, Drained, WholeOctets, LacksOctets, GivesOctets, ReadsOctetsAs}
+
+-- Where no source is read, none fails.
+pub only_content : {E : Type 0} (F : Type 0) (e : DecodeError E) → OnlyOctets e F → OnlyContent e F
+only_content F (Content error pos) h = h
+only_content F (Source error) h = absurd h
+only_content F Memory h = h
 
 -- A refusal by what stands in front says less.
 pub weaker : {E : Type 0} {F G : Type 0} (e : DecodeError E) → (F → G) → OnlyContent e F → OnContent e G

@@ -1,3 +1,5 @@
 pub mod Plain
 pub mod Sliced
 pub mod Values
+-- What stands below, for the crates above.
+pub use Rattle.bcder_source.specs.bcder_tree as bcder_tree

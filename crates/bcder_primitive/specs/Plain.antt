@@ -1,9 +1,12 @@
 -- The octets of primitive values that are left, and exact readers of them.
-use Rattle.std.specs.Prelude.{◌≡◌, ◌≢◌, ℕ, Bool, true, false, List, Result, Ok, Err, Option, Some, None}
+use Rattle.std.specs.Prelude.{◌≡◌, ◌⊎◌, ℕ, Bool, false, List, Result, Ok, Err, Option, Some}
 use Rattle.bcder_source.specs.Errors.{OnContent}
+use Rattle.bcder_source.specs.declared.pos.Pos.{Pos}
+use Rattle.bcder_source.specs.declared.error.ContentError.TheVariants.{ExpectedInteger}
 use Rattle.bcder_source.specs.declared.error.DecodeError.{DecodeError}
+use Rattle.bcder_source.specs.declared.error.DecodeError.TheVariants.{Content}
 use Rattle.bcder_source.specs.Views.{View, Moved}
-use Rattle.bcder_tree.specs.declared.mode.Mode.{Mode}
+use Rattle.bcder_primitive.specs.bcder_tree.declared.mode.Mode.{Mode}
 use Rattle.bcder_primitive.specs.declared.primitive.Primitive.{Primitive}
 
 -- What is left of the content octets of a primitive value: the mode, whether a read of it was refused, the rest of the
@@ -55,3 +58,7 @@ pub record GivesOctets {A : Type 0} (P : List ℕ → A → Type 0) (old : Octet
 abbrev pub ReadsOctetsAs : {A B E : Type 0} → (A → B) → (List ℕ → B → Type 0) → OctetsLeft → Result A (DecodeError E) → OctetsLeft → Type 0
 ReadsOctetsAs f P old (Ok x) new = GivesOctets P old (f x) new
 ReadsOctetsAs f P old (Err e) new = OnContent e (LacksOctets P old)
+
+-- The refusal names the number that was expected, unless what is left of the content is no number of the grammar.
+abbrev pub NamesOther : {E : Type 0} → (List ℕ → ℕ → Type 0) → OctetsLeft → ℕ → DecodeError E → Type 0
+NamesOther P old n e = OnContent e (LacksOctets P old) ⊎ ((pos : Pos) × (e ≡ Content (ExpectedInteger n) pos))

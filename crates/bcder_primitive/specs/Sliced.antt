@@ -1,10 +1,10 @@
 -- What a reading of a primitive content by a closure was.
-use Rattle.std.specs.Prelude.{◌≡◌, ℕ, Bool, true, false, List, length, Result, Ok, Err, Option, Some, None}
+use Rattle.std.specs.Prelude.{◌≡◌, ℕ, false, List, length, Result, Ok, Err, Some}
 use Rattle.std.specs.Fn.{Once, FnOnceReturnsAtMut}
 use denote.Ref.{MutBor}
-use Rattle.bcder_source.specs.Errors.{OnlyContent}
+use Rattle.bcder_source.specs.Errors.{OnlyOctets}
 use Rattle.bcder_source.specs.declared.error.DecodeError.{DecodeError}
-use Rattle.bcder_tree.specs.declared.mode.Mode.{Mode}
+use Rattle.bcder_primitive.specs.bcder_tree.declared.mode.Mode.{Mode}
 use Rattle.bcder_primitive.specs.declared.primitive.Primitive.{Primitive}
 use Rattle.bcder_primitive.specs.Plain.{OctetsLeft, plain, Drained}
 
@@ -27,7 +27,7 @@ pub record RanOnOctets {F S T E : Type 0} (rest : S → List ℕ) (g : Reader F 
 -- Why a content was refused: the closure refused it, with that very error, or it left octets unread.
 pub data SliceRefused {F S T E : Type 0} (rest : S → List ℕ) (g : Reader F (Primitive S) T E) (op : F) (given : OctetsLeft) (e : DecodeError E) : Type 0 where
   refused : (end : OctetsLeft) → RanOnOctets rest g op given (Err e) end → SliceRefused rest g op given e
-  goes_on : (end : OctetsLeft) (x : T) → RanOnOctets rest g op given (Ok x) end → (Drained end → ⊥) → OnlyContent e (Unit {0}) → SliceRefused rest g op given e
+  goes_on : (end : OctetsLeft) (x : T) → RanOnOctets rest g op given (Ok x) end → (Drained end → ⊥) → OnlyOctets e (Unit {0}) → SliceRefused rest g op given e
 
 abbrev pub SliceCases : {F S T E : Type 0} → (S → List ℕ) → Reader F (Primitive S) T E → F → OctetsLeft → Result T (DecodeError E) → Type 0
 SliceCases {F} {S} {T} {E} rest g op given (Ok x) = (end : OctetsLeft) × RanOnOctets rest g op given (Ok x) end × Drained end

@@ -1,8 +1,8 @@
 -- Values of simple types, by their content octets.
 use Rattle.std.specs.Prelude.{◌≡◌, ℕ, ℤ, pos, negsuc, ◌+◌, ◌^◌, ◌<◌, ◌≤◌, Bool, true, false, List, [], ◌∷◌, length, All}
-use Rattle.bcder_tree.specs.declared.mode.Mode.{Mode}
-use Rattle.bcder_tree.specs.declared.mode.Mode.TheVariants.{Ber, Cer, Der}
-use Rattle.bcder_tree.specs.Integers.{number_of, IsShortest, IsPositive}
+use Rattle.bcder_primitive.specs.bcder_tree.declared.mode.Mode.{Mode}
+use Rattle.bcder_primitive.specs.bcder_tree.declared.mode.Mode.TheVariants.{Ber, Cer, Der}
+use Rattle.bcder_primitive.specs.bcder_tree.Integers.{number_of, IsShortest, IsPositive}
 
 -- BOOLEAN: one octet, `00` for false (X.690 8.2); for true any other in BER, and `FF` alone in CER and DER (11.1).
 abbrev pub IsTruth : Mode → ℕ → Bool → Type 0

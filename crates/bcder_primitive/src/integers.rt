@@ -1,6 +1,6 @@
 //! The numbers that the content octets of INTEGERs spell (X.690 8.3).
 ghost use Rattle.std.specs.Prelude.{◌≡◌, ◌↔◌, ◌+◌, ◌^◌, ◌<◌, ◌≤◌, ℕ, ℤ, IfSome, IfNone, IsTrue, length};
-ghost use Rattle.bcder_tree.specs.Integers.{number_of, IsShortest};
+ghost use Rattle.bcder_primitive.specs.bcder_tree.Integers.{number_of, IsShortest};
 ghost use Rattle.bcder_primitive.specs.Values.{IsUnsigned, IsSigned};
 
 // Whether octets are some, and of several the first nine bits aren't all alike (8.3.1, 8.3.2).

@@ -4,4 +4,5 @@
 mod integers;
 pub mod primitive;
 
+pub use bcder_source::bcder_tree;
 pub use primitive::Primitive;

@@ -1,10 +1,10 @@
 //! Contents of primitive values.
-ghost use Rattle.std.specs.Prelude.{◌≡◌, ◌↔◌, ◌+◌, ◌-◌, ◌^◌, ◌<◌, ◌≤◌, ◌≢◌, ℕ, List, [], ◌∷◌, length, take, drop, IfOk, IfErr, IfSome, IfNone, OnOk, OnErr, IsTrue, Option, Some, None, true, false};
-ghost use Rattle.bcder_source.specs.Errors.{OnContent, OnlyContent, OnlyAtEnd};
-ghost use Rattle.bcder_source.specs.Limits.{at_hand};
+ghost use Rattle.std.specs.Prelude.{◌≡◌, ◌↔◌, ◌+◌, ◌-◌, ◌^◌, ◌<◌, ◌≤◌, ◌≢◌, ℕ, List, [], ◌∷◌, length, take, drop, min, IfOk, IfErr, IfSome, IfNone, OnOk, OnErr, IsTrue, Option, Some, None, true, false};
+ghost use Rattle.bcder_source.specs.Errors.{OnContent, OnlyContent, OnlyOctets, OnlyAtEnd, OnMemory};
+ghost use Rattle.bcder_source.specs.Limits.{at_hand, HasAll};
 ghost use Rattle.bcder_source.specs.Views.{left, limited, Moved, NextOctet, octets_of};
 ghost use Rattle.bcder_source.specs.declared.error.DecodeError.TheVariants.{Content as content_error, Memory};
-ghost use Rattle.bcder_primitive.specs.Plain.{OctetsLeft, plain, octets_in, Drained, WholeOctets, ReadsOctetsAs};
+ghost use Rattle.bcder_primitive.specs.Plain.{OctetsLeft, plain, octets_in, Drained, WholeOctets, ReadsOctetsAs, NamesOther};
 ghost use Rattle.bcder_primitive.specs.Sliced.{content_of, RanOnSlice};
 ghost use Rattle.bcder_primitive.specs.Values.{IsBoolean, IsNull, IsUnsigned, IsSigned, IsValue, AnyOctets, Skipped};
 
@@ -63,7 +63,7 @@ impl<S: Source> Primitive<S> {
 
     /// The refusal of the content, from its beginning.
     pub fn content_err(&self, error: ContentError) -> DecodeError<S::Error>
-        ensures { (pos : _) × (result ≡ content_error error pos) }
+        ensures { result ≡ content_error error self.now.start }
     {
         DecodeError::content(error, self.start)
     }
@@ -94,7 +94,7 @@ impl<S: Source> Primitive<S> {
 
     // Marks the content as failed, and refuses it.
     fn refuse(&mut self, text: &str) -> DecodeError<S::Error>
-        ensures error { OnlyContent result (Unit {0}) }
+        ensures error { OnlyOctets result (Unit {0}) }
         ensures failed { plain S.rest self.new ≡ record (plain S.rest self.old) { failed = true } }
     {
         self.failed = true;
@@ -306,10 +306,12 @@ impl<S: Source> Primitive<S> {
         self.signed(i128::MAX as u128)
     }
 
-    /// Reads an INTEGER (X.690 8.3) of that number; any other is refused.
+    /// Reads an INTEGER (X.690 8.3) of that number; any other is refused, and the error names that
+    /// number.
     pub fn skip_u8_if(&mut self, expected: u8) -> Result<(), DecodeError<S::Error>>
         ensures reads { ReadsOctetsAs (λ x. x) (IsValue (IsUnsigned (2 ^ 8)) expected) (plain S.rest self.old) result (plain S.rest self.new) }
         ensures failed { OnErr result ((plain S.rest self.new).failed ≡ true) }
+        ensures named { IfErr result (NamesOther (IsUnsigned (2 ^ 8)) (plain S.rest self.old) expected) }
         ensures no_memory { IfErr result (λ e. e ≢ Memory) }
     {
         let number = self.to_u8()?;
@@ -342,11 +344,13 @@ impl<S: Source> Primitive<S> {
         }
     }
 
-    /// All octets of the content; where the source shares its octets none is copied.
+    /// All octets of the content; where the source shares its octets none is copied. Memory is wanted
+    /// only where octets are left, and the source has them all.
     #[inline(always)]
     pub fn take_all(&mut self, alloc: Global) -> Result<Bytes, DecodeError<S::Error>>
         ensures reads { ReadsOctetsAs (λ octets. octets) AnyOctets (plain S.rest self.old) result (plain S.rest self.new) }
         ensures failed { OnErr result ((plain S.rest self.new).failed ≡ true) }
+        ensures memory { IfErr result (λ e. OnMemory e (HasAll self.old.source.limit (plain S.rest self.old).rest)) }
     {
         if self.failed {
             return Err(self.refuse("a read was refused before"));
@@ -414,6 +418,8 @@ impl<S: Source> Source for Primitive<S> {
         ensures mode { (plain S.rest self.new).mode ≡ (plain S.rest self.old).mode }
         ensures failed { (plain S.rest self.new).failed ≡ (plain S.rest self.old).failed }
         ensures rest { left (octets_in (plain S.rest self.new)) ≡ drop len (left (octets_in (plain S.rest self.old))) }
+        ensures position { S.position self.new.source.source
+            ≡ min (S.position self.old.source.source + len) (2 ^ 64 - 1) }
         ensures available { at_hand self.new.source.limit (S.available self.new.source.source) ≡ at_hand self.old.source.limit (S.available self.old.source.source) - len }
     {
         self.source.advance(len);

@@ -21,8 +21,20 @@ OnlyAtEnd (Content error pos) rest = rest ≡ []
 OnlyAtEnd (Source error) rest = Unit {0}
 OnlyAtEnd Memory rest = ⊥
 
--- The refusal is of the octets themselves, and the fact holds.
+-- A fact for want of memory.
+abbrev pub OnMemory : {E : Type 0} → DecodeError E → Type 0 → Type 0
+OnMemory (Content error pos) fact = Unit {0}
+OnMemory (Source error) fact = Unit {0}
+OnMemory Memory fact = fact
+
+-- The refusal is of the octets themselves, and the fact holds, or the source failed.
 abbrev pub OnlyContent : {E : Type 0} → DecodeError E → Type 0 → Type 0
 OnlyContent (Content error pos) fact = fact
 OnlyContent (Source error) fact = Unit {0}
 OnlyContent Memory fact = ⊥
+
+-- The refusal is of the octets themselves, and the fact holds: nothing is read of a source that may fail.
+abbrev pub OnlyOctets : {E : Type 0} → DecodeError E → Type 0 → Type 0
+OnlyOctets (Content error pos) fact = fact
+OnlyOctets (Source error) fact = ⊥
+OnlyOctets Memory fact = ⊥

@@ -8,3 +8,5 @@ pub use Rattle.bcder_tree.specs.Lengths
 pub mod Errors
 pub mod Views
 pub mod Limits
+-- What stands below, for the crates above.
+pub use Rattle.bcder_tree.specs as bcder_tree

@@ -1,6 +1,6 @@
 -- Limits on sources.
 use Rattle.std.specs.Prelude.{◌≡◌, ℕ, ◌<◌, ◌≤◌, min, List, [], length, Option, Some, None}
-use Rattle.bcder_source.specs.Views.{View}
+use Rattle.bcder_source.specs.Views.{View, limited}
 use Rattle.bcder_source.specs.declared.limited.LimitedSource.{LimitedSource}
 
 -- What a limited source still tells, by the rest of the source in it.
@@ -32,3 +32,8 @@ IsSpent (Some n) rest = n ≡ 0
 abbrev pub IsShort : Option ℕ → List ℕ → Type 0
 IsShort None rest = ⊥
 IsShort (Some n) rest = length rest < n
+
+-- Octets may be read, and the source has all of them up to the limit.
+pub record HasAll (limit : Option ℕ) (rest : List ℕ) : Type 0 where
+  pub whole : IsShort limit rest → ⊥
+  pub some : 1 ≤ length (limited limit rest)

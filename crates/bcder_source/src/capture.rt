@@ -107,6 +107,8 @@ impl<'a, S: Source> Source for CaptureSource<'a, S> {
         ensures len { self.new.len ≡ self.old.len + len }
         ensures there { len ≤ length (drop self.old.len (S.rest self.old.source.now)) }
         ensures rest { drop self.new.len (S.rest self.new.source.now) ≡ drop len (drop self.old.len (S.rest self.old.source.now)) }
+        ensures position { min (S.position self.new.source.now + self.new.len) (2 ^ 64 - 1)
+            ≡ min (min (S.position self.old.source.now + self.old.len) (2 ^ 64 - 1) + len) (2 ^ 64 - 1) }
         ensures available { S.available self.new.source.now - self.new.len ≡ S.available self.old.source.now - self.old.len - len }
     {
         // Their count fits, so the sum does.

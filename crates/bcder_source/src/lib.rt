@@ -9,6 +9,7 @@ pub mod memory;
 pub mod pos;
 pub mod source;
 
+pub use bcder_tree;
 pub use bcder_tree::{Length, Mode, Tag, identifier, length, mode, tag};
 pub use capture::CaptureSource;
 pub use error::{ContentError, DecodeError, FixedText};

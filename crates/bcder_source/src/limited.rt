@@ -1,7 +1,7 @@
 //! Sources of which some octets at most are read.
-ghost use Rattle.std.specs.Prelude.{◌≡◌, ◌+◌, ◌-◌, ◌^◌, ◌<◌, ◌≤◌, [], ◌∷◌, length, take, drop, min, IfOk, IfErr, OnOk, OnErr, Option, Some, None, IsSome};
-ghost use Rattle.bcder_source.specs.Errors.{OnContent, OnlyContent, OnlyAtEnd};
-ghost use Rattle.bcder_source.specs.Limits.{view, within, Narrows, at_hand, IsSpent, IsShort};
+ghost use Rattle.std.specs.Prelude.{◌≡◌, ◌+◌, ◌-◌, ◌^◌, ◌<◌, ◌≤◌, [], ◌∷◌, length, take, drop, min, slice_range, IfOk, IfErr, OnOk, OnErr, Option, Some, None, IsSome};
+ghost use Rattle.bcder_source.specs.Errors.{OnContent, OnlyContent, OnlyAtEnd, OnMemory};
+ghost use Rattle.bcder_source.specs.Limits.{view, within, Narrows, at_hand, IsSpent, IsShort, HasAll};
 ghost use Rattle.bcder_source.specs.Views.{Moved, NextOctet, octets_of, limited, left};
 
 use crate::{ContentError, DecodeError, Pos, Source};
@@ -28,6 +28,13 @@ fn up_to(octets: &[u8], limit: Option<usize>) -> &[u8]
         Some(limit) if limit < octets.len() => &octets[..limit],
         _ => octets,
     }
+}
+
+// How many octets the source is asked for, where so many are wanted: none behind the limit.
+fn asked(len: usize, limit: usize) -> usize
+    ensures { result ≡ min len limit }
+{
+    len.min(limit)
 }
 
 impl<S> LimitedSource<S> {
@@ -105,7 +112,7 @@ impl<S: Source> Source for LimitedSource<S> {
         let Some(limit) = self.limit else {
             return self.source.request(len);
         };
-        let count = self.source.request(len.min(limit))?;
+        let count = self.source.request(asked(len, limit))?;
         Ok(count.min(limit))
     }
 
@@ -123,6 +130,7 @@ impl<S: Source> Source for LimitedSource<S> {
         ensures there { len ≤ length (left (view S.rest self.old)) }
         ensures moved { Moved (view S.rest self.old) (take len (S.rest self.old.source)) (view S.rest self.new) }
         ensures rest { left (view S.rest self.new) ≡ drop len (left (view S.rest self.old)) }
+        ensures position { S.position self.new.source ≡ min (S.position self.old.source + len) (2 ^ 64 - 1) }
         ensures available { at_hand self.new.limit (S.available self.new.source) ≡ at_hand self.old.limit (S.available self.old.source) - len }
     {
         let Some(limit) = self.limit else {
@@ -241,18 +249,33 @@ impl<S: Source> LimitedSource<S> {
 
     /// Takes all octets up to the limit, or to the end of the source, and answers them.
     ///
-    /// The content is refused where the source ends before the limit.
+    /// The content is refused where the source ends before the limit. Memory is wanted only where it
+    /// doesn't, and something is to be taken.
     #[inline(always)]
     pub fn take_all(&mut self, alloc: Global) -> Result<Bytes, DecodeError<S::Error>>
         ensures octets { IfOk result (λ b. b ≡ left (view S.rest self.old)) }
         ensures moved { IfOk result (λ b. Moved (view S.rest self.old) b (view S.rest self.new)) }
         ensures spent { OnOk result (IsSpent self.new.limit (S.rest self.new.source)) }
         ensures refused { IfErr result (λ e. OnContent e (IsShort self.old.limit (S.rest self.old.source))) }
+        ensures memory { IfErr result (λ e. OnMemory e (HasAll self.old.limit (S.rest self.old.source))) }
     {
         let count = self.all()?;
-        let octets = self.source.bytes(alloc, 0, count)?;
+        let octets = self.front(alloc, count)?;
         self.advance(count);
         Ok(octets)
+    }
+
+    // The first octets, which are at hand. Where there are none no memory is wanted.
+    #[inline(always)]
+    fn front(&self, alloc: Global, count: usize) -> Result<Bytes, AllocError>
+        requires { count ≤ at_hand self.now.limit (S.available self.now.source) }
+        ensures octets { IfOk result (λ b. b ≡ slice_range (S.rest self.now.source) 0 count) }
+        ensures some { OnErr result (1 ≤ count) }
+    {
+        if count == 0 {
+            return Ok(Bytes::new());
+        }
+        self.source.bytes(alloc, 0, count)
     }
 
     // Has all octets up to the limit at hand, and answers how many they are.

@@ -1,5 +1,5 @@
 //! Sources of octets.
-ghost use Rattle.std.specs.Prelude.{◌≡◌, ◌-◌, ◌^◌, ◌<◌, ◌≤◌, ℕ, List, [], ◌∷◌, length, take, drop, slice_range, IfOk, IfErr, OnErr};
+ghost use Rattle.std.specs.Prelude.{◌≡◌, ◌+◌, ◌-◌, ◌^◌, ◌<◌, ◌≤◌, ℕ, List, [], ◌∷◌, length, take, drop, min, slice_range, IfOk, IfErr, OnErr};
 ghost use Rattle.bcder_source.specs.Errors.{OnlyAtEnd};
 ghost use Rattle.bcder_source.specs.Views.{NextOctet};
 ghost use Rattle.bcder_source.specs.declared.error.DecodeError.TheVariants.{Content as content_error};
@@ -50,11 +50,12 @@ pub trait Source: Drop {
         requires end { end ≤ available self.now }
         ensures { IfOk result (λ b. b ≡ slice_range (rest self.now) start end) };
 
-    /// Takes octets that are at hand.
+    /// Takes octets that are at hand; the position rises by their count, up to `usize::MAX`.
     fn advance(&mut self, len: usize)
         requires { len ≤ available self.old }
         ensures there { len ≤ length (rest self.old) }
         ensures rest { rest self.new ≡ drop len (rest self.old) }
+        ensures position { position self.new ≡ min (position self.old + len) (2 ^ 64 - 1) }
         ensures available { available self.new ≡ available self.old - len };
 
     /// Takes `len` octets, or all that are left where these are fewer, and answers how many.

@@ -1,18 +1,18 @@
 -- Reading strings whose octets are a text.
 use Rattle.std.proofs.Common.{◌≡◌, ℕ, Bool, true, false, List, Result, Ok, Err, IsErr, Option, refl, sym, ◌∙◌, subst}
 use Rattle.std.specs.Prelude.{IsErrAnd}
-use Rattle.bcder_tree.specs.declared.mode.Mode.{Mode}
-use Rattle.bcder_tree.specs.Tags.{TagValue, universal}
-use Rattle.bcder_tree.specs.Strings.{IsString}
+use Rattle.bcder_strings.specs.bcder_tree.declared.mode.Mode.{Mode}
+use Rattle.bcder_strings.specs.bcder_tree.Tags.{TagValue, universal}
+use Rattle.bcder_strings.specs.bcder_tree.Strings.{IsString}
 use Rattle.bcder_chars.specs.Texts.{IsText}
-use Rattle.bcder_source.specs.declared.error.DecodeError.{DecodeError}
-use Rattle.bcder_content.specs.declared.content.Content.{Content}
-use Rattle.bcder_content.specs.Contents.{ValuesLeft}
-use Rattle.bcder_content.specs.Exact.{ReadsAs, ReadsOptAs}
-use Rattle.bcder_content.specs.Here.{here}
-use Rattle.bcder_content.specs.Either.{SameContent, Meeting, Takes, TakesOpt, WithTag, ReadsInAs, ReadsContentAs}
-use Rattle.bcder_content.proofs.Tagged.{HasTag, EachTagged, exact_tagged, exact_tagged_opt}
-use Rattle.bcder_content.proofs.Within.{Within, content_gives, content_stop, content_unfit}
+use Rattle.bcder_strings.specs.bcder_source.declared.error.DecodeError.{DecodeError}
+use Rattle.bcder_strings.specs.bcder_content.declared.content.Content.{Content}
+use Rattle.bcder_strings.specs.bcder_content.Contents.{ValuesLeft}
+use Rattle.bcder_strings.specs.bcder_content.Exact.{ReadsAs, ReadsOptAs}
+use Rattle.bcder_strings.specs.bcder_content.Here.{here}
+use Rattle.bcder_strings.specs.bcder_content.Either.{SameContent, Meeting, Takes, TakesOpt, WithTag, ReadsInAs, ReadsContentAs}
+use Rattle.bcder_strings.proofs.of_bcder_content.Tagged.{HasTag, EachTagged, exact_tagged, exact_tagged_opt}
+use Rattle.bcder_strings.proofs.of_bcder_content.Within.{Within, content_gives, content_stop, content_unfit}
 use Rattle.bcder_octets.specs.Parts.{ReadsString}
 use Rattle.bcder_octets.proofs.Meaning.{one_string}
 use Rattle.bcder_octets.proofs.Strings.{string_tagged}

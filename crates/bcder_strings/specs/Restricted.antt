@@ -1,15 +1,15 @@
 -- Restricted character strings (X.690 8.23): octet strings under a tag of their own, whose octets are a text.
 use Rattle.std.specs.Prelude.{◌≡◌, ℕ, List, Result}
-use Rattle.bcder_tree.specs.declared.mode.Mode.{Mode}
-use Rattle.bcder_tree.specs.Tags.{TagValue}
-use Rattle.bcder_tree.specs.Tree.{Tree, Trees, none, more}
-use Rattle.bcder_tree.specs.Strings.{IsString}
+use Rattle.bcder_strings.specs.bcder_tree.declared.mode.Mode.{Mode}
+use Rattle.bcder_strings.specs.bcder_tree.Tags.{TagValue}
+use Rattle.bcder_strings.specs.bcder_tree.Tree.{Tree, Trees, none, more}
+use Rattle.bcder_strings.specs.bcder_tree.Strings.{IsString}
 use Rattle.bcder_chars.specs.Texts.{IsText}
-use Rattle.bcder_source.specs.declared.error.DecodeError.{DecodeError}
-use Rattle.bcder_content.specs.Contents.{ValuesLeft}
-use Rattle.bcder_content.specs.declared.content.Content.{Content}
-use Rattle.bcder_content.specs.Either.{SameContent, Shows, ReadsContentAs}
-use Rattle.bcder_content.specs.Grammar.{Such}
+use Rattle.bcder_strings.specs.bcder_source.declared.error.DecodeError.{DecodeError}
+use Rattle.bcder_strings.specs.bcder_content.Contents.{ValuesLeft}
+use Rattle.bcder_strings.specs.bcder_content.declared.content.Content.{Content}
+use Rattle.bcder_strings.specs.bcder_content.Either.{SameContent, Shows, ReadsContentAs}
+use Rattle.bcder_strings.specs.bcder_content.Grammar.{Such}
 
 -- The octets of a string with that tag, its own or an implicit one, which are a text of the set.
 abbrev pub IsRestricted : (ℕ → Type 0) → (ℕ → List ℕ) → Mode → TagValue → Tree → List ℕ → Type 0

@@ -1,12 +1,12 @@
 //! Strings that are written.
 
 ghost use Rattle.std.specs.Prelude.{◌≡◌};
-ghost use Rattle.bcder_tree.specs.Tags.{IsTag};
+ghost use Rattle.bcder_strings.specs.bcder_tree.Tags.{IsTag};
 
+use crate::bcder_source::Tag;
 use crate::string::RestrictedString;
 use bcder_chars::CharSet;
 use bcder_octets::{OctetSliceEncoder, OctetString, OctetStringEncoder};
-use bcder_source::Tag;
 
 /// Strings that are written, as octet strings are with another tag (X.690 8.23).
 impl<L: CharSet> RestrictedString<L> {

@@ -1,10 +1,10 @@
 //! Laws of restricted strings: the contracts of functions that do nothing.
 ghost use Rattle.std.specs.Prelude.{ℕ, List};
-ghost use Rattle.bcder_tree.specs.declared.mode.Mode.{Mode};
-ghost use Rattle.bcder_tree.specs.Tags.{TagValue};
-ghost use Rattle.bcder_tree.specs.Tree.{Trees};
+ghost use Rattle.bcder_strings.specs.bcder_tree.declared.mode.Mode.{Mode};
+ghost use Rattle.bcder_strings.specs.bcder_tree.Tags.{TagValue};
+ghost use Rattle.bcder_strings.specs.bcder_tree.Tree.{Trees};
 ghost use Rattle.bcder_chars.specs.Texts.{IsText};
-ghost use Rattle.bcder_content.specs.Grammar.{One};
+ghost use Rattle.bcder_strings.specs.bcder_content.Grammar.{One};
 ghost use Rattle.bcder_octets.specs.Segments.{StringTrees};
 ghost use Rattle.bcder_strings.specs.Restricted.{IsRestricted, WrittenText};
 

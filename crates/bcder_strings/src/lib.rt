@@ -17,6 +17,7 @@ pub mod laws;
 mod reading;
 pub mod string;
 
+pub use bcder_octets::{bcder_content, bcder_source};
 pub use chars::RestrictedStringChars;
 pub use error::RestrictedStringError;
 pub use string::{Ia5String, NumericString, PrintableString, RestrictedString, Utf8String};

@@ -2,17 +2,17 @@
 
 ghost use Rattle.std.specs.Prelude.{◌≡◌, ◌↔◌, IsTrue, OnErr, true};
 ghost use Rattle.bcder_chars.specs.Texts.{IsText};
-ghost use Rattle.bcder_content.specs.Either.{SameContent, left_of};
-ghost use Rattle.bcder_content.specs.Exact.{ReadsAs, ReadsOptAs};
-ghost use Rattle.bcder_content.specs.Here.{here};
+ghost use Rattle.bcder_strings.specs.bcder_content.Either.{SameContent, left_of};
+ghost use Rattle.bcder_strings.specs.bcder_content.Exact.{ReadsAs, ReadsOptAs};
+ghost use Rattle.bcder_strings.specs.bcder_content.Here.{here};
 ghost use Rattle.bcder_strings.specs.Restricted.{IsRestricted, ReadsText};
 
+use crate::bcder_content::Constructed;
+use crate::bcder_content::content::Content;
+use crate::bcder_source::{ContentError, DecodeError, Source};
 use crate::string::{RestrictedString, octets_of};
 use bcder_chars::CharSet;
-use bcder_content::Constructed;
-use bcder_content::content::Content;
 use bcder_octets::OctetString;
-use bcder_source::{ContentError, DecodeError, Source};
 use std::alloc::Global;
 
 // The refusal of a content whose octets are no text of the set; the content is failed from now on.

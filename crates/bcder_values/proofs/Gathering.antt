@@ -1,7 +1,7 @@
 -- Values that are gathered spell values.
 use Rattle.std.proofs.Common.{◌≡◌, ℕ, List, [], sym, subst, Some}
-use Rattle.bcder_tree.specs.declared.mode.Mode.{Mode}
-use Rattle.bcder_tree.specs.Tree.{Trees, none, SpellsAll}
+use Rattle.bcder_values.specs.bcder_tree.declared.mode.Mode.{Mode}
+use Rattle.bcder_values.specs.bcder_tree.Tree.{Trees, none, SpellsAll}
 use Rattle.bcder_content.specs.Kept.{SpellsValues}
 use Rattle.bcder_written.specs.Encoded.{joined, SpellsSome}
 use Rattle.bcder_values.specs.Laws.{joined_spelled}

@@ -1,8 +1,8 @@
 -- Readers of values whose octets are kept, in the mode in which they stand.
 use Rattle.std.proofs.Common.{◌≡◌, ℕ, List}
-use Rattle.bcder_tree.specs.declared.mode.Mode.{Mode}
-use Rattle.bcder_tree.specs.Tree.{Tree}
-use Rattle.bcder_tree.specs.Front.{Front}
+use Rattle.bcder_values.specs.bcder_tree.declared.mode.Mode.{Mode}
+use Rattle.bcder_values.specs.bcder_tree.Tree.{Tree}
+use Rattle.bcder_values.specs.bcder_tree.Front.{Front}
 use Rattle.bcder_content.specs.Contents.{ValuesLeft}
 use Rattle.bcder_content.specs.Exact.{Gives, Lacks}
 use Rattle.bcder_content.specs.Grammar.{Exactly}

@@ -1,6 +1,6 @@
 -- What is said of encoders is said of the value whose fields they lend.
 use Rattle.std.proofs.Common.{◌≡◌, ℕ, List, Option, Result, OnOk, IfOk, IfErr, subst}
-use Rattle.bcder_tree.specs.declared.mode.Mode.{Mode}
+use Rattle.bcder_values.specs.bcder_tree.declared.mode.Mode.{Mode}
 use Rattle.bcder_written.specs.declared.error.EncodeError.{EncodeError}
 use Rattle.bcder_written.specs.Writing.{HasLength, CannotWrite, Wrote, WriteRefused}
 use Rattle.bcder_values.specs.Forms.{Form}

@@ -4,3 +4,8 @@ pub mod Returning
 pub mod Lists
 pub mod Lent
 pub mod KeptRead
+pub mod of_bcder_content
+pub mod of_bcder_header
+pub mod of_bcder_primitive
+pub mod of_bcder_tree
+pub mod of_bcder_written

@@ -1,7 +1,7 @@
 -- Lists of values, of which a front was written.
 use Rattle.std.proofs.Common.{◌≡◌, ℕ, ◌^◌, ◌<◌, ◌≤◌, ◌+◌, List, [], ◌∷◌, ◌++◌, length, refl, sym, ap, ◌∙◌, append_assoc, append-nil, subst, arith}
 use Rattle.std.specs.Prelude.{Option}
-use Rattle.bcder_tree.specs.Tree.{Trees}
+use Rattle.bcder_values.specs.bcder_tree.Tree.{Trees}
 use Rattle.bcder_written.specs.declared.error.EncodeError.{EncodeError}
 use Rattle.bcder_written.specs.declared.error.EncodeError.TheVariants as errors
 use Rattle.bcder_written.specs.Encoded.{WritesBoth}

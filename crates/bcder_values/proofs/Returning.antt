@@ -1,10 +1,10 @@
 -- What was written is read again.
 use Rattle.std.proofs.Common.{◌≢◌, ℕ, List, [], refl, sym, append-nil}
-use Rattle.bcder_tree.specs.declared.mode.Mode.{Mode}
-use Rattle.bcder_tree.specs.declared.mode.Mode.TheVariants.{Ber}
-use Rattle.bcder_tree.specs.Tree.{Trees, SpellsAll}
-use Rattle.bcder_tree.proofs.Canonical.{one_spellings}
-use Rattle.bcder_source.specs.Views.{Moved}
+use Rattle.bcder_values.specs.bcder_tree.declared.mode.Mode.{Mode}
+use Rattle.bcder_values.specs.bcder_tree.declared.mode.Mode.TheVariants.{Ber}
+use Rattle.bcder_values.specs.bcder_tree.Tree.{Trees, SpellsAll}
+use Rattle.bcder_values.proofs.of_bcder_tree.Canonical.{one_spellings}
+use Rattle.bcder_values.specs.bcder_source.Views.{Moved}
 use Rattle.bcder_content.specs.Contents.{Whole, TookAll, octets}
 use Rattle.bcder_content.specs.Ran.{fresh}
 use Rattle.bcder_written.specs.Encoded.{SpellsSome}

@@ -1,10 +1,10 @@
 -- Constructed values: what is written of them is what opens them, their content, and what closes them.
 use Rattle.std.proofs.Common.{◌≡◌, ℕ, ◌^◌, ◌<◌, Bool, true, false, List, [], ◌∷◌, ◌++◌, length, refl, sym, ap, ◌∙◌, append_assoc, append-nil, subst}
-use Rattle.bcder_tree.specs.declared.mode.Mode.{Mode}
-use Rattle.bcder_tree.specs.declared.mode.Mode.TheVariants.{Ber, Cer, Der}
-use Rattle.bcder_tree.specs.Tags.{TagValue, IsTag}
-use Rattle.bcder_tree.specs.Octets.{IsIdentifier}
-use Rattle.bcder_tree.specs.Tree.{IsHeader, IsConstructed, definite, indefinite}
+use Rattle.bcder_values.specs.bcder_tree.declared.mode.Mode.{Mode}
+use Rattle.bcder_values.specs.bcder_tree.declared.mode.Mode.TheVariants.{Ber, Cer, Der}
+use Rattle.bcder_values.specs.bcder_tree.Tags.{TagValue, IsTag}
+use Rattle.bcder_values.specs.bcder_tree.Octets.{IsIdentifier}
+use Rattle.bcder_values.specs.bcder_tree.Tree.{IsHeader, IsConstructed, definite, indefinite}
 use Rattle.bcder_written.specs.Headers.{IsHeaderIn}
 use Rattle.bcder_values.specs.Frames.{IsOpen, IsOpening, IsClosing}
 use Rattle.bcder_written.specs.Writing.{HasLength}

@@ -1,9 +1,9 @@
 -- Captured octets, as they are written again.
 use Rattle.std.proofs.Common.{◌≡◌, ℕ, ◌⊎◌, inl, inr, List, sym, ◌∙◌, subst}
-use Rattle.bcder_tree.specs.declared.mode.Mode.{Mode}
-use Rattle.bcder_tree.specs.declared.mode.Mode.TheVariants.{Ber}
-use Rattle.bcder_tree.specs.Tree.{Trees, SpellsAll}
-use Rattle.bcder_tree.proofs.Modes.{all_to_ber}
+use Rattle.bcder_values.specs.bcder_tree.declared.mode.Mode.{Mode}
+use Rattle.bcder_values.specs.bcder_tree.declared.mode.Mode.TheVariants.{Ber}
+use Rattle.bcder_values.specs.bcder_tree.Tree.{Trees, SpellsAll}
+use Rattle.bcder_content.proofs.of_bcder_tree.Modes.{all_to_ber}
 use Rattle.bcder_content.specs.Kept.{CapturedValue, SpellsValues}
 use Rattle.bcder_written.specs.Encoded.{SpellsSome}
 

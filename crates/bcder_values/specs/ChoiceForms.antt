@@ -1,8 +1,8 @@
 -- Forms of values of one of two types (X.680 29).
 use Rattle.std.proofs.Common.{◌≡◌, ◌⊎◌, inl, inr, ℕ, List, refl, sym, ap, ◌∙◌, subst}
-use Rattle.bcder_tree.specs.declared.mode.Mode.{Mode}
-use Rattle.bcder_tree.specs.Tags.{TagValue}
-use Rattle.bcder_tree.specs.Tree.{Tree, Trees}
+use Rattle.bcder_values.specs.bcder_tree.declared.mode.Mode.{Mode}
+use Rattle.bcder_values.specs.bcder_tree.Tags.{TagValue}
+use Rattle.bcder_values.specs.bcder_tree.Tree.{Tree, Trees}
 use Rattle.bcder_content.specs.Contents.{tag_of}
 use Rattle.bcder_content.specs.Grammar.{OneOf, As, One}
 use Rattle.bcder_written.specs.Encoded.{SpellsSome}

@@ -1,7 +1,7 @@
 -- Values of which one is written, or none (X.680 clauses 25.8, 29).
 use Rattle.std.proofs.Common.{◌≡◌, ℕ, List, Option, Some, None, refl, sym, ◌∙◌}
-use Rattle.bcder_tree.specs.declared.mode.Mode.{Mode}
-use Rattle.bcder_tree.specs.Tree.{Trees, none}
+use Rattle.bcder_values.specs.bcder_tree.declared.mode.Mode.{Mode}
+use Rattle.bcder_values.specs.bcder_tree.Tree.{Trees, none}
 use Rattle.bcder_values.specs.declared.choice.Choice2.{Choice2}
 use Rattle.bcder_values.specs.declared.choice.Choice2.TheVariants as two
 use Rattle.bcder_values.specs.declared.choice.Choice3.{Choice3}

@@ -1,9 +1,9 @@
 -- Forms of values: what is read, what is written, and that the one is the other. The form of a type is put together
 -- from the forms of its fields, one line a field, and all laws of the type follow from it.
 use Rattle.std.proofs.Common.{◌≡◌, ℕ, List, refl, sym, ap, ◌∙◌, subst}
-use Rattle.bcder_tree.specs.declared.mode.Mode.{Mode}
-use Rattle.bcder_tree.specs.Tags.{TagValue}
-use Rattle.bcder_tree.specs.Tree.{Tree, Trees, primitive, constructed, none, more}
+use Rattle.bcder_values.specs.bcder_tree.declared.mode.Mode.{Mode}
+use Rattle.bcder_values.specs.bcder_tree.Tags.{TagValue}
+use Rattle.bcder_values.specs.bcder_tree.Tree.{Tree, Trees, primitive, constructed, none, more}
 use Rattle.bcder_content.specs.Contents.{tag_of}
 use Rattle.bcder_content.specs.Grammar.{Inside, OctetsOf, As, End, Then, One, OneAll, OneOctets}
 use Rattle.bcder_content.proofs.Unique.{octets_one, inside_one, as_one, then_one, end_one, same_trees}

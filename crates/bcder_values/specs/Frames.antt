@@ -1,9 +1,9 @@
 -- What stands around the content octets of a constructed value (X.690 8.1.3.6, 8.1.5, 9.1, 10.1).
 use Rattle.std.specs.Prelude.{◌≡◌, ℕ, true, List, [], ◌∷◌, ◌++◌}
-use Rattle.bcder_tree.specs.declared.mode.Mode.{Mode}
-use Rattle.bcder_tree.specs.declared.mode.Mode.TheVariants.{Ber, Cer, Der}
-use Rattle.bcder_tree.specs.Tags.{TagValue, IsTag}
-use Rattle.bcder_tree.specs.Octets.{IsIdentifier}
+use Rattle.bcder_values.specs.bcder_tree.declared.mode.Mode.{Mode}
+use Rattle.bcder_values.specs.bcder_tree.declared.mode.Mode.TheVariants.{Ber, Cer, Der}
+use Rattle.bcder_values.specs.bcder_tree.Tags.{TagValue, IsTag}
+use Rattle.bcder_values.specs.bcder_tree.Octets.{IsIdentifier}
 use Rattle.bcder_written.specs.Headers.{IsHeaderIn}
 
 -- Identifier octets and `80`, for an indefinite length.

@@ -1,6 +1,6 @@
 -- Values that are gathered.
 use Rattle.std.specs.Prelude.{◌≡◌, ℕ, List, ◌++◌}
-use Rattle.bcder_tree.specs.Tree.{Trees}
+use Rattle.bcder_values.specs.bcder_tree.Tree.{Trees}
 use Rattle.bcder_content.specs.Kept.{CapturedValue}
 use Rattle.bcder_written.specs.declared.error.EncodeError.{EncodeError}
 use Rattle.bcder_written.specs.declared.error.EncodeError.TheVariants as errors

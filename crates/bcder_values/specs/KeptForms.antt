@@ -1,12 +1,12 @@
 -- Forms of values whose octets are kept: they are written as they were read.
 use Rattle.std.proofs.Common.{◌≡◌, ◌≢◌, ℕ, List, [], inl, inr, refl, sym, ap, ◌∙◌, subst}
-use Rattle.bcder_tree.specs.declared.mode.Mode.{Mode}
-use Rattle.bcder_tree.specs.declared.mode.Mode.TheVariants.{Ber}
-use Rattle.bcder_tree.specs.Tree.{Tree, Trees, none, more, Spells, SpellsAll}
-use Rattle.bcder_tree.specs.Front.{Fields}
-use Rattle.bcder_tree.proofs.Canonical.{one_spelling}
-use Rattle.bcder_tree.proofs.Modes.{all_to_ber}
-use Rattle.bcder_tree.proofs.Trees.{one_trees}
+use Rattle.bcder_values.specs.bcder_tree.declared.mode.Mode.{Mode}
+use Rattle.bcder_values.specs.bcder_tree.declared.mode.Mode.TheVariants.{Ber}
+use Rattle.bcder_values.specs.bcder_tree.Tree.{Tree, Trees, none, more, Spells, SpellsAll}
+use Rattle.bcder_values.specs.bcder_tree.Front.{Fields}
+use Rattle.bcder_content.proofs.of_bcder_tree.Canonical.{one_spelling}
+use Rattle.bcder_content.proofs.of_bcder_tree.Modes.{all_to_ber}
+use Rattle.bcder_content.proofs.of_bcder_tree.Trees.{one_trees}
 use Rattle.bcder_content.specs.Grammar.{One}
 use Rattle.bcder_content.specs.Kept.{CapturedValue}
 use Rattle.bcder_content.specs.Words.{Kept}

@@ -1,8 +1,8 @@
 -- Forms of lists of values (X.680 26, 28).
 use Rattle.std.proofs.Common.{◌≡◌, ℕ, List, [], ◌∷◌, map, refl, sym, ap, ◌∙◌, subst}
-use Rattle.bcder_tree.specs.declared.mode.Mode.{Mode}
-use Rattle.bcder_tree.specs.Tags.{TagValue, universal}
-use Rattle.bcder_tree.specs.Tree.{Tree, Trees, none, more}
+use Rattle.bcder_values.specs.bcder_tree.declared.mode.Mode.{Mode}
+use Rattle.bcder_values.specs.bcder_tree.Tags.{TagValue, universal}
+use Rattle.bcder_values.specs.bcder_tree.Tree.{Tree, Trees, none, more}
 use Rattle.bcder_content.specs.Contents.{tag_of}
 use Rattle.bcder_content.specs.Grammar.{Many, ManyCases}
 use Rattle.bcder_content.proofs.Unique.{many_one, same_trees}

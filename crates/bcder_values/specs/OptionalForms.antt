@@ -1,9 +1,9 @@
 -- Forms of fields that may be missing (X.680 25.8, 25.9).
 use Rattle.std.proofs.Common.{◌≡◌, ◌⊎◌, inl, inr, ℕ, List, Option, Some, None, refl, sym, ap, ◌∙◌, subst}
 use Rattle.std.specs.Option.{option_map, unwrap_or}
-use Rattle.bcder_tree.specs.declared.mode.Mode.{Mode}
-use Rattle.bcder_tree.specs.Tags.{TagValue}
-use Rattle.bcder_tree.specs.Tree.{Tree, Trees, none, more}
+use Rattle.bcder_values.specs.bcder_tree.declared.mode.Mode.{Mode}
+use Rattle.bcder_values.specs.bcder_tree.Tags.{TagValue}
+use Rattle.bcder_values.specs.bcder_tree.Tree.{Tree, Trees, none, more}
 use Rattle.bcder_content.specs.Contents.{tag_of}
 use Rattle.bcder_content.specs.Grammar.{End, Then, Without, OptCases, Opt, Default, Tagged}
 use Rattle.bcder_content.proofs.Unique.{end_one, opt_one, default_one, same_trees}

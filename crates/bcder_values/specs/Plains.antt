@@ -1,11 +1,11 @@
 -- That what is written of a primitive value spells it, and is always the same.
 use Rattle.std.proofs.Common.{◌≡◌, ◌≢◌, ℕ, List, ◌++◌, refl, sym, ap, ◌∙◌, subst}
-use Rattle.bcder_tree.specs.declared.mode.Mode.{Mode}
-use Rattle.bcder_tree.specs.declared.mode.Mode.TheVariants.{Ber, Cer, Der}
-use Rattle.bcder_tree.specs.Tags.{TagValue}
-use Rattle.bcder_tree.specs.Tree.{primitive, none, more, IsPrimitive}
-use Rattle.bcder_tree.proofs.Modes.{ber_header}
-use Rattle.bcder_tree.proofs.Canonical.{spelled_header}
+use Rattle.bcder_values.specs.bcder_tree.declared.mode.Mode.{Mode}
+use Rattle.bcder_values.specs.bcder_tree.declared.mode.Mode.TheVariants.{Ber, Cer, Der}
+use Rattle.bcder_values.specs.bcder_tree.Tags.{TagValue}
+use Rattle.bcder_values.specs.bcder_tree.Tree.{primitive, none, more, IsPrimitive}
+use Rattle.bcder_content.proofs.of_bcder_tree.Modes.{ber_header}
+use Rattle.bcder_content.proofs.of_bcder_tree.Canonical.{spelled_header}
 use Rattle.bcder_written.specs.Encoded.{written_as, IsPlain, WritesPlain, SpellsSome}
 use Rattle.bcder_values.specs.Wraps.{one_spelled}
 

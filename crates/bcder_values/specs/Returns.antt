@@ -1,7 +1,7 @@
 -- What was written, read again.
 use Rattle.std.specs.Prelude.{◌≡◌, ℕ, List}
-use Rattle.bcder_tree.specs.declared.mode.Mode.{Mode}
-use Rattle.bcder_tree.specs.Tree.{Trees, SpellsAll}
+use Rattle.bcder_values.specs.bcder_tree.declared.mode.Mode.{Mode}
+use Rattle.bcder_values.specs.bcder_tree.Tree.{Trees, SpellsAll}
 use Rattle.bcder_content.specs.Contents.{Whole}
 use Rattle.bcder_content.specs.Ran.{fresh}
 

@@ -1,11 +1,11 @@
 -- That what is written of a constructed value spells it, and is always the same.
 use Rattle.std.proofs.Common.{◌≡◌, ◌≢◌, ℕ, true, List, [], ◌∷◌, ◌++◌, length, refl, sym, ap, ◌∙◌, append-nil, subst}
-use Rattle.bcder_tree.specs.declared.mode.Mode.{Mode}
-use Rattle.bcder_tree.specs.declared.mode.Mode.TheVariants.{Ber, Cer, Der}
-use Rattle.bcder_tree.specs.Tags.{TagValue}
-use Rattle.bcder_tree.specs.Tree.{Tree, Trees, constructed, none, more, IsHeader, IsConstructed, definite, indefinite, Spells, SpellsAll}
-use Rattle.bcder_tree.proofs.Modes.{ber_header}
-use Rattle.bcder_tree.proofs.Canonical.{spelled_header, spelled_identifier}
+use Rattle.bcder_values.specs.bcder_tree.declared.mode.Mode.{Mode}
+use Rattle.bcder_values.specs.bcder_tree.declared.mode.Mode.TheVariants.{Ber, Cer, Der}
+use Rattle.bcder_values.specs.bcder_tree.Tags.{TagValue}
+use Rattle.bcder_values.specs.bcder_tree.Tree.{Tree, Trees, constructed, none, more, IsHeader, IsConstructed, definite, indefinite, Spells, SpellsAll}
+use Rattle.bcder_content.proofs.of_bcder_tree.Modes.{ber_header}
+use Rattle.bcder_content.proofs.of_bcder_tree.Canonical.{spelled_header, spelled_identifier}
 use Rattle.bcder_written.specs.Encoded.{written_as, IsWrapped, WritesWrapped, SpellsSome}
 
 -- One value is all of them.

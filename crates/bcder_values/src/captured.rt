@@ -7,8 +7,8 @@ ghost use Rattle.bcder_written.specs.declared.error.EncodeError.TheVariants.{Mem
 ghost use Rattle.std.specs.Prelude.{◌↔◌, IsTrue};
 
 use crate::Values;
+use crate::bcder_tree::Mode;
 use bcder_content::Captured;
-use bcder_tree::Mode;
 use bcder_written::{EncodeError, write_octets};
 use bytes::Bytes;
 use std::alloc::Global;

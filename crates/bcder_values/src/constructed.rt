@@ -1,15 +1,15 @@
 //! Constructed values.
 
-ghost use Rattle.bcder_tree.specs.Tags.{IsTag};
-ghost use Rattle.bcder_tree.specs.Sequences.{sequence_tag};
-ghost use Rattle.bcder_tree.specs.Tags.{universal};
+ghost use Rattle.bcder_values.specs.bcder_tree.Tags.{IsTag};
+ghost use Rattle.bcder_values.specs.bcder_tree.Sequences.{sequence_tag};
+ghost use Rattle.bcder_values.specs.bcder_tree.Tags.{universal};
 ghost use Rattle.bcder_written.specs.Encoded.{IsWrapped, WritesWrapped};
 ghost use Rattle.bcder_values.specs.Wraps.{wrapped_spelled, wrapped_one};
 ghost use Rattle.std.specs.Prelude.{◌≡◌};
 
 use crate::Values;
+use crate::bcder_tree::{Mode, Tag};
 use crate::frame::{closing_len, opening_len, put_closing, put_opening};
-use bcder_tree::{Mode, Tag};
 use bcder_written::EncodeError;
 use bcder_written::header::MAX_LEN;
 use std::io::Write;

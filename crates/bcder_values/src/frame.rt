@@ -1,12 +1,12 @@
 //! What stands around the contents of constructed values.
 
 ghost use Rattle.std.specs.Prelude.{◌≡◌, ◌^◌, ◌<◌, ◌≤◌, IfErr, OnOk};
-ghost use Rattle.bcder_tree.specs.Tags.{IsTag};
+ghost use Rattle.bcder_values.specs.bcder_tree.Tags.{IsTag};
 ghost use Rattle.bcder_values.specs.Frames.{IsOpen, IsOpening, IsClosing};
 ghost use Rattle.bcder_written.specs.Writing.{HasLength, Wrote, TookFront};
 ghost use Rattle.bcder_written.specs.declared.error.EncodeError.TheVariants.{Write as refusal};
 
-use bcder_tree::{Mode, Tag};
+use crate::bcder_tree::{Mode, Tag};
 use bcder_written::header::{header_len, put_header};
 use bcder_written::{EncodeError, write_octets};
 use std::io::Write;

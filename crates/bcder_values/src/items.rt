@@ -1,14 +1,14 @@
 //! Items of a slice that are written, each as values that are made of it.
 
 ghost use Rattle.std.specs.Prelude.{◌≡◌, ◌↔◌, ℕ, List, IfOk, IfErr, OnOk};
-ghost use Rattle.bcder_tree.specs.declared.mode.Mode.{Mode as ModeValue};
-ghost use Rattle.bcder_tree.specs.Tree.{Trees};
+ghost use Rattle.bcder_values.specs.bcder_tree.declared.mode.Mode.{Mode as ModeValue};
+ghost use Rattle.bcder_values.specs.bcder_tree.Tree.{Trees};
 ghost use Rattle.bcder_written.specs.Encoded.{SpellsSome};
 ghost use Rattle.bcder_values.specs.Lists.{AreAll, WritesAll, all_spelled, all_one};
 ghost use Rattle.bcder_written.specs.Writing.{HasLength, Wrote, CannotWrite, WriteRefused};
 
+use crate::bcder_tree::Mode;
 use crate::{EncodeError, Values};
-use bcder_tree::Mode;
 use std::io::Write;
 
 /// How items are made into the values that are written of them.

@@ -13,6 +13,8 @@ pub mod tuples;
 pub mod values;
 pub mod walk;
 
+pub use bcder_content;
+pub use bcder_content::{bcder_primitive, bcder_source, bcder_tree};
 pub use bcder_written::{
     EncodeError, Octets, Primitive, PrimitiveContent, error, header, integers, primitive, simple,
     total_encoded_len, write_header, write_octets,

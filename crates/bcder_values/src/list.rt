@@ -3,9 +3,9 @@
 ghost use Rattle.std.specs.Prelude.{◌≡◌};
 ghost use Rattle.bcder_values.specs.Lists.{AreAll, WritesAll, all_spelled, all_one};
 
+use crate::bcder_tree::Mode;
 use crate::items::{len_of_each, write_each};
 use crate::{EncodeError, Iter, Itself, Slice, Values};
-use bcder_tree::Mode;
 use std::io::Write;
 
 /// The items of a slice, each written as the values that are made of it.

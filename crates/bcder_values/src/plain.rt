@@ -4,11 +4,11 @@ ghost use Rattle.bcder_written.specs.Encoded.{IsPlain, WritesPlain};
 ghost use Rattle.bcder_values.specs.Plains.{plain_spelled, plain_one};
 ghost use Rattle.bcder_written.specs.Writing.{HasLength, Wrote, CannotWrite, WriteRefused};
 ghost use Rattle.bcder_written.specs.declared.error.EncodeError.TheVariants.{CerUnsupported as cer_unsupported};
-ghost use Rattle.bcder_tree.specs.declared.mode.Mode.TheVariants.{Cer};
+ghost use Rattle.bcder_values.specs.bcder_tree.declared.mode.Mode.TheVariants.{Cer};
 ghost use Rattle.std.specs.Prelude.{◌≡◌, IfOk, IfErr, OnOk};
 
 use crate::Values;
-use bcder_tree::Mode;
+use crate::bcder_tree::Mode;
 use bcder_written::header::{header_len, put_header};
 use bcder_written::{EncodeError, Primitive, PrimitiveContent};
 use std::io::Write;

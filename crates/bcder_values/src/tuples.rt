@@ -3,8 +3,8 @@
 ghost use Rattle.bcder_written.specs.Encoded.{AreBoth, WritesBoth};
 ghost use Rattle.bcder_values.specs.Laws.{both_spelled, both_one};
 
+use crate::bcder_tree::Mode;
 use crate::{EncodeError, Values};
-use bcder_tree::Mode;
 use std::io::Write;
 
 /// Values alone.

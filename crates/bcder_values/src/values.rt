@@ -1,16 +1,16 @@
 //! Values that can be written.
 
 ghost use Rattle.std.specs.Prelude.{◌≡◌, ℕ, List, IfOk, IfErr, OnOk};
-ghost use Rattle.bcder_tree.specs.declared.mode.Mode.{Mode as ModeValue};
-ghost use Rattle.bcder_tree.specs.Tree.{Trees};
-ghost use Rattle.bcder_tree.specs.Tags.{IsTag};
+ghost use Rattle.bcder_values.specs.bcder_tree.declared.mode.Mode.{Mode as ModeValue};
+ghost use Rattle.bcder_values.specs.bcder_tree.Tree.{Trees};
+ghost use Rattle.bcder_values.specs.bcder_tree.Tags.{IsTag};
 ghost use Rattle.bcder_written.specs.Encoded.{SpellsSome};
 ghost use Rattle.bcder_values.specs.Gathered.{ExtendRefused};
 ghost use Rattle.bcder_written.specs.Writing.{HasLength, Wrote, CannotWrite, WriteRefused};
 
+use crate::bcder_tree::{Mode, Tag};
 use crate::{CapturedBuilder, Constructed, EncodeError};
 use bcder_content::Captured;
-use bcder_tree::{Mode, Tag};
 use std::alloc::Global;
 use std::io::Write;
 

@@ -4,8 +4,8 @@ ghost use Rattle.std.specs.Prelude.{◌≡◌, [], ◌∷◌, List, MatchOption,
 ghost use Rattle.bcder_values.specs.Lists.{AreAll, WritesAll, all_spelled, all_one};
 ghost use Rattle.bcder_written.specs.Writing.{HasLength, Wrote, CannotWrite, WriteRefused};
 
+use crate::bcder_tree::Mode;
 use crate::{EncodeError, Values};
-use bcder_tree::Mode;
 use std::io::Write;
 
 /// What has values one behind the other, and can be gone through from its beginning as often as is wanted.

@@ -1,6 +1,6 @@
 -- The content octets of BOOLEANs (X.690 8.2, 11.1).
 use Rattle.std.proofs.Common.{Bool, true, false, [], ◌∷◌, refl}
-use Rattle.bcder_tree.specs.declared.mode.Mode.TheVariants.{Der}
+use Rattle.bcder_written.specs.bcder_tree.declared.mode.Mode.TheVariants.{Der}
 use Rattle.bcder_primitive.specs.Values.{IsBoolean}
 use Rattle.bcder_written.specs.Writing.{HasLength}
 

@@ -1,8 +1,8 @@
 -- Values one behind the other: their texts, and why they aren't written.
 use Rattle.std.proofs.Common.{◌≡◌, ℕ, ◌+◌, ◌^◌, ◌<◌, ◌≤◌, List, ◌++◌, length, refl, sym, ap, ◌∙◌, subst, Option, arith}
 use Rattle.std.proofs.lemmas.List.{length-append}
-use Rattle.bcder_tree.specs.declared.mode.Mode.{Mode}
-use Rattle.bcder_tree.specs.Tree.{Trees}
+use Rattle.bcder_written.specs.bcder_tree.declared.mode.Mode.{Mode}
+use Rattle.bcder_written.specs.bcder_tree.Tree.{Trees}
 use Rattle.bcder_written.specs.declared.error.EncodeError.{EncodeError}
 use Rattle.bcder_written.specs.declared.error.EncodeError.TheVariants as errors
 use Rattle.bcder_written.specs.Writing.{HasLength, TookFront, WriteRefused}

@@ -1,9 +1,9 @@
 -- Headers in the fewest octets.
 use Rattle.std.proofs.Common.{◌≡◌, ℕ, Bool, List, ◌++◌, refl, ap, ◌∙◌}
-use Rattle.bcder_tree.specs.declared.length.Length.TheVariants.{Definite}
-use Rattle.bcder_tree.specs.Tags.{TagValue, IsTag}
-use Rattle.bcder_tree.specs.Octets.{IsIdentifier}
-use Rattle.bcder_tree.specs.Lengths.{SpellsEverywhere}
+use Rattle.bcder_written.specs.bcder_tree.declared.length.Length.TheVariants.{Definite}
+use Rattle.bcder_written.specs.bcder_tree.Tags.{TagValue, IsTag}
+use Rattle.bcder_written.specs.bcder_tree.Octets.{IsIdentifier}
+use Rattle.bcder_written.specs.bcder_tree.Lengths.{SpellsEverywhere}
 use Rattle.bcder_written.specs.Headers.{IsHeaderIn}
 use Rattle.bcder_written.specs.Encoded.{WritesBoth}
 

@@ -8,12 +8,12 @@ use mir.Syntax.{Width, w128}
 use Rattle.std.proofs.Math.Facts.{to_z-of_z}
 use Rattle.std.specs.Prelude.{ℤ, pos, negsuc}
 use Rattle.std.specs.Int.{byte_at, bytes_high_first}
-use Rattle.bcder_tree.specs.Integers.{number_behind, IsShortest}
-use Rattle.bcder_tree.proofs.Slices.{rest_is}
+use Rattle.bcder_written.specs.bcder_tree.Integers.{number_behind, IsShortest}
+use Rattle.bcder_written.proofs.of_bcder_tree.Slices.{rest_is}
 use Rattle.bcder_primitive.specs.Values.{IsSigned, IsTwosComplement, IsWithin}
 use Rattle.bcder_primitive.proofs.Numbers.{further}
 use Rattle.std.specs.Prelude.{Result, Ok, Err, IfErr}
-use Rattle.bcder_tree.specs.declared.mode.Mode.{Mode}
+use Rattle.bcder_written.specs.bcder_tree.declared.mode.Mode.{Mode}
 use Rattle.bcder_written.specs.declared.error.EncodeError.{EncodeError}
 use Rattle.bcder_written.specs.declared.error.EncodeError.TheVariants as errors
 use Rattle.bcder_written.specs.Contents.{ContentRefused}

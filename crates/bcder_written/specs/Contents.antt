@@ -1,7 +1,7 @@
 -- Why content octets aren't written.
 use Rattle.std.specs.Prelude.{◌≡◌, ℕ, ◌^◌, ◌<◌, List, length, Option}
-use Rattle.bcder_tree.specs.declared.mode.Mode.{Mode}
-use Rattle.bcder_tree.specs.declared.mode.Mode.TheVariants.{Cer}
+use Rattle.bcder_written.specs.bcder_tree.declared.mode.Mode.{Mode}
+use Rattle.bcder_written.specs.bcder_tree.declared.mode.Mode.TheVariants.{Cer}
 use Rattle.bcder_written.specs.declared.error.EncodeError.{EncodeError}
 use Rattle.bcder_written.specs.declared.error.EncodeError.TheVariants as errors
 use Rattle.bcder_written.specs.Writing.{TookFront}

@@ -1,9 +1,9 @@
 -- What values stand for, and what is written of them (X.690 8.1, 9.1, 10.1).
 use Rattle.std.specs.Prelude.{◌≡◌, ℕ, ◌^◌, ◌<◌, List, [], ◌++◌, length}
-use Rattle.bcder_tree.specs.declared.mode.Mode.{Mode}
-use Rattle.bcder_tree.specs.declared.mode.Mode.TheVariants.{Ber, Cer, Der}
-use Rattle.bcder_tree.specs.Tags.{TagValue}
-use Rattle.bcder_tree.specs.Tree.{Trees, primitive, constructed, none, more, IsPrimitive, IsConstructed, SpellsAll}
+use Rattle.bcder_written.specs.bcder_tree.declared.mode.Mode.{Mode}
+use Rattle.bcder_written.specs.bcder_tree.declared.mode.Mode.TheVariants.{Ber, Cer, Der}
+use Rattle.bcder_written.specs.bcder_tree.Tags.{TagValue}
+use Rattle.bcder_written.specs.bcder_tree.Tree.{Trees, primitive, constructed, none, more, IsPrimitive, IsConstructed, SpellsAll}
 
 -- In BER values are written as in DER, with definite lengths in the fewest octets.
 abbrev pub written_as : Mode → Mode

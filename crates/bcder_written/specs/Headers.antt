@@ -1,9 +1,9 @@
 -- Identifier and length octets that stand in every mode.
 use Rattle.std.specs.Prelude.{◌≡◌, ℕ, ◌^◌, ◌≤◌, Bool, List, ◌++◌, Option}
-use Rattle.bcder_tree.specs.declared.length.Length.TheVariants.{Definite}
-use Rattle.bcder_tree.specs.Tags.{TagValue, IsTag}
-use Rattle.bcder_tree.specs.Octets.{IsIdentifier}
-use Rattle.bcder_tree.specs.Lengths.{SpellsEverywhere}
+use Rattle.bcder_written.specs.bcder_tree.declared.length.Length.TheVariants.{Definite}
+use Rattle.bcder_written.specs.bcder_tree.Tags.{TagValue, IsTag}
+use Rattle.bcder_written.specs.bcder_tree.Octets.{IsIdentifier}
+use Rattle.bcder_written.specs.bcder_tree.Lengths.{SpellsEverywhere}
 use Rattle.bcder_written.specs.Writing.{TookFront}
 use Rattle.bcder_written.specs.declared.error.EncodeError.{EncodeError}
 use Rattle.bcder_written.specs.declared.error.EncodeError.TheVariants as errors

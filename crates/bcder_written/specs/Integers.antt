@@ -4,7 +4,7 @@ use Rattle.std.proofs.Math.Nat.{pow-succ', mul-le-mul_right}
 use Rattle.std.proofs.lemmas.Bool.{cases_lt}
 use Rattle.std.proofs.lemmas.List.Elements.{All-head, All-tail}
 use Rattle.std.specs.Prelude.{ℤ, pos, negsuc}
-use Rattle.bcder_tree.specs.Integers.{number_behind, number_of, IsShortest}
+use Rattle.bcder_written.specs.bcder_tree.Integers.{number_behind, number_of, IsShortest}
 use Rattle.bcder_primitive.specs.Values.{IsUnsigned, IsSigned, IsTwosComplement}
 use Rattle.bcder_primitive.proofs.Numbers.{number_low, number_high, further}
 

@@ -4,3 +4,5 @@ pub mod Encoded
 pub mod Contents
 pub mod Integers
 pub mod Simple
+-- What stands below, for the crates above.
+pub use Rattle.bcder_primitive.specs.bcder_tree as bcder_tree

@@ -1,7 +1,7 @@
 -- The contents of BOOLEANs, NULL and octet strings, of which each has one (X.690 8.2, 8.7, 8.8).
 use Rattle.std.proofs.Common.{◌≡◌, ◌≤◌, length, Bool, true, false, List, ℕ, [], ◌∷◌, sym, ap, ◌∙◌}
-use Rattle.bcder_tree.specs.declared.mode.Mode.{Mode}
-use Rattle.bcder_tree.specs.declared.mode.Mode.TheVariants.{Cer, Der}
+use Rattle.bcder_written.specs.bcder_tree.declared.mode.Mode.{Mode}
+use Rattle.bcder_written.specs.bcder_tree.declared.mode.Mode.TheVariants.{Cer, Der}
 use Rattle.bcder_primitive.specs.Values.{IsBoolean, IsNull, AnyOctets}
 
 pub one_boolean : (x : Bool) (a b : List ℕ) → IsBoolean Der a x → IsBoolean Der b x → a ≡ b

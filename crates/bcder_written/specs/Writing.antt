@@ -1,7 +1,7 @@
 -- What was written, and what a refusal left.
 use Rattle.std.specs.Prelude.{◌≡◌, ℕ, ◌^◌, ◌<◌, List, ◌++◌, length, Option}
 use Rattle.std.specs.Io.KnownBytes.{Appends}
-use Rattle.bcder_tree.specs.Tree.{Trees}
+use Rattle.bcder_written.specs.bcder_tree.Tree.{Trees}
 use Rattle.bcder_written.specs.declared.error.EncodeError.{EncodeError}
 use Rattle.bcder_written.specs.declared.error.EncodeError.TheVariants as errors
 

@@ -1,16 +1,16 @@
 //! What stands in front of contents.
 
 ghost use Rattle.std.specs.Prelude.{◌≡◌, ◌+◌, ◌^◌, ◌<◌, ◌≤◌, Bool, List, ℕ, length, IfOk, IfErr, OnOk};
-ghost use Rattle.bcder_tree.specs.Lengths.{SpellsEverywhere};
-ghost use Rattle.bcder_tree.specs.Octets.{IsIdentifier};
-ghost use Rattle.bcder_tree.specs.Tags.{IsTag};
+ghost use Rattle.bcder_written.specs.bcder_tree.Lengths.{SpellsEverywhere};
+ghost use Rattle.bcder_written.specs.bcder_tree.Octets.{IsIdentifier};
+ghost use Rattle.bcder_written.specs.bcder_tree.Tags.{IsTag};
 ghost use Rattle.bcder_written.specs.Headers.{IsHeaderIn, HeaderRefused};
 ghost use Rattle.bcder_written.specs.Writing.{HasLength, Wrote, TookFront};
 ghost use Rattle.bcder_written.specs.declared.error.EncodeError.TheVariants.{TooLong as too_long, Write as refusal};
 
 use crate::EncodeError;
+use crate::bcder_tree::{Length, Tag};
 use crate::write::write_octets;
-use bcder_tree::{Length, Tag};
 use std::io::Write;
 
 /// The most octets of a content that four length octets can tell (X.690 8.1.3.5).

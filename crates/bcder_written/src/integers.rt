@@ -2,17 +2,17 @@
 
 ghost use Rattle.std.proofs.Common.{rules};
 ghost use Rattle.std.specs.Prelude.{◌≡◌, ◌↔◌, ◌^◌, ◌<◌, ◌≤◌, ℕ, ℤ, pos, length, IsTrue, IfErr, OnOk};
-ghost use Rattle.bcder_tree.specs.declared.mode.Mode.{Mode as ModeValue};
-ghost use Rattle.bcder_tree.specs.Tags.{universal};
-ghost use Rattle.bcder_tree.specs.Integers.{IsShortest};
+ghost use Rattle.bcder_written.specs.bcder_tree.declared.mode.Mode.{Mode as ModeValue};
+ghost use Rattle.bcder_written.specs.bcder_tree.Tags.{universal};
+ghost use Rattle.bcder_written.specs.bcder_tree.Integers.{IsShortest};
 ghost use Rattle.bcder_primitive.specs.Values.{IsSigned, IsTwosComplement, IsWithin};
 ghost use Rattle.bcder_written.specs.Contents.{ContentRefused};
 ghost use Rattle.bcder_written.specs.Integers.{WritesUnsigned, Repeats, one_unsigned, one_signed};
 ghost use Rattle.bcder_written.specs.Writing.{HasLength, Wrote};
 
+use crate::bcder_tree::{Mode, Tag};
 use crate::write::write_octets;
 use crate::{EncodeError, PrimitiveContent};
-use bcder_tree::{Mode, Tag};
 use std::io::Write;
 
 // Whether the first of two octets in front only repeats the sign of the second (8.3.2).

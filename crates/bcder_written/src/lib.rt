@@ -8,6 +8,7 @@ pub mod primitive;
 pub mod simple;
 mod write;
 
+pub use bcder_primitive::bcder_tree;
 pub use error::EncodeError;
 pub use header::{total_encoded_len, write_header};
 pub use primitive::{Primitive, PrimitiveContent};

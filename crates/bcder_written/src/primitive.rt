@@ -1,14 +1,14 @@
 //! Primitive values.
 
 ghost use Rattle.std.specs.Prelude.{◌≡◌, ◌^◌, ◌<◌, ℕ, List, IfOk, IfErr, OnOk};
-ghost use Rattle.bcder_tree.specs.declared.mode.Mode.{Mode as ModeValue};
-ghost use Rattle.bcder_tree.specs.Tags.{TagValue, IsTag};
+ghost use Rattle.bcder_written.specs.bcder_tree.declared.mode.Mode.{Mode as ModeValue};
+ghost use Rattle.bcder_written.specs.bcder_tree.Tags.{TagValue, IsTag};
 ghost use Rattle.bcder_written.specs.Contents.{NoContent, ContentRefused, BytesRefused};
 ghost use Rattle.bcder_written.specs.Writing.{HasLength, Wrote};
 ghost use Rattle.bcder_written.specs.declared.error.EncodeError.TheVariants.{Memory as no_memory};
 
 use crate::EncodeError;
-use bcder_tree::{Mode, Tag};
+use crate::bcder_tree::{Mode, Tag};
 use bytes::Bytes;
 use std::alloc::Global;
 use std::io::Write;

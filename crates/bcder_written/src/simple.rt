@@ -2,15 +2,15 @@
 
 ghost use Rattle.std.proofs.Common.{rules};
 ghost use Rattle.std.specs.Prelude.{◌≡◌, ◌<◌, ◌≤◌, false, IsTrue};
-ghost use Rattle.bcder_tree.specs.declared.mode.Mode.TheVariants.{Der};
-ghost use Rattle.bcder_tree.specs.Tags.{universal};
+ghost use Rattle.bcder_written.specs.bcder_tree.declared.mode.Mode.TheVariants.{Der};
+ghost use Rattle.bcder_written.specs.bcder_tree.Tags.{universal};
 ghost use Rattle.bcder_primitive.specs.Values.{IsBoolean, IsNull, AnyOctets};
 ghost use Rattle.bcder_written.specs.Simple.{IsOnePiece, one_boolean, one_null, one_piece, one_string};
 
+use crate::bcder_tree::{Mode, Tag};
 use crate::header::MAX_LEN;
 use crate::write::write_octets;
 use crate::{EncodeError, PrimitiveContent};
-use bcder_tree::{Mode, Tag};
 use std::convert::AsSlice;
 use std::io::Write;
 

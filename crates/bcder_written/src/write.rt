@@ -1,12 +1,36 @@
 //! Octets that are written whole.
 
-ghost use Rattle.std.specs.Prelude.{◌≡◌, ◌≤◌, length, take, IfOk, IfErr, OnOk, OnErr};
+ghost use Rattle.std.specs.Prelude.{◌≡◌, ◌≢◌, ◌≤◌, length, take, IfOk, IfErr, OnOk, OnErr};
+ghost use Rattle.std.specs.IoError.{error_kind};
 ghost use Rattle.std.specs.Io.KnownBytes.{Appends, Keeps};
 ghost use Rattle.bcder_written.specs.Writing.{TookFront};
 ghost use Rattle.bcder_written.specs.declared.error.EncodeError.TheVariants.{Write as refusal};
 
 use crate::EncodeError;
+use std::io;
 use std::io::{ErrorKind, Write};
+
+// How many octets a writer took. One that takes none of some refuses them.
+fn taken(count: usize) -> Result<usize, EncodeError>
+    ensures some { IfOk result (λ n. (n ≡ count) × (1 ≤ n)) }
+    ensures refused { IfErr result (λ e. (e ≡ refusal) × (count ≡ 0)) }
+{
+    if count == 0 {
+        return Err(EncodeError::Write);
+    }
+    Ok(count)
+}
+
+// A write that was interrupted took nothing; each other error refuses the octets.
+fn interrupted(error: &io::Error) -> Result<usize, EncodeError>
+    ensures again { IfOk result (λ n. (n ≡ 0) × (error_kind error.now ≡ ErrorKind.Interrupted)) }
+    ensures refused { IfErr result (λ e. (e ≡ refusal) × (error_kind error.now ≢ ErrorKind.Interrupted)) }
+{
+    if error.kind() == ErrorKind::Interrupted {
+        return Ok(0);
+    }
+    Err(EncodeError::Write)
+}
 
 // Writes a front of the octets, and answers how many; none where the write was interrupted.
 fn write_some<W: Write>(target: &mut W, octets: &[u8]) -> Result<usize, EncodeError>
@@ -15,14 +39,8 @@ fn write_some<W: Write>(target: &mut W, octets: &[u8]) -> Result<usize, EncodeEr
     ensures refused { IfErr result (λ e. (e ≡ refusal) × Keeps (W.contents target.old) (W.contents target.new)) }
 {
     match target.write(octets) {
-        Ok(0) => Err(EncodeError::Write),
-        Ok(count) => Ok(count),
-        Err(error) => {
-            if error.kind() == ErrorKind::Interrupted {
-                return Ok(0);
-            }
-            Err(EncodeError::Write)
-        }
+        Ok(count) => taken(count),
+        Err(error) => interrupted(&error),
     }
 }
 

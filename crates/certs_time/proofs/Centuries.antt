@@ -4,8 +4,8 @@ use Rattle.std.proofs.Math.Seq.{drop-cons}
 use Rattle.std.proofs.lemmas.Bool.{cases_lt}
 use Rattle.std.proofs.lemmas.Bool.Decides.{nat_tests}
 use Rattle.std.proofs.lemmas.List.{drop_all}
-use Rattle.bcder_tree.specs.Tags.{universal}
-use Rattle.bcder_tree.specs.Tree.{Tree, primitive}
+use Rattle.certs_time.specs.bcder_tree.Tags.{universal}
+use Rattle.certs_time.specs.bcder_tree.Tree.{Tree, primitive}
 use Rattle.certs_time.specs.declared.text.Form.{Form}
 use Rattle.certs_time.specs.declared.text.Form.TheVariants.{Utc, Generalized}
 use Rattle.certs_time.specs.Times.{Civil, IsReal, IsMoment, digits, moment_text, seconds_of}

@@ -3,8 +3,8 @@ use Rattle.std.proofs.Common.{◌≡◌, ℕ, ◌+◌, ◌<◌, ◌≤◌, suc, 
 use Rattle.std.proofs.lemmas.Bool.{cases_lt}
 use Rattle.std.proofs.lemmas.List.{length-take}
 use Rattle.std.specs.Prelude.{min}
-use Rattle.bcder_source.specs.Views.{View, Moved, left, limited, more_limit}
-use Rattle.bcder_primitive.specs.Plain.{OctetsLeft, octets_in, GoesBy, Drained, WholeOctets, LacksOctets, GivesOctets}
+use Rattle.certs_time.specs.bcder_source.Views.{View, Moved, left, limited, more_limit}
+use Rattle.certs_time.specs.bcder_primitive.Plain.{OctetsLeft, octets_in, GoesBy, Drained, WholeOctets, LacksOctets, GivesOctets}
 
 -- Each text of P has that length.
 pub record IsFixed {A : Type 0} (P : List ℕ → A → Type 0) (n : ℕ) : Type 0 where

@@ -1,8 +1,8 @@
 -- Times as values of trees: UTCTime and GeneralizedTime, validity, and what is written (X.680 46, 47; RFC 5280 4.1.2.5).
 use Rattle.std.specs.Prelude.{◌≡◌, ℕ, ◌<◌, ◌≤◌, ◌%◌, ◌&&◌, if◌then◌else◌, nat_le, nat_lt, List, [], ◌∷◌, ◌++◌, drop}
-use Rattle.bcder_tree.specs.Tags.{TagValue, universal}
-use Rattle.bcder_tree.specs.Tree.{Tree, Trees, primitive}
-use Rattle.bcder_content.specs.Grammar.{Inside, OctetsOf, OneOf, Then, End}
+use Rattle.certs_time.specs.bcder_tree.Tags.{TagValue, universal}
+use Rattle.certs_time.specs.bcder_tree.Tree.{Tree, Trees, primitive}
+use Rattle.certs_time.specs.bcder_content.Grammar.{Inside, OctetsOf, OneOf, Then, End}
 use Rattle.certs_time.specs.Times.{Civil, IsReal, seconds_of, digits, moment_text, IsMoment}
 use Rattle.certs_time.specs.declared.text.Form.{Form}
 use Rattle.certs_time.specs.declared.text.Form.TheVariants.{Utc, Generalized}

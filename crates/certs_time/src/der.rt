@@ -1,21 +1,20 @@
 //! Moments that are read (RFC 5280 4.1.2.5).
 
 ghost use Rattle.std.specs.Prelude.{◌≡◌, ◌≢◌, ℕ, true, IfErr, OnErr};
-ghost use Rattle.bcder_tree.specs.Tags.{universal};
-ghost use Rattle.bcder_source.specs.Errors.{OnlyContent};
-ghost use Rattle.bcder_source.specs.declared.error.DecodeError.TheVariants.{Memory};
-ghost use Rattle.bcder_primitive.specs.Plain.{plain, ReadsOctetsAs};
-ghost use Rattle.bcder_content.specs.Exact.{ReadsAs, ReadsOptAs};
-ghost use Rattle.bcder_content.specs.Grammar.{OctetsOf};
-ghost use Rattle.bcder_content.specs.Here.{here};
+ghost use Rattle.certs_time.specs.bcder_tree.Tags.{universal};
+ghost use Rattle.certs_time.specs.bcder_source.Errors.{OnlyContent};
+ghost use Rattle.certs_time.specs.bcder_source.declared.error.DecodeError.TheVariants.{Memory};
+ghost use Rattle.certs_time.specs.bcder_primitive.Plain.{plain, ReadsOctetsAs};
+ghost use Rattle.certs_time.specs.bcder_content.Exact.{ReadsAs, ReadsOptAs};
+ghost use Rattle.certs_time.specs.bcder_content.Grammar.{OctetsOf};
+ghost use Rattle.certs_time.specs.bcder_content.Here.{here};
 ghost use Rattle.certs_time.specs.Forms.{IsShortMoment, IsTime, Tells};
 ghost use Rattle.certs_time.specs.Times.{IsMoment};
 
 use crate::text::Form;
 use crate::time::Time;
-use bcder_content::{Constructed, Primitive};
-use bcder_source::{ContentError, DecodeError, Source};
-use bcder_tree::Tag;
+use bcder::Tag;
+use bcder::decode::{Constructed, ContentError, DecodeError, Primitive, Source};
 
 // Marks a content as failed, and refuses it.
 fn refuse<S: Source>(prim: &mut Primitive<S>) -> DecodeError<S::Error>

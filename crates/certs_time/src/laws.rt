@@ -2,13 +2,13 @@
 
 ghost use Rattle.std.specs.Prelude.{◌≡◌, ◌↔◌, ℕ, List};
 ghost use Rattle.std.specs.declared.cmp.Ordering.TheVariants.{Equal};
-ghost use Rattle.bcder_tree.specs.declared.mode.Mode.{Mode as ModeValue};
-ghost use Rattle.bcder_tree.specs.Tags.{TagValue, universal};
-ghost use Rattle.bcder_tree.specs.Tree.{Tree, Trees, primitive};
-ghost use Rattle.bcder_primitive.specs.Values.{AnyOctets};
-ghost use Rattle.bcder_content.specs.Grammar.{End, One, Then};
-ghost use Rattle.bcder_written.specs.Encoded.{WritesBoth, WritesPlain, WritesWrapped};
-ghost use Rattle.bcder_values.specs.Returns.{ReadAgain};
+ghost use Rattle.certs_time.specs.bcder_tree.declared.mode.Mode.{Mode as ModeValue};
+ghost use Rattle.certs_time.specs.bcder_tree.Tags.{TagValue, universal};
+ghost use Rattle.certs_time.specs.bcder_tree.Tree.{Tree, Trees, primitive};
+ghost use Rattle.certs_time.specs.bcder_primitive.Values.{AnyOctets};
+ghost use Rattle.certs_time.specs.bcder_content.Grammar.{End, One, Then};
+ghost use Rattle.certs_time.specs.bcder_written.Encoded.{WritesBoth, WritesPlain, WritesWrapped};
+ghost use Rattle.certs_time.specs.bcder_values.Returns.{ReadAgain};
 ghost use Rattle.certs_time.specs.Forms.{IsTime, IsValidity, WritesTime};
 
 use crate::time::Time;

@@ -1,14 +1,15 @@
 //! The two texts of a moment: UTCTime's and GeneralizedTime's (RFC 5280 4.1.2.5).
 
 ghost use Rattle.std.specs.Prelude.{◌≡◌, ◌↔◌, ◌≢◌, ◌∷◌, ◌++◌, ℕ, List, length, IsTrue, IfSome, IfNone};
-ghost use Rattle.bcder_tree.specs.Tags.{universal};
-ghost use Rattle.bcder_tree.specs.Tree.{primitive};
+ghost use Rattle.certs_time.specs.bcder_tree.Tags.{universal};
+ghost use Rattle.certs_time.specs.bcder_tree.Tree.{primitive};
 ghost use Rattle.certs_time.specs.Forms.{IsShortMoment, IsShortYear, Tells, WritesTime, length_of, tag_of, with_century_of};
 ghost use Rattle.certs_time.specs.Times.{Civil, IsMoment, IsReal, moment_text};
 
+use crate::bcder_written as encode;
 use crate::time::Time;
-use bcder_tree::Tag;
-use bcder_written::{self as encode, Octets};
+use bcder::Tag;
+use bcder::encode::Octets;
 use std::convert::AsSlice;
 use std::marker::Model;
 

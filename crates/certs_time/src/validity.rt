@@ -1,21 +1,20 @@
 //! Validity: from one moment to another, both included (RFC 5280 4.1.2.5).
 
 ghost use Rattle.std.specs.Prelude.{◌≡◌, ◌≢◌, ◌↔◌, ◌<◌, ◌≤◌, ℕ, true, IsOk, IfErr, IfNone, IfSome, OnErr, Err};
-ghost use Rattle.bcder_tree.specs.Tags.{universal};
-ghost use Rattle.bcder_tree.specs.Tree.{primitive};
-ghost use Rattle.bcder_source.specs.declared.error.DecodeError.TheVariants.{Memory};
-ghost use Rattle.bcder_content.specs.Exact.{ReadsAs, ReadsAllAs};
-ghost use Rattle.bcder_content.specs.Here.{here};
+ghost use Rattle.certs_time.specs.bcder_tree.Tags.{universal};
+ghost use Rattle.certs_time.specs.bcder_tree.Tree.{primitive};
+ghost use Rattle.certs_time.specs.bcder_source.declared.error.DecodeError.TheVariants.{Memory};
+ghost use Rattle.certs_time.specs.bcder_content.Exact.{ReadsAs, ReadsAllAs};
+ghost use Rattle.certs_time.specs.bcder_content.Here.{here};
 ghost use Rattle.certs_time.specs.Forms.{IsValidity, IsValidityBody, WritesTime};
 ghost use Rattle.certs_time.specs.Periods.{IsBetween, IsLater, IsTimeNumber, IsValidAt, as_fields};
 
+use crate::bcder_values as encode;
 use crate::error::ValidityError;
 use crate::text::VariedTime;
 use crate::time::Time;
-use bcder_content::Constructed;
-use bcder_source::{DecodeError, Source};
-use bcder_tree::Tag;
-use bcder_values as encode;
+use bcder::Tag;
+use bcder::decode::{Constructed, DecodeError, Source};
 use std::marker::Model;
 
 /// From one moment to another, both included.
@@ -63,14 +62,16 @@ impl Validity {
     pub fn not_before(self) -> Time
         ensures { result ≡ self.not_before }
     {
-        self.not_before
+        let Validity { not_before, .. } = self;
+        not_before
     }
 
     /// The end.
     pub fn not_after(self) -> Time
         ensures { result ≡ self.not_after }
     {
-        self.not_after
+        let Validity { not_after, .. } = self;
+        not_after
     }
 
     /// Tells where a moment lies outside: before the beginning, or behind the end. Both ends are inside.

@@ -1,2 +1,7 @@
 pub mod UriLaws
 pub mod UriTexts
+pub mod PathTexts
+pub mod PathUris
+pub mod SameUris
+pub mod of_bcder_chars
+pub mod of_bcder_octets

@@ -5,7 +5,7 @@ use Rattle.std.proofs.lemmas.Bool.Decides.{nat_tests}
 use Rattle.std.proofs.lemmas.List.{length-map, length-take, drop_all, nil_from_length}
 use Rattle.std.proofs.lemmas.List.Elements.{All-append, All-drop, All-map, All-same, All-take, All-weaker}
 use Rattle.std.proofs.lemmas.List.Folds.{length-prefix_len}
-use Rattle.certs_uri.specs.Uris.{lower, lower_host, lookup_key, IsUriOctet, IsSegment, IsRest, HasScheme, IsModulePath, IsUri, IsLookupKey}
+use Rattle.certs_uri.specs.Uris.{lower, lower_host, lookup_key, IsUriOctet, IsSegment, IsRest, HasScheme, IsModulePath, IsRsync, IsHttps, IsUri, IsLookupKey}
 use Rattle.certs_uri.proofs.UriTexts.{segment_len, segment_len-append, no_slash-take, IsRest-drop, lower_host-split, lookup_key-split, IsSplit, HasScheme-from_rsync, HasScheme-from_https, IsRsync-from_parts, IsHttps-from_parts}
 
 -- Lower case of an octet is kept.
@@ -18,7 +18,7 @@ map-lower-lower [] = refl
 map-lower-lower (c ∷ text) = λ i. lower-lower c i ∷ map-lower-lower text i
 
 -- Lower case makes no slash.
-lower-no_slash : (c : ℕ) → c ≢ 47 → lower c ≢ 47
+pub lower-no_slash : (c : ℕ) → c ≢ 47 → lower c ≢ 47
 lower-no_slash c h = λ e. absurd (grind (arith, nat_tests))
 
 -- Nor does it in a text.
@@ -36,7 +36,7 @@ lower_host-append host rest a r =
     lower_host-split (host ++ rest) ∙ rw (len, take_at host rest (length host) refl, drop_at host rest (length host) refl)
 
 -- Lower case moves no slash.
-segment_len-lower_host : (text : List ℕ) → segment_len (lower_host text) ≡ segment_len text
+pub segment_len-lower_host : (text : List ℕ) → segment_len (lower_host text) ≡ segment_len text
 segment_len-lower_host text =
     let n = segment_len text in
     let front = map lower (take n text) in
@@ -55,7 +55,7 @@ lower_host-lower_host text =
     ∙ ap (λ t. t ++ drop n text) (map-lower-lower (take n text)) ∙ sym split
 
 -- The scheme and what stands behind it, in a lookup key.
-lookup_key-parts : (uri : List ℕ) → IsSplit (lookup_key uri) (map lower (take 8 uri)) (lower_host (drop 8 uri))
+pub lookup_key-parts : (uri : List ℕ) → IsSplit (lookup_key uri) (map lower (take 8 uri)) (lower_host (drop 8 uri))
 lookup_key-parts uri =
     let front = map lower (take 8 uri) in
     let front_len : length front ≡ min 8 (length uri) = length-map (take 8 uri) lower ∙ length-take 8 uri in
@@ -108,14 +108,22 @@ HasScheme-lookup_key scheme uri s =
       scheme_is = ap (map lower) (lookup_key-parts uri).front ∙ map-lower-lower (take 8 uri) ∙ s.scheme_is;
     }
 
+-- The lookup key of an rsync URI is one.
+pub IsRsync-lookup_key : (uri : List ℕ) → IsRsync uri → IsRsync (lookup_key uri)
+IsRsync-lookup_key uri r =
+    let parts = HasScheme-from_rsync uri r in
+    IsRsync-from_parts (lookup_key uri) (HasScheme-lookup_key _ uri parts.0) (rw (lookup_key-parts uri).back (IsModulePath-lower (drop 8 uri) parts.1))
+
+-- The lookup key of an https URI is one.
+pub IsHttps-lookup_key : (uri : List ℕ) → IsHttps uri → IsHttps (lookup_key uri)
+IsHttps-lookup_key uri r =
+    let parts = HasScheme-from_https uri r in
+    IsHttps-from_parts (lookup_key uri) (HasScheme-lookup_key _ uri parts.0) (rw ((lookup_key-parts uri).back, segment_len-lower_host) parts.1)
+
 -- The lookup key of a URI is a URI.
 pub IsUri-lookup_key : (uri : List ℕ) → IsUri uri → IsUri (lookup_key uri)
-IsUri-lookup_key uri (inl r) =
-    let parts = HasScheme-from_rsync uri r in
-    inl (IsRsync-from_parts (lookup_key uri) (HasScheme-lookup_key _ uri parts.0) (rw (lookup_key-parts uri).back (IsModulePath-lower (drop 8 uri) parts.1)))
-IsUri-lookup_key uri (inr r) =
-    let parts = HasScheme-from_https uri r in
-    inr (IsHttps-from_parts (lookup_key uri) (HasScheme-lookup_key _ uri parts.0) (rw ((lookup_key-parts uri).back, segment_len-lower_host) parts.1))
+IsUri-lookup_key uri (inl r) = inl (IsRsync-lookup_key uri r)
+IsUri-lookup_key uri (inr r) = inr (IsHttps-lookup_key uri r)
 
 -- The lookup key of a URI is a lookup key.
 pub IsLookupKey-lookup_key : (uri : List ℕ) → IsUri uri → IsLookupKey (lookup_key uri)

@@ -1,6 +1,6 @@
 //! Which texts are rsync and https URIs, and the keys under which they are looked up.
 
-ghost use Rattle.std.specs.Prelude.{◌≡◌, List, ℕ, ◌≤◌, ◌==◌, ◌++◌, map, take, drop, length, All, ◌↔◌, IsTrue, IfOk, MatchOption};
+ghost use Rattle.std.specs.Prelude.{◌≡◌, List, ℕ, ◌+◌, ◌≤◌, ◌==◌, ◌++◌, map, take, drop, length, min, All, ◌↔◌, IsTrue, IfOk, MatchOption};
 ghost use Rattle.std.specs.Cmp.Lexicographic.{slice_cmp};
 ghost use Rattle.std.specs.List.{position_or_len};
 ghost use Rattle.std.specs.Ordering.{nat_cmp};
@@ -10,7 +10,7 @@ use std::alloc::{AllocError, Global};
 use std::cmp::Ordering;
 
 /// How many octets stand before the first slash, or at all where there is none.
-fn segment_len(text: &[u8]) -> usize
+pub(crate) fn segment_len(text: &[u8]) -> usize
     ensures bound { result ≤ length text.now }
     ensures place { result ≡ position_or_len (λ c. c == 47) text.now }
 {
@@ -77,6 +77,8 @@ pub fn is_uri(text: &[u8]) -> bool
 /// How many octets of the URI stand in lower case in its lookup key: the scheme and the host.
 pub fn folded_len(uri: &[u8]) -> usize
     ensures bound { result ≤ length uri.now }
+    // The scheme has 8 octets with its `://`, and the host stands before the next slash.
+    ensures host { result ≡ min (length uri.now) (8 + position_or_len (λ c. c == 47) (drop 8 uri.now)) }
     ensures key { key_of uri.now ≡ map lower (take result uri.now) ++ drop result uri.now }
 {
     match uri.split_at_checked(8) {

@@ -4,8 +4,17 @@
 //! a path are allowed and not treated apart.
 //!
 //! What differs from the Rust crate: equality minds letter case everywhere, and `lookup_key` has scheme and host in
-//! lower case; what takes memory is given an allocator and answers a `Result`, `clone` too.
+//! lower case; what takes memory is given an allocator and answers a `Result`, `clone` and `parent` too; one cause,
+//! `BadUri`, stands for every text that is refused; `join` takes the last segment of the URI for a folder.
 #![tactic(auto)]
 
+pub mod error;
 pub mod grammar;
+pub mod https;
 pub mod laws;
+pub mod paths;
+pub mod rsync;
+
+pub use error::Error;
+pub use https::Https;
+pub use rsync::Rsync;

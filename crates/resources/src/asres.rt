@@ -1,7 +1,9 @@
 //! AS resources: blocks of AS numbers, sets of them, and claims; read and written.
 
-pub use resources_as::{
+pub use crate::resources_as::{
     AsBlocks, AsBlocksBuilder, AsResources, AsResourcesBuilder, InheritedAsResources,
     OverclaimedAsResources,
 };
-pub use resources_as_block::{AsBlock, AsBlockIter, AsBlocksIter, AsRange, AsnIter, FromStrError};
+pub use crate::resources_as_block::{
+    AsBlock, AsBlockIter, AsBlocksIter, AsRange, AsnIter, FromStrError,
+};

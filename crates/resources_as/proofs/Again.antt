@@ -1,19 +1,23 @@
 -- What is written of AS resources means just these.
-use Rattle.std.proofs.Common.{◌≡◌, ◌≢◌, List, refl, sym, subst, inl, inr, arith}
-use Rattle.bcder_tree.specs.Tags.{universal, context}
-use Rattle.bcder_tree.specs.Tree.{Tree, Trees, primitive, constructed, none}
-use Rattle.bcder_primitive.specs.Values.{IsNull}
-use Rattle.bcder_content.specs.Grammar.{One, OneAll, OneOctets}
-use Rattle.bcder_content.proofs.Choices.{universal_apart}
-use Rattle.bcder_content.proofs.Unique.{octets_one, inside_one, as_one, one_of_one, end_one, then_one, many_one}
-use Rattle.bcder_written.specs.Encoded.{IsPlain, IsWrapped}
-use Rattle.resources_chain.specs.Sets.{Run, InRuns, AreMaximal, IsRunsOf}
-use Rattle.resources_chain.specs.Claims.{Choice}
-use Rattle.resources_chain.specs.declared.choice.ResourcesChoice.TheVariants.{Missing, Inherit, Blocks}
-use Rattle.resources_chain.proofs.SetLemmas.{one_list_of}
+use Rattle.std.proofs.Common.{◌≡◌, ◌≢◌, List, Result, Ok, Err, refl, sym, subst, inl, inr, arith}
+use Rattle.std.specs.Prelude.{IfOk}
+use Rattle.resources_as.specs.bcder_tree.Tags.{universal, context}
+use Rattle.resources_as.specs.bcder_tree.Tree.{Tree, Trees, primitive, constructed, none}
+use Rattle.resources_as.specs.bcder_primitive.Values.{IsNull}
+use Rattle.resources_as.specs.bcder_source.declared.error.DecodeError.{DecodeError}
+use Rattle.resources_as.specs.bcder_content.Contents.{ValuesLeft}
+use Rattle.resources_as.specs.bcder_content.Exact.{ReadsAs}
+use Rattle.resources_as.specs.bcder_content.Grammar.{One, OneAll, OneOctets}
+use Rattle.resources_as.proofs.of_bcder_content.Choices.{universal_apart}
+use Rattle.resources_as.proofs.of_bcder_content.Unique.{octets_one, inside_one, as_one, one_of_one, end_one, then_one, many_one}
+use Rattle.resources_as.specs.bcder_written.Encoded.{IsPlain, IsWrapped}
+use Rattle.resources_as.specs.resources_chain.Sets.{Run, InRuns, AreMaximal, IsRunsOf}
+use Rattle.resources_as.specs.resources_chain.Claims.{Choice}
+use Rattle.resources_as.specs.resources_chain.declared.choice.ResourcesChoice.TheVariants.{Missing, Inherit, Blocks}
+use Rattle.resources_as.proofs.of_resources_chain.SetLemmas.{one_list_of}
 use Rattle.resources_as_block.proofs.Again.{IsOne, blocks_are, block_one}
 use Rattle.resources_as.specs.Encodings.{AreBlocks, IsAsSet, IsAsChoice, IsAsResources}
-use Rattle.resources_as.specs.Written.{AreAsBlocks, AreIdentifiers, AreAsResources, HasMaximal, MeansJust}
+use Rattle.resources_as.specs.Written.{AreAsBlocks, AreIdentifiers, AreAsResources, HasMaximal, MeansJust, ReadsSet}
 use Rattle.resources_as.proofs.Reading.{inherit_tagged, list_tagged}
 
 set_is : (runs : List Run) (ts : Trees) → AreMaximal runs → IsWrapped (universal 16) (AreAsBlocks runs) ts → IsOne IsAsSet runs ts
@@ -91,3 +95,31 @@ means_just (Blocks runs) ts m there p = just (Blocks runs) ts (identifiers_are (
 
 pub one_choice : (t : Tree) (one other : Choice) → IsAsResources t one → IsAsResources t other → one ≡ other
 one_choice t one other p q = resources_one.one t one other p q
+
+-- A SEQUENCE of the blocks is read as the same set, and a set that is read can be written.
+pub set_again : (runs : List Run) (ts : Trees) → AreMaximal runs → IsWrapped (universal 16) (AreAsBlocks runs) ts → ReadsSet runs ts
+set_again runs ts m p = let a = set_is runs ts m p in record { tree = a.tree; alone = a.whole; is = a.is }
+
+pub one_set : (t : Tree) (one other : List Run) → IsAsSet t one → IsAsSet t other → one ≡ other
+one_set t one other p q = (inside_one blocks_one).one t one other p q
+
+pub set_fits : (t : Tree) (runs : List Run) → IsAsSet t runs → AreMaximal runs
+set_fits t runs p = p.is.union.maximal
+
+choice_fits : (t : Tree) (choice : Choice) → IsAsChoice t choice → HasMaximal choice
+choice_fits t choice p = elim p.cases [
+  | inl q ↦ subst (λ (c : Choice). HasMaximal c) (sym q.means) tt
+  | inr q ↦ subst (λ (c : Choice). HasMaximal c) (sym q.means) (set_fits t q.x q.is)
+]
+
+pub resources_fit : (t : Tree) (choice : Choice) → IsAsResources t choice → HasMaximal choice
+resources_fit t choice p = subst (λ (c : Choice). HasMaximal c) (sym p.means) (choice_fits p.is.is.is.is.first p.x.0.0 p.is.is.is.is.is)
+
+-- So can what a reader gives.
+pub given_set : {E : Type 0} (v w : ValuesLeft) (r : Result (List Run) (DecodeError E)) → ReadsAs (λ s. s) IsAsSet v r w → IfOk r AreMaximal
+given_set v w (Ok runs) g = set_fits g.tree runs g.is
+given_set v w (Err e) g = tt
+
+pub given_resources : {E : Type 0} (v w : ValuesLeft) (r : Result Choice (DecodeError E)) → ReadsAs (λ r. r) IsAsResources v r w → IfOk r HasMaximal
+given_resources v w (Ok choice) g = resources_fit g.tree choice g.is
+given_resources v w (Err e) g = tt

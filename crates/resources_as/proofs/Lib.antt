@@ -1,3 +1,7 @@
+pub mod Cut
 pub mod Reading
 pub mod Writing
 pub mod Again
+pub mod Pushed
+pub mod of_bcder_content
+pub mod of_resources_chain

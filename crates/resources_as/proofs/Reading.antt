@@ -1,15 +1,15 @@
 -- What reading AS resources rests on: tags, one meaning of a value, and lists by their sets.
 use Rattle.std.proofs.Common.{◌≡◌, List, Result, Ok, Err, subst, sym}
 use Rattle.std.specs.Result.{IsErr, IsErrAnd}
-use Rattle.bcder_tree.specs.Tags.{universal}
-use Rattle.bcder_source.specs.Errors.{OnContent}
-use Rattle.bcder_content.specs.Contents.{ValuesLeft}
-use Rattle.bcder_content.specs.Exact.{GivesAll, LacksAll, ReadsAllAs}
-use Rattle.bcder_source.specs.declared.error.DecodeError.{DecodeError}
-use Rattle.bcder_content.proofs.Taking.{weaker}
-use Rattle.bcder_content.specs.Grammar.{Many, Tagged}
-use Rattle.bcder_content.proofs.Unique.{octets_tagged, as_tagged, inside_tagged}
-use Rattle.resources_chain.specs.Sets.{Run, InRuns, IsRunsOf}
+use Rattle.resources_as.specs.bcder_tree.Tags.{universal}
+use Rattle.resources_as.specs.bcder_source.Errors.{OnContent}
+use Rattle.resources_as.specs.bcder_content.Contents.{ValuesLeft}
+use Rattle.resources_as.specs.bcder_content.Exact.{GivesAll, LacksAll, ReadsAllAs}
+use Rattle.resources_as.specs.bcder_source.declared.error.DecodeError.{DecodeError}
+use Rattle.resources_as.proofs.of_bcder_content.Taking.{weaker}
+use Rattle.resources_as.specs.bcder_content.Grammar.{Many, Tagged}
+use Rattle.resources_as.proofs.of_bcder_content.Unique.{octets_tagged, as_tagged, inside_tagged}
+use Rattle.resources_as.specs.resources_chain.Sets.{Run, InRuns, IsRunsOf}
 use Rattle.resources_as_block.specs.Encodings.{IsAsBlock}
 use Rattle.resources_as.specs.Encodings.{AreBlocks, InheritsAs, ListsAs}
 

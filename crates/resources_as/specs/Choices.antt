@@ -1,6 +1,6 @@
 -- Why the set of a choice of AS numbers can't be told.
-use Rattle.resources_chain.specs.declared.choice.InheritedResources.{InheritedResources}
-use Rattle.resources_chain.specs.declared.choice.InheritedResources.TheVariants as Cause
+use Rattle.resources_as.specs.resources_chain.declared.choice.InheritedResources.{InheritedResources}
+use Rattle.resources_as.specs.resources_chain.declared.choice.InheritedResources.TheVariants as Cause
 use Rattle.resources_as.specs.declared.resources.InheritedAsResources.{InheritedAsResources}
 use Rattle.resources_as.specs.declared.resources.InheritedAsResources.TheVariants as AsCause
 

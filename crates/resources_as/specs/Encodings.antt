@@ -1,12 +1,12 @@
 -- AS resources in an encoding: ASIdentifiers (RFC 3779 3.2.3).
 use Rattle.std.specs.Prelude.{List}
-use Rattle.bcder_tree.specs.Tags.{universal, context}
-use Rattle.bcder_tree.specs.Tree.{Tree, Trees}
-use Rattle.bcder_primitive.specs.Values.{IsNull}
-use Rattle.bcder_content.specs.Grammar.{Inside, OctetsOf, OneOf, As, End, Then, Many}
-use Rattle.resources_chain.specs.Sets.{Run, InRuns, IsRunsOf}
-use Rattle.resources_chain.specs.Claims.{Choice}
-use Rattle.resources_chain.specs.declared.choice.ResourcesChoice.TheVariants.{Inherit, Blocks}
+use Rattle.resources_as.specs.bcder_tree.Tags.{universal, context}
+use Rattle.resources_as.specs.bcder_tree.Tree.{Tree, Trees}
+use Rattle.resources_as.specs.bcder_primitive.Values.{IsNull}
+use Rattle.resources_as.specs.bcder_content.Grammar.{Inside, OctetsOf, OneOf, As, End, Then, Many}
+use Rattle.resources_as.specs.resources_chain.Sets.{Run, InRuns, IsRunsOf}
+use Rattle.resources_as.specs.resources_chain.Claims.{Choice}
+use Rattle.resources_as.specs.resources_chain.declared.choice.ResourcesChoice.TheVariants.{Inherit, Blocks}
 use Rattle.resources_as_block.specs.Encodings.{IsAsBlock}
 
 -- asIdsOrRanges SEQUENCE OF ASIdOrRange (3.2.3.4), in any order: they mean their union.

@@ -1,19 +1,20 @@
 -- What is written of AS resources (RFC 3779 3.2.3), in their canonical form (3.2.3.4).
 use Rattle.std.specs.Prelude.{◌≡◌, ℕ, List}
-use Rattle.bcder_tree.specs.declared.mode.Mode.{Mode}
-use Rattle.bcder_tree.specs.Tags.{universal, context}
-use Rattle.bcder_tree.specs.Tree.{Tree, Trees, none, more}
-use Rattle.bcder_primitive.specs.Values.{IsNull}
-use Rattle.bcder_written.specs.Encoded.{NoTree, NoText, IsPlain, WritesPlain, IsWrapped, WritesWrapped, SpellsSome}
-use Rattle.bcder_values.specs.Choices.{nothing_spelled, nothing_one}
-use Rattle.bcder_values.specs.Lists.{AreAll, WritesAll, all_spelled, all_one}
-use Rattle.bcder_values.specs.Plains.{plain_spelled, plain_one}
-use Rattle.bcder_written.specs.Simple.{one_null}
-use Rattle.bcder_values.specs.Wraps.{wrapped_spelled, wrapped_one}
-use Rattle.resources_chain.specs.Sets.{Run, AreMaximal}
-use Rattle.resources_chain.specs.Claims.{Choice}
-use Rattle.resources_chain.specs.declared.choice.ResourcesChoice.TheVariants.{Missing, Inherit, Blocks}
-use Rattle.resources_as.specs.Encodings.{IsAsResources}
+use Rattle.resources_as.specs.bcder_tree.declared.mode.Mode.{Mode}
+use Rattle.resources_as.specs.bcder_tree.Tags.{universal, context}
+use Rattle.resources_as.specs.bcder_tree.Tree.{Tree, Trees, none, more}
+use Rattle.resources_as.specs.bcder_primitive.Values.{IsNull}
+use Rattle.resources_as.specs.bcder_written.Encoded.{NoTree, NoText, IsPlain, WritesPlain, IsWrapped, WritesWrapped, SpellsSome}
+use Rattle.resources_as.specs.bcder_values.Choices.{nothing_spelled, nothing_one}
+use Rattle.resources_as.specs.bcder_values.Lists.{AreAll, WritesAll, all_spelled, all_one}
+use Rattle.resources_as.specs.bcder_values.Plains.{plain_spelled, plain_one}
+use Rattle.resources_as.specs.bcder_written.Simple.{one_null}
+use Rattle.resources_as.specs.bcder_values.Wraps.{wrapped_spelled, wrapped_one}
+use Rattle.resources_as.specs.resources_chain.Sets.{Run}
+use Rattle.resources_as.specs.resources_chain.Claims.{Choice}
+pub use Rattle.resources_as.specs.resources_chain.Claims.{HasMaximal}
+use Rattle.resources_as.specs.resources_chain.declared.choice.ResourcesChoice.TheVariants.{Missing, Inherit, Blocks}
+use Rattle.resources_as.specs.Encodings.{IsAsResources, IsAsSet}
 use Rattle.resources_as_block.specs.Written.{AreAsBlock, WritesAsBlock, block_spelled, block_one}
 
 -- A block for each of the maximal runs, ascending.
@@ -41,18 +42,18 @@ WritesAsResources m Missing = NoText
 WritesAsResources m Inherit = WritesIdentifiers m (WritesPlain m (universal 5) (λ content. IsNull content tt))
 WritesAsResources m (Blocks runs) = WritesIdentifiers m (WritesWrapped m (universal 16) (WritesAsBlocks m runs))
 
--- The runs of the set, if there is one, are maximal.
-abbrev pub HasMaximal : Choice → Type 0
-HasMaximal Missing = Unit {0}
-HasMaximal Inherit = Unit {0}
-HasMaximal (Blocks runs) = AreMaximal runs
-
 -- One value, which is AS resources of the choice, and of no other.
 pub record MeansJust (choice : Choice) (ts : Trees) : Type 0 where
   pub tree : Tree
   pub whole : ts ≡ more tree none
   pub is : IsAsResources tree choice
   pub only : (other : Choice) → IsAsResources tree other → other ≡ choice
+
+-- A SEQUENCE of the blocks of a set, which is read as the same set.
+pub record ReadsSet (runs : List Run) (ts : Trees) : Type 0 where
+  pub tree : Tree
+  pub alone : ts ≡ more tree none
+  pub is : IsAsSet tree runs
 
 -- What is written spells these values, and is always the same.
 pub blocks_spelled : (m : Mode) (runs : List Run) (text : List ℕ) → WritesAsBlocks m runs text → SpellsSome m (AreAsBlocks runs) text

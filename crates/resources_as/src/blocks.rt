@@ -3,20 +3,20 @@
 ghost use Rattle.std.specs.Prelude.{◌≡◌, ℕ, ◌≤◌, ◌↔◌, List, [], ◌∷◌, ◌++◌, IsTrue, IsErrOf, IfOk, IfErr, OnOk, OnErr, MatchResult, map, ⊤};
 ghost use Rattle.std.specs.Cmp.{partial_equiv_from_equiv};
 ghost use Rattle.std.specs.Iterator.{IsFinite, DrainsIf};
-ghost use Rattle.resources_chain.specs.Sets.{Run, InRuns, AreMaximal, IsRunsOf, InEither, InBoth, InFirstOnly, IsInside};
-ghost use Rattle.resources_chain.specs.Same.{runs_eq, runs_eq_equiv};
-ghost use Rattle.resources_chain.specs.declared.choice.ResourcesChoice.TheVariants.{Missing, Inherit};
-ghost use Rattle.resources_chain.specs.declared.claims.Overclaim.TheVariants.{Refuse};
-ghost use Rattle.resources_chain.specs.Claims.{Lists, FitsIn, Kept, Refuses, HeldAlong, FitsAlong, RefusesAlong};
+ghost use Rattle.resources_as.specs.resources_chain.Sets.{Run, InRuns, AreMaximal, IsRunsOf, InEither, InBoth, InFirstOnly, IsInside};
+ghost use Rattle.resources_as.specs.resources_chain.Same.{runs_eq, runs_eq_equiv};
+ghost use Rattle.resources_as.specs.resources_chain.declared.choice.ResourcesChoice.TheVariants.{Missing, Inherit};
+ghost use Rattle.resources_as.specs.resources_chain.declared.claims.Overclaim.TheVariants.{Refuse};
+ghost use Rattle.resources_as.specs.resources_chain.Claims.{Lists, FitsIn, Kept, Refuses, HeldAlong, FitsAlong, RefusesAlong};
 ghost use Rattle.resources_as_block.specs.Blocks.{as_run};
 ghost use Rattle.resources_as_block.specs.Counted.{runs_count};
-ghost use Rattle.resources_asn.specs.Listed.{IsListOf};
+ghost use Rattle.resources_as.specs.resources_asn.Listed.{IsListOf};
 
 use crate::claims::OverclaimedAsResources;
 use crate::resources::{AsResources, InheritedAsResources};
+use crate::resources_asn::Asn;
+use crate::resources_chain::{ClaimError, Overclaim, OwnedChain, SharedChain};
 use resources_as_block::{AsBlock, AsBlocksIter, AsnIter};
-use resources_asn::Asn;
-use resources_chain::{ClaimError, Overclaim, OwnedChain, SharedChain};
 use std::alloc::{AllocError, Global};
 use std::marker::Model;
 
@@ -29,7 +29,7 @@ pub struct AsBlocks {
 
 impl Model for AsBlocks {
     ghost use Rattle.std.specs.Prelude.{List};
-    ghost use Rattle.resources_chain.specs.Sets.{Run};
+    ghost use Rattle.resources_as.specs.resources_chain.Sets.{Run};
 
     ghost Value = { List Run };
 
@@ -90,6 +90,13 @@ impl AsBlocks {
         ensures { IsTrue result ↔ ((n : ℕ) → ¬ (InRuns self.now n)) }
     {
         self.chain.as_chain().is_empty()
+    }
+
+    /// The blocks are ascending, and neither overlap nor touch. This is a law about the set: nothing is done.
+    pub fn runs_are_maximal(&self)
+        ensures { AreMaximal self.now }
+    {
+        self.chain.runs_are_maximal();
     }
 
     /// The maximal blocks of the set, ascending.
@@ -312,7 +319,7 @@ pub struct AsBlocksBuilder {
 
 impl Model for AsBlocksBuilder {
     ghost use Rattle.std.specs.Prelude.{List, map};
-    ghost use Rattle.resources_chain.specs.Sets.{Run};
+    ghost use Rattle.resources_as.specs.resources_chain.Sets.{Run};
     ghost use Rattle.resources_as_block.specs.Blocks.{as_run};
 
     ghost Value = { List Run };

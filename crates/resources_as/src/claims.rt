@@ -15,7 +15,7 @@ pub struct OverclaimedAsResources {
 
 impl Model for OverclaimedAsResources {
     ghost use Rattle.std.specs.Prelude.{List};
-    ghost use Rattle.resources_chain.specs.Sets.{Run};
+    ghost use Rattle.resources_as.specs.resources_chain.Sets.{Run};
 
     ghost Value = { List Run };
 

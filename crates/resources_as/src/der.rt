@@ -1,17 +1,19 @@
 //! AS resources that are read from an encoding (RFC 3779 section 3.2.3).
 
-ghost use Rattle.std.specs.Prelude.{◌≡◌, List, true, OnErr};
-ghost use Rattle.bcder_tree.specs.Tags.{context};
-ghost use Rattle.bcder_content.specs.Exact.{ReadsAs, ReadsAllAs};
-ghost use Rattle.bcder_content.specs.Grammar.{Inside, Then, End, Many};
-ghost use Rattle.bcder_content.specs.Here.{here};
+ghost use Rattle.std.specs.Prelude.{◌≡◌, List, true, IfOk, OnErr};
+ghost use Rattle.resources_as.specs.bcder_tree.Tags.{context};
+ghost use Rattle.resources_as.specs.bcder_content.Exact.{ReadsAs, ReadsAllAs};
+ghost use Rattle.resources_as.specs.bcder_content.Grammar.{Inside, Then, End, Many};
+ghost use Rattle.resources_as.specs.bcder_content.Here.{here};
+ghost use Rattle.resources_as.specs.resources_chain.Claims.{HasMaximal};
+ghost use Rattle.resources_as.specs.resources_chain.Sets.{AreMaximal};
 ghost use Rattle.resources_as_block.specs.Encodings.{IsAsBlock};
 ghost use Rattle.resources_as.specs.Encodings.{AreAsIdentifiers, AreBlocks, IsAsChoice, IsAsResources, IsAsSet, only_choice};
 
+use crate::bcder::Tag;
+use crate::bcder::decode::{Constructed, DecodeError, Source};
 use crate::blocks::{AsBlocks, AsBlocksBuilder};
 use crate::resources::AsResources;
-use bcder_content::Constructed;
-use bcder_source::{DecodeError, Source, Tag};
 use resources_as_block::AsBlock;
 use std::alloc::Global;
 
@@ -48,6 +50,7 @@ impl AsBlocks {
         cons: &mut Constructed<S>,
     ) -> Result<AsBlocks, DecodeError<S::Error>>
         ensures reads { ReadsAs (λ s. s) IsAsSet (here S.rest cons.old) result (here S.rest cons.new) }
+        ensures maximal { IfOk result AreMaximal }
         ensures failed { OnErr result ((here S.rest cons.new).failed ≡ true) }
     {
         cons.take_sequence(
@@ -84,6 +87,7 @@ impl AsResources {
         cons: &mut Constructed<S>,
     ) -> Result<AsResources, DecodeError<S::Error>>
         ensures reads { ReadsAs (λ r. r) IsAsResources (here S.rest cons.old) result (here S.rest cons.new) }
+        ensures maximal { IfOk result HasMaximal }
         ensures failed { OnErr result ((here S.rest cons.new).failed ≡ true) }
     {
         cons.take_sequence(

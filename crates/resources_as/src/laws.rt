@@ -1,11 +1,14 @@
 //! Laws of AS resources: the contracts of functions that do nothing.
 
-ghost use Rattle.std.specs.Prelude.{◌≡◌};
-ghost use Rattle.bcder_tree.specs.Tree.{Tree, Trees};
-ghost use Rattle.resources_chain.specs.Claims.{Choice};
-ghost use Rattle.resources_chain.specs.declared.choice.ResourcesChoice.TheVariants.{Missing};
-ghost use Rattle.resources_as.specs.Encodings.{IsAsResources};
-ghost use Rattle.resources_as.specs.Written.{AreAsResources, HasMaximal, MeansJust};
+ghost use Rattle.std.specs.Prelude.{◌≡◌, List};
+ghost use Rattle.resources_as.specs.bcder_tree.Tags.{universal};
+ghost use Rattle.resources_as.specs.bcder_tree.Tree.{Tree, Trees};
+ghost use Rattle.resources_as.specs.bcder_written.Encoded.{IsWrapped};
+ghost use Rattle.resources_as.specs.resources_chain.Claims.{Choice};
+ghost use Rattle.resources_as.specs.resources_chain.Sets.{Run, AreMaximal};
+ghost use Rattle.resources_as.specs.resources_chain.declared.choice.ResourcesChoice.TheVariants.{Missing};
+ghost use Rattle.resources_as.specs.Encodings.{IsAsResources, IsAsSet};
+ghost use Rattle.resources_as.specs.Written.{AreAsBlocks, AreAsResources, HasMaximal, MeansJust, ReadsSet};
 
 pub use resources_as_block::laws::{one_list_of_a_set, runs_are_counted, runs_are_listed};
 
@@ -14,7 +17,19 @@ pub fn what_is_written_means_just_these()
     ensures { (choice : Choice) (ts : Trees) → HasMaximal choice → ¬ (choice ≡ Missing) → AreAsResources choice ts → MeansJust choice ts }
 {}
 
-/// A value is AS resources in one way at most.
+/// A SEQUENCE of what is written of a set is one value, which is read as the same set (RFC 3779 section 3.2.3.4).
+pub fn a_set_is_read_again()
+    ensures { (runs : List Run) (ts : Trees) → AreMaximal runs → IsWrapped (universal 16) (AreAsBlocks runs) ts → ReadsSet runs ts }
+{}
+
+/// What is read of AS resources, or as a set of them, is by maximal runs: so it can be written, and is read again.
+pub fn resources_that_are_read_fit()
+    ensures resources { (t : Tree) (choice : Choice) → IsAsResources t choice → HasMaximal choice }
+    ensures set { (t : Tree) (runs : List Run) → IsAsSet t runs → AreMaximal runs }
+{}
+
+/// A value has one meaning: as AS resources (RFC 3779 section 3.2.3.1), and as a set of AS numbers (3.2.3.4).
 pub fn one_meaning()
-    ensures { (t : Tree) (one other : Choice) → IsAsResources t one → IsAsResources t other → one ≡ other }
+    ensures set { (t : Tree) (one other : List Run) → IsAsSet t one → IsAsSet t other → one ≡ other }
+    ensures resources { (t : Tree) (one other : Choice) → IsAsResources t one → IsAsResources t other → one ≡ other }
 {}

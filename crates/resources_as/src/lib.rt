@@ -9,13 +9,15 @@ pub mod resources;
 mod text;
 mod write;
 
+pub use crate::resources_asn::{
+    Asn, ParseAsnError, SmallAsnSet, SmallSetDifference, SmallSetIntersection, SmallSetIter,
+    SmallSetSymmetricDifference, SmallSetUnion, asn, small_set,
+};
 pub use blocks::{AsBlocks, AsBlocksBuilder};
 pub use claims::OverclaimedAsResources;
 pub use resources::{AsResources, AsResourcesBuilder, InheritedAsResources};
+pub use resources_as_block;
 pub use resources_as_block::{
-    AsBlock, AsBlockIter, AsBlocksIter, AsRange, AsnIter, FromStrError, block, error, iter, range,
-};
-pub use resources_asn::{
-    Asn, ParseAsnError, SmallAsnSet, SmallSetDifference, SmallSetIntersection, SmallSetIter,
-    SmallSetSymmetricDifference, SmallSetUnion, asn, small_set,
+    AsBlock, AsBlockIter, AsBlocksIter, AsRange, AsnIter, FromStrError, bcder, block, error, iter,
+    range, resources_addr, resources_asn, resources_chain,
 };

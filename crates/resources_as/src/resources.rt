@@ -2,14 +2,14 @@
 
 ghost use Rattle.std.specs.Prelude.{◌≡◌, ◌↔◌, ◌++◌, [], List, Result, IsTrue, IfOk, OnOk, OnErr, IsErrOf, Ok};
 ghost use Rattle.std.specs.Fn.{FnOnceReturnsAtMut};
-ghost use Rattle.resources_chain.specs.declared.choice.ResourcesChoice.TheVariants.{Missing, Inherit, Blocks};
-ghost use Rattle.resources_chain.specs.Sets.{Run, IsRunsOf};
-ghost use Rattle.resources_chain.specs.Claims.{Lists};
-ghost use Rattle.resources_chain.specs.Choices.{listed, IsChoiceOf};
+ghost use Rattle.resources_as.specs.resources_chain.declared.choice.ResourcesChoice.TheVariants.{Missing, Inherit, Blocks};
+ghost use Rattle.resources_as.specs.resources_chain.Sets.{Run, IsRunsOf};
+ghost use Rattle.resources_as.specs.resources_chain.Claims.{HasMaximal, Lists};
+ghost use Rattle.resources_as.specs.resources_chain.Choices.{listed, IsChoiceOf};
 
 use crate::blocks::{AsBlocks, AsBlocksBuilder};
+use crate::resources_chain::{Claim, InheritedResources, ResourcesChoice, SharedChain};
 use resources_as_block::AsBlock;
-use resources_chain::{Claim, InheritedResources, ResourcesChoice, SharedChain};
 use std::alloc::{AllocError, Global};
 use std::fmt;
 use std::marker::Model;
@@ -24,8 +24,8 @@ pub struct AsResources {
 
 impl Model for AsResources {
     ghost use Rattle.std.specs.Prelude.{List};
-    ghost use Rattle.resources_chain.specs.declared.choice.ResourcesChoice.{ResourcesChoice};
-    ghost use Rattle.resources_chain.specs.Sets.{Run};
+    ghost use Rattle.resources_as.specs.resources_chain.declared.choice.ResourcesChoice.{ResourcesChoice};
+    ghost use Rattle.resources_as.specs.resources_chain.Sets.{Run};
 
     ghost Value = { ResourcesChoice (List Run) };
 
@@ -55,10 +55,21 @@ impl AsResources {
 
     /// The AS numbers of the set, which may be none.
     pub fn blocks(blocks: AsBlocks) -> Self
-        ensures { result ≡ Blocks blocks }
+        ensures choice { result ≡ Blocks blocks }
+        ensures maximal { HasMaximal result }
     {
+        blocks.runs_are_maximal();
         AsResources {
             choice: ResourcesChoice::Blocks(blocks),
+        }
+    }
+
+    /// A set that is listed is so by its maximal runs. This is a law about the resources: nothing is done.
+    pub fn runs_are_maximal(&self)
+        ensures { HasMaximal self.now }
+    {
+        if let ResourcesChoice::Blocks(blocks) = &self.choice {
+            blocks.runs_are_maximal();
         }
     }
 
@@ -168,8 +179,8 @@ pub struct AsResourcesBuilder {
 
 impl Model for AsResourcesBuilder {
     ghost use Rattle.std.specs.Prelude.{List};
-    ghost use Rattle.resources_chain.specs.declared.choice.ResourcesChoice.{ResourcesChoice};
-    ghost use Rattle.resources_chain.specs.Sets.{Run};
+    ghost use Rattle.resources_as.specs.resources_chain.declared.choice.ResourcesChoice.{ResourcesChoice};
+    ghost use Rattle.resources_as.specs.resources_chain.Sets.{Run};
 
     ghost Value = { ResourcesChoice (List Run) };
 
@@ -233,6 +244,7 @@ impl AsResourcesBuilder {
     /// The resources. Memory is wanted only for a list.
     pub fn finalize(self, alloc: Global) -> Result<AsResources, AllocError>
         ensures choice { IfOk result (λ resources. IsChoiceOf self resources) }
+        ensures maximal { IfOk result HasMaximal }
         ensures listed { OnErr result ((runs : List Run) × (self ≡ Blocks runs)) }
     {
         Ok(match self.choice {

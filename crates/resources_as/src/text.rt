@@ -1,31 +1,47 @@
 //! Sets of AS numbers written and read: `AS1, AS3-AS5`.
 
+ghost use Rattle.std.specs.Prelude.{◌≡◌, ◌↔◌, ℕ, [], IfOk};
+ghost use Rattle.resources_as.specs.resources_chain.Sets.{InRuns};
+
 use crate::blocks::{AsBlocks, AsBlocksBuilder};
 use crate::resources::AsResources;
+use crate::resources_chain::cut_piece;
 use resources_as_block::{AsBlock, FromStrError};
 use std::alloc::Global;
 use std::fmt;
 
 impl AsBlocks {
-    /// The set of a text: blocks with `,` or `, ` between them, in any order; of the empty text, no AS numbers.
-    pub fn from_str(alloc: Global, text: &str) -> Result<Self, FromStrError> {
-        let mut blocks = AsBlocksBuilder::new(alloc);
-        if !text.is_empty() {
-            for (place, piece) in text.split(',').enumerate() {
-                blocks.push(read_piece(place, piece)?)?;
-            }
+    /// The set of a text: blocks with `,` or `, ` between them, in any order. Of the empty text, and of no other, it has no
+    /// AS numbers.
+    #[tactic(auto, using(crate::proofs::Pushed::some_set))]
+    pub fn from_str(alloc: Global, text: &str) -> Result<Self, FromStrError>
+        ensures none { IfOk result (λ s. ((n : ℕ) → ¬ (InRuns s n)) ↔ (text.now ≡ [])) }
+    {
+        if text.is_empty() {
+            return Ok(AsBlocks::empty());
         }
+        let blocks = read_blocks(alloc, text)?;
         Ok(blocks.finalize(alloc)?)
     }
 }
 
-/// The block of a piece between commas, behind which a space may stand.
-fn read_piece(place: usize, piece: &str) -> Result<AsBlock, FromStrError> {
-    let piece = if place == 0 {
-        piece
-    } else {
-        piece.strip_prefix(' ').unwrap_or(piece)
-    };
+/// The blocks of a text that has one at least.
+#[tactic(auto, using(crate::proofs::Pushed::some_pushed, crate::proofs::Cut::piece_shorter))]
+fn read_blocks(alloc: Global, text: &str) -> Result<AsBlocksBuilder, FromStrError>
+    ensures { IfOk result (λ b. (n : ℕ) × InRuns b n) }
+{
+    let mut blocks = AsBlocksBuilder::new(alloc);
+    let mut rest = text;
+    while let Some((piece, behind)) = cut_piece(rest) {
+        blocks.push(read_piece(piece)?)?;
+        rest = behind;
+    }
+    blocks.push(read_piece(rest)?)?;
+    Ok(blocks)
+}
+
+/// The block of a piece between commas.
+fn read_piece(piece: &str) -> Result<AsBlock, FromStrError> {
     if piece.is_empty() {
         return Err(FromStrError::BadBlocks);
     }

@@ -1,17 +1,19 @@
 //! Sets of AS numbers and AS resources that are written (RFC 3779 section 3.2.3).
 
 ghost use Rattle.std.specs.Prelude.{◌≡◌, IfOk, IfErr, OnOk};
-ghost use Rattle.bcder_tree.specs.Tags.{universal};
-ghost use Rattle.bcder_written.specs.Encoded.{IsWrapped, WritesWrapped};
-ghost use Rattle.bcder_written.specs.Writing.{HasLength, Wrote, CannotWrite, WriteRefused};
-ghost use Rattle.resources_chain.specs.declared.choice.ResourcesChoice.TheVariants.{Inherit};
+ghost use Rattle.resources_as.specs.bcder_tree.Tags.{universal};
+ghost use Rattle.resources_as.specs.bcder_written.Encoded.{IsWrapped, WritesWrapped};
+ghost use Rattle.resources_as.specs.bcder_written.Writing.{HasLength, Wrote, CannotWrite, WriteRefused};
+ghost use Rattle.resources_as.specs.resources_chain.Claims.{HasMaximal};
+ghost use Rattle.resources_as.specs.resources_chain.Sets.{AreMaximal};
+ghost use Rattle.resources_as.specs.resources_chain.declared.choice.ResourcesChoice.TheVariants.{Inherit};
 ghost use Rattle.resources_as.specs.Written.{AreIdentifiers, WritesIdentifiers, AreAsBlocks, WritesAsBlocks, AreAsResources, WritesAsResources, blocks_spelled, blocks_one, resources_spelled, resources_one};
 
+use crate::bcder::encode::{Constructed, EncodeError, Primitive, Values};
+use crate::bcder::{Mode, Tag};
 use crate::blocks::AsBlocks;
 use crate::resources::AsResources;
-use bcder_tree::{Mode, Tag};
-use bcder_values::{Constructed, EncodeError, Primitive, Values};
-use resources_chain::ResourcesChoice;
+use crate::resources_chain::ResourcesChoice;
 use std::io::Write;
 
 /// The blocks of the set, bare and ascending: `id` for one number alone, else `range` (RFC 3779 section 3.2.3.4).
@@ -36,15 +38,19 @@ impl Values for AsBlocks {
 impl AsBlocks {
     /// The set as values that can be written: its blocks (RFC 3779 section 3.2.3.4), with no SEQUENCE around them.
     pub fn encode(self) -> AsBlocks
-        ensures { result ≡ self }
+        ensures same { result ≡ self }
+        ensures maximal { AreMaximal result }
     {
+        self.runs_are_maximal();
         self
     }
 
     /// Encodes the borrowed set, as `encode` does.
     pub fn encode_ref(&self) -> &AsBlocks
-        ensures { result.now ≡ self.now }
+        ensures same { result.now ≡ self.now }
+        ensures maximal { AreMaximal self.now }
     {
+        self.runs_are_maximal();
         self
     }
 }
@@ -167,15 +173,19 @@ impl Values for AsResources {
 impl AsResources {
     /// The resources as values that can be written (RFC 3779 section 3.2.3).
     pub fn encode(self) -> AsResources
-        ensures { result ≡ self }
+        ensures same { result ≡ self }
+        ensures maximal { HasMaximal result }
     {
+        self.runs_are_maximal();
         self
     }
 
     /// Encodes the borrowed resources, as `encode` does.
     pub fn encode_ref(&self) -> &AsResources
-        ensures { result.now ≡ self.now }
+        ensures same { result.now ≡ self.now }
+        ensures maximal { HasMaximal self.now }
     {
+        self.runs_are_maximal();
         self
     }
 }

@@ -1,15 +1,15 @@
 -- What is written of blocks of AS numbers means just these.
 use Rattle.std.proofs.Common.{◌≡◌, ℕ, ◌≤◌, ◌==◌, Bool, true, false, List, [], ◌∷◌, refl, sym, ap, ◌∙◌, inl, inr, arith}
 use Rattle.std.proofs.lemmas.Bool.{eqb-true}
-use Rattle.bcder_tree.specs.Tags.{universal}
-use Rattle.bcder_tree.specs.Tree.{Tree, Trees, primitive, constructed, none, more}
-use Rattle.bcder_content.specs.Grammar.{Inside, OctetsOf, OneOf, As, End, Then, Many, ManyCases, Tagged, One, OneAll}
-use Rattle.bcder_content.proofs.Unique.{octets_one, unsigned_one, inside_one, as_one, one_of_one, end_one, then_one, many_one}
-use Rattle.bcder_written.specs.Encoded.{IsPlain, IsWrapped, AreBoth, joined}
-use Rattle.bcder_content.proofs.Choices.{universal_apart}
-use Rattle.bcder_values.specs.Lists.{AreAll}
-use Rattle.resources_chain.specs.Sets.{Run, AreMaximal}
-use Rattle.resources_chain.specs.Same.{run_is}
+use Rattle.resources_as_block.specs.bcder_tree.Tags.{universal}
+use Rattle.resources_as_block.specs.bcder_tree.Tree.{Tree, Trees, primitive, constructed, none, more}
+use Rattle.resources_as_block.specs.bcder_content.Grammar.{Inside, OctetsOf, OneOf, As, End, Then, Many, ManyCases, Tagged, One, OneAll}
+use Rattle.resources_as_block.proofs.of_bcder_content.Unique.{octets_one, unsigned_one, inside_one, as_one, one_of_one, end_one, then_one, many_one}
+use Rattle.resources_as_block.specs.bcder_written.Encoded.{IsPlain, IsWrapped, AreBoth, joined}
+use Rattle.resources_as_block.proofs.of_bcder_content.Choices.{universal_apart}
+use Rattle.resources_as_block.specs.bcder_values.Lists.{AreAll}
+use Rattle.resources_as_block.specs.resources_chain.Sets.{Run, AreMaximal}
+use Rattle.resources_as_block.specs.resources_chain.Same.{run_is}
 use Rattle.resources_asn.specs.Encodings.{IsAsId}
 use Rattle.resources_as_block.specs.Encodings.{Ends, AreEnds, IsAsRange, IsAsBlock, alone, from_to}
 use Rattle.resources_as_block.specs.Written.{AreAsId, AreAsRange, AreIdOrRange, AreAsBlock}

@@ -4,8 +4,8 @@ use Rattle.std.proofs.Math.Nat.{eq-or-lt_of_le}
 use Rattle.std.proofs.lemmas.List.FromFn.{length-range_with_len}
 use Rattle.std.specs.Prelude.{length}
 use Rattle.std.specs.List.{range_with_len}
-use Rattle.resources_chain.specs.Sets.{Run, InRun, InRuns, AreMaximal}
-use Rattle.resources_chain.proofs.SetLemmas.{past_gap}
+use Rattle.resources_as_block.specs.resources_chain.Sets.{Run, InRun, InRuns, AreMaximal}
+use Rattle.resources_as_block.proofs.of_resources_chain.SetLemmas.{past_gap}
 use Rattle.resources_as_block.specs.Blocks.{as_run, as_run_within}
 use Rattle.resources_as_block.specs.declared.block.AsBlock.{AsBlock}
 use Rattle.resources_asn.specs.Listed.{IsListOf}

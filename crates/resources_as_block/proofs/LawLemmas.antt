@@ -1,7 +1,7 @@
 -- Laws of sets of AS numbers.
 use Rattle.std.proofs.Common.{◌≡◌, ℕ, List, ap, ◌∙◌}
 use Rattle.std.specs.Prelude.{length}
-use Rattle.resources_chain.specs.Sets.{Run, InRuns, AreMaximal}
+use Rattle.resources_as_block.specs.resources_chain.Sets.{Run, InRuns, AreMaximal}
 use Rattle.resources_as_block.specs.Counted.{runs_count, runs_numbers}
 use Rattle.resources_asn.specs.Listed.{IsListOf}
 use Rattle.resources_asn.proofs.ListLemmas.{same_list}

@@ -4,3 +4,5 @@ pub mod LawLemmas
 pub mod Reading
 pub mod Writing
 pub mod Again
+pub mod of_bcder_content
+pub mod of_resources_chain

@@ -1,18 +1,18 @@
 -- What reading blocks of AS numbers rests on: tags, and one meaning of a value.
 use Rattle.std.proofs.Common.{◌≡◌, ◌≤◌, ℕ, Result, Ok, Err, ap, arith, subst, sym}
 use Rattle.std.specs.Result.{IsErr, IsErrAnd}
-use Rattle.bcder_tree.specs.Tags.{TagValue, universal}
-use Rattle.bcder_tree.specs.Tree.{Trees}
-use Rattle.bcder_source.specs.Errors.{OnContent}
-use Rattle.bcder_source.specs.declared.error.DecodeError.{DecodeError}
-use Rattle.bcder_content.specs.Contents.{ValuesLeft, Whole}
-use Rattle.bcder_content.specs.Exact.{GivesAll, LacksAll, ReadsAllAs}
-use Rattle.bcder_content.specs.Grammar.{As, OneAll, Tagged}
-use Rattle.bcder_content.specs.Perhaps.{NoneNext}
-use Rattle.bcder_content.proofs.Choices.{as_lacks}
-use Rattle.bcder_content.proofs.Taking.{on_content, weaker}
-use Rattle.bcder_content.proofs.Took.{one_whole}
-use Rattle.bcder_content.proofs.Unique.{octets_tagged, inside_tagged, as_tagged, octets_one, unsigned_one, then_one, end_one}
+use Rattle.resources_as_block.specs.bcder_tree.Tags.{TagValue, universal}
+use Rattle.resources_as_block.specs.bcder_tree.Tree.{Trees}
+use Rattle.resources_as_block.specs.bcder_source.Errors.{OnContent}
+use Rattle.resources_as_block.specs.bcder_source.declared.error.DecodeError.{DecodeError}
+use Rattle.resources_as_block.specs.bcder_content.Contents.{ValuesLeft, Whole}
+use Rattle.resources_as_block.specs.bcder_content.Exact.{GivesAll, LacksAll, ReadsAllAs}
+use Rattle.resources_as_block.specs.bcder_content.Grammar.{As, OneAll, Tagged}
+use Rattle.resources_as_block.specs.bcder_content.Perhaps.{NoneNext}
+use Rattle.resources_as_block.proofs.of_bcder_content.Choices.{as_lacks}
+use Rattle.resources_as_block.proofs.of_bcder_content.Taking.{on_content, weaker}
+use Rattle.resources_as_block.proofs.of_bcder_content.Took.{one_whole}
+use Rattle.resources_as_block.proofs.of_bcder_content.Unique.{octets_tagged, inside_tagged, as_tagged, octets_one, unsigned_one, then_one, end_one}
 use Rattle.resources_asn.specs.Encodings.{IsAsId, whichever}
 use Rattle.resources_as_block.specs.Encodings.{AreEnds, AreOrdered, Ends, IsAsRange, IsAsBlock, IsAnyAsBlock, alone, from_to}
 

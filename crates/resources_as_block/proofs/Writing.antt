@@ -1,6 +1,6 @@
 -- Facts of runs, by their ends.
 use Rattle.std.proofs.Common.{◌≡◌, ℕ, subst}
-use Rattle.resources_chain.specs.Sets.{Run}
+use Rattle.resources_as_block.specs.resources_chain.Sets.{Run}
 
 -- What is so of a run is so of that with equal ends.
 pub as_ends : (F : Run → Type 0) {a b c d : ℕ} → a ≡ c → b ≡ d → F (record { first = a; last = b }) → F (record { first = c; last = d })

@@ -2,7 +2,7 @@
 use Rattle.std.specs.Prelude.{ℕ, ◌<◌, ◌≤◌, ◌++◌, ◌==◌, if◌then◌else◌, List, codes}
 use Rattle.std.specs.Fmt.{decimal}
 use Rattle.std.proofs.Common.{le_refl}
-use Rattle.resources_chain.specs.Sets.{Run}
+use Rattle.resources_as_block.specs.resources_chain.Sets.{Run}
 use Rattle.resources_as_block.specs.Ranges.{range_run}
 use Rattle.resources_as_block.specs.declared.block.AsBlock.{AsBlock}
 use Rattle.resources_as_block.specs.declared.block.AsBlock.TheVariants.{Id, Range}

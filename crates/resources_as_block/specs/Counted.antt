@@ -1,7 +1,7 @@
 -- The numbers of runs, one by one.
 use Rattle.std.specs.Prelude.{ℕ, ◌+◌, ◌-◌, List, [], ◌∷◌, ◌++◌}
 use Rattle.std.specs.List.{range_with_len}
-use Rattle.resources_chain.specs.Sets.{Run}
+use Rattle.resources_as_block.specs.resources_chain.Sets.{Run}
 
 -- From `first` on, as many as `count`.
 abbrev pub run_count : Run → ℕ

@@ -1,9 +1,9 @@
 -- Blocks of AS numbers in an encoding (RFC 3779 3.2.3.5 to 3.2.3.9).
 use Rattle.std.specs.Prelude.{ℕ, ◌≤◌}
-use Rattle.bcder_tree.specs.Tags.{universal}
-use Rattle.bcder_tree.specs.Tree.{Tree, Trees}
-use Rattle.bcder_content.specs.Grammar.{Inside, OneOf, As, End, Then}
-use Rattle.resources_chain.specs.Sets.{Run}
+use Rattle.resources_as_block.specs.bcder_tree.Tags.{universal}
+use Rattle.resources_as_block.specs.bcder_tree.Tree.{Tree, Trees}
+use Rattle.resources_as_block.specs.bcder_content.Grammar.{Inside, OneOf, As, End, Then}
+use Rattle.resources_as_block.specs.resources_chain.Sets.{Run}
 use Rattle.resources_asn.specs.Encodings.{IsAsId, whichever}
 
 abbrev pub alone : ℕ → Run

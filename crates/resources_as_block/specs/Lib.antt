@@ -5,3 +5,13 @@ pub mod Left
 pub mod Encodings
 pub mod Reading
 pub mod Written
+-- What stands below, for the crates above.
+pub use Rattle.resources_asn.specs.bcder_content as bcder_content
+pub use Rattle.resources_asn.specs.bcder_primitive as bcder_primitive
+pub use Rattle.resources_asn.specs.bcder_source as bcder_source
+pub use Rattle.resources_asn.specs.bcder_tree as bcder_tree
+pub use Rattle.resources_asn.specs.bcder_values as bcder_values
+pub use Rattle.resources_asn.specs.bcder_written as bcder_written
+pub use Rattle.resources_asn.specs.resources_addr as resources_addr
+pub use Rattle.resources_asn.specs as resources_asn
+pub use Rattle.resources_asn.specs.resources_chain as resources_chain

@@ -3,8 +3,8 @@ use Rattle.std.specs.Prelude.{◌≡◌, ◌≤◌, max}
 use Rattle.std.specs.Coded.{Coded, code_by, coded×}
 use Rattle.std.proofs.Common.{ap, arith, subst}
 use Rattle.std.proofs.Math.Bridge.{le_prop}
-use Rattle.resources_chain.specs.Sets.{Run}
-use Rattle.resources_chain.specs.Items.{made_alike}
+use Rattle.resources_as_block.specs.resources_chain.Sets.{Run}
+use Rattle.resources_as_block.specs.resources_chain.Items.{made_alike}
 use Rattle.resources_asn.specs.Numbers.{Number, number_at, number_code}
 
 -- The numbers from the first to the last, both included.

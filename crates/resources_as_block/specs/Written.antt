@@ -1,14 +1,14 @@
 -- What is written of blocks of AS numbers (RFC 3779 3.2.3.5 to 3.2.3.10).
 use Rattle.std.specs.Prelude.{◌≡◌, ℕ, ◌^◌, ◌==◌, Bool, true, false, List}
-use Rattle.bcder_tree.specs.declared.mode.Mode.{Mode}
-use Rattle.bcder_tree.specs.Tags.{universal}
-use Rattle.bcder_tree.specs.Tree.{Trees}
-use Rattle.bcder_written.specs.Encoded.{IsPlain, WritesPlain, IsWrapped, WritesWrapped, AreBoth, WritesBoth, SpellsSome}
-use Rattle.bcder_written.specs.Integers.{WritesUnsigned, one_unsigned}
-use Rattle.bcder_values.specs.Laws.{both_spelled, both_one}
-use Rattle.bcder_values.specs.Plains.{plain_spelled, plain_one}
-use Rattle.bcder_values.specs.Wraps.{wrapped_spelled, wrapped_one}
-use Rattle.resources_chain.specs.Sets.{Run}
+use Rattle.resources_as_block.specs.bcder_tree.declared.mode.Mode.{Mode}
+use Rattle.resources_as_block.specs.bcder_tree.Tags.{universal}
+use Rattle.resources_as_block.specs.bcder_tree.Tree.{Trees}
+use Rattle.resources_as_block.specs.bcder_written.Encoded.{IsPlain, WritesPlain, IsWrapped, WritesWrapped, AreBoth, WritesBoth, SpellsSome}
+use Rattle.resources_as_block.specs.bcder_written.Integers.{WritesUnsigned, one_unsigned}
+use Rattle.resources_as_block.specs.bcder_values.Laws.{both_spelled, both_one}
+use Rattle.resources_as_block.specs.bcder_values.Plains.{plain_spelled, plain_one}
+use Rattle.resources_as_block.specs.bcder_values.Wraps.{wrapped_spelled, wrapped_one}
+use Rattle.resources_as_block.specs.resources_chain.Sets.{Run}
 
 -- id ASId.
 abbrev pub AreAsId : ℕ → Trees → Type 0

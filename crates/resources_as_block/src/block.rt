@@ -8,8 +8,8 @@ ghost use Rattle.std.specs.Range.{range_inclusive_start, range_inclusive_end};
 ghost use Rattle.resources_as_block.specs.Blocks.{as_run, run_text, HasOneForm};
 
 use crate::range::{AsRange, predecessor, successor};
+use crate::resources_chain::Block;
 use resources_asn::Asn;
-use resources_chain::Block;
 use std::fmt;
 use std::ops::RangeInclusive;
 
@@ -27,6 +27,7 @@ impl AsBlock {
     pub fn all() -> Self
         ensures first { (as_run result).first ≡ 0 }
         ensures last { (as_run result).last ≡ 4294967295 }
+        ensures form { HasOneForm result }
     {
         AsBlock::Range(AsRange::all())
     }
@@ -119,6 +120,7 @@ impl Block for AsBlock {
         requires { (range_inclusive_start bounds).value ≤ (range_inclusive_end bounds).value }
         ensures first { (as_run result).first ≡ (range_inclusive_start bounds).value }
         ensures last { (as_run result).last ≡ (range_inclusive_end bounds).value }
+        ensures form { HasOneForm result }
     {
         let (min, max) = bounds.into_inner();
         AsBlock::between(min, max)

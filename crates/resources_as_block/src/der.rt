@@ -1,19 +1,18 @@
 //! Blocks of AS numbers that are read from an encoding (RFC 3779 section 3.2.3.5).
 
 ghost use Rattle.std.specs.Prelude.{◌≡◌, ◌≢◌, true, IfErr, OnErr};
-ghost use Rattle.bcder_tree.specs.Tags.{universal};
-ghost use Rattle.bcder_source.specs.declared.error.DecodeError.TheVariants.{Memory};
-ghost use Rattle.bcder_content.specs.Exact.{ReadsOptAs, ReadsAllAs};
-ghost use Rattle.bcder_content.specs.Here.{here};
-ghost use Rattle.bcder_content.specs.Perhaps.{ReadsIfAs};
+ghost use Rattle.resources_as_block.specs.bcder_tree.Tags.{universal};
+ghost use Rattle.resources_as_block.specs.bcder_source.declared.error.DecodeError.TheVariants.{Memory};
+ghost use Rattle.resources_as_block.specs.bcder_content.Exact.{ReadsOptAs, ReadsAllAs};
+ghost use Rattle.resources_as_block.specs.bcder_content.Here.{here};
+ghost use Rattle.resources_as_block.specs.bcder_content.Perhaps.{ReadsIfAs};
 ghost use Rattle.resources_as_block.specs.Blocks.{as_run};
 ghost use Rattle.resources_as_block.specs.Encodings.{AreEnds, AreOrdered, IsAsBlock, IsAsRange, IsAnyAsBlock};
 ghost use Rattle.resources_as_block.specs.Reading.{bounds_ends, range_ends};
 
+use crate::bcder::decode::{Constructed, ContentError, DecodeError, Source};
 use crate::block::AsBlock;
 use crate::range::AsRange;
-use bcder_content::Constructed;
-use bcder_source::{ContentError, DecodeError, Source};
 use resources_asn::Asn;
 
 // The two numbers of a range, in any order.

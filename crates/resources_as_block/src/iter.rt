@@ -72,7 +72,7 @@ pub struct AsBlocksIter<'a> {
 
 impl<'a> Model for AsBlocksIter<'a> {
     ghost use Rattle.std.specs.Prelude.{List, map};
-    ghost use Rattle.resources_chain.specs.Sets.{Run};
+    ghost use Rattle.resources_as_block.specs.resources_chain.Sets.{Run};
     ghost use Rattle.resources_as_block.specs.Blocks.{as_run};
 
     ghost Value = { List Run };

@@ -1,7 +1,7 @@
 //! Laws of sets of AS numbers: the contracts of functions that do nothing.
 
 ghost use Rattle.std.specs.Prelude.{◌≡◌, ℕ, List, length};
-ghost use Rattle.resources_chain.specs.Sets.{Run, InRuns, AreMaximal};
+ghost use Rattle.resources_as_block.specs.resources_chain.Sets.{Run, InRuns, AreMaximal};
 ghost use Rattle.resources_asn.specs.Listed.{IsListOf};
 ghost use Rattle.resources_as_block.specs.Counted.{runs_count, runs_numbers};
 

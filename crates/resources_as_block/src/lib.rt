@@ -14,3 +14,5 @@ pub use block::AsBlock;
 pub use error::FromStrError;
 pub use iter::{AsBlockIter, AsBlocksIter, AsnIter};
 pub use range::AsRange;
+pub use resources_asn;
+pub use resources_asn::{bcder, resources_addr, resources_chain};

@@ -1,9 +1,9 @@
 -- AS numbers in an encoding (RFC 3779 3.2.3.10).
 use Rattle.std.specs.Prelude.{ℕ, ◌^◌}
-use Rattle.bcder_tree.specs.Tags.{universal}
-use Rattle.bcder_tree.specs.Tree.{Tree}
-use Rattle.bcder_primitive.specs.Values.{IsUnsigned}
-use Rattle.bcder_content.specs.Grammar.{OctetsOf, As}
+use Rattle.resources_asn.specs.bcder_tree.Tags.{universal}
+use Rattle.resources_asn.specs.bcder_tree.Tree.{Tree}
+use Rattle.resources_asn.specs.bcder_primitive.Values.{IsUnsigned}
+use Rattle.resources_asn.specs.bcder_content.Grammar.{OctetsOf, As}
 
 -- ASId ::= INTEGER, of 32 bits (3.2.3.10).
 abbrev pub IsAsId : Tree → ℕ → Type 0

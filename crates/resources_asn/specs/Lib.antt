@@ -4,3 +4,12 @@ pub mod Chosen
 pub mod Texts
 pub mod Encodings
 pub mod Origins
+-- What stands below, for the crates above.
+pub use Rattle.bcder.specs.bcder_content as bcder_content
+pub use Rattle.bcder.specs.bcder_primitive as bcder_primitive
+pub use Rattle.bcder.specs.bcder_source as bcder_source
+pub use Rattle.bcder.specs.bcder_tree as bcder_tree
+pub use Rattle.bcder.specs.bcder_values as bcder_values
+pub use Rattle.bcder.specs.bcder_written as bcder_written
+pub use Rattle.resources_addr.specs as resources_addr
+pub use Rattle.resources_chain.specs as resources_chain

@@ -2,18 +2,17 @@
 
 ghost use Rattle.std.proofs.Common.{rules};
 ghost use Rattle.std.specs.Prelude.{◌≡◌, ◌≢◌, ◌^◌, true, IfErr, OnErr};
-ghost use Rattle.bcder_tree.specs.Tags.{universal};
-ghost use Rattle.bcder_source.specs.declared.error.DecodeError.TheVariants.{Memory};
-ghost use Rattle.bcder_content.specs.Exact.{ReadsAs, ReadsOptAs};
-ghost use Rattle.bcder_content.specs.Here.{here};
-ghost use Rattle.bcder_written.specs.Integers.{WritesUnsigned, one_unsigned};
+ghost use Rattle.resources_asn.specs.bcder_tree.Tags.{universal};
+ghost use Rattle.resources_asn.specs.bcder_source.declared.error.DecodeError.TheVariants.{Memory};
+ghost use Rattle.resources_asn.specs.bcder_content.Exact.{ReadsAs, ReadsOptAs};
+ghost use Rattle.resources_asn.specs.bcder_content.Here.{here};
+ghost use Rattle.resources_asn.specs.bcder_written.Integers.{WritesUnsigned, one_unsigned};
 ghost use Rattle.resources_asn.specs.Encodings.{IsAsId, IsAnyAsId};
 
 use crate::asn::Asn;
-use bcder_content::Constructed;
-use bcder_source::{DecodeError, Source};
-use bcder_tree::{Mode, Tag};
-use bcder_values::{EncodeError, PrimitiveContent};
+use bcder::decode::{Constructed, DecodeError, Source};
+use bcder::encode::{EncodeError, PrimitiveContent};
+use bcder::{Mode, Tag};
 use std::io::Write;
 
 /// Reading. A number over 32 bits is refused.

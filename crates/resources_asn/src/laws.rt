@@ -6,6 +6,16 @@ ghost use Rattle.std.specs.declared.cmp.Ordering.TheVariants.{Equal};
 ghost use Rattle.resources_asn.specs.Listed.{InList, IsAscending};
 ghost use Rattle.resources_asn.specs.Origins.{OriginValue, origin_cmp};
 
+use crate::asn::Asn;
+
+/// The smallest AS number and the largest, `Asn::MIN` and `Asn::MAX`: of 32 bits (RFC 6793 section 3).
+pub fn least_and_greatest() -> (Asn, Asn)
+    ensures least { result.0.value ≡ 0 }
+    ensures greatest { result.1.value ≡ 4294967295 }
+{
+    (Asn::MIN, Asn::MAX)
+}
+
 /// A set has one list.
 pub fn one_list_of_a_set()
     ensures { (xs ys : List ℕ) → IsAscending xs → IsAscending ys → ((n : ℕ) → InList xs n ↔ InList ys n) → xs ≡ ys }

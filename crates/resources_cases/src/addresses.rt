@@ -2,11 +2,11 @@
 
 use crate::claims::{Question, policy};
 use anyhow::{Result, anyhow};
-use resources_chain::{ClaimError, Overclaim};
-use resources_ip::{
-    AddressRange, IpBlock, IpBlocks, IpBlocksForFamily, IpResources, OverclaimedIpResources,
+use resources::ipres::{
+    AddressRange, IpBlock, IpBlocks, IpBlocksForFamily, IpResources, Ipv4Blocks, Ipv6Blocks,
+    OverclaimedIpResources,
 };
-use resources_ip_family::{Ipv4Blocks, Ipv6Blocks};
+use resources::overclaim::{ClaimError, Overclaim};
 use std::alloc::Global;
 
 /// What a claim comes to.

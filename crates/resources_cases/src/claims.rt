@@ -1,6 +1,6 @@
 //! What a line asks.
 
-use resources_chain::Overclaim;
+use resources::overclaim::Overclaim;
 
 /// A question about sets, or about what a path of claims holds.
 #[derive(Clone, Copy, Debug, PartialEq, Eq)]

@@ -1,11 +1,11 @@
 //! Questions about IP resources of both families, as an encoding has them.
 
+use crate::bcder::Mode;
+use crate::bcder::decode::{Decode, DecodeError};
+use crate::bcder::encode::Values;
 use crate::claims::Question;
 use anyhow::{Result, anyhow};
-use bcder_content::Decode;
-use bcder_source::{DecodeError, Mode};
-use bcder_values::Values;
-use resources_ip::{AddressFamily, IpBlocks, IpBlocksForFamily, IpResources};
+use resources::ipres::{AddressFamily, IpBlocks, IpBlocksForFamily, IpResources};
 use std::alloc::Global;
 
 // What is said of a family.

@@ -1,12 +1,13 @@
 //! Questions about AS numbers.
 
+use crate::bcder::Mode;
+use crate::bcder::decode::{Decode, DecodeError};
+use crate::bcder::encode::Values;
 use crate::claims::{Question, policy};
+use crate::resources_as::AsBlock;
 use anyhow::{Result, anyhow};
-use bcder_content::Decode;
-use bcder_source::{DecodeError, Mode};
-use bcder_values::Values;
-use resources_as::{AsBlock, AsBlocks, AsResources, OverclaimedAsResources};
-use resources_chain::{ClaimError, Overclaim};
+use resources::asres::{AsBlocks, AsResources, OverclaimedAsResources};
+use resources::overclaim::{ClaimError, Overclaim};
 use std::alloc::Global;
 
 /// What a claim comes to.

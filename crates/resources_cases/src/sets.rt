@@ -1,15 +1,15 @@
 //! Questions about sets of all three kinds, and about the identifiers of policies.
 
 ghost use Rattle.std.specs.Prelude.{IfOk};
-ghost use Rattle.resources_set.specs.Resources.{ListsWhole};
+ghost use Rattle.resources_cases.specs.resources_set.Resources.{ListsWhole};
 
 use crate::claims::{Question, policy};
+use crate::resources_policy::Overclaim;
 use anyhow::{Result, anyhow};
-use resources_as::AsResources;
-use resources_ip::IpResources;
-use resources_ip_family::{Ipv4Blocks, Ipv6Blocks};
-use resources_policy::{Overclaim, OverclaimIds};
-use resources_set::ResourceSet;
+use resources::asres::AsResources;
+use resources::ipres::{IpResources, Ipv4Blocks, Ipv6Blocks};
+use resources::overclaim::OverclaimIds;
+use resources::set::ResourceSet;
 use std::alloc::Global;
 
 // The set of three texts.

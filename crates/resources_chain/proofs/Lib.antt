@@ -5,3 +5,4 @@ pub mod WalkLemmas
 pub mod SortLemmas
 pub mod ClaimLemmas
 pub mod PlaceLemmas
+pub mod CutLemmas

@@ -171,14 +171,14 @@ pub reached_first : (rs : List Run) (n size k : ℕ) → size ≡ length rs → 
 reached_first rs n size k e h r = first_reached n rs k (omega arith) (equal_reaches n rs k r).0
 
 -- Where no place is the first that reaches the number, all end before it.
-none_reaches : (rs : List Run) (n size k : ℕ) → size ≡ length rs → ((j : ℕ) → j < size → reach n rs j ≢ Equal) → k < size → (run_at rs k).last < n
-none_reaches rs n size zero e none h =
+none_reaches : (rs : List Run) (n size k : ℕ) → ((j : ℕ) → j < size → reach n rs j ≢ Equal) → k < size → (run_at rs k).last < n
+none_reaches rs n size zero none h =
     elim (le_or_lt n (run_at rs 0).last) [
       | inl past ↦ absurd (none 0 h (reach_equal n rs 0 past (inl refl)))
       | inr before ↦ before
     ]
-none_reaches rs n size (suc k) e none h =
-    let before_it = none_reaches rs n size k e none (omega arith) in
+none_reaches rs n size (suc k) none h =
+    let before_it = none_reaches rs n size k none (omega arith) in
     elim (le_or_lt n (run_at rs (suc k)).last) [
       | inl past ↦ absurd (none (suc k) h (reach_equal n rs (suc k) past (inr (let e : suc k - 1 ≡ k = omega arith in subst (λ (j : ℕ). (run_at rs j).last < n) (sym e) before_it))))
       | inr before ↦ before
@@ -187,11 +187,32 @@ none_reaches rs n size (suc k) e none h =
 pub none_same : (rs : List Run) (n size : ℕ) → AreMaximal rs → size ≡ length rs → ((j : ℕ) → j < size → reach n rs j ≢ Equal) → SameFrom n rs []
 none_same rs n size m e none =
     subst (λ (s : List Run). SameFrom n rs s) (drop-length rs)
-    (left_out rs (length rs) (same_itself n rs m) (λ j l h. none_reaches rs n size j e none (omega arith)))
+    (left_out rs (length rs) (same_itself n rs m) (λ j l h. none_reaches rs n size j none (omega arith)))
+
+-- The first places are in order, and where none of them is the first that reaches the number, though the last of them
+-- reaches it or is the last of all, no place is.
+pub near_ordered : (rs : List Run) (n near : ℕ) → AreMaximal rs → near ≤ length rs → IsOrdered near (reach n rs)
+near_ordered rs n near m w i j l h = reaching_ordered rs n (length rs) m refl i j l (omega arith)
+
+pub none_near : (rs : List Run) (n near : ℕ) → AreMaximal rs → (near ≡ length rs) ⊎ ((k : ℕ) × (near ≡ k + 1) × (n ≤ (run_at rs k).last)) → ((j : ℕ) → j < near → reach n rs j ≢ Equal) → SameFrom n rs []
+none_near rs n near m (inl all) none = none_same rs n near m all none
+none_near rs n near m (inr (k, e, past)) none = absurd (let before = none_reaches rs n near k none (omega arith) in omega arith)
 
 -- The runs of the elements from a place on.
 pub rest_runs : {A : Type 0} (f : A → Run) (xs : List A) (k : ℕ) → map f (take (length xs - k) (drop k xs)) ≡ drop k (map f xs)
 rest_runs f xs k = ap (map f) (ap (λ (j : ℕ). take j (drop k xs)) (sym (length-drop k xs)) ∙ take-length (drop k xs)) ∙ sym (drop-map f k xs)
+
+-- The runs up to one that ends before the number are left out.
+pub leapt : {A : Type 0} (f : A → Run) (xs : List A) {old : List Run} (n k : ℕ) → SameFrom n old (map f xs) → k < length xs → (run_at (map f xs) k).last < n → SameFrom n old (map f (take (length xs - (k + 1)) (drop (k + 1) xs)))
+leapt f xs {old} n k s h l =
+    let size : length (map f xs) ≡ length xs = length-map xs f in
+    subst (λ (rs : List Run). SameFrom n old rs) (sym (rest_runs f xs (k + 1)))
+    (left_out (map f xs) (k + 1) s (λ j w v. let up = ends_at (map f xs) j k s.maximal (omega arith) (omega arith) in omega arith))
+
+pub leapt_fewer : {A : Type 0} (xs : List A) (k most : ℕ) → length xs ≤ most → length (take (length xs - (k + 1)) (drop (k + 1) xs)) ≤ most
+leapt_fewer xs k most h =
+    let e : take (length xs - (k + 1)) (drop (k + 1) xs) ≡ drop (k + 1) xs = ap (λ (j : ℕ). take j (drop (k + 1) xs)) (sym (length-drop (k + 1) xs)) ∙ take-length (drop (k + 1) xs) in
+    omega (arith, ap length e, length-drop (k + 1) xs)
 
 -- Looking around has found what it says.
 pub around_told : {A : Type 0} (f : A → Run) (xs : List A) (n : ℕ) (o : Option ℕ) → MatchOption o ((k : ℕ) → k < length xs → stand n (run_at (map f xs) k) ≢ Equal) (λ k. (k < length xs) × (stand n (run_at (map f xs) k) ≡ Equal))

@@ -1,6 +1,6 @@
 -- What certificates claim of one kind of numbers, and what they hold by it (RFC 6487 7.2, RFC 8360 4.2).
 use Rattle.std.specs.Prelude.{◌≡◌, ℕ, List, [], ◌∷◌, ◌++◌, map}
-use Rattle.resources_chain.specs.Sets.{Run, InRuns, IsRunsOf}
+use Rattle.resources_chain.specs.Sets.{Run, InRuns, AreMaximal, IsRunsOf}
 use Rattle.resources_chain.specs.declared.choice.ResourcesChoice.{ResourcesChoice}
 use Rattle.resources_chain.specs.declared.choice.ResourcesChoice.TheVariants.{Missing, Inherit, Blocks}
 use Rattle.resources_chain.specs.declared.claims.Overclaim.{Overclaim}
@@ -17,6 +17,12 @@ abbrev pub Lists : Choice → ℕ → Type 0
 Lists Missing n = ⊥
 Lists Inherit n = ⊥
 Lists (Blocks runs) n = InRuns runs n
+
+-- The set that is listed, if there is one, is so by its maximal runs.
+abbrev pub HasMaximal : Choice → Type 0
+HasMaximal Missing = Unit {0}
+HasMaximal Inherit = Unit {0}
+HasMaximal (Blocks runs) = AreMaximal runs
 
 -- The choice lists the number, or inherits.
 abbrev pub Keeps : Choice → ℕ → Type 0

@@ -8,3 +8,4 @@ pub mod Claims
 pub mod Kinds
 pub mod Places
 pub mod Rows
+pub mod Lists

@@ -316,6 +316,13 @@ impl<B: Block> SharedChain<B> {
         SharedChain::from_owned(alloc, OwnedChain::from_iter(alloc, blocks)?)
     }
 
+    /// The blocks are in order, and none of them overlap or touch. This is a law about the chain: nothing is done.
+    pub fn runs_are_maximal(&self)
+        ensures { AreMaximal self.now }
+    {
+        let _ = &self.chain;
+    }
+
     /// The chain, borrowed.
     pub fn as_chain(&self) -> Chain<'_, B>
         ensures runs { result ≡ self.now }

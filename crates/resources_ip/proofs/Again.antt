@@ -1,15 +1,15 @@
 -- What is written of IP resources is read again as the same.
 use Rattle.std.proofs.Common.{◌≢◌, List, [], ◌∷◌, inl, inr, refl, ap, ◌∙◌}
-use Rattle.bcder_tree.specs.declared.mode.Mode.{Mode}
-use Rattle.bcder_tree.specs.Tags.{universal}
-use Rattle.bcder_tree.specs.Tree.{Trees, primitive, constructed}
-use Rattle.bcder_content.specs.Grammar.{ManyCases}
-use Rattle.bcder_written.specs.Encoded.{joined}
-use Rattle.resources_chain.specs.Claims.{Choice}
-use Rattle.resources_chain.specs.Sets.{Run, AreMaximal}
-use Rattle.resources_chain.specs.declared.choice.ResourcesChoice.TheVariants.{Missing, Inherit, Blocks}
-use Rattle.resources_ip_prefix.specs.declared.addr.AddressFamily.{AddressFamily}
-use Rattle.resources_ip_prefix.specs.declared.addr.AddressFamily.TheVariants.{Ipv4, Ipv6}
+use Rattle.resources_ip.specs.bcder_tree.declared.mode.Mode.{Mode}
+use Rattle.resources_ip.specs.bcder_tree.Tags.{universal}
+use Rattle.resources_ip.specs.bcder_tree.Tree.{Trees, primitive, constructed}
+use Rattle.resources_ip.specs.bcder_content.Grammar.{ManyCases}
+use Rattle.resources_ip.specs.bcder_written.Encoded.{joined}
+use Rattle.resources_ip.specs.resources_chain.Claims.{Choice}
+use Rattle.resources_ip.specs.resources_chain.Sets.{Run, AreMaximal}
+use Rattle.resources_ip.specs.resources_chain.declared.choice.ResourcesChoice.TheVariants.{Missing, Inherit, Blocks}
+use Rattle.resources_ip.specs.resources_ip_prefix.declared.addr.AddressFamily.{AddressFamily}
+use Rattle.resources_ip.specs.resources_ip_prefix.declared.addr.AddressFamily.TheVariants.{Ipv4, Ipv6}
 use Rattle.resources_ip_block.specs.BlockEncodings.{IsBlock}
 use Rattle.resources_ip_block.specs.Written.{FitsRun}
 use Rattle.resources_ip_block.proofs.Again.{block_again}

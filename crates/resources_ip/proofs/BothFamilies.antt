@@ -1,18 +1,18 @@
 -- What is written of both families: by the encoders of their parts, and read again as the same.
 use Rattle.std.proofs.Common.{◌≡◌, ◌≢◌, ℕ, Bool, true, List, [], ◌∷◌, refl, sym, ap, ◌∙◌, subst}
-use Rattle.bcder_tree.specs.declared.mode.Mode.{Mode}
-use Rattle.bcder_tree.specs.Strings.{octet_string_tag}
-use Rattle.bcder_tree.specs.Tags.{TagValue, universal}
-use Rattle.bcder_tree.specs.Tree.{Tree, Trees, constructed, none, more}
-use Rattle.bcder_content.specs.Grammar.{ManyCases}
-use Rattle.bcder_octets.proofs.Written.{written_string}
-use Rattle.bcder_octets.specs.Segments.{StringTrees, WritesString}
-use Rattle.bcder_written.specs.Encoded.{AreBoth, IsWrapped, WritesBoth, WritesWrapped, joined}
-use Rattle.resources_chain.specs.Claims.{Choice}
-use Rattle.resources_chain.specs.declared.choice.ResourcesChoice.TheVariants.{Missing, Inherit, Blocks}
-use Rattle.resources_ip_prefix.specs.declared.addr.AddressFamily.{AddressFamily}
-use Rattle.resources_ip_prefix.specs.declared.addr.AddressFamily.TheVariants.{Ipv4, Ipv6}
-use Rattle.resources_ip_prefix.specs.Encodings.{family_octets}
+use Rattle.resources_ip.specs.bcder_tree.declared.mode.Mode.{Mode}
+use Rattle.resources_ip.specs.bcder_tree.Strings.{octet_string_tag}
+use Rattle.resources_ip.specs.bcder_tree.Tags.{TagValue, universal}
+use Rattle.resources_ip.specs.bcder_tree.Tree.{Tree, Trees, constructed, none, more}
+use Rattle.resources_ip.specs.bcder_content.Grammar.{ManyCases}
+use Rattle.resources_ip.proofs.of_bcder_octets.Written.{written_string}
+use Rattle.resources_ip.specs.bcder_octets.Segments.{StringTrees, WritesString}
+use Rattle.resources_ip.specs.bcder_written.Encoded.{AreBoth, IsWrapped, WritesBoth, WritesWrapped, joined}
+use Rattle.resources_ip.specs.resources_chain.Claims.{Choice}
+use Rattle.resources_ip.specs.resources_chain.declared.choice.ResourcesChoice.TheVariants.{Missing, Inherit, Blocks}
+use Rattle.resources_ip.specs.resources_ip_prefix.declared.addr.AddressFamily.{AddressFamily}
+use Rattle.resources_ip.specs.resources_ip_prefix.declared.addr.AddressFamily.TheVariants.{Ipv4, Ipv6}
+use Rattle.resources_ip.specs.resources_ip_prefix.Encodings.{family_octets}
 use Rattle.resources_ip.specs.Encodings.{EachOnce, FamilyChoice, FamilyChoices, IsIpFamily, choices_of}
 use Rattle.resources_ip.specs.Written.{AreIpResources, FitsChoice, WritesIpResources}
 use Rattle.resources_ip.specs.WrittenFamilies.{FamiliesTrees, FamilyTrees, ReadsFamilies, TextIf, TreesIf, WritesFamilies, WritesFamily, both, is_said, says_any}

@@ -1,18 +1,26 @@
 -- What is read of families fits them, and says something of one at least.
-use Rattle.std.proofs.Common.{◌≡◌, ◌≢◌, List, [], ◌∷◌, inl, inr, if◌then◌else◌, refl, sym, ◌∙◌, subst}
-use Rattle.bcder_tree.specs.declared.mode.Mode.{Mode}
-use Rattle.bcder_tree.specs.Tree.{Tree, Trees}
-use Rattle.bcder_content.specs.Grammar.{ManyCases}
-use Rattle.resources_chain.specs.Claims.{Choice}
-use Rattle.resources_chain.specs.Sets.{Run}
-use Rattle.resources_chain.specs.declared.choice.ResourcesChoice.TheVariants.{Missing, Inherit, Blocks}
-use Rattle.resources_ip_prefix.specs.declared.addr.AddressFamily.{AddressFamily}
-use Rattle.resources_ip_prefix.specs.declared.addr.AddressFamily.TheVariants.{Ipv4, Ipv6}
+use Rattle.std.proofs.Common.{◌≡◌, ◌≢◌, List, [], ◌∷◌, Result, Ok, Err, inl, inr, if◌then◌else◌, refl, sym, ◌∙◌, subst}
+use Rattle.std.specs.Prelude.{IfOk}
+use Rattle.resources_ip.specs.bcder_tree.declared.mode.Mode.{Mode}
+use Rattle.resources_ip.specs.bcder_tree.Tree.{Tree, Trees}
+use Rattle.resources_ip.specs.bcder_source.declared.error.DecodeError.{DecodeError}
+use Rattle.resources_ip.specs.bcder_content.Contents.{ValuesLeft}
+use Rattle.resources_ip.specs.bcder_content.Exact.{ReadsAs}
+use Rattle.resources_ip.specs.bcder_content.Grammar.{ManyCases}
+use Rattle.resources_ip.specs.resources_chain.Claims.{Choice, HasMaximal}
+use Rattle.resources_ip.specs.resources_chain.Choices.{listed, IsChoiceOf}
+use Rattle.resources_ip.specs.resources_chain.Sets.{Run}
+use Rattle.resources_ip.specs.resources_chain.declared.choice.ResourcesChoice.TheVariants.{Missing, Inherit, Blocks}
+use Rattle.resources_ip.specs.resources_ip_prefix.declared.addr.AddressFamily.{AddressFamily}
+use Rattle.resources_ip.specs.resources_ip_prefix.declared.addr.AddressFamily.TheVariants.{Ipv4, Ipv6}
 use Rattle.resources_ip_block.specs.BlockEncodings.{IsBlock}
 use Rattle.resources_ip_block.proofs.WholeBlocks.{v4_block}
 use Rattle.resources_ip.specs.Encodings.{FamilyChoice, FamilyChoices, IsBlockList, IsIpAddrBlocks, IsIpChoice, IsIpFamily, choice_of, choices_of, is_same}
-use Rattle.resources_ip.specs.WholeSets.{AreWhole}
+use Rattle.resources_ip.specs.Reading.{family_choices}
+use Rattle.resources_ip.specs.WholeSets.{AreWhole, ListsWhole}
 use Rattle.resources_ip.specs.Written.{FitsChoice, FitsSet}
+use Rattle.resources_ip.specs.declared.resources.IpFamilies.{IpFamilies}
+use Rattle.resources_ip.proofs.WideSets.{fits_whole}
 use Rattle.resources_ip.proofs.WholeLemmas.{whole_run, whole_set}
 
 -- A list and a choice fit their family.
@@ -74,3 +82,45 @@ families_fit m t x p =
     let list = p.is in
     let fit : Fit (choices_of list.families) = (each_fits m p.values list.families list.are.cases Ipv4, each_fits m p.values list.families list.are.cases Ipv6, any_said m p.values list.families list.are.cases list.some) in
     subst Fit (sym list.says) fit
+
+-- A choice by maximal runs fits IPv6, and IPv4 where it lists whole addresses.
+pub fits_v6 : (choice : Choice) → HasMaximal choice → FitsChoice Ipv6 choice
+fits_v6 Missing p = tt
+fits_v6 Inherit p = tt
+fits_v6 (Blocks runs) p = p
+
+pub fits_v4 : (choice : Choice) → HasMaximal choice → ListsWhole choice → FitsChoice Ipv4 choice
+fits_v4 Missing p w = tt
+fits_v4 Inherit p w = tt
+fits_v4 (Blocks runs) p w = (p, w)
+
+-- So does what is made of blocks that came, where they are over whole addresses.
+pub chosen_fits : (came made : Choice) → IsChoiceOf came made → AreWhole (listed came) → FitsChoice Ipv4 made
+chosen_fits Missing made e w = subst (λ (c : Choice). FitsChoice Ipv4 c) (sym e) tt
+chosen_fits Inherit made e w = subst (λ (c : Choice). FitsChoice Ipv4 c) (sym e) tt
+chosen_fits (Blocks runs) made (set, e, is) w = subst (λ (c : Choice). FitsChoice Ipv4 c) (sym e) (is.maximal, whole_set runs set w is)
+
+-- What a reader gives fits what it was read as.
+pub given_list : {E : Type 0} (m : Mode) (family : AddressFamily) (v w : ValuesLeft) (r : Result (List Run) (DecodeError E)) → ReadsAs (λ b. b) (IsBlockList m family) v r w → IfOk r (FitsSet family)
+given_list m family v w (Ok runs) g = list_fits m family g.tree runs g.is
+given_list m family v w (Err e) g = tt
+
+pub given_choice : {E : Type 0} (m : Mode) (family : AddressFamily) (v w : ValuesLeft) (r : Result Choice (DecodeError E)) → ReadsAs (λ r. r) (IsIpChoice m family) v r w → IfOk r (FitsChoice family)
+given_choice m family v w (Ok choice) g = choice_fits m family g.tree choice g.is
+given_choice m family v w (Err e) g = tt
+
+pub given_v4 : {E : Type 0} (m : Mode) (v w : ValuesLeft) (r : Result IpFamilies (DecodeError E)) → ReadsAs family_choices (IsIpAddrBlocks m) v r w → IfOk r (λ x. FitsChoice Ipv4 x.v4)
+given_v4 m v w (Ok x) g = (families_fit m g.tree (family_choices x) g.is).0
+given_v4 m v w (Err e) g = tt
+
+pub given_v6 : {E : Type 0} (m : Mode) (v w : ValuesLeft) (r : Result IpFamilies (DecodeError E)) → ReadsAs family_choices (IsIpAddrBlocks m) v r w → IfOk r (λ x. FitsChoice Ipv6 x.v6)
+given_v6 m v w (Ok x) g = (families_fit m g.tree (family_choices x) g.is).1
+given_v6 m v w (Err e) g = tt
+
+-- And where it is IPv4, it lists whole addresses.
+pub given_whole_v4 : {E : Type 0} (r : Result IpFamilies E) → IfOk r (λ x. FitsChoice Ipv4 x.v4) → IfOk r (λ x. ListsWhole x.v4)
+given_whole_v4 (Ok x) f = fits_whole x.v4 f
+given_whole_v4 (Err e) f = tt
+
+pub whole_if : (family : AddressFamily) (choice : Choice) → FitsChoice family choice → family ≡ Ipv4 → ListsWhole choice
+whole_if family choice f e = fits_whole choice (subst (λ (x : AddressFamily). FitsChoice x choice) e f)

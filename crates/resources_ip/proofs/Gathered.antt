@@ -1,20 +1,20 @@
 -- What reading blocks and choices rests on.
 use Rattle.std.proofs.Common.{◌≡◌, ℕ, List, [], ◌∷◌, ◌++◌, Result, refl, ap, ◌∙◌, subst, arith}
 use Rattle.std.specs.Result.{IsErr, IsErrAnd}
-use Rattle.bcder_tree.specs.declared.mode.Mode.{Mode}
-use Rattle.bcder_tree.specs.Tags.{TagValue, universal}
-use Rattle.bcder_source.specs.Errors.{OnContent}
-use Rattle.bcder_source.specs.declared.error.DecodeError.{DecodeError}
-use Rattle.bcder_content.specs.Contents.{ValuesLeft, Ended}
-use Rattle.bcder_content.specs.Exact.{Gives, Lacks, LacksAll, GivesAll, ReadsAllAs}
-use Rattle.bcder_content.specs.Grammar.{As, Many, Tagged}
-use Rattle.bcder_content.specs.Perhaps.{NoneNext}
-use Rattle.bcder_content.proofs.Forests.{Listing, begin, list_begin, list_next, list_stop_next}
-use Rattle.bcder_content.proofs.Perhaps.{list_done}
-use Rattle.bcder_content.proofs.Within.{AllWithin, all_gives, all_stop}
-use Rattle.bcder_content.proofs.Unique.{as_tagged, inside_tagged, octets_tagged}
-use Rattle.resources_chain.specs.Sets.{Run, InRuns, IsRunsOf}
-use Rattle.resources_ip_prefix.specs.declared.addr.AddressFamily.{AddressFamily}
+use Rattle.resources_ip.specs.bcder_tree.declared.mode.Mode.{Mode}
+use Rattle.resources_ip.specs.bcder_tree.Tags.{TagValue, universal}
+use Rattle.resources_ip.specs.bcder_source.Errors.{OnContent}
+use Rattle.resources_ip.specs.bcder_source.declared.error.DecodeError.{DecodeError}
+use Rattle.resources_ip.specs.bcder_content.Contents.{ValuesLeft, Ended}
+use Rattle.resources_ip.specs.bcder_content.Exact.{Gives, Lacks, LacksAll, GivesAll, ReadsAllAs}
+use Rattle.resources_ip.specs.bcder_content.Grammar.{As, Many, Tagged}
+use Rattle.resources_ip.specs.bcder_content.Perhaps.{NoneNext}
+use Rattle.resources_ip.proofs.of_bcder_content.Forests.{Listing, begin, list_begin, list_next, list_stop_next}
+use Rattle.resources_ip.proofs.of_bcder_content.Perhaps.{list_done}
+use Rattle.resources_ip.proofs.of_bcder_content.Within.{AllWithin, all_gives, all_stop}
+use Rattle.resources_ip.proofs.of_bcder_content.Unique.{as_tagged, inside_tagged, octets_tagged}
+use Rattle.resources_ip.specs.resources_chain.Sets.{Run, InRuns, IsRunsOf}
+use Rattle.resources_ip.specs.resources_ip_prefix.declared.addr.AddressFamily.{AddressFamily}
 use Rattle.resources_ip_block.specs.BlockEncodings.{IsBlock}
 use Rattle.resources_ip.specs.Encodings.{AreBlocks, Inherits, IsBlockList, lists}
 

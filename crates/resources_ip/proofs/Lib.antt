@@ -1,3 +1,4 @@
+pub mod Cut
 pub mod WholeLemmas
 pub mod Gathered
 pub mod Mentioned
@@ -7,3 +8,7 @@ pub mod Writing
 pub mod BothFamilies
 pub mod Fitting
 pub mod WideSets
+pub mod of_bcder_content
+pub mod of_bcder_octets
+pub mod of_resources_chain
+pub mod of_resources_ip_block

@@ -1,26 +1,26 @@
 -- What reading families rests on: their fields, and that each is mentioned once.
 use Rattle.std.proofs.Common.{◌≡◌, ◌≢◌, List, [], ◌∷◌, Option, Some, None, Result, Ok, Err, refl, sym, ◌∙◌, subst}
 use Rattle.std.specs.Result.{IsErr, IsErrAnd}
-use Rattle.bcder_tree.specs.declared.mode.Mode.{Mode}
-use Rattle.bcder_tree.specs.Tags.{universal}
-use Rattle.bcder_tree.specs.Tree.{Tree, Trees, none, more}
-use Rattle.bcder_tree.specs.Strings.{octet_string_tag}
-use Rattle.bcder_source.specs.Errors.{OnContent}
-use Rattle.bcder_source.specs.declared.error.DecodeError.{DecodeError}
-use Rattle.bcder_content.specs.Contents.{ValuesLeft, Whole}
-use Rattle.bcder_content.specs.Exact.{Gives, Lacks, LacksAll, GivesAll, ReadsAllAs}
-use Rattle.bcder_content.specs.Grammar.{End, ManyCases, Then, Without, One, Tagged}
-use Rattle.bcder_content.proofs.Forests.{begin, next, done, first_lacks}
-use Rattle.bcder_content.proofs.Taking.{on_content, weaker}
-use Rattle.bcder_content.proofs.Took.{one_took, whole_first}
-use Rattle.bcder_content.proofs.Modes.{gives_in, lacks_in}
-use Rattle.bcder_content.proofs.Within.{AllWithin, all_gives, all_stop, all_unfit}
-use Rattle.bcder_content.proofs.Unique.{inside_tagged, same_trees, same_values}
-use Rattle.bcder_octets.proofs.Meaning.{one_string}
-use Rattle.resources_chain.specs.Claims.{Choice}
-use Rattle.resources_ip_prefix.specs.declared.addr.AddressFamily.{AddressFamily}
-use Rattle.resources_ip_prefix.specs.declared.addr.AddressFamily.TheVariants.{Ipv4, Ipv6}
-use Rattle.resources_ip_prefix.specs.Encodings.{IsFamily, family_octets}
+use Rattle.resources_ip.specs.bcder_tree.declared.mode.Mode.{Mode}
+use Rattle.resources_ip.specs.bcder_tree.Tags.{universal}
+use Rattle.resources_ip.specs.bcder_tree.Tree.{Tree, Trees, none, more}
+use Rattle.resources_ip.specs.bcder_tree.Strings.{octet_string_tag}
+use Rattle.resources_ip.specs.bcder_source.Errors.{OnContent}
+use Rattle.resources_ip.specs.bcder_source.declared.error.DecodeError.{DecodeError}
+use Rattle.resources_ip.specs.bcder_content.Contents.{ValuesLeft, Whole}
+use Rattle.resources_ip.specs.bcder_content.Exact.{Gives, Lacks, LacksAll, GivesAll, ReadsAllAs}
+use Rattle.resources_ip.specs.bcder_content.Grammar.{End, ManyCases, Then, Without, One, Tagged}
+use Rattle.resources_ip.proofs.of_bcder_content.Forests.{begin, next, done, first_lacks}
+use Rattle.resources_ip.proofs.of_bcder_content.Taking.{on_content, weaker}
+use Rattle.resources_ip.proofs.of_bcder_content.Took.{one_took, whole_first}
+use Rattle.resources_ip.proofs.of_bcder_content.Modes.{gives_in, lacks_in}
+use Rattle.resources_ip.proofs.of_bcder_content.Within.{AllWithin, all_gives, all_stop, all_unfit}
+use Rattle.resources_ip.proofs.of_bcder_content.Unique.{inside_tagged, same_trees, same_values}
+use Rattle.resources_ip.proofs.of_bcder_octets.Meaning.{one_string}
+use Rattle.resources_ip.specs.resources_chain.Claims.{Choice}
+use Rattle.resources_ip.specs.resources_ip_prefix.declared.addr.AddressFamily.{AddressFamily}
+use Rattle.resources_ip.specs.resources_ip_prefix.declared.addr.AddressFamily.TheVariants.{Ipv4, Ipv6}
+use Rattle.resources_ip.specs.resources_ip_prefix.Encodings.{IsFamily, family_octets}
 use Rattle.resources_ip.specs.Encodings.{AreFamilyFields, AreIpFamilies, EachOnce, FamilyChoice, FamilyChoices, IsIpChoice, IsIpFamily, choices_of}
 use Rattle.resources_ip.specs.Reading.{ArePair, PairFields, Repeats, all_of}
 

@@ -1,9 +1,11 @@
 -- Whole IPv4 addresses.
-use Rattle.std.proofs.Common.{◌≡◌, ℕ, ◌+◌, ◌-◌, ◌/◌, ◌%◌, ◌^◌, ◌↔◌, inl, inr, List, [], ◌∷◌, ◌++◌, sym, subst, arith}
+use Rattle.std.proofs.Common.{◌≡◌, ℕ, ◌+◌, ◌-◌, ◌/◌, ◌%◌, ◌^◌, ◌↔◌, inl, inr, List, [], ◌∷◌, ◌++◌, sym, subst, arith, le_refl}
 use Rattle.std.proofs.lemmas.Bool.Decides.{leb_tells}
-use Rattle.resources_chain.specs.Sets.{Run, InRun, InRuns, IsRunsOf, AreMaximal}
-use Rattle.resources_chain.proofs.SetLemmas.{in_append, past_gap}
-use Rattle.resources_ip_prefix.specs.Whole.{IsWhole}
+use Rattle.resources_ip.specs.resources_chain.Sets.{Run, InRun, InRuns, IsRunsOf, AreMaximal}
+use Rattle.resources_ip.proofs.of_resources_chain.SetLemmas.{in_append, past_gap}
+use Rattle.resources_ip.specs.resources_ip_prefix.Whole.{IsWhole}
+use Rattle.resources_ip_block.specs.declared.block.IpBlock.{IpBlock}
+use Rattle.resources_ip_block.specs.Block.{run_of_block, block_within}
 use Rattle.resources_ip.specs.WholeSets.{AreWhole}
 
 -- Whole runs have all numbers or none that begin with the same 32 bits.
@@ -20,6 +22,16 @@ whole_push runs r all one n m e h =
 
 pub whole_set : (runs set : List Run) → AreWhole runs → IsRunsOf (InRuns runs) set → AreWhole set
 whole_set runs set all is n m e h = (is.same m).1 (all n m e ((is.same n).0 h))
+
+pub whole_none : (set : List Run) → IsRunsOf (λ n. ⊥) set → AreWhole set
+whole_none set is n m e h = absurd ((is.same n).0 h)
+
+-- A block has addresses, and so has a set of it and others.
+pub some_pushed : (runs : List Run) (b : IpBlock) → (n : ℕ) × InRuns (runs ++ run_of_block b ∷ []) n
+some_pushed runs b = ((run_of_block b).first, (in_append runs (run_of_block b ∷ []) (run_of_block b).first).1 (inr (inl (le_refl _, (block_within b).0))))
+
+pub some_set : (runs set : List Run) → IsRunsOf (InRuns runs) set → (n : ℕ) × InRuns runs n → ((n : ℕ) → ¬ (InRuns set n)) → ⊥
+some_set runs set is some none = none some.0 ((is.same some.0).1 some.1)
 
 starts_whole : (r : Run) (runs : List Run) → AreMaximal (r ∷ runs) → AreWhole (r ∷ runs) → r.first % 2 ^ 96 ≡ 0
 starts_whole r runs maximal whole =

@@ -1,10 +1,10 @@
 -- Blocks that are written, by the runs of each.
 use Rattle.std.proofs.Common.{◌≡◌, ℕ, List, [], ◌∷◌, map, refl, ap, subst}
-use Rattle.bcder_tree.specs.declared.mode.Mode.{Mode}
-use Rattle.bcder_tree.specs.Tree.{Trees}
-use Rattle.bcder_written.specs.Encoded.{AreBoth, WritesBoth}
-use Rattle.bcder_values.specs.Lists.{AreAll, WritesAll}
-use Rattle.resources_chain.specs.Sets.{Run}
+use Rattle.resources_ip.specs.bcder_tree.declared.mode.Mode.{Mode}
+use Rattle.resources_ip.specs.bcder_tree.Tree.{Trees}
+use Rattle.resources_ip.specs.bcder_written.Encoded.{AreBoth, WritesBoth}
+use Rattle.resources_ip.specs.bcder_values.Lists.{AreAll, WritesAll}
+use Rattle.resources_ip.specs.resources_chain.Sets.{Run}
 use Rattle.resources_ip_block.specs.declared.block.IpBlock.{IpBlock}
 use Rattle.resources_ip_block.specs.Block.{run_of_block}
 use Rattle.resources_ip_block.specs.WrittenBlock.{AreIpBlock, WritesIpBlock}

@@ -1,6 +1,6 @@
 -- Why there is no set of addresses.
-use Rattle.resources_chain.specs.declared.choice.InheritedResources.{InheritedResources}
-use Rattle.resources_chain.specs.declared.choice.InheritedResources.TheVariants as Cause
+use Rattle.resources_ip.specs.resources_chain.declared.choice.InheritedResources.{InheritedResources}
+use Rattle.resources_ip.specs.resources_chain.declared.choice.InheritedResources.TheVariants as Cause
 use Rattle.resources_ip.specs.declared.resources.InheritedIpResources.{InheritedIpResources}
 use Rattle.resources_ip.specs.declared.resources.InheritedIpResources.TheVariants as IpCause
 

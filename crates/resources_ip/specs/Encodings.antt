@@ -1,17 +1,17 @@
 -- IP resources in an encoding: IPAddrBlocks (RFC 3779 2.2.3).
 use Rattle.std.specs.Prelude.{◌≡◌, ◌≢◌, Bool, true, false, List, [], ◌∷◌, if◌then◌else◌}
-use Rattle.bcder_tree.specs.declared.mode.Mode.{Mode}
-use Rattle.bcder_tree.specs.Tags.{universal}
-use Rattle.bcder_tree.specs.Tree.{Tree, Trees}
-use Rattle.bcder_primitive.specs.Values.{IsNull}
-use Rattle.bcder_content.specs.Grammar.{As, End, Inside, Many, OctetsOf, OneOf, Then}
-use Rattle.resources_chain.specs.Sets.{Run, InRuns, IsRunsOf}
-use Rattle.resources_chain.specs.Claims.{Choice}
-use Rattle.resources_chain.specs.declared.choice.ResourcesChoice.TheVariants.{Missing, Inherit, Blocks}
-use Rattle.resources_ip_prefix.specs.declared.addr.AddressFamily.{AddressFamily}
-use Rattle.resources_ip_prefix.specs.declared.addr.AddressFamily.TheVariants.{Ipv4, Ipv6}
+use Rattle.resources_ip.specs.bcder_tree.declared.mode.Mode.{Mode}
+use Rattle.resources_ip.specs.bcder_tree.Tags.{universal}
+use Rattle.resources_ip.specs.bcder_tree.Tree.{Tree, Trees}
+use Rattle.resources_ip.specs.bcder_primitive.Values.{IsNull}
+use Rattle.resources_ip.specs.bcder_content.Grammar.{As, End, Inside, Many, OctetsOf, OneOf, Then}
+use Rattle.resources_ip.specs.resources_chain.Sets.{Run, InRuns, IsRunsOf}
+use Rattle.resources_ip.specs.resources_chain.Claims.{Choice}
+use Rattle.resources_ip.specs.resources_chain.declared.choice.ResourcesChoice.TheVariants.{Missing, Inherit, Blocks}
+use Rattle.resources_ip.specs.resources_ip_prefix.declared.addr.AddressFamily.{AddressFamily}
+use Rattle.resources_ip.specs.resources_ip_prefix.declared.addr.AddressFamily.TheVariants.{Ipv4, Ipv6}
 use Rattle.resources_ip_block.specs.BlockEncodings.{IsBlock}
-use Rattle.resources_ip_prefix.specs.Encodings.{IsFamily}
+use Rattle.resources_ip.specs.resources_ip_prefix.Encodings.{IsFamily}
 
 -- addressesOrRanges SEQUENCE OF IPAddressOrRange (2.2.3.6), in any order: they mean their union.
 pub record AreBlocks (m : Mode) (family : AddressFamily) (ts : Trees) (set : List Run) : Type 0 where

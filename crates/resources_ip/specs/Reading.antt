@@ -1,10 +1,10 @@
 -- What is read of IP resources, as the grammars name it.
 use Rattle.std.specs.Prelude.{◌≡◌, List, [], ◌∷◌, Option, Some, None}
 use Rattle.std.specs.Option.{option_map}
-use Rattle.bcder_tree.specs.declared.mode.Mode.{Mode}
-use Rattle.bcder_tree.specs.Tags.{universal}
-use Rattle.bcder_tree.specs.Tree.{Trees}
-use Rattle.bcder_content.specs.Grammar.{End, Opt, Then}
+use Rattle.resources_ip.specs.bcder_tree.declared.mode.Mode.{Mode}
+use Rattle.resources_ip.specs.bcder_tree.Tags.{universal}
+use Rattle.resources_ip.specs.bcder_tree.Tree.{Trees}
+use Rattle.resources_ip.specs.bcder_content.Grammar.{End, Opt, Then}
 use Rattle.resources_ip.specs.declared.der.IpFamily.{IpFamily}
 use Rattle.resources_ip.specs.declared.der.Pair.{Pair}
 use Rattle.resources_ip.specs.declared.resources.IpFamilies.{IpFamilies}

@@ -1,7 +1,7 @@
 -- Sets over whole IPv4 addresses, which are the first 32 of 128 bits.
 use Rattle.std.specs.Prelude.{◌≡◌, ℕ, ◌/◌, ◌^◌, List}
-use Rattle.resources_chain.specs.Sets.{Run, InRuns}
-use Rattle.resources_chain.specs.Claims.{Choice, Lists}
+use Rattle.resources_ip.specs.resources_chain.Sets.{Run, InRuns}
+use Rattle.resources_ip.specs.resources_chain.Claims.{Choice, Lists}
 
 -- Of the numbers that begin with the same 32 bits all or none are in the set.
 abbrev pub AreWhole : List Run → Type 0

@@ -1,20 +1,20 @@
 -- What is written of IP resources (RFC 3779 2.2.3), in their canonical form (2.2.3.6).
 use Rattle.std.specs.Prelude.{◌≡◌, ℕ, List}
-use Rattle.bcder_tree.specs.declared.mode.Mode.{Mode}
-use Rattle.bcder_tree.specs.Tags.{universal}
-use Rattle.bcder_tree.specs.Tree.{Tree, Trees, none, more}
-use Rattle.bcder_primitive.specs.Values.{IsNull}
-use Rattle.bcder_written.specs.Encoded.{NoTree, NoText, IsPlain, WritesPlain, IsWrapped, WritesWrapped, SpellsSome}
-use Rattle.bcder_written.specs.Simple.{one_null}
-use Rattle.bcder_values.specs.Choices.{nothing_spelled, nothing_one}
-use Rattle.bcder_values.specs.Lists.{AreAll, WritesAll, all_spelled, all_one}
-use Rattle.bcder_values.specs.Plains.{plain_spelled, plain_one}
-use Rattle.bcder_values.specs.Wraps.{wrapped_spelled, wrapped_one}
-use Rattle.resources_chain.specs.Sets.{Run, AreMaximal}
-use Rattle.resources_chain.specs.Claims.{Choice}
-use Rattle.resources_chain.specs.declared.choice.ResourcesChoice.TheVariants.{Missing, Inherit, Blocks}
-use Rattle.resources_ip_prefix.specs.declared.addr.AddressFamily.{AddressFamily}
-use Rattle.resources_ip_prefix.specs.declared.addr.AddressFamily.TheVariants.{Ipv4, Ipv6}
+use Rattle.resources_ip.specs.bcder_tree.declared.mode.Mode.{Mode}
+use Rattle.resources_ip.specs.bcder_tree.Tags.{universal}
+use Rattle.resources_ip.specs.bcder_tree.Tree.{Tree, Trees, none, more}
+use Rattle.resources_ip.specs.bcder_primitive.Values.{IsNull}
+use Rattle.resources_ip.specs.bcder_written.Encoded.{NoTree, NoText, IsPlain, WritesPlain, IsWrapped, WritesWrapped, SpellsSome}
+use Rattle.resources_ip.specs.bcder_written.Simple.{one_null}
+use Rattle.resources_ip.specs.bcder_values.Choices.{nothing_spelled, nothing_one}
+use Rattle.resources_ip.specs.bcder_values.Lists.{AreAll, WritesAll, all_spelled, all_one}
+use Rattle.resources_ip.specs.bcder_values.Plains.{plain_spelled, plain_one}
+use Rattle.resources_ip.specs.bcder_values.Wraps.{wrapped_spelled, wrapped_one}
+use Rattle.resources_ip.specs.resources_chain.Sets.{Run, AreMaximal}
+use Rattle.resources_ip.specs.resources_chain.Claims.{Choice}
+use Rattle.resources_ip.specs.resources_chain.declared.choice.ResourcesChoice.TheVariants.{Missing, Inherit, Blocks}
+use Rattle.resources_ip.specs.resources_ip_prefix.declared.addr.AddressFamily.{AddressFamily}
+use Rattle.resources_ip.specs.resources_ip_prefix.declared.addr.AddressFamily.TheVariants.{Ipv4, Ipv6}
 use Rattle.resources_ip_block.specs.WrittenBlock.{AreIpBlock, WritesIpBlock, block_spelled, block_one}
 use Rattle.resources_ip.specs.Encodings.{IsBlockList, IsIpChoice}
 use Rattle.resources_ip.specs.WholeSets.{AreWhole}

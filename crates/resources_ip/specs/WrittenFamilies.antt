@@ -1,19 +1,19 @@
 -- What is written of IP resources of both families (RFC 3779 2.2.3.1, RFC 6487 4.8.10).
 use Rattle.std.specs.Prelude.{◌≡◌, ℕ, Bool, true, false, List, if◌then◌else◌}
-use Rattle.bcder_tree.specs.declared.mode.Mode.{Mode}
-use Rattle.bcder_tree.specs.Strings.{octet_string_tag}
-use Rattle.bcder_tree.specs.Tags.{universal}
-use Rattle.bcder_tree.specs.Tree.{Tree, Trees, none, more}
-use Rattle.bcder_octets.specs.Segments.{StringTrees, WritesString, string_spelled, string_one}
-use Rattle.bcder_written.specs.Encoded.{NoTree, NoText, AreBoth, WritesBoth, IsWrapped, WritesWrapped, SpellsSome}
-use Rattle.bcder_values.specs.Choices.{nothing_spelled, nothing_one}
-use Rattle.bcder_values.specs.Laws.{both_spelled, both_one}
-use Rattle.bcder_values.specs.Wraps.{wrapped_spelled, wrapped_one}
-use Rattle.resources_chain.specs.Claims.{Choice}
-use Rattle.resources_chain.specs.declared.choice.ResourcesChoice.TheVariants.{Missing, Inherit, Blocks}
-use Rattle.resources_ip_prefix.specs.declared.addr.AddressFamily.{AddressFamily}
-use Rattle.resources_ip_prefix.specs.declared.addr.AddressFamily.TheVariants.{Ipv4, Ipv6}
-use Rattle.resources_ip_prefix.specs.Encodings.{family_octets}
+use Rattle.resources_ip.specs.bcder_tree.declared.mode.Mode.{Mode}
+use Rattle.resources_ip.specs.bcder_tree.Strings.{octet_string_tag}
+use Rattle.resources_ip.specs.bcder_tree.Tags.{universal}
+use Rattle.resources_ip.specs.bcder_tree.Tree.{Tree, Trees, none, more}
+use Rattle.resources_ip.specs.bcder_octets.Segments.{StringTrees, WritesString, string_spelled, string_one}
+use Rattle.resources_ip.specs.bcder_written.Encoded.{NoTree, NoText, AreBoth, WritesBoth, IsWrapped, WritesWrapped, SpellsSome}
+use Rattle.resources_ip.specs.bcder_values.Choices.{nothing_spelled, nothing_one}
+use Rattle.resources_ip.specs.bcder_values.Laws.{both_spelled, both_one}
+use Rattle.resources_ip.specs.bcder_values.Wraps.{wrapped_spelled, wrapped_one}
+use Rattle.resources_ip.specs.resources_chain.Claims.{Choice}
+use Rattle.resources_ip.specs.resources_chain.declared.choice.ResourcesChoice.TheVariants.{Missing, Inherit, Blocks}
+use Rattle.resources_ip.specs.resources_ip_prefix.declared.addr.AddressFamily.{AddressFamily}
+use Rattle.resources_ip.specs.resources_ip_prefix.declared.addr.AddressFamily.TheVariants.{Ipv4, Ipv6}
+use Rattle.resources_ip.specs.resources_ip_prefix.Encodings.{family_octets}
 use Rattle.resources_ip.specs.Encodings.{FamilyChoices, IsIpAddrBlocks}
 use Rattle.resources_ip.specs.Written.{AreIpResources, WritesIpResources, resources_spelled, resources_one}
 

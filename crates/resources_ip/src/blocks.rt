@@ -3,21 +3,21 @@
 ghost use Rattle.std.specs.Prelude.{◌≡◌, ◌<◌, ◌++◌, ◌∷◌, [], ℕ, ◌↔◌, List, IsTrue, IsErrOf, IfOk, IfErr, OnOk, OnErr, map, ⊤, MatchResult};
 ghost use Rattle.std.specs.Cmp.{partial_equiv_from_equiv};
 ghost use Rattle.std.specs.Iterator.{IsFinite, DrainsIf, YieldsFirst, item_count};
-ghost use Rattle.resources_chain.specs.Sets.{InRun, InRuns, AreMaximal, IsRunsOf, InEither, InBoth, InFirstOnly, IsInside};
-ghost use Rattle.resources_chain.specs.Same.{runs_eq, runs_eq_equiv};
-ghost use Rattle.resources_chain.specs.declared.choice.ResourcesChoice.{ResourcesChoice};
-ghost use Rattle.resources_chain.specs.declared.claims.Overclaim.TheVariants.{Refuse};
-ghost use Rattle.resources_chain.specs.Claims.{Lists, FitsIn, Kept, Refuses, HeldAlong, FitsAlong, RefusesAlong};
+ghost use Rattle.resources_ip.specs.resources_chain.Sets.{InRun, InRuns, AreMaximal, IsRunsOf, InEither, InBoth, InFirstOnly, IsInside};
+ghost use Rattle.resources_ip.specs.resources_chain.Same.{runs_eq, runs_eq_equiv};
+ghost use Rattle.resources_ip.specs.resources_chain.declared.choice.ResourcesChoice.{ResourcesChoice};
+ghost use Rattle.resources_ip.specs.resources_chain.declared.claims.Overclaim.TheVariants.{Refuse};
+ghost use Rattle.resources_ip.specs.resources_chain.Claims.{Lists, FitsIn, Kept, Refuses, HeldAlong, FitsAlong, RefusesAlong};
 ghost use Rattle.resources_ip.specs.declared.resources.InheritedIpResources.{InheritedIpResources};
 ghost use Rattle.resources_ip_block.specs.Block.{run_of_block};
-ghost use Rattle.resources_ip_prefix.specs.Prefix.{run_of_prefix};
-ghost use Rattle.resources_ip_prefix.specs.Wide.{wide_run};
+ghost use Rattle.resources_ip.specs.resources_ip_prefix.Prefix.{run_of_prefix};
+ghost use Rattle.resources_ip.specs.resources_ip_prefix.Wide.{wide_run};
 ghost use Rattle.resources_ip.specs.WholeSets.{AreWhole};
 ghost use Rattle.resources_ip.specs.Blocks.{IsAddress, blocks_left};
 
 use crate::claims::OverclaimedIpResources;
 use crate::resources::{InheritedIpResources, IpResources};
-use resources_chain::{ClaimError, Overclaim, OwnedChain, SharedChain};
+use crate::resources_chain::{ClaimError, Overclaim, OwnedChain, SharedChain};
 use resources_ip_block::{IpBlock, Prefix};
 use std::alloc::{AllocError, Global};
 use std::marker::Model;
@@ -31,7 +31,7 @@ pub struct IpBlocks {
 
 impl Model for IpBlocks {
     ghost use Rattle.std.specs.Prelude.{List};
-    ghost use Rattle.resources_chain.specs.Sets.{Run};
+    ghost use Rattle.resources_ip.specs.resources_chain.Sets.{Run};
 
     ghost Value = { List Run };
 
@@ -92,6 +92,13 @@ impl IpBlocks {
         true
     }
 
+    /// The blocks are ascending, and neither overlap nor touch. This is a law about the set: nothing is done.
+    pub fn runs_are_maximal(&self)
+        ensures { AreMaximal self.now }
+    {
+        self.chain.runs_are_maximal();
+    }
+
     /// The blocks, ascending.
     pub fn iter(&self) -> IpBlockIter<'_>
         ensures blocks { map run_of_block (blocks_left result) ≡ self.now }
@@ -127,7 +134,7 @@ impl IpBlocks {
     }
 
     /// Whether all addresses of the prefix are in the set, which is one of the prefix's family.
-    pub fn contains_addr_prefix(&self, prefix: resources_addr::addr::Prefix) -> bool
+    pub fn contains_addr_prefix(&self, prefix: crate::resources_addr::addr::Prefix) -> bool
         ensures { IsTrue result ↔ ((n : ℕ) → InRun (wide_run prefix) n → InRuns self.now n) }
     {
         self.contains_block(&IpBlock::from_addr_prefix(prefix))
@@ -330,10 +337,10 @@ pub struct IpBlocksBuilder {
 
 impl Model for IpBlocksBuilder {
     ghost use Rattle.std.specs.Prelude.{List, map};
-    ghost use Rattle.resources_chain.specs.Sets.{Run};
+    ghost use Rattle.resources_ip.specs.resources_chain.Sets.{Run};
     ghost use Rattle.resources_ip_block.specs.Block.{run_of_block};
-    ghost use Rattle.resources_ip_prefix.specs.Prefix.{run_of_prefix};
-    ghost use Rattle.resources_ip_prefix.specs.Wide.{wide_run};
+    ghost use Rattle.resources_ip.specs.resources_ip_prefix.Prefix.{run_of_prefix};
+    ghost use Rattle.resources_ip.specs.resources_ip_prefix.Wide.{wide_run};
 
     ghost Value = { List Run };
 

@@ -16,7 +16,7 @@ pub struct OverclaimedIpResources {
 
 impl Model for OverclaimedIpResources {
     ghost use Rattle.std.specs.Prelude.{List};
-    ghost use Rattle.resources_chain.specs.Sets.{Run};
+    ghost use Rattle.resources_ip.specs.resources_chain.Sets.{Run};
 
     ghost Value = { List Run };
 

@@ -1,18 +1,20 @@
 //! IP resources that are read from an encoding (RFC 3779 2.2.3).
 
-ghost use Rattle.std.specs.Prelude.{◌≡◌, ◌≢◌, [], ◌∷◌, true, MatchOption, OnErr};
-ghost use Rattle.bcder_tree.specs.Tags.{universal};
-ghost use Rattle.bcder_content.specs.Exact.{ReadsAllAs, ReadsAs, ReadsOptAs};
-ghost use Rattle.bcder_content.specs.Grammar.{Many};
-ghost use Rattle.bcder_content.specs.Here.{here};
+ghost use Rattle.std.specs.Prelude.{◌≡◌, ◌≢◌, [], ◌∷◌, true, MatchOption, IfOk, OnErr};
+ghost use Rattle.resources_ip.specs.bcder_tree.Tags.{universal};
+ghost use Rattle.resources_ip.specs.bcder_content.Exact.{ReadsAllAs, ReadsAs, ReadsOptAs};
+ghost use Rattle.resources_ip.specs.bcder_content.Grammar.{Many};
+ghost use Rattle.resources_ip.specs.bcder_content.Here.{here};
+ghost use Rattle.resources_ip.specs.resources_ip_prefix.declared.addr.AddressFamily.TheVariants.{Ipv4 as V4, Ipv6 as V6};
 ghost use Rattle.resources_ip_block.specs.BlockEncodings.{IsBlock};
 ghost use Rattle.resources_ip.specs.Encodings.{AreBlocks, AreFamilyFields, AreIpFamilies, IsBlockList, IsIpAddrBlocks, IsIpChoice, IsIpFamily, choices_of};
 ghost use Rattle.resources_ip.specs.Reading.{ArePair, Repeats, all_of, family_choice, family_choices, pair_fields};
+ghost use Rattle.resources_ip.specs.WholeSets.{ListsWhole};
+ghost use Rattle.resources_ip.specs.Written.{FitsChoice, FitsSet};
 
+use crate::bcder::decode::{Constructed, ContentError, DecodeError, Source};
 use crate::blocks::{IpBlocks, IpBlocksBuilder};
 use crate::resources::{IpFamilies, IpResources};
-use bcder_content::Constructed;
-use bcder_source::{ContentError, DecodeError, Source};
 use resources_ip_block::{AddressFamily, IpBlock};
 use std::alloc::Global;
 
@@ -53,6 +55,7 @@ impl IpBlocks {
         family: AddressFamily,
     ) -> Result<IpBlocks, DecodeError<S::Error>>
         ensures reads { ReadsAs (λ b. b) (IsBlockList (here S.rest cons.old).mode family) (here S.rest cons.old) result (here S.rest cons.new) }
+        ensures fits { IfOk result (FitsSet family) }
         ensures failed { OnErr result ((here S.rest cons.new).failed ≡ true) }
     {
         cons.take_sequence(
@@ -200,6 +203,8 @@ impl IpResources {
         family: AddressFamily,
     ) -> Result<IpResources, DecodeError<S::Error>>
         ensures reads { ReadsAs (λ r. r) (IsIpChoice (here S.rest cons.old).mode family) (here S.rest cons.old) result (here S.rest cons.new) }
+        ensures fits { IfOk result (FitsChoice family) }
+        ensures whole { IfOk result (λ r. family ≡ V4 → ListsWhole r) }
         ensures failed { OnErr result ((here S.rest cons.new).failed ≡ true) }
     {
         let inherit = cons.take_opt_null()?;
@@ -217,6 +222,9 @@ impl IpResources {
         cons: &mut Constructed<S>,
     ) -> Result<IpFamilies, DecodeError<S::Error>>
         ensures reads { ReadsAs family_choices (IsIpAddrBlocks (here S.rest cons.old).mode) (here S.rest cons.old) result (here S.rest cons.new) }
+        ensures fits_v4 { IfOk result (λ x. FitsChoice V4 x.v4) }
+        ensures fits_v6 { IfOk result (λ x. FitsChoice V6 x.v6) }
+        ensures whole { IfOk result (λ x. ListsWhole x.v4) }
         ensures failed { OnErr result ((here S.rest cons.new).failed ≡ true) }
     {
         cons.take_sequence(

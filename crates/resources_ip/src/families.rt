@@ -1,20 +1,20 @@
 //! IP resources of both families that are written as one value (RFC 3779 2.2.3.1).
 
 ghost use Rattle.std.specs.Prelude.{◌≡◌, IfOk, IfErr, OnOk};
-ghost use Rattle.bcder_tree.specs.Strings.{octet_string_tag};
-ghost use Rattle.bcder_tree.specs.Tags.{universal};
-ghost use Rattle.bcder_written.specs.Writing.{HasLength, Wrote, CannotWrite, WriteRefused};
-ghost use Rattle.resources_ip_prefix.specs.declared.addr.AddressFamily.TheVariants.{Ipv4, Ipv6};
-ghost use Rattle.resources_ip_prefix.specs.Encodings.{family_octets};
+ghost use Rattle.resources_ip.specs.bcder_tree.Strings.{octet_string_tag};
+ghost use Rattle.resources_ip.specs.bcder_tree.Tags.{universal};
+ghost use Rattle.resources_ip.specs.bcder_written.Writing.{HasLength, Wrote, CannotWrite, WriteRefused};
+ghost use Rattle.resources_ip.specs.resources_ip_prefix.declared.addr.AddressFamily.TheVariants.{Ipv4, Ipv6};
+ghost use Rattle.resources_ip.specs.resources_ip_prefix.Encodings.{family_octets};
 ghost use Rattle.resources_ip.specs.Reading.{family_choices};
 ghost use Rattle.resources_ip.specs.WrittenFamilies.{FamiliesTrees, FamilyTrees, WritesFamilies, WritesFamily, both, families_one, families_spelled, family_one, family_spelled, is_said as is_said_of, says_any};
 
+use crate::bcder::encode::{Constructed, EncodeError, Values};
+use crate::bcder::string::OctetSliceEncoder;
+use crate::bcder::{Mode, Tag};
 use crate::resources::{IpFamilies, IpResources};
-use bcder_octets::OctetSliceEncoder;
-use bcder_tree::{Mode, Tag};
-use bcder_values::{Constructed, EncodeError, Values};
-use resources_chain::ResourcesChoice;
-use resources_ip_prefix::AddressFamily;
+use crate::resources_chain::ResourcesChoice;
+use crate::resources_ip_prefix::AddressFamily;
 use std::io::Write;
 
 // Whether anything is said of a family.

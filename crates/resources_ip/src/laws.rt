@@ -1,14 +1,14 @@
 //! Laws of IP resources: the contracts of functions that do nothing.
 
 ghost use Rattle.std.specs.Prelude.{◌≡◌, ◌↔◌, ◌⊎◌, ℕ, [], List};
-ghost use Rattle.bcder_tree.specs.declared.mode.Mode.{Mode as ModeValue};
-ghost use Rattle.bcder_tree.specs.Tree.{Tree, Trees};
-ghost use Rattle.resources_chain.specs.Claims.{Choice, Kept};
-ghost use Rattle.resources_chain.specs.Kinds.{HasNumber, KeepsNumber, Kind, Ipv4 as V4};
-ghost use Rattle.resources_chain.specs.Sets.{Run, InRuns, InEither, IsInside, IsRunsOf};
-ghost use Rattle.resources_chain.specs.declared.choice.ResourcesChoice.TheVariants.{Missing};
-ghost use Rattle.resources_ip_prefix.specs.declared.addr.AddressFamily.{AddressFamily as FamilyValue};
-ghost use Rattle.resources_ip_prefix.specs.declared.addr.AddressFamily.TheVariants.{Ipv4, Ipv6};
+ghost use Rattle.resources_ip.specs.bcder_tree.declared.mode.Mode.{Mode as ModeValue};
+ghost use Rattle.resources_ip.specs.bcder_tree.Tree.{Tree, Trees};
+ghost use Rattle.resources_ip.specs.resources_chain.Claims.{Choice, Kept};
+ghost use Rattle.resources_ip.specs.resources_chain.Kinds.{HasNumber, KeepsNumber, Kind, Ipv4 as V4};
+ghost use Rattle.resources_ip.specs.resources_chain.Sets.{Run, InRuns, InEither, IsInside, IsRunsOf};
+ghost use Rattle.resources_ip.specs.resources_chain.declared.choice.ResourcesChoice.TheVariants.{Missing};
+ghost use Rattle.resources_ip.specs.resources_ip_prefix.declared.addr.AddressFamily.{AddressFamily as FamilyValue};
+ghost use Rattle.resources_ip.specs.resources_ip_prefix.declared.addr.AddressFamily.TheVariants.{Ipv4, Ipv6};
 ghost use Rattle.resources_ip.specs.Encodings.{FamilyChoices, IsBlockList, IsIpAddrBlocks, IsIpChoice};
 ghost use Rattle.resources_ip.specs.Blocks.{IsAddress};
 ghost use Rattle.resources_ip.specs.WholeSets.{AreWhole, ListsWhole};

@@ -15,7 +15,9 @@ pub use claims::{OverclaimedIpResources, OverclaimedIpv4Resources, OverclaimedIp
 pub use families::IpFamiliesEncoder;
 pub use listed::IpBlocksForFamily;
 pub use resources::{InheritedIpResources, IpFamilies, IpResources, IpResourcesBuilder};
+pub use resources_ip_block;
 pub use resources_ip_block::{
     Addr, AddressFamily, AddressRange, DisplayV4Block, DisplayV6Block, FromStrError, IpBlock,
-    Prefix, RangePrefixes, addr, block, cover, error, prefix, range,
+    Prefix, RangePrefixes, addr, bcder, block, cover, error, prefix, range, resources_addr,
+    resources_chain, resources_ip_prefix,
 };

@@ -1,13 +1,15 @@
 //! Sets of addresses written and read: `10.0.0.0/8, 11.0.0.0-11.0.0.9`.
 
-ghost use Rattle.std.specs.Prelude.{◌≡◌, IfOk};
-ghost use Rattle.resources_ip_prefix.specs.declared.addr.AddressFamily.TheVariants.{Ipv4, Ipv6};
+ghost use Rattle.std.specs.Prelude.{◌≡◌, ◌↔◌, ℕ, [], IfOk};
+ghost use Rattle.resources_ip.specs.resources_chain.Sets.{InRuns};
+ghost use Rattle.resources_ip.specs.resources_ip_prefix.declared.addr.AddressFamily.TheVariants.{Ipv4, Ipv6};
 ghost use Rattle.resources_ip_block.specs.Block.{run_of_block};
-ghost use Rattle.resources_ip_prefix.specs.Whole.{IsWhole};
+ghost use Rattle.resources_ip.specs.resources_ip_prefix.Whole.{IsWhole};
 ghost use Rattle.resources_ip.specs.Shown.{shown_family, shown_set};
 ghost use Rattle.resources_ip.specs.WholeSets.{AreWhole};
 
 use crate::blocks::{IpBlocks, IpBlocksBuilder};
+use crate::resources_chain::cut_piece;
 use resources_ip_block::{AddressFamily, FromStrError, IpBlock};
 pub use resources_ip_block::{DisplayV4Block, DisplayV6Block};
 use std::alloc::Global;
@@ -63,33 +65,48 @@ impl fmt::Display for IpBlocksForFamily<'_> {
 
 impl IpBlocks {
     /// The set of a text: blocks of one family with `,` or `, ` between them, in any order; an IPv6 one has a
-    /// colon.
-    pub fn from_str(alloc: Global, text: &str) -> Result<Self, FromStrError> {
+    /// colon. Of the empty text, and of no other, it has no addresses.
+    pub fn from_str(alloc: Global, text: &str) -> Result<Self, FromStrError>
+        ensures none { IfOk result (λ s. ((n : ℕ) → ¬ (InRuns s n)) ↔ (text.now ≡ [])) }
+    {
         read_list(alloc, AddressFamily::of_text(text), text)
     }
 }
 
-/// The set of a text of blocks of the family, with `,` or `, ` between them, in any order.
-#[tactic(auto, using(crate::proofs::WholeLemmas::whole_push, crate::proofs::WholeLemmas::whole_set))]
+/// The set of a text of blocks of the family, with `,` or `, ` between them, in any order. Of the empty text, and of no
+/// other, it has no addresses.
+#[tactic(auto, using(crate::proofs::WholeLemmas::whole_none, crate::proofs::WholeLemmas::whole_set, crate::proofs::WholeLemmas::some_set))]
 pub fn read_list(alloc: Global, family: AddressFamily, text: &str) -> Result<IpBlocks, FromStrError>
-    ensures { IfOk result (λ s. family ≡ Ipv4 → AreWhole s) }
+    ensures whole { IfOk result (λ s. family ≡ Ipv4 → AreWhole s) }
+    ensures none { IfOk result (λ s. ((n : ℕ) → ¬ (InRuns s n)) ↔ (text.now ≡ [])) }
 {
-    let mut blocks = IpBlocksBuilder::new(alloc);
-    if !text.is_empty() {
-        for (place, piece) in text.split(',').enumerate() {
-            let block = read_piece(family, without_space(place, piece))?;
-            blocks.push(block).map_err(|_| FromStrError::Memory)?;
-        }
+    if text.is_empty() {
+        return Ok(IpBlocks::empty());
     }
+    let blocks = read_blocks(alloc, family, text)?;
     blocks.finalize(alloc).map_err(|_| FromStrError::Memory)
 }
 
-// A piece without the space that may stand behind a comma.
-fn without_space(place: usize, piece: &str) -> &str {
-    if place == 0 {
-        return piece;
+// The blocks of a text that has one at least.
+#[tactic(auto, using(crate::proofs::WholeLemmas::whole_push, crate::proofs::WholeLemmas::some_pushed, crate::proofs::Cut::piece_shorter))]
+fn read_blocks(
+    alloc: Global,
+    family: AddressFamily,
+    text: &str,
+) -> Result<IpBlocksBuilder, FromStrError>
+    ensures whole { IfOk result (λ b. family ≡ Ipv4 → AreWhole b) }
+    ensures some { IfOk result (λ b. (n : ℕ) × InRuns b n) }
+{
+    let mut blocks = IpBlocksBuilder::new(alloc);
+    let mut rest = text;
+    while let Some((piece, behind)) = cut_piece(rest) {
+        let block = read_piece(family, piece)?;
+        blocks.push(block).map_err(|_| FromStrError::Memory)?;
+        rest = behind;
     }
-    piece.strip_prefix(' ').unwrap_or(piece)
+    let block = read_piece(family, rest)?;
+    blocks.push(block).map_err(|_| FromStrError::Memory)?;
+    Ok(blocks)
 }
 
 // The block of a text of the family.

@@ -2,14 +2,17 @@
 
 ghost use Rattle.std.specs.Prelude.{◌≡◌, ◌↔◌, ◌++◌, [], List, Result, IsTrue, IfOk, OnOk, OnErr, IsErrOf, Ok};
 ghost use Rattle.std.specs.Fn.{FnOnceReturnsAtMut};
-ghost use Rattle.resources_chain.specs.declared.choice.ResourcesChoice.{ResourcesChoice};
-ghost use Rattle.resources_chain.specs.declared.choice.ResourcesChoice.TheVariants.{Missing, Inherit, Blocks};
-ghost use Rattle.resources_chain.specs.Sets.{Run, InRuns, IsRunsOf};
-ghost use Rattle.resources_chain.specs.Claims.{Lists};
-ghost use Rattle.resources_chain.specs.Choices.{listed, IsChoiceOf};
+ghost use Rattle.resources_ip.specs.resources_chain.declared.choice.ResourcesChoice.{ResourcesChoice};
+ghost use Rattle.resources_ip.specs.resources_chain.declared.choice.ResourcesChoice.TheVariants.{Missing, Inherit, Blocks};
+ghost use Rattle.resources_ip.specs.resources_chain.Sets.{Run, InRuns, IsRunsOf};
+ghost use Rattle.resources_ip.specs.resources_chain.Claims.{HasMaximal, Lists};
+ghost use Rattle.resources_ip.specs.resources_chain.Choices.{listed, IsChoiceOf};
+ghost use Rattle.resources_ip.specs.resources_ip_prefix.declared.addr.AddressFamily.TheVariants.{Ipv4, Ipv6};
+ghost use Rattle.resources_ip.specs.WholeSets.{AreWhole};
+ghost use Rattle.resources_ip.specs.Written.{FitsChoice};
 
 use crate::blocks::{IpBlocks, IpBlocksBuilder};
-use resources_chain::{Claim, InheritedResources, ResourcesChoice, SharedChain};
+use crate::resources_chain::{Claim, InheritedResources, ResourcesChoice, SharedChain};
 use resources_ip_block::IpBlock;
 use std::alloc::{AllocError, Global};
 use std::marker::Model;
@@ -24,8 +27,8 @@ pub struct IpResources {
 
 impl Model for IpResources {
     ghost use Rattle.std.specs.Prelude.{List};
-    ghost use Rattle.resources_chain.specs.declared.choice.ResourcesChoice.{ResourcesChoice};
-    ghost use Rattle.resources_chain.specs.Sets.{Run};
+    ghost use Rattle.resources_ip.specs.resources_chain.declared.choice.ResourcesChoice.{ResourcesChoice};
+    ghost use Rattle.resources_ip.specs.resources_chain.Sets.{Run};
 
     ghost Value = { ResourcesChoice (List Run) };
 
@@ -64,10 +67,22 @@ impl IpResources {
 
     /// The addresses of the set, which may be none.
     pub fn blocks(blocks: IpBlocks) -> Self
-        ensures { result ≡ Blocks blocks }
+        ensures choice { result ≡ Blocks blocks }
+        ensures fits_v4 { AreWhole blocks → FitsChoice Ipv4 result }
+        ensures fits_v6 { FitsChoice Ipv6 result }
     {
+        blocks.runs_are_maximal();
         IpResources {
             choice: ResourcesChoice::Blocks(blocks),
+        }
+    }
+
+    /// A set that is listed is so by its maximal runs. This is a law about the resources: nothing is done.
+    pub fn runs_are_maximal(&self)
+        ensures { HasMaximal self.now }
+    {
+        if let ResourcesChoice::Blocks(blocks) = &self.choice {
+            blocks.runs_are_maximal();
         }
     }
 
@@ -169,8 +184,8 @@ pub struct IpResourcesBuilder {
 
 impl Model for IpResourcesBuilder {
     ghost use Rattle.std.specs.Prelude.{List};
-    ghost use Rattle.resources_chain.specs.declared.choice.ResourcesChoice.{ResourcesChoice};
-    ghost use Rattle.resources_chain.specs.Sets.{Run};
+    ghost use Rattle.resources_ip.specs.resources_chain.declared.choice.ResourcesChoice.{ResourcesChoice};
+    ghost use Rattle.resources_ip.specs.resources_chain.Sets.{Run};
 
     ghost Value = { ResourcesChoice (List Run) };
 
@@ -235,6 +250,8 @@ impl IpResourcesBuilder {
     /// The resources. Memory is wanted only for a list.
     pub fn finalize(self, alloc: Global) -> Result<IpResources, AllocError>
         ensures choice { IfOk result (λ resources. IsChoiceOf self resources) }
+        ensures fits_v4 { IfOk result (λ resources. AreWhole (listed self) → FitsChoice Ipv4 resources) }
+        ensures fits_v6 { IfOk result (FitsChoice Ipv6) }
         ensures listed { OnErr result ((runs : List Run) × (self ≡ Blocks runs)) }
     {
         Ok(match self.choice {

@@ -1,15 +1,18 @@
 //! Sets of addresses and IP resources that are written (RFC 3779 2.2.3).
 
 ghost use Rattle.std.specs.Prelude.{◌≡◌, IfOk, IfErr, OnOk};
-ghost use Rattle.bcder_written.specs.Writing.{HasLength, Wrote, CannotWrite, WriteRefused};
-ghost use Rattle.resources_chain.specs.declared.choice.ResourcesChoice.TheVariants.{Inherit};
-ghost use Rattle.resources_ip.specs.Written.{AreIpList, WritesIpList, list_spelled, list_one, AreIpResources, WritesIpResources, resources_spelled, resources_one};
+ghost use Rattle.resources_ip.specs.bcder_written.Writing.{HasLength, Wrote, CannotWrite, WriteRefused};
+ghost use Rattle.resources_ip.specs.resources_chain.Sets.{AreMaximal};
+ghost use Rattle.resources_ip.specs.resources_chain.declared.choice.ResourcesChoice.TheVariants.{Inherit};
+ghost use Rattle.resources_ip.specs.resources_ip_prefix.declared.addr.AddressFamily.TheVariants.{Ipv4, Ipv6};
+ghost use Rattle.resources_ip.specs.WholeSets.{ListsWhole};
+ghost use Rattle.resources_ip.specs.Written.{FitsChoice, AreIpList, WritesIpList, list_spelled, list_one, AreIpResources, WritesIpResources, resources_spelled, resources_one};
 
+use crate::bcder::encode::{Constructed, EncodeError, Primitive, Values};
+use crate::bcder::{Mode, Tag};
 use crate::blocks::IpBlocks;
 use crate::resources::IpResources;
-use bcder_tree::{Mode, Tag};
-use bcder_values::{Constructed, EncodeError, Primitive, Values};
-use resources_chain::ResourcesChoice;
+use crate::resources_chain::ResourcesChoice;
 use std::io::Write;
 
 /// A SEQUENCE of the blocks of the set, ascending: a prefix where the addresses are those of one, and else a range
@@ -43,15 +46,19 @@ impl Values for IpBlocks {
 impl IpBlocks {
     /// The set as values that can be written: the list of a family (RFC 3779 2.2.3.6).
     pub fn encode(self) -> IpBlocks
-        ensures { result ≡ self }
+        ensures same { result ≡ self }
+        ensures maximal { AreMaximal result }
     {
+        self.runs_are_maximal();
         self
     }
 
     /// Encodes the borrowed set, as `encode` does.
     pub fn encode_ref(&self) -> &IpBlocks
-        ensures { result.now ≡ self.now }
+        ensures same { result.now ≡ self.now }
+        ensures maximal { AreMaximal self.now }
     {
+        self.runs_are_maximal();
         self
     }
 }
@@ -109,16 +116,24 @@ impl Values for IpResources {
 
 impl IpResources {
     /// The resources as values that can be written: what is said of a family (RFC 3779 2.2.3.4).
+    #[tactic(auto, using(crate::proofs::Fitting::fits_v4, crate::proofs::Fitting::fits_v6))]
     pub fn encode(self) -> IpResources
-        ensures { result ≡ self }
+        ensures same { result ≡ self }
+        ensures fits_v4 { ListsWhole result → FitsChoice Ipv4 result }
+        ensures fits_v6 { FitsChoice Ipv6 result }
     {
+        self.runs_are_maximal();
         self
     }
 
     /// Encodes the borrowed resources, as `encode` does.
+    #[tactic(auto, using(crate::proofs::Fitting::fits_v4, crate::proofs::Fitting::fits_v6))]
     pub fn encode_ref(&self) -> &IpResources
-        ensures { result.now ≡ self.now }
+        ensures same { result.now ≡ self.now }
+        ensures fits_v4 { ListsWhole self.now → FitsChoice Ipv4 self.now }
+        ensures fits_v6 { FitsChoice Ipv6 self.now }
     {
+        self.runs_are_maximal();
         self
     }
 }

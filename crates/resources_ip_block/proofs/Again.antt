@@ -3,16 +3,16 @@ use Rattle.std.proofs.Common.{◌≡◌, ℕ, ◌+◌, ◌-◌, ◌%◌, ◌^◌
 use Rattle.std.proofs.lemmas.Bool.Decides.{leb_tells}
 use Rattle.std.proofs.Math.Pow.{pow-lt}
 use Rattle.std.proofs.lemmas.Nat.{pow_pos}
-use Rattle.bcder_tree.specs.declared.mode.Mode.{Mode}
-use Rattle.bcder_tree.specs.Tags.{TagValue, universal}
-use Rattle.bcder_tree.specs.Tree.{Tree, Trees, primitive, constructed, none, more}
-use Rattle.bcder_bits.specs.Contents.{bit_string_tag}
-use Rattle.bcder_values.specs.declared.choice.Choice2.{Choice2}
-use Rattle.bcder_values.specs.declared.choice.Choice2.TheVariants.{One, Two}
-use Rattle.bcder_written.specs.declared.primitive.Primitive.{Primitive}
-use Rattle.bcder_written.specs.Encoded.{joined}
-use Rattle.resources_chain.specs.Sets.{Run}
-use Rattle.resources_chain.specs.Same.{run_is}
+use Rattle.resources_ip_block.specs.bcder_tree.declared.mode.Mode.{Mode}
+use Rattle.resources_ip_block.specs.bcder_tree.Tags.{TagValue, universal}
+use Rattle.resources_ip_block.specs.bcder_tree.Tree.{Tree, Trees, primitive, constructed, none, more}
+use Rattle.resources_ip_block.specs.bcder_bits.Contents.{bit_string_tag}
+use Rattle.resources_ip_block.specs.bcder_values.declared.choice.Choice2.{Choice2}
+use Rattle.resources_ip_block.specs.bcder_values.declared.choice.Choice2.TheVariants.{One, Two}
+use Rattle.resources_ip_block.specs.bcder_written.declared.primitive.Primitive.{Primitive}
+use Rattle.resources_ip_block.specs.bcder_written.Encoded.{joined}
+use Rattle.resources_ip_block.specs.resources_chain.Sets.{Run}
+use Rattle.resources_ip_block.specs.resources_chain.Same.{run_is}
 use Rattle.resources_ip_prefix.specs.declared.addr.AddressFamily.{AddressFamily}
 use Rattle.resources_ip_prefix.specs.declared.addr.AddressFamily.TheVariants.{Ipv4, Ipv6}
 use Rattle.resources_ip_prefix.specs.declared.prefix.Prefix.{Prefix}

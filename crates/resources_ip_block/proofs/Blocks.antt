@@ -1,17 +1,17 @@
 -- What reading ranges and blocks rests on.
 use Rattle.std.proofs.Common.{◌≡◌, ◌<◌, ◌≤◌, Result, ap, ◌∙◌, subst, arith}
 use Rattle.std.specs.Result.{IsErr, IsErrAnd}
-use Rattle.bcder_tree.specs.declared.mode.Mode.{Mode}
-use Rattle.bcder_tree.specs.Tags.{universal}
-use Rattle.bcder_source.specs.Errors.{OnContent}
-use Rattle.bcder_source.specs.declared.error.DecodeError.{DecodeError}
-use Rattle.bcder_content.specs.Contents.{ValuesLeft}
-use Rattle.bcder_content.specs.Exact.{LacksAll, GivesAll, ReadsAllAs}
-use Rattle.bcder_content.specs.Grammar.{As, Tagged, One, OneAll}
-use Rattle.bcder_content.proofs.Taking.{on_content}
-use Rattle.bcder_content.proofs.Within.{AllWithin, all_gives, all_stop, all_unfit}
-use Rattle.bcder_content.proofs.Unique.{as_tagged, as_one, end_one, inside_tagged, octets_tagged, such_one, such_tagged, then_one}
-use Rattle.resources_chain.specs.Sets.{Run}
+use Rattle.resources_ip_block.specs.bcder_tree.declared.mode.Mode.{Mode}
+use Rattle.resources_ip_block.specs.bcder_tree.Tags.{universal}
+use Rattle.resources_ip_block.specs.bcder_source.Errors.{OnContent}
+use Rattle.resources_ip_block.specs.bcder_source.declared.error.DecodeError.{DecodeError}
+use Rattle.resources_ip_block.specs.bcder_content.Contents.{ValuesLeft}
+use Rattle.resources_ip_block.specs.bcder_content.Exact.{LacksAll, GivesAll, ReadsAllAs}
+use Rattle.resources_ip_block.specs.bcder_content.Grammar.{As, Tagged, One, OneAll}
+use Rattle.resources_ip_block.proofs.of_bcder_content.Taking.{on_content}
+use Rattle.resources_ip_block.proofs.of_bcder_content.Within.{AllWithin, all_gives, all_stop, all_unfit}
+use Rattle.resources_ip_block.proofs.of_bcder_content.Unique.{as_tagged, as_one, end_one, inside_tagged, octets_tagged, such_one, such_tagged, then_one}
+use Rattle.resources_ip_block.specs.resources_chain.Sets.{Run}
 use Rattle.resources_ip_prefix.specs.declared.addr.AddressFamily.{AddressFamily}
 use Rattle.resources_ip_block.specs.BlockEncodings.{AreEnds, AreOrdered, Ends, IsRange, beginning, from_to}
 use Rattle.resources_ip_prefix.specs.Encodings.{IsAddress}

@@ -4,8 +4,8 @@ use Rattle.std.specs.Prelude.{map}
 use Rattle.std.specs.Iterator.{Yields, Drains}
 use Rattle.std.proofs.lemmas.Bool.Decides.{leb_tells}
 use Rattle.std.proofs.lemmas.Nat.{pow_pos, pow-add, shl-shr, shr-shr, shr_split, mul-le, mod_below}
-use Rattle.resources_chain.specs.Same.{run_is}
-use Rattle.resources_chain.specs.Sets.{Run, InRun, InRuns}
+use Rattle.resources_ip_block.specs.resources_chain.Same.{run_is}
+use Rattle.resources_ip_block.specs.resources_chain.Sets.{Run, InRun, InRuns}
 use Rattle.resources_ip_block.specs.declared.cover.RangePrefixes.{RangePrefixes}
 use Rattle.resources_ip_prefix.specs.declared.prefix.Prefix.{Prefix}
 use Rattle.resources_ip_block.specs.declared.range.AddressRange.{AddressRange}

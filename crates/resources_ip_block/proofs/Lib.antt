@@ -5,3 +5,6 @@ pub mod Blocks
 pub mod Again
 pub mod WholeBlocks
 pub mod Writing
+pub mod of_bcder_content
+pub mod of_bcder_octets
+pub mod of_resources_chain

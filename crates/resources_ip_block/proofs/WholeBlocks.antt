@@ -1,9 +1,9 @@
 -- Blocks that are read as IPv4 are over whole addresses.
 use Rattle.std.proofs.Common.{◌≡◌, ◌≤◌, ◌⊎◌, inl, inr, sym, subst}
-use Rattle.bcder_tree.specs.declared.mode.Mode.{Mode}
-use Rattle.bcder_tree.specs.Tree.{Tree}
-use Rattle.bcder_bits.specs.Bits.{bits}
-use Rattle.resources_chain.specs.Sets.{Run}
+use Rattle.resources_ip_block.specs.bcder_tree.declared.mode.Mode.{Mode}
+use Rattle.resources_ip_block.specs.bcder_tree.Tree.{Tree}
+use Rattle.resources_ip_block.specs.bcder_bits.Bits.{bits}
+use Rattle.resources_ip_block.specs.resources_chain.Sets.{Run}
 use Rattle.resources_ip_prefix.specs.declared.addr.AddressFamily.TheVariants.{Ipv4}
 use Rattle.resources_ip_block.specs.BlockEncodings.{IsBlock, beginning}
 use Rattle.resources_ip_prefix.specs.Encodings.{FirstBits, IsAddress, filled}

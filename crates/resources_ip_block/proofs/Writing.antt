@@ -1,14 +1,14 @@
 -- A block that is written, by its addresses.
 use Rattle.std.proofs.Common.{◌≡◌, ℕ, List, Option, Result, Ok, Err, ◌∙◌}
 use Rattle.std.specs.Prelude.{IfOk, IfErr, OnOk}
-use Rattle.bcder_tree.specs.declared.mode.Mode.{Mode}
-use Rattle.bcder_tree.specs.Tree.{Trees}
-use Rattle.bcder_values.specs.declared.choice.Choice2.{Choice2}
-use Rattle.bcder_written.specs.declared.error.EncodeError.{EncodeError}
-use Rattle.bcder_written.specs.declared.error.EncodeError.TheVariants as errors
-use Rattle.bcder_written.specs.declared.primitive.Primitive.{Primitive}
-use Rattle.bcder_written.specs.Writing.{HasLength, Wrote, TookFront, CannotWrite, WriteRefused}
-use Rattle.resources_chain.specs.Sets.{Run}
+use Rattle.resources_ip_block.specs.bcder_tree.declared.mode.Mode.{Mode}
+use Rattle.resources_ip_block.specs.bcder_tree.Tree.{Trees}
+use Rattle.resources_ip_block.specs.bcder_values.declared.choice.Choice2.{Choice2}
+use Rattle.resources_ip_block.specs.bcder_written.declared.error.EncodeError.{EncodeError}
+use Rattle.resources_ip_block.specs.bcder_written.declared.error.EncodeError.TheVariants as errors
+use Rattle.resources_ip_block.specs.bcder_written.declared.primitive.Primitive.{Primitive}
+use Rattle.resources_ip_block.specs.bcder_written.Writing.{HasLength, Wrote, TookFront, CannotWrite, WriteRefused}
+use Rattle.resources_ip_block.specs.resources_chain.Sets.{Run}
 use Rattle.resources_ip_prefix.specs.declared.prefix.Prefix.{Prefix}
 use Rattle.resources_ip_block.specs.Written.{BlockTrees, EncodesBlock, RangeValue}
 use Rattle.resources_ip_block.specs.WrittenBlock.{AreIpBlock, WritesIpBlock, BlockText, same_block, block_text, block_trees}

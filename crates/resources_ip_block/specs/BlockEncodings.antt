@@ -1,10 +1,10 @@
 -- Prefixes and ranges in an encoding (RFC 3779 2.2.3.7 to 2.2.3.9).
 use Rattle.std.specs.Prelude.{◌≡◌, ◌≤◌}
-use Rattle.bcder_tree.specs.declared.mode.Mode.{Mode}
-use Rattle.bcder_tree.specs.Tags.{universal}
-use Rattle.bcder_tree.specs.Tree.{Tree, Trees}
-use Rattle.bcder_content.specs.Grammar.{As, End, Inside, OneOf, Then}
-use Rattle.resources_chain.specs.Sets.{Run}
+use Rattle.resources_ip_block.specs.bcder_tree.declared.mode.Mode.{Mode}
+use Rattle.resources_ip_block.specs.bcder_tree.Tags.{universal}
+use Rattle.resources_ip_block.specs.bcder_tree.Tree.{Tree, Trees}
+use Rattle.resources_ip_block.specs.bcder_content.Grammar.{As, End, Inside, OneOf, Then}
+use Rattle.resources_ip_block.specs.resources_chain.Sets.{Run}
 use Rattle.resources_ip_prefix.specs.declared.addr.AddressFamily.{AddressFamily}
 use Rattle.resources_ip_block.specs.declared.der.Bounds.{Bounds}
 use Rattle.resources_ip_prefix.specs.Encodings.{FirstBits, IsAddress, prefix_bits}

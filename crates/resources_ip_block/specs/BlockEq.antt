@@ -2,8 +2,8 @@
 use Rattle.std.specs.Prelude.{◌≡◌, ◌↔◌, Bool, IsTrue, List, [], ◌∷◌, refl}
 use Rattle.std.proofs.Common.{ap}
 use Rattle.std.specs.Cmp.{IsEquivalence}
-use Rattle.resources_chain.specs.Sets.{Run}
-use Rattle.resources_chain.specs.Same.{runs_eq, runs_eq_tells, runs_eq_equiv}
+use Rattle.resources_ip_block.specs.resources_chain.Sets.{Run}
+use Rattle.resources_ip_block.specs.resources_chain.Same.{runs_eq, runs_eq_tells, runs_eq_equiv}
 use Rattle.resources_ip_block.specs.declared.block.IpBlock.{IpBlock}
 use Rattle.resources_ip_block.specs.Block.{run_of_block}
 

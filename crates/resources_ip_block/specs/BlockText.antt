@@ -1,6 +1,6 @@
 -- Texts of ranges and blocks.
 use Rattle.std.specs.Prelude.{◌≡◌, ℕ, ◌≤◌, List, ◌++◌, codes}
-use Rattle.resources_chain.specs.Sets.{Run}
+use Rattle.resources_ip_block.specs.resources_chain.Sets.{Run}
 use Rattle.resources_ip_prefix.specs.Prefixes.{first_of, prefix_run}
 use Rattle.resources_ip_prefix.specs.Text.{slashed}
 

@@ -1,7 +1,7 @@
 -- The prefixes that cover a run of addresses, as few as there can be.
 use Rattle.std.specs.Prelude.{◌≡◌, ℕ, ◌+◌, ◌-◌, ◌≤◌, ◌⊎◌, ◌↔◌, List, [], ◌∷◌, Option, Some, None, IsSomeAnd, map}
 use Rattle.std.specs.Iterator.{Count, at_most}
-use Rattle.resources_chain.specs.Sets.{Run, InRun, InRuns}
+use Rattle.resources_ip_block.specs.resources_chain.Sets.{Run, InRun, InRuns}
 use Rattle.resources_ip_block.specs.declared.cover.RangePrefixes.{RangePrefixes}
 use Rattle.resources_ip_prefix.specs.declared.prefix.Prefix.{Prefix}
 use Rattle.resources_ip_block.specs.declared.range.AddressRange.{AddressRange}

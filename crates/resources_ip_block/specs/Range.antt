@@ -1,6 +1,6 @@
 -- What contracts see of a range of addresses.
 use Rattle.std.specs.Prelude.{◌≤◌}
-use Rattle.resources_chain.specs.Sets.{Run}
+use Rattle.resources_ip_block.specs.resources_chain.Sets.{Run}
 use Rattle.resources_ip_block.specs.declared.range.AddressRange.{AddressRange}
 use Rattle.resources_ip_prefix.specs.Address.{bits_of, bits_within}
 

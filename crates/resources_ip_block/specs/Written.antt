@@ -1,18 +1,18 @@
 -- What is written of ranges and blocks (RFC 3779 2.2.3).
 use Rattle.std.specs.Prelude.{◌≡◌, ℕ, ◌+◌, ◌-◌, ◌*◌, ◌/◌, ◌≤◌, take}
 use Rattle.std.specs.Int.{to_be_bytes, w128}
-use Rattle.bcder_tree.specs.declared.mode.Mode.{Mode}
-use Rattle.bcder_tree.specs.Tags.{universal}
-use Rattle.bcder_tree.specs.Tree.{Tree, Trees, none, more}
-use Rattle.bcder_bits.specs.Bits.{BitsValue}
-use Rattle.bcder_bits.specs.Contents.{WritesBits, bit_string_tag}
-use Rattle.bcder_values.specs.declared.choice.Choice2.{Choice2}
-use Rattle.bcder_values.specs.declared.choice.Choice2.TheVariants.{One, Two}
-use Rattle.bcder_values.specs.declared.constructed.Constructed.{Constructed}
-use Rattle.bcder_written.specs.declared.primitive.Primitive.{Primitive}
-use Rattle.bcder_values.specs.Choices.{AreEither}
-use Rattle.bcder_written.specs.Encoded.{AreBoth, IsPlain, IsWrapped}
-use Rattle.resources_chain.specs.Sets.{Run}
+use Rattle.resources_ip_block.specs.bcder_tree.declared.mode.Mode.{Mode}
+use Rattle.resources_ip_block.specs.bcder_tree.Tags.{universal}
+use Rattle.resources_ip_block.specs.bcder_tree.Tree.{Tree, Trees, none, more}
+use Rattle.resources_ip_block.specs.bcder_bits.Bits.{BitsValue}
+use Rattle.resources_ip_block.specs.bcder_bits.Contents.{WritesBits, bit_string_tag}
+use Rattle.resources_ip_block.specs.bcder_values.declared.choice.Choice2.{Choice2}
+use Rattle.resources_ip_block.specs.bcder_values.declared.choice.Choice2.TheVariants.{One, Two}
+use Rattle.resources_ip_block.specs.bcder_values.declared.constructed.Constructed.{Constructed}
+use Rattle.resources_ip_block.specs.bcder_written.declared.primitive.Primitive.{Primitive}
+use Rattle.resources_ip_block.specs.bcder_values.Choices.{AreEither}
+use Rattle.resources_ip_block.specs.bcder_written.Encoded.{AreBoth, IsPlain, IsWrapped}
+use Rattle.resources_ip_block.specs.resources_chain.Sets.{Run}
 use Rattle.resources_ip_prefix.specs.declared.addr.AddressFamily.{AddressFamily}
 use Rattle.resources_ip_prefix.specs.declared.addr.AddressFamily.TheVariants.{Ipv4, Ipv6}
 use Rattle.resources_ip_prefix.specs.declared.prefix.Prefix.{Prefix}

@@ -4,21 +4,21 @@ use Rattle.std.proofs.lemmas.Bool.Decides.{leb_tells}
 use Rattle.std.proofs.lemmas.Nat.{pow_pos, shr_high}
 use Rattle.std.proofs.Math.Pow.{pow-lt}
 use Rattle.std.specs.Int.{to_be_bytes, w128}
-use Rattle.bcder_tree.specs.declared.mode.Mode.{Mode}
-use Rattle.bcder_tree.specs.Tags.{TagValue}
-use Rattle.bcder_tree.specs.Tree.{Trees, constructed, none, more}
-use Rattle.bcder_bits.specs.Bits.{BitsValue}
-use Rattle.bcder_bits.specs.Contents.{WritesBits}
-use Rattle.bcder_bits.specs.Written.{one_bits}
-use Rattle.bcder_written.specs.declared.primitive.Primitive.{Primitive}
-use Rattle.bcder_written.specs.Encoded.{IsPlain, WritesPlain, WritesWrapped, WritesBoth, SpellsSome}
-use Rattle.bcder_values.specs.declared.choice.Choice2.{Choice2}
-use Rattle.bcder_values.specs.declared.choice.Choice2.TheVariants.{One, Two}
-use Rattle.bcder_values.specs.Choices.{WritesEither}
-use Rattle.bcder_values.specs.Laws.{both_spelled, both_one}
-use Rattle.bcder_values.specs.Plains.{plain_spelled, plain_one}
-use Rattle.bcder_values.specs.Wraps.{wrapped_spelled, wrapped_one}
-use Rattle.resources_chain.specs.Sets.{Run}
+use Rattle.resources_ip_block.specs.bcder_tree.declared.mode.Mode.{Mode}
+use Rattle.resources_ip_block.specs.bcder_tree.Tags.{TagValue}
+use Rattle.resources_ip_block.specs.bcder_tree.Tree.{Trees, constructed, none, more}
+use Rattle.resources_ip_block.specs.bcder_bits.Bits.{BitsValue}
+use Rattle.resources_ip_block.specs.bcder_bits.Contents.{WritesBits}
+use Rattle.resources_ip_block.specs.bcder_bits.Written.{one_bits}
+use Rattle.resources_ip_block.specs.bcder_written.declared.primitive.Primitive.{Primitive}
+use Rattle.resources_ip_block.specs.bcder_written.Encoded.{IsPlain, WritesPlain, WritesWrapped, WritesBoth, SpellsSome}
+use Rattle.resources_ip_block.specs.bcder_values.declared.choice.Choice2.{Choice2}
+use Rattle.resources_ip_block.specs.bcder_values.declared.choice.Choice2.TheVariants.{One, Two}
+use Rattle.resources_ip_block.specs.bcder_values.Choices.{WritesEither}
+use Rattle.resources_ip_block.specs.bcder_values.Laws.{both_spelled, both_one}
+use Rattle.resources_ip_block.specs.bcder_values.Plains.{plain_spelled, plain_one}
+use Rattle.resources_ip_block.specs.bcder_values.Wraps.{wrapped_spelled, wrapped_one}
+use Rattle.resources_ip_block.specs.resources_chain.Sets.{Run}
 use Rattle.resources_ip_prefix.specs.declared.prefix.Prefix.{Prefix}
 use Rattle.resources_ip_prefix.specs.Address.{bits_of}
 use Rattle.resources_ip_prefix.specs.Prefix.{prefix_addr, prefix_len, run_of_prefix, len_within, host_clear}

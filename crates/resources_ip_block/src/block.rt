@@ -10,7 +10,7 @@ ghost use Rattle.resources_ip_prefix.specs.Wide.{wide_run};
 ghost use Rattle.resources_ip_block.specs.Range.{run_of_range};
 
 use crate::range::{AddressRange, after, before};
-use resources_chain::Block;
+use crate::resources_chain::Block;
 use resources_ip_prefix::{Addr, Prefix};
 use std::ops::RangeInclusive;
 
@@ -24,11 +24,12 @@ pub enum IpBlock {
 }
 
 impl IpBlock {
-    ghost use Rattle.resources_ip_block.specs.Block.{run_of_block};
+    ghost use Rattle.resources_ip_block.specs.Block.{HasOneForm, run_of_block};
 
     /// The block of all addresses.
     pub fn all() -> Self
-        ensures { run_of_block result ≡ record { first = 0; last = 340282366920938463463374607431768211455 } }
+        ensures form { HasOneForm result }
+        ensures run { run_of_block result ≡ record { first = 0; last = 340282366920938463463374607431768211455 } }
     {
         IpBlock::Prefix(Prefix::new(Addr::from_bits(0), 0))
     }
@@ -71,8 +72,9 @@ impl IpBlock {
 
     /// The block of the addresses of a prefix that knows its family: those of IPv4 are the first 32 of 128 bits
     /// (RFC 3779 2.1.1).
-    pub fn from_addr_prefix(prefix: resources_addr::addr::Prefix) -> Self
-        ensures { run_of_block result ≡ wide_run prefix }
+    pub fn from_addr_prefix(prefix: crate::resources_addr::addr::Prefix) -> Self
+        ensures run { run_of_block result ≡ wide_run prefix }
+        ensures form { HasOneForm result }
     {
         IpBlock::Prefix(Prefix::from_addr_prefix(prefix))
     }
@@ -90,7 +92,7 @@ impl IpBlock {
 }
 
 impl Block for IpBlock {
-    ghost use Rattle.resources_ip_block.specs.Block.{run_of_block, block_within};
+    ghost use Rattle.resources_ip_block.specs.Block.{HasOneForm, block_within, run_of_block};
 
     type Item = Addr;
 
@@ -105,6 +107,7 @@ impl Block for IpBlock {
         requires { bits_of (range_inclusive_start bounds) ≤ bits_of (range_inclusive_end bounds) }
         ensures first { (run_of_block result).first ≡ bits_of (range_inclusive_start bounds) }
         ensures last { (run_of_block result).last ≡ bits_of (range_inclusive_end bounds) }
+        ensures form { HasOneForm result }
     {
         let (min, max) = bounds.into_inner();
         match AddressRange::new(min, max).into_prefix() {

@@ -1,18 +1,17 @@
 //! Ranges and blocks that are read from an encoding (RFC 3779 2.2.3.7, 2.2.3.9).
 
 ghost use Rattle.std.specs.Prelude.{◌≡◌, true, OnErr};
-ghost use Rattle.bcder_tree.specs.Tags.{universal};
-ghost use Rattle.bcder_content.specs.Exact.{ReadsAllAs, ReadsAs, ReadsOptAs};
-ghost use Rattle.bcder_content.specs.Here.{here};
-ghost use Rattle.bcder_content.specs.Perhaps.{ReadsIfAs};
+ghost use Rattle.resources_ip_block.specs.bcder_tree.Tags.{universal};
+ghost use Rattle.resources_ip_block.specs.bcder_content.Exact.{ReadsAllAs, ReadsAs, ReadsOptAs};
+ghost use Rattle.resources_ip_block.specs.bcder_content.Here.{here};
+ghost use Rattle.resources_ip_block.specs.bcder_content.Perhaps.{ReadsIfAs};
 ghost use Rattle.resources_ip_block.specs.Block.{run_of_block};
 ghost use Rattle.resources_ip_block.specs.BlockEncodings.{AreEnds, AreOrdered, IsBlock, IsRange, bounds_ends};
 ghost use Rattle.resources_ip_block.specs.Range.{run_of_range};
 
+use crate::bcder::decode::{Constructed, ContentError, DecodeError, Source};
 use crate::block::IpBlock;
 use crate::range::AddressRange;
-use bcder_content::Constructed;
-use bcder_source::{ContentError, DecodeError, Source};
 use resources_ip_prefix::{AddressFamily, Prefix};
 use std::alloc::Global;
 

@@ -1,11 +1,11 @@
 //! Laws of prefixes, ranges and blocks: the contracts of functions that do nothing.
 
 ghost use Rattle.std.specs.Prelude.{◌≡◌, ◌≤◌, ℕ};
-ghost use Rattle.bcder_tree.specs.declared.mode.Mode.{Mode as ModeValue};
-ghost use Rattle.bcder_tree.specs.Tree.{Tree, Trees};
-ghost use Rattle.bcder_values.specs.declared.choice.Choice2.{Choice2 as EitherValue};
-ghost use Rattle.bcder_written.specs.declared.primitive.Primitive.{Primitive as PrimitiveValue};
-ghost use Rattle.resources_chain.specs.Sets.{Run};
+ghost use Rattle.resources_ip_block.specs.bcder_tree.declared.mode.Mode.{Mode as ModeValue};
+ghost use Rattle.resources_ip_block.specs.bcder_tree.Tree.{Tree, Trees};
+ghost use Rattle.resources_ip_block.specs.bcder_values.declared.choice.Choice2.{Choice2 as EitherValue};
+ghost use Rattle.resources_ip_block.specs.bcder_written.declared.primitive.Primitive.{Primitive as PrimitiveValue};
+ghost use Rattle.resources_ip_block.specs.resources_chain.Sets.{Run};
 ghost use Rattle.resources_ip_prefix.specs.declared.addr.AddressFamily.{AddressFamily as FamilyValue};
 ghost use Rattle.resources_ip_prefix.specs.declared.addr.AddressFamily.TheVariants.{Ipv4};
 ghost use Rattle.resources_ip_prefix.specs.declared.prefix.Prefix.{Prefix as PrefixValue};

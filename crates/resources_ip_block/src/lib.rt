@@ -13,5 +13,9 @@ pub use block::IpBlock;
 pub use cover::RangePrefixes;
 pub use encode::{IpBlockEncoder, RangeEncoder};
 pub use range::AddressRange;
-pub use resources_ip_prefix::{Addr, AddressFamily, FromStrError, Prefix, addr, error, prefix};
+pub use resources_ip_prefix;
+pub use resources_ip_prefix::{
+    Addr, AddressFamily, FromStrError, Prefix, addr, bcder, error, prefix, resources_addr,
+    resources_chain,
+};
 pub use text::{DisplayV4Block, DisplayV6Block};

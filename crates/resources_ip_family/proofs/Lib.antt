@@ -1,1 +1,3 @@
 pub mod FamilyLemmas
+pub mod of_resources_ip
+pub mod of_resources_ip_block

@@ -1,9 +1,9 @@
 -- What contracts see of blocks of one family.
-use Rattle.resources_chain.specs.Sets.{Run}
+use Rattle.resources_ip_family.specs.resources_chain.Sets.{Run}
 use Rattle.resources_ip_family.specs.declared.v4.Ipv4Block.{Ipv4Block}
 use Rattle.resources_ip_family.specs.declared.v6.Ipv6Block.{Ipv6Block}
-use Rattle.resources_ip_block.specs.Block.{run_of_block}
-use Rattle.resources_ip_prefix.specs.Whole.{IsWhole}
+use Rattle.resources_ip_family.specs.resources_ip_block.Block.{run_of_block}
+use Rattle.resources_ip_family.specs.resources_ip_prefix.Whole.{IsWhole}
 
 -- The addresses.
 abbrev pub run_of_v4 : Ipv4Block → Run

@@ -1,20 +1,22 @@
 //! IPv4 blocks and sets.
 
-ghost use Rattle.std.specs.Prelude.{◌≡◌, ◌↔◌, ◌<◌, ℕ, List, IsTrue, IfOk, MatchResult, map, ⊤};
+ghost use Rattle.std.specs.Prelude.{◌≡◌, ◌↔◌, ◌<◌, ℕ, [], List, IsTrue, IfOk, MatchResult, map, ⊤};
 ghost use Rattle.std.specs.Cmp.{partial_equiv_from_equiv};
 ghost use Rattle.std.specs.Iterator.{IsFinite, DrainsIf};
-ghost use Rattle.resources_chain.specs.declared.choice.ResourcesChoice.TheVariants.{Blocks};
-ghost use Rattle.resources_chain.specs.Sets.{InRuns, IsRunsOf};
-ghost use Rattle.resources_chain.specs.Same.{runs_eq, runs_eq_equiv};
-ghost use Rattle.resources_ip_prefix.specs.Address.{bits_of};
-ghost use Rattle.resources_ip_block.specs.Block.{run_of_block};
+ghost use Rattle.resources_ip_family.specs.resources_chain.declared.choice.ResourcesChoice.TheVariants.{Blocks};
+ghost use Rattle.resources_ip_family.specs.resources_chain.Sets.{InRuns, IsRunsOf};
+ghost use Rattle.resources_ip_family.specs.resources_chain.Same.{runs_eq, runs_eq_equiv};
+ghost use Rattle.resources_ip_family.specs.resources_ip_prefix.Address.{bits_of};
+ghost use Rattle.resources_ip_family.specs.resources_ip_block.Block.{run_of_block};
 ghost use Rattle.resources_ip.specs.Blocks.{IsAddress};
-ghost use Rattle.resources_ip_prefix.specs.Whole.{IsWhole};
-ghost use Rattle.resources_ip.specs.WholeSets.{AreWhole};
+ghost use Rattle.resources_ip_family.specs.resources_ip_prefix.Whole.{IsWhole};
+ghost use Rattle.resources_ip_family.specs.resources_ip_prefix.declared.addr.AddressFamily.TheVariants.{Ipv4};
+ghost use Rattle.resources_ip.specs.WholeSets.{AreWhole, ListsWhole};
+ghost use Rattle.resources_ip.specs.Written.{FitsChoice};
 
+use crate::resources_ip_block::{Addr, AddressFamily, FromStrError, IpBlock};
 use resources_ip::listed::read_list;
 use resources_ip::{IpBlocks, IpBlocksBuilder, IpBlocksForFamily, IpResources};
-use resources_ip_block::{Addr, AddressFamily, FromStrError, IpBlock};
 use std::alloc::{AllocError, Global};
 use std::fmt;
 use std::marker::Model;
@@ -95,7 +97,7 @@ pub struct Ipv4Blocks {
 
 impl Model for Ipv4Blocks {
     ghost use Rattle.std.specs.Prelude.{List};
-    ghost use Rattle.resources_chain.specs.Sets.{Run};
+    ghost use Rattle.resources_ip_family.specs.resources_chain.Sets.{Run};
     ghost use Rattle.resources_ip.specs.WholeSets.{AreWhole};
 
     ghost Value = { List Run };
@@ -153,7 +155,10 @@ impl Ipv4Blocks {
     }
 
     /// The set of a text: blocks with `,` or `, ` between them, in any order.
-    pub fn from_str(alloc: Global, text: &str) -> Result<Self, FromStrError> {
+    /// Of the empty text, and of no other, it has no addresses.
+    pub fn from_str(alloc: Global, text: &str) -> Result<Self, FromStrError>
+        ensures none { IfOk result (λ s. ((n : ℕ) → ¬ (InRuns s n)) ↔ (text.now ≡ [])) }
+    {
         let blocks = read_list(alloc, AddressFamily::Ipv4, text)?;
         Ok(Ipv4Blocks { blocks })
     }
@@ -176,7 +181,9 @@ impl Ipv4Blocks {
 
     /// Resources that list the set, even where it is empty.
     pub fn to_ip_resources(&self) -> Result<IpResources, AllocError>
-        ensures { IfOk result (λ resources. resources ≡ Blocks self.now) }
+        ensures choice { IfOk result (λ resources. resources ≡ Blocks self.now) }
+        ensures fits { IfOk result (FitsChoice Ipv4) }
+        ensures whole { IfOk result ListsWhole }
     {
         Ok(IpResources::blocks(self.blocks.clone()?))
     }

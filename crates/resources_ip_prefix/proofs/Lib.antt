@@ -7,3 +7,7 @@ pub mod Values
 pub mod Spelled
 pub mod Told
 pub mod WideLemmas
+pub mod of_bcder_bits
+pub mod of_bcder_content
+pub mod of_bcder_octets
+pub mod of_resources_chain

@@ -4,12 +4,12 @@ use Rattle.std.specs.Int.{byte_at, bytes_high_first}
 use Rattle.std.proofs.Math.Arith.{mod-mul}
 use Rattle.std.proofs.Math.Nat.{pow-succ', add-mul-div_right, mod-lt, mul_assoc, mul-mod_left, mod-mod_of_dvd, dvd-mul_left}
 use Rattle.std.proofs.lemmas.Nat.{pow-add, div-mul-add, shl-shr}
-use Rattle.bcder_tree.specs.declared.mode.Mode.{Mode}
-use Rattle.bcder_tree.specs.declared.mode.Mode.TheVariants.{Ber, Cer, Der}
-use Rattle.bcder_tree.specs.Tree.{primitive}
-use Rattle.bcder_bits.specs.Bits.{bits}
-use Rattle.bcder_bits.specs.Contents.{IsBitString, WritesBits, bit_string_tag, cleared, last_octet, padded_in}
-use Rattle.bcder_bits.proofs.BitLists.{length-bits}
+use Rattle.resources_ip_prefix.specs.bcder_tree.declared.mode.Mode.{Mode}
+use Rattle.resources_ip_prefix.specs.bcder_tree.declared.mode.Mode.TheVariants.{Ber, Cer, Der}
+use Rattle.resources_ip_prefix.specs.bcder_tree.Tree.{primitive}
+use Rattle.resources_ip_prefix.specs.bcder_bits.Bits.{bits}
+use Rattle.resources_ip_prefix.specs.bcder_bits.Contents.{IsBitString, WritesBits, bit_string_tag, cleared, last_octet, padded_in}
+use Rattle.resources_ip_prefix.proofs.of_bcder_bits.BitLists.{length-bits}
 use Rattle.resources_ip_prefix.specs.declared.addr.AddressFamily.{AddressFamily}
 use Rattle.resources_ip_prefix.specs.declared.prefix.Prefix.{Prefix}
 use Rattle.resources_ip_prefix.specs.Address.{bits_of, bits_within}

@@ -1,27 +1,27 @@
 -- What is read of families and of addresses: the values that strings tell, and those that tell none.
 use Rattle.std.proofs.Common.{◌≡◌, ◌↔◌, Bool, false, IsTrue, List, ℕ, Result, Ok, Err, ap, subst}
 use Rattle.std.specs.Result.{IsErr, IsErrAnd}
-use Rattle.bcder_tree.specs.declared.mode.Mode.{Mode}
-use Rattle.bcder_tree.specs.Tags.{TagValue}
-use Rattle.bcder_tree.specs.Tree.{constructed}
-use Rattle.bcder_tree.specs.Strings.{IsString}
-use Rattle.bcder_source.specs.declared.error.DecodeError.{DecodeError}
-use Rattle.bcder_bits.specs.Bits.{BitsValue}
-use Rattle.bcder_bits.specs.Contents.{IsBitString}
-use Rattle.bcder_bits.proofs.Readings.{bit_string_one}
-use Rattle.bcder_content.specs.declared.content.Content.{Content}
-use Rattle.bcder_content.specs.Contents.{tag_of}
-use Rattle.bcder_content.specs.Either.{SameContent, ReadsContentAs}
-use Rattle.bcder_content.specs.Grammar.{OctetsOf, One}
-use Rattle.bcder_content.specs.Here.{here}
-use Rattle.bcder_content.specs.Tagged.{ReadsTagged}
-use Rattle.bcder_content.proofs.Tagged.{HasTag}
-use Rattle.bcder_content.proofs.Unique.{octets_one}
-use Rattle.bcder_content.proofs.Within.{Within, content_gives, content_stop, content_unfit}
-use Rattle.bcder_octets.specs.Parts.{ReadsString}
-use Rattle.bcder_octets.proofs.Cuts.{not_so}
-use Rattle.bcder_octets.proofs.Meaning.{one_string}
-use Rattle.bcder_octets.proofs.Strings.{string_tagged, string_reads}
+use Rattle.resources_ip_prefix.specs.bcder_tree.declared.mode.Mode.{Mode}
+use Rattle.resources_ip_prefix.specs.bcder_tree.Tags.{TagValue}
+use Rattle.resources_ip_prefix.specs.bcder_tree.Tree.{constructed}
+use Rattle.resources_ip_prefix.specs.bcder_tree.Strings.{IsString}
+use Rattle.resources_ip_prefix.specs.bcder_source.declared.error.DecodeError.{DecodeError}
+use Rattle.resources_ip_prefix.specs.bcder_bits.Bits.{BitsValue}
+use Rattle.resources_ip_prefix.specs.bcder_bits.Contents.{IsBitString}
+use Rattle.resources_ip_prefix.proofs.of_bcder_bits.Readings.{bit_string_one}
+use Rattle.resources_ip_prefix.specs.bcder_content.declared.content.Content.{Content}
+use Rattle.resources_ip_prefix.specs.bcder_content.Contents.{tag_of}
+use Rattle.resources_ip_prefix.specs.bcder_content.Either.{SameContent, ReadsContentAs}
+use Rattle.resources_ip_prefix.specs.bcder_content.Grammar.{OctetsOf, One}
+use Rattle.resources_ip_prefix.specs.bcder_content.Here.{here}
+use Rattle.resources_ip_prefix.specs.bcder_content.Tagged.{ReadsTagged}
+use Rattle.resources_ip_prefix.proofs.of_bcder_content.Tagged.{HasTag}
+use Rattle.resources_ip_prefix.proofs.of_bcder_content.Unique.{octets_one}
+use Rattle.resources_ip_prefix.proofs.of_bcder_content.Within.{Within, content_gives, content_stop, content_unfit}
+use Rattle.resources_ip_prefix.specs.bcder_octets.Parts.{ReadsString}
+use Rattle.resources_ip_prefix.proofs.of_bcder_octets.Cuts.{not_so}
+use Rattle.resources_ip_prefix.proofs.of_bcder_octets.Meaning.{one_string}
+use Rattle.resources_ip_prefix.proofs.of_bcder_octets.Strings.{string_tagged, string_reads}
 use Rattle.resources_ip_prefix.specs.declared.addr.AddressFamily.{AddressFamily}
 use Rattle.resources_ip_prefix.specs.declared.addr.AddressFamily.TheVariants.{Ipv4, Ipv6}
 use Rattle.resources_ip_prefix.specs.declared.prefix.Prefix.{Prefix}

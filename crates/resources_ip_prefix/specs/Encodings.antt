@@ -1,12 +1,12 @@
 -- Addresses and families in an encoding (RFC 3779 2.2.3).
 use Rattle.std.specs.Prelude.{ℕ, zero, suc, ◌+◌, ◌*◌, ◌^◌, ◌≤◌, List, [], ◌∷◌, length}
-use Rattle.bcder_tree.specs.declared.mode.Mode.{Mode}
-use Rattle.bcder_tree.specs.Tags.{TagValue}
-use Rattle.bcder_tree.specs.Strings.{IsString, octet_string_tag}
-use Rattle.bcder_tree.specs.Tree.{Tree}
-use Rattle.bcder_bits.specs.Bits.{BitsValue, bits}
-use Rattle.bcder_bits.specs.Contents.{IsBitString, bit_string_tag}
-use Rattle.bcder_content.specs.Grammar.{As, OctetsOf, Such}
+use Rattle.resources_ip_prefix.specs.bcder_tree.declared.mode.Mode.{Mode}
+use Rattle.resources_ip_prefix.specs.bcder_tree.Tags.{TagValue}
+use Rattle.resources_ip_prefix.specs.bcder_tree.Strings.{IsString, octet_string_tag}
+use Rattle.resources_ip_prefix.specs.bcder_tree.Tree.{Tree}
+use Rattle.resources_ip_prefix.specs.bcder_bits.Bits.{BitsValue, bits}
+use Rattle.resources_ip_prefix.specs.bcder_bits.Contents.{IsBitString, bit_string_tag}
+use Rattle.resources_ip_prefix.specs.bcder_content.Grammar.{As, OctetsOf, Such}
 use Rattle.resources_ip_prefix.specs.declared.addr.AddressFamily.{AddressFamily}
 use Rattle.resources_ip_prefix.specs.declared.addr.AddressFamily.TheVariants.{Ipv4, Ipv6}
 use Rattle.resources_ip_prefix.specs.declared.prefix.Prefix.{Prefix}

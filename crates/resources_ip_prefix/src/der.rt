@@ -1,19 +1,17 @@
 //! Families and prefixes that are read from an encoding (RFC 3779 2.2.3.3, 2.2.3.8).
 
 ghost use Rattle.std.specs.Prelude.{◌≡◌, ◌≤◌, true, length, MatchOption, OnErr};
-ghost use Rattle.bcder_tree.specs.Strings.{octet_string_tag};
-ghost use Rattle.bcder_bits.specs.Contents.{bit_string_tag};
-ghost use Rattle.bcder_content.specs.Exact.{ReadsAs, ReadsOptAs};
-ghost use Rattle.bcder_content.specs.Here.{here};
-ghost use Rattle.bcder_content.specs.Tagged.{ReadsTagged};
+ghost use Rattle.resources_ip_prefix.specs.bcder_tree.Strings.{octet_string_tag};
+ghost use Rattle.resources_ip_prefix.specs.bcder_bits.Contents.{bit_string_tag};
+ghost use Rattle.resources_ip_prefix.specs.bcder_content.Exact.{ReadsAs, ReadsOptAs};
+ghost use Rattle.resources_ip_prefix.specs.bcder_content.Here.{here};
+ghost use Rattle.resources_ip_prefix.specs.bcder_content.Tagged.{ReadsTagged};
 ghost use Rattle.resources_ip_prefix.specs.Encodings.{FitsFamily, IsAddress, IsAddressIn, IsAnyFamily, IsFamily, IsFamilyIn, filled, prefix_bits, told_by};
 
 use crate::addr::{Addr, AddressFamily};
 use crate::prefix::Prefix;
-use bcder_bits::BitString;
-use bcder_content::{Constructed, Content};
-use bcder_octets::OctetString;
-use bcder_source::{ContentError, DecodeError, Source, Tag};
+use bcder::decode::{Constructed, Content, ContentError, DecodeError, Source};
+use bcder::{BitString, OctetString, Tag};
 use std::alloc::Global;
 
 // The family of the content of an OCTET STRING.

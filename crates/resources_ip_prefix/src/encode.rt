@@ -2,18 +2,17 @@
 
 ghost use Rattle.std.proofs.Common.{rules};
 ghost use Rattle.std.specs.Prelude.{◌≡◌, ◌+◌, ◌/◌, ◌≤◌};
-ghost use Rattle.bcder_tree.specs.Strings.{octet_string_tag};
-ghost use Rattle.bcder_bits.specs.Contents.{WritesBits, bit_string_tag};
-ghost use Rattle.bcder_bits.specs.Written.{one_bits};
+ghost use Rattle.resources_ip_prefix.specs.bcder_tree.Strings.{octet_string_tag};
+ghost use Rattle.resources_ip_prefix.specs.bcder_bits.Contents.{WritesBits, bit_string_tag};
+ghost use Rattle.resources_ip_prefix.specs.bcder_bits.Written.{one_bits};
 ghost use Rattle.resources_ip_prefix.specs.Encodings.{family_octets};
 ghost use Rattle.resources_ip_prefix.specs.Written.{octet_count, spelled_bits};
 
 use crate::addr::AddressFamily;
 use crate::prefix::Prefix;
-use bcder_bits::BitSlice;
-use bcder_octets::{OctetSliceEncoder, OctetString};
-use bcder_tree::{Mode, Tag};
-use bcder_values::{EncodeError, PrimitiveContent};
+use bcder::encode::{EncodeError, PrimitiveContent};
+use bcder::string::{BitSlice, OctetSliceEncoder};
+use bcder::{Mode, OctetString, Tag};
 use std::io::Write;
 
 impl AddressFamily {

@@ -11,5 +11,8 @@ pub mod prefix;
 mod text;
 
 pub use addr::{Addr, AddressFamily};
+pub use bcder;
 pub use error::FromStrError;
 pub use prefix::Prefix;
+pub use resources_addr;
+pub use resources_chain;

@@ -2,9 +2,9 @@
 use Rattle.std.proofs.Common.{◌≡◌, ℕ, ◌+◌, ◌*◌, ◌<◌, ◌≤◌, List, [], ◌∷◌, All, refl, arith}
 use Rattle.resources_chain.specs.declared.claims.Overclaim.{Overclaim}
 use Rattle.resources_chain.specs.declared.claims.Overclaim.TheVariants.{Refuse, Trim}
-use Rattle.bcder_oid.specs.Subidentifiers.{InTurn, IsShortest}
-use Rattle.bcder_oid.specs.Texts.{Spells}
-use Rattle.bcder_oid.proofs.Written.{spells}
+use Rattle.resources_policy.specs.bcder_oid.Subidentifiers.{InTurn, IsShortest}
+use Rattle.resources_policy.specs.bcder_oid.Texts.{Spells}
+use Rattle.resources_policy.proofs.of_bcder_oid.Written.{spells}
 use Rattle.resources_policy.specs.Identifiers.{policy_octets, ip_octets, as_octets, policy_components, ip_components, as_components}
 
 small : (n : ℕ) → n < 128 → IsShortest (n ∷ []) n

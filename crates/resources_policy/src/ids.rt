@@ -4,7 +4,7 @@ ghost use Rattle.std.specs.Prelude.{◌≡◌, MatchOption};
 ghost use Rattle.resources_chain.specs.declared.claims.Overclaim.{Overclaim as Policy};
 ghost use Rattle.resources_policy.specs.Identifiers.{policy_octets, ip_octets, as_octets};
 
-use bcder_oid::{ConstOid, Oid};
+use bcder::{ConstOid, Oid};
 use resources_chain::Overclaim;
 use std::convert::AsSlice;
 

@@ -1,7 +1,7 @@
 //! Laws of the identifiers. These functions do nothing: their contracts are the laws.
 
 ghost use Rattle.resources_chain.specs.declared.claims.Overclaim.{Overclaim as Policy};
-ghost use Rattle.bcder_oid.specs.Texts.{Spells};
+ghost use Rattle.resources_policy.specs.bcder_oid.Texts.{Spells};
 ghost use Rattle.resources_policy.specs.Identifiers.{policy_octets, ip_octets, as_octets, policy_components, ip_components, as_components};
 
 /// The octets of each identifier are those of its components, and the fewest (X.690 8.19).

@@ -8,5 +8,7 @@
 pub mod ids;
 pub mod laws;
 
+pub use bcder;
 pub use ids::OverclaimIds;
+pub use resources_chain;
 pub use resources_chain::Overclaim;

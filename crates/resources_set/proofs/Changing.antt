@@ -1,7 +1,7 @@
 -- What changes lead to.
 use Rattle.std.proofs.Common.{◌≡◌, ℕ, List, inl, inr}
-use Rattle.resources_chain.specs.Sets.{Run, InFirstOnly, IsRunsOf}
-use Rattle.resources_chain.proofs.SetLemmas.{decides, one_list_of}
+use Rattle.resources_set.specs.resources_chain.Sets.{Run, InFirstOnly, IsRunsOf}
+use Rattle.resources_set.proofs.of_resources_chain.SetLemmas.{decides, one_list_of}
 use Rattle.resources_set.specs.Resources.{Resources, Changes, AreChanges, Combines}
 use Rattle.resources_set.specs.Equal.{set_is}
 use Rattle.resources_set.specs.Laws.{Turns, LeadsTo}

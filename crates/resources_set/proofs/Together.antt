@@ -1,8 +1,8 @@
 -- What is told of each kind, together.
 use Rattle.std.proofs.Common.{◌≡◌, ◌∙◌, subst}
 use Rattle.std.specs.Prelude.{◌↔◌, ◌&&◌, Bool, IsTrue, List}
-use Rattle.resources_chain.specs.Same.{one_answer}
-use Rattle.resources_chain.specs.Sets.{Run, IsInside}
+use Rattle.resources_set.specs.resources_chain.Same.{one_answer}
+use Rattle.resources_set.specs.resources_chain.Sets.{Run, IsInside}
 use Rattle.resources_set.specs.Equal.{all_three}
 use Rattle.resources_set.specs.Resources.{Resources, AreSame, HasNone, IsNone}
 

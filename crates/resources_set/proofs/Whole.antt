@@ -1,7 +1,7 @@
 -- Sets over whole IPv4 addresses, joined and cut.
 use Rattle.std.proofs.Common.{ℕ, List, inl, inr, sym}
-use Rattle.resources_chain.specs.Sets.{Run, InEither, InBoth, InFirstOnly, IsRunsOf}
-use Rattle.resources_ip.specs.WholeSets.{AreWhole}
+use Rattle.resources_set.specs.resources_chain.Sets.{Run, InEither, InBoth, InFirstOnly, IsRunsOf}
+use Rattle.resources_set.specs.resources_ip.WholeSets.{AreWhole}
 
 pub whole_either : (a b set : List Run) → AreWhole a → AreWhole b → IsRunsOf (InEither a b) set → AreWhole set
 whole_either a b set p q is n m e h = (is.same m).1 (elim ((is.same n).0 h) [ inl x ↦ inl (p n m e x) | inr x ↦ inr (q n m e x) ])

@@ -2,8 +2,8 @@
 use Rattle.std.specs.Prelude.{◌≡◌, ◌&&◌, ◌↔◌, Bool, true, false, IsTrue, List, refl}
 use Rattle.std.proofs.Common.{sym, ◌∙◌, ap}
 use Rattle.std.specs.Cmp.{IsEquivalence}
-use Rattle.resources_chain.specs.Sets.{Run}
-use Rattle.resources_chain.specs.Same.{runs_eq, runs_eq_tells, one_answer}
+use Rattle.resources_set.specs.resources_chain.Sets.{Run}
+use Rattle.resources_set.specs.resources_chain.Same.{runs_eq, runs_eq_tells, one_answer}
 use Rattle.resources_set.specs.Resources.{Resources}
 
 abbrev pub sets_eq : Resources → Resources → Bool

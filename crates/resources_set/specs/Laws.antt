@@ -1,6 +1,6 @@
 -- What changes do.
 use Rattle.std.specs.Prelude.{ℕ, ◌⊎◌, ◌↔◌, List}
-use Rattle.resources_chain.specs.Sets.{Run, InRuns}
+use Rattle.resources_set.specs.resources_chain.Sets.{Run, InRuns}
 use Rattle.resources_set.specs.Resources.{Resources, Changes}
 
 -- The numbers of one set without those of a second, and those of a third, are just those of a fourth.

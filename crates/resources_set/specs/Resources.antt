@@ -1,9 +1,9 @@
 -- Sets of resources of three kinds: AS numbers, and addresses of IPv4 and of IPv6.
 use Rattle.std.specs.Prelude.{◌≡◌, ℕ, ◌/◌, ◌^◌, ◌⊎◌, ◌↔◌, List}
-use Rattle.resources_chain.specs.Sets.{Run, InRuns, IsRunsOf, InFirstOnly, IsInside}
-use Rattle.resources_chain.specs.Claims.{Choice, Lists}
-pub use Rattle.resources_ip.specs.WholeSets.{ListsWhole}
-use Rattle.resources_chain.specs.declared.choice.ResourcesChoice.TheVariants.{Inherit}
+use Rattle.resources_set.specs.resources_chain.Sets.{Run, InRuns, IsRunsOf, InFirstOnly, IsInside}
+use Rattle.resources_set.specs.resources_chain.Claims.{Choice, Lists}
+pub use Rattle.resources_set.specs.resources_ip.WholeSets.{ListsWhole}
+use Rattle.resources_set.specs.resources_chain.declared.choice.ResourcesChoice.TheVariants.{Inherit}
 
 -- The maximal runs of each kind.
 pub record Resources : Type 0 where

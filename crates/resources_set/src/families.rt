@@ -1,7 +1,7 @@
 //! Sets of one family, joined and cut.
 
 ghost use Rattle.std.specs.Prelude.{IfOk};
-ghost use Rattle.resources_chain.specs.Sets.{IsRunsOf, InEither, InBoth, InFirstOnly};
+ghost use Rattle.resources_set.specs.resources_chain.Sets.{IsRunsOf, InEither, InBoth, InFirstOnly};
 
 use resources_ip_family::{Ipv4Blocks, Ipv6Blocks};
 use std::alloc::{AllocError, Global};

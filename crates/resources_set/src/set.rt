@@ -1,20 +1,22 @@
 //! Sets of resources of all three kinds.
 
-ghost use Rattle.std.specs.Prelude.{◌≡◌, ℕ, ◌≤◌, ◌↔◌, ◌⊎◌, ◌==◌, ◌&&◌, IsTrue, IsErrOf, IfOk};
+ghost use Rattle.std.specs.Prelude.{◌≡◌, ℕ, [], ◌≤◌, ◌↔◌, ◌⊎◌, ◌==◌, ◌&&◌, IsTrue, IsErrOf, IfOk};
 ghost use Rattle.std.proofs.Common.{rules};
-ghost use Rattle.resources_chain.specs.Sets.{IsRunsOf, InEither, InBoth, InFirstOnly};
-ghost use Rattle.resources_chain.specs.Claims.{Lists};
-ghost use Rattle.resources_chain.specs.declared.choice.ResourcesChoice.TheVariants.{Inherit, Blocks};
-ghost use Rattle.resources_ip.specs.Blocks.{IsAddress};
-ghost use Rattle.resources_set.specs.Resources.{Resources, AreRunsOf, Combines, HasNone, AreInside, HaveSame, AreChanges, SomeInherit, ListsWhole};
+ghost use Rattle.resources_set.specs.resources_chain.Sets.{IsRunsOf, InEither, InBoth, InFirstOnly};
+ghost use Rattle.resources_set.specs.resources_chain.Claims.{HasMaximal, Lists};
+ghost use Rattle.resources_set.specs.resources_chain.declared.choice.ResourcesChoice.TheVariants.{Inherit, Blocks};
+ghost use Rattle.resources_set.specs.resources_ip_prefix.declared.addr.AddressFamily.TheVariants.{Ipv4, Ipv6};
+ghost use Rattle.resources_set.specs.resources_ip.Blocks.{IsAddress};
+ghost use Rattle.resources_set.specs.resources_ip.Written.{FitsChoice};
+ghost use Rattle.resources_set.specs.Resources.{Resources, AreRunsOf, Combines, HasNone, IsNone, AreInside, HaveSame, AreChanges, SomeInherit, ListsWhole};
 
 use crate::diff::ResourceDiff;
 use crate::error::{FromStrError, InheritError};
 use crate::families::{
     difference_v4, difference_v6, intersection_v4, intersection_v6, union_v4, union_v6,
 };
+use crate::resources_ip::IpResources;
 use resources_as::{AsBlocks, AsResources};
-use resources_ip::IpResources;
 use resources_ip_family::{Ipv4Blocks, Ipv6Blocks};
 use std::alloc::{AllocError, Global};
 use std::fmt;
@@ -44,13 +46,13 @@ impl ResourceSet {
         ResourceSet { asn, ipv4, ipv6 }
     }
 
-    /// The set of three texts, each of blocks with `,` or `, ` between them, in any order; an empty text has none.
-    pub fn from_strs(
-        alloc: Global,
-        asn: &str,
-        ipv4: &str,
-        ipv6: &str,
-    ) -> Result<Self, FromStrError> {
+    /// The set of three texts, each of blocks with `,` or `, ` between them, in any order. It has none of a kind exactly
+    /// where that kind's text is empty.
+    pub fn from_strs(alloc: Global, asn: &str, ipv4: &str, ipv6: &str) -> Result<Self, FromStrError>
+        ensures no_asn { IfOk result (λ set. IsNone set.asn ↔ (asn.now ≡ [])) }
+        ensures no_ipv4 { IfOk result (λ set. IsNone set.ipv4 ↔ (ipv4.now ≡ [])) }
+        ensures no_ipv6 { IfOk result (λ set. IsNone set.ipv6 ↔ (ipv6.now ≡ [])) }
+    {
         let asn = AsBlocks::from_str(alloc, asn).map_err(|error| FromStrError::of_asn(error))?;
         let ipv4 = Ipv4Blocks::from_str(alloc, ipv4).map_err(|error| FromStrError::of_ipv4(error))?;
         let ipv6 = Ipv6Blocks::from_str(alloc, ipv6).map_err(|error| FromStrError::of_ipv6(error))?;
@@ -58,7 +60,8 @@ impl ResourceSet {
     }
 
     /// The set that the resources of a certificate list; none of a kind that is missing. The IPv4 resources are over
-    /// whole IPv4 addresses (`IpBlocks::is_whole_v4`).
+    /// whole IPv4 addresses, as all are that were read as IPv4, and those that `Ipv4Blocks` gives; of others
+    /// `IpBlocks::is_whole_v4` tells.
     pub fn from_resources(
         asn: &AsResources,
         ipv4: &IpResources,
@@ -143,7 +146,8 @@ impl ResourceSet {
 
     /// The AS numbers as resources that list them, even where there are none.
     pub fn to_as_resources(&self) -> Result<AsResources, AllocError>
-        ensures { IfOk result (λ resources. resources ≡ Blocks self.now.asn) }
+        ensures choice { IfOk result (λ resources. resources ≡ Blocks self.now.asn) }
+        ensures maximal { IfOk result HasMaximal }
     {
         Ok(AsResources::blocks(self.asn.clone()?))
     }
@@ -157,7 +161,9 @@ impl ResourceSet {
 
     /// The IPv4 addresses as resources that list them, even where there are none.
     pub fn to_ip_resources_v4(&self) -> Result<IpResources, AllocError>
-        ensures { IfOk result (λ resources. resources ≡ Blocks self.now.ipv4) }
+        ensures choice { IfOk result (λ resources. resources ≡ Blocks self.now.ipv4) }
+        ensures fits { IfOk result (FitsChoice Ipv4) }
+        ensures whole { IfOk result ListsWhole }
     {
         self.ipv4.to_ip_resources()
     }
@@ -171,7 +177,8 @@ impl ResourceSet {
 
     /// The IPv6 addresses as resources that list them, even where there are none.
     pub fn to_ip_resources_v6(&self) -> Result<IpResources, AllocError>
-        ensures { IfOk result (λ resources. resources ≡ Blocks self.now.ipv6) }
+        ensures choice { IfOk result (λ resources. resources ≡ Blocks self.now.ipv6) }
+        ensures fits { IfOk result (FitsChoice Ipv6) }
     {
         self.ipv6.to_ip_resources()
     }

@@ -1,17 +1,17 @@
 -- The grammar of bundles says what their definition does.
 use Rattle.std.proofs.Common.{◌≡◌, ◌≢◌, ℕ, ◌^◌, ◌<◌, List, [], ◌∷◌, ◌++◌, length, inl, inr, refl, sym, ap, ◌∙◌, subst, append-nil, arith}
 use Rattle.std.specs.Prelude.{All}
-use Rattle.bcder_tree.specs.declared.mode.Mode.TheVariants.{Der}
-use Rattle.bcder_tree.specs.Tags.{TagValue, universal}
-use Rattle.bcder_tree.specs.Tree.{Tree, Trees, primitive, constructed, none, more, Spells, SpellsAll}
-use Rattle.bcder_tree.specs.Sequences.{sequence, EachIs, IsSequenceOf}
-use Rattle.bcder_tree.specs.Integers.{IsNumber}
-use Rattle.bcder_tree.specs.Strings.{IsPrintable, IsIa5}
-use Rattle.bcder_primitive.specs.Values.{IsUnsigned, IsValue}
-use Rattle.bcder_chars.specs.Sets.{alone}
-use Rattle.bcder_chars.specs.Texts.{IsText}
-use Rattle.bcder_chars.proofs.Ascii.{ascii_text}
-use Rattle.bcder_content.specs.Grammar.{Inside, OctetsOf, ManyCases, Many}
+use Rattle.rpki_bundle.specs.bcder_tree.declared.mode.Mode.TheVariants.{Der}
+use Rattle.rpki_bundle.specs.bcder_tree.Tags.{TagValue, universal}
+use Rattle.rpki_bundle.specs.bcder_tree.Tree.{Tree, Trees, primitive, constructed, none, more, Spells, SpellsAll}
+use Rattle.rpki_bundle.specs.bcder_tree.Sequences.{sequence, EachIs, IsSequenceOf}
+use Rattle.rpki_bundle.specs.bcder_tree.Integers.{IsNumber}
+use Rattle.rpki_bundle.specs.bcder_tree.Strings.{IsPrintable, IsIa5}
+use Rattle.rpki_bundle.specs.bcder_primitive.Values.{IsUnsigned, IsValue}
+use Rattle.rpki_bundle.specs.bcder_chars.Sets.{alone}
+use Rattle.rpki_bundle.specs.bcder_chars.Texts.{IsText}
+use Rattle.rpki_bundle.proofs.of_bcder_chars.Ascii.{ascii_text}
+use Rattle.rpki_bundle.specs.bcder_content.Grammar.{Inside, OctetsOf, ManyCases, Many}
 use Rattle.rpki_bundle.specs.declared.parts.Locator.{Locator}
 use Rattle.rpki_bundle.specs.declared.parts.Object.{Object}
 use Rattle.rpki_bundle.specs.declared.parts.Verdict.{Verdict}

@@ -1,10 +1,10 @@
 -- A value by its identifier octet, its length and its content.
 use Rattle.std.proofs.Common.{◌≡◌, ℕ, ◌+◌, ◌*◌, ◌<◌, Bool, List, [], ◌∷◌, ◌++◌, length, refl, ap, ◌∙◌, arith}
-use Rattle.bcder_tree.specs.declared.mode.Mode.TheVariants.{Der}
-use Rattle.bcder_tree.specs.Tags.{TagValue}
-use Rattle.bcder_tree.specs.Octets.{form_bit, IsLength}
-use Rattle.bcder_tree.specs.Front.{Splits}
-use Rattle.bcder_tree.proofs.Fronts.{one_octet_header}
+use Rattle.rpki_bundle.specs.bcder_tree.declared.mode.Mode.TheVariants.{Der}
+use Rattle.rpki_bundle.specs.bcder_tree.Tags.{TagValue}
+use Rattle.rpki_bundle.specs.bcder_tree.Octets.{form_bit, IsLength}
+use Rattle.rpki_bundle.specs.bcder_tree.Front.{Splits}
+use Rattle.rpki_bundle.proofs.of_bcder_tree.Fronts.{one_octet_header}
 
 -- One identifier octet, a length, as many content octets, and what is behind them.
 pub record TakesContent (identifier : ℕ) (octets content behind : List ℕ) : Type 0 where

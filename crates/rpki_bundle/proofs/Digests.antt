@@ -2,9 +2,9 @@
 use Rattle.std.proofs.Common.{◌≡◌, ℕ, ◌+◌, ◌<◌, ◌≤◌, suc, zero, true, false, List, [], ◌∷◌, ◌++◌, length, take, Option, Some, None, refl, sym, ap, ◌∙◌, subst, length-append, arith}
 use Rattle.std.proofs.lemmas.List.{length-take}
 use Rattle.std.specs.Prelude.{min}
-use Rattle.bcder_source.specs.Limits.{at_hand}
-use Rattle.bcder_source.specs.Views.{View, Moved, left, limited, more_limit}
-use Rattle.bcder_primitive.specs.Plain.{OctetsLeft, octets_in, GoesBy, Drained, WholeOctets, LacksOctets, GivesOctets}
+use Rattle.rpki_bundle.specs.bcder_source.Limits.{at_hand}
+use Rattle.rpki_bundle.specs.bcder_source.Views.{View, Moved, left, limited, more_limit}
+use Rattle.rpki_bundle.specs.bcder_primitive.Plain.{OctetsLeft, octets_in, GoesBy, Drained, WholeOctets, LacksOctets, GivesOctets}
 use Rattle.rpki_bundle.specs.Grammars.{IsDigest}
 
 take_take : (n m : ℕ) (xs : List ℕ) → n ≤ m → take n (take m xs) ≡ take n xs

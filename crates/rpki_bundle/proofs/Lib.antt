@@ -13,3 +13,8 @@ pub use Rattle.certs_uri.proofs.UriTexts
 pub use Rattle.certs_time.proofs.Calendar
 pub use Rattle.certs_time.proofs.Moments
 pub mod Objects
+pub mod of_bcder_chars
+pub mod of_bcder_content
+pub mod of_bcder_tree
+pub mod of_bcder_values
+pub mod of_certs_time

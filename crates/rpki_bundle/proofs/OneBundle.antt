@@ -1,13 +1,13 @@
 -- Octets spell one bundle at most.
 use Rattle.std.proofs.Common.{◌≡◌, ℕ, ◌+◌, ◌^◌, ◌≤◌, List, [], ◌∷◌, length, refl, subst}
-use Rattle.bcder_tree.specs.declared.mode.Mode.TheVariants.{Der}
-use Rattle.bcder_tree.specs.Tags.{universal}
-use Rattle.bcder_tree.specs.Tree.{Tree, Trees, primitive, constructed, none, more, Spells}
-use Rattle.bcder_tree.specs.Sequences.{sequence, sequence_tag, forest, EachIs, IsSequenceOf}
-use Rattle.bcder_tree.specs.Integers.{IsNumber}
-use Rattle.bcder_tree.proofs.Trees.{one_tree}
-use Rattle.bcder_tree.proofs.Integers.{one_number}
-use Rattle.bcder_tree.proofs.Fronts.{whole_front, sequence_bound}
+use Rattle.rpki_bundle.specs.bcder_tree.declared.mode.Mode.TheVariants.{Der}
+use Rattle.rpki_bundle.specs.bcder_tree.Tags.{universal}
+use Rattle.rpki_bundle.specs.bcder_tree.Tree.{Tree, Trees, primitive, constructed, none, more, Spells}
+use Rattle.rpki_bundle.specs.bcder_tree.Sequences.{sequence, sequence_tag, forest, EachIs, IsSequenceOf}
+use Rattle.rpki_bundle.specs.bcder_tree.Integers.{IsNumber}
+use Rattle.rpki_bundle.proofs.of_bcder_tree.Trees.{one_tree}
+use Rattle.rpki_bundle.proofs.of_bcder_tree.Integers.{one_number}
+use Rattle.rpki_bundle.proofs.of_bcder_tree.Fronts.{whole_front, sequence_bound}
 use Rattle.certs_time.specs.Times.{IsMoment}
 use Rattle.rpki_bundle.specs.TimeForms.{IsGeneralizedTime}
 use Rattle.rpki_bundle.specs.EntryTrees.{one_locator, one_object, one_verdict}

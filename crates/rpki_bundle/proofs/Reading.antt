@@ -3,25 +3,25 @@ use Rattle.std.proofs.Common.{◌≡◌, ℕ, true, false, List, [], ◌++◌, O
 use denote.Ref.{MutBor}
 use Rattle.std.specs.Fn.{FnOnceReturnsAtMut}
 use Rattle.std.specs.Result.{IsErrAnd}
-use Rattle.bcder_tree.specs.declared.mode.Mode.{Mode}
-use Rattle.bcder_tree.specs.declared.mode.Mode.TheVariants.{Der}
-use Rattle.bcder_tree.specs.Tags.{TagValue}
-use Rattle.bcder_tree.specs.Tree.{Tree, Trees, primitive, none, more, SpellsAll}
-use Rattle.bcder_source.specs.Errors.{OnContent}
-use Rattle.bcder_source.specs.Views.{limited, more_limit}
-use Rattle.bcder_source.specs.declared.error.DecodeError.{DecodeError}
-use Rattle.bcder_source.specs.declared.error.DecodeError.TheVariants.{Content, Source, Memory}
-use Rattle.bcder_primitive.specs.Values.{AnyOctets}
-use Rattle.bcder_content.specs.declared.constructed.Constructed.{Constructed}
-use Rattle.bcder_content.specs.Contents.{ValuesLeft, octets, EndsHere, TookAll, Ended, Whole}
-use Rattle.bcder_content.specs.Exact.{Gives, Lacks, ReadsAs, ReadsOptAs, LacksAll, ReadsAllAs}
-use Rattle.bcder_content.specs.Grammar.{OctetsOf, As, End}
-use Rattle.bcder_content.specs.Here.{here}
-use Rattle.bcder_content.specs.Ran.{Reader, fresh, RanIn, refused_in, failed_in, DecodedCases, Decoded}
-use Rattle.bcder_content.proofs.Choices.{as_gives, as_lacks, as_lacks_tagged}
-use Rattle.bcder_content.proofs.Taking.{weaker}
-use Rattle.bcder_content.proofs.Took.{one_took, whole_none}
-use Rattle.bcder_values.proofs.Returning.{all_read}
+use Rattle.rpki_bundle.specs.bcder_tree.declared.mode.Mode.{Mode}
+use Rattle.rpki_bundle.specs.bcder_tree.declared.mode.Mode.TheVariants.{Der}
+use Rattle.rpki_bundle.specs.bcder_tree.Tags.{TagValue}
+use Rattle.rpki_bundle.specs.bcder_tree.Tree.{Tree, Trees, primitive, none, more, SpellsAll}
+use Rattle.rpki_bundle.specs.bcder_source.Errors.{OnContent}
+use Rattle.rpki_bundle.specs.bcder_source.Views.{limited, more_limit}
+use Rattle.rpki_bundle.specs.bcder_source.declared.error.DecodeError.{DecodeError}
+use Rattle.rpki_bundle.specs.bcder_source.declared.error.DecodeError.TheVariants.{Content, Source, Memory}
+use Rattle.rpki_bundle.specs.bcder_primitive.Values.{AnyOctets}
+use Rattle.rpki_bundle.specs.bcder_content.declared.constructed.Constructed.{Constructed}
+use Rattle.rpki_bundle.specs.bcder_content.Contents.{ValuesLeft, octets, EndsHere, TookAll, Ended, Whole}
+use Rattle.rpki_bundle.specs.bcder_content.Exact.{Gives, Lacks, ReadsAs, ReadsOptAs, LacksAll, ReadsAllAs}
+use Rattle.rpki_bundle.specs.bcder_content.Grammar.{OctetsOf, As, End}
+use Rattle.rpki_bundle.specs.bcder_content.Here.{here}
+use Rattle.rpki_bundle.specs.bcder_content.Ran.{Reader, fresh, RanIn, refused_in, failed_in, DecodedCases, Decoded}
+use Rattle.rpki_bundle.proofs.of_bcder_content.Choices.{as_gives, as_lacks, as_lacks_tagged}
+use Rattle.rpki_bundle.proofs.of_bcder_content.Taking.{weaker}
+use Rattle.rpki_bundle.proofs.of_bcder_content.Took.{one_took, whole_none}
+use Rattle.rpki_bundle.proofs.of_bcder_values.Returning.{all_read}
 use Rattle.rpki_bundle.specs.declared.error.BundleError.{BundleError}
 use Rattle.rpki_bundle.specs.declared.whole.Parts.{Parts}
 use Rattle.rpki_bundle.specs.Bundle.{BundleValue, BundleText}

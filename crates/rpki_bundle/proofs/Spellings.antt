@@ -5,14 +5,14 @@ use Rattle.std.proofs.lemmas.Bool.Decides.{nat_tests}
 use Rattle.std.proofs.lemmas.List.Elements.{All-cons}
 use Rattle.std.specs.Prelude.{All, nat_lt, if◌then◌else◌}
 use Rattle.std.specs.List.{flat_map}
-use Rattle.bcder_tree.specs.declared.mode.Mode.TheVariants.{Ber, Der}
-use Rattle.bcder_tree.specs.Tags.{TagValue, universal}
-use Rattle.bcder_tree.specs.Octets.{form_bit, IsLength}
-use Rattle.bcder_tree.specs.Tree.{Tree, Trees, primitive, constructed, none, more, Spells, SpellsAll}
-use Rattle.bcder_tree.specs.Front.{Front, Splits}
-use Rattle.bcder_tree.specs.Sequences.{sequence, sequence_tag, forest, EachIs, IsSequenceOf}
-use Rattle.bcder_tree.proofs.Canonical.{spelled_length}
-use Rattle.bcder_tree.proofs.Fronts.{whole_front, front_whole, split_primitive, split_constructed, primitive_front, sequence_front, length_bound}
+use Rattle.rpki_bundle.specs.bcder_tree.declared.mode.Mode.TheVariants.{Ber, Der}
+use Rattle.rpki_bundle.specs.bcder_tree.Tags.{TagValue, universal}
+use Rattle.rpki_bundle.specs.bcder_tree.Octets.{form_bit, IsLength}
+use Rattle.rpki_bundle.specs.bcder_tree.Tree.{Tree, Trees, primitive, constructed, none, more, Spells, SpellsAll}
+use Rattle.rpki_bundle.specs.bcder_tree.Front.{Front, Splits}
+use Rattle.rpki_bundle.specs.bcder_tree.Sequences.{sequence, sequence_tag, forest, EachIs, IsSequenceOf}
+use Rattle.rpki_bundle.proofs.of_bcder_tree.Canonical.{spelled_length}
+use Rattle.rpki_bundle.proofs.of_bcder_tree.Fronts.{whole_front, front_whole, split_primitive, split_constructed, primitive_front, sequence_front, length_bound}
 use Rattle.rpki_bundle.specs.Spellings.{length_octets, value_octets, sequence_octets, list_octets}
 use Rattle.rpki_bundle.proofs.Contents.{content_splits, splits_content}
 

@@ -1,11 +1,11 @@
 -- The octets that spell a bundle are one row, and lawful bundles have them.
 use Rattle.std.proofs.Common.{◌≡◌, ℕ, ◌^◌, ◌<◌, Some, List, [], ◌∷◌, ◌++◌, length, refl, sym, ap, ◌∙◌, subst, append-nil, length-append, arith}
-use Rattle.bcder_tree.specs.declared.mode.Mode.TheVariants.{Der}
-use Rattle.bcder_tree.specs.Tags.{universal}
-use Rattle.bcder_tree.specs.Tree.{Tree, Trees, primitive, constructed, Spells}
-use Rattle.bcder_tree.specs.Sequences.{sequence, sequence_tag, forest}
-use Rattle.bcder_tree.specs.Integers.{IsNumber}
-use Rattle.bcder_tree.proofs.Integers.{small_number, number_small}
+use Rattle.rpki_bundle.specs.bcder_tree.declared.mode.Mode.TheVariants.{Der}
+use Rattle.rpki_bundle.specs.bcder_tree.Tags.{universal}
+use Rattle.rpki_bundle.specs.bcder_tree.Tree.{Tree, Trees, primitive, constructed, Spells}
+use Rattle.rpki_bundle.specs.bcder_tree.Sequences.{sequence, sequence_tag, forest}
+use Rattle.rpki_bundle.specs.bcder_tree.Integers.{IsNumber}
+use Rattle.rpki_bundle.proofs.of_bcder_tree.Integers.{small_number, number_small}
 use Rattle.rpki_bundle.specs.TimeForms.{IsGeneralizedTime}
 use Rattle.rpki_bundle.specs.Bundle.{BundleValue, BundleText, IsLocator, IsObject, IsVerdict}
 use Rattle.rpki_bundle.specs.EntryTrees.{locator_tree, object_tree, verdict_tree, locator_is, object_is, verdict_is}
@@ -16,8 +16,8 @@ use Rattle.rpki_bundle.specs.declared.parts.Verdict.{Verdict}
 use Rattle.certs_time.specs.Times.{IsMoment}
 use Rattle.rpki_bundle.specs.Lawful.{IsLawfulLocator, IsLawfulObject, IsLawfulVerdict, IsLawful}
 use Rattle.rpki_bundle.proofs.BundleGrammar.{locator_name, uri_plain}
-use Rattle.bcder_written.specs.declared.error.EncodeError.{EncodeError}
-use Rattle.bcder_written.specs.Writing.{Wrote, CannotWrite}
+use Rattle.rpki_bundle.specs.bcder_written.declared.error.EncodeError.{EncodeError}
+use Rattle.rpki_bundle.specs.bcder_written.Writing.{Wrote, CannotWrite}
 use Rattle.rpki_bundle.specs.Written.{AreBundle, WritesBundle}
 use Rattle.certs_time.proofs.Moments.{one_text}
 use Rattle.rpki_bundle.proofs.Writing.{joined, wrote_bundle, never_refused}

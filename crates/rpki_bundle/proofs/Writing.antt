@@ -2,21 +2,21 @@
 use Rattle.std.proofs.Common.{◌≡◌, ℕ, ◌+◌, ◌^◌, ◌<◌, true, List, [], ◌∷◌, ◌++◌, length, Result, Ok, Err, refl, sym, ap, ◌∙◌, subst, append-nil, length-append, arith}
 use Rattle.std.specs.Prelude.{All, IfOk, IfErr, is_ok}
 use Rattle.std.specs.List.{flat_map}
-use Rattle.bcder_tree.specs.declared.mode.Mode.TheVariants.{Der}
-use Rattle.bcder_tree.specs.Tags.{universal}
-use Rattle.bcder_tree.specs.Tree.{primitive, Spells, IsConstructed, definite, indefinite}
-use Rattle.bcder_tree.specs.Front.{Splits}
-use Rattle.bcder_tree.specs.Integers.{IsNumber}
-use Rattle.bcder_tree.proofs.Integers.{small_number}
-use Rattle.bcder_written.specs.declared.error.EncodeError.{EncodeError}
-use Rattle.bcder_written.specs.declared.error.EncodeError.TheVariants.{CerUnsupported, TooLong, Write, Memory}
-use Rattle.bcder_written.specs.Encoded.{WritesWrapped, WritesBoth, SpellsSome}
-use Rattle.bcder_written.specs.Integers.{WritesUnsigned}
-use Rattle.bcder_values.specs.Laws.{both_spelled}
-use Rattle.bcder_values.specs.Lists.{WritesAll, all_spelled}
-use Rattle.bcder_values.specs.Plains.{plain_spelled}
-use Rattle.bcder_values.specs.Wraps.{wrapped_spelled}
-use Rattle.bcder_written.specs.Writing.{HasLength, CannotWrite}
+use Rattle.rpki_bundle.specs.bcder_tree.declared.mode.Mode.TheVariants.{Der}
+use Rattle.rpki_bundle.specs.bcder_tree.Tags.{universal}
+use Rattle.rpki_bundle.specs.bcder_tree.Tree.{primitive, Spells, IsConstructed, definite, indefinite}
+use Rattle.rpki_bundle.specs.bcder_tree.Front.{Splits}
+use Rattle.rpki_bundle.specs.bcder_tree.Integers.{IsNumber}
+use Rattle.rpki_bundle.proofs.of_bcder_tree.Integers.{small_number}
+use Rattle.rpki_bundle.specs.bcder_written.declared.error.EncodeError.{EncodeError}
+use Rattle.rpki_bundle.specs.bcder_written.declared.error.EncodeError.TheVariants.{CerUnsupported, TooLong, Write, Memory}
+use Rattle.rpki_bundle.specs.bcder_written.Encoded.{WritesWrapped, WritesBoth, SpellsSome}
+use Rattle.rpki_bundle.specs.bcder_written.Integers.{WritesUnsigned}
+use Rattle.rpki_bundle.specs.bcder_values.Laws.{both_spelled}
+use Rattle.rpki_bundle.specs.bcder_values.Lists.{WritesAll, all_spelled}
+use Rattle.rpki_bundle.specs.bcder_values.Plains.{plain_spelled}
+use Rattle.rpki_bundle.specs.bcder_values.Wraps.{wrapped_spelled}
+use Rattle.rpki_bundle.specs.bcder_written.Writing.{HasLength, CannotWrite}
 use Rattle.rpki_bundle.specs.Bundle.{BundleValue}
 use Rattle.rpki_bundle.specs.Spellings.{value_octets, sequence_octets, locator_octets, object_octets, verdict_octets, list_octets, members_octets, bundle_octets}
 use Rattle.rpki_bundle.specs.Written.{WritesText, WritesInteger, WritesPair, WritesTriple, WritesLocator, WritesObject, WritesVerdict, AreBundle, WritesBundle, pair_spelled, triple_spelled}

@@ -1,11 +1,11 @@
 -- Bundles: all that one run is told (this project's own form, version 0).
 use Rattle.std.specs.Prelude.{◌≡◌, ◌≢◌, ℕ, ◌≤◌, List, [], ◌∷◌, ◌++◌, length, All}
-use Rattle.bcder_tree.specs.declared.mode.Mode.TheVariants.{Der}
-use Rattle.bcder_tree.specs.Tags.{universal}
-use Rattle.bcder_tree.specs.Tree.{Tree, Spells}
-use Rattle.bcder_tree.specs.Sequences.{sequence, IsSequenceOf}
-use Rattle.bcder_tree.specs.Integers.{IsNumber}
-use Rattle.bcder_tree.specs.Strings.{IsPrintableString, IsIa5String, IsOctetString}
+use Rattle.rpki_bundle.specs.bcder_tree.declared.mode.Mode.TheVariants.{Der}
+use Rattle.rpki_bundle.specs.bcder_tree.Tags.{universal}
+use Rattle.rpki_bundle.specs.bcder_tree.Tree.{Tree, Spells}
+use Rattle.rpki_bundle.specs.bcder_tree.Sequences.{sequence, IsSequenceOf}
+use Rattle.rpki_bundle.specs.bcder_tree.Integers.{IsNumber}
+use Rattle.rpki_bundle.specs.bcder_tree.Strings.{IsPrintableString, IsIa5String, IsOctetString}
 use Rattle.rpki_bundle.specs.declared.parts.Locator.{Locator}
 use Rattle.rpki_bundle.specs.declared.parts.Object.{Object}
 use Rattle.rpki_bundle.specs.declared.parts.Verdict.{Verdict}

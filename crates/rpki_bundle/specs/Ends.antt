@@ -1,11 +1,11 @@
 -- Readers of all octets of a source, and what their refusals say.
 use Rattle.std.specs.Prelude.{◌≡◌, Result, Ok, Err}
-use Rattle.bcder_tree.specs.Tree.{Trees}
-use Rattle.bcder_source.specs.Errors.{OnContent}
-use Rattle.bcder_source.specs.declared.error.DecodeError.{DecodeError}
-use Rattle.bcder_source.specs.declared.error.DecodeError.TheVariants.{Content, Source, Memory}
-use Rattle.bcder_content.specs.Contents.{ValuesLeft, Ended}
-use Rattle.bcder_content.specs.Exact.{LacksAll, GivesAll}
+use Rattle.rpki_bundle.specs.bcder_tree.Tree.{Trees}
+use Rattle.rpki_bundle.specs.bcder_source.Errors.{OnContent}
+use Rattle.rpki_bundle.specs.bcder_source.declared.error.DecodeError.{DecodeError}
+use Rattle.rpki_bundle.specs.bcder_source.declared.error.DecodeError.TheVariants.{Content, Source, Memory}
+use Rattle.rpki_bundle.specs.bcder_content.Contents.{ValuesLeft, Ended}
+use Rattle.rpki_bundle.specs.bcder_content.Exact.{LacksAll, GivesAll}
 use Rattle.rpki_bundle.specs.declared.error.BundleError.{BundleError}
 use Rattle.rpki_bundle.specs.declared.error.BundleError.TheVariants as bundle_error
 

@@ -1,8 +1,8 @@
 -- The trees of entries in DER, and that a tree stands for one entry.
 use Rattle.std.proofs.Common.{◌≡◌, ℕ, List, [], ◌∷◌, sym, ap, ◌∙◌}
-use Rattle.bcder_tree.specs.Tags.{universal}
-use Rattle.bcder_tree.specs.Tree.{Tree, primitive}
-use Rattle.bcder_tree.specs.Sequences.{sequence}
+use Rattle.rpki_bundle.specs.bcder_tree.Tags.{universal}
+use Rattle.rpki_bundle.specs.bcder_tree.Tree.{Tree, primitive}
+use Rattle.rpki_bundle.specs.bcder_tree.Sequences.{sequence}
 use Rattle.rpki_bundle.specs.declared.parts.Locator.{Locator}
 use Rattle.rpki_bundle.specs.declared.parts.Object.{Object}
 use Rattle.rpki_bundle.specs.declared.parts.Verdict.{Verdict}

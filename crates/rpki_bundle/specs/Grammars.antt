@@ -1,13 +1,13 @@
 -- Bundles by the words of grammars: what is read of a value in each mode, field by field, and what it means.
 use Rattle.std.specs.Prelude.{◌≡◌, ℕ, ◌^◌, ◌≤◌, List, length}
-use Rattle.bcder_tree.specs.declared.mode.Mode.{Mode}
-use Rattle.bcder_tree.specs.Tags.{universal}
-use Rattle.bcder_tree.specs.Tree.{Tree, Trees}
-use Rattle.bcder_tree.specs.Strings.{IsPrintable, IsIa5, IsOctetString}
-use Rattle.bcder_primitive.specs.Values.{IsUnsigned, IsValue}
-use Rattle.bcder_chars.specs.Sets.{alone}
-use Rattle.bcder_strings.specs.Restricted.{IsRestricted}
-use Rattle.bcder_content.specs.Grammar.{Inside, OctetsOf, Such, As, End, Then, Many}
+use Rattle.rpki_bundle.specs.bcder_tree.declared.mode.Mode.{Mode}
+use Rattle.rpki_bundle.specs.bcder_tree.Tags.{universal}
+use Rattle.rpki_bundle.specs.bcder_tree.Tree.{Tree, Trees}
+use Rattle.rpki_bundle.specs.bcder_tree.Strings.{IsPrintable, IsIa5, IsOctetString}
+use Rattle.rpki_bundle.specs.bcder_primitive.Values.{IsUnsigned, IsValue}
+use Rattle.rpki_bundle.specs.bcder_chars.Sets.{alone}
+use Rattle.rpki_bundle.specs.bcder_strings.Restricted.{IsRestricted}
+use Rattle.rpki_bundle.specs.bcder_content.Grammar.{Inside, OctetsOf, Such, As, End, Then, Many}
 use Rattle.rpki_bundle.specs.declared.parts.Locator.{Locator}
 use Rattle.rpki_bundle.specs.declared.parts.Object.{Object}
 use Rattle.rpki_bundle.specs.declared.parts.Verdict.{Verdict}

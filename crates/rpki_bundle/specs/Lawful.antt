@@ -1,6 +1,6 @@
 -- The bundles that some octets spell.
 use Rattle.std.specs.Prelude.{◌≡◌, ◌≢◌, ℕ, ◌<◌, ◌≤◌, ◌^◌, List, [], length, All}
-use Rattle.bcder_tree.specs.Strings.{IsPrintable}
+use Rattle.rpki_bundle.specs.bcder_tree.Strings.{IsPrintable}
 use Rattle.rpki_bundle.specs.declared.parts.Locator.{Locator}
 use Rattle.rpki_bundle.specs.declared.parts.Object.{Object}
 use Rattle.rpki_bundle.specs.declared.parts.Verdict.{Verdict}

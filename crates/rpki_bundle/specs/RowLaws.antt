@@ -1,13 +1,13 @@
 -- That rows have the tag of SEQUENCE, and one meaning.
 use Rattle.std.proofs.Common.{ℕ, List, sym, ◌∙◌}
-use Rattle.bcder_tree.specs.declared.mode.Mode.{Mode}
-use Rattle.bcder_tree.specs.Tags.{TagValue, universal}
-use Rattle.bcder_tree.specs.Strings.{IsString, IsPrintable, IsIa5, IsOctetString}
-use Rattle.bcder_chars.specs.Sets.{alone}
-use Rattle.bcder_content.specs.Grammar.{One, Tagged}
-use Rattle.bcder_content.proofs.Unique.{octets_one, such_one, inside_one, then_one, end_one, as_one, as_tagged, inside_tagged}
-use Rattle.bcder_octets.proofs.Meaning.{one_string}
-use Rattle.bcder_strings.specs.Restricted.{IsRestricted}
+use Rattle.rpki_bundle.specs.bcder_tree.declared.mode.Mode.{Mode}
+use Rattle.rpki_bundle.specs.bcder_tree.Tags.{TagValue, universal}
+use Rattle.rpki_bundle.specs.bcder_tree.Strings.{IsString, IsPrintable, IsIa5, IsOctetString}
+use Rattle.rpki_bundle.specs.bcder_chars.Sets.{alone}
+use Rattle.rpki_bundle.specs.bcder_content.Grammar.{One, Tagged}
+use Rattle.certs_key.proofs.of_bcder_content.Unique.{octets_one, such_one, inside_one, then_one, end_one, as_one, as_tagged, inside_tagged}
+use Rattle.certs_key.proofs.of_bcder_octets.Meaning.{one_string}
+use Rattle.rpki_bundle.specs.bcder_strings.Restricted.{IsRestricted}
 use Rattle.rpki_bundle.specs.Grammars.{IsNameString, IsUriString, IsDigestString, IsLocatorRow, IsObjectRow, IsVerdictRow}
 
 string : (m : Mode) (tag : TagValue) → One (IsString m tag)

@@ -1,7 +1,7 @@
 -- Times as values of trees.
 use Rattle.std.specs.Prelude.{◌≡◌, ℕ, List}
-use Rattle.bcder_tree.specs.Tags.{universal}
-use Rattle.bcder_tree.specs.Tree.{Tree, primitive}
+use Rattle.rpki_bundle.specs.bcder_tree.Tags.{universal}
+use Rattle.rpki_bundle.specs.bcder_tree.Tree.{Tree, primitive}
 use Rattle.certs_time.specs.Times.{IsMoment}
 
 -- GeneralizedTime in the one form that RPKI uses, primitive in every mode (X.680 clause 46, RFC 5280 4.1.2.5.2).

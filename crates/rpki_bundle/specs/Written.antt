@@ -1,17 +1,17 @@
 -- What is written of bundles and of their entries: the codec's encoders, by the words of its specification.
 use Rattle.std.specs.Prelude.{ℕ, ◌^◌, List}
-use Rattle.bcder_tree.specs.declared.mode.Mode.{Mode}
-use Rattle.bcder_tree.specs.Tags.{TagValue, universal}
-use Rattle.bcder_tree.specs.Tree.{Trees}
-use Rattle.bcder_primitive.specs.Values.{AnyOctets}
-use Rattle.bcder_written.specs.Encoded.{IsPlain, WritesPlain, IsWrapped, WritesWrapped, AreBoth, WritesBoth, SpellsSome}
-use Rattle.bcder_written.specs.Integers.{WritesUnsigned}
-use Rattle.bcder_octets.specs.Segments.{StringTrees, WritesString, string_spelled, string_one}
-use Rattle.bcder_values.specs.Laws.{both_spelled, both_one}
-use Rattle.bcder_values.specs.Lists.{AreAll, WritesAll}
-use Rattle.bcder_values.specs.Plains.{plain_spelled, plain_one}
-use Rattle.bcder_written.specs.Simple.{one_string}
-use Rattle.bcder_values.specs.Wraps.{wrapped_spelled, wrapped_one}
+use Rattle.rpki_bundle.specs.bcder_tree.declared.mode.Mode.{Mode}
+use Rattle.rpki_bundle.specs.bcder_tree.Tags.{TagValue, universal}
+use Rattle.rpki_bundle.specs.bcder_tree.Tree.{Trees}
+use Rattle.rpki_bundle.specs.bcder_primitive.Values.{AnyOctets}
+use Rattle.rpki_bundle.specs.bcder_written.Encoded.{IsPlain, WritesPlain, IsWrapped, WritesWrapped, AreBoth, WritesBoth, SpellsSome}
+use Rattle.rpki_bundle.specs.bcder_written.Integers.{WritesUnsigned}
+use Rattle.rpki_bundle.specs.bcder_octets.Segments.{StringTrees, WritesString, string_spelled, string_one}
+use Rattle.rpki_bundle.specs.bcder_values.Laws.{both_spelled, both_one}
+use Rattle.rpki_bundle.specs.bcder_values.Lists.{AreAll, WritesAll}
+use Rattle.rpki_bundle.specs.bcder_values.Plains.{plain_spelled, plain_one}
+use Rattle.rpki_bundle.specs.bcder_written.Simple.{one_string}
+use Rattle.rpki_bundle.specs.bcder_values.Wraps.{wrapped_spelled, wrapped_one}
 use Rattle.std.proofs.Common.{◌≡◌}
 use Rattle.rpki_bundle.specs.declared.parts.Locator.{Locator}
 use Rattle.rpki_bundle.specs.declared.parts.Object.{Object}

@@ -1,18 +1,18 @@
 //! Lists of entries, each read once from the front on.
 
 ghost use Rattle.std.specs.Prelude.{◌↔◌, ℕ, List, IsTrue};
-ghost use Rattle.bcder_content.specs.Exact.{ReadsAs, ReadsAllAs, ReadsOptAs};
-ghost use Rattle.bcder_content.specs.Grammar.{Many, One, Tagged};
-ghost use Rattle.bcder_content.specs.Here.{here};
-ghost use Rattle.bcder_tree.specs.declared.mode.Mode.{Mode};
-ghost use Rattle.bcder_tree.specs.Tags.{universal};
-ghost use Rattle.bcder_tree.specs.Tree.{Tree};
+ghost use Rattle.rpki_bundle.specs.bcder_content.Exact.{ReadsAs, ReadsAllAs, ReadsOptAs};
+ghost use Rattle.rpki_bundle.specs.bcder_content.Grammar.{Many, One, Tagged};
+ghost use Rattle.rpki_bundle.specs.bcder_content.Here.{here};
+ghost use Rattle.rpki_bundle.specs.bcder_tree.declared.mode.Mode.{Mode};
+ghost use Rattle.rpki_bundle.specs.bcder_tree.Tags.{universal};
+ghost use Rattle.rpki_bundle.specs.bcder_tree.Tree.{Tree};
 ghost use Rattle.rpki_bundle.specs.Grammars.{AreRows};
 ghost use Rattle.rpki_bundle.specs.Orders.{IsBefore, Ascends};
 ghost use Rattle.rpki_bundle.specs.Lawful.{IsLawfulList};
 
-use bcder::decode::{Constructed, ContentError, DecodeError, Source};
-use bcder::encode::Values;
+use crate::bcder::decode::{Constructed, ContentError, DecodeError, Source};
+use crate::bcder::encode::Values;
 use std::alloc::Global;
 
 /// What a list of a bundle has as its entries.

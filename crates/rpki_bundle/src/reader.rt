@@ -1,23 +1,23 @@
 //! The fields of bundles and of their entries, read by the codec.
 
 ghost use Rattle.std.specs.Prelude.{◌↔◌, ◌≡◌, ◌≤◌, IsTrue};
-ghost use Rattle.bcder_tree.specs.Strings.{IsOctetString};
-ghost use Rattle.bcder_tree.specs.Tags.{universal};
-ghost use Rattle.bcder_content.specs.Exact.{ReadsAs};
-ghost use Rattle.bcder_content.specs.Grammar.{OctetsOf};
-ghost use Rattle.bcder_content.specs.Here.{here, plain};
-ghost use Rattle.bcder_primitive.specs.Plain.{ReadsOctetsAs};
-ghost use Rattle.bcder_primitive.specs.Values.{AnyOctets};
+ghost use Rattle.rpki_bundle.specs.bcder_tree.Strings.{IsOctetString};
+ghost use Rattle.rpki_bundle.specs.bcder_tree.Tags.{universal};
+ghost use Rattle.rpki_bundle.specs.bcder_content.Exact.{ReadsAs};
+ghost use Rattle.rpki_bundle.specs.bcder_content.Grammar.{OctetsOf};
+ghost use Rattle.rpki_bundle.specs.bcder_content.Here.{here, plain};
+ghost use Rattle.rpki_bundle.specs.bcder_primitive.Plain.{ReadsOctetsAs};
+ghost use Rattle.rpki_bundle.specs.bcder_primitive.Values.{AnyOctets};
 ghost use Rattle.rpki_bundle.specs.Grammars.{IsDepthNumber, IsDigest, IsDigestString, IsMomentString, IsNameString, IsUriString};
 ghost use Rattle.rpki_bundle.specs.Lawful.{IsName, IsWord};
 ghost use Rattle.rpki_bundle.specs.Words.{octets_of};
 
 use crate::Time;
+use crate::bcder::decode::{Constructed, ContentError, DecodeError, Primitive, Source};
+use crate::bcder::string::{CharSet, PrintableCharSet};
+use crate::bcder::{Ia5String, OctetString, PrintableString, Tag};
 use crate::uri::is_lookup_key;
 use crate::words::DigestWords;
-use bcder::decode::{Constructed, ContentError, DecodeError, Primitive, Source};
-use bcder::string::{CharSet, PrintableCharSet};
-use bcder::{Ia5String, OctetString, PrintableString, Tag};
 use bytes::Bytes;
 use std::alloc::Global;
 

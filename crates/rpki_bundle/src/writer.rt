@@ -4,13 +4,13 @@
 //! and a fact of its own by value, as `sequence` of borrowed strings would be.
 
 ghost use Rattle.std.specs.Prelude.{◌≡◌, IfOk, IfErr, OnOk};
-ghost use Rattle.bcder_tree.specs.Tags.{IsTag};
-ghost use Rattle.bcder_written.specs.Writing.{HasLength, Wrote, CannotWrite, WriteRefused};
+ghost use Rattle.rpki_bundle.specs.bcder_tree.Tags.{IsTag};
+ghost use Rattle.rpki_bundle.specs.bcder_written.Writing.{HasLength, Wrote, CannotWrite, WriteRefused};
 ghost use Rattle.rpki_bundle.specs.Written.{AreMembers, IsPair, IsTriple, WritesMembers, WritesPair, WritesTriple};
 
-use bcder::encode::{Constructed, EncodeError, Octets, Primitive, Values};
-use bcder::string::OctetSliceEncoder;
-use bcder::{Mode, Tag};
+use crate::bcder::encode::{Constructed, EncodeError, Octets, Primitive, Values};
+use crate::bcder::string::OctetSliceEncoder;
+use crate::bcder::{Mode, Tag};
 use std::convert::AsSlice;
 use std::io::Write;
 

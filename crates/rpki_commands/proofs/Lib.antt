@@ -7,3 +7,6 @@ pub mod Moments
 pub mod Ranks
 pub mod OneFolder
 pub mod Words
+pub mod of_bcder_tree
+pub mod of_certs_time
+pub mod of_rpki_bundle

@@ -2,13 +2,13 @@
 use Rattle.std.proofs.Common.{◌≡◌, ℕ, ◌+◌, ◌/◌, ◌%◌, ◌≤◌, ◌⊎◌, inl, inr, List, [], ◌∷◌, ◌++◌, length, get_or, refl, sym, ap, ◌∙◌, subst, arith}
 use Rattle.std.proofs.lemmas.List.Sorted.{IsPermutation-sym, IsPermutation-trans}
 use Rattle.std.specs.List.Sorted.{IsPermutation}
-use Rattle.bcder_tree.proofs.Unique.{by_length}
-use Rattle.rpki_bundle.specs.declared.parts.Verdict.{Verdict}
-use Rattle.rpki_bundle.specs.Bundle.{verdict_row}
-use Rattle.rpki_bundle.specs.Orders.{Ascends}
-use Rattle.certs_time.specs.Times.{IsMoment}
-use Rattle.certs_time.proofs.Moments.{one_moment}
-use Rattle.rpki_bundle.proofs.OneBundle.{bundle_fields}
+use Rattle.rpki_commands.proofs.of_bcder_tree.Unique.{by_length}
+use Rattle.rpki_commands.specs.rpki_bundle.declared.parts.Verdict.{Verdict}
+use Rattle.rpki_commands.specs.rpki_bundle.Bundle.{verdict_row}
+use Rattle.rpki_commands.specs.rpki_bundle.Orders.{Ascends}
+use Rattle.rpki_commands.specs.certs_time.Times.{IsMoment}
+use Rattle.rpki_commands.proofs.of_certs_time.Moments.{one_moment}
+use Rattle.rpki_commands.proofs.of_rpki_bundle.OneBundle.{bundle_fields}
 use Rattle.rpki_commands.specs.declared.folder.parts.Contents.{Contents}
 use Rattle.rpki_commands.specs.declared.folder.parts.Parts.{Parts}
 use Rattle.rpki_commands.specs.Lines.{IsEnd, TellsMoment, TellsDepth}

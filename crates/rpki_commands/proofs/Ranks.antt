@@ -9,7 +9,7 @@ use Rattle.std.specs.Cmp.Lexicographic.{slice_cmp, nat_list_cmp_total}
 use Rattle.std.specs.List.{Contains, sum_by}
 use Rattle.std.specs.List.Sorted.{IsPermutation}
 use Rattle.std.specs.Ordering.{nat_cmp, is_lt}
-use Rattle.rpki_bundle.specs.Orders.{IsBefore, Ascends}
+use Rattle.rpki_commands.specs.rpki_bundle.Orders.{IsBefore, Ascends}
 use Rattle.rpki_commands.specs.Folders.{IsSortedOn}
 
 most : {X : Type 0} (f : X → ℕ) → ((x : X) → f x ≤ 1) → (xs : List X) (k : ℕ) → ((i : ℕ) (d : X) → k ≤ i → i < length xs → f (get_or xs i d) ≡ 0) → sum_by f xs ≤ k

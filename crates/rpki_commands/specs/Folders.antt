@@ -3,8 +3,8 @@ use Rattle.std.specs.Prelude.{ℕ, ◌^◌, ◌<◌, List, length}
 use Rattle.std.specs.Ordering.{nat_cmp}
 use Rattle.std.specs.Cmp.Lexicographic.{slice_cmp}
 use Rattle.std.specs.List.Sorted.{IsPermutation, IsSortedByKey}
-use Rattle.rpki_bundle.specs.declared.parts.Verdict.{Verdict}
-use Rattle.rpki_bundle.specs.Bundle.{BundleValue, verdict_row}
+use Rattle.rpki_commands.specs.rpki_bundle.declared.parts.Verdict.{Verdict}
+use Rattle.rpki_commands.specs.rpki_bundle.Bundle.{BundleValue, verdict_row}
 use Rattle.rpki_commands.specs.Lines.{TellsMoment, TellsDepth}
 use Rattle.rpki_commands.specs.Verdicts.{TellsVerdicts}
 use Rattle.rpki_commands.specs.declared.folder.parts.Contents.{Contents}

@@ -1,7 +1,11 @@
-pub use Rattle.rpki_bundle.specs.Bundle
+pub use Rattle.rpki_validator.specs.rpki_bundle.Bundle
 pub mod Arguments
 pub mod Checks
 pub mod Lines
 pub mod Verdicts
 pub mod Folders
 pub mod Texts
+-- What stands below, for the crates above.
+pub use Rattle.rpki_validator.specs.certs_time as certs_time
+pub use Rattle.rpki_validator.specs.certs_uri as certs_uri
+pub use Rattle.rpki_validator.specs.rpki_bundle as rpki_bundle

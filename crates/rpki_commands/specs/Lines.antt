@@ -1,6 +1,6 @@
 -- Texts of one line in a folder: `moment` and `depth`.
 use Rattle.std.specs.Prelude.{◌≡◌, ℕ, ◌+◌, ◌/◌, ◌%◌, ◌≤◌, ◌⊎◌, List, [], ◌∷◌, ◌++◌}
-use Rattle.certs_time.specs.Times.{IsMoment}
+use Rattle.rpki_commands.specs.certs_time.Times.{IsMoment}
 
 -- A line feed (10), behind a carriage return (13) or not.
 abbrev pub IsLineEnd : List ℕ → Type 0

@@ -1,7 +1,7 @@
 -- The octets that a folder becomes.
 use Rattle.std.specs.Prelude.{◌≡◌, ℕ, ◌+◌, List, Option}
 use Rattle.std.specs.Io.KnownBytes.{Appends, Keeps}
-use Rattle.rpki_bundle.specs.Bundle.{BundleValue, BundleText}
+use Rattle.rpki_commands.specs.rpki_bundle.Bundle.{BundleValue, BundleText}
 use Rattle.rpki_validator.specs.Streams.{TakesSome}
 use Rattle.rpki_commands.specs.Folders.{Tells}
 use Rattle.rpki_commands.specs.declared.folder.Fault.{Fault}

@@ -1,19 +1,19 @@
 -- Climbing one certificate further.
 use Rattle.std.proofs.Common.{◌≡◌, ℕ, ◌+◌, ◌≤◌, ◌↔◌, Bool, true, false, List, [], ◌∷◌, ◌++◌, Some, None, inl, inr, sym, subst, arith}
 use Rattle.std.specs.Prelude.{IsTrue}
-use Rattle.resources_chain.specs.Claims.{Choice}
-use Rattle.resources_chain.specs.declared.choice.ResourcesChoice.TheVariants.{Missing, Inherit, Blocks}
-use Rattle.resources_chain.specs.declared.claims.Overclaim.{Overclaim}
-use Rattle.resources_chain.specs.declared.claims.Overclaim.TheVariants.{Refuse, Trim}
-use Rattle.resources_set.specs.Resources.{Resources}
-use Rattle.rpki_readings.specs.Objects.{Object}
-use Rattle.rpki_rules.specs.Kinds.{Kind, claim, InSet}
-use Rattle.rpki_rules.specs.World.{World}
-use Rattle.rpki_rules.specs.Points.{Link, Point, IsPoint}
-use Rattle.rpki_rules.specs.Chains.{last_of}
-use Rattle.rpki_rules.specs.Attests.{Payload, IsSigned}
-use Rattle.rpki_rules.specs.Judge.{NeedAbove, NeedWith, NeedAt, Needs, Climbs}
-use Rattle.rpki_laws.proofs.Readings.{one_point, one_signed}
+use Rattle.rpki_judge.specs.resources_chain.Claims.{Choice}
+use Rattle.rpki_judge.specs.resources_chain.declared.choice.ResourcesChoice.TheVariants.{Missing, Inherit, Blocks}
+use Rattle.rpki_judge.specs.resources_chain.declared.claims.Overclaim.{Overclaim}
+use Rattle.rpki_judge.specs.resources_chain.declared.claims.Overclaim.TheVariants.{Refuse, Trim}
+use Rattle.rpki_judge.specs.resources_set.Resources.{Resources}
+use Rattle.rpki_judge.specs.rpki_readings.Objects.{Object}
+use Rattle.rpki_judge.specs.rpki_rules.Kinds.{Kind, claim, InSet}
+use Rattle.rpki_judge.specs.rpki_rules.World.{World}
+use Rattle.rpki_judge.specs.rpki_rules.Points.{Link, Point, IsPoint}
+use Rattle.rpki_judge.specs.rpki_rules.Chains.{last_of}
+use Rattle.rpki_judge.specs.rpki_rules.Attests.{Payload, IsSigned}
+use Rattle.rpki_judge.specs.rpki_rules.Judge.{NeedAbove, NeedWith, NeedAt, Needs, Climbs}
+use Rattle.rpki_judge.proofs.of_rpki_rules.Readings.{one_point, one_signed}
 use Rattle.rpki_judge.specs.declared.judging.Judgement.{Judgement}
 use Rattle.rpki_judge.specs.Climbing.{IsRaised, IsNeedOfFile, IsJudgedUp, ClimbedOn, IsJudgedAt}
 

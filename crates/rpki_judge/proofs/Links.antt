@@ -2,17 +2,17 @@
 use Rattle.std.proofs.Common.{◌≡◌, ℕ, ◌≤◌, ◌<◌, true, false, List, [], ◌∷◌, ◌++◌, map, length, inl, inr, refl, sym, ap, subst, ◌∙◌, arith}
 use Rattle.std.proofs.lemmas.List.{length-append}
 use Rattle.std.specs.Prelude.{IsTrue}
-use Rattle.rpki_rules.specs.Words.{Mem, NoRepeat}
-use Rattle.rpki_rules.specs.Kinds.{Kind}
-use Rattle.rpki_rules.specs.World.{World}
-use Rattle.rpki_rules.specs.Points.{Link}
-use Rattle.rpki_rules.specs.Chains.{places, keys, CertAt}
-use Rattle.rpki_rules.specs.Attests.{Trace, Payload, IsWitness}
-use Rattle.rpki_rules.specs.Judge.{NeedAt, Needs, Climbs, Climbed, IsJudged}
-use Rattle.rpki_readings.specs.Certs.{Cert}
-use Rattle.rpki_readings.specs.Locators.{https_first}
+use Rattle.rpki_judge.specs.rpki_rules.Words.{Mem, NoRepeat}
+use Rattle.rpki_judge.specs.rpki_rules.Kinds.{Kind}
+use Rattle.rpki_judge.specs.rpki_rules.World.{World}
+use Rattle.rpki_judge.specs.rpki_rules.Points.{Link}
+use Rattle.rpki_judge.specs.rpki_rules.Chains.{places, keys, CertAt}
+use Rattle.rpki_judge.specs.rpki_rules.Attests.{Trace, Payload, IsWitness}
+use Rattle.rpki_judge.specs.rpki_rules.Judge.{NeedAt, Needs, Climbs, Climbed, IsJudged}
+use Rattle.rpki_judge.specs.rpki_readings.Certs.{Cert}
+use Rattle.rpki_judge.specs.rpki_readings.Locators.{https_first}
 use Rattle.rpki_laws.proofs.Lists.{mem_append}
-use Rattle.rpki_laws.proofs.Readings.{first_held, one_cert_at}
+use Rattle.rpki_judge.proofs.of_rpki_rules.Readings.{first_held, one_cert_at}
 use Rattle.rpki_laws.proofs.Judging.{judging_is_exact}
 use Rattle.rpki_judge.specs.declared.judging.Judgement.{Judgement}
 use Rattle.rpki_judge.specs.Climbing.{identifier_of, AreAt, places_of, IsJudgedAt}

@@ -1,12 +1,12 @@
 -- What is needed by what is claimed, and by the certificates that claim it.
 use Rattle.std.proofs.Common.{◌≡◌, ℕ, sym, subst}
-use Rattle.resources_chain.specs.Sets.{IsRunsOf}
-use Rattle.resources_chain.specs.Claims.{Choice, Lists, Keeps}
-use Rattle.resources_chain.specs.declared.claims.Overclaim.{Overclaim}
-use Rattle.resources_set.specs.Resources.{Resources}
-use Rattle.rpki_readings.specs.Certs.{Cert}
-use Rattle.rpki_rules.specs.Kinds.{Kind, Ipv4, Ipv6, As, claim, of_kind, InSet}
-use Rattle.rpki_rules.specs.Judge.{NeedAbove, NeedWith, KeepsNeed}
+use Rattle.rpki_judge.specs.resources_chain.Sets.{IsRunsOf}
+use Rattle.rpki_judge.specs.resources_chain.Claims.{Choice, Lists, Keeps}
+use Rattle.rpki_judge.specs.resources_chain.declared.claims.Overclaim.{Overclaim}
+use Rattle.rpki_judge.specs.resources_set.Resources.{Resources}
+use Rattle.rpki_judge.specs.rpki_readings.Certs.{Cert}
+use Rattle.rpki_judge.specs.rpki_rules.Kinds.{Kind, Ipv4, Ipv6, As, claim, of_kind, InSet}
+use Rattle.rpki_judge.specs.rpki_rules.Judge.{NeedAbove, NeedWith, KeepsNeed}
 use Rattle.rpki_judge.specs.declared.claims.Claims.{Claims}
 use Rattle.rpki_judge.specs.Needed.{claimed, AreClaims, ListsAll, KeepsAll, IsNeed, IsNeedAt}
 

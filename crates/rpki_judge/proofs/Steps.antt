@@ -2,18 +2,18 @@
 use Rattle.std.proofs.Common.{◌≡◌, ℕ, ◌+◌, ◌≤◌, ◌↔◌, Bool, true, false, List, [], ◌∷◌, ◌++◌, map, length, Option, Some, None, Result, Ok, Err, inl, inr, refl, sym, ap, subst, ◌∙◌, append_assoc, arith}
 use Rattle.std.proofs.lemmas.List.{length-map}
 use Rattle.std.specs.Prelude.{IsTrue, IfOk, slice_get}
-use Rattle.resources_chain.specs.Claims.{Lists}
-use Rattle.resources_set.specs.Resources.{Resources}
-use Rattle.rpki_readings.specs.Certs.{Cert}
-use Rattle.rpki_readings.specs.Objects.{Object}
-use Rattle.rpki_rules.specs.Words.{Mem, NoRepeat}
-use Rattle.rpki_rules.specs.Kinds.{Kind, claim, InSet}
-use Rattle.rpki_rules.specs.World.{World}
-use Rattle.rpki_rules.specs.Points.{Link, Anchor, Point, IsPoint}
-use Rattle.rpki_rules.specs.Chains.{CertAt, IsCerFile, IsSound}
-use Rattle.rpki_rules.specs.Attests.{Payload, Trace, IsSigned}
-use Rattle.rpki_rules.specs.Judge.{KeepsNeed, NeedAbove, NeedAt, Needs, Climbs, Climbed, IsJudged, may_ask}
-use Rattle.rpki_laws.proofs.Readings.{one_point, one_signed}
+use Rattle.rpki_judge.specs.resources_chain.Claims.{Lists}
+use Rattle.rpki_judge.specs.resources_set.Resources.{Resources}
+use Rattle.rpki_judge.specs.rpki_readings.Certs.{Cert}
+use Rattle.rpki_judge.specs.rpki_readings.Objects.{Object}
+use Rattle.rpki_judge.specs.rpki_rules.Words.{Mem, NoRepeat}
+use Rattle.rpki_judge.specs.rpki_rules.Kinds.{Kind, claim, InSet}
+use Rattle.rpki_judge.specs.rpki_rules.World.{World}
+use Rattle.rpki_judge.specs.rpki_rules.Points.{Link, Anchor, Point, IsPoint}
+use Rattle.rpki_judge.specs.rpki_rules.Chains.{CertAt, IsCerFile, IsSound}
+use Rattle.rpki_judge.specs.rpki_rules.Attests.{Payload, Trace, IsSigned}
+use Rattle.rpki_judge.specs.rpki_rules.Judge.{KeepsNeed, NeedAbove, NeedAt, Needs, Climbs, Climbed, IsJudged, may_ask}
+use Rattle.rpki_judge.proofs.of_rpki_rules.Readings.{one_point, one_signed}
 use Rattle.rpki_judge.specs.declared.claims.Claims.{Claims}
 use Rattle.rpki_judge.specs.declared.climb.Link.{Link as Code}
 use Rattle.rpki_judge.specs.declared.judging.Judgement.{Judgement}

@@ -1,15 +1,15 @@
 -- What the steps of climbing answer.
 use Rattle.std.specs.Prelude.{◌≡◌, ℕ, ◌+◌, ◌-◌, ◌≤◌, ◌↔◌, Bool, true, false, IsTrue, List, [], ◌∷◌, ◌++◌, map, length, Option, Some, None}
-use Rattle.resources_set.specs.Resources.{Resources}
-use Rattle.rpki_readings.specs.Certs.{Cert}
-use Rattle.rpki_readings.specs.Objects.{Object}
-use Rattle.rpki_rules.specs.Words.{Mem, Each}
-use Rattle.rpki_rules.specs.Kinds.{InSet}
-use Rattle.rpki_rules.specs.World.{World}
-use Rattle.rpki_rules.specs.Points.{Link, Point, IsPoint}
-use Rattle.rpki_rules.specs.Chains.{last_of, CertAt, IsCerFile, IsSound}
-use Rattle.rpki_rules.specs.Attests.{Payload, IsSigned}
-use Rattle.rpki_rules.specs.Judge.{Climbs, KeepsNeed, NeedAt, Needs}
+use Rattle.rpki_judge.specs.resources_set.Resources.{Resources}
+use Rattle.rpki_judge.specs.rpki_readings.Certs.{Cert}
+use Rattle.rpki_judge.specs.rpki_readings.Objects.{Object}
+use Rattle.rpki_judge.specs.rpki_rules.Words.{Mem, Each}
+use Rattle.rpki_judge.specs.rpki_rules.Kinds.{InSet}
+use Rattle.rpki_judge.specs.rpki_rules.World.{World}
+use Rattle.rpki_judge.specs.rpki_rules.Points.{Link, Point, IsPoint}
+use Rattle.rpki_judge.specs.rpki_rules.Chains.{last_of, CertAt, IsCerFile, IsSound}
+use Rattle.rpki_judge.specs.rpki_rules.Attests.{Payload, IsSigned}
+use Rattle.rpki_judge.specs.rpki_rules.Judge.{Climbs, KeepsNeed, NeedAt, Needs}
 use Rattle.rpki_judge.specs.declared.climb.Link.{Link as Code}
 use Rattle.rpki_judge.specs.declared.judging.Judgement.{Judgement}
 use Rattle.rpki_judge.specs.Needed.{IsNeed}

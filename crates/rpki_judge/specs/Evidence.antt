@@ -1,11 +1,11 @@
 -- What is read of a bundle on the way up: one thing where there is one, and nothing where there is none.
 use Rattle.std.specs.Prelude.{List, ℕ, Option, Some, None}
-use Rattle.rpki_readings.specs.Certs.{Cert}
-use Rattle.rpki_readings.specs.Objects.{Object}
-use Rattle.rpki_rules.specs.World.{World}
-use Rattle.rpki_rules.specs.Points.{Point, IsPoint}
-use Rattle.rpki_rules.specs.Chains.{CertAt, IsCerFile, IsSound}
-use Rattle.rpki_rules.specs.Attests.{Payload, IsSigned}
+use Rattle.rpki_judge.specs.rpki_readings.Certs.{Cert}
+use Rattle.rpki_judge.specs.rpki_readings.Objects.{Object}
+use Rattle.rpki_judge.specs.rpki_rules.World.{World}
+use Rattle.rpki_judge.specs.rpki_rules.Points.{Point, IsPoint}
+use Rattle.rpki_judge.specs.rpki_rules.Chains.{CertAt, IsCerFile, IsSound}
+use Rattle.rpki_judge.specs.rpki_rules.Attests.{Payload, IsSigned}
 
 -- The certificate at the lookup key.
 abbrev pub IsReadCert : {C : Type 0} → (C → Cert) → World → List ℕ → Option C → Type 0

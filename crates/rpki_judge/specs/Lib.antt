@@ -1,3 +1,8 @@
 pub mod Needed
 pub mod Evidence
 pub mod Climbing
+-- What stands below, for the crates above.
+pub use Rattle.rpki_laws.specs.resources_chain as resources_chain
+pub use Rattle.rpki_laws.specs.resources_set as resources_set
+pub use Rattle.rpki_laws.specs.rpki_readings as rpki_readings
+pub use Rattle.rpki_laws.specs.rpki_rules as rpki_rules

@@ -1,11 +1,11 @@
 -- What is needed of certificates, by what they claim.
 use Rattle.std.specs.Prelude.{◌≡◌, ℕ}
-use Rattle.resources_chain.specs.Sets.{InRuns, IsRunsOf}
-use Rattle.resources_chain.specs.Claims.{Choice, Lists, Keeps}
-use Rattle.resources_set.specs.Resources.{Resources}
-use Rattle.rpki_readings.specs.Certs.{Cert}
-use Rattle.rpki_rules.specs.Kinds.{Kind, Ipv4, Ipv6, As, of_kind, InSet}
-use Rattle.rpki_rules.specs.Judge.{NeedAbove, NeedWith}
+use Rattle.rpki_judge.specs.resources_chain.Sets.{InRuns, IsRunsOf}
+use Rattle.rpki_judge.specs.resources_chain.Claims.{Choice, Lists, Keeps}
+use Rattle.rpki_judge.specs.resources_set.Resources.{Resources}
+use Rattle.rpki_judge.specs.rpki_readings.Certs.{Cert}
+use Rattle.rpki_judge.specs.rpki_rules.Kinds.{Kind, Ipv4, Ipv6, As, of_kind, InSet}
+use Rattle.rpki_judge.specs.rpki_rules.Judge.{NeedAbove, NeedWith}
 use Rattle.rpki_judge.specs.declared.claims.Claims.{Claims}
 
 -- What is claimed of a kind.

@@ -1,8 +1,8 @@
 //! What a certificate claims.
 
-use resources_as::AsResources;
-use resources_chain::Overclaim;
-use resources_ip::IpResources;
+use crate::resources::asres::AsResources;
+use crate::resources::ipres::IpResources;
+use crate::resources::overclaim::Overclaim;
 
 /// What a certificate claims of each kind, and by which policy.
 #[derive(Clone, Copy, Debug)]

@@ -1,11 +1,12 @@
 //! Climbing from a chain's end to its anchor.
 
 ghost use Rattle.std.specs.Prelude.{◌≡◌, ◌+◌, ◌*◌, ◌-◌, ◌≤◌, ◌↔◌, [], IsTrue, IfOk, length, map};
-ghost use Rattle.rpki_rules.specs.Words.{Mem, NoRepeat};
-ghost use Rattle.rpki_rules.specs.Kinds.{InSet};
-ghost use Rattle.rpki_rules.specs.Chains.{CertAt};
-ghost use Rattle.rpki_rules.specs.Judge.{Climbs};
-ghost use Rattle.rpki_judge.specs.Climbing.{link_of, links_of, identifier_of, AreAt, IsReadChain, IsRaised, IsJudgedUp};
+ghost use Rattle.rpki_judge.specs.rpki_rules.Words.{Mem, NoRepeat};
+ghost use Rattle.rpki_judge.specs.rpki_rules.Kinds.{InSet};
+ghost use Rattle.rpki_judge.specs.rpki_rules.Chains.{CertAt};
+ghost use Rattle.rpki_judge.specs.rpki_rules.Judge.{Climbs};
+ghost use Rattle.rpki_judge.specs.Climbing.{link_of, links_of, identifier_of, AreAt, IsReadChain};
+ghost use Rattle.rpki_judge.specs.Climbing.{IsRaised, IsJudgedUp};
 
 use crate::judging::Judgement;
 use crate::{Evidence, Needed};
@@ -28,7 +29,8 @@ pub fn read_chain<'a, E: Evidence>(
     chain: &'a [Bytes],
     links: &mut Vec<Link<'a, E::Cert>>,
 ) -> Result<bool, AllocError>
-    ensures read { IfOk result (IsReadChain (E.world evidence.old) chain.now (links_of E.cert links.old.items) (links_of E.cert links.new.items)) }
+    ensures read { IfOk result (IsReadChain (E.world evidence.old) chain.now
+        (links_of E.cert links.old.items) (links_of E.cert links.new.items)) }
     ensures same { E.world evidence.new ≡ E.world evidence.old }
     ensures asks { E.asked evidence.new ≤ E.asked evidence.old }
 {
@@ -78,7 +80,8 @@ fn raised<E: Evidence>(
     needed: &Needed,
 ) -> Result<Option<Needed>, AllocError>
     requires { CertAt (E.world evidence.old) lower.now.uri.now (E.cert lower.now.cert) }
-    ensures raised { IfOk result (IsRaised (E.world evidence.old) (E.cert upper.now) (link_of E.cert lower.now) needed.now) }
+    ensures raised { IfOk result (IsRaised (E.world evidence.old) (E.cert upper.now)
+        (link_of E.cert lower.now) needed.now) }
     ensures same { E.world evidence.new ≡ E.world evidence.old }
     ensures asks { E.asked evidence.new ≤ E.asked evidence.old + 4 }
 {
@@ -105,7 +108,8 @@ fn at_anchor<E: Evidence>(
     needed: &Needed,
 ) -> Result<bool, AllocError>
     requires { CertAt (E.world evidence.old) anchor.now.uri.now (E.cert anchor.now.cert) }
-    ensures anchor { IfOk result (λ yes. IsTrue yes ↔ Climbs (E.world evidence.old) locator.now (link_of E.cert anchor.now) [] (InSet needed.now)) }
+    ensures anchor { IfOk result (λ yes. IsTrue yes ↔ Climbs (E.world evidence.old) locator.now
+        (link_of E.cert anchor.now) [] (InSet needed.now)) }
     ensures same { E.world evidence.new ≡ E.world evidence.old }
     ensures asks { E.asked evidence.new ≤ E.asked evidence.old + 1 }
 {
@@ -124,7 +128,8 @@ pub fn climb<E: Evidence>(
     needed: &Needed,
 ) -> Result<Judgement, AllocError>
     requires { AreAt (E.world evidence.old) (links_of E.cert links.now) }
-    ensures judged { IfOk result (IsJudgedUp (E.world evidence.old) locator.now (links_of E.cert links.now) needed.now) }
+    ensures judged { IfOk result (IsJudgedUp (E.world evidence.old) locator.now
+        (links_of E.cert links.now) needed.now) }
     ensures same { E.world evidence.new ≡ E.world evidence.old }
     ensures asks { E.asked evidence.new ≤ E.asked evidence.old + (4 * length links.now - 3) }
 {

@@ -1,13 +1,13 @@
 //! What the judge asks of a bundle.
 
 ghost use Rattle.std.specs.Prelude.{◌≡◌, ℕ, ◌+◌, ◌≤◌, ◌↔◌, IsTrue, IfOk};
-ghost use Rattle.rpki_readings.specs.Certs.{Cert};
-ghost use Rattle.rpki_readings.specs.Objects.{Object as ObjectValue};
-ghost use Rattle.rpki_rules.specs.World.{World};
-ghost use Rattle.rpki_rules.specs.Points.{Anchor, Point as PointValue, IsPoint};
-ghost use Rattle.rpki_rules.specs.Chains.{CertAt};
-ghost use Rattle.rpki_rules.specs.Attests.{Payload as PayloadValue};
-ghost use Rattle.rpki_rules.specs.Judge.{Needs};
+ghost use Rattle.rpki_judge.specs.rpki_readings.Certs.{Cert};
+ghost use Rattle.rpki_judge.specs.rpki_readings.Objects.{Object as ObjectValue};
+ghost use Rattle.rpki_judge.specs.rpki_rules.World.{World};
+ghost use Rattle.rpki_judge.specs.rpki_rules.Points.{Anchor, Point as PointValue, IsPoint};
+ghost use Rattle.rpki_judge.specs.rpki_rules.Chains.{CertAt};
+ghost use Rattle.rpki_judge.specs.rpki_rules.Attests.{Payload as PayloadValue};
+ghost use Rattle.rpki_judge.specs.rpki_rules.Judge.{Needs};
 ghost use Rattle.rpki_judge.specs.Needed.{AreClaims, IsNeed};
 ghost use Rattle.rpki_judge.specs.Evidence.{IsReadCert, IsReadPoint, IsReadObject, IsBelow};
 
@@ -81,7 +81,8 @@ pub trait Evidence {
         c: &Self::Cert,
     ) -> Result<bool, AllocError>
         requires { CertAt (world self.old) uri.now (cert c.now) }
-        ensures anchor { IfOk result (λ yes. IsTrue yes ↔ Anchor (world self.old) locator.now (record { uri = uri.now; cert = cert c.now })) }
+        ensures anchor { IfOk result (λ yes. IsTrue yes ↔ Anchor (world self.old) locator.now
+            (record { uri = uri.now; cert = cert c.now })) }
         ensures same { world self.new ≡ world self.old }
         ensures asks { asked self.new ≤ asked self.old + 1 };
 
@@ -108,7 +109,8 @@ pub trait Evidence {
     ) -> Result<bool, AllocError>
         requires at { CertAt (world self.old) uri.now (cert c.now) }
         requires stands { IsPoint (world self.old) (cert ca.now) (point p.now) }
-        ensures below { IfOk result (λ yes. IsTrue yes ↔ IsBelow (world self.old) (cert ca.now) (point p.now) uri.now (cert c.now)) }
+        ensures below { IfOk result (λ yes. IsTrue yes ↔ IsBelow (world self.old) (cert ca.now)
+            (point p.now) uri.now (cert c.now)) }
         ensures same { world self.new ≡ world self.old }
         ensures asks { asked self.new ≤ asked self.old + 1 };
 
@@ -122,7 +124,8 @@ pub trait Evidence {
         uri: &[u8],
     ) -> Result<Option<Self::Object>, AllocError>
         requires { IsPoint (world self.old) (cert ca.now) (point p.now) }
-        ensures read { IfOk result (IsReadObject object payload (world self.old) (cert ca.now) (point p.now) uri.now) }
+        ensures read { IfOk result (IsReadObject object payload (world self.old) (cert ca.now)
+            (point p.now) uri.now) }
         ensures same { world self.new ≡ world self.old }
         ensures asks { asked self.new ≤ asked self.old + 2 };
 }

@@ -1,8 +1,8 @@
 //! What is judged of a trace.
 
 ghost use Rattle.std.specs.Prelude.{◌≡◌, ◌+◌, ◌≤◌, ◌<◌, IfOk, length, false};
-ghost use Rattle.rpki_rules.specs.Judge.{IsJudged, may_ask};
-ghost use Rattle.rpki_rules.specs.Points.{IsPoint};
+ghost use Rattle.rpki_judge.specs.rpki_rules.Judge.{IsJudged, may_ask};
+ghost use Rattle.rpki_judge.specs.rpki_rules.Points.{IsPoint};
 ghost use Rattle.rpki_judge.specs.Climbing.{links_of, AreAt, IsJudgedAt, IsNeedOfFile};
 
 use crate::climb::{Link, are_distinct, climb, read_chain};
@@ -48,7 +48,8 @@ fn needed_by<E: Evidence>(
     object: &[u8],
 ) -> Result<Option<Needed>, AllocError>
     requires { IsPoint (E.world evidence.old) (E.cert ca.now) (E.point point.now) }
-    ensures needed { IfOk result (IsNeedOfFile (E.world evidence.old) (E.cert ca.now) (E.point point.now) object.now) }
+    ensures needed { IfOk result (IsNeedOfFile (E.world evidence.old) (E.cert ca.now)
+        (E.point point.now) object.now) }
     ensures same { E.world evidence.new ≡ E.world evidence.old }
     ensures asks { E.asked evidence.new ≤ E.asked evidence.old + 2 }
 {
@@ -74,7 +75,8 @@ fn judge_links<E: Evidence>(
     object: &[u8],
 ) -> Result<Judgement, AllocError>
     requires { AreAt (E.world evidence.old) (links_of E.cert links.now) }
-    ensures judged { IfOk result (IsJudgedAt (E.world evidence.old) locator.now (links_of E.cert links.now) object.now) }
+    ensures judged { IfOk result (IsJudgedAt (E.world evidence.old) locator.now
+        (links_of E.cert links.now) object.now) }
     ensures same { E.world evidence.new ≡ E.world evidence.old }
     ensures asks { E.asked evidence.new ≤ E.asked evidence.old + may_ask (length links.now) }
 {
@@ -101,7 +103,8 @@ pub fn judge<E: Evidence>(
     chain: &[Bytes],
     object: &[u8],
 ) -> Result<Judgement, AllocError>
-    ensures judged { IfOk result (λ j. IsJudged (E.world evidence.old) (record { locator = locator.now; chain = chain.now; object = object.now }) j.yes j.points) }
+    ensures judged { IfOk result (λ j. IsJudged (E.world evidence.old)
+        (record { locator = locator.now; chain = chain.now; object = object.now }) j.yes j.points) }
     ensures same { E.world evidence.new ≡ E.world evidence.old }
     ensures asks { E.asked evidence.new ≤ E.asked evidence.old + may_ask (length chain.now) }
 {

@@ -1,14 +1,16 @@
 //! The numbers of each kind that are needed of a certificate.
 
 ghost use Rattle.std.specs.Prelude.{◌≡◌, ℕ, ◌↔◌, IsTrue, IfOk};
-ghost use Rattle.resources_chain.specs.Sets.{InRuns, IsRunsOf};
-ghost use Rattle.resources_chain.specs.Claims.{Lists, Keeps};
-ghost use Rattle.rpki_rules.specs.Judge.{NeedAbove, NeedWith};
+ghost use Rattle.rpki_judge.specs.resources_chain.Sets.{InRuns, IsRunsOf};
+ghost use Rattle.rpki_judge.specs.resources_chain.Claims.{Lists, Keeps};
+ghost use Rattle.rpki_judge.specs.rpki_rules.Judge.{NeedAbove, NeedWith};
 
 use crate::Claims;
-use resources_as_block::AsBlock;
-use resources_chain::{Block, Claim, Overclaim, ResourcesChoice, SharedChain};
-use resources_ip_block::IpBlock;
+use crate::resources::asres::AsBlock;
+use crate::resources::chain::{Block, SharedChain};
+use crate::resources::choice::{Claim, ResourcesChoice};
+use crate::resources::overclaim::Overclaim;
+use crate::resources_ip_block::IpBlock;
 use std::alloc::{AllocError, Global};
 use std::marker::Model;
 
@@ -21,7 +23,7 @@ pub struct Needed {
 }
 
 impl Model for Needed {
-    ghost use Rattle.resources_set.specs.Resources.{Resources};
+    ghost use Rattle.rpki_judge.specs.resources_set.Resources.{Resources};
 
     ghost Value = { Resources };
 
@@ -96,7 +98,8 @@ fn handed_up<B: Block, C: Claim<Block = B>>(
     manifest_policy: Overclaim,
     need: &SharedChain<B>,
 ) -> Result<SharedChain<B>, AllocError>
-    ensures { IfOk result (IsRunsOf (NeedWith manifest_policy (C.choice manifest.now) (NeedAbove policy (C.choice claim.now) (InRuns need.now)))) }
+    ensures { IfOk result (IsRunsOf (NeedWith manifest_policy (C.choice manifest.now)
+        (NeedAbove policy (C.choice claim.now) (InRuns need.now)))) }
 {
     let handed = above(claim, policy, need)?;
     with_list(alloc, manifest, manifest_policy, &handed)

@@ -1,9 +1,9 @@
 -- A trace is good where reading it from its object up finds all that is needed.
 use Rattle.std.proofs.Common.{◌≡◌, ℕ, ◌⊎◌, ◌↔◌, List, [], ◌∷◌, map, inl, inr, refl, sym, subst}
-use Rattle.resources_chain.specs.Sets.{InRun, InRuns}
-use Rattle.resources_chain.specs.Claims.{Keeps, FitsIn}
-use Rattle.resources_ip_prefix.specs.Prefixes.{prefix_run}
-use Rattle.rpki_readings.specs.Objects.{RoaAddress}
+use Rattle.rpki_laws.specs.resources_chain.Sets.{InRun, InRuns}
+use Rattle.rpki_laws.specs.resources_chain.Claims.{Keeps, FitsIn}
+use Rattle.rpki_laws.specs.resources_ip_prefix.Prefixes.{prefix_run}
+use Rattle.rpki_laws.specs.rpki_readings.Objects.{RoaAddress}
 use Rattle.rpki_rules.specs.Words.{Each}
 use Rattle.rpki_rules.specs.Kinds.{Kind, Ipv4, Ipv6, As, claim}
 use Rattle.rpki_rules.specs.Chains.{last_of, Holds}

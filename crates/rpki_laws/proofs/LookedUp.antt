@@ -9,10 +9,10 @@ use Rattle.std.proofs.lemmas.Bool.Decides.{nat_tests}
 use Rattle.std.proofs.lemmas.List.{length-map, map-append, drop-map, take-map}
 use Rattle.std.proofs.lemmas.List.Elements.{All-head, All-tail, All-cons, All-nil, All-map, All-weaker}
 use Rattle.std.proofs.lemmas.Slice.Eq.{bytes_eq-Decides}
-use Rattle.rpki_bundle.specs.declared.parts.Object.{Object}
-use Rattle.rpki_bundle.specs.Objects.{IsAt}
-use Rattle.certs_uri.specs.Uris.{lower, lower_host, lookup_key, IsUriOctet, HasScheme, IsModulePath, IsUri}
-use Rattle.certs_uri.proofs.UriTexts.{segment_len, HasModule, HasModule-from_path, IsModulePath-from_lens, HasScheme-from_rsync, HasScheme-from_https, IsRsync-from_parts, IsHttps-from_parts}
+use Rattle.rpki_laws.specs.rpki_bundle.declared.parts.Object.{Object}
+use Rattle.rpki_laws.specs.rpki_bundle.Objects.{IsAt}
+use Rattle.rpki_laws.specs.certs_uri.Uris.{lower, lower_host, lookup_key, IsUriOctet, HasScheme, IsModulePath, IsUri}
+use Rattle.rpki_laws.proofs.of_certs_uri.UriTexts.{segment_len, HasModule, HasModule-from_path, IsModulePath-from_lens, HasScheme-from_rsync, HasScheme-from_https, IsRsync-from_parts, IsHttps-from_parts}
 use Rattle.rpki_rules.specs.World.{find_object}
 use Rattle.rpki_rules.specs.Laws.{OnlyUris, OneObjectAt}
 

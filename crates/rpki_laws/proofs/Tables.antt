@@ -1,8 +1,8 @@
 -- The table of good signatures as a relation.
 use Rattle.std.proofs.Common.{◌≡◌, List, ◌&&◌, Bool, true, false, bytes_eq, inl, refl, sym, ap, ◌∙◌}
 use Rattle.std.proofs.lemmas.Slice.Eq.{bytes_eq-Decides}
-use Rattle.rpki_bundle.specs.declared.parts.Verdict.{Verdict}
-use Rattle.rpki_readings.specs.Certs.{encoded}
+use Rattle.rpki_laws.specs.rpki_bundle.declared.parts.Verdict.{Verdict}
+use Rattle.rpki_laws.specs.rpki_readings.Certs.{encoded}
 use Rattle.rpki_rules.specs.Laws.{TableSays}
 use Rattle.rpki_laws.proofs.Lists.{any_mem, mem_any}
 

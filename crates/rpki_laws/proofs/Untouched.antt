@@ -11,7 +11,8 @@ use Rattle.rpki_rules.specs.Lines.{Customer, Refusal}
 use Rattle.rpki_rules.specs.Output.{AreOrigins, IsCustomer, AreCustomers, AreRefusals, IsOutput}
 use Rattle.rpki_rules.specs.Reach.{IsOneOf, NamesOne, SomeLocatorNames, NoFrontNames}
 use Rattle.rpki_rules.specs.Laws.{UntouchedOutput}
-use Rattle.rpki_laws.proofs.Cross.{having, is_having, others, names_both, crosses, good_over, none_over, anchor_refused_over, accepted_up}
+use Rattle.rpki_rules.proofs.Fronts.{accepted_front}
+use Rattle.rpki_laws.proofs.Cross.{having, is_having, others, names_both, crosses, good_over, none_over, anchor_refused_over}
 use Rattle.rpki_laws.proofs.Refusals.{refuses_there}
 
 -- Worlds that tell the same have the same output.
@@ -38,12 +39,6 @@ module _ (u v : World) (origins : (x : Origin) → AttestsOrigin u x ↔ Attests
     whole = h.whole;
   }
 
--- Each front of an accepted chain is accepted.
-accepted_front : (w : World) (name : List ℕ) (a : Link) (ds cs : List Link) → IsFront cs ds → Accepted w name a ds → Accepted w name a cs
-accepted_front w name a [] cs f h = subst (λ (xs : List Link). Accepted w name a xs) (sym f) h
-accepted_front w name a (d ∷ ds) cs (inl e) h = subst (λ (xs : List Link). Accepted w name a xs) (sym e) h
-accepted_front w name a (d ∷ ds) cs (inr f) h = accepted_front w name a ds cs f (accepted_up w name a d ds h)
-
 -- No accepted chain names one of the URIs.
 abbrev Idle : List (List ℕ) → World → Type 0
 Idle uris w = (name : List ℕ) (a : Link) (cs : List Link) → Accepted w name a cs → ¬ (NamesOne uris w (last_of a cs).cert)
@@ -69,7 +64,7 @@ module _ (uris : List (List ℕ)) (w : World) (f g : List ℕ → Option (List �
   provision_there x h = record { trace = h.trace; payload = h.payload; good = good_there h.trace h.payload h.good; one = h.one }
 
   none_names : (name : List ℕ) (a : Link) (cs : List Link) → Accepted (having w f) name a cs → NoFrontNames uris (having w f) a cs
-  none_names name a cs h front is = idle name a front (accepted_front (having w f) name a cs front is h)
+  none_names name a cs h front is = idle name a front (accepted_front (having w f) name a front cs is h)
 
   is_accepted : (name : List ℕ) (a : Link) (cs : List Link) (uri : List ℕ) (why : Cause) → ChainRefuses (having w f) name a cs uri why → Accepted (having w f) name a cs
   is_accepted name a cs uri why (inl h) = h.1.accepted

@@ -1,9 +1,9 @@
 -- What the rules ask of certificates is what the lists of tests of verification ask.
 use Rattle.std.proofs.Common.{◌≡◌, ◌≢◌, ◌↔◌, ℕ, [], ◌∷◌, Some, None, sym, ◌∙◌}
-use Rattle.resources_chain.specs.Claims.{Choice, Kept, FitsIn}
-use Rattle.resources_chain.specs.declared.choice.ResourcesChoice.TheVariants.{Inherit}
-use Rattle.certs_specs.specs.Verified.{HolderValue, held_by}
-use Rattle.rpki_readings.specs.Certs.{Cert}
+use Rattle.rpki_laws.specs.resources_chain.Claims.{Choice, Kept, FitsIn}
+use Rattle.rpki_laws.specs.resources_chain.declared.choice.ResourcesChoice.TheVariants.{Inherit}
+use Rattle.rpki_laws.specs.certs_specs.Verified.{HolderValue, held_by}
+use Rattle.rpki_laws.specs.rpki_readings.Certs.{Cert}
 use Rattle.rpki_rules.specs.Kinds.{Kind, Ipv4, Ipv6, As, claim}
 use Rattle.rpki_rules.specs.Chains.{Holds, Fits}
 use Rattle.rpki_rules.specs.Laws.{SignedIsVerified, IssuedIsVerified, AnchorIsVerified, AnchorHolds, IssuedHolds}

@@ -1,18 +1,18 @@
 -- What a witness names in a bundle's world.
 use Rattle.std.proofs.Common.{◌≡◌, ◌≢◌, ℕ, inl, inr, List, [], ◌∷◌, ◌++◌, Some, None, bytes_eq, sym, subst, ◌∙◌}
 use Rattle.std.proofs.lemmas.Slice.Eq.{bytes_eq-Decides}
-use Rattle.bcder_tree.specs.Tree.{Trees, none, more}
-use Rattle.bcder_tree.specs.Sequences.{EachIs}
-use Rattle.rpki_bundle.specs.declared.parts.Object.{Object}
-use Rattle.rpki_bundle.specs.Bundle.{IsObject}
-use Rattle.certs_uri.specs.Uris.{IsLookupKey}
+use Rattle.rpki_laws.specs.bcder_tree.Tree.{Trees, none, more}
+use Rattle.rpki_laws.specs.bcder_tree.Sequences.{EachIs}
+use Rattle.rpki_laws.specs.rpki_bundle.declared.parts.Object.{Object}
+use Rattle.rpki_laws.specs.rpki_bundle.Bundle.{IsObject}
+use Rattle.rpki_laws.specs.certs_uri.Uris.{IsLookupKey}
 use Rattle.rpki_rules.specs.Words.{Each}
 use Rattle.rpki_rules.specs.World.{World, find_object}
 use Rattle.rpki_rules.specs.Points.{Link, Anchor}
 use Rattle.rpki_rules.specs.Chains.{places, Descends}
 use Rattle.rpki_rules.specs.Laws.{WitnessNames}
-use Rattle.rpki_readings.specs.Locators.{https_first}
-use Rattle.rpki_laws.proofs.Readings.{first_held}
+use Rattle.rpki_laws.specs.rpki_readings.Locators.{https_first}
+use Rattle.rpki_rules.proofs.Readings.{first_held}
 use Rattle.rpki_laws.proofs.LookedUp.{chosen}
 
 -- Something is held at the key.

@@ -2,9 +2,9 @@
 use Rattle.std.proofs.Common.{◌≡◌, ℕ, ◌+◌, ◌<◌, List, [], ◌∷◌, ◌++◌, length, get_or, take, map, codes, flat_map, append_assoc, sym, ap, ◌∙◌}
 use Rattle.std.proofs.lemmas.List.{take_more, flat_map_more}
 use Rattle.std.proofs.lemmas.List.Folds.{flat_map-map}
-use Rattle.rpki_rules.specs.World.{World}
-use Rattle.rpki_rules.specs.Lines.{Customer, asn_text, origin_line, customer_line, refusal_line}
-use Rattle.rpki_rules.specs.Output.{IsOutput}
+use Rattle.rpki_lines.specs.rpki_rules.World.{World}
+use Rattle.rpki_lines.specs.rpki_rules.Lines.{Customer, asn_text, origin_line, customer_line, refusal_line}
+use Rattle.rpki_lines.specs.rpki_rules.Output.{IsOutput}
 use Rattle.rpki_report.specs.Report.{ReportValue, IsReport}
 use Rattle.rpki_lines.specs.Texts.{report_text}
 

@@ -1,1 +1,4 @@
 pub mod Texts
+-- What stands below, for the crates above.
+pub use Rattle.rpki_report.specs.resources_ip_prefix as resources_ip_prefix
+pub use Rattle.rpki_report.specs.rpki_rules as rpki_rules

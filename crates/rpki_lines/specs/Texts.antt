@@ -1,6 +1,6 @@
 -- The text of a report.
 use Rattle.std.specs.Prelude.{ℕ, List, ◌++◌, flat_map}
-use Rattle.rpki_rules.specs.Lines.{origin_line, customer_line, refusal_line}
+use Rattle.rpki_lines.specs.rpki_rules.Lines.{origin_line, customer_line, refusal_line}
 use Rattle.rpki_report.specs.Report.{ReportValue}
 
 -- The lines of origins, then of customers, then of refusals.

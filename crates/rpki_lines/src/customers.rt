@@ -1,10 +1,10 @@
 //! The lines of customers.
 
 ghost use Rattle.std.specs.Prelude.{◌≡◌, ◌++◌, OnOk, codes, flat_map};
-ghost use Rattle.rpki_rules.specs.Lines.{asn_text, customer_line};
+ghost use Rattle.rpki_lines.specs.rpki_rules.Lines.{asn_text, customer_line};
 ghost use Rattle.rpki_report.specs.Views.{customer_of};
 
-use resources_asn::Asn;
+use crate::resources::asn::Asn;
 use rpki_report::Customer;
 use std::alloc::{AllocError, Global};
 

@@ -2,8 +2,8 @@
 #![tactic(auto)]
 
 ghost use Rattle.std.specs.Prelude.{◌≡◌, IfOk};
-ghost use Rattle.rpki_rules.specs.World.{World};
-ghost use Rattle.rpki_rules.specs.Output.{IsOutput};
+ghost use Rattle.rpki_lines.specs.rpki_rules.World.{World};
+ghost use Rattle.rpki_lines.specs.rpki_rules.Output.{IsOutput};
 ghost use Rattle.rpki_report.specs.Report.{IsReport};
 ghost use Rattle.rpki_lines.specs.Texts.{report_text};
 
@@ -12,6 +12,7 @@ mod origins;
 mod refusals;
 
 use rpki_report::Report;
+pub use rpki_report::{resources, resources_ip_prefix};
 use std::alloc::{AllocError, Global};
 
 /// The lines of origins, then of customers, then of refusals, each with a line feed at its end.

@@ -2,13 +2,13 @@
 
 ghost use Rattle.std.specs.Prelude.{◌≡◌, ◌++◌, IfOk, OnOk, Some, flat_map};
 ghost use Rattle.std.specs.String.{string_bytes};
-ghost use Rattle.resources_ip_prefix.specs.Address.{bits_of};
-ghost use Rattle.resources_ip_prefix.specs.Prefix.{prefix_addr, prefix_len};
-ghost use Rattle.resources_ip_prefix.specs.Text.{slashed};
-ghost use Rattle.rpki_rules.specs.Lines.{address_text, origin_line};
+ghost use Rattle.rpki_lines.specs.resources_ip_prefix.Address.{bits_of};
+ghost use Rattle.rpki_lines.specs.resources_ip_prefix.Prefix.{prefix_addr, prefix_len};
+ghost use Rattle.rpki_lines.specs.resources_ip_prefix.Text.{slashed};
+ghost use Rattle.rpki_lines.specs.rpki_rules.Lines.{address_text, origin_line};
 ghost use Rattle.rpki_report.specs.Views.{kind_of, origin_of};
 
-use resources_ip_prefix::{AddressFamily, Prefix};
+use crate::resources_ip_prefix::{AddressFamily, Prefix};
 use rpki_report::Origin;
 use std::alloc::{AllocError, Global};
 use std::fmt;

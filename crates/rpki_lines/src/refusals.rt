@@ -1,7 +1,7 @@
 //! The lines of refusals.
 
 ghost use Rattle.std.specs.Prelude.{◌≡◌, ◌++◌, OnOk, flat_map};
-ghost use Rattle.rpki_rules.specs.Lines.{refusal_line};
+ghost use Rattle.rpki_lines.specs.rpki_rules.Lines.{refusal_line};
 ghost use Rattle.rpki_report.specs.Views.{refusal_of};
 
 use rpki_report::Refusal;

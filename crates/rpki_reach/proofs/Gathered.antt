@@ -1,14 +1,14 @@
 -- What the walk gathers.
 use Rattle.std.proofs.Common.{◌≡◌, ℕ, ◌⊎◌, ◌↔◌, List, [], ◌∷◌, ◌++◌, refl, sym, subst, ◌∙◌, inl, inr}
-use Rattle.resources_set.specs.Resources.{Resources}
-use Rattle.rpki_readings.specs.Certs.{Cert}
-use Rattle.rpki_rules.specs.declared.cause.Cause.{Cause}
-use Rattle.rpki_rules.specs.Words.{Mem}
-use Rattle.rpki_rules.specs.Kinds.{Kind, of_kind, InSet}
-use Rattle.rpki_rules.specs.World.{World}
-use Rattle.rpki_rules.specs.Attests.{Payload, Trace}
-use Rattle.rpki_rules.specs.Reach.{NamesOne, IsReached, SomeLocatorNames, IsReach, Held}
-use Rattle.rpki_report.proofs.Lists.{mem_append}
+use Rattle.rpki_reach.specs.resources_set.Resources.{Resources}
+use Rattle.rpki_reach.specs.rpki_readings.Certs.{Cert}
+use Rattle.rpki_reach.specs.rpki_rules.declared.cause.Cause.{Cause}
+use Rattle.rpki_reach.specs.rpki_rules.Words.{Mem}
+use Rattle.rpki_reach.specs.rpki_rules.Kinds.{Kind, of_kind, InSet}
+use Rattle.rpki_reach.specs.rpki_rules.World.{World}
+use Rattle.rpki_reach.specs.rpki_rules.Attests.{Payload, Trace}
+use Rattle.rpki_reach.specs.rpki_rules.Reach.{NamesOne, IsReached, SomeLocatorNames, IsReach, Held}
+use Rattle.rpki_reach.proofs.of_rpki_report.Lists.{mem_append}
 use Rattle.rpki_walk.specs.Facts.{Refuses, Shows, Originates, Provides, Reaches, ShownBy, ReachedBy, Gains, IsTold}
 use Rattle.rpki_reach.specs.Gathered.{InSome, AreUnionOf, has_gathered, IsReaches}
 use Rattle.rpki_reach.specs.declared.gather.Gatherer.{Gatherer}

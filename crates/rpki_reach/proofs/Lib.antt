@@ -1,3 +1,5 @@
 pub mod Named
 pub mod Sets
 pub mod Gathered
+pub mod of_objects_forms
+pub mod of_rpki_report

@@ -2,14 +2,14 @@
 use Rattle.std.proofs.Common.{◌≡◌, ℕ, zero, suc, ◌<◌, ◌⊎◌, ◌↔◌, ◌||◌, Bool, true, false, IsTrue, List, [], ◌∷◌, Option, Some, None, Vec, Global, length, get_or, refl, sym, subst, inl, inr, arith, bytes_eq}
 use Rattle.std.specs.List.{list_any}
 use Rattle.std.proofs.lemmas.Slice.Eq.{bytes_eq-Decides}
-use Rattle.rpki_bundle.specs.declared.parts.Locator.{Locator}
-use Rattle.rpki_bundle.specs.Uris.{lookup_key}
-use Rattle.rpki_readings.specs.Certs.{Cert}
-use Rattle.objects_forms.proofs.Locators.{one_locator}
-use Rattle.rpki_rules.specs.Words.{Mem}
-use Rattle.rpki_rules.specs.World.{World}
-use Rattle.rpki_rules.specs.Reach.{IsOneOf, NamesOne, SomeLocatorNames}
-use Rattle.rpki_report.proofs.Lists.{mem_map}
+use Rattle.rpki_reach.specs.rpki_bundle.declared.parts.Locator.{Locator}
+use Rattle.rpki_reach.specs.rpki_bundle.Uris.{lookup_key}
+use Rattle.rpki_reach.specs.rpki_readings.Certs.{Cert}
+use Rattle.rpki_reach.proofs.of_objects_forms.Locators.{one_locator}
+use Rattle.rpki_reach.specs.rpki_rules.Words.{Mem}
+use Rattle.rpki_reach.specs.rpki_rules.World.{World}
+use Rattle.rpki_reach.specs.rpki_rules.Reach.{IsOneOf, NamesOne, SomeLocatorNames}
+use Rattle.rpki_reach.proofs.of_rpki_report.Lists.{mem_map}
 use Rattle.rpki_walk.specs.Filed.{locator_at}
 use Rattle.rpki_walk.proofs.Mems.{mem_get_or}
 use Rattle.rpki_reach.specs.Naming.{AreLocatorKeys, AreNamed, names_key, names_any, NamesOneOf, LocatorNames}

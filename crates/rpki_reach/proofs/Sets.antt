@@ -1,10 +1,10 @@
 -- Unions of sets.
 use Rattle.std.proofs.Common.{◌≡◌, ℕ, ◌↔◌, List, [], ◌∷◌, ◌++◌, refl, sym, subst, inl, inr}
-use Rattle.resources_chain.specs.Sets.{Run, IsRunsOf, InEither}
-use Rattle.resources_set.specs.Resources.{Resources, Combines, HasNone, IsNone}
-use Rattle.rpki_rules.specs.Words.{Mem}
-use Rattle.rpki_rules.specs.Kinds.{Kind, Ipv4, Ipv6, As, of_kind, InSet}
-use Rattle.rpki_report.proofs.Lists.{mem_append}
+use Rattle.rpki_reach.specs.resources_chain.Sets.{Run, IsRunsOf, InEither}
+use Rattle.rpki_reach.specs.resources_set.Resources.{Resources, Combines, HasNone, IsNone}
+use Rattle.rpki_reach.specs.rpki_rules.Words.{Mem}
+use Rattle.rpki_reach.specs.rpki_rules.Kinds.{Kind, Ipv4, Ipv6, As, of_kind, InSet}
+use Rattle.rpki_reach.proofs.of_rpki_report.Lists.{mem_append}
 use Rattle.rpki_reach.specs.Gathered.{AreUnionOf}
 
 pub runs_same : {P Q : ℕ → Type 0} (rs : List Run) → IsRunsOf P rs → ((n : ℕ) → P n ↔ Q n) → IsRunsOf Q rs

@@ -1,9 +1,9 @@
 -- Sets that were found, and their union.
 use Rattle.std.specs.Prelude.{ℕ, List}
-use Rattle.resources_chain.specs.Sets.{IsRunsOf}
-use Rattle.resources_set.specs.Resources.{Resources}
-use Rattle.rpki_rules.specs.Words.{Mem}
-use Rattle.rpki_rules.specs.Kinds.{Kind, of_kind, InSet}
+use Rattle.rpki_reach.specs.resources_chain.Sets.{IsRunsOf}
+use Rattle.rpki_reach.specs.resources_set.Resources.{Resources}
+use Rattle.rpki_reach.specs.rpki_rules.Words.{Mem}
+use Rattle.rpki_reach.specs.rpki_rules.Kinds.{Kind, of_kind, InSet}
 use Rattle.rpki_walk.specs.Facts.{Told, Refuses, Shows, Originates, Provides, Reaches}
 use Rattle.rpki_reach.specs.declared.gather.Gatherer.{Gatherer}
 

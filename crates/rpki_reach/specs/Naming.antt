@@ -2,13 +2,13 @@
 use Rattle.std.specs.Prelude.{◌≡◌, ℕ, ◌↔◌, Bool, List, Option, Some, None, Vec, map, bytes_eq}
 use Rattle.std.specs.Global.{Global}
 use Rattle.std.specs.List.{list_any}
-use Rattle.rpki_bundle.specs.declared.parts.Locator.{Locator}
-use Rattle.rpki_bundle.specs.Uris.{lookup_key}
-use Rattle.rpki_readings.specs.Certs.{Key, Cert}
-use Rattle.rpki_readings.specs.Locators.{LocatorText}
-use Rattle.rpki_rules.specs.Words.{Mem}
-use Rattle.rpki_rules.specs.World.{World}
-use Rattle.rpki_rules.specs.Reach.{IsOneOf, Names, Answer, Locates, Held as HeldAnswer}
+use Rattle.rpki_reach.specs.rpki_bundle.declared.parts.Locator.{Locator}
+use Rattle.rpki_reach.specs.rpki_bundle.Uris.{lookup_key}
+use Rattle.rpki_reach.specs.rpki_readings.Certs.{Key, Cert}
+use Rattle.rpki_reach.specs.rpki_readings.Locators.{LocatorText}
+use Rattle.rpki_reach.specs.rpki_rules.Words.{Mem}
+use Rattle.rpki_reach.specs.rpki_rules.World.{World}
+use Rattle.rpki_reach.specs.rpki_rules.Reach.{IsOneOf, Names, Answer, Locates, Held as HeldAnswer}
 use Rattle.rpki_reach.specs.declared.answer.Reach.{Reach}
 use Rattle.rpki_reach.specs.declared.answer.Reach.TheVariants as Is
 

@@ -1,7 +1,7 @@
 //! Whether locators name one of the URIs.
 
 ghost use Rattle.std.specs.Prelude.{◌↔◌, ◌<◌, IsTrue, IfOk, length};
-ghost use Rattle.rpki_rules.specs.Reach.{SomeLocatorNames};
+ghost use Rattle.rpki_reach.specs.rpki_rules.Reach.{SomeLocatorNames};
 ghost use Rattle.rpki_walk.specs.Filed.{locator_at};
 ghost use Rattle.rpki_reach.specs.Naming.{LocatorNames};
 

@@ -1,7 +1,7 @@
 //! What is reached from some URIs.
 
 ghost use Rattle.std.specs.Prelude.{◌≡◌, IfOk};
-ghost use Rattle.rpki_rules.specs.Reach.{IsReach};
+ghost use Rattle.rpki_reach.specs.rpki_rules.Reach.{IsReach};
 ghost use Rattle.rpki_reach.specs.Naming.{answer_of};
 
 use crate::answer::Reach;

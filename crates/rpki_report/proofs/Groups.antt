@@ -1,14 +1,14 @@
 -- Provisions gathered by customer.
-use Rattle.std.proofs.Common.{◌≡◌, ◌≢◌, ℕ, ◌+◌, ◌<◌, ◌≤◌, ◌⊎◌, ◌↔◌, List, [], ◌∷◌, ◌++◌, map, flat_map, refl, sym, ap, subst, ◌∙◌, inl, inr, arith, append_assoc, length, Option, Some, None, MatchOption}
+use Rattle.std.proofs.Common.{◌≡◌, ◌≢◌, ℕ, ◌<◌, ◌≤◌, ◌⊎◌, ◌↔◌, List, [], ◌∷◌, ◌++◌, map, flat_map, refl, sym, ap, subst, ◌∙◌, inl, inr, arith, append_assoc, length, Option, Some, None, MatchOption}
 use Rattle.std.specs.declared.cmp.Ordering.{Ordering}
 use Rattle.std.specs.declared.cmp.Ordering.TheVariants.{Less, Equal, Greater}
 use Rattle.std.specs.Ordering.{nat_cmp, ordering_then, MatchOrdering}
 use Rattle.std.specs.List.Sorted.{IsStrictlySortedBy}
 use Rattle.std.proofs.lemmas.Cmp.{ranked}
-use Rattle.rpki_rules.specs.Words.{Mem, Each, Ascending}
+use Rattle.rpki_rules.specs.Words.{Mem, Ascending}
 use Rattle.rpki_rules.specs.Attests.{Provision}
 use Rattle.rpki_rules.specs.Lines.{Customer}
-use Rattle.resources_asn.specs.declared.asn.Asn.{Asn}
+use Rattle.rpki_report.specs.resources_asn.declared.asn.Asn.{Asn}
 use Rattle.rpki_report.specs.declared.customer.Customer.{Customer as CodeCustomer}
 use Rattle.rpki_report.specs.declared.customer.Provision.{Provision as CodeProvision}
 use Rattle.rpki_report.specs.Views.{provision_of, customer_of, provision_cmp}

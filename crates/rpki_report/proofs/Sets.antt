@@ -1,5 +1,5 @@
 -- What is left of a list that is sorted without repeats.
-use Rattle.std.proofs.Common.{◌≡◌, ℕ, ◌↔◌, List, [], ◌∷◌, map, refl, sym, ap, subst, ◌∙◌, cond, eqb, true, false, Bool}
+use Rattle.std.proofs.Common.{◌≡◌, ℕ, List, [], ◌∷◌, map, refl, sym, ap, ◌∙◌, cond, eqb, true}
 use Rattle.std.specs.declared.cmp.Ordering.{Ordering}
 use Rattle.std.specs.declared.cmp.Ordering.TheVariants.{Less, Equal, Greater}
 use Rattle.std.specs.Ordering.{nat_cmp, ordering_then, is_eq}
@@ -12,8 +12,8 @@ use Rattle.rpki_rules.specs.Words.{Mem}
 use Rattle.rpki_rules.specs.Kinds.{Kind, Ipv4, Ipv6, As}
 use Rattle.rpki_rules.specs.Attests.{Origin, Provision, Trace}
 use Rattle.rpki_rules.specs.Lines.{Refusal, family_place, origin_cmp, cause_text, refusal_cmp}
-use Rattle.resources_ip_prefix.specs.declared.addr.AddressFamily.{AddressFamily}
-use Rattle.resources_ip_prefix.specs.declared.addr.AddressFamily.TheVariants as family
+use Rattle.rpki_report.specs.resources_ip_prefix.declared.addr.AddressFamily.{AddressFamily}
+use Rattle.rpki_report.specs.resources_ip_prefix.declared.addr.AddressFamily.TheVariants as family
 use Rattle.rpki_report.specs.declared.origin.Origin.{Origin as CodeOrigin}
 use Rattle.rpki_report.specs.Views.{origin_of, provision_cmp, trace_cmp}
 use Rattle.rpki_report.specs.Report.{IsSetOf}

@@ -1,5 +1,5 @@
 -- Provisions gathered by customer.
-use Rattle.std.specs.Prelude.{◌≡◌, ◌≢◌, ◌⊎◌, ℕ, List, [], ◌∷◌, ◌++◌, map, flat_map}
+use Rattle.std.specs.Prelude.{◌≡◌, ◌≢◌, List, [], ◌∷◌, ◌++◌, map, flat_map}
 use Rattle.rpki_rules.specs.Attests.{Provision}
 use Rattle.rpki_rules.specs.Lines.{Customer}
 

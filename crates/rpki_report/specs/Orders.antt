@@ -1,9 +1,8 @@
 -- The order of refusals, and that it is one.
-use Rattle.std.specs.Prelude.{◌≡◌, ℕ, Bool, List, refl}
+use Rattle.std.specs.Prelude.{◌≡◌, Bool, refl}
 use Rattle.std.specs.declared.cmp.Ordering.{Ordering}
-use Rattle.std.specs.Ordering.{nat_cmp, eq_by_cmp, on, then_cmp}
+use Rattle.std.specs.Ordering.{eq_by_cmp}
 use Rattle.std.specs.Cmp.{IsTotalOrder, IsEquivalence}
-use Rattle.std.specs.Cmp.Lexicographic.{slice_cmp}
 use Rattle.std.proofs.lemmas.Cmp.{on_total, then_total, nat_list_cmp_total, eq_by_cmp_equiv}
 use Rattle.rpki_rules.specs.Lines.{cause_text, refusal_cmp}
 use Rattle.rpki_report.specs.declared.refusal.Refusal.{Refusal}

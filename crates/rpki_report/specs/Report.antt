@@ -1,5 +1,5 @@
 -- What a report holds, and when it is that of a world.
-use Rattle.std.specs.Prelude.{◌≡◌, ◌≢◌, ◌↔◌, ℕ, List, [], map}
+use Rattle.std.specs.Prelude.{◌≢◌, ◌↔◌, ℕ, List, [], map}
 use Rattle.std.specs.declared.cmp.Ordering.{Ordering}
 use Rattle.std.specs.List.Sorted.{IsStrictlySortedBy}
 use Rattle.rpki_rules.specs.Words.{Mem, Each, Ascending}

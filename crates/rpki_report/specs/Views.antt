@@ -3,9 +3,9 @@ use Rattle.std.specs.Prelude.{ℕ, List, map}
 use Rattle.std.specs.declared.cmp.Ordering.{Ordering}
 use Rattle.std.specs.Ordering.{nat_cmp, ordering_then}
 use Rattle.std.specs.Cmp.Lexicographic.{slice_cmp}
-use Rattle.resources_ip_prefix.specs.declared.addr.AddressFamily.{AddressFamily}
-use Rattle.resources_ip_prefix.specs.declared.addr.AddressFamily.TheVariants as family
-use Rattle.resources_ip_prefix.specs.Address.{bits_of}
+use Rattle.rpki_report.specs.resources_ip_prefix.declared.addr.AddressFamily.{AddressFamily}
+use Rattle.rpki_report.specs.resources_ip_prefix.declared.addr.AddressFamily.TheVariants as family
+use Rattle.rpki_report.specs.resources_ip_prefix.Address.{bits_of}
 use Rattle.rpki_rules.specs.Kinds.{Kind, Ipv4, Ipv6}
 use Rattle.rpki_rules.specs.Attests.{Origin as OriginValue, Provision as ProvisionValue, Trace}
 use Rattle.rpki_rules.specs.Lines.{Customer as CustomerValue, Refusal as RefusalValue}

@@ -7,7 +7,7 @@ ghost use Rattle.rpki_report.specs.Report.{AreCustomersOf};
 ghost use Rattle.rpki_report.specs.Groups.{Adds};
 ghost use Rattle.rpki_rules.specs.Words.{Mem};
 
-use resources_asn::Asn;
+use crate::resources::asn::Asn;
 use std::alloc::{AllocError, Global};
 
 /// A customer with one of its providers.
@@ -29,7 +29,10 @@ pub struct Customer {
 impl Customer {
     // A customer with its first provider.
     fn new(alloc: Global, first: &Provision) -> Result<Self, AllocError>
-        ensures { IfOk result (λ c. customer_of c ≡ record { number = (provision_of first.now).customer; providers = (provision_of first.now).provider ∷ [] }) }
+        ensures { IfOk result (λ c. customer_of c ≡ record {
+          number = (provision_of first.now).customer;
+          providers = (provision_of first.now).provider ∷ [];
+        }) }
     {
         let mut providers = Vec::new(alloc);
         providers.push(first.provider)?;
@@ -56,7 +59,8 @@ impl Customer {
 
 // Adds a provider to the last customer where it is that one's, and else a customer.
 fn add(alloc: Global, all: &mut Vec<Customer>, pair: &Provision) -> Result<(), AllocError>
-    ensures { OnOk result (Adds (map customer_of all.old.items) (provision_of pair.now) (map customer_of all.new.items)) }
+    ensures { OnOk result (Adds (map customer_of all.old.items) (provision_of pair.now)
+        (map customer_of all.new.items)) }
 {
     if let Some(mut last) = all.pop() {
         if last.number == pair.customer {
@@ -73,7 +77,8 @@ fn add(alloc: Global, all: &mut Vec<Customer>, pair: &Provision) -> Result<(), A
 /// The customers of provisions that ascend, each with its providers.
 pub fn gather(alloc: Global, pairs: &[Provision]) -> Result<Vec<Customer>, AllocError>
     requires { IsStrictlySortedBy provision_cmp (map provision_of pairs.now) }
-    ensures { IfOk result (λ cs. AreCustomersOf (Mem (map provision_of pairs.now)) (map customer_of cs.items)) }
+    ensures { IfOk result (λ cs. AreCustomersOf (Mem (map provision_of pairs.now))
+        (map customer_of cs.items)) }
 {
     let mut all = Vec::new(alloc);
     for pair in pairs {

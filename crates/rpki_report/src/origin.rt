@@ -1,11 +1,11 @@
 //! Origins: prefixes with the AS number that may announce them.
 
 ghost use Rattle.std.specs.Prelude.{◌≡◌, ◌≤◌};
-ghost use Rattle.resources_ip_prefix.specs.Address.{bits_of};
-ghost use Rattle.resources_ip_prefix.specs.Prefixes.{first_of};
+ghost use Rattle.rpki_report.specs.resources_ip_prefix.Address.{bits_of};
+ghost use Rattle.rpki_report.specs.resources_ip_prefix.Prefixes.{first_of};
 
-use resources_asn::Asn;
-use resources_ip_prefix::{Addr, AddressFamily, Prefix};
+use crate::resources::asn::Asn;
+use crate::resources_ip_prefix::{Addr, AddressFamily, Prefix};
 
 /// A prefix, the greatest length of a prefix in it that may be announced, and the AS number that may announce it
 /// (RFC 9582 4).
@@ -24,7 +24,7 @@ pub struct Origin {
 }
 
 impl Origin {
-    ghost use Rattle.resources_ip_prefix.specs.Prefix.{prefix_addr, prefix_len};
+    ghost use Rattle.rpki_report.specs.resources_ip_prefix.Prefix.{prefix_addr, prefix_len};
     ghost use Rattle.rpki_report.specs.Views.{kind_of, origin_of};
 
     /// The AS number may announce prefixes in this one of the family, of at most that length.

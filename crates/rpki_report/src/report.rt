@@ -1,7 +1,8 @@
 //! The report.
 
 ghost use Rattle.std.specs.Prelude.{◌≡◌, map, IfOk};
-ghost use Rattle.rpki_report.specs.Views.{origin_of, provision_of, customer_of, refusal_of, trace_of};
+ghost use Rattle.rpki_report.specs.Views.{origin_of, provision_of, customer_of};
+ghost use Rattle.rpki_report.specs.Views.{refusal_of, trace_of};
 ghost use Rattle.rpki_report.specs.Report.{IsReportOf};
 
 use crate::customer::{Customer, Provision, gather};
@@ -45,7 +46,8 @@ impl Report {
         mut refusals: Vec<Refusal>,
         mut witnesses: Vec<Witness>,
     ) -> Result<Self, AllocError>
-        ensures { IfOk result (IsReportOf (map origin_of origins.items) (map provision_of provisions.items)
+        ensures { IfOk result (IsReportOf
+            (map origin_of origins.items) (map provision_of provisions.items)
             (map refusal_of refusals.items) (map trace_of witnesses.items)) }
     {
         sort_once(&mut origins)?;

@@ -26,7 +26,10 @@ impl Path {
 
     /// The chain with one more certificate.
     pub fn longer(&self, alloc: Global, last: &Bytes) -> Result<Self, AllocError>
-        ensures { IfOk result (λ p. way_of p ≡ record { locator = (way_of self.now).locator; chain = (way_of self.now).chain ++ last.now ∷ [] }) }
+        ensures { IfOk result (λ p. way_of p ≡ record {
+          locator = (way_of self.now).locator;
+          chain = (way_of self.now).chain ++ last.now ∷ [];
+        }) }
     {
         let mut chain = Vec::with_capacity(alloc, self.chain.len())?;
         for uri in &self.chain {
@@ -66,7 +69,11 @@ pub struct Witness {
 impl Witness {
     /// The object with this lookup key is good by this chain.
     pub fn new(path: Rc<Path>, object: Bytes) -> Self
-        ensures { trace_of result ≡ record { locator = (way_of path.value).locator; chain = (way_of path.value).chain; object = object } }
+        ensures { trace_of result ≡ record {
+          locator = (way_of path.value).locator;
+          chain = (way_of path.value).chain;
+          object = object;
+        } }
     {
         Witness { object, path }
     }

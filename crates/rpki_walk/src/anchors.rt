@@ -5,10 +5,10 @@ ghost use Rattle.rpki_walk.specs.Filed.{locator_at};
 ghost use Rattle.rpki_walk.specs.Facts.{FromLocator, IsTold, Gains};
 
 use crate::chains::walk_from;
+use crate::rpki_rules::Cause;
 use crate::steps::{Leads, Steps};
 use crate::visitor::Visitor;
 use rpki_report::Path;
-use rpki_rules::Cause;
 use std::alloc::{AllocError, Global};
 use std::rc::Rc;
 
@@ -22,7 +22,8 @@ fn walk_locator<S: Steps, V: Visitor<S>>(
     requires within { at < length (S.world steps.old).locators }
     requires deep { 1 ≤ (S.world steps.old).depth }
     ensures gained { OnOk result (Gains V.wants (V.has visitor.old)
-        (FromLocator (V.uris visitor.old) (S.world steps.old) (locator_at (S.world steps.old) at)) (V.has visitor.new)) }
+        (FromLocator (V.uris visitor.old) (S.world steps.old) (locator_at (S.world steps.old) at))
+        (V.has visitor.new)) }
     ensures kept { V.uris visitor.new ≡ V.uris visitor.old }
     ensures same { S.world steps.new ≡ S.world steps.old }
 {
@@ -45,7 +46,8 @@ pub fn walk_all<S: Steps, V: Visitor<S>>(
     steps: &mut S,
     visitor: &mut V,
 ) -> Result<(), AllocError>
-    ensures gained { OnOk result (Gains V.wants (V.has visitor.old) (IsTold (V.uris visitor.old) (S.world steps.old)) (V.has visitor.new)) }
+    ensures gained { OnOk result (Gains V.wants (V.has visitor.old)
+        (IsTold (V.uris visitor.old) (S.world steps.old)) (V.has visitor.new)) }
     ensures kept { V.uris visitor.new ≡ V.uris visitor.old }
     ensures same { S.world steps.new ≡ S.world steps.old }
 {

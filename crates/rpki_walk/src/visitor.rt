@@ -1,14 +1,14 @@
 //! Who is told what a walk finds.
 
 ghost use Rattle.std.specs.Prelude.{◌≡◌, ℕ, List, OnOk};
-ghost use Rattle.rpki_rules.specs.Kinds.{InSet};
+ghost use Rattle.rpki_walk.specs.rpki_rules.Kinds.{InSet};
 ghost use Rattle.rpki_report.specs.Views.{way_of};
 ghost use Rattle.rpki_walk.specs.Facts.{Told, Refuses, ShownBy, ReachedBy, Gains};
 
+use crate::rpki_rules::Cause;
 use crate::steps::Steps;
 use bytes::Bytes;
 use rpki_report::Path;
-use rpki_rules::Cause;
 use std::alloc::{AllocError, Global};
 use std::rc::Rc;
 
@@ -25,13 +25,15 @@ pub trait Visitor<S: Steps> {
     /// An accepted chain has this last certificate.
     fn visit(&mut self, alloc: Global, steps: &mut S, ca: &S::Authority) -> Result<(), AllocError>
         ensures gained { OnOk result (Gains wants (has self.old)
-            (ReachedBy (uris self.old) (S.world steps.old) (InSet (S.sets ca.now)) (S.cert ca.now)) (has self.new)) }
+            (ReachedBy (uris self.old) (S.world steps.old) (InSet (S.sets ca.now)) (S.cert ca.now))
+            (has self.new)) }
         ensures kept { uris self.new ≡ uris self.old }
         ensures same { S.world steps.new ≡ S.world steps.old };
 
     /// What has this name is refused.
     fn refuse(&mut self, name: &Bytes, why: Cause) -> Result<(), AllocError>
-        ensures gained { OnOk result (Gains wants (has self.old) (λ x. Refuses name.now why ≡ x) (has self.new)) }
+        ensures gained { OnOk result (Gains wants (has self.old) (λ x. Refuses name.now why ≡ x)
+            (has self.new)) }
         ensures kept { uris self.new ≡ uris self.old };
 
     /// The object with this lookup key is good by this chain.

@@ -4,13 +4,13 @@ ghost use Rattle.std.specs.Prelude.{◌≡◌, IfOk, IfErr};
 ghost use Rattle.std.specs.Ordering.{nat_cmp};
 ghost use Rattle.std.specs.Cmp.Lexicographic.{slice_cmp};
 ghost use Rattle.std.specs.List.Sorted.{IsPermutation};
-ghost use Rattle.rpki_bundle.specs.Bundle.{BundleValue, verdict_row};
-ghost use Rattle.rpki_bundle.specs.Errors.{OnNotABundle};
+ghost use Rattle.rpki_commands.specs.rpki_bundle.Bundle.{BundleValue, verdict_row};
+ghost use Rattle.rpki_commands.specs.rpki_bundle.Errors.{OnNotABundle};
 ghost use Rattle.rpki_commands.specs.Folders.{IsSortedOn, Tells, TellsParts};
 
 use crate::folder::lines::{depth_of, moment_of};
 use crate::folder::verdicts::verdicts_of;
-use rpki_bundle::{BundleError, Locator, Object, Time, Verdict};
+use crate::rpki_bundle::{BundleError, Locator, Object, Time, Verdict};
 use std::alloc::Global;
 use std::cmp::Ordering;
 

@@ -1,12 +1,12 @@
 //! The lines of `verdicts`, each of three digests in hexadecimal digits.
 
 ghost use Rattle.std.specs.Prelude.{◌≡◌, ◌∷◌, ℕ, List, IfSome, IfNone, IfOk, IfErr};
-ghost use Rattle.rpki_bundle.specs.declared.parts.Verdict.{Verdict as VerdictValue};
-ghost use Rattle.rpki_bundle.specs.Errors.{OnNotABundle};
+ghost use Rattle.rpki_commands.specs.rpki_bundle.declared.parts.Verdict.{Verdict as VerdictValue};
+ghost use Rattle.rpki_commands.specs.rpki_bundle.Errors.{OnNotABundle};
 ghost use Rattle.rpki_commands.specs.Verdicts.{TakesDigest, TakesNextDigest, TakesEnd, TakesVerdict, TellsVerdicts};
 
+use crate::rpki_bundle::{BundleError, Verdict};
 use hex::FromHex;
-use rpki_bundle::{BundleError, Verdict};
 use std::alloc::Global;
 
 // How many digits a digest has.

@@ -1,13 +1,13 @@
 //! The bundle that a folder tells, written.
 
 ghost use Rattle.std.specs.Prelude.{◌≡◌, ◌<◌, ◌-◌, ◌^◌, IfOk, IfErr, OnOk, MatchResult};
-ghost use Rattle.rpki_bundle.specs.Errors.{OnNotABundle};
+ghost use Rattle.rpki_commands.specs.rpki_bundle.Errors.{OnNotABundle};
 ghost use Rattle.rpki_commands.specs.Texts.{TellsText, TellsNoText, WritesText, BundleFails, CountsFault};
 
 use crate::folder::parts::{Contents, parts_of};
 use crate::folder::walk::read_folder;
 use crate::folder::{Fault, ReadFault};
-use rpki_bundle::{Bundle, BundleError};
+use crate::rpki_bundle::{Bundle, BundleError};
 use rpki_validator::{Counted, write_all};
 use std::alloc::Global;
 use std::io::Write;

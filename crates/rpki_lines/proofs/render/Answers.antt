@@ -1,4 +1,4 @@
-use Rattle.rpki_rules.specs.Lines.{origin_line, customer_line, refusal_line}
+use Rattle.rpki_lines.specs.rpki_rules.Lines.{origin_line, customer_line, refusal_line}
 use Rattle.rpki_report.specs.Views.{origin_of, customer_of, refusal_of}
 use Rattle.rpki_lines.proofs.Pieces.{report_whole, shown, output_of}
 use Rattle.rpki_lines.proofs.render.Goals as goal

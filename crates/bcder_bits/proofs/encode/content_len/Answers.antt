@@ -1,5 +1,5 @@
 use Rattle.std.proofs.Common.{◌∷◌, subst, arith}
-use Rattle.bcder_tree.specs.declared.mode.Mode.{Mode}
+use Rattle.bcder_bits.specs.bcder_tree.declared.mode.Mode.{Mode}
 use Rattle.bcder_bits.specs.Contents.{WritesBits, padded_in}
 use Rattle.bcder_bits.specs.Bits.{BitsValue}
 use Rattle.bcder_bits.proofs.Writings.{length-padded, length-written, written, unwritten}

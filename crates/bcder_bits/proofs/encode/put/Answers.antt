@@ -1,8 +1,8 @@
 use Rattle.std.proofs.Common.{refl}
 use Rattle.std.proofs.lemmas.Result.{IfErr-weaker, on_ok_weaker}
-use Rattle.bcder_tree.specs.declared.mode.Mode.TheVariants.{Der}
-use Rattle.bcder_written.proofs.Compose.{content_refused}
-use Rattle.bcder_written.proofs.Pieces.{wrote_as, front_as}
+use Rattle.bcder_bits.specs.bcder_tree.declared.mode.Mode.TheVariants.{Der}
+use Rattle.bcder_bits.proofs.of_bcder_written.Compose.{content_refused}
+use Rattle.bcder_bits.proofs.of_bcder_written.Pieces.{wrote_as, front_as}
 use Rattle.bcder_bits.proofs.encode.put.Goals as goal
 
 pub returns-clause-written : goal.returns-clause-written

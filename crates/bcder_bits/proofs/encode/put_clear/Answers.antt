@@ -1,6 +1,6 @@
 use Rattle.std.proofs.Common.{◌≡◌, ℕ, ◌-◌, ◌%◌, ◌^◌, List, [], ◌∷◌, refl, ap, ◌∙◌}
 use Rattle.std.proofs.lemmas.Result.{on_ok_weaker}
-use Rattle.bcder_written.proofs.Pieces.{refused_as, stopped, wrote_as, wrote_both, front_as, front_first, front_second}
+use Rattle.bcder_bits.proofs.of_bcder_written.Pieces.{refused_as, stopped, wrote_as, wrote_both, front_as, front_first, front_second}
 use Rattle.bcder_bits.proofs.Writings.{both_cleared}
 use Rattle.bcder_bits.proofs.encode.put_clear.Goals as goal
 

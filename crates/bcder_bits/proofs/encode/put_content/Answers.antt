@@ -1,6 +1,6 @@
 use Rattle.std.proofs.Common.{◌≡◌, refl, arith}
 use Rattle.std.proofs.lemmas.Result.{IfErr-weaker, on_ok_weaker}
-use Rattle.bcder_written.proofs.Pieces.{stopped, wrote_as, wrote_both, front_as, front_first, front_second}
+use Rattle.bcder_bits.proofs.of_bcder_written.Pieces.{stopped, wrote_as, wrote_both, front_as, front_first, front_second}
 use Rattle.bcder_bits.specs.Bits.{BitsValue}
 use Rattle.bcder_bits.specs.Contents.{padded_in}
 use Rattle.bcder_bits.proofs.Writings.{both_written, content_stopped, length-written}

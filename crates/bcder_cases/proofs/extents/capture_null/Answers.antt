@@ -1,5 +1,5 @@
-use Rattle.bcder_source.specs.Tree.{none, more}
-use Rattle.bcder_content.proofs.Took.{took_one}
+use Rattle.bcder_cases.specs.bcder_source.Tree.{none, more}
+use Rattle.bcder_cases.proofs.of_bcder_content.Took.{took_one}
 use Rattle.bcder_cases.proofs.extents.capture_null.Goals as goal
 
 pub capture-requires-clause-reads : goal.capture-requires-clause-reads

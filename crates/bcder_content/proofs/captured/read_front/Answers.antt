@@ -1,5 +1,5 @@
 use Rattle.std.proofs.Common.{refl, ap}
-use Rattle.bcder_source.specs.Views.{Reading}
+use Rattle.bcder_content.specs.bcder_source.Views.{Reading}
 use Rattle.bcder_content.specs.Captures.{rest_of}
 use Rattle.bcder_content.proofs.Decoding.{begins}
 use Rattle.bcder_content.proofs.Parts.{front_read}

@@ -1,4 +1,4 @@
-use Rattle.bcder_source.specs.Views.{left}
+use Rattle.bcder_content.specs.bcder_source.Views.{left}
 use Rattle.bcder_content.specs.Contents.{octets}
 use Rattle.bcder_content.proofs.Took.{took_front}
 use Rattle.bcder_content.proofs.Nexts.{front_next}

@@ -1,5 +1,5 @@
-use Rattle.bcder_content.proofs.InMode.{inside_opt}
-use Rattle.bcder_content.proofs.Meaning.{opt_meaning}
+use Rattle.bcder_example.proofs.of_bcder_content.InMode.{inside_opt}
+use Rattle.bcder_example.proofs.of_bcder_content.Meaning.{opt_meaning}
 use Rattle.bcder_example.specs.Extensions.{as_extension, IsExtensionBody, raw_fields}
 use Rattle.bcder_example.proofs.extension.take_opt_extension.Goals as goal
 

@@ -1,5 +1,5 @@
-use Rattle.bcder_content.proofs.Choices.{as_reads}
-use Rattle.bcder_content.proofs.InMode.{inside}
+use Rattle.bcder_example.proofs.of_bcder_content.Choices.{as_reads}
+use Rattle.bcder_example.proofs.of_bcder_content.InMode.{inside}
 use Rattle.bcder_example.specs.Extensions.{IsBasicBody, only, only_one}
 use Rattle.bcder_example.proofs.extension_values.take_basic_constraints.Goals as goal
 

@@ -1,6 +1,6 @@
 use Rattle.std.proofs.Common.{refl}
-use Rattle.bcder_content.proofs.InMode.{begin, next_default, stop_default, done}
-use Rattle.bcder_content.proofs.Unique.{octets_tagged}
+use Rattle.bcder_example.proofs.of_bcder_content.InMode.{begin, next_default, stop_default, done}
+use Rattle.bcder_example.proofs.of_bcder_content.Unique.{octets_tagged}
 use Rattle.bcder_example.proofs.extension_values.take_basic_fields.Goals as goal
 
 pub returns-in_err-take_opt_bool : goal.returns-in_err-take_opt_bool

@@ -1,8 +1,8 @@
 use Rattle.std.proofs.Common.{◌∙◌}
-use Rattle.bcder_tree.specs.Strings.{octet_string_tag}
-use Rattle.bcder_content.proofs.Choices.{such_refused}
-use Rattle.bcder_content.proofs.Taking.{on_content}
-use Rattle.bcder_octets.proofs.Meaning.{one_string}
+use Rattle.bcder_example.specs.bcder_tree.Strings.{octet_string_tag}
+use Rattle.bcder_example.proofs.of_bcder_content.Choices.{such_refused}
+use Rattle.bcder_example.proofs.of_bcder_content.Taking.{on_content}
+use Rattle.bcder_example.proofs.of_bcder_octets.Meaning.{one_string}
 use Rattle.bcder_example.proofs.extension_values.take_key_identifier.Goals as goal
 
 pub returns-then-len-ne20 : goal.returns-then-len-ne20

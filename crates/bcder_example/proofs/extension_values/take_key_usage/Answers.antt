@@ -1,8 +1,8 @@
-use Rattle.bcder_content.proofs.Choices.{stop_value}
-use Rattle.bcder_content.proofs.Taking.{on_content}
-use Rattle.bcder_content.proofs.Unique.{octets_one}
-use Rattle.bcder_bits.proofs.Readings.{bit_string_one}
-use Rattle.bcder_content.proofs.Meaning.{means_lacks, means_refused}
+use Rattle.bcder_example.proofs.of_bcder_content.Choices.{stop_value}
+use Rattle.bcder_example.proofs.of_bcder_content.Taking.{on_content}
+use Rattle.bcder_example.proofs.of_bcder_content.Unique.{octets_one}
+use Rattle.bcder_example.proofs.of_bcder_bits.Readings.{bit_string_one}
+use Rattle.bcder_example.proofs.of_bcder_content.Meaning.{means_lacks, means_refused}
 use Rattle.bcder_example.proofs.extension_values.take_key_usage.Goals as goal
 
 pub returns-in_err-bits : goal.returns-in_err-bits

@@ -1,7 +1,7 @@
 use Rattle.std.proofs.Common.{[], refl, sym, subst}
-use Rattle.bcder_content.proofs.Forests.{there, absent}
-use Rattle.bcder_content.proofs.Gathering.{gather_begin, gather_next, gather_stop, gather_refused, gather_end}
-use Rattle.bcder_content.proofs.Took.{took_shorter}
+use Rattle.bcder_example.proofs.of_bcder_content.Forests.{there, absent}
+use Rattle.bcder_example.proofs.of_bcder_content.Gathering.{gather_begin, gather_next, gather_stop, gather_refused, gather_end}
+use Rattle.bcder_example.proofs.of_bcder_content.Took.{took_shorter}
 use Rattle.bcder_example.specs.Slots.{HasExtensions}
 use Rattle.bcder_example.proofs.ExtensionOnes.{extension_one, extension_tagged}
 use Rattle.bcder_example.proofs.SlotLaws.{has_more, would_add, fault_weaker, told_content}

@@ -1,6 +1,6 @@
 use Rattle.std.proofs.Common.{length}
-use Rattle.bcder_content.specs.Here.{here}
-use Rattle.bcder_content.proofs.Gathering.{Gathered}
+use Rattle.bcder_example.specs.bcder_content.Here.{here}
+use Rattle.bcder_example.proofs.of_bcder_content.Gathering.{Gathered}
 use Rattle.bcder_example.specs.Extensions.{IsExtension}
 use Rattle.bcder_example.specs.Slots.{HasExtensions, found_of}
 use Rattle.bcder_example.proofs.extensions.take_all_extensions.Given as goal

@@ -1,6 +1,6 @@
-use Rattle.bcder_tree.specs.declared.mode.Mode.{Mode}
-use Rattle.bcder_content.specs.Words.{Gathers}
-use Rattle.bcder_content.proofs.InMode.{inside}
+use Rattle.bcder_example.specs.bcder_tree.declared.mode.Mode.{Mode}
+use Rattle.bcder_example.specs.bcder_content.Words.{Gathers}
+use Rattle.bcder_example.proofs.of_bcder_content.InMode.{inside}
 use Rattle.bcder_example.specs.Extensions.{IsExtension}
 use Rattle.bcder_example.specs.Slots.{HasExtensions}
 use Rattle.bcder_example.proofs.extensions.take_extensions.Goals as goal

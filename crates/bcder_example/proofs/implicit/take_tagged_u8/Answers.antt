@@ -1,5 +1,5 @@
-use Rattle.bcder_primitive.specs.Values.{IsUnsigned}
-use Rattle.bcder_content.proofs.Tagged.{octets_have_tag, exact_tagged}
+use Rattle.bcder_example.specs.bcder_primitive.Values.{IsUnsigned}
+use Rattle.bcder_example.proofs.of_bcder_content.Tagged.{octets_have_tag, exact_tagged}
 use Rattle.bcder_example.proofs.implicit.take_tagged_u8.Goals as goal
 
 pub returns-clause-reads : goal.returns-clause-reads

@@ -1,12 +1,12 @@
 use Rattle.std.proofs.Common.{ℕ, List, sym, subst}
-use Rattle.bcder_tree.specs.Strings.{octet_string_tag}
-use Rattle.bcder_content.specs.Texts.{ReadsFront}
-use Rattle.bcder_content.proofs.Choices.{gives_same, stop_value}
-use Rattle.bcder_content.proofs.Fronts.{front_lacks, front_reads}
-use Rattle.bcder_content.proofs.Keeping.{same_refusal}
-use Rattle.bcder_content.proofs.Meaning.{means_gives, means_lacks, means_refused}
-use Rattle.bcder_content.proofs.Taking.{weaker}
-use Rattle.bcder_octets.proofs.Meaning.{one_string}
+use Rattle.bcder_example.specs.bcder_tree.Strings.{octet_string_tag}
+use Rattle.bcder_example.specs.bcder_content.Texts.{ReadsFront}
+use Rattle.bcder_example.proofs.of_bcder_content.Choices.{gives_same, stop_value}
+use Rattle.bcder_example.proofs.of_bcder_content.Fronts.{front_lacks, front_reads}
+use Rattle.bcder_example.proofs.of_bcder_content.Keeping.{same_refusal}
+use Rattle.bcder_example.proofs.of_bcder_content.Meaning.{means_gives, means_lacks, means_refused}
+use Rattle.bcder_example.proofs.of_bcder_content.Taking.{weaker}
+use Rattle.bcder_example.proofs.of_bcder_octets.Meaning.{one_string}
 use Rattle.bcder_example.specs.Versions.{IsVersion, version_fields}
 use Rattle.bcder_example.proofs.inner.take_inner.Goals as goal
 

@@ -1,4 +1,4 @@
-use Rattle.bcder_content.proofs.Decoding.{exact_decode}
+use Rattle.bcder_example.proofs.of_bcder_content.Decoding.{exact_decode}
 use Rattle.bcder_example.proofs.inner.version_of.Goals as goal
 
 pub returns : goal.returns

@@ -1,4 +1,4 @@
-use Rattle.bcder_content.proofs.InMode.{inside}
+use Rattle.bcder_example.proofs.of_bcder_content.InMode.{inside}
 use Rattle.bcder_example.specs.Sealed.{IsSealedBody}
 use Rattle.bcder_example.proofs.kept.take_sealed.Goals as goal
 

@@ -1,8 +1,8 @@
 use Rattle.std.proofs.Common.{refl, rules}
-use Rattle.bcder_tree.specs.Tree.{none, more}
-use Rattle.bcder_content.proofs.InMode.{begin, next, stop, done}
-use Rattle.bcder_content.proofs.KeptOne.{exact_capture_one}
-use Rattle.bcder_content.proofs.Took.{took_one}
+use Rattle.bcder_example.specs.bcder_tree.Tree.{none, more}
+use Rattle.bcder_example.proofs.of_bcder_content.InMode.{begin, next, stop, done}
+use Rattle.bcder_example.proofs.of_bcder_content.KeptOne.{exact_capture_one}
+use Rattle.bcder_example.proofs.of_bcder_content.Took.{took_one}
 use Rattle.bcder_example.proofs.kept.take_sealed_fields.Goals as goal
 
 pub capture-requires : goal.capture-requires

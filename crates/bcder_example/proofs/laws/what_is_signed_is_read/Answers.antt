@@ -1,5 +1,5 @@
-use Rattle.bcder_values.proofs.Returning.{read_again}
-use Rattle.bcder_values.specs.Forms.{written_again}
+use Rattle.bcder_example.proofs.of_bcder_values.Returning.{read_again}
+use Rattle.bcder_example.specs.bcder_values.Forms.{written_again}
 use Rattle.bcder_example.specs.Signed.{signed, signed_fields}
 use Rattle.bcder_example.proofs.laws.what_is_signed_is_read.Goals as goal
 

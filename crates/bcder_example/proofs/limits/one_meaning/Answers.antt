@@ -1,6 +1,6 @@
 use Rattle.std.proofs.Common.{◌≡◌, ◌⊎◌, inl, inr, ℕ, zero, suc, Bool, true, false, refl, ap, arith}
 use Rattle.std.specs.Option.{unwrap_or}
-use Rattle.bcder_tree.specs.Tags.{TagValue, context, universal}
+use Rattle.bcder_example.specs.bcder_tree.Tags.{TagValue, context, universal}
 use Rattle.bcder_example.specs.Limits.{limits, shown_truth, shown_version}
 use Rattle.bcder_example.proofs.limits.one_meaning.Goals as goal
 

@@ -1,6 +1,6 @@
 use Rattle.std.proofs.Common.{refl}
-use Rattle.bcder_content.proofs.InMode.{begin, next_opt, stop_opt, next_default, stop_default, done}
-use Rattle.bcder_content.proofs.Unique.{as_tagged, inside_tagged, octets_tagged}
+use Rattle.bcder_example.proofs.of_bcder_content.InMode.{begin, next_opt, stop_opt, next_default, stop_default, done}
+use Rattle.bcder_example.proofs.of_bcder_content.Unique.{as_tagged, inside_tagged, octets_tagged}
 use Rattle.bcder_example.proofs.limits.take_limits_fields.Goals as goal
 
 pub returns-in_err-take_opt_version : goal.returns-in_err-take_opt_version

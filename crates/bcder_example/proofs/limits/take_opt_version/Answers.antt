@@ -1,6 +1,6 @@
 use Rattle.std.proofs.Common.{ℕ}
-use Rattle.bcder_content.proofs.InMode.{inside_opt}
-use Rattle.bcder_content.proofs.Meaning.{opt_meaning}
+use Rattle.bcder_example.proofs.of_bcder_content.InMode.{inside_opt}
+use Rattle.bcder_example.proofs.of_bcder_content.Meaning.{opt_meaning}
 use Rattle.bcder_example.specs.Limits.{number_content, only}
 use Rattle.bcder_example.proofs.limits.take_opt_version.Goals as goal
 

@@ -1,5 +1,5 @@
-use Rattle.bcder_content.specs.Grammar.{One}
-use Rattle.bcder_content.proofs.Unique.{octets_tagged, octets_one, unsigned_one, any_octets_one, inside_one, end_one, then_one, opt_one, many_one}
+use Rattle.bcder_example.specs.bcder_content.Grammar.{One}
+use Rattle.bcder_example.proofs.of_bcder_content.Unique.{octets_tagged, octets_one, unsigned_one, any_octets_one, inside_one, end_one, then_one, opt_one, many_one}
 use Rattle.bcder_example.specs.Logs.{IsEntry}
 use Rattle.bcder_example.specs.Versions.{IsSmall}
 use Rattle.bcder_example.proofs.lists.one_meaning.Goals as goal

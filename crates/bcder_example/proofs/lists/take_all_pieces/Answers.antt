@@ -1,7 +1,7 @@
 use Rattle.std.proofs.Common.{refl}
-use Rattle.bcder_content.proofs.Forests.{there, absent}
-use Rattle.bcder_content.proofs.InMode.{items_next, items_end, items_stop}
-use Rattle.bcder_content.proofs.Unique.{octets_tagged}
+use Rattle.bcder_example.proofs.of_bcder_content.Forests.{there, absent}
+use Rattle.bcder_example.proofs.of_bcder_content.InMode.{items_next, items_end, items_stop}
+use Rattle.bcder_example.proofs.of_bcder_content.Unique.{octets_tagged}
 use Rattle.bcder_example.proofs.lists.take_all_pieces.Goals as goal
 
 pub returns-in_err-piece : goal.returns-in_err-piece

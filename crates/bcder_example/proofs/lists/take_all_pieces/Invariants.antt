@@ -1,6 +1,6 @@
 use Rattle.std.proofs.Common.{length}
-use Rattle.bcder_content.specs.Here.{here}
-use Rattle.bcder_content.proofs.InMode.{Items}
+use Rattle.bcder_example.specs.bcder_content.Here.{here}
+use Rattle.bcder_example.proofs.of_bcder_content.InMode.{Items}
 use Rattle.bcder_example.specs.Logs.{ArePieces, IsPiece}
 use Rattle.bcder_example.proofs.lists.take_all_pieces.Given as goal
 

@@ -1,7 +1,7 @@
 use Rattle.std.proofs.Common.{refl}
-use Rattle.bcder_content.proofs.Forests.{there, absent}
-use Rattle.bcder_content.proofs.InMode.{items_next_as, items_end, items_stop}
-use Rattle.bcder_content.proofs.Unique.{inside_tagged}
+use Rattle.bcder_example.proofs.of_bcder_content.Forests.{there, absent}
+use Rattle.bcder_example.proofs.of_bcder_content.InMode.{items_next_as, items_end, items_stop}
+use Rattle.bcder_example.proofs.of_bcder_content.Unique.{inside_tagged}
 use Rattle.bcder_example.specs.Logs.{entry_fields}
 use Rattle.bcder_example.proofs.lists.take_entries.Goals as goal
 

@@ -1,6 +1,6 @@
 use Rattle.std.proofs.Common.{length, map}
-use Rattle.bcder_content.specs.Here.{here}
-use Rattle.bcder_content.proofs.InMode.{Items}
+use Rattle.bcder_example.specs.bcder_content.Here.{here}
+use Rattle.bcder_example.proofs.of_bcder_content.InMode.{Items}
 use Rattle.bcder_example.specs.Logs.{AreEntries, IsEntry, entry_fields}
 use Rattle.bcder_example.proofs.lists.take_entries.Given as goal
 

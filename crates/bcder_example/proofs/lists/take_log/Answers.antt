@@ -1,4 +1,4 @@
-use Rattle.bcder_content.proofs.InMode.{inside}
+use Rattle.bcder_example.proofs.of_bcder_content.InMode.{inside}
 use Rattle.bcder_example.specs.Logs.{IsLogBody}
 use Rattle.bcder_example.proofs.lists.take_log.Goals as goal
 

@@ -1,6 +1,6 @@
 use Rattle.std.proofs.Common.{refl}
-use Rattle.bcder_content.proofs.InMode.{begin, next, stop, next_opt, stop_opt, done, inside}
-use Rattle.bcder_content.proofs.Unique.{octets_tagged}
+use Rattle.bcder_example.proofs.of_bcder_content.InMode.{begin, next, stop, next_opt, stop_opt, done, inside}
+use Rattle.bcder_example.proofs.of_bcder_content.Unique.{octets_tagged}
 use Rattle.bcder_example.specs.Logs.{AreEntries}
 use Rattle.bcder_example.proofs.lists.take_log_fields.Goals as goal
 

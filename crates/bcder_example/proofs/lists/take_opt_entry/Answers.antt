@@ -1,4 +1,4 @@
-use Rattle.bcder_content.proofs.InMode.{inside_opt}
+use Rattle.bcder_example.proofs.of_bcder_content.InMode.{inside_opt}
 use Rattle.bcder_example.specs.Logs.{IsEntryBody}
 use Rattle.bcder_example.proofs.lists.take_opt_entry.Goals as goal
 

@@ -1,4 +1,4 @@
-use Rattle.bcder_content.proofs.Inside.{exact_opt_octets}
+use Rattle.bcder_example.proofs.of_bcder_content.Inside.{exact_opt_octets}
 use Rattle.bcder_example.proofs.lists.take_opt_piece.Goals as goal
 
 pub returns : goal.returns

@@ -1,9 +1,9 @@
 use Rattle.std.proofs.Common.{subst}
-use Rattle.bcder_tree.specs.declared.mode.Mode.{Mode}
-use Rattle.bcder_content.specs.Captures.{rest_of}
-use Rattle.bcder_content.specs.Exact.{ReadsAs}
-use Rattle.bcder_content.specs.Here.{here}
-use Rattle.bcder_content.proofs.Decoding.{exact_decode}
+use Rattle.bcder_example.specs.bcder_tree.declared.mode.Mode.{Mode}
+use Rattle.bcder_example.specs.bcder_content.Captures.{rest_of}
+use Rattle.bcder_example.specs.bcder_content.Exact.{ReadsAs}
+use Rattle.bcder_example.specs.bcder_content.Here.{here}
+use Rattle.bcder_example.proofs.of_bcder_content.Decoding.{exact_decode}
 use Rattle.bcder_example.specs.Signed.{body, body_fields}
 use Rattle.bcder_example.proofs.signed.body_of.Goals as goal
 

@@ -1,6 +1,6 @@
 use Rattle.std.proofs.Common.{List, ℕ}
-use Rattle.bcder_content.proofs.Choices.{as_reads}
-use Rattle.bcder_content.proofs.InMode.{inside}
+use Rattle.bcder_example.proofs.of_bcder_content.Choices.{as_reads}
+use Rattle.bcder_example.proofs.of_bcder_content.InMode.{inside}
 use Rattle.bcder_example.specs.Signed.{algorithm_content, only}
 use Rattle.bcder_example.proofs.signed.take_algorithm.Goals as goal
 

@@ -1,7 +1,7 @@
-use Rattle.bcder_content.proofs.Choices.{stop_value}
-use Rattle.bcder_content.proofs.Keeping.{same_refusal}
-use Rattle.bcder_content.proofs.Taking.{weaker}
-use Rattle.bcder_values.proofs.KeptRead.{kept_in_gives, kept_in_lacks, kept_in_refused}
+use Rattle.bcder_example.proofs.of_bcder_content.Choices.{stop_value}
+use Rattle.bcder_example.proofs.of_bcder_content.Keeping.{same_refusal}
+use Rattle.bcder_example.proofs.of_bcder_content.Taking.{weaker}
+use Rattle.bcder_example.proofs.of_bcder_values.KeptRead.{kept_in_gives, kept_in_lacks, kept_in_refused}
 use Rattle.bcder_example.specs.Signed.{body}
 use Rattle.bcder_example.proofs.signed.take_kept_body.Goals as goal
 

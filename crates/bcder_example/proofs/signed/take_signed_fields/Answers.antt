@@ -1,5 +1,5 @@
 use Rattle.std.proofs.Common.{refl}
-use Rattle.bcder_content.proofs.InMode.{begin, next, stop, done}
+use Rattle.bcder_example.proofs.of_bcder_content.InMode.{begin, next, stop, done}
 use Rattle.bcder_example.proofs.signed.take_signed_fields.Goals as goal
 
 pub returns-in_err-kept : goal.returns-in_err-kept

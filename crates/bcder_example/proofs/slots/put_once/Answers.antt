@@ -1,8 +1,8 @@
 use Rattle.std.proofs.Common.{ℕ, List, Err, subst}
-use Rattle.bcder_tree.specs.declared.mode.Mode.TheVariants.{Der}
-use Rattle.bcder_source.specs.declared.error.DecodeError.TheVariants.{Content}
-use Rattle.bcder_content.specs.Captures.{rest_of}
-use Rattle.bcder_content.specs.Ran.{Decoded, fresh}
+use Rattle.bcder_example.specs.bcder_tree.declared.mode.Mode.TheVariants.{Der}
+use Rattle.bcder_example.specs.bcder_source.declared.error.DecodeError.TheVariants.{Content}
+use Rattle.bcder_example.specs.bcder_content.Captures.{rest_of}
+use Rattle.bcder_example.specs.bcder_content.Ran.{Decoded, fresh}
 use Rattle.bcder_example.specs.Slots.{unread}
 use Rattle.bcder_example.proofs.slots.put_once.Goals as goal
 

@@ -1,7 +1,7 @@
 use Rattle.std.proofs.Common.{arith}
-use Rattle.bcder_content.specs.Grammar.{One}
-use Rattle.bcder_content.proofs.Choices.{universal_apart}
-use Rattle.bcder_content.proofs.Unique.{octets_tagged, inside_tagged, as_tagged, octets_one, unsigned_one, inside_one, such_one, as_one, one_of_one, end_one, rest_one, then_one, default_one}
+use Rattle.bcder_example.specs.bcder_content.Grammar.{One}
+use Rattle.bcder_example.proofs.of_bcder_content.Choices.{universal_apart}
+use Rattle.bcder_example.proofs.of_bcder_content.Unique.{octets_tagged, inside_tagged, as_tagged, octets_one, unsigned_one, inside_one, such_one, as_one, one_of_one, end_one, rest_one, then_one, default_one}
 use Rattle.bcder_example.specs.Versions.{IsSmall, IsVersion}
 use Rattle.bcder_example.proofs.versions.one_meaning.Goals as goal
 

@@ -1,8 +1,8 @@
 use Rattle.std.proofs.Common.{arith}
 use Rattle.bcder_example.specs.Versions.{by_number, by_version}
-use Rattle.bcder_content.proofs.Choices.{stop_value, first_gives, second_gives, choice_lacks, second_lacks, as_gives, as_lacks, as_lacks_tagged, universal_apart}
-use Rattle.bcder_content.proofs.Forests.{there, absent}
-use Rattle.bcder_content.proofs.Unique.{octets_tagged, inside_tagged, as_tagged}
+use Rattle.bcder_example.proofs.of_bcder_content.Choices.{stop_value, first_gives, second_gives, choice_lacks, second_lacks, as_gives, as_lacks, as_lacks_tagged, universal_apart}
+use Rattle.bcder_example.proofs.of_bcder_content.Forests.{there, absent}
+use Rattle.bcder_example.proofs.of_bcder_content.Unique.{octets_tagged, inside_tagged, as_tagged}
 use Rattle.bcder_example.proofs.versions.take_name.Goals as goal
 
 pub returns-in_err-number-clause-reads : goal.returns-in_err-number-clause-reads

@@ -1,8 +1,8 @@
 use Rattle.std.proofs.Common.{refl}
-use Rattle.bcder_content.proofs.Forests.{rest_gives, rest_lacks}
-use Rattle.bcder_content.proofs.InMode.{begin, next_such, stop_such, unfit_such, next_default, stop_default, finish, stop_all}
-use Rattle.bcder_content.proofs.Taking.{weaker}
-use Rattle.bcder_content.proofs.Unique.{octets_tagged, octets_one, unsigned_one}
+use Rattle.bcder_example.proofs.of_bcder_content.Forests.{rest_gives, rest_lacks}
+use Rattle.bcder_example.proofs.of_bcder_content.InMode.{begin, next_such, stop_such, unfit_such, next_default, stop_default, finish, stop_all}
+use Rattle.bcder_example.proofs.of_bcder_content.Taking.{weaker}
+use Rattle.bcder_example.proofs.of_bcder_content.Unique.{octets_tagged, octets_one, unsigned_one}
 use Rattle.bcder_example.proofs.versions.take_settings_fields.Goals as goal
 
 pub returns-in_err-format : goal.returns-in_err-format

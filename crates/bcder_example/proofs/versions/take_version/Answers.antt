@@ -1,5 +1,5 @@
 use Rattle.bcder_example.specs.Versions.{IsVersionBody}
-use Rattle.bcder_content.proofs.InMode.{inside}
+use Rattle.bcder_example.proofs.of_bcder_content.InMode.{inside}
 use Rattle.bcder_example.proofs.versions.take_version.Goals as goal
 
 pub returns-clause-reads : goal.returns-clause-reads

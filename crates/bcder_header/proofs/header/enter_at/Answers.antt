@@ -1,5 +1,5 @@
 use Rattle.std.proofs.Common.{◌≡◌, ℕ, List, Option, subst, sym, ap, ◌∙◌, refl}
-use Rattle.bcder_tree.specs.declared.length.Length.{Length}
+use Rattle.bcder_header.specs.bcder_tree.declared.length.Length.{Length}
 use Rattle.bcder_source.specs.Limits.{view}
 use Rattle.bcder_source.specs.Views.{View}
 use Rattle.bcder_header.specs.Openings.{Starts, Opens}

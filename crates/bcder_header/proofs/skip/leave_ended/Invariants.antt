@@ -1,6 +1,6 @@
 use Rattle.std.proofs.Common.{◌≤◌, [], length}
 use mathlib.Core.List.{reverse}
-use Rattle.bcder_tree.specs.declared.mode.Mode.{Mode}
+use Rattle.bcder_header.specs.bcder_tree.declared.mode.Mode.{Mode}
 use Rattle.bcder_source.specs.Limits.{view}
 use Rattle.bcder_source.specs.Views.{View}
 use Rattle.bcder_header.specs.SkipLevels.{Wants, Reaches}

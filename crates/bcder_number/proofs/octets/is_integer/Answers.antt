@@ -1,5 +1,5 @@
 use Rattle.std.proofs.Common.{ℕ, get_or, Fits, w8, rules}
-use Rattle.bcder_primitive.proofs.Numbers.{all_octets}
+use Rattle.bcder_number.proofs.of_bcder_primitive.Numbers.{all_octets}
 use Rattle.bcder_number.specs.Contents.{integer_told}
 use Rattle.bcder_number.proofs.octets.is_integer.Goals as goal
 

@@ -2,7 +2,7 @@ use Rattle.std.proofs.Common.{◌^◌, arith, rules}
 use mir.Syntax.{w128}
 use mir.Val.{SFits}
 use Rattle.std.proofs.Math.Facts.{to_z-of_z}
-use Rattle.bcder_primitive.specs.Values.{IsSigned}
+use Rattle.bcder_number.specs.bcder_primitive.Values.{IsSigned}
 use Rattle.bcder_number.proofs.Slices.{slice_lacks, slice_gives, slice_goes_on, refused_lacks}
 use Rattle.bcder_number.proofs.octets.signed.Goals as goal
 

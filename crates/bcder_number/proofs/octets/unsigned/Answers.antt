@@ -1,5 +1,5 @@
 use Rattle.std.proofs.Common.{◌^◌, arith}
-use Rattle.bcder_primitive.specs.Values.{IsUnsigned}
+use Rattle.bcder_number.specs.bcder_primitive.Values.{IsUnsigned}
 use Rattle.bcder_number.proofs.Slices.{slice_lacks, slice_gives, slice_goes_on, refused_lacks}
 use Rattle.bcder_number.proofs.octets.unsigned.Goals as goal
 

@@ -1,5 +1,5 @@
 use Rattle.std.proofs.Common.{◌≡◌, length, sym, ap, subst, arith, ◌∙◌, true, false}
-use Rattle.bcder_tree.proofs.Slices.{rest_is}
+use Rattle.bcder_octets.proofs.of_bcder_tree.Slices.{rest_is}
 use Rattle.bcder_octets.specs.Pieces.{Holds}
 use Rattle.bcder_octets.proofs.Walk.{DefiniteAt, definite_at, piece_at, next_at, piece_fits, past_header, none_left, past_closing}
 use Rattle.bcder_octets.proofs.pieces.step.Goals as goal

@@ -1,4 +1,4 @@
-use Rattle.bcder_content.proofs.Kept.{exact_capture}
+use Rattle.bcder_octets.proofs.of_bcder_content.Kept.{exact_capture}
 use Rattle.bcder_octets.proofs.reading.capture_parts.Goals as goal
 
 pub returns : goal.returns

@@ -1,6 +1,6 @@
-use Rattle.bcder_content.specs.Here.{here}
-use Rattle.bcder_content.proofs.Taking.{weaker}
-use Rattle.bcder_content.proofs.Took.{took_shorter}
+use Rattle.bcder_octets.specs.bcder_content.Here.{here}
+use Rattle.bcder_octets.proofs.of_bcder_content.Taking.{weaker}
+use Rattle.bcder_octets.proofs.of_bcder_content.Took.{took_shorter}
 use Rattle.bcder_octets.proofs.Gathering.{parts_first, parts_next, parts_over, parts_refused}
 use Rattle.bcder_octets.proofs.reading.skip_parts.Goals as goal
 

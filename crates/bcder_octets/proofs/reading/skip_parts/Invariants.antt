@@ -1,5 +1,5 @@
 use Rattle.std.proofs.Common.{length}
-use Rattle.bcder_content.specs.Here.{here}
+use Rattle.bcder_octets.specs.bcder_content.Here.{here}
 use Rattle.bcder_octets.proofs.Gathering.{PartsUnder}
 use Rattle.bcder_octets.proofs.reading.skip_parts.Given as goal
 

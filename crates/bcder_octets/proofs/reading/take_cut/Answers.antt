@@ -1,9 +1,9 @@
 use Rattle.std.proofs.Common.{◌≡◌, ◌<◌, ℕ, List, length, sym, ◌∙◌, subst}
-use Rattle.bcder_tree.specs.declared.mode.Mode.TheVariants.{Ber}
-use Rattle.bcder_tree.specs.Tree.{SpellsAll}
-use Rattle.bcder_tree.specs.Strings.{AreCerSegments}
-use Rattle.bcder_content.proofs.Forests.{begin, stop_all}
-use Rattle.bcder_content.proofs.Taking.{weaker, on_content}
+use Rattle.bcder_octets.specs.bcder_tree.declared.mode.Mode.TheVariants.{Ber}
+use Rattle.bcder_octets.specs.bcder_tree.Tree.{SpellsAll}
+use Rattle.bcder_octets.specs.bcder_tree.Strings.{AreCerSegments}
+use Rattle.bcder_octets.proofs.of_bcder_content.Forests.{begin, stop_all}
+use Rattle.bcder_octets.proofs.of_bcder_content.Taking.{weaker, on_content}
 use Rattle.bcder_octets.proofs.Gathering.{cut_lack, cut_given, cut_refused}
 use Rattle.bcder_octets.proofs.reading.take_cut.Goals as goal
 

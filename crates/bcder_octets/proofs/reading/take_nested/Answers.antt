@@ -1,8 +1,8 @@
 use Rattle.std.proofs.Common.{sym, ◌∙◌, subst}
-use Rattle.bcder_tree.specs.declared.mode.Mode.TheVariants.{Ber}
-use Rattle.bcder_tree.specs.Tree.{SpellsAll}
-use Rattle.bcder_content.proofs.Forests.{begin, stop_all}
-use Rattle.bcder_content.proofs.Taking.{weaker}
+use Rattle.bcder_octets.specs.bcder_tree.declared.mode.Mode.TheVariants.{Ber}
+use Rattle.bcder_octets.specs.bcder_tree.Tree.{SpellsAll}
+use Rattle.bcder_octets.proofs.of_bcder_content.Forests.{begin, stop_all}
+use Rattle.bcder_octets.proofs.of_bcder_content.Taking.{weaker}
 use Rattle.bcder_octets.proofs.Gathering.{segments_lack, segments_given}
 use Rattle.bcder_octets.proofs.reading.take_nested.Goals as goal
 

@@ -1,5 +1,9 @@
-use Rattle.bcder_content.proofs.Inside.{exact_octets}
+use Rattle.bcder_octets.proofs.of_bcder_content.Inside.{exact_octets}
+use Rattle.bcder_whole.proofs.Wants.{octets_want}
 use Rattle.bcder_octets.proofs.reading.take_octets.Goals as goal
 
 pub returns-clause-reads : goal.returns-clause-reads
-returns-clause-reads g c = exact_octets (record { each = λ p q r m h. h }) c.take_primitive_if.ensures.ran
+returns-clause-reads g c = exact_octets (record { each = λ p q r m h. h.0 }) c.take_primitive_if.ensures.ran
+
+pub returns-clause-memory : goal.returns-clause-memory
+returns-clause-memory g c = octets_want _ _ c.take_primitive_if.result (record { each = λ p q r m h. h.1 }) c.take_primitive_if.ensures.memory

@@ -1,17 +1,24 @@
-use Rattle.std.proofs.Common.{sym, subst}
-use Rattle.bcder_tree.specs.declared.mode.Mode.{Mode}
-use Rattle.bcder_primitive.proofs.Primitives.{through}
-use Rattle.bcder_content.proofs.Taking.{weaker, on_content}
-use Rattle.bcder_octets.specs.Parts.{FitsWhole}
-use Rattle.bcder_octets.proofs.Cuts.{not_so}
-use Rattle.bcder_octets.proofs.Strings.{whole_lacks, whole_gives, too_long}
+use Rattle.std.proofs.Common.{rules, IsTrue, refl, subst}
+use Rattle.bcder_octets.specs.bcder_primitive.Plain.{OctetsLeft, plain}
+use Rattle.bcder_octets.proofs.of_bcder_primitive.Primitives.{through, weaker}
+use Rattle.bcder_octets.proofs.of_bcder_content.Memories.{wanted}
+use Rattle.bcder_whole.proofs.Wholes.{lacks_any, has_whole}
+use Rattle.bcder_whole.proofs.Wants.{no_want_through}
+use Rattle.bcder_octets.specs.Parts.{FitsWhole, IsWhole}
 use Rattle.bcder_octets.proofs.reading.take_whole.Goals as goal
 
-pub returns-in_err-octets : goal.returns-in_err-octets
-returns-in_err-octets g c = through _ _ _ _ _ _ c.from_residual.ensures.0 c.from_residual.ensures.1 (weaker _ (λ l. whole_lacks l) c.in_err-octets.ensures.reads)
+pub returns-in_err-count-clause-reads : goal.returns-in_err-count-clause-reads
+returns-in_err-count-clause-reads g c =
+    let old = plain g.S.Source.rest c.args.prim.now in
+    through (λ octets. octets) (IsWhole old.mode) old _ c.from_residual.result _ c.from_residual.ensures.0 c.from_residual.ensures.1
+    (weaker _ (lacks_any (IsWhole old.mode) old) c.in_err-count.ensures.refused)
 
-pub returns-then-not-fits_whole : goal.returns-then-not-fits_whole
-returns-then-not-fits_whole g c = on_content c.content_err.result (too_long (λ f. not_so c.fits_whole.ensures c.if-not-fits_whole.true (subst (λ (m : Mode). FitsWhole m c.in_ok-octets.octets) (sym c.mode-mode.ensures) f)) c.in_ok-octets.ensures.reads)
+pub returns-in_err-count-clause-memory : goal.returns-in_err-count-clause-memory
+returns-in_err-count-clause-memory g c = no_want_through _ _ c.from_residual.result _ c.from_residual.ensures.0 c.from_residual.ensures.1 c.in_err-count.ensures.refused
 
-pub returns : goal.returns
-returns g c = rw c.new.ensures (whole_gives c.in_ok-octets.ensures.reads (subst (λ (m : Mode). FitsWhole m c.in_ok-octets.octets) c.mode-mode.ensures (c.fits_whole.ensures.0 c.if-not-fits_whole.false)))
+pub returns-in-Err-clause-memory : goal.returns-in-Err-clause-memory
+returns-in-Err-clause-memory g c =
+    let t : IsTrue c.fits_whole-fits.result = search rules in
+    let had = c.in_ok-count.ensures in
+    let fits = subst (λ (v : OctetsLeft). FitsWhole v.mode c.front.result.now) had.same (c.fits_whole-fits.ensures.0 t) in
+    wanted c.in-Err.error (has_whole (IsWhole c.args.prim.now.mode) had.same had.sound had.all c.front.ensures.there c.front.ensures.value (record { same = refl; fits = fits }))

@@ -1,4 +1,4 @@
-use Rattle.bcder_content.proofs.Unique.{octets_one}
+use Rattle.bcder_oid.proofs.of_bcder_content.Unique.{octets_one}
 use Rattle.bcder_oid.proofs.Read.{oid_one}
 use Rattle.bcder_oid.proofs.laws.one_meaning.Goals as goal
 

@@ -1,5 +1,5 @@
 use Rattle.std.proofs.Common.{[], ◌∷◌, ◌++◌, rules}
-use Rattle.bcder_oid.proofs.Dots.{last_read, go_on, refused_piece, through}
+use Rattle.bcder_oid.proofs.Dots.{last_read, go_on, refused_piece, through, component_why}
 use Rattle.bcder_oid.proofs.text.judge_numbers.Goals as goal
 
 pub returns-in_err-component-clause-refused : goal.returns-in_err-component-clause-refused
@@ -16,3 +16,7 @@ loop-behind-preserved c = record {
   done = c.loop-behind.invariant.done ++ c.in_ok-component.field-0 ∷ [];
   going = go_on c.loop-behind.invariant.going (rw c.in-Some.is at c.piece.ensures) c.in_ok-component.ensures.reads;
 }
+
+pub returns-in_err-component-clause-cause : goal.returns-in_err-component-clause-cause
+returns-in_err-component-clause-cause c =
+    component_why c.from_residual.result c.in_err-component.field-0.0 c.from_residual.ensures c.in_err-component.ensures.cause (refused_piece c.piece.result.1 c.loop-behind.invariant.going c.piece.ensures) c.in_err-component.ensures.refused

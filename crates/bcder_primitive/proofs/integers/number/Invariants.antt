@@ -1,5 +1,5 @@
 use Rattle.std.proofs.Common.{◌≡◌, ◌^◌, ◌<◌, drop}
-use Rattle.bcder_tree.specs.Integers.{number_behind, number_of}
+use Rattle.bcder_primitive.specs.bcder_tree.Integers.{number_behind, number_of}
 use Rattle.bcder_primitive.proofs.integers.number.Given as goal
 
 -- What is left, read behind the number so far, completes it.

@@ -1,4 +1,4 @@
-use Rattle.std.proofs.Common.{◌≤◌, arith}
+use Rattle.std.proofs.Common.{arith}
 use Rattle.bcder_primitive.proofs.Numbers.{few_signed, signed_positive, signed_negative, all_octets}
 use Rattle.bcder_primitive.proofs.integers.signed.Goals as goal
 

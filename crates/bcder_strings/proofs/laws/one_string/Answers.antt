@@ -1,4 +1,4 @@
-use Rattle.bcder_content.proofs.Unique.{such_one}
+use Rattle.bcder_strings.proofs.of_bcder_content.Unique.{such_one}
 use Rattle.bcder_octets.proofs.Meaning.{one_string}
 use Rattle.bcder_strings.proofs.laws.one_string.Goals as goal
 

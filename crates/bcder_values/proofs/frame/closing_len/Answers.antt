@@ -1,4 +1,4 @@
-use Rattle.bcder_tree.specs.declared.mode.Mode.{Mode}
+use Rattle.bcder_values.specs.bcder_tree.declared.mode.Mode.{Mode}
 use Rattle.bcder_values.specs.Frames.{IsClosing}
 use Rattle.bcder_values.proofs.frame.closing_len.Goals as goal
 use Rattle.std.proofs.Common.{[], ◌∷◌, refl, sym, subst}

@@ -1,5 +1,5 @@
 use Rattle.std.proofs.Common.{rules}
-use Rattle.bcder_content.proofs.Inside.{exact_opt_octets}
+use Rattle.certs_time.proofs.of_bcder_content.Inside.{exact_opt_octets}
 use Rattle.certs_time.proofs.der.take_opt_utc_time.Goals as goal
 
 pub returns-clause-reads : goal.returns-clause-reads

@@ -1,4 +1,4 @@
-use Rattle.bcder_values.proofs.Returning.{read_again}
+use Rattle.certs_time.proofs.of_bcder_values.Returning.{read_again}
 use Rattle.certs_time.proofs.Meanings.{time_spelled, written_time}
 use Rattle.certs_time.proofs.laws.times_are_read_again.Goals as goal
 

@@ -1,4 +1,4 @@
-use Rattle.bcder_values.proofs.Returning.{read_again}
+use Rattle.certs_time.proofs.of_bcder_values.Returning.{read_again}
 use Rattle.certs_time.proofs.Meanings.{validity_spelled}
 use Rattle.certs_time.proofs.laws.validity_is_read_again.Goals as goal
 

@@ -1,7 +1,7 @@
 use Rattle.std.proofs.Common.{length}
-use Rattle.bcder_content.specs.Grammar.{Many}
-use Rattle.bcder_content.specs.Here.{here}
-use Rattle.bcder_content.proofs.Forests.{Listing}
+use Rattle.resources_as.specs.bcder_content.Grammar.{Many}
+use Rattle.resources_as.specs.bcder_content.Here.{here}
+use Rattle.resources_as.proofs.of_bcder_content.Forests.{Listing}
 use Rattle.resources_as_block.specs.Encodings.{IsAsBlock}
 use Rattle.resources_as.proofs.der.take_blocks.Given as goal
 

@@ -1,10 +1,10 @@
-use Rattle.bcder_content.proofs.Choices.{stop_value, second_gives, choice_lacks, second_lacks, as_gives, as_lacks, as_lacks_tagged, universal_apart}
-use Rattle.bcder_content.proofs.Forests.{absent}
+use Rattle.resources_as.proofs.of_bcder_content.Choices.{stop_value, second_gives, choice_lacks, second_lacks, as_gives, as_lacks, as_lacks_tagged, universal_apart}
+use Rattle.resources_as.proofs.of_bcder_content.Forests.{absent}
 use Rattle.resources_as.proofs.Reading.{inherit_tagged, list_tagged}
 use Rattle.resources_as.specs.Encodings.{IsAsChoice, inherits, lists}
-use Rattle.bcder_content.specs.Exact.{Gives}
-use Rattle.bcder_content.specs.Here.{here}
-use Rattle.resources_chain.specs.Claims.{Choice}
+use Rattle.resources_as.specs.bcder_content.Exact.{Gives}
+use Rattle.resources_as.specs.bcder_content.Here.{here}
+use Rattle.resources_as.specs.resources_chain.Claims.{Choice}
 use Rattle.std.proofs.Common.{subst, sym, arith}
 use Rattle.resources_as.proofs.der.take_choice.Goals as goal
 
@@ -21,4 +21,4 @@ returns g c =
     let none = absent _ _ _ c.in_default.is c.in_ok-inherit.ensures.reads in
     let rest = g.S.Source.rest in
     let given = second_gives _ none (as_gives lists c.in_ok-set.ensures.reads) in
-    subst (λ (x : Choice). Gives IsAsChoice (here rest c.args.cons.now) x (here rest c.take_from.new.cons)) (sym c.blocks-2.ensures) given
+    subst (λ (x : Choice). Gives IsAsChoice (here rest c.args.cons.now) x (here rest c.take_from.new.cons)) (sym c.blocks-2.ensures.choice) given

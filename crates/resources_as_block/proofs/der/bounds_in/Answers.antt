@@ -1,4 +1,4 @@
-use Rattle.bcder_content.proofs.Forests.{begin, next, stop, done}
+use Rattle.resources_as_block.proofs.of_bcder_content.Forests.{begin, next, stop, done}
 use Rattle.resources_as_block.proofs.der.bounds_in.Goals as goal
 
 pub returns-in_err-min-clause-reads : goal.returns-in_err-min-clause-reads

@@ -1,4 +1,4 @@
-use Rattle.bcder_content.proofs.Inside.{exact_opt}
+use Rattle.resources_as_block.proofs.of_bcder_content.Inside.{exact_opt}
 use Rattle.resources_as_block.proofs.der.take_opt_range.Goals as goal
 
 pub returns-clause-reads : goal.returns-clause-reads

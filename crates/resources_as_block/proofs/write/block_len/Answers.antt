@@ -1,6 +1,6 @@
 use Rattle.std.proofs.Common.{◌≡◌, Bool, true, false, subst, sym, rules}
 use Rattle.std.specs.Prelude.{◌==◌, IfErr}
-use Rattle.bcder_written.specs.Writing.{CannotWrite}
+use Rattle.resources_as_block.specs.bcder_written.Writing.{CannotWrite}
 use Rattle.resources_as_block.specs.Written.{AreIdOrRange, WritesIdOrRange}
 use Rattle.resources_as_block.proofs.write.block_len.Goals as goal
 

@@ -1,28 +1,12 @@
-use Rattle.std.proofs.Common.{map, length, List, subst, sym}
-use Rattle.std.proofs.lemmas.List.{length-map}
+use Rattle.std.proofs.Common.{◌≡◌, ◌<◌, ◌∙◌, map, length, ap, sym, refl, arith}
+use Rattle.std.proofs.lemmas.List.{get_or-map}
 use Rattle.resources_chain.specs.Sets.{Run}
-use Rattle.resources_chain.specs.Walks.{SameFrom, FirstReaches}
-use Rattle.resources_chain.proofs.PlaceLemmas.{reaching_ordered, reached_same, reached_first, none_same, rest_runs}
+use Rattle.resources_chain.specs.Places.{run_at}
+use Rattle.resources_chain.proofs.PlaceLemmas.{leapt, leapt_fewer}
 use Rattle.resources_chain.proofs.place.from_item.Goals as goal
 
-pub halve-requires-clause-order : goal.halve-requires-clause-order
-halve-requires-clause-order g c =
-    reaching_ordered (map g.B.Block.run c.args.blocks.now) (g.B.Block.place c.args.item) (length c.args.blocks.now) c.requires (sym (length-map c.args.blocks.now g.B.Block.run))
-
-pub returns-in-Some-clause-same : goal.returns-in-Some-clause-same
-returns-in-Some-clause-same g c =
-    let runs = map g.B.Block.run c.args.blocks.now in
-    let n = g.B.Block.place c.args.item in
-    subst (λ (s : List Run). SameFrom n runs s) (sym (rest_runs g.B.Block.run c.args.blocks.now c.in-Some.place))
-    (reached_same runs n (length c.args.blocks.now) c.in-Some.place c.requires (sym (length-map c.args.blocks.now g.B.Block.run)) c.in-Some.ensures.place.0 c.in-Some.ensures.place.1)
-
-pub returns-in-Some-clause-reaches : goal.returns-in-Some-clause-reaches
-returns-in-Some-clause-reaches g c =
-    let runs = map g.B.Block.run c.args.blocks.now in
-    let n = g.B.Block.place c.args.item in
-    subst (λ (s : List Run). FirstReaches n s) (sym (rest_runs g.B.Block.run c.args.blocks.now c.in-Some.place))
-    (reached_first runs n (length c.args.blocks.now) c.in-Some.place (sym (length-map c.args.blocks.now g.B.Block.run)) c.in-Some.ensures.place.0 c.in-Some.ensures.place.1)
-
-pub returns-in-None-clause-same : goal.returns-in-None-clause-same
-returns-in-None-clause-same g c =
-    none_same (map g.B.Block.run c.args.blocks.now) (g.B.Block.place c.args.item) (length c.args.blocks.now) c.requires (sym (length-map c.args.blocks.now g.B.Block.run)) c.in-None.ensures.place
+pub loop-ahead-preserved : goal.loop-ahead-preserved
+loop-ahead-preserved g c =
+    let here : run_at (map g.B.Block.run c.loop-ahead.rest.now) c.loop-ahead.ahead ≡ g.B.Block.run c.index-rest-ahead.result = get_or-map g.B.Block.run c.loop-ahead.rest.now c.loop-ahead.ahead _ _ c.loop-ahead-test.true ∙ ap g.B.Block.run (sym c.index-rest-ahead.is) in
+    let before : (run_at (map g.B.Block.run c.loop-ahead.rest.now) c.loop-ahead.ahead).last < g.B.Block.place c.args.item = omega (arith, ap (λ (r : Run). r.last) here, c.max.ensures, c.if-not-comes_before.ensures.0 refl) in
+    (leapt g.B.Block.run c.loop-ahead.rest.now (g.B.Block.place c.args.item) c.loop-ahead.ahead c.loop-ahead.invariant.0 c.loop-ahead-test.true before, leapt_fewer c.loop-ahead.rest.now c.loop-ahead.ahead (length c.args.blocks.now) c.loop-ahead.invariant.1)

@@ -1,4 +1,4 @@
-use Rattle.bcder_content.proofs.Perhaps.{there_if, absent_if}
+use Rattle.resources_ip.proofs.of_bcder_content.Perhaps.{there_if, absent_if}
 use Rattle.resources_ip_block.specs.Block.{run_of_block}
 use Rattle.resources_ip.proofs.Gathered.{gathered_next, gathered_stop, gathered_done}
 use Rattle.resources_ip.proofs.der.gather.Goals as goal

@@ -1,5 +1,5 @@
 use Rattle.std.proofs.Common.{length}
-use Rattle.bcder_content.specs.Here.{here}
+use Rattle.resources_ip.specs.bcder_content.Here.{here}
 use Rattle.resources_ip.proofs.Gathered.{Gathered}
 use Rattle.resources_ip.proofs.der.gather.Given as goal
 

@@ -1,6 +1,6 @@
-use Rattle.bcder_content.proofs.Forests.{begin, next, next_opt_as, stop, stop_opt, done}
-use Rattle.bcder_content.proofs.Modes.{mode_behind, lacks_tagged_in, perhaps_in}
-use Rattle.bcder_content.proofs.Taking.{weaker}
+use Rattle.resources_ip.proofs.of_bcder_content.Forests.{begin, next, next_opt_as, stop, stop_opt, done}
+use Rattle.resources_ip.proofs.of_bcder_content.Modes.{mode_behind, lacks_tagged_in, perhaps_in}
+use Rattle.resources_ip.proofs.of_bcder_content.Taking.{weaker}
 use Rattle.resources_ip.specs.Encodings.{IsIpFamily}
 use Rattle.resources_ip.specs.Reading.{family_choice}
 use Rattle.resources_ip.proofs.Mentioned.{family_tagged}

@@ -1,8 +1,8 @@
 use Rattle.std.proofs.Common.{subst}
-use Rattle.bcder_tree.specs.declared.mode.Mode.{Mode}
-use Rattle.bcder_content.specs.Exact.{ReadsAllAs}
-use Rattle.bcder_content.specs.Here.{here}
-use Rattle.bcder_content.proofs.Inside.{exact_opt}
+use Rattle.resources_ip.specs.bcder_tree.declared.mode.Mode.{Mode}
+use Rattle.resources_ip.specs.bcder_content.Exact.{ReadsAllAs}
+use Rattle.resources_ip.specs.bcder_content.Here.{here}
+use Rattle.resources_ip.proofs.of_bcder_content.Inside.{exact_opt}
 use Rattle.resources_ip.specs.Encodings.{AreFamilyFields}
 use Rattle.resources_ip.specs.Reading.{family_choice}
 use Rattle.resources_ip.proofs.der.take_opt_family.Goals as goal

@@ -1,7 +1,7 @@
-use Rattle.bcder_tree.specs.declared.mode.Mode.{Mode}
-use Rattle.bcder_content.proofs.Forests.{begin, next, stop, done}
-use Rattle.bcder_content.proofs.Taking.{weaker}
-use Rattle.bcder_content.proofs.Modes.{mode_behind, gives_in, lacks_in}
+use Rattle.resources_ip_block.specs.bcder_tree.declared.mode.Mode.{Mode}
+use Rattle.resources_ip_block.proofs.of_bcder_content.Forests.{begin, next, stop, done}
+use Rattle.resources_ip_block.proofs.of_bcder_content.Taking.{weaker}
+use Rattle.resources_ip_block.proofs.of_bcder_content.Modes.{mode_behind, gives_in, lacks_in}
 use Rattle.resources_ip_prefix.specs.Encodings.{IsAddress}
 use Rattle.resources_ip_block.proofs.der.bounds_in.Goals as goal
 

@@ -1,5 +1,5 @@
 use Rattle.std.proofs.Common.{arith, ◌∙◌}
-use Rattle.resources_chain.specs.Same.{run_is}
+use Rattle.resources_ip_block.specs.resources_chain.Same.{run_is}
 use Rattle.resources_ip_block.specs.BlockEncodings.{bounds_ends}
 use Rattle.resources_ip_block.specs.Range.{run_of_range}
 use Rattle.resources_ip_block.proofs.Blocks.{range_stop, range_given, range_unfit}

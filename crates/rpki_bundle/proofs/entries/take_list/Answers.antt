@@ -1,12 +1,12 @@
 use Rattle.std.proofs.Common.{refl, sym, subst}
-use Rattle.bcder_tree.specs.declared.mode.Mode.{Mode}
-use Rattle.bcder_content.specs.Grammar.{Many}
-use Rattle.bcder_content.proofs.Choices.{such_gives, such_lacks, such_refused, stop_value}
-use Rattle.bcder_content.proofs.Inside.{exact_each}
-use Rattle.bcder_content.proofs.Taking.{on_content}
-use Rattle.bcder_content.proofs.Unique.{inside_one, many_one}
+use Rattle.rpki_bundle.specs.bcder_tree.declared.mode.Mode.{Mode}
+use Rattle.rpki_bundle.specs.bcder_content.Grammar.{Many}
+use Rattle.rpki_bundle.proofs.of_bcder_content.Choices.{such_gives, such_lacks, such_refused, stop_value}
+use Rattle.rpki_bundle.proofs.of_bcder_content.Inside.{exact_each}
+use Rattle.rpki_bundle.proofs.of_bcder_content.Taking.{on_content}
+use Rattle.rpki_bundle.proofs.of_bcder_content.Unique.{inside_one, many_one}
 use Rattle.rpki_bundle.specs.Orders.{Ascends}
-use Rattle.bcder_content.proofs.Modes.{all_in}
+use Rattle.rpki_bundle.proofs.of_bcder_content.Modes.{all_in}
 use Rattle.rpki_bundle.proofs.entries.take_list.Goals as goal
 
 pub returns-in_err-entries : goal.returns-in_err-entries

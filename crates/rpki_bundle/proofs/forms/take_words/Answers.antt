@@ -1,4 +1,4 @@
-use Rattle.bcder_content.proofs.Inside.{exact_opt}
+use Rattle.rpki_bundle.proofs.of_bcder_content.Inside.{exact_opt}
 use Rattle.rpki_bundle.specs.Grammars.{as_verdict}
 use Rattle.rpki_bundle.specs.Words.{words_fields}
 use Rattle.rpki_bundle.proofs.Reading.{opt_meaning}

@@ -1,5 +1,5 @@
 use Rattle.std.proofs.Common.{◌∙◌}
-use Rattle.bcder_content.proofs.Taking.{on_content}
+use Rattle.rpki_bundle.proofs.of_bcder_content.Taking.{on_content}
 use Rattle.rpki_bundle.proofs.Digests.{digest_failed, digest_gives, digest_lacks}
 use Rattle.rpki_bundle.proofs.reader.digest.Goals as goal
 

@@ -1,7 +1,7 @@
 use Rattle.std.proofs.Common.{refl}
-use Rattle.bcder_content.proofs.Choices.{such_gives, such_lacks, such_refused, stop_value}
-use Rattle.bcder_content.proofs.Taking.{on_content}
-use Rattle.bcder_content.proofs.Unique.{octets_one, unsigned_one}
+use Rattle.rpki_bundle.proofs.of_bcder_content.Choices.{such_gives, such_lacks, such_refused, stop_value}
+use Rattle.rpki_bundle.proofs.of_bcder_content.Taking.{on_content}
+use Rattle.rpki_bundle.proofs.of_bcder_content.Unique.{octets_one, unsigned_one}
 use Rattle.rpki_bundle.proofs.reader.take_depth.Goals as goal
 
 pub returns-in_err-depth : goal.returns-in_err-depth

@@ -1,4 +1,4 @@
-use Rattle.bcder_content.proofs.Choices.{gives_same, stop_value}
+use Rattle.rpki_bundle.proofs.of_bcder_content.Choices.{gives_same, stop_value}
 use Rattle.rpki_bundle.proofs.reader.take_octets.Goals as goal
 
 pub returns-in_err-string : goal.returns-in_err-string

@@ -1,4 +1,4 @@
-use Rattle.bcder_content.proofs.Inside.{exact_octets}
+use Rattle.rpki_bundle.proofs.of_bcder_content.Inside.{exact_octets}
 use Rattle.rpki_bundle.proofs.reader.take_text.Goals as goal
 
 pub returns : goal.returns

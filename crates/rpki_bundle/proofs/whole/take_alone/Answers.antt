@@ -1,10 +1,10 @@
 use Rattle.std.proofs.Common.{sym, subst}
-use Rattle.bcder_content.specs.Contents.{ValuesLeft, Ended}
-use Rattle.bcder_content.specs.Exact.{GivesAll}
-use Rattle.bcder_content.specs.Here.{here}
-use Rattle.bcder_content.proofs.Forests.{begin, next, stop, stop_all, done, there_next, absent_next}
-use Rattle.bcder_content.proofs.Taking.{weaker, on_content}
-use Rattle.bcder_content.proofs.Took.{ended_none}
+use Rattle.rpki_bundle.specs.bcder_content.Contents.{ValuesLeft, Ended}
+use Rattle.rpki_bundle.specs.bcder_content.Exact.{GivesAll}
+use Rattle.rpki_bundle.specs.bcder_content.Here.{here}
+use Rattle.rpki_bundle.proofs.of_bcder_content.Forests.{begin, next, stop, stop_all, done, there_next, absent_next}
+use Rattle.rpki_bundle.proofs.of_bcder_content.Taking.{weaker, on_content}
+use Rattle.rpki_bundle.proofs.of_bcder_content.Took.{ended_none}
 use Rattle.rpki_bundle.specs.Grammars.{IsBundleAlone}
 use Rattle.rpki_bundle.specs.PartFields.{parts_alone}
 use Rattle.rpki_bundle.proofs.Reading.{end_lacks, ends_err}

@@ -1,7 +1,7 @@
-use Rattle.bcder_content.proofs.Inside.{exact_each}
+use Rattle.rpki_bundle.proofs.of_bcder_content.Inside.{exact_each}
 use Rattle.rpki_bundle.specs.Grammars.{as_bundle, IsBundleBody}
 use Rattle.rpki_bundle.specs.PartFields.{parts_fields}
-use Rattle.bcder_content.proofs.Modes.{all_in}
+use Rattle.rpki_bundle.proofs.of_bcder_content.Modes.{all_in}
 use Rattle.rpki_bundle.proofs.Reading.{meaning}
 use Rattle.rpki_bundle.proofs.whole.take_bundle.Goals as goal
 

@@ -2,7 +2,7 @@ use Rattle.std.proofs.Common.{ℕ, ◌<◌, ◌≤◌, length, ap, sym, subst, �
 use Rattle.rpki_judge.specs.Climbing.{links_of}
 use Rattle.rpki_judge.proofs.Links.{too_long}
 use Rattle.rpki_judge.proofs.Steps.{no_judged, missing_judged, all_read, repeat_judged, all_judged, asks_all}
-use Rattle.rpki_rules.specs.Attests.{Trace}
+use Rattle.rpki_judge.specs.rpki_rules.Attests.{Trace}
 use Rattle.rpki_judge.proofs.judging.judge.Goals as goal
 
 pub returns-then-chain-depth-clause-judged : goal.returns-then-chain-depth-clause-judged

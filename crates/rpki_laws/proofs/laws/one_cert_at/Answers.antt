@@ -1,4 +1,4 @@
-use Rattle.rpki_laws.proofs.Readings.{one_cert_at}
+use Rattle.rpki_rules.proofs.Readings.{one_cert_at}
 use Rattle.rpki_laws.proofs.laws.one_cert_at.Goals as goal
 
 pub returns : goal.returns

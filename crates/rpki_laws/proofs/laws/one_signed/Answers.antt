@@ -1,4 +1,4 @@
-use Rattle.rpki_laws.proofs.Readings.{one_signed}
+use Rattle.rpki_rules.proofs.Readings.{one_signed}
 use Rattle.rpki_laws.proofs.laws.one_signed.Goals as goal
 
 pub returns : goal.returns

@@ -1,6 +1,6 @@
 use Rattle.std.proofs.Common.{◌≡◌, ◌++◌, take}
 use Rattle.std.specs.Prelude.{flat_map}
-use Rattle.rpki_rules.specs.Lines.{customer_line}
+use Rattle.rpki_lines.specs.rpki_rules.Lines.{customer_line}
 use Rattle.rpki_report.specs.Views.{customer_of}
 use Rattle.rpki_lines.proofs.customers.push_all.Given as goal
 

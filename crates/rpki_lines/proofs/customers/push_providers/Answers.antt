@@ -1,5 +1,5 @@
 use Rattle.std.proofs.Common.{◌++◌, codes, ◌∙◌}
-use Rattle.rpki_rules.specs.Lines.{asn_text}
+use Rattle.rpki_lines.specs.rpki_rules.Lines.{asn_text}
 use Rattle.rpki_lines.proofs.Pieces.{one_more}
 use Rattle.rpki_lines.proofs.customers.push_providers.Goals as goal
 

@@ -1,6 +1,6 @@
 use Rattle.std.proofs.Common.{◌≡◌, ◌++◌, take}
 use Rattle.std.specs.Prelude.{flat_map, codes}
-use Rattle.rpki_rules.specs.Lines.{asn_text}
+use Rattle.rpki_lines.specs.rpki_rules.Lines.{asn_text}
 use Rattle.rpki_lines.proofs.customers.push_providers.Given as goal
 
 abbrev pub invariant-loop-provider : goal.invariant-loop-provider

@@ -1,6 +1,6 @@
 use Rattle.std.proofs.Common.{◌≡◌, ◌++◌, take}
 use Rattle.std.specs.Prelude.{flat_map}
-use Rattle.rpki_rules.specs.Lines.{origin_line}
+use Rattle.rpki_lines.specs.rpki_rules.Lines.{origin_line}
 use Rattle.rpki_report.specs.Views.{origin_of}
 use Rattle.rpki_lines.proofs.origins.push_all.Given as goal
 

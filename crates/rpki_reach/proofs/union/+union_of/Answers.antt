@@ -1,7 +1,7 @@
 use Rattle.std.proofs.Common.{◌≡◌, List, ◌++◌, arith}
 use Rattle.std.proofs.lemmas.Grind.{common_steps}
 use Rattle.std.proofs.lemmas.Result.{IfOk-weaker}
-use Rattle.resources_set.specs.Resources.{Resources}
+use Rattle.rpki_reach.specs.resources_set.Resources.{Resources}
 use Rattle.rpki_reach.proofs.Sets.{union_both}
 use Rattle.rpki_reach.proofs.union.+union_of.Goals as goal
 

@@ -1,5 +1,5 @@
 use Rattle.std.proofs.Common.{◌≡◌, false, true, List, sym, subst, ◌∙◌}
-use Rattle.resources_set.specs.Resources.{Resources}
+use Rattle.rpki_reach.specs.resources_set.Resources.{Resources}
 use Rattle.rpki_reach.specs.Gathered.{AreUnionOf}
 use Rattle.rpki_reach.proofs.Gathered.{held_is}
 use Rattle.rpki_reach.proofs.whole.reach.Goals as goal

@@ -1,13 +1,13 @@
 use Rattle.std.proofs.Common.{◌≡◌, ℕ, ◌+◌, ◌<◌, ◌⊎◌, List, [], ◌∷◌, ◌++◌, ◌↔◌, length, take, take_all, get_or, refl, sym, ap, subst, ◌∙◌, inl, inr}
-use Rattle.resources_set.specs.Resources.{Resources}
-use Rattle.rpki_readings.specs.Certs.{Cert}
-use Rattle.rpki_rules.specs.declared.cause.Cause.{Cause}
-use Rattle.rpki_rules.specs.World.{World}
-use Rattle.rpki_rules.specs.Attests.{Payload}
-use Rattle.rpki_rules.specs.Words.{Mem}
-use Rattle.rpki_rules.specs.Kinds.{InSet}
-use Rattle.rpki_rules.specs.Points.{Point, files}
-use Rattle.rpki_rules.specs.Chains.{StandsIn}
+use Rattle.rpki_walk.specs.resources_set.Resources.{Resources}
+use Rattle.rpki_walk.specs.rpki_readings.Certs.{Cert}
+use Rattle.rpki_walk.specs.rpki_rules.declared.cause.Cause.{Cause}
+use Rattle.rpki_walk.specs.rpki_rules.World.{World}
+use Rattle.rpki_walk.specs.rpki_rules.Attests.{Payload}
+use Rattle.rpki_walk.specs.rpki_rules.Words.{Mem}
+use Rattle.rpki_walk.specs.rpki_rules.Kinds.{InSet}
+use Rattle.rpki_walk.specs.rpki_rules.Points.{Point, files}
+use Rattle.rpki_walk.specs.rpki_rules.Chains.{StandsIn}
 use Rattle.rpki_report.specs.Views.{Way, way_of}
 use Rattle.rpki_walk.specs.Filed.{IsRead}
 use Rattle.rpki_walk.specs.Facts.{Told, Refuses, ShownBy, ReachedBy, Stand, Gains, FromFile, Found, Walks, Classified}

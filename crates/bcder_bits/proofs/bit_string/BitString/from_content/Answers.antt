@@ -1,11 +1,15 @@
-use Rattle.std.proofs.Common.{rules, ◌≡◌, true, OnErr, subst}
-use Rattle.bcder_tree.specs.declared.mode.Mode.{Mode}
-use Rattle.bcder_content.specs.Here.{plain}
-use Rattle.bcder_content.proofs.Failing.{octets_fail}
-use Rattle.bcder_primitive.specs.Plain.{ReadsOctetsAs}
+use Rattle.std.proofs.Common.{rules, ◌≡◌, true, IfErr, OnErr, subst}
+use Rattle.bcder_bits.specs.bcder_tree.declared.mode.Mode.{Mode}
+use Rattle.bcder_bits.specs.bcder_content.Here.{plain}
+use Rattle.bcder_bits.proofs.of_bcder_content.Failing.{octets_fail}
+use Rattle.bcder_bits.specs.bcder_primitive.Plain.{ReadsOctetsAs}
 use Rattle.bcder_bits.specs.Bits.{BitsValue}
 use Rattle.bcder_bits.specs.Contents.{IsBitString}
 use Rattle.bcder_bits.proofs.ContentReadings.{content_reads}
+use Rattle.bcder_bits.specs.bcder_source.declared.error.DecodeError.{DecodeError}
+use Rattle.bcder_bits.specs.bcder_content.Memory.{OnMemory}
+use Rattle.bcder_whole.specs.Ahead.{HasOctets}
+use Rattle.bcder_whole.proofs.Wants.{content_wants}
 use Rattle.bcder_bits.proofs.bit_string.BitString.from_content.Goals as goal
 
 pub returns-clause-reads : goal.returns-clause-reads
@@ -20,4 +24,11 @@ returns-clause-failed g c = octets_fail _ (record {
   each = λ p q r m.
       let h : OnErr r ((plain g.S.Source.rest q.now).failed ≡ true) = search rules in
       h;
+}) c.primitive.ensures.ran
+
+pub returns-clause-memory : goal.returns-clause-memory
+returns-clause-memory g c = content_wants _ _ _ (record {
+  each = λ p q r mode m.
+      let h : IfErr r (λ (e : DecodeError _). OnMemory e (HasOctets (IsBitString (plain g.S.Source.rest p.now).mode) (plain g.S.Source.rest p.now))) = search rules in
+      subst (λ (z : Mode). IfErr r (λ (e : DecodeError _). OnMemory e (HasOctets (IsBitString z) (plain g.S.Source.rest p.now)))) mode h;
 }) c.primitive.ensures.ran

@@ -1,8 +1,8 @@
 use Rattle.std.proofs.Common.{rules, subst}
-use Rattle.bcder_tree.specs.declared.mode.Mode.{Mode}
-use Rattle.bcder_content.specs.Here.{plain}
-use Rattle.bcder_primitive.specs.Plain.{ReadsOctetsAs}
-use Rattle.bcder_content.proofs.Inside.{exact_octets}
+use Rattle.bcder_bits.specs.bcder_tree.declared.mode.Mode.{Mode}
+use Rattle.bcder_bits.specs.bcder_content.Here.{plain}
+use Rattle.bcder_bits.specs.bcder_primitive.Plain.{ReadsOctetsAs}
+use Rattle.bcder_bits.proofs.of_bcder_content.Inside.{exact_octets}
 use Rattle.bcder_bits.specs.Contents.{IsAnyBits}
 use Rattle.bcder_bits.proofs.bit_string.BitString.skip_in.Goals as goal
 

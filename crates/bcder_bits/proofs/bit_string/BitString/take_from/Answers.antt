@@ -1,10 +1,14 @@
-use Rattle.std.proofs.Common.{rules, subst}
-use Rattle.bcder_tree.specs.declared.mode.Mode.{Mode}
-use Rattle.bcder_content.specs.Here.{plain}
-use Rattle.bcder_primitive.specs.Plain.{ReadsOctetsAs}
-use Rattle.bcder_content.proofs.Inside.{exact_octets}
+use Rattle.std.proofs.Common.{rules, subst, IfErr}
+use Rattle.bcder_bits.specs.bcder_tree.declared.mode.Mode.{Mode}
+use Rattle.bcder_bits.specs.bcder_content.Here.{plain}
+use Rattle.bcder_bits.specs.bcder_primitive.Plain.{ReadsOctetsAs}
+use Rattle.bcder_bits.proofs.of_bcder_content.Inside.{exact_octets}
 use Rattle.bcder_bits.specs.Bits.{BitsValue}
 use Rattle.bcder_bits.specs.Contents.{IsBitString}
+use Rattle.bcder_bits.specs.bcder_source.declared.error.DecodeError.{DecodeError}
+use Rattle.bcder_bits.specs.bcder_content.Memory.{OnMemory}
+use Rattle.bcder_whole.specs.Ahead.{HasOctets}
+use Rattle.bcder_whole.proofs.Wants.{octets_want}
 use Rattle.bcder_bits.proofs.bit_string.BitString.take_from.Goals as goal
 
 pub returns-clause-reads : goal.returns-clause-reads
@@ -13,3 +17,10 @@ returns-clause-reads g c = exact_octets (record {
       let h : ReadsOctetsAs (λ (v : BitsValue). v) (IsBitString (plain g.S.Source.rest p.now).mode) (plain g.S.Source.rest p.now) r (plain g.S.Source.rest q.now) = search rules in
       subst (λ (z : Mode). ReadsOctetsAs (λ (v : BitsValue). v) (IsBitString z) (plain g.S.Source.rest p.now) r (plain g.S.Source.rest q.now)) mode h;
 }) c.take_primitive_if.ensures.ran
+
+pub returns-clause-memory : goal.returns-clause-memory
+returns-clause-memory g c = octets_want _ _ c.take_primitive_if.result (record {
+  each = λ p q r mode m.
+      let h : IfErr r (λ (e : DecodeError _). OnMemory e (HasOctets (IsBitString (plain g.S.Source.rest p.now).mode) (plain g.S.Source.rest p.now))) = search rules in
+      subst (λ (z : Mode). IfErr r (λ (e : DecodeError _). OnMemory e (HasOctets (IsBitString z) (plain g.S.Source.rest p.now)))) mode h;
+}) c.take_primitive_if.ensures.memory

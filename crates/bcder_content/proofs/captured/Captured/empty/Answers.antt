@@ -1,4 +1,4 @@
-use Rattle.bcder_tree.specs.Tree.{none}
+use Rattle.bcder_content.specs.bcder_tree.Tree.{none}
 use Rattle.bcder_content.proofs.captured.Captured.empty.Goals as goal
 
 pub invariant_of-result : goal.invariant_of-result

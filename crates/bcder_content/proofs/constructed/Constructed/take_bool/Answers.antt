@@ -1,5 +1,5 @@
 use Rattle.std.proofs.Common.{rules, subst, Bool}
-use Rattle.bcder_tree.specs.declared.mode.Mode.{Mode}
+use Rattle.bcder_content.specs.bcder_tree.declared.mode.Mode.{Mode}
 use Rattle.bcder_content.specs.Here.{plain}
 use Rattle.bcder_primitive.specs.Plain.{ReadsOctetsAs}
 use Rattle.bcder_primitive.specs.Values.{IsBoolean}

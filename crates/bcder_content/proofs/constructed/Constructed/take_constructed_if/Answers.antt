@@ -1,7 +1,7 @@
 use Rattle.std.proofs.Common.{refl, ◌∙◌}
 use Rattle.bcder_content.specs.Here.{here}
 use Rattle.bcder_content.specs.Ran.{refused, goes_on}
-use Rattle.bcder_content.proofs.Taking.{on_content, only_on}
+use Rattle.bcder_content.proofs.Taking.{on_content, only_on, tag_named}
 use Rattle.bcder_content.proofs.Memories.{no_want, wanted}
 use Rattle.bcder_content.proofs.constructed.Constructed.take_constructed_if.Goals as goal
 
@@ -61,3 +61,9 @@ returns-in-Err-op-clause-memory g c = wanted c.in-Err-op.error (record {
 
 pub returns-in-Err-close-clause-memory : goal.returns-in-Err-close-clause-memory
 returns-in-Err-close-clause-memory g c = no_want _ _ c.in-Err-close.error c.in-Err-close.ensures.refused
+
+pub returns-in-Err-op-clause-named : goal.returns-in-Err-op-clause-named
+returns-in-Err-op-clause-named g c = tag_named c.in-Err-op.error c.in-Ok.ensures.entered
+
+pub returns-in-Err-close-clause-named : goal.returns-in-Err-close-clause-named
+returns-in-Err-close-clause-named g c = tag_named c.in-Err-close.error c.in-Ok.ensures.entered

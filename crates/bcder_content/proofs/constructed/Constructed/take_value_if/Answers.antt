@@ -3,6 +3,7 @@ use Rattle.bcder_content.specs.Either.{ByContentAlone, WithTag}
 use Rattle.bcder_content.specs.Here.{here}
 use Rattle.bcder_header.proofs.Windows.{tags_unequal, tags_same}
 use Rattle.bcder_content.proofs.Eithers.{takes_none, takes_other, takes_refused, takes_unread, takes_value}
+use Rattle.bcder_content.proofs.Taking.{none_named, tag_named_as, on_content}
 use Rattle.bcder_content.proofs.Memories.{no_want, any_wanted}
 use Rattle.bcder_content.proofs.constructed.Constructed.take_value_if.Goals as goal
 
@@ -29,3 +30,15 @@ returns-in-Err-run_alone-clause-memory g c = any_wanted (ByContentAlone g.S.Sour
 
 pub returns-in-Err-close-clause-memory : goal.returns-in-Err-close-clause-memory
 returns-in-Err-close-clause-memory g c = no_want _ _ c.in-Err-close.error c.in-Err-close.ensures.refused
+
+pub returns-in-Err-clause-named : goal.returns-in-Err-clause-named
+returns-in-Err-clause-named g c = none_named (here g.S.Source.rest c.args.self.now) c.args.tag c.in-Err.error c.in-Err.ensures.refused
+
+pub returns-then-ne-clause-named : goal.returns-then-ne-clause-named
+returns-then-ne-clause-named g c = on_content c.refuse.result (record { names = λ t a d. c.refuse.ensures.error })
+
+pub returns-in-Err-run_alone-clause-named : goal.returns-in-Err-run_alone-clause-named
+returns-in-Err-run_alone-clause-named g c = tag_named_as c.in-Err-run_alone.error (tags_same c.ne.ensures c.if-ne.false) c.in-Ok.ensures.entered
+
+pub returns-in-Err-close-clause-named : goal.returns-in-Err-close-clause-named
+returns-in-Err-close-clause-named g c = tag_named_as c.in-Err-close.error (tags_same c.ne.ensures c.if-ne.false) c.in-Ok.ensures.entered

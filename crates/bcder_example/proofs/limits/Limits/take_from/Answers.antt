@@ -1,4 +1,4 @@
-use Rattle.bcder_content.proofs.InMode.{inside}
+use Rattle.bcder_example.proofs.of_bcder_content.InMode.{inside}
 use Rattle.bcder_example.specs.Limits.{limits_content}
 use Rattle.bcder_example.proofs.limits.Limits.take_from.Goals as goal
 

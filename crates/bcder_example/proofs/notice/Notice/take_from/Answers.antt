@@ -1,5 +1,5 @@
 use Rattle.bcder_example.specs.Notices.{notice_body}
-use Rattle.bcder_content.proofs.InMode.{inside}
+use Rattle.bcder_example.proofs.of_bcder_content.InMode.{inside}
 use Rattle.bcder_example.proofs.notice.Notice.take_from.Goals as goal
 
 pub returns-clause-reads : goal.returns-clause-reads

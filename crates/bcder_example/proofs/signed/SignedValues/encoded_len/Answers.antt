@@ -1,5 +1,5 @@
 use Rattle.bcder_example.specs.Signed.{lent}
-use Rattle.bcder_values.proofs.Lent.{len_lent, len_refused}
+use Rattle.bcder_example.proofs.of_bcder_values.Lent.{len_lent, len_refused}
 use Rattle.bcder_example.proofs.signed.SignedValues.encoded_len.Goals as goal
 
 pub returns-clause-len : goal.returns-clause-len

@@ -1,5 +1,5 @@
 use Rattle.bcder_example.specs.Signed.{lent}
-use Rattle.bcder_values.proofs.Lent.{write_lent, write_refused}
+use Rattle.bcder_example.proofs.of_bcder_values.Lent.{write_lent, write_refused}
 use Rattle.bcder_example.proofs.signed.SignedValues.write_encoded.Goals as goal
 
 pub returns-clause-written : goal.returns-clause-written

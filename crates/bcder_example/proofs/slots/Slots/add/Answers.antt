@@ -1,9 +1,9 @@
 use Rattle.std.proofs.Common.{refl, sym, ◌∙◌, subst, inl, inr}
-use Rattle.bcder_tree.specs.declared.mode.Mode.{Mode}
-use Rattle.bcder_tree.specs.declared.mode.Mode.TheVariants.{Der}
-use Rattle.bcder_content.specs.Captures.{rest_of}
-use Rattle.bcder_content.specs.Exact.{ReadsAs}
-use Rattle.bcder_content.specs.Here.{here}
+use Rattle.bcder_example.specs.bcder_tree.declared.mode.Mode.{Mode}
+use Rattle.bcder_example.specs.bcder_tree.declared.mode.Mode.TheVariants.{Der}
+use Rattle.bcder_example.specs.bcder_content.Captures.{rest_of}
+use Rattle.bcder_example.specs.bcder_content.Exact.{ReadsAs}
+use Rattle.bcder_example.specs.bcder_content.Here.{here}
 use Rattle.bcder_example.specs.declared.slots.Need.TheVariants.{Must, MustNot}
 use Rattle.bcder_example.specs.Extensions.{IsBasicConstraints, IsKeyIdentifier, IsKeyUsage, basic_constraints, subject_key_identifier, key_usage, raw_value}
 use Rattle.bcder_example.proofs.SlotLaws.{sets_put, cannot_set, weaker_ok, weaker_err}

@@ -1,12 +1,22 @@
-use Rattle.bcder_primitive.specs.Plain.{plain}
-use Rattle.bcder_primitive.proofs.Primitives.{through, weaker_content}
+use Rattle.std.proofs.Common.{rules, IsTrue}
+use Rattle.bcder_number.specs.bcder_primitive.Plain.{plain}
+use Rattle.bcder_number.proofs.of_bcder_primitive.Primitives.{through, weaker}
+use Rattle.bcder_number.proofs.of_bcder_content.Memories.{wanted}
+use Rattle.bcder_whole.proofs.Wholes.{lacks_any, has_whole}
+use Rattle.bcder_whole.proofs.Wants.{no_want_through}
 use Rattle.bcder_number.specs.Integers.{IsNatural}
-use Rattle.bcder_number.proofs.Readings.{natural_given, lacks_natural}
 use Rattle.bcder_number.proofs.unsigned.Unsigned.from_primitive.Goals as goal
 
-pub returns-in_err-integer-clause-reads : goal.returns-in_err-integer-clause-reads
-returns-in_err-integer-clause-reads g c =
-    through (λ n. n) IsNatural (plain g.S.Source.rest c.args.prim.now) _ c.from_residual.result _ c.from_residual.ensures.0 c.from_residual.ensures.1 (weaker_content _ lacks_natural c.in_err-integer.ensures.reads)
+pub returns-in_err-count-clause-reads : goal.returns-in_err-count-clause-reads
+returns-in_err-count-clause-reads g c =
+    through (λ n. n) IsNatural (plain g.S.Source.rest c.args.prim.now) _ c.from_residual.result _ c.from_residual.ensures.0 c.from_residual.ensures.1
+    (weaker _ (lacks_any IsNatural (plain g.S.Source.rest c.args.prim.now)) c.in_err-count.ensures.refused)
 
-pub returns-then-not-is_negative-clause-reads : goal.returns-then-not-is_negative-clause-reads
-returns-then-not-is_negative-clause-reads g c = natural_given c.new.ensures c.in_ok-integer.ensures.reads
+pub returns-in_err-count-clause-memory : goal.returns-in_err-count-clause-memory
+returns-in_err-count-clause-memory g c = no_want_through _ _ c.from_residual.result _ c.from_residual.ensures.0 c.from_residual.ensures.1 c.in_err-count.ensures.refused
+
+pub returns-in-Err-clause-memory : goal.returns-in-Err-clause-memory
+returns-in-Err-clause-memory g c =
+    let t : IsTrue c.is_natural-is_natural.result = search rules in
+    let had = c.in_ok-count.ensures in
+    wanted c.in-Err.error (has_whole IsNatural had.same had.sound had.all c.front.ensures.there c.front.ensures.value (c.is_natural-is_natural.ensures.0 t))

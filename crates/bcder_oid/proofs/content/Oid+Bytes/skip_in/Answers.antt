@@ -1,5 +1,5 @@
 use Rattle.std.proofs.Common.{rules}
-use Rattle.bcder_content.proofs.Inside.{exact_octets}
+use Rattle.bcder_oid.proofs.of_bcder_content.Inside.{exact_octets}
 use Rattle.bcder_oid.proofs.content.Oid+Bytes.skip_in.Goals as goal
 
 pub returns-clause-reads : goal.returns-clause-reads

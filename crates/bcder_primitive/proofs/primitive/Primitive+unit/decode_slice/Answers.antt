@@ -1,7 +1,7 @@
 use Rattle.std.proofs.Common.{◌≡◌, ℕ, List, length, true, false, Some, refl, ap}
 use Rattle.bcder_source.specs.Views.{Reading}
 use Rattle.bcder_primitive.specs.Plain.{OctetsLeft}
-use Rattle.bcder_primitive.specs.Sliced.{content_of, RanOnOctets, refused, goes_on}
+use Rattle.bcder_primitive.specs.Sliced.{refused, goes_on}
 use Rattle.bcder_primitive.proofs.primitive.Primitive+unit.decode_slice.Goals as goal
 
 pub returns-in-Err : goal.returns-in-Err

@@ -1,8 +1,8 @@
-use Rattle.std.proofs.Common.{◌≡◌, ◌+◌, ◌^◌, ◌≤◌, arith}
+use Rattle.std.proofs.Common.{◌+◌, ◌^◌, ◌≤◌, arith}
 use Rattle.bcder_primitive.specs.Plain.{plain}
 use Rattle.bcder_primitive.specs.Values.{IsSigned}
 use Rattle.bcder_primitive.proofs.Numbers.{few_signed}
-use Rattle.bcder_primitive.proofs.Primitives.{through, lacks_few, refused_whole}
+use Rattle.bcder_primitive.proofs.Primitives.{through, lacks_few, refused_whole, only_content}
 use Rattle.bcder_primitive.proofs.primitive.Primitive.signed.Goals as goal
 
 pub returns-in_err-count-clause-reads : goal.returns-in_err-count-clause-reads
@@ -12,4 +12,4 @@ returns-in_err-count-clause-reads g c =
     (lacks_few (IsSigned (c.args.max + 1)) (plain g.S.Source.rest c.args.self.now) _ (λ text x is. few_signed text x bound is) c.in_err-count.ensures.refused)
 
 pub returns-in-None-clause-reads : goal.returns-in-None-clause-reads
-returns-in-None-clause-reads g c = refused_whole (IsSigned (c.args.max + 1)) c.refuse.result c.in_ok-count.ensures.same c.in_ok-count.ensures.all c.front.ensures.value c.in-None.ensures.none c.refuse.ensures.error
+returns-in-None-clause-reads g c = refused_whole (IsSigned (c.args.max + 1)) c.refuse.result c.in_ok-count.ensures.same c.in_ok-count.ensures.all c.front.ensures.value c.in-None.ensures.none (only_content _ c.refuse.result c.refuse.ensures.error)

@@ -1,4 +1,4 @@
-use Rattle.bcder_content.proofs.Choices.{stop_value}
+use Rattle.bcder_strings.proofs.of_bcder_content.Choices.{stop_value}
 use Rattle.bcder_strings.proofs.Texts.{text_reads, text_taken}
 use Rattle.bcder_strings.proofs.string.RestrictedString.take_from.Goals as goal
 

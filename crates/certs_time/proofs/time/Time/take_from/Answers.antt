@@ -1,7 +1,7 @@
 use Rattle.std.proofs.Common.{ℕ, arith}
-use Rattle.bcder_content.proofs.Choices.{choice_lacks, stop_value, universal_apart}
-use Rattle.bcder_content.proofs.Forests.{absent}
-use Rattle.bcder_content.proofs.Unique.{octets_tagged}
+use Rattle.certs_time.proofs.of_bcder_content.Choices.{choice_lacks, stop_value, universal_apart}
+use Rattle.certs_time.proofs.of_bcder_content.Forests.{absent}
+use Rattle.certs_time.proofs.of_bcder_content.Unique.{octets_tagged}
 use Rattle.certs_time.proofs.Meanings.{second_reads}
 use Rattle.certs_time.proofs.time.Time.take_from.Goals as goal
 

@@ -1,4 +1,4 @@
-use Rattle.bcder_content.proofs.Inside.{exact_each}
+use Rattle.certs_time.proofs.of_bcder_content.Inside.{exact_each}
 use Rattle.certs_time.proofs.validity.Validity.take_from.Goals as goal
 
 pub returns-clause-reads : goal.returns-clause-reads

@@ -1,7 +1,7 @@
 use Rattle.std.proofs.Common.{subst}
-use Rattle.resources_chain.specs.Sets.{InRuns, IsRunsOf}
-use Rattle.resources_chain.specs.Claims.{Path, HeldAlong, FitsAlong, RefusesAlong}
-use Rattle.resources_chain.proofs.ClaimLemmas.{path_is}
+use Rattle.resources_as.specs.resources_chain.Sets.{InRuns, IsRunsOf}
+use Rattle.resources_as.specs.resources_chain.Claims.{Path, HeldAlong, FitsAlong, RefusesAlong}
+use Rattle.resources_as.proofs.of_resources_chain.ClaimLemmas.{path_is}
 use Rattle.resources_as.proofs.blocks.AsBlocks.verify_path.Goals as goal
 
 pub returns-in-Ok-clause-fits : goal.returns-in-Ok-clause-fits

@@ -1,5 +1,5 @@
-use Rattle.bcder_content.proofs.Choices.{as_lacks}
-use Rattle.bcder_content.proofs.Perhaps.{absent_if, stop_if, as_none_next}
+use Rattle.resources_as_block.proofs.of_bcder_content.Choices.{as_lacks}
+use Rattle.resources_as_block.proofs.of_bcder_content.Perhaps.{absent_if, stop_if, as_none_next}
 use Rattle.resources_asn.specs.Encodings.{whichever}
 use Rattle.resources_as_block.specs.Blocks.{as_run}
 use Rattle.resources_as_block.proofs.block.AsBlock.skip_opt_in.Goals as goal

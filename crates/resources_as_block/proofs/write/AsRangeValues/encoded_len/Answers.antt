@@ -1,8 +1,8 @@
 use Rattle.std.proofs.Common.{ap}
 use Rattle.std.specs.Prelude.{IfErr}
-use Rattle.resources_chain.specs.Sets.{Run}
+use Rattle.resources_as_block.specs.resources_chain.Sets.{Run}
 use Rattle.resources_asn.specs.Numbers.{Number}
-use Rattle.bcder_written.specs.Writing.{CannotWrite}
+use Rattle.resources_as_block.specs.bcder_written.Writing.{CannotWrite}
 use Rattle.resources_as_block.specs.Written.{AreAsRange, WritesAsRange}
 use Rattle.resources_as_block.proofs.Writing.{as_ends}
 use Rattle.resources_as_block.proofs.write.AsRangeValues.encoded_len.Goals as goal

@@ -1,5 +1,5 @@
-use Rattle.bcder_content.proofs.Choices.{as_lacks}
-use Rattle.bcder_content.proofs.Taking.{weaker}
+use Rattle.resources_asn.proofs.of_bcder_content.Choices.{as_lacks}
+use Rattle.resources_asn.proofs.of_bcder_content.Taking.{weaker}
 use Rattle.resources_asn.specs.Encodings.{whichever}
 use Rattle.resources_asn.proofs.asn.Asn.skip_in.Goals as goal
 

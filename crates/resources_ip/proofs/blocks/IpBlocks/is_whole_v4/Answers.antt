@@ -3,7 +3,7 @@ use Rattle.std.specs.Prelude.{map}
 use Rattle.resources_ip_block.specs.declared.block.IpBlock.{IpBlock}
 use Rattle.resources_ip_block.specs.Block.{run_of_block}
 use Rattle.resources_ip.specs.Blocks.{blocks_left}
-use Rattle.resources_ip_prefix.specs.Whole.{IsWhole}
+use Rattle.resources_ip.specs.resources_ip_prefix.Whole.{IsWhole}
 use Rattle.resources_ip.proofs.WholeLemmas.{whole_first, whole_rest}
 use Rattle.resources_ip.proofs.blocks.IpBlocks.is_whole_v4.Goals as goal
 

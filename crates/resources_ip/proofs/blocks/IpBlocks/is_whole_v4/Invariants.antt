@@ -1,6 +1,6 @@
 use Rattle.std.proofs.Common.{◌↔◌}
 use Rattle.std.specs.Prelude.{map}
-use Rattle.resources_chain.specs.Sets.{AreMaximal}
+use Rattle.resources_ip.specs.resources_chain.Sets.{AreMaximal}
 use Rattle.resources_ip_block.specs.Block.{run_of_block}
 use Rattle.resources_ip.specs.Blocks.{blocks_left}
 use Rattle.resources_ip.specs.WholeSets.{AreWhole}

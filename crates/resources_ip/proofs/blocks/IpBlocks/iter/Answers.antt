@@ -1,5 +1,5 @@
 use Rattle.std.proofs.Common.{List, sym, subst, ◌∙◌}
-use Rattle.resources_chain.specs.Sets.{Run, InRuns}
+use Rattle.resources_ip.specs.resources_chain.Sets.{Run, InRuns}
 use Rattle.resources_ip.proofs.WideSets.{within_all}
 use Rattle.resources_ip.proofs.blocks.IpBlocks.iter.Goals as goal
 

@@ -1,10 +1,10 @@
 use Rattle.std.proofs.Common.{ap, arith}
-use Rattle.bcder_tree.specs.declared.mode.Mode.{Mode}
-use Rattle.bcder_content.specs.Contents.{ValuesLeft}
-use Rattle.bcder_content.proofs.Choices.{as_lacks_tagged, universal_apart}
-use Rattle.bcder_content.proofs.Forests.{absent}
-use Rattle.bcder_content.proofs.Modes.{lacks_tagged_in}
-use Rattle.bcder_content.proofs.Perhaps.{stop_if, first_refused, second_refused, neither_next}
+use Rattle.resources_ip_block.specs.bcder_tree.declared.mode.Mode.{Mode}
+use Rattle.resources_ip_block.specs.bcder_content.Contents.{ValuesLeft}
+use Rattle.resources_ip_block.proofs.of_bcder_content.Choices.{as_lacks_tagged, universal_apart}
+use Rattle.resources_ip_block.proofs.of_bcder_content.Forests.{absent}
+use Rattle.resources_ip_block.proofs.of_bcder_content.Modes.{lacks_tagged_in}
+use Rattle.resources_ip_block.proofs.of_bcder_content.Perhaps.{stop_if, first_refused, second_refused, neither_next}
 use Rattle.resources_ip_block.specs.Block.{run_of_block}
 use Rattle.resources_ip_block.specs.BlockEncodings.{IsRange, beginning}
 use Rattle.resources_ip_block.proofs.Blocks.{prefix_tagged, range_tagged}

@@ -1,8 +1,8 @@
 use Rattle.std.proofs.Common.{subst}
-use Rattle.bcder_tree.specs.declared.mode.Mode.{Mode}
-use Rattle.bcder_content.specs.Exact.{ReadsAllAs}
-use Rattle.bcder_content.specs.Here.{here}
-use Rattle.bcder_content.proofs.Inside.{exact_opt}
+use Rattle.resources_ip_block.specs.bcder_tree.declared.mode.Mode.{Mode}
+use Rattle.resources_ip_block.specs.bcder_content.Exact.{ReadsAllAs}
+use Rattle.resources_ip_block.specs.bcder_content.Here.{here}
+use Rattle.resources_ip_block.proofs.of_bcder_content.Inside.{exact_opt}
 use Rattle.resources_ip_block.specs.BlockEncodings.{AreOrdered}
 use Rattle.resources_ip_block.specs.Range.{run_of_range}
 use Rattle.resources_ip_block.proofs.range.AddressRange.take_opt_from.Goals as goal

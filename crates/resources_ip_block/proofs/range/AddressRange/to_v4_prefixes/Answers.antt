@@ -1,5 +1,5 @@
 use Rattle.std.proofs.Common.{◌≡◌, ◌∙◌, subst, ap}
-use Rattle.resources_chain.specs.Sets.{Run}
+use Rattle.resources_ip_block.specs.resources_chain.Sets.{Run}
 use Rattle.resources_ip_block.specs.Cover.{IsCover, filled}
 use Rattle.resources_ip_prefix.specs.Prefixes.{first_of, last_of}
 use Rattle.resources_ip_block.specs.Range.{run_of_range}

@@ -1,4 +1,4 @@
-use Rattle.bcder_content.proofs.Tagged.{exact_tagged}
+use Rattle.resources_ip_prefix.proofs.of_bcder_content.Tagged.{exact_tagged}
 use Rattle.resources_ip_prefix.proofs.Values.{family_has_tag}
 use Rattle.resources_ip_prefix.proofs.addr.AddressFamily.take_from.Goals as goal
 

@@ -1,6 +1,6 @@
 use Rattle.std.proofs.Common.{rules}
 use Rattle.std.specs.Prelude.{◌↔◌, IsTrue}
-use Rattle.resources_chain.specs.Sets.{IsInside}
+use Rattle.resources_set.specs.resources_chain.Sets.{IsInside}
 use Rattle.resources_set.proofs.Together.{each_tells, inside_as}
 use Rattle.resources_set.proofs.set.ResourceSet.contains.Goals as goal
 

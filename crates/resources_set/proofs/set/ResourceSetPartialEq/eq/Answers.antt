@@ -1,6 +1,6 @@
 use Rattle.std.proofs.Common.{rules}
 use Rattle.std.specs.Prelude.{◌≡◌, ◌↔◌, IsTrue}
-use Rattle.resources_chain.specs.Same.{runs_eq}
+use Rattle.resources_set.specs.resources_chain.Same.{runs_eq}
 use Rattle.resources_set.specs.Resources.{AreSame}
 use Rattle.resources_set.proofs.Together.{each_tells, each_value, same_as}
 use Rattle.resources_set.proofs.set.ResourceSetPartialEq.eq.Goals as goal

@@ -1,6 +1,6 @@
 use Rattle.std.proofs.Common.{sym, subst}
 use Rattle.std.specs.declared.convert.Infallible.{Infallible}
-use Rattle.bcder_tree.specs.declared.mode.Mode.TheVariants.{Der}
+use Rattle.rpki_bundle.specs.bcder_tree.declared.mode.Mode.TheVariants.{Der}
 use Rattle.rpki_bundle.specs.Bundle.{BundleValue, BundleText}
 use Rattle.rpki_bundle.specs.Grammars.{IsBundleAlone}
 use Rattle.rpki_bundle.specs.PartFields.{parts_alone}

@@ -1,6 +1,6 @@
-use Rattle.bcder_content.proofs.Inside.{exact_opt}
+use Rattle.rpki_bundle.proofs.of_bcder_content.Inside.{exact_opt}
 use Rattle.rpki_bundle.specs.Grammars.{locator_fields, as_locator, IsLocatorBody}
-use Rattle.bcder_content.proofs.Modes.{all_in}
+use Rattle.rpki_bundle.proofs.of_bcder_content.Modes.{all_in}
 use Rattle.rpki_bundle.proofs.Reading.{opt_meaning}
 use Rattle.rpki_bundle.proofs.forms.LocatorEntry.take_opt.Goals as goal
 

@@ -1,6 +1,6 @@
-use Rattle.bcder_content.proofs.Inside.{exact_opt}
+use Rattle.rpki_bundle.proofs.of_bcder_content.Inside.{exact_opt}
 use Rattle.rpki_bundle.specs.Grammars.{object_fields, as_object, IsObjectBody}
-use Rattle.bcder_content.proofs.Modes.{all_in}
+use Rattle.rpki_bundle.proofs.of_bcder_content.Modes.{all_in}
 use Rattle.rpki_bundle.proofs.Reading.{opt_meaning}
 use Rattle.rpki_bundle.proofs.forms.ObjectEntry.take_opt.Goals as goal
 

@@ -1,4 +1,4 @@
-use Rattle.bcder_content.proofs.Choices.{gives_same}
+use Rattle.rpki_bundle.proofs.of_bcder_content.Choices.{gives_same}
 use Rattle.rpki_bundle.proofs.forms.VerdictEntry.take_opt.Goals as goal
 
 pub returns-in-Ok-Some : goal.returns-in-Ok-Some

@@ -1,5 +1,5 @@
 use Rattle.std.proofs.Common.{rules}
-use Rattle.rpki_bundle.specs.Bundle.{verdict_row}
+use Rattle.rpki_commands.specs.rpki_bundle.Bundle.{verdict_row}
 use Rattle.rpki_commands.proofs.Sorting.{sorted_on}
 use Rattle.rpki_commands.proofs.folder.parts.sorted_verdicts.Goals as goal
 

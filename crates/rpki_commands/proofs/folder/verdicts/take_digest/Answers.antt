@@ -1,5 +1,5 @@
 use Rattle.std.proofs.Common.{◌≡◌, Ok, length, sym, ap, ◌∙◌, subst, arith, length-append}
-use Rattle.bcder_tree.proofs.Unique.{by_length}
+use Rattle.rpki_commands.proofs.of_bcder_tree.Unique.{by_length}
 use Rattle.hex.specs.Hex.{decode_sized}
 use Rattle.rpki_commands.specs.Verdicts.{IsHex}
 use Rattle.rpki_commands.proofs.Hexes.{decoded_from_hex, hex_from_decoded, hex_length}

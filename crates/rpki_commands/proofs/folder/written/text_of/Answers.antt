@@ -1,8 +1,8 @@
 use Rattle.std.proofs.Common.{sym, subst}
-use Rattle.rpki_bundle.specs.Bundle.{BundleText}
-use Rattle.rpki_bundle.specs.declared.error.BundleError.{BundleError}
-use Rattle.rpki_bundle.specs.declared.error.BundleError.TheVariants.{NotABundle, Memory}
-use Rattle.rpki_bundle.specs.Errors.{OnNotABundle}
+use Rattle.rpki_commands.specs.rpki_bundle.Bundle.{BundleText}
+use Rattle.rpki_commands.specs.rpki_bundle.declared.error.BundleError.{BundleError}
+use Rattle.rpki_commands.specs.rpki_bundle.declared.error.BundleError.TheVariants.{NotABundle, Memory}
+use Rattle.rpki_commands.specs.rpki_bundle.Errors.{OnNotABundle}
 use Rattle.rpki_commands.specs.Texts.{TellsNoText}
 use Rattle.rpki_commands.proofs.OneFolder.{one_told}
 use Rattle.rpki_commands.proofs.folder.written.text_of.Goals as goal

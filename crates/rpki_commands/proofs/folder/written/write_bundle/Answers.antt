@@ -1,7 +1,7 @@
 use Rattle.std.proofs.Common.{subst, refl, ℕ, List, Option, Some, None}
 use Rattle.std.specs.Io.KnownBytes.{Appends, Keeps}
 use Rattle.rpki_validator.specs.Streams.{TakesSome}
-use Rattle.rpki_bundle.specs.Errors.{OnNotABundle}
+use Rattle.rpki_commands.specs.rpki_bundle.Errors.{OnNotABundle}
 use Rattle.rpki_commands.specs.Texts.{TellsNoText}
 use Rattle.rpki_commands.proofs.folder.written.write_bundle.Goals as goal
 

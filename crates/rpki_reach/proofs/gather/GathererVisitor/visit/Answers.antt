@@ -1,5 +1,5 @@
 use Rattle.std.proofs.Common.{◌≡◌, ℕ, false, true, List, ap, sym, subst, ◌∙◌}
-use Rattle.rpki_rules.specs.Kinds.{InSet}
+use Rattle.rpki_reach.specs.rpki_rules.Kinds.{InSet}
 use Rattle.rpki_walk.specs.Facts.{ReachedBy, Gains}
 use Rattle.rpki_reach.specs.Gathered.{has_gathered, IsReaches}
 use Rattle.rpki_reach.specs.Naming.{names_any}

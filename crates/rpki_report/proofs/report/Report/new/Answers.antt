@@ -1,10 +1,9 @@
-use Rattle.std.proofs.Common.{◌≡◌, List, map, refl, sym, subst, ◌∙◌}
+use Rattle.std.proofs.Common.{List, map, refl, sym, subst}
 use Rattle.std.specs.List.Sorted.{IsStrictlySortedBy}
-use Rattle.rpki_rules.specs.Attests.{Provision as ProvisionValue}
 use Rattle.rpki_rules.specs.Words.{Mem}
 use Rattle.rpki_rules.specs.Lines.{refusal_cmp}
 use Rattle.rpki_report.specs.declared.customer.Provision.{Provision}
-use Rattle.rpki_report.specs.Views.{origin_of, provision_of, customer_of, refusal_of, trace_of, provision_cmp, trace_cmp}
+use Rattle.rpki_report.specs.Views.{provision_of, customer_of, refusal_of, trace_of, provision_cmp, trace_cmp}
 use Rattle.rpki_report.specs.Report.{AreCustomersOf}
 use Rattle.rpki_report.proofs.Sets.{set_of, set_of_origins, one_provision, one_refusal, one_trace}
 use Rattle.rpki_report.proofs.Groups.{customers_to}

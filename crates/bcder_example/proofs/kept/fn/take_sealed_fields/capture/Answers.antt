@@ -1,5 +1,5 @@
 use Rattle.bcder_example.specs.Sealed.{no_value}
-use Rattle.bcder_content.proofs.Choices.{stop_value, as_gives, as_lacks}
+use Rattle.bcder_example.proofs.of_bcder_content.Choices.{stop_value, as_gives, as_lacks}
 use Rattle.bcder_example.proofs.kept.fn.take_sealed_fields.capture.Goals as goal
 
 pub returns-in_err-take_version : goal.returns-in_err-take_version

@@ -1,7 +1,7 @@
 use Rattle.std.proofs.Common.{◌∙◌}
-use Rattle.bcder_content.proofs.Forests.{list_next, list_end, list_stop, there, absent}
-use Rattle.bcder_content.proofs.Taking.{weaker}
-use Rattle.bcder_content.proofs.Modes.{mode_behind, gives_in, lacks_tagged_in}
+use Rattle.rpki_bundle.proofs.of_bcder_content.Forests.{list_next, list_end, list_stop, there, absent}
+use Rattle.rpki_bundle.proofs.of_bcder_content.Taking.{weaker}
+use Rattle.rpki_bundle.proofs.of_bcder_content.Modes.{mode_behind, gives_in, lacks_tagged_in}
 use Rattle.rpki_bundle.proofs.entries.fn.take_list.take_sequence.Goals as goal
 
 pub returns-in_err-entry : goal.returns-in_err-entry

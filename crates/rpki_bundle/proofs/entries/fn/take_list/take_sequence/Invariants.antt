@@ -1,7 +1,7 @@
 use Rattle.std.proofs.Common.{◌≡◌, length}
-use Rattle.bcder_content.specs.Grammar.{Many}
-use Rattle.bcder_content.specs.Here.{here}
-use Rattle.bcder_content.proofs.Forests.{Listing}
+use Rattle.rpki_bundle.specs.bcder_content.Grammar.{Many}
+use Rattle.rpki_bundle.specs.bcder_content.Here.{here}
+use Rattle.rpki_bundle.proofs.of_bcder_content.Forests.{Listing}
 use Rattle.rpki_bundle.proofs.entries.fn.take_list.take_sequence.Given as goal
 
 abbrev pub invariant-loop-entries : goal.invariant-loop-entries

@@ -1,4 +1,4 @@
-use Rattle.bcder_content.proofs.Forests.{begin, next, stop, done}
+use Rattle.rpki_bundle.proofs.of_bcder_content.Forests.{begin, next, stop, done}
 use Rattle.rpki_bundle.proofs.forms.fn.take_words.take_opt_sequence.Goals as goal
 
 pub returns-in_err-key : goal.returns-in_err-key

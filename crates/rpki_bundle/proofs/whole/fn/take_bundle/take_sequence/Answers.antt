@@ -1,12 +1,12 @@
 use Rattle.std.proofs.Common.{List, ◌∙◌}
-use Rattle.bcder_tree.specs.declared.mode.Mode.{Mode}
-use Rattle.bcder_tree.specs.Tree.{Tree}
-use Rattle.bcder_content.proofs.Forests.{begin, next, stop, done}
-use Rattle.bcder_content.proofs.Taking.{weaker}
+use Rattle.rpki_bundle.specs.bcder_tree.declared.mode.Mode.{Mode}
+use Rattle.rpki_bundle.specs.bcder_tree.Tree.{Tree}
+use Rattle.rpki_bundle.proofs.of_bcder_content.Forests.{begin, next, stop, done}
+use Rattle.rpki_bundle.proofs.of_bcder_content.Taking.{weaker}
 use Rattle.rpki_bundle.specs.declared.parts.Locator.{Locator}
 use Rattle.rpki_bundle.specs.declared.parts.Object.{Object}
 use Rattle.rpki_bundle.specs.Grammars.{AreRows, IsLocatorRow, IsObjectRow}
-use Rattle.bcder_content.proofs.Modes.{mode_behind, gives_in, lacks_in}
+use Rattle.rpki_bundle.proofs.of_bcder_content.Modes.{mode_behind, gives_in, lacks_in}
 use Rattle.rpki_bundle.proofs.whole.fn.take_bundle.take_sequence.Goals as goal
 
 abbrev locators : Mode → Tree → List Locator → Type 0

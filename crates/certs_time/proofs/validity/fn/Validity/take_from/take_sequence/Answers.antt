@@ -1,5 +1,5 @@
-use Rattle.bcder_content.proofs.Forests.{begin, done, next, stop}
-use Rattle.bcder_content.proofs.Passing.{no_memory_passed}
+use Rattle.certs_time.proofs.of_bcder_content.Forests.{begin, done, next, stop}
+use Rattle.certs_time.proofs.of_bcder_content.Passing.{no_memory_passed}
 use Rattle.certs_time.proofs.validity.fn.Validity.take_from.take_sequence.Goals as goal
 
 pub returns-in_err-not_before : goal.returns-in_err-not_before

@@ -1,5 +1,5 @@
-use Rattle.bcder_content.proofs.Forests.{begin, next, stop, done}
-use Rattle.bcder_content.proofs.Inside.{exact_each}
+use Rattle.resources_as.proofs.of_bcder_content.Forests.{begin, next, stop, done}
+use Rattle.resources_as.proofs.of_bcder_content.Inside.{exact_each}
 use Rattle.resources_as.proofs.resources.fn.AsResources.take_from.take_sequence.Goals as goal
 
 pub returns-in_err-choice : goal.returns-in_err-choice

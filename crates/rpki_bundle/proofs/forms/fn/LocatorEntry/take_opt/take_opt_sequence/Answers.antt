@@ -1,7 +1,7 @@
-use Rattle.bcder_tree.specs.Strings.{IsOctetString}
-use Rattle.bcder_content.proofs.Forests.{begin, next, stop, done}
-use Rattle.bcder_content.proofs.Taking.{weaker}
-use Rattle.bcder_content.proofs.Modes.{mode_behind, gives_in, lacks_in}
+use Rattle.rpki_bundle.specs.bcder_tree.Strings.{IsOctetString}
+use Rattle.rpki_bundle.proofs.of_bcder_content.Forests.{begin, next, stop, done}
+use Rattle.rpki_bundle.proofs.of_bcder_content.Taking.{weaker}
+use Rattle.rpki_bundle.proofs.of_bcder_content.Modes.{mode_behind, gives_in, lacks_in}
 use Rattle.rpki_bundle.proofs.forms.fn.LocatorEntry.take_opt.take_opt_sequence.Goals as goal
 
 pub returns-in_err-name : goal.returns-in_err-name

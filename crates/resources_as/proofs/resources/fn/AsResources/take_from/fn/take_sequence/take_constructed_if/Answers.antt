@@ -1,4 +1,4 @@
-use Rattle.bcder_content.proofs.Forests.{begin, next, stop, done}
+use Rattle.resources_as.proofs.of_bcder_content.Forests.{begin, next, stop, done}
 use Rattle.resources_as.proofs.resources.fn.AsResources.take_from.fn.take_sequence.take_constructed_if.Goals as goal
 
 pub returns-in_err-choice : goal.returns-in_err-choice

@@ -1,0 +1,22 @@
+-- Lemmas of bcder_content, for the crates above.
+pub use Rattle.bcder_content.proofs.Choices
+pub use Rattle.bcder_content.proofs.Choosing
+pub use Rattle.bcder_content.proofs.Decoding
+pub use Rattle.bcder_content.proofs.Forests
+pub use Rattle.bcder_content.proofs.Fronts
+pub use Rattle.bcder_content.proofs.Gathering
+pub use Rattle.bcder_content.proofs.InMode
+pub use Rattle.bcder_content.proofs.Inside
+pub use Rattle.bcder_content.proofs.Keeping
+pub use Rattle.bcder_content.proofs.Kept
+pub use Rattle.bcder_content.proofs.KeptOne
+pub use Rattle.bcder_content.proofs.Meaning
+pub use Rattle.bcder_content.proofs.Modes
+pub use Rattle.bcder_content.proofs.Passing
+pub use Rattle.bcder_content.proofs.Perhaps
+pub use Rattle.bcder_content.proofs.Simple
+pub use Rattle.bcder_content.proofs.Tagged
+pub use Rattle.bcder_content.proofs.Taking
+pub use Rattle.bcder_content.proofs.Took
+pub use Rattle.bcder_content.proofs.Unique
+pub use Rattle.bcder_content.proofs.Within

@@ -1,0 +1,2 @@
+-- Lemmas of bcder_strings, for the crates above.
+pub use Rattle.bcder_strings.proofs.Texts

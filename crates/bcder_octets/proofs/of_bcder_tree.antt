@@ -1,0 +1,4 @@
+-- Lemmas of bcder_tree, for the crates above.
+pub use Rattle.bcder_values.proofs.of_bcder_tree.Modes
+pub use Rattle.bcder_values.proofs.of_bcder_tree.Parts
+pub use Rattle.bcder_values.proofs.of_bcder_tree.Slices

@@ -1,0 +1,3 @@
+pub mod Wholes
+pub mod Wants
+pub mod of_bcder_primitive

@@ -1,0 +1,4 @@
+pub mod OneRsync
+pub mod of_bcder_content
+pub mod of_bcder_octets
+pub mod of_bcder_strings

@@ -1,0 +1,9 @@
+pub mod Names
+pub mod Grammars
+pub mod Seen
+-- What stands below, for the crates above.
+pub use Rattle.certs_basics.specs.bcder_chars as bcder_chars
+pub use Rattle.certs_basics.specs.bcder_content as bcder_content
+pub use Rattle.certs_basics.specs.bcder_oid as bcder_oid
+pub use Rattle.certs_basics.specs.bcder_strings as bcder_strings
+pub use Rattle.certs_basics.specs.bcder_tree as bcder_tree

@@ -1,0 +1,11 @@
+pub mod Meanings
+pub mod Written
+pub mod of_bcder_bits
+pub mod of_bcder_chars
+pub mod of_bcder_content
+pub mod of_bcder_octets
+pub mod of_bcder_oid
+pub mod of_bcder_source
+pub mod of_bcder_tree
+pub mod of_bcder_values
+pub mod of_certs_basics

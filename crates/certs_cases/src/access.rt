@@ -1,0 +1,48 @@
+//! Questions about extensions that name URIs: which, the mode, and octets in hexadecimal digits, at whose front the
+//! value stands.
+
+use crate::bcder::Mode;
+use crate::bcder::decode::{Decode, DecodeError};
+use crate::certs_uri::Rsync;
+use anyhow::{Result, anyhow};
+use certs_access::{take_authority_access, take_crl_distribution};
+use std::alloc::Global;
+use std::convert::Infallible;
+
+// The mode of a word.
+fn mode(word: &str) -> Mode {
+    match word {
+        "ber" => Mode::Ber,
+        "cer" => Mode::Cer,
+        _ => Mode::Der,
+    }
+}
+
+// What is told of an extension that was read or refused.
+fn told(alloc: Global, read: Result<Rsync, DecodeError<Infallible>>) -> Result<String> {
+    match read {
+        Ok(uri) => Ok(format!(in alloc; "{uri}")?),
+        Err(DecodeError::Memory) => Err(anyhow!("out of memory")),
+        Err(_) => Err(anyhow!("another value")),
+    }
+}
+
+/// The answer to a question.
+pub fn answer(alloc: Global, words: &[&str]) -> Result<String> {
+    let [kind, word, digits] = words else {
+        return Err(anyhow!("no such question"));
+    };
+    let octets = hex::decode(alloc, *digits)?;
+    let mode = mode(*word);
+    match *kind {
+        "crl" => told(
+            alloc,
+            mode.decode(octets.as_slice(), |cons| take_crl_distribution(alloc, cons)),
+        ),
+        "authority" => told(
+            alloc,
+            mode.decode(octets.as_slice(), |cons| take_authority_access(alloc, cons)),
+        ),
+        _ => Err(anyhow!("no such extension")),
+    }
+}

@@ -1,0 +1,10 @@
+-- How causes are told.
+use Rattle.certs_errors.specs.certs_time.declared.error.ValidityError.{ValidityError}
+use Rattle.certs_errors.specs.certs_time.declared.error.ValidityError.TheVariants as validity
+use Rattle.certs_errors.specs.declared.verification.VerificationError.{VerificationError}
+use Rattle.certs_errors.specs.declared.verification.VerificationError.TheVariants.{NotYetValid, Expired}
+
+-- Outside a validity: before it, or behind it.
+abbrev pub of_validity : ValidityError → VerificationError
+of_validity validity.NotYetValid = NotYetValid
+of_validity validity.Expired = Expired

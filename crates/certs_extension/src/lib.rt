@@ -1,0 +1,23 @@
+//! Extensions of certificates (RFC 5280 4.2, RFC 6487 4.8): one extension by its octets, the rule by which its value is
+//! read once, and the values that name neither a URI nor resources.
+//!
+//! Extensions are values within the octets of an OCTET STRING, in DER whatever the mode around them. They are read from
+//! the front of these octets; what is behind the value isn't looked at.
+#![tactic(auto)]
+
+pub mod constraints;
+pub mod error;
+pub mod extension;
+pub mod identifiers;
+pub mod policies;
+pub mod put;
+pub mod usage;
+
+pub use certs_specs::{bcder, resources};
+pub use constraints::take_basic_constraints;
+pub use error::ExtensionError;
+pub use extension::Extension;
+pub use identifiers::take_authority_key_identifier;
+pub use policies::take_policies;
+pub use put::{Need, put_once, skip_unknown};
+pub use usage::take_key_usage;

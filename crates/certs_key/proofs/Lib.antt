@@ -1,0 +1,13 @@
+pub mod Encodings
+pub mod Identifying
+pub mod Formats
+pub mod of_bcder_bits
+pub mod of_bcder_chars
+pub mod of_bcder_content
+pub mod of_bcder_octets
+pub mod of_bcder_oid
+pub mod of_bcder_source
+pub mod of_bcder_tree
+pub mod of_bcder_values
+pub mod of_certs_algorithm
+pub mod of_certs_basics

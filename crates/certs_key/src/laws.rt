@@ -1,0 +1,41 @@
+//! Laws of keys: the contracts of functions that do nothing.
+
+ghost use Rattle.std.specs.Prelude.{◌≡◌, ◌↔◌, ℕ, List, IsTrue};
+ghost use Rattle.std.specs.declared.cmp.Ordering.TheVariants.{Equal};
+ghost use Rattle.certs_key.specs.bcder_tree.declared.mode.Mode.{Mode as ModeValue};
+ghost use Rattle.certs_key.specs.bcder_tree.declared.mode.Mode.TheVariants.{Der};
+ghost use Rattle.certs_key.specs.bcder_content.Grammar.{End, One, Then};
+ghost use Rattle.certs_key.specs.bcder_values.Returns.{ReadAgain};
+ghost use Rattle.certs_key.specs.certs_basics.Keys.{Encodes, HasEncoding, IsKey, KeyValue, encoded};
+ghost use Rattle.certs_key.specs.Forms.{key};
+
+use crate::identifier::KeyIdentifier;
+use std::hash::Hash;
+
+/// Identifiers are equal where their octets are; order and hash agree with that.
+pub fn identifier_equality()
+    ensures octets { (a b : List ℕ) → IsTrue (⟦<KeyIdentifier as PartialEq>⟧.eq a b) ↔ (a ≡ b) }
+    ensures order { (a b : List ℕ) → (⟦<KeyIdentifier as Ord>⟧.cmp a b ≡ Equal) ↔ (a ≡ b) }
+    ensures hash { (a b : List ℕ) → IsTrue (⟦<KeyIdentifier as PartialEq>⟧.eq a b)
+        → ⟦<KeyIdentifier as Hash>⟧.hash_input a ≡ ⟦<KeyIdentifier as Hash>⟧.hash_input b }
+{}
+
+/// A value is one key at most.
+pub fn one_meaning()
+    ensures { (m : ModeValue) → One (IsKey m) }
+{}
+
+/// A key that is written is read again, as the only value, with the padding that the mode has.
+pub fn what_is_written_is_read()
+    ensures { (k : KeyValue) (m : ModeValue) (text : List ℕ) → HasEncoding k
+        → key.writes k m text
+        → ReadAgain m (λ ts. Then (IsKey m) End ts (key.again m k, tt)) text }
+{}
+
+/// The encoded octets are the DER of the key, and no others are; they are what is written of the key in DER.
+pub fn encoded_is_der()
+    ensures is { (k : KeyValue) → HasEncoding k → Encodes k (encoded k) }
+    ensures alone { (k : KeyValue) (octets : List ℕ) → Encodes k octets → octets ≡ encoded k }
+    ensures written { (k : KeyValue) (octets : List ℕ)
+        → key.writes k Der octets → octets ≡ encoded k }
+{}

@@ -1,0 +1,13 @@
+pub mod Numbers
+pub mod Readings
+pub mod Ones
+pub mod Names
+pub mod Wholes
+pub mod Sightings
+pub mod Inspecting
+pub mod KeyNames
+pub mod of_bcder_content
+pub mod of_bcder_number
+pub mod of_bcder_primitive
+pub mod of_bcder_tree
+pub mod of_bcder_values

@@ -1,0 +1,3 @@
+-- Lemmas of bcder_tree, for the crates above.
+pub use Rattle.certs_basics.proofs.of_bcder_tree.Fronts
+pub use Rattle.certs_basics.proofs.of_bcder_tree.Trees

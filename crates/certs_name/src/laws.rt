@@ -1,0 +1,33 @@
+//! Laws of serial numbers and names: the contracts of functions that do nothing.
+
+ghost use Rattle.std.specs.Prelude.{◌≡◌, ◌↔◌, ◌<◌, ◌^◌, ℕ, List};
+ghost use Rattle.std.specs.declared.cmp.Ordering.TheVariants.{Equal};
+ghost use Rattle.certs_name.specs.bcder_tree.declared.mode.Mode.{Mode as ModeValue};
+ghost use Rattle.certs_name.specs.bcder_tree.Tags.{universal};
+ghost use Rattle.certs_name.specs.bcder_content.Grammar.{End, One, Then};
+ghost use Rattle.certs_name.specs.bcder_number.Integers.{IsNatural};
+ghost use Rattle.certs_name.specs.bcder_written.Encoded.{WritesPlain};
+ghost use Rattle.certs_name.specs.bcder_values.Returns.{ReadAgain};
+ghost use Rattle.certs_basics.specs.Basics.{IsSerial};
+
+use crate::serial::Serial;
+use std::hash::Hash;
+
+/// The order of serial numbers agrees with their equality, and so do hashes.
+pub fn order_and_hash_agree_with_equality()
+    ensures order { (a b : ℕ) → (⟦<Serial as Ord>⟧.cmp a b ≡ Equal) ↔ (a ≡ b) }
+    ensures hash { (a b : ℕ) → a ≡ b
+        → ⟦<Serial as Hash>⟧.hash_input a ≡ ⟦<Serial as Hash>⟧.hash_input b }
+{}
+
+/// A value is one serial number at most.
+pub fn one_serial()
+    ensures { One IsSerial }
+{}
+
+/// What is written of a serial number is read again as that number, in each mode.
+pub fn serials_are_read_again()
+    ensures { (n : ℕ) (m : ModeValue) (text : List ℕ) → n < 2 ^ 160
+        → WritesPlain m (universal 2) (λ content. IsNatural content n) text
+        → ReadAgain m (λ ts. Then IsSerial End ts (n, tt)) text }
+{}

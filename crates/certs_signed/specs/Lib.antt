@@ -1,0 +1,12 @@
+pub mod Signed
+pub mod Took
+-- What stands below, for the crates above.
+pub use Rattle.certs_key.specs.bcder as bcder
+pub use Rattle.certs_key.specs.bcder_bits as bcder_bits
+pub use Rattle.certs_key.specs.bcder_content as bcder_content
+pub use Rattle.certs_key.specs.bcder_header as bcder_header
+pub use Rattle.certs_key.specs.bcder_source as bcder_source
+pub use Rattle.certs_key.specs.bcder_tree as bcder_tree
+pub use Rattle.certs_key.specs.bcder_values as bcder_values
+pub use Rattle.certs_key.specs.certs_algorithm as certs_algorithm
+pub use Rattle.certs_key.specs.certs_basics as certs_basics

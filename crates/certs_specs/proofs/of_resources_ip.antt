@@ -1,0 +1,3 @@
+-- Lemmas of resources_ip, for the crates above.
+pub use Rattle.resources.proofs.of_resources_ip.Meaning
+pub use Rattle.resources.proofs.of_resources_ip.Mentioned

@@ -1,0 +1,4 @@
+-- Lemmas of resources_chain, for the crates above.
+pub use Rattle.resources_as_block.proofs.of_resources_chain.ClaimLemmas
+pub use Rattle.resources_as_block.proofs.of_resources_chain.CutLemmas
+pub use Rattle.resources_as_block.proofs.of_resources_chain.SetLemmas

@@ -1,0 +1,11 @@
+-- Lemmas of bcder_content, for the crates above.
+pub use Rattle.bcder.proofs.of_bcder_content.Choices
+pub use Rattle.bcder.proofs.of_bcder_content.Forests
+pub use Rattle.bcder.proofs.of_bcder_content.Inside
+pub use Rattle.bcder.proofs.of_bcder_content.Modes
+pub use Rattle.bcder.proofs.of_bcder_content.Perhaps
+pub use Rattle.bcder.proofs.of_bcder_content.Tagged
+pub use Rattle.bcder.proofs.of_bcder_content.Taking
+pub use Rattle.bcder.proofs.of_bcder_content.Took
+pub use Rattle.bcder.proofs.of_bcder_content.Unique
+pub use Rattle.bcder.proofs.of_bcder_content.Within

@@ -1,0 +1,8 @@
+-- Lemmas of bcder_content, for the crates above.
+pub use Rattle.certs_key.proofs.of_bcder_content.Choices
+pub use Rattle.certs_key.proofs.of_bcder_content.Forests
+pub use Rattle.certs_key.proofs.of_bcder_content.Inside
+pub use Rattle.certs_key.proofs.of_bcder_content.Modes
+pub use Rattle.certs_key.proofs.of_bcder_content.Taking
+pub use Rattle.certs_key.proofs.of_bcder_content.Took
+pub use Rattle.certs_key.proofs.of_bcder_content.Unique

@@ -1,0 +1,2 @@
+-- Lemmas of rpki_report, for the crates above.
+pub use Rattle.rpki_walk.proofs.of_rpki_report.Lists

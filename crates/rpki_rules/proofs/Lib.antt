@@ -1,0 +1,5 @@
+pub mod Readings
+pub mod Fronts
+pub mod of_bcder_tree
+pub mod of_certs_uri
+pub mod of_objects_forms

@@ -1,0 +1,3 @@
+-- Lemmas of rpki_bundle, for the crates above.
+pub use Rattle.rpki_bundle.proofs.OneBundle
+pub use Rattle.rpki_bundle.proofs.Orders

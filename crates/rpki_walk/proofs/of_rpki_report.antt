@@ -1,0 +1,2 @@
+-- Lemmas of rpki_report, for the crates above.
+pub use Rattle.rpki_report.proofs.Lists
