@@ -28,7 +28,7 @@ mod walks;
 mod writing;
 
 use anyhow::{Result, anyhow};
-use bcder::{Mode, bcder_source};
+use bcder::Mode;
 use std::alloc::Global;
 
 /// The mode of a word.

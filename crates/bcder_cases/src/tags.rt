@@ -1,9 +1,9 @@
 //! Tags and lengths, and the octets of both.
 
 use crate::answers::{Answer, digits, shown};
-use crate::bcder_source::Length;
 use anyhow::{Result, anyhow};
 use bcder::Tag;
+use bcder::bcder_source::Length;
 use std::alloc::Global;
 
 // The tags that have names.

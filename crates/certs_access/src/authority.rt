@@ -7,9 +7,9 @@ ghost use Rattle.certs_access.specs.bcder_content.Here.{here};
 ghost use Rattle.certs_access.specs.bcder_content.InMode.{ReadsFields};
 ghost use Rattle.certs_access.specs.Grammars.{IsAuthority, IsIssuer, IsIssuerBody, issuer_fields, one_field};
 
-use crate::bcder::decode::{Constructed, DecodeError, Source};
-use crate::bcder::{ConstOid, Oid};
 use crate::names::take_one_rsync;
+use bcder::decode::{Constructed, DecodeError, Source};
+use bcder::{ConstOid, Oid};
 use certs_uri::Rsync;
 use std::alloc::Global;
 

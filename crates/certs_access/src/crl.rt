@@ -7,9 +7,9 @@ ghost use Rattle.certs_access.specs.bcder_content.Here.{here};
 ghost use Rattle.certs_access.specs.bcder_content.InMode.{ReadsFields};
 ghost use Rattle.certs_access.specs.Grammars.{HaveOneRsync, IsDistribution, IsFullName, IsPoint, IsPointName, one_field};
 
-use crate::bcder::Tag;
-use crate::bcder::decode::{Constructed, DecodeError, Source};
 use crate::names::take_one_rsync;
+use bcder::Tag;
+use bcder::decode::{Constructed, DecodeError, Source};
 use certs_uri::Rsync;
 use std::alloc::Global;
 

@@ -10,6 +10,4 @@ pub mod crl;
 mod names;
 
 pub use authority::take_authority_access;
-pub use certs_basics::bcder;
-pub use certs_uri;
 pub use crl::take_crl_distribution;

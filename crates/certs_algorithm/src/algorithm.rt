@@ -15,10 +15,10 @@ ghost use Rattle.certs_algorithm.specs.Algorithms.{IsAlgorithmOf, NamesSignature
 ghost use Rattle.certs_basics.specs.Basics.{IsAlgorithm};
 ghost use Rattle.certs_basics.specs.Identifiers.{rsa_encryption, sha256_with_rsa};
 
-use crate::bcder::decode::{Constructed, ContentError, DecodeError, Primitive, Source};
-use crate::bcder::{ConstOid, Tag};
 use crate::identifier::AlgorithmIdentifier;
 use crate::oid::{RSA_ENCRYPTION, SHA256_WITH_RSA_ENCRYPTION};
+use bcder::decode::{Constructed, ContentError, DecodeError, Primitive, Source};
+use bcder::{ConstOid, Tag};
 use std::marker::Model;
 
 /// An algorithm by which certificates and lists are signed.

@@ -10,10 +10,10 @@ ghost use Rattle.certs_algorithm.specs.bcder_content.InMode.{ReadsFields};
 ghost use Rattle.certs_algorithm.specs.Algorithms.{AreDigestAlgorithms, AreFields, IsDigestAlgorithm};
 ghost use Rattle.certs_algorithm.specs.Algorithms.{sha256, fields_of};
 
-use crate::bcder::decode::{Constructed, DecodeError, Source};
-use crate::bcder::{Tag, encode};
 use crate::identifier::AlgorithmIdentifier;
 use crate::oid::SHA256;
+use bcder::decode::{Constructed, DecodeError, Source};
+use bcder::{Tag, encode};
 
 /// The algorithm of digests in RPKI, which is SHA-256.
 #[derive(Clone, Copy, Debug, Default, PartialEq, Eq, Hash)]

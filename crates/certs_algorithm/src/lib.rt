@@ -16,8 +16,6 @@ pub mod oid;
 pub mod signature;
 
 pub use algorithm::{RpkiSignatureAlgorithm, SignatureAlgorithm};
-pub use certs_basics;
-pub use certs_basics::bcder;
 pub use digest::DigestAlgorithm;
 pub use identifier::AlgorithmIdentifier;
 pub use signature::{RpkiSignature, Signature};

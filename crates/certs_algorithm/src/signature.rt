@@ -3,7 +3,7 @@
 ghost use Rattle.std.specs.Prelude.{◌≡◌, IfOk};
 
 use crate::algorithm::RpkiSignatureAlgorithm;
-use crate::bcder::BitString;
+use bcder::BitString;
 use bytes::Bytes;
 use std::alloc::AllocError;
 use std::marker::Model;

@@ -1,9 +1,6 @@
 //! Definitions of names, keys, algorithms and identifiers, which certificates, revocation lists and signed objects share.
 #![tactic(auto)]
 
-pub use bcder;
-pub use bcder::{bcder_primitive, bcder_written};
-
 /// The format of a public key (RFC 7935 3, RFC 8608 3.1).
 #[derive(Clone, Copy, Debug, PartialEq, Eq)]
 pub enum PublicKeyFormat {

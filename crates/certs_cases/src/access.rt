@@ -1,11 +1,11 @@
 //! Questions about extensions that name URIs: which, the mode, and octets in hexadecimal digits, at whose front the
 //! value stands.
 
-use crate::bcder::Mode;
-use crate::bcder::decode::{Decode, DecodeError};
-use crate::certs_uri::Rsync;
 use anyhow::{Result, anyhow};
+use bcder::Mode;
+use bcder::decode::{Decode, DecodeError};
 use certs_access::{take_authority_access, take_crl_distribution};
+use certs_uri::Rsync;
 use std::alloc::Global;
 use std::convert::Infallible;
 

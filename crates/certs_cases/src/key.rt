@@ -3,12 +3,12 @@
 ghost use Rattle.sha1.specs.Sha1.{sha1 as sha1_of};
 ghost use Rattle.sha2.specs.Sha256.{sha256 as sha256_of};
 
-use crate::bcder::decode::{Constructed, ContentError, Decode, DecodeError, Source};
-use crate::bcder::encode::Values;
-use crate::bcder::{Mode, Tag};
-use crate::certs_key::{Digester, KeyIdentifier, PublicKey};
 use anyhow::{Result, anyhow};
+use bcder::decode::{Constructed, ContentError, Decode, DecodeError, Source};
+use bcder::encode::Values;
+use bcder::{Mode, Tag};
 use bytes::Bytes;
+use certs_key::{Digester, KeyIdentifier, PublicKey};
 use sha1::Sha1;
 use sha2::{Digest, Sha256};
 use std::alloc::Global;

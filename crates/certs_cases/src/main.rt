@@ -10,8 +10,6 @@ mod signed;
 mod uri;
 
 use anyhow::{Result, anyhow};
-use certs_access::certs_uri;
-use certs_signed::{bcder, certs_algorithm, certs_key};
 use std::alloc::Global;
 
 // The answer to the question of a line.

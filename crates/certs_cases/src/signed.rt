@@ -1,11 +1,11 @@
 //! Questions about algorithms and signed data: what octets begin with, in a mode, and what is written of it.
 
-use crate::bcder::Mode;
-use crate::bcder::decode::Decode;
-use crate::bcder::encode::Values;
-use crate::certs_algorithm::{DigestAlgorithm, RpkiSignatureAlgorithm, SignatureAlgorithm};
 use anyhow::{Result, anyhow};
+use bcder::Mode;
+use bcder::decode::Decode;
+use bcder::encode::Values;
 use bytes::Bytes;
+use certs_algorithm::{DigestAlgorithm, RpkiSignatureAlgorithm, SignatureAlgorithm};
 use certs_signed::SignedData;
 use std::alloc::Global;
 

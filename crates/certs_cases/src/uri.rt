@@ -1,11 +1,11 @@
 //! Questions about URIs: the scheme, what is asked, and texts. A text that begins with `hex:` stands for the octets
 //! of the hexadecimal digits behind that.
 
-use crate::bcder::Mode;
-use crate::bcder::encode::Values;
-use crate::certs_uri::{Https, Rsync};
 use anyhow::{Result, anyhow};
+use bcder::Mode;
+use bcder::encode::Values;
 use bytes::Bytes;
+use certs_uri::{Https, Rsync};
 use std::alloc::Global;
 
 // The octets of a word.

@@ -8,7 +8,6 @@ mod inspection;
 mod validation;
 mod verification;
 
-pub use certs_specs::{certs_time, resources};
 pub use inspection::InspectionError;
 pub use validation::ValidationError;
 pub use verification::{ClaimedKind, Overclaimed, VerificationError};

@@ -2,10 +2,10 @@
 
 ghost use Rattle.std.specs.Prelude.{◌≡◌};
 
-use crate::certs_time::ValidityError;
-use crate::resources::asres::OverclaimedAsResources;
-use crate::resources::ipres::{OverclaimedIpv4Resources, OverclaimedIpv6Resources};
 use certs_signed::SignatureVerificationError;
+use certs_time::ValidityError;
+use resources::asres::OverclaimedAsResources;
+use resources::ipres::{OverclaimedIpv4Resources, OverclaimedIpv6Resources};
 use thiserror::Error;
 
 /// One of the three kinds of number resources.

@@ -9,8 +9,8 @@ ghost use Rattle.certs_extension.specs.bcder_content.Tagged.{ReadsTagged};
 ghost use Rattle.certs_extension.specs.certs_basics.Basics.{IsKeyIdentifier};
 ghost use Rattle.certs_extension.specs.Values.{IsAuthority, IsAuthorityBody, alone};
 
-use crate::bcder::Tag;
-use crate::bcder::decode::{Constructed, DecodeError, Source};
+use bcder::Tag;
+use bcder::decode::{Constructed, DecodeError, Source};
 use certs_key::KeyIdentifier;
 use std::alloc::Global;
 

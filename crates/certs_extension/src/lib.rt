@@ -13,7 +13,6 @@ pub mod policies;
 pub mod put;
 pub mod usage;
 
-pub use certs_specs::{bcder, resources};
 pub use constraints::take_basic_constraints;
 pub use error::ExtensionError;
 pub use extension::Extension;

@@ -7,9 +7,9 @@ ghost use Rattle.certs_extension.specs.bcder_content.InMode.{ReadsFields};
 ghost use Rattle.certs_specs.specs.Extensions.{IsPolicies};
 ghost use Rattle.certs_extension.specs.Values.{ArePoliciesBody, IsPolicy, IsPolicyBody, alone};
 
-use crate::bcder::Oid;
-use crate::bcder::decode::{Constructed, ContentError, DecodeError, Source};
-use crate::resources::overclaim::{Overclaim, OverclaimIds};
+use bcder::Oid;
+use bcder::decode::{Constructed, ContentError, DecodeError, Source};
+use resources::overclaim::{Overclaim, OverclaimIds};
 use std::alloc::Global;
 
 // The identifier of a policy, and anything behind it.

@@ -5,10 +5,10 @@ ghost use Rattle.certs_specs.specs.Extensions.{Meets};
 ghost use Rattle.certs_extension.specs.Putting.{CannotPut, PutsOnce, need_of};
 ghost use Rattle.certs_extension.specs.Raw.{extension_value};
 
-use crate::bcder::Mode;
-use crate::bcder::decode::{Constructed, Decode, DecodeError, SliceSource};
 use crate::error::ExtensionError;
 use crate::extension::Extension;
+use bcder::Mode;
+use bcder::decode::{Constructed, Decode, DecodeError, SliceSource};
 use std::convert::Infallible;
 
 /// Whether an extension has to be critical.

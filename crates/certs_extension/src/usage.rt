@@ -7,8 +7,8 @@ ghost use Rattle.certs_specs.specs.declared.KeyUsage.{KeyUsage as Usage};
 ghost use Rattle.certs_specs.specs.Extensions.{UsageBits};
 ghost use Rattle.certs_extension.specs.Values.{IsUsage};
 
-use crate::bcder::BitString;
-use crate::bcder::decode::{Constructed, ContentError, DecodeError, Source};
+use bcder::BitString;
+use bcder::decode::{Constructed, ContentError, DecodeError, Source};
 use certs_specs::KeyUsage;
 use std::alloc::Global;
 use std::convert::Infallible;

@@ -6,11 +6,11 @@ ghost use Rattle.certs_key.specs.bcder_bits.Bits.{IsBits};
 ghost use Rattle.certs_key.specs.certs_basics.Keys.{HasEncoding, Encodes, kind_of};
 ghost use Rattle.certs_key.specs.Forms.{lends, key_lends, parameters_of, parameters_tag};
 
-use crate::bcder::encode::{Constructed, EncodeError, Octets, Primitive, PrimitiveContent, Values};
-use crate::bcder::{BitString, Mode, Tag};
-use crate::certs_basics::PublicKeyFormat;
 use crate::format::{EC_PUBLIC_KEY, RSA_ENCRYPTION, SECP256R1};
+use bcder::encode::{Constructed, EncodeError, Octets, Primitive, PrimitiveContent, Values};
+use bcder::{BitString, Mode, Tag};
 use bytes::Bytes;
+use certs_basics::PublicKeyFormat;
 use std::alloc::{AllocError, Global};
 
 // A primitive value of a constant.

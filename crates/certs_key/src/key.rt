@@ -13,15 +13,15 @@ ghost use Rattle.certs_key.specs.certs_basics.Keys.{Encodes, HasEncoding, IsKey,
 ghost use Rattle.certs_key.specs.Digesting.{digests_of};
 ghost use Rattle.certs_key.specs.Reading.{AreParts, parts_fields};
 
-use crate::bcder::decode::{Constructed, ContentError, Decode, DecodeError, IntoSource, Source};
-use crate::bcder::encode::{EncodeError, Values};
-use crate::bcder::{BitString, Mode};
-use crate::certs_basics::PublicKeyFormat;
 use crate::digest::Digester;
 use crate::encode::{encoded_of, encoder};
 use crate::format::take_format;
 use crate::identifier::KeyIdentifier;
+use bcder::decode::{Constructed, ContentError, Decode, DecodeError, IntoSource, Source};
+use bcder::encode::{EncodeError, Values};
+use bcder::{BitString, Mode};
 use bytes::Bytes;
+use certs_basics::PublicKeyFormat;
 use certs_name::Name;
 use std::alloc::{AllocError, Global};
 use std::io::Write;

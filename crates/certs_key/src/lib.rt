@@ -15,9 +15,7 @@ pub mod laws;
 pub mod signer;
 pub mod verifier;
 
-pub use crate::certs_basics::PublicKeyFormat;
-pub use certs_algorithm;
-pub use certs_algorithm::{bcder, certs_basics};
+pub use certs_basics::PublicKeyFormat;
 pub use digest::Digester;
 pub use identifier::KeyIdentifier;
 pub use key::PublicKey;

@@ -11,11 +11,11 @@ ghost use Rattle.certs_name.specs.bcder_content.InMode.{ReadsFields};
 ghost use Rattle.certs_name.specs.Inspected.{IsKind, IsPrintableValue, IsSeenAttribute, IsSeenBody, IsTextValue};
 ghost use Rattle.certs_name.specs.Inspected.{IsUnicodeValue, seen_fields};
 
-use crate::bcder::Tag;
-use crate::bcder::decode::{Constructed, DecodeError, Source};
-use crate::bcder::string::{PrintableCharSet, Utf8CharSet};
 use crate::seen::Seen;
 use crate::whole::{skip_text, take_told};
+use bcder::Tag;
+use bcder::decode::{Constructed, DecodeError, Source};
+use bcder::string::{PrintableCharSet, Utf8CharSet};
 
 // Which attribute the identifier is that is next.
 fn take_kind<S: Source>(cons: &mut Constructed<S>) -> Result<Seen, DecodeError<S::Error>>

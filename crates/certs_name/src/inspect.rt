@@ -11,11 +11,11 @@ ghost use Rattle.certs_basics.specs.Names.{IsRpkiName};
 ghost use Rattle.certs_name.specs.Inspected.{AreSeenAttributes, AreSeenRelativeNames, IsSeenName, IsSeenRelativeName};
 
 use crate::attributes::take_opt_attribute;
-use crate::bcder::Mode;
-use crate::bcder::decode::{Constructed, ContentError, Decode, DecodeError, Source};
 use crate::error::InvalidName;
 use crate::name::Name;
 use crate::seen::Seen;
+use bcder::Mode;
+use bcder::decode::{Constructed, ContentError, Decode, DecodeError, Source};
 use std::convert::Infallible;
 
 // The attributes of a relative name, each once at most.

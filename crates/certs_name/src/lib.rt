@@ -20,7 +20,6 @@ mod serial_order;
 mod skim;
 mod whole;
 
-pub use certs_basics::{bcder, bcder_primitive, bcder_written};
 pub use error::InvalidName;
 pub use name::Name;
 pub use serial::Serial;

@@ -14,9 +14,9 @@ ghost use Rattle.certs_basics.specs.Names.{IsKeptName, SpellsName};
 ghost use Rattle.certs_name.specs.AnyNames.{IsAnyName};
 ghost use Rattle.certs_name.specs.Named.{IsNamed};
 
-use crate::bcder::decode::{Constructed, ContentError, DecodeError, Source};
-use crate::bcder::{Captured, Mode};
 use crate::skim::skip_name;
+use bcder::decode::{Constructed, ContentError, DecodeError, Source};
+use bcder::{Captured, Mode};
 use bytes::Bytes;
 use std::alloc::{AllocError, Global};
 use std::convert::Infallible;

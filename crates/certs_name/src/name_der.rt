@@ -6,10 +6,10 @@ ghost use Rattle.certs_name.specs.bcder_tree.Tree.{Spells};
 ghost use Rattle.certs_name.specs.bcder_values.Captures.{CapturedText, CapturedTrees, StandsIn, captured_one, captured_spelled};
 ghost use Rattle.certs_basics.specs.Names.{subject_of};
 
-use crate::bcder::Mode;
-use crate::bcder::encode::{EncodeError, Values};
-use crate::bcder_written::write_octets;
 use crate::name::Name;
+use bcder::Mode;
+use bcder::bcder_written::write_octets;
+use bcder::encode::{EncodeError, Values};
 use std::alloc::{AllocError, Global};
 use std::io::Write;
 

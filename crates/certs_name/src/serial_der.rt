@@ -14,12 +14,12 @@ ghost use Rattle.certs_name.specs.bcder_number.Contents.{one_integer};
 ghost use Rattle.certs_basics.specs.Basics.{IsSerial};
 ghost use Rattle.certs_name.specs.Serials.{IsSerialContent};
 
-use crate::bcder::decode::{Constructed, DecodeError, Source};
-use crate::bcder::encode::{EncodeError, Octets, PrimitiveContent};
-use crate::bcder::{Mode, Tag};
-use crate::bcder_primitive::Primitive;
 use crate::serial::Serial;
 use crate::whole::{Told, take_told};
+use bcder::bcder_primitive::Primitive;
+use bcder::decode::{Constructed, DecodeError, Source};
+use bcder::encode::{EncodeError, Octets, PrimitiveContent};
+use bcder::{Mode, Tag};
 use std::io::Write;
 
 // Whether octets are the content of an INTEGER from 0 up: as few as can be, with the sign clear (8.3.2, 8.3.3).

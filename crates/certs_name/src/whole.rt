@@ -6,9 +6,9 @@ ghost use Rattle.certs_name.specs.bcder_source.declared.error.DecodeError.TheVar
 ghost use Rattle.certs_name.specs.bcder_primitive.Plain.{plain, WholeOctets, ReadsOctetsAs};
 ghost use Rattle.certs_name.specs.Inspected.{IsTextOf};
 
-use crate::bcder::decode::{ContentError, DecodeError, Source};
-use crate::bcder::string::CharSet;
-use crate::bcder_primitive::Primitive;
+use bcder::bcder_primitive::Primitive;
+use bcder::decode::{ContentError, DecodeError, Source};
+use bcder::string::CharSet;
 
 /// What content octets tell, if they tell something.
 pub(crate) trait Told: Drop {

@@ -12,8 +12,6 @@ pub mod signed;
 pub mod verify;
 pub mod written;
 
-pub use certs_key;
-pub use certs_key::{bcder, certs_algorithm};
 pub use signed::SignedData;
 pub use verify::SignatureVerificationError;
 pub use written::SignedDataValues;

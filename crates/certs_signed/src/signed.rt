@@ -14,11 +14,9 @@ ghost use Rattle.certs_signed.specs.Signed.{AreSignedOctets, SpellsSignedData, k
 ghost use Rattle.certs_signed.specs.Signed.{octet_fields, signed, signed_content, signed_fields};
 ghost use Rattle.certs_signed.specs.Took.{TookOctets};
 
-use crate::bcder::decode::{Constructed, ContentError, Decode, DecodeError, IntoSource, Source};
-use crate::bcder::{BitString, Captured, Mode};
-use crate::certs_algorithm::{
-    RpkiSignature, RpkiSignatureAlgorithm, Signature, SignatureAlgorithm,
-};
+use bcder::decode::{Constructed, ContentError, Decode, DecodeError, IntoSource, Source};
+use bcder::{BitString, Captured, Mode};
+use certs_algorithm::{RpkiSignature, RpkiSignatureAlgorithm, Signature, SignatureAlgorithm};
 use std::alloc::Global;
 use std::marker::Model;
 

@@ -3,10 +3,10 @@
 ghost use Rattle.std.specs.Prelude.{◌≡◌};
 ghost use Rattle.certs_signed.specs.Signed.{lends, signed_lends};
 
-use crate::bcder::encode::{self, EncodeError, PrimitiveContent, Values};
-use crate::bcder::{BitString, Captured, Mode, Tag};
-use crate::certs_algorithm::{AlgorithmIdentifier, SignatureAlgorithm};
 use crate::signed::SignedData;
+use bcder::encode::{self, EncodeError, PrimitiveContent, Values};
+use bcder::{BitString, Captured, Mode, Tag};
+use certs_algorithm::{AlgorithmIdentifier, SignatureAlgorithm};
 use std::io::Write;
 use std::marker::Model;
 

@@ -15,7 +15,6 @@ pub mod text;
 pub mod time;
 pub mod validity;
 
-pub use bcder::{bcder_values, bcder_written};
 pub use clock::Clock;
 pub use error::ValidityError;
 pub use text::TimeText;

@@ -6,10 +6,9 @@ ghost use Rattle.certs_time.specs.bcder_tree.Tree.{primitive};
 ghost use Rattle.certs_time.specs.Forms.{IsShortMoment, IsShortYear, Tells, WritesTime, length_of, tag_of, with_century_of};
 ghost use Rattle.certs_time.specs.Times.{Civil, IsMoment, IsReal, moment_text};
 
-use crate::bcder_written as encode;
 use crate::time::Time;
 use bcder::Tag;
-use bcder::encode::Octets;
+use bcder::encode::{self, Octets};
 use std::convert::AsSlice;
 use std::marker::Model;
 

@@ -9,12 +9,11 @@ ghost use Rattle.certs_time.specs.bcder_content.Here.{here};
 ghost use Rattle.certs_time.specs.Forms.{IsValidity, IsValidityBody, WritesTime};
 ghost use Rattle.certs_time.specs.Periods.{IsBetween, IsLater, IsTimeNumber, IsValidAt, as_fields};
 
-use crate::bcder_values as encode;
 use crate::error::ValidityError;
 use crate::text::VariedTime;
 use crate::time::Time;
-use bcder::Tag;
 use bcder::decode::{Constructed, DecodeError, Source};
+use bcder::{Tag, encode};
 use std::marker::Model;
 
 /// From one moment to another, both included.

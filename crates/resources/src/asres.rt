@@ -1,9 +1,6 @@
 //! AS resources: blocks of AS numbers, sets of them, and claims; read and written.
 
-pub use crate::resources_as::{
-    AsBlocks, AsBlocksBuilder, AsResources, AsResourcesBuilder, InheritedAsResources,
-    OverclaimedAsResources,
-};
-pub use crate::resources_as_block::{
-    AsBlock, AsBlockIter, AsBlocksIter, AsRange, AsnIter, FromStrError,
+pub use resources_as::{
+    AsBlock, AsBlockIter, AsBlocks, AsBlocksBuilder, AsBlocksIter, AsRange, AsResources,
+    AsResourcesBuilder, AsnIter, FromStrError, InheritedAsResources, OverclaimedAsResources,
 };

@@ -1,3 +1,3 @@
 //! Blocks of any kind of numbers, and canonical chains of them.
 
-pub use crate::resources_chain::{Block, Chain, OwnedChain, Row, SharedChain, halve};
+pub use resources_chain::{Block, Chain, OwnedChain, Row, SharedChain, halve};

@@ -63,10 +63,4 @@ pub use ipres::{
     OverclaimedIpResources, OverclaimedIpv4Resources, OverclaimedIpv6Resources, Prefix,
 };
 pub use overclaim::{ClaimError, Overclaim, OverclaimIds};
-pub use resources_policy;
-pub use resources_policy::{bcder, resources_chain};
-pub use resources_set::{
-    resources_addr, resources_as, resources_as_block, resources_asn, resources_ip,
-    resources_ip_block, resources_ip_family, resources_ip_prefix,
-};
 pub use set::{InheritError, ResourceDiff, ResourceSet};

@@ -12,11 +12,11 @@ ghost use Rattle.resources_as_block.specs.Blocks.{as_run};
 ghost use Rattle.resources_as_block.specs.Counted.{runs_count};
 ghost use Rattle.resources_as.specs.resources_asn.Listed.{IsListOf};
 
+use crate::Asn;
 use crate::claims::OverclaimedAsResources;
 use crate::resources::{AsResources, InheritedAsResources};
-use crate::resources_asn::Asn;
-use crate::resources_chain::{ClaimError, Overclaim, OwnedChain, SharedChain};
 use resources_as_block::{AsBlock, AsBlocksIter, AsnIter};
+use resources_chain::{ClaimError, Overclaim, OwnedChain, SharedChain};
 use std::alloc::{AllocError, Global};
 use std::marker::Model;
 

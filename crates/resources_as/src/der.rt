@@ -10,9 +10,9 @@ ghost use Rattle.resources_as.specs.resources_chain.Sets.{AreMaximal};
 ghost use Rattle.resources_as_block.specs.Encodings.{IsAsBlock};
 ghost use Rattle.resources_as.specs.Encodings.{AreAsIdentifiers, AreBlocks, IsAsChoice, IsAsResources, IsAsSet, only_choice};
 
-use crate::bcder::Tag;
-use crate::bcder::decode::{Constructed, DecodeError, Source};
 use crate::blocks::{AsBlocks, AsBlocksBuilder};
+use crate::codec::Tag;
+use crate::codec::decode::{Constructed, DecodeError, Source};
 use crate::resources::AsResources;
 use resources_as_block::AsBlock;
 use std::alloc::Global;

@@ -9,15 +9,11 @@ pub mod resources;
 mod text;
 mod write;
 
-pub use crate::resources_asn::{
-    Asn, ParseAsnError, SmallAsnSet, SmallSetDifference, SmallSetIntersection, SmallSetIter,
-    SmallSetSymmetricDifference, SmallSetUnion, asn, small_set,
-};
 pub use blocks::{AsBlocks, AsBlocksBuilder};
 pub use claims::OverclaimedAsResources;
 pub use resources::{AsResources, AsResourcesBuilder, InheritedAsResources};
-pub use resources_as_block;
 pub use resources_as_block::{
-    AsBlock, AsBlockIter, AsBlocksIter, AsRange, AsnIter, FromStrError, bcder, block, error, iter,
-    range, resources_addr, resources_asn, resources_chain,
+    AsBlock, AsBlockIter, AsBlocksIter, AsRange, Asn, AsnIter, FromStrError, Origin, ParseAsnError,
+    SmallAsnSet, SmallSetDifference, SmallSetIntersection, SmallSetIter,
+    SmallSetSymmetricDifference, SmallSetUnion, asn, block, codec, error, iter, range, small_set,
 };

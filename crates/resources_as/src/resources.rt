@@ -8,8 +8,8 @@ ghost use Rattle.resources_as.specs.resources_chain.Claims.{HasMaximal, Lists};
 ghost use Rattle.resources_as.specs.resources_chain.Choices.{listed, IsChoiceOf};
 
 use crate::blocks::{AsBlocks, AsBlocksBuilder};
-use crate::resources_chain::{Claim, InheritedResources, ResourcesChoice, SharedChain};
 use resources_as_block::AsBlock;
+use resources_chain::{Claim, InheritedResources, ResourcesChoice, SharedChain};
 use std::alloc::{AllocError, Global};
 use std::fmt;
 use std::marker::Model;

@@ -5,8 +5,8 @@ ghost use Rattle.resources_as.specs.resources_chain.Sets.{InRuns};
 
 use crate::blocks::{AsBlocks, AsBlocksBuilder};
 use crate::resources::AsResources;
-use crate::resources_chain::cut_piece;
 use resources_as_block::{AsBlock, FromStrError};
+use resources_chain::cut_piece;
 use std::alloc::Global;
 use std::fmt;
 

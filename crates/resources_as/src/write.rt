@@ -9,11 +9,11 @@ ghost use Rattle.resources_as.specs.resources_chain.Sets.{AreMaximal};
 ghost use Rattle.resources_as.specs.resources_chain.declared.choice.ResourcesChoice.TheVariants.{Inherit};
 ghost use Rattle.resources_as.specs.Written.{AreIdentifiers, WritesIdentifiers, AreAsBlocks, WritesAsBlocks, AreAsResources, WritesAsResources, blocks_spelled, blocks_one, resources_spelled, resources_one};
 
-use crate::bcder::encode::{Constructed, EncodeError, Primitive, Values};
-use crate::bcder::{Mode, Tag};
 use crate::blocks::AsBlocks;
+use crate::codec::encode::{Constructed, EncodeError, Primitive, Values};
+use crate::codec::{Mode, Tag};
 use crate::resources::AsResources;
-use crate::resources_chain::ResourcesChoice;
+use resources_chain::ResourcesChoice;
 use std::io::Write;
 
 /// The blocks of the set, bare and ascending: `id` for one number alone, else `range` (RFC 3779 section 3.2.3.4).

@@ -8,8 +8,8 @@ ghost use Rattle.std.specs.Range.{range_inclusive_start, range_inclusive_end};
 ghost use Rattle.resources_as_block.specs.Blocks.{as_run, run_text, HasOneForm};
 
 use crate::range::{AsRange, predecessor, successor};
-use crate::resources_chain::Block;
 use resources_asn::Asn;
+use resources_chain::Block;
 use std::fmt;
 use std::ops::RangeInclusive;
 

@@ -10,8 +10,8 @@ ghost use Rattle.resources_as_block.specs.Blocks.{as_run};
 ghost use Rattle.resources_as_block.specs.Encodings.{AreEnds, AreOrdered, IsAsBlock, IsAsRange, IsAnyAsBlock};
 ghost use Rattle.resources_as_block.specs.Reading.{bounds_ends, range_ends};
 
-use crate::bcder::decode::{Constructed, ContentError, DecodeError, Source};
 use crate::block::AsBlock;
+use crate::codec::decode::{Constructed, ContentError, DecodeError, Source};
 use crate::range::AsRange;
 use resources_asn::Asn;
 

@@ -14,5 +14,7 @@ pub use block::AsBlock;
 pub use error::FromStrError;
 pub use iter::{AsBlockIter, AsBlocksIter, AsnIter};
 pub use range::AsRange;
-pub use resources_asn;
-pub use resources_asn::{bcder, resources_addr, resources_chain};
+pub use resources_asn::{
+    Asn, Origin, ParseAsnError, SmallAsnSet, SmallSetDifference, SmallSetIntersection,
+    SmallSetIter, SmallSetSymmetricDifference, SmallSetUnion, asn, codec, small_set,
+};

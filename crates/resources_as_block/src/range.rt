@@ -4,8 +4,8 @@ ghost use Rattle.std.specs.Prelude.{◌≡◌, ◌+◌, ◌≤◌, ◌++◌, cod
 ghost use Rattle.std.specs.Fmt.{decimal};
 ghost use Rattle.std.specs.Range.{range_inclusive_start, range_inclusive_end};
 
-use crate::resources_chain::Block;
 use resources_asn::Asn;
+use resources_chain::Block;
 use std::fmt;
 use std::marker::Model;
 use std::ops::RangeInclusive;

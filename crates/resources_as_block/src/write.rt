@@ -6,9 +6,9 @@ ghost use Rattle.resources_as_block.specs.Blocks.{as_run};
 ghost use Rattle.resources_as_block.specs.Ranges.{range_run};
 ghost use Rattle.resources_as_block.specs.Written.{AreAsId, WritesAsId, AreIdOrRange, WritesIdOrRange, AreAsRange, WritesAsRange, AreAsBlock, WritesAsBlock, range_spelled, range_one, block_spelled, block_one};
 
-use crate::bcder::encode::{Constructed, EncodeError, Primitive, Values};
-use crate::bcder::{Mode, Tag};
 use crate::block::AsBlock;
+use crate::codec::encode::{Constructed, EncodeError, Primitive, Values};
+use crate::codec::{Mode, Tag};
 use crate::range::AsRange;
 use resources_asn::Asn;
 use std::io::Write;

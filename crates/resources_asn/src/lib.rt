@@ -2,6 +2,7 @@
 #![tactic(auto)]
 
 pub mod asn;
+pub mod codec;
 mod der;
 pub mod laws;
 pub mod origin;
@@ -9,10 +10,7 @@ mod selection;
 pub mod small_set;
 
 pub use asn::{Asn, ParseAsnError};
-pub use bcder;
 pub use origin::Origin;
-pub use resources_addr;
-pub use resources_chain;
 pub use small_set::{
     SmallAsnSet, SmallSetDifference, SmallSetIntersection, SmallSetIter,
     SmallSetSymmetricDifference, SmallSetUnion,

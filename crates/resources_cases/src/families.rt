@@ -1,10 +1,10 @@
 //! Questions about IP resources of both families, as an encoding has them.
 
-use crate::bcder::Mode;
-use crate::bcder::decode::{Decode, DecodeError};
-use crate::bcder::encode::Values;
 use crate::claims::Question;
 use anyhow::{Result, anyhow};
+use bcder::Mode;
+use bcder::decode::{Decode, DecodeError};
+use bcder::encode::Values;
 use resources::ipres::{AddressFamily, IpBlocks, IpBlocksForFamily, IpResources};
 use std::alloc::Global;
 

@@ -12,7 +12,6 @@ mod sets;
 
 use anyhow::{Result, anyhow};
 use claims::Question;
-use resources::{bcder, resources_as, resources_policy};
 use std::alloc::Global;
 
 // The answer to the question of a line.

@@ -1,12 +1,11 @@
 //! Questions about AS numbers.
 
-use crate::bcder::Mode;
-use crate::bcder::decode::{Decode, DecodeError};
-use crate::bcder::encode::Values;
 use crate::claims::{Question, policy};
-use crate::resources_as::AsBlock;
 use anyhow::{Result, anyhow};
-use resources::asres::{AsBlocks, AsResources, OverclaimedAsResources};
+use bcder::Mode;
+use bcder::decode::{Decode, DecodeError};
+use bcder::encode::Values;
+use resources::asres::{AsBlock, AsBlocks, AsResources, OverclaimedAsResources};
 use resources::overclaim::{ClaimError, Overclaim};
 use std::alloc::Global;
 

@@ -4,11 +4,10 @@ ghost use Rattle.std.specs.Prelude.{IfOk};
 ghost use Rattle.resources_cases.specs.resources_set.Resources.{ListsWhole};
 
 use crate::claims::{Question, policy};
-use crate::resources_policy::Overclaim;
 use anyhow::{Result, anyhow};
 use resources::asres::AsResources;
 use resources::ipres::{IpResources, Ipv4Blocks, Ipv6Blocks};
-use resources::overclaim::OverclaimIds;
+use resources::overclaim::{Overclaim, OverclaimIds};
 use resources::set::ResourceSet;
 use std::alloc::Global;
 

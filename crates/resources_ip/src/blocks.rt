@@ -17,7 +17,7 @@ ghost use Rattle.resources_ip.specs.Blocks.{IsAddress, blocks_left};
 
 use crate::claims::OverclaimedIpResources;
 use crate::resources::{InheritedIpResources, IpResources};
-use crate::resources_chain::{ClaimError, Overclaim, OwnedChain, SharedChain};
+use resources_chain::{ClaimError, Overclaim, OwnedChain, SharedChain};
 use resources_ip_block::{IpBlock, Prefix};
 use std::alloc::{AllocError, Global};
 use std::marker::Model;
@@ -134,7 +134,7 @@ impl IpBlocks {
     }
 
     /// Whether all addresses of the prefix are in the set, which is one of the prefix's family.
-    pub fn contains_addr_prefix(&self, prefix: crate::resources_addr::addr::Prefix) -> bool
+    pub fn contains_addr_prefix(&self, prefix: resources_addr::addr::Prefix) -> bool
         ensures { IsTrue result ↔ ((n : ℕ) → InRun (wide_run prefix) n → InRuns self.now n) }
     {
         self.contains_block(&IpBlock::from_addr_prefix(prefix))

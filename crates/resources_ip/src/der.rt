@@ -12,8 +12,8 @@ ghost use Rattle.resources_ip.specs.Reading.{ArePair, Repeats, all_of, family_ch
 ghost use Rattle.resources_ip.specs.WholeSets.{ListsWhole};
 ghost use Rattle.resources_ip.specs.Written.{FitsChoice, FitsSet};
 
-use crate::bcder::decode::{Constructed, ContentError, DecodeError, Source};
 use crate::blocks::{IpBlocks, IpBlocksBuilder};
+use crate::codec::decode::{Constructed, ContentError, DecodeError, Source};
 use crate::resources::{IpFamilies, IpResources};
 use resources_ip_block::{AddressFamily, IpBlock};
 use std::alloc::Global;

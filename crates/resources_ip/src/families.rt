@@ -9,12 +9,12 @@ ghost use Rattle.resources_ip.specs.resources_ip_prefix.Encodings.{family_octets
 ghost use Rattle.resources_ip.specs.Reading.{family_choices};
 ghost use Rattle.resources_ip.specs.WrittenFamilies.{FamiliesTrees, FamilyTrees, WritesFamilies, WritesFamily, both, families_one, families_spelled, family_one, family_spelled, is_said as is_said_of, says_any};
 
-use crate::bcder::encode::{Constructed, EncodeError, Values};
-use crate::bcder::string::OctetSliceEncoder;
-use crate::bcder::{Mode, Tag};
+use crate::AddressFamily;
+use crate::codec::encode::{Constructed, EncodeError, Values};
+use crate::codec::string::OctetSliceEncoder;
+use crate::codec::{Mode, Tag};
 use crate::resources::{IpFamilies, IpResources};
-use crate::resources_chain::ResourcesChoice;
-use crate::resources_ip_prefix::AddressFamily;
+use resources_chain::ResourcesChoice;
 use std::io::Write;
 
 // Whether anything is said of a family.

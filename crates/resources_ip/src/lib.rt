@@ -15,9 +15,8 @@ pub use claims::{OverclaimedIpResources, OverclaimedIpv4Resources, OverclaimedIp
 pub use families::IpFamiliesEncoder;
 pub use listed::IpBlocksForFamily;
 pub use resources::{InheritedIpResources, IpFamilies, IpResources, IpResourcesBuilder};
-pub use resources_ip_block;
 pub use resources_ip_block::{
     Addr, AddressFamily, AddressRange, DisplayV4Block, DisplayV6Block, FromStrError, IpBlock,
-    Prefix, RangePrefixes, addr, bcder, block, cover, error, prefix, range, resources_addr,
-    resources_chain, resources_ip_prefix,
+    IpBlockEncoder, Prefix, RangeEncoder, RangePrefixes, addr, block, codec, cover, error, prefix,
+    range,
 };

@@ -9,7 +9,7 @@ ghost use Rattle.resources_ip.specs.Shown.{shown_family, shown_set};
 ghost use Rattle.resources_ip.specs.WholeSets.{AreWhole};
 
 use crate::blocks::{IpBlocks, IpBlocksBuilder};
-use crate::resources_chain::cut_piece;
+use resources_chain::cut_piece;
 use resources_ip_block::{AddressFamily, FromStrError, IpBlock};
 pub use resources_ip_block::{DisplayV4Block, DisplayV6Block};
 use std::alloc::Global;

@@ -12,7 +12,7 @@ ghost use Rattle.resources_ip.specs.WholeSets.{AreWhole};
 ghost use Rattle.resources_ip.specs.Written.{FitsChoice};
 
 use crate::blocks::{IpBlocks, IpBlocksBuilder};
-use crate::resources_chain::{Claim, InheritedResources, ResourcesChoice, SharedChain};
+use resources_chain::{Claim, InheritedResources, ResourcesChoice, SharedChain};
 use resources_ip_block::IpBlock;
 use std::alloc::{AllocError, Global};
 use std::marker::Model;

@@ -8,11 +8,11 @@ ghost use Rattle.resources_ip.specs.resources_ip_prefix.declared.addr.AddressFam
 ghost use Rattle.resources_ip.specs.WholeSets.{ListsWhole};
 ghost use Rattle.resources_ip.specs.Written.{FitsChoice, AreIpList, WritesIpList, list_spelled, list_one, AreIpResources, WritesIpResources, resources_spelled, resources_one};
 
-use crate::bcder::encode::{Constructed, EncodeError, Primitive, Values};
-use crate::bcder::{Mode, Tag};
 use crate::blocks::IpBlocks;
+use crate::codec::encode::{Constructed, EncodeError, Primitive, Values};
+use crate::codec::{Mode, Tag};
 use crate::resources::IpResources;
-use crate::resources_chain::ResourcesChoice;
+use resources_chain::ResourcesChoice;
 use std::io::Write;
 
 /// A SEQUENCE of the blocks of the set, ascending: a prefix where the addresses are those of one, and else a range

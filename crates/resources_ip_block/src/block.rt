@@ -10,7 +10,7 @@ ghost use Rattle.resources_ip_prefix.specs.Wide.{wide_run};
 ghost use Rattle.resources_ip_block.specs.Range.{run_of_range};
 
 use crate::range::{AddressRange, after, before};
-use crate::resources_chain::Block;
+use resources_chain::Block;
 use resources_ip_prefix::{Addr, Prefix};
 use std::ops::RangeInclusive;
 
@@ -72,7 +72,7 @@ impl IpBlock {
 
     /// The block of the addresses of a prefix that knows its family: those of IPv4 are the first 32 of 128 bits
     /// (RFC 3779 2.1.1).
-    pub fn from_addr_prefix(prefix: crate::resources_addr::addr::Prefix) -> Self
+    pub fn from_addr_prefix(prefix: resources_addr::addr::Prefix) -> Self
         ensures run { run_of_block result ≡ wide_run prefix }
         ensures form { HasOneForm result }
     {

@@ -9,8 +9,8 @@ ghost use Rattle.resources_ip_block.specs.Block.{run_of_block};
 ghost use Rattle.resources_ip_block.specs.BlockEncodings.{AreEnds, AreOrdered, IsBlock, IsRange, bounds_ends};
 ghost use Rattle.resources_ip_block.specs.Range.{run_of_range};
 
-use crate::bcder::decode::{Constructed, ContentError, DecodeError, Source};
 use crate::block::IpBlock;
+use crate::codec::decode::{Constructed, ContentError, DecodeError, Source};
 use crate::range::AddressRange;
 use resources_ip_prefix::{AddressFamily, Prefix};
 use std::alloc::Global;

@@ -6,11 +6,11 @@ ghost use Rattle.resources_ip_block.specs.Range.{run_of_range};
 ghost use Rattle.resources_ip_block.specs.WrittenBlock.{AreIpBlock, WritesIpBlock, block_one, block_spelled};
 ghost use Rattle.resources_ip_block.specs.Written.{EncodesBlock, EncodesRange, IsShortestMax, IsShortestMin};
 
-use crate::bcder::Mode;
-use crate::bcder::encode::{
+use crate::block::IpBlock;
+use crate::codec::Mode;
+use crate::codec::encode::{
     Choice2, Constructed, EncodeError, Primitive, PrimitiveContent, Values, sequence,
 };
-use crate::block::IpBlock;
 use crate::range::AddressRange;
 use resources_ip_prefix::Prefix;
 use std::io::Write;

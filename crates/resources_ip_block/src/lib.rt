@@ -13,9 +13,7 @@ pub use block::IpBlock;
 pub use cover::RangePrefixes;
 pub use encode::{IpBlockEncoder, RangeEncoder};
 pub use range::AddressRange;
-pub use resources_ip_prefix;
 pub use resources_ip_prefix::{
-    Addr, AddressFamily, FromStrError, Prefix, addr, bcder, error, prefix, resources_addr,
-    resources_chain,
+    Addr, AddressFamily, FromStrError, Prefix, addr, codec, error, prefix,
 };
 pub use text::{DisplayV4Block, DisplayV6Block};

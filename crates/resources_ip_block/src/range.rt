@@ -6,7 +6,7 @@ ghost use Rattle.resources_ip_prefix.specs.Address.{bits_of, bits_within, one_ad
 ghost use Rattle.resources_ip_prefix.specs.Prefix.{run_of_prefix};
 ghost use Rattle.resources_ip_prefix.specs.Prefixes.{first_of, prefix_run};
 
-use crate::resources_chain::Block;
+use resources_chain::Block;
 use resources_ip_prefix::{Addr, Prefix};
 use std::ops::RangeInclusive;
 

@@ -4,7 +4,5 @@
 pub mod v4;
 pub mod v6;
 
-pub use resources_ip;
-pub use resources_ip::{resources_ip_block, resources_ip_prefix};
 pub use v4::{Ipv4Block, Ipv4Blocks};
 pub use v6::{Ipv6Block, Ipv6Blocks};

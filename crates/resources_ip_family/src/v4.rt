@@ -14,9 +14,11 @@ ghost use Rattle.resources_ip_family.specs.resources_ip_prefix.declared.addr.Add
 ghost use Rattle.resources_ip.specs.WholeSets.{AreWhole, ListsWhole};
 ghost use Rattle.resources_ip.specs.Written.{FitsChoice};
 
-use crate::resources_ip_block::{Addr, AddressFamily, FromStrError, IpBlock};
 use resources_ip::listed::read_list;
-use resources_ip::{IpBlocks, IpBlocksBuilder, IpBlocksForFamily, IpResources};
+use resources_ip::{
+    Addr, AddressFamily, FromStrError, IpBlock, IpBlocks, IpBlocksBuilder, IpBlocksForFamily,
+    IpResources,
+};
 use std::alloc::{AllocError, Global};
 use std::fmt;
 use std::marker::Model;

@@ -2,6 +2,7 @@
 #![tactic(auto)]
 
 pub mod addr;
+pub mod codec;
 mod convert;
 mod der;
 mod encode;
@@ -11,8 +12,5 @@ pub mod prefix;
 mod text;
 
 pub use addr::{Addr, AddressFamily};
-pub use bcder;
 pub use error::FromStrError;
 pub use prefix::Prefix;
-pub use resources_addr;
-pub use resources_chain;

@@ -8,7 +8,5 @@
 pub mod ids;
 pub mod laws;
 
-pub use bcder;
 pub use ids::OverclaimIds;
-pub use resources_chain;
 pub use resources_chain::Overclaim;

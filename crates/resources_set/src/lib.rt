@@ -13,8 +13,4 @@ pub mod set;
 
 pub use diff::ResourceDiff;
 pub use error::{FromStrError, InheritError};
-pub use resources_as;
-pub use resources_as::{resources_addr, resources_as_block, resources_asn};
-pub use resources_ip_family;
-pub use resources_ip_family::{resources_ip, resources_ip_block, resources_ip_prefix};
 pub use set::ResourceSet;

@@ -14,14 +14,14 @@ ghost use Rattle.rpki_bundle.specs.Grammars.{IsBundleAlone};
 ghost use Rattle.rpki_bundle.specs.PartFields.{parts_alone, parts_value};
 ghost use Rattle.rpki_bundle.specs.Lawful.{IsLawful};
 
-use crate::bcder::Mode;
-use crate::bcder::decode::{Decode, DecodeError};
 use crate::entries::is_lawful_list;
 use crate::reader::is_depth;
 use crate::uri::{cmp_lookup_key, is_uri};
 use crate::whole::{Parts, take_alone};
 use crate::writer::{members_len, write_members};
 use crate::{BundleError, Locator, Object, Time, Verdict};
+use bcder::Mode;
+use bcder::decode::{Decode, DecodeError};
 use std::alloc::{AllocError, Global};
 use std::cmp::Ordering;
 use std::convert::Infallible;

@@ -6,15 +6,15 @@ ghost use Rattle.rpki_bundle.specs.bcder_tree.Tags.{universal};
 ghost use Rattle.rpki_bundle.specs.Grammars.{IsLocatorBody, IsObjectBody, IsVerdictBody, IsVerdictRow, locator_fields, object_fields};
 ghost use Rattle.rpki_bundle.specs.Words.{verdict_of, words_fields};
 
-use crate::bcder::decode::{Constructed, DecodeError, Source};
-use crate::bcder::encode::{EncodeError, Values};
-use crate::bcder::{Mode, Tag};
 use crate::entries::{Entry, stands_before};
 use crate::reader::{is_name, take_digest, take_name, take_octets, take_uri};
 use crate::uri::is_lookup_key;
 use crate::words::VerdictWords;
 use crate::writer::{pair_len, triple_len, write_pair, write_triple};
 use crate::{Locator, Object, Verdict};
+use bcder::decode::{Constructed, DecodeError, Source};
+use bcder::encode::{EncodeError, Values};
+use bcder::{Mode, Tag};
 use std::alloc::Global;
 use std::io::Write;
 

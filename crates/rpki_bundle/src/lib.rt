@@ -16,7 +16,6 @@ mod words;
 mod writer;
 
 pub use bundle::Bundle;
-pub use certs_key::bcder;
 pub use digest::Digester;
 pub use error::BundleError;
 pub use parts::{Locator, Object, Verdict};

@@ -13,11 +13,11 @@ ghost use Rattle.rpki_bundle.specs.Lawful.{IsName, IsWord};
 ghost use Rattle.rpki_bundle.specs.Words.{octets_of};
 
 use crate::Time;
-use crate::bcder::decode::{Constructed, ContentError, DecodeError, Primitive, Source};
-use crate::bcder::string::{CharSet, PrintableCharSet};
-use crate::bcder::{Ia5String, OctetString, PrintableString, Tag};
 use crate::uri::is_lookup_key;
 use crate::words::DigestWords;
+use bcder::decode::{Constructed, ContentError, DecodeError, Primitive, Source};
+use bcder::string::{CharSet, PrintableCharSet};
+use bcder::{Ia5String, OctetString, PrintableString, Tag};
 use bytes::Bytes;
 use std::alloc::Global;
 

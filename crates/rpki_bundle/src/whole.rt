@@ -6,10 +6,10 @@ ghost use Rattle.rpki_bundle.specs.Ends.{ReadsToEndAs};
 ghost use Rattle.rpki_bundle.specs.Grammars.{IsBundleAlone, IsBundleBody, IsBundleTree};
 ghost use Rattle.rpki_bundle.specs.PartFields.{parts_alone, parts_fields, parts_value};
 
-use crate::bcder::decode::{Constructed, ContentError, DecodeError, Source};
 use crate::entries::take_list;
 use crate::reader::{take_depth, take_moment};
 use crate::{Locator, Object, Time, Verdict};
+use bcder::decode::{Constructed, ContentError, DecodeError, Source};
 use std::alloc::Global;
 
 /// What was read of a bundle.

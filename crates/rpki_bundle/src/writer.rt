@@ -8,9 +8,9 @@ ghost use Rattle.rpki_bundle.specs.bcder_tree.Tags.{IsTag};
 ghost use Rattle.rpki_bundle.specs.bcder_written.Writing.{HasLength, Wrote, CannotWrite, WriteRefused};
 ghost use Rattle.rpki_bundle.specs.Written.{AreMembers, IsPair, IsTriple, WritesMembers, WritesPair, WritesTriple};
 
-use crate::bcder::encode::{Constructed, EncodeError, Octets, Primitive, Values};
-use crate::bcder::string::OctetSliceEncoder;
-use crate::bcder::{Mode, Tag};
+use bcder::encode::{Constructed, EncodeError, Octets, Primitive, Values};
+use bcder::string::OctetSliceEncoder;
+use bcder::{Mode, Tag};
 use std::convert::AsSlice;
 use std::io::Write;
 

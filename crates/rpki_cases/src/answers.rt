@@ -1,6 +1,6 @@
 //! The answer to a question, word by word.
 
-use crate::rpki_bundle::Digester;
+use rpki_bundle::Digester;
 use rpki_commands::Fips;
 use std::alloc::Global;
 use std::fmt;

@@ -2,10 +2,10 @@
 
 use crate::answers::Answer;
 use crate::octets::{number_of, octets_of};
-use crate::rpki_bundle::{Bundle, BundleError, Locator, Object, Time, Verdict};
 use anyhow::{Result, anyhow};
 use bytes::Bytes;
 use hex::FromHex;
+use rpki_bundle::{Bundle, BundleError, Locator, Object, Time, Verdict};
 use std::alloc::Global;
 
 // The octets of a word, as a bundle shares them.

@@ -2,12 +2,12 @@
 
 use crate::answers::Answer;
 use crate::octets::octets_of;
-use crate::rpki_bundle::{BundleError, Digester};
-use crate::rpki_validator::{Cause, Counted, RunError, run, write_all};
 use crate::streams::{Broken, Sink, Source};
 use anyhow::{Result, anyhow};
+use rpki_bundle::{BundleError, Digester};
 use rpki_commands::folder::Fault;
 use rpki_commands::{Command, FAILED, Fips, bundle, check, command_of};
+use rpki_validator::{Cause, Counted, RunError, run, write_all};
 use std::alloc::Global;
 use std::io::{Read, Write};
 

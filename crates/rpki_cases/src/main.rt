@@ -15,7 +15,6 @@ mod uris;
 
 use answers::Answer;
 use anyhow::Result;
-use rpki_commands::{rpki_bundle, rpki_validator};
 use std::io::{BufRead, BufReader};
 
 // The answer to the question of a line.

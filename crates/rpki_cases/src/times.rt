@@ -2,8 +2,8 @@
 
 use crate::answers::Answer;
 use crate::octets::number_of;
-use crate::rpki_bundle::Time;
 use anyhow::{Result, anyhow};
+use rpki_bundle::Time;
 
 // A moment, or that there is none.
 fn tell(answer: &mut Answer, moment: Option<Time>) {

@@ -2,10 +2,8 @@
 
 use crate::answers::Answer;
 use crate::octets::octets_of;
-use crate::rpki_bundle::uri::{
-    cmp_lookup_key, is_https, is_lookup_key, is_rsync, is_uri, lookup_key,
-};
 use anyhow::{Result, anyhow};
+use rpki_bundle::uri::{cmp_lookup_key, is_https, is_lookup_key, is_rsync, is_uri, lookup_key};
 use std::alloc::Global;
 
 // Whether octets are an rsync URI, an https URI, one of both, a lookup key; and the lookup key of a URI.

@@ -9,5 +9,3 @@ pub mod folder;
 pub use arguments::{Command, USAGE, command_of};
 pub use commands::{FAILED, bundle, check};
 pub use digests::Fips;
-pub use rpki_validator;
-pub use rpki_validator::rpki_bundle;

@@ -1,8 +1,8 @@
 //! What a certificate claims.
 
-use crate::resources::asres::AsResources;
-use crate::resources::ipres::IpResources;
-use crate::resources::overclaim::Overclaim;
+use resources::asres::AsResources;
+use resources::ipres::IpResources;
+use resources::overclaim::Overclaim;
 
 /// What a certificate claims of each kind, and by which policy.
 #[derive(Clone, Copy, Debug)]

@@ -15,4 +15,3 @@ pub use claims::Claims;
 pub use evidence::Evidence;
 pub use judging::{Judgement, judge};
 pub use needed::Needed;
-pub use rpki_laws::{resources, resources_ip_block};

@@ -6,11 +6,11 @@ ghost use Rattle.rpki_judge.specs.resources_chain.Claims.{Lists, Keeps};
 ghost use Rattle.rpki_judge.specs.rpki_rules.Judge.{NeedAbove, NeedWith};
 
 use crate::Claims;
-use crate::resources::asres::AsBlock;
-use crate::resources::chain::{Block, SharedChain};
-use crate::resources::choice::{Claim, ResourcesChoice};
-use crate::resources::overclaim::Overclaim;
-use crate::resources_ip_block::IpBlock;
+use resources::IpBlock;
+use resources::asres::AsBlock;
+use resources::chain::{Block, SharedChain};
+use resources::choice::{Claim, ResourcesChoice};
+use resources::overclaim::Overclaim;
 use std::alloc::{AllocError, Global};
 use std::marker::Model;
 

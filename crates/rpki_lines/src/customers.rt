@@ -4,8 +4,7 @@ ghost use Rattle.std.specs.Prelude.{◌≡◌, ◌++◌, OnOk, codes, flat_map};
 ghost use Rattle.rpki_lines.specs.rpki_rules.Lines.{asn_text, customer_line};
 ghost use Rattle.rpki_report.specs.Views.{customer_of};
 
-use crate::resources::asn::Asn;
-use rpki_report::Customer;
+use rpki_report::{Asn, Customer};
 use std::alloc::{AllocError, Global};
 
 // Appends a space and the number for each provider.

@@ -12,7 +12,6 @@ mod origins;
 mod refusals;
 
 use rpki_report::Report;
-pub use rpki_report::{resources, resources_ip_prefix};
 use std::alloc::{AllocError, Global};
 
 /// The lines of origins, then of customers, then of refusals, each with a line feed at its end.

@@ -8,8 +8,7 @@ ghost use Rattle.rpki_lines.specs.resources_ip_prefix.Text.{slashed};
 ghost use Rattle.rpki_lines.specs.rpki_rules.Lines.{address_text, origin_line};
 ghost use Rattle.rpki_report.specs.Views.{kind_of, origin_of};
 
-use crate::resources_ip_prefix::{AddressFamily, Prefix};
-use rpki_report::Origin;
+use rpki_report::{AddressFamily, Origin, Prefix};
 use std::alloc::{AllocError, Global};
 use std::fmt;
 

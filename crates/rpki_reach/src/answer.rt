@@ -1,6 +1,6 @@
 //! What is answered of a list of URIs.
 
-use crate::resources::set::ResourceSet;
+use resources::set::ResourceSet;
 
 /// What whoever may change the objects at some URIs can reach.
 #[derive(Debug, Drop)]

@@ -5,11 +5,9 @@ ghost use Rattle.rpki_reach.specs.Gathered.{has_gathered, IsReaches};
 
 use crate::keys::names_any;
 use crate::naming::Naming;
-use crate::resources::set::ResourceSet;
-use crate::rpki_report::Path;
-use crate::rpki_rules::Cause;
 use bytes::Bytes;
-use rpki_walk::Visitor;
+use resources::set::ResourceSet;
+use rpki_walk::{Cause, Path, Visitor};
 use std::alloc::{AllocError, Global};
 use std::rc::Rc;
 

@@ -4,8 +4,8 @@ ghost use Rattle.std.specs.Prelude.{◌≡◌, bytes_eq};
 ghost use Rattle.rpki_reach.specs.rpki_bundle.Uris.{lookup_key};
 ghost use Rattle.rpki_reach.specs.Naming.{names_key, names_any};
 
-use crate::rpki_bundle::uri::cmp_lookup_key;
 use bytes::Bytes;
+use certs_uri::grammar::cmp_lookup_key;
 
 // Whether the URI has this lookup key.
 fn has_key(uri: &[u8], key: &[u8]) -> bool

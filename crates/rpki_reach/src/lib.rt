@@ -11,4 +11,3 @@ pub mod whole;
 
 pub use answer::Reach;
 pub use naming::Naming;
-pub use rpki_walk::{resources, rpki_bundle, rpki_report, rpki_rules};

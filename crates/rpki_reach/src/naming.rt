@@ -4,8 +4,8 @@ ghost use Rattle.std.specs.Prelude.{◌≡◌, ◌<◌, length, IfOk};
 ghost use Rattle.rpki_walk.specs.Filed.{locator_at};
 ghost use Rattle.rpki_reach.specs.Naming.{AreLocatorKeys, AreNamed};
 
-use crate::resources::set::ResourceSet;
 use bytes::Bytes;
+use resources::set::ResourceSet;
 use rpki_walk::Steps;
 use std::alloc::{AllocError, Global};
 

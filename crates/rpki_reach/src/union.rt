@@ -3,7 +3,7 @@
 ghost use Rattle.std.specs.Prelude.{IfOk};
 ghost use Rattle.rpki_reach.specs.Gathered.{AreUnionOf};
 
-use crate::resources::set::ResourceSet;
+use resources::set::ResourceSet;
 use std::alloc::{AllocError, Global};
 
 /// The numbers of all the sets, half of them joined to half, so that no set is walked over more often than their number

@@ -13,6 +13,6 @@ pub use customer::{Customer, Provision};
 pub use origin::Origin;
 pub use refusal::Refusal;
 pub use report::Report;
-pub use rpki_rules;
-pub use rpki_rules::{resources, resources_ip_prefix, rpki_bundle};
+pub use resources::{AddressFamily, Asn, Prefix};
+pub use rpki_rules::Cause;
 pub use witness::{Path, Witness};

@@ -8,6 +8,5 @@ pub mod streams;
 
 pub use counted::Counted;
 pub use lines::Cause;
-pub use rpki_bundle;
 pub use runs::{RunError, run};
 pub use streams::{WriteFault, write_all};

@@ -5,10 +5,9 @@ ghost use Rattle.rpki_walk.specs.Filed.{locator_at};
 ghost use Rattle.rpki_walk.specs.Facts.{FromLocator, IsTold, Gains};
 
 use crate::chains::walk_from;
-use crate::rpki_rules::Cause;
 use crate::steps::{Leads, Steps};
 use crate::visitor::Visitor;
-use rpki_report::Path;
+use rpki_report::{Cause, Path};
 use std::alloc::{AllocError, Global};
 use std::rc::Rc;
 

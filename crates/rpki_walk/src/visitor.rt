@@ -5,10 +5,9 @@ ghost use Rattle.rpki_walk.specs.rpki_rules.Kinds.{InSet};
 ghost use Rattle.rpki_report.specs.Views.{way_of};
 ghost use Rattle.rpki_walk.specs.Facts.{Told, Refuses, ShownBy, ReachedBy, Gains};
 
-use crate::rpki_rules::Cause;
 use crate::steps::Steps;
 use bytes::Bytes;
-use rpki_report::Path;
+use rpki_report::{Cause, Path};
 use std::alloc::{AllocError, Global};
 use std::rc::Rc;
 

@@ -5,11 +5,10 @@ ghost use Rattle.rpki_walk.specs.Lines.{has_found, IsLine};
 ghost use Rattle.rpki_report.specs.Report.{IsReport};
 
 use crate::anchors::walk_all;
-use crate::rpki_rules::Cause;
 use crate::steps::Steps;
 use crate::visitor::Visitor;
 use bytes::Bytes;
-use rpki_report::{Origin, Path, Provision, Refusal, Report, Witness};
+use rpki_report::{Cause, Origin, Path, Provision, Refusal, Report, Witness};
 use std::alloc::{AllocError, Global};
 use std::rc::Rc;
 

@@ -5,8 +5,8 @@ ghost use Rattle.rpki_commands.specs.rpki_bundle.declared.parts.Verdict.{Verdict
 ghost use Rattle.rpki_commands.specs.rpki_bundle.Errors.{OnNotABundle};
 ghost use Rattle.rpki_commands.specs.Verdicts.{TakesDigest, TakesNextDigest, TakesEnd, TakesVerdict, TellsVerdicts};
 
-use crate::rpki_bundle::{BundleError, Verdict};
 use hex::FromHex;
+use rpki_bundle::{BundleError, Verdict};
 use std::alloc::Global;
 
 // How many digits a digest has.

@@ -5,8 +5,8 @@ ghost use Rattle.std.specs.Prelude.{◌≡◌, ◌+◌, ◌≤◌, ◌++◌, ◌
 use crate::folder::ReadFault;
 use crate::folder::files::{Kind, kind_of, read_file, read_if_there};
 use crate::folder::parts::Contents;
-use crate::rpki_bundle::{Locator, Object};
 use bytes::Bytes;
+use rpki_bundle::{Locator, Object};
 use std::alloc::{AllocError, Global};
 use std::fs;
 use std::rt::Files;
