@@ -22,16 +22,22 @@ impl BitString {
         alloc: Global,
         cons: &mut Constructed<S>,
     ) -> Result<BitString, DecodeError<S::Error>>
-        ensures reads { ReadsAs (λ v. v) (OctetsOf bit_string_tag (IsBitString (here S.rest cons.old).mode)) (here S.rest cons.old) result (here S.rest cons.new) }
+        ensures reads { ReadsAs (λ v. v)
+            (OctetsOf bit_string_tag (IsBitString (here S.rest cons.old).mode))
+            (here S.rest cons.old) result (here S.rest cons.new) }
         ensures failed { OnErr result ((here S.rest cons.new).failed ≡ true) }
-        ensures memory { IfErr result (λ e. OnMemory e (HasNext (OctetsOf bit_string_tag (IsBitString (here S.rest cons.old).mode)) (here S.rest cons.old))) }
+        ensures memory { IfErr result (λ e. OnMemory e
+            (HasNext (OctetsOf bit_string_tag (IsBitString (here S.rest cons.old).mode))
+            (here S.rest cons.old))) }
     {
         cons.take_primitive_if(Tag::BIT_STRING, |prim| take_bits(alloc, prim))
     }
 
     /// Goes past the next value, a BIT STRING; what `take_from` refuses is refused. It takes no memory.
     pub fn skip_in<S: Source>(cons: &mut Constructed<S>) -> Result<(), DecodeError<S::Error>>
-        ensures reads { ReadsAs (λ x. x) (OctetsOf bit_string_tag (IsAnyBits (here S.rest cons.old).mode)) (here S.rest cons.old) result (here S.rest cons.new) }
+        ensures reads { ReadsAs (λ x. x)
+            (OctetsOf bit_string_tag (IsAnyBits (here S.rest cons.old).mode)) (here S.rest cons.old)
+            result (here S.rest cons.new) }
         ensures failed { OnErr result ((here S.rest cons.new).failed ≡ true) }
         ensures no_memory { IfErr result (λ e. e ≢ Memory) }
     {
@@ -45,9 +51,13 @@ impl BitString {
         content: &mut Content<'_, S>,
     ) -> Result<BitString, DecodeError<S::Error>>
         ensures same { SameContent content.old content.new }
-        ensures reads { (tag : _) → ReadsContentAs S.rest (λ v. v) (OctetsOf tag (IsBitString (left_of S.rest content.old).mode)) tag content.old result content.new }
+        ensures reads { (tag : _)
+            → ReadsContentAs S.rest (λ v. v)
+            (OctetsOf tag (IsBitString (left_of S.rest content.old).mode)) tag content.old result
+            content.new }
         ensures failed { OnErr result ((left_of S.rest content.new).failed ≡ true) }
-        ensures memory { IfErr result (λ e. OnMemory e (HasPrimitive S.rest (IsBitString (left_of S.rest content.old).mode) content.old)) }
+        ensures memory { IfErr result (λ e. OnMemory e
+            (HasPrimitive S.rest (IsBitString (left_of S.rest content.old).mode) content.old)) }
     {
         content.primitive(|prim| take_bits(alloc, prim))
     }

@@ -30,9 +30,11 @@ fn is_long(mode: Mode, len: usize) -> bool
 // How many content octets a bit string has.
 fn content_len(mode: Mode, unused: u8, octets: &[u8]) -> Result<usize, EncodeError>
     requires { IsBits (record { unused = unused; octets = octets.now }) }
-    ensures len { IfOk result (HasLength (WritesBits mode (record { unused = unused; octets = octets.now }))) }
+    ensures len { IfOk result
+        (HasLength (WritesBits mode (record { unused = unused; octets = octets.now }))) }
     ensures few { IfOk result (λ n. n < 2 ^ 32) }
-    ensures refused { IfErr result (NoContent mode (WritesBits mode (record { unused = unused; octets = octets.now }))) }
+    ensures refused { IfErr result
+        (NoContent mode (WritesBits mode (record { unused = unused; octets = octets.now }))) }
 {
     let len = octets.len();
     if is_long(mode, len) {
@@ -47,8 +49,10 @@ fn content_len(mode: Mode, unused: u8, octets: &[u8]) -> Result<usize, EncodeErr
 // Writes octets, fewer than 2^32.
 fn put<W: Write>(target: &mut W, octets: &[u8]) -> Result<(), EncodeError>
     requires { length octets.now < 2 ^ 32 }
-    ensures written { OnOk result (Wrote (λ text. text ≡ octets.now) (W.contents target.old) (W.contents target.new)) }
-    ensures refused { IfErr result (λ e. (e ≡ refusal) × TookFront (λ text. text ≡ octets.now) (W.contents target.old) (W.contents target.new)) }
+    ensures written { OnOk result
+        (Wrote (λ text. text ≡ octets.now) (W.contents target.old) (W.contents target.new)) }
+    ensures refused { IfErr result (λ e. (e ≡ refusal)
+        × TookFront (λ text. text ≡ octets.now) (W.contents target.old) (W.contents target.new)) }
 {
     Octets(octets).write_encoded(Mode::Der, target)
 }
@@ -65,8 +69,12 @@ fn clear(unused: u8, octet: u8) -> u8
 fn put_clear<W: Write>(target: &mut W, unused: u8, octets: &[u8]) -> Result<(), EncodeError>
     requires unused { unused < 8 }
     requires few { length octets.now < 2 ^ 32 }
-    ensures written { OnOk result (Wrote (λ text. text ≡ cleared unused octets.now) (W.contents target.old) (W.contents target.new)) }
-    ensures refused { IfErr result (λ e. (e ≡ refusal) × TookFront (λ text. text ≡ cleared unused octets.now) (W.contents target.old) (W.contents target.new)) }
+    ensures written { OnOk result
+        (Wrote (λ text. text ≡ cleared unused octets.now) (W.contents target.old)
+        (W.contents target.new)) }
+    ensures refused { IfErr result (λ e. (e ≡ refusal)
+        × TookFront (λ text. text ≡ cleared unused octets.now) (W.contents target.old)
+        (W.contents target.new)) }
 {
     let Some((last, front)) = octets.split_last() else {
         return put(target, octets);
@@ -84,8 +92,14 @@ fn put_padded<W: Write>(
 ) -> Result<(), EncodeError>
     requires unused { unused < 8 }
     requires few { length octets.now < 2 ^ 32 }
-    ensures written { OnOk result (Wrote (λ text. text ≡ (padded_in mode (record { unused = unused; octets = octets.now })).octets) (W.contents target.old) (W.contents target.new)) }
-    ensures refused { IfErr result (λ e. (e ≡ refusal) × TookFront (λ text. text ≡ (padded_in mode (record { unused = unused; octets = octets.now })).octets) (W.contents target.old) (W.contents target.new)) }
+    ensures written { OnOk result
+        (Wrote
+        (λ text. text ≡ (padded_in mode (record { unused = unused; octets = octets.now })).octets)
+        (W.contents target.old) (W.contents target.new)) }
+    ensures refused { IfErr result (λ e. (e ≡ refusal)
+        × TookFront
+        (λ text. text ≡ (padded_in mode (record { unused = unused; octets = octets.now })).octets)
+        (W.contents target.old) (W.contents target.new)) }
 {
     match mode {
         Mode::Ber => put(target, octets),
@@ -102,8 +116,12 @@ fn put_content<W: Write>(
     octets: &[u8],
 ) -> Result<(), EncodeError>
     requires { IsBits (record { unused = unused; octets = octets.now }) }
-    ensures written { OnOk result (Wrote (WritesBits mode (record { unused = unused; octets = octets.now })) (W.contents target.old) (W.contents target.new)) }
-    ensures refused { IfErr result (ContentRefused mode (WritesBits mode (record { unused = unused; octets = octets.now })) (target.new ≡ target.old) (W.contents target.old) (W.contents target.new)) }
+    ensures written { OnOk result
+        (Wrote (WritesBits mode (record { unused = unused; octets = octets.now }))
+        (W.contents target.old) (W.contents target.new)) }
+    ensures refused { IfErr result
+        (ContentRefused mode (WritesBits mode (record { unused = unused; octets = octets.now }))
+        (target.new ≡ target.old) (W.contents target.old) (W.contents target.new)) }
 {
     let len = content_len(mode, unused, octets)?;
     put(target, &[unused])?;
@@ -154,7 +172,8 @@ pub type BitSliceEncoder<T> = Primitive<BitSlice<T>>;
 impl<T: AsSlice<u8>> PrimitiveContent for BitSlice<T> {
     ghost type_tag = { bit_string_tag };
 
-    ghost content = { λ x m. WritesBits m (record { unused = x.unused; octets = T.items x.octets }) };
+    ghost content = { λ x m. WritesBits m
+        (record { unused = x.unused; octets = T.items x.octets }) };
 
     fn tag() -> Tag {
         Tag::BIT_STRING
@@ -170,7 +189,8 @@ impl<T: AsSlice<u8>> PrimitiveContent for BitSlice<T> {
 
     ghost is_tag = { Prim.search rules };
 
-    ghost one_content = { λ x m. one_bits m (record { unused = x.unused; octets = T.items x.octets }) };
+    ghost one_content = { λ x m. one_bits m
+        (record { unused = x.unused; octets = T.items x.octets }) };
 }
 
 impl BitString {

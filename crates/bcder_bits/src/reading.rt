@@ -21,8 +21,10 @@ fn request_bits<S: Source>(prim: &mut Primitive<S>) -> Result<usize, DecodeError
     ensures all { IfOk result (λ n. (plain S.rest prim.old).limit ≡ Some n) }
     ensures at_hand { IfOk result (λ n. n ≤ S.available prim.new.source.source) }
     ensures there { IfOk result (λ n. n ≤ length (plain S.rest prim.old).rest) }
-    ensures is { IfOk result (λ n. IsAnyBits (plain S.rest prim.old).mode (take n (plain S.rest prim.old).rest) tt) }
-    ensures refused { IfErr result (λ e. OnlyContent e (LacksOctets (IsBitString (plain S.rest prim.old).mode) (plain S.rest prim.old))) }
+    ensures is { IfOk result
+        (λ n. IsAnyBits (plain S.rest prim.old).mode (take n (plain S.rest prim.old).rest) tt) }
+    ensures refused { IfErr result (λ e. OnlyContent e
+        (LacksOctets (IsBitString (plain S.rest prim.old).mode) (plain S.rest prim.old))) }
     ensures failed { OnErr result ((plain S.rest prim.new).failed ≡ true) }
 {
     let count = request_all(prim)?;
@@ -39,10 +41,13 @@ fn bits_at_hand<S: Source>(
     count: usize,
 ) -> Result<BitString, DecodeError<S::Error>>
     requires at_hand { count ≤ S.available prim.old.source.source }
-    requires is { IsAnyBits (plain S.rest prim.old).mode (take count (plain S.rest prim.old).rest) tt }
+    requires is { IsAnyBits (plain S.rest prim.old).mode (take count (plain S.rest prim.old).rest)
+        tt }
     ensures same { OnOk result (plain S.rest prim.new ≡ plain S.rest prim.old) }
-    ensures kept { OnOk result (S.available prim.new.source.source ≡ S.available prim.old.source.source) }
-    ensures is { IfOk result (IsBitString (plain S.rest prim.old).mode (take count (plain S.rest prim.old).rest)) }
+    ensures kept { OnOk result
+        (S.available prim.new.source.source ≡ S.available prim.old.source.source) }
+    ensures is { IfOk result
+        (IsBitString (plain S.rest prim.old).mode (take count (plain S.rest prim.old).rest)) }
     ensures memory { IfErr result (λ e. e ≡ Memory) }
     ensures failed { OnErr result ((plain S.rest prim.new).failed ≡ true) }
 {
@@ -61,9 +66,11 @@ pub(crate) fn take_bits<S: Source>(
     alloc: Global,
     prim: &mut Primitive<S>,
 ) -> Result<BitString, DecodeError<S::Error>>
-    ensures reads { ReadsOctetsAs (λ v. v) (IsBitString (plain S.rest prim.old).mode) (plain S.rest prim.old) result (plain S.rest prim.new) }
+    ensures reads { ReadsOctetsAs (λ v. v) (IsBitString (plain S.rest prim.old).mode)
+        (plain S.rest prim.old) result (plain S.rest prim.new) }
     ensures failed { OnErr result ((plain S.rest prim.new).failed ≡ true) }
-    ensures memory { IfErr result (λ e. OnMemory e (HasOctets (IsBitString (plain S.rest prim.old).mode) (plain S.rest prim.old))) }
+    ensures memory { IfErr result (λ e. OnMemory e
+        (HasOctets (IsBitString (plain S.rest prim.old).mode) (plain S.rest prim.old))) }
 {
     let count = request_bits(prim)?;
     let bits = bits_at_hand(alloc, prim, count)?;
@@ -73,7 +80,8 @@ pub(crate) fn take_bits<S: Source>(
 
 /// Goes past the bit string of a primitive content, all of it.
 pub(crate) fn skip_bits<S: Source>(prim: &mut Primitive<S>) -> Result<(), DecodeError<S::Error>>
-    ensures reads { ReadsOctetsAs (λ x. x) (IsAnyBits (plain S.rest prim.old).mode) (plain S.rest prim.old) result (plain S.rest prim.new) }
+    ensures reads { ReadsOctetsAs (λ x. x) (IsAnyBits (plain S.rest prim.old).mode)
+        (plain S.rest prim.old) result (plain S.rest prim.new) }
     ensures failed { OnErr result ((plain S.rest prim.new).failed ≡ true) }
     ensures no_memory { IfErr result (λ e. e ≢ Memory) }
 {

@@ -38,7 +38,8 @@ fn capture_null(alloc: Global, cons: &mut Values<'_>) -> Result<Captured, Refusa
     cons.capture(
         alloc,
         |cons|
-            ensures { ReadsAs (λ x. x) (OctetsOf (universal 5) IsNull) (here rest_of cons.old) result (here rest_of cons.new) }
+            ensures { ReadsAs (λ x. x) (OctetsOf (universal 5) IsNull) (here rest_of cons.old)
+                result (here rest_of cons.new) }
         { cons.take_null() },
     )
 }
@@ -49,7 +50,8 @@ fn take_null(alloc: Global, captured: &mut Captured) -> Answer {
         alloc,
         captured.decode_partial(
             |cons|
-                ensures { ReadsAs (λ x. x) (OctetsOf (universal 5) IsNull) (here rest_of cons.old) result (here rest_of cons.new) }
+                ensures { ReadsAs (λ x. x) (OctetsOf (universal 5) IsNull) (here rest_of cons.old)
+                    result (here rest_of cons.new) }
             { cons.take_null() },
         ),
     )

@@ -26,7 +26,8 @@ pub trait CharSet {
 
     /// The character in front of octets, and what is behind it; None where there are no octets.
     fn next_char(octets: &[u8]) -> Result<Option<(char, &[u8])>, CharSetError>
-        ensures next { IfOk result (λ found. IfSome found (λ p. Starts has spell octets.now p.0 p.1.now)) }
+        ensures next { IfOk result
+            (λ found. IfSome found (λ p. Starts has spell octets.now p.0 p.1.now)) }
         ensures end { IfOk result (λ found. IfNone found (octets.now ≡ [])) }
         ensures refused { OnErr result (NoStart has spell octets.now) };
 

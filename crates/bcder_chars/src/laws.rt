@@ -8,7 +8,8 @@ use crate::CharSet;
 
 /// Octets tell one list of characters at most.
 pub fn one_text<L: CharSet>()
-    ensures { (octets a b : List ℕ) → Tells L.has L.spell octets a → Tells L.has L.spell octets b → a ≡ b }
+    ensures { (octets a b : List ℕ) → Tells L.has L.spell octets a → Tells L.has L.spell octets b
+        → a ≡ b }
 {}
 
 /// The texts of a UTF8String are the octets that are UTF-8.
@@ -19,6 +20,7 @@ pub fn utf8_texts()
 /// The texts of the sets of ASCII are octets that are each in the set.
 pub fn ascii_texts()
     ensures numeric { (octets : List ℕ) → IsText IsNumeric alone octets ↔ All IsNumeric octets }
-    ensures printable { (octets : List ℕ) → IsText IsPrintable alone octets ↔ All IsPrintable octets }
+    ensures printable { (octets : List ℕ) → IsText IsPrintable alone octets
+        ↔ All IsPrintable octets }
     ensures ia5 { (octets : List ℕ) → IsText IsIa5 alone octets ↔ All IsIa5 octets }
 {}

@@ -17,7 +17,8 @@ pub(crate) trait OctetSet {
 
 // The character in front of octets, and what is behind it.
 pub(crate) fn next_of<S: OctetSet>(octets: &[u8]) -> Result<Option<(char, &[u8])>, CharSetError>
-    ensures next { IfOk result (λ found. IfSome found (λ p. Starts S.member alone octets.now p.0 p.1.now)) }
+    ensures next { IfOk result
+        (λ found. IfSome found (λ p. Starts S.member alone octets.now p.0 p.1.now)) }
     ensures end { IfOk result (λ found. IfNone found (octets.now ≡ [])) }
     ensures refused { OnErr result (NoStart S.member alone octets.now) }
 {

@@ -24,7 +24,8 @@ fn gather<S: Source>(source: &mut LimitedSource<S>) -> Result<usize, S::Error>
     ensures same { view S.rest source.new ≡ view S.rest source.old }
     ensures position { S.position source.new.source ≡ S.position source.old.source }
     ensures all { IfOk result (λ n. n ≡ length (left (view S.rest source.new))) }
-    ensures at_hand { IfOk result (λ n. n ≡ at_hand source.new.limit (S.available source.new.source)) }
+    ensures at_hand { IfOk result
+        (λ n. n ≡ at_hand source.new.limit (S.available source.new.source)) }
 {
     let mut have = 0;
     loop {
@@ -71,7 +72,9 @@ impl<S: Source> Constructed<S> {
         requires callable { F.IsAlwaysCallable op }
         requires reads { ReadsValues rest_of F.FnOnce op }
         requires sound { (here S.rest self.now).failed ≡ false }
-        requires all { at_hand self.now.octets.source.limit (S.available self.now.octets.source.source) ≡ length (left (view S.rest self.now.octets.source)) }
+        requires all { at_hand self.now.octets.source.limit
+            (S.available self.now.octets.source.source)
+            ≡ length (left (view S.rest self.now.octets.source)) }
         ensures read { IfOk result (ReadsSome F.FnOnce op (here S.rest self.now)) }
         ensures refused { IfErr result (RefusesIn F.FnOnce op (here S.rest self.now)) }
     {
@@ -103,7 +106,8 @@ impl<S: Source> Constructed<S> {
     >(&mut self, alloc: Global, op: F) -> Result<Captured, DecodeError<S::Error>>
         requires callable { F.IsAlwaysCallable op }
         requires reads { ReadsValues rest_of F.FnOnce op }
-        ensures captures { Captures F.FnOnce op (here S.rest self.old) result (here S.rest self.new) }
+        ensures captures { Captures F.FnOnce op (here S.rest self.old) result
+            (here S.rest self.new) }
         ensures place { IfErr result (λ e. OnContent e (
             RefusedAt F.FnOnce op (here S.rest self.old)
             (S.position self.old.octets.source.source) e)) }
@@ -133,8 +137,10 @@ impl<S: Source> Constructed<S> {
     /// The octets of the next value, which is then read of the content. Where that is refused, or no
     /// value is left, the content is as it was.
     pub fn capture_one(&mut self, alloc: Global) -> Result<Captured, DecodeError<S::Error>>
-        ensures captured { ReadsAs (λ c. c.octets) (Exactly (here S.rest self.old).mode) (here S.rest self.old) result (here S.rest self.new) }
-        ensures goes { IfOk result (λ c. Goes (here S.rest self.old) c.octets (here S.rest self.new)) }
+        ensures captured { ReadsAs (λ c. c.octets) (Exactly (here S.rest self.old).mode)
+            (here S.rest self.old) result (here S.rest self.new) }
+        ensures goes { IfOk result
+            (λ c. Goes (here S.rest self.old) c.octets (here S.rest self.new)) }
         ensures mode { IfOk result (λ c. c.mode ≡ (here S.rest self.old).mode) }
         ensures memory { IfErr result (λ e. OnMemory e (Ended (here S.rest self.old) → ⊥)) }
         ensures frame { OnOk result (SameFrame self.old self.new) }
@@ -143,8 +149,10 @@ impl<S: Source> Constructed<S> {
         self.capture(
             alloc,
             |cons|
-                ensures reads { ReadsAs (λ x. x) Any (here rest_of cons.old) result (here rest_of cons.new) }
-                ensures memory { IfErr result (λ e. OnMemory e (Ended (here rest_of cons.old) → ⊥)) }
+                ensures reads { ReadsAs (λ x. x) Any (here rest_of cons.old) result
+                    (here rest_of cons.new) }
+                ensures memory { IfErr result
+                    (λ e. OnMemory e (Ended (here rest_of cons.old) → ⊥)) }
             {
                 match cons.skip_one(alloc) {
                     Ok(Some(())) => Ok(()),
@@ -161,7 +169,8 @@ impl<S: Source> Constructed<S> {
     /// content. Where that is refused the content is as it was.
     pub fn capture_all(&mut self, alloc: Global) -> Result<Captured, DecodeError<S::Error>>
         ensures frame { OnOk result (SameFrame self.old self.new) }
-        ensures captured { IfOk result (λ c. CapturesAll (here S.rest self.old) c (here S.rest self.new)) }
+        ensures captured { IfOk result
+            (λ c. CapturesAll (here S.rest self.old) c (here S.rest self.new)) }
         ensures refused { IfErr result (λ e. OnContent e (NotWhole (here S.rest self.old))) }
         ensures memory { IfErr result (λ e. OnMemory e (Ended (here S.rest self.old) → ⊥)) }
         ensures kept { OnErr result (here S.rest self.new ≡ here S.rest self.old) }
@@ -169,9 +178,12 @@ impl<S: Source> Constructed<S> {
         self.capture(
             alloc,
             |cons|
-                ensures skipped { OnOk result (SkipsAll (here rest_of cons.old) (here rest_of cons.new)) }
-                ensures refused { IfErr result (λ e. OnContent e (NotWhole (here rest_of cons.old))) }
-                ensures memory { IfErr result (λ e. OnMemory e (Ended (here rest_of cons.old) → ⊥)) }
+                ensures skipped { OnOk result
+                    (SkipsAll (here rest_of cons.old) (here rest_of cons.new)) }
+                ensures refused { IfErr result
+                    (λ e. OnContent e (NotWhole (here rest_of cons.old))) }
+                ensures memory { IfErr result
+                    (λ e. OnMemory e (Ended (here rest_of cons.old) → ⊥)) }
             { cons.skip_all(alloc) },
         )
     }

@@ -115,7 +115,8 @@ impl Captured {
     >(self, op: F) -> Result<T, DecodeError<Infallible>>
         requires { F.IsAlwaysCallable op }
         ensures decoded { Decoded rest_of F.FnOnce op (fresh self.mode self.octets) result }
-        ensures memory { IfErr result (λ e. OnMemory e (InErr rest_of F.FnOnce op (fresh self.mode self.octets) e)) }
+        ensures memory { IfErr result
+            (λ e. OnMemory e (InErr rest_of F.FnOnce op (fresh self.mode self.octets) e)) }
         ensures spelled { SpellsValues self.mode self.octets }
     {
         Constructed::decode(self.bytes, self.mode, op)

@@ -51,7 +51,14 @@ impl<S: Source> Constructed<S> {
 
     /// From now on values are read by these rules, up to the end of this content.
     pub fn set_mode(&mut self, mode: Mode)
-        ensures { here S.rest self.new ≡ record { mode = mode; end = (here S.rest self.old).end; failed = (here S.rest self.old).failed; rest = (here S.rest self.old).rest; limit = (here S.rest self.old).limit } }
+        ensures { here S.rest self.new
+            ≡ record {
+              mode = mode;
+              end = (here S.rest self.old).end;
+              failed = (here S.rest self.old).failed;
+              rest = (here S.rest self.old).rest;
+              limit = (here S.rest self.old).limit;
+            } }
     {
         self.octets.mode = mode;
     }
@@ -66,7 +73,14 @@ impl<S: Source> Constructed<S> {
     /// From now on the content is failed: each later read of it is refused. So a reader leaves it that
     /// finds what it read unfit.
     pub fn fail(&mut self)
-        ensures { here S.rest self.new ≡ record { mode = (here S.rest self.old).mode; end = (here S.rest self.old).end; failed = true; rest = (here S.rest self.old).rest; limit = (here S.rest self.old).limit } }
+        ensures { here S.rest self.new
+            ≡ record {
+              mode = (here S.rest self.old).mode;
+              end = (here S.rest self.old).end;
+              failed = true;
+              rest = (here S.rest self.old).rest;
+              limit = (here S.rest self.old).limit;
+            } }
     {
         self.octets.failed = true;
     }
@@ -95,7 +109,8 @@ impl<S: Source> Constructed<S> {
     pub(crate) fn is_ended(&mut self) -> Result<bool, S::Error>
         ensures same { here S.rest self.new ≡ here S.rest self.old }
         ensures frame { SameFrame self.old self.new }
-        ensures told { IfOk result (λ b. IsTrue b ↔ EndsHere (here S.rest self.old).end (octets (here S.rest self.old))) }
+        ensures told { IfOk result
+            (λ b. IsTrue b ↔ EndsHere (here S.rest self.old).end (octets (here S.rest self.old))) }
     {
         match self.end {
             Ending::Definite => Ok(self.octets.source.limit == Some(0)),
@@ -114,7 +129,8 @@ impl<S: Source> Constructed<S> {
         ensures same { OnOk result (here S.rest self.new ≡ here S.rest self.old) }
         ensures frame { OnOk result (SameFrame self.old self.new) }
         ensures yes { IfOk result (λ b. b ≡ true → Comes (here S.rest self.old) tag) }
-        ensures told { IfOk result (λ b. b ≡ true → OfTag tag (left (octets (here S.rest self.old)))) }
+        ensures told { IfOk result
+            (λ b. b ≡ true → OfTag tag (left (octets (here S.rest self.old)))) }
         ensures no { IfOk result (λ b. b ≡ false → Unlike (here S.rest self.old) tag) }
         ensures refused { IfErr result (λ e. OnlyContent e (Untold (here S.rest self.old))) }
         ensures failed { OnErr result ((here S.rest self.new).failed ≡ true) }
@@ -139,9 +155,11 @@ impl<S: Source> Constructed<S> {
     // Goes into the value in front: its tag, its form, and what is around it.
     #[inline(always)]
     pub(crate) fn open(&mut self) -> Result<(Tag, bool, Outer), DecodeError<S::Error>>
-        ensures entered { IfOk result (λ r. Enters (here S.rest self.old) r.1 r.0 r.2.span (here S.rest self.new)) }
+        ensures entered { IfOk result
+            (λ r. Enters (here S.rest self.old) r.1 r.0 r.2.span (here S.rest self.new)) }
         ensures form { IfOk result (λ r. self.new.constructed ≡ r.1) }
-        ensures around { IfOk result (λ r. (r.2.mode ≡ (here S.rest self.old).mode) × (r.2.end ≡ (here S.rest self.old).end)) }
+        ensures around { IfOk result (λ r. (r.2.mode ≡ (here S.rest self.old).mode)
+            × (r.2.end ≡ (here S.rest self.old).end)) }
         ensures frame { IfOk result (λ r.
             (r.2.constructed ≡ self.old.constructed) × (r.2.start ≡ start_of self.old)) }
         ensures start { OnOk result (start_of self.new ≡ S.position self.new.octets.source.source) }
@@ -178,11 +196,14 @@ impl<S: Source> Constructed<S> {
     // Goes into the value in front, where it has that tag and form.
     #[inline(always)]
     fn open_if(&mut self, tag: Tag, constructed: bool) -> Result<Outer, DecodeError<S::Error>>
-        ensures entered { IfOk result (λ outer. Enters (here S.rest self.old) constructed tag outer.span (here S.rest self.new)) }
-        ensures around { IfOk result (λ outer. (outer.mode ≡ (here S.rest self.old).mode) × (outer.end ≡ (here S.rest self.old).end)) }
+        ensures entered { IfOk result (λ outer. Enters (here S.rest self.old) constructed tag
+            outer.span (here S.rest self.new)) }
+        ensures around { IfOk result (λ outer. (outer.mode ≡ (here S.rest self.old).mode)
+            × (outer.end ≡ (here S.rest self.old).end)) }
         ensures frame { IfOk result (λ outer.
             (outer.constructed ≡ self.old.constructed) × (outer.start ≡ start_of self.old)) }
-        ensures refused { IfErr result (λ e. OnlyContent e (NoneOf (here S.rest self.old) tag constructed)) }
+        ensures refused { IfErr result
+            (λ e. OnlyContent e (NoneOf (here S.rest self.old) tag constructed)) }
         ensures named { IfErr result (λ e. OnContent e (NamesTag (here S.rest self.old) tag e)) }
         ensures failed { OnErr result ((here S.rest self.new).failed ≡ true) }
     {
@@ -202,10 +223,12 @@ impl<S: Source> Constructed<S> {
     // Goes behind the value whose content was read, all of it.
     #[inline(always)]
     pub(crate) fn close(&mut self, outer: Outer) -> Result<(), DecodeError<S::Error>>
-        ensures left { OnOk result (LeftBy outer.span outer.mode outer.end (here S.rest self.old) (here S.rest self.new)) }
+        ensures left { OnOk result
+            (LeftBy outer.span outer.mode outer.end (here S.rest self.old) (here S.rest self.new)) }
         ensures frame { OnOk result (
             (self.new.constructed ≡ outer.constructed) × (start_of self.new ≡ outer.start)) }
-        ensures refused { IfErr result (λ e. OnlyContent e (EndsUnread outer.span (here S.rest self.old).failed (octets (here S.rest self.old)))) }
+        ensures refused { IfErr result (λ e. OnlyContent e
+            (EndsUnread outer.span (here S.rest self.old).failed (octets (here S.rest self.old)))) }
         ensures failed { OnErr result ((here S.rest self.new).failed ≡ true) }
     {
         if self.octets.failed {
@@ -235,11 +258,13 @@ impl<S: Source> Constructed<S> {
         F: FnOnce(&mut Constructed<S>) -> Result<T, DecodeError<S::Error>>,
     >(&mut self, tag: Tag, op: F) -> Result<T, DecodeError<S::Error>>
         requires { F.IsAlwaysCallable op }
-        ensures ran { Ran S.rest F.FnOnce op (here S.rest self.old) tag result (here S.rest self.new) }
+        ensures ran { Ran S.rest F.FnOnce op (here S.rest self.old) tag result
+            (here S.rest self.new) }
         ensures frame { OnOk result (SameFrame self.old self.new) }
         ensures named { IfErr result (λ e. OnContent e (NamesTag (here S.rest self.old) tag e)) }
         ensures failed { OnErr result ((here S.rest self.new).failed ≡ true) }
-        ensures memory { IfErr result (λ e. OnMemory e (RanErr S.rest F.FnOnce op (here S.rest self.old) tag e)) }
+        ensures memory { IfErr result
+            (λ e. OnMemory e (RanErr S.rest F.FnOnce op (here S.rest self.old) tag e)) }
     {
         let outer = match self.open_if(tag, true) {
             Ok(outer) => outer,
@@ -265,10 +290,12 @@ impl<S: Source> Constructed<S> {
         F: FnOnce(&mut Constructed<S>) -> Result<T, DecodeError<S::Error>>,
     >(&mut self, tag: Tag, op: F) -> Result<Option<T>, DecodeError<S::Error>>
         requires { F.IsAlwaysCallable op }
-        ensures ran { RanOpt S.rest F.FnOnce op (here S.rest self.old) tag result (here S.rest self.new) }
+        ensures ran { RanOpt S.rest F.FnOnce op (here S.rest self.old) tag result
+            (here S.rest self.new) }
         ensures frame { OnOk result (SameFrame self.old self.new) }
         ensures failed { OnErr result ((here S.rest self.new).failed ≡ true) }
-        ensures memory { IfErr result (λ e. OnMemory e (RanErr S.rest F.FnOnce op (here S.rest self.old) tag e)) }
+        ensures memory { IfErr result
+            (λ e. OnMemory e (RanErr S.rest F.FnOnce op (here S.rest self.old) tag e)) }
     {
         match self.comes(tag) {
             Ok(true) => {}
@@ -288,11 +315,13 @@ impl<S: Source> Constructed<S> {
         F: FnOnce(&mut Primitive<S>) -> Result<T, DecodeError<S::Error>>,
     >(&mut self, tag: Tag, op: F) -> Result<T, DecodeError<S::Error>>
         requires { F.IsAlwaysCallable op }
-        ensures ran { PlainRan S.rest F.FnOnce op (here S.rest self.old) tag result (here S.rest self.new) }
+        ensures ran { PlainRan S.rest F.FnOnce op (here S.rest self.old) tag result
+            (here S.rest self.new) }
         ensures frame { OnOk result (SameFrame self.old self.new) }
         ensures named { IfErr result (λ e. OnContent e (NamesTag (here S.rest self.old) tag e)) }
         ensures failed { OnErr result ((here S.rest self.new).failed ≡ true) }
-        ensures memory { IfErr result (λ e. OnMemory e (PlainErr S.rest F.FnOnce op (here S.rest self.old) tag e)) }
+        ensures memory { IfErr result
+            (λ e. OnMemory e (PlainErr S.rest F.FnOnce op (here S.rest self.old) tag e)) }
     {
         let outer = match self.open_if(tag, false) {
             Ok(outer) => outer,
@@ -318,10 +347,12 @@ impl<S: Source> Constructed<S> {
         F: FnOnce(&mut Primitive<S>) -> Result<T, DecodeError<S::Error>>,
     >(&mut self, tag: Tag, op: F) -> Result<Option<T>, DecodeError<S::Error>>
         requires { F.IsAlwaysCallable op }
-        ensures ran { PlainRanOpt S.rest F.FnOnce op (here S.rest self.old) tag result (here S.rest self.new) }
+        ensures ran { PlainRanOpt S.rest F.FnOnce op (here S.rest self.old) tag result
+            (here S.rest self.new) }
         ensures frame { OnOk result (SameFrame self.old self.new) }
         ensures failed { OnErr result ((here S.rest self.new).failed ≡ true) }
-        ensures memory { IfErr result (λ e. OnMemory e (PlainErr S.rest F.FnOnce op (here S.rest self.old) tag e)) }
+        ensures memory { IfErr result
+            (λ e. OnMemory e (PlainErr S.rest F.FnOnce op (here S.rest self.old) tag e)) }
     {
         match self.comes(tag) {
             Ok(true) => {}

@@ -94,7 +94,8 @@ impl<S: Source> Constructed<S> {
     ) -> Result<T, DecodeError<S::Error>>
         requires callable { F.IsAlwaysCallable op }
         requires keeps { (t p q : _) (r : _) → F.post op t p r q → SameContent p.now q.now }
-        ensures { ByContent S.rest F.FnOnce op self.old.constructed tag (here S.rest self.old) result (here S.rest self.new) }
+        ensures { ByContent S.rest F.FnOnce op self.old.constructed tag (here S.rest self.old)
+            result (here S.rest self.new) }
     {
         let mut content = Content { values: self };
         op(tag, &mut content)
@@ -107,7 +108,9 @@ impl<S: Source> Constructed<S> {
     ) -> Result<T, DecodeError<S::Error>>
         requires callable { F.IsAlwaysCallable op }
         requires keeps { (p q : _) (r : _) → F.post op p r q → SameContent p.now q.now }
-        ensures { (tag : _) → ByContentAlone S.rest F.FnOnce op self.old.constructed tag (here S.rest self.old) result (here S.rest self.new) }
+        ensures { (tag : _)
+            → ByContentAlone S.rest F.FnOnce op self.old.constructed tag (here S.rest self.old)
+            result (here S.rest self.new) }
     {
         let mut content = Content { values: self };
         op(&mut content)
@@ -140,10 +143,12 @@ impl<S: Source> Constructed<S> {
     >(&mut self, op: F) -> Result<T, DecodeError<S::Error>>
         requires callable { F.IsAlwaysCallable op }
         requires keeps { (t p q : _) (r : _) → F.post op t p r q → SameContent p.now q.now }
-        ensures taken { Takes (ByContent S.rest F.FnOnce op) AnyKind (here S.rest self.old) result (here S.rest self.new) }
+        ensures taken { Takes (ByContent S.rest F.FnOnce op) AnyKind (here S.rest self.old) result
+            (here S.rest self.new) }
         ensures frame { OnOk result (SameFrame self.old self.new) }
         ensures failed { OnErr result ((here S.rest self.new).failed ≡ true) }
-        ensures memory { IfErr result (λ e. OnMemory e (AnyErr (ByContent S.rest F.FnOnce op) (here S.rest self.old) e)) }
+        ensures memory { IfErr result
+            (λ e. OnMemory e (AnyErr (ByContent S.rest F.FnOnce op) (here S.rest self.old) e)) }
     {
         let (tag, _, outer) = match self.open() {
             Ok(found) => found,
@@ -169,10 +174,12 @@ impl<S: Source> Constructed<S> {
     >(&mut self, op: F) -> Result<Option<T>, DecodeError<S::Error>>
         requires callable { F.IsAlwaysCallable op }
         requires keeps { (t p q : _) (r : _) → F.post op t p r q → SameContent p.now q.now }
-        ensures taken { TakesNext (ByContent S.rest F.FnOnce op) AnyKind (here S.rest self.old) result (here S.rest self.new) }
+        ensures taken { TakesNext (ByContent S.rest F.FnOnce op) AnyKind (here S.rest self.old)
+            result (here S.rest self.new) }
         ensures frame { OnOk result (SameFrame self.old self.new) }
         ensures failed { OnErr result ((here S.rest self.new).failed ≡ true) }
-        ensures memory { IfErr result (λ e. OnMemory e (AnyErr (ByContent S.rest F.FnOnce op) (here S.rest self.old) e)) }
+        ensures memory { IfErr result
+            (λ e. OnMemory e (AnyErr (ByContent S.rest F.FnOnce op) (here S.rest self.old) e)) }
     {
         match self.ends() {
             Ok(false) => {}
@@ -192,11 +199,13 @@ impl<S: Source> Constructed<S> {
     >(&mut self, tag: Tag, op: F) -> Result<T, DecodeError<S::Error>>
         requires callable { F.IsAlwaysCallable op }
         requires keeps { (p q : _) (r : _) → F.post op p r q → SameContent p.now q.now }
-        ensures taken { Takes (ByContentAlone S.rest F.FnOnce op) (WithTag tag) (here S.rest self.old) result (here S.rest self.new) }
+        ensures taken { Takes (ByContentAlone S.rest F.FnOnce op) (WithTag tag)
+            (here S.rest self.old) result (here S.rest self.new) }
         ensures frame { OnOk result (SameFrame self.old self.new) }
         ensures named { IfErr result (λ e. OnContent e (NamesTag (here S.rest self.old) tag e)) }
         ensures failed { OnErr result ((here S.rest self.new).failed ≡ true) }
-        ensures memory { IfErr result (λ e. OnMemory e (AnyErr (ByContentAlone S.rest F.FnOnce op) (here S.rest self.old) e)) }
+        ensures memory { IfErr result (λ e. OnMemory e
+            (AnyErr (ByContentAlone S.rest F.FnOnce op) (here S.rest self.old) e)) }
     {
         let (found, _, outer) = match self.open() {
             Ok(found) => found,
@@ -225,10 +234,12 @@ impl<S: Source> Constructed<S> {
     >(&mut self, tag: Tag, op: F) -> Result<Option<T>, DecodeError<S::Error>>
         requires callable { F.IsAlwaysCallable op }
         requires keeps { (p q : _) (r : _) → F.post op p r q → SameContent p.now q.now }
-        ensures taken { TakesOpt (ByContentAlone S.rest F.FnOnce op) tag (here S.rest self.old) result (here S.rest self.new) }
+        ensures taken { TakesOpt (ByContentAlone S.rest F.FnOnce op) tag (here S.rest self.old)
+            result (here S.rest self.new) }
         ensures frame { OnOk result (SameFrame self.old self.new) }
         ensures failed { OnErr result ((here S.rest self.new).failed ≡ true) }
-        ensures memory { IfErr result (λ e. OnMemory e (AnyErr (ByContentAlone S.rest F.FnOnce op) (here S.rest self.old) e)) }
+        ensures memory { IfErr result (λ e. OnMemory e
+            (AnyErr (ByContentAlone S.rest F.FnOnce op) (here S.rest self.old) e)) }
     {
         match self.comes(tag) {
             Ok(true) => {}
@@ -248,10 +259,12 @@ impl<S: Source> Constructed<S> {
         F: FnOnce(Tag, &mut Constructed<S>) -> Result<T, DecodeError<S::Error>>,
     >(&mut self, op: F) -> Result<T, DecodeError<S::Error>>
         requires callable { F.IsAlwaysCallable op }
-        ensures taken { Takes (ByValues S.rest F.FnOnce op) (OfForm true) (here S.rest self.old) result (here S.rest self.new) }
+        ensures taken { Takes (ByValues S.rest F.FnOnce op) (OfForm true) (here S.rest self.old)
+            result (here S.rest self.new) }
         ensures frame { OnOk result (SameFrame self.old self.new) }
         ensures failed { OnErr result ((here S.rest self.new).failed ≡ true) }
-        ensures memory { IfErr result (λ e. OnMemory e (AnyErr (ByValues S.rest F.FnOnce op) (here S.rest self.old) e)) }
+        ensures memory { IfErr result
+            (λ e. OnMemory e (AnyErr (ByValues S.rest F.FnOnce op) (here S.rest self.old) e)) }
     {
         let (tag, constructed, outer) = match self.open() {
             Ok(found) => found,
@@ -279,10 +292,12 @@ impl<S: Source> Constructed<S> {
         F: FnOnce(Tag, &mut Constructed<S>) -> Result<T, DecodeError<S::Error>>,
     >(&mut self, op: F) -> Result<Option<T>, DecodeError<S::Error>>
         requires callable { F.IsAlwaysCallable op }
-        ensures taken { TakesNext (ByValues S.rest F.FnOnce op) (OfForm true) (here S.rest self.old) result (here S.rest self.new) }
+        ensures taken { TakesNext (ByValues S.rest F.FnOnce op) (OfForm true) (here S.rest self.old)
+            result (here S.rest self.new) }
         ensures frame { OnOk result (SameFrame self.old self.new) }
         ensures failed { OnErr result ((here S.rest self.new).failed ≡ true) }
-        ensures memory { IfErr result (λ e. OnMemory e (AnyErr (ByValues S.rest F.FnOnce op) (here S.rest self.old) e)) }
+        ensures memory { IfErr result
+            (λ e. OnMemory e (AnyErr (ByValues S.rest F.FnOnce op) (here S.rest self.old) e)) }
     {
         match self.ends() {
             Ok(false) => {}
@@ -302,10 +317,12 @@ impl<S: Source> Constructed<S> {
         F: FnOnce(Tag, &mut Primitive<S>) -> Result<T, DecodeError<S::Error>>,
     >(&mut self, op: F) -> Result<T, DecodeError<S::Error>>
         requires callable { F.IsAlwaysCallable op }
-        ensures taken { Takes (ByOctets S.rest F.FnOnce op) (OfForm false) (here S.rest self.old) result (here S.rest self.new) }
+        ensures taken { Takes (ByOctets S.rest F.FnOnce op) (OfForm false) (here S.rest self.old)
+            result (here S.rest self.new) }
         ensures frame { OnOk result (SameFrame self.old self.new) }
         ensures failed { OnErr result ((here S.rest self.new).failed ≡ true) }
-        ensures memory { IfErr result (λ e. OnMemory e (AnyErr (ByOctets S.rest F.FnOnce op) (here S.rest self.old) e)) }
+        ensures memory { IfErr result
+            (λ e. OnMemory e (AnyErr (ByOctets S.rest F.FnOnce op) (here S.rest self.old) e)) }
     {
         let (tag, constructed, outer) = match self.open() {
             Ok(found) => found,
@@ -333,10 +350,12 @@ impl<S: Source> Constructed<S> {
         F: FnOnce(Tag, &mut Primitive<S>) -> Result<T, DecodeError<S::Error>>,
     >(&mut self, op: F) -> Result<Option<T>, DecodeError<S::Error>>
         requires callable { F.IsAlwaysCallable op }
-        ensures taken { TakesNext (ByOctets S.rest F.FnOnce op) (OfForm false) (here S.rest self.old) result (here S.rest self.new) }
+        ensures taken { TakesNext (ByOctets S.rest F.FnOnce op) (OfForm false)
+            (here S.rest self.old) result (here S.rest self.new) }
         ensures frame { OnOk result (SameFrame self.old self.new) }
         ensures failed { OnErr result ((here S.rest self.new).failed ≡ true) }
-        ensures memory { IfErr result (λ e. OnMemory e (AnyErr (ByOctets S.rest F.FnOnce op) (here S.rest self.old) e)) }
+        ensures memory { IfErr result
+            (λ e. OnMemory e (AnyErr (ByOctets S.rest F.FnOnce op) (here S.rest self.old) e)) }
     {
         match self.ends() {
             Ok(false) => {}

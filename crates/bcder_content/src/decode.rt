@@ -19,7 +19,8 @@ impl<S: Source> Constructed<S> {
     >(source: I, mode: Mode, op: F) -> Result<T, DecodeError<S::Error>>
         requires { F.IsAlwaysCallable op }
         ensures decoded { Decoded S.rest F.FnOnce op (fresh mode (I.octets source)) result }
-        ensures memory { IfErr result (λ e. OnMemory e (InErr S.rest F.FnOnce op (fresh mode (I.octets source)) e)) }
+        ensures memory { IfErr result
+            (λ e. OnMemory e (InErr S.rest F.FnOnce op (fresh mode (I.octets source)) e)) }
     {
         let source = LimitedSource::new(source.into_source());
         let start = source.pos();
@@ -58,8 +59,10 @@ pub trait Decode {
         ) -> Result<T, DecodeError<<I::Source as Source>::Error>>,
     >(self, source: I, op: F) -> Result<T, DecodeError<<I::Source as Source>::Error>>
         requires { F.IsAlwaysCallable op }
-        ensures decoded { Decoded I.Source.rest F.FnOnce op (fresh (mode self) (I.octets source)) result }
-        ensures memory { IfErr result (λ e. OnMemory e (InErr I.Source.rest F.FnOnce op (fresh (mode self) (I.octets source)) e)) };
+        ensures decoded { Decoded I.Source.rest F.FnOnce op (fresh (mode self) (I.octets source))
+            result }
+        ensures memory { IfErr result (λ e. OnMemory e
+            (InErr I.Source.rest F.FnOnce op (fresh (mode self) (I.octets source)) e)) };
 }
 
 impl Decode for Mode {

@@ -38,7 +38,8 @@ impl<'a, S: Source> Content<'a, S> {
 
     /// The number of an INTEGER (X.690 8.3) that fits a `u8`; any other is refused, and none is cut.
     pub fn to_u8(&mut self) -> Result<u8, DecodeError<S::Error>>
-        ensures reads { ReadsTagged S.rest (λ n. n) (λ _ tag. OctetsOf tag (IsUnsigned (2 ^ 8))) self.old result self.new }
+        ensures reads { ReadsTagged S.rest (λ n. n) (λ _ tag. OctetsOf tag (IsUnsigned (2 ^ 8)))
+            self.old result self.new }
         ensures failed { OnErr result ((left_of S.rest self.new).failed ≡ true) }
         ensures no_memory { IfErr result (λ e. e ≢ Memory) }
     {
@@ -50,7 +51,8 @@ impl<'a, S: Source> Content<'a, S> {
 
     /// The number of an INTEGER (X.690 8.3) that fits a `u16`; any other is refused, and none is cut.
     pub fn to_u16(&mut self) -> Result<u16, DecodeError<S::Error>>
-        ensures reads { ReadsTagged S.rest (λ n. n) (λ _ tag. OctetsOf tag (IsUnsigned (2 ^ 16))) self.old result self.new }
+        ensures reads { ReadsTagged S.rest (λ n. n) (λ _ tag. OctetsOf tag (IsUnsigned (2 ^ 16)))
+            self.old result self.new }
         ensures failed { OnErr result ((left_of S.rest self.new).failed ≡ true) }
         ensures no_memory { IfErr result (λ e. e ≢ Memory) }
     {
@@ -62,7 +64,8 @@ impl<'a, S: Source> Content<'a, S> {
 
     /// The number of an INTEGER (X.690 8.3) that fits a `u32`; any other is refused, and none is cut.
     pub fn to_u32(&mut self) -> Result<u32, DecodeError<S::Error>>
-        ensures reads { ReadsTagged S.rest (λ n. n) (λ _ tag. OctetsOf tag (IsUnsigned (2 ^ 32))) self.old result self.new }
+        ensures reads { ReadsTagged S.rest (λ n. n) (λ _ tag. OctetsOf tag (IsUnsigned (2 ^ 32)))
+            self.old result self.new }
         ensures failed { OnErr result ((left_of S.rest self.new).failed ≡ true) }
         ensures no_memory { IfErr result (λ e. e ≢ Memory) }
     {
@@ -74,7 +77,8 @@ impl<'a, S: Source> Content<'a, S> {
 
     /// The number of an INTEGER (X.690 8.3) that fits a `u64`; any other is refused, and none is cut.
     pub fn to_u64(&mut self) -> Result<u64, DecodeError<S::Error>>
-        ensures reads { ReadsTagged S.rest (λ n. n) (λ _ tag. OctetsOf tag (IsUnsigned (2 ^ 64))) self.old result self.new }
+        ensures reads { ReadsTagged S.rest (λ n. n) (λ _ tag. OctetsOf tag (IsUnsigned (2 ^ 64)))
+            self.old result self.new }
         ensures failed { OnErr result ((left_of S.rest self.new).failed ≡ true) }
         ensures no_memory { IfErr result (λ e. e ≢ Memory) }
     {
@@ -86,7 +90,8 @@ impl<'a, S: Source> Content<'a, S> {
 
     /// Reads a NULL (X.690 8.8): there is no octet.
     pub fn to_null(&mut self) -> Result<(), DecodeError<S::Error>>
-        ensures reads { ReadsTagged S.rest (λ x. x) (λ _ tag. OctetsOf tag IsNull) self.old result self.new }
+        ensures reads { ReadsTagged S.rest (λ x. x) (λ _ tag. OctetsOf tag IsNull) self.old result
+            self.new }
         ensures failed { OnErr result ((left_of S.rest self.new).failed ≡ true) }
         ensures no_memory { IfErr result (λ e. e ≢ Memory) }
     {
@@ -98,7 +103,9 @@ impl<'a, S: Source> Content<'a, S> {
 
     /// Reads an INTEGER (X.690 8.3) of that number; any other is refused.
     pub fn skip_u8_if(&mut self, expected: u8) -> Result<(), DecodeError<S::Error>>
-        ensures reads { ReadsTagged S.rest (λ x. x) (λ _ tag. OctetsOf tag (IsValue (IsUnsigned (2 ^ 8)) expected)) self.old result self.new }
+        ensures reads { ReadsTagged S.rest (λ x. x)
+            (λ _ tag. OctetsOf tag (IsValue (IsUnsigned (2 ^ 8)) expected)) self.old result
+            self.new }
         ensures failed { OnErr result ((left_of S.rest self.new).failed ≡ true) }
         ensures no_memory { IfErr result (λ e. e ≢ Memory) }
     {

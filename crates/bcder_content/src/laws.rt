@@ -16,7 +16,8 @@ ghost use Rattle.bcder_header.specs.declared.ending.Span.{Span};
 /// A value is next exactly where it stands in front of what may be read of a content that hasn't
 /// failed.
 pub fn next_stands_in_front()
-    ensures { (v : ValuesLeft) (t : Tree) → Ahead v t ↔ ((v.failed ≡ false) × ((rest : List ℕ) × Front v.mode (left (octets v)) t rest)) }
+    ensures { (v : ValuesLeft) (t : Tree) → Ahead v t
+        ↔ ((v.failed ≡ false) × ((rest : List ℕ) × Front v.mode (left (octets v)) t rest)) }
 {}
 
 /// A constructed value that was walked through was taken: reading went into it, took these values

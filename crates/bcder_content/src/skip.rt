@@ -60,8 +60,10 @@ impl<S: Source> Constructed<S> {
         op: F,
     ) -> Result<(), DecodeError<S::Error>>
         requires callable { F.IsAlwaysCallable op }
-        ensures skipped { OnOk result (SkipsNext F.step op (here S.rest self.old) (here S.rest self.new)) }
-        ensures refused { IfErr result (λ e. OnError e (StopsNext F.step op (here S.rest self.old))) }
+        ensures skipped { OnOk result
+            (SkipsNext F.step op (here S.rest self.old) (here S.rest self.new)) }
+        ensures refused { IfErr result
+            (λ e. OnError e (StopsNext F.step op (here S.rest self.old))) }
         ensures frame { OnOk result (SameFrame self.old self.new) }
         ensures memory { IfErr result (λ e. OnMemory e (Ended (here S.rest self.old) → ⊥)) }
         ensures failed { OnErr result ((here S.rest self.new).failed ≡ true) }
@@ -77,7 +79,8 @@ impl<S: Source> Constructed<S> {
     ///
     /// None where the content has ended.
     pub fn skip_one(&mut self, alloc: Global) -> Result<Option<()>, DecodeError<S::Error>>
-        ensures skipped { ReadsNextAs (λ x. x) Any (here S.rest self.old) result (here S.rest self.new) }
+        ensures skipped { ReadsNextAs (λ x. x) Any (here S.rest self.old) result
+            (here S.rest self.new) }
         ensures frame { OnOk result (SameFrame self.old self.new) }
         ensures memory { IfErr result (λ e. OnMemory e (Ended (here S.rest self.old) → ⊥)) }
         ensures failed { OnErr result ((here S.rest self.new).failed ≡ true) }

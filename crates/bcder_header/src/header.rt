@@ -33,7 +33,8 @@ struct Header {
 // The header in front of octets.
 #[inline(always)]
 fn read_header(mode: Mode, octets: &[u8]) -> Option<Header>
-    ensures found { IfSome result (λ h. Heads mode h.constructed h.tag h.length h.count octets.now) }
+    ensures found { IfSome result
+        (λ h. Heads mode h.constructed h.tag h.length h.count octets.now) }
     ensures none { IfNone result (NoHead mode octets.now) }
 {
     let Some((tag, constructed, before)) = Tag::read(octets) else {
@@ -54,8 +55,10 @@ fn read_header(mode: Mode, octets: &[u8]) -> Option<Header>
 #[inline(always)]
 fn peek<S: Source>(mode: Mode, source: &mut LimitedSource<S>) -> Result<Option<Header>, S::Error>
     ensures same { view S.rest source.new ≡ view S.rest source.old }
-    ensures found { IfOk result (λ r. IfSome r (λ h. Heads mode h.constructed h.tag h.length h.count (left (view S.rest source.old)))) }
-    ensures there { IfOk result (λ r. IfSome r (λ h. h.count ≤ at_hand source.new.limit (S.available source.new.source))) }
+    ensures found { IfOk result (λ r. IfSome r
+        (λ h. Heads mode h.constructed h.tag h.length h.count (left (view S.rest source.old)))) }
+    ensures there { IfOk result
+        (λ r. IfSome r (λ h. h.count ≤ at_hand source.new.limit (S.available source.new.source))) }
     ensures none { IfOk result (λ r. IfNone r (NoHead mode (left (view S.rest source.old)))) }
 {
     source.request(9)?;
@@ -86,7 +89,8 @@ fn has_indefinite(mode: Mode) -> bool
 #[inline(always)]
 fn limit_behind(limit: Option<usize>, count: usize, length: usize) -> Option<Option<usize>>
     ensures found { IfSome result (λ outer. limit ≡ more_limit (count + length) outer) }
-    ensures none { IfNone result ((outer : Option ℕ) → limit ≡ more_limit (count + length) outer → ⊥) }
+    ensures none { IfNone result
+        ((outer : Option ℕ) → limit ≡ more_limit (count + length) outer → ⊥) }
 {
     let Some(limit) = limit else {
         return Some(None);
@@ -110,7 +114,8 @@ fn span_of(
     count: usize,
 ) -> Option<Span>
     ensures found { IfSome result (λ span. Starts mode limit constructed length count span) }
-    ensures none { IfNone result ((span : _) → Starts mode limit constructed length count span → ⊥) }
+    ensures none { IfNone result
+        ((span : _) → Starts mode limit constructed length count span → ⊥) }
 {
     match length {
         Length::Definite(length) => {
@@ -141,8 +146,13 @@ fn enter_at<S: Source>(
     count: usize,
 ) -> Option<Span>
     requires there { count ≤ at_hand source.old.limit (S.available source.old.source) }
-    ensures found { (t : TagValue) → Heads mode constructed t length count (left (view S.rest source.old)) → IfSome result (λ span. Opens mode (view S.rest source.old) constructed t span (view S.rest source.new)) }
-    ensures none { (t : TagValue) → Heads mode constructed t length count (left (view S.rest source.old)) → IfNone result (NoValue mode (view S.rest source.old)) }
+    ensures found { (t : TagValue)
+        → Heads mode constructed t length count (left (view S.rest source.old))
+        → IfSome result
+        (λ span. Opens mode (view S.rest source.old) constructed t span (view S.rest source.new)) }
+    ensures none { (t : TagValue)
+        → Heads mode constructed t length count (left (view S.rest source.old))
+        → IfNone result (NoValue mode (view S.rest source.old)) }
     ensures kept { IfNone result (view S.rest source.new ≡ view S.rest source.old) }
 {
     let limit = source.limit;
@@ -166,7 +176,9 @@ pub fn enter<S: Source>(
     mode: Mode,
     source: &mut LimitedSource<S>,
 ) -> Result<Option<Start>, S::Error>
-    ensures found { IfOk result (λ r. IfSome r (λ start. Opens mode (view S.rest source.old) start.constructed start.tag start.span (view S.rest source.new))) }
+    ensures found { IfOk result (λ r. IfSome r
+        (λ start. Opens mode (view S.rest source.old) start.constructed start.tag start.span
+        (view S.rest source.new))) }
     ensures none { IfOk result (λ r. IfNone r (NoValue mode (view S.rest source.old))) }
     ensures kept { IfOk result (λ r. IfNone r (view S.rest source.new ≡ view S.rest source.old)) }
     ensures failed { OnErr result (view S.rest source.new ≡ view S.rest source.old) }
@@ -208,8 +220,10 @@ pub fn next_tag<S: Source>(source: &mut LimitedSource<S>) -> Result<Option<Tag>,
 /// Goes behind the value whose content is read, where that has ended.
 #[inline(always)]
 pub fn leave<S: Source>(source: &mut LimitedSource<S>, span: Span) -> Result<bool, S::Error>
-    ensures yes { IfOk result (λ b. IsTrue b → Closes span (view S.rest source.old) (view S.rest source.new)) }
-    ensures no { IfOk result (λ b. IsFalse b → (w : View) → Closes span (view S.rest source.old) w → ⊥) }
+    ensures yes { IfOk result
+        (λ b. IsTrue b → Closes span (view S.rest source.old) (view S.rest source.new)) }
+    ensures no { IfOk result
+        (λ b. IsFalse b → (w : View) → Closes span (view S.rest source.old) w → ⊥) }
     ensures kept { IfOk result (λ b. IsFalse b → view S.rest source.new ≡ view S.rest source.old) }
     ensures failed { OnErr result (view S.rest source.new ≡ view S.rest source.old) }
 {

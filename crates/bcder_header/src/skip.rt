@@ -23,9 +23,11 @@ fn open<S: Source>(
     mode: Mode,
     source: &mut LimitedSource<S>,
 ) -> Result<Start, DecodeError<S::Error>>
-    ensures found { IfOk result (λ start. Opens mode (view S.rest source.old) start.constructed start.tag start.span (view S.rest source.new)) }
+    ensures found { IfOk result (λ start. Opens mode (view S.rest source.old) start.constructed
+        start.tag start.span (view S.rest source.new)) }
     ensures none { IfErr result (λ e. OnContent e (NoValue mode (view S.rest source.old))) }
-    ensures shorter { OnOk result (length (S.rest source.new.source) < length (S.rest source.old.source)) }
+    ensures shorter { OnOk result
+        (length (S.rest source.new.source) < length (S.rest source.old.source)) }
 {
     match enter(mode, source) {
         Ok(Some(start)) => Ok(start),
@@ -40,9 +42,19 @@ fn descend<S: Source>(
     start: Start,
     spans: &mut Spans,
 ) -> Result<(), DecodeError<S::Error>>
-    ensures reached { OnOk result ((m : ModeValue) (before final : View) → Opens m before start.constructed start.tag start.span (view S.rest source.old) → Reaches (Value m (length spans.old.items) (Wants m (reverse spans.old.items) final) before) (record { tag = start.tag; form = start.constructed; depth = length spans.old.items } ∷ []) (Wants m (reverse spans.new.items) final (view S.rest source.new))) }
-    ensures cut { IfErr result (λ e. OnContent e ((m : ModeValue) (before : View) → Opens m before start.constructed start.tag start.span (view S.rest source.old) → NoValue m before)) }
-    ensures shorter { OnOk result (length (S.rest source.new.source) ≤ length (S.rest source.old.source)) }
+    ensures reached { OnOk result
+        ((m : ModeValue) (before final : View)
+        → Opens m before start.constructed start.tag start.span (view S.rest source.old)
+        → Reaches
+        (Value m (length spans.old.items) (Wants m (reverse spans.old.items) final) before)
+        (record { tag = start.tag; form = start.constructed; depth = length spans.old.items } ∷ [])
+        (Wants m (reverse spans.new.items) final (view S.rest source.new))) }
+    ensures cut { IfErr result (λ e. OnContent e
+        ((m : ModeValue) (before : View)
+        → Opens m before start.constructed start.tag start.span (view S.rest source.old)
+        → NoValue m before)) }
+    ensures shorter { OnOk result
+        (length (S.rest source.new.source) ≤ length (S.rest source.old.source)) }
 {
     if start.constructed {
         spans.push(start.span)?;
@@ -60,10 +72,17 @@ fn leave_ended<S: Source>(
     source: &mut LimitedSource<S>,
     spans: &mut Spans,
 ) -> Result<bool, S::Error>
-    ensures reached { OnOk result ((m : ModeValue) (final : View) → Reaches (Wants m (reverse spans.old.items) final (view S.rest source.old)) [] (Wants m (reverse spans.new.items) final (view S.rest source.new))) }
+    ensures reached { OnOk result
+        ((m : ModeValue) (final : View)
+        → Reaches (Wants m (reverse spans.old.items) final (view S.rest source.old)) []
+        (Wants m (reverse spans.new.items) final (view S.rest source.new))) }
     ensures all { IfOk result (λ b. IsTrue b → spans.new.items ≡ []) }
-    ensures goes_on { IfOk result (λ b. IsFalse b → (m : ModeValue) (final : View) → Reaches (Wants m (reverse spans.new.items) final (view S.rest source.new)) [] (Value m (length spans.new.items) (Wants m (reverse spans.new.items) final) (view S.rest source.new))) }
-    ensures shorter { OnOk result (length (S.rest source.new.source) ≤ length (S.rest source.old.source)) }
+    ensures goes_on { IfOk result (λ b. IsFalse b → (m : ModeValue) (final : View)
+        → Reaches (Wants m (reverse spans.new.items) final (view S.rest source.new)) []
+        (Value m (length spans.new.items) (Wants m (reverse spans.new.items) final)
+        (view S.rest source.new))) }
+    ensures shorter { OnOk result
+        (length (S.rest source.new.source) ≤ length (S.rest source.old.source)) }
 {
     loop {
         let Some(span) = spans.last() else {
@@ -89,8 +108,10 @@ pub fn skip_value<S: Source, F: FnMut(Tag, bool, usize) -> Result<(), ContentErr
     mut op: F,
 ) -> Result<(), DecodeError<S::Error>>
     requires callable { F.IsAlwaysCallable op }
-    ensures skipped { OnOk result (Skips mode F.step op (view S.rest source.old) (view S.rest source.new)) }
-    ensures refused { IfErr result (λ e. OnError e (Stops mode 0 F.step op (view S.rest source.old))) }
+    ensures skipped { OnOk result
+        (Skips mode F.step op (view S.rest source.old) (view S.rest source.new)) }
+    ensures refused { IfErr result
+        (λ e. OnError e (Stops mode 0 F.step op (view S.rest source.old))) }
 {
     let mut spans: Spans = SmallVec::new(alloc);
     loop {

@@ -219,7 +219,8 @@ impl Integer {
     pub fn i8_from_primitive<S: Source>(
         prim: &mut Primitive<S>,
     ) -> Result<i8, DecodeError<S::Error>>
-        ensures reads { ReadsOctetsAs (λ n. n) (IsSigned (2 ^ 7)) (plain S.rest prim.old) result (plain S.rest prim.new) }
+        ensures reads { ReadsOctetsAs (λ n. n) (IsSigned (2 ^ 7)) (plain S.rest prim.old) result
+            (plain S.rest prim.new) }
         ensures failed { OnErr result ((plain S.rest prim.new).failed ≡ true) }
         ensures no_memory { IfErr result (λ e. e ≢ Memory) }
     {
@@ -230,7 +231,8 @@ impl Integer {
     pub fn i16_from_primitive<S: Source>(
         prim: &mut Primitive<S>,
     ) -> Result<i16, DecodeError<S::Error>>
-        ensures reads { ReadsOctetsAs (λ n. n) (IsSigned (2 ^ 15)) (plain S.rest prim.old) result (plain S.rest prim.new) }
+        ensures reads { ReadsOctetsAs (λ n. n) (IsSigned (2 ^ 15)) (plain S.rest prim.old) result
+            (plain S.rest prim.new) }
         ensures failed { OnErr result ((plain S.rest prim.new).failed ≡ true) }
         ensures no_memory { IfErr result (λ e. e ≢ Memory) }
     {
@@ -241,7 +243,8 @@ impl Integer {
     pub fn i32_from_primitive<S: Source>(
         prim: &mut Primitive<S>,
     ) -> Result<i32, DecodeError<S::Error>>
-        ensures reads { ReadsOctetsAs (λ n. n) (IsSigned (2 ^ 31)) (plain S.rest prim.old) result (plain S.rest prim.new) }
+        ensures reads { ReadsOctetsAs (λ n. n) (IsSigned (2 ^ 31)) (plain S.rest prim.old) result
+            (plain S.rest prim.new) }
         ensures failed { OnErr result ((plain S.rest prim.new).failed ≡ true) }
         ensures no_memory { IfErr result (λ e. e ≢ Memory) }
     {
@@ -252,7 +255,8 @@ impl Integer {
     pub fn i64_from_primitive<S: Source>(
         prim: &mut Primitive<S>,
     ) -> Result<i64, DecodeError<S::Error>>
-        ensures reads { ReadsOctetsAs (λ n. n) (IsSigned (2 ^ 63)) (plain S.rest prim.old) result (plain S.rest prim.new) }
+        ensures reads { ReadsOctetsAs (λ n. n) (IsSigned (2 ^ 63)) (plain S.rest prim.old) result
+            (plain S.rest prim.new) }
         ensures failed { OnErr result ((plain S.rest prim.new).failed ≡ true) }
         ensures no_memory { IfErr result (λ e. e ≢ Memory) }
     {
@@ -263,7 +267,8 @@ impl Integer {
     pub fn i128_from_primitive<S: Source>(
         prim: &mut Primitive<S>,
     ) -> Result<i128, DecodeError<S::Error>>
-        ensures reads { ReadsOctetsAs (λ n. n) (IsSigned (2 ^ 127)) (plain S.rest prim.old) result (plain S.rest prim.new) }
+        ensures reads { ReadsOctetsAs (λ n. n) (IsSigned (2 ^ 127)) (plain S.rest prim.old) result
+            (plain S.rest prim.new) }
         ensures failed { OnErr result ((plain S.rest prim.new).failed ≡ true) }
         ensures no_memory { IfErr result (λ e. e ≢ Memory) }
     {
@@ -274,7 +279,8 @@ impl Integer {
     pub fn u8_from_primitive<S: Source>(
         prim: &mut Primitive<S>,
     ) -> Result<u8, DecodeError<S::Error>>
-        ensures reads { ReadsOctetsAs (λ n. n) (IsUnsigned (2 ^ 8)) (plain S.rest prim.old) result (plain S.rest prim.new) }
+        ensures reads { ReadsOctetsAs (λ n. n) (IsUnsigned (2 ^ 8)) (plain S.rest prim.old) result
+            (plain S.rest prim.new) }
         ensures failed { OnErr result ((plain S.rest prim.new).failed ≡ true) }
         ensures no_memory { IfErr result (λ e. e ≢ Memory) }
     {
@@ -285,7 +291,8 @@ impl Integer {
     pub fn u16_from_primitive<S: Source>(
         prim: &mut Primitive<S>,
     ) -> Result<u16, DecodeError<S::Error>>
-        ensures reads { ReadsOctetsAs (λ n. n) (IsUnsigned (2 ^ 16)) (plain S.rest prim.old) result (plain S.rest prim.new) }
+        ensures reads { ReadsOctetsAs (λ n. n) (IsUnsigned (2 ^ 16)) (plain S.rest prim.old) result
+            (plain S.rest prim.new) }
         ensures failed { OnErr result ((plain S.rest prim.new).failed ≡ true) }
         ensures no_memory { IfErr result (λ e. e ≢ Memory) }
     {
@@ -296,7 +303,8 @@ impl Integer {
     pub fn u32_from_primitive<S: Source>(
         prim: &mut Primitive<S>,
     ) -> Result<u32, DecodeError<S::Error>>
-        ensures reads { ReadsOctetsAs (λ n. n) (IsUnsigned (2 ^ 32)) (plain S.rest prim.old) result (plain S.rest prim.new) }
+        ensures reads { ReadsOctetsAs (λ n. n) (IsUnsigned (2 ^ 32)) (plain S.rest prim.old) result
+            (plain S.rest prim.new) }
         ensures failed { OnErr result ((plain S.rest prim.new).failed ≡ true) }
         ensures no_memory { IfErr result (λ e. e ≢ Memory) }
     {
@@ -307,7 +315,8 @@ impl Integer {
     pub fn u64_from_primitive<S: Source>(
         prim: &mut Primitive<S>,
     ) -> Result<u64, DecodeError<S::Error>>
-        ensures reads { ReadsOctetsAs (λ n. n) (IsUnsigned (2 ^ 64)) (plain S.rest prim.old) result (plain S.rest prim.new) }
+        ensures reads { ReadsOctetsAs (λ n. n) (IsUnsigned (2 ^ 64)) (plain S.rest prim.old) result
+            (plain S.rest prim.new) }
         ensures failed { OnErr result ((plain S.rest prim.new).failed ≡ true) }
         ensures no_memory { IfErr result (λ e. e ≢ Memory) }
     {
@@ -318,7 +327,8 @@ impl Integer {
     pub fn u128_from_primitive<S: Source>(
         prim: &mut Primitive<S>,
     ) -> Result<u128, DecodeError<S::Error>>
-        ensures reads { ReadsOctetsAs (λ n. n) (IsUnsigned (2 ^ 128)) (plain S.rest prim.old) result (plain S.rest prim.new) }
+        ensures reads { ReadsOctetsAs (λ n. n) (IsUnsigned (2 ^ 128)) (plain S.rest prim.old) result
+            (plain S.rest prim.new) }
         ensures failed { OnErr result ((plain S.rest prim.new).failed ≡ true) }
         ensures no_memory { IfErr result (λ e. e ≢ Memory) }
     {

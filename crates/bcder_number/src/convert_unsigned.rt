@@ -104,7 +104,8 @@ impl Unsigned {
     pub fn u8_from_primitive<S: Source>(
         prim: &mut Primitive<S>,
     ) -> Result<u8, DecodeError<S::Error>>
-        ensures reads { ReadsOctetsAs (λ n. n) (IsUnsigned (2 ^ 8)) (plain S.rest prim.old) result (plain S.rest prim.new) }
+        ensures reads { ReadsOctetsAs (λ n. n) (IsUnsigned (2 ^ 8)) (plain S.rest prim.old) result
+            (plain S.rest prim.new) }
         ensures failed { OnErr result ((plain S.rest prim.new).failed ≡ true) }
         ensures no_memory { IfErr result (λ e. e ≢ Memory) }
     {
@@ -115,7 +116,8 @@ impl Unsigned {
     pub fn u16_from_primitive<S: Source>(
         prim: &mut Primitive<S>,
     ) -> Result<u16, DecodeError<S::Error>>
-        ensures reads { ReadsOctetsAs (λ n. n) (IsUnsigned (2 ^ 16)) (plain S.rest prim.old) result (plain S.rest prim.new) }
+        ensures reads { ReadsOctetsAs (λ n. n) (IsUnsigned (2 ^ 16)) (plain S.rest prim.old) result
+            (plain S.rest prim.new) }
         ensures failed { OnErr result ((plain S.rest prim.new).failed ≡ true) }
         ensures no_memory { IfErr result (λ e. e ≢ Memory) }
     {
@@ -126,7 +128,8 @@ impl Unsigned {
     pub fn u32_from_primitive<S: Source>(
         prim: &mut Primitive<S>,
     ) -> Result<u32, DecodeError<S::Error>>
-        ensures reads { ReadsOctetsAs (λ n. n) (IsUnsigned (2 ^ 32)) (plain S.rest prim.old) result (plain S.rest prim.new) }
+        ensures reads { ReadsOctetsAs (λ n. n) (IsUnsigned (2 ^ 32)) (plain S.rest prim.old) result
+            (plain S.rest prim.new) }
         ensures failed { OnErr result ((plain S.rest prim.new).failed ≡ true) }
         ensures no_memory { IfErr result (λ e. e ≢ Memory) }
     {
@@ -137,7 +140,8 @@ impl Unsigned {
     pub fn u64_from_primitive<S: Source>(
         prim: &mut Primitive<S>,
     ) -> Result<u64, DecodeError<S::Error>>
-        ensures reads { ReadsOctetsAs (λ n. n) (IsUnsigned (2 ^ 64)) (plain S.rest prim.old) result (plain S.rest prim.new) }
+        ensures reads { ReadsOctetsAs (λ n. n) (IsUnsigned (2 ^ 64)) (plain S.rest prim.old) result
+            (plain S.rest prim.new) }
         ensures failed { OnErr result ((plain S.rest prim.new).failed ≡ true) }
         ensures no_memory { IfErr result (λ e. e ≢ Memory) }
     {
@@ -148,7 +152,8 @@ impl Unsigned {
     pub fn u128_from_primitive<S: Source>(
         prim: &mut Primitive<S>,
     ) -> Result<u128, DecodeError<S::Error>>
-        ensures reads { ReadsOctetsAs (λ n. n) (IsUnsigned (2 ^ 128)) (plain S.rest prim.old) result (plain S.rest prim.new) }
+        ensures reads { ReadsOctetsAs (λ n. n) (IsUnsigned (2 ^ 128)) (plain S.rest prim.old) result
+            (plain S.rest prim.new) }
         ensures failed { OnErr result ((plain S.rest prim.new).failed ≡ true) }
         ensures no_memory { IfErr result (λ e. e ≢ Memory) }
     {

@@ -54,9 +54,11 @@ impl Integer {
         alloc: Global,
         cons: &mut Constructed<S>,
     ) -> Result<Integer, DecodeError<S::Error>>
-        ensures reads { ReadsAs (λ x. x) (OctetsOf (universal 2) IsInteger) (here S.rest cons.old) result (here S.rest cons.new) }
+        ensures reads { ReadsAs (λ x. x) (OctetsOf (universal 2) IsInteger) (here S.rest cons.old)
+            result (here S.rest cons.new) }
         ensures failed { OnErr result ((here S.rest cons.new).failed ≡ true) }
-        ensures memory { IfErr result (λ e. OnMemory e (HasNext (OctetsOf (universal 2) IsInteger) (here S.rest cons.old))) }
+        ensures memory { IfErr result
+            (λ e. OnMemory e (HasNext (OctetsOf (universal 2) IsInteger) (here S.rest cons.old))) }
     {
         cons.take_primitive_if(Tag::INTEGER, |prim| Integer::from_primitive(alloc, prim))
     }
@@ -67,9 +69,11 @@ impl Integer {
         alloc: Global,
         prim: &mut Primitive<S>,
     ) -> Result<Integer, DecodeError<S::Error>>
-        ensures reads { ReadsOctetsAs (λ x. x) IsInteger (plain S.rest prim.old) result (plain S.rest prim.new) }
+        ensures reads { ReadsOctetsAs (λ x. x) IsInteger (plain S.rest prim.old) result
+            (plain S.rest prim.new) }
         ensures failed { OnErr result ((plain S.rest prim.new).failed ≡ true) }
-        ensures memory { IfErr result (λ e. OnMemory e (HasOctets IsInteger (plain S.rest prim.old))) }
+        ensures memory { IfErr result
+            (λ e. OnMemory e (HasOctets IsInteger (plain S.rest prim.old))) }
     {
         let count = request_all(prim)?;
         let is_integer = octets::is_integer(front(prim, count));

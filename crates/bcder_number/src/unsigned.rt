@@ -52,8 +52,10 @@ impl Unsigned {
     /// `Invalid` where they aren't the content octets of an INTEGER from 0 up: as few as can be, with the sign clear.
     pub fn from_slice(alloc: Global, octets: &[u8]) -> Result<Unsigned, InvalidInteger>
         ensures given { IfOk result (λ n. IsNatural octets.now n) }
-        ensures refused { IfErr result (λ e. e ≡ InvalidInteger.Invalid → (n : ℕ) → IsNatural octets.now n → ⊥) }
-        ensures memory { IfErr result (λ e. e ≡ InvalidInteger.Memory → (n : ℕ) × IsNatural octets.now n) }
+        ensures refused { IfErr result
+            (λ e. e ≡ InvalidInteger.Invalid → (n : ℕ) → IsNatural octets.now n → ⊥) }
+        ensures memory { IfErr result
+            (λ e. e ≡ InvalidInteger.Memory → (n : ℕ) × IsNatural octets.now n) }
     {
         if !octets::is_natural(octets) {
             return Err(InvalidInteger::Invalid);
@@ -69,7 +71,8 @@ impl Unsigned {
     /// `Invalid` where they aren't the content octets of an INTEGER from 0 up: as few as can be, with the sign clear.
     pub fn from_bytes(octets: Bytes) -> Result<Unsigned, InvalidInteger>
         ensures given { IfOk result (λ n. IsNatural octets n) }
-        ensures refused { IfErr result (λ e. (e ≡ InvalidInteger.Invalid) × ((n : ℕ) → IsNatural octets n → ⊥)) }
+        ensures refused { IfErr result
+            (λ e. (e ≡ InvalidInteger.Invalid) × ((n : ℕ) → IsNatural octets n → ⊥)) }
     {
         if !octets::is_natural(octets.as_slice()) {
             return Err(InvalidInteger::Invalid);
@@ -93,9 +96,11 @@ impl Unsigned {
         alloc: Global,
         cons: &mut Constructed<S>,
     ) -> Result<Unsigned, DecodeError<S::Error>>
-        ensures reads { ReadsAs (λ n. n) (OctetsOf (universal 2) IsNatural) (here S.rest cons.old) result (here S.rest cons.new) }
+        ensures reads { ReadsAs (λ n. n) (OctetsOf (universal 2) IsNatural) (here S.rest cons.old)
+            result (here S.rest cons.new) }
         ensures failed { OnErr result ((here S.rest cons.new).failed ≡ true) }
-        ensures memory { IfErr result (λ e. OnMemory e (HasNext (OctetsOf (universal 2) IsNatural) (here S.rest cons.old))) }
+        ensures memory { IfErr result
+            (λ e. OnMemory e (HasNext (OctetsOf (universal 2) IsNatural) (here S.rest cons.old))) }
     {
         cons.take_primitive_if(Tag::INTEGER, |prim| Unsigned::from_primitive(alloc, prim))
     }
@@ -106,9 +111,11 @@ impl Unsigned {
         alloc: Global,
         prim: &mut Primitive<S>,
     ) -> Result<Unsigned, DecodeError<S::Error>>
-        ensures reads { ReadsOctetsAs (λ n. n) IsNatural (plain S.rest prim.old) result (plain S.rest prim.new) }
+        ensures reads { ReadsOctetsAs (λ n. n) IsNatural (plain S.rest prim.old) result
+            (plain S.rest prim.new) }
         ensures failed { OnErr result ((plain S.rest prim.new).failed ≡ true) }
-        ensures memory { IfErr result (λ e. OnMemory e (HasOctets IsNatural (plain S.rest prim.old))) }
+        ensures memory { IfErr result
+            (λ e. OnMemory e (HasOctets IsNatural (plain S.rest prim.old))) }
     {
         let count = request_all(prim)?;
         let is_natural = octets::is_natural(front(prim, count));

@@ -28,7 +28,8 @@ fn is_cut(mode: Mode, octets: &[u8]) -> bool
 fn string_len(tag: Tag, octets: &[u8], mode: Mode) -> Result<usize, EncodeError>
     requires { IsTag tag }
     ensures len { IfOk result (HasLength (WritesString mode tag octets.now)) }
-    ensures refused { IfErr result (CannotWrite (StringTrees mode tag octets.now) (WritesString mode tag octets.now)) }
+    ensures refused { IfErr result
+        (CannotWrite (StringTrees mode tag octets.now) (WritesString mode tag octets.now)) }
 {
     if is_cut(mode, octets) {
         let value = Constructed {
@@ -52,8 +53,11 @@ fn write_string<W: Write>(
     target: &mut W,
 ) -> Result<(), EncodeError>
     requires { IsTag tag }
-    ensures written { OnOk result (Wrote (WritesString mode tag octets.now) (W.contents target.old) (W.contents target.new)) }
-    ensures refused { IfErr result (WriteRefused (StringTrees mode tag octets.now) (WritesString mode tag octets.now) (target.new ≡ target.old) (W.contents target.old) (W.contents target.new)) }
+    ensures written { OnOk result
+        (Wrote (WritesString mode tag octets.now) (W.contents target.old) (W.contents target.new)) }
+    ensures refused { IfErr result
+        (WriteRefused (StringTrees mode tag octets.now) (WritesString mode tag octets.now)
+        (target.new ≡ target.old) (W.contents target.old) (W.contents target.new)) }
 {
     if is_cut(mode, octets) {
         let value = Constructed {

@@ -13,7 +13,8 @@ use bcder_values::Values;
 
 /// What is written of a string is one value, a string of these octets in the mode (X.690 8.7, 9.2, 10.2).
 pub fn a_string_is_written()
-    ensures { (m : Mode) (tag : TagValue) (octets : List ℕ) (ts : Trees) → StringTrees m tag octets ts → WrittenString m tag octets ts }
+    ensures { (m : Mode) (tag : TagValue) (octets : List ℕ) (ts : Trees)
+        → StringTrees m tag octets ts → WrittenString m tag octets ts }
 {}
 
 /// A value is one string at most.
@@ -24,5 +25,6 @@ pub fn one_string()
 /// What is written of a string around values is one string in the mode, whose octets are read again, in the
 /// values' own mode, as these values.
 pub fn wrapped_values_are_read<V: Values>()
-    ensures { (x : V) (m inner : Mode) (tag : TagValue) (ts : Trees) → IsAround m tag (V.writes x inner) ts → WrapsAgain m tag inner (V.trees x inner) ts }
+    ensures { (x : V) (m inner : Mode) (tag : TagValue) (ts : Trees)
+        → IsAround m tag (V.writes x inner) ts → WrapsAgain m tag inner (V.trees x inner) ts }
 {}

@@ -65,9 +65,11 @@ fn step<'a>(octets: &'a [u8]) -> Item<'a>
 
 // The octets of the first primitive value within octets of values, and what is behind it.
 fn next_piece<'a>(octets: &'a [u8]) -> Option<(&'a [u8], &'a [u8])>
-    ensures found { IfSome result (λ r. (pieces : List (List ℕ)) → Holds pieces octets.now → NextPiece pieces r.0.now r.1.now) }
+    ensures found { IfSome result (λ r. (pieces : List (List ℕ)) → Holds pieces octets.now
+        → NextPiece pieces r.0.now r.1.now) }
     ensures shorter { IfSome result (λ r. length r.1.now < length octets.now) }
-    ensures none { IfNone result ((pieces : List (List ℕ)) → Holds pieces octets.now → pieces ≡ []) }
+    ensures none { IfNone result
+        ((pieces : List (List ℕ)) → Holds pieces octets.now → pieces ≡ []) }
 {
     let mut rest = octets;
     loop {
@@ -81,7 +83,8 @@ fn next_piece<'a>(octets: &'a [u8]) -> Option<(&'a [u8], &'a [u8])>
 
 // The string whose segments the octets spell, nested at will (X.690 8.7.3).
 pub(crate) fn join(alloc: Global, octets: &[u8]) -> Result<Vec<u8>, AllocError>
-    ensures { IfOk result (λ v. (ts : Trees) (w : List ℕ) → SpellsAll Ber ts octets.now → AreSegments ts w → v.items ≡ w) }
+    ensures { IfOk result (λ v. (ts : Trees) (w : List ℕ) → SpellsAll Ber ts octets.now
+        → AreSegments ts w → v.items ≡ w) }
 {
     let mut out = Vec::new(alloc);
     let mut rest = octets;
@@ -102,7 +105,8 @@ fn may_stand(before: usize, piece: &[u8]) -> bool
 // The string of more than 1000 octets whose segments in CER the octets spell, if the primitive values that
 // they spell are such (9.2).
 pub(crate) fn join_cut(alloc: Global, octets: &[u8]) -> Result<Option<Vec<u8>>, AllocError>
-    ensures { IfOk result (λ r. (ts : Trees) (pieces : List (List ℕ)) → SpellsAll Ber ts octets.now → ArePlain ts pieces → TellsCut (λ v. v.items) ts r) }
+    ensures { IfOk result (λ r. (ts : Trees) (pieces : List (List ℕ)) → SpellsAll Ber ts octets.now
+        → ArePlain ts pieces → TellsCut (λ v. v.items) ts r) }
 {
     let mut cut = Vec::new(alloc);
     let mut rest = octets;

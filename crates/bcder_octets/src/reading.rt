@@ -39,8 +39,10 @@ fn take_whole<S: Source>(
     alloc: Global,
     prim: &mut Primitive<S>,
 ) -> Result<OctetString, DecodeError<S::Error>>
-    ensures reads { ReadsOctetsAs (λ octets. octets) (IsWhole (plain S.rest prim.old).mode) (plain S.rest prim.old) result (plain S.rest prim.new) }
-    ensures memory { IfErr result (λ e. OnMemory e (HasOctets (IsWhole (plain S.rest prim.old).mode) (plain S.rest prim.old))) }
+    ensures reads { ReadsOctetsAs (λ octets. octets) (IsWhole (plain S.rest prim.old).mode)
+        (plain S.rest prim.old) result (plain S.rest prim.new) }
+    ensures memory { IfErr result (λ e. OnMemory e
+        (HasOctets (IsWhole (plain S.rest prim.old).mode) (plain S.rest prim.old))) }
 {
     let count = request_all(prim)?;
     let fits = fits_whole(prim.mode, front(prim, count));
@@ -59,7 +61,8 @@ fn skip_nested<S: Source>(
     alloc: Global,
     cons: &mut Constructed<S>,
 ) -> Result<Option<()>, DecodeError<S::Error>>
-    ensures { ReadsNextAs (λ x. x) (IsPart true) (here S.rest cons.old) result (here S.rest cons.new) }
+    ensures { ReadsNextAs (λ x. x) (IsPart true) (here S.rest cons.old) result
+        (here S.rest cons.new) }
 {
     cons.skip_opt(
         alloc,
@@ -80,7 +83,8 @@ fn skip_plain<S: Source>(
     alloc: Global,
     cons: &mut Constructed<S>,
 ) -> Result<Option<()>, DecodeError<S::Error>>
-    ensures { ReadsNextAs (λ x. x) (IsPart false) (here S.rest cons.old) result (here S.rest cons.new) }
+    ensures { ReadsNextAs (λ x. x) (IsPart false) (here S.rest cons.old) result
+        (here S.rest cons.new) }
 {
     cons.skip_opt(
         alloc,
@@ -102,7 +106,8 @@ fn skip_part<S: Source>(
     cons: &mut Constructed<S>,
     nested: bool,
 ) -> Result<Option<()>, DecodeError<S::Error>>
-    ensures { ReadsNextAs (λ x. x) (IsPart nested) (here S.rest cons.old) result (here S.rest cons.new) }
+    ensures { ReadsNextAs (λ x. x) (IsPart nested) (here S.rest cons.old) result
+        (here S.rest cons.new) }
 {
     match nested {
         true => skip_nested(alloc, cons),
@@ -116,7 +121,8 @@ fn skip_parts<S: Source>(
     cons: &mut Constructed<S>,
     nested: bool,
 ) -> Result<(), DecodeError<S::Error>>
-    ensures { ReadsAllAs (λ x. x) (AllParts nested) (here S.rest cons.old) result (here S.rest cons.new) }
+    ensures { ReadsAllAs (λ x. x) (AllParts nested) (here S.rest cons.old) result
+        (here S.rest cons.new) }
 {
     loop {
         match skip_part(alloc, cons, nested) {
@@ -133,12 +139,14 @@ fn capture_parts<S: Source>(
     cons: &mut Constructed<S>,
     nested: bool,
 ) -> Result<Captured, DecodeError<S::Error>>
-    ensures { ReadsAllAs (λ c. c.octets) (ExactlyAll (here S.rest cons.old).mode (AllParts nested)) (here S.rest cons.old) result (here S.rest cons.new) }
+    ensures { ReadsAllAs (λ c. c.octets) (ExactlyAll (here S.rest cons.old).mode (AllParts nested))
+        (here S.rest cons.old) result (here S.rest cons.new) }
 {
     cons.capture(
         alloc,
         |cons|
-            ensures { ReadsAllAs (λ x. x) (AllParts nested) (here rest_of cons.old) result (here rest_of cons.new) }
+            ensures { ReadsAllAs (λ x. x) (AllParts nested) (here rest_of cons.old) result
+                (here rest_of cons.new) }
         { skip_parts(alloc, cons, nested) },
     )
 }
@@ -148,7 +156,8 @@ fn take_nested<S: Source>(
     alloc: Global,
     cons: &mut Constructed<S>,
 ) -> Result<OctetString, DecodeError<S::Error>>
-    ensures { ReadsAllAs (λ octets. octets) AreSegments (here S.rest cons.old) result (here S.rest cons.new) }
+    ensures { ReadsAllAs (λ octets. octets) AreSegments (here S.rest cons.old) result
+        (here S.rest cons.new) }
 {
     let captured = capture_parts(alloc, cons, true)?;
     let octets = join(alloc, captured.as_slice())?;
@@ -161,7 +170,8 @@ fn take_cut<S: Source>(
     alloc: Global,
     cons: &mut Constructed<S>,
 ) -> Result<OctetString, DecodeError<S::Error>>
-    ensures { ReadsAllAs (λ octets. octets) AreCut (here S.rest cons.old) result (here S.rest cons.new) }
+    ensures { ReadsAllAs (λ octets. octets) AreCut (here S.rest cons.old) result
+        (here S.rest cons.new) }
 {
     let captured = capture_parts(alloc, cons, false)?;
     let Some(octets) = join_cut(alloc, captured.as_slice())? else {
@@ -176,7 +186,8 @@ fn take_parts<S: Source>(
     alloc: Global,
     cons: &mut Constructed<S>,
 ) -> Result<OctetString, DecodeError<S::Error>>
-    ensures reads { ReadsAllAs (λ octets. octets) (AreParts (here S.rest cons.old).mode) (here S.rest cons.old) result (here S.rest cons.new) }
+    ensures reads { ReadsAllAs (λ octets. octets) (AreParts (here S.rest cons.old).mode)
+        (here S.rest cons.old) result (here S.rest cons.new) }
     ensures memory { IfErr result (λ e. OnMemory e ((here S.rest cons.old).mode ≡ Der → ⊥)) }
 {
     match (*cons).mode() {
@@ -197,15 +208,20 @@ fn read_content<S: Source>(
     if (*content).is_primitive() {
         return content.primitive(
             |prim|
-                ensures reads { ReadsOctetsAs (λ octets. octets) (IsWhole (plain S.rest prim.old).mode) (plain S.rest prim.old) result (plain S.rest prim.new) }
-                ensures memory { IfErr result (λ e. OnMemory e (HasOctets (IsWhole (plain S.rest prim.old).mode) (plain S.rest prim.old))) }
+                ensures reads { ReadsOctetsAs (λ octets. octets)
+                    (IsWhole (plain S.rest prim.old).mode) (plain S.rest prim.old) result
+                    (plain S.rest prim.new) }
+                ensures memory { IfErr result (λ e. OnMemory e
+                    (HasOctets (IsWhole (plain S.rest prim.old).mode) (plain S.rest prim.old))) }
             { take_whole(alloc, prim) },
         );
     }
     content.constructed(
         |cons|
-            ensures reads { ReadsAllAs (λ octets. octets) (AreParts (here S.rest cons.old).mode) (here S.rest cons.old) result (here S.rest cons.new) }
-            ensures memory { IfErr result (λ e. OnMemory e ((here S.rest cons.old).mode ≡ Der → ⊥)) }
+            ensures reads { ReadsAllAs (λ octets. octets) (AreParts (here S.rest cons.old).mode)
+                (here S.rest cons.old) result (here S.rest cons.new) }
+            ensures memory { IfErr result
+                (λ e. OnMemory e ((here S.rest cons.old).mode ≡ Der → ⊥)) }
         { take_parts(alloc, cons) },
     )
 }
@@ -233,7 +249,8 @@ pub(crate) fn take_string<S: Source>(
     alloc: Global,
     cons: &mut Constructed<S>,
 ) -> Result<OctetString, DecodeError<S::Error>>
-    ensures reads { ReadsAs (λ octets. octets) (IsOctetString (here S.rest cons.old).mode) (here S.rest cons.old) result (here S.rest cons.new) }
+    ensures reads { ReadsAs (λ octets. octets) (IsOctetString (here S.rest cons.old).mode)
+        (here S.rest cons.old) result (here S.rest cons.new) }
     ensures failed { OnErr result ((here S.rest cons.new).failed ≡ true) }
     ensures memory { IfErr result (λ e. OnMemory e (WantsNext IsWhole (here S.rest cons.old))) }
 {
@@ -241,7 +258,8 @@ pub(crate) fn take_string<S: Source>(
         Tag::OCTET_STRING,
         |content|
             ensures reads { ReadsString S.rest content.old result content.new }
-            ensures memory { IfErr result (λ e. OnMemory e (WantsString IsWhole S.rest content.old)) }
+            ensures memory { IfErr result
+                (λ e. OnMemory e (WantsString IsWhole S.rest content.old)) }
         { take_content(alloc, content) },
     )
 }
@@ -252,7 +270,8 @@ fn take_all<S: Source>(
     alloc: Global,
     prim: &mut Primitive<S>,
 ) -> Result<Bytes, DecodeError<S::Error>>
-    ensures reads { ReadsOctetsAs (λ octets. octets) AnyOctets (plain S.rest prim.old) result (plain S.rest prim.new) }
+    ensures reads { ReadsOctetsAs (λ octets. octets) AnyOctets (plain S.rest prim.old) result
+        (plain S.rest prim.new) }
     ensures memory { IfErr result (λ e. OnMemory e (HasOctets AnyOctets (plain S.rest prim.old))) }
 {
     let count = request_all(prim)?;
@@ -269,15 +288,19 @@ fn take_octets<S: Source>(
     alloc: Global,
     cons: &mut Constructed<S>,
 ) -> Result<Bytes, DecodeError<S::Error>>
-    ensures reads { ReadsAs (λ octets. octets) (OctetsOf octet_string_tag AnyOctets) (here S.rest cons.old) result (here S.rest cons.new) }
+    ensures reads { ReadsAs (λ octets. octets) (OctetsOf octet_string_tag AnyOctets)
+        (here S.rest cons.old) result (here S.rest cons.new) }
     ensures failed { OnErr result ((here S.rest cons.new).failed ≡ true) }
-    ensures memory { IfErr result (λ e. OnMemory e (HasNext (OctetsOf octet_string_tag AnyOctets) (here S.rest cons.old))) }
+    ensures memory { IfErr result
+        (λ e. OnMemory e (HasNext (OctetsOf octet_string_tag AnyOctets) (here S.rest cons.old))) }
 {
     cons.take_primitive_if(
         Tag::OCTET_STRING,
         |prim|
-            ensures reads { ReadsOctetsAs (λ octets. octets) AnyOctets (plain S.rest prim.old) result (plain S.rest prim.new) }
-            ensures memory { IfErr result (λ e. OnMemory e (HasOctets AnyOctets (plain S.rest prim.old))) }
+            ensures reads { ReadsOctetsAs (λ octets. octets) AnyOctets (plain S.rest prim.old)
+                result (plain S.rest prim.new) }
+            ensures memory { IfErr result
+                (λ e. OnMemory e (HasOctets AnyOctets (plain S.rest prim.old))) }
         { take_all(alloc, prim) },
     )
 }
@@ -288,9 +311,11 @@ pub(crate) fn take_piece<S: Source>(
     alloc: Global,
     cons: &mut Constructed<S>,
 ) -> Result<OctetString, DecodeError<S::Error>>
-    ensures reads { ReadsAs (λ octets. octets) (IsOctetString Der) (here S.rest cons.old) result (here S.rest cons.new) }
+    ensures reads { ReadsAs (λ octets. octets) (IsOctetString Der) (here S.rest cons.old) result
+        (here S.rest cons.new) }
     ensures failed { OnErr result ((here S.rest cons.new).failed ≡ true) }
-    ensures memory { IfErr result (λ e. OnMemory e (HasNext (IsOctetString Der) (here S.rest cons.old))) }
+    ensures memory { IfErr result
+        (λ e. OnMemory e (HasNext (IsOctetString Der) (here S.rest cons.old))) }
 {
     match take_octets(alloc, cons) {
         Ok(octets) => Ok(OctetString::new(octets)),

@@ -34,7 +34,8 @@ fn first_segment<'a>(octets: &'a [u8]) -> Option<(&'a [u8], &'a [u8])>
 // How many octets a segment has when it is written.
 fn segment_len(segment: &[u8], mode: Mode) -> Result<usize, EncodeError>
     ensures len { IfOk result (HasLength (WritesSegment mode segment.now)) }
-    ensures refused { IfErr result (CannotWrite (IsSegment segment.now) (WritesSegment mode segment.now)) }
+    ensures refused { IfErr result
+        (CannotWrite (IsSegment segment.now) (WritesSegment mode segment.now)) }
 {
     let value = Primitive {
         tag: Tag::OCTET_STRING,
@@ -45,8 +46,11 @@ fn segment_len(segment: &[u8], mode: Mode) -> Result<usize, EncodeError>
 
 // Writes one segment.
 fn write_segment<W: Write>(segment: &[u8], mode: Mode, target: &mut W) -> Result<(), EncodeError>
-    ensures written { OnOk result (Wrote (WritesSegment mode segment.now) (W.contents target.old) (W.contents target.new)) }
-    ensures refused { IfErr result (WriteRefused (IsSegment segment.now) (WritesSegment mode segment.now) (target.new ≡ target.old) (W.contents target.old) (W.contents target.new)) }
+    ensures written { OnOk result
+        (Wrote (WritesSegment mode segment.now) (W.contents target.old) (W.contents target.new)) }
+    ensures refused { IfErr result
+        (WriteRefused (IsSegment segment.now) (WritesSegment mode segment.now)
+        (target.new ≡ target.old) (W.contents target.old) (W.contents target.new)) }
 {
     let value = Primitive {
         tag: Tag::OCTET_STRING,
@@ -58,7 +62,8 @@ fn write_segment<W: Write>(segment: &[u8], mode: Mode, target: &mut W) -> Result
 // How many octets all segments have when they are written.
 fn segments_len(octets: &[u8], mode: Mode) -> Result<usize, EncodeError>
     ensures len { IfOk result (HasLength (WritesSegments mode octets.now)) }
-    ensures refused { IfErr result (CannotWrite (AreSegmentsOf octets.now) (WritesSegments mode octets.now)) }
+    ensures refused { IfErr result
+        (CannotWrite (AreSegmentsOf octets.now) (WritesSegments mode octets.now)) }
 {
     let mut sum = 0usize;
     let mut rest = octets;
@@ -75,8 +80,11 @@ fn segments_len(octets: &[u8], mode: Mode) -> Result<usize, EncodeError>
 
 // Writes all segments, or nothing where `segments_len` refuses.
 fn write_segments<W: Write>(octets: &[u8], mode: Mode, target: &mut W) -> Result<(), EncodeError>
-    ensures written { OnOk result (Wrote (WritesSegments mode octets.now) (W.contents target.old) (W.contents target.new)) }
-    ensures refused { IfErr result (WriteRefused (AreSegmentsOf octets.now) (WritesSegments mode octets.now) (target.new ≡ target.old) (W.contents target.old) (W.contents target.new)) }
+    ensures written { OnOk result
+        (Wrote (WritesSegments mode octets.now) (W.contents target.old) (W.contents target.new)) }
+    ensures refused { IfErr result
+        (WriteRefused (AreSegmentsOf octets.now) (WritesSegments mode octets.now)
+        (target.new ≡ target.old) (W.contents target.old) (W.contents target.new)) }
 {
     segments_len(octets, mode)?;
     let mut rest = octets;

@@ -113,10 +113,13 @@ impl OctetString {
         alloc: Global,
         cons: &mut Constructed<S>,
     ) -> Result<OctetString, DecodeError<S::Error>>
-        ensures reads { ReadsAs (λ octets. octets) (IsOctetString (here S.rest cons.old).mode) (here S.rest cons.old) result (here S.rest cons.new) }
+        ensures reads { ReadsAs (λ octets. octets) (IsOctetString (here S.rest cons.old).mode)
+            (here S.rest cons.old) result (here S.rest cons.new) }
         ensures failed { OnErr result ((here S.rest cons.new).failed ≡ true) }
         ensures memory { IfErr result (λ e. OnMemory e (WantsNext IsWhole (here S.rest cons.old))) }
-        ensures memory_in_der { IfErr result (λ e. OnMemory e ((here S.rest cons.old).mode ≡ Der → HasNext (IsOctetString Der) (here S.rest cons.old))) }
+        ensures memory_in_der { IfErr result (λ e. OnMemory e
+            ((here S.rest cons.old).mode ≡ Der
+            → HasNext (IsOctetString Der) (here S.rest cons.old))) }
     {
         match cons.mode() {
             Mode::Der => take_piece(alloc, cons),
@@ -130,7 +133,9 @@ impl OctetString {
         alloc: Global,
         cons: &mut Constructed<S>,
     ) -> Result<Option<OctetString>, DecodeError<S::Error>>
-        ensures reads { ReadsOptAs (λ octets. octets) octet_string_tag (IsOctetString (here S.rest cons.old).mode) (here S.rest cons.old) result (here S.rest cons.new) }
+        ensures reads { ReadsOptAs (λ octets. octets) octet_string_tag
+            (IsOctetString (here S.rest cons.old).mode) (here S.rest cons.old) result
+            (here S.rest cons.new) }
         ensures failed { OnErr result ((here S.rest cons.new).failed ≡ true) }
         ensures memory { IfErr result (λ e. OnMemory e (WantsNext IsWhole (here S.rest cons.old))) }
     {
@@ -138,7 +143,8 @@ impl OctetString {
             Tag::OCTET_STRING,
             |content|
                 ensures reads { ReadsString S.rest content.old result content.new }
-                ensures memory { IfErr result (λ e. OnMemory e (WantsString IsWhole S.rest content.old)) }
+                ensures memory { IfErr result
+                    (λ e. OnMemory e (WantsString IsWhole S.rest content.old)) }
             { take_content(alloc, content) },
         )
     }

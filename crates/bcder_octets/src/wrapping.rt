@@ -36,7 +36,9 @@ impl<V: Values> WrappingOctetStringEncoder<V> {
         ensures len { IfOk result (HasLength (V.writes self.now.values self.now.mode)) }
         ensures few { IfOk result (λ n. n < 2 ^ 32) }
         ensures not_cer { IfOk result (λ n. mode ≢ Cer) }
-        ensures refused { IfErr result (CannotWrite (IsAround mode self.now.tag (V.writes self.now.values self.now.mode)) (WritesAround mode self.now.tag (V.writes self.now.values self.now.mode))) }
+        ensures refused { IfErr result
+            (CannotWrite (IsAround mode self.now.tag (V.writes self.now.values self.now.mode))
+            (WritesAround mode self.now.tag (V.writes self.now.values self.now.mode))) }
         ensures in_cer { mode ≡ Cer → IsErrAnd result (λ e. e ≡ cer_unsupported) }
     {
         if mode == Mode::Cer {
@@ -56,8 +58,11 @@ impl<V: Values> Values for WrappingOctetStringEncoder<V> {
     ghost writes = { λ x m. WritesAround m x.tag (V.writes x.values x.mode) };
 
     fn encoded_len(&self, mode: Mode) -> Result<usize, EncodeError>
-        ensures len { IfOk result (HasLength (WritesAround mode self.now.tag (V.writes self.now.values self.now.mode))) }
-        ensures refused { IfErr result (CannotWrite (IsAround mode self.now.tag (V.writes self.now.values self.now.mode)) (WritesAround mode self.now.tag (V.writes self.now.values self.now.mode))) }
+        ensures len { IfOk result
+            (HasLength (WritesAround mode self.now.tag (V.writes self.now.values self.now.mode))) }
+        ensures refused { IfErr result
+            (CannotWrite (IsAround mode self.now.tag (V.writes self.now.values self.now.mode))
+            (WritesAround mode self.now.tag (V.writes self.now.values self.now.mode))) }
         ensures in_cer { mode ≡ Cer → IsErrAnd result (λ e. e ≡ cer_unsupported) }
     {
         let content = self.content_len(mode)?;
@@ -65,8 +70,13 @@ impl<V: Values> Values for WrappingOctetStringEncoder<V> {
     }
 
     fn write_encoded<W: Write>(&self, mode: Mode, target: &mut W) -> Result<(), EncodeError>
-        ensures written { OnOk result (Wrote (WritesAround mode self.now.tag (V.writes self.now.values self.now.mode)) (W.contents target.old) (W.contents target.new)) }
-        ensures refused { IfErr result (WriteRefused (IsAround mode self.now.tag (V.writes self.now.values self.now.mode)) (WritesAround mode self.now.tag (V.writes self.now.values self.now.mode)) (target.new ≡ target.old) (W.contents target.old) (W.contents target.new)) }
+        ensures written { OnOk result
+            (Wrote (WritesAround mode self.now.tag (V.writes self.now.values self.now.mode))
+            (W.contents target.old) (W.contents target.new)) }
+        ensures refused { IfErr result
+            (WriteRefused (IsAround mode self.now.tag (V.writes self.now.values self.now.mode))
+            (WritesAround mode self.now.tag (V.writes self.now.values self.now.mode))
+            (target.new ≡ target.old) (W.contents target.old) (W.contents target.new)) }
         ensures in_cer { mode ≡ Cer → IsErrAnd result (λ e. e ≡ cer_unsupported) }
     {
         let content = self.content_len(mode)?;

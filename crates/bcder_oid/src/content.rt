@@ -41,7 +41,8 @@ fn skip_octets<S: Source>(
     prim: &mut Primitive<S>,
     expected: &[u8],
 ) -> Result<(), DecodeError<S::Error>>
-    ensures reads { ReadsOctetsAs (λ x. x) (AreOctets expected.now) (plain S.rest prim.old) result (plain S.rest prim.new) }
+    ensures reads { ReadsOctetsAs (λ x. x) (AreOctets expected.now) (plain S.rest prim.old) result
+        (plain S.rest prim.new) }
     ensures failed { OnErr result ((plain S.rest prim.new).failed ≡ true) }
     ensures no_memory { IfErr result (λ e. e ≢ Memory) }
 {
@@ -58,7 +59,8 @@ fn skip_octets<S: Source>(
 impl Oid<Bytes> {
     /// Skips an OBJECT IDENTIFIER (X.690 8.19).
     pub fn skip_in<S: Source>(cons: &mut Constructed<S>) -> Result<(), DecodeError<S::Error>>
-        ensures reads { ReadsAs (λ x. x) (OctetsOf (universal 6) IsAnyOid) (here S.rest cons.old) result (here S.rest cons.new) }
+        ensures reads { ReadsAs (λ x. x) (OctetsOf (universal 6) IsAnyOid) (here S.rest cons.old)
+            result (here S.rest cons.new) }
         ensures failed { OnErr result ((here S.rest cons.new).failed ≡ true) }
         ensures no_memory { IfErr result (λ e. e ≢ Memory) }
     {
@@ -69,7 +71,8 @@ impl Oid<Bytes> {
     pub fn skip_opt_in<S: Source>(
         cons: &mut Constructed<S>,
     ) -> Result<Option<()>, DecodeError<S::Error>>
-        ensures reads { ReadsOptAs (λ x. x) (universal 6) (OctetsOf (universal 6) IsAnyOid) (here S.rest cons.old) result (here S.rest cons.new) }
+        ensures reads { ReadsOptAs (λ x. x) (universal 6) (OctetsOf (universal 6) IsAnyOid)
+            (here S.rest cons.old) result (here S.rest cons.new) }
         ensures failed { OnErr result ((here S.rest cons.new).failed ≡ true) }
         ensures no_memory { IfErr result (λ e. e ≢ Memory) }
     {
@@ -82,9 +85,11 @@ impl Oid<Bytes> {
         alloc: Global,
         cons: &mut Constructed<S>,
     ) -> Result<Self, DecodeError<S::Error>>
-        ensures reads { ReadsAs (λ oid. oid.0) (OctetsOf (universal 6) IsOid) (here S.rest cons.old) result (here S.rest cons.new) }
+        ensures reads { ReadsAs (λ oid. oid.0) (OctetsOf (universal 6) IsOid) (here S.rest cons.old)
+            result (here S.rest cons.new) }
         ensures failed { OnErr result ((here S.rest cons.new).failed ≡ true) }
-        ensures memory { IfErr result (λ e. OnMemory e (HasNext (OctetsOf (universal 6) IsOid) (here S.rest cons.old))) }
+        ensures memory { IfErr result
+            (λ e. OnMemory e (HasNext (OctetsOf (universal 6) IsOid) (here S.rest cons.old))) }
     {
         cons.take_primitive_if(Tag::OID, |prim| Oid::from_primitive(alloc, prim))
     }
@@ -94,16 +99,19 @@ impl Oid<Bytes> {
         alloc: Global,
         cons: &mut Constructed<S>,
     ) -> Result<Option<Self>, DecodeError<S::Error>>
-        ensures reads { ReadsOptAs (λ oid. oid.0) (universal 6) (OctetsOf (universal 6) IsOid) (here S.rest cons.old) result (here S.rest cons.new) }
+        ensures reads { ReadsOptAs (λ oid. oid.0) (universal 6) (OctetsOf (universal 6) IsOid)
+            (here S.rest cons.old) result (here S.rest cons.new) }
         ensures failed { OnErr result ((here S.rest cons.new).failed ≡ true) }
-        ensures memory { IfErr result (λ e. OnMemory e (HasNext (OctetsOf (universal 6) IsOid) (here S.rest cons.old))) }
+        ensures memory { IfErr result
+            (λ e. OnMemory e (HasNext (OctetsOf (universal 6) IsOid) (here S.rest cons.old))) }
     {
         cons.take_opt_primitive_if(Tag::OID, |prim| Oid::from_primitive(alloc, prim))
     }
 
     /// Skips the content of an OBJECT IDENTIFIER: one or more octets, of which the last has bit 8 clear.
     pub fn skip_primitive<S: Source>(prim: &mut Primitive<S>) -> Result<(), DecodeError<S::Error>>
-        ensures reads { ReadsOctetsAs (λ x. x) IsAnyOid (plain S.rest prim.old) result (plain S.rest prim.new) }
+        ensures reads { ReadsOctetsAs (λ x. x) IsAnyOid (plain S.rest prim.old) result
+            (plain S.rest prim.new) }
         ensures failed { OnErr result ((plain S.rest prim.new).failed ≡ true) }
         ensures no_memory { IfErr result (λ e. e ≢ Memory) }
     {
@@ -122,7 +130,8 @@ impl Oid<Bytes> {
         alloc: Global,
         prim: &mut Primitive<S>,
     ) -> Result<Self, DecodeError<S::Error>>
-        ensures reads { ReadsOctetsAs (λ oid. oid.0) IsOid (plain S.rest prim.old) result (plain S.rest prim.new) }
+        ensures reads { ReadsOctetsAs (λ oid. oid.0) IsOid (plain S.rest prim.old) result
+            (plain S.rest prim.new) }
         ensures failed { OnErr result ((plain S.rest prim.new).failed ≡ true) }
         ensures memory { IfErr result (λ e. OnMemory e (HasOctets IsOid (plain S.rest prim.old))) }
     {
@@ -141,7 +150,8 @@ impl Oid<Bytes> {
 impl<T: AsSlice<u8>> Oid<T> {
     /// Skips an OBJECT IDENTIFIER that is this one, by its octets; any other value is refused.
     pub fn skip_if<S: Source>(&self, cons: &mut Constructed<S>) -> Result<(), DecodeError<S::Error>>
-        ensures reads { ReadsAs (λ x. x) (OctetsOf (universal 6) (AreOctets (T.items self.now.0))) (here S.rest cons.old) result (here S.rest cons.new) }
+        ensures reads { ReadsAs (λ x. x) (OctetsOf (universal 6) (AreOctets (T.items self.now.0)))
+            (here S.rest cons.old) result (here S.rest cons.new) }
         ensures failed { OnErr result ((here S.rest cons.new).failed ≡ true) }
         ensures no_memory { IfErr result (λ e. e ≢ Memory) }
     {

@@ -62,7 +62,8 @@ impl<'a> Iterator for Iter<'a> {
 // The first subidentifier, and the octets behind it; None where none ends.
 fn cut(octets: &[u8]) -> Option<(&[u8], &[u8])>
     ensures none { IfNone result (numbers_behind 0 octets.now ≡ []) }
-    ensures some { IfSome result (λ r. numbers_behind 0 octets.now ≡ base128 r.0.now ∷ numbers_behind 0 r.1.now) }
+    ensures some { IfSome result
+        (λ r. numbers_behind 0 octets.now ≡ base128 r.0.now ∷ numbers_behind 0 r.1.now) }
 {
     for (index, octet) in octets.iter().enumerate() {
         if *octet < 128 {

@@ -96,7 +96,8 @@ impl<T: AsSlice<u8>> fmt::Display for Oid<T> {
 
 // Writes components, each behind a dot.
 fn write_behind<W: fmt::Write>(components: Iter<'_>, f: &mut fmt::Formatter<W>) -> fmt::Result
-    ensures { DisplaysOnOk W.Write.write_str_gives f.old result (Some (behind_dots components.entry)) f.new }
+    ensures { DisplaysOnOk W.Write.write_str_gives f.old result
+        (Some (behind_dots components.entry)) f.new }
 {
     for component in components {
         write!(f, ".{component}")?;

@@ -38,9 +38,11 @@ impl Oid<Bytes> {
     /// is that of an identifier.
     pub fn from_str(alloc: Global, text: &str) -> Result<Self, ParseOidError>
         ensures reads { IfOk result (λ oid. ReadsText text.now oid.0) }
-        ensures refused { IfErr result (λ e. OnRefused e ((octets : List ℕ) → ReadsText text.now octets → ⊥)) }
+        ensures refused { IfErr result
+            (λ e. OnRefused e ((octets : List ℕ) → ReadsText text.now octets → ⊥)) }
         ensures cause { IfErr result (λ e. WhyRefused e text.now) }
-        ensures memory { IfErr result (λ e. e ≡ ParseOidError.Memory → (components : List ℕ) × IsOidText text.now components) }
+        ensures memory { IfErr result (λ e. e ≡ ParseOidError.Memory
+            → (components : List ℕ) × IsOidText text.now components) }
     {
         match read_text(alloc, text) {
             Ok(oid) => Ok(oid),
@@ -56,7 +58,8 @@ impl Oid<Bytes> {
 // The object identifier of a text.
 fn read_text(alloc: Global, text: &str) -> Result<Oid<Bytes>, ParseOidError>
     ensures reads { IfOk result (λ oid. ReadsText text.now oid.0) }
-    ensures refused { IfErr result (λ e. OnRefused e ((octets : List ℕ) → ReadsText text.now octets → ⊥)) }
+    ensures refused { IfErr result
+        (λ e. OnRefused e ((octets : List ℕ) → ReadsText text.now octets → ⊥)) }
     ensures cause { IfErr result (λ e. WhyRefused e text.now) }
 {
     let numbers = read_numbers(alloc, text)?;
@@ -70,7 +73,8 @@ fn read_text(alloc: Global, text: &str) -> Result<Oid<Bytes>, ParseOidError>
 // Refuses a text that is of no identifier; it takes no memory.
 fn judge(text: &str) -> Result<(), ParseOidError>
     ensures reads { OnOk result ((components : List ℕ) × IsOidText text.now components) }
-    ensures refused { IfErr result (λ e. OnRefused e ((octets : List ℕ) → ReadsText text.now octets → ⊥)) }
+    ensures refused { IfErr result
+        (λ e. OnRefused e ((octets : List ℕ) → ReadsText text.now octets → ⊥)) }
     ensures no_memory { IfErr result (λ e. e ≢ ParseOidError.Memory) }
     ensures cause { IfErr result (λ e. WhyRefused e text.now) }
 {
@@ -99,9 +103,11 @@ fn judge_numbers(text: &str) -> Result<(), ParseOidError>
 // Refuses a text whose first two numbers begin no identifier.
 fn judge_front(text: &str) -> Result<(), ParseOidError>
     ensures begins { OnOk result ((ns : List ℕ) → IsDotted text.now ns → MayBegin ns) }
-    ensures refused { IfErr result (λ e. OnRefused e ((octets : List ℕ) → ReadsText text.now octets → ⊥)) }
+    ensures refused { IfErr result
+        (λ e. OnRefused e ((octets : List ℕ) → ReadsText text.now octets → ⊥)) }
     ensures no_memory { IfErr result (λ e. e ≢ ParseOidError.Memory) }
-    ensures cause { IfErr result (λ e. (ns : List ℕ) → IsDotted text.now ns → WhyRefused e text.now) }
+    ensures cause { IfErr result
+        (λ e. (ns : List ℕ) → IsDotted text.now ns → WhyRefused e text.now) }
 {
     let (front, behind) = piece(text);
     let first = component(front)?;
@@ -128,7 +134,8 @@ fn component(text: &str) -> Result<u32, ParseOidError>
 
 // The text in front of the first dot, and what is behind the dot.
 fn piece(text: &str) -> (&str, Option<&str>)
-    ensures { MatchOption result.1 (IsLastPiece text.now result.0.now) (λ behind. IsFirstPiece text.now result.0.now behind.now) }
+    ensures { MatchOption result.1 (IsLastPiece text.now result.0.now)
+        (λ behind. IsFirstPiece text.now result.0.now behind.now) }
 {
     match text.split_once('.') {
         Some((front, behind)) => (front, Some(behind)),
@@ -208,7 +215,8 @@ fn write_numbers(alloc: Global, root: u64, others: &[u32]) -> Result<Vec<u8>, Al
 
 // Puts a subidentifier behind octets, in the fewest.
 fn push_number(octets: &mut Vec<u8>, number: u64) -> Result<(), AllocError>
-    ensures { OnOk result ((text : List ℕ) × (octets.new.items ≡ octets.old.items ++ text) × IsShortest text number) }
+    ensures { OnOk result
+        ((text : List ℕ) × (octets.new.items ≡ octets.old.items ++ text) × IsShortest text number) }
 {
     push_high(octets, number / 128)?;
     octets.push((number % 128) as u8)?;
@@ -217,7 +225,8 @@ fn push_number(octets: &mut Vec<u8>, number: u64) -> Result<(), AllocError>
 
 // Puts the octets of a subidentifier but the last behind octets: none for zero.
 fn push_high(octets: &mut Vec<u8>, number: u64) -> Result<(), AllocError>
-    ensures { OnOk result ((text : List ℕ) × (octets.new.items ≡ octets.old.items ++ text) × HighOctets text number) }
+    ensures { OnOk result
+        ((text : List ℕ) × (octets.new.items ≡ octets.old.items ++ text) × HighOctets text number) }
 {
     if number > 0 {
         push_high(octets, number / 128)?;

@@ -108,7 +108,8 @@ impl<S: Source> Primitive<S> {
         ensures all { IfOk result (λ n. (plain S.rest self.old).limit ≡ Some n) }
         ensures few { IfOk result (λ n. n ≤ most) }
         ensures available { IfOk result (λ n. n ≤ S.available self.new.source.source) }
-        ensures refused { IfErr result (λ e. OnlyContent e ((text : List ℕ) → length text ≤ most → WholeOctets (plain S.rest self.old) text → ⊥)) }
+        ensures refused { IfErr result (λ e. OnlyContent e
+            ((text : List ℕ) → length text ≤ most → WholeOctets (plain S.rest self.old) text → ⊥)) }
         ensures failed { OnErr result ((plain S.rest self.new).failed ≡ true) }
     {
         if self.failed {
@@ -143,7 +144,9 @@ impl<S: Source> Primitive<S> {
     fn pass(&mut self, count: usize)
         requires limit { (plain S.rest self.old).limit ≡ Some count }
         requires available { count ≤ S.available self.old.source.source }
-        ensures { plain S.rest self.new ≡ record (plain S.rest self.old) { rest = drop count (plain S.rest self.old).rest; limit = Some 0 } }
+        ensures { plain S.rest self.new
+            ≡ record (plain S.rest self.old)
+            { rest = drop count (plain S.rest self.old).rest; limit = Some 0 } }
     {
         self.source.source.advance(count);
         self.source.limit = Some(0);
@@ -151,7 +154,8 @@ impl<S: Source> Primitive<S> {
 
     /// The truth of a BOOLEAN (X.690 8.2, 11.1).
     pub fn to_bool(&mut self) -> Result<bool, DecodeError<S::Error>>
-        ensures reads { ReadsOctetsAs (λ b. b) (IsBoolean (plain S.rest self.old).mode) (plain S.rest self.old) result (plain S.rest self.new) }
+        ensures reads { ReadsOctetsAs (λ b. b) (IsBoolean (plain S.rest self.old).mode)
+            (plain S.rest self.old) result (plain S.rest self.new) }
         ensures failed { OnErr result ((plain S.rest self.new).failed ≡ true) }
         ensures no_memory { IfErr result (λ e. e ≢ Memory) }
     {
@@ -167,7 +171,8 @@ impl<S: Source> Primitive<S> {
 
     /// Reads a NULL (X.690 8.8): there is no octet.
     pub fn to_null(&mut self) -> Result<(), DecodeError<S::Error>>
-        ensures reads { ReadsOctetsAs (λ x. x) IsNull (plain S.rest self.old) result (plain S.rest self.new) }
+        ensures reads { ReadsOctetsAs (λ x. x) IsNull (plain S.rest self.old) result
+            (plain S.rest self.new) }
         ensures failed { OnErr result ((plain S.rest self.new).failed ≡ true) }
         ensures no_memory { IfErr result (λ e. e ≢ Memory) }
     {
@@ -177,7 +182,8 @@ impl<S: Source> Primitive<S> {
 
     // The number of an INTEGER from 0 to `max`.
     fn unsigned(&mut self, max: u128) -> Result<u128, DecodeError<S::Error>>
-        ensures reads { ReadsOctetsAs (λ n. n) (IsUnsigned (max + 1)) (plain S.rest self.old) result (plain S.rest self.new) }
+        ensures reads { ReadsOctetsAs (λ n. n) (IsUnsigned (max + 1)) (plain S.rest self.old) result
+            (plain S.rest self.new) }
         ensures failed { OnErr result ((plain S.rest self.new).failed ≡ true) }
         ensures no_memory { IfErr result (λ e. e ≢ Memory) }
     {
@@ -194,7 +200,8 @@ impl<S: Source> Primitive<S> {
     // The number of an INTEGER from `-1 - max` to `max`.
     fn signed(&mut self, max: u128) -> Result<i128, DecodeError<S::Error>>
         requires { max < 2 ^ 127 }
-        ensures reads { ReadsOctetsAs (λ n. n) (IsSigned (max + 1)) (plain S.rest self.old) result (plain S.rest self.new) }
+        ensures reads { ReadsOctetsAs (λ n. n) (IsSigned (max + 1)) (plain S.rest self.old) result
+            (plain S.rest self.new) }
         ensures failed { OnErr result ((plain S.rest self.new).failed ≡ true) }
         ensures no_memory { IfErr result (λ e. e ≢ Memory) }
     {
@@ -210,7 +217,8 @@ impl<S: Source> Primitive<S> {
 
     /// The number of an INTEGER (X.690 8.3) that fits a `u8`; any other is refused, and none is cut.
     pub fn to_u8(&mut self) -> Result<u8, DecodeError<S::Error>>
-        ensures reads { ReadsOctetsAs (λ n. n) (IsUnsigned (2 ^ 8)) (plain S.rest self.old) result (plain S.rest self.new) }
+        ensures reads { ReadsOctetsAs (λ n. n) (IsUnsigned (2 ^ 8)) (plain S.rest self.old) result
+            (plain S.rest self.new) }
         ensures failed { OnErr result ((plain S.rest self.new).failed ≡ true) }
         ensures no_memory { IfErr result (λ e. e ≢ Memory) }
     {
@@ -220,7 +228,8 @@ impl<S: Source> Primitive<S> {
 
     /// The number of an INTEGER (X.690 8.3) that fits a `u16`; any other is refused, and none is cut.
     pub fn to_u16(&mut self) -> Result<u16, DecodeError<S::Error>>
-        ensures reads { ReadsOctetsAs (λ n. n) (IsUnsigned (2 ^ 16)) (plain S.rest self.old) result (plain S.rest self.new) }
+        ensures reads { ReadsOctetsAs (λ n. n) (IsUnsigned (2 ^ 16)) (plain S.rest self.old) result
+            (plain S.rest self.new) }
         ensures failed { OnErr result ((plain S.rest self.new).failed ≡ true) }
         ensures no_memory { IfErr result (λ e. e ≢ Memory) }
     {
@@ -230,7 +239,8 @@ impl<S: Source> Primitive<S> {
 
     /// The number of an INTEGER (X.690 8.3) that fits a `u32`; any other is refused, and none is cut.
     pub fn to_u32(&mut self) -> Result<u32, DecodeError<S::Error>>
-        ensures reads { ReadsOctetsAs (λ n. n) (IsUnsigned (2 ^ 32)) (plain S.rest self.old) result (plain S.rest self.new) }
+        ensures reads { ReadsOctetsAs (λ n. n) (IsUnsigned (2 ^ 32)) (plain S.rest self.old) result
+            (plain S.rest self.new) }
         ensures failed { OnErr result ((plain S.rest self.new).failed ≡ true) }
         ensures no_memory { IfErr result (λ e. e ≢ Memory) }
     {
@@ -240,7 +250,8 @@ impl<S: Source> Primitive<S> {
 
     /// The number of an INTEGER (X.690 8.3) that fits a `u64`; any other is refused, and none is cut.
     pub fn to_u64(&mut self) -> Result<u64, DecodeError<S::Error>>
-        ensures reads { ReadsOctetsAs (λ n. n) (IsUnsigned (2 ^ 64)) (plain S.rest self.old) result (plain S.rest self.new) }
+        ensures reads { ReadsOctetsAs (λ n. n) (IsUnsigned (2 ^ 64)) (plain S.rest self.old) result
+            (plain S.rest self.new) }
         ensures failed { OnErr result ((plain S.rest self.new).failed ≡ true) }
         ensures no_memory { IfErr result (λ e. e ≢ Memory) }
     {
@@ -250,7 +261,8 @@ impl<S: Source> Primitive<S> {
 
     /// The number of an INTEGER (X.690 8.3) that fits a `u128`; any other is refused, and none is cut.
     pub fn to_u128(&mut self) -> Result<u128, DecodeError<S::Error>>
-        ensures reads { ReadsOctetsAs (λ n. n) (IsUnsigned (2 ^ 128)) (plain S.rest self.old) result (plain S.rest self.new) }
+        ensures reads { ReadsOctetsAs (λ n. n) (IsUnsigned (2 ^ 128)) (plain S.rest self.old) result
+            (plain S.rest self.new) }
         ensures failed { OnErr result ((plain S.rest self.new).failed ≡ true) }
         ensures no_memory { IfErr result (λ e. e ≢ Memory) }
     {
@@ -259,7 +271,8 @@ impl<S: Source> Primitive<S> {
 
     /// The number of an INTEGER (X.690 8.3) that fits an `i8`; any other is refused, and none is cut.
     pub fn to_i8(&mut self) -> Result<i8, DecodeError<S::Error>>
-        ensures reads { ReadsOctetsAs (λ n. n) (IsSigned (2 ^ 7)) (plain S.rest self.old) result (plain S.rest self.new) }
+        ensures reads { ReadsOctetsAs (λ n. n) (IsSigned (2 ^ 7)) (plain S.rest self.old) result
+            (plain S.rest self.new) }
         ensures failed { OnErr result ((plain S.rest self.new).failed ≡ true) }
         ensures no_memory { IfErr result (λ e. e ≢ Memory) }
     {
@@ -269,7 +282,8 @@ impl<S: Source> Primitive<S> {
 
     /// The number of an INTEGER (X.690 8.3) that fits an `i16`; any other is refused, and none is cut.
     pub fn to_i16(&mut self) -> Result<i16, DecodeError<S::Error>>
-        ensures reads { ReadsOctetsAs (λ n. n) (IsSigned (2 ^ 15)) (plain S.rest self.old) result (plain S.rest self.new) }
+        ensures reads { ReadsOctetsAs (λ n. n) (IsSigned (2 ^ 15)) (plain S.rest self.old) result
+            (plain S.rest self.new) }
         ensures failed { OnErr result ((plain S.rest self.new).failed ≡ true) }
         ensures no_memory { IfErr result (λ e. e ≢ Memory) }
     {
@@ -279,7 +293,8 @@ impl<S: Source> Primitive<S> {
 
     /// The number of an INTEGER (X.690 8.3) that fits an `i32`; any other is refused, and none is cut.
     pub fn to_i32(&mut self) -> Result<i32, DecodeError<S::Error>>
-        ensures reads { ReadsOctetsAs (λ n. n) (IsSigned (2 ^ 31)) (plain S.rest self.old) result (plain S.rest self.new) }
+        ensures reads { ReadsOctetsAs (λ n. n) (IsSigned (2 ^ 31)) (plain S.rest self.old) result
+            (plain S.rest self.new) }
         ensures failed { OnErr result ((plain S.rest self.new).failed ≡ true) }
         ensures no_memory { IfErr result (λ e. e ≢ Memory) }
     {
@@ -289,7 +304,8 @@ impl<S: Source> Primitive<S> {
 
     /// The number of an INTEGER (X.690 8.3) that fits an `i64`; any other is refused, and none is cut.
     pub fn to_i64(&mut self) -> Result<i64, DecodeError<S::Error>>
-        ensures reads { ReadsOctetsAs (λ n. n) (IsSigned (2 ^ 63)) (plain S.rest self.old) result (plain S.rest self.new) }
+        ensures reads { ReadsOctetsAs (λ n. n) (IsSigned (2 ^ 63)) (plain S.rest self.old) result
+            (plain S.rest self.new) }
         ensures failed { OnErr result ((plain S.rest self.new).failed ≡ true) }
         ensures no_memory { IfErr result (λ e. e ≢ Memory) }
     {
@@ -299,7 +315,8 @@ impl<S: Source> Primitive<S> {
 
     /// The number of an INTEGER (X.690 8.3) that fits an `i128`; any other is refused, and none is cut.
     pub fn to_i128(&mut self) -> Result<i128, DecodeError<S::Error>>
-        ensures reads { ReadsOctetsAs (λ n. n) (IsSigned (2 ^ 127)) (plain S.rest self.old) result (plain S.rest self.new) }
+        ensures reads { ReadsOctetsAs (λ n. n) (IsSigned (2 ^ 127)) (plain S.rest self.old) result
+            (plain S.rest self.new) }
         ensures failed { OnErr result ((plain S.rest self.new).failed ≡ true) }
         ensures no_memory { IfErr result (λ e. e ≢ Memory) }
     {
@@ -309,9 +326,11 @@ impl<S: Source> Primitive<S> {
     /// Reads an INTEGER (X.690 8.3) of that number; any other is refused, and the error names that
     /// number.
     pub fn skip_u8_if(&mut self, expected: u8) -> Result<(), DecodeError<S::Error>>
-        ensures reads { ReadsOctetsAs (λ x. x) (IsValue (IsUnsigned (2 ^ 8)) expected) (plain S.rest self.old) result (plain S.rest self.new) }
+        ensures reads { ReadsOctetsAs (λ x. x) (IsValue (IsUnsigned (2 ^ 8)) expected)
+            (plain S.rest self.old) result (plain S.rest self.new) }
         ensures failed { OnErr result ((plain S.rest self.new).failed ≡ true) }
-        ensures named { IfErr result (NamesOther (IsUnsigned (2 ^ 8)) (plain S.rest self.old) expected) }
+        ensures named { IfErr result
+            (NamesOther (IsUnsigned (2 ^ 8)) (plain S.rest self.old) expected) }
         ensures no_memory { IfErr result (λ e. e ≢ Memory) }
     {
         let number = self.to_u8()?;
@@ -328,7 +347,8 @@ impl<S: Source> Primitive<S> {
 
     /// Passes over all octets of the content.
     pub fn skip_all(&mut self) -> Result<(), DecodeError<S::Error>>
-        ensures reads { ReadsOctetsAs (λ x. x) Skipped (plain S.rest self.old) result (plain S.rest self.new) }
+        ensures reads { ReadsOctetsAs (λ x. x) Skipped (plain S.rest self.old) result
+            (plain S.rest self.new) }
         ensures failed { OnErr result ((plain S.rest self.new).failed ≡ true) }
         ensures no_memory { IfErr result (λ e. e ≢ Memory) }
     {
@@ -348,9 +368,11 @@ impl<S: Source> Primitive<S> {
     /// only where octets are left, and the source has them all.
     #[inline(always)]
     pub fn take_all(&mut self, alloc: Global) -> Result<Bytes, DecodeError<S::Error>>
-        ensures reads { ReadsOctetsAs (λ octets. octets) AnyOctets (plain S.rest self.old) result (plain S.rest self.new) }
+        ensures reads { ReadsOctetsAs (λ octets. octets) AnyOctets (plain S.rest self.old) result
+            (plain S.rest self.new) }
         ensures failed { OnErr result ((plain S.rest self.new).failed ≡ true) }
-        ensures memory { IfErr result (λ e. OnMemory e (HasAll self.old.source.limit (plain S.rest self.old).rest)) }
+        ensures memory { IfErr result
+            (λ e. OnMemory e (HasAll self.old.source.limit (plain S.rest self.old).rest)) }
     {
         if self.failed {
             return Err(self.refuse("a read was refused before"));
@@ -384,14 +406,19 @@ impl<S: Source> Source for Primitive<S> {
 
     fn request(&mut self, len: usize) -> Result<usize, S::Error>
         ensures same { OnOk result (plain S.rest self.new ≡ plain S.rest self.old) }
-        ensures failed { OnErr result (plain S.rest self.new ≡ record (plain S.rest self.old) { failed = true }) }
-        ensures rest { left (octets_in (plain S.rest self.new)) ≡ left (octets_in (plain S.rest self.old)) }
+        ensures failed { OnErr result
+            (plain S.rest self.new ≡ record (plain S.rest self.old) { failed = true }) }
+        ensures rest { left (octets_in (plain S.rest self.new))
+            ≡ left (octets_in (plain S.rest self.old)) }
         ensures position { S.position self.new.source.source ≡ S.position self.old.source.source }
-        ensures kept { at_hand self.old.source.limit (S.available self.old.source.source) ≤ at_hand self.new.source.limit (S.available self.new.source.source) }
-        ensures available { IfOk result (λ n. n ≡ at_hand self.new.source.limit (S.available self.new.source.source)) }
+        ensures kept { at_hand self.old.source.limit (S.available self.old.source.source)
+            ≤ at_hand self.new.source.limit (S.available self.new.source.source) }
+        ensures available { IfOk result
+            (λ n. n ≡ at_hand self.new.source.limit (S.available self.new.source.source)) }
         ensures there { IfOk result (λ n. n ≤ length (left (octets_in (plain S.rest self.new)))) }
         ensures bound { IfOk result (λ n. n < 2 ^ 63) }
-        ensures enough { IfOk result (λ n. n < len → n ≡ length (left (octets_in (plain S.rest self.new)))) }
+        ensures enough { IfOk result
+            (λ n. n < len → n ≡ length (left (octets_in (plain S.rest self.new)))) }
     {
         match self.source.request(len) {
             Ok(count) => Ok(count),
@@ -414,13 +441,16 @@ impl<S: Source> Source for Primitive<S> {
     fn advance(&mut self, len: usize)
         requires { len ≤ at_hand self.old.source.limit (S.available self.old.source.source) }
         ensures there { len ≤ length (left (octets_in (plain S.rest self.old))) }
-        ensures moved { Moved (octets_in (plain S.rest self.old)) (take len (plain S.rest self.old).rest) (octets_in (plain S.rest self.new)) }
+        ensures moved { Moved (octets_in (plain S.rest self.old))
+            (take len (plain S.rest self.old).rest) (octets_in (plain S.rest self.new)) }
         ensures mode { (plain S.rest self.new).mode ≡ (plain S.rest self.old).mode }
         ensures failed { (plain S.rest self.new).failed ≡ (plain S.rest self.old).failed }
-        ensures rest { left (octets_in (plain S.rest self.new)) ≡ drop len (left (octets_in (plain S.rest self.old))) }
+        ensures rest { left (octets_in (plain S.rest self.new))
+            ≡ drop len (left (octets_in (plain S.rest self.old))) }
         ensures position { S.position self.new.source.source
             ≡ min (S.position self.old.source.source + len) (2 ^ 64 - 1) }
-        ensures available { at_hand self.new.source.limit (S.available self.new.source.source) ≡ at_hand self.old.source.limit (S.available self.old.source.source) - len }
+        ensures available { at_hand self.new.source.limit (S.available self.new.source.source)
+            ≡ at_hand self.old.source.limit (S.available self.old.source.source) - len }
     {
         self.source.advance(len);
     }
@@ -428,13 +458,18 @@ impl<S: Source> Source for Primitive<S> {
     fn skip(&mut self, len: usize) -> Result<usize, S::Error>
         ensures bound { IfOk result (λ n. n ≤ len) }
         ensures there { IfOk result (λ n. n ≤ length (left (octets_in (plain S.rest self.old)))) }
-        ensures moved { IfOk result (λ n. Moved (octets_in (plain S.rest self.old)) (take n (plain S.rest self.old).rest) (octets_in (plain S.rest self.new))) }
+        ensures moved { IfOk result (λ n. Moved (octets_in (plain S.rest self.old))
+            (take n (plain S.rest self.old).rest) (octets_in (plain S.rest self.new))) }
         ensures mode { (plain S.rest self.new).mode ≡ (plain S.rest self.old).mode }
-        ensures sound { OnOk result ((plain S.rest self.new).failed ≡ (plain S.rest self.old).failed) }
-        ensures rest { IfOk result (λ n. left (octets_in (plain S.rest self.new)) ≡ drop n (left (octets_in (plain S.rest self.old)))) }
+        ensures sound { OnOk result
+            ((plain S.rest self.new).failed ≡ (plain S.rest self.old).failed) }
+        ensures rest { IfOk result (λ n. left (octets_in (plain S.rest self.new))
+            ≡ drop n (left (octets_in (plain S.rest self.old)))) }
         ensures short { IfOk result (λ n. n < len → left (octets_in (plain S.rest self.new)) ≡ []) }
-        ensures refused { OnErr result (plain S.rest self.new ≡ record (plain S.rest self.old) { failed = true }) }
-        ensures failed { OnErr result (left (octets_in (plain S.rest self.new)) ≡ left (octets_in (plain S.rest self.old))) }
+        ensures refused { OnErr result
+            (plain S.rest self.new ≡ record (plain S.rest self.old) { failed = true }) }
+        ensures failed { OnErr result
+            (left (octets_in (plain S.rest self.new)) ≡ left (octets_in (plain S.rest self.old))) }
     {
         match self.source.skip(len) {
             Ok(count) => Ok(count),
@@ -446,12 +481,17 @@ impl<S: Source> Source for Primitive<S> {
     }
 
     fn take_opt_u8(&mut self) -> Result<Option<u8>, S::Error>
-        ensures moved { IfOk result (λ octet. Moved (octets_in (plain S.rest self.old)) (octets_of octet) (octets_in (plain S.rest self.new))) }
+        ensures moved { IfOk result (λ octet. Moved (octets_in (plain S.rest self.old))
+            (octets_of octet) (octets_in (plain S.rest self.new))) }
         ensures mode { (plain S.rest self.new).mode ≡ (plain S.rest self.old).mode }
-        ensures sound { OnOk result ((plain S.rest self.new).failed ≡ (plain S.rest self.old).failed) }
-        ensures taken { IfOk result (λ octet. NextOctet octet (left (octets_in (plain S.rest self.old))) (left (octets_in (plain S.rest self.new)))) }
-        ensures refused { OnErr result (plain S.rest self.new ≡ record (plain S.rest self.old) { failed = true }) }
-        ensures failed { OnErr result (left (octets_in (plain S.rest self.new)) ≡ left (octets_in (plain S.rest self.old))) }
+        ensures sound { OnOk result
+            ((plain S.rest self.new).failed ≡ (plain S.rest self.old).failed) }
+        ensures taken { IfOk result (λ octet. NextOctet octet
+            (left (octets_in (plain S.rest self.old))) (left (octets_in (plain S.rest self.new)))) }
+        ensures refused { OnErr result
+            (plain S.rest self.new ≡ record (plain S.rest self.old) { failed = true }) }
+        ensures failed { OnErr result
+            (left (octets_in (plain S.rest self.new)) ≡ left (octets_in (plain S.rest self.old))) }
     {
         match self.source.take_opt_u8() {
             Ok(octet) => Ok(octet),
@@ -463,13 +503,19 @@ impl<S: Source> Source for Primitive<S> {
     }
 
     fn take_u8(&mut self) -> Result<u8, DecodeError<S::Error>>
-        ensures moved { IfOk result (λ octet. Moved (octets_in (plain S.rest self.old)) (octet ∷ []) (octets_in (plain S.rest self.new))) }
+        ensures moved { IfOk result (λ octet. Moved (octets_in (plain S.rest self.old)) (octet ∷ [])
+            (octets_in (plain S.rest self.new))) }
         ensures mode { (plain S.rest self.new).mode ≡ (plain S.rest self.old).mode }
-        ensures sound { OnOk result ((plain S.rest self.new).failed ≡ (plain S.rest self.old).failed) }
-        ensures taken { IfOk result (λ octet. left (octets_in (plain S.rest self.old)) ≡ octet ∷ left (octets_in (plain S.rest self.new))) }
-        ensures refused { IfErr result (λ e. OnlyAtEnd e (left (octets_in (plain S.rest self.old)))) }
-        ensures same { OnErr result (plain S.rest self.new ≡ record (plain S.rest self.old) { failed = true }) }
-        ensures failed { OnErr result (left (octets_in (plain S.rest self.new)) ≡ left (octets_in (plain S.rest self.old))) }
+        ensures sound { OnOk result
+            ((plain S.rest self.new).failed ≡ (plain S.rest self.old).failed) }
+        ensures taken { IfOk result (λ octet. left (octets_in (plain S.rest self.old))
+            ≡ octet ∷ left (octets_in (plain S.rest self.new))) }
+        ensures refused { IfErr result
+            (λ e. OnlyAtEnd e (left (octets_in (plain S.rest self.old)))) }
+        ensures same { OnErr result
+            (plain S.rest self.new ≡ record (plain S.rest self.old) { failed = true }) }
+        ensures failed { OnErr result
+            (left (octets_in (plain S.rest self.new)) ≡ left (octets_in (plain S.rest self.old))) }
     {
         match self.source.take_u8() {
             Ok(octet) => Ok(octet),

@@ -34,7 +34,8 @@ impl<'a, S: Source> CaptureSource<'a, S> {
     pub fn into_bytes(&mut self, alloc: Global) -> Result<Bytes, AllocError>
         ensures same_reference { self.new.source.ghost_name ≡ self.old.source.ghost_name }
         ensures octets { IfOk result (λ b. b ≡ take self.old.len (S.rest self.old.source.now)) }
-        ensures rest { OnOk result (S.rest self.new.source.now ≡ drop self.old.len (S.rest self.old.source.now)) }
+        ensures rest { OnOk result
+            (S.rest self.new.source.now ≡ drop self.old.len (S.rest self.old.source.now)) }
         ensures len { OnOk result (self.new.len ≡ 0) }
         ensures source_kept { OnErr result (self.new.source.now ≡ self.old.source.now) }
         ensures len_kept { OnErr result (self.new.len ≡ self.old.len) }
@@ -77,13 +78,18 @@ impl<'a, S: Source> Source for CaptureSource<'a, S> {
         ensures source { S.rest self.new.source.now ≡ S.rest self.old.source.now }
         ensures len { self.new.len ≡ self.old.len }
         ensures position { S.position self.new.source.now ≡ S.position self.old.source.now }
-        ensures rest { drop self.new.len (S.rest self.new.source.now) ≡ drop self.old.len (S.rest self.old.source.now) }
-        ensures position_kept { min (S.position self.new.source.now + self.new.len) (2 ^ 64 - 1) ≡ min (S.position self.old.source.now + self.old.len) (2 ^ 64 - 1) }
-        ensures kept { S.available self.old.source.now - self.old.len ≤ S.available self.new.source.now - self.new.len }
+        ensures rest { drop self.new.len (S.rest self.new.source.now)
+            ≡ drop self.old.len (S.rest self.old.source.now) }
+        ensures position_kept { min (S.position self.new.source.now + self.new.len) (2 ^ 64 - 1)
+            ≡ min (S.position self.old.source.now + self.old.len) (2 ^ 64 - 1) }
+        ensures kept { S.available self.old.source.now - self.old.len
+            ≤ S.available self.new.source.now - self.new.len }
         ensures available { IfOk result (λ n. n ≡ S.available self.new.source.now - self.new.len) }
-        ensures there { IfOk result (λ n. n ≤ length (drop self.new.len (S.rest self.new.source.now))) }
+        ensures there { IfOk result
+            (λ n. n ≤ length (drop self.new.len (S.rest self.new.source.now))) }
         ensures bound { IfOk result (λ n. n < 2 ^ 63) }
-        ensures enough { IfOk result (λ n. n < len → n ≡ length (drop self.new.len (S.rest self.new.source.now))) }
+        ensures enough { IfOk result
+            (λ n. n < len → n ≡ length (drop self.new.len (S.rest self.new.source.now))) }
     {
         let count = self.source.request(self.len.saturating_add(len))?;
         Ok(count - self.len)
@@ -106,10 +112,13 @@ impl<'a, S: Source> Source for CaptureSource<'a, S> {
         ensures source { self.new.source.now ≡ self.old.source.now }
         ensures len { self.new.len ≡ self.old.len + len }
         ensures there { len ≤ length (drop self.old.len (S.rest self.old.source.now)) }
-        ensures rest { drop self.new.len (S.rest self.new.source.now) ≡ drop len (drop self.old.len (S.rest self.old.source.now)) }
+        ensures rest { drop self.new.len (S.rest self.new.source.now)
+            ≡ drop len (drop self.old.len (S.rest self.old.source.now)) }
         ensures position { min (S.position self.new.source.now + self.new.len) (2 ^ 64 - 1)
-            ≡ min (min (S.position self.old.source.now + self.old.len) (2 ^ 64 - 1) + len) (2 ^ 64 - 1) }
-        ensures available { S.available self.new.source.now - self.new.len ≡ S.available self.old.source.now - self.old.len - len }
+            ≡ min (min (S.position self.old.source.now + self.old.len) (2 ^ 64 - 1) + len)
+            (2 ^ 64 - 1) }
+        ensures available { S.available self.new.source.now - self.new.len
+            ≡ S.available self.old.source.now - self.old.len - len }
     {
         // Their count fits, so the sum does.
         let _ = (*self.source).slice().len();
@@ -123,10 +132,15 @@ impl<'a, S: Source> Source for CaptureSource<'a, S> {
         ensures len { IfOk result (λ n. self.new.len ≡ self.old.len + n) }
         ensures len_kept { OnErr result (self.new.len ≡ self.old.len) }
         ensures bound { IfOk result (λ n. n ≤ len) }
-        ensures there { IfOk result (λ n. n ≤ length (drop self.old.len (S.rest self.old.source.now))) }
-        ensures rest { IfOk result (λ n. drop self.new.len (S.rest self.new.source.now) ≡ drop n (drop self.old.len (S.rest self.old.source.now))) }
-        ensures short { IfOk result (λ n. n < len → drop self.new.len (S.rest self.new.source.now) ≡ []) }
-        ensures failed { OnErr result (drop self.new.len (S.rest self.new.source.now) ≡ drop self.old.len (S.rest self.old.source.now)) }
+        ensures there { IfOk result
+            (λ n. n ≤ length (drop self.old.len (S.rest self.old.source.now))) }
+        ensures rest { IfOk result (λ n. drop self.new.len (S.rest self.new.source.now)
+            ≡ drop n (drop self.old.len (S.rest self.old.source.now))) }
+        ensures short { IfOk result
+            (λ n. n < len → drop self.new.len (S.rest self.new.source.now) ≡ []) }
+        ensures failed { OnErr result
+            (drop self.new.len (S.rest self.new.source.now)
+            ≡ drop self.old.len (S.rest self.old.source.now)) }
     {
         let count = self.request(len)?;
         let count = count.min(len);
@@ -138,10 +152,15 @@ impl<'a, S: Source> Source for CaptureSource<'a, S> {
     fn take_opt_u8(&mut self) -> Result<Option<u8>, S::Error>
         ensures same_reference { self.new.source.ghost_name ≡ self.old.source.ghost_name }
         ensures source { S.rest self.new.source.now ≡ S.rest self.old.source.now }
-        ensures len { IfOk result (λ octet. self.new.len ≡ self.old.len + length (octets_of octet)) }
+        ensures len { IfOk result
+            (λ octet. self.new.len ≡ self.old.len + length (octets_of octet)) }
         ensures len_kept { OnErr result (self.new.len ≡ self.old.len) }
-        ensures taken { IfOk result (λ octet. NextOctet octet (drop self.old.len (S.rest self.old.source.now)) (drop self.new.len (S.rest self.new.source.now))) }
-        ensures failed { OnErr result (drop self.new.len (S.rest self.new.source.now) ≡ drop self.old.len (S.rest self.old.source.now)) }
+        ensures taken { IfOk result (λ octet. NextOctet octet
+            (drop self.old.len (S.rest self.old.source.now))
+            (drop self.new.len (S.rest self.new.source.now))) }
+        ensures failed { OnErr result
+            (drop self.new.len (S.rest self.new.source.now)
+            ≡ drop self.old.len (S.rest self.old.source.now)) }
     {
         self.request(1)?;
         let Some(octet) = (*self).slice().first() else {
@@ -158,9 +177,13 @@ impl<'a, S: Source> Source for CaptureSource<'a, S> {
         ensures source { S.rest self.new.source.now ≡ S.rest self.old.source.now }
         ensures len { OnOk result (self.new.len ≡ self.old.len + 1) }
         ensures len_kept { OnErr result (self.new.len ≡ self.old.len) }
-        ensures taken { IfOk result (λ octet. drop self.old.len (S.rest self.old.source.now) ≡ octet ∷ drop self.new.len (S.rest self.new.source.now)) }
-        ensures refused { IfErr result (λ e. OnlyAtEnd e (drop self.old.len (S.rest self.old.source.now))) }
-        ensures failed { OnErr result (drop self.new.len (S.rest self.new.source.now) ≡ drop self.old.len (S.rest self.old.source.now)) }
+        ensures taken { IfOk result (λ octet. drop self.old.len (S.rest self.old.source.now)
+            ≡ octet ∷ drop self.new.len (S.rest self.new.source.now)) }
+        ensures refused { IfErr result
+            (λ e. OnlyAtEnd e (drop self.old.len (S.rest self.old.source.now))) }
+        ensures failed { OnErr result
+            (drop self.new.len (S.rest self.new.source.now)
+            ≡ drop self.old.len (S.rest self.old.source.now)) }
     {
         match self.take_opt_u8() {
             Ok(Some(octet)) => Ok(octet),

@@ -19,5 +19,7 @@ pub fn readings_join()
 
 /// Reading from a slice is reading from a source with no limit.
 pub fn slices_are_read_alike()
-    ensures { (octets text rest : List ℕ) → octets ≡ text ++ rest → Moved (record { rest = octets; limit = None }) text (record { rest = rest; limit = None }) }
+    ensures { (octets text rest : List ℕ) → octets ≡ text ++ rest
+        → Moved (record { rest = octets; limit = None }) text
+        (record { rest = rest; limit = None }) }
 {}

@@ -103,8 +103,10 @@ impl<S: Source> Source for LimitedSource<S> {
         ensures same { view S.rest self.new ≡ view S.rest self.old }
         ensures rest { left (view S.rest self.new) ≡ left (view S.rest self.old) }
         ensures position { S.position self.new.source ≡ S.position self.old.source }
-        ensures kept { at_hand self.old.limit (S.available self.old.source) ≤ at_hand self.new.limit (S.available self.new.source) }
-        ensures available { IfOk result (λ n. n ≡ at_hand self.new.limit (S.available self.new.source)) }
+        ensures kept { at_hand self.old.limit (S.available self.old.source)
+            ≤ at_hand self.new.limit (S.available self.new.source) }
+        ensures available { IfOk result
+            (λ n. n ≡ at_hand self.new.limit (S.available self.new.source)) }
         ensures there { IfOk result (λ n. n ≤ length (left (view S.rest self.new))) }
         ensures bound { IfOk result (λ n. n < 2 ^ 63) }
         ensures enough { IfOk result (λ n. n < len → n ≡ length (left (view S.rest self.new))) }
@@ -128,10 +130,13 @@ impl<S: Source> Source for LimitedSource<S> {
     fn advance(&mut self, len: usize)
         requires { len ≤ at_hand self.old.limit (S.available self.old.source) }
         ensures there { len ≤ length (left (view S.rest self.old)) }
-        ensures moved { Moved (view S.rest self.old) (take len (S.rest self.old.source)) (view S.rest self.new) }
+        ensures moved { Moved (view S.rest self.old) (take len (S.rest self.old.source))
+            (view S.rest self.new) }
         ensures rest { left (view S.rest self.new) ≡ drop len (left (view S.rest self.old)) }
-        ensures position { S.position self.new.source ≡ min (S.position self.old.source + len) (2 ^ 64 - 1) }
-        ensures available { at_hand self.new.limit (S.available self.new.source) ≡ at_hand self.old.limit (S.available self.old.source) - len }
+        ensures position { S.position self.new.source
+            ≡ min (S.position self.old.source + len) (2 ^ 64 - 1) }
+        ensures available { at_hand self.new.limit (S.available self.new.source)
+            ≡ at_hand self.old.limit (S.available self.old.source) - len }
     {
         let Some(limit) = self.limit else {
             self.source.advance(len);
@@ -145,8 +150,10 @@ impl<S: Source> Source for LimitedSource<S> {
     fn skip(&mut self, len: usize) -> Result<usize, S::Error>
         ensures bound { IfOk result (λ n. n ≤ len) }
         ensures there { IfOk result (λ n. n ≤ length (left (view S.rest self.old))) }
-        ensures moved { IfOk result (λ n. Moved (view S.rest self.old) (take n (S.rest self.old.source)) (view S.rest self.new)) }
-        ensures rest { IfOk result (λ n. left (view S.rest self.new) ≡ drop n (left (view S.rest self.old))) }
+        ensures moved { IfOk result (λ n. Moved (view S.rest self.old)
+            (take n (S.rest self.old.source)) (view S.rest self.new)) }
+        ensures rest { IfOk result
+            (λ n. left (view S.rest self.new) ≡ drop n (left (view S.rest self.old))) }
         ensures short { IfOk result (λ n. n < len → left (view S.rest self.new) ≡ []) }
         ensures same { OnErr result (view S.rest self.new ≡ view S.rest self.old) }
         ensures failed { OnErr result (left (view S.rest self.new) ≡ left (view S.rest self.old)) }
@@ -159,8 +166,10 @@ impl<S: Source> Source for LimitedSource<S> {
 
     /// The default's steps; what they consume obeys the law of reading.
     fn take_opt_u8(&mut self) -> Result<Option<u8>, S::Error>
-        ensures moved { IfOk result (λ octet. Moved (view S.rest self.old) (octets_of octet) (view S.rest self.new)) }
-        ensures taken { IfOk result (λ octet. NextOctet octet (left (view S.rest self.old)) (left (view S.rest self.new))) }
+        ensures moved { IfOk result
+            (λ octet. Moved (view S.rest self.old) (octets_of octet) (view S.rest self.new)) }
+        ensures taken { IfOk result
+            (λ octet. NextOctet octet (left (view S.rest self.old)) (left (view S.rest self.new))) }
         ensures same { OnErr result (view S.rest self.new ≡ view S.rest self.old) }
         ensures failed { OnErr result (left (view S.rest self.new) ≡ left (view S.rest self.old)) }
     {
@@ -175,8 +184,10 @@ impl<S: Source> Source for LimitedSource<S> {
 
     /// The default's steps; what they consume obeys the law of reading.
     fn take_u8(&mut self) -> Result<u8, DecodeError<S::Error>>
-        ensures moved { IfOk result (λ octet. Moved (view S.rest self.old) (octet ∷ []) (view S.rest self.new)) }
-        ensures taken { IfOk result (λ octet. left (view S.rest self.old) ≡ octet ∷ left (view S.rest self.new)) }
+        ensures moved { IfOk result
+            (λ octet. Moved (view S.rest self.old) (octet ∷ []) (view S.rest self.new)) }
+        ensures taken { IfOk result
+            (λ octet. left (view S.rest self.old) ≡ octet ∷ left (view S.rest self.new)) }
         ensures refused { IfErr result (λ e. OnlyAtEnd e (left (view S.rest self.old))) }
         ensures same { OnErr result (view S.rest self.new ≡ view S.rest self.old) }
         ensures failed { OnErr result (left (view S.rest self.new) ≡ left (view S.rest self.old)) }
@@ -225,9 +236,11 @@ impl<S: Source> LimitedSource<S> {
     ///
     /// The content is refused where the source ends before the limit.
     pub fn skip_all(&mut self) -> Result<(), DecodeError<S::Error>>
-        ensures moved { OnOk result (Moved (view S.rest self.old) (left (view S.rest self.old)) (view S.rest self.new)) }
+        ensures moved { OnOk result
+            (Moved (view S.rest self.old) (left (view S.rest self.old)) (view S.rest self.new)) }
         ensures spent { OnOk result (IsSpent self.new.limit (S.rest self.new.source)) }
-        ensures refused { IfErr result (λ e. OnlyContent e (IsShort self.old.limit (S.rest self.old.source))) }
+        ensures refused { IfErr result
+            (λ e. OnlyContent e (IsShort self.old.limit (S.rest self.old.source))) }
     {
         let Some(limit) = self.limit else {
             return match advance_all(&mut self.source) {
@@ -256,8 +269,10 @@ impl<S: Source> LimitedSource<S> {
         ensures octets { IfOk result (λ b. b ≡ left (view S.rest self.old)) }
         ensures moved { IfOk result (λ b. Moved (view S.rest self.old) b (view S.rest self.new)) }
         ensures spent { OnOk result (IsSpent self.new.limit (S.rest self.new.source)) }
-        ensures refused { IfErr result (λ e. OnContent e (IsShort self.old.limit (S.rest self.old.source))) }
-        ensures memory { IfErr result (λ e. OnMemory e (HasAll self.old.limit (S.rest self.old.source))) }
+        ensures refused { IfErr result
+            (λ e. OnContent e (IsShort self.old.limit (S.rest self.old.source))) }
+        ensures memory { IfErr result
+            (λ e. OnMemory e (HasAll self.old.limit (S.rest self.old.source))) }
     {
         let count = self.all()?;
         let octets = self.front(alloc, count)?;
@@ -284,8 +299,10 @@ impl<S: Source> LimitedSource<S> {
         ensures same { view S.rest self.new ≡ view S.rest self.old }
         ensures all { IfOk result (λ n. n ≡ length (left (view S.rest self.new))) }
         ensures limit { IfOk result (λ n. IsSome self.old.limit → self.old.limit ≡ Some n) }
-        ensures available { IfOk result (λ n. n ≡ at_hand self.new.limit (S.available self.new.source)) }
-        ensures refused { IfErr result (λ e. OnlyContent e (IsShort self.old.limit (S.rest self.old.source))) }
+        ensures available { IfOk result
+            (λ n. n ≡ at_hand self.new.limit (S.available self.new.source)) }
+        ensures refused { IfErr result
+            (λ e. OnlyContent e (IsShort self.old.limit (S.rest self.old.source))) }
     {
         let Some(limit) = self.limit else {
             return match request_all(&mut self.source) {
@@ -306,7 +323,8 @@ impl<S: Source> LimitedSource<S> {
     pub fn exhausted(&mut self) -> Result<(), DecodeError<S::Error>>
         ensures same { view S.rest self.new ≡ view S.rest self.old }
         ensures ended { OnOk result (IsSpent self.old.limit (S.rest self.old.source)) }
-        ensures refused { IfErr result (λ e. OnlyContent e (IsSpent self.old.limit (S.rest self.old.source) → ⊥)) }
+        ensures refused { IfErr result
+            (λ e. OnlyContent e (IsSpent self.old.limit (S.rest self.old.source) → ⊥)) }
     {
         if let Some(limit) = self.limit {
             if limit == 0 {

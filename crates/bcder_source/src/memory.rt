@@ -65,9 +65,11 @@ impl BytesSource {
     /// A refusal changes nothing.
     pub fn split_to(&mut self, len: usize) -> Result<BytesSource, AllocError>
         requires { len ≤ length self.old.rest }
-        ensures front { IfOk result (λ front. front ≡ record { rest = take len self.old.rest; position = self.old.position }) }
+        ensures front { IfOk result (λ front. front
+            ≡ record { rest = take len self.old.rest; position = self.old.position }) }
         ensures rest { OnOk result (self.new.rest ≡ drop len self.old.rest) }
-        ensures position { OnOk result (self.new.position ≡ min (self.old.position + len) (2 ^ 64 - 1)) }
+        ensures position { OnOk result
+            (self.new.position ≡ min (self.old.position + len) (2 ^ 64 - 1)) }
         ensures refused { OnErr result (self.new ≡ self.old) }
     {
         let octets = self.octets.split_to(len)?;
@@ -160,7 +162,8 @@ impl<'a> SliceSource<'a> {
     /// Cuts off the first `len` octets as a source of their own.
     pub fn split_to(&mut self, len: usize) -> SliceSource<'a>
         requires { len ≤ length self.old.rest }
-        ensures front { result ≡ record { rest = take len self.old.rest; position = self.old.position } }
+        ensures front { result
+            ≡ record { rest = take len self.old.rest; position = self.old.position } }
         ensures rest { self.new.rest ≡ drop len self.old.rest }
         ensures position { self.new.position ≡ min (self.old.position + len) (2 ^ 64 - 1) }
     {

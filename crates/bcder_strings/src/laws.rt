@@ -12,7 +12,9 @@ use bcder_chars::CharSet;
 
 /// What is written of a text is one value, the restricted string of these octets in the mode (X.690 8.23, 9.2, 10.2).
 pub fn a_text_is_written<L: CharSet>()
-    ensures { (m : Mode) (tag : TagValue) (octets : List ℕ) (ts : Trees) → IsText L.has L.spell octets → StringTrees m tag octets ts → WrittenText L.has L.spell m tag octets ts }
+    ensures { (m : Mode) (tag : TagValue) (octets : List ℕ) (ts : Trees)
+        → IsText L.has L.spell octets → StringTrees m tag octets ts
+        → WrittenText L.has L.spell m tag octets ts }
 {}
 
 /// A value is one restricted string at most.

@@ -50,7 +50,9 @@ impl<L: CharSet> RestrictedString<L> {
         alloc: Global,
         cons: &mut Constructed<S>,
     ) -> Result<Self, DecodeError<S::Error>>
-        ensures reads { ReadsAs (λ octets. octets) (IsRestricted L.has L.spell (here S.rest cons.old).mode L.type_tag) (here S.rest cons.old) result (here S.rest cons.new) }
+        ensures reads { ReadsAs (λ octets. octets)
+            (IsRestricted L.has L.spell (here S.rest cons.old).mode L.type_tag)
+            (here S.rest cons.old) result (here S.rest cons.new) }
         ensures failed { OnErr result ((here S.rest cons.new).failed ≡ true) }
     {
         let tag = L::tag();
@@ -68,7 +70,9 @@ impl<L: CharSet> RestrictedString<L> {
         alloc: Global,
         cons: &mut Constructed<S>,
     ) -> Result<Option<Self>, DecodeError<S::Error>>
-        ensures reads { ReadsOptAs (λ octets. octets) L.type_tag (IsRestricted L.has L.spell (here S.rest cons.old).mode L.type_tag) (here S.rest cons.old) result (here S.rest cons.new) }
+        ensures reads { ReadsOptAs (λ octets. octets) L.type_tag
+            (IsRestricted L.has L.spell (here S.rest cons.old).mode L.type_tag)
+            (here S.rest cons.old) result (here S.rest cons.new) }
         ensures failed { OnErr result ((here S.rest cons.new).failed ≡ true) }
     {
         let taken = cons.take_opt_value_if(

@@ -103,9 +103,12 @@ impl<L: CharSet> RestrictedString<L> {
 
     /// The string of these characters, if all are in the set; where their octets are those of the text, none is copied.
     pub fn from_string(alloc: Global, text: String) -> Result<Self, RestrictedStringError>
-        ensures told { IfOk result (λ string. Tells L.has L.spell string (chars_of_text (string_bytes text))) }
-        ensures refused { IfErr result (λ e. OnCharSet e (All L.has (chars_of_text (string_bytes text)) → ⊥)) }
-        ensures memory { IfErr result (λ e. OnMemory e (All L.has (chars_of_text (string_bytes text)))) }
+        ensures told { IfOk result
+            (λ string. Tells L.has L.spell string (chars_of_text (string_bytes text))) }
+        ensures refused { IfErr result
+            (λ e. OnCharSet e (All L.has (chars_of_text (string_bytes text)) → ⊥)) }
+        ensures memory { IfErr result
+            (λ e. OnMemory e (All L.has (chars_of_text (string_bytes text)))) }
     {
         let Ok(octets) = L::from_str(text.as_str()) else {
             return Err(RestrictedStringError::CharSet);

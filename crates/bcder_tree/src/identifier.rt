@@ -42,7 +42,8 @@ impl Tag {
     #[inline(always)]
     pub fn read(octets: &[u8]) -> Option<(Tag, bool, usize)>
         ensures found { IfSome result (λ r. Begins (Identifies r.1 r.0) octets.now r.2) }
-        ensures none { IfNone result ((constructed : Bool) (t : TagValue) → Lacks (Identifies constructed t) octets.now) }
+        ensures none { IfNone result
+            ((constructed : Bool) (t : TagValue) → Lacks (Identifies constructed t) octets.now) }
     {
         let [first, rest @ ..] = octets else {
             return None;

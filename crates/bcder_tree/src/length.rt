@@ -31,8 +31,10 @@ fn is_shortest(mode: Mode, low: usize, length: usize) -> bool
 
 // The octet behind `81`; the count of octets includes the first.
 fn length_of_1(mode: Mode, octets: &[u8]) -> Option<(usize, usize)>
-    ensures found { IfSome result (λ r. Begins (λ text. IsLength mode text r.0) (129 ∷ octets.now) r.1) }
-    ensures none { IfNone result ((n : ℕ) → Lacks (λ text. IsLength mode text n) (129 ∷ octets.now)) }
+    ensures found { IfSome result
+        (λ r. Begins (λ text. IsLength mode text r.0) (129 ∷ octets.now) r.1) }
+    ensures none { IfNone result
+        ((n : ℕ) → Lacks (λ text. IsLength mode text n) (129 ∷ octets.now)) }
 {
     let [a, ..] = octets else {
         return None;
@@ -46,8 +48,10 @@ fn length_of_1(mode: Mode, octets: &[u8]) -> Option<(usize, usize)>
 
 // The two octets behind `82`.
 fn length_of_2(mode: Mode, octets: &[u8]) -> Option<(usize, usize)>
-    ensures found { IfSome result (λ r. Begins (λ text. IsLength mode text r.0) (130 ∷ octets.now) r.1) }
-    ensures none { IfNone result ((n : ℕ) → Lacks (λ text. IsLength mode text n) (130 ∷ octets.now)) }
+    ensures found { IfSome result
+        (λ r. Begins (λ text. IsLength mode text r.0) (130 ∷ octets.now) r.1) }
+    ensures none { IfNone result
+        ((n : ℕ) → Lacks (λ text. IsLength mode text n) (130 ∷ octets.now)) }
 {
     let [a, b, ..] = octets else {
         return None;
@@ -61,8 +65,10 @@ fn length_of_2(mode: Mode, octets: &[u8]) -> Option<(usize, usize)>
 
 // The three octets behind `83`.
 fn length_of_3(mode: Mode, octets: &[u8]) -> Option<(usize, usize)>
-    ensures found { IfSome result (λ r. Begins (λ text. IsLength mode text r.0) (131 ∷ octets.now) r.1) }
-    ensures none { IfNone result ((n : ℕ) → Lacks (λ text. IsLength mode text n) (131 ∷ octets.now)) }
+    ensures found { IfSome result
+        (λ r. Begins (λ text. IsLength mode text r.0) (131 ∷ octets.now) r.1) }
+    ensures none { IfNone result
+        ((n : ℕ) → Lacks (λ text. IsLength mode text n) (131 ∷ octets.now)) }
 {
     let [a, b, c, ..] = octets else {
         return None;
@@ -76,8 +82,10 @@ fn length_of_3(mode: Mode, octets: &[u8]) -> Option<(usize, usize)>
 
 // The four octets behind `84`.
 fn length_of_4(mode: Mode, octets: &[u8]) -> Option<(usize, usize)>
-    ensures found { IfSome result (λ r. Begins (λ text. IsLength mode text r.0) (132 ∷ octets.now) r.1) }
-    ensures none { IfNone result ((n : ℕ) → Lacks (λ text. IsLength mode text n) (132 ∷ octets.now)) }
+    ensures found { IfSome result
+        (λ r. Begins (λ text. IsLength mode text r.0) (132 ∷ octets.now) r.1) }
+    ensures none { IfNone result
+        ((n : ℕ) → Lacks (λ text. IsLength mode text n) (132 ∷ octets.now)) }
 {
     let [a, b, c, d, ..] = octets else {
         return None;
@@ -92,8 +100,10 @@ fn length_of_4(mode: Mode, octets: &[u8]) -> Option<(usize, usize)>
 // A definite length behind its first octet, `81` to `84`, and how many octets it takes with that.
 fn long_length(mode: Mode, first: u8, octets: &[u8]) -> Option<(usize, usize)>
     requires { 128 < first }
-    ensures found { IfSome result (λ r. Begins (λ text. IsLength mode text r.0) (first ∷ octets.now) r.1) }
-    ensures none { IfNone result ((n : ℕ) → Lacks (λ text. IsLength mode text n) (first ∷ octets.now)) }
+    ensures found { IfSome result
+        (λ r. Begins (λ text. IsLength mode text r.0) (first ∷ octets.now) r.1) }
+    ensures none { IfNone result
+        ((n : ℕ) → Lacks (λ text. IsLength mode text n) (first ∷ octets.now)) }
 {
     match first {
         129 => length_of_1(mode, octets),
@@ -199,7 +209,9 @@ impl Length {
     /// Writes the length octets (X.690 8.1.3): the fewest, which stand in every mode.
     pub fn write_encoded<W: io::Write>(self, target: &mut W) -> io::Result<()>
         requires { IsWritable self }
-        ensures { OnOk result ((text : List ℕ) × SpellsEverywhere self text × Appends (W.contents target.old) (W.contents target.new) text) }
+        ensures { OnOk result
+            ((text : List ℕ) × SpellsEverywhere self text
+            × Appends (W.contents target.old) (W.contents target.new) text) }
     {
         match self {
             Length::Definite(length) => {

@@ -393,7 +393,8 @@ impl Tag {
 
     /// How many identifier octets the tag has, one to four.
     pub fn encoded_len(self) -> usize
-        ensures len { (constructed : Bool) (text : List ℕ) → IsIdentifier text constructed self → length text ≡ result }
+        ensures len { (constructed : Bool) (text : List ℕ) → IsIdentifier text constructed self
+            → length text ≡ result }
         ensures bound { result ≤ 4 }
     {
         match self.number {
@@ -428,7 +429,9 @@ impl Tag {
 
     /// Writes the identifier octets of a value with the tag, primitive or constructed (X.690 8.1.2).
     pub fn write_encoded<W: io::Write>(self, constructed: bool, target: &mut W) -> io::Result<()>
-        ensures { OnOk result ((text : List ℕ) × IsIdentifier text constructed self × Appends (W.contents target.old) (W.contents target.new) text) }
+        ensures { OnOk result
+            ((text : List ℕ) × IsIdentifier text constructed self
+            × Appends (W.contents target.old) (W.contents target.new) text) }
     {
         let (octets, count) = self.encoded(constructed);
         target.write_all(&octets[..count])

@@ -110,8 +110,10 @@ impl CapturedBuilder {
     ///
     /// Where `encoded_len` refuses them, or memory is wanted and refused, the builder is as it was.
     pub fn extend<V: Values>(&mut self, values: &V) -> Result<(), EncodeError>
-        ensures extended { OnOk result (Extended (V.writes values.now self.old.mode) self.old self.new) }
-        ensures refused { IfErr result (ExtendRefused (V.trees values.now self.old.mode) (V.writes values.now self.old.mode)) }
+        ensures extended { OnOk result
+            (Extended (V.writes values.now self.old.mode) self.old self.new) }
+        ensures refused { IfErr result
+            (ExtendRefused (V.trees values.now self.old.mode) (V.writes values.now self.old.mode)) }
         ensures kept { IfErr result (λ e. self.new ≡ self.old) }
     {
         let before = self.octets.len();

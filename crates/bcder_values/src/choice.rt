@@ -97,7 +97,8 @@ pub enum Choice3<L, C, R> {
 impl<L: Values, C: Values, R: Values> Values for Choice3<L, C, R> {
     ghost trees = { λ x m. AreOneOf (λ v. L.trees v m) (λ v. C.trees v m) (λ v. R.trees v m) x };
 
-    ghost writes = { λ x m. WritesOneOf (λ v. L.writes v m) (λ v. C.writes v m) (λ v. R.writes v m) x };
+    ghost writes = { λ x m. WritesOneOf (λ v. L.writes v m) (λ v. C.writes v m) (λ v. R.writes v m)
+        x };
 
     fn encoded_len(&self, mode: Mode) -> Result<usize, EncodeError> {
         match self {
@@ -115,7 +116,9 @@ impl<L: Values, C: Values, R: Values> Values for Choice3<L, C, R> {
         }
     }
 
-    ghost spelled = { λ x m. one_of_spelled m (λ v. L.spelled v m) (λ v. C.spelled v m) (λ v. R.spelled v m) x };
+    ghost spelled = { λ x m. one_of_spelled m (λ v. L.spelled v m) (λ v. C.spelled v m)
+        (λ v. R.spelled v m) x };
 
-    ghost one_text = { λ x m. one_of_one (λ v. L.one_text v m) (λ v. C.one_text v m) (λ v. R.one_text v m) x };
+    ghost one_text = { λ x m. one_of_one (λ v. L.one_text v m) (λ v. C.one_text v m)
+        (λ v. R.one_text v m) x };
 }

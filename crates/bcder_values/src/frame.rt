@@ -24,8 +24,10 @@ fn open_len(tag: Tag) -> usize
 // Opens a value of indefinite length.
 fn put_open<W: Write>(target: &mut W, tag: Tag) -> Result<(), EncodeError>
     requires { IsTag tag }
-    ensures written { OnOk result (Wrote (IsOpen tag) (W.contents target.old) (W.contents target.new)) }
-    ensures refused { IfErr result (λ e. (e ≡ refusal) × TookFront (IsOpen tag) (W.contents target.old) (W.contents target.new)) }
+    ensures written { OnOk result
+        (Wrote (IsOpen tag) (W.contents target.old) (W.contents target.new)) }
+    ensures refused { IfErr result (λ e. (e ≡ refusal)
+        × TookFront (IsOpen tag) (W.contents target.old) (W.contents target.new)) }
 {
     let (octets, count) = tag.encoded(true);
     write_octets(target, &octets[..count])?;
@@ -55,8 +57,11 @@ pub(crate) fn put_opening<W: Write>(
 ) -> Result<(), EncodeError>
     requires tag { IsTag tag }
     requires few { content_len < 2 ^ 32 }
-    ensures written { OnOk result (Wrote (IsOpening mode tag content_len) (W.contents target.old) (W.contents target.new)) }
-    ensures refused { IfErr result (λ e. (e ≡ refusal) × TookFront (IsOpening mode tag content_len) (W.contents target.old) (W.contents target.new)) }
+    ensures written { OnOk result
+        (Wrote (IsOpening mode tag content_len) (W.contents target.old) (W.contents target.new)) }
+    ensures refused { IfErr result (λ e. (e ≡ refusal)
+        × TookFront (IsOpening mode tag content_len) (W.contents target.old)
+        (W.contents target.new)) }
 {
     match mode {
         Mode::Ber => put_header(target, tag, true, content_len),
@@ -79,8 +84,10 @@ pub(crate) fn closing_len(mode: Mode) -> usize
 
 // Writes what stands behind a content.
 pub(crate) fn put_closing<W: Write>(target: &mut W, mode: Mode) -> Result<(), EncodeError>
-    ensures written { OnOk result (Wrote (IsClosing mode) (W.contents target.old) (W.contents target.new)) }
-    ensures refused { IfErr result (λ e. (e ≡ refusal) × TookFront (IsClosing mode) (W.contents target.old) (W.contents target.new)) }
+    ensures written { OnOk result
+        (Wrote (IsClosing mode) (W.contents target.old) (W.contents target.new)) }
+    ensures refused { IfErr result (λ e. (e ≡ refusal)
+        × TookFront (IsClosing mode) (W.contents target.old) (W.contents target.new)) }
 {
     match mode {
         Mode::Ber => write_octets(target, &[]),

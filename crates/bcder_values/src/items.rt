@@ -25,8 +25,10 @@ pub trait Encodes<'a, U> {
 
     /// The values that are written of an item.
     fn values_of(&self, item: &'a U) -> Self::Given
-        ensures trees { (m : ModeValue) (ts : Trees) → Self.Given.trees result m ts ↔ trees self.now item.now m ts }
-        ensures writes { (m : ModeValue) (text : List ℕ) → Self.Given.writes result m text ↔ writes self.now item.now m text };
+        ensures trees { (m : ModeValue) (ts : Trees) → Self.Given.trees result m ts
+            ↔ trees self.now item.now m ts }
+        ensures writes { (m : ModeValue) (text : List ℕ) → Self.Given.writes result m text
+            ↔ writes self.now item.now m text };
 
     // What is written of an item spells its values.
     ghost spelled: { (e : Self) (x : U) (m : ModeValue) (text : List ℕ) → writes e x m text → SpellsSome m (trees e x m) text };
@@ -71,8 +73,10 @@ fn len_of_item<'a, U, E: Encodes<'a, U>>(
     mode: Mode,
 ) -> Result<usize, EncodeError>
     ensures len { IfOk result (HasLength (E.writes by.now item.now mode)) }
-    ensures refused { IfErr result (CannotWrite (E.trees by.now item.now mode) (E.writes by.now item.now mode)) }
-    ensures one { (a b : List ℕ) → E.writes by.now item.now mode a → E.writes by.now item.now mode b → a ≡ b }
+    ensures refused { IfErr result
+        (CannotWrite (E.trees by.now item.now mode) (E.writes by.now item.now mode)) }
+    ensures one { (a b : List ℕ) → E.writes by.now item.now mode a → E.writes by.now item.now mode b
+        → a ≡ b }
 {
     let values = by.values_of(item);
     values.encoded_len(mode)
@@ -85,9 +89,13 @@ fn write_item<'a, U, E: Encodes<'a, U>, W: Write>(
     mode: Mode,
     target: &mut W,
 ) -> Result<(), EncodeError>
-    ensures written { OnOk result (Wrote (E.writes by.now item.now mode) (W.contents target.old) (W.contents target.new)) }
-    ensures refused { IfErr result (WriteRefused (E.trees by.now item.now mode) (E.writes by.now item.now mode) (target.new ≡ target.old) (W.contents target.old) (W.contents target.new)) }
-    ensures spelled { (text : List ℕ) → E.writes by.now item.now mode text → SpellsSome mode (E.trees by.now item.now mode) text }
+    ensures written { OnOk result
+        (Wrote (E.writes by.now item.now mode) (W.contents target.old) (W.contents target.new)) }
+    ensures refused { IfErr result
+        (WriteRefused (E.trees by.now item.now mode) (E.writes by.now item.now mode)
+        (target.new ≡ target.old) (W.contents target.old) (W.contents target.new)) }
+    ensures spelled { (text : List ℕ) → E.writes by.now item.now mode text
+        → SpellsSome mode (E.trees by.now item.now mode) text }
 {
     let values = by.values_of(item);
     values.write_encoded(mode, target)
@@ -100,7 +108,9 @@ pub(crate) fn len_of_each<'a, U, E: Encodes<'a, U>>(
     mode: Mode,
 ) -> Result<usize, EncodeError>
     ensures len { IfOk result (HasLength (WritesAll (λ x. E.writes by.now x mode) items.now)) }
-    ensures refused { IfErr result (CannotWrite (AreAll (λ x. E.trees by.now x mode) items.now) (WritesAll (λ x. E.writes by.now x mode) items.now)) }
+    ensures refused { IfErr result
+        (CannotWrite (AreAll (λ x. E.trees by.now x mode) items.now)
+        (WritesAll (λ x. E.writes by.now x mode) items.now)) }
 {
     let mut sum = 0usize;
     let mut rest = items;
@@ -122,8 +132,13 @@ pub(crate) fn write_each<'a, U, E: Encodes<'a, U>, W: Write>(
     mode: Mode,
     target: &mut W,
 ) -> Result<(), EncodeError>
-    ensures written { OnOk result (Wrote (WritesAll (λ x. E.writes by.now x mode) items.now) (W.contents target.old) (W.contents target.new)) }
-    ensures refused { IfErr result (WriteRefused (AreAll (λ x. E.trees by.now x mode) items.now) (WritesAll (λ x. E.writes by.now x mode) items.now) (target.new ≡ target.old) (W.contents target.old) (W.contents target.new)) }
+    ensures written { OnOk result
+        (Wrote (WritesAll (λ x. E.writes by.now x mode) items.now) (W.contents target.old)
+        (W.contents target.new)) }
+    ensures refused { IfErr result
+        (WriteRefused (AreAll (λ x. E.trees by.now x mode) items.now)
+        (WritesAll (λ x. E.writes by.now x mode) items.now) (target.new ≡ target.old)
+        (W.contents target.old) (W.contents target.new)) }
 {
     len_of_each(by, items, mode)?;
     let mut rest = items;

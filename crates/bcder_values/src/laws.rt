@@ -13,16 +13,19 @@ use crate::Values;
 /// What is written of values is read again: a source that is read from the beginning of the octets has just
 /// these values, and then ends.
 pub fn what_is_written_is_read<V: Values>()
-    ensures { (x : V) (m : ModeValue) (text : List ℕ) → V.writes x m text → ReadAgain m (V.trees x m) text }
+    ensures { (x : V) (m : ModeValue) (text : List ℕ) → V.writes x m text
+        → ReadAgain m (V.trees x m) text }
 {}
 
 /// In CER and in DER nothing else spells them.
 pub fn only_spelling<V: Values>()
-    ensures { (x : V) (m : ModeValue) (text : List ℕ) → m ≢ Ber → V.writes x m text → WrittenAlone m (V.trees x m) text }
+    ensures { (x : V) (m : ModeValue) (text : List ℕ) → m ≢ Ber → V.writes x m text
+        → WrittenAlone m (V.trees x m) text }
 {}
 
 /// Values that have a form in a mode aren't refused there as `CerUnsupported`: in BER just where they hold what has
 /// none in a mode of its own.
 pub fn refused_without_a_form<V: Values>()
-    ensures { (x : V) (m : ModeValue) (ts : Trees) → V.trees x m ts → CannotWrite (V.trees x m) (V.writes x m) cer_unsupported → ⊥ }
+    ensures { (x : V) (m : ModeValue) (ts : Trees) → V.trees x m ts
+        → CannotWrite (V.trees x m) (V.writes x m) cer_unsupported → ⊥ }
 {}

@@ -20,8 +20,11 @@ impl<P: PrimitiveContent> Values for Primitive<P> {
     ghost writes = { λ x m. WritesPlain m x.tag (P.content x.content m) };
 
     fn encoded_len(&self, mode: Mode) -> Result<usize, EncodeError>
-        ensures len { IfOk result (HasLength (WritesPlain mode self.now.tag (P.content self.now.content mode))) }
-        ensures refused { IfErr result (CannotWrite (IsPlain self.now.tag (P.content self.now.content mode)) (WritesPlain mode self.now.tag (P.content self.now.content mode))) }
+        ensures len { IfOk result
+            (HasLength (WritesPlain mode self.now.tag (P.content self.now.content mode))) }
+        ensures refused { IfErr result
+            (CannotWrite (IsPlain self.now.tag (P.content self.now.content mode))
+            (WritesPlain mode self.now.tag (P.content self.now.content mode))) }
         ensures in_cer_alone { IfErr result (λ e. e ≡ cer_unsupported → mode ≡ Cer) }
     {
         let content = self.content.encoded_len(mode)?;
@@ -29,8 +32,13 @@ impl<P: PrimitiveContent> Values for Primitive<P> {
     }
 
     fn write_encoded<W: Write>(&self, mode: Mode, target: &mut W) -> Result<(), EncodeError>
-        ensures written { OnOk result (Wrote (WritesPlain mode self.now.tag (P.content self.now.content mode)) (W.contents target.old) (W.contents target.new)) }
-        ensures refused { IfErr result (WriteRefused (IsPlain self.now.tag (P.content self.now.content mode)) (WritesPlain mode self.now.tag (P.content self.now.content mode)) (target.new ≡ target.old) (W.contents target.old) (W.contents target.new)) }
+        ensures written { OnOk result
+            (Wrote (WritesPlain mode self.now.tag (P.content self.now.content mode))
+            (W.contents target.old) (W.contents target.new)) }
+        ensures refused { IfErr result
+            (WriteRefused (IsPlain self.now.tag (P.content self.now.content mode))
+            (WritesPlain mode self.now.tag (P.content self.now.content mode))
+            (target.new ≡ target.old) (W.contents target.old) (W.contents target.new)) }
         ensures in_cer_alone { IfErr result (λ e. e ≡ cer_unsupported → mode ≡ Cer) }
     {
         let content = self.content.encoded_len(mode)?;

@@ -57,7 +57,8 @@ impl<A: Values, B: Values> Values for (A, B) {
 impl<A: Values, B: Values, C: Values> Values for (A, B, C) {
     ghost trees = { λ x m. AreBoth (A.trees x.0 m) (AreBoth (B.trees x.1 m) (C.trees x.2 m)) };
 
-    ghost writes = { λ x m. WritesBoth (A.writes x.0 m) (WritesBoth (B.writes x.1 m) (C.writes x.2 m)) };
+    ghost writes = { λ x m. WritesBoth (A.writes x.0 m)
+        (WritesBoth (B.writes x.1 m) (C.writes x.2 m)) };
 
     fn encoded_len(&self, mode: Mode) -> Result<usize, EncodeError> {
         (&self.0, (&self.1, &self.2)).encoded_len(mode)
@@ -67,15 +68,19 @@ impl<A: Values, B: Values, C: Values> Values for (A, B, C) {
         (&self.0, (&self.1, &self.2)).write_encoded(mode, target)
     }
 
-    ghost spelled = { λ x m. both_spelled m (A.spelled x.0 m) (both_spelled m (B.spelled x.1 m) (C.spelled x.2 m)) };
+    ghost spelled = { λ x m. both_spelled m (A.spelled x.0 m)
+        (both_spelled m (B.spelled x.1 m) (C.spelled x.2 m)) };
 
-    ghost one_text = { λ x m. both_one (A.one_text x.0 m) (both_one (B.one_text x.1 m) (C.one_text x.2 m)) };
+    ghost one_text = { λ x m. both_one (A.one_text x.0 m)
+        (both_one (B.one_text x.1 m) (C.one_text x.2 m)) };
 }
 
 impl<A: Values, B: Values, C: Values, D: Values> Values for (A, B, C, D) {
-    ghost trees = { λ x m. AreBoth (A.trees x.0 m) (AreBoth (B.trees x.1 m) (AreBoth (C.trees x.2 m) (D.trees x.3 m))) };
+    ghost trees = { λ x m. AreBoth (A.trees x.0 m)
+        (AreBoth (B.trees x.1 m) (AreBoth (C.trees x.2 m) (D.trees x.3 m))) };
 
-    ghost writes = { λ x m. WritesBoth (A.writes x.0 m) (WritesBoth (B.writes x.1 m) (WritesBoth (C.writes x.2 m) (D.writes x.3 m))) };
+    ghost writes = { λ x m. WritesBoth (A.writes x.0 m)
+        (WritesBoth (B.writes x.1 m) (WritesBoth (C.writes x.2 m) (D.writes x.3 m))) };
 
     fn encoded_len(&self, mode: Mode) -> Result<usize, EncodeError> {
         (&self.0, (&self.1, &self.2, &self.3)).encoded_len(mode)
@@ -85,15 +90,21 @@ impl<A: Values, B: Values, C: Values, D: Values> Values for (A, B, C, D) {
         (&self.0, (&self.1, &self.2, &self.3)).write_encoded(mode, target)
     }
 
-    ghost spelled = { λ x m. both_spelled m (A.spelled x.0 m) (both_spelled m (B.spelled x.1 m) (both_spelled m (C.spelled x.2 m) (D.spelled x.3 m))) };
+    ghost spelled = { λ x m. both_spelled m (A.spelled x.0 m)
+        (both_spelled m (B.spelled x.1 m) (both_spelled m (C.spelled x.2 m) (D.spelled x.3 m))) };
 
-    ghost one_text = { λ x m. both_one (A.one_text x.0 m) (both_one (B.one_text x.1 m) (both_one (C.one_text x.2 m) (D.one_text x.3 m))) };
+    ghost one_text = { λ x m. both_one (A.one_text x.0 m)
+        (both_one (B.one_text x.1 m) (both_one (C.one_text x.2 m) (D.one_text x.3 m))) };
 }
 
 impl<A: Values, B: Values, C: Values, D: Values, E: Values> Values for (A, B, C, D, E) {
-    ghost trees = { λ x m. AreBoth (A.trees x.0 m) (AreBoth (B.trees x.1 m) (AreBoth (C.trees x.2 m) (AreBoth (D.trees x.3 m) (E.trees x.4 m)))) };
+    ghost trees = { λ x m. AreBoth (A.trees x.0 m)
+        (AreBoth (B.trees x.1 m)
+        (AreBoth (C.trees x.2 m) (AreBoth (D.trees x.3 m) (E.trees x.4 m)))) };
 
-    ghost writes = { λ x m. WritesBoth (A.writes x.0 m) (WritesBoth (B.writes x.1 m) (WritesBoth (C.writes x.2 m) (WritesBoth (D.writes x.3 m) (E.writes x.4 m)))) };
+    ghost writes = { λ x m. WritesBoth (A.writes x.0 m)
+        (WritesBoth (B.writes x.1 m)
+        (WritesBoth (C.writes x.2 m) (WritesBoth (D.writes x.3 m) (E.writes x.4 m)))) };
 
     fn encoded_len(&self, mode: Mode) -> Result<usize, EncodeError> {
         (&self.0, (&self.1, &self.2, &self.3, &self.4)).encoded_len(mode)
@@ -103,16 +114,26 @@ impl<A: Values, B: Values, C: Values, D: Values, E: Values> Values for (A, B, C,
         (&self.0, (&self.1, &self.2, &self.3, &self.4)).write_encoded(mode, target)
     }
 
-    ghost spelled = { λ x m. both_spelled m (A.spelled x.0 m) (both_spelled m (B.spelled x.1 m) (both_spelled m (C.spelled x.2 m) (both_spelled m (D.spelled x.3 m) (E.spelled x.4 m)))) };
+    ghost spelled = { λ x m. both_spelled m (A.spelled x.0 m)
+        (both_spelled m (B.spelled x.1 m)
+        (both_spelled m (C.spelled x.2 m) (both_spelled m (D.spelled x.3 m) (E.spelled x.4 m)))) };
 
-    ghost one_text = { λ x m. both_one (A.one_text x.0 m) (both_one (B.one_text x.1 m) (both_one (C.one_text x.2 m) (both_one (D.one_text x.3 m) (E.one_text x.4 m)))) };
+    ghost one_text = { λ x m. both_one (A.one_text x.0 m)
+        (both_one (B.one_text x.1 m)
+        (both_one (C.one_text x.2 m) (both_one (D.one_text x.3 m) (E.one_text x.4 m)))) };
 }
 
 impl<A: Values, B: Values, C: Values, D: Values, E: Values, F: Values> Values
     for (A, B, C, D, E, F) {
-    ghost trees = { λ x m. AreBoth (A.trees x.0 m) (AreBoth (B.trees x.1 m) (AreBoth (C.trees x.2 m) (AreBoth (D.trees x.3 m) (AreBoth (E.trees x.4 m) (F.trees x.5 m))))) };
+    ghost trees = { λ x m. AreBoth (A.trees x.0 m)
+        (AreBoth (B.trees x.1 m)
+        (AreBoth (C.trees x.2 m)
+        (AreBoth (D.trees x.3 m) (AreBoth (E.trees x.4 m) (F.trees x.5 m))))) };
 
-    ghost writes = { λ x m. WritesBoth (A.writes x.0 m) (WritesBoth (B.writes x.1 m) (WritesBoth (C.writes x.2 m) (WritesBoth (D.writes x.3 m) (WritesBoth (E.writes x.4 m) (F.writes x.5 m))))) };
+    ghost writes = { λ x m. WritesBoth (A.writes x.0 m)
+        (WritesBoth (B.writes x.1 m)
+        (WritesBoth (C.writes x.2 m)
+        (WritesBoth (D.writes x.3 m) (WritesBoth (E.writes x.4 m) (F.writes x.5 m))))) };
 
     fn encoded_len(&self, mode: Mode) -> Result<usize, EncodeError> {
         (&self.0, (&self.1, &self.2, &self.3, &self.4, &self.5)).encoded_len(mode)
@@ -122,16 +143,30 @@ impl<A: Values, B: Values, C: Values, D: Values, E: Values, F: Values> Values
         (&self.0, (&self.1, &self.2, &self.3, &self.4, &self.5)).write_encoded(mode, target)
     }
 
-    ghost spelled = { λ x m. both_spelled m (A.spelled x.0 m) (both_spelled m (B.spelled x.1 m) (both_spelled m (C.spelled x.2 m) (both_spelled m (D.spelled x.3 m) (both_spelled m (E.spelled x.4 m) (F.spelled x.5 m))))) };
+    ghost spelled = { λ x m. both_spelled m (A.spelled x.0 m)
+        (both_spelled m (B.spelled x.1 m)
+        (both_spelled m (C.spelled x.2 m)
+        (both_spelled m (D.spelled x.3 m) (both_spelled m (E.spelled x.4 m) (F.spelled x.5 m))))) };
 
-    ghost one_text = { λ x m. both_one (A.one_text x.0 m) (both_one (B.one_text x.1 m) (both_one (C.one_text x.2 m) (both_one (D.one_text x.3 m) (both_one (E.one_text x.4 m) (F.one_text x.5 m))))) };
+    ghost one_text = { λ x m. both_one (A.one_text x.0 m)
+        (both_one (B.one_text x.1 m)
+        (both_one (C.one_text x.2 m)
+        (both_one (D.one_text x.3 m) (both_one (E.one_text x.4 m) (F.one_text x.5 m))))) };
 }
 
 impl<A: Values, B: Values, C: Values, D: Values, E: Values, F: Values, G: Values> Values
     for (A, B, C, D, E, F, G) {
-    ghost trees = { λ x m. AreBoth (A.trees x.0 m) (AreBoth (B.trees x.1 m) (AreBoth (C.trees x.2 m) (AreBoth (D.trees x.3 m) (AreBoth (E.trees x.4 m) (AreBoth (F.trees x.5 m) (G.trees x.6 m)))))) };
+    ghost trees = { λ x m. AreBoth (A.trees x.0 m)
+        (AreBoth (B.trees x.1 m)
+        (AreBoth (C.trees x.2 m)
+        (AreBoth (D.trees x.3 m)
+        (AreBoth (E.trees x.4 m) (AreBoth (F.trees x.5 m) (G.trees x.6 m)))))) };
 
-    ghost writes = { λ x m. WritesBoth (A.writes x.0 m) (WritesBoth (B.writes x.1 m) (WritesBoth (C.writes x.2 m) (WritesBoth (D.writes x.3 m) (WritesBoth (E.writes x.4 m) (WritesBoth (F.writes x.5 m) (G.writes x.6 m)))))) };
+    ghost writes = { λ x m. WritesBoth (A.writes x.0 m)
+        (WritesBoth (B.writes x.1 m)
+        (WritesBoth (C.writes x.2 m)
+        (WritesBoth (D.writes x.3 m)
+        (WritesBoth (E.writes x.4 m) (WritesBoth (F.writes x.5 m) (G.writes x.6 m)))))) };
 
     fn encoded_len(&self, mode: Mode) -> Result<usize, EncodeError> {
         (
@@ -149,16 +184,35 @@ impl<A: Values, B: Values, C: Values, D: Values, E: Values, F: Values, G: Values
             .write_encoded(mode, target)
     }
 
-    ghost spelled = { λ x m. both_spelled m (A.spelled x.0 m) (both_spelled m (B.spelled x.1 m) (both_spelled m (C.spelled x.2 m) (both_spelled m (D.spelled x.3 m) (both_spelled m (E.spelled x.4 m) (both_spelled m (F.spelled x.5 m) (G.spelled x.6 m)))))) };
+    ghost spelled = { λ x m. both_spelled m (A.spelled x.0 m)
+        (both_spelled m (B.spelled x.1 m)
+        (both_spelled m (C.spelled x.2 m)
+        (both_spelled m (D.spelled x.3 m)
+        (both_spelled m (E.spelled x.4 m)
+        (both_spelled m (F.spelled x.5 m) (G.spelled x.6 m)))))) };
 
-    ghost one_text = { λ x m. both_one (A.one_text x.0 m) (both_one (B.one_text x.1 m) (both_one (C.one_text x.2 m) (both_one (D.one_text x.3 m) (both_one (E.one_text x.4 m) (both_one (F.one_text x.5 m) (G.one_text x.6 m)))))) };
+    ghost one_text = { λ x m. both_one (A.one_text x.0 m)
+        (both_one (B.one_text x.1 m)
+        (both_one (C.one_text x.2 m)
+        (both_one (D.one_text x.3 m)
+        (both_one (E.one_text x.4 m) (both_one (F.one_text x.5 m) (G.one_text x.6 m)))))) };
 }
 
 impl<A: Values, B: Values, C: Values, D: Values, E: Values, F: Values, G: Values, H: Values> Values
     for (A, B, C, D, E, F, G, H) {
-    ghost trees = { λ x m. AreBoth (A.trees x.0 m) (AreBoth (B.trees x.1 m) (AreBoth (C.trees x.2 m) (AreBoth (D.trees x.3 m) (AreBoth (E.trees x.4 m) (AreBoth (F.trees x.5 m) (AreBoth (G.trees x.6 m) (H.trees x.7 m))))))) };
+    ghost trees = { λ x m. AreBoth (A.trees x.0 m)
+        (AreBoth (B.trees x.1 m)
+        (AreBoth (C.trees x.2 m)
+        (AreBoth (D.trees x.3 m)
+        (AreBoth (E.trees x.4 m)
+        (AreBoth (F.trees x.5 m) (AreBoth (G.trees x.6 m) (H.trees x.7 m))))))) };
 
-    ghost writes = { λ x m. WritesBoth (A.writes x.0 m) (WritesBoth (B.writes x.1 m) (WritesBoth (C.writes x.2 m) (WritesBoth (D.writes x.3 m) (WritesBoth (E.writes x.4 m) (WritesBoth (F.writes x.5 m) (WritesBoth (G.writes x.6 m) (H.writes x.7 m))))))) };
+    ghost writes = { λ x m. WritesBoth (A.writes x.0 m)
+        (WritesBoth (B.writes x.1 m)
+        (WritesBoth (C.writes x.2 m)
+        (WritesBoth (D.writes x.3 m)
+        (WritesBoth (E.writes x.4 m)
+        (WritesBoth (F.writes x.5 m) (WritesBoth (G.writes x.6 m) (H.writes x.7 m))))))) };
 
     fn encoded_len(&self, mode: Mode) -> Result<usize, EncodeError> {
         (
@@ -180,9 +234,20 @@ impl<A: Values, B: Values, C: Values, D: Values, E: Values, F: Values, G: Values
             .write_encoded(mode, target)
     }
 
-    ghost spelled = { λ x m. both_spelled m (A.spelled x.0 m) (both_spelled m (B.spelled x.1 m) (both_spelled m (C.spelled x.2 m) (both_spelled m (D.spelled x.3 m) (both_spelled m (E.spelled x.4 m) (both_spelled m (F.spelled x.5 m) (both_spelled m (G.spelled x.6 m) (H.spelled x.7 m))))))) };
+    ghost spelled = { λ x m. both_spelled m (A.spelled x.0 m)
+        (both_spelled m (B.spelled x.1 m)
+        (both_spelled m (C.spelled x.2 m)
+        (both_spelled m (D.spelled x.3 m)
+        (both_spelled m (E.spelled x.4 m)
+        (both_spelled m (F.spelled x.5 m)
+        (both_spelled m (G.spelled x.6 m) (H.spelled x.7 m))))))) };
 
-    ghost one_text = { λ x m. both_one (A.one_text x.0 m) (both_one (B.one_text x.1 m) (both_one (C.one_text x.2 m) (both_one (D.one_text x.3 m) (both_one (E.one_text x.4 m) (both_one (F.one_text x.5 m) (both_one (G.one_text x.6 m) (H.one_text x.7 m))))))) };
+    ghost one_text = { λ x m. both_one (A.one_text x.0 m)
+        (both_one (B.one_text x.1 m)
+        (both_one (C.one_text x.2 m)
+        (both_one (D.one_text x.3 m)
+        (both_one (E.one_text x.4 m)
+        (both_one (F.one_text x.5 m) (both_one (G.one_text x.6 m) (H.one_text x.7 m))))))) };
 }
 
 impl<
@@ -196,9 +261,21 @@ impl<
     H: Values,
     I: Values,
 > Values for (A, B, C, D, E, F, G, H, I) {
-    ghost trees = { λ x m. AreBoth (A.trees x.0 m) (AreBoth (B.trees x.1 m) (AreBoth (C.trees x.2 m) (AreBoth (D.trees x.3 m) (AreBoth (E.trees x.4 m) (AreBoth (F.trees x.5 m) (AreBoth (G.trees x.6 m) (AreBoth (H.trees x.7 m) (I.trees x.8 m)))))))) };
+    ghost trees = { λ x m. AreBoth (A.trees x.0 m)
+        (AreBoth (B.trees x.1 m)
+        (AreBoth (C.trees x.2 m)
+        (AreBoth (D.trees x.3 m)
+        (AreBoth (E.trees x.4 m)
+        (AreBoth (F.trees x.5 m)
+        (AreBoth (G.trees x.6 m) (AreBoth (H.trees x.7 m) (I.trees x.8 m)))))))) };
 
-    ghost writes = { λ x m. WritesBoth (A.writes x.0 m) (WritesBoth (B.writes x.1 m) (WritesBoth (C.writes x.2 m) (WritesBoth (D.writes x.3 m) (WritesBoth (E.writes x.4 m) (WritesBoth (F.writes x.5 m) (WritesBoth (G.writes x.6 m) (WritesBoth (H.writes x.7 m) (I.writes x.8 m)))))))) };
+    ghost writes = { λ x m. WritesBoth (A.writes x.0 m)
+        (WritesBoth (B.writes x.1 m)
+        (WritesBoth (C.writes x.2 m)
+        (WritesBoth (D.writes x.3 m)
+        (WritesBoth (E.writes x.4 m)
+        (WritesBoth (F.writes x.5 m)
+        (WritesBoth (G.writes x.6 m) (WritesBoth (H.writes x.7 m) (I.writes x.8 m)))))))) };
 
     fn encoded_len(&self, mode: Mode) -> Result<usize, EncodeError> {
         (
@@ -220,9 +297,22 @@ impl<
             .write_encoded(mode, target)
     }
 
-    ghost spelled = { λ x m. both_spelled m (A.spelled x.0 m) (both_spelled m (B.spelled x.1 m) (both_spelled m (C.spelled x.2 m) (both_spelled m (D.spelled x.3 m) (both_spelled m (E.spelled x.4 m) (both_spelled m (F.spelled x.5 m) (both_spelled m (G.spelled x.6 m) (both_spelled m (H.spelled x.7 m) (I.spelled x.8 m)))))))) };
+    ghost spelled = { λ x m. both_spelled m (A.spelled x.0 m)
+        (both_spelled m (B.spelled x.1 m)
+        (both_spelled m (C.spelled x.2 m)
+        (both_spelled m (D.spelled x.3 m)
+        (both_spelled m (E.spelled x.4 m)
+        (both_spelled m (F.spelled x.5 m)
+        (both_spelled m (G.spelled x.6 m)
+        (both_spelled m (H.spelled x.7 m) (I.spelled x.8 m)))))))) };
 
-    ghost one_text = { λ x m. both_one (A.one_text x.0 m) (both_one (B.one_text x.1 m) (both_one (C.one_text x.2 m) (both_one (D.one_text x.3 m) (both_one (E.one_text x.4 m) (both_one (F.one_text x.5 m) (both_one (G.one_text x.6 m) (both_one (H.one_text x.7 m) (I.one_text x.8 m)))))))) };
+    ghost one_text = { λ x m. both_one (A.one_text x.0 m)
+        (both_one (B.one_text x.1 m)
+        (both_one (C.one_text x.2 m)
+        (both_one (D.one_text x.3 m)
+        (both_one (E.one_text x.4 m)
+        (both_one (F.one_text x.5 m)
+        (both_one (G.one_text x.6 m) (both_one (H.one_text x.7 m) (I.one_text x.8 m)))))))) };
 }
 
 impl<
@@ -237,9 +327,23 @@ impl<
     I: Values,
     J: Values,
 > Values for (A, B, C, D, E, F, G, H, I, J) {
-    ghost trees = { λ x m. AreBoth (A.trees x.0 m) (AreBoth (B.trees x.1 m) (AreBoth (C.trees x.2 m) (AreBoth (D.trees x.3 m) (AreBoth (E.trees x.4 m) (AreBoth (F.trees x.5 m) (AreBoth (G.trees x.6 m) (AreBoth (H.trees x.7 m) (AreBoth (I.trees x.8 m) (J.trees x.9 m))))))))) };
+    ghost trees = { λ x m. AreBoth (A.trees x.0 m)
+        (AreBoth (B.trees x.1 m)
+        (AreBoth (C.trees x.2 m)
+        (AreBoth (D.trees x.3 m)
+        (AreBoth (E.trees x.4 m)
+        (AreBoth (F.trees x.5 m)
+        (AreBoth (G.trees x.6 m)
+        (AreBoth (H.trees x.7 m) (AreBoth (I.trees x.8 m) (J.trees x.9 m))))))))) };
 
-    ghost writes = { λ x m. WritesBoth (A.writes x.0 m) (WritesBoth (B.writes x.1 m) (WritesBoth (C.writes x.2 m) (WritesBoth (D.writes x.3 m) (WritesBoth (E.writes x.4 m) (WritesBoth (F.writes x.5 m) (WritesBoth (G.writes x.6 m) (WritesBoth (H.writes x.7 m) (WritesBoth (I.writes x.8 m) (J.writes x.9 m))))))))) };
+    ghost writes = { λ x m. WritesBoth (A.writes x.0 m)
+        (WritesBoth (B.writes x.1 m)
+        (WritesBoth (C.writes x.2 m)
+        (WritesBoth (D.writes x.3 m)
+        (WritesBoth (E.writes x.4 m)
+        (WritesBoth (F.writes x.5 m)
+        (WritesBoth (G.writes x.6 m)
+        (WritesBoth (H.writes x.7 m) (WritesBoth (I.writes x.8 m) (J.writes x.9 m))))))))) };
 
     fn encoded_len(&self, mode: Mode) -> Result<usize, EncodeError> {
         (
@@ -261,9 +365,24 @@ impl<
             .write_encoded(mode, target)
     }
 
-    ghost spelled = { λ x m. both_spelled m (A.spelled x.0 m) (both_spelled m (B.spelled x.1 m) (both_spelled m (C.spelled x.2 m) (both_spelled m (D.spelled x.3 m) (both_spelled m (E.spelled x.4 m) (both_spelled m (F.spelled x.5 m) (both_spelled m (G.spelled x.6 m) (both_spelled m (H.spelled x.7 m) (both_spelled m (I.spelled x.8 m) (J.spelled x.9 m))))))))) };
+    ghost spelled = { λ x m. both_spelled m (A.spelled x.0 m)
+        (both_spelled m (B.spelled x.1 m)
+        (both_spelled m (C.spelled x.2 m)
+        (both_spelled m (D.spelled x.3 m)
+        (both_spelled m (E.spelled x.4 m)
+        (both_spelled m (F.spelled x.5 m)
+        (both_spelled m (G.spelled x.6 m)
+        (both_spelled m (H.spelled x.7 m)
+        (both_spelled m (I.spelled x.8 m) (J.spelled x.9 m))))))))) };
 
-    ghost one_text = { λ x m. both_one (A.one_text x.0 m) (both_one (B.one_text x.1 m) (both_one (C.one_text x.2 m) (both_one (D.one_text x.3 m) (both_one (E.one_text x.4 m) (both_one (F.one_text x.5 m) (both_one (G.one_text x.6 m) (both_one (H.one_text x.7 m) (both_one (I.one_text x.8 m) (J.one_text x.9 m))))))))) };
+    ghost one_text = { λ x m. both_one (A.one_text x.0 m)
+        (both_one (B.one_text x.1 m)
+        (both_one (C.one_text x.2 m)
+        (both_one (D.one_text x.3 m)
+        (both_one (E.one_text x.4 m)
+        (both_one (F.one_text x.5 m)
+        (both_one (G.one_text x.6 m)
+        (both_one (H.one_text x.7 m) (both_one (I.one_text x.8 m) (J.one_text x.9 m))))))))) };
 }
 
 impl<
@@ -279,9 +398,25 @@ impl<
     J: Values,
     K: Values,
 > Values for (A, B, C, D, E, F, G, H, I, J, K) {
-    ghost trees = { λ x m. AreBoth (A.trees x.0 m) (AreBoth (B.trees x.1 m) (AreBoth (C.trees x.2 m) (AreBoth (D.trees x.3 m) (AreBoth (E.trees x.4 m) (AreBoth (F.trees x.5 m) (AreBoth (G.trees x.6 m) (AreBoth (H.trees x.7 m) (AreBoth (I.trees x.8 m) (AreBoth (J.trees x.9 m) (K.trees x.10 m)))))))))) };
+    ghost trees = { λ x m. AreBoth (A.trees x.0 m)
+        (AreBoth (B.trees x.1 m)
+        (AreBoth (C.trees x.2 m)
+        (AreBoth (D.trees x.3 m)
+        (AreBoth (E.trees x.4 m)
+        (AreBoth (F.trees x.5 m)
+        (AreBoth (G.trees x.6 m)
+        (AreBoth (H.trees x.7 m)
+        (AreBoth (I.trees x.8 m) (AreBoth (J.trees x.9 m) (K.trees x.10 m)))))))))) };
 
-    ghost writes = { λ x m. WritesBoth (A.writes x.0 m) (WritesBoth (B.writes x.1 m) (WritesBoth (C.writes x.2 m) (WritesBoth (D.writes x.3 m) (WritesBoth (E.writes x.4 m) (WritesBoth (F.writes x.5 m) (WritesBoth (G.writes x.6 m) (WritesBoth (H.writes x.7 m) (WritesBoth (I.writes x.8 m) (WritesBoth (J.writes x.9 m) (K.writes x.10 m)))))))))) };
+    ghost writes = { λ x m. WritesBoth (A.writes x.0 m)
+        (WritesBoth (B.writes x.1 m)
+        (WritesBoth (C.writes x.2 m)
+        (WritesBoth (D.writes x.3 m)
+        (WritesBoth (E.writes x.4 m)
+        (WritesBoth (F.writes x.5 m)
+        (WritesBoth (G.writes x.6 m)
+        (WritesBoth (H.writes x.7 m)
+        (WritesBoth (I.writes x.8 m) (WritesBoth (J.writes x.9 m) (K.writes x.10 m)))))))))) };
 
     fn encoded_len(&self, mode: Mode) -> Result<usize, EncodeError> {
         (
@@ -305,9 +440,26 @@ impl<
             .write_encoded(mode, target)
     }
 
-    ghost spelled = { λ x m. both_spelled m (A.spelled x.0 m) (both_spelled m (B.spelled x.1 m) (both_spelled m (C.spelled x.2 m) (both_spelled m (D.spelled x.3 m) (both_spelled m (E.spelled x.4 m) (both_spelled m (F.spelled x.5 m) (both_spelled m (G.spelled x.6 m) (both_spelled m (H.spelled x.7 m) (both_spelled m (I.spelled x.8 m) (both_spelled m (J.spelled x.9 m) (K.spelled x.10 m)))))))))) };
+    ghost spelled = { λ x m. both_spelled m (A.spelled x.0 m)
+        (both_spelled m (B.spelled x.1 m)
+        (both_spelled m (C.spelled x.2 m)
+        (both_spelled m (D.spelled x.3 m)
+        (both_spelled m (E.spelled x.4 m)
+        (both_spelled m (F.spelled x.5 m)
+        (both_spelled m (G.spelled x.6 m)
+        (both_spelled m (H.spelled x.7 m)
+        (both_spelled m (I.spelled x.8 m)
+        (both_spelled m (J.spelled x.9 m) (K.spelled x.10 m)))))))))) };
 
-    ghost one_text = { λ x m. both_one (A.one_text x.0 m) (both_one (B.one_text x.1 m) (both_one (C.one_text x.2 m) (both_one (D.one_text x.3 m) (both_one (E.one_text x.4 m) (both_one (F.one_text x.5 m) (both_one (G.one_text x.6 m) (both_one (H.one_text x.7 m) (both_one (I.one_text x.8 m) (both_one (J.one_text x.9 m) (K.one_text x.10 m)))))))))) };
+    ghost one_text = { λ x m. both_one (A.one_text x.0 m)
+        (both_one (B.one_text x.1 m)
+        (both_one (C.one_text x.2 m)
+        (both_one (D.one_text x.3 m)
+        (both_one (E.one_text x.4 m)
+        (both_one (F.one_text x.5 m)
+        (both_one (G.one_text x.6 m)
+        (both_one (H.one_text x.7 m)
+        (both_one (I.one_text x.8 m) (both_one (J.one_text x.9 m) (K.one_text x.10 m)))))))))) };
 }
 
 impl<
@@ -324,9 +476,27 @@ impl<
     K: Values,
     L: Values,
 > Values for (A, B, C, D, E, F, G, H, I, J, K, L) {
-    ghost trees = { λ x m. AreBoth (A.trees x.0 m) (AreBoth (B.trees x.1 m) (AreBoth (C.trees x.2 m) (AreBoth (D.trees x.3 m) (AreBoth (E.trees x.4 m) (AreBoth (F.trees x.5 m) (AreBoth (G.trees x.6 m) (AreBoth (H.trees x.7 m) (AreBoth (I.trees x.8 m) (AreBoth (J.trees x.9 m) (AreBoth (K.trees x.10 m) (L.trees x.11 m))))))))))) };
+    ghost trees = { λ x m. AreBoth (A.trees x.0 m)
+        (AreBoth (B.trees x.1 m)
+        (AreBoth (C.trees x.2 m)
+        (AreBoth (D.trees x.3 m)
+        (AreBoth (E.trees x.4 m)
+        (AreBoth (F.trees x.5 m)
+        (AreBoth (G.trees x.6 m)
+        (AreBoth (H.trees x.7 m)
+        (AreBoth (I.trees x.8 m)
+        (AreBoth (J.trees x.9 m) (AreBoth (K.trees x.10 m) (L.trees x.11 m))))))))))) };
 
-    ghost writes = { λ x m. WritesBoth (A.writes x.0 m) (WritesBoth (B.writes x.1 m) (WritesBoth (C.writes x.2 m) (WritesBoth (D.writes x.3 m) (WritesBoth (E.writes x.4 m) (WritesBoth (F.writes x.5 m) (WritesBoth (G.writes x.6 m) (WritesBoth (H.writes x.7 m) (WritesBoth (I.writes x.8 m) (WritesBoth (J.writes x.9 m) (WritesBoth (K.writes x.10 m) (L.writes x.11 m))))))))))) };
+    ghost writes = { λ x m. WritesBoth (A.writes x.0 m)
+        (WritesBoth (B.writes x.1 m)
+        (WritesBoth (C.writes x.2 m)
+        (WritesBoth (D.writes x.3 m)
+        (WritesBoth (E.writes x.4 m)
+        (WritesBoth (F.writes x.5 m)
+        (WritesBoth (G.writes x.6 m)
+        (WritesBoth (H.writes x.7 m)
+        (WritesBoth (I.writes x.8 m)
+        (WritesBoth (J.writes x.9 m) (WritesBoth (K.writes x.10 m) (L.writes x.11 m))))))))))) };
 
     fn encoded_len(&self, mode: Mode) -> Result<usize, EncodeError> {
         (
@@ -350,7 +520,26 @@ impl<
             .write_encoded(mode, target)
     }
 
-    ghost spelled = { λ x m. both_spelled m (A.spelled x.0 m) (both_spelled m (B.spelled x.1 m) (both_spelled m (C.spelled x.2 m) (both_spelled m (D.spelled x.3 m) (both_spelled m (E.spelled x.4 m) (both_spelled m (F.spelled x.5 m) (both_spelled m (G.spelled x.6 m) (both_spelled m (H.spelled x.7 m) (both_spelled m (I.spelled x.8 m) (both_spelled m (J.spelled x.9 m) (both_spelled m (K.spelled x.10 m) (L.spelled x.11 m))))))))))) };
+    ghost spelled = { λ x m. both_spelled m (A.spelled x.0 m)
+        (both_spelled m (B.spelled x.1 m)
+        (both_spelled m (C.spelled x.2 m)
+        (both_spelled m (D.spelled x.3 m)
+        (both_spelled m (E.spelled x.4 m)
+        (both_spelled m (F.spelled x.5 m)
+        (both_spelled m (G.spelled x.6 m)
+        (both_spelled m (H.spelled x.7 m)
+        (both_spelled m (I.spelled x.8 m)
+        (both_spelled m (J.spelled x.9 m)
+        (both_spelled m (K.spelled x.10 m) (L.spelled x.11 m))))))))))) };
 
-    ghost one_text = { λ x m. both_one (A.one_text x.0 m) (both_one (B.one_text x.1 m) (both_one (C.one_text x.2 m) (both_one (D.one_text x.3 m) (both_one (E.one_text x.4 m) (both_one (F.one_text x.5 m) (both_one (G.one_text x.6 m) (both_one (H.one_text x.7 m) (both_one (I.one_text x.8 m) (both_one (J.one_text x.9 m) (both_one (K.one_text x.10 m) (L.one_text x.11 m))))))))))) };
+    ghost one_text = { λ x m. both_one (A.one_text x.0 m)
+        (both_one (B.one_text x.1 m)
+        (both_one (C.one_text x.2 m)
+        (both_one (D.one_text x.3 m)
+        (both_one (E.one_text x.4 m)
+        (both_one (F.one_text x.5 m)
+        (both_one (G.one_text x.6 m)
+        (both_one (H.one_text x.7 m)
+        (both_one (I.one_text x.8 m)
+        (both_one (J.one_text x.9 m) (both_one (K.one_text x.10 m) (L.one_text x.11 m))))))))))) };
 }

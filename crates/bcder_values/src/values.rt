@@ -36,8 +36,11 @@ pub trait Values {
     /// Where `encoded_len` refuses, nothing is written. `Write` where the writer refuses, which then has
     /// taken a front of the octets.
     fn write_encoded<W: Write>(&self, mode: Mode, target: &mut W) -> Result<(), EncodeError>
-        ensures written { OnOk result (Wrote (writes self.now mode) (W.contents target.old) (W.contents target.new)) }
-        ensures refused { IfErr result (WriteRefused (trees self.now mode) (writes self.now mode) (target.new ≡ target.old) (W.contents target.old) (W.contents target.new)) };
+        ensures written { OnOk result
+            (Wrote (writes self.now mode) (W.contents target.old) (W.contents target.new)) }
+        ensures refused { IfErr result
+            (WriteRefused (trees self.now mode) (writes self.now mode) (target.new ≡ target.old)
+            (W.contents target.old) (W.contents target.new)) };
 
     /// The values within a constructed value of that tag: an explicit tag (X.690 8.14).
     final fn explicit(self, tag: Tag) -> Constructed<Self>
@@ -56,7 +59,8 @@ pub trait Values {
         Self: Sized,
         ensures captured { IfOk result (λ c. writes self.now mode c.octets) }
         ensures mode { IfOk result (λ c. c.mode ≡ mode) }
-        ensures refused { IfErr result (ExtendRefused (trees self.now mode) (writes self.now mode)) }
+        ensures refused { IfErr result
+            (ExtendRefused (trees self.now mode) (writes self.now mode)) }
     {
         let len = self.encoded_len(mode)?;
         let mut builder = CapturedBuilder::with_capacity(alloc, len, mode)?;

@@ -19,7 +19,8 @@ pub trait Walk: Drop {
 
     /// The next value, or None where there is none left.
     fn next(&mut self) -> Option<Self::Item>
-        ensures { MatchOption result (items self.old ≡ []) (λ v. items self.old ≡ v ∷ items self.new) };
+        ensures { MatchOption result (items self.old ≡ [])
+            (λ v. items self.old ≡ v ∷ items self.new) };
 
     /// Another walk over the values that are still to come; it takes no memory.
     fn again(&self) -> Self
@@ -34,8 +35,11 @@ pub struct Iter<T>(pub T);
 
 // How many octets all values have together.
 fn len_of_walk<T: Walk>(walk: &T, mode: Mode) -> Result<usize, EncodeError>
-    ensures len { IfOk result (HasLength (WritesAll (λ v. T.Item.writes v mode) (T.items walk.now))) }
-    ensures refused { IfErr result (CannotWrite (AreAll (λ v. T.Item.trees v mode) (T.items walk.now)) (WritesAll (λ v. T.Item.writes v mode) (T.items walk.now))) }
+    ensures len { IfOk result
+        (HasLength (WritesAll (λ v. T.Item.writes v mode) (T.items walk.now))) }
+    ensures refused { IfErr result
+        (CannotWrite (AreAll (λ v. T.Item.trees v mode) (T.items walk.now))
+        (WritesAll (λ v. T.Item.writes v mode) (T.items walk.now))) }
 {
     let mut sum = 0usize;
     let mut rest = walk.again();
@@ -51,8 +55,13 @@ fn len_of_walk<T: Walk>(walk: &T, mode: Mode) -> Result<usize, EncodeError>
 
 // Writes all values, or nothing where `len_of_walk` refuses.
 fn write_walk<T: Walk, W: Write>(walk: &T, mode: Mode, target: &mut W) -> Result<(), EncodeError>
-    ensures written { OnOk result (Wrote (WritesAll (λ v. T.Item.writes v mode) (T.items walk.now)) (W.contents target.old) (W.contents target.new)) }
-    ensures refused { IfErr result (WriteRefused (AreAll (λ v. T.Item.trees v mode) (T.items walk.now)) (WritesAll (λ v. T.Item.writes v mode) (T.items walk.now)) (target.new ≡ target.old) (W.contents target.old) (W.contents target.new)) }
+    ensures written { OnOk result
+        (Wrote (WritesAll (λ v. T.Item.writes v mode) (T.items walk.now)) (W.contents target.old)
+        (W.contents target.new)) }
+    ensures refused { IfErr result
+        (WriteRefused (AreAll (λ v. T.Item.trees v mode) (T.items walk.now))
+        (WritesAll (λ v. T.Item.writes v mode) (T.items walk.now)) (target.new ≡ target.old)
+        (W.contents target.old) (W.contents target.new)) }
 {
     len_of_walk(walk, mode)?;
     let mut rest = walk.again();

@@ -27,7 +27,8 @@ pub fn request_all<S: Source>(prim: &mut Primitive<S>) -> Result<usize, DecodeEr
     ensures sound { OnOk result ((plain S.rest prim.old).failed ≡ false) }
     ensures all { IfOk result (λ n. (plain S.rest prim.old).limit ≡ Some n) }
     ensures available { IfOk result (λ n. n ≤ S.available prim.new.source.source) }
-    ensures refused { IfErr result (λ e. OnlyContent e ((text : List ℕ) → WholeOctets (plain S.rest prim.old) text → ⊥)) }
+    ensures refused { IfErr result
+        (λ e. OnlyContent e ((text : List ℕ) → WholeOctets (plain S.rest prim.old) text → ⊥)) }
     ensures failed { OnErr result ((plain S.rest prim.new).failed ≡ true) }
 {
     if prim.failed {
@@ -59,7 +60,9 @@ pub fn front<S: Source>(prim: &Primitive<S>, count: usize) -> &[u8]
 pub fn pass<S: Source>(prim: &mut Primitive<S>, count: usize)
     requires limit { (plain S.rest prim.old).limit ≡ Some count }
     requires available { count ≤ S.available prim.old.source.source }
-    ensures { plain S.rest prim.new ≡ record (plain S.rest prim.old) { rest = drop count (plain S.rest prim.old).rest; limit = Some 0 } }
+    ensures { plain S.rest prim.new
+        ≡ record (plain S.rest prim.old)
+        { rest = drop count (plain S.rest prim.old).rest; limit = Some 0 } }
 {
     prim.source.source.advance(count);
     prim.source.limit = Some(0);
@@ -76,7 +79,10 @@ pub fn take_front<S: Source>(
     requires limit { (plain S.rest prim.old).limit ≡ Some count }
     requires available { count ≤ S.available prim.old.source.source }
     ensures octets { IfOk result (λ octets. octets ≡ take count (plain S.rest prim.old).rest) }
-    ensures passed { OnOk result (plain S.rest prim.new ≡ record (plain S.rest prim.old) { rest = drop count (plain S.rest prim.old).rest; limit = Some 0 }) }
+    ensures passed { OnOk result
+        (plain S.rest prim.new
+        ≡ record (plain S.rest prim.old)
+        { rest = drop count (plain S.rest prim.old).rest; limit = Some 0 }) }
     ensures memory { IfErr result (λ e. e ≡ Memory) }
     ensures failed { OnErr result ((plain S.rest prim.new).failed ≡ true) }
 {

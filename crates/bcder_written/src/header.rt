@@ -32,7 +32,9 @@ pub fn header_len(tag: Tag, constructed: bool, content_len: usize) -> usize
 ///
 /// `TooLong` where these are more than 2^32 - 1.
 pub fn total_encoded_len(tag: Tag, content_len: usize) -> Result<usize, EncodeError>
-    ensures len { IfOk result (λ n. (form : Bool) (identifier size : List ℕ) → IsIdentifier identifier form tag → SpellsEverywhere (Length.Definite content_len) size → n ≡ length identifier + length size + content_len) }
+    ensures len { IfOk result (λ n. (form : Bool) (identifier size : List ℕ)
+        → IsIdentifier identifier form tag → SpellsEverywhere (Length.Definite content_len) size
+        → n ≡ length identifier + length size + content_len) }
     ensures few { IfOk result (λ n. content_len < 2 ^ 32) }
     ensures refused { IfErr result (λ e. (e ≡ too_long) × (2 ^ 32 ≤ content_len)) }
 {
@@ -53,8 +55,12 @@ pub fn put_header<W: Write>(
 ) -> Result<(), EncodeError>
     requires tag { IsTag tag }
     requires few { content_len < 2 ^ 32 }
-    ensures written { OnOk result (Wrote (IsHeaderIn constructed tag content_len) (W.contents target.old) (W.contents target.new)) }
-    ensures refused { IfErr result (λ e. (e ≡ refusal) × TookFront (IsHeaderIn constructed tag content_len) (W.contents target.old) (W.contents target.new)) }
+    ensures written { OnOk result
+        (Wrote (IsHeaderIn constructed tag content_len) (W.contents target.old)
+        (W.contents target.new)) }
+    ensures refused { IfErr result (λ e. (e ≡ refusal)
+        × TookFront (IsHeaderIn constructed tag content_len) (W.contents target.old)
+        (W.contents target.new)) }
 {
     let (identifier, long) = tag.encoded(constructed);
     let (size, wide) = Length::encoded(content_len);
@@ -73,8 +79,12 @@ pub fn write_header<W: Write>(
     content_len: usize,
 ) -> Result<(), EncodeError>
     requires { IsTag tag }
-    ensures written { OnOk result (Wrote (IsHeaderIn constructed tag content_len) (W.contents target.old) (W.contents target.new)) }
-    ensures refused { IfErr result (HeaderRefused constructed tag content_len (target.new ≡ target.old) (W.contents target.old) (W.contents target.new)) }
+    ensures written { OnOk result
+        (Wrote (IsHeaderIn constructed tag content_len) (W.contents target.old)
+        (W.contents target.new)) }
+    ensures refused { IfErr result
+        (HeaderRefused constructed tag content_len (target.new ≡ target.old) (W.contents target.old)
+        (W.contents target.new)) }
 {
     if content_len > MAX_LEN {
         return Err(EncodeError::TooLong);

@@ -73,8 +73,13 @@ fn unsigned_len(number: u128) -> usize
 
 // Writes the content octets of a number from 0 up.
 fn put_unsigned<W: Write>(target: &mut W, number: u128) -> Result<(), EncodeError>
-    ensures written { (bound : ℕ) → number < bound → OnOk result (Wrote (WritesUnsigned bound number) (W.contents target.old) (W.contents target.new)) }
-    ensures refused { (bound : ℕ) (m : ModeValue) → number < bound → IfErr result (ContentRefused m (WritesUnsigned bound number) (target.new ≡ target.old) (W.contents target.old) (W.contents target.new)) }
+    ensures written { (bound : ℕ) → number < bound
+        → OnOk result
+        (Wrote (WritesUnsigned bound number) (W.contents target.old) (W.contents target.new)) }
+    ensures refused { (bound : ℕ) (m : ModeValue) → number < bound
+        → IfErr result
+        (ContentRefused m (WritesUnsigned bound number) (target.new ≡ target.old)
+        (W.contents target.old) (W.contents target.new)) }
 {
     let octets = padded(number);
     let content = shortest(&octets);
@@ -83,7 +88,8 @@ fn put_unsigned<W: Write>(target: &mut W, number: u128) -> Result<(), EncodeErro
 
 // How many content octets a number has.
 fn signed_len(number: i128) -> usize
-    ensures len { (bound : ℕ) → IsWithin bound number → HasLength (λ content. IsSigned bound content number) result }
+    ensures len { (bound : ℕ) → IsWithin bound number
+        → HasLength (λ content. IsSigned bound content number) result }
     ensures few { result ≤ 16 }
 {
     let octets = twos_complement(number);
@@ -93,8 +99,14 @@ fn signed_len(number: i128) -> usize
 
 // Writes the content octets of a number.
 fn put_signed<W: Write>(target: &mut W, number: i128) -> Result<(), EncodeError>
-    ensures written { (bound : ℕ) → IsWithin bound number → OnOk result (Wrote (λ content. IsSigned bound content number) (W.contents target.old) (W.contents target.new)) }
-    ensures refused { (bound : ℕ) (m : ModeValue) → IsWithin bound number → IfErr result (ContentRefused m (λ content. IsSigned bound content number) (target.new ≡ target.old) (W.contents target.old) (W.contents target.new)) }
+    ensures written { (bound : ℕ) → IsWithin bound number
+        → OnOk result
+        (Wrote (λ content. IsSigned bound content number) (W.contents target.old)
+        (W.contents target.new)) }
+    ensures refused { (bound : ℕ) (m : ModeValue) → IsWithin bound number
+        → IfErr result
+        (ContentRefused m (λ content. IsSigned bound content number) (target.new ≡ target.old)
+        (W.contents target.old) (W.contents target.new)) }
 {
     let octets = twos_complement(number);
     let content = shortest(&octets);

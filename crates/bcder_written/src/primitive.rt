@@ -38,8 +38,11 @@ pub trait PrimitiveContent {
     /// Where `encoded_len` refuses, nothing is written. `Write` where the writer refuses, which then has
     /// taken a front of the octets.
     fn write_encoded<W: Write>(&self, mode: Mode, target: &mut W) -> Result<(), EncodeError>
-        ensures written { OnOk result (Wrote (content self.now mode) (W.contents target.old) (W.contents target.new)) }
-        ensures refused { IfErr result (ContentRefused mode (content self.now mode) (target.new ≡ target.old) (W.contents target.old) (W.contents target.new)) };
+        ensures written { OnOk result
+            (Wrote (content self.now mode) (W.contents target.old) (W.contents target.new)) }
+        ensures refused { IfErr result
+            (ContentRefused mode (content self.now mode) (target.new ≡ target.old)
+            (W.contents target.old) (W.contents target.new)) };
 
     /// The primitive value with its type's tag.
     final fn encode(self) -> Primitive<Self>
@@ -95,7 +98,8 @@ pub trait PrimitiveContent {
         Self: Sized,
         ensures encoded { IfOk result (content self.now mode) }
         ensures refused { IfErr result (BytesRefused mode (content self.now mode)) }
-        ensures memory { IfErr result (λ e. e ≡ no_memory → (n : ℕ) × HasLength (content self.now mode) n × (n < 2 ^ 32)) }
+        ensures memory { IfErr result
+            (λ e. e ≡ no_memory → (n : ℕ) × HasLength (content self.now mode) n × (n < 2 ^ 32)) }
     {
         let len = self.encoded_len(mode)?;
         let Ok(mut octets) = Vec::with_capacity(alloc, len) else {

@@ -24,7 +24,8 @@ fn taken(count: usize) -> Result<usize, EncodeError>
 // A write that was interrupted took nothing; each other error refuses the octets.
 fn interrupted(error: &io::Error) -> Result<usize, EncodeError>
     ensures again { IfOk result (λ n. (n ≡ 0) × (error_kind error.now ≡ ErrorKind.Interrupted)) }
-    ensures refused { IfErr result (λ e. (e ≡ refusal) × (error_kind error.now ≢ ErrorKind.Interrupted)) }
+    ensures refused { IfErr result
+        (λ e. (e ≡ refusal) × (error_kind error.now ≢ ErrorKind.Interrupted)) }
 {
     if error.kind() == ErrorKind::Interrupted {
         return Ok(0);
@@ -35,8 +36,10 @@ fn interrupted(error: &io::Error) -> Result<usize, EncodeError>
 // Writes a front of the octets, and answers how many; none where the write was interrupted.
 fn write_some<W: Write>(target: &mut W, octets: &[u8]) -> Result<usize, EncodeError>
     ensures bound { IfOk result (λ n. n ≤ length octets.now) }
-    ensures written { IfOk result (λ n. Appends (W.contents target.old) (W.contents target.new) (take n octets.now)) }
-    ensures refused { IfErr result (λ e. (e ≡ refusal) × Keeps (W.contents target.old) (W.contents target.new)) }
+    ensures written { IfOk result
+        (λ n. Appends (W.contents target.old) (W.contents target.new) (take n octets.now)) }
+    ensures refused { IfErr result
+        (λ e. (e ≡ refusal) × Keeps (W.contents target.old) (W.contents target.new)) }
 {
     match target.write(octets) {
         Ok(count) => taken(count),
@@ -46,8 +49,10 @@ fn write_some<W: Write>(target: &mut W, octets: &[u8]) -> Result<usize, EncodeEr
 
 /// Writes all the octets; a write that was interrupted is tried again. Where there are none nothing is refused.
 pub fn write_octets<W: Write>(target: &mut W, octets: &[u8]) -> Result<(), EncodeError>
-    ensures written { OnOk result (Appends (W.contents target.old) (W.contents target.new) octets.now) }
-    ensures refused { IfErr result (λ e. (e ≡ refusal) × TookFront (λ text. text ≡ octets.now) (W.contents target.old) (W.contents target.new)) }
+    ensures written { OnOk result
+        (Appends (W.contents target.old) (W.contents target.new) octets.now) }
+    ensures refused { IfErr result (λ e. (e ≡ refusal)
+        × TookFront (λ text. text ≡ octets.now) (W.contents target.old) (W.contents target.new)) }
     ensures some { OnErr result (1 ≤ length octets.now) }
 {
     let mut rest = octets;

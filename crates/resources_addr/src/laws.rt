@@ -26,7 +26,8 @@ pub fn prefix_around_has_address()
 
 /// A prefix isn't before one that it covers.
 pub fn covering_is_not_before()
-    ensures { (p q : PrefixValue) → IsPrefix p → IsPrefix q → Covers p q → ¬ (IsTrue (is_lt (prefix_cmp p q))) }
+    ensures { (p q : PrefixValue) → IsPrefix p → IsPrefix q → Covers p q
+        → ¬ (IsTrue (is_lt (prefix_cmp p q))) }
 {}
 
 /// The order in which prefixes are listed is total, and tells all prefixes apart; one that covers another isn't behind
@@ -35,7 +36,8 @@ pub fn covering_is_not_before()
 pub fn start_order_is_total()
     ensures total { IsTotalOrder start_cmp }
     ensures equal { (p q : PrefixValue) → (start_cmp p q ≡ Equal) ↔ (p ≡ q) }
-    ensures covering { (p q : PrefixValue) → IsPrefix p → IsPrefix q → Covers p q → ¬ (start_cmp p q ≡ Greater) }
+    ensures covering { (p q : PrefixValue) → IsPrefix p → IsPrefix q → Covers p q
+        → ¬ (start_cmp p q ≡ Greater) }
 {}
 
 /// The test `==` tells equality.
@@ -46,8 +48,10 @@ pub fn equality_is_tested()
 
 /// A text writes one prefix at most, and one prefix with a greatest length at most.
 pub fn texts_write_one()
-    ensures prefixes { (text : List ℕ) (p q : PrefixValue) → IsPrefixText text p → IsPrefixText text q → p ≡ q }
-    ensures max_lens { (text : List ℕ) (m n : MaxLenValue) → IsMaxLenText text m → IsMaxLenText text n → m ≡ n }
+    ensures prefixes { (text : List ℕ) (p q : PrefixValue) → IsPrefixText text p
+        → IsPrefixText text q → p ≡ q }
+    ensures max_lens { (text : List ℕ) (m n : MaxLenValue) → IsMaxLenText text m
+        → IsMaxLenText text n → m ≡ n }
 {}
 
 /// What is printed of a prefix, and of a prefix with a greatest length, writes it.

@@ -78,7 +78,8 @@ impl AsBlocks {
     ) -> Result<Self, AllocError>
         requires can { I.can_next blocks }
         requires ends { IsFinite (I.remaining blocks) }
-        ensures { IfOk result (λ a. (came : List AsBlock) × DrainsIf I.next_gives ⊤ blocks came × IsRunsOf (InRuns (map as_run came)) a) }
+        ensures { IfOk result (λ a. (came : List AsBlock) × DrainsIf I.next_gives ⊤ blocks came
+            × IsRunsOf (InRuns (map as_run came)) a) }
     {
         Ok(AsBlocks {
             chain: SharedChain::from_iter(alloc, blocks)?,
@@ -178,7 +179,8 @@ impl AsBlocks {
     /// The set that the resources list; none where they are missing.
     pub fn from_resources(resources: &AsResources) -> Result<Self, InheritedAsResources>
         ensures set { IfOk result (λ s. IsRunsOf (Lists resources.now) s) }
-        ensures inherited { IsErrOf result InheritedAsResources.Inherited ↔ (resources.now ≡ Inherit) }
+        ensures inherited { IsErrOf result InheritedAsResources.Inherited
+            ↔ (resources.now ≡ Inherit) }
         ensures present { OnErr result (¬ (resources.now ≡ Missing)) }
     {
         resources.to_blocks()

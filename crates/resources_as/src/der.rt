@@ -22,7 +22,8 @@ fn take_blocks<S: Source>(
     alloc: Global,
     cons: &mut Constructed<S>,
 ) -> Result<AsBlocksBuilder, DecodeError<S::Error>>
-    ensures { ReadsAllAs (λ b. b) (Many IsAsBlock) (here S.rest cons.old) result (here S.rest cons.new) }
+    ensures { ReadsAllAs (λ b. b) (Many IsAsBlock) (here S.rest cons.old) result
+        (here S.rest cons.new) }
 {
     let mut blocks = AsBlocksBuilder::new(alloc);
     while let Some(block) = AsBlock::take_opt_from(cons)? {
@@ -49,13 +50,15 @@ impl AsBlocks {
         alloc: Global,
         cons: &mut Constructed<S>,
     ) -> Result<AsBlocks, DecodeError<S::Error>>
-        ensures reads { ReadsAs (λ s. s) IsAsSet (here S.rest cons.old) result (here S.rest cons.new) }
+        ensures reads { ReadsAs (λ s. s) IsAsSet (here S.rest cons.old) result
+            (here S.rest cons.new) }
         ensures maximal { IfOk result AreMaximal }
         ensures failed { OnErr result ((here S.rest cons.new).failed ≡ true) }
     {
         cons.take_sequence(
             |cons|
-                ensures { ReadsAllAs (λ s. s) AreBlocks (here S.rest cons.old) result (here S.rest cons.new) }
+                ensures { ReadsAllAs (λ s. s) AreBlocks (here S.rest cons.old) result
+                    (here S.rest cons.new) }
             { blocks_in(alloc, cons) },
         )
     }
@@ -86,18 +89,21 @@ impl AsResources {
         alloc: Global,
         cons: &mut Constructed<S>,
     ) -> Result<AsResources, DecodeError<S::Error>>
-        ensures reads { ReadsAs (λ r. r) IsAsResources (here S.rest cons.old) result (here S.rest cons.new) }
+        ensures reads { ReadsAs (λ r. r) IsAsResources (here S.rest cons.old) result
+            (here S.rest cons.new) }
         ensures maximal { IfOk result HasMaximal }
         ensures failed { OnErr result ((here S.rest cons.new).failed ≡ true) }
     {
         cons.take_sequence(
             |cons|
-                ensures { ReadsAllAs (λ r. (only_choice r, tt)) AreAsIdentifiers (here S.rest cons.old) result (here S.rest cons.new) }
+                ensures { ReadsAllAs (λ r. (only_choice r, tt)) AreAsIdentifiers
+                    (here S.rest cons.old) result (here S.rest cons.new) }
             {
                 let choice = cons.take_constructed_if(
                     Tag::CTX_0,
                     |cons|
-                        ensures { ReadsAllAs only_choice (Then IsAsChoice End) (here S.rest cons.old) result (here S.rest cons.new) }
+                        ensures { ReadsAllAs only_choice (Then IsAsChoice End)
+                            (here S.rest cons.old) result (here S.rest cons.new) }
                     {
                         let choice = take_choice(alloc, cons)?;
                         Ok(choice)

@@ -14,12 +14,14 @@ pub use resources_as_block::laws::{one_list_of_a_set, runs_are_counted, runs_are
 
 /// What is written of AS resources that aren't missing is one value, which a reader takes for just these.
 pub fn what_is_written_means_just_these()
-    ensures { (choice : Choice) (ts : Trees) → HasMaximal choice → ¬ (choice ≡ Missing) → AreAsResources choice ts → MeansJust choice ts }
+    ensures { (choice : Choice) (ts : Trees) → HasMaximal choice → ¬ (choice ≡ Missing)
+        → AreAsResources choice ts → MeansJust choice ts }
 {}
 
 /// A SEQUENCE of what is written of a set is one value, which is read as the same set (RFC 3779 section 3.2.3.4).
 pub fn a_set_is_read_again()
-    ensures { (runs : List Run) (ts : Trees) → AreMaximal runs → IsWrapped (universal 16) (AreAsBlocks runs) ts → ReadsSet runs ts }
+    ensures { (runs : List Run) (ts : Trees) → AreMaximal runs
+        → IsWrapped (universal 16) (AreAsBlocks runs) ts → ReadsSet runs ts }
 {}
 
 /// What is read of AS resources, or as a set of them, is by maximal runs: so it can be written, and is read again.
@@ -30,6 +32,8 @@ pub fn resources_that_are_read_fit()
 
 /// A value has one meaning: as AS resources (RFC 3779 section 3.2.3.1), and as a set of AS numbers (3.2.3.4).
 pub fn one_meaning()
-    ensures set { (t : Tree) (one other : List Run) → IsAsSet t one → IsAsSet t other → one ≡ other }
-    ensures resources { (t : Tree) (one other : Choice) → IsAsResources t one → IsAsResources t other → one ≡ other }
+    ensures set { (t : Tree) (one other : List Run) → IsAsSet t one → IsAsSet t other
+        → one ≡ other }
+    ensures resources { (t : Tree) (one other : Choice) → IsAsResources t one
+        → IsAsResources t other → one ≡ other }
 {}

@@ -219,7 +219,9 @@ impl AsResourcesBuilder {
         build: F,
     ) -> Result<(), AllocError>
         requires { F.IsAlwaysCallable build }
-        ensures ok { OnOk result ((pushed : List Run) × FnOnceReturnsAtMut F.FnOnce build [] (Ok tt) pushed × (self.new ≡ Blocks (listed self.old ++ pushed))) }
+        ensures ok { OnOk result
+            ((pushed : List Run) × FnOnceReturnsAtMut F.FnOnce build [] (Ok tt) pushed
+            × (self.new ≡ Blocks (listed self.old ++ pushed))) }
         ensures err { OnErr result (self.new ≡ self.old) }
     {
         let mut pushed = AsBlocksBuilder::new(alloc);

@@ -58,7 +58,9 @@ impl AsBlocks {
 // How many octets AS resources have around what they say.
 fn identifiers_len<V: Values + Drop>(mode: Mode, inner: V) -> Result<usize, EncodeError>
     ensures len { IfOk result (HasLength (WritesIdentifiers mode (V.writes inner mode))) }
-    ensures refused { IfErr result (CannotWrite (AreIdentifiers (V.trees inner mode)) (WritesIdentifiers mode (V.writes inner mode))) }
+    ensures refused { IfErr result
+        (CannotWrite (AreIdentifiers (V.trees inner mode))
+        (WritesIdentifiers mode (V.writes inner mode))) }
 {
     let asnum = Constructed {
         tag: Tag::CTX_0,
@@ -77,8 +79,13 @@ fn write_identifiers<V: Values + Drop, W: Write>(
     inner: V,
     target: &mut W,
 ) -> Result<(), EncodeError>
-    ensures written { OnOk result (Wrote (WritesIdentifiers mode (V.writes inner mode)) (W.contents target.old) (W.contents target.new)) }
-    ensures refused { IfErr result (WriteRefused (AreIdentifiers (V.trees inner mode)) (WritesIdentifiers mode (V.writes inner mode)) (target.new ≡ target.old) (W.contents target.old) (W.contents target.new)) }
+    ensures written { OnOk result
+        (Wrote (WritesIdentifiers mode (V.writes inner mode)) (W.contents target.old)
+        (W.contents target.new)) }
+    ensures refused { IfErr result
+        (WriteRefused (AreIdentifiers (V.trees inner mode))
+        (WritesIdentifiers mode (V.writes inner mode)) (target.new ≡ target.old)
+        (W.contents target.old) (W.contents target.new)) }
 {
     let asnum = Constructed {
         tag: Tag::CTX_0,
@@ -94,7 +101,8 @@ fn write_identifiers<V: Values + Drop, W: Write>(
 // How many octets `inherit` has, as AS resources.
 fn inherit_len(mode: Mode) -> Result<usize, EncodeError>
     ensures len { IfOk result (HasLength (WritesAsResources mode Inherit)) }
-    ensures refused { IfErr result (CannotWrite (AreAsResources Inherit) (WritesAsResources mode Inherit)) }
+    ensures refused { IfErr result
+        (CannotWrite (AreAsResources Inherit) (WritesAsResources mode Inherit)) }
 {
     let inherit = Primitive {
         tag: Tag::NULL,
@@ -105,8 +113,11 @@ fn inherit_len(mode: Mode) -> Result<usize, EncodeError>
 
 // Writes `inherit`, as AS resources.
 fn write_inherit<W: Write>(mode: Mode, target: &mut W) -> Result<(), EncodeError>
-    ensures written { OnOk result (Wrote (WritesAsResources mode Inherit) (W.contents target.old) (W.contents target.new)) }
-    ensures refused { IfErr result (WriteRefused (AreAsResources Inherit) (WritesAsResources mode Inherit) (target.new ≡ target.old) (W.contents target.old) (W.contents target.new)) }
+    ensures written { OnOk result
+        (Wrote (WritesAsResources mode Inherit) (W.contents target.old) (W.contents target.new)) }
+    ensures refused { IfErr result
+        (WriteRefused (AreAsResources Inherit) (WritesAsResources mode Inherit)
+        (target.new ≡ target.old) (W.contents target.old) (W.contents target.new)) }
 {
     let inherit = Primitive {
         tag: Tag::NULL,
@@ -117,8 +128,12 @@ fn write_inherit<W: Write>(mode: Mode, target: &mut W) -> Result<(), EncodeError
 
 // How many octets a list of blocks has, as AS resources.
 fn list_len<V: Values + Drop>(mode: Mode, blocks: V) -> Result<usize, EncodeError>
-    ensures len { IfOk result (HasLength (WritesIdentifiers mode (WritesWrapped mode (universal 16) (V.writes blocks mode)))) }
-    ensures refused { IfErr result (CannotWrite (AreIdentifiers (IsWrapped (universal 16) (V.trees blocks mode))) (WritesIdentifiers mode (WritesWrapped mode (universal 16) (V.writes blocks mode)))) }
+    ensures len { IfOk result
+        (HasLength
+        (WritesIdentifiers mode (WritesWrapped mode (universal 16) (V.writes blocks mode)))) }
+    ensures refused { IfErr result
+        (CannotWrite (AreIdentifiers (IsWrapped (universal 16) (V.trees blocks mode)))
+        (WritesIdentifiers mode (WritesWrapped mode (universal 16) (V.writes blocks mode)))) }
 {
     let list = Constructed {
         tag: Tag::SEQUENCE,
@@ -133,8 +148,13 @@ fn write_list<V: Values + Drop, W: Write>(
     blocks: V,
     target: &mut W,
 ) -> Result<(), EncodeError>
-    ensures written { OnOk result (Wrote (WritesIdentifiers mode (WritesWrapped mode (universal 16) (V.writes blocks mode))) (W.contents target.old) (W.contents target.new)) }
-    ensures refused { IfErr result (WriteRefused (AreIdentifiers (IsWrapped (universal 16) (V.trees blocks mode))) (WritesIdentifiers mode (WritesWrapped mode (universal 16) (V.writes blocks mode))) (target.new ≡ target.old) (W.contents target.old) (W.contents target.new)) }
+    ensures written { OnOk result
+        (Wrote (WritesIdentifiers mode (WritesWrapped mode (universal 16) (V.writes blocks mode)))
+        (W.contents target.old) (W.contents target.new)) }
+    ensures refused { IfErr result
+        (WriteRefused (AreIdentifiers (IsWrapped (universal 16) (V.trees blocks mode)))
+        (WritesIdentifiers mode (WritesWrapped mode (universal 16) (V.writes blocks mode)))
+        (target.new ≡ target.old) (W.contents target.old) (W.contents target.new)) }
 {
     let list = Constructed {
         tag: Tag::SEQUENCE,

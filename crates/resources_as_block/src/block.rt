@@ -98,7 +98,8 @@ impl AsBlock {
 
     /// Whether the block has all AS numbers.
     pub fn is_whole_range(&self) -> bool
-        ensures { IsTrue result ↔ (((as_run self.now).first ≡ 0) × ((as_run self.now).last ≡ 4294967295)) }
+        ensures { IsTrue result
+            ↔ (((as_run self.now).first ≡ 0) × ((as_run self.now).last ≡ 4294967295)) }
     {
         self.min() == Asn::MIN && self.max() == Asn::MAX
     }
@@ -158,7 +159,9 @@ impl PartialEq for AsBlock {
     ghost laws = { Prim.search (comparing, rules) };
 
     fn eq(&self, other: &Self) -> bool
-        ensures value { result ≡ eq_of_both (on (λ b. (as_run b).first) ◌==◌) (on (λ b. (as_run b).last) ◌==◌) self.now other.now }
+        ensures value { result
+            ≡ eq_of_both (on (λ b. (as_run b).first) ◌==◌) (on (λ b. (as_run b).last) ◌==◌) self.now
+            other.now }
         ensures numbers { IsTrue result ↔ (as_run self.now ≡ as_run other.now) }
     {
         self.min() == other.min() && self.max() == other.max()
@@ -178,7 +181,8 @@ impl From<Asn> for AsBlock {
 }
 
 impl From<AsRange> for AsBlock {
-    ghost from_gives = { λ r b. ((as_run b).first ≡ r.first.value) × ((as_run b).last ≡ r.last.value) };
+    ghost from_gives = { λ r b. ((as_run b).first ≡ r.first.value)
+        × ((as_run b).last ≡ r.last.value) };
 
     fn from(numbers: AsRange) -> Self {
         AsBlock::Range(numbers)

@@ -24,7 +24,8 @@ struct Bounds {
 
 // The two numbers of a range.
 fn bounds_in<S: Source>(cons: &mut Constructed<S>) -> Result<Bounds, DecodeError<S::Error>>
-    ensures reads { ReadsAllAs bounds_ends AreEnds (here S.rest cons.old) result (here S.rest cons.new) }
+    ensures reads { ReadsAllAs bounds_ends AreEnds (here S.rest cons.old) result
+        (here S.rest cons.new) }
     ensures no_memory { IfErr result (λ e. e ≢ Memory) }
 {
     let min = cons.take_u32()?;
@@ -34,7 +35,8 @@ fn bounds_in<S: Source>(cons: &mut Constructed<S>) -> Result<Bounds, DecodeError
 
 // The range of the content of a SEQUENCE.
 fn range_in<S: Source>(cons: &mut Constructed<S>) -> Result<AsRange, DecodeError<S::Error>>
-    ensures reads { ReadsAllAs range_ends AreOrdered (here S.rest cons.old) result (here S.rest cons.new) }
+    ensures reads { ReadsAllAs range_ends AreOrdered (here S.rest cons.old) result
+        (here S.rest cons.new) }
     ensures no_memory { IfErr result (λ e. e ≢ Memory) }
 {
     let bounds = bounds_in(cons)?;
@@ -50,13 +52,15 @@ fn range_in<S: Source>(cons: &mut Constructed<S>) -> Result<AsRange, DecodeError
 fn take_opt_range<S: Source>(
     cons: &mut Constructed<S>,
 ) -> Result<Option<AsRange>, DecodeError<S::Error>>
-    ensures reads { ReadsOptAs range_ends (universal 16) IsAsRange (here S.rest cons.old) result (here S.rest cons.new) }
+    ensures reads { ReadsOptAs range_ends (universal 16) IsAsRange (here S.rest cons.old) result
+        (here S.rest cons.new) }
     ensures failed { OnErr result ((here S.rest cons.new).failed ≡ true) }
     ensures no_memory { IfErr result (λ e. e ≢ Memory) }
 {
     cons.take_opt_sequence(
         |cons|
-            ensures reads { ReadsAllAs range_ends AreOrdered (here S.rest cons.old) result (here S.rest cons.new) }
+            ensures reads { ReadsAllAs range_ends AreOrdered (here S.rest cons.old) result
+                (here S.rest cons.new) }
             ensures no_memory { IfErr result (λ e. e ≢ Memory) }
         { range_in(cons) },
     )
@@ -68,7 +72,8 @@ impl AsBlock {
     pub fn take_opt_from<S: Source>(
         cons: &mut Constructed<S>,
     ) -> Result<Option<AsBlock>, DecodeError<S::Error>>
-        ensures reads { ReadsIfAs as_run IsAsBlock (here S.rest cons.old) result (here S.rest cons.new) }
+        ensures reads { ReadsIfAs as_run IsAsBlock (here S.rest cons.old) result
+            (here S.rest cons.new) }
         ensures failed { OnErr result ((here S.rest cons.new).failed ≡ true) }
         ensures no_memory { IfErr result (λ e. e ≢ Memory) }
     {
@@ -87,7 +92,8 @@ impl AsBlock {
     pub fn skip_opt_in<S: Source>(
         cons: &mut Constructed<S>,
     ) -> Result<Option<()>, DecodeError<S::Error>>
-        ensures reads { ReadsIfAs (λ x. x) IsAnyAsBlock (here S.rest cons.old) result (here S.rest cons.new) }
+        ensures reads { ReadsIfAs (λ x. x) IsAnyAsBlock (here S.rest cons.old) result
+            (here S.rest cons.new) }
         ensures failed { OnErr result ((here S.rest cons.new).failed ≡ true) }
         ensures no_memory { IfErr result (λ e. e ≢ Memory) }
     {

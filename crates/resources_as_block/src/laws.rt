@@ -14,5 +14,6 @@ pub fn runs_are_listed()
 
 /// The count of maximal runs is how many numbers are in their set.
 pub fn runs_are_counted()
-    ensures { (runs : List Run) (numbers : List ℕ) → AreMaximal runs → IsListOf (InRuns runs) numbers → length numbers ≡ runs_count runs }
+    ensures { (runs : List Run) (numbers : List ℕ) → AreMaximal runs
+        → IsListOf (InRuns runs) numbers → length numbers ≡ runs_count runs }
 {}

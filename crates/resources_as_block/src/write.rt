@@ -16,7 +16,8 @@ use std::io::Write;
 // How many octets a number has.
 fn id_len(mode: Mode, number: Asn) -> Result<usize, EncodeError>
     ensures len { IfOk result (HasLength (WritesAsId mode number.value)) }
-    ensures refused { IfErr result (CannotWrite (AreAsId number.value) (WritesAsId mode number.value)) }
+    ensures refused { IfErr result
+        (CannotWrite (AreAsId number.value) (WritesAsId mode number.value)) }
 {
     let values = Primitive {
         tag: Tag::INTEGER,
@@ -27,8 +28,11 @@ fn id_len(mode: Mode, number: Asn) -> Result<usize, EncodeError>
 
 // Writes a number.
 fn write_id<W: Write>(mode: Mode, number: Asn, target: &mut W) -> Result<(), EncodeError>
-    ensures written { OnOk result (Wrote (WritesAsId mode number.value) (W.contents target.old) (W.contents target.new)) }
-    ensures refused { IfErr result (WriteRefused (AreAsId number.value) (WritesAsId mode number.value) (target.new ≡ target.old) (W.contents target.old) (W.contents target.new)) }
+    ensures written { OnOk result
+        (Wrote (WritesAsId mode number.value) (W.contents target.old) (W.contents target.new)) }
+    ensures refused { IfErr result
+        (WriteRefused (AreAsId number.value) (WritesAsId mode number.value)
+        (target.new ≡ target.old) (W.contents target.old) (W.contents target.new)) }
 {
     let values = Primitive {
         tag: Tag::INTEGER,
@@ -39,8 +43,11 @@ fn write_id<W: Write>(mode: Mode, number: Asn, target: &mut W) -> Result<(), Enc
 
 // How many octets the two numbers of a range have, in their SEQUENCE.
 fn range_len(mode: Mode, min: Asn, max: Asn) -> Result<usize, EncodeError>
-    ensures len { IfOk result (HasLength (WritesAsRange mode (record { first = min.value; last = max.value }))) }
-    ensures refused { IfErr result (CannotWrite (AreAsRange (record { first = min.value; last = max.value })) (WritesAsRange mode (record { first = min.value; last = max.value }))) }
+    ensures len { IfOk result
+        (HasLength (WritesAsRange mode (record { first = min.value; last = max.value }))) }
+    ensures refused { IfErr result
+        (CannotWrite (AreAsRange (record { first = min.value; last = max.value }))
+        (WritesAsRange mode (record { first = min.value; last = max.value }))) }
 {
     let min = Primitive {
         tag: Tag::INTEGER,
@@ -59,8 +66,13 @@ fn range_len(mode: Mode, min: Asn, max: Asn) -> Result<usize, EncodeError>
 
 // Writes the two numbers of a range, in their SEQUENCE.
 fn write_range<W: Write>(mode: Mode, min: Asn, max: Asn, target: &mut W) -> Result<(), EncodeError>
-    ensures written { OnOk result (Wrote (WritesAsRange mode (record { first = min.value; last = max.value })) (W.contents target.old) (W.contents target.new)) }
-    ensures refused { IfErr result (WriteRefused (AreAsRange (record { first = min.value; last = max.value })) (WritesAsRange mode (record { first = min.value; last = max.value })) (target.new ≡ target.old) (W.contents target.old) (W.contents target.new)) }
+    ensures written { OnOk result
+        (Wrote (WritesAsRange mode (record { first = min.value; last = max.value }))
+        (W.contents target.old) (W.contents target.new)) }
+    ensures refused { IfErr result
+        (WriteRefused (AreAsRange (record { first = min.value; last = max.value }))
+        (WritesAsRange mode (record { first = min.value; last = max.value }))
+        (target.new ≡ target.old) (W.contents target.old) (W.contents target.new)) }
 {
     let min = Primitive {
         tag: Tag::INTEGER,
@@ -79,8 +91,11 @@ fn write_range<W: Write>(mode: Mode, min: Asn, max: Asn, target: &mut W) -> Resu
 
 // How many octets a block has: a number where it has one alone, else a range.
 fn block_len(mode: Mode, min: Asn, max: Asn) -> Result<usize, EncodeError>
-    ensures len { IfOk result (HasLength (WritesAsBlock mode (record { first = min.value; last = max.value }))) }
-    ensures refused { IfErr result (CannotWrite (AreAsBlock (record { first = min.value; last = max.value })) (WritesAsBlock mode (record { first = min.value; last = max.value }))) }
+    ensures len { IfOk result
+        (HasLength (WritesAsBlock mode (record { first = min.value; last = max.value }))) }
+    ensures refused { IfErr result
+        (CannotWrite (AreAsBlock (record { first = min.value; last = max.value }))
+        (WritesAsBlock mode (record { first = min.value; last = max.value }))) }
 {
     if min.into_u32() == max.into_u32() {
         id_len(mode, min)
@@ -91,8 +106,13 @@ fn block_len(mode: Mode, min: Asn, max: Asn) -> Result<usize, EncodeError>
 
 // Writes a block: a number where it has one alone, else a range.
 fn write_block<W: Write>(mode: Mode, min: Asn, max: Asn, target: &mut W) -> Result<(), EncodeError>
-    ensures written { OnOk result (Wrote (WritesAsBlock mode (record { first = min.value; last = max.value })) (W.contents target.old) (W.contents target.new)) }
-    ensures refused { IfErr result (WriteRefused (AreAsBlock (record { first = min.value; last = max.value })) (WritesAsBlock mode (record { first = min.value; last = max.value })) (target.new ≡ target.old) (W.contents target.old) (W.contents target.new)) }
+    ensures written { OnOk result
+        (Wrote (WritesAsBlock mode (record { first = min.value; last = max.value }))
+        (W.contents target.old) (W.contents target.new)) }
+    ensures refused { IfErr result
+        (WriteRefused (AreAsBlock (record { first = min.value; last = max.value }))
+        (WritesAsBlock mode (record { first = min.value; last = max.value }))
+        (target.new ≡ target.old) (W.contents target.old) (W.contents target.new)) }
 {
     if min.into_u32() == max.into_u32() {
         write_id(mode, min, target)

@@ -19,7 +19,8 @@ use std::io::Write;
 impl Asn {
     /// The AS number of an INTEGER (RFC 3779 section 3.2.3.10).
     pub fn take_from<S: Source>(cons: &mut Constructed<S>) -> Result<Self, DecodeError<S::Error>>
-        ensures reads { ReadsAs (λ a. a.value) IsAsId (here S.rest cons.old) result (here S.rest cons.new) }
+        ensures reads { ReadsAs (λ a. a.value) IsAsId (here S.rest cons.old) result
+            (here S.rest cons.new) }
         ensures failed { OnErr result ((here S.rest cons.new).failed ≡ true) }
         ensures no_memory { IfErr result (λ e. e ≢ Memory) }
     {
@@ -33,7 +34,8 @@ impl Asn {
     pub fn take_opt_from<S: Source>(
         cons: &mut Constructed<S>,
     ) -> Result<Option<Self>, DecodeError<S::Error>>
-        ensures reads { ReadsOptAs (λ a. a.value) (universal 2) IsAsId (here S.rest cons.old) result (here S.rest cons.new) }
+        ensures reads { ReadsOptAs (λ a. a.value) (universal 2) IsAsId (here S.rest cons.old) result
+            (here S.rest cons.new) }
         ensures failed { OnErr result ((here S.rest cons.new).failed ≡ true) }
         ensures no_memory { IfErr result (λ e. e ≢ Memory) }
     {
@@ -46,7 +48,8 @@ impl Asn {
 
     /// Skips the INTEGER of an AS number (RFC 3779 section 3.2.3.10).
     pub fn skip_in<S: Source>(cons: &mut Constructed<S>) -> Result<(), DecodeError<S::Error>>
-        ensures reads { ReadsAs (λ x. x) IsAnyAsId (here S.rest cons.old) result (here S.rest cons.new) }
+        ensures reads { ReadsAs (λ x. x) IsAnyAsId (here S.rest cons.old) result
+            (here S.rest cons.new) }
         ensures failed { OnErr result ((here S.rest cons.new).failed ≡ true) }
         ensures no_memory { IfErr result (λ e. e ≢ Memory) }
     {

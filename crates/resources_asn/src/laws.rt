@@ -18,7 +18,8 @@ pub fn least_and_greatest() -> (Asn, Asn)
 
 /// A set has one list.
 pub fn one_list_of_a_set()
-    ensures { (xs ys : List ℕ) → IsAscending xs → IsAscending ys → ((n : ℕ) → InList xs n ↔ InList ys n) → xs ≡ ys }
+    ensures { (xs ys : List ℕ) → IsAscending xs → IsAscending ys
+        → ((n : ℕ) → InList xs n ↔ InList ys n) → xs ≡ ys }
 {}
 
 /// The order in which origins are listed is total, and tells all origins apart.

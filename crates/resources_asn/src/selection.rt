@@ -83,7 +83,8 @@ impl<'a> Step<'a> {
         requires first { IsAscending (values first.now) }
         requires second { IsAscending (values second.now) }
         ensures { MatchOption result ((values first.now ≡ []) × (values second.now ≡ []))
-            (λ s. TakesLeast (values first.now) (values second.now) (values s.first.now) (values s.second.now) s.asn.value s.in_first s.in_second) }
+            (λ s. TakesLeast (values first.now) (values second.now) (values s.first.now)
+            (values s.second.now) s.asn.value s.in_first s.in_second) }
     {
         match (first.split_first(), second.split_first()) {
             (None, None) => None,
@@ -107,7 +108,14 @@ impl<'a> Step<'a> {
 
     /// Takes a number from the first list alone.
     fn of_first(asn: Asn, first: &'a [Asn], second: &'a [Asn]) -> Self
-        ensures { result ≡ record { asn = asn; in_first = true; in_second = false; first = first.entry; second = second.entry } }
+        ensures { result
+            ≡ record {
+              asn = asn;
+              in_first = true;
+              in_second = false;
+              first = first.entry;
+              second = second.entry;
+            } }
     {
         Step {
             asn,
@@ -120,7 +128,14 @@ impl<'a> Step<'a> {
 
     /// Takes a number from the second list alone.
     fn of_second(asn: Asn, first: &'a [Asn], second: &'a [Asn]) -> Self
-        ensures { result ≡ record { asn = asn; in_first = false; in_second = true; first = first.entry; second = second.entry } }
+        ensures { result
+            ≡ record {
+              asn = asn;
+              in_first = false;
+              in_second = true;
+              first = first.entry;
+              second = second.entry;
+            } }
     {
         Step {
             asn,
@@ -139,9 +154,13 @@ impl<'a> Found<'a> {
     fn find(choice: Choice, mut first: &'a [Asn], mut second: &'a [Asn]) -> Option<Self>
         requires first { IsAscending (values first.now) }
         requires second { IsAscending (values second.now) }
-        ensures none { IfNone result (passing (is_chosen choice (values first.now) (values second.now)) ≡ []) }
-        ensures found { IfSome result (λ f. passing (is_chosen choice (values first.now) (values second.now)) ≡ f.asn.value ∷ passing (is_chosen choice (values f.first.now) (values f.second.now))) }
-        ensures ascending { IfSome result (λ f. IsAscending (values f.first.now) × IsAscending (values f.second.now)) }
+        ensures none { IfNone result
+            (passing (is_chosen choice (values first.now) (values second.now)) ≡ []) }
+        ensures found { IfSome result (λ f. passing
+            (is_chosen choice (values first.now) (values second.now))
+            ≡ f.asn.value ∷ passing (is_chosen choice (values f.first.now) (values f.second.now))) }
+        ensures ascending { IfSome result
+            (λ f. IsAscending (values f.first.now) × IsAscending (values f.second.now)) }
     {
         while let Some(step) = Step::least(first, second) {
             if choice.takes(step.in_first, step.in_second) {

@@ -53,7 +53,8 @@ impl SmallAsnSet {
     ) -> Result<Self, AllocError>
         requires can { I.can_next asns }
         requires ends { IsFinite (I.remaining asns) }
-        ensures { IfOk result (λ s. (came : List Asn) × DrainsIf I.next_gives ⊤ asns came × IsListOf (InList (values came)) s) }
+        ensures { IfOk result (λ s. (came : List Asn) × DrainsIf I.next_gives ⊤ asns came
+            × IsListOf (InList (values came)) s) }
     {
         let mut asns: Vec<Asn> = asns.collect(alloc)?;
         sort(&mut asns);
@@ -120,7 +121,9 @@ impl SmallAsnSet {
         &'a self,
         other: &'a SmallAsnSet,
     ) -> SmallSetSymmetricDifference<'a>
-        ensures { IsListOf (λ n. (InList self.now n × ¬ (InList other.now n)) ⊎ (InList other.now n × ¬ (InList self.now n))) result }
+        ensures { IsListOf
+            (λ n. (InList self.now n × ¬ (InList other.now n))
+            ⊎ (InList other.now n × ¬ (InList self.now n))) result }
     {
         SmallSetSymmetricDifference {
             selection: Selection::new(Choice::OneOnly, &self.asns, &other.asns),

@@ -38,7 +38,8 @@ pub trait Block: Copy {
 
     /// The item behind this one; none behind the last.
     fn next(item: Self::Item) -> Option<Self::Item>
-        ensures { MatchOption result (place item ≡ last_place) (λ after. place after ≡ place item + 1) };
+        ensures { MatchOption result (place item ≡ last_place)
+            (λ after. place after ≡ place item + 1) };
 
     /// The item before this one; none before the first.
     fn previous(item: Self::Item) -> Option<Self::Item>
@@ -89,7 +90,8 @@ pub trait Block: Copy {
     /// The block of all items of both where the two overlap or touch.
     final fn sum(&self, other: &Self) -> Option<Self>
         ensures { MatchOption result (¬ (Touch (run self.now) (run other.now)))
-            (λ s. Touch (run self.now) (run other.now) × ((n : ℕ) → InRun (run s) n ↔ (InRun (run self.now) n ⊎ InRun (run other.now) n))) }
+            (λ s. Touch (run self.now) (run other.now)
+            × ((n : ℕ) → InRun (run s) n ↔ (InRun (run self.now) n ⊎ InRun (run other.now) n))) }
     {
         if is_apart(self, other) || is_apart(other, self) {
             return None;

@@ -95,7 +95,8 @@ impl<'a, B: Block> Chain<'a, B> {
         alloc: Global,
         other: &Chain<'_, B>,
     ) -> Result<Option<OwnedChain<B>>, AllocError>
-        ensures { IfOk result (λ t. MatchOption t (IsInside self.now other.now) (λ c. ¬ (IsInside self.now other.now) × IsRunsOf (InBoth self.now other.now) c)) }
+        ensures { IfOk result (λ t. MatchOption t (IsInside self.now other.now)
+            (λ c. ¬ (IsInside self.now other.now) × IsRunsOf (InBoth self.now other.now) c)) }
     {
         match walk::trim(alloc, self.blocks, other.blocks)? {
             Some(blocks) => Ok(Some(OwnedChain { blocks })),
@@ -213,7 +214,8 @@ impl<B: Block> OwnedChain<B> {
     ) -> Result<Self, AllocError>
         requires can { I.can_next blocks }
         requires ends { IsFinite (I.remaining blocks) }
-        ensures { IfOk result (λ c. (came : List B) × DrainsIf I.next_gives ⊤ blocks came × IsRunsOf (InRuns (map B.run came)) c) }
+        ensures { IfOk result (λ c. (came : List B) × DrainsIf I.next_gives ⊤ blocks came
+            × IsRunsOf (InRuns (map B.run came)) c) }
     {
         let blocks: Vec<B> = blocks.collect(alloc)?;
         OwnedChain::from_vec(alloc, blocks)
@@ -311,7 +313,8 @@ impl<B: Block> SharedChain<B> {
     ) -> Result<Self, AllocError>
         requires can { I.can_next blocks }
         requires ends { IsFinite (I.remaining blocks) }
-        ensures { IfOk result (λ c. (came : List B) × DrainsIf I.next_gives ⊤ blocks came × IsRunsOf (InRuns (map B.run came)) c) }
+        ensures { IfOk result (λ c. (came : List B) × DrainsIf I.next_gives ⊤ blocks came
+            × IsRunsOf (InRuns (map B.run came)) c) }
     {
         SharedChain::from_owned(alloc, OwnedChain::from_iter(alloc, blocks)?)
     }

@@ -87,7 +87,8 @@ impl<B: Block> SharedChain<B> {
         mode: Overclaim,
     ) -> Result<SharedChain<B>, ClaimError<SharedChain<B>>>
         ensures fits { OnOk result (FitsIn mode (C.choice claim.now) (InRuns self.now)) }
-        ensures held { IfOk result (λ held. IsRunsOf (Kept (C.choice claim.now) (InRuns self.now)) held) }
+        ensures held { IfOk result
+            (λ held. IsRunsOf (Kept (C.choice claim.now) (InRuns self.now)) held) }
         ensures refused { IfErr result (Refuses mode (C.choice claim.now) (InRuns self.now)) }
         ensures present { OnErr result (¬ (C.choice claim.now ≡ Missing)) }
     {
@@ -129,8 +130,10 @@ impl<B: Block> SharedChain<B> {
         path: &[(C, Overclaim)],
     ) -> Result<SharedChain<B>, ClaimError<SharedChain<B>>>
         ensures fits { OnOk result (FitsAlong (InRuns self.now) (path_of C.choice path.now)) }
-        ensures held { IfOk result (λ held. IsRunsOf (HeldAlong (InRuns self.now) (path_of C.choice path.now)) held) }
-        ensures refused { IfErr result (RefusesAlong (InRuns self.now) (path_of C.choice path.now)) }
+        ensures held { IfOk result
+            (λ held. IsRunsOf (HeldAlong (InRuns self.now) (path_of C.choice path.now)) held) }
+        ensures refused { IfErr result
+            (RefusesAlong (InRuns self.now) (path_of C.choice path.now)) }
     {
         let mut held = self.clone()?;
         for (claim, mode) in path {

@@ -5,7 +5,8 @@ ghost use Rattle.resources_chain.specs.Sets.{Run, InRuns, AreMaximal, InBoth, In
 
 /// Lists of maximal runs are equal exactly where their sets are.
 pub fn equal_lists_are_equal_sets()
-    ensures { (a b : List Run) → AreMaximal a → AreMaximal b → (a ≡ b) ↔ ((n : ℕ) → InRuns a n ↔ InRuns b n) }
+    ensures { (a b : List Run) → AreMaximal a → AreMaximal b → (a ≡ b)
+        ↔ ((n : ℕ) → InRuns a n ↔ InRuns b n) }
 {}
 
 /// One set is inside another exactly where its difference with the other is empty.

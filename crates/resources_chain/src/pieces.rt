@@ -5,7 +5,8 @@ ghost use Rattle.resources_chain.specs.Lists.{CutsPiece, HasNoComma};
 
 /// The first piece of a list, and what stands behind its comma and behind a space there; none where there is no comma.
 pub fn cut_piece(text: &str) -> Option<(&str, &str)>
-    ensures { MatchOption result (HasNoComma text.now) (λ parts. CutsPiece text.now parts.0.now parts.1.now) }
+    ensures { MatchOption result (HasNoComma text.now)
+        (λ parts. CutsPiece text.now parts.0.now parts.1.now) }
 {
     let Some((piece, behind)) = text.split_once(',') else {
         return None;

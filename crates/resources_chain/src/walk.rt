@@ -15,7 +15,8 @@ use std::ops::RangeInclusive;
 pub(crate) fn add<B: Block>(blocks: &mut Vec<B>, block: B) -> Result<(), AllocError>
     requires maximal { AreMaximal (map B.run blocks.old.items) }
     requires order { BeginBy (B.run block).first (map B.run blocks.old.items) }
-    ensures { OnOk result (Adds (map B.run blocks.old.items) (map B.run blocks.new.items) (B.run block)) }
+    ensures { OnOk result
+        (Adds (map B.run blocks.old.items) (map B.run blocks.new.items) (B.run block)) }
 {
     let Some(last) = blocks.pop() else {
         blocks.push(block)?;
@@ -33,7 +34,9 @@ pub(crate) fn add<B: Block>(blocks: &mut Vec<B>, block: B) -> Result<(), AllocEr
 
 /// The block of the items before this one, where there are any.
 fn part_before<B: Block>(block: &B, item: B::Item) -> Option<B>
-    ensures { MatchOption result (B.place item ≤ (B.run block.now).first) (λ part. ((B.run part).first ≡ (B.run block.now).first) × ((B.run part).last + 1 ≡ min ((B.run block.now).last + 1) (B.place item))) }
+    ensures { MatchOption result (B.place item ≤ (B.run block.now).first)
+        (λ part. ((B.run part).first ≡ (B.run block.now).first)
+        × ((B.run part).last + 1 ≡ min ((B.run block.now).last + 1) (B.place item))) }
 {
     let end = B::previous(item)?;
     if comes_before::<B>(end, block.min()) {
@@ -49,7 +52,9 @@ fn part_before<B: Block>(block: &B, item: B::Item) -> Option<B>
 
 /// The block of the items behind this one, where there are any.
 fn part_behind<B: Block>(block: &B, item: B::Item) -> Option<B>
-    ensures { MatchOption result ((B.run block.now).last ≤ B.place item) (λ part. ((B.run part).first ≡ max (B.run block.now).first (B.place item + 1)) × ((B.run part).last ≡ (B.run block.now).last)) }
+    ensures { MatchOption result ((B.run block.now).last ≤ B.place item)
+        (λ part. ((B.run part).first ≡ max (B.run block.now).first (B.place item + 1))
+        × ((B.run part).last ≡ (B.run block.now).last)) }
 {
     let start = B::next(item)?;
     if comes_before::<B>(block.max(), start) {
@@ -65,8 +70,11 @@ fn part_behind<B: Block>(block: &B, item: B::Item) -> Option<B>
 
 /// The block of the items of both, where there are any.
 fn common_part<B: Block>(one: &B, other: &B) -> Option<B>
-    ensures { MatchOption result (((B.run one.now).last < (B.run other.now).first) ⊎ ((B.run other.now).last < (B.run one.now).first))
-        (λ part. ((B.run part).first ≡ max (B.run one.now).first (B.run other.now).first) × ((B.run part).last ≡ min (B.run one.now).last (B.run other.now).last)) }
+    ensures { MatchOption result
+        (((B.run one.now).last < (B.run other.now).first)
+        ⊎ ((B.run other.now).last < (B.run one.now).first))
+        (λ part. ((B.run part).first ≡ max (B.run one.now).first (B.run other.now).first)
+        × ((B.run part).last ≡ min (B.run one.now).last (B.run other.now).last)) }
 {
     if ends_before(one, other) || ends_before(other, one) {
         return None;
@@ -88,7 +96,9 @@ fn common_part<B: Block>(one: &B, other: &B) -> Option<B>
 fn add_before<B: Block>(blocks: &mut Vec<B>, block: &B, item: B::Item) -> Result<(), AllocError>
     requires maximal { AreMaximal (map B.run blocks.old.items) }
     requires below { (n : ℕ) → InRuns (map B.run blocks.old.items) n → n < (B.run block.now).first }
-    ensures { OnOk result (AddsSet (map B.run blocks.old.items) (map B.run blocks.new.items) (λ n. InRun (B.run block.now) n × (n < B.place item))) }
+    ensures { OnOk result
+        (AddsSet (map B.run blocks.old.items) (map B.run blocks.new.items)
+        (λ n. InRun (B.run block.now) n × (n < B.place item))) }
 {
     match part_before(block, item) {
         Some(part) => add(blocks, part),
@@ -99,8 +109,11 @@ fn add_before<B: Block>(blocks: &mut Vec<B>, block: &B, item: B::Item) -> Result
 /// Adds the items of both blocks.
 fn add_common<B: Block>(blocks: &mut Vec<B>, one: &B, other: &B) -> Result<(), AllocError>
     requires maximal { AreMaximal (map B.run blocks.old.items) }
-    requires below { (m n : ℕ) → InRuns (map B.run blocks.old.items) m → InRun (B.run one.now) n → InRun (B.run other.now) n → m < n }
-    ensures { OnOk result (AddsSet (map B.run blocks.old.items) (map B.run blocks.new.items) (λ n. InRun (B.run one.now) n × InRun (B.run other.now) n)) }
+    requires below { (m n : ℕ) → InRuns (map B.run blocks.old.items) m → InRun (B.run one.now) n
+        → InRun (B.run other.now) n → m < n }
+    ensures { OnOk result
+        (AddsSet (map B.run blocks.old.items) (map B.run blocks.new.items)
+        (λ n. InRun (B.run one.now) n × InRun (B.run other.now) n)) }
 {
     match common_part(one, other) {
         Some(part) => add(blocks, part),
@@ -117,8 +130,11 @@ fn add_outside<'a, B: Block>(
     requires maximal { AreMaximal (map B.run blocks.old.items) }
     requires taken_maximal { AreMaximal (map B.run taken.now) }
     requires below { (n : ℕ) → InRuns (map B.run blocks.old.items) n → n < (B.run block).first }
-    ensures added { OnOk result (AddsSet (map B.run blocks.old.items) (map B.run blocks.new.items) (λ n. InRun (B.run block) n × ¬ (InRuns (map B.run taken.now) n))) }
-    ensures left { IfOk result (λ rest. SameFrom ((B.run block).last + 1) (map B.run taken.now) (map B.run rest.now)) }
+    ensures added { OnOk result
+        (AddsSet (map B.run blocks.old.items) (map B.run blocks.new.items)
+        (λ n. InRun (B.run block) n × ¬ (InRuns (map B.run taken.now) n))) }
+    ensures left { IfOk result
+        (λ rest. SameFrom ((B.run block).last + 1) (map B.run taken.now) (map B.run rest.now)) }
 {
     let mut piece = block;
     let mut rest = taken;
@@ -142,7 +158,8 @@ pub(crate) fn difference<B: Block>(
 ) -> Result<Vec<B>, AllocError>
     requires maximal { AreMaximal (map B.run blocks.now) }
     requires taken_maximal { AreMaximal (map B.run taken.now) }
-    ensures { IfOk result (λ v. IsRunsOf (InFirstOnly (map B.run blocks.now) (map B.run taken.now)) (map B.run v.items)) }
+    ensures { IfOk result (λ v. IsRunsOf (InFirstOnly (map B.run blocks.now) (map B.run taken.now))
+        (map B.run v.items)) }
 {
     let mut found = Vec::new(alloc);
     let mut rest = blocks;
@@ -159,8 +176,11 @@ fn add_all_common<B: Block>(blocks: &mut Vec<B>, one: &[B], other: &[B]) -> Resu
     requires maximal { AreMaximal (map B.run blocks.old.items) }
     requires one_maximal { AreMaximal (map B.run one.now) }
     requires other_maximal { AreMaximal (map B.run other.now) }
-    requires below { (m n : ℕ) → InRuns (map B.run blocks.old.items) m → InRuns (map B.run one.now) n → InRuns (map B.run other.now) n → m < n }
-    ensures { OnOk result (AddsSet (map B.run blocks.old.items) (map B.run blocks.new.items) (InBoth (map B.run one.now) (map B.run other.now))) }
+    requires below { (m n : ℕ) → InRuns (map B.run blocks.old.items) m
+        → InRuns (map B.run one.now) n → InRuns (map B.run other.now) n → m < n }
+    ensures { OnOk result
+        (AddsSet (map B.run blocks.old.items) (map B.run blocks.new.items)
+        (InBoth (map B.run one.now) (map B.run other.now))) }
 {
     let mut left = one;
     let mut right = other;
@@ -187,7 +207,8 @@ pub(crate) fn intersection<B: Block>(
 ) -> Result<Vec<B>, AllocError>
     requires one_maximal { AreMaximal (map B.run one.now) }
     requires other_maximal { AreMaximal (map B.run other.now) }
-    ensures { IfOk result (λ v. IsRunsOf (InBoth (map B.run one.now) (map B.run other.now)) (map B.run v.items)) }
+    ensures { IfOk result
+        (λ v. IsRunsOf (InBoth (map B.run one.now) (map B.run other.now)) (map B.run v.items)) }
 {
     let mut found = Vec::new(alloc);
     add_all_common(&mut found, one, other)?;
@@ -198,7 +219,8 @@ pub(crate) fn intersection<B: Block>(
 fn from_outside<'a, 'b, B: Block>(blocks: &'a [B], others: &'b [B]) -> (&'a [B], &'b [B])
     requires maximal { AreMaximal (map B.run blocks.now) }
     requires others_maximal { AreMaximal (map B.run others.now) }
-    ensures parts { InsideUpTo (map B.run blocks.now) (map B.run others.now) (map B.run result.0.now) (map B.run result.1.now) }
+    ensures parts { InsideUpTo (map B.run blocks.now) (map B.run others.now)
+        (map B.run result.0.now) (map B.run result.1.now) }
     ensures stops { FirstOutside (map B.run result.0.now) (map B.run result.1.now) }
 {
     let mut rest = blocks;
@@ -229,7 +251,8 @@ pub(crate) fn is_inside<B: Block>(blocks: &[B], others: &[B]) -> bool
 /// Whether all items of the block are in the list.
 pub(crate) fn has_block<B: Block>(blocks: &[B], block: &B) -> bool
     requires { AreMaximal (map B.run blocks.now) }
-    ensures { IsTrue result ↔ ((n : ℕ) → InRun (B.run block.now) n → InRuns (map B.run blocks.now) n) }
+    ensures { IsTrue result
+        ↔ ((n : ℕ) → InRun (B.run block.now) n → InRuns (map B.run blocks.now) n) }
 {
     match from_item(blocks, block.min()).split_first() {
         Some((first, _)) => block.is_encompassed(first),
@@ -245,8 +268,10 @@ pub(crate) fn trim<B: Block>(
 ) -> Result<Option<Vec<B>>, AllocError>
     requires maximal { AreMaximal (map B.run blocks.now) }
     requires others_maximal { AreMaximal (map B.run others.now) }
-    ensures { IfOk result (λ t. MatchOption t (IsInside (map B.run blocks.now) (map B.run others.now))
-        (λ v. ¬ (IsInside (map B.run blocks.now) (map B.run others.now)) × IsRunsOf (InBoth (map B.run blocks.now) (map B.run others.now)) (map B.run v.items))) }
+    ensures { IfOk result (λ t. MatchOption t
+        (IsInside (map B.run blocks.now) (map B.run others.now))
+        (λ v. ¬ (IsInside (map B.run blocks.now) (map B.run others.now))
+        × IsRunsOf (InBoth (map B.run blocks.now) (map B.run others.now)) (map B.run v.items))) }
 {
     let (rest, left) = from_outside(blocks, others);
     if rest.is_empty() {
@@ -261,7 +286,8 @@ pub(crate) fn trim<B: Block>(
 pub(crate) fn is_same<B: Block>(one: &[B], other: &[B]) -> bool
     requires one_maximal { AreMaximal (map B.run one.now) }
     requires other_maximal { AreMaximal (map B.run other.now) }
-    ensures { IsTrue result ↔ ((n : ℕ) → InRuns (map B.run one.now) n ↔ InRuns (map B.run other.now) n) }
+    ensures { IsTrue result
+        ↔ ((n : ℕ) → InRuns (map B.run one.now) n ↔ InRuns (map B.run other.now) n) }
 {
     is_inside(one, other) && is_inside(other, one)
 }
@@ -271,7 +297,9 @@ fn add_all<B: Block>(blocks: &mut Vec<B>, others: &[B]) -> Result<(), AllocError
     requires maximal { AreMaximal (map B.run blocks.old.items) }
     requires ascending { AreAscending (map B.run others.now) }
     requires order { BeginByFirst (map B.run blocks.old.items) (map B.run others.now) }
-    ensures { OnOk result (AddsSet (map B.run blocks.old.items) (map B.run blocks.new.items) (InRuns (map B.run others.now))) }
+    ensures { OnOk result
+        (AddsSet (map B.run blocks.old.items) (map B.run blocks.new.items)
+        (InRuns (map B.run others.now))) }
 {
     let mut rest = others;
     while let Some((first, behind)) = rest.split_first() {
@@ -294,7 +322,8 @@ pub(crate) fn joined<B: Block>(alloc: Global, blocks: &[B]) -> Result<Vec<B>, Al
 /// The first block where it begins before the item, and the blocks behind it.
 fn first_before<B: Block>(blocks: &[B], item: B::Item) -> Option<(&B, &[B])>
     ensures { MatchOption result (BeginFrom (B.place item) (map B.run blocks.now))
-        (λ parts. (blocks.now ≡ parts.0.now ∷ parts.1.now) × ((B.run parts.0.now).first < B.place item)) }
+        (λ parts. (blocks.now ≡ parts.0.now ∷ parts.1.now)
+        × ((B.run parts.0.now).first < B.place item)) }
 {
     let (first, behind) = blocks.split_first()?;
     if comes_before::<B>(first.min(), item) {
@@ -308,7 +337,8 @@ fn first_before<B: Block>(blocks: &[B], item: B::Item) -> Option<(&B, &[B])>
 pub(crate) fn union<B: Block>(alloc: Global, one: &[B], other: &[B]) -> Result<Vec<B>, AllocError>
     requires one_maximal { AreMaximal (map B.run one.now) }
     requires other_maximal { AreMaximal (map B.run other.now) }
-    ensures { IfOk result (λ v. IsRunsOf (InEither (map B.run one.now) (map B.run other.now)) (map B.run v.items)) }
+    ensures { IfOk result
+        (λ v. IsRunsOf (InEither (map B.run one.now) (map B.run other.now)) (map B.run v.items)) }
 {
     let mut found = Vec::new(alloc);
     let mut left = one;
@@ -339,7 +369,8 @@ fn by_beginning<B: Block>(one: &B, other: &B) -> Ordering
 /// Sorts blocks by where they begin.
 pub(crate) fn sort<B: Block>(blocks: &mut Vec<B>)
     ensures ascending { AreAscending (map B.run blocks.new.items) }
-    ensures same { (n : ℕ) → InRuns (map B.run blocks.new.items) n ↔ InRuns (map B.run blocks.old.items) n }
+    ensures same { (n : ℕ) → InRuns (map B.run blocks.new.items) n
+        ↔ InRuns (map B.run blocks.old.items) n }
 {
     blocks.sort_unstable_by(|one, other| by_beginning(one, other));
 }

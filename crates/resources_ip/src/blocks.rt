@@ -66,7 +66,8 @@ impl IpBlocks {
     ) -> Result<Self, AllocError>
         requires can { I.can_next blocks }
         requires ends { IsFinite (I.remaining blocks) }
-        ensures { IfOk result (λ s. (came : List IpBlock) × DrainsIf I.next_gives ⊤ blocks came × IsRunsOf (InRuns (map run_of_block came)) s) }
+        ensures { IfOk result (λ s. (came : List IpBlock) × DrainsIf I.next_gives ⊤ blocks came
+            × IsRunsOf (InRuns (map run_of_block came)) s) }
     {
         Ok(IpBlocks {
             chain: SharedChain::from_iter(alloc, blocks)?,
@@ -236,7 +237,8 @@ impl IpBlocks {
     /// The set that the resources list; none where they are missing.
     pub fn from_resources(resources: &IpResources) -> Result<Self, InheritedIpResources>
         ensures set { IfOk result (λ s. IsRunsOf (Lists resources.now) s) }
-        ensures inherited { IsErrOf result InheritedIpResources.Inherited ↔ (resources.now ≡ ResourcesChoice.Inherit) }
+        ensures inherited { IsErrOf result InheritedIpResources.Inherited
+            ↔ (resources.now ≡ ResourcesChoice.Inherit) }
         ensures present { OnErr result (¬ (resources.now ≡ ResourcesChoice.Missing)) }
     {
         resources.to_blocks()

@@ -24,7 +24,8 @@ fn gather<S: Source>(
     cons: &mut Constructed<S>,
     family: AddressFamily,
 ) -> Result<IpBlocksBuilder, DecodeError<S::Error>>
-    ensures { ReadsAllAs (λ b. b) (Many (IsBlock (here S.rest cons.old).mode family)) (here S.rest cons.old) result (here S.rest cons.new) }
+    ensures { ReadsAllAs (λ b. b) (Many (IsBlock (here S.rest cons.old).mode family))
+        (here S.rest cons.old) result (here S.rest cons.new) }
 {
     let mut blocks = IpBlocksBuilder::new(alloc);
     while let Some(block) = IpBlock::take_opt_from(alloc, cons, family)? {
@@ -39,7 +40,8 @@ fn blocks_in<S: Source>(
     cons: &mut Constructed<S>,
     family: AddressFamily,
 ) -> Result<IpBlocks, DecodeError<S::Error>>
-    ensures { ReadsAllAs (λ b. b) (AreBlocks (here S.rest cons.old).mode family) (here S.rest cons.old) result (here S.rest cons.new) }
+    ensures { ReadsAllAs (λ b. b) (AreBlocks (here S.rest cons.old).mode family)
+        (here S.rest cons.old) result (here S.rest cons.new) }
 {
     let blocks = gather(alloc, cons, family)?;
     let set = blocks.finalize(alloc)?;
@@ -54,13 +56,15 @@ impl IpBlocks {
         cons: &mut Constructed<S>,
         family: AddressFamily,
     ) -> Result<IpBlocks, DecodeError<S::Error>>
-        ensures reads { ReadsAs (λ b. b) (IsBlockList (here S.rest cons.old).mode family) (here S.rest cons.old) result (here S.rest cons.new) }
+        ensures reads { ReadsAs (λ b. b) (IsBlockList (here S.rest cons.old).mode family)
+            (here S.rest cons.old) result (here S.rest cons.new) }
         ensures fits { IfOk result (FitsSet family) }
         ensures failed { OnErr result ((here S.rest cons.new).failed ≡ true) }
     {
         cons.take_sequence(
             |cons|
-                ensures { ReadsAllAs (λ b. b) (AreBlocks (here S.rest cons.old).mode family) (here S.rest cons.old) result (here S.rest cons.new) }
+                ensures { ReadsAllAs (λ b. b) (AreBlocks (here S.rest cons.old).mode family)
+                    (here S.rest cons.old) result (here S.rest cons.new) }
             { blocks_in(alloc, cons, family) },
         )
     }
@@ -78,7 +82,8 @@ fn fields_in<S: Source>(
     alloc: Global,
     cons: &mut Constructed<S>,
 ) -> Result<IpFamily, DecodeError<S::Error>>
-    ensures { ReadsAllAs family_choice (AreFamilyFields (here S.rest cons.old).mode) (here S.rest cons.old) result (here S.rest cons.new) }
+    ensures { ReadsAllAs family_choice (AreFamilyFields (here S.rest cons.old).mode)
+        (here S.rest cons.old) result (here S.rest cons.new) }
 {
     let family = AddressFamily::take_from(alloc, cons)?;
     let resources = IpResources::take_from(alloc, cons, family)?;
@@ -90,11 +95,13 @@ fn take_family<S: Source>(
     alloc: Global,
     cons: &mut Constructed<S>,
 ) -> Result<IpFamily, DecodeError<S::Error>>
-    ensures { ReadsAs family_choice (IsIpFamily (here S.rest cons.old).mode) (here S.rest cons.old) result (here S.rest cons.new) }
+    ensures { ReadsAs family_choice (IsIpFamily (here S.rest cons.old).mode) (here S.rest cons.old)
+        result (here S.rest cons.new) }
 {
     cons.take_sequence(
         |cons|
-            ensures { ReadsAllAs family_choice (AreFamilyFields (here S.rest cons.old).mode) (here S.rest cons.old) result (here S.rest cons.new) }
+            ensures { ReadsAllAs family_choice (AreFamilyFields (here S.rest cons.old).mode)
+                (here S.rest cons.old) result (here S.rest cons.new) }
         { fields_in(alloc, cons) },
     )
 }
@@ -104,11 +111,13 @@ fn take_opt_family<S: Source>(
     alloc: Global,
     cons: &mut Constructed<S>,
 ) -> Result<Option<IpFamily>, DecodeError<S::Error>>
-    ensures { ReadsOptAs family_choice (universal 16) (IsIpFamily (here S.rest cons.old).mode) (here S.rest cons.old) result (here S.rest cons.new) }
+    ensures { ReadsOptAs family_choice (universal 16) (IsIpFamily (here S.rest cons.old).mode)
+        (here S.rest cons.old) result (here S.rest cons.new) }
 {
     cons.take_opt_sequence(
         |cons|
-            ensures { ReadsAllAs family_choice (AreFamilyFields (here S.rest cons.old).mode) (here S.rest cons.old) result (here S.rest cons.new) }
+            ensures { ReadsAllAs family_choice (AreFamilyFields (here S.rest cons.old).mode)
+                (here S.rest cons.old) result (here S.rest cons.new) }
         { fields_in(alloc, cons) },
     )
 }
@@ -125,7 +134,8 @@ fn pair_in<S: Source>(
     alloc: Global,
     cons: &mut Constructed<S>,
 ) -> Result<Pair, DecodeError<S::Error>>
-    ensures { ReadsAllAs pair_fields (ArePair (here S.rest cons.old).mode) (here S.rest cons.old) result (here S.rest cons.new) }
+    ensures { ReadsAllAs pair_fields (ArePair (here S.rest cons.old).mode) (here S.rest cons.old)
+        result (here S.rest cons.new) }
 {
     let first = take_family(alloc, cons)?;
     let second = take_opt_family(alloc, cons)?;
@@ -150,7 +160,9 @@ fn alone(only: IpFamily) -> IpFamilies
 
 // What is said where both are; none where they are the same.
 fn both(first: IpFamily, second: IpFamily) -> Option<IpFamilies>
-    ensures { MatchOption result (second.family ≡ first.family) (λ all. (second.family ≢ first.family) × (family_choices all ≡ choices_of (family_choice first ∷ family_choice second ∷ []))) }
+    ensures { MatchOption result (second.family ≡ first.family)
+        (λ all. (second.family ≢ first.family)
+        × (family_choices all ≡ choices_of (family_choice first ∷ family_choice second ∷ []))) }
 {
     match (first.family, second.family) {
         (AddressFamily::Ipv4, AddressFamily::Ipv6) => Some(IpFamilies {
@@ -167,7 +179,9 @@ fn both(first: IpFamily, second: IpFamily) -> Option<IpFamilies>
 
 // What a pair says; nothing where a family occurs twice.
 fn families_of(pair: Pair) -> Option<IpFamilies>
-    ensures { MatchOption result (Repeats (pair_fields pair).0 (pair_fields pair).1.0) (λ all. ¬ (Repeats (pair_fields pair).0 (pair_fields pair).1.0) × (family_choices all ≡ choices_of (all_of (pair_fields pair).0 (pair_fields pair).1.0))) }
+    ensures { MatchOption result (Repeats (pair_fields pair).0 (pair_fields pair).1.0)
+        (λ all. ¬ (Repeats (pair_fields pair).0 (pair_fields pair).1.0)
+        × (family_choices all ≡ choices_of (all_of (pair_fields pair).0 (pair_fields pair).1.0))) }
 {
     let Pair { first, second } = pair;
     match second {
@@ -181,7 +195,8 @@ fn families_in<S: Source>(
     alloc: Global,
     cons: &mut Constructed<S>,
 ) -> Result<IpFamilies, DecodeError<S::Error>>
-    ensures { ReadsAllAs family_choices (AreIpFamilies (here S.rest cons.old).mode) (here S.rest cons.old) result (here S.rest cons.new) }
+    ensures { ReadsAllAs family_choices (AreIpFamilies (here S.rest cons.old).mode)
+        (here S.rest cons.old) result (here S.rest cons.new) }
 {
     let pair = pair_in(alloc, cons)?;
     match families_of(pair) {
@@ -202,7 +217,8 @@ impl IpResources {
         cons: &mut Constructed<S>,
         family: AddressFamily,
     ) -> Result<IpResources, DecodeError<S::Error>>
-        ensures reads { ReadsAs (λ r. r) (IsIpChoice (here S.rest cons.old).mode family) (here S.rest cons.old) result (here S.rest cons.new) }
+        ensures reads { ReadsAs (λ r. r) (IsIpChoice (here S.rest cons.old).mode family)
+            (here S.rest cons.old) result (here S.rest cons.new) }
         ensures fits { IfOk result (FitsChoice family) }
         ensures whole { IfOk result (λ r. family ≡ V4 → ListsWhole r) }
         ensures failed { OnErr result ((here S.rest cons.new).failed ≡ true) }
@@ -221,7 +237,8 @@ impl IpResources {
         alloc: Global,
         cons: &mut Constructed<S>,
     ) -> Result<IpFamilies, DecodeError<S::Error>>
-        ensures reads { ReadsAs family_choices (IsIpAddrBlocks (here S.rest cons.old).mode) (here S.rest cons.old) result (here S.rest cons.new) }
+        ensures reads { ReadsAs family_choices (IsIpAddrBlocks (here S.rest cons.old).mode)
+            (here S.rest cons.old) result (here S.rest cons.new) }
         ensures fits_v4 { IfOk result (λ x. FitsChoice V4 x.v4) }
         ensures fits_v6 { IfOk result (λ x. FitsChoice V6 x.v6) }
         ensures whole { IfOk result (λ x. ListsWhole x.v4) }
@@ -229,7 +246,8 @@ impl IpResources {
     {
         cons.take_sequence(
             |cons|
-                ensures { ReadsAllAs family_choices (AreIpFamilies (here S.rest cons.old).mode) (here S.rest cons.old) result (here S.rest cons.new) }
+                ensures { ReadsAllAs family_choices (AreIpFamilies (here S.rest cons.old).mode)
+                    (here S.rest cons.old) result (here S.rest cons.new) }
             { families_in(alloc, cons) },
         )
     }

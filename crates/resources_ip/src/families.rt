@@ -40,7 +40,8 @@ type FieldsEncoder<'a> = Constructed<(OctetSliceEncoder<&'static [u8]>, &'a IpRe
 // The fields of a family (RFC 3779 2.2.3.2).
 fn fields<'a>(family: AddressFamily, resources: &'a IpResources) -> FieldsEncoder<'a>
     ensures sequence { result.tag ≡ universal 16 }
-    ensures family { (result.inner.0.tag ≡ octet_string_tag) × (result.inner.0.octets.now ≡ family_octets family) }
+    ensures family { (result.inner.0.tag ≡ octet_string_tag)
+        × (result.inner.0.octets.now ≡ family_octets family) }
     ensures resources { result.inner.1.now ≡ resources.now }
 {
     Constructed {
@@ -56,7 +57,9 @@ fn family_len(
     mode: Mode,
 ) -> Result<usize, EncodeError>
     ensures len { IfOk result (HasLength (WritesFamily mode family resources.now)) }
-    ensures refused { IfErr result (CannotWrite (FamilyTrees mode family resources.now) (WritesFamily mode family resources.now)) }
+    ensures refused { IfErr result
+        (CannotWrite (FamilyTrees mode family resources.now)
+        (WritesFamily mode family resources.now)) }
 {
     if is_said(resources) {
         let value = fields(family, resources);
@@ -72,8 +75,13 @@ fn write_family<W: Write>(
     mode: Mode,
     target: &mut W,
 ) -> Result<(), EncodeError>
-    ensures written { OnOk result (Wrote (WritesFamily mode family resources.now) (W.contents target.old) (W.contents target.new)) }
-    ensures refused { IfErr result (WriteRefused (FamilyTrees mode family resources.now) (WritesFamily mode family resources.now) (target.new ≡ target.old) (W.contents target.old) (W.contents target.new)) }
+    ensures written { OnOk result
+        (Wrote (WritesFamily mode family resources.now) (W.contents target.old)
+        (W.contents target.new)) }
+    ensures refused { IfErr result
+        (WriteRefused (FamilyTrees mode family resources.now)
+        (WritesFamily mode family resources.now) (target.new ≡ target.old) (W.contents target.old)
+        (W.contents target.new)) }
 {
     if is_said(resources) {
         let value = fields(family, resources);
@@ -133,7 +141,9 @@ fn list<'a>(v4: &'a IpResources, v6: &'a IpResources) -> ListEncoder<'a>
 // How many octets both families have when they are written.
 fn families_len(v4: &IpResources, v6: &IpResources, mode: Mode) -> Result<usize, EncodeError>
     ensures len { IfOk result (HasLength (WritesFamilies mode (both v4.now v6.now))) }
-    ensures refused { IfErr result (CannotWrite (FamiliesTrees mode (both v4.now v6.now)) (WritesFamilies mode (both v4.now v6.now))) }
+    ensures refused { IfErr result
+        (CannotWrite (FamiliesTrees mode (both v4.now v6.now))
+        (WritesFamilies mode (both v4.now v6.now))) }
 {
     if is_any_said(v4, v6) {
         let value = list(v4, v6);
@@ -149,8 +159,13 @@ fn write_families<W: Write>(
     mode: Mode,
     target: &mut W,
 ) -> Result<(), EncodeError>
-    ensures written { OnOk result (Wrote (WritesFamilies mode (both v4.now v6.now)) (W.contents target.old) (W.contents target.new)) }
-    ensures refused { IfErr result (WriteRefused (FamiliesTrees mode (both v4.now v6.now)) (WritesFamilies mode (both v4.now v6.now)) (target.new ≡ target.old) (W.contents target.old) (W.contents target.new)) }
+    ensures written { OnOk result
+        (Wrote (WritesFamilies mode (both v4.now v6.now)) (W.contents target.old)
+        (W.contents target.new)) }
+    ensures refused { IfErr result
+        (WriteRefused (FamiliesTrees mode (both v4.now v6.now))
+        (WritesFamilies mode (both v4.now v6.now)) (target.new ≡ target.old) (W.contents target.old)
+        (W.contents target.new)) }
 {
     if is_any_said(v4, v6) {
         let value = list(v4, v6);

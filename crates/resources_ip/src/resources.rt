@@ -225,7 +225,9 @@ impl IpResourcesBuilder {
         build: F,
     ) -> Result<(), AllocError>
         requires { F.IsAlwaysCallable build }
-        ensures ok { OnOk result ((pushed : List Run) × FnOnceReturnsAtMut F.FnOnce build [] (Ok tt) pushed × (self.new ≡ Blocks (listed self.old ++ pushed))) }
+        ensures ok { OnOk result
+            ((pushed : List Run) × FnOnceReturnsAtMut F.FnOnce build [] (Ok tt) pushed
+            × (self.new ≡ Blocks (listed self.old ++ pushed))) }
         ensures err { OnErr result (self.new ≡ self.old) }
     {
         let mut pushed = IpBlocksBuilder::new(alloc);
@@ -250,7 +252,8 @@ impl IpResourcesBuilder {
     /// The resources. Memory is wanted only for a list.
     pub fn finalize(self, alloc: Global) -> Result<IpResources, AllocError>
         ensures choice { IfOk result (λ resources. IsChoiceOf self resources) }
-        ensures fits_v4 { IfOk result (λ resources. AreWhole (listed self) → FitsChoice Ipv4 resources) }
+        ensures fits_v4 { IfOk result
+            (λ resources. AreWhole (listed self) → FitsChoice Ipv4 resources) }
         ensures fits_v6 { IfOk result (FitsChoice Ipv6) }
         ensures listed { OnErr result ((runs : List Run) × (self ≡ Blocks runs)) }
     {

@@ -66,7 +66,8 @@ impl IpBlocks {
 // How many octets `inherit` has.
 fn inherit_len(mode: Mode) -> Result<usize, EncodeError>
     ensures len { IfOk result (HasLength (WritesIpResources mode Inherit)) }
-    ensures refused { IfErr result (CannotWrite (AreIpResources mode Inherit) (WritesIpResources mode Inherit)) }
+    ensures refused { IfErr result
+        (CannotWrite (AreIpResources mode Inherit) (WritesIpResources mode Inherit)) }
 {
     let inherit = Primitive {
         tag: Tag::NULL,
@@ -77,8 +78,11 @@ fn inherit_len(mode: Mode) -> Result<usize, EncodeError>
 
 // Writes `inherit`.
 fn write_inherit<W: Write>(mode: Mode, target: &mut W) -> Result<(), EncodeError>
-    ensures written { OnOk result (Wrote (WritesIpResources mode Inherit) (W.contents target.old) (W.contents target.new)) }
-    ensures refused { IfErr result (WriteRefused (AreIpResources mode Inherit) (WritesIpResources mode Inherit) (target.new ≡ target.old) (W.contents target.old) (W.contents target.new)) }
+    ensures written { OnOk result
+        (Wrote (WritesIpResources mode Inherit) (W.contents target.old) (W.contents target.new)) }
+    ensures refused { IfErr result
+        (WriteRefused (AreIpResources mode Inherit) (WritesIpResources mode Inherit)
+        (target.new ≡ target.old) (W.contents target.old) (W.contents target.new)) }
 {
     let inherit = Primitive {
         tag: Tag::NULL,

@@ -29,14 +29,17 @@ impl IpBlock {
     /// The block of all addresses.
     pub fn all() -> Self
         ensures form { HasOneForm result }
-        ensures run { run_of_block result ≡ record { first = 0; last = 340282366920938463463374607431768211455 } }
+        ensures run { run_of_block result
+            ≡ record { first = 0; last = 340282366920938463463374607431768211455 } }
     {
         IpBlock::Prefix(Prefix::new(Addr::from_bits(0), 0))
     }
 
     /// Whether the block has all addresses.
     pub fn is_slash_zero(&self) -> bool
-        ensures { IsTrue result ↔ (run_of_block self.now ≡ record { first = 0; last = 340282366920938463463374607431768211455 }) }
+        ensures { IsTrue result
+            ↔ (run_of_block self.now
+            ≡ record { first = 0; last = 340282366920938463463374607431768211455 }) }
     {
         self.min().to_bits() == 0 && self.max().to_bits() == u128::MAX
     }
@@ -82,7 +85,9 @@ impl IpBlock {
     // The prefix of the same addresses, or else the range.
     pub(crate) fn as_prefix(&self) -> Result<Prefix, AddressRange>
         ensures { MatchResult result (λ p. run_of_prefix p ≡ run_of_block self.now)
-            (λ r. (run_of_range r ≡ run_of_block self.now) × ((addr len : ℕ) → len ≤ 128 → first_of len addr ≡ addr → prefix_run addr len ≢ run_of_block self.now)) }
+            (λ r. (run_of_range r ≡ run_of_block self.now)
+            × ((addr len : ℕ) → len ≤ 128 → first_of len addr ≡ addr
+            → prefix_run addr len ≢ run_of_block self.now)) }
     {
         match self {
             IpBlock::Prefix(prefix) => Ok(*prefix),

@@ -19,14 +19,16 @@ impl AddressRange {
     /// The prefixes that cover the range: those that lie in it and whose parent doesn't, ascending. There is no
     /// shorter list of prefixes with exactly its addresses.
     pub fn to_v6_prefixes(self) -> RangePrefixes
-        ensures { (prefixes : List _) → Drains gives result prefixes → IsCover (run_of_range self) prefixes }
+        ensures { (prefixes : List _) → Drains gives result prefixes
+            → IsCover (run_of_range self) prefixes }
     {
         RangePrefixes { left: Some(self) }
     }
 
     /// The prefixes over whole IPv4 addresses, from the first 32 bits of its first address to those of its last.
     pub fn to_v4_prefixes(self) -> RangePrefixes
-        ensures { (prefixes : List _) → Drains gives result prefixes → IsCover (filled (run_of_range self)) prefixes }
+        ensures { (prefixes : List _) → Drains gives result prefixes
+            → IsCover (filled (run_of_range self)) prefixes }
     {
         AddressRange::new(self.min().to_min(32), self.max().to_max(32)).to_v6_prefixes()
     }

@@ -28,7 +28,8 @@ fn bounds_in<S: Source>(
     cons: &mut Constructed<S>,
     family: AddressFamily,
 ) -> Result<Bounds, DecodeError<S::Error>>
-    ensures { ReadsAllAs bounds_ends (AreEnds (here S.rest cons.old).mode family) (here S.rest cons.old) result (here S.rest cons.new) }
+    ensures { ReadsAllAs bounds_ends (AreEnds (here S.rest cons.old).mode family)
+        (here S.rest cons.old) result (here S.rest cons.new) }
 {
     let min = Prefix::take_from(alloc, cons, family)?;
     let max = Prefix::take_from(alloc, cons, family)?;
@@ -41,7 +42,8 @@ fn range_in<S: Source>(
     cons: &mut Constructed<S>,
     family: AddressFamily,
 ) -> Result<AddressRange, DecodeError<S::Error>>
-    ensures { ReadsAllAs run_of_range (AreOrdered (here S.rest cons.old).mode family) (here S.rest cons.old) result (here S.rest cons.new) }
+    ensures { ReadsAllAs run_of_range (AreOrdered (here S.rest cons.old).mode family)
+        (here S.rest cons.old) result (here S.rest cons.new) }
 {
     let bounds = bounds_in(alloc, cons, family)?;
     let min = bounds.min.min();
@@ -62,12 +64,14 @@ impl AddressRange {
         cons: &mut Constructed<S>,
         family: AddressFamily,
     ) -> Result<AddressRange, DecodeError<S::Error>>
-        ensures reads { ReadsAs run_of_range (IsRange (here S.rest cons.old).mode family) (here S.rest cons.old) result (here S.rest cons.new) }
+        ensures reads { ReadsAs run_of_range (IsRange (here S.rest cons.old).mode family)
+            (here S.rest cons.old) result (here S.rest cons.new) }
         ensures failed { OnErr result ((here S.rest cons.new).failed ≡ true) }
     {
         cons.take_sequence(
             |cons|
-                ensures { ReadsAllAs run_of_range (AreOrdered (here S.rest cons.old).mode family) (here S.rest cons.old) result (here S.rest cons.new) }
+                ensures { ReadsAllAs run_of_range (AreOrdered (here S.rest cons.old).mode family)
+                    (here S.rest cons.old) result (here S.rest cons.new) }
             { range_in(alloc, cons, family) },
         )
     }
@@ -78,12 +82,15 @@ impl AddressRange {
         cons: &mut Constructed<S>,
         family: AddressFamily,
     ) -> Result<Option<AddressRange>, DecodeError<S::Error>>
-        ensures reads { ReadsOptAs run_of_range (universal 16) (IsRange (here S.rest cons.old).mode family) (here S.rest cons.old) result (here S.rest cons.new) }
+        ensures reads { ReadsOptAs run_of_range (universal 16)
+            (IsRange (here S.rest cons.old).mode family) (here S.rest cons.old) result
+            (here S.rest cons.new) }
         ensures failed { OnErr result ((here S.rest cons.new).failed ≡ true) }
     {
         cons.take_opt_sequence(
             |cons|
-                ensures { ReadsAllAs run_of_range (AreOrdered (here S.rest cons.old).mode family) (here S.rest cons.old) result (here S.rest cons.new) }
+                ensures { ReadsAllAs run_of_range (AreOrdered (here S.rest cons.old).mode family)
+                    (here S.rest cons.old) result (here S.rest cons.new) }
             { range_in(alloc, cons, family) },
         )
     }
@@ -97,7 +104,8 @@ impl IpBlock {
         cons: &mut Constructed<S>,
         family: AddressFamily,
     ) -> Result<Option<IpBlock>, DecodeError<S::Error>>
-        ensures reads { ReadsIfAs run_of_block (IsBlock (here S.rest cons.old).mode family) (here S.rest cons.old) result (here S.rest cons.new) }
+        ensures reads { ReadsIfAs run_of_block (IsBlock (here S.rest cons.old).mode family)
+            (here S.rest cons.old) result (here S.rest cons.new) }
         ensures failed { OnErr result ((here S.rest cons.new).failed ≡ true) }
     {
         let prefix = Prefix::take_opt_from(alloc, cons, family)?;

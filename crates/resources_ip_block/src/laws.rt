@@ -32,7 +32,10 @@ pub fn prefixes_of_whole_addresses_are_short()
 /// (RFC 3779 2.2.3.7); as one of IPv4 where it is over whole addresses.
 #[tactic(auto, using(crate::proofs::Again::block_again))]
 pub fn a_block_is_read_again()
-    ensures { (m : ModeValue) (family : FamilyValue) (run : Run) (x : EitherValue (PrimitiveValue PrefixValue) RangeValue) (ts : Trees) → run.first ≤ run.last → FitsRun family run → EncodesBlock run x → BlockTrees m x ts → ReadsBlock m family run ts }
+    ensures { (m : ModeValue) (family : FamilyValue) (run : Run)
+        (x : EitherValue (PrimitiveValue PrefixValue) RangeValue) (ts : Trees)
+        → run.first ≤ run.last → FitsRun family run → EncodesBlock run x → BlockTrees m x ts
+        → ReadsBlock m family run ts }
 {}
 
 /// A block that is read as one of IPv4 is over whole addresses.

@@ -67,7 +67,9 @@ impl AddressRange {
     /// The prefix of the same addresses; the range itself where there is none.
     pub fn into_prefix(self) -> Result<Prefix, Self>
         ensures { MatchResult result (λ p. run_of_prefix p ≡ run_of_range self)
-            (λ r. (r ≡ self) × ((addr len : ℕ) → len ≤ 128 → first_of len addr ≡ addr → prefix_run addr len ≢ run_of_range self)) }
+            (λ r. (r ≡ self)
+            × ((addr len : ℕ) → len ≤ 128 → first_of len addr ≡ addr
+            → prefix_run addr len ≢ run_of_range self)) }
     {
         let min = self.min();
         let max = self.max();
@@ -83,14 +85,16 @@ impl AddressRange {
 
 // The address behind this one; none behind the last.
 pub(crate) fn after(addr: Addr) -> Option<Addr>
-    ensures { MatchOption result (bits_of addr ≡ 340282366920938463463374607431768211455) (λ next. bits_of next ≡ bits_of addr + 1) }
+    ensures { MatchOption result (bits_of addr ≡ 340282366920938463463374607431768211455)
+        (λ next. bits_of next ≡ bits_of addr + 1) }
 {
     Some(Addr::from_bits(addr.to_bits().checked_add(1)?))
 }
 
 // The address before this one; none before the first.
 pub(crate) fn before(addr: Addr) -> Option<Addr>
-    ensures { MatchOption result (bits_of addr ≡ 0) (λ previous. bits_of previous + 1 ≡ bits_of addr) }
+    ensures { MatchOption result (bits_of addr ≡ 0)
+        (λ previous. bits_of previous + 1 ≡ bits_of addr) }
 {
     Some(Addr::from_bits(addr.to_bits().checked_sub(1)?))
 }

@@ -40,14 +40,18 @@ impl AddressRange {
 
     /// Writes the first 32 bits of both ends as IPv4 addresses.
     pub fn fmt_v4<W: fmt::Write>(self, f: &mut fmt::Formatter<W>) -> fmt::Result
-        ensures { DisplaysOnOk W.Write.write_str_gives f.old result (Some (dashed (v4_text (run_of_range self).first) (v4_text (run_of_range self).last))) f.new }
+        ensures { DisplaysOnOk W.Write.write_str_gives f.old result
+            (Some (dashed (v4_text (run_of_range self).first) (v4_text (run_of_range self).last)))
+            f.new }
     {
         write!(f, "{}-{}", self.min().to_v4(), self.max().to_v4())
     }
 
     /// Writes both ends as IPv6 addresses.
     pub fn fmt_v6<W: fmt::Write>(self, f: &mut fmt::Formatter<W>) -> fmt::Result
-        ensures { DisplaysOnOk W.Write.write_str_gives f.old result (Some (dashed (v6_text (run_of_range self).first) (v6_text (run_of_range self).last))) f.new }
+        ensures { DisplaysOnOk W.Write.write_str_gives f.old result
+            (Some (dashed (v6_text (run_of_range self).first) (v6_text (run_of_range self).last)))
+            f.new }
     {
         write!(f, "{}-{}", self.min().to_v6(), self.max().to_v6())
     }
@@ -71,7 +75,8 @@ impl FromStr for AddressRange {
 
 // The range from the first address to the last.
 fn ordered(min: Addr, max: Addr) -> Result<AddressRange, FromStrError>
-    ensures { IfOk result (λ r. run_of_range r ≡ record { first = bits_of min; last = bits_of max }) }
+    ensures { IfOk result
+        (λ r. run_of_range r ≡ record { first = bits_of min; last = bits_of max }) }
 {
     if max < min {
         return Err(FromStrError::BadRange);
@@ -100,7 +105,8 @@ impl IpBlock {
 
     /// Writes the block as a prefix where it is one, else as a range, of IPv4.
     pub fn fmt_v4<W: fmt::Write>(&self, f: &mut fmt::Formatter<W>) -> fmt::Result
-        ensures { (text : List ℕ) × IsBlockText v4_text (run_of_block self.now) text × DisplaysOnOk W.Write.write_str_gives f.old result (Some text) f.new }
+        ensures { (text : List ℕ) × IsBlockText v4_text (run_of_block self.now) text
+            × DisplaysOnOk W.Write.write_str_gives f.old result (Some text) f.new }
     {
         match self.as_prefix() {
             Ok(prefix) => prefix.fmt_v4(f),
@@ -110,7 +116,8 @@ impl IpBlock {
 
     /// Writes the block as a prefix where it is one, else as a range, of IPv6.
     pub fn fmt_v6<W: fmt::Write>(&self, f: &mut fmt::Formatter<W>) -> fmt::Result
-        ensures { (text : List ℕ) × IsBlockText v6_text (run_of_block self.now) text × DisplaysOnOk W.Write.write_str_gives f.old result (Some text) f.new }
+        ensures { (text : List ℕ) × IsBlockText v6_text (run_of_block self.now) text
+            × DisplaysOnOk W.Write.write_str_gives f.old result (Some text) f.new }
     {
         match self.as_prefix() {
             Ok(prefix) => prefix.fmt_v6(f),

@@ -36,7 +36,8 @@ impl Ipv4Block {
 
     /// The block of all addresses.
     pub fn all() -> Self
-        ensures { run_of_v4 result ≡ record { first = 0; last = 340282366920938463463374607431768211455 } }
+        ensures { run_of_v4 result
+            ≡ record { first = 0; last = 340282366920938463463374607431768211455 } }
     {
         Ipv4Block {
             block: IpBlock::all(),
@@ -45,7 +46,9 @@ impl Ipv4Block {
 
     /// Whether the block has all addresses.
     pub fn is_slash_zero(&self) -> bool
-        ensures { IsTrue result ↔ (run_of_v4 self.now ≡ record { first = 0; last = 340282366920938463463374607431768211455 }) }
+        ensures { IsTrue result
+            ↔ (run_of_v4 self.now
+            ≡ record { first = 0; last = 340282366920938463463374607431768211455 }) }
     {
         self.block.is_slash_zero()
     }
@@ -137,7 +140,8 @@ impl Ipv4Blocks {
     ) -> Result<Self, AllocError>
         requires can { I.can_next blocks }
         requires ends { IsFinite (I.remaining blocks) }
-        ensures { IfOk result (λ s. (came : List _) × DrainsIf I.next_gives ⊤ blocks came × IsRunsOf (InRuns (map run_of_v4 came)) s) }
+        ensures { IfOk result (λ s. (came : List _) × DrainsIf I.next_gives ⊤ blocks came
+            × IsRunsOf (InRuns (map run_of_v4 came)) s) }
     {
         let mut listed = IpBlocksBuilder::new(alloc);
         for block in blocks {

@@ -33,7 +33,8 @@ impl Ipv6Block {
 
     /// The block of all addresses.
     pub fn all() -> Self
-        ensures { run_of_v6 result ≡ record { first = 0; last = 340282366920938463463374607431768211455 } }
+        ensures { run_of_v6 result
+            ≡ record { first = 0; last = 340282366920938463463374607431768211455 } }
     {
         Ipv6Block {
             block: IpBlock::all(),
@@ -42,7 +43,9 @@ impl Ipv6Block {
 
     /// Whether the block has all addresses.
     pub fn is_slash_zero(&self) -> bool
-        ensures { IsTrue result ↔ (run_of_v6 self.now ≡ record { first = 0; last = 340282366920938463463374607431768211455 }) }
+        ensures { IsTrue result
+            ↔ (run_of_v6 self.now
+            ≡ record { first = 0; last = 340282366920938463463374607431768211455 }) }
     {
         self.block.is_slash_zero()
     }
@@ -131,7 +134,8 @@ impl Ipv6Blocks {
     ) -> Result<Self, AllocError>
         requires can { I.can_next blocks }
         requires ends { IsFinite (I.remaining blocks) }
-        ensures { IfOk result (λ s. (came : List _) × DrainsIf I.next_gives ⊤ blocks came × IsRunsOf (InRuns (map run_of_v6 came)) s) }
+        ensures { IfOk result (λ s. (came : List _) × DrainsIf I.next_gives ⊤ blocks came
+            × IsRunsOf (InRuns (map run_of_v6 came)) s) }
     {
         let mut listed = IpBlocksBuilder::new(alloc);
         for block in blocks {

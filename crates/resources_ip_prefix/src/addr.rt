@@ -172,7 +172,8 @@ impl From<Ipv6Addr> for Addr {
 impl From<IpAddr> for Addr {
     ghost use Rattle.resources_ip_prefix.specs.Address.{bits_of};
 
-    ghost from_gives = { λ ip a. MatchIp ip (λ v4. bits_of a ≡ ipv4_bits v4 * 2 ^ 96) (λ v6. bits_of a ≡ ipv6_bits v6) };
+    ghost from_gives = { λ ip a. MatchIp ip (λ v4. bits_of a ≡ ipv4_bits v4 * 2 ^ 96)
+        (λ v6. bits_of a ≡ ipv6_bits v6) };
 
     fn from(addr: IpAddr) -> Self {
         match addr {

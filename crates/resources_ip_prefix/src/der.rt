@@ -43,7 +43,8 @@ impl AddressFamily {
         alloc: Global,
         cons: &mut Constructed<S>,
     ) -> Result<AddressFamily, DecodeError<S::Error>>
-        ensures reads { ReadsAs (λ f. f) (IsFamily (here S.rest cons.old).mode) (here S.rest cons.old) result (here S.rest cons.new) }
+        ensures reads { ReadsAs (λ f. f) (IsFamily (here S.rest cons.old).mode)
+            (here S.rest cons.old) result (here S.rest cons.new) }
         ensures failed { OnErr result ((here S.rest cons.new).failed ≡ true) }
     {
         cons.take_value_if(
@@ -59,7 +60,8 @@ impl AddressFamily {
         alloc: Global,
         cons: &mut Constructed<S>,
     ) -> Result<Option<AddressFamily>, DecodeError<S::Error>>
-        ensures reads { ReadsOptAs (λ f. f) octet_string_tag (IsFamily (here S.rest cons.old).mode) (here S.rest cons.old) result (here S.rest cons.new) }
+        ensures reads { ReadsOptAs (λ f. f) octet_string_tag (IsFamily (here S.rest cons.old).mode)
+            (here S.rest cons.old) result (here S.rest cons.new) }
         ensures failed { OnErr result ((here S.rest cons.new).failed ≡ true) }
     {
         cons.take_opt_value_if(
@@ -75,7 +77,9 @@ impl AddressFamily {
         alloc: Global,
         cons: &mut Constructed<S>,
     ) -> Result<Option<()>, DecodeError<S::Error>>
-        ensures reads { ReadsOptAs (λ x. x) octet_string_tag (IsAnyFamily (here S.rest cons.old).mode) (here S.rest cons.old) result (here S.rest cons.new) }
+        ensures reads { ReadsOptAs (λ x. x) octet_string_tag
+            (IsAnyFamily (here S.rest cons.old).mode) (here S.rest cons.old) result
+            (here S.rest cons.new) }
         ensures failed { OnErr result ((here S.rest cons.new).failed ≡ true) }
     {
         match AddressFamily::take_opt_from(alloc, cons) {
@@ -101,7 +105,8 @@ fn filled_of(octets: &[u8]) -> u128
 // The addresses that begin with the bits, if these are no more than an address of the family has.
 #[tactic(auto, using(crate::proofs::Filled::bits_counted, crate::proofs::Filled::bits_lawful))]
 fn prefix_of(family: AddressFamily, bits: &BitString) -> Option<Prefix>
-    ensures { MatchOption result (¬ (FitsFamily family bits.now)) (λ p. FitsFamily family bits.now × (prefix_bits p ≡ told_by bits.now)) }
+    ensures { MatchOption result (¬ (FitsFamily family bits.now))
+        (λ p. FitsFamily family bits.now × (prefix_bits p ≡ told_by bits.now)) }
 {
     let unused = bits.unused();
     let octets = bits.octet_slice()?;
@@ -143,13 +148,15 @@ impl Prefix {
         cons: &mut Constructed<S>,
         family: AddressFamily,
     ) -> Result<Prefix, DecodeError<S::Error>>
-        ensures reads { ReadsAs prefix_bits (IsAddress (here S.rest cons.old).mode family) (here S.rest cons.old) result (here S.rest cons.new) }
+        ensures reads { ReadsAs prefix_bits (IsAddress (here S.rest cons.old).mode family)
+            (here S.rest cons.old) result (here S.rest cons.new) }
         ensures failed { OnErr result ((here S.rest cons.new).failed ≡ true) }
     {
         cons.take_value_if(
             Tag::BIT_STRING,
             |content|
-                ensures { ReadsTagged S.rest prefix_bits (IsAddressIn family) content.old result content.new }
+                ensures { ReadsTagged S.rest prefix_bits (IsAddressIn family) content.old result
+                    content.new }
             { prefix_in(alloc, family, content) },
         )
     }
@@ -160,13 +167,16 @@ impl Prefix {
         cons: &mut Constructed<S>,
         family: AddressFamily,
     ) -> Result<Option<Prefix>, DecodeError<S::Error>>
-        ensures reads { ReadsOptAs prefix_bits bit_string_tag (IsAddress (here S.rest cons.old).mode family) (here S.rest cons.old) result (here S.rest cons.new) }
+        ensures reads { ReadsOptAs prefix_bits bit_string_tag
+            (IsAddress (here S.rest cons.old).mode family) (here S.rest cons.old) result
+            (here S.rest cons.new) }
         ensures failed { OnErr result ((here S.rest cons.new).failed ≡ true) }
     {
         cons.take_opt_value_if(
             Tag::BIT_STRING,
             |content|
-                ensures { ReadsTagged S.rest prefix_bits (IsAddressIn family) content.old result content.new }
+                ensures { ReadsTagged S.rest prefix_bits (IsAddressIn family) content.old result
+                    content.new }
             { prefix_in(alloc, family, content) },
         )
     }

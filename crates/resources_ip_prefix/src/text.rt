@@ -38,14 +38,16 @@ impl Addr {
 
     /// Writes the first 32 bits as an IPv4 address.
     pub fn fmt_v4<W: fmt::Write>(self, f: &mut fmt::Formatter<W>) -> fmt::Result
-        ensures { DisplaysOnOk W.Write.write_str_gives f.old result (Some (v4_text (bits_of self))) f.new }
+        ensures { DisplaysOnOk W.Write.write_str_gives f.old result (Some (v4_text (bits_of self)))
+            f.new }
     {
         write!(f, "{}", self.to_v4())
     }
 
     /// Writes the bits as an IPv6 address (RFC 5952).
     pub fn fmt_v6<W: fmt::Write>(self, f: &mut fmt::Formatter<W>) -> fmt::Result
-        ensures { DisplaysOnOk W.Write.write_str_gives f.old result (Some (v6_text (bits_of self))) f.new }
+        ensures { DisplaysOnOk W.Write.write_str_gives f.old result (Some (v6_text (bits_of self)))
+            f.new }
     {
         write!(f, "{}", self.to_v6())
     }
@@ -56,7 +58,8 @@ impl FromStr for Addr {
     type Err = AddrParseError;
 
     ghost from_str_gives = { λ text verdict. MatchResult verdict
-        (λ a. (ip : _) × IsIpText text ip × MatchIp ip (λ v4. bits_of a ≡ ipv4_bits v4 * 2 ^ 96) (λ v6. bits_of a ≡ ipv6_bits v6))
+        (λ a. (ip : _) × IsIpText text ip
+        × MatchIp ip (λ v4. bits_of a ≡ ipv4_bits v4 * 2 ^ 96) (λ v6. bits_of a ≡ ipv6_bits v6))
         (λ _. (ip : _) → ¬ (IsIpText text ip)) };
 
     fn from_str(text: &str) -> Result<Self, AddrParseError> {
@@ -91,14 +94,16 @@ impl Prefix {
 
     /// Writes the IPv4 prefix.
     pub fn fmt_v4<W: fmt::Write>(self, f: &mut fmt::Formatter<W>) -> fmt::Result
-        ensures { DisplaysOnOk W.Write.write_str_gives f.old result (Some (slashed (v4_text (bits_of (prefix_addr self))) (prefix_len self))) f.new }
+        ensures { DisplaysOnOk W.Write.write_str_gives f.old result
+            (Some (slashed (v4_text (bits_of (prefix_addr self))) (prefix_len self))) f.new }
     {
         write!(f, "{}/{}", self.addr().to_v4(), self.addr_len())
     }
 
     /// Writes the IPv6 prefix.
     pub fn fmt_v6<W: fmt::Write>(self, f: &mut fmt::Formatter<W>) -> fmt::Result
-        ensures { DisplaysOnOk W.Write.write_str_gives f.old result (Some (slashed (v6_text (bits_of (prefix_addr self))) (prefix_len self))) f.new }
+        ensures { DisplaysOnOk W.Write.write_str_gives f.old result
+            (Some (slashed (v6_text (bits_of (prefix_addr self))) (prefix_len self))) f.new }
     {
         write!(f, "{}/{}", self.addr().to_v6(), self.addr_len())
     }

@@ -47,15 +47,18 @@ pub trait OverclaimIds: Sized {
 
     /// The policy with that identifier; none where it is no policy's.
     fn from_policy<T: AsSlice<u8>>(oid: &Oid<T>) -> Option<Self>
-        ensures { MatchOption result ((m : Policy) → ¬ (T.items oid.now.0 ≡ policy_octets m)) (λ m. T.items oid.now.0 ≡ policy_octets (policy m)) };
+        ensures { MatchOption result ((m : Policy) → ¬ (T.items oid.now.0 ≡ policy_octets m))
+            (λ m. T.items oid.now.0 ≡ policy_octets (policy m)) };
 
     /// The policy under which the extension with that identifier lists IP resources; none of another extension.
     fn from_ip_res<T: AsSlice<u8>>(oid: &Oid<T>) -> Option<Self>
-        ensures { MatchOption result ((m : Policy) → ¬ (T.items oid.now.0 ≡ ip_octets m)) (λ m. T.items oid.now.0 ≡ ip_octets (policy m)) };
+        ensures { MatchOption result ((m : Policy) → ¬ (T.items oid.now.0 ≡ ip_octets m))
+            (λ m. T.items oid.now.0 ≡ ip_octets (policy m)) };
 
     /// The policy under which the extension with that identifier lists AS resources; none of another extension.
     fn from_as_res<T: AsSlice<u8>>(oid: &Oid<T>) -> Option<Self>
-        ensures { MatchOption result ((m : Policy) → ¬ (T.items oid.now.0 ≡ as_octets m)) (λ m. T.items oid.now.0 ≡ as_octets (policy m)) };
+        ensures { MatchOption result ((m : Policy) → ¬ (T.items oid.now.0 ≡ as_octets m))
+            (λ m. T.items oid.now.0 ≡ as_octets (policy m)) };
 }
 
 impl OverclaimIds for Overclaim {

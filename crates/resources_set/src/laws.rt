@@ -6,10 +6,12 @@ ghost use Rattle.resources_set.specs.Laws.{LeadsTo};
 
 /// What was there before, without what was removed and with what was added, is what is there now.
 pub fn changes_lead_from_one_to_the_other()
-    ensures { (now before : Resources) (d : Changes) → AreChanges now before d → LeadsTo before d now }
+    ensures { (now before : Resources) (d : Changes) → AreChanges now before d
+        → LeadsTo before d now }
 {}
 
 /// Between two sets, what is added one way is removed the other way.
 pub fn changes_turn_round()
-    ensures { (now before : Resources) (d e : Changes) → AreChanges now before d → AreChanges before now e → (e.added ≡ d.removed) × (e.removed ≡ d.added) }
+    ensures { (now before : Resources) (d e : Changes) → AreChanges now before d
+        → AreChanges before now e → (e.added ≡ d.removed) × (e.removed ≡ d.added) }
 {}

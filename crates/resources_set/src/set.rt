@@ -68,8 +68,10 @@ impl ResourceSet {
         ipv6: &IpResources,
     ) -> Result<Self, InheritError>
         requires { ListsWhole ipv4.now }
-        ensures set { IfOk result (λ set. AreRunsOf (Lists asn.now) (Lists ipv4.now) (Lists ipv6.now) set) }
-        ensures inherited { IsErrOf result InheritError.Inherited ↔ SomeInherit asn.now ipv4.now ipv6.now }
+        ensures set { IfOk result
+            (λ set. AreRunsOf (Lists asn.now) (Lists ipv4.now) (Lists ipv6.now) set) }
+        ensures inherited { IsErrOf result InheritError.Inherited
+            ↔ SomeInherit asn.now ipv4.now ipv6.now }
     {
         if asn.is_inherited() || ipv4.is_inherited() || ipv6.is_inherited() {
             return Err(InheritError::Inherited);

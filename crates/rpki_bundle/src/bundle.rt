@@ -45,9 +45,22 @@ impl Model for Bundle {
 
     ghost use Rattle.rpki_bundle.specs.Lawful.{IsLawful};
 
-    ghost view = { λ b. record { moment = b.moment; depth = b.depth; locators = b.locators.items; objects = b.objects.items; verdicts = b.verdicts.items } };
+    ghost view = { λ b. record {
+      moment = b.moment;
+      depth = b.depth;
+      locators = b.locators.items;
+      objects = b.objects.items;
+      verdicts = b.verdicts.items;
+    } };
 
-    ghost invariant = { λ b. IsLawful (record { moment = b.moment; depth = b.depth; locators = b.locators.items; objects = b.objects.items; verdicts = b.verdicts.items }) };
+    ghost invariant = { λ b. IsLawful
+        (record {
+          moment = b.moment;
+          depth = b.depth;
+          locators = b.locators.items;
+          objects = b.objects.items;
+          verdicts = b.verdicts.items;
+        }) };
 }
 
 // The bundle of what was read.
@@ -90,7 +103,15 @@ fn is_lawful(
     objects: &[Object],
     verdicts: &[Verdict],
 ) -> bool
-    ensures { IsTrue result ↔ IsLawful (record { moment = moment; depth = depth; locators = locators.now; objects = objects.now; verdicts = verdicts.now }) }
+    ensures { IsTrue result
+        ↔ IsLawful
+        (record {
+          moment = moment;
+          depth = depth;
+          locators = locators.now;
+          objects = objects.now;
+          verdicts = verdicts.now;
+        }) }
 {
     if !is_depth(depth) {
         return false;
@@ -112,7 +133,8 @@ fn is_lawful(
 fn find<'a>(objects: &'a [Object], uri: &[u8]) -> Option<&'a [u8]>
     requires { Ascends (λ o. o.uri) objects.now }
     ensures found { IfSome result (λ octets. IsAt objects.now (key_of uri.now) octets.now) }
-    ensures none { IfNone result ((octets : List ℕ) → IsAt objects.now (key_of uri.now) octets → ⊥) }
+    ensures none { IfNone result
+        ((octets : List ℕ) → IsAt objects.now (key_of uri.now) octets → ⊥) }
 {
     let found = objects.binary_search_by(
         |object: &Object| -> Ordering
@@ -138,9 +160,25 @@ impl Bundle {
         objects: Vec<Object>,
         verdicts: Vec<Verdict>,
     ) -> Result<Bundle, BundleError>
-        ensures ok { IfOk result (λ b. b ≡ record { moment = moment; depth = depth; locators = locators.items; objects = objects.items; verdicts = verdicts.items }) }
+        ensures ok { IfOk result (λ b. b
+            ≡ record {
+              moment = moment;
+              depth = depth;
+              locators = locators.items;
+              objects = objects.items;
+              verdicts = verdicts.items;
+            }) }
         ensures spelled { IfOk result (λ b. (octets : List ℕ) × BundleText octets b) }
-        ensures refused { IfErr result (λ e. (e ≡ not_a_bundle) × ((octets : List ℕ) → BundleText octets (record { moment = moment; depth = depth; locators = locators.items; objects = objects.items; verdicts = verdicts.items }) → ⊥)) }
+        ensures refused { IfErr result (λ e. (e ≡ not_a_bundle)
+            × ((octets : List ℕ)
+            → BundleText octets
+            (record {
+              moment = moment;
+              depth = depth;
+              locators = locators.items;
+              objects = objects.items;
+              verdicts = verdicts.items;
+            }) → ⊥)) }
     {
         let (names, uris, digests) = (locators.as_slice(), objects.as_slice(), verdicts.as_slice());
         if !is_lawful(moment, depth, names, uris, digests) {
@@ -161,12 +199,15 @@ impl Bundle {
     /// growth was refused.
     pub fn decode(alloc: Global, octets: &[u8]) -> Result<Bundle, BundleError>
         ensures ok { IfOk result (BundleText octets.now) }
-        ensures not_a_bundle { IfErr result (λ e. OnNotABundle e ((b : BundleValue) → BundleText octets.now b → ⊥)) }
+        ensures not_a_bundle { IfErr result
+            (λ e. OnNotABundle e ((b : BundleValue) → BundleText octets.now b → ⊥)) }
     {
         let read = Mode::Der.decode(
             octets,
             |cons|
-                ensures { ReadsToEndAs parts_alone (IsBundleAlone (here (λ s. s.rest) cons.old).mode) (here (λ s. s.rest) cons.old) result (here (λ s. s.rest) cons.new) }
+                ensures { ReadsToEndAs parts_alone
+                    (IsBundleAlone (here (λ s. s.rest) cons.old).mode) (here (λ s. s.rest) cons.old)
+                    result (here (λ s. s.rest) cons.new) }
             { take_alone(alloc, cons) },
         );
         match read {
@@ -198,8 +239,11 @@ impl Bundle {
 
     /// The octets of the object at a URI, which is looked up by its lookup key; none for a text that is no URI.
     pub fn get(&self, uri: &[u8]) -> Option<&[u8]>
-        ensures found { IfSome result (λ octets. IsUri uri.now × IsAt self.now.objects (key_of uri.now) octets.now) }
-        ensures none { IfNone result (IsUri uri.now → (octets : List ℕ) → IsAt self.now.objects (key_of uri.now) octets → ⊥) }
+        ensures found { IfSome result
+            (λ octets. IsUri uri.now × IsAt self.now.objects (key_of uri.now) octets.now) }
+        ensures none { IfNone result
+            (IsUri uri.now → (octets : List ℕ) → IsAt self.now.objects (key_of uri.now) octets
+            → ⊥) }
     {
         if !is_uri(uri) {
             return None;

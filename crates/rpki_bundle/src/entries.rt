@@ -30,7 +30,8 @@ pub trait Entry: Values + Drop {
     ) -> Result<Option<Self>, DecodeError<S::Error>>
     where
         Self: Sized,
-        ensures { ReadsOptAs (λ entry. entry) (universal 16) (form (here S.rest cons.old).mode) (here S.rest cons.old) result (here S.rest cons.new) };
+        ensures { ReadsOptAs (λ entry. entry) (universal 16) (form (here S.rest cons.old).mode)
+            (here S.rest cons.old) result (here S.rest cons.new) };
 
     /// Whether it stands before another one.
     fn is_before(&self, other: &Self) -> bool
@@ -73,11 +74,15 @@ pub fn take_list<E: Entry, S: Source>(
     alloc: Global,
     cons: &mut Constructed<S>,
 ) -> Result<Vec<E>, DecodeError<S::Error>>
-    ensures { ReadsAs (λ entries. entries.items) (AreRows (E.form (here S.rest cons.old).mode) E.sort_key) (here S.rest cons.old) result (here S.rest cons.new) }
+    ensures { ReadsAs (λ entries. entries.items)
+        (AreRows (E.form (here S.rest cons.old).mode) E.sort_key) (here S.rest cons.old) result
+        (here S.rest cons.new) }
 {
     let entries = cons.take_sequence(
         |cons|
-            ensures { ReadsAllAs (λ entries. entries.items) (Many (E.form (here S.rest cons.old).mode)) (here S.rest cons.old) result (here S.rest cons.new) }
+            ensures { ReadsAllAs (λ entries. entries.items)
+                (Many (E.form (here S.rest cons.old).mode)) (here S.rest cons.old) result
+                (here S.rest cons.new) }
         {
             let mut entries = Vec::new(alloc);
             while let Some(entry) = E::take_opt(alloc, cons)? {

@@ -56,7 +56,8 @@ impl Entry for Locator {
     ) -> Result<Option<Self>, DecodeError<S::Error>> {
         cons.take_opt_sequence(
             |cons|
-                ensures { ReadsAllAs locator_fields (IsLocatorBody (here S.rest cons.old).mode) (here S.rest cons.old) result (here S.rest cons.new) }
+                ensures { ReadsAllAs locator_fields (IsLocatorBody (here S.rest cons.old).mode)
+                    (here S.rest cons.old) result (here S.rest cons.new) }
             {
                 let name = take_name(alloc, cons)?;
                 let text = take_octets(alloc, cons)?;
@@ -118,7 +119,8 @@ impl Entry for Object {
     ) -> Result<Option<Self>, DecodeError<S::Error>> {
         cons.take_opt_sequence(
             |cons|
-                ensures { ReadsAllAs object_fields (IsObjectBody (here S.rest cons.old).mode) (here S.rest cons.old) result (here S.rest cons.new) }
+                ensures { ReadsAllAs object_fields (IsObjectBody (here S.rest cons.old).mode)
+                    (here S.rest cons.old) result (here S.rest cons.new) }
             {
                 let uri = take_uri(alloc, cons)?;
                 let octets = take_octets(alloc, cons)?;
@@ -147,11 +149,13 @@ impl Entry for Object {
 fn take_words<S: Source>(
     cons: &mut Constructed<S>,
 ) -> Result<Option<VerdictWords>, DecodeError<S::Error>>
-    ensures { ReadsOptAs verdict_of (universal 16) IsVerdictRow (here S.rest cons.old) result (here S.rest cons.new) }
+    ensures { ReadsOptAs verdict_of (universal 16) IsVerdictRow (here S.rest cons.old) result
+        (here S.rest cons.new) }
 {
     cons.take_opt_sequence(
         |cons|
-            ensures { ReadsAllAs words_fields IsVerdictBody (here S.rest cons.old) result (here S.rest cons.new) }
+            ensures { ReadsAllAs words_fields IsVerdictBody (here S.rest cons.old) result
+                (here S.rest cons.new) }
         {
             let key = take_digest(cons)?;
             let message = take_digest(cons)?;

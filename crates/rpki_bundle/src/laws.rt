@@ -5,15 +5,18 @@ ghost use Rattle.rpki_bundle.specs.Bundle.{BundleValue, BundleText};
 
 /// Octets spell at most one bundle.
 pub fn one_bundle()
-    ensures { (octets : List ℕ) (b c : BundleValue) → BundleText octets b → BundleText octets c → b ≡ c }
+    ensures { (octets : List ℕ) (b c : BundleValue) → BundleText octets b → BundleText octets c
+        → b ≡ c }
 {}
 
 /// A bundle has at most one text: two bundles are equal in content exactly if they are equal in octets.
 pub fn one_text()
-    ensures { (octets others : List ℕ) (b : BundleValue) → BundleText octets b → BundleText others b → octets ≡ others }
+    ensures { (octets others : List ℕ) (b : BundleValue) → BundleText octets b → BundleText others b
+        → octets ≡ others }
 {}
 
 /// A bundle's text has at most 2^32 + 5 octets.
 pub fn bundle_length()
-    ensures { (octets : List ℕ) (b : BundleValue) → BundleText octets b → length octets ≤ 2 ^ 32 + 5 }
+    ensures { (octets : List ℕ) (b : BundleValue) → BundleText octets b
+        → length octets ≤ 2 ^ 32 + 5 }
 {}

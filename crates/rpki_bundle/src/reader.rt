@@ -51,7 +51,8 @@ pub fn take_octets<S: Source>(
     alloc: Global,
     cons: &mut Constructed<S>,
 ) -> Result<Bytes, DecodeError<S::Error>>
-    ensures { ReadsAs (λ octets. octets) (IsOctetString (here S.rest cons.old).mode) (here S.rest cons.old) result (here S.rest cons.new) }
+    ensures { ReadsAs (λ octets. octets) (IsOctetString (here S.rest cons.old).mode)
+        (here S.rest cons.old) result (here S.rest cons.new) }
 {
     let string = OctetString::take_from(alloc, cons)?;
     let octets = string.into_bytes(alloc)?;
@@ -64,7 +65,8 @@ pub fn take_name<S: Source>(
     alloc: Global,
     cons: &mut Constructed<S>,
 ) -> Result<Bytes, DecodeError<S::Error>>
-    ensures { ReadsAs (λ octets. octets) (IsNameString (here S.rest cons.old).mode) (here S.rest cons.old) result (here S.rest cons.new) }
+    ensures { ReadsAs (λ octets. octets) (IsNameString (here S.rest cons.old).mode)
+        (here S.rest cons.old) result (here S.rest cons.new) }
 {
     let string = PrintableString::take_from(alloc, cons)?;
     let name = string.into_bytes(alloc)?;
@@ -79,7 +81,8 @@ pub fn take_uri<S: Source>(
     alloc: Global,
     cons: &mut Constructed<S>,
 ) -> Result<Bytes, DecodeError<S::Error>>
-    ensures { ReadsAs (λ octets. octets) (IsUriString (here S.rest cons.old).mode) (here S.rest cons.old) result (here S.rest cons.new) }
+    ensures { ReadsAs (λ octets. octets) (IsUriString (here S.rest cons.old).mode)
+        (here S.rest cons.old) result (here S.rest cons.new) }
 {
     let string = Ia5String::take_from(alloc, cons)?;
     let uri = string.into_bytes(alloc)?;
@@ -92,7 +95,8 @@ pub fn take_uri<S: Source>(
 // The digest that all octets of a content are.
 #[inline(always)]
 fn digest<S: Source>(prim: &mut Primitive<S>) -> Result<DigestWords, DecodeError<S::Error>>
-    ensures { ReadsOctetsAs octets_of IsDigest (plain S.rest prim.old) result (plain S.rest prim.new) }
+    ensures { ReadsOctetsAs octets_of IsDigest (plain S.rest prim.old) result
+        (plain S.rest prim.new) }
 {
     if prim.failed {
         return Err(prim.content_err(ContentError::from_static("no digest")));
@@ -114,12 +118,14 @@ fn digest<S: Source>(prim: &mut Primitive<S>) -> Result<DigestWords, DecodeError
 pub fn take_digest<S: Source>(
     cons: &mut Constructed<S>,
 ) -> Result<DigestWords, DecodeError<S::Error>>
-    ensures { ReadsAs octets_of IsDigestString (here S.rest cons.old) result (here S.rest cons.new) }
+    ensures { ReadsAs octets_of IsDigestString (here S.rest cons.old) result
+        (here S.rest cons.new) }
 {
     cons.take_primitive_if(
         Tag::OCTET_STRING,
         |prim|
-            ensures { ReadsOctetsAs octets_of IsDigest (plain S.rest prim.old) result (plain S.rest prim.new) }
+            ensures { ReadsOctetsAs octets_of IsDigest (plain S.rest prim.old) result
+                (plain S.rest prim.new) }
         { digest(prim) },
     )
 }
@@ -129,12 +135,14 @@ fn take_text<S: Source>(
     alloc: Global,
     cons: &mut Constructed<S>,
 ) -> Result<Bytes, DecodeError<S::Error>>
-    ensures { ReadsAs (λ octets. octets) (OctetsOf (universal 24) AnyOctets) (here S.rest cons.old) result (here S.rest cons.new) }
+    ensures { ReadsAs (λ octets. octets) (OctetsOf (universal 24) AnyOctets) (here S.rest cons.old)
+        result (here S.rest cons.new) }
 {
     cons.take_primitive_if(
         Tag::GENERALIZED_TIME,
         |prim|
-            ensures { ReadsOctetsAs (λ octets. octets) AnyOctets (plain S.rest prim.old) result (plain S.rest prim.new) }
+            ensures { ReadsOctetsAs (λ octets. octets) AnyOctets (plain S.rest prim.old) result
+                (plain S.rest prim.new) }
         { prim.take_all(alloc) },
     )
 }
@@ -144,7 +152,8 @@ pub fn take_moment<S: Source>(
     alloc: Global,
     cons: &mut Constructed<S>,
 ) -> Result<Time, DecodeError<S::Error>>
-    ensures { ReadsAs (λ moment. moment) IsMomentString (here S.rest cons.old) result (here S.rest cons.new) }
+    ensures { ReadsAs (λ moment. moment) IsMomentString (here S.rest cons.old) result
+        (here S.rest cons.new) }
 {
     let text = take_text(alloc, cons)?;
     match Time::from_generalized(text.as_slice()) {
@@ -155,7 +164,8 @@ pub fn take_moment<S: Source>(
 
 /// A depth of 1 to 32.
 pub fn take_depth<S: Source>(cons: &mut Constructed<S>) -> Result<u8, DecodeError<S::Error>>
-    ensures { ReadsAs (λ depth. depth) IsDepthNumber (here S.rest cons.old) result (here S.rest cons.new) }
+    ensures { ReadsAs (λ depth. depth) IsDepthNumber (here S.rest cons.old) result
+        (here S.rest cons.new) }
 {
     let depth = cons.take_u8()?;
     if !is_depth(depth) {

@@ -32,11 +32,13 @@ fn take_bundle<S: Source>(
     alloc: Global,
     cons: &mut Constructed<S>,
 ) -> Result<Parts, DecodeError<S::Error>>
-    ensures { ReadsAs parts_value (IsBundleTree (here S.rest cons.old).mode) (here S.rest cons.old) result (here S.rest cons.new) }
+    ensures { ReadsAs parts_value (IsBundleTree (here S.rest cons.old).mode) (here S.rest cons.old)
+        result (here S.rest cons.new) }
 {
     cons.take_sequence(
         |cons|
-            ensures { ReadsAllAs parts_fields (IsBundleBody (here S.rest cons.old).mode) (here S.rest cons.old) result (here S.rest cons.new) }
+            ensures { ReadsAllAs parts_fields (IsBundleBody (here S.rest cons.old).mode)
+                (here S.rest cons.old) result (here S.rest cons.new) }
         {
             cons.skip_u8_if(0)?;
             let moment = take_moment(alloc, cons)?;
@@ -60,7 +62,8 @@ pub fn take_alone<S: Source>(
     alloc: Global,
     cons: &mut Constructed<S>,
 ) -> Result<Parts, DecodeError<S::Error>>
-    ensures { ReadsToEndAs parts_alone (IsBundleAlone (here S.rest cons.old).mode) (here S.rest cons.old) result (here S.rest cons.new) }
+    ensures { ReadsToEndAs parts_alone (IsBundleAlone (here S.rest cons.old).mode)
+        (here S.rest cons.old) result (here S.rest cons.new) }
 {
     let parts = take_bundle(alloc, cons)?;
     let behind = cons.skip_one(alloc)?;

@@ -23,7 +23,9 @@ pub fn pair_len<T: AsSlice<u8> + Drop>(
 ) -> Result<usize, EncodeError>
     requires { IsTag tag }
     ensures len { IfOk result (HasLength (WritesPair mode tag (T.items first) (T.items second))) }
-    ensures refused { IfErr result (CannotWrite (IsPair mode tag (T.items first) (T.items second)) (WritesPair mode tag (T.items first) (T.items second))) }
+    ensures refused { IfErr result
+        (CannotWrite (IsPair mode tag (T.items first) (T.items second))
+        (WritesPair mode tag (T.items first) (T.items second))) }
 {
     let first = OctetSliceEncoder { tag, octets: first };
     let second = OctetSliceEncoder {
@@ -46,8 +48,13 @@ pub fn write_pair<T: AsSlice<u8> + Drop, W: Write>(
     target: &mut W,
 ) -> Result<(), EncodeError>
     requires { IsTag tag }
-    ensures written { OnOk result (Wrote (WritesPair mode tag (T.items first) (T.items second)) (W.contents target.old) (W.contents target.new)) }
-    ensures refused { IfErr result (WriteRefused (IsPair mode tag (T.items first) (T.items second)) (WritesPair mode tag (T.items first) (T.items second)) (target.new ≡ target.old) (W.contents target.old) (W.contents target.new)) }
+    ensures written { OnOk result
+        (Wrote (WritesPair mode tag (T.items first) (T.items second)) (W.contents target.old)
+        (W.contents target.new)) }
+    ensures refused { IfErr result
+        (WriteRefused (IsPair mode tag (T.items first) (T.items second))
+        (WritesPair mode tag (T.items first) (T.items second)) (target.new ≡ target.old)
+        (W.contents target.old) (W.contents target.new)) }
 {
     let first = OctetSliceEncoder { tag, octets: first };
     let second = OctetSliceEncoder {
@@ -68,8 +75,11 @@ pub fn triple_len<T: AsSlice<u8> + Drop>(
     second: T,
     third: T,
 ) -> Result<usize, EncodeError>
-    ensures len { IfOk result (HasLength (WritesTriple mode (T.items first) (T.items second) (T.items third))) }
-    ensures refused { IfErr result (CannotWrite (IsTriple (T.items first) (T.items second) (T.items third)) (WritesTriple mode (T.items first) (T.items second) (T.items third))) }
+    ensures len { IfOk result
+        (HasLength (WritesTriple mode (T.items first) (T.items second) (T.items third))) }
+    ensures refused { IfErr result
+        (CannotWrite (IsTriple (T.items first) (T.items second) (T.items third))
+        (WritesTriple mode (T.items first) (T.items second) (T.items third))) }
 {
     let tag = Tag::OCTET_STRING;
     let first = Primitive {
@@ -99,8 +109,13 @@ pub fn write_triple<T: AsSlice<u8> + Drop, W: Write>(
     third: T,
     target: &mut W,
 ) -> Result<(), EncodeError>
-    ensures written { OnOk result (Wrote (WritesTriple mode (T.items first) (T.items second) (T.items third)) (W.contents target.old) (W.contents target.new)) }
-    ensures refused { IfErr result (WriteRefused (IsTriple (T.items first) (T.items second) (T.items third)) (WritesTriple mode (T.items first) (T.items second) (T.items third)) (target.new ≡ target.old) (W.contents target.old) (W.contents target.new)) }
+    ensures written { OnOk result
+        (Wrote (WritesTriple mode (T.items first) (T.items second) (T.items third))
+        (W.contents target.old) (W.contents target.new)) }
+    ensures refused { IfErr result
+        (WriteRefused (IsTriple (T.items first) (T.items second) (T.items third))
+        (WritesTriple mode (T.items first) (T.items second) (T.items third))
+        (target.new ≡ target.old) (W.contents target.old) (W.contents target.new)) }
 {
     let tag = Tag::OCTET_STRING;
     let first = Primitive {
@@ -131,8 +146,16 @@ pub fn members_len<T: AsSlice<u8> + Drop, A: Values + Drop, B: Values + Drop, C:
     objects: B,
     verdicts: C,
 ) -> Result<usize, EncodeError>
-    ensures len { IfOk result (HasLength (WritesMembers mode (T.items text) depth (A.writes locators mode) (B.writes objects mode) (C.writes verdicts mode))) }
-    ensures refused { IfErr result (CannotWrite (AreMembers (T.items text) depth (A.trees locators mode) (B.trees objects mode) (C.trees verdicts mode)) (WritesMembers mode (T.items text) depth (A.writes locators mode) (B.writes objects mode) (C.writes verdicts mode))) }
+    ensures len { IfOk result
+        (HasLength
+        (WritesMembers mode (T.items text) depth (A.writes locators mode) (B.writes objects mode)
+        (C.writes verdicts mode))) }
+    ensures refused { IfErr result
+        (CannotWrite
+        (AreMembers (T.items text) depth (A.trees locators mode) (B.trees objects mode)
+        (C.trees verdicts mode))
+        (WritesMembers mode (T.items text) depth (A.writes locators mode) (B.writes objects mode)
+        (C.writes verdicts mode))) }
 {
     let tag = Tag::INTEGER;
     let version = Primitive { tag, content: 0u8 };
@@ -180,8 +203,17 @@ pub fn write_members<
     verdicts: C,
     target: &mut W,
 ) -> Result<(), EncodeError>
-    ensures written { OnOk result (Wrote (WritesMembers mode (T.items text) depth (A.writes locators mode) (B.writes objects mode) (C.writes verdicts mode)) (W.contents target.old) (W.contents target.new)) }
-    ensures refused { IfErr result (WriteRefused (AreMembers (T.items text) depth (A.trees locators mode) (B.trees objects mode) (C.trees verdicts mode)) (WritesMembers mode (T.items text) depth (A.writes locators mode) (B.writes objects mode) (C.writes verdicts mode)) (target.new ≡ target.old) (W.contents target.old) (W.contents target.new)) }
+    ensures written { OnOk result
+        (Wrote
+        (WritesMembers mode (T.items text) depth (A.writes locators mode) (B.writes objects mode)
+        (C.writes verdicts mode)) (W.contents target.old) (W.contents target.new)) }
+    ensures refused { IfErr result
+        (WriteRefused
+        (AreMembers (T.items text) depth (A.trees locators mode) (B.trees objects mode)
+        (C.trees verdicts mode))
+        (WritesMembers mode (T.items text) depth (A.writes locators mode) (B.writes objects mode)
+        (C.writes verdicts mode)) (target.new ≡ target.old) (W.contents target.old)
+        (W.contents target.new)) }
 {
     let tag = Tag::INTEGER;
     let version = Primitive { tag, content: 0u8 };

@@ -29,9 +29,17 @@ pub fn check<R: Read, W: Write, F: Write>(
     requires few_writes { writer.old.failures < 2 ^ 64 - 1 }
 
     ensures status { (result ≡ 0) ⊎ (result ≡ 1) }
-    ensures done { result ≡ 0 → Prints (R.remaining reader.old.inner) (R.remaining reader.new.inner) (W.contents writer.old.inner) (W.contents writer.new.inner) }
-    ensures done_counts { result ≡ 0 → (reader.new.failures ≡ reader.old.failures) × (writer.new.failures ≡ writer.old.failures) }
-    ensures failed { result ≡ 1 → EndsInFault (R.remaining reader.old.inner) (R.remaining reader.new.inner) (W.contents writer.old.inner) (W.contents writer.new.inner) (record { before = reader.old.failures; after = reader.new.failures }) (record { before = writer.old.failures; after = writer.new.failures }) }
+    ensures done { result ≡ 0
+        → Prints (R.remaining reader.old.inner) (R.remaining reader.new.inner)
+        (W.contents writer.old.inner) (W.contents writer.new.inner) }
+    ensures done_counts { result ≡ 0
+        → (reader.new.failures ≡ reader.old.failures)
+        × (writer.new.failures ≡ writer.old.failures) }
+    ensures failed { result ≡ 1
+        → EndsInFault (R.remaining reader.old.inner) (R.remaining reader.new.inner)
+        (W.contents writer.old.inner) (W.contents writer.new.inner)
+        (record { before = reader.old.failures; after = reader.new.failures })
+        (record { before = writer.old.failures; after = writer.new.failures }) }
 {
     match run(alloc, reader, writer, &Fips) {
         Ok(()) => DONE,
@@ -54,9 +62,12 @@ pub fn bundle<R: Files + AllocGlobal + Clone + Drop, W: Write, F: Write>(
     requires few_writes { writer.old.failures < 2 ^ 64 - 1 }
 
     ensures status { (result ≡ 0) ⊎ (result ≡ 1) }
-    ensures done { result ≡ 0 → WritesText (W.contents writer.old.inner) (W.contents writer.new.inner) }
+    ensures done { result ≡ 0
+        → WritesText (W.contents writer.old.inner) (W.contents writer.new.inner) }
     ensures done_count { result ≡ 0 → writer.new.failures ≡ writer.old.failures }
-    ensures failed { result ≡ 1 → EndsWithFault (W.contents writer.old.inner) (W.contents writer.new.inner) writer.old.failures writer.new.failures }
+    ensures failed { result ≡ 1
+        → EndsWithFault (W.contents writer.old.inner) (W.contents writer.new.inner)
+        writer.old.failures writer.new.failures }
 {
     match write_bundle(rt, alloc, folder, writer) {
         Ok(()) => DONE,

@@ -18,7 +18,8 @@ fn locator_names<S: Naming>(
     at: usize,
 ) -> Result<bool, AllocError>
     requires { at < length (S.world steps.now).locators }
-    ensures { IfOk result (λ b. IsTrue b ↔ LocatorNames uris.now (locator_at (S.world steps.now) at)) }
+    ensures { IfOk result
+        (λ b. IsTrue b ↔ LocatorNames uris.now (locator_at (S.world steps.now) at)) }
 {
     match steps.locator_keys(alloc, at)? {
         Some(keys) => Ok(names_any(uris, &keys)),

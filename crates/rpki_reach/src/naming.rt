@@ -19,7 +19,8 @@ pub trait Naming: Steps {
     /// The lookup keys that the authority names: that of its manifest's URI, and where a manifest reads there those of
     /// the files that it lists (RFC 9286 4.2).
     fn named_keys(&mut self, alloc: Global, ca: &Self::Authority) -> Result<Vec<Bytes>, AllocError>
-        ensures named { IfOk result (λ keys. AreNamed (Self.world self.old) (Self.cert ca.now) keys.items) }
+        ensures named { IfOk result
+            (λ keys. AreNamed (Self.world self.old) (Self.cert ca.now) keys.items) }
         ensures same { Self.world self.new ≡ Self.world self.old };
 
     /// The numbers that the authority's chain holds.

@@ -47,7 +47,8 @@ impl<T: Read> Read for Counted<T> {
     /// Every call is one call of the inner reader: nothing is retried.
     fn read(&mut self, buf: &mut [u8]) -> io::Result<usize>
         ensures bound { ReadsAtMost result buf.new }
-        ensures bytes { ReadConsumes (T.remaining self.old.inner) (T.remaining self.new.inner) result buf.new }
+        ensures bytes { ReadConsumes (T.remaining self.old.inner) (T.remaining self.new.inner)
+            result buf.new }
         ensures count { CountsErrors result self.old.failures self.new.failures }
     {
         let answer = self.inner.read(buf);
@@ -66,7 +67,8 @@ impl<T: Write> Write for Counted<T> {
     /// counts as a failure, since a writer that answers so takes no more.
     fn write(&mut self, buf: &[u8]) -> io::Result<usize>
         ensures bound { WritesAtMost result buf.now }
-        ensures bytes { WriteAppends (T.contents self.old.inner) (T.contents self.new.inner) result buf.now }
+        ensures bytes { WriteAppends (T.contents self.old.inner) (T.contents self.new.inner) result
+            buf.now }
         ensures count { CountsStops result self.old.failures self.new.failures }
     {
         let answer = self.inner.write(buf);

@@ -38,7 +38,9 @@ impl fmt::Display for Cause {
 
 // Appends the line of a refusal.
 fn push_refusal(lines: &mut Vec<u8>, name: &[u8], cause: Cause) -> Result<(), AllocError>
-    ensures { OnOk result (lines.new.items ≡ lines.old.items ++ refusal_line (record { name = name.now; cause = cause })) }
+    ensures { OnOk result
+        (lines.new.items
+        ≡ lines.old.items ++ refusal_line (record { name = name.now; cause = cause })) }
 {
     lines.extend_from_slice(b"refused ")?;
     lines.extend_from_slice(name)?;
@@ -56,7 +58,8 @@ pub(crate) fn have_empty_texts(locators: &[Locator]) -> bool
 
 /// The lines by which each locator is refused as none.
 pub(crate) fn locator_lines(alloc: Global, locators: &[Locator]) -> Result<Vec<u8>, AllocError>
-    ensures { IfOk result (λ text. text.items ≡ flat_map (λ l. refusal_line (record { name = l.name; cause = Tal })) locators.now) }
+    ensures { IfOk result (λ text. text.items
+        ≡ flat_map (λ l. refusal_line (record { name = l.name; cause = Tal })) locators.now) }
 {
     let mut lines = Vec::new(alloc);
     for locator in locators {

@@ -76,8 +76,12 @@ pub fn run<R: Read, W: Write, D: Digester>(
     requires few_reads { reader.old.failures < 2 ^ 64 - 1 }
     requires few_writes { writer.old.failures < 2 ^ 64 - 1 }
 
-    ensures ok { OnOk result (Prints (R.remaining reader.old.inner) (R.remaining reader.new.inner) (W.contents writer.old.inner) (W.contents writer.new.inner)) }
-    ensures refused { IfErr result (λ e. RunFails e (R.remaining reader.old.inner) (R.remaining reader.new.inner) (W.contents writer.old.inner) (W.contents writer.new.inner)) }
+    ensures ok { OnOk result
+        (Prints (R.remaining reader.old.inner) (R.remaining reader.new.inner)
+        (W.contents writer.old.inner) (W.contents writer.new.inner)) }
+    ensures refused { IfErr result (λ e. RunFails e (R.remaining reader.old.inner)
+        (R.remaining reader.new.inner) (W.contents writer.old.inner)
+        (W.contents writer.new.inner)) }
     ensures reads { CountsReads result reader.old.failures reader.new.failures }
     ensures writes { CountsWrites result writer.old.failures writer.new.failures }
 {

@@ -41,11 +41,14 @@ pub(crate) fn read_all<R: Read>(
 ) -> Result<Vec<u8>, ReadFault>
     requires few { reader.old.failures < 2 ^ 64 - 1 }
 
-    ensures ok { IfOk result (λ text. ReadsUpTo limit (R.remaining reader.old.inner) (R.remaining reader.new.inner) text.items) }
+    ensures ok { IfOk result (λ text. ReadsUpTo limit (R.remaining reader.old.inner)
+        (R.remaining reader.new.inner) text.items) }
     ensures most { IfOk result (λ text. length text.items ≤ limit) }
 
     // What a refusal leaves: the octets read so far are gone.
-    ensures err { OnErr result ((octets : List ℕ) × (length octets ≤ limit) × Consumes (R.remaining reader.old.inner) (R.remaining reader.new.inner) octets) }
+    ensures err { OnErr result
+        ((octets : List ℕ) × (length octets ≤ limit)
+        × Consumes (R.remaining reader.old.inner) (R.remaining reader.new.inner) octets) }
     ensures failures { ReadFails result reader.old.failures reader.new.failures }
 {
     let mut text = Vec::new(alloc);
@@ -65,9 +68,12 @@ pub(crate) fn read_all<R: Read>(
 pub fn write_all<W: Write>(writer: &mut Counted<W>, text: &[u8]) -> Result<(), WriteFault>
     requires few { writer.old.failures < 2 ^ 64 - 1 }
 
-    ensures ok { OnOk result (Appends (W.contents writer.old.inner) (W.contents writer.new.inner) text.now) }
-    ensures err { OnErr result (TakesSome (W.contents writer.old.inner) (W.contents writer.new.inner) text.now) }
-    ensures count { MatchResult result (λ _. writer.new.failures ≡ writer.old.failures) (λ _. writer.new.failures ≡ writer.old.failures + 1) }
+    ensures ok { OnOk result
+        (Appends (W.contents writer.old.inner) (W.contents writer.new.inner) text.now) }
+    ensures err { OnErr result
+        (TakesSome (W.contents writer.old.inner) (W.contents writer.new.inner) text.now) }
+    ensures count { MatchResult result (λ _. writer.new.failures ≡ writer.old.failures)
+        (λ _. writer.new.failures ≡ writer.old.failures + 1) }
 {
     let mut rest = text;
     while !rest.is_empty() {

@@ -95,7 +95,8 @@ impl Prefix {
     /// address's number of bits, and else with `NonZeroHost` where a bit behind the length is set.
     pub fn new(addr: IpAddr, len: u8) -> Result<Self, PrefixError>
         ensures { MatchResult result
-            (λ p. IsPrefix p × (p ≡ record { family = family_of addr; first = bits_of addr; len = len }))
+            (λ p. IsPrefix p
+            × (p ≡ record { family = family_of addr; first = bits_of addr; len = len }))
             (IsNoPrefix (family_of addr) (bits_of addr) len) }
     {
         let (kind, first) = parts(addr);
@@ -177,7 +178,8 @@ impl Prefix {
     pub fn addr(self) -> IpAddr
         ensures family { family_of result ≡ self.family }
         ensures bits { bits_of result ≡ self.first }
-        ensures octets { MatchIp result (λ a. IsIpv4OfBits a self.first) (λ a. IsIpv6OfBits a self.first) }
+        ensures octets { MatchIp result (λ a. IsIpv4OfBits a self.first)
+            (λ a. IsIpv6OfBits a self.first) }
     {
         self.min_addr()
     }
@@ -194,7 +196,8 @@ impl Prefix {
     pub fn min_addr(self) -> IpAddr
         ensures family { family_of result ≡ self.family }
         ensures bits { bits_of result ≡ self.first }
-        ensures octets { MatchIp result (λ a. IsIpv4OfBits a self.first) (λ a. IsIpv6OfBits a self.first) }
+        ensures octets { MatchIp result (λ a. IsIpv4OfBits a self.first)
+            (λ a. IsIpv6OfBits a self.first) }
     {
         address(self.kind, self.first)
     }
@@ -203,7 +206,8 @@ impl Prefix {
     pub fn max_addr(self) -> IpAddr
         ensures family { family_of result ≡ self.family }
         ensures bits { bits_of result ≡ last_of self }
-        ensures octets { MatchIp result (λ a. IsIpv4OfBits a (last_of self)) (λ a. IsIpv6OfBits a (last_of self)) }
+        ensures octets { MatchIp result (λ a. IsIpv4OfBits a (last_of self))
+            (λ a. IsIpv6OfBits a (last_of self)) }
     {
         address(self.kind, self.last())
     }

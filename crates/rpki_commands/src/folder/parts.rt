@@ -87,7 +87,8 @@ fn sorted_verdicts(mut verdicts: Vec<Verdict>) -> Vec<Verdict>
 /// The parts that the contents of a folder tell. Lists keep what was read, entries that occur twice included.
 pub fn parts_of(alloc: Global, contents: Contents) -> Result<Parts, BundleError>
     ensures ok { IfOk result (λ parts. TellsParts contents parts) }
-    ensures refused { IfErr result (λ e. OnNotABundle e ((b : BundleValue) → Tells contents b → ⊥)) }
+    ensures refused { IfErr result
+        (λ e. OnNotABundle e ((b : BundleValue) → Tells contents b → ⊥)) }
 {
     let Some(moment) = moment_of(contents.moment.as_slice()) else {
         return Err(BundleError::NotABundle);

@@ -29,7 +29,8 @@ fn take_digest(text: &[u8]) -> Option<([u8; 32], &[u8])>
 // The digest behind a space in front, and what is behind its digits.
 fn take_next_digest(text: &[u8]) -> Option<([u8; 32], &[u8])>
     ensures found { IfSome result (λ r. TakesNextDigest text.now r.0 r.1.now) }
-    ensures none { IfNone result ((digest rest : List ℕ) → TakesNextDigest text.now digest rest → ⊥) }
+    ensures none { IfNone result
+        ((digest rest : List ℕ) → TakesNextDigest text.now digest rest → ⊥) }
 {
     match text.split_first() {
         Some((b' ', rest)) => take_digest(rest),
@@ -64,7 +65,8 @@ fn behind_end(text: &[u8]) -> Option<&[u8]>
 // The verdict of the line in front, and what is behind its end.
 fn take_verdict(text: &[u8]) -> Option<(Verdict, &[u8])>
     ensures found { IfSome result (λ r. TakesVerdict text.now r.0 r.1.now) }
-    ensures none { IfNone result ((verdict : VerdictValue) (rest : List ℕ) → TakesVerdict text.now verdict rest → ⊥) }
+    ensures none { IfNone result
+        ((verdict : VerdictValue) (rest : List ℕ) → TakesVerdict text.now verdict rest → ⊥) }
 {
     let Some(front) = take_digest(text) else {
         return None;
@@ -95,7 +97,8 @@ fn take_verdict(text: &[u8]) -> Option<(Verdict, &[u8])>
 /// The verdicts of the lines, in the order of the lines.
 pub(crate) fn verdicts_of(alloc: Global, text: &[u8]) -> Result<Vec<Verdict>, BundleError>
     ensures ok { IfOk result (λ verdicts. TellsVerdicts text.now verdicts.items) }
-    ensures refused { IfErr result (λ e. OnNotABundle e ((verdicts : List VerdictValue) → TellsVerdicts text.now verdicts → ⊥)) }
+    ensures refused { IfErr result (λ e. OnNotABundle e
+        ((verdicts : List VerdictValue) → TellsVerdicts text.now verdicts → ⊥)) }
 {
     let mut verdicts = Vec::new(alloc);
     let mut rest = text;

@@ -48,7 +48,8 @@ fn joined(alloc: Global, front: &str, name: &str) -> Result<String, AllocError>
 // One entry less that may come; a read fault where there were enough.
 fn count_entry(entries_left: &mut u32) -> Result<(), ReadFault>
     ensures counted { OnOk result (entries_left.new + 1 ≡ entries_left.old) }
-    ensures enough { IfErr result (λ fault. (fault ≡ ReadFault.Read) × (entries_left.old ≡ 0) × (entries_left.new ≡ 0)) }
+    ensures enough { IfErr result
+        (λ fault. (fault ≡ ReadFault.Read) × (entries_left.old ≡ 0) × (entries_left.new ≡ 0)) }
 {
     if *entries_left == 0 {
         return Err(ReadFault::Read);
@@ -67,7 +68,9 @@ impl Walk {
         uri: String,
         level: u8,
     ) -> Result<(), ReadFault>
-        ensures { OnOk result (self.new.entries_left + vec_len self.new.pending ≤ self.old.entries_left + vec_len self.old.pending) }
+        ensures { OnOk result
+            (self.new.entries_left + vec_len self.new.pending
+            ≤ self.old.entries_left + vec_len self.old.pending) }
     {
         count_entry(&mut self.entries_left)?;
         match kind_of(rt, path)? {
@@ -95,7 +98,9 @@ impl Walk {
         alloc: Global,
         folder: Pending,
     ) -> Result<(), ReadFault>
-        ensures { OnOk result (self.new.entries_left + vec_len self.new.pending ≤ self.old.entries_left + vec_len self.old.pending) }
+        ensures { OnOk result
+            (self.new.entries_left + vec_len self.new.pending
+            ≤ self.old.entries_left + vec_len self.old.pending) }
     {
         for entry in fs::read_dir(rt, folder.path.as_str())? {
             let entry = entry?;

@@ -47,9 +47,12 @@ pub fn write_bundle<R: Files + AllocGlobal + Clone + Drop, W: Write>(
 ) -> Result<(), Fault>
     requires few_writes { writer.old.failures < 2 ^ 64 - 1 }
 
-    ensures ok { OnOk result (WritesText (W.contents writer.old.inner) (W.contents writer.new.inner)) }
-    ensures refused { IfErr result (λ e. BundleFails e (W.contents writer.old.inner) (W.contents writer.new.inner)) }
-    ensures count { MatchResult result (λ _. writer.new.failures ≡ writer.old.failures) (λ e. CountsFault e writer.old.failures writer.new.failures) }
+    ensures ok { OnOk result
+        (WritesText (W.contents writer.old.inner) (W.contents writer.new.inner)) }
+    ensures refused { IfErr result
+        (λ e. BundleFails e (W.contents writer.old.inner) (W.contents writer.new.inner)) }
+    ensures count { MatchResult result (λ _. writer.new.failures ≡ writer.old.failures)
+        (λ e. CountsFault e writer.old.failures writer.new.failures) }
 {
     let contents = match read_folder(rt, alloc, folder) {
         Ok(contents) => contents,
