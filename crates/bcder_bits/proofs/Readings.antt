@@ -9,8 +9,8 @@ use Rattle.bcder_bits.specs.bcder_source.declared.error.DecodeError.TheVariants.
 use Rattle.bcder_bits.specs.bcder_primitive.Plain.{OctetsLeft, WholeOctets, LacksOctets}
 use Rattle.bcder_bits.proofs.of_bcder_primitive.Primitives.{lacks_whole}
 use Rattle.bcder_bits.specs.bcder_content.Grammar.{OneOctets}
-use Rattle.bcder_whole.specs.Ahead.{HasOctets}
-use Rattle.bcder_whole.proofs.Wholes.{has_whole}
+use Rattle.bcder_values.specs.bcder_content.Ahead.{HasOctets}
+use Rattle.bcder_values.proofs.of_bcder_content.Wholes.{has_whole}
 use Rattle.bcder_bits.specs.Bits.{BitsValue}
 use Rattle.bcder_bits.specs.Contents.{IsBitString, IsAnyBits}
 

@@ -6,7 +6,7 @@ ghost use Rattle.bcder_bits.specs.bcder_content.Exact.{ReadsAs};
 ghost use Rattle.bcder_bits.specs.bcder_content.Grammar.{OctetsOf};
 ghost use Rattle.bcder_bits.specs.bcder_content.Here.{here};
 ghost use Rattle.bcder_bits.specs.bcder_content.Memory.{OnMemory};
-ghost use Rattle.bcder_whole.specs.Ahead.{HasNext, HasPrimitive};
+ghost use Rattle.bcder_values.specs.bcder_content.Ahead.{HasNext, HasPrimitive};
 ghost use Rattle.bcder_bits.specs.Contents.{IsAnyBits, IsBitString, bit_string_tag};
 
 use crate::BitString;

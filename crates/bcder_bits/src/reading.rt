@@ -4,14 +4,14 @@ ghost use Rattle.bcder_bits.specs.bcder_source.Errors.{OnlyContent};
 ghost use Rattle.bcder_bits.specs.bcder_source.declared.error.DecodeError.TheVariants.{Memory};
 ghost use Rattle.bcder_bits.specs.bcder_primitive.Plain.{plain, LacksOctets, ReadsOctetsAs};
 ghost use Rattle.bcder_bits.specs.bcder_content.Memory.{OnMemory};
-ghost use Rattle.bcder_whole.specs.Ahead.{HasOctets};
+ghost use Rattle.bcder_values.specs.bcder_content.Ahead.{HasOctets};
 ghost use Rattle.bcder_bits.specs.Contents.{IsAnyBits, IsBitString};
 
 use crate::BitString;
+use crate::bcder_content::whole::{front, pass, refuse, request_all};
 use crate::bcder_primitive::Primitive;
 use crate::bcder_source::{DecodeError, Source};
 use crate::parse::is_content;
-use bcder_whole::whole::{front, pass, refuse, request_all};
 use std::alloc::Global;
 
 // Has all octets of a bit string's content at hand, and answers how many.

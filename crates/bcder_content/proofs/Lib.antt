@@ -28,6 +28,8 @@ pub mod Gathering
 pub mod Choosing
 pub mod Keeping
 pub mod Fronts
+pub mod Wholes
+pub mod Wants
 pub mod of_bcder_header
 pub mod of_bcder_primitive
 pub mod of_bcder_source

@@ -5,6 +5,7 @@ pub use Rattle.bcder_primitive.specs.Sliced
 pub use Rattle.bcder_primitive.specs.Values
 pub mod Contents
 pub mod Here
+pub mod Ahead
 pub mod Exact
 pub mod Grammar
 pub mod Ran

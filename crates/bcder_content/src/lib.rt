@@ -10,6 +10,7 @@ pub mod either;
 pub mod laws;
 pub mod skip;
 pub mod typed;
+pub mod whole;
 
 pub use bcder_header::{Ending, bcder_source, bcder_tree, ending, header};
 pub use bcder_primitive;

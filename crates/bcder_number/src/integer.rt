@@ -9,16 +9,16 @@ ghost use Rattle.bcder_number.specs.bcder_content.Exact.{ReadsAs};
 ghost use Rattle.bcder_number.specs.bcder_content.Grammar.{OctetsOf};
 ghost use Rattle.bcder_number.specs.bcder_content.Here.{here};
 ghost use Rattle.bcder_number.specs.bcder_content.Memory.{OnMemory};
-ghost use Rattle.bcder_whole.specs.Ahead.{HasOctets, HasNext};
+ghost use Rattle.bcder_values.specs.bcder_content.Ahead.{HasOctets, HasNext};
 ghost use Rattle.bcder_number.specs.Integers.{IsInteger};
 
 use crate::bcder_content::Constructed;
+use crate::bcder_content::whole::{front, request_all, take_front};
 use crate::bcder_primitive::Primitive;
 use crate::bcder_source::{ContentError, DecodeError, Source};
 use crate::bcder_tree::Tag;
 use crate::error::OverflowError;
 use crate::octets;
-use bcder_whole::whole::{front, request_all, take_front};
 use bytes::Bytes;
 use std::alloc::{AllocError, Global};
 use std::marker::Model;

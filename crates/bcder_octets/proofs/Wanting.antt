@@ -21,8 +21,8 @@ use Rattle.bcder_octets.specs.bcder_content.Grammar.{OctetsOf}
 use Rattle.bcder_octets.specs.bcder_content.Here.{here}
 use Rattle.bcder_octets.specs.bcder_content.Memory.{OnMemory, AnyErr}
 use Rattle.bcder_octets.specs.bcder_content.Ran.{Reader, Enters}
-use Rattle.bcder_whole.specs.Ahead.{HasOctets, HasNext, HasPrimitive}
-use Rattle.bcder_whole.proofs.Wants.{next_of}
+use Rattle.bcder_values.specs.bcder_content.Ahead.{HasOctets, HasNext, HasPrimitive}
+use Rattle.bcder_values.proofs.of_bcder_content.Wants.{next_of}
 use Rattle.bcder_octets.specs.Parts.{IsWhole}
 use Rattle.bcder_octets.specs.Wants.{Piece, WantsString, in_one, in_parts, WantsNext, next_in_one, next_in_parts}
 

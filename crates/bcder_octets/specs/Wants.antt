@@ -9,7 +9,7 @@ use Rattle.bcder_octets.specs.bcder_content.declared.content.Content.{Content}
 use Rattle.bcder_octets.specs.bcder_content.Either.{form_in, left_of}
 use Rattle.bcder_octets.specs.bcder_content.Grammar.{OctetsOf}
 use Rattle.bcder_octets.specs.bcder_content.Ran.{Enters}
-use Rattle.bcder_whole.specs.Ahead.{HasPrimitive, HasNext}
+use Rattle.bcder_values.specs.bcder_content.Ahead.{HasPrimitive, HasNext}
 
 -- Content octets in a mode, and the string that they are.
 abbrev pub Piece : Type 1

@@ -11,16 +11,16 @@ ghost use Rattle.bcder_octets.specs.bcder_content.Here.{here, plain};
 ghost use Rattle.bcder_octets.specs.bcder_content.Memory.{OnMemory};
 ghost use Rattle.bcder_octets.specs.bcder_primitive.Plain.{ReadsOctetsAs};
 ghost use Rattle.bcder_octets.specs.bcder_primitive.Values.{AnyOctets};
-ghost use Rattle.bcder_whole.specs.Ahead.{HasOctets, HasNext};
+ghost use Rattle.bcder_values.specs.bcder_content.Ahead.{HasOctets, HasNext};
 ghost use Rattle.bcder_octets.specs.Wants.{WantsString, WantsNext};
 ghost use Rattle.bcder_octets.specs.Parts.{FitsWhole, IsWhole, AreCut, AreParts, FitsPart, IsPart, AllParts, ReadsString};
 
 use crate::bcder_content::content::Content;
+use crate::bcder_content::whole::{front, refuse, request_all, take_front};
 use crate::bcder_content::{Captured, Constructed, Primitive};
 use crate::bcder_source::{ContentError, DecodeError, Mode, Source, Tag};
 use crate::pieces::{SEGMENT, join, join_cut};
 use crate::string::OctetString;
-use bcder_whole::whole::{front, refuse, request_all, take_front};
 use bytes::Bytes;
 use std::alloc::Global;
 

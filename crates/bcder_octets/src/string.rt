@@ -7,7 +7,7 @@ ghost use Rattle.bcder_octets.specs.bcder_content.Exact.{ReadsAs, ReadsOptAs};
 ghost use Rattle.bcder_octets.specs.bcder_content.Here.{here};
 ghost use Rattle.bcder_octets.specs.bcder_content.Memory.{OnMemory};
 ghost use Rattle.bcder_octets.specs.bcder_tree.declared.mode.Mode.TheVariants.{Der};
-ghost use Rattle.bcder_whole.specs.Ahead.{HasNext};
+ghost use Rattle.bcder_values.specs.bcder_content.Ahead.{HasNext};
 ghost use Rattle.bcder_octets.specs.Wants.{WantsString, WantsNext};
 ghost use Rattle.bcder_octets.specs.Parts.{IsWhole, ReadsString};
 

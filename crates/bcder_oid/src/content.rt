@@ -8,13 +8,13 @@ ghost use Rattle.bcder_oid.specs.bcder_content.Exact.{ReadsAs, ReadsOptAs};
 ghost use Rattle.bcder_oid.specs.bcder_content.Grammar.{OctetsOf};
 ghost use Rattle.bcder_oid.specs.bcder_content.Here.{here};
 ghost use Rattle.bcder_oid.specs.bcder_content.Memory.{OnMemory};
-ghost use Rattle.bcder_whole.specs.Ahead.{HasOctets, HasNext};
+ghost use Rattle.bcder_values.specs.bcder_content.Ahead.{HasOctets, HasNext};
 ghost use Rattle.bcder_oid.specs.Identifiers.{IsIdentifier, IsOid, IsAnyOid, AreOctets};
 
+use crate::bcder_content::whole::{front, pass, refuse, request_all, take_front};
 use crate::bcder_content::{Constructed, Primitive};
 use crate::bcder_source::{DecodeError, Source, Tag};
 use crate::oid::Oid;
-use bcder_whole::whole::{front, pass, refuse, request_all, take_front};
 use bytes::Bytes;
 use std::alloc::Global;
 use std::convert::AsSlice;

@@ -10,3 +10,5 @@ pub use Rattle.bcder_content.proofs.Taking
 pub use Rattle.bcder_content.proofs.Took
 pub use Rattle.bcder_content.proofs.Unique
 pub use Rattle.bcder_content.proofs.Within
+pub use Rattle.bcder_content.proofs.Wholes
+pub use Rattle.bcder_content.proofs.Wants

@@ -3,8 +3,8 @@ use Rattle.bcder_octets.specs.bcder_tree.declared.mode.Mode.{Mode}
 use Rattle.bcder_octets.specs.bcder_source.declared.error.DecodeError.{DecodeError}
 use Rattle.bcder_octets.specs.bcder_content.Here.{plain}
 use Rattle.bcder_octets.specs.bcder_content.Memory.{OnMemory}
-use Rattle.bcder_whole.specs.Ahead.{HasOctets}
-use Rattle.bcder_whole.proofs.Wants.{content_wants}
+use Rattle.bcder_values.specs.bcder_content.Ahead.{HasOctets}
+use Rattle.bcder_values.proofs.of_bcder_content.Wants.{content_wants}
 use Rattle.bcder_octets.specs.Parts.{IsWhole}
 use Rattle.bcder_octets.proofs.Strings.{primitive_read, constructed_read, not_primitive}
 use Rattle.bcder_octets.proofs.Wanting.{one_wants, parts_want}

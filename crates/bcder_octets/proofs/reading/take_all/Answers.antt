@@ -3,8 +3,8 @@ use Rattle.bcder_octets.specs.bcder_primitive.Plain.{plain}
 use Rattle.bcder_octets.specs.bcder_primitive.Values.{AnyOctets}
 use Rattle.bcder_octets.proofs.of_bcder_primitive.Primitives.{through, weaker}
 use Rattle.bcder_octets.proofs.of_bcder_content.Memories.{wanted}
-use Rattle.bcder_whole.proofs.Wholes.{lacks_any, has_whole}
-use Rattle.bcder_whole.proofs.Wants.{no_want_through}
+use Rattle.bcder_values.proofs.of_bcder_content.Wholes.{lacks_any, has_whole}
+use Rattle.bcder_values.proofs.of_bcder_content.Wants.{no_want_through}
 use Rattle.bcder_octets.proofs.reading.take_all.Goals as goal
 
 pub returns-in_err-count-clause-reads : goal.returns-in_err-count-clause-reads

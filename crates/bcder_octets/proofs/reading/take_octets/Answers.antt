@@ -1,5 +1,5 @@
 use Rattle.bcder_octets.proofs.of_bcder_content.Inside.{exact_octets}
-use Rattle.bcder_whole.proofs.Wants.{octets_want}
+use Rattle.bcder_values.proofs.of_bcder_content.Wants.{octets_want}
 use Rattle.bcder_octets.proofs.reading.take_octets.Goals as goal
 
 pub returns-clause-reads : goal.returns-clause-reads

@@ -1,7 +1,7 @@
 use Rattle.std.proofs.Common.{◌≡◌, sym, ◌∙◌, subst}
 use Rattle.bcder_octets.specs.bcder_tree.declared.mode.Mode.{Mode}
 use Rattle.bcder_octets.specs.bcder_tree.declared.mode.Mode.TheVariants.{Ber, Cer, Der}
-use Rattle.bcder_whole.proofs.Wants.{wants}
+use Rattle.bcder_values.proofs.of_bcder_content.Wants.{wants}
 use Rattle.bcder_octets.specs.bcder_content.Exact.{ReadsAllAs}
 use Rattle.bcder_octets.specs.bcder_content.Here.{here}
 use Rattle.bcder_octets.specs.Parts.{AreParts}

@@ -2,8 +2,8 @@ use Rattle.std.proofs.Common.{rules, IsTrue, refl, subst}
 use Rattle.bcder_octets.specs.bcder_primitive.Plain.{OctetsLeft, plain}
 use Rattle.bcder_octets.proofs.of_bcder_primitive.Primitives.{through, weaker}
 use Rattle.bcder_octets.proofs.of_bcder_content.Memories.{wanted}
-use Rattle.bcder_whole.proofs.Wholes.{lacks_any, has_whole}
-use Rattle.bcder_whole.proofs.Wants.{no_want_through}
+use Rattle.bcder_values.proofs.of_bcder_content.Wholes.{lacks_any, has_whole}
+use Rattle.bcder_values.proofs.of_bcder_content.Wants.{no_want_through}
 use Rattle.bcder_octets.specs.Parts.{FitsWhole, IsWhole}
 use Rattle.bcder_octets.proofs.reading.take_whole.Goals as goal
 

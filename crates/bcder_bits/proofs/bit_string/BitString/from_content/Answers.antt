@@ -8,8 +8,8 @@ use Rattle.bcder_bits.specs.Contents.{IsBitString}
 use Rattle.bcder_bits.proofs.ContentReadings.{content_reads}
 use Rattle.bcder_bits.specs.bcder_source.declared.error.DecodeError.{DecodeError}
 use Rattle.bcder_bits.specs.bcder_content.Memory.{OnMemory}
-use Rattle.bcder_whole.specs.Ahead.{HasOctets}
-use Rattle.bcder_whole.proofs.Wants.{content_wants}
+use Rattle.bcder_values.specs.bcder_content.Ahead.{HasOctets}
+use Rattle.bcder_values.proofs.of_bcder_content.Wants.{content_wants}
 use Rattle.bcder_bits.proofs.bit_string.BitString.from_content.Goals as goal
 
 pub returns-clause-reads : goal.returns-clause-reads

@@ -7,8 +7,8 @@ use Rattle.bcder_bits.specs.Bits.{BitsValue}
 use Rattle.bcder_bits.specs.Contents.{IsBitString}
 use Rattle.bcder_bits.specs.bcder_source.declared.error.DecodeError.{DecodeError}
 use Rattle.bcder_bits.specs.bcder_content.Memory.{OnMemory}
-use Rattle.bcder_whole.specs.Ahead.{HasOctets}
-use Rattle.bcder_whole.proofs.Wants.{octets_want}
+use Rattle.bcder_values.specs.bcder_content.Ahead.{HasOctets}
+use Rattle.bcder_values.proofs.of_bcder_content.Wants.{octets_want}
 use Rattle.bcder_bits.proofs.bit_string.BitString.take_from.Goals as goal
 
 pub returns-clause-reads : goal.returns-clause-reads

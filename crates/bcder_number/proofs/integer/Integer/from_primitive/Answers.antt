@@ -4,8 +4,8 @@ use Rattle.bcder_number.specs.bcder_source.Errors.{OnContent}
 use Rattle.bcder_number.specs.bcder_primitive.Plain.{plain, LacksOctets}
 use Rattle.bcder_number.proofs.of_bcder_primitive.Primitives.{through, weaker}
 use Rattle.bcder_number.proofs.of_bcder_content.Memories.{wanted}
-use Rattle.bcder_whole.proofs.Wholes.{lacks_any, lacks_front, has_whole}
-use Rattle.bcder_whole.proofs.Wants.{no_want_through}
+use Rattle.bcder_values.proofs.of_bcder_content.Wholes.{lacks_any, lacks_front, has_whole}
+use Rattle.bcder_values.proofs.of_bcder_content.Wants.{no_want_through}
 use Rattle.bcder_number.specs.Integers.{IsInteger}
 use Rattle.bcder_number.proofs.integer.Integer.from_primitive.Goals as goal
 

@@ -2,8 +2,8 @@ use Rattle.std.proofs.Common.{rules, IsTrue}
 use Rattle.bcder_number.specs.bcder_primitive.Plain.{plain}
 use Rattle.bcder_number.proofs.of_bcder_primitive.Primitives.{through, weaker}
 use Rattle.bcder_number.proofs.of_bcder_content.Memories.{wanted}
-use Rattle.bcder_whole.proofs.Wholes.{lacks_any, has_whole}
-use Rattle.bcder_whole.proofs.Wants.{no_want_through}
+use Rattle.bcder_values.proofs.of_bcder_content.Wholes.{lacks_any, has_whole}
+use Rattle.bcder_values.proofs.of_bcder_content.Wants.{no_want_through}
 use Rattle.bcder_number.specs.Integers.{IsNatural}
 use Rattle.bcder_number.proofs.unsigned.Unsigned.from_primitive.Goals as goal
 

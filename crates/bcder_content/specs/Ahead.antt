@@ -1,7 +1,7 @@
 -- That something of a grammar is next, read or not: what want of memory tells.
 use Rattle.std.specs.Prelude.{◌≡◌, ℕ, false, List}
-use Rattle.bcder_whole.specs.bcder_tree.Tree.{Tree}
-use Rattle.bcder_whole.specs.bcder_primitive.Plain.{OctetsLeft, WholeOctets}
+use Rattle.bcder_header.specs.bcder_tree.Tree.{Tree}
+use Rattle.bcder_primitive.specs.Plain.{OctetsLeft, WholeOctets}
 use Rattle.bcder_content.specs.Contents.{ValuesLeft, Ahead}
 use Rattle.bcder_content.specs.declared.content.Content.{Content}
 use Rattle.bcder_content.specs.Either.{form_in, in_octets, left_of}

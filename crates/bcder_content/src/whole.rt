@@ -1,8 +1,8 @@
 //! All octets of a primitive content, at hand.
 ghost use Rattle.std.specs.Prelude.{◌≡◌, ◌≤◌, List, ℕ, length, take, drop, IfOk, IfErr, OnOk, OnErr, Some, true, false};
-ghost use Rattle.bcder_whole.specs.bcder_source.Errors.{OnlyContent};
-ghost use Rattle.bcder_whole.specs.bcder_source.declared.error.DecodeError.TheVariants.{Memory};
-ghost use Rattle.bcder_whole.specs.bcder_primitive.Plain.{plain, WholeOctets};
+ghost use Rattle.bcder_header.specs.bcder_source.Errors.{OnlyContent};
+ghost use Rattle.bcder_header.specs.bcder_source.declared.error.DecodeError.TheVariants.{Memory};
+ghost use Rattle.bcder_primitive.specs.Plain.{plain, WholeOctets};
 
 use crate::bcder_primitive::Primitive;
 use crate::bcder_source::{ContentError, DecodeError, Source};

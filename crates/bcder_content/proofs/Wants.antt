@@ -2,18 +2,18 @@
 use Rattle.std.proofs.Common.{◌≡◌, ℕ, Bool, false, true, List, Result, Ok, Err, Option, Some, None, refl, sym, ap, ◌∙◌, subst}
 use Rattle.std.specs.Prelude.{IfErr}
 use Rattle.std.specs.Result.{IsErr, IsErrAnd}
-use Rattle.bcder_whole.specs.bcder_source.Errors.{OnContent, OnlyContent}
+use Rattle.bcder_header.specs.bcder_source.Errors.{OnContent, OnlyContent}
 use denote.Ref.{MutBor}
-use Rattle.bcder_whole.specs.bcder_tree.declared.mode.Mode.{Mode}
-use Rattle.bcder_whole.specs.bcder_tree.Tags.{TagValue}
-use Rattle.bcder_whole.specs.bcder_tree.Tree.{primitive}
-use Rattle.bcder_whole.specs.bcder_source.declared.error.DecodeError.{DecodeError}
-use Rattle.bcder_whole.specs.bcder_source.declared.error.DecodeError.TheVariants.{Content as content_error, Source, Memory}
-use Rattle.bcder_whole.specs.bcder_header.declared.ending.Span.{Span}
-use Rattle.bcder_whole.specs.bcder_header.declared.ending.Span.TheVariants.{Until, ToEnd}
-use Rattle.bcder_whole.specs.bcder_primitive.declared.primitive.Primitive.{Primitive}
-use Rattle.bcder_whole.specs.bcder_primitive.Plain.{OctetsLeft, plain, WholeOctets}
-use Rattle.bcder_whole.specs.bcder_primitive.Sliced.{Reader}
+use Rattle.bcder_header.specs.bcder_tree.declared.mode.Mode.{Mode}
+use Rattle.bcder_header.specs.bcder_tree.Tags.{TagValue}
+use Rattle.bcder_header.specs.bcder_tree.Tree.{primitive}
+use Rattle.bcder_header.specs.bcder_source.declared.error.DecodeError.{DecodeError}
+use Rattle.bcder_header.specs.bcder_source.declared.error.DecodeError.TheVariants.{Content as content_error, Source, Memory}
+use Rattle.bcder_header.specs.declared.ending.Span.{Span}
+use Rattle.bcder_header.specs.declared.ending.Span.TheVariants.{Until, ToEnd}
+use Rattle.bcder_primitive.specs.declared.primitive.Primitive.{Primitive}
+use Rattle.bcder_primitive.specs.Plain.{OctetsLeft, plain, WholeOctets}
+use Rattle.bcder_primitive.specs.Sliced.{Reader}
 use Rattle.bcder_content.specs.Contents.{ValuesLeft, Ahead}
 use Rattle.bcder_content.specs.Grammar.{OctetsOf}
 use Rattle.bcder_content.specs.Memory.{OnMemory, PlainErr}
@@ -24,8 +24,8 @@ use Rattle.bcder_content.specs.declared.constructed.Constructed.{Constructed}
 use Rattle.bcder_content.specs.declared.content.Content.{Content}
 use Rattle.bcder_content.specs.Either.{OctetsRun, RunsOctets, form_in, in_octets}
 use Rattle.bcder_content.specs.Here.{here}
-use Rattle.bcder_whole.specs.Ahead.{HasOctets, HasNext, HasPrimitive}
-use Rattle.bcder_whole.proofs.of_bcder_primitive.Primitives.{only_content}
+use Rattle.bcder_content.specs.Ahead.{HasOctets, HasNext, HasPrimitive}
+use Rattle.bcder_content.proofs.of_bcder_primitive.Primitives.{only_content}
 
 -- All octets of a content that was entered are those of the value that was next.
 pub next_octets : {old : ValuesLeft} {inner : OctetsLeft} {tag : TagValue} {span : Span} (v : List ℕ) → EntersOctets old tag span inner → WholeOctets inner v → Ahead old (primitive tag v)

@@ -1,9 +1,9 @@
 -- All octets of a primitive content, which are at hand.
 use Rattle.std.proofs.Common.{◌≡◌, ℕ, ◌≤◌, Some, false, List, length, take, drop, refl, sym, ap, ◌∙◌, subst}
-use Rattle.bcder_whole.specs.bcder_primitive.Plain.{OctetsLeft, GoesBy, WholeOctets, LacksOctets, GivesOctets}
-use Rattle.bcder_whole.specs.bcder_primitive.Values.{AnyOctets}
-use Rattle.bcder_whole.proofs.of_bcder_primitive.Primitives.{gives_whole, lacks_whole}
-use Rattle.bcder_whole.specs.Ahead.{HasOctets}
+use Rattle.bcder_primitive.specs.Plain.{OctetsLeft, GoesBy, WholeOctets, LacksOctets, GivesOctets}
+use Rattle.bcder_primitive.specs.Values.{AnyOctets}
+use Rattle.bcder_content.proofs.of_bcder_primitive.Primitives.{gives_whole, lacks_whole}
+use Rattle.bcder_content.specs.Ahead.{HasOctets}
 
 -- Octets at hand are all that is left, where they are as many as the limit says.
 pub whole_there : {p : OctetsLeft} {n : ℕ} → p.failed ≡ false → p.limit ≡ Some n → n ≤ length p.rest → WholeOctets p (take n p.rest)
