@@ -18,7 +18,7 @@ use Rattle.certs_basics.specs.Identifiers.{common_name, serial_number}
 use Rattle.certs_basics.specs.Lists.{joined}
 use Rattle.certs_basics.specs.Names.{Attribute, IsAttribute, IsRelativeName, IsName, IsPlain, AreRpki, IsRpkiName}
 use Rattle.certs_name.specs.declared.seen.Seen.{Seen}
-use Rattle.certs_name.specs.Inspected.{IsKind, IsTextValue, IsSeenAttribute, IsSeenRelativeName, IsSeenName, Together, common_names, serial_numbers, seen_common, seen_serial, times}
+use Rattle.certs_name.specs.Inspected.{IsKind, IsTextValue, IsSeenAttribute, IsSeenRelativeName, IsSeenName, common_names, serial_numbers, seen_common, seen_serial, times}
 use Rattle.certs_name.specs.Named.{IsNamed}
 use Rattle.certs_name.proofs.Sightings.{at_most_once, commons, serials, name_one}
 

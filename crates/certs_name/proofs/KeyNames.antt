@@ -1,5 +1,5 @@
 -- The name that is made from the identifier of a key.
-use Rattle.std.proofs.Common.{◌≡◌, ℕ, ◌+◌, ◌*◌, ◌/◌, ◌%◌, ◌<◌, Bool, true, false, List, [], ◌∷◌, ◌++◌, length, refl, sym, ap, ◌∙◌, subst, arith}
+use Rattle.std.proofs.Common.{◌≡◌, ℕ, ◌+◌, ◌*◌, ◌/◌, ◌%◌, ◌<◌, Bool, true, false, List, [], ◌∷◌, length, refl, sym, ap, subst, arith}
 use Rattle.std.specs.Prelude.{slice_index}
 use Rattle.certs_name.specs.bcder_tree.declared.mode.Mode.TheVariants.{Der}
 use Rattle.certs_name.specs.bcder_tree.Octets.{form_bit}
@@ -7,7 +7,7 @@ use Rattle.certs_name.specs.bcder_tree.Tags.{universal}
 use Rattle.certs_name.specs.bcder_tree.Tree.{Tree, Trees, primitive, constructed, none, more, IsHeader, definite, Spells, SpellsAll}
 use Rattle.certs_name.specs.bcder_values.Wraps.{one_spelled}
 use Rattle.certs_name.specs.bcder_oid.Identifiers.{IsIdentifier}
-use Rattle.hex.specs.Hex.{encode_with, encode_lower, lower_digits}
+use Rattle.hex.specs.Hex.{encode_with, lower_digits}
 use Rattle.certs_basics.specs.Identifiers.{common_name}
 use Rattle.certs_basics.specs.Names.{Attribute, IsAttribute, IsName, IsRelativeName, hex_text, subject_of}
 use Rattle.certs_name.specs.Named.{IsNamed}
@@ -97,7 +97,11 @@ is_attribute digits = record {
 is_relative : (digits : List ℕ) → IsRelativeName (relative_of digits) (record { kind = common_name; value = value_of digits } ∷ [])
 is_relative digits = record { values = more (attribute_of digits) none; whole = refl; is = record { cases = (attribute_of digits, none, refl, is_attribute digits, refl) } }
 
-is_name : (v : List ℕ) → IsName (subject_of v) (record { kind = common_name; value = value_of (hex_text v) } ∷ [])
+-- The one attribute of the name.
+abbrev pub key_attribute : List ℕ → Attribute
+key_attribute v = record { kind = common_name; value = value_of (hex_text v) }
+
+pub is_name : (v : List ℕ) → IsName (subject_of v) (key_attribute v ∷ [])
 is_name v =
     let digits = hex_text v in
     let attribute : Attribute = record { kind = common_name; value = value_of digits } in

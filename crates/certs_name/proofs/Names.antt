@@ -1,15 +1,15 @@
 -- A name by its form alone, and by its attributes; names that are kept.
-use Rattle.std.proofs.Common.{◌≡◌, List, [], ◌∷◌, Ok, Err, Result, refl, sym, ap, ◌∙◌, subst}
+use Rattle.std.proofs.Common.{◌≡◌, List, [], ◌∷◌, Ok, Err, refl, sym, ap, subst}
 use Rattle.certs_name.specs.bcder_tree.declared.mode.Mode.{Mode}
 use Rattle.certs_name.specs.bcder_tree.Tree.{Tree, Trees, Spells}
 use Rattle.certs_name.specs.bcder_source.Views.{Reading}
 use Rattle.certs_name.specs.bcder_source.Errors.{OnContent}
 use Rattle.certs_name.specs.bcder_source.declared.error.DecodeError.{DecodeError}
 use Rattle.certs_name.specs.bcder_content.declared.constructed.Constructed.{Constructed}
-use Rattle.certs_name.specs.bcder_content.Captures.{rest_of, Captures, CapturesCases}
+use Rattle.certs_name.specs.bcder_content.Captures.{rest_of, Captures}
 use Rattle.certs_name.specs.bcder_content.Contents.{ValuesLeft, Goes}
-use Rattle.certs_name.specs.bcder_content.Exact.{Gives, Lacks, ReadsAs}
-use Rattle.certs_name.specs.bcder_content.Grammar.{ExactlyOf, Many, ManyCases}
+use Rattle.certs_name.specs.bcder_content.Exact.{Gives, Lacks}
+use Rattle.certs_name.specs.bcder_content.Grammar.{ExactlyOf, ManyCases}
 use Rattle.certs_name.specs.bcder_content.Kept.{CapturedValue}
 use Rattle.certs_name.specs.bcder_content.Ran.{Reader}
 use Rattle.certs_name.proofs.of_bcder_content.Decoding.{ValueEach}

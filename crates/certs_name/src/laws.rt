@@ -1,14 +1,20 @@
 //! Laws of serial numbers and names: the contracts of functions that do nothing.
 
-ghost use Rattle.std.specs.Prelude.{◌≡◌, ◌↔◌, ◌<◌, ◌^◌, ℕ, List};
+ghost use Rattle.std.specs.Prelude.{◌≡◌, ◌↔◌, ◌<◌, ◌^◌, ℕ, All, Bool, List};
 ghost use Rattle.std.specs.declared.cmp.Ordering.TheVariants.{Equal};
 ghost use Rattle.certs_name.specs.bcder_tree.declared.mode.Mode.{Mode as ModeValue};
+ghost use Rattle.certs_name.specs.bcder_tree.declared.mode.Mode.TheVariants.{Der};
 ghost use Rattle.certs_name.specs.bcder_tree.Tags.{universal};
+ghost use Rattle.certs_name.specs.bcder_tree.Tree.{Spells};
 ghost use Rattle.certs_name.specs.bcder_content.Grammar.{End, One, Then};
+ghost use Rattle.certs_name.specs.bcder_content.Kept.{CapturedValue};
 ghost use Rattle.certs_name.specs.bcder_number.Integers.{IsNatural};
 ghost use Rattle.certs_name.specs.bcder_written.Encoded.{WritesPlain};
+ghost use Rattle.certs_name.specs.bcder_values.Captures.{CapturedText};
 ghost use Rattle.certs_name.specs.bcder_values.Returns.{ReadAgain};
 ghost use Rattle.certs_basics.specs.Basics.{IsSerial};
+ghost use Rattle.certs_basics.specs.Names.{IsKeptName, IsRpkiName, subject_of};
+ghost use Rattle.certs_name.specs.Named.{IsNamed};
 
 use crate::serial::Serial;
 use std::hash::Hash;
@@ -30,4 +36,22 @@ pub fn serials_are_read_again()
     ensures { (n : ℕ) (m : ModeValue) (text : List ℕ) → n < 2 ^ 160
         → WritesPlain m (universal 2) (λ content. IsNatural content n) text
         → ReadAgain m (λ ts. Then IsSerial End ts (n, tt)) text }
+{}
+
+/// What is written of a name is the name again, in each mode in which it can be written: it is read with the octets that
+/// were written, and inspection passes it where it passes the name.
+pub fn names_are_read_again()
+    ensures read { (name : CapturedValue) (m : ModeValue) (text : List ℕ) → IsNamed name
+        → CapturedText name m text
+        → ReadAgain m (λ ts. Then (IsKeptName m) End ts (record { mode = m; octets = text }, tt)) text }
+    ensures inspected { (name : CapturedValue) (m : ModeValue) (text : List ℕ) (strict : Bool)
+        → CapturedText name m text → IsRpkiName strict name
+        → IsRpkiName strict (record { mode = m; octets = text }) }
+{}
+
+/// The name that is made from the identifier of a key passes inspection, strict or not.
+pub fn key_names_pass_inspection()
+    ensures { (identifier octets : List ℕ) (strict : Bool) → All (λ a. a < 256) identifier
+        → Spells Der (subject_of identifier) octets
+        → IsRpkiName strict (record { mode = Der; octets = octets }) }
 {}

@@ -4,7 +4,7 @@
 //! asked by inspection alone. A [`Serial`] is a number from 0 up, below 2^160.
 //!
 //! What differs from the Rust crate: inspection refuses with [`InvalidName`], which the caller tells of the issuer or the
-//! subject; a serial number has no text; what takes memory is given an allocator and answers a `Result`, `clone` too.
+//! subject; what takes memory is given an allocator and answers a `Result`, `clone` too.
 #![tactic(auto)]
 
 mod attributes;
@@ -17,6 +17,7 @@ mod seen;
 pub mod serial;
 pub mod serial_der;
 mod serial_order;
+mod serial_text;
 mod skim;
 mod whole;
 

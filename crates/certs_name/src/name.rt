@@ -15,11 +15,10 @@ ghost use Rattle.certs_name.specs.AnyNames.{IsAnyName};
 ghost use Rattle.certs_name.specs.Named.{IsNamed};
 
 use crate::skim::skip_name;
-use bcder::decode::{Constructed, ContentError, DecodeError, Source};
+use bcder::decode::{Constructed, DecodeError, Source};
 use bcder::{Captured, Mode};
 use bytes::Bytes;
 use std::alloc::{AllocError, Global};
-use std::convert::Infallible;
 use std::marker::Model;
 
 /// The name of an issuer or a subject, kept as it stood: octets, and the mode in which they spell a name
@@ -40,19 +39,6 @@ impl Model for Name {
     ghost view = { λ n. record { mode = n.mode; octets = n.octets } };
 
     ghost invariant = { λ n. IsNamed (record { mode = n.mode; octets = n.octets }) };
-}
-
-// From now on the content is failed.
-fn fail<S: Source>(cons: &mut Constructed<S>)
-    ensures { (here S.rest cons.new).failed ≡ true }
-{
-    let refused = cons.take_sequence(|cons| -> Result<Infallible, DecodeError<S::Error>> {
-        Err((*cons).content_err(ContentError::from_static("a read was refused before")))
-    });
-    match refused {
-        Ok(never) => match never {},
-        Err(_) => {}
-    }
 }
 
 impl Name {
@@ -103,7 +89,7 @@ impl Name {
         match captured {
             Ok(captured) => Ok(Name::new(captured)),
             Err(error) => {
-                fail(cons);
+                cons.fail();
                 Err(error)
             }
         }

@@ -1,6 +1,6 @@
 //! Serial numbers (RFC 5280 4.1.2.2).
 
-ghost use Rattle.std.specs.Prelude.{◌≡◌, ◌+◌, ◌*◌, ◌^◌, ◌<◌, ◌≤◌, IfErr, IfNone, IfOk, IfSome};
+ghost use Rattle.std.specs.Prelude.{◌≡◌, ◌+◌, ◌*◌, ◌^◌, ◌<◌, ◌≤◌, ◌↔◌, IfErr, IfNone, IfOk, IfSome, IsTrue};
 ghost use Rattle.certs_name.specs.bcder_tree.Integers.{number_of};
 
 use bcder::int::OverflowError;
@@ -75,6 +75,20 @@ impl Serial {
             high: self.high * 256 + (self.low / TOP_OCTET) as u32,
             low: self.low % TOP_OCTET * 256 + u128::from(octet),
         })
+    }
+
+    // The number with these upper bits above these lowest 128.
+    pub(crate) fn from_halves(high: u32, low: u128) -> Serial
+        ensures { result ≡ high * 2 ^ 128 + low }
+    {
+        Serial { high, low }
+    }
+
+    // Whether it is 0.
+    pub(crate) fn is_zero(self) -> bool
+        ensures { IsTrue result ↔ (self ≡ 0) }
+    {
+        self.high == 0 && self.low == 0
     }
 
     // The upper bits, and the lowest 128.

@@ -1,4 +1,4 @@
-use Rattle.std.proofs.Common.{◌≡◌, ℕ, ◌<◌, ◌^◌, List}
+use Rattle.std.proofs.Common.{ℕ, ◌<◌, ◌^◌, List}
 use Rattle.certs_name.specs.bcder_tree.declared.mode.Mode.{Mode}
 use Rattle.certs_name.specs.bcder_tree.Tags.{universal}
 use Rattle.certs_name.specs.bcder_content.Grammar.{End, Then}

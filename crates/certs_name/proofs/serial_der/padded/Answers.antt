@@ -1,4 +1,4 @@
-use Rattle.std.proofs.Common.{append-nil, arith}
+use Rattle.std.proofs.Common.{append-nil}
 use Rattle.certs_name.proofs.Numbers.{halves_spell}
 use Rattle.certs_name.proofs.serial_der.padded.Goals as goal
 

@@ -1,6 +1,6 @@
-use Rattle.certs_name.proofs.Wholes.{lacks_any, gives_front}
+use Rattle.certs_name.proofs.Wholes.{lacks_any}
 use Rattle.certs_name.specs.bcder_primitive.Plain.{plain}
-use Rattle.certs_name.proofs.of_bcder_primitive.Primitives.{through, weaker, refused_whole}
+use Rattle.certs_name.proofs.of_bcder_primitive.Primitives.{through, weaker}
 use Rattle.certs_name.specs.Inspected.{IsTextOf}
 use Rattle.certs_name.proofs.whole.skip_text.Goals as goal
 

@@ -1,4 +1,3 @@
-use Rattle.std.proofs.Common.{rules}
 use Rattle.certs_name.specs.bcder_tree.Tree.{none, more}
 use Rattle.certs_name.proofs.of_bcder_content.Took.{took_one}
 use Rattle.certs_name.proofs.Names.{kept_name, no_name}
