@@ -1,5 +1,6 @@
 pub mod Encodings
 pub mod Identifying
+pub mod Alike
 pub mod Formats
 pub mod of_bcder_bits
 pub mod of_bcder_chars

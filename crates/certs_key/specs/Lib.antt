@@ -1,4 +1,5 @@
 pub mod Digesting
+pub mod Alike
 pub mod Cleared
 pub mod Forms
 pub mod Reading

@@ -56,6 +56,13 @@ impl PublicKey {
         self.format
     }
 
+    // The key's bits.
+    pub(crate) fn bit_string(&self) -> &BitString
+        ensures { result.now ≡ self.now.bits }
+    {
+        &self.bits
+    }
+
     /// The octets of the key's bits, without the count of unused bits.
     pub fn bits(&self) -> &[u8]
         ensures { result.now ≡ self.now.bits.octets }

@@ -10,6 +10,7 @@ ghost use Rattle.certs_key.specs.certs_basics.Keys.{Encodes, HasEncoding, IsKey,
 ghost use Rattle.certs_key.specs.Forms.{key};
 
 use crate::identifier::KeyIdentifier;
+use crate::key::PublicKey;
 use std::hash::Hash;
 
 /// Identifiers are equal where their octets are; order and hash agree with that.
@@ -38,4 +39,14 @@ pub fn encoded_is_der()
     ensures alone { (k : KeyValue) (octets : List ℕ) → Encodes k octets → octets ≡ encoded k }
     ensures written { (k : KeyValue) (octets : List ℕ)
         → key.writes k Der octets → octets ≡ encoded k }
+{}
+
+/// Keys are equal where their algorithms and bits are, and have equal encoded octets then. Keys whose encoded octets are
+/// equal are equal but for what stands in unused bits.
+pub fn key_equality()
+    ensures values { (a b : KeyValue) → IsTrue (⟦<PublicKey as PartialEq>⟧.eq a b) ↔ (a ≡ b) }
+    ensures encoded { (a b : KeyValue) → IsTrue (⟦<PublicKey as PartialEq>⟧.eq a b)
+        → encoded a ≡ encoded b }
+    ensures unused { (a b : KeyValue) → HasEncoding a → HasEncoding b → encoded a ≡ encoded b
+        → key.again Der a ≡ key.again Der b }
 {}

@@ -8,6 +8,7 @@
 
 pub mod digest;
 mod encode;
+mod equal;
 mod format;
 pub mod identifier;
 pub mod key;

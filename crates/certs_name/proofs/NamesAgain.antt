@@ -18,7 +18,7 @@ use Rattle.certs_name.specs.bcder_values.Captures.{CapturedText, captured_spelle
 use Rattle.certs_name.specs.bcder_values.Returns.{ReadAgain}
 use Rattle.certs_name.specs.bcder_values.Wraps.{one_spelled}
 use Rattle.certs_name.proofs.of_bcder_values.Returning.{read_again}
-use Rattle.certs_basics.specs.Names.{IsKeptName, IsRpkiName, hex_text, subject_of}
+use Rattle.certs_basics.specs.Names.{Attribute, IsKeptName, NameSays, IsRpkiName, hex_text, subject_of}
 use Rattle.certs_name.specs.Named.{IsNamed}
 use Rattle.certs_name.proofs.KeyNames.{is_name, key_attribute}
 
@@ -57,6 +57,15 @@ inspected_again n m text strict w r = record {
   says = record { tree = r.says.tree; spelled = only_spelled m r.says.tree text (spelled_in n m text r.says.tree w r.says.spelled); is = r.says.is };
   are = r.are;
 }
+
+-- Equal octets spell one value, in whatever modes.
+pub same_attributes : (a b : CapturedValue) (all : List Attribute) → IsNamed b → a.octets ≡ b.octets → NameSays a all → NameSays b all
+same_attributes a b all named e says =
+    let other = named.says.tree in
+    let same : more other none ≡ more says.tree none = one_fields {m = b.mode} {p = a.mode} (record { spelled = one_spelled b.mode other b.octets named.says.spelled })
+    (record { spelled = subst (λ (o : List ℕ). SpellsAll a.mode (more says.tree none) o) e (one_spelled a.mode says.tree a.octets says.spelled) }) in
+    let tree : other ≡ says.tree = cc in
+    record { tree = says.tree; spelled = subst (λ (t : Tree). Spells b.mode t b.octets) tree named.says.spelled; is = says.is }
 
 -- Hexadecimal digits are printable.
 

@@ -1,6 +1,6 @@
 //! Laws of serial numbers and names: the contracts of functions that do nothing.
 
-ghost use Rattle.std.specs.Prelude.{◌≡◌, ◌↔◌, ◌<◌, ◌^◌, ℕ, All, Bool, List};
+ghost use Rattle.std.specs.Prelude.{◌≡◌, ◌↔◌, ◌<◌, ◌^◌, ℕ, All, Bool, IsTrue, List};
 ghost use Rattle.std.specs.declared.cmp.Ordering.TheVariants.{Equal};
 ghost use Rattle.certs_name.specs.bcder_tree.declared.mode.Mode.{Mode as ModeValue};
 ghost use Rattle.certs_name.specs.bcder_tree.declared.mode.Mode.TheVariants.{Der};
@@ -13,9 +13,10 @@ ghost use Rattle.certs_name.specs.bcder_written.Encoded.{WritesPlain};
 ghost use Rattle.certs_name.specs.bcder_values.Captures.{CapturedText};
 ghost use Rattle.certs_name.specs.bcder_values.Returns.{ReadAgain};
 ghost use Rattle.certs_basics.specs.Basics.{IsSerial};
-ghost use Rattle.certs_basics.specs.Names.{IsKeptName, IsRpkiName, subject_of};
+ghost use Rattle.certs_basics.specs.Names.{Attribute, IsKeptName, IsRpkiName, NameSays, subject_of};
 ghost use Rattle.certs_name.specs.Named.{IsNamed};
 
+use crate::name::Name;
 use crate::serial::Serial;
 use std::hash::Hash;
 
@@ -54,4 +55,11 @@ pub fn key_names_pass_inspection()
     ensures { (identifier octets : List ℕ) (strict : Bool) → All (λ a. a < 256) identifier
         → Spells Der (subject_of identifier) octets
         → IsRpkiName strict (record { mode = Der; octets = octets }) }
+{}
+
+/// Names are equal where their octets are; equal names say the same attributes, whatever their modes.
+pub fn name_equality()
+    ensures octets { (a b : CapturedValue) → IsTrue (⟦<Name as PartialEq>⟧.eq a b) ↔ (a.octets ≡ b.octets) }
+    ensures attributes { (a b : CapturedValue) (all : List Attribute) → IsNamed b
+        → IsTrue (⟦<Name as PartialEq>⟧.eq a b) → NameSays a all → NameSays b all }
 {}

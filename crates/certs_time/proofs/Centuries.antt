@@ -1,14 +1,14 @@
 -- The text of a UTCTime behind its century is the text of the same moment in GeneralizedTime.
-use Rattle.std.proofs.Common.{◌≡◌, ◌≢◌, ℕ, ◌+◌, ◌/◌, ◌%◌, ◌<◌, ◌≤◌, inl, inr, List, [], ◌∷◌, ◌++◌, length, drop, get_or, suc, zero, Option, Some, None, IfSome, IfNone, refl, sym, ap, ◌∙◌, subst, arith}
+use Rattle.std.proofs.Common.{◌≡◌, ℕ, ◌+◌, ◌/◌, ◌%◌, ◌<◌, ◌≤◌, inl, inr, List, [], ◌∷◌, length, drop, get_or, suc, zero, Option, Some, None, IfSome, IfNone, sym, ap, ◌∙◌, subst, arith}
 use Rattle.std.proofs.Math.Seq.{drop-cons}
 use Rattle.std.proofs.lemmas.Bool.{cases_lt}
 use Rattle.std.proofs.lemmas.Bool.Decides.{nat_tests}
 use Rattle.std.proofs.lemmas.List.{drop_all}
 use Rattle.certs_time.specs.bcder_tree.Tags.{universal}
-use Rattle.certs_time.specs.bcder_tree.Tree.{Tree, primitive}
+use Rattle.certs_time.specs.bcder_tree.Tree.{primitive}
 use Rattle.certs_time.specs.declared.text.Form.{Form}
 use Rattle.certs_time.specs.declared.text.Form.TheVariants.{Utc, Generalized}
-use Rattle.certs_time.specs.Times.{Civil, IsReal, IsMoment, digits, moment_text, seconds_of}
+use Rattle.certs_time.specs.Times.{Civil, IsMoment, moment_text}
 use Rattle.certs_time.specs.Forms.{IsShortMoment, IsShortYear, Tells, WritesTime, length_of, short_text, with_century_of, time_tree, tag_of, text_in}
 
 -- Behind the century, the texts are one.

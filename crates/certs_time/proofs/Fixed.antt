@@ -1,10 +1,10 @@
 -- A text of a length that is known is read from the octets that lie at hand.
-use Rattle.std.proofs.Common.{◌≡◌, ℕ, ◌+◌, ◌<◌, ◌≤◌, suc, zero, true, false, inl, inr, List, [], ◌∷◌, ◌++◌, length, take, Option, Some, None, refl, sym, ap, ◌∙◌, subst, length-append, take_at, take_all, arith}
+use Rattle.std.proofs.Common.{◌≡◌, ℕ, ◌+◌, ◌<◌, ◌≤◌, suc, zero, true, false, inl, inr, List, [], ◌∷◌, length, take, Option, Some, None, refl, sym, ap, ◌∙◌, subst, take_at, take_all, arith}
 use Rattle.std.proofs.lemmas.Bool.{cases_lt}
 use Rattle.std.proofs.lemmas.List.{length-take}
 use Rattle.std.specs.Prelude.{min}
-use Rattle.certs_time.specs.bcder_source.Views.{View, Moved, left, limited, more_limit}
-use Rattle.certs_time.specs.bcder_primitive.Plain.{OctetsLeft, octets_in, GoesBy, Drained, WholeOctets, LacksOctets, GivesOctets}
+use Rattle.certs_time.specs.bcder_source.Views.{Moved, left, limited, more_limit}
+use Rattle.certs_time.specs.bcder_primitive.Plain.{OctetsLeft, octets_in, GoesBy, WholeOctets, LacksOctets, GivesOctets}
 
 -- Each text of P has that length.
 pub record IsFixed {A : Type 0} (P : List ℕ → A → Type 0) (n : ℕ) : Type 0 where

@@ -1,23 +1,23 @@
 -- A value tells one moment, and what is written of a moment tells it.
-use Rattle.std.proofs.Common.{◌≡◌, ℕ, ◌+◌, ◌/◌, ◌%◌, ◌<◌, ◌≤◌, inl, inr, List, [], ◌∷◌, ◌++◌, Result, Ok, Err, refl, sym, ap, ◌∙◌, subst, arith}
+use Rattle.std.proofs.Common.{◌≡◌, ℕ, ◌+◌, ◌/◌, ◌%◌, inl, inr, List, [], ◌∷◌, ◌++◌, Result, Ok, Err, refl, sym, ap, ◌∙◌, subst, arith}
 use Rattle.std.proofs.lemmas.Bool.{cases_lt}
 use Rattle.certs_time.specs.bcder_tree.declared.mode.Mode.{Mode}
 use Rattle.certs_time.specs.bcder_tree.Tags.{TagValue, universal}
-use Rattle.certs_time.specs.bcder_tree.Tree.{Tree, Trees, primitive, constructed, none, more}
+use Rattle.certs_time.specs.bcder_tree.Tree.{Tree, Trees, primitive, constructed, none}
 use Rattle.certs_time.specs.bcder_source.declared.error.DecodeError.{DecodeError}
 use Rattle.certs_time.specs.bcder_primitive.Values.{AnyOctets}
 use Rattle.certs_time.specs.bcder_content.Contents.{ValuesLeft, Unlike}
 use Rattle.certs_time.specs.bcder_content.Exact.{ReadsAs}
-use Rattle.certs_time.specs.bcder_content.Grammar.{End, Inside, OctetsOf, One, OneOctets, OneOf, Tagged, Then}
+use Rattle.certs_time.specs.bcder_content.Grammar.{End, One, OneOctets, OneOf, Tagged, Then}
 use Rattle.certs_time.proofs.of_bcder_content.Choices.{second_gives, second_lacks, universal_apart}
 use Rattle.certs_time.proofs.of_bcder_content.Taking.{weaker}
 use Rattle.certs_time.proofs.of_bcder_content.Unique.{octets_one, octets_tagged, inside_one, then_one, end_one, one_of_one}
-use Rattle.certs_time.specs.bcder_written.Encoded.{AreBoth, IsPlain, IsWrapped, SpellsSome, WritesBoth, WritesPlain, WritesWrapped, joined}
+use Rattle.certs_time.specs.bcder_written.Encoded.{AreBoth, IsPlain, SpellsSome, WritesBoth, WritesPlain, WritesWrapped, joined}
 use Rattle.certs_time.specs.bcder_values.Laws.{both_spelled}
 use Rattle.certs_time.specs.bcder_values.Plains.{plain_spelled}
 use Rattle.certs_time.specs.bcder_values.Wraps.{wrapped_spelled}
 use Rattle.certs_time.specs.Times.{Civil, IsReal, IsMoment, digits, moment_text, seconds_of}
-use Rattle.certs_time.specs.Forms.{IsShortMoment, IsShortYear, IsTime, IsValidity, IsValidityBody, WritesTime, short_text, time_tree}
+use Rattle.certs_time.specs.Forms.{IsShortMoment, IsShortYear, IsTime, IsValidity, WritesTime, short_text, time_tree}
 use Rattle.certs_time.proofs.Moments.{one_civil, one_civil_by_seconds, one_moment}
 use Rattle.certs_time.proofs.Centuries.{short_tree, whole_tree}
 

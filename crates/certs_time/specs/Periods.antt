@@ -1,5 +1,5 @@
 -- Validity: from one moment to another, both included (RFC 5280 4.1.2.5).
-use Rattle.std.specs.Prelude.{◌≡◌, ℕ, ◌<◌, ◌≤◌, ◌⊎◌, ℤ, pos, ◌+ℤ◌, ◌≤ℤ◌}
+use Rattle.std.specs.Prelude.{◌≡◌, ℕ, ◌≤◌, ◌⊎◌, ℤ, pos, ◌+ℤ◌}
 use Rattle.certs_time.specs.Times.{Civil, IsReal, seconds_of}
 
 pub record Period : Type 0 where

@@ -1,6 +1,6 @@
 //! Laws of moments and validity: the contracts of functions that do nothing.
 
-ghost use Rattle.std.specs.Prelude.{◌≡◌, ◌↔◌, ℕ, List};
+ghost use Rattle.std.specs.Prelude.{◌≡◌, ◌↔◌, ℕ, IsTrue, List};
 ghost use Rattle.std.specs.declared.cmp.Ordering.TheVariants.{Equal};
 ghost use Rattle.certs_time.specs.bcder_tree.declared.mode.Mode.{Mode as ModeValue};
 ghost use Rattle.certs_time.specs.bcder_tree.Tags.{TagValue, universal};
@@ -12,10 +12,13 @@ ghost use Rattle.certs_time.specs.bcder_values.Returns.{ReadAgain};
 ghost use Rattle.certs_time.specs.Forms.{IsTime, IsValidity, WritesTime};
 
 use crate::time::Time;
+use std::hash::Hash;
 
-/// The order of moments agrees with their equality.
+/// The order of moments agrees with their equality, and so do hashes.
 pub fn order_agrees_with_equality()
-    ensures { (a b : ℕ) → (⟦<Time as Ord>⟧.cmp a b ≡ Equal) ↔ (a ≡ b) }
+    ensures order { (a b : ℕ) → (⟦<Time as Ord>⟧.cmp a b ≡ Equal) ↔ (a ≡ b) }
+    ensures hash { (a b : ℕ) → IsTrue (⟦<Time as PartialEq>⟧.eq a b)
+        → ⟦<Time as Hash>⟧.hash_input a ≡ ⟦<Time as Hash>⟧.hash_input b }
 {}
 
 /// A value tells one moment at most, or one validity.

@@ -1,8 +1,8 @@
-use Rattle.std.proofs.Common.{◌≡◌, ℕ, length, ap, sym, ◌∙◌, arith}
+use Rattle.std.proofs.Common.{ℕ, length, ap, sym, ◌∙◌, arith}
 use Rattle.std.proofs.lemmas.List.{length-take}
 use Rattle.certs_time.proofs.of_bcder_content.Taking.{on_content}
 use Rattle.certs_time.proofs.Centuries.{tells_length}
-use Rattle.certs_time.proofs.Fixed.{failed_lacks, fixed_gives, fixed_lacks}
+use Rattle.certs_time.proofs.Fixed.{fixed_gives, fixed_lacks}
 use Rattle.certs_time.proofs.der.moment.Goals as goal
 
 pub returns-in-None-clause-reads : goal.returns-in-None-clause-reads
