@@ -17,11 +17,11 @@ ghost use Rattle.certs_signed.specs.Took.{TookOctets};
 use bcder::decode::{Constructed, ContentError, Decode, DecodeError, IntoSource, Source};
 use bcder::{BitString, Captured, Mode};
 use certs_algorithm::{RpkiSignature, RpkiSignatureAlgorithm, Signature, SignatureAlgorithm};
-use std::alloc::Global;
+use std::alloc::{AllocError, Global};
 use std::marker::Model;
 
 /// What is signed, as the octets that stood there, and its signature. Contracts see both.
-#[derive(Drop)]
+#[derive(Debug, Drop)]
 pub struct SignedData {
     message: Captured,
     signature: RpkiSignature,
@@ -142,5 +142,17 @@ impl SignedData {
                     (here I.Source.rest cons.old) s (here I.Source.rest cons.new)) }
             { SignedData::take_from(alloc, cons) },
         )
+    }
+}
+
+/// A clone is equal signed data; no octet is copied.
+impl Clone for SignedData {
+    ghost is_clone = { λ signed copy. copy ≡ signed };
+
+    fn clone(&self) -> Result<Self, AllocError> {
+        let message = self.message.clone()?;
+        let bits = self.signature.bits().clone()?;
+        let signature = Signature::from_bits(*self.signature.algorithm(), bits);
+        Ok(SignedData { message, signature })
     }
 }
