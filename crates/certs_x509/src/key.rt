@@ -1,0 +1,3 @@
+//! Public keys and their identifiers.
+
+pub use certs_key::{KeyIdentifier, PublicKey, PublicKeyFormat};

@@ -1,0 +1,3 @@
+//! Names of issuers and subjects.
+
+pub use certs_name::{InvalidName, Name};

@@ -1,0 +1,3 @@
+//! rsync and https URIs.
+
+pub use certs_uri::{Error, Https, Rsync};
