@@ -11,6 +11,7 @@ import pathlib
 import random
 import re
 
+from certs_name_cases import names, serials
 from certs_signed_cases import signed
 
 FOLDER = pathlib.Path(__file__).resolve().parent.parent / "crates" / "certs_cases"
@@ -520,6 +521,8 @@ def main():
     signed(q)
     keys(q)
     accesses(q)
+    names(q)
+    serials(q)
     (FOLDER / "stdin").write_text("".join(f"{question}\n" for question, _ in q.rows))
     (FOLDER / "stdout").write_text("".join(f"{answer}\n" for _, answer in q.rows))
     print(len(q.rows), "questions")

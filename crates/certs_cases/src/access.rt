@@ -5,7 +5,7 @@ use anyhow::{Result, anyhow};
 use bcder::Mode;
 use bcder::decode::{Decode, DecodeError};
 use certs_access::{take_authority_access, take_crl_distribution};
-use certs_uri::Rsync;
+use certs_x509::uri::Rsync;
 use std::alloc::Global;
 use std::convert::Infallible;
 

@@ -8,7 +8,7 @@ use bcder::decode::{Constructed, ContentError, Decode, DecodeError, Source};
 use bcder::encode::Values;
 use bcder::{Mode, Tag};
 use bytes::Bytes;
-use certs_key::{Digester, KeyIdentifier, PublicKey};
+use certs_x509::{Digester, KeyIdentifier, PublicKey};
 use sha1::Sha1;
 use sha2::{Digest, Sha256};
 use std::alloc::Global;

@@ -6,6 +6,8 @@
 
 mod access;
 mod key;
+mod name;
+mod serial;
 mod signed;
 mod uri;
 
@@ -20,6 +22,8 @@ fn answer(alloc: Global, words: &[&str]) -> Result<String> {
     match *topic {
         "signed" => signed::answer(alloc, rest),
         "key" => key::answer(alloc, rest),
+        "name" => name::answer(alloc, rest),
+        "serial" => serial::answer(alloc, rest),
         "access" => access::answer(alloc, rest),
         "uri" => uri::answer(alloc, rest),
         _ => Err(anyhow!("no such topic")),

@@ -5,8 +5,7 @@ use bcder::Mode;
 use bcder::decode::Decode;
 use bcder::encode::Values;
 use bytes::Bytes;
-use certs_algorithm::{DigestAlgorithm, RpkiSignatureAlgorithm, SignatureAlgorithm};
-use certs_signed::SignedData;
+use certs_x509::{DigestAlgorithm, RpkiSignatureAlgorithm, SignatureAlgorithm, SignedData};
 use std::alloc::Global;
 
 // The octets of hexadecimal digits.

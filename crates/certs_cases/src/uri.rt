@@ -5,7 +5,7 @@ use anyhow::{Result, anyhow};
 use bcder::Mode;
 use bcder::encode::Values;
 use bytes::Bytes;
-use certs_uri::{Https, Rsync};
+use certs_x509::uri::{Https, Rsync};
 use std::alloc::Global;
 
 // The octets of a word.

@@ -153,6 +153,6 @@ impl Clone for SignedData {
         let message = self.message.clone()?;
         let bits = self.signature.bits().clone()?;
         let signature = Signature::from_bits(*self.signature.algorithm(), bits);
-        Ok(SignedData { message, signature })
+        Ok(SignedData::new(message, signature))
     }
 }
