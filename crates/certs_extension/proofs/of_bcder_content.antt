@@ -6,3 +6,4 @@ pub use Rattle.certs_specs.proofs.of_bcder_content.Meaning
 pub use Rattle.certs_specs.proofs.of_bcder_content.Tagged
 pub use Rattle.certs_specs.proofs.of_bcder_content.Taking
 pub use Rattle.certs_specs.proofs.of_bcder_content.Unique
+pub use Rattle.bcder.proofs.of_bcder_content.Within

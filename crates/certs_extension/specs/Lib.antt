@@ -1,6 +1,7 @@
 pub mod Raw
 pub mod Putting
 pub mod Values
+pub mod Purposes
 -- What stands below, for the crates above.
 pub use Rattle.certs_specs.specs.bcder_bits as bcder_bits
 pub use Rattle.certs_specs.specs.bcder_content as bcder_content

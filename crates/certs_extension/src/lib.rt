@@ -10,6 +10,7 @@ pub mod error;
 pub mod extension;
 pub mod identifiers;
 pub mod policies;
+pub mod purposes;
 pub mod put;
 pub mod usage;
 
@@ -18,5 +19,6 @@ pub use error::ExtensionError;
 pub use extension::Extension;
 pub use identifiers::take_authority_key_identifier;
 pub use policies::take_policies;
+pub use purposes::ExtendedKeyUsage;
 pub use put::{Need, put_once, skip_unknown};
 pub use usage::take_key_usage;

@@ -1,0 +1,21 @@
+-- Purposes of keys (RFC 5280 4.2.1.12), each by its identifier's content octets.
+use Rattle.std.specs.Prelude.{ℕ, List}
+use Rattle.certs_extension.specs.bcder_tree.declared.mode.Mode.{Mode}
+use Rattle.certs_extension.specs.bcder_tree.Tags.{universal}
+use Rattle.certs_extension.specs.bcder_tree.Tree.{Trees}
+use Rattle.certs_extension.specs.bcder_content.Grammar.{Many, OctetsOf}
+use Rattle.certs_extension.specs.bcder_content.Words.{Gathers}
+use Rattle.certs_extension.specs.bcder_oid.Identifiers.{IsOid}
+use Rattle.certs_extension.specs.bcder_oid.declared.oid.Oid.{Oid}
+use Rattle.certs_specs.specs.Extensions.{AreSome}
+
+abbrev pub purpose_octets : Oid (List ℕ) → List ℕ
+purpose_octets o = o.0
+
+-- SEQUENCE OF KeyPurposeId, by its content
+abbrev pub AreOids : Mode → Trees → List (List ℕ) → Type 0
+AreOids m = Many (OctetsOf (universal 6) IsOid)
+
+-- One of them at least.
+abbrev pub ArePurposes : Mode → Trees → List (List ℕ) → Type 0
+ArePurposes m = Gathers (OctetsOf (universal 6) IsOid) AreSome
