@@ -1,3 +1,5 @@
 pub mod of_bcder_bits
 pub mod of_bcder_content
 pub mod of_bcder_oid
+pub mod of_bcder_values
+pub mod Oids

@@ -2,7 +2,11 @@ pub mod Raw
 pub mod Putting
 pub mod Values
 pub mod Purposes
+pub mod Usages
 -- What stands below, for the crates above.
+pub use Rattle.bcder.specs as bcder
+pub use Rattle.bcder.specs.bcder_values as bcder_values
+pub use Rattle.bcder.specs.bcder_written as bcder_written
 pub use Rattle.certs_specs.specs.bcder_bits as bcder_bits
 pub use Rattle.certs_specs.specs.bcder_content as bcder_content
 pub use Rattle.certs_specs.specs.bcder_oid as bcder_oid

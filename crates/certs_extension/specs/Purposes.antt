@@ -1,11 +1,14 @@
 -- Purposes of keys (RFC 5280 4.2.1.12), each by its identifier's content octets.
 use Rattle.std.specs.Prelude.{ℕ, List}
 use Rattle.certs_extension.specs.bcder_tree.declared.mode.Mode.{Mode}
-use Rattle.certs_extension.specs.bcder_tree.Tags.{universal}
+use Rattle.certs_extension.specs.bcder_tree.Tags.{TagValue, universal}
 use Rattle.certs_extension.specs.bcder_tree.Tree.{Trees}
 use Rattle.certs_extension.specs.bcder_content.Grammar.{Many, OctetsOf}
 use Rattle.certs_extension.specs.bcder_content.Words.{Gathers}
 use Rattle.certs_extension.specs.bcder_oid.Identifiers.{IsOid}
+use Rattle.certs_extension.specs.bcder.Kinds.{oid}
+use Rattle.certs_extension.specs.bcder_values.Forms.{Form, wrapped}
+use Rattle.certs_extension.specs.bcder_values.ListForms.{items}
 use Rattle.certs_extension.specs.bcder_oid.declared.oid.Oid.{Oid}
 use Rattle.certs_specs.specs.Extensions.{AreSome}
 
@@ -19,3 +22,13 @@ AreOids m = Many (OctetsOf (universal 6) IsOid)
 -- One of them at least.
 abbrev pub ArePurposes : Mode → Trees → List (List ℕ) → Type 0
 ArePurposes m = Gathers (OctetsOf (universal 6) IsOid) AreSome
+
+-- A list of identifiers as a form, with a tag, and with that of a SEQUENCE.
+abbrev pub lends : TagValue → List (List ℕ) → TagValue × List (List ℕ)
+lends tag all = (tag, all)
+
+abbrev pub listed : TagValue × List (List ℕ) → Form (List (List ℕ))
+listed l = wrapped l.0 (items oid)
+
+abbrev pub purposes : Form (List (List ℕ))
+purposes = wrapped (universal 16) (items oid)

@@ -1,19 +1,22 @@
 //! Extended key usage (RFC 5280 4.2.1.12).
 
 ghost use Rattle.std.specs.Prelude.{◌≡◌, ◌↔◌, [], ◌∷◌, true, map, IsTrue, IfErr, IfOk, OnErr, OnOk};
+ghost use Rattle.certs_extension.specs.bcder_tree.Tags.{universal};
 ghost use Rattle.certs_extension.specs.bcder_content.Exact.{ReadsAs};
 ghost use Rattle.certs_extension.specs.bcder_content.Here.{here};
 ghost use Rattle.certs_extension.specs.bcder_content.InMode.{ReadsFields};
 ghost use Rattle.certs_extension.specs.certs_basics.Identifiers.{bgpsec_router};
 ghost use Rattle.certs_extension.specs.certs_basics.Lists.{Mem};
 ghost use Rattle.certs_specs.specs.Extensions.{IsExtendedKeyUsage};
-ghost use Rattle.certs_extension.specs.Purposes.{AreOids, ArePurposes, purpose_octets};
+ghost use Rattle.certs_extension.specs.Purposes.{AreOids, ArePurposes, lends, purpose_octets};
 
 use bcder::decode::{Constructed, ContentError, DecodeError, Source};
-use bcder::{ConstOid, Oid};
+use bcder::encode::{self, EncodeError, Encodes, Primitive, PrimitiveContent, Values, sequence, slice};
+use bcder::{ConstOid, Mode, Oid};
 use bytes::Bytes;
 use certs_specs::InspectionError;
 use std::alloc::{AllocError, Global};
+use std::io::Write;
 use std::marker::Model;
 
 // id-kp-bgpsec-router, 1.3.6.1.5.5.7.3.30 (RFC 8209 3.1.3.2).
@@ -33,6 +36,28 @@ impl Model for ExtendedKeyUsage {
     ghost Value = { List (List ℕ) };
 
     ghost view = { λ u. map purpose_octets u.purposes.items };
+}
+
+// Each purpose as an OBJECT IDENTIFIER, by the octets that it has.
+#[derive(Clone, Copy, Drop)]
+struct AsOids;
+
+impl<'a> Encodes<'a, Oid> for AsOids {
+    ghost use Rattle.certs_extension.specs.bcder.Kinds.{oid};
+
+    type Given = Primitive<&'a Oid>;
+
+    ghost trees = { λ e x m. oid.trees x.0 m };
+
+    ghost writes = { λ e x m. oid.writes x.0 m };
+
+    fn values_of(&self, item: &'a Oid) -> Primitive<&'a Oid> {
+        item.encode_ref()
+    }
+
+    ghost spelled = { λ e x m. oid.spelled x.0 m };
+
+    ghost one_text = { λ e x m. oid.one_text x.0 m };
 }
 
 // All purposes of a content, if there are any.
@@ -105,6 +130,14 @@ impl ExtendedKeyUsage {
         )
     }
 
+    // The purposes, in a SEQUENCE.
+    fn as_values(&self) -> encode::Constructed<encode::Slice<'_, Oid, AsOids>>
+        ensures { lends result.tag (map purpose_octets result.inner.items.now)
+            ≡ lends (universal 16) self.now }
+    {
+        sequence(slice(self.purposes.as_slice(), AsOids))
+    }
+
     /// Whether a router's key may have these purposes: `NotRouterUsage` exactly where id-kp-bgpsec-router isn't among
     /// them (RFC 8209 3.1.3.2).
     pub fn inspect_router(&self) -> Result<(), InspectionError>
@@ -126,4 +159,29 @@ impl ExtendedKeyUsage {
         purposes.push(Oid(Bytes::from_static(KP_BGPSEC_ROUTER.0)))?;
         Ok(ExtendedKeyUsage { purposes })
     }
+}
+
+/// A SEQUENCE of the purposes, each by its octets, whatever they are.
+///
+/// `TooLong` where a content has more than 2^32 - 1 octets.
+impl Values for ExtendedKeyUsage {
+    ghost use Rattle.certs_extension.specs.Purposes.{purposes};
+
+    ghost trees = { λ u. purposes.trees u };
+
+    ghost writes = { λ u. purposes.writes u };
+
+    fn encoded_len(&self, mode: Mode) -> Result<usize, EncodeError> {
+        let value = self.as_values();
+        value.encoded_len(mode)
+    }
+
+    fn write_encoded<W: Write>(&self, mode: Mode, target: &mut W) -> Result<(), EncodeError> {
+        let value = self.as_values();
+        value.write_encoded(mode, target)
+    }
+
+    ghost spelled = { λ u. purposes.spelled u };
+
+    ghost one_text = { λ u. purposes.one_text u };
 }

@@ -5,13 +5,52 @@ ghost use Rattle.certs_extension.specs.bcder_content.Exact.{ReadsAs};
 ghost use Rattle.certs_extension.specs.bcder_content.Here.{here};
 ghost use Rattle.certs_specs.specs.declared.KeyUsage.{KeyUsage as Usage};
 ghost use Rattle.certs_specs.specs.Extensions.{UsageBits};
+ghost use Rattle.certs_extension.specs.bcder_bits.Contents.{bit_string_tag};
+ghost use Rattle.certs_extension.specs.Usages.{usage_octets};
 ghost use Rattle.certs_extension.specs.Values.{IsUsage};
 
-use bcder::BitString;
+use bcder::encode::{Octets, Primitive};
+use bcder::{BitString, Tag};
 use bcder::decode::{Constructed, ContentError, DecodeError, Source};
 use certs_specs::KeyUsage;
 use std::alloc::Global;
 use std::convert::Infallible;
+
+/// A key usage as a value that can be written.
+pub type KeyUsageValue = Primitive<Octets<&'static [u8]>>;
+
+/// A key usage, written.
+pub trait EncodeUsage: Sized {
+    // The key usage.
+    ghost usage: { Self → Usage };
+
+    /// The BIT STRING of the usage: `03 02 01 06` for `Ca`, keyCertSign and cRLSign, and `03 02 07 80` for `Ee`,
+    /// digitalSignature alone (RFC 6487 4.8.4).
+    fn encode(self) -> KeyUsageValue
+        ensures tag { result.tag ≡ bit_string_tag }
+        ensures octets { result.content.0.now ≡ usage_octets (usage self) };
+}
+
+impl EncodeUsage for KeyUsage {
+    ghost usage = { λ u. u };
+
+    fn encode(self) -> KeyUsageValue {
+        Primitive {
+            tag: Tag::BIT_STRING,
+            content: Octets(octets_of(self)),
+        }
+    }
+}
+
+// The content octets of a usage: how many bits are unused, and then the bits.
+fn octets_of(usage: KeyUsage) -> &'static [u8]
+    ensures { result.now ≡ usage_octets usage }
+{
+    match usage {
+        KeyUsage::Ca => &[1, 6],
+        KeyUsage::Ee => &[7, 128],
+    }
+}
 
 // Whether these are the bits.
 fn is_bits(bits: &BitString, unused: u8, octets: &[u8]) -> bool
