@@ -1,8 +1,10 @@
 -- Lemmas of bcder_content, for the crates above.
 pub use Rattle.certs_basics.proofs.of_bcder_content.Choices
+pub use Rattle.certs_basics.proofs.of_bcder_content.Choosing
 pub use Rattle.certs_basics.proofs.of_bcder_content.Forests
 pub use Rattle.certs_basics.proofs.of_bcder_content.Gathering
 pub use Rattle.certs_basics.proofs.of_bcder_content.InMode
+pub use Rattle.certs_basics.proofs.of_bcder_content.Meaning
 pub use Rattle.certs_basics.proofs.of_bcder_content.Tagged
 pub use Rattle.certs_basics.proofs.of_bcder_content.Taking
 pub use Rattle.certs_basics.proofs.of_bcder_content.Took

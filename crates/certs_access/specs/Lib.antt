@@ -1,6 +1,8 @@
 pub mod Names
 pub mod Grammars
 pub mod Seen
+pub mod Access
+pub mod Found
 -- What stands below, for the crates above.
 pub use Rattle.certs_basics.specs.bcder_chars as bcder_chars
 pub use Rattle.certs_basics.specs.bcder_content as bcder_content

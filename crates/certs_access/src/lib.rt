@@ -8,6 +8,8 @@
 pub mod authority;
 pub mod crl;
 mod names;
+pub mod subject;
 
 pub use authority::take_authority_access;
 pub use crl::take_crl_distribution;
+pub use subject::{SubjectAccess, take_subject_access};

@@ -4,7 +4,7 @@ ghost use Rattle.std.specs.Prelude.{◌≡◌, IfOk};
 ghost use Rattle.certs_access.specs.bcder_tree.Strings.{IsIa5};
 ghost use Rattle.certs_access.specs.bcder_tree.Tags.{context};
 ghost use Rattle.certs_access.specs.bcder_chars.Sets.{alone};
-ghost use Rattle.certs_access.specs.bcder_content.Exact.{ReadsOptAs};
+ghost use Rattle.certs_access.specs.bcder_content.Exact.{ReadsAs, ReadsOptAs};
 ghost use Rattle.certs_access.specs.bcder_content.Here.{here};
 ghost use Rattle.certs_access.specs.bcder_content.InMode.{ReadsFields};
 ghost use Rattle.certs_access.specs.bcder_content.Words.{Gathers};
@@ -26,6 +26,22 @@ pub(crate) fn take_opt_name<S: Source>(
         (here S.rest cons.old) result (here S.rest cons.new) }
 {
     cons.take_opt_value_if(
+        Tag::CTX_6,
+        |content|
+            ensures { ReadsText IsIa5 alone S.rest content.old result content.new }
+        { Ia5String::from_content(alloc, content) },
+    )
+}
+
+// The next value, which is a name.
+pub(crate) fn take_name<S: Source>(
+    alloc: Global,
+    cons: &mut Constructed<S>,
+) -> Result<Ia5String, DecodeError<S::Error>>
+    ensures { ReadsAs (λ octets. octets) (IsName (here S.rest cons.old).mode)
+        (here S.rest cons.old) result (here S.rest cons.new) }
+{
+    cons.take_value_if(
         Tag::CTX_6,
         |content|
             ensures { ReadsText IsIa5 alone S.rest content.old result content.new }
