@@ -5,6 +5,7 @@ pub use Rattle.certs_basics.proofs.of_bcder_content.Forests
 pub use Rattle.certs_basics.proofs.of_bcder_content.Gathering
 pub use Rattle.certs_basics.proofs.of_bcder_content.InMode
 pub use Rattle.certs_basics.proofs.of_bcder_content.Meaning
+pub use Rattle.certs_basics.proofs.of_bcder_content.Simple
 pub use Rattle.certs_basics.proofs.of_bcder_content.Tagged
 pub use Rattle.certs_basics.proofs.of_bcder_content.Taking
 pub use Rattle.certs_basics.proofs.of_bcder_content.Took
