@@ -1,0 +1,9 @@
+pub mod Fresh
+pub mod Whole
+-- What stands below, for the crates above.
+pub use Rattle.certs_specs.specs.bcder_content as bcder_content
+pub use Rattle.certs_specs.specs.certs_basics as certs_basics
+pub use Rattle.certs_key.specs as certs_key
+pub use Rattle.certs_specs.specs.resources_chain as resources_chain
+pub use Rattle.certs_specs.specs.bcder_tree as bcder_tree
+pub use Rattle.certs_specs.specs.certs_time as certs_time
