@@ -11,9 +11,10 @@
 
 pub mod access;
 pub mod cert;
+pub mod claims;
 pub mod identity;
 pub mod keys;
-pub mod resources;
+
 pub mod tbs;
 pub mod usages;
 

@@ -1,0 +1,13 @@
+use Rattle.certs_specs.specs.Profiles.{Passes, tests}
+use Rattle.std.proofs.Common.{List, subst}
+use Rattle.certs_specs.specs.declared.InspectionError.{InspectionError}
+use Rattle.certs_inspect.specs.Answers.{Answers}
+use Rattle.certs_inspect.specs.certs_key.Digesting.{digests_of}
+use Rattle.certs_inspect.proofs.Chains.{answers_ok, answers_err}
+use Rattle.certs_inspect.proofs.inspect.run.Goals as goal
+
+pub returns : goal.returns
+returns g c =
+    let P = Passes (digests_of g.D.Digester.sha256_digest g.D.Digester.sha1_digest c.args.digester.now) c.args.strict c.args.role c.args.cert.now in
+    let answers = subst (λ (xs : List InspectionError). Answers P xs c.run_tests.result) c.tests-tests.ensures c.run_tests.ensures in
+    record { passed = answers_ok P (tests c.args.role) c.run_tests.result answers; refused = answers_err P (tests c.args.role) c.run_tests.result answers }

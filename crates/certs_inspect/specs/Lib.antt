@@ -1,0 +1,5 @@
+pub mod Answers
+-- What stands below, for the crates above.
+pub use Rattle.certs_cert.specs.certs_basics as certs_basics
+pub use Rattle.certs_cert.specs.certs_key as certs_key
+pub use Rattle.certs_cert.specs.resources_chain as resources_chain
