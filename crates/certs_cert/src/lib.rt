@@ -10,11 +10,11 @@
 #![tactic(auto)]
 
 pub mod access;
+pub mod building;
 pub mod cert;
 pub mod claims;
 pub mod identity;
 pub mod keys;
-
 pub mod tbs;
 pub mod usages;
 
