@@ -1,5 +1,5 @@
-//! Where revocation lists, the issuer's certificate and what the subject publishes are found (RFC 6487 4.8.6 to 4.8.8,
-//! RFC 8182 3.2).
+//! Where revocation lists, the issuer's certificate and what the subject publishes are found (RFC
+//! 6487 4.8.6 to 4.8.8, RFC 8182 3.2).
 
 ghost use Rattle.std.specs.Prelude.{◌≡◌, option_copied};
 
@@ -7,7 +7,8 @@ use crate::tbs::TbsCert;
 use certs_uri::{Https, Rsync};
 
 impl TbsCert {
-    /// The URI of the revocation list on which the certificate would be, if there is one (RFC 6487 4.8.6).
+    /// The URI of the revocation list on which the certificate would be, if there is one (RFC 6487
+    /// 4.8.6).
     pub fn crl_uri(&self) -> Option<&Rsync>
         ensures { option_copied result ≡ self.now.crl_uri }
     {

@@ -35,7 +35,8 @@ fn listed_addresses<I: Iterator<Item = IpBlock> + Drop>(
     requires can { I.can_next blocks }
     requires ends { IsFinite (I.remaining blocks) }
     ensures { IfOk result (λ made. (came : List _)
-        × DrainsIf I.next_gives ⊤ blocks came × IsChoiceOf (Blocks (map ⟦<IpBlock as Block>⟧.run came)) made) }
+        × DrainsIf I.next_gives ⊤ blocks came
+        × IsChoiceOf (Blocks (map ⟦<IpBlock as Block>⟧.run came)) made) }
 {
     Ok(IpResources::blocks(IpBlocks::from_iter(alloc, blocks)?))
 }
@@ -62,14 +63,15 @@ fn listed_numbers<I: Iterator<Item = AsBlock> + Drop>(
     requires can { I.can_next blocks }
     requires ends { IsFinite (I.remaining blocks) }
     ensures { IfOk result (λ made. (came : List _)
-        × DrainsIf I.next_gives ⊤ blocks came × IsChoiceOf (Blocks (map ⟦<AsBlock as Block>⟧.run came)) made) }
+        × DrainsIf I.next_gives ⊤ blocks came
+        × IsChoiceOf (Blocks (map ⟦<AsBlock as Block>⟧.run came)) made) }
 {
     Ok(AsResources::blocks(AsBlocks::from_iter(alloc, blocks)?))
 }
 
 impl TbsCert {
-    /// Sets the IPv4 resources to a list: of the blocks that `op` pushes. Where `op` or a growth of memory is refused
-    /// nothing changes.
+    /// Sets the IPv4 resources to a list: of the blocks that `op` pushes. Where `op` or a growth of
+    /// memory is refused nothing changes.
     pub fn build_v4_resource_blocks<F: FnOnce(&mut IpBlocksBuilder) -> Result<(), AllocError>>(
         &mut self,
         alloc: Global,
@@ -86,8 +88,8 @@ impl TbsCert {
         Ok(())
     }
 
-    /// Sets the IPv4 resources to a list: of the blocks that come, in any order. Where a growth of memory is refused
-    /// nothing changes.
+    /// Sets the IPv4 resources to a list: of the blocks that come, in any order. Where a growth of
+    /// memory is refused nothing changes.
     pub fn v4_resources_from_iter<I: Iterator<Item = IpBlock> + Drop>(
         &mut self,
         alloc: Global,
@@ -104,8 +106,8 @@ impl TbsCert {
         Ok(())
     }
 
-    /// Sets the IPv6 resources to a list: of the blocks that `op` pushes. Where `op` or a growth of memory is refused
-    /// nothing changes.
+    /// Sets the IPv6 resources to a list: of the blocks that `op` pushes. Where `op` or a growth of
+    /// memory is refused nothing changes.
     pub fn build_v6_resource_blocks<F: FnOnce(&mut IpBlocksBuilder) -> Result<(), AllocError>>(
         &mut self,
         alloc: Global,
@@ -122,8 +124,8 @@ impl TbsCert {
         Ok(())
     }
 
-    /// Sets the IPv6 resources to a list: of the blocks that come, in any order. Where a growth of memory is refused
-    /// nothing changes.
+    /// Sets the IPv6 resources to a list: of the blocks that come, in any order. Where a growth of
+    /// memory is refused nothing changes.
     pub fn v6_resources_from_iter<I: Iterator<Item = IpBlock> + Drop>(
         &mut self,
         alloc: Global,
@@ -140,8 +142,8 @@ impl TbsCert {
         Ok(())
     }
 
-    /// Sets the AS resources to a list: of the blocks that `op` pushes. Where `op` or a growth of memory is refused
-    /// nothing changes.
+    /// Sets the AS resources to a list: of the blocks that `op` pushes. Where `op` or a growth of
+    /// memory is refused nothing changes.
     pub fn build_as_resource_blocks<F: FnOnce(&mut AsBlocksBuilder) -> Result<(), AllocError>>(
         &mut self,
         alloc: Global,
@@ -158,8 +160,8 @@ impl TbsCert {
         Ok(())
     }
 
-    /// Sets the AS resources to a list: of the blocks that come, in any order. Where a growth of memory is refused
-    /// nothing changes.
+    /// Sets the AS resources to a list: of the blocks that come, in any order. Where a growth of
+    /// memory is refused nothing changes.
     pub fn as_resources_from_iter<I: Iterator<Item = AsBlock> + Drop>(
         &mut self,
         alloc: Global,

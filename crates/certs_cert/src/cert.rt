@@ -7,8 +7,8 @@ use crate::tbs::TbsCert;
 use certs_signed::SignedData;
 use std::marker::Model;
 
-/// A certificate: signed octets with their signature, and the fields that the octets spell (RFC 5280 4.1.1). Contracts
-/// see both.
+/// A certificate: signed octets with their signature, and the fields that the octets spell (RFC
+/// 5280 4.1.1). Contracts see both.
 #[derive(Drop)]
 pub struct Cert {
     signed: SignedData,

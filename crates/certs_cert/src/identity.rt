@@ -45,7 +45,10 @@ impl TbsCert {
 
     /// From when to when the certificate is valid (RFC 5280 4.1.2.5).
     pub fn validity(&self) -> Validity
-        ensures { result ≡ record { not_before = self.now.not_before; not_after = self.now.not_after } }
+        ensures { result ≡ record {
+          not_before = self.now.not_before;
+          not_after = self.now.not_after;
+        } }
     {
         self.validity
     }

@@ -48,8 +48,8 @@ impl TbsCert {
         self.authority_key_identifier = key_identifier;
     }
 
-    /// Whether the certificate is signed by its own key, if it is valid: no authority key identifier is there, or it is
-    /// the subject key identifier (RFC 6487 4.8.3).
+    /// Whether the certificate is signed by its own key, if it is valid: no authority key
+    /// identifier is there, or it is the subject key identifier (RFC 6487 4.8.3).
     pub fn is_self_signed(&self) -> bool
         ensures { IsTrue result ↔ ((self.now.authority_key_identifier ≡ None)
             ⊎ (self.now.authority_key_identifier ≡ Some self.now.subject_key_identifier)) }

@@ -1,12 +1,12 @@
-//! Resource certificates (RFC 5280 4.1, RFC 6487 4): what is signed of a certificate, field by field, and the certificate
-//! around it.
+//! Resource certificates (RFC 5280 4.1, RFC 6487 4): what is signed of a certificate, field by
+//! field, and the certificate around it.
 //!
-//! A [`TbsCert`] is made by `TbsCert::new` and changed by its setters. Contracts see its fields; a setter changes its own
-//! field alone.
+//! A [`TbsCert`] is made by `TbsCert::new` and changed by its setters. Contracts see its fields; a
+//! setter changes its own field alone.
 //!
-//! What differs from the Rust crate: the digester by which a key's identifier is found is handed in; a subject that is
-//! made from the key takes memory, so `new` is given an allocator and answers a `Result`; a [`Cert`] lends its fields by
-//! `tbs`, and isn't dereferenced.
+//! What differs from the Rust crate: the digester by which a key's identifier is found is handed
+//! in; a subject that is made from the key takes memory, so `new` is given an allocator and answers
+//! a `Result`; a [`Cert`] lends its fields by `tbs`, and isn't dereferenced.
 #![tactic(auto)]
 
 pub mod access;

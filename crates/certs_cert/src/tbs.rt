@@ -16,8 +16,8 @@ use resources::{AsResources, IpResources, Overclaim};
 use std::alloc::{AllocError, Global};
 use std::marker::Model;
 
-/// What is signed of a certificate: its fields and its extensions (RFC 5280 4.1.2, RFC 6487 4). Contracts see all of
-/// them.
+/// What is signed of a certificate: its fields and its extensions (RFC 5280 4.1.2, RFC 6487 4).
+/// Contracts see all of them.
 #[derive(Drop)]
 pub struct TbsCert {
     pub(crate) serial_number: Serial,
@@ -94,9 +94,9 @@ fn subject_for<D: Digester>(
 }
 
 impl TbsCert {
-    /// A certificate's fields with these: the subject's name is the key's where none is given, NULL stands in the
-    /// algorithm, there are no other extensions, and all resources are missing. Memory is taken for the key's name
-    /// alone.
+    /// A certificate's fields with these: the subject's name is the key's where none is given, NULL
+    /// stands in the algorithm, there are no other extensions, and all resources are missing.
+    /// Memory is taken for the key's name alone.
     pub fn new<D: Digester>(
         alloc: Global,
         serial_number: Serial,
@@ -110,7 +110,8 @@ impl TbsCert {
     ) -> Result<TbsCert, AllocError>
         ensures fields { IfOk result (λ t. t ≡ fresh serial_number issuer validity t.subject
             subject_public_key_info
-            (identifier (digests_of D.sha256_digest D.sha1_digest digester.now) subject_public_key_info)
+            (identifier (digests_of D.sha256_digest D.sha1_digest digester.now)
+            subject_public_key_info)
             key_usage overclaim) }
         ensures subject { IfOk result (λ t. IsSubjectFor
             (digests_of D.sha256_digest D.sha1_digest digester.now) subject_public_key_info

@@ -7,8 +7,8 @@ use certs_extension::ExtendedKeyUsage;
 use certs_specs::KeyUsage;
 
 impl TbsCert {
-    /// Whether basic constraints say that the subject is an authority; none where there are no basic constraints
-    /// (RFC 6487 4.8.1).
+    /// Whether basic constraints say that the subject is an authority; none where there are no
+    /// basic constraints (RFC 6487 4.8.1).
     pub fn basic_ca(&self) -> Option<bool>
         ensures { result ≡ self.now.basic_ca }
     {
@@ -22,7 +22,8 @@ impl TbsCert {
         self.basic_ca = ca;
     }
 
-    /// Whether the certificate is of an authority, if it is valid: basic constraints are there and say so.
+    /// Whether the certificate is of an authority, if it is valid: basic constraints are there and
+    /// say so.
     pub fn is_ca(&self) -> bool
         ensures { IsTrue result ↔ (self.now.basic_ca ≡ Some true) }
     {

@@ -71,9 +71,11 @@ fn lies_in(manifest: &[u8], repository: &[u8]) -> bool
     }
 }
 
-/// Whether there are a manifest and a repository, and the manifest lies in the repository (RFC 6487 4.8.8.1).
+/// Whether there are a manifest and a repository, and the manifest lies in the repository (RFC 6487
+/// 4.8.8.1).
 pub(crate) fn has_manifest_inside(cert: &Cert) -> bool
-    ensures { IsTrue result ↔ LiesThere cert.now.tbs.access.manifest cert.now.tbs.access.repository }
+    ensures { IsTrue result ↔
+        LiesThere cert.now.tbs.access.manifest cert.now.tbs.access.repository }
 {
     let Some(manifest) = cert.tbs().rpki_manifest() else {
         return false;
