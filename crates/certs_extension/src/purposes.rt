@@ -11,7 +11,9 @@ ghost use Rattle.certs_specs.specs.Extensions.{IsExtendedKeyUsage};
 ghost use Rattle.certs_extension.specs.Purposes.{AreOids, ArePurposes, lends, purpose_octets};
 
 use bcder::decode::{Constructed, ContentError, DecodeError, Source};
-use bcder::encode::{self, EncodeError, Encodes, Primitive, PrimitiveContent, Values, sequence, slice};
+use bcder::encode::{
+    self, EncodeError, Encodes, Primitive, PrimitiveContent, Values, sequence, slice,
+};
 use bcder::{ConstOid, Mode, Oid};
 use bytes::Bytes;
 use certs_specs::InspectionError;
