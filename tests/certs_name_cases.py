@@ -343,7 +343,7 @@ def names(q):
         changed += [text[:at] for at in range(len(text)) if at < 48 or at > len(text) - 3]
         if len(text) < 40:
             for at in range(len(text)):
-                changed += [text[:at] + bytes([other]) + text[at + 1 :] for other in (0, 12, 19, 48, 49, 128, rng.randrange(256))]
+                changed += [text[:at] + bytes([other]) + text[at + 1 :] for other in (0, 19, 49, rng.randrange(256))]
     asked = [*itertools.product(MODES, texts), *(("der", text) for text in changed), *(("ber", text) for text in changed[::5])]
     for mode, text in dict.fromkeys(asked):
         answer = told(mode, text)
@@ -380,9 +380,9 @@ def serials(q):
     numbers |= {10**k - d for k in range(1, 49) for d in (0, 1)} | {2**k - d for k in range(8, 160, 8) for d in (0, 1)}
     numbers |= {rng.getrandbits(rng.randrange(1, 161)) for _ in range(60)}
     numbers = sorted(number for number in numbers if number < 2**160)
-    for number in numbers:
+    for at, number in enumerate(numbers):
         text = tlv(2, content_of(number))
-        for mode in MODES:
+        for mode in MODES if at % 4 == 0 else MODES[:1]:
             q.ask(f"{number} {text.hex()}", "serial", "read", mode, text.hex())
         q.ask(str(number), "serial", "slice", content_of(number).hex())
     q.ask("0", "serial", "slice", "")
