@@ -1,7 +1,9 @@
 //! Values as trees.
 
-ghost use Rattle.std.specs.Prelude.{◌≡◌, OnErr, true};
+ghost use Rattle.std.specs.Prelude.{◌≡◌, IfErr, OnErr, true};
 ghost use Rattle.bcder_recursive.specs.bcder_content.Exact.{ReadsAs, ReadsNextAs};
+ghost use Rattle.bcder_recursive.specs.bcder_content.Contents.{Ended};
+ghost use Rattle.bcder_recursive.specs.bcder_content.Memory.{OnMemory};
 ghost use Rattle.bcder_recursive.specs.bcder_content.Here.{here};
 ghost use Rattle.bcder_recursive.specs.Nodes.{IsTree, tree_of};
 
@@ -34,7 +36,8 @@ impl Node {
     /// The next value, whatever it is, with all that is in it.
     ///
     /// At most `depth` constructed values may be within one another: with 0 the value itself has to
-    /// be primitive, with 1 the values in it. One that is nested deeper is refused.
+    /// be primitive, with 1 the values in it. One that is nested deeper is refused. Memory is wanted
+    /// only where the content hasn't ended.
     pub fn take_from<S: Source>(
         alloc: Global,
         cons: &mut Constructed<S>,
@@ -43,6 +46,8 @@ impl Node {
         ensures reads { ReadsAs tree_of (IsTree depth)
             (here S.rest cons.old) result (here S.rest cons.new) }
         ensures failed { OnErr result ((here S.rest cons.new).failed ≡ true) }
+        ensures memory { IfErr result
+            (λ e. OnMemory e (Ended (here S.rest cons.old) → ⊥)) }
     {
         take_tree(alloc, cons, depth)
     }
@@ -56,6 +61,8 @@ impl Node {
         ensures reads { ReadsNextAs tree_of (IsTree depth)
             (here S.rest cons.old) result (here S.rest cons.new) }
         ensures failed { OnErr result ((here S.rest cons.new).failed ≡ true) }
+        ensures memory { IfErr result
+            (λ e. OnMemory e (Ended (here S.rest cons.old) → ⊥)) }
     {
         take_next(alloc, cons, depth)
     }

@@ -1,10 +1,12 @@
 //! How a tree is read: functions that call each other, by closures that are given the content of a
 //! value.
 
-ghost use Rattle.std.specs.Prelude.{◌≡◌, ℕ, OnErr, map, true};
+ghost use Rattle.std.specs.Prelude.{◌≡◌, ℕ, IfErr, OnErr, map, true};
 ghost use Rattle.bcder_recursive.specs.bcder_tree.Tree.{primitive, constructed};
 ghost use Rattle.bcder_recursive.specs.bcder_content.Either.{ReadsContentAs, SameContent};
 ghost use Rattle.bcder_recursive.specs.bcder_content.Exact.{ReadsAllAs, ReadsAs, ReadsNextAs};
+ghost use Rattle.bcder_recursive.specs.bcder_content.Contents.{Ended};
+ghost use Rattle.bcder_recursive.specs.bcder_content.Memory.{OnMemory};
 ghost use Rattle.bcder_recursive.specs.bcder_content.Here.{here, plain};
 ghost use Rattle.bcder_recursive.specs.bcder_content.InMode.{ReadsFields};
 ghost use Rattle.bcder_recursive.specs.bcder_primitive.Plain.{ReadsOctetsAs};
@@ -103,6 +105,8 @@ pub(crate) fn take_next<S: Source>(
     ensures reads { ReadsNextAs tree_of (IsTree depth)
         (here S.rest cons.old) result (here S.rest cons.new) }
     ensures failed { OnErr result ((here S.rest cons.new).failed ≡ true) }
+    ensures memory { IfErr result
+        (λ e. OnMemory e (Ended (here S.rest cons.old) → ⊥)) }
 {
     cons.take_opt_value(
         |tag, content|
@@ -122,6 +126,8 @@ pub(crate) fn take_tree<S: Source>(
     ensures reads { ReadsAs tree_of (IsTree depth)
         (here S.rest cons.old) result (here S.rest cons.new) }
     ensures failed { OnErr result ((here S.rest cons.new).failed ≡ true) }
+    ensures memory { IfErr result
+        (λ e. OnMemory e (Ended (here S.rest cons.old) → ⊥)) }
 {
     cons.take_value(
         |tag, content|

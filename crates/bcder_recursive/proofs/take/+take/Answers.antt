@@ -1,12 +1,14 @@
 use Rattle.std.proofs.Common.{◌≡◌, ◌≤◌, ◌-◌, false, true, refl, arith}
 use Rattle.bcder_recursive.specs.bcder_tree.Tree.{Trees, constructed}
 use Rattle.bcder_recursive.specs.bcder_content.Grammar.{Many}
+use Rattle.bcder_recursive.specs.bcder_content.Here.{here}
 use Rattle.bcder_recursive.specs.Nodes.{IsTree, tree_of}
 use Rattle.bcder_recursive.proofs.of_bcder_content.Anything.{exact_next}
 use Rattle.bcder_recursive.proofs.of_bcder_content.Forests.{there_next, absent_next, list_stop_next}
 use Rattle.bcder_recursive.proofs.of_bcder_content.InMode.{items_next_as, items_over}
 use Rattle.bcder_recursive.proofs.of_bcder_content.Within.{all_gives, all_stop}
 use Rattle.bcder_recursive.proofs.Trees.{branch_is, branch_within}
+use Rattle.bcder_recursive.proofs.Wanting.{wants_value}
 use Rattle.bcder_recursive.proofs.Contents.{leaf_read, branch_read, content_met, other_form}
 use Rattle.bcder_recursive.proofs.take.+take.Goals as goal
 
@@ -17,7 +19,7 @@ pub take_branch-returns-in_err-children : goal.take_branch-returns-in_err-childr
 take_branch-returns-in_err-children g t c =
     let some : 1 ≤ c.args.depth = omega (arith, c.if-depth-eq0.false) in
     all_stop tree_of (λ (ts : Trees). IsTree c.args.depth (constructed c.args.tag ts)) (Many (IsTree (c.args.depth - 1)))
-    _ _ c.from_residual.result _ c.from_residual.ensures (branch_within c.args.depth c.args.tag some)
+    (here g.S.Source.rest c.args.cons.now) _ c.from_residual.result _ c.from_residual.ensures (branch_within c.args.depth c.args.tag some)
     c.in_err-children.ensures.reads
 
 pub take_branch-returns : goal.take_branch-returns
@@ -62,3 +64,6 @@ take_next-returns-clause-reads g t c = exact_next (record { wanted = λ t x p. t
   each = λ form tag v r w m h.
       content_met tree_of (IsTree c.args.depth) tag form v w r h.0.now h.1.now h.2 h.3 h.4 h.5.1.1;
 }) c.take_opt_value.ensures.taken
+
+pub take_next-returns-clause-memory : goal.take_next-returns-clause-memory
+take_next-returns-clause-memory g t c = wants_value _ _ _ c.take_opt_value.ensures.memory
