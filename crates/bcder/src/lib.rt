@@ -13,6 +13,21 @@
 //! | [`captured`] | values that are kept as they are spelled |
 //! | [`laws`] | what follows for values and their spellings, as functions that do nothing |
 //!
+//! So a `SEQUENCE { major INTEGER, minor INTEGER }` is read that octets begin with, in DER; any other
+//! value is refused, and a number above 255:
+//!
+//! ```text
+//! Mode::Der.decode(octets, |cons| {
+//!     cons.take_sequence(|cons| {
+//!         let major = cons.take_u8()?;
+//!         let minor = cons.take_u8()?;
+//!         Ok((major, minor))
+//!     })
+//! })
+//! ```
+//!
+//! The crate `bcder_example` has this in its module `first`, with what is proved of it, and more.
+//!
 //! What differs from the Rust crate: what takes memory is given an allocator, first of all, and answers a `Result`
 //! (want of memory is an error of its own, and never another answer); nothing panics; a content owns its source;
 //! a refused read leaves its content failed. Each part's page has the rest.

@@ -28,6 +28,10 @@ IsVersionBody m = Then IsSmall (Then IsSmall End)
 abbrev pub IsVersion : Tree → Numbers → Type 0
 IsVersion = Inside (universal 16) (Then IsSmall (Then IsSmall End))
 
+-- The numbers of a pair.
+abbrev pub pair_fields : ℕ × ℕ → Numbers
+pair_fields v = (v.0, (v.1, tt))
+
 -- Settings ::= SEQUENCE { format INTEGER (0), level INTEGER DEFAULT 3, ... }
 abbrev pub settings_fields : Settings → ℕ × (ℕ × Unit {0})
 settings_fields s = (s.format, (s.level, tt))

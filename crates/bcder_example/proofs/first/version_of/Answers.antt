@@ -1,0 +1,5 @@
+use Rattle.bcder_example.proofs.of_bcder_content.Decoding.{exact_decode}
+use Rattle.bcder_example.proofs.first.version_of.Goals as goal
+
+pub returns : goal.returns
+returns c = exact_decode (record { each = λ p q r m h. h }) c.decode.ensures.decoded
