@@ -1,0 +1,61 @@
+-- Entries of revocation lists: one meaning, and what is written of one.
+use Rattle.std.proofs.Common.{◌≡◌, ℕ, ◌<◌, ◌^◌, List, refl, sym, ap, ◌∙◌, subst}
+use Rattle.certs_revoked.specs.bcder_tree.declared.mode.Mode.{Mode}
+use Rattle.certs_revoked.specs.bcder_tree.Tags.{TagValue, universal}
+use Rattle.certs_revoked.specs.bcder_tree.Tree.{Tree, Trees, primitive, constructed, none}
+use Rattle.certs_revoked.specs.bcder_primitive.Values.{AnyOctets}
+use Rattle.certs_revoked.specs.bcder_content.Grammar.{End, One, Then}
+use Rattle.certs_revoked.specs.bcder_number.Integers.{IsNatural}
+use Rattle.certs_revoked.specs.bcder_written.Encoded.{AreBoth, IsPlain, SpellsSome, joined}
+use Rattle.certs_revoked.specs.bcder_values.Laws.{both_spelled}
+use Rattle.certs_revoked.specs.bcder_values.Plains.{plain_spelled}
+use Rattle.certs_revoked.specs.bcder_values.Wraps.{wrapped_spelled}
+use Rattle.certs_revoked.specs.certs_basics.Basics.{IsSerial}
+use Rattle.certs_revoked.specs.certs_time.Forms.{IsTime, WritesTime}
+use Rattle.certs_specs.specs.CrlText.{IsRevoked, RevokedValue}
+use Rattle.certs_revoked.proofs.of_bcder_content.Unique.{as_one, inside_one, then_one, end_one}
+use Rattle.certs_revoked.proofs.of_certs_basics.Values.{serial_one}
+use Rattle.certs_revoked.proofs.of_certs_time.Meanings.{time_one, written_time}
+use Rattle.certs_revoked.specs.Entries.{entry_fields}
+use Rattle.certs_revoked.specs.Written.{WritesEntry}
+
+pub entry_one : One IsRevoked
+entry_one = as_one (inside_one (then_one serial_one (then_one time_one end_one)))
+
+-- The fields that were written.
+fields : (e : RevokedValue) (tag : TagValue) (content : List ℕ) (ts : Trees) → e.serial < 2 ^ 160 → WritesTime e.time (primitive tag content)
+    → AreBoth (IsPlain (universal 2) (λ octets. IsNatural octets e.serial)) (IsPlain tag (λ octets. AnyOctets octets content)) ts
+    → Then IsSerial (Then IsTime End) ts (entry_fields e)
+fields e tag content ts small w b =
+    let s = b.is_first in
+    let t = b.is_second in
+    let same : primitive tag t.content ≡ primitive tag content = ap (primitive tag) t.is.same in
+    record {
+      first = primitive (universal 2) s.content;
+      others = b.second;
+      whole = b.whole ∙ ap (λ (l : Trees). joined l b.second) s.whole;
+      is = record { is = record { content = s.content; whole = refl; is = s.is }; meets = small };
+      rest = record {
+        first = primitive tag t.content;
+        others = none;
+        whole = t.whole;
+        is = subst (λ (u : Tree). IsTime u e.time) (sym same) (written_time e.time (primitive tag content) w);
+        rest = record { ended = refl };
+      };
+    }
+
+pub entry_spelled : (e : RevokedValue) (tag : TagValue) (content : List ℕ) (m : Mode) (text : List ℕ) → e.serial < 2 ^ 160 → WritesTime e.time (primitive tag content)
+    → WritesEntry e tag content m text → SpellsSome m (λ ts. Then IsRevoked End ts (e, tt)) text
+entry_spelled e tag content m text small w h =
+    let spells = wrapped_spelled m (both_spelled m (plain_spelled m) (plain_spelled m)) text h in
+    record {
+      trees = spells.trees;
+      is = record {
+        first = constructed (universal 16) spells.is.values;
+        others = none;
+        whole = spells.is.whole;
+        is = record { x = entry_fields e; is = record { values = spells.is.values; whole = refl; is = fields e tag content spells.is.values small w spells.is.is }; means = refl };
+        rest = record { ended = refl };
+      };
+      spelled = spells.spelled;
+    }

@@ -1,0 +1,5 @@
+pub mod Entries
+pub mod of_bcder_content
+pub mod of_bcder_values
+pub mod of_certs_basics
+pub mod of_certs_time

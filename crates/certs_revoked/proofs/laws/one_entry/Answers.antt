@@ -1,0 +1,5 @@
+use Rattle.certs_revoked.proofs.Entries.{entry_one}
+use Rattle.certs_revoked.proofs.laws.one_entry.Goals as goal
+
+pub returns : goal.returns
+returns c = entry_one

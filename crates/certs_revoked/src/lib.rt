@@ -1,0 +1,10 @@
+//! Revoked certificates: the entries of revocation lists (RFC 5280 5.1.2.6).
+//!
+//! What differs from the Rust crate: an entry isn't read from a text, and what takes memory is given an allocator and
+//! answers a `Result`.
+#![tactic(auto)]
+
+pub mod entry;
+pub mod laws;
+
+pub use entry::CrlEntry;
