@@ -1,10 +1,10 @@
--- Entries of revocation lists: one meaning, and what is written of one.
+-- Entries of revocation lists: what is written of one.
 use Rattle.std.proofs.Common.{◌≡◌, ℕ, ◌<◌, ◌^◌, List, refl, sym, ap, ◌∙◌, subst}
 use Rattle.certs_revoked.specs.bcder_tree.declared.mode.Mode.{Mode}
 use Rattle.certs_revoked.specs.bcder_tree.Tags.{TagValue, universal}
 use Rattle.certs_revoked.specs.bcder_tree.Tree.{Tree, Trees, primitive, constructed, none}
 use Rattle.certs_revoked.specs.bcder_primitive.Values.{AnyOctets}
-use Rattle.certs_revoked.specs.bcder_content.Grammar.{End, One, Then}
+use Rattle.certs_revoked.specs.bcder_content.Grammar.{End, Then}
 use Rattle.certs_revoked.specs.bcder_number.Integers.{IsNatural}
 use Rattle.certs_revoked.specs.bcder_written.Encoded.{AreBoth, IsPlain, SpellsSome, joined}
 use Rattle.certs_revoked.specs.bcder_values.Laws.{both_spelled}
@@ -13,14 +13,9 @@ use Rattle.certs_revoked.specs.bcder_values.Wraps.{wrapped_spelled}
 use Rattle.certs_revoked.specs.certs_basics.Basics.{IsSerial}
 use Rattle.certs_revoked.specs.certs_time.Forms.{IsTime, WritesTime}
 use Rattle.certs_specs.specs.CrlText.{IsRevoked, RevokedValue}
-use Rattle.certs_revoked.proofs.of_bcder_content.Unique.{as_one, inside_one, then_one, end_one}
-use Rattle.certs_revoked.proofs.of_certs_basics.Values.{serial_one}
-use Rattle.certs_revoked.proofs.of_certs_time.Meanings.{time_one, written_time}
+use Rattle.certs_revoked.proofs.of_certs_time.Meanings.{written_time}
 use Rattle.certs_revoked.specs.Entries.{entry_fields}
 use Rattle.certs_revoked.specs.Written.{WritesEntry}
-
-pub entry_one : One IsRevoked
-entry_one = as_one (inside_one (then_one serial_one (then_one time_one end_one)))
 
 -- The fields that were written.
 fields : (e : RevokedValue) (tag : TagValue) (content : List ℕ) (ts : Trees) → e.serial < 2 ^ 160 → WritesTime e.time (primitive tag content)

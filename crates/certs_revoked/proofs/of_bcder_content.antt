@@ -1,6 +1,7 @@
 -- Lemmas of bcder_content, for the crates above.
 pub use Rattle.certs_basics.proofs.of_bcder_content.Choices
 pub use Rattle.certs_basics.proofs.of_bcder_content.Decoding
+pub use Rattle.certs_basics.proofs.of_bcder_content.Gathering
 pub use Rattle.certs_basics.proofs.of_bcder_content.Forests
 pub use Rattle.certs_basics.proofs.of_bcder_content.InMode
 pub use Rattle.certs_basics.proofs.of_bcder_content.Inside

@@ -6,5 +6,8 @@
 
 pub mod entry;
 pub mod laws;
+pub mod revoked;
+mod search;
 
 pub use entry::CrlEntry;
+pub use revoked::RevokedCertificates;

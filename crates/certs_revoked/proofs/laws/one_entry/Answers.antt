@@ -1,4 +1,4 @@
-use Rattle.certs_revoked.proofs.Entries.{entry_one}
+use Rattle.certs_revoked.specs.Listing.{entry_one}
 use Rattle.certs_revoked.proofs.laws.one_entry.Goals as goal
 
 pub returns : goal.returns

@@ -1,0 +1,136 @@
+//! The revoked certificates of a list, as the octets of their entries (RFC 5280 5.1.2.6).
+
+ghost use Rattle.std.specs.Prelude.{◌≡◌, ◌≢◌, ◌↔◌, [], false, true, IsTrue, IfErr, IfNone, IfSome, OnErr};
+ghost use Rattle.certs_specs.specs.CrlText.{AreRevoked};
+ghost use Rattle.certs_revoked.specs.bcder_tree.Tags.{universal};
+ghost use Rattle.certs_revoked.specs.bcder_source.declared.error.DecodeError.TheVariants.{Memory};
+ghost use Rattle.certs_revoked.specs.bcder_content.Captures.{rest_of};
+ghost use Rattle.certs_revoked.specs.bcder_content.Exact.{ReadsOptAs};
+ghost use Rattle.certs_revoked.specs.bcder_content.Here.{here};
+ghost use Rattle.certs_revoked.specs.bcder_content.InMode.{ReadsFields};
+ghost use Rattle.certs_revoked.specs.Entries.{AreAny, AreEntries};
+ghost use Rattle.certs_revoked.specs.Listed.{IsListed, ReadsList, SpellsEntries};
+ghost use Rattle.certs_revoked.specs.Listing.{Listing, one_listing};
+
+use crate::entry::CrlEntry;
+use crate::search::has_serial;
+use bcder::decode::{Constructed, Decode, DecodeError, Source};
+use bcder::{Captured, Mode, Tag, encode};
+use certs_name::Serial;
+use std::alloc::Global;
+use std::marker::Model;
+
+/// The revoked certificates of a list: the octets of their entries, as they stood. Contracts see the entries.
+#[derive(Drop)]
+pub struct RevokedCertificates {
+    octets: Captured,
+    ghost listing: { Listing octets } by { one_listing octets },
+}
+
+impl Model for RevokedCertificates {
+    ghost use Rattle.std.specs.Prelude.{List};
+    ghost use Rattle.certs_specs.specs.CrlText.{RevokedValue};
+
+    ghost Value = { List RevokedValue };
+
+    ghost view = { λ r. r.listing.0 };
+}
+
+/// What is written of the revoked certificates: a SEQUENCE of their entries, as these stood; nothing of none.
+pub type RevokedValues<'a> = Option<encode::Constructed<&'a Captured>>;
+
+// Passes over entries, up to the end of their content.
+fn skip_entries<S: Source>(cons: &mut Constructed<S>) -> Result<(), DecodeError<S::Error>>
+    ensures reads { ReadsFields (λ x. x) AreAny (here S.rest cons.old) result (here S.rest cons.new) }
+    ensures no_memory { IfErr result (λ e. e ≢ Memory) }
+{
+    while let Some(_entry) = CrlEntry::take_opt_from(cons)? {}
+    Ok(())
+}
+
+// The entries that are left of a content, as they stand.
+fn take_content<S: Source>(
+    alloc: Global,
+    cons: &mut Constructed<S>,
+) -> Result<RevokedCertificates, DecodeError<S::Error>>
+    ensures { ReadsFields (λ l. l) AreEntries (here S.rest cons.old) result (here S.rest cons.new) }
+{
+    let octets = cons.capture(
+        alloc,
+        |cons|
+            ensures reads { ReadsFields (λ x. x) AreAny
+                (here rest_of cons.old) result (here rest_of cons.new) }
+            ensures no_memory { IfErr result (λ e. e ≢ Memory) }
+        { skip_entries(cons) },
+    )?;
+    Ok(RevokedCertificates { octets })
+}
+
+impl RevokedCertificates {
+    /// No certificates.
+    pub fn empty() -> Self
+        ensures { result ≡ [] }
+    {
+        RevokedCertificates {
+            octets: Captured::empty(Mode::Der),
+        }
+    }
+
+    /// The list of entries that is next, if a SEQUENCE is next; one that is no such list is refused.
+    pub fn take_opt_from<S: Source>(
+        alloc: Global,
+        cons: &mut Constructed<S>,
+    ) -> Result<Option<Self>, DecodeError<S::Error>>
+        ensures reads { ReadsOptAs (λ l. l) (universal 16) AreRevoked
+            (here S.rest cons.old) result (here S.rest cons.new) }
+        ensures failed { OnErr result ((here S.rest cons.new).failed ≡ true) }
+    {
+        cons.take_opt_sequence(
+            |cons|
+                ensures { ReadsFields (λ l. l) AreEntries
+                    (here S.rest cons.old) result (here S.rest cons.new) }
+            { take_content(alloc, cons) },
+        )
+    }
+
+    /// The list of entries that is next; no certificates, where no SEQUENCE is next.
+    pub fn take_from<S: Source>(
+        alloc: Global,
+        cons: &mut Constructed<S>,
+    ) -> Result<Self, DecodeError<S::Error>>
+        ensures reads { ReadsList (here S.rest cons.old) result (here S.rest cons.new) }
+        ensures failed { OnErr result ((here S.rest cons.new).failed ≡ true) }
+    {
+        match RevokedCertificates::take_opt_from(alloc, cons) {
+            Ok(Some(list)) => Ok(list),
+            Ok(None) => Ok(RevokedCertificates::empty()),
+            Err(error) => Err(error),
+        }
+    }
+
+    /// Whether a certificate with that serial number is among them. The entries are read one by one, which takes no
+    /// memory.
+    pub fn contains(&self, serial: Serial) -> bool
+        ensures { IsTrue result ↔ IsListed self.now serial }
+    {
+        let octets = self.octets.as_slice();
+        let mode = self.octets.mode();
+        has_serial(octets, mode, serial)
+    }
+
+    /// What is written of them: nothing where there are none.
+    pub fn encode_ref(&self) -> RevokedValues<'_>
+        ensures none { IfNone result (self.now ≡ []) }
+        ensures some { IfSome result (λ v. self.now ≢ []) }
+        ensures tag { IfSome result (λ v. v.tag ≡ universal 16) }
+        ensures octets { IfSome result (λ v. ∥ SpellsEntries v.inner.now self.now ∥₁) }
+    {
+        if self.octets.as_slice().is_empty() {
+            return None;
+        }
+        Some(encode::Constructed {
+            tag: Tag::SEQUENCE,
+            inner: &self.octets,
+        })
+    }
+}

@@ -1,0 +1,53 @@
+//! Entries that are read one by one, of octets that spell them.
+
+ghost use Rattle.std.specs.Prelude.{◌≡◌, ℕ, List, false, IfOk, IsOk};
+ghost use Rattle.certs_specs.specs.CrlText.{RevokedValue};
+ghost use Rattle.certs_revoked.specs.bcder_content.Captures.{rest_of};
+ghost use Rattle.certs_revoked.specs.bcder_content.Here.{here};
+ghost use Rattle.certs_revoked.specs.Listed.{EntriesLeft, SpellsEntries, has_serial as tells};
+
+use crate::entry::CrlEntry;
+use bcder::Mode;
+use bcder::decode::{Constructed, Decode, DecodeError, SliceSource};
+use certs_name::Serial;
+use std::convert::Infallible;
+
+// Whether an entry that is left of a content has the serial number.
+fn find_serial(
+    cons: &mut Constructed<SliceSource<'_>>,
+    serial: Serial,
+) -> Result<bool, DecodeError<Infallible>>
+    ensures ok { (entries : List RevokedValue) → EntriesLeft (here rest_of cons.old) entries → IsOk result }
+    ensures found { (entries : List RevokedValue) → EntriesLeft (here rest_of cons.old) entries
+        → IfOk result (λ found. found ≡ tells serial entries) }
+    ensures sound { (entries : List RevokedValue) → EntriesLeft (here rest_of cons.old) entries
+        → (here rest_of cons.new).failed ≡ false }
+{
+    while let Some(entry) = CrlEntry::take_opt_from(cons)? {
+        if entry.user_certificate() == serial {
+            return Ok(true);
+        }
+    }
+    Ok(false)
+}
+
+/// Whether an entry has the serial number, of those that the octets spell.
+pub(crate) fn has_serial(octets: &[u8], mode: Mode, serial: Serial) -> bool
+    ensures { (entries : List RevokedValue)
+        → SpellsEntries (record { mode = mode; octets = octets.now }) entries
+        → result ≡ tells serial entries }
+{
+    match mode.decode(
+        octets,
+        |cons|
+            ensures ok { (entries : List RevokedValue) → EntriesLeft (here rest_of cons.old) entries → IsOk result }
+            ensures found { (entries : List RevokedValue) → EntriesLeft (here rest_of cons.old) entries
+                → IfOk result (λ found. found ≡ tells serial entries) }
+            ensures sound { (entries : List RevokedValue) → EntriesLeft (here rest_of cons.old) entries
+                → (here rest_of cons.new).failed ≡ false }
+        { find_serial(cons, serial) },
+    ) {
+        Ok(found) => found,
+        Err(_) => false,
+    }
+}
