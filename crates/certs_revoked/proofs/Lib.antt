@@ -1,6 +1,7 @@
 pub mod Entries
 pub mod Lists
 pub mod Searches
+pub mod Serials
 pub mod of_bcder_content
 pub mod of_bcder_values
 pub mod of_certs_basics

@@ -1,9 +1,19 @@
 -- Entries are searched for a serial number.
-use Rattle.std.proofs.Common.{◌≡◌, ◌≢◌, ◌↔◌, ◌⊎◌, ◌||◌, ℕ, Bool, false, true, nat_eq, IsTrue, List, [], ◌∷◌, Result, Ok, Err, IsOk, IfOk, IfErr, inl, inr, refl, sym, ap, ◌∙◌, subst, append-nil, length, arith}
+use Rattle.std.proofs.Common.{◌≡◌, ◌≢◌, ◌↔◌, ◌⊎◌, ◌||◌, ℕ, Bool, false, true, nat_eq, IsTrue, List, [], ◌∷◌, Result, Ok, Err, IsOk, IfOk, IfErr, inl, inr, refl, sym, ap, ◌∙◌, subst, append-nil, append_assoc, length, arith, zero, suc, ◌++◌, ◌<◌, Contains, slice_index, slice_index_or}
 use denote.Ref.{MutBor}
 use Rattle.std.proofs.Math.Logic.{∥∥₁_elim}
-use Rattle.std.specs.Cmp.{unsigned_Decides}
-use Rattle.std.specs.Coded.{Coded-set, coded_bool}
+use Rattle.std.specs.Cmp.{nat_cmp_is, ranks, unsigned_Decides}
+use Rattle.std.specs.Ordering.{nat_cmp}
+use Rattle.std.specs.declared.cmp.Ordering.TheVariants.{Less, Equal, Greater}
+use Rattle.std.specs.List.Retain.{DiffersFromLast, IsFiltered}
+use Rattle.std.specs.List.Sorted.{IsPermutation, IsSorted, IsStrictlyIncreasing}
+use Rattle.std.proofs.lemmas.Bool.{cases_lt}
+use Rattle.std.proofs.lemmas.List.Filters.{dedup_is}
+use Rattle.std.proofs.lemmas.List.Kept.{Contains-dedup_nat, Contains-from_dedup}
+use Rattle.std.proofs.lemmas.List.Sorted.{Contains-permutation, IsPermutation-sym}
+use Rattle.std.proofs.lemmas.Map.Keys.{IsStrictlyIncreasing-dedup, below_from_sorted, sorted_from_strictly_increasing}
+use Rattle.certs_revoked.specs.resources_chain.Rows.{IsOrdered}
+use Rattle.std.specs.Coded.{Coded-set, coded_bool, coded_list, coded_ℕ}
 use Rattle.std.specs.declared.convert.Infallible.{Infallible}
 use Rattle.certs_revoked.specs.bcder_tree.declared.mode.Mode.{Mode}
 use Rattle.certs_revoked.specs.bcder_tree.Tags.{universal}
@@ -23,7 +33,7 @@ use Rattle.certs_revoked.specs.bcder_content.Memory.{InErr, OnMemory}
 use Rattle.certs_revoked.specs.bcder_content.Ran.{Decoded, DecodedCases, RanIn, Reader, failed_in, fresh, refused_in}
 use Rattle.certs_revoked.specs.certs_basics.Lists.{Mem}
 use Rattle.certs_specs.specs.CrlText.{IsRevoked, RevokedValue}
-use Rattle.certs_revoked.specs.Listed.{EntriesLeft, IsListed, SpellsEntries, has_serial}
+use Rattle.certs_revoked.specs.Listed.{EntriesLeft, IsListed, SpellsEntries, has_serial, serials_of}
 use Rattle.certs_revoked.specs.Listing.{Listing}
 use Rattle.certs_revoked.proofs.Lists.{left_first, left_lacks, left_none, listing_is, no_entries}
 
@@ -188,3 +198,9 @@ no_length (a ∷ o) e = absurd (omega arith)
 -- The octets of a list, lent.
 pub lent : (c d : CapturedValue) (x : Listing c) (xs : List RevokedValue) → x.0 ≡ xs → d ≡ c → ∥ SpellsEntries d xs ∥₁
 lent c d x xs e same = subst (λ (z : CapturedValue). ∥ SpellsEntries z xs ∥₁) (sym same) (subst (λ (l : List RevokedValue). ∥ SpellsEntries c l ∥₁) e x.1)
+
+-- The closure answered of octets that spell entries, and what it answered says what is said of entries that are left.
+pub says_ok : {F T : Type 0} {g : Reader F (Constructed Reading) T Infallible} {op : F} {m : Mode} {o : List ℕ} {xs : List RevokedValue} {x : T} (says : List RevokedValue → Type 0)
+    → ((p q : MutBor (Constructed Reading)) → g.post op (p, tt) (Ok x, (q, tt)) → (ys : List RevokedValue) → EntriesLeft (here rest_of p.now) ys → says ys)
+    → SpellsEntries (record { mode = m; octets = o }) xs → Decoded rest_of g op (fresh m o) (Ok x) → says xs
+says_ok {xs = xs} says each s d = ran_met (λ v w. (ys : List RevokedValue) → EntriesLeft v ys → says ys) each d.cases.1 xs (fresh_left s)

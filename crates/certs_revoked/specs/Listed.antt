@@ -1,5 +1,5 @@
 -- Octets that spell the entries of a revocation list, and what is on it.
-use Rattle.std.specs.Prelude.{◌≡◌, ℕ, Bool, false, ◌||◌, nat_eq, List, [], ◌∷◌, Option, Result, Ok, Err}
+use Rattle.std.specs.Prelude.{◌≡◌, ℕ, Bool, false, ◌||◌, nat_eq, List, [], ◌∷◌, map, Option, Result, Ok, Err}
 use Rattle.certs_revoked.specs.bcder_tree.Tags.{universal}
 use Rattle.certs_revoked.specs.bcder_tree.Tree.{Trees}
 use Rattle.certs_revoked.specs.bcder_source.Errors.{OnContent}
@@ -32,6 +32,10 @@ pub record EntriesLeft (now : ValuesLeft) (entries : List RevokedValue) : Type 0
 abbrev pub has_serial : ℕ → List RevokedValue → Bool
 has_serial serial [] = false
 has_serial serial (entry ∷ entries) = nat_eq entry.serial serial || has_serial serial entries
+
+-- The serial numbers, in the order of the entries.
+abbrev pub serials_of : List RevokedValue → List ℕ
+serials_of = map (λ entry. entry.serial)
 
 -- A list that may be absent: no entries then.
 abbrev pub ReadsList : {E : Type 0} → ValuesLeft → Result (List RevokedValue) (DecodeError E) → ValuesLeft → Type 0

@@ -4,10 +4,12 @@
 //! answers a `Result`.
 #![tactic(auto)]
 
+pub mod cache;
 pub mod entry;
 pub mod laws;
 pub mod revoked;
 mod search;
 
+pub use cache::SerialCache;
 pub use entry::CrlEntry;
 pub use revoked::RevokedCertificates;

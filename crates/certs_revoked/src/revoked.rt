@@ -1,6 +1,6 @@
 //! The revoked certificates of a list, as the octets of their entries (RFC 5280 5.1.2.6).
 
-ghost use Rattle.std.specs.Prelude.{◌≡◌, ◌≢◌, ◌↔◌, [], false, true, IsTrue, IfErr, IfNone, IfSome, OnErr};
+ghost use Rattle.std.specs.Prelude.{◌≡◌, ◌≢◌, ◌↔◌, [], false, true, IsTrue, IfErr, IfOk, IfNone, IfSome, OnErr};
 ghost use Rattle.certs_specs.specs.CrlText.{AreRevoked};
 ghost use Rattle.certs_revoked.specs.bcder_tree.Tags.{universal};
 ghost use Rattle.certs_revoked.specs.bcder_source.declared.error.DecodeError.TheVariants.{Memory};
@@ -9,15 +9,15 @@ ghost use Rattle.certs_revoked.specs.bcder_content.Exact.{ReadsOptAs};
 ghost use Rattle.certs_revoked.specs.bcder_content.Here.{here};
 ghost use Rattle.certs_revoked.specs.bcder_content.InMode.{ReadsFields};
 ghost use Rattle.certs_revoked.specs.Entries.{AreAny, AreEntries};
-ghost use Rattle.certs_revoked.specs.Listed.{IsListed, ReadsList, SpellsEntries};
+ghost use Rattle.certs_revoked.specs.Listed.{IsListed, ReadsList, SpellsEntries, serials_of};
 ghost use Rattle.certs_revoked.specs.Listing.{Listing, one_listing};
 
 use crate::entry::CrlEntry;
-use crate::search::has_serial;
+use crate::search::{has_serial, serials_in};
 use bcder::decode::{Constructed, Decode, DecodeError, Source};
 use bcder::{Captured, Mode, Tag, encode};
 use certs_name::Serial;
-use std::alloc::Global;
+use std::alloc::{AllocError, Global};
 use std::marker::Model;
 
 /// The revoked certificates of a list: the octets of their entries, as they stood. Contracts see the entries.
@@ -116,6 +116,15 @@ impl RevokedCertificates {
         let octets = self.octets.as_slice();
         let mode = self.octets.mode();
         has_serial(octets, mode, serial)
+    }
+
+    /// The serial numbers, in the order of the entries. Refused for want of memory alone.
+    pub fn serials(&self, alloc: Global) -> Result<Vec<Serial>, AllocError>
+        ensures { IfOk result (λ serials. serials.items ≡ serials_of self.now) }
+    {
+        let octets = self.octets.as_slice();
+        let mode = self.octets.mode();
+        serials_in(alloc, octets, mode)
     }
 
     /// What is written of them: nothing where there are none.

@@ -4,13 +4,51 @@ ghost use Rattle.std.specs.Prelude.{◌≡◌, ℕ, List, false, IfOk, IsOk};
 ghost use Rattle.certs_specs.specs.CrlText.{RevokedValue};
 ghost use Rattle.certs_revoked.specs.bcder_content.Captures.{rest_of};
 ghost use Rattle.certs_revoked.specs.bcder_content.Here.{here};
-ghost use Rattle.certs_revoked.specs.Listed.{EntriesLeft, SpellsEntries, has_serial as tells};
+ghost use Rattle.certs_revoked.specs.Listed.{EntriesLeft, SpellsEntries, has_serial as tells, serials_of};
 
 use crate::entry::CrlEntry;
 use bcder::Mode;
 use bcder::decode::{Constructed, Decode, DecodeError, SliceSource};
 use certs_name::Serial;
+use std::alloc::{AllocError, Global};
 use std::convert::Infallible;
+
+// The serial numbers of the entries that are left of a content, in their order.
+fn collect_serials(
+    alloc: Global,
+    cons: &mut Constructed<SliceSource<'_>>,
+) -> Result<Vec<Serial>, DecodeError<Infallible>>
+    ensures found { (entries : List RevokedValue) → EntriesLeft (here rest_of cons.old) entries
+        → IfOk result (λ serials. serials.items ≡ serials_of entries) }
+{
+    let mut serials = Vec::new(alloc);
+    while let Some(entry) = CrlEntry::take_opt_from(cons)? {
+        serials.push(entry.user_certificate())?;
+    }
+    Ok(serials)
+}
+
+/// The serial numbers of the entries that the octets spell, in their order. Refused for want of memory alone.
+pub(crate) fn serials_in(
+    alloc: Global,
+    octets: &[u8],
+    mode: Mode,
+) -> Result<Vec<Serial>, AllocError>
+    ensures { (entries : List RevokedValue)
+        → SpellsEntries (record { mode = mode; octets = octets.now }) entries
+        → IfOk result (λ serials. serials.items ≡ serials_of entries) }
+{
+    match mode.decode(
+        octets,
+        |cons|
+            ensures { (entries : List RevokedValue) → EntriesLeft (here rest_of cons.old) entries
+                → IfOk result (λ serials. serials.items ≡ serials_of entries) }
+        { collect_serials(alloc, cons) },
+    ) {
+        Ok(serials) => Ok(serials),
+        Err(_) => Err(AllocError),
+    }
+}
 
 // Whether an entry that is left of a content has the serial number.
 fn find_serial(
