@@ -1,0 +1,48 @@
+-- Tests in their order: what the first of them answer, and what those behind them answer.
+use Rattle.std.proofs.Common.{◌≡◌, List, [], ◌∷◌, ◌++◌, Option, Some, None, Result, Ok, Err, refl, sym, ap, ◌∙◌, subst}
+use Rattle.certs_errors.specs.declared.verification.VerificationError.{VerificationError}
+use Rattle.certs_specs.specs.declared.VerificationTest.{VerificationTest}
+use Rattle.certs_specs.specs.Calls.{Fault, inspected, verified, wants_memory}
+use Rattle.certs_verify.specs.certs_basics.Lists.{Each, FirstFailing}
+use Rattle.certs_verify.specs.Answers.{fault_of, Fails, Answers}
+
+-- The first test fails, and the error tells it.
+pub fails_at_once : (P : VerificationTest → Type 0) (t : VerificationTest) (ts : List VerificationTest) → (P t → ⊥) → FirstFailing P (t ∷ ts) t
+fails_at_once P t ts n = record { front = []; behind = ts; whole = refl; passed = tt; fails = n }
+
+-- The tests before are passed.
+pub fails_next : (P : VerificationTest → Type 0) (front ts : List VerificationTest) (t : VerificationTest) → Each P front → FirstFailing P ts t → FirstFailing P (front ++ ts) t
+fails_next P [] ts t p f = f
+fails_next P (x ∷ front) ts t p f =
+    let g = fails_next P front ts t p.1 f in
+    record { front = x ∷ g.front; behind = g.behind; whole = ap (λ (ys : List VerificationTest). x ∷ ys) g.whole; passed = (p.0, g.passed); fails = g.fails }
+
+-- Tests behind change nothing.
+assoc : (a : List VerificationTest) (t : VerificationTest) (b c : List VerificationTest) → (a ++ t ∷ b) ++ c ≡ a ++ t ∷ (b ++ c)
+assoc [] t b c = refl
+assoc (x ∷ a) t b c = ap (λ (ys : List VerificationTest). x ∷ ys) (assoc a t b c)
+
+pub fails_before : (P : VerificationTest → Type 0) (ts behind : List VerificationTest) (t : VerificationTest) → FirstFailing P ts t → FirstFailing P (ts ++ behind) t
+fails_before P ts behind t f = record { front = f.front; behind = f.behind ++ behind; whole = ap (λ (ys : List VerificationTest). ys ++ behind) f.whole ∙ assoc f.front t f.behind behind; passed = f.passed; fails = f.fails }
+
+-- The same of faults.
+pub fault_next : (P : VerificationTest → Type 0) (front ts : List VerificationTest) (o : Option Fault) → Each P front → Fails P ts o → Fails P (front ++ ts) o
+fault_next P front ts None p f = absurd f
+fault_next P front ts (Some (inspected t)) p f = absurd f
+fault_next P front ts (Some (verified t)) p f = fails_next P front ts t p f
+fault_next P front ts (Some wants_memory) p f = tt
+
+pub fault_before : (P : VerificationTest → Type 0) (ts behind : List VerificationTest) (o : Option Fault) → Fails P ts o → Fails P (ts ++ behind) o
+fault_before P ts behind None f = absurd f
+fault_before P ts behind (Some (inspected t)) f = absurd f
+fault_before P ts behind (Some (verified t)) f = fails_before P ts behind t f
+fault_before P ts behind (Some wants_memory) f = tt
+
+pub each_next : (P : VerificationTest → Type 0) (front ts : List VerificationTest) → Each P front → Each P ts → Each P (front ++ ts)
+each_next P [] ts p q = q
+each_next P (x ∷ front) ts p q = (p.0, each_next P front ts p.1 q)
+
+-- An answer of the tests behind those that are passed.
+pub answers_next : {A : Type 0} (P : VerificationTest → Type 0) (front ts : List VerificationTest) (r : Result A VerificationError) → Each P front → Answers P ts r → Answers P (front ++ ts) r
+answers_next P front ts (Ok x) p a = each_next P front ts p a
+answers_next P front ts (Err e) p a = fault_next P front ts (fault_of e) p a

@@ -1,0 +1,14 @@
+use Rattle.std.proofs.Common.{rules, ◌≡◌, ◌≢◌, ◌<◌, ◌≤◌, arith, [], ◌∷◌, List, ℕ, Option, Some, None, Bool, true, false, refl, sym, ap, ◌∙◌, subst}
+use Rattle.certs_specs.specs.Cert.{CertValue}
+use Rattle.certs_specs.specs.Verified.{PassesAt, issuer_claim, nothing, validity}
+use Rattle.certs_specs.specs.declared.VerificationTest.{VerificationTest}
+use Rattle.certs_specs.specs.declared.VerificationTest.TheVariants as test
+use Rattle.certs_verify.specs.certs_basics.Verdicts.{Verdicts}
+use Rattle.certs_verify.proofs.Chains.{fails_at_once, fails_next}
+use Rattle.certs_specs.specs.Verified.{IsSignedBy}
+use Rattle.certs_verify.proofs.tests.verify_signature.Goals as goal
+
+pub returns-then-is_err-clause-answers : goal.returns-then-is_err-clause-answers
+returns-then-is_err-clause-answers g c now =
+    let bad : IsSignedBy (g.V.Verifier.says c.args.verifier.now) c.args.issuer.now.tbs.key c.args.cert.now.signed → ⊥ = search rules in
+    fails_at_once (PassesAt (g.V.Verifier.says c.args.verifier.now) now c.args.issuer.now nothing c.args.cert.now) test.BadSignature _ bad

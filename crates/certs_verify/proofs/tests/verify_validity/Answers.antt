@@ -1,0 +1,20 @@
+use Rattle.std.proofs.Common.{rules, ◌≡◌, ◌≢◌, ◌<◌, ◌≤◌, arith, [], ◌∷◌, List, ℕ, Option, Some, None, Bool, true, false, refl, sym, ap, ◌∙◌, subst}
+use Rattle.certs_specs.specs.Cert.{CertValue}
+use Rattle.certs_specs.specs.Verified.{PassesAt, issuer_claim, nothing, validity}
+use Rattle.certs_specs.specs.declared.VerificationTest.{VerificationTest}
+use Rattle.certs_specs.specs.declared.VerificationTest.TheVariants as test
+use Rattle.certs_verify.specs.certs_basics.Verdicts.{Verdicts}
+use Rattle.certs_verify.proofs.Chains.{fails_at_once, fails_next}
+use Rattle.certs_verify.proofs.tests.verify_validity.Goals as goal
+
+pub returns-then-lt-clause-answers : goal.returns-then-lt-clause-answers
+returns-then-lt-clause-answers c good issuer =
+    let early : c.args.now < c.args.cert.now.tbs.not_before = search rules in
+    fails_at_once (PassesAt good c.args.now issuer nothing c.args.cert.now) test.NotYetValid _ (λ p. omega (arith, p, early))
+
+pub returns-then-gt-clause-answers : goal.returns-then-gt-clause-answers
+returns-then-gt-clause-answers c good issuer =
+    let begun : c.args.cert.now.tbs.not_before ≤ c.args.now = search rules in
+    let late : c.args.cert.now.tbs.not_after < c.args.now = search rules in
+    let P = PassesAt good c.args.now issuer nothing c.args.cert.now in
+    fails_next P (test.NotYetValid ∷ []) _ test.Expired (begun, tt) (fails_at_once P test.Expired _ (λ p. omega (arith, p, late)))

@@ -1,0 +1,8 @@
+pub mod Answers
+pub mod Holders
+pub mod Words
+-- What stands below, for the crates above.
+pub use Rattle.certs_cert.specs.certs_basics as certs_basics
+pub use Rattle.certs_cert.specs.certs_key as certs_key
+pub use Rattle.certs_cert.specs.certs_time as certs_time
+pub use Rattle.certs_cert.specs.resources_chain as resources_chain

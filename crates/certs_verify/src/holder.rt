@@ -1,0 +1,97 @@
+//! Certificates that were verified, with what they hold.
+
+ghost use Rattle.std.specs.Prelude.{◌≡◌};
+ghost use Rattle.certs_verify.specs.Holders.{holding};
+
+use certs_cert::Cert;
+use certs_x509::TalInfo;
+use resources::{AsBlocks, IpBlocks};
+use std::alloc::Global;
+use std::marker::Model;
+use std::rc::Rc;
+
+/// What a certificate holds of each kind of number resources.
+#[derive(Drop)]
+pub(crate) struct Held {
+    pub(crate) v4: IpBlocks,
+    pub(crate) v6: IpBlocks,
+    pub(crate) asn: AsBlocks,
+}
+
+impl Model for Held {
+    ghost use Rattle.certs_verify.specs.Holders.{HeldValue};
+
+    ghost Value = { HeldValue };
+
+    ghost view = { λ h. record { v4 = h.v4; v6 = h.v6; asn = h.asn } };
+
+    ghost inverse = { λ h. record { v4 = h.v4; v6 = h.v6; asn = h.asn } };
+}
+
+/// A certificate that was verified, with the number resources that it holds by that, and what the locator of its anchor
+/// is called (RFC 6487 7.2, RFC 8360 4.2). Contracts see all of them.
+#[derive(Drop)]
+pub struct ResourceCert {
+    cert: Cert,
+    held: Held,
+    tal: Rc<TalInfo>,
+}
+
+impl Model for ResourceCert {
+    ghost use Rattle.certs_verify.specs.Holders.{ResourceCertValue, holding};
+
+    ghost Value = { ResourceCertValue };
+
+    ghost view = { λ r. record { holder = holding r.cert r.held; tal = r.tal.value } };
+}
+
+impl ResourceCert {
+    // The certificate, with what it holds.
+    pub(crate) fn new(cert: Cert, held: Held, tal: Rc<TalInfo>) -> Self
+        ensures { result ≡ record { holder = holding cert held; tal = tal.value } }
+    {
+        ResourceCert { cert, held, tal }
+    }
+
+    /// The certificate.
+    pub fn as_cert(&self) -> &Cert
+        ensures { result.now ≡ self.now.holder.cert }
+    {
+        &self.cert
+    }
+
+    /// The IPv4 addresses that it holds.
+    pub fn v4_resources(&self) -> &IpBlocks
+        ensures { result.now ≡ self.now.holder.v4 }
+    {
+        &self.held.v4
+    }
+
+    /// The IPv6 addresses that it holds.
+    pub fn v6_resources(&self) -> &IpBlocks
+        ensures { result.now ≡ self.now.holder.v6 }
+    {
+        &self.held.v6
+    }
+
+    /// The AS numbers that it holds.
+    pub fn as_resources(&self) -> &AsBlocks
+        ensures { result.now ≡ self.now.holder.asn }
+    {
+        &self.held.asn
+    }
+
+    /// What the locator is called by which its anchor was found.
+    pub fn tal(&self) -> &Rc<TalInfo>
+        ensures { result.now.value ≡ self.now.tal }
+    {
+        &self.tal
+    }
+
+    /// What the locator is called by which its anchor was found, handed over.
+    pub fn into_tal(self) -> Rc<TalInfo>
+        ensures { result.value ≡ self.tal }
+    {
+        self.tal
+    }
+}

@@ -1,0 +1,15 @@
+//! Verification of certificates: whether one is valid at a moment, below an issuer or by itself, and what it then holds
+//! (RFC 6487 7.2, RFC 8360 4.2, RFC 8630 2.3).
+//!
+//! Each kind of certificate has a list of tests in their order. A verification answers `Ok` exactly where the certificate
+//! passes all of them, and else tells the first that it doesn't pass.
+#![tactic(auto)]
+
+mod claims;
+pub mod holder;
+pub mod refused;
+mod tests;
+
+pub use certs_errors::VerificationError;
+pub use holder::ResourceCert;
+pub use refused::Refused;
