@@ -5,11 +5,15 @@
 //! passes all of them, and else tells the first that it doesn't pass.
 #![tactic(auto)]
 
+mod anchor;
+mod below;
 mod claims;
 pub mod holder;
 pub mod refused;
 mod tests;
+pub mod verify;
 
 pub use certs_errors::VerificationError;
 pub use holder::ResourceCert;
 pub use refused::Refused;
+pub use verify::Verify;

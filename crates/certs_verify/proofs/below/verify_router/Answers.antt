@@ -1,0 +1,54 @@
+use Rattle.std.proofs.Common.{[], ◌∷◌, ◌++◌}
+use Rattle.certs_specs.specs.Verified.{PassesAt, held_by, nothing, validity, issuer_claim}
+use Rattle.certs_specs.specs.declared.VerificationTest.TheVariants as test
+use Rattle.certs_verify.specs.Answers.{fault_of}
+use Rattle.certs_verify.proofs.Chains.{each_alike, each_next, fault_alike, handed_on}
+use Rattle.certs_verify.proofs.Refusals.{outside_handed_on, signed_alike, tells_none}
+use Rattle.certs_verify.proofs.below.verify_router.Goals as goal
+
+pub returns-in_err-signed-clause-answers : goal.returns-in_err-signed-clause-answers
+returns-in_err-signed-clause-answers g c =
+    let good = g.V.Verifier.says c.args.verifier.now in
+    let issuer = c.args.issuer.now.holder in
+    let P = PassesAt good c.args.now c.as_cert.result.now nothing c.args.cert.now in
+    let Q = PassesAt good c.args.now issuer.cert (held_by issuer) c.args.cert.now in
+    let tests = validity ++ issuer_claim ++ test.BadSignature ∷ [] in
+    let same = signed_alike good c.args.now c.as_cert.result.now issuer.cert c.args.cert.now (held_by issuer) c.as_cert.ensures in
+    handed_on Q [] tests (test.OverclaimAs ∷ [])
+    c.in_err-signed.field-0.0 _ c.from_residual.ensures tt
+    (fault_alike P Q tests (fault_of c.in_err-signed.field-0.0) same c.in_err-signed.ensures.answers)
+
+pub returns-in_err-signed-clause-outside : goal.returns-in_err-signed-clause-outside
+returns-in_err-signed-clause-outside g c =
+    let good = g.V.Verifier.says c.args.verifier.now in
+    let issuer = c.args.issuer.now.holder in
+    let P = PassesAt good c.args.now c.as_cert.result.now nothing c.args.cert.now in
+    let tests = validity ++ issuer_claim ++ test.BadSignature ∷ [] in
+    outside_handed_on c.args.cert.now (held_by issuer) c.in_err-signed.field-0.0 _ c.from_residual.ensures
+    (tells_none P tests c.args.cert.now (held_by issuer) c.in_err-signed.field-0.0 (tt, (tt, (tt, (tt, (tt, (tt, tt)))))) c.in_err-signed.ensures.answers)
+
+pub returns-in_err-held-clause-answers : goal.returns-in_err-held-clause-answers
+returns-in_err-held-clause-answers g c =
+    let good = g.V.Verifier.says c.args.verifier.now in
+    let issuer = c.args.issuer.now.holder in
+    let P = PassesAt good c.args.now c.as_cert.result.now nothing c.args.cert.now in
+    let Q = PassesAt good c.args.now issuer.cert (held_by issuer) c.args.cert.now in
+    let tests = validity ++ issuer_claim ++ test.BadSignature ∷ [] in
+    let same = signed_alike good c.args.now c.as_cert.result.now issuer.cert c.args.cert.now (held_by issuer) c.as_cert.ensures in
+    handed_on Q tests (test.OverclaimAs ∷ []) []
+    c.in_err-held.field-0.0 _ c.from_residual-in_err-held.ensures (each_alike P Q tests same c.in_ok-signed.ensures.answers)
+    (c.in_err-held.ensures.answers good c.args.now)
+
+pub returns-in_err-held-clause-outside : goal.returns-in_err-held-clause-outside
+returns-in_err-held-clause-outside g c =
+    outside_handed_on c.args.cert.now (held_by c.args.issuer.now.holder) c.in_err-held.field-0.0 _ c.from_residual-in_err-held.ensures c.in_err-held.ensures.outside
+
+pub returns-clause-answers : goal.returns-clause-answers
+returns-clause-answers g c =
+    let good = g.V.Verifier.says c.args.verifier.now in
+    let issuer = c.args.issuer.now.holder in
+    let P = PassesAt good c.args.now c.as_cert.result.now nothing c.args.cert.now in
+    let Q = PassesAt good c.args.now issuer.cert (held_by issuer) c.args.cert.now in
+    let tests = validity ++ issuer_claim ++ test.BadSignature ∷ [] in
+    let same = signed_alike good c.args.now c.as_cert.result.now issuer.cert c.args.cert.now (held_by issuer) c.as_cert.ensures in
+    each_next Q tests (test.OverclaimAs ∷ []) (each_alike P Q tests same c.in_ok-signed.ensures.answers) (c.in_ok-held.ensures.answers good c.args.now)

@@ -1,0 +1,11 @@
+use Rattle.std.proofs.Common.{rules, ◌≡◌, ◌≢◌, [], ◌∷◌, List, ℕ, Ok, Err, refl, sym}
+use Rattle.certs_specs.specs.Cert.{CertValue}
+use Rattle.certs_specs.specs.Verified.{PassesAt, held_by, nothing}
+use Rattle.certs_specs.specs.declared.VerificationTest.TheVariants as test
+use Rattle.certs_verify.specs.resources_chain.declared.choice.ResourcesChoice.TheVariants.{Inherit}
+use Rattle.certs_verify.proofs.Chains.{fails_at_once, handed_on}
+use Rattle.certs_verify.proofs.claims.claim_v6.Goals as goal
+
+pub returns-in-Err-Overclaimed-clause-answers : goal.returns-in-Err-Overclaimed-clause-answers
+returns-in-Err-Overclaimed-clause-answers c good now =
+    fails_at_once (PassesAt good now c.args.issuer.now.holder.cert (held_by c.args.issuer.now.holder) c.args.cert.now) test.OverclaimV6 [] (search rules)
