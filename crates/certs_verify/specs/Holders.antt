@@ -1,5 +1,5 @@
 -- A certificate that was verified, what it holds, and by which locator its anchor was found.
-use Rattle.std.specs.Prelude.{ℕ, List, String}
+use Rattle.std.specs.Prelude.{List, String}
 use Rattle.std.specs.declared.alloc.Global.{Global}
 use Rattle.certs_verify.specs.resources_chain.Sets.{Run}
 use Rattle.certs_specs.specs.Cert.{CertValue}

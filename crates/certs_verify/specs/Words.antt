@@ -1,5 +1,5 @@
 -- What the calls answer that take a certificate: the words of their clauses.
-use Rattle.std.specs.Prelude.{◌≡◌, ℕ, List, Option, Some, None, Result, Ok, Err}
+use Rattle.std.specs.Prelude.{◌≡◌, ℕ, Option, Some, None, Result, Ok, Err}
 use Rattle.certs_errors.specs.declared.verification.Overclaimed.TheVariants as outside
 use Rattle.certs_errors.specs.declared.verification.VerificationError.{VerificationError}
 use Rattle.certs_errors.specs.declared.verification.VerificationError.TheVariants as error

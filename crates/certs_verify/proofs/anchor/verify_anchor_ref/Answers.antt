@@ -1,4 +1,4 @@
-use Rattle.std.proofs.Common.{[], ◌∷◌, ◌++◌}
+use Rattle.std.proofs.Common.{[], ◌∷◌}
 use Rattle.certs_specs.specs.Verified.{PassesAt, nothing, validity}
 use Rattle.certs_specs.specs.declared.VerificationTest.TheVariants as test
 use Rattle.certs_verify.proofs.Chains.{answers_next, handed_on}

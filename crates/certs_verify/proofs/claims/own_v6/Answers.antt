@@ -1,9 +1,8 @@
-use Rattle.std.proofs.Common.{rules, ◌≡◌, ◌≢◌, [], ◌∷◌, List, ℕ, Ok, Err, refl, sym}
-use Rattle.certs_specs.specs.Cert.{CertValue}
-use Rattle.certs_specs.specs.Verified.{PassesAt, held_by, nothing}
+use Rattle.std.proofs.Common.{rules, ◌≡◌, []}
+use Rattle.certs_specs.specs.Verified.{PassesAt, nothing}
 use Rattle.certs_specs.specs.declared.VerificationTest.TheVariants as test
 use Rattle.certs_verify.specs.resources_chain.declared.choice.ResourcesChoice.TheVariants.{Inherit}
-use Rattle.certs_verify.proofs.Chains.{fails_at_once, handed_on}
+use Rattle.certs_verify.proofs.Chains.{fails_at_once}
 use Rattle.certs_verify.proofs.claims.own_v6.Goals as goal
 
 pub returns-in-Err-Inherited-clause-answers : goal.returns-in-Err-Inherited-clause-answers

@@ -1,9 +1,6 @@
-use Rattle.std.proofs.Common.{rules, ◌≡◌, ◌≢◌, ◌<◌, ◌≤◌, arith, [], ◌∷◌, List, ℕ, Option, Some, None, Bool, true, false, refl, sym, ap, ◌∙◌, subst}
-use Rattle.certs_specs.specs.Cert.{CertValue}
-use Rattle.certs_specs.specs.Verified.{PassesAt, issuer_claim, nothing, validity}
-use Rattle.certs_specs.specs.declared.VerificationTest.{VerificationTest}
+use Rattle.std.proofs.Common.{rules, ◌<◌, ◌≤◌, arith, [], ◌∷◌}
+use Rattle.certs_specs.specs.Verified.{PassesAt, nothing}
 use Rattle.certs_specs.specs.declared.VerificationTest.TheVariants as test
-use Rattle.certs_verify.specs.certs_basics.Verdicts.{Verdicts}
 use Rattle.certs_verify.proofs.Chains.{fails_at_once, fails_next}
 use Rattle.certs_verify.proofs.tests.verify_validity.Goals as goal
 
