@@ -1,6 +1,6 @@
 -- What a refusal tells: numbers only where a claim is refused, and the first test that fails.
 use Rattle.std.proofs.Common.{◌≡◌, ℕ, List, [], ◌∷◌, ◌++◌, Option, Some, None, Result, Ok, Err, refl, sym, subst}
-use Rattle.std.specs.Prelude.{IsErr, IsErrAnd, IfErr}
+use Rattle.std.specs.Prelude.{◌↔◌, Bool, IsOk, IsErr, IsErrAnd, IfErr}
 use Rattle.certs_errors.specs.declared.verification.Overclaimed.TheVariants as outside
 use Rattle.certs_errors.specs.declared.verification.VerificationError.{VerificationError}
 use Rattle.certs_errors.specs.declared.verification.VerificationError.TheVariants as error
@@ -13,6 +13,11 @@ use Rattle.certs_specs.specs.Verified.{HolderValue, PassesAt, anchor_tests, held
 use Rattle.certs_verify.specs.certs_basics.Lists.{Each, FirstFailing}
 use Rattle.certs_verify.specs.certs_basics.Verdicts.{Verdicts}
 use Rattle.certs_verify.specs.Answers.{fault_of, Fails}
+use Rattle.certs_specs.specs.declared.InspectionError.{InspectionError}
+use Rattle.certs_specs.specs.declared.Role.{Role}
+use Rattle.certs_specs.specs.Profiles.{Profile, FailsFirst}
+use Rattle.certs_verify.specs.certs_basics.HandedIn.{Digests}
+use Rattle.certs_verify.specs.Validated.{Inspects}
 use Rattle.certs_verify.specs.Words.{RefusedBy, TellsOutside, VerifiesAnchor}
 use Rattle.certs_verify.proofs.Chains.{Alike, each_front}
 
@@ -79,3 +84,9 @@ pub signed_alike : (good : Verdicts) (now : ℕ) (given issuer c : CertValue) (h
 signed_alike good now given issuer c held e =
     subst (λ (x : CertValue). Each (Alike (PassesAt good now x nothing c) (PassesAt good now issuer held c)) (validity ++ issuer_claim ++ test.BadSignature ∷ [])) (sym e)
     (((λ p. p), (λ p. p)), (((λ p. p), (λ p. p)), (((λ p. p), (λ p. p)), (((λ p. p), (λ p. p)), (((λ p. p), (λ p. p)), (((λ p. p), (λ p. p)), tt))))))
+
+-- What an inspection answers, by when it is `Ok` and which test it tells.
+pub inspects_by : (d : Digests) (strict : Bool) (role : Role) (c : CertValue) (r : Result (Unit {0}) InspectionError)
+    → (IsOk r ↔ Profile d strict role c) → ((t : InspectionError) → (r ≡ Err t) ↔ FailsFirst d strict role c t) → Inspects d strict role c r
+inspects_by d strict role c (Ok x) passed refused = passed.0 refl
+inspects_by d strict role c (Err t) passed refused = (refused t).0 refl

@@ -1,5 +1,6 @@
 pub mod Answers
 pub mod Holders
+pub mod Validated
 pub mod Words
 -- What stands below, for the crates above.
 pub use Rattle.certs_cert.specs.certs_basics as certs_basics

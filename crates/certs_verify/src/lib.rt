@@ -9,11 +9,14 @@ mod anchor;
 mod below;
 mod claims;
 pub mod holder;
+mod inspected;
 pub mod refused;
 mod tests;
+pub mod validate;
 pub mod verify;
 
-pub use certs_errors::VerificationError;
+pub use certs_errors::{ValidationError, VerificationError};
 pub use holder::ResourceCert;
 pub use refused::Refused;
+pub use validate::Validate;
 pub use verify::Verify;

@@ -1,0 +1,10 @@
+use Rattle.certs_specs.specs.declared.Role.TheVariants.{DetachedEe}
+use Rattle.certs_verify.specs.certs_key.Digesting.{digests_of}
+use Rattle.certs_verify.proofs.Refusals.{inspects_by}
+use Rattle.certs_verify.proofs.validate.CertValidate.validate_detached_ee_at.Goals as goal
+
+pub returns-clause-validates : goal.returns-clause-validates
+returns-clause-validates g c =
+    let d = digests_of g.D.Digester.sha256_digest g.D.Digester.sha1_digest c.args.digester.now in
+    c.validate_issued.ensures.validates d c.args.strict DetachedEe
+    (inspects_by d c.args.strict DetachedEe c.args.self _ c.inspect_detached_ee-form.ensures.passed c.inspect_detached_ee-form.ensures.refused)

@@ -1,0 +1,108 @@
+//! Verification behind an inspection.
+
+ghost use Rattle.std.specs.Prelude.{◌≡◌, Bool, IfErr, IfOk};
+ghost use Rattle.certs_errors.specs.declared.validation.ValidationError.TheVariants.{Verification};
+ghost use Rattle.certs_specs.specs.Calls.{ValidatesAnchor, ValidatesIssued};
+ghost use Rattle.certs_specs.specs.Verified.{held_by};
+ghost use Rattle.certs_specs.specs.declared.Role.{Role};
+ghost use Rattle.certs_specs.specs.declared.Role.TheVariants.{Router, Ta};
+ghost use Rattle.certs_verify.specs.certs_basics.HandedIn.{Digests};
+ghost use Rattle.certs_verify.specs.Answers.{AsksOnce};
+ghost use Rattle.certs_verify.specs.Validated.{Inspects, MeetsValid, TellsNumbers, ValidatesRouter};
+
+use crate::holder::ResourceCert;
+use crate::refused::Refused;
+use crate::{anchor, below};
+use certs_cert::Cert;
+use certs_errors::{InspectionError, ValidationError, VerificationError};
+use certs_key::Verifier;
+use certs_time::Time;
+use certs_x509::TalInfo;
+use std::alloc::Global;
+use std::rc::Rc;
+
+// The refusal, as one of a validation.
+fn as_validation(refused: Refused<VerificationError>) -> Refused<ValidationError>
+    ensures cert { result.cert ≡ refused.cert }
+    ensures error { result.error ≡ Verification refused.error }
+{
+    let Refused { cert, error } = refused;
+    let error = ValidationError::Verification(error);
+    Refused { cert, error }
+}
+
+/// The certificate as an anchor, where it was inspected as such.
+pub(crate) fn validate_anchor<V: Verifier>(
+    cert: Cert,
+    inspected: Result<(), InspectionError>,
+    tal: Rc<TalInfo>,
+    now: Time,
+    verifier: &mut V,
+) -> Result<ResourceCert, Refused<ValidationError>>
+    ensures validates { (d : Digests) (strict : Bool) → Inspects d strict Ta cert inspected
+        → MeetsValid (ValidatesAnchor d (V.says verifier.old) strict now cert) result }
+    ensures tal { IfOk result (λ r. r.tal ≡ tal.value) }
+    ensures same { V.says verifier.new ≡ V.says verifier.old }
+    ensures asked { AsksOnce (V.count verifier.old) (V.count verifier.new) }
+{
+    if let Err(test) = inspected {
+        let error = ValidationError::Inspection(test);
+        return Err(Refused { cert, error });
+    }
+    match anchor::verify_anchor(cert, tal, now, verifier) {
+        Ok(verified) => Ok(verified),
+        Err(refused) => Err(as_validation(refused)),
+    }
+}
+
+/// The certificate below that issuer, where it was inspected as one of its role.
+pub(crate) fn validate_issued<V: Verifier>(
+    alloc: Global,
+    cert: Cert,
+    inspected: Result<(), InspectionError>,
+    issuer: &ResourceCert,
+    now: Time,
+    verifier: &mut V,
+) -> Result<ResourceCert, Refused<ValidationError>>
+    ensures validates { (d : Digests) (strict : Bool) (role : Role)
+        → Inspects d strict role cert inspected → MeetsValid
+        (ValidatesIssued d (V.says verifier.old) strict role now issuer.now.holder cert) result }
+    ensures tal { IfOk result (λ r. r.tal ≡ issuer.now.tal) }
+    ensures outside { IfErr result (λ r.
+        TellsNumbers cert (held_by issuer.now.holder) r.error) }
+    ensures same { V.says verifier.new ≡ V.says verifier.old }
+    ensures asked { AsksOnce (V.count verifier.old) (V.count verifier.new) }
+{
+    if let Err(test) = inspected {
+        let error = ValidationError::Inspection(test);
+        return Err(Refused { cert, error });
+    }
+    match below::verify_issued(alloc, cert, issuer, now, verifier) {
+        Ok(verified) => Ok(verified),
+        Err(refused) => Err(as_validation(refused)),
+    }
+}
+
+/// Whether the certificate is one of a router below that issuer, where it was inspected as such.
+pub(crate) fn validate_router<V: Verifier>(
+    alloc: Global,
+    cert: &Cert,
+    inspected: Result<(), InspectionError>,
+    issuer: &ResourceCert,
+    now: Time,
+    verifier: &mut V,
+) -> Result<(), ValidationError>
+    ensures validates { (d : Digests) (strict : Bool) → Inspects d strict Router cert.now inspected
+        → ValidatesRouter d (V.says verifier.old) strict now issuer.now.holder cert.now result }
+    ensures outside { IfErr result (TellsNumbers cert.now (held_by issuer.now.holder)) }
+    ensures same { V.says verifier.new ≡ V.says verifier.old }
+    ensures asked { AsksOnce (V.count verifier.old) (V.count verifier.new) }
+{
+    if let Err(test) = inspected {
+        return Err(ValidationError::Inspection(test));
+    }
+    match below::verify_router(alloc, cert, issuer, now, verifier) {
+        Ok(()) => Ok(()),
+        Err(error) => Err(ValidationError::Verification(error)),
+    }
+}

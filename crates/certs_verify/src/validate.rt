@@ -1,0 +1,196 @@
+//! The calls that validate a certificate: its form, then what is vouched for.
+
+ghost use Rattle.std.specs.Prelude.{◌≡◌, IfErr, IfOk};
+ghost use Rattle.certs_specs.specs.Calls.{ValidatesAnchor, ValidatesIssued};
+ghost use Rattle.certs_specs.specs.Cert.{CertValue};
+ghost use Rattle.certs_specs.specs.Verified.{held_by};
+ghost use Rattle.certs_specs.specs.declared.Role.TheVariants.{Ca, DetachedEe, Ee};
+ghost use Rattle.certs_verify.specs.certs_key.Digesting.{digests_of};
+ghost use Rattle.certs_verify.specs.Answers.{AsksOnce};
+ghost use Rattle.certs_verify.specs.Validated.{MeetsValid, TellsNumbers, ValidatesRouter};
+
+use crate::holder::ResourceCert;
+use crate::inspected;
+use crate::refused::Refused;
+use certs_cert::Cert;
+use certs_errors::ValidationError;
+use certs_inspect::Inspect;
+use certs_key::{Digester, Verifier};
+use certs_time::Time;
+use certs_x509::TalInfo;
+use std::alloc::Global;
+use std::rc::Rc;
+
+/// What is validated: inspected as one of its role, then verified as one of its kind. No revocation list is looked at. A
+/// call asks the verifier once or not at all. `Memory` comes only where a growth of memory was refused, or a count of
+/// copies is full; nothing follows from it for the certificate.
+///
+/// A call that takes the certificate hands it back where it refuses. `strict` refuses UTF8Strings in names, but for the
+/// subject of a router's certificate.
+pub trait Validate {
+    // The certificate.
+    ghost validated: { Self → CertValue };
+
+    /// The certificate as a trust anchor, with what it lists; else the first test that fails. `tal` is what the locator
+    /// is called by which it was found.
+    fn validate_ta_at<D: Digester, V: Verifier>(
+        self,
+        tal: Rc<TalInfo>,
+        strict: bool,
+        now: Time,
+        digester: &D,
+        verifier: &mut V,
+    ) -> Result<ResourceCert, Refused<ValidationError>>
+        ensures validates { MeetsValid (ValidatesAnchor
+            (digests_of D.sha256_digest D.sha1_digest digester.now) (V.says verifier.old)
+            strict now (validated self)) result }
+        ensures tal { IfOk result (λ r. r.tal ≡ tal.value) }
+        ensures same { V.says verifier.new ≡ V.says verifier.old }
+        ensures asked { AsksOnce (V.count verifier.old) (V.count verifier.new) };
+
+    /// The certificate of an authority below the issuer, with what it then holds; else the first test that fails, with
+    /// the numbers that the issuer doesn't hold where it is one of claims.
+    fn validate_ca_at<D: Digester, V: Verifier>(
+        self,
+        alloc: Global,
+        issuer: &ResourceCert,
+        strict: bool,
+        now: Time,
+        digester: &D,
+        verifier: &mut V,
+    ) -> Result<ResourceCert, Refused<ValidationError>>
+        ensures validates { MeetsValid (ValidatesIssued
+            (digests_of D.sha256_digest D.sha1_digest digester.now) (V.says verifier.old)
+            strict Ca now issuer.now.holder (validated self)) result }
+        ensures tal { IfOk result (λ r. r.tal ≡ issuer.now.tal) }
+        ensures outside { IfErr result (λ r.
+            TellsNumbers (validated self) (held_by issuer.now.holder) r.error) }
+        ensures same { V.says verifier.new ≡ V.says verifier.old }
+        ensures asked { AsksOnce (V.count verifier.old) (V.count verifier.new) };
+
+    /// The certificate of a published object below the issuer, with what it then holds; else the first test that fails.
+    fn validate_ee_at<D: Digester, V: Verifier>(
+        self,
+        alloc: Global,
+        issuer: &ResourceCert,
+        strict: bool,
+        now: Time,
+        digester: &D,
+        verifier: &mut V,
+    ) -> Result<ResourceCert, Refused<ValidationError>>
+        ensures validates { MeetsValid (ValidatesIssued
+            (digests_of D.sha256_digest D.sha1_digest digester.now) (V.says verifier.old)
+            strict Ee now issuer.now.holder (validated self)) result }
+        ensures tal { IfOk result (λ r. r.tal ≡ issuer.now.tal) }
+        ensures outside { IfErr result (λ r.
+            TellsNumbers (validated self) (held_by issuer.now.holder) r.error) }
+        ensures same { V.says verifier.new ≡ V.says verifier.old }
+        ensures asked { AsksOnce (V.count verifier.old) (V.count verifier.new) };
+
+    /// The certificate of an object that stands apart, below the issuer, with what it then holds; else the first test
+    /// that fails.
+    fn validate_detached_ee_at<D: Digester, V: Verifier>(
+        self,
+        alloc: Global,
+        issuer: &ResourceCert,
+        strict: bool,
+        now: Time,
+        digester: &D,
+        verifier: &mut V,
+    ) -> Result<ResourceCert, Refused<ValidationError>>
+        ensures validates { MeetsValid (ValidatesIssued
+            (digests_of D.sha256_digest D.sha1_digest digester.now) (V.says verifier.old)
+            strict DetachedEe now issuer.now.holder (validated self)) result }
+        ensures tal { IfOk result (λ r. r.tal ≡ issuer.now.tal) }
+        ensures outside { IfErr result (λ r.
+            TellsNumbers (validated self) (held_by issuer.now.holder) r.error) }
+        ensures same { V.says verifier.new ≡ V.says verifier.old }
+        ensures asked { AsksOnce (V.count verifier.old) (V.count verifier.new) };
+
+    /// Whether the certificate is one of a router below the issuer, of which AS numbers alone are claimed; else the first
+    /// test that fails.
+    fn validate_router_at<D: Digester, V: Verifier>(
+        &self,
+        alloc: Global,
+        issuer: &ResourceCert,
+        strict: bool,
+        now: Time,
+        digester: &D,
+        verifier: &mut V,
+    ) -> Result<(), ValidationError>
+        ensures validates { ValidatesRouter
+            (digests_of D.sha256_digest D.sha1_digest digester.now) (V.says verifier.old)
+            strict now issuer.now.holder (validated self.now) result }
+        ensures outside { IfErr result
+            (TellsNumbers (validated self.now) (held_by issuer.now.holder)) }
+        ensures same { V.says verifier.new ≡ V.says verifier.old }
+        ensures asked { AsksOnce (V.count verifier.old) (V.count verifier.new) };
+}
+
+impl Validate for Cert {
+    ghost validated = { λ c. c };
+
+    fn validate_ta_at<D: Digester, V: Verifier>(
+        self,
+        tal: Rc<TalInfo>,
+        strict: bool,
+        now: Time,
+        digester: &D,
+        verifier: &mut V,
+    ) -> Result<ResourceCert, Refused<ValidationError>> {
+        let form = self.inspect_ta(strict, digester);
+        inspected::validate_anchor(self, form, tal, now, verifier)
+    }
+
+    fn validate_ca_at<D: Digester, V: Verifier>(
+        self,
+        alloc: Global,
+        issuer: &ResourceCert,
+        strict: bool,
+        now: Time,
+        digester: &D,
+        verifier: &mut V,
+    ) -> Result<ResourceCert, Refused<ValidationError>> {
+        let form = self.inspect_ca(strict, digester);
+        inspected::validate_issued(alloc, self, form, issuer, now, verifier)
+    }
+
+    fn validate_ee_at<D: Digester, V: Verifier>(
+        self,
+        alloc: Global,
+        issuer: &ResourceCert,
+        strict: bool,
+        now: Time,
+        digester: &D,
+        verifier: &mut V,
+    ) -> Result<ResourceCert, Refused<ValidationError>> {
+        let form = self.inspect_ee(strict, digester);
+        inspected::validate_issued(alloc, self, form, issuer, now, verifier)
+    }
+
+    fn validate_detached_ee_at<D: Digester, V: Verifier>(
+        self,
+        alloc: Global,
+        issuer: &ResourceCert,
+        strict: bool,
+        now: Time,
+        digester: &D,
+        verifier: &mut V,
+    ) -> Result<ResourceCert, Refused<ValidationError>> {
+        let form = self.inspect_detached_ee(strict, digester);
+        inspected::validate_issued(alloc, self, form, issuer, now, verifier)
+    }
+
+    fn validate_router_at<D: Digester, V: Verifier>(
+        &self,
+        alloc: Global,
+        issuer: &ResourceCert,
+        strict: bool,
+        now: Time,
+        digester: &D,
+        verifier: &mut V,
+    ) -> Result<(), ValidationError> {
+        let form = self.inspect_router(strict, digester);
+        inspected::validate_router(alloc, self, form, issuer, now, verifier)
+    }
+}
