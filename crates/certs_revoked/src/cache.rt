@@ -7,7 +7,7 @@ ghost use Rattle.std.specs.Ordering.{nat_cmp};
 
 use crate::revoked::RevokedCertificates;
 use certs_name::Serial;
-use resources_chain::{Row, halve};
+use resources::chain::{Row, halve};
 use std::alloc::{AllocError, Global};
 use std::cmp::Ordering;
 use std::marker::Model;
