@@ -1,4 +1,5 @@
 -- Lemmas of bcder_content, for the crates above.
+pub use Rattle.bcder_content.proofs.Anything
 pub use Rattle.bcder_content.proofs.Choices
 pub use Rattle.bcder_content.proofs.Choosing
 pub use Rattle.bcder_content.proofs.Decoding
@@ -11,6 +12,7 @@ pub use Rattle.bcder_content.proofs.Keeping
 pub use Rattle.bcder_content.proofs.Kept
 pub use Rattle.bcder_content.proofs.KeptOne
 pub use Rattle.bcder_content.proofs.Meaning
+pub use Rattle.bcder_content.proofs.Memories
 pub use Rattle.bcder_content.proofs.Modes
 pub use Rattle.bcder_content.proofs.Passing
 pub use Rattle.bcder_content.proofs.Perhaps

@@ -4,5 +4,5 @@ pub use Rattle.bcder.proofs.of_bcder_content.InMode
 pub use Rattle.bcder.proofs.of_bcder_content.Inside
 pub use Rattle.bcder.proofs.of_bcder_content.Within
 pub use Rattle.bcder.proofs.of_bcder_content.Taking
-pub use Rattle.bcder_content.proofs.Anything
-pub use Rattle.bcder_content.proofs.Memories
+pub use Rattle.bcder.proofs.of_bcder_content.Anything
+pub use Rattle.bcder.proofs.of_bcder_content.Memories
