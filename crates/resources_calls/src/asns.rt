@@ -1,0 +1,124 @@
+//! AS numbers, and small sets of them.
+
+ghost use Rattle.std.specs.Iterator.{IsFinite};
+
+use crate::answers::{Answer, hash_of, unknown, word};
+use anyhow::Result;
+use resources::asn::{Asn, SmallAsnSet};
+use std::alloc::Global;
+
+fn tell(answer: &mut Answer, asn: Asn) {
+    answer.say(&asn);
+    answer.say(&asn.into_u32());
+    answer.say(&u32::from(asn));
+    for octet in asn.to_raw() {
+        answer.say(&octet);
+    }
+    answer.say(&Asn::from_u32(asn.into_u32()));
+    answer.say(&Asn::from(asn.into_u32()));
+}
+
+fn pair(answer: &mut Answer, one: Asn, other: Asn) {
+    answer.order(one.cmp(&other));
+    answer.say(&(one == other));
+    answer.say(&(hash_of(&one) == hash_of(&other)));
+    if other.into_u32() <= u32::MAX - one.into_u32() {
+        answer.say(&(one + other.into_u32()));
+    }
+}
+
+// The AS numbers of a text, with commas between.
+fn set(alloc: Global, text: &str) -> Result<SmallAsnSet> {
+    let mut asns = Vec::new(alloc);
+    for piece in text.split(',') {
+        if !piece.is_empty() {
+            asns.push(piece.parse::<Asn>()?)?;
+        }
+    }
+    Ok(SmallAsnSet::from_iter(alloc, asns.into_iter())?)
+}
+
+fn each<I: Iterator<Item = Asn>>(answer: &mut Answer, asns: I)
+    requires can { I.can_next asns }
+    requires ends { IsFinite (I.remaining asns) }
+{
+    for asn in asns {
+        answer.say(&asn);
+    }
+    answer.say(&";");
+}
+
+// What is in either set, in both, in the first alone, and in one alone.
+fn sets(answer: &mut Answer, one: &SmallAsnSet, other: &SmallAsnSet) {
+    each(answer, one.union(other));
+    each(answer, one.intersection(other));
+    each(answer, one.difference(other));
+    each(answer, one.symmetric_difference(other));
+}
+
+// A set by itself, and which numbers of another are in it.
+fn members(answer: &mut Answer, one: &SmallAsnSet, other: &SmallAsnSet) -> Result<()> {
+    answer.say(&one.len());
+    answer.say(&one.is_empty());
+    each(answer, one.iter());
+    let copy = one.clone()?;
+    each(answer, (&copy).into_iter());
+    for asn in other.iter() {
+        answer.say(&one.contains(asn));
+    }
+    Ok(())
+}
+
+// Sets that are made without a look at what they have.
+fn sorted_already(alloc: Global, answer: &mut Answer) -> Result<()> {
+    let none = SmallAsnSet::new(alloc);
+    answer.say(&none.len());
+    answer.say(&none.is_empty());
+    answer.say(&none.contains(Asn::MIN));
+    let asns = vec![in alloc; Asn::MIN, Asn::from_u32(7), Asn::MAX]?;
+    each(answer, SmallAsnSet::from_vec_unchecked(asns).iter());
+    Ok(())
+}
+
+// The number of a text.
+fn read(answer: &mut Answer, text: &str) -> Result<()> {
+    tell(answer, text.parse::<Asn>()?);
+    Ok(())
+}
+
+// How the numbers of two texts stand.
+fn read_pair(answer: &mut Answer, one: &str, other: &str) -> Result<()> {
+    pair(answer, one.parse::<Asn>()?, other.parse::<Asn>()?);
+    Ok(())
+}
+
+// The first and the last of all numbers.
+fn ends(answer: &mut Answer) -> Result<()> {
+    tell(answer, Asn::MIN);
+    tell(answer, Asn::MAX);
+    Ok(())
+}
+
+// A question about the sets of two texts.
+fn of_sets(alloc: Global, answer: &mut Answer, is_members: bool, words: &[&str]) -> Result<()> {
+    let one = set(alloc, word(words, 1))?;
+    let other = set(alloc, word(words, 2))?;
+    if is_members {
+        return members(answer, &one, &other);
+    }
+    sets(answer, &one, &other);
+    Ok(())
+}
+
+/// The answer to a question about AS numbers.
+pub fn answer(alloc: Global, answer: &mut Answer, words: &[&str]) -> Result<()> {
+    match word(words, 0) {
+        "read" => read(answer, word(words, 1)),
+        "pair" => read_pair(answer, word(words, 1), word(words, 2)),
+        "ends" => ends(answer),
+        "sets" => of_sets(alloc, answer, false, words),
+        "members" => of_sets(alloc, answer, true, words),
+        "sorted" => sorted_already(alloc, answer),
+        _ => unknown(),
+    }
+}
