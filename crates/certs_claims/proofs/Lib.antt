@@ -1,0 +1,7 @@
+mod AddLaws
+mod Filling
+mod Finished
+mod Lists
+mod SlotLaws
+mod Whole
+pub mod of_bcder_content

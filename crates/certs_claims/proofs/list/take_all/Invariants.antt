@@ -1,0 +1,12 @@
+use Rattle.std.proofs.Common.{length}
+use Rattle.certs_claims.specs.bcder_content.Here.{here}
+use Rattle.certs_claims.proofs.of_bcder_content.Gathering.{Gathered}
+use Rattle.certs_specs.specs.Extensions.{IsExtension}
+use Rattle.certs_claims.specs.Slots.{AreSlots}
+use Rattle.certs_claims.proofs.list.take_all.Given as goal
+
+abbrev pub invariant-loop-slots : goal.invariant-loop-slots
+invariant-loop-slots g l = Gathered IsExtension AreSlots (here g.S.Source.rest l.fn.cons) (here g.S.Source.rest l.cons) l.slots
+
+abbrev pub decreases-loop-slots : goal.decreases-loop-slots
+decreases-loop-slots g l = length (g.S.Source.rest l.cons.octets.source.source)

@@ -1,0 +1,14 @@
+pub mod Slots
+pub mod Kinds
+pub mod Putting
+pub mod Refusals
+pub mod Finishing
+-- What stands below, for the crates above.
+pub use Rattle.certs_specs.specs.bcder_content as bcder_content
+pub use Rattle.certs_specs.specs.bcder_source as bcder_source
+pub use Rattle.certs_specs.specs.bcder_tree as bcder_tree
+pub use Rattle.certs_specs.specs.certs_basics as certs_basics
+pub use Rattle.certs_specs.specs.resources_as as resources_as
+pub use Rattle.certs_specs.specs.resources_chain as resources_chain
+pub use Rattle.certs_specs.specs.resources_ip as resources_ip
+pub use Rattle.certs_specs.specs.resources_policy as resources_policy
