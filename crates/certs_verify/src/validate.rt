@@ -1,6 +1,6 @@
 //! The calls that validate a certificate: its form, then what is vouched for.
 
-ghost use Rattle.std.specs.Prelude.{◌≡◌, IfErr, IfOk};
+ghost use Rattle.std.specs.Prelude.{◌≡◌, ℕ, IfErr, IfOk};
 ghost use Rattle.certs_specs.specs.Calls.{ValidatesAnchor, ValidatesIssued};
 ghost use Rattle.certs_specs.specs.Cert.{CertValue};
 ghost use Rattle.certs_specs.specs.Verified.{held_by};
@@ -16,7 +16,7 @@ use certs_cert::Cert;
 use certs_errors::ValidationError;
 use certs_inspect::Inspect;
 use certs_key::{Digester, Verifier};
-use certs_time::Time;
+use certs_time::{Clock, Time};
 use certs_x509::TalInfo;
 use std::alloc::Global;
 use std::rc::Rc;
@@ -125,6 +125,97 @@ pub trait Validate {
             (TellsNumbers (validated self.now) (held_by issuer.now.holder)) }
         ensures same { V.says verifier.new ≡ V.says verifier.old }
         ensures asked { AsksOnce (V.count verifier.old) (V.count verifier.new) };
+
+    /// As `validate_ta_at`, at the moment that the clock tells, which is asked once, first.
+    fn validate_ta<C: Clock, D: Digester, V: Verifier>(
+        self,
+        tal: Rc<TalInfo>,
+        strict: bool,
+        clock: &C,
+        digester: &D,
+        verifier: &mut V,
+    ) -> Result<ResourceCert, Refused<ValidationError>>
+        ensures validates { (moment : ℕ) × C.tells clock.now moment × MeetsValid (ValidatesAnchor
+            (digests_of D.sha256_digest D.sha1_digest digester.now) (V.says verifier.old)
+            strict moment (validated self)) result }
+        ensures tal { IfOk result (λ r. r.tal ≡ tal.value) }
+        ensures same { V.says verifier.new ≡ V.says verifier.old }
+        ensures asked { AsksOnce (V.count verifier.old) (V.count verifier.new) };
+
+    /// As `validate_ca_at`, at the moment that the clock tells, which is asked once, first.
+    fn validate_ca<C: Clock, D: Digester, V: Verifier>(
+        self,
+        alloc: Global,
+        issuer: &ResourceCert,
+        strict: bool,
+        clock: &C,
+        digester: &D,
+        verifier: &mut V,
+    ) -> Result<ResourceCert, Refused<ValidationError>>
+        ensures validates { (moment : ℕ) × C.tells clock.now moment × MeetsValid (ValidatesIssued
+            (digests_of D.sha256_digest D.sha1_digest digester.now) (V.says verifier.old)
+            strict Ca moment issuer.now.holder (validated self)) result }
+        ensures tal { IfOk result (λ r. r.tal ≡ issuer.now.tal) }
+        ensures outside { IfErr result (λ r.
+            TellsNumbers (validated self) (held_by issuer.now.holder) r.error) }
+        ensures same { V.says verifier.new ≡ V.says verifier.old }
+        ensures asked { AsksOnce (V.count verifier.old) (V.count verifier.new) };
+
+    /// As `validate_ee_at`, at the moment that the clock tells, which is asked once, first.
+    fn validate_ee<C: Clock, D: Digester, V: Verifier>(
+        self,
+        alloc: Global,
+        issuer: &ResourceCert,
+        strict: bool,
+        clock: &C,
+        digester: &D,
+        verifier: &mut V,
+    ) -> Result<ResourceCert, Refused<ValidationError>>
+        ensures validates { (moment : ℕ) × C.tells clock.now moment × MeetsValid (ValidatesIssued
+            (digests_of D.sha256_digest D.sha1_digest digester.now) (V.says verifier.old)
+            strict Ee moment issuer.now.holder (validated self)) result }
+        ensures tal { IfOk result (λ r. r.tal ≡ issuer.now.tal) }
+        ensures outside { IfErr result (λ r.
+            TellsNumbers (validated self) (held_by issuer.now.holder) r.error) }
+        ensures same { V.says verifier.new ≡ V.says verifier.old }
+        ensures asked { AsksOnce (V.count verifier.old) (V.count verifier.new) };
+
+    /// As `validate_detached_ee_at`, at the moment that the clock tells, which is asked once, first.
+    fn validate_detached_ee<C: Clock, D: Digester, V: Verifier>(
+        self,
+        alloc: Global,
+        issuer: &ResourceCert,
+        strict: bool,
+        clock: &C,
+        digester: &D,
+        verifier: &mut V,
+    ) -> Result<ResourceCert, Refused<ValidationError>>
+        ensures validates { (moment : ℕ) × C.tells clock.now moment × MeetsValid (ValidatesIssued
+            (digests_of D.sha256_digest D.sha1_digest digester.now) (V.says verifier.old)
+            strict DetachedEe moment issuer.now.holder (validated self)) result }
+        ensures tal { IfOk result (λ r. r.tal ≡ issuer.now.tal) }
+        ensures outside { IfErr result (λ r.
+            TellsNumbers (validated self) (held_by issuer.now.holder) r.error) }
+        ensures same { V.says verifier.new ≡ V.says verifier.old }
+        ensures asked { AsksOnce (V.count verifier.old) (V.count verifier.new) };
+
+    /// As `validate_router_at`, at the moment that the clock tells, which is asked once, first.
+    fn validate_router<C: Clock, D: Digester, V: Verifier>(
+        &self,
+        alloc: Global,
+        issuer: &ResourceCert,
+        strict: bool,
+        clock: &C,
+        digester: &D,
+        verifier: &mut V,
+    ) -> Result<(), ValidationError>
+        ensures validates { (moment : ℕ) × C.tells clock.now moment × ValidatesRouter
+            (digests_of D.sha256_digest D.sha1_digest digester.now) (V.says verifier.old)
+            strict moment issuer.now.holder (validated self.now) result }
+        ensures outside { IfErr result
+            (TellsNumbers (validated self.now) (held_by issuer.now.holder)) }
+        ensures same { V.says verifier.new ≡ V.says verifier.old }
+        ensures asked { AsksOnce (V.count verifier.old) (V.count verifier.new) };
 }
 
 impl Validate for Cert {
@@ -192,5 +283,69 @@ impl Validate for Cert {
     ) -> Result<(), ValidationError> {
         let form = self.inspect_router(strict, digester);
         inspected::validate_router(alloc, self, form, issuer, now, verifier)
+    }
+
+    fn validate_ta<C: Clock, D: Digester, V: Verifier>(
+        self,
+        tal: Rc<TalInfo>,
+        strict: bool,
+        clock: &C,
+        digester: &D,
+        verifier: &mut V,
+    ) -> Result<ResourceCert, Refused<ValidationError>> {
+        let now = clock.now();
+        self.validate_ta_at(tal, strict, now, digester, verifier)
+    }
+
+    fn validate_ca<C: Clock, D: Digester, V: Verifier>(
+        self,
+        alloc: Global,
+        issuer: &ResourceCert,
+        strict: bool,
+        clock: &C,
+        digester: &D,
+        verifier: &mut V,
+    ) -> Result<ResourceCert, Refused<ValidationError>> {
+        let now = clock.now();
+        self.validate_ca_at(alloc, issuer, strict, now, digester, verifier)
+    }
+
+    fn validate_ee<C: Clock, D: Digester, V: Verifier>(
+        self,
+        alloc: Global,
+        issuer: &ResourceCert,
+        strict: bool,
+        clock: &C,
+        digester: &D,
+        verifier: &mut V,
+    ) -> Result<ResourceCert, Refused<ValidationError>> {
+        let now = clock.now();
+        self.validate_ee_at(alloc, issuer, strict, now, digester, verifier)
+    }
+
+    fn validate_detached_ee<C: Clock, D: Digester, V: Verifier>(
+        self,
+        alloc: Global,
+        issuer: &ResourceCert,
+        strict: bool,
+        clock: &C,
+        digester: &D,
+        verifier: &mut V,
+    ) -> Result<ResourceCert, Refused<ValidationError>> {
+        let now = clock.now();
+        self.validate_detached_ee_at(alloc, issuer, strict, now, digester, verifier)
+    }
+
+    fn validate_router<C: Clock, D: Digester, V: Verifier>(
+        &self,
+        alloc: Global,
+        issuer: &ResourceCert,
+        strict: bool,
+        clock: &C,
+        digester: &D,
+        verifier: &mut V,
+    ) -> Result<(), ValidationError> {
+        let now = clock.now();
+        self.validate_router_at(alloc, issuer, strict, now, digester, verifier)
     }
 }

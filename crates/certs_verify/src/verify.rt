@@ -17,7 +17,7 @@ use crate::{anchor, below, tests};
 use certs_cert::Cert;
 use certs_errors::VerificationError;
 use certs_key::Verifier;
-use certs_time::Time;
+use certs_time::{Clock, Time};
 use certs_x509::TalInfo;
 use std::alloc::Global;
 use std::rc::Rc;
@@ -138,6 +138,85 @@ pub trait Verify {
             (TellsOutside (verified self.now) (held_by issuer.now.holder)) }
         ensures same { V.says verifier.new ≡ V.says verifier.old }
         ensures asked { AsksOnce (V.count verifier.old) (V.count verifier.new) };
+
+    /// As `verify_ta_at`, at the moment that the clock tells, which is asked once, first.
+    fn verify_ta<C: Clock, V: Verifier>(
+        self,
+        tal: Rc<TalInfo>,
+        strict: bool,
+        clock: &C,
+        verifier: &mut V,
+    ) -> Result<ResourceCert, Refused<VerificationError>>
+        ensures verifies { (moment : ℕ) × C.tells clock.now moment × Meets
+            (VerifiesAnchor (V.says verifier.old) moment (verified self)) result }
+        ensures tal { IfOk result (λ r. r.tal ≡ tal.value) }
+        ensures same { V.says verifier.new ≡ V.says verifier.old }
+        ensures asked { AsksOnce (V.count verifier.old) (V.count verifier.new) };
+
+    /// As `verify_ta_ref_at`, at the moment that the clock tells, which is asked once, first.
+    fn verify_ta_ref<C: Clock, V: Verifier>(
+        &self,
+        strict: bool,
+        clock: &C,
+        verifier: &mut V,
+    ) -> Result<(), VerificationError>
+        ensures answers { (moment : ℕ) × C.tells clock.now moment × Answers
+            (PassesAt (V.says verifier.old) moment (verified self.now) nothing (verified self.now))
+            anchor_tests result }
+        ensures no_memory { IfErr result (λ e. e ≢ Memory) }
+        ensures same { V.says verifier.new ≡ V.says verifier.old }
+        ensures asked { AsksOnce (V.count verifier.old) (V.count verifier.new) };
+
+    /// As `verify_ca_at`, at the moment that the clock tells, which is asked once, first.
+    fn verify_ca<C: Clock, V: Verifier>(
+        self,
+        alloc: Global,
+        issuer: &ResourceCert,
+        strict: bool,
+        clock: &C,
+        verifier: &mut V,
+    ) -> Result<ResourceCert, Refused<VerificationError>>
+        ensures verifies { (moment : ℕ) × C.tells clock.now moment × Meets
+            (VerifiesIssued (V.says verifier.old) moment issuer.now.holder (verified self)) result }
+        ensures tal { IfOk result (λ r. r.tal ≡ issuer.now.tal) }
+        ensures outside { IfErr result (λ r.
+            TellsOutside (verified self) (held_by issuer.now.holder) r.error) }
+        ensures same { V.says verifier.new ≡ V.says verifier.old }
+        ensures asked { AsksOnce (V.count verifier.old) (V.count verifier.new) };
+
+    /// As `verify_ee_at`, at the moment that the clock tells, which is asked once, first.
+    fn verify_ee<C: Clock, V: Verifier>(
+        self,
+        alloc: Global,
+        issuer: &ResourceCert,
+        strict: bool,
+        clock: &C,
+        verifier: &mut V,
+    ) -> Result<ResourceCert, Refused<VerificationError>>
+        ensures verifies { (moment : ℕ) × C.tells clock.now moment × Meets
+            (VerifiesIssued (V.says verifier.old) moment issuer.now.holder (verified self)) result }
+        ensures tal { IfOk result (λ r. r.tal ≡ issuer.now.tal) }
+        ensures outside { IfErr result (λ r.
+            TellsOutside (verified self) (held_by issuer.now.holder) r.error) }
+        ensures same { V.says verifier.new ≡ V.says verifier.old }
+        ensures asked { AsksOnce (V.count verifier.old) (V.count verifier.new) };
+
+    /// As `verify_router_at`, at the moment that the clock tells, which is asked once, first.
+    fn verify_router<C: Clock, V: Verifier>(
+        &self,
+        alloc: Global,
+        issuer: &ResourceCert,
+        strict: bool,
+        clock: &C,
+        verifier: &mut V,
+    ) -> Result<(), VerificationError>
+        ensures answers { (moment : ℕ) × C.tells clock.now moment × Answers
+            (PassesAt (V.says verifier.old) moment issuer.now.holder.cert
+            (held_by issuer.now.holder) (verified self.now)) router_tests result }
+        ensures outside { IfErr result
+            (TellsOutside (verified self.now) (held_by issuer.now.holder)) }
+        ensures same { V.says verifier.new ≡ V.says verifier.old }
+        ensures asked { AsksOnce (V.count verifier.old) (V.count verifier.new) };
 }
 
 impl Verify for Cert {
@@ -208,6 +287,63 @@ impl Verify for Cert {
         now: Time,
         verifier: &mut V,
     ) -> Result<(), VerificationError> {
+        below::verify_router(alloc, self, issuer, now, verifier)
+    }
+
+    fn verify_ta<C: Clock, V: Verifier>(
+        self,
+        tal: Rc<TalInfo>,
+        _strict: bool,
+        clock: &C,
+        verifier: &mut V,
+    ) -> Result<ResourceCert, Refused<VerificationError>> {
+        let now = clock.now();
+        anchor::verify_anchor(self, tal, now, verifier)
+    }
+
+    fn verify_ta_ref<C: Clock, V: Verifier>(
+        &self,
+        _strict: bool,
+        clock: &C,
+        verifier: &mut V,
+    ) -> Result<(), VerificationError> {
+        let now = clock.now();
+        anchor::verify_anchor_ref(self, now, verifier)
+    }
+
+    fn verify_ca<C: Clock, V: Verifier>(
+        self,
+        alloc: Global,
+        issuer: &ResourceCert,
+        _strict: bool,
+        clock: &C,
+        verifier: &mut V,
+    ) -> Result<ResourceCert, Refused<VerificationError>> {
+        let now = clock.now();
+        below::verify_issued(alloc, self, issuer, now, verifier)
+    }
+
+    fn verify_ee<C: Clock, V: Verifier>(
+        self,
+        alloc: Global,
+        issuer: &ResourceCert,
+        _strict: bool,
+        clock: &C,
+        verifier: &mut V,
+    ) -> Result<ResourceCert, Refused<VerificationError>> {
+        let now = clock.now();
+        below::verify_issued(alloc, self, issuer, now, verifier)
+    }
+
+    fn verify_router<C: Clock, V: Verifier>(
+        &self,
+        alloc: Global,
+        issuer: &ResourceCert,
+        _strict: bool,
+        clock: &C,
+        verifier: &mut V,
+    ) -> Result<(), VerificationError> {
+        let now = clock.now();
         below::verify_router(alloc, self, issuer, now, verifier)
     }
 }
