@@ -66,7 +66,8 @@ pub(crate) fn verify_issued<V: Verifier>(
     now: Time,
     verifier: &mut V,
 ) -> Result<ResourceCert, Refused<VerificationError>>
-    ensures verifies { Meets (VerifiesIssued (V.says verifier.old) now issuer.now.holder cert) result }
+    ensures verifies { Meets
+        (VerifiesIssued (V.says verifier.old) now issuer.now.holder cert) result }
     ensures tal { IfOk result (λ r. r.tal ≡ issuer.now.tal) }
     ensures outside { IfErr result (λ r. TellsOutside cert (held_by issuer.now.holder) r.error) }
     ensures same { V.says verifier.new ≡ V.says verifier.old }
