@@ -11,8 +11,8 @@ use bcder::Mode;
 use bcder::decode::{Decode, DecodeError};
 use std::convert::Infallible;
 
-/// The version that octets begin with in DER, `SEQUENCE { major INTEGER, minor INTEGER }`, of numbers
-/// up to 255.
+/// The version that octets begin with in DER, `SEQUENCE { major INTEGER, minor INTEGER }`, of
+/// numbers up to 255.
 pub fn version_of(octets: &[u8]) -> Result<(u8, u8), DecodeError<Infallible>>
     ensures { DecodesAs pair_fields Der IsVersion octets.now result }
 {

@@ -35,9 +35,9 @@ pub enum Node {
 impl Node {
     /// The next value, whatever it is, with all that is in it.
     ///
-    /// At most `depth` constructed values may be within one another: with 0 the value itself has to
-    /// be primitive, with 1 the values in it. One that is nested deeper is refused. Memory is wanted
-    /// only where the content hasn't ended.
+    /// At most `depth` constructed values may be within one another: with 0 the value itself has
+    /// to be primitive, with 1 the values in it. One that is nested deeper is refused. Memory is
+    /// wanted only where the content hasn't ended.
     pub fn take_from<S: Source>(
         alloc: Global,
         cons: &mut Constructed<S>,

@@ -1,10 +1,10 @@
-//! Values that are walked through in three ways, as data: a line with a mode and octets, with a tab
-//! between, is a question, and a line of output its answer. `tests/bcder_walks.py` writes both, by its
-//! own means.
+//! Values that are walked through in three ways, as data: a line with a mode and octets, with a
+//! tab between, is a question, and a line of output its answer. `tests/bcder_walks.py` writes
+//! both, by its own means.
 //!
-//! The ways are `skip_one`, `capture_one` and a reader that calls itself for each value in a value. An
-//! answer tells of each how many octets it takes, that it refuses them, or that no value is there; and
-//! then the tree that was read, or a `-`.
+//! The ways are `skip_one`, `capture_one` and a reader that calls itself for each value in a
+//! value. An answer tells of each how many octets it takes, that it refuses them, or that no
+//! value is there; and then the tree that was read, or a `-`.
 #![tactic(auto)]
 
 mod tree;
