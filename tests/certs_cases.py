@@ -13,6 +13,7 @@ import re
 
 from certs_name_cases import names, serials
 from certs_signed_cases import signed
+from certs_time_cases import moments, validities
 
 FOLDER = pathlib.Path(__file__).resolve().parent.parent / "crates" / "certs_cases"
 rng = random.Random(5781)
@@ -523,6 +524,8 @@ def main():
     accesses(q)
     names(q)
     serials(q)
+    moments(q)
+    validities(q)
     (FOLDER / "stdin").write_text("".join(f"{question}\n" for question, _ in q.rows))
     (FOLDER / "stdout").write_text("".join(f"{answer}\n" for _, answer in q.rows))
     print(len(q.rows), "questions")

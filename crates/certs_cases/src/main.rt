@@ -9,6 +9,7 @@ mod key;
 mod name;
 mod serial;
 mod signed;
+mod time;
 mod uri;
 
 use anyhow::{Result, anyhow};
@@ -24,6 +25,7 @@ fn answer(alloc: Global, words: &[&str]) -> Result<String> {
         "key" => key::answer(alloc, rest),
         "name" => name::answer(alloc, rest),
         "serial" => serial::answer(alloc, rest),
+        "time" => time::answer(alloc, rest),
         "access" => access::answer(alloc, rest),
         "uri" => uri::answer(alloc, rest),
         _ => Err(anyhow!("no such topic")),
