@@ -31,6 +31,9 @@ entry_tagged = as_tagged (inside_tagged _ _)
 pub listing_is : (c : CapturedValue) (x : Listing c) (xs : List RevokedValue) → SpellsEntries c xs → x.0 ≡ xs
 listing_is c x xs s = ∥∥₁_elim x.1 (Coded-set (coded_list revoked_code) _ _) (λ p. one_list c x.0 xs p s)
 
+pub spelled_is : (c : CapturedValue) (l xs : List RevokedValue) → ∥ SpellsEntries c l ∥₁ → SpellsEntries c xs → l ≡ xs
+spelled_is c l xs h s = listing_is c (l, h) xs s
+
 -- No octets spell no entries, and others spell some.
 pub no_entries : (c : CapturedValue) → c.octets ≡ [] → SpellsEntries c []
 no_entries c e = record { trees = none; is = record { cases = refl }; spelled = e }
@@ -93,7 +96,7 @@ pub left_sound : {now : ValuesLeft} {xs : List RevokedValue} → EntriesLeft now
 left_sound l = l.whole.took.goes.before
 
 -- Entries were captured, and the list is the one that the octets spell.
-pub captured_reads : {v new : ValuesLeft} {c : CapturedValue} (E : Type 0) (x : Listing c) → Captured v c new → ReadsFields {E = E} (λ l. l) AreEntries v (Ok x.0) new
-captured_reads {v} {new} {c} E x h = record {
-  reads = subst (λ (l : List RevokedValue). GivesAll (Many IsRevoked) v l new) (sym (listing_is c x h.entries h.spelled)) h.gives;
+pub captured_reads : {v new : ValuesLeft} {c : CapturedValue} (E : Type 0) (l : List RevokedValue) → ∥ SpellsEntries c l ∥₁ → Captured v c new → ReadsFields {E = E} (λ l. l) AreEntries v (Ok l) new
+captured_reads {v} {new} {c} E l x h = record {
+  reads = subst (λ (k : List RevokedValue). GivesAll (Many IsRevoked) v k new) (sym (spelled_is c l h.entries x h.spelled)) h.gives;
 }

@@ -1,19 +1,9 @@
 -- Entries are searched for a serial number.
-use Rattle.std.proofs.Common.{◌≡◌, ◌≢◌, ◌↔◌, ◌⊎◌, ◌||◌, ℕ, Bool, false, true, nat_eq, IsTrue, List, [], ◌∷◌, Result, Ok, Err, IsOk, IfOk, IfErr, inl, inr, refl, sym, ap, ◌∙◌, subst, append-nil, append_assoc, length, arith, zero, suc, ◌++◌, ◌<◌, Contains, slice_index, slice_index_or}
+use Rattle.std.proofs.Common.{◌≡◌, ◌≢◌, ◌↔◌, ◌⊎◌, ◌||◌, ℕ, Bool, false, true, nat_eq, IsTrue, List, [], ◌∷◌, Result, Ok, Err, IsOk, IfOk, IfErr, inl, inr, refl, sym, ap, ◌∙◌, subst, append-nil, length, arith}
 use denote.Ref.{MutBor}
 use Rattle.std.proofs.Math.Logic.{∥∥₁_elim}
-use Rattle.std.specs.Cmp.{nat_cmp_is, ranks, unsigned_Decides}
-use Rattle.std.specs.Ordering.{nat_cmp}
-use Rattle.std.specs.declared.cmp.Ordering.TheVariants.{Less, Equal, Greater}
-use Rattle.std.specs.List.Retain.{DiffersFromLast, IsFiltered}
-use Rattle.std.specs.List.Sorted.{IsPermutation, IsSorted, IsStrictlyIncreasing}
-use Rattle.std.proofs.lemmas.Bool.{cases_lt}
-use Rattle.std.proofs.lemmas.List.Filters.{dedup_is}
-use Rattle.std.proofs.lemmas.List.Kept.{Contains-dedup_nat, Contains-from_dedup}
-use Rattle.std.proofs.lemmas.List.Sorted.{Contains-permutation, IsPermutation-sym}
-use Rattle.std.proofs.lemmas.Map.Keys.{IsStrictlyIncreasing-dedup, below_from_sorted, sorted_from_strictly_increasing}
-use Rattle.certs_revoked.specs.resources_chain.Rows.{IsOrdered}
-use Rattle.std.specs.Coded.{Coded-set, coded_bool, coded_list, coded_ℕ}
+use Rattle.std.specs.Cmp.{unsigned_Decides}
+use Rattle.std.specs.Coded.{Coded-set, coded_bool}
 use Rattle.std.specs.declared.convert.Infallible.{Infallible}
 use Rattle.certs_revoked.specs.bcder_tree.declared.mode.Mode.{Mode}
 use Rattle.certs_revoked.specs.bcder_tree.Tags.{universal}
@@ -33,7 +23,7 @@ use Rattle.certs_revoked.specs.bcder_content.Memory.{InErr, OnMemory}
 use Rattle.certs_revoked.specs.bcder_content.Ran.{Decoded, DecodedCases, RanIn, Reader, failed_in, fresh, refused_in}
 use Rattle.certs_revoked.specs.certs_basics.Lists.{Mem}
 use Rattle.certs_specs.specs.CrlText.{IsRevoked, RevokedValue}
-use Rattle.certs_revoked.specs.Listed.{EntriesLeft, IsListed, SpellsEntries, has_serial, serials_of}
+use Rattle.certs_revoked.specs.Listed.{EntriesLeft, IsListed, SpellsEntries, has_serial}
 use Rattle.certs_revoked.specs.Listing.{Listing}
 use Rattle.certs_revoked.proofs.Lists.{left_first, left_lacks, left_none, listing_is, no_entries}
 

@@ -1,8 +1,7 @@
 -- The serial numbers of a list, collected and sorted.
-use Rattle.std.proofs.Common.{◌≡◌, ◌≢◌, ◌↔◌, ◌⊎◌, ◌||◌, ℕ, Bool, false, true, nat_eq, IsTrue, List, [], ◌∷◌, Result, Ok, Err, IsOk, IfOk, IfErr, inl, inr, refl, sym, ap, ◌∙◌, subst, append-nil, append_assoc, length, arith, zero, suc, ◌++◌, ◌<◌, Contains, slice_index, slice_index_or}
-use denote.Ref.{MutBor}
+use Rattle.std.proofs.Common.{◌≡◌, ◌↔◌, ℕ, false, true, nat_eq, IsTrue, List, [], ◌∷◌, Result, Ok, Err, IfOk, inl, inr, refl, sym, ap, ◌∙◌, subst, append-nil, append_assoc, length, arith, zero, suc, ◌++◌, ◌<◌, Contains, slice_index, slice_index_or}
 use Rattle.std.proofs.Math.Logic.{∥∥₁_elim}
-use Rattle.std.specs.Cmp.{nat_cmp_is, ranks, unsigned_Decides}
+use Rattle.std.specs.Cmp.{nat_cmp_is, ranks}
 use Rattle.std.specs.Ordering.{MatchOrdering, nat_cmp}
 use Rattle.std.specs.List.{dedup}
 use Rattle.std.specs.Prelude.{MatchOption, Option, Some, None, is_some}
@@ -15,29 +14,17 @@ use Rattle.std.proofs.lemmas.List.Kept.{Contains-dedup_nat, Contains-from_dedup}
 use Rattle.std.proofs.lemmas.List.Sorted.{Contains-permutation, IsPermutation-sym}
 use Rattle.std.proofs.lemmas.Map.Keys.{IsStrictlyIncreasing-dedup, below_from_sorted, sorted_from_strictly_increasing}
 use Rattle.certs_revoked.specs.resources_chain.Rows.{IsOrdered}
-use Rattle.std.specs.Coded.{Coded-set, coded_bool, coded_list, coded_ℕ}
-use Rattle.std.specs.declared.convert.Infallible.{Infallible}
+use Rattle.std.specs.Coded.{Coded-set, coded_list, coded_ℕ}
 use Rattle.certs_revoked.specs.bcder_tree.declared.mode.Mode.{Mode}
 use Rattle.certs_revoked.specs.bcder_tree.Tags.{universal}
-use Rattle.certs_revoked.specs.bcder_tree.Tree.{SpellsAll, Trees}
-use Rattle.certs_revoked.specs.bcder_source.Errors.{OnContent}
-use Rattle.certs_revoked.specs.bcder_source.Views.{Reading}
-use Rattle.certs_revoked.specs.bcder_source.declared.error.DecodeError.{DecodeError}
-use Rattle.certs_revoked.specs.bcder_source.declared.error.DecodeError.TheVariants.{Content, Source, Memory}
-use Rattle.certs_revoked.specs.bcder_content.declared.constructed.Constructed.{Constructed}
-use Rattle.certs_revoked.specs.bcder_content.Captures.{rest_of}
 use Rattle.certs_revoked.specs.bcder_content.Contents.{ValuesLeft, Unlike}
-use Rattle.certs_revoked.specs.bcder_content.Exact.{Gives, LacksTagged}
-use Rattle.certs_revoked.specs.bcder_content.Grammar.{Many}
-use Rattle.certs_revoked.specs.bcder_content.Here.{here}
+use Rattle.certs_revoked.specs.bcder_content.Exact.{Gives}
 use Rattle.certs_revoked.specs.bcder_content.Kept.{CapturedValue}
-use Rattle.certs_revoked.specs.bcder_content.Memory.{InErr, OnMemory}
-use Rattle.certs_revoked.specs.bcder_content.Ran.{Decoded, DecodedCases, RanIn, Reader, failed_in, fresh, refused_in}
 use Rattle.certs_revoked.specs.certs_basics.Lists.{Mem}
 use Rattle.certs_specs.specs.CrlText.{IsRevoked, RevokedValue}
-use Rattle.certs_revoked.specs.Listed.{EntriesLeft, IsListed, SpellsEntries, has_serial, serials_of}
+use Rattle.certs_revoked.specs.Listed.{EntriesLeft, IsListed, SpellsEntries, serials_of}
 use Rattle.certs_revoked.specs.Listing.{Listing}
-use Rattle.certs_revoked.proofs.Lists.{left_first, left_lacks, left_none, listing_is, no_entries}
+use Rattle.certs_revoked.proofs.Lists.{left_first, left_none}
 
 -- The serial numbers so far, and those of the entries that are left, are those of the list.
 pub record Collected (serials : List ℕ) (start now : ValuesLeft) : Type 0 where

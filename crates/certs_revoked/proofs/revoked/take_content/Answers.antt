@@ -1,3 +1,4 @@
+use Rattle.std.proofs.Common.{rules}
 use Rattle.certs_revoked.proofs.of_bcder_content.InMode.{begin, stop_all}
 use Rattle.certs_revoked.proofs.of_bcder_content.Kept.{exact_capture}
 use Rattle.certs_revoked.proofs.of_bcder_content.Taking.{weaker}
@@ -17,4 +18,4 @@ invariant_of-result g c =
     ((h.entries, ∣ h.spelled ∣₁), tt)
 
 pub returns : goal.returns
-returns g c = captured_reads _ c.result-1.given.0 (captured_list (record { each = λ p q r m k. k.0.reads }) c.in_ok-octets.ensures.captures)
+returns g c = captured_reads _ _ (search rules) (captured_list (record { each = λ p q r m k. k.0.reads }) c.in_ok-octets.ensures.captures)

@@ -1,4 +1,4 @@
-use Rattle.std.proofs.Common.{ℕ, List, [], ◌∷◌, ◌++◌, ap, ◌∙◌}
+use Rattle.std.proofs.Common.{ℕ, [], ◌∷◌, ◌++◌, ap, ◌∙◌}
 use Rattle.certs_revoked.proofs.of_bcder_content.Forests.{there, absent}
 use Rattle.certs_revoked.proofs.Serials.{collected_all, collected_more}
 use Rattle.certs_revoked.proofs.search.collect_serials.Goals as goal

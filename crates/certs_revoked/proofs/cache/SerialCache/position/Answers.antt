@@ -1,4 +1,4 @@
-use Rattle.std.proofs.Common.{sym, ◌∙◌, subst, List, ℕ}
+use Rattle.std.proofs.Common.{sym, ◌∙◌, subst}
 use Rattle.std.specs.List.Sorted.{IsStrictlyIncreasing}
 use Rattle.certs_revoked.proofs.Serials.{place_is, rises_ordered}
 use Rattle.certs_revoked.proofs.cache.SerialCache.position.Goals as goal
