@@ -1,5 +1,5 @@
 -- A list of extensions, and one more.
-use Rattle.std.proofs.Common.{◌≡◌, ◌≢◌, inl, inr, ℕ, true, false, List, [], ◌∷◌, ◌++◌, Option, Some, None, refl, sym, ◌∙◌, subst}
+use Rattle.std.proofs.Common.{◌≡◌, ◌≢◌, inl, inr, true, false, List, [], ◌∷◌, ◌++◌, refl, sym, ◌∙◌, subst}
 use Rattle.certs_claims.specs.bcder_tree.declared.mode.Mode.TheVariants.{Der}
 use Rattle.certs_claims.specs.certs_basics.Identifiers as id
 use Rattle.certs_claims.specs.certs_basics.Lists.{Each, Mem}
@@ -16,7 +16,7 @@ use Rattle.certs_claims.specs.declared.kinds.Kind.TheVariants.{BasicConstraints,
 use Rattle.certs_claims.specs.declared.slots.Slots.{Slots}
 use Rattle.certs_claims.specs.Kinds.{IsNamed, octets_of}
 use Rattle.certs_claims.specs.Putting.{Adds, CannotPut, IsSkipped, Puts, Refuses}
-use Rattle.certs_claims.specs.Slots.{AreFamilies, AreSlots}
+use Rattle.certs_claims.specs.Slots.{AreFamilies}
 use Rattle.certs_claims.proofs.SlotLaws.{grown, grown_under, not_grown, not_under}
 
 ip_differ : ip_octets Refuse ≢ ip_octets Trim

@@ -1,5 +1,5 @@
 -- What a reader of a value of one kind makes of its slot.
-use Rattle.std.proofs.Common.{◌≡◌, Option, Result, Ok, Err, OnOk, IfErr, subst}
+use Rattle.std.proofs.Common.{Option, Result, Ok, Err, OnOk, IfErr, subst}
 use denote.Ref.{MutBor}
 use Rattle.certs_claims.specs.bcder_tree.declared.mode.Mode.{Mode}
 use Rattle.certs_claims.specs.bcder_tree.declared.mode.Mode.TheVariants.{Der}

@@ -1,5 +1,5 @@
 -- Where a test behind the list fails nothing is claimed.
-use Rattle.std.proofs.Common.{◌≡◌, ◌≢◌, ◌⊎◌, inl, inr, Option, Some, None, Result, Ok, Err, OnErr, refl, sym, ◌∙◌, subst}
+use Rattle.std.proofs.Common.{◌≡◌, inl, inr, Option, Some, None, Result, Ok, Err, OnErr, sym, ◌∙◌}
 use Rattle.certs_claims.specs.resources_chain.declared.claims.Overclaim.{Overclaim}
 use Rattle.certs_specs.proofs.Values.{same_some}
 use Rattle.certs_claims.specs.declared.finish.Claims.{Claims}

@@ -1,5 +1,5 @@
 -- The list of extensions, one by one.
-use Rattle.std.proofs.Common.{◌≡◌, ◌≢◌, sym, subst}
+use Rattle.std.proofs.Common.{◌≢◌, sym, subst}
 use Rattle.certs_claims.specs.bcder_tree.declared.mode.Mode.{Mode}
 use Rattle.certs_claims.specs.bcder_tree.Tags.{universal}
 use Rattle.certs_claims.specs.bcder_source.Errors.{OnContent}

@@ -14,7 +14,7 @@ use Rattle.certs_claims.specs.resources_ip.Encodings.{FamilyChoices}
 use Rattle.certs_claims.specs.resources_ip.Reading.{family_choices}
 use Rattle.certs_claims.specs.resources_ip.declared.resources.IpFamilies.{IpFamilies}
 use Rattle.certs_claims.specs.resources_policy.Identifiers.{as_octets, ip_octets}
-use Rattle.certs_specs.specs.Access.{AccessValue, IsSubjectAccess, no_access}
+use Rattle.certs_specs.specs.Access.{AccessValue, IsSubjectAccess}
 use Rattle.certs_specs.specs.Cert.{TbsValue}
 use Rattle.certs_specs.specs.CertText.{AreAsResources, AreIpResources, HasExtensions, IsAccess, other}
 use Rattle.certs_specs.specs.Extensions.{Extension, IsAuthorityAccess, IsAuthorityKeyIdentifier, IsBasicConstraints, IsCrlDistribution, IsExtendedKeyUsage, IsKeyUsage, IsOptional, IsPolicies, IsSubjectKeyIdentifier, May, Must, MustNot, of_kind}

@@ -1,6 +1,5 @@
 -- What slots mean as a whole (RFC 6487 4.8).
-use Rattle.std.specs.Prelude.{◌≡◌, ◌≢◌, ◌⊎◌, ℕ, List, Option, Some, None}
-use Rattle.certs_claims.specs.resources_chain.Claims.{Choice}
+use Rattle.std.specs.Prelude.{◌≡◌, ◌≢◌, ◌⊎◌, Option, Some, None}
 use Rattle.certs_claims.specs.resources_chain.declared.choice.ResourcesChoice.TheVariants.{Missing}
 use Rattle.certs_claims.specs.resources_chain.declared.claims.Overclaim.{Overclaim}
 use Rattle.certs_claims.specs.resources_ip.declared.resources.IpFamilies.{IpFamilies}

@@ -1,5 +1,5 @@
 -- One more extension: which slot it fills, or why it is refused.
-use Rattle.std.specs.Prelude.{◌≡◌, ℕ, Bool, true, false, List, [], ◌∷◌, ◌++◌, Option, Some, None, bytes_eq, if◌then◌else◌}
+use Rattle.std.specs.Prelude.{◌≡◌, ℕ, Bool, true, false, List, [], ◌∷◌, ◌++◌, Option, Some, None, bytes_eq}
 use Rattle.certs_claims.specs.bcder_tree.declared.mode.Mode.TheVariants.{Der}
 use Rattle.certs_claims.specs.bcder_tree.Tree.{Tree}
 use Rattle.certs_claims.specs.bcder_content.Texts.{ReadsFront}
