@@ -149,8 +149,8 @@ impl Slots {
         Ok(policy)
     }
 
-    /// What the extensions claim, where the identifier of the subject's key, its key usage and a policy are there, and
-    /// resources, which all stand under this policy (RFC 6487 4.8, RFC 8360 4.2).
+    /// What the extensions claim, where the identifier of the subject's key, its key usage and a
+    /// policy are there, and resources, which all stand under this policy (RFC 6487 4.8, RFC 8360 4.2).
     ///
     /// The first failing test is told, in the order of [`ListError`].
     pub fn finish(self) -> Result<Claims, ListError>

@@ -69,7 +69,8 @@ pub enum Kind {
 
 // The kind, if it is one of keys.
 fn kind_of_key(oid: &Oid) -> Option<Kind>
-    ensures { MatchOption result (¬ (Mem key_kinds oid.now.0)) (λ k. IsNamed (octets_of k) oid.now.0) }
+    ensures { MatchOption result
+        (¬ (Mem key_kinds oid.now.0)) (λ k. IsNamed (octets_of k) oid.now.0) }
 {
     if oid.equals(&CE_BASIC_CONSTRAINTS) {
         return Some(Kind::BasicConstraints);
@@ -91,7 +92,8 @@ fn kind_of_key(oid: &Oid) -> Option<Kind>
 
 // The kind, if it says where something is found, or is that of policies.
 fn kind_of_place(oid: &Oid) -> Option<Kind>
-    ensures { MatchOption result (¬ (Mem place_kinds oid.now.0)) (λ k. IsNamed (octets_of k) oid.now.0) }
+    ensures { MatchOption result
+        (¬ (Mem place_kinds oid.now.0)) (λ k. IsNamed (octets_of k) oid.now.0) }
 {
     if oid.equals(&CE_CRL_DISTRIBUTION_POINTS) {
         return Some(Kind::CrlDistributionPoints);
@@ -110,7 +112,8 @@ fn kind_of_place(oid: &Oid) -> Option<Kind>
 
 // The kind, if it is one of resources.
 fn kind_of_resources(oid: &Oid) -> Option<Kind>
-    ensures { MatchOption result (¬ (Mem resource_kinds oid.now.0)) (λ k. IsNamed (octets_of k) oid.now.0) }
+    ensures { MatchOption result
+        (¬ (Mem resource_kinds oid.now.0)) (λ k. IsNamed (octets_of k) oid.now.0) }
 {
     if oid.equals(&Overclaim::Refuse.ip_res_id()) {
         return Some(Kind::IpResources);

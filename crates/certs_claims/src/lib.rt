@@ -1,5 +1,5 @@
-//! All extensions of a certificate (RFC 5280 4.2, RFC 6487 4.8): a slot for the value of each kind, filled one by one in
-//! whatever order they stand.
+//! All extensions of a certificate (RFC 5280 4.2, RFC 6487 4.8): a slot for the value of each kind,
+//! filled one by one in whatever order they stand, and what they claim as a whole.
 #![tactic(auto)]
 
 pub mod finish;

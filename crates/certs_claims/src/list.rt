@@ -47,9 +47,9 @@ fn take_all<S: Source>(
     Ok(slots)
 }
 
-/// All extensions of a certificate, `SEQUENCE OF Extension`, in whatever order they stand (RFC 5280 4.1.2.9): each known
-/// one once at most and as critical as it has to be, resources in one version alone, and none that is critical and not
-/// known (RFC 6487 4.8).
+/// All extensions of a certificate, `SEQUENCE OF Extension`, in whatever order they stand
+/// (RFC 5280 4.1.2.9): each known one once at most and as critical as it has to be, resources in one
+/// version alone, and none that is critical and not known (RFC 6487 4.8).
 pub fn take_extensions<S: Source>(
     alloc: Global,
     cons: &mut Constructed<S>,

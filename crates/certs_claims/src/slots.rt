@@ -119,11 +119,14 @@ impl Slots {
         }
     }
 
-    /// One more extension: its value is put into the slot of its kind, and an unknown one is passed over.
+    /// One more extension: its value is put into the slot of its kind, and an unknown one is passed
+    /// over.
     ///
-    /// `Duplicate` where the slot is filled, by either version of a kind of resources; else `Criticality` where it isn't
-    /// as critical as it has to be; else `BadValue` where its octets don't begin with a value of its type.
-    /// `UnknownCritical` where it is critical and unknown. The slots are as they were where it is refused.
+    /// `Duplicate` where the slot is filled, by either version of a kind of resources; else
+    /// `Criticality` where it isn't as critical as it has to be; else `BadValue` where its octets
+    /// don't begin with a value of its type, or `Memory` where none is left to read it.
+    /// `UnknownCritical` where it is critical and unknown. The slots are as they were where it is
+    /// refused.
     pub fn put(&mut self, alloc: Global, extension: &Extension) -> Result<(), ExtensionError>
         ensures ok { OnOk result (Adds (extension_value extension.now) self.old self.new) }
         ensures refused { IfErr result (IsFault (extension_value extension.now) self.old) }

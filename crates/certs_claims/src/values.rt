@@ -71,7 +71,8 @@ pub(crate) fn put_subject_key_identifier(
         Need::MustNot,
         extension,
         |cons|
-            ensures { ReadsAs (λ v. v) (IsKeyIdentifier (here rest_of cons.old).mode octet_string_tag)
+            ensures { ReadsAs (λ v. v)
+                (IsKeyIdentifier (here rest_of cons.old).mode octet_string_tag)
                 (here rest_of cons.old) result (here rest_of cons.new) }
         { KeyIdentifier::take_from(alloc, cons) },
     )
@@ -258,8 +259,8 @@ pub(crate) fn put_ip(
     alloc: Global,
     extension: &Extension,
 ) -> Result<(), ExtensionError>
-    ensures ok { OnOk result
-        (Fills May (Under policy (AreFamilies Der)) (extension_value extension.now) slot.old slot.new) }
+    ensures ok { OnOk result (Fills May (Under policy (AreFamilies Der))
+        (extension_value extension.now) slot.old slot.new) }
     ensures refused { IfErr result
         (CannotFill May (Under policy (AreFamilies Der)) (extension_value extension.now) slot.old) }
     ensures same { OnErr result (slot.new ≡ slot.old) }
