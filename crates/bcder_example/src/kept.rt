@@ -29,7 +29,8 @@ fn take_sealed_fields<S: Source>(
     alloc: Global,
     cons: &mut Constructed<S>,
 ) -> Result<Sealed, DecodeError<S::Error>>
-    ensures { ReadsFields sealed_fields IsSealedBody (here S.rest cons.old) result (here S.rest cons.new) }
+    ensures { ReadsFields sealed_fields IsSealedBody (here S.rest cons.old) result
+        (here S.rest cons.new) }
 {
     let version = cons.capture(
         alloc,
@@ -50,8 +51,9 @@ pub fn take_sealed<S: Source>(
     alloc: Global,
     cons: &mut Constructed<S>,
 ) -> Result<Sealed, DecodeError<S::Error>>
-    ensures reads { ReadsAs sealed_fields (Inside (universal 16) (IsSealedBody (here S.rest cons.old).mode))
-        (here S.rest cons.old) result (here S.rest cons.new) }
+    ensures reads { ReadsAs sealed_fields
+        (Inside (universal 16) (IsSealedBody (here S.rest cons.old).mode)) (here S.rest cons.old)
+        result (here S.rest cons.new) }
     ensures failed { OnErr result ((here S.rest cons.new).failed ≡ true) }
 {
     cons.take_sequence(

@@ -17,7 +17,10 @@ pub fn one_meaning()
 /// A notice that is written, whose identifier is one, is read again: it is the only value in front of what was written,
 /// and has the same fields, but for the padding of its flags.
 pub fn what_is_written_is_read()
-    ensures { (n : Notice) (m : ModeValue) (text : List ℕ) → notice.lawful (notice_fields n) → notice.writes (notice_fields n) m text → ReadAgain m (λ ts. Then (notice.reads m) End ts (notice.again m (notice_fields n), tt)) text }
+    ensures { (n : Notice) (m : ModeValue) (text : List ℕ) → notice.lawful (notice_fields n)
+        → notice.writes (notice_fields n) m text
+        → ReadAgain m (λ ts. Then (notice.reads m) End ts (notice.again m (notice_fields n), tt))
+        text }
 {}
 
 /// What is written of a signed structure is read again, where the octets that are kept spell the body in each mode in
@@ -25,5 +28,6 @@ pub fn what_is_written_is_read()
 pub fn what_is_signed_is_read()
     ensures { (s : Signed) (m : ModeValue) (text : List ℕ) → signed.lawful (signed_fields s)
         → signed.writes (signed_fields s) m text
-        → ReadAgain m (λ ts. Then (signed.reads m) End ts (signed.again m (signed_fields s), tt)) text }
+        → ReadAgain m (λ ts. Then (signed.reads m) End ts (signed.again m (signed_fields s), tt))
+        text }
 {}

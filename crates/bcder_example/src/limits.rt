@@ -29,7 +29,8 @@ pub struct Limits {
 
 // The number within an explicit tag.
 fn take_number<S: Source>(cons: &mut Constructed<S>) -> Result<u8, DecodeError<S::Error>>
-    ensures { ReadsFields only number_content.reads (here S.rest cons.old) result (here S.rest cons.new) }
+    ensures { ReadsFields only number_content.reads (here S.rest cons.old) result
+        (here S.rest cons.new) }
 {
     let number = cons.take_u8()?;
     Ok(number)

@@ -37,7 +37,8 @@ pub struct Log {
 
 // The fields of an entry.
 fn take_entry_fields<S: Source>(cons: &mut Constructed<S>) -> Result<Entry, DecodeError<S::Error>>
-    ensures { ReadsFields entry_fields IsEntryBody (here S.rest cons.old) result (here S.rest cons.new) }
+    ensures { ReadsFields entry_fields IsEntryBody (here S.rest cons.old) result
+        (here S.rest cons.new) }
 {
     let kind = cons.take_u8()?;
     let size = cons.take_u8()?;
@@ -64,7 +65,8 @@ fn take_entries<S: Source>(
     alloc: Global,
     cons: &mut Constructed<S>,
 ) -> Result<Vec<Entry>, DecodeError<S::Error>>
-    ensures { ReadsFields (λ v. map entry_fields v.items) AreEntries (here S.rest cons.old) result (here S.rest cons.new) }
+    ensures { ReadsFields (λ v. map entry_fields v.items) AreEntries (here S.rest cons.old) result
+        (here S.rest cons.new) }
 {
     let mut entries = Vec::new(alloc);
     while let Some(entry) = take_opt_entry(cons)? {
@@ -78,7 +80,8 @@ fn take_log_fields<S: Source>(
     alloc: Global,
     cons: &mut Constructed<S>,
 ) -> Result<Log, DecodeError<S::Error>>
-    ensures { ReadsFields log_fields IsLogBody (here S.rest cons.old) result (here S.rest cons.new) }
+    ensures { ReadsFields log_fields IsLogBody (here S.rest cons.old) result
+        (here S.rest cons.new) }
 {
     let most = cons.take_opt_u8()?;
     let entries = cons.take_sequence(
@@ -95,8 +98,9 @@ pub fn take_log<S: Source>(
     alloc: Global,
     cons: &mut Constructed<S>,
 ) -> Result<Log, DecodeError<S::Error>>
-    ensures reads { ReadsAs log_fields (Inside (universal 16) (IsLogBody (here S.rest cons.old).mode))
-        (here S.rest cons.old) result (here S.rest cons.new) }
+    ensures reads { ReadsAs log_fields
+        (Inside (universal 16) (IsLogBody (here S.rest cons.old).mode)) (here S.rest cons.old)
+        result (here S.rest cons.new) }
     ensures failed { OnErr result ((here S.rest cons.new).failed ≡ true) }
 {
     cons.take_sequence(
@@ -129,7 +133,8 @@ fn take_all_pieces<S: Source>(
     alloc: Global,
     cons: &mut Constructed<S>,
 ) -> Result<Vec<Bytes>, DecodeError<S::Error>>
-    ensures { ReadsFields (λ v. v.items) ArePieces (here S.rest cons.old) result (here S.rest cons.new) }
+    ensures { ReadsFields (λ v. v.items) ArePieces (here S.rest cons.old) result
+        (here S.rest cons.new) }
 {
     let mut pieces = Vec::new(alloc);
     while let Some(piece) = take_opt_piece(alloc, cons)? {
@@ -144,8 +149,9 @@ pub fn take_pieces<S: Source>(
     alloc: Global,
     cons: &mut Constructed<S>,
 ) -> Result<Vec<Bytes>, DecodeError<S::Error>>
-    ensures reads { ReadsAs (λ v. v.items) (Inside (universal 4) (ArePieces (here S.rest cons.old).mode))
-        (here S.rest cons.old) result (here S.rest cons.new) }
+    ensures reads { ReadsAs (λ v. v.items)
+        (Inside (universal 4) (ArePieces (here S.rest cons.old).mode)) (here S.rest cons.old) result
+        (here S.rest cons.new) }
     ensures failed { OnErr result ((here S.rest cons.new).failed ≡ true) }
 {
     cons.take_constructed_if(

@@ -77,7 +77,10 @@ impl Notice {
 
     // The encoders of the fields, in a SEQUENCE.
     fn encode_ref(&self) -> Encoder<'_>
-        ensures { lends result.tag (result.inner.0.tag, result.inner.0.content.now.0) (result.inner.1.tag, result.inner.1.content.now) (result.inner.2.tag, result.inner.2.content.now) (result.inner.3.tag, result.inner.3.octets.now) ≡ notice_lends self.now }
+        ensures { lends result.tag (result.inner.0.tag, result.inner.0.content.now.0)
+            (result.inner.1.tag, result.inner.1.content.now)
+            (result.inner.2.tag, result.inner.2.content.now)
+            (result.inner.3.tag, result.inner.3.octets.now) ≡ notice_lends self.now }
     {
         encode::Constructed {
             tag: Tag::SEQUENCE,

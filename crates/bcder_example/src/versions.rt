@@ -56,7 +56,8 @@ fn take_version_fields<S: Source>(
 
 /// Two fields.
 pub fn take_version<S: Source>(cons: &mut Constructed<S>) -> Result<Version, DecodeError<S::Error>>
-    ensures reads { ReadsAs version_fields IsVersion (here S.rest cons.old) result (here S.rest cons.new) }
+    ensures reads { ReadsAs version_fields IsVersion (here S.rest cons.old) result
+        (here S.rest cons.new) }
     ensures failed { OnErr result ((here S.rest cons.new).failed ≡ true) }
     ensures no_memory { IfErr result (λ e. e ≢ Memory) }
 {
@@ -91,8 +92,9 @@ pub fn take_settings<S: Source>(
     alloc: Global,
     cons: &mut Constructed<S>,
 ) -> Result<Settings, DecodeError<S::Error>>
-    ensures reads { ReadsAs settings_fields (Inside (universal 16) (IsSettingsBody (here S.rest cons.old).mode))
-        (here S.rest cons.old) result (here S.rest cons.new) }
+    ensures reads { ReadsAs settings_fields
+        (Inside (universal 16) (IsSettingsBody (here S.rest cons.old).mode)) (here S.rest cons.old)
+        result (here S.rest cons.new) }
     ensures failed { OnErr result ((here S.rest cons.new).failed ≡ true) }
 {
     cons.take_sequence(

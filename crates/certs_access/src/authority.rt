@@ -21,7 +21,8 @@ fn take_issuer<S: Source>(
     alloc: Global,
     cons: &mut Constructed<S>,
 ) -> Result<Rsync, DecodeError<S::Error>>
-    ensures { ReadsFields issuer_fields IsIssuerBody (here S.rest cons.old) result (here S.rest cons.new) }
+    ensures { ReadsFields issuer_fields IsIssuerBody (here S.rest cons.old) result
+        (here S.rest cons.new) }
 {
     CA_ISSUERS.skip_if(cons)?;
     let uri = take_one_rsync(alloc, cons)?;

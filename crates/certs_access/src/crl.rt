@@ -24,7 +24,8 @@ fn take_full_name<S: Source>(
     let uri = cons.take_constructed_if(
         Tag::CTX_0,
         |cons|
-            ensures { ReadsFields (λ uri. uri) HaveOneRsync (here S.rest cons.old) result (here S.rest cons.new) }
+            ensures { ReadsFields (λ uri. uri) HaveOneRsync (here S.rest cons.old) result
+                (here S.rest cons.new) }
         { take_one_rsync(alloc, cons) },
     )?;
     Ok(uri)

@@ -85,7 +85,8 @@ pub(crate) fn take_one_rsync<S: Source>(
     alloc: Global,
     cons: &mut Constructed<S>,
 ) -> Result<Rsync, DecodeError<S::Error>>
-    ensures { ReadsFields (λ uri. uri) HaveOneRsync (here S.rest cons.old) result (here S.rest cons.new) }
+    ensures { ReadsFields (λ uri. uri) HaveOneRsync (here S.rest cons.old) result
+        (here S.rest cons.new) }
 {
     let found = take_names(alloc, cons)?;
     match found {

@@ -50,9 +50,19 @@ impl Model for SubjectAccess {
 
     ghost Value = { AccessValue };
 
-    ghost view = { λ a. record { repository = a.repository; manifest = a.manifest; object = a.object; notify = a.notify } };
+    ghost view = { λ a. record {
+      repository = a.repository;
+      manifest = a.manifest;
+      object = a.object;
+      notify = a.notify;
+    } };
 
-    ghost inverse = { λ v. record { repository = v.repository; manifest = v.manifest; object = v.object; notify = v.notify } };
+    ghost inverse = { λ v. record {
+      repository = v.repository;
+      manifest = v.manifest;
+      object = v.object;
+      notify = v.notify;
+    } };
 }
 
 // An access description: its method, and its name where the method is known.

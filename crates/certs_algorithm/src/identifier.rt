@@ -38,7 +38,8 @@ impl AlgorithmIdentifier {
     }
 
     fn with_null(&self) -> WithNull
-        ensures { lends_null result.tag result.inner.0.tag result.inner.1.tag result.inner.0.content.0.now
+        ensures { lends_null result.tag result.inner.0.tag result.inner.1.tag
+            result.inner.0.content.0.now
             ≡ lends_null (universal 16) (universal 6) (universal 5) self.now.kind }
     {
         encode::Constructed {

@@ -90,8 +90,9 @@ impl KeyIdentifier {
         alloc: Global,
         cons: &mut Constructed<S>,
     ) -> Result<KeyIdentifier, DecodeError<S::Error>>
-        ensures reads { ReadsAs (λ v. v) (IsKeyIdentifier (here S.rest cons.old).mode octet_string_tag)
-            (here S.rest cons.old) result (here S.rest cons.new) }
+        ensures reads { ReadsAs (λ v. v)
+            (IsKeyIdentifier (here S.rest cons.old).mode octet_string_tag) (here S.rest cons.old)
+            result (here S.rest cons.new) }
         ensures failed { OnErr result ((here S.rest cons.new).failed ≡ true) }
     {
         cons.take_value_if(

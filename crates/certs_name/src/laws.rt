@@ -44,7 +44,8 @@ pub fn serials_are_read_again()
 pub fn names_are_read_again()
     ensures read { (name : CapturedValue) (m : ModeValue) (text : List ℕ) → IsNamed name
         → CapturedText name m text
-        → ReadAgain m (λ ts. Then (IsKeptName m) End ts (record { mode = m; octets = text }, tt)) text }
+        → ReadAgain m (λ ts. Then (IsKeptName m) End ts (record { mode = m; octets = text }, tt))
+        text }
     ensures inspected { (name : CapturedValue) (m : ModeValue) (text : List ℕ) (strict : Bool)
         → CapturedText name m text → IsRpkiName strict name
         → IsRpkiName strict (record { mode = m; octets = text }) }
@@ -59,7 +60,8 @@ pub fn key_names_pass_inspection()
 
 /// Names are equal where their octets are; equal names say the same attributes, whatever their modes.
 pub fn name_equality()
-    ensures octets { (a b : CapturedValue) → IsTrue (⟦<Name as PartialEq>⟧.eq a b) ↔ (a.octets ≡ b.octets) }
+    ensures octets { (a b : CapturedValue) → IsTrue (⟦<Name as PartialEq>⟧.eq a b)
+        ↔ (a.octets ≡ b.octets) }
     ensures attributes { (a b : CapturedValue) (all : List Attribute) → IsNamed b
         → IsTrue (⟦<Name as PartialEq>⟧.eq a b) → NameSays a all → NameSays b all }
 {}

@@ -71,7 +71,8 @@ fn pass<S: Source>(prim: &mut Primitive<S>, count: usize)
     requires limit { (plain S.rest prim.old).limit ≡ Some count }
     requires available { count ≤ S.available prim.old.source.source }
     ensures { plain S.rest prim.new
-        ≡ record (plain S.rest prim.old) { rest = drop count (plain S.rest prim.old).rest; limit = Some 0 } }
+        ≡ record (plain S.rest prim.old)
+        { rest = drop count (plain S.rest prim.old).rest; limit = Some 0 } }
 {
     prim.source.source.advance(count);
     prim.source.limit = Some(0);

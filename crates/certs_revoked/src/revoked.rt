@@ -41,7 +41,8 @@ pub type RevokedValues<'a> = Option<encode::Constructed<&'a Captured>>;
 
 // Passes over entries, up to the end of their content.
 fn skip_entries<S: Source>(cons: &mut Constructed<S>) -> Result<(), DecodeError<S::Error>>
-    ensures reads { ReadsFields (λ x. x) AreAny (here S.rest cons.old) result (here S.rest cons.new) }
+    ensures reads { ReadsFields (λ x. x) AreAny (here S.rest cons.old) result
+        (here S.rest cons.new) }
     ensures no_memory { IfErr result (λ e. e ≢ Memory) }
 {
     while let Some(_entry) = CrlEntry::take_opt_from(cons)? {}

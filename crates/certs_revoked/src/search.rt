@@ -55,7 +55,8 @@ fn find_serial(
     cons: &mut Constructed<SliceSource<'_>>,
     serial: Serial,
 ) -> Result<bool, DecodeError<Infallible>>
-    ensures ok { (entries : List RevokedValue) → EntriesLeft (here rest_of cons.old) entries → IsOk result }
+    ensures ok { (entries : List RevokedValue) → EntriesLeft (here rest_of cons.old) entries
+        → IsOk result }
     ensures found { (entries : List RevokedValue) → EntriesLeft (here rest_of cons.old) entries
         → IfOk result (λ found. found ≡ tells serial entries) }
     ensures sound { (entries : List RevokedValue) → EntriesLeft (here rest_of cons.old) entries
@@ -78,10 +79,13 @@ pub(crate) fn has_serial(octets: &[u8], mode: Mode, serial: Serial) -> bool
     match mode.decode(
         octets,
         |cons|
-            ensures ok { (entries : List RevokedValue) → EntriesLeft (here rest_of cons.old) entries → IsOk result }
-            ensures found { (entries : List RevokedValue) → EntriesLeft (here rest_of cons.old) entries
+            ensures ok { (entries : List RevokedValue) → EntriesLeft (here rest_of cons.old) entries
+                → IsOk result }
+            ensures found { (entries : List RevokedValue)
+                → EntriesLeft (here rest_of cons.old) entries
                 → IfOk result (λ found. found ≡ tells serial entries) }
-            ensures sound { (entries : List RevokedValue) → EntriesLeft (here rest_of cons.old) entries
+            ensures sound { (entries : List RevokedValue)
+                → EntriesLeft (here rest_of cons.old) entries
                 → (here rest_of cons.new).failed ≡ false }
         { find_serial(cons, serial) },
     ) {

@@ -16,7 +16,8 @@ pub fn one_meaning()
 /// What is written of signed data is read again, where what was signed is one value: with the same octets, algorithm
 /// and signature, but for the padding of its bits.
 pub fn what_is_written_is_read()
-    ensures { (s : SignedDataValue) (m : ModeValue) (text : List ℕ) → KeepsOne (λ m. Any) (kept_message s.message)
-        → signed.writes (signed_fields s) m text
-        → ReadAgain m (λ ts. Then (signed.reads m) End ts (signed.again m (signed_fields s), tt)) text }
+    ensures { (s : SignedDataValue) (m : ModeValue) (text : List ℕ)
+        → KeepsOne (λ m. Any) (kept_message s.message) → signed.writes (signed_fields s) m text
+        → ReadAgain m (λ ts. Then (signed.reads m) End ts (signed.again m (signed_fields s), tt))
+        text }
 {}

@@ -42,7 +42,8 @@ fn take_message<S: Source>(
 ) -> Result<Captured, DecodeError<S::Error>>
     ensures reads { ReadsAs kept_message (KeptIn (λ m. Any) (here S.rest cons.old).mode)
         (here S.rest cons.old) result (here S.rest cons.new) }
-    ensures octets { IfOk result (λ c. Goes (here S.rest cons.old) c.octets (here S.rest cons.new)) }
+    ensures octets { IfOk result
+        (λ c. Goes (here S.rest cons.old) c.octets (here S.rest cons.new)) }
 {
     cons.capture(
         alloc,
@@ -136,8 +137,9 @@ impl SignedData {
         Mode::Der.decode(
             source,
             |cons|
-                ensures reads { ReadsAs signed_fields (signed.reads (here I.Source.rest cons.old).mode)
-                    (here I.Source.rest cons.old) result (here I.Source.rest cons.new) }
+                ensures reads { ReadsAs signed_fields
+                    (signed.reads (here I.Source.rest cons.old).mode) (here I.Source.rest cons.old)
+                    result (here I.Source.rest cons.new) }
                 ensures octets { IfOk result (λ s. TookOctets octet_fields SpellsSignedData
                     (here I.Source.rest cons.old) s (here I.Source.rest cons.new)) }
             { SignedData::take_from(alloc, cons) },

@@ -28,7 +28,8 @@ fn refuse<S: Source>(prim: &mut Primitive<S>) -> DecodeError<S::Error>
 // The moment that all octets of a content tell in the form.
 #[inline(always)]
 fn moment<S: Source>(prim: &mut Primitive<S>, form: Form) -> Result<Time, DecodeError<S::Error>>
-    ensures reads { ReadsOctetsAs (λ t. t) (Tells form) (plain S.rest prim.old) result (plain S.rest prim.new) }
+    ensures reads { ReadsOctetsAs (λ t. t) (Tells form) (plain S.rest prim.old) result
+        (plain S.rest prim.new) }
     ensures failed { OnErr result ((plain S.rest prim.new).failed ≡ true) }
     ensures no_memory { IfErr result (λ e. e ≢ Memory) }
 {
@@ -52,7 +53,8 @@ fn moment<S: Source>(prim: &mut Primitive<S>, form: Form) -> Result<Time, Decode
 fn take_opt_utc_time<S: Source>(
     cons: &mut Constructed<S>,
 ) -> Result<Option<Time>, DecodeError<S::Error>>
-    ensures reads { ReadsOptAs (λ t. t) (universal 23) (OctetsOf (universal 23) IsShortMoment) (here S.rest cons.old) result (here S.rest cons.new) }
+    ensures reads { ReadsOptAs (λ t. t) (universal 23) (OctetsOf (universal 23) IsShortMoment)
+        (here S.rest cons.old) result (here S.rest cons.new) }
     ensures failed { OnErr result ((here S.rest cons.new).failed ≡ true) }
     ensures no_memory { IfErr result (λ e. e ≢ Memory) }
 {
@@ -63,7 +65,8 @@ fn take_opt_utc_time<S: Source>(
 impl Time {
     /// A UTCTime or a GeneralizedTime (RFC 5280 4.1.2.5).
     pub fn take_from<S: Source>(cons: &mut Constructed<S>) -> Result<Time, DecodeError<S::Error>>
-        ensures reads { ReadsAs (λ t. t) IsTime (here S.rest cons.old) result (here S.rest cons.new) }
+        ensures reads { ReadsAs (λ t. t) IsTime (here S.rest cons.old) result
+            (here S.rest cons.new) }
         ensures failed { OnErr result ((here S.rest cons.new).failed ≡ true) }
         ensures no_memory { IfErr result (λ e. e ≢ Memory) }
     {
@@ -78,7 +81,8 @@ impl Time {
     pub fn take_generalized_from<S: Source>(
         cons: &mut Constructed<S>,
     ) -> Result<Time, DecodeError<S::Error>>
-        ensures reads { ReadsAs (λ t. t) (OctetsOf (universal 24) IsMoment) (here S.rest cons.old) result (here S.rest cons.new) }
+        ensures reads { ReadsAs (λ t. t) (OctetsOf (universal 24) IsMoment) (here S.rest cons.old)
+            result (here S.rest cons.new) }
         ensures failed { OnErr result ((here S.rest cons.new).failed ≡ true) }
         ensures no_memory { IfErr result (λ e. e ≢ Memory) }
     {

@@ -35,15 +35,19 @@ pub fn one_time_is_written()
 /// What is written of a moment is read again as that moment.
 pub fn times_are_read_again()
     ensures value { (moment : ℕ) (t : Tree) → WritesTime moment t → IsTime t moment }
-    ensures octets { (moment : ℕ) (tag : TagValue) (content : List ℕ) (m : ModeValue) (text : List ℕ)
-        → WritesTime moment (primitive tag content) → WritesPlain m tag (λ octets. AnyOctets octets content) text
+    ensures octets { (moment : ℕ) (tag : TagValue) (content : List ℕ) (m : ModeValue)
+        (text : List ℕ) → WritesTime moment (primitive tag content)
+        → WritesPlain m tag (λ octets. AnyOctets octets content) text
         → ReadAgain m (λ ts. Then IsTime End ts (moment, tt)) text }
 {}
 
 /// What is written of a validity is read again as that validity.
 pub fn validity_is_read_again()
-    ensures { (not_before not_after : ℕ) (tag other : TagValue) (first second : List ℕ) (m : ModeValue) (text : List ℕ)
-        → WritesTime not_before (primitive tag first) → WritesTime not_after (primitive other second)
-        → WritesWrapped m (universal 16) (WritesBoth (WritesPlain m tag (λ octets. AnyOctets octets first)) (WritesPlain m other (λ octets. AnyOctets octets second))) text
+    ensures { (not_before not_after : ℕ) (tag other : TagValue) (first second : List ℕ)
+        (m : ModeValue) (text : List ℕ) → WritesTime not_before (primitive tag first)
+        → WritesTime not_after (primitive other second)
+        → WritesWrapped m (universal 16)
+        (WritesBoth (WritesPlain m tag (λ octets. AnyOctets octets first))
+        (WritesPlain m other (λ octets. AnyOctets octets second))) text
         → ReadAgain m (λ ts. Then IsValidity End ts ((not_before, (not_after, tt)), tt)) text }
 {}

@@ -68,7 +68,8 @@ fn with_century(text: &[u8]) -> Option<[u8; 15]>
 
 // Whether the year of a moment, by its text, is one of 1950 to 2049.
 fn is_short_year(whole: &[u8; 15]) -> bool
-    ensures { (c : Civil) → IsReal c → whole.now ≡ moment_text c → (IsTrue result ↔ IsShortYear c.year) }
+    ensures { (c : Civil) → IsReal c → whole.now ≡ moment_text c
+        → (IsTrue result ↔ IsShortYear c.year) }
 {
     match (whole[0], whole[1]) {
         (b'1', b'9') => whole[2] >= b'5',

@@ -37,8 +37,24 @@ impl Time {
     /// from 1, an hour to 23, and minute and second to 59.
     pub fn utc(year: u16, month: u8, day: u8, hour: u8, minute: u8, second: u8) -> Option<Time>
         ensures { SomeIff result
-            (IsReal (record { year = year; month = month; day = day; hour = hour; minute = minute; second = second }))
-            (seconds_of (record { year = year; month = month; day = day; hour = hour; minute = minute; second = second })) }
+            (IsReal
+            (record {
+              year = year;
+              month = month;
+              day = day;
+              hour = hour;
+              minute = minute;
+              second = second;
+            }))
+            (seconds_of
+            (record {
+              year = year;
+              month = month;
+              day = day;
+              hour = hour;
+              minute = minute;
+              second = second;
+            })) }
     {
         if year >= 10_000
             || month > 127
@@ -72,7 +88,8 @@ impl Time {
     /// The moment so many seconds later, or earlier where the number is negative, if the years 0000 to 9999 have it.
     pub fn moved(self, seconds: i64) -> Option<Time>
         ensures some { IfSome result (λ then. IsLater self seconds then) }
-        ensures none { IfNone result ((then : ℕ) → IsLater self seconds then → IsTimeNumber then → ⊥) }
+        ensures none { IfNone result
+            ((then : ℕ) → IsLater self seconds then → IsTimeNumber then → ⊥) }
     {
         let then = self.seconds.checked_add_signed(seconds)?;
         if then >= TIME_END {

@@ -50,8 +50,10 @@ impl Validity {
     /// From `now` until that many seconds later; where the number is negative, from that much earlier until `now`.
     /// None where the years 0000 to 9999 have no such moment.
     pub fn from_secs(now: Time, seconds: i64) -> Option<Self>
-        ensures some { IfSome result (λ v. (then : ℕ) × IsLater now seconds then × IsBetween now then v) }
-        ensures none { IfNone result ((then : ℕ) → IsLater now seconds then → IsTimeNumber then → ⊥) }
+        ensures some { IfSome result
+            (λ v. (then : ℕ) × IsLater now seconds then × IsBetween now then v) }
+        ensures none { IfNone result
+            ((then : ℕ) → IsLater now seconds then → IsTimeNumber then → ⊥) }
     {
         let then = now.moved(seconds)?;
         Some(Validity::new(now.min(then), now.max(then)))
@@ -77,7 +79,8 @@ impl Validity {
     pub fn verify_at(self, now: Time) -> Result<(), ValidityError>
         ensures inside { IsOk result ↔ IsValidAt self now }
         ensures early { (result ≡ Err ValidityError.NotYetValid) ↔ (now < self.not_before) }
-        ensures late { (result ≡ Err ValidityError.Expired) ↔ ((self.not_before ≤ now) × (self.not_after < now)) }
+        ensures late { (result ≡ Err ValidityError.Expired)
+            ↔ ((self.not_before ≤ now) × (self.not_after < now)) }
     {
         if now < self.not_before {
             return Err(ValidityError::NotYetValid);
@@ -90,13 +93,15 @@ impl Validity {
 
     /// A SEQUENCE of the two moments (RFC 5280 4.1.2.5).
     pub fn take_from<S: Source>(cons: &mut Constructed<S>) -> Result<Self, DecodeError<S::Error>>
-        ensures reads { ReadsAs as_fields IsValidity (here S.rest cons.old) result (here S.rest cons.new) }
+        ensures reads { ReadsAs as_fields IsValidity (here S.rest cons.old) result
+            (here S.rest cons.new) }
         ensures failed { OnErr result ((here S.rest cons.new).failed ≡ true) }
         ensures no_memory { IfErr result (λ e. e ≢ Memory) }
     {
         cons.take_sequence(
             |cons|
-                ensures reads { ReadsAllAs as_fields IsValidityBody (here S.rest cons.old) result (here S.rest cons.new) }
+                ensures reads { ReadsAllAs as_fields IsValidityBody (here S.rest cons.old) result
+                    (here S.rest cons.new) }
                 ensures no_memory { IfErr result (λ e. e ≢ Memory) }
             {
                 let not_before = Time::take_from(cons)?;
@@ -112,8 +117,10 @@ impl Validity {
     /// What is written of the validity.
     pub fn encode(self) -> ValidityValue
         ensures tag { result.tag ≡ universal 16 }
-        ensures not_before { WritesTime self.not_before (primitive result.inner.0.tag result.inner.0.content.0) }
-        ensures not_after { WritesTime self.not_after (primitive result.inner.1.tag result.inner.1.content.0) }
+        ensures not_before { WritesTime self.not_before
+            (primitive result.inner.0.tag result.inner.0.content.0) }
+        ensures not_after { WritesTime self.not_after
+            (primitive result.inner.1.tag result.inner.1.content.0) }
     {
         encode::Constructed {
             tag: Tag::SEQUENCE,

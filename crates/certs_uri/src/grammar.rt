@@ -78,7 +78,8 @@ pub fn is_uri(text: &[u8]) -> bool
 pub fn folded_len(uri: &[u8]) -> usize
     ensures bound { result ≤ length uri.now }
     // The scheme has 8 octets with its `://`, and the host stands before the next slash.
-    ensures host { result ≡ min (length uri.now) (8 + position_or_len (λ c. c == 47) (drop 8 uri.now)) }
+    ensures host { result
+        ≡ min (length uri.now) (8 + position_or_len (λ c. c == 47) (drop 8 uri.now)) }
     ensures key { key_of uri.now ≡ map lower (take result uri.now) ++ drop result uri.now }
 {
     match uri.split_at_checked(8) {
