@@ -1,0 +1,2 @@
+mod Listed
+pub mod of_bcder_content

@@ -1,4 +1,5 @@
 pub mod Fresh
+pub mod Reading
 pub mod Whole
 -- What stands below, for the crates above.
 pub use Rattle.certs_specs.specs.bcder_content as bcder_content

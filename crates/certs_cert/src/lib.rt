@@ -15,6 +15,7 @@ pub mod cert;
 pub mod claims;
 pub mod identity;
 pub mod keys;
+mod reading;
 pub mod tbs;
 pub mod usages;
 

@@ -3,5 +3,5 @@ mod Filling
 mod Finished
 mod Lists
 mod SlotLaws
-mod Whole
+pub mod Whole
 pub mod of_bcder_content

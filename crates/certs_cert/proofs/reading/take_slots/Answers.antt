@@ -1,0 +1,6 @@
+use Rattle.certs_cert.proofs.of_bcder_content.InMode.{inside}
+use Rattle.certs_cert.specs.Reading.{AreSlotted}
+use Rattle.certs_cert.proofs.reading.take_slots.Goals as goal
+
+pub returns : goal.returns
+returns g c = inside {P = AreSlotted} (record { each = λ p q r h. h }) c.take_constructed_if.ensures.ran

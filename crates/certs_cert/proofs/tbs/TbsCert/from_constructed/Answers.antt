@@ -1,0 +1,13 @@
+use Rattle.certs_cert.proofs.of_bcder_content.Choices.{stop_value}
+use Rattle.certs_cert.proofs.of_bcder_content.Taking.{on_content}
+use Rattle.certs_cert.proofs.Listed.{tbs_gives, tbs_lacks, tbs_refused}
+use Rattle.certs_cert.proofs.tbs.TbsCert.from_constructed.Goals as goal
+
+pub returns-in_err-listed-clause-reads : goal.returns-in_err-listed-clause-reads
+returns-in_err-listed-clause-reads g c = stop_value _ _ _ _ c.from_residual.ensures (λ l. tbs_lacks l) c.in_err-listed.ensures.reads
+
+pub returns-in-Ok-clause-reads : goal.returns-in-Ok-clause-reads
+returns-in-Ok-clause-reads g c = tbs_gives c.in_ok-listed.ensures.reads c.in-Ok.ensures.ok
+
+pub returns-in-Err-clause-reads : goal.returns-in-Err-clause-reads
+returns-in-Err-clause-reads g c = on_content _ (tbs_refused c.in_ok-listed.ensures.reads c.in-Err.ensures.none)
