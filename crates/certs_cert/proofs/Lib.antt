@@ -1,2 +1,4 @@
 mod Listed
+mod Whole
+mod Spelled
 pub mod of_bcder_content

@@ -6,5 +6,6 @@ pub use Rattle.certs_specs.specs.bcder_content as bcder_content
 pub use Rattle.certs_specs.specs.certs_basics as certs_basics
 pub use Rattle.certs_key.specs as certs_key
 pub use Rattle.certs_specs.specs.resources_chain as resources_chain
+pub use Rattle.certs_signed.specs.bcder_source as bcder_source
 pub use Rattle.certs_specs.specs.bcder_tree as bcder_tree
 pub use Rattle.certs_specs.specs.certs_time as certs_time

@@ -2,7 +2,8 @@
 //! field, and the certificate around it.
 //!
 //! A [`TbsCert`] is made by `TbsCert::new` and changed by its setters. Contracts see its fields; a
-//! setter changes its own field alone.
+//! setter changes its own field alone. [`Cert::decode`] reads a certificate in DER exactly where the
+//! octets begin with one, and keeps the very octets that are signed.
 //!
 //! What differs from the Rust crate: the digester by which a key's identifier is found is handed
 //! in; a subject that is made from the key takes memory, so `new` is given an allocator and answers
@@ -13,6 +14,7 @@ pub mod access;
 pub mod building;
 pub mod cert;
 pub mod claims;
+mod decoding;
 pub mod identity;
 pub mod keys;
 mod reading;

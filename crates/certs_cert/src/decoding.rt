@@ -1,0 +1,72 @@
+//! Certificates, read (RFC 5280 4.1.1).
+
+ghost use Rattle.std.specs.Prelude.{◌≡◌, OnErr, true};
+ghost use Rattle.certs_cert.specs.bcder_tree.declared.mode.Mode.TheVariants.{Der};
+ghost use Rattle.certs_cert.specs.bcder_content.Captures.{rest_of};
+ghost use Rattle.certs_cert.specs.bcder_content.Exact.{DecodesAs, ReadsAs};
+ghost use Rattle.certs_cert.specs.bcder_content.Here.{here};
+ghost use Rattle.certs_specs.specs.Calls.{DecodesCert};
+ghost use Rattle.certs_specs.specs.CertText.{IsCert, IsTbs};
+
+use crate::cert::Cert;
+use crate::tbs::TbsCert;
+use bcder::Mode;
+use bcder::decode::{Constructed, Decode, DecodeError, IntoSource, Source};
+use certs_signed::SignedData;
+use certs_specs::laws::cert_is_spelled;
+use std::alloc::Global;
+use std::convert::Infallible;
+
+// What is signed, read of the octets that it begins with.
+fn tbs_of(alloc: Global, octets: &[u8], mode: Mode) -> Result<TbsCert, DecodeError<Infallible>>
+    ensures { DecodesAs (λ t. t) mode (IsTbs mode) octets.now result }
+{
+    mode.decode(
+        octets,
+        |cons|
+            ensures { ReadsAs (λ t. t) (IsTbs (here rest_of cons.old).mode)
+                (here rest_of cons.old) result (here rest_of cons.new) }
+        { TbsCert::from_constructed(alloc, cons) },
+    )
+}
+
+impl Cert {
+    /// The certificate that is next: signed octets, which are kept, and the fields that are read of
+    /// them in the same mode (RFC 5280 4.1.1). The signature isn't verified.
+    pub fn take_from<S: Source>(
+        alloc: Global,
+        cons: &mut Constructed<S>,
+    ) -> Result<Cert, DecodeError<S::Error>>
+        ensures reads { ReadsAs (λ c. c) (IsCert (here S.rest cons.old).mode)
+            (here S.rest cons.old) result (here S.rest cons.new) }
+        ensures failed { OnErr result ((here S.rest cons.new).failed ≡ true) }
+    {
+        let mode = cons.mode();
+        let signed = SignedData::take_from(alloc, cons)?;
+        let tbs = match tbs_of(alloc, signed.data().as_slice(), mode) {
+            Ok(tbs) => tbs,
+            Err(error) => {
+                cons.fail();
+                return Err(error.convert());
+            }
+        };
+        Ok(Cert::from_parts(signed, tbs))
+    }
+
+    /// The certificate that a source begins with, in DER; octets behind it stay unread.
+    pub fn decode<I: IntoSource>(
+        alloc: Global,
+        source: I,
+    ) -> Result<Cert, DecodeError<<I::Source as Source>::Error>>
+        ensures { DecodesCert (I.octets source) result }
+    {
+        cert_is_spelled();
+        Mode::Der.decode(
+            source,
+            |cons|
+                ensures { ReadsAs (λ c. c) (IsCert (here I.Source.rest cons.old).mode)
+                    (here I.Source.rest cons.old) result (here I.Source.rest cons.new) }
+            { Cert::take_from(alloc, cons) },
+        )
+    }
+}
