@@ -32,8 +32,9 @@ impl Model for Captured {
     ghost invariant = { λ a. SpellsValues a.mode a.bytes };
 }
 
-// What a closure reads from the beginning of octets, and of how many octets that is.
-fn read_front<
+/// What a closure reads from the beginning of octets, in that mode, and of how many octets that is. It takes no memory
+/// of its own: so octets that are kept are read value by value.
+pub fn read_front<
     T: Drop,
     F: FnOnce(&mut Constructed<SliceSource<'_>>) -> Result<T, DecodeError<Infallible>>,
 >(octets: &[u8], mode: Mode, op: F) -> Result<(T, usize), DecodeError<Infallible>>

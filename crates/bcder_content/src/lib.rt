@@ -15,7 +15,7 @@ pub mod whole;
 pub use bcder_header::{Ending, bcder_source, bcder_tree, ending, header};
 pub use bcder_primitive;
 pub use bcder_primitive::{Primitive, primitive};
-pub use captured::Captured;
+pub use captured::{Captured, read_front};
 pub use constructed::Constructed;
 pub use content::Content;
 pub use decode::Decode;
