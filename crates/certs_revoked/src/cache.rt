@@ -3,6 +3,7 @@
 ghost use Rattle.std.specs.Prelude.{◌≡◌, ◌<◌, ◌≤◌, ◌↔◌, ℕ, Contains, IfOk, IsTrue, MatchOption, length, slice_index};
 ghost use Rattle.certs_revoked.specs.resources_chain.Rows.{Looks};
 ghost use Rattle.certs_revoked.specs.Listed.{IsListed};
+ghost use Rattle.std.specs.List.Sorted.{IsStrictlyIncreasing};
 ghost use Rattle.std.specs.Ordering.{nat_cmp};
 
 use crate::revoked::RevokedCertificates;
@@ -62,7 +63,8 @@ impl<'a> Row for Around<'a> {
 impl SerialCache {
     /// The serial numbers of the list.
     pub fn new(alloc: Global, list: &RevokedCertificates) -> Result<SerialCache, AllocError>
-        ensures { IfOk result (λ cache. (n : ℕ) → (Contains cache n ↔ IsListed list.now n)) }
+        ensures same { IfOk result (λ cache. (n : ℕ) → (Contains cache n ↔ IsListed list.now n)) }
+        ensures rises { IfOk result (λ cache. IsStrictlyIncreasing cache) }
     {
         let mut serials = list.serials(alloc)?;
         serials.sort_unstable();

@@ -1,0 +1,31 @@
+-- Membership in a list, with the numbers that are kept aside and without.
+use Rattle.std.proofs.Common.{◌≡◌, ◌<◌, ◌↔◌, ℕ, Bool, IsTrue, List, Option, Some, inr, sym, subst, length}
+use Rattle.std.specs.List.Sorted.{IsStrictlyIncreasing}
+use Rattle.std.specs.Prelude.{Contains, MatchOption, slice_index}
+use Rattle.certs_revoked.specs.resources_chain.Rows.{Looks}
+use Rattle.certs_revoked.specs.Listed.{IsListed}
+use Rattle.certs_specs.specs.CrlText.{CrlValue, IsOn, RevokedValue}
+use Rattle.certs_crl.specs.Caches.{IsCache, IsCached, IsPositioned}
+
+pub listed_tells : {b : Bool} (c : CrlValue) {entries : List RevokedValue} {n : ℕ} → entries ≡ c.tbs.revoked → (IsTrue b ↔ IsListed entries n) → IsTrue b ↔ IsOn c n
+listed_tells c {n = n} e h = (
+  λ t. let l = subst (λ (xs : List RevokedValue). IsListed xs n) e (h.0 t) in record { entry = l.entry; listed = l.listed; same = l.same },
+  λ o. h.1 (subst (λ (xs : List RevokedValue). IsListed xs n) (sym e) (record { entry = o.entry; listed = o.listed; same = o.same })),
+)
+
+pub cached_tells : {b : Bool} (c : CrlValue) {entries : List RevokedValue} {kept : Option (List ℕ)} {cache : List ℕ} {n : ℕ} → entries ≡ c.tbs.revoked
+    → IsCached entries kept → kept ≡ Some cache → (IsTrue b ↔ Contains cache n) → IsTrue b ↔ IsOn c n
+cached_tells {b} c {entries} {kept} {cache} {n} e is some h =
+    let kept_is : IsCache entries cache = subst (IsCached entries) some is in
+    listed_tells c e (λ t. (kept_is.same n).0 (h.0 t), λ l. h.1 ((kept_is.same n).1 l))
+
+pub cached_by : {entries lent : List RevokedValue} (cache : List ℕ) → lent ≡ entries → ((n : ℕ) → Contains cache n ↔ IsListed lent n) → IsStrictlyIncreasing cache
+    → IsCached entries (Some cache)
+cached_by cache e h r = record { rises = r; same = subst (λ (xs : List RevokedValue). (n : ℕ) → Contains cache n ↔ IsListed xs n) e h }
+
+pub looked_up : (c : CrlValue) {entries : List RevokedValue} {kept : Option (List ℕ)} {cache : List ℕ} {n old new : ℕ} {place : Option ℕ} → entries ≡ c.tbs.revoked
+    → IsCached entries kept → kept ≡ Some cache → Looks (length cache) old new
+    → MatchOption place (Contains cache n → ⊥) (λ k. (k < length cache) × (slice_index cache k ≡ n)) → IsPositioned c.tbs.revoked n old new place
+looked_up c {entries} {kept} {cache} e is some looks place =
+    let kept_is : IsCache entries cache = subst (IsCached entries) some is in
+    inr (record { cache = cache; kept = subst (λ (xs : List RevokedValue). IsCache xs cache) e kept_is; looks = looks; place_is = place })

@@ -1,0 +1,10 @@
+pub mod Reading
+pub mod Caches
+pub mod Store
+pub mod Whole
+-- What stands below, for the crates above.
+pub use Rattle.certs_signed.specs.bcder_source as bcder_source
+pub use Rattle.certs_specs.specs.bcder_content as bcder_content
+pub use Rattle.certs_specs.specs.bcder_tree as bcder_tree
+pub use Rattle.certs_specs.specs.certs_basics as certs_basics
+pub use Rattle.certs_specs.specs.certs_time as certs_time

@@ -1,0 +1,121 @@
+//! Revocation lists.
+
+ghost use Rattle.std.specs.Prelude.{◌≡◌, ◌↔◌, ◌≤◌, ◌+◌, ◌-◌, ◌^◌, min, true, IsOk, IsTrue};
+ghost use Rattle.certs_crl.specs.Caches.{IsPositioned};
+ghost use Rattle.certs_crl.specs.Whole.{signed_of};
+ghost use Rattle.certs_specs.specs.CrlText.{IsOn};
+
+use crate::tbs::TbsCertList;
+use certs_key::{PublicKey, Verifier};
+use certs_name::Serial;
+use certs_revoked::SerialCache;
+use certs_signed::{SignatureVerificationError, SignedData, SignedDataValues};
+use std::alloc::{AllocError, Global};
+use std::marker::Model;
+
+/// A revocation list: signed octets with their signature, and the fields that the octets spell (RFC 5280 5.1.1). Contracts
+/// see both.
+#[derive(Drop)]
+pub struct Crl {
+    signed: SignedData,
+    tbs: TbsCertList,
+    serials: Option<SerialCache>,
+}
+
+impl Model for Crl {
+    ghost use Rattle.certs_specs.specs.CrlText.{CrlValue};
+    ghost use Rattle.certs_crl.specs.Caches.{IsCached};
+    ghost use Rattle.certs_crl.specs.Whole.{signed_of};
+
+    ghost Value = { CrlValue };
+
+    ghost view = { λ c. record { signed = signed_of c.signed; tbs = c.tbs } };
+
+    ghost invariant = { λ c. IsCached c.tbs.revoked c.serials };
+}
+
+/// What is written of a list: a SEQUENCE of the octets that were signed, the algorithm and the signature.
+pub type CrlValues<'a> = SignedDataValues<'a>;
+
+impl Crl {
+    // The list of signed octets, and of the fields that were read of them.
+    pub(crate) fn from_parts(signed: SignedData, tbs: TbsCertList) -> Crl
+        ensures { result ≡ record { signed = signed_of signed; tbs = tbs } }
+    {
+        Crl {
+            signed,
+            tbs,
+            serials: None,
+        }
+    }
+
+    /// The signed octets, and the signature over them.
+    pub fn signed_data(&self) -> &SignedData
+        ensures { signed_of result.now ≡ self.now.signed }
+    {
+        &self.signed
+    }
+
+    /// The fields.
+    pub fn as_cert_list(&self) -> &TbsCertList
+        ensures { result.now ≡ self.now.tbs }
+    {
+        &self.tbs
+    }
+
+    /// Keeps the serial numbers aside, sorted, so that one is found by halving. The list is what it was, also where memory
+    /// is refused.
+    pub fn cache_serials(&mut self, alloc: Global) -> Result<(), AllocError>
+        ensures { self.new ≡ self.old }
+    {
+        let cache = SerialCache::new(alloc, self.tbs.revoked_certs())?;
+        self.serials = Some(cache);
+        Ok(())
+    }
+
+    /// Whether a certificate with that serial number is on the list: by the serial numbers that are kept aside, if any,
+    /// and else by the entries, one by one. It takes no memory.
+    pub fn contains(&self, serial: Serial) -> bool
+        ensures { IsTrue result ↔ IsOn self.now serial }
+    {
+        match &self.serials {
+            Some(cache) => cache.contains(serial),
+            None => self.tbs.revoked_certs().contains(serial),
+        }
+    }
+
+    /// The place of the serial number among those that are kept aside, each once, ascending; none where none are kept. The
+    /// looks at serial numbers that it takes are added to `probes`: at most as many as the count of those that are kept
+    /// has binary digits.
+    pub fn cached_position(&self, serial: Serial, probes: &mut u64) -> Option<usize>
+        requires { probes.old ≤ 18446744073709551551 }
+        ensures { IsPositioned self.now.tbs.revoked serial probes.old probes.new result }
+    {
+        match &self.serials {
+            Some(cache) => cache.position(serial, probes),
+            None => None,
+        }
+    }
+
+    /// Whether the signature is one of that key, over the very octets that stood there. The verifier is asked just once:
+    /// with the key, the algorithm, these octets, and those of the signature.
+    pub fn verify_signature<V: Verifier>(
+        &self,
+        key: &PublicKey,
+        verifier: &mut V,
+    ) -> Result<(), SignatureVerificationError>
+        ensures answer { IsOk result ↔ (V.says verifier.old key.now self.now.signed.has_null
+            self.now.signed.message self.now.signed.signature ≡ true) }
+        ensures same { V.says verifier.new ≡ V.says verifier.old }
+        ensures counted { V.count verifier.new ≡ min (V.count verifier.old + 1) (2 ^ 64 - 1) }
+    {
+        self.signed.verify_signature(key, verifier)
+    }
+
+    /// What is written of the list: what was signed is written as it stood.
+    pub fn encode_ref(&self) -> CrlValues<'_>
+        ensures { signed_of result ≡ self.now.signed }
+    {
+        self.signed.encode_ref()
+    }
+}

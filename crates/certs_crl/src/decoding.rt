@@ -1,0 +1,83 @@
+//! Revocation lists, read (RFC 5280 5.1.1).
+
+ghost use Rattle.std.specs.Prelude.{◌≡◌, ◌↔◌, IsTrue, OnErr, true};
+ghost use Rattle.certs_crl.specs.bcder_tree.declared.mode.Mode.TheVariants.{Der};
+ghost use Rattle.certs_crl.specs.bcder_content.Captures.{rest_of};
+ghost use Rattle.certs_crl.specs.bcder_content.Exact.{DecodesAs, ReadsAs};
+ghost use Rattle.certs_crl.specs.bcder_content.Here.{here};
+ghost use Rattle.certs_specs.specs.Calls.{DecodesCrl};
+ghost use Rattle.certs_specs.specs.CrlText.{IsCrl, IsTbsList};
+
+use crate::crl::Crl;
+use crate::tbs::TbsCertList;
+use bcder::Mode;
+use bcder::decode::{Constructed, ContentError, Decode, DecodeError, IntoSource, Source};
+use certs_signed::SignedData;
+use certs_specs::laws::crl_is_spelled;
+use std::alloc::Global;
+use std::convert::Infallible;
+
+// What is signed, read of the octets that it begins with.
+fn tbs_of(alloc: Global, octets: &[u8], mode: Mode) -> Result<TbsCertList, DecodeError<Infallible>>
+    ensures { DecodesAs (λ t. t) mode (IsTbsList mode) octets.now result }
+{
+    mode.decode(
+        octets,
+        |cons|
+            ensures { ReadsAs (λ t. t) (IsTbsList (here rest_of cons.old).mode)
+                (here rest_of cons.old) result (here rest_of cons.new) }
+        { TbsCertList::take_from(alloc, cons) },
+    )
+}
+
+// Whether both algorithms are the same, in what is signed and behind it.
+fn agree(tbs: &TbsCertList, signed: &SignedData) -> bool
+    ensures { IsTrue result ↔ (tbs.now.has_null ≡ signed.now.signature.algorithm) }
+{
+    tbs.signature == *signed.signature().algorithm()
+}
+
+impl Crl {
+    /// The revocation list that is next: signed octets, which are kept, and the fields that are read of them in the same
+    /// mode; both algorithms are the same (RFC 5280 5.1.1). The signature isn't verified.
+    pub fn take_from<S: Source>(
+        alloc: Global,
+        cons: &mut Constructed<S>,
+    ) -> Result<Crl, DecodeError<S::Error>>
+        ensures reads { ReadsAs (λ c. c) (IsCrl (here S.rest cons.old).mode)
+            (here S.rest cons.old) result (here S.rest cons.new) }
+        ensures failed { OnErr result ((here S.rest cons.new).failed ≡ true) }
+    {
+        let mode = cons.mode();
+        let signed = SignedData::take_from(alloc, cons)?;
+        let tbs = match tbs_of(alloc, signed.data().as_slice(), mode) {
+            Ok(tbs) => tbs,
+            Err(error) => {
+                cons.fail();
+                return Err(error.convert());
+            }
+        };
+        if !agree(&tbs, &signed) {
+            cons.fail();
+            return Err((*cons).content_err(ContentError::from_static("another algorithm")));
+        }
+        Ok(Crl::from_parts(signed, tbs))
+    }
+
+    /// The revocation list that a source begins with, in DER; octets behind it stay unread.
+    pub fn decode<I: IntoSource>(
+        alloc: Global,
+        source: I,
+    ) -> Result<Crl, DecodeError<<I::Source as Source>::Error>>
+        ensures { DecodesCrl (I.octets source) result }
+    {
+        crl_is_spelled();
+        Mode::Der.decode(
+            source,
+            |cons|
+                ensures { ReadsAs (λ c. c) (IsCrl (here I.Source.rest cons.old).mode)
+                    (here I.Source.rest cons.old) result (here I.Source.rest cons.new) }
+            { Crl::take_from(alloc, cons) },
+        )
+    }
+}

@@ -1,0 +1,176 @@
+//! The two extensions of a revocation list (RFC 5280 5.2, RFC 6487 5).
+
+ghost use Rattle.std.specs.Prelude.{◌≡◌, ◌↔◌, [], ◌∷◌, IsTrue, OnErr, true};
+ghost use Rattle.certs_crl.specs.bcder_tree.declared.mode.Mode.TheVariants.{Der};
+ghost use Rattle.certs_crl.specs.bcder_tree.Tags.{context, universal};
+ghost use Rattle.certs_crl.specs.bcder_content.Captures.{rest_of};
+ghost use Rattle.certs_crl.specs.bcder_content.Exact.{DecodesAs, ReadsAs};
+ghost use Rattle.certs_crl.specs.bcder_content.Grammar.{Inside};
+ghost use Rattle.certs_crl.specs.bcder_content.Here.{here};
+ghost use Rattle.certs_crl.specs.bcder_content.InMode.{ReadsFields};
+ghost use Rattle.certs_crl.specs.certs_basics.Basics.{IsSerial};
+ghost use Rattle.certs_crl.specs.certs_basics.Identifiers as id;
+ghost use Rattle.certs_crl.specs.Reading.{IsPair, IsPaired, ReadsBoth, ReadsFronts, alone, pair_fields};
+ghost use Rattle.certs_extension.specs.Raw.{extension_value};
+ghost use Rattle.certs_specs.specs.Extensions.{IsAuthority, IsExtension};
+
+use bcder::decode::{Constructed, ContentError, Decode, DecodeError, Pos, Source};
+use bcder::{ConstOid, Mode, Oid, Tag};
+use certs_extension::{Extension, take_authority_key_identifier};
+use certs_key::KeyIdentifier;
+use certs_name::Serial;
+use std::alloc::Global;
+use std::convert::Infallible;
+
+/// cRLNumber, 2.5.29.20 (RFC 5280 5.2.3).
+const CE_CRL_NUMBER: ConstOid = Oid(&[85, 29, 20]);
+
+/// authorityKeyIdentifier, 2.5.29.35 (RFC 5280 5.2.1).
+const CE_AUTHORITY_KEY_IDENTIFIER: ConstOid = Oid(&[85, 29, 35]);
+
+// The two extensions, in the order in which they stand.
+pub(crate) type Pair = (Extension, Extension);
+
+// The next extension, which has to be there.
+fn take_extension<S: Source>(
+    alloc: Global,
+    cons: &mut Constructed<S>,
+) -> Result<Extension, DecodeError<S::Error>>
+    ensures { ReadsAs extension_value (IsExtension (here S.rest cons.old).mode)
+        (here S.rest cons.old) result (here S.rest cons.new) }
+{
+    match Extension::take_opt_from(alloc, cons) {
+        Ok(Some(extension)) => Ok(extension),
+        Ok(None) => Err((*cons).content_err(ContentError::from_static("missing extension"))),
+        Err(error) => Err(error),
+    }
+}
+
+// Two extensions, up to the end of their content.
+fn take_pair<S: Source>(
+    alloc: Global,
+    cons: &mut Constructed<S>,
+) -> Result<Pair, DecodeError<S::Error>>
+    ensures { ReadsFields pair_fields IsPair (here S.rest cons.old) result (here S.rest cons.new) }
+{
+    let first = take_extension(alloc, cons)?;
+    let second = take_extension(alloc, cons)?;
+    Ok((first, second))
+}
+
+// A SEQUENCE of two extensions.
+fn take_sequence<S: Source>(
+    alloc: Global,
+    cons: &mut Constructed<S>,
+) -> Result<Pair, DecodeError<S::Error>>
+    ensures { ReadsAs pair_fields (Inside (universal 16) (IsPair (here S.rest cons.old).mode))
+        (here S.rest cons.old) result (here S.rest cons.new) }
+{
+    cons.take_sequence(
+        |cons|
+            ensures { ReadsFields pair_fields IsPair
+                (here S.rest cons.old) result (here S.rest cons.new) }
+        { take_pair(alloc, cons) },
+    )
+}
+
+// The SEQUENCE alone.
+fn take_only<S: Source>(
+    alloc: Global,
+    cons: &mut Constructed<S>,
+) -> Result<Pair, DecodeError<S::Error>>
+    ensures { ReadsFields (λ x. alone (pair_fields x)) IsPaired
+        (here S.rest cons.old) result (here S.rest cons.new) }
+{
+    let pair = take_sequence(alloc, cons)?;
+    Ok(pair)
+}
+
+/// Two extensions: `[0] EXPLICIT SEQUENCE OF Extension` of just two (RFC 5280 5.1, RFC 6487 5).
+pub(crate) fn take_extensions<S: Source>(
+    alloc: Global,
+    cons: &mut Constructed<S>,
+) -> Result<Pair, DecodeError<S::Error>>
+    ensures { ReadsAs (λ x. alone (pair_fields x))
+        (Inside (context 0) (IsPaired (here S.rest cons.old).mode))
+        (here S.rest cons.old) result (here S.rest cons.new) }
+{
+    cons.take_constructed_if(
+        Tag::CTX_0,
+        |cons|
+            ensures { ReadsFields (λ x. alone (pair_fields x)) IsPaired
+                (here S.rest cons.old) result (here S.rest cons.new) }
+        { take_only(alloc, cons) },
+    )
+}
+
+// The identifier of a key, read of the octets that it begins.
+fn key_of(alloc: Global, octets: &[u8]) -> Result<KeyIdentifier, DecodeError<Infallible>>
+    ensures { DecodesAs (λ v. v) Der (IsAuthority Der) octets.now result }
+{
+    Mode::Der.decode(
+        octets,
+        |cons|
+            ensures { ReadsAs (λ v. v) (IsAuthority (here rest_of cons.old).mode)
+                (here rest_of cons.old) result (here rest_of cons.new) }
+        { take_authority_key_identifier(alloc, cons) },
+    )
+}
+
+// A number, read of the octets that it begins.
+fn number_of(octets: &[u8]) -> Result<Serial, DecodeError<Infallible>>
+    ensures { DecodesAs (λ v. v) Der IsSerial octets.now result }
+{
+    Mode::Der.decode(
+        octets,
+        |cons|
+            ensures { ReadsAs (λ v. v) IsSerial
+                (here rest_of cons.old) result (here rest_of cons.new) }
+        { Serial::take_from(cons) },
+    )
+}
+
+// The values of an authority key identifier and of a number.
+fn values_of(
+    alloc: Global,
+    key: &Extension,
+    number: &Extension,
+) -> Result<(KeyIdentifier, Serial), DecodeError<Infallible>>
+    ensures { ReadsFronts key.now.octets number.now.octets result }
+{
+    let identifier = key_of(alloc, key.value())?;
+    let serial = number_of(number.value())?;
+    Ok((identifier, serial))
+}
+
+// Whether these are an authority key identifier and a number.
+fn are_key_and_number(key: &Extension, number: &Extension) -> bool
+    ensures { IsTrue result ↔ ((key.now.kind.0 ≡ id.authority_key_identifier)
+        × (number.now.kind.0 ≡ id.crl_number)) }
+{
+    key.kind.equals(&CE_AUTHORITY_KEY_IDENTIFIER) && number.kind.equals(&CE_CRL_NUMBER)
+}
+
+/// What two extensions say in either order, critical or not: the identifier of the issuer's key and the list's number
+/// (RFC 6487 5). Any others are refused.
+pub(crate) fn said_by(
+    alloc: Global,
+    pair: &Pair,
+) -> Result<(KeyIdentifier, Serial), DecodeError<Infallible>>
+    ensures { ReadsBoth (extension_value pair.now.0 ∷ extension_value pair.now.1 ∷ []) result }
+{
+    let first = &pair.0;
+    let second = &pair.1;
+    let in_order = are_key_and_number(first, second);
+    if in_order {
+        return values_of(alloc, first, second);
+    }
+    let swapped = are_key_and_number(second, first);
+    if swapped {
+        return values_of(alloc, second, first);
+    }
+    Err(DecodeError::content(
+        ContentError::from_static("other extensions than those of a revocation list"),
+        Pos::from(0),
+    ))
+}

@@ -1,0 +1,61 @@
+//! Setters of what is signed of a revocation list. Each changes its own field alone.
+
+ghost use Rattle.std.specs.Prelude.{◌≡◌};
+
+use crate::tbs::TbsCertList;
+use certs_algorithm::RpkiSignatureAlgorithm;
+use certs_key::KeyIdentifier;
+use certs_name::{Name, Serial};
+use certs_revoked::RevokedCertificates;
+use certs_time::Time;
+
+impl TbsCertList {
+    /// Sets the algorithm with which the list is signed (RFC 5280 5.1.2.2).
+    pub fn set_signature(&mut self, signature: RpkiSignatureAlgorithm)
+        ensures { self.new ≡ record self.old { has_null = signature } }
+    {
+        self.signature = signature;
+    }
+
+    /// Sets the name of the issuer (RFC 5280 5.1.2.3).
+    pub fn set_issuer(&mut self, issuer: Name)
+        ensures { self.new ≡ record self.old { issuer = issuer } }
+    {
+        self.issuer = issuer;
+    }
+
+    /// Sets when the list was made (RFC 5280 5.1.2.4).
+    pub fn set_this_update(&mut self, this_update: Time)
+        ensures { self.new ≡ record self.old { this_update = this_update } }
+    {
+        self.this_update = this_update;
+    }
+
+    /// Sets when the next list is made at the latest (RFC 5280 5.1.2.5).
+    pub fn set_next_update(&mut self, next_update: Time)
+        ensures { self.new ≡ record self.old { next_update = next_update } }
+    {
+        self.next_update = next_update;
+    }
+
+    /// Sets the revoked certificates (RFC 5280 5.1.2.6).
+    pub fn set_revoked_certs(&mut self, revoked_certs: RevokedCertificates)
+        ensures { self.new ≡ record self.old { revoked = revoked_certs } }
+    {
+        self.revoked_certs = revoked_certs;
+    }
+
+    /// Sets the identifier of the key with which the list is signed (RFC 5280 5.2.1).
+    pub fn set_authority_key_identifier(&mut self, id: KeyIdentifier)
+        ensures { self.new ≡ record self.old { authority_key_identifier = id } }
+    {
+        self.authority_key_id = id;
+    }
+
+    /// Sets the number of the list (RFC 5280 5.2.3).
+    pub fn set_crl_number(&mut self, crl_number: Serial)
+        ensures { self.new ≡ record self.old { number = crl_number } }
+    {
+        self.crl_number = crl_number;
+    }
+}

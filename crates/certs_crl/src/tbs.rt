@@ -1,0 +1,128 @@
+//! What is signed of a revocation list.
+
+ghost use Rattle.std.specs.Prelude.{◌≡◌, ◌<◌, ◌↔◌, IsTrue};
+
+use certs_algorithm::RpkiSignatureAlgorithm;
+use certs_key::KeyIdentifier;
+use certs_name::{Name, Serial};
+use certs_revoked::RevokedCertificates;
+use certs_time::Time;
+use std::marker::Model;
+
+/// What is signed of a revocation list: its fields and its two extensions (RFC 5280 5.1.2, RFC 6487 5). Contracts see all
+/// of them.
+#[derive(Drop)]
+pub struct TbsCertList {
+    pub(crate) signature: RpkiSignatureAlgorithm,
+    pub(crate) issuer: Name,
+    pub(crate) this_update: Time,
+    pub(crate) next_update: Time,
+    pub(crate) revoked_certs: RevokedCertificates,
+    pub(crate) authority_key_id: KeyIdentifier,
+    pub(crate) crl_number: Serial,
+}
+
+impl Model for TbsCertList {
+    ghost use Rattle.certs_specs.specs.CrlText.{TbsListValue};
+
+    ghost Value = { TbsListValue };
+
+    ghost view = { λ t. record {
+      has_null = t.signature;
+      issuer = t.issuer;
+      this_update = t.this_update;
+      next_update = t.next_update;
+      revoked = t.revoked_certs;
+      authority_key_identifier = t.authority_key_id;
+      number = t.crl_number;
+    } };
+}
+
+impl TbsCertList {
+    /// A list with these fields and extensions.
+    pub fn new(
+        signature: RpkiSignatureAlgorithm,
+        issuer: Name,
+        this_update: Time,
+        next_update: Time,
+        revoked_certs: RevokedCertificates,
+        authority_key_id: KeyIdentifier,
+        crl_number: Serial,
+    ) -> TbsCertList
+        ensures { result ≡ record {
+          has_null = signature;
+          issuer = issuer;
+          this_update = this_update;
+          next_update = next_update;
+          revoked = revoked_certs;
+          authority_key_identifier = authority_key_id;
+          number = crl_number;
+        } }
+    {
+        TbsCertList {
+            signature,
+            issuer,
+            this_update,
+            next_update,
+            revoked_certs,
+            authority_key_id,
+            crl_number,
+        }
+    }
+
+    /// The algorithm with which the list is signed.
+    pub fn signature(&self) -> RpkiSignatureAlgorithm
+        ensures { result ≡ self.now.has_null }
+    {
+        self.signature
+    }
+
+    /// The name of the issuer.
+    pub fn issuer(&self) -> &Name
+        ensures { result.now ≡ self.now.issuer }
+    {
+        &self.issuer
+    }
+
+    /// When the list was made.
+    pub fn this_update(&self) -> Time
+        ensures { result ≡ self.now.this_update }
+    {
+        self.this_update
+    }
+
+    /// When the next list is made at the latest.
+    pub fn next_update(&self) -> Time
+        ensures { result ≡ self.now.next_update }
+    {
+        self.next_update
+    }
+
+    /// Whether the next list should have been made before that moment (RFC 5280 5.1.2.5).
+    pub fn is_stale(&self, now: Time) -> bool
+        ensures { IsTrue result ↔ (self.now.next_update < now) }
+    {
+        self.next_update < now
+    }
+
+    /// The revoked certificates.
+    pub fn revoked_certs(&self) -> &RevokedCertificates
+        ensures { result.now ≡ self.now.revoked }
+    {
+        &self.revoked_certs
+    }
+
+    /// The identifier of the key with which the list is signed.
+    pub fn authority_key_identifier(&self) -> &KeyIdentifier
+        ensures { result.now ≡ self.now.authority_key_identifier }
+    {
+        &self.authority_key_id
+    }
+
+    /// The number of the list.
+    pub fn crl_number(&self) -> Serial
+        ensures { result ≡ self.now.number }
+    {
+        self.crl_number
+    }
+}

@@ -1,0 +1,65 @@
+-- What one attribute says, by its kind (RFC 5652 5.3, 11, RFC 6019 3).
+use Rattle.std.specs.Prelude.{◌≡◌, ℕ, List}
+use Rattle.objects_attributes.specs.bcder_tree.declared.mode.Mode.{Mode}
+use Rattle.objects_attributes.specs.bcder_tree.Tags.{universal}
+use Rattle.objects_attributes.specs.bcder_tree.Tree.{Tree, Trees}
+use Rattle.objects_attributes.specs.bcder_tree.Strings.{IsOctetString}
+use Rattle.objects_attributes.specs.bcder_oid.Identifiers.{IsOid}
+use Rattle.objects_attributes.specs.bcder_content.Grammar.{As, End, Inside, OctetsOf, Then}
+use Rattle.objects_attributes.specs.bcder_content.Words.{Means, ThenBy}
+use Rattle.objects_attributes.specs.certs_time.Forms.{IsTime}
+use Rattle.objects_forms.specs.Identifiers as id
+use Rattle.objects_forms.specs.SignedAttributes.{IsBinaryTime}
+use Rattle.objects_attributes.specs.declared.kinds.Kind.{Kind}
+use Rattle.objects_attributes.specs.declared.kinds.Kind.TheVariants as kinds
+use Rattle.objects_attributes.specs.declared.said.Said.{Said}
+use Rattle.objects_attributes.specs.declared.said.Said.TheVariants.{ContentType, MessageDigest, SigningTime, BinarySigningTime}
+
+-- The identifier of a kind.
+abbrev pub octets_of : Kind → List ℕ
+octets_of kinds.ContentType = id.content_type
+octets_of kinds.MessageDigest = id.message_digest
+octets_of kinds.SigningTime = id.signing_time
+octets_of kinds.BinarySigningTime = id.binary_signing_time
+
+abbrev pub kind_of : Said → Kind
+kind_of (ContentType oid) = kinds.ContentType
+kind_of (MessageDigest digest) = kinds.MessageDigest
+kind_of (SigningTime time) = kinds.SigningTime
+kind_of (BinarySigningTime seconds) = kinds.BinarySigningTime
+
+abbrev pub as_type : List ℕ → Said
+as_type octets = ContentType (record { 0 = octets })
+
+-- The value of an attribute of that kind: an identifier, a string of octets, a time, or a number of seconds.
+abbrev pub IsValueOf : Mode → Kind → Tree → Said → Type 0
+IsValueOf m kinds.ContentType = As (OctetsOf (universal 6) IsOid) as_type
+IsValueOf m kinds.MessageDigest = As (IsOctetString m) MessageDigest
+IsValueOf m kinds.SigningTime = As IsTime SigningTime
+IsValueOf m kinds.BinarySigningTime = As IsBinaryTime BinarySigningTime
+
+abbrev pub alone : {A : Type 0} → A → A × Unit {0}
+alone x = (x, tt)
+
+abbrev pub AreOneValue : Mode → Kind → Trees → Said × Unit {0} → Type 0
+AreOneValue m kind = Then (IsValueOf m kind) End
+
+abbrev pub IsKindOid : List ℕ → Kind → Type 0
+IsKindOid octets kind = octets ≡ octets_of kind
+
+-- SEQUENCE { attrType OBJECT IDENTIFIER, attrValues SET OF one value }, by what the identifier tells (RFC 5652 5.3,
+-- RFC 6488 2.1.6.4).
+abbrev pub SaidFields : Type 0
+SaidFields = Kind × ((Said × Unit {0}) × Unit {0})
+
+abbrev pub AreSaid : Mode → Trees → SaidFields → Type 0
+AreSaid m = ThenBy (Means (OctetsOf (universal 6) IsOid) IsKindOid) (λ kind. Then (Inside (universal 17) (AreOneValue m kind)) End)
+
+abbrev pub said_fields : Said → SaidFields
+said_fields s = (kind_of s, (alone s, tt))
+
+abbrev pub said_of : SaidFields → Said
+said_of f = f.1.0.0
+
+abbrev pub IsSaid : Mode → Tree → Said → Type 0
+IsSaid m = As (Inside (universal 16) (AreSaid m)) said_of

@@ -1,0 +1,6 @@
+pub mod LineTexts
+pub mod UriLines
+pub mod Letters
+pub mod Keys
+pub mod Whole
+pub mod Parting

@@ -1,0 +1,5 @@
+pub mod Entries
+pub mod Lists
+pub mod Names
+pub mod Stepping
+pub mod of_bcder_content

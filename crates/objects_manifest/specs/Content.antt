@@ -1,0 +1,38 @@
+-- The content of a manifest, by its fields (RFC 9286 4.2).
+use Rattle.std.specs.Prelude.{ℕ, List, Option}
+use Rattle.std.specs.Option.{option_map}
+use Rattle.objects_manifest.specs.bcder_tree.declared.mode.Mode.{Mode}
+use Rattle.objects_manifest.specs.bcder_tree.Tags.{universal}
+use Rattle.objects_manifest.specs.bcder_tree.Tree.{Trees}
+use Rattle.objects_manifest.specs.bcder_content.Grammar.{End, Inside, Many, Then}
+use Rattle.certs_basics.specs.Basics.{IsSerial}
+use Rattle.certs_specs.specs.CertText.{IsVersion as IsInteger}
+use Rattle.objects_forms.specs.Contents.{VersionZero}
+use Rattle.objects_forms.specs.Identifiers as id
+use Rattle.objects_forms.specs.Manifests.{Fields, File, IsFile, IsMomentString}
+
+-- A value that stands alone in a content.
+abbrev pub alone : {A : Type 0} → A → A × Unit {0}
+alone x = (x, tt)
+
+-- INTEGER (0)
+abbrev pub IsNumber : Mode → Trees → Unit {0} × Unit {0} → Type 0
+IsNumber m = Then (IsInteger 0) End
+
+-- The fields, in every mode.
+abbrev pub AreManifestFields : Mode → Trees → Fields → Type 0
+AreManifestFields m =
+    VersionZero
+    (Then IsSerial
+    (Then IsMomentString
+    (Then IsMomentString
+    (Then (id.TheOid id.sha256)
+    (Then (Inside (universal 16) (Many IsFile))
+    End)))))
+
+-- Whether the version is written out, and what else is read.
+abbrev pub Read : Type 0
+Read = Option (Unit {0}) × ℕ × ℕ × ℕ × List File
+
+abbrev pub fields_of : Read → Fields
+fields_of x = (option_map alone x.0, (x.1, (x.2, (x.3, (tt, (x.4, tt))))))

@@ -1,0 +1,2 @@
+mod Joined
+pub mod of_bcder_content

@@ -1,0 +1,4 @@
+-- Lemmas of bcder_content, for the crates above.
+pub use Rattle.bcder.proofs.of_bcder_content.InMode
+pub use Rattle.bcder.proofs.of_bcder_content.Tagged
+pub use Rattle.bcder.proofs.of_bcder_content.Took

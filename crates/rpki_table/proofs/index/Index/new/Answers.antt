@@ -1,0 +1,5 @@
+use Rattle.rpki_bundle.proofs.Texts.{text_told}
+use Rattle.rpki_table.proofs.index.Index.new.Goals as goal
+
+pub invariant_of-result : goal.invariant_of-result
+invariant_of-result c = (text_told c.requires.1).lawful

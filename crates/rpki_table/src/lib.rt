@@ -1,0 +1,11 @@
+//! What a bundle's lists tell: its table of good signatures, which verifies them, and its objects by their lookup keys. Both
+//! are found by halving.
+#![tactic(auto)]
+
+pub mod index;
+mod search;
+mod sought;
+pub mod verifier;
+
+pub use index::Index;
+pub use verifier::TableVerifier;
