@@ -1,4 +1,7 @@
+pub mod Joined
 mod Listed
+mod Octets
 mod Whole
 mod Spelled
 pub mod of_bcder_content
+pub mod of_bcder_tree

@@ -26,44 +26,46 @@ with_rest : {A B C : Type 0} {Q : Tree → A → Type 0} {R : Trees → B → Ty
     → (h : Then Q R ts x) → S h.others y → Then Q S ts (x.0, y)
 with_rest h r = record { first = h.first; others = h.others; whole = h.whole; is = h.is; rest = r }
 
--- The extensions stand last.
-abbrev IsLast : {A : Type 0} → Mode → (List Extension → A → Type 0) → Trees → (A × Unit {0}) × Unit {0} → Type 0
-IsLast m R = Then (Inside (context 3) (Then (Inside (universal 16) (Gathers (IsExtension m) R)) End)) End
+-- The value for the extensions, which stands last.
+abbrev pub IsList : {A : Type 0} → Mode → (List Extension → A → Type 0) → Tree → A × Unit {0} → Type 0
+IsList m R = Inside (context 3) (Then (Inside (universal 16) (Gathers (IsExtension m) R)) End)
 
-abbrev the_list : List Extension → List Extension → Type 0
+abbrev IsLast : {A : Type 0} → Mode → (List Extension → A → Type 0) → Trees → (A × Unit {0}) × Unit {0} → Type 0
+IsLast m R = Then (IsList m R) End
+
+abbrev pub the_list : List Extension → List Extension → Type 0
 the_list all same = all ≡ same
 
--- The list that has the slots.
-record Lists (m : Mode) (ts : Trees) (s : Slots) : Type 0 where
-  all : List Extension
-  are : IsLast m the_list ts ((all, tt), tt)
-  says : AreSlots all s
+-- The list that has the slots, in the value for the extensions.
+pub record Lists (m : Mode) (t : Tree) (s : Slots) : Type 0 where
+  pub all : List Extension
+  pub is : IsList m the_list t (all, tt)
+  pub says : AreSlots all s
 
-last_list : {m : Mode} {ts : Trees} {x : (Slots × Unit {0}) × Unit {0}} → IsLast m AreSlots ts x → Lists m ts x.0.0
-last_list p =
-    let k = p.is.is in
+pub slotted_list : {m : Mode} {t : Tree} {x : Slots × Unit {0}} → IsList m AreSlots t x → Lists m t x.0
+slotted_list p =
+    let k = p.is in
     let l = k.is.is in
     record {
       all = l.xs;
-      are = record {
-        first = p.first;
-        others = p.others;
+      is = record {
+        values = p.values;
         whole = p.whole;
         is = record {
-          values = p.is.values;
-          whole = p.is.whole;
-          is = record {
-            first = k.first;
-            others = k.others;
-            whole = k.whole;
-            is = record { values = k.is.values; whole = k.is.whole; is = record { xs = l.xs; are = l.are; says = refl } };
-            rest = record { ended = k.rest.ended };
-          };
+          first = k.first;
+          others = k.others;
+          whole = k.whole;
+          is = record { values = k.is.values; whole = k.is.whole; is = record { xs = l.xs; are = l.are; says = refl } };
+          rest = record { ended = k.rest.ended };
         };
-        rest = record { ended = p.rest.ended };
       };
       says = l.says;
     }
+
+-- What stands there stays in its place.
+in_place : {A B C : Type 0} {Q : Tree → A → Type 0} {S : Tree → B → Type 0} {R : Trees → C → Type 0} {ts : Trees} {x : A × C} {y : B}
+    → (h : Then Q R ts x) → S h.first y → Then S R ts (y, x.1)
+in_place h s = record { first = h.first; others = h.others; whole = h.whole; is = s; rest = h.rest }
 
 list_last : {m : Mode} {ts : Trees} {x : (List Extension × Unit {0}) × Unit {0}} {s : Slots} → IsLast m the_list ts x → AreSlots x.0.0 s
     → IsLast m AreSlots ts ((s, tt), tt)
@@ -96,11 +98,12 @@ list_last {s = s} p says =
 pub listed_tbs : {m : Mode} {t : Tree} {f : ListedFields} {c : TbsValue} → IsListed m t f → SaysListed f c → IsTbs m t c
 listed_tbs {m} {t} {f} {c} p s =
     let a = p.is in
-    let l = last_list a.rest.rest.rest.rest.rest.rest.rest in
+    let last = a.rest.rest.rest.rest.rest.rest.rest in
+    let l = slotted_list last.is in
     let g : Fields = (f.0, (f.1.0, (f.1.1.0, (f.1.1.1.0, (f.1.1.1.1.0, (f.1.1.1.1.1.0, (f.1.1.1.1.1.1.0, ((l.all, tt), tt)))))))) in
     let body : IsTbsBody m p.values g =
     with_rest a (with_rest a.rest (with_rest a.rest.rest (with_rest a.rest.rest.rest (with_rest a.rest.rest.rest.rest
-    (with_rest a.rest.rest.rest.rest.rest (with_rest a.rest.rest.rest.rest.rest.rest l.are)))))) in
+    (with_rest a.rest.rest.rest.rest.rest (with_rest a.rest.rest.rest.rest.rest.rest (in_place last l.is))))))) in
     record {
       fields = g;
       is = record { values = p.values; whole = p.whole; is = body };

@@ -13,7 +13,7 @@ use Rattle.certs_specs.specs.Cert.{CertValue, TbsValue}
 use Rattle.certs_specs.specs.CertText.{IsCert, IsTbs, as_cert}
 use Rattle.certs_cert.specs.Whole.{signed_of}
 
-kept_octets : {lent kept : CapturedValue} {octets : List ℕ} → octets ≡ lent.octets → lent ≡ kept → octets ≡ kept.octets
+pub kept_octets : {lent kept : CapturedValue} {octets : List ℕ} → octets ≡ lent.octets → lent ≡ kept → octets ≡ kept.octets
 kept_octets e d = e ∙ ap (λ (c : CapturedValue). c.octets) d
 
 pub cert_gives : {now new : ValuesLeft} {m : Mode} {s : SignedDataValue} {lent : CapturedValue} {octets : List ℕ} {tbs : TbsValue} {c : CertValue}

@@ -5,10 +5,11 @@ use Rattle.certs_cert.specs.bcder_tree.Tags.{universal, context}
 use Rattle.certs_cert.specs.bcder_tree.Tree.{Tree, Trees}
 use Rattle.certs_cert.specs.bcder_content.Grammar.{Inside, Then, End}
 use Rattle.certs_cert.specs.bcder_content.Kept.{CapturedValue}
+use Rattle.certs_cert.specs.bcder_content.Texts.{Joins, NoOctets, SpellsOf, Wraps}
 use Rattle.certs_cert.specs.bcder_content.Words.{Gathers}
 use Rattle.certs_cert.specs.certs_basics.Basics.{IsSerial, IsAlgorithm}
 use Rattle.certs_cert.specs.certs_basics.Keys.{KeyValue, IsKey}
-use Rattle.certs_cert.specs.certs_basics.Names.{IsKeptName}
+use Rattle.certs_cert.specs.certs_basics.Names.{IsKeptName, SpellsName}
 use Rattle.certs_cert.specs.certs_time.Forms.{IsValidity}
 use Rattle.certs_cert.specs.certs_time.Periods.{Period, as_fields}
 use Rattle.certs_specs.specs.Cert.{TbsValue}
@@ -64,6 +65,22 @@ Listed = ℕ × Bool × CapturedValue × Period × (CapturedValue × KeyValue ×
 
 abbrev pub listed_fields : Listed → ListedFields
 listed_fields x = ((tt, tt), (x.0, (x.1, (x.2, (as_fields x.3, tail_fields x.4)))))
+
+-- By their octets, from the outermost value down to the names, which are the very octets that stand there.
+abbrev pub SpellsTail : Mode → List ℕ → TailFields → Type 0
+SpellsTail m = Joins (SpellsName m) (Joins (SpellsOf m (IsKey m)) (Joins (SpellsOf m (Inside (context 3) (AreSlotted m))) NoOctets))
+
+abbrev pub SpellsListedBody : Mode → List ℕ → ListedFields → Type 0
+SpellsListedBody m =
+    Joins (SpellsOf m IsNumbered)
+    (Joins (SpellsOf m IsSerial)
+    (Joins (SpellsOf m IsAlgorithm)
+    (Joins (SpellsName m)
+    (Joins (SpellsOf m IsValidity)
+    (SpellsTail m)))))
+
+abbrev pub SpellsListed : Mode → List ℕ → ListedFields → Type 0
+SpellsListed m = Wraps m (universal 16) (SpellsListedBody m)
 
 -- The slots of the extensions.
 abbrev pub slots_of : ListedFields → Slots

@@ -1,12 +1,14 @@
 //! Certificates, read (RFC 5280 4.1.1).
 
-ghost use Rattle.std.specs.Prelude.{◌≡◌, OnErr, true};
+ghost use Rattle.std.specs.Prelude.{◌≡◌, IfOk, OnErr, true};
 ghost use Rattle.certs_cert.specs.bcder_tree.declared.mode.Mode.TheVariants.{Der};
 ghost use Rattle.certs_cert.specs.bcder_content.Captures.{rest_of};
 ghost use Rattle.certs_cert.specs.bcder_content.Exact.{DecodesAs, ReadsAs};
 ghost use Rattle.certs_cert.specs.bcder_content.Here.{here};
+ghost use Rattle.certs_cert.specs.bcder_content.Texts.{InFront};
+ghost use Rattle.certs_signed.specs.Took.{TookOctets};
 ghost use Rattle.certs_specs.specs.Calls.{DecodesCert};
-ghost use Rattle.certs_specs.specs.CertText.{IsCert, IsTbs};
+ghost use Rattle.certs_specs.specs.CertText.{IsCert, IsTbs, SpellsCert, SpellsTbs};
 
 use crate::cert::Cert;
 use crate::tbs::TbsCert;
@@ -19,26 +21,32 @@ use std::convert::Infallible;
 
 // What is signed, read of the octets that it begins with.
 fn tbs_of(alloc: Global, octets: &[u8], mode: Mode) -> Result<TbsCert, DecodeError<Infallible>>
-    ensures { DecodesAs (λ t. t) mode (IsTbs mode) octets.now result }
+    ensures reads { DecodesAs (λ t. t) mode (IsTbs mode) octets.now result }
+    ensures octets { IfOk result (InFront (SpellsTbs mode) octets.now) }
 {
     mode.decode(
         octets,
         |cons|
-            ensures { ReadsAs (λ t. t) (IsTbs (here rest_of cons.old).mode)
+            ensures reads { ReadsAs (λ t. t) (IsTbs (here rest_of cons.old).mode)
                 (here rest_of cons.old) result (here rest_of cons.new) }
+            ensures octets { IfOk result (λ t. TookOctets (λ t. t) SpellsTbs
+                (here rest_of cons.old) t (here rest_of cons.new)) }
         { TbsCert::from_constructed(alloc, cons) },
     )
 }
 
 impl Cert {
     /// The certificate that is next: signed octets, which are kept, and the fields that are read of
-    /// them in the same mode (RFC 5280 4.1.1). The signature isn't verified.
+    /// them in the same mode (RFC 5280 4.1.1): by values, and by the very octets that stood there,
+    /// of which those that are signed are kept. The signature isn't verified.
     pub fn take_from<S: Source>(
         alloc: Global,
         cons: &mut Constructed<S>,
     ) -> Result<Cert, DecodeError<S::Error>>
         ensures reads { ReadsAs (λ c. c) (IsCert (here S.rest cons.old).mode)
             (here S.rest cons.old) result (here S.rest cons.new) }
+        ensures octets { IfOk result (λ c. TookOctets (λ c. c) SpellsCert
+            (here S.rest cons.old) c (here S.rest cons.new)) }
         ensures failed { OnErr result ((here S.rest cons.new).failed ≡ true) }
     {
         let mode = cons.mode();

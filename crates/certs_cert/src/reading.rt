@@ -7,11 +7,12 @@ ghost use Rattle.certs_cert.specs.bcder_content.Grammar.{Inside};
 ghost use Rattle.certs_cert.specs.bcder_content.Here.{here};
 ghost use Rattle.certs_cert.specs.bcder_content.InMode.{ReadsFields};
 ghost use Rattle.certs_cert.specs.Reading.{AreSlotted, IsListed, IsListedBody, IsNumber, IsNumbered};
-ghost use Rattle.certs_cert.specs.Reading.{IsTail, SaysListed, alone, listed_fields, slots_of};
-ghost use Rattle.certs_cert.specs.Reading.{tail_fields};
+ghost use Rattle.certs_cert.specs.Reading.{IsTail, SaysListed, SpellsListed, SpellsListedBody};
+ghost use Rattle.certs_cert.specs.Reading.{SpellsTail, alone, listed_fields, slots_of, tail_fields};
 ghost use Rattle.certs_claims.specs.Finishing.{Finishes};
 ghost use Rattle.certs_claims.specs.declared.finish.Claims.{Claims as ClaimsValue};
-ghost use Rattle.certs_specs.specs.CertText.{IsTbs};
+ghost use Rattle.certs_signed.specs.Took.{TookOctets};
+ghost use Rattle.certs_specs.specs.CertText.{IsTbs, SpellsTbs};
 
 use crate::tbs::TbsCert;
 use bcder::Tag;
@@ -86,8 +87,10 @@ fn take_tail<S: Source>(
     alloc: Global,
     cons: &mut Constructed<S>,
 ) -> Result<Tail, DecodeError<S::Error>>
-    ensures { ReadsFields tail_fields IsTail
+    ensures reads { ReadsFields tail_fields IsTail
         (here S.rest cons.old) result (here S.rest cons.new) }
+    ensures octets { IfOk result (λ t. TookOctets tail_fields SpellsTail
+        (here S.rest cons.old) t (here S.rest cons.new)) }
 {
     let subject = Name::take_from(alloc, cons)?;
     let key = PublicKey::take_from(alloc, cons)?;
@@ -100,8 +103,10 @@ fn take_fields<S: Source>(
     alloc: Global,
     cons: &mut Constructed<S>,
 ) -> Result<Listed, DecodeError<S::Error>>
-    ensures { ReadsFields listed_fields IsListedBody
+    ensures reads { ReadsFields listed_fields IsListedBody
         (here S.rest cons.old) result (here S.rest cons.new) }
+    ensures octets { IfOk result (λ l. TookOctets listed_fields SpellsListedBody
+        (here S.rest cons.old) l (here S.rest cons.new)) }
 {
     let version = take_version(cons)?;
     let serial = Serial::take_from(cons)?;
@@ -119,12 +124,16 @@ fn take_listed<S: Source>(
 ) -> Result<Listed, DecodeError<S::Error>>
     ensures reads { ReadsAs listed_fields (IsListed (here S.rest cons.old).mode)
         (here S.rest cons.old) result (here S.rest cons.new) }
+    ensures octets { IfOk result (λ l. TookOctets listed_fields SpellsListed
+        (here S.rest cons.old) l (here S.rest cons.new)) }
     ensures failed { OnErr result ((here S.rest cons.new).failed ≡ true) }
 {
     cons.take_sequence(
         |cons|
-            ensures { ReadsFields listed_fields IsListedBody
+            ensures reads { ReadsFields listed_fields IsListedBody
                 (here S.rest cons.old) result (here S.rest cons.new) }
+            ensures octets { IfOk result (λ l. TookOctets listed_fields SpellsListedBody
+                (here S.rest cons.old) l (here S.rest cons.new)) }
         { take_fields(alloc, cons) },
     )
 }
@@ -166,13 +175,15 @@ fn finished(listed: Listed) -> Result<TbsCert, ListError>
 impl TbsCert {
     /// What is signed of a certificate, where it is next: its fields in their order, and its
     /// extensions in any order (RFC 5280 4.1.2, RFC 6487 4). Extensions that don't fit together, or
-    /// of which one is missing, are refused.
+    /// of which one is missing, are refused. The names' octets are those that stand there.
     pub fn from_constructed<S: Source>(
         alloc: Global,
         cons: &mut Constructed<S>,
     ) -> Result<TbsCert, DecodeError<S::Error>>
         ensures reads { ReadsAs (λ t. t) (IsTbs (here S.rest cons.old).mode)
             (here S.rest cons.old) result (here S.rest cons.new) }
+        ensures octets { IfOk result (λ t. TookOctets (λ t. t) SpellsTbs
+            (here S.rest cons.old) t (here S.rest cons.new)) }
         ensures failed { OnErr result ((here S.rest cons.new).failed ≡ true) }
     {
         let listed = take_listed(alloc, cons)?;

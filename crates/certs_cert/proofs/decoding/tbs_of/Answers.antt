@@ -4,9 +4,13 @@ use Rattle.certs_cert.specs.bcder_content.Captures.{rest_of}
 use Rattle.certs_cert.specs.bcder_content.Exact.{ReadsAs}
 use Rattle.certs_cert.specs.bcder_content.Here.{here}
 use Rattle.certs_cert.proofs.of_bcder_content.Decoding.{exact_decode}
+use Rattle.certs_signed.proofs.Octets.{front_took}
 use Rattle.certs_specs.specs.Cert.{TbsValue}
-use Rattle.certs_specs.specs.CertText.{IsTbs}
+use Rattle.certs_specs.specs.CertText.{IsTbs, SpellsTbs}
 use Rattle.certs_cert.proofs.decoding.tbs_of.Goals as goal
 
-pub returns : goal.returns
-returns c = exact_decode (record { each = λ p q r m h. subst (λ (z : Mode). ReadsAs (λ (t : TbsValue). t) (IsTbs z) (here rest_of p.now) r (here rest_of q.now)) m h }) c.decode.ensures.decoded
+pub returns-clause-reads : goal.returns-clause-reads
+returns-clause-reads c = exact_decode (record { each = λ p q r m h. subst (λ (z : Mode). ReadsAs (λ (t : TbsValue). t) (IsTbs z) (here rest_of p.now) r (here rest_of q.now)) m h.0 }) c.decode.ensures.decoded
+
+pub returns-clause-octets : goal.returns-clause-octets
+returns-clause-octets c = front_took {P = SpellsTbs} (record { each = λ p q x h. h.1 }) c.decode.ensures.decoded

@@ -1,6 +1,7 @@
 use Rattle.certs_cert.proofs.of_bcder_content.Choices.{stop_value}
 use Rattle.certs_cert.proofs.of_bcder_content.Taking.{on_content}
 use Rattle.certs_cert.proofs.Listed.{tbs_gives, tbs_lacks, tbs_refused}
+use Rattle.certs_cert.proofs.Octets.{tbs_took}
 use Rattle.certs_cert.proofs.tbs.TbsCert.from_constructed.Goals as goal
 
 pub returns-in_err-listed-clause-reads : goal.returns-in_err-listed-clause-reads
@@ -11,3 +12,6 @@ returns-in-Ok-clause-reads g c = tbs_gives c.in_ok-listed.ensures.reads c.in-Ok.
 
 pub returns-in-Err-clause-reads : goal.returns-in-Err-clause-reads
 returns-in-Err-clause-reads g c = on_content _ (tbs_refused c.in_ok-listed.ensures.reads c.in-Err.ensures.none)
+
+pub returns-in-Ok-clause-octets : goal.returns-in-Ok-clause-octets
+returns-in-Ok-clause-octets g c = tbs_took c.in_ok-listed.ensures.octets c.in-Ok.ensures.ok
