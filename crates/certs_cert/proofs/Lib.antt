@@ -1,6 +1,7 @@
 pub mod Joined
 mod Listed
 mod Octets
+mod Sequence
 mod Whole
 mod Spelled
 pub mod of_bcder_content

@@ -19,7 +19,7 @@ use Rattle.certs_claims.specs.Slots.{AreSlots}
 use Rattle.certs_claims.specs.declared.finish.Claims.{Claims}
 use Rattle.certs_claims.specs.declared.slots.Slots.{Slots}
 use Rattle.certs_claims.proofs.Whole.{extensions_there, slots_one, slots_there}
-use Rattle.certs_cert.specs.Reading.{AreSlotted, IsListed, IsListedBody, IsTail, ListedFields, SaysListed, TailFields, slots_of}
+use Rattle.certs_cert.specs.Reading.{AreSlotted, IsListed, IsListedBody, ListedFields, SaysListed, slots_of}
 
 -- The first value stays, and other values stand behind it.
 with_rest : {A B C : Type 0} {Q : Tree → A → Type 0} {R : Trees → B → Type 0} {S : Trees → C → Type 0} {ts : Trees} {x : A × B} {y : C}

@@ -1,24 +1,20 @@
 -- The octets of which a certificate is read: those of its fields with slots are its own, and they are all of what was kept.
 use Rattle.std.proofs.Common.{◌≡◌, ℕ, List, [], ◌++◌, ◌∙◌, ap, append-nil, sym, subst}
 use Rattle.certs_cert.specs.bcder_tree.declared.mode.Mode.{Mode}
-use Rattle.certs_cert.specs.bcder_tree.Tags.{context, universal}
 use Rattle.certs_cert.specs.bcder_tree.Tree.{Tree}
 use Rattle.certs_cert.specs.bcder_tree.Front.{Front}
 use Rattle.certs_cert.specs.bcder_content.Contents.{ValuesLeft}
-use Rattle.certs_cert.specs.bcder_content.Grammar.{End, Inside, Then}
 use Rattle.certs_cert.specs.bcder_content.Kept.{CapturedValue}
 use Rattle.certs_cert.specs.bcder_content.Texts.{InFront, Joins}
-use Rattle.certs_cert.specs.bcder_content.Words.{Gathers}
 use Rattle.certs_cert.proofs.of_bcder_content.Keeping.{front_all}
 use Rattle.certs_cert.proofs.of_bcder_tree.Trees.{one_tree}
-use Rattle.certs_signed.specs.Signed.{SignedDataValue, SpellsSignedData, octet_fields}
+use Rattle.certs_signed.specs.Signed.{AreSignedOctets, SignedDataValue, octet_fields}
 use Rattle.certs_signed.specs.Took.{TookOctets}
 use Rattle.certs_specs.specs.Cert.{CertValue, TbsValue}
-use Rattle.certs_specs.specs.CertText.{Fields, SpellsCert, SpellsTbs}
-use Rattle.certs_specs.specs.Extensions.{Extension, IsExtension}
+use Rattle.certs_specs.specs.CertText.{Fields, SpellsTbs}
 use Rattle.certs_claims.proofs.Whole.{extensions_there}
 use Rattle.certs_cert.specs.Reading.{Listed, ListedFields, SaysListed, SpellsListed, listed_fields, slots_of}
-use Rattle.certs_cert.specs.Whole.{signed_of}
+use Rattle.certs_cert.specs.Whole.{AreCertOctets, signed_of}
 use Rattle.certs_cert.proofs.Listed.{slotted_list}
 use Rattle.certs_cert.proofs.Spelled.{fields_tree}
 use Rattle.certs_cert.proofs.Whole.{kept_octets}
@@ -81,9 +77,9 @@ all_of {m} {octets} {c} f p =
 -- Signed data was read of these octets, and what is signed of the octets that were kept.
 pub cert_took : {now new : ValuesLeft} {m : Mode} {s : SignedDataValue} {lent : CapturedValue} {octets : List ℕ} {tbs : TbsValue} {c : CertValue}
     → m ≡ now.mode → octets ≡ lent.octets → lent ≡ s.message → c ≡ record { signed = signed_of s; tbs = tbs }
-    → TookOctets octet_fields SpellsSignedData now s new → InFront (SpellsTbs m) octets tbs → TookOctets (λ (x : CertValue). x) SpellsCert now c new
+    → TookOctets octet_fields AreSignedOctets now s new → InFront (SpellsTbs m) octets tbs → TookOctets (λ (x : CertValue). x) AreCertOctets now c new
 cert_took {now} {m = m} {s} {octets = octets} {tbs} em eo ed ec t p =
-    let message = t.is.is in
+    let message = t.is in
     let front = subst (λ (z : Mode). InFront (SpellsTbs z) octets tbs) em p in
     let same : octets ≡ message.first = kept_octets eo ed ∙ message.is.same in
     let whole = all_of (front_all message.is.is.spelled) (subst (λ (z : List ℕ). InFront (SpellsTbs now.mode) z tbs) same front) in
@@ -92,16 +88,12 @@ cert_took {now} {m = m} {s} {octets = octets} {tbs} em eo ed ec t p =
       goes = t.goes;
       is = record {
         fields = ((s.message.octets, tbs), (s.signature.algorithm, (s.signature.bits, tt)));
-        is = record {
-          content = t.is.content;
-          around = t.is.around;
-          is = record {
-            first = message.first;
-            others = message.others;
-            whole = message.whole;
-            is = record { same = message.is.same; is = whole };
-            rest = message.rest;
-          };
+        are = record {
+          first = message.first;
+          others = message.others;
+          whole = message.whole;
+          is = record { same = message.is.same; is = whole };
+          rest = message.rest;
         };
         says = ec;
       };

@@ -4,10 +4,9 @@ use Rattle.certs_cert.specs.bcder_tree.declared.mode.Mode.{Mode}
 use Rattle.certs_cert.specs.bcder_tree.declared.mode.Mode.TheVariants.{Der}
 use Rattle.certs_cert.specs.bcder_tree.Tags.{universal}
 use Rattle.certs_cert.specs.bcder_tree.Tree.{Tree, Trees, Spells, SpellsAll, constructed, none, more}
-use Rattle.certs_cert.specs.bcder_source.Errors.{OnContent}
 use Rattle.certs_cert.specs.bcder_source.declared.error.DecodeError.{DecodeError}
 use Rattle.certs_cert.specs.bcder_content.Exact.{DecodesAs}
-use Rattle.certs_cert.specs.bcder_content.Texts.{InFront, Joins, NoOctets, Wraps}
+use Rattle.certs_cert.specs.bcder_content.Texts.{Joins, NoOctets, Wraps}
 use Rattle.certs_cert.proofs.of_bcder_content.Taking.{weaker}
 use Rattle.certs_specs.specs.Calls.{DecodesCert}
 use Rattle.certs_specs.specs.Cert.{CertValue}

@@ -7,3 +7,4 @@ pub use Rattle.certs_key.proofs.of_bcder_content.Keeping
 pub use Rattle.certs_key.proofs.of_bcder_content.Taking
 pub use Rattle.certs_key.proofs.of_bcder_content.Took
 pub use Rattle.certs_key.proofs.of_bcder_content.Unique
+pub use Rattle.certs_key.proofs.of_bcder_content.Within

@@ -2,6 +2,7 @@ pub mod Fresh
 pub mod Reading
 pub mod Whole
 -- What stands below, for the crates above.
+pub use Rattle.certs_specs.specs.bcder_bits as bcder_bits
 pub use Rattle.certs_specs.specs.bcder_content as bcder_content
 pub use Rattle.certs_specs.specs.certs_basics as certs_basics
 pub use Rattle.certs_key.specs as certs_key

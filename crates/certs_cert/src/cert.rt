@@ -4,7 +4,7 @@ ghost use Rattle.std.specs.Prelude.{◌≡◌};
 ghost use Rattle.certs_cert.specs.Whole.{signed_of};
 
 use crate::tbs::TbsCert;
-use certs_signed::SignedData;
+use certs_signed::{SignedData, SignedDataValues};
 use std::marker::Model;
 
 /// A certificate: signed octets with their signature, and the fields that the octets spell (RFC
@@ -23,6 +23,10 @@ impl Model for Cert {
 
     ghost view = { λ c. record { signed = signed_of c.signed; tbs = c.tbs } };
 }
+
+/// What is written of a certificate: a SEQUENCE of the octets that were signed, the algorithm and
+/// the signature.
+pub type CertValues<'a> = SignedDataValues<'a>;
 
 impl Cert {
     // The certificate of signed octets, and of the fields that were read of them.
@@ -44,5 +48,12 @@ impl Cert {
         ensures { result.now ≡ self.now.tbs }
     {
         &self.tbs
+    }
+
+    /// What is written of the certificate: what was signed is written as it stood.
+    pub fn encode_ref(&self) -> CertValues<'_>
+        ensures { signed_of result ≡ self.now.signed }
+    {
+        self.signed.encode_ref()
     }
 }

@@ -1,11 +1,14 @@
 //! Certificates, read (RFC 5280 4.1.1).
 
-ghost use Rattle.std.specs.Prelude.{◌≡◌, IfOk, OnErr, true};
+ghost use Rattle.std.specs.Prelude.{◌≡◌, IfOk, IfSome, OnErr, true};
+ghost use Rattle.certs_cert.specs.bcder_tree.Tags.{universal};
 ghost use Rattle.certs_cert.specs.bcder_tree.declared.mode.Mode.TheVariants.{Der};
 ghost use Rattle.certs_cert.specs.bcder_content.Captures.{rest_of};
-ghost use Rattle.certs_cert.specs.bcder_content.Exact.{DecodesAs, ReadsAs};
+ghost use Rattle.certs_cert.specs.bcder_content.Exact.{DecodesAs, ReadsAs, ReadsOptAs};
 ghost use Rattle.certs_cert.specs.bcder_content.Here.{here};
+ghost use Rattle.certs_cert.specs.bcder_content.InMode.{ReadsFields};
 ghost use Rattle.certs_cert.specs.bcder_content.Texts.{InFront};
+ghost use Rattle.certs_cert.specs.Whole.{AreCert, AreCertOctets};
 ghost use Rattle.certs_signed.specs.Took.{TookOctets};
 ghost use Rattle.certs_specs.specs.Calls.{DecodesCert};
 ghost use Rattle.certs_specs.specs.CertText.{IsCert, IsTbs, SpellsCert, SpellsTbs};
@@ -36,9 +39,31 @@ fn tbs_of(alloc: Global, octets: &[u8], mode: Mode) -> Result<TbsCert, DecodeErr
 }
 
 impl Cert {
-    /// The certificate that is next: signed octets, which are kept, and the fields that are read of
-    /// them in the same mode (RFC 5280 4.1.1): by values, and by the very octets that stood there,
-    /// of which those that are signed are kept. The signature isn't verified.
+    /// The fields of a certificate, which are all of their content: signed octets, which are kept,
+    /// and the fields that are read of them in the same mode (RFC 5280 4.1.1).
+    pub fn from_constructed<S: Source>(
+        alloc: Global,
+        cons: &mut Constructed<S>,
+    ) -> Result<Cert, DecodeError<S::Error>>
+        ensures reads { ReadsFields (λ c. c) AreCert
+            (here S.rest cons.old) result (here S.rest cons.new) }
+        ensures octets { IfOk result (λ c. TookOctets (λ c. c) AreCertOctets
+            (here S.rest cons.old) c (here S.rest cons.new)) }
+    {
+        let mode = cons.mode();
+        let signed = SignedData::from_constructed(alloc, cons)?;
+        let tbs = match tbs_of(alloc, signed.data().as_slice(), mode) {
+            Ok(tbs) => tbs,
+            Err(error) => {
+                cons.fail();
+                return Err(error.convert());
+            }
+        };
+        Ok(Cert::from_parts(signed, tbs))
+    }
+
+    /// The certificate that is next (RFC 5280 4.1.1): by values, and by the very octets that stood
+    /// there, of which those that are signed are kept. The signature isn't verified.
     pub fn take_from<S: Source>(
         alloc: Global,
         cons: &mut Constructed<S>,
@@ -49,16 +74,36 @@ impl Cert {
             (here S.rest cons.old) c (here S.rest cons.new)) }
         ensures failed { OnErr result ((here S.rest cons.new).failed ≡ true) }
     {
-        let mode = cons.mode();
-        let signed = SignedData::take_from(alloc, cons)?;
-        let tbs = match tbs_of(alloc, signed.data().as_slice(), mode) {
-            Ok(tbs) => tbs,
-            Err(error) => {
-                cons.fail();
-                return Err(error.convert());
-            }
-        };
-        Ok(Cert::from_parts(signed, tbs))
+        cons.take_sequence(
+            |cons|
+                ensures reads { ReadsFields (λ c. c) AreCert
+                    (here S.rest cons.old) result (here S.rest cons.new) }
+                ensures octets { IfOk result (λ c. TookOctets (λ c. c) AreCertOctets
+                    (here S.rest cons.old) c (here S.rest cons.new)) }
+            { Cert::from_constructed(alloc, cons) },
+        )
+    }
+
+    /// The certificate that is next, if a SEQUENCE is next; one that is no certificate is refused
+    /// (RFC 5280 4.1.1). The signature isn't verified.
+    pub fn take_opt_from<S: Source>(
+        alloc: Global,
+        cons: &mut Constructed<S>,
+    ) -> Result<Option<Cert>, DecodeError<S::Error>>
+        ensures reads { ReadsOptAs (λ c. c) (universal 16) (IsCert (here S.rest cons.old).mode)
+            (here S.rest cons.old) result (here S.rest cons.new) }
+        ensures octets { IfOk result (λ found. IfSome found (λ c. TookOctets (λ c. c) SpellsCert
+            (here S.rest cons.old) c (here S.rest cons.new))) }
+        ensures failed { OnErr result ((here S.rest cons.new).failed ≡ true) }
+    {
+        cons.take_opt_sequence(
+            |cons|
+                ensures reads { ReadsFields (λ c. c) AreCert
+                    (here S.rest cons.old) result (here S.rest cons.new) }
+                ensures octets { IfOk result (λ c. TookOctets (λ c. c) AreCertOctets
+                    (here S.rest cons.old) c (here S.rest cons.new)) }
+            { Cert::from_constructed(alloc, cons) },
+        )
     }
 
     /// The certificate that a source begins with, in DER; octets behind it stay unread.

@@ -21,7 +21,7 @@ mod reading;
 pub mod tbs;
 pub mod usages;
 
-pub use cert::Cert;
+pub use cert::{Cert, CertValues};
 pub use certs_extension::ExtendedKeyUsage;
 pub use certs_specs::KeyUsage;
 pub use tbs::TbsCert;

@@ -2,7 +2,9 @@ pub mod Entries
 pub mod Lists
 pub mod Searches
 pub mod Serials
+pub mod Splits
 pub mod of_bcder_content
+pub mod of_bcder_source
 pub mod of_bcder_values
 pub mod of_certs_basics
 pub mod of_certs_time

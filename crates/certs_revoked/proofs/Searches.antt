@@ -68,7 +68,7 @@ no_refusal (Source x) l h some = never x
 no_refusal Memory l h some = some refl
 
 -- What each call of a closure says is said of the call that ran.
-ran_met : {F T D : Type 0} {g : Reader F (Constructed Reading) T D} {op : F} {r : Result T (DecodeError D)} {v end : ValuesLeft} (Q : ValuesLeft → ValuesLeft → Type 0)
+pub ran_met : {F T D : Type 0} {g : Reader F (Constructed Reading) T D} {op : F} {r : Result T (DecodeError D)} {v end : ValuesLeft} (Q : ValuesLeft → ValuesLeft → Type 0)
     → ((p q : MutBor (Constructed Reading)) → g.post op (p, tt) (r, (q, tt)) → Q (here rest_of p.now) (here rest_of q.now)) → RanIn rest_of g op v r end → Q v end
 ran_met {v = v} {end} Q each on =
     let at = each on.met.shown on.met.left on.met.met in

@@ -1,5 +1,6 @@
 -- Octets that spell the entries of a revocation list, and what is on it.
 use Rattle.std.specs.Prelude.{◌≡◌, ℕ, Bool, false, ◌||◌, nat_eq, List, [], ◌∷◌, map, Option, Result, Ok, Err}
+use Rattle.certs_revoked.specs.bcder_tree.declared.mode.Mode.{Mode}
 use Rattle.certs_revoked.specs.bcder_tree.Tags.{universal}
 use Rattle.certs_revoked.specs.bcder_tree.Tree.{Trees}
 use Rattle.certs_revoked.specs.bcder_source.Errors.{OnContent}
@@ -11,6 +12,9 @@ use Rattle.certs_revoked.specs.bcder_content.Kept.{CapturedValue}
 use Rattle.certs_revoked.specs.bcder_content.Texts.{InOrder}
 use Rattle.certs_revoked.specs.certs_basics.Lists.{Mem}
 use Rattle.certs_specs.specs.CrlText.{AreRevoked, IsRevoked, RevokedValue, entries}
+
+abbrev pub captured : Mode → List ℕ → CapturedValue
+captured mode octets = record { mode = mode; octets = octets }
 
 -- The octets spell these entries, one behind the other.
 abbrev pub SpellsEntries : CapturedValue → List RevokedValue → Type 0

@@ -14,7 +14,7 @@ use std::cmp::Ordering;
 use std::marker::Model;
 
 /// The serial numbers of a list, each once, ascending. Contracts see them in their order.
-#[derive(Drop)]
+#[derive(Debug, Drop)]
 pub struct SerialCache {
     serials: Vec<Serial>,
 }
@@ -96,5 +96,16 @@ impl SerialCache {
         let place = halve(&mut row);
         *probes = row.looks();
         place
+    }
+}
+
+/// A clone has the same serial numbers.
+impl Clone for SerialCache {
+    ghost is_clone = { λ cache copy. copy ≡ cache };
+
+    fn clone(&self) -> Result<Self, AllocError> {
+        Ok(SerialCache {
+            serials: self.serials.clone()?,
+        })
     }
 }

@@ -6,10 +6,12 @@
 
 pub mod cache;
 pub mod entry;
+pub mod iter;
 pub mod laws;
 pub mod revoked;
 mod search;
 
 pub use cache::SerialCache;
 pub use entry::CrlEntry;
+pub use iter::RevokedCertificatesIter;
 pub use revoked::RevokedCertificates;

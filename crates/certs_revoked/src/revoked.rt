@@ -13,6 +13,7 @@ ghost use Rattle.certs_revoked.specs.Listed.{IsListed, ReadsList, SpellsEntries,
 ghost use Rattle.certs_revoked.specs.Listing.{Listing, one_listing};
 
 use crate::entry::CrlEntry;
+use crate::iter::RevokedCertificatesIter;
 use crate::search::{has_serial, serials_in};
 use bcder::decode::{Constructed, Decode, DecodeError, Source};
 use bcder::{Captured, Mode, Tag, encode};
@@ -21,7 +22,7 @@ use std::alloc::{AllocError, Global};
 use std::marker::Model;
 
 /// The revoked certificates of a list: the octets of their entries, as they stood. Contracts see the entries.
-#[derive(Drop)]
+#[derive(Debug, Drop)]
 pub struct RevokedCertificates {
     octets: Captured,
     ghost listing: { Listing octets } by { one_listing octets },
@@ -126,6 +127,16 @@ impl RevokedCertificates {
         let octets = self.octets.as_slice();
         let mode = self.octets.mode();
         serials_in(alloc, octets, mode)
+    }
+
+    /// The entries, one by one, in their order.
+    pub fn iter(&self) -> RevokedCertificatesIter<'_>
+        ensures { result ≡ self.now }
+    {
+        RevokedCertificatesIter {
+            mode: self.octets.mode(),
+            octets: self.octets.as_slice(),
+        }
     }
 
     /// What is written of them: nothing where there are none.

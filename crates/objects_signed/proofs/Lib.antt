@@ -1,2 +1,5 @@
 mod Joined
+mod Ones
+mod Spelled
+mod Whole
 pub mod of_bcder_content

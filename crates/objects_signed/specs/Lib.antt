@@ -1,4 +1,6 @@
 pub mod Signer
+pub mod Frame
+pub mod Decoded
 -- What stands below, for the crates above.
 pub use Rattle.objects_attributes.specs.bcder_content as bcder_content
 pub use Rattle.objects_attributes.specs.bcder_oid as bcder_oid

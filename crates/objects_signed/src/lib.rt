@@ -1,6 +1,12 @@
-//! Signed objects (RFC 5652, RFC 6488): who signed, what was signed of the attributes, and by which algorithm.
+//! Signed objects (RFC 5652, RFC 6488): their content, the certificate they carry, who signed, what was signed of the
+//! attributes, and by which algorithm.
 #![tactic(auto)]
 
+mod carried;
+mod content;
+mod frame;
+pub mod object;
 pub mod signer;
 
+pub use object::SignedObject;
 pub use signer::SignerInfo;

@@ -3,7 +3,7 @@ use Rattle.objects_forms.specs.Identifiers as id
 use Rattle.objects_forms.specs.ObjectText.{IsSid, IsThree}
 use Rattle.objects_signed.specs.bcder_tree.Strings.{IsOctetString}
 use Rattle.objects_signed.proofs.of_bcder_content.InMode.{begin, done, next, stop}
-use Rattle.objects_signed.proofs.Joined.{as_read, ended, field, join}
+use Rattle.certs_cert.proofs.Joined.{as_read, ended, field, join}
 use Rattle.objects_signed.proofs.signer.SignerInfo.from_constructed.Goals as goal
 
 pub returns-in_err-version-clause-reads : goal.returns-in_err-version-clause-reads

@@ -1,0 +1,45 @@
+//! Questions about the content of provider attestations: octets.
+
+use crate::answers::{Answer, octets, unknown};
+use anyhow::Result;
+use objects_aspa::AsProviderAttestation;
+use std::alloc::Global;
+
+// The customer, how many providers there are, each of them, and how many a set has of them.
+fn shown(alloc: Global, answer: &mut Answer, content: &AsProviderAttestation) {
+    answer.say(&content.customer_as());
+    let providers = content.provider_as_set();
+    answer.say(&providers.len());
+    for provider in providers.iter() {
+        answer.say(&provider.into_u32());
+    }
+    match providers.to_set(alloc) {
+        Ok(set) => answer.say(&set.len()),
+        Err(_) => answer.say(&"memory"),
+    }
+}
+
+// The customer as resources, and what is written of the content.
+fn written(alloc: Global, answer: &mut Answer, content: &AsProviderAttestation) {
+    match content.as_resources(alloc) {
+        Ok(resources) => answer.say(&resources),
+        Err(_) => answer.say(&"memory"),
+    }
+    answer.say_written(alloc, &content.encode_ref());
+}
+
+/// The answer about the content that octets begin with.
+pub fn answer(alloc: Global, answer: &mut Answer, words: &[&str]) -> Result<()> {
+    let [digits] = words else {
+        return unknown();
+    };
+    let octets = octets(alloc, *digits)?;
+    match AsProviderAttestation::decode(alloc, octets.as_slice()) {
+        Ok(content) => {
+            shown(alloc, answer, &content);
+            written(alloc, answer, &content);
+        }
+        Err(error) => answer.refuse(error),
+    }
+    Ok(())
+}

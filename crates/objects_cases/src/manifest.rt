@@ -1,0 +1,62 @@
+//! Questions about the content of manifests: what is asked, and octets or a moment.
+
+use crate::answers::{Answer, moment, octets, unknown};
+use anyhow::{Result, anyhow};
+use objects_manifest::file::is_file_name;
+use objects_manifest::{FileAndHash, ManifestContent};
+use std::alloc::Global;
+
+// A file's name, and its hash.
+fn file(alloc: Global, answer: &mut Answer, file: &FileAndHash<'_>) {
+    match std::str::from_utf8(file.file()) {
+        Ok(name) => answer.say(&name),
+        Err(_) => answer.say(&"no text"),
+    }
+    answer.say_octets(alloc, file.hash());
+}
+
+// The number, both moments, how many files there are, and each of them.
+fn shown(alloc: Global, answer: &mut Answer, content: &ManifestContent) {
+    answer.say(&content.manifest_number());
+    answer.say_moment(content.this_update());
+    answer.say_moment(content.next_update());
+    answer.say(&content.len());
+    answer.say(&content.is_empty());
+    for listed in content.iter() {
+        file(alloc, answer, &listed);
+    }
+}
+
+fn read(alloc: Global, answer: &mut Answer, digits: &str) -> Result<()> {
+    let octets = octets(alloc, digits)?;
+    match ManifestContent::decode(alloc, octets.as_slice()) {
+        Ok(content) => shown(alloc, answer, &content),
+        Err(error) => answer.refuse(error),
+    }
+    Ok(())
+}
+
+// Whether the content is stale at a moment.
+fn stale(alloc: Global, answer: &mut Answer, digits: &str, word: &str) -> Result<()> {
+    let now = moment(word)?;
+    let octets = octets(alloc, digits)?;
+    match ManifestContent::decode(alloc, octets.as_slice()) {
+        Ok(content) => answer.say(&content.is_stale(now)),
+        Err(_) => return Err(anyhow!("no manifest")),
+    }
+    Ok(())
+}
+
+/// The answer to a question about manifests, or the names of files in them.
+pub fn answer(alloc: Global, answer: &mut Answer, words: &[&str]) -> Result<()> {
+    match words {
+        ["read", digits] => read(alloc, answer, *digits),
+        ["stale", digits, moment] => stale(alloc, answer, *digits, *moment),
+        ["name", digits] => {
+            let octets = octets(alloc, *digits)?;
+            answer.say(&is_file_name(octets.as_slice()));
+            Ok(())
+        }
+        _ => unknown(),
+    }
+}

@@ -1,0 +1,49 @@
+//! Questions about the content of route origin attestations: octets.
+
+use crate::answers::{Answer, octets, unknown};
+use anyhow::Result;
+use objects_roa::{RoaIpAddresses, RouteOriginAttestation};
+use std::alloc::Global;
+
+// How many addresses a family has, and the greatest length of each, where one stands there.
+fn lengths(answer: &mut Answer, addresses: &RoaIpAddresses) {
+    answer.say(&addresses.is_empty());
+    for address in addresses.iter() {
+        answer.say_some(&address.max_length());
+    }
+}
+
+// The number, the prefixes with the greatest length that holds, and what stands there of each family.
+fn shown(answer: &mut Answer, content: &RouteOriginAttestation) {
+    answer.say(&content.as_id());
+    for address in content.iter() {
+        answer.say(&format_args!("{}-{}", address.prefix(), address.max_length()));
+    }
+    answer.say(&"v4");
+    lengths(answer, content.v4_addrs());
+    answer.say(&"v6");
+    lengths(answer, content.v6_addrs());
+}
+
+// What an attestation announces, origin by origin.
+fn origins(answer: &mut Answer, content: &RouteOriginAttestation) {
+    for origin in content.iter_origins() {
+        answer.say(&format_args!("{}-{}={}", origin.prefix, origin.max_len, origin.asn));
+    }
+}
+
+/// The answer about the content that octets begin with.
+pub fn answer(alloc: Global, answer: &mut Answer, words: &[&str]) -> Result<()> {
+    let [digits] = words else {
+        return unknown();
+    };
+    let octets = octets(alloc, *digits)?;
+    match RouteOriginAttestation::decode(alloc, octets.as_slice()) {
+        Ok(content) => {
+            shown(answer, &content);
+            origins(answer, &content);
+        }
+        Err(error) => answer.refuse(error),
+    }
+    Ok(())
+}

@@ -1,0 +1,62 @@
+//! Questions about stores of revocation lists: when serial numbers begin to be kept aside, the URI that is asked for, a
+//! serial number, and pairs of a URI and the octets of a list.
+
+use crate::answers::{Answer, unknown};
+use crate::crl::list;
+use anyhow::{Result, anyhow};
+use certs_crl::CrlStore;
+use certs_x509::Serial;
+use certs_x509::uri::Rsync;
+use std::alloc::Global;
+use std::str::FromStr;
+
+// The URI of a word.
+fn uri(alloc: Global, word: &str) -> Result<Rsync> {
+    match Rsync::from_slice(alloc, word.as_bytes()) {
+        Ok(uri) => Ok(uri),
+        Err(_) => Err(anyhow!("no URI")),
+    }
+}
+
+// Puts a list behind the others.
+fn push(alloc: Global, store: &mut CrlStore, word: &str, digits: &str) -> Result<()> {
+    let uri = uri(alloc, word)?;
+    let crl = list(alloc, digits)?;
+    match store.push(alloc, uri, crl) {
+        Ok(()) => Ok(()),
+        Err(_) => Err(anyhow!("memory")),
+    }
+}
+
+// The store with the lists of the words; serial numbers are kept aside from that list on, counted from 0.
+fn filled(alloc: Global, words: &[&str], from: usize) -> Result<CrlStore> {
+    let mut store = CrlStore::new(alloc);
+    for (at, pair) in words.chunks(2).enumerate() {
+        if at == from {
+            store.enable_serial_caching();
+        }
+        if let [uri, digits] = pair {
+            push(alloc, &mut store, *uri, *digits)?;
+        }
+    }
+    Ok(store)
+}
+
+/// The number of the list that comes first under the URI, whether serial 12 is on it, and its place among those kept aside.
+pub fn answer(alloc: Global, answer: &mut Answer, words: &[&str]) -> Result<()> {
+    let [from, asked, rest @ ..] = words else {
+        return unknown();
+    };
+    let store = filled(alloc, rest, usize::from_str(*from)?)?;
+    match store.get(&uri(alloc, *asked)?) {
+        Some(crl) => {
+            let mut probes = 0;
+            let serial = Serial::from(12u64);
+            answer.say(&crl.as_cert_list().crl_number());
+            answer.say(&crl.contains(serial));
+            answer.say_some(&crl.cached_position(serial, &mut probes));
+        }
+        None => answer.say(&"none"),
+    }
+    Ok(())
+}

@@ -1,0 +1,34 @@
+//! Whether a file of a manifest is there, as it is listed (RFC 9286 6.4, 6.5).
+
+ghost use Rattle.std.specs.Prelude.{◌↔◌, IfOk, IsTrue};
+ghost use Rattle.certs_key.specs.Digesting.{digests_of};
+ghost use Rattle.rpki_points.specs.rpki_readings.Certs.{Verdicts};
+ghost use Rattle.rpki_rules.specs.Points.{IsHeld};
+ghost use Rattle.rpki_rules.specs.World.{world_of};
+
+use certs_key::Digester;
+use certs_uri::Rsync;
+use certs_uri::paths::join;
+use objects_manifest::{FileAndHash, ManifestHash};
+use rpki_table::Index;
+use std::alloc::{AllocError, Global};
+
+/// Whether the file is in that folder, with the hash that is listed. One digest is made, at most.
+pub fn is_held<D: Digester>(
+    alloc: Global,
+    folder: &Rsync,
+    file: &FileAndHash<'_>,
+    index: &Index<'_>,
+    digester: &D,
+) -> Result<bool, AllocError>
+    ensures { IfOk result (λ held. (v : Verdicts) → IsTrue held ↔ IsHeld
+        (world_of (digests_of D.sha256_digest D.sha1_digest digester.now) v index.now)
+        folder.now file.now) }
+{
+    let uri = join(alloc, folder.as_slice(), file.file())?;
+    let Some(object) = index.object_at(uri.as_slice()) else {
+        return Ok(false);
+    };
+    let hash = ManifestHash::new(file.hash());
+    Ok(hash.verify(digester, object.octets.as_slice()).is_ok())
+}
