@@ -4,3 +4,5 @@ pub mod Letters
 pub mod Keys
 pub mod Whole
 pub mod Parting
+pub mod Halves
+pub mod Named

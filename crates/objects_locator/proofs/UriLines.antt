@@ -7,7 +7,7 @@ use Rattle.objects_forms.specs.Locators.{is_https}
 use Rattle.objects_locator.specs.Lines.{HasLine}
 use Rattle.std.proofs.lemmas.List.{map-append}
 use Rattle.objects_locator.specs.declared.error.ReadError.{ReadError}
-use Rattle.objects_locator.specs.declared.error.ReadError.TheVariants.{UnexpectedEof, BadUri, BadKeyInfoEncoding, BadKeyInfo, Memory}
+use Rattle.objects_locator.specs.declared.error.ReadError.TheVariants.{Io, UnexpectedEof, BadUri, BadKeyInfoEncoding, BadKeyInfo, Memory}
 use Rattle.objects_locator.specs.declared.uri.TalUri.{TalUri}
 use Rattle.objects_locator.specs.Uris.{text_of}
 use Rattle.objects_locator.specs.Faults.{HasUris, StartsWithUri, ReadsUri, TakesUris}
@@ -80,6 +80,7 @@ not_empty_line line r e f g = let t : true ≡ false = sym (ap (λ (z : List ℕ
 
 -- Why a line is refused.
 pub line_fault : (e : ReadError) (uris : List (List ℕ)) (line rest behind text : List ℕ) → HasUris uris rest text → HasLine line behind rest → line ≢ [] → ReadsUri line (Err e) → TakesUris text (Err e)
+line_fault Io uris line rest behind text h l n f = absurd f
 line_fault UnexpectedEof uris line rest behind text h l n f = absurd f
 line_fault BadUri uris line rest behind text h l n f = record { uris = uris; behind = rest; has = h; line = line; rest = behind; next = l; no_uri = f; none = λ e. absurd (n e) }
 line_fault BadKeyInfoEncoding uris line rest behind text h l n f = absurd f

@@ -5,7 +5,7 @@ use Rattle.objects_forms.specs.certs_basics.Keys.{KeyValue}
 use Rattle.objects_forms.specs.certs_uri.Uris.{lower, IsUri}
 use Rattle.objects_forms.specs.Locators.{EndsLine, AreLines, IsComment, LocatorText}
 use Rattle.objects_locator.specs.declared.error.ReadError.{ReadError}
-use Rattle.objects_locator.specs.declared.error.ReadError.TheVariants.{UnexpectedEof, BadUri, BadKeyInfoEncoding, BadKeyInfo, Memory}
+use Rattle.objects_locator.specs.declared.error.ReadError.TheVariants.{Io, UnexpectedEof, BadUri, BadKeyInfoEncoding, BadKeyInfo, Memory}
 use Rattle.objects_locator.specs.Lines.{HasLine, NoLine, NoComment, Commented}
 use Rattle.objects_locator.specs.Faults.{HasUris, HasAllUris, IsCut, HasNoUri, HasKey, NoBase64, HasNoKey, BehindComments, BehindUris, StartsWithUri, TakesUris, ReadsKey, IsFault}
 use Rattle.objects_locator.proofs.LineTexts.{one_line, line_not, comment_not}
@@ -152,6 +152,7 @@ behind_comments P text behind c f = subst P (one_commented f.behind behind text 
 
 -- A text with a fault is no locator.
 pub no_locator : (e : ReadError) (text : List ℕ) (uris : List (List ℕ)) (key : KeyValue) → e ≢ Memory → IsFault e text → LocatorText text uris key → ⊥
+no_locator Io text uris key n f l = absurd f
 no_locator UnexpectedEof text uris key n f l =
     let p = parts text uris key l in
     cut_not p.behind p.tail uris p.all (behind_comments IsCut text p.behind p.commented f)
@@ -175,6 +176,7 @@ all_start (x ∷ xs) tail text a =
 
 -- Why the URIs were refused, or the key.
 pub uris_fault : (e : ReadError) (behind text : List ℕ) → Commented behind text → TakesUris behind (Err e) → IsFault e text
+uris_fault Io behind text c f = absurd f
 uris_fault UnexpectedEof behind text c f = record { behind = behind; commented = c; is = f }
 uris_fault BadUri behind text c f = record { behind = behind; commented = c; is = f }
 uris_fault BadKeyInfoEncoding behind text c f = absurd f
@@ -182,6 +184,7 @@ uris_fault BadKeyInfo behind text c f = absurd f
 uris_fault Memory behind text c f = record { behind = behind; commented = c; is = f }
 
 pub key_fault : (e : ReadError) (behind tail text : List ℕ) (uris : List (List ℕ)) → Commented behind text → HasAllUris uris tail behind → ReadsKey tail (Err e) → IsFault e text
+key_fault Io behind tail text uris c a f = absurd f
 key_fault UnexpectedEof behind tail text uris c a f = absurd f
 key_fault BadUri behind tail text uris c a f = absurd f
 key_fault BadKeyInfoEncoding behind tail text uris c a f = record { behind = behind; commented = c; is = record { uris = uris; tail = tail; has = a; is = f } }
@@ -212,21 +215,26 @@ no_base64_no_key text p q =
     p.is k.octets k.is
 
 pub one_fault : (e f : ReadError) (text : List ℕ) → e ≢ Memory → f ≢ Memory → IsFault e text → IsFault f text → e ≡ f
+one_fault Io f text m n p q = absurd p
+one_fault UnexpectedEof Io text m n p q = absurd q
 one_fault UnexpectedEof UnexpectedEof text m n p q = refl
 one_fault UnexpectedEof BadUri text m n p q = absurd (cut_no_uri p.behind p.is (behind_comments HasNoUri text p.behind p.commented q))
 one_fault UnexpectedEof BadKeyInfoEncoding text m n p q = absurd (cut_tail NoBase64 p.behind (behind_comments (BehindUris NoBase64) text p.behind p.commented q) p.is)
 one_fault UnexpectedEof BadKeyInfo text m n p q = absurd (cut_tail HasNoKey p.behind (behind_comments (BehindUris HasNoKey) text p.behind p.commented q) p.is)
 one_fault UnexpectedEof Memory text m n p q = absurd (n refl)
+one_fault BadUri Io text m n p q = absurd q
 one_fault BadUri UnexpectedEof text m n p q = absurd (cut_no_uri p.behind (behind_comments IsCut text p.behind p.commented q) p.is)
 one_fault BadUri BadUri text m n p q = refl
 one_fault BadUri BadKeyInfoEncoding text m n p q = absurd (no_uri_tail NoBase64 p.behind (behind_comments (BehindUris NoBase64) text p.behind p.commented q) p.is)
 one_fault BadUri BadKeyInfo text m n p q = absurd (no_uri_tail HasNoKey p.behind (behind_comments (BehindUris HasNoKey) text p.behind p.commented q) p.is)
 one_fault BadUri Memory text m n p q = absurd (n refl)
+one_fault BadKeyInfoEncoding Io text m n p q = absurd q
 one_fault BadKeyInfoEncoding UnexpectedEof text m n p q = absurd (cut_tail NoBase64 p.behind p.is (behind_comments IsCut text p.behind p.commented q))
 one_fault BadKeyInfoEncoding BadUri text m n p q = absurd (no_uri_tail NoBase64 p.behind p.is (behind_comments HasNoUri text p.behind p.commented q))
 one_fault BadKeyInfoEncoding BadKeyInfoEncoding text m n p q = refl
 one_fault BadKeyInfoEncoding BadKeyInfo text m n p q = absurd (no_base64_no_key p.behind p.is (behind_comments (BehindUris HasNoKey) text p.behind p.commented q))
 one_fault BadKeyInfoEncoding Memory text m n p q = absurd (n refl)
+one_fault BadKeyInfo Io text m n p q = absurd q
 one_fault BadKeyInfo UnexpectedEof text m n p q = absurd (cut_tail HasNoKey p.behind p.is (behind_comments IsCut text p.behind p.commented q))
 one_fault BadKeyInfo BadUri text m n p q = absurd (no_uri_tail HasNoKey p.behind p.is (behind_comments HasNoUri text p.behind p.commented q))
 one_fault BadKeyInfo BadKeyInfoEncoding text m n p q = absurd (no_base64_no_key p.behind (behind_comments (BehindUris NoBase64) text p.behind p.commented q) p.is)

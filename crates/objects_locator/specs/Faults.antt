@@ -8,7 +8,7 @@ use Rattle.objects_forms.specs.certs_basics.Keys.{KeyValue, IsKey}
 use Rattle.objects_forms.specs.certs_uri.Uris.{IsUri}
 use Rattle.objects_forms.specs.Locators.{AreLines, base64, is_dropped}
 use Rattle.objects_locator.specs.declared.error.ReadError.{ReadError}
-use Rattle.objects_locator.specs.declared.error.ReadError.TheVariants.{UnexpectedEof, BadUri, BadKeyInfoEncoding, BadKeyInfo, Memory}
+use Rattle.objects_locator.specs.declared.error.ReadError.TheVariants.{Io, UnexpectedEof, BadUri, BadKeyInfoEncoding, BadKeyInfo, Memory}
 use Rattle.objects_locator.specs.declared.uri.TalUri.{TalUri}
 use Rattle.objects_locator.specs.Lines.{HasLine, NoLine, Commented}
 use Rattle.objects_locator.specs.Uris.{text_of}
@@ -76,6 +76,7 @@ pub record HasNoKey (text : List ℕ) : Type 0 where
 -- The URI on a line.
 abbrev pub ReadsUri : List ℕ → Result TalUri ReadError → Type 0
 ReadsUri line (Ok uri) = IsUri line × (text_of uri ≡ line)
+ReadsUri line (Err Io) = ⊥
 ReadsUri line (Err UnexpectedEof) = ⊥
 ReadsUri line (Err BadUri) = IsUri line → ⊥
 ReadsUri line (Err BadKeyInfoEncoding) = ⊥
@@ -85,6 +86,7 @@ ReadsUri line (Err Memory) = IsUri line
 -- The URIs behind the comments, and what stands behind the empty line.
 abbrev pub TakesUris : List ℕ → Result (Vec TalUri Global × Bor (List ℕ)) ReadError → Type 0
 TakesUris text (Ok x) = HasAllUris (map text_of x.0.items) x.1.now text
+TakesUris text (Err Io) = ⊥
 TakesUris text (Err UnexpectedEof) = IsCut text
 TakesUris text (Err BadUri) = HasNoUri text
 TakesUris text (Err BadKeyInfoEncoding) = ⊥
@@ -94,6 +96,7 @@ TakesUris text (Err Memory) = StartsWithUri text
 -- The octets that a text is base 64 of, and no others.
 abbrev pub Decodes : List ℕ → Result (Vec ℕ Global) ReadError → Type 0
 Decodes text (Ok x) = IsBase64 x.items text × ((octets : List ℕ) → IsBase64 octets text → octets ≡ x.items)
+Decodes text (Err Io) = ⊥
 Decodes text (Err UnexpectedEof) = ⊥
 Decodes text (Err BadUri) = ⊥
 Decodes text (Err BadKeyInfoEncoding) = NoBase64 text
@@ -103,6 +106,7 @@ Decodes text (Err Memory) = Unit {0}
 -- The key, read of its base 64.
 abbrev pub ReadsKey : List ℕ → Result KeyValue ReadError → Type 0
 ReadsKey text (Ok key) = HasKey key text
+ReadsKey text (Err Io) = ⊥
 ReadsKey text (Err UnexpectedEof) = ⊥
 ReadsKey text (Err BadUri) = ⊥
 ReadsKey text (Err BadKeyInfoEncoding) = NoBase64 text
@@ -122,8 +126,13 @@ pub record BehindUris (P : List ℕ → Type 0) (text : List ℕ) : Type 0 where
   pub has : HasAllUris uris tail text
   pub is : P tail
 
+-- No text is so.
+abbrev pub NoText : List ℕ → Type 0
+NoText text = ⊥
+
 -- Why a text is no locator: the first line that is refused tells it. Memory is asked for only where a URI was there.
 abbrev pub IsFault : ReadError → List ℕ → Type 0
+IsFault Io = NoText
 IsFault UnexpectedEof = BehindComments IsCut
 IsFault BadUri = BehindComments HasNoUri
 IsFault BadKeyInfoEncoding = BehindComments (BehindUris NoBase64)

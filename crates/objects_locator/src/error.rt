@@ -9,6 +9,9 @@ use thiserror::Error as ThisError;
 /// A text is no trust anchor locator. Its lines are tested in their order, and the first that is refused tells why.
 #[derive(Clone, Copy, Debug, PartialEq, Eq, Hash, ThisError, Drop)]
 pub enum ReadError {
+    /// The reader answered an error, or has 2^32 octets or more.
+    #[error("the text can't be read to its end")]
+    Io,
     /// The text ends before an empty line, or within a line before it.
     #[error("unexpected end of file")]
     UnexpectedEof,

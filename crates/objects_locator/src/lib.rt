@@ -3,8 +3,9 @@
 //! A locator is a text: comments, each a line that begins with `#`; then URIs, rsync or https, one a line; an empty
 //! line; and the anchor's key, a SubjectPublicKeyInfo in base 64. Lines end with LF or with CR LF.
 //!
-//! What differs from the Rust crate: a locator is read of octets that are there, causes carry no detail of what was
-//! refused, a text without URIs is `BadUri`, and what takes memory is given an allocator and answers a `Result`.
+//! What differs from the Rust crate: a locator is read of octets that are there, too (`from_text`); of a reader fewer than
+//! 2^32 octets are read; causes carry no detail of what was refused; a text without URIs is `BadUri`; and what takes memory
+//! is given an allocator and answers a `Result`.
 #![tactic(auto)]
 
 mod encoding;
@@ -14,6 +15,7 @@ pub mod laws;
 mod lines;
 mod order;
 pub mod tal;
+mod text;
 pub mod uri;
 mod uris;
 

@@ -4,18 +4,20 @@ ghost use Rattle.std.specs.Prelude.{◌≡◌, ◌≢◌, IfErr, List, ℕ, map}
 ghost use Rattle.objects_locator.specs.certs_basics.Keys.{KeyValue};
 ghost use Rattle.objects_locator.specs.objects_forms.Locators.{LocatorText, https_first};
 ghost use Rattle.objects_locator.specs.declared.error.ReadError.TheVariants.{Memory};
-ghost use Rattle.objects_locator.specs.Tals.{ReadsTal};
+ghost use Rattle.objects_locator.specs.Tals.{ReadsNamed, ReadsTal};
 ghost use Rattle.objects_locator.specs.Uris.{text_of};
 
 use crate::error::ReadError;
 use crate::key::read_key;
 use crate::lines::skip_comments;
 use crate::order::https_to_front;
+use crate::text::take_text;
 use crate::uri::TalUri;
 use crate::uris::take_uris;
 use certs_key::PublicKey;
 use certs_x509::TalInfo;
 use std::alloc::Global;
+use std::io::Read;
 use std::marker::Model;
 use std::rc::Rc;
 
@@ -42,7 +44,7 @@ impl Tal {
     /// The locator of that name and text: comments, each a line that begins with `#`; URIs, one or more, each on a line;
     /// an empty line; and behind it in base 64 octets with a key in front, in DER. Lines end with LF or with CR LF, and
     /// tab, LF, form feed, CR and space are dropped from the base 64.
-    pub fn read_named(alloc: Global, name: String, octets: &[u8]) -> Result<Tal, ReadError>
+    pub fn from_text(alloc: Global, name: String, octets: &[u8]) -> Result<Tal, ReadError>
         ensures reads { ReadsTal name octets.now result }
         ensures refused { IfErr result (λ e. e ≢ Memory → (uris : List (List ℕ)) (key : KeyValue)
             → LocatorText octets.now uris key → ⊥) }
@@ -55,6 +57,20 @@ impl Tal {
             key_info,
             info,
         })
+    }
+
+    /// The locator of that name that the reader's whole text is. The reader is read until a read gives no octet, and
+    /// nothing is retried. `Io` comes where it answers an error, or where it gives 2^32 octets; of a text that was read
+    /// whole all is answered as `from_text` does.
+    pub fn read_named<R: Read>(
+        alloc: Global,
+        name: String,
+        reader: &mut R,
+    ) -> Result<Tal, ReadError>
+        ensures { ReadsNamed name (R.remaining reader.old) (R.remaining reader.new) result }
+    {
+        let text = take_text(alloc, reader)?;
+        Tal::from_text(alloc, name, text.as_slice())
     }
 
     /// Puts https URIs before the others, and keeps the order otherwise. No memory is taken.

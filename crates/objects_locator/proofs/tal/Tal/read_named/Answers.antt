@@ -1,48 +1,12 @@
-use Rattle.std.proofs.Common.{◌≢◌, ◌∙◌, ℕ, List, IfErr, map, refl}
-use Rattle.objects_forms.specs.certs_basics.Keys.{KeyValue}
-use Rattle.objects_forms.specs.Locators.{LocatorText}
-use Rattle.objects_locator.specs.declared.error.ReadError.TheVariants.{Memory}
-use Rattle.objects_locator.specs.Tals.{ReadsTal}
-use Rattle.objects_locator.specs.Uris.{text_of}
+use Rattle.objects_locator.specs.Tals.{ReadsNamed}
+use Rattle.objects_locator.proofs.Named.{named_is, text_fault}
 use Rattle.objects_locator.proofs.UriLines.{passed}
-use Rattle.objects_locator.proofs.Whole.{uris_fault, key_fault, refused, locator_is}
 use Rattle.objects_locator.proofs.tal.Tal.read_named.Goals as goal
 
-pub returns-in_err-uris-clause-reads : goal.returns-in_err-uris-clause-reads
-returns-in_err-uris-clause-reads c =
-    passed c.from_residual.result c.in_err-uris.field-0.0 c.from_residual.ensures (λ r. ReadsTal c.args.name c.args.octets.now r)
-    (uris_fault c.in_err-uris.field-0.0 c.skip_comments.result.now c.args.octets.now c.skip_comments.ensures c.in_err-uris.ensures)
+pub returns-in_err-text : goal.returns-in_err-text
+returns-in_err-text g c =
+    passed c.from_residual.result c.in_err-text.field-0.0 c.from_residual.ensures (λ r. ReadsNamed c.args.name (g.R.Read.remaining c.args.reader.now) (g.R.Read.remaining c.take_text.new.reader) r)
+    (text_fault c.args.name _ _ c.in_err-text.field-0.0 c.in_err-text.ensures)
 
-pub returns-in_err-uris-clause-refused : goal.returns-in_err-uris-clause-refused
-returns-in_err-uris-clause-refused c =
-    passed c.from_residual.result c.in_err-uris.field-0.0 c.from_residual.ensures
-    (λ r. IfErr r (λ e. e ≢ Memory → (uris : List (List ℕ)) (key : KeyValue) → LocatorText c.args.octets.now uris key → ⊥))
-    (refused c.in_err-uris.field-0.0 c.args.octets.now (uris_fault c.in_err-uris.field-0.0 c.skip_comments.result.now c.args.octets.now c.skip_comments.ensures c.in_err-uris.ensures))
-
-pub returns-in_err-key_info-clause-reads : goal.returns-in_err-key_info-clause-reads
-returns-in_err-key_info-clause-reads c =
-    passed c.from_residual-in_err-key_info.result c.in_err-key_info.field-0.0 c.from_residual-in_err-key_info.ensures (λ r. ReadsTal c.args.name c.args.octets.now r)
-    (key_fault c.in_err-key_info.field-0.0 c.skip_comments.result.now c.in_ok-uris.text.now c.args.octets.now (map text_of c.in_ok-uris.uris.items) c.skip_comments.ensures c.in_ok-uris.ensures c.in_err-key_info.ensures)
-
-pub returns-in_err-key_info-clause-refused : goal.returns-in_err-key_info-clause-refused
-returns-in_err-key_info-clause-refused c =
-    passed c.from_residual-in_err-key_info.result c.in_err-key_info.field-0.0 c.from_residual-in_err-key_info.ensures
-    (λ r. IfErr r (λ e. e ≢ Memory → (uris : List (List ℕ)) (key : KeyValue) → LocatorText c.args.octets.now uris key → ⊥))
-    (refused c.in_err-key_info.field-0.0 c.args.octets.now (key_fault c.in_err-key_info.field-0.0 c.skip_comments.result.now c.in_ok-uris.text.now c.args.octets.now (map text_of c.in_ok-uris.uris.items) c.skip_comments.ensures c.in_ok-uris.ensures c.in_err-key_info.ensures))
-
-pub returns-in_err-info-clause-reads : goal.returns-in_err-info-clause-reads
-returns-in_err-info-clause-reads c =
-    passed c.from_residual-in_err-info.result Memory c.from_residual-in_err-info.ensures (λ r. ReadsTal c.args.name c.args.octets.now r)
-    (key_fault Memory c.skip_comments.result.now c.in_ok-uris.text.now c.args.octets.now (map text_of c.in_ok-uris.uris.items) c.skip_comments.ensures c.in_ok-uris.ensures tt)
-
-pub returns-in_err-info-clause-refused : goal.returns-in_err-info-clause-refused
-returns-in_err-info-clause-refused c =
-    passed c.from_residual-in_err-info.result Memory c.from_residual-in_err-info.ensures
-    (λ r. IfErr r (λ e. e ≢ Memory → (uris : List (List ℕ)) (key : KeyValue) → LocatorText c.args.octets.now uris key → ⊥))
-    (λ n. absurd (n refl))
-
-pub returns-clause-reads : goal.returns-clause-reads
-returns-clause-reads c = (
-  locator_is c.args.octets.now c.skip_comments.result.now c.in_ok-uris.text.now (map text_of c.in_ok-uris.uris.items) c.in_ok-key_info.key_info c.skip_comments.ensures c.in_ok-uris.ensures c.in_ok-key_info.ensures,
-  c.in_ok-info.ensures ∙ c.from_name.ensures,
-)
+pub returns : goal.returns
+returns g c = named_is c.args.name _ _ c.in_ok-text.text.items c.as_slice.result.now c.from_text.result c.as_slice.ensures.value c.in_ok-text.ensures c.from_text.ensures.reads
