@@ -17,7 +17,8 @@ pub fn answer(alloc: Global, answer: &mut Answer, words: &[&str]) -> Result<()> 
         return unknown();
     };
     let octets = octets(alloc, *digits)?;
-    match Tal::read_named(alloc, String::from_str(alloc, *name)?, octets.as_slice()) {
+    let mut reader = octets.as_slice();
+    match Tal::read_named(alloc, String::from_str(alloc, *name)?, &mut reader) {
         Ok(tal) => {
             let mut tal = tal;
             answer.say(&tal.info().name());
