@@ -1,5 +1,5 @@
 -- Octets have one frame of a signed object in front at most, and its fields are read in one way.
-use Rattle.std.proofs.Common.{◌≡◌, ap, ℕ, List, Option, Some, None}
+use Rattle.std.proofs.Common.{◌≡◌, ap, Option, Some, None}
 use Rattle.objects_signed.specs.bcder_tree.declared.mode.Mode.{Mode}
 use Rattle.objects_signed.specs.bcder_tree.Tags.{context}
 use Rattle.objects_signed.specs.bcder_tree.Strings.{octet_string_tag}

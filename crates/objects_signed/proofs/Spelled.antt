@@ -1,7 +1,7 @@
 -- Octets that spell what stands around a content are those of a tree of the same values, in each mode.
-use Rattle.std.proofs.Common.{ℕ, Bool, List, ap, refl, subst, sym}
+use Rattle.std.proofs.Common.{ℕ, List, ap, refl, subst, sym}
 use Rattle.objects_signed.specs.bcder_tree.declared.mode.Mode.{Mode}
-use Rattle.objects_signed.specs.bcder_tree.Tags.{TagValue, context, universal}
+use Rattle.objects_signed.specs.bcder_tree.Tags.{TagValue, universal}
 use Rattle.objects_signed.specs.bcder_tree.Tree.{Tree, Trees, Spells, SpellsAll, constructed, more, none}
 use Rattle.objects_signed.specs.bcder_content.Grammar.{End, Inside, Then}
 use Rattle.objects_signed.specs.bcder_content.Kept.{CapturedValue}
@@ -9,7 +9,7 @@ use Rattle.objects_signed.specs.bcder_content.Texts.{InOrder, Joins, NoOctets, S
 use Rattle.objects_signed.specs.bcder_content.Words.{Kept}
 use Rattle.objects_signed.specs.certs_basics.Names.{IsKeptName, SpellsName}
 use Rattle.objects_signed.specs.certs_specs.Cert.{CertValue}
-use Rattle.objects_signed.specs.certs_specs.CertText.{Fields, IsCert, IsTbs, IsTbsBody, SpellsCert, SpellsFields, SpellsTbs}
+use Rattle.objects_signed.specs.certs_specs.CertText.{Fields, IsCert, IsTbs, IsTbsBody, SpellsCert, SpellsFields}
 use Rattle.objects_forms.specs.SignedAttributes.{AreAttributes, AttributesValue}
 use Rattle.objects_forms.specs.ObjectText.{ObjectFields, SignedFields, SignerFields, SpellsContentInfo, SpellsSignedData, SpellsSigner}
 use Rattle.objects_attributes.specs.Kept.{AreKept}
