@@ -16,7 +16,7 @@ pub mod setting;
 pub mod store;
 pub mod tbs;
 
-pub use certs_revoked::{CrlEntry, RevokedCertificates};
+pub use certs_revoked::{CrlEntry, RevokedCertificates, RevokedCertificatesIter};
 pub use crl::Crl;
 pub use store::CrlStore;
 pub use tbs::TbsCertList;
