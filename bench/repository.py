@@ -13,6 +13,7 @@ The DER is written here, and nothing of the repository's crates is used: so what
 """
 
 import argparse
+import base64
 import hashlib
 import ipaddress
 import os
@@ -284,8 +285,6 @@ class Repository:
 
     def locator(self):
         """The text of the trust anchor locator (RFC 8630 2.2)."""
-        import base64
-
         text = base64.encodebytes(self.anchor.key.encoded).decode()
         return f"{self.anchor.at}\n\n{text}"
 
