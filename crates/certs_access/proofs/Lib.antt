@@ -5,3 +5,7 @@ pub mod of_bcder_oid
 pub mod of_bcder_strings
 pub mod Descriptions
 pub mod Ones
+pub mod of_certs_basics
+pub mod of_bcder_bits
+pub mod of_bcder_tree
+pub mod of_certs_uri

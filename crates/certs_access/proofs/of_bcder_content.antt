@@ -1,4 +1,5 @@
 -- Lemmas of bcder_content, for the crates above.
+pub use Rattle.bcder.proofs.of_bcder_content.Fronts
 pub use Rattle.certs_basics.proofs.of_bcder_content.Choices
 pub use Rattle.certs_basics.proofs.of_bcder_content.Choosing
 pub use Rattle.certs_basics.proofs.of_bcder_content.Forests

@@ -11,5 +11,6 @@ mod names;
 pub mod subject;
 
 pub use authority::take_authority_access;
+pub use certs_basics::PublicKeyFormat;
 pub use crl::take_crl_distribution;
 pub use subject::{SubjectAccess, take_subject_access};

@@ -16,6 +16,7 @@ pub mod oid;
 pub mod signature;
 
 pub use algorithm::{RpkiSignatureAlgorithm, SignatureAlgorithm};
+pub use certs_basics::PublicKeyFormat;
 pub use digest::DigestAlgorithm;
 pub use identifier::AlgorithmIdentifier;
 pub use signature::{RpkiSignature, Signature};

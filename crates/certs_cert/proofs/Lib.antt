@@ -6,3 +6,5 @@ mod Whole
 mod Spelled
 pub mod of_bcder_content
 pub mod of_bcder_tree
+pub mod of_certs_signed
+pub mod of_certs_key

@@ -10,10 +10,10 @@ use Rattle.certs_cert.specs.bcder_content.Words.{Gathers}
 use Rattle.certs_cert.proofs.of_bcder_content.Took.{one_took}
 use Rattle.certs_cert.proofs.of_bcder_content.Unique.{end_one, inside_one, same_trees, same_values, then_one}
 use Rattle.certs_basics.proofs.Values.{gathers_one}
-use Rattle.certs_specs.proofs.Values.{extension_one}
-use Rattle.certs_specs.specs.Cert.{TbsValue}
-use Rattle.certs_specs.specs.CertText.{Fields, IsTbs, IsTbsBody}
-use Rattle.certs_specs.specs.Extensions.{Extension, IsExtension}
+use Rattle.certs_claims.proofs.of_certs_specs.Values.{extension_one}
+use Rattle.certs_claims.specs.certs_specs.Cert.{TbsValue}
+use Rattle.certs_claims.specs.certs_specs.CertText.{Fields, IsTbs, IsTbsBody}
+use Rattle.certs_claims.specs.certs_specs.Extensions.{Extension, IsExtension}
 use Rattle.certs_claims.specs.Finishing.{Finishes, claims_of}
 use Rattle.certs_claims.specs.Slots.{AreSlots}
 use Rattle.certs_claims.specs.declared.finish.Claims.{Claims}

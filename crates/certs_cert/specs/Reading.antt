@@ -12,9 +12,9 @@ use Rattle.certs_cert.specs.certs_basics.Keys.{KeyValue, IsKey}
 use Rattle.certs_cert.specs.certs_basics.Names.{IsKeptName, SpellsName}
 use Rattle.certs_cert.specs.certs_time.Forms.{IsValidity}
 use Rattle.certs_cert.specs.certs_time.Periods.{Period, as_fields}
-use Rattle.certs_specs.specs.Cert.{TbsValue}
-use Rattle.certs_specs.specs.CertText.{IsVersion}
-use Rattle.certs_specs.specs.Extensions.{IsExtension}
+use Rattle.certs_claims.specs.certs_specs.Cert.{TbsValue}
+use Rattle.certs_claims.specs.certs_specs.CertText.{IsVersion}
+use Rattle.certs_claims.specs.certs_specs.Extensions.{IsExtension}
 use Rattle.certs_claims.specs.Finishing.{Finishes, claims_of}
 use Rattle.certs_claims.specs.Slots.{AreSlots}
 use Rattle.certs_claims.specs.declared.slots.Slots.{Slots}

@@ -8,9 +8,10 @@ ghost use Rattle.certs_cert.specs.resources_chain.Sets.{Run};
 ghost use Rattle.certs_cert.specs.resources_chain.declared.choice.ResourcesChoice.TheVariants.{Blocks};
 
 use crate::tbs::TbsCert;
-use resources::asres::{AsBlock, AsBlocks, AsBlocksBuilder, AsResources, AsResourcesBuilder};
-use resources::chain::Block;
-use resources::ipres::{IpBlock, IpBlocks, IpBlocksBuilder, IpResources, IpResourcesBuilder};
+use certs_claims::{
+    AsBlock, AsBlocks, AsBlocksBuilder, AsResources, AsResourcesBuilder, Block, IpBlock, IpBlocks,
+    IpBlocksBuilder, IpResources, IpResourcesBuilder,
+};
 use std::alloc::{AllocError, Global};
 
 // The addresses that a function pushes.

@@ -16,7 +16,7 @@ pub struct Cert {
 }
 
 impl Model for Cert {
-    ghost use Rattle.certs_specs.specs.Cert.{CertValue};
+    ghost use Rattle.certs_claims.specs.certs_specs.Cert.{CertValue};
     ghost use Rattle.certs_cert.specs.Whole.{signed_of};
 
     ghost Value = { CertValue };

@@ -10,15 +10,15 @@ ghost use Rattle.certs_cert.specs.bcder_content.InMode.{ReadsFields};
 ghost use Rattle.certs_cert.specs.bcder_content.Texts.{InFront};
 ghost use Rattle.certs_cert.specs.Whole.{AreCert, AreCertOctets};
 ghost use Rattle.certs_signed.specs.Took.{TookOctets};
-ghost use Rattle.certs_specs.specs.Calls.{DecodesCert};
-ghost use Rattle.certs_specs.specs.CertText.{IsCert, IsTbs, SpellsCert, SpellsTbs};
+ghost use Rattle.certs_claims.specs.certs_specs.Calls.{DecodesCert};
+ghost use Rattle.certs_claims.specs.certs_specs.CertText.{IsCert, IsTbs, SpellsCert, SpellsTbs};
 
 use crate::cert::Cert;
 use crate::tbs::TbsCert;
 use bcder::Mode;
 use bcder::decode::{Constructed, Decode, DecodeError, IntoSource, Source};
+use certs_claims::cert_is_spelled;
 use certs_signed::SignedData;
-use certs_specs::laws::cert_is_spelled;
 use std::alloc::Global;
 use std::convert::Infallible;
 

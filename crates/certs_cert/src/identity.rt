@@ -3,8 +3,7 @@
 ghost use Rattle.std.specs.Prelude.{◌≡◌};
 
 use crate::tbs::TbsCert;
-use certs_algorithm::RpkiSignatureAlgorithm;
-use certs_name::{Name, Serial};
+use certs_signed::{Name, RpkiSignatureAlgorithm, Serial};
 use certs_time::Validity;
 
 impl TbsCert {

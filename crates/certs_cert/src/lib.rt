@@ -22,6 +22,7 @@ pub mod tbs;
 pub mod usages;
 
 pub use cert::{Cert, CertValues};
-pub use certs_extension::ExtendedKeyUsage;
-pub use certs_specs::KeyUsage;
+pub use certs_claims::{
+    Digester, ExtendedKeyUsage, InspectionError, KeyIdentifier, KeyUsage, PublicKeyFormat, Role,
+};
 pub use tbs::TbsCert;

@@ -12,15 +12,13 @@ ghost use Rattle.certs_cert.specs.Reading.{SpellsTail, alone, listed_fields, slo
 ghost use Rattle.certs_claims.specs.Finishing.{Finishes};
 ghost use Rattle.certs_claims.specs.declared.finish.Claims.{Claims as ClaimsValue};
 ghost use Rattle.certs_signed.specs.Took.{TookOctets};
-ghost use Rattle.certs_specs.specs.CertText.{IsTbs, SpellsTbs};
+ghost use Rattle.certs_claims.specs.certs_specs.CertText.{IsTbs, SpellsTbs};
 
 use crate::tbs::TbsCert;
 use bcder::Tag;
 use bcder::decode::{Constructed, ContentError, DecodeError, Source};
-use certs_algorithm::{RpkiSignatureAlgorithm, SignatureAlgorithm};
 use certs_claims::{ListError, Slots, take_extensions};
-use certs_key::PublicKey;
-use certs_name::{Name, Serial};
+use certs_signed::{Name, PublicKey, RpkiSignatureAlgorithm, Serial, SignatureAlgorithm};
 use certs_time::Validity;
 use std::alloc::Global;
 

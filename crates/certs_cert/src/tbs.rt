@@ -5,14 +5,10 @@ ghost use Rattle.certs_cert.specs.certs_key.Digesting.{digests_of};
 ghost use Rattle.certs_cert.specs.certs_basics.Keys.{identifier};
 ghost use Rattle.certs_cert.specs.Fresh.{IsSubjectFor, fresh};
 
-use certs_algorithm::RpkiSignatureAlgorithm;
-use certs_extension::ExtendedKeyUsage;
-use certs_key::{Digester, KeyIdentifier, PublicKey};
-use certs_name::{Name, Serial};
-use certs_specs::KeyUsage;
+use certs_claims::{AsResources, ExtendedKeyUsage, IpResources, KeyUsage, Overclaim};
+use certs_signed::{Digester, KeyIdentifier, Name, PublicKey, RpkiSignatureAlgorithm, Serial};
 use certs_time::Validity;
 use certs_uri::{Https, Rsync};
-use resources::{AsResources, IpResources, Overclaim};
 use std::alloc::{AllocError, Global};
 use std::marker::Model;
 
@@ -44,7 +40,7 @@ pub struct TbsCert {
 }
 
 impl Model for TbsCert {
-    ghost use Rattle.certs_specs.specs.Cert.{TbsValue};
+    ghost use Rattle.certs_claims.specs.certs_specs.Cert.{TbsValue};
 
     ghost Value = { TbsValue };
 

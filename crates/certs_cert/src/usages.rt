@@ -3,8 +3,7 @@
 ghost use Rattle.std.specs.Prelude.{◌≡◌, ◌↔◌, IsTrue, Some, true, option_copied};
 
 use crate::tbs::TbsCert;
-use certs_extension::ExtendedKeyUsage;
-use certs_specs::KeyUsage;
+use certs_claims::{ExtendedKeyUsage, KeyUsage};
 
 impl TbsCert {
     /// Whether basic constraints say that the subject is an authority; none where there are no

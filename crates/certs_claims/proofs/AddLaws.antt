@@ -8,9 +8,9 @@ use Rattle.certs_claims.specs.resources_chain.declared.claims.Overclaim.TheVaria
 use Rattle.certs_claims.specs.resources_policy.Identifiers.{as_octets, ip_octets}
 use Rattle.certs_extension.specs.declared.error.ExtensionError.{ExtensionError}
 use Rattle.certs_extension.specs.declared.error.ExtensionError.TheVariants.{Memory}
-use Rattle.certs_specs.specs.Access.{IsSubjectAccess}
-use Rattle.certs_specs.specs.CertText.{IsKnownOrSkipped, known}
-use Rattle.certs_specs.specs.Extensions.{Extension, IsAuthorityAccess, IsAuthorityKeyIdentifier, IsBasicConstraints, IsCrlDistribution, IsExtendedKeyUsage, IsKeyUsage, IsPolicies, IsSubjectKeyIdentifier, Must, MustNot}
+use Rattle.certs_extension.specs.certs_specs.Access.{IsSubjectAccess}
+use Rattle.certs_extension.specs.certs_specs.CertText.{IsKnownOrSkipped, known}
+use Rattle.certs_extension.specs.certs_specs.Extensions.{Extension, IsAuthorityAccess, IsAuthorityKeyIdentifier, IsBasicConstraints, IsCrlDistribution, IsExtendedKeyUsage, IsKeyUsage, IsPolicies, IsSubjectKeyIdentifier, Must, MustNot}
 use Rattle.certs_claims.specs.declared.kinds.Kind.{Kind}
 use Rattle.certs_claims.specs.declared.kinds.Kind.TheVariants.{BasicConstraints, SubjectKeyIdentifier, AuthorityKeyIdentifier, KeyUsage, ExtendedKeyUsage, CrlDistributionPoints, AuthorityInfoAccess, SubjectInfoAccess, CertificatePolicies, IpResources, AsResources, IpResourcesV2, AsResourcesV2, Unknown}
 use Rattle.certs_claims.specs.declared.slots.Slots.{Slots}

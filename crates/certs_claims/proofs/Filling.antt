@@ -18,7 +18,7 @@ use Rattle.certs_claims.proofs.of_bcder_content.Fronts.{front_lacks, front_reads
 use Rattle.certs_extension.specs.Putting.{CannotPut, PutsOnce}
 use Rattle.certs_extension.specs.declared.error.ExtensionError.{ExtensionError}
 use Rattle.certs_extension.specs.declared.error.ExtensionError.TheVariants.{Duplicate, Criticality, UnknownCritical, BadValue, Memory}
-use Rattle.certs_specs.specs.Extensions.{Extension, Need}
+use Rattle.certs_extension.specs.certs_specs.Extensions.{Extension, Need}
 use Rattle.certs_claims.specs.Putting.{CannotFill, Fills, Under}
 
 pub weaker_ok : {T E P Q : Type 0} (r : Result T E) → (P → Q) → OnOk r P → OnOk r Q

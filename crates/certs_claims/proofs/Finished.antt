@@ -1,7 +1,7 @@
 -- Where a test behind the list fails nothing is claimed.
 use Rattle.std.proofs.Common.{◌≡◌, inl, inr, Option, Some, None, Result, Ok, Err, OnErr, sym, ◌∙◌}
 use Rattle.certs_claims.specs.resources_chain.declared.claims.Overclaim.{Overclaim}
-use Rattle.certs_specs.proofs.Values.{same_some}
+use Rattle.certs_extension.proofs.of_certs_specs.Values.{same_some}
 use Rattle.certs_claims.specs.declared.finish.Claims.{Claims}
 use Rattle.certs_claims.specs.declared.finish.ListError.{ListError}
 use Rattle.certs_claims.specs.declared.finish.ListError.TheVariants.{MissingResources, MissingPolicy, WrongIpResources, WrongAsResources, MissingSubjectKeyIdentifier, MissingKeyUsage}

@@ -8,7 +8,7 @@ use Rattle.certs_claims.specs.bcder_content.Grammar.{Tagged}
 use Rattle.certs_claims.proofs.of_bcder_content.Unique.{as_tagged, inside_tagged}
 use Rattle.certs_extension.specs.declared.error.ExtensionError.{ExtensionError}
 use Rattle.certs_extension.specs.declared.error.ExtensionError.TheVariants.{Duplicate, Criticality, UnknownCritical, BadValue, Memory}
-use Rattle.certs_specs.specs.Extensions.{IsExtension}
+use Rattle.certs_extension.specs.certs_specs.Extensions.{IsExtension}
 use Rattle.certs_claims.specs.Refusals.{IsContentError, Told}
 
 pub extension_tagged : {m : Mode} → Tagged (universal 16) (IsExtension m)

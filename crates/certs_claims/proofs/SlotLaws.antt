@@ -8,8 +8,8 @@ use Rattle.certs_claims.specs.resources_chain.declared.claims.Overclaim.{Overcla
 use Rattle.certs_claims.specs.resources_chain.declared.claims.Overclaim.TheVariants.{Refuse, Trim}
 use Rattle.certs_extension.specs.declared.error.ExtensionError.{ExtensionError}
 use Rattle.certs_extension.specs.declared.error.ExtensionError.TheVariants.{Duplicate, Criticality, UnknownCritical, BadValue, Memory}
-use Rattle.certs_specs.specs.CertText.{known, other}
-use Rattle.certs_specs.specs.Extensions.{Extension, IsOptional, May, Need, of_kind}
+use Rattle.certs_extension.specs.certs_specs.CertText.{known, other}
+use Rattle.certs_extension.specs.certs_specs.Extensions.{Extension, IsOptional, May, Need, of_kind}
 use Rattle.certs_claims.specs.Kinds.{IsNamed}
 use Rattle.certs_claims.specs.Putting.{CannotFill, Fills, Sets, SetsUnder, Under, is_of}
 use Rattle.certs_claims.specs.Slots.{IsVersioned}

@@ -3,8 +3,8 @@ use Rattle.std.specs.Prelude.{◌≡◌, ◌≢◌, ◌⊎◌, Option, Some, Non
 use Rattle.certs_claims.specs.resources_chain.declared.choice.ResourcesChoice.TheVariants.{Missing}
 use Rattle.certs_claims.specs.resources_chain.declared.claims.Overclaim.{Overclaim}
 use Rattle.certs_claims.specs.resources_ip.declared.resources.IpFamilies.{IpFamilies}
-use Rattle.certs_specs.specs.Access.{AccessValue, no_access}
-use Rattle.certs_specs.specs.Cert.{TbsValue}
+use Rattle.certs_extension.specs.certs_specs.Access.{AccessValue, no_access}
+use Rattle.certs_extension.specs.certs_specs.Cert.{TbsValue}
 use Rattle.certs_claims.specs.declared.finish.Claims.{Claims}
 use Rattle.certs_claims.specs.declared.finish.ListError.{ListError}
 use Rattle.certs_claims.specs.declared.finish.ListError.TheVariants.{MissingResources, MissingPolicy, WrongIpResources, WrongAsResources, MissingSubjectKeyIdentifier, MissingKeyUsage}

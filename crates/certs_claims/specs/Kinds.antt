@@ -4,7 +4,7 @@ use Rattle.certs_claims.specs.certs_basics.Identifiers as id
 use Rattle.certs_claims.specs.certs_basics.Lists.{Mem}
 use Rattle.certs_claims.specs.resources_chain.declared.claims.Overclaim.TheVariants.{Refuse, Trim}
 use Rattle.certs_claims.specs.resources_policy.Identifiers.{as_octets, ip_octets}
-use Rattle.certs_specs.specs.CertText.{known}
+use Rattle.certs_extension.specs.certs_specs.CertText.{known}
 use Rattle.certs_claims.specs.declared.kinds.Kind.{Kind}
 use Rattle.certs_claims.specs.declared.kinds.Kind.TheVariants.{BasicConstraints, SubjectKeyIdentifier, AuthorityKeyIdentifier, KeyUsage, ExtendedKeyUsage, CrlDistributionPoints, AuthorityInfoAccess, SubjectInfoAccess, CertificatePolicies, IpResources, AsResources, IpResourcesV2, AsResourcesV2, Unknown}
 

@@ -11,8 +11,8 @@ use Rattle.certs_claims.specs.resources_policy.Identifiers.{as_octets, ip_octets
 use Rattle.certs_extension.specs.Putting.{IsRead}
 use Rattle.certs_extension.specs.declared.error.ExtensionError.{ExtensionError}
 use Rattle.certs_extension.specs.declared.error.ExtensionError.TheVariants.{Duplicate, Criticality, UnknownCritical, BadValue, Memory}
-use Rattle.certs_specs.specs.Access.{IsSubjectAccess}
-use Rattle.certs_specs.specs.Extensions.{Extension, IsAuthorityAccess, IsAuthorityKeyIdentifier, IsBasicConstraints, IsCrlDistribution, IsExtendedKeyUsage, IsKeyUsage, IsPolicies, IsSubjectKeyIdentifier, May, Meets, Must, MustNot, Need}
+use Rattle.certs_extension.specs.certs_specs.Access.{IsSubjectAccess}
+use Rattle.certs_extension.specs.certs_specs.Extensions.{Extension, IsAuthorityAccess, IsAuthorityKeyIdentifier, IsBasicConstraints, IsCrlDistribution, IsExtendedKeyUsage, IsKeyUsage, IsPolicies, IsSubjectKeyIdentifier, May, Meets, Must, MustNot, Need}
 use Rattle.certs_claims.specs.declared.kinds.Kind.{Kind}
 use Rattle.certs_claims.specs.declared.kinds.Kind.TheVariants as kinds
 use Rattle.certs_claims.specs.declared.slots.Slots.{Slots}

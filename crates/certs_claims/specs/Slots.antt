@@ -12,9 +12,9 @@ use Rattle.certs_claims.specs.resources_ip.Encodings.{IsIpAddrBlocks}
 use Rattle.certs_claims.specs.resources_ip.Reading.{family_choices}
 use Rattle.certs_claims.specs.resources_ip.declared.resources.IpFamilies.{IpFamilies}
 use Rattle.certs_claims.specs.resources_policy.Identifiers.{as_octets, ip_octets}
-use Rattle.certs_specs.specs.Access.{IsSubjectAccess}
-use Rattle.certs_specs.specs.CertText.{IsKnownOrSkipped, other}
-use Rattle.certs_specs.specs.Extensions.{Extension, IsAuthorityAccess, IsAuthorityKeyIdentifier, IsBasicConstraints, IsCrlDistribution, IsExtendedKeyUsage, IsKeyUsage, IsOptional, IsPolicies, IsSubjectKeyIdentifier, May, Must, MustNot, of_kind}
+use Rattle.certs_extension.specs.certs_specs.Access.{IsSubjectAccess}
+use Rattle.certs_extension.specs.certs_specs.CertText.{IsKnownOrSkipped, other}
+use Rattle.certs_extension.specs.certs_specs.Extensions.{Extension, IsAuthorityAccess, IsAuthorityKeyIdentifier, IsBasicConstraints, IsCrlDistribution, IsExtendedKeyUsage, IsKeyUsage, IsOptional, IsPolicies, IsSubjectKeyIdentifier, May, Must, MustNot, of_kind}
 use Rattle.certs_claims.specs.declared.slots.Slots.{Slots}
 
 -- IPAddrBlocks, of both families (RFC 3779 2.2.3.1).

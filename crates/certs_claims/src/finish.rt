@@ -6,14 +6,11 @@ ghost use Rattle.certs_claims.specs.Finishing.{Finishes, HasClaims, HasSome, IsL
 ghost use Rattle.certs_claims.specs.declared.finish.Claims.{Claims as ClaimsValue};
 
 use crate::slots::Slots;
-use certs_access::SubjectAccess;
-use certs_extension::ExtendedKeyUsage;
-use certs_key::KeyIdentifier;
-use certs_specs::KeyUsage;
+use certs_extension::{
+    AsResources, ExtendedKeyUsage, IpFamilies, IpResources, KeyIdentifier, KeyUsage, Overclaim,
+    SubjectAccess,
+};
 use certs_uri::Rsync;
-use resources::asres::AsResources;
-use resources::ipres::{IpFamilies, IpResources};
-use resources::overclaim::Overclaim;
 use thiserror::Error;
 
 /// Why a list of extensions is refused as a whole: the first test in this order that fails.

@@ -1,9 +1,9 @@
 //! Laws of the list of extensions: each is the contract of a function that does nothing.
 
 ghost use Rattle.std.specs.Prelude.{◌≡◌, ◌↔◌, List};
-ghost use Rattle.certs_specs.specs.Cert.{TbsValue};
-ghost use Rattle.certs_specs.specs.CertText.{HasExtensions};
-ghost use Rattle.certs_specs.specs.Extensions.{Extension};
+ghost use Rattle.certs_extension.specs.certs_specs.Cert.{TbsValue};
+ghost use Rattle.certs_extension.specs.certs_specs.CertText.{HasExtensions};
+ghost use Rattle.certs_extension.specs.certs_specs.Extensions.{Extension};
 ghost use Rattle.certs_claims.specs.Finishing.{Finishes, claims_of};
 ghost use Rattle.certs_claims.specs.Slots.{AreSlots};
 ghost use Rattle.certs_claims.specs.declared.slots.Slots.{Slots};

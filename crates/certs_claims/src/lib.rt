@@ -9,6 +9,11 @@ pub mod list;
 pub mod slots;
 mod values;
 
+pub use certs_extension::{
+    AsBlock, AsBlocks, AsBlocksBuilder, AsResources, AsResourcesBuilder, Block, Digester,
+    ExtendedKeyUsage, InspectionError, IpBlock, IpBlocks, IpBlocksBuilder, IpResources,
+    IpResourcesBuilder, KeyIdentifier, KeyUsage, Overclaim, PublicKeyFormat, Role, cert_is_spelled,
+};
 pub use finish::{Claims, ListError};
 pub use list::take_extensions;
 pub use slots::Slots;

@@ -7,7 +7,7 @@ ghost use Rattle.certs_claims.specs.bcder_content.Grammar.{Inside};
 ghost use Rattle.certs_claims.specs.bcder_content.Here.{here};
 ghost use Rattle.certs_claims.specs.bcder_content.InMode.{ReadsFields};
 ghost use Rattle.certs_claims.specs.bcder_content.Words.{Gathers};
-ghost use Rattle.certs_specs.specs.Extensions.{IsExtension};
+ghost use Rattle.certs_extension.specs.certs_specs.Extensions.{IsExtension};
 ghost use Rattle.certs_claims.specs.Refusals.{Told};
 ghost use Rattle.certs_claims.specs.Slots.{AreSlots};
 

@@ -12,14 +12,11 @@ use crate::values::{
     put_crl_distribution, put_extended_key_usage, put_ip, put_key_usage, put_policies,
     put_subject_access, put_subject_key_identifier,
 };
-use certs_access::SubjectAccess;
-use certs_extension::{ExtendedKeyUsage, Extension, ExtensionError, skip_unknown};
-use certs_key::KeyIdentifier;
-use certs_specs::KeyUsage;
+use certs_extension::{
+    AsResources, ExtendedKeyUsage, Extension, ExtensionError, IpFamilies, KeyIdentifier, KeyUsage,
+    Overclaim, SubjectAccess, skip_unknown,
+};
 use certs_uri::Rsync;
-use resources::asres::AsResources;
-use resources::ipres::IpFamilies;
-use resources::overclaim::Overclaim;
 use std::alloc::Global;
 
 /// The values of the extensions that were there.

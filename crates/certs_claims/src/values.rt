@@ -8,28 +8,22 @@ ghost use Rattle.certs_claims.specs.bcder_content.Exact.{ReadsAs};
 ghost use Rattle.certs_claims.specs.bcder_content.Here.{here};
 ghost use Rattle.certs_claims.specs.certs_basics.Basics.{IsKeyIdentifier};
 ghost use Rattle.certs_claims.specs.resources_as.Encodings.{IsAsResources};
-ghost use Rattle.certs_access.specs.Access as names;
-ghost use Rattle.certs_access.specs.Grammars.{IsAuthority as AccessIssuer, IsDistribution};
+ghost use Rattle.certs_extension.specs.certs_access.Access as names;
+ghost use Rattle.certs_extension.specs.certs_access.Grammars.{IsAuthority as AccessIssuer, IsDistribution};
 ghost use Rattle.certs_extension.specs.Raw.{extension_value};
-ghost use Rattle.certs_specs.specs.Access.{IsSubjectAccess};
-ghost use Rattle.certs_specs.specs.Extensions.{AreConstraints, IsAuthority, IsAuthorityAccess, IsAuthorityKeyIdentifier, IsBasicConstraints, IsCrlDistribution, IsExtendedKeyUsage, IsKeyUsage, IsPolicies, IsSubjectKeyIdentifier, IsUsage, May, Must, MustNot};
+ghost use Rattle.certs_extension.specs.certs_specs.Access.{IsSubjectAccess};
+ghost use Rattle.certs_extension.specs.certs_specs.Extensions.{AreConstraints, IsAuthority, IsAuthorityAccess, IsAuthorityKeyIdentifier, IsBasicConstraints, IsCrlDistribution, IsExtendedKeyUsage, IsKeyUsage, IsPolicies, IsSubjectKeyIdentifier, IsUsage, May, Must, MustNot};
 ghost use Rattle.certs_claims.specs.Putting.{CannotFill, Fills, Under};
 ghost use Rattle.certs_claims.specs.Slots.{AreFamilies};
 
 use bcder::decode::{Constructed, DecodeError, Source};
-use certs_access::{
-    SubjectAccess, take_authority_access, take_crl_distribution, take_subject_access,
-};
 use certs_extension::{
-    ExtendedKeyUsage, Extension, ExtensionError, Need, put_once, take_authority_key_identifier,
-    take_basic_constraints, take_key_usage, take_policies,
+    AsResources, ExtendedKeyUsage, Extension, ExtensionError, IpFamilies, IpResources,
+    KeyIdentifier, KeyUsage, Need, Overclaim, SubjectAccess, put_once, take_authority_access,
+    take_authority_key_identifier, take_basic_constraints, take_crl_distribution, take_key_usage,
+    take_policies, take_subject_access,
 };
-use certs_key::KeyIdentifier;
-use certs_specs::KeyUsage;
 use certs_uri::Rsync;
-use resources::asres::AsResources;
-use resources::ipres::{IpFamilies, IpResources};
-use resources::overclaim::Overclaim;
 use std::alloc::Global;
 
 // Puts the basic constraints.

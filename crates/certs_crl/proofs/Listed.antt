@@ -14,10 +14,10 @@ use Rattle.certs_crl.proofs.of_bcder_content.Took.{one_took}
 use Rattle.certs_crl.proofs.of_bcder_content.Unique.{end_one, inside_one, inside_tagged, many_one, opt_one, same_trees, same_values, then_one}
 use Rattle.certs_crl.specs.certs_basics.Basics.{IsAlgorithm}
 use Rattle.certs_basics.proofs.Values.{algorithm_one}
-use Rattle.certs_specs.proofs.Values.{extension_one}
+use Rattle.certs_revoked.proofs.of_certs_specs.Values.{extension_one}
 use Rattle.certs_revoked.specs.Listing.{entry_one}
-use Rattle.certs_specs.specs.CrlText.{AreRevoked, HasListExtensions, IsTbsList, IsTbsListBody, ListFields, RevokedValue, TbsListValue}
-use Rattle.certs_specs.specs.Extensions.{Extension, IsExtension}
+use Rattle.certs_revoked.specs.certs_specs.CrlText.{AreRevoked, HasListExtensions, IsTbsList, IsTbsListBody, ListFields, RevokedValue, TbsListValue}
+use Rattle.certs_revoked.specs.certs_specs.Extensions.{Extension, IsExtension}
 use Rattle.certs_crl.specs.Reading.{Finishes, IsPair, IsPaired, IsRead, IsReadBody, IsTail, Pair, ReadFields, SaysBoth, SaysRead, TailFields, list_of, pair_of}
 
 -- The first value stays, and other values stand behind it.

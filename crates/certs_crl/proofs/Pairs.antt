@@ -13,7 +13,7 @@ use Rattle.certs_crl.specs.bcder_tree.declared.mode.Mode.{Mode}
 use Rattle.certs_crl.specs.bcder_tree.declared.mode.Mode.TheVariants.{Der}
 use Rattle.certs_crl.specs.bcder_tree.Front.{Front}
 use Rattle.certs_crl.specs.certs_basics.Basics.{IsSerial}
-use Rattle.certs_specs.specs.Extensions.{Extension, IsAuthority, IsAuthorityKeyIdentifier, IsExtension, IsOptional, May}
+use Rattle.certs_revoked.specs.certs_specs.Extensions.{Extension, IsAuthority, IsAuthorityKeyIdentifier, IsExtension, IsOptional, May}
 use Rattle.certs_crl.specs.Reading.{AreFronts, ReadsBoth, ReadsFronts, SaysBoth}
 use Rattle.certs_crl.proofs.of_bcder_content.Fronts.{front_lacks, front_reads}
 use Rattle.certs_crl.proofs.of_bcder_content.Taking.{weaker}

@@ -8,9 +8,9 @@ use Rattle.certs_crl.specs.bcder_source.declared.error.DecodeError.{DecodeError}
 use Rattle.certs_crl.specs.bcder_content.Exact.{DecodesAs}
 use Rattle.certs_crl.specs.bcder_content.Texts.{InOrder, Joins, NoOctets, Wraps}
 use Rattle.certs_crl.proofs.of_bcder_content.Taking.{weaker}
-use Rattle.certs_specs.specs.Calls.{DecodesCrl}
-use Rattle.certs_specs.specs.CrlText.{CrlValue, IsCrl, ListFields, SpellsCrl, SpellsListFields}
-use Rattle.certs_specs.specs.Spellings.{CrlIsSpelled}
+use Rattle.certs_revoked.specs.certs_specs.Calls.{DecodesCrl}
+use Rattle.certs_revoked.specs.certs_specs.CrlText.{CrlValue, IsCrl, ListFields, SpellsCrl, SpellsListFields}
+use Rattle.certs_revoked.specs.certs_specs.Spellings.{CrlIsSpelled}
 
 -- The octets spell a tree; they spell trees, one behind the other.
 record HasTree (text : List ℕ) : Type 0 where

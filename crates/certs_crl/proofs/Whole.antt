@@ -12,7 +12,7 @@ use Rattle.certs_crl.proofs.of_bcder_content.Unique.{same_trees, same_values}
 use Rattle.certs_basics.proofs.Values.{algorithm_one}
 use Rattle.certs_signed.proofs.Wholes.{IsWhole, whole_fields, whole_gives, whole_lacks, whole_refused}
 use Rattle.certs_signed.specs.Signed.{SignedDataValue, signed, signed_fields}
-use Rattle.certs_specs.specs.CrlText.{CrlValue, IsCrl, IsTbsList, TbsListValue, as_crl}
+use Rattle.certs_revoked.specs.certs_specs.CrlText.{CrlValue, IsCrl, IsTbsList, TbsListValue, as_crl}
 use Rattle.certs_crl.specs.Whole.{signed_of}
 use Rattle.certs_crl.proofs.Listed.{same_null}
 

@@ -4,7 +4,7 @@ pub mod Store
 pub mod Whole
 -- What stands below, for the crates above.
 pub use Rattle.certs_signed.specs.bcder_source as bcder_source
-pub use Rattle.certs_specs.specs.bcder_content as bcder_content
-pub use Rattle.certs_specs.specs.bcder_tree as bcder_tree
-pub use Rattle.certs_specs.specs.certs_basics as certs_basics
-pub use Rattle.certs_specs.specs.certs_time as certs_time
+pub use Rattle.certs_revoked.specs.bcder_content as bcder_content
+pub use Rattle.certs_revoked.specs.bcder_tree as bcder_tree
+pub use Rattle.certs_revoked.specs.certs_basics as certs_basics
+pub use Rattle.certs_revoked.specs.certs_time as certs_time

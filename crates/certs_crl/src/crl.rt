@@ -3,13 +3,12 @@
 ghost use Rattle.std.specs.Prelude.{◌≡◌, ◌↔◌, ◌≤◌, ◌+◌, ◌-◌, ◌^◌, min, true, IsOk, IsTrue};
 ghost use Rattle.certs_crl.specs.Caches.{IsPositioned};
 ghost use Rattle.certs_crl.specs.Whole.{signed_of};
-ghost use Rattle.certs_specs.specs.CrlText.{IsOn};
+ghost use Rattle.certs_revoked.specs.certs_specs.CrlText.{IsOn};
 
 use crate::tbs::TbsCertList;
-use certs_key::{PublicKey, Verifier};
 use certs_name::Serial;
 use certs_revoked::SerialCache;
-use certs_signed::{SignatureVerificationError, SignedData, SignedDataValues};
+use certs_signed::{PublicKey, SignatureVerificationError, SignedData, SignedDataValues, Verifier};
 use std::alloc::{AllocError, Global};
 use std::marker::Model;
 
@@ -23,7 +22,7 @@ pub struct Crl {
 }
 
 impl Model for Crl {
-    ghost use Rattle.certs_specs.specs.CrlText.{CrlValue};
+    ghost use Rattle.certs_revoked.specs.certs_specs.CrlText.{CrlValue};
     ghost use Rattle.certs_crl.specs.Caches.{IsCached};
     ghost use Rattle.certs_crl.specs.Whole.{signed_of};
 

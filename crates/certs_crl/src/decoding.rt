@@ -5,15 +5,15 @@ ghost use Rattle.certs_crl.specs.bcder_tree.declared.mode.Mode.TheVariants.{Der}
 ghost use Rattle.certs_crl.specs.bcder_content.Captures.{rest_of};
 ghost use Rattle.certs_crl.specs.bcder_content.Exact.{DecodesAs, ReadsAs};
 ghost use Rattle.certs_crl.specs.bcder_content.Here.{here};
-ghost use Rattle.certs_specs.specs.Calls.{DecodesCrl};
-ghost use Rattle.certs_specs.specs.CrlText.{IsCrl, IsTbsList};
+ghost use Rattle.certs_revoked.specs.certs_specs.Calls.{DecodesCrl};
+ghost use Rattle.certs_revoked.specs.certs_specs.CrlText.{IsCrl, IsTbsList};
 
 use crate::crl::Crl;
 use crate::tbs::TbsCertList;
 use bcder::Mode;
 use bcder::decode::{Constructed, ContentError, Decode, DecodeError, IntoSource, Source};
+use certs_revoked::crl_is_spelled;
 use certs_signed::SignedData;
-use certs_specs::laws::crl_is_spelled;
 use std::alloc::Global;
 use std::convert::Infallible;
 

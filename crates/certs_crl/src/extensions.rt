@@ -12,13 +12,13 @@ ghost use Rattle.certs_crl.specs.certs_basics.Basics.{IsSerial};
 ghost use Rattle.certs_crl.specs.certs_basics.Identifiers as id;
 ghost use Rattle.certs_crl.specs.Reading.{IsPair, IsPaired, ReadsBoth, ReadsFronts, alone, pair_fields};
 ghost use Rattle.certs_extension.specs.Raw.{extension_value};
-ghost use Rattle.certs_specs.specs.Extensions.{IsAuthority, IsExtension};
+ghost use Rattle.certs_revoked.specs.certs_specs.Extensions.{IsAuthority, IsExtension};
 
 use bcder::decode::{Constructed, ContentError, Decode, DecodeError, Pos, Source};
 use bcder::{ConstOid, Mode, Oid, Tag};
 use certs_extension::{Extension, take_authority_key_identifier};
-use certs_key::KeyIdentifier;
 use certs_name::Serial;
+use certs_signed::KeyIdentifier;
 use std::alloc::Global;
 use std::convert::Infallible;
 

@@ -5,7 +5,7 @@ ghost use Rattle.certs_crl.specs.bcder_content.Exact.{ReadsAs};
 ghost use Rattle.certs_crl.specs.bcder_content.Here.{here};
 ghost use Rattle.certs_crl.specs.bcder_content.InMode.{ReadsFields};
 ghost use Rattle.certs_crl.specs.Reading.{Finishes, IsRead, IsReadBody, IsTail, read_fields, tail_fields};
-ghost use Rattle.certs_specs.specs.CrlText.{IsTbsList, entries};
+ghost use Rattle.certs_revoked.specs.certs_specs.CrlText.{IsTbsList, entries};
 
 use crate::extensions::{Pair, said_by, take_extensions};
 use crate::tbs::TbsCertList;

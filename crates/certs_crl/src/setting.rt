@@ -4,9 +4,9 @@ ghost use Rattle.std.specs.Prelude.{◌≡◌};
 
 use crate::tbs::TbsCertList;
 use certs_algorithm::RpkiSignatureAlgorithm;
-use certs_key::KeyIdentifier;
 use certs_name::{Name, Serial};
 use certs_revoked::RevokedCertificates;
+use certs_signed::KeyIdentifier;
 use certs_time::Time;
 
 impl TbsCertList {

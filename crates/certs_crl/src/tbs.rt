@@ -3,9 +3,9 @@
 ghost use Rattle.std.specs.Prelude.{◌≡◌, ◌<◌, ◌↔◌, IsTrue};
 
 use certs_algorithm::RpkiSignatureAlgorithm;
-use certs_key::KeyIdentifier;
 use certs_name::{Name, Serial};
 use certs_revoked::RevokedCertificates;
+use certs_signed::KeyIdentifier;
 use certs_time::Time;
 use std::marker::Model;
 
@@ -23,7 +23,7 @@ pub struct TbsCertList {
 }
 
 impl Model for TbsCertList {
-    ghost use Rattle.certs_specs.specs.CrlText.{TbsListValue};
+    ghost use Rattle.certs_revoked.specs.certs_specs.CrlText.{TbsListValue};
 
     ghost Value = { TbsListValue };
 

@@ -3,3 +3,7 @@ pub mod of_bcder_content
 pub mod of_bcder_oid
 pub mod of_bcder_values
 pub mod Oids
+pub mod of_certs_specs
+pub mod of_resources_as
+pub mod of_resources_ip
+pub mod of_certs_key

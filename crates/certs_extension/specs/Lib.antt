@@ -15,3 +15,9 @@ pub use Rattle.certs_specs.specs.bcder_source as bcder_source
 pub use Rattle.certs_specs.specs.bcder_tree as bcder_tree
 pub use Rattle.certs_specs.specs.certs_basics as certs_basics
 pub use Rattle.certs_specs.specs.resources_chain as resources_chain
+pub use Rattle.certs_specs.specs as certs_specs
+pub use Rattle.certs_specs.specs.resources_as as resources_as
+pub use Rattle.certs_specs.specs.resources_ip as resources_ip
+pub use Rattle.certs_specs.specs.resources_policy as resources_policy
+pub use Rattle.certs_specs.specs.certs_time as certs_time
+pub use Rattle.certs_specs.specs.certs_access as certs_access

@@ -9,7 +9,7 @@ ghost use Rattle.certs_extension.specs.Values.{ArePoliciesBody, IsPolicy, IsPoli
 
 use bcder::Oid;
 use bcder::decode::{Constructed, ContentError, DecodeError, Source};
-use resources::overclaim::{Overclaim, OverclaimIds};
+use certs_specs::{Overclaim, OverclaimIds};
 use std::alloc::Global;
 
 // The identifier of a policy, and anything behind it.

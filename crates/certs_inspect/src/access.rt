@@ -2,8 +2,8 @@
 
 ghost use Rattle.std.specs.Prelude.{◌≡◌, ◌≢◌, ◌↔◌, IsTrue, None};
 ghost use Rattle.certs_uri.specs.Paths.{LiesIn};
-ghost use Rattle.certs_specs.specs.Cert.{no_access};
-ghost use Rattle.certs_specs.specs.Profiles.{LiesThere};
+ghost use Rattle.certs_cert.specs.certs_specs.Cert.{no_access};
+ghost use Rattle.certs_cert.specs.certs_specs.Profiles.{LiesThere};
 
 use certs_cert::Cert;
 use certs_uri::paths;

@@ -4,11 +4,9 @@ ghost use Rattle.std.specs.Prelude.{◌≡◌, ◌↔◌, IsTrue};
 ghost use Rattle.certs_inspect.specs.certs_basics.Keys.{identifier};
 ghost use Rattle.certs_inspect.specs.certs_basics.Names.{IsRpkiName};
 ghost use Rattle.certs_inspect.specs.certs_key.Digesting.{digests_of};
-ghost use Rattle.certs_specs.specs.Profiles.{format_for, strict_for};
+ghost use Rattle.certs_cert.specs.certs_specs.Profiles.{format_for, strict_for};
 
-use certs_cert::Cert;
-use certs_key::Digester;
-use certs_specs::{PublicKeyFormat, Role};
+use certs_cert::{Cert, Digester, PublicKeyFormat, Role};
 
 /// Whether the inner and the outer algorithm are equal (RFC 5280 4.1.1.2).
 pub(crate) fn has_one_algorithm(cert: &Cert) -> bool

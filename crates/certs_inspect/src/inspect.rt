@@ -3,15 +3,13 @@
 ghost use Rattle.std.specs.Prelude.{◌≡◌, ◌↔◌, Err, IsOk};
 ghost use Rattle.certs_inspect.specs.certs_key.Digesting.{digests_of};
 ghost use Rattle.certs_inspect.specs.Answers.{Answers};
-ghost use Rattle.certs_specs.specs.Cert.{CertValue};
-ghost use Rattle.certs_specs.specs.Profiles.{FailsFirst, Passes, Profile};
-ghost use Rattle.certs_specs.specs.declared.InspectionError.{InspectionError as Test};
-ghost use Rattle.certs_specs.specs.declared.Role.TheVariants.{Ca, DetachedEe, Ee, Router, Ta};
+ghost use Rattle.certs_cert.specs.certs_specs.Cert.{CertValue};
+ghost use Rattle.certs_cert.specs.certs_specs.Profiles.{FailsFirst, Passes, Profile};
+ghost use Rattle.certs_cert.specs.certs_specs.declared.InspectionError.{InspectionError as Test};
+ghost use Rattle.certs_cert.specs.certs_specs.declared.Role.TheVariants.{Ca, DetachedEe, Ee, Router, Ta};
 
 use crate::tests::{passes, tests};
-use certs_cert::Cert;
-use certs_key::Digester;
-use certs_specs::{InspectionError, Role};
+use certs_cert::{Cert, Digester, InspectionError, Role};
 
 // The first of the tests that isn't passed.
 fn run_tests<D: Digester>(

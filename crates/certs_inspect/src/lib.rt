@@ -17,5 +17,5 @@ pub mod inspect;
 mod tests;
 mod usages;
 
-pub use certs_specs::InspectionError;
+pub use certs_cert::{Cert, InspectionError};
 pub use inspect::Inspect;

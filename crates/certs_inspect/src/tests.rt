@@ -2,12 +2,10 @@
 
 ghost use Rattle.std.specs.Prelude.{◌≡◌, ◌↔◌, IsTrue};
 ghost use Rattle.certs_inspect.specs.certs_key.Digesting.{digests_of};
-ghost use Rattle.certs_specs.specs.Profiles.{Passes, tests as tests_of};
+ghost use Rattle.certs_cert.specs.certs_specs.Profiles.{Passes, tests as tests_of};
 
 use crate::{access, claims, identity, usages};
-use certs_cert::Cert;
-use certs_key::Digester;
-use certs_specs::{InspectionError, Role};
+use certs_cert::{Cert, Digester, InspectionError, Role};
 
 // The tests of a trust anchor.
 const OF_ANCHOR: &[InspectionError] = &[

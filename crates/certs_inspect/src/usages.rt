@@ -3,10 +3,9 @@
 ghost use Rattle.std.specs.Prelude.{◌≡◌, ◌≢◌, ◌↔◌, IsTrue, None};
 ghost use Rattle.certs_inspect.specs.certs_basics.Identifiers.{bgpsec_router};
 ghost use Rattle.certs_inspect.specs.certs_basics.Lists.{Mem};
-ghost use Rattle.certs_specs.specs.Profiles.{purposes, usage_for};
+ghost use Rattle.certs_cert.specs.certs_specs.Profiles.{purposes, usage_for};
 
-use certs_cert::Cert;
-use certs_specs::{KeyUsage, Role};
+use certs_cert::{Cert, KeyUsage, Role};
 
 /// Whether there are basic constraints.
 pub(crate) fn has_constraints(cert: &Cert) -> bool

@@ -10,7 +10,7 @@ use crate::format::{EC_PUBLIC_KEY, RSA_ENCRYPTION, SECP256R1};
 use bcder::encode::{Constructed, EncodeError, Octets, Primitive, PrimitiveContent, Values};
 use bcder::{BitString, Mode, Tag};
 use bytes::Bytes;
-use certs_basics::PublicKeyFormat;
+use certs_algorithm::PublicKeyFormat;
 use std::alloc::{AllocError, Global};
 
 // A primitive value of a constant.

@@ -8,7 +8,7 @@ ghost use Rattle.certs_key.specs.certs_basics.Keys.{IsFormat, IsFormatBody};
 
 use bcder::decode::{Constructed, ContentError, DecodeError, Source};
 use bcder::{ConstOid, Oid};
-use certs_basics::PublicKeyFormat;
+use certs_algorithm::PublicKeyFormat;
 use std::alloc::Global;
 
 // rsaEncryption, 1.2.840.113549.1.1.1 (RFC 7935 3).

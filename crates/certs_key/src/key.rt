@@ -21,7 +21,7 @@ use bcder::decode::{Constructed, ContentError, Decode, DecodeError, IntoSource, 
 use bcder::encode::{EncodeError, Values};
 use bcder::{BitString, Mode};
 use bytes::Bytes;
-use certs_basics::PublicKeyFormat;
+use certs_algorithm::PublicKeyFormat;
 use certs_name::Name;
 use std::alloc::{AllocError, Global};
 use std::io::Write;

@@ -16,7 +16,11 @@ pub mod laws;
 pub mod signer;
 pub mod verifier;
 
-pub use certs_basics::PublicKeyFormat;
+pub use certs_algorithm::{
+    AlgorithmIdentifier, PublicKeyFormat, RpkiSignature, RpkiSignatureAlgorithm, Signature,
+    SignatureAlgorithm,
+};
+pub use certs_name::{Name, Serial};
 pub use digest::Digester;
 pub use identifier::KeyIdentifier;
 pub use key::PublicKey;

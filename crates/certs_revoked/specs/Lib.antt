@@ -15,3 +15,4 @@ pub use Rattle.certs_name.specs.bcder_written as bcder_written
 pub use Rattle.certs_specs.specs.certs_basics as certs_basics
 pub use Rattle.certs_specs.specs.certs_time as certs_time
 pub use Rattle.certs_specs.specs.resources_chain as resources_chain
+pub use Rattle.certs_specs.specs as certs_specs

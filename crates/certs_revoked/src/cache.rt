@@ -8,7 +8,7 @@ ghost use Rattle.std.specs.Ordering.{nat_cmp};
 
 use crate::revoked::RevokedCertificates;
 use certs_name::Serial;
-use resources::chain::{Row, halve};
+use certs_specs::{Row, halve};
 use std::alloc::{AllocError, Global};
 use std::cmp::Ordering;
 use std::marker::Model;

@@ -12,6 +12,7 @@ pub mod revoked;
 mod search;
 
 pub use cache::SerialCache;
+pub use certs_specs::laws::crl_is_spelled;
 pub use entry::CrlEntry;
 pub use iter::RevokedCertificatesIter;
 pub use revoked::RevokedCertificates;

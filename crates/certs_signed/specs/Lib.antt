@@ -10,3 +10,4 @@ pub use Rattle.certs_key.specs.bcder_tree as bcder_tree
 pub use Rattle.certs_key.specs.bcder_values as bcder_values
 pub use Rattle.certs_key.specs.certs_algorithm as certs_algorithm
 pub use Rattle.certs_key.specs.certs_basics as certs_basics
+pub use Rattle.certs_key.specs as certs_key

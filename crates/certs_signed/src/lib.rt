@@ -12,6 +12,10 @@ pub mod signed;
 pub mod verify;
 pub mod written;
 
+pub use certs_key::{
+    Digester, KeyIdentifier, Name, PublicKey, RpkiSignatureAlgorithm, Serial, SignatureAlgorithm,
+    Verifier,
+};
 pub use signed::SignedData;
 pub use verify::SignatureVerificationError;
 pub use written::SignedDataValues;

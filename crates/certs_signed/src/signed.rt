@@ -16,7 +16,7 @@ ghost use Rattle.certs_signed.specs.Took.{TookOctets};
 
 use bcder::decode::{Constructed, ContentError, Decode, DecodeError, IntoSource, Source};
 use bcder::{BitString, Captured, Mode};
-use certs_algorithm::{RpkiSignature, RpkiSignatureAlgorithm, Signature, SignatureAlgorithm};
+use certs_key::{RpkiSignature, RpkiSignatureAlgorithm, Signature, SignatureAlgorithm};
 use std::alloc::{AllocError, Global};
 use std::marker::Model;
 

@@ -6,7 +6,7 @@ ghost use Rattle.certs_signed.specs.Signed.{lends, signed_lends};
 use crate::signed::SignedData;
 use bcder::encode::{self, EncodeError, PrimitiveContent, Values};
 use bcder::{BitString, Captured, Mode, Tag};
-use certs_algorithm::{AlgorithmIdentifier, SignatureAlgorithm};
+use certs_key::{AlgorithmIdentifier, SignatureAlgorithm};
 use std::io::Write;
 use std::marker::Model;
 

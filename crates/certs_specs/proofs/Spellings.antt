@@ -12,8 +12,8 @@ use Rattle.certs_specs.specs.bcder_content.Words.{Kept}
 use Rattle.certs_specs.specs.bcder_content.Texts.{SpellsOf, InOrder, WithOctets, Wraps, Joins, NoOctets}
 use Rattle.certs_specs.specs.bcder_bits.Bits.{BitsValue}
 use Rattle.certs_specs.specs.bcder_bits.Contents.{IsBitString, bit_string_tag}
-use Rattle.certs_basics.specs.Basics.{IsAlgorithm}
-use Rattle.certs_basics.specs.Names.{IsKeptName, SpellsName}
+use Rattle.certs_access.specs.certs_basics.Basics.{IsAlgorithm}
+use Rattle.certs_access.specs.certs_basics.Names.{IsKeptName, SpellsName}
 use Rattle.certs_specs.specs.CertText.{IsTbsBody, IsTbs, SpellsFields, SpellsTbs, SpellsSigned}
 use Rattle.certs_specs.specs.CrlText.{IsTbsListBody, IsTbsList, SpellsListFields, SpellsTbsList}
 use Rattle.certs_specs.specs.Spellings.{CertIsSpelled, CrlIsSpelled}

@@ -1,2 +1,2 @@
 -- Lemmas of certs_uri, for the crates above.
-pub use Rattle.certs_uri.proofs.UriTexts
+pub use Rattle.certs_access.proofs.of_certs_uri.UriTexts

@@ -1,9 +1,9 @@
 -- Tests in their order: what the first of them answer, and what those behind them answer.
 use Rattle.std.proofs.Common.{◌≡◌, List, [], ◌∷◌, ◌++◌, Option, Some, None, Result, Ok, Err, refl, sym, ap, ◌∙◌, subst}
 use Rattle.std.specs.Prelude.{IsErr, IsErrAnd}
-use Rattle.certs_errors.specs.declared.verification.VerificationError.{VerificationError}
-use Rattle.certs_specs.specs.declared.VerificationTest.{VerificationTest}
-use Rattle.certs_specs.specs.Calls.{Fault, inspected, verified, wants_memory}
+use Rattle.certs_x509.specs.certs_errors.declared.verification.VerificationError.{VerificationError}
+use Rattle.certs_inspect.specs.certs_specs.declared.VerificationTest.{VerificationTest}
+use Rattle.certs_inspect.specs.certs_specs.Calls.{Fault, inspected, verified, wants_memory}
 use Rattle.certs_verify.specs.certs_basics.Lists.{Each, FirstFailing}
 use Rattle.certs_verify.specs.Answers.{fault_of, Fails, Answers}
 

@@ -1,8 +1,8 @@
 //! Verification of trust anchors (RFC 8630 2.3).
 
 ghost use Rattle.std.specs.Prelude.{◌≡◌, ◌≢◌, IfErr, IfOk};
-ghost use Rattle.certs_errors.specs.declared.verification.VerificationError.TheVariants.{Memory};
-ghost use Rattle.certs_specs.specs.Verified.{HoldsOwn, PassesAt, anchor_tests, nothing};
+ghost use Rattle.certs_x509.specs.certs_errors.declared.verification.VerificationError.TheVariants.{Memory};
+ghost use Rattle.certs_inspect.specs.certs_specs.Verified.{HoldsOwn, PassesAt, anchor_tests, nothing};
 ghost use Rattle.certs_verify.specs.Answers.{Answers, AsksOnce};
 ghost use Rattle.certs_verify.specs.Holders.{holding};
 ghost use Rattle.certs_verify.specs.Words.{Meets, VerifiesAnchor};
@@ -10,11 +10,9 @@ ghost use Rattle.certs_verify.specs.Words.{Meets, VerifiesAnchor};
 use crate::holder::{Held, ResourceCert};
 use crate::refused::Refused;
 use crate::{claims, tests};
-use certs_cert::Cert;
-use certs_errors::VerificationError;
-use certs_key::Verifier;
+use certs_inspect::Cert;
 use certs_time::Time;
-use certs_x509::TalInfo;
+use certs_x509::{TalInfo, VerificationError, Verifier};
 use std::alloc::Global;
 use std::rc::Rc;
 

@@ -1,9 +1,9 @@
 //! What a certificate holds of each kind: below an issuer by the claim rule (RFC 6487 7.2, RFC 8360 4.2), or as an anchor.
 
 ghost use Rattle.std.specs.Prelude.{◌≡◌, ◌∷◌, [], ℕ, IfErr, IfOk};
-ghost use Rattle.certs_specs.specs.Cert.{CertValue};
-ghost use Rattle.certs_specs.specs.Verified.{HoldsBelow, HoldsOwn, PassesAt, held_by, nothing};
-ghost use Rattle.certs_specs.specs.declared.VerificationTest.TheVariants as test;
+ghost use Rattle.certs_inspect.specs.certs_specs.Cert.{CertValue};
+ghost use Rattle.certs_inspect.specs.certs_specs.Verified.{HoldsBelow, HoldsOwn, PassesAt, held_by, nothing};
+ghost use Rattle.certs_inspect.specs.certs_specs.declared.VerificationTest.TheVariants as test;
 ghost use Rattle.certs_verify.specs.certs_basics.Verdicts.{Verdicts};
 ghost use Rattle.certs_verify.specs.resources_chain.Claims.{Kept, Lists};
 ghost use Rattle.certs_verify.specs.resources_chain.Sets.{InRuns, IsRunsOf};
@@ -12,8 +12,8 @@ ghost use Rattle.certs_verify.specs.Holders.{holding};
 ghost use Rattle.certs_verify.specs.Words.{TellsOutside};
 
 use crate::holder::{Held, ResourceCert};
-use certs_cert::Cert;
-use certs_errors::{ClaimedKind, Overclaimed, VerificationError};
+use certs_inspect::Cert;
+use certs_x509::{ClaimedKind, Overclaimed, VerificationError};
 use resources::{AsBlocks, ClaimError, InheritedAsResources, InheritedIpResources, IpBlocks};
 use std::alloc::Global;
 

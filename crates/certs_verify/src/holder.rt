@@ -3,7 +3,7 @@
 ghost use Rattle.std.specs.Prelude.{◌≡◌};
 ghost use Rattle.certs_verify.specs.Holders.{holding};
 
-use certs_cert::Cert;
+use certs_inspect::Cert;
 use certs_x509::TalInfo;
 use resources::{AsBlocks, IpBlocks};
 use std::alloc::Global;

@@ -1,11 +1,11 @@
 //! Verification behind an inspection.
 
 ghost use Rattle.std.specs.Prelude.{◌≡◌, Bool, IfErr, IfOk};
-ghost use Rattle.certs_errors.specs.declared.validation.ValidationError.TheVariants.{Verification};
-ghost use Rattle.certs_specs.specs.Calls.{ValidatesAnchor, ValidatesIssued};
-ghost use Rattle.certs_specs.specs.Verified.{held_by};
-ghost use Rattle.certs_specs.specs.declared.Role.{Role};
-ghost use Rattle.certs_specs.specs.declared.Role.TheVariants.{Router, Ta};
+ghost use Rattle.certs_x509.specs.certs_errors.declared.validation.ValidationError.TheVariants.{Verification};
+ghost use Rattle.certs_inspect.specs.certs_specs.Calls.{ValidatesAnchor, ValidatesIssued};
+ghost use Rattle.certs_inspect.specs.certs_specs.Verified.{held_by};
+ghost use Rattle.certs_inspect.specs.certs_specs.declared.Role.{Role};
+ghost use Rattle.certs_inspect.specs.certs_specs.declared.Role.TheVariants.{Router, Ta};
 ghost use Rattle.certs_verify.specs.certs_basics.HandedIn.{Digests};
 ghost use Rattle.certs_verify.specs.Answers.{AsksOnce};
 ghost use Rattle.certs_verify.specs.Validated.{Inspects, MeetsValid, TellsNumbers, ValidatesRouter};
@@ -13,11 +13,9 @@ ghost use Rattle.certs_verify.specs.Validated.{Inspects, MeetsValid, TellsNumber
 use crate::holder::ResourceCert;
 use crate::refused::Refused;
 use crate::{anchor, below};
-use certs_cert::Cert;
-use certs_errors::{InspectionError, ValidationError, VerificationError};
-use certs_key::Verifier;
+use certs_inspect::Cert;
 use certs_time::Time;
-use certs_x509::TalInfo;
+use certs_x509::{InspectionError, TalInfo, ValidationError, VerificationError, Verifier};
 use std::alloc::Global;
 use std::rc::Rc;
 

@@ -23,7 +23,7 @@ mod tests;
 pub mod validate;
 pub mod verify;
 
-pub use certs_errors::{ValidationError, VerificationError};
+pub use certs_x509::{ValidationError, VerificationError};
 pub use holder::ResourceCert;
 pub use refused::Refused;
 pub use validate::Validate;

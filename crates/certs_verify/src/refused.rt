@@ -1,6 +1,6 @@
 //! Certificates that are refused.
 
-use certs_cert::Cert;
+use certs_inspect::Cert;
 
 /// A certificate that is refused, handed back as it was, and why.
 #[derive(Drop)]

@@ -1,10 +1,10 @@
 //! The calls that validate a certificate: its form, then what is vouched for.
 
 ghost use Rattle.std.specs.Prelude.{◌≡◌, ℕ, IfErr, IfOk};
-ghost use Rattle.certs_specs.specs.Calls.{ValidatesAnchor, ValidatesIssued};
-ghost use Rattle.certs_specs.specs.Cert.{CertValue};
-ghost use Rattle.certs_specs.specs.Verified.{held_by};
-ghost use Rattle.certs_specs.specs.declared.Role.TheVariants.{Ca, DetachedEe, Ee};
+ghost use Rattle.certs_inspect.specs.certs_specs.Calls.{ValidatesAnchor, ValidatesIssued};
+ghost use Rattle.certs_inspect.specs.certs_specs.Cert.{CertValue};
+ghost use Rattle.certs_inspect.specs.certs_specs.Verified.{held_by};
+ghost use Rattle.certs_inspect.specs.certs_specs.declared.Role.TheVariants.{Ca, DetachedEe, Ee};
 ghost use Rattle.certs_verify.specs.certs_key.Digesting.{digests_of};
 ghost use Rattle.certs_verify.specs.Answers.{AsksOnce};
 ghost use Rattle.certs_verify.specs.Validated.{MeetsValid, TellsNumbers, ValidatesRouter};
@@ -12,12 +12,9 @@ ghost use Rattle.certs_verify.specs.Validated.{MeetsValid, TellsNumbers, Validat
 use crate::holder::ResourceCert;
 use crate::inspected;
 use crate::refused::Refused;
-use certs_cert::Cert;
-use certs_errors::ValidationError;
-use certs_inspect::Inspect;
-use certs_key::{Digester, Verifier};
+use certs_inspect::{Cert, Inspect};
 use certs_time::{Clock, Time};
-use certs_x509::TalInfo;
+use certs_x509::{Digester, TalInfo, ValidationError, Verifier};
 use std::alloc::Global;
 use std::rc::Rc;
 

@@ -1,12 +1,12 @@
 //! The calls that verify a certificate.
 
 ghost use Rattle.std.specs.Prelude.{◌≡◌, ◌≢◌, ◌+◌, ◌-◌, ◌^◌, ◌∷◌, [], ℕ, IfErr, IfOk, min};
-ghost use Rattle.certs_errors.specs.declared.verification.VerificationError.TheVariants.{Memory};
-ghost use Rattle.certs_specs.specs.Calls.{VerifiesIssued};
-ghost use Rattle.certs_specs.specs.Cert.{CertValue};
-ghost use Rattle.certs_specs.specs.Verified.{PassesAt, anchor_tests, held_by, issuer_claim};
-ghost use Rattle.certs_specs.specs.Verified.{nothing, router_tests, validity};
-ghost use Rattle.certs_specs.specs.declared.VerificationTest.TheVariants as test;
+ghost use Rattle.certs_x509.specs.certs_errors.declared.verification.VerificationError.TheVariants.{Memory};
+ghost use Rattle.certs_inspect.specs.certs_specs.Calls.{VerifiesIssued};
+ghost use Rattle.certs_inspect.specs.certs_specs.Cert.{CertValue};
+ghost use Rattle.certs_inspect.specs.certs_specs.Verified.{PassesAt, anchor_tests, held_by, issuer_claim};
+ghost use Rattle.certs_inspect.specs.certs_specs.Verified.{nothing, router_tests, validity};
+ghost use Rattle.certs_inspect.specs.certs_specs.declared.VerificationTest.TheVariants as test;
 ghost use Rattle.certs_verify.specs.certs_basics.Verdicts.{Verdicts};
 ghost use Rattle.certs_verify.specs.Answers.{Answers, AsksOnce};
 ghost use Rattle.certs_verify.specs.Words.{Meets, TellsOutside, VerifiesAnchor};
@@ -14,11 +14,9 @@ ghost use Rattle.certs_verify.specs.Words.{Meets, TellsOutside, VerifiesAnchor};
 use crate::holder::ResourceCert;
 use crate::refused::Refused;
 use crate::{anchor, below, tests};
-use certs_cert::Cert;
-use certs_errors::VerificationError;
-use certs_key::Verifier;
+use certs_inspect::Cert;
 use certs_time::{Clock, Time};
-use certs_x509::TalInfo;
+use certs_x509::{TalInfo, VerificationError, Verifier};
 use std::alloc::Global;
 use std::rc::Rc;
 

@@ -53,6 +53,7 @@ pub mod tal;
 pub mod time;
 pub mod uri;
 
+pub use certs_errors::{ClaimedKind, Overclaimed};
 pub use crypto::{
     DigestAlgorithm, Digester, RpkiSignature, RpkiSignatureAlgorithm, Signature,
     SignatureAlgorithm, Signer, SigningError, Verifier,

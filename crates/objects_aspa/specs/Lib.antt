@@ -13,3 +13,5 @@ pub use Rattle.objects_forms.specs.bcder_tree as bcder_tree
 pub use Rattle.objects_forms.specs as objects_forms
 pub use Rattle.objects_forms.specs.resources_asn as resources_asn
 pub use Rattle.objects_forms.specs.resources_chain as resources_chain
+pub use Rattle.objects_forms.specs.resources_ip_prefix as resources_ip_prefix
+pub use Rattle.objects_forms.specs.certs_basics as certs_basics

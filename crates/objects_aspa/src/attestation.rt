@@ -15,7 +15,7 @@ ghost use Rattle.objects_aspa.specs.Spelled.{SpellsAsIds};
 use crate::providers::ProviderAsSet;
 use bcder::decode::{Constructed, Decode, DecodeError, IntoSource, Source};
 use bcder::{Captured, Mode, Tag, encode};
-use resources::asres::{AsBlock, AsBlocksBuilder, AsResources};
+use objects_forms::{AsBlock, AsBlocksBuilder, AsResources};
 use resources_asn::Asn;
 use std::alloc::{AllocError, Global};
 use std::marker::Model;

@@ -11,4 +11,5 @@ mod run;
 
 pub use attestation::AsProviderAttestation;
 pub use iter::ProviderAsIter;
+pub use objects_forms::{AsBlocks, IpBlocks};
 pub use providers::ProviderAsSet;

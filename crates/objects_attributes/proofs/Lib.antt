@@ -8,3 +8,4 @@ pub mod of_bcder_content
 pub mod of_bcder_oid
 pub mod of_certs_basics
 pub mod of_certs_time
+pub mod of_certs_specs

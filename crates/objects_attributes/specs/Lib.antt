@@ -10,3 +10,4 @@ pub use Rattle.objects_forms.specs.bcder_tree as bcder_tree
 pub use Rattle.objects_forms.specs.certs_basics as certs_basics
 pub use Rattle.objects_forms.specs.certs_specs as certs_specs
 pub use Rattle.objects_forms.specs.certs_time as certs_time
+pub use Rattle.objects_forms.specs as objects_forms

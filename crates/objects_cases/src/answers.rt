@@ -4,7 +4,7 @@ use anyhow::{Result, anyhow};
 use bcder::Mode;
 use bcder::decode::DecodeError;
 use bcder::encode::Values;
-use certs_x509::Time;
+use objects_locator::Time;
 use std::alloc::Global;
 use std::fmt;
 use std::str::FromStr;

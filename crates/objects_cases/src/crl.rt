@@ -3,7 +3,7 @@
 use crate::answers::{Answer, moment, octets, unknown};
 use anyhow::{Result, anyhow};
 use certs_crl::{Crl, TbsCertList};
-use certs_x509::Serial;
+use objects_locator::Serial;
 use std::alloc::Global;
 use std::str::FromStr;
 

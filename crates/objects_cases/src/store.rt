@@ -5,8 +5,7 @@ use crate::answers::{Answer, unknown};
 use crate::crl::list;
 use anyhow::{Result, anyhow};
 use certs_crl::CrlStore;
-use certs_x509::Serial;
-use certs_x509::uri::Rsync;
+use objects_locator::{Rsync, Serial};
 use std::alloc::Global;
 use std::str::FromStr;
 

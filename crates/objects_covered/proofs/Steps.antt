@@ -1,11 +1,11 @@
 -- One address after the other.
 use Rattle.std.proofs.Common.{◌≡◌, ◌↔◌, ℕ, List, ◌∷◌, sym, subst}
-use Rattle.objects_forms.specs.resources_chain.Sets.{InRun}
-use Rattle.objects_forms.specs.resources_ip_prefix.Prefixes.{prefix_run}
-use Rattle.objects_forms.specs.resources_ip_prefix.Encodings.{FirstBits, prefix_bits}
-use Rattle.objects_forms.specs.resources_ip_prefix.Prefix.{run_of_prefix}
-use Rattle.objects_forms.specs.resources_ip_prefix.declared.prefix.Prefix.{Prefix}
-use Rattle.objects_forms.specs.Roas.{RoaAddress}
+use Rattle.objects_aspa.specs.resources_chain.Sets.{InRun}
+use Rattle.objects_aspa.specs.resources_ip_prefix.Prefixes.{prefix_run}
+use Rattle.objects_aspa.specs.resources_ip_prefix.Encodings.{FirstBits, prefix_bits}
+use Rattle.objects_aspa.specs.resources_ip_prefix.Prefix.{run_of_prefix}
+use Rattle.objects_aspa.specs.resources_ip_prefix.declared.prefix.Prefix.{Prefix}
+use Rattle.objects_aspa.specs.objects_forms.Roas.{RoaAddress}
 use Rattle.objects_covered.specs.Covered.{AreHeld, IsHeld}
 
 pub held_front : (held : ℕ → Type 0) (all rest : List RoaAddress) (a : RoaAddress) → all ≡ a ∷ rest → AreHeld held all → IsHeld held a

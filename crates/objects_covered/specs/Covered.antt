@@ -1,10 +1,10 @@
 -- What an object attests is within the resources of its certificate (RFC 9582 5, draft-ietf-sidrops-aspa-profile 4).
 use Rattle.std.specs.Prelude.{ℕ, List}
-use Rattle.objects_forms.specs.certs_basics.Lists.{Each}
-use Rattle.objects_forms.specs.resources_chain.Sets.{InRun}
-use Rattle.objects_forms.specs.resources_ip_prefix.Prefixes.{prefix_run}
-use Rattle.objects_forms.specs.Aspas.{Aspa}
-use Rattle.objects_forms.specs.Roas.{Roa, RoaAddress}
+use Rattle.objects_aspa.specs.certs_basics.Lists.{Each}
+use Rattle.objects_aspa.specs.resources_chain.Sets.{InRun}
+use Rattle.objects_aspa.specs.resources_ip_prefix.Prefixes.{prefix_run}
+use Rattle.objects_aspa.specs.objects_forms.Aspas.{Aspa}
+use Rattle.objects_aspa.specs.objects_forms.Roas.{Roa, RoaAddress}
 
 -- Each address of a prefix is held.
 abbrev pub IsHeld : (ℕ → Type 0) → RoaAddress → Type 0

@@ -19,6 +19,8 @@ mod text;
 pub mod uri;
 mod uris;
 
+pub use certs_x509::uri::Rsync;
+pub use certs_x509::{Serial, Time};
 pub use error::ReadError;
 pub use tal::Tal;
 pub use uri::TalUri;

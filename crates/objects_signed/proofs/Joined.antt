@@ -3,7 +3,7 @@ use Rattle.std.proofs.Common.{ℕ, List, Result, Ok, Err, IfOk, refl}
 use Rattle.objects_signed.specs.bcder_content.Contents.{Goes, ValuesLeft}
 use Rattle.objects_signed.specs.bcder_content.Texts.{InOrder}
 use Rattle.certs_cert.proofs.Joined.{Read}
-use Rattle.objects_forms.specs.SignedAttributes.{AreAttributes, AttributesValue}
+use Rattle.objects_attributes.specs.objects_forms.SignedAttributes.{AreAttributes, AttributesValue}
 use Rattle.objects_signed.specs.Signer.{AreKeptOctets}
 
 kept : {v w : ValuesLeft} {a : List ℕ × AttributesValue} → Goes v a.0 w → InOrder v.mode (AreAttributes v.mode) a.0 a.1 → Read AreKeptOctets v a w

@@ -13,10 +13,10 @@ use Rattle.objects_attributes.proofs.Attributes.{attributes_by_slots}
 use Rattle.objects_attributes.proofs.Ones.{oid_value_one, slots_one, string_value_one}
 use Rattle.objects_attributes.specs.Kept.{slots_of}
 use Rattle.objects_attributes.specs.declared.slots.Slots.{Slots}
-use Rattle.objects_forms.proofs.of_certs_basics.Values.{key_identifier_one, string_one}
-use Rattle.objects_forms.proofs.of_certs_specs.Certs.{spelled_cert_one}
-use Rattle.objects_forms.specs.SignedAttributes.{AreAttributes, AttributesValue}
-use Rattle.objects_forms.specs.ObjectText.{SpellsContentInfo, SpellsSignedData, SpellsSigner}
+use Rattle.objects_attributes.proofs.of_certs_basics.Values.{key_identifier_one, string_one}
+use Rattle.objects_attributes.proofs.of_certs_specs.Certs.{spelled_cert_one}
+use Rattle.objects_attributes.specs.objects_forms.SignedAttributes.{AreAttributes, AttributesValue}
+use Rattle.objects_attributes.specs.objects_forms.ObjectText.{SpellsContentInfo, SpellsSignedData, SpellsSigner}
 
 -- What an option has, where it has something.
 held_in : {A : Type 0} → A → Option A → A

@@ -10,8 +10,8 @@ use Rattle.objects_signed.specs.bcder_content.Words.{Kept}
 use Rattle.objects_signed.specs.certs_basics.Names.{IsKeptName, SpellsName}
 use Rattle.objects_signed.specs.certs_specs.Cert.{CertValue}
 use Rattle.objects_signed.specs.certs_specs.CertText.{Fields, IsCert, IsTbs, IsTbsBody, SpellsCert, SpellsFields}
-use Rattle.objects_forms.specs.SignedAttributes.{AreAttributes, AttributesValue}
-use Rattle.objects_forms.specs.ObjectText.{ObjectFields, SignedFields, SignerFields, SpellsContentInfo, SpellsSignedData, SpellsSigner}
+use Rattle.objects_attributes.specs.objects_forms.SignedAttributes.{AreAttributes, AttributesValue}
+use Rattle.objects_attributes.specs.objects_forms.ObjectText.{ObjectFields, SignedFields, SignerFields, SpellsContentInfo, SpellsSignedData, SpellsSigner}
 use Rattle.objects_attributes.specs.Kept.{AreKept}
 use Rattle.objects_signed.specs.Signer.{IsSigner}
 use Rattle.objects_signed.specs.Frame.{IsFrame, IsSigned}

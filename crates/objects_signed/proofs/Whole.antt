@@ -13,8 +13,8 @@ use Rattle.objects_signed.specs.bcder_content.Exact.{Lacks}
 use Rattle.objects_signed.specs.bcder_content.Here.{here}
 use Rattle.objects_signed.specs.bcder_content.Ran.{Decoded, DecodedCases, RanIn, Reader, failed_in, fresh, refused_in}
 use Rattle.objects_signed.proofs.of_bcder_content.Taking.{weaker}
-use Rattle.certs_signed.specs.Took.{TookOctets}
-use Rattle.objects_forms.specs.ObjectText.{Object, ObjectFields, SpellsContentInfo, SpellsObject, mode, object_of}
+use Rattle.certs_cert.specs.certs_signed.Took.{TookOctets}
+use Rattle.objects_attributes.specs.objects_forms.ObjectText.{Object, ObjectFields, SpellsContentInfo, SpellsObject, mode, object_of}
 use Rattle.objects_signed.specs.Frame.{IsFrame, Parts, object_fields, signed_fields}
 use Rattle.objects_signed.specs.Decoded.{Agrees, DecodesObject, LacksOctets, ReadsOctets}
 use Rattle.objects_signed.proofs.Ones.{frame_one}

@@ -4,8 +4,8 @@ use Rattle.objects_signed.specs.bcder_tree.declared.mode.Mode.{Mode}
 use Rattle.objects_signed.specs.bcder_source.Errors.{OnContent}
 use Rattle.objects_signed.specs.bcder_source.declared.error.DecodeError.{DecodeError}
 use Rattle.objects_signed.specs.bcder_content.Contents.{Goes, ValuesLeft}
-use Rattle.certs_signed.specs.Took.{TookOctets}
-use Rattle.objects_forms.specs.ObjectText.{Object, ObjectText}
+use Rattle.certs_cert.specs.certs_signed.Took.{TookOctets}
+use Rattle.objects_attributes.specs.objects_forms.ObjectText.{Object, ObjectText}
 use Rattle.objects_signed.specs.Frame.{Parts}
 
 -- No octets of P are next in the content.

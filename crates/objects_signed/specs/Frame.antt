@@ -10,8 +10,8 @@ use Rattle.objects_signed.specs.bcder_content.Grammar.{End, Inside, OctetsOf, Th
 use Rattle.objects_signed.specs.bcder_content.Texts.{Joins, NoOctets, SpellsOf, Wraps}
 use Rattle.objects_signed.specs.certs_specs.Cert.{CertValue}
 use Rattle.objects_signed.specs.certs_specs.CertText.{IsCert, SpellsCert}
-use Rattle.objects_forms.specs.Identifiers as id
-use Rattle.objects_forms.specs.ObjectText.{AreDigestAlgorithms, IsContentInfo, IsThree, ObjectFields, SignedFields, SignerFields, SpellsSignedData, SpellsSigner}
+use Rattle.objects_attributes.specs.objects_forms.Identifiers as id
+use Rattle.objects_attributes.specs.objects_forms.ObjectText.{AreDigestAlgorithms, IsContentInfo, IsThree, ObjectFields, SignedFields, SignerFields, SpellsSignedData, SpellsSigner}
 use Rattle.objects_signed.specs.Signer.{IsSigner, SignerValue, signer_fields}
 
 -- A value that stands alone in a content.

@@ -6,9 +6,9 @@ use Rattle.objects_signed.specs.bcder_tree.Tree.{Tree, Trees}
 use Rattle.objects_signed.specs.bcder_tree.Strings.{IsOctetString}
 use Rattle.objects_signed.specs.bcder_content.Grammar.{End, Inside, Then}
 use Rattle.objects_signed.specs.bcder_content.Texts.{InOrder, Joins, NoOctets, SpellsOf, WithOctets, Wraps}
-use Rattle.objects_forms.specs.Identifiers as id
-use Rattle.objects_forms.specs.ObjectText.{IsSid, IsThree, SignerFields}
-use Rattle.objects_forms.specs.SignedAttributes.{AreAttributes, AttributesValue}
+use Rattle.objects_attributes.specs.objects_forms.Identifiers as id
+use Rattle.objects_attributes.specs.objects_forms.ObjectText.{IsSid, IsThree, SignerFields}
+use Rattle.objects_attributes.specs.objects_forms.SignedAttributes.{AreAttributes, AttributesValue}
 use Rattle.objects_attributes.specs.Kept.{AreKept}
 
 pub record SignerValue : Type 0 where

@@ -6,7 +6,7 @@ ghost use Rattle.objects_signed.specs.bcder_content.Exact.{ReadsAs};
 ghost use Rattle.objects_signed.specs.bcder_content.Grammar.{Inside};
 ghost use Rattle.objects_signed.specs.bcder_content.Here.{here};
 ghost use Rattle.objects_signed.specs.bcder_content.InMode.{ReadsFields};
-ghost use Rattle.certs_signed.specs.Took.{TookOctets};
+ghost use Rattle.certs_cert.specs.certs_signed.Took.{TookOctets};
 ghost use Rattle.objects_signed.specs.Frame.{AreCertOctets, AreCerts, AreSignerTexts, AreSigners};
 ghost use Rattle.objects_signed.specs.Frame.{SpellsCerts, SpellsSigners, alone, one_signer};
 

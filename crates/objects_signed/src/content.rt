@@ -5,7 +5,7 @@ ghost use Rattle.objects_signed.specs.bcder_content.Exact.{ReadsAs};
 ghost use Rattle.objects_signed.specs.bcder_content.Grammar.{Inside};
 ghost use Rattle.objects_signed.specs.bcder_content.Here.{here};
 ghost use Rattle.objects_signed.specs.bcder_content.InMode.{ReadsFields};
-ghost use Rattle.objects_forms.specs.ObjectText.{IsContentInfo};
+ghost use Rattle.objects_attributes.specs.objects_forms.ObjectText.{IsContentInfo};
 ghost use Rattle.objects_signed.specs.Frame.{AreTyped, IsString, alone, typed_fields};
 
 use bcder::decode::{Constructed, DecodeError, Source};

@@ -2,7 +2,7 @@
 
 ghost use Rattle.std.specs.Prelude.{◌≡◌, ◌↔◌, IsTrue, OnErr, true};
 ghost use Rattle.objects_signed.specs.bcder_content.Here.{here};
-ghost use Rattle.objects_forms.specs.ObjectText.{SpellsObject, mode, object_of, signer_of};
+ghost use Rattle.objects_attributes.specs.objects_forms.ObjectText.{SpellsObject, mode, object_of, signer_of};
 ghost use Rattle.objects_signed.specs.Signer.{signer_fields};
 ghost use Rattle.objects_signed.specs.Frame.{signed_fields};
 ghost use Rattle.objects_signed.specs.Decoded.{Agrees, DecodesObject, ReadsOctets};
@@ -27,7 +27,7 @@ pub struct SignedObject {
 }
 
 impl Model for SignedObject {
-    ghost use Rattle.objects_forms.specs.ObjectText.{Object, signer_of};
+    ghost use Rattle.objects_attributes.specs.objects_forms.ObjectText.{Object, signer_of};
     ghost use Rattle.objects_signed.specs.Signer.{signer_fields};
 
     ghost Value = { Object };

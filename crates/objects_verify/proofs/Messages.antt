@@ -5,10 +5,10 @@ use Rattle.bcder_tree.specs.declared.mode.Mode.TheVariants.{Ber, Der}
 use Rattle.bcder_tree.proofs.Canonical.{spelled_length}
 use Rattle.bcder_tree.proofs.Fronts.{length_bound}
 use Rattle.certs_errors.specs.declared.verification.VerificationError.{VerificationError}
-use Rattle.objects_forms.specs.certs_basics.HandedIn.{Digests}
-use Rattle.objects_forms.specs.certs_basics.Verdicts.{Verdicts}
-use Rattle.objects_forms.specs.certs_specs.Cert.{CertValue}
-use Rattle.objects_forms.specs.ObjectText.{IsSignedMessage, Signer}
+use Rattle.objects_signed.specs.certs_basics.HandedIn.{Digests}
+use Rattle.objects_signed.specs.certs_basics.Verdicts.{Verdicts}
+use Rattle.objects_signed.specs.certs_specs.Cert.{CertValue}
+use Rattle.objects_signed.specs.objects_forms.ObjectText.{IsSignedMessage, Signer}
 use Rattle.objects_signed.specs.Signer.{SignerValue}
 use Rattle.objects_verify.specs.Content.{FailsContent, FailsSignature, HasDigest, IsInTime, IsSigned, VerifiesContent, object_with}
 

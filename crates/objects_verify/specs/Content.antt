@@ -2,10 +2,10 @@
 use Rattle.std.specs.Prelude.{◌≡◌, ◌⊎◌, ◌+◌, ◌-◌, ◌^◌, ℕ, min, true, List, Result, Ok, Err}
 use Rattle.certs_errors.specs.declared.verification.VerificationError.{VerificationError}
 use Rattle.certs_errors.specs.declared.verification.VerificationError.TheVariants as error
-use Rattle.objects_forms.specs.certs_specs.Cert.{CertValue}
-use Rattle.objects_forms.specs.certs_basics.HandedIn.{Digests}
-use Rattle.objects_forms.specs.certs_basics.Verdicts.{Verdicts}
-use Rattle.objects_forms.specs.ObjectText.{IsNotAfter, IsSignedMessage, Object, Sound, signer_of}
+use Rattle.objects_signed.specs.certs_specs.Cert.{CertValue}
+use Rattle.objects_signed.specs.certs_basics.HandedIn.{Digests}
+use Rattle.objects_signed.specs.certs_basics.Verdicts.{Verdicts}
+use Rattle.objects_signed.specs.objects_forms.ObjectText.{IsNotAfter, IsSignedMessage, Object, Sound, signer_of}
 use Rattle.objects_signed.specs.Signer.{SignerValue, signer_fields}
 
 -- The object of a content of that type, a certificate and a signer.

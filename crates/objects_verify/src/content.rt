@@ -1,19 +1,18 @@
 //! Verification of a signed object's content.
 
 ghost use Rattle.std.specs.Prelude.{◌≡◌, ◌≢◌, ◌↔◌, ℕ, List, IfErr, IsTrue, OnOk};
-ghost use Rattle.certs_cert.specs.certs_key.Digesting.{digests_of};
+ghost use Rattle.objects_signed.specs.certs_key.Digesting.{digests_of};
 ghost use Rattle.certs_errors.specs.declared.verification.VerificationError.TheVariants.{BadSignature};
-ghost use Rattle.objects_forms.specs.ObjectText.{IsNotAfter};
+ghost use Rattle.objects_signed.specs.objects_forms.ObjectText.{IsNotAfter};
 ghost use Rattle.objects_verify.specs.Content.{AsksOnce, FailsSignature, HasDigest, IsSigned};
 ghost use Rattle.objects_verify.specs.Content.{VerifiesContent, object_with};
 
 use crate::message::signed_message;
 use bcder::OctetString;
-use certs_cert::Cert;
 use certs_errors::VerificationError;
 use certs_key::{Digester, Verifier};
 use certs_time::Time;
-use objects_signed::SignerInfo;
+use objects_signed::{Cert, SignerInfo};
 use std::alloc::Global;
 
 // Whether a digest is the SHA-256 digest of a content.

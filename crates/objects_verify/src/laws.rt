@@ -3,10 +3,10 @@
 ghost use Rattle.std.specs.Prelude.{◌≡◌, ◌≢◌, ℕ, List};
 ghost use Rattle.certs_errors.specs.declared.verification.VerificationError.{VerificationError as Error};
 ghost use Rattle.certs_errors.specs.declared.verification.VerificationError.TheVariants.{Memory};
-ghost use Rattle.objects_forms.specs.certs_basics.HandedIn.{Digests};
-ghost use Rattle.objects_forms.specs.certs_basics.Verdicts.{Verdicts};
-ghost use Rattle.objects_forms.specs.ObjectText.{IsSignedMessage, Object, Signer as SignerValue};
-ghost use Rattle.objects_forms.specs.ObjectText.{Sound};
+ghost use Rattle.objects_signed.specs.certs_basics.HandedIn.{Digests};
+ghost use Rattle.objects_signed.specs.certs_basics.Verdicts.{Verdicts};
+ghost use Rattle.objects_signed.specs.objects_forms.ObjectText.{IsSignedMessage, Object, Signer as SignerValue};
+ghost use Rattle.objects_signed.specs.objects_forms.ObjectText.{Sound};
 ghost use Rattle.objects_verify.specs.Content.{FailsContent};
 
 /// An object of which a test fails isn't sound: only want of memory says nothing of it.

@@ -1,7 +1,7 @@
 //! The octets that a signer signs.
 
 ghost use Rattle.std.specs.Prelude.{ℕ, List, IfOk, MatchOption};
-ghost use Rattle.objects_forms.specs.ObjectText.{IsSignedMessage, signer_of};
+ghost use Rattle.objects_signed.specs.objects_forms.ObjectText.{IsSignedMessage, signer_of};
 ghost use Rattle.objects_signed.specs.Signer.{signer_fields};
 
 use bcder_tree::Length;

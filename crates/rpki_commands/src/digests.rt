@@ -3,7 +3,7 @@
 ghost use Rattle.sha1.specs.Sha1.{sha1 as sha1_of};
 ghost use Rattle.sha2.specs.Sha256.{sha256 as sha256_of};
 
-use rpki_bundle::Digester;
+use rpki_validator::Digester;
 use sha1::Sha1;
 use sha2::{Digest, Sha256};
 

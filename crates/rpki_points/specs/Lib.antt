@@ -1,4 +1,4 @@
 pub mod Lists
 -- What stands below, for the crates above.
-pub use Rattle.rpki_rules.specs.certs_uri as certs_uri
-pub use Rattle.rpki_rules.specs.rpki_readings as rpki_readings
+pub use Rattle.rpki_table.specs.certs_uri as certs_uri
+pub use Rattle.rpki_table.specs.rpki_readings as rpki_readings

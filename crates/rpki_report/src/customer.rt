@@ -7,7 +7,7 @@ ghost use Rattle.rpki_report.specs.Report.{AreCustomersOf};
 ghost use Rattle.rpki_report.specs.Groups.{Adds};
 ghost use Rattle.rpki_rules.specs.Words.{Mem};
 
-use resources::asn::Asn;
+use rpki_rules::Asn;
 use std::alloc::{AllocError, Global};
 
 /// A customer with one of its providers.

@@ -13,6 +13,5 @@ pub use customer::{Customer, Provision};
 pub use origin::Origin;
 pub use refusal::Refusal;
 pub use report::Report;
-pub use resources::{AddressFamily, Asn, Prefix};
-pub use rpki_rules::Cause;
+pub use rpki_rules::{AddressFamily, Asn, Cause, Prefix};
 pub use witness::{Path, Witness};

@@ -4,8 +4,7 @@ ghost use Rattle.std.specs.Prelude.{◌≡◌, ◌≤◌};
 ghost use Rattle.rpki_report.specs.resources_ip_prefix.Address.{bits_of};
 ghost use Rattle.rpki_report.specs.resources_ip_prefix.Prefixes.{first_of};
 
-use resources::asn::Asn;
-use resources::{Addr, AddressFamily, Prefix};
+use rpki_rules::{Addr, AddressFamily, Asn, Prefix};
 
 /// A prefix, the greatest length of a prefix in it that may be announced, and the AS number that may announce it
 /// (RFC 9582 4).

@@ -9,7 +9,7 @@ ghost use Rattle.rpki_table.specs.rpki_rules.World.{find_object};
 
 use crate::search::search;
 use crate::sought::{ByKey, ByUri};
-use rpki_bundle::{Bundle, Locator, Object, Time, Verdict};
+use rpki_rules::{Bundle, Locator, Object, Time, Verdict};
 use std::marker::Model;
 
 /// A bundle, whose objects and verdicts are found by halving. Contracts see the bundle.

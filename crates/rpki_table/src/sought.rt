@@ -3,8 +3,7 @@
 ghost use Rattle.certs_uri.specs.Uris.{lookup_key as key_of};
 
 use crate::search::Sought;
-use rpki_bundle::uri::cmp_lookup_key;
-use rpki_bundle::{Object, Verdict};
+use rpki_rules::{Object, Verdict, cmp_lookup_key};
 use std::cmp::Ordering;
 
 /// A verdict among verdicts, which go by their 96 octets.

@@ -2,15 +2,14 @@
 
 ghost use Rattle.std.specs.Prelude.{◌≡◌, ◌+◌, ◌-◌, ◌^◌, ℕ, List, length, min};
 ghost use Rattle.rpki_table.specs.resources_chain.Rows.{Looks};
-ghost use Rattle.certs_key.specs.Digesting.{digests_of};
+ghost use Rattle.rpki_rules.specs.certs_key.Digesting.{digests_of};
 ghost use Rattle.rpki_table.specs.certs_basics.Keys.{encoded};
 ghost use Rattle.rpki_table.specs.rpki_bundle.Bundle.{BundleText};
 ghost use Rattle.rpki_table.specs.rpki_rules.World.{table};
 
 use crate::index::Index;
 use certs_algorithm::RpkiSignatureAlgorithm;
-use certs_key::{Digester, PublicKey, Verifier};
-use rpki_bundle::{Bundle, Verdict};
+use rpki_rules::{Bundle, Digester, PublicKey, Verdict, Verifier};
 
 /// The verifier of a bundle: good are the signatures whose three SHA-256 digests, those of the encoded key, of the message
 /// and of the signature's octets, stand in one entry of its table. The algorithm isn't looked at.

@@ -1,5 +1,5 @@
 use Rattle.std.proofs.Common.{◌↔◌, IsTrue, sym, ◌∙◌}
-use Rattle.objects_forms.specs.resources_chain.Sets.{InRuns}
+use Rattle.objects_aspa.specs.resources_chain.Sets.{InRuns}
 use Rattle.objects_roa.specs.Addresses.{roa_address}
 use Rattle.objects_covered.specs.Covered.{IsHeld}
 use Rattle.objects_covered.proofs.Steps.{HasAll, held_behind, held_front, held_whole, prefix_held}

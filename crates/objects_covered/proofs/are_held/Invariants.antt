@@ -1,5 +1,5 @@
 use Rattle.std.proofs.Common.{◌↔◌}
-use Rattle.objects_forms.specs.resources_chain.Sets.{InRuns}
+use Rattle.objects_aspa.specs.resources_chain.Sets.{InRuns}
 use Rattle.objects_covered.specs.Covered.{AreHeld}
 use Rattle.objects_covered.proofs.are_held.Given as goal
 

@@ -3,7 +3,7 @@
 ghost use Rattle.std.specs.Prelude.{◌≡◌, ℕ, ◌↔◌, IsTrue, IfSome, IfNone};
 ghost use Rattle.rpki_commands.specs.Lines.{IsEnd, TellsMoment, TellsDepth};
 
-use rpki_bundle::Time;
+use rpki_validator::Time;
 
 // How many octets YYYYMMDDHHMMSSZ has.
 const MOMENT_LENGTH: usize = 15;

@@ -10,7 +10,7 @@ ghost use Rattle.rpki_commands.specs.Folders.{IsSortedOn, Tells, TellsParts};
 
 use crate::folder::lines::{depth_of, moment_of};
 use crate::folder::verdicts::verdicts_of;
-use rpki_bundle::{BundleError, Locator, Object, Time, Verdict};
+use rpki_validator::{BundleError, Locator, Object, Time, Verdict};
 use std::alloc::Global;
 use std::cmp::Ordering;
 

@@ -6,7 +6,7 @@ ghost use Rattle.rpki_commands.specs.rpki_bundle.Errors.{OnNotABundle};
 ghost use Rattle.rpki_commands.specs.Verdicts.{TakesDigest, TakesNextDigest, TakesEnd, TakesVerdict, TellsVerdicts};
 
 use hex::FromHex;
-use rpki_bundle::{BundleError, Verdict};
+use rpki_validator::{BundleError, Verdict};
 use std::alloc::Global;
 
 // How many digits a digest has.

@@ -6,7 +6,7 @@ use crate::folder::ReadFault;
 use crate::folder::files::{Kind, kind_of, read_file, read_if_there};
 use crate::folder::parts::Contents;
 use bytes::Bytes;
-use rpki_bundle::{Locator, Object};
+use rpki_validator::{Locator, Object};
 use std::alloc::{AllocError, Global};
 use std::fs;
 use std::rt::Files;

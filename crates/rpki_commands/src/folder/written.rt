@@ -7,8 +7,7 @@ ghost use Rattle.rpki_commands.specs.Texts.{TellsText, TellsNoText, WritesText, 
 use crate::folder::parts::{Contents, parts_of};
 use crate::folder::walk::read_folder;
 use crate::folder::{Fault, ReadFault};
-use rpki_bundle::{Bundle, BundleError};
-use rpki_validator::{Counted, write_all};
+use rpki_validator::{Bundle, BundleError, Counted, write_all};
 use std::alloc::Global;
 use std::io::Write;
 use std::rt::Files;

@@ -2,7 +2,7 @@ use Rattle.std.proofs.Common.{refl}
 use Rattle.certs_claims.proofs.of_bcder_content.Forests.{there, absent}
 use Rattle.certs_claims.proofs.of_bcder_content.Gathering.{gather_begin, gather_next, gather_stop, gather_refused, gather_end}
 use Rattle.certs_claims.proofs.of_bcder_content.Took.{took_shorter}
-use Rattle.certs_specs.proofs.Values.{extension_one}
+use Rattle.certs_extension.proofs.of_certs_specs.Values.{extension_one}
 use Rattle.certs_claims.proofs.Lists.{extension_tagged, told_content}
 use Rattle.certs_claims.proofs.list.take_all.Goals as goal
 

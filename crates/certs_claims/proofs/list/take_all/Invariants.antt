@@ -1,7 +1,7 @@
 use Rattle.std.proofs.Common.{length}
 use Rattle.certs_claims.specs.bcder_content.Here.{here}
 use Rattle.certs_claims.proofs.of_bcder_content.Gathering.{Gathered}
-use Rattle.certs_specs.specs.Extensions.{IsExtension}
+use Rattle.certs_extension.specs.certs_specs.Extensions.{IsExtension}
 use Rattle.certs_claims.specs.Slots.{AreSlots}
 use Rattle.certs_claims.proofs.list.take_all.Given as goal
 

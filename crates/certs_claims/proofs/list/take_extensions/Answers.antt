@@ -1,7 +1,7 @@
 use Rattle.certs_claims.specs.bcder_tree.declared.mode.Mode.{Mode}
 use Rattle.certs_claims.specs.bcder_content.Words.{Gathers}
 use Rattle.certs_claims.proofs.of_bcder_content.InMode.{inside}
-use Rattle.certs_specs.specs.Extensions.{IsExtension}
+use Rattle.certs_extension.specs.certs_specs.Extensions.{IsExtension}
 use Rattle.certs_claims.specs.Slots.{AreSlots}
 use Rattle.certs_claims.proofs.list.take_extensions.Goals as goal
 

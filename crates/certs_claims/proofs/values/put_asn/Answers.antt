@@ -1,7 +1,7 @@
 use Rattle.certs_claims.specs.resources_as.Encodings.{IsAsResources}
 use Rattle.certs_claims.specs.Putting.{Under}
 use Rattle.certs_extension.specs.Raw.{extension_value}
-use Rattle.certs_specs.specs.Extensions.{May}
+use Rattle.certs_extension.specs.certs_specs.Extensions.{May}
 use Rattle.certs_claims.proofs.Filling.{cannot_fill, fills, in_der, weaker_err, weaker_ok}
 use Rattle.certs_claims.proofs.values.put_asn.Goals as goal
 

@@ -1,6 +1,6 @@
-use Rattle.certs_specs.specs.Extensions.{IsUsage}
+use Rattle.certs_extension.specs.certs_specs.Extensions.{IsUsage}
 use Rattle.certs_extension.specs.Raw.{extension_value}
-use Rattle.certs_specs.specs.Extensions.{Must}
+use Rattle.certs_extension.specs.certs_specs.Extensions.{Must}
 use Rattle.certs_claims.proofs.Filling.{cannot_fill, fills, in_der, weaker_err, weaker_ok}
 use Rattle.certs_claims.proofs.values.put_key_usage.Goals as goal
 

@@ -1,7 +1,7 @@
 use Rattle.certs_claims.specs.bcder_tree.Strings.{octet_string_tag}
 use Rattle.certs_claims.specs.certs_basics.Basics.{IsKeyIdentifier}
 use Rattle.certs_extension.specs.Raw.{extension_value}
-use Rattle.certs_specs.specs.Extensions.{MustNot}
+use Rattle.certs_extension.specs.certs_specs.Extensions.{MustNot}
 use Rattle.certs_claims.proofs.Filling.{cannot_fill, fills, in_der, weaker_err, weaker_ok}
 use Rattle.certs_claims.proofs.values.put_subject_key_identifier.Goals as goal
 

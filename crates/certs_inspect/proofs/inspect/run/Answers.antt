@@ -1,6 +1,6 @@
-use Rattle.certs_specs.specs.Profiles.{Passes, tests}
+use Rattle.certs_cert.specs.certs_specs.Profiles.{Passes, tests}
 use Rattle.std.proofs.Common.{List, subst}
-use Rattle.certs_specs.specs.declared.InspectionError.{InspectionError}
+use Rattle.certs_cert.specs.certs_specs.declared.InspectionError.{InspectionError}
 use Rattle.certs_inspect.specs.Answers.{Answers}
 use Rattle.certs_inspect.specs.certs_key.Digesting.{digests_of}
 use Rattle.certs_inspect.proofs.Chains.{answers_ok, answers_err}

@@ -1,6 +1,6 @@
 use Rattle.std.proofs.Common.{List, Ok, Err, subst, sym}
-use Rattle.certs_specs.specs.declared.InspectionError.{InspectionError}
-use Rattle.certs_specs.specs.Profiles.{Passes}
+use Rattle.certs_cert.specs.certs_specs.declared.InspectionError.{InspectionError}
+use Rattle.certs_cert.specs.certs_specs.Profiles.{Passes}
 use Rattle.certs_inspect.specs.certs_basics.Lists.{FirstFailing}
 use Rattle.certs_inspect.specs.certs_key.Digesting.{digests_of}
 use Rattle.certs_inspect.specs.Answers.{Answers}

@@ -1,6 +1,6 @@
 use Rattle.std.proofs.Common.{rules, []}
-use Rattle.certs_specs.specs.Verified.{PassesAt, held_by}
-use Rattle.certs_specs.specs.declared.VerificationTest.TheVariants as test
+use Rattle.certs_inspect.specs.certs_specs.Verified.{PassesAt, held_by}
+use Rattle.certs_inspect.specs.certs_specs.declared.VerificationTest.TheVariants as test
 use Rattle.certs_verify.proofs.Chains.{fails_at_once}
 use Rattle.certs_verify.proofs.claims.claim_as.Goals as goal
 

@@ -1,6 +1,6 @@
 use Rattle.std.proofs.Common.{rules, ◌≡◌, ◌≢◌, [], ◌∷◌, Some, None}
-use Rattle.certs_specs.specs.Verified.{PassesAt, nothing}
-use Rattle.certs_specs.specs.declared.VerificationTest.TheVariants as test
+use Rattle.certs_inspect.specs.certs_specs.Verified.{PassesAt, nothing}
+use Rattle.certs_inspect.specs.certs_specs.declared.VerificationTest.TheVariants as test
 use Rattle.certs_verify.proofs.Chains.{fails_at_once, fails_next}
 use Rattle.certs_verify.proofs.tests.verify_issuer_claim.Goals as goal
 

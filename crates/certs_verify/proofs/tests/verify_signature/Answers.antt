@@ -1,8 +1,8 @@
 use Rattle.std.proofs.Common.{rules}
-use Rattle.certs_specs.specs.Verified.{PassesAt, nothing}
-use Rattle.certs_specs.specs.declared.VerificationTest.TheVariants as test
+use Rattle.certs_inspect.specs.certs_specs.Verified.{PassesAt, nothing}
+use Rattle.certs_inspect.specs.certs_specs.declared.VerificationTest.TheVariants as test
 use Rattle.certs_verify.proofs.Chains.{fails_at_once}
-use Rattle.certs_specs.specs.Verified.{IsSignedBy}
+use Rattle.certs_inspect.specs.certs_specs.Verified.{IsSignedBy}
 use Rattle.certs_verify.proofs.tests.verify_signature.Goals as goal
 
 pub returns-then-is_err-clause-answers : goal.returns-then-is_err-clause-answers

@@ -1,5 +1,5 @@
 use Rattle.std.proofs.Common.{refl}
-use Rattle.objects_forms.specs.Identifiers as id
+use Rattle.objects_attributes.specs.objects_forms.Identifiers as id
 use Rattle.certs_cert.proofs.Joined.{as_read, ended, field, join, read_as}
 use Rattle.objects_signed.proofs.of_bcder_content.InMode.{begin, done, next, stop}
 use Rattle.objects_signed.proofs.frame.take_info.Goals as goal

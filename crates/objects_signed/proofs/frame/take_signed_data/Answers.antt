@@ -1,4 +1,4 @@
-use Rattle.certs_signed.proofs.Octets.{inside_took}
+use Rattle.certs_cert.proofs.of_certs_signed.Octets.{inside_took}
 use Rattle.objects_signed.proofs.of_bcder_content.InMode.{inside}
 use Rattle.objects_signed.specs.Frame.{AreSigned, AreSignedOctets}
 use Rattle.objects_signed.proofs.frame.take_signed_data.Goals as goal

@@ -1,4 +1,4 @@
-use Rattle.certs_signed.proofs.Octets.{inside_took}
+use Rattle.certs_cert.proofs.of_certs_signed.Octets.{inside_took}
 use Rattle.objects_attributes.specs.Kept.{AreKept}
 use Rattle.objects_signed.specs.Signer.{AreKeptOctets}
 use Rattle.objects_signed.proofs.of_bcder_content.InMode.{inside}

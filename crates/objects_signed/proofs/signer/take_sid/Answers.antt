@@ -1,4 +1,4 @@
-use Rattle.certs_key.proofs.Identifying.{identifier_tagged}
+use Rattle.certs_cert.proofs.of_certs_key.Identifying.{identifier_tagged}
 use Rattle.objects_signed.proofs.of_bcder_content.Tagged.{exact_tagged}
 use Rattle.objects_signed.proofs.signer.take_sid.Goals as goal
 

@@ -1,5 +1,5 @@
 use Rattle.std.proofs.Common.{rules}
-use Rattle.certs_cert.specs.certs_key.Digesting.{digests_of}
+use Rattle.objects_signed.specs.certs_key.Digesting.{digests_of}
 use Rattle.objects_verify.specs.Content.{HasDigest, IsInTime, object_with}
 use Rattle.objects_verify.proofs.Messages.{signature_decides}
 use Rattle.objects_verify.proofs.content.verify_content.Goals as goal

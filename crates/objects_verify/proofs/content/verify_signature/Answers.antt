@@ -1,5 +1,5 @@
 use Rattle.std.proofs.Common.{rules, ℕ, List, inl, refl}
-use Rattle.objects_forms.specs.ObjectText.{IsSignedMessage, signer_of}
+use Rattle.objects_signed.specs.objects_forms.ObjectText.{IsSignedMessage, signer_of}
 use Rattle.objects_signed.specs.Signer.{signer_fields}
 use Rattle.objects_verify.proofs.content.verify_signature.Goals as goal
 

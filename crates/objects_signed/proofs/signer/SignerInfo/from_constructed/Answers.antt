@@ -1,6 +1,6 @@
 use Rattle.std.proofs.Common.{refl}
-use Rattle.objects_forms.specs.Identifiers as id
-use Rattle.objects_forms.specs.ObjectText.{IsSid, IsThree}
+use Rattle.objects_attributes.specs.objects_forms.Identifiers as id
+use Rattle.objects_attributes.specs.objects_forms.ObjectText.{IsSid, IsThree}
 use Rattle.objects_signed.specs.bcder_tree.Strings.{IsOctetString}
 use Rattle.objects_signed.proofs.of_bcder_content.InMode.{begin, done, next, stop}
 use Rattle.certs_cert.proofs.Joined.{as_read, ended, field, join}

@@ -1,4 +1,4 @@
-use Rattle.rpki_bundle.proofs.Texts.{text_told}
+use Rattle.rpki_rules.proofs.of_rpki_bundle.Texts.{text_told}
 use Rattle.rpki_table.proofs.index.Index.new.Goals as goal
 
 pub invariant_of-result : goal.invariant_of-result

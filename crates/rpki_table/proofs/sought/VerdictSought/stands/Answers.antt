@@ -1,7 +1,7 @@
 use Rattle.std.proofs.Common.{◌≡◌, length, sym, ap, ◌∙◌, arith}
 use Rattle.std.specs.Ordering.{nat_cmp, ordering_then}
 use Rattle.std.specs.Cmp.Lexicographic.{slice_cmp}
-use Rattle.rpki_bundle.proofs.Orders.{cmp_three}
+use Rattle.rpki_rules.proofs.of_rpki_bundle.Orders.{cmp_three}
 use Rattle.rpki_table.proofs.sought.VerdictSought.stands.Goals as goal
 
 pub returns : goal.returns

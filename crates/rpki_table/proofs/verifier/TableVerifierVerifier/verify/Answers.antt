@@ -1,4 +1,4 @@
-use Rattle.certs_key.specs.Digesting.{digests_of}
+use Rattle.rpki_rules.specs.certs_key.Digesting.{digests_of}
 use Rattle.rpki_table.proofs.Tables.{table_told}
 use Rattle.rpki_table.proofs.verifier.TableVerifierVerifier.verify.Goals as goal
 

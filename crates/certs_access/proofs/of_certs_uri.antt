@@ -1,0 +1,2 @@
+-- Lemmas of certs_uri, for the crates above.
+pub use Rattle.certs_uri.proofs.UriTexts

@@ -1,0 +1,2 @@
+-- Lemmas of certs_specs, for the crates above.
+pub use Rattle.certs_specs.proofs.Values
