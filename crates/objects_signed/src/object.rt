@@ -133,6 +133,13 @@ impl SignedObject {
         &self.cert
     }
 
+    /// The certificate with the signer's key, handed over (RFC 6488 2.1.4).
+    pub fn into_cert(self) -> Cert
+        ensures { result ≡ self.cert }
+    {
+        self.cert
+    }
+
     /// Who signed it, and what was signed of the attributes (RFC 6488 2.1.6).
     pub fn signer(&self) -> &SignerInfo
         ensures { signer_of (signer_fields result.now) ≡ self.now.signer }
@@ -152,5 +159,15 @@ impl SignedObject {
         ensures { result ≡ self.now.signer.binary_signing_time }
     {
         self.signer.attributes().attributes().binary_signing_time
+    }
+
+    /// The type of the content, the content, the certificate and the signer, handed over.
+    pub fn into_parts(self) -> (Oid, OctetString, Cert, SignerInfo)
+        ensures content_type { result.0.0 ≡ self.content_type }
+        ensures content { result.1 ≡ self.content }
+        ensures cert { result.2 ≡ self.cert }
+        ensures signer { signer_of (signer_fields result.3) ≡ self.signer }
+    {
+        (self.content_type, self.content, self.cert, self.signer)
     }
 }
