@@ -1,0 +1,13 @@
+//! What a file's name says, and what an object's content adds to a report.
+#![tactic(auto)]
+
+pub mod laws;
+pub mod names;
+pub mod origins;
+pub mod payload;
+pub mod provisions;
+
+pub use names::{Extension, extension_of};
+pub use origins::add_roa_origins;
+pub use payload::Payload;
+pub use provisions::add_aspa_provisions;
