@@ -23,7 +23,8 @@ mod tests;
 pub mod validate;
 pub mod verify;
 
-pub use certs_x509::{ValidationError, VerificationError};
+pub use certs_inspect::{Cert, Inspect, InspectionError};
+pub use certs_x509::{Digester, PublicKey, TalInfo, ValidationError, VerificationError, Verifier};
 pub use holder::ResourceCert;
 pub use refused::Refused;
 pub use validate::Validate;
