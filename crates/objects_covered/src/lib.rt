@@ -6,8 +6,10 @@ ghost use Rattle.std.specs.Prelude.{◌↔◌, IsTrue};
 ghost use Rattle.objects_aspa.specs.resources_chain.Sets.{InRuns};
 ghost use Rattle.objects_covered.specs.Covered.{AreHeld, IsCoveredAspa, IsCoveredRoa};
 
-use objects_aspa::{AsBlocks, AsProviderAttestation, IpBlocks};
-use objects_roa::{RoaIpAddresses, RouteOriginAttestation};
+pub use objects_aspa::AsProviderAttestation;
+use objects_aspa::{AsBlocks, IpBlocks};
+use objects_roa::RoaIpAddresses;
+pub use objects_roa::RouteOriginAttestation;
 
 // Whether all addresses of each prefix are in the set, which is one of their family.
 fn are_held(addresses: &RoaIpAddresses, held: &IpBlocks) -> bool
