@@ -1,0 +1,6 @@
+pub mod Firsts
+pub mod Claims
+pub mod FoundBelow
+pub mod FoundAnchor
+pub mod Children
+pub mod Settling

@@ -1,0 +1,13 @@
+pub mod Holders
+pub mod Below
+pub mod Anchors
+pub mod Settled
+-- What stands below, for the crates above.
+pub use Rattle.certs_verify.specs.certs_basics as certs_basics
+pub use Rattle.certs_verify.specs.certs_key as certs_key
+pub use Rattle.certs_verify.specs.certs_errors as certs_errors
+pub use Rattle.rpki_table.specs.rpki_rules.certs_specs as certs_specs
+pub use Rattle.rpki_walk.specs.resources_chain as resources_chain
+pub use Rattle.rpki_walk.specs.resources_set as resources_set
+pub use Rattle.rpki_walk.specs.rpki_readings as rpki_readings
+pub use Rattle.rpki_walk.specs.rpki_rules as rpki_rules
