@@ -1,7 +1,6 @@
 -- What verification tests of a certificate below an authority, or of an anchor's, in the words of the rules.
 use Rattle.std.proofs.Common.{◌≡◌, ℕ, true, Some, None}
 use Rattle.certs_verify.specs.Holders.{ResourceCertValue}
-use Rattle.rpki_walk.specs.Filed.{HasKept, HasListed}
 use Rattle.rpki_authority.specs.resources_chain.Claims.{FitsIn, Kept, Lists}
 use Rattle.rpki_authority.specs.resources_chain.Sets.{IsRunsOf}
 use Rattle.rpki_authority.specs.resources_chain.declared.choice.ResourcesChoice.TheVariants.{Inherit}
@@ -11,7 +10,7 @@ use Rattle.rpki_authority.specs.rpki_rules.Kinds.{Kind, Ipv4, Ipv6, As, claim, o
 use Rattle.rpki_authority.specs.rpki_rules.World.{World}
 use Rattle.rpki_authority.specs.rpki_rules.Points.{Signed, IsValid}
 use Rattle.rpki_authority.specs.rpki_rules.Chains.{Fits}
-use Rattle.rpki_authority.specs.Holders.{cert_of, sets_of}
+use Rattle.rpki_authority.specs.Holders.{sets_of}
 
 -- What is issued is signed by the issuer, and its claim fits.
 pub issued_signed : (w : World) (ca : Cert) (held : Kind → ℕ → Type 0) (c : Cert) → IsIssuedAt w.good w.moment ca held c → Signed w c ca

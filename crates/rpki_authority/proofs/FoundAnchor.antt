@@ -23,17 +23,17 @@ use Rattle.rpki_authority.proofs.Firsts.{none_fails}
 is_anchor : (w : World) (key : Key) (tal : String Global) (c : Cert) (r : ResourceCertValue) → encoded c.tbs.key ≡ encoded key
     → AcceptsAnchor w.digests w.good true w.moment c r.holder → r.tal ≡ tal → IsFoundAnchor w key tal c r
 is_anchor w key tal c r k a t = record {
-    same = a.holds.cert;
-    anchor = record {
-      profile = a.profile;
-      listed = anchor_own w c a.anchor;
-      valid = (a.anchor.0, a.anchor.1.0);
-      good = a.anchor.1.1.1.1.1.0;
-      same_key = k;
-    };
-    holds = own_lists r c a.holds;
-    name = t;
-  }
+  same = a.holds.cert;
+  anchor = record {
+    profile = a.profile;
+    listed = anchor_own w c a.anchor;
+    valid = (a.anchor.0, a.anchor.1.0);
+    good = a.anchor.1.1.1.1.1.0;
+    same_key = k;
+  };
+  holds = own_lists r c a.holds;
+  name = t;
+}
 
 -- What fails a test isn't.
 failed : (w : World) (key : Key) (c : Cert) (fault : Fault) → (fault ≡ wants_memory → ⊥)

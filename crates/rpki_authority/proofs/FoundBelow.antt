@@ -23,15 +23,15 @@ use Rattle.rpki_authority.proofs.Firsts.{none_fails}
 is_below : (w : World) (role : Role) (issuer : ResourceCertValue) (c : Cert) (r : ResourceCertValue)
     → AcceptsIssued w.digests w.good true role w.moment issuer.holder c r.holder → r.tal ≡ issuer.tal → IsFoundBelow w role issuer c r
 is_below w role issuer c r a t = record {
-    same = a.holds.cert;
-    below = record {
-      profile = a.profile;
-      signed = issued_signed w issuer.holder.cert (held_by issuer.holder) c a.issued;
-      fits = issued_fits w issuer.holder.cert (InSet (sets_of issuer)) c a.issued;
-    };
-    holds = below_keeps issuer r c a.holds;
-    tal = t;
-  }
+  same = a.holds.cert;
+  below = record {
+    profile = a.profile;
+    signed = issued_signed w issuer.holder.cert (held_by issuer.holder) c a.issued;
+    fits = issued_fits w issuer.holder.cert (InSet (sets_of issuer)) c a.issued;
+  };
+  holds = below_keeps issuer r c a.holds;
+  tal = t;
+}
 
 -- What fails a test isn't.
 failed : (w : World) (role : Role) (issuer : ResourceCertValue) (c : Cert) (fault : Fault) → (fault ≡ wants_memory → ⊥)

@@ -1,5 +1,5 @@
 -- What makes a certificate a trust anchor's (RFC 8630 2.3, 3).
-use Rattle.std.specs.Prelude.{◌≡◌, List, Option, Some, None, String}
+use Rattle.std.specs.Prelude.{◌≡◌, Option, Some, None, String}
 use Rattle.std.specs.declared.alloc.Global.{Global}
 use Rattle.certs_verify.specs.Holders.{ResourceCertValue}
 use Rattle.rpki_walk.specs.Filed.{HasListed}

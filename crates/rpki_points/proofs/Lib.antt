@@ -1,0 +1,5 @@
+pub mod Passing
+pub mod Rows
+pub mod Stocked
+pub mod Found
+pub mod Revoking

@@ -3,8 +3,8 @@
 ghost use Rattle.std.specs.Prelude.{◌↔◌, IfOk, IsTrue};
 ghost use Rattle.certs_key.specs.Digesting.{digests_of};
 ghost use Rattle.rpki_points.specs.rpki_readings.Certs.{Verdicts};
-ghost use Rattle.rpki_table.specs.rpki_rules.Points.{IsHeld};
-ghost use Rattle.rpki_table.specs.rpki_rules.World.{world_of};
+ghost use Rattle.rpki_points.specs.rpki_rules.Points.{IsHeld};
+ghost use Rattle.rpki_points.specs.rpki_rules.World.{world_of};
 
 use certs_key::Digester;
 use certs_uri::Rsync;

@@ -1,11 +1,20 @@
-//! What stands at a publication point: whether a file that a manifest lists is there with its hash, its lookup key, and
-//! whether a revocation list may be the point's but for its signature (RFC 9286 6, RFC 6487 5).
+//! What stands at a publication point: whether a file that a manifest lists is there with its hash, the lookup keys of the
+//! files, whether they differ by name and are all there, the revocation list, and whether a certificate is on it (RFC 9286
+//! 6, RFC 6487 5).
 #![tactic(auto)]
 
+pub mod crl;
+pub mod files;
 pub mod held;
 pub mod keys;
 pub mod list;
+pub mod names;
+pub mod revoked;
 
+pub use crl::{find_crl, read_crl};
+pub use files::{files_of, has_files};
 pub use held::is_held;
 pub use keys::key_in;
 pub use list::suits;
+pub use names::differ_by_name;
+pub use revoked::is_unrevoked;

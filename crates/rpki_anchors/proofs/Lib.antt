@@ -1,0 +1,3 @@
+pub mod CertTexts
+pub mod FirstHeld
+pub mod Following

@@ -1,0 +1,28 @@
+//! The first of a locator's URIs at which there is an object.
+
+ghost use Rattle.std.specs.Prelude.{MatchOption, map};
+ghost use Rattle.objects_locator.specs.Uris.{text_of};
+ghost use Rattle.rpki_table.specs.rpki_readings.Certs.{Digests, Verdicts};
+ghost use Rattle.rpki_table.specs.rpki_rules.Points.{IsFirstHeld};
+ghost use Rattle.rpki_table.specs.rpki_rules.World.{world_of};
+ghost use Rattle.rpki_anchors.specs.Leads.{NoneHeld};
+
+use objects_locator::TalUri;
+use rpki_bundle::Object;
+use rpki_table::Index;
+
+/// The object at the first of the URIs at which there is one; none where there is none at any. Its own URI is the
+/// lookup key under which it was found.
+pub fn first_held<'a>(uris: &[TalUri], index: &Index<'a>) -> Option<&'a Object>
+    ensures { (d : Digests) (v : Verdicts) → MatchOption result
+        (NoneHeld (world_of d v index.now) (map text_of uris.now))
+        (λ o. IsFirstHeld (world_of d v index.now) (map text_of uris.now)
+        o.now.uri o.now.octets) }
+{
+    for uri in uris {
+        if let Some(object) = index.object_at(uri.as_str().as_bytes()) {
+            return Some(object);
+        }
+    }
+    None
+}
