@@ -15,4 +15,4 @@ mod message;
 
 pub use content::verify_content;
 pub use message::signed_message;
-pub use objects_signed::{Cert, SignedObject};
+pub use objects_signed::{Cert, SignedObject, SignerInfo};

@@ -11,4 +11,5 @@ pub mod texts;
 pub use certs::{cert_at, read_cert};
 pub use held::first_held;
 pub use leads::{Lead, follow};
+pub use rpki_bundle::{Locator, Object};
 pub use texts::read_locator_text;

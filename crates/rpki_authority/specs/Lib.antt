@@ -11,3 +11,5 @@ pub use Rattle.rpki_walk.specs.resources_chain as resources_chain
 pub use Rattle.rpki_walk.specs.resources_set as resources_set
 pub use Rattle.rpki_walk.specs.rpki_readings as rpki_readings
 pub use Rattle.rpki_walk.specs.rpki_rules as rpki_rules
+pub use Rattle.certs_verify.specs as certs_verify
+pub use Rattle.rpki_walk.specs as rpki_walk

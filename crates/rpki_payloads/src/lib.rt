@@ -11,3 +11,4 @@ pub use names::{Extension, extension_of};
 pub use origins::add_roa_origins;
 pub use payload::Payload;
 pub use provisions::add_aspa_provisions;
+pub use rpki_report::{Origin, Provision};
