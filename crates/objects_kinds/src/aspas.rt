@@ -1,0 +1,78 @@
+//! Provider attestations (draft-ietf-sidrops-aspa-profile 3).
+
+ghost use Rattle.std.specs.Prelude.{◌≡◌};
+ghost use Rattle.objects_forms.specs.Aspas.{AspaText};
+ghost use Rattle.objects_kinds.specs.Kinds.{DecodesKind};
+
+use crate::typed::decode_typed;
+use bcder::decode::{DecodeError, IntoSource, Source};
+use objects_covered::AsProviderAttestation;
+use objects_verify::{Cert, SignedObject};
+use std::alloc::Global;
+use std::marker::Model;
+
+// id-ct-ASPA, 1.2.840.113549.1.9.16.1.49 (draft-ietf-sidrops-aspa-profile 2).
+const CONTENT_TYPE: &[u8] = &[42, 134, 72, 134, 247, 13, 1, 9, 16, 1, 49];
+
+/// A provider attestation: a signed object, and what its content says. Contracts see both.
+#[derive(Drop)]
+pub struct Aspa {
+    signed: SignedObject,
+    content: AsProviderAttestation,
+}
+
+impl Model for Aspa {
+    ghost use Rattle.objects_forms.specs.Aspas.{Aspa as ContentValue};
+    ghost use Rattle.objects_kinds.specs.Kinds.{KindValue};
+
+    ghost Value = { KindValue ContentValue };
+
+    ghost view = { λ k. record { signed = k.signed; content = k.content } };
+}
+
+impl Aspa {
+    /// The provider attestation that a source begins with, in DER, or where not `strict` in BER; octets behind it stay
+    /// unread. Its content is DER in both (draft-ietf-sidrops-aspa-profile 3). None of the content's octets is copied.
+    pub fn decode<I: IntoSource>(
+        alloc: Global,
+        source: I,
+        strict: bool,
+    ) -> Result<Self, DecodeError<<I::Source as Source>::Error>>
+        ensures { DecodesKind AspaText strict (I.octets source) result }
+    {
+        let (signed, octets) = decode_typed(alloc, source, strict, CONTENT_TYPE)?;
+        match AsProviderAttestation::decode(alloc, octets) {
+            Ok(content) => Ok(Aspa { signed, content }),
+            Err(error) => Err(error.convert()),
+        }
+    }
+
+    /// The signed object, with its signer and the octets of its content.
+    pub fn signed(&self) -> &SignedObject
+        ensures { result.now ≡ self.now.signed }
+    {
+        &self.signed
+    }
+
+    /// The certificate with the signer's key (RFC 6488 2.1.4).
+    pub fn cert(&self) -> &Cert
+        ensures { result.now ≡ self.now.signed.cert }
+    {
+        self.signed.cert()
+    }
+
+    /// What the content says.
+    pub fn content(&self) -> &AsProviderAttestation
+        ensures { result.now ≡ self.now.content }
+    {
+        &self.content
+    }
+
+    /// The signed object and what its content says, handed over.
+    pub fn into_parts(self) -> (SignedObject, AsProviderAttestation)
+        ensures signed { result.0 ≡ self.signed }
+        ensures content { result.1 ≡ self.content }
+    {
+        (self.signed, self.content)
+    }
+}

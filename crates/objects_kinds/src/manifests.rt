@@ -1,0 +1,78 @@
+//! Manifests (RFC 9286 4).
+
+ghost use Rattle.std.specs.Prelude.{◌≡◌};
+ghost use Rattle.objects_forms.specs.Manifests.{ManifestText};
+ghost use Rattle.objects_kinds.specs.Kinds.{DecodesKind};
+
+use crate::typed::decode_typed;
+use bcder::decode::{DecodeError, IntoSource, Source};
+use objects_manifest::ManifestContent;
+use objects_verify::{Cert, SignedObject};
+use std::alloc::Global;
+use std::marker::Model;
+
+// id-ct-rpkiManifest, 1.2.840.113549.1.9.16.1.26 (RFC 9286 4.1).
+const CONTENT_TYPE: &[u8] = &[42, 134, 72, 134, 247, 13, 1, 9, 16, 1, 26];
+
+/// A manifest: a signed object, and what its content says. Contracts see both.
+#[derive(Drop)]
+pub struct Manifest {
+    signed: SignedObject,
+    content: ManifestContent,
+}
+
+impl Model for Manifest {
+    ghost use Rattle.objects_forms.specs.Manifests.{Manifest as ContentValue};
+    ghost use Rattle.objects_kinds.specs.Kinds.{KindValue};
+
+    ghost Value = { KindValue ContentValue };
+
+    ghost view = { λ k. record { signed = k.signed; content = k.content } };
+}
+
+impl Manifest {
+    /// The manifest that a source begins with, in DER, or where not `strict` in BER; octets behind it stay unread.
+    /// Its content is DER in both (RFC 9286 4). None of the content's octets is copied.
+    pub fn decode<I: IntoSource>(
+        alloc: Global,
+        source: I,
+        strict: bool,
+    ) -> Result<Self, DecodeError<<I::Source as Source>::Error>>
+        ensures { DecodesKind ManifestText strict (I.octets source) result }
+    {
+        let (signed, octets) = decode_typed(alloc, source, strict, CONTENT_TYPE)?;
+        match ManifestContent::decode(alloc, octets) {
+            Ok(content) => Ok(Manifest { signed, content }),
+            Err(error) => Err(error.convert()),
+        }
+    }
+
+    /// The signed object, with its signer and the octets of its content.
+    pub fn signed(&self) -> &SignedObject
+        ensures { result.now ≡ self.now.signed }
+    {
+        &self.signed
+    }
+
+    /// The certificate with the signer's key (RFC 6488 2.1.4).
+    pub fn cert(&self) -> &Cert
+        ensures { result.now ≡ self.now.signed.cert }
+    {
+        self.signed.cert()
+    }
+
+    /// What the content says.
+    pub fn content(&self) -> &ManifestContent
+        ensures { result.now ≡ self.now.content }
+    {
+        &self.content
+    }
+
+    /// The signed object and what its content says, handed over.
+    pub fn into_parts(self) -> (SignedObject, ManifestContent)
+        ensures signed { result.0 ≡ self.signed }
+        ensures content { result.1 ≡ self.content }
+    {
+        (self.signed, self.content)
+    }
+}

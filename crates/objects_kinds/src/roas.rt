@@ -1,0 +1,78 @@
+//! Route origin attestations (RFC 9582 3).
+
+ghost use Rattle.std.specs.Prelude.{◌≡◌};
+ghost use Rattle.objects_forms.specs.Roas.{RoaText};
+ghost use Rattle.objects_kinds.specs.Kinds.{DecodesKind};
+
+use crate::typed::decode_typed;
+use bcder::decode::{DecodeError, IntoSource, Source};
+use objects_covered::RouteOriginAttestation;
+use objects_verify::{Cert, SignedObject};
+use std::alloc::Global;
+use std::marker::Model;
+
+// id-ct-routeOriginAuthz, 1.2.840.113549.1.9.16.1.24 (RFC 9582 3).
+const CONTENT_TYPE: &[u8] = &[42, 134, 72, 134, 247, 13, 1, 9, 16, 1, 24];
+
+/// A route origin attestation: a signed object, and what its content says. Contracts see both.
+#[derive(Drop)]
+pub struct Roa {
+    signed: SignedObject,
+    content: RouteOriginAttestation,
+}
+
+impl Model for Roa {
+    ghost use Rattle.objects_forms.specs.Roas.{Roa as ContentValue};
+    ghost use Rattle.objects_kinds.specs.Kinds.{KindValue};
+
+    ghost Value = { KindValue ContentValue };
+
+    ghost view = { λ k. record { signed = k.signed; content = k.content } };
+}
+
+impl Roa {
+    /// The route origin attestation that a source begins with, in DER, or where not `strict` in BER; octets behind it
+    /// stay unread. Its content is DER in both (RFC 9582 3, 4). None of the content's octets is copied.
+    pub fn decode<I: IntoSource>(
+        alloc: Global,
+        source: I,
+        strict: bool,
+    ) -> Result<Self, DecodeError<<I::Source as Source>::Error>>
+        ensures { DecodesKind RoaText strict (I.octets source) result }
+    {
+        let (signed, octets) = decode_typed(alloc, source, strict, CONTENT_TYPE)?;
+        match RouteOriginAttestation::decode(alloc, octets) {
+            Ok(content) => Ok(Roa { signed, content }),
+            Err(error) => Err(error.convert()),
+        }
+    }
+
+    /// The signed object, with its signer and the octets of its content.
+    pub fn signed(&self) -> &SignedObject
+        ensures { result.now ≡ self.now.signed }
+    {
+        &self.signed
+    }
+
+    /// The certificate with the signer's key (RFC 6488 2.1.4).
+    pub fn cert(&self) -> &Cert
+        ensures { result.now ≡ self.now.signed.cert }
+    {
+        self.signed.cert()
+    }
+
+    /// What the content says.
+    pub fn content(&self) -> &RouteOriginAttestation
+        ensures { result.now ≡ self.now.content }
+    {
+        &self.content
+    }
+
+    /// The signed object and what its content says, handed over.
+    pub fn into_parts(self) -> (SignedObject, RouteOriginAttestation)
+        ensures signed { result.0 ≡ self.signed }
+        ensures content { result.1 ≡ self.content }
+    {
+        (self.signed, self.content)
+    }
+}
