@@ -139,7 +139,9 @@ def check(folder):
 
 def is_refused(end):
     """Whether a function has no proof by itself, and not because it waits for another's."""
-    return (end.startswith("not proved") and "waits for" not in end) or end.startswith("no proof")
+    if end.startswith("no proof"):
+        return not end.startswith("no proof: it calls ")
+    return end.startswith("not proved") and "waits for" not in end
 
 
 def refused_at(edit, folder, ends):
