@@ -32,7 +32,8 @@ impl Model for Aspa {
 
 impl Aspa {
     /// The provider attestation that a source begins with, in DER, or where not `strict` in BER; octets behind it stay
-    /// unread. Its content is DER in both (draft-ietf-sidrops-aspa-profile 3). None of the content's octets is copied.
+    /// unread. Its content is DER in both (draft-ietf-sidrops-aspa-profile 3). Its octets are shared where they stand in one
+    /// piece.
     pub fn decode<I: IntoSource>(
         alloc: Global,
         source: I,

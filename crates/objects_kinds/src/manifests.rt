@@ -32,7 +32,7 @@ impl Model for Manifest {
 
 impl Manifest {
     /// The manifest that a source begins with, in DER, or where not `strict` in BER; octets behind it stay unread.
-    /// Its content is DER in both (RFC 9286 4). None of the content's octets is copied.
+    /// Its content is DER in both (RFC 9286 4). Its octets are shared where they stand in one piece.
     pub fn decode<I: IntoSource>(
         alloc: Global,
         source: I,

@@ -32,7 +32,7 @@ impl Model for Roa {
 
 impl Roa {
     /// The route origin attestation that a source begins with, in DER, or where not `strict` in BER; octets behind it
-    /// stay unread. Its content is DER in both (RFC 9582 3, 4). None of the content's octets is copied.
+    /// stay unread. Its content is DER in both (RFC 9582 3, 4). Its octets are shared where they stand in one piece.
     pub fn decode<I: IntoSource>(
         alloc: Global,
         source: I,
