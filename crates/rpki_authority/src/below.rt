@@ -3,7 +3,7 @@
 ghost use Rattle.std.specs.Prelude.{◌≡◌, IfOk};
 ghost use Rattle.certs_verify.specs.Answers.{AsksOnce};
 ghost use Rattle.rpki_authority.specs.certs_key.Digesting.{digests_of};
-ghost use Rattle.rpki_authority.specs.certs_specs.declared.Role.TheVariants.{Ca, Ee};
+ghost use Rattle.rpki_authority.specs.certs_specs.declared.Role.TheVariants.{Ca};
 ghost use Rattle.rpki_authority.specs.rpki_rules.World.{world_of};
 ghost use Rattle.rpki_authority.specs.Below.{FindsBelow};
 
@@ -30,26 +30,5 @@ pub fn authority_below<D: Digester, V: Verifier>(
 {
     let now = index.moment();
     let validated = cert.validate_ca_at(alloc, issuer, true, now, digester, verifier);
-    settle(validated)
-}
-
-/// The certificate as that of a published object below the issuer, with what it then holds, or nothing where it is none:
-/// its form, its signature and validity, and its claim are looked at.
-pub fn object_cert_below<D: Digester, V: Verifier>(
-    alloc: Global,
-    cert: Cert,
-    issuer: &ResourceCert,
-    index: &Index<'_>,
-    digester: &D,
-    verifier: &mut V,
-) -> Result<Option<ResourceCert>, AllocError>
-    ensures found { IfOk result (FindsBelow (world_of
-        (digests_of D.sha256_digest D.sha1_digest digester.now) (V.says verifier.old) index.now)
-        Ee issuer.now cert) }
-    ensures same { V.says verifier.new ≡ V.says verifier.old }
-    ensures asked { AsksOnce (V.count verifier.old) (V.count verifier.new) }
-{
-    let now = index.moment();
-    let validated = cert.validate_ee_at(alloc, issuer, true, now, digester, verifier);
     settle(validated)
 }

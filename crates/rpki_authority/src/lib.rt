@@ -10,7 +10,7 @@ mod below;
 mod settled;
 
 pub use anchors::anchor_cert;
-pub use below::{authority_below, object_cert_below};
+pub use below::authority_below;
 pub use certs_verify::{Cert, ResourceCert, TalInfo};
 pub use rpki_table::Index;
 pub use rpki_walk::{Filed, Leads, Steps};

@@ -1,9 +1,9 @@
 use Rattle.std.proofs.Common.{◌≡◌}
 use Rattle.certs_key.specs.Digesting.{digests_of}
 use Rattle.objects_verify.specs.Content.{object_with}
-use Rattle.rpki_steps.specs.rpki_readings.Objects.{Object}
-use Rattle.rpki_steps.proofs.Sounding.{sound_not, sound_told}
-use Rattle.rpki_steps.proofs.objects.is_sound.Goals as goal
+use Rattle.rpki_signed.specs.rpki_readings.Objects.{Object}
+use Rattle.rpki_signed.proofs.Sounding.{sound_not, sound_told}
+use Rattle.rpki_signed.proofs.objects.is_sound.Goals as goal
 
 pub returns-in-Ok-clause-sound : goal.returns-in-Ok-clause-sound
 returns-in-Ok-clause-sound g c =

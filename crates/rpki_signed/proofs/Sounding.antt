@@ -4,8 +4,8 @@ use Rattle.std.specs.Prelude.{◌↔◌, IsTrue}
 use Rattle.certs_errors.specs.declared.verification.VerificationError.{VerificationError}
 use Rattle.certs_errors.specs.declared.verification.VerificationError.TheVariants as error
 use Rattle.objects_verify.specs.Content.{FailsContent, VerifiesContent}
-use Rattle.rpki_steps.specs.rpki_readings.Certs.{Digests, Verdicts}
-use Rattle.rpki_steps.specs.rpki_readings.Objects.{Object, Sound}
+use Rattle.rpki_signed.specs.rpki_readings.Certs.{Digests, Verdicts}
+use Rattle.rpki_signed.specs.rpki_readings.Objects.{Object, Sound}
 
 -- A test that fails says that the object isn't sound; want of memory says nothing.
 fails_not : (d : Digests) (v : Verdicts) (o : Object) (e : VerificationError) → (e ≡ error.Memory → ⊥) → FailsContent d v o e → Sound d v o → ⊥

@@ -1,9 +1,9 @@
 //! What is asked of any signed object (RFC 6488 3).
 
-ghost use Rattle.std.specs.Prelude.{◌≡◌, ◌↔◌, IfOk, IsTrue};
+ghost use Rattle.std.specs.Prelude.{◌≡◌, ◌↔◌, ◌+◌, ◌≤◌, IfOk, IsTrue};
 ghost use Rattle.certs_errors.specs.declared.verification.VerificationError.TheVariants.{Memory};
 ghost use Rattle.certs_key.specs.Digesting.{digests_of};
-ghost use Rattle.rpki_steps.specs.rpki_readings.Objects.{Sound};
+ghost use Rattle.rpki_signed.specs.rpki_readings.Objects.{Sound};
 
 use certs_errors::VerificationError;
 use certs_key::{Digester, Verifier};
@@ -28,6 +28,7 @@ pub fn is_sound<D: Digester, V: Verifier>(
     ensures sound { IfOk result (λ yes. IsTrue yes ↔ Sound
         (digests_of D.sha256_digest D.sha1_digest digester.now) (V.says verifier.old) signed.now) }
     ensures same { V.says verifier.new ≡ V.says verifier.old }
+    ensures asked { V.count verifier.new ≤ V.count verifier.old + 1 }
 {
     let verified = verify_content(
         alloc,

@@ -1,0 +1,15 @@
+//! Route origin and provider attestations at a publication point, what their certificates claim apart (RFC 6488 3, RFC 9582,
+//! draft-ietf-sidrops-aspa-profile).
+//!
+//! What is read here depends on no numbers that are held, so that a judge who climbs may read it too.
+#![tactic(auto)]
+
+pub mod find;
+pub mod published;
+pub mod readings;
+
+pub use find::find_object;
+pub use published::Published;
+pub use rpki_payloads::{Extension, Payload, extension_of};
+pub use rpki_points::Crl;
+pub use rpki_signed::{Cert, Digester, Index, Verifier};

@@ -1,0 +1,40 @@
+//! Certificates of trust anchors (RFC 8630 2.3, 3).
+
+ghost use Rattle.std.specs.Prelude.{◌≡◌, ◌↔◌, ◌+◌, ◌≤◌, IsTrue};
+ghost use Rattle.rpki_signed.specs.certs_key.Digesting.{digests_of};
+ghost use Rattle.rpki_signed.specs.rpki_readings.Certs.{encoded};
+ghost use Rattle.rpki_signed.specs.rpki_rules.Points.{IsAnchorCert};
+ghost use Rattle.rpki_signed.specs.rpki_rules.World.{world_of};
+
+use certs_verify::{Cert, Digester, Inspect, PublicKey, Verifier, Verify};
+use rpki_table::Index;
+
+// Whether the certificate's key is that key, by what is encoded of it.
+fn has_key(cert: &Cert, key: &PublicKey) -> bool
+    ensures { IsTrue result ↔ (encoded cert.now.tbs.key ≡ encoded key.now) }
+{
+    let own = cert.tbs().subject_public_key_info();
+    own.encoded() == key.encoded()
+}
+
+/// Whether the certificate is one of a trust anchor with that key: it has the form, inherits nothing, is valid at the
+/// bundle's moment, and signed itself.
+pub fn is_anchor_cert<D: Digester, V: Verifier>(
+    cert: &Cert,
+    key: &PublicKey,
+    index: &Index<'_>,
+    digester: &D,
+    verifier: &mut V,
+) -> bool
+    ensures anchor { IsTrue result ↔ IsAnchorCert (world_of
+        (digests_of D.sha256_digest D.sha1_digest digester.now) (V.says verifier.old) index.now)
+        key.now cert.now }
+    ensures same { V.says verifier.new ≡ V.says verifier.old }
+    ensures asked { V.count verifier.new ≤ V.count verifier.old + 1 }
+{
+    has_key(cert, key)
+        && cert.inspect_ta(true, digester).is_ok()
+        && cert
+            .verify_ta_ref_at(true, index.moment(), verifier)
+            .is_ok()
+}

@@ -1,0 +1,15 @@
+//! Publication points, what the certificates of their manifests claim apart (RFC 9286 6, RFC 6487 5): the manifest that an
+//! authority's certificate names, its files, and its revocation list.
+//!
+//! What is read here depends on no numbers that are held, so that a judge who climbs may read it too.
+#![tactic(auto)]
+
+pub mod manifests;
+pub mod parts;
+pub mod point;
+
+pub use manifests::find_manifest;
+pub use objects_kinds::Manifest;
+pub use point::{Point, point_unheld};
+pub use rpki_points::Crl;
+pub use rpki_signed::{Cert, Digester, Index, Verifier};

@@ -1,0 +1,84 @@
+//! The manifest of an authority (RFC 9286 6.2, 6.3).
+
+ghost use Rattle.std.specs.Prelude.{◌≡◌, ◌↔◌, ◌+◌, ◌≤◌, IfOk, IsTrue};
+ghost use Rattle.rpki_standing.specs.certs_key.Digesting.{digests_of};
+ghost use Rattle.rpki_standing.specs.rpki_points.Crls.{Finds};
+ghost use Rattle.rpki_standing.specs.rpki_readings.Certs.{Digests, Verdicts};
+ghost use Rattle.rpki_standing.specs.rpki_rules.World.{world_of};
+ghost use Rattle.rpki_standing.specs.Manifests.{IsOwnManifest, IsReadAt, IsSoundFor};
+
+use bcder::decode::DecodeError;
+use bytes::Bytes;
+use objects_kinds::Manifest;
+use rpki_signed::{Cert, Digester, Index, Verifier, is_issued_to_object};
+use std::alloc::{AllocError, Global};
+
+// The manifest that those octets begin with, in DER.
+fn manifest_in(alloc: Global, octets: &Bytes) -> Result<Option<Manifest>, AllocError> {
+    match Manifest::decode(alloc, octets.clone()?, true) {
+        Ok(manifest) => Ok(Some(manifest)),
+        Err(DecodeError::Content(_, _)) => Ok(None),
+        Err(_) => Err(AllocError),
+    }
+}
+
+// The manifest that the object at the authority's manifest URI reads as, whosever it is.
+fn manifest_at(
+    alloc: Global,
+    ca: &Cert,
+    index: &Index<'_>,
+) -> Result<Option<Manifest>, AllocError>
+    ensures { IfOk result (λ found. (d : Digests) (v : Verdicts)
+        → Finds (IsReadAt (world_of d v index.now) ca.now) found) }
+{
+    let Some(uri) = ca.tbs().rpki_manifest() else {
+        return Ok(None);
+    };
+    let Some(object) = index.object_at(uri.as_slice()) else {
+        return Ok(None);
+    };
+    manifest_in(alloc, &object.octets)
+}
+
+// Whether the bundle's moment lies between both updates.
+fn is_current(manifest: &Manifest, index: &Index<'_>) -> bool {
+    let (content, now) = (manifest.content(), index.moment());
+    content.this_update() <= now && now <= content.next_update()
+}
+
+// Whether the manifest is current and the authority's own: its certificate is issued by it, and the object is sound. The
+// verifier is asked twice, at most.
+fn is_own<D: Digester, V: Verifier>(
+    alloc: Global,
+    manifest: &Manifest,
+    ca: &Cert,
+    index: &Index<'_>,
+    digester: &D,
+    verifier: &mut V,
+) -> Result<bool, AllocError>
+    ensures own { IfOk result (λ yes. IsTrue yes ↔ IsSoundFor (world_of
+        (digests_of D.sha256_digest D.sha1_digest digester.now) (V.says verifier.old) index.now)
+        ca.now manifest.now) }
+    ensures same { V.says verifier.new ≡ V.says verifier.old }
+    ensures asked { V.count verifier.new ≤ V.count verifier.old + 2 }
+{
+    Err(AllocError)
+}
+
+/// The authority's manifest: the one at its manifest URI, if it is current and its own. What its certificate claims isn't
+/// looked at. The verifier is asked twice, at most: for its certificate, and for its content.
+pub fn find_manifest<D: Digester, V: Verifier>(
+    alloc: Global,
+    ca: &Cert,
+    index: &Index<'_>,
+    digester: &D,
+    verifier: &mut V,
+) -> Result<Option<Manifest>, AllocError>
+    ensures found { IfOk result (Finds (IsOwnManifest (world_of
+        (digests_of D.sha256_digest D.sha1_digest digester.now) (V.says verifier.old) index.now)
+        ca.now)) }
+    ensures same { V.says verifier.new ≡ V.says verifier.old }
+    ensures asked { V.count verifier.new ≤ V.count verifier.old + 2 }
+{
+    Err(AllocError)
+}

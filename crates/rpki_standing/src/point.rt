@@ -1,0 +1,89 @@
+//! What stands at a publication point.
+
+ghost use Rattle.std.specs.Prelude.{◌≡◌, ◌+◌, ◌≤◌, IfOk, option_copied};
+ghost use Rattle.rpki_standing.specs.certs_key.Digesting.{digests_of};
+ghost use Rattle.rpki_standing.specs.rpki_rules.World.{world_of};
+ghost use Rattle.rpki_standing.specs.Standing.{FindsPoint};
+
+use crate::manifests::find_manifest;
+use crate::parts::{held_files, own_list};
+use bytes::Bytes;
+use certs_uri::Rsync;
+use objects_kinds::Manifest;
+use rpki_points::Crl;
+use rpki_signed::{Cert, Digester, Index, Verifier};
+use std::alloc::{AllocError, Global};
+use std::marker::Model;
+
+/// A publication point: the manifest, the lookup keys of the files that it lists, and the revocation list. Contracts see the
+/// manifest with its content, the list, and the keys.
+#[derive(Drop)]
+pub struct Point {
+    manifest: Manifest,
+    keys: Vec<Bytes>,
+    crl: Crl,
+}
+
+impl Model for Point {
+    ghost use Rattle.rpki_standing.specs.Standing.{StandingValue};
+
+    ghost Value = { StandingValue };
+
+    ghost view = { λ p. record {
+      point = record {
+        object = p.manifest.signed;
+        manifest = p.manifest.content;
+        crl = p.crl;
+      };
+      keys = p.keys.items;
+    } };
+}
+
+impl Point {
+    /// The certificate of the manifest.
+    pub fn manifest_cert(&self) -> &Cert
+        ensures { result.now ≡ self.now.point.object.cert }
+    {
+        self.manifest.cert()
+    }
+
+    /// The revocation list.
+    pub fn crl(&self) -> &Crl
+        ensures { result.now ≡ self.now.point.crl }
+    {
+        &self.crl
+    }
+
+    /// Where the revocation list stands, as the manifest's certificate names it.
+    pub fn crl_uri(&self) -> Option<&Rsync>
+        ensures { option_copied result ≡ self.now.point.object.cert.tbs.crl_uri }
+    {
+        self.manifest.cert().tbs().crl_uri()
+    }
+
+    /// The lookup keys of the files, in the manifest's order.
+    pub fn files(&self) -> &[Bytes]
+        ensures { result.now ≡ self.now.keys }
+    {
+        &self.keys
+    }
+}
+
+/// What stands at the authority's publication point, what the manifest's certificate claims apart; nothing where the point is
+/// refused (RFC 9286 6.2 to 6.6). Each file is digested once. The verifier is asked three times, at most: for the manifest's
+/// certificate, for its content, and for the revocation list.
+pub fn point_unheld<D: Digester, V: Verifier>(
+    alloc: Global,
+    ca: &Cert,
+    index: &Index<'_>,
+    digester: &D,
+    verifier: &mut V,
+) -> Result<Option<Point>, AllocError>
+    ensures found { IfOk result (FindsPoint (world_of
+        (digests_of D.sha256_digest D.sha1_digest digester.now) (V.says verifier.old) index.now)
+        ca.now) }
+    ensures same { V.says verifier.new ≡ V.says verifier.old }
+    ensures asked { V.count verifier.new ≤ V.count verifier.old + 3 }
+{
+    Err(AllocError)
+}
