@@ -6,6 +6,7 @@ use Rattle.rpki_validator.specs.declared.runs.RunError.{RunError}
 use Rattle.rpki_validator.specs.declared.runs.RunError.TheVariants as errors
 use Rattle.rpki_validator.specs.Streams.{ReadsUpTo, TakesSome}
 use Rattle.rpki_validator.specs.Run.{IsTextOf, HasText, ReadsBundle, Prints, StopsPrinting, RunFails, TextFails, most_octets}
+use Rattle.rpki_validator.specs.rpki_readings.Certs.{Digests}
 
 keeps : (w : Option (List ℕ)) → Keeps w w
 keeps None = tt
@@ -24,29 +25,28 @@ bundle_ended {after = after} {octets} {b} bounded read text = record {
   text = text;
 }
 
-pub has_text : {before after : Option (List ℕ)} {octets text : List ℕ} → Bounded → ReadsUpTo most_octets before after octets → IsTextOf octets text → HasText before after text
-has_text bounded read t = record { bundle = t.bundle; read = bundle_ended bounded read t.is; empty = t.empty; output = t.output }
+pub has_text : {d : Digests} {before after : Option (List ℕ)} {octets text : List ℕ} → Bounded → ReadsUpTo most_octets before after octets → IsTextOf d octets text → HasText d before after text
+has_text bounded read t = record { bundle = t.bundle; read = bundle_ended bounded read t.is; output = t.output }
 
 -- A refusal before anything is written.
-pub text_refused : Bounded → (e : RunError) (octets seen : List ℕ) {before after : Option (List ℕ)} (w : Option (List ℕ)) → seen ≡ octets → ReadsUpTo most_octets before after octets → length octets ≤ most_octets → TextFails e seen → RunFails e before after w w
+pub text_refused : {d : Digests} → Bounded → (e : RunError) (octets seen : List ℕ) {before after : Option (List ℕ)} (w : Option (List ℕ)) → seen ≡ octets → ReadsUpTo most_octets before after octets → length octets ≤ most_octets → TextFails e seen → RunFails d e before after w w
 text_refused bounded errors.Read octets seen w same read few f = absurd f
 text_refused bounded errors.NotABundle octets seen w same read few f = (record { octets = octets; few = few; read = read; none = λ b t. f b (subst (λ (s : List ℕ). BundleText s b) (sym same) t) }, keeps w)
-text_refused bounded errors.NotYet octets seen w same read few f = (record { bundle = f.0; read = bundle_ended bounded read (subst (λ (s : List ℕ). BundleText s f.0) same f.1); some = f.2 }, keeps w)
 text_refused bounded errors.Write octets seen w same read few f = absurd f
 text_refused bounded errors.Memory octets seen w same read few f = (record { octets = octets; few = few; consumed = read.consumed }, keeps w)
 
 -- A write that stopped.
-pub stopped : {before after written left : Option (List ℕ)} {octets seen text shown : List ℕ} → Bounded → seen ≡ octets → shown ≡ text → ReadsUpTo most_octets before after octets → IsTextOf seen text → TakesSome written left shown → StopsPrinting before after written left
-stopped {written = written} {left} {octets} {text = text} bounded same shows read t takes = record {
+pub stopped : {d : Digests} {before after written left : Option (List ℕ)} {octets seen text shown : List ℕ} → Bounded → seen ≡ octets → shown ≡ text → ReadsUpTo most_octets before after octets → IsTextOf d seen text → TakesSome written left shown → StopsPrinting d before after written left
+stopped {d} {written = written} {left} {octets} {text = text} bounded same shows read t takes = record {
   text = text;
-  has = has_text bounded read (subst (λ (s : List ℕ). IsTextOf s text) same t);
+  has = has_text bounded read (subst (λ (s : List ℕ). IsTextOf d s text) same t);
   written = subst (TakesSome written left) shows takes;
 }
 
 -- A text that was written.
-pub printed : {before after written left : Option (List ℕ)} {octets seen text shown : List ℕ} → Bounded → seen ≡ octets → shown ≡ text → ReadsUpTo most_octets before after octets → IsTextOf seen text → Appends written left shown → Prints before after written left
-printed {written = written} {left} {octets} {text = text} bounded same shows read t takes = record {
+pub printed : {d : Digests} {before after written left : Option (List ℕ)} {octets seen text shown : List ℕ} → Bounded → seen ≡ octets → shown ≡ text → ReadsUpTo most_octets before after octets → IsTextOf d seen text → Appends written left shown → Prints d before after written left
+printed {d} {written = written} {left} {octets} {text = text} bounded same shows read t takes = record {
   text = text;
-  has = has_text bounded read (subst (λ (s : List ℕ). IsTextOf s text) same t);
+  has = has_text bounded read (subst (λ (s : List ℕ). IsTextOf d s text) same t);
   written = subst (Appends written left) shows takes;
 }
