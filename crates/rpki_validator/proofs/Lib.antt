@@ -1,7 +1,6 @@
 mod Pieces
 mod Ends
 mod Forging
-mod Outputs
 pub mod of_bcder_tree
 pub mod of_certs_time
 pub mod of_rpki_bundle

@@ -76,15 +76,16 @@ CountsWrites (Err errors.NotABundle) old new = new ≡ old
 CountsWrites (Err errors.Write) old new = new ≡ old + 1
 CountsWrites (Err errors.Memory) old new = new ≡ old
 
--- What a refusal says before anything is written.
-abbrev pub TextFails : RunError → List ℕ → Type 0
-TextFails errors.Read octets = ⊥
-TextFails errors.NotABundle octets = (b : BundleValue) → BundleText octets b → ⊥
-TextFails errors.Write octets = ⊥
-TextFails errors.Memory octets = Unit {0}
+-- Why octets are no bundle's, or there was no memory.
+abbrev pub IsNoBundle : RunError → List ℕ → Type 0
+IsNoBundle errors.Read octets = ⊥
+IsNoBundle errors.NotABundle octets = (b : BundleValue) → BundleText octets b → ⊥
+IsNoBundle errors.Write octets = ⊥
+IsNoBundle errors.Memory octets = Unit {0}
 
--- The text is the output of the bundle that the octets spell.
-pub record IsTextOf (d : Digests) (octets text : List ℕ) : Type 0 where
-  pub bundle : BundleValue
-  pub is : BundleText octets bundle
-  pub output : IsOutput (run_world d bundle) text
+-- What a refusal says of what was read, where nothing is written.
+abbrev pub BundleFails : RunError → Option (List ℕ) → Option (List ℕ) → Type 0
+BundleFails errors.Read r r' = ReadsSome r r'
+BundleFails errors.NotABundle r r' = ReadsNoBundle r r'
+BundleFails errors.Write r r' = ⊥
+BundleFails errors.Memory r r' = ReadsSome r r'

@@ -15,5 +15,5 @@ pub use rpki_judge::Judgement;
 pub use rpki_lines::render;
 pub use rpki_reach::Reach;
 pub use rpki_report::{Cause, Customer, Origin, Refusal, Report, Witness};
-pub use runs::{RunError, run};
+pub use runs::{RunError, read_bundle, run};
 pub use streams::{WriteFault, write_all};

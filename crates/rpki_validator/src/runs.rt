@@ -5,7 +5,8 @@ ghost use Rattle.rpki_validator.specs.certs_key.Digesting.{digests_of};
 ghost use Rattle.rpki_validator.specs.rpki_bundle.Bundle.{BundleText};
 ghost use Rattle.rpki_validator.specs.rpki_rules.Output.{IsOutput};
 ghost use Rattle.rpki_validator.specs.rpki_rules.World.{run_world};
-ghost use Rattle.rpki_validator.specs.Run.{IsTextOf, TextFails, Prints, RunFails, CountsReads, CountsWrites};
+ghost use Rattle.rpki_validator.specs.Run.{BundleFails, IsNoBundle, ReadsBundle};
+ghost use Rattle.rpki_validator.specs.Run.{CountsReads, CountsWrites, Prints, RunFails};
 ghost use Rattle.rpki_validator.specs.declared.runs.RunError.TheVariants.{Memory as memory_error};
 
 use crate::bundles::walk;
@@ -62,28 +63,42 @@ fn output_of<D: Digester>(
 // One octet more than any bundle has.
 const MOST_OCTETS: usize = 4_294_967_302;
 
-// All that is printed of the bundle that the octets are.
-fn text_of<D: Digester>(alloc: Global, octets: &[u8], digester: &D) -> Result<Vec<u8>, RunError>
-    ensures ok { IfOk result (λ text. IsTextOf
-        (digests_of D.sha256_digest D.sha1_digest digester.now) octets.now text.items) }
-    ensures refused { IfErr result (λ e. TextFails e octets.now) }
+// The bundle that the octets spell, all of them.
+fn bundle_of(alloc: Global, octets: &[u8]) -> Result<Bundle, RunError>
+    ensures ok { IfOk result (BundleText octets.now) }
+    ensures refused { IfErr result (λ e. IsNoBundle e octets.now) }
 {
-    let bundle = match Bundle::decode(alloc, octets) {
-        Ok(bundle) => bundle,
-        Err(BundleError::NotABundle) => return Err(RunError::NotABundle),
-        Err(BundleError::Memory) => return Err(RunError::Memory),
-    };
-    match output_of(alloc, &bundle, digester) {
-        Ok(text) => Ok(text),
-        Err(_) => Err(RunError::Memory),
+    match Bundle::decode(alloc, octets) {
+        Ok(bundle) => Ok(bundle),
+        Err(BundleError::NotABundle) => Err(RunError::NotABundle),
+        Err(BundleError::Memory) => Err(RunError::Memory),
     }
+}
+
+/// Reads a bundle to the end of its input. Reading stops at one octet more than a bundle can have.
+pub fn read_bundle<R: Read>(alloc: Global, reader: &mut Counted<R>) -> Result<Bundle, RunError>
+    requires few { reader.old.failures < 2 ^ 64 - 1 }
+
+    ensures ok { IfOk result (ReadsBundle (R.remaining reader.old.inner)
+        (R.remaining reader.new.inner)) }
+    ensures refused { IfErr result (λ e. BundleFails e (R.remaining reader.old.inner)
+        (R.remaining reader.new.inner)) }
+    ensures reads { CountsReads result reader.old.failures reader.new.failures }
+{
+    // So a bundle ends before the reading is stopped.
+    bundle_length();
+    let octets = match read_all(alloc, reader, MOST_OCTETS) {
+        Ok(octets) => octets,
+        Err(ReadFault::Read) => return Err(RunError::Read),
+        Err(ReadFault::Memory) => return Err(RunError::Memory),
+    };
+    bundle_of(alloc, octets.as_slice())
 }
 
 /// Reads a bundle to the end of its input, and writes its lines: what its accepted chains attest, and what the rules refuse,
 /// each once and in order.
 ///
-/// Reading stops at one octet more than a bundle can have. The whole text is made before its first octet is
-/// written, so that of the refusals only `Write` leaves anything written.
+/// The whole text is made before its first octet is written, so that of the refusals only `Write` leaves anything written.
 pub fn run<R: Read, W: Write, D: Digester>(
     alloc: Global,
     reader: &mut Counted<R>,
@@ -104,16 +119,15 @@ pub fn run<R: Read, W: Write, D: Digester>(
     ensures reads { CountsReads result reader.old.failures reader.new.failures }
     ensures writes { CountsWrites result writer.old.failures writer.new.failures }
 {
-    // So a bundle ends before the reading is stopped.
+    // So a bundle that was read has fewer octets than where reading stops.
     bundle_length();
-    let octets = match read_all(alloc, reader, MOST_OCTETS) {
-        Ok(octets) => octets,
-        Err(ReadFault::Read) => return Err(RunError::Read),
-        Err(ReadFault::Memory) => return Err(RunError::Memory),
-    };
-    let text = match text_of(alloc, octets.as_slice(), digester) {
-        Ok(text) => text,
+    let bundle = match read_bundle(alloc, reader) {
+        Ok(bundle) => bundle,
         Err(error) => return Err(error),
+    };
+    let text = match output_of(alloc, &bundle, digester) {
+        Ok(text) => text,
+        Err(_) => return Err(RunError::Memory),
     };
     match write_all(writer, text.as_slice()) {
         Ok(()) => Ok(()),
