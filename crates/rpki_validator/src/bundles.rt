@@ -52,12 +52,11 @@ pub fn judge<D: Digester, V: Verifier>(
         ≤ V.count verifier.old + may_ask (length (trace_of witness.now).chain) }
 {
     let mut evidence = BundleEvidence::new(Index::new(bundle), digester, verifier);
-    let path = witness.path();
     rpki_judge::judge(
         alloc,
         &mut evidence,
-        path.locator().as_slice(),
-        path.chain(),
+        witness.locator().as_slice(),
+        witness.chain(),
         witness.object().as_slice(),
     )
 }
