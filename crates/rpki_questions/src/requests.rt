@@ -41,12 +41,12 @@ rpki_ask [--json] reach URI.. | rpki_ask [--json] why URI\n";
 // The question that these words ask.
 fn question_of(words: &[String]) -> Option<Question<'_>> {
     match words {
-        [verb, locator, object, first, ..] if verb.as_str() == "judge" => Some(Question::Judge {
+        [verb, locator, object, _, ..] if verb.as_str() == "judge" => Some(Question::Judge {
             locator: locator.as_str(),
             object: object.as_str(),
             chain: &words[3..],
         }),
-        [verb, first, ..] if verb.as_str() == "reach" => Some(Question::Reach { uris: &words[1..] }),
+        [verb, _, ..] if verb.as_str() == "reach" => Some(Question::Reach { uris: &words[1..] }),
         [verb, uri] if verb.as_str() == "why" => Some(Question::Why { uri: uri.as_str() }),
         _ => None,
     }
