@@ -119,7 +119,6 @@ fn texts(answer: &mut Answer) {
     for error in [
         RunError::Read,
         RunError::NotABundle,
-        RunError::NotYet,
         RunError::Write,
         RunError::Memory,
     ] {

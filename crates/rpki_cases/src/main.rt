@@ -12,6 +12,7 @@ mod octets;
 mod streams;
 mod times;
 mod uris;
+mod walks;
 
 use answers::Answer;
 use anyhow::Result;
@@ -30,6 +31,9 @@ fn answer(rt: &HostRuntime, words: &[&str]) -> Answer {
         "utc" | "moment" | "order" => times::answer(&mut answer, *question, rest),
         "uri" | "compare" => uris::answer(rt.alloc(), &mut answer, *question, rest),
         "put" | "folder" | "link" | "mode" => files::answer(rt, &mut answer, *question, rest),
+        "walk" | "flips" | "cuts" | "rooms" | "reads" => {
+            walks::answer(rt.alloc(), &mut answer, *question, rest)
+        }
         _ => commands::answer(rt, &mut answer, *question, rest),
     };
     if let Err(error) = said {
