@@ -1,5 +1,5 @@
 #!/usr/bin/env python3
-"""Writes the questions, answers and folders of crates/rpki_cases: tests/rpki_cases.py
+"""Writes the questions, answers and folders of crates/rpki_cases, and cases of tests/cases: tests/rpki_cases.py
 
 Bundles are written and read by tests/rpki_bundles.py, repositories are made by tests/rpki_repositories.py, and what is
 printed of them is stated here or comes of tests/rpki_model.py, a second reading of the rules in Python; digests are
@@ -10,15 +10,17 @@ stands between the words of a question.
 import hashlib
 import pathlib
 import random
+import re
 import shutil
 
 import rpki_model
+import rpki_walks
 from rpki_bundles import bundle, is_date, is_key, is_lawful, lookup_key, read, uri_kind
 from rpki_repositories import MOMENT, tlv
-from rpki_walks import walks
 
 FOLDER = pathlib.Path(__file__).resolve().parent.parent / "crates" / "rpki_cases"
 DATA = FOLDER / "data"
+CASES = pathlib.Path(__file__).resolve().parent / "cases"
 rng = random.Random(6487)
 MANY = "4000000000"
 HEAD = "02 01 00 18 0F 32 30 32 35 30 31 30 31 30 30 30 30 30 30 5A"
@@ -640,11 +642,26 @@ def spelled_verdicts(q):
         f.gives(NO_BUNDLE)
 
 
+# Cases for the built program.
+
+
+def stored_cases():
+    """Worked cases of walks as files of tests/cases, for tests/cases.sh; those of bundles alone were written by hand."""
+    for name, world, lines in rpki_walks.worked_cases():
+        if not re.fullmatch(r"[a-z0-9-]+", name):
+            continue
+        parts = {"args": b"check\n", "stdin": world.bundle(), "stderr": b"", "status": b"0\n"}
+        parts["stdout"] = "".join(f"{line}\n" for line in lines).encode()
+        for part, octets in parts.items():
+            (CASES / f"{name}.{part}").write_bytes(octets)
+
+
 def main():
     q = Questions()
     shutil.rmtree(DATA, ignore_errors=True)
-    for part in (worked_cases, streams, texts, bundles, get_and_parts, times, uris, walks, case_folder, kinds_of_entries, made_folders, spelled_lines):
+    for part in (worked_cases, streams, texts, bundles, get_and_parts, times, uris, rpki_walks.walks, case_folder, kinds_of_entries, made_folders, spelled_lines):
         part(q)
+    stored_cases()
     (FOLDER / "stdin").write_text("".join(f"{question}\n" for question, _ in q.rows))
     (FOLDER / "stdout").write_text("".join(f"{answer}\n" for _, answer in q.rows))
     print(len(q.rows), "questions")

@@ -226,16 +226,22 @@ class World:
             self.verdicts.append(row)
         return signature
 
+    def altered(self, octets):
+        """The octets of a value that is about to be signed; a world by chance changes some."""
+        return octets
+
     def cert(self, key, issuer, extensions, serial=None, validity=(FIRST, LAST), signer=None):
-        tbs = seq(
-            tlv(0xA0, integer(2)),
-            integer(self.number() if serial is None else serial),
-            ALGORITHM,
-            self.name(issuer),
-            seq(*map(time, validity)),
-            self.name(key),
-            encoded(key),
-            tlv(0xA3, seq(*extensions)),
+        tbs = self.altered(
+            seq(
+                tlv(0xA0, integer(2)),
+                integer(self.number() if serial is None else serial),
+                ALGORITHM,
+                self.name(issuer),
+                seq(*map(time, validity)),
+                self.name(key),
+                encoded(key),
+                tlv(0xA3, seq(*extensions)),
+            )
         )
         return seq(tbs, ALGORITHM, bits(self.sign(issuer if signer is None else signer, tbs)))
 
@@ -308,6 +314,7 @@ class Authority:
     def signed(self, kind, content, file, claims, trims=False, key=None, signing_time=None, more=(), **how):
         """A signed object with a certificate of its own."""
         key = self.world.number() if key is None else key
+        content = self.world.altered(content)
         extensions = [
             *self.below(key, False),
             access((11, self.folder + file)),
@@ -322,9 +329,11 @@ class Authority:
         ]
         if signing_time:
             attributes.append(seq(oid("1.2.840.113549.1.9.5"), tlv(0x31, time(signing_time))))
-        signature = self.world.sign(key, tlv(0x31, *attributes))
+        message = self.world.altered(tlv(0x31, *attributes))
+        signature = self.world.sign(key, message)
         sid = tlv(0x80, self.world.identifier(key))
-        signer = seq(integer(3), sid, SHA256, tlv(0xA0, *attributes), RSA, tlv(4, signature))
+        # the attributes are signed as a SET, and stand there as [0] (RFC 5652 5.4)
+        signer = seq(integer(3), sid, SHA256, b"\xa0" + message[1:], RSA, tlv(4, signature))
         parts = (seq(oid(kind), tlv(0xA0, tlv(4, content))), tlv(0xA0, cert), tlv(0x31, signer))
         data = seq(integer(3), tlv(0x31, SHA256), *parts)
         return seq(oid("1.2.840.113549.1.7.2"), tlv(0xA0, data))
@@ -339,7 +348,8 @@ class Authority:
         world = self.world
         entries = seq(*(seq(integer(serial), time(FIRST)) for serial in self.revoked)) if self.revoked else b""
         extensions = seq(world.authority_key(authority_key or self.key), extension("2.5.29.20", integer(1)))
-        tbs = seq(integer(1), ALGORITHM, world.name(self.key), *map(time, updates), entries, tlv(0xA0, extensions))
+        parts = (world.name(self.key), *map(time, updates), entries, tlv(0xA0, extensions))
+        tbs = world.altered(seq(integer(1), ALGORITHM, *parts))
         return seq(tbs, ALGORITHM, bits(world.sign(key or self.key, tbs)))
 
     def publish(self, updates=(FIRST, LAST), crl=None, claims=INHERITS, listed=(), **how):
