@@ -14,7 +14,7 @@ import pathlib
 import sys
 
 from rpki_readers import INHERIT, KINDS, NONE, Aspa, Cert, Crl, Locator, Manifest, Refused, Roa
-from rpki_readers import front, is_identical, is_rpki_name, join, lookup_key, need, parent, read_bundle
+from rpki_readers import front, is_identical, is_rpki_name, join, joined, lookup_key, need, parent, read_bundle, uri_kind
 
 # Sets of numbers.
 
@@ -70,6 +70,8 @@ class Walk:
         self.bundle, self.digests = bundle, digests
         self.held, self.table = dict(bundle.objects), set(bundle.verdicts)
         self.origins, self.customers, self.refusals, self.witnesses = set(), {}, set(), set()
+        # the last certificate of each accepted chain, with what the chain holds
+        self.accepted = []
         for locator, text in bundle.locators:
             self.from_locator(locator, text)
 
@@ -146,6 +148,7 @@ class Walk:
     def below(self, named, chain, held):
         """All below an accepted chain, whose last certificate holds this."""
         uri, issuer = chain[-1]
+        self.accepted.append((issuer, held))
         try:
             point = self.point(issuer, held)
         except Refused:
@@ -216,6 +219,32 @@ class Walk:
         self.origins |= {(kind, first, length, most, item.asn) for kind, first, length, most in item.prefixes}
 
 
+    # What some URIs can reach.
+
+    def names(self, issuer, keys):
+        """Whether the authority names one of the lookup keys: as its manifest's, or as a file's that is listed there."""
+        at = lookup_key(issuer.place("manifest"))
+        if at in keys:
+            return True
+        try:
+            listed = Manifest(self.held[at]).files
+        except (KeyError, Refused):
+            return False
+        return any(lookup_key(join(issuer.place("repository"), file)) in keys for file, _ in listed)
+
+    def reach(self, uris):
+        """None where a readable locator names one of the URIs, else by kind the numbers of the chains that name one."""
+        keys = {lookup_key(uri) for uri in uris if uri_kind(uri)}
+        for _, text in self.bundle.locators:
+            try:
+                if keys & set(map(lookup_key, Locator(text).uris)):
+                    return None
+            except Refused:
+                pass
+        reached = [held for issuer, held in self.accepted if self.names(issuer, keys)]
+        return {kind: joined(run for held in reached for run in held[kind]) for kind in KINDS}
+
+
 # Lines.
 
 
@@ -248,10 +277,16 @@ def lines(walk):
     return [*origins, *customers, *refusals]
 
 
+def walk(octets, digests=Fips):
+    """The walk over the bundle that the octets are, or None where they are none."""
+    bundle = read_bundle(octets)
+    return None if bundle is None else Walk(bundle, digests)
+
+
 def answer(octets, digests=Fips):
     """The lines that are printed, or None where the octets are no bundle."""
-    bundle = read_bundle(octets)
-    return None if bundle is None else lines(Walk(bundle, digests))
+    found = walk(octets, digests)
+    return None if found is None else lines(found)
 
 
 def compare(folder):

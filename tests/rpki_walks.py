@@ -5,6 +5,7 @@ tests/rpki_model.py's; of each worked case the model has to say the stated lines
 """
 
 import base64
+import ipaddress
 
 import rpki_model
 from rpki_repositories import FIRST, HOST, LAST, MOMENT, PKIX, Authority, Constant, Fips, World
@@ -519,6 +520,93 @@ def constant(q):
     flips(q, octets, "constant", Constant)
 
 
+def run_text(kind, first, last):
+    """A block as texts have it: one number, a prefix, or two ends."""
+    if kind == "as":
+        return f"AS{first}" if first == last else f"AS{first}-AS{last}"
+    size, width = last - first + 1, 32 if kind == "ipv4" else 128
+    address = ipaddress.IPv4Address if kind == "ipv4" else ipaddress.IPv6Address
+    if size & size - 1 == 0 and first % size == 0:
+        return f"{address(first)}/{width - size.bit_length() + 1}"
+    return f"{address(first)}-{address(last)}"
+
+
+def reach_text(reached):
+    if reached is None:
+        return "locator"
+    asn, ipv4, ipv6 = (", ".join(run_text(kind, *run) for run in reached[kind]) for kind in ("as", "ipv4", "ipv6"))
+    return f"asn: '{asn}', ipv4: '{ipv4}', ipv6: '{ipv6}'"
+
+
+def reaches(q, world, uris, stated=None):
+    octets = world.bundle()
+    said = reach_text(rpki_model.walk(octets).reach(uris))
+    assert stated is None or said == f"asn: '', ipv4: '{stated}', ipv6: ''" or said == stated, (uris, said)
+    q.ask(said, "reach", b",".join(uris).decode(), octets.hex())
+
+
+def judges(q, world, locator, chain, file, stated=None):
+    """Asks of a chain of files below HOST, and a file there."""
+    octets = world.bundle()
+    chain, file = [HOST + uri for uri in chain], HOST + file
+    said = f"yes {len(chain)}" if (locator, tuple(chain), file) in rpki_model.walk(octets).witnesses else "no"
+    assert stated is None or said == stated, (chain, file, said)
+    q.ask(said, "judge", locator.decode(), b",".join(chain).decode(), file.decode(), octets.hex())
+
+
+def siblings():
+    """The case single-roa beside twenty authorities below the same anchor."""
+    world, ta = single(publish=False)
+    for at in range(20):
+        sibling = world.authority(100 + at, HOST + b"s%d/" % at, b"s%d" % at)
+        ta.certify(b"s%d.cer" % at, sibling, PREFIX)
+        sibling.add_roa(b"s.roa", ROA_CONTENT, PREFIX)
+        sibling.publish()
+    ta.publish()
+    return world
+
+
+def judge_and_reach(q):
+    """The cases judge-and-reach, judge-trim and judge-asks; of manifest-overclaim and laws what is judged."""
+    (world, _), a, ta = single(), b"ta/a.roa", [b"ta.cer"]
+    judges(q, world, b"t", ta, a, "yes 1")
+    for locator, chain, file in ((b"u", ta, a), (b"t", ta * 2, a), (b"t", [b"TA.cer"], a), (b"t", ta, b"ta/ta.crl"), (b"t", ta, b"ta/none.roa"), (b"t", [b"ta/a.roa"], a)):
+        judges(q, world, locator, chain, file, "no")
+    for at in range(6):
+        judges(q, without(single()[0], at), b"t", ta, a, "no")
+    judges(q, overclaiming(), b"t", ta, a, "no")
+    judges(q, siblings(), b"t", ta, a, "yes 1")
+    judges(q, trimmed(), b"t", [b"ta.cer", b"ta/ca.cer"], b"ca/x.roa", "yes 2")
+    judges(q, trimmed(), b"t", [b"ta.cer", b"ta/ca.cer"], b"ca/y.roa", "no")
+    judges(q, trimmed(False, {"ipv4": ["10.0.0.0/8"], "as": [64500]}), b"t", [b"ta.cer", b"ta/ca.cer"], b"ca/x.roa", "no")
+    judges(q, parents(), b"t", [b"ta.cer", b"ta/b.cer", b"b/c.cer"], b"c/c.roa", "yes 3")
+    judges(q, parents(), b"t", [b"ta.cer", b"ta/a.cer", b"a/c.cer"], b"c/c.roa", "no")
+    judges(q, parents("b"), b"t", [b"ta.cer", b"ta/b.cer", b"b/c.cer"], b"c/c.roa", "yes 3")
+    judges(q, customers(), b"t", ta, b"ta/b.asa", "yes 1")
+    # The judge climbs: C's key (4) is asked of before B's (3), and that before the anchor's (1).
+    chain = b",".join(HOST + uri for uri in (b"ta.cer", b"ta/b.cer", b"b/c.cer")).decode()
+    q.ask("true 4 3 1", "asks", "t", chain, (HOST + b"c/c.roa").decode(), parents().bundle().hex())
+    reaches(q, world, [HOST + a], "192.0.2.0/24")
+    reaches(q, world, [HOST + b"ta.cer"], "locator")
+    for uris in ([HOST + b"none"], [b"x"], []):
+        reaches(q, world, uris, "")
+        reaches(q, trimmed(), uris, "")
+    for uri in (b"rsync://r.example/m/ca/x.roa", b"RSYNC://R.Example/m/ca/x.roa", HOST + b"ta/ca.cer"):
+        reaches(q, trimmed(), [uri], "10.0.0.0/8")
+    reaches(q, parents(), [HOST + b"c/c.roa"], "10.0.0.0/8")
+    reaches(q, parents(), [HOST + b"a/c.cer"], "10.0.0.0/9")
+    places = sorted(uri for uri in second().objects if uri.startswith(OTHER + b"ta/"))
+    reaches(q, second(), places, "198.51.100.0/24")
+    reaches(q, second(), [*places, HOST + a])
+    reaches(q, second(), [OTHER + b"ta.cer"], "locator")
+    reaches(q, customers(), [HOST + b"ta/b.asa"], "asn: 'AS0-AS4294967295', ipv4: '', ipv6: ''")
+    for world in (single()[0], customers(), parents(), trimmed(), second(), cycle(3)):
+        octets = world.bundle()
+        rows = sorted((file, locator, chain) for locator, chain, file in rpki_model.walk(octets).witnesses)
+        said = " ".join(" ".join(part.decode() for part in (b"good", file, locator, *chain)) for file, locator, chain in rows)
+        q.ask(said, "witnesses", octets.hex())
+
+
 def faults(q, world):
     """A front of the bundle, a writer that is full, a reader that fails, each place in turn; one octet a time."""
     octets = world.bundle()
@@ -554,3 +642,4 @@ def walks(q):
     assert all(one == "ok " + text(SINGLE) or "roa" not in one.replace("a.roa", "") for one in said)
     flips(q, octets, "fips", Fips)
     constant(q)
+    judge_and_reach(q)
