@@ -22,9 +22,9 @@ import subprocess
 import sys
 
 import rpki_model
-from rpki_readers import Refused, front, header
+from rpki_readers import Refused, front
 from rpki_repositories import ASPA, FIRST, HOST, LAST, MOMENT, ROA, Authority, World
-from rpki_repositories import aspa, basic, claims_of, extension, locator_text, roa, seq, tlv
+from rpki_repositories import aspa, basic, claims_of, locator_text, roa
 
 BEFORE, AFTER = b"20241231235959Z", b"20250101000001Z"
 PREFIXES = {
@@ -189,15 +189,15 @@ def fill(rng, authority):
     world = authority.world
     for at in range(rng.randrange(5)):
         what = rng.random()
-        extension_of = b"roa" if what < 0.5 else b"asa" if what < 0.8 else rng.choice([b"cer", b"gbr", b"mft", b"roa", b"asa"])
-        file = name_of(rng, rng.choice([b"f%d" % at, b"x", authority.name]), extension_of)
+        kind = b"roa" if what < 0.5 else b"asa" if what < 0.8 else rng.choice([b"cer", b"gbr", b"mft", b"roa", b"asa"])
+        file = name_of(rng, rng.choice([b"f%d" % at, b"x", authority.name]), kind)
         how = certificate(rng, world)
         if rng.random() < 0.2:
             how["signing_time"] = rng.choice([FIRST, LAST, AFTER, b"20260101000001Z"])
         if rng.random() < 0.1:
             how["key"] = rng.randrange(1, 7)
         claims = claims_by_chance(rng, False)
-        if extension_of == b"asa":
+        if kind == b"asa":
             providers = sorted(rng.sample([0, 1, 2914, 8283, 51088, 15562], rng.randrange(1, 4)))
             authority.files[file] = authority.signed(ASPA, aspa(rng.choice([15562, 64496, 0, 2**32 - 1]), *providers), file, claims, **how)
         else:

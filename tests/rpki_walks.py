@@ -160,11 +160,6 @@ def without(world, at):
     return world
 
 
-def with_depth(world, depth):
-    world.depth = depth
-    return world
-
-
 def refused_file(name, cause):
     return f"refused rsync://r.example/m/{name} {cause}"
 
