@@ -15,7 +15,7 @@ fn uris_of(alloc: Global, word: &str) -> Result<Vec<Bytes>> {
     let mut uris = Vec::new(alloc);
     if !word.is_empty() {
         for uri in word.split(',') {
-            uris.push(Bytes::from_slice(alloc, uri.as_bytes())?)?;
+            uris.push(Bytes::copy_from_slice(alloc, uri.as_bytes())?)?;
         }
     }
     Ok(uris)
@@ -32,12 +32,12 @@ fn witness_of(alloc: Global, locator: &str, chain: &[Bytes], object: &str) -> Re
     let Some((anchor, below)) = chain.split_first() else {
         return Err(anyhow!("no chain"));
     };
-    let name = Bytes::from_slice(alloc, locator.as_bytes())?;
+    let name = Bytes::copy_from_slice(alloc, locator.as_bytes())?;
     let mut path = Path::new(alloc, name, anchor.clone()?)?;
     for uri in below {
         path = path.longer(alloc, uri)?;
     }
-    let object = Bytes::from_slice(alloc, object.as_bytes())?;
+    let object = Bytes::copy_from_slice(alloc, object.as_bytes())?;
     Ok(Witness::new(Rc::new(alloc, path)?, object))
 }
 
