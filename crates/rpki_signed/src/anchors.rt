@@ -45,7 +45,8 @@ pub fn is_anchor_cert<D: Digester, V: Verifier>(
     ensures same { V.says verifier.new ≡ V.says verifier.old }
     ensures asked { V.count verifier.new ≤ V.count verifier.old + 1 }
 {
-    has_key(cert, key)
-        && cert.inspect_ta(true, digester).is_ok()
-        && is_own_issuer(cert, index, verifier)
+    if !has_key(cert, key) {
+        return false;
+    }
+    cert.inspect_ta(true, digester).is_ok() && is_own_issuer(cert, index, verifier)
 }

@@ -49,7 +49,10 @@ fn is_signed<V: Verifier>(
     ensures same { V.says verifier.new ≡ V.says verifier.old }
     ensures asked { V.count verifier.new ≤ V.count verifier.old + 1 }
 {
-    is_valid(cert, index) && claims_issuer(cert, issuer) && has_signature(cert, issuer, verifier)
+    if !is_valid(cert, index) {
+        return false;
+    }
+    claims_issuer(cert, issuer) && has_signature(cert, issuer, verifier)
 }
 
 /// Whether the certificate has the form of an authority's, and the issuer signed it. What it claims of resources isn't
