@@ -1,5 +1,5 @@
 -- What verification tests of a certificate below an issuer, or of an anchor's, in the words of the rules.
-use Rattle.std.proofs.Common.{◌≡◌, ◌↔◌, ℕ, Bool, true, IsTrue, List, ◌∷◌, [], Some, None, Result, subst}
+use Rattle.std.proofs.Common.{◌≡◌, ◌↔◌, ℕ, Bool, true, IsTrue, ◌∷◌, [], Some, None, Result, subst}
 use Rattle.std.specs.Prelude.{◌≢◌, IfErr, is_ok}
 use Rattle.certs_verify.specs.certs_errors.declared.verification.VerificationError.{VerificationError}
 use Rattle.certs_verify.specs.certs_errors.declared.verification.VerificationError.TheVariants.{Memory}
@@ -48,12 +48,9 @@ pub own_told : (good : Verdicts) (c : Cert) (moment now : ℕ) (r : Answer) (ans
 own_told good c moment now r answer e is told n =
     passed_told (PassesAt good moment c nothing c) anchor_tests r answer is (subst (λ (m : ℕ). Answers (PassesAt good m c nothing c) anchor_tests r) e told) n
 
--- The parts of a signature.
+-- What is valid, claims the issuer and has a good signature of it is signed by it.
 pub signed_of : (w : World) (ca c : Cert) → IsValid w c → ClaimsIssuer ca c → IsSignedBy w.good ca.tbs.key c.signed → Signed w c ca
 signed_of w ca c v i g = record { authority = i.authority; issuer_uri = i.issuer_uri; good = g; valid = v }
-
-pub claims_of : (w : World) (ca c : Cert) → Signed w c ca → ClaimsIssuer ca c
-claims_of w ca c s = record { authority = s.authority; issuer_uri = s.issuer_uri }
 
 -- An anchor's certificate inherits nothing, is valid and signed itself, and its key is known.
 listed : (w : World) (c : Cert) → IsAnchorAt w.good w.moment c → (k : Kind) → claim c k ≡ Inherit → ⊥

@@ -1,9 +1,9 @@
 -- Where a test fails first, not all are passed; so an answer tells whether all are.
-use Rattle.std.proofs.Common.{◌≡◌, ◌↔◌, ◌+◌, ◌≤◌, ℕ, Bool, true, IsTrue, List, [], ◌∷◌, ◌++◌, Option, Some, None, Result, Ok, Err, inl, inr, sym, ap, ◌∙◌, subst, arith}
+use Rattle.std.proofs.Common.{◌≡◌, ◌↔◌, Bool, true, IsTrue, List, [], ◌∷◌, ◌++◌, Option, Some, None, Result, Ok, Err, sym, ◌∙◌, subst}
 use Rattle.std.specs.Prelude.{◌≢◌, IfErr, is_ok}
 use Rattle.certs_verify.specs.certs_errors.declared.verification.VerificationError.{VerificationError}
 use Rattle.certs_verify.specs.certs_errors.declared.verification.VerificationError.TheVariants as error
-use Rattle.certs_verify.specs.Answers.{Answers, AsksOnce, Fails, fault_of}
+use Rattle.certs_verify.specs.Answers.{Answers, Fails, fault_of}
 use Rattle.rpki_signed.specs.certs_basics.Lists.{Each, FirstFailing}
 use Rattle.rpki_signed.specs.certs_specs.Calls.{Fault, inspected, verified, wants_memory}
 use Rattle.rpki_signed.specs.certs_specs.declared.VerificationTest.{VerificationTest}
@@ -46,8 +46,3 @@ passed_told P ts (Err e) answer is told n = (
   λ t. let wrong : true ≡ is_ok {T = Unit {0}} (Err e) = sym t ∙ is in absurd cc,
   λ all. absurd (not_passed P ts (fault_of e) (λ m. n (memory_of e m)) told all),
 )
-
--- A verifier that was asked once or not at all was asked once more at most.
-pub once_most : (before after : ℕ) → AsksOnce before after → after ≤ before + 1
-once_most before after (inl e) = omega arith
-once_most before after (inr e) = omega arith

@@ -38,12 +38,7 @@ fn has_signature<V: Verifier>(cert: &Cert, issuer: &Cert, verifier: &mut V) -> b
 }
 
 // Whether the issuer signed the certificate, and it is valid at the bundle's moment.
-fn is_signed<V: Verifier>(
-    cert: &Cert,
-    issuer: &Cert,
-    index: &Index<'_>,
-    verifier: &mut V,
-) -> bool
+fn is_signed<V: Verifier>(cert: &Cert, issuer: &Cert, index: &Index<'_>, verifier: &mut V) -> bool
     ensures signed { (d : Digests) → IsTrue result
         ↔ Signed (world_of d (V.says verifier.old) index.now) cert.now issuer.now }
     ensures same { V.says verifier.new ≡ V.says verifier.old }

@@ -1,11 +1,10 @@
 -- An authority has one manifest at most: what its manifest URI reads as, if that is current and its own.
-use Rattle.std.proofs.Common.{◌≡◌, ℕ, List, Option, Some, None, sym, ◌∙◌, subst}
+use Rattle.std.proofs.Common.{◌≡◌, ℕ, List, Option, Some, None, subst}
 use Rattle.objects_kinds.specs.Kinds.{KindValue}
 use Rattle.rpki_points.proofs.Passing.{one_value}
 use Rattle.rpki_standing.specs.rpki_points.Crls.{Finds}
 use Rattle.rpki_standing.specs.rpki_readings.Certs.{Cert}
-use Rattle.rpki_standing.specs.rpki_readings.Objects.{Manifest, ManifestText, Object, one_manifest}
-use Rattle.rpki_standing.specs.rpki_rules.Points.{IsManifestOf}
+use Rattle.rpki_standing.specs.rpki_readings.Objects.{Manifest, ManifestText, one_manifest}
 use Rattle.rpki_standing.specs.rpki_rules.World.{World, at}
 use Rattle.rpki_standing.specs.Manifests.{IsOwnManifest, IsReadAt, IsSoundFor}
 
@@ -15,17 +14,6 @@ read_there w ca k uri octets u h r =
     let same : r.uri ≡ uri = one_value r.uri uri ca.tbs.access.manifest r.uri_is u in
     let held : at w uri ≡ Some r.octets = subst (λ (x : List ℕ). at w x ≡ Some r.octets) same r.held in
     subst (λ (o : List ℕ). ManifestText w.strict o k.signed k.content) (one_value r.octets octets (at w uri) held h) r.reads
-
--- Without a manifest URI, or without octets there, nothing is read.
-pub no_uri : (w : World) (ca : Cert) (k : KindValue Manifest) → ca.tbs.access.manifest ≡ None → IsReadAt w ca k → ⊥
-no_uri w ca k e r = let wrong : None ≡ Some r.uri = sym e ∙ r.uri_is in absurd cc
-
-pub no_octets : (w : World) (ca : Cert) (k : KindValue Manifest) (uri : List ℕ) → ca.tbs.access.manifest ≡ Some uri → at w uri ≡ None → IsReadAt w ca k → ⊥
-no_octets w ca k uri u e r =
-    let same : r.uri ≡ uri = one_value r.uri uri ca.tbs.access.manifest r.uri_is u in
-    let held : at w uri ≡ Some r.octets = subst (λ (x : List ℕ). at w x ≡ Some r.octets) same r.held in
-    let wrong : None ≡ Some r.octets = sym e ∙ held in
-    absurd cc
 
 pub read_told : (w : World) (ca : Cert) (uri octets : List ℕ) (found : Option (KindValue Manifest)) → ca.tbs.access.manifest ≡ Some uri → at w uri ≡ Some octets
     → Finds (λ (k : KindValue Manifest). ManifestText w.strict octets k.signed k.content) found → Finds (IsReadAt w ca) found

@@ -27,11 +27,7 @@ fn manifest_in(alloc: Global, octets: &Bytes) -> Result<Option<Manifest>, AllocE
 }
 
 // The manifest that the object at the authority's manifest URI reads as, whosever it is.
-fn manifest_at(
-    alloc: Global,
-    ca: &Cert,
-    index: &Index<'_>,
-) -> Result<Option<Manifest>, AllocError>
+fn manifest_at(alloc: Global, ca: &Cert, index: &Index<'_>) -> Result<Option<Manifest>, AllocError>
     ensures { IfOk result (λ found. (d : Digests) (v : Verdicts)
         → Finds (IsReadAt (world_of d v index.now) ca.now) found) }
 {
