@@ -26,8 +26,13 @@ fn manifest_in(alloc: Global, octets: &Bytes) -> Result<Option<Manifest>, AllocE
     }
 }
 
-// The manifest that the object at the authority's manifest URI reads as, whosever it is.
-fn manifest_at(alloc: Global, ca: &Cert, index: &Index<'_>) -> Result<Option<Manifest>, AllocError>
+/// The manifest that the object at the authority's manifest URI reads as, in DER, whosever it is; nothing where the
+/// authority names no such URI, no object is there, or it reads as no manifest. Nothing of it is verified.
+pub fn manifest_at(
+    alloc: Global,
+    ca: &Cert,
+    index: &Index<'_>,
+) -> Result<Option<Manifest>, AllocError>
     ensures { IfOk result (λ found. (d : Digests) (v : Verdicts)
         → Finds (IsReadAt (world_of d v index.now) ca.now) found) }
 {
