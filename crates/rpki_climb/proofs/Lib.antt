@@ -1,0 +1,4 @@
+mod Passing
+mod Sets
+mod Anchors
+mod Below
