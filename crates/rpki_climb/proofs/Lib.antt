@@ -1,4 +1,4 @@
 mod Passing
 mod Sets
-mod Anchors
-mod Below
+mod Named
+mod Filed

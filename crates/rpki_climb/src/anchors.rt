@@ -2,7 +2,7 @@
 
 ghost use Rattle.std.specs.Prelude.{◌≡◌, ◌↔◌, ◌+◌, ◌≤◌, IfNone, IfOk, IfSome, IsTrue};
 ghost use Rattle.rpki_judge.specs.rpki_rules.Chains.{CertAt};
-ghost use Rattle.rpki_judge.specs.rpki_rules.Points.{Anchor};
+ghost use Rattle.rpki_judge.specs.rpki_rules.Points.{Anchor, IsAnchorCert};
 ghost use Rattle.rpki_judge.specs.rpki_rules.Words.{Mem};
 ghost use Rattle.rpki_judge.specs.rpki_rules.World.{world_of};
 ghost use Rattle.rpki_anchors.specs.rpki_bundle.declared.parts.Locator.{Locator as LocatorValue};
@@ -10,8 +10,8 @@ ghost use Rattle.rpki_standing.specs.certs_key.Digesting.{digests_of};
 ghost use Rattle.rpki_climb.specs.Anchored.{IsAnchorOf};
 
 use rpki_anchors::laws::{no_lead, one_lead};
-use rpki_anchors::{Lead, Locator, follow};
-use rpki_signed::is_anchor_cert;
+use rpki_anchors::{Lead, Locator, Object, follow};
+use rpki_signed::{PublicKey, is_anchor_cert};
 use rpki_standing::{Cert, Digester, Index, Verifier};
 use std::alloc::{AllocError, Global};
 
@@ -27,6 +27,26 @@ pub fn locator_named<'a>(locators: &'a [Locator], name: &[u8]) -> Option<&'a Loc
         return Some(first);
     }
     locator_named(rest, name)
+}
+
+// Whether that is the object's lookup key, and the certificate is one of a trust anchor with that key. The verifier is asked
+// once, at most.
+fn is_anchor_there<D: Digester, V: Verifier>(
+    object: &Object,
+    key: &PublicKey,
+    uri: &[u8],
+    cert: &Cert,
+    index: &Index<'_>,
+    digester: &D,
+    verifier: &mut V,
+) -> bool
+    ensures anchor { IsTrue result ↔ ((object.now.uri ≡ uri.now) × IsAnchorCert (world_of
+        (digests_of D.sha256_digest D.sha1_digest digester.now) (V.says verifier.old) index.now)
+        key.now cert.now) }
+    ensures same { V.says verifier.new ≡ V.says verifier.old }
+    ensures asked { V.count verifier.new ≤ V.count verifier.old + 1 }
+{
+    object.uri.as_slice() == uri && is_anchor_cert(cert, key, index, digester, verifier)
 }
 
 /// Whether the certificate at the lookup key is the anchor to which the locator leads. The verifier is asked once, at most.
@@ -52,12 +72,11 @@ pub fn is_anchor_of<D: Digester, V: Verifier>(
     let Lead::Held(object, tal) = follow(alloc, locator, index)? else {
         return Ok(false);
     };
-    if object.uri.as_slice() != uri {
-        return Ok(false);
-    }
-    Ok(is_anchor_cert(
-        cert,
+    Ok(is_anchor_there(
+        object,
         tal.key_info(),
+        uri,
+        cert,
         index,
         digester,
         verifier,

@@ -28,7 +28,7 @@ pub struct BundleEvidence<'a, D, V> {
 impl<'a, D: Digester, V: Verifier> BundleEvidence<'a, D, V> {
     /// The bundle with this digester and this verifier, which is asked through it as long as it is lent.
     pub fn new(index: Index<'a>, digester: &'a D, verifier: &'a mut V) -> Self
-        ensures index { result.index ≡ index }
+        ensures index { result.index ≡ index.entry }
         ensures digester { result.digester.now ≡ digester.now }
         ensures verifier { result.verifier.now ≡ verifier.old }
         ensures lender { result.verifier.ghost_name ≡ verifier.entry.ghost_name }

@@ -1,6 +1,6 @@
 -- Certificates and objects below an authority.
 use Rattle.std.proofs.Common.{◌≡◌, ◌↔◌, ℕ, List, Bool, Option, Some, None, sym, subst}
-use Rattle.std.specs.Prelude.{IsTrue}
+use Rattle.std.specs.Prelude.{IsTrue, MatchOption}
 use Rattle.rpki_judge.specs.rpki_readings.Certs.{Cert}
 use Rattle.rpki_judge.specs.rpki_readings.Objects.{Object}
 use Rattle.rpki_judge.specs.rpki_rules.Attests.{IsSigned, Payload}
@@ -8,7 +8,8 @@ use Rattle.rpki_judge.specs.rpki_rules.Chains.{CertAt, HasExtension, IsSound, ce
 use Rattle.rpki_judge.specs.rpki_rules.Points.{Point, Unrevoked, files}
 use Rattle.rpki_judge.specs.rpki_rules.Words.{Mem}
 use Rattle.rpki_judge.specs.rpki_rules.World.{World}
-use Rattle.rpki_judge.specs.Evidence.{IsBelow, IsReadObject, IsReadPoint}
+use Rattle.rpki_judge.specs.Evidence.{IsBelow, IsReadCert, IsReadObject, IsReadPoint}
+use Rattle.rpki_anchors.specs.Leads.{NoCertAt}
 use Rattle.rpki_standing.specs.certs_specs.declared.Role.TheVariants.{Ca}
 use Rattle.rpki_standing.specs.rpki_signed.Issued.{IsIssued}
 use Rattle.rpki_standing.specs.Standing.{FindsPoint, StandingValue}
@@ -49,3 +50,7 @@ point_told w ca (Some s) h = h.point
 pub object_told : (w : World) (ca : Cert) (p : Point) (uri : List ℕ) (found : Option PublishedValue) → FindsObject w ca p uri found → IsReadObject (λ o. o.object) (λ o. o.payload) w ca p uri found
 object_told w ca p uri None h = h
 object_told w ca p uri (Some s) h = h
+
+pub cert_told : (w : World) (uri : List ℕ) (found : Option Cert) → MatchOption found (NoCertAt w uri) (λ c. CertAt w uri c) → IsReadCert (λ c. c) w uri found
+cert_told w uri None h = h
+cert_told w uri (Some c) h = h
