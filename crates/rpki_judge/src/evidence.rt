@@ -32,7 +32,7 @@ pub trait Evidence {
     // How often the verifier was asked for a signature.
     ghost asked: { Self → ℕ };
 
-    // Who lends it the verifier, by the name of the loan: it asks no other.
+    // The name of the loan by which it has its verifier: it asks no other.
     ghost lender: { Self → ℕ };
 
     // What contracts see of these.
