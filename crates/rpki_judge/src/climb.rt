@@ -32,6 +32,7 @@ pub fn read_chain<'a, E: Evidence>(
     ensures read { IfOk result (IsReadChain (E.world evidence.old) chain.now
         (links_of E.cert links.old.items) (links_of E.cert links.new.items)) }
     ensures same { E.world evidence.new ≡ E.world evidence.old }
+    ensures lender { E.lender evidence.new ≡ E.lender evidence.old }
     ensures asks { E.asked evidence.new ≤ E.asked evidence.old }
 {
     let Some((last, above)) = chain.split_last() else {
@@ -45,17 +46,18 @@ pub fn read_chain<'a, E: Evidence>(
     read_chain(alloc, evidence, above, links)
 }
 
-// Whether one of the certificates has this subject key identifier.
-fn is_on<E: Evidence>(evidence: &E, links: &[Link<E::Cert>], key: &[u8]) -> bool
-    ensures { IsTrue result ↔ Mem (map identifier_of (links_of E.cert links.now)) key.now }
+// Whether one of the certificates has the subject key identifier of that one.
+fn is_on<E: Evidence>(evidence: &E, links: &[Link<E::Cert>], cert: &E::Cert) -> bool
+    ensures { IsTrue result ↔ Mem (map identifier_of (links_of E.cert links.now))
+        (E.cert cert.now).tbs.subject_key_identifier }
 {
     let Some((first, rest)) = links.split_first() else {
         return false;
     };
-    if evidence.key_identifier(&first.cert) == key {
+    if evidence.have_one_key(&first.cert, cert) {
         return true;
     }
-    is_on(evidence, rest, key)
+    is_on(evidence, rest, cert)
 }
 
 /// Whether no two of the certificates have one subject key identifier.
@@ -65,7 +67,7 @@ pub fn are_distinct<E: Evidence>(evidence: &E, links: &[Link<E::Cert>]) -> bool
     let Some((first, rest)) = links.split_first() else {
         return true;
     };
-    if is_on(evidence, rest, evidence.key_identifier(&first.cert)) {
+    if is_on(evidence, rest, &first.cert) {
         return false;
     }
     are_distinct(evidence, rest)
@@ -83,6 +85,7 @@ fn raised<E: Evidence>(
     ensures raised { IfOk result (IsRaised (E.world evidence.old) (E.cert upper.now)
         (link_of E.cert lower.now) needed.now) }
     ensures same { E.world evidence.new ≡ E.world evidence.old }
+    ensures lender { E.lender evidence.new ≡ E.lender evidence.old }
     ensures asks { E.asked evidence.new ≤ E.asked evidence.old + 4 }
 {
     if !needed.are_kept(evidence.claims(&lower.cert)) {
@@ -111,6 +114,7 @@ fn at_anchor<E: Evidence>(
     ensures anchor { IfOk result (λ yes. IsTrue yes ↔ Climbs (E.world evidence.old) locator.now
         (link_of E.cert anchor.now) [] (InSet needed.now)) }
     ensures same { E.world evidence.new ≡ E.world evidence.old }
+    ensures lender { E.lender evidence.new ≡ E.lender evidence.old }
     ensures asks { E.asked evidence.new ≤ E.asked evidence.old + 1 }
 {
     if !needed.are_listed(evidence.claims(&anchor.cert)) {
@@ -131,6 +135,7 @@ pub fn climb<E: Evidence>(
     ensures judged { IfOk result (IsJudgedUp (E.world evidence.old) locator.now
         (links_of E.cert links.now) needed.now) }
     ensures same { E.world evidence.new ≡ E.world evidence.old }
+    ensures lender { E.lender evidence.new ≡ E.lender evidence.old }
     ensures asks { E.asked evidence.new ≤ E.asked evidence.old + (4 * length links.now - 3) }
 {
     let Some((lower, rest)) = links.split_first() else {

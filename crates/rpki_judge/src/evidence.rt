@@ -1,10 +1,10 @@
 //! What the judge asks of a bundle.
 
-ghost use Rattle.std.specs.Prelude.{◌≡◌, ℕ, ◌+◌, ◌≤◌, ◌↔◌, IsTrue, IfOk};
+ghost use Rattle.std.specs.Prelude.{◌≡◌, ℕ, ◌+◌, ◌≤◌, ◌↔◌, IsTrue, IfOk, IfSome, List};
 ghost use Rattle.rpki_judge.specs.rpki_readings.Certs.{Cert};
 ghost use Rattle.rpki_judge.specs.rpki_readings.Objects.{Object as ObjectValue};
 ghost use Rattle.rpki_judge.specs.rpki_rules.World.{World};
-ghost use Rattle.rpki_judge.specs.rpki_rules.Points.{Anchor, Point as PointValue, IsPoint};
+ghost use Rattle.rpki_judge.specs.rpki_rules.Points.{Anchor, Point as PointValue, files};
 ghost use Rattle.rpki_judge.specs.rpki_rules.Chains.{CertAt};
 ghost use Rattle.rpki_judge.specs.rpki_rules.Attests.{Payload as PayloadValue};
 ghost use Rattle.rpki_judge.specs.rpki_rules.Judge.{Needs};
@@ -32,10 +32,16 @@ pub trait Evidence {
     // How often the verifier was asked for a signature.
     ghost asked: { Self → ℕ };
 
+    // The name of the loan by which it has its verifier: it asks no other.
+    ghost lender: { Self → ℕ };
+
     // What contracts see of these.
     ghost cert: { Self.Cert → Cert };
 
     ghost point: { Self.Point → PointValue };
+
+    // The lookup keys of its files, which a point has of the authority that it was read of.
+    ghost listed: { Self.Point → List (List ℕ) };
 
     ghost object: { Self.Object → ObjectValue };
 
@@ -45,9 +51,10 @@ pub trait Evidence {
     fn depth(&self) -> usize
         ensures { result ≡ (world self.now).depth };
 
-    /// The certificate's subject key identifier.
-    fn key_identifier<'a>(&self, c: &'a Self::Cert) -> &'a [u8]
-        ensures { result.now ≡ (cert c.now).tbs.subject_key_identifier };
+    /// Whether both certificates have one subject key identifier.
+    fn have_one_key(&self, c: &Self::Cert, other: &Self::Cert) -> bool
+        ensures { IsTrue result ↔ ((cert c.now).tbs.subject_key_identifier
+            ≡ (cert other.now).tbs.subject_key_identifier) };
 
     /// What the certificate claims.
     fn claims<'a>(&self, c: &'a Self::Cert) -> Claims<'a>
@@ -69,6 +76,7 @@ pub trait Evidence {
     fn read_cert(&mut self, alloc: Global, uri: &[u8]) -> Result<Option<Self::Cert>, AllocError>
         ensures read { IfOk result (IsReadCert cert (world self.old) uri.now) }
         ensures same { world self.new ≡ world self.old }
+        ensures lender { lender self.new ≡ lender self.old }
         ensures asks { asked self.new ≤ asked self.old };
 
     /// Whether the certificate at the lookup key is the anchor to which the locator of that name leads. One signature is
@@ -84,6 +92,7 @@ pub trait Evidence {
         ensures anchor { IfOk result (λ yes. IsTrue yes ↔ Anchor (world self.old) locator.now
             (record { uri = uri.now; cert = cert c.now })) }
         ensures same { world self.new ≡ world self.old }
+        ensures lender { lender self.new ≡ lender self.old }
         ensures asks { asked self.new ≤ asked self.old + 1 };
 
     /// The authority's publication point, the claim of its manifest's certificate apart, if it is one. Three signatures
@@ -94,7 +103,10 @@ pub trait Evidence {
         ca: &Self::Cert,
     ) -> Result<Option<Self::Point>, AllocError>
         ensures read { IfOk result (IsReadPoint point (world self.old) (cert ca.now)) }
+        ensures listed { IfOk result (λ found. IfSome found
+            (λ p. listed p ≡ files (cert ca.now) (point p).manifest)) }
         ensures same { world self.new ≡ world self.old }
+        ensures lender { lender self.new ≡ lender self.old }
         ensures asks { asked self.new ≤ asked self.old + 3 };
 
     /// Whether the certificate at the lookup key is at a file of the point, for an authority's certificate, and sound
@@ -108,10 +120,11 @@ pub trait Evidence {
         c: &Self::Cert,
     ) -> Result<bool, AllocError>
         requires at { CertAt (world self.old) uri.now (cert c.now) }
-        requires stands { IsPoint (world self.old) (cert ca.now) (point p.now) }
+        requires listed { listed p.now ≡ files (cert ca.now) (point p.now).manifest }
         ensures below { IfOk result (λ yes. IsTrue yes ↔ IsBelow (world self.old) (cert ca.now)
             (point p.now) uri.now (cert c.now)) }
         ensures same { world self.new ≡ world self.old }
+        ensures lender { lender self.new ≡ lender self.old }
         ensures asks { asked self.new ≤ asked self.old + 1 };
 
     /// The object at a file of the point that is sound there, its claim apart, if it is one. Two signatures are asked for
@@ -123,9 +136,10 @@ pub trait Evidence {
         p: &Self::Point,
         uri: &[u8],
     ) -> Result<Option<Self::Object>, AllocError>
-        requires { IsPoint (world self.old) (cert ca.now) (point p.now) }
+        requires { listed p.now ≡ files (cert ca.now) (point p.now).manifest }
         ensures read { IfOk result (IsReadObject object payload (world self.old) (cert ca.now)
             (point p.now) uri.now) }
         ensures same { world self.new ≡ world self.old }
+        ensures lender { lender self.new ≡ lender self.old }
         ensures asks { asked self.new ≤ asked self.old + 2 };
 }

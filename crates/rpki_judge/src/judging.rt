@@ -2,7 +2,7 @@
 
 ghost use Rattle.std.specs.Prelude.{◌≡◌, ◌+◌, ◌≤◌, ◌<◌, IfOk, length, false};
 ghost use Rattle.rpki_judge.specs.rpki_rules.Judge.{IsJudged, may_ask};
-ghost use Rattle.rpki_judge.specs.rpki_rules.Points.{IsPoint};
+ghost use Rattle.rpki_judge.specs.rpki_rules.Points.{files};
 ghost use Rattle.rpki_judge.specs.Climbing.{links_of, AreAt, IsJudgedAt, IsNeedOfFile};
 
 use crate::climb::{Link, are_distinct, climb, read_chain};
@@ -47,10 +47,11 @@ fn needed_by<E: Evidence>(
     point: &E::Point,
     object: &[u8],
 ) -> Result<Option<Needed>, AllocError>
-    requires { IsPoint (E.world evidence.old) (E.cert ca.now) (E.point point.now) }
+    requires { E.listed point.now ≡ files (E.cert ca.now) (E.point point.now).manifest }
     ensures needed { IfOk result (IsNeedOfFile (E.world evidence.old) (E.cert ca.now)
         (E.point point.now) object.now) }
     ensures same { E.world evidence.new ≡ E.world evidence.old }
+    ensures lender { E.lender evidence.new ≡ E.lender evidence.old }
     ensures asks { E.asked evidence.new ≤ E.asked evidence.old + 2 }
 {
     let Some(signed) = evidence.read_object(alloc, ca, point, object)? else {
@@ -78,6 +79,7 @@ fn judge_links<E: Evidence>(
     ensures judged { IfOk result (IsJudgedAt (E.world evidence.old) locator.now
         (links_of E.cert links.now) object.now) }
     ensures same { E.world evidence.new ≡ E.world evidence.old }
+    ensures lender { E.lender evidence.new ≡ E.lender evidence.old }
     ensures asks { E.asked evidence.new ≤ E.asked evidence.old + may_ask (length links.now) }
 {
     let Some(last) = links.first() else {
@@ -106,6 +108,7 @@ pub fn judge<E: Evidence>(
     ensures judged { IfOk result (λ j. IsJudged (E.world evidence.old)
         (record { locator = locator.now; chain = chain.now; object = object.now }) j.yes j.points) }
     ensures same { E.world evidence.new ≡ E.world evidence.old }
+    ensures lender { E.lender evidence.new ≡ E.lender evidence.old }
     ensures asks { E.asked evidence.new ≤ E.asked evidence.old + may_ask (length chain.now) }
 {
     if chain.len() > evidence.depth() {

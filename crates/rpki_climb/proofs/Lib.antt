@@ -1,0 +1,4 @@
+mod Passing
+mod Sets
+mod Named
+mod Filed

@@ -1,0 +1,17 @@
+use Rattle.std.proofs.Common.{Option}
+use Rattle.std.specs.Prelude.{MatchOption}
+use Rattle.rpki_judge.specs.Evidence.{IsReadCert}
+use Rattle.rpki_judge.specs.rpki_readings.Certs.{Cert, Digests, Verdicts}
+use Rattle.rpki_judge.specs.rpki_rules.Chains.{CertAt}
+use Rattle.rpki_judge.specs.rpki_rules.World.{world_of}
+use Rattle.rpki_anchors.specs.Leads.{NoCertAt}
+use Rattle.rpki_climb.proofs.Filed.{cert_told}
+use Rattle.rpki_climb.proofs.Passing.{if_ok}
+use Rattle.rpki_climb.proofs.certs.find_cert.Goals as goal
+
+pub returns : goal.returns
+returns c =
+    let uri = c.args.uri.now in
+    let at : Option Cert → Type 0 = λ found. (d : Digests) (v : Verdicts) → MatchOption found (NoCertAt (world_of d v c.args.index.now) uri) (λ x. CertAt (world_of d v c.args.index.now) uri x) in
+    let read : Option Cert → Type 0 = λ found. (d : Digests) (v : Verdicts) → IsReadCert (λ x. x) (world_of d v c.args.index.now) uri found in
+    if_ok at read c.cert_at.result (λ found h d v. cert_told (world_of d v c.args.index.now) uri found (h d v)) c.cert_at.ensures.cert

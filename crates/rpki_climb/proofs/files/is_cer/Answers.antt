@@ -1,0 +1,6 @@
+use Rattle.std.proofs.Common.{rules}
+use Rattle.rpki_payloads.specs.declared.names.Extension.TheVariants.{Cer}
+use Rattle.rpki_climb.proofs.files.is_cer.Goals as goal
+
+pub returns : goal.returns
+returns c = let h = c.extension_of.ensures Cer in search rules

@@ -1,0 +1,17 @@
+//! What the judge asks of a bundle (RFC 6487 7.2, RFC 8630 3, RFC 9286 6): the certificate at a lookup key, whether it is a
+//! locator's anchor, an authority's publication point, and the certificates and objects at its files.
+//!
+//! [`BundleEvidence`] answers each question of [`rpki_judge::Evidence`] exactly, so that [`rpki_judge::judge`] decides about
+//! a real bundle. What chains hold is looked at nowhere.
+#![tactic(auto)]
+
+pub mod anchors;
+pub mod below;
+pub mod certs;
+pub mod evidence;
+pub mod files;
+pub mod needs;
+pub mod points;
+
+pub use evidence::BundleEvidence;
+pub use needs::needs_of;
