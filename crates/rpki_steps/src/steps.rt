@@ -55,6 +55,8 @@ impl<'a, D: Digester, V: Verifier> Steps for BundleSteps<'a, D, V> {
     ghost world = { λ s. world_of (digests_of D.sha256_digest D.sha1_digest s.digester.now)
         (V.says s.verifier.now) s.index };
 
+    ghost lender = { λ s. s.verifier.ghost_name };
+
     ghost cert = { cert_of };
 
     ghost sets = { sets_of };
