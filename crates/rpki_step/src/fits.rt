@@ -9,7 +9,7 @@ use std::alloc::Global;
 
 /// Whether the claim fits: under `Refuse` each number that it lists, of each kind, is held (RFC 6487 7.2); under `Trim` any
 /// claim does (RFC 8360 4.2). Memory that is refused changes nothing.
-pub fn fits(alloc: Global, holding: &Holding<'_>, claim: &Claim<'_>) -> bool
+pub fn claim_fits(alloc: Global, holding: &Holding<'_>, claim: &Claim<'_>) -> bool
     ensures { IsTrue result ↔ FitsAll claim.now holding.now }
 {
     match claim.mode {

@@ -7,7 +7,7 @@ ghost use Rattle.rpki_authority.specs.rpki_rules.Kinds.{InSet};
 ghost use Rattle.rpki_steps.specs.Claims.{FindsSets, claims_of};
 
 use certs_verify::{Cert, ResourceCert};
-use rpki_step::{Claim, Held, Holding, fits, held_below};
+use rpki_step::{Claim, Held, Holding, claim_fits, held_below};
 use std::alloc::{AllocError, Global};
 
 // What the authority holds.
@@ -38,7 +38,7 @@ fn claim_of(cert: &Cert) -> Claim<'_>
 pub fn fits_below(alloc: Global, cert: &Cert, ca: &ResourceCert) -> bool
     ensures { IsTrue result ↔ Fits (InSet (sets_of ca.now)) cert.now }
 {
-    fits(alloc, &holding_of(ca), &claim_of(cert))
+    claim_fits(alloc, &holding_of(ca), &claim_of(cert))
 }
 
 /// What the certificate holds below the authority, or nothing where its claim doesn't fit.

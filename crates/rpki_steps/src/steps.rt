@@ -32,7 +32,7 @@ pub struct BundleSteps<'a, D: Digester, V: Verifier> {
 impl<'a, D: Digester, V: Verifier> BundleSteps<'a, D, V> {
     /// The bundle, with that digester and that verifier.
     pub fn new(index: Index<'a>, digester: &'a D, verifier: &'a mut V) -> Self
-        ensures index { result.index ≡ index }
+        ensures index { result.index ≡ index.entry }
         ensures digester { result.digester.now ≡ digester.now }
         ensures verifier { result.verifier.now ≡ verifier.old }
         ensures same_reference { result.verifier.ghost_name ≡ verifier.entry.ghost_name }
