@@ -1,1 +1,7 @@
-pub mod Filing
+pub mod AnchorLemmas
+pub mod CertFiles
+pub mod ClaimLemmas
+pub mod FileLemmas
+pub mod PayloadFiles
+pub mod PointLemmas
+pub mod WholeLemmas

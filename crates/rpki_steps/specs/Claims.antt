@@ -1,0 +1,17 @@
+-- What a certificate claims, and what it then holds (RFC 6487 7.2, RFC 8360 4.2).
+use Rattle.std.specs.Prelude.{ℕ, Option, Some, None}
+use Rattle.rpki_authority.specs.resources_set.Resources.{Resources}
+use Rattle.rpki_authority.specs.rpki_readings.Certs.{Cert}
+use Rattle.rpki_authority.specs.rpki_rules.Chains.{Fits}
+use Rattle.rpki_authority.specs.rpki_rules.Kinds.{Kind}
+use Rattle.rpki_authority.specs.rpki_walk.Filed.{HasKept}
+use Rattle.rpki_step.specs.Claimed.{ClaimValue}
+
+-- What it claims of each kind, and its policy.
+abbrev pub claims_of : Cert → ClaimValue
+claims_of c = record { mode = c.tbs.overclaim; asn = c.tbs.asn; ipv4 = c.tbs.v4; ipv6 = c.tbs.v6 }
+
+-- The sets of the numbers that it holds, or nothing where its claim doesn't fit. `held` tells what is held above.
+abbrev pub FindsSets : (Kind → ℕ → Type 0) → Cert → Option Resources → Type 0
+FindsSets held c None = ¬ (Fits held c)
+FindsSets held c (Some sets) = Fits held c × HasKept held c sets

@@ -1,0 +1,105 @@
+//! What a locator leads to, with the anchor's certificate (RFC 8630 3).
+
+ghost use Rattle.std.specs.Prelude.{◌≡◌, IfOk};
+ghost use Rattle.std.specs.Str.Lossy.{utf8_lossy};
+ghost use Rattle.std.specs.String.{string_bytes};
+ghost use Rattle.rpki_authority.specs.Holders.{cert_of, sets_of};
+ghost use Rattle.rpki_authority.specs.certs_key.Digesting.{digests_of};
+ghost use Rattle.rpki_authority.specs.rpki_rules.World.{world_of};
+ghost use Rattle.rpki_authority.specs.rpki_walk.Filed.{IsLed};
+ghost use Rattle.rpki_anchors.specs.Leads.{HoldsAt};
+ghost use Rattle.rpki_steps.specs.Anchors.{FindsAnchorIn};
+
+use crate::authority::Authority;
+use crate::whole::addresses_are_whole;
+use bytes::Bytes;
+use certs_verify::{Digester, PublicKey, ResourceCert, TalInfo, Verifier};
+use objects_locator::Tal;
+use rpki_anchors::laws::{no_lead, one_lead};
+use rpki_anchors::{Lead, Locator, Object, follow, read_cert};
+use rpki_authority::{Leads, anchor_cert};
+use rpki_table::Index;
+use std::alloc::{AllocError, Global};
+use std::rc::Rc;
+
+// What the locator is called, for all that is validated below it.
+fn name_of(alloc: Global, locator: &Locator) -> Result<Rc<TalInfo>, AllocError>
+    ensures { IfOk result (λ name. string_bytes name.value ≡ utf8_lossy locator.now.name) }
+{
+    let name = String::from_utf8_lossy(alloc, locator.name.as_slice())?;
+    TalInfo::from_name(name).into_rc(alloc)
+}
+
+// The certificate that the octets are, if it is one of a trust anchor with that key, and with what it lists.
+fn anchor_in<D: Digester, V: Verifier>(
+    alloc: Global,
+    octets: &Bytes,
+    key: &PublicKey,
+    name: Rc<TalInfo>,
+    index: &Index<'_>,
+    digester: &D,
+    verifier: &mut V,
+) -> Result<Option<ResourceCert>, AllocError>
+    ensures found { IfOk result (FindsAnchorIn (world_of
+        (digests_of D.sha256_digest D.sha1_digest digester.now) (V.says verifier.old) index.now)
+        key.now octets.now) }
+    ensures same { V.says verifier.new ≡ V.says verifier.old }
+{
+    let Some(cert) = read_cert(alloc, octets)? else {
+        return Ok(None);
+    };
+    anchor_cert(cert, key, name, index, digester, verifier)
+}
+
+// What a locator leads to by its first object that is there.
+fn lead_to<D: Digester, V: Verifier>(
+    alloc: Global,
+    locator: &Locator,
+    object: &Object,
+    tal: &Tal,
+    index: &Index<'_>,
+    digester: &D,
+    verifier: &mut V,
+) -> Result<Leads<Authority>, AllocError>
+    ensures led { IfOk result (λ led. HoldsAt (world_of
+        (digests_of D.sha256_digest D.sha1_digest digester.now) (V.says verifier.old) index.now)
+        locator.now tal.now.key object.now.uri object.now.octets
+        → IsLed cert_of sets_of (world_of
+        (digests_of D.sha256_digest D.sha1_digest digester.now) (V.says verifier.old) index.now)
+        locator.now led) }
+    ensures same { V.says verifier.new ≡ V.says verifier.old }
+{
+    one_lead();
+    addresses_are_whole();
+    let name = name_of(alloc, locator)?;
+    let uri = object.uri.clone()?;
+    let key = tal.key_info();
+    match anchor_in(alloc, &object.octets, key, name, index, digester, verifier)? {
+        Some(anchor) => Ok(Leads::Anchor(uri, Authority::new(anchor))),
+        None => Ok(Leads::Nowhere),
+    }
+}
+
+/// What the locator leads to: nothing that reads, no trust anchor, or a trust anchor's certificate, by its lookup key and
+/// with what it lists (RFC 8630 3). The verifier is asked at most once.
+pub fn read_locator<D: Digester, V: Verifier>(
+    alloc: Global,
+    locator: &Locator,
+    index: &Index<'_>,
+    digester: &D,
+    verifier: &mut V,
+) -> Result<Leads<Authority>, AllocError>
+    ensures led { IfOk result (IsLed cert_of sets_of (world_of
+        (digests_of D.sha256_digest D.sha1_digest digester.now) (V.says verifier.old) index.now)
+        locator.now) }
+    ensures same { V.says verifier.new ≡ V.says verifier.old }
+{
+    no_lead();
+    match follow(alloc, locator, index)? {
+        Lead::Unreadable => Ok(Leads::Unreadable),
+        Lead::Nowhere => Ok(Leads::Nowhere),
+        Lead::Held(object, tal) => {
+            lead_to(alloc, locator, object, &tal, index, digester, verifier)
+        }
+    }
+}

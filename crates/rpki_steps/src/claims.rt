@@ -1,0 +1,53 @@
+//! What a certificate claims of number resources below an authority (RFC 6487 7.2, RFC 8360 4.2).
+
+ghost use Rattle.std.specs.Prelude.{◌≡◌, ◌↔◌, IfOk, IsTrue};
+ghost use Rattle.rpki_authority.specs.Holders.{sets_of};
+ghost use Rattle.rpki_authority.specs.rpki_rules.Chains.{Fits};
+ghost use Rattle.rpki_authority.specs.rpki_rules.Kinds.{InSet};
+ghost use Rattle.rpki_steps.specs.Claims.{FindsSets, claims_of};
+
+use certs_verify::{Cert, ResourceCert};
+use rpki_step::{Claim, Held, Holding, claim_fits, held_below};
+use std::alloc::{AllocError, Global};
+
+// What the authority holds.
+fn holding_of(ca: &ResourceCert) -> Holding<'_>
+    ensures { result ≡ sets_of ca.now }
+{
+    Holding {
+        asn: ca.as_resources(),
+        ipv4: ca.v4_resources(),
+        ipv6: ca.v6_resources(),
+    }
+}
+
+// What the certificate claims.
+fn claim_of(cert: &Cert) -> Claim<'_>
+    ensures { result ≡ claims_of cert.now }
+{
+    let tbs = cert.tbs();
+    Claim {
+        mode: tbs.overclaim(),
+        asn: tbs.as_resources(),
+        ipv4: tbs.v4_resources(),
+        ipv6: tbs.v6_resources(),
+    }
+}
+
+/// Whether the certificate's claim fits in what the authority holds, by the certificate's own policy.
+pub fn fits_below(alloc: Global, cert: &Cert, ca: &ResourceCert) -> bool
+    ensures { IsTrue result ↔ Fits (InSet (sets_of ca.now)) cert.now }
+{
+    claim_fits(alloc, &holding_of(ca), &claim_of(cert))
+}
+
+/// What the certificate holds below the authority, or nothing where its claim doesn't fit.
+pub fn sets_below(
+    alloc: Global,
+    cert: &Cert,
+    ca: &ResourceCert,
+) -> Result<Option<Held>, AllocError>
+    ensures { IfOk result (FindsSets (InSet (sets_of ca.now)) cert.now) }
+{
+    held_below(alloc, &holding_of(ca), &claim_of(cert))
+}
