@@ -4,7 +4,9 @@ use crate::requests::{Question, Request};
 use crate::texts::{self, Facts};
 use bytes::Bytes;
 use rpki_commands::Fips;
-use rpki_validator::{Bundle, Path, Reach, Report, TableVerifier, Witness, judge, lookup_key, reach, walk};
+use rpki_validator::{
+    Bundle, Path, Reach, Report, TableVerifier, Witness, judge, lookup_key, reach, walk,
+};
 use std::alloc::{AllocError, Global};
 use std::rc::Rc;
 
@@ -88,11 +90,7 @@ fn has(witness: &Witness, key: &[u8]) -> bool {
 }
 
 // The facts of a report about a URI, by its lookup key, or a locator's name.
-fn facts_about<'a>(
-    alloc: Global,
-    report: &'a Report,
-    name: &str,
-) -> Result<Facts<'a>, AllocError> {
+fn facts_about<'a>(alloc: Global, report: &'a Report, name: &str) -> Result<Facts<'a>, AllocError> {
     let key = key_of(alloc, name)?;
     let mut facts = Facts {
         refusals: Vec::new(alloc),

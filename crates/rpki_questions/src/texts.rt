@@ -64,7 +64,9 @@ pub(crate) fn reach(alloc: Global, reach: &Reach, json: bool) -> Result<Vec<u8>,
         Reach::Locator => format!(in alloc; "locator\n")?,
         Reach::Held(set) if json => {
             let (asn, ipv4, ipv6) = (set.asn(), set.ipv4(), set.ipv6());
-            format!(in alloc; "{{\"locator\":false,\"as\":\"{asn}\",\"ipv4\":\"{ipv4}\",\"ipv6\":\"{ipv6}\"}}\n")?
+            format!(in alloc;
+                "{{\"locator\":false,\"as\":\"{asn}\",\"ipv4\":\"{ipv4}\",\"ipv6\":\"{ipv6}\"}}\n"
+            )?
         }
         Reach::Held(set) => {
             let (asn, ipv4, ipv6) = (set.asn(), set.ipv4(), set.ipv6());
