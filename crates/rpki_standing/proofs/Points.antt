@@ -8,7 +8,7 @@ use Rattle.rpki_standing.specs.rpki_rules.Points.{IsPoint, Point}
 use Rattle.rpki_standing.specs.rpki_rules.World.{World}
 use Rattle.rpki_standing.specs.Manifests.{IsOwnManifest}
 use Rattle.rpki_standing.specs.Standing.{HasNoParts}
-use Rattle.rpki_standing.proofs.Manifests.{one_read, own_read}
+use Rattle.rpki_standing.proofs.OwnManifests.{one_read, own_read}
 
 -- A point is that of the manifest that the authority has.
 same_manifest : (w : World) (ca : Cert) (k : KindValue Manifest) (p : Point) → IsOwnManifest w ca k → IsPoint w ca p → k ≡ record { signed = p.object; content = p.manifest }

@@ -3,7 +3,7 @@ use Rattle.rpki_standing.specs.certs_key.Digesting.{digests_of}
 use Rattle.rpki_standing.specs.rpki_points.Crls.{Finds}
 use Rattle.rpki_standing.specs.rpki_rules.World.{World, world_of}
 use Rattle.rpki_standing.specs.Manifests.{IsReadAt}
-use Rattle.rpki_standing.proofs.Manifests.{none_other, none_read, own_of}
+use Rattle.rpki_standing.proofs.OwnManifests.{none_other, none_read, own_of}
 use Rattle.rpki_standing.proofs.manifests.find_manifest.Goals as goal
 
 pub returns-in_default-clause-found : goal.returns-in_default-clause-found
