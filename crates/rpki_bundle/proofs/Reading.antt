@@ -28,7 +28,7 @@ use Rattle.rpki_bundle.specs.Bundle.{BundleValue, BundleText}
 use Rattle.rpki_bundle.specs.Ends.{ReadsToEndAs, Refuses}
 use Rattle.rpki_bundle.specs.Errors.{OnNotABundle}
 use Rattle.rpki_bundle.specs.Grammars.{IsBundleAlone}
-use Rattle.rpki_bundle.specs.PartFields.{parts_value, parts_alone}
+use Rattle.rpki_bundle.specs.PartFields.{TellsBundle, parts_alone}
 use Rattle.rpki_bundle.proofs.BundleGrammar.{text_of, text_alone}
 
 -- What a value means that was read.
@@ -125,10 +125,13 @@ pub text_decoded : {F S T B E : Type 0} {m : Mode} {rest : S → List ℕ} {g : 
 text_decoded {m = m} {o = o} {r} exact h = decoded_cases m o r exact h.cases
 
 -- A bundle is told by octets that were read as one, and by none that were refused.
-pub parts_text : (E : Type 0) {o : List ℕ} (p : Parts) → ReadsText {E = E} parts_alone Der (IsBundleAlone Der) o (Ok p) → BundleText o (parts_value p)
-parts_text E p h = text_of h.1 h.2
+pub told_parts : {E : Type 0} (o : List ℕ) (r : Result Parts (DecodeError E)) → ReadsText {E = E} parts_alone Der (IsBundleAlone Der) o r → TellsBundle o r
+told_parts o (Ok p) h = text_of h.1 h.2
+told_parts o (Err (Content x pos)) h = λ b t. let a = text_alone t in h (more t.tree none) (b, tt) a.0 a.1
+told_parts o (Err (Source x)) h = tt
+told_parts o (Err Memory) h = tt
 
-pub refused_text : {E : Type 0} (o : List ℕ) (e : DecodeError E) (r : BundleError) → Refuses e r → ReadsText {E = E} parts_alone Der (IsBundleAlone Der) o (Err e) → OnNotABundle r ((b : BundleValue) → BundleText o b → ⊥)
-refused_text o (Content x pos) r i h = subst (λ (z : BundleError). OnNotABundle z ((b : BundleValue) → BundleText o b → ⊥)) (sym i) (λ b t. let a = text_alone t in h (more t.tree none) (b, tt) a.0 a.1)
+pub refused_text : {E : Type 0} (o : List ℕ) (e : DecodeError E) (r : BundleError) → Refuses e r → TellsBundle o (Err e) → OnNotABundle r ((b : BundleValue) → BundleText o b → ⊥)
+refused_text o (Content x pos) r i h = subst (λ (z : BundleError). OnNotABundle z ((b : BundleValue) → BundleText o b → ⊥)) (sym i) h
 refused_text o (Source x) r i h = absurd i
 refused_text o Memory r i h = subst (λ (z : BundleError). OnNotABundle z ((b : BundleValue) → BundleText o b → ⊥)) (sym i) tt

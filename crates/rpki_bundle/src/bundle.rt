@@ -7,21 +7,20 @@ ghost use Rattle.certs_uri.specs.Uris.{IsUri, lookup_key as key_of};
 ghost use Rattle.rpki_bundle.specs.Orders.{Ascends};
 ghost use Rattle.rpki_bundle.specs.Objects.{IsAt};
 ghost use Rattle.rpki_bundle.specs.declared.error.BundleError.TheVariants.{NotABundle as not_a_bundle};
-ghost use Rattle.rpki_bundle.specs.bcder_content.Here.{here};
-ghost use Rattle.rpki_bundle.specs.Ends.{ReadsToEndAs, Refuses};
+ghost use Rattle.rpki_bundle.specs.Ends.{Refuses};
 ghost use Rattle.rpki_bundle.specs.Errors.{OnNotABundle};
-ghost use Rattle.rpki_bundle.specs.Grammars.{IsBundleAlone};
-ghost use Rattle.rpki_bundle.specs.PartFields.{parts_alone, parts_value};
+ghost use Rattle.rpki_bundle.specs.PartFields.{parts_value};
 ghost use Rattle.rpki_bundle.specs.Lawful.{IsLawful};
 
 use crate::entries::is_lawful_list;
 use crate::reader::is_depth;
 use crate::uri::{cmp_lookup_key, is_uri};
-use crate::whole::{Parts, take_alone};
+use crate::whole::{Parts, read_whole};
 use crate::writer::{members_len, write_members};
 use crate::{BundleError, Locator, Object, Time, Verdict};
 use bcder::Mode;
-use bcder::decode::{Decode, DecodeError};
+use bcder::decode::DecodeError;
+use bytes::Bytes;
 use std::alloc::{AllocError, Global};
 use std::cmp::Ordering;
 use std::convert::Infallible;
@@ -202,19 +201,29 @@ impl Bundle {
         ensures not_a_bundle { IfErr result
             (λ e. OnNotABundle e ((b : BundleValue) → BundleText octets.now b → ⊥)) }
     {
-        let read = Mode::Der.decode(
-            octets,
-            |cons|
-                ensures { ReadsToEndAs parts_alone
-                    (IsBundleAlone (here (λ s. s.rest) cons.old).mode) (here (λ s. s.rest) cons.old)
-                    result (here (λ s. s.rest) cons.new) }
-            { take_alone(alloc, cons) },
-        );
-        match read {
+        match read_whole(alloc, octets) {
             Ok(parts) => Ok(bundle_of(parts)),
             Err(error) => Err(refusal(error)),
         }
     }
+
+    /// Reads a bundle as [`Bundle::decode`] does, of octets that it then shares: its names, texts, URIs and objects are pieces
+    /// of them, and nothing is copied.
+    pub fn decode_shared(alloc: Global, octets: Bytes) -> Result<Bundle, BundleError>
+        ensures ok { IfOk result (BundleText octets) }
+        ensures not_a_bundle { IfErr result
+            (λ e. OnNotABundle e ((b : BundleValue) → BundleText octets b → ⊥)) }
+    {
+        match read_whole(alloc, octets) {
+            Ok(parts) => Ok(bundle_of(parts)),
+            Err(error) => Err(refusal(error)),
+        }
+    }
+
+    /// Octets spell each bundle: it was read of some, or made of parts that a bundle may have.
+    pub fn is_spelled(&self)
+        ensures { (octets : List ℕ) × BundleText octets self.now }
+    {}
 
     /// The octets of the bundle: the only ones that are read as it.
     pub fn encode(&self, alloc: Global) -> Result<Vec<u8>, AllocError>

@@ -4,12 +4,13 @@ ghost use Rattle.rpki_bundle.specs.bcder_content.Exact.{ReadsAs, ReadsAllAs};
 ghost use Rattle.rpki_bundle.specs.bcder_content.Here.{here};
 ghost use Rattle.rpki_bundle.specs.Ends.{ReadsToEndAs};
 ghost use Rattle.rpki_bundle.specs.Grammars.{IsBundleAlone, IsBundleBody, IsBundleTree};
-ghost use Rattle.rpki_bundle.specs.PartFields.{parts_alone, parts_fields, parts_value};
+ghost use Rattle.rpki_bundle.specs.PartFields.{TellsBundle, parts_alone, parts_fields, parts_value};
 
 use crate::entries::take_list;
 use crate::reader::{take_depth, take_moment};
 use crate::{Locator, Object, Time, Verdict};
-use bcder::decode::{Constructed, ContentError, DecodeError, Source};
+use bcder::Mode;
+use bcder::decode::{Constructed, ContentError, Decode, DecodeError, IntoSource, Source};
 use std::alloc::Global;
 
 /// What was read of a bundle.
@@ -57,8 +58,8 @@ fn take_bundle<S: Source>(
     )
 }
 
-/// A bundle, behind which the source has ended.
-pub fn take_alone<S: Source>(
+// A bundle, behind which the source has ended.
+fn take_alone<S: Source>(
     alloc: Global,
     cons: &mut Constructed<S>,
 ) -> Result<Parts, DecodeError<S::Error>>
@@ -71,4 +72,21 @@ pub fn take_alone<S: Source>(
         return Err(cons.content_err(ContentError::from_static("octets behind the bundle")));
     }
     Ok(parts)
+}
+
+/// What all octets of a source tell of a bundle, in DER.
+pub fn read_whole<I: IntoSource>(
+    alloc: Global,
+    source: I,
+) -> Result<Parts, DecodeError<<I::Source as Source>::Error>>
+    ensures { TellsBundle (I.octets source) result }
+{
+    Mode::Der.decode(
+        source,
+        |cons|
+            ensures { ReadsToEndAs parts_alone
+                (IsBundleAlone (here I.Source.rest cons.old).mode) (here I.Source.rest cons.old)
+                result (here I.Source.rest cons.new) }
+        { take_alone(alloc, cons) },
+    )
 }

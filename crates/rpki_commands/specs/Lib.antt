@@ -1,5 +1,6 @@
 pub use Rattle.rpki_validator.specs.rpki_bundle.Bundle
 pub mod Arguments
+pub mod Fips
 pub mod Checks
 pub mod Lines
 pub mod Verdicts

@@ -3,6 +3,7 @@
 ghost use Rattle.std.specs.Prelude.{◌≡◌, ◌⊎◌, ◌<◌, ◌-◌, ◌^◌};
 ghost use Rattle.rpki_validator.specs.Run.{Prints};
 ghost use Rattle.rpki_commands.specs.Checks.{EndsInFault};
+ghost use Rattle.rpki_commands.specs.Fips.{fips};
 ghost use Rattle.rpki_commands.specs.Texts.{WritesText, EndsWithFault};
 
 use crate::digests::Fips;
@@ -30,7 +31,7 @@ pub fn check<R: Read, W: Write, F: Write>(
 
     ensures status { (result ≡ 0) ⊎ (result ≡ 1) }
     ensures done { result ≡ 0
-        → Prints (R.remaining reader.old.inner) (R.remaining reader.new.inner)
+        → Prints fips (R.remaining reader.old.inner) (R.remaining reader.new.inner)
         (W.contents writer.old.inner) (W.contents writer.new.inner) }
     ensures done_counts { result ≡ 0
         → (reader.new.failures ≡ reader.old.failures)

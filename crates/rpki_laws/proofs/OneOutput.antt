@@ -98,27 +98,31 @@ some_member : (ps : List ℕ) → (ps ≡ [] → ⊥) → (p : ℕ) × Mem ps p
 some_member [] some = absurd (some refl)
 some_member (p ∷ ps) some = (p, inl refl)
 
-module _ (w : World) where
-  same_customer : (c d : Customer) → c.number ≡ d.number → IsCustomer w c → IsCustomer w d → c ≡ d
-  same_customer c d e h k =
-      let P : ℕ → ℕ → Type 0 = λ (number provider : ℕ). AttestsProvision w (record { customer = number; provider = provider }) in
-      let q : c.providers ≡ d.providers = one_ascending c.providers d.providers h.ascending k.ascending (λ p. (
-        λ m. (k.exact p).1 (subst (λ (n : ℕ). P n p) e ((h.exact p).0 m)),
-        λ m. (h.exact p).1 (subst (λ (n : ℕ). P n p) (sym e) ((k.exact p).0 m)),
-      )) in
-      λ i. record { number = e i; providers = q i }
+-- The customer with that number has the same providers in both worlds.
+abbrev pub HasAlike : World → World → ℕ → Type 0
+HasAlike w w' number = (p : ℕ) → AttestsProvision w (record { customer = number; provider = p }) ↔ AttestsProvision w' (record { customer = number; provider = p })
 
-  in_other : (cs ds : List Customer) → AreCustomers w cs → AreCustomers w ds → (c : Customer) → Mem cs c → Mem ds c
-  in_other cs ds h k c m =
-      let is = each_at (IsCustomer w) cs c h.each m in
-      let p = some_member c.providers is.some in
-      let at = mem_map (λ (d : Customer). d.number) ds c.number (k.complete (record { customer = c.number; provider = p.0 }) ((is.exact p.0).0 p.1)) in
-      subst (Mem ds) (same_customer at.0 c at.2 (each_at (IsCustomer w) ds at.0 k.each at.1) is) at.1
+same_customer : (w w' : World) (c d : Customer) → c.number ≡ d.number → HasAlike w w' c.number → IsCustomer w c → IsCustomer w' d → c ≡ d
+same_customer w w' c d e a h k =
+    let P : ℕ → ℕ → Type 0 = λ (number provider : ℕ). AttestsProvision w' (record { customer = number; provider = provider }) in
+    let q : c.providers ≡ d.providers = one_ascending c.providers d.providers h.ascending k.ascending (λ p. (
+      λ m. (k.exact p).1 (subst (λ (n : ℕ). P n p) e ((a p).0 ((h.exact p).0 m))),
+      λ m. (h.exact p).1 ((a p).1 (subst (λ (n : ℕ). P n p) (sym e) ((k.exact p).0 m))),
+    )) in
+    λ i. record { number = e i; providers = q i }
 
-  one_customers : (cs ds : List Customer) → AreCustomers w cs → AreCustomers w ds → cs ≡ ds
-  one_customers cs ds h k =
-      one_list (λ (c d : Customer). c.number < d.number) (λ c d l n. omega arith) cs ds (customers_sorted cs h.ascending) (customers_sorted ds k.ascending)
-      (λ c. (in_other cs ds h k c, in_other ds cs k h c))
+-- So it stands among the customers of the other world too.
+pub in_other : (w w' : World) (cs ds : List Customer) → AreCustomers w cs → AreCustomers w' ds → (c : Customer) → HasAlike w w' c.number → Mem cs c → Mem ds c
+in_other w w' cs ds h k c a m =
+    let is = each_at (IsCustomer w) cs c h.each m in
+    let p = some_member c.providers is.some in
+    let at = mem_map (λ (d : Customer). d.number) ds c.number (k.complete (record { customer = c.number; provider = p.0 }) ((a p.0).0 ((is.exact p.0).0 p.1))) in
+    subst (Mem ds) (sym (same_customer w w' c at.0 (sym at.2) a is (each_at (IsCustomer w') ds at.0 k.each at.1))) at.1
+
+one_customers : (w : World) (cs ds : List Customer) → AreCustomers w cs → AreCustomers w ds → cs ≡ ds
+one_customers w cs ds h k =
+    one_list (λ (c d : Customer). c.number < d.number) (λ c d l n. omega arith) cs ds (customers_sorted cs h.ascending) (customers_sorted ds k.ascending)
+    (λ c. (in_other w w cs ds h k c (λ p. (λ x. x, λ x. x)), in_other w w ds cs k h c (λ p. (λ x. x, λ x. x))))
 
 pub one_output : OneOutput
 one_output w o p h k =

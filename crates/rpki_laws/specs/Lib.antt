@@ -1,4 +1,5 @@
 pub mod Versions
+pub mod Outside
 -- What stands below, for the crates above.
 pub use Rattle.rpki_rules.specs.bcder_tree as bcder_tree
 pub use Rattle.rpki_rules.specs.certs_specs as certs_specs

@@ -1,9 +1,8 @@
 //! The lists of a bundle, looked up.
 
-ghost use Rattle.std.specs.Prelude.{◌≡◌, ◌↔◌, ◌≤◌, ℕ, List, IsTrue, IfNone, IfSome, None, Some, length, map};
+ghost use Rattle.std.specs.Prelude.{◌≡◌, ◌↔◌, ◌≤◌, IsTrue, IfNone, IfSome, None, Some, length, map};
 ghost use Rattle.rpki_table.specs.resources_chain.Rows.{Looks};
 ghost use Rattle.certs_uri.specs.Uris.{lookup_key};
-ghost use Rattle.rpki_table.specs.rpki_bundle.Bundle.{BundleText};
 ghost use Rattle.rpki_table.specs.rpki_rules.Words.{Mem, NoRepeat};
 ghost use Rattle.rpki_table.specs.rpki_rules.World.{find_object};
 
@@ -31,11 +30,12 @@ impl<'a> Model for Index<'a> {
 
 /// What the bundle tells of the run.
 impl<'a> Index<'a> {
-    /// The index of a bundle that octets spell, as each bundle does that was read or made of parts.
+    /// The index of a bundle.
     pub fn new(bundle: &'a Bundle) -> Index<'a>
-        requires { (octets : List ℕ) × BundleText octets bundle.now }
         ensures { result ≡ bundle.now }
     {
+        // So its lists ascend.
+        bundle.is_spelled();
         Index { bundle }
     }
 

@@ -1,10 +1,9 @@
 //! The verifier that a bundle's table is.
 
-ghost use Rattle.std.specs.Prelude.{◌≡◌, ◌+◌, ◌-◌, ◌^◌, ℕ, List, length, min};
+ghost use Rattle.std.specs.Prelude.{◌≡◌, ◌+◌, ◌-◌, ◌^◌, length, min};
 ghost use Rattle.rpki_table.specs.resources_chain.Rows.{Looks};
 ghost use Rattle.rpki_rules.specs.certs_key.Digesting.{digests_of};
 ghost use Rattle.rpki_table.specs.certs_basics.Keys.{encoded};
-ghost use Rattle.rpki_table.specs.rpki_bundle.Bundle.{BundleText};
 ghost use Rattle.rpki_table.specs.rpki_rules.World.{table};
 
 use crate::index::Index;
@@ -26,9 +25,8 @@ pub struct TableVerifier<'a, D: Digester> {
 }
 
 impl<'a, D: Digester> TableVerifier<'a, D> {
-    /// The verifier of a bundle that octets spell. It wasn't asked yet.
+    /// The verifier of a bundle. It wasn't asked yet.
     pub fn new(bundle: &'a Bundle, digester: &'a D) -> TableVerifier<'a, D>
-        requires { (octets : List ℕ) × BundleText octets bundle.now }
         ensures index { result.index ≡ bundle.now }
         ensures digester { result.digester.now ≡ digester.now }
         ensures asked { result.asked ≡ 0 }

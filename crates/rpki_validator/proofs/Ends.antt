@@ -5,7 +5,10 @@ use Rattle.rpki_bundle.specs.Bundle.{BundleValue, BundleText}
 use Rattle.rpki_validator.specs.declared.runs.RunError.{RunError}
 use Rattle.rpki_validator.specs.declared.runs.RunError.TheVariants as errors
 use Rattle.rpki_validator.specs.Streams.{ReadsUpTo, TakesSome}
-use Rattle.rpki_validator.specs.Run.{IsTextOf, HasText, ReadsBundle, Prints, StopsPrinting, RunFails, TextFails, most_octets}
+use Rattle.rpki_validator.specs.Run.{BundleFails, IsNoBundle, HasText, ReadsBundle, ReadsSome, Prints, StopsPrinting, RunFails, most_octets}
+use Rattle.rpki_validator.specs.rpki_readings.Certs.{Digests}
+use Rattle.rpki_validator.specs.rpki_rules.Output.{IsOutput}
+use Rattle.rpki_validator.specs.rpki_rules.World.{run_world}
 
 keeps : (w : Option (List ℕ)) → Keeps w w
 keeps None = tt
@@ -16,37 +19,49 @@ abbrev pub Bounded : Type 0
 Bounded = (octets : List ℕ) (b : BundleValue) → BundleText octets b → length octets ≤ 2 ^ 32 + 5
 
 -- The octets of a bundle are all that the reader gave.
-pub bundle_ended : {before after : Option (List ℕ)} {octets : List ℕ} {b : BundleValue} → Bounded → ReadsUpTo most_octets before after octets → BundleText octets b → ReadsBundle before after b
-bundle_ended {after = after} {octets} {b} bounded read text = record {
-  octets = octets;
-  consumed = read.consumed;
-  ended = elim read.ended [ inl end ↦ end | inr long ↦ absurd (omega (arith, bounded octets b text)) ];
-  text = text;
-}
+pub bundle_ended : {before after : Option (List ℕ)} {octets : List ℕ} (seen : List ℕ) {b : BundleValue} → Bounded → seen ≡ octets → ReadsUpTo most_octets before after octets → BundleText seen b → ReadsBundle before after b
+bundle_ended {after = after} {octets} seen {b} bounded same read shown =
+    let text : BundleText octets b = subst (λ (s : List ℕ). BundleText s b) same shown in
+    record {
+      octets = octets;
+      consumed = read.consumed;
+      ended = elim read.ended [ inl end ↦ end | inr long ↦ absurd (omega (arith, bounded octets b text)) ];
+      text = text;
+    }
 
-pub has_text : {before after : Option (List ℕ)} {octets text : List ℕ} → Bounded → ReadsUpTo most_octets before after octets → IsTextOf octets text → HasText before after text
-has_text bounded read t = record { bundle = t.bundle; read = bundle_ended bounded read t.is; empty = t.empty; output = t.output }
+-- Octets that are no bundle's.
+pub bundle_refused : (e : RunError) (octets seen : List ℕ) {before after : Option (List ℕ)} → seen ≡ octets → ReadsUpTo most_octets before after octets → length octets ≤ most_octets → IsNoBundle e seen → BundleFails e before after
+bundle_refused errors.Read octets seen same read few f = absurd f
+bundle_refused errors.NotABundle octets seen same read few f = record { octets = octets; few = few; read = read; none = λ b t. f b (subst (λ (s : List ℕ). BundleText s b) (sym same) t) }
+bundle_refused errors.Write octets seen same read few f = absurd f
+bundle_refused errors.Memory octets seen same read few f = record { octets = octets; few = few; consumed = read.consumed }
 
--- A refusal before anything is written.
-pub text_refused : Bounded → (e : RunError) (octets seen : List ℕ) {before after : Option (List ℕ)} (w : Option (List ℕ)) → seen ≡ octets → ReadsUpTo most_octets before after octets → length octets ≤ most_octets → TextFails e seen → RunFails e before after w w
-text_refused bounded errors.Read octets seen w same read few f = absurd f
-text_refused bounded errors.NotABundle octets seen w same read few f = (record { octets = octets; few = few; read = read; none = λ b t. f b (subst (λ (s : List ℕ). BundleText s b) (sym same) t) }, keeps w)
-text_refused bounded errors.NotYet octets seen w same read few f = (record { bundle = f.0; read = bundle_ended bounded read (subst (λ (s : List ℕ). BundleText s f.0) same f.1); some = f.2 }, keeps w)
-text_refused bounded errors.Write octets seen w same read few f = absurd f
-text_refused bounded errors.Memory octets seen w same read few f = (record { octets = octets; few = few; consumed = read.consumed }, keeps w)
+-- Nothing is written where no bundle was read.
+pub run_refused : {d : Digests} (e : RunError) {before after : Option (List ℕ)} (w : Option (List ℕ)) → BundleFails e before after → RunFails d e before after w w
+run_refused errors.Read w f = (f, keeps w)
+run_refused errors.NotABundle w f = (f, keeps w)
+run_refused errors.Write w f = absurd f
+run_refused errors.Memory w f = (f, keeps w)
+
+-- There was no memory for the text of the bundle that was read.
+pub no_memory : {d : Digests} {before after : Option (List ℕ)} {b : BundleValue} (w : Option (List ℕ)) → Bounded → ReadsBundle before after b → RunFails d errors.Memory before after w w
+no_memory {b = b} w bounded read = (record { octets = read.octets; few = omega (arith, bounded read.octets b read.text); consumed = read.consumed }, keeps w)
+
+has_text : (d : Digests) {before after : Option (List ℕ)} {b : BundleValue} (text : List ℕ) → ReadsBundle before after b → IsOutput (run_world d b) text → HasText d before after text
+has_text d {b = b} text read out = record { bundle = b; read = read; output = out }
 
 -- A write that stopped.
-pub stopped : {before after written left : Option (List ℕ)} {octets seen text shown : List ℕ} → Bounded → seen ≡ octets → shown ≡ text → ReadsUpTo most_octets before after octets → IsTextOf seen text → TakesSome written left shown → StopsPrinting before after written left
-stopped {written = written} {left} {octets} {text = text} bounded same shows read t takes = record {
+pub stopped : (d : Digests) {before after written left : Option (List ℕ)} {b : BundleValue} (text shown : List ℕ) → shown ≡ text → ReadsBundle before after b → IsOutput (run_world d b) text → TakesSome written left shown → StopsPrinting d before after written left
+stopped d {written = written} {left} text shown shows read out takes = record {
   text = text;
-  has = has_text bounded read (subst (λ (s : List ℕ). IsTextOf s text) same t);
+  has = has_text d text read out;
   written = subst (TakesSome written left) shows takes;
 }
 
 -- A text that was written.
-pub printed : {before after written left : Option (List ℕ)} {octets seen text shown : List ℕ} → Bounded → seen ≡ octets → shown ≡ text → ReadsUpTo most_octets before after octets → IsTextOf seen text → Appends written left shown → Prints before after written left
-printed {written = written} {left} {octets} {text = text} bounded same shows read t takes = record {
+pub printed : (d : Digests) {before after written left : Option (List ℕ)} {b : BundleValue} (text shown : List ℕ) → shown ≡ text → ReadsBundle before after b → IsOutput (run_world d b) text → Appends written left shown → Prints d before after written left
+printed d {written = written} {left} text shown shows read out takes = record {
   text = text;
-  has = has_text bounded read (subst (λ (s : List ℕ). IsTextOf s text) same t);
+  has = has_text d text read out;
   written = subst (Appends written left) shows takes;
 }

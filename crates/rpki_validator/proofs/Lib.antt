@@ -1,6 +1,6 @@
 mod Pieces
-mod Outputs
 mod Ends
+mod Forging
 pub mod of_bcder_tree
 pub mod of_certs_time
 pub mod of_rpki_bundle

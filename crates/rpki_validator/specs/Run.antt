@@ -5,7 +5,9 @@ use Rattle.rpki_bundle.specs.Bundle.{BundleValue, BundleText}
 use Rattle.rpki_validator.specs.declared.runs.RunError.{RunError}
 use Rattle.rpki_validator.specs.declared.runs.RunError.TheVariants as errors
 use Rattle.rpki_validator.specs.Streams.{ReadsUpTo, TakesSome}
-use Rattle.rpki_validator.specs.Output.{HasEmptyTexts, IsOutput}
+use Rattle.rpki_validator.specs.rpki_rules.Output.{IsOutput}
+use Rattle.rpki_validator.specs.rpki_rules.World.{run_world}
+use Rattle.rpki_validator.specs.rpki_readings.Certs.{Digests}
 
 -- One octet more than any bundle has: where reading stops.
 abbrev pub most_octets : ℕ
@@ -31,45 +33,38 @@ pub record ReadsSome (before after : Option (List ℕ)) : Type 0 where
   pub few : length octets ≤ most_octets
   pub consumed : Consumes before after octets
 
--- The text of a bundle that was read: all its locators' texts are empty, and it is the output.
-pub record HasText (before after : Option (List ℕ)) (text : List ℕ) : Type 0 where
+-- In what follows `d` are the digest functions of the run.
+
+-- The text of a bundle that was read: its output by the rules, good signatures being those that its table tells.
+pub record HasText (d : Digests) (before after : Option (List ℕ)) (text : List ℕ) : Type 0 where
   pub bundle : BundleValue
   pub read : ReadsBundle before after bundle
-  pub empty : HasEmptyTexts bundle
-  pub output : IsOutput bundle text
+  pub output : IsOutput (run_world d bundle) text
 
 -- All of the text was written,
-pub record Prints (read_before read_after written_before written_after : Option (List ℕ)) : Type 0 where
+pub record Prints (d : Digests) (read_before read_after written_before written_after : Option (List ℕ)) : Type 0 where
   pub text : List ℕ
-  pub has : HasText read_before read_after text
+  pub has : HasText d read_before read_after text
   pub written : Appends written_before written_after text
 
 -- or a front of it that lacks something.
-pub record StopsPrinting (read_before read_after written_before written_after : Option (List ℕ)) : Type 0 where
+pub record StopsPrinting (d : Digests) (read_before read_after written_before written_after : Option (List ℕ)) : Type 0 where
   pub text : List ℕ
-  pub has : HasText read_before read_after text
+  pub has : HasText d read_before read_after text
   pub written : TakesSome written_before written_after text
 
--- The bundle that was read has a locator whose text isn't empty.
-pub record ReadsTexts (before after : Option (List ℕ)) : Type 0 where
-  pub bundle : BundleValue
-  pub read : ReadsBundle before after bundle
-  pub some : HasEmptyTexts bundle → ⊥
-
 -- What each refusal says of what was read and of what was written.
-abbrev pub RunFails : RunError → Option (List ℕ) → Option (List ℕ) → Option (List ℕ) → Option (List ℕ) → Type 0
-RunFails errors.Read r r' w w' = ReadsSome r r' × Keeps w w'
-RunFails errors.NotABundle r r' w w' = ReadsNoBundle r r' × Keeps w w'
-RunFails errors.NotYet r r' w w' = ReadsTexts r r' × Keeps w w'
-RunFails errors.Write r r' w w' = StopsPrinting r r' w w'
-RunFails errors.Memory r r' w w' = ReadsSome r r' × Keeps w w'
+abbrev pub RunFails : Digests → RunError → Option (List ℕ) → Option (List ℕ) → Option (List ℕ) → Option (List ℕ) → Type 0
+RunFails d errors.Read r r' w w' = ReadsSome r r' × Keeps w w'
+RunFails d errors.NotABundle r r' w w' = ReadsNoBundle r r' × Keeps w w'
+RunFails d errors.Write r r' w w' = StopsPrinting d r r' w w'
+RunFails d errors.Memory r r' w w' = ReadsSome r r' × Keeps w w'
 
 -- The reader's count of failures rises by one exactly at `Read`.
 abbrev pub CountsReads : {T : Type 0} → Result T RunError → ℕ → ℕ → Type 0
 CountsReads (Ok x) old new = new ≡ old
 CountsReads (Err errors.Read) old new = new ≡ old + 1
 CountsReads (Err errors.NotABundle) old new = new ≡ old
-CountsReads (Err errors.NotYet) old new = new ≡ old
 CountsReads (Err errors.Write) old new = new ≡ old
 CountsReads (Err errors.Memory) old new = new ≡ old
 
@@ -78,21 +73,19 @@ abbrev pub CountsWrites : {T : Type 0} → Result T RunError → ℕ → ℕ →
 CountsWrites (Ok x) old new = new ≡ old
 CountsWrites (Err errors.Read) old new = new ≡ old
 CountsWrites (Err errors.NotABundle) old new = new ≡ old
-CountsWrites (Err errors.NotYet) old new = new ≡ old
 CountsWrites (Err errors.Write) old new = new ≡ old + 1
 CountsWrites (Err errors.Memory) old new = new ≡ old
 
--- What a refusal says before anything is written.
-abbrev pub TextFails : RunError → List ℕ → Type 0
-TextFails errors.Read octets = ⊥
-TextFails errors.NotABundle octets = (b : BundleValue) → BundleText octets b → ⊥
-TextFails errors.NotYet octets = (b : BundleValue) × BundleText octets b × (HasEmptyTexts b → ⊥)
-TextFails errors.Write octets = ⊥
-TextFails errors.Memory octets = Unit {0}
+-- Why octets are no bundle's, or there was no memory.
+abbrev pub IsNoBundle : RunError → List ℕ → Type 0
+IsNoBundle errors.Read octets = ⊥
+IsNoBundle errors.NotABundle octets = (b : BundleValue) → BundleText octets b → ⊥
+IsNoBundle errors.Write octets = ⊥
+IsNoBundle errors.Memory octets = Unit {0}
 
--- The text is the output of the bundle that the octets spell.
-pub record IsTextOf (octets text : List ℕ) : Type 0 where
-  pub bundle : BundleValue
-  pub is : BundleText octets bundle
-  pub empty : HasEmptyTexts bundle
-  pub output : IsOutput bundle text
+-- What a refusal says of what was read, where nothing is written.
+abbrev pub BundleFails : RunError → Option (List ℕ) → Option (List ℕ) → Type 0
+BundleFails errors.Read r r' = ReadsSome r r'
+BundleFails errors.NotABundle r r' = ReadsNoBundle r r'
+BundleFails errors.Write r r' = ⊥
+BundleFails errors.Memory r r' = ReadsSome r r'

@@ -1,13 +1,19 @@
-//! The validator: what a run prints of a bundle.
+//! The validator: what a walk reports of a bundle, what a judge says of one witness, what some URIs can reach, and what a
+//! run prints.
 #![tactic(auto)]
 
+pub mod bundles;
 pub mod counted;
-pub mod lines;
+pub mod laws;
 pub mod runs;
 pub mod streams;
 
+pub use bundles::{judge, reach, walk};
 pub use counted::Counted;
-pub use lines::Cause;
 pub use rpki_bundle::{Bundle, BundleError, Digester, Locator, Object, Time, Verdict};
-pub use runs::{RunError, run};
+pub use rpki_judge::Judgement;
+pub use rpki_lines::render;
+pub use rpki_reach::Reach;
+pub use rpki_report::{Cause, Customer, Origin, Refusal, Report, Witness};
+pub use runs::{RunError, read_bundle, run};
 pub use streams::{WriteFault, write_all};

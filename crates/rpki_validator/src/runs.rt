@@ -1,14 +1,21 @@
 //! One run: a bundle is read, and its lines are written.
 
-ghost use Rattle.std.specs.Prelude.{◌≡◌, ◌<◌, ◌-◌, ◌^◌, IfOk, IfErr, OnOk};
-ghost use Rattle.rpki_validator.specs.Run.{IsTextOf, TextFails, Prints, RunFails, CountsReads, CountsWrites};
+ghost use Rattle.std.specs.Prelude.{◌≡◌, ◌<◌, ◌-◌, ◌^◌, ℕ, List, IfOk, IfErr, OnOk};
+ghost use Rattle.rpki_validator.specs.certs_key.Digesting.{digests_of};
+ghost use Rattle.rpki_validator.specs.rpki_bundle.Bundle.{BundleText};
+ghost use Rattle.rpki_validator.specs.rpki_rules.Output.{IsOutput};
+ghost use Rattle.rpki_validator.specs.rpki_rules.World.{run_world};
+ghost use Rattle.rpki_validator.specs.Run.{BundleFails, IsNoBundle, ReadsBundle};
+ghost use Rattle.rpki_validator.specs.Run.{CountsReads, CountsWrites, Prints, RunFails};
 ghost use Rattle.rpki_validator.specs.declared.runs.RunError.TheVariants.{Memory as memory_error};
 
+use crate::bundles::walk;
 use crate::counted::Counted;
-use crate::lines::{have_empty_texts, locator_lines};
 use crate::streams::{ReadFault, read_all, write_all};
 use rpki_bundle::laws::bundle_length;
 use rpki_bundle::{Bundle, BundleError, Digester};
+use rpki_lines::render;
+use rpki_table::TableVerifier;
 use std::alloc::{AllocError, Global};
 use std::io::{Read, Write};
 use thiserror::Error;
@@ -22,9 +29,6 @@ pub enum RunError {
     /// What was read is no bundle.
     #[error("not a bundle")]
     NotABundle,
-    /// The bundle has a locator whose text isn't empty; such bundles aren't judged yet.
-    #[error("not yet")]
-    NotYet,
     /// The writer answered an error, or took nothing.
     #[error("write fault")]
     Write,
@@ -41,49 +45,45 @@ impl From<AllocError> for RunError {
     }
 }
 
+// The output of a bundle: good are the signatures that its own table tells.
+fn output_of<D: Digester>(
+    alloc: Global,
+    bundle: &Bundle,
+    digester: &D,
+) -> Result<Vec<u8>, AllocError>
+    requires { (octets : List ℕ) × BundleText octets bundle.now }
+    ensures { IfOk result (λ text. IsOutput (run_world
+        (digests_of D.sha256_digest D.sha1_digest digester.now) bundle.now) text.items) }
+{
+    let mut verifier = TableVerifier::new(bundle, digester);
+    let report = walk(alloc, bundle, digester, &mut verifier)?;
+    render(alloc, &report)
+}
+
 // One octet more than any bundle has.
 const MOST_OCTETS: usize = 4_294_967_302;
 
-// All that is printed of the bundle that the octets are.
-fn text_of(alloc: Global, octets: &[u8]) -> Result<Vec<u8>, RunError>
-    ensures ok { IfOk result (λ text. IsTextOf octets.now text.items) }
-    ensures refused { IfErr result (λ e. TextFails e octets.now) }
+// The bundle that the octets spell, all of them.
+fn bundle_of(alloc: Global, octets: &[u8]) -> Result<Bundle, RunError>
+    ensures ok { IfOk result (BundleText octets.now) }
+    ensures refused { IfErr result (λ e. IsNoBundle e octets.now) }
 {
-    let bundle = match Bundle::decode(alloc, octets) {
-        Ok(bundle) => bundle,
-        Err(BundleError::NotABundle) => return Err(RunError::NotABundle),
-        Err(BundleError::Memory) => return Err(RunError::Memory),
-    };
-    if !have_empty_texts(bundle.locators()) {
-        return Err(RunError::NotYet);
-    }
-    match locator_lines(alloc, bundle.locators()) {
-        Ok(text) => Ok(text),
-        Err(_) => Err(RunError::Memory),
+    match Bundle::decode(alloc, octets) {
+        Ok(bundle) => Ok(bundle),
+        Err(BundleError::NotABundle) => Err(RunError::NotABundle),
+        Err(BundleError::Memory) => Err(RunError::Memory),
     }
 }
 
-/// Reads a bundle to the end of its input, and writes its lines.
-///
-/// Reading stops at one octet more than a bundle can have. The whole text is made before its first octet is
-/// written, so that of the refusals only `Write` leaves anything written.
-pub fn run<R: Read, W: Write, D: Digester>(
-    alloc: Global,
-    reader: &mut Counted<R>,
-    writer: &mut Counted<W>,
-    _digester: &D,
-) -> Result<(), RunError>
-    requires few_reads { reader.old.failures < 2 ^ 64 - 1 }
-    requires few_writes { writer.old.failures < 2 ^ 64 - 1 }
+/// Reads a bundle to the end of its input. Reading stops at one octet more than a bundle can have.
+pub fn read_bundle<R: Read>(alloc: Global, reader: &mut Counted<R>) -> Result<Bundle, RunError>
+    requires few { reader.old.failures < 2 ^ 64 - 1 }
 
-    ensures ok { OnOk result
-        (Prints (R.remaining reader.old.inner) (R.remaining reader.new.inner)
-        (W.contents writer.old.inner) (W.contents writer.new.inner)) }
-    ensures refused { IfErr result (λ e. RunFails e (R.remaining reader.old.inner)
-        (R.remaining reader.new.inner) (W.contents writer.old.inner)
-        (W.contents writer.new.inner)) }
+    ensures ok { IfOk result (ReadsBundle (R.remaining reader.old.inner)
+        (R.remaining reader.new.inner)) }
+    ensures refused { IfErr result (λ e. BundleFails e (R.remaining reader.old.inner)
+        (R.remaining reader.new.inner)) }
     ensures reads { CountsReads result reader.old.failures reader.new.failures }
-    ensures writes { CountsWrites result writer.old.failures writer.new.failures }
 {
     // So a bundle ends before the reading is stopped.
     bundle_length();
@@ -92,9 +92,42 @@ pub fn run<R: Read, W: Write, D: Digester>(
         Err(ReadFault::Read) => return Err(RunError::Read),
         Err(ReadFault::Memory) => return Err(RunError::Memory),
     };
-    let text = match text_of(alloc, octets.as_slice()) {
-        Ok(text) => text,
+    bundle_of(alloc, octets.as_slice())
+}
+
+/// Reads a bundle to the end of its input, and writes its lines: what its accepted chains attest, and what the rules refuse,
+/// each once and in order.
+///
+/// The whole text is made before its first octet is written, so that of the refusals only `Write` leaves anything written.
+pub fn run<R: Read, W: Write, D: Digester>(
+    alloc: Global,
+    reader: &mut Counted<R>,
+    writer: &mut Counted<W>,
+    digester: &D,
+) -> Result<(), RunError>
+    requires few_reads { reader.old.failures < 2 ^ 64 - 1 }
+    requires few_writes { writer.old.failures < 2 ^ 64 - 1 }
+
+    ensures ok { OnOk result
+        (Prints (digests_of D.sha256_digest D.sha1_digest digester.now)
+        (R.remaining reader.old.inner) (R.remaining reader.new.inner)
+        (W.contents writer.old.inner) (W.contents writer.new.inner)) }
+    ensures refused { IfErr result
+        (λ e. RunFails (digests_of D.sha256_digest D.sha1_digest digester.now) e
+        (R.remaining reader.old.inner) (R.remaining reader.new.inner)
+        (W.contents writer.old.inner) (W.contents writer.new.inner)) }
+    ensures reads { CountsReads result reader.old.failures reader.new.failures }
+    ensures writes { CountsWrites result writer.old.failures writer.new.failures }
+{
+    // So a bundle that was read has fewer octets than where reading stops.
+    bundle_length();
+    let bundle = match read_bundle(alloc, reader) {
+        Ok(bundle) => bundle,
         Err(error) => return Err(error),
+    };
+    let text = match output_of(alloc, &bundle, digester) {
+        Ok(text) => text,
+        Err(_) => return Err(RunError::Memory),
     };
     match write_all(writer, text.as_slice()) {
         Ok(()) => Ok(()),

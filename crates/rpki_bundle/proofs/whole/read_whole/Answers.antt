@@ -1,0 +1,8 @@
+use Rattle.rpki_bundle.specs.bcder_tree.declared.mode.Mode.TheVariants.{Der}
+use Rattle.rpki_bundle.specs.Grammars.{IsBundleAlone}
+use Rattle.rpki_bundle.specs.PartFields.{parts_alone}
+use Rattle.rpki_bundle.proofs.Reading.{ends_in, text_decoded, told_parts}
+use Rattle.rpki_bundle.proofs.whole.read_whole.Goals as goal
+
+pub returns : goal.returns
+returns g c = told_parts _ _ (text_decoded {f = parts_alone} {P = IsBundleAlone Der} (record { each = λ p q r m h. ends_in parts_alone IsBundleAlone _ _ r m h }) c.decode.ensures.decoded)

@@ -1,0 +1,31 @@
+-- What forging the objects at some URIs can change of what a run prints.
+use Rattle.std.specs.Prelude.{◌≡◌, ◌↔◌, ℕ, List}
+use Rattle.rpki_validator.specs.rpki_bundle.Bundle.{BundleValue}
+use Rattle.rpki_validator.specs.resources_set.Resources.{Resources}
+use Rattle.rpki_validator.specs.rpki_readings.Certs.{Digests}
+use Rattle.rpki_validator.specs.rpki_rules.Chains.{last_of, Accepted}
+use Rattle.rpki_validator.specs.rpki_rules.Output.{IsOutput}
+use Rattle.rpki_validator.specs.rpki_rules.Points.{Link}
+use Rattle.rpki_validator.specs.rpki_rules.Reach.{IsOneOf, IsReach, Held, NamesOne, SomeLocatorNames}
+use Rattle.rpki_validator.specs.rpki_rules.World.{find_object, run_world}
+use Rattle.rpki_laws.specs.Outside.{AreAlikeOutside}
+
+-- The second bundle has what the first has, but for the objects at these URIs: there it may have any, or none.
+pub record AgreesBut (uris : List (List ℕ)) (b b' : BundleValue) : Type 0 where
+  pub moment : b'.moment ≡ b.moment
+  pub depth : b'.depth ≡ b.depth
+  pub locators : b'.locators ≡ b.locators
+  pub verdicts : b'.verdicts ≡ b.verdicts
+  pub objects : (key : List ℕ) → ¬ (IsOneOf uris key) → find_object b'.objects key ≡ find_object b.objects key
+
+-- Lines of origins and customers outside what the URIs reach in the first bundle are the same in both texts; of the second
+-- bundle nothing is asked.
+abbrev pub ForgingStaysInside : Type 0
+ForgingStaysInside = (d : Digests) (uris : List (List ℕ)) (b b' : BundleValue) (r : Resources) → AgreesBut uris b b' → IsReach uris (run_world d b) (Held r) →
+    (text text' : List ℕ) (o : IsOutput (run_world d b) text) (o' : IsOutput (run_world d b') text') → AreAlikeOutside r (run_world d b) (run_world d b') text text' o o'
+
+-- Where nothing names one of the URIs, both texts are one.
+abbrev pub UntouchedStays : Type 0
+UntouchedStays = (d : Digests) (uris : List (List ℕ)) (b b' : BundleValue) → AgreesBut uris b b' → ¬ (SomeLocatorNames uris (run_world d b)) →
+    ((name : List ℕ) (a : Link) (cs : List Link) → Accepted (run_world d b) name a cs → ¬ (NamesOne uris (run_world d b) (last_of a cs).cert)) →
+    (text : List ℕ) → IsOutput (run_world d b) text ↔ IsOutput (run_world d b') text
