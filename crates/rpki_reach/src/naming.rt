@@ -21,7 +21,8 @@ pub trait Naming: Steps {
     fn named_keys(&mut self, alloc: Global, ca: &Self::Authority) -> Result<Vec<Bytes>, AllocError>
         ensures named { IfOk result
             (λ keys. AreNamed (Self.world self.old) (Self.cert ca.now) keys.items) }
-        ensures same { Self.world self.new ≡ Self.world self.old };
+        ensures same { Self.world self.new ≡ Self.world self.old }
+        ensures lender { Self.lender self.new ≡ Self.lender self.old };
 
     /// The numbers that the authority's chain holds.
     fn held(&self, ca: &Self::Authority) -> Result<ResourceSet, AllocError>

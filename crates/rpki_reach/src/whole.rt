@@ -18,6 +18,7 @@ use std::alloc::{AllocError, Global};
 pub fn reach<S: Naming>(alloc: Global, steps: &mut S, uris: &[Bytes]) -> Result<Reach, AllocError>
     ensures reach { IfOk result (λ r. IsReach uris.now (S.world steps.old) (answer_of r)) }
     ensures same { S.world steps.new ≡ S.world steps.old }
+    ensures lender { S.lender steps.new ≡ S.lender steps.old }
 {
     if some_locator_names(alloc, steps, uris)? {
         return Ok(Reach::Locator);

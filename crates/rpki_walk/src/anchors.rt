@@ -25,6 +25,7 @@ fn walk_locator<S: Steps, V: Visitor<S>>(
         (V.has visitor.new)) }
     ensures kept { V.uris visitor.new ≡ V.uris visitor.old }
     ensures same { S.world steps.new ≡ S.world steps.old }
+    ensures lender { S.lender steps.new ≡ S.lender steps.old }
 {
     let name = steps.locator_name(at)?;
     match steps.read_locator(alloc, at)? {
@@ -49,6 +50,7 @@ pub fn walk_all<S: Steps, V: Visitor<S>>(
         (IsTold (V.uris visitor.old) (S.world steps.old)) (V.has visitor.new)) }
     ensures kept { V.uris visitor.new ≡ V.uris visitor.old }
     ensures same { S.world steps.new ≡ S.world steps.old }
+    ensures lender { S.lender steps.new ≡ S.lender steps.old }
 {
     for at in 0..steps.locator_count() {
         walk_locator(alloc, steps, visitor, at)?;

@@ -27,7 +27,8 @@ pub trait Visitor<S: Steps> {
             (ReachedBy (uris self.old) (S.world steps.old) (InSet (S.sets ca.now)) (S.cert ca.now))
             (has self.new)) }
         ensures kept { uris self.new ≡ uris self.old }
-        ensures same { S.world steps.new ≡ S.world steps.old };
+        ensures same { S.world steps.new ≡ S.world steps.old }
+        ensures lender { S.lender steps.new ≡ S.lender steps.old };
 
     /// What has this name is refused.
     fn refuse(&mut self, name: &Bytes, why: Cause) -> Result<(), AllocError>

@@ -61,6 +61,7 @@ impl<S: Steps> Visitor<S> for Findings {
 pub fn walk<S: Steps>(alloc: Global, steps: &mut S) -> Result<Report, AllocError>
     ensures report { IfOk result (IsReport (S.world steps.old)) }
     ensures same { S.world steps.new ≡ S.world steps.old }
+    ensures lender { S.lender steps.new ≡ S.lender steps.old }
 {
     let mut found = Findings {
         origins: Vec::new(alloc),

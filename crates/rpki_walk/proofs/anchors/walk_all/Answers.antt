@@ -20,6 +20,7 @@ loop-at-preserved g c =
     let k = subst (λ (us : List (List ℕ)). Gains g.V.Visitor.wants old (FromLocator us w (locator_at w at)) new) inv.kept h in
     record {
       same = c.in_ok-walk_locator.ensures.same ∙ inv.same;
+      lender = c.in_ok-walk_locator.ensures.lender ∙ inv.lender;
       kept = c.in_ok-walk_locator.ensures.kept ∙ inv.kept;
       gained = gains_next g.V.Visitor.wants (g.V.Visitor.has c.args.visitor.now) old new (λ x. ⊥) (FromLocator uris w) w.locators at (record { name = []; text = [] }) (subst (λ (n : ℕ). at < n) c.locator_count-at-end.ensures.count c.loop-at-test.true) inv.gained k;
     }

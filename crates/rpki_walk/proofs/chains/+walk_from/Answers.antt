@@ -66,6 +66,7 @@ loop-file-preserved g t c =
     elim c.match-branch-6.branch [
       | in-Nothing v ↦ record {
         same = ap (λ q. g.S.Steps.world q) v.steps-is ∙ (c.in_ok-classify.ensures.same ∙ inv.same);
+        lender = ap (λ q. g.S.Steps.lender q) v.steps-is ∙ (c.in_ok-classify.ensures.lender ∙ inv.lender);
         kept = ap (λ q. g.V.Visitor.uris q) v.visitor-is ∙ inv.kept;
         gained = λ name a cs p st acc s. subst (λ q. Gains wants first (λ x. ReachedBy uris w held ca x ⊎ ((u : List ℕ) × Mem (take (i + 1) fs) u × FromFile uris w name a cs p u x)) (g.V.Visitor.has q)) (sym v.visitor-is)
             (gains_next wants first old old (ReachedBy uris w held ca) (FromFile uris w name a cs p) fs i d c.loop-file-test.true (inv.gained name a cs p st acc s)
@@ -73,6 +74,7 @@ loop-file-preserved g t c =
       }
       | in-Refused+in_ok-refuse-in-Refused v ↦ record {
         same = ap (λ q. g.S.Steps.world q) v.steps-is ∙ (c.in_ok-classify.ensures.same ∙ inv.same);
+        lender = ap (λ q. g.S.Steps.lender q) v.steps-is ∙ (c.in_ok-classify.ensures.lender ∙ inv.lender);
         kept = ap (λ q. g.V.Visitor.uris q) v.visitor-is ∙ (v.in_ok-refuse-in-Refused.ensures.kept ∙ inv.kept);
         gained = λ name a cs p st acc s. subst (λ q. Gains wants first (λ x. ReachedBy uris w held ca x ⊎ ((u : List ℕ) × Mem (take (i + 1) fs) u × FromFile uris w name a cs p u x)) (g.V.Visitor.has q)) (sym v.visitor-is)
             (gains_next wants first old _ (ReachedBy uris w held ca) (FromFile uris w name a cs p) fs i d c.loop-file-test.true (inv.gained name a cs p st acc s)
@@ -81,6 +83,7 @@ loop-file-preserved g t c =
       }
       | in-Attests+in_ok-show-in-Attests v ↦ record {
         same = ap (λ q. g.S.Steps.world q) v.steps-is ∙ (c.in_ok-classify.ensures.same ∙ inv.same);
+        lender = ap (λ q. g.S.Steps.lender q) v.steps-is ∙ (c.in_ok-classify.ensures.lender ∙ inv.lender);
         kept = ap (λ q. g.V.Visitor.uris q) v.visitor-is ∙ (v.in_ok-show-in-Attests.ensures.kept ∙ inv.kept);
         gained = λ name a cs p st acc s. subst (λ q. Gains wants first (λ x. ReachedBy uris w held ca x ⊎ ((u : List ℕ) × Mem (take (i + 1) fs) u × FromFile uris w name a cs p u x)) (g.V.Visitor.has q)) (sym v.visitor-is)
             (gains_next wants first old _ (ReachedBy uris w held ca) (FromFile uris w name a cs p) fs i d c.loop-file-test.true (inv.gained name a cs p st acc s)
@@ -89,6 +92,7 @@ loop-file-preserved g t c =
       }
       | in-Child+in_ok-longer-in-Child+in_ok-longer-in-Child-2+in_ok-more-in-Child+in_ok-walk_from-in-Child v ↦ record {
         same = ap (λ q. g.S.Steps.world q) v.steps-is ∙ (v.in_ok-walk_from-in-Child.ensures.same ∙ (c.in_ok-classify.ensures.same ∙ inv.same));
+        lender = ap (λ q. g.S.Steps.lender q) v.steps-is ∙ (v.in_ok-walk_from-in-Child.ensures.lender ∙ (c.in_ok-classify.ensures.lender ∙ inv.lender));
         kept = ap (λ q. g.V.Visitor.uris q) v.visitor-is ∙ (v.in_ok-walk_from-in-Child.ensures.kept ∙ inv.kept);
         gained = λ name a cs p st acc s. subst (λ q. Gains wants first (λ x. ReachedBy uris w held ca x ⊎ ((u : List ℕ) × Mem (take (i + 1) fs) u × FromFile uris w name a cs p u x)) (g.V.Visitor.has q)) (sym v.visitor-is)
             (gains_next wants first old _ (ReachedBy uris w held ca) (FromFile uris w name a cs p) fs i d c.loop-file-test.true (inv.gained name a cs p st acc s)
@@ -119,6 +123,7 @@ returns-clause-facts g t c name a cs st acc =
 pub loop-file-init : goal.loop-file-init
 loop-file-init g t c = record {
   same = c.read_point.ensures.same ∙ c.visit.ensures.same;
+  lender = c.read_point.ensures.lender ∙ c.visit.ensures.lender;
   kept = c.visit.ensures.kept;
   gained = λ name a cs p st acc sp x k. let h = c.in_ok-visit.ensures.gained x k in (
     λ m. elim (h.0 m) [ inl o ↦ inl o | inr r ↦ inr (inl r) ],
