@@ -14,4 +14,4 @@ pub use published::Published;
 pub use readings::object_at;
 pub use rpki_payloads::{Extension, Payload, extension_of};
 pub use rpki_points::Crl;
-pub use rpki_signed::{Cert, Digester, Index, Verifier};
+pub use rpki_signed::{Cert, Digester, Index, SignedObject, Verifier};

@@ -1,8 +1,7 @@
 //! What the object with a lookup key reads as, by the extension of its name (RFC 6481 2.2).
 
-ghost use Rattle.std.specs.Prelude.{◌≡◌, IfOk};
+ghost use Rattle.std.specs.Prelude.{IfOk};
 ghost use Rattle.rpki_objects.specs.rpki_readings.Certs.{Digests, Verdicts};
-ghost use Rattle.rpki_objects.specs.rpki_rules.Attests.{OfAspa, OfRoa};
 ghost use Rattle.rpki_objects.specs.rpki_rules.World.{world_of};
 ghost use Rattle.rpki_objects.specs.Published.{FindsReading};
 ghost use Rattle.rpki_objects.specs.Texts.{FindsText};
@@ -11,36 +10,16 @@ use crate::published::Published;
 use bcder::decode::DecodeError;
 use bytes::Bytes;
 use objects_kinds::{Aspa, Roa};
-use rpki_payloads::{Extension, Payload, extension_of};
+use rpki_payloads::{Extension, extension_of};
 use rpki_signed::Index;
 use std::alloc::{AllocError, Global};
-
-// The route origin attestation with its content aside.
-fn of_roa(roa: Roa) -> Published
-    ensures object { result.object ≡ roa.signed }
-    ensures payload { result.payload ≡ OfRoa roa.content }
-{
-    let (signed, content) = roa.into_parts();
-    let payload = Payload::Roa(content);
-    Published { signed, payload }
-}
-
-// The provider attestation with its content aside.
-fn of_aspa(aspa: Aspa) -> Published
-    ensures object { result.object ≡ aspa.signed }
-    ensures payload { result.payload ≡ OfAspa aspa.content }
-{
-    let (signed, content) = aspa.into_parts();
-    let payload = Payload::Aspa(content);
-    Published { signed, payload }
-}
 
 // The route origin attestation that those octets begin with, in DER.
 fn roa_in(alloc: Global, octets: &Bytes) -> Result<Option<Published>, AllocError>
     ensures { IfOk result (FindsText Extension.Roa octets.now) }
 {
     match Roa::decode(alloc, octets.clone()?, true) {
-        Ok(roa) => Ok(Some(of_roa(roa))),
+        Ok(roa) => Ok(Some(Published::from_roa(roa))),
         Err(DecodeError::Content(_, _)) => Ok(None),
         Err(DecodeError::Source(never)) => match never {},
         Err(DecodeError::Memory) => Err(AllocError),
@@ -52,7 +31,7 @@ fn aspa_in(alloc: Global, octets: &Bytes) -> Result<Option<Published>, AllocErro
     ensures { IfOk result (FindsText Extension.Asa octets.now) }
 {
     match Aspa::decode(alloc, octets.clone()?, true) {
-        Ok(aspa) => Ok(Some(of_aspa(aspa))),
+        Ok(aspa) => Ok(Some(Published::from_aspa(aspa))),
         Err(DecodeError::Content(_, _)) => Ok(None),
         Err(DecodeError::Source(never)) => match never {},
         Err(DecodeError::Memory) => Err(AllocError),

@@ -4,7 +4,7 @@ use Rattle.rpki_objects.proofs.readings.aspa_in.Goals as goal
 
 pub returns-in-Ok : goal.returns-in-Ok
 returns-in-Ok c =
-    aspa_text c.args.octets.now _ c.of_aspa.result c.in-Ok.aspa.signed c.in-Ok.aspa.content c.in_ok-clone.ensures.cases c.of_aspa.ensures.object c.of_aspa.ensures.payload c.in-Ok.ensures
+    aspa_text c.args.octets.now _ c.from_aspa.result c.in-Ok.aspa.signed c.in-Ok.aspa.content c.in_ok-clone.ensures.cases c.from_aspa.ensures.object c.from_aspa.ensures.payload c.in-Ok.ensures
 
 pub returns-in-Err-Content : goal.returns-in-Err-Content
 returns-in-Err-Content c =

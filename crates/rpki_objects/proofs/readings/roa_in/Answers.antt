@@ -4,7 +4,7 @@ use Rattle.rpki_objects.proofs.readings.roa_in.Goals as goal
 
 pub returns-in-Ok : goal.returns-in-Ok
 returns-in-Ok c =
-    roa_text c.args.octets.now _ c.of_roa.result c.in-Ok.roa.signed c.in-Ok.roa.content c.in_ok-clone.ensures.cases c.of_roa.ensures.object c.of_roa.ensures.payload c.in-Ok.ensures
+    roa_text c.args.octets.now _ c.from_roa.result c.in-Ok.roa.signed c.in-Ok.roa.content c.in_ok-clone.ensures.cases c.from_roa.ensures.object c.from_roa.ensures.payload c.in-Ok.ensures
 
 pub returns-in-Err-Content : goal.returns-in-Err-Content
 returns-in-Err-Content c =
