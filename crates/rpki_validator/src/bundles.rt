@@ -1,8 +1,7 @@
 //! What is asked of a bundle, by whatever digests and verifies.
 
-ghost use Rattle.std.specs.Prelude.{◌≡◌, ◌+◌, ◌≤◌, ℕ, List, IfOk, length};
+ghost use Rattle.std.specs.Prelude.{◌≡◌, ◌+◌, ◌≤◌, IfOk, length};
 ghost use Rattle.rpki_validator.specs.certs_key.Digesting.{digests_of};
-ghost use Rattle.rpki_validator.specs.rpki_bundle.Bundle.{BundleText};
 ghost use Rattle.rpki_validator.specs.rpki_rules.Judge.{IsJudged, may_ask};
 ghost use Rattle.rpki_validator.specs.rpki_rules.Reach.{IsReach};
 ghost use Rattle.rpki_validator.specs.rpki_rules.World.{world_of};
@@ -19,7 +18,7 @@ use rpki_report::{Report, Witness};
 use rpki_steps::{BundleSteps, Index};
 use std::alloc::{AllocError, Global};
 
-/// The report of a bundle that octets spell: all that accepted chains attest, and all that the rules refuse, by these digests
+/// The report of a bundle: all that accepted chains attest, and all that the rules refuse, by these digests
 /// and this verifier. Refused for want of memory alone.
 pub fn walk<D: Digester, V: Verifier>(
     alloc: Global,
@@ -27,7 +26,6 @@ pub fn walk<D: Digester, V: Verifier>(
     digester: &D,
     verifier: &mut V,
 ) -> Result<Report, AllocError>
-    requires { (octets : List ℕ) × BundleText octets bundle.now }
     ensures report { IfOk result (IsReport (world_of
         (digests_of D.sha256_digest D.sha1_digest digester.now) (V.says verifier.old)
         bundle.now)) }
@@ -46,7 +44,6 @@ pub fn judge<D: Digester, V: Verifier>(
     digester: &D,
     verifier: &mut V,
 ) -> Result<Judgement, AllocError>
-    requires { (octets : List ℕ) × BundleText octets bundle.now }
     ensures judged { IfOk result (λ j. IsJudged (world_of
         (digests_of D.sha256_digest D.sha1_digest digester.now) (V.says verifier.old) bundle.now)
         (trace_of witness.now) j.yes j.points) }
@@ -55,12 +52,11 @@ pub fn judge<D: Digester, V: Verifier>(
         ≤ V.count verifier.old + may_ask (length (trace_of witness.now).chain) }
 {
     let mut evidence = BundleEvidence::new(Index::new(bundle), digester, verifier);
-    let path = witness.path();
     rpki_judge::judge(
         alloc,
         &mut evidence,
-        path.locator().as_slice(),
-        path.chain(),
+        witness.locator().as_slice(),
+        witness.chain(),
         witness.object().as_slice(),
     )
 }
@@ -74,7 +70,6 @@ pub fn reach<D: Digester, V: Verifier>(
     digester: &D,
     verifier: &mut V,
 ) -> Result<Reach, AllocError>
-    requires { (octets : List ℕ) × BundleText octets bundle.now }
     ensures reach { IfOk result (λ r. IsReach uris.now (world_of
         (digests_of D.sha256_digest D.sha1_digest digester.now) (V.says verifier.old) bundle.now)
         (answer_of r)) }

@@ -12,6 +12,7 @@ ghost use Rattle.rpki_validator.specs.declared.runs.RunError.TheVariants.{Memory
 use crate::bundles::walk;
 use crate::counted::Counted;
 use crate::streams::{ReadFault, read_all, write_all};
+use bytes::Bytes;
 use rpki_bundle::laws::bundle_length;
 use rpki_bundle::{Bundle, BundleError, Digester};
 use rpki_lines::render;
@@ -51,7 +52,6 @@ fn output_of<D: Digester>(
     bundle: &Bundle,
     digester: &D,
 ) -> Result<Vec<u8>, AllocError>
-    requires { (octets : List ℕ) × BundleText octets bundle.now }
     ensures { IfOk result (λ text. IsOutput (run_world
         (digests_of D.sha256_digest D.sha1_digest digester.now) bundle.now) text.items) }
 {
@@ -63,12 +63,15 @@ fn output_of<D: Digester>(
 // One octet more than any bundle has.
 const MOST_OCTETS: usize = 4_294_967_302;
 
-// The bundle that the octets spell, all of them.
-fn bundle_of(alloc: Global, octets: &[u8]) -> Result<Bundle, RunError>
-    ensures ok { IfOk result (BundleText octets.now) }
-    ensures refused { IfErr result (λ e. IsNoBundle e octets.now) }
+// The bundle that the octets spell, all of them, which it shares.
+fn bundle_of(alloc: Global, octets: Vec<u8>) -> Result<Bundle, RunError>
+    ensures ok { IfOk result (BundleText octets.items) }
+    ensures refused { IfErr result (λ e. IsNoBundle e octets.items) }
 {
-    match Bundle::decode(alloc, octets) {
+    let Ok(shared) = Bytes::from_vec(octets) else {
+        return Err(RunError::Memory);
+    };
+    match Bundle::decode_shared(alloc, shared) {
         Ok(bundle) => Ok(bundle),
         Err(BundleError::NotABundle) => Err(RunError::NotABundle),
         Err(BundleError::Memory) => Err(RunError::Memory),
@@ -92,7 +95,7 @@ pub fn read_bundle<R: Read>(alloc: Global, reader: &mut Counted<R>) -> Result<Bu
         Err(ReadFault::Read) => return Err(RunError::Read),
         Err(ReadFault::Memory) => return Err(RunError::Memory),
     };
-    bundle_of(alloc, octets.as_slice())
+    bundle_of(alloc, octets)
 }
 
 /// Reads a bundle to the end of its input, and writes its lines: what its accepted chains attest, and what the rules refuse,
