@@ -45,7 +45,7 @@ module _ (w : World) (ca : Cert) (p : Point) (uri : List ℕ) where
       n (subst (IsSoundAt w ca p) (one_reading w uri q o y x (reading_of q y s) t).0 (soundness_of q y s))
 
 -- A test said no of what it tells exactly.
-said_no : (b : Bool) (P : Type 0) → (IsTrue b ↔ P) → b ≡ false → P → ⊥
+pub said_no : (b : Bool) (P : Type 0) → (IsTrue b ↔ P) → b ≡ false → P → ⊥
 said_no b P told no h = let yes : b ≡ true = told.1 h in absurd cc
 
 module _ (w : World) (ca : Cert) (p : Point) (o : Object) where
