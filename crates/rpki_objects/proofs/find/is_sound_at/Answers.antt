@@ -1,10 +1,9 @@
-use Rattle.std.proofs.Common.{Bool, IsTrue, ◌↔◌, sym, subst}
+use Rattle.std.proofs.Common.{Bool, IsTrue, ◌↔◌}
 use Rattle.rpki_objects.specs.certs_key.Digesting.{digests_of}
-use Rattle.rpki_objects.specs.rpki_readings.Certs.{Verdicts}
 use Rattle.rpki_objects.specs.rpki_readings.Objects.{Sound}
 use Rattle.rpki_objects.specs.rpki_rules.World.{world_of}
 use Rattle.rpki_objects.proofs.Passing.{if_ok}
-use Rattle.rpki_objects.proofs.Soundness.{revoked, sound_told, unissued}
+use Rattle.rpki_objects.proofs.Soundness.{revoked, said_sound, sound_told, unissued}
 use Rattle.rpki_objects.proofs.find.is_sound_at.Goals as goal
 
 pub returns-then-not-branch-clause-sound : goal.returns-then-not-branch-clause-sound
@@ -20,10 +19,11 @@ returns-then-not-is_issued_to_object-clause-sound g c = λ p e f.
 pub returns-clause-sound : goal.returns-clause-sound
 returns-clause-sound g c =
     let d = digests_of g.D.Digester.sha256_digest g.D.Digester.sha1_digest c.args.digester.now in
+    let u = g.V.Verifier.says c.is_issued_to_object.new.verifier in
     let v = g.V.Verifier.says c.args.verifier.now in
     let o = c.args.object.now.object in
-    let are : Bool → Type 0 = λ yes. IsTrue yes ↔ Sound d v o in
-    if_ok are _ _ (λ yes h p e f.
-    sound_told (world_of d v c.args.index.now) c.args.ca.now p o c.cert.result.now c.cert-2.result.now yes c.cert.ensures c.cert-2.ensures
-    ((c.in_ok-is_unrevoked.ensures p e f).0 c.if-not-branch.false) (c.is_issued_to_object.ensures.issued.0 c.if-not-is_issued_to_object.false) h)
-    (subst (λ (u : Verdicts). ?) c.is_issued_to_object.ensures.same c.is_sound.ensures.sound)
+    let are : Bool → Type 0 = λ b. IsTrue b ↔ Sound d u c.signed.result.now in
+    if_ok are _ _ (λ b h p e f.
+    sound_told (world_of d v c.args.index.now) c.args.ca.now p o c.cert.result.now c.cert-2.result.now b c.cert.ensures c.cert-2.ensures
+    ((c.in_ok-is_unrevoked.ensures p e f).0 c.if-not-branch.false) (c.is_issued_to_object.ensures.issued.0 c.if-not-is_issued_to_object.false)
+    (said_sound d u v c.signed.result.now o b c.is_issued_to_object.ensures.same c.signed.ensures h)) c.is_sound.ensures.sound
