@@ -1,13 +1,17 @@
 #!/usr/bin/env python3
 """Makes a repository of the RPKI: real certificates, revocation lists, manifests, ROAs and ASPAs with RSA signatures.
 
-    repository.py OUT [--authorities N] [--origins N] [--customers N] [--keys N]
+    repository.py OUT [--authorities N] [--origins N] [--customers N] [--keys N] [--stand-ins] [--bundle]
 
 OUT gets what a validator's cache of the layout `plain` has (rsync/HOST/..), a folder `tals`, and `lines`: what
 `rpki_check check` prints of a bundle made of them at the moment 20250101000000Z. A trust anchor stands over N
 authorities, each with its own publication point, N/authorities ROAs and as many ASPAs. Keys are drawn from a pool of
 --keys (a key takes some 50 ms to make), so that 100,000 objects take minutes and not hours; the certificates of signed
 objects share those of the pool.
+
+With --stand-ins keys and signatures are octets of the sizes that RSA's have, and no arithmetic is done: so nobody can
+check them, and 100,000 objects take half a minute. With --bundle OUT gets `bundle` and `lines` alone: a bundle with a
+verdict for each signature.
 
 The DER is written here, and nothing of the repository's crates is used: so what is made judges them.
 """
@@ -19,10 +23,6 @@ import ipaddress
 import os
 import random
 import sys
-
-from cryptography.hazmat.primitives import hashes
-from cryptography.hazmat.primitives.asymmetric import padding, rsa
-from cryptography.hazmat.primitives.serialization import Encoding, PublicFormat
 
 MOMENT = "20250101000000Z"
 NOT_BEFORE, NOT_AFTER = "20240101000000Z", "20260101000000Z"
@@ -74,22 +74,48 @@ RSA = sequence(oid("1.2.840.113549.1.1.1"), der(0x05))
 SHA256 = sequence(oid("2.16.840.1.101.3.4.2.1"))
 
 
-class Key:
-    """A key pair with its encoded public key and its identifier."""
+class StandIn:
+    """Octets in a key's place, as many as an RSA key of 2048 bits has, with what they are encoded as and identified by."""
 
-    def __init__(self):
-        self.pair = rsa.generate_private_key(public_exponent=65537, key_size=2048)
-        octets = self.pair.public_key().public_bytes(Encoding.DER, PublicFormat.PKCS1)
-        self.encoded = sequence(RSA, bits(octets))
-        self.identifier = hashlib.sha1(octets).digest()
+    def __init__(self, verdicts):
+        self.verdicts = verdicts
+        self.octets = self.make()
+        self.encoded = sequence(RSA, bits(self.octets))
+        self.identifier = hashlib.sha1(self.octets).digest()
+        self.digest = hashlib.sha256(self.encoded).digest()
+
+    def make(self):
+        return os.urandom(270)
+
+    def signature(self, message):
+        return hashlib.shake_256(self.octets + message).digest(256)
 
     def sign(self, message):
-        return self.pair.sign(message, padding.PKCS1v15(), hashes.SHA256())
+        signature = self.signature(message)
+        self.verdicts.append(self.digest + hashlib.sha256(message).digest() + hashlib.sha256(signature).digest())
+        return signature
 
     def name(self):
         """The name made of the identifier: one commonName."""
         text = der(0x13, self.identifier.hex().encode())
         return sequence(der(0x31, sequence(oid("2.5.4.3"), text)))
+
+
+class Key(StandIn):
+    """An RSA key pair, which signs."""
+
+    def make(self):
+        from cryptography.hazmat.primitives.asymmetric import rsa
+        from cryptography.hazmat.primitives.serialization import Encoding, PublicFormat
+
+        self.pair = rsa.generate_private_key(public_exponent=65537, key_size=2048)
+        return self.pair.public_key().public_bytes(Encoding.DER, PublicFormat.PKCS1)
+
+    def signature(self, message):
+        from cryptography.hazmat.primitives import hashes
+        from cryptography.hazmat.primitives.asymmetric import padding
+
+        return self.pair.sign(message, padding.PKCS1v15(), hashes.SHA256())
 
 
 def extension(kind, value, critical=False):
@@ -250,13 +276,14 @@ EE_USAGE = extension("2.5.29.15", der(0x03, b"\x07\x80"), True)
 class Repository:
     """All objects by URI, the locator's text, and the lines that they mean."""
 
-    def __init__(self, authorities, origins, customers, keys):
-        pool = [Key() for _ in range(keys)]
+    def __init__(self, authorities, origins, customers, keys, kind=Key):
+        self.kind, self.verdicts = kind, []
+        pool = [self.key() for _ in range(keys)]
         self.pick = random.Random(1).choice
         self.pool = pool
         last = FIRST_AS + authorities * (customers + 1)
         top = Held([ipaddress.ip_network("10.0.0.0/8")], [(FIRST_AS, last)])
-        self.anchor = Authority("ta", Key(), top)
+        self.anchor = Authority("ta", self.key(), top)
         self.objects, self.origins, self.customers = {}, [], []
         # (no key may stand twice on a chain, so authorities have keys of their own)
         for number in range(authorities):
@@ -264,13 +291,16 @@ class Repository:
         self.objects[self.anchor.at] = self.anchor.own_cert()
         self.objects |= self.anchor.publish(self.pick(pool))
 
+    def key(self):
+        return self.kind(self.verdicts)
+
     def add_authority(self, number, origins, customers):
         name = f"a{number}"
         start = int(ipaddress.ip_address("10.0.0.0")) + (number << 14)
         network = ipaddress.ip_network((start, 18))
         first = FIRST_AS + number * (customers + 1)
         held = Held([network], [(first, first + customers)])
-        authority = Authority(name, Key(), held, self.anchor)
+        authority = Authority(name, self.key(), held, self.anchor)
         self.anchor.files[name + ".cer"] = authority.own_cert()
         for count in range(origins):
             prefix = ipaddress.ip_network((start + (count << 4) % (1 << 14), 28))
@@ -287,6 +317,16 @@ class Repository:
         """The text of the trust anchor locator (RFC 8630 2.2)."""
         text = base64.encodebytes(self.anchor.key.encoded).decode()
         return f"{self.anchor.at}\n\n{text}"
+
+    def bundle(self):
+        """The octets of the bundle, with a verdict for each signature."""
+        locator = sequence(der(0x13, b"example"), der(0x04, self.locator().encode()))
+        objects = (sequence(der(0x16, uri.encode()), der(0x04, octets)) for uri, octets in sorted(self.objects.items()))
+        verdicts = (
+            sequence(*(der(0x04, row[at : at + 32]) for at in (0, 32, 64))) for row in sorted(set(self.verdicts))
+        )
+        moment = der(0x18, MOMENT.encode())
+        return sequence(integer(0), moment, integer(32), sequence(locator), sequence(*objects), sequence(*verdicts))
 
     def lines(self):
         """What is printed of the repository."""
@@ -314,10 +354,18 @@ def main():
     parser.add_argument("--origins", type=int, default=10, help="ROAs of each authority, at most 1,024")
     parser.add_argument("--customers", type=int, default=2, help="ASPAs of each authority")
     parser.add_argument("--keys", type=int, default=16, help="keys of signed objects' certificates")
+    parser.add_argument("--stand-ins", action="store_true", help="octets in the place of keys and signatures")
+    parser.add_argument("--bundle", action="store_true", help="a bundle and its lines alone")
     given = parser.parse_args()
     if not (1 <= given.authorities <= 1024 and 0 <= given.origins <= 1024 and 0 <= given.customers and given.keys > 0):
         parser.error("--authorities is from 1 to 1,024, --origins to 1,024, --keys at least 1")
-    made = Repository(given.authorities, given.origins, given.customers, given.keys)
+    kind = StandIn if given.stand_ins else Key
+    made = Repository(given.authorities, given.origins, given.customers, given.keys, kind)
+    if given.bundle:
+        write(os.path.join(given.out, "bundle"), made.bundle())
+        write(os.path.join(given.out, "lines"), made.lines().encode())
+        print(f"{len(made.objects):,} objects", file=sys.stderr)
+        return
     for place, octets in made.objects.items():
         scheme, _, rest = place.partition("://")
         write(os.path.join(given.out, scheme, *rest.split("/")), octets)

@@ -18,7 +18,7 @@ import time
 
 sys.dont_write_bytecode = True
 
-from outcomes import NOT_A_BUNDLE, OUT_OF_MEMORY, SECONDS  # noqa: E402, before make_bundle
+from outcomes import HERE, NOT_A_BUNDLE, OUT_OF_MEMORY, SECONDS  # noqa: E402, before make_bundle
 from make_bundle import bundle, locator, made_lines, made_locators, object_at, value, verdict  # noqa: E402
 
 READ_FAULT = (1, b"", b"read fault\n")
@@ -180,9 +180,15 @@ def usages(program):
         yield f"arguments {arguments}", run(program, arguments, input=ONE), USAGE
 
 
+def example(name):
+    with open(os.path.join(HERE, "..", "examples", name), "rb") as file:
+        return file.read()
+
+
 def rights(program):
     """What is no fault."""
     yield "a whole bundle", run(program, input=FULL), (0, b"refused a tal\nrefused b tal\n", b"")
+    yield "a repository", run(program, input=example("small.bundle")), (0, example("small.lines"), b"")
     count = 10_000
     text = b"".join(made_lines(count))
     yield "more text than a pipe holds", run(program, input=bundle(made_locators(count))), (0, text, b"")

@@ -145,7 +145,8 @@ def many():
         expected = bundle(sorted((n, n * 3) for n in names), sorted((u, u + b"!") for u in uris))
         f.gives(expected)
         seen = run("check", stdin=expected)
-        expect("check reads it", seen.stderr == b"not yet\n", seen)
+        refusals = b"".join(b"refused %s tal\n" % name for name in sorted(names))
+        expect("check reads it", (seen.stdout, seen.stderr) == (refusals, b""), seen)
     with Folder("a thousand objects of some size") as f:
         objects = [(b"rsync://h/m/%d" % (i * 7919 % 1000), b"%d" % i * 500) for i in range(1000)]
         for u, o in objects:

@@ -20,6 +20,7 @@ sys.dont_write_bytecode = True
 
 from outcomes import HERE, NOT_A_BUNDLE, OUT_OF_MEMORY, SECONDS  # noqa: E402, before make_bundle
 from make_bundle import bundle, locator, made_objects, made_verdicts, object_at  # noqa: E402
+from rpki_walks import customers, parents, single, trimmed, worked_cases  # noqa: E402
 
 # Version 0, moment 20250101000000Z, depth 32.
 HEAD = "020100 180F32303235303130313030303030305A 020120"
@@ -35,6 +36,14 @@ def many():
     names = [b"tal%02d" % number for number in range(50)]
     octets = bundle([locator(name) for name in names], made_objects(20, 300), made_verdicts(20))
     return octets, prints(b"".join(b"refused " + name + b" tal\n" for name in names))
+
+
+def walks():
+    """Worked cases of walks: certificates, lists, manifests and objects, over several chains."""
+    lines = {name: stated for name, _, stated in worked_cases()}
+    worlds = {"single-roa": single()[0], "two-aspas": customers(), "two-parents": parents(), "trimmed-ca": trimmed()}
+    for name, world in worlds.items():
+        yield name, (world.bundle(), prints("".join(f"{line}\n" for line in lines[name]).encode()))
 
 
 def folder():
@@ -61,6 +70,7 @@ CHECKS = {
     ),
     "one-object": (bundle(objects=[object_at(b"rsync://a/m/x", b"")]), prints(b"")),
     "many": many(),
+    **dict(walks()),
 }
 
 # Arguments, standard input and the right outcome.

@@ -1,150 +1,30 @@
 #!/usr/bin/env python3
-"""Writes the questions, answers and folders of crates/rpki_cases: tests/rpki_cases.py
+"""Writes the questions, answers and folders of crates/rpki_cases, and cases of tests/cases: tests/rpki_cases.py
 
-Bundles are written and read here by the rules of their grammar (X.690 clause 8 and 10, DER), URIs and moments by rules
-of their own, digests by `hashlib`. The gate runs the program on `stdin` in a copy of `data/`, and compares what it
-prints with `stdout`. A tab stands between the words of a question.
+Bundles are written and read by tests/rpki_bundles.py, repositories are made by tests/rpki_repositories.py, and what is
+printed of them is stated here or comes of tests/rpki_model.py, a second reading of the rules in Python; digests are
+`hashlib`'s. The gate runs the program on `stdin` in a copy of `data/`, and compares what it prints with `stdout`. A tab
+stands between the words of a question.
 """
 
 import hashlib
 import pathlib
 import random
+import re
 import shutil
+
+import rpki_model
+import rpki_walks
+from rpki_bundles import bundle, is_date, is_key, is_lawful, lookup_key, read, uri_kind
+from rpki_repositories import MOMENT, tlv
 
 FOLDER = pathlib.Path(__file__).resolve().parent.parent / "crates" / "rpki_cases"
 DATA = FOLDER / "data"
+CASES = pathlib.Path(__file__).resolve().parent / "cases"
 rng = random.Random(6487)
-MOMENT = b"20250101000000Z"
 MANY = "4000000000"
 HEAD = "02 01 00 18 0F 32 30 32 35 30 31 30 31 30 30 30 30 30 30 5A"
 NO_BUNDLE = "not a bundle"
-
-
-# Bundles, written.
-
-
-def tlv(tag, content):
-    size = len(content)
-    octets = size.to_bytes((size.bit_length() + 7) // 8, "big")
-    return bytes([tag, size] if size < 128 else [tag, 128 + len(octets), *octets]) + content
-
-
-def bundle(locators=(), objects=(), verdicts=(), moment=MOMENT, depth=32):
-    """The octets of these parts, in this order, whether or not they are those of a bundle."""
-    pairs = lambda tag, rows: tlv(0x30, b"".join(tlv(0x30, tlv(tag, a) + tlv(4, b)) for a, b in rows))
-    rows = b"".join(tlv(0x30, b"".join(tlv(4, digest) for digest in row)) for row in verdicts)
-    number = depth.to_bytes(depth.bit_length() // 8 + 1, "big", signed=True)
-    members = tlv(2, b"\0") + tlv(24, moment) + tlv(2, number) + pairs(19, locators) + pairs(22, objects) + tlv(0x30, rows)
-    return tlv(0x30, members)
-
-
-# Rules.
-
-
-def is_moment(text):
-    if len(text) != 15 or not text[:14].isdigit() or text[14:] != b"Z":
-        return False
-    year, month, day, hour, minute, second = (int(text[a:b]) for a, b in ((0, 4), (4, 6), (6, 8), (8, 10), (10, 12), (12, 14)))
-    return is_date(year, month, day) and hour < 24 and minute < 60 and second < 60
-
-
-def is_date(year, month, day):
-    is_leap = year % 4 == 0 and (year % 100 != 0 or year % 400 == 0)
-    days = (31, 29 if is_leap else 28, 31, 30, 31, 30, 31, 31, 30, 31, 30, 31)
-    return 1 <= month <= 12 and 1 <= day <= days[month - 1]
-
-
-def uri_kind(text):
-    """`rsync`, `https` or None: printable octets without a space, a host, and for rsync a module."""
-    if any(not 0x21 <= octet <= 0x7E for octet in text):
-        return None
-    if text[:8].lower() == b"rsync://":
-        host, slash, path = text[8:].partition(b"/")
-        return "rsync" if host and slash and path.split(b"/")[0] else None
-    if text[:8].lower() == b"https://":
-        return "https" if text[8:].split(b"/")[0] else None
-    return None
-
-
-def lookup_key(uri):
-    host = uri[8:].split(b"/")[0]
-    return uri[:8].lower() + host.lower() + uri[8 + len(host) :]
-
-
-def is_key(text):
-    return uri_kind(text) is not None and lookup_key(text) == text
-
-
-# The characters of a PrintableString but the space (X.680 clause 41).
-NAME = set(b"ABCDEFGHIJKLMNOPQRSTUVWXYZabcdefghijklmnopqrstuvwxyz0123456789'()+,-./:=?")
-
-
-def ascends(rows):
-    return all(a < b for a, b in zip(rows, rows[1:]))
-
-
-def is_lawful(locators, objects, verdicts, moment, depth):
-    names, uris = [name for name, _ in locators], [uri for uri, _ in objects]
-    return (
-        is_moment(moment)
-        and 1 <= depth <= 32
-        and all(name and set(name) <= NAME for name in names)
-        and all(is_key(uri) for uri in uris)
-        and all(len(row) == 3 and all(len(digest) == 32 for digest in row) for row in verdicts)
-        and ascends(names)
-        and ascends(uris)
-        and ascends([b"".join(row) for row in verdicts])
-    )
-
-
-# Bundles, read.
-
-
-def take(octets, tag):
-    """The content of the value in front, with the shortest length, and what is behind it."""
-    if len(octets) < 2 or octets[0] != tag:
-        raise ValueError
-    size, at = octets[1], 2
-    if size >= 128:
-        at += size - 128
-        size = int.from_bytes(octets[2:at], "big")
-        if at not in (3, 4, 5, 6) or len(octets) < at:
-            raise ValueError
-    if tlv(tag, b"\0" * min(size, 2**20))[:at] != octets[:at] or len(octets) < at + size:
-        raise ValueError
-    return octets[at : at + size], octets[at + size :]
-
-
-def members(octets, *tags):
-    """The contents of values with these tags, and nothing behind them."""
-    contents = []
-    for tag in tags:
-        content, octets = take(octets, tag)
-        contents.append(content)
-    if octets:
-        raise ValueError
-    return contents
-
-
-def entries(octets, *tags):
-    rows = []
-    while octets:
-        content, octets = take(octets, 0x30)
-        rows.append(members(content, *tags))
-    return rows
-
-
-def read(octets):
-    """The parts of the bundle that the octets are, or None."""
-    try:
-        (whole,) = members(octets, 0x30)
-        version, moment, depth, locators, objects, verdicts = members(whole, 2, 24, 2, 0x30, 0x30, 0x30)
-        parts = entries(locators, 19, 4), entries(objects, 22, 4), entries(verdicts, 4, 4, 4), moment
-    except ValueError:
-        return None
-    if version != b"\0" or len(depth) != 1 or not is_lawful(*parts, depth[0]):
-        return None
-    return (*parts, depth[0])
 
 
 # Questions.
@@ -168,12 +48,9 @@ def told(octets):
 
 def outcome(octets):
     """Exit status, lines and faults of `check`."""
-    parts = read(octets)
-    if parts is None:
-        return 1, "", NO_BUNDLE + "|"
-    if any(text for _, text in parts[0]):
-        return 1, "", "not yet|"
-    return 0, "".join(f"refused {name.decode()} tal|" for name, _ in parts[0]), ""
+    lines = rpki_model.answer(octets)
+    assert (lines is None) == (read(octets) is None), octets.hex()
+    return (1, "", NO_BUNDLE + "|") if lines is None else (0, "".join(f"{line}|" for line in lines), "")
 
 
 class Questions:
@@ -261,7 +138,7 @@ def worked_cases(q):
             (1, "", "not a bundle|"),
         ),
         # not-yet
-        (NOT_YET, (1, "", "not yet|")),
+        (NOT_YET, (0, "refused x tal|", "")),
     )
     for octets, wanted in rows:
         assert outcome(octets) == wanted, octets.hex()
@@ -284,7 +161,7 @@ def streams(q):
     run("read fault  1 0", ("1", "38"), all_of_it)
     run(f"ok {line} 0 0", ("1", "39"), all_of_it)
     q.ask("not a bundle  0 0", "run", EMPTY[:-1].hex(), *ok, *all_of_it)
-    q.ask("not yet  0 0", "run", NOT_YET.hex(), *ok, *all_of_it)
+    q.ask("ok refused x tal| 0 0", "run", NOT_YET.hex(), *ok, *all_of_it)
     for room in range(15):
         wanted = (0, line, "") if room == 14 else (1, line[:room], "write fault|")
         for most in ("1", "100"):
@@ -308,8 +185,8 @@ def streams(q):
 
 
 def texts(q):
-    run = "read fault; not a bundle; not yet; write fault; out of memory;"
-    q.ask(f"{run} read fault; not a bundle; write fault; out of memory; not a bundle; out of memory; tal tal", "texts")
+    run = "read fault; not a bundle; write fault; out of memory;"
+    q.ask(f"{run} read fault; not a bundle; write fault; out of memory; not a bundle; out of memory; tal anchor point object loop depth", "texts")
     q.ask("check", "command", "p", "check")
     q.ask("bundle x", "command", "p", "bundle", "x")
     q.ask("bundle ", "command", "p", "bundle", "")
@@ -371,7 +248,7 @@ def bundles(q):
         bundle(verdicts=[(b"A" * 33, digest(0x42), digest(0x43))]),
         bundle(verdicts=[ONE, ONE]),
         bundle(verdicts=[TWO, ONE]),
-        # The version that is told by an INTEGER 1 and a BOOLEAN isn't read yet.
+        # The version that is told by an INTEGER 1 and a BOOLEAN isn't read.
         words("30 20 02 01 01 18 0F 32 30 32 35 30 31 30 31 30 30 30 30 30 30 5A 02 01 20 01 01 FF 30 00 30 00 30 00"),
     ):
         q.is_none(octets)
@@ -765,11 +642,26 @@ def spelled_verdicts(q):
         f.gives(NO_BUNDLE)
 
 
+# Cases for the built program.
+
+
+def stored_cases():
+    """Worked cases of walks as files of tests/cases, for tests/cases.sh; those of bundles alone were written by hand."""
+    for name, world, lines in rpki_walks.worked_cases():
+        if not re.fullmatch(r"[a-z0-9-]+", name):
+            continue
+        parts = {"args": b"check\n", "stdin": world.bundle(), "stderr": b"", "status": b"0\n"}
+        parts["stdout"] = "".join(f"{line}\n" for line in lines).encode()
+        for part, octets in parts.items():
+            (CASES / f"{name}.{part}").write_bytes(octets)
+
+
 def main():
     q = Questions()
     shutil.rmtree(DATA, ignore_errors=True)
-    for part in (worked_cases, streams, texts, bundles, get_and_parts, times, uris, case_folder, kinds_of_entries, made_folders, spelled_lines):
+    for part in (worked_cases, streams, texts, bundles, get_and_parts, times, uris, rpki_walks.walks, case_folder, kinds_of_entries, made_folders, spelled_lines):
         part(q)
+    stored_cases()
     (FOLDER / "stdin").write_text("".join(f"{question}\n" for question, _ in q.rows))
     (FOLDER / "stdout").write_text("".join(f"{answer}\n" for _, answer in q.rows))
     print(len(q.rows), "questions")

@@ -5,7 +5,8 @@
 
 What is compared comes from what was made: how many signatures there are, which of them are good after one octet was
 changed, which objects lie where in each layout. With PROGRAM, a built `rpki_check`, the folder that verdicts.py wrote is
-made a bundle too. Exits with 1 at the first answer that differs.
+made a bundle too, and what is printed of it compared with the lines that the repository means. Exits with 1 at the first
+answer that differs.
 """
 
 import hashlib
@@ -152,11 +153,23 @@ def to_routers():
     same("no line end", lines_to("json", LINES[:-1]).returncode, 1)
 
 
-def bundle(program, room, tals):
-    out = os.path.join(room, "out")
-    verdicts(os.path.join(room, "plain"), out, tals)
+def printed(program, out):
+    """What `check` prints of the bundle of a folder."""
     done = subprocess.run([program, "bundle", out], capture_output=True)
     same("a bundle", (done.returncode, done.stdout[:1]), (0, b"\x30"))
+    done = subprocess.run([program, "check"], input=done.stdout, capture_output=True)
+    return done.returncode, done.stdout.decode(), done.stderr.decode()
+
+
+def bundle(program, made, room, tals):
+    """From a cache to lines; and of the one with changed octets, where one authority's list and another's ROA are bad."""
+    out = os.path.join(room, "out")
+    verdicts(os.path.join(room, "plain"), out, tals)
+    same("its lines", printed(program, out), (0, made.lines(), ""))
+    verdicts(os.path.join(room, "changed"), out, tals)
+    place = f"rsync://{repository.HOST}/repository/ta/"
+    refused = "".join(f"refused {place}a{number}.cer point\n" for number in range(AUTHORITIES))
+    same("lines of changed octets", printed(program, out), (0, refused, ""))
 
 
 def main():
@@ -169,7 +182,7 @@ def main():
         formats(made, room, tals)
         refusals(room, tals)
         if sys.argv[1:]:
-            bundle(sys.argv[1], room, tals)
+            bundle(sys.argv[1], made, room, tals)
     to_routers()
 
 

@@ -7,7 +7,7 @@ use anyhow::{Result, anyhow};
 use rpki_bundle::{BundleError, Digester};
 use rpki_commands::folder::Fault;
 use rpki_commands::{Command, FAILED, Fips, bundle, check, command_of};
-use rpki_validator::{Cause, Counted, RunError, run, write_all};
+use rpki_validator::{Cause, Counted, RunError, run, word_of, write_all};
 use std::alloc::Global;
 use std::io::{Read, Write};
 
@@ -119,7 +119,6 @@ fn texts(answer: &mut Answer) {
     for error in [
         RunError::Read,
         RunError::NotABundle,
-        RunError::NotYet,
         RunError::Write,
         RunError::Memory,
     ] {
@@ -131,8 +130,16 @@ fn texts(answer: &mut Answer) {
     for error in [BundleError::NotABundle, BundleError::Memory] {
         answer.say(&format_args!("{error};"));
     }
-    answer.say(&Cause::Tal);
-    answer.say(&Cause::Tal.text());
+    for cause in [
+        Cause::Tal,
+        Cause::Anchor,
+        Cause::Point,
+        Cause::Object,
+        Cause::Loop,
+        Cause::Depth,
+    ] {
+        answer.say(&word_of(cause));
+    }
 }
 
 // Both digests of octets.

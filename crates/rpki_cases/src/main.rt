@@ -8,10 +8,13 @@ mod answers;
 mod bundles;
 mod commands;
 mod files;
+mod judges;
+mod noting;
 mod octets;
 mod streams;
 mod times;
 mod uris;
+mod walks;
 
 use answers::Answer;
 use anyhow::Result;
@@ -30,6 +33,12 @@ fn answer(rt: &HostRuntime, words: &[&str]) -> Answer {
         "utc" | "moment" | "order" => times::answer(&mut answer, *question, rest),
         "uri" | "compare" => uris::answer(rt.alloc(), &mut answer, *question, rest),
         "put" | "folder" | "link" | "mode" => files::answer(rt, &mut answer, *question, rest),
+        "witnesses" | "judge" | "asks" | "reach" => {
+            judges::answer(rt.alloc(), &mut answer, *question, rest)
+        }
+        "walk" | "flips" | "cuts" | "rooms" | "reads" => {
+            walks::answer(rt.alloc(), &mut answer, *question, rest)
+        }
         _ => commands::answer(rt, &mut answer, *question, rest),
     };
     if let Err(error) = said {

@@ -36,7 +36,7 @@ fn witness_of(
     let Some((anchor, below)) = chain.split_first() else {
         return Ok(None);
     };
-    let name = Bytes::from_slice(alloc, locator.as_bytes())?;
+    let name = Bytes::copy_from_slice(alloc, locator.as_bytes())?;
     let mut path = Path::new(alloc, name, key_of(alloc, anchor.as_str())?)?;
     for uri in below {
         path = path.longer(alloc, &key_of(alloc, uri.as_str())?)?;

@@ -1,0 +1,187 @@
+//! Questions about walks: what a run writes of a bundle by digests that are told, and of one with an octet changed,
+//! cut off, not told or not taken, place by place.
+
+use crate::answers::Answer;
+use crate::octets::octets_of;
+use crate::streams::{Sink, Source};
+use anyhow::{Result, anyhow};
+use rpki_commands::Fips;
+use rpki_validator::{Counted, Digester, RunError, run};
+use std::alloc::Global;
+
+// More places than any question has to try.
+const MOST: u32 = 10_000;
+
+/// Digests that are the same for all octets.
+#[derive(Drop)]
+struct Constant {
+    sha256: [u8; 32],
+    sha1: [u8; 20],
+}
+
+impl Digester for Constant {
+    ghost sha256_digest = { λ d _. d.sha256 };
+
+    ghost sha1_digest = { λ d _. d.sha1 };
+
+    fn sha256(&self, _octets: &[u8]) -> [u8; 32] {
+        self.sha256
+    }
+
+    fn sha1(&self, _octets: &[u8]) -> [u8; 20] {
+        self.sha1
+    }
+}
+
+/// Outcomes in their order; equal ones in a row are told once, with their number.
+#[derive(Drop)]
+struct Outcomes {
+    last: Answer,
+    count: u32,
+}
+
+impl Outcomes {
+    fn new(alloc: Global) -> Self {
+        Outcomes {
+            last: Answer::new(alloc),
+            count: 0,
+        }
+    }
+
+    // One more, which ends the row before it if it differs.
+    fn add(&mut self, answer: &mut Answer, next: Answer) {
+        if self.count > 0 && self.last.text() == next.text() {
+            self.count = self.count.saturating_add(1);
+            return;
+        }
+        self.end(answer);
+        self.last = next;
+        self.count = 1;
+    }
+
+    // Tells the last row.
+    fn end(&self, answer: &mut Answer) {
+        if self.count > 0 {
+            answer.say(&format_args!("{}*{}", self.count, self.last.text()));
+        }
+    }
+}
+
+// How a run ended, and what it wrote.
+fn told(alloc: Global, ended: Result<(), RunError>, written: &[u8]) -> Answer {
+    let mut outcome = Answer::new(alloc);
+    match ended {
+        Ok(()) => outcome.say(&"ok"),
+        Err(error) => outcome.say(&error),
+    }
+    outcome.say(&"");
+    outcome.lines(written);
+    outcome
+}
+
+// A run over octets, by these digests.
+fn outcome_by<D: Digester>(alloc: Global, octets: &[u8], digests: &D) -> Answer {
+    let mut reader = Counted::new(octets);
+    let mut writer = Counted::new(Vec::new(alloc));
+    let ended = run(alloc, &mut reader, &mut writer, digests);
+    told(alloc, ended, writer.inner.as_slice())
+}
+
+// A run over octets, by the digests of FIPS 180-4, or by constant ones.
+fn outcome(alloc: Global, octets: &[u8], digests: &str) -> Answer {
+    if digests == "constant" {
+        let constant = Constant {
+            sha256: [81; 32],
+            sha1: [82; 20],
+        };
+        return outcome_by(alloc, octets, &constant);
+    }
+    outcome_by(alloc, octets, &Fips)
+}
+
+// The octets with the lowest bit of one of them flipped.
+fn flipped(alloc: Global, octets: &[u8], place: usize) -> Result<Vec<u8>> {
+    let mut changed = Vec::new(alloc);
+    for (at, octet) in octets.iter().enumerate() {
+        changed.push(if at == place { *octet ^ 1 } else { *octet })?;
+    }
+    Ok(changed)
+}
+
+// Each octet in turn with its lowest bit flipped.
+fn flips(alloc: Global, answer: &mut Answer, octets: &[u8], digests: &str) -> Result<()> {
+    let mut outcomes = Outcomes::new(alloc);
+    for place in 0..octets.len() {
+        let changed = flipped(alloc, octets, place)?;
+        outcomes.add(answer, outcome(alloc, changed.as_slice(), digests));
+    }
+    outcomes.end(answer);
+    Ok(())
+}
+
+// Each proper front of the octets.
+fn cuts(alloc: Global, answer: &mut Answer, octets: &[u8], digests: &str) -> Result<()> {
+    let mut outcomes = Outcomes::new(alloc);
+    let mut front = Vec::new(alloc);
+    for octet in octets {
+        outcomes.add(answer, outcome(alloc, front.as_slice(), digests));
+        front.push(*octet)?;
+    }
+    outcomes.end(answer);
+    Ok(())
+}
+
+// A writer with room for no octet, for one, and so on, until all is written; it takes one octet a time.
+fn rooms(alloc: Global, answer: &mut Answer, octets: &[u8], end: &str) -> Result<()> {
+    let mut outcomes = Outcomes::new(alloc);
+    for room in 0..MOST {
+        let room = room.to_string(alloc)?;
+        let mut reader = Counted::new(octets);
+        let mut writer = Counted::new(Sink::new(alloc, "1", room.as_str(), end)?);
+        let ended = run(alloc, &mut reader, &mut writer, &Fips);
+        let is_done = ended.is_ok();
+        outcomes.add(answer, told(alloc, ended, writer.inner.taken.as_slice()));
+        if is_done {
+            break;
+        }
+    }
+    outcomes.end(answer);
+    Ok(())
+}
+
+// A reader that fails at its first read, at its second, and so on, until the run ends well; it gives so many octets a time.
+fn reads(alloc: Global, answer: &mut Answer, octets: &[u8], most: &str) -> Result<()> {
+    let mut outcomes = Outcomes::new(alloc);
+    for good in 0..MOST {
+        let good = good.to_string(alloc)?;
+        let mut reader = Counted::new(Source::new(octets, most, good.as_str())?);
+        let mut writer = Counted::new(Vec::new(alloc));
+        let ended = run(alloc, &mut reader, &mut writer, &Fips);
+        let is_done = ended.is_ok();
+        outcomes.add(answer, told(alloc, ended, writer.inner.as_slice()));
+        if is_done {
+            break;
+        }
+    }
+    outcomes.end(answer);
+    Ok(())
+}
+
+/// The answer to a question about a walk.
+pub fn answer(alloc: Global, answer: &mut Answer, question: &str, words: &[&str]) -> Result<()> {
+    let [how, octets] = words else {
+        return Err(anyhow!("other words"));
+    };
+    let octets = octets_of(alloc, *octets)?;
+    match question {
+        "walk" => {
+            answer.say(&outcome(alloc, octets.as_slice(), *how).text());
+            Ok(())
+        }
+        "flips" => flips(alloc, answer, octets.as_slice(), *how),
+        "cuts" => cuts(alloc, answer, octets.as_slice(), *how),
+        "rooms" => rooms(alloc, answer, octets.as_slice(), *how),
+        "reads" => reads(alloc, answer, octets.as_slice(), *how),
+        _ => Err(anyhow!("other words")),
+    }
+}
