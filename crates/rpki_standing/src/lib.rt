@@ -8,7 +8,7 @@ pub mod manifests;
 pub mod parts;
 pub mod point;
 
-pub use manifests::find_manifest;
+pub use manifests::{find_manifest, manifest_at};
 pub use objects_kinds::Manifest;
 pub use point::{Point, point_unheld};
 pub use rpki_points::Crl;
