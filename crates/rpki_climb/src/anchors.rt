@@ -71,15 +71,7 @@ pub fn is_anchor_of<D: Digester, V: Verifier>(
     let Lead::Held(object, tal) = follow(alloc, locator, index)? else {
         return Ok(false);
     };
-    Ok(is_anchor_there(
-        object,
-        tal.key_info(),
-        uri,
-        cert,
-        index,
-        digester,
-        verifier,
-    ))
+    Ok(is_anchor_there(object, tal.key_info(), uri, cert, index, digester, verifier))
 }
 
 /// Whether the certificate at the lookup key is the anchor to which the bundle's locator of that name leads; no where no

@@ -33,9 +33,7 @@ pub fn is_sound_below<D: Digester, V: Verifier>(
     if !is_unrevoked(alloc, cert, point.manifest_cert(), point.crl())? {
         return Ok(false);
     }
-    Ok(is_issued_to_authority(
-        cert, ca, index, digester, verifier,
-    ))
+    Ok(is_issued_to_authority(cert, ca, index, digester, verifier))
 }
 
 /// Whether the certificate at the lookup key is at a file of the authority's point, for an authority's certificate, and sound
