@@ -10,8 +10,8 @@ use Rattle.rpki_judge.specs.rpki_rules.Words.{Mem}
 use Rattle.rpki_judge.specs.rpki_rules.World.{World}
 use Rattle.rpki_judge.specs.Evidence.{IsBelow, IsReadCert, IsReadObject, IsReadPoint}
 use Rattle.rpki_anchors.specs.Leads.{NoCertAt}
-use Rattle.rpki_standing.specs.certs_specs.declared.Role.TheVariants.{Ca}
-use Rattle.rpki_standing.specs.rpki_signed.Issued.{IsIssued}
+use Rattle.rpki_signed.specs.certs_specs.declared.Role.TheVariants.{Ca}
+use Rattle.rpki_signed.specs.Issued.{IsIssued}
 use Rattle.rpki_standing.specs.Standing.{FindsPoint, StandingValue}
 use Rattle.rpki_objects.specs.Published.{FindsObject, PublishedValue}
 

@@ -1,4 +1,3 @@
 mod Passing
-mod Sets
 mod Named
 mod Filed

@@ -7,7 +7,6 @@ use Rattle.rpki_judge.specs.rpki_rules.Chains.{CertAt}
 use Rattle.rpki_judge.specs.rpki_rules.Points.{Anchor, IsAnchorCert, IsFirstHeld, Link}
 use Rattle.rpki_judge.specs.rpki_rules.Words.{Mem, NoRepeat}
 use Rattle.rpki_judge.specs.rpki_rules.World.{World}
-use Rattle.objects_locator.specs.Tals.{TalValue}
 use Rattle.rpki_anchors.specs.rpki_bundle.declared.parts.Locator.{Locator}
 use Rattle.rpki_anchors.specs.rpki_bundle.declared.parts.Object.{Object}
 use Rattle.rpki_anchors.specs.declared.leads.Lead.{Lead}
@@ -42,7 +41,7 @@ anchor_by w l key there octets uri c b leads at one_key one_uri h = (
 )
 
 -- A locator that leads to no object has no anchor.
-pub no_anchor : (w : World) (l : Locator) (lead : Lead) → ((object : Bor Object) (tal : TalValue) → lead ≡ To.Held object tal → ⊥) → IsLead w l lead
+pub no_anchor : (w : World) (l : Locator) (lead : Lead) → ((object : Bor Object) (tal : _) → lead ≡ To.Held object tal → ⊥) → IsLead w l lead
     → ((k : Key) (u o : List ℕ) → IsNoLocator l.text → ¬ (HoldsAt w l k u o)) → ((k : Key) (u o : List ℕ) → HoldsNowhere w l → ¬ (HoldsAt w l k u o)) → (a : Link) → ¬ (IsAnchorOf w l a)
 no_anchor w l To.Unreadable other lead unreadable nowhere a h = unreadable h.key a.uri h.octets lead h.leads
 no_anchor w l To.Nowhere other lead unreadable nowhere a h = nowhere h.key a.uri h.octets lead h.leads

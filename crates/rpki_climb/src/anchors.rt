@@ -6,13 +6,12 @@ ghost use Rattle.rpki_judge.specs.rpki_rules.Points.{Anchor, IsAnchorCert};
 ghost use Rattle.rpki_judge.specs.rpki_rules.Words.{Mem};
 ghost use Rattle.rpki_judge.specs.rpki_rules.World.{world_of};
 ghost use Rattle.rpki_anchors.specs.rpki_bundle.declared.parts.Locator.{Locator as LocatorValue};
-ghost use Rattle.rpki_standing.specs.certs_key.Digesting.{digests_of};
+ghost use Rattle.rpki_signed.specs.certs_key.Digesting.{digests_of};
 ghost use Rattle.rpki_climb.specs.Anchored.{IsAnchorOf};
 
 use rpki_anchors::laws::{no_lead, one_lead};
 use rpki_anchors::{Lead, Locator, Object, follow};
-use rpki_signed::{PublicKey, is_anchor_cert};
-use rpki_standing::{Cert, Digester, Index, Verifier};
+use rpki_signed::{Cert, Digester, Index, PublicKey, Verifier, is_anchor_cert};
 use std::alloc::{AllocError, Global};
 
 /// The locator of that name among those.
@@ -72,15 +71,7 @@ pub fn is_anchor_of<D: Digester, V: Verifier>(
     let Lead::Held(object, tal) = follow(alloc, locator, index)? else {
         return Ok(false);
     };
-    Ok(is_anchor_there(
-        object,
-        tal.key_info(),
-        uri,
-        cert,
-        index,
-        digester,
-        verifier,
-    ))
+    Ok(is_anchor_there(object, tal.key_info(), uri, cert, index, digester, verifier))
 }
 
 /// Whether the certificate at the lookup key is the anchor to which the bundle's locator of that name leads; no where no

@@ -5,12 +5,12 @@ ghost use Rattle.rpki_judge.specs.Evidence.{IsBelow};
 ghost use Rattle.rpki_judge.specs.rpki_rules.Chains.{CertAt, IsSound};
 ghost use Rattle.rpki_judge.specs.rpki_rules.Points.{files as files_by};
 ghost use Rattle.rpki_judge.specs.rpki_rules.World.{world_of};
-ghost use Rattle.rpki_standing.specs.certs_key.Digesting.{digests_of};
+ghost use Rattle.rpki_signed.specs.certs_key.Digesting.{digests_of};
 
 use crate::files::is_cer_file;
 use rpki_points::is_unrevoked;
-use rpki_signed::is_issued_to_authority;
-use rpki_standing::{Cert, Digester, Index, Point, Verifier};
+use rpki_signed::{Cert, Digester, Index, Verifier, is_issued_to_authority};
+use rpki_standing::Point;
 use std::alloc::{AllocError, Global};
 
 /// Whether the certificate is sound at the authority's point: it has the form of an authority's, it isn't revoked there, and
@@ -33,9 +33,7 @@ pub fn is_sound_below<D: Digester, V: Verifier>(
     if !is_unrevoked(alloc, cert, point.manifest_cert(), point.crl())? {
         return Ok(false);
     }
-    Ok(is_issued_to_authority(
-        cert, ca, index, digester, verifier,
-    ))
+    Ok(is_issued_to_authority(cert, ca, index, digester, verifier))
 }
 
 /// Whether the certificate at the lookup key is at a file of the authority's point, for an authority's certificate, and sound
