@@ -44,7 +44,6 @@ fn witness_of(alloc: Global, locator: &str, chain: &[Bytes], object: &str) -> Re
 // All witnesses that a walk lists.
 fn witnesses(alloc: Global, answer: &mut Answer, octets: &str) -> Result<()> {
     let bundle = bundle_of(alloc, octets)?;
-    bundle.is_spelled();
     let mut verifier = TableVerifier::new(&bundle, &Fips);
     let report = walk(alloc, &bundle, &Fips, &mut verifier)?;
     for witness in report.witnesses() {
@@ -64,7 +63,6 @@ fn witnesses(alloc: Global, answer: &mut Answer, octets: &str) -> Result<()> {
 fn judged(alloc: Global, answer: &mut Answer, words: [&str; 4]) -> Result<()> {
     let [locator, chain, object, octets] = words;
     let bundle = bundle_of(alloc, octets)?;
-    bundle.is_spelled();
     let chain = uris_of(alloc, chain)?;
     let witness = witness_of(alloc, locator, chain.as_slice(), object)?;
     let mut verifier = TableVerifier::new(&bundle, &Fips);
@@ -86,7 +84,6 @@ fn judged(alloc: Global, answer: &mut Answer, words: [&str; 4]) -> Result<()> {
 fn asked(alloc: Global, answer: &mut Answer, words: [&str; 4]) -> Result<()> {
     let [locator, chain, object, octets] = words;
     let bundle = bundle_of(alloc, octets)?;
-    bundle.is_spelled();
     let chain = uris_of(alloc, chain)?;
     let witness = witness_of(alloc, locator, chain.as_slice(), object)?;
     let mut verifier = Noting::new(alloc, TableVerifier::new(&bundle, &Fips));
@@ -107,7 +104,6 @@ fn asked(alloc: Global, answer: &mut Answer, words: [&str; 4]) -> Result<()> {
 // What the URIs can reach.
 fn reached(alloc: Global, answer: &mut Answer, uris: &str, octets: &str) -> Result<()> {
     let bundle = bundle_of(alloc, octets)?;
-    bundle.is_spelled();
     let uris = uris_of(alloc, uris)?;
     let mut verifier = TableVerifier::new(&bundle, &Fips);
     match reach(alloc, &bundle, uris.as_slice(), &Fips, &mut verifier)? {

@@ -26,17 +26,37 @@ pub fn walk<D: Digester, V: Verifier>(
     digester: &D,
     verifier: &mut V,
 ) -> Result<Report, AllocError>
-    ensures report { IfOk result (IsReport (world_of
+    ensures { IfOk result (IsReport (world_of
         (digests_of D.sha256_digest D.sha1_digest digester.now) (V.says verifier.old)
         bundle.now)) }
-    ensures same { V.says verifier.new ≡ V.says verifier.old }
 {
     let mut steps = BundleSteps::new(Index::new(bundle), digester, verifier);
     rpki_walk::walk(alloc, &mut steps)
 }
 
 /// Whether the witness is one of those that a walk of the bundle lists. It is read from its object upward, so that the
-/// verifier is asked for a few signatures a certificate, however much the bundle has. Refused for want of memory alone.
+/// verifier is asked for a few signatures a certificate, however much the bundle has: at most 4 times the chain's length
+/// and 2 more, whatever the answer. Refused for want of memory alone.
+pub fn judge_by<D: Digester, V: Verifier>(
+    alloc: Global,
+    evidence: &mut BundleEvidence<'_, D, V>,
+    witness: &Witness,
+) -> Result<Judgement, AllocError>
+    ensures judged { IfOk result (λ j. IsJudged (world_of
+        (digests_of D.sha256_digest D.sha1_digest evidence.old.digester.now)
+        (V.says evidence.old.verifier.now) evidence.old.index) (trace_of witness.now) j.yes
+        j.points) }
+    ensures asked { V.count evidence.new.verifier.now ≤ V.count evidence.old.verifier.now
+        + may_ask (length (trace_of witness.now).chain) }
+    ensures same_verifier { evidence.new.verifier.ghost_name
+        ≡ evidence.old.verifier.ghost_name }
+{
+    let locator = witness.locator().as_slice();
+    let object = witness.object().as_slice();
+    rpki_judge::judge(alloc, evidence, locator, witness.chain(), object)
+}
+
+/// As [`judge_by`], of a bundle by this digester and this verifier.
 pub fn judge<D: Digester, V: Verifier>(
     alloc: Global,
     bundle: &Bundle,
@@ -44,21 +64,12 @@ pub fn judge<D: Digester, V: Verifier>(
     digester: &D,
     verifier: &mut V,
 ) -> Result<Judgement, AllocError>
-    ensures judged { IfOk result (λ j. IsJudged (world_of
+    ensures { IfOk result (λ j. IsJudged (world_of
         (digests_of D.sha256_digest D.sha1_digest digester.now) (V.says verifier.old) bundle.now)
         (trace_of witness.now) j.yes j.points) }
-    ensures same { V.says verifier.new ≡ V.says verifier.old }
-    ensures asked { V.count verifier.new
-        ≤ V.count verifier.old + may_ask (length (trace_of witness.now).chain) }
 {
     let mut evidence = BundleEvidence::new(Index::new(bundle), digester, verifier);
-    rpki_judge::judge(
-        alloc,
-        &mut evidence,
-        witness.locator().as_slice(),
-        witness.chain(),
-        witness.object().as_slice(),
-    )
+    judge_by(alloc, &mut evidence, witness)
 }
 
 /// What whoever may change the objects at these URIs can reach: `Locator` exactly where a readable locator names one of them,
@@ -70,10 +81,9 @@ pub fn reach<D: Digester, V: Verifier>(
     digester: &D,
     verifier: &mut V,
 ) -> Result<Reach, AllocError>
-    ensures reach { IfOk result (λ r. IsReach uris.now (world_of
+    ensures { IfOk result (λ r. IsReach uris.now (world_of
         (digests_of D.sha256_digest D.sha1_digest digester.now) (V.says verifier.old) bundle.now)
         (answer_of r)) }
-    ensures same { V.says verifier.new ≡ V.says verifier.old }
 {
     let mut steps = BundleSteps::new(Index::new(bundle), digester, verifier);
     rpki_reach::whole::reach(alloc, &mut steps, uris)

@@ -8,15 +8,16 @@ pub mod laws;
 pub mod runs;
 pub mod streams;
 
-pub use bundles::{judge, reach, walk};
+pub use bundles::{judge, judge_by, reach, walk};
 pub use counted::Counted;
 pub use rpki_bundle::uri::lookup_key;
 pub use rpki_bundle::{Bundle, BundleError, Digester, Locator, Object, Time, Verdict};
+pub use rpki_climb::BundleEvidence;
 pub use rpki_judge::Judgement;
 pub use rpki_lines::render;
 pub use rpki_reach::Reach;
 pub use rpki_report::refusal::word_of;
 pub use rpki_report::{Cause, Customer, Origin, Path, Refusal, Report, Witness};
-pub use rpki_table::TableVerifier;
+pub use rpki_table::{Index, TableVerifier};
 pub use runs::{RunError, read_bundle, run};
 pub use streams::{WriteFault, write_all};
