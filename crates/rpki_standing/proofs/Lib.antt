@@ -1,2 +1,2 @@
-pub mod Manifests
+pub mod OwnManifests
 pub mod Points

@@ -4,6 +4,7 @@
 //! What is read here depends on no numbers that are held, so that a judge who climbs may read it too.
 #![tactic(auto)]
 
+mod kept;
 pub mod manifests;
 pub mod parts;
 pub mod point;

@@ -8,6 +8,7 @@ ghost use Rattle.rpki_standing.specs.rpki_rules.World.{world_of};
 ghost use Rattle.rpki_standing.specs.Manifests.{IsCurrent, IsOwnManifest, IsReadAt, IsReadIn};
 ghost use Rattle.rpki_standing.specs.Manifests.{IsSoundFor};
 
+use crate::kept::keep_if;
 use bcder::decode::DecodeError;
 use bytes::Bytes;
 use objects_kinds::Manifest;
@@ -96,8 +97,6 @@ pub fn find_manifest<D: Digester, V: Verifier>(
     let Some(manifest) = manifest_at(alloc, ca, index)? else {
         return Ok(None);
     };
-    if !is_own(alloc, &manifest, ca, index, digester, verifier)? {
-        return Ok(None);
-    }
-    Ok(Some(manifest))
+    let own = is_own(alloc, &manifest, ca, index, digester, verifier);
+    keep_if(manifest, own)
 }

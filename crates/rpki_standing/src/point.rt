@@ -5,6 +5,7 @@ ghost use Rattle.rpki_standing.specs.certs_key.Digesting.{digests_of};
 ghost use Rattle.rpki_standing.specs.rpki_rules.World.{world_of};
 ghost use Rattle.rpki_standing.specs.Standing.{FindsPoint};
 
+use crate::kept::keep_with;
 use crate::manifests::find_manifest;
 use crate::parts::find_parts;
 use bytes::Bytes;
@@ -88,7 +89,8 @@ pub fn point_unheld<D: Digester, V: Verifier>(
     let Some(manifest) = find_manifest(alloc, ca, index, digester, verifier)? else {
         return Ok(None);
     };
-    let Some((keys, crl)) = find_parts(alloc, ca, &manifest, index, digester, verifier)? else {
+    let found = find_parts(alloc, ca, &manifest, index, digester, verifier);
+    let Some((manifest, (keys, crl))) = keep_with(manifest, found)? else {
         return Ok(None);
     };
     Ok(Some(Point {

@@ -4,7 +4,7 @@ use Rattle.rpki_standing.specs.certs_uri.Uris.{lookup_key}
 use Rattle.rpki_standing.specs.rpki_points.Crls.{Finds}
 use Rattle.rpki_standing.specs.rpki_rules.World.{find_object, world_of}
 use Rattle.rpki_standing.specs.Manifests.{IsReadIn}
-use Rattle.rpki_standing.proofs.Manifests.{read_told}
+use Rattle.rpki_standing.proofs.OwnManifests.{read_told}
 use Rattle.rpki_standing.proofs.manifests.manifest_at.Goals as goal
 
 pub returns : goal.returns

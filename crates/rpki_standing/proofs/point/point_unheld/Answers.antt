@@ -18,5 +18,6 @@ returns-in_default-2-clause-found g c =
     let d = digests_of g.D.Digester.sha256_digest g.D.Digester.sha1_digest c.args.digester.now in
     let w : World = world_of d (g.V.Verifier.says c.args.verifier.now) c.args.index.now in
     let own : IsOwnManifest w c.args.ca.now c.in-Some.manifest = subst (Finds (IsOwnManifest w c.args.ca.now)) c.in-Some.is c.in_ok-manifest.ensures.found in
-    let none = rw c.in_default-2.is at c.in_ok-keys.ensures.found in
+    let found = rw c.in_default-2.is at c.in_ok-manifest-2.ensures in
+    let none = rw found at c.find_parts-found.ensures.found in
     no_point w c.args.ca.now c.in-Some.manifest own (subst (λ (v : Verdicts). HasNoParts (world_of d v c.args.index.now) c.args.ca.now c.in-Some.manifest) c.find_manifest.ensures.same none)

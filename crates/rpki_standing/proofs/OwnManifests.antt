@@ -1,5 +1,6 @@
 -- An authority has one manifest at most: what its manifest URI reads as, if that is current and its own.
-use Rattle.std.proofs.Common.{◌≡◌, ℕ, List, Option, Some, None, subst}
+use Rattle.std.proofs.Common.{◌≡◌, ◌↔◌, ℕ, Bool, true, false, IsTrue, List, Option, Some, None, Result, Ok, Err, MatchOption, refl, sym, subst}
+use Rattle.std.specs.Prelude.{IfOk}
 use Rattle.objects_kinds.specs.Kinds.{KindValue}
 use Rattle.rpki_points.proofs.Passing.{one_value}
 use Rattle.rpki_standing.specs.rpki_points.Crls.{Finds}
@@ -54,3 +55,18 @@ none_read w ca o e f k own =
 
 pub none_other : (w : World) (ca : Cert) (j k : KindValue Manifest) → IsReadAt w ca j → (IsSoundFor w ca j → ⊥) → IsOwnManifest w ca k → ⊥
 none_other w ca j k r n own = n (subst (IsSoundFor w ca) (one_read w ca k j (own_read w ca k own) r) (own_sound w ca k own))
+
+-- What is read is kept where it is sound, and then it is the authority's.
+pub own_told : {E : Type 0} (w : World) (ca : Cert) (k : KindValue Manifest) (passed : Result Bool E) (r : Result (Option (KindValue Manifest)) E) → IsReadAt w ca k
+    → IfOk passed (λ yes. IsTrue yes ↔ IsSoundFor w ca k) → IfOk r (λ kept. MatchOption kept (passed ≡ Ok false) (λ x. (x ≡ k) × (passed ≡ Ok true))) → IfOk r (Finds (IsOwnManifest w ca))
+own_told {E} w ca k passed (Err e) reads told kept = tt
+own_told {E} w ca k passed (Ok None) reads told kept = λ j own. none_other w ca k j reads unsound own
+  where
+    unsound : IsSoundFor w ca k → ⊥
+    unsound s =
+        let not : IsTrue false ↔ IsSoundFor w ca k = subst (λ (p : Result Bool E). IfOk p (λ yes. IsTrue yes ↔ IsSoundFor w ca k)) kept told in
+        let wrong : false ≡ true = not.1 s in
+        absurd cc
+own_told {E} w ca k passed (Ok (Some x)) reads told kept =
+    let is : IsTrue true ↔ IsSoundFor w ca k = subst (λ (p : Result Bool E). IfOk p (λ yes. IsTrue yes ↔ IsSoundFor w ca k)) kept.1 told in
+    subst (IsOwnManifest w ca) (sym kept.0) (own_of w ca k reads (is.0 refl))
