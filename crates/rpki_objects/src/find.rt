@@ -38,7 +38,7 @@ fn is_sound_at<D: Digester, V: Verifier>(
     if !is_issued_to_object(object.cert(), ca, index, digester, verifier) {
         return Ok(false);
     }
-    is_sound(alloc, &object.signed, digester, verifier)
+    is_sound(alloc, object.signed(), digester, verifier)
 }
 
 /// The object at a file of a point of the authority, if it is a route origin or provider attestation that is sound there,
@@ -63,5 +63,9 @@ pub fn find_object<D: Digester, V: Verifier>(
     ensures same { V.says verifier.new ≡ V.says verifier.old }
     ensures asked { V.count verifier.new ≤ V.count verifier.old + 2 }
 {
-    Err(AllocError)
+    let Some(object) = object_at(alloc, key, index)? else {
+        return Ok(None);
+    };
+    let sound = is_sound_at(alloc, &object, ca, ee, crl, index, digester, verifier)?;
+    Ok(sound.then_some(object))
 }
