@@ -1,3 +1,3 @@
 mod Passing
 mod Named
-mod Filed
+mod Looked

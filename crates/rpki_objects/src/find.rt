@@ -66,8 +66,6 @@ pub fn find_object<D: Digester, V: Verifier>(
     let Some(object) = object_at(alloc, key, index)? else {
         return Ok(None);
     };
-    if !is_sound_at(alloc, &object, ca, ee, crl, index, digester, verifier)? {
-        return Ok(None);
-    }
-    Ok(Some(object))
+    let sound = is_sound_at(alloc, &object, ca, ee, crl, index, digester, verifier)?;
+    Ok(sound.then_some(object))
 }

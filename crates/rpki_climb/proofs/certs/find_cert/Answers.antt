@@ -5,7 +5,7 @@ use Rattle.rpki_judge.specs.rpki_readings.Certs.{Cert, Digests, Verdicts}
 use Rattle.rpki_judge.specs.rpki_rules.Chains.{CertAt}
 use Rattle.rpki_judge.specs.rpki_rules.World.{world_of}
 use Rattle.rpki_anchors.specs.Leads.{NoCertAt}
-use Rattle.rpki_climb.proofs.Filed.{cert_told}
+use Rattle.rpki_climb.proofs.Looked.{cert_told}
 use Rattle.rpki_climb.proofs.Passing.{if_ok}
 use Rattle.rpki_climb.proofs.certs.find_cert.Goals as goal
 

@@ -1,0 +1,13 @@
+-- What is read at a lookup key.
+use Rattle.std.proofs.Common.{ℕ, List, Option, Some, None}
+use Rattle.std.specs.Prelude.{MatchOption}
+use Rattle.rpki_judge.specs.rpki_readings.Certs.{Cert}
+use Rattle.rpki_judge.specs.rpki_rules.Chains.{CertAt}
+use Rattle.rpki_judge.specs.rpki_rules.World.{World}
+use Rattle.rpki_judge.specs.Evidence.{IsReadCert}
+use Rattle.rpki_anchors.specs.Leads.{NoCertAt}
+
+-- The certificate there, as the judge is told it.
+pub cert_told : (w : World) (uri : List ℕ) (found : Option Cert) → MatchOption found (NoCertAt w uri) (λ c. CertAt w uri c) → IsReadCert (λ c. c) w uri found
+cert_told w uri None h = h
+cert_told w uri (Some c) h = h
