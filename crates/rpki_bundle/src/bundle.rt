@@ -223,7 +223,9 @@ impl Bundle {
     /// Octets spell each bundle: it was read of some, or made of parts that a bundle may have.
     pub fn is_spelled(&self)
         ensures { (octets : List ℕ) × BundleText octets self.now }
-    {}
+    {
+        let _depth = self.depth;
+    }
 
     /// The octets of the bundle: the only ones that are read as it.
     pub fn encode(&self, alloc: Global) -> Result<Vec<u8>, AllocError>
