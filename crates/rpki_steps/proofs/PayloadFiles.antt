@@ -1,6 +1,6 @@
 -- Files of a publication point that attest something.
-use Rattle.std.proofs.Common.{◌≡◌, ◌⊎◌, inl, inr, ℕ, List, [], ◌∷◌, Some, None, sym, subst}
-use Rattle.std.specs.Prelude.{◌↔◌}
+use Rattle.std.proofs.Common.{◌≡◌, ◌⊎◌, inl, inr, ℕ, Bool, List, [], ◌∷◌, Some, None, sym, subst}
+use Rattle.std.specs.Prelude.{◌↔◌, IsTrue}
 use Rattle.rpki_authority.specs.Holders.{cert_of, sets_of}
 use Rattle.rpki_authority.specs.certs_verify.Holders.{ResourceCertValue}
 use Rattle.rpki_authority.specs.resources_set.Resources.{Resources}
@@ -41,6 +41,13 @@ module _ (held : Kind → ℕ → Type 0) (x : PublishedValue) where
     λ h. record { fits = f.0; covered = covered_by (InSet sets) (HoldsWith held x.object.cert) x.payload (λ k n. ((f.1 k).same n).0) h },
     λ h. covered_by (HoldsWith held x.object.cert) (InSet sets) x.payload (λ k n. ((f.1 k).same n).1) h.covered,
   )
+
+  -- The same, as it is told.
+  pub within_told : (b : Bool) (cert : Cert) (y : Payload) (sets : Resources) → cert ≡ x.object.cert → y ≡ x.payload → FindsSets held cert (Some sets) → IsTrue b ↔ IsCovered (InSet sets) y → IsTrue b ↔ IsWithin held x
+  within_told b cert y sets c e f t =
+      let h = within sets (subst (λ (z : Cert). FindsSets held z (Some sets)) c f) in
+      let k = subst (λ (z : Payload). IsTrue b ↔ IsCovered (InSet sets) z) e t in
+      (λ i. h.0 (k.0 i), λ i. k.1 (h.1 i))
 
 module _ (w : World) (ca : ResourceCertValue) (p : Point) (uri : List ℕ) where
   -- No object is sound there.

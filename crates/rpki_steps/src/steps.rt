@@ -72,6 +72,8 @@ impl<'a, D: Digester, V: Verifier> Steps for BundleSteps<'a, D, V> {
     }
 
     fn locator_count(&self) -> usize {
+        // So a chain may have an anchor.
+        let _ = self.index.depth();
         self.index.locators().len()
     }
 
