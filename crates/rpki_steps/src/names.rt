@@ -87,8 +87,9 @@ pub fn named_keys(alloc: Global, ca: &Cert, index: &Index<'_>) -> Result<Vec<Byt
         → AreNamed (world_of d v index.now) ca.now keys.items) }
 {
     let mut keys = listed_keys(alloc, ca, index)?;
-    if let Some(uri) = ca.tbs().rpki_manifest() {
-        keys.push(uri.lookup_key(alloc)?)?;
-    }
+    let Some(uri) = ca.tbs().rpki_manifest() else {
+        return Ok(keys);
+    };
+    keys.push(uri.lookup_key(alloc)?)?;
     Ok(keys)
 }
