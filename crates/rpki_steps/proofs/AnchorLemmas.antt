@@ -47,14 +47,17 @@ module _ (w : World) (l : Locator) where
     -- The object is no trust anchor's certificate.
     pub no_anchor : ((j : Key) (v p : List ℕ) → HoldsAt w l j v p → HoldsAt w l k u o → j ≡ k) → ((j : Key) (v p : List ℕ) → HoldsAt w l j v p → HoldsAt w l k u o → p ≡ o)
         → HoldsAt w l k u o → FindsAnchorIn w k o None → IsLed cert_of sets_of w l To.Nowhere
-    no_anchor keys octets h n = ((h.uris, k, h.reads), λ a b.
-        let g = lead_held w l a b in
-        n a.cert (subst (λ (t : List ℕ). CertText t a.cert) (octets b.key a.uri b.octets g h) b.cert) (subst (λ (j : Key). IsAnchorCert w j a.cert) (keys b.key a.uri b.octets g h) b.is_anchor))
+    no_anchor keys octets h n = (
+      (h.uris, k, h.reads),
+      λ a b.
+          let g = lead_held w l a b in
+          n a.cert (subst (λ (t : List ℕ). CertText t a.cert) (octets b.key a.uri b.octets g h) b.cert) (subst (λ (j : Key). IsAnchorCert w j a.cert) (keys b.key a.uri b.octets g h) b.is_anchor),
+    )
 
     -- The object is one.
-    pub is_anchor : (uri : List ℕ) (r : ResourceCertValue) → uri ≡ u → HoldsAt w l k u o → IsAnchorIn w k o r → IsLed cert_of sets_of w l (To.Anchor uri r)
-    is_anchor uri r e h a = subst (λ (v : List ℕ). IsLed cert_of sets_of w l (To.Anchor v r)) (sym e)
-        (record { uris = h.uris; key = k; reads = h.reads; octets = o; held = h.held; cert = a.reads; is_anchor = a.anchor }, a.holds)
+    pub is_anchor : (uri : List ℕ) (r s : ResourceCertValue) → uri ≡ u → s ≡ r → HoldsAt w l k u o → IsAnchorIn w k o r → IsLed cert_of sets_of w l (To.Anchor uri s)
+    is_anchor uri r s e same h a = subst (λ (v : List ℕ). IsLed cert_of sets_of w l (To.Anchor v s)) (sym e) (subst (λ (x : ResourceCertValue). IsLed cert_of sets_of w l (To.Anchor u x)) (sym same)
+        (record { uris = h.uris; key = k; reads = h.reads; octets = o; held = h.held; cert = a.reads; is_anchor = a.anchor }, a.holds))
 
     -- It leads to the object.
     pub held_led : {E : Type 0} (r : Result (Leads ResourceCertValue) E) → HoldsAt w l k u o → IfOk r (λ led. HoldsAt w l k u o → IsLed cert_of sets_of w l led) → IfOk r (IsLed cert_of sets_of w l)
