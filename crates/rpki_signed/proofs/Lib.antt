@@ -1,1 +1,3 @@
-mod Sounding
+pub mod Firsts
+pub mod Claims
+pub mod Sounding

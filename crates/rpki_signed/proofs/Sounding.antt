@@ -1,8 +1,8 @@
 -- What verification of a content says of the object's soundness.
-use Rattle.std.proofs.Common.{◌≡◌, Bool, true, false, Result, Ok, Err, refl, sym, subst}
+use Rattle.std.proofs.Common.{◌≡◌, true, false, Result, Ok, Err, refl, sym, subst}
 use Rattle.std.specs.Prelude.{◌↔◌, IsTrue}
-use Rattle.certs_errors.specs.declared.verification.VerificationError.{VerificationError}
-use Rattle.certs_errors.specs.declared.verification.VerificationError.TheVariants as error
+use Rattle.certs_verify.specs.certs_errors.declared.verification.VerificationError.{VerificationError}
+use Rattle.certs_verify.specs.certs_errors.declared.verification.VerificationError.TheVariants as error
 use Rattle.objects_verify.specs.Content.{FailsContent, VerifiesContent}
 use Rattle.rpki_signed.specs.rpki_readings.Certs.{Digests, Verdicts}
 use Rattle.rpki_signed.specs.rpki_readings.Objects.{Object, Sound}

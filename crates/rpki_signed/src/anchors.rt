@@ -2,6 +2,7 @@
 
 ghost use Rattle.std.specs.Prelude.{◌≡◌, ◌↔◌, ◌+◌, ◌≤◌, IsTrue};
 ghost use Rattle.rpki_signed.specs.certs_key.Digesting.{digests_of};
+ghost use Rattle.rpki_signed.specs.certs_specs.Verified.{IsAnchorAt};
 ghost use Rattle.rpki_signed.specs.rpki_readings.Certs.{encoded};
 ghost use Rattle.rpki_signed.specs.rpki_rules.Points.{IsAnchorCert};
 ghost use Rattle.rpki_signed.specs.rpki_rules.World.{world_of};
@@ -17,8 +18,20 @@ fn has_key(cert: &Cert, key: &PublicKey) -> bool
     own.encoded() == key.encoded()
 }
 
+// Whether the certificate inherits nothing, is valid at the bundle's moment, and signed itself. The verifier is asked once
+// or not at all.
+fn is_own_issuer<V: Verifier>(cert: &Cert, index: &Index<'_>, verifier: &mut V) -> bool
+    ensures own { IsTrue result
+        ↔ IsAnchorAt (V.says verifier.old) index.now.moment cert.now }
+    ensures same { V.says verifier.new ≡ V.says verifier.old }
+    ensures asked { V.count verifier.new ≤ V.count verifier.old + 1 }
+{
+    cert.verify_ta_ref_at(true, index.moment(), verifier)
+        .is_ok()
+}
+
 /// Whether the certificate is one of a trust anchor with that key: it has the form, inherits nothing, is valid at the
-/// bundle's moment, and signed itself.
+/// bundle's moment, and signed itself. The verifier is asked once or not at all.
 pub fn is_anchor_cert<D: Digester, V: Verifier>(
     cert: &Cert,
     key: &PublicKey,
@@ -32,9 +45,8 @@ pub fn is_anchor_cert<D: Digester, V: Verifier>(
     ensures same { V.says verifier.new ≡ V.says verifier.old }
     ensures asked { V.count verifier.new ≤ V.count verifier.old + 1 }
 {
-    has_key(cert, key)
-        && cert.inspect_ta(true, digester).is_ok()
-        && cert
-            .verify_ta_ref_at(true, index.moment(), verifier)
-            .is_ok()
+    if !has_key(cert, key) {
+        return false;
+    }
+    cert.inspect_ta(true, digester).is_ok() && is_own_issuer(cert, index, verifier)
 }

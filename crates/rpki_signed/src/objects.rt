@@ -1,12 +1,11 @@
 //! What is asked of any signed object (RFC 6488 3).
 
 ghost use Rattle.std.specs.Prelude.{◌≡◌, ◌↔◌, ◌+◌, ◌≤◌, IfOk, IsTrue};
-ghost use Rattle.certs_errors.specs.declared.verification.VerificationError.TheVariants.{Memory};
-ghost use Rattle.certs_key.specs.Digesting.{digests_of};
+ghost use Rattle.certs_verify.specs.certs_errors.declared.verification.VerificationError.TheVariants.{Memory};
+ghost use Rattle.rpki_signed.specs.certs_key.Digesting.{digests_of};
 ghost use Rattle.rpki_signed.specs.rpki_readings.Objects.{Sound};
 
-use certs_errors::VerificationError;
-use certs_key::{Digester, Verifier};
+use certs_verify::{Digester, VerificationError, Verifier};
 use objects_verify::{SignedObject, verify_content};
 use std::alloc::{AllocError, Global};
 

@@ -1,1 +1,2 @@
-
+pub mod OwnManifests
+pub mod Points

@@ -1,12 +1,16 @@
 -- The manifest of an authority, by where it stands and by what is asked of it (RFC 9286 6.2, 6.3).
-use Rattle.std.specs.Prelude.{◌≡◌, ◌≤◌, ℕ, List, Some}
+use Rattle.std.specs.Prelude.{◌≡◌, ◌≤◌, ℕ, true, List, Some}
 use Rattle.objects_kinds.specs.Kinds.{KindValue}
-use Rattle.rpki_signed.specs.certs_specs.declared.Role.TheVariants.{Ee}
-use Rattle.rpki_signed.specs.rpki_readings.Certs.{Cert}
-use Rattle.rpki_signed.specs.rpki_readings.Objects.{Manifest, ManifestText, Sound}
-use Rattle.rpki_signed.specs.rpki_rules.Points.{IsManifestOf}
-use Rattle.rpki_signed.specs.rpki_rules.World.{World, at}
+use Rattle.rpki_standing.specs.certs_specs.declared.Role.TheVariants.{Ee}
+use Rattle.rpki_standing.specs.rpki_readings.Certs.{Cert}
+use Rattle.rpki_standing.specs.rpki_readings.Objects.{Manifest, ManifestText, Sound}
+use Rattle.rpki_standing.specs.rpki_rules.Points.{IsManifestOf}
+use Rattle.rpki_standing.specs.rpki_rules.World.{World, at}
 use Rattle.rpki_signed.specs.Issued.{IsIssued}
+
+-- The octets begin with the manifest, in DER.
+abbrev pub IsReadIn : List ℕ → KindValue Manifest → Type 0
+IsReadIn octets k = ManifestText true octets k.signed k.content
 
 -- The object at the authority's manifest URI reads as the manifest.
 pub record IsReadAt (w : World) (ca : Cert) (k : KindValue Manifest) : Type 0 where
@@ -16,11 +20,15 @@ pub record IsReadAt (w : World) (ca : Cert) (k : KindValue Manifest) : Type 0 wh
   pub held : at w uri ≡ Some octets
   pub reads : ManifestText w.strict octets k.signed k.content
 
+-- The moment lies between both updates (RFC 9286 6.3).
+abbrev pub IsCurrent : ℕ → KindValue Manifest → Type 0
+IsCurrent moment k = (k.content.this_update ≤ moment) × (moment ≤ k.content.next_update)
+
 -- Its certificate is issued by the authority, the object is sound, and it is current.
 pub record IsSoundFor (w : World) (ca : Cert) (k : KindValue Manifest) : Type 0 where
   pub issued : IsIssued w Ee ca k.signed.cert
   pub sound : Sound w.digests w.good k.signed
-  pub current : (k.content.this_update ≤ w.moment) × (w.moment ≤ k.content.next_update)
+  pub current : IsCurrent w.moment k
 
 -- The manifest is the authority's, by the rules.
 abbrev pub IsOwnManifest : World → Cert → KindValue Manifest → Type 0

@@ -1,8 +1,21 @@
 -- What stands at a publication point, with the lookup keys of its files (RFC 9286 6).
 use Rattle.std.specs.Prelude.{◌≡◌, ℕ, List, Option, Some, None}
-use Rattle.rpki_signed.specs.rpki_readings.Certs.{Cert}
-use Rattle.rpki_signed.specs.rpki_rules.Points.{Point, IsPoint, files}
-use Rattle.rpki_signed.specs.rpki_rules.World.{World}
+use Rattle.objects_kinds.specs.Kinds.{KindValue}
+use Rattle.rpki_standing.specs.rpki_readings.Certs.{Cert, Crl}
+use Rattle.rpki_standing.specs.rpki_readings.Objects.{Manifest}
+use Rattle.rpki_standing.specs.rpki_rules.Points.{Point, HasFiles, IsCrlOf, IsPoint, files}
+use Rattle.rpki_standing.specs.rpki_rules.World.{World}
+
+-- The manifest's files are held as listed, these are their lookup keys, and the revocation list is the one that its
+-- certificate names.
+pub record AreParts (w : World) (ca : Cert) (k : KindValue Manifest) (keys : List (List ℕ)) (crl : Crl) : Type 0 where
+  pub held : HasFiles w ca k.content
+  pub keys_are : keys ≡ files ca k.content
+  pub list : IsCrlOf w ca k.signed k.content crl
+
+-- The manifest's files aren't held as listed, or there is no such revocation list.
+abbrev pub HasNoParts : World → Cert → KindValue Manifest → Type 0
+HasNoParts w ca k = HasFiles w ca k.content → (crl : Crl) → ¬ (IsCrlOf w ca k.signed k.content crl)
 
 pub record StandingValue : Type 0 where
   pub point : Point

@@ -5,25 +5,31 @@ ghost use Rattle.rpki_standing.specs.certs_key.Digesting.{digests_of};
 ghost use Rattle.rpki_standing.specs.rpki_points.Crls.{Finds};
 ghost use Rattle.rpki_standing.specs.rpki_readings.Certs.{Digests, Verdicts};
 ghost use Rattle.rpki_standing.specs.rpki_rules.World.{world_of};
-ghost use Rattle.rpki_standing.specs.Manifests.{IsOwnManifest, IsReadAt, IsSoundFor};
+ghost use Rattle.rpki_standing.specs.Manifests.{IsCurrent, IsOwnManifest, IsReadAt, IsReadIn};
+ghost use Rattle.rpki_standing.specs.Manifests.{IsSoundFor};
 
+use crate::kept::keep_if;
 use bcder::decode::DecodeError;
 use bytes::Bytes;
 use objects_kinds::Manifest;
-use rpki_signed::{Cert, Digester, Index, Verifier, is_issued_to_object};
+use rpki_signed::{Cert, Digester, Index, Verifier, is_issued_to_object, is_sound};
 use std::alloc::{AllocError, Global};
 
-// The manifest that those octets begin with, in DER.
-fn manifest_in(alloc: Global, octets: &Bytes) -> Result<Option<Manifest>, AllocError> {
+// The manifest that those octets begin with, in DER (RFC 9286 4). Nothing of it is verified.
+fn manifest_in(alloc: Global, octets: &Bytes) -> Result<Option<Manifest>, AllocError>
+    ensures { IfOk result (Finds (IsReadIn octets.now)) }
+{
     match Manifest::decode(alloc, octets.clone()?, true) {
         Ok(manifest) => Ok(Some(manifest)),
         Err(DecodeError::Content(_, _)) => Ok(None),
-        Err(_) => Err(AllocError),
+        Err(DecodeError::Source(never)) => match never {},
+        Err(DecodeError::Memory) => Err(AllocError),
     }
 }
 
-// The manifest that the object at the authority's manifest URI reads as, whosever it is.
-fn manifest_at(
+/// The manifest that the object at the authority's manifest URI reads as, in DER, whosever it is; nothing where the
+/// authority names no such URI, no object is there, or it reads as no manifest. Nothing of it is verified.
+pub fn manifest_at(
     alloc: Global,
     ca: &Cert,
     index: &Index<'_>,
@@ -40,8 +46,10 @@ fn manifest_at(
     manifest_in(alloc, &object.octets)
 }
 
-// Whether the bundle's moment lies between both updates.
-fn is_current(manifest: &Manifest, index: &Index<'_>) -> bool {
+// Whether the bundle's moment lies between both updates, which are both included.
+fn is_current(manifest: &Manifest, index: &Index<'_>) -> bool
+    ensures { IsTrue result ↔ IsCurrent index.now.moment manifest.now }
+{
     let (content, now) = (manifest.content(), index.moment());
     content.this_update() <= now && now <= content.next_update()
 }
@@ -62,7 +70,13 @@ fn is_own<D: Digester, V: Verifier>(
     ensures same { V.says verifier.new ≡ V.says verifier.old }
     ensures asked { V.count verifier.new ≤ V.count verifier.old + 2 }
 {
-    Err(AllocError)
+    if !is_current(manifest, index) {
+        return Ok(false);
+    }
+    if !is_issued_to_object(manifest.cert(), ca, index, digester, verifier) {
+        return Ok(false);
+    }
+    is_sound(alloc, manifest.signed(), digester, verifier)
 }
 
 /// The authority's manifest: the one at its manifest URI, if it is current and its own. What its certificate claims isn't
@@ -80,5 +94,9 @@ pub fn find_manifest<D: Digester, V: Verifier>(
     ensures same { V.says verifier.new ≡ V.says verifier.old }
     ensures asked { V.count verifier.new ≤ V.count verifier.old + 2 }
 {
-    Err(AllocError)
+    let Some(manifest) = manifest_at(alloc, ca, index)? else {
+        return Ok(None);
+    };
+    let own = is_own(alloc, &manifest, ca, index, digester, verifier);
+    keep_if(manifest, own)
 }

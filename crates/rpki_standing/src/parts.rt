@@ -6,6 +6,7 @@ ghost use Rattle.rpki_standing.specs.rpki_points.Crls.{Finds};
 ghost use Rattle.rpki_standing.specs.rpki_readings.Certs.{Digests, Verdicts};
 ghost use Rattle.rpki_standing.specs.rpki_rules.Points.{HasFiles, IsCrlOf, files as files_by};
 ghost use Rattle.rpki_standing.specs.rpki_rules.World.{world_of};
+ghost use Rattle.rpki_standing.specs.Standing.{AreParts, HasNoParts};
 
 use bytes::Bytes;
 use objects_kinds::{Manifest, ManifestContent};
@@ -58,4 +59,30 @@ pub fn own_list<V: Verifier>(
         return Ok(None);
     };
     read_crl(alloc, uri, keys, ca, manifest.cert(), index, verifier)
+}
+
+/// The files and the revocation list of the authority's point, by its manifest; nothing where a file isn't as it is
+/// listed, or the list isn't there or isn't good. The verifier is asked once, at most.
+pub(crate) fn find_parts<D: Digester, V: Verifier>(
+    alloc: Global,
+    ca: &Cert,
+    manifest: &Manifest,
+    index: &Index<'_>,
+    digester: &D,
+    verifier: &mut V,
+) -> Result<Option<(Vec<Bytes>, Crl)>, AllocError>
+    ensures found { IfOk result (λ found. let w = world_of
+        (digests_of D.sha256_digest D.sha1_digest digester.now) (V.says verifier.old) index.now in
+        MatchOption found (HasNoParts w ca.now manifest.now)
+        (λ p. AreParts w ca.now manifest.now p.0.items p.1)) }
+    ensures same { V.says verifier.new ≡ V.says verifier.old }
+    ensures asked { V.count verifier.new ≤ V.count verifier.old + 1 }
+{
+    let Some(keys) = held_files(alloc, ca, manifest.content(), index, digester)? else {
+        return Ok(None);
+    };
+    let Some(crl) = own_list(alloc, ca, manifest, keys.as_slice(), index, verifier)? else {
+        return Ok(None);
+    };
+    Ok(Some((keys, crl)))
 }

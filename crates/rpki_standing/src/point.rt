@@ -5,8 +5,9 @@ ghost use Rattle.rpki_standing.specs.certs_key.Digesting.{digests_of};
 ghost use Rattle.rpki_standing.specs.rpki_rules.World.{world_of};
 ghost use Rattle.rpki_standing.specs.Standing.{FindsPoint};
 
+use crate::kept::keep_with;
 use crate::manifests::find_manifest;
-use crate::parts::{held_files, own_list};
+use crate::parts::find_parts;
 use bytes::Bytes;
 use certs_uri::Rsync;
 use objects_kinds::Manifest;
@@ -85,5 +86,16 @@ pub fn point_unheld<D: Digester, V: Verifier>(
     ensures same { V.says verifier.new ≡ V.says verifier.old }
     ensures asked { V.count verifier.new ≤ V.count verifier.old + 3 }
 {
-    Err(AllocError)
+    let Some(manifest) = find_manifest(alloc, ca, index, digester, verifier)? else {
+        return Ok(None);
+    };
+    let found = find_parts(alloc, ca, &manifest, index, digester, verifier);
+    let Some((manifest, (keys, crl))) = keep_with(manifest, found)? else {
+        return Ok(None);
+    };
+    Ok(Some(Point {
+        manifest,
+        keys,
+        crl,
+    }))
 }

@@ -1,7 +1,6 @@
 use Rattle.std.proofs.Common.{◌≡◌}
-use Rattle.certs_key.specs.Digesting.{digests_of}
+use Rattle.rpki_signed.specs.certs_key.Digesting.{digests_of}
 use Rattle.objects_verify.specs.Content.{object_with}
-use Rattle.rpki_signed.specs.rpki_readings.Objects.{Object}
 use Rattle.rpki_signed.proofs.Sounding.{sound_not, sound_told}
 use Rattle.rpki_signed.proofs.objects.is_sound.Goals as goal
 
