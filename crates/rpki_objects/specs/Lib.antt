@@ -1,4 +1,5 @@
 pub mod Published
+pub mod Texts
 -- What stands below, for the crates above.
 pub use Rattle.rpki_signed.specs.certs_key as certs_key
 pub use Rattle.rpki_signed.specs.certs_specs as certs_specs

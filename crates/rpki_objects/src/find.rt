@@ -38,7 +38,7 @@ fn is_sound_at<D: Digester, V: Verifier>(
     if !is_issued_to_object(object.cert(), ca, index, digester, verifier) {
         return Ok(false);
     }
-    is_sound(alloc, &object.signed, digester, verifier)
+    is_sound(alloc, object.signed(), digester, verifier)
 }
 
 /// The object at a file of a point of the authority, if it is a route origin or provider attestation that is sound there,

@@ -5,11 +5,13 @@
 #![tactic(auto)]
 
 pub mod find;
+pub mod laws;
 pub mod published;
 pub mod readings;
 
 pub use find::find_object;
 pub use published::Published;
+pub use readings::object_at;
 pub use rpki_payloads::{Extension, Payload, extension_of};
 pub use rpki_points::Crl;
-pub use rpki_signed::{Cert, Digester, Index, Verifier};
+pub use rpki_signed::{Cert, Digester, Index, SignedObject, Verifier};

@@ -2,17 +2,18 @@
 
 ghost use Rattle.std.specs.Prelude.{◌≡◌};
 ghost use Rattle.rpki_objects.specs.rpki_payloads.Views.{payload_of};
+ghost use Rattle.rpki_objects.specs.rpki_rules.Attests.{OfAspa, OfRoa};
 
-use objects_kinds::SignedObject;
+use objects_kinds::{Aspa, Roa};
 use rpki_payloads::Payload;
-use rpki_signed::Cert;
+use rpki_signed::{Cert, SignedObject};
 use std::marker::Model;
 
 /// A signed object, and what it attests. Contracts see both.
 #[derive(Drop)]
 pub struct Published {
-    pub(crate) signed: SignedObject,
-    pub(crate) payload: Payload,
+    signed: SignedObject,
+    payload: Payload,
 }
 
 impl Model for Published {
@@ -24,7 +25,38 @@ impl Model for Published {
     ghost view = { λ p. record { object = p.signed; payload = payload_of p.payload } };
 }
 
+// Of what was read.
 impl Published {
+    // The route origin attestation, with what its content says (RFC 9582 3).
+    pub(crate) fn from_roa(roa: Roa) -> Self
+        ensures object { result.object ≡ roa.signed }
+        ensures payload { result.payload ≡ OfRoa roa.content }
+    {
+        let (signed, content) = roa.into_parts();
+        let payload = Payload::Roa(content);
+        Published { signed, payload }
+    }
+
+    // The provider attestation, with what its content says (draft-ietf-sidrops-aspa-profile 3).
+    pub(crate) fn from_aspa(aspa: Aspa) -> Self
+        ensures object { result.object ≡ aspa.signed }
+        ensures payload { result.payload ≡ OfAspa aspa.content }
+    {
+        let (signed, content) = aspa.into_parts();
+        let payload = Payload::Aspa(content);
+        Published { signed, payload }
+    }
+}
+
+/// The parts.
+impl Published {
+    /// The signed object.
+    pub fn signed(&self) -> &SignedObject
+        ensures { result.now ≡ self.now.object }
+    {
+        &self.signed
+    }
+
     /// The certificate with the signer's key (RFC 6488 2.1.4).
     pub fn cert(&self) -> &Cert
         ensures { result.now ≡ self.now.object.cert }

@@ -1,41 +1,55 @@
 //! What the object with a lookup key reads as, by the extension of its name (RFC 6481 2.2).
 
-ghost use Rattle.std.specs.Prelude.{◌≡◌, IfOk};
+ghost use Rattle.std.specs.Prelude.{IfOk};
 ghost use Rattle.rpki_objects.specs.rpki_readings.Certs.{Digests, Verdicts};
 ghost use Rattle.rpki_objects.specs.rpki_rules.World.{world_of};
 ghost use Rattle.rpki_objects.specs.Published.{FindsReading};
+ghost use Rattle.rpki_objects.specs.Texts.{FindsText};
 
 use crate::published::Published;
 use bcder::decode::DecodeError;
 use bytes::Bytes;
 use objects_kinds::{Aspa, Roa};
-use rpki_payloads::{Extension, Payload, extension_of};
+use rpki_payloads::{Extension, extension_of};
 use rpki_signed::Index;
 use std::alloc::{AllocError, Global};
 
 // The route origin attestation that those octets begin with, in DER.
-fn roa_in(alloc: Global, octets: &Bytes) -> Result<Option<Published>, AllocError> {
+fn roa_in(alloc: Global, octets: &Bytes) -> Result<Option<Published>, AllocError>
+    ensures { IfOk result (FindsText Extension.Roa octets.now) }
+{
     match Roa::decode(alloc, octets.clone()?, true) {
-        Ok(roa) => {
-            let (signed, content) = roa.into_parts();
-            let payload = Payload::Roa(content);
-            Ok(Some(Published { signed, payload }))
-        }
+        Ok(roa) => Ok(Some(Published::from_roa(roa))),
         Err(DecodeError::Content(_, _)) => Ok(None),
-        Err(_) => Err(AllocError),
+        Err(DecodeError::Source(never)) => match never {},
+        Err(DecodeError::Memory) => Err(AllocError),
     }
 }
 
 // The provider attestation that those octets begin with, in DER.
-fn aspa_in(alloc: Global, octets: &Bytes) -> Result<Option<Published>, AllocError> {
+fn aspa_in(alloc: Global, octets: &Bytes) -> Result<Option<Published>, AllocError>
+    ensures { IfOk result (FindsText Extension.Asa octets.now) }
+{
     match Aspa::decode(alloc, octets.clone()?, true) {
-        Ok(aspa) => {
-            let (signed, content) = aspa.into_parts();
-            let payload = Payload::Aspa(content);
-            Ok(Some(Published { signed, payload }))
-        }
+        Ok(aspa) => Ok(Some(Published::from_aspa(aspa))),
         Err(DecodeError::Content(_, _)) => Ok(None),
-        Err(_) => Err(AllocError),
+        Err(DecodeError::Source(never)) => match never {},
+        Err(DecodeError::Memory) => Err(AllocError),
+    }
+}
+
+// What those octets begin with, of a file with that extension.
+fn payload_in(
+    alloc: Global,
+    extension: Extension,
+    octets: &Bytes,
+) -> Result<Option<Published>, AllocError>
+    ensures { IfOk result (FindsText extension octets.now) }
+{
+    match extension {
+        Extension::Cer => Ok(None),
+        Extension::Roa => roa_in(alloc, octets),
+        Extension::Asa => aspa_in(alloc, octets),
     }
 }
 
@@ -50,5 +64,11 @@ pub fn object_at(
     ensures { IfOk result (λ found. (d : Digests) (v : Verdicts)
         → FindsReading (world_of d v index.now) key.now found) }
 {
-    Err(AllocError)
+    let Some(extension) = extension_of(key) else {
+        return Ok(None);
+    };
+    let Some(object) = index.object(key) else {
+        return Ok(None);
+    };
+    payload_in(alloc, extension, &object.octets)
 }

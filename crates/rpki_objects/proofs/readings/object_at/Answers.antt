@@ -1,0 +1,16 @@
+use Rattle.rpki_payloads.specs.declared.names.Extension.TheVariants as extension
+use Rattle.rpki_signed.specs.rpki_rules.World.{world_of}
+use Rattle.rpki_objects.specs.Texts.{FindsText}
+use Rattle.rpki_objects.proofs.Passing.{if_ok}
+use Rattle.rpki_objects.proofs.Reading.{no_extension, not_there, reading_told}
+use Rattle.rpki_objects.proofs.readings.object_at.Goals as goal
+
+pub returns-in_default : goal.returns-in_default
+returns-in_default c = λ d v o x t.
+    no_extension (world_of d v c.args.index.now) c.args.key.now c.extension_of.result c.in_default.is c.extension_of.ensures o x t
+
+pub returns : goal.returns
+returns c =
+    let octets = c.in-Some-object.object.now.octets in
+    if_ok (FindsText c.in-Some.extension octets) _ _ (λ r f d v.
+    reading_told d v c.args.index.now c.args.key.now octets c.in-Some.extension c.extension_of.result c.in-Some.is c.extension_of.ensures c.in-Some-object.ensures.found r f) c.payload_in.ensures
