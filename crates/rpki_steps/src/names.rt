@@ -1,0 +1,91 @@
+//! What locators and authorities name, by lookup keys (RFC 8630 2.2, RFC 9286 4.2).
+
+ghost use Rattle.std.specs.Prelude.{◌≡◌, ◌↔◌, IfOk, List, map, ℕ};
+ghost use Rattle.objects_locator.specs.Uris.{text_of};
+ghost use Rattle.rpki_authority.specs.rpki_readings.Certs.{Digests, Verdicts};
+ghost use Rattle.rpki_authority.specs.rpki_rules.Points.{files};
+ghost use Rattle.rpki_authority.specs.rpki_rules.Reach.{NamesFile};
+ghost use Rattle.rpki_authority.specs.rpki_rules.Words.{Mem};
+ghost use Rattle.rpki_authority.specs.rpki_rules.World.{world_of};
+ghost use Rattle.rpki_points.specs.certs_uri.Uris.{lookup_key as key_of};
+ghost use Rattle.rpki_reach.specs.Naming.{AreLocatorKeys, AreNamed};
+
+use bytes::Bytes;
+use certs_uri::grammar::lookup_key;
+use certs_verify::Cert;
+use objects_kinds::ManifestContent;
+use objects_locator::TalUri;
+use rpki_anchors::{Locator, read_locator_text};
+use rpki_points::files_of;
+use rpki_standing::manifest_at;
+use rpki_table::Index;
+use std::alloc::{AllocError, Global};
+
+// The lookup key of a URI.
+fn key_at(alloc: Global, uri: &[u8]) -> Result<Bytes, AllocError>
+    ensures { IfOk result (λ key. key ≡ key_of uri.now) }
+{
+    let key = lookup_key(alloc, uri)?;
+    match Bytes::from_vec(key) {
+        Ok(octets) => Ok(octets),
+        Err(_) => Err(AllocError),
+    }
+}
+
+// The lookup keys of URIs.
+fn keys_of(alloc: Global, uris: &[TalUri]) -> Result<Vec<Bytes>, AllocError>
+    ensures { IfOk result (λ keys. keys.items ≡ map key_of (map text_of uris.now)) }
+{
+    let mut keys = Vec::new(alloc);
+    for uri in uris {
+        let key = key_at(alloc, uri.as_str().as_bytes())?;
+        keys.push(key)?;
+    }
+    Ok(keys)
+}
+
+/// The lookup keys of the URIs that the locator names, in its order; nothing where its text is no locator's (RFC 8630 2.2).
+pub fn locator_keys(alloc: Global, locator: &Locator) -> Result<Option<Vec<Bytes>>, AllocError>
+    ensures { IfOk result (AreLocatorKeys locator.now) }
+{
+    let Some(tal) = read_locator_text(alloc, locator)? else {
+        return Ok(None);
+    };
+    let keys = keys_of(alloc, tal.uris())?;
+    Ok(Some(keys))
+}
+
+// The lookup keys of the authority's files by that manifest.
+fn keys_by(alloc: Global, ca: &Cert, manifest: &ManifestContent) -> Result<Vec<Bytes>, AllocError>
+    ensures { IfOk result (λ keys. keys.items ≡ files ca.now manifest.now) }
+{
+    match ca.tbs().ca_repository() {
+        Some(folder) => files_of(alloc, folder, manifest),
+        None => Ok(Vec::new(alloc)),
+    }
+}
+
+// The lookup keys of the files that a manifest lists which reads at the authority's manifest URI, whosever it is.
+fn listed_keys(alloc: Global, ca: &Cert, index: &Index<'_>) -> Result<Vec<Bytes>, AllocError>
+    ensures { IfOk result (λ keys. (d : Digests) (v : Verdicts) (key : List ℕ)
+        → Mem keys.items key ↔ NamesFile (world_of d v index.now) ca.now key) }
+{
+    match manifest_at(alloc, ca, index)? {
+        Some(manifest) => keys_by(alloc, ca, manifest.content()),
+        None => Ok(Vec::new(alloc)),
+    }
+}
+
+/// The lookup keys that the authority names: those of the files that a manifest lists which reads at its manifest URI, and
+/// that of the URI (RFC 9286 4.2).
+pub fn named_keys(alloc: Global, ca: &Cert, index: &Index<'_>) -> Result<Vec<Bytes>, AllocError>
+    ensures { IfOk result (λ keys. (d : Digests) (v : Verdicts)
+        → AreNamed (world_of d v index.now) ca.now keys.items) }
+{
+    let mut keys = listed_keys(alloc, ca, index)?;
+    let Some(uri) = ca.tbs().rpki_manifest() else {
+        return Ok(keys);
+    };
+    keys.push(key_at(alloc, uri.as_slice())?)?;
+    Ok(keys)
+}

@@ -1,0 +1,25 @@
+//! A bundle, of which one also asks what its locators and authorities name.
+
+use crate::authority::Authority;
+use crate::names::{locator_keys, named_keys};
+use crate::steps::BundleSteps;
+use bytes::Bytes;
+use certs_verify::{Digester, Verifier};
+use resources::ResourceSet;
+use rpki_reach::Naming;
+use std::alloc::{AllocError, Global};
+
+impl<'a, D: Digester, V: Verifier> Naming for BundleSteps<'a, D, V> {
+    fn locator_keys(&self, alloc: Global, at: usize) -> Result<Option<Vec<Bytes>>, AllocError> {
+        let locator = &self.index.locators()[at];
+        locator_keys(alloc, locator)
+    }
+
+    fn named_keys(&mut self, alloc: Global, ca: &Authority) -> Result<Vec<Bytes>, AllocError> {
+        named_keys(alloc, ca.verified().as_cert(), &self.index)
+    }
+
+    fn held(&self, ca: &Authority) -> Result<ResourceSet, AllocError> {
+        ca.held()
+    }
+}

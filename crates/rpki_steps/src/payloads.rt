@@ -1,0 +1,78 @@
+//! Files of a publication point that attest something (RFC 6481 2.2, RFC 6488 3, RFC 9582 5,
+//! draft-ietf-sidrops-aspa-profile 4).
+
+ghost use Rattle.std.specs.Prelude.{◌≡◌, ◌↔◌, ◌⊎◌, IfOk, IsTrue};
+ghost use Rattle.rpki_authority.specs.Holders.{cert_of, sets_of};
+ghost use Rattle.rpki_authority.specs.certs_key.Digesting.{digests_of};
+ghost use Rattle.rpki_authority.specs.rpki_rules.Attests.{IsCovered};
+ghost use Rattle.rpki_authority.specs.rpki_rules.Chains.{HasExtension, asa, roa};
+ghost use Rattle.rpki_authority.specs.rpki_rules.Kinds.{InSet};
+ghost use Rattle.rpki_authority.specs.rpki_rules.Points.{files};
+ghost use Rattle.rpki_authority.specs.rpki_rules.Words.{Mem};
+ghost use Rattle.rpki_authority.specs.rpki_rules.World.{world_of};
+ghost use Rattle.rpki_payloads.specs.Views.{payload_of};
+ghost use Rattle.rpki_steps.specs.Files.{IsFile};
+ghost use Rattle.rpki_steps.specs.Objects.{IsWithin};
+
+use crate::authority::Authority;
+use crate::claims::sets_below;
+use certs_verify::{Digester, ResourceCert, Verifier};
+use objects_covered::{covers_aspa, covers_roa};
+use rpki_authority::Filed;
+use rpki_objects::{Published, find_object};
+use rpki_payloads::Payload;
+use rpki_standing::Point;
+use rpki_step::Held;
+use rpki_table::Index;
+use std::alloc::{AllocError, Global};
+
+// Whether what is attested is in those sets: of a route origin attestation all prefixes, of a provider attestation the
+// customer.
+fn is_covered(payload: &Payload, held: &Held) -> bool
+    ensures { IsTrue result ↔ IsCovered (InSet held.now) (payload_of payload.now) }
+{
+    match payload {
+        Payload::Roa(content) => covers_roa(content, held.ipv4(), held.ipv6()),
+        Payload::Aspa(content) => covers_aspa(content, held.asn()),
+    }
+}
+
+// Whether the claim of the object's certificate fits in what the authority holds, and what it attests is held with it.
+fn is_within(alloc: Global, object: &Published, ca: &ResourceCert) -> Result<bool, AllocError>
+    ensures { IfOk result (λ yes. IsTrue yes ↔ IsWithin (InSet (sets_of ca.now)) object.now) }
+{
+    match sets_below(alloc, object.cert(), ca)? {
+        Some(held) => Ok(is_covered(object.payload(), &held)),
+        None => Ok(false),
+    }
+}
+
+/// What a file with the extension `roa` or `asa` is: an object that is good there, with what it attests; or else bad. The
+/// verifier is asked twice, at most.
+pub fn read_payload_file<D: Digester, V: Verifier>(
+    alloc: Global,
+    ca: &Authority,
+    point: &Point,
+    uri: &[u8],
+    index: &Index<'_>,
+    digester: &D,
+    verifier: &mut V,
+) -> Result<Filed<Authority, Payload>, AllocError>
+    ensures filed { IfOk result (λ filed. HasExtension roa uri.now ⊎ HasExtension asa uri.now
+        → Mem (files (cert_of ca.now) point.now.point.manifest) uri.now
+        → IsFile (world_of
+        (digests_of D.sha256_digest D.sha1_digest digester.now) (V.says verifier.old) index.now)
+        ca.now point.now.point uri.now filed) }
+    ensures same { V.says verifier.new ≡ V.says verifier.old }
+{
+    let ca = ca.verified();
+    let (cert, ee, crl) = (ca.as_cert(), point.manifest_cert(), point.crl());
+    let Some(object) = find_object(alloc, cert, ee, crl, uri, index, digester, verifier)? else {
+        return Ok(Filed::Bad);
+    };
+    if is_within(alloc, &object, ca)? {
+        Ok(Filed::Attests(object.into_payload()))
+    } else {
+        Ok(Filed::Bad)
+    }
+}

@@ -1,0 +1,126 @@
+//! A bundle, as the walk reads it.
+
+ghost use Rattle.std.specs.Prelude.{◌≡◌};
+ghost use Rattle.rpki_authority.specs.Holders.{cert_of, sets_of};
+ghost use Rattle.rpki_authority.specs.certs_key.Digesting.{digests_of};
+ghost use Rattle.rpki_authority.specs.rpki_rules.World.{world_of};
+ghost use Rattle.rpki_payloads.specs.Views.{payload_of};
+ghost use Rattle.rpki_steps.specs.Points.{point_of};
+
+use crate::anchors::read_locator;
+use crate::authority::Authority;
+use crate::files::read_file;
+use crate::points::read_point;
+use bytes::Bytes;
+use certs_verify::{Digester, Verifier};
+use rpki_payloads::{Origin, Payload, Provision};
+use rpki_standing::Point;
+use rpki_table::Index;
+use rpki_walk::{Filed, Leads, Steps};
+use std::alloc::{AllocError, Global};
+
+/// A bundle with a digester and a verifier: what the walk asks of it is read of its objects.
+#[derive(Drop)]
+pub struct BundleSteps<'a, D: Digester, V: Verifier> {
+    /// The bundle.
+    pub index: Index<'a>,
+    /// What digests are made by.
+    pub digester: &'a D,
+    /// What tells which signatures are good.
+    pub verifier: &'a mut V,
+}
+
+impl<'a, D: Digester, V: Verifier> BundleSteps<'a, D, V> {
+    /// The bundle, with that digester and that verifier.
+    pub fn new(index: Index<'a>, digester: &'a D, verifier: &'a mut V) -> Self
+        ensures index { result.index ≡ index.entry }
+        ensures digester { result.digester.now ≡ digester.now }
+        ensures verifier { result.verifier.now ≡ verifier.old }
+        ensures same_reference { result.verifier.ghost_name ≡ verifier.entry.ghost_name }
+    {
+        BundleSteps {
+            index,
+            digester,
+            verifier,
+        }
+    }
+}
+
+impl<'a, D: Digester, V: Verifier> Steps for BundleSteps<'a, D, V> {
+    type Authority = Authority;
+
+    type Point = Point;
+
+    type Payload = Payload;
+
+    ghost world = { λ s. world_of (digests_of D.sha256_digest D.sha1_digest s.digester.now)
+        (V.says s.verifier.now) s.index };
+
+    ghost lender = { λ s. s.verifier.ghost_name };
+
+    ghost cert = { cert_of };
+
+    ghost sets = { sets_of };
+
+    ghost point = { point_of };
+
+    ghost listed = { λ p. p.keys };
+
+    ghost payload = { payload_of };
+
+    fn depth(&self) -> usize {
+        usize::from(self.index.depth())
+    }
+
+    fn locator_count(&self) -> usize {
+        // So a chain may have an anchor.
+        let _ = self.index.depth();
+        self.index.locators().len()
+    }
+
+    fn locator_name(&self, at: usize) -> Result<Bytes, AllocError> {
+        self.index.locators()[at].name.clone()
+    }
+
+    fn read_locator(&mut self, alloc: Global, at: usize) -> Result<Leads<Authority>, AllocError> {
+        let locator = &self.index.locators()[at];
+        read_locator(alloc, locator, &self.index, self.digester, self.verifier)
+    }
+
+    fn key_identifier(&self, alloc: Global, ca: &Authority) -> Result<Bytes, AllocError> {
+        let key = ca.verified().as_cert().tbs().subject_key_identifier();
+        Bytes::copy_from_slice(alloc, key.as_slice())
+    }
+
+    fn read_point(&mut self, alloc: Global, ca: &Authority) -> Result<Option<Point>, AllocError> {
+        read_point(
+            alloc,
+            ca.verified(),
+            &self.index,
+            self.digester,
+            self.verifier,
+        )
+    }
+
+    fn uris<'p>(&self, _ca: &Authority, p: &'p Point) -> &'p [Bytes] {
+        p.files()
+    }
+
+    fn read_file(
+        &mut self,
+        alloc: Global,
+        ca: &Authority,
+        p: &Point,
+        uri: &[u8],
+    ) -> Result<Filed<Authority, Payload>, AllocError> {
+        read_file(alloc, ca, p, uri, &self.index, self.digester, self.verifier)
+    }
+
+    fn add_origins(&self, object: &Payload, out: &mut Vec<Origin>) -> Result<(), AllocError> {
+        object.add_origins(out)
+    }
+
+    fn add_provisions(&self, object: &Payload, out: &mut Vec<Provision>) -> Result<(), AllocError> {
+        object.add_provisions(out)
+    }
+}
