@@ -1,5 +1,6 @@
 -- What stands at a file of a publication point, of what the object there reads as.
-use Rattle.std.proofs.Common.{◌≡◌, ◌↔◌, ℕ, Bool, true, false, IsTrue, List, Option, Some, None, sym, subst}
+use Rattle.std.proofs.Common.{◌≡◌, ◌↔◌, ℕ, Bool, true, false, IsTrue, List, Option, Some, None, refl, sym, subst}
+use Rattle.std.specs.Bool.{then_some}
 use Rattle.rpki_signed.specs.rpki_readings.Certs.{Cert, Digests, Verdicts}
 use Rattle.rpki_signed.specs.Issued.{IsIssued}
 use Rattle.rpki_signed.specs.certs_specs.declared.Role.TheVariants.{Ee}
@@ -23,7 +24,7 @@ module _ (w : World) (ca : Cert) (p : Point) (uri : List ℕ) where
   }
 
   -- What it reads as is sound.
-  pub found_sound : Mem (files ca p.manifest) uri → (s : PublishedValue) → ReadsAt w uri s.object s.payload → IsSoundAt w ca p s.object → FindsObject w ca p uri (Some s)
+  found_sound : Mem (files ca p.manifest) uri → (s : PublishedValue) → ReadsAt w uri s.object s.payload → IsSoundAt w ca p s.object → FindsObject w ca p uri (Some s)
   found_sound listed s t k = record {
     listed = listed;
     octets = t.octets;
@@ -40,12 +41,21 @@ module _ (w : World) (ca : Cert) (p : Point) (uri : List ℕ) where
   found_none n = λ o x s. n o x (reading_of o x s)
 
   -- What it reads as isn't sound.
-  pub found_unsound : (o : Object) (x : Payload) → ReadsAt w uri o x → (IsSoundAt w ca p o → ⊥) → FindsObject w ca p uri None
+  found_unsound : (o : Object) (x : Payload) → ReadsAt w uri o x → (IsSoundAt w ca p o → ⊥) → FindsObject w ca p uri None
   found_unsound o x t n = λ q y s.
       n (subst (IsSoundAt w ca p) (one_reading w uri q o y x (reading_of q y s) t).0 (soundness_of q y s))
 
+-- What it reads as is handed over where it is sound.
+pub found_told : (w : World) (ca : Cert) (p : Point) (uri : List ℕ) → Mem (files ca p.manifest) uri → (s : PublishedValue) → ReadsAt w uri s.object s.payload → (b : Bool) → (IsTrue b ↔ IsSoundAt w ca p s.object)
+    → (r : Option PublishedValue) → r ≡ then_some b s → FindsObject w ca p uri r
+found_told w ca p uri listed s t b told r e = subst (FindsObject w ca p uri) (sym e) (by b told)
+  where
+    by : (b : Bool) → (IsTrue b ↔ IsSoundAt w ca p s.object) → FindsObject w ca p uri (then_some b s)
+    by true told = found_sound w ca p uri listed s t (told.0 refl)
+    by false told = found_unsound w ca p uri s.object s.payload t (λ k. let wrong : false ≡ true = told.1 k in absurd cc)
+
 -- A test turned down what it tells exactly.
-pub said_no : (b : Bool) (P : Type 0) → (IsTrue b ↔ P) → b ≡ false → P → ⊥
+said_no : (b : Bool) (P : Type 0) → (IsTrue b ↔ P) → b ≡ false → P → ⊥
 said_no b P told turned h = let is : b ≡ true = told.1 h in absurd cc
 
 -- Whether an object is sound, by the same verdicts and of the same object.

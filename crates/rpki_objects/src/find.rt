@@ -63,5 +63,9 @@ pub fn find_object<D: Digester, V: Verifier>(
     ensures same { V.says verifier.new ≡ V.says verifier.old }
     ensures asked { V.count verifier.new ≤ V.count verifier.old + 2 }
 {
-    Err(AllocError)
+    let Some(object) = object_at(alloc, key, index)? else {
+        return Ok(None);
+    };
+    let sound = is_sound_at(alloc, &object, ca, ee, crl, index, digester, verifier)?;
+    Ok(sound.then_some(object))
 }

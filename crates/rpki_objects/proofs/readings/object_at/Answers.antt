@@ -1,8 +1,7 @@
-use Rattle.rpki_payloads.specs.declared.names.Extension.TheVariants as extension
 use Rattle.rpki_signed.specs.rpki_rules.World.{world_of}
 use Rattle.rpki_objects.specs.Texts.{FindsText}
 use Rattle.rpki_objects.proofs.Passing.{if_ok}
-use Rattle.rpki_objects.proofs.Reading.{no_extension, not_there, reading_told}
+use Rattle.rpki_objects.proofs.Reading.{no_extension, reading_told}
 use Rattle.rpki_objects.proofs.readings.object_at.Goals as goal
 
 pub returns-in_default : goal.returns-in_default
