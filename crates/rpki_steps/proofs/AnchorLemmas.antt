@@ -1,5 +1,6 @@
 -- What a locator leads to, by the first object that is there.
-use Rattle.std.proofs.Common.{◌≡◌, ℕ, List, Option, Some, None, Result, Ok, Err, sym, subst}
+use Rattle.std.proofs.Common.{◌≡◌, ◌<◌, ℕ, List, [], length, get_or, Option, Some, None, Result, Ok, Err, sym, subst}
+use Rattle.std.proofs.lemmas.List.{get_or_read}
 use Rattle.std.specs.Prelude.{IfOk, String}
 use Rattle.std.specs.declared.alloc.Global.{Global}
 use Rattle.rpki_anchors.specs.Leads.{HoldsAt, HoldsNowhere, IsNoCert}
@@ -10,7 +11,8 @@ use Rattle.rpki_anchors.specs.rpki_bundle.declared.parts.Locator.{Locator}
 use Rattle.rpki_authority.specs.rpki_readings.Certs.{Cert, CertText, Key, one_cert}
 use Rattle.rpki_authority.specs.rpki_rules.Points.{IsAnchorCert, Link}
 use Rattle.rpki_authority.specs.rpki_rules.World.{World}
-use Rattle.rpki_authority.specs.rpki_walk.Filed.{HasListed, IsLed, LeadsTo}
+use Rattle.rpki_authority.specs.rpki_walk.Filed.{HasListed, IsLed, LeadsTo, locator_at}
+use Rattle.rpki_authority.specs.rpki_walk.declared.steps.Leads.{Leads}
 use Rattle.rpki_authority.specs.rpki_walk.declared.steps.Leads.TheVariants as To
 use Rattle.rpki_steps.specs.Anchors.{FindsAnchorIn, IsAnchorIn}
 
@@ -45,11 +47,30 @@ module _ (w : World) (l : Locator) where
     -- The object is no trust anchor's certificate.
     pub no_anchor : ((j : Key) (v p : List ℕ) → HoldsAt w l j v p → HoldsAt w l k u o → j ≡ k) → ((j : Key) (v p : List ℕ) → HoldsAt w l j v p → HoldsAt w l k u o → p ≡ o)
         → HoldsAt w l k u o → FindsAnchorIn w k o None → IsLed cert_of sets_of w l To.Nowhere
-    no_anchor keys octets h n = ((h.uris, k, h.reads), λ a b.
-        let g = lead_held w l a b in
-        n a.cert (subst (λ (t : List ℕ). CertText t a.cert) (octets b.key a.uri b.octets g h) b.cert) (subst (λ (j : Key). IsAnchorCert w j a.cert) (keys b.key a.uri b.octets g h) b.is_anchor))
+    no_anchor keys octets h n = (
+      (h.uris, k, h.reads),
+      λ a b.
+          let g = lead_held w l a b in
+          n a.cert (subst (λ (t : List ℕ). CertText t a.cert) (octets b.key a.uri b.octets g h) b.cert) (subst (λ (j : Key). IsAnchorCert w j a.cert) (keys b.key a.uri b.octets g h) b.is_anchor),
+    )
 
     -- The object is one.
-    pub is_anchor : (uri : List ℕ) (r : ResourceCertValue) → uri ≡ u → HoldsAt w l k u o → IsAnchorIn w k o r → IsLed cert_of sets_of w l (To.Anchor uri r)
-    is_anchor uri r e h a = subst (λ (v : List ℕ). IsLed cert_of sets_of w l (To.Anchor v r)) (sym e)
-        (record { uris = h.uris; key = k; reads = h.reads; octets = o; held = h.held; cert = a.reads; is_anchor = a.anchor }, a.holds)
+    pub is_anchor : (uri : List ℕ) (r s : ResourceCertValue) → uri ≡ u → s ≡ r → HoldsAt w l k u o → IsAnchorIn w k o r → IsLed cert_of sets_of w l (To.Anchor uri s)
+    is_anchor uri r s e same h a = subst (λ (v : List ℕ). IsLed cert_of sets_of w l (To.Anchor v s)) (sym e) (subst (λ (x : ResourceCertValue). IsLed cert_of sets_of w l (To.Anchor u x)) (sym same)
+        (record { uris = h.uris; key = k; reads = h.reads; octets = o; held = h.held; cert = a.reads; is_anchor = a.anchor }, a.holds))
+
+    -- It leads to the object.
+    pub held_led : {E : Type 0} (r : Result (Leads ResourceCertValue) E) → HoldsAt w l k u o → IfOk r (λ led. HoldsAt w l k u o → IsLed cert_of sets_of w l led) → IfOk r (IsLed cert_of sets_of w l)
+    held_led (Ok led) h f = f h
+    held_led (Err e) h f = tt
+
+-- The locator at a place.
+pub locator_there : (w : World) (at : ℕ) (ls : List Locator) (l : Locator) → ls ≡ w.locators → at < length w.locators → l ≡ get_or ls at l → l ≡ locator_at w at
+locator_there w at ls l same inside is =
+    let none : Locator = record { name = []; text = [] } in
+    let here : l ≡ get_or w.locators at l = subst (λ (xs : List Locator). l ≡ get_or xs at l) same is in
+    get_or_read w.locators at l inside here none
+
+pub place_led : {E : Type 0} (w : World) (at : ℕ) (ls : List Locator) (l : Locator) (r : Result (Leads ResourceCertValue) E) → ls ≡ w.locators → at < length w.locators → l ≡ get_or ls at l
+    → IfOk r (IsLed cert_of sets_of w l) → IfOk r (IsLed cert_of sets_of w (locator_at w at))
+place_led w at ls l r same inside is h = subst (λ (x : Locator). IfOk r (IsLed cert_of sets_of w x)) (locator_there w at ls l same inside is) h

@@ -39,8 +39,8 @@ module _ (w : World) (ca : ResourceCertValue) (p : Point) (uri : List ℕ) where
     not_below h t b n = no_child h t b (λ k. n (child_below w (InSet (sets_of ca)) (cert_of ca) p c k))
 
     -- It is.
-    pub below : (r : ResourceCertValue) → HasExtension cer uri → CertAt w uri c → Unrevoked p c → IsFoundBelow w Ca ca c r → IsFile w ca p uri (Is.Child r)
-    below r h t u f = (
+    pub below : (r s : ResourceCertValue) → s ≡ r → HasExtension cer uri → CertAt w uri c → Unrevoked p c → IsFoundBelow w Ca ca c r → IsFile w ca p uri (Is.Child s)
+    below r s e h t u f = subst (λ (y : ResourceCertValue). IsFile w ca p uri (Is.Child y)) (sym e) (
       subst (λ (x : Cert). IsIssued w (InSet (sets_of ca)) (cert_of ca) p uri x) (sym f.same) (record { extension = h; reads = t; child = child_of w (InSet (sets_of ca)) (cert_of ca) p c f.below u }),
       subst (λ (x : Cert). HasKept (InSet (sets_of ca)) x (sets_of r)) (sym f.same) f.holds,
     )

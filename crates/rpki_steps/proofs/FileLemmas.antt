@@ -1,11 +1,19 @@
 -- Files by their extensions.
-use Rattle.std.proofs.Common.{◌≡◌, ◌⊎◌, inl, inr, ℕ, List, Option, Some, None, refl}
-use Rattle.std.specs.Prelude.{◌↔◌}
+use Rattle.std.proofs.Common.{◌≡◌, ◌≢◌, ◌∙◌, ◌⊎◌, inl, inr, ℕ, Bool, false, true, not, List, Option, Some, None, Result, Ok, Err, refl, sym, ap}
+use Rattle.std.proofs.Math.Bool.{beq}
+use Rattle.std.specs.Option.{option_eq}
+use Rattle.std.specs.Prelude.{◌↔◌, IfOk, IsTrue}
 use Rattle.rpki_authority.specs.certs_verify.Holders.{ResourceCertValue}
-use Rattle.rpki_authority.specs.rpki_rules.Chains.{HasExtension, asa, cer, roa}
+use Rattle.rpki_authority.specs.rpki_readings.Certs.{Cert}
+use Rattle.rpki_authority.specs.rpki_rules.Chains.{CertAt, HasExtension, asa, cer, roa}
+use Rattle.rpki_authority.specs.rpki_rules.Points.{files}
+use Rattle.rpki_authority.specs.rpki_rules.Words.{Mem}
 use Rattle.rpki_authority.specs.rpki_rules.Points.{Point}
 use Rattle.rpki_authority.specs.rpki_rules.World.{World}
+use Rattle.rpki_authority.specs.Holders.{cert_of}
+use Rattle.rpki_authority.specs.rpki_walk.declared.steps.Filed.{Filed}
 use Rattle.rpki_authority.specs.rpki_walk.declared.steps.Filed.TheVariants as Is
+use Rattle.rpki_payloads.specs.declared.payload.Payload.{Payload}
 use Rattle.rpki_payloads.specs.Names.{letters}
 use Rattle.rpki_payloads.specs.declared.names.Extension.{Extension}
 use Rattle.rpki_payloads.specs.declared.names.Extension.TheVariants as extension
@@ -25,3 +33,41 @@ no_extension w ca p uri h = record { no_payload = none; no_authority = inl (has_
     none : ¬ (HasExtension roa uri ⊎ HasExtension asa uri)
     none (inl r) = has_none uri h extension.Roa r
     none (inr a) = has_none uri h extension.Asa a
+
+-- A test that fails.
+pub is_not : (b : Bool) (P : Type 0) → b ≡ false → IsTrue b ↔ P → ¬ P
+is_not b P e h p = let t : b ≡ true = h.1 p in absurd cc
+
+-- Whether an option is `Some true`, as it is compared.
+is_some_true : (o : Option Bool) → false ≡ not (option_eq beq o (Some true)) → o ≡ Some true
+is_some_true None e = absurd cc
+is_some_true (Some false) e = absurd cc
+is_some_true (Some true) e = refl
+
+not_some_true : (o : Option Bool) → true ≡ not (option_eq beq o (Some true)) → o ≢ Some true
+not_some_true None e = λ s. absurd cc
+not_some_true (Some false) e = λ s. let f : false ≡ true = cc in absurd cc
+not_some_true (Some true) e = absurd cc
+
+module _ (b : Bool) (o : Option Bool) (is : b ≡ not (option_eq beq o (Some true))) where
+  pub is_true : b ≡ false → o ≡ Some true
+  is_true e = is_some_true o (sym e ∙ is)
+
+  pub isnt_true : b ≡ true → o ≢ Some true
+  isnt_true e = not_some_true o (sym e ∙ is)
+
+-- What is said of a file under its condition.
+module _ {E : Type 0} (w : World) (ca : ResourceCertValue) (p : Point) (uri : List ℕ) where
+  pub told_at : (c : Cert) (r : Result (Filed ResourceCertValue Payload) E) → c.tbs.basic_ca ≡ Some true → CertAt w uri c
+      → IfOk r (λ filed. c.tbs.basic_ca ≡ Some true → (u : List ℕ) → HasExtension cer u → CertAt w u c → IsFile w ca p u filed) → IfOk r (λ filed. HasExtension cer uri → IsFile w ca p uri filed)
+  told_at c (Ok filed) b t h = λ x. h b uri x t
+  told_at c (Err e) b t h = tt
+
+  pub as_cert_file : (r : Result (Filed ResourceCertValue Payload) E) → HasExtension cer uri → IfOk r (λ filed. HasExtension cer uri → IsFile w ca p uri filed) → IfOk r (λ filed. Mem (files (cert_of ca) p.manifest) uri → IsFile w ca p uri filed)
+  as_cert_file (Ok filed) x h = λ l. h x
+  as_cert_file (Err e) x h = tt
+
+  pub as_payload_file : (r : Result (Filed ResourceCertValue Payload) E) → HasExtension roa uri ⊎ HasExtension asa uri
+      → IfOk r (λ filed. HasExtension roa uri ⊎ HasExtension asa uri → Mem (files (cert_of ca) p.manifest) uri → IsFile w ca p uri filed) → IfOk r (λ filed. Mem (files (cert_of ca) p.manifest) uri → IsFile w ca p uri filed)
+  as_payload_file (Ok filed) x h = h x
+  as_payload_file (Err e) x h = tt

@@ -1,13 +1,14 @@
 -- What authorities name.
-use Rattle.std.proofs.Common.{◌≡◌, ◌⊎◌, inl, inr, ℕ, List, [], ◌∷◌, ◌++◌, Option, Some, None, sym, ap, subst, ◌∙◌}
-use Rattle.std.specs.Prelude.{◌↔◌}
+use Rattle.std.proofs.Common.{◌≡◌, ◌⊎◌, inl, inr, ℕ, List, [], ◌∷◌, ◌++◌, Vec, Global, Some, None, Result, Ok, Err, sym, ap, subst, ◌∙◌}
+use Rattle.std.specs.Prelude.{◌↔◌, IfOk}
 use Rattle.objects_kinds.specs.Kinds.{KindValue}
-use Rattle.rpki_authority.specs.rpki_readings.Certs.{Cert}
+use Rattle.rpki_authority.specs.rpki_readings.Certs.{Cert, Digests, Verdicts}
+use Rattle.rpki_anchors.specs.rpki_bundle.Bundle.{BundleValue}
 use Rattle.rpki_authority.specs.rpki_readings.Objects.{Manifest, ManifestText, one_manifest}
 use Rattle.rpki_authority.specs.rpki_rules.Points.{files}
 use Rattle.rpki_authority.specs.rpki_rules.Reach.{Names, NamesFile}
 use Rattle.rpki_authority.specs.rpki_rules.Words.{Mem}
-use Rattle.rpki_authority.specs.rpki_rules.World.{World, at}
+use Rattle.rpki_authority.specs.rpki_rules.World.{World, at, world_of}
 use Rattle.rpki_points.specs.Crls.{Finds}
 use Rattle.rpki_points.specs.certs_uri.Uris.{lookup_key}
 use Rattle.rpki_reach.specs.Naming.{AreNamed}
@@ -73,3 +74,13 @@ module _ (w : World) (ca : Cert) where
       | inr f ↦ (listed key).1 f
     ],
   )
+
+pub listed_told : {E : Type 0} (b : BundleValue) (ca : Cert) (k : KindValue Manifest) (m : Manifest) (r : Result (Vec (List ℕ) Global) E) → m ≡ k.content → ((d : Digests) (v : Verdicts) → IsReadAt (world_of d v b) ca k)
+    → IfOk r (λ keys. keys.items ≡ files ca m) → IfOk r (λ keys. (d : Digests) (v : Verdicts) (key : List ℕ) → Mem keys.items key ↔ NamesFile (world_of d v b) ca key)
+listed_told b ca k m (Ok keys) e reads is = λ d v. listed_by (world_of d v b) ca k keys.items (reads d v) (is ∙ ap (files ca) e)
+listed_told b ca k m (Err x) e reads is = tt
+
+pub named_told : {E : Type 0} (b : BundleValue) (d : Digests) (v : Verdicts) (ca : Cert) (r : Result (Vec (List ℕ) Global) E)
+    → IfOk r (λ keys. (d : Digests) (v : Verdicts) → AreNamed (world_of d v b) ca keys.items) → IfOk r (λ keys. AreNamed (world_of d v b) ca keys.items)
+named_told b d v ca (Ok keys) h = h d v
+named_told b d v ca (Err x) h = tt

@@ -1,6 +1,6 @@
 -- Files of a publication point that attest something.
-use Rattle.std.proofs.Common.{◌≡◌, ◌⊎◌, inl, inr, ℕ, List, [], ◌∷◌, Some, None, sym, subst}
-use Rattle.std.specs.Prelude.{◌↔◌}
+use Rattle.std.proofs.Common.{◌≡◌, ◌⊎◌, inl, inr, ℕ, Bool, List, [], ◌∷◌, Some, None, sym, subst}
+use Rattle.std.specs.Prelude.{◌↔◌, IsTrue}
 use Rattle.rpki_authority.specs.Holders.{cert_of, sets_of}
 use Rattle.rpki_authority.specs.certs_verify.Holders.{ResourceCertValue}
 use Rattle.rpki_authority.specs.resources_set.Resources.{Resources}
@@ -42,6 +42,13 @@ module _ (held : Kind → ℕ → Type 0) (x : PublishedValue) where
     λ h. covered_by (HoldsWith held x.object.cert) (InSet sets) x.payload (λ k n. ((f.1 k).same n).1) h.covered,
   )
 
+  -- The same, as it is told.
+  pub within_told : (b : Bool) (cert : Cert) (y : Payload) (sets : Resources) → cert ≡ x.object.cert → y ≡ x.payload → FindsSets held cert (Some sets) → IsTrue b ↔ IsCovered (InSet sets) y → IsTrue b ↔ IsWithin held x
+  within_told b cert y sets c e f t =
+      let h = within sets (subst (λ (z : Cert). FindsSets held z (Some sets)) c f) in
+      let k = subst (λ (z : Payload). IsTrue b ↔ IsCovered (InSet sets) z) e t in
+      (λ i. h.0 (k.0 i), λ i. k.1 (h.1 i))
+
 module _ (w : World) (ca : ResourceCertValue) (p : Point) (uri : List ℕ) where
   -- No object is sound there.
   pub no_object : HasExtension roa uri ⊎ HasExtension asa uri → FindsObject w (cert_of ca) p uri None → IsFile w ca p uri Is.Bad
@@ -50,13 +57,16 @@ module _ (w : World) (ca : ResourceCertValue) (p : Point) (uri : List ℕ) where
   module _ (s : PublishedValue) where
     -- The object that is sound there isn't within what is held.
     pub not_within : HasExtension roa uri ⊎ HasExtension asa uri → IsSigned w (cert_of ca) p uri s.object s.payload → ¬ (IsWithin (InSet (sets_of ca)) s) → IsFile w ca p uri Is.Bad
-    not_within e is n = inr (record { extension = e; none = λ x g.
-        let same = one_signed w (cert_of ca) p uri g.object s.object x s.payload g.is_signed is in
-        n (record {
-          fits = subst (λ (o : Object). Fits (InSet (sets_of ca)) o.cert) same.0 g.fits;
-          covered = subst (λ (y : Payload). IsCovered (HoldsWith (InSet (sets_of ca)) s.object.cert) y) same.1
-              (subst (λ (o : Object). IsCovered (HoldsWith (InSet (sets_of ca)) o.cert) x) same.0 g.covered);
-        }) })
+    not_within e is n = inr (record {
+      extension = e;
+      none = λ x g.
+          let same = one_signed w (cert_of ca) p uri g.object s.object x s.payload g.is_signed is in
+          n (record {
+            fits = subst (λ (o : Object). Fits (InSet (sets_of ca)) o.cert) same.0 g.fits;
+            covered = subst (λ (y : Payload). IsCovered (HoldsWith (InSet (sets_of ca)) s.object.cert) y) same.1
+                (subst (λ (o : Object). IsCovered (HoldsWith (InSet (sets_of ca)) o.cert) x) same.0 g.covered);
+          });
+    })
 
     -- It is.
     pub good : (content : CodePayload) → payload_of content ≡ s.payload → IsSigned w (cert_of ca) p uri s.object s.payload → IsWithin (InSet (sets_of ca)) s → IsFile w ca p uri (Is.Attests content)

@@ -42,11 +42,7 @@ pub fn fits_below(alloc: Global, cert: &Cert, ca: &ResourceCert) -> bool
 }
 
 /// What the certificate holds below the authority, or nothing where its claim doesn't fit.
-pub fn sets_below(
-    alloc: Global,
-    cert: &Cert,
-    ca: &ResourceCert,
-) -> Result<Option<Held>, AllocError>
+pub fn sets_below(alloc: Global, cert: &Cert, ca: &ResourceCert) -> Result<Option<Held>, AllocError>
     ensures { IfOk result (FindsSets (InSet (sets_of ca.now)) cert.now) }
 {
     held_below(alloc, &holding_of(ca), &claim_of(cert))

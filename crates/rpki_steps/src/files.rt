@@ -38,7 +38,10 @@ pub fn read_file<D: Digester, V: Verifier>(
 {
     match extension_of(uri) {
         Some(Extension::Cer) => read_cert_file(alloc, ca, point, uri, index, digester, verifier),
-        Some(Extension::Roa | Extension::Asa) => {
+        Some(Extension::Roa) => {
+            read_payload_file(alloc, ca, point, uri, index, digester, verifier)
+        }
+        Some(Extension::Asa) => {
             read_payload_file(alloc, ca, point, uri, index, digester, verifier)
         }
         None => Ok(Filed::Nothing),

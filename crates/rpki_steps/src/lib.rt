@@ -1,11 +1,23 @@
 //! What the walk asks of a bundle, answered of its objects: what a locator leads to (RFC 8630 3), what stands at an
-//! authority's publication point (RFC 9286 6), and what a file there is (RFC 6481 2.2).
+//! authority's publication point (RFC 9286 6), what a file there is (RFC 6481 2.2), and what locators and authorities name.
 #![tactic(auto)]
 
 pub mod anchors;
 pub mod authority;
+pub mod certs;
 pub mod claims;
+pub mod files;
+pub mod names;
+pub mod naming;
+pub mod payloads;
+pub mod points;
+pub mod steps;
 pub mod whole;
 
 pub use anchors::read_locator;
 pub use authority::Authority;
+pub use files::read_file;
+pub use names::{locator_keys, named_keys};
+pub use points::read_point;
+pub use rpki_table::Index;
+pub use steps::BundleSteps;

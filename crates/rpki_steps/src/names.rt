@@ -17,7 +17,7 @@ use objects_kinds::ManifestContent;
 use objects_locator::TalUri;
 use rpki_anchors::{Locator, read_locator_text};
 use rpki_points::files_of;
-use rpki_standing::manifests::manifest_at;
+use rpki_standing::manifest_at;
 use rpki_table::Index;
 use std::alloc::{AllocError, Global};
 
@@ -56,11 +56,7 @@ pub fn locator_keys(alloc: Global, locator: &Locator) -> Result<Option<Vec<Bytes
 }
 
 // The lookup keys of the authority's files by that manifest.
-fn keys_by(
-    alloc: Global,
-    ca: &Cert,
-    manifest: &ManifestContent,
-) -> Result<Vec<Bytes>, AllocError>
+fn keys_by(alloc: Global, ca: &Cert, manifest: &ManifestContent) -> Result<Vec<Bytes>, AllocError>
     ensures { IfOk result (λ keys. keys.items ≡ files ca.now manifest.now) }
 {
     match ca.tbs().ca_repository() {
@@ -87,8 +83,9 @@ pub fn named_keys(alloc: Global, ca: &Cert, index: &Index<'_>) -> Result<Vec<Byt
         → AreNamed (world_of d v index.now) ca.now keys.items) }
 {
     let mut keys = listed_keys(alloc, ca, index)?;
-    if let Some(uri) = ca.tbs().rpki_manifest() {
-        keys.push(uri.lookup_key(alloc)?)?;
-    }
+    let Some(uri) = ca.tbs().rpki_manifest() else {
+        return Ok(keys);
+    };
+    keys.push(key_at(alloc, uri.as_slice())?)?;
     Ok(keys)
 }

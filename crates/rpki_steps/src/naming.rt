@@ -11,7 +11,8 @@ use std::alloc::{AllocError, Global};
 
 impl<'a, D: Digester, V: Verifier> Naming for BundleSteps<'a, D, V> {
     fn locator_keys(&self, alloc: Global, at: usize) -> Result<Option<Vec<Bytes>>, AllocError> {
-        locator_keys(alloc, &self.index.locators()[at])
+        let locator = &self.index.locators()[at];
+        locator_keys(alloc, locator)
     }
 
     fn named_keys(&mut self, alloc: Global, ca: &Authority) -> Result<Vec<Bytes>, AllocError> {

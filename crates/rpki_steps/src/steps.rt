@@ -13,13 +13,14 @@ use crate::files::read_file;
 use crate::points::read_point;
 use bytes::Bytes;
 use certs_verify::{Digester, Verifier};
-use rpki_authority::{Filed, Leads, Steps};
 use rpki_payloads::{Origin, Payload, Provision};
 use rpki_standing::Point;
 use rpki_table::Index;
+use rpki_walk::{Filed, Leads, Steps};
 use std::alloc::{AllocError, Global};
 
 /// A bundle with a digester and a verifier: what the walk asks of it is read of its objects.
+#[derive(Drop)]
 pub struct BundleSteps<'a, D: Digester, V: Verifier> {
     /// The bundle.
     pub index: Index<'a>,
@@ -72,6 +73,8 @@ impl<'a, D: Digester, V: Verifier> Steps for BundleSteps<'a, D, V> {
     }
 
     fn locator_count(&self) -> usize {
+        // So a chain may have an anchor.
+        let _ = self.index.depth();
         self.index.locators().len()
     }
 
@@ -79,11 +82,7 @@ impl<'a, D: Digester, V: Verifier> Steps for BundleSteps<'a, D, V> {
         self.index.locators()[at].name.clone()
     }
 
-    fn read_locator(
-        &mut self,
-        alloc: Global,
-        at: usize,
-    ) -> Result<Leads<Authority>, AllocError> {
+    fn read_locator(&mut self, alloc: Global, at: usize) -> Result<Leads<Authority>, AllocError> {
         let locator = &self.index.locators()[at];
         read_locator(alloc, locator, &self.index, self.digester, self.verifier)
     }
@@ -93,12 +92,14 @@ impl<'a, D: Digester, V: Verifier> Steps for BundleSteps<'a, D, V> {
         Bytes::copy_from_slice(alloc, key.as_slice())
     }
 
-    fn read_point(
-        &mut self,
-        alloc: Global,
-        ca: &Authority,
-    ) -> Result<Option<Point>, AllocError> {
-        read_point(alloc, ca.verified(), &self.index, self.digester, self.verifier)
+    fn read_point(&mut self, alloc: Global, ca: &Authority) -> Result<Option<Point>, AllocError> {
+        read_point(
+            alloc,
+            ca.verified(),
+            &self.index,
+            self.digester,
+            self.verifier,
+        )
     }
 
     fn uris<'p>(&self, _ca: &Authority, p: &'p Point) -> &'p [Bytes] {

@@ -1,0 +1,23 @@
+use Rattle.rpki_authority.specs.certs_key.Digesting.{digests_of}
+use Rattle.rpki_authority.specs.rpki_rules.World.{world_of}
+use Rattle.rpki_steps.proofs.AnchorLemmas.{held_led, nowhere}
+use Rattle.rpki_steps.proofs.anchors.read_locator.Goals as goal
+
+pub returns-in-Unreadable-clause-led : goal.returns-in-Unreadable-clause-led
+returns-in-Unreadable-clause-led g c =
+    let d = digests_of g.D.Digester.sha256_digest g.D.Digester.sha1_digest c.args.digester.now in
+    rw c.in-Unreadable.is at (c.in_ok-follow.ensures.lead d (g.V.Verifier.says c.args.verifier.now))
+
+pub returns-in-Nowhere-clause-led : goal.returns-in-Nowhere-clause-led
+returns-in-Nowhere-clause-led g c =
+    let d = digests_of g.D.Digester.sha256_digest g.D.Digester.sha1_digest c.args.digester.now in
+    let w = world_of d (g.V.Verifier.says c.args.verifier.now) c.args.index.now in
+    let v = g.V.Verifier.says c.args.verifier.now in
+    nowhere w c.args.locator.now (λ k u o. c.no_lead.ensures.nowhere w c.args.locator.now k u o) (rw c.in-Nowhere.is at (c.in_ok-follow.ensures.lead d v))
+
+pub returns-in-Held-clause-led : goal.returns-in-Held-clause-led
+returns-in-Held-clause-led g c =
+    let d = digests_of g.D.Digester.sha256_digest g.D.Digester.sha1_digest c.args.digester.now in
+    let w = world_of d (g.V.Verifier.says c.args.verifier.now) c.args.index.now in
+    let v = g.V.Verifier.says c.args.verifier.now in
+    held_led w c.args.locator.now c.in-Held.tal.key c.in-Held.object.now.uri c.in-Held.object.now.octets c.lead_to.result (rw c.in-Held.is at (c.in_ok-follow.ensures.lead d v)) c.lead_to.ensures.led

@@ -1,0 +1,6 @@
+use Rattle.rpki_authority.specs.Holders.{sets_of}
+use Rattle.rpki_steps.proofs.ClaimLemmas.{fits_told}
+use Rattle.rpki_steps.proofs.claims.fits_below.Goals as goal
+
+pub returns : goal.returns
+returns c = fits_told c.args.cert.now (sets_of c.args.ca.now) c.claim_of.result c.holding_of.result c.claim_of.ensures c.holding_of.ensures c.claim_fits.result c.claim_fits.ensures

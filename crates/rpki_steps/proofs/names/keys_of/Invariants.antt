@@ -1,0 +1,7 @@
+use Rattle.std.proofs.Common.{◌≡◌, map, take}
+use Rattle.objects_locator.specs.Uris.{text_of}
+use Rattle.rpki_points.specs.certs_uri.Uris.{lookup_key}
+use Rattle.rpki_steps.proofs.names.keys_of.Given as goal
+
+abbrev pub invariant-loop-uri : goal.invariant-loop-uri
+invariant-loop-uri l = l.keys.items ≡ map lookup_key (map text_of (take l.uri-index l.uris))
