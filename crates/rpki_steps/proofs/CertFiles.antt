@@ -1,8 +1,8 @@
 -- Files of a publication point that are certificates.
-use Rattle.std.proofs.Common.{◌≡◌, ◌≢◌, ◌⊎◌, inl, inr, ℕ, true, List, Some, None, sym, subst}
+use Rattle.std.proofs.Common.{◌≡◌, ◌≢◌, inl, inr, ℕ, true, List, Some, None, sym, subst}
 use Rattle.rpki_anchors.specs.Leads.{NoCertAt}
 use Rattle.rpki_authority.proofs.Children.{child_below, child_of}
-use Rattle.rpki_authority.specs.Below.{FindsBelow, IsBelow, IsFoundBelow}
+use Rattle.rpki_authority.specs.Below.{FindsBelow, IsFoundBelow}
 use Rattle.rpki_authority.specs.Holders.{cert_of, sets_of}
 use Rattle.rpki_authority.specs.certs_specs.declared.Role.TheVariants.{Ca}
 use Rattle.rpki_authority.specs.certs_verify.Holders.{ResourceCertValue}

@@ -1,10 +1,10 @@
 -- Claims kind by kind.
-use Rattle.std.proofs.Common.{◌≡◌, ℕ, Bool, Option, Some, None, Result, Ok, Err, subst}
+use Rattle.std.proofs.Common.{◌≡◌, Bool, Option, Some, None, Result, Ok, Err, subst}
 use Rattle.std.specs.Prelude.{◌↔◌, IfOk, IsTrue}
 use Rattle.rpki_authority.specs.resources_set.Resources.{Resources}
 use Rattle.rpki_authority.specs.rpki_readings.Certs.{Cert}
 use Rattle.rpki_authority.specs.rpki_rules.Chains.{Fits}
-use Rattle.rpki_authority.specs.rpki_rules.Kinds.{Kind, Ipv4, Ipv6, As, InSet}
+use Rattle.rpki_authority.specs.rpki_rules.Kinds.{Ipv4, Ipv6, As, InSet}
 use Rattle.rpki_authority.specs.rpki_walk.Filed.{HasKept}
 use Rattle.rpki_step.specs.Claimed.{ClaimValue}
 use Rattle.rpki_step.specs.Steps.{AreKept, FindsHeld, FitsAll}

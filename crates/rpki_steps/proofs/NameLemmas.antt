@@ -6,10 +6,9 @@ use Rattle.rpki_authority.specs.rpki_readings.Certs.{Cert, Digests, Verdicts}
 use Rattle.rpki_anchors.specs.rpki_bundle.Bundle.{BundleValue}
 use Rattle.rpki_authority.specs.rpki_readings.Objects.{Manifest, ManifestText, one_manifest}
 use Rattle.rpki_authority.specs.rpki_rules.Points.{files}
-use Rattle.rpki_authority.specs.rpki_rules.Reach.{Names, NamesFile}
+use Rattle.rpki_authority.specs.rpki_rules.Reach.{NamesFile}
 use Rattle.rpki_authority.specs.rpki_rules.Words.{Mem}
 use Rattle.rpki_authority.specs.rpki_rules.World.{World, at, world_of}
-use Rattle.rpki_points.specs.Crls.{Finds}
 use Rattle.rpki_points.specs.certs_uri.Uris.{lookup_key}
 use Rattle.rpki_reach.specs.Naming.{AreNamed}
 use Rattle.rpki_standing.specs.Manifests.{IsReadAt}

@@ -1,5 +1,5 @@
 -- Files of a publication point that attest something.
-use Rattle.std.proofs.Common.{◌≡◌, ◌⊎◌, inl, inr, ℕ, Bool, List, [], ◌∷◌, Some, None, sym, subst}
+use Rattle.std.proofs.Common.{◌≡◌, ◌⊎◌, inr, ℕ, Bool, List, [], ◌∷◌, Some, None, sym, subst}
 use Rattle.std.specs.Prelude.{◌↔◌, IsTrue}
 use Rattle.rpki_authority.specs.Holders.{cert_of, sets_of}
 use Rattle.rpki_authority.specs.certs_verify.Holders.{ResourceCertValue}
@@ -11,7 +11,6 @@ use Rattle.rpki_authority.specs.rpki_rules.Chains.{Fits, HasExtension, asa, roa}
 use Rattle.rpki_authority.specs.rpki_rules.Kinds.{As, InSet, Ipv4, Ipv6, Kind}
 use Rattle.rpki_authority.specs.rpki_rules.Points.{Point}
 use Rattle.rpki_authority.specs.rpki_rules.World.{World}
-use Rattle.rpki_authority.specs.rpki_walk.Filed.{HasKept}
 use Rattle.rpki_authority.specs.rpki_walk.declared.steps.Filed.TheVariants as Is
 use Rattle.rpki_objects.specs.Published.{FindsObject, PublishedValue}
 use Rattle.rpki_payloads.specs.Views.{payload_of}
