@@ -56,7 +56,7 @@ fn judged(
 ) -> Result<Answer, AllocError> {
     let mut verifier = TableVerifier::new(bundle, &Fips);
     let judgement = judge(alloc, bundle, witness, &Fips, &mut verifier)?;
-    let text = texts::judgement(alloc, judgement, json)?;
+    let text = texts::judgement_text(alloc, judgement, json)?;
     Ok(Answer {
         text,
         yes: judgement.yes,
@@ -80,7 +80,7 @@ fn reached(
         Reach::Locator => true,
         Reach::Held(set) => !set.is_empty(),
     };
-    let text = texts::reach(alloc, &found, json)?;
+    let text = texts::reach_text(alloc, &found, json)?;
     Ok(Answer { text, yes })
 }
 
@@ -115,13 +115,13 @@ fn told(alloc: Global, bundle: &Bundle, uri: &str, json: bool) -> Result<Answer,
     let mut verifier = TableVerifier::new(bundle, &Fips);
     let report = walk(alloc, bundle, &Fips, &mut verifier)?;
     let facts = facts_about(alloc, &report, uri)?;
-    let text = texts::facts(alloc, &facts, json)?;
+    let text = texts::facts_text(alloc, &facts, json)?;
     let yes = !facts.refusals.is_empty() || !facts.witnesses.is_empty();
     Ok(Answer { text, yes })
 }
 
 /// The answer to what is asked of the bundle.
-pub(crate) fn answer(
+pub(crate) fn answer_to(
     alloc: Global,
     bundle: &Bundle,
     request: Request<'_>,

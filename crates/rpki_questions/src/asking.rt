@@ -2,7 +2,7 @@
 
 ghost use Rattle.std.specs.Prelude.{◌<◌, ◌-◌, ◌^◌};
 
-use crate::answers::answer;
+use crate::answers::answer_to;
 use crate::requests::Request;
 use rpki_validator::{Counted, RunError, read_bundle, write_all};
 use std::alloc::Global;
@@ -28,7 +28,7 @@ fn ask_all<R: Read, W: Write>(
     requires few_writes { writer.old.failures < 2 ^ 64 - 1 }
 {
     let bundle = read_bundle(alloc, reader)?;
-    let answer = answer(alloc, &bundle, request)?;
+    let answer = answer_to(alloc, &bundle, request)?;
     match write_all(writer, answer.text.as_slice()) {
         Ok(()) => Ok(answer.yes),
         Err(_) => Err(RunError::Write),

@@ -42,7 +42,7 @@ fn push_strings(text: &mut Vec<u8>, rows: &[Bytes]) -> Result<(), AllocError> {
 }
 
 /// The text of a judgement: `yes` or `no`, and how many publication points were read.
-pub(crate) fn judgement(
+pub(crate) fn judgement_text(
     alloc: Global,
     judgement: Judgement,
     json: bool,
@@ -58,7 +58,7 @@ pub(crate) fn judgement(
 }
 
 /// The text of a reach: `locator` where all may change, else a line for each kind of which numbers may change.
-pub(crate) fn reach(alloc: Global, reach: &Reach, json: bool) -> Result<Vec<u8>, AllocError> {
+pub(crate) fn reach_text(alloc: Global, reach: &Reach, json: bool) -> Result<Vec<u8>, AllocError> {
     let text = match reach {
         Reach::Locator if json => format!(in alloc; "{{\"locator\":true}}\n")?,
         Reach::Locator => format!(in alloc; "locator\n")?,
@@ -156,7 +156,11 @@ fn facts_lines(alloc: Global, facts: &Facts<'_>) -> Result<Vec<u8>, AllocError> 
 }
 
 /// The text of facts: what is refused, and the chains by which objects are good.
-pub(crate) fn facts(alloc: Global, facts: &Facts<'_>, json: bool) -> Result<Vec<u8>, AllocError> {
+pub(crate) fn facts_text(
+    alloc: Global,
+    facts: &Facts<'_>,
+    json: bool,
+) -> Result<Vec<u8>, AllocError> {
     if json {
         facts_object(alloc, facts)
     } else {
