@@ -5,7 +5,6 @@ tests/rpki_model.py's; of each worked case the model has to say the stated lines
 """
 
 import base64
-import ipaddress
 
 import rpki_model
 from rpki_repositories import FIRST, HOST, LAST, MOMENT, PKIX, Authority, Constant, Fips, World
@@ -520,10 +519,9 @@ def run_text(kind, first, last):
     if kind == "as":
         return f"AS{first}" if first == last else f"AS{first}-AS{last}"
     size, width = last - first + 1, 32 if kind == "ipv4" else 128
-    address = ipaddress.IPv4Address if kind == "ipv4" else ipaddress.IPv6Address
     if size & size - 1 == 0 and first % size == 0:
-        return f"{address(first)}/{width - size.bit_length() + 1}"
-    return f"{address(first)}-{address(last)}"
+        return f"{rpki_model.address_text(kind, first)}/{width - size.bit_length() + 1}"
+    return f"{rpki_model.address_text(kind, first)}-{rpki_model.address_text(kind, last)}"
 
 
 def reach_text(reached):
