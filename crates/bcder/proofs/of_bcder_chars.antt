@@ -1,2 +1,2 @@
 -- Lemmas of bcder_chars, for the crates above.
-pub use Rattle.bcder_chars.proofs.Ascii
+pub use Rattle.bcder_strings.proofs.of_bcder_chars.Ascii

@@ -1,3 +1,3 @@
 -- Lemmas of bcder_primitive, for the crates above.
-pub use Rattle.bcder_primitive.proofs.Numbers
-pub use Rattle.bcder_primitive.proofs.Primitives
+pub use Rattle.bcder_bits.proofs.of_bcder_primitive.Numbers
+pub use Rattle.bcder_bits.proofs.of_bcder_primitive.Primitives

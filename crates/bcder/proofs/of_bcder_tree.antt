@@ -1,6 +1,6 @@
 -- Lemmas of bcder_tree, for the crates above.
-pub use Rattle.bcder_tree.proofs.Canonical
-pub use Rattle.bcder_tree.proofs.Fronts
-pub use Rattle.bcder_tree.proofs.Integers
-pub use Rattle.bcder_tree.proofs.Trees
-pub use Rattle.bcder_tree.proofs.Unique
+pub use Rattle.bcder_bits.proofs.of_bcder_tree.Canonical
+pub use Rattle.bcder_bits.proofs.of_bcder_tree.Fronts
+pub use Rattle.bcder_bits.proofs.of_bcder_tree.Integers
+pub use Rattle.bcder_bits.proofs.of_bcder_tree.Trees
+pub use Rattle.bcder_bits.proofs.of_bcder_tree.Unique

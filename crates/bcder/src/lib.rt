@@ -42,14 +42,9 @@ pub mod oid;
 pub mod string;
 
 pub use bcder_bits::BitString;
-pub use bcder_content::Captured;
+pub use bcder_bits::bcder_values::CapturedBuilder;
+pub use bcder_bits::bcder_values::bcder_content::Captured;
+pub use bcder_bits::bcder_values::bcder_tree::{Length, Mode, Tag};
 pub use bcder_number::{Integer, Unsigned};
-pub use bcder_octets::OctetString;
 pub use bcder_oid::{ConstOid, Oid};
-pub use bcder_primitive;
-pub use bcder_source;
-pub use bcder_strings::{Ia5String, NumericString, PrintableString, Utf8String};
-pub use bcder_tree::{Mode, Tag};
-pub use bcder_values;
-pub use bcder_values::CapturedBuilder;
-pub use bcder_written;
+pub use bcder_strings::{Ia5String, NumericString, OctetString, PrintableString, Utf8String};

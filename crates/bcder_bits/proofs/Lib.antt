@@ -7,3 +7,6 @@ pub mod SameBits
 pub mod of_bcder_content
 pub mod of_bcder_primitive
 pub mod of_bcder_written
+pub mod of_bcder_source
+pub mod of_bcder_tree
+pub mod of_bcder_values

@@ -1,5 +1,25 @@
 -- Lemmas of bcder_content, for the crates above.
+pub use Rattle.bcder_values.proofs.of_bcder_content.Anything
+pub use Rattle.bcder_values.proofs.of_bcder_content.Choices
+pub use Rattle.bcder_values.proofs.of_bcder_content.Choosing
+pub use Rattle.bcder_values.proofs.of_bcder_content.Decoding
 pub use Rattle.bcder_values.proofs.of_bcder_content.Failing
+pub use Rattle.bcder_values.proofs.of_bcder_content.Forests
+pub use Rattle.bcder_values.proofs.of_bcder_content.Fronts
+pub use Rattle.bcder_values.proofs.of_bcder_content.Gathering
+pub use Rattle.bcder_values.proofs.of_bcder_content.InMode
 pub use Rattle.bcder_values.proofs.of_bcder_content.Inside
+pub use Rattle.bcder_values.proofs.of_bcder_content.Keeping
+pub use Rattle.bcder_values.proofs.of_bcder_content.Kept
+pub use Rattle.bcder_values.proofs.of_bcder_content.KeptOne
+pub use Rattle.bcder_values.proofs.of_bcder_content.Meaning
 pub use Rattle.bcder_values.proofs.of_bcder_content.Memories
+pub use Rattle.bcder_values.proofs.of_bcder_content.Modes
+pub use Rattle.bcder_values.proofs.of_bcder_content.Passing
+pub use Rattle.bcder_values.proofs.of_bcder_content.Perhaps
+pub use Rattle.bcder_values.proofs.of_bcder_content.Simple
 pub use Rattle.bcder_values.proofs.of_bcder_content.Tagged
+pub use Rattle.bcder_values.proofs.of_bcder_content.Taking
+pub use Rattle.bcder_values.proofs.of_bcder_content.Took
+pub use Rattle.bcder_values.proofs.of_bcder_content.Unique
+pub use Rattle.bcder_values.proofs.of_bcder_content.Within

@@ -13,6 +13,7 @@ pub mod laws;
 mod parse;
 mod reading;
 
-pub use bcder_values::{bcder_content, bcder_primitive, bcder_source, bcder_tree};
+pub use bcder_values;
+use bcder_values::{bcder_content, bcder_primitive, bcder_source, bcder_tree};
 pub use bit_string::{BitString, BitStringIter};
 pub use encode::{BitSlice, BitSliceEncoder};

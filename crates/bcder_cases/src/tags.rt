@@ -2,8 +2,7 @@
 
 use crate::answers::{Answer, digits, shown};
 use anyhow::{Result, anyhow};
-use bcder::Tag;
-use bcder::bcder_source::Length;
+use bcder::{Length, Tag};
 use std::alloc::Global;
 
 // The tags that have names.

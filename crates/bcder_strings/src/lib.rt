@@ -17,7 +17,15 @@ pub mod laws;
 mod reading;
 pub mod string;
 
-pub use bcder_octets::{bcder_content, bcder_source};
+pub use bcder_chars::{
+    CharSet, CharSetError, Ia5CharSet, NumericCharSet, PrintableCharSet, Utf8CharSet,
+    laws as chars_laws,
+};
+pub use bcder_octets::{
+    OctetSliceEncoder, OctetString, OctetStringEncoder, OctetStringIter, OctetStringOctets,
+    OctetStringSource, WrappingOctetStringEncoder, bcder_content, bcder_source,
+    laws as octets_laws,
+};
 pub use chars::RestrictedStringChars;
 pub use error::RestrictedStringError;
 pub use string::{Ia5String, NumericString, PrintableString, RestrictedString, Utf8String};

@@ -9,3 +9,4 @@ pub mod of_bcder_header
 pub mod of_bcder_primitive
 pub mod of_bcder_tree
 pub mod of_bcder_written
+pub mod of_bcder_source

@@ -10,8 +10,8 @@ pub use Rattle.certs_basics.specs.bcder_oid as bcder_oid
 pub use Rattle.certs_basics.specs.bcder_strings as bcder_strings
 pub use Rattle.certs_basics.specs.bcder_tree as bcder_tree
 pub use Rattle.certs_basics.specs as certs_basics
-pub use Rattle.bcder.specs.bcder_bits as bcder_bits
-pub use Rattle.bcder.specs.bcder_number as bcder_number
-pub use Rattle.bcder.specs.bcder_primitive as bcder_primitive
-pub use Rattle.bcder.specs.bcder_source as bcder_source
+pub use Rattle.certs_basics.specs.bcder_bits as bcder_bits
+pub use Rattle.certs_basics.specs.bcder_number as bcder_number
+pub use Rattle.certs_basics.specs.bcder_primitive as bcder_primitive
+pub use Rattle.certs_basics.specs.bcder_source as bcder_source
 pub use Rattle.certs_uri.specs as certs_uri

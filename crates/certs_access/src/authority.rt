@@ -8,8 +8,8 @@ ghost use Rattle.certs_access.specs.bcder_content.InMode.{ReadsFields};
 ghost use Rattle.certs_access.specs.Grammars.{IsAuthority, IsIssuer, IsIssuerBody, issuer_fields, one_field};
 
 use crate::names::take_one_rsync;
-use bcder::decode::{Constructed, DecodeError, Source};
-use bcder::{ConstOid, Oid};
+use certs_basics::decode::{Constructed, DecodeError, Source};
+use certs_basics::{ConstOid, Oid};
 use certs_uri::Rsync;
 use std::alloc::Global;
 

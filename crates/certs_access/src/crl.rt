@@ -8,8 +8,8 @@ ghost use Rattle.certs_access.specs.bcder_content.InMode.{ReadsFields};
 ghost use Rattle.certs_access.specs.Grammars.{HaveOneRsync, IsDistribution, IsFullName, IsPoint, IsPointName, one_field};
 
 use crate::names::take_one_rsync;
-use bcder::Tag;
-use bcder::decode::{Constructed, DecodeError, Source};
+use certs_basics::Tag;
+use certs_basics::decode::{Constructed, DecodeError, Source};
 use certs_uri::Rsync;
 use std::alloc::Global;
 

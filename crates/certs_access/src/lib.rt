@@ -12,5 +12,6 @@ pub mod subject;
 
 pub use authority::take_authority_access;
 pub use certs_basics::PublicKeyFormat;
+pub use certs_uri::{Https, Rsync, grammar, paths};
 pub use crl::take_crl_distribution;
 pub use subject::{SubjectAccess, take_subject_access};

@@ -12,8 +12,8 @@ ghost use Rattle.certs_access.specs.bcder_strings.Restricted.{ReadsText};
 ghost use Rattle.certs_access.specs.Grammars.{HaveOneRsync, IsName};
 ghost use Rattle.certs_access.specs.Seen.{NameSays, Seen};
 
-use bcder::decode::{Constructed, ContentError, DecodeError, Source};
-use bcder::{Ia5String, Tag};
+use certs_basics::decode::{Constructed, ContentError, DecodeError, Source};
+use certs_basics::{Ia5String, Tag};
 use certs_uri::Rsync;
 use std::alloc::{AllocError, Global};
 

@@ -13,9 +13,9 @@ ghost use Rattle.certs_access.specs.Found.{AddsEntry, AreFound, Keeps, descripti
 ghost use Rattle.certs_access.specs.Grammars.{IsName, one_field};
 
 use crate::names::take_name;
-use bcder::decode::{Constructed, ContentError, DecodeError, Source};
-use bcder::{ConstOid, Ia5String, Oid};
 use bytes::Bytes;
+use certs_basics::decode::{Constructed, ContentError, DecodeError, Source};
+use certs_basics::{ConstOid, Ia5String, Oid};
 use certs_uri::{Https, Rsync};
 use std::alloc::{AllocError, Global};
 use std::marker::Model;

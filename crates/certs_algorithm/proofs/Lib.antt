@@ -9,3 +9,4 @@ pub mod of_bcder_source
 pub mod of_bcder_tree
 pub mod of_bcder_values
 pub mod of_certs_basics
+pub mod of_bcder_primitive

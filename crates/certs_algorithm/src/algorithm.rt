@@ -17,8 +17,8 @@ ghost use Rattle.certs_basics.specs.Identifiers.{rsa_encryption, sha256_with_rsa
 
 use crate::identifier::AlgorithmIdentifier;
 use crate::oid::{RSA_ENCRYPTION, SHA256_WITH_RSA_ENCRYPTION};
-use bcder::decode::{Constructed, ContentError, DecodeError, Primitive, Source};
-use bcder::{ConstOid, Tag};
+use certs_basics::decode::{Constructed, ContentError, DecodeError, Primitive, Source};
+use certs_basics::{ConstOid, Tag};
 use std::marker::Model;
 
 /// An algorithm by which certificates and lists are signed.

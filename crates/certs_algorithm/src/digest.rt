@@ -12,8 +12,8 @@ ghost use Rattle.certs_algorithm.specs.Algorithms.{sha256, fields_of};
 
 use crate::identifier::AlgorithmIdentifier;
 use crate::oid::SHA256;
-use bcder::decode::{Constructed, DecodeError, Source};
-use bcder::{Tag, encode};
+use certs_basics::decode::{Constructed, DecodeError, Source};
+use certs_basics::{Tag, encode};
 
 /// The algorithm of digests in RPKI, which is SHA-256.
 #[derive(Clone, Copy, Debug, Default, PartialEq, Eq, Hash)]

@@ -4,8 +4,8 @@ ghost use Rattle.std.specs.Prelude.{◌≡◌};
 ghost use Rattle.certs_algorithm.specs.bcder_tree.Tags.{universal};
 ghost use Rattle.certs_algorithm.specs.Algorithms.{lends_bare, lends_null};
 
-use bcder::encode::{self, EncodeError, PrimitiveContent, Values};
-use bcder::{ConstOid, Mode, Tag};
+use certs_basics::encode::{self, EncodeError, PrimitiveContent, Values};
+use certs_basics::{ConstOid, Mode, Tag};
 use std::io::Write;
 use std::marker::Model;
 

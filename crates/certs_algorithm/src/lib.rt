@@ -16,7 +16,10 @@ pub mod oid;
 pub mod signature;
 
 pub use algorithm::{RpkiSignatureAlgorithm, SignatureAlgorithm};
-pub use certs_basics::PublicKeyFormat;
+pub use certs_basics::{
+    BitString, Captured, ConstOid, Ia5String, Length, Mode, OctetString, Oid, PrintableString,
+    PublicKeyFormat, Tag, decode, encode, string,
+};
 pub use digest::DigestAlgorithm;
 pub use identifier::AlgorithmIdentifier;
 pub use signature::{RpkiSignature, Signature};

@@ -3,8 +3,8 @@
 ghost use Rattle.std.specs.Prelude.{◌≡◌, IfOk};
 
 use crate::algorithm::RpkiSignatureAlgorithm;
-use bcder::BitString;
 use bytes::Bytes;
+use certs_basics::BitString;
 use std::alloc::AllocError;
 use std::marker::Model;
 

@@ -9,3 +9,8 @@ pub enum PublicKeyFormat {
     /// ecPublicKey on the curve secp256r1.
     Ecdsa,
 }
+
+pub use bcder::{
+    BitString, Captured, ConstOid, Ia5String, Length, Mode, OctetString, Oid, PrintableString, Tag,
+    decode, encode, int, string,
+};

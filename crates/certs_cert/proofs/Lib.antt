@@ -8,3 +8,4 @@ pub mod of_bcder_content
 pub mod of_bcder_tree
 pub mod of_certs_signed
 pub mod of_certs_key
+pub mod of_certs_algorithm

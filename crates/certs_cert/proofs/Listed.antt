@@ -9,7 +9,7 @@ use Rattle.certs_cert.specs.bcder_content.Grammar.{End, Inside, One, Then}
 use Rattle.certs_cert.specs.bcder_content.Words.{Gathers}
 use Rattle.certs_cert.proofs.of_bcder_content.Took.{one_took}
 use Rattle.certs_cert.proofs.of_bcder_content.Unique.{end_one, inside_one, same_trees, same_values, then_one}
-use Rattle.certs_basics.proofs.Values.{gathers_one}
+use Rattle.certs_claims.proofs.of_certs_basics.Values.{gathers_one}
 use Rattle.certs_claims.proofs.of_certs_specs.Values.{extension_one}
 use Rattle.certs_claims.specs.certs_specs.Cert.{TbsValue}
 use Rattle.certs_claims.specs.certs_specs.CertText.{Fields, IsTbs, IsTbsBody}

@@ -15,10 +15,9 @@ ghost use Rattle.certs_claims.specs.certs_specs.CertText.{IsCert, IsTbs, SpellsC
 
 use crate::cert::Cert;
 use crate::tbs::TbsCert;
-use bcder::Mode;
-use bcder::decode::{Constructed, Decode, DecodeError, IntoSource, Source};
 use certs_claims::cert_is_spelled;
-use certs_signed::SignedData;
+use certs_signed::decode::{Constructed, Decode, DecodeError, IntoSource, Source};
+use certs_signed::{Mode, SignedData};
 use std::alloc::Global;
 use std::convert::Infallible;
 

@@ -23,6 +23,12 @@ pub mod usages;
 
 pub use cert::{Cert, CertValues};
 pub use certs_claims::{
-    Digester, ExtendedKeyUsage, InspectionError, KeyIdentifier, KeyUsage, PublicKeyFormat, Role,
+    AsBlocks, ClaimError, Digester, ExtendedKeyUsage, InheritedAsResources, InheritedIpResources,
+    InspectionError, IpBlocks, KeyIdentifier, KeyUsage, PublicKeyFormat, Role, Rsync, Time,
+    grammar, paths,
+};
+pub use certs_signed::{
+    ConstOid, DigestAlgorithm, Mode, OctetString, Oid, RpkiSignatureAlgorithm, Tag, Verifier,
+    decode,
 };
 pub use tbs::TbsCert;

@@ -15,11 +15,9 @@ ghost use Rattle.certs_signed.specs.Took.{TookOctets};
 ghost use Rattle.certs_claims.specs.certs_specs.CertText.{IsTbs, SpellsTbs};
 
 use crate::tbs::TbsCert;
-use bcder::Tag;
-use bcder::decode::{Constructed, ContentError, DecodeError, Source};
-use certs_claims::{ListError, Slots, take_extensions};
-use certs_signed::{Name, PublicKey, RpkiSignatureAlgorithm, Serial, SignatureAlgorithm};
-use certs_time::Validity;
+use certs_claims::{ListError, Slots, Validity, take_extensions};
+use certs_signed::decode::{Constructed, ContentError, DecodeError, Source};
+use certs_signed::{Name, PublicKey, RpkiSignatureAlgorithm, Serial, SignatureAlgorithm, Tag};
 use std::alloc::Global;
 
 // The number that stands for version 3 (RFC 5280 4.1.2.1).

@@ -5,10 +5,10 @@ ghost use Rattle.certs_cert.specs.certs_key.Digesting.{digests_of};
 ghost use Rattle.certs_cert.specs.certs_basics.Keys.{identifier};
 ghost use Rattle.certs_cert.specs.Fresh.{IsSubjectFor, fresh};
 
-use certs_claims::{AsResources, ExtendedKeyUsage, IpResources, KeyUsage, Overclaim};
+use certs_claims::{
+    AsResources, ExtendedKeyUsage, Https, IpResources, KeyUsage, Overclaim, Rsync, Validity,
+};
 use certs_signed::{Digester, KeyIdentifier, Name, PublicKey, RpkiSignatureAlgorithm, Serial};
-use certs_time::Validity;
-use certs_uri::{Https, Rsync};
 use std::alloc::{AllocError, Global};
 use std::marker::Model;
 

@@ -7,3 +7,4 @@ pub mod Whole
 pub mod of_bcder_content
 pub mod of_certs_specs
 pub mod of_certs_key
+pub mod of_certs_basics

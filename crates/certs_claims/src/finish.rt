@@ -8,9 +8,8 @@ ghost use Rattle.certs_claims.specs.declared.finish.Claims.{Claims as ClaimsValu
 use crate::slots::Slots;
 use certs_extension::{
     AsResources, ExtendedKeyUsage, IpFamilies, IpResources, KeyIdentifier, KeyUsage, Overclaim,
-    SubjectAccess,
+    Rsync, SubjectAccess,
 };
-use certs_uri::Rsync;
 use thiserror::Error;
 
 /// Why a list of extensions is refused as a whole: the first test in this order that fails.

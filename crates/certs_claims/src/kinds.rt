@@ -4,8 +4,7 @@ ghost use Rattle.std.specs.Prelude.{◌≡◌, MatchOption};
 ghost use Rattle.certs_claims.specs.certs_basics.Lists.{Mem};
 ghost use Rattle.certs_claims.specs.Kinds.{IsNamed, key_kinds, octets_of, place_kinds, resource_kinds};
 
-use bcder::{ConstOid, Oid};
-use certs_extension::{Overclaim, OverclaimIds};
+use certs_extension::{ConstOid, Oid, Overclaim, OverclaimIds};
 
 /// subjectKeyIdentifier, 2.5.29.14 (RFC 5280 4.2.1.2).
 const CE_SUBJECT_KEY_IDENTIFIER: ConstOid = Oid(&[85, 29, 14]);

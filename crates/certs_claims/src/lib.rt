@@ -10,9 +10,10 @@ pub mod slots;
 mod values;
 
 pub use certs_extension::{
-    AsBlock, AsBlocks, AsBlocksBuilder, AsResources, AsResourcesBuilder, Block, Digester,
-    ExtendedKeyUsage, InspectionError, IpBlock, IpBlocks, IpBlocksBuilder, IpResources,
-    IpResourcesBuilder, KeyIdentifier, KeyUsage, Overclaim, PublicKeyFormat, Role, cert_is_spelled,
+    AsBlock, AsBlocks, AsBlocksBuilder, AsResources, AsResourcesBuilder, Block, ClaimError,
+    Digester, ExtendedKeyUsage, Https, InheritedAsResources, InheritedIpResources, InspectionError,
+    IpBlock, IpBlocks, IpBlocksBuilder, IpResources, IpResourcesBuilder, KeyIdentifier, KeyUsage,
+    Overclaim, PublicKeyFormat, Role, Rsync, Time, Validity, cert_is_spelled, grammar, paths,
 };
 pub use finish::{Claims, ListError};
 pub use list::take_extensions;

@@ -12,7 +12,7 @@ ghost use Rattle.certs_claims.specs.Refusals.{Told};
 ghost use Rattle.certs_claims.specs.Slots.{AreSlots};
 
 use crate::slots::Slots;
-use bcder::decode::{Constructed, ContentError, DecodeError, Source};
+use certs_extension::decode::{Constructed, ContentError, DecodeError, Source};
 use certs_extension::{Extension, ExtensionError};
 use std::alloc::Global;
 

@@ -14,9 +14,8 @@ use crate::values::{
 };
 use certs_extension::{
     AsResources, ExtendedKeyUsage, Extension, ExtensionError, IpFamilies, KeyIdentifier, KeyUsage,
-    Overclaim, SubjectAccess, skip_unknown,
+    Overclaim, Rsync, SubjectAccess, skip_unknown,
 };
-use certs_uri::Rsync;
 use std::alloc::Global;
 
 /// The values of the extensions that were there.

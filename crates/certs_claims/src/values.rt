@@ -16,14 +16,13 @@ ghost use Rattle.certs_extension.specs.certs_specs.Extensions.{AreConstraints, I
 ghost use Rattle.certs_claims.specs.Putting.{CannotFill, Fills, Under};
 ghost use Rattle.certs_claims.specs.Slots.{AreFamilies};
 
-use bcder::decode::{Constructed, DecodeError, Source};
+use certs_extension::decode::{Constructed, DecodeError, Source};
 use certs_extension::{
     AsResources, ExtendedKeyUsage, Extension, ExtensionError, IpFamilies, IpResources,
-    KeyIdentifier, KeyUsage, Need, Overclaim, SubjectAccess, put_once, take_authority_access,
-    take_authority_key_identifier, take_basic_constraints, take_crl_distribution, take_key_usage,
-    take_policies, take_subject_access,
+    KeyIdentifier, KeyUsage, Need, Overclaim, Rsync, SubjectAccess, put_once,
+    take_authority_access, take_authority_key_identifier, take_basic_constraints,
+    take_crl_distribution, take_key_usage, take_policies, take_subject_access,
 };
-use certs_uri::Rsync;
 use std::alloc::Global;
 
 // Puts the basic constraints.

@@ -16,7 +16,9 @@ pub mod setting;
 pub mod store;
 pub mod tbs;
 
+pub use bcder::decode;
 pub use certs_revoked::{CrlEntry, RevokedCertificates, RevokedCertificatesIter};
+pub use certs_time::Time;
 pub use crl::Crl;
 pub use store::CrlStore;
 pub use tbs::TbsCertList;

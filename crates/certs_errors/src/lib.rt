@@ -8,6 +8,11 @@ mod inspection;
 mod validation;
 mod verification;
 
+pub use certs_signed::{
+    Digester, KeyIdentifier, OctetString, SignatureVerificationError, SignedData, SignedDataValues,
+    laws,
+};
+pub use certs_specs::{Clock, Time, TimeText, Validity, ValidityError, validity};
 pub use inspection::InspectionError;
 pub use validation::ValidationError;
 pub use verification::{ClaimedKind, Overclaimed, VerificationError};

@@ -3,9 +3,9 @@
 ghost use Rattle.std.specs.Prelude.{◌≡◌};
 
 use certs_signed::SignatureVerificationError;
-use certs_time::ValidityError;
-use resources::asres::OverclaimedAsResources;
-use resources::ipres::{OverclaimedIpv4Resources, OverclaimedIpv6Resources};
+use certs_specs::ValidityError;
+use certs_specs::asres::OverclaimedAsResources;
+use certs_specs::ipres::{OverclaimedIpv4Resources, OverclaimedIpv6Resources};
 use thiserror::Error;
 
 /// One of the three kinds of number resources.

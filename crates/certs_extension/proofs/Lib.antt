@@ -7,3 +7,4 @@ pub mod of_certs_specs
 pub mod of_resources_as
 pub mod of_resources_ip
 pub mod of_certs_key
+pub mod of_certs_basics

@@ -1,3 +1,3 @@
 -- Lemmas of bcder_values, for the crates above.
-pub use Rattle.bcder.proofs.of_bcder_values.Lent
-pub use Rattle.bcder.proofs.of_bcder_values.Returning
+pub use Rattle.certs_key.proofs.of_bcder_values.Lent
+pub use Rattle.certs_key.proofs.of_bcder_values.Returning

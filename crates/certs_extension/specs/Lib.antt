@@ -4,20 +4,21 @@ pub mod Values
 pub mod Purposes
 pub mod Usages
 -- What stands below, for the crates above.
-pub use Rattle.bcder.specs as bcder
-pub use Rattle.bcder.specs.bcder_values as bcder_values
-pub use Rattle.bcder.specs.bcder_written as bcder_written
+pub use Rattle.certs_key.specs.bcder as bcder
 pub use Rattle.certs_specs.specs.bcder_bits as bcder_bits
 pub use Rattle.certs_specs.specs.bcder_content as bcder_content
 pub use Rattle.certs_specs.specs.bcder_oid as bcder_oid
 pub use Rattle.certs_specs.specs.bcder_primitive as bcder_primitive
 pub use Rattle.certs_specs.specs.bcder_source as bcder_source
 pub use Rattle.certs_specs.specs.bcder_tree as bcder_tree
+pub use Rattle.certs_key.specs.bcder_values as bcder_values
+pub use Rattle.certs_key.specs.bcder_written as bcder_written
+pub use Rattle.certs_specs.specs.certs_access as certs_access
 pub use Rattle.certs_specs.specs.certs_basics as certs_basics
-pub use Rattle.certs_specs.specs.resources_chain as resources_chain
 pub use Rattle.certs_specs.specs as certs_specs
+pub use Rattle.certs_specs.specs.certs_time as certs_time
+pub use Rattle.certs_specs.specs.certs_uri as certs_uri
 pub use Rattle.certs_specs.specs.resources_as as resources_as
+pub use Rattle.certs_specs.specs.resources_chain as resources_chain
 pub use Rattle.certs_specs.specs.resources_ip as resources_ip
 pub use Rattle.certs_specs.specs.resources_policy as resources_policy
-pub use Rattle.certs_specs.specs.certs_time as certs_time
-pub use Rattle.certs_specs.specs.certs_access as certs_access

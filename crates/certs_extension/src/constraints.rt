@@ -7,7 +7,7 @@ ghost use Rattle.certs_extension.specs.bcder_content.Here.{here};
 ghost use Rattle.certs_extension.specs.bcder_content.InMode.{ReadsFields};
 ghost use Rattle.certs_extension.specs.Values.{AreConstraints, IsConstraintsBody, alone};
 
-use bcder::decode::{Constructed, DecodeError, Source};
+use certs_key::decode::{Constructed, DecodeError, Source};
 
 // The field of basic constraints. FALSE may be written out.
 fn take_fields<S: Source>(cons: &mut Constructed<S>) -> Result<bool, DecodeError<S::Error>>

@@ -8,8 +8,8 @@ ghost use Rattle.certs_extension.specs.bcder_content.InMode.{ReadsFields};
 ghost use Rattle.certs_specs.specs.Extensions.{IsExtension, IsExtensionBody};
 ghost use Rattle.certs_extension.specs.Raw.{extension_fields, extension_value};
 
-use bcder::decode::{Constructed, DecodeError, Source};
-use bcder::{OctetString, Oid};
+use certs_key::decode::{Constructed, DecodeError, Source};
+use certs_key::{OctetString, Oid};
 use std::alloc::Global;
 
 /// An extension by the octets of its value:

@@ -9,9 +9,8 @@ ghost use Rattle.certs_extension.specs.bcder_content.Tagged.{ReadsTagged};
 ghost use Rattle.certs_extension.specs.certs_basics.Basics.{IsKeyIdentifier};
 ghost use Rattle.certs_extension.specs.Values.{IsAuthority, IsAuthorityBody, alone};
 
-use bcder::Tag;
-use bcder::decode::{Constructed, DecodeError, Source};
-use certs_key::KeyIdentifier;
+use certs_key::decode::{Constructed, DecodeError, Source};
+use certs_key::{KeyIdentifier, Tag};
 use std::alloc::Global;
 
 // The identifier of the issuer's key, with the tag [0].

@@ -15,13 +15,14 @@ pub mod purposes;
 pub mod put;
 pub mod usage;
 
-pub use certs_key::{Digester, KeyIdentifier};
+pub use certs_key::{ConstOid, Digester, KeyIdentifier, Oid, decode};
 pub use certs_specs::laws::cert_is_spelled;
 pub use certs_specs::{
-    AsBlock, AsBlocks, AsBlocksBuilder, AsResources, AsResourcesBuilder, Block, InspectionError,
-    IpBlock, IpBlocks, IpBlocksBuilder, IpFamilies, IpResources, IpResourcesBuilder, KeyUsage,
-    Overclaim, OverclaimIds, PublicKeyFormat, Role, SubjectAccess, take_authority_access,
-    take_crl_distribution, take_subject_access,
+    AsBlock, AsBlocks, AsBlocksBuilder, AsResources, AsResourcesBuilder, Block, ClaimError, Https,
+    InheritedAsResources, InheritedIpResources, InspectionError, IpBlock, IpBlocks,
+    IpBlocksBuilder, IpFamilies, IpResources, IpResourcesBuilder, KeyUsage, Overclaim,
+    OverclaimIds, PublicKeyFormat, Role, Rsync, SubjectAccess, Time, Validity, grammar, paths,
+    take_authority_access, take_crl_distribution, take_subject_access,
 };
 pub use constraints::take_basic_constraints;
 pub use error::ExtensionError;

@@ -7,8 +7,8 @@ ghost use Rattle.certs_extension.specs.bcder_content.InMode.{ReadsFields};
 ghost use Rattle.certs_specs.specs.Extensions.{IsPolicies};
 ghost use Rattle.certs_extension.specs.Values.{ArePoliciesBody, IsPolicy, IsPolicyBody, alone};
 
-use bcder::Oid;
-use bcder::decode::{Constructed, ContentError, DecodeError, Source};
+use certs_key::Oid;
+use certs_key::decode::{Constructed, ContentError, DecodeError, Source};
 use certs_specs::{Overclaim, OverclaimIds};
 use std::alloc::Global;
 

@@ -10,12 +10,12 @@ ghost use Rattle.certs_extension.specs.certs_basics.Lists.{Mem};
 ghost use Rattle.certs_specs.specs.Extensions.{IsExtendedKeyUsage};
 ghost use Rattle.certs_extension.specs.Purposes.{AreOids, ArePurposes, lends, purpose_octets};
 
-use bcder::decode::{Constructed, ContentError, DecodeError, Source};
-use bcder::encode::{
+use bytes::Bytes;
+use certs_key::decode::{Constructed, ContentError, DecodeError, Source};
+use certs_key::encode::{
     self, EncodeError, Encodes, Primitive, PrimitiveContent, Values, sequence, slice,
 };
-use bcder::{ConstOid, Mode, Oid};
-use bytes::Bytes;
+use certs_key::{ConstOid, Mode, Oid};
 use certs_specs::InspectionError;
 use std::alloc::{AllocError, Global};
 use std::io::Write;

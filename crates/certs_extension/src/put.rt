@@ -7,8 +7,8 @@ ghost use Rattle.certs_extension.specs.Raw.{extension_value};
 
 use crate::error::ExtensionError;
 use crate::extension::Extension;
-use bcder::Mode;
-use bcder::decode::{Constructed, Decode, DecodeError, SliceSource};
+use certs_key::Mode;
+use certs_key::decode::{Constructed, Decode, DecodeError, SliceSource};
 use std::convert::Infallible;
 
 /// Whether an extension has to be critical.

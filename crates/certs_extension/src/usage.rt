@@ -9,9 +9,9 @@ ghost use Rattle.certs_extension.specs.bcder_bits.Contents.{bit_string_tag};
 ghost use Rattle.certs_extension.specs.Usages.{usage_octets};
 ghost use Rattle.certs_extension.specs.Values.{IsUsage};
 
-use bcder::decode::{Constructed, ContentError, DecodeError, Source};
-use bcder::encode::{Octets, Primitive};
-use bcder::{BitString, Tag};
+use certs_key::decode::{Constructed, ContentError, DecodeError, Source};
+use certs_key::encode::{Octets, Primitive};
+use certs_key::{BitString, Tag};
 use certs_specs::KeyUsage;
 use std::alloc::Global;
 use std::convert::Infallible;

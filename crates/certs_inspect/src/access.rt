@@ -1,12 +1,11 @@
 //! Tests of the URIs that a certificate has (RFC 6487 4.8.6 to 4.8.8, RFC 8209 3.1.3.4).
 
 ghost use Rattle.std.specs.Prelude.{◌≡◌, ◌≢◌, ◌↔◌, IsTrue, None};
-ghost use Rattle.certs_uri.specs.Paths.{LiesIn};
+ghost use Rattle.certs_cert.specs.certs_uri.Paths.{LiesIn};
 ghost use Rattle.certs_cert.specs.certs_specs.Cert.{no_access};
 ghost use Rattle.certs_cert.specs.certs_specs.Profiles.{LiesThere};
 
-use certs_cert::Cert;
-use certs_uri::paths;
+use certs_cert::{Cert, paths};
 
 /// Whether there is the URI of a revocation list.
 pub(crate) fn has_crl(cert: &Cert) -> bool

@@ -17,5 +17,8 @@ pub mod inspect;
 mod tests;
 mod usages;
 
-pub use certs_cert::{Cert, InspectionError};
+pub use certs_cert::{
+    AsBlocks, Cert, ClaimError, InheritedAsResources, InheritedIpResources, InspectionError,
+    IpBlocks,
+};
 pub use inspect::Inspect;

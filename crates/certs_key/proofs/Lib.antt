@@ -12,3 +12,4 @@ pub mod of_bcder_tree
 pub mod of_bcder_values
 pub mod of_certs_algorithm
 pub mod of_certs_basics
+pub mod of_bcder_primitive

@@ -6,9 +6,8 @@ ghost use Rattle.certs_key.specs.bcder_content.Here.{here};
 ghost use Rattle.certs_key.specs.bcder_content.InMode.{ReadsFields};
 ghost use Rattle.certs_key.specs.certs_basics.Keys.{IsFormat, IsFormatBody};
 
-use bcder::decode::{Constructed, ContentError, DecodeError, Source};
-use bcder::{ConstOid, Oid};
-use certs_algorithm::PublicKeyFormat;
+use certs_algorithm::decode::{Constructed, ContentError, DecodeError, Source};
+use certs_algorithm::{ConstOid, Oid, PublicKeyFormat};
 use std::alloc::Global;
 
 // rsaEncryption, 1.2.840.113549.1.1.1 (RFC 7935 3).

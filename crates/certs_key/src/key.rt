@@ -14,14 +14,13 @@ ghost use Rattle.certs_key.specs.Digesting.{digests_of};
 ghost use Rattle.certs_key.specs.Reading.{AreParts, parts_fields};
 
 use crate::digest::Digester;
-use crate::encode::{encoded_of, encoder};
+use crate::encoded::{encoded_of, encoder};
 use crate::format::take_format;
 use crate::identifier::KeyIdentifier;
-use bcder::decode::{Constructed, ContentError, Decode, DecodeError, IntoSource, Source};
-use bcder::encode::{EncodeError, Values};
-use bcder::{BitString, Mode};
 use bytes::Bytes;
-use certs_algorithm::PublicKeyFormat;
+use certs_algorithm::decode::{Constructed, ContentError, Decode, DecodeError, IntoSource, Source};
+use certs_algorithm::encode::{EncodeError, Values};
+use certs_algorithm::{BitString, Mode, PublicKeyFormat};
 use certs_name::Name;
 use std::alloc::{AllocError, Global};
 use std::io::Write;

@@ -7,7 +7,7 @@
 #![tactic(auto)]
 
 pub mod digest;
-mod encode;
+mod encoded;
 mod equal;
 mod format;
 pub mod identifier;
@@ -17,8 +17,9 @@ pub mod signer;
 pub mod verifier;
 
 pub use certs_algorithm::{
-    AlgorithmIdentifier, PublicKeyFormat, RpkiSignature, RpkiSignatureAlgorithm, Signature,
-    SignatureAlgorithm,
+    AlgorithmIdentifier, BitString, Captured, ConstOid, DigestAlgorithm, Ia5String, Length, Mode,
+    OctetString, Oid, PrintableString, PublicKeyFormat, RpkiSignature, RpkiSignatureAlgorithm,
+    Signature, SignatureAlgorithm, Tag, decode, encode, string,
 };
 pub use certs_name::{Name, Serial};
 pub use digest::Digester;

@@ -13,9 +13,9 @@ ghost use Rattle.certs_name.specs.Inspected.{IsUnicodeValue, seen_fields};
 
 use crate::seen::Seen;
 use crate::whole::{skip_text, take_told};
-use bcder::Tag;
-use bcder::decode::{Constructed, DecodeError, Source};
-use bcder::string::{PrintableCharSet, Utf8CharSet};
+use certs_basics::Tag;
+use certs_basics::decode::{Constructed, DecodeError, Source};
+use certs_basics::string::{PrintableCharSet, Utf8CharSet};
 
 // Which attribute the identifier is that is next.
 fn take_kind<S: Source>(cons: &mut Constructed<S>) -> Result<Seen, DecodeError<S::Error>>

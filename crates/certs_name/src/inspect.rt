@@ -14,8 +14,8 @@ use crate::attributes::take_opt_attribute;
 use crate::error::InvalidName;
 use crate::name::Name;
 use crate::seen::Seen;
-use bcder::Mode;
-use bcder::decode::{Constructed, ContentError, Decode, DecodeError, Source};
+use certs_basics::Mode;
+use certs_basics::decode::{Constructed, ContentError, Decode, DecodeError, Source};
 use std::convert::Infallible;
 
 // The attributes of a relative name, each once at most.

@@ -15,9 +15,9 @@ ghost use Rattle.certs_name.specs.AnyNames.{IsAnyName};
 ghost use Rattle.certs_name.specs.Named.{IsNamed};
 
 use crate::skim::skip_name;
-use bcder::decode::{Constructed, DecodeError, Source};
-use bcder::{Captured, Mode};
 use bytes::Bytes;
+use certs_basics::decode::{Constructed, DecodeError, Source};
+use certs_basics::{Captured, Mode};
 use std::alloc::{AllocError, Global};
 use std::marker::Model;
 

@@ -7,9 +7,8 @@ ghost use Rattle.certs_name.specs.bcder_values.Captures.{CapturedText, CapturedT
 ghost use Rattle.certs_basics.specs.Names.{subject_of};
 
 use crate::name::Name;
-use bcder::Mode;
-use bcder::bcder_written::write_octets;
-use bcder::encode::{EncodeError, Values};
+use certs_basics::Mode;
+use certs_basics::encode::{EncodeError, Values, write_octets};
 use std::alloc::{AllocError, Global};
 use std::io::Write;
 

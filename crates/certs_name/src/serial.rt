@@ -3,7 +3,7 @@
 ghost use Rattle.std.specs.Prelude.{◌≡◌, ◌+◌, ◌*◌, ◌^◌, ◌<◌, ◌≤◌, ◌↔◌, IfErr, IfNone, IfOk, IfSome, IsTrue};
 ghost use Rattle.certs_name.specs.bcder_tree.Integers.{number_of};
 
-use bcder::int::OverflowError;
+use certs_basics::int::OverflowError;
 use std::marker::Model;
 
 // 2^120: what a number of 128 bits may have below one more octet.

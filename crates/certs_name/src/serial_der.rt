@@ -16,10 +16,9 @@ ghost use Rattle.certs_name.specs.Serials.{IsSerialContent};
 
 use crate::serial::Serial;
 use crate::whole::{Told, take_told};
-use bcder::bcder_primitive::Primitive;
-use bcder::decode::{Constructed, DecodeError, Source};
-use bcder::encode::{EncodeError, Octets, PrimitiveContent};
-use bcder::{Mode, Tag};
+use certs_basics::decode::{Constructed, DecodeError, Primitive, Source};
+use certs_basics::encode::{EncodeError, Octets, PrimitiveContent};
+use certs_basics::{Mode, Tag};
 use std::io::Write;
 
 // Whether octets are the content of an INTEGER from 0 up: as few as can be, with the sign clear (8.3.2, 8.3.3).

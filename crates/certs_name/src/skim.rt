@@ -9,8 +9,8 @@ ghost use Rattle.certs_name.specs.bcder_content.InMode.{ReadsFields};
 ghost use Rattle.certs_name.specs.AnyNames.{AreAnyAttributes, AreAnyRelativeNames, IsAnyAttribute};
 ghost use Rattle.certs_name.specs.AnyNames.{IsAnyAttributeBody, IsAnyName, IsAnyRelativeName, any_fields};
 
-use bcder::Oid;
-use bcder::decode::{Constructed, ContentError, DecodeError, Source};
+use certs_basics::Oid;
+use certs_basics::decode::{Constructed, ContentError, DecodeError, Source};
 use std::alloc::Global;
 
 // Any value.

@@ -6,9 +6,8 @@ ghost use Rattle.certs_name.specs.bcder_source.declared.error.DecodeError.TheVar
 ghost use Rattle.certs_name.specs.bcder_primitive.Plain.{plain, WholeOctets, ReadsOctetsAs};
 ghost use Rattle.certs_name.specs.Inspected.{IsTextOf};
 
-use bcder::bcder_primitive::Primitive;
-use bcder::decode::{ContentError, DecodeError, Source};
-use bcder::string::CharSet;
+use certs_basics::decode::{ContentError, DecodeError, Primitive, Source};
+use certs_basics::string::CharSet;
 
 /// What content octets tell, if they tell something.
 pub(crate) trait Told: Drop {

@@ -1,7 +1,7 @@
 -- Lemmas of bcder_content, for the crates above.
-pub use Rattle.bcder.proofs.of_bcder_content.Choices
-pub use Rattle.bcder.proofs.of_bcder_content.Forests
-pub use Rattle.bcder.proofs.of_bcder_content.Within
+pub use Rattle.certs_key.proofs.of_bcder_content.Choices
+pub use Rattle.certs_key.proofs.of_bcder_content.Forests
+pub use Rattle.certs_key.proofs.of_bcder_content.Within
 pub use Rattle.certs_key.proofs.of_bcder_content.Decoding
 pub use Rattle.certs_key.proofs.of_bcder_content.InMode
 pub use Rattle.certs_key.proofs.of_bcder_content.Keeping

@@ -13,8 +13,8 @@ pub mod verify;
 pub mod written;
 
 pub use certs_key::{
-    Digester, KeyIdentifier, Name, PublicKey, RpkiSignatureAlgorithm, Serial, SignatureAlgorithm,
-    Verifier,
+    ConstOid, DigestAlgorithm, Digester, KeyIdentifier, Mode, Name, OctetString, Oid, PublicKey,
+    RpkiSignatureAlgorithm, Serial, SignatureAlgorithm, Tag, Verifier, decode,
 };
 pub use signed::SignedData;
 pub use verify::SignatureVerificationError;

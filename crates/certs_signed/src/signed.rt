@@ -14,9 +14,10 @@ ghost use Rattle.certs_signed.specs.Signed.{AreSignedOctets, SpellsSignedData, k
 ghost use Rattle.certs_signed.specs.Signed.{octet_fields, signed, signed_content, signed_fields};
 ghost use Rattle.certs_signed.specs.Took.{TookOctets};
 
-use bcder::decode::{Constructed, ContentError, Decode, DecodeError, IntoSource, Source};
-use bcder::{BitString, Captured, Mode};
-use certs_key::{RpkiSignature, RpkiSignatureAlgorithm, Signature, SignatureAlgorithm};
+use certs_key::decode::{Constructed, ContentError, Decode, DecodeError, IntoSource, Source};
+use certs_key::{
+    BitString, Captured, Mode, RpkiSignature, RpkiSignatureAlgorithm, Signature, SignatureAlgorithm,
+};
 use std::alloc::{AllocError, Global};
 use std::marker::Model;
 

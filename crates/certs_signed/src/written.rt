@@ -4,9 +4,8 @@ ghost use Rattle.std.specs.Prelude.{◌≡◌};
 ghost use Rattle.certs_signed.specs.Signed.{lends, signed_lends};
 
 use crate::signed::SignedData;
-use bcder::encode::{self, EncodeError, PrimitiveContent, Values};
-use bcder::{BitString, Captured, Mode, Tag};
-use certs_key::{AlgorithmIdentifier, SignatureAlgorithm};
+use certs_key::encode::{self, EncodeError, PrimitiveContent, Values};
+use certs_key::{AlgorithmIdentifier, BitString, Captured, Mode, SignatureAlgorithm, Tag};
 use std::io::Write;
 use std::marker::Model;
 

@@ -15,6 +15,7 @@ pub mod text;
 pub mod time;
 pub mod validity;
 
+pub use bcder::{Captured, ConstOid, Mode, OctetString, Oid, decode};
 pub use clock::Clock;
 pub use error::ValidityError;
 pub use text::TimeText;

@@ -15,6 +15,7 @@ pub mod laws;
 pub mod paths;
 pub mod rsync;
 
+pub use bcder::decode;
 pub use error::Error;
 pub use https::Https;
 pub use rsync::Rsync;

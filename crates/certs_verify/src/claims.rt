@@ -12,9 +12,10 @@ ghost use Rattle.certs_verify.specs.Holders.{holding};
 ghost use Rattle.certs_verify.specs.Words.{TellsOutside};
 
 use crate::holder::{Held, ResourceCert};
-use certs_inspect::Cert;
+use certs_inspect::{
+    AsBlocks, Cert, ClaimError, InheritedAsResources, InheritedIpResources, IpBlocks,
+};
 use certs_x509::{ClaimedKind, Overclaimed, VerificationError};
-use resources::{AsBlocks, ClaimError, InheritedAsResources, InheritedIpResources, IpBlocks};
 use std::alloc::Global;
 
 // The IPv4 addresses that a certificate holds below an issuer.

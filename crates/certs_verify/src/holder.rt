@@ -3,9 +3,8 @@
 ghost use Rattle.std.specs.Prelude.{◌≡◌};
 ghost use Rattle.certs_verify.specs.Holders.{holding};
 
-use certs_inspect::Cert;
+use certs_inspect::{AsBlocks, Cert, IpBlocks};
 use certs_x509::TalInfo;
-use resources::{AsBlocks, IpBlocks};
 use std::alloc::Global;
 use std::marker::Model;
 use std::rc::Rc;

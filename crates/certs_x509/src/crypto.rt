@@ -1,7 +1,6 @@
 //! Algorithms and signatures, and what is handed in: digests, verdicts on signatures, and keys that sign.
 
-pub use certs_algorithm::{
-    AlgorithmIdentifier, DigestAlgorithm, RpkiSignature, RpkiSignatureAlgorithm, Signature,
-    SignatureAlgorithm,
+pub use certs_key::{
+    AlgorithmIdentifier, DigestAlgorithm, Digester, RpkiSignature, RpkiSignatureAlgorithm,
+    Signature, SignatureAlgorithm, Signer, SigningError, Verifier,
 };
-pub use certs_key::{Digester, Signer, SigningError, Verifier};

@@ -2,6 +2,9 @@
 //!
 //! What is written is read again, a value has one meaning, and orders and hashes agree with equality.
 
+pub use certs_errors::laws::{
+    one_meaning as one_signed_data, what_is_written_is_read as signed_data_is_read_again,
+};
 pub use certs_key::laws::{
     encoded_is_der, identifier_equality, key_equality, one_meaning as one_key,
     what_is_written_is_read as keys_are_read_again,
@@ -9,9 +12,6 @@ pub use certs_key::laws::{
 pub use certs_name::laws::{
     key_names_pass_inspection, name_equality, names_are_read_again, one_serial,
     order_and_hash_agree_with_equality as serial_equality, serials_are_read_again,
-};
-pub use certs_signed::laws::{
-    one_meaning as one_signed_data, what_is_written_is_read as signed_data_is_read_again,
 };
 pub use certs_time::laws::{
     one_meaning as one_time, one_time_is_written, order_agrees_with_equality as time_equality,

@@ -1,3 +1,3 @@
 //! Signed data: the very octets that are signed, the algorithm, and the signature.
 
-pub use certs_signed::{SignatureVerificationError, SignedData, SignedDataValues};
+pub use certs_errors::{SignatureVerificationError, SignedData, SignedDataValues};

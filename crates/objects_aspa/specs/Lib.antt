@@ -8,7 +8,7 @@ pub mod Resources
 -- What stands below, for the crates above.
 pub use Rattle.objects_forms.specs.bcder_content as bcder_content
 pub use Rattle.objects_forms.specs.bcder_primitive as bcder_primitive
-pub use Rattle.bcder.specs.bcder_source as bcder_source
+pub use Rattle.resources_asn.specs.bcder_source as bcder_source
 pub use Rattle.objects_forms.specs.bcder_tree as bcder_tree
 pub use Rattle.objects_forms.specs as objects_forms
 pub use Rattle.objects_forms.specs.resources_asn as resources_asn

@@ -8,7 +8,7 @@ use Rattle.objects_aspa.specs.bcder_content.Kept.{CapturedValue}
 use Rattle.objects_aspa.specs.resources_asn.Encodings.{IsAsId}
 use Rattle.objects_aspa.specs.Spelled.{SpellsAsIds}
 use Rattle.objects_forms.proofs.of_bcder_content.Unique.{many_one, octets_one, unsigned_one}
-use Rattle.bcder.proofs.of_bcder_tree.Trees.{one_fields}
+use Rattle.resources_asn.proofs.of_bcder_tree.Trees.{one_fields}
 
 -- A value is one AS number at most.
 pub as_id_one : One IsAsId

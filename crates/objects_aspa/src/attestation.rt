@@ -13,10 +13,9 @@ ghost use Rattle.objects_aspa.specs.Resources.{ListsAlone};
 ghost use Rattle.objects_aspa.specs.Spelled.{SpellsAsIds};
 
 use crate::providers::ProviderAsSet;
-use bcder::decode::{Constructed, Decode, DecodeError, IntoSource, Source};
-use bcder::{Captured, Mode, Tag, encode};
 use objects_forms::{AsBlock, AsBlocksBuilder, AsResources};
-use resources_asn::Asn;
+use resources_asn::decode::{Constructed, Decode, DecodeError, IntoSource, Source};
+use resources_asn::{Asn, Captured, Mode, Tag, encode};
 use std::alloc::{AllocError, Global};
 use std::marker::Model;
 

@@ -11,9 +11,8 @@ ghost use Rattle.objects_aspa.specs.resources_asn.Encodings.{IsAsId};
 ghost use Rattle.objects_aspa.specs.Listing.{Listing, one_listing};
 ghost use Rattle.objects_aspa.specs.Spelled.{SpellsAsIds, captured};
 
-use bcder::Mode;
-use bcder::decode::read_front;
-use resources_asn::Asn;
+use resources_asn::decode::read_front;
+use resources_asn::{Asn, Mode};
 use std::marker::Model;
 
 /// The AS numbers of providers, in their order, read one by one of their octets. Contracts see the list of those that

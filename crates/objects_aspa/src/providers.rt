@@ -13,9 +13,8 @@ ghost use Rattle.objects_aspa.specs.Spelled.{SpellsAsIds};
 
 use crate::iter::ProviderAsIter;
 use crate::run::Run;
-use bcder::Captured;
-use bcder::decode::{Constructed, ContentError, DecodeError, Source};
-use resources_asn::{Asn, SmallAsnSet};
+use resources_asn::decode::{Constructed, ContentError, DecodeError, Source};
+use resources_asn::{Asn, Captured, SmallAsnSet};
 use std::alloc::{AllocError, Global};
 use std::marker::Model;
 

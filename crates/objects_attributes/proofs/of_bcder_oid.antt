@@ -1,2 +1,2 @@
 -- Lemmas of bcder_oid, for the crates above.
-pub use Rattle.bcder.proofs.of_bcder_oid.Read
+pub use Rattle.objects_forms.proofs.of_bcder_oid.Read

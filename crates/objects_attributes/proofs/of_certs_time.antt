@@ -1,2 +1,2 @@
 -- Lemmas of certs_time, for the crates above.
-pub use Rattle.certs_time.proofs.Meanings
+pub use Rattle.objects_forms.proofs.of_certs_time.Meanings

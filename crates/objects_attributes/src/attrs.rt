@@ -10,9 +10,8 @@ ghost use Rattle.objects_forms.specs.SignedAttributes.{AreAttributes, Attributes
 ghost use Rattle.objects_attributes.specs.Kept.{AreKept, AreWhole, DecodesAll, attributes_of, slots_of};
 
 use crate::slots::Slots;
-use bcder::decode::{Constructed, ContentError, Decode, DecodeError, Source};
-use bcder::{Captured, Mode, OctetString, Oid};
-use certs_time::Time;
+use objects_forms::decode::{Constructed, ContentError, Decode, DecodeError, Source};
+use objects_forms::{Captured, Mode, OctetString, Oid, Time};
 use std::alloc::Global;
 use std::convert::Infallible;
 use std::marker::Model;

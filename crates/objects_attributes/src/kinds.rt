@@ -4,7 +4,7 @@ ghost use Rattle.std.specs.Prelude.{◌≡◌, MatchOption};
 ghost use Rattle.objects_attributes.specs.Said.{octets_of};
 ghost use Rattle.objects_attributes.specs.declared.kinds.Kind.{Kind as KindValue};
 
-use bcder::{ConstOid, Oid};
+use objects_forms::{ConstOid, Oid};
 
 /// id-contentType, 1.2.840.113549.1.9.3 (RFC 5652 11.1).
 const CONTENT_TYPE: ConstOid = Oid(&[42, 134, 72, 134, 247, 13, 1, 9, 3]);

@@ -10,9 +10,8 @@ ghost use Rattle.objects_attributes.specs.Said.{AreOneValue, AreSaid, IsSaid, Is
 ghost use Rattle.objects_attributes.specs.Said.{said_fields};
 
 use crate::kinds::{Kind, kind_of};
-use bcder::decode::{Constructed, ContentError, DecodeError, Source};
-use bcder::{OctetString, Oid};
-use certs_time::Time;
+use objects_forms::decode::{Constructed, ContentError, DecodeError, Source};
+use objects_forms::{OctetString, Oid, Time};
 use std::alloc::Global;
 
 /// What an attribute says.

@@ -8,9 +8,8 @@ ghost use Rattle.objects_attributes.specs.Said.{IsSaid};
 ghost use Rattle.objects_attributes.specs.Slots.{Adds, AreSlots, Refuses};
 
 use crate::said::Said;
-use bcder::decode::{Constructed, ContentError, DecodeError, Source};
-use bcder::{OctetString, Oid};
-use certs_time::Time;
+use objects_forms::decode::{Constructed, ContentError, DecodeError, Source};
+use objects_forms::{OctetString, Oid, Time};
 use std::alloc::Global;
 
 /// What the attributes said so far.

@@ -1,17 +1,17 @@
 -- An object with its content, part by part: octets are one object at most.
 use Rattle.std.proofs.Common.{◌≡◌, ◌∙◌, ap, subst, sym, Bool, true, false, IsTrue, ◌↔◌, ℕ, List, Result, Ok, Err}
 use Rattle.std.specs.Prelude.{IsErr, IsErrAnd}
-use Rattle.objects_forms.specs.bcder_tree.declared.mode.Mode.TheVariants.{Der}
-use Rattle.objects_forms.specs.bcder_tree.Tree.{Tree}
+use Rattle.objects_manifest.specs.bcder_tree.declared.mode.Mode.TheVariants.{Der}
+use Rattle.objects_manifest.specs.bcder_tree.Tree.{Tree}
 use Rattle.objects_verify.specs.bcder_tree.Front.{Front}
-use Rattle.objects_forms.specs.bcder_content.Texts.{ReadsFront}
+use Rattle.objects_manifest.specs.bcder_content.Texts.{ReadsFront}
 use Rattle.objects_verify.specs.bcder_source.Errors.{OnContent, SameCause}
 use Rattle.objects_verify.specs.bcder_source.declared.error.DecodeError.{DecodeError}
 use Rattle.bcder.proofs.of_bcder_content.Keeping.{same_refusal}
 use Rattle.bcder.proofs.of_bcder_content.Taking.{weaker}
-use Rattle.objects_forms.specs.Contents.{ReadsAs}
-use Rattle.objects_forms.specs.ObjectText.{Object, ObjectText}
-use Rattle.objects_forms.proofs.Objects.{one_object}
+use Rattle.objects_manifest.specs.objects_forms.Contents.{ReadsAs}
+use Rattle.objects_manifest.specs.objects_forms.ObjectText.{Object, ObjectText}
+use Rattle.objects_manifest.proofs.of_objects_forms.Objects.{one_object}
 use Rattle.objects_kinds.specs.Kinds.{DecodesKind, DecodesTyped, IsTyped, KindValue}
 
 -- The octets are an object of another type of content.

@@ -2,7 +2,7 @@
 use Rattle.std.specs.Prelude.{◌≡◌, Bool, ℕ, List, Result, Ok, Err}
 use Rattle.objects_verify.specs.bcder_source.Errors.{OnContent}
 use Rattle.objects_verify.specs.bcder_source.declared.error.DecodeError.{DecodeError}
-use Rattle.objects_forms.specs.ObjectText.{Object, ObjectText}
+use Rattle.objects_manifest.specs.objects_forms.ObjectText.{Object, ObjectText}
 
 -- A signed object, and what its content says.
 pub record KindValue (A : Type 0) : Type 0 where

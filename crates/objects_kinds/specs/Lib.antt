@@ -1,4 +1,4 @@
 pub mod Kinds
 -- What stands below, for the crates above.
 pub use Rattle.objects_verify.specs.objects_signed as objects_signed
-pub use Rattle.objects_forms.specs as objects_forms
+pub use Rattle.objects_manifest.specs.objects_forms as objects_forms

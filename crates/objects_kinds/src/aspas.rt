@@ -1,7 +1,7 @@
 //! Provider attestations (draft-ietf-sidrops-aspa-profile 3).
 
 ghost use Rattle.std.specs.Prelude.{◌≡◌};
-ghost use Rattle.objects_forms.specs.Aspas.{AspaText};
+ghost use Rattle.objects_manifest.specs.objects_forms.Aspas.{AspaText};
 ghost use Rattle.objects_kinds.specs.Kinds.{DecodesKind};
 
 use crate::typed::decode_typed;
@@ -22,7 +22,7 @@ pub struct Aspa {
 }
 
 impl Model for Aspa {
-    ghost use Rattle.objects_forms.specs.Aspas.{Aspa as ContentValue};
+    ghost use Rattle.objects_manifest.specs.objects_forms.Aspas.{Aspa as ContentValue};
     ghost use Rattle.objects_kinds.specs.Kinds.{KindValue};
 
     ghost Value = { KindValue ContentValue };

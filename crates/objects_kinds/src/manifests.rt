@@ -1,7 +1,7 @@
 //! Manifests (RFC 9286 4).
 
 ghost use Rattle.std.specs.Prelude.{◌≡◌};
-ghost use Rattle.objects_forms.specs.Manifests.{ManifestText};
+ghost use Rattle.objects_manifest.specs.objects_forms.Manifests.{ManifestText};
 ghost use Rattle.objects_kinds.specs.Kinds.{DecodesKind};
 
 use crate::typed::decode_typed;
@@ -22,7 +22,7 @@ pub struct Manifest {
 }
 
 impl Model for Manifest {
-    ghost use Rattle.objects_forms.specs.Manifests.{Manifest as ContentValue};
+    ghost use Rattle.objects_manifest.specs.objects_forms.Manifests.{Manifest as ContentValue};
     ghost use Rattle.objects_kinds.specs.Kinds.{KindValue};
 
     ghost Value = { KindValue ContentValue };

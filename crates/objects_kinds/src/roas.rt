@@ -1,7 +1,7 @@
 //! Route origin attestations (RFC 9582 3).
 
 ghost use Rattle.std.specs.Prelude.{◌≡◌};
-ghost use Rattle.objects_forms.specs.Roas.{RoaText};
+ghost use Rattle.objects_manifest.specs.objects_forms.Roas.{RoaText};
 ghost use Rattle.objects_kinds.specs.Kinds.{DecodesKind};
 
 use crate::typed::decode_typed;
@@ -22,7 +22,7 @@ pub struct Roa {
 }
 
 impl Model for Roa {
-    ghost use Rattle.objects_forms.specs.Roas.{Roa as ContentValue};
+    ghost use Rattle.objects_manifest.specs.objects_forms.Roas.{Roa as ContentValue};
     ghost use Rattle.objects_kinds.specs.Kinds.{KindValue};
 
     ghost Value = { KindValue ContentValue };

@@ -19,6 +19,7 @@ mod text;
 pub mod uri;
 mod uris;
 
+pub use bcder::decode;
 pub use certs_x509::uri::Rsync;
 pub use certs_x509::{Serial, Time};
 pub use error::ReadError;

@@ -5,7 +5,7 @@ use Rattle.objects_manifest.specs.bcder_tree.declared.mode.Mode.{Mode}
 use Rattle.objects_manifest.specs.bcder_tree.Tags.{universal}
 use Rattle.objects_manifest.specs.bcder_tree.Tree.{Trees}
 use Rattle.objects_manifest.specs.bcder_content.Grammar.{End, Inside, Many, Then}
-use Rattle.certs_basics.specs.Basics.{IsSerial}
+use Rattle.certs_key.specs.certs_basics.Basics.{IsSerial}
 use Rattle.objects_forms.specs.certs_specs.CertText.{IsVersion as IsInteger}
 use Rattle.objects_forms.specs.Contents.{VersionZero}
 use Rattle.objects_forms.specs.Identifiers as id

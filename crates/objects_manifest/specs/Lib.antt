@@ -4,12 +4,13 @@ pub mod Held
 pub mod Steps
 pub mod Content
 -- What stands below, for the crates above.
-pub use Rattle.certs_basics.specs.bcder_bits as bcder_bits
-pub use Rattle.certs_basics.specs.bcder_content as bcder_content
-pub use Rattle.certs_basics.specs.bcder_header as bcder_header
-pub use Rattle.certs_basics.specs.bcder_primitive as bcder_primitive
-pub use Rattle.certs_basics.specs.bcder_source as bcder_source
-pub use Rattle.certs_basics.specs.bcder_strings as bcder_strings
-pub use Rattle.certs_basics.specs.bcder_tree as bcder_tree
-pub use Rattle.certs_basics.specs as certs_basics
-pub use Rattle.certs_time.specs as certs_time
+pub use Rattle.certs_key.specs.bcder_bits as bcder_bits
+pub use Rattle.certs_key.specs.bcder_content as bcder_content
+pub use Rattle.certs_key.specs.bcder_header as bcder_header
+pub use Rattle.certs_key.specs.bcder_primitive as bcder_primitive
+pub use Rattle.certs_key.specs.bcder_source as bcder_source
+pub use Rattle.certs_key.specs.bcder_strings as bcder_strings
+pub use Rattle.certs_key.specs.bcder_tree as bcder_tree
+pub use Rattle.certs_key.specs.certs_basics as certs_basics
+pub use Rattle.objects_forms.specs.certs_time as certs_time
+pub use Rattle.objects_forms.specs as objects_forms

@@ -9,10 +9,10 @@ use Rattle.objects_manifest.specs.bcder_content.Grammar.{Many, One}
 use Rattle.objects_manifest.specs.bcder_content.Kept.{CapturedValue}
 use Rattle.objects_manifest.specs.bcder_content.Texts.{InOrder}
 use Rattle.objects_forms.specs.Manifests.{File, IsFile}
-use Rattle.certs_basics.proofs.of_bcder_bits.Readings.{bit_string_one}
-use Rattle.certs_basics.proofs.of_bcder_content.Unique.{as_one, end_one, inside_one, many_one, octets_one, such_one, then_one}
-use Rattle.certs_basics.proofs.of_bcder_tree.Trees.{one_fields}
-use Rattle.certs_basics.proofs.Values.{string_one}
+use Rattle.certs_key.proofs.of_bcder_bits.Readings.{bit_string_one}
+use Rattle.certs_key.proofs.of_bcder_content.Unique.{as_one, end_one, inside_one, many_one, octets_one, such_one, then_one}
+use Rattle.certs_key.proofs.of_bcder_tree.Trees.{one_fields}
+use Rattle.certs_key.proofs.of_certs_basics.Values.{string_one}
 
 -- A value is one file at most.
 pub file_one : One IsFile

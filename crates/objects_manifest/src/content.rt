@@ -11,10 +11,9 @@ ghost use Rattle.objects_forms.specs.Manifests.{IsManifest, manifest_of};
 ghost use Rattle.objects_manifest.specs.Content.{AreManifestFields, IsNumber, alone, fields_of};
 
 use crate::list::{FileList, FileListIter};
-use bcder::decode::{Constructed, Decode, DecodeError, IntoSource, Source};
-use bcder::{ConstOid, Mode, Oid, Tag};
-use certs_name::Serial;
-use certs_time::Time;
+use certs_key::decode::{Constructed, Decode, DecodeError, IntoSource, Source};
+use certs_key::{ConstOid, Mode, Oid, Serial, Tag};
+use objects_forms::Time;
 use std::alloc::Global;
 use std::marker::Model;
 

@@ -12,9 +12,9 @@ ghost use Rattle.objects_manifest.specs.bcder_content.InMode.{ReadsFields};
 ghost use Rattle.objects_manifest.specs.Files.{AreEntryFields, IsEntry, IsHash, IsHashContent, IsName};
 ghost use Rattle.objects_manifest.specs.Files.{IsBase, IsBaseOctet, IsExtension, IsNameContent, entry};
 
-use bcder::Tag;
-use bcder::bcder_values::bcder_content::whole::{front, pass, refuse, request_all};
-use bcder::decode::{Constructed, DecodeError, Primitive, Source};
+use certs_key::Tag;
+use certs_key::decode::whole::{front, pass, refuse, request_all};
+use certs_key::decode::{Constructed, DecodeError, Primitive, Source};
 use std::marker::Model;
 
 // How many octets the extension of a name has: a dot and three letters (RFC 9286 4.2.2).

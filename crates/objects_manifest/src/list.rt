@@ -16,8 +16,8 @@ ghost use Rattle.objects_manifest.specs.Listing.{Listing, one_listing};
 
 use crate::file::{FileAndHash, skip_opt_file};
 use crate::pieces::next_piece;
-use bcder::Captured;
-use bcder::decode::{Constructed, DecodeError, Source};
+use certs_key::Captured;
+use certs_key::decode::{Constructed, DecodeError, Source};
 use std::alloc::Global;
 use std::marker::Model;
 

@@ -6,7 +6,7 @@ ghost use Rattle.objects_manifest.specs.bcder_header.Openings.{NoHead};
 ghost use Rattle.bcder_octets.specs.Pieces.{Holds, IsHeaded, NextPiece};
 ghost use Rattle.objects_manifest.specs.Steps.{IsShorter, StepsTo};
 
-use bcder::bcder_source::{Length, Mode, Tag};
+use certs_key::{Length, Mode, Tag};
 
 // What stands in front of octets of values.
 enum Item<'a> {

@@ -1,9 +1,9 @@
 -- Lemmas of bcder_content, for the crates above.
-pub use Rattle.bcder.proofs.of_bcder_content.Choices
-pub use Rattle.bcder.proofs.of_bcder_content.Choosing
-pub use Rattle.bcder.proofs.of_bcder_content.Decoding
-pub use Rattle.bcder.proofs.of_bcder_content.Forests
-pub use Rattle.bcder.proofs.of_bcder_content.InMode
-pub use Rattle.bcder.proofs.of_bcder_content.Taking
-pub use Rattle.bcder.proofs.of_bcder_content.Unique
-pub use Rattle.bcder.proofs.of_bcder_content.Within
+pub use Rattle.resources_asn.proofs.of_bcder_content.Choices
+pub use Rattle.resources_asn.proofs.of_bcder_content.Choosing
+pub use Rattle.resources_asn.proofs.of_bcder_content.Decoding
+pub use Rattle.resources_asn.proofs.of_bcder_content.Forests
+pub use Rattle.resources_asn.proofs.of_bcder_content.InMode
+pub use Rattle.resources_asn.proofs.of_bcder_content.Taking
+pub use Rattle.resources_asn.proofs.of_bcder_content.Unique
+pub use Rattle.resources_asn.proofs.of_bcder_content.Within

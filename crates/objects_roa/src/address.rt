@@ -11,7 +11,7 @@ ghost use Rattle.objects_roa.specs.resources_ip_prefix.Encodings.{prefix_bits};
 ghost use Rattle.objects_roa.specs.resources_ip_prefix.Prefixes.{prefix_run};
 ghost use Rattle.objects_roa.specs.Addresses.{AreAddress, AreAddressFields, IsAddressOf, address_fields, address_from, roa_address};
 
-use bcder::decode::{Constructed, ContentError, DecodeError, Source};
+use resources_asn::decode::{Constructed, ContentError, DecodeError, Source};
 use resources_ip_prefix::{Addr, AddressFamily, Prefix};
 use std::alloc::Global;
 use std::net::IpAddr;

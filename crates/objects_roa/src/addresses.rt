@@ -10,7 +10,7 @@ ghost use Rattle.objects_roa.specs.bcder_tree.Tags.{universal};
 ghost use Rattle.objects_roa.specs.Addresses.{AreAddresses, roa_address};
 
 use crate::address::RoaIpAddress;
-use bcder::decode::{Constructed, DecodeError, Source};
+use resources_asn::decode::{Constructed, DecodeError, Source};
 use resources_ip_prefix::AddressFamily;
 use std::alloc::{AllocError, Global};
 use std::marker::Model;

@@ -15,9 +15,8 @@ ghost use Rattle.objects_roa.specs.Families.{AreFamilies, both_families};
 
 use crate::addresses::RoaIpAddresses;
 use crate::families::{Families, take_families};
-use bcder::decode::{Constructed, Decode, DecodeError, IntoSource, Source};
-use bcder::{Mode, Tag};
-use resources_asn::Asn;
+use resources_asn::decode::{Constructed, Decode, DecodeError, IntoSource, Source};
+use resources_asn::{Asn, Mode, Tag};
 use std::alloc::Global;
 use std::marker::Model;
 

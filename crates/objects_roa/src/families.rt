@@ -11,7 +11,7 @@ ghost use Rattle.objects_roa.specs.Families.{AreFamilies, AreFamilyIn, ArePair, 
 ghost use Rattle.objects_roa.specs.Families.{both_families, family_value, pair_value};
 
 use crate::addresses::RoaIpAddresses;
-use bcder::decode::{Constructed, ContentError, DecodeError, Source};
+use resources_asn::decode::{Constructed, ContentError, DecodeError, Source};
 use resources_ip_prefix::AddressFamily;
 use std::alloc::Global;
 

@@ -8,7 +8,7 @@ use Rattle.objects_signed.specs.bcder_content.Grammar.{OneAll}
 use Rattle.objects_signed.proofs.of_bcder_content.Fronts.{OneFront, joins_one, none_one, octets_too_before, order_one, spells_one, wraps_one}
 use Rattle.objects_signed.proofs.of_bcder_content.Simple.{unit_one}
 use Rattle.objects_signed.proofs.of_bcder_content.Unique.{end_one, inside_one, octets_one, then_one}
-use Rattle.certs_algorithm.proofs.Meanings.{cms_one, digest_one, digests_one}
+use Rattle.certs_cert.proofs.of_certs_algorithm.Meanings.{cms_one, digest_one, digests_one}
 use Rattle.objects_attributes.proofs.Attributes.{attributes_by_slots}
 use Rattle.objects_attributes.proofs.Ones.{oid_value_one, slots_one, string_value_one}
 use Rattle.objects_attributes.specs.Kept.{slots_of}

@@ -11,9 +11,8 @@ ghost use Rattle.objects_signed.specs.Frame.{AreCertOctets, AreCerts, AreSignerT
 ghost use Rattle.objects_signed.specs.Frame.{SpellsCerts, SpellsSigners, alone, one_signer};
 
 use crate::signer::SignerInfo;
-use bcder::Tag;
-use bcder::decode::{Constructed, DecodeError, Source};
-use certs_cert::Cert;
+use certs_cert::decode::{Constructed, DecodeError, Source};
+use certs_cert::{Cert, Tag};
 use std::alloc::Global;
 
 // The certificate that is all of its content.

@@ -8,8 +8,8 @@ ghost use Rattle.objects_signed.specs.bcder_content.InMode.{ReadsFields};
 ghost use Rattle.objects_attributes.specs.objects_forms.ObjectText.{IsContentInfo};
 ghost use Rattle.objects_signed.specs.Frame.{AreTyped, IsString, alone, typed_fields};
 
-use bcder::decode::{Constructed, DecodeError, Source};
-use bcder::{OctetString, Oid, Tag};
+use certs_cert::decode::{Constructed, DecodeError, Source};
+use certs_cert::{OctetString, Oid, Tag};
 use std::alloc::Global;
 
 // The content's type, and the content.

@@ -16,10 +16,8 @@ ghost use Rattle.objects_signed.specs.Frame.{signed_fields};
 use crate::carried::{take_certificates, take_signers};
 use crate::content::{Typed, take_content_info};
 use crate::signer::SignerInfo;
-use bcder::decode::{Constructed, DecodeError, Source};
-use bcder::{ConstOid, Oid, Tag};
-use certs_algorithm::DigestAlgorithm;
-use certs_cert::Cert;
+use certs_cert::decode::{Constructed, DecodeError, Source};
+use certs_cert::{Cert, ConstOid, DigestAlgorithm, Oid, Tag};
 use std::alloc::Global;
 
 // id-signedData, 1.2.840.113549.1.7.2 (RFC 5652 5.1).

@@ -8,6 +8,6 @@ mod frame;
 pub mod object;
 pub mod signer;
 
-pub use certs_cert::Cert;
+pub use certs_cert::{Cert, Digester, Verifier};
 pub use object::SignedObject;
 pub use signer::SignerInfo;

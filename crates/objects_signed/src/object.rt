@@ -9,10 +9,8 @@ ghost use Rattle.objects_signed.specs.Decoded.{Agrees, DecodesObject, ReadsOctet
 
 use crate::frame::{Parts, take_frame};
 use crate::signer::SignerInfo;
-use bcder::decode::{Constructed, ContentError, Decode, DecodeError, IntoSource, Source};
-use bcder::{Mode, OctetString, Oid};
-use certs_cert::Cert;
-use certs_time::Time;
+use certs_cert::decode::{Constructed, ContentError, Decode, DecodeError, IntoSource, Source};
+use certs_cert::{Cert, Mode, OctetString, Oid, Time};
 use std::alloc::Global;
 use std::marker::Model;
 

@@ -14,10 +14,8 @@ ghost use Rattle.objects_attributes.specs.objects_forms.ObjectText.{IsSid, Spell
 ghost use Rattle.objects_signed.specs.Signer.{AreKeptOctets, AreSigner, AreSignerOctets, IsSigner};
 ghost use Rattle.objects_signed.specs.Signer.{SpellsKept, signer_fields};
 
-use bcder::decode::{Constructed, DecodeError, Source};
-use bcder::{OctetString, Tag};
-use certs_algorithm::{DigestAlgorithm, RpkiSignatureAlgorithm};
-use certs_cert::KeyIdentifier;
+use certs_cert::decode::{Constructed, DecodeError, Source};
+use certs_cert::{DigestAlgorithm, KeyIdentifier, OctetString, RpkiSignatureAlgorithm, Tag};
 use objects_attributes::SignedAttrs;
 use std::alloc::Global;
 use std::marker::Model;

@@ -1,2 +1,2 @@
 -- Lemmas of bcder_content, for the crates above.
-pub use Rattle.bcder.proofs.of_bcder_content.Taking
+pub use Rattle.certs_errors.proofs.of_bcder_content.Taking

@@ -8,11 +8,8 @@ ghost use Rattle.objects_verify.specs.Content.{AsksOnce, FailsSignature, HasDige
 ghost use Rattle.objects_verify.specs.Content.{VerifiesContent, object_with};
 
 use crate::message::signed_message;
-use bcder::OctetString;
-use certs_errors::VerificationError;
-use certs_key::{Digester, Verifier};
-use certs_time::Time;
-use objects_signed::{Cert, SignerInfo};
+use certs_errors::{OctetString, Time, VerificationError};
+use objects_signed::{Cert, Digester, SignerInfo, Verifier};
 use std::alloc::Global;
 
 // Whether a digest is the SHA-256 digest of a content.

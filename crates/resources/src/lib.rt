@@ -63,4 +63,5 @@ pub use ipres::{
     OverclaimedIpResources, OverclaimedIpv4Resources, OverclaimedIpv6Resources, Prefix,
 };
 pub use overclaim::{ClaimError, Overclaim, OverclaimIds};
+pub use resources_set::Origin;
 pub use set::{InheritError, ResourceDiff, ResourceSet};

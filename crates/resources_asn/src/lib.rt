@@ -10,6 +10,7 @@ mod selection;
 pub mod small_set;
 
 pub use asn::{Asn, ParseAsnError};
+pub use bcder::{Captured, Mode, Tag, decode, encode};
 pub use origin::Origin;
 pub use small_set::{
     SmallAsnSet, SmallSetDifference, SmallSetIntersection, SmallSetIter,

@@ -4,5 +4,9 @@
 pub mod v4;
 pub mod v6;
 
+pub use resources_ip;
+pub use resources_ip::{
+    FromStrError, InheritedIpResources, IpResources, OverclaimedIpv6Resources, RangeEncoder,
+};
 pub use v4::{Ipv4Block, Ipv4Blocks};
 pub use v6::{Ipv6Block, Ipv6Blocks};

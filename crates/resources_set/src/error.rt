@@ -3,7 +3,7 @@
 ghost use Rattle.std.specs.Prelude.{◌≡◌};
 
 use resources_as::InheritedAsResources;
-use resources_ip::InheritedIpResources;
+use resources_ip_family::InheritedIpResources;
 use std::alloc::AllocError;
 use thiserror::Error;
 
@@ -15,10 +15,10 @@ pub enum FromStrError {
     Asn(resources_as::FromStrError),
     /// The second is no set of IPv4 addresses.
     #[error("cannot parse IPv4 resources: {0}")]
-    Ipv4(resources_ip::FromStrError),
+    Ipv4(resources_ip_family::FromStrError),
     /// The third is no set of IPv6 addresses.
     #[error("cannot parse IPv6 resources: {0}")]
-    Ipv6(resources_ip::FromStrError),
+    Ipv6(resources_ip_family::FromStrError),
     /// A growth of memory was refused.
     #[error("out of memory")]
     Memory,
@@ -34,17 +34,17 @@ impl FromStrError {
     }
 
     // Why a text is no set of IPv4 addresses.
-    pub(crate) fn of_ipv4(error: resources_ip::FromStrError) -> Self {
+    pub(crate) fn of_ipv4(error: resources_ip_family::FromStrError) -> Self {
         match error {
-            resources_ip::FromStrError::Memory => FromStrError::Memory,
+            resources_ip_family::FromStrError::Memory => FromStrError::Memory,
             error => FromStrError::Ipv4(error),
         }
     }
 
     // Why a text is no set of IPv6 addresses.
-    pub(crate) fn of_ipv6(error: resources_ip::FromStrError) -> Self {
+    pub(crate) fn of_ipv6(error: resources_ip_family::FromStrError) -> Self {
         match error {
-            resources_ip::FromStrError::Memory => FromStrError::Memory,
+            resources_ip_family::FromStrError::Memory => FromStrError::Memory,
             error => FromStrError::Ipv6(error),
         }
     }

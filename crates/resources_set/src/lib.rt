@@ -13,4 +13,10 @@ pub mod set;
 
 pub use diff::ResourceDiff;
 pub use error::{FromStrError, InheritError};
+pub use resources_as;
+pub use resources_as::Origin;
+pub use resources_ip_family::{
+    Ipv4Block, Ipv4Blocks, Ipv6Block, Ipv6Blocks, OverclaimedIpv6Resources, RangeEncoder,
+    resources_ip,
+};
 pub use set::ResourceSet;

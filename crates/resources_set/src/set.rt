@@ -16,8 +16,7 @@ use crate::families::{
     difference_v4, difference_v6, intersection_v4, intersection_v6, union_v4, union_v6,
 };
 use resources_as::{AsBlocks, AsResources};
-use resources_ip::IpResources;
-use resources_ip_family::{Ipv4Blocks, Ipv6Blocks};
+use resources_ip_family::{IpResources, Ipv4Blocks, Ipv6Blocks};
 use std::alloc::{AllocError, Global};
 use std::fmt;
 use std::marker::Model;

@@ -6,9 +6,9 @@ ghost use Rattle.rpki_table.specs.rpki_rules.Chains.{CertAt};
 ghost use Rattle.rpki_table.specs.rpki_rules.World.{find_object, world_of};
 ghost use Rattle.rpki_anchors.specs.Leads.{IsNoCert, NoCertAt};
 
-use bcder::decode::DecodeError;
 use bytes::Bytes;
 use certs_cert::Cert;
+use objects_locator::decode::DecodeError;
 use rpki_table::Index;
 use std::alloc::{AllocError, Global};
 

@@ -8,8 +8,7 @@ ghost use Rattle.rpki_table.specs.rpki_rules.World.{world_of};
 ghost use Rattle.rpki_anchors.specs.Leads.{NoneHeld};
 
 use objects_locator::TalUri;
-use rpki_bundle::Object;
-use rpki_table::Index;
+use rpki_table::{Index, Object};
 
 /// The object at the first of the URIs at which there is one; none where there is none at any. Its own URI is the
 /// lookup key under which it was found.

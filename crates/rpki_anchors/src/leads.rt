@@ -9,8 +9,7 @@ ghost use Rattle.rpki_anchors.specs.Leads.{IsLead};
 use crate::held::first_held;
 use crate::texts::read_locator_text;
 use objects_locator::Tal;
-use rpki_bundle::{Locator, Object};
-use rpki_table::Index;
+use rpki_table::{Index, Locator, Object};
 use std::alloc::{AllocError, Global};
 
 /// What a locator leads to, whatever the octets there are.

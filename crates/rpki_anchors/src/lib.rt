@@ -11,5 +11,6 @@ pub mod texts;
 pub use certs::{cert_at, read_cert};
 pub use held::first_held;
 pub use leads::{Lead, follow};
-pub use rpki_bundle::{Locator, Object};
+pub use objects_locator::{Tal, TalUri};
+pub use rpki_table::{Index, Locator, Object, TableVerifier};
 pub use texts::read_locator_text;

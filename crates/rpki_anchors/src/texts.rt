@@ -6,7 +6,7 @@ ghost use Rattle.rpki_table.specs.rpki_readings.Locators.{LocatorText};
 ghost use Rattle.rpki_anchors.specs.Leads.{IsNoLocator};
 
 use objects_locator::{ReadError, Tal};
-use rpki_bundle::Locator;
+use rpki_table::Locator;
 use std::alloc::{AllocError, Global};
 
 /// The trust anchor locator that the text is, or none where it is none (RFC 8630 2.2). Memory is asked for only where a

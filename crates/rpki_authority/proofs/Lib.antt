@@ -4,3 +4,4 @@ pub mod FoundBelow
 pub mod FoundAnchor
 pub mod Children
 pub mod Settling
+pub mod of_rpki_rules

@@ -11,6 +11,6 @@ mod settled;
 
 pub use anchors::anchor_cert;
 pub use below::authority_below;
-pub use certs_verify::{Cert, ResourceCert, TalInfo};
+pub use certs_verify::{Cert, Digester, PublicKey, ResourceCert, TalInfo, Verifier};
 pub use rpki_table::Index;
 pub use rpki_walk::{Filed, Leads, Steps};

@@ -11,8 +11,8 @@ ghost use Rattle.rpki_bundle.specs.Grammars.{AreRows};
 ghost use Rattle.rpki_bundle.specs.Orders.{IsBefore, Ascends};
 ghost use Rattle.rpki_bundle.specs.Lawful.{IsLawfulList};
 
-use bcder::decode::{Constructed, ContentError, DecodeError, Source};
-use bcder::encode::Values;
+use certs_key::decode::{Constructed, ContentError, DecodeError, Source};
+use certs_key::encode::Values;
 use std::alloc::Global;
 
 /// What a list of a bundle has as its entries.

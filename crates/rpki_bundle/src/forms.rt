@@ -12,9 +12,9 @@ use crate::uri::is_lookup_key;
 use crate::words::VerdictWords;
 use crate::writer::{pair_len, triple_len, write_pair, write_triple};
 use crate::{Locator, Object, Verdict};
-use bcder::decode::{Constructed, DecodeError, Source};
-use bcder::encode::{EncodeError, Values};
-use bcder::{Mode, Tag};
+use certs_key::decode::{Constructed, DecodeError, Source};
+use certs_key::encode::{EncodeError, Values};
+use certs_key::{Mode, Tag};
 use std::alloc::Global;
 use std::io::Write;
 

@@ -16,7 +16,7 @@ mod words;
 mod writer;
 
 pub use bundle::Bundle;
-pub use certs_key::{PublicKey, Verifier};
+pub use certs_key::{PublicKey, RpkiSignatureAlgorithm, Verifier};
 pub use digest::Digester;
 pub use error::BundleError;
 pub use parts::{Locator, Object, Verdict};

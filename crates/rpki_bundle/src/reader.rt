@@ -15,10 +15,10 @@ ghost use Rattle.rpki_bundle.specs.Words.{octets_of};
 use crate::Time;
 use crate::uri::is_lookup_key;
 use crate::words::DigestWords;
-use bcder::decode::{Constructed, ContentError, DecodeError, Primitive, Source};
-use bcder::string::{CharSet, PrintableCharSet};
-use bcder::{Ia5String, OctetString, PrintableString, Tag};
 use bytes::Bytes;
+use certs_key::decode::{Constructed, ContentError, DecodeError, Primitive, Source};
+use certs_key::string::{CharSet, PrintableCharSet};
+use certs_key::{Ia5String, OctetString, PrintableString, Tag};
 use std::alloc::Global;
 
 // Whether the text isn't empty, and has no space.

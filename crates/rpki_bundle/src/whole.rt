@@ -9,8 +9,8 @@ ghost use Rattle.rpki_bundle.specs.PartFields.{TellsBundle, parts_alone, parts_f
 use crate::entries::take_list;
 use crate::reader::{take_depth, take_moment};
 use crate::{Locator, Object, Time, Verdict};
-use bcder::Mode;
-use bcder::decode::{Constructed, ContentError, Decode, DecodeError, IntoSource, Source};
+use certs_key::Mode;
+use certs_key::decode::{Constructed, ContentError, Decode, DecodeError, IntoSource, Source};
 use std::alloc::Global;
 
 /// What was read of a bundle.

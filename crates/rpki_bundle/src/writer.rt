@@ -8,9 +8,9 @@ ghost use Rattle.rpki_bundle.specs.bcder_tree.Tags.{IsTag};
 ghost use Rattle.rpki_bundle.specs.bcder_written.Writing.{HasLength, Wrote, CannotWrite, WriteRefused};
 ghost use Rattle.rpki_bundle.specs.Written.{AreMembers, IsPair, IsTriple, WritesMembers, WritesPair, WritesTriple};
 
-use bcder::encode::{Constructed, EncodeError, Octets, Primitive, Values};
-use bcder::string::OctetSliceEncoder;
-use bcder::{Mode, Tag};
+use certs_key::encode::{Constructed, EncodeError, Octets, Primitive, Values};
+use certs_key::string::OctetSliceEncoder;
+use certs_key::{Mode, Tag};
 use std::convert::AsSlice;
 use std::io::Write;
 

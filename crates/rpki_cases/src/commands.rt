@@ -6,8 +6,10 @@ use crate::streams::{Broken, Sink, Source};
 use anyhow::{Result, anyhow};
 use rpki_bundle::{BundleError, Digester};
 use rpki_commands::folder::Fault;
-use rpki_commands::{Command, FAILED, Fips, bundle, check, command_of};
-use rpki_validator::{Cause, Counted, RunError, run, word_of, write_all};
+use rpki_commands::{
+    Cause, Command, Counted, FAILED, Fips, RunError, bundle, check, command_of, run, word_of,
+    write_all,
+};
 use std::alloc::Global;
 use std::io::{Read, Write};
 

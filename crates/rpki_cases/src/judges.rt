@@ -5,8 +5,7 @@ use crate::noting::Noting;
 use crate::octets::octets_of;
 use anyhow::{Result, anyhow};
 use bytes::Bytes;
-use rpki_commands::Fips;
-use rpki_validator::{Bundle, Path, Reach, TableVerifier, Witness, judge, reach, walk};
+use rpki_commands::{Bundle, Fips, Path, Reach, TableVerifier, Witness, judge, reach, walk};
 use std::alloc::Global;
 use std::rc::Rc;
 

@@ -5,8 +5,7 @@ use crate::answers::Answer;
 use crate::octets::octets_of;
 use crate::streams::{Sink, Source};
 use anyhow::{Result, anyhow};
-use rpki_commands::Fips;
-use rpki_validator::{Counted, Digester, RunError, run};
+use rpki_commands::{Counted, Digester, Fips, RunError, run};
 use std::alloc::Global;
 
 // More places than any question has to try.

@@ -6,12 +6,12 @@ ghost use Rattle.rpki_judge.specs.rpki_rules.Points.{Anchor, IsAnchorCert};
 ghost use Rattle.rpki_judge.specs.rpki_rules.Words.{Mem};
 ghost use Rattle.rpki_judge.specs.rpki_rules.World.{world_of};
 ghost use Rattle.rpki_anchors.specs.rpki_bundle.declared.parts.Locator.{Locator as LocatorValue};
-ghost use Rattle.rpki_signed.specs.certs_key.Digesting.{digests_of};
+ghost use Rattle.rpki_objects.specs.certs_key.Digesting.{digests_of};
 ghost use Rattle.rpki_climb.specs.Anchored.{IsAnchorOf};
 
 use rpki_anchors::laws::{no_lead, one_lead};
 use rpki_anchors::{Lead, Locator, Object, follow};
-use rpki_signed::{Cert, Digester, Index, PublicKey, Verifier, is_anchor_cert};
+use rpki_objects::{Cert, Digester, Index, PublicKey, Verifier, is_anchor_cert};
 use std::alloc::{AllocError, Global};
 
 /// The locator of that name among those.

@@ -8,7 +8,7 @@ ghost use Rattle.rpki_judge.specs.rpki_rules.World.{world_of};
 
 use rpki_anchors::cert_at;
 use rpki_judge::Claims;
-use rpki_signed::{Cert, Index};
+use rpki_objects::{Cert, Index};
 use std::alloc::{AllocError, Global};
 
 /// What the certificate claims, by its policy (RFC 6487 4.8.10, 4.8.11, RFC 8360 4.2).

@@ -1,7 +1,7 @@
 //! A bundle with a digester and a verifier, as the judge asks it.
 
 ghost use Rattle.std.specs.Prelude.{◌≡◌};
-ghost use Rattle.rpki_signed.specs.certs_key.Digesting.{digests_of};
+ghost use Rattle.rpki_objects.specs.certs_key.Digesting.{digests_of};
 ghost use Rattle.rpki_judge.specs.rpki_rules.World.{world_of};
 
 use crate::anchors::is_anchor;
@@ -10,9 +10,7 @@ use crate::certs::{claims_of, find_cert, have_one_key};
 use crate::needs::needs_of;
 use crate::points::{read_object, read_point};
 use rpki_judge::{Claims, Evidence, Needed};
-use rpki_objects::Published;
-use rpki_signed::{Cert, Digester, Index, Verifier};
-use rpki_standing::Point;
+use rpki_objects::{Cert, Digester, Index, Point, Published, Verifier};
 use std::alloc::{AllocError, Global};
 
 /// A bundle with a digester and a verifier: what the judge asks of its objects.

@@ -15,3 +15,5 @@ pub mod points;
 
 pub use evidence::BundleEvidence;
 pub use needs::needs_of;
+pub use rpki_anchors::{Index, TableVerifier};
+pub use rpki_judge::{Judgement, judge, laws};

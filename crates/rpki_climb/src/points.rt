@@ -4,12 +4,10 @@ ghost use Rattle.std.specs.Prelude.{◌≡◌, ◌+◌, ◌≤◌, IfOk, IfSome}
 ghost use Rattle.rpki_judge.specs.Evidence.{IsReadObject, IsReadPoint};
 ghost use Rattle.rpki_judge.specs.rpki_rules.Points.{files as files_by};
 ghost use Rattle.rpki_judge.specs.rpki_rules.World.{world_of};
-ghost use Rattle.rpki_signed.specs.certs_key.Digesting.{digests_of};
+ghost use Rattle.rpki_objects.specs.certs_key.Digesting.{digests_of};
 
 use crate::files::is_listed;
-use rpki_objects::{Published, find_object};
-use rpki_signed::{Cert, Digester, Index, Verifier};
-use rpki_standing::{Point, point_unheld};
+use rpki_objects::{Cert, Digester, Index, Point, Published, Verifier, find_object, point_unheld};
 use std::alloc::{AllocError, Global};
 
 /// The authority's publication point, what the certificate of its manifest claims apart, if it is one. The verifier is asked

@@ -15,3 +15,5 @@ pub use claims::Claims;
 pub use evidence::Evidence;
 pub use judging::{Judgement, judge};
 pub use needed::Needed;
+pub use resources::{asres, chain, ipres};
+pub use rpki_laws::laws;

@@ -11,7 +11,7 @@ mod customers;
 mod origins;
 mod refusals;
 
-use rpki_report::Report;
+pub use rpki_report::{Cause, Customer, Origin, Path, Refusal, Report, Witness, refusal};
 use std::alloc::{AllocError, Global};
 
 /// The lines of origins, then of customers, then of refusals, each with a line feed at its end.

@@ -1,17 +1,17 @@
 -- What the object with a lookup key reads as, by the extension of its name.
 use Rattle.std.proofs.Common.{◌≡◌, ◌↔◌, ℕ, Bool, true, List, Option, Some, None, sym, ap, ◌∙◌, subst}
-use Rattle.bcder.specs.bcder_source.Errors.{OnContent}
-use Rattle.bcder.specs.bcder_source.declared.error.DecodeError.{DecodeError}
+use Rattle.rpki_standing.specs.bcder_source.Errors.{OnContent}
+use Rattle.rpki_standing.specs.bcder_source.declared.error.DecodeError.{DecodeError}
 use Rattle.rpki_payloads.proofs.Endings.{one_extension}
 use Rattle.rpki_payloads.specs.Names.{letters}
 use Rattle.rpki_payloads.specs.declared.names.Extension.{Extension}
 use Rattle.rpki_payloads.specs.declared.names.Extension.TheVariants as extension
-use Rattle.rpki_signed.specs.rpki_bundle.Bundle.{BundleValue}
-use Rattle.rpki_signed.specs.rpki_readings.Certs.{Digests, Verdicts}
-use Rattle.rpki_signed.specs.rpki_readings.Objects.{Object, Roa, RoaText, Aspa, AspaText, one_roa, one_aspa}
-use Rattle.rpki_signed.specs.rpki_rules.Attests.{Payload, OfRoa, OfAspa, PayloadText}
-use Rattle.rpki_signed.specs.rpki_rules.Chains.{HasExtension, roa, asa}
-use Rattle.rpki_signed.specs.rpki_rules.World.{World, world_of}
+use Rattle.rpki_standing.specs.rpki_bundle.Bundle.{BundleValue}
+use Rattle.rpki_standing.specs.rpki_readings.Certs.{Digests, Verdicts}
+use Rattle.rpki_standing.specs.rpki_readings.Objects.{Object, Roa, RoaText, Aspa, AspaText, one_roa, one_aspa}
+use Rattle.rpki_standing.specs.rpki_rules.Attests.{Payload, OfRoa, OfAspa, PayloadText}
+use Rattle.rpki_standing.specs.rpki_rules.Chains.{HasExtension, roa, asa}
+use Rattle.rpki_standing.specs.rpki_rules.World.{World, world_of}
 use Rattle.rpki_objects.specs.Published.{FindsReading, PublishedValue, ReadsAt}
 use Rattle.rpki_objects.specs.Texts.{FindsText, TextOf}
 use Rattle.rpki_objects.proofs.Passing.{one_value}

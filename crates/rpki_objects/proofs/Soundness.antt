@@ -1,14 +1,14 @@
 -- What stands at a file of a publication point, of what the object there reads as.
 use Rattle.std.proofs.Common.{◌≡◌, ◌↔◌, ℕ, Bool, true, false, IsTrue, List, Option, Some, None, refl, sym, subst}
 use Rattle.std.specs.Bool.{then_some}
-use Rattle.rpki_signed.specs.rpki_readings.Certs.{Cert, Digests, Verdicts}
-use Rattle.rpki_signed.specs.Issued.{IsIssued}
-use Rattle.rpki_signed.specs.certs_specs.declared.Role.TheVariants.{Ee}
-use Rattle.rpki_signed.specs.rpki_readings.Objects.{Object, Sound}
-use Rattle.rpki_signed.specs.rpki_rules.Attests.{Payload, IsSigned}
-use Rattle.rpki_signed.specs.rpki_rules.Points.{Point, Unrevoked, files}
-use Rattle.rpki_signed.specs.rpki_rules.Words.{Mem}
-use Rattle.rpki_signed.specs.rpki_rules.World.{World}
+use Rattle.rpki_standing.specs.rpki_readings.Certs.{Cert, Digests, Verdicts}
+use Rattle.rpki_standing.specs.rpki_signed.Issued.{IsIssued}
+use Rattle.rpki_standing.specs.certs_specs.declared.Role.TheVariants.{Ee}
+use Rattle.rpki_standing.specs.rpki_readings.Objects.{Object, Sound}
+use Rattle.rpki_standing.specs.rpki_rules.Attests.{Payload, IsSigned}
+use Rattle.rpki_standing.specs.rpki_rules.Points.{Point, Unrevoked, files}
+use Rattle.rpki_standing.specs.rpki_rules.Words.{Mem}
+use Rattle.rpki_standing.specs.rpki_rules.World.{World}
 use Rattle.rpki_objects.specs.Published.{FindsObject, FindsReading, IsSoundAt, PublishedValue, ReadsAt}
 use Rattle.rpki_objects.proofs.Reading.{one_reading}
 

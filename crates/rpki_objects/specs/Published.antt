@@ -1,12 +1,12 @@
 -- What the object at a file of a publication point is, what its certificate claims apart.
 use Rattle.std.specs.Prelude.{◌≡◌, ℕ, List, Option, Some, None}
-use Rattle.rpki_signed.specs.certs_specs.declared.Role.TheVariants.{Ee}
-use Rattle.rpki_signed.specs.rpki_readings.Certs.{Cert}
-use Rattle.rpki_signed.specs.rpki_readings.Objects.{Object, Sound}
-use Rattle.rpki_signed.specs.rpki_rules.Attests.{Payload, PayloadText, IsSigned}
-use Rattle.rpki_signed.specs.rpki_rules.Points.{Point, Unrevoked}
-use Rattle.rpki_signed.specs.rpki_rules.World.{World}
-use Rattle.rpki_signed.specs.Issued.{IsIssued}
+use Rattle.rpki_standing.specs.certs_specs.declared.Role.TheVariants.{Ee}
+use Rattle.rpki_standing.specs.rpki_readings.Certs.{Cert}
+use Rattle.rpki_standing.specs.rpki_readings.Objects.{Object, Sound}
+use Rattle.rpki_standing.specs.rpki_rules.Attests.{Payload, PayloadText, IsSigned}
+use Rattle.rpki_standing.specs.rpki_rules.Points.{Point, Unrevoked}
+use Rattle.rpki_standing.specs.rpki_rules.World.{World}
+use Rattle.rpki_standing.specs.rpki_signed.Issued.{IsIssued}
 
 -- A signed object, and what it attests.
 pub record PublishedValue : Type 0 where

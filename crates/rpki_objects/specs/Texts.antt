@@ -2,8 +2,8 @@
 use Rattle.std.specs.Prelude.{ℕ, true, List, Option, Some, None}
 use Rattle.rpki_payloads.specs.declared.names.Extension.{Extension}
 use Rattle.rpki_payloads.specs.declared.names.Extension.TheVariants as extension
-use Rattle.rpki_signed.specs.rpki_readings.Objects.{Object, RoaText, AspaText}
-use Rattle.rpki_signed.specs.rpki_rules.Attests.{Payload, OfRoa, OfAspa}
+use Rattle.rpki_standing.specs.rpki_readings.Objects.{Object, RoaText, AspaText}
+use Rattle.rpki_standing.specs.rpki_rules.Attests.{Payload, OfRoa, OfAspa}
 use Rattle.rpki_objects.specs.Published.{PublishedValue}
 
 -- The octets begin with an object of that extension's kind, in DER; a certificate is none.

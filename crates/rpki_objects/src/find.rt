@@ -9,8 +9,9 @@ ghost use Rattle.rpki_objects.specs.Published.{FindsObject, IsSoundAt};
 
 use crate::published::Published;
 use crate::readings::object_at;
-use rpki_points::{Crl, is_unrevoked};
-use rpki_signed::{Cert, Digester, Index, Verifier, is_issued_to_object, is_sound};
+use rpki_standing::{
+    Cert, Crl, Digester, Index, Verifier, is_issued_to_object, is_sound, is_unrevoked,
+};
 use std::alloc::{AllocError, Global};
 
 // Whether the object is sound at a point of the authority: its certificate is issued by the authority and isn't revoked

@@ -12,6 +12,12 @@ pub mod readings;
 pub use find::find_object;
 pub use published::Published;
 pub use readings::object_at;
-pub use rpki_payloads::{Extension, Payload, extension_of};
-pub use rpki_points::Crl;
-pub use rpki_signed::{Cert, Digester, Index, SignedObject, Verifier};
+pub use rpki_payloads::{
+    AsProviderAttestation, Extension, Origin, Payload, Provision, RoaIpAddress, RoaIpAddresses,
+    RouteOriginAttestation, extension_of,
+};
+pub use rpki_standing::{
+    Cert, Crl, Digester, Index, ManifestContent, Point, PublicKey, SignedObject, Verifier,
+    covers_aspa, covers_roa, files_of, is_anchor_cert, is_issued_to_authority, is_unrevoked,
+    manifest_at, point_unheld,
+};

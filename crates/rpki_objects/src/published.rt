@@ -4,9 +4,8 @@ ghost use Rattle.std.specs.Prelude.{◌≡◌};
 ghost use Rattle.rpki_objects.specs.rpki_payloads.Views.{payload_of};
 ghost use Rattle.rpki_objects.specs.rpki_rules.Attests.{OfAspa, OfRoa};
 
-use objects_kinds::{Aspa, Roa};
 use rpki_payloads::Payload;
-use rpki_signed::{Cert, SignedObject};
+use rpki_standing::{Aspa, Cert, Roa, SignedObject};
 use std::marker::Model;
 
 /// A signed object, and what it attests. Contracts see both.

@@ -7,11 +7,10 @@ ghost use Rattle.rpki_objects.specs.Published.{FindsReading};
 ghost use Rattle.rpki_objects.specs.Texts.{FindsText};
 
 use crate::published::Published;
-use bcder::decode::DecodeError;
 use bytes::Bytes;
-use objects_kinds::{Aspa, Roa};
 use rpki_payloads::{Extension, extension_of};
-use rpki_signed::Index;
+use rpki_standing::decode::DecodeError;
+use rpki_standing::{Aspa, Index, Roa};
 use std::alloc::{AllocError, Global};
 
 // The route origin attestation that those octets begin with, in DER.

@@ -10,12 +10,10 @@ ghost use Rattle.rpki_points.specs.rpki_rules.Words.{Mem};
 ghost use Rattle.rpki_points.specs.rpki_rules.World.{world_of};
 
 use crate::list::suits;
-use bcder::decode::DecodeError;
 use bytes::Bytes;
-use certs_cert::Cert;
+use certs_cert::{Cert, Rsync, Verifier};
 use certs_crl::Crl;
-use certs_key::Verifier;
-use certs_uri::Rsync;
+use certs_crl::decode::DecodeError;
 use rpki_table::Index;
 use std::alloc::{AllocError, Global};
 

@@ -1,7 +1,7 @@
 //! The files that a manifest lists: their lookup keys, and whether all of them are there (RFC 9286 6.4, 6.5).
 
 ghost use Rattle.std.specs.Prelude.{◌≡◌, ◌↔◌, IfOk, IsTrue, Some};
-ghost use Rattle.certs_key.specs.Digesting.{digests_of};
+ghost use Rattle.certs_cert.specs.certs_key.Digesting.{digests_of};
 ghost use Rattle.rpki_points.specs.rpki_readings.Certs.{Verdicts};
 ghost use Rattle.rpki_points.specs.rpki_rules.Points.{HasFiles, IsHeld, files_in};
 ghost use Rattle.rpki_points.specs.rpki_rules.Words.{Each};
@@ -11,9 +11,7 @@ use crate::held::is_held;
 use crate::keys::key_in;
 use crate::names::differ_by_name;
 use bytes::Bytes;
-use certs_cert::Cert;
-use certs_key::Digester;
-use certs_uri::Rsync;
+use certs_cert::{Cert, Digester, Rsync};
 use objects_manifest::ManifestContent;
 use rpki_table::Index;
 use std::alloc::{AllocError, Global};

@@ -1,14 +1,13 @@
 //! Whether a file of a manifest is there, as it is listed (RFC 9286 6.4, 6.5).
 
 ghost use Rattle.std.specs.Prelude.{◌↔◌, IfOk, IsTrue};
-ghost use Rattle.certs_key.specs.Digesting.{digests_of};
+ghost use Rattle.certs_cert.specs.certs_key.Digesting.{digests_of};
 ghost use Rattle.rpki_points.specs.rpki_readings.Certs.{Verdicts};
 ghost use Rattle.rpki_points.specs.rpki_rules.Points.{IsHeld};
 ghost use Rattle.rpki_points.specs.rpki_rules.World.{world_of};
 
-use certs_key::Digester;
-use certs_uri::Rsync;
-use certs_uri::paths::join;
+use certs_cert::paths::join;
+use certs_cert::{Digester, Rsync};
 use objects_manifest::{FileAndHash, ManifestHash};
 use rpki_table::Index;
 use std::alloc::{AllocError, Global};

@@ -5,9 +5,9 @@ ghost use Rattle.rpki_points.specs.certs_uri.Paths.{join as joined};
 ghost use Rattle.rpki_points.specs.certs_uri.Uris.{lookup_key as key_of};
 
 use bytes::Bytes;
-use certs_uri::Rsync;
-use certs_uri::grammar::lookup_key;
-use certs_uri::paths::join;
+use certs_cert::Rsync;
+use certs_cert::grammar::lookup_key;
+use certs_cert::paths::join;
 use std::alloc::{AllocError, Global};
 
 /// The lookup key of the file with that name in that folder.

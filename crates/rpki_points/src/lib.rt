@@ -11,6 +11,7 @@ pub mod list;
 pub mod names;
 pub mod revoked;
 
+pub use certs_cert::{Rsync, decode};
 pub use certs_crl::Crl;
 pub use crl::{find_crl, read_crl};
 pub use files::{files_of, has_files};

@@ -4,8 +4,7 @@ ghost use Rattle.std.specs.Prelude.{◌↔◌, IsTrue};
 ghost use Rattle.rpki_points.specs.Lists.{Suits};
 
 use certs_cert::Cert;
-use certs_crl::Crl;
-use certs_time::Time;
+use certs_crl::{Crl, Time};
 
 /// Whether the list claims the authority by its key identifier, is current at that moment, and the certificate isn't on it.
 pub fn suits(crl: &Crl, ca: &Cert, ee: &Cert, now: Time) -> bool

@@ -4,10 +4,9 @@ ghost use Rattle.std.specs.Prelude.{◌≡◌, ◌↔◌, IfOk, IsTrue};
 ghost use Rattle.rpki_points.specs.certs_uri.Uris.{lookup_key as key_of};
 ghost use Rattle.rpki_points.specs.rpki_rules.Points.{Point, Unrevoked};
 
-use certs_cert::Cert;
+use certs_cert::grammar::cmp_lookup_key;
+use certs_cert::{Cert, Rsync};
 use certs_crl::Crl;
-use certs_uri::Rsync;
-use certs_uri::grammar::cmp_lookup_key;
 use std::alloc::{AllocError, Global};
 
 // Whether both URIs are looked up alike.

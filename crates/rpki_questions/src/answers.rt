@@ -3,9 +3,8 @@
 use crate::requests::{Question, Request};
 use crate::texts::{self, Facts};
 use bytes::Bytes;
-use rpki_commands::Fips;
-use rpki_validator::{
-    Bundle, Path, Reach, Report, TableVerifier, Witness, judge, lookup_key, reach, walk,
+use rpki_commands::{
+    Bundle, Fips, Path, Reach, Report, TableVerifier, Witness, judge, lookup_key, reach, walk,
 };
 use std::alloc::{AllocError, Global};
 use std::rc::Rc;

@@ -4,7 +4,7 @@ ghost use Rattle.std.specs.Prelude.{◌<◌, ◌-◌, ◌^◌};
 
 use crate::answers::answer_to;
 use crate::requests::Request;
-use rpki_validator::{Counted, RunError, read_bundle, write_all};
+use rpki_commands::{Counted, RunError, read_bundle, write_all};
 use std::alloc::Global;
 use std::io::{Read, Write};
 

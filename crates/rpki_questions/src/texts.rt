@@ -1,7 +1,7 @@
 //! Answers as texts: a fact a line, or one JSON object (RFC 8259).
 
 use bytes::Bytes;
-use rpki_validator::{Judgement, Reach, Refusal, Witness, word_of};
+use rpki_commands::{Judgement, Reach, Refusal, Witness, word_of};
 use std::alloc::{AllocError, Global};
 
 /// The facts about a name or a URI.

@@ -11,3 +11,5 @@ pub mod whole;
 
 pub use answer::Reach;
 pub use naming::Naming;
+pub use resources::{Ipv4Blocks, Ipv6Blocks, ResourceSet, laws};
+pub use rpki_walk::walk;

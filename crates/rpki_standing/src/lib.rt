@@ -10,7 +10,10 @@ pub mod parts;
 pub mod point;
 
 pub use manifests::{find_manifest, manifest_at};
-pub use objects_kinds::Manifest;
+pub use objects_kinds::{Aspa, Manifest, ManifestContent, Roa, covers_aspa, covers_roa};
 pub use point::{Point, point_unheld};
-pub use rpki_points::Crl;
-pub use rpki_signed::{Cert, Digester, Index, Verifier};
+pub use rpki_points::{Crl, decode, files_of, is_unrevoked};
+pub use rpki_signed::{
+    Cert, Digester, Index, PublicKey, SignedObject, Verifier, is_anchor_cert,
+    is_issued_to_authority, is_issued_to_object, is_sound,
+};

@@ -9,9 +9,9 @@ ghost use Rattle.rpki_standing.specs.Manifests.{IsCurrent, IsOwnManifest, IsRead
 ghost use Rattle.rpki_standing.specs.Manifests.{IsSoundFor};
 
 use crate::kept::keep_if;
-use bcder::decode::DecodeError;
 use bytes::Bytes;
 use objects_kinds::Manifest;
+use rpki_points::decode::DecodeError;
 use rpki_signed::{Cert, Digester, Index, Verifier, is_issued_to_object, is_sound};
 use std::alloc::{AllocError, Global};
 

@@ -14,7 +14,7 @@ use Rattle.rpki_authority.specs.rpki_rules.Refused.{IsIssued}
 use Rattle.rpki_authority.specs.rpki_rules.World.{World}
 use Rattle.rpki_authority.specs.rpki_walk.Filed.{HasKept}
 use Rattle.rpki_authority.specs.rpki_walk.declared.steps.Filed.TheVariants as Is
-use Rattle.rpki_walk.proofs.of_rpki_rules.Readings.{no_cer_payload}
+use Rattle.rpki_authority.proofs.of_rpki_rules.Readings.{no_cer_payload}
 use Rattle.rpki_steps.specs.Files.{IsFile}
 
 module _ (w : World) (ca : ResourceCertValue) (p : Point) (uri : List ℕ) where

@@ -13,10 +13,10 @@ use Rattle.rpki_authority.specs.rpki_rules.World.{World}
 use Rattle.rpki_authority.specs.Holders.{cert_of}
 use Rattle.rpki_authority.specs.rpki_walk.declared.steps.Filed.{Filed}
 use Rattle.rpki_authority.specs.rpki_walk.declared.steps.Filed.TheVariants as Is
-use Rattle.rpki_payloads.specs.declared.payload.Payload.{Payload}
-use Rattle.rpki_payloads.specs.Names.{letters}
-use Rattle.rpki_payloads.specs.declared.names.Extension.{Extension}
-use Rattle.rpki_payloads.specs.declared.names.Extension.TheVariants as extension
+use Rattle.rpki_objects.specs.rpki_payloads.declared.payload.Payload.{Payload}
+use Rattle.rpki_objects.specs.rpki_payloads.Names.{letters}
+use Rattle.rpki_objects.specs.rpki_payloads.declared.names.Extension.{Extension}
+use Rattle.rpki_objects.specs.rpki_payloads.declared.names.Extension.TheVariants as extension
 use Rattle.rpki_steps.specs.Files.{IsFile}
 
 -- The extension that a name has.

@@ -1,7 +1,7 @@
 -- What authorities name.
 use Rattle.std.proofs.Common.{◌≡◌, ◌⊎◌, inl, inr, ℕ, List, [], ◌∷◌, ◌++◌, Vec, Global, Some, None, Result, Ok, Err, sym, ap, subst, ◌∙◌}
 use Rattle.std.specs.Prelude.{◌↔◌, IfOk}
-use Rattle.objects_kinds.specs.Kinds.{KindValue}
+use Rattle.rpki_objects.specs.objects_kinds.Kinds.{KindValue}
 use Rattle.rpki_authority.specs.rpki_readings.Certs.{Cert, Digests, Verdicts}
 use Rattle.rpki_anchors.specs.rpki_bundle.Bundle.{BundleValue}
 use Rattle.rpki_authority.specs.rpki_readings.Objects.{Manifest, ManifestText, one_manifest}
@@ -9,9 +9,9 @@ use Rattle.rpki_authority.specs.rpki_rules.Points.{files}
 use Rattle.rpki_authority.specs.rpki_rules.Reach.{NamesFile}
 use Rattle.rpki_authority.specs.rpki_rules.Words.{Mem}
 use Rattle.rpki_authority.specs.rpki_rules.World.{World, at, world_of}
-use Rattle.rpki_points.specs.certs_uri.Uris.{lookup_key}
+use Rattle.rpki_objects.specs.certs_uri.Uris.{lookup_key}
 use Rattle.rpki_reach.specs.Naming.{AreNamed}
-use Rattle.rpki_standing.specs.Manifests.{IsReadAt}
+use Rattle.rpki_objects.specs.rpki_standing.Manifests.{IsReadAt}
 
 module _ (w : World) (ca : Cert) where
   -- The manifest that an authority's named file is listed by.

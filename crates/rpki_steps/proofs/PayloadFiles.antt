@@ -13,9 +13,9 @@ use Rattle.rpki_authority.specs.rpki_rules.Points.{Point}
 use Rattle.rpki_authority.specs.rpki_rules.World.{World}
 use Rattle.rpki_authority.specs.rpki_walk.declared.steps.Filed.TheVariants as Is
 use Rattle.rpki_objects.specs.Published.{FindsObject, PublishedValue}
-use Rattle.rpki_payloads.specs.Views.{payload_of}
-use Rattle.rpki_payloads.specs.declared.payload.Payload.{Payload as CodePayload}
-use Rattle.rpki_walk.proofs.of_rpki_rules.Readings.{one_signed}
+use Rattle.rpki_objects.specs.rpki_payloads.Views.{payload_of}
+use Rattle.rpki_objects.specs.rpki_payloads.declared.payload.Payload.{Payload as CodePayload}
+use Rattle.rpki_authority.proofs.of_rpki_rules.Readings.{one_signed}
 use Rattle.rpki_steps.specs.Claims.{FindsSets}
 use Rattle.rpki_steps.specs.Files.{IsFile}
 use Rattle.rpki_steps.specs.Objects.{IsWithin}

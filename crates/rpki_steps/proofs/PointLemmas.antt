@@ -6,8 +6,8 @@ use Rattle.rpki_authority.specs.rpki_rules.Kinds.{Kind}
 use Rattle.rpki_authority.specs.rpki_rules.Points.{IsPoint, Point}
 use Rattle.rpki_authority.specs.rpki_rules.World.{World}
 use Rattle.rpki_authority.specs.rpki_walk.Filed.{IsRead}
-use Rattle.rpki_standing.specs.Standing.{IsStanding, StandingValue}
-use Rattle.rpki_walk.proofs.of_rpki_rules.Readings.{one_point}
+use Rattle.rpki_objects.specs.rpki_standing.Standing.{IsStanding, StandingValue}
+use Rattle.rpki_authority.proofs.of_rpki_rules.Readings.{one_point}
 use Rattle.rpki_steps.specs.Points.{point_of}
 
 module _ (w : World) (held : Kind → ℕ → Type 0) (ca : Cert) where

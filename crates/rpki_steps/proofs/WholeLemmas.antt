@@ -1,11 +1,11 @@
 -- What certificates list of IPv4 are whole addresses.
 use Rattle.std.proofs.Common.{◌≡◌, ℕ, List, [], ◌∷◌, sym, subst}
-use Rattle.resources.specs.resources_ip.Encodings.{FamilyChoices, IsIpAddrBlocks}
-use Rattle.resources.specs.resources_ip.WholeSets.{AreWhole, ListsWhole}
-use Rattle.resources.specs.resources_ip.Written.{FitsChoice}
-use Rattle.resources.specs.resources_ip.bcder_tree.declared.mode.Mode.{Mode}
-use Rattle.resources.specs.resources_ip.bcder_tree.Tree.{Tree}
-use Rattle.resources.specs.resources_ip_prefix.declared.addr.AddressFamily.TheVariants.{Ipv4}
+use Rattle.rpki_reach.specs.resources_ip.Encodings.{FamilyChoices, IsIpAddrBlocks}
+use Rattle.rpki_reach.specs.resources_ip.WholeSets.{AreWhole, ListsWhole}
+use Rattle.rpki_reach.specs.resources_ip.Written.{FitsChoice}
+use Rattle.rpki_reach.specs.resources_ip.bcder_tree.declared.mode.Mode.{Mode}
+use Rattle.rpki_reach.specs.resources_ip.bcder_tree.Tree.{Tree}
+use Rattle.rpki_reach.specs.resources_ip_prefix.declared.addr.AddressFamily.TheVariants.{Ipv4}
 use Rattle.rpki_authority.specs.certs_specs.CertText.{AreIpResources}
 use Rattle.rpki_authority.specs.certs_specs.Extensions.{Extension}
 use Rattle.rpki_authority.specs.resources_chain.Claims.{Choice, Lists}

@@ -7,8 +7,8 @@ use Rattle.rpki_authority.specs.rpki_rules.Points.{Point}
 use Rattle.rpki_authority.specs.rpki_rules.World.{World}
 use Rattle.rpki_authority.specs.rpki_walk.Filed.{IsFiled}
 use Rattle.rpki_authority.specs.rpki_walk.declared.steps.Filed.{Filed}
-use Rattle.rpki_payloads.specs.Views.{payload_of}
-use Rattle.rpki_payloads.specs.declared.payload.Payload.{Payload}
+use Rattle.rpki_objects.specs.rpki_payloads.Views.{payload_of}
+use Rattle.rpki_objects.specs.rpki_payloads.declared.payload.Payload.{Payload}
 
 abbrev pub IsFile : World → ResourceCertValue → Point → List ℕ → Filed ResourceCertValue Payload → Type 0
 IsFile w ca p uri filed = IsFiled cert_of sets_of payload_of w (InSet (sets_of ca)) (cert_of ca) p uri filed

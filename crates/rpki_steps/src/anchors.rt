@@ -13,12 +13,9 @@ ghost use Rattle.rpki_steps.specs.Anchors.{FindsAnchorIn};
 use crate::authority::Authority;
 use crate::whole::addresses_are_whole;
 use bytes::Bytes;
-use certs_verify::{Digester, PublicKey, ResourceCert, TalInfo, Verifier};
-use objects_locator::Tal;
 use rpki_anchors::laws::{no_lead, one_lead};
-use rpki_anchors::{Lead, Locator, Object, follow, read_cert};
-use rpki_authority::{Leads, anchor_cert};
-use rpki_table::Index;
+use rpki_anchors::{Index, Lead, Locator, Object, Tal, follow, read_cert};
+use rpki_authority::{Digester, Leads, PublicKey, ResourceCert, TalInfo, Verifier, anchor_cert};
 use std::alloc::{AllocError, Global};
 use std::rc::Rc;
 

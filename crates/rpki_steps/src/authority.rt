@@ -2,10 +2,10 @@
 
 ghost use Rattle.std.specs.Prelude.{◌≡◌, IfOk};
 ghost use Rattle.rpki_authority.specs.Holders.{sets_of};
-ghost use Rattle.resources.specs.resources_ip.WholeSets.{AreWhole};
+ghost use Rattle.rpki_reach.specs.resources_ip.WholeSets.{AreWhole};
 
-use certs_verify::ResourceCert;
-use resources::{Ipv4Blocks, Ipv6Blocks, ResourceSet};
+use rpki_authority::ResourceCert;
+use rpki_reach::{Ipv4Blocks, Ipv6Blocks, ResourceSet};
 use std::alloc::AllocError;
 use std::marker::Model;
 
@@ -18,7 +18,7 @@ pub struct Authority {
 
 impl Model for Authority {
     ghost use Rattle.rpki_authority.specs.certs_verify.Holders.{ResourceCertValue};
-    ghost use Rattle.resources.specs.resources_ip.WholeSets.{AreWhole};
+    ghost use Rattle.rpki_reach.specs.resources_ip.WholeSets.{AreWhole};
 
     ghost Value = { ResourceCertValue };
 

@@ -9,13 +9,9 @@ ghost use Rattle.rpki_steps.specs.Files.{IsFile};
 
 use crate::authority::Authority;
 use crate::whole::addresses_are_whole;
-use certs_verify::{Cert, Digester, Verifier};
-use rpki_anchors::cert_at;
-use rpki_authority::{Filed, authority_below};
-use rpki_payloads::Payload;
-use rpki_points::is_unrevoked;
-use rpki_standing::Point;
-use rpki_table::Index;
+use rpki_anchors::{Index, cert_at};
+use rpki_authority::{Cert, Digester, Filed, Verifier, authority_below};
+use rpki_objects::{Payload, Point, is_unrevoked};
 use std::alloc::{AllocError, Global};
 
 // What the file is at which the certificate of some authority stands.

@@ -6,7 +6,7 @@ ghost use Rattle.rpki_authority.specs.rpki_rules.Chains.{Fits};
 ghost use Rattle.rpki_authority.specs.rpki_rules.Kinds.{InSet};
 ghost use Rattle.rpki_steps.specs.Claims.{FindsSets, claims_of};
 
-use certs_verify::{Cert, ResourceCert};
+use rpki_authority::{Cert, ResourceCert};
 use rpki_step::{Claim, Held, Holding, claim_fits, held_below};
 use std::alloc::{AllocError, Global};
 

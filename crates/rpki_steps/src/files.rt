@@ -11,11 +11,9 @@ ghost use Rattle.rpki_steps.specs.Files.{IsFile};
 use crate::authority::Authority;
 use crate::certs::read_cert_file;
 use crate::payloads::read_payload_file;
-use certs_verify::{Digester, Verifier};
-use rpki_authority::Filed;
-use rpki_payloads::{Extension, Payload, extension_of};
-use rpki_standing::Point;
-use rpki_table::Index;
+use rpki_anchors::Index;
+use rpki_authority::{Digester, Filed, Verifier};
+use rpki_objects::{Extension, Payload, Point, extension_of};
 use std::alloc::{AllocError, Global};
 
 /// What a file of the authority's point is, by its lookup key; keys and depth of chains apart. The verifier is asked twice,

@@ -19,5 +19,6 @@ pub use authority::Authority;
 pub use files::read_file;
 pub use names::{locator_keys, named_keys};
 pub use points::read_point;
-pub use rpki_table::Index;
+pub use rpki_anchors::Index;
+pub use rpki_reach::Reach;
 pub use steps::BundleSteps;

@@ -4,9 +4,8 @@ use crate::authority::Authority;
 use crate::names::{locator_keys, named_keys};
 use crate::steps::BundleSteps;
 use bytes::Bytes;
-use certs_verify::{Digester, Verifier};
-use resources::ResourceSet;
-use rpki_reach::Naming;
+use rpki_authority::{Digester, Verifier};
+use rpki_reach::{Naming, ResourceSet};
 use std::alloc::{AllocError, Global};
 
 impl<'a, D: Digester, V: Verifier> Naming for BundleSteps<'a, D, V> {

@@ -10,20 +10,16 @@ ghost use Rattle.rpki_authority.specs.rpki_rules.Kinds.{InSet};
 ghost use Rattle.rpki_authority.specs.rpki_rules.Points.{files};
 ghost use Rattle.rpki_authority.specs.rpki_rules.Words.{Mem};
 ghost use Rattle.rpki_authority.specs.rpki_rules.World.{world_of};
-ghost use Rattle.rpki_payloads.specs.Views.{payload_of};
+ghost use Rattle.rpki_objects.specs.rpki_payloads.Views.{payload_of};
 ghost use Rattle.rpki_steps.specs.Files.{IsFile};
 ghost use Rattle.rpki_steps.specs.Objects.{IsWithin};
 
 use crate::authority::Authority;
 use crate::claims::sets_below;
-use certs_verify::{Digester, ResourceCert, Verifier};
-use objects_covered::{covers_aspa, covers_roa};
-use rpki_authority::Filed;
-use rpki_objects::{Published, find_object};
-use rpki_payloads::Payload;
-use rpki_standing::Point;
+use rpki_anchors::Index;
+use rpki_authority::{Digester, Filed, ResourceCert, Verifier};
+use rpki_objects::{Payload, Point, Published, covers_aspa, covers_roa, find_object};
 use rpki_step::Held;
-use rpki_table::Index;
 use std::alloc::{AllocError, Global};
 
 // Whether what is attested is in those sets: of a route origin attestation all prefixes, of a provider attestation the

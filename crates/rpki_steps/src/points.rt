@@ -10,9 +10,9 @@ ghost use Rattle.rpki_authority.specs.rpki_walk.Filed.{IsRead};
 ghost use Rattle.rpki_steps.specs.Points.{point_of};
 
 use crate::claims::fits_below;
-use certs_verify::{Digester, ResourceCert, Verifier};
-use rpki_standing::{Point, point_unheld};
-use rpki_table::Index;
+use rpki_anchors::Index;
+use rpki_authority::{Digester, ResourceCert, Verifier};
+use rpki_objects::{Point, point_unheld};
 use std::alloc::{AllocError, Global};
 
 /// What stands at the authority's publication point, or nothing where none does: there is none, or what the manifest's

@@ -2,7 +2,7 @@
 
 ghost use Rattle.std.specs.Prelude.{◌≡◌, ◌↔◌, ◌≤◌, IsTrue, IfNone, IfSome, None, Some, length, map};
 ghost use Rattle.rpki_table.specs.resources_chain.Rows.{Looks};
-ghost use Rattle.certs_uri.specs.Uris.{lookup_key};
+ghost use Rattle.rpki_rules.specs.certs_uri.Uris.{lookup_key};
 ghost use Rattle.rpki_table.specs.rpki_rules.Words.{Mem, NoRepeat};
 ghost use Rattle.rpki_table.specs.rpki_rules.World.{find_object};
 

@@ -8,4 +8,5 @@ mod sought;
 pub mod verifier;
 
 pub use index::Index;
+pub use rpki_rules::{Locator, Object};
 pub use verifier::TableVerifier;

@@ -1,6 +1,6 @@
 //! What is sought in the lists of bundles.
 
-ghost use Rattle.certs_uri.specs.Uris.{lookup_key as key_of};
+ghost use Rattle.rpki_rules.specs.certs_uri.Uris.{lookup_key as key_of};
 
 use crate::search::Sought;
 use rpki_rules::{Object, Verdict, cmp_lookup_key};

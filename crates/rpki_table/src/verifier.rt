@@ -7,8 +7,7 @@ ghost use Rattle.rpki_table.specs.certs_basics.Keys.{encoded};
 ghost use Rattle.rpki_table.specs.rpki_rules.World.{table};
 
 use crate::index::Index;
-use certs_algorithm::RpkiSignatureAlgorithm;
-use rpki_rules::{Bundle, Digester, PublicKey, Verdict, Verifier};
+use rpki_rules::{Bundle, Digester, PublicKey, RpkiSignatureAlgorithm, Verdict, Verifier};
 
 /// The verifier of a bundle: good are the signatures whose three SHA-256 digests, those of the encoded key, of the message
 /// and of the signature's octets, stand in one entry of its table. The algorithm isn't looked at.

@@ -7,7 +7,7 @@ use Rattle.rpki_validator.specs.rpki_readings.Certs.{Digests}
 use Rattle.rpki_validator.specs.rpki_rules.Laws.{UntouchedOutput}
 use Rattle.rpki_validator.specs.rpki_rules.Reach.{AgreeBut, Forged, Held, IsReach}
 use Rattle.rpki_validator.specs.rpki_rules.World.{run_world, table}
-use Rattle.rpki_laws.specs.Outside.{OutsideStays}
+use Rattle.rpki_climb.specs.rpki_laws.Outside.{OutsideStays}
 use Rattle.rpki_validator.specs.Forging.{AgreesBut, ForgingStaysInside, UntouchedStays}
 
 agree : (d : Digests) (uris : List (List ℕ)) (b b' : BundleValue) → AgreesBut uris b b' → AgreeBut uris (run_world d b) (run_world d b')

@@ -5,16 +5,15 @@ ghost use Rattle.rpki_validator.specs.certs_key.Digesting.{digests_of};
 ghost use Rattle.rpki_validator.specs.rpki_rules.Judge.{IsJudged, may_ask};
 ghost use Rattle.rpki_validator.specs.rpki_rules.Reach.{IsReach};
 ghost use Rattle.rpki_validator.specs.rpki_rules.World.{world_of};
-ghost use Rattle.rpki_report.specs.Report.{IsReport};
-ghost use Rattle.rpki_report.specs.Views.{trace_of};
+ghost use Rattle.rpki_lines.specs.rpki_report.Report.{IsReport};
+ghost use Rattle.rpki_lines.specs.rpki_report.Views.{trace_of};
 ghost use Rattle.rpki_reach.specs.Naming.{answer_of};
 
 use bytes::Bytes;
 use rpki_bundle::{Bundle, Digester, Verifier};
-use rpki_climb::BundleEvidence;
-use rpki_judge::Judgement;
+use rpki_climb::{BundleEvidence, Judgement};
+use rpki_lines::{Report, Witness};
 use rpki_reach::Reach;
-use rpki_report::{Report, Witness};
 use rpki_steps::{BundleSteps, Index};
 use std::alloc::{AllocError, Global};
 
@@ -31,7 +30,7 @@ pub fn walk<D: Digester, V: Verifier>(
         bundle.now)) }
 {
     let mut steps = BundleSteps::new(Index::new(bundle), digester, verifier);
-    rpki_walk::walk(alloc, &mut steps)
+    rpki_reach::walk(alloc, &mut steps)
 }
 
 /// Whether the witness is one of those that a walk of the bundle lists. It is read from its object upward, so that the
@@ -53,7 +52,7 @@ pub fn judge_by<D: Digester, V: Verifier>(
 {
     let locator = witness.locator().as_slice();
     let object = witness.object().as_slice();
-    rpki_judge::judge(alloc, evidence, locator, witness.chain(), object)
+    rpki_climb::judge(alloc, evidence, locator, witness.chain(), object)
 }
 
 /// As [`judge_by`], of a bundle by this digester and this verifier.

@@ -2,7 +2,7 @@
 
 ghost use Rattle.rpki_validator.specs.Forging.{ForgingStaysInside, UntouchedStays};
 
-use rpki_laws::laws::{outside_stays, untouched_output};
+use rpki_climb::laws::{outside_stays, untouched_output};
 
 /// Forging the objects at some URIs changes no line of an origin or a customer outside what these URIs reach, whatever the
 /// forged objects are.

@@ -1,5 +1,5 @@
 use Rattle.objects_manifest.specs.bcder_primitive.Plain.{plain}
-use Rattle.certs_basics.proofs.of_bcder_primitive.Primitives.{through, weaker}
+use Rattle.certs_key.proofs.of_bcder_primitive.Primitives.{through, weaker}
 use Rattle.objects_manifest.specs.Files.{IsHashContent}
 use Rattle.objects_manifest.proofs.file.pass_hash.Goals as goal
 

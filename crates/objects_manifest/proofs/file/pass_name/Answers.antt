@@ -1,5 +1,5 @@
 use Rattle.objects_manifest.specs.bcder_primitive.Plain.{plain}
-use Rattle.certs_basics.proofs.of_bcder_primitive.Primitives.{through, weaker}
+use Rattle.certs_key.proofs.of_bcder_primitive.Primitives.{through, weaker}
 use Rattle.objects_manifest.specs.Files.{IsNameContent}
 use Rattle.objects_manifest.proofs.file.pass_name.Goals as goal
 

@@ -1,5 +1,5 @@
 use Rattle.std.proofs.Common.{◌≡◌, ◌++◌, map}
-use Rattle.resources.specs.resources_ip.Block.{run_of_block}
+use Rattle.rpki_judge.specs.resources_ip.Block.{run_of_block}
 use Rattle.rpki_judge.specs.rpki_rules.Judge.{runs_of}
 use Rattle.rpki_climb.proofs.needs.blocks_of.Given as goal
 

@@ -1,4 +1,4 @@
-use Rattle.rpki_signed.specs.rpki_readings.Objects.{AspaText}
+use Rattle.rpki_standing.specs.rpki_readings.Objects.{AspaText}
 use Rattle.rpki_objects.proofs.Reading.{no_aspa, none_in, aspa_text}
 use Rattle.rpki_objects.proofs.readings.aspa_in.Goals as goal
 

@@ -1,4 +1,4 @@
-use Rattle.rpki_signed.specs.rpki_rules.World.{world_of}
+use Rattle.rpki_standing.specs.rpki_rules.World.{world_of}
 use Rattle.rpki_objects.specs.Texts.{FindsText}
 use Rattle.rpki_objects.proofs.Passing.{if_ok}
 use Rattle.rpki_objects.proofs.Reading.{no_extension, reading_told}

@@ -1,4 +1,4 @@
-use Rattle.rpki_signed.specs.rpki_readings.Objects.{RoaText}
+use Rattle.rpki_standing.specs.rpki_readings.Objects.{RoaText}
 use Rattle.rpki_objects.proofs.Reading.{no_roa, none_in, roa_text}
 use Rattle.rpki_objects.proofs.readings.roa_in.Goals as goal
 

@@ -1,6 +1,6 @@
 use Rattle.std.proofs.Common.{◌≡◌, Some, Bool}
 use Rattle.std.specs.Prelude.{◌↔◌, IsTrue}
-use Rattle.certs_key.specs.Digesting.{digests_of}
+use Rattle.certs_cert.specs.certs_key.Digesting.{digests_of}
 use Rattle.rpki_points.specs.rpki_readings.Certs.{Verdicts}
 use Rattle.rpki_points.specs.rpki_rules.Points.{IsHeld}
 use Rattle.rpki_points.specs.rpki_rules.Words.{Each}

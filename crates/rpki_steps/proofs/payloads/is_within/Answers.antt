@@ -1,6 +1,6 @@
 use Rattle.rpki_authority.specs.Holders.{sets_of}
 use Rattle.rpki_authority.specs.rpki_rules.Kinds.{InSet}
-use Rattle.rpki_payloads.specs.Views.{payload_of}
+use Rattle.rpki_objects.specs.rpki_payloads.Views.{payload_of}
 use Rattle.rpki_steps.proofs.PayloadFiles.{within_told}
 use Rattle.rpki_steps.proofs.payloads.is_within.Goals as goal
 

@@ -1,5 +1,5 @@
-use Rattle.objects_forms.specs.Identifiers as id
-use Rattle.objects_forms.specs.Aspas.{IsAspa}
+use Rattle.objects_manifest.specs.objects_forms.Identifiers as id
+use Rattle.objects_manifest.specs.objects_forms.Aspas.{IsAspa}
 use Rattle.objects_kinds.proofs.Texts.{kind_stop, no_content, with_content}
 use Rattle.objects_kinds.proofs.aspas.Aspa.decode.Goals as goal
 

@@ -1,5 +1,5 @@
-use Rattle.objects_forms.specs.Identifiers as id
-use Rattle.objects_forms.specs.Manifests.{IsManifest}
+use Rattle.objects_manifest.specs.objects_forms.Identifiers as id
+use Rattle.objects_manifest.specs.objects_forms.Manifests.{IsManifest}
 use Rattle.objects_kinds.proofs.Texts.{front_lacks, front_reads, kind_stop, no_content, with_content}
 use Rattle.objects_kinds.proofs.manifests.Manifest.decode.Goals as goal
 

@@ -1,5 +1,5 @@
-use Rattle.objects_forms.specs.Identifiers as id
-use Rattle.objects_forms.specs.Roas.{IsRoa}
+use Rattle.objects_manifest.specs.objects_forms.Identifiers as id
+use Rattle.objects_manifest.specs.objects_forms.Roas.{IsRoa}
 use Rattle.objects_kinds.proofs.Texts.{front_lacks, front_reads, kind_stop, no_content, with_content}
 use Rattle.objects_kinds.proofs.roas.Roa.decode.Goals as goal
 

@@ -7,10 +7,11 @@ ghost use Rattle.certs_key.specs.certs_basics.Keys.{HasEncoding, Encodes, kind_o
 ghost use Rattle.certs_key.specs.Forms.{lends, key_lends, parameters_of, parameters_tag};
 
 use crate::format::{EC_PUBLIC_KEY, RSA_ENCRYPTION, SECP256R1};
-use bcder::encode::{Constructed, EncodeError, Octets, Primitive, PrimitiveContent, Values};
-use bcder::{BitString, Mode, Tag};
 use bytes::Bytes;
-use certs_algorithm::PublicKeyFormat;
+use certs_algorithm::encode::{
+    Constructed, EncodeError, Octets, Primitive, PrimitiveContent, Values,
+};
+use certs_algorithm::{BitString, Mode, PublicKeyFormat, Tag};
 use std::alloc::{AllocError, Global};
 
 // A primitive value of a constant.

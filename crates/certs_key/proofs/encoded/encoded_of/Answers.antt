@@ -1,6 +1,6 @@
 use Rattle.std.proofs.Common.{sym, ◌∙◌}
 use Rattle.certs_key.proofs.Encodings.{lent_encodes, lent_lacks}
-use Rattle.certs_key.proofs.encode.encoded_of.Goals as goal
+use Rattle.certs_key.proofs.encoded.encoded_of.Goals as goal
 
 pub returns-in-Ok : goal.returns-in-Ok
 returns-in-Ok c = rw c.into_bytes.ensures.octets (lent_encodes _ _ c.encoder.ensures c.in-Ok.ensures.captured)

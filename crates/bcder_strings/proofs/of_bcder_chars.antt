@@ -1,0 +1,2 @@
+-- Lemmas of bcder_chars, for the crates above.
+pub use Rattle.bcder_chars.proofs.Ascii
