@@ -18,7 +18,8 @@ pub enum Question<'a> {
         /// The URIs.
         uris: &'a [String],
     },
-    /// `why URI`: each refusal of that URI or locator's name, and each accepted chain that has it.
+    /// `why URI`: each refusal of that URI or locator's name, and each good witness with that URI as its object or on its
+    /// chain.
     Why {
         /// The URI, or the name.
         uri: &'a str,

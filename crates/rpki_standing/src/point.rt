@@ -70,8 +70,8 @@ impl Point {
 }
 
 /// What stands at the authority's publication point, what the manifest's certificate claims apart; nothing where the point is
-/// refused (RFC 9286 6.2 to 6.6). Each file is digested once. The verifier is asked three times, at most: for the manifest's
-/// certificate, for its content, and for the revocation list.
+/// refused (RFC 9286 6.2 to 6.6). The verifier is asked three times, at most: for the manifest's certificate, for its
+/// content, and for the revocation list.
 pub fn point_unheld<D: Digester, V: Verifier>(
     alloc: Global,
     ca: &Cert,

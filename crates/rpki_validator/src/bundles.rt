@@ -55,7 +55,8 @@ pub fn judge_by<D: Digester, V: Verifier>(
     rpki_climb::judge(alloc, evidence, locator, witness.chain(), object)
 }
 
-/// As [`judge_by`], of a bundle by this digester and this verifier.
+/// Whether the witness is one of those that a walk of the bundle lists, by this digester and this verifier. It asks what
+/// [`judge_by`] asks, whose contract has the bound on how often.
 pub fn judge<D: Digester, V: Verifier>(
     alloc: Global,
     bundle: &Bundle,
