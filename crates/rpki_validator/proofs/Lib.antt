@@ -1,6 +1,7 @@
 mod Pieces
 mod Ends
 mod Forging
+mod Judging
 pub mod of_bcder_tree
 pub mod of_certs_time
 pub mod of_rpki_bundle

@@ -1,8 +1,10 @@
 //! Laws of what runs print: the contracts of functions that do nothing.
 
 ghost use Rattle.rpki_validator.specs.Forging.{ForgingStaysInside, UntouchedStays};
+ghost use Rattle.rpki_validator.specs.Forging.{LocatorLinesStay, RefusalLinesStay};
+ghost use Rattle.rpki_validator.specs.Judging.{JudgingAgreesWithWalking};
 
-use rpki_climb::laws::{outside_stays, untouched_output};
+use rpki_climb::laws::{locators_stay, outside_stays, refusals_stay, untouched_output};
 
 /// Forging the objects at some URIs changes no line of an origin or a customer outside what these URIs reach, whatever the
 /// forged objects are.
@@ -18,3 +20,23 @@ pub fn untouched_stays()
 {
     untouched_output();
 }
+
+/// Where no readable locator names one of the URIs, forging the objects there changes no refusal line of a locator.
+pub fn locator_lines_stay()
+    ensures { LocatorLinesStay }
+{
+    locators_stay();
+}
+
+/// A refusal line of an accepted chain stays where no readable locator and no front of the chain, itself included, names
+/// one of the URIs, whatever the objects forged there are.
+pub fn refusal_lines_stay()
+    ensures { RefusalLinesStay }
+{
+    refusals_stay();
+}
+
+/// A judge says yes exactly to the witnesses that a walk lists.
+pub fn judging_agrees_with_walking()
+    ensures { JudgingAgreesWithWalking }
+{}
