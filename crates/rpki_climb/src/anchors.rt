@@ -14,18 +14,21 @@ use rpki_anchors::{Lead, Locator, Object, follow};
 use rpki_objects::{Cert, Digester, Index, PublicKey, Verifier, is_anchor_cert};
 use std::alloc::{AllocError, Global};
 
-/// The locator of that name among those.
+/// The locator of that name among those. They are gone through, one by one.
 pub fn locator_named<'a>(locators: &'a [Locator], name: &[u8]) -> Option<&'a Locator>
     ensures listed { IfSome result (λ l. Mem locators.now l.now) }
     ensures named { IfSome result (λ l. l.now.name ≡ name.now) }
     ensures none { IfNone result ((l : LocatorValue)
         → Mem locators.now l → ¬ (l.name ≡ name.now)) }
 {
-    let (first, rest) = locators.split_first()?;
-    if first.name.as_slice() == name {
-        return Some(first);
+    let mut rest = locators;
+    while let Some((first, others)) = rest.split_first() {
+        if first.name.as_slice() == name {
+            return Some(first);
+        }
+        rest = others;
     }
-    locator_named(rest, name)
+    None
 }
 
 // Whether that is the object's lookup key, and the certificate is one of a trust anchor with that key. The verifier is asked
