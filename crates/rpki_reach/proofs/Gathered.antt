@@ -77,10 +77,11 @@ told_reached uris w k n = (
   λ r. inr (inr (r.name, r.anchor, r.below, r.accepted, inl (r.names, r.holds))),
 )
 
-pub held_is : (uris : List (List ℕ)) (w : World) (f g : Gatherer) (r : Resources) → ¬ (SomeLocatorNames uris w) → f.sets.items ≡ [] → Gains IsReaches (has_gathered f) (IsTold uris w) (has_gathered g) → AreUnionOf g.sets.items r → IsReach uris w (Held r)
-held_is uris w f g r none e gained union = (
+pub held_is : (uris : List (List ℕ)) (w : World) (old new : List Resources) (r : Resources) → ¬ (SomeLocatorNames uris w) → old ≡ []
+    → ((k : Kind) (n : ℕ) → InSome new k n ↔ (InSome old k n ⊎ IsTold uris w (Reaches k n))) → AreUnionOf new r → IsReach uris w (Held r)
+held_is uris w old new r none e gained union = (
   none,
-  λ k. runs_same (of_kind r k) (union k) (λ n. let t = told_reached uris w k n in let h = gained (Reaches k n) tt in (
+  λ k. runs_same (of_kind r k) (union k) (λ n. let t = told_reached uris w k n in let h = gained k n in (
     λ i. elim (h.0 i) [ inl a ↦ absurd (subst (λ (zs : List Resources). Mem zs a.0) e a.1) | inr q ↦ t.0 q ],
     λ q. h.1 (inr (t.1 q)),
   )),

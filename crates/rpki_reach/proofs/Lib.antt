@@ -1,4 +1,5 @@
 pub mod Named
+pub mod Halved
 pub mod Sets
 pub mod Gathered
 pub mod of_objects_forms

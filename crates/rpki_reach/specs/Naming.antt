@@ -1,7 +1,10 @@
 -- What is asked of locators and authorities, and what is answered.
 use Rattle.std.specs.Prelude.{◌≡◌, ℕ, ◌↔◌, Bool, List, Option, Some, None, Vec, map, bytes_eq}
 use Rattle.std.specs.Global.{Global}
+use Rattle.std.specs.Cmp.Lexicographic.{slice_cmp}
 use Rattle.std.specs.List.{list_any}
+use Rattle.std.specs.List.Sorted.{IsSorted}
+use Rattle.std.specs.Ordering.{nat_cmp}
 use Rattle.rpki_reach.specs.rpki_bundle.declared.parts.Locator.{Locator}
 use Rattle.rpki_reach.specs.rpki_bundle.Uris.{lookup_key}
 use Rattle.rpki_reach.specs.rpki_readings.Certs.{Key, Cert}
@@ -27,6 +30,11 @@ names_key uris key = list_any (λ uri. bytes_eq key (lookup_key uri)) uris
 
 abbrev pub names_any : List (List ℕ) → List (List ℕ) → Bool
 names_any uris keys = list_any (λ key. list_any (λ uri. bytes_eq key (lookup_key uri)) uris) keys
+
+-- The keys ascend, and are those of the URIs.
+pub record AreSortedKeys (uris keys : List (List ℕ)) : Type 0 where
+  pub same : (key : List ℕ) → list_any (λ k. bytes_eq key k) keys ≡ names_key uris key
+  pub ascend : IsSorted (slice_cmp nat_cmp) keys
 
 -- One of the keys is that of one of the URIs.
 pub record NamesOneOf (uris keys : List (List ℕ)) : Type 0 where

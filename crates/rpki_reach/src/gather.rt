@@ -3,7 +3,7 @@
 ghost use Rattle.std.specs.Prelude.{◌≡◌};
 ghost use Rattle.rpki_reach.specs.Gathered.{has_gathered, IsReaches};
 
-use crate::keys::names_any;
+use crate::keys::{Wanted, names_any};
 use crate::naming::Naming;
 use bytes::Bytes;
 use resources::set::ResourceSet;
@@ -14,7 +14,7 @@ use std::rc::Rc;
 /// The URIs, and what the authorities hold that were found to name one of them.
 #[derive(Drop)]
 pub(crate) struct Gatherer<'a> {
-    pub(crate) uris: &'a [Bytes],
+    pub(crate) wanted: &'a Wanted<'a>,
     pub(crate) sets: Vec<ResourceSet>,
 }
 
@@ -23,11 +23,11 @@ impl<'a, S: Naming> Visitor<S> for Gatherer<'a> {
 
     ghost wants = { IsReaches };
 
-    ghost uris = { λ g. g.uris.now };
+    ghost uris = { λ g. g.wanted.now };
 
     fn visit(&mut self, alloc: Global, steps: &mut S, ca: &S::Authority) -> Result<(), AllocError> {
         let keys = steps.named_keys(alloc, ca)?;
-        if names_any(self.uris, &keys) {
+        if names_any(self.wanted, &keys) {
             self.sets.push(steps.held(ca)?)?;
         }
         Ok(())

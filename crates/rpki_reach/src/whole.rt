@@ -6,6 +6,7 @@ ghost use Rattle.rpki_reach.specs.Naming.{answer_of};
 
 use crate::answer::Reach;
 use crate::gather::Gatherer;
+use crate::keys::Wanted;
 use crate::locators::some_locator_names;
 use crate::naming::Naming;
 use crate::union::union_of;
@@ -20,11 +21,12 @@ pub fn reach<S: Naming>(alloc: Global, steps: &mut S, uris: &[Bytes]) -> Result<
     ensures same { S.world steps.new ≡ S.world steps.old }
     ensures lender { S.lender steps.new ≡ S.lender steps.old }
 {
-    if some_locator_names(alloc, steps, uris)? {
+    let wanted = Wanted::new(alloc, uris)?;
+    if some_locator_names(alloc, steps, &wanted)? {
         return Ok(Reach::Locator);
     }
     let mut found = Gatherer {
-        uris,
+        wanted: &wanted,
         sets: Vec::new(alloc),
     };
     walk_all(alloc, steps, &mut found)?;

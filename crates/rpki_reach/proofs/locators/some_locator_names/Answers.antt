@@ -4,7 +4,7 @@ use Rattle.rpki_reach.proofs.locators.some_locator_names.Goals as goal
 
 pub returns-then-branch : goal.returns-then-branch
 returns-then-branch g c = (
-  λ t. some_names c.args.uris.now (g.S.Steps.world c.args.steps.now) c.loop-at.at (subst (λ (n : ℕ). c.loop-at.at < n) c.locator_count-at-end.ensures.count c.loop-at-test.true) (c.in_ok-locator_names.ensures.0 c.if-branch.true),
+  λ t. some_names c.args.wanted.now (g.S.Steps.world c.args.steps.now) c.loop-at.at (subst (λ (n : ℕ). c.loop-at.at < n) c.locator_count-at-end.ensures.count c.loop-at-test.true) (c.in_ok-locator_names.ensures.0 c.if-branch.true),
   λ s. refl,
 )
 
@@ -13,5 +13,5 @@ returns g c =
     let w = g.S.Steps.world c.args.steps.now in
     let past : length w.locators ≤ c.loop-at.at = subst (λ (n : ℕ). n ≤ c.loop-at.at) c.locator_count-at-end.ensures.count c.loop-at-test.false in (
       λ t. absurd (let f : false ≡ true = t in cc),
-      λ s. absurd (none_names c.args.uris.now w (λ k l. c.loop-at.invariant k (omega (arith, past, l))) s),
+      λ s. absurd (none_names c.args.wanted.now w (λ k l. c.loop-at.invariant k (omega (arith, past, l))) s),
     )

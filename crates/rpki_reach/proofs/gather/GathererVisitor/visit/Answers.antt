@@ -10,7 +10,7 @@ use Rattle.rpki_reach.proofs.gather.GathererVisitor.visit.Goals.{then-names_any+
 
 pub returns-clause-gained : goal.returns-clause-gained
 returns-clause-gained g c =
-    let uris = c.args.self.now.uris.now in
+    let uris = c.args.self.now.wanted.now in
     let w = g.S.Steps.world c.args.steps.now in
     let sets = g.S.Steps.sets c.args.ca.now in
     let ca = g.S.Steps.cert c.args.ca.now in
@@ -18,7 +18,7 @@ returns-clause-gained g c =
     let e : c.names_any.result ≡ names_any uris c.in_ok-keys.keys.items = c.names_any.ensures ∙ ap (λ (ks : List (List ℕ)). names_any uris ks) c.deref.ensures.value in
     elim c.if-names_any.branch [
       | then-names_any+in_ok-held+in_ok-push v ↦ subst (λ q. Gains IsReaches (has_gathered c.args.self.now) (ReachedBy uris w (InSet sets) ca) (has_gathered q)) (sym v.self-is)
-          (one_gains c.args.self.now (record { uris = c.args.self.now.uris; sets = v.push.new.self }) uris w _ sets ca (tells.0 (sym e ∙ v.if-names_any.true)) v.in_ok-push.ensures.items v.in_ok-held.ensures)
+          (one_gains c.args.self.now (record { wanted = c.args.self.now.wanted; sets = v.push.new.self }) uris w _ sets ca (tells.0 (sym e ∙ v.if-names_any.true)) v.in_ok-push.ensures.items v.in_ok-held.ensures)
       | else-names_any v ↦ subst (λ q. Gains IsReaches (has_gathered c.args.self.now) (ReachedBy uris w (InSet sets) ca) (has_gathered q)) (sym v.self-is)
           (none_gains c.args.self.now uris w sets ca (λ n. let f : false ≡ true = sym v.if-names_any.false ∙ (e ∙ tells.1 n) in cc))
     ]
