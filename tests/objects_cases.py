@@ -15,6 +15,7 @@ import re
 from certs_signed_cases import RSA, SHA256, SHA256_RSA, Refused, bits_of, content_of, need, parts_of, tlv, value
 from objects_lists_cases import lists
 from objects_locator_cases import locators
+from objects_signed_cases import signed
 
 FOLDER = pathlib.Path(__file__).resolve().parent.parent / "crates" / "objects_cases"
 rng = random.Random(9582)
@@ -301,6 +302,7 @@ def main():
     manifests(q)
     lists(q)
     locators(q)
+    signed(q, answer_of)
     (FOLDER / "stdin").write_text("".join(f"{question}\n" for question, _ in q.rows))
     (FOLDER / "stdout").write_text("".join(f"{answer}\n" for _, answer in q.rows))
     print(len(q.rows), "questions")

@@ -6,7 +6,7 @@ use objects_aspa::AsProviderAttestation;
 use std::alloc::Global;
 
 // The customer, how many providers there are, each of them, and how many a set has of them.
-fn shown(alloc: Global, answer: &mut Answer, content: &AsProviderAttestation) {
+fn providers(alloc: Global, answer: &mut Answer, content: &AsProviderAttestation) {
     answer.say(&content.customer_as());
     let providers = content.provider_as_set();
     answer.say(&providers.len());
@@ -28,6 +28,12 @@ fn written(alloc: Global, answer: &mut Answer, content: &AsProviderAttestation) 
     answer.say_written(alloc, &content.encode_ref());
 }
 
+/// All that is told of the content.
+pub fn shown(alloc: Global, answer: &mut Answer, content: &AsProviderAttestation) {
+    providers(alloc, answer, content);
+    written(alloc, answer, content);
+}
+
 /// The answer about the content that octets begin with.
 pub fn answer(alloc: Global, answer: &mut Answer, words: &[&str]) -> Result<()> {
     let [digits] = words else {
@@ -35,10 +41,7 @@ pub fn answer(alloc: Global, answer: &mut Answer, words: &[&str]) -> Result<()> 
     };
     let octets = octets(alloc, *digits)?;
     match AsProviderAttestation::decode(alloc, octets.as_slice()) {
-        Ok(content) => {
-            shown(alloc, answer, &content);
-            written(alloc, answer, &content);
-        }
+        Ok(content) => shown(alloc, answer, &content),
         Err(error) => answer.refuse(error),
     }
     Ok(())

@@ -1,15 +1,17 @@
-//! Questions about what signed objects have in them, revocation lists and locators, as data: each line of standard input asks
-//! one, by words with a tab between, and each line of standard output answers one. The first word names the module that
-//! answers.
+//! Questions about signed objects, what they have in them, revocation lists and locators, as data:
+//! each line of standard input asks one, by words with a tab between, and each line of standard
+//! output answers one. The first word names the module that answers.
 //!
 //! `tests/objects_cases.py` writes both, and knows the answers by means of its own.
 #![tactic(auto)]
 
 mod answers;
 mod aspa;
+mod cert;
 mod crl;
 mod locator;
 mod manifest;
+mod object;
 mod roa;
 mod store;
 
@@ -23,6 +25,7 @@ fn say(alloc: Global, answer: &mut Answer, topic: &str, words: &[&str]) -> Resul
         "aspa" => aspa::answer(alloc, answer, words),
         "roa" => roa::answer(alloc, answer, words),
         "manifest" => manifest::answer(alloc, answer, words),
+        "object" => object::answer(alloc, answer, words),
         "crl" => crl::answer(alloc, answer, words),
         "store" => store::answer(alloc, answer, words),
         "locator" => locator::answer(alloc, answer, words),

@@ -15,8 +15,8 @@ fn file(alloc: Global, answer: &mut Answer, file: &FileAndHash<'_>) {
     answer.say_octets(alloc, file.hash());
 }
 
-// The number, both moments, how many files there are, and each of them.
-fn shown(alloc: Global, answer: &mut Answer, content: &ManifestContent) {
+/// The number, both moments, how many files there are, and each of them.
+pub fn shown(alloc: Global, answer: &mut Answer, content: &ManifestContent) {
     answer.say(&content.manifest_number());
     answer.say_moment(content.this_update());
     answer.say_moment(content.next_update());

@@ -14,7 +14,7 @@ fn lengths(answer: &mut Answer, addresses: &RoaIpAddresses) {
 }
 
 // The number, the prefixes with the greatest length that holds, and what stands there of each family.
-fn shown(answer: &mut Answer, content: &RouteOriginAttestation) {
+fn addresses(answer: &mut Answer, content: &RouteOriginAttestation) {
     answer.say(&content.as_id());
     for address in content.iter() {
         answer.say(&format_args!("{}-{}", address.prefix(), address.max_length()));
@@ -32,6 +32,12 @@ fn origins(answer: &mut Answer, content: &RouteOriginAttestation) {
     }
 }
 
+/// All that is told of the content.
+pub fn shown(answer: &mut Answer, content: &RouteOriginAttestation) {
+    addresses(answer, content);
+    origins(answer, content);
+}
+
 /// The answer about the content that octets begin with.
 pub fn answer(alloc: Global, answer: &mut Answer, words: &[&str]) -> Result<()> {
     let [digits] = words else {
@@ -39,10 +45,7 @@ pub fn answer(alloc: Global, answer: &mut Answer, words: &[&str]) -> Result<()> 
     };
     let octets = octets(alloc, *digits)?;
     match RouteOriginAttestation::decode(alloc, octets.as_slice()) {
-        Ok(content) => {
-            shown(answer, &content);
-            origins(answer, &content);
-        }
+        Ok(content) => shown(answer, &content),
         Err(error) => answer.refuse(error),
     }
     Ok(())

@@ -1,0 +1,191 @@
+//! Questions about signed objects: `strict` or `relaxed`, what they have to be, and octets; about
+//! those with some bits of one octet flipped, octet by octet, and about their proper fronts.
+
+use crate::answers::{Answer, octets, unknown};
+use crate::{aspa, cert, manifest, roa};
+use anyhow::Result;
+use bcder::OctetString;
+use objects_kinds::{Aspa, Manifest, Roa, SignedObject, SignerInfo};
+use sha2::{Digest, Sha256};
+use std::alloc::Global;
+use std::str::FromStr;
+
+fn string(alloc: Global, answer: &mut Answer, string: &OctetString) {
+    match string.to_bytes(alloc) {
+        Ok(octets) => answer.say_octets(alloc, octets.as_slice()),
+        Err(_) => answer.say(&"memory"),
+    }
+}
+
+// The key's identifier, the attributes as they stand, the type and the digest that they tell,
+// whether NULL stands in the algorithm, and the signature.
+fn signer(alloc: Global, answer: &mut Answer, signer: &SignerInfo) {
+    answer.say_octets(alloc, signer.sid().as_slice());
+    answer.say_octets(alloc, signer.attributes().as_slice());
+    let said = signer.attributes().attributes();
+    answer.say_octets(alloc, said.content_type.as_slice());
+    string(alloc, answer, &said.message_digest);
+    answer.say(&signer.algorithm().has_null());
+    string(alloc, answer, signer.signature());
+}
+
+// The content's type, the content, both times, who signed, and the certificate.
+fn shown(alloc: Global, answer: &mut Answer, signed: &SignedObject) {
+    answer.say_octets(alloc, signed.content_type().as_slice());
+    string(alloc, answer, signed.content());
+    match signed.signing_time() {
+        Some(moment) => answer.say_moment(moment),
+        None => answer.say(&"-"),
+    }
+    answer.say_some(&signed.binary_signing_time());
+    signer(alloc, answer, signed.signer());
+    cert::shown(alloc, answer, signed.cert());
+}
+
+fn any(alloc: Global, answer: &mut Answer, strict: bool, octets: &[u8]) {
+    match SignedObject::decode(alloc, octets, strict) {
+        Ok(signed) => shown(alloc, answer, &signed),
+        Err(error) => answer.refuse(error),
+    }
+}
+
+fn manifest_of(alloc: Global, answer: &mut Answer, strict: bool, octets: &[u8]) {
+    match Manifest::decode(alloc, octets, strict) {
+        Ok(object) => {
+            shown(alloc, answer, object.signed());
+            manifest::shown(alloc, answer, object.content());
+        }
+        Err(error) => answer.refuse(error),
+    }
+}
+
+fn roa_of(alloc: Global, answer: &mut Answer, strict: bool, octets: &[u8]) {
+    match Roa::decode(alloc, octets, strict) {
+        Ok(object) => {
+            shown(alloc, answer, object.signed());
+            roa::shown(answer, object.content());
+        }
+        Err(error) => answer.refuse(error),
+    }
+}
+
+fn aspa_of(alloc: Global, answer: &mut Answer, strict: bool, octets: &[u8]) {
+    match Aspa::decode(alloc, octets, strict) {
+        Ok(object) => {
+            shown(alloc, answer, object.signed());
+            aspa::shown(alloc, answer, object.content());
+        }
+        Err(error) => answer.refuse(error),
+    }
+}
+
+// What is read of octets.
+fn read(alloc: Global, answer: &mut Answer, strict: bool, kind: &str, octets: &[u8]) -> Result<()> {
+    match kind {
+        "any" => any(alloc, answer, strict, octets),
+        "manifest" => manifest_of(alloc, answer, strict, octets),
+        "roa" => roa_of(alloc, answer, strict, octets),
+        "aspa" => aspa_of(alloc, answer, strict, octets),
+        _ => return unknown(),
+    }
+    Ok(())
+}
+
+/// Answers in their order: of each whether it is a refusal, and all of them as text.
+#[derive(Drop)]
+struct Row {
+    read: String,
+    all: String,
+}
+
+impl Row {
+    fn new(alloc: Global) -> Self {
+        Row {
+            read: String::new(alloc),
+            all: String::new(alloc),
+        }
+    }
+
+    // One more, of octets.
+    fn add(&mut self, alloc: Global, strict: bool, kind: &str, octets: &[u8]) -> Result<()> {
+        let mut one = Answer::new(alloc);
+        read(alloc, &mut one, strict, kind, octets)?;
+        let mark = if one.text() == "refused" { "-" } else { "x" };
+        self.read.push_str(mark)?;
+        self.all.push_str(one.text())?;
+        self.all.push_str("\n")?;
+        Ok(())
+    }
+
+    // The refusals, and the digest of all answers, each on a line.
+    fn end(&self, alloc: Global, answer: &mut Answer) {
+        answer.say(&self.read);
+        answer.say_octets(alloc, &Sha256::digest(self.all.as_bytes()));
+    }
+}
+
+// The octets with some bits of one of them flipped.
+fn flipped(alloc: Global, octets: &[u8], place: usize, bits: u8) -> Result<Vec<u8>> {
+    let mut changed = Vec::new(alloc);
+    for (at, octet) in octets.iter().enumerate() {
+        changed.push(if at == place { *octet ^ bits } else { *octet })?;
+    }
+    Ok(changed)
+}
+
+fn flips(
+    alloc: Global,
+    row: &mut Row,
+    strict: bool,
+    kind: &str,
+    bits: u8,
+    octets: &[u8],
+) -> Result<()> {
+    for place in 0..octets.len() {
+        let changed = flipped(alloc, octets, place, bits)?;
+        row.add(alloc, strict, kind, changed.as_slice())?;
+    }
+    Ok(())
+}
+
+fn cuts(alloc: Global, row: &mut Row, strict: bool, kind: &str, octets: &[u8]) -> Result<()> {
+    let mut front = Vec::new(alloc);
+    for octet in octets {
+        row.add(alloc, strict, kind, front.as_slice())?;
+        front.push(*octet)?;
+    }
+    Ok(())
+}
+
+/// What is read of the octets; or of them with some bits of each octet in turn flipped; or of each
+/// proper front.
+pub fn answer(alloc: Global, answer: &mut Answer, words: &[&str]) -> Result<()> {
+    match words {
+        ["flips", bits, how, kind, digits] => {
+            let octets = octets(alloc, *digits)?;
+            let mut row = Row::new(alloc);
+            flips(
+                alloc,
+                &mut row,
+                *how == "strict",
+                *kind,
+                u8::from_str(*bits)?,
+                octets.as_slice(),
+            )?;
+            row.end(alloc, answer);
+            Ok(())
+        }
+        ["cuts", how, kind, digits] => {
+            let octets = octets(alloc, *digits)?;
+            let mut row = Row::new(alloc);
+            cuts(alloc, &mut row, *how == "strict", *kind, octets.as_slice())?;
+            row.end(alloc, answer);
+            Ok(())
+        }
+        [how, kind, digits] => {
+            let octets = octets(alloc, *digits)?;
+            read(alloc, answer, *how == "strict", *kind, octets.as_slice())
+        }
+        _ => unknown(),
+    }
+}
