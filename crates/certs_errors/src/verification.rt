@@ -3,9 +3,9 @@
 ghost use Rattle.std.specs.Prelude.{◌≡◌};
 
 use certs_signed::SignatureVerificationError;
-use certs_specs::ValidityError;
-use certs_specs::asres::OverclaimedAsResources;
-use certs_specs::ipres::{OverclaimedIpv4Resources, OverclaimedIpv6Resources};
+use certs_specs::{
+    OverclaimedAsResources, OverclaimedIpv4Resources, OverclaimedIpv6Resources, ValidityError,
+};
 use thiserror::Error;
 
 /// One of the three kinds of number resources.

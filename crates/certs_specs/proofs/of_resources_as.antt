@@ -1,2 +1,2 @@
 -- Lemmas of resources_as, for the crates above.
-pub use Rattle.resources.proofs.of_resources_as.Again
+pub use Rattle.resources_as.proofs.Again
