@@ -11,7 +11,7 @@ def stands_on():
     """Of each crate the libraries that it stands on, by crates.txt."""
     with open(os.path.join(ROOT, "crates.txt")) as file:
         rows = [line.split(":") for line in file if ":" in line and not line.startswith("#")]
-    return {name.strip(): below.split() for name, below in rows}
+    return {name.split()[0]: below.split() for name, below in rows}
 
 
 def with_those_below(names, needs):

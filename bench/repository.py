@@ -132,21 +132,27 @@ def address_bits(network):
     return bits(network.network_address.packed[:size], 8 * size - length)
 
 
+FAMILIES = {4: der(0x04, b"\x00\x01"), 6: der(0x04, b"\x00\x02")}
+
+
 class Held:
-    """What a certificate lists: IPv4 prefixes and AS numbers, or that it inherits them."""
+    """What a certificate lists: prefixes and AS numbers, or that it inherits them (of addresses, IPv4 ones)."""
 
     def __init__(self, networks=(), numbers=(), inherits=False):
         self.networks, self.numbers, self.inherits = networks, numbers, inherits
 
     def extensions(self):
-        family = der(0x04, b"\x00\x01")
         if self.inherits:
-            yield extension("1.3.6.1.5.5.7.1.7", sequence(sequence(family, der(0x05))), True)
+            yield extension("1.3.6.1.5.5.7.1.7", sequence(sequence(FAMILIES[4], der(0x05))), True)
             yield extension("1.3.6.1.5.5.7.1.8", sequence(der(0xA0, der(0x05))), True)
             return
-        if self.networks:
-            blocks = sequence(*map(address_bits, self.networks))
-            yield extension("1.3.6.1.5.5.7.1.7", sequence(sequence(family, blocks)), True)
+        families = [
+            sequence(family, sequence(*(address_bits(one) for one in self.networks if one.version == version)))
+            for version, family in FAMILIES.items()
+            if any(one.version == version for one in self.networks)
+        ]
+        if families:
+            yield extension("1.3.6.1.5.5.7.1.7", sequence(*families), True)
         if self.numbers:
             ranges = (sequence(integer(first), integer(last)) if first < last else integer(first)
                       for first, last in self.numbers)
@@ -160,7 +166,7 @@ class Authority:
         self.name, self.key, self.held, self.parent = name, key, held, parent
         self.folder = f"rsync://{HOST}/repository/{name}/"
         self.at = f"rsync://{HOST}/repository/{parent.name + '/' if parent else ''}{name}.cer"
-        self.files, self.serial = {}, 0
+        self.files, self.serial, self.revoked = {}, 0, []
 
     def next_serial(self):
         self.serial += 1
@@ -240,7 +246,7 @@ class Authority:
     def add_origin(self, file, key, asn, network, greatest=None):
         """A ROA of one prefix (RFC 9582 4)."""
         most = integer(greatest) if greatest else b""
-        family = sequence(der(0x04, b"\x00\x01"), sequence(sequence(address_bits(network), most)))
+        family = sequence(FAMILIES[network.version], sequence(sequence(address_bits(network), most)))
         content = sequence(integer(asn), sequence(family))
         self.files[file] = self.sign_object("1.2.840.113549.1.9.16.1.24", content, file, key, Held([network]))
 
@@ -253,9 +259,10 @@ class Authority:
     def publish(self, key):
         """Adds the revocation list and the manifest, and answers all files by their URIs."""
         names = [extension("2.5.29.35", sequence(der(0x80, self.key.identifier))), extension("2.5.29.20", integer(1))]
-        tbs = sequence(
-            integer(1), SHA256_RSA, self.key.name(), time(NOT_BEFORE), time(NOT_AFTER), der(0xA0, sequence(*names))
-        )
+        times = time(NOT_BEFORE) + time(NOT_AFTER)
+        entries = (sequence(integer(serial), time(NOT_BEFORE)) for serial in self.revoked)
+        revoked = sequence(*entries) if self.revoked else b""
+        tbs = sequence(integer(1), SHA256_RSA, self.key.name(), times, revoked, der(0xA0, sequence(*names)))
         self.files[self.name + ".crl"] = sequence(tbs, SHA256_RSA, bits(self.key.sign(tbs)))
         listed = (
             sequence(der(0x16, file.encode()), bits(hashlib.sha256(octets).digest()))

@@ -24,7 +24,7 @@ their own stand below the one before. `tests/definitions.py` writes it.
 
 def crates():
     with open(os.path.join(ROOT, "crates.txt")) as file:
-        return [line.split(":")[0].strip() for line in file if ":" in line and not line.startswith("#")]
+        return [line.split(":")[0].split()[0] for line in file if ":" in line and not line.startswith("#")]
 
 
 def words_of(path):

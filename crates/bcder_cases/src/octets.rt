@@ -56,7 +56,7 @@ fn known(alloc: Global, string: &OctetString) -> Answer {
     let one_by_one: Vec<u8> = string.octets().collect(alloc)?;
     let is_same = string.is_slice(one_by_one.as_slice());
     let shared = digits(alloc, string.to_bytes(alloc)?.as_slice())?;
-    let kept = digits(alloc, string.clone()?.into_bytes(alloc)?.as_slice())?;
+    let kept = digits(alloc, string.clone()?.into_bytes().as_slice())?;
     format!(in alloc; "{len} {is_empty} {octets} {pieces} {is_same} {shared} {kept}")
 }
 

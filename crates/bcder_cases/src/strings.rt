@@ -24,7 +24,7 @@ type Refusal = DecodeError<Infallible>;
 fn octets<L: CharSet>(alloc: Global, string: &RestrictedString<L>) -> Answer {
     let octets = digits(alloc, string.as_slice().unwrap_or(&[]))?;
     let shared = digits(alloc, string.to_bytes(alloc)?.as_slice())?;
-    let kept = digits(alloc, string.clone()?.into_bytes(alloc)?.as_slice())?;
+    let kept = digits(alloc, string.clone()?.into_bytes().as_slice())?;
     let whole = string.clone()?.into_octet_string();
     let is_same = *string.as_octet_string() == whole
         && string.is_slice(whole.as_slice().unwrap_or(&[]));

@@ -36,7 +36,7 @@ pub fn take_inner<S: Source>(
         (here S.rest cons.old) result (here S.rest cons.new) }
 {
     let string = OctetString::take_from(alloc, cons)?;
-    let octets = string.into_bytes(alloc)?;
+    let octets = string.into_bytes();
     let version = match version_of(octets.as_slice()) {
         Ok(version) => version,
         Err(error) => return Err(error.convert()),

@@ -31,7 +31,7 @@ impl OctetStringSource {
         ensures { result ≡ record { rest = string; position = 0 } }
     {
         OctetStringSource {
-            octets: BytesSource::new(string.into_octets()),
+            octets: BytesSource::new(string.into_bytes()),
         }
     }
 }

@@ -52,13 +52,6 @@ impl OctetString {
         self.octets.as_slice()
     }
 
-    // The octets, shared.
-    pub(crate) fn into_octets(self) -> Bytes
-        ensures { result ≡ self }
-    {
-        self.octets
-    }
-
     /// How many octets the string has.
     pub fn len(&self) -> usize
         ensures { result ≡ length self.now }
@@ -94,11 +87,11 @@ impl OctetString {
         self.octets.clone()
     }
 
-    /// The octets, shared where they lie in one piece.
-    pub fn into_bytes(self, _alloc: Global) -> Result<Bytes, AllocError>
-        ensures { IfOk result (λ octets. octets ≡ self) }
+    /// The octets, which aren't copied.
+    pub fn into_bytes(self) -> Bytes
+        ensures { result ≡ self }
     {
-        Ok(self.octets)
+        self.octets
     }
 }
 

@@ -193,11 +193,11 @@ impl<L: CharSet> RestrictedString<L> {
         self.octets.to_bytes(alloc)
     }
 
-    /// The octets, shared where they lie in one piece.
-    pub fn into_bytes(self, alloc: Global) -> Result<Bytes, AllocError>
-        ensures { IfOk result (λ octets. octets ≡ self) }
+    /// The octets, which aren't copied.
+    pub fn into_bytes(self) -> Bytes
+        ensures { result ≡ self }
     {
-        self.octets.into_bytes(alloc)
+        self.octets.into_bytes()
     }
 }
 

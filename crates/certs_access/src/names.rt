@@ -1,6 +1,6 @@
 //! General names that are URIs (RFC 5280 4.2.1.6).
 
-ghost use Rattle.std.specs.Prelude.{◌≡◌, IfOk};
+ghost use Rattle.std.specs.Prelude.{◌≡◌};
 ghost use Rattle.certs_access.specs.bcder_tree.Strings.{IsIa5};
 ghost use Rattle.certs_access.specs.bcder_tree.Tags.{context};
 ghost use Rattle.certs_access.specs.bcder_chars.Sets.{alone};
@@ -15,7 +15,7 @@ ghost use Rattle.certs_access.specs.Seen.{NameSays, Seen};
 use certs_basics::decode::{Constructed, ContentError, DecodeError, Source};
 use certs_basics::{Ia5String, Tag};
 use certs_uri::Rsync;
-use std::alloc::{AllocError, Global};
+use std::alloc::Global;
 
 // The next name, if there is one.
 pub(crate) fn take_opt_name<S: Source>(
@@ -50,13 +50,12 @@ pub(crate) fn take_name<S: Source>(
 }
 
 // The rsync URI that a name is, if it is one.
-fn rsync_of(alloc: Global, name: Ia5String) -> Result<Option<Rsync>, AllocError>
-    ensures { IfOk result (λ found. NameSays name found) }
+fn rsync_of(name: Ia5String) -> Option<Rsync>
+    ensures { NameSays name result }
 {
-    let octets = name.into_bytes(alloc)?;
-    match Rsync::from_bytes(octets) {
-        Ok(uri) => Ok(Some(uri)),
-        Err(_) => Ok(None),
+    match Rsync::from_bytes(name.into_bytes()) {
+        Ok(uri) => Some(uri),
+        Err(_) => None,
     }
 }
 
@@ -70,7 +69,7 @@ fn take_names<S: Source>(
 {
     let mut found = None;
     while let Some(name) = take_opt_name(alloc, cons)? {
-        if let Some(uri) = rsync_of(alloc, name)? {
+        if let Some(uri) = rsync_of(name) {
             if found.is_some() {
                 return Err(cons.content_err(ContentError::from_static("several rsync URIs")));
             }

@@ -1,6 +1,6 @@
 //! Where the subject publishes (RFC 6487 4.8.8).
 
-ghost use Rattle.std.specs.Prelude.{◌≡◌, ◌↔◌, true, IfOk, IsTrue, OnErr};
+ghost use Rattle.std.specs.Prelude.{◌≡◌, ◌↔◌, true, IsTrue, OnErr};
 ghost use Rattle.certs_access.specs.bcder_tree.Tags.{universal};
 ghost use Rattle.certs_access.specs.bcder_content.Exact.{ReadsAs, ReadsOptAs};
 ghost use Rattle.certs_access.specs.bcder_content.Here.{here};
@@ -17,7 +17,7 @@ use bytes::Bytes;
 use certs_basics::decode::{Constructed, ContentError, DecodeError, Source};
 use certs_basics::{ConstOid, Ia5String, Oid};
 use certs_uri::{Https, Rsync};
-use std::alloc::{AllocError, Global};
+use std::alloc::Global;
 use std::marker::Model;
 
 // id-ad-caRepository, 1.3.6.1.5.5.7.48.5 (RFC 5280 4.2.2.2).
@@ -170,31 +170,31 @@ impl SubjectAccess {
     }
 
     // The URIs with one more access description.
-    fn with(mut self, alloc: Global, description: Description) -> Result<SubjectAccess, AllocError>
-        ensures { IfOk result (AddsEntry (entry_of description) self) }
+    fn with(mut self, description: Description) -> SubjectAccess
+        ensures { AddsEntry (entry_of description) self result }
     {
         let method = description.method;
         let Some(name) = description.name else {
-            return Ok(self);
+            return self;
         };
-        let text = name.into_bytes(alloc)?;
+        let text = name.into_bytes();
         if method.equals(&CA_REPOSITORY) {
             self.repository = keep_rsync(self.repository, text);
-            return Ok(self);
+            return self;
         }
         if method.equals(&RPKI_MANIFEST) {
             self.manifest = keep_rsync(self.manifest, text);
-            return Ok(self);
+            return self;
         }
         if method.equals(&SIGNED_OBJECT) {
             self.object = keep_rsync(self.object, text);
-            return Ok(self);
+            return self;
         }
         if method.equals(&RPKI_NOTIFY) {
             self.notify = keep_https(self.notify, text);
-            return Ok(self);
+            return self;
         }
-        Ok(self)
+        self
     }
 }
 
@@ -209,7 +209,7 @@ fn take_all<S: Source>(
     let mut found = SubjectAccess::none();
     let mut is_some = false;
     while let Some(description) = take_opt_description(alloc, cons)? {
-        found = found.with(alloc, description)?;
+        found = found.with(description);
         is_some = true;
     }
     Ok((found, is_some))

@@ -29,8 +29,9 @@ impl Model for Cert {
 pub type CertValues<'a> = SignedDataValues<'a>;
 
 impl Cert {
-    // The certificate of signed octets, and of the fields that were read of them.
-    pub(crate) fn from_parts(signed: SignedData, tbs: TbsCert) -> Cert
+    /// The certificate of signed octets, and of the fields that they spell: for builders. Nothing is
+    /// tested.
+    pub fn from_parts(signed: SignedData, tbs: TbsCert) -> Cert
         ensures { result ≡ record { signed = signed_of signed; tbs = tbs } }
     {
         Cert { signed, tbs }

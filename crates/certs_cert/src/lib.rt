@@ -28,7 +28,7 @@ pub use certs_claims::{
     grammar, paths,
 };
 pub use certs_signed::{
-    ConstOid, DigestAlgorithm, Mode, OctetString, Oid, RpkiSignatureAlgorithm, Tag, Verifier,
-    decode,
+    ConstOid, DigestAlgorithm, Mode, OctetString, Oid, RpkiSignatureAlgorithm, SignedData, Tag,
+    Verifier, decode,
 };
 pub use tbs::TbsCert;

@@ -168,6 +168,18 @@ fn finished(listed: Listed) -> Result<TbsCert, ListError>
     })
 }
 
+// What is said of a list of extensions that is refused as a whole.
+fn text_of(fault: ListError) -> &'static str {
+    match fault {
+        ListError::MissingResources => "no resources",
+        ListError::MissingPolicy => "no certificate policy",
+        ListError::WrongIpResources => "IP resources under another policy",
+        ListError::WrongAsResources => "AS resources under another policy",
+        ListError::MissingSubjectKeyIdentifier => "no subject key identifier",
+        ListError::MissingKeyUsage => "no key usage",
+    }
+}
+
 impl TbsCert {
     /// What is signed of a certificate, where it is next: its fields in their order, and its
     /// extensions in any order (RFC 5280 4.1.2, RFC 6487 4). Extensions that don't fit together, or
@@ -185,11 +197,9 @@ impl TbsCert {
         let listed = take_listed(alloc, cons)?;
         match finished(listed) {
             Ok(tbs) => Ok(tbs),
-            Err(_) => {
+            Err(fault) => {
                 cons.fail();
-                Err(cons.content_err(ContentError::from_static(
-                    "extensions that don't fit together",
-                )))
+                Err(cons.content_err(ContentError::from_static(text_of(fault))))
             }
         }
     }

@@ -3,6 +3,7 @@ pub mod Kinds
 pub mod Putting
 pub mod Refusals
 pub mod Finishing
+pub mod Needed
 -- What stands below, for the crates above.
 pub use Rattle.certs_extension.specs.bcder_bits as bcder_bits
 pub use Rattle.certs_extension.specs.bcder_content as bcder_content

@@ -3,6 +3,7 @@
 ghost use Rattle.std.specs.Prelude.{◌≡◌, ◌↔◌, IfErr, IfOk, IsTrue, MatchOption, None, OnErr};
 ghost use Rattle.certs_claims.specs.resources_chain.declared.choice.ResourcesChoice.TheVariants.{Missing};
 ghost use Rattle.certs_claims.specs.Finishing.{Finishes, HasClaims, HasSome, IsListFault, IsUnder, Stands, access_of, no_families};
+ghost use Rattle.certs_claims.specs.Needed.{HasNeeded};
 ghost use Rattle.certs_claims.specs.declared.finish.Claims.{Claims as ClaimsValue};
 
 use crate::slots::Slots;
@@ -63,6 +64,9 @@ pub struct Claims {
     /// AS resources (4.8.11).
     pub asn: AsResources,
 }
+
+// What has to be there: the policy, the identifier of the subject's key, and its usage.
+type Needed = (Overclaim, KeyIdentifier, KeyUsage);
 
 // Whether there are resources of one kind.
 fn has_some(slots: &Slots) -> bool
@@ -145,14 +149,11 @@ impl Slots {
         Ok(policy)
     }
 
-    /// What the extensions claim, where the identifier of the subject's key, its key usage and a
-    /// policy are there, and resources, which all stand under this policy (RFC 6487 4.8, RFC 8360 4.2).
-    ///
-    /// The first failing test is told, in the order of [`ListError`].
-    pub fn finish(self) -> Result<Claims, ListError>
-        ensures ok { IfOk result (Finishes self) }
-        ensures refused { IfErr result (IsListFault self) }
-        ensures none { OnErr result ((c : ClaimsValue) → ¬ (Finishes self c)) }
+    // The policy under which all resources stand, the identifier of the subject's key and its usage,
+    // and else the first test of the slots that fails.
+    fn needed(&self) -> Result<Needed, ListError>
+        ensures ok { IfOk result (HasNeeded self.now) }
+        ensures refused { IfErr result (IsListFault self.now) }
     {
         let overclaim = self.policy_of()?;
         let Some(subject_key_identifier) = self.subject_key_identifier else {
@@ -161,8 +162,17 @@ impl Slots {
         let Some(key_usage) = self.key_usage else {
             return Err(ListError::MissingKeyUsage);
         };
+        Ok((overclaim, subject_key_identifier, key_usage))
+    }
+
+    // What the extensions claim, of which these were found.
+    fn claims(self, needed: Needed) -> Claims
+        requires { HasNeeded self needed }
+        ensures { Finishes self result }
+    {
+        let (overclaim, subject_key_identifier, key_usage) = needed;
         let IpFamilies { v4, v6 } = families_of(self.ip);
-        Ok(Claims {
+        Claims {
             basic_ca: self.basic_ca,
             subject_key_identifier,
             authority_key_identifier: self.authority_key_identifier,
@@ -175,6 +185,24 @@ impl Slots {
             v4,
             v6,
             asn: numbers_of(self.asn),
-        })
+        }
+    }
+
+    /// What the extensions claim, where the identifier of the subject's key, its key usage and a
+    /// policy are there, and resources, which all stand under this policy (RFC 6487 4.8, RFC 8360 4.2).
+    ///
+    /// The first failing test is told, in the order of [`ListError`].
+    pub fn finish(self) -> Result<Claims, ListError>
+        ensures ok { IfOk result (Finishes self) }
+        ensures refused { IfErr result (IsListFault self) }
+        ensures none { OnErr result ((c : ClaimsValue) → ¬ (Finishes self c)) }
+    {
+        match self.needed() {
+            Ok(needed) => Ok(self.claims(needed)),
+            Err(error) => {
+                drop(self);
+                Err(error)
+            }
+        }
     }
 }

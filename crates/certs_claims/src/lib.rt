@@ -3,6 +3,7 @@
 #![tactic(auto)]
 
 pub mod finish;
+mod holding;
 pub mod kinds;
 pub mod laws;
 pub mod list;
@@ -16,5 +17,6 @@ pub use certs_extension::{
     Overclaim, PublicKeyFormat, Role, Rsync, Time, Validity, cert_is_spelled, grammar, paths,
 };
 pub use finish::{Claims, ListError};
+pub use holding::beside;
 pub use list::take_extensions;
 pub use slots::Slots;

@@ -11,6 +11,7 @@ ghost use Rattle.certs_extension.specs.certs_specs.Extensions.{IsExtension};
 ghost use Rattle.certs_claims.specs.Refusals.{Told};
 ghost use Rattle.certs_claims.specs.Slots.{AreSlots};
 
+use crate::holding::beside;
 use crate::slots::Slots;
 use certs_extension::decode::{Constructed, ContentError, DecodeError, Source};
 use certs_extension::{Extension, ExtensionError};
@@ -39,12 +40,19 @@ fn take_all<S: Source>(
         (here S.rest cons.old) result (here S.rest cons.new) }
 {
     let mut slots = Slots::new();
-    while let Some(extension) = Extension::take_opt_from(alloc, cons)? {
-        if let Err(fault) = slots.put(alloc, &extension) {
+    loop {
+        let (kept, next) = beside(slots, Extension::take_opt_from(alloc, cons))?;
+        slots = kept;
+        let Some(extension) = next else {
+            return Ok(slots);
+        };
+        let put = slots.put(alloc, &extension);
+        drop(extension);
+        if let Err(fault) = put {
+            drop(slots);
             return Err(refusal(cons, fault));
         }
     }
-    Ok(slots)
 }
 
 /// All extensions of a certificate, `SEQUENCE OF Extension`, in whatever order they stand

@@ -29,3 +29,7 @@ pub looked_up : (c : CrlValue) {entries : List RevokedValue} {kept : Option (Lis
 looked_up c {entries} {kept} {cache} e is some looks place =
     let kept_is : IsCache entries cache = subst (IsCached entries) some is in
     inr (record { cache = cache; kept = subst (λ (xs : List RevokedValue). IsCache xs cache) e kept_is; looks = looks; place_is = place })
+
+-- Numbers that were copied are those of the copied list.
+pub cached_same : {entries others : List RevokedValue} {kept copied : Option (List ℕ)} → entries ≡ others → kept ≡ copied → IsCached entries kept → IsCached others copied
+cached_same {entries} {copied = copied} e f p = subst (λ (l : List RevokedValue). IsCached l copied) e (subst (IsCached entries) f p)

@@ -4,4 +4,6 @@ mod Listed
 mod Whole
 mod Spelled
 mod Stored
+mod Again
+mod Writing
 pub mod of_bcder_content

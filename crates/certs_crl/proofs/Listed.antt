@@ -1,5 +1,5 @@
 -- What is signed of a list is its fields with two extensions, which say what they have to.
-use Rattle.std.proofs.Common.{◌≡◌, ℕ, Bool, List, [], ◌∷◌, Option, Some, None, Result, Ok, Err, length, refl, sym, ap, ◌∙◌, subst, arith}
+use Rattle.std.proofs.Common.{◌≡◌, ℕ, List, [], ◌∷◌, Option, Some, None, Result, Ok, Err, length, refl, sym, ◌∙◌, subst, arith}
 use Rattle.std.specs.Result.{IsErr, IsErrAnd}
 use Rattle.certs_crl.specs.bcder_tree.declared.mode.Mode.{Mode}
 use Rattle.certs_crl.specs.bcder_source.Errors.{OnContent}
@@ -8,7 +8,7 @@ use Rattle.certs_crl.specs.bcder_tree.Tags.{TagValue, context, universal}
 use Rattle.certs_crl.specs.bcder_tree.Tree.{Tree, Trees}
 use Rattle.certs_crl.specs.bcder_content.Contents.{ValuesLeft}
 use Rattle.certs_crl.specs.bcder_content.Exact.{Gives, Lacks}
-use Rattle.certs_crl.specs.bcder_content.Grammar.{End, Inside, Many, One, OneAll, Opt, OptCases, Tagged, Then}
+use Rattle.certs_crl.specs.bcder_content.Grammar.{End, Inside, Many, OneAll, Opt, OptCases, Then}
 use Rattle.certs_crl.specs.bcder_content.Words.{Gathers}
 use Rattle.certs_crl.proofs.of_bcder_content.Took.{one_took}
 use Rattle.certs_crl.proofs.of_bcder_content.Unique.{end_one, inside_one, inside_tagged, many_one, opt_one, same_trees, same_values, then_one}
@@ -18,7 +18,7 @@ use Rattle.certs_revoked.proofs.of_certs_specs.Values.{extension_one}
 use Rattle.certs_revoked.specs.Listing.{entry_one}
 use Rattle.certs_revoked.specs.certs_specs.CrlText.{AreRevoked, HasListExtensions, IsTbsList, IsTbsListBody, ListFields, RevokedValue, TbsListValue}
 use Rattle.certs_revoked.specs.certs_specs.Extensions.{Extension, IsExtension}
-use Rattle.certs_crl.specs.Reading.{Finishes, IsPair, IsPaired, IsRead, IsReadBody, IsTail, Pair, ReadFields, SaysBoth, SaysRead, TailFields, list_of, pair_of}
+use Rattle.certs_crl.specs.Reading.{Finishes, IsPair, IsRead, IsReadBody, IsTail, Pair, ReadFields, SaysBoth, SaysRead, TailFields, list_of, pair_of}
 
 -- The first value stays, and other values stand behind it.
 with_rest : {A B C : Type 0} {Q : Tree → A → Type 0} {R : Trees → B → Type 0} {S : Trees → C → Type 0} {ts : Trees} {x : A × B} {y : C}

@@ -3,7 +3,6 @@ use Rattle.std.proofs.Common.{ℕ, List, Result, Ok, Err}
 use Rattle.certs_crl.specs.bcder_tree.declared.mode.Mode.TheVariants.{Der}
 use Rattle.certs_crl.specs.bcder_tree.Tags.{universal}
 use Rattle.certs_crl.specs.bcder_tree.Tree.{Tree, Trees, Spells, SpellsAll, constructed, none, more}
-use Rattle.certs_crl.specs.bcder_source.Errors.{OnContent}
 use Rattle.certs_crl.specs.bcder_source.declared.error.DecodeError.{DecodeError}
 use Rattle.certs_crl.specs.bcder_content.Exact.{DecodesAs}
 use Rattle.certs_crl.specs.bcder_content.Texts.{InOrder, Joins, NoOctets, Wraps}

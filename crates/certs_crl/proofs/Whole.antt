@@ -1,79 +1,126 @@
--- A revocation list is signed data whose message is of the fields' grammar, with the same algorithm twice.
-use Rattle.std.proofs.Common.{◌≡◌, ℕ, Bool, List, [], ap, ◌∙◌, refl, subst, sym}
+-- The fields of a revocation list are those of signed data whose message is of the fields' grammar, with the same algorithm twice.
+use Rattle.std.proofs.Common.{◌≡◌, ℕ, List, [], Result, Ok, Err, Option, Some, None, ap, ◌∙◌, refl, subst, sym}
 use Rattle.certs_crl.specs.bcder_tree.declared.mode.Mode.{Mode}
-use Rattle.certs_crl.specs.bcder_tree.Tree.{Tree, Spells}
 use Rattle.certs_crl.specs.bcder_tree.Front.{Front}
+use Rattle.certs_crl.specs.bcder_tree.Tags.{universal}
+use Rattle.certs_crl.specs.bcder_tree.Tree.{Spells, Tree, Trees}
+use Rattle.certs_crl.specs.bcder_source.declared.error.DecodeError.{DecodeError}
 use Rattle.certs_crl.specs.bcder_content.Contents.{ValuesLeft}
-use Rattle.certs_crl.specs.bcder_content.Exact.{Gives, Lacks}
+use Rattle.certs_crl.specs.bcder_content.Exact.{GivesAll, Lacks, LacksAll, ReadsAs, ReadsOptAs}
+use Rattle.certs_crl.specs.bcder_content.Grammar.{Inside}
 use Rattle.certs_crl.specs.bcder_content.Kept.{CapturedValue}
 use Rattle.certs_crl.specs.certs_basics.Basics.{IsAlgorithm}
-use Rattle.certs_crl.proofs.of_bcder_content.Took.{one_took}
-use Rattle.certs_crl.proofs.of_bcder_content.Unique.{same_trees, same_values}
+use Rattle.certs_crl.proofs.of_bcder_content.Keeping.{front_all}
+use Rattle.certs_crl.proofs.of_bcder_content.Taking.{weaker}
+use Rattle.certs_crl.proofs.of_bcder_content.Unique.{same_trees}
+use Rattle.certs_signed.proofs.of_bcder_content.Within.{AllWithin, all_gives, all_unfit}
+use Rattle.certs_revoked.proofs.of_bcder_tree.Trees.{one_tree}
 use Rattle.certs_basics.proofs.Values.{algorithm_one}
-use Rattle.certs_signed.proofs.Wholes.{IsWhole, whole_fields, whole_gives, whole_lacks, whole_refused}
-use Rattle.certs_signed.specs.Signed.{SignedDataValue, signed, signed_fields}
-use Rattle.certs_revoked.specs.certs_specs.CrlText.{CrlValue, IsCrl, IsTbsList, TbsListValue, as_crl}
-use Rattle.certs_crl.specs.Whole.{signed_of}
+use Rattle.certs_signed.specs.Signed.{SignedDataValue, signed_content, signed_fields}
+use Rattle.certs_revoked.specs.certs_specs.CrlText.{CrlValue, IsCrl, IsTbsList, TbsListValue}
+use Rattle.certs_crl.specs.Whole.{AreCrl, signed_of}
 use Rattle.certs_crl.proofs.Listed.{same_null}
 
-pub kept_octets : {lent kept : CapturedValue} {octets : List ℕ} → octets ≡ lent.octets → lent ≡ kept → octets ≡ kept.octets
+kept_octets : {lent kept : CapturedValue} {octets : List ℕ} → octets ≡ lent.octets → lent ≡ kept → octets ≡ kept.octets
 kept_octets e d = e ∙ ap (λ (c : CapturedValue). c.octets) d
 
+-- A list's fields are those of signed data.
+pub crl_within : {m : Mode} → AllWithin (AreCrl m) (signed_content.reads m)
+crl_within {m} ts c p =
+    let i = p.are in (
+      ((record { mode = m; octets = p.fields.0.0 }, tt), p.fields.1),
+      record {
+        first = i.first;
+        others = i.others;
+        whole = i.whole;
+        is = record { mode = refl; kept = record { spelled = i.is.spelled; is = record { any = tt } } };
+        rest = i.rest;
+      },
+    )
+
 -- What was decoded of the octets, in the mode of the content.
-pub record WasRead (now : ValuesLeft) (s : SignedDataValue) (tbs : TbsListValue) : Type 0 where
+pub record WasRead (m : Mode) (s : SignedDataValue) (tbs : TbsListValue) : Type 0 where
   pub tree : Tree
   pub rest : List ℕ
-  pub front : Front now.mode s.message.octets tree rest
-  pub is : IsTbsList now.mode tree tbs
+  pub front : Front m s.message.octets tree rest
+  pub is : IsTbsList m tree tbs
 
-pub was_read : {now : ValuesLeft} {m : Mode} {s : SignedDataValue} {lent : CapturedValue} {octets : List ℕ} {tbs : TbsListValue}
-    → m ≡ now.mode → octets ≡ lent.octets → lent ≡ s.message → (t : Tree) × (rest : List ℕ) × Front m octets t rest × IsTbsList m t tbs → WasRead now s tbs
-was_read {now} {m} {s} {octets = octets} {tbs} em eo ed d =
-    let front = subst (λ (z : List ℕ). Front now.mode z d.0 d.1) (kept_octets eo ed) (subst (λ (z : Mode). Front z octets d.0 d.1) em d.2) in
+pub was_read : {k m : Mode} {s : SignedDataValue} {lent : CapturedValue} {octets : List ℕ} {tbs : TbsListValue}
+    → m ≡ k → octets ≡ lent.octets → lent ≡ s.message → (t : Tree) × (rest : List ℕ) × Front m octets t rest × IsTbsList m t tbs → WasRead k s tbs
+was_read {k} {m} {s} {octets = octets} {tbs} em eo ed d =
+    let front = subst (λ (z : List ℕ). Front k z d.0 d.1) (kept_octets eo ed) (subst (λ (z : Mode). Front z octets d.0 d.1) em d.2) in
     record { tree = d.0; rest = d.1; front = front; is = subst (λ (z : Mode). IsTbsList z d.0 tbs) em d.3 }
 
-whole_read : {now new : ValuesLeft} {s : SignedDataValue} {tbs : TbsListValue} → WasRead now s tbs → Gives (signed.reads now.mode) now (signed_fields s) new
-    → Gives (IsWhole IsTbsList now.mode) now (whole_fields s tbs) new
-whole_read r g = whole_gives IsTbsList g (r.tree, r.rest, r.front, r.is)
+-- The message is that value.
+message_is : {m : Mode} {s : SignedDataValue} {tbs : TbsListValue} → WasRead m s tbs → {t : Tree} → Spells m t s.message.octets → IsTbsList m t tbs
+message_is {m} {s} {tbs} d {t} text =
+    let same = (one_tree d.tree t d.front (front_all text)).0 in
+    subst (λ (u : Tree). IsTbsList m u tbs) same d.is
 
-pub crl_gives : {now new : ValuesLeft} {s : SignedDataValue} {tbs : TbsListValue} {c : CrlValue} → WasRead now s tbs
-    → c ≡ record { signed = signed_of s; tbs = tbs } → tbs.has_null ≡ s.signature.algorithm → Gives (signed.reads now.mode) now (signed_fields s) new
-    → Gives (IsCrl now.mode) now c new
-crl_gives {now} {new} {s} {tbs} {c} r ec agree g =
-    let w = whole_read r g in
-    let is : IsCrl now.mode w.tree (record { signed = signed_of s; tbs = tbs }) = record { is = record { x = whole_fields s tbs; is = w.is; means = refl }; agree = agree } in
-    record { tree = w.tree; is = subst (λ (z : CrlValue). IsCrl now.mode w.tree z) (sym ec) is; took = w.took }
+message_crl : {m : Mode} {s : SignedDataValue} {tbs : TbsListValue} {c : CrlValue} → WasRead m s tbs → c ≡ record { signed = signed_of s; tbs = tbs } → tbs.has_null ≡ s.signature.algorithm
+    → (ts : Trees) → signed_content.reads m ts (signed_fields s) → AreCrl m ts c
+message_crl {m} {s} {tbs} d ec agree ts i =
+    let is : AreCrl m ts (record { signed = signed_of s; tbs = tbs }) = record {
+      fields = ((s.message.octets, tbs), (s.signature.algorithm, (s.signature.bits, tt)));
+      are = record { first = i.first; others = i.others; whole = i.whole; is = record { spelled = i.is.kept.spelled; is = message_is d i.is.kept.spelled }; rest = i.rest };
+      says = refl;
+      agree = agree;
+    } in
+    subst (λ (z : CrlValue). AreCrl m ts z) (sym ec) is
 
-crl_without : {now : ValuesLeft} → Lacks (IsWhole IsTbsList now.mode) now → Lacks (IsCrl now.mode) now
-crl_without l = record { none = λ t c p a. l.none t p.is.x p.is.is a }
-
-pub crl_lacks : {now : ValuesLeft} → Lacks (signed.reads now.mode) now → Lacks (IsCrl now.mode) now
-crl_lacks l = crl_without (whole_lacks IsTbsList l)
+pub crl_gives : {now new : ValuesLeft} {s : SignedDataValue} {tbs : TbsListValue} {c : CrlValue} → WasRead now.mode s tbs
+    → c ≡ record { signed = signed_of s; tbs = tbs } → tbs.has_null ≡ s.signature.algorithm → GivesAll (signed_content.reads now.mode) now (signed_fields s) new
+    → GivesAll (AreCrl now.mode) now c new
+crl_gives {now} d ec agree g = all_gives (AreCrl now.mode) (signed_content.reads now.mode) (message_crl d ec agree) crl_within g
 
 pub crl_refused : {now new : ValuesLeft} {m : Mode} {s : SignedDataValue} {lent : CapturedValue} {octets : List ℕ}
-    → m ≡ now.mode → octets ≡ lent.octets → lent ≡ s.message → Gives (signed.reads now.mode) now (signed_fields s) new
-    → ((t : Tree) (x : TbsListValue) (rest : List ℕ) → IsTbsList m t x → Front m octets t rest → ⊥) → Lacks (IsCrl now.mode) now
-crl_refused {now} {m = m} {octets = octets} em eo ed g refuses =
+    → m ≡ now.mode → octets ≡ lent.octets → lent ≡ s.message → GivesAll (signed_content.reads now.mode) now (signed_fields s) new
+    → ((t : Tree) (x : TbsListValue) (rest : List ℕ) → IsTbsList m t x → Front m octets t rest → ⊥) → LacksAll (AreCrl now.mode) now
+crl_refused {now} {m = m} {s} {octets = octets} em eo ed g refuses =
     let o = kept_octets eo ed in
-    crl_without (whole_refused IsTbsList g (λ t x rest p f.
-    refuses t x rest (subst (λ (z : Mode). IsTbsList z t x) (sym em) p)
-    (subst (λ (z : Mode). Front z octets t rest) (sym em) (subst (λ (z : List ℕ). Front now.mode z t rest) (sym o) f))))
+    all_unfit (AreCrl now.mode) (signed_content.reads now.mode) (λ ts z p q.
+    let first = (same_trees (sym q.whole ∙ p.are.whole)).0 in
+    let text : Spells now.mode p.are.first s.message.octets = subst (λ (u : Tree). Spells now.mode u s.message.octets) first q.is.kept.spelled in
+    refuses p.are.first p.fields.0.1 [] (subst (λ (z : Mode). IsTbsList z p.are.first p.fields.0.1) (sym em) p.are.is.is)
+    (subst (λ (z : Mode). Front z octets p.are.first []) (sym em) (subst (λ (z : List ℕ). Front now.mode z p.are.first []) (sym o) (front_all text)))) crl_within g
 
 -- The two algorithms differ.
-pub crl_disagrees : {now new : ValuesLeft} {s : SignedDataValue} {tbs : TbsListValue} → WasRead now s tbs → Gives (signed.reads now.mode) now (signed_fields s) new
-    → (tbs.has_null ≡ s.signature.algorithm → ⊥) → Lacks (IsCrl now.mode) now
-crl_disagrees {now} {s = s} {tbs} r g differ =
-    let w = whole_read r g in
-    record {
-      none = λ t c p a.
-          let k = w.is.is in
-          let h = p.is.is.is in
-          let values = same_values (sym w.is.whole ∙ (one_took w.took a.1).0 ∙ p.is.is.whole) in
-          let firsts = same_trees (sym k.whole ∙ values ∙ h.whole) in
-          let seconds = same_trees (sym k.rest.whole ∙ firsts.1 ∙ h.rest.whole) in
-          let nulls : tbs.has_null ≡ p.is.x.0.1.has_null = same_null (subst (λ (u : Tree). IsTbsList now.mode u tbs) firsts.0 k.is.is) h.is.is in
-          let algorithms : s.signature.algorithm ≡ p.is.x.1.0 = algorithm_one.one h.rest.first _ _ (subst (λ (u : Tree). IsAlgorithm u s.signature.algorithm) seconds.0 k.rest.is) h.rest.is in
-          let tbs_is : c.tbs.has_null ≡ p.is.x.0.1.has_null = ap (λ (z : CrlValue). z.tbs.has_null) p.is.means in
-          let signed_is : c.signed.has_null ≡ p.is.x.1.0 = ap (λ (z : CrlValue). z.signed.has_null) p.is.means in
-          differ (nulls ∙ sym tbs_is ∙ p.agree ∙ signed_is ∙ sym algorithms);
-    }
+pub crl_disagrees : {now new : ValuesLeft} {s : SignedDataValue} {tbs : TbsListValue} → WasRead now.mode s tbs → GivesAll (signed_content.reads now.mode) now (signed_fields s) new
+    → (tbs.has_null ≡ s.signature.algorithm → ⊥) → LacksAll (AreCrl now.mode) now
+crl_disagrees {now} {s = s} {tbs} d g differ = all_unfit (AreCrl now.mode) (signed_content.reads now.mode) (λ ts z p q.
+    let firsts = same_trees (sym q.whole ∙ p.are.whole) in
+    let seconds = same_trees (sym q.rest.whole ∙ firsts.1 ∙ p.are.rest.whole) in
+    let message = message_is d q.is.kept.spelled in
+    let nulls : tbs.has_null ≡ p.fields.0.1.has_null = same_null (subst (λ (u : Tree). IsTbsList now.mode u tbs) firsts.0 message) p.are.is.is in
+    let algorithms : s.signature.algorithm ≡ p.fields.1.0 = algorithm_one.one p.are.rest.first _ _ (subst (λ (u : Tree). IsAlgorithm u s.signature.algorithm) seconds.0 q.rest.is) p.are.rest.is in
+    let tbs_is : z.tbs.has_null ≡ p.fields.0.1.has_null = ap (λ (k : CrlValue). k.tbs.has_null) p.says in
+    let signed_is : z.signed.has_null ≡ p.fields.1.0 = ap (λ (k : CrlValue). k.signed.has_null) p.says in
+    differ (nulls ∙ sym tbs_is ∙ p.agree ∙ signed_is ∙ sym algorithms)) crl_within g
+
+-- A SEQUENCE of the fields is a list, and a list is one.
+
+abbrev same : CrlValue → CrlValue
+same c = c
+
+abbrev IsSequence : Mode → Tree → CrlValue → Type 0
+IsSequence m = Inside (universal 16) (AreCrl m)
+
+sequence_crl : {m : Mode} (t : Tree) (c : CrlValue) → IsSequence m t c → IsCrl m t c
+sequence_crl t c p = record { is = record { x = p.is.fields; is = record { values = p.values; whole = p.whole; is = p.is.are }; means = p.is.says }; agree = p.is.agree }
+
+crl_sequence : {m : Mode} (t : Tree) (c : CrlValue) → IsCrl m t c → IsSequence m t c
+crl_sequence t c p = record { values = p.is.is.values; whole = p.is.is.whole; is = record { fields = p.is.x; are = p.is.is.is; says = p.is.means; agree = p.agree } }
+
+crl_lacks : {m : Mode} {v : ValuesLeft} → Lacks (IsSequence m) v → Lacks (IsCrl m) v
+crl_lacks l = record { none = λ t c p a. l.none t c (crl_sequence t c p) a }
+
+pub crl_reads : {E : Type 0} (old new : ValuesLeft) (r : Result CrlValue (DecodeError E)) → ReadsAs same (IsSequence old.mode) old r new
+    → ReadsAs same (IsCrl old.mode) old r new
+crl_reads old new (Ok c) g = record { tree = g.tree; is = sequence_crl g.tree c g.is; took = g.took }
+crl_reads old new (Err e) l = weaker e crl_lacks l
+
+pub crl_reads_opt : {E : Type 0} (old new : ValuesLeft) (r : Result (Option CrlValue) (DecodeError E)) → ReadsOptAs same (universal 16) (IsSequence old.mode) old r new
+    → ReadsOptAs same (universal 16) (IsCrl old.mode) old r new
+crl_reads_opt old new (Ok (Some c)) g = record { tree = g.tree; is = sequence_crl g.tree c g.is; took = g.took }
+crl_reads_opt old new (Ok None) a = a
+crl_reads_opt old new (Err e) l = weaker e (λ k. record { tagged = k.tagged; lacks = crl_lacks k.lacks; goes_on = k.goes_on; other = k.other }) l

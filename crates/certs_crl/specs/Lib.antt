@@ -2,6 +2,7 @@ pub mod Reading
 pub mod Caches
 pub mod Store
 pub mod Whole
+pub mod Written
 -- What stands below, for the crates above.
 pub use Rattle.certs_signed.specs.bcder_source as bcder_source
 pub use Rattle.certs_revoked.specs.bcder_content as bcder_content

@@ -15,7 +15,7 @@ use Rattle.certs_crl.specs.certs_time.Forms.{IsTime}
 use Rattle.certs_extension.specs.Raw.{extension_value}
 use Rattle.certs_extension.specs.declared.extension.Extension.{Extension as Raw}
 use Rattle.certs_revoked.specs.certs_specs.CertText.{IsVersion}
-use Rattle.certs_revoked.specs.certs_specs.CrlText.{AreRevoked, HasListExtensions, RevokedValue, TbsListValue, entries}
+use Rattle.certs_revoked.specs.certs_specs.CrlText.{AreRevoked, RevokedValue, TbsListValue, entries}
 use Rattle.certs_revoked.specs.certs_specs.Extensions.{Extension, IsAuthorityKeyIdentifier, IsExtension, IsOptional, May, of_kind}
 
 -- A value that stands alone in a content.

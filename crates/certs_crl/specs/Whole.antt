@@ -1,7 +1,27 @@
--- Signed data as revocation lists have it.
+-- Signed data as revocation lists have it, and the fields of a revocation list (RFC 5280 5.1.1).
+use Rattle.std.specs.Prelude.{◌≡◌, Bool, List, ℕ}
+use Rattle.certs_crl.specs.bcder_tree.declared.mode.Mode.{Mode}
+use Rattle.certs_crl.specs.bcder_tree.Tree.{Trees}
+use Rattle.certs_crl.specs.bcder_content.Grammar.{End, OctetsOf, Then}
+use Rattle.certs_crl.specs.bcder_content.Words.{Kept}
+use Rattle.certs_signed.specs.bcder_bits.Bits.{BitsValue}
+use Rattle.certs_signed.specs.bcder_bits.Contents.{IsBitString, bit_string_tag}
+use Rattle.certs_crl.specs.certs_basics.Basics.{IsAlgorithm}
 use Rattle.certs_signed.specs.Signed.{SignedDataValue}
 use Rattle.certs_revoked.specs.certs_specs.Cert.{SignedValue}
+use Rattle.certs_revoked.specs.certs_specs.CrlText.{CrlValue, IsTbsList, TbsListValue, as_crl}
 
 -- The octets that are signed, whether NULL stands in the outer algorithm, and the octets of the signature.
 abbrev pub signed_of : SignedDataValue → SignedValue
 signed_of s = record { message = s.message.octets; has_null = s.signature.algorithm; signature = s.signature.bits.octets }
+
+-- What is signed, with its octets, the algorithm, and the signature.
+abbrev pub CrlFields : Type 0
+CrlFields = (List ℕ × TbsListValue) × (Bool × (BitsValue × Unit {0}))
+
+-- tbsCertList, signatureAlgorithm AlgorithmIdentifier, signatureValue BIT STRING, as values; both algorithms agree (RFC 5280 5.1.1).
+pub record AreCrl (m : Mode) (ts : Trees) (c : CrlValue) : Type 0 where
+  pub fields : CrlFields
+  pub are : Then (Kept m (IsTbsList m)) (Then IsAlgorithm (Then (OctetsOf bit_string_tag (IsBitString m)) End)) ts fields
+  pub says : c ≡ as_crl fields
+  pub agree : c.tbs.has_null ≡ c.signed.has_null

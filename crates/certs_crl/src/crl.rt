@@ -1,11 +1,15 @@
 //! Revocation lists.
 
-ghost use Rattle.std.specs.Prelude.{◌≡◌, ◌↔◌, ◌≤◌, ◌+◌, ◌-◌, ◌^◌, min, true, IsOk, IsTrue};
-ghost use Rattle.certs_crl.specs.Caches.{IsPositioned};
+ghost use Rattle.std.specs.Prelude.{◌≡◌, ◌↔◌, ◌≤◌, ◌+◌, ◌-◌, ◌^◌, min, true, IfOk, IfSome, IsOk, IsTrue};
+ghost use Rattle.certs_crl.specs.bcder_tree.declared.mode.Mode.TheVariants.{Der};
+ghost use Rattle.certs_crl.specs.Caches.{IsCache, IsPositioned};
 ghost use Rattle.certs_crl.specs.Whole.{signed_of};
+ghost use Rattle.certs_crl.specs.Written.{WritesCrl};
 ghost use Rattle.certs_revoked.specs.certs_specs.CrlText.{IsOn};
 
 use crate::tbs::TbsCertList;
+use bcder::encode::{EncodeError, Values};
+use bcder::{Captured, Mode};
 use certs_name::Serial;
 use certs_revoked::SerialCache;
 use certs_signed::{PublicKey, SignatureVerificationError, SignedData, SignedDataValues, Verifier};
@@ -14,7 +18,7 @@ use std::marker::Model;
 
 /// A revocation list: signed octets with their signature, and the fields that the octets spell (RFC 5280 5.1.1). Contracts
 /// see both.
-#[derive(Drop)]
+#[derive(Debug, Drop)]
 pub struct Crl {
     signed: SignedData,
     tbs: TbsCertList,
@@ -83,6 +87,13 @@ impl Crl {
         }
     }
 
+    /// The serial numbers that are kept aside, if any: those of the entries, each once, ascending.
+    pub fn cached_serials(&self) -> Option<&SerialCache>
+        ensures { IfSome result (λ cache. IsCache self.now.tbs.revoked cache.now) }
+    {
+        self.serials.as_ref()
+    }
+
     /// The place of the serial number among those that are kept aside, each once, ascending; none where none are kept. The
     /// looks at serial numbers that it takes are added to `probes`: at most as many as the count of those that are kept
     /// has binary digits.
@@ -116,5 +127,40 @@ impl Crl {
         ensures { signed_of result ≡ self.now.signed }
     {
         self.signed.encode_ref()
+    }
+
+    /// What is written of the list in DER. `CerUnsupported` where the octets that were signed stand in another mode;
+    /// `TooLong` where a content has more than 2^32 - 1 octets.
+    pub fn to_captured(&self, alloc: Global) -> Result<Captured, EncodeError>
+        ensures { IfOk result (λ c. WritesCrl self.now Der c.octets) }
+    {
+        self.encode_ref().to_captured(alloc, Mode::Der)
+    }
+}
+
+// A copy of the serial numbers that are kept aside, if any.
+fn cache_copied(serials: &Option<SerialCache>) -> Result<Option<SerialCache>, AllocError>
+    ensures { IfOk result (λ copy. copy ≡ serials.now) }
+{
+    match serials {
+        Some(cache) => Ok(Some(cache.clone()?)),
+        None => Ok(None),
+    }
+}
+
+/// A clone has the same signed octets, signature and fields, and keeps the same serial numbers aside. Octets aren't copied,
+/// those serial numbers are.
+impl Clone for Crl {
+    ghost is_clone = { λ crl copy. copy ≡ crl };
+
+    fn clone(&self) -> Result<Self, AllocError> {
+        let serials = cache_copied(&self.serials)?;
+        let tbs = self.tbs.clone()?;
+        let signed = self.signed.clone()?;
+        Ok(Crl {
+            signed,
+            tbs,
+            serials,
+        })
     }
 }

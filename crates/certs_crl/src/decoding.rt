@@ -3,8 +3,11 @@
 ghost use Rattle.std.specs.Prelude.{◌≡◌, ◌↔◌, IsTrue, OnErr, true};
 ghost use Rattle.certs_crl.specs.bcder_tree.declared.mode.Mode.TheVariants.{Der};
 ghost use Rattle.certs_crl.specs.bcder_content.Captures.{rest_of};
-ghost use Rattle.certs_crl.specs.bcder_content.Exact.{DecodesAs, ReadsAs};
+ghost use Rattle.certs_crl.specs.bcder_content.Exact.{DecodesAs, ReadsAs, ReadsOptAs};
 ghost use Rattle.certs_crl.specs.bcder_content.Here.{here};
+ghost use Rattle.certs_crl.specs.bcder_content.InMode.{ReadsFields};
+ghost use Rattle.certs_crl.specs.bcder_tree.Tags.{universal};
+ghost use Rattle.certs_crl.specs.Whole.{AreCrl};
 ghost use Rattle.certs_revoked.specs.certs_specs.Calls.{DecodesCrl};
 ghost use Rattle.certs_revoked.specs.certs_specs.CrlText.{IsCrl, IsTbsList};
 
@@ -38,18 +41,17 @@ fn agree(tbs: &TbsCertList, signed: &SignedData) -> bool
 }
 
 impl Crl {
-    /// The revocation list that is next: signed octets, which are kept, and the fields that are read of them in the same
-    /// mode; both algorithms are the same (RFC 5280 5.1.1). The signature isn't verified.
-    pub fn take_from<S: Source>(
+    /// The fields of a revocation list, which are all of their content: signed octets, which are kept, and the fields that
+    /// are read of them in the same mode; both algorithms are the same (RFC 5280 5.1.1).
+    pub fn from_constructed<S: Source>(
         alloc: Global,
         cons: &mut Constructed<S>,
     ) -> Result<Crl, DecodeError<S::Error>>
-        ensures reads { ReadsAs (λ c. c) (IsCrl (here S.rest cons.old).mode)
+        ensures { ReadsFields (λ c. c) AreCrl
             (here S.rest cons.old) result (here S.rest cons.new) }
-        ensures failed { OnErr result ((here S.rest cons.new).failed ≡ true) }
     {
         let mode = cons.mode();
-        let signed = SignedData::take_from(alloc, cons)?;
+        let signed = SignedData::from_constructed(alloc, cons)?;
         let tbs = match tbs_of(alloc, signed.data().as_slice(), mode) {
             Ok(tbs) => tbs,
             Err(error) => {
@@ -62,6 +64,42 @@ impl Crl {
             return Err((*cons).content_err(ContentError::from_static("another algorithm")));
         }
         Ok(Crl::from_parts(signed, tbs))
+    }
+
+    /// The revocation list that is next: signed octets, which are kept, and the fields that are read of them in the same
+    /// mode; both algorithms are the same (RFC 5280 5.1.1). The signature isn't verified.
+    pub fn take_from<S: Source>(
+        alloc: Global,
+        cons: &mut Constructed<S>,
+    ) -> Result<Crl, DecodeError<S::Error>>
+        ensures reads { ReadsAs (λ c. c) (IsCrl (here S.rest cons.old).mode)
+            (here S.rest cons.old) result (here S.rest cons.new) }
+        ensures failed { OnErr result ((here S.rest cons.new).failed ≡ true) }
+    {
+        cons.take_sequence(
+            |cons|
+                ensures { ReadsFields (λ c. c) AreCrl
+                    (here S.rest cons.old) result (here S.rest cons.new) }
+            { Crl::from_constructed(alloc, cons) },
+        )
+    }
+
+    /// The revocation list that is next, if a SEQUENCE is next; one that is no revocation list is refused. The signature
+    /// isn't verified.
+    pub fn take_opt_from<S: Source>(
+        alloc: Global,
+        cons: &mut Constructed<S>,
+    ) -> Result<Option<Crl>, DecodeError<S::Error>>
+        ensures reads { ReadsOptAs (λ c. c) (universal 16) (IsCrl (here S.rest cons.old).mode)
+            (here S.rest cons.old) result (here S.rest cons.new) }
+        ensures failed { OnErr result ((here S.rest cons.new).failed ≡ true) }
+    {
+        cons.take_opt_sequence(
+            |cons|
+                ensures { ReadsFields (λ c. c) AreCrl
+                    (here S.rest cons.old) result (here S.rest cons.new) }
+            { Crl::from_constructed(alloc, cons) },
+        )
     }
 
     /// The revocation list that a source begins with, in DER; octets behind it stay unread.

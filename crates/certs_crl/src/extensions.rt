@@ -23,10 +23,10 @@ use std::alloc::Global;
 use std::convert::Infallible;
 
 /// cRLNumber, 2.5.29.20 (RFC 5280 5.2.3).
-const CE_CRL_NUMBER: ConstOid = Oid(&[85, 29, 20]);
+pub(crate) const CE_CRL_NUMBER: ConstOid = Oid(&[85, 29, 20]);
 
 /// authorityKeyIdentifier, 2.5.29.35 (RFC 5280 5.2.1).
-const CE_AUTHORITY_KEY_IDENTIFIER: ConstOid = Oid(&[85, 29, 35]);
+pub(crate) const CE_AUTHORITY_KEY_IDENTIFIER: ConstOid = Oid(&[85, 29, 35]);
 
 // The two extensions, in the order in which they stand.
 pub(crate) type Pair = (Extension, Extension);

@@ -5,12 +5,12 @@ ghost use Rattle.certs_crl.specs.Store.{IsFirstUnder, NoneUnder};
 
 use crate::crl::Crl;
 use certs_uri::Rsync;
-use std::alloc::Global;
+use std::alloc::{AllocError, Global};
 use std::marker::Model;
 
 /// Revocation lists, each with its URI, in the order in which they came. Contracts see them, and whether serial numbers are
 /// kept aside.
-#[derive(Drop)]
+#[derive(Debug, Drop)]
 pub struct CrlStore {
     crls: Vec<(Rsync, Crl)>,
     cache_serials: bool,
@@ -90,5 +90,18 @@ impl CrlStore {
             (λ c. IsFirstUnder self.now.crls uri.now c.now) }
     {
         first_under(self.crls.as_slice(), uri)
+    }
+}
+
+/// A clone has the same lists, in their order, and keeps serial numbers aside from now on where the store does.
+impl Clone for CrlStore {
+    ghost is_clone = { λ store copy. copy ≡ store };
+
+    fn clone(&self) -> Result<Self, AllocError> {
+        let crls = self.crls.clone()?;
+        Ok(CrlStore {
+            crls,
+            cache_serials: self.cache_serials,
+        })
     }
 }

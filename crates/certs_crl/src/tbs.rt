@@ -7,11 +7,12 @@ use certs_name::{Name, Serial};
 use certs_revoked::RevokedCertificates;
 use certs_signed::KeyIdentifier;
 use certs_time::Time;
+use std::alloc::AllocError;
 use std::marker::Model;
 
 /// What is signed of a revocation list: its fields and its two extensions (RFC 5280 5.1.2, RFC 6487 5). Contracts see all
 /// of them.
-#[derive(Drop)]
+#[derive(Debug, Drop)]
 pub struct TbsCertList {
     pub(crate) signature: RpkiSignatureAlgorithm,
     pub(crate) issuer: Name,
@@ -124,5 +125,24 @@ impl TbsCertList {
         ensures { result ≡ self.now.number }
     {
         self.crl_number
+    }
+}
+
+/// A clone has the same fields. It takes no memory, but a count of copies can be full.
+impl Clone for TbsCertList {
+    ghost is_clone = { λ list copy. copy ≡ list };
+
+    fn clone(&self) -> Result<Self, AllocError> {
+        let issuer = self.issuer.clone()?;
+        let revoked_certs = self.revoked_certs.clone()?;
+        Ok(TbsCertList {
+            signature: self.signature,
+            issuer,
+            this_update: self.this_update,
+            next_update: self.next_update,
+            revoked_certs,
+            authority_key_id: self.authority_key_id,
+            crl_number: self.crl_number,
+        })
     }
 }

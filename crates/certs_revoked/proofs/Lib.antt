@@ -1,5 +1,6 @@
 pub mod Entries
 pub mod Lists
+mod Made
 pub mod Searches
 pub mod Serials
 pub mod Splits

@@ -2,6 +2,7 @@ pub mod Entries
 pub mod Written
 pub mod Listed
 pub mod Listing
+pub mod EntryForms
 -- What stands below, for the crates above.
 pub use Rattle.certs_specs.specs.bcder_bits as bcder_bits
 pub use Rattle.certs_specs.specs.bcder_content as bcder_content

@@ -1,7 +1,7 @@
 //! Revoked certificates: the entries of revocation lists (RFC 5280 5.1.2.6).
 //!
-//! What differs from the Rust crate: an entry isn't read from a text, and what takes memory is given an allocator and
-//! answers a `Result`.
+//! What differs from the Rust crate: an entry isn't read from a text; a list is made of a slice of entries, and of no
+//! iterator; what takes memory is given an allocator and answers a `Result`.
 #![tactic(auto)]
 
 pub mod cache;
@@ -10,6 +10,7 @@ pub mod iter;
 pub mod laws;
 pub mod revoked;
 mod search;
+mod written;
 
 pub use cache::SerialCache;
 pub use certs_specs::laws::crl_is_spelled;

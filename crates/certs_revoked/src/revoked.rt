@@ -2,20 +2,25 @@
 
 ghost use Rattle.std.specs.Prelude.{◌≡◌, ◌≢◌, ◌↔◌, [], false, true, IsTrue, IfErr, IfOk, IfNone, IfSome, OnErr};
 ghost use Rattle.certs_specs.specs.CrlText.{AreRevoked};
+ghost use Rattle.certs_revoked.specs.bcder_tree.declared.mode.Mode.TheVariants.{Der};
 ghost use Rattle.certs_revoked.specs.bcder_tree.Tags.{universal};
 ghost use Rattle.certs_revoked.specs.bcder_source.declared.error.DecodeError.TheVariants.{Memory};
 ghost use Rattle.certs_revoked.specs.bcder_content.Captures.{rest_of};
 ghost use Rattle.certs_revoked.specs.bcder_content.Exact.{ReadsOptAs};
 ghost use Rattle.certs_revoked.specs.bcder_content.Here.{here};
 ghost use Rattle.certs_revoked.specs.bcder_content.InMode.{ReadsFields};
+ghost use Rattle.certs_revoked.specs.bcder_values.Gathered.{ExtendRefused};
 ghost use Rattle.certs_revoked.specs.Entries.{AreAny, AreEntries};
+ghost use Rattle.certs_revoked.specs.EntryForms.{entry_list};
 ghost use Rattle.certs_revoked.specs.Listed.{IsListed, ReadsList, SpellsEntries, serials_of};
 ghost use Rattle.certs_revoked.specs.Listing.{Listing, one_listing};
 
 use crate::entry::CrlEntry;
 use crate::iter::RevokedCertificatesIter;
 use crate::search::{has_serial, serials_in};
+use crate::written::AsEntries;
 use bcder::decode::{Constructed, Decode, DecodeError, Source};
+use bcder::encode::{EncodeError, Values, slice};
 use bcder::{Captured, Mode, Tag, encode};
 use certs_name::Serial;
 use std::alloc::{AllocError, Global};
@@ -76,6 +81,18 @@ impl RevokedCertificates {
         RevokedCertificates {
             octets: Captured::empty(Mode::Der),
         }
+    }
+
+    /// The list of these entries, in their order, in DER. Refused as `Memory` for want of memory, and as `TooLong` where
+    /// the entries have more octets than can be counted.
+    pub fn from_entries(alloc: Global, entries: &[CrlEntry]) -> Result<Self, EncodeError>
+        ensures made { IfOk result (λ list. list ≡ entries.now) }
+        ensures refused { IfErr result
+            (ExtendRefused (entry_list.trees entries.now Der)
+            (entry_list.writes entries.now Der)) }
+    {
+        let octets = slice(entries, AsEntries).to_captured(alloc, Mode::Der)?;
+        Ok(RevokedCertificates { octets })
     }
 
     /// The list of entries that is next, if a SEQUENCE is next; one that is no such list is refused.
@@ -153,5 +170,15 @@ impl RevokedCertificates {
             tag: Tag::SEQUENCE,
             inner: &self.octets,
         })
+    }
+}
+
+/// A clone has the same entries; no octet is copied. It takes no memory, but a count of copies can be full.
+impl Clone for RevokedCertificates {
+    ghost is_clone = { λ list copy. copy ≡ list };
+
+    fn clone(&self) -> Result<Self, AllocError> {
+        let octets = self.octets.clone()?;
+        Ok(RevokedCertificates { octets })
     }
 }

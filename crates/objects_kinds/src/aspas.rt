@@ -1,13 +1,16 @@
 //! Provider attestations (draft-ietf-sidrops-aspa-profile 3).
 
-ghost use Rattle.std.specs.Prelude.{◌≡◌};
+ghost use Rattle.std.specs.Prelude.{◌≡◌, ◌≢◌, IfErr};
+ghost use Rattle.objects_verify.specs.certs_errors.declared.verification.VerificationError.TheVariants.{BadSignature};
+ghost use Rattle.objects_verify.specs.Content.{AsksOnce, VerifiesContent};
+ghost use Rattle.objects_verify.specs.objects_signed.certs_key.Digesting.{digests_of};
 ghost use Rattle.objects_manifest.specs.objects_forms.Aspas.{AspaText};
 ghost use Rattle.objects_kinds.specs.Kinds.{DecodesKind};
 
-use crate::typed::decode_typed;
+use crate::typed::{decode_typed, verify_signed};
 use bcder::decode::{DecodeError, IntoSource, Source};
 use objects_covered::AsProviderAttestation;
-use objects_verify::{Cert, SignedObject};
+use objects_verify::{Cert, Digester, SignedObject, VerificationError, Verifier};
 use std::alloc::Global;
 use std::marker::Model;
 
@@ -44,7 +47,10 @@ impl Aspa {
         let (signed, octets) = decode_typed(alloc, source, strict, CONTENT_TYPE)?;
         match AsProviderAttestation::decode(alloc, octets) {
             Ok(content) => Ok(Aspa { signed, content }),
-            Err(error) => Err(error.convert()),
+            Err(error) => {
+                drop(signed);
+                Err(error.convert())
+            }
         }
     }
 
@@ -67,6 +73,27 @@ impl Aspa {
         ensures { result.now ≡ self.now.content }
     {
         &self.content
+    }
+
+    /// Whether the signed object is sound, and else the first test that fails, in this order: the digest that is signed is the
+    /// content's (`MessageDigest`), the signing time isn't behind the certificate's validity (`SigningTime`), and the
+    /// signature is good by the certificate's key over the attributes (`BadSignature`) (RFC 6488 3, RFC 5652 5.4). Who
+    /// issued the certificate and what it claims isn't looked at. The verifier is asked at most once.
+    pub fn verify_content<D: Digester, V: Verifier>(
+        &self,
+        alloc: Global,
+        digester: &D,
+        verifier: &mut V,
+    ) -> Result<(), VerificationError>
+        ensures answers { VerifiesContent
+            (digests_of D.sha256_digest D.sha1_digest digester.now) (V.says verifier.old)
+            self.now.signed result }
+        ensures same { V.says verifier.new ≡ V.says verifier.old }
+        ensures asked { AsksOnce (V.count verifier.old) (V.count verifier.new) }
+        ensures spared { IfErr result
+            (λ e. e ≢ BadSignature → V.count verifier.new ≡ V.count verifier.old) }
+    {
+        verify_signed(alloc, &self.signed, digester, verifier)
     }
 
     /// The signed object and what its content says, handed over.

@@ -1,11 +1,14 @@
 //! Signed objects whose content is of a given type.
 
-ghost use Rattle.std.specs.Prelude.{◌≡◌, ◌↔◌, IsTrue};
+ghost use Rattle.std.specs.Prelude.{◌≡◌, ◌≢◌, ◌↔◌, IfErr, IsTrue};
+ghost use Rattle.objects_verify.specs.certs_errors.declared.verification.VerificationError.TheVariants.{BadSignature};
+ghost use Rattle.objects_verify.specs.Content.{AsksOnce, VerifiesContent};
+ghost use Rattle.objects_verify.specs.objects_signed.certs_key.Digesting.{digests_of};
 ghost use Rattle.objects_kinds.specs.Kinds.{DecodesTyped};
 
 use bcder::decode::{ContentError, DecodeError, IntoSource, Pos, Source};
 use bytes::Bytes;
-use objects_verify::SignedObject;
+use objects_verify::{Digester, SignedObject, VerificationError, Verifier, verify_content};
 use std::alloc::Global;
 
 // Whether its content is of that type.
@@ -27,11 +30,33 @@ pub(crate) fn decode_typed<I: IntoSource>(
 {
     let signed = SignedObject::decode(alloc, source, strict)?;
     if !has_type(&signed, content_type) {
+        drop(signed);
         let error = ContentError::from_static("another type of content");
         return Err(DecodeError::content(error, Pos::from(0)));
     }
     match signed.content().to_bytes(alloc) {
         Ok(octets) => Ok((signed, octets)),
-        Err(_) => Err(DecodeError::Memory),
+        Err(_) => {
+            drop(signed);
+            Err(DecodeError::Memory)
+        }
     }
+}
+
+/// Whether the object is sound, and else the first test that fails, by its own signer, content and certificate.
+pub(crate) fn verify_signed<D: Digester, V: Verifier>(
+    alloc: Global,
+    signed: &SignedObject,
+    digester: &D,
+    verifier: &mut V,
+) -> Result<(), VerificationError>
+    ensures answers { VerifiesContent (digests_of D.sha256_digest D.sha1_digest digester.now)
+        (V.says verifier.old) signed.now result }
+    ensures same { V.says verifier.new ≡ V.says verifier.old }
+    ensures asked { AsksOnce (V.count verifier.old) (V.count verifier.new) }
+    ensures spared { IfErr result
+        (λ e. e ≢ BadSignature → V.count verifier.new ≡ V.count verifier.old) }
+{
+    let (signer, content, cert) = (signed.signer(), signed.content(), signed.cert());
+    verify_content(alloc, signer, content, cert, digester, verifier)
 }

@@ -15,6 +15,7 @@ ghost use Rattle.objects_signed.specs.Frame.{signed_fields};
 
 use crate::carried::{take_certificates, take_signers};
 use crate::content::{Typed, take_content_info};
+use crate::holding::beside;
 use crate::signer::SignerInfo;
 use certs_cert::decode::{Constructed, DecodeError, Source};
 use certs_cert::{Cert, ConstOid, DigestAlgorithm, Oid, Tag};
@@ -42,9 +43,9 @@ fn take_fields<S: Source>(
     let version = cons.skip_u8_if(VERSION)?;
     let digest = DigestAlgorithm::take_set_from(cons)?;
     let typed = take_content_info(alloc, cons)?;
-    let cert = take_certificates(alloc, cons)?;
-    let signer = take_signers(alloc, cons)?;
-    Ok((typed, cert, signer))
+    let (typed, cert) = beside(typed, take_certificates(alloc, cons))?;
+    let (both, signer) = beside((typed, cert), take_signers(alloc, cons))?;
+    Ok((both.0, both.1, signer))
 }
 
 // `SignedData`, without revocation lists (RFC 5652 5.1, RFC 6488 2.1).

@@ -5,6 +5,7 @@
 mod carried;
 mod content;
 mod frame;
+mod holding;
 pub mod object;
 pub mod signer;
 

@@ -86,6 +86,7 @@ impl SignedObject {
     {
         let parts = take_frame(alloc, cons)?;
         if !agrees(&parts) {
+            drop(parts);
             cons.fail();
             return Err((*cons).content_err(ContentError::from_static("another type or key")));
         }
@@ -135,7 +136,16 @@ impl SignedObject {
     pub fn into_cert(self) -> Cert
         ensures { result ≡ self.cert }
     {
-        self.cert
+        let SignedObject {
+            content_type,
+            content,
+            cert,
+            signer,
+        } = self;
+        drop(content_type);
+        drop(content);
+        drop(signer);
+        cert
     }
 
     /// Who signed it, and what was signed of the attributes (RFC 6488 2.1.6).

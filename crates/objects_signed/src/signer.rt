@@ -14,6 +14,7 @@ ghost use Rattle.objects_attributes.specs.objects_forms.ObjectText.{IsSid, Spell
 ghost use Rattle.objects_signed.specs.Signer.{AreKeptOctets, AreSigner, AreSignerOctets, IsSigner};
 ghost use Rattle.objects_signed.specs.Signer.{SpellsKept, signer_fields};
 
+use crate::holding::beside;
 use certs_cert::decode::{Constructed, DecodeError, Source};
 use certs_cert::{DigestAlgorithm, KeyIdentifier, OctetString, RpkiSignatureAlgorithm, Tag};
 use objects_attributes::SignedAttrs;
@@ -99,8 +100,11 @@ impl SignerInfo {
         let sid = take_sid(alloc, cons)?;
         let digest = DigestAlgorithm::take_from(cons)?;
         let attributes = take_attributes(alloc, cons)?;
-        let algorithm = RpkiSignatureAlgorithm::cms_take_from(cons)?;
-        let signature = OctetString::take_from(alloc, cons)?;
+        let (attributes, algorithm) = beside(
+            attributes,
+            RpkiSignatureAlgorithm::cms_take_from(cons),
+        )?;
+        let (attributes, signature) = beside(attributes, OctetString::take_from(alloc, cons))?;
         Ok(SignerInfo {
             sid,
             attributes,

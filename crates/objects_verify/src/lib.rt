@@ -13,6 +13,7 @@ mod content;
 pub mod laws;
 mod message;
 
+pub use certs_errors::VerificationError;
 pub use content::verify_content;
 pub use message::signed_message;
-pub use objects_signed::{Cert, SignedObject, SignerInfo};
+pub use objects_signed::{Cert, Digester, SignedObject, SignerInfo, Verifier};

@@ -38,6 +38,8 @@ pub fn anchor_cert<D: Digester, V: Verifier>(
     ensures asked { AsksOnce (V.count verifier.old) (V.count verifier.new) }
 {
     if !has_key(&cert, key) {
+        drop(tal);
+        drop(cert);
         return Ok(None);
     }
     let now = index.moment();

@@ -27,7 +27,9 @@ pub(crate) fn settle(
     match validated {
         Ok(found) => Ok(Some(found)),
         Err(refused) => {
-            if is_memory(&refused.error) {
+            let memory = is_memory(&refused.error);
+            drop(refused);
+            if memory {
                 return Err(AllocError);
             }
             Ok(None)

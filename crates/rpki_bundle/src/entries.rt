@@ -1,6 +1,6 @@
 //! Lists of entries, each read once from the front on.
 
-ghost use Rattle.std.specs.Prelude.{◌↔◌, ℕ, List, IsTrue};
+ghost use Rattle.std.specs.Prelude.{◌↔◌, ◌≡◌, ℕ, List, IsTrue, OnErr, true};
 ghost use Rattle.rpki_bundle.specs.bcder_content.Exact.{ReadsAs, ReadsAllAs, ReadsOptAs};
 ghost use Rattle.rpki_bundle.specs.bcder_content.Grammar.{Many, One, Tagged};
 ghost use Rattle.rpki_bundle.specs.bcder_content.Here.{here};
@@ -23,15 +23,16 @@ pub trait Entry: Values + Drop {
     // The octets by which entries are ordered.
     ghost sort_key: { Self → List ℕ };
 
-    /// The next entry, if a SEQUENCE is next.
+    /// The next entry, if a SEQUENCE is next. Where it is refused, the content is failed.
     fn take_opt<S: Source>(
         alloc: Global,
         cons: &mut Constructed<S>,
     ) -> Result<Option<Self>, DecodeError<S::Error>>
     where
         Self: Sized,
-        ensures { ReadsOptAs (λ entry. entry) (universal 16) (form (here S.rest cons.old).mode)
-            (here S.rest cons.old) result (here S.rest cons.new) };
+        ensures reads { ReadsOptAs (λ entry. entry) (universal 16) (form (here S.rest cons.old).mode)
+            (here S.rest cons.old) result (here S.rest cons.new) }
+        ensures failed { OnErr result ((here S.rest cons.new).failed ≡ true) };
 
     /// Whether it stands before another one.
     fn is_before(&self, other: &Self) -> bool
@@ -69,14 +70,15 @@ pub fn is_ascending<E: Entry>(entries: &[E]) -> bool
     true
 }
 
-/// A list of entries, strictly ascending.
+/// A list of entries, strictly ascending. Where it is refused, the content is failed.
 pub fn take_list<E: Entry, S: Source>(
     alloc: Global,
     cons: &mut Constructed<S>,
 ) -> Result<Vec<E>, DecodeError<S::Error>>
-    ensures { ReadsAs (λ entries. entries.items)
+    ensures reads { ReadsAs (λ entries. entries.items)
         (AreRows (E.form (here S.rest cons.old).mode) E.sort_key) (here S.rest cons.old) result
         (here S.rest cons.new) }
+    ensures failed { OnErr result ((here S.rest cons.new).failed ≡ true) }
 {
     let entries = cons.take_sequence(
         |cons|
@@ -92,7 +94,10 @@ pub fn take_list<E: Entry, S: Source>(
         },
     )?;
     if !is_ascending(entries.as_slice()) {
-        return Err(cons.content_err(ContentError::from_static("entries out of order")));
+        cons.fail();
+        return Err(cons.content_err(ContentError::from_static(
+            "the entries of a list don't ascend",
+        )));
     }
     Ok(entries)
 }

@@ -1,7 +1,9 @@
 //! The entries of a bundle's lists.
 
-ghost use Rattle.rpki_bundle.specs.bcder_content.Exact.{ReadsAllAs, ReadsOptAs};
+ghost use Rattle.std.specs.Prelude.{◌≡◌, OnErr, true};
+ghost use Rattle.rpki_bundle.specs.bcder_content.Exact.{ReadsOptAs};
 ghost use Rattle.rpki_bundle.specs.bcder_content.Here.{here};
+ghost use Rattle.rpki_bundle.specs.bcder_content.InMode.{ReadsFields};
 ghost use Rattle.rpki_bundle.specs.bcder_tree.Tags.{universal};
 ghost use Rattle.rpki_bundle.specs.Grammars.{IsLocatorBody, IsObjectBody, IsVerdictBody, IsVerdictRow, locator_fields, object_fields};
 ghost use Rattle.rpki_bundle.specs.Words.{verdict_of, words_fields};
@@ -40,6 +42,18 @@ impl Values for Locator {
     ghost one_text = { λ l m. pair_one m (universal 19) l.name l.text };
 }
 
+// The fields of a locator, up to the end of their content.
+fn take_locator<S: Source>(
+    alloc: Global,
+    cons: &mut Constructed<S>,
+) -> Result<Locator, DecodeError<S::Error>>
+    ensures { ReadsFields locator_fields IsLocatorBody (here S.rest cons.old) result (here S.rest cons.new) }
+{
+    let name = take_name(alloc, cons)?;
+    let text = take_octets(alloc, cons)?;
+    Ok(Locator { name, text })
+}
+
 impl Entry for Locator {
     ghost use Rattle.rpki_bundle.specs.Grammars.{IsLocatorRow};
     ghost use Rattle.rpki_bundle.specs.RowLaws.{one_locator, locator_tagged};
@@ -56,13 +70,9 @@ impl Entry for Locator {
     ) -> Result<Option<Self>, DecodeError<S::Error>> {
         cons.take_opt_sequence(
             |cons|
-                ensures { ReadsAllAs locator_fields (IsLocatorBody (here S.rest cons.old).mode)
+                ensures { ReadsFields locator_fields IsLocatorBody
                     (here S.rest cons.old) result (here S.rest cons.new) }
-            {
-                let name = take_name(alloc, cons)?;
-                let text = take_octets(alloc, cons)?;
-                Ok(Locator { name, text })
-            },
+            { take_locator(alloc, cons) },
         )
     }
 
@@ -103,6 +113,18 @@ impl Values for Object {
     ghost one_text = { λ o m. pair_one m (universal 22) o.uri o.octets };
 }
 
+// The fields of an object, up to the end of their content.
+fn take_object<S: Source>(
+    alloc: Global,
+    cons: &mut Constructed<S>,
+) -> Result<Object, DecodeError<S::Error>>
+    ensures { ReadsFields object_fields IsObjectBody (here S.rest cons.old) result (here S.rest cons.new) }
+{
+    let uri = take_uri(alloc, cons)?;
+    let octets = take_octets(alloc, cons)?;
+    Ok(Object { uri, octets })
+}
+
 impl Entry for Object {
     ghost use Rattle.rpki_bundle.specs.Grammars.{IsObjectRow};
     ghost use Rattle.rpki_bundle.specs.RowLaws.{one_object, object_tagged};
@@ -119,13 +141,9 @@ impl Entry for Object {
     ) -> Result<Option<Self>, DecodeError<S::Error>> {
         cons.take_opt_sequence(
             |cons|
-                ensures { ReadsAllAs object_fields (IsObjectBody (here S.rest cons.old).mode)
+                ensures { ReadsFields object_fields IsObjectBody
                     (here S.rest cons.old) result (here S.rest cons.new) }
-            {
-                let uri = take_uri(alloc, cons)?;
-                let octets = take_octets(alloc, cons)?;
-                Ok(Object { uri, octets })
-            },
+            { take_object(alloc, cons) },
         )
     }
 
@@ -144,28 +162,35 @@ impl Entry for Object {
     ghost one_value = { one_object };
 }
 
-// The next verdict, in words.
+// The fields of a verdict, up to the end of their content.
+fn take_digests<S: Source>(cons: &mut Constructed<S>) -> Result<VerdictWords, DecodeError<S::Error>>
+    ensures { ReadsFields words_fields (λ m. IsVerdictBody) (here S.rest cons.old) result
+        (here S.rest cons.new) }
+{
+    let key = take_digest(cons)?;
+    let message = take_digest(cons)?;
+    let signature = take_digest(cons)?;
+    Ok(VerdictWords {
+        key,
+        message,
+        signature,
+    })
+}
+
+// The next verdict, in words, if a SEQUENCE is next.
 #[inline(always)]
 fn take_words<S: Source>(
     cons: &mut Constructed<S>,
 ) -> Result<Option<VerdictWords>, DecodeError<S::Error>>
-    ensures { ReadsOptAs verdict_of (universal 16) IsVerdictRow (here S.rest cons.old) result
+    ensures reads { ReadsOptAs verdict_of (universal 16) IsVerdictRow (here S.rest cons.old) result
         (here S.rest cons.new) }
+    ensures failed { OnErr result ((here S.rest cons.new).failed ≡ true) }
 {
     cons.take_opt_sequence(
         |cons|
-            ensures { ReadsAllAs words_fields IsVerdictBody (here S.rest cons.old) result
+            ensures { ReadsFields words_fields (λ m. IsVerdictBody) (here S.rest cons.old) result
                 (here S.rest cons.new) }
-        {
-            let key = take_digest(cons)?;
-            let message = take_digest(cons)?;
-            let signature = take_digest(cons)?;
-            Ok(VerdictWords {
-                key,
-                message,
-                signature,
-            })
-        },
+        { take_digests(cons) },
     )
 }
 

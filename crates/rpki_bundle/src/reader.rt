@@ -1,6 +1,6 @@
 //! The fields of bundles and of their entries, read by the codec.
 
-ghost use Rattle.std.specs.Prelude.{◌↔◌, ◌≡◌, ◌≤◌, IsTrue};
+ghost use Rattle.std.specs.Prelude.{◌↔◌, ◌≡◌, ◌≤◌, IsTrue, OnErr, true};
 ghost use Rattle.rpki_bundle.specs.bcder_tree.Strings.{IsOctetString};
 ghost use Rattle.rpki_bundle.specs.bcder_tree.Tags.{universal};
 ghost use Rattle.rpki_bundle.specs.bcder_content.Exact.{ReadsAs};
@@ -51,12 +51,12 @@ pub fn take_octets<S: Source>(
     alloc: Global,
     cons: &mut Constructed<S>,
 ) -> Result<Bytes, DecodeError<S::Error>>
-    ensures { ReadsAs (λ octets. octets) (IsOctetString (here S.rest cons.old).mode)
+    ensures reads { ReadsAs (λ octets. octets) (IsOctetString (here S.rest cons.old).mode)
         (here S.rest cons.old) result (here S.rest cons.new) }
+    ensures failed { OnErr result ((here S.rest cons.new).failed ≡ true) }
 {
     let string = OctetString::take_from(alloc, cons)?;
-    let octets = string.into_bytes(alloc)?;
-    Ok(octets)
+    Ok(string.into_bytes())
 }
 
 /// The name of a locator.
@@ -65,13 +65,15 @@ pub fn take_name<S: Source>(
     alloc: Global,
     cons: &mut Constructed<S>,
 ) -> Result<Bytes, DecodeError<S::Error>>
-    ensures { ReadsAs (λ octets. octets) (IsNameString (here S.rest cons.old).mode)
+    ensures reads { ReadsAs (λ octets. octets) (IsNameString (here S.rest cons.old).mode)
         (here S.rest cons.old) result (here S.rest cons.new) }
+    ensures failed { OnErr result ((here S.rest cons.new).failed ≡ true) }
 {
     let string = PrintableString::take_from(alloc, cons)?;
-    let name = string.into_bytes(alloc)?;
+    let name = string.into_bytes();
     if !is_word(name.as_slice()) {
-        return Err(cons.content_err(ContentError::from_static("no name")));
+        cons.fail();
+        return Err(cons.content_err(ContentError::from_static("a name is empty or has a space")));
     }
     Ok(name)
 }
@@ -81,13 +83,15 @@ pub fn take_uri<S: Source>(
     alloc: Global,
     cons: &mut Constructed<S>,
 ) -> Result<Bytes, DecodeError<S::Error>>
-    ensures { ReadsAs (λ octets. octets) (IsUriString (here S.rest cons.old).mode)
+    ensures reads { ReadsAs (λ octets. octets) (IsUriString (here S.rest cons.old).mode)
         (here S.rest cons.old) result (here S.rest cons.new) }
+    ensures failed { OnErr result ((here S.rest cons.new).failed ≡ true) }
 {
     let string = Ia5String::take_from(alloc, cons)?;
-    let uri = string.into_bytes(alloc)?;
+    let uri = string.into_bytes();
     if !is_lookup_key(uri.as_slice()) {
-        return Err(cons.content_err(ContentError::from_static("no lookup key")));
+        cons.fail();
+        return Err(cons.content_err(ContentError::from_static("a URI isn't its own lookup key")));
     }
     Ok(uri)
 }
@@ -99,7 +103,7 @@ fn digest<S: Source>(prim: &mut Primitive<S>) -> Result<DigestWords, DecodeError
         (plain S.rest prim.new) }
 {
     if prim.failed {
-        return Err(prim.content_err(ContentError::from_static("no digest")));
+        return Err(prim.content_err(ContentError::from_static("a digest has 32 octets")));
     }
     let _count = match prim.request(32) {
         Ok(count) => count,
@@ -107,7 +111,7 @@ fn digest<S: Source>(prim: &mut Primitive<S>) -> Result<DigestWords, DecodeError
     };
     let digest = match <[u8; 32]>::try_from((*prim).slice()) {
         Ok(digest) => digest,
-        Err(_) => return Err(prim.content_err(ContentError::from_static("no digest"))),
+        Err(_) => return Err(prim.content_err(ContentError::from_static("a digest has 32 octets"))),
     };
     prim.advance(32);
     Ok(DigestWords::of(&digest))
@@ -118,8 +122,9 @@ fn digest<S: Source>(prim: &mut Primitive<S>) -> Result<DigestWords, DecodeError
 pub fn take_digest<S: Source>(
     cons: &mut Constructed<S>,
 ) -> Result<DigestWords, DecodeError<S::Error>>
-    ensures { ReadsAs octets_of IsDigestString (here S.rest cons.old) result
+    ensures reads { ReadsAs octets_of IsDigestString (here S.rest cons.old) result
         (here S.rest cons.new) }
+    ensures failed { OnErr result ((here S.rest cons.new).failed ≡ true) }
 {
     cons.take_primitive_if(
         Tag::OCTET_STRING,
@@ -135,8 +140,9 @@ fn take_text<S: Source>(
     alloc: Global,
     cons: &mut Constructed<S>,
 ) -> Result<Bytes, DecodeError<S::Error>>
-    ensures { ReadsAs (λ octets. octets) (OctetsOf (universal 24) AnyOctets) (here S.rest cons.old)
+    ensures reads { ReadsAs (λ octets. octets) (OctetsOf (universal 24) AnyOctets) (here S.rest cons.old)
         result (here S.rest cons.new) }
+    ensures failed { OnErr result ((here S.rest cons.new).failed ≡ true) }
 {
     cons.take_primitive_if(
         Tag::GENERALIZED_TIME,
@@ -152,24 +158,30 @@ pub fn take_moment<S: Source>(
     alloc: Global,
     cons: &mut Constructed<S>,
 ) -> Result<Time, DecodeError<S::Error>>
-    ensures { ReadsAs (λ moment. moment) IsMomentString (here S.rest cons.old) result
+    ensures reads { ReadsAs (λ moment. moment) IsMomentString (here S.rest cons.old) result
         (here S.rest cons.new) }
+    ensures failed { OnErr result ((here S.rest cons.new).failed ≡ true) }
 {
     let text = take_text(alloc, cons)?;
     match Time::from_generalized(text.as_slice()) {
         Some(moment) => Ok(moment),
-        None => Err(cons.content_err(ContentError::from_static("no moment"))),
+        None => {
+            cons.fail();
+            Err(cons.content_err(ContentError::from_static("a moment is YYYYMMDDHHMMSSZ")))
+        }
     }
 }
 
 /// A depth of 1 to 32.
 pub fn take_depth<S: Source>(cons: &mut Constructed<S>) -> Result<u8, DecodeError<S::Error>>
-    ensures { ReadsAs (λ depth. depth) IsDepthNumber (here S.rest cons.old) result
+    ensures reads { ReadsAs (λ depth. depth) IsDepthNumber (here S.rest cons.old) result
         (here S.rest cons.new) }
+    ensures failed { OnErr result ((here S.rest cons.new).failed ≡ true) }
 {
     let depth = cons.take_u8()?;
     if !is_depth(depth) {
-        return Err(cons.content_err(ContentError::from_static("a depth of 1 to 32")));
+        cons.fail();
+        return Err(cons.content_err(ContentError::from_static("a depth is 1 to 32")));
     }
     Ok(depth)
 }

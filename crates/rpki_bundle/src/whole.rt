@@ -1,7 +1,9 @@
 //! Bundles, read by the codec up to the end of their octets.
 
-ghost use Rattle.rpki_bundle.specs.bcder_content.Exact.{ReadsAs, ReadsAllAs};
+ghost use Rattle.std.specs.Prelude.{◌≡◌, OnErr, true};
+ghost use Rattle.rpki_bundle.specs.bcder_content.Exact.{ReadsAs};
 ghost use Rattle.rpki_bundle.specs.bcder_content.Here.{here};
+ghost use Rattle.rpki_bundle.specs.bcder_content.InMode.{ReadsFields};
 ghost use Rattle.rpki_bundle.specs.Ends.{ReadsToEndAs};
 ghost use Rattle.rpki_bundle.specs.Grammars.{IsBundleAlone, IsBundleBody, IsBundleTree};
 ghost use Rattle.rpki_bundle.specs.PartFields.{TellsBundle, parts_alone, parts_fields, parts_value};
@@ -28,48 +30,60 @@ pub struct Parts {
     pub verdicts: Vec<Verdict>,
 }
 
+// The fields of a bundle of version 0, up to the end of their content.
+fn take_parts<S: Source>(
+    alloc: Global,
+    cons: &mut Constructed<S>,
+) -> Result<Parts, DecodeError<S::Error>>
+    ensures { ReadsFields parts_fields IsBundleBody (here S.rest cons.old) result
+        (here S.rest cons.new) }
+{
+    cons.skip_u8_if(0)?;
+    let moment = take_moment(alloc, cons)?;
+    let depth = take_depth(cons)?;
+    let locators = take_list::<Locator, S>(alloc, cons)?;
+    let objects = take_list::<Object, S>(alloc, cons)?;
+    let verdicts = take_list::<Verdict, S>(alloc, cons)?;
+    Ok(Parts {
+        moment,
+        depth,
+        locators,
+        objects,
+        verdicts,
+    })
+}
+
 // A bundle of version 0.
 fn take_bundle<S: Source>(
     alloc: Global,
     cons: &mut Constructed<S>,
 ) -> Result<Parts, DecodeError<S::Error>>
-    ensures { ReadsAs parts_value (IsBundleTree (here S.rest cons.old).mode) (here S.rest cons.old)
+    ensures reads { ReadsAs parts_value (IsBundleTree (here S.rest cons.old).mode) (here S.rest cons.old)
         result (here S.rest cons.new) }
+    ensures failed { OnErr result ((here S.rest cons.new).failed ≡ true) }
 {
     cons.take_sequence(
         |cons|
-            ensures { ReadsAllAs parts_fields (IsBundleBody (here S.rest cons.old).mode)
+            ensures { ReadsFields parts_fields IsBundleBody
                 (here S.rest cons.old) result (here S.rest cons.new) }
-        {
-            cons.skip_u8_if(0)?;
-            let moment = take_moment(alloc, cons)?;
-            let depth = take_depth(cons)?;
-            let locators = take_list::<Locator, S>(alloc, cons)?;
-            let objects = take_list::<Object, S>(alloc, cons)?;
-            let verdicts = take_list::<Verdict, S>(alloc, cons)?;
-            Ok(Parts {
-                moment,
-                depth,
-                locators,
-                objects,
-                verdicts,
-            })
-        },
+        { take_parts(alloc, cons) },
     )
 }
 
-// A bundle, behind which the source has ended.
+// A bundle, after which the source has ended.
 fn take_alone<S: Source>(
     alloc: Global,
     cons: &mut Constructed<S>,
 ) -> Result<Parts, DecodeError<S::Error>>
-    ensures { ReadsToEndAs parts_alone (IsBundleAlone (here S.rest cons.old).mode)
+    ensures reads { ReadsToEndAs parts_alone (IsBundleAlone (here S.rest cons.old).mode)
         (here S.rest cons.old) result (here S.rest cons.new) }
+    ensures failed { OnErr result ((here S.rest cons.new).failed ≡ true) }
 {
     let parts = take_bundle(alloc, cons)?;
     let behind = cons.skip_one(alloc)?;
     if let Some(_skipped) = behind {
-        return Err(cons.content_err(ContentError::from_static("octets behind the bundle")));
+        cons.fail();
+        return Err(cons.content_err(ContentError::from_static("octets after the bundle")));
     }
     Ok(parts)
 }

@@ -105,9 +105,13 @@ pub fn find_crl<V: Verifier>(
         return Ok(None);
     };
     if !is_list_of(&crl, ca, ee, index, verifier) {
+        drop(crl);
         return Ok(None);
     }
-    crl.cache_serials(alloc)?;
+    if crl.cache_serials(alloc).is_err() {
+        drop(crl);
+        return Err(AllocError);
+    }
     Ok(Some(crl))
 }
 

@@ -6,6 +6,7 @@ ghost use Rattle.rpki_points.specs.rpki_readings.Certs.{Verdicts};
 ghost use Rattle.rpki_points.specs.rpki_rules.Points.{IsHeld};
 ghost use Rattle.rpki_points.specs.rpki_rules.World.{world_of};
 
+use certs_cert::grammar::lookup_key;
 use certs_cert::paths::join;
 use certs_cert::{Digester, Rsync};
 use objects_manifest::{FileAndHash, ManifestHash};
@@ -25,7 +26,8 @@ pub fn is_held<D: Digester>(
         folder.now file.now) }
 {
     let uri = join(alloc, folder.as_slice(), file.file())?;
-    let Some(object) = index.object_at(uri.as_slice()) else {
+    let key = lookup_key(alloc, uri.as_slice())?;
+    let Some(object) = index.object(key.as_slice()) else {
         return Ok(false);
     };
     let hash = ManifestHash::new(file.hash());

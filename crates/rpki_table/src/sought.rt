@@ -1,10 +1,24 @@
 //! What is sought in the lists of bundles.
 
+ghost use Rattle.std.specs.Prelude.{◌≡◌};
+ghost use Rattle.std.specs.Ordering.{nat_cmp, ordering_then};
+ghost use Rattle.std.specs.Cmp.Lexicographic.{slice_cmp};
 ghost use Rattle.rpki_rules.specs.certs_uri.Uris.{lookup_key as key_of};
 
 use crate::search::Sought;
 use rpki_rules::{Object, Verdict, cmp_lookup_key};
 use std::cmp::Ordering;
+
+// How two rows stand to each other of which the fronts stand so, and then come these digests. They are looked at only
+// where the fronts are equal.
+fn behind(fronts: Ordering, digest: &[u8; 32], other: &[u8; 32]) -> Ordering
+    ensures { result ≡ ordering_then fronts (slice_cmp nat_cmp digest.now other.now) }
+{
+    match fronts {
+        Ordering::Equal => digest.cmp(other),
+        unequal => unequal,
+    }
+}
 
 /// A verdict among verdicts, which go by their 96 octets.
 impl Sought for Verdict {
@@ -17,11 +31,9 @@ impl Sought for Verdict {
     ghost key = { verdict_row };
 
     fn stands(&self, entry: &Verdict) -> Ordering {
-        entry
-            .key
-            .cmp(&self.key)
-            .then(entry.message.cmp(&self.message))
-            .then(entry.signature.cmp(&self.signature))
+        let keys = entry.key.cmp(&self.key);
+        let fronts = behind(keys, &entry.message, &self.message);
+        behind(fronts, &entry.signature, &self.signature)
     }
 }
 

@@ -15,9 +15,9 @@ returns-in_err-string g c = stop_value _ _ _ _ c.from_residual.ensures (λ l. me
 
 pub returns-in-Err : goal.returns-in-Err
 returns-in-Err g c = same_refusal _ _ _ c.convert.ensures (weaker _ (λ none.
-    means_refused (record { one = λ t x y p q. one_string _ octet_string_tag t x y p q }) (gives_same c.in_ok-octets.ensures c.in_ok-string.ensures.reads)
+    means_refused (record { one = λ t x y p q. one_string _ octet_string_tag t x y p q }) (gives_same c.into_bytes-octets.ensures c.in_ok-string.ensures.reads)
     (λ x p. front_lacks none x (subst (λ (o : List ℕ). ReadsFront IsVersion o x) (sym c.as_slice.ensures) p))) c.in-Err.ensures)
 
 pub returns : goal.returns
-returns g c = means_gives (gives_same c.in_ok-octets.ensures c.in_ok-string.ensures.reads)
+returns g c = means_gives (gives_same c.into_bytes-octets.ensures c.in_ok-string.ensures.reads)
     (subst (λ (o : List ℕ). ReadsFront IsVersion o (version_fields c.in-Ok.version)) c.as_slice.ensures (front_reads c.in-Ok.ensures))

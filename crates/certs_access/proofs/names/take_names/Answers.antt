@@ -17,17 +17,17 @@ pub returns-then-is_some : goal.returns-then-is_some
 returns-then-is_some g c =
     let i = c.loop-found.invariant in
     let x = there _ _ _ c.in-Some.is c.in_ok-name.ensures in
-    let says = rw c.in-Some-2.is at c.in_ok-uri.ensures in
+    let says = rw c.in-Some-rsync_of.is at c.rsync_of.ensures in
     let some = sym c.is_some.ensures ∙ c.if-is_some.true in
     record { reads = on_content _ (gather_refused name_one i x (λ ys t h. seen_again i.xs ys _ _ t some i.says says.0 h)) }
 
-pub loop-found-smaller-in-Some-2 : goal.loop-found-smaller-in-Some-2
-loop-found-smaller-in-Some-2 g c = took_shorter _ _ _ (there _ _ _ c.in-Some.is c.in_ok-name.ensures).took
+pub loop-found-smaller-in-Some-rsync_of : goal.loop-found-smaller-in-Some-rsync_of
+loop-found-smaller-in-Some-rsync_of g c = took_shorter _ _ _ (there _ _ _ c.in-Some.is c.in_ok-name.ensures).took
 
-pub loop-found-preserved-in-Some-2 : goal.loop-found-preserved-in-Some-2
-loop-found-preserved-in-Some-2 g c =
+pub loop-found-preserved-in-Some-rsync_of : goal.loop-found-preserved-in-Some-rsync_of
+loop-found-preserved-in-Some-rsync_of g c =
     let i = c.loop-found.invariant in
-    let says = rw c.in-Some-2.is at c.in_ok-uri.ensures in
+    let says = rw c.in-Some-rsync_of.is at c.rsync_of.ensures in
     let empty = sym c.is_some.ensures ∙ c.if-is_some.false in
     gather_next name_one i (there _ _ _ c.in-Some.is c.in_ok-name.ensures) (seen_first i.xs _ _ says.0 says.1 (seen_none i.xs _ empty i.says))
 
@@ -37,7 +37,7 @@ loop-found-smaller g c = took_shorter _ _ _ (there _ _ _ c.in-Some.is c.in_ok-na
 pub loop-found-preserved : goal.loop-found-preserved
 loop-found-preserved g c =
     let i = c.loop-found.invariant in
-    let says = rw c.in_default-2.is at c.in_ok-uri.ensures in
+    let says = rw c.in_default-rsync_of.is at c.rsync_of.ensures in
     gather_next name_one i (there _ _ _ c.in-Some.is c.in_ok-name.ensures) (seen_pass i.xs _ _ says i.says)
 
 pub returns : goal.returns

@@ -1,4 +1,3 @@
-use Rattle.std.proofs.Common.{List, ℕ, subst, sym}
 use Rattle.certs_crl.proofs.Pairs.{fronts_read, key_lacks, number_lacks, stop_fronts}
 use Rattle.certs_crl.proofs.extensions.values_of.Goals as goal
 

@@ -9,11 +9,11 @@ use Rattle.rpki_bundle.specs.Orders.{Ascends}
 use Rattle.rpki_bundle.proofs.of_bcder_content.Modes.{all_in}
 use Rattle.rpki_bundle.proofs.entries.take_list.Goals as goal
 
-pub returns-in_err-entries : goal.returns-in_err-entries
-returns-in_err-entries g c = stop_value _ _ _ _ c.from_residual.ensures (λ l. such_lacks l) (exact_each (record { each = λ p q r m h. all_in _ (λ (z : Mode). Many (g.E.Entry.form z)) _ _ r m h }) c.in_err-entries.ensures.ran)
+pub returns-in_err-entries-clause-reads : goal.returns-in_err-entries-clause-reads
+returns-in_err-entries-clause-reads g c = stop_value _ _ _ _ c.from_residual.ensures (λ l. such_lacks l) (exact_each (record { each = λ p q r m h. all_in _ (λ (z : Mode). Many (g.E.Entry.form z)) _ _ r m h }) c.in_err-entries.ensures.ran)
 
-pub returns-then-not-is_ascending : goal.returns-then-not-is_ascending
-returns-then-not-is_ascending g c = on_content _ (such_refused (inside_one (many_one (g.met.E.Entry.one_value _))) (exact_each (record { each = λ p q r m h. all_in _ (λ (z : Mode). Many (g.E.Entry.form z)) _ _ r m h }) c.in_ok-entries.ensures.ran) (λ a. let t = c.if-not-is_ascending.ensures.1 (subst (Ascends g.E.Entry.sort_key) (sym c.as_slice.ensures.value) a) in absurd cc))
+pub returns-then-not-is_ascending-clause-reads : goal.returns-then-not-is_ascending-clause-reads
+returns-then-not-is_ascending-clause-reads g c = on_content _ (such_refused (inside_one (many_one (g.met.E.Entry.one_value _))) (exact_each (record { each = λ p q r m h. all_in _ (λ (z : Mode). Many (g.E.Entry.form z)) _ _ r m h }) c.in_ok-entries.ensures.ran) (λ a. let t = c.if-not-is_ascending.ensures.1 (subst (Ascends g.E.Entry.sort_key) (sym c.as_slice.ensures.value) a) in absurd cc))
 
-pub returns : goal.returns
-returns g c = such_gives (exact_each (record { each = λ p q r m h. all_in _ (λ (z : Mode). Many (g.E.Entry.form z)) _ _ r m h }) c.in_ok-entries.ensures.ran) (subst (Ascends g.E.Entry.sort_key) c.as_slice.ensures.value (c.if-not-is_ascending.ensures.0 refl))
+pub returns-clause-reads : goal.returns-clause-reads
+returns-clause-reads g c = such_gives (exact_each (record { each = λ p q r m h. all_in _ (λ (z : Mode). Many (g.E.Entry.form z)) _ _ r m h }) c.in_ok-entries.ensures.ran) (subst (Ascends g.E.Entry.sort_key) c.as_slice.ensures.value (c.if-not-is_ascending.ensures.0 refl))

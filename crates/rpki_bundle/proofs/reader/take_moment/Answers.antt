@@ -5,8 +5,8 @@ use Rattle.certs_time.specs.Times.{IsMoment}
 use Rattle.rpki_bundle.proofs.Reading.{octets_mean, octets_lack, octets_refused}
 use Rattle.rpki_bundle.proofs.reader.take_moment.Goals as goal
 
-pub returns-in_err-text : goal.returns-in_err-text
-returns-in_err-text g c = stop_value _ _ _ _ c.from_residual.ensures (λ l. octets_lack l) c.in_err-text.ensures
+pub returns-in_err-text-clause-reads : goal.returns-in_err-text-clause-reads
+returns-in_err-text-clause-reads g c = stop_value _ _ _ _ c.from_residual.ensures (λ l. octets_lack l) c.in_err-text.ensures.reads
 
-pub returns : goal.returns
-returns g c = on_content _ (octets_refused c.in_ok-text.ensures (λ s m. c.in-None.ensures.none s (subst (λ (z : List ℕ). IsMoment z s) (sym c.as_slice.ensures) m)))
+pub returns-clause-reads : goal.returns-clause-reads
+returns-clause-reads g c = on_content _ (octets_refused c.in_ok-text.ensures.reads (λ s m. c.in-None.ensures.none s (subst (λ (z : List ℕ). IsMoment z s) (sym c.as_slice.ensures) m)))

@@ -8,11 +8,11 @@ use Rattle.rpki_bundle.specs.Lawful.{IsWord}
 use Rattle.rpki_bundle.specs.RowLaws.{text}
 use Rattle.rpki_bundle.proofs.reader.take_name.Goals as goal
 
-pub returns-in_err-string : goal.returns-in_err-string
-returns-in_err-string g c = stop_value _ _ _ _ c.from_residual.ensures (λ l. such_lacks l) c.in_err-string.ensures.reads
+pub returns-in_err-string-clause-reads : goal.returns-in_err-string-clause-reads
+returns-in_err-string-clause-reads g c = stop_value _ _ _ _ c.from_residual.ensures (λ l. such_lacks l) c.in_err-string.ensures.reads
 
-pub returns-then-not-is_word : goal.returns-then-not-is_word
-returns-then-not-is_word g c = on_content _ (such_refused (text IsPrintable alone (here g.S.Source.rest c.args.cons.now).mode (universal 19)) (gives_same c.in_ok-name.ensures c.in_ok-string.ensures.reads) (λ h. let t = c.if-not-is_word.ensures.1 (subst IsWord (sym c.as_slice.ensures) h) in absurd cc))
+pub returns-then-not-is_word-clause-reads : goal.returns-then-not-is_word-clause-reads
+returns-then-not-is_word-clause-reads g c = on_content _ (such_refused (text IsPrintable alone (here g.S.Source.rest c.args.cons.now).mode (universal 19)) (gives_same c.into_bytes-name.ensures c.in_ok-string.ensures.reads) (λ h. let t = c.if-not-is_word.ensures.1 (subst IsWord (sym c.as_slice.ensures) h) in absurd cc))
 
-pub returns : goal.returns
-returns g c = such_gives (gives_same c.in_ok-name.ensures c.in_ok-string.ensures.reads) (subst IsWord c.as_slice.ensures (c.if-not-is_word.ensures.0 refl))
+pub returns-clause-reads : goal.returns-clause-reads
+returns-clause-reads g c = such_gives (gives_same c.into_bytes-name.ensures c.in_ok-string.ensures.reads) (subst IsWord c.as_slice.ensures (c.if-not-is_word.ensures.0 refl))

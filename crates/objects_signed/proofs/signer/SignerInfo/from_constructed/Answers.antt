@@ -1,9 +1,10 @@
-use Rattle.std.proofs.Common.{refl}
+use Rattle.std.proofs.Common.{ap, ◌∙◌}
 use Rattle.objects_attributes.specs.objects_forms.Identifiers as id
 use Rattle.objects_attributes.specs.objects_forms.ObjectText.{IsSid, IsThree}
 use Rattle.objects_signed.specs.bcder_tree.Strings.{IsOctetString}
 use Rattle.objects_signed.proofs.of_bcder_content.InMode.{begin, done, next, stop}
 use Rattle.certs_cert.proofs.Joined.{as_read, ended, field, join}
+use Rattle.objects_signed.specs.Signer.{SignerValue, signer_fields}
 use Rattle.objects_signed.proofs.signer.SignerInfo.from_constructed.Goals as goal
 
 pub returns-in_err-version-clause-reads : goal.returns-in_err-version-clause-reads
@@ -20,31 +21,38 @@ returns-in_err-attributes-clause-reads g c =
     let s = next (next begin c.in_ok-version.ensures.reads) c.in_ok-sid.ensures in
     stop _ (next s c.in_ok-digest.ensures.reads) c.from_residual-in_err-attributes.ensures c.in_err-attributes.ensures.reads
 
-pub returns-in_err-algorithm-clause-reads : goal.returns-in_err-algorithm-clause-reads
-returns-in_err-algorithm-clause-reads g c =
+pub returns-in_err-attributes-2-clause-reads : goal.returns-in_err-attributes-2-clause-reads
+returns-in_err-attributes-2-clause-reads g c =
     let s = next (next begin c.in_ok-version.ensures.reads) c.in_ok-sid.ensures in
-    stop _ (next (next s c.in_ok-digest.ensures.reads) c.in_ok-attributes.ensures.reads) c.from_residual-in_err-algorithm.ensures c.in_err-algorithm.ensures.reads
+    let lacks = rw c.in_err-attributes-2.ensures.err at c.cms_take_from.ensures.reads in
+    stop _ (next (next s c.in_ok-digest.ensures.reads) c.in_ok-attributes.ensures.reads) c.from_residual-in_err-attributes-2.ensures lacks
 
-pub returns-in_err-signature-clause-reads : goal.returns-in_err-signature-clause-reads
-returns-in_err-signature-clause-reads g c =
+pub returns-in_err-attributes-3-clause-reads : goal.returns-in_err-attributes-3-clause-reads
+returns-in_err-attributes-3-clause-reads g c =
     let s = next (next begin c.in_ok-version.ensures.reads) c.in_ok-sid.ensures in
     let t = next (next s c.in_ok-digest.ensures.reads) c.in_ok-attributes.ensures.reads in
-    stop _ (next t c.in_ok-algorithm.ensures.reads) c.from_residual-in_err-signature.ensures c.in_err-signature.ensures.reads
+    let algorithm = rw c.in_ok-attributes-2.ensures.ok.1 at c.cms_take_from.ensures.reads in
+    let lacks = rw c.in_err-attributes-3.ensures.err at c.take_from-2.ensures.reads in
+    stop _ (next t algorithm) c.from_residual-in_err-attributes-3.ensures lacks
 
 pub returns-clause-reads : goal.returns-clause-reads
 returns-clause-reads g c =
     let s = next (next begin c.in_ok-version.ensures.reads) c.in_ok-sid.ensures in
     let t = next (next s c.in_ok-digest.ensures.reads) c.in_ok-attributes.ensures.reads in
-    done (next (next t c.in_ok-algorithm.ensures.reads) c.in_ok-signature.ensures.reads) refl
+    let algorithm = rw c.in_ok-attributes-2.ensures.ok.1 at c.cms_take_from.ensures.reads in
+    let signature = rw c.in_ok-attributes-3.ensures.ok.1 at c.take_from-2.ensures.reads in
+    done (next (next t algorithm) signature)
+    (ap (λ a. signer_fields (let s : SignerValue = record { sid = c.in_ok-sid.sid; attributes = a; has_null = c.in_ok-attributes-2.algorithm; signature = c.in_ok-attributes-3.signature } in s)) (c.in_ok-attributes-3.ensures.ok.0 ∙ c.in_ok-attributes-2.ensures.ok.0))
 
 pub returns-clause-octets : goal.returns-clause-octets
 returns-clause-octets g c =
-    let last = c.in_ok-signature.ensures.reads in
-    as_read refl
+    let algorithm = rw c.in_ok-attributes-2.ensures.ok.1 at c.cms_take_from.ensures.reads in
+    let last = rw c.in_ok-attributes-3.ensures.ok.1 at c.take_from-2.ensures.reads in
+    as_read (ap (λ a. signer_fields (let s : SignerValue = record { sid = c.in_ok-sid.sid; attributes = a; has_null = c.in_ok-attributes-2.algorithm; signature = c.in_ok-attributes-3.signature } in s)) (c.in_ok-attributes-3.ensures.ok.0 ∙ c.in_ok-attributes-2.ensures.ok.0))
     (join (field (λ m. IsThree) c.in_ok-version.ensures.reads)
     (join (field IsSid c.in_ok-sid.ensures)
     (join (field (λ m. id.IsDigestAlgorithm) c.in_ok-digest.ensures.reads)
     (join c.in_ok-attributes.ensures.octets
-    (join (field (λ m. id.IsSignatureAlgorithm) c.in_ok-algorithm.ensures.reads)
+    (join (field (λ m. id.IsSignatureAlgorithm) algorithm)
     (join (field IsOctetString last)
     (ended last.took.goes.behind)))))))

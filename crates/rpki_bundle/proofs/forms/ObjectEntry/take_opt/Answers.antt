@@ -1,8 +1,7 @@
-use Rattle.rpki_bundle.proofs.of_bcder_content.Inside.{exact_opt}
+use Rattle.rpki_bundle.proofs.of_bcder_content.InMode.{inside_opt}
 use Rattle.rpki_bundle.specs.Grammars.{object_fields, as_object, IsObjectBody}
-use Rattle.rpki_bundle.proofs.of_bcder_content.Modes.{all_in}
 use Rattle.rpki_bundle.proofs.Reading.{opt_meaning}
 use Rattle.rpki_bundle.proofs.forms.ObjectEntry.take_opt.Goals as goal
 
-pub returns : goal.returns
-returns g c = opt_meaning object_fields as_object _ _ _ _ _ (exact_opt (record { each = λ p q r m h. all_in object_fields IsObjectBody _ _ r m h }) c.take_opt_sequence.ensures.ran)
+pub returns-clause-reads : goal.returns-clause-reads
+returns-clause-reads g c = opt_meaning object_fields as_object _ _ _ _ _ (inside_opt {P = IsObjectBody} (record { each = λ p q r h. h }) c.take_opt_sequence.ensures.ran)

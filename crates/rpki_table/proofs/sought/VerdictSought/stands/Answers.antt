@@ -11,4 +11,4 @@ returns c =
     let key : length v.key ≡ length w.key = omega arith in
     let message : length v.message ≡ length w.message = omega arith in
     let rows = cmp_three v.key w.key v.message w.message v.signature w.signature key message in
-    c.then-2.ensures ∙ ap (λ o. ordering_then o c.cmp-3.result) (c.then.ensures ∙ ap (λ o. ordering_then o c.cmp-2.result) c.cmp.ensures ∙ ap (ordering_then (slice_cmp nat_cmp v.key w.key)) c.cmp-2.ensures) ∙ ap (ordering_then (ordering_then (slice_cmp nat_cmp v.key w.key) (slice_cmp nat_cmp v.message w.message))) c.cmp-3.ensures ∙ sym rows
+    c.behind.ensures ∙ ap (λ o. ordering_then o (slice_cmp nat_cmp v.signature w.signature)) (c.behind-fronts.ensures ∙ ap (λ o. ordering_then o (slice_cmp nat_cmp v.message w.message)) c.cmp-keys.ensures) ∙ sym rows

@@ -1,0 +1,1 @@
+pub mod of_certs_written

@@ -1,0 +1,22 @@
+use Rattle.std.proofs.Common.{refl, subst}
+use Rattle.certs_revoked.specs.certs_specs.CrlText.{TbsListValue}
+use Rattle.certs_crl.specs.Written.{WritesTbsList}
+use Rattle.certs_crl.proofs.Writing.{list_as, revoked_as}
+use Rattle.certs_crl.proofs.tbs.TbsCertList.encode_ref.Goals as goal
+
+pub returns : goal.returns
+returns c = λ m text w.
+    let list : TbsListValue = record {
+      has_null = c.self.inside.signature;
+      issuer = c.self.inside.issuer;
+      this_update = c.self.inside.this_update;
+      next_update = c.self.inside.next_update;
+      revoked = c.self.inside.revoked_certs;
+      authority_key_identifier = c.self.inside.authority_key_id;
+      number = c.self.inside.crl_number;
+    } in
+    subst (λ (z : TbsListValue). ∥ WritesTbsList z m text ∥₁) c.self.view_is
+    (list_as list m text c.extensions-extensions.ensures.long c.name_of-issuer.ensures.named refl c.encode-version.ensures.tag c.encode-version.ensures.content
+    c.x509_encode-signature.ensures c.name_of-issuer.ensures.same c.encode_varied-this_update.ensures c.encode_varied-next_update.ensures
+    (λ part h. revoked_as (λ v. v.tag) (λ v. v.inner.now) list.revoked m part c.encode_ref-revoked.result c.encode_ref-revoked.ensures.none c.encode_ref-revoked.ensures.tag c.encode_ref-revoked.ensures.octets h)
+    (λ part h. c.extensions-extensions.ensures.writes m part h) w)

@@ -1,0 +1,68 @@
+//! Revocation lists that are built: what is signed of a list, and a signature over it (RFC 5280 5.1.1).
+
+ghost use Rattle.std.specs.Prelude.{◌≡◌, IfOk};
+ghost use Rattle.certs_crl.specs.bcder_tree.declared.mode.Mode.TheVariants.{Der};
+ghost use Rattle.certs_crl.specs.Written.{WritesTbsList};
+
+use crate::crl::Crl;
+use crate::tbs::TbsCertList;
+use bcder::encode::{EncodeError, Values};
+use bcder::{Captured, Mode};
+use certs_key::{Signer, SigningError};
+use certs_signed::SignedData;
+use std::alloc::Global;
+
+// The octets that are signed.
+fn message_of(alloc: Global, tbs: &TbsCertList) -> Result<Captured, EncodeError>
+    ensures mode { IfOk result (λ c. c.mode ≡ Der) }
+    ensures written { IfOk result (λ c. ∥ WritesTbsList tbs.now Der c.octets ∥₁) }
+{
+    tbs.encode_ref().to_captured(alloc, Mode::Der)
+}
+
+// These fields, with a signature over what is written of them.
+fn signed_by<S: Signer>(
+    alloc: Global,
+    tbs: &TbsCertList,
+    signer: &S,
+    key: &S::KeyId,
+) -> Result<SignedData, SigningError<S::Error>>
+    ensures message { IfOk result (λ signed. ∥ WritesTbsList tbs.now Der signed.message.octets ∥₁) }
+    ensures mode { IfOk result (λ signed. signed.message.mode ≡ Der) }
+    ensures algorithm { IfOk result (λ signed. signed.signature.algorithm ≡ tbs.now.has_null) }
+{
+    let message = match message_of(alloc, tbs) {
+        Ok(message) => message,
+        Err(EncodeError::Memory) => return Err(SigningError::Memory),
+        Err(_) => return Err(SigningError::TooLong),
+    };
+    let signature = signer.sign(alloc, key, tbs.signature(), message.as_slice())?;
+    Ok(SignedData::new(message, signature))
+}
+
+impl TbsCertList {
+    /// The list with these fields, and with a signature over what is written of them in DER, by that key of the signer,
+    /// which is asked just once and by the algorithm that the fields name.
+    ///
+    /// What the signer refuses is refused as it says. Before it is asked, want of memory is told as `Memory`, and fields
+    /// are refused as `TooLong` of which nothing can be written in DER: where a content would have more than 2^32 - 1
+    /// octets, and where the name or the entries are kept in another mode.
+    pub fn into_crl<S: Signer>(
+        self,
+        alloc: Global,
+        signer: &S,
+        key: &S::KeyId,
+    ) -> Result<Crl, SigningError<S::Error>>
+        ensures fields { IfOk result (λ crl. crl.tbs ≡ self) }
+        ensures algorithm { IfOk result (λ crl. crl.signed.has_null ≡ self.has_null) }
+        ensures message { IfOk result (λ crl. ∥ WritesTbsList self Der crl.signed.message ∥₁) }
+    {
+        match signed_by(alloc, &self, signer, key) {
+            Ok(signed) => Ok(Crl::from_parts(signed, self)),
+            Err(error) => {
+                drop(self);
+                Err(error)
+            }
+        }
+    }
+}

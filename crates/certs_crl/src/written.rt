@@ -1,0 +1,169 @@
+//! What is signed of a revocation list, written (RFC 5280 5.1.2, RFC 6487 5).
+
+ghost use Rattle.std.specs.Prelude.{◌≡◌, ◌<◌, ◌^◌, ℕ, List};
+ghost use Rattle.certs_crl.specs.bcder_tree.declared.mode.Mode.{Mode as ModeValue};
+ghost use Rattle.certs_crl.specs.certs_basics.Basics.{IsTwentyLong};
+ghost use Rattle.certs_crl.specs.certs_basics.Identifiers as id;
+ghost use Rattle.certs_crl.specs.Written.{WritesCrlNumber, WritesExtension, WritesKey};
+ghost use Rattle.certs_crl.specs.Written.{WritesListExtensions, WritesTbsList};
+ghost use Rattle.certs_name.specs.Named.{IsNamed};
+
+use crate::extensions::{CE_AUTHORITY_KEY_IDENTIFIER, CE_CRL_NUMBER};
+use crate::tbs::TbsCertList;
+use bcder::encode::{self, PrimitiveContent, Values};
+use bcder::string::{OctetSliceEncoder, WrappingOctetStringEncoder};
+use bcder::{ConstOid, Mode, Tag};
+use certs_algorithm::{AlgorithmIdentifier, SignatureAlgorithm};
+use certs_name::{Name, Serial};
+use certs_revoked::revoked::RevokedValues;
+use certs_signed::KeyIdentifier;
+use certs_time::text::VariedTime;
+
+// The number that stands for version 2 (RFC 5280 5.1.2.1).
+const VERSION: u8 = 1;
+
+/// What is written of an extension that isn't critical: its identifier, and a string around its value, which is in DER.
+type ExtensionValues<V> = encode::Constructed<
+    (encode::Primitive<ConstOid>, WrappingOctetStringEncoder<V>),
+>;
+
+/// What is written of the identifier of the issuer's key.
+type KeyValues<'a> = ExtensionValues<encode::Constructed<OctetSliceEncoder<&'a [u8]>>>;
+
+/// What is written of the list's number.
+type NumberValues = ExtensionValues<encode::Primitive<Serial>>;
+
+/// What is written of both extensions.
+pub type ListExtensionValues<'a> = encode::Constructed<
+    encode::Constructed<(KeyValues<'a>, NumberValues)>,
+>;
+
+/// What is written of what is signed of a list: a SEQUENCE of its fields.
+pub type TbsCertListValues<'a> = encode::Constructed<
+    (
+        encode::Primitive<u8>,
+        AlgorithmIdentifier,
+        &'a Name,
+        VariedTime,
+        VariedTime,
+        RevokedValues<'a>,
+        ListExtensionValues<'a>,
+    ),
+>;
+
+// The identifier of the issuer's key (RFC 5280 5.2.1).
+fn key_extension<'a>(key: &'a KeyIdentifier) -> KeyValues<'a>
+    ensures writes { (m : ModeValue) (text : List ℕ)
+        → ⟦<KeyValues<'a> as Values>⟧.writes result m text
+        → WritesExtension m id.authority_key_identifier (WritesKey key.now) text }
+    ensures long { IsTwentyLong key.now }
+{
+    let octets = key.as_slice();
+    let oid = CE_AUTHORITY_KEY_IDENTIFIER.encode();
+    encode::Constructed {
+        tag: Tag::SEQUENCE,
+        inner: (
+            oid,
+            WrappingOctetStringEncoder {
+                mode: Mode::Der,
+                values: encode::Constructed {
+                    tag: Tag::SEQUENCE,
+                    inner: OctetSliceEncoder {
+                        tag: Tag::CTX_0,
+                        octets,
+                    },
+                },
+                tag: Tag::OCTET_STRING,
+            },
+        ),
+    }
+}
+
+// The number, which is below 2^160.
+fn number_of(number: Serial) -> Serial
+    ensures same { result ≡ number }
+    ensures small { number < 2 ^ 160 }
+{
+    number
+}
+
+// The list's number (RFC 5280 5.2.3).
+fn number_extension(number: Serial) -> NumberValues
+    ensures { (m : ModeValue) (text : List ℕ)
+        → ⟦<NumberValues as Values>⟧.writes result m text
+        → WritesExtension m id.crl_number (WritesCrlNumber number) text }
+{
+    let oid = CE_CRL_NUMBER.encode();
+    let value = number_of(number).encode();
+    encode::Constructed {
+        tag: Tag::SEQUENCE,
+        inner: (
+            oid,
+            WrappingOctetStringEncoder {
+                mode: Mode::Der,
+                values: value,
+                tag: Tag::OCTET_STRING,
+            },
+        ),
+    }
+}
+
+// The identifier of the issuer's key, and the list's number.
+fn extensions<'a>(key: &'a KeyIdentifier, number: Serial) -> ListExtensionValues<'a>
+    ensures writes { (m : ModeValue) (text : List ℕ)
+        → ⟦<ListExtensionValues<'a> as Values>⟧.writes result m text
+        → WritesListExtensions key.now number m text }
+    ensures long { IsTwentyLong key.now }
+{
+    let first = key_extension(key);
+    let second = number_extension(number);
+    encode::Constructed {
+        tag: Tag::CTX_0,
+        inner: encode::Constructed {
+            tag: Tag::SEQUENCE,
+            inner: (first, second),
+        },
+    }
+}
+
+// The name, which is one.
+fn name_of(name: &Name) -> &Name
+    ensures same { result.now ≡ name.now }
+    ensures named { IsNamed name.now }
+{
+    let _octets = name.as_slice();
+    name
+}
+
+impl TbsCertList {
+    /// What is written of it: its fields in their order, and its two extensions, the issuer's key first, not critical
+    /// (RFC 5280 5.1.2, RFC 6487 5). The name and the entries are written as they are kept.
+    ///
+    /// `CerUnsupported` in CER, and where the name or the entries stand in another mode; `TooLong` where a content has more
+    /// than 2^32 - 1 octets.
+    pub fn encode_ref<'a>(&'a self) -> TbsCertListValues<'a>
+        ensures { (m : ModeValue) (text : List ℕ)
+            → ⟦<TbsCertListValues<'a> as Values>⟧.writes result m text
+            → ∥ WritesTbsList self.now m text ∥₁ }
+    {
+        let version = VERSION.encode();
+        let signature = self.signature.x509_encode();
+        let issuer = name_of(&self.issuer);
+        let this_update = self.this_update.encode_varied();
+        let next_update = self.next_update.encode_varied();
+        let revoked = self.revoked_certs.encode_ref();
+        let extensions = extensions(&self.authority_key_id, self.crl_number);
+        encode::Constructed {
+            tag: Tag::SEQUENCE,
+            inner: (
+                version,
+                signature,
+                issuer,
+                this_update,
+                next_update,
+                revoked,
+                extensions,
+            ),
+        }
+    }
+}

@@ -1,0 +1,6 @@
+pub mod Same
+mod Said
+mod Times
+pub mod of_certs_algorithm
+pub mod of_certs_time
+pub mod of_resources_as

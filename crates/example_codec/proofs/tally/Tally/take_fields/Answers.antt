@@ -1,0 +1,15 @@
+use Rattle.std.proofs.Common.{refl}
+use Rattle.bcder.proofs.of_bcder_content.InMode.{begin, next, stop, done}
+use Rattle.example_codec.proofs.tally.Tally.take_fields.Goals as goal
+
+pub returns-in_err-station : goal.returns-in_err-station
+returns-in_err-station g c = stop _ begin c.from_residual.ensures c.in_err-station.ensures.reads
+
+pub returns-in_err-count : goal.returns-in_err-count
+returns-in_err-count g c = stop _ (next begin c.in_ok-station.ensures.reads) c.from_residual-in_err-count.ensures c.in_err-count.ensures.reads
+
+pub returns-in_err-closed : goal.returns-in_err-closed
+returns-in_err-closed g c = stop _ (next (next begin c.in_ok-station.ensures.reads) c.in_ok-count.ensures.reads) c.from_residual-in_err-closed.ensures c.in_err-closed.ensures.reads
+
+pub returns : goal.returns
+returns g c = done (next (next (next begin c.in_ok-station.ensures.reads) c.in_ok-count.ensures.reads) c.in_ok-closed.ensures.reads) refl

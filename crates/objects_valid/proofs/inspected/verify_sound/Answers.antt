@@ -1,0 +1,10 @@
+use Rattle.objects_valid.specs.certs_specs.Verified.{held_by}
+use Rattle.certs_verify.specs.certs_key.Digesting.{digests_of}
+use Rattle.objects_valid.proofs.Accepting.{content_tells}
+use Rattle.objects_valid.proofs.inspected.verify_sound.Goals as goal
+
+pub returns-in-Err-clause-outside : goal.returns-in-Err-clause-outside
+returns-in-Err-clause-outside g c issuer =
+    let d = digests_of g.D.Digester.sha256_digest g.D.Digester.sha1_digest c.args.digester.now in
+    let v = g.V.Verifier.says c.args.verifier.now in
+    content_tells d v c.args.signed.now c.args.signed.now.cert (held_by issuer) c.in-Err.error c.in-Err.ensures.answers

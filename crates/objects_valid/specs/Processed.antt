@@ -1,0 +1,85 @@
+-- Accepted objects with their contents: whose certificates pass a caller's test of revocation, and what of their contents
+-- those hold (RFC 6488 3, RFC 9582 5, draft-ietf-sidrops-aspa-profile 4).
+use Rattle.std.specs.Prelude.{◌≡◌, ◌≢◌, ◌⊎◌, ℕ, Bool, List, Result, Ok, Err}
+use Rattle.certs_verify.specs.certs_basics.HandedIn.{Digests}
+use Rattle.certs_verify.specs.certs_basics.Verdicts.{Verdicts}
+use Rattle.certs_verify.specs.certs_errors.declared.validation.ValidationError.{ValidationError}
+use Rattle.certs_verify.specs.certs_errors.declared.validation.ValidationError.TheVariants.{Verification}
+use Rattle.certs_verify.specs.certs_errors.declared.verification.VerificationError.TheVariants.{Memory, Refused, Uncovered}
+use Rattle.objects_valid.specs.certs_specs.Verified.{HolderValue}
+use Rattle.objects_valid.specs.certs_specs.declared.Role.TheVariants.{Ee}
+use Rattle.certs_verify.specs.resources_chain.Sets.{InRuns}
+use Rattle.certs_verify.specs.Holders.{ResourceCertValue}
+use Rattle.objects_kinds.specs.Kinds.{KindValue}
+use Rattle.objects_kinds.specs.objects_forms.Aspas.{Aspa}
+use Rattle.objects_kinds.specs.objects_forms.ObjectText.{Object}
+use Rattle.objects_kinds.specs.objects_forms.Roas.{Roa}
+use Rattle.objects_covered.specs.Covered.{IsCoveredAspa, IsCoveredRoa}
+use Rattle.objects_valid.specs.Accepted.{AcceptsObject, FailsObject}
+
+-- What passes tests behind an object's own, and which of them fails first, by what its certificate holds.
+abbrev pub Passing : Type 1
+Passing = HolderValue → Type 0
+
+abbrev pub Failing : Type 1
+Failing = HolderValue → ValidationError → Type 0
+
+abbrev pub Answers : Passing → Failing → HolderValue → Result (Unit {0}) ValidationError → Type 0
+Answers passes fails h (Ok x) = passes h
+Answers passes fails h (Err e) = fails h e
+
+-- The object is accepted and passes the tests behind, and its content is answered with what its certificate holds; or the
+-- first test that fails: one of the object's own, or one behind.
+abbrev pub Processes : {A : Type 0} → Passing → Failing → Digests → Verdicts → Bool → ℕ → HolderValue → Object → A → Result (ResourceCertValue × A) ValidationError → Type 0
+Processes passes fails d good strict now issuer o content (Ok p) = AcceptsObject d good strict Ee now issuer o p.0.holder × (passes p.0.holder × (p.1 ≡ content))
+Processes passes fails d good strict now issuer o content (Err e) = FailsObject d good strict Ee now issuer o e ⊎ ((h : HolderValue) × AcceptsObject d good strict Ee now issuer o h × fails h e)
+
+-- What a caller's test of a certificate may answer.
+abbrev pub Test : Type 1
+Test = Result (Unit {0}) ValidationError → Type 0
+
+-- The caller's test passes, or it refuses: want of memory is told as that, and all other causes as one refusal.
+abbrev pub PassesTest : Test → Type 0
+PassesTest says = says (Ok tt)
+
+abbrev pub TellsCause : ValidationError → ValidationError → Type 0
+TellsCause cause e = ((e ≡ Verification Refused) × (cause ≢ Verification Memory)) ⊎ ((e ≡ Verification Memory) × (cause ≡ Verification Memory))
+
+abbrev pub FailsTest : Test → ValidationError → Type 0
+FailsTest says e = (cause : ValidationError) × says (Err cause) × TellsCause cause e
+
+-- Any signed object: the caller's test.
+abbrev pub PassesAny : Test → Passing
+PassesAny says h = PassesTest says
+
+abbrev pub FailsAny : Test → Failing
+FailsAny says h e = FailsTest says e
+
+abbrev pub ProcessesObject : Test → Digests → Verdicts → Bool → ℕ → HolderValue → Object → Result (ResourceCertValue × List ℕ) ValidationError → Type 0
+ProcessesObject says d good strict now issuer o = Processes (PassesAny says) (FailsAny says) d good strict now issuer o o.content
+
+-- A route origin attestation: the caller's test, then that all prefixes are held (RFC 9582 5).
+abbrev pub CoversRoa : Roa → HolderValue → Type 0
+CoversRoa x h = IsCoveredRoa (InRuns h.v4) (InRuns h.v6) x
+
+abbrev pub PassesRoa : Test → Roa → Passing
+PassesRoa says x h = PassesTest says × CoversRoa x h
+
+abbrev pub FailsRoa : Test → Roa → Failing
+FailsRoa says x h e = FailsTest says e ⊎ (PassesTest says × ((e ≡ Verification Uncovered) × (CoversRoa x h → ⊥)))
+
+abbrev pub ProcessesRoa : Test → Digests → Verdicts → Bool → ℕ → HolderValue → KindValue Roa → Result (ResourceCertValue × Roa) ValidationError → Type 0
+ProcessesRoa says d good strict now issuer k = Processes (PassesRoa says k.content) (FailsRoa says k.content) d good strict now issuer k.signed k.content
+
+-- A provider attestation: that the customer is held, then the caller's test (draft-ietf-sidrops-aspa-profile 4).
+abbrev pub CoversAspa : Aspa → HolderValue → Type 0
+CoversAspa x h = IsCoveredAspa (InRuns h.asn) x
+
+abbrev pub PassesAspa : Test → Aspa → Passing
+PassesAspa says x h = CoversAspa x h × PassesTest says
+
+abbrev pub FailsAspa : Test → Aspa → Failing
+FailsAspa says x h e = ((e ≡ Verification Uncovered) × (CoversAspa x h → ⊥)) ⊎ (CoversAspa x h × FailsTest says e)
+
+abbrev pub ProcessesAspa : Test → Digests → Verdicts → Bool → ℕ → HolderValue → KindValue Aspa → Result (ResourceCertValue × Aspa) ValidationError → Type 0
+ProcessesAspa says d good strict now issuer k = Processes (PassesAspa says k.content) (FailsAspa says k.content) d good strict now issuer k.signed k.content

@@ -1,0 +1,153 @@
+//! Provider attestations (draft-ietf-sidrops-aspa-profile 4).
+
+ghost use Rattle.std.specs.Prelude.{◌≡◌, ◌↔◌, ◌+◌, ◌≤◌, ℕ, IfErr, IfOk, IsTrue};
+ghost use Rattle.std.specs.Fn.{FnOnceReturnsAt};
+ghost use Rattle.objects_valid.specs.certs_specs.Cert.{CertValue};
+ghost use Rattle.objects_valid.specs.certs_specs.Verified.{HolderValue, held_by};
+ghost use Rattle.certs_verify.specs.certs_key.Digesting.{digests_of};
+ghost use Rattle.certs_verify.specs.Validated.{TellsNumbers};
+ghost use Rattle.objects_kinds.specs.Kinds.{KindValue};
+ghost use Rattle.objects_kinds.specs.objects_forms.Aspas.{Aspa as AspaValue};
+ghost use Rattle.objects_valid.specs.Processed.{Answers, CoversAspa, FailsAspa, PassesAspa, ProcessesAspa};
+
+use crate::object::ProcessObject;
+use crate::{caller, together};
+use certs_errors::{Clock, Time};
+use certs_verify::{Cert, Digester, ResourceCert, ValidationError, VerificationError, Verifier};
+use objects_covered::AsProviderAttestation;
+use objects_kinds::{Aspa, covers_aspa};
+use std::alloc::Global;
+
+// Whether the customer is held by the certificate.
+fn covers(holder: &ResourceCert, content: &AsProviderAttestation) -> bool
+    ensures { IsTrue result ↔ CoversAspa content.now holder.now.holder }
+{
+    covers_aspa(content, holder.as_resources())
+}
+
+// Whether the customer is held by the certificate and the caller's test passes, in this order.
+fn test<F: FnOnce(&Cert) -> Result<(), ValidationError> + Drop>(
+    holder: &ResourceCert,
+    content: &AsProviderAttestation,
+    check_crl: F,
+) -> Result<(), ValidationError>
+    requires { F.IsAlwaysCallable check_crl }
+    ensures answers { Answers
+        (PassesAspa (FnOnceReturnsAt F.FnOnce check_crl holder.now.holder.cert) content.now)
+        (FailsAspa (FnOnceReturnsAt F.FnOnce check_crl holder.now.holder.cert) content.now)
+        holder.now.holder result }
+    ensures outside { (c : CertValue) (issuer : HolderValue)
+        → IfErr result (TellsNumbers c (held_by issuer)) }
+{
+    if covers(holder, content) {
+        caller::ask(check_crl, holder.as_cert())
+    } else {
+        Err(ValidationError::Verification(VerificationError::Uncovered))
+    }
+}
+
+/// A provider attestation that is validated: it is let go where it is refused. A call asks the verifier at most twice: for
+/// the content, then for the certificate. `strict` refuses UTF8Strings in names. `Memory` comes only where a growth of
+/// memory was refused, here or in `check_crl`; nothing follows from it for the object.
+pub trait ProcessAspa {
+    // The object, with what its content says.
+    ghost aspa: { Self → KindValue AspaValue };
+
+    /// The certificate with what it holds at a moment below the issuer, and what is attested, where the object is accepted,
+    /// its customer is held by that (draft-ietf-sidrops-aspa-profile 4), and `check_crl` doesn't refuse its certificate;
+    /// else the first test that fails, in this order. `check_crl` is called once where all other tests pass, and else not
+    /// at all.
+    fn process_at<D: Digester, V: Verifier, F: FnOnce(&Cert) -> Result<(), ValidationError> + Drop>(
+        self,
+        alloc: Global,
+        issuer: &ResourceCert,
+        strict: bool,
+        now: Time,
+        digester: &D,
+        verifier: &mut V,
+        check_crl: F,
+    ) -> Result<(ResourceCert, AsProviderAttestation), ValidationError>
+        requires { F.IsAlwaysCallable check_crl }
+        ensures processes { ProcessesAspa
+            (FnOnceReturnsAt F.FnOnce check_crl (aspa self).signed.cert)
+            (digests_of D.sha256_digest D.sha1_digest digester.now) (V.says verifier.old)
+            strict now issuer.now.holder (aspa self) result }
+        ensures tal { IfOk result (λ p. p.0.tal ≡ issuer.now.tal) }
+        ensures outside { IfErr result
+            (TellsNumbers (aspa self).signed.cert (held_by issuer.now.holder)) }
+        ensures same { V.says verifier.new ≡ V.says verifier.old }
+        ensures asked { V.count verifier.new ≤ V.count verifier.old + 2 };
+
+    /// As `process_at`, at the moment that the clock tells, which is asked once, first.
+    fn process<
+        C: Clock,
+        D: Digester,
+        V: Verifier,
+        F: FnOnce(&Cert) -> Result<(), ValidationError> + Drop,
+    >(
+        self,
+        alloc: Global,
+        issuer: &ResourceCert,
+        strict: bool,
+        clock: &C,
+        digester: &D,
+        verifier: &mut V,
+        check_crl: F,
+    ) -> Result<(ResourceCert, AsProviderAttestation), ValidationError>
+        requires { F.IsAlwaysCallable check_crl }
+        ensures processes { (moment : ℕ) × C.tells clock.now moment × ProcessesAspa
+            (FnOnceReturnsAt F.FnOnce check_crl (aspa self).signed.cert)
+            (digests_of D.sha256_digest D.sha1_digest digester.now) (V.says verifier.old)
+            strict moment issuer.now.holder (aspa self) result }
+        ensures tal { IfOk result (λ p. p.0.tal ≡ issuer.now.tal) }
+        ensures outside { IfErr result
+            (TellsNumbers (aspa self).signed.cert (held_by issuer.now.holder)) }
+        ensures same { V.says verifier.new ≡ V.says verifier.old }
+        ensures asked { V.count verifier.new ≤ V.count verifier.old + 2 };
+}
+
+impl ProcessAspa for Aspa {
+    ghost aspa = { λ k. k };
+
+    fn process_at<D: Digester, V: Verifier, F: FnOnce(&Cert) -> Result<(), ValidationError> + Drop>(
+        self,
+        alloc: Global,
+        issuer: &ResourceCert,
+        strict: bool,
+        now: Time,
+        digester: &D,
+        verifier: &mut V,
+        check_crl: F,
+    ) -> Result<(ResourceCert, AsProviderAttestation), ValidationError> {
+        let (signed, content) = self.into_parts();
+        match signed.validate_at(alloc, issuer, strict, now, digester, verifier) {
+            Ok(holder) => {
+                let tested = test(&holder, &content, check_crl);
+                together::join_if(holder, content, tested)
+            }
+            Err(error) => {
+                drop(content);
+                Err(error)
+            }
+        }
+    }
+
+    fn process<
+        C: Clock,
+        D: Digester,
+        V: Verifier,
+        F: FnOnce(&Cert) -> Result<(), ValidationError> + Drop,
+    >(
+        self,
+        alloc: Global,
+        issuer: &ResourceCert,
+        strict: bool,
+        clock: &C,
+        digester: &D,
+        verifier: &mut V,
+        check_crl: F,
+    ) -> Result<(ResourceCert, AsProviderAttestation), ValidationError> {
+        let now = clock.now();
+        self.process_at(alloc, issuer, strict, now, digester, verifier, check_crl)
+    }
+}

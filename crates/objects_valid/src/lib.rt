@@ -1,0 +1,30 @@
+//! Validation of signed objects below an issuer (RFC 6488 3): of manifests (RFC 9286 6), route origin attestations
+//! (RFC 9582 5), provider attestations (draft-ietf-sidrops-aspa-profile 4), and of any other.
+//!
+//! An object is accepted exactly where its certificate has the form of one that signs an object, its signer signed its
+//! content, and the issuer issued its certificate, which is valid at the moment and claims what it may; else the first test
+//! that fails is told. `process` asks a caller's test of the certificate beside that, which looks it up on a revocation
+//! list, and whether what is attested is within what the certificate holds.
+//!
+//! What differs from the Rust crate: the calls are those of traits, one a type; the verifier, the digester and the clock
+//! are handed in, and each call has a form that is given the moment; what takes memory is given an allocator, and want of
+//! memory is an error of its own; whatever a caller's test refuses with is told as one error, but for want of memory; the
+//! content of an object of any kind is handed over as it stands.
+#![tactic(auto)]
+
+pub mod aspa;
+mod caller;
+mod inspected;
+pub mod manifest;
+pub mod object;
+pub mod roa;
+mod together;
+
+pub use aspa::ProcessAspa;
+pub use certs_verify::{
+    Cert, Digester, InspectionError, ResourceCert, ValidationError, VerificationError, Verifier,
+};
+pub use manifest::ValidateManifest;
+pub use object::ProcessObject;
+pub use objects_kinds::{Aspa, Manifest, ManifestContent, Roa, SignedObject};
+pub use roa::ProcessRoa;

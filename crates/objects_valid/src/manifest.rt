@@ -1,0 +1,97 @@
+//! Manifests (RFC 9286 6).
+
+ghost use Rattle.std.specs.Prelude.{◌≡◌, ◌+◌, ◌≤◌, ℕ, IfErr, IfOk};
+ghost use Rattle.objects_valid.specs.certs_specs.Verified.{held_by};
+ghost use Rattle.objects_valid.specs.certs_specs.declared.Role.TheVariants.{Ee};
+ghost use Rattle.certs_verify.specs.certs_key.Digesting.{digests_of};
+ghost use Rattle.certs_verify.specs.Validated.{TellsNumbers};
+ghost use Rattle.objects_kinds.specs.Kinds.{KindValue};
+ghost use Rattle.objects_kinds.specs.objects_forms.Manifests.{Manifest as ManifestValue};
+ghost use Rattle.objects_valid.specs.Accepted.{ValidatesContent};
+
+use crate::object::ProcessObject;
+use crate::together::join;
+use certs_errors::{Clock, Time};
+use certs_verify::{Digester, ResourceCert, ValidationError, Verifier};
+use objects_kinds::{Manifest, ManifestContent};
+use std::alloc::Global;
+
+/// A manifest that is validated: it is let go where it is refused. A call asks the verifier at most twice: for the content,
+/// then for the certificate. `strict` refuses UTF8Strings in names. `Memory` comes only where a growth of memory was
+/// refused; nothing follows from it for the manifest. Neither its updates nor the files that it lists are looked at, and no
+/// revocation list.
+pub trait ValidateManifest {
+    // The manifest, with what its content says.
+    ghost manifest: { Self → KindValue ManifestValue };
+
+    /// The manifest's certificate with what it holds at a moment below the issuer, and what the manifest says, where its
+    /// object is accepted; else the first test that fails.
+    fn validate_at<D: Digester, V: Verifier>(
+        self,
+        alloc: Global,
+        issuer: &ResourceCert,
+        strict: bool,
+        now: Time,
+        digester: &D,
+        verifier: &mut V,
+    ) -> Result<(ResourceCert, ManifestContent), ValidationError>
+        ensures validates { ValidatesContent
+            (digests_of D.sha256_digest D.sha1_digest digester.now) (V.says verifier.old)
+            strict Ee now issuer.now.holder (manifest self).signed (manifest self).content result }
+        ensures tal { IfOk result (λ p. p.0.tal ≡ issuer.now.tal) }
+        ensures outside { IfErr result
+            (TellsNumbers (manifest self).signed.cert (held_by issuer.now.holder)) }
+        ensures same { V.says verifier.new ≡ V.says verifier.old }
+        ensures asked { V.count verifier.new ≤ V.count verifier.old + 2 };
+
+    /// As `validate_at`, at the moment that the clock tells, which is asked once, first.
+    fn validate<C: Clock, D: Digester, V: Verifier>(
+        self,
+        alloc: Global,
+        issuer: &ResourceCert,
+        strict: bool,
+        clock: &C,
+        digester: &D,
+        verifier: &mut V,
+    ) -> Result<(ResourceCert, ManifestContent), ValidationError>
+        ensures validates { (moment : ℕ) × C.tells clock.now moment × ValidatesContent
+            (digests_of D.sha256_digest D.sha1_digest digester.now) (V.says verifier.old)
+            strict Ee moment issuer.now.holder
+            (manifest self).signed (manifest self).content result }
+        ensures tal { IfOk result (λ p. p.0.tal ≡ issuer.now.tal) }
+        ensures outside { IfErr result
+            (TellsNumbers (manifest self).signed.cert (held_by issuer.now.holder)) }
+        ensures same { V.says verifier.new ≡ V.says verifier.old }
+        ensures asked { V.count verifier.new ≤ V.count verifier.old + 2 };
+}
+
+impl ValidateManifest for Manifest {
+    ghost manifest = { λ k. k };
+
+    fn validate_at<D: Digester, V: Verifier>(
+        self,
+        alloc: Global,
+        issuer: &ResourceCert,
+        strict: bool,
+        now: Time,
+        digester: &D,
+        verifier: &mut V,
+    ) -> Result<(ResourceCert, ManifestContent), ValidationError> {
+        let (signed, content) = self.into_parts();
+        let validated = signed.validate_at(alloc, issuer, strict, now, digester, verifier);
+        join(content, validated)
+    }
+
+    fn validate<C: Clock, D: Digester, V: Verifier>(
+        self,
+        alloc: Global,
+        issuer: &ResourceCert,
+        strict: bool,
+        clock: &C,
+        digester: &D,
+        verifier: &mut V,
+    ) -> Result<(ResourceCert, ManifestContent), ValidationError> {
+        let now = clock.now();
+        self.validate_at(alloc, issuer, strict, now, digester, verifier)
+    }
+}

@@ -1,0 +1,157 @@
+//! Route origin attestations (RFC 9582 5).
+
+ghost use Rattle.std.specs.Prelude.{◌≡◌, ◌↔◌, ◌+◌, ◌≤◌, ℕ, IfErr, IfOk, IsTrue};
+ghost use Rattle.std.specs.Fn.{FnOnceReturnsAt};
+ghost use Rattle.objects_valid.specs.certs_specs.Cert.{CertValue};
+ghost use Rattle.objects_valid.specs.certs_specs.Verified.{HolderValue, held_by};
+ghost use Rattle.certs_verify.specs.certs_key.Digesting.{digests_of};
+ghost use Rattle.certs_verify.specs.Validated.{TellsNumbers};
+ghost use Rattle.objects_kinds.specs.Kinds.{KindValue};
+ghost use Rattle.objects_kinds.specs.objects_forms.Roas.{Roa as RoaValue};
+ghost use Rattle.objects_valid.specs.Processed.{Answers, CoversRoa, FailsRoa, PassesRoa, ProcessesRoa};
+
+use crate::object::ProcessObject;
+use crate::{caller, together};
+use certs_errors::{Clock, Time};
+use certs_verify::{Cert, Digester, ResourceCert, ValidationError, VerificationError, Verifier};
+use objects_covered::RouteOriginAttestation;
+use objects_kinds::{Roa, covers_roa};
+use std::alloc::Global;
+
+// Whether all prefixes are held by the certificate.
+fn covers(holder: &ResourceCert, content: &RouteOriginAttestation) -> bool
+    ensures { IsTrue result ↔ CoversRoa content.now holder.now.holder }
+{
+    covers_roa(content, holder.v4_resources(), holder.v6_resources())
+}
+
+// Whether the caller's test passes and all prefixes are held by the certificate, in this order.
+fn test<F: FnOnce(&Cert) -> Result<(), ValidationError>>(
+    holder: &ResourceCert,
+    content: &RouteOriginAttestation,
+    check_crl: F,
+) -> Result<(), ValidationError>
+    requires { F.IsAlwaysCallable check_crl }
+    ensures answers { Answers
+        (PassesRoa (FnOnceReturnsAt F.FnOnce check_crl holder.now.holder.cert) content.now)
+        (FailsRoa (FnOnceReturnsAt F.FnOnce check_crl holder.now.holder.cert) content.now)
+        holder.now.holder result }
+    ensures outside { (c : CertValue) (issuer : HolderValue)
+        → IfErr result (TellsNumbers c (held_by issuer)) }
+{
+    match caller::ask(check_crl, holder.as_cert()) {
+        Ok(()) => {
+            if covers(holder, content) {
+                Ok(())
+            } else {
+                Err(ValidationError::Verification(VerificationError::Uncovered))
+            }
+        }
+        Err(error) => Err(error),
+    }
+}
+
+/// A route origin attestation that is validated: it is let go where it is refused. A call asks the verifier at most twice:
+/// for the content, then for the certificate. `strict` refuses UTF8Strings in names. `Memory` comes only where a growth of
+/// memory was refused, here or in `check_crl`; nothing follows from it for the object.
+pub trait ProcessRoa {
+    // The object, with what its content says.
+    ghost roa: { Self → KindValue RoaValue };
+
+    /// The certificate with what it holds at a moment below the issuer, and what is attested, where the object is accepted,
+    /// `check_crl` doesn't refuse its certificate, and all prefixes are held by that (RFC 9582 5); else the first test that
+    /// fails, in this order. `check_crl` is called once where the object is accepted, and else not at all.
+    fn process_at<D: Digester, V: Verifier, F: FnOnce(&Cert) -> Result<(), ValidationError> + Drop>(
+        self,
+        alloc: Global,
+        issuer: &ResourceCert,
+        strict: bool,
+        now: Time,
+        digester: &D,
+        verifier: &mut V,
+        check_crl: F,
+    ) -> Result<(ResourceCert, RouteOriginAttestation), ValidationError>
+        requires { F.IsAlwaysCallable check_crl }
+        ensures processes { ProcessesRoa
+            (FnOnceReturnsAt F.FnOnce check_crl (roa self).signed.cert)
+            (digests_of D.sha256_digest D.sha1_digest digester.now) (V.says verifier.old)
+            strict now issuer.now.holder (roa self) result }
+        ensures tal { IfOk result (λ p. p.0.tal ≡ issuer.now.tal) }
+        ensures outside { IfErr result
+            (TellsNumbers (roa self).signed.cert (held_by issuer.now.holder)) }
+        ensures same { V.says verifier.new ≡ V.says verifier.old }
+        ensures asked { V.count verifier.new ≤ V.count verifier.old + 2 };
+
+    /// As `process_at`, at the moment that the clock tells, which is asked once, first.
+    fn process<
+        C: Clock,
+        D: Digester,
+        V: Verifier,
+        F: FnOnce(&Cert) -> Result<(), ValidationError> + Drop,
+    >(
+        self,
+        alloc: Global,
+        issuer: &ResourceCert,
+        strict: bool,
+        clock: &C,
+        digester: &D,
+        verifier: &mut V,
+        check_crl: F,
+    ) -> Result<(ResourceCert, RouteOriginAttestation), ValidationError>
+        requires { F.IsAlwaysCallable check_crl }
+        ensures processes { (moment : ℕ) × C.tells clock.now moment × ProcessesRoa
+            (FnOnceReturnsAt F.FnOnce check_crl (roa self).signed.cert)
+            (digests_of D.sha256_digest D.sha1_digest digester.now) (V.says verifier.old)
+            strict moment issuer.now.holder (roa self) result }
+        ensures tal { IfOk result (λ p. p.0.tal ≡ issuer.now.tal) }
+        ensures outside { IfErr result
+            (TellsNumbers (roa self).signed.cert (held_by issuer.now.holder)) }
+        ensures same { V.says verifier.new ≡ V.says verifier.old }
+        ensures asked { V.count verifier.new ≤ V.count verifier.old + 2 };
+}
+
+impl ProcessRoa for Roa {
+    ghost roa = { λ k. k };
+
+    fn process_at<D: Digester, V: Verifier, F: FnOnce(&Cert) -> Result<(), ValidationError> + Drop>(
+        self,
+        alloc: Global,
+        issuer: &ResourceCert,
+        strict: bool,
+        now: Time,
+        digester: &D,
+        verifier: &mut V,
+        check_crl: F,
+    ) -> Result<(ResourceCert, RouteOriginAttestation), ValidationError> {
+        let (signed, content) = self.into_parts();
+        match signed.validate_at(alloc, issuer, strict, now, digester, verifier) {
+            Ok(holder) => {
+                let tested = test(&holder, &content, check_crl);
+                together::join_if(holder, content, tested)
+            }
+            Err(error) => {
+                drop(content);
+                Err(error)
+            }
+        }
+    }
+
+    fn process<
+        C: Clock,
+        D: Digester,
+        V: Verifier,
+        F: FnOnce(&Cert) -> Result<(), ValidationError> + Drop,
+    >(
+        self,
+        alloc: Global,
+        issuer: &ResourceCert,
+        strict: bool,
+        clock: &C,
+        digester: &D,
+        verifier: &mut V,
+        check_crl: F,
+    ) -> Result<(ResourceCert, RouteOriginAttestation), ValidationError> {
+        let now = clock.now();
+        self.process_at(alloc, issuer, strict, now, digester, verifier, check_crl)
+    }
+}
