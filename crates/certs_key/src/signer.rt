@@ -45,7 +45,7 @@ pub trait Signer {
     ) -> Result<PublicKey, SigningError<Self::Error>>;
 
     /// A signature of the data by that key and algorithm.
-    fn sign<A: SignatureAlgorithm>(
+    fn sign<A: SignatureAlgorithm + Drop>(
         &self,
         alloc: Global,
         key: &Self::KeyId,
@@ -55,7 +55,7 @@ pub trait Signer {
         ensures algorithm { IfOk result (λ signature. signature.algorithm ≡ algorithm) };
 
     /// A signature of the data by a key that is made for it alone, and that key.
-    fn sign_one_off<A: SignatureAlgorithm>(
+    fn sign_one_off<A: SignatureAlgorithm + Drop>(
         &self,
         alloc: Global,
         algorithm: A,

@@ -9,7 +9,8 @@ use Rattle.rpki_reach.specs.rpki_rules.World.{World}
 use Rattle.rpki_reach.specs.rpki_rules.Attests.{Payload, Trace}
 use Rattle.rpki_reach.specs.rpki_rules.Reach.{NamesOne, IsReached, SomeLocatorNames, IsReach, Held}
 use Rattle.rpki_reach.proofs.of_rpki_report.Lists.{mem_append}
-use Rattle.rpki_walk.specs.Facts.{Refuses, Shows, Originates, Provides, Reaches, ShownBy, ReachedBy, Gains, IsTold}
+use Rattle.rpki_reach.specs.rpki_report.Views.{Way}
+use Rattle.rpki_walk.specs.Facts.{Refuses, Shows, Originates, Provides, Reaches, Chains, ShownBy, ReachedBy, Gains, IsTold}
 use Rattle.rpki_reach.specs.Gathered.{InSome, AreUnionOf, has_gathered, IsReaches}
 use Rattle.rpki_reach.specs.declared.gather.Gatherer.{Gatherer}
 use Rattle.rpki_reach.proofs.Sets.{runs_same}
@@ -20,6 +21,7 @@ refuse_gains g name why (Shows s) t = absurd t
 refuse_gains g name why (Originates s) t = absurd t
 refuse_gains g name why (Provides s) t = absurd t
 refuse_gains g name why (Reaches k n) t = (λ m. inl m, λ m. elim m [ inl a ↦ a | inr e ↦ absurd (let p = e in cc) ])
+refuse_gains g name why (Chains v) t = absurd t
 
 pub show_gains : (g : Gatherer) (t : Trace) (x : Payload) → Gains IsReaches (has_gathered g) (ShownBy t x) (has_gathered g)
 show_gains g t x (Refuses n y) q = absurd q
@@ -27,14 +29,16 @@ show_gains g t x (Shows s) q = absurd q
 show_gains g t x (Originates s) q = absurd q
 show_gains g t x (Provides s) q = absurd q
 show_gains g t x (Reaches k n) q = (λ m. inl m, λ m. elim m [ inl a ↦ a | inr e ↦ absurd e ])
+show_gains g t x (Chains v) q = absurd q
 
 -- An authority that names none, and one that names one.
-pub none_gains : (g : Gatherer) (uris : List (List ℕ)) (w : World) (sets : Resources) (ca : Cert) → ¬ (NamesOne uris w ca) → Gains IsReaches (has_gathered g) (ReachedBy uris w (InSet sets) ca) (has_gathered g)
-none_gains g uris w sets ca lacks (Refuses n y) q = absurd q
-none_gains g uris w sets ca lacks (Shows s) q = absurd q
-none_gains g uris w sets ca lacks (Originates s) q = absurd q
-none_gains g uris w sets ca lacks (Provides s) q = absurd q
-none_gains g uris w sets ca lacks (Reaches k n) q = (λ m. inl m, λ m. elim m [ inl a ↦ a | inr e ↦ absurd (lacks e.0) ])
+pub none_gains : (g : Gatherer) (uris : List (List ℕ)) (w : World) (sets : Resources) (way : Way) (ca : Cert) → ¬ (NamesOne uris w ca) → Gains IsReaches (has_gathered g) (ReachedBy uris w (InSet sets) way ca) (has_gathered g)
+none_gains g uris w sets way ca lacks (Refuses n y) q = absurd q
+none_gains g uris w sets way ca lacks (Shows s) q = absurd q
+none_gains g uris w sets way ca lacks (Originates s) q = absurd q
+none_gains g uris w sets way ca lacks (Provides s) q = absurd q
+none_gains g uris w sets way ca lacks (Reaches k n) q = (λ m. inl m, λ m. elim m [ inl a ↦ a | inr e ↦ absurd (lacks e.0) ])
+none_gains g uris w sets way ca lacks (Chains v) q = absurd q
 
 some_more : (old new : List Resources) (s sets : Resources) → new ≡ old ++ s ∷ [] → s ≡ sets → (k : Kind) (n : ℕ) → InSome new k n ↔ (InSome old k n ⊎ InSet sets k n)
 some_more old new s sets e f k n = (
@@ -48,15 +52,16 @@ some_more old new s sets e f k n = (
   ],
 )
 
-pub one_gains : (f g : Gatherer) (uris : List (List ℕ)) (w : World) (s sets : Resources) (ca : Cert) → NamesOne uris w ca → g.sets.items ≡ f.sets.items ++ s ∷ [] → s ≡ sets → Gains IsReaches (has_gathered f) (ReachedBy uris w (InSet sets) ca) (has_gathered g)
-one_gains f g uris w s sets ca names e h (Refuses n y) q = absurd q
-one_gains f g uris w s sets ca names e h (Shows t) q = absurd q
-one_gains f g uris w s sets ca names e h (Originates t) q = absurd q
-one_gains f g uris w s sets ca names e h (Provides t) q = absurd q
-one_gains f g uris w s sets ca names e h (Reaches k n) q = let m = some_more f.sets.items g.sets.items s sets e h k n in (
+pub one_gains : (f g : Gatherer) (uris : List (List ℕ)) (w : World) (s sets : Resources) (way : Way) (ca : Cert) → NamesOne uris w ca → g.sets.items ≡ f.sets.items ++ s ∷ [] → s ≡ sets → Gains IsReaches (has_gathered f) (ReachedBy uris w (InSet sets) way ca) (has_gathered g)
+one_gains f g uris w s sets way ca names e h (Refuses n y) q = absurd q
+one_gains f g uris w s sets way ca names e h (Shows t) q = absurd q
+one_gains f g uris w s sets way ca names e h (Originates t) q = absurd q
+one_gains f g uris w s sets way ca names e h (Provides t) q = absurd q
+one_gains f g uris w s sets way ca names e h (Reaches k n) q = let m = some_more f.sets.items g.sets.items s sets e h k n in (
   λ a. elim (m.0 a) [ inl b ↦ inl b | inr b ↦ inr (names, b) ],
   λ a. m.1 (elim a [ inl b ↦ inl b | inr b ↦ inr b.1 ]),
 )
+one_gains f g uris w s sets way ca names e h (Chains v) q = absurd q
 
 -- What is told to be reached is what is reached.
 told_reached : (uris : List (List ℕ)) (w : World) (k : Kind) (n : ℕ) → IsTold uris w (Reaches k n) ↔ IsReached uris w k n

@@ -4,7 +4,7 @@ use Rattle.rpki_reach.specs.resources_chain.Sets.{IsRunsOf}
 use Rattle.rpki_reach.specs.resources_set.Resources.{Resources}
 use Rattle.rpki_reach.specs.rpki_rules.Words.{Mem}
 use Rattle.rpki_reach.specs.rpki_rules.Kinds.{Kind, of_kind, InSet}
-use Rattle.rpki_walk.specs.Facts.{Told, Refuses, Shows, Originates, Provides, Reaches}
+use Rattle.rpki_walk.specs.Facts.{Told, Refuses, Shows, Originates, Provides, Reaches, Chains}
 use Rattle.rpki_reach.specs.declared.gather.Gatherer.{Gatherer}
 
 -- The number is in one of the sets.
@@ -22,6 +22,7 @@ has_gathered g (Shows t) = ⊥
 has_gathered g (Originates o) = ⊥
 has_gathered g (Provides p) = ⊥
 has_gathered g (Reaches k n) = InSome g.sets.items k n
+has_gathered g (Chains v) = ⊥
 
 -- What is reached, and nothing else.
 abbrev pub IsReaches : Told → Type 0
@@ -30,3 +31,4 @@ IsReaches (Shows t) = ⊥
 IsReaches (Originates o) = ⊥
 IsReaches (Provides p) = ⊥
 IsReaches (Reaches k n) = Unit {0}
+IsReaches (Chains v) = ⊥

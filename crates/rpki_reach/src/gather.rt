@@ -25,7 +25,13 @@ impl<'a, S: Naming> Visitor<S> for Gatherer<'a> {
 
     ghost uris = { λ g. g.wanted.now };
 
-    fn visit(&mut self, alloc: Global, steps: &mut S, ca: &S::Authority) -> Result<(), AllocError> {
+    fn visit(
+        &mut self,
+        alloc: Global,
+        steps: &mut S,
+        _path: &Rc<Path>,
+        ca: &S::Authority,
+    ) -> Result<(), AllocError> {
         let keys = steps.named_keys(alloc, ca)?;
         if names_any(self.wanted, &keys) {
             self.sets.push(steps.held(ca)?)?;

@@ -1,7 +1,8 @@
-//! What one authority can reach: the numbers of the accepted chains that name one of some URIs.
+//! What one authority can reach: the numbers of the accepted chains that name one of some URIs, and which chains these are.
 #![tactic(auto)]
 
 pub mod answer;
+pub mod chains;
 mod gather;
 mod keys;
 mod locators;
@@ -10,6 +11,7 @@ mod union;
 pub mod whole;
 
 pub use answer::Reach;
+pub use chains::naming_chains;
 pub use naming::Naming;
 pub use resources::{Ipv4Blocks, Ipv6Blocks, ResourceSet, laws};
 pub use rpki_walk::walk;

@@ -3,6 +3,7 @@
 #![tactic(auto)]
 
 pub mod index;
+pub mod keys;
 mod search;
 mod sought;
 pub mod verifier;

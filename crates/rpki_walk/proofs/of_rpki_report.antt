@@ -1,2 +1,3 @@
 -- Lemmas of rpki_report, for the crates above.
 pub use Rattle.rpki_report.proofs.Lists
+pub use Rattle.rpki_report.proofs.Sets

@@ -3,7 +3,7 @@ use Rattle.std.specs.Prelude.{List, map}
 use Rattle.rpki_walk.specs.rpki_rules.Words.{Mem}
 use Rattle.rpki_report.specs.Views.{origin_of, provision_of, refusal_of, trace_of}
 use Rattle.rpki_walk.specs.declared.whole.Findings.{Findings}
-use Rattle.rpki_walk.specs.Facts.{Told, Refuses, Shows, Originates, Provides, Reaches}
+use Rattle.rpki_walk.specs.Facts.{Told, Refuses, Shows, Originates, Provides, Reaches, Chains}
 
 -- What was found has this.
 abbrev pub has_found : Findings → Told → Type 0
@@ -12,11 +12,13 @@ has_found f (Shows t) = Mem (map trace_of f.witnesses.items) t
 has_found f (Originates o) = Mem (map origin_of f.origins.items) o
 has_found f (Provides p) = Mem (map provision_of f.provisions.items) p
 has_found f (Reaches k n) = ⊥
+has_found f (Chains v) = ⊥
 
--- What is attested or refused, and not what is reached.
+-- What is attested or refused, and not what is reached, and by which chains.
 abbrev pub IsLine : Told → Type 0
 IsLine (Refuses name why) = Unit {0}
 IsLine (Shows t) = Unit {0}
 IsLine (Originates o) = Unit {0}
 IsLine (Provides p) = Unit {0}
 IsLine (Reaches k n) = ⊥
+IsLine (Chains v) = ⊥

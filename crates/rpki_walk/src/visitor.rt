@@ -22,10 +22,16 @@ pub trait Visitor<S: Steps> {
     ghost uris: { Self → List (List ℕ) };
 
     /// An accepted chain has this last certificate.
-    fn visit(&mut self, alloc: Global, steps: &mut S, ca: &S::Authority) -> Result<(), AllocError>
+    fn visit(
+        &mut self,
+        alloc: Global,
+        steps: &mut S,
+        path: &Rc<Path>,
+        ca: &S::Authority,
+    ) -> Result<(), AllocError>
         ensures gained { OnOk result (Gains wants (has self.old)
-            (ReachedBy (uris self.old) (S.world steps.old) (InSet (S.sets ca.now)) (S.cert ca.now))
-            (has self.new)) }
+            (ReachedBy (uris self.old) (S.world steps.old) (InSet (S.sets ca.now))
+            (way_of path.now.value) (S.cert ca.now)) (has self.new)) }
         ensures kept { uris self.new ≡ uris self.old }
         ensures same { S.world steps.new ≡ S.world steps.old }
         ensures lender { S.lender steps.new ≡ S.lender steps.old };

@@ -32,6 +32,7 @@ impl<S: Steps> Visitor<S> for Findings {
         &mut self,
         _alloc: Global,
         _steps: &mut S,
+        _path: &Rc<Path>,
         _ca: &S::Authority,
     ) -> Result<(), AllocError> {
         Ok(())

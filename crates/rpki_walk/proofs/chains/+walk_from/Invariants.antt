@@ -15,5 +15,5 @@ invariant-loop-file g l = record {
   same : g.S.Steps.world l.steps ≡ g.S.Steps.world l.fn.steps;
   lender : g.S.Steps.lender l.steps ≡ g.S.Steps.lender l.fn.steps;
   kept : g.V.Visitor.uris l.visitor ≡ g.V.Visitor.uris l.fn.visitor;
-  gained : (name : List ℕ) (a : Link) (cs : List Link) (p : Point) → Stand name a cs (way_of l.path.value) l.keys l.uri (g.S.Steps.cert l.ca) (g.S.Steps.sets l.ca) → Accepted (g.S.Steps.world l.fn.steps) name a cs → StandsIn (g.S.Steps.world l.fn.steps) (InSet (g.S.Steps.sets l.ca)) (g.S.Steps.cert l.ca) p → Gains g.V.Visitor.wants (g.V.Visitor.has l.fn.visitor) (λ x. ReachedBy (g.V.Visitor.uris l.fn.visitor) (g.S.Steps.world l.fn.steps) (InSet (g.S.Steps.sets l.ca)) (g.S.Steps.cert l.ca) x ⊎ ((u : List ℕ) × Mem (take l.file-index l.file-items) u × FromFile (g.V.Visitor.uris l.fn.visitor) (g.S.Steps.world l.fn.steps) name a cs p u x)) (g.V.Visitor.has l.visitor);
+  gained : (name : List ℕ) (a : Link) (cs : List Link) (p : Point) → Stand name a cs (way_of l.path.value) l.keys l.uri (g.S.Steps.cert l.ca) (g.S.Steps.sets l.ca) → Accepted (g.S.Steps.world l.fn.steps) name a cs → StandsIn (g.S.Steps.world l.fn.steps) (InSet (g.S.Steps.sets l.ca)) (g.S.Steps.cert l.ca) p → Gains g.V.Visitor.wants (g.V.Visitor.has l.fn.visitor) (λ x. ReachedBy (g.V.Visitor.uris l.fn.visitor) (g.S.Steps.world l.fn.steps) (InSet (g.S.Steps.sets l.ca)) (way_of l.path.value) (g.S.Steps.cert l.ca) x ⊎ ((u : List ℕ) × Mem (take l.file-index l.file-items) u × FromFile (g.V.Visitor.uris l.fn.visitor) (g.S.Steps.world l.fn.steps) name a cs p u x)) (g.V.Visitor.has l.visitor);
 }
