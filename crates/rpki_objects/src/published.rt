@@ -74,6 +74,8 @@ impl Published {
     pub fn into_payload(self) -> Payload
         ensures { payload_of result ≡ self.payload }
     {
-        self.payload
+        let Published { signed, payload } = self;
+        drop(signed);
+        payload
     }
 }

@@ -34,6 +34,7 @@ fn file_of_authority<D: Digester, V: Verifier>(
     ensures same { V.says verifier.new ≡ V.says verifier.old }
 {
     if !is_unrevoked(alloc, &cert, point.manifest_cert(), point.crl())? {
+        drop(cert);
         return Ok(Filed::Bad);
     }
     addresses_are_whole();
@@ -64,6 +65,7 @@ pub fn read_cert_file<D: Digester, V: Verifier>(
         return Ok(Filed::Bad);
     };
     if cert.tbs().basic_ca() != Some(true) {
+        drop(cert);
         return Ok(Filed::Nothing);
     }
     file_of_authority(alloc, cert, ca, point, index, digester, verifier)

@@ -69,6 +69,7 @@ pub fn read_payload_file<D: Digester, V: Verifier>(
     if is_within(alloc, &object, ca)? {
         Ok(Filed::Attests(object.into_payload()))
     } else {
+        drop(object);
         Ok(Filed::Bad)
     }
 }

@@ -37,6 +37,7 @@ pub fn read_point<D: Digester, V: Verifier>(
     if fits_below(alloc, point.manifest_cert(), ca) {
         Ok(Some(point))
     } else {
+        drop(point);
         Ok(None)
     }
 }
