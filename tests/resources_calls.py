@@ -664,6 +664,15 @@ def looked_up(q):
         for text in PREFIXES:
             is_had = any(is_in(wide_run(text), run) for run in runs)
             q.ask([is_had] * 3, "list", "within", set_, text)
+    thousand(q)
+
+
+def thousand(q):
+    """The chain of the worked case `probes`: 0, 2, .., 1998. Each number is found by 10 looks at most, or missed."""
+    chain = listed([(2 * i, 2 * i) for i in range(1000)])
+    for number in (0, 1, 2, 998, 999, 1000, 1001, 1996, 1997, 1998, 1999, LAST):
+        is_even = number < 2000 and number % 2 == 0
+        q.ask([number // 2 if is_even else None, True, is_even], "list", "chain", chain, asn(number))
 
 
 def main():
