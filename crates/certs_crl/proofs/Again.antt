@@ -214,8 +214,8 @@ both_extensions m P V text w =
           first = a.alone.tree;
           others = s.is.second;
           whole = s.is.whole ∙ ap (λ (l : Trees). joined l s.is.second) a.alone.alone;
-          is = a.alone.is;
-          rest = record { first = b.alone.tree; others = none; whole = b.alone.alone; is = b.alone.is; rest = record { ended = refl } };
+          is = record { is = a.alone.is; meets = inl refl };
+          rest = record { first = b.alone.tree; others = none; whole = b.alone.alone; is = record { is = b.alone.is; meets = inr refl }; rest = record { ended = refl } };
         };
       };
       spelled = s.spelled;

@@ -6,4 +6,5 @@ mod Spelled
 mod Stored
 mod Again
 mod Writing
+mod Signed
 pub mod of_bcder_content

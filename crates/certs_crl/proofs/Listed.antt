@@ -11,14 +11,15 @@ use Rattle.certs_crl.specs.bcder_content.Exact.{Gives, Lacks}
 use Rattle.certs_crl.specs.bcder_content.Grammar.{End, Inside, Many, OneAll, Opt, OptCases, Then}
 use Rattle.certs_crl.specs.bcder_content.Words.{Gathers}
 use Rattle.certs_crl.proofs.of_bcder_content.Took.{one_took}
-use Rattle.certs_crl.proofs.of_bcder_content.Unique.{end_one, inside_one, inside_tagged, many_one, opt_one, same_trees, same_values, then_one}
+use Rattle.certs_crl.proofs.of_bcder_content.Unique.{end_one, inside_one, inside_tagged, many_one, opt_one, same_trees, same_values, such_one, then_one}
 use Rattle.certs_crl.specs.certs_basics.Basics.{IsAlgorithm}
 use Rattle.certs_basics.proofs.Values.{algorithm_one}
 use Rattle.certs_revoked.proofs.of_certs_specs.Values.{extension_one}
 use Rattle.certs_revoked.specs.Listing.{entry_one}
 use Rattle.certs_revoked.specs.certs_specs.CrlText.{AreRevoked, HasListExtensions, IsTbsList, IsTbsListBody, ListFields, RevokedValue, TbsListValue}
 use Rattle.certs_revoked.specs.certs_specs.Extensions.{Extension, IsExtension}
-use Rattle.certs_crl.specs.Reading.{Finishes, IsPair, IsRead, IsReadBody, IsTail, Pair, ReadFields, SaysBoth, SaysRead, TailFields, list_of, pair_of}
+use Rattle.certs_crl.specs.Reading.{Finishes, IsOfList, IsPair, IsRead, IsReadBody, IsTail, Pair, ReadFields, SaysBoth, SaysRead, TailFields, list_of, pair_of}
+use Rattle.certs_crl.proofs.Pairs.{both_known}
 
 -- The first value stays, and other values stand behind it.
 with_rest : {A B C : Type 0} {Q : Tree → A → Type 0} {R : Trees → B → Type 0} {S : Trees → C → Type 0} {ts : Trees} {x : A × B} {y : C}
@@ -72,7 +73,7 @@ IsListTail m = Opt (universal 16) AreRevoked (IsLast (Gathers (IsExtension m) th
 pair_list : {m : Mode} (p : Pair) (ts : Trees) → IsPair m ts p → Gathers (IsExtension m) the_list ts (list_of p)
 pair_list p ts h = record {
   xs = list_of p;
-  are = record { cases = (h.first, h.others, h.whole, h.is, (h.rest.first, h.rest.others, h.rest.whole, h.rest.is, h.rest.rest.ended)) };
+  are = record { cases = (h.first, h.others, h.whole, h.is.is, (h.rest.first, h.rest.others, h.rest.whole, h.rest.is.is, h.rest.rest.ended)) };
   says = refl;
 }
 
@@ -82,16 +83,16 @@ two (a ∷ []) e = absurd (omega arith)
 two (a ∷ b ∷ []) e = ((a, (b, tt)), refl)
 two (a ∷ b ∷ c ∷ all) e = absurd (omega arith)
 
-list_pair : {m : Mode} (p : Pair) (ts : Trees) → Gathers (IsExtension m) the_list ts (list_of p) → IsPair m ts p
-list_pair {m} p ts h =
+list_pair : {m : Mode} (p : Pair) (ts : Trees) → IsOfList p.0 × IsOfList p.1.0 → Gathers (IsExtension m) the_list ts (list_of p) → IsPair m ts p
+list_pair {m} p ts known h =
     let k : Many (IsExtension m) ts (list_of p) = subst (λ (es : List Extension). Many (IsExtension m) ts es) h.says h.are in
     let c = k.cases in
     record {
       first = c.0;
       others = c.1;
       whole = c.2;
-      is = c.3;
-      rest = record { first = c.4.0; others = c.4.1; whole = c.4.2; is = c.4.3; rest = record { ended = c.4.4 } };
+      is = record { is = c.3; meets = known.0 };
+      rest = record { first = c.4.0; others = c.4.1; whole = c.4.2; is = record { is = c.4.3; meets = known.1 }; rest = record { ended = c.4.4 } };
     }
 
 -- From the fields as they were read to the list's.
@@ -128,15 +129,17 @@ tbs_read {m} {t} {c} p =
     let all : List Extension = f.1.1.1.1.1.1.0.0 in
     let has : HasListExtensions all c = p.says.extensions in
     let pair = two all has.count in
+    let both : SaysBoth all c.authority_key_identifier c.number = record { key_is = has.authority_key_identifier; number_is = has.number } in
+    let said : SaysBoth (list_of pair.0) c.authority_key_identifier c.number = subst (λ (es : List Extension). SaysBoth es c.authority_key_identifier c.number) pair.1 both in
+    let known = both_known pair.0.0 pair.0.1.0 c.authority_key_identifier c.number said in
     let tail : IsTail m a.rest.rest.rest.rest.others (f.1.1.1.1.1.0, ((pair.0, tt), tt)) =
-    with_opt (λ us l. within us (λ vs h. list_pair pair.0 vs (subst (λ (es : List Extension). Gathers (IsExtension m) the_list vs es) pair.1 h)) l) a.rest.rest.rest.rest.rest in
+    with_opt (λ us l. within us (λ vs h. list_pair pair.0 vs known (subst (λ (es : List Extension). Gathers (IsExtension m) the_list vs es) pair.1 h)) l) a.rest.rest.rest.rest.rest in
     let g : ReadFields = (f.0, (f.1.0, (f.1.1.0, (f.1.1.1.0, (f.1.1.1.1.0, (f.1.1.1.1.1.0, ((pair.0, tt), tt))))))) in
     let body : IsReadBody m p.is.values g = with_rest a (with_rest a.rest (with_rest a.rest.rest (with_rest a.rest.rest.rest (with_rest a.rest.rest.rest.rest tail)))) in
-    let both : SaysBoth all c.authority_key_identifier c.number = record { key_is = has.authority_key_identifier; number_is = has.number } in
     record {
       fields = g;
       is = record { values = p.is.values; whole = p.is.whole; is = body };
-      both = subst (λ (es : List Extension). SaysBoth es c.authority_key_identifier c.number) pair.1 both;
+      both = said;
     }
 
 -- Values behind the first are the same, where all are.
@@ -145,7 +148,7 @@ same_rest : {A B C D : Type 0} {Q : Tree → A → Type 0} {R : Trees → B → 
 same_rest e h k = (same_trees (sym h.whole ∙ e ∙ k.whole)).1
 
 tail_one : {m : Mode} → OneAll (IsTail m)
-tail_one = opt_one (inside_tagged _ _) (inside_one (many_one entry_one)) (then_one (inside_one (then_one (inside_one (then_one extension_one (then_one extension_one end_one))) end_one)) end_one)
+tail_one = opt_one (inside_tagged _ _) (inside_one (many_one entry_one)) (then_one (inside_one (then_one (inside_one (then_one (such_one extension_one) (then_one (such_one extension_one) end_one))) end_one)) end_one)
 
 -- One value has its two extensions in one way: the name in it, whose octets are kept, needn't be the same.
 same_pair : {m : Mode} {t : Tree} {f g : ReadFields} → IsRead m t f → IsRead m t g → pair_of f ≡ pair_of g

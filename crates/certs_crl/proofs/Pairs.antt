@@ -2,11 +2,14 @@
 use Rattle.std.proofs.Common.{◌≡◌, ◌≢◌, ◌⊎◌, ℕ, Bool, true, false, List, [], ◌∷◌, Some, Result, Ok, Err, inl, inr, refl, sym, ◌∙◌, subst, bytes_eq, if◌then◌else◌}
 use Rattle.std.proofs.lemmas.Slice.Eq.{bytes_eq-Decides}
 use Rattle.std.specs.Result.{IsErr, IsErrAnd}
-use Rattle.certs_crl.specs.bcder_tree.Tags.{universal}
+use Rattle.certs_crl.specs.bcder_tree.Tags.{TagValue, universal}
 use Rattle.certs_crl.specs.bcder_tree.Tree.{Tree}
 use Rattle.certs_crl.specs.bcder_source.Errors.{OnContent}
 use Rattle.certs_crl.specs.bcder_source.declared.error.DecodeError.{DecodeError}
-use Rattle.certs_crl.specs.bcder_content.Grammar.{Tagged}
+use Rattle.certs_crl.specs.bcder_source.declared.error.DecodeError.TheVariants.{Content, Source, Memory}
+use Rattle.certs_crl.specs.bcder_content.Contents.{Unlike, ValuesLeft, Whole}
+use Rattle.certs_crl.specs.bcder_content.Exact.{Gives, GivesAll, Lacks, LacksAll, LacksTagged}
+use Rattle.certs_crl.specs.bcder_content.Grammar.{End, Tagged}
 use Rattle.certs_crl.specs.bcder_content.Texts.{ReadsFront}
 use Rattle.certs_crl.specs.certs_basics.Identifiers as id
 use Rattle.certs_crl.specs.bcder_tree.declared.mode.Mode.{Mode}
@@ -14,13 +17,39 @@ use Rattle.certs_crl.specs.bcder_tree.declared.mode.Mode.TheVariants.{Der}
 use Rattle.certs_crl.specs.bcder_tree.Front.{Front}
 use Rattle.certs_crl.specs.certs_basics.Basics.{IsSerial}
 use Rattle.certs_revoked.specs.certs_specs.Extensions.{Extension, IsAuthority, IsAuthorityKeyIdentifier, IsExtension, IsOptional, May}
-use Rattle.certs_crl.specs.Reading.{AreFronts, ReadsBoth, ReadsFronts, SaysBoth}
+use Rattle.certs_crl.specs.Invalid.{TellsInvalid}
+use Rattle.certs_crl.specs.Reading.{AreFronts, IsListExtension, IsOfList, ReadsBoth, ReadsFronts, SaysBoth}
+use Rattle.certs_revoked.proofs.of_certs_specs.Values.{extension_one}
+use Rattle.certs_crl.proofs.of_bcder_content.Choices.{such_refused}
 use Rattle.certs_crl.proofs.of_bcder_content.Fronts.{front_lacks, front_reads}
+use Rattle.certs_crl.proofs.of_bcder_content.InMode.{filled_end}
 use Rattle.certs_crl.proofs.of_bcder_content.Taking.{weaker}
+use Rattle.certs_crl.proofs.of_bcder_content.Took.{ended_none, whole_none}
 use Rattle.certs_crl.proofs.of_bcder_content.Unique.{as_tagged, inside_tagged}
 
 pub extension_tagged : {m : Mode} → Tagged (universal 16) (IsExtension m)
 extension_tagged {m} = as_tagged (inside_tagged _ _)
+
+-- The extension that is next isn't one of the list's.
+pub unknown_lacks : {m : Mode} {now new : ValuesLeft} {e : Extension} → Gives (IsExtension m) now e new → (IsOfList e → ⊥) → Lacks (IsListExtension m) now
+unknown_lacks g refuses = such_refused extension_one g refuses
+
+-- Nothing is next, or something is.
+
+pub no_more : {tag : TagValue} {now new : ValuesLeft} → (new ≡ now) × Unlike now tag → GivesAll End now tt new
+no_more {now = now} h = subst (λ (v : ValuesLeft). GivesAll End now tt v) (sym h.0) (filled_end.gives h.1.sound)
+
+pub some_more : {A : Type 0} {Q : Tree → A → Type 0} {now new : ValuesLeft} {x : A} → Gives Q now x new → LacksAll End now
+some_more {now = now} g = record { none = λ ts x p w. ended_none (whole_none (subst (Whole now) p.ended w)) g.took }
+
+pub goes_on : {A : Type 0} {tag : TagValue} {Q : Tree → A → Type 0} {now : ValuesLeft} → LacksTagged tag Q now → LacksAll End now
+goes_on {now = now} l = record { none = λ ts x p w. l.goes_on (whole_none (subst (Whole now) p.ended w)) }
+
+-- An extension is refused, by a text or for want of memory.
+pub told_refused : {E P : Type 0} (kind : List ℕ) (e : DecodeError E) → TellsInvalid kind e → P → OnContent e P
+told_refused kind (Content error pos) h p = p
+told_refused kind (Source error) h p = tt
+told_refused kind Memory h p = tt
 
 -- Those of two extensions that are of a kind.
 abbrev picked : Bool → Bool → Extension → Extension → List Extension
@@ -91,6 +120,13 @@ named_by e f key number s = elim (one_alone (bytes_eq e.kind id.authority_key_id
     | inl n ↦ inr ((of_true f id.authority_key_identifier k.1, of_true e id.crl_number n.0), record { key_is = k.2; number_is = n.2 })
     | inr n ↦ absurd (never_both f (of_true f id.authority_key_identifier k.1) (of_true f id.crl_number n.1))
   ]
+]
+
+-- Where both are said each of the two is one of the list's.
+pub both_known : (e f : Extension) (key : List ℕ) (number : ℕ) → SaysBoth (e ∷ f ∷ []) key number → IsOfList e × IsOfList f
+both_known e f key number s = elim (named_by e f key number s) [
+  | inl is ↦ (inl is.0.0, inr is.0.1)
+  | inr is ↦ (inr is.0.1, inl is.0.0)
 ]
 
 pub both_in_order : {E : Type 0} (e f : Extension) (r : Result (List ℕ × ℕ) (DecodeError E)) → AreNamed e f → ReadsFronts e.octets f.octets r → ReadsBoth (e ∷ f ∷ []) r

@@ -3,6 +3,9 @@ pub mod Caches
 pub mod Store
 pub mod Whole
 pub mod Written
+pub mod Signing
+pub mod Invalid
+pub mod Lending
 -- What stands below, for the crates above.
 pub use Rattle.certs_signed.specs.bcder_source as bcder_source
 pub use Rattle.certs_revoked.specs.bcder_content as bcder_content

@@ -1,11 +1,11 @@
 -- How a revocation list is read: its fields, with its two extensions by their octets, and then what these say.
-use Rattle.std.specs.Prelude.{◌≡◌, ℕ, Bool, List, [], ◌∷◌, Option, Some, Result, Ok, Err}
+use Rattle.std.specs.Prelude.{◌≡◌, ◌⊎◌, ℕ, Bool, List, [], ◌∷◌, Option, Some, Result, Ok, Err}
 use Rattle.certs_crl.specs.bcder_tree.declared.mode.Mode.{Mode}
 use Rattle.certs_crl.specs.bcder_tree.Tags.{universal, context}
 use Rattle.certs_crl.specs.bcder_tree.Tree.{Tree, Trees}
 use Rattle.certs_crl.specs.bcder_source.Errors.{OnContent}
 use Rattle.certs_crl.specs.bcder_source.declared.error.DecodeError.{DecodeError}
-use Rattle.certs_crl.specs.bcder_content.Grammar.{Inside, Then, Opt, End}
+use Rattle.certs_crl.specs.bcder_content.Grammar.{Inside, Then, Opt, End, Such}
 use Rattle.certs_crl.specs.bcder_content.Kept.{CapturedValue}
 use Rattle.certs_crl.specs.bcder_content.Texts.{ReadsFront}
 use Rattle.certs_crl.specs.certs_basics.Basics.{IsSerial, IsAlgorithm}
@@ -22,12 +22,23 @@ use Rattle.certs_revoked.specs.certs_specs.Extensions.{Extension, IsAuthorityKey
 abbrev pub alone : {A : Type 0} → A → A × Unit {0}
 alone x = (x, tt)
 
+-- One of the two extensions of a list: authorityKeyIdentifier or cRLNumber (RFC 6487 5).
+abbrev pub IsOfList : Extension → Type 0
+IsOfList e = (e.kind ≡ id.authority_key_identifier) ⊎ (e.kind ≡ id.crl_number)
+
+abbrev pub IsListExtension : Mode → Tree → Extension → Type 0
+IsListExtension m = Such (IsExtension m) IsOfList
+
+-- Nothing further.
+abbrev pub IsNoMore : Mode → Trees → Unit {0} → Type 0
+IsNoMore m = End
+
 -- Two extensions.
 abbrev pub Pair : Type 0
 Pair = Extension × (Extension × Unit {0})
 
 abbrev pub IsPair : Mode → Trees → Pair → Type 0
-IsPair m = Then (IsExtension m) (Then (IsExtension m) End)
+IsPair m = Then (IsListExtension m) (Then (IsListExtension m) End)
 
 abbrev pub pair_fields : Raw × Raw → Pair
 pair_fields x = (extension_value x.0, (extension_value x.1, tt))

@@ -1,7 +1,8 @@
 //! Revocation lists that are built: what is signed of a list, and a signature over it (RFC 5280 5.1.1).
 
-ghost use Rattle.std.specs.Prelude.{◌≡◌, IfOk};
+ghost use Rattle.std.specs.Prelude.{◌≡◌, IfErr, IfOk};
 ghost use Rattle.certs_crl.specs.bcder_tree.declared.mode.Mode.TheVariants.{Der};
+ghost use Rattle.certs_crl.specs.Signing.{SigningRefused};
 ghost use Rattle.certs_crl.specs.Written.{WritesTbsList};
 
 use crate::crl::Crl;
@@ -30,6 +31,7 @@ fn signed_by<S: Signer>(
     ensures message { IfOk result (λ signed. ∥ WritesTbsList tbs.now Der signed.message.octets ∥₁) }
     ensures mode { IfOk result (λ signed. signed.message.mode ≡ Der) }
     ensures algorithm { IfOk result (λ signed. signed.signature.algorithm ≡ tbs.now.has_null) }
+    ensures refused { IfErr result (SigningRefused tbs.now) }
 {
     let message = match message_of(alloc, tbs) {
         Ok(message) => message,
@@ -56,6 +58,7 @@ impl TbsCertList {
         ensures fields { IfOk result (λ crl. crl.tbs ≡ self) }
         ensures algorithm { IfOk result (λ crl. crl.signed.has_null ≡ self.has_null) }
         ensures message { IfOk result (λ crl. ∥ WritesTbsList self Der crl.signed.message ∥₁) }
+        ensures refused { IfErr result (SigningRefused self) }
     {
         match signed_by(alloc, &self, signer, key) {
             Ok(signed) => Ok(Crl::from_parts(signed, self)),

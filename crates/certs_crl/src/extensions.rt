@@ -10,10 +10,13 @@ ghost use Rattle.certs_crl.specs.bcder_content.Here.{here};
 ghost use Rattle.certs_crl.specs.bcder_content.InMode.{ReadsFields};
 ghost use Rattle.certs_crl.specs.certs_basics.Basics.{IsSerial};
 ghost use Rattle.certs_crl.specs.certs_basics.Identifiers as id;
-ghost use Rattle.certs_crl.specs.Reading.{IsPair, IsPaired, ReadsBoth, ReadsFronts, alone, pair_fields};
+ghost use Rattle.certs_crl.specs.Invalid.{TellsInvalid};
+ghost use Rattle.certs_crl.specs.Reading.{IsListExtension, IsNoMore, IsOfList, IsPair, IsPaired};
+ghost use Rattle.certs_crl.specs.Reading.{ReadsBoth, ReadsFronts, alone, pair_fields};
 ghost use Rattle.certs_extension.specs.Raw.{extension_value};
-ghost use Rattle.certs_revoked.specs.certs_specs.Extensions.{IsAuthority, IsExtension};
+ghost use Rattle.certs_revoked.specs.certs_specs.Extensions.{IsAuthority};
 
+use crate::invalid::InvalidExtension;
 use bcder::decode::{Constructed, ContentError, Decode, DecodeError, Pos, Source};
 use bcder::{ConstOid, Mode, Oid, Tag};
 use certs_extension::{Extension, take_authority_key_identifier};
@@ -31,19 +34,69 @@ pub(crate) const CE_AUTHORITY_KEY_IDENTIFIER: ConstOid = Oid(&[85, 29, 35]);
 // The two extensions, in the order in which they stand.
 pub(crate) type Pair = (Extension, Extension);
 
-// The next extension, which has to be there.
+// Whether the extension is one of the two of a list.
+fn is_known(extension: &Extension) -> bool
+    ensures { IsTrue result ↔ IsOfList (extension_value extension.now) }
+{
+    extension.kind.equals(&CE_AUTHORITY_KEY_IDENTIFIER) || extension.kind.equals(&CE_CRL_NUMBER)
+}
+
+// The refusal of an extension that a list doesn't have, which is told by its identifier.
+fn unknown<S: Source>(
+    alloc: Global,
+    cons: &Constructed<S>,
+    extension: Extension,
+) -> DecodeError<S::Error>
+    ensures { TellsInvalid extension.kind.0 result }
+{
+    let Extension {
+        kind,
+        critical: _critical,
+        octets: _octets,
+    } = extension;
+    match InvalidExtension::new(kind).to_content_error(alloc) {
+        Ok(error) => cons.content_err(error),
+        Err(_) => DecodeError::Memory,
+    }
+}
+
+// The next extension, which has to be there, and to be one of the two of a list.
 fn take_extension<S: Source>(
     alloc: Global,
     cons: &mut Constructed<S>,
 ) -> Result<Extension, DecodeError<S::Error>>
-    ensures { ReadsAs extension_value (IsExtension (here S.rest cons.old).mode)
+    ensures { ReadsAs extension_value (IsListExtension (here S.rest cons.old).mode)
         (here S.rest cons.old) result (here S.rest cons.new) }
 {
-    match Extension::take_opt_from(alloc, cons) {
-        Ok(Some(extension)) => Ok(extension),
-        Ok(None) => Err((*cons).content_err(ContentError::from_static("missing extension"))),
-        Err(error) => Err(error),
+    let extension = match Extension::take_opt_from(alloc, cons) {
+        Ok(Some(extension)) => extension,
+        Ok(None) => {
+            return Err((*cons).content_err(ContentError::from_static("missing extension")));
+        }
+        Err(error) => return Err(error),
+    };
+    if is_known(&extension) {
+        return Ok(extension);
     }
+    Err(unknown(alloc, cons, extension))
+}
+
+// No third extension.
+fn take_no_more<S: Source>(
+    alloc: Global,
+    cons: &mut Constructed<S>,
+) -> Result<(), DecodeError<S::Error>>
+    ensures { ReadsFields (λ x. x) IsNoMore (here S.rest cons.old) result (here S.rest cons.new) }
+{
+    let extension = match Extension::take_opt_from(alloc, cons) {
+        Ok(Some(extension)) => extension,
+        Ok(None) => return Ok(()),
+        Err(error) => return Err(error),
+    };
+    if is_known(&extension) {
+        return Err((*cons).content_err(ContentError::from_static("a third extension")));
+    }
+    Err(unknown(alloc, cons, extension))
 }
 
 // Two extensions, up to the end of their content.
@@ -55,6 +108,7 @@ fn take_pair<S: Source>(
 {
     let first = take_extension(alloc, cons)?;
     let second = take_extension(alloc, cons)?;
+    take_no_more(alloc, cons)?;
     Ok((first, second))
 }
 
@@ -152,7 +206,7 @@ fn are_key_and_number(key: &Extension, number: &Extension) -> bool
 }
 
 /// What two extensions say in either order, critical or not: the identifier of the issuer's key and the list's number
-/// (RFC 6487 5). Any others are refused.
+/// (RFC 6487 5). One of them twice is refused.
 pub(crate) fn said_by(
     alloc: Global,
     pair: &Pair,
@@ -170,7 +224,7 @@ pub(crate) fn said_by(
         return values_of(alloc, second, first);
     }
     Err(DecodeError::content(
-        ContentError::from_static("other extensions than those of a revocation list"),
+        ContentError::from_static("an extension that occurs twice"),
         Pos::from(0),
     ))
 }

@@ -1,18 +1,22 @@
 //! Revocation lists (RFC 5280 5, RFC 6487 5): what is signed of a list, field by field, and the list around it.
 //!
-//! [`Crl::decode`] reads a list in DER exactly where the octets begin with one, and keeps the very octets that are signed.
-//! [`Crl::contains`] is membership in the list, with a cache of the serial numbers and without. [`TbsCertList::into_crl`]
-//! builds a list of fields and a signature, which is read again with the same fields.
+//! [`Crl::decode`] reads a list in DER exactly where the octets begin with one, and keeps the very octets that are signed;
+//! an extension that a list doesn't have is told as an [`InvalidExtension`]. [`Crl::contains`] is membership in the list,
+//! with a cache of the serial numbers and without. [`TbsCertList::into_crl`] builds a list of fields and a signature, which
+//! is read again with the same fields.
 //!
 //! What differs from the Rust crate: a [`TbsCertList`] has its revoked certificates as the octets of their entries alone,
-//! which [`RevokedCertificates::from_entries`] makes; a [`Crl`] lends its fields by `as_cert_list`, and isn't dereferenced; whether a list is stale is asked of a moment that is
-//! handed in; what takes memory is given an allocator and answers a `Result`.
+//! which [`RevokedCertificates::from_entries`] makes; a [`Crl`] lends its fields by `as_cert_list`, and isn't dereferenced;
+//! whether a list is stale is asked of a moment that is handed in; what takes memory is given an allocator and answers a
+//! `Result`.
 #![tactic(auto)]
 
 mod building;
+mod claim;
 pub mod crl;
 mod decoding;
 mod extensions;
+pub mod invalid;
 pub mod laws;
 mod reading;
 pub mod setting;
@@ -25,6 +29,7 @@ pub use certs_key::{Signer, SigningError};
 pub use certs_revoked::{CrlEntry, RevokedCertificates, RevokedCertificatesIter, SerialCache};
 pub use certs_time::Time;
 pub use crl::Crl;
+pub use invalid::InvalidExtension;
 pub use store::CrlStore;
 pub use tbs::TbsCertList;
 pub use written::TbsCertListValues;

@@ -1,6 +1,8 @@
-//! Setters of what is signed of a revocation list. Each changes its own field alone.
+//! Setters of what is signed of a revocation list. Each changes its own field alone, or lends it for a change.
 
+ghost use Rattle.std.specs.Borrow.{sem};
 ghost use Rattle.std.specs.Prelude.{◌≡◌};
+ghost use Rattle.certs_crl.specs.Lending.{LendsRevoked};
 
 use crate::tbs::TbsCertList;
 use certs_algorithm::RpkiSignatureAlgorithm;
@@ -43,6 +45,14 @@ impl TbsCertList {
         ensures { self.new ≡ record self.old { revoked = revoked_certs } }
     {
         self.revoked_certs = revoked_certs;
+    }
+
+    /// Lends the revoked certificates, for a change (RFC 5280 5.1.2.6).
+    pub fn revoked_certs_mut(&mut self) -> &mut RevokedCertificates
+        ensures* lends { sem 𝓛 (LendsRevoked self.entry result) }
+        ensures lent { result.now ≡ self.old.revoked }
+    {
+        &mut self.revoked_certs
     }
 
     /// Sets the identifier of the key with which the list is signed (RFC 5280 5.2.1).

@@ -1,5 +1,5 @@
 use Rattle.std.proofs.Common.{refl}
-use Rattle.certs_crl.proofs.of_bcder_content.InMode.{begin, next, stop, done}
+use Rattle.certs_crl.proofs.of_bcder_content.InMode.{begin, finish, next, stop, stop_all}
 use Rattle.certs_crl.proofs.extensions.take_pair.Goals as goal
 
 pub returns-in_err-first : goal.returns-in_err-first
@@ -8,5 +8,8 @@ returns-in_err-first g c = stop _ begin c.from_residual.ensures c.in_err-first.e
 pub returns-in_err-second : goal.returns-in_err-second
 returns-in_err-second g c = stop _ (next begin c.in_ok-first.ensures) c.from_residual-in_err-second.ensures c.in_err-second.ensures
 
+pub returns-in_err-take_no_more : goal.returns-in_err-take_no_more
+returns-in_err-take_no_more g c = stop_all _ (next (next begin c.in_ok-first.ensures) c.in_ok-second.ensures) c.from_residual-in_err-take_no_more.ensures c.in_err-take_no_more.ensures.reads
+
 pub returns : goal.returns
-returns g c = done (next (next begin c.in_ok-first.ensures) c.in_ok-second.ensures) refl
+returns g c = finish (next (next begin c.in_ok-first.ensures) c.in_ok-second.ensures) c.in_ok-take_no_more.ensures.reads refl
