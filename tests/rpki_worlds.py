@@ -1,287 +1,284 @@
 #!/usr/bin/env python3
-"""Random worlds of certificates and objects, and what the rules say of them, by trying all chains.
+"""Writes the questions and answers of crates/rpki_worlds, or asks the built program about other worlds by chance.
 
-    rpki_worlds.py [COUNT [SEED]]
+    rpki_worlds.py [PROGRAM [COUNT [SEED]]]
 
-In a temporary folder a repository is made of the rules' crates and the program rpki_worlds.rt.in, which `rt try` runs
-with no proof. Each world is a list of locators, certificates, points and objects without octets. What is attested,
-refused, judged and reached is told here by the definitions themselves: every list of certificates of a world, up to its
-depth, is tried as a chain. Exits with 1 where an answer differs.
+With a program so many worlds are made by that seed, and it exits with 1 where the program answers otherwise.
 
-Every tenth world is asked again with little memory: so many calls that read a world have it, and the next one wants some.
-Then each answer has to be want of memory or the right one, and a walk with none at all has to be want of memory.
+Worlds are lists of locators and things (tests/rpki_chains.py), made by hand (tests/rpki_hand_worlds.py) and by chance; their
+octets are tests/rpki_repositories.py's. What is answered of a world by chance comes of trying every list of its certificates as
+a chain, and is stated for one made by hand. Each walk is compared with tests/rpki_model.py's, a second reading of the rules that
+reads the octets.
+
+Worlds are changed: depths are others, objects are forged or taken out, a verdict is taken out, and of all objects those alone are
+left that a good witness's chain names. Of each change the laws are asserted: outside what the forged URIs can reach nothing
+changes, and where no chain names them no line does; a greater depth keeps all; without a verdict nothing is attested that wasn't;
+the witness stays good. What is judged is good exactly where the walk has it among its witnesses.
 """
 
-import ipaddress
+import argparse
+import hashlib
 import itertools
-import os
+import pathlib
 import random
 import subprocess
 import sys
-import tempfile
 
-TESTS = os.path.dirname(os.path.abspath(__file__))
-sys.dont_write_bytecode = True
-sys.path.insert(0, os.path.join(TESTS, os.pardir, "bench"))
+import rpki_chains
+import rpki_model
+from rpki_bundles import bundle
+from rpki_chains import FIRST_AS, KINDS, UNITS, Locator, Thing, Walked, World, address, judged, prefix_of, reach_text, reached
+from rpki_hand_worlds import WORLDS, world_said
+from rpki_repositories import ASPA, FIRST, LAST, MANIFEST, ROA, Authority, World as Signer
+from rpki_repositories import aspa, basic, claims_of, locator_text, manifest, policies, roa, usage
 
-import copies  # noqa: E402
-
-NAME = "rpki_worlds"
-LIBRARIES = (
-    "rpki_walk rpki_judge rpki_reach rpki_lines rpki_report rpki_rules rpki_readings rpki_bundle resources_addr "
-    "resources_as resources_as_block resources_asn resources_chain resources_ip resources_ip_block resources_ip_family "
-    "resources_ip_prefix resources_set anyhow bytes"
-).split()
-
-# Of each kind eight numbers, or blocks of as many addresses: AS64496 on, 10.0.0.0/16 on, 2001:db8::/32 on.
-KINDS = ("as", "v4", "v6")
-UNITS = 8
-FIRST_AS = 64496
-FIRST = {"v4": int(ipaddress.ip_address("10.0.0.0")), "v6": int(ipaddress.ip_address("2001:db8::"))}
-SIZE = {"v4": 2**16, "v6": 2**96}
-BITS = {"v4": 32, "v6": 128}
+FOLDER = pathlib.Path(__file__).resolve().parent.parent / "crates" / "rpki_worlds"
+COUNT = 40
+WRONG_KEY = 999
+NO_LOCATOR = b"no locator"
 
 
-class World:
-    """Locators by name, and what stands at URIs."""
-
-    def __init__(self, depth):
-        self.depth = depth
-        self.locators = {}
-        self.at = {}
+# Octets.
 
 
-# What texts stand for numbers
+def parted(uri):
+    """The folder and the name of a manifest, or of a list."""
+    folder, _, file = uri.rpartition("/")
+    return folder.encode() + b"/", file.rpartition(".")[0].encode()
 
 
-def address(kind, value):
-    return str((ipaddress.IPv4Address if kind == "v4" else ipaddress.IPv6Address)(value))
+def block_of(kind, text):
+    """A block of a claim as tests/rpki_repositories.py takes it."""
+    if kind != "as":
+        return text if "/" in text else tuple(text.split("-"))
+    first, _, last = text.replace("AS", "").partition("-")
+    return (int(first), int(last)) if last else int(first)
 
 
-def prefix_of(kind, first, count):
-    """The prefix of so many blocks, from that one on."""
-    length = BITS[kind] - (SIZE[kind] * count).bit_length() + 1
-    return FIRST[kind] + first * SIZE[kind], length
+def claims_to_write(claims):
+    names = {"as": "as", "v4": "ipv4", "v6": "ipv6"}
+    listed = {kind: claim if isinstance(claim, (str, tuple)) else rpki_chains.texts(kind, claim) for kind, claim in claims.items()}
+    return {
+        names[kind]: claim if claim == "inherit" else [block_of(kind, text) for text in claim]
+        for kind, claim in listed.items()
+        if claim != "none"
+    }
 
 
-def runs(numbers):
-    """The maximal runs, each by its first number and its count."""
-    found = []
-    for n in sorted(numbers):
-        if found and found[-1][0] + found[-1][1] == n:
-            found[-1][1] += 1
+class Octets:
+    """The octets of things, each made once, and the digests of the signatures that are good."""
+
+    def __init__(self):
+        self.signer = Signer()
+        self.keys, self.serials, self.made = {}, {}, {}
+        # of each thing the digests of its own signatures
+        self.rows = {}
+
+    def key(self, name):
+        return self.keys.setdefault(name, len(self.keys) + 1)
+
+    def serial(self, thing):
+        if thing not in self.serials:
+            self.serials[thing] = self.signer.number()
+        return self.serials[thing]
+
+    def of(self, uri, thing):
+        if thing not in self.made:
+            make = {"cer": self.cer, "crl": self.crl, "point": self.point, "roa": self.roa, "asa": self.asa, "junk": self.junk}
+            self.made[thing] = make[thing.what](uri, thing)
+            count = {"cer": 1, "crl": 1, "junk": 0}.get(thing.what, 2)
+            self.rows[thing] = self.signer.verdicts[len(self.signer.verdicts) - count :]
+        return self.made[thing]
+
+    def junk(self, _uri, _thing):
+        """Octets that are no value, and like no others."""
+        return b"junk %d" % self.signer.number()
+
+    def issuer(self, key, listed_at):
+        """The authority with that key, whose revocation list, or manifest, is there."""
+        folder, name = parted(listed_at)
+        return Authority(self.signer, self.key(key), b"rsync://r/m/issuer.cer", folder, name)
+
+    def signed_by(self, thing):
+        return {"serial": self.serial(thing)} | ({"signer": WRONG_KEY} if thing.kind == "bad" else {})
+
+    def cer(self, uri, thing):
+        key, claims, trims = self.key(thing.key), claims_to_write(thing.claims), thing.policy == "trim"
+        access = Authority(self.signer, key, uri.encode(), *parted(thing.manifest)).access()
+        resources = [policies(trims), *claims_of(claims, trims)]
+        if thing.crl is None:
+            first = [basic(), self.signer.subject_key(key), self.signer.authority_key(key), usage(True)]
+            return self.signer.cert(key, key, [*first, access, *resources], **self.signed_by(thing))
+        issuer = self.issuer(thing.issuer, thing.crl)
+        if thing.kind == "router":
+            extensions = [*issuer.below(key, False), *resources]
         else:
-            found.append([n, 1])
-    return found
+            extensions = [*issuer.below(key, True), access, *resources]
+        return self.signer.cert(key, issuer.key, extensions, **self.signed_by(thing))
+
+    def crl(self, uri, thing):
+        authority = self.issuer(thing.key, uri)
+        authority.revoked = sorted(map(self.serial, thing.revoked))
+        return authority.list_of_revoked(key=WRONG_KEY if thing.kind == "bad" else None)
+
+    def point(self, uri, thing):
+        digest = lambda at, file: hashlib.sha256(self.of(at, file)).digest()
+        listed = [(at.rpartition("/")[2].encode(), digest(at, file)) for at, file in thing.files.items()]
+        return self.signed(MANIFEST, manifest(1, (FIRST, LAST), listed), uri, thing, self.issuer(thing.key, uri))
+
+    def roa(self, uri, thing):
+        prefixes = [text + (f"-{longest}" if longest else "") for text, longest in map(prefix_text, thing.prefixes)]
+        content = roa(FIRST_AS + thing.number, *prefixes)
+        return self.signed(ROA, content, uri, thing, self.issuer(thing.issuer, thing.crl))
+
+    def asa(self, uri, thing):
+        content = aspa(FIRST_AS + thing.number, *(FIRST_AS + n for n in thing.providers))
+        return self.signed(ASPA, content, uri, thing, self.issuer(thing.issuer, thing.crl))
+
+    def signed(self, kind, content, uri, thing, issuer):
+        file = uri.rpartition("/")[2].encode()
+        claims, trims = claims_to_write(thing.claims), thing.policy == "trim"
+        return issuer.signed(kind, content, file, claims, trims, **self.signed_by(thing))
+
+    def locator(self, locator):
+        if locator.key is None:
+            return NO_LOCATOR
+        return locator_text([uri.encode() for uri in locator.uris], self.key(locator.key))
 
 
-def run_text(kind, first, count):
-    if kind == "as":
-        low, high = FIRST_AS + first, FIRST_AS + first + count - 1
-        return f"AS{low}" if count == 1 else f"AS{low}-AS{high}"
-    if count & (count - 1) == 0 and first % count == 0:
-        value, length = prefix_of(kind, first, count)
-        return f"{address(kind, value)}/{length}"
-    low = FIRST[kind] + first * SIZE[kind]
-    return f"{address(kind, low)}-{address(kind, low + count * SIZE[kind] - 1)}"
+def prefix_text(prefix):
+    """A prefix, and the greatest length if one is said; a text stands for itself."""
+    if isinstance(prefix, str):
+        return prefix, None
+    kind, first, count, longest = prefix
+    value, length = prefix_of(kind, first, count)
+    return f"{address(kind, value)}/{length}", longest
 
 
-def set_text(kind, numbers):
-    return ", ".join(run_text(kind, first, count) for first, count in runs(numbers))
+# What is asked.
 
 
-def claim_text(claims, kind):
-    claim = claims[kind]
-    return claim if isinstance(claim, str) else set_text(kind, claim).replace(" ", "")
+class Asked:
+    """The lines of worlds and questions, and those of the answers."""
+
+    def __init__(self):
+        self.lines, self.answers, self.count = [], [], 0
+
+    def world(self, world, chance=None):
+        """Tells a world, in an order by chance if one is given."""
+        self.octets, self.told = Octets(), set()
+        self.lines.append(f"world {world.depth}")
+        parts = [f"locator {name} {self.octets.locator(locator).hex()}" for name, locator in world.locators.items()]
+        parts += [f"object {uri} {self.octets.of(uri, thing).hex()}" for uri, thing in world.at.items()]
+        parts += self.verdicts()
+        if chance:
+            chance.shuffle(parts)
+        self.lines += parts
+
+    def verdicts(self):
+        """A line for each good signature that wasn't told."""
+        new = [row for row in self.octets.signer.verdicts if row not in self.told]
+        self.told |= set(new)
+        return [" ".join(["verdict", *(digest.hex() for digest in row)]) for row in new]
+
+    def put(self, uri, thing):
+        octets = self.octets.of(uri, thing)
+        self.lines += [*self.verdicts(), f"object {uri} {octets.hex()}"]
+
+    def unsay(self, row):
+        """Takes a verdict out."""
+        self.octets.signer.verdicts.remove(row)
+        self.lines.append(" ".join(["unsaid", *(digest.hex() for digest in row)]))
+
+    def clear(self, world, uri):
+        """Takes an object out."""
+        del world.at[uri]
+        self.lines.append(f"without {uri}")
+
+    def ask(self, question, *answer):
+        self.lines.append(question)
+        self.answers += answer
+        self.count += 1
+
+    def read(self, world):
+        """What the second reading finds in the octets of a world."""
+        of = self.octets
+        locators = sorted((name.encode(), of.locator(locator)) for name, locator in world.locators.items())
+        objects = sorted((uri.encode(), of.of(uri, thing)) for uri, thing in world.at.items())
+        return rpki_model.walk(bundle(locators, objects, sorted(of.signer.verdicts), depth=world.depth))
+
+    def walk(self, world, stated=None):
+        """Asks for a walk, of which the lines are stated or come of all chains."""
+        found = self.read(world)
+        witnesses = [
+            " ".join(["witness", file.decode(), name.decode(), *(uri.decode() for uri in chain)])
+            for file, name, chain in sorted((file, name, chain) for name, chain, file in found.witnesses)
+        ]
+        walked = Walked(world) if stated is None else None
+        lines = [*stated, *witnesses, "."] if stated is not None else list(walked.lines())
+        assert lines == [*rpki_model.lines(found), *witnesses, "."]
+        self.ask("walk", *lines)
+        return walked
+
+    def reach(self, world, uris):
+        held = reached(world, uris)
+        self.ask(" ".join(["reach", *uris]), reach_text(held))
+        return held
 
 
-# The rules, by their definitions
+# Laws.
 
 
-def holds(world, chain, kind):
-    """What a chain holds: the anchor lists it, and each later certificate lists it or inherits the kind."""
-    held = None
-    for uri in chain:
-        held = with_claim(held, world.at[uri]["claims"][kind])
-    return held
+def outside(walked, held):
+    """The origins and the customers with their providers that don't touch what is held."""
+    def touches(origin):
+        kind, value, length, _, _ = origin
+        first = (value - rpki_chains.FIRST[kind]) // rpki_chains.SIZE[kind]
+        count = 2 ** (rpki_chains.BITS[kind] - length) // rpki_chains.SIZE[kind]
+        return set(range(first, first + count)) & held[kind]
+
+    customers = {customer: providers for customer, providers in walked.customers.items() if customer not in held["as"]}
+    return {origin for origin in walked.origins if not touches(origin)}, customers
 
 
-def with_claim(held, claim):
+def assert_inside(world, before, after, uris):
+    """What is forged at these URIs changes nothing outside what they reach."""
+    held = reached(world, uris)
     if held is None:
-        return frozenset() if isinstance(claim, str) else claim
-    if claim == "none":
-        return frozenset()
-    return held if claim == "inherit" else held & claim
-
-
-def fits(world, chain, thing):
-    """No number that isn't held is listed under `refuse`."""
-    if thing["policy"] == "trim":
-        return True
-    return all(
-        isinstance(thing["claims"][kind], str) or thing["claims"][kind] <= holds(world, chain, kind) for kind in KINDS
-    )
-
-
-def is_a(world, uri, what):
-    return uri in world.at and world.at[uri]["what"] == what
-
-
-def anchor(world, name):
-    """The URI of the locator's anchor, if it has one: of its URIs, https first, the first that is held."""
-    locator = world.locators[name]
-    ordered = sorted(locator["uris"], key=lambda uri: not uri.startswith("https://"))
-    held = next((uri for uri in ordered if uri in world.at), None)
-    if held is None or not is_a(world, held, "cer"):
-        return None
-    cer = world.at[held]
-    right = cer["kind"] == "ta" and cer["key"] == locator["key"] and "inherit" not in cer["claims"].values()
-    return held if right else None
-
-
-def point(world, chain):
-    """The point of the last certificate, where it stands."""
-    last = world.at[chain[-1]]
-    if not is_a(world, last["manifest"], "point"):
-        return None
-    found = world.at[last["manifest"]]
-    return found if found["kind"] == "good" and found["key"] == last["key"] and fits(world, chain, found) else None
-
-
-def is_child(world, chain, uri):
-    """At that URI a certificate of an authority is issued as it should."""
-    cer = world.at[uri]
-    return cer["kind"] == "ca" and cer["issuer"] == world.at[chain[-1]]["key"] and fits(world, chain, cer)
-
-
-def is_issued(world, chain, uri):
-    found = point(world, chain)
-    listed = found is not None and uri in found["files"] and uri.endswith(".cer")
-    return listed and is_a(world, uri, "cer") and is_child(world, chain, uri)
-
-
-def is_accepted(world, name, chain):
-    if world.locators[name].get("key") is None or anchor(world, name) != chain[0] or len(chain) > world.depth:
-        return False
-    keys = [world.at[uri]["key"] for uri in chain]
-    return len(set(keys)) == len(keys) and all(is_issued(world, chain[:n], chain[n]) for n in range(1, len(chain)))
-
-
-def accepted(world):
-    """All chains that are accepted, by trying all lists of certificates."""
-    cers = [uri for uri in world.at if world.at[uri]["what"] == "cer"]
-    for name in world.locators:
-        for length in range(1, world.depth + 1):
-            for chain in itertools.product(cers, repeat=length):
-                if is_accepted(world, name, chain):
-                    yield name, chain
-
-
-def is_good(world, chain, uri):
-    """The object is good at the end of the chain."""
-    found = point(world, chain)
-    if found is None or uri not in found["files"] or uri not in world.at:
-        return False
-    thing = world.at[uri]
-    if thing["what"] not in ("roa", "asa") or not uri.endswith("." + thing["what"]) or thing["kind"] != "good":
-        return False
-    if thing["issuer"] != world.at[chain[-1]]["key"] or not fits(world, chain, thing):
-        return False
-    held = {kind: with_claim(holds(world, chain, kind), thing["claims"][kind]) for kind in KINDS}
-    if thing["what"] == "asa":
-        return thing["number"] in held["as"]
-    return all(set(range(first, first + count)) <= held[kind] for kind, first, count, _ in thing["prefixes"])
-
-
-def refusals(world, name, chain):
-    """What the chain refuses."""
-    found = point(world, chain)
-    if found is None:
-        yield chain[-1], "point"
         return
-    keys = [world.at[uri]["key"] for uri in chain]
-    for uri in found["files"]:
-        if uri.endswith(".cer"):
-            if not is_a(world, uri, "cer"):
-                yield uri, "object"
-            elif world.at[uri]["kind"] != "router":
-                if not is_child(world, chain, uri):
-                    yield uri, "object"
-                elif world.at[uri]["key"] in keys:
-                    yield uri, "loop"
-                elif len(chain) >= world.depth:
-                    yield uri, "depth"
-        elif uri.endswith((".roa", ".asa")) and not is_good(world, chain, uri):
-            yield uri, "object"
+    assert outside(before, held) == outside(after, held)
+    whys = ("tal", "anchor")
+    assert {row for row in before.refused if row[1] in whys} == {row for row in after.refused if row[1] in whys}
+    if not any(rpki_chains.naming(world, uris)):
+        assert list(before.lines()) == list(after.lines())
 
 
-def walked(world):
-    """The lines of a walk, and those of its witnesses."""
-    origins, customers, refused, witnesses = set(), {}, set(), set()
-    for name, locator in world.locators.items():
-        if locator.get("key") is None:
-            refused.add((name, "tal"))
-        elif anchor(world, name) is None:
-            refused.add((name, "anchor"))
-    for name, chain in accepted(world):
-        refused |= set(refusals(world, name, chain))
-        found = point(world, chain)
-        for uri in found["files"] if found else ():
-            if not is_good(world, chain, uri):
-                continue
-            witnesses.add((uri, name, chain))
-            thing = world.at[uri]
-            if thing["what"] == "asa":
-                customers.setdefault(thing["number"], set()).update(thing["providers"])
-                continue
-            for kind, first, count, longest in thing["prefixes"]:
-                value, length = prefix_of(kind, first, count)
-                wide = value << (128 - BITS[kind])
-                origins.add((kind, wide, length, longest or length, thing["number"], f"{address(kind, value)}/{length}"))
-    lines = [f"roa AS{FIRST_AS + asn} {text} {longest}" for _, _, _, longest, asn, text in sorted(origins)]
-    for customer in sorted(customers):
-        providers = "".join(f" AS{FIRST_AS + n}" for n in sorted(customers[customer]))
-        if providers:
-            lines.append(f"aspa AS{FIRST_AS + customer}{providers}")
-    lines += [f"refused {uri} {why}" for uri, why in sorted(refused)]
-    lines += [f"witness {uri} {name} {' '.join(chain)}" for uri, name, chain in sorted(witnesses)]
-    return lines + ["."], sorted(witnesses)
+def assert_kept(shallow, deep):
+    """A greater depth keeps all that is attested."""
+    assert shallow.origins <= deep.origins and shallow.witnesses <= deep.witnesses
+    assert all(providers <= deep.customers.get(customer, set()) for customer, providers in shallow.customers.items())
 
 
-def judged(world, name, uri, chain):
-    right = (
-        name in world.locators
-        and len(chain) > 0
-        and all(is_a(world, one, "cer") for one in chain)
-        and is_accepted(world, name, tuple(chain))
-        and is_good(world, tuple(chain), uri)
-    )
-    return f"yes {len(chain)}" if right else "no"
+# Worlds by chance.
 
 
-def reached(world, uris):
-    for locator in world.locators.values():
-        if locator.get("key") is not None and set(locator["uris"]) & set(uris):
-            return "locator"
-    held = {kind: frozenset() for kind in KINDS}
-    for _, chain in accepted(world):
-        manifest = world.at[chain[-1]]["manifest"]
-        named = {manifest} | (set(world.at[manifest]["files"]) if is_a(world, manifest, "point") else set())
-        if named & set(uris):
-            held = {kind: held[kind] | holds(world, chain, kind) for kind in KINDS}
-    texts = [set_text(kind, held[kind]) for kind in KINDS]
-    return f"asn: '{texts[0]}', ipv4: '{texts[1]}', ipv6: '{texts[2]}'"
+def folder_of(key):
+    return f"rsync://r/m/{key}/"
 
 
-# Worlds by chance
+def manifest_of(key):
+    return f"{folder_of(key)}{key}.mft"
 
 
-def chance_set(chance, least=1):
+def crl_of(key):
+    return f"{folder_of(key)}{key}.crl"
+
+
+def chance_set(chance):
     """Numbers of a kind: most often many."""
     if chance.random() < 0.25:
         return frozenset(range(UNITS))
-    numbers = frozenset(n for n in range(UNITS) if chance.random() < 0.75)
-    return numbers if len(numbers) >= least else frozenset(range(3))
+    return frozenset(n for n in range(UNITS) if chance.random() < 0.75) or frozenset(range(3))
 
 
 def chance_claims(chance, inherited=0.35, missing=0.1):
@@ -295,446 +292,281 @@ def chance_claims(chance, inherited=0.35, missing=0.1):
     return claims
 
 
-def chance_object(chance, what, key):
-    thing = {
-        "what": what,
-        "kind": "good" if chance.random() < 0.9 else "bad",
-        "issuer": key,
-        "policy": chance.choice(("refuse", "refuse", "trim")),
-        "claims": chance_claims(chance, 0.6, 0.05),
-        "number": chance.randrange(UNITS),
-    }
-    if what == "asa":
-        thing["providers"] = sorted(chance.sample(range(UNITS), chance.randrange(1, 4)))
+def chance_object(chance, folder, issuer):
+    thing = Thing(chance.choice(("roa", "roa", "asa")), "good" if chance.random() < 0.93 else "bad", issuer=issuer)
+    thing.crl, thing.policy = crl_of(folder), chance.choice(("refuse", "refuse", "trim"))
+    thing.claims, thing.number = chance_claims(chance, 0.6, 0.05), chance.randrange(UNITS)
+    if thing.what == "asa":
+        others = [n for n in range(UNITS) if n != thing.number]
+        thing.providers = sorted(chance.sample(others, chance.randrange(1, 4)))
         return thing
-    thing["prefixes"] = []
     for _ in range(chance.randrange(1, 4)):
         count = chance.choice((1, 1, 1, 2, 2, 4))
-        first = chance.randrange(UNITS // count) * count
         kind = chance.choice(("v4", "v6"))
-        length = prefix_of(kind, first, count)[1]
+        length = prefix_of(kind, 0, count)[1]
         longest = chance.choice((None, length, length + 1, 24 if kind == "v4" else 48))
-        thing["prefixes"].append((kind, first, count, longest))
+        thing.prefixes.append((kind, chance.randrange(UNITS // count) * count, count, longest))
+    # the families stand one after the other in a ROA
+    thing.prefixes.sort(key=lambda prefix: prefix[0])
     return thing
 
 
+def chance_cer(chance, folder, issuer, key, keys):
+    kind = chance.choice(("ca",) * 10 + ("router", "bad"))
+    thing = Thing("cer", kind, key=key, issuer=issuer, crl=crl_of(folder), policy=chance.choice(("refuse", "trim", "trim")))
+    thing.claims = chance_claims(chance)
+    number = chance.random()
+    thing.manifest = f"{folder_of(key)}gone.mft" if number < 0.05 else manifest_of(chance.choice(keys) if number < 0.1 else key)
+    return thing
+
+
+def publish(chance, world, key, files, steady=0.0):
+    """Puts files at their URIs, with a revocation list and a manifest, which are sound unless it so happens."""
+    sound = lambda: chance.random() < max(0.95, steady)
+    revoked = [file for file in files.values() if not sound()]
+    files[crl_of(key)] = Thing("crl", "good" if sound() else "bad", key=key, revoked=revoked)
+    claims = {kind: "inherit" for kind in KINDS} if sound() else chance_claims(chance, 0.8, 0.05)
+    point = Thing("point", "good" if sound() else "bad", key=key, crl=crl_of(key), claims=claims, files=dict(files))
+    point.policy = chance.choice(("refuse", "trim"))
+    world.at |= files
+    world.at[manifest_of(key)] = point
+    if not sound():
+        del world.at[chance.choice(list(files))]
+
+
 def chance_world(chance):
+    """Any authorities that certify any others."""
     world = World(chance.choice((1, 2, 2, 3, 3, 3, 4)))
     keys = [f"k{n}" for n in range(chance.randrange(1, 5))]
     anchors = []
     for n in range(chance.choice((1, 1, 2))):
-        uri = f"{chance.choice(('https', 'rsync'))}://t/ta{n}.cer"
-        key = chance.choice(keys)
-        claims = chance_claims(chance, 0.02, 0.05)
-        kind = "ta" if chance.random() < 0.95 else "ca"
-        world.at[uri] = cer(kind, key, key, "refuse", claims, f"rsync://r/{key}/{key}.mft")
+        uri, key = f"{chance.choice(('https', 'rsync'))}://t/m/ta{n}.cer", chance.choice(keys)
+        world.at[uri] = Thing("cer", "ta" if chance.random() < 0.95 else "bad", key=key, manifest=manifest_of(key))
+        world.at[uri].claims = chance_claims(chance, 0, 0.05)
         anchors.append(uri)
+    files = {key: {} for key in keys}
     for n in range(chance.randrange(0, 5)):
-        kind = chance.choice(("ca",) * 8 + ("router", "bad", "ta"))
-        key, issuer = chance.choice(keys), chance.choice(keys)
-        manifest = f"rsync://r/{key if chance.random() < 0.9 else chance.choice(keys)}/"
-        manifest += "gone.mft" if chance.random() < 0.08 else manifest.split("/")[-2] + ".mft"
-        policy = chance.choice(("refuse", "trim", "trim"))
-        world.at[f"rsync://r/{issuer}/c{n}.cer"] = cer(kind, key, issuer, policy, chance_claims(chance), manifest)
+        folder = chance.choice(keys)
+        issuer = folder if chance.random() < 0.93 else chance.choice(keys)
+        files[folder][f"{folder_of(folder)}c{n}.cer"] = chance_cer(chance, folder, issuer, chance.choice(keys), keys)
     for n in range(chance.randrange(1, 5)):
-        key = chance.choice(keys)
-        what = chance.choice(("roa", "roa", "asa"))
-        name = what if chance.random() < 0.95 else chance.choice(("roa", "asa", "cer", "gbr"))
-        world.at[f"rsync://r/{key}/o{n}.{name}"] = chance_object(chance, what, key)
-    things = list(world.at)
+        folder = chance.choice(keys)
+        thing = chance_object(chance, folder, folder if chance.random() < 0.93 else chance.choice(keys))
+        name = thing.what if chance.random() < 0.95 else chance.choice(("roa", "asa", "cer", "gbr"))
+        files[folder][f"{folder_of(folder)}o{n}.{name}"] = thing
     if chance.random() < 0.3:
-        world.at["rsync://r/junk.roa"] = {"what": "junk"}
-        things.append("rsync://r/junk.roa")
+        folder = chance.choice(keys)
+        files[folder][f"{folder_of(folder)}junk.{chance.choice(('roa', 'cer', 'gbr'))}"] = Thing("junk")
     for key in keys:
-        own = [uri for uri in things if world.at[uri].get("issuer") == key and uri not in anchors]
-        files = [uri for uri in own if chance.random() < 0.95]
-        files += [uri for uri in things if uri not in own and chance.random() < 0.1]
-        files += ["rsync://r/none.gbr"] if chance.random() < 0.1 else []
-        chance.shuffle(files)
-        if chance.random() < 0.93:
-            kind = "good" if chance.random() < 0.95 else "bad"
-            owner = key if chance.random() < 0.95 else chance.choice(keys)
-            policy = chance.choice(("refuse", "trim"))
-            world.at[manifest_of(key)] = point_at(kind, owner, policy, chance_claims(chance, 0.8, 0.05), files)
+        if chance.random() < 0.95:
+            publish(chance, world, key, files[key])
     for n in range(chance.choice((1, 1, 2, 3))):
         uris = chance.sample(anchors, chance.randrange(1, len(anchors) + 1))
-        uris += [f"{chance.choice(('https', 'rsync'))}://t/none{n}.cer"] if chance.random() < 0.2 else []
-        uris += [chance.choice(things)] if chance.random() < 0.1 else []
+        uris += [f"{chance.choice(('https', 'rsync'))}://t/m/none{n}.cer"] if chance.random() < 0.2 else []
+        uris += [chance.choice(list(world.at))] if chance.random() < 0.1 else []
         chance.shuffle(uris)
-        key = world.at[chance.choice(anchors)]["key"] if chance.random() < 0.95 else "k9"
-        world.locators[f"l{n}"] = {"uris": uris, "key": key} if chance.random() < 0.95 else {"uris": []}
+        key = world.at[chance.choice(anchors)].key if chance.random() < 0.95 else "k9"
+        world.locators[f"l{n}"] = Locator(key, uris) if chance.random() < 0.95 else Locator()
     return world
 
 
 def ladder_world(chance):
     """Authorities below one another, the last of which attest something; some have two parents, or certify one above."""
     world = World(chance.choice((3, 4, 4)))
-    count = chance.choice((2, 3, 3))
-    root = "rsync://t/ta.cer"
-    world.at[root] = cer("ta", "k0", "k0", "refuse", {kind: frozenset(range(UNITS)) for kind in KINDS}, manifest_of("k0"))
-    world.locators["l"] = {"uris": [root], "key": "k0"}
-    files = {f"k{n}": [] for n in range(count + 1)}
-    for n in range(1, count + 1):
-        parents = chance.sample(range(n), min(n, chance.choice((1, 2))))
-        for parent in parents + ([n] if chance.random() < 0.2 else []):
-            uri = f"rsync://r/k{parent}/k{n}.cer"
-            policy = chance.choice(("refuse", "trim", "trim"))
-            world.at[uri] = cer("ca", f"k{n}", f"k{parent}", policy, chance_claims(chance, 0.6, 0.03), manifest_of(f"k{n}"))
-            files[f"k{parent}"].append(uri)
+    keys = [f"k{n}" for n in range(chance.choice((3, 4, 4)))]
+    last = keys[-1]
+    root = "rsync://t/m/ta.cer"
+    world.at[root] = Thing("cer", "ta", key="k0", manifest=manifest_of("k0"))
+    world.at[root].claims = {kind: frozenset(range(UNITS)) for kind in KINDS}
+    world.locators["l"] = Locator("k0", [root])
+    files = {key: {} for key in keys}
+
+    def certify(parent, key, name):
+        thing = Thing("cer", "ca", key=key, issuer=parent, crl=crl_of(parent), manifest=manifest_of(key))
+        thing.policy, thing.claims = chance.choice(("refuse", "trim", "trim")), chance_claims(chance, 0.6, 0.03)
+        files[parent][f"{folder_of(parent)}{name}.cer"] = thing
+
+    for n in range(1, len(keys)):
+        for parent in chance.sample(keys[:n], min(n, chance.choice((1, 2)))):
+            certify(parent, keys[n], keys[n])
     if chance.random() < 0.5:
-        up = f"rsync://r/k{count}/up.cer"
-        world.at[up] = cer("ca", f"k{chance.randrange(count)}", f"k{count}", "trim", chance_claims(chance), manifest_of("k0"))
-        files[f"k{count}"].append(up)
+        certify(last, chance.choice(keys), "up")
     for n in range(chance.randrange(2, 5)):
-        key = chance.choice((f"k{count}", f"k{count}", f"k{chance.randrange(count + 1)}"))
-        what = chance.choice(("roa", "roa", "asa"))
-        world.at[f"rsync://r/{key}/o{n}.{what}"] = chance_object(chance, what, key)
-        files[key].append(f"rsync://r/{key}/o{n}.{what}")
-    for key, listed in files.items():
-        claims = {kind: "inherit" for kind in KINDS}
-        if chance.random() < 0.15:
-            claims = chance_claims(chance, 0.8, 0.0)
-        policy = chance.choice(("refuse", "trim"))
-        world.at[manifest_of(key)] = point_at("good", key, policy, claims, listed)
+        folder = chance.choice((last, last, chance.choice(keys)))
+        thing = chance_object(chance, folder, folder)
+        files[folder][f"{folder_of(folder)}o{n}.{thing.what}"] = thing
+    for key in keys:
+        publish(chance, world, key, files[key], 0.98)
     return world
 
 
-def manifest_of(key):
-    return f"rsync://r/{key}/{key}.mft"
+# Questions about them.
 
 
-def point_at(kind, key, policy, claims, files):
-    return {"what": "point", "kind": kind, "key": key, "policy": policy, "claims": claims, "files": files}
-
-
-def cer(kind, key, issuer, policy, claims, manifest):
-    return {
-        "what": "cer",
-        "kind": kind,
-        "key": key,
-        "issuer": issuer,
-        "policy": policy,
-        "claims": claims,
-        "manifest": manifest,
-    }
-
-
-# What is asked
-
-
-def claims_words(thing):
-    return [thing["policy"], *(claim_text(thing["claims"], kind) for kind in KINDS)]
-
-
-def world_lines(world):
-    yield f"world {world.depth}"
-    for name, locator in world.locators.items():
-        yield " ".join(["locator", name, *([locator["key"], *locator["uris"]] if locator.get("key") else [])])
-    for uri, thing in world.at.items():
-        what = thing["what"]
-        if what == "junk":
-            words = [what, uri]
-        elif what == "cer":
-            words = [what, uri, thing["kind"], thing["key"], thing["issuer"], *claims_words(thing), thing["manifest"]]
-        elif what == "point":
-            words = [what, uri, thing["kind"], thing["key"], *claims_words(thing), *thing["files"]]
-        else:
-            words = [what, uri, thing["kind"], thing["issuer"], *claims_words(thing), f"AS{FIRST_AS + thing['number']}"]
-            words += [f"AS{FIRST_AS + n}" for n in thing.get("providers", ())]
-            for kind, first, count, longest in thing.get("prefixes", ()):
-                value, length = prefix_of(kind, first, count)
-                words.append(f"{address(kind, value)}/{length}" + (f"-{longest}" if longest else ""))
-        yield " ".join(words)
-
-
-def traces(chance, world, witnesses):
-    """Traces to judge: good ones, good ones with something else in a place, and any."""
-    cers = [uri for uri in world.at if world.at[uri]["what"] == "cer"]
-    for uri, name, chain in witnesses[:4]:
+def traces(chance, world, walked):
+    """Traces to judge: a good one, the same with something else in a place or by another chain to its end, and any."""
+    cers = [uri for uri in world.at if world.at[uri].what == "cer"]
+    if walked.witnesses:
+        uri, name, chain = chance.choice(sorted(walked.witnesses))
         yield name, uri, chain
-        yield chance.choice(list(world.locators)), uri, chain
-        yield name, uri, chain + (chance.choice(cers),)
+        yield name, uri, (*chain, chance.choice(cers))
         yield name, chance.choice(list(world.at)), chain
-        changed = list(chain)
-        changed[chance.randrange(len(chain))] = chance.choice(cers)
-        yield name, uri, tuple(changed)
-    for _ in range(2):
-        chain = tuple(chance.choice(list(world.at)) for _ in range(chance.randrange(0, world.depth + 2)))
-        yield chance.choice(list(world.locators)), chance.choice(list(world.at)), chain
+        place = chance.randrange(len(chain))
+        yield chance.choice(list(world.locators)), uri, (*chain[:place], chance.choice(cers), *chain[place + 1 :])
+        others = [(at, way) for at, way in rpki_chains.accepted(world) if way[-1] == chain[-1] and (at, way) != (name, chain)]
+        for at, way in others[-1:]:
+            yield at, uri, way
+    chain = tuple(chance.choice(list(world.at)) for _ in range(chance.randrange(1, world.depth + 2)))
+    yield chance.choice(list(world.locators)), chance.choice(list(world.at)), chain
 
 
-def questions(chance, world):
-    """The questions of a world, each with the lines of its answer."""
-    lines, witnesses = walked(world)
-    yield "walk", lines
-    for name, uri, chain in traces(chance, world, witnesses):
-        yield " ".join(["judge", name, uri, *chain]), [judged(world, name, uri, chain)]
-    for _ in range(3):
-        uris = chance.sample(list(world.at), chance.randrange(1, min(4, len(world.at) + 1)))
-        yield " ".join(["reach", *uris]), [reached(world, uris)]
+def some_uris(chance, world):
+    """URIs that no locator names, if there are such."""
+    inner = [uri for uri in world.at if not rpki_chains.is_named(world, [uri])] or list(world.at)
+    return chance.sample(inner, min(len(inner), chance.choice((1, 1, 2))))
 
 
-# Worked cases: of each the lines, and what a walk, a judgement or a reach of it is
-
-INHERIT = "inherit inherit inherit"
-M = "rsync://r.example/m"
-TA = f"{M}/ta.cer"
-
-
-def anchor_lines(claims, files, depth=32):
-    return [
-        f"world {depth}",
-        f"locator t a {TA}",
-        f"cer {TA} ta a a refuse {claims} {M}/ta/ta.mft",
-        f"point {M}/ta/ta.mft good a refuse {INHERIT} {files}",
-    ]
+def forged(chance, world, uri):
+    """Something else for that URI, which any authority may have signed: a manifest lists some of the files that are there."""
+    keys = sorted({thing.key for thing in world.at.values() if thing.key})
+    folder = uri.split("/")[-2] if uri.startswith("rsync://r/m/") else chance.choice(keys)
+    if uri.endswith(".cer"):
+        return chance_cer(chance, folder, chance.choice(keys), chance.choice(keys), keys)
+    if uri.endswith(".mft"):
+        there = {at: thing for at, thing in world.at.items() if at.startswith(folder_of(folder)) and thing.what != "point"}
+        files = {at: thing for at, thing in there.items() if chance.random() < 0.8}
+        inherits = {kind: "inherit" for kind in KINDS}
+        return Thing("point", key=chance.choice((folder, *keys)), crl=crl_of(folder), claims=inherits, files=files)
+    return chance_object(chance, folder, chance.choice(keys)) if chance.random() < 0.8 else Thing("junk")
 
 
-def single(manifest=INHERIT):
-    lines = anchor_lines("none 192.0.2.0/24 none", f"{M}/ta/a.roa")
-    lines[3] = lines[3].replace(INHERIT, manifest)
-    return lines + [f"roa {M}/ta/a.roa good a refuse none 192.0.2.0/24 none AS64496 192.0.2.0/24"]
+def ask_depth(chance, asked, world, walked):
+    """Asks the world at another depth."""
+    depth, world.depth = world.depth, chance.choice([n for n in range(1, 5) if n != world.depth])
+    asked.lines.append(f"depth {world.depth}")
+    other = asked.walk(world)
+    assert_kept(*((other, walked) if world.depth < depth else (walked, other)))
+    return other
 
 
-def trimmed(policy, claims, depth=32):
-    return anchor_lines("none 10.0.0.0/8 none", f"{M}/ta/ca.cer", depth) + [
-        f"cer {M}/ta/ca.cer ca c a {policy} {claims} {M}/ca/ca.mft",
-        f"point {M}/ca/ca.mft good c refuse {INHERIT} {M}/ca/x.roa {M}/ca/y.roa",
-        f"roa {M}/ca/x.roa good c refuse none 10.1.0.0/16 none AS64496 10.1.0.0/16",
-        f"roa {M}/ca/y.roa good c trim none 11.1.0.0/16 none AS64496 11.1.0.0/16",
-    ]
+def before(world):
+    """The world as it is, to be looked at when it is changed."""
+    kept = World(world.depth)
+    kept.locators, kept.at = world.locators, dict(world.at)
+    return kept
 
 
-def parents(first="10.0.0.0/9"):
-    lines = anchor_lines("none 10.0.0.0/8 none", f"{M}/ta/a.cer {M}/ta/b.cer")
-    for key, claim in ("A", first), ("B", "10.128.0.0/9"):
-        low = key.lower()
-        lines += [
-            f"cer {M}/ta/{low}.cer ca {key} a refuse none {claim} none {M}/{low}/{low}.mft",
-            f"point {M}/{low}/{low}.mft good {key} refuse {INHERIT} {M}/{low}/c.cer",
-            f"cer {M}/{low}/c.cer ca C {key} refuse none inherit none {M}/c/c.mft",
-        ]
-    return lines + [
-        f"point {M}/c/c.mft good C refuse {INHERIT} {M}/c/c.roa",
-        f"roa {M}/c/c.roa good C refuse none inherit none AS64496 10.200.0.0/16",
-    ]
+def ask_forged(chance, asked, world, walked):
+    """Asks what some URIs can reach, and the world with other objects there."""
+    kept, uris = before(world), some_uris(chance, world)
+    asked.reach(world, uris)
+    for uri in uris:
+        world.at[uri] = forged(chance, world, uri)
+        asked.put(uri, world.at[uri])
+    changed = asked.walk(world)
+    assert_inside(kept, walked, changed, uris)
+    return changed
 
 
-def loop(depth, name, key):
-    return anchor_lines("none 10.0.0.0/8 none", f"{M}/ta/b.cer", depth) + [
-        f"cer {M}/ta/b.cer ca b a refuse none inherit none {M}/b/b.mft",
-        f"point {M}/b/b.mft good b refuse {INHERIT} {M}/b/{name}",
-        f"cer {M}/b/{name} ca {key} b refuse none inherit none {M}/{key}/{key}.mft",
-    ]
+def ask_without(chance, asked, world, walked):
+    """Asks the world without one of its objects."""
+    kept, uris = before(world), some_uris(chance, world)[:1]
+    asked.clear(world, uris[0])
+    changed = asked.walk(world)
+    assert_inside(kept, walked, changed, uris)
+    return changed
 
 
-def second():
-    there = "rsync://u.example/m"
-    return single() + [
-        f"locator u u {there}/ta.cer",
-        f"cer {there}/ta.cer ta u u refuse none 198.51.100.0/24 none {there}/ta/ta.mft",
-        f"point {there}/ta/ta.mft good u refuse {INHERIT} {there}/ta/b.cer",
-        f"cer {there}/ta/b.cer ca b u refuse none inherit none {M}/ta/ta.mft",
-    ]
+def ask_unsaid(chance, asked, world, walked):
+    """Asks the world without a verdict: what was signed so isn't good, and nothing is attested that wasn't."""
+    rows = asked.octets.rows
+    things = [thing for thing in world.at.values() if rows[thing] and thing.kind != "bad"]
+    if not things:
+        return walked
+    thing = chance.choice(things)
+    asked.unsay(chance.choice(rows[thing]))
+    thing.kind = thing.kind if thing.kind == "router" else "bad"
+    changed = asked.walk(world)
+    assert_kept(changed, walked)
+    return changed
 
 
-def set_of(ipv4):
-    return f"asn: '', ipv4: '{ipv4}', ipv6: ''"
+def ask_cut_down(asked, world, walked):
+    """Asks the judge of a good witness where nothing is left but the anchor and what its chain names at each of its points."""
+    for uri, name, chain in sorted(walked.witnesses)[-1:]:
+        manifests = [world.at[one].manifest for one in chain]
+        named = {chain[0], *manifests, *(file for manifest in manifests for file in world.at[manifest].files)}
+        for other in [at for at in world.at if at not in named]:
+            asked.clear(world, other)
+        assert judged(world, name, uri, chain) == f"yes {len(chain)}"
+        asked.ask(" ".join(["judge", name, uri, *chain]), f"yes {len(chain)}")
 
 
-LINE = "roa AS64496 192.0.2.0/24 24"
-BOTH = "10.0.0.0/8,11.0.0.0/8"
-CASES = {
-    "single-roa": (single(), {"walk": [LINE]}),
-    "judge-and-reach": (
-        single(),
-        {
-            f"judge t {M}/ta/a.roa {TA}": ["yes 1"],
-            f"judge u {M}/ta/a.roa {TA}": ["no"],
-            f"judge t {M}/ta/a.roa {TA} {TA}": ["no"],
-            f"judge t {M}/ta/a.roa": ["no"],
-            f"reach {M}/ta/a.roa": [set_of("192.0.2.0/24")],
-            f"reach {TA}": ["locator"],
-        },
-    ),
-    "manifest-overclaim": (
-        single("AS64500 inherit inherit"),
-        {"walk": [f"refused {TA} point"], f"judge t {M}/ta/a.roa {TA}": ["no"]},
-    ),
-    "two-aspas": (
-        anchor_lines("AS0-AS4294967295 none none", f"{M}/ta/a.asa {M}/ta/b.asa")
-        + [f"asa {M}/ta/a.asa good a refuse AS15562 none none AS15562 AS2914 AS8283"]
-        + [f"asa {M}/ta/b.asa good a refuse AS15562 none none AS15562 AS8283 AS51088"],
-        {"walk": ["aspa AS15562 AS2914 AS8283 AS51088"]},
-    ),
-    "two-parents": (
-        parents(),
-        {
-            "walk": ["roa AS64496 10.200.0.0/16 16", f"refused {M}/c/c.roa object"],
-            f"judge t {M}/c/c.roa {TA} {M}/ta/b.cer {M}/b/c.cer": ["yes 3"],
-            f"judge t {M}/c/c.roa {TA} {M}/ta/a.cer {M}/a/c.cer": ["no"],
-            f"reach {M}/c/c.roa": [set_of("10.0.0.0/8")],
-            f"reach {M}/none": [set_of("")],
-            "reach x": [set_of("")],
-            "reach": [set_of("")],
-        },
-    ),
-    "laws: cut down": (
-        [line for line in parents() if not line.startswith((f"point {M}/a/", f"cer {M}/a/"))],
-        {
-            "walk": ["roa AS64496 10.200.0.0/16 16", f"refused {M}/ta/a.cer point"],
-            f"judge t {M}/c/c.roa {TA} {M}/ta/b.cer {M}/b/c.cer": ["yes 3"],
-        },
-    ),
-    "laws: without the verdict of an anchor": (
-        [line.replace(" ta a a ", " bad a a ") for line in single()],
-        {"walk": ["refused t anchor"]},
-    ),
-    "laws: without that of an object": (
-        [line.replace("a.roa good", "a.roa bad") for line in single()],
-        {"walk": [f"refused {M}/ta/a.roa object"]},
-    ),
-    "laws: without that of a point": (
-        [line.replace("ta.mft good", "ta.mft bad") for line in single()],
-        {"walk": [f"refused {TA} point"]},
-    ),
-    "laws: depth": (
-        trimmed("trim", f"none {BOTH} none", 2),
-        {"walk": ["roa AS64496 10.1.0.0/16 16", f"refused {M}/ca/y.roa object"]},
-    ),
-    "trimmed-ca": (
-        trimmed("trim", f"none {BOTH} none"),
-        {
-            "walk": ["roa AS64496 10.1.0.0/16 16", f"refused {M}/ca/y.roa object"],
-            f"judge t {M}/ca/x.roa {TA} {M}/ta/ca.cer": ["yes 2"],
-            f"judge t {M}/ca/y.roa {TA} {M}/ta/ca.cer": ["no"],
-            f"reach {M}/ca/x.roa": [set_of("10.0.0.0/8")],
-            f"reach {M}/ta/ca.cer": [set_of("10.0.0.0/8")],
-        },
-    ),
-    "trimmed-ca: refuse": (
-        trimmed("refuse", f"none {BOTH} none"),
-        {"walk": [f"refused {M}/ta/ca.cer object"], f"judge t {M}/ca/x.roa {TA} {M}/ta/ca.cer": ["no"]},
-    ),
-    "judge-trim": (
-        trimmed("refuse", "AS64500 10.0.0.0/8 none"),
-        {"walk": [f"refused {M}/ta/ca.cer object"], f"judge t {M}/ca/x.roa {TA} {M}/ta/ca.cer": ["no"]},
-    ),
-    "depth-one: depth": (trimmed("trim", f"none {BOTH} none", 1), {"walk": [f"refused {M}/ta/ca.cer depth"]}),
-    "depth-one: loop": (loop(2, "a.cer", "a"), {"walk": [f"refused {M}/b/a.cer loop"]}),
-    "loop-and-depth": (loop(32, "a.cer", "a"), {"walk": [f"refused {M}/b/a.cer loop"]}),
-    "loop-and-depth: depth": (loop(2, "c.cer", "c"), {"walk": [f"refused {M}/b/c.cer depth"]}),
-    "second-locator": (
-        second(),
-        {
-            "walk": [LINE, "refused rsync://u.example/m/ta/b.cer point"],
-            "reach rsync://u.example/m/ta/ta.mft rsync://u.example/m/ta/b.cer": [set_of("198.51.100.0/24")],
-        },
-    ),
-    "second-locator: its point taken out": (
-        [line for line in second() if not line.startswith("point rsync://u")],
-        {"walk": [LINE, "refused rsync://u.example/m/ta.cer point"]},
-    ),
-    "router-cer": (
-        [line.replace("a.roa", f"a.roa {M}/ta/r.cer") if line.startswith("point") else line for line in single()]
-        + [f"cer {M}/ta/r.cer router r a refuse AS64496 none none {M}/r.mft"],
-        {"walk": [LINE]},
-    ),
-    "router-cer: unreadable": (
-        [line.replace("a.roa", f"a.roa {M}/ta/r.cer") if line.startswith("point") else line for line in single()]
-        + [f"junk {M}/ta/r.cer"],
-        {"walk": [LINE, f"refused {M}/ta/r.cer object"]},
-    ),
-    "first-uri: held": (
-        [line.replace(TA, f"{TA} https://r.example/ta.cer") if line.startswith("loc") else line for line in single()]
-        + ["junk https://r.example/ta.cer"],
-        {"walk": ["refused t anchor"]},
-    ),
-    "first-uri: not held": (
-        [line.replace(TA, f"{TA} https://r.example/ta.cer") if line.startswith("loc") else line for line in single()],
-        {"walk": [LINE]},
-    ),
-    "empty-locator": (["world 32", "locator x"], {"walk": ["refused x tal"], "reach x": [set_of("")]}),
-    "locator-order": (["world 32", "locator a", "locator b"], {"walk": ["refused a tal", "refused b tal"]}),
-}
+def ask_traces(chance, asked, world, walked):
+    """Asks the judge of traces: yes exactly to witnesses of the walk."""
+    for name, uri, chain in traces(chance, world, walked):
+        answer = judged(world, name, uri, chain)
+        assert answer == (f"yes {len(chain)}" if (uri, name, chain) in walked.witnesses else "no")
+        asked.ask(" ".join(["judge", name, uri, *chain]), answer)
 
 
-# What is compared
-
-
-class Asked:
-    """Lines of worlds and questions, and of each question what it has to be answered."""
-
-    def __init__(self):
-        self.lines = []
-        self.answers = []
-
-    def world(self, lines):
-        self.lines += lines
-
-    def ask(self, question, answer, witnesses=True, scarce=None):
-        self.lines += ([f"scarce {scarce}"] if scarce is not None else []) + [question]
-        self.answers.append((question, answer, witnesses, scarce))
-
-
-def same(question, answer, told, witnesses, scarce):
-    """Whether that is an answer as it has to be."""
-    if told in (["memory"], ["memory", "."]):
-        return scarce is not None
-    if not witnesses:
-        told = [line for line in told if not line.startswith("witness ")]
-    return told == answer and (scarce, question) != (0, "walk")
-
-
-def all_questions(count, seed):
-    asked = Asked()
-    for lines, questions_of in CASES.values():
-        asked.world(lines)
-        for question, answer in questions_of.items():
-            asked.ask(question, answer + ["."] * (question == "walk"), witnesses=False)
+def ask_by_chance(asked, count, seed):
     chance = random.Random(seed)
     for number in range(count):
-        world = ladder_world(chance) if number % 3 == 0 else chance_world(chance)
-        asked.world(list(world_lines(world)))
-        listed = list(questions(chance, world))
-        for question, answer in listed:
-            asked.ask(question, answer)
-        for scarce in (0, 1, 2, 3, 5, 8, 13, 1000) if number % 10 == 0 else ():
-            for question, answer in listed:
-                asked.ask(question, answer, scarce=scarce)
-    return asked
+        world = ladder_world(chance) if number % 2 else chance_world(chance)
+        asked.world(world, chance)
+        walked = asked.walk(world)
+        ask_traces(chance, asked, world, walked)
+        asked.reach(world, chance.sample(list(world.at), min(len(world.at), chance.randrange(1, 3))))
+        for change in (ask_depth, ask_forged, ask_without, ask_unsaid):
+            walked = change(chance, asked, world, walked)
+        ask_cut_down(asked, world, walked)
 
 
-def run(asked, folder):
-    """What the program prints."""
-    crate = copies.make(folder, NAME, os.path.join(TESTS, f"{NAME}.rt.in"), LIBRARIES)
-    done = subprocess.run(["rt", "try"], cwd=crate, input="\n".join(asked.lines) + "\n", capture_output=True, text=True)
-    told = done.stdout.splitlines()
-    if done.returncode != 0 or not told:
-        sys.exit(done.stdout + done.stderr)
-    return told
+def ask_by_hand(asked):
+    for lines, questions in WORLDS.values():
+        world = world_said(lines)
+        asked.world(world)
+        for question, answer in questions.items():
+            if question == "walk":
+                asked.walk(world, answer)
+            else:
+                asked.ask(question, *answer)
 
 
-def compare(asked, told):
-    """How many answers differ; each is printed."""
-    at, wrong = 0, 0
-    for question, answer, witnesses, scarce in asked.answers:
-        end = told.index(".", at) + 1 if question == "walk" else at + 1
-        if not same(question, answer, told[at:end], witnesses, scarce):
-            wrong += 1
-            print(f"{question} (scarce: {scarce}): {told[at:end]} in place of {answer}")
-        at = end
-    return wrong
+def write():
+    """Writes the questions and answers that the gate asks."""
+    asked = Asked()
+    ask_by_hand(asked)
+    by_hand = asked.count
+    ask_by_chance(asked, COUNT, 9286)
+    FOLDER.joinpath("stdin").write_text("".join(f"{line}\n" for line in asked.lines))
+    FOLDER.joinpath("stdout").write_text("".join(f"{line}\n" for line in asked.answers))
+    print(f"{asked.count} questions, {by_hand} of them about worlds made by hand")
+
+
+def compare(program, count, seed):
+    """Asks the program; how many lines of its answers are others."""
+    asked = Asked()
+    ask_by_chance(asked, count, seed)
+    lines = "".join(f"{line}\n" for line in asked.lines)
+    said = subprocess.run([program], input=lines, stdout=subprocess.PIPE, text=True).stdout.splitlines()
+    others = [pair for pair in itertools.zip_longest(asked.answers, said) if pair[0] != pair[1]]
+    for wanted, found in others[:10]:
+        print(f"{found!r} in place of {wanted!r}")
+    print(f"{asked.count} questions, {len(others)} lines differ")
+    return len(others)
 
 
 def main():
-    numbers = [int(word) for word in sys.argv[1:]]
-    count, seed = (numbers + [600, 1][len(numbers):])[:2]
-    asked = all_questions(count, seed)
-    with tempfile.TemporaryDirectory() as folder:
-        wrong = compare(asked, run(asked, folder))
-    print(f"{len(asked.answers) - wrong} passed, {wrong} failed")
-    sys.exit(1 if wrong else 0)
+    parser = argparse.ArgumentParser(description="Worlds of certificates, their questions and answers.")
+    parser.add_argument("program", nargs="?")
+    parser.add_argument("count", nargs="?", type=int, default=200)
+    parser.add_argument("seed", nargs="?", type=int, default=1)
+    given = parser.parse_args()
+    if given.program:
+        sys.exit(1 if compare(given.program, given.count, given.seed) else 0)
+    write()
 
 
 if __name__ == "__main__":
