@@ -1,3 +1,4 @@
 pub mod Accepting
+pub mod IfType
 pub mod Processing
 pub mod Signing

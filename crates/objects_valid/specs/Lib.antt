@@ -1,5 +1,6 @@
 pub mod Accepted
 pub mod Content
+pub mod IfType
 pub mod Processed
 pub mod Together
 -- What stands below, for the crates above.

@@ -6,6 +6,8 @@
 //! that fails is told. `process` asks a caller's test of the certificate beside that, which looks it up on a revocation
 //! list, and whether what is attested is within what the certificate holds.
 //!
+//! `decode_if_type` reads an object whose content is of a type that is asked for, and refuses any other.
+//!
 //! What differs from the Rust crate: the calls are those of traits, one a type; the verifier, the digester and the clock
 //! are handed in, and each call has a form that is given the moment; what takes memory is given an allocator, and want of
 //! memory is an error of its own; whatever a caller's test refuses with is told as one error, but for want of memory; the
@@ -14,6 +16,7 @@
 
 pub mod aspa;
 mod caller;
+pub mod if_type;
 mod inspected;
 pub mod manifest;
 pub mod object;
@@ -24,6 +27,7 @@ pub use aspa::ProcessAspa;
 pub use certs_verify::{
     Cert, Digester, InspectionError, ResourceCert, ValidationError, VerificationError, Verifier,
 };
+pub use if_type::DecodeIfType;
 pub use manifest::ValidateManifest;
 pub use object::ProcessObject;
 pub use objects_kinds::{Aspa, Manifest, ManifestContent, Roa, SignedObject};

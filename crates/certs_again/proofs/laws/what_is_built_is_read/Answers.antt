@@ -1,0 +1,12 @@
+use Rattle.certs_again.proofs.Certs.{built_is_read, read_is_built}
+use Rattle.certs_again.proofs.Whole.{fields_are_read}
+use Rattle.certs_again.proofs.laws.what_is_built_is_read.Goals as goal
+
+pub returns-clause-fields : goal.returns-clause-fields
+returns-clause-fields c = fields_are_read
+
+pub returns-clause-cert : goal.returns-clause-cert
+returns-clause-cert c = built_is_read c.cert_is_spelled.ensures
+
+pub returns-clause-same : goal.returns-clause-same
+returns-clause-same c = read_is_built
