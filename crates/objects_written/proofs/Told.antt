@@ -1,0 +1,31 @@
+-- What calls answer, in terms of what is written.
+use Rattle.std.proofs.Common.{◌≡◌, ◌^◌, ◌<◌, ℕ, List, [], ◌∷◌, length, Option, Some, None, Result, Ok, Err, IfOk, IfErr, refl, sym, subst}
+use Rattle.objects_written.specs.bcder_tree.declared.mode.Mode.TheVariants.{Der}
+use Rattle.objects_written.specs.bcder_content.Kept.{CapturedValue}
+use Rattle.objects_written.specs.bcder_content.Texts.{SpellsOf}
+use Rattle.objects_written.specs.resources_ip_prefix.declared.addr.AddressFamily.{AddressFamily}
+use Rattle.objects_written.specs.objects_forms.Manifests.{IsManifest, Manifest}
+use Rattle.objects_written.specs.objects_forms.Roas.{FamilyAddresses, IsRoa, Roa, RoaAddress}
+use Rattle.objects_written.specs.Manifests.{AreFileNames, IsManifestNumber, manifest}
+use Rattle.objects_written.specs.Roas.{AreOfFamilies, HasAddress, roa, shown}
+use Rattle.objects_written.proofs.ManifestAgain.{manifest_text}
+use Rattle.objects_written.proofs.RoaAgain.{roa_text}
+
+pub shown_none : (f : AddressFamily) (xs : List RoaAddress) → xs ≡ [] → None ≡ shown f xs
+shown_none f xs e = subst (λ (l : List RoaAddress). None ≡ shown f l) (sym e) refl
+
+abbrev family_with : AddressFamily → List RoaAddress → Option FamilyAddresses
+family_with f xs = Some (record { family = f; addresses = xs })
+
+pub shown_some : (f : AddressFamily) (xs : List RoaAddress) → (xs ≡ [] → ⊥) → family_with f xs ≡ shown f xs
+shown_some f [] n = absurd (n refl)
+shown_some f (x ∷ xs) n = refl
+
+pub roa_told : {E : Type 0} (r : Roa) → AreOfFamilies r → (result : Result CapturedValue E) → IfOk result (λ c. (roa r).writes Der c.octets) → IfOk result (λ c. HasAddress r → SpellsOf Der IsRoa c.octets r)
+roa_told r all (Ok c) h = λ some. roa_text r c.octets some all h
+roa_told r all (Err e) h = tt
+
+pub manifest_told : {E : Type 0} (x : Manifest) → IsManifestNumber x.number → (result : Result CapturedValue E) → IfOk result (λ c. (manifest x).writes Der c.octets)
+    → IfOk result (λ c. AreFileNames x.files → SpellsOf Der IsManifest c.octets x)
+manifest_told x small (Ok c) h = λ names. manifest_text x c.octets small names h
+manifest_told x small (Err e) h = tt

@@ -1,0 +1,11 @@
+use Rattle.std.proofs.Common.{IfOk, subst}
+use Rattle.objects_written.specs.bcder_tree.declared.mode.Mode.TheVariants.{Der}
+use Rattle.objects_written.specs.objects_forms.Manifests.{Manifest}
+use Rattle.objects_written.specs.Manifests.{manifest}
+use Rattle.objects_written.proofs.Told.{manifest_told}
+use Rattle.objects_written.proofs.manifest.ManifestContentEncodeManifest.to_octets.Goals as goal
+
+pub returns-clause-again : goal.returns-clause-again
+returns-clause-again c =
+    manifest_told c.args.self.now c.value_of-value.ensures.small c.to_captured.result
+    (subst (λ (x : Manifest). IfOk c.to_captured.result (λ k. (manifest x).writes Der k.octets)) c.value_of-value.ensures.value c.to_captured.ensures.captured)

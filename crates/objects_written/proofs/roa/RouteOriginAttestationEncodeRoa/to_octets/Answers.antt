@@ -1,0 +1,11 @@
+use Rattle.std.proofs.Common.{IfOk, subst}
+use Rattle.objects_written.specs.bcder_tree.declared.mode.Mode.TheVariants.{Der}
+use Rattle.objects_written.specs.objects_forms.Roas.{Roa}
+use Rattle.objects_written.specs.Roas.{roa}
+use Rattle.objects_written.proofs.Told.{roa_told}
+use Rattle.objects_written.proofs.roa.RouteOriginAttestationEncodeRoa.to_octets.Goals as goal
+
+pub returns-clause-again : goal.returns-clause-again
+returns-clause-again c =
+    roa_told c.args.self.now c.value_of-value.ensures.families c.to_captured.result
+    (subst (λ (r : Roa). IfOk c.to_captured.result (λ k. (roa r).writes Der k.octets)) c.value_of-value.ensures.value c.to_captured.ensures.captured)

@@ -1,0 +1,174 @@
+//! The files of a manifest, written (RFC 9286 4.2).
+
+ghost use Rattle.std.specs.Prelude.{◌≡◌};
+ghost use Rattle.objects_written.specs.Manifests.{file, file_hash, file_name, file_parts};
+
+use crate::lists::Lists;
+use crate::pieces::Sequence;
+use certs_key::encode::{EncodeError, Primitive, Values};
+use certs_key::string::{BitSlice, OctetSliceEncoder};
+use certs_key::{Mode, Tag};
+use objects_manifest::{FileAndHash, FileListIter, ManifestContent};
+use std::io::Write;
+use std::marker::Model;
+
+/// The name of a file: an IA5String of these octets (RFC 9286 4.2.1).
+#[derive(Drop)]
+pub struct NameValue<'a>(&'a [u8]);
+
+impl Values for NameValue<'_> {
+    ghost trees = { λ v. (file_name v.0.now).trees };
+
+    ghost writes = { λ v. (file_name v.0.now).writes };
+
+    fn encoded_len(&self, mode: Mode) -> Result<usize, EncodeError> {
+        let value = OctetSliceEncoder {
+            tag: Tag::IA5_STRING,
+            octets: self.0,
+        };
+        value.encoded_len(mode)
+    }
+
+    fn write_encoded<W: Write>(&self, mode: Mode, target: &mut W) -> Result<(), EncodeError> {
+        let value = OctetSliceEncoder {
+            tag: Tag::IA5_STRING,
+            octets: self.0,
+        };
+        value.write_encoded(mode, target)
+    }
+
+    ghost spelled = { λ v. (file_name v.0.now).spelled };
+
+    ghost one_text = { λ v. (file_name v.0.now).one_text };
+}
+
+/// The hash of a file: a BIT STRING of these octets (RFC 9286 4.2.1).
+#[derive(Drop)]
+pub struct HashValue<'a>(&'a [u8]);
+
+impl Values for HashValue<'_> {
+    ghost trees = { λ v. (file_hash v.0.now).trees };
+
+    ghost writes = { λ v. (file_hash v.0.now).writes };
+
+    fn encoded_len(&self, mode: Mode) -> Result<usize, EncodeError> {
+        let value = Primitive {
+            tag: Tag::BIT_STRING,
+            content: BitSlice {
+                octets: self.0,
+                unused: 0,
+            },
+        };
+        value.encoded_len(mode)
+    }
+
+    fn write_encoded<W: Write>(&self, mode: Mode, target: &mut W) -> Result<(), EncodeError> {
+        let value = Primitive {
+            tag: Tag::BIT_STRING,
+            content: BitSlice {
+                octets: self.0,
+                unused: 0,
+            },
+        };
+        value.write_encoded(mode, target)
+    }
+
+    ghost spelled = { λ v. (file_hash v.0.now).spelled };
+
+    ghost one_text = { λ v. (file_hash v.0.now).one_text };
+}
+
+/// A file: `SEQUENCE { file IA5String, hash BIT STRING }` (RFC 9286 4.2). Contracts see its name and its hash.
+#[derive(Drop)]
+pub struct FileValue<'a> {
+    name: &'a [u8],
+    hash: &'a [u8],
+}
+
+impl<'a> Model for FileValue<'a> {
+    ghost use Rattle.objects_written.specs.objects_forms.Manifests.{File};
+
+    ghost Value = { File };
+
+    ghost view = { λ v. record { name = v.name.now; hash = v.hash.now } };
+}
+
+impl<'a> FileValue<'a> {
+    // What is written of a file.
+    fn of(file: &FileAndHash<'a>) -> FileValue<'a>
+        ensures { result ≡ file.now }
+    {
+        FileValue {
+            name: file.file(),
+            hash: file.hash(),
+        }
+    }
+
+    // The name and the hash, in a SEQUENCE.
+    fn parts(&self) -> Sequence<(NameValue<'a>, HashValue<'a>)>
+        ensures { (result.0.0.0.now, result.0.1.0.now) ≡ file_parts self.now }
+    {
+        Sequence((NameValue(self.name), HashValue(self.hash)))
+    }
+}
+
+impl Values for FileValue<'_> {
+    ghost trees = { λ v. (file v).trees };
+
+    ghost writes = { λ v. (file v).writes };
+
+    fn encoded_len(&self, mode: Mode) -> Result<usize, EncodeError> {
+        let value = self.parts();
+        value.encoded_len(mode)
+    }
+
+    fn write_encoded<W: Write>(&self, mode: Mode, target: &mut W) -> Result<(), EncodeError> {
+        let value = self.parts();
+        value.write_encoded(mode, target)
+    }
+
+    ghost spelled = { λ v. (file v).spelled };
+
+    ghost one_text = { λ v. (file v).one_text };
+}
+
+/// The files that a manifest lists, in its order. Contracts see them.
+#[derive(Drop)]
+pub struct ListedFiles<'a>(&'a ManifestContent);
+
+impl<'a> Model for ListedFiles<'a> {
+    ghost use Rattle.std.specs.Prelude.{List};
+    ghost use Rattle.objects_written.specs.objects_forms.Manifests.{File};
+
+    ghost Value = { List File };
+
+    ghost view = { λ f. f.0.now.files };
+}
+
+impl<'a> ListedFiles<'a> {
+    // The files of that manifest.
+    pub(crate) fn new(content: &'a ManifestContent) -> ListedFiles<'a>
+        ensures { result ≡ content.now.files }
+    {
+        ListedFiles(content)
+    }
+}
+
+impl<'a> Lists for ListedFiles<'a> {
+    type Item = FileValue<'a>;
+
+    type Pass = FileListIter<'a>;
+
+    ghost all = { λ f. f };
+
+    ghost left = { λ pass. pass };
+
+    fn pass(&self) -> FileListIter<'a> {
+        self.0.iter()
+    }
+
+    fn next(pass: &mut FileListIter<'a>) -> Option<FileValue<'a>> {
+        let file = pass.next()?;
+        Some(FileValue::of(&file))
+    }
+}

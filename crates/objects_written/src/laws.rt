@@ -1,0 +1,29 @@
+//! Laws of what is written: the contracts of functions that do nothing.
+
+ghost use Rattle.std.specs.Prelude.{ℕ, List};
+ghost use Rattle.objects_written.specs.bcder_tree.declared.mode.Mode.{Mode as ModeValue};
+ghost use Rattle.objects_written.specs.bcder_tree.declared.mode.Mode.TheVariants.{Der};
+ghost use Rattle.objects_written.specs.bcder_content.Grammar.{One};
+ghost use Rattle.objects_written.specs.bcder_content.Texts.{SpellsOf};
+ghost use Rattle.objects_written.specs.objects_forms.Manifests.{IsManifest, Manifest};
+ghost use Rattle.objects_written.specs.objects_forms.Roas.{Roa};
+ghost use Rattle.objects_roa.specs.Contents.{IsRoaIn};
+ghost use Rattle.objects_written.specs.Manifests.{AreFileNames, IsManifestNumber, manifest};
+ghost use Rattle.objects_written.specs.Roas.{AreOfFamilies, HasAddress, roa};
+
+/// What is written of an attestation that has an address is read again as the same attestation, in each mode.
+pub fn attestations_are_read_again()
+    ensures { (m : ModeValue) (r : Roa) (text : List ℕ) → HasAddress r → AreOfFamilies r
+        → (roa r).writes m text → SpellsOf m (IsRoaIn m) text r }
+{}
+
+/// What is written in DER of a manifest, whose files have names of the profile, is read again as the same manifest.
+pub fn manifests_are_read_again()
+    ensures { (x : Manifest) (text : List ℕ) → IsManifestNumber x.number → AreFileNames x.files
+        → (manifest x).writes Der text → SpellsOf Der IsManifest text x }
+{}
+
+/// A value is one manifest at most.
+pub fn one_manifest()
+    ensures { One IsManifest }
+{}
