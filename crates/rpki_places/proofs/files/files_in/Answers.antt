@@ -10,7 +10,7 @@ loop-listed-preserved c =
     let folder = c.args.folder.now in
     let file = c.in-Some-2.file in
     let is : IsFileIn object folder c.in-Some.listed.name file =
-        subst (λ (n : List ℕ). IsFileIn object folder n file) c.file.ensures (rw c.in-Some-2.is at c.in_ok-file.ensures) in
+    subst (λ (n : List ℕ). IsFileIn object folder n file) c.file.ensures (rw c.in-Some-2.is at c.in_ok-file.ensures) in
     more_read object folder c.args.manifest.now.files c.loop-listed.left c.loop-listed.files.items c.loop-listed.invariant
     c.in-Some.listed c.next.new.self file c.push.new.self.items c.in-Some.ensures.steps is c.in_ok-push.ensures.items
 
