@@ -1,5 +1,5 @@
 mod Pieces
-mod Ends
+pub mod Ends
 mod Forging
 mod Judging
 pub mod of_bcder_tree

@@ -1,21 +1,24 @@
 //! What is asked of a bundle, by whatever digests and verifies.
 
-ghost use Rattle.std.specs.Prelude.{◌≡◌, ◌+◌, ◌≤◌, IfOk, length};
+ghost use Rattle.std.specs.Prelude.{◌≡◌, ◌+◌, ◌≤◌, IfOk, length, map};
 ghost use Rattle.rpki_validator.specs.certs_key.Digesting.{digests_of};
 ghost use Rattle.rpki_validator.specs.rpki_rules.Judge.{IsJudged, may_ask};
 ghost use Rattle.rpki_validator.specs.rpki_rules.Reach.{IsReach};
 ghost use Rattle.rpki_validator.specs.rpki_rules.World.{world_of};
 ghost use Rattle.rpki_lines.specs.rpki_report.Report.{IsReport};
 ghost use Rattle.rpki_lines.specs.rpki_report.Views.{trace_of};
+ghost use Rattle.rpki_reach.specs.Chained.{AreNamingChains};
 ghost use Rattle.rpki_reach.specs.Naming.{answer_of};
+ghost use Rattle.rpki_reach.specs.rpki_report.Views.{way_of};
 
 use bytes::Bytes;
 use rpki_bundle::{Bundle, Digester, Verifier};
 use rpki_climb::{BundleEvidence, Judgement};
-use rpki_lines::{Report, Witness};
+use rpki_lines::{Path, Report, Witness};
 use rpki_reach::Reach;
 use rpki_steps::{BundleSteps, Index};
 use std::alloc::{AllocError, Global};
+use std::rc::Rc;
 
 /// The report of a bundle: all that accepted chains attest, and all that the rules refuse, by these digests
 /// and this verifier. Refused for want of memory alone.
@@ -25,12 +28,20 @@ pub fn walk<D: Digester, V: Verifier>(
     digester: &D,
     verifier: &mut V,
 ) -> Result<Report, AllocError>
-    ensures { IfOk result (IsReport (world_of
+    ensures report { IfOk result (IsReport (world_of
         (digests_of D.sha256_digest D.sha1_digest digester.now) (V.says verifier.old)
         bundle.now)) }
+    ensures same { V.says verifier.new ≡ V.says verifier.old }
 {
     let mut steps = BundleSteps::new(Index::new(bundle), digester, verifier);
-    rpki_reach::walk(alloc, &mut steps)
+    let report = rpki_reach::walk(alloc, &mut steps);
+    // So the caller's verifier is the one that was asked.
+    let BundleSteps {
+        verifier: asked,
+        ..
+    } = steps;
+    let _asked = asked;
+    report
 }
 
 /// Whether the witness is one of those that a walk of the bundle lists. It is read from its object upward, so that the
@@ -47,6 +58,12 @@ pub fn judge_by<D: Digester, V: Verifier>(
         j.points) }
     ensures asked { V.count evidence.new.verifier.now ≤ V.count evidence.old.verifier.now
         + may_ask (length (trace_of witness.now).chain) }
+    ensures same { V.says evidence.new.verifier.now ≡ V.says evidence.old.verifier.now }
+    ensures same_world { world_of
+        (digests_of D.sha256_digest D.sha1_digest evidence.new.digester.now)
+        (V.says evidence.new.verifier.now) evidence.new.index ≡ world_of
+        (digests_of D.sha256_digest D.sha1_digest evidence.old.digester.now)
+        (V.says evidence.old.verifier.now) evidence.old.index }
     ensures same_verifier { evidence.new.verifier.ghost_name
         ≡ evidence.old.verifier.ghost_name }
 {
@@ -55,8 +72,9 @@ pub fn judge_by<D: Digester, V: Verifier>(
     rpki_climb::judge(alloc, evidence, locator, witness.chain(), object)
 }
 
-/// Whether the witness is one of those that a walk of the bundle lists, by this digester and this verifier. It asks what
-/// [`judge_by`] asks, whose contract has the bound on how often.
+/// Whether the witness is one of those that a walk of the bundle lists, by this digester and this verifier. It is read from
+/// its object upward, so that the verifier is asked for a few signatures a certificate, however much the bundle has: at most
+/// 4 times the chain's length and 2 more, whatever the answer. Refused for want of memory alone.
 pub fn judge<D: Digester, V: Verifier>(
     alloc: Global,
     bundle: &Bundle,
@@ -64,12 +82,22 @@ pub fn judge<D: Digester, V: Verifier>(
     digester: &D,
     verifier: &mut V,
 ) -> Result<Judgement, AllocError>
-    ensures { IfOk result (λ j. IsJudged (world_of
+    ensures judged { IfOk result (λ j. IsJudged (world_of
         (digests_of D.sha256_digest D.sha1_digest digester.now) (V.says verifier.old) bundle.now)
         (trace_of witness.now) j.yes j.points) }
+    ensures same { V.says verifier.new ≡ V.says verifier.old }
+    ensures asked { V.count verifier.new ≤ V.count verifier.old
+        + may_ask (length (trace_of witness.now).chain) }
 {
     let mut evidence = BundleEvidence::new(Index::new(bundle), digester, verifier);
-    judge_by(alloc, &mut evidence, witness)
+    let judged = judge_by(alloc, &mut evidence, witness);
+    // So the caller's verifier is the one that was asked.
+    let BundleEvidence {
+        verifier: asked,
+        ..
+    } = evidence;
+    let _asked = asked;
+    judged
 }
 
 /// What whoever may change the objects at these URIs can reach: `Locator` exactly where a readable locator names one of them,
@@ -81,10 +109,43 @@ pub fn reach<D: Digester, V: Verifier>(
     digester: &D,
     verifier: &mut V,
 ) -> Result<Reach, AllocError>
-    ensures { IfOk result (λ r. IsReach uris.now (world_of
+    ensures reach { IfOk result (λ r. IsReach uris.now (world_of
         (digests_of D.sha256_digest D.sha1_digest digester.now) (V.says verifier.old) bundle.now)
         (answer_of r)) }
+    ensures same { V.says verifier.new ≡ V.says verifier.old }
 {
     let mut steps = BundleSteps::new(Index::new(bundle), digester, verifier);
-    rpki_reach::whole::reach(alloc, &mut steps, uris)
+    let reached = rpki_reach::whole::reach(alloc, &mut steps, uris);
+    // So the caller's verifier is the one that was asked.
+    let BundleSteps {
+        verifier: asked,
+        ..
+    } = steps;
+    let _asked = asked;
+    reached
+}
+
+/// The accepted chains whose last certificate names one of these URIs, as its manifest's or in a manifest that stands there:
+/// each once, by locator and lookup keys. Refused for want of memory alone.
+pub fn naming_chains<D: Digester, V: Verifier>(
+    alloc: Global,
+    bundle: &Bundle,
+    uris: &[Bytes],
+    digester: &D,
+    verifier: &mut V,
+) -> Result<Vec<Rc<Path>>, AllocError>
+    ensures chains { IfOk result (λ paths. AreNamingChains uris.now (world_of
+        (digests_of D.sha256_digest D.sha1_digest digester.now) (V.says verifier.old) bundle.now)
+        (map (λ p. way_of p.value) paths.items)) }
+    ensures same { V.says verifier.new ≡ V.says verifier.old }
+{
+    let mut steps = BundleSteps::new(Index::new(bundle), digester, verifier);
+    let chains = rpki_reach::naming_chains(alloc, &mut steps, uris);
+    // So the caller's verifier is the one that was asked.
+    let BundleSteps {
+        verifier: asked,
+        ..
+    } = steps;
+    let _asked = asked;
+    chains
 }

@@ -1,5 +1,5 @@
-//! The validator: what a walk reports of a bundle, what a judge says of one witness, what some URIs can reach, and what a
-//! run prints.
+//! The validator: what a walk reports of a bundle, what a judge says of one witness, what some URIs can reach and by which
+//! chains, and what a run prints.
 #![tactic(auto)]
 
 pub mod bundles;
@@ -8,7 +8,7 @@ pub mod laws;
 pub mod runs;
 pub mod streams;
 
-pub use bundles::{judge, judge_by, reach, walk};
+pub use bundles::{judge, judge_by, naming_chains, reach, walk};
 pub use counted::Counted;
 pub use rpki_bundle::uri::lookup_key;
 pub use rpki_bundle::{Bundle, BundleError, Digester, Locator, Object, Time, Verdict};
