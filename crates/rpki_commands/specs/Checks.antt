@@ -2,7 +2,7 @@
 use Rattle.std.specs.Prelude.{ℕ, List, Option, Err}
 use Rattle.rpki_validator.specs.declared.runs.RunError.{RunError}
 use Rattle.rpki_validator.specs.Run.{RunFails, CountsReads, CountsWrites}
-use Rattle.rpki_commands.specs.Fips.{fips}
+use Rattle.rpki_digests.specs.Fips.{fips}
 
 -- Counts of failures, before and after.
 pub record Counts : Type 0 where

@@ -1,6 +1,6 @@
 pub use Rattle.rpki_validator.specs.rpki_bundle.Bundle
 pub mod Arguments
-pub mod Fips
+pub use Rattle.rpki_digests.specs.Fips
 pub mod Checks
 pub mod Lines
 pub mod Verdicts

@@ -3,11 +3,11 @@
 ghost use Rattle.std.specs.Prelude.{◌≡◌, ◌⊎◌, ◌<◌, ◌-◌, ◌^◌};
 ghost use Rattle.rpki_validator.specs.Run.{Prints};
 ghost use Rattle.rpki_commands.specs.Checks.{EndsInFault};
-ghost use Rattle.rpki_commands.specs.Fips.{fips};
+ghost use Rattle.rpki_digests.specs.Fips.{fips};
 ghost use Rattle.rpki_commands.specs.Texts.{WritesText, EndsWithFault};
 
-use crate::digests::Fips;
 use crate::folder::write_bundle;
+use rpki_digests::Fips;
 use rpki_validator::{Counted, run};
 use std::alloc::Global;
 use std::io::{Read, Write};

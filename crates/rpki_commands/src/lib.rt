@@ -3,12 +3,11 @@
 
 pub mod arguments;
 pub mod commands;
-pub mod digests;
 pub mod folder;
 
 pub use arguments::{Command, USAGE, command_of};
 pub use commands::{FAILED, bundle, check};
-pub use digests::Fips;
+pub use rpki_digests::Fips;
 pub use rpki_validator::{
     Bundle, Cause, Counted, Digester, Judgement, Path, Reach, Refusal, Report, RunError,
     TableVerifier, Witness, judge, lookup_key, reach, read_bundle, run, walk, word_of, write_all,

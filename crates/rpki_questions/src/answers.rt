@@ -3,8 +3,10 @@
 use crate::requests::{Question, Request};
 use crate::texts::{self, Facts};
 use bytes::Bytes;
-use rpki_commands::{
-    Bundle, Fips, Path, Reach, Report, TableVerifier, Witness, judge, lookup_key, reach, walk,
+use rpki_digests::Fips;
+use rpki_validator::{
+    Bundle, Path, Reach, Report, TableVerifier, Witness, judge, lookup_key, naming_chains, reach,
+    walk,
 };
 use std::alloc::{AllocError, Global};
 use std::rc::Rc;
@@ -88,12 +90,18 @@ fn has(witness: &Witness, key: &[u8]) -> bool {
     witness.object().as_slice() == key || witness.chain().iter().any(|uri| uri.as_slice() == key)
 }
 
-// The facts of a report about a URI, by its lookup key, or a locator's name.
-fn facts_about<'a>(alloc: Global, report: &'a Report, name: &str) -> Result<Facts<'a>, AllocError> {
+// The facts about a URI, by its lookup key, or a locator's name: those of a report, and the chains that name it.
+fn facts_about<'a>(
+    alloc: Global,
+    report: &'a Report,
+    chains: &'a [Rc<Path>],
+    name: &str,
+) -> Result<Facts<'a>, AllocError> {
     let key = key_of(alloc, name)?;
     let mut facts = Facts {
         refusals: Vec::new(alloc),
         witnesses: Vec::new(alloc),
+        chains,
     };
     for refusal in report.refusals() {
         let own = refusal.name().as_slice();
@@ -113,9 +121,11 @@ fn facts_about<'a>(alloc: Global, report: &'a Report, name: &str) -> Result<Fact
 fn told(alloc: Global, bundle: &Bundle, uri: &str, json: bool) -> Result<Answer, AllocError> {
     let mut verifier = TableVerifier::new(bundle, &Fips);
     let report = walk(alloc, bundle, &Fips, &mut verifier)?;
-    let facts = facts_about(alloc, &report, uri)?;
+    let uris = [Bytes::copy_from_slice(alloc, uri.as_bytes())?];
+    let chains = naming_chains(alloc, bundle, &uris, &Fips, &mut verifier)?;
+    let facts = facts_about(alloc, &report, &chains, uri)?;
     let text = texts::facts_text(alloc, &facts, json)?;
-    let yes = !facts.refusals.is_empty() || !facts.witnesses.is_empty();
+    let yes = !facts.refusals.is_empty() || !facts.witnesses.is_empty() || !facts.chains.is_empty();
     Ok(Answer { text, yes })
 }
 

@@ -1,10 +1,13 @@
 //! A question, over any reader and writers.
 
-ghost use Rattle.std.specs.Prelude.{◌<◌, ◌-◌, ◌^◌};
+ghost use Rattle.std.specs.Prelude.{◌≡◌, ◌⊎◌, ◌<◌, ◌-◌, ◌^◌, IfErr, OnOk};
+ghost use Rattle.rpki_validator.specs.Run.{CountsReads, CountsWrites};
+ghost use Rattle.rpki_questions.specs.Asking.{Answers, AskFails, EndsInFault};
 
 use crate::answers::answer_to;
 use crate::requests::Request;
-use rpki_commands::{Counted, RunError, read_bundle, write_all};
+use rpki_validator::laws::bundle_length;
+use rpki_validator::{Counted, RunError, read_bundle, write_all};
 use std::alloc::Global;
 use std::io::{Read, Write};
 
@@ -26,9 +29,26 @@ fn ask_all<R: Read, W: Write>(
 ) -> Result<bool, RunError>
     requires few_reads { reader.old.failures < 2 ^ 64 - 1 }
     requires few_writes { writer.old.failures < 2 ^ 64 - 1 }
+
+    ensures ok { OnOk result
+        (Answers (R.remaining reader.old.inner) (R.remaining reader.new.inner)
+        (W.contents writer.old.inner) (W.contents writer.new.inner)) }
+    ensures refused { IfErr result
+        (λ e. AskFails e (R.remaining reader.old.inner) (R.remaining reader.new.inner)
+        (W.contents writer.old.inner) (W.contents writer.new.inner)) }
+    ensures reads { CountsReads result reader.old.failures reader.new.failures }
+    ensures writes { CountsWrites result writer.old.failures writer.new.failures }
 {
-    let bundle = read_bundle(alloc, reader)?;
-    let answer = answer_to(alloc, &bundle, request)?;
+    // So a bundle that was read has fewer octets than where reading stops.
+    bundle_length();
+    let bundle = match read_bundle(alloc, reader) {
+        Ok(bundle) => bundle,
+        Err(error) => return Err(error),
+    };
+    let answer = match answer_to(alloc, &bundle, request) {
+        Ok(answer) => answer,
+        Err(_) => return Err(RunError::Memory),
+    };
     match write_all(writer, answer.text.as_slice()) {
         Ok(()) => Ok(answer.yes),
         Err(_) => Err(RunError::Write),
@@ -46,6 +66,19 @@ pub fn ask<R: Read, W: Write, F: Write>(
 ) -> u8
     requires few_reads { reader.old.failures < 2 ^ 64 - 1 }
     requires few_writes { writer.old.failures < 2 ^ 64 - 1 }
+
+    ensures status { (result ≡ 0) ⊎ ((result ≡ 1) ⊎ (result ≡ 2)) }
+    ensures answered { result < 2
+        → Answers (R.remaining reader.old.inner) (R.remaining reader.new.inner)
+        (W.contents writer.old.inner) (W.contents writer.new.inner) }
+    ensures answered_counts { result < 2
+        → (reader.new.failures ≡ reader.old.failures)
+        × (writer.new.failures ≡ writer.old.failures) }
+    ensures failed { result ≡ 2
+        → EndsInFault (R.remaining reader.old.inner) (R.remaining reader.new.inner)
+        (W.contents writer.old.inner) (W.contents writer.new.inner)
+        (record { before = reader.old.failures; after = reader.new.failures })
+        (record { before = writer.old.failures; after = writer.new.failures }) }
 {
     match ask_all(alloc, request, reader, writer) {
         Ok(true) => YES,

@@ -11,4 +11,4 @@ mod texts;
 
 pub use asking::{FAULT, NO, YES, ask};
 pub use requests::{Question, Request, USAGE, request_of};
-pub use rpki_commands::{Counted, RunError};
+pub use rpki_validator::{Counted, RunError};

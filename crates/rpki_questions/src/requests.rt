@@ -18,8 +18,8 @@ pub enum Question<'a> {
         /// The URIs.
         uris: &'a [String],
     },
-    /// `why URI`: each refusal of that URI or locator's name, and each good witness with that URI as its object or on its
-    /// chain.
+    /// `why URI`: each refusal of that URI or locator's name, each good object that has the URI or has it on its chain, and
+    /// each accepted chain that names the URI: as its manifest's, or in the manifest that stands there.
     Why {
         /// The URI, or the name.
         uri: &'a str,

@@ -1,16 +1,19 @@
 //! Answers as texts: a fact a line, or one JSON object (RFC 8259).
 
 use bytes::Bytes;
-use rpki_commands::{Judgement, Reach, Refusal, Witness, word_of};
+use rpki_validator::{Judgement, Path, Reach, Refusal, Witness, word_of};
 use std::alloc::{AllocError, Global};
+use std::rc::Rc;
 
 /// The facts about a name or a URI.
 #[derive(Drop)]
 pub(crate) struct Facts<'a> {
     /// What is refused.
     pub(crate) refusals: Vec<&'a Refusal>,
-    /// The accepted chains with the objects that are good by them.
+    /// The objects that are good, with their accepted chains.
     pub(crate) witnesses: Vec<&'a Witness>,
+    /// The accepted chains that name the URI.
+    pub(crate) chains: &'a [Rc<Path>],
 }
 
 // Appends a JSON string of printable octets.
@@ -86,18 +89,29 @@ fn push_refusal(text: &mut Vec<u8>, refusal: &Refusal) -> Result<(), AllocError>
     Ok(())
 }
 
-// good OBJECT LOCATOR URI ..
-fn push_witness(text: &mut Vec<u8>, witness: &Witness) -> Result<(), AllocError> {
-    text.extend_from_slice(b"good ")?;
-    text.extend_from_slice(witness.object().as_slice())?;
-    text.push(b' ')?;
-    text.extend_from_slice(witness.locator().as_slice())?;
-    for uri in witness.chain() {
+// LOCATOR URI .., and the end of the line
+fn push_way(text: &mut Vec<u8>, locator: &Bytes, chain: &[Bytes]) -> Result<(), AllocError> {
+    text.extend_from_slice(locator.as_slice())?;
+    for uri in chain {
         text.push(b' ')?;
         text.extend_from_slice(uri.as_slice())?;
     }
     text.push(b'\n')?;
     Ok(())
+}
+
+// good OBJECT LOCATOR URI ..
+fn push_witness(text: &mut Vec<u8>, witness: &Witness) -> Result<(), AllocError> {
+    text.extend_from_slice(b"good ")?;
+    text.extend_from_slice(witness.object().as_slice())?;
+    text.push(b' ')?;
+    push_way(text, witness.locator(), witness.chain())
+}
+
+// chain LOCATOR URI ..
+fn push_chain(text: &mut Vec<u8>, path: &Path) -> Result<(), AllocError> {
+    text.extend_from_slice(b"chain ")?;
+    push_way(text, path.locator(), path.chain())
 }
 
 // {"name":..,"cause":..}
@@ -110,16 +124,32 @@ fn push_refusal_object(text: &mut Vec<u8>, refusal: &Refusal) -> Result<(), Allo
     Ok(())
 }
 
+// "locator":..,"chain":[..]}
+fn push_way_members(
+    text: &mut Vec<u8>,
+    locator: &Bytes,
+    chain: &[Bytes],
+) -> Result<(), AllocError> {
+    text.extend_from_slice(b"\"locator\":")?;
+    push_string(text, locator.as_slice())?;
+    text.extend_from_slice(b",\"chain\":")?;
+    push_strings(text, chain)?;
+    text.push(b'}')?;
+    Ok(())
+}
+
 // {"object":..,"locator":..,"chain":[..]}
 fn push_witness_object(text: &mut Vec<u8>, witness: &Witness) -> Result<(), AllocError> {
     text.extend_from_slice(b"{\"object\":")?;
     push_string(text, witness.object().as_slice())?;
-    text.extend_from_slice(b",\"locator\":")?;
-    push_string(text, witness.locator().as_slice())?;
-    text.extend_from_slice(b",\"chain\":")?;
-    push_strings(text, witness.chain())?;
-    text.push(b'}')?;
-    Ok(())
+    text.push(b',')?;
+    push_way_members(text, witness.locator(), witness.chain())
+}
+
+// {"locator":..,"chain":[..]}
+fn push_chain_object(text: &mut Vec<u8>, path: &Path) -> Result<(), AllocError> {
+    text.push(b'{')?;
+    push_way_members(text, path.locator(), path.chain())
 }
 
 // The facts as one JSON object.
@@ -139,6 +169,13 @@ fn facts_object(alloc: Global, facts: &Facts<'_>) -> Result<Vec<u8>, AllocError>
         }
         push_witness_object(&mut text, witness)?;
     }
+    text.extend_from_slice(b"],\"chains\":[")?;
+    for (place, path) in facts.chains.iter().enumerate() {
+        if place > 0 {
+            text.push(b',')?;
+        }
+        push_chain_object(&mut text, path.as_ref())?;
+    }
     text.extend_from_slice(b"]}\n")?;
     Ok(text)
 }
@@ -152,10 +189,13 @@ fn facts_lines(alloc: Global, facts: &Facts<'_>) -> Result<Vec<u8>, AllocError> 
     for witness in &facts.witnesses {
         push_witness(&mut text, witness)?;
     }
+    for path in facts.chains {
+        push_chain(&mut text, path.as_ref())?;
+    }
     Ok(text)
 }
 
-/// The text of facts: what is refused, and the chains by which objects are good.
+/// The text of facts: what is refused, by which chains objects are good, and which chains name the URI.
 pub(crate) fn facts_text(
     alloc: Global,
     facts: &Facts<'_>,
