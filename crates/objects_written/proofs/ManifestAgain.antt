@@ -1,5 +1,5 @@
 -- What is written of a manifest is read again.
-use Rattle.std.proofs.Common.{◌≡◌, ℕ, ◌-◌, ◌%◌, ◌^◌, ◌<◌, List, [], ◌∷◌, Some, None, inl, inr, refl, sym, ap, ◌∙◌, subst, arith}
+use Rattle.std.proofs.Common.{◌≡◌, ℕ, ◌-◌, ◌%◌, ◌^◌, List, [], ◌∷◌, None, inl, inr, refl, sym, ap, ◌∙◌, subst, arith}
 use Rattle.std.specs.Prelude.{All}
 use Rattle.std.proofs.lemmas.List.Elements.{All-append, All-cons, All-head, All-tail, All-weaker}
 use native.Mathlib.Nat.{mod-one}
@@ -8,16 +8,16 @@ use Rattle.objects_written.specs.bcder_tree.Tags.{TagValue, context, universal}
 use Rattle.objects_written.specs.bcder_tree.Tree.{Tree, Trees, constructed, more, none, primitive}
 use Rattle.objects_written.specs.bcder_tree.Strings.{IsIa5, IsLetter}
 use Rattle.objects_written.specs.bcder_bits.Bits.{BitsValue}
-use Rattle.objects_written.specs.bcder_bits.Contents.{IsBitString, cleared, last_octet}
+use Rattle.objects_written.specs.bcder_bits.Contents.{IsBitString, cleared}
 use Rattle.objects_written.specs.bcder_chars.Sets.{alone}
 use Rattle.objects_written.specs.bcder_strings.Restricted.{IsRestricted}
 use Rattle.objects_written.specs.bcder_content.Contents.{tag_of}
-use Rattle.objects_written.specs.bcder_content.Grammar.{End, Many, ManyCases, OctetsOf, One, Such, Then, Without}
+use Rattle.objects_written.specs.bcder_content.Grammar.{End, Many, ManyCases, OctetsOf, Such, Then, Without}
 use Rattle.objects_written.specs.bcder_content.Texts.{SpellsOf}
 use Rattle.certs_key.proofs.of_bcder_chars.Ascii.{ascii_text}
 use Rattle.certs_key.proofs.of_bcder_content.Unique.{same_trees}
 use Rattle.objects_written.specs.bcder_values.Forms.{Alone}
-use Rattle.objects_written.specs.bcder_written.Encoded.{SpellsSome, joined}
+use Rattle.objects_written.specs.bcder_written.Encoded.{joined}
 use Rattle.objects_written.specs.certs_basics.Basics.{IsSerial}
 use Rattle.objects_written.specs.objects_forms.Identifiers as id
 use Rattle.objects_written.specs.objects_forms.Manifests.{Fields, File, IsFile, IsFileName, IsManifest, IsMomentString, IsWhole, Manifest}

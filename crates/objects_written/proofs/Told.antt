@@ -1,5 +1,5 @@
 -- What calls answer, in terms of what is written.
-use Rattle.std.proofs.Common.{◌≡◌, ◌^◌, ◌<◌, ℕ, List, [], ◌∷◌, length, Option, Some, None, Result, Ok, Err, IfOk, IfErr, refl, sym, subst}
+use Rattle.std.proofs.Common.{◌≡◌, List, [], ◌∷◌, Option, Some, None, Result, Ok, Err, IfOk, refl, sym, subst}
 use Rattle.objects_written.specs.bcder_tree.declared.mode.Mode.TheVariants.{Der}
 use Rattle.objects_written.specs.bcder_content.Kept.{CapturedValue}
 use Rattle.objects_written.specs.bcder_content.Texts.{SpellsOf}
