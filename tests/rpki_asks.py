@@ -15,6 +15,7 @@ import subprocess
 import sys
 
 import rpki_model
+from rpki_questions import fact_object, fact_rows
 from rpki_random import bundle_by_chance
 from rpki_walks import run_text, worked_cases
 
@@ -25,11 +26,14 @@ def ask(program, octets, *words):
 
 
 def why(found, name):
-    """A line for each refusal of that name, and for each witness that has it on its chain or as its object."""
-    refusals = [f"refused {refused.decode()} {cause.decode()}" for refused, cause in sorted(found.refusals) if refused == name]
-    witnesses = sorted((file, locator, chain) for locator, chain, file in found.witnesses if name in (file, *chain))
-    rows = refusals + [" ".join(part.decode() for part in (b"good", file, locator, *chain)) for file, locator, chain in witnesses]
+    """A line for each fact."""
+    rows = fact_rows(found, name)
     return int(not rows), "".join(f"{row}\n" for row in rows), ""
+
+
+def why_object(found, name):
+    """The facts as one JSON object, on a line."""
+    return int(not fact_rows(found, name)), fact_object(found, name) + "\n", ""
 
 
 def reach(found, uris):
@@ -74,11 +78,14 @@ def differences(program, rng, octets):
             yield "why x", said, "not a bundle"
         return
     keys = sorted(found.held)
-    names = sorted({name for name, _ in found.refusals} | set(rng.sample(keys, min(len(keys), 5))))
+    names = sorted({name for name, _ in found.refusals} | set(rng.sample(keys, min(len(keys), 6))))
     for name in names:
         said = ask(program, octets, "why", name.decode())
         if said != why(found, name):
             yield f"why {name}", said, why(found, name)
+        said = ask(program, octets, "--json", "why", name.decode())
+        if said != why_object(found, name):
+            yield f"--json why {name}", said, why_object(found, name)
     for witness in witnesses(rng, found):
         locator, chain, file = witness
         said = ask(program, octets, "judge", locator.decode(), file.decode(), *(uri.decode() for uri in chain))

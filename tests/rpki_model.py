@@ -70,7 +70,7 @@ class Walk:
         self.bundle, self.digests = bundle, digests
         self.held, self.table = dict(bundle.objects), set(bundle.verdicts)
         self.origins, self.customers, self.refusals, self.witnesses = set(), {}, set(), set()
-        # the last certificate of each accepted chain, with what the chain holds
+        # of each accepted chain the locator's name, the lookup keys, the last certificate and what the chain holds
         self.accepted = []
         for locator, text in bundle.locators:
             self.from_locator(locator, text)
@@ -148,7 +148,7 @@ class Walk:
     def below(self, named, chain, held):
         """All below an accepted chain, whose last certificate holds this."""
         uri, issuer = chain[-1]
-        self.accepted.append((issuer, held))
+        self.accepted.append((named, tuple(key for key, _ in chain), issuer, held))
         try:
             point = self.point(issuer, held)
         except Refused:
@@ -232,6 +232,18 @@ class Walk:
             return False
         return any(lookup_key(join(issuer.place("repository"), file)) in keys for file, _ in listed)
 
+    def naming(self, uri):
+        """The accepted chains whose last certificate names the URI, each a locator's name and lookup keys, in order."""
+        keys = {lookup_key(uri)} if uri_kind(uri) else set()
+        return sorted({(named, chain) for named, chain, issuer, _ in self.accepted if self.names(issuer, keys)})
+
+    def why(self, name):
+        """What is told of a locator's name or a URI, as rows of octets: its refusals, by name and cause; the good objects
+        that have it or have it on their chain, by object, locator and chain; the accepted chains that name it."""
+        refusals = sorted(row for row in self.refusals if row[0] in (name, lookup_key(name)))
+        goods = sorted((file, named, *chain) for named, chain, file in self.witnesses if lookup_key(name) in (file, *chain))
+        return refusals, goods, [(named, *chain) for named, chain in self.naming(name)]
+
     def reach(self, uris):
         """None where a readable locator names one of the URIs, else by kind the numbers of the chains that name one."""
         keys = {lookup_key(uri) for uri in uris if uri_kind(uri)}
@@ -241,7 +253,7 @@ class Walk:
                     return None
             except Refused:
                 pass
-        reached = [held for issuer, held in self.accepted if self.names(issuer, keys)]
+        reached = [held for _, _, issuer, held in self.accepted if self.names(issuer, keys)]
         return {kind: joined(run for held in reached for run in held[kind]) for kind in KINDS}
 
 
