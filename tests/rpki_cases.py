@@ -14,6 +14,7 @@ import re
 import shutil
 
 import rpki_model
+import rpki_questions
 import rpki_walks
 from rpki_bundles import bundle, is_date, is_key, is_lawful, lookup_key, read, uri_kind
 from rpki_repositories import MOMENT, tlv
@@ -659,7 +660,7 @@ def stored_cases():
 def main():
     q = Questions()
     shutil.rmtree(DATA, ignore_errors=True)
-    for part in (worked_cases, streams, texts, bundles, get_and_parts, times, uris, rpki_walks.walks, case_folder, kinds_of_entries, made_folders, spelled_lines):
+    for part in (worked_cases, streams, texts, bundles, get_and_parts, times, uris, rpki_walks.walks, rpki_questions.questions, case_folder, kinds_of_entries, made_folders, spelled_lines):
         part(q)
     stored_cases()
     (FOLDER / "stdin").write_text("".join(f"{question}\n" for question, _ in q.rows))

@@ -32,8 +32,8 @@ fn run_of(alloc: Global, answer: &mut Answer, octets: &str, streams: Streams<'_>
     Ok(())
 }
 
-// What a command answered, wrote and told.
-fn end(answer: &mut Answer, status: u8, written: &[u8], faults: &[u8]) {
+/// What a command answered, wrote and told.
+pub fn end(answer: &mut Answer, status: u8, written: &[u8], faults: &[u8]) {
     answer.say(&status);
     answer.say(&"[");
     answer.lines(written);

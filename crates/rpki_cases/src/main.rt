@@ -11,6 +11,7 @@ mod files;
 mod judges;
 mod noting;
 mod octets;
+mod questions;
 mod streams;
 mod times;
 mod uris;
@@ -36,6 +37,7 @@ fn answer(rt: &HostRuntime, words: &[&str]) -> Answer {
         "witnesses" | "judge" | "asks" | "reach" => {
             judges::answer(rt.alloc(), &mut answer, *question, rest)
         }
+        "ask" => questions::answer(rt.alloc(), &mut answer, rest),
         "walk" | "flips" | "cuts" | "rooms" | "reads" => {
             walks::answer(rt.alloc(), &mut answer, *question, rest)
         }
