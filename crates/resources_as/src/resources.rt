@@ -211,7 +211,7 @@ impl AsResourcesBuilder {
         self.choice = ResourcesChoice::Inherit;
     }
 
-    /// The blocks that `build` pushes, behind those that were listed already and in place of `inherit`. Where
+    /// The blocks that `build` pushes, after those that were listed already and in place of `inherit`. Where
     /// `build` or a growth of memory is refused nothing changes.
     pub fn blocks<F: FnOnce(&mut AsBlocksBuilder) -> Result<(), AllocError>>(
         &mut self,

@@ -217,7 +217,7 @@ impl IpResourcesBuilder {
         self.choice = ResourcesChoice::Inherit;
     }
 
-    /// The blocks that `build` pushes, behind those that were listed already and in place of `inherit`. Where
+    /// The blocks that `build` pushes, after those that were listed already and in place of `inherit`. Where
     /// `build` or a growth of memory is refused nothing changes.
     pub fn blocks<F: FnOnce(&mut IpBlocksBuilder) -> Result<(), AllocError>>(
         &mut self,
