@@ -1,4 +1,4 @@
--- Providers that are told one by one, in their order.
+-- Providers that are given one by one, in their order.
 use Rattle.std.specs.Prelude.{◌≡◌, ◌≢◌, ℕ, ◌<◌, ◌≤◌, List, [], ◌∷◌, length, Option, Some, None}
 use Rattle.objects_aspa.specs.declared.run.Run.{Run}
 

@@ -1,4 +1,4 @@
-//! Providers that are told one by one, in their order.
+//! Providers that are given one by one, in their order.
 
 ghost use Rattle.std.specs.Prelude.{◌≡◌, ◌+◌, ◌↔◌, IsTrue, IfNone, IfSome, None, Some};
 ghost use Rattle.objects_aspa.specs.Orders.{Admits, MayFollow};

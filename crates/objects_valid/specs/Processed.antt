@@ -38,7 +38,7 @@ Processes passes fails d good strict now issuer o content (Err e) = FailsObject 
 abbrev pub Test : Type 1
 Test = Result (Unit {0}) ValidationError → Type 0
 
--- The caller's test passes, or it refuses: lack of memory is told as that, and all other causes as one refusal.
+-- The caller's test passes, or it refuses: lack of memory is reported as that, and all other causes as one refusal.
 abbrev pub PassesTest : Test → Type 0
 PassesTest says = says (Ok tt)
 
