@@ -44,9 +44,14 @@ def words_of(path):
         inside = line.startswith("  pub ") and not line.startswith("  pub data") and not line.startswith("  pub record")
         if found and found[1] not in ("use", "mod") and (not inside or is_mutual(lines, line)):
             words.append((found[1], " ".join(comment)))
-        if text or not comment:
+        if text or not comment or not is_said(comment):
             comment = []
     return own, words
+
+
+def is_said(comment):
+    """Whether a comment with an empty line behind it says something of what follows, and isn't only a heading."""
+    return comment[-1].endswith(".")
 
 
 def is_mutual(lines, line):
