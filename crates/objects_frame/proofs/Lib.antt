@@ -1,0 +1,5 @@
+pub mod Ordering
+pub mod Sets
+pub mod Again
+pub mod Refusing
+pub mod FrameAgain
