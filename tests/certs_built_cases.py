@@ -305,6 +305,7 @@ def questions():
         asked, message = list(words(fields)), tbs(fields)
         some = any(fields.get(key) is not None for key in ("v4", "v6", "asn"))
         yield ["der", *asked], message.hex(), ("der", about) if about in OTHERS else None
+        yield ["copy", *asked], message.hex(), ("copy", about) if about in ("v4", "v6", "asn", "router", "notify", "anchor") else None
         yield ["ber", *asked], message.hex(), ("ber", about) if about in OTHERS else None
         yield ["cer", *asked], "no form in CER", ["cer"]
         if about in ("v4", "v6", "asn") and isinstance(fields.get(about), list):

@@ -463,6 +463,17 @@ def fields():
     assert world.basic(False).endswith(tlv(4, b"\x30\x00"))
 
 
+def copies():
+    """A copy is told as the certificate is, and is written as the same octets."""
+    for role in TESTS:
+        for parts in (made(role), whole(role)):
+            ask(f"{parts.told()} {parts.octets()}", "copy", parts.octets(), about=("copy", role, parts.octets()))
+    for parts in (made_trimmed(), made("ca", sets(outer=SIGN_BARE)), made("ee", sets(inner=SIGN_BARE))):
+        ask(f"{parts.told()} {parts.octets()}", "copy", parts.octets(), about=("copy", parts.octets()))
+    for parts in (made("ta"), made("ta", sets(trims=True)), issuer()):
+        ask(f"{parts.held()} {parts.octets()}", "anchor-copy", "strict", MOMENT.decode(), parts.octets(), about=("copy", parts.octets()))
+
+
 def refusals():
     """Certificates of which one field is left out, doubled, of another kind, or cut."""
     good = made("ca")
@@ -664,6 +675,7 @@ def all_questions():
     faults()
     lists()
     fields()
+    copies()
     refusals()
     anchors()
     anchor_cert()

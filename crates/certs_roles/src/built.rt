@@ -91,9 +91,21 @@ fn valid(alloc: Global, answer: &mut Answer, words: &[&str]) -> Result<()> {
     }
 }
 
+// What is written of a copy of the fields, once these are let go.
+fn say_copy(alloc: Global, answer: &mut Answer, tbs: TbsCert) {
+    match tbs.clone() {
+        Ok(copy) => {
+            drop(tbs);
+            say_written(alloc, answer, &copy.encode_ref(), Mode::Der);
+        }
+        Err(error) => answer.say(&error),
+    }
+}
+
 // What is said of the fields.
 fn say_fields(alloc: Global, answer: &mut Answer, what: &str, tbs: TbsCert) {
     match what {
+        "copy" => say_copy(alloc, answer, tbs),
         "sign" => say_signed(alloc, answer, tbs, &Stub::willing()),
         "refuse" => say_signed(alloc, answer, tbs, &Stub::refusing()),
         "ber" => say_written(alloc, answer, &tbs.encode_ref(), Mode::Ber),

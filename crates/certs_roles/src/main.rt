@@ -1,6 +1,6 @@
 //! Questions about certificates, as data: each line of standard input asks one, by words with a tab between, and each line of
-//! standard output answers one. The first word names what is asked: what is read of a certificate, whether its form is that of a
-//! role, whether it is vouched for, and what is written of one that is built.
+//! standard output answers one. The first word names what is asked: what is read of a certificate, of a copy, whether its
+//! form is that of a role, whether it is vouched for, and what is written of one that is built.
 //!
 //! `tests/certs_roles.py` writes both, and knows the answers by means of its own.
 #![tactic(auto)]
@@ -8,6 +8,7 @@
 mod answer;
 mod built;
 mod claims;
+mod copies;
 mod fields;
 mod given;
 mod inspect;
@@ -24,8 +25,10 @@ fn say(alloc: Global, answer: &mut Answer, topic: &str, words: &[&str]) -> Resul
     match topic {
         "read" => read::answer(alloc, answer, words),
         "refuses" => read::refuses(alloc, answer, words),
+        "copy" => copies::answer(alloc, answer, words),
         "inspect" => inspect::answer(alloc, answer, words),
         "anchor" => validate::anchor(alloc, answer, words),
+        "anchor-copy" => validate::anchor_copy(alloc, answer, words),
         "below" => validate::below(alloc, answer, words),
         "built" => built::answer(alloc, answer, words),
         _ => given::unknown(),

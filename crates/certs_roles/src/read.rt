@@ -65,8 +65,8 @@ fn say_claims(answer: &mut Answer, tbs: &TbsCert) {
     answer.say(&claim(numbers.is_missing(), numbers.is_inherited()));
 }
 
-// All that is told of a certificate: what is signed, then the signature.
-fn say_cert(alloc: Global, answer: &mut Answer, cert: &Cert) {
+/// All that is told of a certificate: what is signed, then the signature.
+pub fn say_cert(alloc: Global, answer: &mut Answer, cert: &Cert) {
     let tbs = cert.tbs();
     say_identity(alloc, answer, tbs);
     say_usages(alloc, answer, tbs);

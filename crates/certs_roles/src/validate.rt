@@ -2,6 +2,7 @@
 //! signatures are good, then certificates as octets in hexadecimal digits.
 
 use crate::answer::Answer;
+use crate::copies;
 use crate::given::{self, Fips, Judge};
 use anyhow::Result;
 use certs_cert::Time;
@@ -65,19 +66,54 @@ fn as_anchor(
     cert.validate_ta_at(tal, terms.strict, terms.moment, &Fips, judge)
 }
 
+// The certificate of the octets as a trust anchor.
+fn read_anchor(
+    alloc: Global,
+    octets: &str,
+    terms: &Terms,
+    judge: &mut Judge,
+) -> Result<Result<ResourceCert, Refused<ValidationError>>> {
+    let tal = no_name(alloc)?;
+    let cert = given::cert(alloc, octets)?;
+    Ok(as_anchor(cert, tal, terms, judge))
+}
+
 /// What a certificate holds as a trust anchor, or the first test that fails; then how often the judge of signatures was asked.
 pub fn anchor(alloc: Global, answer: &mut Answer, words: &[&str]) -> Result<()> {
     let [strict, moment, good, octets] = *words else {
         return given::unknown();
     };
     let terms = terms_of(strict, moment)?;
-    let tal = no_name(alloc)?;
-    let cert = given::cert(alloc, octets)?;
     let mut judge = Judge::new(good == "good");
-    let said = as_anchor(cert, tal, &terms, &mut judge);
+    let said = read_anchor(alloc, octets, &terms, &mut judge)?;
     say_result(answer, &said);
     drop(said);
     answer.say(&judge.asked());
+    Ok(())
+}
+
+// What a copy holds, once the certificate itself is let go, and the octets of the copy.
+fn say_copy(alloc: Global, answer: &mut Answer, cert: ResourceCert) {
+    match cert.clone() {
+        Ok(copy) => {
+            drop(cert);
+            say_holder(answer, &copy);
+            copies::say_captured(alloc, answer, copy.as_cert());
+        }
+        Err(error) => answer.say(&error),
+    }
+}
+
+/// What a copy of a certificate holds as a trust anchor, and the octets of the copy.
+pub fn anchor_copy(alloc: Global, answer: &mut Answer, words: &[&str]) -> Result<()> {
+    let [strict, moment, octets] = *words else {
+        return given::unknown();
+    };
+    let terms = terms_of(strict, moment)?;
+    match read_anchor(alloc, octets, &terms, &mut Judge::new(true))? {
+        Ok(cert) => say_copy(alloc, answer, cert),
+        Err(refused) => say_error(answer, &refused.error),
+    }
     Ok(())
 }
 
@@ -155,9 +191,7 @@ pub fn below(alloc: Global, answer: &mut Answer, words: &[&str]) -> Result<()> {
         return given::unknown();
     };
     let terms = terms_of(strict, moment)?;
-    let tal = no_name(alloc)?;
-    let cert = given::cert(alloc, anchor)?;
-    match as_anchor(cert, tal, &terms, &mut Judge::new(true)) {
+    match read_anchor(alloc, anchor, &terms, &mut Judge::new(true))? {
         Ok(issuer) => {
             let judge = Judge::new(good == "good");
             let said = say_below(alloc, answer, role, octets, &issuer, &terms, judge);
