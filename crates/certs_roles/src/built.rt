@@ -1,10 +1,8 @@
 //! Questions about certificates that are built: what is done, then the fields, as `fields` tells.
 
 use crate::answer::Answer;
-use crate::fields;
-use crate::given;
 use crate::signer::Stub;
-use crate::validate;
+use crate::{fields, given, validate};
 use anyhow::Result;
 use bcder::Mode;
 use bcder::encode::Values;

@@ -1,8 +1,7 @@
 //! Questions about copies of a certificate, whose octets are given in hexadecimal digits.
 
 use crate::answer::Answer;
-use crate::given;
-use crate::read;
+use crate::{given, read};
 use anyhow::Result;
 use certs_cert::Cert;
 use std::alloc::Global;
