@@ -45,11 +45,11 @@ some_more {now = now} g = record { none = λ ts x p w. ended_none (whole_none (s
 pub goes_on : {A : Type 0} {tag : TagValue} {Q : Tree → A → Type 0} {now : ValuesLeft} → LacksTagged tag Q now → LacksAll End now
 goes_on {now = now} l = record { none = λ ts x p w. l.goes_on (whole_none (subst (Whole now) p.ended w)) }
 
--- An extension is refused, by a text or for want of memory.
+-- An extension is refused by a text.
 pub told_refused : {E P : Type 0} (kind : List ℕ) (e : DecodeError E) → TellsInvalid kind e → P → OnContent e P
 told_refused kind (Content error pos) h p = p
-told_refused kind (Source error) h p = tt
-told_refused kind Memory h p = tt
+told_refused kind (Source error) h p = absurd h
+told_refused kind Memory h p = absurd h
 
 -- Those of two extensions that are of a kind.
 abbrev picked : Bool → Bool → Extension → Extension → List Extension

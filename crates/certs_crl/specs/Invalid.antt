@@ -1,5 +1,5 @@
 -- How an extension is told that a revocation list doesn't have (RFC 6487 5).
-use Rattle.std.specs.Prelude.{◌≡◌, ℕ, List, ◌++◌, codes, string_bytes}
+use Rattle.std.specs.Prelude.{◌≡◌, ℕ, List, ◌++◌, Result, Ok, Err, codes, string_bytes}
 use Rattle.certs_crl.specs.bcder_source.declared.error.ContentError.{ContentError}
 use Rattle.certs_crl.specs.bcder_source.declared.error.ContentError.TheVariants.{Static, Owned, ExpectedTag, ExpectedInteger}
 use Rattle.certs_crl.specs.bcder_source.declared.error.DecodeError.{DecodeError}
@@ -17,8 +17,24 @@ IsOwnedText text (Owned string) = string_bytes string ≡ text
 IsOwnedText text (ExpectedTag tag) = ⊥
 IsOwnedText text (ExpectedInteger number) = ⊥
 
--- The refusal tells the extension of that kind by an owned text, or there was no memory for it.
+-- The fixed text that stands for such an extension where there is no memory for its own.
+abbrev pub fixed_text : List ℕ
+fixed_text = codes "invalid extension"
+
+-- The cause that was made; the fixed text exactly where its memory was refused.
+abbrev pub IsMadeOrFixed : {E : Type 0} → Result ContentError E → ContentError → Type 0
+IsMadeOrFixed (Ok made) error = error ≡ made
+IsMadeOrFixed (Err refused) error = error ≡ Static fixed_text
+
+-- The cause is the text of the identifier, or the fixed one.
+abbrev pub IsInvalidTold : List ℕ → ContentError → Type 0
+IsInvalidTold kind (Static fixed) = fixed ≡ fixed_text
+IsInvalidTold kind (Owned string) = string_bytes string ≡ invalid_text kind
+IsInvalidTold kind (ExpectedTag tag) = ⊥
+IsInvalidTold kind (ExpectedInteger number) = ⊥
+
+-- The extension of that kind is refused as a content, by one of both texts: want of memory is never told.
 abbrev pub TellsInvalid : {E : Type 0} → List ℕ → DecodeError E → Type 0
-TellsInvalid kind (Content error pos) = IsOwnedText (invalid_text kind) error
+TellsInvalid kind (Content error pos) = IsInvalidTold kind error
 TellsInvalid kind (Source error) = ⊥
-TellsInvalid kind Memory = Unit {0}
+TellsInvalid kind Memory = ⊥

@@ -10,7 +10,7 @@ ghost use Rattle.certs_crl.specs.bcder_content.Here.{here};
 ghost use Rattle.certs_crl.specs.bcder_content.InMode.{ReadsFields};
 ghost use Rattle.certs_crl.specs.certs_basics.Basics.{IsSerial};
 ghost use Rattle.certs_crl.specs.certs_basics.Identifiers as id;
-ghost use Rattle.certs_crl.specs.Invalid.{TellsInvalid};
+ghost use Rattle.certs_crl.specs.Invalid.{IsMadeOrFixed, TellsInvalid};
 ghost use Rattle.certs_crl.specs.Reading.{IsListExtension, IsNoMore, IsOfList, IsPair, IsPaired};
 ghost use Rattle.certs_crl.specs.Reading.{ReadsBoth, ReadsFronts, alone, pair_fields};
 ghost use Rattle.certs_extension.specs.Raw.{extension_value};
@@ -22,7 +22,7 @@ use bcder::{ConstOid, Mode, Oid, Tag};
 use certs_extension::{Extension, take_authority_key_identifier};
 use certs_name::Serial;
 use certs_signed::KeyIdentifier;
-use std::alloc::Global;
+use std::alloc::{AllocError, Global};
 use std::convert::Infallible;
 
 /// cRLNumber, 2.5.29.20 (RFC 5280 5.2.3).
@@ -41,7 +41,17 @@ fn is_known(extension: &Extension) -> bool
     extension.kind.equals(&CE_AUTHORITY_KEY_IDENTIFIER) || extension.kind.equals(&CE_CRL_NUMBER)
 }
 
-// The refusal of an extension that a list doesn't have, which is told by its identifier.
+// The cause that was made, or a fixed text where there was no memory for it.
+fn made_or_fixed(made: Result<ContentError, AllocError>) -> ContentError
+    ensures { IsMadeOrFixed made result }
+{
+    match made {
+        Ok(error) => error,
+        Err(_) => ContentError::from_static("invalid extension"),
+    }
+}
+
+// The refusal of an extension that a list doesn't have, which is told by its identifier, where there is memory for that.
 fn unknown<S: Source>(
     alloc: Global,
     cons: &Constructed<S>,
@@ -54,10 +64,8 @@ fn unknown<S: Source>(
         critical: _critical,
         octets: _octets,
     } = extension;
-    match InvalidExtension::new(kind).to_content_error(alloc) {
-        Ok(error) => cons.content_err(error),
-        Err(_) => DecodeError::Memory,
-    }
+    let made = InvalidExtension::new(kind).to_content_error(alloc);
+    cons.content_err(made_or_fixed(made))
 }
 
 // The next extension, which has to be there, and to be one of the two of a list.
