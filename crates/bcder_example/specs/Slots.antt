@@ -98,7 +98,7 @@ pub data CannotPut {F T D : Type 0} (g : Reader F (Constructed Reading) T D) (op
   unmet : (Meets need e.critical → ⊥) → CannotPut g op need e old
   unread : (x : ContentError) (pos : Pos) → Decoded rest_of g op (fresh Der e.octets) (Err (Content x pos)) → CannotPut g op need e old
 
--- How a fault is told of a content.
+-- How a fault is reported for a content.
 abbrev pub Told : {E : Type 0} → AddError → DecodeError E → Type 0
 Told (Fault x) r = (error : ContentError) × (pos : Pos) × (r ≡ Content error pos)
 Told Memory r = r ≡ want

@@ -27,7 +27,7 @@ fn version_of(octets: &[u8]) -> Result<Version, DecodeError<Infallible>>
     )
 }
 
-/// The version with which the octets of an OCTET STRING begin; what is behind it isn't looked at.
+/// The version with which the octets of an OCTET STRING begin; what is after it isn't looked at.
 pub fn take_inner<S: Source>(
     alloc: Global,
     cons: &mut Constructed<S>,

@@ -36,7 +36,7 @@ fn take_number<S: Source>(cons: &mut Constructed<S>) -> Result<u8, DecodeError<S
     Ok(number)
 }
 
-// The version, if it is told.
+// The version, if it is given.
 fn take_opt_version<S: Source>(
     cons: &mut Constructed<S>,
 ) -> Result<Option<u8>, DecodeError<S::Error>>

@@ -158,7 +158,7 @@ fn take_signed_fields<S: Source>(
 }
 
 impl Signed {
-    /// The signed structure that is next. A body that isn't one is refused, and no value behind it is read.
+    /// The signed structure that is next. A body that isn't one is refused, and no value after it is read.
     pub fn take_from<S: Source>(
         alloc: Global,
         cons: &mut Constructed<S>,

@@ -70,7 +70,7 @@ pub fn take_version<S: Source>(cons: &mut Constructed<S>) -> Result<Version, Dec
     )
 }
 
-// The fields of settings, and anything behind them.
+// The fields of settings, and anything after them.
 fn take_settings_fields<S: Source>(
     alloc: Global,
     cons: &mut Constructed<S>,
@@ -87,7 +87,7 @@ fn take_settings_fields<S: Source>(
     Ok(Settings { format, level })
 }
 
-/// A field that is tested, one with a default, and anything behind them.
+/// A field that is tested, one with a default, and anything after them.
 pub fn take_settings<S: Source>(
     alloc: Global,
     cons: &mut Constructed<S>,

@@ -18,7 +18,7 @@ pub tree_of-constructed : (tag : TagValue) (children : Vec Node Global)
     → tree_of (Constructed tag children) ≡ constructed tag (forest (map tree_of children.items))
 tree_of-constructed tag children = search (rules, the_lemmas)
 
--- Values one behind the other as a list.
+-- Values one after the other as a list.
 abbrev row : Trees → List Tree
 row none = []
 row (more t ts) = t ∷ row ts

@@ -3,7 +3,7 @@
 use bcder_recursive::Node;
 use std::alloc::{AllocError, Global};
 
-/// A value as text: its tag, and behind it the octets in hexadecimal digits, or the values in it.
+/// A value as text: its tag, and after it the octets in hexadecimal digits, or the values in it.
 pub fn push(alloc: Global, text: &mut String, node: &Node) -> Result<(), AllocError> {
     match node {
         Node::Primitive { tag, content } => {

@@ -39,7 +39,7 @@ each_more : {X : Type 0} (P : X → Type 0) (xs : List X) (y : X) → Each P xs 
 each_more P [] y p q = (q, tt)
 each_more P (x ∷ xs) y p q = (p.0, each_more P xs y p.1 q)
 
--- Where one of a list has P, and another, alone, is told to have it, the same stands behind them.
+-- Where one of a list has P, and another, alone, is told to have it, the same stands after them.
 behind-same : {X : Type 0} (P : X → Type 0) (before behind front back : List X) (x y : X)
     → Each (λ z. P z → ⊥) before → Each (λ z. P z → ⊥) behind → P y → before ++ x ∷ behind ≡ front ++ y ∷ back → behind ≡ back
 behind-same P [] behind [] back x y none none_behind p e = cc

@@ -30,7 +30,7 @@ pub record Entry : Type 0 where
 abbrev pub methods : List (List ℕ)
 methods = id.ca_repository ∷ id.rpki_manifest ∷ id.signed_object ∷ id.rpki_notify ∷ []
 
--- What stands behind a method: of one of the four exactly one name, of another anything.
+-- What stands after a method: of one of the four exactly one name, of another anything.
 pub data AreLocation : Mode → List ℕ → Trees → Option (List ℕ) → Type 0 where
   of_known : {m : Mode} {method : List ℕ} {ts : Trees} {text : List ℕ} → Mem methods method → Then (IsName m) End ts (text, tt) → AreLocation m method ts (Some text)
   of_other : {m : Mode} {method : List ℕ} {ts : Trees} → (Mem methods method → ⊥) → AreLocation m method ts None

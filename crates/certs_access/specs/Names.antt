@@ -16,6 +16,6 @@ pub record HasOneRsync (names : List (List ℕ)) (uri : List ℕ) : Type 0 where
 abbrev pub only : {A : Type 0} → A × Unit {0} → A
 only x = x.0
 
--- A known identifier, and what is behind it.
+-- A known identifier, and what is after it.
 abbrev pub behind : {A : Type 0} → Unit {0} × A → A
 behind x = x.1

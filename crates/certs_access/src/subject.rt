@@ -82,7 +82,7 @@ fn is_known(method: &Oid) -> bool
         || method.equals(&RPKI_NOTIFY)
 }
 
-// The one name behind a known method.
+// The one name after a known method.
 fn take_location<S: Source>(
     alloc: Global,
     cons: &mut Constructed<S>,
@@ -233,8 +233,8 @@ fn take_some<S: Source>(
 /// Where the subject publishes: `SEQUENCE SIZE (1..MAX) OF AccessDescription`, the first readable URI of each method
 /// (RFC 5280 4.2.2.2, RFC 6487 4.8.8, RFC 8182 3.2).
 ///
-/// Behind one of the four methods stands exactly one name; a name that is no URI of the scheme that is wanted is passed
-/// over, and so is what stands behind another method.
+/// After one of the four methods stands exactly one name; a name that is no URI of the scheme that is wanted is passed
+/// over, and so is what stands after another method.
 pub fn take_subject_access<S: Source>(
     alloc: Global,
     cons: &mut Constructed<S>,

@@ -18,7 +18,7 @@ use Rattle.certs_written.specs.Values.{has_any, located, location, or_some}
 use Rattle.certs_again.specs.Laws.{AreAccessUris}
 use Rattle.certs_again.proofs.ValuesRead.{name_read}
 
--- Values one behind the other, of two lists.
+-- Values one after the other, of two lists.
 many_joined : {A : Type 0} (Q : Tree → A → Type 0) (ts us : Trees) (xs ys : List A) → ManyCases Q ts xs → ManyCases Q us ys → ManyCases Q (joined ts us) (xs ++ ys)
 many_joined Q ts us [] ys p q = subst (λ (vs : Trees). ManyCases Q (joined vs us) ys) (sym p) q
 many_joined Q ts us (x ∷ xs) ys p q = (p.0, joined p.1 us, ap (λ (vs : Trees). joined vs us) p.2, p.3, many_joined Q p.1 us xs ys p.4 q)

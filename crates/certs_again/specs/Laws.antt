@@ -42,7 +42,7 @@ pub record IsLawful (c : TbsValue) : Type 0 where
   pub v6 : FitsChoice Ipv6 c.v6
   pub asn : HasMaximal c.asn
 
--- The purposes of a key that are told are some, each by an identifier (RFC 5280 4.2.1.12).
+-- The purposes of a key that are given are some, each by an identifier (RFC 5280 4.2.1.12).
 pub record ArePurposes (purposes : List (List ℕ)) : Type 0 where
   pub some : purposes ≢ []
   pub identify : LawfulAll IsIdentifier purposes

@@ -7,7 +7,7 @@ use Rattle.certs_algorithm.specs.bcder_written.Encoded.{SpellsSome}
 use Rattle.certs_basics.specs.Identifiers.{rsa_encryption}
 use Rattle.certs_algorithm.specs.Algorithms.{AreDigestAlgorithms, IsAlgorithmOf, IsCmsAlgorithm, IsDigestAlgorithm, algorithm_of, digest_algorithm, digest_algorithms, sha256}
 
--- NULL stands behind an identifier, and nothing behind NULL.
+-- NULL stands after an identifier, and nothing after NULL.
 pub algorithm_sound : (kind : List ℕ) → (algorithm_of kind).sound
 algorithm_sound kind = (tt, (record { is = λ t e. e; behind = λ e. e }, tt))
 

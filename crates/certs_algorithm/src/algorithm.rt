@@ -41,7 +41,7 @@ pub trait SignatureAlgorithm: Sized {
         ensures { result ≡ x509_writes self.now };
 }
 
-/// RSA with SHA-256, by which all that is published in RPKI is signed, and whether NULL stands behind its identifier.
+/// RSA with SHA-256, by which all that is published in RPKI is signed, and whether NULL stands after its identifier.
 /// Contracts see whether NULL is there, which is part of equality.
 #[derive(Clone, Copy, Debug, PartialEq, Eq, Hash)]
 pub struct RpkiSignatureAlgorithm {
@@ -144,7 +144,7 @@ fn take_cms_fields<S: Source>(
 }
 
 impl RpkiSignatureAlgorithm {
-    /// Whether NULL stands behind the identifier.
+    /// Whether NULL stands after the identifier.
     pub fn has_null(self) -> bool
         ensures { result ≡ self }
     {

@@ -24,7 +24,7 @@ impl Model for AlgorithmIdentifier {
     ghost view = { λ a. record { kind = a.kind.0.now; has_null = a.has_null } };
 }
 
-// The encoders of an identifier with NULL behind it, and of one without.
+// The encoders of an identifier with NULL after it, and of one without.
 type WithNull = encode::Constructed<(encode::Primitive<ConstOid>, encode::Primitive<()>)>;
 
 type Bare = encode::Constructed<(encode::Primitive<ConstOid>, encode::Nothing)>;

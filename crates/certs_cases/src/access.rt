@@ -18,7 +18,7 @@ fn mode(word: &str) -> Mode {
     }
 }
 
-// What is told of an extension that was read or refused.
+// What is said of an extension that was read or refused.
 fn told(alloc: Global, read: Result<Rsync, DecodeError<Infallible>>) -> Result<String> {
     match read {
         Ok(uri) => Ok(format!(in alloc; "{uri}")?),

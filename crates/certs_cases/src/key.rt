@@ -82,7 +82,7 @@ fn written<V: Values>(alloc: Global, value: &V, word: &str) -> Result<String> {
     Ok(hex::encode(alloc, captured.as_slice())?)
 }
 
-// Whether a content goes on behind a refusal that is forgotten.
+// Whether a content goes on after a refusal that is forgotten.
 fn forgotten(alloc: Global, word: &str, digits: &str) -> Result<String> {
     let read = mode(word).decode(octets(alloc, digits)?, |cons| {
         let first = PublicKey::take_from(alloc, cons).is_ok();

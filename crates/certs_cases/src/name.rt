@@ -84,7 +84,7 @@ fn equal(alloc: Global, words: &[&str]) -> Result<String> {
     Ok(format!(in alloc; "{}", one == other)?)
 }
 
-// Whether a content goes on behind a refusal that is forgotten.
+// Whether a content goes on after a refusal that is forgotten.
 fn forgotten(alloc: Global, word: &str, digits: &str) -> Result<String> {
     let read = mode(word).decode(octets(alloc, digits)?, |cons| {
         let first = Name::take_from(alloc, cons).is_ok();

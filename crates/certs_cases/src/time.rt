@@ -77,7 +77,7 @@ fn moment(text: &str) -> Result<Time> {
     }
 }
 
-// What is told of a moment against a validity.
+// What is said of a moment against a validity.
 fn verify(alloc: Global, first: &str, last: &str, now: &str) -> Result<String> {
     let period = Validity::new(moment(first)?, moment(last)?);
     match period.verify_at(moment(now)?) {

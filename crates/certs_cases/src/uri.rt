@@ -1,5 +1,5 @@
 //! Questions about URIs: the scheme, what is asked, and texts. A text that begins with `hex:` stands for the octets
-//! of the hexadecimal digits behind that.
+//! of the hexadecimal digits after that.
 
 use anyhow::{Result, anyhow};
 use bcder::Mode;

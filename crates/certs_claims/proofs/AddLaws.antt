@@ -49,7 +49,7 @@ skips IpResourcesV2 e n s = inl (subst (Mem known) (sym n) (inr (inr (inr (inr (
 skips AsResourcesV2 e n s = inl (subst (Mem known) (sym n) (inr (inr (inr (inr (inr (inr (inr (inr (inr (inr (inr (inr (inl refl))))))))))))))
 skips Unknown e n s = inr (n, s)
 
--- The slots are those of the list with the extension behind it.
+-- The slots are those of the list with the extension after it.
 pub adds : (kind : Kind) (e : Extension) (old new : Slots) → IsNamed (octets_of kind) e.kind → Puts (octets_of kind) e old new → Adds e old new
 adds kind e old new n p all h =
     let named = octets_of kind in

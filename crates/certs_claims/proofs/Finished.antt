@@ -1,4 +1,4 @@
--- Where a test behind the list fails nothing is claimed.
+-- Where a test after the list fails nothing is claimed.
 use Rattle.std.proofs.Common.{◌≡◌, inl, inr, Option, Some, None, Result, Ok, Err, OnErr, sym, ◌∙◌}
 use Rattle.certs_claims.specs.resources_chain.declared.claims.Overclaim.{Overclaim}
 use Rattle.certs_extension.proofs.of_certs_specs.Values.{same_some}

@@ -153,7 +153,7 @@ module _ {A : Type 0} (octets : Overclaim → List ℕ) (differ : octets Refuse 
       at false true f g h k s p = versioned Trim (h refl) xs old new s p
       at false false f g h k s p = subst (IsVersioned octets Q (xs ++ (e ∷ []))) (sym s) (unversioned xs old (g refl) (k refl) p)
 
-  -- There was none of either version, if another extension behind goes with those of that one alone.
+  -- There was none of either version, if another extension after goes with those of that one alone.
   pub not_under : (fault : ExtensionError) (v : Overclaim) → e.kind ≡ octets v → (xs ys : List Extension) (old new : Option (Overclaim × A)) → CannotFill May (Under v Q) e old fault → fault ≢ Memory → IsVersioned octets Q xs old → IsVersioned octets Q (xs ++ (e ∷ ys)) new → ⊥
   not_under fault v same xs ys old new h m p q = by_new new q
     where

@@ -63,11 +63,11 @@ pub record IsFault (e : Extension) (s : Slots) (fault : ExtensionError) : Type 0
   pub named : IsNamed (octets_of kind) e.kind
   pub why : CannotPut kind e s fault
 
--- Whatever list the slots are of, they are now of the list with the extension behind it.
+-- Whatever list the slots are of, they are now of the list with the extension after it.
 abbrev pub Adds : Extension → Slots → Slots → Type 0
 Adds e old new = (all : List Extension) → AreSlots all old → AreSlots (all ++ (e ∷ [])) new
 
--- No list in which the extension stands behind one of these slots has any slots.
+-- No list in which the extension stands after one of these slots has any slots.
 abbrev pub Refuses : Extension → Slots → Type 0
 Refuses e old = (all behind : List Extension) (s : Slots) → AreSlots all old → AreSlots (all ++ (e ∷ behind)) s → ⊥
 

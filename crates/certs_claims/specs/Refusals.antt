@@ -1,4 +1,4 @@
--- How the fault of an extension is told of a content.
+-- How the fault of an extension is reported for a content.
 use Rattle.std.specs.Prelude.{◌≡◌}
 use Rattle.certs_claims.specs.bcder_source.declared.error.ContentError.{ContentError}
 use Rattle.certs_claims.specs.bcder_source.declared.error.DecodeError.{DecodeError}

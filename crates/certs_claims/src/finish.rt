@@ -1,4 +1,4 @@
-//! The tests behind the list of extensions.
+//! The tests after the list of extensions.
 
 ghost use Rattle.std.specs.Prelude.{◌≡◌, ◌↔◌, IfErr, IfOk, IsTrue, MatchOption, None, OnErr};
 ghost use Rattle.certs_claims.specs.resources_chain.declared.choice.ResourcesChoice.TheVariants.{Missing};

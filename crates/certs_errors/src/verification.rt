@@ -42,7 +42,7 @@ pub enum VerificationError {
     /// The moment is before the certificate's validity.
     #[error("not yet valid")]
     NotYetValid,
-    /// The moment is behind the certificate's validity.
+    /// The moment is after the certificate's validity.
     #[error("expired")]
     Expired,
     /// There is no authority key identifier.
@@ -66,7 +66,7 @@ pub enum VerificationError {
     /// The digest that is signed isn't the content's.
     #[error("message digest of another content")]
     MessageDigest,
-    /// The signing time is behind the certificate's validity.
+    /// The signing time is after the certificate's validity.
     #[error("signed after the certificate expired")]
     SigningTime,
     /// The digest that a manifest lists isn't the object's.

@@ -187,3 +187,13 @@ impl Values for ExtendedKeyUsage {
 
     ghost one_text = { λ u. purposes.one_text u };
 }
+
+/// A clone has the same purposes. Their octets aren't copied, but the list takes memory.
+impl Clone for ExtendedKeyUsage {
+    ghost is_clone = { λ usage copy. copy ≡ usage };
+
+    fn clone(&self) -> Result<Self, AllocError> {
+        let purposes = self.purposes.clone()?;
+        Ok(ExtendedKeyUsage { purposes })
+    }
+}

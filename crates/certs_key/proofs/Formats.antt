@@ -69,17 +69,17 @@ curve_named : (x : PublicKeyFormat) → ec_public_key ≡ kind_of x → x ≡ Ec
 curve_named Ecdsa e = refl
 curve_named Rsa e = absurd cc
 
--- Behind rsaEncryption stands NULL or nothing,
+-- After rsaEncryption stands NULL or nothing,
 pub rsa_next : {v w : ValuesLeft} {kind : List ℕ} → kind ≡ rsa_encryption → Gives (OctetsOf (universal 6) IsOid) v kind w
     → Fields (λ m. IsFormatBody) (λ m. OptNull) (λ y. Rsa) v w true
 rsa_next {kind = kind} e g = told_by {R = λ m. Follows kind} {T = λ m. OptNull} (λ y. Rsa) (named g) (λ m ts y p. (e, of_rsa p)) (λ m ts x p. rsa_parameters x ts (rsa_named x (sym e ∙ p.0)) p.1)
 
--- behind ecPublicKey the curve,
+-- after ecPublicKey the curve,
 pub curve_next : {v w : ValuesLeft} {kind : List ℕ} → kind ≡ ec_public_key → Gives (OctetsOf (universal 6) IsOid) v kind w
     → Fields (λ m. IsFormatBody) (λ m. Curve) (λ y. Ecdsa) v w true
 curve_next {kind = kind} e g = told_by {R = λ m. Follows kind} {T = λ m. Curve} (λ y. Ecdsa) (named g) (λ m ts y p. (e, of_ecdsa p)) (λ m ts x p. curve_parameters x ts (curve_named x (sym e ∙ p.0)) p.1)
 
--- and nothing can stand behind another identifier.
+-- and nothing can stand after another identifier.
 pub none_follows : (kind : List ℕ) → (kind ≡ rsa_encryption → ⊥) → (kind ≡ ec_public_key → ⊥) → (m : Mode) (ts : Trees) (x : PublicKeyFormat) → Follows kind ts x → ⊥
 none_follows kind a b m ts Rsa p = a p.0
 none_follows kind a b m ts Ecdsa p = b p.0

@@ -31,7 +31,7 @@ raw tag = plain tag (record {
   one_meaning = λ m. any_octets_one;
 })
 
--- An identifier, and what stands behind it: NULL with rsaEncryption, the curve with ecPublicKey.
+-- An identifier, and what stands after it: NULL with rsaEncryption, the curve with ecPublicKey.
 abbrev pub Pair : Type 0
 Pair = List ℕ × (List ℕ × Unit {0})
 
@@ -119,7 +119,7 @@ format_is Ecdsa = record {
 }
 
 -- AlgorithmIdentifier ::= SEQUENCE { algorithm OBJECT IDENTIFIER, parameters ANY DEFINED BY algorithm }, written with
--- NULL behind rsaEncryption (RFC 7935 3.1)
+-- NULL after rsaEncryption (RFC 7935 3.1)
 abbrev pub format : Form PublicKeyFormat
 format = record {
   reads = λ m. IsFormat;

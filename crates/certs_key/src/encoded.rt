@@ -17,7 +17,7 @@ use std::alloc::{AllocError, Global};
 // A primitive value of a constant.
 type Constant = Primitive<Octets<&'static [u8]>>;
 
-// The encoders of an algorithm's identifier, and of what stands behind it.
+// The encoders of an algorithm's identifier, and of what stands after it.
 type FormatEncoder = Constructed<(Constant, Constant)>;
 
 /// The encoders of a key's algorithm and bits.
@@ -33,7 +33,7 @@ fn kind(format: PublicKeyFormat) -> &'static [u8]
     }
 }
 
-// The tag of what stands behind it, NULL or the curve.
+// The tag of what stands after it, NULL or the curve.
 fn tag_behind(format: PublicKeyFormat) -> Tag
     ensures { result ≡ parameters_tag format }
 {
@@ -43,7 +43,7 @@ fn tag_behind(format: PublicKeyFormat) -> Tag
     }
 }
 
-// The octets of what stands behind it.
+// The octets of what stands after it.
 fn behind(format: PublicKeyFormat) -> &'static [u8]
     ensures { result.now ≡ parameters_of format }
 {
@@ -53,7 +53,7 @@ fn behind(format: PublicKeyFormat) -> &'static [u8]
     }
 }
 
-/// A key as a value, with NULL behind rsaEncryption (RFC 7935 3.1).
+/// A key as a value, with NULL after rsaEncryption (RFC 7935 3.1).
 pub(crate) fn encoder(format: PublicKeyFormat, bits: &BitString) -> KeyEncoder<'_>
     ensures { lends result.tag result.inner.0.tag
         (result.inner.0.inner.0.tag, result.inner.0.inner.0.content.0.now)
@@ -82,7 +82,7 @@ pub(crate) fn encoder(format: PublicKeyFormat, bits: &BitString) -> KeyEncoder<'
     }
 }
 
-/// The encoded octets of a key: its DER, with NULL behind rsaEncryption (RFC 7935 3.1) and unused bits zero (X.690
+/// The encoded octets of a key: its DER, with NULL after rsaEncryption (RFC 7935 3.1) and unused bits zero (X.690
 /// 11.2.1). `None` where there are none, as no length tells so many octets.
 pub(crate) fn encoded_of(
     alloc: Global,

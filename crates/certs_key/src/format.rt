@@ -19,7 +19,7 @@ pub(crate) const EC_PUBLIC_KEY: ConstOid = Oid(&[42, 134, 72, 206, 61, 2, 1]);
 // secp256r1, 1.2.840.10045.3.1.7 (RFC 5480 2.1.1.1).
 pub(crate) const SECP256R1: ConstOid = Oid(&[42, 134, 72, 206, 61, 3, 1, 7]);
 
-// The fields of an algorithm's identifier: rsaEncryption with NULL or nothing behind it, or ecPublicKey with secp256r1.
+// The fields of an algorithm's identifier: rsaEncryption with NULL or nothing after it, or ecPublicKey with secp256r1.
 fn take_format_fields<S: Source>(
     alloc: Global,
     cons: &mut Constructed<S>,

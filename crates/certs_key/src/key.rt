@@ -69,7 +69,7 @@ impl PublicKey {
         self.bits.octet_slice().unwrap_or(&[])
     }
 
-    /// The encoded octets, which are kept: the key's DER, with NULL behind rsaEncryption (RFC 7935 3.1) and unused bits
+    /// The encoded octets, which are kept: the key's DER, with NULL after rsaEncryption (RFC 7935 3.1) and unused bits
     /// zero (X.690 11.2.1), whatever was read.
     pub fn encoded(&self) -> &[u8]
         ensures octets { result.now ≡ encoded self.now }
@@ -116,7 +116,7 @@ impl PublicKey {
 
 /// Keys that are read.
 impl PublicKey {
-    /// The key in front of a source, in DER; octets behind it stay unread.
+    /// The key in front of a source, in DER; octets after it stay unread.
     pub fn decode<I: IntoSource>(
         alloc: Global,
         source: I,
@@ -132,7 +132,7 @@ impl PublicKey {
         )
     }
 
-    /// The next value, a key (RFC 5280 4.1.2.7): rsaEncryption, with NULL behind it or nothing, or ecPublicKey on
+    /// The next value, a key (RFC 5280 4.1.2.7): rsaEncryption, with NULL after it or nothing, or ecPublicKey on
     /// secp256r1, and any bits. Any other value is refused, and so is a key that is too long to be encoded, since some
     /// of its DER would have more than 2^32 - 1 octets.
     ///
@@ -197,7 +197,7 @@ impl PublicKey {
     }
 }
 
-/// A SEQUENCE of the algorithm, with NULL behind rsaEncryption, and the bits. In DER these are the octets of `encoded`.
+/// A SEQUENCE of the algorithm, with NULL after rsaEncryption, and the bits. In DER these are the octets of `encoded`.
 ///
 /// `CerUnsupported` where the bits have more than 1000 content octets in CER (X.690 9.2).
 impl Values for PublicKey {

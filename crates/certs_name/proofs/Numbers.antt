@@ -11,18 +11,18 @@ use Rattle.certs_name.specs.bcder_written.declared.error.EncodeError.{EncodeErro
 use Rattle.certs_name.specs.bcder_written.Writing.{HasLength, Wrote}
 use Rattle.certs_name.specs.bcder_number.Integers.{IsInteger}
 
--- What is read behind a number makes it no smaller.
+-- What is read after a number makes it no smaller.
 pub no_smaller : (b : ℕ) (v : List ℕ) → b ≤ number_behind b v
 no_smaller b [] = omega arith
 no_smaller b (a ∷ v) = omega (arith, no_smaller (b * 256 + a) v)
 
--- The number that is completed is no smaller than that behind the next octet.
+-- The number that is completed is no smaller than that after the next octet.
 pub no_smaller_next : (i b : ℕ) (octets : List ℕ) → i < length octets → b * 256 + get_or octets i 0 ≤ number_behind b (drop i octets)
 no_smaller_next i b octets there =
     let e = drop-cons octets i 0 there in
     subst (λ (v : List ℕ). b * 256 + get_or octets i 0 ≤ number_behind b v) (sym e) (no_smaller (b * 256 + get_or octets i 0) (drop (suc i) octets))
 
--- Octets behind others count behind their number.
+-- Octets after others count after their number.
 pub behind_append : (b : ℕ) (v w : List ℕ) → number_behind b (v ++ w) ≡ number_behind (number_behind b v) w
 behind_append b [] w = refl
 behind_append b (a ∷ v) w = behind_append (b * 256 + a) v w
@@ -41,7 +41,7 @@ digits_spell : (k n p : ℕ) → number_behind p (bytes_high_first k n) ≡ p * 
 digits_spell zero n p = omega arith
 digits_spell (suc k) n p = digits_spell k n (p * 256 + byte_at k n) ∙ digit_more k n p
 
--- The octets of a number's halves, behind a zero.
+-- The octets of a number's halves, after a zero.
 pub halves_spell : (high low n : ℕ) → high < 2 ^ 32 → low < 2 ^ 128 → high * 2 ^ 128 + low ≡ n → IsTwosComplement (0 ∷ (bytes_high_first 4 high ++ bytes_high_first 16 low)) (pos n)
 halves_spell high low n h l e =
     let first : number_behind 0 (bytes_high_first 4 high) ≡ high = digits_spell 4 high 0 ∙ omega arith in

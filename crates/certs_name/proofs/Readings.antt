@@ -1,4 +1,4 @@
--- Readers of values whose grammar can be told in two ways.
+-- Readers of values whose grammar can be stated in two ways.
 use Rattle.std.proofs.Common.{◌≡◌, Result, Ok, Err}
 use Rattle.certs_name.specs.bcder_tree.Tags.{TagValue}
 use Rattle.certs_name.specs.bcder_tree.Tree.{Tree}

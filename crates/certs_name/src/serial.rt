@@ -63,7 +63,7 @@ impl Serial {
         Ok(serial)
     }
 
-    // The number with one more octet behind it, if it is below 2^160.
+    // The number with one more octet after it, if it is below 2^160.
     fn followed_by(self, octet: u8) -> Option<Serial>
         ensures some { IfSome result (λ n. n ≡ self * 256 + octet) }
         ensures none { IfNone result (2 ^ 160 ≤ self * 256 + octet) }

@@ -69,7 +69,7 @@ impl Serial {
     }
 }
 
-// The octets of a number, behind a zero.
+// The octets of a number, after a zero.
 fn padded(serial: Serial) -> [u8; 21]
     ensures { IsTwosComplement result (pos serial) }
 {

@@ -65,7 +65,7 @@ fn front<S: Source>(prim: &Primitive<S>, count: usize) -> &[u8]
     &prim.source.source.slice()[..count]
 }
 
-// Goes behind all octets of a content, which are at hand.
+// Goes after all octets of a content, which are at hand.
 fn pass<S: Source>(prim: &mut Primitive<S>, count: usize)
     requires limit { (plain S.rest prim.old).limit ≡ Some count }
     requires available { count ≤ S.available prim.old.source.source }

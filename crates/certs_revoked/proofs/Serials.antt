@@ -85,7 +85,7 @@ sorted_same xs found sorted once e p f n =
 pub sorted_rises : (sorted once : List ℕ) → IsSorted nat_cmp sorted → IsFiltered (DiffersFromLast nat_eq) [] sorted once → IsStrictlyIncreasing once
 sorted_rises sorted once s f = subst IsStrictlyIncreasing (sym (dedup_is nat_eq sorted once f)) (IsStrictlyIncreasing-dedup sorted s)
 
--- Rising numbers stand before one that is sought, then at it, then behind it.
+-- Rising numbers stand before one that is sought, then at it, then after it.
 pub rises_ordered : (xs : List ℕ) (n : ℕ) → IsStrictlyIncreasing xs → IsOrdered (length xs) (λ k. nat_cmp (slice_index xs k) n)
 rises_ordered xs n h i j a b =
     let below : slice_index xs i < slice_index xs j = below_from_sorted xs i j 0 (sorted_from_strictly_increasing xs h) a b in

@@ -38,7 +38,7 @@ pub entry_taken : (v w : ValuesLeft) (o : Option RevokedValue) → Perhaps (λ e
 entry_taken v w None h = (none, subst (λ (z : ValuesLeft). TookAll v none z) (sym h.0) (took_none h.1.sound))
 entry_taken v w (Some e) g = (more g.tree none, took_one g.took)
 
--- The octets spell a first entry, and others behind it.
+-- The octets spell a first entry, and others after it.
 record Firsts (m : Mode) (o : List ℕ) (e : RevokedValue) (others : List RevokedValue) : Type 0 where
   tree : Tree
   rest : List ℕ
@@ -71,12 +71,12 @@ read_first m o e end (k ∷ others) g s =
     let same : k ≡ e = entry_one.one g.tree k e (subst (λ (u : Tree). IsRevoked u k) t.0 f.is) g.is in
     (others, subst (λ (r : List ℕ). SpellsEntries (captured m r) others) t.1 f.spelled, ap (λ (z : RevokedValue). z ∷ others) same)
 
--- What octets spell behind the first entry.
+-- What octets spell after the first entry.
 abbrev pub Splits : CapturedValue → RevokedValue → CapturedValue → Type 0
 Splits c e d = (es : List RevokedValue) → SpellsEntries c es → (others : List RevokedValue) × SpellsEntries d others × (es ≡ e ∷ others)
 
 module _ {F : Type 0} {g : Reader F (Constructed Reading) (Option RevokedValue) Infallible} {op : F} {m : Mode} {o : List ℕ} where
-  -- An entry was read: it is the first, and the octets behind it spell the others.
+  -- An entry was read: it is the first, and the octets after it spell the others.
   pub split_some : (x : Option RevokedValue) (e : RevokedValue) (count : ℕ) → x ≡ Some e → ReadsFront g op m o x count
       → ((p q : MutBor (Constructed Reading)) → g.post op (p, tt) (Ok x, (q, tt)) → Perhaps (λ e. e) (universal 16) IsRevoked (here rest_of p.now) x (here rest_of q.now))
       → Splits (captured m o) e (captured m (drop count o))

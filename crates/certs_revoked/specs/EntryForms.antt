@@ -101,6 +101,6 @@ moment = record {
 abbrev pub entry : Form RevokedValue
 entry = mapped as_revoked entry_fields (wrapped (universal 16) (both serial (last moment)))
 
--- Entries, one behind the other.
+-- Entries, one after the other.
 abbrev pub entry_list : Forms (List RevokedValue)
 entry_list = items entry

@@ -16,7 +16,7 @@ use Rattle.certs_specs.specs.CrlText.{AreRevoked, IsRevoked, RevokedValue, entri
 abbrev pub captured : Mode → List ℕ → CapturedValue
 captured mode octets = record { mode = mode; octets = octets }
 
--- The octets spell these entries, one behind the other.
+-- The octets spell these entries, one after the other.
 abbrev pub SpellsEntries : CapturedValue → List RevokedValue → Type 0
 SpellsEntries c = InOrder c.mode (Many IsRevoked) c.octets
 

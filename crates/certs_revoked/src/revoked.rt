@@ -83,7 +83,7 @@ impl RevokedCertificates {
         }
     }
 
-    /// The list of these entries, in their order, in DER. Refused as `Memory` for want of memory, and as `TooLong` where
+    /// The list of these entries, in their order, in DER. Refused as `Memory` for lack of memory, and as `TooLong` where
     /// the entries have more octets than can be counted.
     pub fn from_entries(alloc: Global, entries: &[CrlEntry]) -> Result<Self, EncodeError>
         ensures made { IfOk result (λ list. list ≡ entries.now) }
@@ -137,7 +137,7 @@ impl RevokedCertificates {
         has_serial(octets, mode, serial)
     }
 
-    /// The serial numbers, in the order of the entries. Refused for want of memory alone.
+    /// The serial numbers, in the order of the entries. Refused for lack of memory alone.
     pub fn serials(&self, alloc: Global) -> Result<Vec<Serial>, AllocError>
         ensures { IfOk result (λ serials. serials.items ≡ serials_of self.now) }
     {

@@ -28,7 +28,7 @@ fn collect_serials(
     Ok(serials)
 }
 
-/// The serial numbers of the entries that the octets spell, in their order. Refused for want of memory alone.
+/// The serial numbers of the entries that the octets spell, in their order. Refused for lack of memory alone.
 pub(crate) fn serials_in(
     alloc: Global,
     octets: &[u8],

@@ -1,4 +1,4 @@
-//! Entries, as they are written one behind the other (RFC 5280 5.1.2.6).
+//! Entries, as they are written one after the other (RFC 5280 5.1.2.6).
 
 ghost use Rattle.std.specs.Prelude.{◌≡◌, ◌<◌, ◌^◌};
 ghost use Rattle.certs_revoked.specs.bcder_tree.Tags.{universal};

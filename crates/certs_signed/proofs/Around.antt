@@ -1,4 +1,4 @@
--- The octets of a constructed value whose content was read, from its header to what is behind it.
+-- The octets of a constructed value whose content was read, from its header to what is after it.
 use Rattle.std.proofs.Common.{◌≡◌, ℕ, ◌+◌, true, List, [], ◌∷◌, ◌++◌, length, Option, Some, refl, sym, ap, ◌∙◌, subst, append_assoc, length-append, arith}
 use Rattle.certs_signed.specs.bcder_tree.declared.mode.Mode.{Mode}
 use Rattle.certs_signed.specs.bcder_tree.Tags.{TagValue}

@@ -1,4 +1,4 @@
--- The octets of a value that are kept, and the fields behind them.
+-- The octets of a value that are kept, and the fields after them.
 use Rattle.std.proofs.Common.{◌≡◌, Bool, [], ◌++◌, Result, Ok, Err, IfOk, refl, sym, ◌∙◌, subst}
 use Rattle.certs_signed.specs.bcder_tree.declared.mode.Mode.{Mode}
 use Rattle.certs_signed.specs.bcder_tree.Tree.{Spells}
@@ -51,7 +51,7 @@ pub message_goes : {F D E : Type 0} {g : Reader F (Constructed Reading) (Unit {0
     {r : Result CapturedValue (DecodeError E)} → Captures g op v r new → IfOk r (λ c. Goes v c.octets new)
 message_goes {g = g} {op} {v} {new} {r} h = goes_of g op v new r h.cases
 
--- The fields one behind the other, by their octets.
+-- The fields one after the other, by their octets.
 pub fields_took : {A : Type 0} {f : A → OctetFields} {old a b new : ValuesLeft} {s : A} {c : CapturedValue} {x : Bool} {y : BitsValue}
     → f s ≡ ((c.octets, tt), (x, (y, tt))) → Goes old c.octets a → Gives (KeptIn (λ m. Any) old.mode) old (kept_message c) a
     → Gives IsAlgorithm a x b → Gives (OctetsOf bit_string_tag (IsBitString b.mode)) b y new → TookOctets f AreSignedOctets old s new

@@ -126,7 +126,7 @@ impl SignedData {
         )
     }
 
-    /// The signed data that a source begins with, in DER; octets behind it stay unread.
+    /// The signed data that a source begins with, in DER; octets after it stay unread.
     pub fn decode<I: IntoSource>(
         alloc: Global,
         source: I,

@@ -22,7 +22,7 @@ use Rattle.certs_specs.specs.Spellings.{CertIsSpelled, CrlIsSpelled}
 record Agree {A : Type 0} (Q : Tree → A → Type 0) (P : List ℕ → A → Type 0) : Type 0 where
   same : (text : List ℕ) (x : A) → SpellsOf Der Q text x ↔ P text x
 
--- The octets of P are those of values of R, one behind the other.
+-- The octets of P are those of values of R, one after the other.
 record AgreeAll {A : Type 0} (R : Trees → A → Type 0) (P : List ℕ → A → Type 0) : Type 0 where
   same : (text : List ℕ) (x : A) → InOrder Der R text x ↔ P text x
 

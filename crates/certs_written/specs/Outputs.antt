@@ -20,7 +20,7 @@ pub record Output : Type 1 where
 abbrev pub of : {A : Type 0} → Form A → A → Output
 of f x = record { trees = f.trees x; writes = f.writes x; spelled = f.spelled x; one_text = f.one_text x }
 
--- One behind the other.
+-- One after the other.
 abbrev pub beside : Output → Output → Output
 beside a b = record {
   trees = λ m. AreBoth (a.trees m) (b.trees m);

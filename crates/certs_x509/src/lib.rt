@@ -29,7 +29,7 @@
 //!
 //! What differs from the Rust crate:
 //!
-//! - What takes memory is given an allocator, first of all, and answers a `Result`, `clone` too: want of memory is an error
+//! - What takes memory is given an allocator, first of all, and answers a `Result`, `clone` too: lack of memory is an error
 //!   of its own, and never another answer.
 //! - Nothing is asked of the system: digests, verdicts on signatures, keys that sign and clocks are handed in, as a
 //!   [`Digester`], a [`Verifier`], a [`Signer`] and a [`Clock`]. `Validity::from_secs` is given the moment.

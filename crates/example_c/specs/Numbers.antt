@@ -12,7 +12,7 @@ use Rattle.bcder.specs.Kinds.{unsigned}
 abbrev pub IsNumber : Tree → ℕ → Type 0
 IsNumber = OctetsOf (universal 2) (IsUnsigned (2 ^ 64))
 
--- The octets begin with the number, in DER; what is behind it may be anything.
+-- The octets begin with the number, in DER; what is after it may be anything.
 pub record Says (octets : List ℕ) (n : ℕ) : Type 0 where
   pub tree : Tree
   pub rest : List ℕ
@@ -24,7 +24,7 @@ abbrev pub Reads : List ℕ → Bool → ℕ → ℕ → Type 0
 Reads octets true old new = Says octets new
 Reads octets false old new = ((n : ℕ) → Says octets n → ⊥) × (new ≡ old)
 
--- The number's octets stand in front, so many of them, and behind them what stood there.
+-- The number's octets stand in front, so many of them, and after them what stood there.
 pub record Stands (n count : ℕ) (old new : List ℕ) : Type 0 where
   pub text : List ℕ
   pub text_is : (unsigned (2 ^ 64)).writes n Der text

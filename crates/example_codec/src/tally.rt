@@ -80,7 +80,7 @@ impl Tally {
         })
     }
 
-    /// The octets of the tally, in DER. They are refused for want of memory alone.
+    /// The octets of the tally, in DER. They are refused for lack of memory alone.
     pub fn to_der(&self, alloc: Global) -> Result<Captured, EncodeError>
         ensures written { IfOk result (λ c. tally.writes (tally_fields self.now) Der c.octets) }
         ensures mode { IfOk result (λ c. c.mode ≡ Der) }

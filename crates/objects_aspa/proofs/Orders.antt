@@ -1,4 +1,4 @@
--- Providers in their order: what may stand behind them, and that just the lawful ones follow one another.
+-- Providers in their order: what may stand after them, and that just the lawful ones follow one another.
 use Rattle.std.proofs.Common.{◌≡◌, ◌≢◌, ℕ, ◌+◌, ◌<◌, ◌≤◌, List, [], ◌∷◌, ◌++◌, length, length-append, Option, Some, None, inl, inr, refl, sym, ap, ◌∙◌, subst, arith}
 use Rattle.objects_aspa.specs.resources_asn.Listed.{InList, IsBelow, IsAscending}
 use Rattle.objects_aspa.specs.declared.run.Run.{Run}

@@ -58,7 +58,7 @@ front_ahead {m} {o} {rest} f = (
   record { text = f.text; spelled = f.spelled; goes = record { moved = record { rest = f.whole; limit = refl }; mode = refl; end = refl; before = refl; behind = refl } },
 )
 
--- The octets spell a first AS number, and others behind it.
+-- The octets spell a first AS number, and others after it.
 record Firsts (m : Mode) (o : List ℕ) (ns : List ℕ) (n : ℕ) (others : List ℕ) : Type 0 where
   tree : Tree
   rest : List ℕ
@@ -104,7 +104,7 @@ none_refused (Source x) l some (n ∷ others) s = elim x [ ]
 none_refused Memory l some (n ∷ others) s = absurd (some refl)
 
 module _ {F : Type 0} {g : Reader F (Constructed Reading) (Option Number) Infallible} {op : F} {m : Mode} {o : List ℕ} where
-  -- An AS number was read: it is the first, and the octets behind it spell the others.
+  -- An AS number was read: it is the first, and the octets after it spell the others.
   pub split_some : (x : Option Number) (a : Number) (n count : ℕ) (behind : List ℕ) → x ≡ Some a → n ≡ a.value → ReadsFront g op m o x count → behind ≡ drop count o
       → ((p q : MutBor (Constructed Reading)) → g.post op (p, tt) (Ok x, (q, tt)) → Perhaps (λ (a : Number). a.value) (universal 2) IsAsId (here rest_of p.now) x (here rest_of q.now))
       → (ns : List ℕ) → SpellsAsIds (captured m o) ns → (others : List ℕ) × SpellsAsIds (captured m behind) others × (ns ≡ n ∷ others)
@@ -144,7 +144,7 @@ some_of_none {A} P e = subst (λ (o : Option A). IfSome o P) (sym e) tt
 pub some_of_some : {A : Type 0} (P : A → Type 0) {r : Option A} {x : A} → r ≡ Some x → P x → IfSome r P
 some_of_some {A} P e p = subst (λ (o : Option A). IfSome o P) (sym e) p
 
--- What octets spell behind the first AS number.
+-- What octets spell after the first AS number.
 abbrev pub Splits : CapturedValue → ℕ → CapturedValue → Type 0
 Splits c n d = (ns : List ℕ) → SpellsAsIds c ns → (others : List ℕ) × SpellsAsIds d others × (ns ≡ n ∷ others)
 

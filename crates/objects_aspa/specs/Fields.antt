@@ -38,7 +38,7 @@ AreAny customer m = Gathers IsAsId (whichever_lawful customer)
 abbrev pub IsProviders : ℕ → Tree → List ℕ → Type 0
 IsProviders customer = Inside (universal 16) (AreProviders customer)
 
--- What stands behind the customer.
+-- What stands after the customer.
 abbrev pub AreBehind : ℕ → Trees → List ℕ × Unit {0} → Type 0
 AreBehind customer = Then (IsProviders customer) End
 

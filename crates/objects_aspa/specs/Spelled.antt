@@ -9,6 +9,6 @@ use Rattle.objects_aspa.specs.resources_asn.Encodings.{IsAsId}
 abbrev pub captured : Mode → List ℕ → CapturedValue
 captured mode octets = record { mode = mode; octets = octets }
 
--- The octets spell these AS numbers, one behind the other.
+-- The octets spell these AS numbers, one after the other.
 abbrev pub SpellsAsIds : CapturedValue → List ℕ → Type 0
 SpellsAsIds c = InOrder c.mode (Many IsAsId) c.octets

@@ -103,7 +103,7 @@ impl AsProviderAttestation {
         )
     }
 
-    /// The attestation that a source begins with, in DER; octets behind it stay unread.
+    /// The attestation that a source begins with, in DER; octets after it stay unread.
     pub fn decode<I: IntoSource>(
         alloc: Global,
         source: I,
@@ -133,7 +133,7 @@ impl AsProviderAttestation {
         &self.provider_as_set
     }
 
-    /// The customer's AS number, as resources. Refused for want of memory alone.
+    /// The customer's AS number, as resources. Refused for lack of memory alone.
     pub fn as_resources(&self, alloc: Global) -> Result<AsResources, AllocError>
         ensures { IfOk result (ListsAlone self.now.customer) }
     {

@@ -32,7 +32,7 @@ impl<'a> Model for ProviderAsIter<'a> {
     ghost view = { λ p. p.listing.0 };
 }
 
-// The first of the AS numbers that the octets spell, and the octets behind it; nothing of no octets.
+// The first of the AS numbers that the octets spell, and the octets after it; nothing of no octets.
 fn split_first(octets: &[u8], mode: Mode) -> Option<(u32, &[u8])>
     ensures none { IfNone result ((numbers : List ℕ)
         → SpellsAsIds (captured mode octets.now) numbers → numbers ≡ []) }

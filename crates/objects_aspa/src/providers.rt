@@ -123,7 +123,7 @@ impl ProviderAsSet {
         self.iter().count()
     }
 
-    /// The providers, as a set. Refused for want of memory alone.
+    /// The providers, as a set. Refused for lack of memory alone.
     pub fn to_set(&self, alloc: Global) -> Result<SmallAsnSet, AllocError>
         ensures { IfOk result (IsListOf (InList self.now)) }
     {

@@ -1,4 +1,4 @@
-//! Providers that are told one by one, in their order.
+//! Providers that are given one by one, in their order.
 
 ghost use Rattle.std.specs.Prelude.{◌≡◌, ◌+◌, ◌↔◌, IsTrue, IfNone, IfSome, None, Some};
 ghost use Rattle.objects_aspa.specs.Orders.{Admits, MayFollow};
@@ -17,7 +17,7 @@ pub(crate) struct Run {
     pub(crate) last: Option<u32>,
 }
 
-// Whether the AS number may stand behind that one: it is greater, and none stands behind AS 0.
+// Whether the AS number may stand after that one: it is greater, and none stands after AS 0.
 fn may_follow(last: Option<u32>, number: u32) -> bool
     ensures { IsTrue result ↔ MayFollow last number }
 {
@@ -39,7 +39,7 @@ impl Run {
         }
     }
 
-    /// With one provider more, where it may stand behind them.
+    /// With one provider more, where it may stand after them.
     pub(crate) fn and(self, customer: Asn, provider: Asn) -> Option<Run>
         ensures none { IfNone result (¬ (Admits customer.value self provider.value)) }
         ensures admits { IfSome result (λ r. Admits customer.value self provider.value) }

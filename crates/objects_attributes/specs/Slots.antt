@@ -42,10 +42,10 @@ pub record AreSlots (all : List Said) (s : Slots) : Type 0 where
   pub signing_time : IsOnly (filter_map time_in all) s.signing_time
   pub binary_signing_time : IsOnly (filter_map seconds_in all) s.binary_signing_time
 
--- Whatever list the slots are of, they are now of the list with the attribute behind it.
+-- Whatever list the slots are of, they are now of the list with the attribute after it.
 abbrev pub Adds : Said → Slots → Slots → Type 0
 Adds said old new = (all : List Said) → AreSlots all old → AreSlots (all ++ (said ∷ [])) new
 
--- No list in which the attribute stands behind one of these slots has any slots.
+-- No list in which the attribute stands after one of these slots has any slots.
 abbrev pub Refuses : Said → Slots → Type 0
 Refuses said old = (all behind : List Said) (s : Slots) → AreSlots all old → AreSlots (all ++ (said ∷ behind)) s → ⊥

@@ -74,7 +74,7 @@ fn take_attributes<S: Source>(
     }
 }
 
-// All attributes of a content, and nothing behind them.
+// All attributes of a content, and nothing after them.
 fn take_whole<S: Source>(
     alloc: Global,
     cons: &mut Constructed<S>,

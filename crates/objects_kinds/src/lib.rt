@@ -4,7 +4,7 @@
 //! Each is a signed object with what its content says. It is read of a source in DER, or where not strict in BER; its
 //! content is DER in both. Reading it verifies nothing; `verify_content` tells whether its signer signed it.
 //!
-//! What differs from the Rust crate: what takes memory is given an allocator, and want of memory is an error of its
+//! What differs from the Rust crate: what takes memory is given an allocator, and lack of memory is an error of its
 //! own; the content is lent by name.
 #![tactic(auto)]
 

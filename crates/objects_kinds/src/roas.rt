@@ -34,7 +34,7 @@ impl Model for Roa {
 }
 
 impl Roa {
-    /// The route origin attestation that a source begins with, in DER, or where not `strict` in BER; octets behind it
+    /// The route origin attestation that a source begins with, in DER, or where not `strict` in BER; octets after it
     /// stay unread. Its content is DER in both (RFC 9582 3, 4). Its octets are shared where they stand in one piece.
     pub fn decode<I: IntoSource>(
         alloc: Global,
@@ -75,7 +75,7 @@ impl Roa {
     }
 
     /// Whether the signed object is sound, and else the first test that fails, in this order: the digest that is signed is the
-    /// content's (`MessageDigest`), the signing time isn't behind the certificate's validity (`SigningTime`), and the
+    /// content's (`MessageDigest`), the signing time isn't after the certificate's validity (`SigningTime`), and the
     /// signature is good by the certificate's key over the attributes (`BadSignature`) (RFC 6488 3, RFC 5652 5.4). Who
     /// issued the certificate and what it claims isn't looked at. The verifier is asked at most once.
     pub fn verify_content<D: Digester, V: Verifier>(

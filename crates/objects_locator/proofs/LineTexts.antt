@@ -168,7 +168,7 @@ one_line k l u v text p q =
     let t = to_feed a.ended b.ended u v a.plain b.plain (sym a.whole ∙ b.whole) in
     (one_ended k l a.ended b.ended t.0 a.is b.is, t.1)
 
--- What is behind a line is shorter.
+-- What is after a line is shorter.
 pub shorter : (line rest text : List ℕ) → HasLine line rest text → length rest < length text
 shorter line rest text h = let e = ended line rest text h in let k = ap length e.whole ∙ length-append e.ended (10 ∷ rest) in omega (arith, k)
 

@@ -130,7 +130,7 @@ locator_is text behind tail uris key c a k = record {
   key_is = k.reads;
 }
 
--- A fault behind the comments, where there are URIs and a key.
+-- A fault after the comments, where there are URIs and a key.
 cut_not : (text tail : List ℕ) (uris : List (List ℕ)) → HasAllUris uris tail text → IsCut text → ⊥
 cut_not text tail uris a f =
     let r = one_uris uris f.uris a.behind f.rest text a.has f.has (all_stop uris tail text a) (none_there f.rest f.no_line) in
@@ -142,11 +142,11 @@ no_uri_not text tail uris a f =
     let t = one_line f.line [] f.rest tail f.behind f.next (subst (λ (z : List ℕ). HasLine [] tail z) r.1 a.empty) in
     a.some (r.0 ∙ f.none t.0)
 
--- What stands behind the empty line is one text.
+-- What stands after the empty line is one text.
 behind_uris : (P : List ℕ → Type 0) (text tail : List ℕ) (uris : List (List ℕ)) → HasAllUris uris tail text → BehindUris P text → P tail
 behind_uris P text tail uris a f = subst P (one_all f.uris uris f.tail tail text f.has a).1 f.is
 
--- What stands behind the comments is one text.
+-- What stands after the comments is one text.
 behind_comments : (P : List ℕ → Type 0) (text behind : List ℕ) → Commented behind text → BehindComments P text → P behind
 behind_comments P text behind c f = subst P (one_commented f.behind behind text f.commented c) f.is
 
@@ -208,7 +208,7 @@ cut_tail P text p q = cut_not text p.tail p.uris p.has q
 no_uri_tail : (P : List ℕ → Type 0) (text : List ℕ) → BehindUris P text → HasNoUri text → ⊥
 no_uri_tail P text p q = no_uri_not text p.tail p.uris p.has q
 
--- What is behind the empty line isn't base 64, or it is without a key.
+-- What is after the empty line isn't base 64, or it is without a key.
 no_base64_no_key : (text : List ℕ) → BehindUris NoBase64 text → BehindUris HasNoKey text → ⊥
 no_base64_no_key text p q =
     let k = behind_uris HasNoKey text p.tail p.uris p.has q in

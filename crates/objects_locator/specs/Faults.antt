@@ -13,28 +13,28 @@ use Rattle.objects_locator.specs.declared.uri.TalUri.{TalUri}
 use Rattle.objects_locator.specs.Lines.{HasLine, NoLine, Commented}
 use Rattle.objects_locator.specs.Uris.{text_of}
 
--- URIs stand in front, each on a line, and this rest behind them.
+-- URIs stand in front, each on a line, and this rest after them.
 pub record HasUris (uris : List (List ℕ)) (rest text : List ℕ) : Type 0 where
   pub front : List ℕ
   pub whole : text ≡ front ++ rest
   pub front_is : AreLines uris front
   pub uris_are : All IsUri uris
 
--- URIs, one or more, and an empty line stand in front, and this rest behind it.
+-- URIs, one or more, and an empty line stand in front, and this rest after it.
 pub record HasAllUris (uris : List (List ℕ)) (rest text : List ℕ) : Type 0 where
   pub behind : List ℕ
   pub has : HasUris uris behind text
   pub some : uris ≢ []
   pub empty : HasLine [] rest behind
 
--- Behind URIs, if any, the text ends, or the next line doesn't end.
+-- After URIs, if any, the text ends, or the next line doesn't end.
 pub record IsCut (text : List ℕ) : Type 0 where
   pub uris : List (List ℕ)
   pub rest : List ℕ
   pub has : HasUris uris rest text
   pub no_line : NoLine rest
 
--- Behind URIs stands a line that is no URI; or an empty line, and no URI before it.
+-- After URIs stands a line that is no URI; or an empty line, and no URI before it.
 pub record HasNoUri (text : List ℕ) : Type 0 where
   pub uris : List (List ℕ)
   pub behind : List ℕ
@@ -83,7 +83,7 @@ ReadsUri line (Err BadKeyInfoEncoding) = ⊥
 ReadsUri line (Err BadKeyInfo) = ⊥
 ReadsUri line (Err Memory) = IsUri line
 
--- The URIs behind the comments, and what stands behind the empty line.
+-- The URIs after the comments, and what stands after the empty line.
 abbrev pub TakesUris : List ℕ → Result (Vec TalUri Global × Bor (List ℕ)) ReadError → Type 0
 TakesUris text (Ok x) = HasAllUris (map text_of x.0.items) x.1.now text
 TakesUris text (Err Io) = ⊥
@@ -113,13 +113,13 @@ ReadsKey text (Err BadKeyInfoEncoding) = NoBase64 text
 ReadsKey text (Err BadKeyInfo) = HasNoKey text
 ReadsKey text (Err Memory) = Unit {0}
 
--- Behind the comments the text is so.
+-- After the comments the text is so.
 pub record BehindComments (P : List ℕ → Type 0) (text : List ℕ) : Type 0 where
   pub behind : List ℕ
   pub commented : Commented behind text
   pub is : P behind
 
--- Behind URIs, one or more, and an empty line the text is so.
+-- After URIs, one or more, and an empty line the text is so.
 pub record BehindUris (P : List ℕ → Type 0) (text : List ℕ) : Type 0 where
   pub uris : List (List ℕ)
   pub tail : List ℕ

@@ -6,7 +6,7 @@ use Rattle.objects_forms.specs.Locators.{NoReturnAtEnd, EndsLine, AreLines, IsCo
 abbrev pub IsEndedBy : List ℕ → List ℕ → Type 0
 IsEndedBy text line = ((text ≡ line) × NoReturnAtEnd line) ⊎ (text ≡ line ++ 13 ∷ [])
 
--- This line stands in front, and this rest behind its end.
+-- This line stands in front, and this rest after its end.
 pub record HasLine (line rest text : List ℕ) : Type 0 where
   pub front : List ℕ
   pub ends : EndsLine line front
@@ -16,7 +16,7 @@ pub record HasLine (line rest text : List ℕ) : Type 0 where
 abbrev pub NoLine : List ℕ → Type 0
 NoLine text = All (λ c. c ≢ 10) text
 
--- A comment stands in front, and this rest behind it.
+-- A comment stands in front, and this rest after it.
 pub record HasComment (rest text : List ℕ) : Type 0 where
   pub line : List ℕ
   pub has : HasLine line rest text
@@ -26,7 +26,7 @@ pub record HasComment (rest text : List ℕ) : Type 0 where
 abbrev pub NoComment : List ℕ → Type 0
 NoComment text = (line rest : List ℕ) → HasLine line rest text → IsComment line → ⊥
 
--- Comments stand in front, and this rest behind them.
+-- Comments stand in front, and this rest after them.
 pub record HasComments (rest text : List ℕ) : Type 0 where
   pub comments : List (List ℕ)
   pub head : List ℕ
@@ -34,7 +34,7 @@ pub record HasComments (rest text : List ℕ) : Type 0 where
   pub head_is : AreLines comments head
   pub comments_are : All IsComment comments
 
--- Comments stand in front, as many as there are, and this rest behind them.
+-- Comments stand in front, as many as there are, and this rest after them.
 pub record Commented (rest text : List ℕ) : Type 0 where
   pub has : HasComments rest text
   pub no_more : NoComment rest

@@ -31,7 +31,7 @@ pub record GivesSome (before after : Option (List ℕ)) : Type 0 where
   pub consumed : Consumes before after octets
   pub few : length octets ≤ 2 ^ 32
 
--- The reader's text; or reading stopped, at an error, at 2^32 octets, or for want of memory.
+-- The reader's text; or reading stopped, at an error, at 2^32 octets, or for lack of memory.
 abbrev pub TakesText : Option (List ℕ) → Option (List ℕ) → Result (Vec ℕ Global) ReadError → Type 0
 TakesText before after (Ok text) = Tells before after text.items
 TakesText before after (Err Io) = GivesSome before after

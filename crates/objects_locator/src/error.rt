@@ -18,7 +18,7 @@ pub enum ReadError {
     /// A line before the empty line is no URI, or no line is one.
     #[error("bad trust anchor URI")]
     BadUri,
-    /// What stands behind the empty line isn't base 64.
+    /// What stands after the empty line isn't base 64.
     #[error("bad key info encoding")]
     BadKeyInfoEncoding,
     /// No key stands in front of the octets that are written in base 64.

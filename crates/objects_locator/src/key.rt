@@ -9,7 +9,7 @@ use bytes::Bytes;
 use certs_key::PublicKey;
 use std::alloc::Global;
 
-/// The key that the text is base 64 of (RFC 8630 2.2); octets behind the key aren't looked at.
+/// The key that the text is base 64 of (RFC 8630 2.2); octets after the key aren't looked at.
 pub(crate) fn read_key(alloc: Global, text: &[u8]) -> Result<PublicKey, ReadError>
     ensures { ReadsKey text.now result }
 {

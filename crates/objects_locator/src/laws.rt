@@ -21,7 +21,7 @@ pub fn faults_are_refused()
         → e ≢ Memory → IsFault e text → LocatorText text uris key → ⊥ }
 {}
 
-/// A text has one fault at most, want of memory aside.
+/// A text has one fault at most, lack of memory aside.
 pub fn one_fault()
     ensures { (e f : ReadError) (text : List ℕ) → e ≢ Memory → f ≢ Memory
         → IsFault e text → IsFault f text → e ≡ f }

@@ -24,7 +24,7 @@ fn without_return(line: &[u8]) -> &[u8]
     }
 }
 
-/// The line in front of the text, less its end, and what stands behind it; none where no line ends.
+/// The line in front of the text, less its end, and what stands after it; none where no line ends.
 pub(crate) fn split_line(text: &[u8]) -> Option<(&[u8], &[u8])>
     ensures { MatchOption result (NoLine text.now)
         (λ x. HasLine x.0.now x.1.now text.now) }
@@ -37,7 +37,7 @@ pub(crate) fn split_line(text: &[u8]) -> Option<(&[u8], &[u8])>
     }
 }
 
-// What stands behind the comment in front of the text; none where no comment is there.
+// What stands after the comment in front of the text; none where no comment is there.
 fn split_comment(text: &[u8]) -> Option<&[u8]>
     ensures { MatchOption result (NoComment text.now) (λ rest. HasComment rest.now text.now) }
 {
@@ -49,7 +49,7 @@ fn split_comment(text: &[u8]) -> Option<&[u8]>
     }
 }
 
-/// What stands behind the comments in front of the text.
+/// What stands after the comments in front of the text.
 pub(crate) fn skip_comments(text: &[u8]) -> &[u8]
     ensures { Commented result.now text.now }
 {

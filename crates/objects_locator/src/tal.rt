@@ -42,7 +42,7 @@ impl Model for Tal {
 
 impl Tal {
     /// The locator of that name and text: comments, each a line that begins with `#`; URIs, one or more, each on a line;
-    /// an empty line; and behind it in base 64 octets with a key in front, in DER. Lines end with LF or with CR LF, and
+    /// an empty line; and after it in base 64 octets with a key in front, in DER. Lines end with LF or with CR LF, and
     /// tab, LF, form feed, CR and space are dropped from the base 64.
     pub fn from_text(alloc: Global, name: String, octets: &[u8]) -> Result<Tal, ReadError>
         ensures reads { ReadsTal name octets.now result }

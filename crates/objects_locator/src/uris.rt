@@ -19,7 +19,7 @@ fn uri_of(alloc: Global, line: &[u8]) -> Result<TalUri, ReadError>
     }
 }
 
-/// The URIs on the lines in front of the text, one or more, and what stands behind the empty line behind them.
+/// The URIs on the lines in front of the text, one or more, and what stands after the empty line after them.
 pub(crate) fn take_uris(alloc: Global, text: &[u8]) -> Result<(Vec<TalUri>, &[u8]), ReadError>
     ensures { TakesUris text.now result }
 {

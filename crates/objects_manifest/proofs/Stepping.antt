@@ -109,7 +109,7 @@ pub record NextFile (files : List File) (name content behind : List ℕ) : Type 
   pub content_is : content ≡ 0 ∷ file.hash
   pub left : ∥ HoldsFiles others behind ∥₁
 
--- A name is in front, with a hash behind it.
+-- A name is in front, with a hash after it.
 record NameFirst (files : List File) (name mid : List ℕ) : Type 0 where
   file : File
   others : List File
@@ -156,7 +156,7 @@ next_file s name mid content behind x first second =
           ∣ subst (λ (z : List (List ℕ)). Holds z behind) same m.holds_others ∣₁);
     }
 
--- Behind a name a hash is left.
+-- After a name a hash is left.
 pub hash_left : (s name mid : List ℕ) (x : Left s) → ((pieces : List (List ℕ)) → Holds pieces s → NextPiece pieces name mid) → ((pieces : List (List ℕ)) → Holds pieces mid → pieces ≡ []) → ⊥
 hash_left s name mid x first over =
     let n = name_first s name mid x first in

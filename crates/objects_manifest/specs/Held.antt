@@ -13,7 +13,7 @@ use Rattle.bcder_octets.proofs.Walk.{next_at, none_left, past_closing, past_head
 use Rattle.objects_forms.specs.Manifests.{File}
 use Rattle.objects_manifest.specs.Listing.{file_code}
 
--- The contents of the primitive values of files: a name, and a hash behind the number of its unused bits.
+-- The contents of the primitive values of files: a name, and a hash after the number of its unused bits.
 abbrev pub pieces_of : List File → List (List ℕ)
 pieces_of [] = []
 pieces_of (f ∷ files) = f.name ∷ (0 ∷ f.hash) ∷ pieces_of files

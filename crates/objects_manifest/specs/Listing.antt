@@ -22,7 +22,7 @@ file_one = as_one (inside_one (then_one (such_one (such_one (string_one Der (uni
 abbrev pub file_code : Coded File
 file_code = code_by (List ℕ × List ℕ) (coded× (coded_list coded_ℕ) (coded_list coded_ℕ)) (λ f. (f.name, f.hash)) (λ p. record { name = p.0; hash = p.1 }) (λ _. refl)
 
--- The octets spell these files, one behind the other.
+-- The octets spell these files, one after the other.
 abbrev pub SpellsFiles : CapturedValue → List File → Type 0
 SpellsFiles c = InOrder c.mode (Many IsFile) c.octets
 

@@ -10,7 +10,7 @@ StepsTo pieces (Piece piece behind) = NextPiece pieces piece.now behind.now
 StepsTo pieces (Around behind) = Holds pieces behind.now
 StepsTo pieces End = pieces ≡ []
 
--- Fewer octets are behind it.
+-- Fewer octets are after it.
 abbrev pub IsShorter : List ℕ → Item → Type 0
 IsShorter octets (Piece piece behind) = length behind.now < length octets
 IsShorter octets (Around behind) = length behind.now < length octets

@@ -124,7 +124,7 @@ impl ManifestContent {
         Ok(ManifestContent::from_fields(fields))
     }
 
-    /// The content that a source begins with, in DER; octets behind it stay unread.
+    /// The content that a source begins with, in DER; octets after it stay unread.
     pub fn decode<I: IntoSource>(
         alloc: Global,
         source: I,

@@ -10,9 +10,9 @@ use certs_key::{Length, Mode, Tag};
 
 // What stands in front of octets of values.
 enum Item<'a> {
-    // A primitive value: its octets, and what is behind it.
+    // A primitive value: its octets, and what is after it.
     Piece(&'a [u8], &'a [u8]),
-    // The header of a constructed value, or end-of-contents: what is behind it.
+    // The header of a constructed value, or end-of-contents: what is after it.
     Around(&'a [u8]),
     // None of them.
     End,
@@ -58,7 +58,7 @@ fn step<'a>(octets: &'a [u8]) -> Item<'a>
     }
 }
 
-/// The octets of the first primitive value within octets of values, and what is behind it.
+/// The octets of the first primitive value within octets of values, and what is after it.
 pub(crate) fn next_piece<'a>(octets: &'a [u8]) -> Option<(&'a [u8], &'a [u8])>
     ensures found { IfSome result (λ r. (pieces : List (List ℕ)) → Holds pieces octets.now
         → NextPiece pieces r.0.now r.1.now) }

@@ -37,7 +37,7 @@ roa_given f x fields {v} g e = record {
   reads = all_gives (AreRoa v.mode) (AreRoaFields v.mode) (λ ts are. record { fields = fields; are = are; means = e }) (roa_within v.mode) g;
 }
 
--- What stands behind the version.
+-- What stands after the version.
 abbrev Behind : Type 0
 Behind = ℕ × ((List RoaAddress × List RoaAddress) × Unit {0})
 

@@ -162,7 +162,7 @@ impl RouteOriginAttestation {
         )
     }
 
-    /// The content that a source begins with, in DER; octets behind it stay unread.
+    /// The content that a source begins with, in DER; octets after it stay unread.
     pub fn decode<I: IntoSource>(
         alloc: Global,
         source: I,

@@ -238,7 +238,7 @@ impl RoaBuilder {
         self.v6.extend_from_slice(addresses)
     }
 
-    /// The content, of addresses that are of their families. Refused for want of memory alone.
+    /// The content, of addresses that are of their families. Refused for lack of memory alone.
     pub fn to_attestation(&self, alloc: Global) -> Result<RouteOriginAttestation, AllocError>
         requires v4 { AllOf Ipv4 self.now.v4 }
         requires v6 { AllOf Ipv6 self.now.v6 }

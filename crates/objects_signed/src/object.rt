@@ -93,7 +93,7 @@ impl SignedObject {
         Ok(SignedObject::from_parts(parts))
     }
 
-    /// The signed object that a source begins with: in DER, or where not `strict` in BER; octets behind it stay unread.
+    /// The signed object that a source begins with: in DER, or where not `strict` in BER; octets after it stay unread.
     pub fn decode<I: IntoSource>(
         alloc: Global,
         source: I,

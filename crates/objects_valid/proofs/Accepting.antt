@@ -67,7 +67,7 @@ content_tells d v o c held error.HashMismatch f = tt
 content_tells d v o c held error.Uncovered f = tt
 content_tells d v o c held error.Refused f = tt
 
--- The certificate is verified behind the content, by a verifier that says the same.
+-- The certificate is verified after the content, by a verifier that says the same.
 pub behind : (d : Digests) (good given : Verdicts) (strict : Bool) (role : Role) (now : ℕ) (issuer : HolderValue) (o : Object) (c : CertValue) (r : Result ResourceCertValue ValidationError)
     → given ≡ good → c ≡ o.cert → Profile d strict role o.cert × Sound d good o → VerifiesBelow given now issuer c r → ValidatesObject d good strict role now issuer o r
 behind d good given strict role now issuer o c (Ok r) e f p b =

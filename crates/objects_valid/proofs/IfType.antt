@@ -8,7 +8,7 @@ use Rattle.objects_forms.proofs.Objects.{one_object}
 use Rattle.objects_valid.specs.objects_forms.ObjectText.{Object, ObjectText}
 use Rattle.objects_valid.specs.IfType.{DecodesIfType, IsOfType}
 
--- What is told of octets is told of the same ones.
+-- What is said of octets is told of the same ones.
 pub told_same : {b : Bool} {x y z : List ℕ} → (IsTrue b ↔ (x ≡ z)) → x ≡ y → IsTrue b ↔ (y ≡ z)
 told_same told e = (λ t. sym e ∙ told.0 t, λ p. told.1 (e ∙ p))
 

@@ -1,4 +1,4 @@
--- What tests behind an object's own answer, put together with it.
+-- What tests after an object's own answer, put together with it.
 use Rattle.std.proofs.Common.{◌≡◌, ℕ, Bool, Result, Ok, Err, inl, inr, subst}
 use Rattle.std.specs.Prelude.{IfErr, IfOk, String}
 use Rattle.std.specs.declared.alloc.Global.{Global}
@@ -55,7 +55,7 @@ asked_ok says given h same a = subst (λ (c : CertValue). PassesTest (says c)) s
 pub asked_err : (says : CertValue → Test) (given : CertValue) (h : HolderValue) (e : ValidationError) → given ≡ h.cert → Answered says given (Err e) → FailsTest (says h.cert) e
 asked_err says given h e same a = subst (λ (c : CertValue). FailsTest (says c) e) same (a h)
 
--- The caller's test behind the customer's.
+-- The caller's test after the customer's.
 pub asked_last : (says : CertValue → Test) (given : CertValue) (x : Aspa) (h : HolderValue) (r : Result (Unit {0}) ValidationError) → given ≡ h.cert → CoversAspa x h → Answered says given r → Answers (PassesAspa (says h.cert) x) (FailsAspa (says h.cert) x) h r
 asked_last says given x h (Ok u) same covers a = (covers, subst (λ (c : CertValue). PassesTest (says c)) same (a h))
 asked_last says given x h (Err e) same covers a = inr (covers, subst (λ (c : CertValue). FailsTest (says c) e) same (a h))

@@ -1,4 +1,4 @@
--- The content is verified behind the form.
+-- The content is verified after the form.
 use Rattle.std.proofs.Common.{Bool, Result, Ok, Err}
 use Rattle.certs_verify.specs.certs_basics.HandedIn.{Digests}
 use Rattle.certs_verify.specs.certs_basics.Verdicts.{Verdicts}

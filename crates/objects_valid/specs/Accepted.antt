@@ -26,7 +26,7 @@ abbrev pub FailsSigned : Digests → Verdicts → Bool → Role → Object → V
 FailsSigned d good strict role o (error.Inspection t) = FailsFirst d strict role o.cert t
 FailsSigned d good strict role o (error.Verification e) = Profile d strict role o.cert × FailsContent d good o e
 
--- The first test that the certificate fails below the issuer; from want of memory nothing follows.
+-- The first test that the certificate fails below the issuer; from lack of memory nothing follows.
 abbrev pub FailsBelow : Verdicts → ℕ → HolderValue → CertValue → ValidationError → Type 0
 FailsBelow good now issuer c (error.Inspection t) = ⊥
 FailsBelow good now issuer c (error.Verification e) = Fails (PassesAt good now issuer.cert (held_by issuer) c) issued_tests (fault_of e)

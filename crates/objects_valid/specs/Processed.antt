@@ -17,7 +17,7 @@ use Rattle.objects_kinds.specs.objects_forms.Roas.{Roa}
 use Rattle.objects_covered.specs.Covered.{IsCoveredAspa, IsCoveredRoa}
 use Rattle.objects_valid.specs.Accepted.{AcceptsObject, FailsObject}
 
--- What passes tests behind an object's own, and which of them fails first, by what its certificate holds.
+-- What passes tests after an object's own, and which of them fails first, by what its certificate holds.
 abbrev pub Passing : Type 1
 Passing = HolderValue → Type 0
 
@@ -28,8 +28,8 @@ abbrev pub Answers : Passing → Failing → HolderValue → Result (Unit {0}) V
 Answers passes fails h (Ok x) = passes h
 Answers passes fails h (Err e) = fails h e
 
--- The object is accepted and passes the tests behind, and its content is answered with what its certificate holds; or the
--- first test that fails: one of the object's own, or one behind.
+-- The object is accepted and passes the tests after, and its content is answered with what its certificate holds; or the
+-- first test that fails: one of the object's own, or one after.
 abbrev pub Processes : {A : Type 0} → Passing → Failing → Digests → Verdicts → Bool → ℕ → HolderValue → Object → A → Result (ResourceCertValue × A) ValidationError → Type 0
 Processes passes fails d good strict now issuer o content (Ok p) = AcceptsObject d good strict Ee now issuer o p.0.holder × (passes p.0.holder × (p.1 ≡ content))
 Processes passes fails d good strict now issuer o content (Err e) = FailsObject d good strict Ee now issuer o e ⊎ ((h : HolderValue) × AcceptsObject d good strict Ee now issuer o h × fails h e)
@@ -38,7 +38,7 @@ Processes passes fails d good strict now issuer o content (Err e) = FailsObject 
 abbrev pub Test : Type 1
 Test = Result (Unit {0}) ValidationError → Type 0
 
--- The caller's test passes, or it refuses: want of memory is told as that, and all other causes as one refusal.
+-- The caller's test passes, or it refuses: lack of memory is reported as that, and all other causes as one refusal.
 abbrev pub PassesTest : Test → Type 0
 PassesTest says = says (Ok tt)
 

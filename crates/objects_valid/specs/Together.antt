@@ -8,7 +8,7 @@ abbrev pub joined : {A : Type 0} → A → Result ResourceCertValue ValidationEr
 joined content (Ok r) = Ok (r, content)
 joined content (Err e) = Err e
 
--- With a content where a test behind passed; else that test's error.
+-- With a content where a test after passed; else that test's error.
 abbrev pub joined_if : {A : Type 0} → ResourceCertValue → A → Result (Unit {0}) ValidationError → Result (ResourceCertValue × A) ValidationError
 joined_if r content (Ok x) = Ok (r, content)
 joined_if r content (Err e) = Err e

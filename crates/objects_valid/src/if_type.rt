@@ -24,7 +24,7 @@ pub trait DecodeIfType: Sized {
     ghost decoded: { Self → Object };
 
     /// The signed object that a source begins with, in DER, or where not `strict` in BER, whose content is of that type;
-    /// an object with a content of another type is refused. Octets behind it stay unread.
+    /// an object with a content of another type is refused. Octets after it stay unread.
     fn decode_if_type<I: IntoSource, T: AsSlice<u8>>(
         alloc: Global,
         source: I,

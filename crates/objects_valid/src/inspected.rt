@@ -1,4 +1,4 @@
-//! What is tested of a signed object behind its certificate's form: its content, then its certificate below an issuer.
+//! What is tested of a signed object after its certificate's form: its content, then its certificate below an issuer.
 
 ghost use Rattle.std.specs.Prelude.{◌≡◌, ◌+◌, ◌≤◌, ℕ, Bool, IfErr, IfOk};
 ghost use Rattle.objects_valid.specs.certs_specs.Verified.{HolderValue, held_by};

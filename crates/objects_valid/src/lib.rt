@@ -9,9 +9,9 @@
 //! `decode_if_type` reads an object whose content is of a type that is asked for, and refuses any other.
 //!
 //! What differs from the Rust crate: the calls are those of traits, one a type; the verifier, the digester and the clock
-//! are handed in, and each call has a form that is given the moment; what takes memory is given an allocator, and want of
-//! memory is an error of its own; whatever a caller's test refuses with is told as one error, but for want of memory; the
-//! content of an object of any kind is handed over as it stands.
+//! are handed in, and each call has a form that is given the moment; what takes memory is given an allocator, and lack of
+//! memory is an error of its own; whatever a caller's test refuses with is reported as one error, but for lack of memory;
+//! the content of an object of any kind is handed over as it stands.
 #![tactic(auto)]
 
 pub mod aspa;

@@ -21,7 +21,7 @@ pub(crate) fn join<T: Drop>(
     }
 }
 
-/// The certificate with the content, where a test behind passed; else that test's error.
+/// The certificate with the content, where a test after passed; else that test's error.
 pub(crate) fn join_if<T: Drop>(
     holder: ResourceCert,
     content: T,

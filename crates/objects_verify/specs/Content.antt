@@ -16,7 +16,7 @@ object_with content_type content c s = record { content_type = content_type; con
 abbrev pub HasDigest : Digests → Object → Type 0
 HasDigest d o = o.signer.digest ≡ d.sha256 o.content
 
--- The object wasn't signed behind the certificate's validity.
+-- The object wasn't signed after the certificate's validity.
 abbrev pub IsInTime : Object → Type 0
 IsInTime o = IsNotAfter o.signer.signing_time o.cert.tbs.not_after
 

@@ -20,7 +20,7 @@ fn is_digest_of<D: Digester>(digest: &OctetString, content: &OctetString, digest
     digest.is_slice(&digester.sha256(octets))
 }
 
-// Whether a time, if there is one, isn't behind a moment.
+// Whether a time, if there is one, isn't after a moment.
 fn is_not_after(time: Option<Time>, moment: Time) -> bool
     ensures { IsTrue result ↔ IsNotAfter time moment }
 {
@@ -63,7 +63,7 @@ fn verify_signature<V: Verifier>(
 
 /// Whether the object of that content, signer and certificate is sound, and else the first test that fails, in this order:
 /// the digest that is signed is the content's SHA-256 digest (`MessageDigest`), the signing time, if there is one, isn't
-/// behind the certificate's validity (`SigningTime`), and the signature is good by the certificate's key over the
+/// after the certificate's validity (`SigningTime`), and the signature is good by the certificate's key over the
 /// attributes as a SET (`BadSignature`) (RFC 5652 5.4, 5.6; RFC 6488 3). A signing time before the validity is no fault,
 /// and a binary signing time isn't looked at.
 ///

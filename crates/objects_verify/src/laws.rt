@@ -9,7 +9,7 @@ ghost use Rattle.objects_signed.specs.objects_forms.ObjectText.{IsSignedMessage,
 ghost use Rattle.objects_signed.specs.objects_forms.ObjectText.{Sound};
 ghost use Rattle.objects_verify.specs.Content.{FailsContent};
 
-/// An object of which a test fails isn't sound: only want of memory says nothing of it.
+/// An object of which a test fails isn't sound: only lack of memory says nothing of it.
 pub fn what_fails_is_not_sound()
     ensures { (d : Digests) (v : Verdicts) (o : Object) (e : Error)
         → FailsContent d v o e → e ≢ Memory → Sound d v o → ⊥ }

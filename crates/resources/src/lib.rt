@@ -22,7 +22,7 @@
 //!
 //! What differs from the Rust crate:
 //!
-//! - What takes memory is given an allocator, first of all, and answers a `Result`: want of memory is an error of its
+//! - What takes memory is given an allocator, first of all, and answers a `Result`: lack of memory is an error of its
 //!   own, and never another answer. So `from_str` and `from_iter` of sets are calls of the sets, and not of a trait.
 //!   Nothing panics: that a range's end isn't before its beginning, for one, is a condition on the caller.
 //! - `Chain` is a struct around a slice, and owned and shared chains lend one by `as_chain`. `trim` answers `None`

@@ -1,4 +1,4 @@
--- Why the set of a choice of AS numbers can't be told.
+-- Why the set of a choice of AS numbers can't be stated.
 use Rattle.resources_as.specs.resources_chain.declared.choice.InheritedResources.{InheritedResources}
 use Rattle.resources_as.specs.resources_chain.declared.choice.InheritedResources.TheVariants as Cause
 use Rattle.resources_as.specs.declared.resources.InheritedAsResources.{InheritedAsResources}

@@ -101,7 +101,7 @@ impl AsResources {
         &self.choice
     }
 
-    /// The set that is listed; none where AS numbers are missing. Those of an issuer can't be told.
+    /// The set that is listed; none where AS numbers are missing. Those of an issuer can't be stated.
     pub fn to_blocks(&self) -> Result<AsBlocks, InheritedAsResources>
         ensures set { IfOk result (λ s. IsRunsOf (Lists self.now) s) }
         ensures inherited { IsErrOf result InheritedAsResources.Inherited ↔ (self.now ≡ Inherit) }
@@ -136,7 +136,7 @@ impl Claim for AsResources {
     }
 }
 
-/// Why the set of AS resources can't be told.
+/// Why the set of AS resources can't be stated.
 #[derive(Clone, Copy, Debug, PartialEq, Eq, Hash, Error)]
 pub enum InheritedAsResources {
     /// It is the issuer's.
@@ -211,7 +211,7 @@ impl AsResourcesBuilder {
         self.choice = ResourcesChoice::Inherit;
     }
 
-    /// The blocks that `build` pushes, behind those that were listed already and in place of `inherit`. Where
+    /// The blocks that `build` pushes, after those that were listed already and in place of `inherit`. Where
     /// `build` or a growth of memory is refused nothing changes.
     pub fn blocks<F: FnOnce(&mut AsBlocksBuilder) -> Result<(), AllocError>>(
         &mut self,

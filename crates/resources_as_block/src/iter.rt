@@ -55,7 +55,7 @@ impl Iterator for AsBlockIter {
     }
 }
 
-/// The AS number behind this one, unless it is the last.
+/// The AS number after this one, unless it is the last.
 fn behind(asn: Asn, last: Asn) -> Option<Asn>
     requires { asn.value ≤ last.value }
     ensures left { numbers_left (Some asn) last ≡ asn.value ∷ numbers_left result last }

@@ -126,7 +126,7 @@ impl fmt::Display for AsRange {
     }
 }
 
-/// The AS number behind this one; none behind the largest.
+/// The AS number after this one; none after the largest.
 pub(crate) fn successor(asn: Asn) -> Option<Asn>
     ensures { MatchOption result (asn.value ≡ 4294967295) (λ after. after.value ≡ asn.value + 1) }
 {

@@ -29,9 +29,9 @@ pub enum Question {
     /// The resources that octets in hexadecimal digits encode in DER.
     Decode,
     /// The octets in DER, in hexadecimal digits: of AS resources, and of the blocks that they list; of a family of
-    /// addresses and the blocks of a set of it, one behind the other; or of both families in one value.
+    /// addresses and the blocks of a set of it, one after the other; or of both families in one value.
     Encode,
-    /// The family in front of octets, and what is behind it.
+    /// The family in front of octets, and what is after it.
     Family,
     /// The object identifiers of a policy.
     Identifiers,

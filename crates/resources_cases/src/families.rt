@@ -89,7 +89,7 @@ fn encode_families(alloc: Global, mode: Mode, v4: &str, v6: &str) -> Result<Stri
     Ok(text)
 }
 
-// The family in front of octets, gone past, and a second one behind it.
+// The family in front of octets, gone past, and a second one after it.
 fn family(alloc: Global, digits: &str) -> Result<String> {
     let octets = hex::decode(alloc, digits)?;
     let read = Mode::Der.decode(octets.as_slice(), |cons| {

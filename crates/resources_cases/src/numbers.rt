@@ -84,7 +84,7 @@ fn decode(alloc: Global, digits: &str) -> Result<String> {
     }
 }
 
-// A content goes on behind a block, but not behind a refusal that is forgotten.
+// A content goes on after a block, but not after a refusal that is forgotten.
 fn forgotten(alloc: Global, digits: &str) -> Result<String> {
     let octets = hex::decode(alloc, digits)?;
     let read = Mode::Der.decode(octets.as_slice(), |cons| {

@@ -105,7 +105,7 @@ pub fn answer(alloc: Global, question: Question, words: &[&str]) -> Result<Strin
     }
 }
 
-/// The identifiers of a policy, and whether each is told again.
+/// The identifiers of a policy, and whether each is reported again.
 pub fn identifiers(alloc: Global, word: &str) -> Result<String> {
     let mode = policy(word);
     let (policy, ip, asn) = (mode.policy_id(), mode.ip_res_id(), mode.as_res_id());

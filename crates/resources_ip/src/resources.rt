@@ -114,7 +114,7 @@ impl IpResources {
         &self.choice
     }
 
-    /// The set that is listed; none where the addresses are missing. Those of an issuer can't be told.
+    /// The set that is listed; none where the addresses are missing. Those of an issuer can't be stated.
     pub fn to_blocks(&self) -> Result<IpBlocks, InheritedIpResources>
         ensures set { IfOk result (λ s. IsRunsOf (Lists self.now) s) }
         ensures inherited { IsErrOf result InheritedIpResources.Inherited ↔ (self.now ≡ Inherit) }
@@ -142,7 +142,7 @@ impl Claim for IpResources {
     }
 }
 
-/// Why the set of resources can't be told.
+/// Why the set of resources can't be stated.
 #[derive(Clone, Copy, Debug, PartialEq, Eq, Error)]
 pub enum InheritedIpResources {
     /// It is the issuer's.
@@ -217,7 +217,7 @@ impl IpResourcesBuilder {
         self.choice = ResourcesChoice::Inherit;
     }
 
-    /// The blocks that `build` pushes, behind those that were listed already and in place of `inherit`. Where
+    /// The blocks that `build` pushes, after those that were listed already and in place of `inherit`. Where
     /// `build` or a growth of memory is refused nothing changes.
     pub fn blocks<F: FnOnce(&mut IpBlocksBuilder) -> Result<(), AllocError>>(
         &mut self,

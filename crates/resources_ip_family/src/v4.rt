@@ -60,7 +60,7 @@ impl Ipv4Block {
         self.block.min()
     }
 
-    /// The last address, with ones behind its 32 bits.
+    /// The last address, with ones after its 32 bits.
     pub fn max(&self) -> Addr
         ensures { bits_of result ≡ (run_of_v4 self.now).last }
     {

@@ -1,4 +1,4 @@
--- What is told of each kind, together.
+-- What is said of each kind, together.
 use Rattle.std.proofs.Common.{◌≡◌, ◌∙◌, subst}
 use Rattle.std.specs.Prelude.{◌↔◌, ◌&&◌, Bool, IsTrue, List}
 use Rattle.resources_set.specs.resources_chain.Same.{one_answer}
@@ -6,7 +6,7 @@ use Rattle.resources_set.specs.resources_chain.Sets.{Run, IsInside}
 use Rattle.resources_set.specs.Equal.{all_three}
 use Rattle.resources_set.specs.Resources.{Resources, AreSame, HasNone, IsNone}
 
--- What is told of equal sets.
+-- What is said of equal sets.
 pub inside_as : (r : Bool) {a b x y : List Run} → (IsTrue r ↔ IsInside a b) → a ≡ x → b ≡ y → IsTrue r ↔ IsInside x y
 inside_as r {a} {b} {x} {y} p e f = subst (λ (t : List Run). IsTrue r ↔ IsInside x t) f (subst (λ (s : List Run). IsTrue r ↔ IsInside s b) e p)
 

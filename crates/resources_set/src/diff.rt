@@ -61,7 +61,7 @@ fn are_both(added: bool, removed: bool) -> bool
     matches!((added, removed), (true, true))
 }
 
-// The kinds of which there are some, each behind its name.
+// The kinds of which there are some, each after its name.
 fn write_kinds<W: fmt::Write>(set: &ResourceSet, f: &mut fmt::Formatter<W>) -> fmt::Result {
     if !set.asn().is_empty() {
         write!(f, " asn: {}", set.asn())?;

@@ -23,7 +23,7 @@ pub enum Lead<'a> {
     Held(&'a Object, Tal),
 }
 
-/// What the locator leads to in that bundle (RFC 8630 3). Memory is asked for only where a URI stands behind the
+/// What the locator leads to in that bundle (RFC 8630 3). Memory is asked for only where a URI stands after the
 /// comments of its text.
 pub fn follow<'a>(
     alloc: Global,

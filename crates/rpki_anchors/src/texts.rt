@@ -10,7 +10,7 @@ use rpki_table::Locator;
 use std::alloc::{AllocError, Global};
 
 /// The trust anchor locator that the text is, or none where it is none (RFC 8630 2.2). Memory is asked for only where a
-/// URI stands behind the comments. It is given no name, since the bundle has one.
+/// URI stands after the comments. It is given no name, since the bundle has one.
 pub fn read_locator_text(alloc: Global, locator: &Locator) -> Result<Option<Tal>, AllocError>
     ensures text { IfOk result (λ found. MatchOption found (IsNoLocator locator.now.text)
         (λ tal. LocatorText locator.now.text tal.uris tal.key)) }

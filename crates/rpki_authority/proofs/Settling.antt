@@ -1,4 +1,4 @@
--- A refusal that isn't for want of memory settles that there is none.
+-- A refusal that isn't for lack of memory settles that there is none.
 use Rattle.std.proofs.Common.{◌≡◌, ◌↔◌, Bool, true, false, IsTrue, Some, None, Result, Err, sym, subst}
 use Rattle.certs_verify.specs.declared.refused.Refused.{Refused}
 use Rattle.certs_verify.specs.Holders.{ResourceCertValue}

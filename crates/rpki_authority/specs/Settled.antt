@@ -6,7 +6,7 @@ use Rattle.certs_verify.specs.Validated.{cause_of}
 use Rattle.rpki_authority.specs.certs_errors.declared.validation.ValidationError.{ValidationError}
 use Rattle.rpki_authority.specs.certs_specs.Calls.{wants_memory}
 
--- The certificate was accepted, or refused by a test and not for want of memory.
+-- The certificate was accepted, or refused by a test and not for lack of memory.
 abbrev pub Settles : Result ResourceCertValue (Refused ValidationError) → Option ResourceCertValue → Type 0
 Settles (Ok r) (Some s) = s ≡ r
 Settles (Ok r) None = ⊥

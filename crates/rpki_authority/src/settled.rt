@@ -18,7 +18,7 @@ fn is_memory(error: &ValidationError) -> bool
     )
 }
 
-/// The certificate that was accepted, or nothing where a test refused it; want of memory settles nothing.
+/// The certificate that was accepted, or nothing where a test refused it; lack of memory settles nothing.
 pub(crate) fn settle(
     validated: Result<ResourceCert, Refused<ValidationError>>,
 ) -> Result<Option<ResourceCert>, AllocError>

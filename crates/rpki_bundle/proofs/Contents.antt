@@ -6,13 +6,13 @@ use Rattle.rpki_bundle.specs.bcder_tree.Octets.{form_bit, IsLength}
 use Rattle.rpki_bundle.specs.bcder_tree.Front.{Splits}
 use Rattle.rpki_bundle.proofs.of_bcder_tree.Fronts.{one_octet_header}
 
--- One identifier octet, a length, as many content octets, and what is behind them.
+-- One identifier octet, a length, as many content octets, and what is after them.
 pub record TakesContent (identifier : ℕ) (octets content behind : List ℕ) : Type 0 where
   pub size : List ℕ
   pub size_is : IsLength Der size (length content)
   pub whole : octets ≡ identifier ∷ (size ++ (content ++ behind))
 
--- Behind its identifier octet, a value of a low tag splits.
+-- After its identifier octet, a value of a low tag splits.
 pub content_splits : (identifier : ℕ) (k : Bool) (t : TagValue) (s content behind : List ℕ) → t.class < 4 → 0 < t.class + t.number → t.number < 31 → identifier ≡ t.class * 64 + form_bit k + t.number → TakesContent identifier s content behind → Splits Der s k t content behind
 content_splits identifier k t s content behind class tag low first c = record {
   header = identifier ∷ c.size;

@@ -4,7 +4,7 @@ use Rattle.std.specs.Int.{from_le_bytes, to_le_bytes, w64}
 use Rattle.std.proofs.lemmas.List.{drop-drop, drop_all, length-drop, length-take-le, take-append-drop, take_all}
 use Rattle.std.proofs.lemmas.Nat.{le_bytes_8}
 
--- What holds of the octets, holds of those behind some and of those up to some.
+-- What holds of the octets, holds of those after some and of those up to some.
 drop_small : (n : ℕ) (xs : List ℕ) → ((i : ℕ) → get_or xs i 0 < 256) → (i : ℕ) → get_or (drop n xs) i 0 < 256
 drop_small zero xs h = h
 drop_small (suc n) [] h = h

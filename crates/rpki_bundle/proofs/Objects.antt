@@ -64,7 +64,7 @@ rises objects key a = λ i j d le lt. at i j d lt (cases_lt i j) le
         let same : i ≡ j = omega arith in
         omega (arith, ap (λ (k : ℕ). ordering_index (cmp_at key (get_or objects k d))) same)
 
--- Where the search ended between those before and those behind, none has the key.
+-- Where the search ended between those before and those after, none has the key.
 pub none_at : (objects : List Object) (key : List ℕ) (i : ℕ) → IsPartitionPoint (λ (o : Object). cmp_at key o ≡ Less) (λ (o : Object). cmp_at key o ≡ Greater) objects i → (octets : List ℕ) → IsAt objects key octets → ⊥
 none_at objects key i p octets h =
     let r = place_of objects key octets h in

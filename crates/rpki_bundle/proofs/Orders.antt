@@ -56,7 +56,7 @@ then_assoc Less p q = refl
 then_assoc Equal p q = refl
 then_assoc Greater p q = refl
 
--- Rows whose fronts are equally long go by the fronts, and then by what is behind.
+-- Rows whose fronts are equally long go by the fronts, and then by what is after.
 pub cmp_append : (a b x y : List ℕ) → length a ≡ length b → slice_cmp nat_cmp (a ++ x) (b ++ y) ≡ ordering_then (slice_cmp nat_cmp a b) (slice_cmp nat_cmp x y)
 cmp_append [] [] x y e = refl
 cmp_append [] (b ∷ w) x y e = absurd (omega arith)
@@ -64,7 +64,7 @@ cmp_append (a ∷ v) [] x y e = absurd (omega arith)
 cmp_append (a ∷ v) (b ∷ w) x y e =
     ap (ordering_then (nat_cmp a b)) (cmp_append v w x y (omega arith)) ∙ sym (then_assoc (nat_cmp a b) (slice_cmp nat_cmp v w) (slice_cmp nat_cmp x y))
 
--- Three rows behind each other.
+-- Three rows after each other.
 pub cmp_three : (a b p q x y : List ℕ) → length a ≡ length b → length p ≡ length q → slice_cmp nat_cmp (a ++ (p ++ x)) (b ++ (q ++ y)) ≡ ordering_then (ordering_then (slice_cmp nat_cmp a b) (slice_cmp nat_cmp p q)) (slice_cmp nat_cmp x y)
 cmp_three a b p q x y e f =
     cmp_append a b (p ++ x) (q ++ y) e ∙ ap (ordering_then (slice_cmp nat_cmp a b)) (cmp_append p q x y f)

@@ -124,7 +124,7 @@ decoded_cases m o (Err Memory) exact h = tt
 pub text_decoded : {F S T B E : Type 0} {m : Mode} {rest : S → List ℕ} {g : Reader F (Constructed S) T E} {op : F} {f : T → B} {P : Trees → B → Type 0} {o : List ℕ} {r : Result T (DecodeError E)} → EndsEach m rest g op f P → Decoded rest g op (fresh m o) r → ReadsText f m P o r
 text_decoded {m = m} {o = o} {r} exact h = decoded_cases m o r exact h.cases
 
--- A bundle is told by octets that were read as one, and by none that were refused.
+-- A bundle is given by octets that were read as one, and by none that were refused.
 pub told_parts : {E : Type 0} (o : List ℕ) (r : Result Parts (DecodeError E)) → ReadsText {E = E} parts_alone Der (IsBundleAlone Der) o r → TellsBundle o r
 told_parts o (Ok p) h = text_of h.1 h.2
 told_parts o (Err (Content x pos)) h = λ b t. let a = text_alone t in h (more t.tree none) (b, tt) a.0 a.1

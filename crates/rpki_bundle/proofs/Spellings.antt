@@ -141,7 +141,7 @@ pub record Spelling {A : Type 0} (P : Tree → A → Type 0) (lawful : A → Typ
   pub needs : (t : Tree) (x : A) (a : List ℕ) → P t x → Spells Der t a → (a ≡ octets x) × lawful x
   pub gives : (x : A) → lawful x → length (octets x) < 2 ^ 32 → (t : Tree) × P t x × Spells Der t (octets x)
 
--- Entries, one behind the other,
+-- Entries, one after the other,
 pub each_spelled : {A : Type 0} {P : Tree → A → Type 0} {lawful : A → Type 0} {octets : A → List ℕ} → Spelling P lawful octets → (ts : Trees) (xs : List A) (c : List ℕ) → EachIs P ts xs → SpellsAll Der ts c → (c ≡ flat_map octets xs) × All lawful xs
 each_spelled s none [] c i h = (h, λ k d lt. absurd (omega arith))
 each_spelled s none (x ∷ xs) c i h = absurd i

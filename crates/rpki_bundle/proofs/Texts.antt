@@ -170,7 +170,7 @@ with_lists m d ls os vs = record { moment = m; depth = d; locators = ls; objects
 pub same_lists : {m d : ℕ} {ls ks : List Locator} {os ps : List Object} {vs ws : List Verdict} → ls ≡ ks → os ≡ ps → vs ≡ ws → with_lists m d ls os vs ≡ with_lists m d ks ps ws
 same_lists {m} {d} p q r = λ i. record { moment = m; depth = d; locators = p i; objects = q i; verdicts = r i }
 
--- What was written behind nothing is the text of a lawful bundle.
+-- What was written after nothing is the text of a lawful bundle.
 wrote_text : (text : List ℕ) (b : BundleValue) (old new : List ℕ) → IsLawful b → IsMoment text b.moment → old ≡ [] → Wrote (WritesBundle text b Der) (Some old) (Some new) → BundleText new b
 wrote_text text b old new l m e h =
     let w = wrote_bundle text b (omega (arith, l.greatest)) h.is in

@@ -65,7 +65,7 @@ octets_wrapped P c p fits =
     let x = spells_value 48 true (universal 16) c (omega arith) (omega arith) (omega arith) (omega arith) fits in
     record { content = c; is = p; few = fits; spelled = definite tt x.header x.header_is (x.whole ∙ ap (λ (z : List ℕ). x.header ++ z) (append-nil c)) }
 
--- Two parts, one behind the other.
+-- Two parts, one after the other.
 pub joined : {a b c d : List ℕ} → a ≡ b → c ≡ d → a ++ c ≡ b ++ d
 joined {a} {b} {c} {d} p q = ap (λ (z : List ℕ). z ++ c) p ∙ ap (λ (z : List ℕ). b ++ z) q
 

@@ -14,7 +14,7 @@ abbrev pub ReadsToEndAs : {A B E : Type 0} → (A → B) → (Trees → B → Ty
 ReadsToEndAs f P old (Ok x) new = GivesAll P old (f x) new × Ended new
 ReadsToEndAs f P old (Err e) new = OnContent e (LacksAll P old)
 
--- Refused octets are no bundle, want of memory stays so, and a source in memory doesn't fail.
+-- Refused octets are no bundle, lack of memory stays so, and a source in memory doesn't fail.
 abbrev pub Refuses : {E : Type 0} → DecodeError E → BundleError → Type 0
 Refuses (Content x pos) e = e ≡ bundle_error.NotABundle
 Refuses (Source x) e = ⊥

@@ -111,6 +111,6 @@ IsBundleBody m = Then IsVersion (Then IsMomentString (Then IsDepthNumber (Then (
 abbrev pub IsBundleTree : Mode → Tree → BundleValue → Type 0
 IsBundleTree m = As (Inside (universal 16) (IsBundleBody m)) as_bundle
 
--- A bundle, and nothing behind it.
+-- A bundle, and nothing after it.
 abbrev pub IsBundleAlone : Mode → Trees → BundleValue × Unit {0} → Type 0
 IsBundleAlone m = Then (IsBundleTree m) End

@@ -9,6 +9,6 @@ use Rattle.std.specs.declared.cmp.Ordering.TheVariants.{Less}
 abbrev pub IsBefore : List ℕ → List ℕ → Type 0
 IsBefore a b = slice_cmp nat_cmp a b ≡ Less
 
--- Each of the list stands before all behind it, by the rows that `row` gives; so none occurs twice.
+-- Each of the list stands before all after it, by the rows that `row` gives; so none occurs twice.
 abbrev pub Ascends : {X : Type 0} → (X → List ℕ) → List X → Type 0
 Ascends row xs = IsStrictlySortedBy (slice_cmp nat_cmp) (map row xs)

@@ -37,7 +37,7 @@ verdict_octets v = sequence_octets (value_octets 4 v.key ++ (value_octets 4 v.me
 abbrev pub list_octets : {A : Type 0} → (A → List ℕ) → List A → List ℕ
 list_octets octets xs = sequence_octets (flat_map octets xs)
 
--- What a bundle's SEQUENCE has as its content, the moment being told by that text.
+-- What a bundle's SEQUENCE has as its content, the moment being given by that text.
 abbrev pub members_octets : List ℕ → BundleValue → List ℕ
 members_octets text b =
     value_octets 2 (0 ∷ []) ++ (value_octets 24 text ++ (value_octets 2 (b.depth ∷ [])

@@ -75,7 +75,7 @@ WritesMembers m text depth P Q R =
     WritesWrapped m (universal 16) (WritesBoth (WritesInteger m 0) (WritesBoth (WritesText m (universal 24) text) (WritesBoth (WritesInteger m depth)
     (WritesBoth (WritesWrapped m (universal 16) P) (WritesBoth (WritesWrapped m (universal 16) Q) (WritesWrapped m (universal 16) R))))))
 
--- A bundle, the moment being told by that text.
+-- A bundle, the moment being given by that text.
 abbrev pub AreBundle : List ℕ → BundleValue → Mode → Trees → Type 0
 AreBundle text b m = AreMembers text b.depth (AreAll (λ l. AreLocator l m) b.locators) (AreAll (λ o. AreObject o m) b.objects) (AreAll (λ v. AreVerdict v m) b.verdicts)
 

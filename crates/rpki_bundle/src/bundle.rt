@@ -194,7 +194,7 @@ impl Bundle {
 
     /// Reads a bundle of version 0, in DER.
     ///
-    /// `NotABundle` where the octets, all of them, are none: octets behind the value are refused. `Memory` where a
+    /// `NotABundle` where the octets, all of them, are none: octets after the value are refused. `Memory` where a
     /// growth was refused.
     pub fn decode(alloc: Global, octets: &[u8]) -> Result<Bundle, BundleError>
         ensures ok { IfOk result (BundleText octets.now) }

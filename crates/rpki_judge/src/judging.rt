@@ -97,7 +97,7 @@ fn judge_links<E: Evidence>(
 
 /// Whether a locator's name, the lookup keys of a chain from the anchor down and that of an object are a good witness.
 ///
-/// The object's point is read first, then those above it one by one. Want of memory is an error and never a no.
+/// The object's point is read first, then those above it one by one. Lack of memory is an error and never a no.
 pub fn judge<E: Evidence>(
     alloc: Global,
     evidence: &mut E,

@@ -120,7 +120,7 @@ found_at (o ∷ os) uri octets e = elim (chosen (bytes_eq o.uri uri) (Some o.oct
   | inr h ↦ inr (found_at os uri octets h.1)
 ]
 
--- Behind an object none has its URI.
+-- After an object none has its URI.
 none_behind : (uri : List ℕ) (os : List Object) → AllByRecursion (λ (k : List ℕ). slice_cmp nat_cmp uri k ≡ Less) (map (λ (o : Object). o.uri) os) → (octets : List ℕ) → IsAt os uri octets → ⊥
 none_behind uri [] a octets h = h
 none_behind uri (o ∷ os) a octets (inl h) =

@@ -1,4 +1,4 @@
--- A world has one output: lists in order are told by their members.
+-- A world has one output: lists in order are given by their members.
 use Rattle.std.proofs.Common.{◌≡◌, ℕ, ◌<◌, ◌⊎◌, ◌↔◌, List, [], ◌∷◌, ◌++◌, map, inl, inr, refl, sym, ap, subst, ◌∙◌, arith}
 use Rattle.std.specs.Prelude.{flat_map}
 use Rattle.std.specs.List.{AllByRecursion}
@@ -16,7 +16,7 @@ use Rattle.rpki_rules.specs.Output.{AreOrigins, IsCustomer, AreCustomers, AreRef
 use Rattle.rpki_rules.specs.Laws.{OneOutput}
 use Rattle.rpki_laws.proofs.Lists.{each_at, mem_map, map_mem}
 
--- Each stands before all behind it.
+-- Each stands before all after it.
 Sorted : {X : Type 0} → (X → X → Type 0) → List X → Type 0
 Sorted R [] = Unit {0}
 Sorted R (x ∷ xs) = Each (R x) xs × Sorted R xs

@@ -17,7 +17,7 @@ to_lower c = grind (arith, nat_tests)
 pub map_lower : (text : List ℕ) → map to_ascii_lowercase text ≡ map lower text
 map_lower text = ap (λ f. map f text) (λ i c. to_lower c i)
 
--- A name has the extension where that stands behind its fourth octet from the end, a dot.
+-- A name has the extension where that stands after its fourth octet from the end, a dot.
 pub ends_so : (extension uri : List ℕ) (dot : ℕ) → dot + 4 ≡ length uri → slice_index_or uri dot 0 ≡ 46 → map lower (drop (dot + 1) uri) ≡ extension → HasExtension extension uri
 ends_so extension uri dot len is e = (
   take dot uri,

@@ -15,6 +15,6 @@ payload_of (payload.Aspa content) = OfAspa content
 abbrev pub origin_by : Kind → ℕ → RoaAddress → Origin
 origin_by kind asn a = record { kind = kind; addr = a.addr; len = a.len; max_len = max_len_or a.len a.max_len; asn = asn }
 
--- What was there stands in front, with more behind it or nothing.
+-- What was there stands in front, with more after it or nothing.
 abbrev pub Extends : {X : Type 0} → List X → List X → Type 0
 Extends {X = X} old new = (more : List X) × (new ≡ old ++ more)

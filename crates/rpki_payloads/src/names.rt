@@ -26,7 +26,7 @@ fn has_extension(uri: &[u8], extension: &[u8; 3]) -> bool
     uri[dot] == b'.' && uri[dot + 1..].eq_ignore_ascii_case(extension)
 }
 
-/// The extension that a file's name has: the letters behind its last dot, whatever their case. None where it has none of
+/// The extension that a file's name has: the letters after its last dot, whatever their case. None where it has none of
 /// these three.
 pub fn extension_of(uri: &[u8]) -> Option<Extension>
     ensures { (e : Extension) → (result ≡ Some e) ↔ HasExtension (letters e) uri.now }

@@ -51,7 +51,7 @@ fn add_families(content: &RouteOriginAttestation, out: &mut Vec<Origin>) -> Resu
 }
 
 /// Adds the origins that a route origin attestation names: those of IPv4, then those of IPv6, in their order. Refused
-/// for want of memory alone, and then nothing is added.
+/// for lack of memory alone, and then nothing is added.
 pub fn add_roa_origins(
     content: &RouteOriginAttestation,
     out: &mut Vec<Origin>,

@@ -22,7 +22,7 @@ pub enum Payload {
 }
 
 impl Payload {
-    /// Adds the origins that the object names; none of a provider attestation. Refused for want of memory alone, and then
+    /// Adds the origins that the object names; none of a provider attestation. Refused for lack of memory alone, and then
     /// nothing is added.
     pub fn add_origins(&self, out: &mut Vec<Origin>) -> Result<(), AllocError>
         ensures ok { OnOk result (map origin_of out.new.items
@@ -36,7 +36,7 @@ impl Payload {
     }
 
     /// Adds the customer with each of the providers that the object names; nothing of a route origin attestation. Refused
-    /// for want of memory alone, and then nothing is added.
+    /// for lack of memory alone, and then nothing is added.
     pub fn add_provisions(&self, out: &mut Vec<Provision>) -> Result<(), AllocError>
         ensures ok { OnOk result (map provision_of out.new.items
             ≡ map provision_of out.old.items ++ provisions (payload_of self.now)) }

@@ -25,7 +25,7 @@ fn add_providers(
     Ok(())
 }
 
-/// Adds the customer of a provider attestation with each of its providers, in their order. Refused for want of memory
+/// Adds the customer of a provider attestation with each of its providers, in their order. Refused for lack of memory
 /// alone, and then nothing is added.
 pub fn add_aspa_provisions(
     content: &AsProviderAttestation,

@@ -1,4 +1,4 @@
--- What a point has beside its manifest, as one part is found behind another.
+-- What a point has beside its manifest, as one part is found after another.
 use Rattle.std.proofs.Common.{◌≡◌, ◌∙◌, ℕ, List, Option, Some, None, Result, Ok, Err, MatchOption, sym, ap, subst}
 use Rattle.std.specs.Prelude.{IfOk}
 use Rattle.rpki_standing.specs.objects_kinds.Kinds.{KindValue}

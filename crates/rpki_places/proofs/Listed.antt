@@ -6,13 +6,13 @@ use Rattle.rpki_standing.specs.rpki_readings.Objects.{File as Listed}
 use Rattle.rpki_places.specs.declared.files.File.{File}
 use Rattle.rpki_places.specs.Files.{AreFilesIn, IsFileIn, NoFilesIn}
 
--- Some files of a list have been read, so many that those of what is left of it make, behind them, the files of all of it.
+-- Some files of a list have been read, so many that those of what is left of it make, after them, the files of all of it.
 pub record IsReadTo (object : List ℕ → Option (List ℕ)) (folder : List ℕ) (all left : List Listed) (read : List File) : Type 0 where
   pub joins : (fs : List File) → AreFilesIn object folder left fs → AreFilesIn object folder all (read ++ fs)
   pub ends : (fs : List File) → AreFilesIn object folder all fs → (behind : List File) × AreFilesIn object folder left behind
 
 module _ (object : List ℕ → Option (List ℕ)) (folder : List ℕ) where
-  -- The files behind the first.
+  -- The files after the first.
   behind_first : (x : Listed) (left : List Listed) (fs : List File) → AreFilesIn object folder (x ∷ left) fs → (behind : List File) × AreFilesIn object folder left behind
   behind_first x left [] h = absurd h
   behind_first x left (f ∷ fs) h = (fs, h.1)

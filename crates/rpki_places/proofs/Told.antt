@@ -1,4 +1,4 @@
--- What is told of a point's files, by what their manifest lists.
+-- What is said of a point's files, by what their manifest lists.
 use Rattle.std.proofs.Common.{◌≡◌, ◌∙◌, ℕ, List, [], ◌∷◌, map, Option, Some, refl, sym, ap, subst}
 use Rattle.rpki_standing.specs.certs_uri.Paths.{join}
 use Rattle.rpki_standing.specs.certs_uri.Uris.{lookup_key}

@@ -19,7 +19,7 @@ use std::alloc::{AllocError, Global};
 
 /// What stands at the authority's publication point, by what the authority holds: the point, or nothing where it is refused,
 /// of which nothing counts (RFC 9286 6.2 to 6.6). The certificate of its manifest claims no more than the authority holds,
-/// by its own policy. The verifier is asked three times, at most. Refused for want of memory alone.
+/// by its own policy. The verifier is asked three times, at most. Refused for lack of memory alone.
 pub fn point<D: Digester, V: Verifier>(
     alloc: Global,
     bundle: &Bundle,
@@ -43,7 +43,7 @@ pub fn point<D: Digester, V: Verifier>(
 
 /// What stands at the authority's publication point, what the certificate of its manifest claims apart; nothing where the
 /// point is refused (RFC 9286 6.2 to 6.6). The verifier is asked three times, at most: for the manifest's certificate, for
-/// its content, and for the revocation list. Refused for want of memory alone.
+/// its content, and for the revocation list. Refused for lack of memory alone.
 pub fn point_unheld<D: Digester, V: Verifier>(
     alloc: Global,
     bundle: &Bundle,

@@ -69,7 +69,7 @@ flips x y = ap is_eq (nat_list_cmp_total.antisymm x y) ∙ at (order y x)
     at Equal = refl
     at Greater = refl
 
--- A row that isn't behind the next, and differs from it, is before it.
+-- A row that isn't after the next, and differs from it, is before it.
 before : (a b : Row) → is_lt (order b a) ≡ false → same a b ≡ false → order a b ≡ Less
 before a b sorted other = at (order a b) refl
   where

@@ -84,7 +84,7 @@ pub fn ask<R: Read, W: Write, F: Write>(
         Ok(true) => YES,
         Ok(false) => NO,
         Err(error) => {
-            // What can't be told is lost; the status says that there was something.
+            // What can't be stated is lost; the status says that there was something.
             let _ = writeln!(faults, "{error}");
             FAULT
         }

@@ -35,7 +35,7 @@ pub struct Request<'a> {
     pub question: Question<'a>,
 }
 
-/// What is told of arguments that ask nothing.
+/// What is said of arguments that ask nothing.
 pub const USAGE: &str = "usage: rpki_ask [--json] judge LOCATOR OBJECT CHAIN.. | \
 rpki_ask [--json] reach URI.. | rpki_ask [--json] why URI\n";
 

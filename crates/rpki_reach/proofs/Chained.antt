@@ -69,7 +69,7 @@ seen_more {X = X} f old new z e y = (
   ]),
 )
 
--- What is told of chains.
+-- What is said of chains.
 told_chain : (uris : List (List ℕ)) (w : World) (v : Way) → IsTold uris w (Chains v) ↔ IsNamingChain uris w v
 told_chain uris w v = (
   λ t. elim t [

@@ -31,7 +31,7 @@ some_front : (cs : List Customer) (d : Customer) → AllSome (cs ++ d ∷ []) �
 some_front [] d s = tt
 some_front (c ∷ cs) d s = (s.0, some_front cs d s.1)
 
--- A customer of another number behind the last.
+-- A customer of another number after the last.
 apart_push : (cs : List Customer) (c d : Customer) → SideBySide (cs ++ c ∷ []) → c.number ≢ d.number → SideBySide ((cs ++ c ∷ []) ++ d ∷ [])
 apart_push [] c d s n = (n, (tt, tt))
 apart_push (x ∷ []) c d s n = (s.0, apart_push [] c d s.1 n)
@@ -126,7 +126,7 @@ some_at [] c a m = absurd m
 some_at (d ∷ cs) c a (inl e) = subst (λ (z : Customer). z.providers ≢ []) e a.0
 some_at (d ∷ cs) c a (inr m) = some_at cs c a.1 m
 
--- Provisions of one customer that ascend, whatever stands behind them.
+-- Provisions of one customer that ascend, whatever stands after them.
 providers_ascend : (n : ℕ) (ps : List ℕ) (zs : List Provision) → IsStrictlySortedBy provision_cmp (map (λ (p : ℕ). let y : Provision = record { customer = n; provider = p } in y) ps ++ zs) → Ascending ps
 providers_ascend n [] zs s = tt
 providers_ascend n (p ∷ ps) zs s =

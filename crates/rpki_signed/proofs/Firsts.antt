@@ -15,7 +15,7 @@ passed_inside P (y ∷ front) x behind all = passed_inside P front x behind all.
 none_fails : {X : Type 0} (P : X → Type 0) (xs : List X) (x : X) → FirstFailing P xs x → Each P xs → ⊥
 none_fails P xs x f all = f.fails (passed_inside P f.front x f.behind (subst (Each P) f.whole all))
 
--- An error that tells want of memory is that of memory.
+-- An error that tells lack of memory is that of memory.
 memory_of : (e : VerificationError) → fault_of e ≡ Some wants_memory → e ≡ error.Memory
 memory_of error.MessageDigest h = absurd cc
 memory_of error.SigningTime h = absurd cc

@@ -7,7 +7,7 @@ use Rattle.objects_verify.specs.Content.{FailsContent, VerifiesContent}
 use Rattle.rpki_signed.specs.rpki_readings.Certs.{Digests, Verdicts}
 use Rattle.rpki_signed.specs.rpki_readings.Objects.{Object, Sound}
 
--- A test that fails says that the object isn't sound; want of memory says nothing.
+-- A test that fails says that the object isn't sound; lack of memory says nothing.
 fails_not : (d : Digests) (v : Verdicts) (o : Object) (e : VerificationError) → (e ≡ error.Memory → ⊥) → FailsContent d v o e → Sound d v o → ⊥
 fails_not d v o error.MessageDigest n f s = f s.digest
 fails_not d v o error.SigningTime n f s = f.1 s.time

@@ -16,7 +16,7 @@ fn is_memory(error: &VerificationError) -> bool
     matches!(error, VerificationError::Memory)
 }
 
-/// Whether the object is sound: the digest that is signed is its content's, it wasn't signed behind its certificate's
+/// Whether the object is sound: the digest that is signed is its content's, it wasn't signed after its certificate's
 /// validity, and its signature is good (RFC 5652 5.4, 5.6; RFC 6488 3). The verifier is asked at most once.
 pub fn is_sound<D: Digester, V: Verifier>(
     alloc: Global,

@@ -14,7 +14,7 @@ use Rattle.rpki_table.specs.rpki_bundle.Orders.{Ascends}
 use Rattle.rpki_table.specs.rpki_rules.Words.{Mem}
 use Rattle.rpki_table.specs.Places.{IsPlace, stands_at}
 
--- Of two rows, the first before the second, the first is before any third or the second behind it.
+-- Of two rows, the first before the second, the first is before any third or the second after it.
 around : (a b key : List ℕ) (o : Ordering) → slice_cmp nat_cmp a b ≡ Less → slice_cmp nat_cmp a key ≡ o → (slice_cmp nat_cmp a key ≡ Less) ⊎ (slice_cmp nat_cmp b key ≡ Greater)
 around a b key Less l e = inl e
 around a b key Equal l e =

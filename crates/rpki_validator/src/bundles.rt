@@ -21,7 +21,7 @@ use std::alloc::{AllocError, Global};
 use std::rc::Rc;
 
 /// The report of a bundle: all that accepted chains attest, and all that the rules refuse, by these digests
-/// and this verifier. Refused for want of memory alone.
+/// and this verifier. Refused for lack of memory alone.
 pub fn walk<D: Digester, V: Verifier>(
     alloc: Global,
     bundle: &Bundle,
@@ -46,7 +46,7 @@ pub fn walk<D: Digester, V: Verifier>(
 
 /// Whether the witness is one of those that a walk of the bundle lists. It is read from its object upward, so that the
 /// verifier is asked for a few signatures a certificate, however much the bundle has: at most 4 times the chain's length
-/// and 2 more, whatever the answer. Refused for want of memory alone.
+/// and 2 more, whatever the answer. Refused for lack of memory alone.
 pub fn judge_by<D: Digester, V: Verifier>(
     alloc: Global,
     evidence: &mut BundleEvidence<'_, D, V>,
@@ -74,7 +74,7 @@ pub fn judge_by<D: Digester, V: Verifier>(
 
 /// Whether the witness is one of those that a walk of the bundle lists, by this digester and this verifier. It is read from
 /// its object upward, so that the verifier is asked for a few signatures a certificate, however much the bundle has: at most
-/// 4 times the chain's length and 2 more, whatever the answer. Refused for want of memory alone.
+/// 4 times the chain's length and 2 more, whatever the answer. Refused for lack of memory alone.
 pub fn judge<D: Digester, V: Verifier>(
     alloc: Global,
     bundle: &Bundle,
@@ -101,7 +101,7 @@ pub fn judge<D: Digester, V: Verifier>(
 }
 
 /// What whoever may change the objects at these URIs can reach: `Locator` exactly where a readable locator names one of them,
-/// and else the numbers that accepted chains hold which name one. Refused for want of memory alone.
+/// and else the numbers that accepted chains hold which name one. Refused for lack of memory alone.
 pub fn reach<D: Digester, V: Verifier>(
     alloc: Global,
     bundle: &Bundle,
@@ -126,7 +126,7 @@ pub fn reach<D: Digester, V: Verifier>(
 }
 
 /// The accepted chains whose last certificate names one of these URIs, as its manifest's or in a manifest that stands there:
-/// each once, by locator and lookup keys. Refused for want of memory alone.
+/// each once, by locator and lookup keys. Refused for lack of memory alone.
 pub fn naming_chains<D: Digester, V: Verifier>(
     alloc: Global,
     bundle: &Bundle,

@@ -13,7 +13,7 @@ truth_told : (x : Bool) → unwrap_or (shown_truth x) false ≡ x
 truth_told false = refl
 truth_told true = refl
 
--- No field behind another one has its tag.
+-- No field after another one has its tag.
 behind_version : (context 0 ≡ context 1) ⊎ ((context 0 ≡ universal 1) ⊎ ⊥) → ⊥
 behind_version (inl e) = let n : ◌≡◌ {A = ℕ} 0 1 = ap (λ (t : TagValue). t.number) e in omega arith
 behind_version (inr (inl e)) = let n : ◌≡◌ {A = ℕ} 2 0 = ap (λ (t : TagValue). t.class) e in omega arith

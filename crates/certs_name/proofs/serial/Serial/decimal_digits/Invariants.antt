@@ -2,7 +2,7 @@ use Rattle.std.proofs.Common.{◌≡◌, ◌<◌, ◌≤◌, ◌^◌, ◌⊎◌,
 use Rattle.std.specs.Fmt.{decimal}
 use Rattle.certs_name.proofs.serial.Serial.decimal_digits.Given as goal
 
--- The digits so far stand behind those of the number that is left, for which there is place.
+-- The digits so far stand after those of the number that is left, for which there is place.
 abbrev pub invariant-loop-front : goal.invariant-loop-front
 invariant-loop-front l = record {
   count : length l.digits ≡ 49;
