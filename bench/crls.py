@@ -94,7 +94,7 @@ def measure(program, count):
 
 
 def cells(name, count, row):
-    """The cells in front of the growth; none stands behind it."""
+    """The cells in front of the growth; none stands after it."""
     seconds, _ = row
     return [f"{name:<9}", f"{count:>7,}", f"{seconds * 1e3:>7.3f}", f"{seconds * 1e9 / count:>11.1f}"], []
 

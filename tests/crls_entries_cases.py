@@ -1,6 +1,6 @@
 """Questions about entries of revocation lists by themselves, in each mode, for tests/crls_cases.py (RFC 5280 5.1.2.6).
 
-An entry is a SEQUENCE of a serial number and a moment, with nothing behind them (RFC 6487 5); a list of them is a SEQUENCE of
+An entry is a SEQUENCE of a serial number and a moment, with nothing after them (RFC 6487 5); a list of them is a SEQUENCE of
 entries, and is absent where there are none. Lengths are definite in DER, indefinite in CER, and both in BER (X.690 8.1.3, 9.1,
 10.1).
 """
@@ -118,7 +118,7 @@ def left(pairs):
 
 
 def list_told(pairs, written):
-    """All entries; whether there is a first one; those behind it, twice; all of a clone; what is written."""
+    """All entries; whether there is a first one; those after it, twice; all of a clone; what is written."""
     first = "true" if pairs else "false"
     return " ".join([left(pairs), first, left(pairs[1:]), left(pairs[1:]), left(pairs), written])
 

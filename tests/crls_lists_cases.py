@@ -138,8 +138,8 @@ AKI, CRL_NUMBER = extension(AUTHORITY, seq(tlv(0x80, KEY))), extension(NUMBER, i
 FIELDS = {"version": integer(1), "inner": ALGORITHM, "issuer": ISSUER, "this": THIS, "next": NEXT, "entries": b"", "extensions": tlv(0xA0, seq(AKI, CRL_NUMBER)), "more": b""}
 
 
-def crl(outer=ALGORITHM, signature=SIGNATURE, behind=b"", **fields):
-    return seq(seq(*{**FIELDS, **fields}.values()), outer, signature, behind)
+def crl(outer=ALGORITHM, signature=SIGNATURE, after=b"", **fields):
+    return seq(seq(*{**FIELDS, **fields}.values()), outer, signature, after)
 
 
 def entry(serial, date=THIS, more=b""):
@@ -183,7 +183,7 @@ def fields(q):
         ask(q, crl(signature=wrong), "refused")
     for right in (tlv(3, b"\0"), tlv(3, b"\4\xf0")):
         ask(q, crl(signature=right))
-    ask(q, crl(behind=tlv(5, b"")), "refused")
+    ask(q, crl(after=tlv(5, b"")), "refused")
     ask(q, crl(more=tlv(5, b"")), "refused")
     ask(q, crl(more=tlv(0xA1, b"")), "refused")
     for date in (b"261123000000Z", b"500101000000Z", b"491231235959Z", b"000229000000Z", b"010229000000Z", b"2611230000Z", b"261123000000+0000", b"261123240000Z",

@@ -138,9 +138,9 @@ def within(q):
         for data, modes in forms(some):
             for mode in MODES:
                 answer = "3" if mode in modes else "refused"
-                for behind in (b"", more, some):
-                    q.ask(answer, "within", "taken", mode, (data + behind).hex())
-                    q.ask(answer, "within", "next", mode, (data + behind).hex())
+                for after in (b"", more, some):
+                    q.ask(answer, "within", "taken", mode, (data + after).hex())
+                    q.ask(answer, "within", "next", mode, (data + after).hex())
                 q.ask("none", "within", "next", mode, (more + data).hex())
                 q.ask("refused", "within", "taken", mode, (more + data).hex())
         for data, modes in forms(tlv(0xA1, content(some))):
@@ -154,7 +154,7 @@ def within(q):
     for mode in MODES:
         for data in (b"", more, tlv(0x31, content(crl()))):
             q.ask("none", "within", "next", mode, data.hex())
-    for wrong in (seq(), seq(crl()), crl(version=integer(0)), crl(outer=PLAIN), crl(inner=PLAIN), crl(behind=more), crl(more=more), crl(extensions=tlv(0xA0, seq(AKI)))):
+    for wrong in (seq(), seq(crl()), crl(version=integer(0)), crl(outer=PLAIN), crl(inner=PLAIN), crl(after=more), crl(more=more), crl(extensions=tlv(0xA0, seq(AKI)))):
         for data in (wrong, wrong[:-1], recoded(wrong), recoded(wrong)[:-1], recoded(wrong, True)):
             for mode in MODES:
                 for kind in ("taken", "next"):

@@ -1,6 +1,6 @@
 //! The words of questions, and the answers to them, word by word.
 
-use anyhow::{Result, anyhow};
+use anyhow::{Error, Result, anyhow};
 use bcder::Mode;
 use bcder::decode::DecodeError;
 use bcder::encode::Values;
@@ -45,7 +45,7 @@ impl Answer {
         }
     }
 
-    /// How octets were refused: for what they are, by their source, or for want of memory.
+    /// How octets were refused: for what they are, by their source, or for lack of memory.
     pub fn refuse<E: Drop>(&mut self, error: DecodeError<E>) {
         match error {
             DecodeError::Content(_, _) => self.say(&"refused"),
@@ -54,7 +54,7 @@ impl Answer {
         }
     }
 
-    /// By which text octets were refused, by their source, or for want of memory.
+    /// By which text octets were refused, by their source, or for lack of memory.
     pub fn tell<E: Drop>(&mut self, error: DecodeError<E>) {
         match error {
             DecodeError::Content(error, _) => self.say(&error),
@@ -63,7 +63,7 @@ impl Answer {
         }
     }
 
-    /// Octets in hexadecimal digits, behind an `x`.
+    /// Octets in hexadecimal digits, after an `x`.
     pub fn say_octets(&mut self, alloc: Global, octets: &[u8]) {
         match hex::encode(alloc, octets) {
             Ok(digits) => self.say(&format_args!("x{digits}")),
@@ -92,6 +92,14 @@ impl Answer {
 /// The refusal of a question that isn't known.
 pub fn unknown() -> Result<()> {
     Err(anyhow!("no such question"))
+}
+
+/// Why a word isn't what it has to be: by that text, or for lack of memory.
+pub fn unread<E: Drop>(error: DecodeError<E>, text: &'static str) -> Error {
+    match error {
+        DecodeError::Memory => anyhow!("memory"),
+        _ => anyhow!("{text}"),
+    }
 }
 
 /// The moment of a word.

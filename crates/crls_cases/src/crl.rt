@@ -1,8 +1,8 @@
 //! Questions about revocation lists: what is asked, octets, and serial numbers in base 256.
 
-use crate::answers::{Answer, moment, octets, serial, unknown};
+use crate::answers::{Answer, moment, octets, serial, unknown, unread};
 use crate::verifier::Mirror;
-use anyhow::{Result, anyhow};
+use anyhow::Result;
 use bcder::Mode;
 use bcder::encode::Values;
 use certs_cert::Cert;
@@ -16,7 +16,7 @@ pub fn list(alloc: Global, word: &str) -> Result<Crl> {
     let octets = octets(alloc, word)?;
     match Crl::decode(alloc, octets.as_slice()) {
         Ok(crl) => Ok(crl),
-        Err(_) => Err(anyhow!("no list")),
+        Err(error) => Err(unread(error, "no list")),
     }
 }
 
@@ -33,7 +33,7 @@ fn entries(alloc: Global, answer: &mut Answer, tbs: &TbsCertList) {
     }
 }
 
-/// What is signed of a list: whether NULL stands behind the algorithm, the moments, the number, the issuer's key identifier
+/// What is signed of a list: whether NULL stands after the algorithm, the moments, the number, the issuer's key identifier
 /// and name, and the entries.
 pub fn shown(alloc: Global, answer: &mut Answer, tbs: &TbsCertList) {
     answer.say(&tbs.signature().has_null());
@@ -103,7 +103,7 @@ fn cert(alloc: Global, word: &str) -> Result<Cert> {
     let octets = octets(alloc, word)?;
     match Cert::decode(alloc, octets.as_slice()) {
         Ok(cert) => Ok(cert),
-        Err(_) => Err(anyhow!("no certificate")),
+        Err(error) => Err(unread(error, "no certificate")),
     }
 }
 

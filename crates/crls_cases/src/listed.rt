@@ -18,7 +18,7 @@ fn say_left(answer: &mut Answer, left: RevokedCertificatesIter<'_>) {
     }
 }
 
-// The entries; those that are left behind the first, for a clone and for what was cloned; those of a clone of the list.
+// The entries; those that are left after the first, for a clone and for what was cloned; those of a clone of the list.
 fn say_entries(answer: &mut Answer, list: &RevokedCertificates) -> Result<()> {
     say_left(answer, list.iter());
     let mut left = list.iter();

@@ -1,7 +1,7 @@
 //! Questions about revocation lists that are built: the algorithm, the issuer's name, both updates, the identifier of the
 //! issuer's key, the number, and pairs of a serial number and a moment.
 
-use crate::answers::{Answer, mode, moment, octets, serial, unknown};
+use crate::answers::{Answer, mode, moment, octets, serial, unknown, unread};
 use crate::crl::shown;
 use crate::signer::Echo;
 use anyhow::{Result, anyhow};
@@ -20,7 +20,7 @@ fn algorithm(alloc: Global, word: &str) -> Result<RpkiSignatureAlgorithm> {
         |cons| RpkiSignatureAlgorithm::x509_take_from(cons),
     ) {
         Ok(algorithm) => Ok(algorithm),
-        Err(_) => Err(anyhow!("no algorithm")),
+        Err(error) => Err(unread(error, "no algorithm")),
     }
 }
 
@@ -32,7 +32,7 @@ fn name(alloc: Global, word: &str) -> Result<Name> {
     let octets = octets(alloc, digits)?;
     match mode(word).decode(octets.as_slice(), |cons| Name::take_from(alloc, cons)) {
         Ok(name) => Ok(name),
-        Err(_) => Err(anyhow!("no name")),
+        Err(error) => Err(unread(error, "no name")),
     }
 }
 
@@ -129,7 +129,7 @@ fn written(alloc: Global, answer: &mut Answer, word: &str, words: &[&str]) -> Re
     Ok(())
 }
 
-// The fields of so many words, and the words behind them.
+// The fields of so many words, and the words after them.
 fn split<'a>(count: &str, words: &'a [&'a str]) -> Result<(&'a [&'a str], &'a [&'a str])> {
     match words.split_at_checked(usize::from_str(count)?) {
         Some(parts) => Ok(parts),
@@ -161,7 +161,7 @@ fn set_field(list: &mut TbsCertList, field: &str, other: &TbsCertList) -> Result
     Ok(())
 }
 
-// The fields of so many words, where one was set to that of the words behind them.
+// The fields of so many words, where one was set to that of the words after them.
 fn set(alloc: Global, answer: &mut Answer, field: &str, count: &str, words: &[&str]) -> Result<()> {
     let (fields, others) = split(count, words)?;
     let mut made = list(alloc, fields)?;

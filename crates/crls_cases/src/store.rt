@@ -14,11 +14,11 @@ use std::str::FromStr;
 fn uri(alloc: Global, word: &str) -> Result<Rsync> {
     match Rsync::from_slice(alloc, word.as_bytes()) {
         Ok(uri) => Ok(uri),
-        Err(_) => Err(anyhow!("no URI")),
+        Err(error) => Err(anyhow!("{error}")),
     }
 }
 
-// Puts a list behind the others.
+// Puts a list after the others.
 fn push(alloc: Global, store: &mut CrlStore, word: &str, digits: &str) -> Result<()> {
     let uri = uri(alloc, word)?;
     let crl = list(alloc, digits)?;

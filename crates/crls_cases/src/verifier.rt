@@ -11,7 +11,7 @@ use std::alloc::Global;
 pub struct Mirror {
     asked: u64,
     null: bool,
-    // The encoded keys, one behind the other. What finds no memory is left out, and shows by that.
+    // The encoded keys, one after the other. What finds no memory is left out, and shows by that.
     keys: Vec<u8>,
 }
 
