@@ -1,6 +1,7 @@
 pub mod Fresh
 pub mod Reading
 pub mod Whole
+pub mod Written
 -- What stands below, for the crates above.
 pub use Rattle.certs_claims.specs.bcder_bits as bcder_bits
 pub use Rattle.certs_claims.specs.bcder_content as bcder_content

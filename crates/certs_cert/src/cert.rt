@@ -1,15 +1,21 @@
 //! Certificates.
 
-ghost use Rattle.std.specs.Prelude.{◌≡◌};
+ghost use Rattle.std.specs.Prelude.{◌≡◌, IfErr, IfOk};
+ghost use Rattle.certs_cert.specs.bcder_tree.declared.mode.Mode.TheVariants.{Der};
 ghost use Rattle.certs_cert.specs.Whole.{signed_of};
+ghost use Rattle.certs_cert.specs.Written.{RefusesCert, WritesCert};
 
 use crate::tbs::TbsCert;
+use certs_claims::beside;
+use certs_key::encode::{EncodeError, Values};
+use certs_key::{Captured, Mode};
 use certs_signed::{SignedData, SignedDataValues};
+use std::alloc::{AllocError, Global};
 use std::marker::Model;
 
 /// A certificate: signed octets with their signature, and the fields that the octets spell (RFC
 /// 5280 4.1.1). Contracts see both.
-#[derive(Drop)]
+#[derive(Debug, Drop)]
 pub struct Cert {
     signed: SignedData,
     tbs: TbsCert,
@@ -56,5 +62,27 @@ impl Cert {
         ensures { signed_of result ≡ self.now.signed }
     {
         self.signed.encode_ref()
+    }
+
+    /// What is written of the certificate in DER. `CerUnsupported` where the octets that were signed
+    /// stand in another mode; `TooLong` where a content has more than 2^32 - 1 octets.
+    pub fn to_captured(&self, alloc: Global) -> Result<Captured, EncodeError>
+        ensures captured { IfOk result (λ c. WritesCert self.now Der c.octets) }
+        ensures mode { IfOk result (λ c. c.mode ≡ Der) }
+        ensures refused { IfErr result (RefusesCert self.now Der) }
+    {
+        self.encode_ref().to_captured(alloc, Mode::Der)
+    }
+}
+
+/// A clone has the same signed octets, signature and fields. Octets and sets are shared, so that
+/// memory is taken for the purposes of the key alone; but a count of copies can be full.
+impl Clone for Cert {
+    ghost is_clone = { λ cert copy. copy ≡ cert };
+
+    fn clone(&self) -> Result<Self, AllocError> {
+        let signed = self.signed.clone()?;
+        let (signed, tbs) = beside(signed, self.tbs.clone())?;
+        Ok(Cert { signed, tbs })
     }
 }

@@ -14,6 +14,7 @@ pub mod access;
 pub mod building;
 pub mod cert;
 pub mod claims;
+mod clone;
 mod decoding;
 pub mod identity;
 pub mod keys;

@@ -14,7 +14,7 @@ use std::marker::Model;
 
 /// What is signed of a certificate: its fields and its extensions (RFC 5280 4.1.2, RFC 6487 4).
 /// Contracts see all of them.
-#[derive(Drop)]
+#[derive(Debug, Drop)]
 pub struct TbsCert {
     pub(crate) serial_number: Serial,
     pub(crate) signature: RpkiSignatureAlgorithm,

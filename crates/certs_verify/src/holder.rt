@@ -5,12 +5,12 @@ ghost use Rattle.certs_verify.specs.Holders.{holding};
 
 use certs_inspect::{AsBlocks, Cert, IpBlocks};
 use certs_x509::TalInfo;
-use std::alloc::Global;
+use std::alloc::{AllocError, Global};
 use std::marker::Model;
 use std::rc::Rc;
 
 /// What a certificate holds of each kind of number resources.
-#[derive(Drop)]
+#[derive(Debug, Drop)]
 pub(crate) struct Held {
     pub(crate) v4: IpBlocks,
     pub(crate) v6: IpBlocks,
@@ -27,9 +27,21 @@ impl Model for Held {
     ghost inverse = { λ h. record { v4 = h.v4; v6 = h.v6; asn = h.asn } };
 }
 
+/// A clone holds the same. The sets are shared.
+impl Clone for Held {
+    ghost is_clone = { λ held copy. copy ≡ held };
+
+    fn clone(&self) -> Result<Self, AllocError> {
+        let v4 = self.v4.clone()?;
+        let v6 = self.v6.clone()?;
+        let asn = self.asn.clone()?;
+        Ok(Held { v4, v6, asn })
+    }
+}
+
 /// A certificate that was verified, with the number resources that it holds by that, and what the locator of its anchor
 /// is called (RFC 6487 7.2, RFC 8360 4.2). Contracts see all of them.
-#[derive(Drop)]
+#[derive(Debug, Drop)]
 pub struct ResourceCert {
     cert: Cert,
     held: Held,
@@ -92,5 +104,18 @@ impl ResourceCert {
         ensures { result.value ≡ self.tal }
     {
         self.tal
+    }
+}
+
+/// A clone is the same certificate, holds the same and has the same locator. Octets and sets are shared, so that memory is
+/// taken for the purposes of the key alone; but a count of copies can be full.
+impl Clone for ResourceCert {
+    ghost is_clone = { λ cert copy. copy ≡ cert };
+
+    fn clone(&self) -> Result<Self, AllocError> {
+        let held = self.held.clone()?;
+        let tal = self.tal.clone()?;
+        let cert = self.cert.clone()?;
+        Ok(ResourceCert { cert, held, tal })
     }
 }
