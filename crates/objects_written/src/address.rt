@@ -4,9 +4,9 @@ ghost use Rattle.std.specs.Prelude.{◌≡◌};
 ghost use Rattle.objects_written.specs.Roas.{address, address_parts, max_length, prefix};
 
 use crate::lists::Lists;
-use crate::pieces::Sequence;
 use certs_key::encode::{EncodeError, Primitive, Values};
 use certs_key::{Mode, Tag};
+use certs_written::Sequence;
 use objects_forms::Prefix;
 use objects_roa::{RoaIpAddress, RoaIpAddressIter, RoaIpAddresses};
 use std::io::Write;

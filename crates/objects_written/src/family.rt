@@ -5,9 +5,9 @@ ghost use Rattle.objects_written.specs.Roas.{family, family_id, family_parts, sh
 
 use crate::address::Addresses;
 use crate::lists::Each;
-use crate::pieces::Sequence;
 use certs_key::Mode;
 use certs_key::encode::{EncodeError, Values};
+use certs_written::Sequence;
 use objects_forms::AddressFamily;
 use objects_roa::RoaIpAddresses;
 use std::io::Write;

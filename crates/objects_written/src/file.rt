@@ -4,10 +4,10 @@ ghost use Rattle.std.specs.Prelude.{◌≡◌};
 ghost use Rattle.objects_written.specs.Manifests.{file, file_hash, file_name, file_parts};
 
 use crate::lists::Lists;
-use crate::pieces::Sequence;
 use certs_key::encode::{EncodeError, Primitive, Values};
 use certs_key::string::{BitSlice, OctetSliceEncoder};
 use certs_key::{Mode, Tag};
+use certs_written::Sequence;
 use objects_manifest::{FileAndHash, FileListIter, ManifestContent};
 use std::io::Write;
 use std::marker::Model;

@@ -14,7 +14,6 @@ pub mod file;
 pub mod laws;
 pub mod lists;
 pub mod manifest;
-pub mod pieces;
 pub mod roa;
 
 pub use address::AddressValue;

@@ -10,9 +10,9 @@ ghost use Rattle.objects_written.specs.Manifests.{AreFileNames, IsManifestNumber
 
 use crate::file::ListedFiles;
 use crate::lists::Each;
-use crate::pieces::{Identifier, NumberValue, Sequence};
 use certs_key::encode::{EncodeError, Values};
 use certs_key::{Captured, ConstOid, Mode, Oid, Serial};
+use certs_written::{Identifier, Sequence, SerialValue};
 use objects_forms::Time;
 use objects_manifest::ManifestContent;
 use objects_manifest::file::is_file_name;
@@ -49,7 +49,7 @@ impl Values for MomentValue {
 
 /// What is written of these parts of a manifest: the version, which is the default, is left out (X.690 11.5).
 pub(crate) type Parts<F> = (
-    NumberValue,
+    SerialValue,
     MomentValue,
     MomentValue,
     Identifier,
@@ -71,7 +71,7 @@ pub(crate) fn parts_of<F>(
     ensures files { result.0.4.0 ≡ files }
 {
     Sequence((
-        NumberValue(manifest_number),
+        SerialValue(manifest_number),
         MomentValue(this_update),
         MomentValue(next_update),
         Identifier(SHA256),

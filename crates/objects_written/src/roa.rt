@@ -8,9 +8,9 @@ ghost use Rattle.objects_written.specs.objects_forms.Roas.{IsRoa, Roa};
 ghost use Rattle.objects_written.specs.Roas.{AreOfFamilies, HasAddress, as_id, roa, roa_parts};
 
 use crate::family::{FamilyValue, shown};
-use crate::pieces::Sequence;
 use certs_key::encode::{EncodeError, Primitive, Values};
 use certs_key::{Captured, Mode, Tag};
+use certs_written::Sequence;
 use objects_forms::{AddressFamily, Asn};
 use objects_roa::RouteOriginAttestation;
 use std::alloc::Global;
