@@ -10,7 +10,10 @@ use std::alloc::Global;
 use std::fmt;
 use std::str::FromStr;
 
-/// The words of an answer, with a space between. A word that finds no memory is left out, and shows by that.
+// How many octets an answer has room for before it grows.
+const ROOM: usize = 1 << 18;
+
+/// The words of an answer, with a space between. A word past the room that finds no memory is left out, and shows by that.
 #[derive(Drop)]
 pub struct Answer {
     text: String,
@@ -18,10 +21,10 @@ pub struct Answer {
 
 impl Answer {
     /// No words yet.
-    pub fn new(alloc: Global) -> Self {
-        Answer {
-            text: String::new(alloc),
-        }
+    pub fn new(alloc: Global) -> Result<Self> {
+        Ok(Answer {
+            text: String::with_capacity(alloc, ROOM)?,
+        })
     }
 
     /// All words.

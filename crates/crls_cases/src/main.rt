@@ -32,21 +32,21 @@ fn say(alloc: Global, answer: &mut Answer, topic: &str, words: &[&str]) -> Resul
 }
 
 // The answer to the question of a line.
-fn answer_of(alloc: Global, words: &[&str]) -> Answer {
-    let mut answer = Answer::new(alloc);
+fn answer_of(alloc: Global, words: &[&str]) -> Result<Answer> {
+    let mut answer = Answer::new(alloc)?;
     if let Some((topic, rest)) = words.split_first() {
         if let Err(error) = say(alloc, &mut answer, *topic, rest) {
             answer.say(&error);
         }
     }
-    answer
+    Ok(answer)
 }
 
 fn main(rt: HostRuntime) -> Result<()> {
     for line in rt.lines(rt.alloc()) {
         let line = line?;
         let words: Vec<&str> = line.as_str().split('\t').collect(rt.alloc())?;
-        let answer = answer_of(rt.alloc(), words.as_slice());
+        let answer = answer_of(rt.alloc(), words.as_slice())?;
         println!(rt; "{}", answer.text())?;
     }
     Ok(())
