@@ -1,7 +1,7 @@
 #!/usr/bin/env python3
 """Shows the time that building, reading and searching a revocation list take, and how it grows with its entries.
 
-    crls.py [FOLDER]
+    chrt -f 1 crls.py [FOLDER]
 
 In FOLDER, or in a temporary folder, a repository is made: copies of crates/certs_crl and what it stands on, with their
 out/, and the program crls.rt.in, which `rt run` proves and builds (a folder that is given is used again). A list has entries
@@ -10,8 +10,9 @@ reads it again, `search` looks for a number that isn't there through all entries
 for 1,000 numbers among these, of which some are there. Each size is run fifteen times, of which the best time counts. What
 each tells is compared with the right answer, and the most looks for one number with the binary digits of their count.
 
-Target: twice the entries take at most 2.5 times the time, and a number is found by at most as many looks as the count of
-entries has binary digits, 17 of 100,000. Exits with 1 where one is missed or an answer is wrong.
+Target: twice the entries take at most 2.5 times the time, a number is found by at most as many looks as the count of entries
+has binary digits, 17 of 100,000, and a search takes no memory (which needs a C compiler, as tests/growths.py does). Exits with 1
+where one is missed or an answer is wrong.
 """
 
 import os
@@ -20,8 +21,10 @@ import sys
 import tempfile
 
 sys.dont_write_bytecode = True
+sys.path.insert(0, os.path.join(os.path.dirname(os.path.abspath(__file__)), os.pardir, "tests"))
 import copies  # noqa: E402
 import growth  # noqa: E402
+import growths  # noqa: E402
 
 SIZES = (50_000, 100_000, 200_000)
 RUNS = 15
@@ -93,6 +96,15 @@ def measure(program, count):
     }
 
 
+def search_growths(program):
+    """How many growths of memory a search through all entries takes: each tells of itself by a `+` before the next line."""
+    with tempfile.TemporaryDirectory() as folder:
+        environment = {"LD_PRELOAD": growths.compiled(folder), "GROWTHS_FD": "1"}
+        done = subprocess.run([program, str(SIZES[0])], capture_output=True, text=True, check=True, env=environment)
+    (line,) = [line for line in done.stdout.splitlines() if line.lstrip("+").startswith("search")]
+    return len(line) - len(line.lstrip("+"))
+
+
 def cells(name, count, row):
     """The cells in front of the growth; none stands after it."""
     seconds, _ = row
@@ -101,9 +113,16 @@ def cells(name, count, row):
 
 def bench(folder):
     """Makes, builds and measures; how many targets were missed or answers wrong."""
-    program = build(folder)
+    return show(build(folder))
+
+
+def show(program):
+    """Measures the built program; how many targets were missed or answers wrong."""
     rows = {count: measure(program, count) for count in SIZES}
-    return growth.print_rows(HEAD, NAMES, SIZES, rows, MOST_GROWTH, cells)
+    failures = growth.print_rows(HEAD, NAMES, SIZES, rows, MOST_GROWTH, cells)
+    grown = search_growths(program)
+    print(f"growths of memory while all entries are searched: {grown}{' MISSED' if grown else ''}")
+    return failures + (grown > 0)
 
 
 def main():
