@@ -1,7 +1,7 @@
 #!/usr/bin/env python3
 """Writes the questions and answers of crates/objects_cases: tests/objects_cases.py
 
-What signed objects have in them, revocation lists and locators are read here by the grammars in this script's own words, over
+What signed objects have in them, and locators, are read here by the grammars in this script's own words, over
 the reader of X.690 in certs_signed_cases.py; the worked cases have their answers by hand. The gate runs the program on
 `stdin`, and compares what it prints with `stdout`.
 """
@@ -13,7 +13,6 @@ import random
 import re
 
 from certs_signed_cases import RSA, SHA256, SHA256_RSA, Refused, bits_of, content_of, need, parts_of, tlv, value
-from objects_lists_cases import lists
 from objects_locator_cases import locators
 from objects_signed_cases import signed
 
@@ -300,7 +299,6 @@ def main():
     aspas(q)
     roas(q)
     manifests(q)
-    lists(q)
     locators(q)
     signed(q, answer_of)
     (FOLDER / "stdin").write_text("".join(f"{question}\n" for question, _ in q.rows))

@@ -1,4 +1,4 @@
-//! Questions about signed objects, what they have in them, revocation lists and locators, as data:
+//! Questions about signed objects, what they have in them, and locators, as data:
 //! each line of standard input asks one, by words with a tab between, and each line of standard
 //! output answers one. The first word names the module that answers.
 //!
@@ -8,12 +8,10 @@
 mod answers;
 mod aspa;
 mod cert;
-mod crl;
 mod locator;
 mod manifest;
 mod object;
 mod roa;
-mod store;
 
 use answers::{Answer, unknown};
 use anyhow::Result;
@@ -26,8 +24,6 @@ fn say(alloc: Global, answer: &mut Answer, topic: &str, words: &[&str]) -> Resul
         "roa" => roa::answer(alloc, answer, words),
         "manifest" => manifest::answer(alloc, answer, words),
         "object" => object::answer(alloc, answer, words),
-        "crl" => crl::answer(alloc, answer, words),
-        "store" => store::answer(alloc, answer, words),
         "locator" => locator::answer(alloc, answer, words),
         _ => unknown(),
     }

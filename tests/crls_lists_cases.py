@@ -1,4 +1,4 @@
-"""Questions about revocation lists and stores of them, for tests/objects_cases.py (RFC 5280 5.1, RFC 6487 5)."""
+"""Questions about revocation lists and stores of them, for tests/crls_cases.py (RFC 5280 5.1, RFC 6487 5)."""
 
 import calendar
 import random
@@ -53,10 +53,10 @@ def name_of(item):
 
 
 def entry_of(item):
+    """The serial number and the moment."""
     parts = parts_of(item, 16)
     need(len(parts) == 2)
-    moment_of(parts[1])
-    return serial_of(parts[0])
+    return serial_of(parts[0]), moment_of(parts[1])
 
 
 def extension_of(item):
@@ -85,23 +85,34 @@ def extensions_of(item):
     return found[AUTHORITY], found[NUMBER]
 
 
-def list_of(data):
-    item, _ = value(data, "der")
-    parts = parts_of(item, 16)
-    need(len(parts) == 3)
-    fields = parts_of(parts[0], 16)
+def fields_of(item):
+    """What is signed of a list."""
+    fields = parts_of(item, 16)
     need(6 <= len(fields) <= 7 and serial_of(fields[0]) == 1)
     null = has_null(fields[1], [SHA256_RSA])
     issuer, this, following = name_of(fields[2]), moment_of(fields[3]), moment_of(fields[4])
-    entries = [entry_of(part) for part in parts_of(fields[5], 16)] if len(fields) == 7 else []
+    entries = [entry_of(part)[0] for part in parts_of(fields[5], 16)] if len(fields) == 7 else []
     key, number = extensions_of(fields[-1])
-    need(has_null(parts[1], [SHA256_RSA]) == null)
-    return null, this, following, number, key, issuer, entries, bits_of(parts[2], "der")[1:]
+    return null, this, following, number, key, issuer, entries
 
 
-def told(null, this, following, number, key, issuer, entries, signature):
-    words = ["true" if null else "false", this, following, number, key.hex(), "x" + issuer.hex(), len(entries), *entries, "x" + signature.hex()]
+def list_of(data, mode="der"):
+    item, _ = value(data, mode)
+    parts = parts_of(item, 16)
+    need(len(parts) == 3)
+    fields = fields_of(parts[0])
+    need(has_null(parts[1], [SHA256_RSA]) == fields[0])
+    return *fields, bits_of(parts[2], mode)[1:]
+
+
+def fields_told(null, this, following, number, key, issuer, entries):
+    words = ["true" if null else "false", this, following, number, key.hex(), "x" + issuer.hex(), len(entries), *entries]
     return " ".join(map(str, words))
+
+
+def told(*fields):
+    *fields, signature = fields
+    return f"{fields_told(*fields)} x{signature.hex()}"
 
 
 def answer_of(data):
@@ -127,8 +138,8 @@ AKI, CRL_NUMBER = extension(AUTHORITY, seq(tlv(0x80, KEY))), extension(NUMBER, i
 FIELDS = {"version": integer(1), "inner": ALGORITHM, "issuer": ISSUER, "this": THIS, "next": NEXT, "entries": b"", "extensions": tlv(0xA0, seq(AKI, CRL_NUMBER)), "more": b""}
 
 
-def crl(outer=ALGORITHM, signature=SIGNATURE, behind=b"", **fields):
-    return seq(seq(*{**FIELDS, **fields}.values()), outer, signature, behind)
+def crl(outer=ALGORITHM, signature=SIGNATURE, after=b"", **fields):
+    return seq(seq(*{**FIELDS, **fields}.values()), outer, signature, after)
 
 
 def entry(serial, date=THIS, more=b""):
@@ -172,7 +183,7 @@ def fields(q):
         ask(q, crl(signature=wrong), "refused")
     for right in (tlv(3, b"\0"), tlv(3, b"\4\xf0")):
         ask(q, crl(signature=right))
-    ask(q, crl(behind=tlv(5, b"")), "refused")
+    ask(q, crl(after=tlv(5, b"")), "refused")
     ask(q, crl(more=tlv(5, b"")), "refused")
     ask(q, crl(more=tlv(0xA1, b"")), "refused")
     for date in (b"261123000000Z", b"500101000000Z", b"491231235959Z", b"000229000000Z", b"010229000000Z", b"2611230000Z", b"261123000000+0000", b"261123240000Z",
@@ -276,7 +287,8 @@ def memberships(q):
 
 
 def stores(q):
-    """Lists numbered from 1 on; the second has no serial 12. Which one is found, whether it has 12, and where, if kept aside."""
+    """Lists numbered from 1 on; the second has no serial 12. Which one is found, whether it has 12, and where, if kept aside; in
+    the store, and in its clone."""
     uris = ["rsync://h/m/a.crl", "rsync://h/m/b.crl", "rsync://h/m/A.crl", "RSYNC://h/m/a.crl", "rsync://H/m/a.crl"]
     lists = [crl(entries=seq(*map(entry, serials)), extensions=tlv(0xA0, seq(AKI, extension(NUMBER, integer(at + 1))))) for at, serials in enumerate(([12, 42], [42], [5, 3, 12]))]
     rows = [(), (0,), (0, 0), (0, 0, 0), (0, 1, 0), (1, 0, 0), (0, 1, 2), (1, 1, 0)]
@@ -289,7 +301,7 @@ def stores(q):
                     first = row.index(asked)
                     held, place = (("true", 0), ("false", "-"), ("true", 2))[first]
                     answer = f"{first + 1} {held} {place if first >= kept_from else '-'}"
-                q.ask(answer, "store", str(kept_from), uri, *pairs)
+                q.ask(f"{answer} {answer}", "store", str(kept_from), uri, *pairs)
 
 
 def lists(q):

@@ -1,9 +1,13 @@
 //! Questions about revocation lists: what is asked, octets, and serial numbers in base 256.
 
-use crate::answers::{Answer, moment, octets, unknown};
-use anyhow::{Result, anyhow};
+use crate::answers::{Answer, moment, octets, serial, unknown, unread};
+use crate::verifier::Mirror;
+use anyhow::Result;
+use bcder::Mode;
+use bcder::encode::Values;
+use certs_cert::Cert;
 use certs_crl::{Crl, TbsCertList};
-use objects_locator::Serial;
+use certs_key::Serial;
 use std::alloc::Global;
 use std::str::FromStr;
 
@@ -12,7 +16,7 @@ pub fn list(alloc: Global, word: &str) -> Result<Crl> {
     let octets = octets(alloc, word)?;
     match Crl::decode(alloc, octets.as_slice()) {
         Ok(crl) => Ok(crl),
-        Err(_) => Err(anyhow!("no list")),
+        Err(error) => Err(unread(error, "no list")),
     }
 }
 
@@ -29,9 +33,9 @@ fn entries(alloc: Global, answer: &mut Answer, tbs: &TbsCertList) {
     }
 }
 
-// What is signed of a list: whether NULL stands behind the algorithm, the moments, the number, the issuer's key identifier
-// and name, and the entries.
-fn shown(alloc: Global, answer: &mut Answer, tbs: &TbsCertList) {
+/// What is signed of a list: whether NULL stands after the algorithm, the moments, the number, the issuer's key identifier
+/// and name, and the entries.
+pub fn shown(alloc: Global, answer: &mut Answer, tbs: &TbsCertList) {
     answer.say(&tbs.signature().has_null());
     answer.say_moment(tbs.this_update());
     answer.say_moment(tbs.next_update());
@@ -53,24 +57,25 @@ fn read(alloc: Global, answer: &mut Answer, digits: &str) -> Result<()> {
     Ok(())
 }
 
-// Whether the very octets are written again.
-fn again(alloc: Global, answer: &mut Answer, digits: &str) -> Result<()> {
+// By which text octets are refused as a list.
+fn told(alloc: Global, answer: &mut Answer, digits: &str) -> Result<()> {
     let octets = octets(alloc, digits)?;
-    let crl = list(alloc, digits)?;
-    match bcder::encode::Values::to_captured(&crl.encode_ref(), alloc, bcder::Mode::Der) {
-        Ok(captured) => answer.say(&(captured.as_slice() == octets.as_slice())),
-        Err(error) => answer.say(&error),
+    match Crl::decode(alloc, octets.as_slice()) {
+        Ok(_) => answer.say(&"read"),
+        Err(error) => answer.tell(error),
     }
     Ok(())
 }
 
-// The serial number of a word.
-fn serial(alloc: Global, word: &str) -> Result<Serial> {
-    let octets = octets(alloc, word)?;
-    match Serial::from_slice(octets.as_slice()) {
-        Ok(serial) => Ok(serial),
-        Err(_) => Err(anyhow!("too great")),
+// Whether the very octets are written again.
+fn again(alloc: Global, answer: &mut Answer, digits: &str) -> Result<()> {
+    let octets = octets(alloc, digits)?;
+    let crl = list(alloc, digits)?;
+    match crl.encode_ref().to_captured(alloc, Mode::Der) {
+        Ok(captured) => answer.say(&(captured.as_slice() == octets.as_slice())),
+        Err(error) => answer.say(&error),
     }
+    Ok(())
 }
 
 // Where a serial number is among those that are kept aside, and whether so many looks are enough.
@@ -93,12 +98,47 @@ fn has(alloc: Global, answer: &mut Answer, digits: &str, word: &str, most: u64) 
     Ok(())
 }
 
+// The certificate of a word.
+fn cert(alloc: Global, word: &str) -> Result<Cert> {
+    let octets = octets(alloc, word)?;
+    match Cert::decode(alloc, octets.as_slice()) {
+        Ok(cert) => Ok(cert),
+        Err(error) => Err(unread(error, "no certificate")),
+    }
+}
+
+// Whether the list claims that certificate for its issuer.
+fn claims(alloc: Global, answer: &mut Answer, digits: &str, word: &str) -> Result<()> {
+    let issuer = cert(alloc, word)?;
+    match list(alloc, digits)?.verify_issuer_claim(&issuer) {
+        Ok(()) => answer.say(&"claimed"),
+        Err(error) => answer.say(&error),
+    }
+    Ok(())
+}
+
+// Whether the signature is one of that certificate's key, by a verifier that is asked for it, and of what it was asked.
+fn verified(alloc: Global, answer: &mut Answer, digits: &str, word: &str) -> Result<()> {
+    let issuer = cert(alloc, word)?;
+    let mut verifier = Mirror::new(alloc);
+    let key = issuer.tbs().subject_public_key_info();
+    match list(alloc, digits)?.verify_signature(key, &mut verifier) {
+        Ok(()) => answer.say(&"good"),
+        Err(error) => answer.say(&error),
+    }
+    verifier.tell(alloc, answer);
+    Ok(())
+}
+
 /// The answer to a question about a list.
 pub fn answer(alloc: Global, answer: &mut Answer, words: &[&str]) -> Result<()> {
     match words {
         ["read", digits] => read(alloc, answer, *digits),
+        ["told", digits] => told(alloc, answer, *digits),
         ["again", digits] => again(alloc, answer, *digits),
         ["has", digits, word, most] => has(alloc, answer, *digits, *word, u64::from_str(*most)?),
+        ["claims", digits, word] => claims(alloc, answer, *digits, *word),
+        ["verified", digits, word] => verified(alloc, answer, *digits, *word),
         ["stale", digits, word] => {
             let now = moment(*word)?;
             answer.say(&list(alloc, *digits)?.as_cert_list().is_stale(now));

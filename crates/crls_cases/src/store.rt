@@ -4,8 +4,9 @@
 use crate::answers::{Answer, unknown};
 use crate::crl::list;
 use anyhow::{Result, anyhow};
+use certs_cert::Rsync;
 use certs_crl::CrlStore;
-use objects_locator::{Rsync, Serial};
+use certs_key::Serial;
 use std::alloc::Global;
 use std::str::FromStr;
 
@@ -13,11 +14,11 @@ use std::str::FromStr;
 fn uri(alloc: Global, word: &str) -> Result<Rsync> {
     match Rsync::from_slice(alloc, word.as_bytes()) {
         Ok(uri) => Ok(uri),
-        Err(_) => Err(anyhow!("no URI")),
+        Err(error) => Err(anyhow!("{error}")),
     }
 }
 
-// Puts a list behind the others.
+// Puts a list after the others.
 fn push(alloc: Global, store: &mut CrlStore, word: &str, digits: &str) -> Result<()> {
     let uri = uri(alloc, word)?;
     let crl = list(alloc, digits)?;
@@ -41,13 +42,9 @@ fn filled(alloc: Global, words: &[&str], from: usize) -> Result<CrlStore> {
     Ok(store)
 }
 
-/// The number of the list that comes first under the URI, whether serial 12 is on it, and its place among those kept aside.
-pub fn answer(alloc: Global, answer: &mut Answer, words: &[&str]) -> Result<()> {
-    let [from, asked, rest @ ..] = words else {
-        return unknown();
-    };
-    let store = filled(alloc, rest, usize::from_str(*from)?)?;
-    match store.get(&uri(alloc, *asked)?) {
+// The number of the list that comes first under the URI, whether serial 12 is on it, and its place among those kept aside.
+fn found(answer: &mut Answer, store: &CrlStore, uri: &Rsync) {
+    match store.get(uri) {
         Some(crl) => {
             let mut probes = 0;
             let serial = Serial::from(12u64);
@@ -57,5 +54,18 @@ pub fn answer(alloc: Global, answer: &mut Answer, words: &[&str]) -> Result<()> 
         }
         None => answer.say(&"none"),
     }
+}
+
+/// What is found under the URI, in the store and in its clone.
+pub fn answer(alloc: Global, answer: &mut Answer, words: &[&str]) -> Result<()> {
+    let [from, asked, rest @ ..] = words else {
+        return unknown();
+    };
+    let uri = uri(alloc, *asked)?;
+    let store = filled(alloc, rest, usize::from_str(*from)?)?;
+    found(answer, &store, &uri);
+    let copy = store.clone()?;
+    drop(store);
+    found(answer, &copy, &uri);
     Ok(())
 }

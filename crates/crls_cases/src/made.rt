@@ -1,0 +1,184 @@
+//! Questions about revocation lists that are built: the algorithm, the issuer's name, both updates, the identifier of the
+//! issuer's key, the number, and pairs of a serial number and a moment.
+
+use crate::answers::{Answer, mode, moment, octets, serial, unknown, unread};
+use crate::crl::shown;
+use crate::signer::Echo;
+use anyhow::{Result, anyhow};
+use bcder::Mode;
+use bcder::decode::Decode;
+use certs_crl::{Crl, CrlEntry, RevokedCertificates, TbsCertList};
+use certs_key::{KeyIdentifier, Name, RpkiSignatureAlgorithm, SignatureAlgorithm};
+use std::alloc::Global;
+use std::str::FromStr;
+
+// The algorithm, with NULL or without.
+fn algorithm(alloc: Global, word: &str) -> Result<RpkiSignatureAlgorithm> {
+    let octets = octets(alloc, word)?;
+    match Mode::Der.decode(
+        octets.as_slice(),
+        |cons| RpkiSignatureAlgorithm::x509_take_from(cons),
+    ) {
+        Ok(algorithm) => Ok(algorithm),
+        Err(error) => Err(unread(error, "no algorithm")),
+    }
+}
+
+// The name that octets spell in a mode, which stands in front of them.
+fn name(alloc: Global, word: &str) -> Result<Name> {
+    let Some((word, digits)) = word.split_once(' ') else {
+        return Err(anyhow!("no mode"));
+    };
+    let octets = octets(alloc, digits)?;
+    match mode(word).decode(octets.as_slice(), |cons| Name::take_from(alloc, cons)) {
+        Ok(name) => Ok(name),
+        Err(error) => Err(unread(error, "no name")),
+    }
+}
+
+// The identifier of a key.
+fn key(alloc: Global, word: &str) -> Result<KeyIdentifier> {
+    let octets = octets(alloc, word)?;
+    match KeyIdentifier::from_slice(octets.as_slice()) {
+        Some(key) => Ok(key),
+        None => Err(anyhow!("no key identifier")),
+    }
+}
+
+// The entries of pairs of words.
+fn pairs(alloc: Global, words: &[&str]) -> Result<Vec<CrlEntry>> {
+    let mut entries = Vec::new(alloc);
+    for pair in words.chunks(2) {
+        if let [number, date] = pair {
+            entries.push(CrlEntry::new(serial(alloc, *number)?, moment(*date)?))?;
+        }
+    }
+    Ok(entries)
+}
+
+/// The list of the entries of pairs of words.
+pub fn revoked(alloc: Global, words: &[&str]) -> Result<RevokedCertificates> {
+    let entries = pairs(alloc, words)?;
+    match RevokedCertificates::from_entries(alloc, entries.as_slice()) {
+        Ok(list) => Ok(list),
+        Err(error) => Err(anyhow!("{error}")),
+    }
+}
+
+// The list of the words.
+fn list(alloc: Global, words: &[&str]) -> Result<TbsCertList> {
+    let [
+        signature,
+        issuer,
+        this,
+        next,
+        identifier,
+        number,
+        entries @ ..,
+    ] = words
+    else {
+        return Err(anyhow!("too few fields"));
+    };
+    Ok(TbsCertList::new(
+        algorithm(alloc, *signature)?,
+        name(alloc, *issuer)?,
+        moment(*this)?,
+        moment(*next)?,
+        revoked(alloc, entries)?,
+        key(alloc, *identifier)?,
+        serial(alloc, *number)?,
+    ))
+}
+
+// What is written of a list.
+fn say_list(alloc: Global, answer: &mut Answer, crl: &Crl) {
+    match crl.to_captured(alloc) {
+        Ok(captured) => answer.say_octets(alloc, captured.as_slice()),
+        Err(error) => answer.say(&error),
+    }
+}
+
+// The octets of the list, signed by the signer that shows what it signed, and those of its clone.
+fn built(alloc: Global, answer: &mut Answer, words: &[&str]) -> Result<()> {
+    let list = list(alloc, words)?;
+    let copy = list.clone()?;
+    drop(list);
+    match copy.into_crl(alloc, &Echo { refuses: false }, &1) {
+        Ok(crl) => {
+            say_list(alloc, answer, &crl);
+            say_list(alloc, answer, &crl.clone()?);
+        }
+        Err(error) => answer.say(&error),
+    }
+    Ok(())
+}
+
+// How a signer refuses.
+fn refused(alloc: Global, answer: &mut Answer, refuses: bool, words: &[&str]) -> Result<()> {
+    match list(alloc, words)?.into_crl(alloc, &Echo { refuses }, &0) {
+        Ok(_) => answer.say(&"signed"),
+        Err(error) => answer.say(&error),
+    }
+    Ok(())
+}
+
+// What is written of the fields in a mode.
+fn written(alloc: Global, answer: &mut Answer, word: &str, words: &[&str]) -> Result<()> {
+    let list = list(alloc, words)?;
+    answer.say_written(alloc, mode(word), &list.encode_ref());
+    Ok(())
+}
+
+// The fields of so many words, and the words after them.
+fn split<'a>(count: &str, words: &'a [&'a str]) -> Result<(&'a [&'a str], &'a [&'a str])> {
+    match words.split_at_checked(usize::from_str(count)?) {
+        Some(parts) => Ok(parts),
+        None => Err(anyhow!("too few words")),
+    }
+}
+
+// The fields of so many words, where they lent their entries and those of the pairs were put there.
+fn lent(alloc: Global, answer: &mut Answer, count: &str, words: &[&str]) -> Result<()> {
+    let (fields, pairs) = split(count, words)?;
+    let mut list = list(alloc, fields)?;
+    *list.revoked_certs_mut() = revoked(alloc, pairs)?;
+    shown(alloc, answer, &list);
+    Ok(())
+}
+
+// Sets a field to that of another list.
+fn set_field(list: &mut TbsCertList, field: &str, other: &TbsCertList) -> Result<()> {
+    match field {
+        "signature" => list.set_signature(other.signature()),
+        "issuer" => list.set_issuer(other.issuer().clone()?),
+        "this" => list.set_this_update(other.this_update()),
+        "next" => list.set_next_update(other.next_update()),
+        "revoked" => list.set_revoked_certs(other.revoked_certs().clone()?),
+        "key" => list.set_authority_key_identifier(*other.authority_key_identifier()),
+        "number" => list.set_crl_number(other.crl_number()),
+        _ => return unknown(),
+    }
+    Ok(())
+}
+
+// The fields of so many words, where one was set to that of the words after them.
+fn set(alloc: Global, answer: &mut Answer, field: &str, count: &str, words: &[&str]) -> Result<()> {
+    let (fields, others) = split(count, words)?;
+    let mut made = list(alloc, fields)?;
+    set_field(&mut made, field, &list(alloc, others)?)?;
+    shown(alloc, answer, &made);
+    Ok(())
+}
+
+/// The answer to a question about a list that is built.
+pub fn answer(alloc: Global, answer: &mut Answer, words: &[&str]) -> Result<()> {
+    match words {
+        ["build", fields @ ..] => built(alloc, answer, fields),
+        ["lost", fields @ ..] => refused(alloc, answer, false, fields),
+        ["refuse", fields @ ..] => refused(alloc, answer, true, fields),
+        ["fields", mode, fields @ ..] => written(alloc, answer, *mode, fields),
+        ["lent", count, rest @ ..] => lent(alloc, answer, *count, rest),
+        ["set", field, count, rest @ ..] => set(alloc, answer, *field, *count, rest),
+        _ => unknown(),
+    }
+}

@@ -1,0 +1,104 @@
+//! Questions about revocation lists that are read in a mode, from within others, and about clones of those whose serial
+//! numbers are kept aside.
+
+use crate::answers::{Answer, mode, octets, serial, unknown};
+use crate::crl::{list, shown};
+use anyhow::Result;
+use bcder::Tag;
+use bcder::decode::{Constructed, Decode, DecodeError, SliceSource};
+use certs_crl::{Crl, TbsCertList};
+use std::alloc::Global;
+use std::convert::Infallible;
+
+// The number of a list that was read.
+fn say_number(answer: &mut Answer, read: Result<Crl, DecodeError<Infallible>>) {
+    match read {
+        Ok(crl) => answer.say(&crl.as_cert_list().crl_number()),
+        Err(error) => answer.refuse(error),
+    }
+}
+
+// The number of the list that octets begin with in a mode.
+fn taken(alloc: Global, answer: &mut Answer, word: &str, digits: &str) -> Result<()> {
+    let octets = octets(alloc, digits)?;
+    let read = mode(word).decode(octets.as_slice(), |cons| Crl::take_from(alloc, cons));
+    say_number(answer, read);
+    Ok(())
+}
+
+// The number of the list that is first of all values, `none` where another value is first.
+fn next(alloc: Global, answer: &mut Answer, word: &str, digits: &str) -> Result<()> {
+    let octets = octets(alloc, digits)?;
+    match mode(word).decode(octets.as_slice(), |cons| Crl::take_opt_from(alloc, cons)) {
+        Ok(Some(crl)) => say_number(answer, Ok(crl)),
+        Ok(None) => answer.say(&"none"),
+        Err(error) => answer.refuse(error),
+    }
+    Ok(())
+}
+
+// The list whose fields are all of a value under the tag [1].
+fn take_tagged(
+    alloc: Global,
+    cons: &mut Constructed<SliceSource<'_>>,
+) -> Result<Crl, DecodeError<Infallible>> {
+    cons.take_constructed_if(Tag::CTX_1, |cons| Crl::from_constructed(alloc, cons))
+}
+
+// The number of the list under an implicit tag.
+fn tagged(alloc: Global, answer: &mut Answer, word: &str, digits: &str) -> Result<()> {
+    let octets = octets(alloc, digits)?;
+    let read = mode(word).decode(octets.as_slice(), |cons| take_tagged(alloc, cons));
+    say_number(answer, read);
+    Ok(())
+}
+
+// What is signed of a list, by itself.
+fn fields(alloc: Global, answer: &mut Answer, word: &str, digits: &str) -> Result<()> {
+    let octets = octets(alloc, digits)?;
+    match mode(word).decode(
+        octets.as_slice(),
+        |cons| TbsCertList::take_from(alloc, cons),
+    ) {
+        Ok(tbs) => shown(alloc, answer, &tbs),
+        Err(error) => answer.refuse(error),
+    }
+    Ok(())
+}
+
+// Whether a list has a serial number, and its place where those of the list are kept aside.
+fn place(alloc: Global, answer: &mut Answer, crl: &Crl, word: &str) -> Result<()> {
+    let serial = serial(alloc, word)?;
+    answer.say(&crl.contains(serial));
+    match crl.cached_serials() {
+        Some(cache) => {
+            let mut probes = 0;
+            answer.say_some(&cache.position(serial, &mut probes));
+        }
+        None => answer.say(&"no cache"),
+    }
+    Ok(())
+}
+
+// That of the clone of a list, and of another one that was made when its serial numbers were kept aside.
+fn cloned(alloc: Global, answer: &mut Answer, digits: &str, word: &str) -> Result<()> {
+    let mut crl = list(alloc, digits)?;
+    let copy = crl.clone()?;
+    crl.cache_serials(alloc)?;
+    let kept = crl.clone()?;
+    drop(crl);
+    place(alloc, answer, &copy, word)?;
+    place(alloc, answer, &kept, word)
+}
+
+/// The answer to a question about a list within others, or about a clone.
+pub fn answer(alloc: Global, answer: &mut Answer, words: &[&str]) -> Result<()> {
+    match words {
+        ["taken", mode, digits] => taken(alloc, answer, *mode, *digits),
+        ["next", mode, digits] => next(alloc, answer, *mode, *digits),
+        ["tagged", mode, digits] => tagged(alloc, answer, *mode, *digits),
+        ["fields", mode, digits] => fields(alloc, answer, *mode, *digits),
+        ["cloned", digits, word] => cloned(alloc, answer, *digits, *word),
+        _ => unknown(),
+    }
+}
