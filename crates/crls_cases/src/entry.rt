@@ -30,7 +30,7 @@ fn taken(alloc: Global, answer: &mut Answer, word: &str, digits: &str) -> Result
     Ok(())
 }
 
-// The same, and `none` where another value is first.
+// The entry that octets begin with, and `none` where another value is first.
 fn next(alloc: Global, answer: &mut Answer, word: &str, digits: &str) -> Result<()> {
     let octets = octets(alloc, digits)?;
     match mode(word).decode(octets.as_slice(), |cons| CrlEntry::take_opt_from(cons)) {

@@ -71,7 +71,7 @@ fn taken(alloc: Global, answer: &mut Answer, word: &str, digits: &str) -> Result
     say_read(alloc, answer, word, read)
 }
 
-// The same, and `absent` where another value is first.
+// The list of entries that octets begin with, and `absent` where another value is first.
 fn next(alloc: Global, answer: &mut Answer, word: &str, digits: &str) -> Result<()> {
     let octets = octets(alloc, digits)?;
     let read = mode(word).decode(
