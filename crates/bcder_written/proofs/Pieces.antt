@@ -1,16 +1,25 @@
 -- Texts that are written piece by piece.
-use Rattle.std.proofs.Common.{◌≡◌, ℕ, ◌-◌, List, ◌++◌, length, take, drop, sym, ap, refl, ◌∙◌, append_assoc, take-append-drop, subst, Option, []}
+use Rattle.std.proofs.Common.{◌≡◌, ℕ, ◌-◌, List, ◌++◌, length, take, drop, sym, ap, refl, ◌∙◌, append_assoc, take-append-drop, subst, Option, [], ◌≤◌, zero-le}
 use Rattle.std.specs.Prelude.{Result, Ok, Err, IsErr, IsErrAnd, IfErr}
 use Rattle.std.proofs.lemmas.List.{take_rest}
-use Rattle.std.specs.Io.KnownBytes.{Appends, Keeps}
+use Rattle.std.specs.declared.io.Error.{Error}
+use Rattle.std.specs.Io.{WritesAtMost}
+use Rattle.std.specs.Io.KnownBytes.{Appends, Keeps, WriteAppends}
 use Rattle.std.proofs.KnownBytes.{Appends-nil, Appends-trans, Appends-kept}
-use Rattle.bcder_written.specs.Writing.{Wrote, TookFront}
+use Rattle.bcder_written.specs.Writing.{Wrote, Took, TookFront}
 use Rattle.bcder_written.specs.Encoded.{WritesBoth}
 
 -- A front of the rest joins what was taken, and `&rest[count..]` is left.
 pub takes_more : (text taken rest : List ℕ) (count : ℕ) → text ≡ taken ++ rest
     → text ≡ (taken ++ take count rest) ++ take (length rest - count) (drop count rest)
 takes_more text taken rest count whole = rw (take_rest rest count, append_assoc, take-append-drop) whole
+
+-- What a call of `write` took is a front of the octets that it was given, and is what came to the contents.
+pub took_front : (old new : Option (List ℕ)) (rest : List ℕ) (answer : Result ℕ Error) (n : ℕ) → WritesAtMost answer rest
+    → WriteAppends old new answer rest → Took answer n → (n ≤ length rest) × Appends old new (take n rest)
+took_front old new rest (Ok count) n bound written t = (subst (λ k. k ≤ length rest) (sym t.0) bound, subst (λ k. Appends old new (take k rest)) (sym t.0) written)
+took_front old new rest (Err e) n bound kept t =
+    (subst (λ k. k ≤ length rest) (sym t.0) zero-le, subst (λ k. Appends old new (take k rest)) (sym t.0) (Appends-kept old old new [] (Appends-nil old) kept))
 
 -- Why something was refused, `?` passes on.
 pub stopped : {T E : Type 0} (Q : E → Type 0) (r : Result T E) (e : E) → IsErr r × IsErrAnd r (λ x. x ≡ e) → Q e → IfErr r Q

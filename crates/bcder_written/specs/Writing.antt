@@ -1,5 +1,8 @@
 -- What was written, and what a refusal left.
-use Rattle.std.specs.Prelude.{◌≡◌, ℕ, ◌^◌, ◌<◌, List, ◌++◌, length, Option}
+use Rattle.std.specs.Prelude.{◌≡◌, ◌≢◌, ℕ, ◌^◌, ◌<◌, ◌≤◌, List, ◌++◌, length, Option, Result, Ok, Err}
+use Rattle.std.specs.IoError.{error_kind}
+use Rattle.std.specs.declared.io.Error.{Error}
+use Rattle.std.specs.declared.io.ErrorKind.TheVariants.{Interrupted}
 use Rattle.std.specs.Io.KnownBytes.{Appends}
 use Rattle.bcder_written.specs.bcder_tree.Tree.{Trees}
 use Rattle.bcder_written.specs.declared.error.EncodeError.{EncodeError}
@@ -10,6 +13,16 @@ pub record HasLength (P : List ℕ → Type 0) (count : ℕ) : Type 0 where
   pub text : List ℕ
   pub is : P text
   pub long : length text ≡ count
+
+-- What a call of `write` took of some octets, by its answer: none where it was interrupted.
+abbrev pub Took : Result ℕ Error → ℕ → Type 0
+Took (Ok count) n = (n ≡ count) × (1 ≤ n)
+Took (Err e) n = (n ≡ 0) × (error_kind e ≡ Interrupted)
+
+-- It took none of some octets, or failed in another way.
+abbrev pub TookNone : Result ℕ Error → Type 0
+TookNone (Ok count) = count ≡ 0
+TookNone (Err e) = error_kind e ≢ Interrupted
 
 -- A text of P was written.
 pub record Wrote (P : List ℕ → Type 0) (old new : Option (List ℕ)) : Type 0 where

@@ -1,9 +1,9 @@
 //! Octets that are written whole.
 
-ghost use Rattle.std.specs.Prelude.{◌≡◌, ◌≢◌, ◌≤◌, length, take, IfOk, IfErr, OnOk, OnErr};
+ghost use Rattle.std.specs.Prelude.{◌≡◌, ◌≢◌, ◌≤◌, length, IfOk, IfErr, OnOk, OnErr};
 ghost use Rattle.std.specs.IoError.{error_kind};
-ghost use Rattle.std.specs.Io.KnownBytes.{Appends, Keeps};
-ghost use Rattle.bcder_written.specs.Writing.{TookFront};
+ghost use Rattle.std.specs.Io.KnownBytes.{Appends};
+ghost use Rattle.bcder_written.specs.Writing.{Took, TookFront, TookNone};
 ghost use Rattle.bcder_written.specs.declared.error.EncodeError.TheVariants.{Write as refusal};
 
 use crate::EncodeError;
@@ -33,15 +33,13 @@ fn interrupted(error: &io::Error) -> Result<usize, EncodeError>
     Err(EncodeError::Write)
 }
 
-// Writes a front of the octets, and answers how many; none where the write was interrupted.
-fn write_some<W: Write>(target: &mut W, octets: &[u8]) -> Result<usize, EncodeError>
-    ensures bound { IfOk result (λ n. n ≤ length octets.now) }
-    ensures written { IfOk result
-        (λ n. Appends (W.contents target.old) (W.contents target.new) (take n octets.now)) }
-    ensures refused { IfErr result
-        (λ e. (e ≡ refusal) × Keeps (W.contents target.old) (W.contents target.new)) }
+// How many octets a writer took, by what it answered: none where the write was interrupted. One that took none of some, or
+// failed in another way, refuses them.
+fn counted(answer: io::Result<usize>) -> Result<usize, EncodeError>
+    ensures took { IfOk result (Took answer) }
+    ensures refused { IfErr result (λ e. (e ≡ refusal) × TookNone answer) }
 {
-    match target.write(octets) {
+    match answer {
         Ok(count) => taken(count),
         Err(error) => interrupted(&error),
     }
@@ -62,7 +60,7 @@ pub fn write_octets<W: Write>(target: &mut W, octets: &[u8]) -> Result<(), Encod
             return Err(EncodeError::Write);
         }
         turns += 1;
-        let count = write_some(target, rest)?;
+        let count = counted(target.write(rest))?;
         rest = &rest[count..];
     }
     Ok(())
