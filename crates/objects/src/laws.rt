@@ -1,0 +1,15 @@
+//! Laws of signed objects, by the part that they are of: each is the contract of a function that does nothing.
+//!
+//! | Module | Has |
+//! |---|---|
+//! | [`aspa`] | contents of provider attestations |
+//! | [`frame`] | what is written around a content is read again |
+//! | [`sound`] | sound objects |
+//! | [`tal`] | trust anchor locators |
+//! | [`written`] | contents that are written are read again |
+
+pub use objects_aspa::laws as aspa;
+pub use objects_frame::laws as frame;
+pub use objects_locator::laws as tal;
+pub use objects_verify::laws as sound;
+pub use objects_written::laws as written;
