@@ -34,7 +34,7 @@
 pub mod cert;
 pub mod crl;
 pub mod laws;
+pub mod x509;
 
 pub use cert::{Cert, ResourceCert, TbsCert};
-pub use certs_x509 as x509;
 pub use crl::{Crl, CrlStore, TbsCertList};
