@@ -1,5 +1,5 @@
 -- A signed object that is built is read again, and is sound where its signature is good.
-use Rattle.std.proofs.Common.{◌≡◌, ◌≤◌, ℕ, List, true, Some, refl, sym, ap, ◌∙◌, subst}
+use Rattle.std.proofs.Common.{◌≡◌, ◌≤◌, ℕ, List, true, sym, ap, subst}
 use Rattle.objects_built.specs.bcder_tree.declared.mode.Mode.TheVariants.{Der}
 use Rattle.objects_built.specs.bcder_content.Kept.{CapturedValue}
 use Rattle.objects_built.specs.bcder_oid.Identifiers.{IsIdentifier}

@@ -1,8 +1,6 @@
 -- A signed object that is built is read again as one of its kind.
-use Rattle.std.proofs.Common.{◌≡◌, ◌<◌, ℕ, List, [], ◌∷◌, ◌++◌, true, refl, sym, ◌∙◌, subst, arith, append-nil}
-use Rattle.objects_built.specs.bcder_tree.declared.mode.Mode.TheVariants.{Der}
+use Rattle.std.proofs.Common.{ℕ, List, [], ◌∷◌, refl, sym, ◌∙◌, arith, append-nil}
 use Rattle.objects_built.specs.bcder_tree.Tree.{Tree}
-use Rattle.objects_built.specs.bcder_content.Texts.{SpellsOf}
 use Rattle.objects_built.specs.bcder_oid.Identifiers.{IsIdentifier}
 use Rattle.objects_built.specs.objects_forms.Contents.{ReadsAs}
 use Rattle.objects_built.specs.objects_forms.Identifiers as id

@@ -1,5 +1,5 @@
 -- The fields of a certificate, set one by one.
-use Rattle.std.proofs.Common.{◌≡◌, ℕ, List, Option, Some, Result, Ok, Err, IfOk, sym, ap, ◌∙◌, subst}
+use Rattle.std.proofs.Common.{◌≡◌, ℕ, List, Some, Result, Ok, Err, IfOk, sym, ap, ◌∙◌, subst}
 use Rattle.objects_built.specs.bcder_content.Kept.{CapturedValue}
 use Rattle.objects_built.specs.certs_basics.HandedIn.{Digests}
 use Rattle.objects_built.specs.certs_basics.Keys.{KeyValue, identifier}
