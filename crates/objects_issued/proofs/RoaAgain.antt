@@ -1,5 +1,5 @@
 -- Route origin attestations that are signed.
-use Rattle.std.proofs.Common.{◌≡◌, ◌≢◌, ◌⊎◌, ℕ, List, [], ◌∷◌, ◌++◌, map, Result, Ok, Err, IfOk, true, inl, inr, refl, sym, ap, ◌∙◌, subst, append_assoc, append-nil}
+use Rattle.std.proofs.Common.{◌≡◌, ◌≢◌, ◌⊎◌, ℕ, List, [], ◌∷◌, ◌++◌, Result, Ok, Err, IfOk, true, inl, inr, refl, sym, ap, ◌∙◌, subst, append_assoc, append-nil}
 use Rattle.objects_issued.specs.bcder_tree.declared.mode.Mode.TheVariants.{Der}
 use Rattle.objects_issued.specs.bcder_content.Kept.{CapturedValue}
 use Rattle.objects_issued.specs.certs_basics.Basics.{IsSmallEnough}
@@ -7,7 +7,6 @@ use Rattle.objects_issued.specs.certs_basics.HandedIn.{Digests}
 use Rattle.objects_issued.specs.objects_forms.Identifiers as id
 use Rattle.objects_issued.specs.objects_forms.Roas.{IsRoa, Roa, RoaAddress, RoaText}
 use Rattle.objects_issued.specs.objects_written.Roas.{AreOfFamilies, HasAddress, roa}
-use Rattle.objects_issued.specs.resources_chain.Choices.{IsChoiceOf}
 use Rattle.objects_issued.specs.resources_chain.Claims.{Choice}
 use Rattle.objects_issued.specs.resources_chain.Sets.{InRuns, IsRunsOf, Run}
 use Rattle.objects_issued.specs.resources_chain.declared.choice.ResourcesChoice.TheVariants.{Blocks, Missing}

@@ -1,6 +1,5 @@
 use Rattle.std.proofs.Common.{IfOk, List, subst}
 use Rattle.objects_issued.specs.resources_chain.Sets.{InRuns, IsRunsOf, Run}
-use Rattle.objects_issued.specs.Issued.{runs_of}
 use Rattle.objects_issued.proofs.RoaAgain.{pushed_all, pushed_more}
 use Rattle.objects_issued.proofs.roas.blocks_of.Goals as goal
 
