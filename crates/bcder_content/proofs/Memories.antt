@@ -10,7 +10,7 @@ use Rattle.bcder_content.specs.Contents.{ValuesLeft}
 use Rattle.bcder_header.specs.declared.ending.Span.{Span}
 use Rattle.bcder_content.specs.Ran.{Enters}
 use Rattle.bcder_content.specs.Either.{Meeting}
-use Rattle.bcder_content.specs.Memory.{OnMemory, AnyErr}
+use Rattle.bcder_content.specs.Memory.{OnMemory, AnyErr, TaggedErr}
 
 -- A refusal of the octets or by the source isn't want of memory.
 pub no_want : {E : Type 0} (P Q : Type 0) (e : DecodeError E) → OnlyContent e P → OnMemory e Q
@@ -40,3 +40,7 @@ unended_if (Err e) f h = memory_weaker e f h
 
 pub any_wanted : {T E : Type 0} (meets : Meeting T E) (old : ValuesLeft) {inner end : ValuesLeft} {form : Bool} {tag : TagValue} {span : Span} (e : DecodeError E) → Enters old form tag span inner → meets form tag inner (Err e) end → OnMemory e (AnyErr meets old e)
 any_wanted meets old e n met = wanted e (record { form = _; tag = _; span = _; end = _; ran = record { inner = _; enters = n; met = met } })
+
+pub tagged_wanted : {T E : Type 0} (meets : Meeting T E) (old : ValuesLeft) {inner end : ValuesLeft} {form : Bool} {tag own : TagValue} {span : Span} (e : DecodeError E) → tag ≡ own → Enters old form tag span inner → meets form tag inner (Err e) end → OnMemory e (TaggedErr meets old own e)
+tagged_wanted meets old e same n met =
+    subst (λ (t : TagValue). OnMemory e (TaggedErr meets old t e)) same (wanted e (record { form = _; span = _; end = _; ran = record { inner = _; enters = n; met = met } }))

@@ -30,6 +30,13 @@ pub record AnyErr {T E : Type 0} (meets : Meeting T E) (old : ValuesLeft) (e : D
   pub end : ValuesLeft
   pub ran : RanAny meets old form tag span (Err e) end
 
+-- The same of the value in front that has that tag.
+pub record TaggedErr {T E : Type 0} (meets : Meeting T E) (old : ValuesLeft) (tag : TagValue) (e : DecodeError E) : Type 0 where
+  pub form : Bool
+  pub span : Span
+  pub end : ValuesLeft
+  pub ran : RanAny meets old form tag span (Err e) end
+
 -- The closure was given the content of a source, and answered that error.
 pub record InErr {F S T E : Type 0} (rest : S → List ℕ) (g : Reader F (Constructed S) T E) (op : F) (v : ValuesLeft) (e : DecodeError E) : Type 0 where
   pub end : ValuesLeft

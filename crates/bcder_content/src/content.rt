@@ -6,7 +6,7 @@ ghost use Rattle.bcder_content.specs.bcder_source.declared.error.DecodeError.The
 ghost use Rattle.bcder_content.specs.Contents.{Ended};
 ghost use Rattle.bcder_content.specs.Either.{SameContent, left_of, form_in, RunsOctets, RunsValues, ByContent, ByContentAlone, ByValues, ByOctets, Takes, TakesNext, TakesOpt, AnyKind, OfForm, WithTag};
 ghost use Rattle.bcder_content.specs.Here.{here, SameFrame};
-ghost use Rattle.bcder_content.specs.Memory.{OnMemory, AnyErr};
+ghost use Rattle.bcder_content.specs.Memory.{OnMemory, AnyErr, TaggedErr};
 ghost use Rattle.bcder_content.specs.Stops.{NamesTag};
 
 use crate::bcder_source::{ContentError, DecodeError, Mode, Source, Tag};
@@ -205,7 +205,7 @@ impl<S: Source> Constructed<S> {
         ensures named { IfErr result (λ e. OnContent e (NamesTag (here S.rest self.old) tag e)) }
         ensures failed { OnErr result ((here S.rest self.new).failed ≡ true) }
         ensures memory { IfErr result (λ e. OnMemory e
-            (AnyErr (ByContentAlone S.rest F.FnOnce op) (here S.rest self.old) e)) }
+            (TaggedErr (ByContentAlone S.rest F.FnOnce op) (here S.rest self.old) tag e)) }
     {
         let (found, _, outer) = match self.open() {
             Ok(found) => found,
@@ -239,7 +239,7 @@ impl<S: Source> Constructed<S> {
         ensures frame { OnOk result (SameFrame self.old self.new) }
         ensures failed { OnErr result ((here S.rest self.new).failed ≡ true) }
         ensures memory { IfErr result (λ e. OnMemory e
-            (AnyErr (ByContentAlone S.rest F.FnOnce op) (here S.rest self.old) e)) }
+            (TaggedErr (ByContentAlone S.rest F.FnOnce op) (here S.rest self.old) tag e)) }
     {
         match self.comes(tag) {
             Ok(true) => {}

@@ -85,20 +85,21 @@ values_same old new (Err (content_error e pos)) f g h = record { none = λ t y q
 values_same old new (Err (Source e)) f g h = tt
 values_same old new (Err Memory) f g h = tt
 
--- The content of a primitive value.
-
-pub primitive_read : {F S E : Type 0} {rest : S → List ℕ} {g : Reader F (Primitive S) (List ℕ) E} {op : F} (c d : Content S) (r : Result (List ℕ) (DecodeError E)) (tag : TagValue) (v : ValuesLeft) → ((p q : MutBor (Primitive S)) (r : Result (List ℕ) (DecodeError E)) → g.post op (p, tt) (r, (q, tt)) → ReadsOctetsAs (λ x. x) (IsWhole (plain rest p.now).mode) (plain rest p.now) r (plain rest q.now))
-    → c.values.now.constructed ≡ false → RunsOctets rest g op c r d → Shows rest c v → ReadsContentAs rest (λ x. x) (IsString v.mode tag) tag c r d
-primitive_read {F} {S} {E} {rest} {g} {op} c d r tag v each form ran shows =
+-- The content of a primitive value, by a grammar of octets that says the same as one of values.
+pub primitive_reads : {F S E : Type 0} {rest : S → List ℕ} {g : Reader F (Primitive S) (List ℕ) E} {op : F} (P : Mode → List ℕ → List ℕ → Type 0) (Q : Mode → TagValue → Tree → List ℕ → Type 0)
+    → ((m : Mode) (tag : TagValue) (content octets : List ℕ) → P m content octets → Q m tag (primitive tag content) octets) → ((m : Mode) (tag : TagValue) (content octets : List ℕ) → Q m tag (primitive tag content) octets → P m content octets)
+    → (c d : Content S) (r : Result (List ℕ) (DecodeError E)) (tag : TagValue) (v : ValuesLeft) → ((p q : MutBor (Primitive S)) (r : Result (List ℕ) (DecodeError E)) → g.post op (p, tt) (r, (q, tt)) → ReadsOctetsAs (λ x. x) (P (plain rest p.now).mode) (plain rest p.now) r (plain rest q.now))
+    → c.values.now.constructed ≡ false → RunsOctets rest g op c r d → Shows rest c v → ReadsContentAs rest (λ x. x) (Q v.mode tag) tag c r d
+primitive_reads {F} {S} {E} {rest} {g} {op} P Q to from c d r tag v each form ran shows =
     let k = c.values.now in
     let l = d.values.now in
     let m : Mode = v.mode in
     let mode : (plain rest k.octets).mode ≡ m = ap (λ (w : ValuesLeft). w.mode) shows.left_is in
     let run : OctetsRun rest g op false k r l = subst (λ (b : Bool). OctetsRun rest g op b k r l) form ran.runs in
-    let exact : PlainEach m rest g op (λ x. x) (IsWhole m) = record { each = λ p q s e h. subst (λ (z : Mode). ReadsOctetsAs (λ x. x) (IsWhole z) (plain rest p.now) s (plain rest q.now)) e (each p q s h) } in
+    let exact : PlainEach m rest g op (λ x. x) (P m) = record { each = λ p q s e h. subst (λ (z : Mode). ReadsOctetsAs (λ x. x) (P z) (plain rest p.now) s (plain rest q.now)) e (each p q s h) } in
     let read = plain_met exact k.octets l.octets r mode run.1 in
-    subst (λ (b : Bool). ReadsInAs (λ x. x) (IsString m tag) b tag (here rest k) r (here rest l)) (sym form)
-    (octets_same (plain rest k.octets) (plain rest l.octets) r (λ t x w. whole_string m tag t x w) (λ t x s. string_whole m tag t x s) read)
+    subst (λ (b : Bool). ReadsInAs (λ x. x) (Q m tag) b tag (here rest k) r (here rest l)) (sym form)
+    (octets_same (plain rest k.octets) (plain rest l.octets) r (to m tag) (from m tag) read)
 
 -- The content of a constructed one.
 pub constructed_read : {F S E : Type 0} {rest : S → List ℕ} {g : Reader F (Constructed S) (List ℕ) E} {op : F} (c d : Content S) (r : Result (List ℕ) (DecodeError E)) (tag : TagValue) (v : ValuesLeft) → ((p q : MutBor (Constructed S)) (r : Result (List ℕ) (DecodeError E)) → g.post op (p, tt) (r, (q, tt)) → ReadsAllAs (λ x. x) (AreParts (here rest p.now).mode) (here rest p.now) r (here rest q.now))

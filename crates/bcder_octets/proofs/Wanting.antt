@@ -19,7 +19,7 @@ use Rattle.bcder_octets.specs.bcder_content.Contents.{ValuesLeft}
 use Rattle.bcder_octets.specs.bcder_content.Either.{Meeting, ValuesRun, RunsValues, form_in, in_octets, left_of}
 use Rattle.bcder_octets.specs.bcder_content.Grammar.{OctetsOf}
 use Rattle.bcder_octets.specs.bcder_content.Here.{here}
-use Rattle.bcder_octets.specs.bcder_content.Memory.{OnMemory, AnyErr}
+use Rattle.bcder_octets.specs.bcder_content.Memory.{OnMemory, TaggedErr}
 use Rattle.bcder_octets.specs.bcder_content.Ran.{Reader, Enters}
 use Rattle.bcder_values.specs.bcder_content.Ahead.{HasOctets, HasNext, HasPrimitive}
 use Rattle.bcder_values.proofs.of_bcder_content.Wants.{next_of}
@@ -63,17 +63,17 @@ parts_only form w =
     ]
 
 -- The next value, whose content a closure is given.
-one_next : {S : Type 0} (P : Piece) (rest : S → List ℕ) (c : Content S) {old inner : ValuesLeft} {form : Bool} {tag : TagValue} {span : Span} → left_of rest c ≡ inner → form_in c ≡ form → Enters old form tag span inner → HasPrimitive rest (P (left_of rest c).mode) c → WantsNext P old
+one_next : {S : Type 0} (P : Piece) (rest : S → List ℕ) (c : Content S) {old inner : ValuesLeft} {form : Bool} {tag : TagValue} {span : Span} → left_of rest c ≡ inner → form_in c ≡ form → Enters old form tag span inner → HasPrimitive rest (P (left_of rest c).mode) c → WantsNext P tag old
 one_next P rest c {old} {inner} {form} {tag} {span} shows is n h =
     let primitive_form : form ≡ false = sym is ∙ h.primitive in
     let entered : Enters old false tag span inner = subst (λ (b : Bool). Enters old b tag span inner) primitive_form n in
     let there : HasOctets (P inner.mode) (in_octets inner) = subst (λ (v : ValuesLeft). HasOctets (P v.mode) (in_octets v)) shows h.octets in
     let here_mode : HasOctets (P old.mode) (in_octets inner) = subst (λ (m : Mode). HasOctets (P m) (in_octets inner)) n.mode there in
-    next_in_one tag (next_of {inner = in_octets inner} {span = span} (record { opens = entered.opens; mode = n.mode; before = n.before; sound = n.sound }) here_mode)
+    next_in_one (next_of {inner = in_octets inner} {span = span} (record { opens = entered.opens; mode = n.mode; before = n.before; sound = n.sound }) here_mode)
 
-parts_next : {S : Type 0} (P : Piece) (rest : S → List ℕ) (c : Content S) {old inner : ValuesLeft} {form : Bool} {tag : TagValue} {span : Span} → left_of rest c ≡ inner → form_in c ≡ form → Enters old form tag span inner → form_in c ≡ true → ((left_of rest c).mode ≡ Der → ⊥) → WantsNext P old
+parts_next : {S : Type 0} (P : Piece) (rest : S → List ℕ) (c : Content S) {old inner : ValuesLeft} {form : Bool} {tag : TagValue} {span : Span} → left_of rest c ≡ inner → form_in c ≡ form → Enters old form tag span inner → form_in c ≡ true → ((left_of rest c).mode ≡ Der → ⊥) → WantsNext P tag old
 parts_next P rest c {old} {inner} {form} {tag} {span} shows is n f never =
-    next_in_parts tag span inner (subst (λ (b : Bool). Enters old b tag span inner) (sym is ∙ f) n) (λ der. never (ap (λ (v : ValuesLeft). v.mode) shows ∙ n.mode ∙ der))
+    next_in_parts span inner (subst (λ (b : Bool). Enters old b tag span inner) (sym is ∙ f) n) (λ der. never (ap (λ (v : ValuesLeft). v.mode) shows ∙ n.mode ∙ der))
 
 -- A meeting with a content, by a closure that wants memory only so.
 pub record MeetsWanting {S T E : Type 0} (P : Piece) (rest : S → List ℕ) (form : Bool) (v : ValuesLeft) (r : Result T (DecodeError E)) : Type 0 where
@@ -86,27 +86,27 @@ pub record MeetsWanting {S T E : Type 0} (P : Piece) (rest : S → List ℕ) (fo
 pub record EachWants {S T E : Type 0} (P : Piece) (rest : S → List ℕ) (meets : Meeting T E) : Type 0 where
   pub each : (form : Bool) (tag : TagValue) (v : ValuesLeft) (r : Result T (DecodeError E)) (w : ValuesLeft) → meets form tag v r w → MeetsWanting P rest form v r
 
-pub next_wants : {S T E : Type 0} (P : Piece) (rest : S → List ℕ) {meets : Meeting T E} (old : ValuesLeft) (e : DecodeError E) → EachWants P rest meets → OnMemory e (AnyErr meets old e) → OnMemory e (WantsNext P old)
-next_wants P rest old (content_error x pos) each h = tt
-next_wants P rest old (Source x) each h = tt
-next_wants P rest old Memory each h =
-    let m = each.each h.form h.tag h.ran.inner (Err Memory) h.end h.ran.met in
+pub next_wants : {S T E : Type 0} (P : Piece) (rest : S → List ℕ) {meets : Meeting T E} (old : ValuesLeft) (tag : TagValue) (e : DecodeError E) → EachWants P rest meets → OnMemory e (TaggedErr meets old tag e) → OnMemory e (WantsNext P tag old)
+next_wants P rest old tag (content_error x pos) each h = tt
+next_wants P rest old tag (Source x) each h = tt
+next_wants P rest old tag Memory each h =
+    let m = each.each h.form tag h.ran.inner (Err Memory) h.end h.ran.met in
     let w : WantsString P rest m.content = m.wants in
     elim w [
       | in_one k ↦ one_next P rest m.content m.shows m.form_is h.ran.enters k
       | in_parts f never ↦ parts_next P rest m.content m.shows m.form_is h.ran.enters f never
     ]
 
-pub value_wants : {S T A E : Type 0} (P : Piece) (rest : S → List ℕ) {meets : Meeting T E} (old : ValuesLeft) (r : Result A (DecodeError E)) → EachWants P rest meets → IfErr r (λ (e : DecodeError E). OnMemory e (AnyErr meets old e)) → IfErr r (λ (e : DecodeError E). OnMemory e (WantsNext P old))
-value_wants P rest old (Ok x) each h = tt
-value_wants P rest old (Err e) each h = next_wants P rest old e each h
+pub value_wants : {S T A E : Type 0} (P : Piece) (rest : S → List ℕ) {meets : Meeting T E} (old : ValuesLeft) (tag : TagValue) (r : Result A (DecodeError E)) → EachWants P rest meets → IfErr r (λ (e : DecodeError E). OnMemory e (TaggedErr meets old tag e)) → IfErr r (λ (e : DecodeError E). OnMemory e (WantsNext P tag old))
+value_wants P rest old tag (Ok x) each h = tt
+value_wants P rest old tag (Err e) each h = next_wants P rest old tag e each h
 
 -- In DER the next value is an OCTET STRING.
 pub piece_next : {old : ValuesLeft} → HasNext (OctetsOf octet_string_tag AnyOctets) old → HasNext (IsOctetString Der) old
 piece_next h = record { tree = h.tree; value = h.value; is = h.is.whole ∙ ap (λ (z : List ℕ). primitive octet_string_tag z) h.is.is.same; next = h.next }
 
-pub der_next : {old : ValuesLeft} → old.mode ≡ Der → HasNext (IsOctetString Der) old → WantsNext IsWhole old
-der_next {old} der h = next_in_one octet_string_tag (record {
+pub der_next : {old : ValuesLeft} → old.mode ≡ Der → HasNext (IsOctetString Der) old → WantsNext IsWhole octet_string_tag old
+der_next {old} der h = next_in_one (record {
   tree = h.tree;
   value = h.value;
   is = record { content = h.value; whole = h.is; is = subst (λ (m : Mode). IsWhole m h.value h.value) (sym der) (record { same = refl; fits = tt }) };

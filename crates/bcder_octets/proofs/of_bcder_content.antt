@@ -9,4 +9,6 @@ pub use Rattle.bcder_values.proofs.of_bcder_content.Tagged
 pub use Rattle.bcder_values.proofs.of_bcder_content.Taking
 pub use Rattle.bcder_values.proofs.of_bcder_content.Took
 pub use Rattle.bcder_values.proofs.of_bcder_content.Unique
+pub use Rattle.bcder_values.proofs.of_bcder_content.Wants
+pub use Rattle.bcder_values.proofs.of_bcder_content.Wholes
 pub use Rattle.bcder_values.proofs.of_bcder_content.Within

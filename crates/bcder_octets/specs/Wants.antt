@@ -21,6 +21,6 @@ pub data WantsString {S : Type 0} (P : Piece) (rest : S → List ℕ) (c : Conte
   in_parts : form_in c ≡ true → ((left_of rest c).mode ≡ Der → ⊥) → WantsString P rest c
 
 -- On the next value, which has that tag.
-pub data WantsNext (P : Piece) (old : ValuesLeft) : Type 0 where
-  next_in_one : (tag : TagValue) → HasNext (OctetsOf tag (P old.mode)) old → WantsNext P old
-  next_in_parts : (tag : TagValue) (span : Span) (inner : ValuesLeft) → Enters old true tag span inner → (old.mode ≡ Der → ⊥) → WantsNext P old
+pub data WantsNext (P : Piece) (tag : TagValue) (old : ValuesLeft) : Type 0 where
+  next_in_one : HasNext (OctetsOf tag (P old.mode)) old → WantsNext P tag old
+  next_in_parts : (span : Span) (inner : ValuesLeft) → Enters old true tag span inner → (old.mode ≡ Der → ⊥) → WantsNext P tag old

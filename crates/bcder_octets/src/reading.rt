@@ -1,6 +1,6 @@
 //! Strings that are read.
 
-ghost use Rattle.std.specs.Prelude.{◌≡◌, ◌↔◌, IsTrue, IsOk, IfErr, OnErr, true, false};
+ghost use Rattle.std.specs.Prelude.{◌≡◌, ◌↔◌, IsOk, IfErr, OnErr, true, false};
 ghost use Rattle.bcder_octets.specs.bcder_tree.Strings.{AreSegments, IsOctetString, octet_string_tag};
 ghost use Rattle.bcder_octets.specs.bcder_tree.declared.mode.Mode.TheVariants.{Der};
 ghost use Rattle.bcder_octets.specs.bcder_content.Captures.{rest_of};
@@ -13,26 +13,16 @@ ghost use Rattle.bcder_octets.specs.bcder_primitive.Plain.{ReadsOctetsAs};
 ghost use Rattle.bcder_octets.specs.bcder_primitive.Values.{AnyOctets};
 ghost use Rattle.bcder_values.specs.bcder_content.Ahead.{HasOctets, HasNext};
 ghost use Rattle.bcder_octets.specs.Wants.{WantsString, WantsNext};
-ghost use Rattle.bcder_octets.specs.Parts.{FitsWhole, IsWhole, AreCut, AreParts, FitsPart, IsPart, AllParts, ReadsString};
+ghost use Rattle.bcder_octets.specs.Parts.{IsWhole, AreCut, AreParts, FitsPart, IsPart, AllParts, ReadsString};
 
 use crate::bcder_content::content::Content;
 use crate::bcder_content::whole::{front, refuse, request_all, take_front};
 use crate::bcder_content::{Captured, Constructed, Primitive};
 use crate::bcder_source::{ContentError, DecodeError, Mode, Source, Tag};
-use crate::pieces::{SEGMENT, join, join_cut};
+use crate::pieces::{join, join_cut};
 use crate::string::OctetString;
 use bytes::Bytes;
 use std::alloc::Global;
-
-// Whether a string of these octets may stand in one piece (X.690 9.2).
-fn fits_whole(mode: Mode, octets: &[u8]) -> bool
-    ensures { IsTrue result ↔ FitsWhole mode octets.now }
-{
-    match mode {
-        Mode::Ber | Mode::Der => true,
-        Mode::Cer => octets.len() <= SEGMENT,
-    }
-}
 
 // A string in one piece: in CER it has at most 1000 octets (X.690 9.2).
 fn take_whole<S: Source>(
@@ -45,7 +35,7 @@ fn take_whole<S: Source>(
         (HasOctets (IsWhole (plain S.rest prim.old).mode) (plain S.rest prim.old))) }
 {
     let count = request_all(prim)?;
-    let fits = fits_whole(prim.mode, front(prim, count));
+    let fits = OctetString::fits_whole(prim.mode, front(prim, count));
     if !fits {
         return Err(refuse(prim, "a long string in one piece"));
     }
@@ -252,7 +242,8 @@ pub(crate) fn take_string<S: Source>(
     ensures reads { ReadsAs (λ octets. octets) (IsOctetString (here S.rest cons.old).mode)
         (here S.rest cons.old) result (here S.rest cons.new) }
     ensures failed { OnErr result ((here S.rest cons.new).failed ≡ true) }
-    ensures memory { IfErr result (λ e. OnMemory e (WantsNext IsWhole (here S.rest cons.old))) }
+    ensures memory { IfErr result
+        (λ e. OnMemory e (WantsNext IsWhole octet_string_tag (here S.rest cons.old))) }
 {
     cons.take_value_if(
         Tag::OCTET_STRING,

@@ -9,11 +9,12 @@ ghost use Rattle.bcder_octets.specs.bcder_content.Memory.{OnMemory};
 ghost use Rattle.bcder_octets.specs.bcder_tree.declared.mode.Mode.TheVariants.{Der};
 ghost use Rattle.bcder_values.specs.bcder_content.Ahead.{HasNext};
 ghost use Rattle.bcder_octets.specs.Wants.{WantsString, WantsNext};
-ghost use Rattle.bcder_octets.specs.Parts.{IsWhole, ReadsString};
+ghost use Rattle.bcder_octets.specs.Parts.{FitsWhole, IsWhole, ReadsString};
 
 use crate::bcder_content::Constructed;
 use crate::bcder_content::content::Content;
 use crate::bcder_source::{DecodeError, Mode, Source, Tag};
+use crate::pieces::SEGMENT;
 use crate::reading::{take_content, take_piece, take_string};
 use bytes::Bytes;
 use std::alloc::{AllocError, Global};
@@ -80,6 +81,16 @@ impl OctetString {
         self.octets.as_slice() == octets
     }
 
+    /// Whether a string of these octets may stand in one piece: in CER with at most 1000 (X.690 9.2).
+    pub fn fits_whole(mode: Mode, octets: &[u8]) -> bool
+        ensures { IsTrue result ↔ FitsWhole mode octets.now }
+    {
+        match mode {
+            Mode::Ber | Mode::Der => true,
+            Mode::Cer => octets.len() <= SEGMENT,
+        }
+    }
+
     /// The octets, shared where they lie in one piece.
     pub fn to_bytes(&self, _alloc: Global) -> Result<Bytes, AllocError>
         ensures { IfOk result (λ octets. octets ≡ self.now) }
@@ -109,7 +120,8 @@ impl OctetString {
         ensures reads { ReadsAs (λ octets. octets) (IsOctetString (here S.rest cons.old).mode)
             (here S.rest cons.old) result (here S.rest cons.new) }
         ensures failed { OnErr result ((here S.rest cons.new).failed ≡ true) }
-        ensures memory { IfErr result (λ e. OnMemory e (WantsNext IsWhole (here S.rest cons.old))) }
+        ensures memory { IfErr result
+            (λ e. OnMemory e (WantsNext IsWhole octet_string_tag (here S.rest cons.old))) }
         ensures memory_in_der { IfErr result (λ e. OnMemory e
             ((here S.rest cons.old).mode ≡ Der
             → HasNext (IsOctetString Der) (here S.rest cons.old))) }
@@ -130,7 +142,8 @@ impl OctetString {
             (IsOctetString (here S.rest cons.old).mode) (here S.rest cons.old) result
             (here S.rest cons.new) }
         ensures failed { OnErr result ((here S.rest cons.new).failed ≡ true) }
-        ensures memory { IfErr result (λ e. OnMemory e (WantsNext IsWhole (here S.rest cons.old))) }
+        ensures memory { IfErr result
+            (λ e. OnMemory e (WantsNext IsWhole octet_string_tag (here S.rest cons.old))) }
     {
         cons.take_opt_value_if(
             Tag::OCTET_STRING,

@@ -3,6 +3,7 @@ use Rattle.std.proofs.Common.{◌≡◌, ℕ, Bool, true, false, List, Result, O
 use Rattle.std.specs.Prelude.{IsErrAnd}
 use Rattle.bcder_strings.specs.bcder_tree.declared.mode.Mode.{Mode}
 use Rattle.bcder_strings.specs.bcder_tree.Tags.{TagValue, universal}
+use Rattle.bcder_strings.specs.bcder_tree.Tree.{primitive}
 use Rattle.bcder_strings.specs.bcder_tree.Strings.{IsString}
 use Rattle.bcder_chars.specs.Texts.{IsText}
 use Rattle.bcder_strings.specs.bcder_source.declared.error.DecodeError.{DecodeError}
@@ -10,13 +11,16 @@ use Rattle.bcder_strings.specs.bcder_content.declared.content.Content.{Content}
 use Rattle.bcder_strings.specs.bcder_content.Contents.{ValuesLeft}
 use Rattle.bcder_strings.specs.bcder_content.Exact.{ReadsAs, ReadsOptAs}
 use Rattle.bcder_strings.specs.bcder_content.Here.{here}
-use Rattle.bcder_strings.specs.bcder_content.Either.{SameContent, Meeting, Takes, TakesOpt, WithTag, ReadsInAs, ReadsContentAs}
+use Rattle.bcder_strings.specs.bcder_content.Memory.{OnMemory, TaggedErr}
+use Rattle.bcder_strings.specs.bcder_content.Either.{SameContent, Meeting, form_in, left_of, Takes, TakesOpt, WithTag, ReadsInAs, ReadsContentAs}
+use Rattle.bcder_strings.proofs.of_bcder_content.Failing.{refused_still}
 use Rattle.bcder_strings.proofs.of_bcder_content.Tagged.{HasTag, EachTagged, exact_tagged, exact_tagged_opt}
 use Rattle.bcder_strings.proofs.of_bcder_content.Within.{Within, content_gives, content_stop, content_unfit}
 use Rattle.bcder_octets.specs.Parts.{ReadsString}
 use Rattle.bcder_octets.proofs.Meaning.{one_string}
-use Rattle.bcder_octets.proofs.Strings.{string_tagged}
-use Rattle.bcder_strings.specs.Restricted.{IsRestricted, ReadsText}
+use Rattle.bcder_octets.proofs.Strings.{string_tagged, whole_string, string_whole}
+use Rattle.bcder_octets.proofs.Wanting.{EachWants, next_wants}
+use Rattle.bcder_strings.specs.Restricted.{IsRestricted, IsWholeText, ReadsText, WantsText}
 
 -- A restricted string has the tag that it is read with,
 pub text_tagged : {Has : ℕ → Type 0} {spell : ℕ → List ℕ} → HasTag (IsRestricted Has spell)
@@ -29,6 +33,20 @@ is_string Has spell m tag t x p = (x, p.is)
 -- and is read in the mode that the content has.
 pub text_reads : {S E : Type 0} {rest : S → List ℕ} {Has : ℕ → Type 0} {spell : ℕ → List ℕ} {old new : Content S} {r : Result (List ℕ) (DecodeError E)} → ReadsText Has spell rest old r new → (tag : TagValue) → ReadsContentAs rest (λ x. x) (IsRestricted Has spell (here rest old.values.now).mode tag) tag old r new
 text_reads h tag = h.reads tag _ (record { left_is = refl })
+
+-- Octets in one piece, as a primitive value.
+pub whole_text : {Has : ℕ → Type 0} {spell : ℕ → List ℕ} (m : Mode) (tag : TagValue) (content octets : List ℕ) → IsWholeText Has spell m content octets → IsRestricted Has spell m tag (primitive tag content) octets
+whole_text m tag content octets w = record { is = whole_string m tag content octets w.whole; meets = w.text }
+
+pub text_whole : {Has : ℕ → Type 0} {spell : ℕ → List ℕ} (m : Mode) (tag : TagValue) (content octets : List ℕ) → IsRestricted Has spell m tag (primitive tag content) octets → IsWholeText Has spell m content octets
+text_whole m tag content octets s = record { whole = string_whole m tag content octets s.is; text = s.meets }
+
+-- A refused reading stays so, whatever is done to the content then.
+pub refused_text : {S E : Type 0} {rest : S → List ℕ} {Has : ℕ → Type 0} {spell : ℕ → List ℕ} {old mid new : Content S} {e : DecodeError E} → SameContent mid new → ReadsText Has spell rest old (Err e) mid → ReadsText Has spell rest old (Err e) new
+refused_text {rest = rest} {Has} {spell} {old} {mid} {new} {e} same h = record {
+  same = record { reference = h.same.reference ∙ same.reference };
+  reads = λ tag v s. refused_still (λ (x : List ℕ). x) (IsRestricted Has spell v.mode tag) (form_in old) tag (left_of rest old) (left_of rest mid) (left_of rest new) e (h.reads tag v s);
+}
 
 -- The octets are a text.
 pub text_given : {S E : Type 0} {rest : S → List ℕ} {Has : ℕ → Type 0} {spell : ℕ → List ℕ} {old new : Content S} {x : List ℕ} → ReadsString {S = S} {E = E} rest old (Ok x) new → IsText Has spell x → ReadsText {S = S} {E = E} Has spell rest old (Ok x) new
@@ -71,3 +89,8 @@ text_taken {Has = Has} {spell} {old = old} {new} {r} e h exact = subst (λ (t : 
 
 pub text_taken_opt : {S E : Type 0} {rest : S → List ℕ} {Has : ℕ → Type 0} {spell : ℕ → List ℕ} {meets : Meeting (List ℕ) E} {tag own : TagValue} {old new : ValuesLeft} {r : Result (Option (List ℕ)) (DecodeError E)} → tag ≡ own → TakesOpt meets tag old r new → EachTagged rest (λ x. x) (IsRestricted Has spell) meets → ReadsOptAs (λ x. x) own (IsRestricted Has spell old.mode own) old r new
 text_taken_opt {Has = Has} {spell} {old = old} {new} {r} e h exact = subst (λ (t : TagValue). ReadsOptAs (λ x. x) t (IsRestricted Has spell old.mode t) old r new) e (exact_tagged_opt text_tagged exact h)
+
+-- A text that is wanted under its own tag.
+pub text_wants : {S T E : Type 0} {rest : S → List ℕ} {Has : ℕ → Type 0} {spell : ℕ → List ℕ} {meets : Meeting T E} {tag own : TagValue} (old : ValuesLeft) (e : DecodeError E) → tag ≡ own → EachWants (IsWholeText Has spell) rest meets → OnMemory e (TaggedErr meets old tag e) → OnMemory e (WantsText Has spell own old)
+text_wants {rest = rest} {Has} {spell} {tag = tag} old e same each h =
+    subst (λ (t : TagValue). OnMemory e (WantsText Has spell t old)) same (next_wants (IsWholeText Has spell) rest old tag e each h)

@@ -2,4 +2,5 @@
 pub use Rattle.bcder_octets.proofs.Cuts
 pub use Rattle.bcder_octets.proofs.Meaning
 pub use Rattle.bcder_octets.proofs.Strings
+pub use Rattle.bcder_octets.proofs.Wanting
 pub use Rattle.bcder_octets.proofs.Written

@@ -1,19 +1,20 @@
 use Rattle.std.proofs.Common.{subst, IfErr}
 use Rattle.bcder_octets.specs.bcder_tree.declared.mode.Mode.{Mode}
+use Rattle.bcder_octets.specs.bcder_tree.Strings.{IsString}
 use Rattle.bcder_octets.specs.bcder_source.declared.error.DecodeError.{DecodeError}
 use Rattle.bcder_octets.specs.bcder_content.Here.{plain}
 use Rattle.bcder_octets.specs.bcder_content.Memory.{OnMemory}
 use Rattle.bcder_values.specs.bcder_content.Ahead.{HasOctets}
 use Rattle.bcder_values.proofs.of_bcder_content.Wants.{content_wants}
 use Rattle.bcder_octets.specs.Parts.{IsWhole}
-use Rattle.bcder_octets.proofs.Strings.{primitive_read, constructed_read, not_primitive}
+use Rattle.bcder_octets.proofs.Strings.{whole_string, string_whole, primitive_reads, constructed_read, not_primitive}
 use Rattle.bcder_octets.proofs.Wanting.{one_wants, parts_want}
 use Rattle.bcder_octets.proofs.reading.read_content.Goals as goal
 
 pub returns-then-is_primitive-clause-reads : goal.returns-then-is_primitive-clause-reads
 returns-then-is_primitive-clause-reads g c = record {
   same = c.primitive.ensures.same;
-  reads = λ tag v s. primitive_read _ _ _ tag v (λ p q r h. h.0) (c.is_primitive.ensures.0 c.if-is_primitive.true) c.primitive.ensures.ran s;
+  reads = λ tag v s. primitive_reads IsWhole IsString whole_string string_whole _ _ _ tag v (λ p q r h. h.0) (c.is_primitive.ensures.0 c.if-is_primitive.true) c.primitive.ensures.ran s;
 }
 
 pub returns-then-is_primitive-clause-memory : goal.returns-then-is_primitive-clause-memory

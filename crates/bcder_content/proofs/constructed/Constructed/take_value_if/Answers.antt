@@ -4,7 +4,7 @@ use Rattle.bcder_content.specs.Here.{here}
 use Rattle.bcder_header.proofs.Windows.{tags_unequal, tags_same}
 use Rattle.bcder_content.proofs.Eithers.{takes_none, takes_other, takes_refused, takes_unread, takes_value}
 use Rattle.bcder_content.proofs.Taking.{none_named, tag_named_as, on_content}
-use Rattle.bcder_content.proofs.Memories.{no_want, any_wanted}
+use Rattle.bcder_content.proofs.Memories.{no_want, tagged_wanted}
 use Rattle.bcder_content.proofs.constructed.Constructed.take_value_if.Goals as goal
 
 pub returns-in-Err-clause-taken : goal.returns-in-Err-clause-taken
@@ -26,7 +26,7 @@ pub returns-in-Err-clause-memory : goal.returns-in-Err-clause-memory
 returns-in-Err-clause-memory g c = no_want _ _ c.in-Err.error c.in-Err.ensures.refused
 
 pub returns-in-Err-run_alone-clause-memory : goal.returns-in-Err-run_alone-clause-memory
-returns-in-Err-run_alone-clause-memory g c = any_wanted (ByContentAlone g.S.Source.rest g.F.FnOnce c.args.op) (here g.S.Source.rest c.args.self.now) c.in-Err-run_alone.error c.in-Ok.ensures.entered (subst (λ (f : Bool). ByContentAlone g.S.Source.rest g.F.FnOnce c.args.op f c.in-Ok.found.0 (here g.S.Source.rest c.open.new.self) (Err c.in-Err-run_alone.error) (here g.S.Source.rest c.run_alone.new.self)) c.in-Ok.ensures.form (c.in-Err-run_alone.ensures c.in-Ok.found.0))
+returns-in-Err-run_alone-clause-memory g c = tagged_wanted (ByContentAlone g.S.Source.rest g.F.FnOnce c.args.op) (here g.S.Source.rest c.args.self.now) c.in-Err-run_alone.error (tags_same c.ne.ensures c.if-ne.false) c.in-Ok.ensures.entered (subst (λ (f : Bool). ByContentAlone g.S.Source.rest g.F.FnOnce c.args.op f c.in-Ok.found.0 (here g.S.Source.rest c.open.new.self) (Err c.in-Err-run_alone.error) (here g.S.Source.rest c.run_alone.new.self)) c.in-Ok.ensures.form (c.in-Err-run_alone.ensures c.in-Ok.found.0))
 
 pub returns-in-Err-close-clause-memory : goal.returns-in-Err-close-clause-memory
 returns-in-Err-close-clause-memory g c = no_want _ _ c.in-Err-close.error c.in-Err-close.ensures.refused
