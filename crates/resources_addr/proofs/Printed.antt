@@ -52,7 +52,7 @@ octets_small (s ∷ xs) h (suc (suc i)) = octets_small xs (λ j. h (suc j)) i
 -- ---- the bytes of printed addresses
 
 -- `0` to `9`, `:`, `a` to `f`, or `.`
-IsPlain : ℕ → Type 0
+pub IsPlain : ℕ → Type 0
 IsPlain c = IsInRange 48 58 c ⊎ (IsInRange 97 102 c ⊎ (c ≡ 46))
 
 dotted_plain : (c : ℕ) → IsDigitOrDot c → IsPlain c
@@ -87,11 +87,11 @@ ipv6_plain xs h =
     (λ _. All-append IsPlain (58 ∷ 58 ∷ 102 ∷ 102 ∷ 102 ∷ 102 ∷ 58 ∷ []) (ipv4_text (octets_of (drop 6 xs))) mapped_front (ipv4_plain (octets_of (drop 6 xs)) (octets_small (drop 6 xs) (AllSegments-drop 6 xs h))))
     (λ _. All-weaker IsHexOrColon IsPlain hex_plain (hex_groups_text xs) (All-hex_groups_text xs h))
 
-address_plain : (f : Family) (n : ℕ) → All IsPlain (address_text f n)
+pub address_plain : (f : Family) (n : ℕ) → All IsPlain (address_text f n)
 address_plain Ipv4 n = ipv4_plain (to_be_bytes w32 n) (bytes_small 4 n)
 address_plain Ipv6 n = ipv6_plain (segments_of (to_be_bytes w128 n)) (segments_small (to_be_bytes w128 n) (bytes_small 16 n))
 
-plain_lacks : (c : ℕ) (text : List ℕ) → c ≤ 47 → c ≢ 46 → All IsPlain text → LacksByte c text
+pub plain_lacks : (c : ℕ) (text : List ℕ) → c ≤ 47 → c ≢ 46 → All IsPlain text → LacksByte c text
 unfolding IsPlain
 plain_lacks c text low other all i h e =
     elim (All-get_or IsPlain text i 0 h all) [
@@ -104,14 +104,14 @@ plain_lacks c text low other all i h e =
 printed_numeral : (n : ℕ) → n < 2 ^ 8 → IsNumeral 10 (decimal n) × (digits_value 10 (decimal n) ≡ n)
 printed_numeral n fits = decimal_is_IsNumeral n (omega arith)
 
-decimal_plain : (n : ℕ) → n < 2 ^ 8 → All IsPlain (decimal n)
+pub decimal_plain : (n : ℕ) → n < 2 ^ 8 → All IsPlain (decimal n)
 unfolding IsPlain
 decimal_plain n fits =
     All-from_get_or IsPlain (decimal n) 0 (λ i h.
     let d = digit_at (decimal n) i (printed_numeral n fits).0.1 h in
     inl (d.0, (let b = d.1 in omega arith)))
 
-len_printed : (n : ℕ) → n < 2 ^ 8 → IsLenText (decimal n) n
+pub len_printed : (n : ℕ) → n < 2 ^ 8 → IsLenText (decimal n) n
 len_printed n fits =
     let number = printed_numeral n fits in
     let first = digit_at (decimal n) 0 number.0.1 number.0.0 in
@@ -120,7 +120,7 @@ len_printed n fits =
 
 -- ---- printed prefixes
 
-address_read : (f : Family) (n : ℕ) → n < 2 ^ width f → (a : IpAddr) × IsIpText (address_text f n) a × (family_of a ≡ f) × (bits_of a ≡ n)
+pub address_read : (f : Family) (n : ℕ) → n < 2 ^ width f → (a : IpAddr) × IsIpText (address_text f n) a × (family_of a ≡ f) × (bits_of a ≡ n)
 unfolding IsIpv4OfBits IsIpv6OfBits
 address_read Ipv4 n fits =
     let a : Ipv4Addr = record { octets = to_be_bytes w32 n } in
@@ -154,7 +154,7 @@ prefix_printed p h =
       prefix = h;
     }
 
-lacks_both : (c : ℕ) (xs ys : List ℕ) → LacksByte c xs → LacksByte c ys → LacksByte c (xs ++ ys)
+pub lacks_both : (c : ℕ) (xs ys : List ℕ) → LacksByte c xs → LacksByte c ys → LacksByte c (xs ++ ys)
 lacks_both c [] ys h k i l = k i l
 lacks_both c (x ∷ xs) ys h k zero l = h 0 (omega arith)
 lacks_both c (x ∷ xs) ys h k (suc i) l = lacks_both c xs ys (λ j b. h (suc j) (omega arith)) k i (omega arith)

@@ -5,3 +5,4 @@ pub mod Again
 pub mod Pushed
 pub mod of_bcder_content
 pub mod of_resources_chain
+pub mod Texts

@@ -1,5 +1,6 @@
 pub mod Choices
 pub mod Encodings
+pub mod Texts
 pub mod Written
 -- What stands below, for the crates above.
 pub use Rattle.resources_as_block.specs.bcder_content as bcder_content
@@ -9,5 +10,6 @@ pub use Rattle.resources_as_block.specs.bcder_tree as bcder_tree
 pub use Rattle.resources_as_block.specs.bcder_values as bcder_values
 pub use Rattle.resources_as_block.specs.bcder_written as bcder_written
 pub use Rattle.resources_as_block.specs.resources_addr as resources_addr
+pub use Rattle.resources_as_block.specs as resources_as_block
 pub use Rattle.resources_as_block.specs.resources_asn as resources_asn
 pub use Rattle.resources_as_block.specs.resources_chain as resources_chain

@@ -1,6 +1,7 @@
 //! AS numbers that are listed and that the issuer doesn't hold.
 
-ghost use Rattle.std.specs.Prelude.{◌≡◌};
+ghost use Rattle.std.specs.Prelude.{◌≡◌, ◌++◌, Some, codes};
+ghost use Rattle.resources_as.specs.Texts.{as_set_text};
 
 use crate::blocks::AsBlocks;
 use std::error::Error;
@@ -47,7 +48,10 @@ impl OverclaimedAsResources {
     }
 }
 
+/// `overclaimed AS resources: ` and the set.
 impl fmt::Display for OverclaimedAsResources {
+    ghost output = { λ set. Some (codes "overclaimed AS resources: " ++ as_set_text set) };
+
     fn fmt<W: fmt::Write>(&self, f: &mut fmt::Formatter<W>) -> fmt::Result {
         write!(f, "overclaimed AS resources: {}", self.blocks)
     }

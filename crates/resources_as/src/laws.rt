@@ -1,6 +1,6 @@
 //! Laws of AS resources: the contracts of functions that do nothing.
 
-ghost use Rattle.std.specs.Prelude.{◌≡◌, List};
+ghost use Rattle.std.specs.Prelude.{◌≡◌, ℕ, List};
 ghost use Rattle.resources_as.specs.bcder_tree.Tags.{universal};
 ghost use Rattle.resources_as.specs.bcder_tree.Tree.{Tree, Trees};
 ghost use Rattle.resources_as.specs.bcder_written.Encoded.{IsWrapped};
@@ -8,6 +8,7 @@ ghost use Rattle.resources_as.specs.resources_chain.Claims.{Choice};
 ghost use Rattle.resources_as.specs.resources_chain.Sets.{Run, AreMaximal};
 ghost use Rattle.resources_as.specs.resources_chain.declared.choice.ResourcesChoice.TheVariants.{Missing};
 ghost use Rattle.resources_as.specs.Encodings.{IsAsResources, IsAsSet};
+ghost use Rattle.resources_as.specs.Texts.{IsAsSetText};
 ghost use Rattle.resources_as.specs.Written.{AreAsBlocks, AreAsResources, HasMaximal, MeansJust, ReadsSet};
 
 pub use resources_as_block::laws::{one_list_of_a_set, runs_are_counted, runs_are_listed};
@@ -36,4 +37,10 @@ pub fn one_meaning()
         → one ≡ other }
     ensures resources { (t : Tree) (one other : Choice) → IsAsResources t one
         → IsAsResources t other → one ≡ other }
+{}
+
+/// A text is that of one set of AS numbers at most.
+pub fn a_text_writes_one_set()
+    ensures { (text : List ℕ) (one other : List Run) → IsAsSetText text one
+        → IsAsSetText text other → one ≡ other }
 {}

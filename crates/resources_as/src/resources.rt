@@ -117,6 +117,11 @@ impl AsResources {
 
 /// `inherit`, the set, or nothing where AS numbers are missing.
 impl fmt::Display for AsResources {
+    ghost use Rattle.std.specs.Prelude.{Some};
+    ghost use Rattle.resources_as.specs.Texts.{as_choice_text};
+
+    ghost output = { λ resources. Some (as_choice_text resources) };
+
     fn fmt<W: fmt::Write>(&self, f: &mut fmt::Formatter<W>) -> fmt::Result {
         self.choice.fmt(f)
     }

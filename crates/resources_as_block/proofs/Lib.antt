@@ -6,3 +6,4 @@ pub mod Writing
 pub mod Again
 pub mod of_bcder_content
 pub mod of_resources_chain
+pub mod Texts

@@ -6,3 +6,4 @@ pub mod of_bcder_content
 pub mod of_resources_chain
 pub mod of_bcder_source
 pub mod of_bcder_tree
+pub mod of_resources_addr

@@ -1,16 +1,20 @@
 -- Texts of AS numbers.
-use Rattle.std.proofs.Common.{◌≡◌, ℕ, ◌<◌, ◌⊎◌, ◌↔◌, List, [], ◌∷◌, ◌++◌, length, take, drop, get_or, inl, inr, sym, subst, ap, ◌∙◌, arith}
+use Rattle.std.proofs.Common.{◌≡◌, ◌≢◌, ℕ, zero, suc, ◌<◌, ◌≤◌, ◌⊎◌, ◌↔◌, Bool, true, false, cond, ◌==◌, List, [], ◌∷◌, ◌++◌, map, length, take, drop, get_or, decimal, inl, inr, sym, subst, ap, ◌∙◌, arith, refl, length-append}
+use Rattle.std.specs.Prelude.{codes}
 use Rattle.std.specs.Char.{to_ascii_lowercase}
 use Rattle.std.specs.Int.{IsInRange}
 use Rattle.std.specs.Str.{IsCharBoundary}
-use Rattle.std.specs.Str.Parse.{IsNumeral, without_leading_plus}
-use Rattle.std.proofs.lemmas.Bool.{cases_lt}
+use Rattle.std.specs.Str.Parse.{IsNumeral, AllDigits, digits_value, without_leading_plus}
+use Rattle.std.proofs.lemmas.Bool.{cases_lt, eqb-true}
+use Rattle.std.proofs.lemmas.Fmt.{decimal_is_IsNumeral}
 use Rattle.std.proofs.Math.Nat.{eq-or-lt_of_le}
 use Rattle.std.proofs.lemmas.List.{length-map, take-append-drop}
 use Rattle.std.proofs.Math.Seq.{take-append_seam, drop-append_seam}
 use Rattle.std.proofs.lemmas.Str.{IsCharBoundary-before_ascii}
 use Rattle.std.proofs.lemmas.Str.Ascii.{lowercase_is}
 use Rattle.std.proofs.lemmas.Str.Parse.{without_leading_plus_none, digit_at}
+use Rattle.resources_addr.specs.Cuts.{LacksByte}
+use Rattle.resources_addr.proofs.Printed.{lacks_both}
 use Rattle.resources_asn.specs.Texts.{IsDigitText, IsLetters, IsAsnText}
 
 two_letters : (front : List ℕ) → IsLetters front → length front ≡ 2
@@ -90,3 +94,56 @@ other_letters text front f other =
 pub no_cut : (text : List ℕ) → (IsCharBoundary text 2 → ⊥) → (n : ℕ) → IsAsnText text n ↔ IsDigitText text n
 no_cut text none =
     without_letters text (λ a b n e l d. none (subst (λ (x : List ℕ). IsCharBoundary x 2) (sym e) (may_cut a b n (two_letters a l) d)))
+
+-- ---- what a text of an AS number is made of
+
+digits_lack_at : (c : ℕ) → c < 48 → c ≢ 43 → (a : ℕ) (cs : List ℕ) (b : Bool) → b ≡ (a == 43) → AllDigits 10 (drop (cond b 1 0) (a ∷ cs)) → LacksByte c (a ∷ cs)
+digits_lack_at c low other a cs true e h zero l f = other (sym f ∙ eqb-true a 43 (sym e))
+digits_lack_at c low other a cs true e h (suc i) l f = let d = (digit_at cs i h (omega arith)).0 in omega arith
+digits_lack_at c low other a cs false e h i l f = let d = (digit_at (a ∷ cs) i h l).0 in omega arith
+
+digits_lack : (c : ℕ) → c < 48 → c ≢ 43 → (text : List ℕ) (n : ℕ) → IsDigitText text n → LacksByte c text
+digits_lack c low other [] n d = λ i l e. omega arith
+digits_lack c low other (a ∷ cs) n d = digits_lack_at c low other a cs (a == 43) refl d.numeral.1
+
+letter_lacks : (c : ℕ) → c < 48 → (a : ℕ) (letter : ℕ) → 64 < letter → to_ascii_lowercase a ≡ letter → a ≢ c
+letter_lacks c low a letter high is e =
+    let small : a < 65 = omega arith in
+    let same : to_ascii_lowercase a ≡ a = (lowercase_is a).1 small in
+    omega arith
+
+letters_lack : (c : ℕ) → c < 48 → (front : List ℕ) → length front ≡ 2 → IsLetters front → LacksByte c front
+letters_lack c low [] e l i h = absurd (omega arith)
+letters_lack c low (a ∷ []) e l i h = absurd (omega arith)
+letters_lack c low (a ∷ b ∷ []) e l zero h = letter_lacks c low a 97 (omega arith) (ap (λ (xs : List ℕ). get_or xs 0 0) l)
+letters_lack c low (a ∷ b ∷ []) e l (suc zero) h = letter_lacks c low b 115 (omega arith) (ap (λ (xs : List ℕ). get_or xs 1 0) l)
+letters_lack c low (a ∷ b ∷ []) e l (suc (suc i)) h = absurd (omega arith)
+letters_lack c low (a ∷ b ∷ d ∷ front) e l i h = absurd (omega arith)
+
+-- No byte below the digits stands there, but a plus.
+pub asn_lacks : (c : ℕ) → c < 48 → c ≢ 43 → (text : List ℕ) (n : ℕ) → IsAsnText text n → LacksByte c text
+asn_lacks c low other text n (inl d) = digits_lack c low other text n d
+asn_lacks c low other text n (inr w) =
+    subst (LacksByte c) (sym w.2) (lacks_both c w.0 w.1 (letters_lack c low w.0 (two_letters w.0 w.3) w.3) (digits_lack c low other w.1 n w.4))
+
+-- Some byte does.
+pub asn_some : (n : ℕ) → IsAsnText [] n → ⊥
+asn_some n (inl d) = let some = (begins [] n d).0 in omega arith
+asn_some n (inr w) = omega (arith, two_letters w.0 w.3, ap length w.2, length-append w.0 w.1)
+
+-- A text is that of one number.
+pub asn_once : (text : List ℕ) (m n : ℕ) → IsAsnText text m → IsAsnText text n → m ≡ n
+asn_once text m n (inl d) (inl e) = sym d.value ∙ e.value
+asn_once text m n (inl d) (inr w) = absurd (no_letters w.0 w.1 m w.3 (subst (λ (x : List ℕ). IsDigitText x m) w.2 d))
+asn_once text m n (inr v) (inl e) = absurd (no_letters v.0 v.1 n v.3 (subst (λ (x : List ℕ). IsDigitText x n) v.2 e))
+asn_once text m n (inr v) (inr w) =
+    let same : v.1 ≡ w.1 = sym (cut_digits text v.0 v.1 v.2 v.3) ∙ cut_digits text w.0 w.1 w.2 w.3 in
+    sym v.4.value ∙ ap (λ (x : List ℕ). digits_value 10 (without_leading_plus x)) same ∙ w.4.value
+
+-- What is printed of a number writes it.
+pub asn_printed : (n : ℕ) → n ≤ 4294967295 → IsAsnText (codes "AS" ++ decimal n) n
+asn_printed n within =
+    let number = decimal_is_IsNumeral n (omega arith) in
+    let first = digit_at (decimal n) 0 number.0.1 number.0.0 in
+    let bare = without_leading_plus_none (decimal n) (λ e. let low = first.0 in omega arith) in
+    inr (codes "AS", decimal n, refl, refl, record { numeral = rw bare number.0; value = rw bare number.1; fits = omega arith })

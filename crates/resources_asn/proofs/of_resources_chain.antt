@@ -2,3 +2,4 @@
 pub use Rattle.resources_chain.proofs.ClaimLemmas
 pub use Rattle.resources_chain.proofs.CutLemmas
 pub use Rattle.resources_chain.proofs.SetLemmas
+pub use Rattle.resources_chain.proofs.ListTexts

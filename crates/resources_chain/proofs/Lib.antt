@@ -6,3 +6,4 @@ pub mod SortLemmas
 pub mod ClaimLemmas
 pub mod PlaceLemmas
 pub mod CutLemmas
+pub mod ListTexts

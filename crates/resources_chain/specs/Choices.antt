@@ -1,5 +1,5 @@
 -- Choices of resources, and what is made of the set that one lists.
-use Rattle.std.specs.Prelude.{◌≡◌, List, []}
+use Rattle.std.specs.Prelude.{◌≡◌, ℕ, Option, Some, List, [], codes}
 use Rattle.resources_chain.specs.Sets.{Run, InRuns, IsRunsOf}
 use Rattle.resources_chain.specs.declared.choice.ResourcesChoice.{ResourcesChoice}
 use Rattle.resources_chain.specs.declared.choice.ResourcesChoice.TheVariants.{Missing, Inherit, Blocks}
@@ -31,3 +31,9 @@ listed (Blocks runs) = runs
 -- The second choice is the first, with the maximal runs of the set of those that came.
 abbrev pub IsChoiceOf : ResourcesChoice (List Run) → ResourcesChoice (List Run) → Type 0
 IsChoiceOf = MapsTo (λ runs set. IsRunsOf (InRuns runs) set)
+
+-- What is printed of a choice: nothing, `inherit`, or what is printed of its set.
+abbrev pub choice_text : {T : Type 0} → (T → Option (List ℕ)) → ResourcesChoice T → Option (List ℕ)
+choice_text set_text Missing = Some []
+choice_text set_text Inherit = Some (codes "inherit")
+choice_text set_text (Blocks blocks) = set_text blocks

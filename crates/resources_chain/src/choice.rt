@@ -4,7 +4,7 @@ ghost use Rattle.std.specs.Prelude.{◌≡◌, ◌↔◌, IsTrue, IsErrOf, IfOk}
 ghost use Rattle.resources_chain.specs.declared.choice.ResourcesChoice.{ResourcesChoice};
 ghost use Rattle.resources_chain.specs.declared.choice.ResourcesChoice.TheVariants.{Missing, Inherit, Blocks};
 ghost use Rattle.resources_chain.specs.declared.choice.InheritedResources.TheVariants.{Memory};
-ghost use Rattle.resources_chain.specs.Choices.{choice_map, MapsTo, TurnsInto};
+ghost use Rattle.resources_chain.specs.Choices.{choice_map, choice_text, MapsTo, TurnsInto};
 
 use std::alloc::AllocError;
 use std::error::Error;
@@ -74,7 +74,10 @@ impl<T: Clone + Default> ResourcesChoice<T> {
     }
 }
 
+/// Nothing, `inherit`, or the set.
 impl<T: fmt::Display> fmt::Display for ResourcesChoice<T> {
+    ghost output = { λ choice. choice_text T.output choice };
+
     fn fmt<W: fmt::Write>(&self, f: &mut fmt::Formatter<W>) -> fmt::Result {
         match self {
             ResourcesChoice::Missing => Ok(()),

@@ -11,3 +11,5 @@ pub mod of_bcder_bits
 pub mod of_bcder_content
 pub mod of_bcder_octets
 pub mod of_resources_chain
+pub mod ReadLemmas
+pub mod of_resources_addr

@@ -6,6 +6,7 @@ pub mod Text
 pub mod Family
 pub mod Whole
 pub mod Encodings
+pub mod ReadTexts
 pub mod Written
 pub mod Wide
 -- What stands below, for the crates above.
@@ -17,4 +18,5 @@ pub use Rattle.bcder.specs.bcder_source as bcder_source
 pub use Rattle.bcder.specs.bcder_tree as bcder_tree
 pub use Rattle.bcder.specs.bcder_values as bcder_values
 pub use Rattle.bcder.specs.bcder_written as bcder_written
+pub use Rattle.resources_addr.specs as resources_addr
 pub use Rattle.resources_chain.specs as resources_chain

@@ -1,5 +1,10 @@
 //! Errors of addresses.
 
+ghost use Rattle.std.specs.Prelude.{◌≡◌};
+ghost use Rattle.resources_ip_prefix.specs.declared.error.FromStrError.TheVariants as Cause;
+
+use std::alloc::AllocError;
+use std::net::AddrParseError;
 use thiserror::Error;
 
 /// Why a text is no address, prefix, range, block or set.
@@ -26,4 +31,20 @@ pub enum FromStrError {
     /// A growth of memory was refused.
     #[error("out of memory")]
     Memory,
+}
+
+impl From<AddrParseError> for FromStrError {
+    ghost from_gives = { λ _ e. e ≡ Cause.Addr };
+
+    fn from(_: AddrParseError) -> Self {
+        FromStrError::Addr
+    }
+}
+
+impl From<AllocError> for FromStrError {
+    ghost from_gives = { λ _ e. e ≡ Cause.Memory };
+
+    fn from(_: AllocError) -> Self {
+        FromStrError::Memory
+    }
 }

@@ -1,12 +1,15 @@
 //! Addresses and prefixes written and read: `10.0.0.1`, `10.0.0.0/8`.
 
-ghost use Rattle.std.specs.Prelude.{◌≡◌, ◌≤◌, ◌*◌, ◌^◌, IfOk, MatchResult, Some};
+ghost use Rattle.std.specs.Prelude.{◌≡◌, ℕ, ◌≤◌, ◌*◌, ◌^◌, IfOk, MatchResult, Some};
 ghost use Rattle.std.specs.Fmt.{DisplaysOnOk};
 ghost use Rattle.std.specs.Net.Addr.{ipv4_bits, ipv6_bits, MatchIp};
 ghost use Rattle.std.specs.Net.Grammar.{IsIpText, IsIpv4Text, IsIpv6Text};
 ghost use Rattle.resources_ip_prefix.specs.Address.{bits_of};
 ghost use Rattle.resources_ip_prefix.specs.Family.{max_len_of};
 ghost use Rattle.resources_ip_prefix.specs.Prefix.{prefix_addr, prefix_len, run_of_prefix};
+ghost use Rattle.resources_ip_prefix.specs.ReadTexts.{IsAddrText, IsNoAddr, IsLengthText, ReadsPrefix};
+ghost use Rattle.resources_ip_prefix.specs.declared.addr.AddressFamily.TheVariants.{Ipv4, Ipv6};
+ghost use Rattle.resources_ip_prefix.specs.declared.error.FromStrError.TheVariants as Cause;
 ghost use Rattle.resources_ip_prefix.specs.Text.{v4_text, v6_text, slashed};
 ghost use Rattle.resources_ip_prefix.specs.Whole.{IsWhole};
 
@@ -34,6 +37,17 @@ impl Addr {
             (λ _. (ip : _) → ¬ (IsIpv6Text text.now ip)) }
     {
         Ok(Addr::from_v6(text.parse::<Ipv6Addr>()?))
+    }
+
+    /// The address of a text of the family.
+    pub fn from_family_str(family: AddressFamily, text: &str) -> Result<Self, FromStrError>
+        ensures { MatchResult result (λ a. IsAddrText family text.now (bits_of a))
+            (λ e. (e ≡ Cause.Addr) × IsNoAddr family text.now) }
+    {
+        match family {
+            AddressFamily::Ipv4 => Ok(Addr::from_v4_str(text)?),
+            AddressFamily::Ipv6 => Ok(Addr::from_v6_str(text)?),
+        }
     }
 
     /// Writes the first 32 bits as an IPv4 address.
@@ -71,25 +85,36 @@ impl FromStr for Addr {
 }
 
 impl Prefix {
-    /// The prefix of a text `10.0.0.0/8`; host bits are cleared.
+    /// The prefix of a text `10.0.0.0/8`; host bits are cleared. The first failing test decides, as of
+    /// `from_family_str`.
     pub fn from_v4_str(text: &str) -> Result<Self, FromStrError>
         ensures len { IfOk result (λ p. prefix_len p ≤ 32) }
         ensures whole { IfOk result (λ p. IsWhole (run_of_prefix p)) }
+        ensures reads { ReadsPrefix Ipv4 text.now result }
     {
-        let Some((addr, len)) = text.split_once('/') else {
-            return Err(FromStrError::MissingSeparator);
-        };
-        let addr = Addr::from_v4_str(addr).map_err(|_| FromStrError::Addr)?;
-        Ok(Prefix::new(addr, length_of(AddressFamily::Ipv4, len)?))
+        Prefix::from_family_str(AddressFamily::Ipv4, text)
     }
 
-    /// The prefix of a text `2001:db8::/32`; host bits are cleared.
-    pub fn from_v6_str(text: &str) -> Result<Self, FromStrError> {
-        let Some((addr, len)) = text.split_once('/') else {
+    /// The prefix of a text `2001:db8::/32`; host bits are cleared. The first failing test decides, as of
+    /// `from_family_str`.
+    pub fn from_v6_str(text: &str) -> Result<Self, FromStrError>
+        ensures { ReadsPrefix Ipv6 text.now result }
+    {
+        Prefix::from_family_str(AddressFamily::Ipv6, text)
+    }
+
+    /// The prefix of an address of the family, a slash and a length; host bits are cleared. The first failing test
+    /// decides: `MissingSeparator` where there is no slash, `Addr`, `PrefixLen`.
+    pub fn from_family_str(family: AddressFamily, text: &str) -> Result<Self, FromStrError>
+        ensures len { IfOk result (λ p. prefix_len p ≤ max_len_of family) }
+        ensures reads { ReadsPrefix family text.now result }
+    {
+        let Some((address, digits)) = text.split_once('/') else {
             return Err(FromStrError::MissingSeparator);
         };
-        let addr = Addr::from_v6_str(addr).map_err(|_| FromStrError::Addr)?;
-        Ok(Prefix::new(addr, length_of(AddressFamily::Ipv6, len)?))
+        let addr = Addr::from_family_str(family, address)?;
+        let len = length_of(family, digits)?;
+        Ok(Prefix::new(addr, len))
     }
 
     /// Writes the IPv4 prefix.
@@ -110,11 +135,19 @@ impl Prefix {
 }
 
 // The length of a prefix, in decimal digits; zeros or one plus may stand in front.
-fn length_of(family: AddressFamily, text: &str) -> Result<u8, FromStrError>
-    ensures { IfOk result (λ len. len ≤ max_len_of family) }
+fn length_of(family: AddressFamily, digits: &str) -> Result<u8, FromStrError>
+    ensures read { MatchResult result (IsLengthText family digits.now)
+        (λ e. (e ≡ Cause.PrefixLen) × ((len : ℕ) → ¬ (IsLengthText family digits.now len))) }
+    ensures short { IfOk result (λ len. len ≤ 128) }
 {
-    match text.parse::<u8>() {
-        Ok(len) if len <= family.max_addr_len() => Ok(len),
-        _ => Err(FromStrError::PrefixLen),
+    match digits.parse::<u8>() {
+        Ok(len) => {
+            if len <= family.max_addr_len() {
+                Ok(len)
+            } else {
+                Err(FromStrError::PrefixLen)
+            }
+        }
+        Err(_) => Err(FromStrError::PrefixLen),
     }
 }
