@@ -4,8 +4,8 @@
 //! [`EncodeRoa`] and [`EncodeManifest`] give contents what the codec writes; their `to_octets` is the DER that a signed
 //! object holds, and is read again as the same content.
 //!
-//! What differs from the Rust crate: these are calls of traits; what is refused is told by an error, where the Rust crate
-//! panics.
+//! What differs from the Rust crate: these are calls of traits; what is refused is answered with an error, where the
+//! Rust crate panics.
 #![tactic(auto)]
 
 pub mod address;
