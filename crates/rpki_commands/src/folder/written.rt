@@ -1,4 +1,4 @@
-//! The bundle that a folder tells, written.
+//! The bundle that a folder gives, written.
 
 ghost use Rattle.std.specs.Prelude.{◌≡◌, ◌<◌, ◌-◌, ◌^◌, IfOk, IfErr, OnOk, MatchResult};
 ghost use Rattle.rpki_commands.specs.rpki_bundle.Errors.{OnNotABundle};
@@ -37,7 +37,7 @@ pub fn text_of(alloc: Global, contents: Contents) -> Result<Vec<u8>, BundleError
     }
 }
 
-/// Reads a folder, and writes the bundle that it tells. Nothing is written before all was read.
+/// Reads a folder, and writes the bundle that it gives. Nothing is written before all was read.
 pub fn write_bundle<R: Files + AllocGlobal + Clone + Drop, W: Write>(
     rt: &R,
     alloc: Global,
