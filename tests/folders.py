@@ -5,6 +5,7 @@ Usage: folders.py PROGRAM
 """
 
 import os
+import resource
 import socket
 import subprocess
 import sys
@@ -393,6 +394,35 @@ def too_many():
         f.fails(READ_FAULT)
 
 
+def sparse(f, name, octets):
+    """A file of so many zeros, which takes no room on the disk."""
+    f.put(name)
+    os.truncate(f.at(name), octets)
+
+
+def too_much():
+    """More octets than a bundle can hold: they are read to their end, and not kept."""
+    def folder(f):
+        for number in range(5):
+            sparse(f, f"rsync/a/m/{number}", 2**31)
+
+    with Folder("five files of 2 GiB") as f:
+        folder(f)
+        f.fails(NOT_A_BUNDLE)
+        # What is kept is what a bundle can hold, and what the program takes by itself.
+        peak = resource.getrusage(resource.RUSAGE_CHILDREN).ru_maxrss
+        expect("five files of 2 GiB, their memory", peak < 2**22 + 2**18, peak)
+    with Folder("five files of 2 GiB and a fault") as f:
+        folder(f)
+        os.makedirs(f.at("https/a"))
+        os.symlink(b"nothing", f.at("https/a/x"))
+        f.fails(READ_FAULT)
+    for name in ("moment", "depth", "verdicts", "tals/x.tal", "rsync/a/m/x"):
+        with Folder(f"{name} of 4 GiB") as f:
+            sparse(f, name, 2**32)
+            f.fails(NOT_A_BUNDLE)
+
+
 def faults_of_writing():
     with Folder("a full device") as f:
         with open("/dev/full", "wb") as full:
@@ -412,7 +442,7 @@ def main():
     if len(sys.argv) != 2:
         sys.exit(__doc__)
     program = os.path.abspath(sys.argv[1])
-    for part in (plain, many, one_line, verdict_lines, no_bundles, skipped_locators, read_faults, links, deep, too_many, faults_of_writing, arguments):
+    for part in (plain, many, one_line, verdict_lines, no_bundles, skipped_locators, read_faults, links, deep, too_many, too_much, faults_of_writing, arguments):
         part()
     skipped = f", {counts['skipped']} skipped, as root reads all" if counts["skipped"] else ""
     print(f"{counts['run'] - len(failures)} passed, {len(failures)} failed{skipped}")

@@ -610,6 +610,13 @@ def spelled_lines(q):
         f.gives(NO_BUNDLE)
     f.put("moment", b"20240229235959Z\n")
     f.gives(bundle(moment=b"20240229235959Z"))
+    # Good in front, and too long, whether or not all of it is kept.
+    for name, good in (("moment", MOMENT), ("depth", b"32")):
+        for more in ("0a*60", "0d0a+00*49", "20*65535", "0a*65535+0a*9"):
+            q.ask("done", "put", f"{f.name}/{name}", f"{good.hex()}+{more}")
+            f.gives(NO_BUNDLE)
+        f.put(name, good)
+        f.gives(EMPTY)
     spelled_verdicts(q)
 
 

@@ -13,7 +13,7 @@ use Rattle.certs_built.specs.certs_signed.Signed.{SignedDataValue, signed, signe
 use Rattle.certs_built.specs.certs_specs.Cert.{CertValue, TbsValue}
 use Rattle.certs_built.specs.resources_ip.Written.{FitsChoice}
 use Rattle.certs_built.specs.resources_ip.resources_ip_prefix.declared.addr.AddressFamily.TheVariants.{Ipv4, Ipv6}
-use Rattle.certs_built.specs.certs_specs.CertText.{CertText, IsTbs}
+use Rattle.certs_built.specs.certs_specs.CertText.{CertText, IsTbs, SpellsCert}
 use Rattle.certs_built.specs.resources_as.Written.{HasMaximal}
 use Rattle.certs_built.specs.resources_chain.declared.choice.ResourcesChoice.TheVariants.{Missing}
 use Rattle.resources_ip.specs.WholeSets.{ListsWhole}
@@ -81,6 +81,10 @@ as_read s c = record {
 -- What is written of a certificate that is built is read again as this certificate.
 abbrev pub BuiltIsRead : Type 0
 BuiltIsRead = (s : SignedDataValue) (c : TbsValue) (text : List ℕ) → IsLawful c → IsReadable c → IsBuilt s c text → CertText text (as_read s c)
+
+-- It spells this certificate, and nothing stands after it.
+abbrev pub BuiltIsSpelled : Type 0
+BuiltIsSpelled = (s : SignedDataValue) (c : TbsValue) (text : List ℕ) → IsLawful c → IsReadable c → IsBuilt s c text → SpellsCert Der text (as_read s c)
 
 -- It is the certificate that was built, where all bits of the signature are used, as of each that is made of octets.
 abbrev pub ReadIsBuilt : Type 0

@@ -1,6 +1,6 @@
 //! Laws of certificates that are built: the contracts of functions that do nothing.
 
-ghost use Rattle.certs_again.specs.Laws.{BuiltIsRead, FieldsAreRead};
+ghost use Rattle.certs_again.specs.Laws.{BuiltIsRead, BuiltIsSpelled, FieldsAreRead};
 ghost use Rattle.certs_again.specs.Laws.{OctetsAreOneCert, ReadIsBuilt, ReadIsReadable};
 
 use certs_specs::laws::cert_is_spelled;
@@ -13,6 +13,7 @@ use resources_ip::laws::{choices_that_are_read_fit, families_that_are_read_fit};
 pub fn what_is_built_is_read()
     ensures fields { FieldsAreRead }
     ensures cert { BuiltIsRead }
+    ensures spelled { BuiltIsSpelled }
     ensures same { ReadIsBuilt }
 {
     cert_is_spelled();

@@ -1,5 +1,5 @@
 -- What is written of signed attributes is read again.
-use Rattle.std.proofs.Common.{◌≡◌, ◌≤◌, ◌+◌, ◌^◌, ◌<◌, ℕ, List, [], ◌∷◌, ◌++◌, length, Some, None, Result, Ok, Err, IfOk, inl, inr, refl, sym, ap, ◌∙◌, subst, arith, append-nil}
+use Rattle.std.proofs.Common.{◌≡◌, ℕ, List, [], ◌∷◌, ◌++◌, Result, Ok, Err, IfOk, inl, inr, refl, sym, ap, ◌∙◌, subst, arith, append-nil}
 use Rattle.objects_frame.specs.bcder_tree.declared.mode.Mode.TheVariants.{Der}
 use Rattle.objects_frame.specs.bcder_tree.Tags.{universal}
 use Rattle.objects_frame.specs.bcder_tree.Tree.{Tree, Trees, constructed, more, none, primitive}
@@ -8,7 +8,7 @@ use Rattle.objects_frame.specs.bcder_content.Kept.{CapturedValue}
 use Rattle.objects_frame.specs.bcder_content.Texts.{InOrder, SpellsOf}
 use Rattle.objects_frame.specs.bcder_oid.Identifiers.{IsIdentifier}
 use Rattle.objects_frame.specs.bcder_values.Forms.{Alone}
-use Rattle.objects_frame.specs.bcder_written.Encoded.{SpellsSome, joined}
+use Rattle.objects_frame.specs.bcder_written.Encoded.{joined}
 use Rattle.objects_frame.specs.bcder.Kinds.{octets, oid}
 use Rattle.objects_forms.proofs.of_certs_time.Meanings.{written_time}
 use Rattle.objects_frame.specs.objects_forms.Identifiers as id

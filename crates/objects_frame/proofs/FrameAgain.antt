@@ -1,15 +1,13 @@
 -- What is written of a signed object is read again, where its certificate and its attributes are.
-use Rattle.std.proofs.Common.{◌≡◌, ℕ, List, [], ◌++◌, Some, None, true, refl, sym, ap, ◌∙◌, subst, append-nil}
-use Rattle.objects_frame.specs.bcder_tree.declared.mode.Mode.{Mode}
+use Rattle.std.proofs.Common.{◌≡◌, ℕ, List, [], true, refl, sym, ap, ◌∙◌, subst, append-nil}
 use Rattle.objects_frame.specs.bcder_tree.declared.mode.Mode.TheVariants.{Der}
 use Rattle.objects_frame.specs.bcder_tree.Tags.{TagValue, context, universal}
 use Rattle.objects_frame.specs.bcder_tree.Tree.{Tree, Trees, more, none, primitive}
 use Rattle.objects_frame.specs.bcder_tree.Strings.{IsOctetString}
 use Rattle.objects_frame.specs.bcder_content.Grammar.{End, Inside, OctetsOf, Then}
 use Rattle.objects_frame.specs.bcder_content.Kept.{CapturedValue}
-use Rattle.objects_frame.specs.bcder_content.Texts.{InFront, InOrder, Joins, NoOctets, SpellsOf, WithOctets, Wraps}
+use Rattle.objects_frame.specs.bcder_content.Texts.{InOrder, Joins, NoOctets, SpellsOf, WithOctets, Wraps}
 use Rattle.objects_frame.specs.bcder_oid.Identifiers.{IsIdentifier, IsOid}
-use Rattle.objects_frame.specs.bcder_values.Captures.{CapturedText}
 use Rattle.objects_frame.specs.bcder_values.Forms.{Alone}
 use Rattle.objects_frame.specs.bcder_written.Encoded.{WritesBoth, WritesWrapped}
 use Rattle.objects_frame.specs.bcder.Kinds.{octets, octets_at, oid}
@@ -18,7 +16,7 @@ use Rattle.objects_frame.specs.certs_specs.Cert.{CertValue}
 use Rattle.objects_frame.specs.certs_specs.CertText.{SpellsCert}
 use Rattle.objects_frame.specs.certs_basics.Basics.{IsTwentyLong}
 use Rattle.objects_frame.specs.objects_forms.Identifiers as id
-use Rattle.objects_frame.specs.objects_forms.ObjectText.{AreDigestAlgorithms, IsContentInfo, IsSid, IsThree, Object, ObjectText, SpellsContentInfo, SpellsObject, SpellsSignedData, SpellsSigner}
+use Rattle.objects_frame.specs.objects_forms.ObjectText.{AreDigestAlgorithms, IsContentInfo, IsSid, IsThree, ObjectText, SpellsContentInfo, SpellsSignedData, SpellsSigner}
 use Rattle.objects_frame.specs.objects_forms.ObjectText.{SignedFields as Signed, SignerFields as Signs, object_of}
 use Rattle.objects_frame.specs.objects_forms.SignedAttributes.{AreAttributes, AttributesValue}
 use Rattle.certs_written.specs.Fields.{version}

@@ -3,3 +3,4 @@ pub mod Sets
 pub mod Again
 pub mod Refusing
 pub mod FrameAgain
+pub mod Messages

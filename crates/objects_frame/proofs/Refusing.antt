@@ -1,9 +1,7 @@
 -- Why signed attributes aren't written.
-use Rattle.std.proofs.Common.{◌≡◌, ◌≤◌, ◌+◌, ◌^◌, ◌<◌, ℕ, List, ◌++◌, length, Result, Ok, Err, IfErr, sym, ap, ◌∙◌, subst, arith}
+use Rattle.std.proofs.Common.{◌≡◌, ◌≤◌, ◌+◌, ℕ, List, length, Result, Ok, Err, IfErr, sym, ◌∙◌, subst, arith}
 use Rattle.std.specs.Result.{IsErr, IsErrAnd}
 use Rattle.objects_frame.specs.bcder_tree.declared.mode.Mode.TheVariants.{Der}
-use Rattle.objects_frame.specs.bcder_tree.Tree.{Trees}
-use Rattle.objects_frame.specs.bcder_written.Encoded.{SpellsSome}
 use Rattle.objects_frame.specs.bcder_written.declared.error.EncodeError.{EncodeError}
 use Rattle.objects_frame.specs.bcder_written.declared.error.EncodeError.TheVariants as errors
 use Rattle.objects_frame.specs.bcder_values.Gathered.{ExtendRefused}

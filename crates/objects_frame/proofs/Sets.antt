@@ -1,8 +1,6 @@
 -- What is written of captured values, one after the other and in a SET.
-use Rattle.std.proofs.Common.{◌≡◌, ◌+◌, ◌<◌, ◌^◌, ◌⊎◌, ℕ, List, ◌∷◌, ◌++◌, length, length-append, Result, Ok, Err, IfOk, IfErr, inl, inr, refl, sym, ap, ◌∙◌, subst, arith, append_assoc}
-use Rattle.objects_frame.specs.bcder_tree.declared.mode.Mode.{Mode}
+use Rattle.std.proofs.Common.{◌≡◌, ◌+◌, ℕ, List, ◌++◌, length, length-append, Result, Ok, Err, IfOk, IfErr, inl, inr, refl, ap, ◌∙◌, subst, arith}
 use Rattle.objects_frame.specs.bcder_tree.declared.mode.Mode.TheVariants.{Der}
-use Rattle.objects_frame.specs.bcder_tree.Octets.{IsLength}
 use Rattle.objects_frame.specs.bcder_tree.Tags.{universal}
 use Rattle.objects_frame.specs.bcder_tree.Tree.{IsConstructed, Trees, definite, indefinite}
 use Rattle.objects_frame.specs.bcder_content.Kept.{CapturedValue, SpellsValues}
@@ -13,7 +11,7 @@ use Rattle.certs_key.proofs.of_bcder_tree.Fronts.{one_octet_header}
 use Rattle.objects_frame.specs.bcder_values.Captures.{CapturedText, CapturedTrees}
 use Rattle.objects_frame.specs.bcder_values.Gathered.{ExtendRefused}
 use Rattle.objects_frame.specs.Attributes.{IsMessage}
-use Rattle.objects_frame.specs.Orders.{AreThese, SetRefused, SetText}
+use Rattle.objects_frame.specs.Orders.{AreThese, SetRefused}
 
 mode_of : {c d : CapturedValue} → c ≡ d → c.mode ≡ d.mode
 mode_of e = ap (λ (z : CapturedValue). z.mode) e

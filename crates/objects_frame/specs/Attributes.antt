@@ -60,3 +60,10 @@ pub record IsMessage (attributes message : List ℕ) : Type 0 where
   pub size : List ℕ
   pub size_is : IsLength Der size (length attributes)
   pub whole : message ≡ 49 ∷ (size ++ attributes)
+
+-- Why attributes in DER have no message: there is none whose octets can be counted, or no memory.
+abbrev pub MessageRefused : List ℕ → EncodeError → Type 0
+MessageRefused attributes errors.CerUnsupported = ⊥
+MessageRefused attributes errors.TooLong = (message : List ℕ) → IsMessage attributes message → length message < 2 ^ 64 → ⊥
+MessageRefused attributes errors.Write = ⊥
+MessageRefused attributes errors.Memory = Unit {0}

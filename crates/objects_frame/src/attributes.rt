@@ -11,7 +11,8 @@ ghost use Rattle.objects_frame.specs.bcder_values.Wraps.{wrapped_one, wrapped_sp
 ghost use Rattle.objects_frame.specs.bcder_written.Encoded.{IsWrapped, WritesWrapped};
 ghost use Rattle.objects_frame.specs.bcder.Kinds.{octets as string, oid};
 ghost use Rattle.objects_frame.specs.objects_forms.SignedAttributes.{AreAttributes};
-ghost use Rattle.objects_frame.specs.Attributes.{IsMessage, IsRefused, WritesAttributes, attributes_of};
+ghost use Rattle.objects_frame.specs.Attributes.{IsMessage, IsRefused, MessageRefused};
+ghost use Rattle.objects_frame.specs.Attributes.{WritesAttributes, attributes_of};
 ghost use Rattle.objects_frame.specs.Attributes.{content_type as type_of, message_digest as digest_of};
 ghost use Rattle.objects_frame.specs.Attributes.{signing_time as time_of, to_sign};
 ghost use Rattle.objects_frame.specs.Orders.{SetRefused, SetText};
@@ -215,7 +216,9 @@ pub fn signed_message(alloc: Global, attributes: &Captured) -> Result<Captured, 
     requires { attributes.now.mode ≡ Der }
     ensures message { IfOk result (λ c. IsMessage attributes.now.octets c.octets) }
     ensures mode { IfOk result (λ c. c.mode ≡ Der) }
+    ensures refused { IfErr result (MessageRefused attributes.now.octets) }
 {
+    are_spelled(attributes);
     let value = SetOf(attributes);
     value.to_captured(alloc, Mode::Der)
 }

@@ -1,6 +1,7 @@
 //! The files of a manifest, written (RFC 9286 4.2).
 
 ghost use Rattle.std.specs.Prelude.{◌≡◌};
+ghost use Rattle.objects_written.specs.objects_forms.Manifests.{File};
 ghost use Rattle.objects_written.specs.Manifests.{file, file_hash, file_name, file_parts};
 
 use crate::lists::Lists;
@@ -94,7 +95,7 @@ impl<'a> Model for FileValue<'a> {
 }
 
 impl<'a> FileValue<'a> {
-    // What is written of a file.
+    // What is written of a listed file.
     fn of(file: &FileAndHash<'a>) -> FileValue<'a>
         ensures { result ≡ file.now }
     {
@@ -130,6 +131,24 @@ impl Values for FileValue<'_> {
     ghost spelled = { λ v. (file v).spelled };
 
     ghost one_text = { λ v. (file v).one_text };
+}
+
+/// Listed files that are written.
+pub trait EncodeFile {
+    // The file's name and its hash.
+    ghost listed: { Self → File };
+
+    /// What is written of the file.
+    fn encode_ref(&self) -> FileValue<'_>
+        ensures { result ≡ listed self.now };
+}
+
+impl EncodeFile for FileAndHash<'_> {
+    ghost listed = { λ f. f };
+
+    fn encode_ref(&self) -> FileValue<'_> {
+        FileValue::of(self)
+    }
 }
 
 /// The files that a manifest lists, in its order. Contracts see them.

@@ -1,8 +1,8 @@
 //! What is written of the contents of signed objects: route origin attestations (RFC 9582 4) and manifests
 //! (RFC 9286 4.2).
 //!
-//! [`EncodeRoa`] and [`EncodeManifest`] give contents what the codec writes; their `to_octets` is the DER that a signed
-//! object holds, and is read again as the same content.
+//! [`EncodeRoa`], [`EncodeManifest`] and [`EncodeFile`] give contents and listed files what the codec writes; the `to_octets`
+//! of the first two is the DER that a signed object holds, and is read again as the same content.
 //!
 //! What differs from the Rust crate: these are calls of traits; what is refused is answered with an error, where the
 //! Rust crate panics.
@@ -18,7 +18,7 @@ pub mod roa;
 
 pub use address::AddressValue;
 pub use family::FamilyValue;
-pub use file::FileValue;
+pub use file::{EncodeFile, FileValue};
 pub use lists::{Each, Lists};
 pub use manifest::{EncodeManifest, ManifestValue, has_file_names};
 pub use roa::{EncodeRoa, RoaValue, has_address};

@@ -18,25 +18,34 @@ pub record TellsText (c : Contents) (text : List ℕ) : Type 0 where
 abbrev pub TellsNoText : Contents → Type 0
 TellsNoText c = (text : List ℕ) → TellsText c text → ⊥
 
--- All of the text was written,
-pub record WritesText (before after : Option (List ℕ)) : Type 0 where
-  pub contents : Contents
+-- All of the text that the contents tell was written,
+pub record WritesContents (c : Contents) (before after : Option (List ℕ)) : Type 0 where
   pub text : List ℕ
-  pub told : TellsText contents text
+  pub told : TellsText c text
   pub written : Appends before after text
 
 -- or a front of it that lacks something.
-pub record StopsWriting (before after : Option (List ℕ)) : Type 0 where
-  pub contents : Contents
+pub record StopsWriting (c : Contents) (before after : Option (List ℕ)) : Type 0 where
   pub text : List ℕ
-  pub told : TellsText contents text
+  pub told : TellsText c text
   pub written : TakesSome before after text
 
--- What each fault says of what was read and of what was written.
+-- What each fault says of the contents and of what was written of them.
+abbrev pub ContentsFail : Contents → Fault → Option (List ℕ) → Option (List ℕ) → Type 0
+ContentsFail c faults.Read before after = ⊥
+ContentsFail c faults.NotABundle before after = Keeps before after × TellsNoText c
+ContentsFail c faults.Write before after = StopsWriting c before after
+ContentsFail c faults.Memory before after = Keeps before after
+
+-- All of the text of some contents was written: no clause can say which a folder on a disk has.
+abbrev pub WritesBundle : Option (List ℕ) → Option (List ℕ) → Type 0
+WritesBundle before after = (c : Contents) × WritesContents c before after
+
+-- What each fault says of what was written of a folder.
 abbrev pub BundleFails : Fault → Option (List ℕ) → Option (List ℕ) → Type 0
 BundleFails faults.Read before after = Keeps before after
-BundleFails faults.NotABundle before after = Keeps before after × ((c : Contents) × TellsNoText c)
-BundleFails faults.Write before after = StopsWriting before after
+BundleFails faults.NotABundle before after = Keeps before after
+BundleFails faults.Write before after = (c : Contents) × StopsWriting c before after
 BundleFails faults.Memory before after = Keeps before after
 
 -- The writer's count of failures rises by one exactly at `Write`.

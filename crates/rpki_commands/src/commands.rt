@@ -4,7 +4,7 @@ ghost use Rattle.std.specs.Prelude.{◌≡◌, ◌⊎◌, ◌<◌, ◌-◌, ◌^
 ghost use Rattle.rpki_validator.specs.Run.{Prints};
 ghost use Rattle.rpki_commands.specs.Checks.{EndsInFault};
 ghost use Rattle.rpki_digests.specs.Fips.{fips};
-ghost use Rattle.rpki_commands.specs.Texts.{WritesText, EndsWithFault};
+ghost use Rattle.rpki_commands.specs.Texts.{WritesBundle, EndsWithFault};
 
 use crate::folder::write_bundle;
 use rpki_digests::Fips;
@@ -64,7 +64,7 @@ pub fn bundle<R: Files + AllocGlobal + Clone + Drop, W: Write, F: Write>(
 
     ensures status { (result ≡ 0) ⊎ (result ≡ 1) }
     ensures done { result ≡ 0
-        → WritesText (W.contents writer.old.inner) (W.contents writer.new.inner) }
+        → WritesBundle (W.contents writer.old.inner) (W.contents writer.new.inner) }
     ensures done_count { result ≡ 0 → writer.new.failures ≡ writer.old.failures }
     ensures failed { result ≡ 1
         → EndsWithFault (W.contents writer.old.inner) (W.contents writer.new.inner)

@@ -10,7 +10,7 @@ mod written;
 use std::alloc::{AllocError, AllocFailed};
 use std::io::{self, ErrorKind};
 use thiserror::Error;
-pub use written::write_bundle;
+pub use written::{write_bundle, write_contents};
 
 /// Why a folder became no bundle.
 #[derive(Clone, Copy, Debug, PartialEq, Eq, Hash, Error)]

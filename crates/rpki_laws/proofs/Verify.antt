@@ -6,7 +6,7 @@ use Rattle.rpki_laws.specs.certs_specs.Verified.{HolderValue, held_by}
 use Rattle.rpki_laws.specs.rpki_readings.Certs.{Cert}
 use Rattle.rpki_rules.specs.Kinds.{Kind, Ipv4, Ipv6, As, claim}
 use Rattle.rpki_rules.specs.Chains.{Holds, Fits}
-use Rattle.rpki_rules.specs.Laws.{SignedIsVerified, IssuedIsVerified, AnchorIsVerified, AnchorHolds, IssuedHolds}
+use Rattle.rpki_rules.specs.Laws.{SignedIsVerified, IssuedIsVerified, AnchorIsVerified, AnchorHolds, IssuedHolds, ChainHolds}
 
 -- An identifier that is given is there.
 there : (c issuer : Cert) → c.tbs.authority_key_identifier ≡ Some issuer.tbs.subject_key_identifier → c.tbs.authority_key_identifier ≢ None
@@ -64,3 +64,7 @@ issued_holds w role a cs issuer c h same r = at
     at Ipv4 n = kept_as c.cert.tbs.v4 (held_by issuer Ipv4) (Holds a cs Ipv4) n (held_by h Ipv4 n) (same Ipv4 n) (r.holds.v4.same n)
     at Ipv6 n = kept_as c.cert.tbs.v6 (held_by issuer Ipv6) (Holds a cs Ipv6) n (held_by h Ipv6 n) (same Ipv6 n) (r.holds.v6.same n)
     at As n = kept_as c.cert.tbs.asn (held_by issuer As) (Holds a cs As) n (held_by h As n) (same As n) (r.holds.asn.same n)
+
+pub chain_holds : ChainHolds
+chain_holds w a [] h r = anchor_holds w a h r
+chain_holds w a (c ∷ cs) h r = issued_holds w r.1 a cs r.0 c h (chain_holds w a cs r.0 r.2) r.3

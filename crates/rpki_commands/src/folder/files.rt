@@ -1,6 +1,6 @@
 //! Single files and folders: what stands at a path, and a file's octets.
 
-ghost use Rattle.std.specs.Prelude.{◌≤◌, ◌^◌, length, IfOk};
+ghost use Rattle.std.specs.Prelude.{◌≤◌, length, IfOk};
 
 use crate::folder::ReadFault;
 use std::alloc::Global;
@@ -8,11 +8,8 @@ use std::fs;
 use std::io::{ErrorKind, Read};
 use std::rt::Files;
 
-// So many octets of a file are read at most.
-const MOST_OCTETS: usize = 4_294_967_296;
-
-// By how much a file's room grows at least, where the file is longer than the system said.
-const PIECE: usize = 4096;
+/// So many octets of a file are read at most.
+pub(crate) const MOST_OCTETS: usize = 4_294_967_296;
 
 /// What stands at a path. A link stands for what it leads to.
 #[derive(Clone, Copy, Debug, PartialEq, Eq)]
@@ -44,43 +41,44 @@ fn absent<R: Files>(rt: &R, path: &str) -> Result<Kind, ReadFault> {
     }
 }
 
-/// The octets of a file that may be missing.
+/// The first `most` octets of a file that may be missing.
 pub(crate) fn read_if_there<R: Files>(
     rt: &R,
     alloc: Global,
     path: &str,
+    most: usize,
+    buffer: &mut [u8],
 ) -> Result<Option<Vec<u8>>, ReadFault> {
     match kind_of(rt, path)? {
         Kind::Absent => Ok(None),
-        Kind::File(size) => Ok(Some(read_file(rt, alloc, path, size)?)),
+        Kind::File(size) => Ok(Some(read_file(rt, alloc, path, size, most, buffer)?)),
         Kind::Folder => Err(ReadFault::Read),
     }
 }
 
-/// The octets of a file, or its first 2^32. Its size as the system says it gives the room to begin with.
+/// The first `most` octets of a file. All of it is read, or its first 2^32 octets, so that a fault in what isn't kept
+/// shows too. Its size as the system says it gives the room to begin with.
 pub(crate) fn read_file<R: Files>(
     rt: &R,
     alloc: Global,
     path: &str,
     size: u64,
+    most: usize,
+    buffer: &mut [u8],
 ) -> Result<Vec<u8>, ReadFault>
-    ensures { IfOk result (λ octets. length octets.items ≤ 2 ^ 32) }
+    ensures { IfOk result (λ octets. length octets.items ≤ most) }
 {
     let mut file = fs::open(rt, path)?;
-    // One octet more, so that the end shows before the room is full.
-    let room = size.saturating_add(1).min(MOST_OCTETS as u64) as usize;
-    let mut octets = vec![in alloc; 0u8; room]?;
-    let mut filled = 0;
-    while filled < MOST_OCTETS {
-        if filled == octets.len() {
-            let more = filled.max(PIECE).min(MOST_OCTETS - filled);
-            octets.resize(filled + more, 0)?;
+    let mut octets = Vec::with_capacity(alloc, size.min(most as u64) as usize)?;
+    let mut unread = MOST_OCTETS;
+    while unread > 0 {
+        let count = file.read(buffer)?.min(unread);
+        if count == 0 {
+            break;
         }
-        match file.read(&mut octets[filled..])? {
-            0 => break,
-            count => filled += count,
-        }
+        unread -= count;
+        let kept = count.min(most - octets.len());
+        octets.extend_from_slice(&buffer[..kept])?;
     }
-    octets.truncate(filled);
     Ok(octets)
 }

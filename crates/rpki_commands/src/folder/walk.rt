@@ -1,9 +1,9 @@
 //! The reading of a folder, one open folder at a time.
 
-ghost use Rattle.std.specs.Prelude.{◌≡◌, ◌+◌, ◌≤◌, ◌++◌, ◌∷◌, codes, string_bytes, vec_len, IfOk, IfErr, OnOk, MatchOption, ◌≢◌, ℕ, List};
+ghost use Rattle.std.specs.Prelude.{◌≡◌, ◌↔◌, ◌+◌, ◌≤◌, ◌++◌, ◌∷◌, codes, length, string_bytes, vec_len, IsTrue, IfOk, IfErr, OnOk, MatchOption, ◌≢◌, ℕ, List};
 
 use crate::folder::ReadFault;
-use crate::folder::files::{Kind, kind_of, read_file, read_if_there};
+use crate::folder::files::{Kind, MOST_OCTETS, kind_of, read_file, read_if_there};
 use crate::folder::parts::Contents;
 use bytes::Bytes;
 use rpki_validator::{Locator, Object};
@@ -17,6 +17,15 @@ const MOST_LEVELS: u8 = 64;
 // How many entries all folders that are listed have.
 const MOST_ENTRIES: u32 = 1_000_000;
 
+// All files of a bundle have fewer octets together.
+const MOST_KEPT: usize = 4_294_967_296;
+
+// So many octets of `moment` and of `depth` are kept. Both have fewer; a longer text is none, cut or not.
+const MOST_LINE: usize = 64;
+
+// So many octets of a file are read at once.
+const PIECE: usize = 65_536;
+
 // A folder that is still to be listed.
 #[derive(Drop)]
 struct Pending {
@@ -26,12 +35,25 @@ struct Pending {
     level: u8,
 }
 
-// What was read so far of `rsync` and `https`.
+// What was read so far of `tals`, `rsync` and `https`.
 #[derive(Drop)]
 struct Walk {
     pending: Vec<Pending>,
+    locators: Vec<Locator>,
     objects: Vec<Object>,
     entries_left: u32,
+    // How many octets of files may still be kept.
+    octets_left: usize,
+    // What files are read through.
+    buffer: Vec<u8>,
+}
+
+// What was read of `moment`, `depth` and `verdicts`.
+#[derive(Drop)]
+struct Lines {
+    moment: Vec<u8>,
+    depth: Vec<u8>,
+    verdicts: Vec<u8>,
 }
 
 // The front, a slash and the name.
@@ -59,6 +81,91 @@ fn count_entry(entries_left: &mut u32) -> Result<(), ReadFault>
 }
 
 impl Walk {
+    // Nothing was read yet.
+    fn new(alloc: Global) -> Result<Walk, AllocError> {
+        Ok(Walk {
+            pending: Vec::new(alloc),
+            locators: Vec::new(alloc),
+            objects: Vec::new(alloc),
+            entries_left: MOST_ENTRIES,
+            octets_left: MOST_KEPT,
+            buffer: vec![in alloc; 0u8; PIECE]?,
+        })
+    }
+
+    // Whether the files have more octets than a bundle can hold.
+    fn is_full(&self) -> bool
+        ensures { IsTrue result ↔ (self.now.octets_left ≡ 0) }
+    {
+        self.octets_left == 0
+    }
+
+    // The octets of one more file. Where there are too many of all files, none of them stay.
+    fn octets_of<R: Files>(
+        &mut self,
+        rt: &R,
+        alloc: Global,
+        path: &str,
+        size: u64,
+    ) -> Result<Bytes, ReadFault>
+        ensures counted { IfOk result
+            (λ octets. self.new.octets_left + length octets ≡ self.old.octets_left) }
+        ensures entries { self.new.entries_left ≡ self.old.entries_left }
+        ensures pending { vec_len self.new.pending ≡ vec_len self.old.pending }
+    {
+        let octets = read_file(
+            rt,
+            alloc,
+            path,
+            size,
+            self.octets_left,
+            self.buffer.as_mut_slice(),
+        )?;
+        self.octets_left -= octets.len();
+        if self.is_full() {
+            self.locators.clear();
+            self.objects.clear();
+        }
+        Ok(Bytes::from_vec(octets)?)
+    }
+
+    // An object, unless there are too many octets.
+    fn take_object<R: Files>(
+        &mut self,
+        rt: &R,
+        alloc: Global,
+        path: &str,
+        uri: String,
+        size: u64,
+    ) -> Result<(), ReadFault>
+        ensures entries { self.new.entries_left ≡ self.old.entries_left }
+        ensures pending { vec_len self.new.pending ≡ vec_len self.old.pending }
+    {
+        let octets = self.octets_of(rt, alloc, path, size)?;
+        if !self.is_full() {
+            let uri = Bytes::from_string(uri)?;
+            self.objects.push(Object { uri, octets })?;
+        }
+        Ok(())
+    }
+
+    // A locator, unless there are too many octets.
+    fn take_locator<R: Files>(
+        &mut self,
+        rt: &R,
+        alloc: Global,
+        path: &str,
+        name: &str,
+        size: u64,
+    ) -> Result<(), ReadFault> {
+        let text = self.octets_of(rt, alloc, path, size)?;
+        if !self.is_full() {
+            let name = Bytes::copy_from_slice(alloc, name.as_bytes())?;
+            self.locators.push(Locator { name, text })?;
+        }
+        Ok(())
+    }
+
     // An entry of a folder: an object, or one more folder to list.
     fn take_entry<R: Files>(
         &mut self,
@@ -74,13 +181,7 @@ impl Walk {
     {
         count_entry(&mut self.entries_left)?;
         match kind_of(rt, path)? {
-            Kind::File(size) => {
-                let octets = read_file(rt, alloc, path, size)?;
-                self.objects.push(Object {
-                    uri: Bytes::from_string(uri)?,
-                    octets: Bytes::from_vec(octets)?,
-                })?;
-            }
+            Kind::File(size) => self.take_object(rt, alloc, path, uri, size)?,
             Kind::Folder if level < MOST_LEVELS => {
                 let path = String::from_str(alloc, path)?;
                 let level = level + 1;
@@ -134,36 +235,46 @@ impl Walk {
         }
         Ok(())
     }
-}
 
-// The locators of the files of `tals` whose names end in `.tal`; the count of entries goes on.
-fn read_locators<R: Files + AllocGlobal + Clone + Drop>(
-    rt: &R,
-    alloc: Global,
-    path: &str,
-    entries_left: &mut u32,
-) -> Result<Vec<Locator>, ReadFault> {
-    let mut locators = Vec::new(alloc);
-    match kind_of(rt, path)? {
-        Kind::Absent => return Ok(locators),
-        Kind::File(_) => return Err(ReadFault::Read),
-        Kind::Folder => {}
-    }
-    for entry in fs::read_dir(rt, path)? {
-        let entry = entry?;
-        count_entry(entries_left)?;
-        let path = entry.path();
-        match (kind_of(rt, path.as_str())?, locator_name(entry.file_name())) {
-            (Kind::Absent, _) => return Err(ReadFault::Read),
-            (Kind::File(size), Some(name)) => {
-                let name = Bytes::copy_from_slice(alloc, name.as_bytes())?;
-                let text = Bytes::from_vec(read_file(rt, alloc, path.as_str(), size)?)?;
-                locators.push(Locator { name, text })?;
-            }
-            _ => {}
+    // The locators of the files of `tals` whose names end in `.tal`, if it is there.
+    fn take_locators<R: Files + AllocGlobal + Clone + Drop>(
+        &mut self,
+        rt: &R,
+        alloc: Global,
+        path: &str,
+    ) -> Result<(), ReadFault> {
+        match kind_of(rt, path)? {
+            Kind::Absent => return Ok(()),
+            Kind::File(_) => return Err(ReadFault::Read),
+            Kind::Folder => {}
         }
+        for entry in fs::read_dir(rt, path)? {
+            let entry = entry?;
+            count_entry(&mut self.entries_left)?;
+            let path = entry.path();
+            match (kind_of(rt, path.as_str())?, locator_name(entry.file_name())) {
+                (Kind::Absent, _) => return Err(ReadFault::Read),
+                (Kind::File(size), Some(name)) => {
+                    self.take_locator(rt, alloc, path.as_str(), name, size)?
+                }
+                _ => {}
+            }
+        }
+        Ok(())
     }
-    Ok(locators)
+
+    // All that is below `tals`, `rsync` and `https`.
+    fn walk_all<R: Files + AllocGlobal + Clone + Drop>(
+        &mut self,
+        rt: &R,
+        alloc: Global,
+        folder: &str,
+    ) -> Result<(), ReadFault> {
+        let tals = joined(alloc, folder, "tals")?;
+        self.take_locators(rt, alloc, tals.as_str())?;
+        self.walk(rt, alloc, joined(alloc, folder, "rsync")?, "rsync:/")?;
+        self.walk(rt, alloc, joined(alloc, folder, "https")?, "https:/")
+    }
 }
 
 // The name of the locator that a file of this name holds.
@@ -173,45 +284,63 @@ fn locator_name(file: &str) -> Option<&str>
     file.strip_suffix(".tal")
 }
 
-// A file that has to be there.
-fn read_required<R: Files>(rt: &R, alloc: Global, path: &str) -> Result<Vec<u8>, ReadFault> {
-    match read_if_there(rt, alloc, path)? {
+// A file of one line, which has to be there.
+fn read_line<R: Files>(
+    rt: &R,
+    alloc: Global,
+    path: &str,
+    buffer: &mut [u8],
+) -> Result<Vec<u8>, ReadFault> {
+    match read_if_there(rt, alloc, path, MOST_LINE, buffer)? {
         Some(octets) => Ok(octets),
         None => Err(ReadFault::Read),
     }
 }
 
-/// All that a bundle is made of; what else lies in the folder is left alone.
+// The files of lines that stand in the folder itself.
+fn read_lines<R: Files>(
+    rt: &R,
+    alloc: Global,
+    folder: &str,
+    buffer: &mut [u8],
+) -> Result<Lines, ReadFault> {
+    let moment = joined(alloc, folder, "moment")?;
+    let moment = read_line(rt, alloc, moment.as_str(), buffer)?;
+    let depth = joined(alloc, folder, "depth")?;
+    let depth = read_line(rt, alloc, depth.as_str(), buffer)?;
+    let verdicts = joined(alloc, folder, "verdicts")?;
+    let verdicts = match read_if_there(rt, alloc, verdicts.as_str(), MOST_OCTETS, buffer)? {
+        Some(octets) => octets,
+        None => Vec::new(alloc),
+    };
+    Ok(Lines {
+        moment,
+        depth,
+        verdicts,
+    })
+}
+
+/// All that a bundle is made of, or none where the files have more octets than a bundle can hold. What else lies in
+/// the folder is left alone.
 pub fn read_folder<R: Files + AllocGlobal + Clone + Drop>(
     rt: &R,
     alloc: Global,
     folder: &str,
-) -> Result<Contents, ReadFault> {
+) -> Result<Option<Contents>, ReadFault> {
     if kind_of(rt, folder)? != Kind::Folder {
         return Err(ReadFault::Read);
     }
-    let moment = read_required(rt, alloc, joined(alloc, folder, "moment")?.as_str())?;
-    let depth = read_required(rt, alloc, joined(alloc, folder, "depth")?.as_str())?;
-    let verdicts = joined(alloc, folder, "verdicts")?;
-    let verdicts = match read_if_there(rt, alloc, verdicts.as_str())? {
-        Some(octets) => octets,
-        None => Vec::new(alloc),
-    };
-    let mut entries_left = MOST_ENTRIES;
-    let tals = joined(alloc, folder, "tals")?;
-    let locators = read_locators(rt, alloc, tals.as_str(), &mut entries_left)?;
-    let mut walk = Walk {
-        pending: Vec::new(alloc),
-        objects: Vec::new(alloc),
-        entries_left,
-    };
-    walk.walk(rt, alloc, joined(alloc, folder, "rsync")?, "rsync:/")?;
-    walk.walk(rt, alloc, joined(alloc, folder, "https")?, "https:/")?;
-    Ok(Contents {
-        moment,
-        depth,
-        verdicts,
-        locators,
+    let mut walk = Walk::new(alloc)?;
+    let lines = read_lines(rt, alloc, folder, walk.buffer.as_mut_slice())?;
+    walk.walk_all(rt, alloc, folder)?;
+    if walk.is_full() {
+        return Ok(None);
+    }
+    Ok(Some(Contents {
+        moment: lines.moment,
+        depth: lines.depth,
+        verdicts: lines.verdicts,
+        locators: walk.locators,
         objects: walk.objects,
-    })
+    }))
 }

@@ -1,8 +1,8 @@
-//! The bundle that a folder gives, written.
+//! The bundle that a folder tells, written.
 
 ghost use Rattle.std.specs.Prelude.{◌≡◌, ◌<◌, ◌-◌, ◌^◌, IfOk, IfErr, OnOk, MatchResult};
 ghost use Rattle.rpki_commands.specs.rpki_bundle.Errors.{OnNotABundle};
-ghost use Rattle.rpki_commands.specs.Texts.{TellsText, TellsNoText, WritesText, BundleFails, CountsFault};
+ghost use Rattle.rpki_commands.specs.Texts.{TellsText, TellsNoText, WritesContents, ContentsFail, WritesBundle, BundleFails, CountsFault};
 
 use crate::folder::parts::{Contents, parts_of};
 use crate::folder::walk::read_folder;
@@ -37,7 +37,33 @@ pub fn text_of(alloc: Global, contents: Contents) -> Result<Vec<u8>, BundleError
     }
 }
 
-/// Reads a folder, and writes the bundle that it gives. Nothing is written before all was read.
+/// Writes the bundle that the contents of a folder tell. Nothing is written before all of it is made.
+pub fn write_contents<W: Write>(
+    alloc: Global,
+    contents: Contents,
+    writer: &mut Counted<W>,
+) -> Result<(), Fault>
+    requires few_writes { writer.old.failures < 2 ^ 64 - 1 }
+
+    ensures ok { OnOk result
+        (WritesContents contents (W.contents writer.old.inner) (W.contents writer.new.inner)) }
+    ensures refused { IfErr result (λ e. ContentsFail contents e
+        (W.contents writer.old.inner) (W.contents writer.new.inner)) }
+    ensures count { MatchResult result (λ _. writer.new.failures ≡ writer.old.failures)
+        (λ e. CountsFault e writer.old.failures writer.new.failures) }
+{
+    let text = match text_of(alloc, contents) {
+        Ok(text) => text,
+        Err(BundleError::NotABundle) => return Err(Fault::NotABundle),
+        Err(BundleError::Memory) => return Err(Fault::Memory),
+    };
+    match write_all(writer, text.as_slice()) {
+        Ok(()) => Ok(()),
+        Err(_) => Err(Fault::Write),
+    }
+}
+
+/// Reads a folder, and writes the bundle that it tells. Nothing is written before all was read.
 pub fn write_bundle<R: Files + AllocGlobal + Clone + Drop, W: Write>(
     rt: &R,
     alloc: Global,
@@ -47,24 +73,16 @@ pub fn write_bundle<R: Files + AllocGlobal + Clone + Drop, W: Write>(
     requires few_writes { writer.old.failures < 2 ^ 64 - 1 }
 
     ensures ok { OnOk result
-        (WritesText (W.contents writer.old.inner) (W.contents writer.new.inner)) }
+        (WritesBundle (W.contents writer.old.inner) (W.contents writer.new.inner)) }
     ensures refused { IfErr result
         (λ e. BundleFails e (W.contents writer.old.inner) (W.contents writer.new.inner)) }
     ensures count { MatchResult result (λ _. writer.new.failures ≡ writer.old.failures)
         (λ e. CountsFault e writer.old.failures writer.new.failures) }
 {
-    let contents = match read_folder(rt, alloc, folder) {
-        Ok(contents) => contents,
-        Err(ReadFault::Read) => return Err(Fault::Read),
-        Err(ReadFault::Memory) => return Err(Fault::Memory),
-    };
-    let text = match text_of(alloc, contents) {
-        Ok(text) => text,
-        Err(BundleError::NotABundle) => return Err(Fault::NotABundle),
-        Err(BundleError::Memory) => return Err(Fault::Memory),
-    };
-    match write_all(writer, text.as_slice()) {
-        Ok(()) => Ok(()),
-        Err(_) => Err(Fault::Write),
+    match read_folder(rt, alloc, folder) {
+        Ok(Some(contents)) => write_contents(alloc, contents, writer),
+        Ok(None) => Err(Fault::NotABundle),
+        Err(ReadFault::Read) => Err(Fault::Read),
+        Err(ReadFault::Memory) => Err(Fault::Memory),
     }
 }

@@ -1,4 +1,4 @@
-use Rattle.certs_again.proofs.Certs.{built_is_read, read_is_built}
+use Rattle.certs_again.proofs.Certs.{built_is_read, built_is_spelled, read_is_built}
 use Rattle.certs_again.proofs.Whole.{fields_are_read}
 use Rattle.certs_again.proofs.laws.what_is_built_is_read.Goals as goal
 
@@ -7,6 +7,9 @@ returns-clause-fields c = fields_are_read
 
 pub returns-clause-cert : goal.returns-clause-cert
 returns-clause-cert c = built_is_read c.cert_is_spelled.ensures
+
+pub returns-clause-spelled : goal.returns-clause-spelled
+returns-clause-spelled c = built_is_spelled c.cert_is_spelled.ensures
 
 pub returns-clause-same : goal.returns-clause-same
 returns-clause-same c = read_is_built

@@ -1,8 +1,8 @@
-use Rattle.std.proofs.Common.{◌≤◌, ◌-◌, vec_len}
+use Rattle.std.proofs.Common.{◌≤◌, vec_len}
 use Rattle.rpki_commands.proofs.folder.files.read_file.Given as goal
 
-abbrev pub invariant-loop-filled : goal.invariant-loop-filled
-invariant-loop-filled g l = (l.filled ≤ vec_len l.octets) × (vec_len l.octets ≤ 4294967296)
+abbrev pub invariant-loop-unread : goal.invariant-loop-unread
+invariant-loop-unread g l = vec_len l.octets ≤ l.fn.most
 
-abbrev pub decreases-loop-filled : goal.decreases-loop-filled
-decreases-loop-filled g l = 4294967296 - l.filled
+abbrev pub decreases-loop-unread : goal.decreases-loop-unread
+decreases-loop-unread g l = l.unread

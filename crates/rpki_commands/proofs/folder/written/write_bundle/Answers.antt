@@ -1,32 +1,26 @@
-use Rattle.std.proofs.Common.{subst, refl, ℕ, List, Option, Some, None}
-use Rattle.std.specs.Io.KnownBytes.{Appends, Keeps}
-use Rattle.rpki_validator.specs.Streams.{TakesSome}
-use Rattle.rpki_commands.specs.rpki_bundle.Errors.{OnNotABundle}
-use Rattle.rpki_commands.specs.Texts.{TellsNoText}
+use Rattle.std.proofs.Common.{ℕ, List, Option, Result, Ok, Err, OnOk, IfErr}
+use Rattle.rpki_commands.specs.Texts.{WritesContents, ContentsFail, WritesBundle, BundleFails}
+use Rattle.rpki_commands.specs.declared.folder.Fault.{Fault}
+use Rattle.rpki_commands.specs.declared.folder.Fault.TheVariants as faults
+use Rattle.rpki_commands.specs.declared.folder.parts.Contents.{Contents}
 use Rattle.rpki_commands.proofs.folder.written.write_bundle.Goals as goal
 
-keeps : (w : Option (List ℕ)) → Keeps w w
-keeps None = tt
-keeps (Some xs) = refl
+written : {T E : Type 0} (c : Contents) (r : Result T E) (before after : Option (List ℕ)) → OnOk r (WritesContents c before after) → OnOk r (WritesBundle before after)
+written c (Ok x) before after p = (c, p)
+written c (Err e) before after p = p
 
-pub returns-in-Err-NotABundle-clause-refused : goal.returns-in-Err-NotABundle-clause-refused
-returns-in-Err-NotABundle-clause-refused g c = (
-  keeps _,
-  (c.in-Ok.contents, subst (λ e. OnNotABundle e (TellsNoText c.in-Ok.contents)) c.in-Err-NotABundle.field-0-is c.in-Err-NotABundle.ensures.refused),
-)
+fails : (c : Contents) (e : Fault) (before after : Option (List ℕ)) → ContentsFail c e before after → BundleFails e before after
+fails c faults.Read before after p = absurd p
+fails c faults.NotABundle before after p = p.0
+fails c faults.Write before after p = (c, p)
+fails c faults.Memory before after p = p
 
-pub returns-in-Ok-write_all-clause-ok : goal.returns-in-Ok-write_all-clause-ok
-returns-in-Ok-write_all-clause-ok g c = record {
-  contents = c.in-Ok.contents;
-  text = c.in-Ok-text_of.text.items;
-  told = c.in-Ok-text_of.ensures.ok;
-  written = subst (Appends _ _) c.as_slice.ensures.value c.in-Ok-write_all.ensures.ok;
-}
+fails_so : {T : Type 0} (c : Contents) (r : Result T Fault) (before after : Option (List ℕ)) → IfErr r (λ e. ContentsFail c e before after) → IfErr r (λ e. BundleFails e before after)
+fails_so c (Ok x) before after p = tt
+fails_so c (Err e) before after p = fails c e before after p
 
-pub returns-clause-refused : goal.returns-clause-refused
-returns-clause-refused g c = record {
-  contents = c.in-Ok.contents;
-  text = c.in-Ok-text_of.text.items;
-  told = c.in-Ok-text_of.ensures.ok;
-  written = subst (TakesSome _ _) c.as_slice.ensures.value c.in-Err.ensures.err;
-}
+pub returns-in-Ok-Some-clause-ok : goal.returns-in-Ok-Some-clause-ok
+returns-in-Ok-Some-clause-ok g c = written c.in-Ok-Some.contents _ _ _ c.write_contents.ensures.ok
+
+pub returns-in-Ok-Some-clause-refused : goal.returns-in-Ok-Some-clause-refused
+returns-in-Ok-Some-clause-refused g c = fails_so c.in-Ok-Some.contents _ _ _ c.write_contents.ensures.refused

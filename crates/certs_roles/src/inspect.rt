@@ -1,0 +1,37 @@
+//! Questions about a certificate's form: the role, whether names are strict, and octets.
+
+use crate::answers::{Answer, cert_of, word_at};
+use certs_verify::{Cert, Inspect, InspectionError};
+use rpki_digests::Fips;
+use std::alloc::Global;
+
+// What the inspection of a role says.
+fn inspected(cert: &Cert, role: &str, strict: bool) -> Result<(), InspectionError> {
+    match role {
+        "ta" => cert.inspect_ta(strict, &Fips),
+        "ca" => cert.inspect_ca(strict, &Fips),
+        "ee" => cert.inspect_ee(strict, &Fips),
+        "detached" => cert.inspect_detached_ee(strict, &Fips),
+        _ => cert.inspect_router(strict, &Fips),
+    }
+}
+
+// `ok`, or the first test that fails.
+fn told(answer: &mut Answer, cert: &Cert, role: &str, strict: bool) {
+    match inspected(cert, role, strict) {
+        Ok(()) => answer.word("ok"),
+        Err(test) => answer.say(&format_args!("{test:?}")),
+    }
+}
+
+/// The answer to a question about a form.
+pub fn answer(alloc: Global, answer: &mut Answer, words: &[&str]) {
+    let strict = word_at(words, 1) == "strict";
+    match cert_of(alloc, word_at(words, 2)) {
+        Some(cert) => {
+            told(answer, &cert, word_at(words, 0), strict);
+            drop(cert);
+        }
+        None => answer.word("no certificate"),
+    }
+}

@@ -1,0 +1,125 @@
+//! Questions about certificates below a trust anchor: how they are handed over, the call, whether names are strict, the
+//! moment, whether signatures are good, and octets of the anchor and of the certificate.
+
+use crate::anchors::{accepted, anchor};
+use crate::answers::{Answer, cert_of, word_at};
+use crate::lent;
+use crate::terms::{Judge, Terms};
+use certs_verify::{
+    Cert, Refused, ResourceCert, Validate, ValidationError, VerificationError, Verifier, Verify,
+};
+use rpki_digests::Fips;
+use std::alloc::Global;
+
+// The certificate, handed over to a call that inspects at a moment.
+fn validated_at(
+    alloc: Global,
+    call: &str,
+    cert: Cert,
+    issuer: &ResourceCert,
+    terms: &Terms,
+    judge: &mut Judge,
+) -> Result<ResourceCert, Refused<ValidationError>> {
+    let (strict, now) = (terms.strict, terms.now);
+    match call {
+        "validate_ca_at" => cert.validate_ca_at(alloc, issuer, strict, now, &Fips, judge),
+        "validate_ee_at" => cert.validate_ee_at(alloc, issuer, strict, now, &Fips, judge),
+        _ => cert.validate_detached_ee_at(alloc, issuer, strict, now, &Fips, judge),
+    }
+}
+
+// The certificate, handed over to a call that inspects by a clock.
+fn validated(
+    alloc: Global,
+    call: &str,
+    cert: Cert,
+    issuer: &ResourceCert,
+    terms: &Terms,
+    judge: &mut Judge,
+) -> Result<ResourceCert, Refused<ValidationError>> {
+    let clock = terms.clock();
+    let strict = terms.strict;
+    match call {
+        "validate_ca" => cert.validate_ca(alloc, issuer, strict, &clock, &Fips, judge),
+        "validate_ee" => cert.validate_ee(alloc, issuer, strict, &clock, &Fips, judge),
+        _ => cert.validate_detached_ee(alloc, issuer, strict, &clock, &Fips, judge),
+    }
+}
+
+// The certificate, handed over to a call that doesn't inspect.
+fn verified(
+    alloc: Global,
+    call: &str,
+    cert: Cert,
+    issuer: &ResourceCert,
+    terms: &Terms,
+    judge: &mut Judge,
+) -> Result<ResourceCert, Refused<VerificationError>> {
+    let (strict, now) = (terms.strict, terms.now);
+    match call {
+        "verify_ca_at" => cert.verify_ca_at(alloc, issuer, strict, now, judge),
+        "verify_ee_at" => cert.verify_ee_at(alloc, issuer, strict, now, judge),
+        "verify_ca" => cert.verify_ca(alloc, issuer, strict, &terms.clock(), judge),
+        _ => cert.verify_ee(alloc, issuer, strict, &terms.clock(), judge),
+    }
+}
+
+// What a call says of the certificate.
+fn told(
+    alloc: Global,
+    answer: &mut Answer,
+    words: &[&str],
+    cert: Cert,
+    issuer: &ResourceCert,
+    terms: &Terms,
+    judge: &mut Judge,
+) {
+    let call = word_at(words, 1);
+    match word_at(words, 0) {
+        "at" => accepted(
+            answer,
+            validated_at(alloc, call, cert, issuer, terms, judge),
+        ),
+        "clock" => accepted(answer, validated(alloc, call, cert, issuer, terms, judge)),
+        "verified" => accepted(answer, verified(alloc, call, cert, issuer, terms, judge)),
+        _ => {
+            lent::told(alloc, answer, call, &cert, issuer, terms, judge);
+            drop(cert);
+        }
+    }
+}
+
+// What a call says of the certificate of digits, and how often the judge of signatures was asked.
+fn of_cert(
+    alloc: Global,
+    answer: &mut Answer,
+    words: &[&str],
+    issuer: &ResourceCert,
+    terms: &Terms,
+) {
+    let mut judge = Judge::new(word_at(words, 4) == "good");
+    match cert_of(alloc, word_at(words, 6)) {
+        Some(cert) => told(alloc, answer, words, cert, issuer, terms, &mut judge),
+        None => answer.word("no certificate"),
+    }
+    answer.say(&judge.asked());
+}
+
+// The same below the anchor that the words give.
+fn under(alloc: Global, answer: &mut Answer, words: &[&str], terms: &Terms) {
+    match anchor(alloc, word_at(words, 5), terms) {
+        Some(issuer) => {
+            of_cert(alloc, answer, words, &issuer, terms);
+            drop(issuer);
+        }
+        None => answer.word("no anchor"),
+    }
+}
+
+/// The answer to a question about a certificate below an anchor.
+pub fn answer(alloc: Global, answer: &mut Answer, words: &[&str]) {
+    match Terms::of(word_at(words, 2), word_at(words, 3)) {
+        Some(terms) => under(alloc, answer, words, &terms),
+        None => answer.word("no moment"),
+    }
+}

@@ -1,0 +1,65 @@
+//! Questions about what is read of a certificate in DER: what is asked, and octets.
+
+use crate::answers::{Answer, cert_of, octets_of, word_at};
+use crate::shown::{last_shown, shown, written};
+use certs_cert::Cert;
+use std::alloc::{AllocError, Global};
+
+// All that is told of the certificate that octets begin with, or why it is refused.
+fn told(alloc: Global, answer: &mut Answer, octets: &[u8]) {
+    match Cert::decode(alloc, octets) {
+        Ok(cert) => last_shown(answer, cert),
+        Err(error) => answer.refuse(error),
+    }
+}
+
+// Whether octets begin with a certificate.
+fn tested(alloc: Global, answer: &mut Answer, octets: &[u8]) {
+    match Cert::decode(alloc, octets) {
+        Ok(cert) => {
+            drop(cert);
+            answer.word("true");
+        }
+        Err(error) => {
+            drop(error);
+            answer.word("false");
+        }
+    }
+}
+
+// A copy of a certificate, which is let go.
+fn copy_of(cert: Cert) -> Result<Cert, AllocError> {
+    let copy: Result<Cert, AllocError> = cert.clone();
+    drop(cert);
+    copy
+}
+
+// All that is told of a copy, and the octets that are written of it.
+fn copied(alloc: Global, answer: &mut Answer, cert: Cert) {
+    match copy_of(cert) {
+        Ok(copy) => {
+            shown(answer, &copy);
+            written(alloc, answer, &copy);
+            drop(copy);
+        }
+        Err(_) => answer.word("memory"),
+    }
+}
+
+// The same of the copy of the certificate of digits.
+fn copy(alloc: Global, answer: &mut Answer, digits: &str) {
+    match cert_of(alloc, digits) {
+        Some(cert) => copied(alloc, answer, cert),
+        None => answer.word("no certificate"),
+    }
+}
+
+/// The answer to a question about what is read.
+pub fn answer(alloc: Global, answer: &mut Answer, words: &[&str]) {
+    let digits = word_at(words, 1);
+    match word_at(words, 0) {
+        "told" => told(alloc, answer, octets_of(alloc, digits).as_slice()),
+        "copy" => copy(alloc, answer, digits),
+        _ => tested(alloc, answer, octets_of(alloc, digits).as_slice()),
+    }
+}

@@ -1,0 +1,4 @@
+//! Provider attestations (version 1 of the profile): a customer, and the providers that it has.
+
+pub use objects_aspa::{AsProviderAttestation, ProviderAsIter, ProviderAsSet};
+pub use objects_valid::{Aspa, ProcessAspa};

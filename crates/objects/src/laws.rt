@@ -1,0 +1,19 @@
+//! Laws of signed objects, by the part that they are of: each is the contract of a function that does nothing.
+//!
+//! | Module | Has |
+//! |---|---|
+//! | [`aspa`] | contents of provider attestations |
+//! | [`built`] | signed objects that are built are read again, and are sound |
+//! | [`frame`] | what is written around a content is read again |
+//! | [`issued`] | manifests and route origin attestations that are signed are read again |
+//! | [`sound`] | sound objects |
+//! | [`tal`] | trust anchor locators |
+//! | [`written`] | contents that are written are read again |
+
+pub use objects_aspa::laws as aspa;
+pub use objects_built::laws as built;
+pub use objects_frame::laws as frame;
+pub use objects_issued::laws as issued;
+pub use objects_locator::laws as tal;
+pub use objects_verify::laws as sound;
+pub use objects_written::laws as written;

@@ -1,0 +1,8 @@
+//! Manifests (RFC 9286), their files and hashes.
+
+pub use objects_issued::IntoManifest;
+pub use objects_manifest::{
+    FileAndHash, FileList, FileListIter, ManifestContent, ManifestHash, ManifestHashMismatch,
+};
+pub use objects_valid::{Manifest, ValidateManifest};
+pub use objects_written::{EncodeFile, EncodeManifest, ManifestValue, has_file_names};

@@ -1,0 +1,9 @@
+//! Route origin attestations (RFC 9582), their addresses and builders.
+
+pub use objects_issued::FinalizeRoa;
+pub use objects_roa::{
+    FriendlyRoaIpAddress, FriendlyRoaIpAddressIter, RoaBuilder, RoaIpAddress, RoaIpAddressIter,
+    RoaIpAddresses, RoaIpAddressesBuilder, RouteOriginAttestation, RouteOriginIter,
+};
+pub use objects_valid::{ProcessRoa, Roa};
+pub use objects_written::{EncodeRoa, RoaValue, has_address};

@@ -1,0 +1,57 @@
+-- A signed object that is built is read again, and is sound where its signature is good.
+use Rattle.std.proofs.Common.{◌≡◌, ◌≤◌, ℕ, List, true, sym, ap, subst}
+use Rattle.objects_built.specs.bcder_tree.declared.mode.Mode.TheVariants.{Der}
+use Rattle.objects_built.specs.bcder_content.Kept.{CapturedValue}
+use Rattle.objects_built.specs.bcder_oid.Identifiers.{IsIdentifier}
+use Rattle.objects_built.specs.certs_basics.HandedIn.{Digests}
+use Rattle.objects_built.specs.certs_basics.Verdicts.{Verdicts}
+use Rattle.objects_built.specs.certs_specs.Cert.{SignedValue, TbsValue}
+use Rattle.objects_built.specs.certs_specs.CertText.{SpellsCert}
+use Rattle.objects_built.specs.objects_forms.ObjectText.{IsSignedMessage, ObjectText, Sound}
+use Rattle.certs_again.specs.Laws.{BuiltIsSpelled, IsReadable, as_read}
+use Rattle.certs_built.specs.Tbs.{WritesTbs}
+use Rattle.objects_frame.specs.Attributes.{ToSign, WritesAttributes, to_sign}
+use Rattle.objects_built.specs.Builders.{BuilderValue, IsBuilt, IsComplete, IsPadded, built_object}
+use Rattle.objects_frame.proofs.FrameAgain.{parts_again}
+
+-- The certificate's fields are such that they are read again.
+readable : (d : Digests) (b : BuilderValue) (kind content octets : List ℕ) (x : IsBuilt d b kind content octets) → IsComplete b → IsPadded x.key → IsReadable x.cert.tbs
+readable d b kind content octets x complete padded =
+    subst IsReadable (sym x.fields.fields) (record { serial = complete.serial; some = complete.some; whole = complete.whole; purposes = tt; padded = padded })
+
+-- What was written of it spells it.
+cert_spelled : BuiltIsSpelled → (d : Digests) (b : BuilderValue) (kind content octets : List ℕ) (x : IsBuilt d b kind content octets) → IsComplete b → IsPadded x.key
+    → SpellsCert Der x.written.parts.cert.octets (as_read x.written.cert_is.value x.cert.tbs)
+cert_spelled again d b kind content octets x complete padded =
+    let w = x.written.cert_is in
+    let message : w.value.message.octets ≡ x.cert.signed.message = ap (λ (s : SignedValue). s.message) w.same in
+    again w.value x.cert.tbs x.written.parts.cert.octets x.lawful (readable d b kind content octets x complete padded)
+    (record { message = subst (WritesTbs x.cert.tbs) (sym message) x.message; written = w.text_is })
+
+pub built_again : BuiltIsSpelled → (d : Digests) (b : BuilderValue) (kind content octets : List ℕ) (x : IsBuilt d b kind content octets) → IsIdentifier kind → IsComplete b → IsPadded x.key
+    → ObjectText true octets (built_object x)
+built_again again d b kind content octets x known complete padded =
+    let o = x.written.parts in
+    let s : ToSign = to_sign kind (d.sha256 content) b.signing_time in
+    parts_again o (as_read x.written.cert_is.value x.cert.tbs) s octets (record {
+      known = subst IsIdentifier (sym x.written.type_is) known;
+      same_type = sym x.written.type_is;
+      cert = cert_spelled again d b kind content octets x complete padded;
+      own = x.written.own;
+      long = x.written.long;
+      attributes = subst (λ (k : CapturedValue). WritesAttributes s k.octets) (sym x.written.attributes_are) x.attributes_are;
+    }) x.written.written
+
+-- Its digest is its content's, and it is signed in time.
+pub built_sound : (d : Digests) (v : Verdicts) (b : BuilderValue) (kind content octets : List ℕ) (x : IsBuilt d b kind content octets) → b.signing_time ≤ b.not_after
+    → (message : List ℕ) → IsSignedMessage (built_object x).signer message → v x.key true message (built_object x).signer.signature ≡ true → Sound d v (built_object x)
+built_sound d v b kind content octets x time message is good =
+    let after : b.not_after ≡ x.cert.tbs.not_after = ap (λ (t : TbsValue). t.not_after) (sym x.fields.fields) in
+    let key : x.key ≡ x.cert.tbs.key = ap (λ (t : TbsValue). t.key) (sym x.fields.fields) in
+    record {
+      digest = ap d.sha256 (sym x.written.content_is);
+      time = subst (λ (n : ℕ). b.signing_time ≤ n) after time;
+      message = message;
+      message_is = is;
+      signature = subst (λ k. v k true message (built_object x).signer.signature ≡ true) key good;
+    }

@@ -1,0 +1,4 @@
+pub mod BuiltAgain
+pub mod Building
+pub mod KindAgain
+pub mod Setting

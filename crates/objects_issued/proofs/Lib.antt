@@ -1,0 +1,2 @@
+pub mod ManifestAgain
+pub mod RoaAgain

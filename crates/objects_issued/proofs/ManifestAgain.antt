@@ -1,0 +1,34 @@
+-- A manifest that is signed is read again.
+use Rattle.std.proofs.Common.{◌≡◌, ℕ, List, Result, Ok, Err, IfOk, true, inl}
+use Rattle.objects_issued.specs.bcder_tree.declared.mode.Mode.TheVariants.{Der}
+use Rattle.objects_issued.specs.bcder_content.Kept.{CapturedValue}
+use Rattle.objects_issued.specs.bcder_content.Texts.{SpellsOf}
+use Rattle.objects_issued.specs.certs_basics.Basics.{IsSmallEnough}
+use Rattle.objects_issued.specs.certs_basics.HandedIn.{Digests}
+use Rattle.objects_issued.specs.objects_forms.Identifiers as id
+use Rattle.objects_issued.specs.objects_forms.Manifests.{IsManifest, Manifest, ManifestText}
+use Rattle.objects_issued.specs.objects_written.Manifests.{AreFileNames, IsManifestNumber, manifest}
+use Rattle.objects_issued.specs.resources_chain.Claims.{Choice}
+use Rattle.objects_issued.specs.resources_chain.declared.choice.ResourcesChoice.TheVariants.{Inherit, Missing}
+use Rattle.objects_built.specs.Builders.{BuilderValue, IsBuilt, IsComplete, IsPadded, KindIsRead, built_object}
+use Rattle.objects_issued.specs.Issued.{IsManifestFor, inheriting}
+
+-- What is inherited is there, and lists nothing.
+complete : (b : BuilderValue) → IsSmallEnough b.serial → IsComplete (inheriting b)
+complete b small = record {
+  serial = small;
+  some = inl (λ e. let q : ◌≡◌ {A = Choice} Inherit Missing = e in cc);
+  whole = λ n m e h. absurd h;
+}
+
+pub manifest_again : KindIsRead id.manifest IsManifest ManifestText
+    → ((x : Manifest) (text : List ℕ) → IsManifestNumber x.number → AreFileNames x.files → (manifest x).writes Der text → SpellsOf Der IsManifest text x)
+    → (d : Digests) (b : BuilderValue) (m : Manifest) (octets : List ℕ) (x : IsManifestFor d b m octets) → AreFileNames m.files → IsManifestNumber m.number → IsSmallEnough b.serial
+    → IsPadded x.built.key → ManifestText true octets (built_object x.built) m
+manifest_again kinds contents d b m octets x names number small padded =
+    kinds d (inheriting b) x.content octets x.built m (contents m x.content number names x.content_is) (complete b small) padded
+
+pub manifest_built : {E : Type 0} (d : Digests) (b : BuilderValue) (m : Manifest) (content : List ℕ) → (manifest m).writes Der content → (x : Result CapturedValue E)
+    → IfOk x (λ c. IsBuilt d (inheriting b) id.manifest content c.octets) → IfOk x (λ c. IsManifestFor d b m c.octets)
+manifest_built d b m content is (Ok c) built = record { content = content; content_is = is; built = built }
+manifest_built d b m content is (Err e) built = tt

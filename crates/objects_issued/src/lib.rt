@@ -1,0 +1,16 @@
+//! Manifests and route origin attestations that are signed (RFC 9286 4, 5.1; RFC 9582 3, 5).
+//!
+//! [`IntoManifest`] is implemented by `ManifestContent`, [`FinalizeRoa`] by `RoaBuilder`: `into_manifest` and `finalize` write
+//! the content, and sign it with what a `SignedObjectBuilder` has.
+//!
+//! What differs from the Rust crate: these are calls of traits; they are given an allocator and a digester, and answer the
+//! octets of the object, which `Manifest::decode` and `Roa::decode` read.
+#![tactic(auto)]
+
+pub mod laws;
+pub mod manifests;
+pub mod roas;
+
+pub use manifests::IntoManifest;
+pub use objects_built::SignedObjectBuilder;
+pub use roas::FinalizeRoa;
