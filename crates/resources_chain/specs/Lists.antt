@@ -1,4 +1,4 @@
--- Texts of lists: pieces with a comma (44) between them, after which a space (32) may stand.
+-- Texts of lists: pieces with a comma (44) between them, behind which a space (32) may stand.
 use Rattle.std.specs.Prelude.{◌≡◌, ◌≢◌, ℕ, ◌<◌, ◌⊎◌, List, ◌∷◌, ◌++◌, length, get_or}
 
 abbrev pub HasNoComma : List ℕ → Type 0
