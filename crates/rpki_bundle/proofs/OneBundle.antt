@@ -25,7 +25,7 @@ one_each one (more t ts) (x ∷ xs) (y ∷ ys) i j =
     let first : x ≡ y = one t x y i.0 j.0 in
     let others : xs ≡ ys = one_each one ts xs ys i.1 j.1 in cc
 
--- A GeneralizedTime states one moment,
+-- A GeneralizedTime tells one moment,
 same_moment : {t u : Tree} {m n : ℕ} → IsGeneralizedTime t m → IsGeneralizedTime u n → t ≡ u → m ≡ n
 same_moment {t} {u} {m} {n} i j e =
     let left : t ≡ primitive (universal 24) i.text = i.whole in

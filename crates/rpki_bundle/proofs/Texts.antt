@@ -159,7 +159,7 @@ one_bundle_text {b = b} p q =
     let y = text_told q in
     x.whole ∙ ap (λ (z : List ℕ). bundle_octets z b) (one_text x.lawful.text y.lawful.text b.moment x.lawful.moment y.lawful.moment) ∙ sym y.whole
 
--- Whatever text states the moment, the members have as many octets, and the bundle has that text.
+-- Whatever text tells the moment, the members have as many octets, and the bundle has that text.
 pub by_text : {b : BundleValue} (l : IsLawful b) (text : List ℕ) → IsMoment text b.moment → (length (members_octets text b) < 2 ^ 32) × BundleText (bundle_octets text b) b
 by_text {b} l text m = subst (λ (z : List ℕ). (length (members_octets z b) < 2 ^ 32) × BundleText (bundle_octets z b) b) (one_text l.text text b.moment l.moment m) (l.fits, lawful_text l)
 

@@ -1,4 +1,4 @@
--- Bundles: all that one run is given (this project's own form, version 0).
+-- Bundles: all that one run is told (this project's own form, version 0).
 use Rattle.std.specs.Prelude.{◌≡◌, ◌≢◌, ℕ, ◌≤◌, List, [], ◌∷◌, ◌++◌, length, All}
 use Rattle.rpki_bundle.specs.bcder_tree.declared.mode.Mode.TheVariants.{Der}
 use Rattle.rpki_bundle.specs.bcder_tree.Tags.{universal}
@@ -13,7 +13,7 @@ use Rattle.rpki_bundle.specs.TimeForms.{IsGeneralizedTime}
 use Rattle.certs_uri.specs.Uris.{IsLookupKey}
 use Rattle.rpki_bundle.specs.Orders.{Ascends}
 
--- What a bundle says.
+-- What a bundle tells.
 pub record BundleValue : Type 0 where
   pub moment : ℕ
   pub depth : ℕ
