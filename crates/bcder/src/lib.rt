@@ -29,7 +29,7 @@
 //! The crate `bcder_example` has this in its module `first`, with what is proved of it, and more.
 //!
 //! What differs from the Rust crate: what takes memory is given an allocator, first of all, and answers a `Result`
-//! (want of memory is an error of its own, and never another answer); nothing panics; a content owns its source;
+//! (lack of memory is an error of its own, and never another answer); nothing panics; a content owns its source;
 //! a refused read leaves its content failed. Each part's page has the rest.
 #![tactic(auto)]
 

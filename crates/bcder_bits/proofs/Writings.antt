@@ -75,7 +75,7 @@ same_unused Ber v = refl
 same_unused Cer v = refl
 same_unused Der v = refl
 
--- The count of unused bits, and the octets behind it.
+-- The count of unused bits, and the octets after it.
 pub both_written : (m : Mode) (v : BitsValue) (content : List ℕ) → WritesBits m v content → (text : List ℕ)
     → WritesBoth (λ t. t ≡ v.unused ∷ []) (λ t. t ≡ (padded_in m v).octets) text → WritesBits m v text
 both_written m v content is text w =

@@ -23,7 +23,7 @@ IsShortIn Ber content = Unit {0}
 IsShortIn Cer content = length content ≤ 1000
 IsShortIn Der content = Unit {0}
 
--- BIT STRING: one octet that tells how many bits of the last one are unused, and then the octets (8.6.2).
+-- BIT STRING: one octet that says how many bits of the last one are unused, and then the octets (8.6.2).
 pub record IsBitString (m : Mode) (content : List ℕ) (v : BitsValue) : Type 0 where
   pub whole : content ≡ v.unused ∷ v.octets
   pub lawful : IsBits v
@@ -40,13 +40,13 @@ cleared unused [] = []
 cleared unused (a ∷ []) = (a - a % 2 ^ unused) ∷ []
 cleared unused (a ∷ b ∷ v) = a ∷ cleared unused (b ∷ v)
 
--- The same bits with the padding of a mode: as it is in BER, zero in CER and DER.
+-- A bit string with the padding of a mode: as it is in BER, zero in CER and DER (11.2.1).
 abbrev pub padded_in : Mode → BitsValue → BitsValue
 padded_in Ber v = v
 padded_in Cer v = record { unused = v.unused; octets = cleared v.unused v.octets }
 padded_in Der v = record { unused = v.unused; octets = cleared v.unused v.octets }
 
--- What is written of a bit string: the content that tells the same bits, with the mode's padding.
+-- What is written of a bit string: the content with the same bits, with the mode's padding.
 abbrev pub WritesBits : Mode → BitsValue → List ℕ → Type 0
 WritesBits m v content = IsBitString m content (padded_in m v)
 

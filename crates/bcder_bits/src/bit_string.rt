@@ -7,7 +7,7 @@ use bytes::Bytes;
 use std::alloc::AllocError;
 use std::marker::Model;
 
-/// A string of bits (X.690 8.6), told by octets of eight bits each, the first bit the highest, and by how
+/// A string of bits (X.690 8.6), given by octets of eight bits each, the first bit the highest, and by how
 /// many bits of the last octet are unused. Contracts see both.
 ///
 /// Two are equal where their octets are, the unused bits included, and as many bits are unused.

@@ -19,7 +19,7 @@ text_more {Has} {spell} octets behind c s t = record {
 first_of_text : {Has : ℕ → Type 0} {spell : ℕ → List ℕ} (octets : List ℕ) (c : ℕ) (cs : List ℕ) → Tells Has spell octets (c ∷ cs) → Starts Has spell octets c (flat_map spell cs)
 first_of_text {Has} octets c cs t = record { has = All-head Has c cs t.has; spelled = sym t.spelled }
 
--- What is behind the first character of a text is a text.
+-- What comes after the first character of a text is a text.
 pub text_less : {Has : ℕ → Type 0} {spell : ℕ → List ℕ} (octets behind : List ℕ) (c : ℕ) → ((d : ℕ) → Has d → 1 ≤ length (spell d)) → HasOneStart Has spell → Starts Has spell octets c behind → IsText Has spell octets → IsText Has spell behind
 text_less {Has} {spell} octets behind c some one s t = at t.chars t.tells
   where
@@ -41,7 +41,7 @@ text_none {Has} {spell} octets n t = at t.chars t.tells
     at [] u = n.some (sym u.spelled)
     at (d ∷ ds) u = n.none d (flat_map spell ds) (first_of_text octets d ds u)
 
--- What is behind a character is shorter.
+-- What comes after a character is shorter.
 pub shorter : {Has : ℕ → Type 0} {spell : ℕ → List ℕ} (octets behind : List ℕ) (c : ℕ) → ((d : ℕ) → Has d → 1 ≤ length (spell d)) → Starts Has spell octets c behind → length behind < length octets
 shorter {Has} {spell} octets behind c some s = omega (arith, length-append (spell c) behind, ap length s.spelled, some c s.has)
 

@@ -1,7 +1,8 @@
 -- Texts: characters of a set, and the octets that spell them (X.680 clause 41, X.690 8.23).
 use Rattle.std.specs.Prelude.{◌≡◌, ℕ, List, [], ◌++◌, All, flat_map}
 
--- The octets are a text of the set, with these characters: each is in the set, and its octets stand one behind the other.
+-- The octets are a text of the set, with these characters: each is in the set, and their octets stand one after the
+-- other.
 pub record Tells (Has : ℕ → Type 0) (spell : ℕ → List ℕ) (octets chars : List ℕ) : Type 0 where
   pub has : All Has chars
   pub spelled : flat_map spell chars ≡ octets
@@ -11,7 +12,7 @@ pub record IsText (Has : ℕ → Type 0) (spell : ℕ → List ℕ) (octets : Li
   pub chars : List ℕ
   pub tells : Tells Has spell octets chars
 
--- A character of the set stands in front of the octets, and these are behind it.
+-- A character of the set stands in front of the octets, and these come after it.
 pub record Starts (Has : ℕ → Type 0) (spell : ℕ → List ℕ) (octets : List ℕ) (char : ℕ) (behind : List ℕ) : Type 0 where
   pub has : Has char
   pub spelled : octets ≡ spell char ++ behind

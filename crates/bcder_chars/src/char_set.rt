@@ -9,7 +9,7 @@ use bcder_tree::Tag;
 /// A set of characters, and how octets spell them (X.680 clause 41, X.690 8.23).
 ///
 /// `type_tag` is the tag of its strings, `has` are its characters, by their codes, and `spell` are the octets of
-/// one. A text is characters of the set, the octets of each behind those of the one before; `chars_of` are the
+/// one. A text is characters of the set, the octets of each after those of the one before; `chars_of` are the
 /// characters of a text's octets.
 pub trait CharSet {
     ghost type_tag: { TagValue };
@@ -24,7 +24,7 @@ pub trait CharSet {
     fn tag() -> Tag
         ensures { result ≡ type_tag };
 
-    /// The character in front of octets, and what is behind it; None where there are no octets.
+    /// The character in front of octets, and what comes after it; None where there are no octets.
     fn next_char(octets: &[u8]) -> Result<Option<(char, &[u8])>, CharSetError>
         ensures next { IfOk result
             (λ found. IfSome found (λ p. Starts has spell octets.now p.0 p.1.now)) }

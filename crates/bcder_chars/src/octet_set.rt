@@ -15,7 +15,7 @@ pub(crate) trait OctetSet {
     ghost is_ascii: { (c : ℕ) → member c → c < 128 };
 }
 
-// The character in front of octets, and what is behind it.
+// The character in front of octets, and what comes after it.
 pub(crate) fn next_of<S: OctetSet>(octets: &[u8]) -> Result<Option<(char, &[u8])>, CharSetError>
     ensures next { IfOk result
         (λ found. IfSome found (λ p. Starts S.member alone octets.now p.0 p.1.now)) }

@@ -54,13 +54,13 @@ captures_refused {g = g} {op} {v} {new} start (Content x pos) r h same n = (n, s
 captures_refused {g = g} {op} {v} start (Source x) r h same n = absurd same
 captures_refused {g = g} {op} {v} start Memory r h same n = (n, subst (λ (z : DecodeError _). OnContent z (KeepsNone g op v)) (sym same) tt)
 
--- A refusal by the closure is told at its place.
+-- A refusal by the closure is answered at its place.
 pub refused_place : {F D E : Type 0} {g : Reader F (Constructed Reading) (Unit {0}) D} {op : F} {v : ValuesLeft} (start : ℕ) (e : DecodeError D) (r : DecodeError E) → RefusesIn g op v e → Rebased start e r → OnContent r (RefusedAt g op v start r)
 refused_place start (Content x pos) r h same = on_content r (refused_behind x pos h.end h.ran same)
 refused_place start (Source x) r h same = absurd same
 refused_place {g = g} {op} {v} start Memory r h same = subst (λ (z : DecodeError _). OnContent z (RefusedAt g op v start z)) (sym same) tt
 
--- Want of memory that is told again is the closure's.
+-- Lack of memory that is passed on is the closure's.
 pub wants_rebased : {F D E : Type 0} {g : Reader F (Constructed Reading) (Unit {0}) D} {op : F} {v : ValuesLeft} (start : ℕ) (e : DecodeError D) (r : DecodeError E) → RefusesIn g op v e → Rebased start e r → OnMemory r (Wants g op v)
 wants_rebased {g = g} {op} {v} start (Content x pos) r h same = subst (λ (z : DecodeError _). OnMemory z (Wants g op v)) (sym same) tt
 wants_rebased start (Source x) r h same = absurd same

@@ -1,4 +1,4 @@
--- A field that tells what stands behind it.
+-- A field that says what comes after it.
 use Rattle.std.proofs.Common.{◌≡◌, Bool, true, Result, Err, refl, subst, ◌∙◌}
 use Rattle.std.specs.Result.{IsErr, IsErrAnd}
 use Rattle.bcder_content.specs.bcder_tree.declared.mode.Mode.{Mode}
@@ -55,7 +55,7 @@ stop_by {Q = Q} {now = now} {f = f} {new} {r} e s a h = record {
   reads = at.stop_all f new r e s.so_far a (weaker e (λ l. record { none = λ ts y p w. (lacks_in Q s.mode l).none p.first y.0 p.is (whole_first (subst (Whole now) p.whole w)) }) h);
 }
 
--- What is left is of T, as the field told.
+-- What is left is of T, as the field said.
 pub told_by : {A B C : Type 0} {P : Mode → Trees → A → Type 0} {R : Mode → Trees → B → Type 0} {T : Mode → Trees → C → Type 0} {k : B → A}
     {start now : ValuesLeft} {some : Bool} (j : C → B)
     → Fields P R k start now some → ((m : Mode) (ts : Trees) (c : C) → T m ts c → R m ts (j c))
@@ -72,7 +72,7 @@ told_by {R = R} {T} {start = start} {now} j s to from = record {
     back : LacksAll (T start.mode) now → LacksAll (R start.mode) now
     back l = record { none = λ ts b p w. let q = from _ ts b p in l.none ts q.0 q.1 w }
 
--- Nothing can stand behind what the field told.
+-- Nothing can come after what the field said.
 pub none_told : {A B D E : Type 0} {P : Mode → Trees → A → Type 0} {R : Mode → Trees → B → Type 0} {k : B → A} {start now : ValuesLeft}
     {some : Bool} {f : D → A} {new : ValuesLeft} {e : DecodeError E}
     → Fields P R k start now some → ((m : Mode) (ts : Trees) (b : B) → R m ts b → ⊥) → ReadsFields f P start (Err e) new

@@ -31,7 +31,7 @@ pub record Reading {A B : Type 0} (P : Trees → A → Type 0) (R : Trees → B 
 pub begin : {A : Type 0} (P : Trees → A → Type 0) (v : ValuesLeft) → Reading P P (λ b. b) v v false
 begin P v = record { gives = λ b end g. g; lacks = λ l. l; sound = λ e. absurd cc }
 
--- What is left is of R, or of T behind one more field.
+-- What is left is of R, or of T after one more field.
 record Step {B C : Type 0} (R : Trees → B → Type 0) (T : Trees → C → Type 0) (j : C → B) (now new : ValuesLeft) : Type 0 where
   gives : (c : C) (end : ValuesLeft) → GivesAll T new c end → GivesAll R now (j c) end
   lacks : LacksAll T new → LacksAll R now
@@ -139,7 +139,7 @@ abbrev pub Perhaps : {A B : Type 0} → (A → B) → TagValue → (Tree → B �
 Perhaps f tag Q old (Some x) new = Gives Q old (f x) new
 Perhaps f tag Q old None new = (new ≡ old) × Unlike old tag
 
--- The same, of the next value if there is one.
+-- What reading the next value, or the end of the content, says.
 abbrev pub PerhapsNext : {A B : Type 0} → (A → B) → (Tree → B → Type 0) → ValuesLeft → Option A → ValuesLeft → Type 0
 PerhapsNext f Q old (Some x) new = Gives Q old (f x) new
 PerhapsNext f Q old None new = (new ≡ old) × Ended old
@@ -189,7 +189,7 @@ pub next_opt_as : {A B C D : Type 0} {P : Trees → A → Type 0} {tag : TagValu
     → Reading P (Opt tag Q R) k start now some → Tagged tag Q → Perhaps f tag Q now o new → Reading P R (λ b. k (option_map f o, b)) start new true
 next_opt_as {R = R} f o s g h = step s (opt_step f R o g h)
 
--- The same, where the value is of the grammar as it is.
+-- An optional field was read, whose value is the grammar's own, or wasn't there.
 pub next_opt : {A B C : Type 0} {P : Trees → A → Type 0} {tag : TagValue} {Q : Tree → B → Type 0} {R : Trees → C → Type 0} {k : Option B × C → A} {start now new : ValuesLeft} {some : Bool} (o : Option B)
     → Reading P (Opt tag Q R) k start now some → Tagged tag Q → Perhaps (λ x. x) tag Q now o new → Reading P R (λ b. k (o, b)) start new true
 next_opt {P = P} {R = R} {k} {start} {new = new} o s g h = subst (λ (p : Option _). Reading P R (λ b. k (p, b)) start new true) (option_map_id o) (next_opt_as (λ x. x) o s g h)
@@ -234,7 +234,7 @@ next_default_as {B = B} {P = P} {R = R} {k} {start} {new = new} f {d} {y} o s g 
     let value : unwrap_or (option_map f o) (f d) ≡ f y = mapped_or f o d ∙ ap f (sym e) in
     subst (λ (z : B). Reading P R (λ b. k (z, b)) start new true) value (step s (default_step (f d) (option_map f o) (opt_step f R o g h)))
 
--- The same, where the value is of the grammar as it is.
+-- A field with a default was read, whose value is the grammar's own, or wasn't there.
 pub next_default : {A B C : Type 0} {P : Trees → A → Type 0} {tag : TagValue} {Q : Tree → B → Type 0} {missing y : B} {R : Trees → C → Type 0} {k : B × C → A} {start now new : ValuesLeft} {some : Bool} (o : Option B)
     → Reading P (Default tag Q missing R) k start now some → Tagged tag Q → Perhaps (λ x. x) tag Q now o new → y ≡ unwrap_or o missing → Reading P R (λ b. k (y, b)) start new true
 next_default {B = B} {k = k} {start} o s g h e = next_default_as (λ (x : B). x) o s g h e
@@ -276,7 +276,7 @@ many_step g = record {
 many_end : {A : Type 0} {Q : Tree → A → Type 0} {now : ValuesLeft} → now.failed ≡ false → Lacks Q now → GivesAll (Many Q) now [] now
 many_end sound l = record { trees = none; took = took_none sound; is = record { cases = refl }; only = λ goes_on. many_lacks l goes_on }
 
--- A loop has read these values, and what it reads from now on goes behind them.
+-- A loop has read these values, and what it reads from now on comes after them.
 pub record Listing {A B : Type 0} (P : Trees → B → Type 0) (Q : Tree → A → Type 0) (k : List A → B) (xs : List A) (start now : ValuesLeft) : Type 0 where
   pub gives : (ys : List A) (end : ValuesLeft) → GivesAll (Many Q) now ys end → GivesAll P start (k (xs ++ ys)) end
   pub lacks : LacksAll (Many Q) now → LacksAll P start
@@ -294,7 +294,7 @@ list_next {P = P} {k = k} {xs} {ys} {x} {start} s g e =
       lacks = λ l. s.lacks (m.lacks l);
     }
 
--- The same, where the loop's values mean those of the grammar by f.
+-- The loop has read one more value, where its values mean those of the grammar by f.
 pub list_next_as : {A B D : Type 0} {P : Trees → B → Type 0} {Q : Tree → A → Type 0} {k : List A → B} (f : D → A) (xs : List D) {ys : List D} {x : D} {start now new : ValuesLeft} → Listing P Q k (map f xs) start now → Gives Q now (f x) new → ys ≡ xs ++ (x ∷ []) → Listing P Q k (map f ys) start new
 list_next_as f xs {x = x} s g e = list_next s g (ap (map f) e ∙ map-append f xs (x ∷ []))
 

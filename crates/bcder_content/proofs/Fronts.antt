@@ -12,11 +12,11 @@ use Rattle.bcder_content.proofs.of_bcder_tree.Trees.{one_tree, one_trees}
 use Rattle.bcder_content.specs.Grammar.{One, OneAll}
 use Rattle.bcder_content.specs.Texts.{SpellsOf, InOrder, WithOctets, Wraps, Joins, NoOctets, InFront, ReadsFront}
 
--- Of two texts in front of the same octets, whatever is behind them.
+-- Two texts of P in front of the same octets are one, whatever comes after them.
 pub record OneFront {A : Type 0} (P : List ℕ → A → Type 0) : Type 0 where
   pub one : (a b u v : List ℕ) (x y : A) → P a x → P b y → a ++ u ≡ b ++ v → (a ≡ b) × (x ≡ y)
 
--- The same where no value begins behind them.
+-- Two texts of P in front of the same octets are one, where no value begins after them.
 pub record OneBefore {A : Type 0} (P : List ℕ → A → Type 0) : Type 0 where
   pub one : (a b u v : List ℕ) (x y : A) → Ends u → Ends v → P a x → P b y → a ++ u ≡ b ++ v → (a ≡ b) × (x ≡ y)
 

@@ -147,7 +147,7 @@ unfit_means {Q = Q} {T} s one g refuses = unfit {Q = λ m. Means (Q m) T} s (mea
 
 -- OPTIONAL and DEFAULT: the field was read, or wasn't there.
 
--- The mode behind an optional field is the one in front of it.
+-- The mode after an optional field is the one before it.
 pub perhaps_mode : {A B : Type 0} (f : A → B) (tag : TagValue) (Q : Tree → B → Type 0) (now new : ValuesLeft) (o : Option A)
     → Perhaps f tag Q now o new → new.mode ≡ now.mode
 perhaps_mode f tag Q now new None h = ap (λ (v : ValuesLeft). v.mode) h.0
@@ -242,7 +242,7 @@ pub items_stop : {A B D E : Type 0} (tag : TagValue) {P : Mode → Trees → B �
     → Items P Q k xs start now → IsErr r × IsErrAnd r (λ x. x ≡ e) → OnContent e (LacksTagged tag (Q now.mode) now) → ReadsFields f P start r new
 items_stop tag {Q = Q} {f = f} {new} {r} e s a h = record { reads = at.list_stop tag f new r e s.so_far a (weaker e (lacks_tagged_in Q s.mode) h) }
 
--- From the grammar down: each step is told by the goal and a fact.
+-- From the grammar down: each step is given by the goal and a fact.
 
 -- What is left was refused, and is none of the grammar.
 pub record Refused {A E : Type 0} (P : Mode → Trees → A → Type 0) (v : ValuesLeft) (e : DecodeError E) : Type 0 where
@@ -262,7 +262,7 @@ pub refused : {A D E : Type 0} {P : Mode → Trees → A → Type 0} {start : Va
     {r : Result D (DecodeError E)} (e : DecodeError E) → IsErr r × IsErrAnd r (λ x. x ≡ e) → Refused P start e → ReadsFields f P start r new
 refused {P = P} {start} {f} {new} {r} e a h = record { reads = at.stop_all f new r e (at.begin (P start.mode) start) a h.lacks }
 
--- What is left was read, behind a field.
+-- What is left was read, where no read had failed before.
 pub record Filled {A : Type 0} (P : Mode → Trees → A → Type 0) (v : ValuesLeft) (y : A) (u : ValuesLeft) : Type 0 where
   pub gives : v.failed ≡ false → GivesAll (P v.mode) v y u
 

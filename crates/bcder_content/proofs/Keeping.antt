@@ -40,7 +40,7 @@ kept_refused Q {m = m} {k} {o = o} g e h refuses = record {
       refuses t x.1 [] (subst (λ (z : Mode). Q z t x.1) (sym e) p.is) (subst (λ (z : List ℕ). Front m z t []) (sym h) front);
 }
 
--- A refusal is told as one of another source.
+-- A refusal is passed on as one of another source.
 pub same_refusal : {D E : Type 0} (P : Type 0) (e : DecodeError D) (r : DecodeError E) → SameCause e r → OnContent e P → OnContent r P
 same_refusal {E = E} P (Content x pos) r s p = subst (λ (z : DecodeError E). OnContent z P) (sym s) p
 same_refusal P (Source x) r s p = absurd s

@@ -1,4 +1,4 @@
--- Want of memory is passed on, and has no other cause.
+-- Lack of memory is passed on, and has no other cause.
 use Rattle.std.proofs.Common.{◌≡◌, Bool, Result, Ok, Err, IfErr, sym, subst}
 use Rattle.bcder_content.specs.bcder_source.declared.error.DecodeError.{DecodeError}
 use Rattle.bcder_content.specs.bcder_source.declared.error.DecodeError.TheVariants.{Content, Source, Memory}
@@ -12,7 +12,7 @@ use Rattle.bcder_content.specs.Ran.{Enters}
 use Rattle.bcder_content.specs.Either.{Meeting}
 use Rattle.bcder_content.specs.Memory.{OnMemory, AnyErr, TaggedErr}
 
--- A refusal of the octets or by the source isn't want of memory.
+-- A refusal of the octets or by the source isn't lack of memory.
 pub no_want : {E : Type 0} (P Q : Type 0) (e : DecodeError E) → OnlyContent e P → OnMemory e Q
 no_want P Q (Content x pos) p = tt
 no_want P Q (Source x) p = tt
@@ -29,7 +29,7 @@ memory_weaker (Content x pos) f p = tt
 memory_weaker (Source x) f p = tt
 memory_weaker Memory f p = f p
 
--- A refusal of the octets isn't want of memory.
+-- A refusal of the octets isn't lack of memory.
 pub told_of_content : {E : Type 0} (P : Type 0) {r : DecodeError E} {x : ContentError} {pos : Pos} → r ≡ Content x pos → OnMemory r P
 told_of_content P e = subst (λ (z : DecodeError _). OnMemory z P) (sym e) tt
 

@@ -1,4 +1,4 @@
--- Fields whose grammar names the mode, behind others: the mode is that of the beginning, since no field changes it.
+-- Fields whose grammar names the mode, after others: the mode is that of the beginning, since no field changes it.
 use Rattle.std.proofs.Common.{◌≡◌, Option, Result, subst}
 use Rattle.bcder_content.specs.bcder_tree.declared.mode.Mode.{Mode}
 use Rattle.bcder_content.specs.bcder_tree.Tags.{TagValue}

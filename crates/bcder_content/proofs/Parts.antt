@@ -15,7 +15,7 @@ use Rattle.bcder_content.specs.Ran.{Reader, fresh}
 use Rattle.bcder_content.specs.Captures.{rest_of, ReadsFront}
 use Rattle.bcder_content.proofs.Took.{more_splits, whole_others, whole_none, ended_none, none_stays}
 
--- What is left behind values of a content are values again.
+-- What is left after values of a content is values again.
 behind_values : {v w : ValuesLeft} {us : Trees} (ts : Trees) → TookAll v ts w → Whole v us → (ws : Trees) × Whole w ws
 behind_values {us = us} none k h = (us, subst (λ (z : ValuesLeft). Whole z us) (none_stays k) h)
 behind_values {v} {w} {us} (more t ts) k h = let s = more_splits k in at us h s.behind s.first (λ vs rest. behind_values {v = s.behind} {w = w} {us = vs} ts s.others rest)
@@ -60,7 +60,7 @@ front_read {m = m} {o} given stop behind start met ts took rest =
       long = omega (arith, rest, ap length k.goes.moved.rest, length-append k.text (here rest_of stop).rest);
     }
 
--- What is behind the octets that were read.
+-- What comes after the octets that were read.
 pub rest_behind : {F T E : Type 0} {g : Reader F (Constructed Reading) T E} {op : F} {m : Mode} {o : List ℕ} {x : T} {count : ℕ} (r : ReadsFront g op m o x count) → drop count o ≡ r.end.rest
 rest_behind {o = o} {count = count} r =
     ap (λ (z : List ℕ). drop count z) r.took.goes.moved.rest ∙ ap (λ (n : ℕ). drop n (r.took.text ++ r.end.rest)) (sym r.long) ∙ drop-append_seam r.took.text r.end.rest

@@ -1,4 +1,4 @@
--- A refusal that isn't want of memory, passed on by `?`.
+-- A refusal that isn't lack of memory, passed on by `?`.
 use Rattle.std.proofs.Common.{◌≡◌, ◌≢◌, Result, Ok, Err, IsErr, IsErrAnd, IfErr, sym, ◌∙◌}
 use Rattle.bcder_content.specs.bcder_source.declared.error.DecodeError.{DecodeError}
 use Rattle.bcder_content.specs.bcder_source.declared.error.DecodeError.TheVariants.{Memory}

@@ -115,6 +115,6 @@ module _ {A B S E : Type 0} {rest : S → List ℕ} {f : A → B} {P : Mode → 
   pub exact_tagged : {tag : TagValue} {old new : ValuesLeft} {r : Result A (DecodeError E)} → Takes meets (WithTag tag) old r new → ReadsAs f (P old.mode tag) old r new
   exact_tagged {tag} {old} {new} {r} h = own_cases tag old new r h.cases
 
-  -- The same, where one is next.
+  -- A value of the tag, where one is next.
   pub exact_tagged_opt : {tag : TagValue} {old new : ValuesLeft} {r : Result (Option A) (DecodeError E)} → TakesOpt meets tag old r new → ReadsOptAs f tag (P old.mode tag) old r new
   exact_tagged_opt {tag} {old} {new} {r} h = own_opt_cases tag old new r h.cases

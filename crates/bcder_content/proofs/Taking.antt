@@ -70,7 +70,7 @@ tree_of_tag u f =
       whole = h.head.whole ∙ ap (λ (z : List ℕ). z ++ h.behind) d.whole ∙ append_assoc d.identifier d.size h.behind;
     }
 
--- Behind an identifier there is more than the end.
+-- After an identifier there is more than the end.
 pub goes_on : {v : ValuesLeft} {tag : TagValue} → OfTag tag (left (octets v)) → Ended v → ⊥
 goes_on {tag = tag} o e = identifier_goes_on o.identifier o.rest o.form tag o.tag o.is (subst Ends o.whole (ended_front e))
 

@@ -1,4 +1,4 @@
--- Reading values one behind the other: what was next, and what is left.
+-- Reading values one after the other: what was next, and what is left.
 use Rattle.std.proofs.Common.{◌≡◌, ℕ, ◌<◌, Bool, false, List, [], ◌∷◌, ◌++◌, length, Option, None, Ok, refl, sym, ap, ◌∙◌, subst, append_assoc, length-append, arith}
 use Rattle.std.proofs.lemmas.List.{append_cancel_left, append_cancel_right}
 use Rattle.bcder_content.specs.bcder_tree.declared.mode.Mode.{Mode}
@@ -25,7 +25,7 @@ same_left {v} {w} m e f r l =
     ∙ ap (λ (z : Bool). content w.mode w.end z v.rest v.limit) f ∙ ap (λ (z : List ℕ). content w.mode w.end w.failed z v.limit) r
     ∙ ap (λ (z : Option ℕ). content w.mode w.end w.failed w.rest z) l
 
--- What is left behind the same octets of a content is one.
+-- What is left after the same octets of a content is one.
 same_goes : {v w x : ValuesLeft} {a : List ℕ} → Goes v a w → Goes v a x → w ≡ x
 same_goes {v} {w} {x} {a} g h =
     same_left (g.mode ∙ sym h.mode) (g.end ∙ sym h.end) (g.behind ∙ sym h.behind)
@@ -48,7 +48,7 @@ one_took {v} {w} {x} {t} {u} k l =
 pub goes_none : {v : ValuesLeft} → v.failed ≡ false → Goes v [] v
 goes_none sound = record { moved = moved_none; mode = refl; end = refl; before = sound; behind = sound }
 
--- Two readings, one behind the other, are one.
+-- Two readings, one after the other, are one.
 pub goes_both : {v w x : ValuesLeft} {a b : List ℕ} → Goes v a w → Goes w b x → Goes v (a ++ b) x
 goes_both g h = record { moved = moved_both g.moved h.moved; mode = h.mode ∙ g.mode; end = h.end ∙ g.end; before = g.before; behind = h.behind }
 
@@ -63,7 +63,7 @@ took_more {v} {w} {x} {t} {ts} k a =
 pub none_stays : {v w : ValuesLeft} → TookAll v none w → v ≡ w
 none_stays {v} {w} a = same_goes (goes_none a.goes.before) (subst (λ (s : List ℕ). Goes v s w) a.spelled a.goes)
 
--- Values read are a first one, and the others behind it.
+-- Values read are a first one, and the others after it.
 pub record Splits (v : ValuesLeft) (t : Tree) (ts : Trees) (x : ValuesLeft) : Type 0 where
   pub behind : ValuesLeft
   pub first : Took v t behind

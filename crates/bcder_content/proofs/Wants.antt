@@ -1,4 +1,4 @@
--- Want of memory within a value tells that the value is of the grammar.
+-- Lack of memory within a value shows that the value is of the grammar.
 use Rattle.std.proofs.Common.{◌≡◌, ℕ, Bool, false, true, List, Result, Ok, Err, Option, Some, None, refl, sym, ap, ◌∙◌, subst}
 use Rattle.std.specs.Prelude.{IfErr}
 use Rattle.std.specs.Result.{IsErr, IsErrAnd}
@@ -69,12 +69,12 @@ pub no_want_through : {A E : Type 0} (F Q : Type 0) (r : Result A (DecodeError E
 no_want_through F Q (Ok x) e i a h = tt
 no_want_through {E = E} F Q (Err x) e i a h = no_want F Q x (subst (λ (y : DecodeError E). OnlyContent y F) (sym a) h)
 
--- A fact for want of memory, if it is wanted.
+-- A fact for lack of memory, where the answer is that.
 pub wants : {A E : Type 0} {Q : Type 0} (r : Result A (DecodeError E)) → Q → IfErr r (λ (x : DecodeError E). OnMemory x Q)
 wants (Ok x) q = tt
 wants (Err x) q = wanted x q
 
--- Want of memory alone refuses no octets.
+-- Lack of memory alone refuses no octets.
 pub memory_alone : {E : Type 0} (F : Type 0) (e : DecodeError E) → e ≡ Memory → OnContent e F
 memory_alone {E} F e h = subst (λ (y : DecodeError E). OnContent y F) (sym h) tt
 

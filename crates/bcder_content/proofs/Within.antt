@@ -66,7 +66,7 @@ pub content_refused : {A B C D E : Type 0} (f : A → B) (h : C → D) (Q : Tree
 content_refused f h Q P true tag v w e within l = weaker e (λ lacks. all_lack (λ (ts : Trees). P (constructed tag ts)) (λ (ts : Trees). Q (constructed tag ts)) (λ ts. within (constructed tag ts)) lacks) l
 content_refused f h Q P false tag v w e within l = weaker e (λ lacks. record { none = λ s z p whole. let q = within (primitive tag s) z p in lacks.none s q.0 q.1 whole }) l
 
--- The same, where `?` passes the refusal on.
+-- What was refused isn't of the other grammar, where `?` passes the refusal on.
 pub content_stop : {A B C D E : Type 0} (f : A → B) (h : C → D) (Q : Tree → B → Type 0) (P : Tree → D → Type 0) (form : Bool) (tag : TagValue) (v w : ValuesLeft) (r : Result C (DecodeError E)) (e : DecodeError E) → IsErr r × IsErrAnd r (λ x. x ≡ e)
     → Within P Q → ReadsInAs {A = A} {B = B} {E = E} f Q form tag v (Err e) w → ReadsInAs {A = C} {B = D} {E = E} h P form tag v r w
 content_stop f h Q P form tag v w (Ok y) e a within l = absurd a.1

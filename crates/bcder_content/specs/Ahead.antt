@@ -1,4 +1,4 @@
--- That something of a grammar is next, read or not: what want of memory tells.
+-- That something of a grammar is next, read or not: what lack of memory shows.
 use Rattle.std.specs.Prelude.{◌≡◌, ℕ, false, List}
 use Rattle.bcder_header.specs.bcder_tree.Tree.{Tree}
 use Rattle.bcder_primitive.specs.Plain.{OctetsLeft, WholeOctets}

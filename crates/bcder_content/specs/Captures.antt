@@ -19,7 +19,7 @@ use Rattle.bcder_content.specs.Ran.{Reader, RanIn, fresh}
 abbrev pub rest_of : Reading → List ℕ
 rest_of r = r.rest
 
--- The same content, over the octets alone that may be read of it.
+-- A content, over the octets alone that may be read of it.
 abbrev pub cut : ValuesLeft → ValuesLeft
 cut v = record { mode = v.mode; end = v.end; failed = v.failed; rest = left (octets v); limit = v.limit }
 
@@ -74,7 +74,7 @@ CapturesCases g op v (Err e) new = (new ≡ v) × OnContent e (KeepsNone g op v)
 pub record Captures {F D E : Type 0} (g : Reader F (Constructed Reading) (Unit {0}) D) (op : F) (v : ValuesLeft) (r : Result CapturedValue (DecodeError E)) (new : ValuesLeft) : Type 0 where
   pub cases : CapturesCases g op v r new
 
--- The same refusal, at a position that counts from another start.
+-- A refusal whose position counts from another start.
 abbrev pub Rebased : {D E : Type 0} → ℕ → DecodeError D → DecodeError E → Type 0
 Rebased start (Content x pos) r = r ≡ Content x (min (start + pos) (2 ^ 64 - 1))
 Rebased start (Source x) r = ⊥

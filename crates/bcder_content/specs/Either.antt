@@ -21,7 +21,7 @@ use Rattle.bcder_content.specs.Ran.{Enters, Leaves, Comes}
 abbrev pub in_octets : ValuesLeft → OctetsLeft
 in_octets v = record { mode = v.mode; failed = v.failed; rest = v.rest; limit = v.limit }
 
--- The same reference, whatever was read through it.
+-- Both contents hold one reference, whatever was read through it.
 pub record SameContent {S : Type 0} (old new : Content S) : Type 0 where
   pub reference : old.values.ghost_name ≡ new.values.ghost_name
 
@@ -98,7 +98,7 @@ TakesNextCases meets wants old (Ok (Some x)) new = Takes meets wants old (Ok x) 
 TakesNextCases meets wants old (Ok None) new = (new ≡ old) × Ended old
 TakesNextCases meets wants old (Err e) new = OnContent e (Ended old → ⊥) × Takes meets wants old (Err e) new
 
--- The same, unless the content has ended.
+-- The closure read the content of the next value, which is of that kind, all of it; or the content had ended.
 pub record TakesNext {T E : Type 0} (meets : Meeting T E) (wants : TagValue → Bool → Type 0) (old : ValuesLeft) (r : Result (Option T) (DecodeError E)) (new : ValuesLeft) : Type 0 where
   pub cases : TakesNextCases meets wants old r new
 
@@ -107,7 +107,7 @@ TakesOptCases meets tag old (Ok (Some x)) new = Takes meets (WithTag tag) old (O
 TakesOptCases meets tag old (Ok None) new = (new ≡ old) × Unlike old tag
 TakesOptCases meets tag old (Err e) new = OnContent e (Comes old tag) × Takes meets (WithTag tag) old (Err e) new
 
--- The same, where a value with that tag is next.
+-- The closure read the content of the next value, which has that tag, all of it; or no value with that tag is next.
 pub record TakesOpt {T E : Type 0} (meets : Meeting T E) (tag : TagValue) (old : ValuesLeft) (r : Result (Option T) (DecodeError E)) (new : ValuesLeft) : Type 0 where
   pub cases : TakesOptCases meets tag old r new
 
@@ -116,7 +116,7 @@ abbrev pub ReadsInAs : {A B E : Type 0} → (A → B) → (Tree → B → Type 0
 ReadsInAs f P true tag v r w = ReadsAllAs f (λ (ts : Trees) x. P (constructed tag ts) x) v r w
 ReadsInAs f P false tag v r w = ReadsOctetsAs f (λ (c : List ℕ) x. P (primitive tag c) x) (in_octets v) r (in_octets w)
 
--- The same, of a content of either form that a closure was given.
+-- A reader of a content of either form that a closure was given, of a grammar of values.
 abbrev pub ReadsContentAs : {A B E S : Type 0} → (S → List ℕ) → (A → B) → (Tree → B → Type 0) → TagValue → Content S → Result A (DecodeError E) → Content S → Type 0
 ReadsContentAs rest f P tag c r d = ReadsInAs f P (form_in c) tag (left_of rest c) r (left_of rest d)
 

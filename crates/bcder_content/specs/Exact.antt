@@ -48,19 +48,19 @@ ReadsNextAs f P old (Err e) new = OnContent e (Lacks P old × (Ended old → ⊥
 pub record LacksAll {A : Type 0} (P : Trees → A → Type 0) (old : ValuesLeft) : Type 0 where
   pub none : (ts : Trees) (x : A) → P ts x → Whole old ts → ⊥
 
--- Values of the grammar were read; where the content goes on behind them, as a whole it isn't of the grammar.
+-- Values of the grammar were read; where the content goes on after them, as a whole it isn't of the grammar.
 pub record GivesAll {A : Type 0} (P : Trees → A → Type 0) (old : ValuesLeft) (x : A) (new : ValuesLeft) : Type 0 where
   pub trees : Trees
   pub took : TookAll old trees new
   pub is : P trees x
   pub only : (Ended new → ⊥) → LacksAll P old
 
--- A reader of a whole content, whose end is tested behind it.
+-- A reader of a whole content, whose end is tested afterwards.
 abbrev pub ReadsAllAs : {A B E : Type 0} → (A → B) → (Trees → B → Type 0) → ValuesLeft → Result A (DecodeError E) → ValuesLeft → Type 0
 ReadsAllAs f P old (Ok x) new = GivesAll P old (f x) new
 ReadsAllAs f P old (Err e) new = OnContent e (LacksAll P old)
 
--- A reader of the value in front of octets, by what its answer means; what is behind the value isn't read.
+-- A reader of the value in front of octets, by what its answer means; what comes after the value isn't read.
 abbrev pub DecodesAs : {A B E : Type 0} → (A → B) → Mode → (Tree → B → Type 0) → List ℕ → Result A (DecodeError E) → Type 0
 DecodesAs f m P octets (Ok x) = (t : Tree) × (rest : List ℕ) × Front m octets t rest × P t (f x)
 DecodesAs {A} {B} f m P octets (Err e) = OnContent e ((t : Tree) (x : B) (rest : List ℕ) → P t x → Front m octets t rest → ⊥)

@@ -80,7 +80,7 @@ OptCases tag Q R ts (Some x) b = Then Q R ts (x, b)
 pub record Opt {A B : Type 0} (tag : TagValue) (Q : Tree → A → Type 0) (R : Trees → B → Type 0) (ts : Trees) (x : Option A × B) : Type 0 where
   pub cases : OptCases tag Q R ts x.0 x.1
 
--- The same, where a missing value stands for another (DEFAULT).
+-- A value of Q where one of that tag is first, else a missing one that stands for a value, and then R (DEFAULT).
 pub record Default {A B : Type 0} (tag : TagValue) (Q : Tree → A → Type 0) (missing : A) (R : Trees → B → Type 0) (ts : Trees) (x : A × B) : Type 0 where
   pub cases : (Without tag ts × (x.0 ≡ missing) × R ts x.1) ⊎ Then Q R ts x
 

@@ -8,7 +8,7 @@ pub record CapturedValue : Type 0 where
   pub mode : Mode
   pub octets : List ℕ
 
--- They spell values, one behind the other.
+-- They spell values, one after the other.
 pub record SpellsValues (m : Mode) (octets : List ℕ) : Type 0 where
   pub trees : Trees
   pub spelled : SpellsAll m trees octets

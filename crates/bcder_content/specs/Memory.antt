@@ -1,4 +1,4 @@
--- Want of memory: what a closure answers, and no read of its own.
+-- Lack of memory: what a closure answers, and no read of its own.
 use Rattle.std.specs.Prelude.{ℕ, Bool, List, Err}
 use Rattle.bcder_content.specs.bcder_source.declared.error.DecodeError.{DecodeError}
 pub use Rattle.bcder_content.specs.bcder_source.Errors.{OnMemory}

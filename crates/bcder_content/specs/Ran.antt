@@ -26,7 +26,7 @@ pub record Enters (old : ValuesLeft) (form : Bool) (tag : TagValue) (span : Span
   pub before : old.failed ≡ false
   pub sound : inner.failed ≡ false
 
--- And back, behind the value.
+-- Reading went from a value's content back to what comes after the value.
 pub record Leaves (old : ValuesLeft) (span : Span) (end new : ValuesLeft) : Type 0 where
   pub closes : Closes span (octets end) (octets new)
   pub mode : new.mode ≡ old.mode
@@ -38,7 +38,7 @@ pub record Leaves (old : ValuesLeft) (span : Span) (end new : ValuesLeft) : Type
 pub record NoneOf (old : ValuesLeft) (tag : TagValue) (form : Bool) : Type 0 where
   pub none : (t : Tree) → Ahead old t → tag_of t ≡ tag → form_of t ≡ form → ⊥
 
--- A value of that tag is next, as far as its identifier tells, or there are octets and no identifier octets of a
+-- A value of that tag is next, as far as its identifier says, or there are octets and no identifier octets of a
 -- value; or a read was refused before.
 pub record Comes (old : ValuesLeft) (tag : TagValue) : Type 0 where
   pub tagged : (t : Tree) → Ahead old t → tag_of t ≡ tag
@@ -72,7 +72,7 @@ RanOptCases {F} {S} {T} {E} rest g op old tag (Ok (Some x)) new = Ran rest g op 
 RanOptCases rest g op old tag (Ok None) new = (new ≡ old) × Unlike old tag
 RanOptCases rest g op old tag (Err e) new = OnContent e (Comes old tag) × Ran rest g op old tag (Err e) new
 
--- The same, where a value of that tag is next.
+-- Where a value of that tag is next, the closure read the values in it, all of them.
 pub record RanOpt {F S T E : Type 0} (rest : S → List ℕ) (g : Reader F (Constructed S) T E) (op : F) (old : ValuesLeft) (tag : TagValue) (r : Result (Option T) (DecodeError E)) (new : ValuesLeft) : Type 0 where
   pub cases : RanOptCases rest g op old tag r new
 
@@ -83,7 +83,7 @@ pub record EntersOctets (old : ValuesLeft) (tag : TagValue) (span : Span) (inner
   pub before : old.failed ≡ false
   pub sound : inner.failed ≡ false
 
--- And back, behind the value.
+-- Reading went from a primitive value's octets back to what comes after the value.
 pub record LeavesOctets (old : ValuesLeft) (span : Span) (end : OctetsLeft) (new : ValuesLeft) : Type 0 where
   pub closes : Closes span (octets_in end) (octets new)
   pub mode : new.mode ≡ old.mode
@@ -118,7 +118,7 @@ PlainRanOptCases {F} {S} {T} {E} rest g op old tag (Ok (Some x)) new = PlainRan 
 PlainRanOptCases rest g op old tag (Ok None) new = (new ≡ old) × Unlike old tag
 PlainRanOptCases rest g op old tag (Err e) new = OnContent e (Comes old tag) × PlainRan rest g op old tag (Err e) new
 
--- The same, where a value of that tag is next.
+-- Where a value of that tag is next, the closure read its octets, all of them.
 pub record PlainRanOpt {F S T E : Type 0} (rest : S → List ℕ) (g : Reader F (Primitive S) T E) (op : F) (old : ValuesLeft) (tag : TagValue) (r : Result (Option T) (DecodeError E)) (new : ValuesLeft) : Type 0 where
   pub cases : PlainRanOptCases rest g op old tag r new
 

@@ -1,4 +1,4 @@
--- Skipping values of a content, while a visitor is told of each value in them.
+-- Skipping values of a content, while a visitor is given each value in them.
 use Rattle.std.specs.Prelude.{◌≡◌, Result, Ok, Err, Option, Some, None}
 use Rattle.bcder_content.specs.bcder_source.declared.error.ContentError.{ContentError}
 use Rattle.bcder_content.specs.bcder_source.declared.error.DecodeError.{DecodeError}

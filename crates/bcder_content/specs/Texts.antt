@@ -12,13 +12,13 @@ pub record SpellsOf {A : Type 0} (m : Mode) (Q : Tree → A → Type 0) (text : 
   pub is : Q tree x
   pub spelled : Spells m tree text
 
--- The octets spell values of P, one behind the other.
+-- The octets spell values of P, one after the other.
 pub record InOrder {A : Type 0} (m : Mode) (P : Trees → A → Type 0) (text : List ℕ) (x : A) : Type 0 where
   pub trees : Trees
   pub is : P trees x
   pub spelled : SpellsAll m trees text
 
--- The same as P, and the octets are what it means too.
+-- Octets of P, which mean the octets themselves and what P says.
 pub record WithOctets {A : Type 0} (P : List ℕ → A → Type 0) (text : List ℕ) (x : List ℕ × A) : Type 0 where
   pub same : x.0 ≡ text
   pub is : P text x.1
@@ -41,7 +41,7 @@ pub record Joins {A B : Type 0} (P : List ℕ → A → Type 0) (R : List ℕ �
 pub record NoOctets (text : List ℕ) (x : Unit {0}) : Type 0 where
   pub none : text ≡ []
 
--- Octets of P stand in front; what is behind them isn't looked at.
+-- Octets of P stand in front; what comes after them isn't looked at.
 pub record InFront {A : Type 0} (P : List ℕ → A → Type 0) (octets : List ℕ) (x : A) : Type 0 where
   pub text : List ℕ
   pub rest : List ℕ

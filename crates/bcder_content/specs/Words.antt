@@ -1,5 +1,5 @@
--- Further words of grammars: what a list of values says together, what only some values mean, fields that tell what
--- stands behind them, and values whose octets are kept.
+-- Further words of grammars: what a list of values says together, what only some values mean, fields that say what
+-- comes after them, and values whose octets are kept.
 use Rattle.std.specs.Prelude.{◌≡◌, ℕ, List}
 use Rattle.bcder_content.specs.bcder_tree.declared.mode.Mode.{Mode}
 use Rattle.bcder_content.specs.bcder_tree.Tree.{Tree, Trees, more, Spells}

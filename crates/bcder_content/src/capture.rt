@@ -53,7 +53,7 @@ fn front<S: Source>(
     source.bytes(alloc, 0, count)
 }
 
-// The refusal as it is told where the octets began at that position.
+// The refusal, where the octets began at that position.
 fn rebased<E>(error: DecodeError<Infallible>, start: Pos) -> DecodeError<E>
     ensures { Rebased start error result }
 {

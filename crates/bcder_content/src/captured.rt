@@ -13,7 +13,7 @@ use bytes::Bytes;
 use std::convert::Infallible;
 use std::marker::Model;
 
-/// Octets of values, one behind the other, as they were spelled in a mode. Contracts see the mode
+/// Octets of values, one after the other, as they were spelled in a mode. Contracts see the mode
 /// and the octets. A clone shares them.
 #[derive(Clone, Debug, Drop)]
 pub struct Captured {

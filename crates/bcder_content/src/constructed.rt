@@ -220,7 +220,7 @@ impl<S: Source> Constructed<S> {
         Ok(outer)
     }
 
-    // Goes behind the value whose content was read, all of it.
+    // Goes past the value whose content was read, all of it.
     #[inline(always)]
     pub(crate) fn close(&mut self, outer: Outer) -> Result<(), DecodeError<S::Error>>
         ensures left { OnOk result

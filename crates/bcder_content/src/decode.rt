@@ -10,7 +10,7 @@ use crate::ending::Ending;
 use crate::primitive::Primitive;
 
 impl<S: Source> Constructed<S> {
-    /// What a closure reads from the beginning of a source, in that mode. Octets behind what it reads
+    /// What a closure reads from the beginning of a source, in that mode. Octets after what it reads
     /// stay unread.
     pub fn decode<
         I: IntoSource<Source = S>,
@@ -49,7 +49,7 @@ impl<S: Source> Constructed<S> {
 pub trait Decode {
     ghost mode: { Self → ModeValue };
 
-    /// What a closure reads from the beginning of a source, in this mode. Octets behind what it reads
+    /// What a closure reads from the beginning of a source, in this mode. Octets after what it reads
     /// stay unread.
     fn decode<
         I: IntoSource,

@@ -1,7 +1,7 @@
 //! Laws of reading: the contracts of functions that do nothing.
 //!
 //! Whether a value is skipped, captured or taken by a closure that walks through it, in each mode and
-//! over each source: it is the value that stands in front of what may be read, and behind it the
+//! over each source: it is the value that stands in front of what may be read, and after it the
 //! content stands at one place (`Took` and `Ahead` in the contracts of `skip_one`, `capture_one`,
 //! `take_constructed_if` and the others).
 ghost use Rattle.std.specs.Prelude.{◌≡◌, ◌↔◌, ℕ, List, true, false};
@@ -21,14 +21,14 @@ pub fn next_stands_in_front()
 {}
 
 /// A constructed value that was walked through was taken: reading went into it, took these values
-/// there, and left it behind them.
+/// there, and left it after them.
 pub fn walking_takes()
     ensures { (old inner end new : ValuesLeft) (tag : TagValue) (span : Span) (ts : Trees)
         → Enters old true tag span inner → TookAll inner ts end → Leaves old span end new
         → Took old (constructed tag ts) new }
 {}
 
-/// Whoever goes into a constructed value that can be taken finds its values there, and leaves it behind
+/// Whoever goes into a constructed value that can be taken finds its values there, and leaves it after
 /// them where taking it ends.
 pub fn taking_walks()
     ensures { (old inner new : ValuesLeft) (tag : TagValue) (span : Span) (ts : Trees)

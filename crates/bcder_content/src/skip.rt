@@ -14,7 +14,7 @@ pub use bcder_header::skip::skip_value;
 use std::alloc::Global;
 
 impl<S: Source> Constructed<S> {
-    /// Skips the next value, if there is one, and tells `op` of it and of each value in it, as
+    /// Skips the next value, if there is one, and calls `op` for it and for each value in it, as
     /// `skip` does.
     ///
     /// None where the content has ended.
@@ -47,7 +47,7 @@ impl<S: Source> Constructed<S> {
         }
     }
 
-    /// Skips the next value, and tells `op` of it and of each value in it: the tag, whether it is
+    /// Skips the next value, and calls `op` for it and for each value in it: the tag, whether it is
     /// constructed, and in how many of the values that are skipped it lies. A value comes before
     /// those in it.
     ///

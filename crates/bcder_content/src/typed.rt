@@ -56,7 +56,7 @@ impl<S: Source> Constructed<S> {
         self.take_primitive_if(Tag::NULL, |prim| prim.to_null())
     }
 
-    /// Reads a NULL, if one is next, and tells whether (X.690 8.8).
+    /// Reads a NULL, if one is next, and answers whether (X.690 8.8).
     pub fn take_opt_null(&mut self) -> Result<Option<()>, DecodeError<S::Error>>
         ensures reads { ReadsOptAs (λ x. x) (universal 5) (OctetsOf (universal 5) (IsNull))
             (here S.rest self.old) result (here S.rest self.new) }
@@ -181,7 +181,7 @@ impl<S: Source> Constructed<S> {
         self.take_primitive_if(Tag::INTEGER, |prim| prim.skip_u8_if(expected))
     }
 
-    /// Reads an INTEGER of that number, if an INTEGER is next, and tells whether (X.690 8.3); any other
+    /// Reads an INTEGER of that number, if an INTEGER is next, and answers whether (X.690 8.3); any other
     /// number is refused.
     pub fn skip_opt_u8_if(&mut self, expected: u8) -> Result<Option<()>, DecodeError<S::Error>>
         ensures reads { ReadsOptAs (λ x. x) (universal 2)

@@ -20,7 +20,7 @@ pub fn refuse<S: Source>(prim: &mut Primitive<S>, text: &str) -> DecodeError<S::
 
 /// Has all octets of a content at hand, and answers how many.
 ///
-/// It is refused where a read was refused before, where no limit tells the content's end, and where the source ends
+/// It is refused where a read was refused before, where no limit gives the content's end, and where the source ends
 /// before it.
 pub fn request_all<S: Source>(prim: &mut Primitive<S>) -> Result<usize, DecodeError<S::Error>>
     ensures same { OnOk result (plain S.rest prim.new ≡ plain S.rest prim.old) }
@@ -56,7 +56,7 @@ pub fn front<S: Source>(prim: &Primitive<S>, count: usize) -> &[u8]
     &prim.source.source.slice()[..count]
 }
 
-/// Goes behind all octets of a content, which are at hand.
+/// Goes past all octets of a content, which are at hand.
 pub fn pass<S: Source>(prim: &mut Primitive<S>, count: usize)
     requires limit { (plain S.rest prim.old).limit ≡ Some count }
     requires available { count ≤ S.available prim.old.source.source }

@@ -24,7 +24,7 @@ number = explicit (context 0) (unsigned (2 ^ 8))
 abbrev pub IsMost : Mode → Tree → ℕ → Type 0
 IsMost m = OctetsOf (context 1) (IsUnsigned (2 ^ 8))
 
--- What is written of a version, which is 1 where none is told; and of a BOOLEAN that is false where none is told.
+-- What is written of a version, which is 1 where none is given; and of a BOOLEAN that is false where none is given.
 abbrev pub shown_version : ℕ → Option ℕ
 shown_version zero = Some zero
 shown_version (suc zero) = None

@@ -19,11 +19,11 @@ use bcder::decode::{Constructed, DecodeError, Source};
 /// strict BOOLEAN DEFAULT FALSE }`
 #[derive(Clone, Copy, Debug, PartialEq, Eq)]
 pub struct Limits {
-    /// The version, which is 1 where none is told.
+    /// The version, which is 1 where none is given.
     pub version: u8,
     /// A bound, if there is one.
     pub most: Option<u8>,
-    /// Whether the bound is strict; it isn't where nothing is told.
+    /// Whether the bound is strict; it isn't where nothing is given.
     pub strict: bool,
 }
 

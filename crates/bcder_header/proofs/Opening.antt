@@ -18,7 +18,7 @@ use Rattle.bcder_header.specs.declared.ending.Span.{Span}
 use Rattle.bcder_header.specs.declared.ending.Span.TheVariants.{Until, ToEnd}
 use Rattle.bcder_header.specs.Openings.{EndsHere, tag_of, form_of, IsHead, Heads, Opens, Closes, ending_of, Starts, NoHead, NoValue}
 
--- A header in front, and what is behind it.
+-- A header in front, and what comes after it.
 pub record HeadIn (m : Mode) (k : Bool) (t : TagValue) (l : Length) (s text behind : List ℕ) : Type 0 where
   pub head : IsHead m text k t l
   pub whole : s ≡ text ++ behind
@@ -64,7 +64,7 @@ append_same : (a x y : List ℕ) → a ++ x ≡ a ++ y → x ≡ y
 append_same [] x y e = e
 append_same (z ∷ a) x y e = append_same a x y cc
 
--- What a limited source says where it begins with octets: it moves behind them.
+-- What a limited source says where it begins with octets: it moves past them.
 pub front_moves : (v : View) (text rest : List ℕ) → left v ≡ text ++ rest → (w : View) × Moved v text w × (left w ≡ rest)
 front_moves v text rest e = at v.limit refl
   where
@@ -156,7 +156,7 @@ pub opens_tag : {m : Mode} {old inner : View} {k : Bool} {t : TagValue} {span : 
 opens_tag {m} {old} {inner} {k} {t} {span = Until outer} u o f = let e = one_head (tree_head u f).head (counted o).head in (e.tag, e.form)
 opens_tag {m} {old} {inner} {k} {t} {span = ToEnd} u o f = let c = open_content o in let e = one_head (tree_head u f).head c.head in (e.tag, e.form ∙ sym c.form)
 
--- A value was read, from its header to what is behind it.
+-- A value was read, from its header to what comes after it.
 pub record Closed (m : Mode) (old : View) (t : Tree) (new : View) : Type 0 where
   pub text : List ℕ
   pub spelled : Spells m t text
@@ -333,7 +333,7 @@ abbrev pub inner_limit : Length → Option ℕ → Option ℕ
 inner_limit (LengthIs n) l = Some n
 inner_limit NoLength l = l
 
--- Behind a header that can begin a value, the value is open.
+-- Past a header that can begin a value, the value is open.
 pub opens_at : {m : Mode} {old mid new : View} {k : Bool} {t : TagValue} {count : ℕ} (l : Length) (span : Span) → Heads m k t l count (left old) → Starts m old.limit k l count span → count ≤ length (left old) → Moved old (take count old.rest) mid → new ≡ record { rest = mid.rest; limit = inner_limit l mid.limit } → Opens m old k t span new
 opens_at {m} {old} {mid} {new} {k} {t} {count} l span h st there mv e = at l span h.head st (ap (λ (v : View). v.rest) e) (ap (λ (v : View). v.limit) e)
   where

@@ -1,4 +1,4 @@
--- The laws of what is to come, for any K behind it.
+-- The laws of what is to come, whatever K comes after it.
 use Rattle.std.proofs.Common.{◌≡◌, ℕ, ◌+◌, Bool, true, false, List, [], ◌∷◌, ◌++◌, refl, sym, ap, ◌∙◌, subst, append_assoc}
 use Rattle.bcder_header.specs.bcder_tree.declared.mode.Mode.{Mode}
 use Rattle.bcder_header.specs.bcder_tree.Tags.{TagValue}

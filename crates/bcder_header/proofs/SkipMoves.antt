@@ -20,7 +20,7 @@ same_view {v} {w} r l =
     let b : record { rest = w.rest; limit = v.limit } ≡ w = ap (λ (s : Option ℕ). let u : View = record { rest = w.rest; limit = s } in u) l in
     a ∙ b
 
--- The same octets move to one place.
+-- From one view, reading certain octets leads to one view.
 pub moved_same : {v x y : View} {a : List ℕ} → Moved v a x → Moved v a y → x ≡ y
 moved_same {v} {x} {y} {a} m n = same_view (append_cancel_left a x.rest y.rest (sym m.rest ∙ n.rest)) (cancel_more (length a) x.limit y.limit (sym m.limit ∙ n.limit))
 

@@ -1,4 +1,4 @@
--- How a value begins and ends: the header in front of its content, and what is behind it (X.690 8.1.1 to 8.1.5).
+-- How a value begins and ends: the header in front of its content, and what comes after it (X.690 8.1.1 to 8.1.5).
 use Rattle.std.specs.Prelude.{◌≡◌, ℕ, ◌+◌, Bool, true, false, List, [], ◌∷◌, ◌++◌, length, Option, Some}
 use Rattle.bcder_header.specs.bcder_tree.declared.mode.Mode.{Mode}
 use Rattle.bcder_header.specs.bcder_tree.declared.length.Length.{Length}
@@ -23,7 +23,7 @@ abbrev pub form_of : Tree → Bool
 form_of (primitive t v) = false
 form_of (constructed t ts) = true
 
--- Identifier octets, and length octets of either form, behind each other.
+-- Identifier octets, and length octets of either form, one after the other.
 pub record IsHead (m : Mode) (octets : List ℕ) (form : Bool) (t : TagValue) (l : Length) : Type 0 where
   pub identifier : List ℕ
   pub size : List ℕ
@@ -45,13 +45,13 @@ pub record Opens (m : Mode) (old : View) (form : Bool) (t : TagValue) (span : Sp
   pub rest : old.rest ≡ text ++ inner.rest
   pub how : OpensBy m old.limit text form t span inner.limit
 
--- The content has ended, and then the value is behind: where its octets were counted, with the limit around it; else
--- behind end-of-contents.
+-- The content has ended, and reading is past the value: where its octets were counted, with the limit around it; else
+-- after end-of-contents.
 abbrev pub Closes : Span → View → View → Type 0
 Closes (Until outer) end new = (end.limit ≡ Some 0) × (new ≡ record { rest = end.rest; limit = outer })
 Closes ToEnd end new = Moved end (0 ∷ 0 ∷ []) new
 
--- Where a content ends: behind so many octets (8.1.3.3), before end-of-contents (8.1.3.6, 8.1.5), or with the source.
+-- Where a content ends: after so many octets (8.1.3.3), before end-of-contents (8.1.3.6, 8.1.5), or with the source.
 abbrev pub EndsHere : Ending → View → Type 0
 EndsHere Definite v = v.limit ≡ Some 0
 EndsHere Indefinite v = (w : View) × Moved v (0 ∷ 0 ∷ []) w

@@ -1,4 +1,4 @@
--- What is still to come behind a place within values: by the values around it, from the innermost on.
+-- What is still to come after a place within values: by the values around it, from the innermost on.
 use Rattle.std.specs.Prelude.{◌≡◌, ℕ, List, [], ◌∷◌, ◌++◌, length}
 use Rattle.bcder_header.specs.bcder_tree.declared.mode.Mode.{Mode}
 use Rattle.bcder_header.specs.bcder_tree.Tree.{Tree, Trees, Spells, SpellsAll}
@@ -7,7 +7,7 @@ use Rattle.bcder_header.specs.declared.ending.Span.{Span}
 use Rattle.bcder_header.specs.Openings.{Closes}
 use Rattle.bcder_header.specs.Nodes.{Node, nodes, nodes_all}
 
--- The rest of the content of one value, its end, and behind that K; these nodes are to come.
+-- The rest of the content of one value, its end, and after that K; these nodes are to come.
 pub record Level (m : Mode) (depth : ℕ) (span : Span) (K : View → List Node → Type 0) (v : View) (ns : List Node) : Type 0 where
   pub trees : Trees
   pub text : List ℕ
@@ -20,7 +20,7 @@ pub record Level (m : Mode) (depth : ℕ) (span : Span) (K : View → List Node 
   pub visits : ns ≡ nodes_all depth trees ++ later
   pub after : K end later
 
--- A value, and behind that K.
+-- A value, and after that K.
 pub record Value (m : Mode) (depth : ℕ) (K : View → List Node → Type 0) (v : View) (ns : List Node) : Type 0 where
   pub tree : Tree
   pub text : List ℕ
@@ -42,7 +42,7 @@ pub record Behind (seen : List Node) (Q : List Node → Type 0) (ns : List Node)
   pub whole : ns ≡ seen ++ others
   pub is : Q others
 
--- A step that sees these nodes: P before it is Q behind it.
+-- A step that sees these nodes: P before it is Q after it.
 pub record Reaches (P : List Node → Type 0) (seen : List Node) (Q : List Node → Type 0) : Type 0 where
   pub to : (ns : List Node) → P ns → Behind seen Q ns
   pub from : (ns : List Node) → Q ns → P (seen ++ ns)

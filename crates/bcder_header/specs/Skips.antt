@@ -1,4 +1,4 @@
--- Skipping a value, while a visitor is told of each value in it.
+-- Skipping a value, while a visitor is given each value in it.
 use Rattle.std.specs.Prelude.{◌≡◌, ℕ, Bool, List, ◌∷◌, ◌++◌, Result, Ok, Err}
 use Rattle.std.specs.List.{FoldsTo}
 use Rattle.bcder_header.specs.bcder_tree.declared.mode.Mode.{Mode}
@@ -15,7 +15,7 @@ use Rattle.bcder_header.specs.Nodes.{Node, nodes}
 abbrev pub Visits : Type 0 → Type 1
 Visits F = F → TagValue → Bool → ℕ → Result (Unit {0}) ContentError → F → Type 0
 
--- The visitor accepts these nodes, one behind the other.
+-- The visitor accepts these nodes, one after the other.
 abbrev pub Accepts : {F : Type 0} → Visits F → F → List Node → F → Type 0
 Accepts step p ns q = FoldsTo (λ a n b. step a n.tag n.form n.depth (Ok tt) b) p ns q
 

@@ -11,7 +11,7 @@ pub enum Ending {
     Unbounded,
 }
 
-/// How a value that is being read ends, and what is behind it.
+/// How a value that is being read ends, and what comes after it.
 #[derive(Clone, Copy, Debug, Default, PartialEq, Eq)]
 pub enum Span {
     /// Where its limit is reached; and then this is the limit around it.

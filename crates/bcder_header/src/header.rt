@@ -85,7 +85,7 @@ fn has_indefinite(mode: Mode) -> bool
     }
 }
 
-// The limit behind a header and a content of those lengths, if there is room for them.
+// The limit after a header and a content of those lengths, if there is room for them.
 #[inline(always)]
 fn limit_behind(limit: Option<usize>, count: usize, length: usize) -> Option<Option<usize>>
     ensures found { IfSome result (λ outer. limit ≡ more_limit (count + length) outer) }
@@ -217,7 +217,7 @@ pub fn next_tag<S: Source>(source: &mut LimitedSource<S>) -> Result<Option<Tag>,
     }
 }
 
-/// Goes behind the value whose content is read, where that has ended.
+/// Goes past the value whose content is read, where that has ended.
 #[inline(always)]
 pub fn leave<S: Source>(source: &mut LimitedSource<S>, span: Span) -> Result<bool, S::Error>
     ensures yes { IfOk result

@@ -96,7 +96,7 @@ fn leave_ended<S: Source>(
     }
 }
 
-/// Goes past the value in front, and tells `op` of it and of each value in it: the tag, whether it
+/// Goes past the value in front, and calls `op` for it and for each value in it: the tag, whether it
 /// is constructed, and in how many of the values it lies. A value comes before those in it.
 ///
 /// The content is refused where no value is in front, and with the error of `op` where that

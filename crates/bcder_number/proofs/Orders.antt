@@ -33,7 +33,7 @@ equal_numbers a b x y s t =
 abbrev Digits : ℕ → List ℕ → ℕ → List ℕ → Ordering → Type 0
 Digits p v q w o = MatchOrdering o (number_behind p v < number_behind q w) (number_behind p v ≡ number_behind q w) (number_behind q w < number_behind p v)
 
--- What stands behind smaller digits is smaller.
+-- What comes after smaller digits is smaller.
 lower : (p q : ℕ) (v w : List ℕ) → length v ≡ length w → All (λ a. a < 256) v → p < q → number_behind p v < number_behind q w
 lower p q v w long vs h =
     let m : (p + 1) * 256 ^ length v ≤ q * 256 ^ length v = mul-le-mul_right (256 ^ length v) (let k : p + 1 ≤ q = omega arith in k) in

@@ -46,7 +46,7 @@ slice_gives {A} P {m} {v} {p} {new} {x} {r} e g told zero_left =
     let same : g.text ≡ v = (whole_is limit whole).0 ∙ ap (λ (z : OctetsLeft). take (length v) z.rest) e ∙ take-length v in
     subst (λ (z : List ℕ). P z x) same g.is
 
--- and those that go on behind it aren't.
+-- and those that go on after it aren't.
 pub slice_goes_on : {A : Type 0} (P : List ℕ → A → Type 0) {m : Mode} {v : List ℕ} {p new : OctetsLeft} {x : A} {r : ℕ} → p ≡ content_of m v → GivesOctets P p x new
     → ((n : ℕ) → new.limit ≡ Some n → r ≡ n) → 0 < r → (y : A) → P v y → ⊥
 slice_goes_on {A} P {m} {v} {p} {new} {x} {r} e g told left y is =

@@ -12,7 +12,7 @@ use Rattle.bcder_number.specs.Integers.{IsInteger}
 use Rattle.bcder_number.specs.bcder_written.Integers.{steps}
 use Rattle.bcder_number.specs.Contents.{content, content_is, few_octets, one_integer}
 
--- Few octets are refused for want of memory alone.
+-- Few octets are refused for lack of memory alone.
 pub only_memory : (P : List ℕ → Type 0) (r : Result (List ℕ) EncodeError) (v : List ℕ) → P v → length v ≤ 17 → IfErr r (BytesRefused Der P) → IfErr r (λ e. e ≡ errors.Memory)
 only_memory P (Ok x) v is few h = tt
 only_memory P (Err errors.CerUnsupported) v is few h = let e : Der ≡ Cer = h.0 in absurd cc

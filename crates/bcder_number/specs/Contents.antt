@@ -11,7 +11,7 @@ use Rattle.bcder_values.proofs.of_bcder_primitive.Numbers.{number_high, further}
 use Rattle.bcder_number.specs.bcder_written.Integers.{near, one_signed, steps}
 use Rattle.bcder_number.specs.Integers.{IsInteger, told}
 
--- A number is within a bound behind it,
+-- Each number is within some bound,
 within_steps : (x : ℤ) → IsWithin (steps x + 1) x
 within_steps (pos n) = omega arith
 within_steps (negsuc k) = omega arith

@@ -16,7 +16,7 @@ use bcder_values::{EncodeError, PrimitiveContent};
 use bytes::Bytes;
 use std::alloc::{AllocError, Global};
 
-// The content octets of a number that has few. Nothing but want of memory refuses them.
+// The content octets of a number that has few. Nothing but lack of memory refuses them.
 fn kept(octets: Result<Bytes, EncodeError>) -> Result<Bytes, AllocError>
     requires { IfErr octets (λ e. e ≡ EncodeError.Memory) }
     ensures { IfOk result (λ b. octets ≡ Ok b) }

@@ -41,7 +41,7 @@ pieces_cut (more t (more u ts)) (x ∷ y ∷ ys) before p c some =
     let others : y ∷ ys ≡ p.1 = cc (p.3) in
     (x, concat (y ∷ ys), p.2 ∙ ap (λ (z : List ℕ). primitive octet_string_tag z) (sym content), c.1.0.0, pieces_cut (more u ts) (y ∷ ys) (length x) (subst (ArePlain (more u ts)) (sym others) p.4) c.1 (omega arith), refl)
 
--- What a loop over such pieces keeps: those that are left may stand behind the last exactly where all may stand.
+-- What a loop over such pieces keeps: those that are left may come after the last exactly where all may stand.
 pub record Stands (pieces : List (List ℕ)) (rest : List ℕ) (before : ℕ) : Type 0 where
   pub others : List (List ℕ)
   pub is : Holds others rest

@@ -38,7 +38,7 @@ pub record Holds (pieces : List (List ℕ)) (octets : List ℕ) : Type 0 where
   pub is : Marks marks octets
   pub whole : pieces ≡ held marks
 
--- The first piece, and what is behind it holds the others.
+-- The first piece, and what comes after it holds the others.
 pub record NextPiece (pieces : List (List ℕ)) (piece behind : List ℕ) : Type 0 where
   pub others : List (List ℕ)
   pub whole : pieces ≡ piece ∷ others
@@ -50,7 +50,7 @@ StepsTo pieces (Piece piece behind) = NextPiece pieces piece.now behind.now
 StepsTo pieces (Around behind) = Holds pieces behind.now
 StepsTo pieces End = pieces ≡ []
 
--- Fewer octets are behind it.
+-- Fewer octets come after it.
 abbrev pub IsShorter : List ℕ → Item → Type 0
 IsShorter octets (Piece piece behind) = length behind.now < length octets
 IsShorter octets (Around behind) = length behind.now < length octets
@@ -61,11 +61,11 @@ abbrev pub ArePlain : Trees → List (List ℕ) → Type 0
 ArePlain none pieces = pieces ≡ []
 ArePlain (more t ts) pieces = (content : List ℕ) × (others : List (List ℕ)) × (t ≡ primitive octet_string_tag content) × (pieces ≡ content ∷ others) × ArePlain ts others
 
--- Such a piece may stand behind one of so many octets: that has 1000, and this has 1 to 1000 (9.2).
+-- Such a piece may come after one of so many octets: that has 1000, and this has 1 to 1000 (9.2).
 abbrev pub MayStand : ℕ → List ℕ → Type 0
 MayStand before piece = (before ≡ 1000) × (1 ≤ length piece) × (length piece ≤ 1000)
 
--- These pieces may stand behind one of so many octets: each has 1 to 1000 octets, and all but the last 1000 (9.2).
+-- These pieces may come after one of so many octets: each has 1 to 1000 octets, and all but the last 1000 (9.2).
 abbrev pub CutIn : ℕ → List (List ℕ) → Type 0
 CutIn before [] = Unit {0}
 CutIn before (piece ∷ pieces) = MayStand before piece × CutIn (length piece) pieces

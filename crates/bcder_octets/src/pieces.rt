@@ -15,9 +15,9 @@ pub(crate) const SEGMENT: usize = 1000;
 
 // What stands in front of octets of values.
 enum Item<'a> {
-    // A primitive value: its octets, and what is behind it.
+    // A primitive value: its octets, and what comes after it.
     Piece(&'a [u8], &'a [u8]),
-    // The header of a constructed value, or end-of-contents: what is behind it.
+    // The header of a constructed value, or end-of-contents: what comes after it.
     Around(&'a [u8]),
     // None of them.
     End,
@@ -63,7 +63,7 @@ fn step<'a>(octets: &'a [u8]) -> Item<'a>
     }
 }
 
-// The octets of the first primitive value within octets of values, and what is behind it.
+// The octets of the first primitive value within octets of values, and what comes after it.
 fn next_piece<'a>(octets: &'a [u8]) -> Option<(&'a [u8], &'a [u8])>
     ensures found { IfSome result (λ r. (pieces : List (List ℕ)) → Holds pieces octets.now
         → NextPiece pieces r.0.now r.1.now) }
@@ -95,7 +95,7 @@ pub(crate) fn join(alloc: Global, octets: &[u8]) -> Result<Vec<u8>, AllocError>
     Ok(out)
 }
 
-// Whether a segment may stand in CER behind one of so many octets.
+// Whether a segment may stand in CER after one of so many octets.
 fn may_stand(before: usize, piece: &[u8]) -> bool
     ensures { IsTrue result ↔ MayStand before piece.now }
 {

@@ -16,7 +16,7 @@ pub(crate) struct Segments<'a> {
     pub(crate) octets: &'a [u8],
 }
 
-// The first segment, and the octets behind it.
+// The first segment, and the octets after it.
 fn first_segment<'a>(octets: &'a [u8]) -> Option<(&'a [u8], &'a [u8])>
     ensures found { IfSome result (λ r. segments octets.now ≡ r.0.now ∷ segments r.1.now) }
     ensures shorter { IfSome result (λ r. length r.1.now < length octets.now) }

@@ -83,7 +83,7 @@ go_on {text} {done} {rest} {front} {behind} {n} g p c = record {
       (r.0, b.1 ∙ ap (λ (z : List ℕ). done ++ z) r.1 ∙ sym (append_assoc done (n ∷ []) r.0), r.2);
 }
 
--- What is behind a piece is shorter.
+-- What comes after a piece is shorter.
 pub shorter : {rest front behind : List ℕ} → IsFirstPiece rest front behind → length behind < length rest
 shorter {rest} {front} {behind} p = omega (arith, ap length p.whole, length-append front (46 ∷ behind))
 

@@ -5,7 +5,7 @@ use Rattle.std.proofs.lemmas.List.{append-nil}
 use Rattle.bcder_oid.specs.Components.{components_of}
 use Rattle.bcder_oid.specs.Printed.{component_text, behind_dots, oid_text}
 
--- The first component, and each other one behind a dot.
+-- The first component, and each other one after a dot.
 joined : (n : ℕ) (ns : List ℕ) → component_text n ++ behind_dots ns ≡ join_with_byte 46 (map component_text (n ∷ ns))
 joined n [] = append-nil (component_text n)
 joined n (m ∷ ns) = ap (λ (z : List ℕ). component_text n ++ (46 ∷ z)) (joined m ns)

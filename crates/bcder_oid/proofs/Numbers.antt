@@ -1,4 +1,4 @@
--- Subidentifiers one behind the other, and the numbers that they are.
+-- Subidentifiers one after the other, and the numbers that they are.
 use Rattle.std.proofs.Common.{◌≡◌, ℕ, zero, suc, ◌+◌, ◌*◌, ◌%◌, ◌^◌, ◌<◌, ◌≤◌, inl, inr, List, [], ◌∷◌, ◌++◌, length, take, drop, get_or, refl, sym, ap, ◌∙◌, arith, All, add-one, append_assoc}
 use Rattle.std.specs.Prelude.{min}
 use Rattle.std.proofs.lemmas.Bool.{cases_lt, cond_below, cond_above}
@@ -42,7 +42,7 @@ past_first first rest n s =
     let value : base128_behind 0 s.front * 128 + s.last % 128 ≡ n = sym (base128_push 0 s.front s.last) ∙ ap base128 (sym s.whole) ∙ s.value in
     ap (numbers_behind 0) whole ∙ through_high 0 s.front (s.last ∷ rest) s.more ∙ ends_here (base128_behind 0 s.front) s.last rest s.ends ∙ ap (λ (z : ℕ). z ∷ numbers_behind 0 rest) value
 
--- The numbers of subidentifiers, behind which one may have begun that doesn't end.
+-- The numbers of subidentifiers, after which one may have begun that doesn't end.
 pub numbers_are : (whole begun ns : List ℕ) → InTurn IsSubidentifier whole ns → High begun → numbers_behind 0 (whole ++ begun) ≡ ns
 numbers_are whole begun [] t h = ap (λ (z : List ℕ). numbers_behind 0 (z ++ begun)) t ∙ none_ends 0 begun h
 numbers_are whole begun (n ∷ ns) t h =
@@ -104,7 +104,7 @@ one_list octets cs h =
 pub base128_more : (s : List ℕ) (i : ℕ) → i < length s → base128 (take (i + 1) s) ≡ base128 (take i s) * 128 + get_or s i 0 % 128
 base128_more s i h = ap base128 (take_more s i 0 h) ∙ base128_push 0 (take i s) (get_or s i 0)
 
--- A number that is capped at 2^33 tells a component below 2^32, and whether it is one.
+-- A number that is capped at 2^33 shows a component below 2^32, and whether it is one.
 pub far_at : (p : Place) (n : ℕ) → 2 ^ 32 ≤ number_at p (min n (2 ^ 33)) → 2 ^ 32 ≤ number_at p n
 far_at First n h = omega arith
 far_at Second n h = omega arith

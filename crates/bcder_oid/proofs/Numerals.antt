@@ -8,7 +8,7 @@ use Rattle.std.proofs.lemmas.List.Elements.{All-nil, All-cons}
 use Rattle.std.proofs.lemmas.Str.Parse.{without_leading_plus_none}
 use Rattle.bcder_oid.specs.Texts.{IsComponentText, LacksDot}
 
--- A text tells one number.
+-- A text states one number.
 pub one_number : {text : List ℕ} {n m : ℕ} → IsComponentText text n → IsComponentText text m → n ≡ m
 one_number a b = sym a.value ∙ b.value
 

@@ -1,4 +1,4 @@
--- Octets as subidentifiers, one behind the other.
+-- Octets as subidentifiers, one after the other.
 use Rattle.std.proofs.Common.{◌≡◌, ℕ, ◌<◌, ◌≤◌, ◌↔◌, inl, inr, List, [], ◌∷◌, ◌++◌, refl, sym, ap, ◌∙◌, subst, append_assoc}
 use Rattle.std.proofs.lemmas.Bool.{cases_lt}
 use Rattle.std.proofs.lemmas.List.{append-nil}
@@ -8,7 +8,7 @@ use Rattle.bcder_oid.specs.Identifiers.{IsIdentifier, AreSubidentifiers}
 use Rattle.bcder_oid.specs.Components.{numbers_behind, split_first, components_of, HasComponents, AreComponents}
 use Rattle.bcder_oid.proofs.Numbers.{High, numbers_are, split_is}
 
--- Whole subidentifiers, behind which one may have begun that doesn't end.
+-- Whole subidentifiers, after which one may have begun that doesn't end.
 pub record Parts (octets : List ℕ) : Type 0 where
   pub whole : List ℕ
   pub begun : List ℕ

@@ -7,11 +7,11 @@ use Rattle.bcder_oid.specs.Components.{AreComponents}
 use Rattle.bcder_oid.specs.Texts.{HighOctets, Spells}
 use Rattle.bcder_oid.proofs.Numbers.{base128_push}
 
--- Octets that were put behind others, and one more behind these.
+-- Octets that were put after others, and one more after these.
 pub longer : (old text mid new : List ℕ) (a : ℕ) → new ≡ mid ++ a ∷ [] → mid ≡ old ++ text → new ≡ old ++ (text ++ a ∷ [])
 longer old text mid new a e f = e ∙ ap (λ (z : List ℕ). z ++ a ∷ []) f ∙ append_assoc old text (a ∷ [])
 
--- One octet behind others.
+-- One octet after others.
 short_push : (v : List ℕ) (a : ℕ) → IsShort v → (v ≡ [] → a ≢ 128) → IsShort (v ++ a ∷ [])
 short_push [] a s h = h refl
 short_push (b ∷ v) a s h = s

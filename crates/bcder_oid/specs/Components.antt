@@ -18,7 +18,7 @@ AreComponents (n ∷ ns) [] = ⊥
 AreComponents (n ∷ ns) (x ∷ []) = ⊥
 AreComponents (n ∷ ns) (x ∷ y ∷ cs) = IsRoot n x y × (cs ≡ ns)
 
--- The components that octets have: of whole subidentifiers, behind which one may have begun that doesn't end.
+-- The components that octets have: of whole subidentifiers, after which one may have begun that doesn't end.
 pub record HasComponents (octets cs : List ℕ) : Type 0 where
   pub whole : List ℕ
   pub begun : List ℕ
@@ -28,7 +28,7 @@ pub record HasComponents (octets cs : List ℕ) : Type 0 where
   pub unended : All (λ a. 128 ≤ a) begun
   pub components : AreComponents numbers cs
 
--- The subidentifiers that end within octets, behind the number of one that has begun.
+-- The subidentifiers that end within octets, after the number of one that has begun.
 abbrev pub numbers_behind : ℕ → List ℕ → List ℕ
 numbers_behind n [] = []
 numbers_behind n (a ∷ v) = if nat_lt a 128 then (n * 128 + a % 128) ∷ numbers_behind 0 v else numbers_behind (n * 128 + a % 128) v
@@ -64,7 +64,7 @@ number_at Later n = n
 abbrev pub number_of : Component → ℕ
 number_of c = number_at c.place (base128 c.octets.now)
 
--- What a subidentifier from 80 up has more than the component at a place behind the first.
+-- What a subidentifier from 80 up has more than the component at a place after the first.
 abbrev pub less_at : Place → ℕ
 less_at First = 0
 less_at Second = 80

@@ -2,7 +2,7 @@
 use Rattle.std.specs.Prelude.{◌≡◌, ℕ, ◌<◌, List, [], ◌∷◌, ◌++◌}
 use Rattle.bcder_oid.specs.Subidentifiers.{InTurn, IsSubidentifier}
 
--- One or more octets, of which the last has bit 8 clear. Just these are one or more subidentifiers, one behind the
+-- One or more octets, of which the last has bit 8 clear. Just these are one or more subidentifiers, one after the
 -- other (8.19.2).
 pub record IsIdentifier (octets : List ℕ) : Type 0 where
   pub front : List ℕ
@@ -23,6 +23,6 @@ pub record IsAnyOid (content : List ℕ) (x : Unit {0}) : Type 0 where
 pub record AreOctets (octets content : List ℕ) (x : Unit {0}) : Type 0 where
   pub same : content ≡ octets
 
--- Such octets are one or more subidentifiers, one behind the other.
+-- Such octets are one or more subidentifiers, one after the other.
 abbrev pub AreSubidentifiers : List ℕ → Type 0
 AreSubidentifiers octets = (n : ℕ) × (ns : List ℕ) × InTurn IsSubidentifier octets (n ∷ ns)

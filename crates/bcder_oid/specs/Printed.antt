@@ -4,14 +4,14 @@ use Rattle.std.specs.Fmt.{decimal}
 use Rattle.std.specs.List.{join_with_byte}
 use Rattle.bcder_oid.specs.Components.{components_of}
 
--- A component of 32 bits in decimal digits; of a greater one it is only told that it is there.
+-- A component of 32 bits in decimal digits; of a greater one only that it is there.
 abbrev pub component_text : ℕ → List ℕ
 component_text n = if nat_lt n (2 ^ 32) then decimal n else codes "(not implemented)"
 
 abbrev pub oid_text : List ℕ → List ℕ
 oid_text octets = join_with_byte 46 (map component_text (components_of octets))
 
--- Components, each behind a dot.
+-- Components, each after a dot.
 abbrev pub behind_dots : List ℕ → List ℕ
 behind_dots [] = []
 behind_dots (n ∷ ns) = 46 ∷ (component_text n ++ behind_dots ns)

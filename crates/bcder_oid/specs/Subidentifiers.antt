@@ -1,7 +1,7 @@
 -- Subidentifiers: numbers in octets of seven bits each (X.690 8.19.2).
 use Rattle.std.specs.Prelude.{◌≡◌, ℕ, ◌+◌, ◌*◌, ◌%◌, ◌<◌, ◌≤◌, List, [], ◌∷◌, ◌++◌, All}
 
--- The number that the low seven bits of octets spell, the most significant first, behind a number that was read before.
+-- The number that the low seven bits of octets spell, the most significant first, after a number that was read before.
 abbrev pub base128_behind : ℕ → List ℕ → ℕ
 base128_behind before [] = before
 base128_behind before (a ∷ v) = base128_behind (before * 128 + a % 128) v
@@ -24,12 +24,12 @@ abbrev pub IsShort : List ℕ → Type 0
 IsShort [] = Unit {0}
 IsShort (a ∷ v) = a ≡ 128 → ⊥
 
--- The same in the fewest octets, as 8.19.2 asks of those who write.
+-- A subidentifier in the fewest octets, as 8.19.2 asks of those who write.
 pub record IsShortest (octets : List ℕ) (n : ℕ) : Type 0 where
   pub is : IsSubidentifier octets n
   pub short : IsShort octets
 
--- Octets of Q for each of the numbers, one behind the other.
+-- Octets of Q for each of the numbers, one after the other.
 abbrev pub InTurn : (List ℕ → ℕ → Type 0) → List ℕ → List ℕ → Type 0
 InTurn Q octets [] = octets ≡ []
 InTurn Q octets (n ∷ ns) = (first : List ℕ) × (rest : List ℕ) × (octets ≡ first ++ rest) × Q first n × InTurn Q rest ns

@@ -41,7 +41,7 @@ pub record ReadsText (text octets : List ℕ) : Type 0 where
   pub text_is : IsOidText text components
   pub octets_are : Spells octets components
 
--- A fact for each refusal but want of memory.
+-- A fact for each refusal but lack of memory.
 abbrev pub OnRefused : ParseOidError → Type 0 → Type 0
 OnRefused Memory fact = Unit {0}
 OnRefused other fact = fact
@@ -75,7 +75,7 @@ WhyRefused Memory text = Unit {0}
 abbrev pub LacksDot : List ℕ → Type 0
 LacksDot text = All (λ a. a ≢ 46) text
 
--- All of a text without a dot; and what is in front of the first dot, and behind it.
+-- All of a text without a dot; and what is in front of the first dot, and after it.
 pub record IsLastPiece (text front : List ℕ) : Type 0 where
   pub same : front ≡ text
   pub last : LacksDot text

@@ -51,7 +51,7 @@ fn component_at(place: Place, number: u64) -> u64
     }
 }
 
-// The last seven bits of a subidentifier, behind the octets in front of them; zero where there are none.
+// The last seven bits of a subidentifier, after the octets before them; zero where there are none.
 fn last_digit(octets: &[u8]) -> (&[u8], u32)
     ensures value { base128 octets.now ≡ base128 result.0.now * 128 + result.1 }
     ensures digit { result.1 < 128 }

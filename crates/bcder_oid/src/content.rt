@@ -67,7 +67,7 @@ impl Oid<Bytes> {
         cons.take_primitive_if(Tag::OID, |prim| Oid::skip_primitive(prim))
     }
 
-    /// Skips an OBJECT IDENTIFIER, if one is next, and tells whether (X.690 8.19).
+    /// Skips an OBJECT IDENTIFIER, if one is next, and answers whether (X.690 8.19).
     pub fn skip_opt_in<S: Source>(
         cons: &mut Constructed<S>,
     ) -> Result<Option<()>, DecodeError<S::Error>>

@@ -59,7 +59,7 @@ impl<'a> Iterator for Iter<'a> {
     }
 }
 
-// The first subidentifier, and the octets behind it; None where none ends.
+// The first subidentifier, and the octets after it; None where none ends.
 fn cut(octets: &[u8]) -> Option<(&[u8], &[u8])>
     ensures none { IfNone result (numbers_behind 0 octets.now ≡ []) }
     ensures some { IfSome result

@@ -6,7 +6,7 @@ ghost use Rattle.bcder_oid.specs.bcder_content.Grammar.{OctetsOf, One};
 ghost use Rattle.bcder_oid.specs.Components.{HasComponents, components_of};
 ghost use Rattle.bcder_oid.specs.Identifiers.{IsIdentifier, IsOid, AreSubidentifiers};
 
-/// Octets whose last has bit 8 clear are just one or more subidentifiers, one behind the other (X.690 8.19.2).
+/// Octets whose last has bit 8 clear are just one or more subidentifiers, one after the other (X.690 8.19.2).
 pub fn identifiers_are_subidentifiers()
     ensures { (octets : List ℕ) → IsIdentifier octets ↔ AreSubidentifiers octets }
 {}

@@ -2,13 +2,13 @@
 //!
 //! An [`Oid`] keeps the content octets of an OBJECT IDENTIFIER, in whatever lends them: shared octets, or a
 //! slice of a constant. Reading accepts content of one or more octets of which the last has bit 8 clear; that is
-//! one or more subidentifiers, one behind the other. A subidentifier with needless octets `80` in front isn't
+//! one or more subidentifiers, one after the other. A subidentifier with needless octets `80` in front isn't
 //! refused: it is the same number, but another identifier, since identifiers are compared by their octets.
 //!
 //! What differs from the Rust crate:
 //!
 //! - `take_from`, `take_opt_from` and `from_primitive` take an allocator, and `from_str` is a call of its own that
-//!   takes one, too: want of memory is an answer (`ParseOidError::Memory`).
+//!   takes one, too: lack of memory is an answer (`ParseOidError::Memory`).
 //! - Comparison across types is `equals`; `AsRef<[u8]>` is `AsSlice<u8>` and `as_slice`.
 //! - Iterating never panics: it ends where no whole subidentifier is left, and so does printing.
 //! - `Component::to_u32` answers None just where the component is above `u32::MAX`, also where its subidentifier is

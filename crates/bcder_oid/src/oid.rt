@@ -18,7 +18,7 @@ use std::convert::AsSlice;
 use std::fmt;
 use std::hash::{Hash, Hasher};
 
-/// An object identifier, by its content octets (X.690 8.19): one or more subidentifiers, one behind the other.
+/// An object identifier, by its content octets (X.690 8.19): one or more subidentifiers, one after the other.
 ///
 /// What is read is so. What is made by hand may be any octets: components are those of the whole subidentifiers
 /// in front.
@@ -94,7 +94,7 @@ impl<T: AsSlice<u8>> fmt::Display for Oid<T> {
     }
 }
 
-// Writes components, each behind a dot.
+// Writes components, each after a dot.
 fn write_behind<W: fmt::Write>(components: Iter<'_>, f: &mut fmt::Formatter<W>) -> fmt::Result
     ensures { DisplaysOnOk W.Write.write_str_gives f.old result
         (Some (behind_dots components.entry)) f.new }

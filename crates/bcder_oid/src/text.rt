@@ -132,7 +132,7 @@ fn component(text: &str) -> Result<u32, ParseOidError>
     }
 }
 
-// The text in front of the first dot, and what is behind the dot.
+// The text in front of the first dot, and what comes after the dot.
 fn piece(text: &str) -> (&str, Option<&str>)
     ensures { MatchOption result.1 (IsLastPiece text.now result.0.now)
         (λ behind. IsFirstPiece text.now result.0.now behind.now) }
@@ -201,7 +201,7 @@ fn write_components(alloc: Global, components: &[u32]) -> Result<Vec<u8>, ParseO
     }
 }
 
-// The subidentifiers of numbers, one behind the other.
+// The subidentifiers of numbers, one after the other.
 fn write_numbers(alloc: Global, root: u64, others: &[u32]) -> Result<Vec<u8>, AllocError>
     ensures { IfOk result (λ v. InTurn IsShortest v.items (root ∷ others.now)) }
 {
@@ -213,7 +213,7 @@ fn write_numbers(alloc: Global, root: u64, others: &[u32]) -> Result<Vec<u8>, Al
     Ok(octets)
 }
 
-// Puts a subidentifier behind octets, in the fewest.
+// Puts a subidentifier after other octets, in the fewest.
 fn push_number(octets: &mut Vec<u8>, number: u64) -> Result<(), AllocError>
     ensures { OnOk result
         ((text : List ℕ) × (octets.new.items ≡ octets.old.items ++ text) × IsShortest text number) }
@@ -223,7 +223,7 @@ fn push_number(octets: &mut Vec<u8>, number: u64) -> Result<(), AllocError>
     Ok(())
 }
 
-// Puts the octets of a subidentifier but the last behind octets: none for zero.
+// Puts the octets of a subidentifier, but not the last, after other octets: none for zero.
 fn push_high(octets: &mut Vec<u8>, number: u64) -> Result<(), AllocError>
     ensures { OnOk result
         ((text : List ℕ) × (octets.new.items ≡ octets.old.items ++ text) × HighOctets text number) }

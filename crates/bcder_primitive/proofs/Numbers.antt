@@ -23,7 +23,7 @@ further i j h = pow-le-pow_right (lit< tt) h
 pub room : (i n : ℕ) → i < 16 → n < 256 ^ i → n * 256 + 255 < 2 ^ 128
 room i n h low = omega (arith, further i 15 (omega arith))
 
--- What is read behind a number lies at its place.
+-- What is read after a number lies at its place.
 pub number_low : (b : ℕ) (v : List ℕ) → b * 256 ^ length v ≤ number_behind b v
 number_low b [] = omega arith
 number_low b (a ∷ v) = omega (arith, number_low (b * 256 + a) v, ap (λ (z : ℕ). b * z) (pow-succ' 256 (length v)))
@@ -35,7 +35,7 @@ number_high b (a ∷ v) all =
     let p : (a + 1) * 256 ^ length v ≤ 256 * 256 ^ length v = mul-le-mul_right (256 ^ length v) (let k : a + 1 ≤ 256 = omega arith in k) in
     omega (arith, number_high (b * 256 + a) v (All-tail (λ a. a < 256) a v all), ap (λ (z : ℕ). (b + 1) * z) (pow-succ' 256 (length v)))
 
--- A first octet that isn't zero has at most fifteen behind it, below 2^128.
+-- A first octet that isn't zero has at most fifteen after it, below 2^128.
 small_few : (a : ℕ) (v : List ℕ) → 1 ≤ a → number_of (a ∷ v) < 2 ^ 128 → length v ≤ 15
 small_few a v h low =
     elim (cases_lt (length v) 16) [
@@ -45,7 +45,7 @@ small_few a v h low =
           absurd (omega (arith, number_low (0 * 256 + a) v, further 16 (length v) l))
     ]
 
--- Behind a zero are at most sixteen octets.
+-- After a zero there are at most sixteen octets.
 pub few_zero : (a : ℕ) (v : List ℕ) → a ≡ 0 → IsShortest (a ∷ v) → number_of (a ∷ v) < 2 ^ 128 → length v ≤ 16
 few_zero a [] e s low = omega arith
 few_zero a (b ∷ v) e s low =
@@ -97,7 +97,7 @@ few_signed (a ∷ b ∷ v) (negsuc k) h s =
           absurd (omega (arith, far_below ((0 * 256 + a) * 256 + b) k v c l (All-tail (λ a. a < 256) b v others) s.value.1, s.within))
     ]
 
--- The same of a slice's first octet and the rest.
+-- After the first octet of a slice, a zero, there are at most sixteen octets.
 pub few_behind : (s : List ℕ) → 1 ≤ length s → get_or s 0 0 ≡ 0 → IsShortest s → number_of s < 2 ^ 128 → length (take (length s - 1) (drop 1 s)) ≤ 16
 few_behind [] there e s low = absurd s
 few_behind (a ∷ v) there e s low = omega (arith, ap length (rest_is 1 (a ∷ v)), few_zero a v e s low)

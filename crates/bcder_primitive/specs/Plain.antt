@@ -47,14 +47,14 @@ pub record WholeOctets (p : OctetsLeft) (text : List ℕ) : Type 0 where
 pub record LacksOctets {A : Type 0} (P : List ℕ → A → Type 0) (old : OctetsLeft) : Type 0 where
   pub none : (text : List ℕ) (x : A) → P text x → WholeOctets old text → ⊥
 
--- Octets of the grammar were read; where the content goes on behind them, as a whole it isn't of the grammar.
+-- Octets of the grammar were read; where the content goes on after them, as a whole it isn't of the grammar.
 pub record GivesOctets {A : Type 0} (P : List ℕ → A → Type 0) (old : OctetsLeft) (x : A) (new : OctetsLeft) : Type 0 where
   pub text : List ℕ
   pub is : P text x
   pub goes : GoesBy old text new
   pub only : (Drained new → ⊥) → LacksOctets P old
 
--- A reader of a whole primitive content, whose end is tested behind it, by what its answer means.
+-- A reader of a whole primitive content, whose end is tested afterwards, by what its answer means.
 abbrev pub ReadsOctetsAs : {A B E : Type 0} → (A → B) → (List ℕ → B → Type 0) → OctetsLeft → Result A (DecodeError E) → OctetsLeft → Type 0
 ReadsOctetsAs f P old (Ok x) new = GivesOctets P old (f x) new
 ReadsOctetsAs f P old (Err e) new = OnContent e (LacksOctets P old)

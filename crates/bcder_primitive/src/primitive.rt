@@ -140,7 +140,7 @@ impl<S: Source> Primitive<S> {
         &self.source.source.slice()[..count]
     }
 
-    // Goes behind all octets of the content, which are at hand.
+    // Goes past all octets of the content, which are at hand.
     fn pass(&mut self, count: usize)
         requires limit { (plain S.rest self.old).limit ≡ Some count }
         requires available { count ≤ S.available self.old.source.source }

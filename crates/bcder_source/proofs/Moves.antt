@@ -1,4 +1,4 @@
--- The law of reading: what was consumed, and what is left behind it.
+-- The law of reading: what was consumed, and what is left after it.
 use Rattle.std.proofs.Common.{◌≡◌, ℕ, suc, ◌+◌, ◌-◌, ◌≤◌, List, [], ◌∷◌, ◌++◌, length, take, drop, Option, Some, None, refl, sym, ap, ◌∙◌, append_assoc, add_assoc, length-append, arith}
 use Rattle.std.proofs.lemmas.List.{take-append-drop, length-take-le}
 use Rattle.std.proofs.Math.Seq.{drop-append_seam}
@@ -20,7 +20,7 @@ pub more_more : (n m : ℕ) (l : Option ℕ) → more_limit (n + m) l ≡ more_l
 more_more n m None = refl
 more_more n m (Some k) = ap (λ (z : ℕ). Some z) (add_assoc n m k)
 
--- What was consumed stood in front of what might be read, and what may be read is behind it.
+-- What was consumed stood in front of what might be read, and what may be read comes after it.
 pub left_moved : {old new : View} {text : List ℕ} → Moved old text new → left old ≡ text ++ left new
 left_moved {old} {new} {text} m =
     ap (λ (l : Option ℕ). limited l old.rest) m.limit ∙ ap (λ (s : List ℕ). limited (more_limit (length text) new.limit) s) m.rest ∙ limited_sum text new.rest new.limit
@@ -33,7 +33,7 @@ moved_none {v} = record { rest = refl; limit = at v.limit }
     at None = refl
     at (Some n) = ap (λ (z : ℕ). Some z) (omega arith)
 
--- Two consumptions, one behind the other, are one.
+-- Two consumptions, one after the other, are one.
 pub moved_both : {a b c : View} {x y : List ℕ} → Moved a x b → Moved b y c → Moved a (x ++ y) c
 moved_both {a} {b} {c} {x} {y} m n = record {
   rest = m.rest ∙ ap (λ (z : List ℕ). x ++ z) n.rest ∙ sym (append_assoc x y c.rest);
@@ -47,7 +47,7 @@ moved_on s r n l e there within = record {
   limit = ap (λ (z : ℕ). Some z) (omega (arith, length-take-le n s there));
 }
 
--- What may be read behind a step.
+-- What may be read after a step.
 pub drop_moved : {old new : View} (n : ℕ) → n ≤ length old.rest → Moved old (take n old.rest) new → left new ≡ drop n (left old)
 drop_moved {old} {new} n there m =
     let e : length (take n old.rest) ≡ n = length-take-le n old.rest there in

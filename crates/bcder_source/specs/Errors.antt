@@ -21,7 +21,7 @@ OnlyAtEnd (Content error pos) rest = rest ≡ []
 OnlyAtEnd (Source error) rest = Unit {0}
 OnlyAtEnd Memory rest = ⊥
 
--- A fact for want of memory.
+-- A fact for lack of memory.
 abbrev pub OnMemory : {E : Type 0} → DecodeError E → Type 0 → Type 0
 OnMemory (Content error pos) fact = Unit {0}
 OnMemory (Source error) fact = Unit {0}

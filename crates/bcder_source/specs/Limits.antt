@@ -3,7 +3,7 @@ use Rattle.std.specs.Prelude.{◌≡◌, ℕ, ◌<◌, ◌≤◌, min, List, [],
 use Rattle.bcder_source.specs.Views.{View, limited}
 use Rattle.bcder_source.specs.declared.limited.LimitedSource.{LimitedSource}
 
--- What a limited source still tells, by the rest of the source in it.
+-- What may still be read of a limited source, by the rest of the source in it.
 abbrev pub view : {S : Type 0} → (S → List ℕ) → LimitedSource S → View
 view rest x = record { rest = rest x.source; limit = x.limit }
 

@@ -1,4 +1,4 @@
--- What a source under a limit still tells, and the law of reading from it.
+-- What may still be read of a source under a limit, and the law of reading from it.
 use Rattle.std.specs.Prelude.{◌≡◌, ℕ, ◌+◌, List, [], ◌∷◌, ◌++◌, length, take, Option, Some, None}
 
 -- The rest of a source, and how many octets of it may still be read.
@@ -15,7 +15,7 @@ limited (Some n) octets = take n octets
 abbrev pub left : View → List ℕ
 left v = limited v.limit v.rest
 
--- A limit behind n more octets.
+-- A limit after n more octets.
 abbrev pub more_limit : ℕ → Option ℕ → Option ℕ
 more_limit n None = None
 more_limit n (Some m) = Some (n + m)

@@ -7,12 +7,12 @@ pub use bcder_tree::laws::{
     each_spelling_is_ber, no_proper_front, one_spelling, one_tree_in_front,
 };
 
-/// What is read stood in front of what might be read, and what may still be read is behind it.
+/// What is read stood in front of what might be read, and what may still be read comes after it.
 pub fn reading_takes_a_front()
     ensures { (old new : View) (text : List ℕ) → Moved old text new → left old ≡ text ++ left new }
 {}
 
-/// Two readings, one behind the other, are one.
+/// Two readings, one after the other, are one.
 pub fn readings_join()
     ensures { (a b c : View) (x y : List ℕ) → Moved a x b → Moved b y c → Moved a (x ++ y) c }
 {}

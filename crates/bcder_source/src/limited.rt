@@ -14,7 +14,7 @@ use std::alloc::{AllocError, Global};
 /// (`Moved`).
 #[derive(Drop)]
 pub struct LimitedSource<S> {
-    /// The source, behind the limit too.
+    /// The source, past the limit too.
     pub source: S,
     /// How many octets may still be read, where there is a limit.
     pub limit: Option<usize>,
@@ -30,7 +30,7 @@ fn up_to(octets: &[u8], limit: Option<usize>) -> &[u8]
     }
 }
 
-// How many octets the source is asked for, where so many are wanted: none behind the limit.
+// How many octets the source is asked for, where so many are wanted: none past the limit.
 fn asked(len: usize, limit: usize) -> usize
     ensures { result ≡ min len limit }
 {
@@ -98,7 +98,7 @@ impl<S: Source> Source for LimitedSource<S> {
         self.source.pos()
     }
 
-    /// Asks the source for no octet behind the limit.
+    /// Asks the source for no octet past the limit.
     fn request(&mut self, len: usize) -> Result<usize, S::Error>
         ensures same { view S.rest self.new ≡ view S.rest self.old }
         ensures rest { left (view S.rest self.new) ≡ left (view S.rest self.old) }

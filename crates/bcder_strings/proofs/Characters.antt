@@ -6,7 +6,7 @@ use Rattle.std.proofs.lemmas.List.Elements.{All-nil, All-cons}
 use Rattle.bcder_chars.specs.Texts.{Tells, IsText, Starts, HasOneStart}
 use Rattle.bcder_chars.proofs.Checks.{text_less, text_none}
 
--- The characters that octets tell are told.
+-- The characters that octets state are answered.
 abbrev pub Told : (ℕ → Type 0) → (ℕ → List ℕ) → (List ℕ → List ℕ) → Type 0
 Told Has spell chars_of = (octets text : List ℕ) → Tells Has spell octets text → chars_of octets ≡ text
 
@@ -14,14 +14,14 @@ Told Has spell chars_of = (octets text : List ℕ) → Tells Has spell octets te
 pub none_left : {Has : ℕ → Type 0} {spell : ℕ → List ℕ} {chars_of : List ℕ → List ℕ} → Told Has spell chars_of → (octets : List ℕ) → octets ≡ [] → chars_of octets ≡ []
 none_left {Has} told octets e = told octets [] (record { has = All-nil Has; spelled = sym e })
 
--- The character in front of a text, and those behind it.
+-- The character in front of a text, and those after it.
 pub first_left : {Has : ℕ → Type 0} {spell : ℕ → List ℕ} {chars_of : List ℕ → List ℕ} → Told Has spell chars_of → ((d : ℕ) → Has d → 1 ≤ length (spell d)) → HasOneStart Has spell → (octets behind : List ℕ) (c : ℕ) → Starts Has spell octets c behind → IsText Has spell octets → chars_of octets ≡ c ∷ chars_of behind
 first_left {Has} {spell} told some one octets behind c s t =
     let rest = text_less octets behind c some one s t in
     told octets (c ∷ rest.chars) (record { has = All-cons Has c rest.chars s.has rest.tells.has; spelled = ap (λ (l : List ℕ). spell c ++ l) rest.tells.spelled ∙ sym s.spelled })
     ∙ ap (λ (l : List ℕ). c ∷ l) (sym (told behind rest.chars rest.tells))
 
--- The same of a character that was found, and of none.
+-- A character that was found in front, and those after it; or none.
 
 pub first_found : {Has : ℕ → Type 0} {spell : ℕ → List ℕ} {chars_of : List ℕ → List ℕ} → Told Has spell chars_of → ((d : ℕ) → Has d → 1 ≤ length (spell d)) → HasOneStart Has spell → (octets : List ℕ) → IsText Has spell octets → (found : Option (ℕ × Bor (List ℕ))) → IfSome found (λ p. Starts Has spell octets p.0 p.1.now) → IfSome found (λ p. chars_of octets ≡ p.0 ∷ chars_of p.1.now)
 first_found told some one octets t (Some p) s = first_left told some one octets p.1.now p.0 s t

@@ -38,7 +38,7 @@ impl<'a, L: CharSet> RestrictedStringChars<'a, L> {
     }
 }
 
-// The first character of a text, and what is behind it.
+// The first character of a text, and what comes after it.
 fn first_of<L: CharSet>(octets: &[u8]) -> Option<(char, &[u8])>
     requires { IsText L.has L.spell octets.now }
     ensures first { IfSome result (λ p. L.chars_of octets.now ≡ p.0 ∷ L.chars_of p.1.now) }

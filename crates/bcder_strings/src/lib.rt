@@ -5,7 +5,7 @@
 //! else in segments of 1000; in DER it is primitive. Contracts see its octets, and so do equality, order and hash.
 //!
 //! What differs from the Rust crate: what takes memory is given an allocator and answers a `Result`; `from_str` and
-//! `from_string` refuse with `RestrictedStringError`, which has a cause for want of memory; in place of `Deref` there
+//! `from_string` refuse with `RestrictedStringError`, which has a cause for lack of memory; in place of `Deref` there
 //! are `as_octet_string`, `into_octet_string` and the calls of an octet string by name; `chars` in place of an
 //! `IntoIterator`.
 #![tactic(auto)]

@@ -75,7 +75,7 @@ mutual
       cc
   one_spelling m (constructed t ts) a b r h g = spelled_constructed r (one_spellings m ts h.0 g.0 r h.2 g.2) h.1 g.1
 
-  -- And so have trees, one behind the other.
+  -- And so have trees, one after the other.
   pub one_spellings : (m : Mode) (ts : Trees) (a b : List ℕ) → m ≢ Ber → SpellsAll m ts a → SpellsAll m ts b → a ≡ b
   one_spellings m none a b r h g = h ∙ sym g
   one_spellings m (more t ts) a b r h g =

@@ -40,7 +40,7 @@ pub front_splits : {s rest : List ℕ} (u : Tree) → Front Der s u rest → (k 
 front_splits (primitive t v) f = (false, t, v, split_primitive f)
 front_splits (constructed t ts) f = (true, t, (split_constructed f).content, (split_constructed f).splits)
 
--- Behind a header of the primitive form only that primitive value is in front.
+-- Where a header of the primitive form is in front, only that primitive value is.
 pub front_primitive : {m p : Mode} {s v b rest : List ℕ} {t : TagValue} {u : Tree} → Splits m s false t v b → Front p s u rest → (u ≡ primitive t v) × (b ≡ rest)
 front_primitive {v = v} {t = t} {u} x f = let o = one_tree (primitive t v) u (primitive_front x) f in (sym o.0, o.1)
 
@@ -52,7 +52,7 @@ front_tag x f =
       | inr d ↦ absurd (not_mixed x d.1)
     ]
 
--- The content behind a header spells the trees of the value in front.
+-- The content after a header spells the trees of the value in front.
 pub content_trees : {m p : Mode} {s c b rest : List ℕ} {t u : TagValue} {ts : Trees} → Splits m s true t c b → Front p s (constructed u ts) rest → Fields p c ts × (b ≡ rest)
 content_trees {p = p} {ts = ts} x f =
     let parts = constructed_parts f in
@@ -61,7 +61,7 @@ content_trees {p = p} {ts = ts} x f =
       | inr d ↦ absurd (not_mixed x d.1)
     ]
 
--- Behind a header of the constructed form only a constructed value is in front, of what the content spells.
+-- Where a header of the constructed form is in front, only a constructed value is, of what the content spells.
 pub front_constructed : {m p : Mode} {s c b rest : List ℕ} {t : TagValue} (u : Tree) → Splits m s true t c b → Front p s u rest → (ts : Trees) × (u ≡ constructed t ts) × Fields p c ts × (b ≡ rest)
 front_constructed (primitive v w) x f = let form : false ≡ true = (one_split (split_primitive f) x).form in absurd cc
 front_constructed {t = t} (constructed v ts) x f =
@@ -69,14 +69,14 @@ front_constructed {t = t} (constructed v ts) x f =
     let tag : v ≡ t = front_tag x f in
     (ts, ap (λ (w : TagValue). constructed w ts) tag, parts.0, parts.1)
 
--- Behind the first tree are the others.
+-- After the first tree come the others.
 pub others_behind : {m p : Mode} {s rest : List ℕ} {t u : Tree} {ts : Trees} → Front m s t rest → Fields p s (more u ts) → Fields p rest ts × (t ≡ u)
 others_behind {p = p} {s} {t = t} {u} {ts} f sp =
     let first : Front p s u sp.spelled.1 = record { text = sp.spelled.0; spelled = sp.spelled.2; whole = sp.spelled.4 } in
     let o = one_tree t u f first in
     (record { spelled = subst (SpellsAll p ts) (sym o.1) sp.spelled.3 }, o.0)
 
--- The first of some trees is in front, and the others are behind it.
+-- The first of some trees is in front, and the others come after it.
 pub first_front : {m : Mode} {s : List ℕ} {u : Tree} {ts : Trees} → Fields m s (more u ts) → (rest : List ℕ) × Front m s u rest × Fields m rest ts
 first_front sp = (sp.spelled.1, record { text = sp.spelled.0; spelled = sp.spelled.2; whole = sp.spelled.4 }, record { spelled = sp.spelled.3 })
 
@@ -129,7 +129,7 @@ header_long {m} {h} {k} {t} {n} hd = rw hd.whole (both hd.identifier hd.size hd.
 pub header_positive : {m : Mode} {h : List ℕ} {k : Bool} {t : TagValue} {n : ℕ} → IsHeader m h k t n → 0 < length h
 header_positive hd = omega (arith, header_long hd)
 
--- Octets that split are as many as the header, of at most six octets, its content, below 4 GiB, and what is behind.
+-- Octets that split are as many as the header, of at most six octets, its content, below 4 GiB, and what comes after.
 pub split_bound : {m : Mode} {s : List ℕ} {k : Bool} {t : TagValue} {c b : List ℕ} → t.number < 31 → Splits m s k t c b → length s ≤ 2 ^ 32 + 5 + length b
 split_bound {m} {s} {k} {t} {c} {b} low x =
     let hd = x.header_is in

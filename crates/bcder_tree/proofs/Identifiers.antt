@@ -1,4 +1,4 @@
--- Identifiers with a number from 31 up, by their first octet and those behind it.
+-- Identifiers with a number from 31 up, by their first octet and those after it.
 use Rattle.std.proofs.Common.{◌≡◌, ℕ, ◌+◌, ◌-◌, ◌*◌, ◌<◌, ◌≤◌, Bool, List, [], ◌∷◌, ◌++◌, length, get_or, take, drop, refl, sym, ap, ◌∙◌, arith}
 use Rattle.bcder_tree.specs.Tags.{TagValue}
 use Rattle.bcder_tree.specs.Octets.{form_bit, IsHigh}

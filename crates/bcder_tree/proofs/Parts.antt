@@ -1,4 +1,4 @@
--- Octets as a header with its content, or as an identifier with a content of indefinite length, and what is behind.
+-- Octets as a header with its content, or as an identifier with a content of indefinite length, and what comes after.
 use Rattle.std.proofs.Common.{◌≡◌, ◌⊎◌, inl, inr, ℕ, Bool, true, false, List, [], ◌∷◌, ◌++◌, length, refl, sym, ap, ◌∙◌, subst, append_assoc, arith}
 use Rattle.bcder_tree.specs.declared.mode.Mode.{Mode}
 use Rattle.bcder_tree.specs.Tags.{TagValue, IsTag}
@@ -21,7 +21,7 @@ one_split {c = c} {d} {b} {e} x y =
     let l = by_length c d b e o.size o.rest in
     record { form = o.form; tag = o.tag; content = l.front; behind = l.rest }
 
--- A constructed value of indefinite length in front, with this content, and what is behind it.
+-- A constructed value of indefinite length in front, with this content, and what comes after it.
 pub record Opens (s : List ℕ) (t : TagValue) (content behind : List ℕ) : Type 0 where
   pub identifier : List ℕ
   pub tag : IsTag t
@@ -45,7 +45,7 @@ not_mixed {m} {c = c} {d} {b} {e} x y =
     let o = one_identifier h.identifier y.identifier (h.size ++ (c ++ b)) (128 ∷ (d ++ (0 ∷ 0 ∷ e))) h.identifier_is y.identifier_is (sym (parts_of (c ++ b) h) ∙ sym x.whole ∙ y.whole) in
     not_indefinite m h.size (c ++ b) (d ++ (0 ∷ 0 ∷ e)) (length c) h.size_is o.rest
 
--- Two ways to open one list have the tag and all that is behind `80` in common.
+-- Two ways to open one list have the tag and all that comes after `80` in common.
 pub one_open : {s : List ℕ} {t u : TagValue} {c d b e : List ℕ} → Opens s t c b → Opens s u d e → (t ≡ u) × (c ++ (0 ∷ 0 ∷ b) ≡ d ++ (0 ∷ 0 ∷ e))
 one_open {c = c} {d} {b} {e} x y =
     let o = one_identifier x.identifier y.identifier (128 ∷ (c ++ (0 ∷ 0 ∷ b))) (128 ∷ (d ++ (0 ∷ 0 ∷ e))) x.identifier_is y.identifier_is (sym x.whole ∙ y.whole) in
@@ -74,7 +74,7 @@ split_goes_on {k = k} {t} {c} {b} x e =
 pub open_goes_on : {s : List ℕ} {t : TagValue} {c b : List ℕ} → Opens s t c b → Ends s → ⊥
 open_goes_on {t = t} {c} {b} x e = identifier_goes_on x.identifier (128 ∷ (c ++ (0 ∷ 0 ∷ b))) true t x.tag x.identifier_is (subst Ends x.whole e)
 
--- A header of the primitive form, with its content behind it, is a primitive value.
+-- A header of the primitive form, with its content after it, is a primitive value.
 pub primitive_front : {m : Mode} {s : List ℕ} {t : TagValue} {v behind : List ℕ} → Splits m s false t v behind → Front m s (primitive t v) behind
 primitive_front {v = v} {behind} x = record { text = x.header ++ v; spelled = record { header = x.header; header_is = x.header_is; whole = refl }; whole = x.whole ∙ sym (append_assoc x.header v behind) }
 
@@ -82,7 +82,7 @@ primitive_front {v = v} {behind} x = record { text = x.header ++ v; spelled = re
 pub split_primitive : {m : Mode} {s : List ℕ} {t : TagValue} {v rest : List ℕ} → Front m s (primitive t v) rest → Splits m s false t v rest
 split_primitive {v = v} {rest} f = record { header = f.spelled.header; header_is = f.spelled.header_is; whole = f.whole ∙ ap (λ (z : List ℕ). z ++ rest) f.spelled.whole ∙ append_assoc f.spelled.header v rest }
 
--- A header of the constructed form, with the spellings of trees behind it, is a constructed value.
+-- A header of the constructed form, with the spellings of trees after it, is a constructed value.
 pub sequence_front : {m : Mode} {s : List ℕ} {t : TagValue} {c b : List ℕ} {ts : Trees} → Splits m s true t c b → HasDefinite m → Fields m c ts → Front m s (constructed t ts) b
 sequence_front {t = t} {c} {b} x p sp = record { text = x.header ++ c; spelled = (c, definite p x.header x.header_is refl, sp.spelled); whole = x.whole ∙ sym (append_assoc x.header c b) }
 

@@ -17,7 +17,7 @@ tree_goes_on (constructed t ts) f e =
 not_both : {A : Type 0} → false ≡ true → A
 not_both e = absurd cc
 
--- Of some trees the first is in front, and what spells the others is behind it.
+-- Of some trees the first is in front, and what spells the others comes after it.
 more_front : {m : Mode} {t : Tree} {ts : Trees} {s a : List ℕ} (x : List ℕ) → s ≡ a ++ x → (sp : Fields m a (more t ts)) → Front m s t (sp.spelled.1 ++ x)
 more_front x e sp = record { text = sp.spelled.0; spelled = sp.spelled.2; whole = e ∙ ap (λ (z : List ℕ). z ++ x) sp.spelled.4 ∙ append_assoc sp.spelled.0 sp.spelled.1 x }
 

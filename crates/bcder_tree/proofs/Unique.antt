@@ -6,7 +6,7 @@ use Rattle.bcder_tree.specs.Tags.{TagValue}
 use Rattle.bcder_tree.specs.Octets.{form_bit, IsHigh, IsIdentifier, IsLength}
 use Rattle.bcder_tree.specs.Tree.{IsHeader}
 
--- Two fronts of one list are one, and so is what is behind them.
+-- Two fronts of one list are one, and so is what comes after them.
 pub record Same (i j x y : List ℕ) : Type 0 where
   pub front : i ≡ j
   pub rest : x ≡ y
@@ -50,7 +50,7 @@ first_octet c d n l true true hn hl e = (omega arith, refl, omega arith)
 first_octet c d n l false false hn hl e = (omega arith, refl, omega arith)
 first_octet c d n l k q hn hl e = absurd (omega arith)
 
--- A number behind the first octet is at least 31.
+-- A number after the first octet is at least 31.
 pub high_above : (i : List ℕ) (n : ℕ) → IsHigh i n → 31 ≤ n
 high_above [] n h = absurd h
 high_above (b ∷ []) n h = omega arith

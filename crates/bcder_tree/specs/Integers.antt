@@ -3,7 +3,7 @@ use Rattle.std.specs.Prelude.{◌≡◌, ℕ, ◌+◌, ◌*◌, ◌<◌, ◌≤�
 use Rattle.bcder_tree.specs.Tags.{universal}
 use Rattle.bcder_tree.specs.Tree.{Tree, primitive}
 
--- The number that octets spell, the most significant first, behind a number that was read before.
+-- The number that octets spell, the most significant first, after a number that was read before.
 abbrev pub number_behind : ℕ → List ℕ → ℕ
 number_behind before [] = before
 number_behind before (a ∷ v) = number_behind (before * 256 + a) v

@@ -19,7 +19,7 @@ IsHigh (b ∷ c ∷ d ∷ []) n = (128 < b) × (b < 256) × (128 ≤ c) × (c < 
 IsHigh (b ∷ c ∷ d ∷ e ∷ _) n = ⊥
 
 -- The identifier octets of a tag, `constructed` telling the form: the class in bits 8 and 7 of the first octet; a
--- number to 30 in its bits 5 to 1, and behind five set bits a higher one (8.1.2.2 to 8.1.2.5).
+-- number to 30 in its bits 5 to 1, and after five set bits a higher one (8.1.2.2 to 8.1.2.5).
 abbrev pub IsIdentifier : List ℕ → Bool → TagValue → Type 0
 IsIdentifier [] constructed t = ⊥
 IsIdentifier (a ∷ []) constructed t = (a ≡ t.class * 64 + form_bit constructed + t.number) × (t.number < 31)

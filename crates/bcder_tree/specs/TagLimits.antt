@@ -1,4 +1,4 @@
--- The tags that the codec tells.
+-- The tags that the codec reads and writes.
 use Rattle.std.specs.Prelude.{ℕ, ◌<◌, ◌≤◌}
 use Rattle.bcder_tree.specs.Tags.{TagValue}
 

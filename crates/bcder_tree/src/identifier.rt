@@ -15,7 +15,7 @@ fn split_first(octet: u8) -> (u8, bool, u8)
     (octet / 64, octet % 64 >= 32, octet % 32)
 }
 
-// A number from 31 up, in the octets behind the first, and how many octets it takes.
+// A number from 31 up, in the octets after the first, and how many octets it takes.
 fn high_number(octets: &[u8]) -> Option<(u32, usize)>
     ensures found { IfSome result (λ r. Begins (λ text. IsHigh text r.0) octets.now r.1) }
     ensures bound { IfSome result (λ r. r.0 ≤ 2097151) }

@@ -29,7 +29,7 @@ fn is_shortest(mode: Mode, low: usize, length: usize) -> bool
     }
 }
 
-// The octet behind `81`; the count of octets includes the first.
+// The octet after `81`; the count of octets includes the first.
 fn length_of_1(mode: Mode, octets: &[u8]) -> Option<(usize, usize)>
     ensures found { IfSome result
         (λ r. Begins (λ text. IsLength mode text r.0) (129 ∷ octets.now) r.1) }
@@ -46,7 +46,7 @@ fn length_of_1(mode: Mode, octets: &[u8]) -> Option<(usize, usize)>
     None
 }
 
-// The two octets behind `82`.
+// The two octets after `82`.
 fn length_of_2(mode: Mode, octets: &[u8]) -> Option<(usize, usize)>
     ensures found { IfSome result
         (λ r. Begins (λ text. IsLength mode text r.0) (130 ∷ octets.now) r.1) }
@@ -63,7 +63,7 @@ fn length_of_2(mode: Mode, octets: &[u8]) -> Option<(usize, usize)>
     None
 }
 
-// The three octets behind `83`.
+// The three octets after `83`.
 fn length_of_3(mode: Mode, octets: &[u8]) -> Option<(usize, usize)>
     ensures found { IfSome result
         (λ r. Begins (λ text. IsLength mode text r.0) (131 ∷ octets.now) r.1) }
@@ -80,7 +80,7 @@ fn length_of_3(mode: Mode, octets: &[u8]) -> Option<(usize, usize)>
     None
 }
 
-// The four octets behind `84`.
+// The four octets after `84`.
 fn length_of_4(mode: Mode, octets: &[u8]) -> Option<(usize, usize)>
     ensures found { IfSome result
         (λ r. Begins (λ text. IsLength mode text r.0) (132 ∷ octets.now) r.1) }
@@ -97,7 +97,7 @@ fn length_of_4(mode: Mode, octets: &[u8]) -> Option<(usize, usize)>
     None
 }
 
-// A definite length behind its first octet, `81` to `84`, and how many octets it takes with that.
+// A definite length after its first octet, `81` to `84`, and how many octets it takes with that.
 fn long_length(mode: Mode, first: u8, octets: &[u8]) -> Option<(usize, usize)>
     requires { 128 < first }
     ensures found { IfSome result

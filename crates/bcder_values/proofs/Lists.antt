@@ -13,7 +13,7 @@ use Rattle.bcder_written.proofs.Compose.{has_both, too_many, both_length}
 use Rattle.bcder_written.proofs.Pieces.{wrote_as, wrote_both}
 use Rattle.bcder_values.proofs.Wrapping.{has_as}
 
--- A list is written as its front, and behind that what follows.
+-- A list is written as its front, and then what follows.
 pub all_split : {V : Type 0} (P : V → List ℕ → Type 0) (xs ys : List V) (text : List ℕ) → WritesAll P (xs ++ ys) text → WritesBoth (WritesAll P xs) (WritesAll P ys) text
 all_split P [] ys text w = record { first = []; second = text; is_first = refl; is_second = w; whole = refl }
 all_split P (x ∷ xs) ys text w =

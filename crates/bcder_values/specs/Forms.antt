@@ -87,7 +87,7 @@ plain {A} tag o = record {
 pub not_more : {t : Tree} {ts : Trees} → none ≡ more t ts → ⊥
 not_more e = cc
 
--- The first of values, where it is told.
+-- The first of values has a tag of its form.
 pub first_of : {A : Type 0} (Q : Tree → A → Type 0) (has : TagValue → Type 0) {x : A} {t u : Tree} {ts us : Trees}
     → ((t : Tree) (x : A) → Q t x → has (tag_of t)) → Q t x → more t ts ≡ more u us → has (tag_of u)
 first_of Q has {x} {t} tagged q e = subst (λ (z : Tree). has (tag_of z)) (same_trees e).0 (tagged t x q)
@@ -111,7 +111,7 @@ last {A} f = record {
   one_meaning = λ s m c. then_one (f.one_meaning s m c) end_one;
 }
 
--- A value, and others behind it.
+-- A value, and others after it.
 abbrev pub both : {A B : Type 0} → Form A → Forms B → Forms (A × B)
 both {A} {B} f g = record {
   reads = λ m. Then (f.reads m) (g.reads m);

@@ -19,7 +19,7 @@ IsOpening Ber t n text = IsHeaderIn true t n text
 IsOpening Cer t n text = IsOpen t text
 IsOpening Der t n text = IsHeaderIn true t n text
 
--- Behind them: in CER end-of-contents, else nothing.
+-- After them: in CER end-of-contents, else nothing.
 abbrev pub IsClosing : Mode → List ℕ → Type 0
 IsClosing Ber text = text ≡ []
 IsClosing Cer text = text ≡ 0 ∷ 0 ∷ []

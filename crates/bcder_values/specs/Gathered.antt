@@ -6,7 +6,7 @@ use Rattle.bcder_written.specs.declared.error.EncodeError.{EncodeError}
 use Rattle.bcder_written.specs.declared.error.EncodeError.TheVariants as errors
 use Rattle.bcder_written.specs.Writing.{CannotWrite}
 
--- A text of P stands behind what was there.
+-- A text of P comes after what was there.
 pub record Extended (P : List ℕ → Type 0) (old new : CapturedValue) : Type 0 where
   pub text : List ℕ
   pub is : P text

@@ -26,7 +26,7 @@ pub first_many : {A : Type 0} (f : Form A) (m : Mode) (ts : Trees) (xs : List A)
 first_many f m ts [] p t us e = let k : none ≡ more t us = sym p ∙ e in absurd cc
 first_many f m ts (x ∷ xs) p t us e = subst (λ (z : Tree). f.has (tag_of z)) (same_trees (sym p.2 ∙ e)).0 (f.tagged m p.0 x p.3)
 
--- All values of a content, one behind the other.
+-- All values of a content, one after the other.
 abbrev pub items : {A : Type 0} → Form A → Forms (List A)
 items {A} f = record {
   reads = λ m. Many (f.reads m);

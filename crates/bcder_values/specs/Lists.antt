@@ -6,7 +6,7 @@ use Rattle.bcder_written.specs.Encoded.{NoTree, NoText, AreBoth, WritesBoth, Spe
 use Rattle.bcder_values.specs.Choices.{nothing_spelled, nothing_one}
 use Rattle.bcder_values.specs.Laws.{both_spelled, both_one}
 
--- The values of each, one behind the other.
+-- The values of each, one after the other.
 abbrev pub AreAll : {V : Type 0} → (V → Trees → Type 0) → List V → Trees → Type 0
 AreAll T [] = NoTree
 AreAll T (x ∷ xs) = AreBoth (T x) (AreAll T xs)

@@ -12,7 +12,7 @@ use Rattle.bcder_values.specs.Choices.{AreOptional, WritesOptional, optional_spe
 use Rattle.bcder_values.specs.Forms.{Form, Forms, ended}
 use Rattle.bcder_values.specs.Laws.{both_spelled, both_one}
 
--- All values of a form have that tag, and what is behind it never begins with it.
+-- All values of a form have that tag, and what comes after it never begins with it.
 pub record Apart {A B : Type 0} (tag : TagValue) (f : Form A) (g : Forms B) : Type 0 where
   pub is : (t : TagValue) → f.has t → t ≡ tag
   pub behind : g.begins tag → ⊥
@@ -26,7 +26,7 @@ LawfulOption P None = Unit {0}
 LawfulOption P (Some x) = P x
 
 module _ {A B : Type 0} (tag : TagValue) (f : Form A) (g : Forms B) (a : Apart tag f g) where
-  -- What is read behind the field doesn't begin with its tag.
+  -- What is read after the field doesn't begin with its tag.
   without : (m : Mode) (ts : Trees) (b : B) → g.reads m ts b → Without tag ts
   without m ts b p = record { unlike = λ t us e same. a.behind (subst g.begins same (g.first m ts b p t us e)) }
 
@@ -51,7 +51,7 @@ pub first_cases : {A B : Type 0} (tag : TagValue) (f : Form A) (g : Forms B) (m 
 first_cases tag f g m ts None b p t us e = inr (g.first m ts b p.1 t us e)
 first_cases tag f g m ts (Some x) b p t us e = inl (subst (λ (z : Tree). f.has (tag_of z)) (same_trees (sym p.whole ∙ e)).0 (f.tagged m p.first x p.is))
 
--- A value of that tag, or none, and others behind it: OPTIONAL.
+-- A value of that tag, or none, and others after it: OPTIONAL.
 abbrev pub maybe : {A B : Type 0} → TagValue → Form A → Forms B → Forms (Option A × B)
 maybe {A} {B} tag f g = record {
   reads = λ m. Opt tag (f.reads m) (g.reads m);
@@ -94,7 +94,7 @@ first_default tag f g missing m ts x p t us e = elim p.cases [
   | inr q ↦ first_cases tag f g m ts (Some x.0) x.1 q t us e
 ]
 
--- The same, where a missing value stands for another: DEFAULT.
+-- A value of that tag, or none where it is the default, and others after it: DEFAULT.
 abbrev pub default : {A B : Type 0} → TagValue → Form A → A → (A → Option A) → Forms B → Forms (A × B)
 default {A} {B} tag f missing shown g = record {
   reads = λ m. Default tag (f.reads m) missing (g.reads m);
@@ -120,7 +120,7 @@ joined_none : (ts : Trees) → joined ts none ≡ ts
 joined_none none = refl
 joined_none (more t ts) = ap (more t) (joined_none ts)
 
--- Values with none behind them.
+-- Values with none after them.
 pub with_none : (T : Trees → Type 0) {ts : Trees} → T ts → AreBoth T NoTree ts
 with_none T {ts} p = record { first = ts; second = none; is_first = p; is_second = refl; whole = sym (joined_none ts) }
 
@@ -142,7 +142,7 @@ last_maybe {A} tag f = record {
   one_meaning = λ s m c. opt_one (tagged_by f ended s.0 m) (f.one_meaning s.1 m c) end_one;
 }
 
--- The same with a default.
+-- A value of that tag, or none where it is the default, as the last.
 abbrev pub last_default : {A : Type 0} → TagValue → Form A → A → (A → Option A) → Forms (A × Unit {0})
 last_default {A} tag f missing shown = record {
   reads = λ m. Default tag (f.reads m) missing End;

@@ -5,7 +5,7 @@ use Rattle.bcder_values.specs.bcder_tree.Tree.{Trees, SpellsAll}
 use Rattle.bcder_content.specs.Contents.{Whole}
 use Rattle.bcder_content.specs.Ran.{fresh}
 
--- A source with these octets, read from its beginning, has values of T and ends behind them.
+-- A source with these octets, read from its beginning, has values of T and ends after them.
 pub record ReadAgain (m : Mode) (T : Trees → Type 0) (text : List ℕ) : Type 0 where
   pub trees : Trees
   pub is : T trees

@@ -48,7 +48,7 @@ impl Values for Captured {
     ghost one_text = { captured_one };
 }
 
-/// Encoded values that are gathered, one behind the other, to be captured octets. Contracts see the mode and
+/// Encoded values that are gathered, one after the other, to be captured octets. Contracts see the mode and
 /// the octets.
 #[derive(Drop)]
 pub struct CapturedBuilder {
@@ -92,7 +92,7 @@ impl CapturedBuilder {
         }
     }
 
-    /// The captured values, to go on behind them; their octets are copied.
+    /// The captured values, to go on after them; their octets are copied.
     pub fn from_captured(alloc: Global, captured: &Captured) -> Result<CapturedBuilder, EncodeError>
         ensures made { IfOk result (λ b. b ≡ captured.now) }
         ensures refused { IfErr result (λ e. e ≡ memory_refused) }

@@ -70,7 +70,7 @@ pub(crate) fn put_opening<W: Write>(
     }
 }
 
-// How many octets stand behind a content.
+// How many octets come after a content.
 pub(crate) fn closing_len(mode: Mode) -> usize
     ensures len { HasLength (IsClosing mode) result }
     ensures bound { result ≤ 2 }
@@ -82,7 +82,7 @@ pub(crate) fn closing_len(mode: Mode) -> usize
     }
 }
 
-// Writes what stands behind a content.
+// Writes what comes after a content.
 pub(crate) fn put_closing<W: Write>(target: &mut W, mode: Mode) -> Result<(), EncodeError>
     ensures written { OnOk result
         (Wrote (IsClosing mode) (W.contents target.old) (W.contents target.new)) }

@@ -1,4 +1,4 @@
-//! Values one behind the other.
+//! Values one after the other.
 
 ghost use Rattle.bcder_written.specs.Encoded.{AreBoth, WritesBoth};
 ghost use Rattle.bcder_values.specs.Laws.{both_spelled, both_one};
@@ -26,7 +26,7 @@ impl<A: Values> Values for (A,) {
     ghost one_text = { λ x m. A.one_text x.0 m };
 }
 
-/// Values, and others behind them.
+/// Values, and others after them.
 impl<A: Values, B: Values> Values for (A, B) {
     ghost trees = { λ x m. AreBoth (A.trees x.0 m) (B.trees x.1 m) };
 
@@ -52,7 +52,7 @@ impl<A: Values, B: Values> Values for (A, B) {
     ghost one_text = { λ x m a b. both_one (A.one_text x.0 m) (B.one_text x.1 m) a b };
 }
 
-// Of three to twelve parts: the first, and behind it the others, as a tuple of one part less.
+// Of three to twelve parts: the first, and after it the others, as a tuple of one part less.
 
 impl<A: Values, B: Values, C: Values> Values for (A, B, C) {
     ghost trees = { λ x m. AreBoth (A.trees x.0 m) (AreBoth (B.trees x.1 m) (C.trees x.2 m)) };

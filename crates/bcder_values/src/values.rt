@@ -14,7 +14,7 @@ use bcder_content::Captured;
 use std::alloc::Global;
 use std::io::Write;
 
-/// Values that can be written, one behind the other.
+/// Values that can be written, one after the other.
 ///
 /// `trees` are the values that it stands for in a mode, and `writes` is what is written of it: a spelling of
 /// them, and always the same.

@@ -8,7 +8,7 @@ use crate::bcder_tree::Mode;
 use crate::{EncodeError, Values};
 use std::io::Write;
 
-/// What has values one behind the other, and can be gone through from its beginning as often as is wanted.
+/// What has values one after the other, and can be gone through from its beginning as often as is wanted.
 ///
 /// `items` are the values that are still to come.
 pub trait Walk: Drop {

@@ -3,7 +3,7 @@
 //! both, by its own means.
 //!
 //! The ways are `skip_one`, `capture_one` and a reader that calls itself for each value in a
-//! value. An answer tells of each how many octets it takes, that it refuses them, or that no
+//! value. An answer says of each how many octets it takes, that it refuses them, or that no
 //! value is there; and then the tree that was read, or a `-`.
 #![tactic(auto)]
 

@@ -1,4 +1,4 @@
--- Values one behind the other: their texts, and why they aren't written.
+-- Values one after the other: their texts, and why they aren't written.
 use Rattle.std.proofs.Common.{◌≡◌, ℕ, ◌+◌, ◌^◌, ◌<◌, ◌≤◌, List, ◌++◌, length, refl, sym, ap, ◌∙◌, subst, Option, arith}
 use Rattle.std.proofs.lemmas.List.{length-append}
 use Rattle.bcder_written.specs.bcder_tree.declared.mode.Mode.{Mode}

@@ -10,7 +10,7 @@ use Rattle.bcder_written.specs.Encoded.{WritesBoth}
 pub header_in : {form : Bool} {t : TagValue} {n : ℕ} (i l : List ℕ) → IsTag t → IsIdentifier i form t → SpellsEverywhere (Definite n) l → IsHeaderIn form t n (i ++ l)
 header_in i l tag is size = record { identifier = i; size = l; whole = refl; tag = tag; identifier_is = is; size_is = size }
 
--- One text behind the other.
+-- One text after the other.
 pub header_of : {form : Bool} {t : TagValue} {n : ℕ} (i l : List ℕ) → IsTag t → IsIdentifier i form t → SpellsEverywhere (Definite n) l → (text : List ℕ) → WritesBoth (λ x. x ≡ i) (λ x. x ≡ l) text → IsHeaderIn form t n text
 header_of i l tag is size text w = record {
   identifier = i;

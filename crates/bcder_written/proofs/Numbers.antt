@@ -78,7 +78,7 @@ digits_spell : (k n p : ℕ) → number_behind p (bytes_high_first k n) ≡ p * 
 digits_spell zero n p = omega arith
 digits_spell (suc k) n p = digits_spell k n (p * 256 + byte_at k n) ∙ digit_more k n p
 
--- Sixteen octets of a number below 2^128, behind a zero.
+-- Sixteen octets of a number below 2^128, after a zero.
 pub padded_spells : (n : ℕ) → n < 2 ^ 128 → IsTwosComplement (0 ∷ bytes_high_first 16 n) (pos n)
 padded_spells n low = (omega arith, digits_spell 16 n 0 ∙ omega arith)
 

@@ -33,7 +33,7 @@ wrote_as f w = record { text = w.text; is = f w.text w.is; appended = w.appended
 pub front_as : {P Q : List ℕ → Type 0} {old new : Option (List ℕ)} → ((text : List ℕ) → P text → Q text) → TookFront P old new → TookFront Q old new
 front_as f w = record { text = w.text; is = f w.text w.is; taken = w.taken; others = w.others; whole = w.whole; appended = w.appended }
 
--- Two texts, one behind the other.
+-- Two texts, one after the other.
 pub wrote_both : {P Q : List ℕ → Type 0} {old mid new : Option (List ℕ)} → Wrote P old mid → Wrote Q mid new → Wrote (WritesBoth P Q) old new
 wrote_both {P} {Q} {old} {mid} {new} a b = record {
   text = a.text ++ b.text;
@@ -68,7 +68,7 @@ wrote_that text is a = record { text = text; is = is; appended = a }
 pub front_none : {old new : Option (List ℕ)} (text : List ℕ) (P : List ℕ → Type 0) → P text → Keeps old new → TookFront P old new
 front_none {old} {new} text P is kept = record { text = text; is = is; taken = []; others = text; whole = refl; appended = Appends-kept old old new [] (Appends-nil old) kept }
 
--- The same refusal, which left something else.
+-- A refusal with that error, and what follows from what was known with it.
 pub refused_as : {T E P Q : Type 0} (r : Result T E) (x : E) → (P → Q) → IfErr r (λ e. (e ≡ x) × P) → IfErr r (λ e. (e ≡ x) × Q)
 refused_as (Ok y) x f h = tt
 refused_as (Err e) x f h = (h.0, f h.1)

@@ -11,7 +11,7 @@ written_as Ber = Der
 written_as Cer = Cer
 written_as Der = Der
 
--- These trees, and behind them those.
+-- These trees, and after them those.
 abbrev pub joined : Trees → Trees → Trees
 joined none us = us
 joined (more t ts) us = more t (joined ts us)
@@ -46,7 +46,7 @@ pub record WritesWrapped (m : Mode) (tag : TagValue) (P : List ℕ → Type 0) (
   pub few : length content < 2 ^ 32
   pub spelled : IsConstructed (written_as m) text tag content
 
--- Values of P, and behind them values of Q.
+-- Values of P, and after them values of Q.
 pub record AreBoth (P Q : Trees → Type 0) (ts : Trees) : Type 0 where
   pub first : Trees
   pub second : Trees

@@ -36,7 +36,7 @@ abbrev pub steps : ℤ → ℕ
 steps (pos n) = n
 steps (negsuc k) = k
 
--- With octets behind the first, a number reaches so far,
+-- With octets after the first, a number reaches so far,
 pub near : (a : ℕ) (v : List ℕ) (x : ℤ) → All (λ a. a < 256) (a ∷ v) → IsTwosComplement (a ∷ v) x → steps x < 128 * 256 ^ length v
 near a v (pos n) all is =
     let low : a < 128 = is.0 in

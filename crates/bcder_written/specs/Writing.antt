@@ -39,7 +39,8 @@ pub record TookFront (P : List ℕ → Type 0) (old new : Option (List ℕ)) : T
   pub whole : text ≡ taken ++ others
   pub appended : Appends old new taken
 
--- Why values aren't written: in the mode no trees are a form of them, or there is no text of theirs with lengths that can be told, and octets that can be counted.
+-- Why values aren't written: in the mode no trees are a form of them, or there is no text of theirs with lengths that
+-- can be written, and octets that can be counted.
 abbrev pub CannotWrite : (Trees → Type 0) → (List ℕ → Type 0) → EncodeError → Type 0
 CannotWrite T P errors.CerUnsupported = (ts : Trees) → T ts → ⊥
 CannotWrite T P errors.TooLong = (text : List ℕ) → P text → length text < 2 ^ 64 → ⊥
@@ -53,7 +54,7 @@ WriteRefused T P same old new errors.TooLong = CannotWrite T P errors.TooLong ×
 WriteRefused T P same old new errors.Write = TookFront P old new
 WriteRefused T P same old new errors.Memory = ⊥
 
--- A writer that is memory refuses for want of it.
+-- A writer that is memory refuses where memory has run out.
 abbrev pub FillRefused : EncodeError → EncodeError → Type 0
 FillRefused errors.CerUnsupported e = e ≡ errors.CerUnsupported
 FillRefused errors.TooLong e = e ≡ errors.TooLong

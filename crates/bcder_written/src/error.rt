@@ -23,7 +23,7 @@ pub enum EncodeError {
 }
 
 impl EncodeError {
-    /// The error as it is told of a writer that is memory: it refuses where memory has run out.
+    /// The error for a writer that is memory: it refuses where memory has run out.
     pub fn of_memory(self) -> EncodeError
         ensures { FillRefused self result }
     {

@@ -16,7 +16,7 @@ use std::io::Write;
 /// The most octets of a content that four length octets can tell (X.690 8.1.3.5).
 pub const MAX_LEN: usize = 0xFFFF_FFFF;
 
-/// How many octets stand in front of a content whose length can be told.
+/// How many octets the header of a content of less than 2^32 octets has.
 pub fn header_len(tag: Tag, constructed: bool, content_len: usize) -> usize
     requires tag { IsTag tag }
     requires few { content_len < 2 ^ 32 }
@@ -46,7 +46,7 @@ pub fn total_encoded_len(tag: Tag, content_len: usize) -> Result<usize, EncodeEr
     Ok(identifier + size + content_len)
 }
 
-/// Writes a header whose length can be told.
+/// Writes the header of a content of less than 2^32 octets.
 pub fn put_header<W: Write>(
     target: &mut W,
     tag: Tag,

@@ -45,7 +45,7 @@ fn shortest(octets: &[u8]) -> &[u8]
     }
 }
 
-// A number's octets, behind a zero.
+// A number's octets, after a zero.
 fn padded(number: u128) -> [u8; 17]
     ensures { IsTwosComplement result (pos number) }
 {

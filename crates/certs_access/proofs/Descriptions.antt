@@ -57,7 +57,7 @@ says_more xs e old new some h a = record {
   notify = first_more _ _ e xs old.notify new.notify h.notify a.notify;
 }
 
--- What all entries of a content say is told so far.
+-- What all entries of a content say is what they say so far.
 pub told : (m : Mode) (ts : Trees) (a : AccessValue) → Gathers (IsEntry m) AreAccess ts a → (s : AccessValue × Bool) × Gathers (IsEntry m) SaysSoFar ts s
 told m ts a p = (
   (a, true),

@@ -39,7 +39,7 @@ each_more : {X : Type 0} (P : X → Type 0) (xs : List X) (y : X) → Each P xs 
 each_more P [] y p q = (q, tt)
 each_more P (x ∷ xs) y p q = (p.0, each_more P xs y p.1 q)
 
--- Where one of a list has P, and another, alone, is told to have it, the same stands after them.
+-- Where one of a list has P, and another is the only one to have it, the same comes after both.
 behind-same : {X : Type 0} (P : X → Type 0) (before behind front back : List X) (x y : X)
     → Each (λ z. P z → ⊥) before → Each (λ z. P z → ⊥) behind → P y → before ++ x ∷ behind ≡ front ++ y ∷ back → behind ≡ back
 behind-same P [] behind [] back x y none none_behind p e = cc
@@ -63,7 +63,7 @@ seen_pass names name (Some uri) h s = record {
   none_behind = each_more (λ n. IsRsync n → ⊥) s.behind name s.none_behind h;
 }
 
--- The first that is one is told.
+-- The first that is one is kept.
 pub seen_first : (names : List (List ℕ)) (name uri : List ℕ) → IsRsync name → uri ≡ name → Seen names None → Seen (names ++ name ∷ []) (Some uri)
 seen_first names name uri h e s = record {
   before = names;
@@ -101,7 +101,7 @@ pub seen_again : (names more : List (List ℕ)) (name : List ℕ) (old found : O
 seen_again names more name None found e s h t = absurd (false≢true e)
 seen_again names more name (Some uri) found e s h t = seen_twice names more name uri found s h t
 
--- Where none was found, none is told.
+-- Where none was found, none is kept.
 pub seen_none : (names : List (List ℕ)) (old : Option (List ℕ)) → is_some old ≡ false → Seen names old → Seen names None
 seen_none names None e s = s
 seen_none names (Some uri) e s = absurd (false≢true (sym e))

@@ -18,7 +18,7 @@ use Rattle.certs_basics.specs.Identifiers.{rsa_encryption, sha256_with_rsa}
 use Rattle.certs_basics.proofs.Values.{opt_null_one}
 use Rattle.certs_algorithm.specs.Algorithms.{AreCmsFields, AreDigestAlgorithms, AreFields, Fields, IsAlgorithmOf, IsCmsAlgorithm, IsDigestAlgorithm, NamesSignature, fields_of}
 
--- Whether NULL is there tells what is there.
+-- Whether NULL is there decides the fields.
 pub null_told : (o : Option (Unit {0})) (b : Bool) → b ≡ is_some o → fields_of b ≡ (tt, (o, tt))
 null_told o b e = ap (λ (z : Bool). fields_of z) e ∙ at o
   where

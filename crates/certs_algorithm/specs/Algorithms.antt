@@ -15,7 +15,7 @@ use Rattle.certs_basics.specs.Identifiers.{rsa_encryption, sha256_with_rsa}
 abbrev pub sha256 : List ℕ
 sha256 = 96 ∷ 134 ∷ 72 ∷ 1 ∷ 101 ∷ 3 ∷ 4 ∷ 2 ∷ 1 ∷ []
 
--- The fields of an algorithm: its identifier, which is told, and NULL or nothing.
+-- The fields of an algorithm: its identifier, which is given, and NULL or nothing.
 abbrev pub Fields : Type 0
 Fields = Unit {0} × (Option (Unit {0}) × Unit {0})
 
@@ -27,7 +27,7 @@ AreFields kind = Then (OctetsOf (universal 6) (AreOctets kind)) OptNull
 abbrev pub IsAlgorithmOf : List ℕ → Tree → Bool → Type 0
 IsAlgorithmOf kind = As (Inside (universal 16) (AreFields kind)) has_null
 
--- The same as a form, by which it is written too.
+-- AlgorithmIdentifier as a form, by which it is written too.
 abbrev pub null_if : Bool → Option (Unit {0})
 null_if true = Some tt
 null_if false = None

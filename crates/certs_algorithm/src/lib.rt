@@ -1,7 +1,7 @@
 //! Algorithms of signatures and digests, and signatures (RFC 7935): read exactly and written in one way.
 //!
 //! RPKI signs by RSA with SHA-256. A certificate names that by sha256WithRSAEncryption, a signed object by that or by
-//! rsaEncryption, each with NULL after the identifier or nothing; a [`RpkiSignatureAlgorithm`] tells whether NULL is
+//! rsaEncryption, each with NULL after the identifier or nothing; a [`RpkiSignatureAlgorithm`] says whether NULL is
 //! there, and the two names apart by nothing.
 //!
 //! What differs from the Rust crate: a [`Signature`] keeps how many bits of its last octet are unused, so that what was

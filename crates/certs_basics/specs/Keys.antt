@@ -21,7 +21,7 @@ pub record KeyValue : Type 0 where
   pub format : PublicKeyFormat
   pub bits : BitsValue
 
--- What stands behind the identifier of the algorithm: of RSA NULL or nothing, of ECDSA the curve.
+-- What comes after the identifier of the algorithm: of RSA NULL or nothing, of ECDSA the curve.
 abbrev pub kind_of : PublicKeyFormat → List ℕ
 kind_of Rsa = rsa_encryption
 kind_of Ecdsa = ec_public_key
@@ -37,7 +37,7 @@ pub record IsFormatBody (ts : Trees) (format : PublicKeyFormat) : Type 0 where
 abbrev pub IsFormat : Tree → PublicKeyFormat → Type 0
 IsFormat = Inside (universal 16) IsFormatBody
 
--- The key as a value in DER, with NULL behind rsaEncryption and zeros for unused bits (RFC 7935 3.1, X.690 11.2.1).
+-- The key as a value in DER, with NULL after rsaEncryption and zeros for unused bits (RFC 7935 3.1, X.690 11.2.1).
 abbrev pub format_tree : PublicKeyFormat → Tree
 format_tree Rsa = sequence (primitive (universal 6) rsa_encryption ∷ primitive (universal 5) [] ∷ [])
 format_tree Ecdsa = sequence (primitive (universal 6) ec_public_key ∷ primitive (universal 6) secp256r1 ∷ [])
@@ -49,7 +49,7 @@ key_tree k = sequence (format_tree k.format ∷ primitive bit_string_tag (k.bits
 abbrev pub Encodes : KeyValue → List ℕ → Type 0
 Encodes k octets = Spells Der (key_tree k) octets
 
--- It has encoded octets: of what they hold none is longer than 2^32 - 1 octets, the most that a length tells.
+-- It has encoded octets: of what they hold none is longer than 2^32 - 1 octets, the most that a length states.
 pub record HasEncoding (k : KeyValue) : Type 0 where
   pub octets : List ℕ
   pub encodes : Encodes k octets

@@ -75,7 +75,7 @@ fn copied(alloc: Global, answer: &mut Answer, tbs: TbsCert) {
     }
 }
 
-// What is told of the fields.
+// What is answered of the fields.
 fn told(alloc: Global, answer: &mut Answer, what: &str, tbs: TbsCert) {
     match what {
         "copy" => copied(alloc, answer, tbs),
@@ -87,13 +87,13 @@ fn told(alloc: Global, answer: &mut Answer, what: &str, tbs: TbsCert) {
     }
 }
 
-// What is told of fields, once the words' fields are set.
+// What is answered of fields, once the words' fields are set.
 fn of_fields(alloc: Global, answer: &mut Answer, what: &str, mut tbs: TbsCert, words: &[&str]) {
     set::all(alloc, answer, &mut tbs, words);
     told(alloc, answer, what, tbs);
 }
 
-/// The answer to a question: what is told, the seven fields that each certificate has, and those that are set then.
+/// The answer to a question: what is asked, the seven fields that each certificate has, and those that are set then.
 pub fn answer(alloc: Global, answer: &mut Answer, words: &[&str]) {
     let Some((first, others)) = words.split_at_checked(8) else {
         return answer.word("too few fields");

@@ -1,6 +1,6 @@
 //! Questions about certificates that are built, as data: each line of standard input asks one, by words with a tab between,
-//! and each line of standard output answers one. The first word says what is told: what is written of the fields, or of the
-//! certificate that a signer makes of them. The others are the fields.
+//! and each line of standard output answers one. The first word says what is asked: what is written of the fields, or
+//! of the certificate that a signer makes of them. The others are the fields.
 //!
 //! `tests/certs_roles.py` writes both, and knows the answers by means of its own.
 //!

@@ -1,4 +1,4 @@
--- Octets that were read one behind the other.
+-- Octets that were read one after the other.
 use Rattle.std.proofs.Common.{◌≡◌, ℕ, false, List, [], ◌++◌, refl, sym, subst}
 use Rattle.certs_cert.specs.bcder_tree.declared.mode.Mode.{Mode}
 use Rattle.certs_cert.specs.bcder_tree.Tree.{Tree}
@@ -16,7 +16,7 @@ Read P v x w = TookOctets (λ y. y) P v x w
 pub field : {A : Type 0} (Q : Mode → Tree → A → Type 0) {v w : ValuesLeft} {x : A} → Gives (Q v.mode) v x w → Read (λ m. SpellsOf m (Q m)) v x w
 field Q g = record { text = g.took.text; goes = g.took.goes; is = record { tree = g.tree; is = g.is; spelled = g.took.spelled } }
 
--- Octets, and others behind them.
+-- Octets, and others after them.
 pub join : {A B : Type 0} {P : Mode → List ℕ → A → Type 0} {R : Mode → List ℕ → B → Type 0} {v w u : ValuesLeft} {x : A} {y : B}
     → Read P v x w → Read R w y u → Read (λ m. Joins (P m) (R m)) v (x, y) u
 join {R = R} {y = y} p q = record {

@@ -21,7 +21,7 @@ use Rattle.certs_claims.specs.declared.slots.Slots.{Slots}
 use Rattle.certs_claims.proofs.Whole.{extensions_there, slots_one, slots_there}
 use Rattle.certs_cert.specs.Reading.{AreSlotted, IsListed, IsListedBody, ListedFields, SaysListed, slots_of}
 
--- The first value stays, and other values stand behind it.
+-- The first value stays, and other values come after it.
 with_rest : {A B C : Type 0} {Q : Tree → A → Type 0} {R : Trees → B → Type 0} {S : Trees → C → Type 0} {ts : Trees} {x : A × B} {y : C}
     → (h : Then Q R ts x) → S h.others y → Then Q S ts (x.0, y)
 with_rest h r = record { first = h.first; others = h.others; whole = h.whole; is = h.is; rest = r }
@@ -137,7 +137,7 @@ tbs_listed {m} {t} {c} p =
     (with_rest a.rest.rest.rest.rest.rest (with_rest a.rest.rest.rest.rest.rest.rest last)))))) in
     record { fields = g; is = record { values = p.is.values; whole = p.is.whole; is = body }; claims = there.2 }
 
--- Values behind the first are the same, where all are.
+-- Values after the first are the same, where all are.
 same_rest : {A B C D : Type 0} {Q : Tree → A → Type 0} {R : Trees → B → Type 0} {S : Tree → C → Type 0} {T : Trees → D → Type 0} {ts us : Trees}
     {x : A × B} {y : C × D} → ts ≡ us → (h : Then Q R ts x) → (k : Then S T us y) → h.others ≡ k.others
 same_rest e h k = (same_trees (sym h.whole ∙ e ∙ k.whole)).1

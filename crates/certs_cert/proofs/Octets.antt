@@ -19,7 +19,7 @@ use Rattle.certs_cert.proofs.Listed.{slotted_list}
 use Rattle.certs_cert.proofs.Spelled.{fields_tree}
 use Rattle.certs_cert.proofs.Whole.{kept_octets}
 
--- The first octets stay, and others stand behind them.
+-- The first octets stay, and others come after them.
 rejoin : {A B C : Type 0} {P : List ℕ → A → Type 0} {R : List ℕ → B → Type 0} {S : List ℕ → C → Type 0} {text : List ℕ} {x : A × B} {y : C}
     → (h : Joins P R text x) → S h.others y → Joins P S text (x.0, y)
 rejoin h r = record { first = h.first; others = h.others; whole = h.whole; is = h.is; rest = r }

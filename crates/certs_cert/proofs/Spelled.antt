@@ -13,7 +13,7 @@ use Rattle.certs_claims.specs.certs_specs.Cert.{CertValue}
 use Rattle.certs_claims.specs.certs_specs.CertText.{Fields, IsCert, SpellsCert, SpellsFields}
 use Rattle.certs_claims.specs.certs_specs.Spellings.{CertIsSpelled}
 
--- The octets spell a tree; they spell trees, one behind the other.
+-- The octets spell a tree; they spell trees, one after the other.
 pub record HasTree (m : Mode) (text : List ℕ) : Type 0 where
   pub tree : Tree
   pub spelled : Spells m tree text

@@ -44,7 +44,7 @@ IsTail m = Then (IsKeptName m) (Then (IsKey m) (Then (Inside (context 3) (AreSlo
 abbrev pub tail_fields : CapturedValue × KeyValue × Slots → TailFields
 tail_fields x = (x.0, (x.1, ((x.2, tt), tt)))
 
--- version, serialNumber, signature AlgorithmIdentifier, issuer Name, validity, and what stands behind them (RFC 5280 4.1)
+-- version, serialNumber, signature AlgorithmIdentifier, issuer Name, validity, and what comes after them (RFC 5280 4.1)
 abbrev pub ListedFields : Type 0
 ListedFields = (Unit {0} × Unit {0}) × (ℕ × (Bool × (CapturedValue × ((ℕ × (ℕ × Unit {0})) × TailFields))))
 

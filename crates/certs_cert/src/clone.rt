@@ -82,7 +82,7 @@ fn named_copied(tbs: &TbsCert) -> Result<Named, AllocError>
     Ok((issuer, subject, key))
 }
 
-// Copies of the places that the issuer tells.
+// Copies of the URIs that name the issuer's revocation list and its certificate.
 fn issued_copied(tbs: &TbsCert) -> Result<Issued, AllocError>
     ensures { IfOk result (λ copy. copy ≡ (tbs.now.crl_uri, tbs.now.ca_issuer)) }
 {

@@ -105,7 +105,7 @@ impl Cert {
         )
     }
 
-    /// The certificate that a source begins with, in DER; octets behind it stay unread.
+    /// The certificate that a source begins with, in DER; octets after it stay unread.
     pub fn decode<I: IntoSource>(
         alloc: Global,
         source: I,

@@ -26,7 +26,7 @@ const VERSION: u8 = 2;
 // The subject, its key, and the slots of the extensions.
 type Tail = (Name, PublicKey, Slots);
 
-// The serial number, the algorithm, the issuer, the validity, and what stands behind them.
+// The serial number, the algorithm, the issuer, the validity, and what comes after them.
 type Listed = (Serial, RpkiSignatureAlgorithm, Name, Validity, Tail);
 
 // The number of the version.
@@ -78,7 +78,7 @@ fn take_slots<S: Source>(
     )
 }
 
-// The fields behind the validity, up to the end of their content.
+// The fields after the validity, up to the end of their content.
 fn take_tail<S: Source>(
     alloc: Global,
     cons: &mut Constructed<S>,

@@ -43,7 +43,7 @@ impl TbsCert {
         self.key_usage = key_usage;
     }
 
-    /// What else the key is for, if that is told (RFC 6487 4.8.5).
+    /// What else the key is for, if that is stated (RFC 6487 4.8.5).
     pub fn extended_key_usage(&self) -> Option<&ExtendedKeyUsage>
         ensures { option_copied result ≡ self.now.extended_key_usage }
     {

@@ -40,7 +40,7 @@ pub record Under {A : Type 0} (policy : Overclaim) (Q : Tree → A → Type 0) (
   pub policy_is : x.0 ≡ policy
   pub is : Q t x.1
 
--- Why an extension of that kind is refused: its slot, where it has one, tells; an unknown one is critical.
+-- Why an extension of that kind is refused: its slot, where it has one, decides; an unknown one is critical.
 abbrev pub CannotPut : Kind → Extension → Slots → ExtensionError → Type 0
 CannotPut kinds.BasicConstraints e s = CannotFill Must IsBasicConstraints e s.basic_ca
 CannotPut kinds.SubjectKeyIdentifier e s = CannotFill MustNot IsSubjectKeyIdentifier e s.subject_key_identifier

@@ -191,7 +191,7 @@ impl Slots {
     /// What the extensions claim, where the identifier of the subject's key, its key usage and a
     /// policy are there, and resources, which all stand under this policy (RFC 6487 4.8, RFC 8360 4.2).
     ///
-    /// The first failing test is told, in the order of [`ListError`].
+    /// Refuses with the first failing test, in the order of [`ListError`].
     pub fn finish(self) -> Result<Claims, ListError>
         ensures ok { IfOk result (Finishes self) }
         ensures refused { IfErr result (IsListFault self) }

@@ -186,7 +186,7 @@ extension_spelled kind known P m text w =
       spelled = s.spelled;
     }
 
--- Both, as they are told.
+-- An extension that isn't critical, by its identifier and its octets.
 abbrev extension_of : List ℕ → List ℕ → Extension
 extension_of kind octets = record { kind = kind; critical = false; octets = octets }
 
@@ -240,7 +240,7 @@ key_front key text long w =
 number_front : (number : ℕ) (text : List ℕ) → WritesCrlNumber number text → ReadsFront IsSerial text number
 number_front number text w = front_of (only_of Der (written_again serial tt number Der text tt w))
 
--- The values behind the updates: entries, if there are any, and both extensions.
+-- The values after the updates: entries, if there are any, and both extensions.
 record HasTail (c : TbsListValue) (m : Mode) (ts : Trees) : Type 0 where
   fields : TailFields
   is : IsTail m ts fields

@@ -21,12 +21,12 @@ use Rattle.certs_revoked.specs.certs_specs.Extensions.{Extension, IsExtension}
 use Rattle.certs_crl.specs.Reading.{Finishes, IsOfList, IsPair, IsRead, IsReadBody, IsTail, Pair, ReadFields, SaysBoth, SaysRead, TailFields, list_of, pair_of}
 use Rattle.certs_crl.proofs.Pairs.{both_known}
 
--- The first value stays, and other values stand behind it.
+-- The first value stays, and other values come after it.
 with_rest : {A B C : Type 0} {Q : Tree → A → Type 0} {R : Trees → B → Type 0} {S : Trees → C → Type 0} {ts : Trees} {x : A × B} {y : C}
     → (h : Then Q R ts x) → S h.others y → Then Q S ts (x.0, y)
 with_rest h r = record { first = h.first; others = h.others; whole = h.whole; is = h.is; rest = r }
 
--- The same behind a value that may be missing.
+-- A first value that may be missing stays, and other values come after it.
 opt_cases : {A B C : Type 0} (tag : TagValue) (Q : Tree → A → Type 0) (R : Trees → B → Type 0) (S : Trees → C → Type 0) (ts : Trees) (o : Option A) (b : B) (c : C)
     → ((us : Trees) → R us b → S us c) → OptCases tag Q R ts o b → OptCases tag Q S ts o c
 opt_cases tag Q R S ts None b c f p = (p.0, f ts p.1)
@@ -65,7 +65,7 @@ within ts f p =
 abbrev the_list : List Extension → List Extension → Type 0
 the_list all same = all ≡ same
 
--- The fields behind the updates, with the extensions as a list.
+-- The fields after the updates, with the extensions as a list.
 abbrev IsListTail : Mode → Trees → Option (List RevokedValue) × ((List Extension × Unit {0}) × Unit {0}) → Type 0
 IsListTail m = Opt (universal 16) AreRevoked (IsLast (Gathers (IsExtension m) the_list))
 
@@ -142,7 +142,7 @@ tbs_read {m} {t} {c} p =
       both = said;
     }
 
--- Values behind the first are the same, where all are.
+-- Values after the first are the same, where all are.
 same_rest : {A B C D : Type 0} {Q : Tree → A → Type 0} {R : Trees → B → Type 0} {S : Tree → C → Type 0} {T : Trees → D → Type 0} {ts us : Trees}
     {x : A × B} {y : C × D} → ts ≡ us → (h : Then Q R ts x) → (k : Then S T us y) → h.others ≡ k.others
 same_rest e h k = (same_trees (sym h.whole ∙ e ∙ k.whole)).1

@@ -11,7 +11,7 @@ use Rattle.certs_revoked.specs.certs_specs.Calls.{DecodesCrl}
 use Rattle.certs_revoked.specs.certs_specs.CrlText.{CrlValue, IsCrl, ListFields, SpellsCrl, SpellsListFields}
 use Rattle.certs_revoked.specs.certs_specs.Spellings.{CrlIsSpelled}
 
--- The octets spell a tree; they spell trees, one behind the other.
+-- The octets spell a tree; they spell trees, one after the other.
 record HasTree (text : List ℕ) : Type 0 where
   tree : Tree
   spelled : Spells Der tree text

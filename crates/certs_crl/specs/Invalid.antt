@@ -1,4 +1,4 @@
--- How an extension is told that a revocation list doesn't have (RFC 6487 5).
+-- The text of a refusal for an extension that a revocation list doesn't have (RFC 6487 5).
 use Rattle.std.specs.Prelude.{◌≡◌, ℕ, List, ◌++◌, Result, Ok, Err, codes, string_bytes}
 use Rattle.certs_crl.specs.bcder_source.declared.error.ContentError.{ContentError}
 use Rattle.certs_crl.specs.bcder_source.declared.error.ContentError.TheVariants.{Static, Owned, ExpectedTag, ExpectedInteger}
@@ -33,7 +33,7 @@ IsInvalidTold kind (Owned string) = string_bytes string ≡ invalid_text kind
 IsInvalidTold kind (ExpectedTag tag) = ⊥
 IsInvalidTold kind (ExpectedInteger number) = ⊥
 
--- The extension of that kind is refused as a content, by one of both texts: want of memory is never told.
+-- The extension of that kind is refused as a content, by one of both texts, and never for lack of memory.
 abbrev pub TellsInvalid : {E : Type 0} → List ℕ → DecodeError E → Type 0
 TellsInvalid kind (Content error pos) = IsInvalidTold kind error
 TellsInvalid kind (Source error) = ⊥

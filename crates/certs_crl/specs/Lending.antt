@@ -5,6 +5,6 @@ use Rattle.certs_revoked.specs.contracts.revoked.RevokedCertificates.{the_row as
 use Rattle.certs_revoked.specs.certs_specs.CrlText.{RevokedValue, TbsListValue}
 use Rattle.certs_crl.specs.contracts.tbs.TbsCertList.{the_row}
 
--- Once the borrow ends the list has the entries that were left behind it, and its other fields are what they were.
+-- Once the borrow ends the list has the entries that the borrow left, and its other fields are what they were.
 abbrev pub LendsRevoked : MutBor TbsListValue → MutBor (List RevokedValue) → Fml
 LendsRevoked list lent = Lends the_row revoked_row list lent (λ entries. record list.now { revoked = entries })

@@ -60,7 +60,7 @@ IsTail m = Opt (universal 16) AreRevoked (Then (Inside (context 0) (IsPaired m))
 abbrev pub tail_fields : Option (List RevokedValue) × (Raw × Raw) → TailFields
 tail_fields x = (x.0, (alone (pair_fields x.1), tt))
 
--- version, signature AlgorithmIdentifier, issuer Name, thisUpdate, nextUpdate, and what stands behind them (RFC 5280 5.1)
+-- version, signature AlgorithmIdentifier, issuer Name, thisUpdate, nextUpdate, and what comes after them (RFC 5280 5.1)
 abbrev pub ReadFields : Type 0
 ReadFields = Unit {0} × (Bool × (CapturedValue × (ℕ × (ℕ × TailFields))))
 

@@ -46,9 +46,9 @@ impl TbsCertList {
     /// The list with these fields, and with a signature over what is written of them in DER, by that key of the signer,
     /// which is asked just once and by the algorithm that the fields name.
     ///
-    /// What the signer refuses is refused as it says. Before it is asked, want of memory is told as `Memory`, and fields
-    /// are refused as `TooLong` of which nothing can be written in DER: where a content would have more than 2^32 - 1
-    /// octets, and where the name or the entries are kept in another mode.
+    /// What the signer refuses is refused as it says. Before it is asked, lack of memory is refused as `Memory`, and
+    /// fields are refused as `TooLong` of which nothing can be written in DER: where a content would have more than
+    /// 2^32 - 1 octets, and where the name or the entries are kept in another mode.
     pub fn into_crl<S: Signer>(
         self,
         alloc: Global,

@@ -33,7 +33,7 @@ fn tbs_of(alloc: Global, octets: &[u8], mode: Mode) -> Result<TbsCertList, Decod
     )
 }
 
-// Whether both algorithms are the same, in what is signed and behind it.
+// Whether both algorithms are the same, in what is signed and after it.
 fn agree(tbs: &TbsCertList, signed: &SignedData) -> bool
     ensures { IsTrue result ↔ (tbs.now.has_null ≡ signed.now.signature.algorithm) }
 {
@@ -102,7 +102,7 @@ impl Crl {
         )
     }
 
-    /// The revocation list that a source begins with, in DER; octets behind it stay unread.
+    /// The revocation list that a source begins with, in DER; octets after it stay unread.
     pub fn decode<I: IntoSource>(
         alloc: Global,
         source: I,

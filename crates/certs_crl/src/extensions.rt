@@ -51,7 +51,7 @@ fn made_or_fixed(made: Result<ContentError, AllocError>) -> ContentError
     }
 }
 
-// The refusal of an extension that a list doesn't have, which is told by its identifier, where there is memory for that.
+// The refusal of an extension that a list doesn't have, which names its identifier, where there is memory for that.
 fn unknown<S: Source>(
     alloc: Global,
     cons: &Constructed<S>,

@@ -1,4 +1,4 @@
-//! How an extension is told that a revocation list doesn't have (RFC 6487 5).
+//! The refusal for an extension that a revocation list doesn't have (RFC 6487 5).
 
 ghost use Rattle.std.specs.Prelude.{◌≡◌, IfOk, Some};
 ghost use Rattle.certs_crl.specs.Invalid.{IsOwnedText, invalid_text};

@@ -1,9 +1,9 @@
 //! Revocation lists (RFC 5280 5, RFC 6487 5): what is signed of a list, field by field, and the list around it.
 //!
 //! [`Crl::decode`] reads a list in DER exactly where the octets begin with one, and keeps the very octets that are signed;
-//! an extension that a list doesn't have is told as an [`InvalidExtension`]. [`Crl::contains`] is membership in the list,
-//! with a cache of the serial numbers and without. [`TbsCertList::into_crl`] builds a list of fields and a signature, which
-//! is read again with the same fields.
+//! an extension that a list doesn't have is refused as an [`InvalidExtension`]. [`Crl::contains`] is membership in the
+//! list, with a cache of the serial numbers and without. [`TbsCertList::into_crl`] builds a list of fields and a
+//! signature, which is read again with the same fields.
 //!
 //! What differs from the Rust crate: a [`TbsCertList`] has its revoked certificates as the octets of their entries alone,
 //! which [`RevokedCertificates::from_entries`] makes; a [`Crl`] lends its fields by `as_cert_list`, and isn't dereferenced;

@@ -23,10 +23,10 @@ const VERSION: u8 = 1;
 // The revoked certificates, if they are there, and the extensions.
 type Tail = (Option<RevokedCertificates>, Pair);
 
-// The algorithm, the issuer, both updates, and what stands behind them.
+// The algorithm, the issuer, both updates, and what comes after them.
 type Listed = (RpkiSignatureAlgorithm, Name, Time, Time, Tail);
 
-// The fields behind the updates, up to the end of their content.
+// The fields after the updates, up to the end of their content.
 fn take_tail<S: Source>(
     alloc: Global,
     cons: &mut Constructed<S>,

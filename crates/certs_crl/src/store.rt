@@ -64,7 +64,7 @@ impl CrlStore {
         self.cache_serials = true;
     }
 
-    /// Puts a list behind the others. Where memory is refused the store is as it was, and the pair comes back.
+    /// Puts a list after the others. Where memory is refused the store is as it was, and the pair comes back.
     pub fn push(&mut self, alloc: Global, uri: Rsync, crl: Crl) -> Result<(), (Rsync, Crl)>
         ensures ok { OnOk result (self.new
             ≡ record { crls = self.old.crls ++ (uri, crl) ∷ []; caches = self.old.caches }) }

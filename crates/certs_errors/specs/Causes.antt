@@ -1,4 +1,4 @@
--- How causes are told.
+-- Which error is answered for a cause.
 use Rattle.certs_errors.specs.certs_time.declared.error.ValidityError.{ValidityError}
 use Rattle.certs_errors.specs.certs_time.declared.error.ValidityError.TheVariants as validity
 use Rattle.certs_errors.specs.declared.verification.VerificationError.{VerificationError}

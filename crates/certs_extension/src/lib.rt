@@ -2,7 +2,7 @@
 //! read once, and the values that name neither a URI nor resources.
 //!
 //! Extensions are values within the octets of an OCTET STRING, in DER whatever the mode around them. They are read from
-//! the front of these octets; what is behind the value isn't looked at.
+//! the front of these octets; what comes after the value isn't looked at.
 #![tactic(auto)]
 
 pub mod constraints;

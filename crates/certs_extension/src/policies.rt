@@ -12,7 +12,7 @@ use certs_key::decode::{Constructed, ContentError, DecodeError, Source};
 use certs_specs::{Overclaim, OverclaimIds};
 use std::alloc::Global;
 
-// The identifier of a policy, and anything behind it.
+// The identifier of a policy, and anything after it.
 fn take_policy_fields<S: Source>(
     alloc: Global,
     cons: &mut Constructed<S>,
@@ -56,7 +56,7 @@ fn take_only<S: Source>(
 }
 
 /// The policy: `SEQUENCE { SEQUENCE { policyIdentifier OBJECT IDENTIFIER, .. } }`, exactly one, which is known; what is
-/// behind its identifier is passed over (RFC 6487 4.8.9, RFC 8360 4.2).
+/// after its identifier is passed over (RFC 6487 4.8.9, RFC 8360 4.2).
 pub fn take_policies<S: Source>(
     alloc: Global,
     cons: &mut Constructed<S>,

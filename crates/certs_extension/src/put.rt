@@ -36,8 +36,8 @@ fn is_met(need: Need, critical: bool) -> bool
 /// Puts the value of an extension into its slot, which has to be empty.
 ///
 /// `Duplicate` where there is a value; else `Criticality` where the need isn't met; else what `op` reads from the front
-/// of the octets in DER is put there: `BadValue` where it refuses them, and `Memory` where it does so for want of memory.
-/// The slot is as it was where the extension is refused.
+/// of the octets in DER is put there: `BadValue` where it refuses them, and `Memory` where it does so for lack of
+/// memory. The slot is as it was where the extension is refused.
 pub fn put_once<
     T: Drop,
     F: FnOnce(&mut Constructed<SliceSource<'_>>) -> Result<T, DecodeError<Infallible>>,

@@ -34,7 +34,7 @@ one_first P (z ∷ front) (w ∷ other) x y behind rest e p q m n =
 pub one_fails_first : {X : Type 0} (P : X → Type 0) (xs : List X) (x y : X) → FirstFailing P xs x → FirstFailing P xs y → x ≡ y
 one_fails_first P xs x y f g = one_first P f.front g.front x y f.behind g.behind (sym f.whole ∙ g.whole) f.passed g.passed f.fails g.fails
 
--- So the answer is `Ok` exactly where all are passed, and tells exactly the first that isn't.
+-- So the answer is `Ok` exactly where all are passed, and else exactly the first that isn't.
 pub answers_ok : {X : Type 0} (P : X → Type 0) (xs : List X) (r : Result (Unit {0}) X) → Answers P xs r → (IsOk r ↔ Each P xs)
 answers_ok P xs (Ok u) all = ((λ _. all), (λ _. refl))
 answers_ok P xs (Err y) f = ((λ no. absurd cc), (λ all. absurd (none_fails P xs y all f)))

@@ -37,14 +37,14 @@ equal_keys a b =
       (λ e. parts.1 (ap parts_of e)),
     )
 
--- The value of an algorithm tells it.
+-- An algorithm's value is no other's.
 told_format : (x y : PublicKeyFormat) → format_tree x ≡ format_tree y → x ≡ y
 told_format Rsa Rsa e = refl
 told_format Ecdsa Ecdsa e = refl
 told_format Rsa Ecdsa e = absurd cc
 told_format Ecdsa Rsa e = absurd cc
 
--- A key's value tells all but unused bits.
+-- A key's value says all but unused bits.
 told_by_tree : (a b : KeyValue) → key_tree a ≡ key_tree b → key_again Der a ≡ key_again Der b
 told_by_tree a b e =
     let format : format_tree a.format ≡ format_tree b.format = cc in

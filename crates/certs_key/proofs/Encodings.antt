@@ -44,7 +44,7 @@ length_is (a ∷ b ∷ c ∷ d ∷ e ∷ []) n h =
 length_is [] n h = absurd h
 length_is (a ∷ b ∷ c ∷ d ∷ e ∷ f ∷ v) n h = absurd h
 
--- A length takes at most five octets, and tells less than 2^32.
+-- A length takes at most five octets, and states less than 2^32.
 length_few : (size : List ℕ) (n : ℕ) → IsLength Der size n → (length size ≤ 5) × (n < 2 ^ 32)
 length_few (a ∷ []) n h = (omega arith, omega arith)
 length_few (a ∷ b ∷ []) n h = (omega arith, omega arith)

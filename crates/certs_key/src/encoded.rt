@@ -83,7 +83,7 @@ pub(crate) fn encoder(format: PublicKeyFormat, bits: &BitString) -> KeyEncoder<'
 }
 
 /// The encoded octets of a key: its DER, with NULL after rsaEncryption (RFC 7935 3.1) and unused bits zero (X.690
-/// 11.2.1). `None` where there are none, as no length tells so many octets.
+/// 11.2.1). `None` where there are none, as no length states so many octets.
 pub(crate) fn encoded_of(
     alloc: Global,
     format: PublicKeyFormat,

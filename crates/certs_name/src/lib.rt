@@ -3,8 +3,8 @@
 //! A [`Name`] is kept as the octets that stood there, with the mode in which they spell it; what attributes it has is
 //! asked by inspection alone. A [`Serial`] is a number from 0 up, below 2^160.
 //!
-//! What differs from the Rust crate: inspection refuses with [`InvalidName`], which the caller tells of the issuer or the
-//! subject; what takes memory is given an allocator and answers a `Result`, `clone` too.
+//! What differs from the Rust crate: inspection refuses with [`InvalidName`], which the caller reports of the issuer or
+//! the subject; what takes memory is given an allocator and answers a `Result`, `clone` too.
 #![tactic(auto)]
 
 mod attributes;

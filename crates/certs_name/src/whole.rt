@@ -77,7 +77,7 @@ fn pass<S: Source>(prim: &mut Primitive<S>, count: usize)
     prim.source.limit = Some(0);
 }
 
-/// What all octets of a content tell; a content that tells nothing is refused. No octet is copied.
+/// What all octets of a content say; a content that says nothing is refused. No octet is copied.
 pub(crate) fn take_told<T: Told, S: Source>(
     prim: &mut Primitive<S>,
 ) -> Result<T, DecodeError<S::Error>>

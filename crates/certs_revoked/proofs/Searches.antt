@@ -157,7 +157,7 @@ found serial (x ∷ xs) entry m e = elim m [
   | inr other ↦ second_true (nat_eq x.serial serial) (has_serial serial xs) (found serial xs entry other e)
 ]
 
--- The test tells whether the serial number is on the list.
+-- The test answers whether the serial number is on the list.
 pub tells_listed : (serial : ℕ) (xs : List RevokedValue) → IsTrue (has_serial serial xs) ↔ IsListed xs serial
 tells_listed serial xs = (listed serial xs, λ l. found serial xs l.entry l.listed l.same)
 

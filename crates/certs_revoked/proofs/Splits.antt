@@ -117,7 +117,7 @@ some_of_none {A} P e = subst (λ (o : Option A). IfSome o P) (sym e) tt
 pub some_of_some : {A : Type 0} (P : A → Type 0) {r : Option A} {x : A} → r ≡ Some x → P x → IfSome r P
 some_of_some {A} P e p = subst (λ (o : Option A). IfSome o P) (sym e) p
 
--- The entries that are left behind the first.
+-- The entries that are left after the first.
 
 pub splits_at : (c : CapturedValue) (m : Mode) (o behind : List ℕ) (e : RevokedValue) → behind ≡ o → Splits c e (captured m o) → Splits c e (captured m behind)
 splits_at c m o behind e same splits = subst (λ (r : List ℕ). Splits c e (captured m r)) (sym same) splits

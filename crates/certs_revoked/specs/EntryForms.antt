@@ -60,7 +60,7 @@ moment_spelled moment m text w =
     let s = plain_spelled m text w.plain in
     record { trees = s.trees; is = record { tag = w.tag; content = w.content; is = w.is; plain = s.is }; spelled = s.spelled }
 
--- A primitive value tells its tag and its content.
+-- A primitive value has one tag and one content.
 pub same_parts : {tag other : TagValue} {content octets : List ℕ} → primitive tag content ≡ primitive other octets → (tag ≡ other) × (content ≡ octets)
 same_parts e = (ap tag_of e, cc)
 

@@ -105,7 +105,7 @@ fn of_cert(
     answer.say(&judge.asked());
 }
 
-// The same below the anchor that the words give.
+// A certificate below the anchor that the words give.
 fn under(alloc: Global, answer: &mut Answer, words: &[&str], terms: &Terms) {
     match anchor(alloc, word_at(words, 5), terms) {
         Some(issuer) => {

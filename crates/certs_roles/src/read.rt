@@ -5,7 +5,7 @@ use crate::shown::{last_shown, shown, written};
 use certs_cert::Cert;
 use std::alloc::{AllocError, Global};
 
-// All that is told of the certificate that octets begin with, or why it is refused.
+// All that is answered of the certificate that octets begin with, or why it is refused.
 fn told(alloc: Global, answer: &mut Answer, octets: &[u8]) {
     match Cert::decode(alloc, octets) {
         Ok(cert) => last_shown(answer, cert),
@@ -34,7 +34,7 @@ fn copy_of(cert: Cert) -> Result<Cert, AllocError> {
     copy
 }
 
-// All that is told of a copy, and the octets that are written of it.
+// All that is answered of a copy, and the octets that are written of it.
 fn copied(alloc: Global, answer: &mut Answer, cert: Cert) {
     match copy_of(cert) {
         Ok(copy) => {
@@ -46,7 +46,7 @@ fn copied(alloc: Global, answer: &mut Answer, cert: Cert) {
     }
 }
 
-// The same of the copy of the certificate of digits.
+// All that is answered of a copy of the certificate of digits.
 fn copy(alloc: Global, answer: &mut Answer, digits: &str) {
     match cert_of(alloc, digits) {
         Some(cert) => copied(alloc, answer, cert),

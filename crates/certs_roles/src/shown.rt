@@ -1,4 +1,4 @@
-//! What is told of a certificate, field by field.
+//! What is answered of a certificate, field by field.
 
 use crate::answers::Answer;
 use certs_cert::{Cert, KeyUsage, TbsCert};
@@ -69,7 +69,7 @@ fn claims(answer: &mut Answer, tbs: &TbsCert) {
     answer.say(&tbs.has_ip_resources());
 }
 
-/// All that is told of what is signed.
+/// All that is answered of what is signed.
 pub fn fields(answer: &mut Answer, tbs: &TbsCert) {
     identity(answer, tbs);
     keys(answer, tbs);
@@ -78,7 +78,7 @@ pub fn fields(answer: &mut Answer, tbs: &TbsCert) {
     claims(answer, tbs);
 }
 
-/// All that is told of a certificate: what is signed, then the signature.
+/// All that is answered of a certificate: what is signed, then the signature.
 pub fn shown(answer: &mut Answer, cert: &Cert) {
     fields(answer, cert.tbs());
     let signature = cert.signed_data().signature();
@@ -86,7 +86,7 @@ pub fn shown(answer: &mut Answer, cert: &Cert) {
     answer.octets(signature.value());
 }
 
-/// All that is told of a certificate, which is let go.
+/// All that is answered of a certificate, which is let go.
 pub fn last_shown(answer: &mut Answer, cert: Cert) {
     shown(answer, &cert);
     drop(cert);

@@ -8,13 +8,13 @@ use certs_cert::{Cert, TbsCert};
 use std::alloc::Global;
 use std::convert::Infallible;
 
-// That octets are refused. By which text isn't told: that of a value's form is the codec's.
+// That octets are refused. By which text isn't answered: that of a value's form is the codec's.
 fn refused(answer: &mut Answer, error: DecodeError<Infallible>) {
     drop(error);
     answer.word("refused");
 }
 
-// All that is told of a certificate that was read.
+// All that is answered of a certificate that was read.
 fn told(answer: &mut Answer, read: Result<Cert, DecodeError<Infallible>>) {
     match read {
         Ok(cert) => last_shown(answer, cert),

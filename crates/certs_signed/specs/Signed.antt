@@ -53,7 +53,7 @@ signed_content = both (kept any) (both x509_algorithm (last bits))
 abbrev pub signed : Form Fields
 signed = wrapped (universal 16) signed_content
 
--- The same by the octets, from the outermost value down to the message, which is the very octets that stand there.
+-- The signed value by its octets, from the outermost down to the message, which is the very octets that stand there.
 abbrev pub OctetFields : Type 0
 OctetFields = (List ℕ × Unit {0}) × (Bool × (BitsValue × Unit {0}))
 

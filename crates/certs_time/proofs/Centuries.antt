@@ -1,4 +1,4 @@
--- The text of a UTCTime behind its century is the text of the same moment in GeneralizedTime.
+-- The text of a UTCTime with its century in front is the text of the same moment in GeneralizedTime.
 use Rattle.std.proofs.Common.{◌≡◌, ℕ, ◌+◌, ◌/◌, ◌%◌, ◌<◌, ◌≤◌, inl, inr, List, [], ◌∷◌, length, drop, get_or, suc, zero, Option, Some, None, IfSome, IfNone, sym, ap, ◌∙◌, subst, arith}
 use Rattle.std.proofs.Math.Seq.{drop-cons}
 use Rattle.std.proofs.lemmas.Bool.{cases_lt}
@@ -11,7 +11,7 @@ use Rattle.certs_time.specs.declared.text.Form.TheVariants.{Utc, Generalized}
 use Rattle.certs_time.specs.Times.{Civil, IsMoment, moment_text}
 use Rattle.certs_time.specs.Forms.{IsShortMoment, IsShortYear, Tells, WritesTime, length_of, short_text, with_century_of, time_tree, tag_of, text_in}
 
--- Behind the century, the texts are one.
+-- Without the century, the texts are one.
 drop_century : (c : Civil) (a b : ℕ) (text : List ℕ) → a ∷ b ∷ text ≡ moment_text c → text ≡ short_text c
 drop_century c a b text e =
     let tens : 48 + c.year / 10 % 10 ≡ 48 + c.year % 100 / 10 % 10 = omega arith in
@@ -110,7 +110,7 @@ whole_moment t text s m =
       }
     ]
 
--- So a whole text with its century tells the moment, or none.
+-- So a whole text with its century states the moment, or none.
 short_of : (text : List ℕ) (s : ℕ) → IsMoment (with_century_of text) s → IsShortMoment text s
 short_of [] s m = let bad : [] ≡ moment_text m.civil = m.text_is in absurd cc
 short_of (t ∷ text) s m = short_moment t text s m

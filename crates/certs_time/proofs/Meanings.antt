@@ -1,4 +1,4 @@
--- A value tells one moment, and what is written of a moment tells it.
+-- A value states one moment, and what is written of a moment states it.
 use Rattle.std.proofs.Common.{◌≡◌, ℕ, ◌+◌, ◌/◌, ◌%◌, inl, inr, List, [], ◌∷◌, ◌++◌, Result, Ok, Err, refl, sym, ap, ◌∙◌, subst, arith}
 use Rattle.std.proofs.lemmas.Bool.{cases_lt}
 use Rattle.certs_time.specs.bcder_tree.declared.mode.Mode.{Mode}
@@ -21,7 +21,7 @@ use Rattle.certs_time.specs.Forms.{IsShortMoment, IsShortYear, IsTime, IsValidit
 use Rattle.certs_time.proofs.Moments.{one_civil, one_civil_by_seconds, one_moment}
 use Rattle.certs_time.proofs.Centuries.{short_tree, whole_tree}
 
--- A UTCTime tells one moment.
+-- A UTCTime states one moment.
 pub short_one : OneOctets IsShortMoment
 short_one = record { one = λ content x y p q. p.seconds_are ∙ ap seconds_of (same p.civil q.civil p.real q.real p.year q.year (sym p.text_is ∙ q.text_is)) ∙ sym q.seconds_are }
   where

@@ -1,4 +1,4 @@
--- A text of digits tells one list of numbers, and so one moment.
+-- A text of digits states one list of numbers, and so one moment.
 use Rattle.std.proofs.Common.{◌≡◌, ◌≢◌, ℕ, zero, suc, ◌+◌, ◌*◌, ◌/◌, ◌%◌, ◌<◌, inl, inr, List, [], ◌∷◌, length, get_or, set, get_or-set_other, get_or-set_same, length-set, below_more, Option, None, Some, IfSome, IfNone, SomeIff, refl, sym, ap, ◌∙◌, arith, pos}
 use Rattle.std.proofs.lemmas.Bool.{cases_lt}
 use Rattle.std.proofs.lemmas.Grind.{same_number_lists}
@@ -73,7 +73,7 @@ pub pair_text_from : (text p : List ℕ) → length p ≡ 7 → length text ≡ 
 pair_text_from text p count long last each =
     same_number_lists text (pair_text p) (omega (arith, pair_text-length p)) (λ k h. same_at text p count last each k (omega arith))
 
--- And if the numbers are small, it tells them.
+-- And if the numbers are small, the text states them.
 pub pairs_from : (text p : List ℕ) → length p ≡ 7 → length text ≡ 15 → get_or text 14 0 ≡ 90 → ((k : ℕ) → k < 7 → IsPairAt text p k) → IsPairs text p
 pairs_from text p count long last each = record {
   count = count;
@@ -178,7 +178,7 @@ civil_of_pairs : (text p : List ℕ) → IsPairs text p → civil_pairs (civil_o
 civil_of_pairs text p h =
     same_number_lists (civil_pairs (civil_of p)) p (sym h.count) (civil_at p (pairs_at text p 1 h (omega arith)).0)
 
--- A text of seven numbers tells the moment that they tell if it is real, and else none.
+-- A text of seven numbers states the moment that they give if it is real, and else none.
 pub moment_told : (text p : List ℕ) (year : ℕ) (r : Option ℕ) → IsPairs text p → year ≡ (civil_of p).year → SomeIff r (IsReal (record (civil_of p) { year = year })) (seconds_of (record (civil_of p) { year = year })) → IfSome r (IsMoment text) × IfNone r ((seconds : ℕ) → IsMoment text seconds → ⊥)
 moment_told text p year None h e told = (
   tt,
@@ -195,7 +195,7 @@ moment_told text p year (Some t) h e told = (
   tt,
 )
 
--- A text tells one moment.
+-- A text states one moment.
 pub one_civil : (text : List ℕ) (a b : Civil) → IsReal a → IsReal b → text ≡ moment_text a → text ≡ moment_text b → a ≡ b
 one_civil text a b r s p q =
     civil_same a b (pairs_injective text (civil_pairs a) (civil_pairs b) (moment_is_pairs text a r p) (moment_is_pairs text b s q))
@@ -205,7 +205,7 @@ pub one_moment : (text : List ℕ) (a b : ℕ) → IsMoment text a → IsMoment 
 one_moment text a b p q =
     p.seconds_are ∙ ap seconds_of (one_civil text p.civil q.civil p.real q.real p.text_is q.text_is) ∙ sym q.seconds_are
 
--- The text of a moment's numbers tells it.
+-- The text of a moment's numbers states it.
 pub moment_written : (text : List ℕ) (c : Civil) (seconds : ℕ) → IsReal c → text ≡ pair_text (civil_pairs c) → seconds ≡ seconds_of c → IsMoment text seconds
 moment_written text c seconds r e s = record { civil = c; real = r; text_is = e ∙ sym (moment_pairs c); seconds_are = s }
 

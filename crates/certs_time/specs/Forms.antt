@@ -60,7 +60,7 @@ abbrev pub text_in : Form → List ℕ → List ℕ
 text_in Utc whole = drop 2 whole
 text_in Generalized whole = whole
 
--- The text of a UTCTime behind the century of its year: 50 to 99 (from `5`, 53, on) are of the years 1950 to 1999.
+-- The text of a UTCTime with its year's century in front: 50 to 99 (from `5`, 53, on) are of the years 1950 to 1999.
 abbrev pub with_century_of : List ℕ → List ℕ
 with_century_of [] = []
 with_century_of (c ∷ text) = if nat_lt c 53 then 50 ∷ 48 ∷ c ∷ text else 49 ∷ 57 ∷ c ∷ text

@@ -56,7 +56,7 @@ digits (suc count) n = digits count (n / 10) ++ (48 + n % 10) ∷ []
 abbrev pub moment_text : Civil → List ℕ
 moment_text c = digits 4 c.year ++ digits 2 c.month ++ digits 2 c.day ++ digits 2 c.hour ++ digits 2 c.minute ++ digits 2 c.second ++ 90 ∷ []
 
--- The text tells a real moment, which has so many seconds.
+-- The text states a real moment, which has so many seconds.
 pub record IsMoment (text : List ℕ) (seconds : ℕ) : Type 0 where
   pub civil : Civil
   pub real : IsReal civil

@@ -8,7 +8,7 @@ pub enum ValidityError {
     /// The moment is before its beginning.
     #[error("not yet valid")]
     NotYetValid,
-    /// The moment is behind its end.
+    /// The moment comes after its end.
     #[error("expired")]
     Expired,
 }

@@ -21,7 +21,7 @@ pub fn order_agrees_with_equality()
         → ⟦<Time as Hash>⟧.hash_input a ≡ ⟦<Time as Hash>⟧.hash_input b }
 {}
 
-/// A value tells one moment at most, or one validity.
+/// A value states one moment at most, or one validity.
 pub fn one_meaning()
     ensures time { One IsTime }
     ensures validity { One IsValidity }

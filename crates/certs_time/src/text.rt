@@ -42,7 +42,7 @@ impl Form {
         }
     }
 
-    /// The moment that a text tells, if it tells one.
+    /// The moment that a text states, if it states one.
     pub fn moment(self, text: &[u8]) -> Option<Time>
         ensures found { IfSome result (λ t. Tells self text.now t) }
         ensures none { IfNone result ((seconds : ℕ) → Tells self text.now seconds → ⊥) }
@@ -54,7 +54,7 @@ impl Form {
     }
 }
 
-// A text of 13 octets behind the century of its year: 50 to 99 are of the years 1950 to 1999.
+// A text of 13 octets with the century of its year in front: 50 to 99 are of the years 1950 to 1999.
 fn with_century(text: &[u8]) -> Option<[u8; 15]>
     ensures some { IfSome result (λ whole. whole ≡ with_century_of text.now) }
     ensures none { IfNone result (length text.now ≢ 13) }
@@ -79,7 +79,7 @@ fn is_short_year(whole: &[u8; 15]) -> bool
 }
 
 impl Time {
-    /// The moment that a text YYMMDDHHMMSSZ tells (RFC 5280 4.1.2.5.1), if it tells one: a year 50 to 99 is one of
+    /// The moment that a text YYMMDDHHMMSSZ states (RFC 5280 4.1.2.5.1), if it states one: a year 50 to 99 is one of
     /// 1950 to 1999, and 00 to 49 one of 2000 to 2049.
     pub fn from_utc_text(text: &[u8]) -> Option<Time>
         ensures found { IfSome result (λ t. IsShortMoment text.now t) }

@@ -75,7 +75,7 @@ impl Time {
         })
     }
 
-    /// The moment that a text YYYYMMDDHHMMSSZ tells (RFC 5280 4.1.2.5.2), if it tells one.
+    /// The moment that a text YYYYMMDDHHMMSSZ states (RFC 5280 4.1.2.5.2), if it states one.
     pub fn from_generalized(text: &[u8]) -> Option<Time>
         ensures found { IfSome result (λ t. IsMoment text.now t) }
         ensures none { IfNone result ((seconds : ℕ) → IsMoment text.now seconds → ⊥) }

@@ -75,7 +75,7 @@ impl Validity {
         not_after
     }
 
-    /// Tells where a moment lies outside: before the beginning, or behind the end. Both ends are inside.
+    /// Refuses a moment by where it lies outside: before the beginning, or after the end. Both ends are inside.
     pub fn verify_at(self, now: Time) -> Result<(), ValidityError>
         ensures inside { IsOk result ↔ IsValidAt self now }
         ensures early { (result ≡ Err ValidityError.NotYetValid) ↔ (now < self.not_before) }

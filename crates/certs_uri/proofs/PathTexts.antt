@@ -1,4 +1,4 @@
--- Paths of URIs: slashes at the end, folders, and what stands behind slashes.
+-- Paths of URIs: slashes at the end, folders, and what comes after slashes.
 use Rattle.std.proofs.Common.{◌≡◌, ◌≢◌, ℕ, suc, ◌+◌, ◌<◌, ◌≤◌, ◌==◌, ◌||◌, Bool, true, false, cond, not, List, [], ◌∷◌, ◌++◌, take, drop, length, get_or, All, refl, sym, ap, ◌∙◌, subst, arith, eqb-true, append_assoc, take-append-drop, if◌then◌else◌, length-drop}
 use Rattle.std.proofs.lemmas.Bool.{cond-true, cond-false, cond_both, ne_eqb}
 use Rattle.std.proofs.lemmas.List.{drop_more, take_more, get_or-drop}
@@ -38,16 +38,16 @@ folder-slash (c ∷ d ∷ text) =
       | false ↦ λ h. ap (λ t. c ∷ t) h
     ]) (folder-slash (d ∷ text))
 
--- A name is joined behind the text less a slash, and a slash.
+-- A name is joined to the text without its last slash, after a slash.
 pub join-is : (uri name : List ℕ) → join uri name ≡ without_slash uri ++ 47 ∷ name
 join-is uri name = ap (λ t. t ++ name) (folder-slash uri) ∙ append_assoc (without_slash uri) (47 ∷ []) name
 
--- Behind no slash stands the text.
+-- After no slash comes all of the text.
 pub behind-zero : (text : List ℕ) → behind_slashes 0 text ≡ text
 behind-zero [] = refl
 behind-zero (c ∷ text) = refl
 
--- Behind the first slash stands what is left of its place.
+-- After the first slash comes what is left from its place on.
 pub behind-one : (text : List ℕ) → behind_slashes 1 text ≡ drop (segment_len text + 1) text
 behind-one [] = refl
 behind-one (c ∷ text) =
@@ -77,7 +77,7 @@ has_slash-none [] a = refl
 has_slash-none (c ∷ text) a =
     rw (has_slash-none text (All-tail (λ x. x ≢ 47) c text a), ne_eqb c 47 (All-head (λ x. x ≢ 47) c text a)) refl
 
--- A folder ends behind its last slash, whatever stands in front of that.
+-- A folder ends after its last slash, whatever stands before that.
 pub to_last_slash-append : (front behind : List ℕ) → to_last_slash (front ++ 47 ∷ behind) ≡ front ++ 47 ∷ to_last_slash behind
 to_last_slash-append [] behind = refl
 to_last_slash-append (c ∷ front) behind =
@@ -88,7 +88,7 @@ pub to_last_slash-none : (text : List ℕ) → All (λ c. c ≢ 47) text → to_
 to_last_slash-none [] a = refl
 to_last_slash-none (c ∷ text) a = cond-false _ _ _ (has_slash-none (c ∷ text) a)
 
--- What stands behind a place has no slash, where no place behind it has one.
+-- What comes after a place has no slash, where there is none from that place on.
 no_slash-drop : (text : List ℕ) (n : ℕ) → ((k : ℕ) → n ≤ k → k < length text → get_or text k 0 ≢ 47) → All (λ c. c ≢ 47) (drop n text)
 no_slash-drop text n h =
     let P : ℕ → Type 0 = λ c. c ≢ 47 in

@@ -49,7 +49,7 @@ behind-front m n (c ∷ front) behind e =
       | false ↦ λ h. behind-front m n front behind h
     ]) e
 
--- Behind four slashes of an rsync URI stands its path.
+-- After four slashes of an rsync URI comes its path.
 behind-four : (uri : List ℕ) (r : IsRsync uri) → behind_slashes 4 uri ≡ behind_slashes 1 r.rest
 unfolding slashes
 behind-four uri r =
@@ -76,7 +76,7 @@ folder-front uri folder e =
     let short : length folder ≤ length text = omega (arith, ap length front, length-take (length folder) text) in
     front ∙ ap (take (length folder)) (without_slash-front uri) ∙ take-take (length folder) (length text) uri short
 
--- Behind the module a folder has a slash.
+-- A folder has a slash after the module.
 folder-path : (front path uri folder : List ℕ) → uri ≡ front ++ 47 ∷ path → parent_behind (behind_slashes 1 (47 ∷ path)) uri ≡ Some folder → (more : List ℕ) × (folder ≡ front ++ 47 ∷ more)
 folder-path front [] uri folder whole e = absurd (cc)
 folder-path front (c ∷ path) uri folder whole e =
@@ -89,7 +89,7 @@ folder-rest front [] uri folder h whole e = absurd (cc)
 folder-rest front (c ∷ path) uri folder h whole e =
     folder-path front path uri folder (whole ∙ ap (λ x. front ++ x ∷ path) h) (ap (λ x. parent_behind (behind_slashes 1 (x ∷ path)) uri) (sym h) ∙ e)
 
--- What stands behind the module, taken apart from what is in front.
+-- What comes after the module, taken apart from what is before it.
 module-split : (scheme host name rest : List ℕ) → (scheme ++ (host ++ 47 ∷ name)) ++ rest ≡ scheme ++ (host ++ (47 ∷ (name ++ rest)))
 module-split scheme host name rest =
     append_assoc scheme (host ++ 47 ∷ name) rest ∙ ap (λ t. scheme ++ t) (append_assoc host (47 ∷ name) rest)
@@ -114,7 +114,7 @@ IsRsync-parent uri folder r e =
       rest_is = refl;
     }
 
--- An rsync URI with more behind it.
+-- An rsync URI with more after it.
 more-rsync : (uri more : List ℕ) (r : IsRsync uri) → IsRest (r.rest ++ more) → All IsUriOctet more → IsRsync (uri ++ more)
 more-rsync uri more r rest plain = record {
   scheme = r.scheme;
@@ -131,12 +131,12 @@ more-rsync uri more r rest plain = record {
   rest_is = rest;
 }
 
--- A rest with more behind it.
+-- A rest with more after it.
 IsRest-append : (rest more : List ℕ) → IsRest rest → (rest ≡ [] → IsRest more) → IsRest (rest ++ more)
 IsRest-append [] more r h = h refl
 IsRest-append (c ∷ rest) more r h = r
 
--- Whether a text ends with a slash is told by its end.
+-- Whether a text ends with a slash depends on its end alone.
 ends-append : (front behind : List ℕ) → behind ≢ [] → ends_with_slash (front ++ behind) ≡ ends_with_slash behind
 ends-append [] behind h = refl
 ends-append (c ∷ []) [] h = absurd (h refl)

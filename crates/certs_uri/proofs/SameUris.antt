@@ -49,7 +49,7 @@ without_slash-lower_host (c ∷ d ∷ text) =
       | false ↦ same
     ]
 
--- The lookup key of eight octets and what stands behind them.
+-- The lookup key of eight octets and what comes after them.
 lookup_key-eight : (front behind : List ℕ) → length front ≡ 8 → lookup_key (front ++ behind) ≡ map lower front ++ lower_host behind
 lookup_key-eight front behind e = rw (take_at front behind 8 e, drop_at front behind 8 e) refl
 
@@ -100,7 +100,7 @@ host_end-key a b e =
     let len : length a ≡ length b = sym (length-lookup_key a) ∙ ap length e ∙ length-lookup_key b in
     rw (place, len) refl
 
--- Scheme and host, and what stands behind them, of equal lookup keys.
+-- Scheme and host, and what comes after them, of equal lookup keys.
 pub record SameParts (a b : List ℕ) (n m : ℕ) : Type 0 where
   pub host : map lower (take n a) ≡ map lower (take m b)
   pub path : drop n a ≡ drop m b

@@ -29,7 +29,7 @@ no_slash-map text a = All-map (λ c. c ≢ 47) lower text (All-weaker (λ c. c �
 IsUriOctet-lower : (c : ℕ) → IsUriOctet c → IsUriOctet (lower c)
 IsUriOctet-lower c h = (grind (arith, nat_tests), grind (arith, nat_tests))
 
--- A host in lower case, in front of what stands behind it.
+-- A host in lower case, and what comes after it as it is.
 pub lower_host-append : (host rest : List ℕ) → All (λ c. c ≢ 47) host → IsRest rest → lower_host (host ++ rest) ≡ map lower host ++ rest
 lower_host-append host rest a r =
     let len = segment_len-append host rest a r in
@@ -54,7 +54,7 @@ lower_host-lower_host text =
     ∙ lower_host-append front (drop n text) (no_slash-map (take n text) (no_slash-take text)) (IsRest-drop text)
     ∙ ap (λ t. t ++ drop n text) (map-lower-lower (take n text)) ∙ sym split
 
--- The scheme and what stands behind it, in a lookup key.
+-- The scheme and what comes after it, in a lookup key.
 pub lookup_key-parts : (uri : List ℕ) → IsSplit (lookup_key uri) (map lower (take 8 uri)) (lower_host (drop 8 uri))
 lookup_key-parts uri =
     let front = map lower (take 8 uri) in

@@ -1,4 +1,4 @@
--- The parts of a URI by their lengths: the scheme, the host up to the first slash, and what stands behind.
+-- The parts of a URI by their lengths: the scheme, the host up to the first slash, and what comes after.
 use Rattle.std.proofs.Common.{◌≡◌, ℕ, ◌+◌, ◌<◌, ◌≢◌, ◌==◌, true, false, cond, not, List, [], ◌∷◌, ◌++◌, map, take, drop, length, get_or, All, codes, refl, sym, ap, ◌∙◌, arith, eqb-true, one-add, append_assoc, take-append-drop, take-add, if◌then◌else◌, take_at, drop_at}
 use Rattle.std.specs.Char.{to_ascii_lowercase}
 use Rattle.std.specs.List.{position_or_len}
@@ -22,7 +22,7 @@ to_ascii_lowercase-lower c = grind (arith, nat_tests)
 pub map-to_ascii_lowercase : (text : List ℕ) → map to_ascii_lowercase text ≡ map lower text
 map-to_ascii_lowercase text = ap (λ f. map f text) (λ i c. to_ascii_lowercase-lower c i)
 
--- A segment ends where what stands behind it begins.
+-- A segment ends where what comes after it begins.
 pub segment_len-append : (host rest : List ℕ) → All (λ c. c ≢ 47) host → IsRest rest → segment_len (host ++ rest) ≡ length host
 segment_len-append [] [] a r = refl
 segment_len-append [] (c ∷ rest) a r = grind (arith, nat_tests)
@@ -39,7 +39,7 @@ no_slash-take (c ∷ text) =
     (λ e. let ne : c ≢ 47 = grind (arith, nat_tests) in rw one-add (All-cons (λ x. x ≢ 47) c (take (segment_len text) text) ne (no_slash-take text)))
     (λ _. All-nil (λ x. x ≢ 47))
 
--- What stands behind a segment is nothing, or begins with a slash.
+-- What comes after a segment is nothing, or begins with a slash.
 pub IsRest-drop : (text : List ℕ) → IsRest (drop (segment_len text) text)
 IsRest-drop [] = tt
 IsRest-drop (c ∷ text) =
@@ -84,7 +84,7 @@ IsModulePath-from_lens text h =
       rest_is = IsRest-drop behind;
     }
 
--- The octets behind a segment's slash.
+-- The octets after a segment's slash.
 drop-segment : (host behind : List ℕ) → drop (length host + 1) (host ++ (47 ∷ behind)) ≡ behind
 drop-segment host behind =
     sym (drop-drop 1 (length host) (host ++ (47 ∷ behind))) ∙ ap (drop 1) (drop_at host (47 ∷ behind) (length host) refl)
@@ -103,12 +103,12 @@ HasModule-from_path text p =
       module_some = rw (host_len, drop-segment) (omega arith);
     })
 
--- A URI's first 8 octets, and what stands behind them.
+-- A URI's first 8 octets, and what comes after them.
 pub record IsSplit (uri scheme behind : List ℕ) : Type 0 where
   pub front : take 8 uri ≡ scheme
   pub back : drop 8 uri ≡ behind
 
--- The parts of a scheme of 8 octets and what stands behind it.
+-- The parts of a scheme of 8 octets and what comes after it.
 pub IsSplit-append : (uri scheme behind : List ℕ) → length (map lower scheme) ≡ 8 → uri ≡ scheme ++ behind → IsSplit uri scheme behind
 IsSplit-append uri scheme behind len e =
     let eight : length scheme ≡ 8 = sym (length-map scheme lower) ∙ len in
@@ -117,7 +117,7 @@ IsSplit-append uri scheme behind len e =
       back = drop_at scheme behind 8 eight;
     })
 
--- An rsync URI has its scheme, and a module path behind it.
+-- An rsync URI has its scheme, and a module path after it.
 pub HasScheme-from_rsync : (uri : List ℕ) → IsRsync uri → HasScheme (codes "rsync://") uri × IsModulePath (drop 8 uri)
 HasScheme-from_rsync uri r =
     let split = IsSplit-append uri r.scheme _ (ap length r.scheme_is) r.whole in (
@@ -133,7 +133,7 @@ HasScheme-from_rsync uri r =
       },
     )
 
--- The scheme with a module path behind it makes an rsync URI.
+-- The scheme with a module path after it makes an rsync URI.
 pub IsRsync-from_parts : (uri : List ℕ) → HasScheme (codes "rsync://") uri → IsModulePath (drop 8 uri) → IsRsync uri
 IsRsync-from_parts uri s p = record {
   scheme = take 8 uri;
@@ -148,7 +148,7 @@ IsRsync-from_parts uri s p = record {
   rest_is = p.rest_is;
 }
 
--- An https URI has its scheme, and a host behind it.
+-- An https URI has its scheme, and a host after it.
 pub HasScheme-from_https : (uri : List ℕ) → IsHttps uri → HasScheme (codes "https://") uri × (0 < segment_len (drop 8 uri))
 HasScheme-from_https uri r =
     let split = IsSplit-append uri r.scheme _ (ap length r.scheme_is) r.whole in
@@ -156,7 +156,7 @@ HasScheme-from_https uri r =
     let some = length-some r.host r.host_is.some in
     (record { plain = r.plain; scheme_is = rw split.front r.scheme_is }, rw (split.back, len) some)
 
--- The scheme with a host behind it makes an https URI.
+-- The scheme with a host after it makes an https URI.
 pub IsHttps-from_parts : (uri : List ℕ) → HasScheme (codes "https://") uri → 0 < segment_len (drop 8 uri) → IsHttps uri
 IsHttps-from_parts uri s h =
     let behind = drop 8 uri in

@@ -7,11 +7,11 @@ ends_with_slash [] = false
 ends_with_slash (c ∷ []) = c == 47
 ends_with_slash (c ∷ d ∷ text) = ends_with_slash (d ∷ text)
 
--- The URI with a slash at its end, and the name behind it.
+-- The URI with a slash at its end, and the name after it.
 abbrev pub join : List ℕ → List ℕ → List ℕ
 join uri name = (if ends_with_slash uri then uri else uri ++ 47 ∷ []) ++ name
 
--- What stands behind so many slashes, nothing where there are fewer.
+-- What comes after so many slashes, nothing where there are fewer.
 abbrev pub behind_slashes : ℕ → List ℕ → List ℕ
 behind_slashes n [] = []
 behind_slashes zero (c ∷ text) = c ∷ text
@@ -32,7 +32,7 @@ abbrev pub to_last_slash : List ℕ → List ℕ
 to_last_slash [] = []
 to_last_slash (c ∷ text) = if has_slash (c ∷ text) then c ∷ to_last_slash text else []
 
--- The folder of an rsync URI: less one slash at the end and the last segment; none where no path stands behind the module.
+-- The folder of an rsync URI: less one slash at its end and its last segment; none where no path is after the module.
 abbrev pub parent_behind : List ℕ → List ℕ → Option (List ℕ)
 parent_behind [] uri = None
 parent_behind (c ∷ path) uri = Some (to_last_slash (without_slash uri))
@@ -40,7 +40,7 @@ parent_behind (c ∷ path) uri = Some (to_last_slash (without_slash uri))
 abbrev pub parent : List ℕ → Option (List ℕ)
 parent uri = parent_behind (behind_slashes 4 uri) uri
 
--- The same but for case in scheme and host, and for one slash at the end.
+-- Two URIs are the same but for case in scheme and host, and for one slash at the end.
 abbrev pub IsIdenticalTo : List ℕ → List ℕ → Type 0
 IsIdenticalTo a b = without_slash (lookup_key a) ≡ without_slash (lookup_key b)
 

@@ -65,7 +65,7 @@ pub record HasScheme (scheme uri : List ℕ) : Type 0 where
   pub plain : All IsUriOctet uri
   pub scheme_is : map lower (take 8 uri) ≡ scheme
 
--- What stands behind `rsync://`: a host, a slash and a module, and then nothing or a slash and a path.
+-- What comes after `rsync://`: a host, a slash and a module, and then nothing or a slash and a path.
 pub record IsModulePath (text : List ℕ) : Type 0 where
   pub host : List ℕ
   pub module_name : List ℕ

@@ -26,7 +26,7 @@ pub fn is_plain(text: &[u8]) -> bool
     text.iter().all(|octet| (0x21..=0x7E).contains(octet))
 }
 
-/// What stands behind the scheme, where the text has that scheme in any case and URI octets alone.
+/// What comes after the scheme, where the text has that scheme in any case and URI octets alone.
 fn after_scheme<'a>(text: &'a [u8], scheme: &[u8; 8]) -> Option<&'a [u8]>
     ensures { MatchOption result (¬ HasScheme (map lower scheme.now) text.now)
         (λ rest. HasScheme (map lower scheme.now) text.now × (rest.now ≡ drop 8 text.now)) }

@@ -16,7 +16,7 @@ pub fn without_slash(text: &[u8]) -> &[u8]
     }
 }
 
-// What stands behind the first slash, nothing where there is none.
+// What comes after the first slash, nothing where there is none.
 fn behind_slash(text: &[u8]) -> &[u8]
     ensures { result.now ≡ behind 1 text.now }
 {
@@ -28,7 +28,7 @@ fn behind_slash(text: &[u8]) -> &[u8]
     }
 }
 
-// What stands behind so many slashes, nothing where there are fewer.
+// What comes after so many slashes, nothing where there are fewer.
 fn behind_slashes(count: usize, text: &[u8]) -> &[u8]
     ensures { result.now ≡ behind count text.now }
 {
@@ -49,7 +49,7 @@ fn to_last_slash(text: &[u8]) -> &[u8]
     }
 }
 
-/// The folder of an rsync URI: less one slash at the end and the last segment; none where no path stands behind the
+/// The folder of an rsync URI: less one slash at the end and the last segment; none where no path comes after the
 /// module.
 pub fn parent(uri: &[u8]) -> Option<&[u8]>
     ensures { option_copied result ≡ parent_of uri.now }
@@ -60,7 +60,7 @@ pub fn parent(uri: &[u8]) -> Option<&[u8]>
     Some(to_last_slash(without_slash(uri)))
 }
 
-/// The URI with one slash at its end, where it has none yet, and the name behind it.
+/// The URI with one slash at its end, where it has none yet, and the name after it.
 pub fn join(alloc: Global, uri: &[u8], name: &[u8]) -> Result<Vec<u8>, AllocError>
     ensures { IfOk result (λ text. text.items ≡ joined uri.now name.now) }
 {

@@ -74,7 +74,7 @@ impl Rsync {
         }
     }
 
-    /// The URI with one slash at its end and the name behind it, if the name is written in octets 21 to 7E. Slashes
+    /// The URI with one slash at its end and the name after it, if the name is written in octets 21 to 7E. Slashes
     /// in the name are kept, and it may be empty.
     pub fn join(&self, alloc: Global, name: &[u8]) -> Result<Rsync, Error>
         ensures { MakesIf (All IsUriOctet name.now) (joined self.now name.now) result }
@@ -92,7 +92,7 @@ impl Rsync {
     }
 
     /// The folder: the URI less one slash at its end and its last segment, with the slash before that; none where no
-    /// path stands behind the module. The octets are shared, and a refusal comes of the count of their owners alone.
+    /// path comes after the module. The octets are shared, and a refusal comes of the count of their owners alone.
     pub fn parent(&self) -> Result<Option<Rsync>, AllocError>
         ensures folder { IfOk result (λ folder. folder ≡ parent_of self.now) }
         ensures none { parent_of self.now ≡ None → IsOk result }

@@ -1,4 +1,4 @@
--- Tests in their order: what the first of them answer, and what those behind them answer.
+-- Tests in their order: what the first of them answer, and what those after them answer.
 use Rattle.std.proofs.Common.{◌≡◌, List, [], ◌∷◌, ◌++◌, Option, Some, None, Result, Ok, Err, refl, sym, ap, ◌∙◌, subst}
 use Rattle.std.specs.Prelude.{IsErr, IsErrAnd}
 use Rattle.certs_x509.specs.certs_errors.declared.verification.VerificationError.{VerificationError}
@@ -18,7 +18,7 @@ fails_next P (x ∷ front) ts t p f =
     let g = fails_next P front ts t p.1 f in
     record { front = x ∷ g.front; behind = g.behind; whole = ap (λ (ys : List VerificationTest). x ∷ ys) g.whole; passed = (p.0, g.passed); fails = g.fails }
 
--- Tests behind change nothing.
+-- Later tests change nothing.
 assoc : (a : List VerificationTest) (t : VerificationTest) (b c : List VerificationTest) → (a ++ t ∷ b) ++ c ≡ a ++ t ∷ (b ++ c)
 assoc [] t b c = refl
 assoc (x ∷ a) t b c = ap (λ (ys : List VerificationTest). x ∷ ys) (assoc a t b c)
@@ -26,7 +26,7 @@ assoc (x ∷ a) t b c = ap (λ (ys : List VerificationTest). x ∷ ys) (assoc a 
 pub fails_before : (P : VerificationTest → Type 0) (ts behind : List VerificationTest) (t : VerificationTest) → FirstFailing P ts t → FirstFailing P (ts ++ behind) t
 fails_before P ts behind t f = record { front = f.front; behind = f.behind ++ behind; whole = ap (λ (ys : List VerificationTest). ys ++ behind) f.whole ∙ assoc f.front t f.behind behind; passed = f.passed; fails = f.fails }
 
--- The same of faults.
+-- A fault stays where tests that are passed come before it, or any tests after it.
 pub fault_next : (P : VerificationTest → Type 0) (front ts : List VerificationTest) (o : Option Fault) → Each P front → Fails P ts o → Fails P (front ++ ts) o
 fault_next P front ts None p f = absurd f
 fault_next P front ts (Some (inspected t)) p f = absurd f
@@ -43,7 +43,7 @@ pub each_next : (P : VerificationTest → Type 0) (front ts : List VerificationT
 each_next P [] ts p q = q
 each_next P (x ∷ front) ts p q = (p.0, each_next P front ts p.1 q)
 
--- An answer of the tests behind those that are passed.
+-- An answer of the tests after those that are passed.
 pub answers_next : {A : Type 0} (P : VerificationTest → Type 0) (front ts : List VerificationTest) (r : Result A VerificationError) → Each P front → Answers P ts r → Answers P (front ++ ts) r
 answers_next P front ts (Ok x) p a = each_next P front ts p a
 answers_next P front ts (Err e) p a = fault_next P front ts (fault_of e) p a
@@ -73,7 +73,7 @@ pub answers_alike : {A : Type 0} (P Q : VerificationTest → Type 0) (ts : List 
 answers_alike P Q ts (Ok x) same a = each_alike P Q ts same a
 answers_alike P Q ts (Err e) same a = fault_alike P Q ts (fault_of e) same a
 
--- A call behind tests that are passed refused, and its error is handed on.
+-- A call after tests that are passed was refused, and its error is handed on.
 pub handed_on : {A : Type 0} (P : VerificationTest → Type 0) (front ts behind : List VerificationTest) (e : VerificationError) (r : Result A VerificationError)
     → IsErr r × IsErrAnd r (λ x. x ≡ e) → Each P front → Fails P ts (fault_of e) → Answers P (front ++ (ts ++ behind)) r
 handed_on P front ts behind e (Ok x) a p f = absurd a.1

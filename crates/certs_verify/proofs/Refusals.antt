@@ -57,7 +57,7 @@ tells_none P ts c held error.Uncovered all f = tt
 tells_none P ts c held error.Refused all f = tt
 tells_none P ts c held error.Memory all f = tt
 
--- The same where the error was handed on.
+-- What an error tells of numbers outside stays so where it was handed on.
 pub outside_handed_on : {A : Type 0} (c : CertValue) (held : Kind → ℕ → Type 0) (e : VerificationError) (r : Result A VerificationError)
     → IsErr r × IsErrAnd r (λ x. x ≡ e) → TellsOutside c held e → IfErr r (TellsOutside c held)
 outside_handed_on c held e (Ok x) a t = absurd a.1
@@ -85,7 +85,7 @@ signed_alike good now given issuer c held e =
     subst (λ (x : CertValue). Each (Alike (PassesAt good now x nothing c) (PassesAt good now issuer held c)) (validity ++ issuer_claim ++ test.BadSignature ∷ [])) (sym e)
     (((λ p. p), (λ p. p)), (((λ p. p), (λ p. p)), (((λ p. p), (λ p. p)), (((λ p. p), (λ p. p)), (((λ p. p), (λ p. p)), (((λ p. p), (λ p. p)), tt))))))
 
--- What an inspection answers, by when it is `Ok` and which test it tells.
+-- What an inspection answers, by when it is `Ok` and which test it refuses with.
 pub inspects_by : (d : Digests) (strict : Bool) (role : Role) (c : CertValue) (r : Result (Unit {0}) InspectionError)
     → (IsOk r ↔ Profile d strict role c) → ((t : InspectionError) → (r ≡ Err t) ↔ FailsFirst d strict role c t) → Inspects d strict role c r
 inspects_by d strict role c (Ok x) passed refused = passed.0 refl

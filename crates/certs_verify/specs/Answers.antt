@@ -22,7 +22,7 @@ overclaimed (outside.V4 numbers) = test.OverclaimV4
 overclaimed (outside.V6 numbers) = test.OverclaimV6
 overclaimed (outside.Asn numbers) = test.OverclaimAs
 
--- The test that an error tells, or want of memory. Certificates have no other errors.
+-- The test that an error tells, or lack of memory. Certificates have no other errors.
 abbrev pub fault_of : VerificationError → Option Fault
 fault_of error.NotYetValid = Some (verified test.NotYetValid)
 fault_of error.Expired = Some (verified test.Expired)
@@ -39,7 +39,7 @@ fault_of error.Uncovered = None
 fault_of error.Refused = None
 fault_of error.Memory = Some wants_memory
 
--- The fault is the first test of the list that isn't passed, or want of memory, of which nothing follows.
+-- The fault is the first test of the list that isn't passed, or lack of memory, of which nothing follows.
 abbrev pub Fails : (VerificationTest → Type 0) → List VerificationTest → Option Fault → Type 0
 Fails P tests None = ⊥
 Fails P tests (Some (inspected t)) = ⊥

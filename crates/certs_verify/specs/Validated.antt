@@ -23,7 +23,7 @@ abbrev pub Inspects : Digests → Bool → Role → CertValue → Result (Unit {
 Inspects d strict role c (Ok x) = Profile d strict role c
 Inspects d strict role c (Err t) = FailsFirst d strict role c t
 
--- The test that an error tells, or want of memory.
+-- The test that an error tells, or lack of memory.
 abbrev pub cause_of : ValidationError → Option Fault
 cause_of (error.Inspection t) = Some (inspected t)
 cause_of (error.Verification e) = fault_of e

@@ -1,4 +1,4 @@
-//! Verification behind an inspection.
+//! Verification after an inspection.
 
 ghost use Rattle.std.specs.Prelude.{◌≡◌, Bool, IfErr, IfOk};
 ghost use Rattle.certs_x509.specs.certs_errors.declared.validation.ValidationError.TheVariants.{Verification};

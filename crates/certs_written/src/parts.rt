@@ -138,7 +138,7 @@ impl<V: Values> Values for DerString<V> {
     ghost one_text = { λ x m a b. around_one m (V.one_text x.0 Der) a b };
 }
 
-/// A BOOLEAN that is false where none is told: TRUE, or nothing (X.690 11.5).
+/// A BOOLEAN that is false where none is given: TRUE, or nothing (X.690 11.5).
 #[derive(Drop)]
 pub struct Truth(pub bool);
 

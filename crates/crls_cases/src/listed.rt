@@ -30,7 +30,7 @@ fn say_entries(answer: &mut Answer, list: &RevokedCertificates) -> Result<()> {
     Ok(())
 }
 
-// All that a list tells: its entries, and what is written of it in a mode, `none` where that is nothing.
+// All that is answered of a list: its entries, and what is written of it in a mode, `none` where that is nothing.
 fn say_list(
     alloc: Global,
     answer: &mut Answer,

@@ -8,7 +8,7 @@ use resources_asn::Asn;
 // At most so many providers are attested.
 const MAX_PROVIDERS: usize = 10_000;
 
-/// Providers that were told: how many, and the last of them.
+/// Providers that were given: how many, and the last of them.
 #[derive(Clone, Copy)]
 pub(crate) struct Run {
     /// How many.

@@ -25,7 +25,7 @@ use Rattle.objects_attributes.specs.Said.{IsSaid, IsValueOf, kind_of, octets_of}
 pub said_tagged : (m : Mode) → Tagged (universal 16) (IsSaid m)
 said_tagged m = as_tagged (inside_tagged _ _)
 
--- The field that tells what follows is none that it can be.
+-- The field that says what follows is none that it can be.
 pub unfit_by : {A B C D E : Type 0} {P : Mode → Trees → A → Type 0} {Q : Mode → Tree → B → Type 0} {R : Mode → B → Trees → C → Type 0}
     {k : B × C → A} {start now : ValuesLeft} {some : Bool} {f : D → A} {new : ValuesLeft} {e : DecodeError E}
     → Fields P (λ m. ThenBy (Q m) (R m)) k start now some → Lacks (Q now.mode) now → ReadsFields f P start (Err e) new

@@ -47,7 +47,7 @@ AreOneValue m kind = Then (IsValueOf m kind) End
 abbrev pub IsKindOid : List ℕ → Kind → Type 0
 IsKindOid octets kind = octets ≡ octets_of kind
 
--- SEQUENCE { attrType OBJECT IDENTIFIER, attrValues SET OF one value }, by what the identifier tells (RFC 5652 5.3,
+-- SEQUENCE { attrType OBJECT IDENTIFIER, attrValues SET OF one value }, by what the identifier says (RFC 5652 5.3,
 -- RFC 6488 2.1.6.4).
 abbrev pub SaidFields : Type 0
 SaidFields = Kind × ((Said × Unit {0}) × Unit {0})

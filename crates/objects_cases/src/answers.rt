@@ -44,7 +44,7 @@ impl Answer {
         }
     }
 
-    /// How octets were refused: for what they are, by their source, or for want of memory.
+    /// How octets were refused: for what they are, by their source, or for lack of memory.
     pub fn refuse<E: Drop>(&mut self, error: DecodeError<E>) {
         match error {
             DecodeError::Content(_, _) => self.say(&"refused"),
@@ -53,7 +53,7 @@ impl Answer {
         }
     }
 
-    /// Octets in hexadecimal digits, behind an `x`.
+    /// Octets in hexadecimal digits, after an `x`.
     pub fn say_octets(&mut self, alloc: Global, octets: &[u8]) {
         match hex::encode(alloc, octets) {
             Ok(digits) => self.say(&format_args!("x{digits}")),

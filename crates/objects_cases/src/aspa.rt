@@ -28,7 +28,7 @@ fn written(alloc: Global, answer: &mut Answer, content: &AsProviderAttestation) 
     answer.say_written(alloc, &content.encode_ref());
 }
 
-/// All that is told of the content.
+/// All that is answered of the content.
 pub fn shown(alloc: Global, answer: &mut Answer, content: &AsProviderAttestation) {
     providers(alloc, answer, content);
     written(alloc, answer, content);

@@ -1,4 +1,4 @@
-//! What is told of the certificate in a signed object.
+//! What is answered of the certificate in a signed object.
 
 use crate::answers::Answer;
 use certs_cert::{Cert, TbsCert};

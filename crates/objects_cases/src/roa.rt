@@ -32,7 +32,7 @@ fn origins(answer: &mut Answer, content: &RouteOriginAttestation) {
     }
 }
 
-/// All that is told of the content.
+/// All that is answered of the content.
 pub fn shown(answer: &mut Answer, content: &RouteOriginAttestation) {
     addresses(answer, content);
     origins(answer, content);

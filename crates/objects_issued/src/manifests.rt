@@ -30,7 +30,7 @@ fn content_of<E>(alloc: Global, content: &ManifestContent) -> Result<Captured, S
     }
 }
 
-// The same fields with all resources of the issuer.
+// The builder, with all resources inherited from the issuer.
 fn inherits(builder: SignedObjectBuilder) -> SignedObjectBuilder
     ensures { result ≡ inheriting builder }
 {

@@ -43,7 +43,7 @@ with_content {Q = Q} {x = x} p c = record {
   content_is = subst (λ (z : List ℕ). ReadsFront Q z x) p.content_is c;
 }
 
--- The content of the object isn't of Q, as a reader of it told.
+-- The content of the object isn't of Q, as a reader of it answered.
 pub no_content : {A D E : Type 0} {kind : List ℕ} (Q : Tree → A → Type 0) (strict : Bool) {octets content : List ℕ} {o : Object}
     → IsTyped kind strict octets o content → (e : DecodeError D) (told : DecodeError E) → SameCause e told
     → OnContent e ((x : A) → ReadsFront Q content x → ⊥)
@@ -64,6 +64,6 @@ front_lacks Q octets e = weaker e (λ none x p. none p.is.tree x p.rest p.is.is 
 pub front_reads : {A : Type 0} (Q : Tree → A → Type 0) {octets : List ℕ} {x : A} → (t : Tree) × (rest : List ℕ) × Front Der octets t rest × Q t x → ReadsFront Q octets x
 front_reads Q h = record { text = h.2.text; rest = h.1; whole = h.2.whole; is = record { tree = h.0; is = h.3; spelled = h.2.spelled } }
 
--- A test said no of what it tells exactly.
+-- What a test decides isn't so where it says no.
 pub said_no : {b : Bool} {P : Type 0} → (IsTrue b ↔ P) → b ≡ false → P → ⊥
 said_no told turned p = let e : true ≡ false = sym (told.1 p) ∙ turned in absurd cc

@@ -9,7 +9,7 @@ pub record KindValue (A : Type 0) : Type 0 where
   pub signed : Object
   pub content : A
 
--- The object with its content in front of the octets, or there is none. P tells which octets are such an object.
+-- The object with its content in front of the octets, or there is none. P says which octets are such an object.
 abbrev pub DecodesKind : {A E : Type 0} → (Bool → List ℕ → Object → A → Type 0) → Bool → List ℕ → Result (KindValue A) (DecodeError E) → Type 0
 DecodesKind P strict octets (Ok k) = P strict octets k.signed k.content
 DecodesKind {A} P strict octets (Err e) = OnContent e ((o : Object) (x : A) → P strict octets o x → ⊥)

@@ -58,7 +58,7 @@ feeds_at (c ∷ text) h =
       | false ↦ λ y n h. later c text (n refl) (feeds_at text (omega (arith, h)))
     ]) (feeds c) (feeds_not c) h
 
--- The same, by the place.
+-- The first LF stands at the place that was found.
 pub feeds_here : (text : List ℕ) (n : ℕ) → n ≡ position_or_len (λ c. c == 10) text → n < length text → FeedsAt n text
 feeds_here text n e h = subst (λ (k : ℕ). FeedsAt k text) (sym e) (feeds_at text (subst (λ (k : ℕ). k < length text) e h))
 
@@ -153,7 +153,7 @@ same_before (c ∷ r) (d ∷ s) e =
     let z : r ≡ s = same_before r s w in
     cc
 
--- What stands before LF tells the line.
+-- What stands before LF decides the line.
 one_ended : (k l a b : List ℕ) → a ≡ b → IsEndedBy a k → IsEndedBy b l → k ≡ l
 one_ended k l a b e (inl f) (inl g) = sym f.0 ∙ e ∙ g.0
 one_ended k l a b e (inl f) (inr g) = absurd (returns_not l (subst NoReturnAtEnd (sym f.0 ∙ e ∙ g) f.1))

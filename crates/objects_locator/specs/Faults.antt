@@ -130,7 +130,7 @@ pub record BehindUris (P : List ℕ → Type 0) (text : List ℕ) : Type 0 where
 abbrev pub NoText : List ℕ → Type 0
 NoText text = ⊥
 
--- Why a text is no locator: the first line that is refused tells it. Memory is asked for only where a URI was there.
+-- Why a text is no locator: by the first line that is refused. Memory is asked for only where a URI was there.
 abbrev pub IsFault : ReadError → List ℕ → Type 0
 IsFault Io = NoText
 IsFault UnexpectedEof = BehindComments IsCut

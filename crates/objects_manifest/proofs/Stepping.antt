@@ -100,7 +100,7 @@ no_files s x over = at x.0 x.1
     at [] h = refl
     at (f ∷ files) h = ∥∥₁_elim h (Coded-set (coded_list file_code) _ _) (λ k. let e : pieces_of (f ∷ files) ≡ [] = over (pieces_of (f ∷ files)) k in absurd cc)
 
--- Two pieces were read: the name and the hash of the first file, and the others are left behind them.
+-- Two pieces were read: the name and the hash of the first file, and the others are left after them.
 pub record NextFile (files : List File) (name content behind : List ℕ) : Type 0 where
   pub file : File
   pub others : List File

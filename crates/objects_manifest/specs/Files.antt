@@ -23,7 +23,7 @@ pub record IsExtension (octets : List ℕ) : Type 0 where
   pub are : All IsLetter letters
   pub three : length letters ≡ 3
 
--- The content of a name, and of a hash in whole octets, which tells first that no bit is unused (X.690 8.6.2.2).
+-- The content of a name, and of a hash in whole octets, which says first that no bit is unused (X.690 8.6.2.2).
 pub record IsNameContent (content : List ℕ) (x : Unit {0}) : Type 0 where
   pub is : IsFileName content
 

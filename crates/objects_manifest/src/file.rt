@@ -20,7 +20,7 @@ use std::marker::Model;
 // How many octets the extension of a name has: a dot and three letters (RFC 9286 4.2.2).
 const EXTENSION_LEN: usize = 4;
 
-// What a hash tells first: that no bit of its last octet is unused (X.690 8.6.2.2).
+// What a hash says first: that no bit of its last octet is unused (X.690 8.6.2.2).
 const NO_UNUSED_BITS: u8 = 0;
 
 /// A file that a manifest lists: its name, and the octets of its hash. Contracts see both.

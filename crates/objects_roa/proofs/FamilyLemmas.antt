@@ -28,7 +28,7 @@ use Rattle.objects_roa.specs.Addresses.{AllOf, AreAddresses, IsAddressOf}
 use Rattle.objects_roa.specs.Families.{AreFamilies, AreFamilyIn, ArePair, IsFamilyOf, both_families}
 use Rattle.objects_roa.proofs.AddressLemmas.{addresses_of_family}
 
--- The fields of a family: the first tells what the second is of.
+-- The fields of a family: the first says what the second is of.
 abbrev pub FieldsBy : Mode → Trees → AddressFamily × (List RoaAddress × Unit {0}) → Type 0
 FieldsBy m = ThenBy (IsFamily m) (λ family. Then (Inside (universal 16) (AreAddresses family m)) End)
 

@@ -26,7 +26,7 @@ AreAddressFields family m = Then (IsAddress m family) (Opt (universal 2) (Octets
 abbrev pub IsAddressOf : AddressFamily → Mode → Tree → RoaAddress → Type 0
 IsAddressOf family m = Such (As (Inside (universal 16) (AreAddressFields family m)) address_of) (HasMaxLen family)
 
--- The same, by the fields.
+-- An address of the family, by its fields.
 pub record AreAddress (family : AddressFamily) (m : Mode) (ts : Trees) (a : RoaAddress) : Type 0 where
   pub fields : AddressFields
   pub are : AreAddressFields family m ts fields

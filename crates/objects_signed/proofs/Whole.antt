@@ -50,7 +50,7 @@ object_gives {p = p} g a e = record {
   };
 }
 
--- A test said no of what it tells exactly.
+-- What a test decides isn't so where it says no.
 pub said_no : {b : Bool} {P : Type 0} → (IsTrue b ↔ P) → b ≡ false → P → ⊥
 said_no told turned p = let e : true ≡ false = sym (told.1 p) ∙ turned in absurd cc
 

@@ -33,7 +33,7 @@ failed_below good now issuer c given (Some (inspected t)) f = f.1
 failed_below good now issuer c given (Some (verified t)) f = f.1
 failed_below good now issuer c given (Some wants_memory) f = tt
 
--- What an inspection answers, by when it is `Ok` and which test it tells.
+-- What an inspection answers, by when it is `Ok` and which test it refuses with.
 pub inspects_by : (d : Digests) (strict : Bool) (role : Role) (c : CertValue) (r : Result (Unit {0}) InspectionError)
     → (IsOk r ↔ Profile d strict role c) → ((t : InspectionError) → (r ≡ Err t) ↔ FailsFirst d strict role c t) → Inspects d strict role c r
 inspects_by d strict role c (Ok x) passed refused = passed.0 refl
@@ -87,7 +87,7 @@ pub without_content : {A : Type 0} (d : Digests) (good : Verdicts) (strict : Boo
 without_content d good strict role now issuer o content (Ok p) v = v.0
 without_content d good strict role now issuer o content (Err e) v = v
 
--- The locator and the numbers outside are told of these too.
+-- What is said of the locator and of the numbers outside holds of these too.
 pub joined_tal : {A : Type 0} (x : A) (tal : String Global) (r : Result ResourceCertValue ValidationError) → IfOk r (λ k. k.tal ≡ tal) → IfOk (joined x r) (λ p. p.0.tal ≡ tal)
 joined_tal x tal (Ok r) t = t
 joined_tal x tal (Err e) t = tt

@@ -8,7 +8,7 @@ use Rattle.objects_forms.proofs.Objects.{one_object}
 use Rattle.objects_valid.specs.objects_forms.ObjectText.{Object, ObjectText}
 use Rattle.objects_valid.specs.IfType.{DecodesIfType, IsOfType}
 
--- What is said of octets is told of the same ones.
+-- What is said of octets holds of equal ones.
 pub told_same : {b : Bool} {x y z : List ℕ} → (IsTrue b ↔ (x ≡ z)) → x ≡ y → IsTrue b ↔ (y ≡ z)
 told_same told e = (λ t. sym e ∙ told.0 t, λ p. told.1 (e ∙ p))
 
@@ -24,11 +24,11 @@ pub other_type : {kind : List ℕ} (strict : Bool) {octets : List ℕ} {o : Obje
     → (z : Object) → IsOfType kind strict octets z → ⊥
 other_type strict {octets} {o} p differ z q = differ (ap (λ (y : Object). y.content_type) (one_object strict octets o z p q.object) ∙ q.type_is)
 
--- The octets are an object with that type of content, as the test said, which is told turned.
+-- The octets are an object with that type of content, as the test answered.
 pub of_type : {kind : List ℕ} {strict : Bool} {octets : List ℕ} {o : Object} {b : Bool} → ObjectText strict octets o → (IsTrue b ↔ (o.content_type ≡ kind)) → b ≡ true
     → IsOfType kind strict octets o
 of_type p told is = record { object = p; type_is = told.0 is }
 
--- A test said no of what it tells exactly.
+-- What a test decides isn't so where it says no.
 pub said_no : {b : Bool} {P : Type 0} → (IsTrue b ↔ P) → b ≡ false → P → ⊥
 said_no told turned p = let e : true ≡ false = sym (told.1 p) ∙ turned in absurd cc

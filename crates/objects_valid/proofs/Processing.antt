@@ -36,7 +36,7 @@ pub refused : {A : Type 0} (passes : Passing) (fails : Failing) (d : Digests) (g
     → s ≡ o → FailsObject d good strict Ee now issuer s e → Processes passes fails d good strict now issuer o content (Err e)
 refused passes fails d good strict now issuer o s content e same f = inl (subst (λ (p : Object). FailsObject d good strict Ee now issuer p e) same f)
 
--- The locator and the numbers outside are told of these too.
+-- What is said of the locator and of the numbers outside holds of these too.
 pub processed_tal : {A : Type 0} (x : A) (tal : String Global) (r : ResourceCertValue) (tested : Result (Unit {0}) ValidationError) → r.tal ≡ tal → IfOk (joined_if r x tested) (λ p. p.0.tal ≡ tal)
 processed_tal x tal r (Ok u) t = t
 processed_tal x tal r (Err e) t = tt

@@ -1,4 +1,4 @@
--- When a signed object is accepted at a moment below an issuer, and what is told where it isn't (RFC 6488 3).
+-- When a signed object is accepted at a moment below an issuer, and what is answered where it isn't (RFC 6488 3).
 use Rattle.std.specs.Prelude.{◌≡◌, ◌⊎◌, ℕ, Bool, Result, Ok, Err}
 use Rattle.certs_verify.specs.certs_basics.HandedIn.{Digests}
 use Rattle.certs_verify.specs.certs_basics.Verdicts.{Verdicts}
@@ -42,7 +42,7 @@ abbrev pub ValidatesObject : Digests → Verdicts → Bool → Role → ℕ → 
 ValidatesObject d good strict role now issuer o (Ok r) = AcceptsObject d good strict role now issuer o r.holder
 ValidatesObject d good strict role now issuer o (Err e) = FailsObject d good strict role now issuer o e
 
--- The same, with the content.
+-- Accepted, with what its certificate holds and the content, or the first test that fails.
 abbrev pub ValidatesContent : {A : Type 0} → Digests → Verdicts → Bool → Role → ℕ → HolderValue → Object → A → Result (ResourceCertValue × A) ValidationError → Type 0
 ValidatesContent d good strict role now issuer o content (Ok p) = AcceptsObject d good strict role now issuer o p.0.holder × (p.1 ≡ content)
 ValidatesContent d good strict role now issuer o content (Err e) = FailsObject d good strict role now issuer o e

@@ -1,4 +1,4 @@
--- What verification of a content alone answers, as a validation tells it.
+-- What verification of a content alone answers, as a validation answers it.
 use Rattle.std.specs.Prelude.{Result, Ok, Err}
 use Rattle.certs_verify.specs.certs_basics.HandedIn.{Digests}
 use Rattle.certs_verify.specs.certs_basics.Verdicts.{Verdicts}

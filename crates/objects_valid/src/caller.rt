@@ -21,7 +21,7 @@ fn is_memory(error: &ValidationError) -> bool
     )
 }
 
-// How a cause is told for which a caller's test refuses.
+// The error for a cause with which a caller's test refuses.
 fn told(cause: ValidationError) -> ValidationError
     ensures cause { TellsCause cause result }
     ensures outside { (c : CertValue) (issuer : HolderValue)

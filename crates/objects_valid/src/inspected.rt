@@ -43,7 +43,7 @@ fn verify_own_content<D: Digester, V: Verifier>(
     )
 }
 
-// Whether the signer signed the object's content, as a validation tells it.
+// Whether the signer signed the object's content, as a validation answers it.
 fn verify_sound<D: Digester, V: Verifier>(
     alloc: Global,
     signed: &SignedObject,

@@ -3,8 +3,8 @@
 //!
 //! An object is accepted exactly where its certificate has the form of one that signs an object, its signer signed its
 //! content, and the issuer issued its certificate, which is valid at the moment and claims what it may; else the first test
-//! that fails is told. `process` asks a caller's test of the certificate beside that, which looks it up on a revocation
-//! list, and whether what is attested is within what the certificate holds.
+//! that fails is answered. `process` asks a caller's test of the certificate beside that, which looks it up on a
+//! revocation list, and whether what is attested is within what the certificate holds.
 //!
 //! `decode_if_type` reads an object whose content is of a type that is asked for, and refuses any other.
 //!

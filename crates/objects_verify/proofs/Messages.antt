@@ -21,7 +21,7 @@ not_ber e = cc
 pub one_message : (s : Signer) (m n : List ℕ) → IsSignedMessage s m → IsSignedMessage s n → m ≡ n
 one_message s m n p q = p.whole ∙ ap (with_size s) (spelled_length Der not_ber p.size q.size (length s.attributes) p.size_is q.size_is) ∙ sym q.whole
 
--- Its attributes are no more octets than a length tells.
+-- Its attributes are no more octets than a length states.
 pub few_octets : (s : Signer) (m : List ℕ) → IsSignedMessage s m → length s.attributes < 2 ^ 32
 few_octets s m p = (length_bound Der p.size (length s.attributes) p.size_is).1
 

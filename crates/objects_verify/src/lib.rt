@@ -2,7 +2,7 @@
 //!
 //! The digest that is signed is the content's, the signing time isn't after the certificate's validity, and the signature
 //! is good by the certificate's key over the attributes as they stood, as a SET. [`verify_content`] answers `Ok` exactly
-//! where all three tests pass, and else tells the first that fails; lack of memory is an error of its own. Whether the
+//! where all three tests pass, and else the first that fails; lack of memory is an error of its own. Whether the
 //! certificate itself is valid is tested elsewhere.
 //!
 //! What differs from the Rust crate: the digester and the verifier are handed in, and the message that is signed is made

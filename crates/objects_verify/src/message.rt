@@ -15,7 +15,7 @@ const SET: u8 = 0x31;
 const MAX_LEN: usize = 0xFFFF_FFFF;
 
 /// What the signer signed: its attributes as they stood, as a SET in place of `[0]`, with the shortest length (RFC 5652
-/// 5.4). `None` where no length tells so many octets, more than 2^32 - 1.
+/// 5.4). `None` where no length states so many octets, more than 2^32 - 1.
 pub fn signed_message(alloc: Global, signer: &SignerInfo) -> Result<Option<Vec<u8>>, AllocError>
     ensures { IfOk result (λ found. MatchOption found
         ((m : List ℕ) → IsSignedMessage (signer_of (signer_fields signer.now)) m → ⊥)

@@ -12,7 +12,7 @@ pub joined_none : (ts : Trees) → joined ts none ≡ ts
 joined_none none = refl
 joined_none (more t ts) = ap (more t) (joined_none ts)
 
--- A value, and others behind it.
+-- A value, and others after it.
 pub then_of : {A B : Type 0} {Q : Tree → A → Type 0} {R : Trees → B → Type 0} {x : A} {y : B} {T U : Trees → Type 0}
     → ((ts : Trees) → T ts → Alone Q x ts) → ((ts : Trees) → U ts → R ts y) → (ts : Trees) → AreBoth T U ts → Then Q R ts (x, y)
 then_of f g ts p =

@@ -4,7 +4,7 @@ use Rattle.objects_written.specs.bcder_values.Lists.{AreAll, WritesAll, all_one,
 pub use Rattle.certs_written.specs.Fields.{serial as number}
 pub use Rattle.certs_written.specs.Outputs.{Output, beside, inside, of, perhaps}
 
--- What is written of each, one behind the other (SEQUENCE OF, X.690 8.10).
+-- What is written of each, one after the other (SEQUENCE OF, X.690 8.10).
 abbrev pub each : {A : Type 0} → (A → Output) → List A → Output
 each f xs = record {
   trees = λ m. AreAll (λ x. (f x).trees m) xs;

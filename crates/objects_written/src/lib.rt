@@ -4,8 +4,8 @@
 //! [`EncodeRoa`], [`EncodeManifest`] and [`EncodeFile`] give contents and listed files what the codec writes; the `to_octets`
 //! of the first two is the DER that a signed object holds, and is read again as the same content.
 //!
-//! What differs from the Rust crate: these are calls of traits; what is refused is told by an error, where the Rust crate
-//! panics.
+//! What differs from the Rust crate: these are calls of traits; what is refused is answered with an error, where the
+//! Rust crate panics.
 #![tactic(auto)]
 
 pub mod address;

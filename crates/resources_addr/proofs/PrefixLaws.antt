@@ -69,7 +69,7 @@ family_not_greater Ipv4 Ipv6 e l = absurd cc
 family_not_greater Ipv6 Ipv4 e l = absurd cc
 family_not_greater Ipv6 Ipv6 e l = absurd cc
 
--- A prefix isn't listed behind one that it covers.
+-- A prefix isn't listed after one that it covers.
 pub not_behind : (p q : PrefixValue) → IsPrefix p → IsPrefix q → Covers p q → ¬ (start_cmp p q ≡ Greater)
 not_behind p q hp hq c t =
     let some_p : 0 < span p.family p.len = pow_pos (width p.family - p.len) in

@@ -6,7 +6,7 @@ use Rattle.std.specs.Str.Parse.{IsNumeral, digits_value, without_leading_plus}
 abbrev pub LacksByte : ℕ → List ℕ → Type 0
 LacksByte c text = (i : ℕ) → i < length text → slice_index text i ≢ c
 
--- What stands before the first such byte, and behind it.
+-- What stands before the first such byte, and after it.
 pub record IsCut (c : ℕ) (text before after : List ℕ) : Type 0 where
   pub whole : text ≡ before ++ c ∷ after
   pub first : LacksByte c before

@@ -1,4 +1,4 @@
--- Texts of prefixes with a greatest length: the prefix, and where it is told, a dash (45) and the length.
+-- Texts of prefixes with a greatest length: the prefix, and where it is given, a dash (45) and the length.
 use Rattle.std.specs.Prelude.{ℕ, ◌⊎◌, Option, Some, None, Result, MatchResult, List, [], ◌++◌, codes, decimal}
 use Rattle.resources_addr.specs.declared.addr.error.ParsePrefixError.{ParsePrefixError}
 use Rattle.resources_addr.specs.declared.addr.error.ParseMaxLenPrefixError.{ParseMaxLenPrefixError}
@@ -34,7 +34,7 @@ IsUnreadableMaxLen text (InvalidMaxLenFormat _) =
 IsUnreadableMaxLen text (InvalidMaxLenValue e) =
     (p : PrefixValue) × (n : ℕ) × IsWrittenMaxLen text p (Some n) × IsNoMaxLen p n e
 
--- The answer is what the text writes; or it writes nothing, for the reason told.
+-- The answer is what the text writes; or it writes nothing, for the reason given.
 abbrev pub ReadsMaxLen : List ℕ → Result MaxLenValue ParseMaxLenPrefixError → Type 0
 ReadsMaxLen text r =
     MatchResult r (IsMaxLenText text) (λ e. IsUnreadableMaxLen text e × ((m : MaxLenValue) → ¬ (IsMaxLenText text m)))

@@ -5,12 +5,12 @@ use Rattle.std.specs.Ordering.{nat_cmp, ordering_then}
 use Rattle.std.specs.declared.cmp.Ordering.{Ordering}
 use Rattle.resources_addr.specs.Prefixes.{PrefixValue, IsPrefix, width, prefix_cmp}
 
--- A prefix, and how long a prefix inside it may be, where that is told.
+-- A prefix, and how long a prefix inside it may be, where that is given.
 pub record MaxLenValue : Type 0 where
   pub prefix : PrefixValue
   pub max_len : Option ℕ
 
--- Where it is told, it is at least the prefix's length and at most that of an address.
+-- Where it is given, it is at least the prefix's length and at most that of an address.
 abbrev pub IsMaxLenOf : PrefixValue → Option ℕ → Type 0
 IsMaxLenOf p None = Unit {0}
 IsMaxLenOf p (Some n) = (p.len ≤ n) × (n ≤ width p.family)
@@ -20,11 +20,11 @@ pub record IsMaxLen (m : MaxLenValue) : Type 0 where
   pub prefix : IsPrefix m.prefix
   pub max_len : IsMaxLenOf m.prefix m.max_len
 
--- What is told, or the prefix's own length.
+-- The greatest length that is given, or the prefix's own length.
 abbrev pub resolved : MaxLenValue → ℕ
 resolved m = unwrap_or m.max_len m.prefix.len
 
--- The nearest to what is told that is at least the prefix's length and at most that of an address.
+-- The nearest to what is given that is at least the prefix's length and at most that of an address.
 abbrev pub saturated : PrefixValue → Option ℕ → MaxLenValue
 saturated p o = record { prefix = p; max_len = option_map (λ n. max p.len (min n (width p.family))) o }
 

@@ -64,7 +64,7 @@ no_more true true c e d t = t
 no_more true false c e d t = absurd cc
 no_more false b c e d t = absurd cc
 
--- The test tells equality.
+-- The test decides equality.
 pub prefix_eq_tells : (p q : PrefixValue) → Decides (prefix_eq p q) (p ≡ q)
 prefix_eq_tells p q = (
   λ t.
@@ -148,7 +148,7 @@ option_same (Some x) (Some y) e = ap Some (nat_same x y e)
 max_len_is : {m n : MaxLenValue} → m.prefix ≡ n.prefix → m.max_len ≡ n.max_len → m ≡ n
 max_len_is p l = λ i. record { prefix = p i; max_len = l i }
 
--- The test tells equality.
+-- The test decides equality.
 pub max_len_eq_tells : (m n : MaxLenValue) → Decides (max_len_eq m n) (m ≡ n)
 max_len_eq_tells m n = (
   λ t.

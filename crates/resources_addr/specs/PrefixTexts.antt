@@ -46,7 +46,7 @@ IsUnreadable NoPrefix text (InvalidLen _) =
 IsUnreadable NoPrefix text (InvalidPrefix e) =
     (f : Family) × (bits len : ℕ) × IsWritten text f bits len × NoPrefix f bits len e
 
--- The answer is what the text writes; or it writes nothing, for the reason told.
+-- The answer is what the text writes; or it writes nothing, for the reason given.
 abbrev pub Reads : (List ℕ → PrefixValue → Type 0) → (Family → ℕ → ℕ → PrefixError → Type 0) → List ℕ → Result PrefixValue ParsePrefixError → Type 0
 Reads Writes NoPrefix text r =
     MatchResult r (Writes text) (λ e. IsUnreadable NoPrefix text e × ((p : PrefixValue) → ¬ (Writes text p)))

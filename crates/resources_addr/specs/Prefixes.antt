@@ -35,7 +35,7 @@ pub record PrefixValue : Type 0 where
 abbrev pub span : Family → ℕ → ℕ
 span f len = 2 ^ (width f - len)
 
--- The length is at most that of an address, and the bits behind it, the host bits, are zeros.
+-- The length is at most that of an address, and the bits after it, the host bits, are zeros.
 pub record IsPrefix (p : PrefixValue) : Type 0 where
   pub fits : p.len ≤ width p.family
   pub within : p.first < 2 ^ width p.family

@@ -25,14 +25,14 @@ abbrev pub HasNoMaxLen : PrefixValue → Option ℕ → MaxLenError → Type 0
 HasNoMaxLen p None e = ⊥
 HasNoMaxLen p (Some n) e = IsNoMaxLen p n e
 
--- The same, where the numbers are those of a text; and where they are not asked about.
+-- Why the numbers of a text make no prefix: a length above an address's; or no reason, as they aren't asked about.
 abbrev pub TooLong : Family → ℕ → ℕ → PrefixError → Type 0
 TooLong f bits len e = IsTooLong f len e
 
 abbrev pub NoReason : Family → ℕ → ℕ → PrefixError → Type 0
 NoReason f bits len e = ⊥
 
--- How they are told.
+-- The texts that the errors print.
 abbrev pub prefix_error_text : PrefixError → List ℕ
 prefix_error_text LenOverflow = codes "prefix length exceeds the address"
 prefix_error_text NonZeroHost = codes "host bits are set"

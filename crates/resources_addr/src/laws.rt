@@ -30,7 +30,7 @@ pub fn covering_is_not_before()
         → ¬ (IsTrue (is_lt (prefix_cmp p q))) }
 {}
 
-/// The order in which prefixes are listed is total, and tells all prefixes apart; one that covers another isn't behind
+/// The order in which prefixes are listed is total, and tells all prefixes apart; one that covers another isn't after
 /// it.
 #[tactic(auto, using(crate::specs::Starts::start_total, crate::specs::Starts::start_same, crate::proofs::PrefixLaws::not_behind))]
 pub fn start_order_is_total()
@@ -40,7 +40,7 @@ pub fn start_order_is_total()
         → ¬ (start_cmp p q ≡ Greater) }
 {}
 
-/// The test `==` tells equality.
+/// The test `==` decides equality.
 pub fn equality_is_tested()
     ensures prefixes { (p q : PrefixValue) → IsTrue (prefix_eq p q) ↔ (p ≡ q) }
     ensures max_lens { (m n : MaxLenValue) → IsTrue (max_len_eq m n) ↔ (m ≡ n) }

@@ -1,4 +1,4 @@
--- What is left behind a piece of a list's text is shorter, which ends the loop over its pieces.
+-- What is left after a piece of a list's text is shorter, which ends the loop over its pieces.
 use Rattle.std.proofs.Common.{ℕ, ◌<◌, List, length}
 use Rattle.resources_as.specs.resources_chain.Lists.{CutsPiece}
 use Rattle.resources_as.proofs.of_resources_chain.CutLemmas.{piece_shorter as chain_shorter}

@@ -4,7 +4,7 @@ use Rattle.resources_as.specs.resources_chain.declared.choice.InheritedResources
 use Rattle.resources_as.specs.declared.resources.InheritedAsResources.{InheritedAsResources}
 use Rattle.resources_as.specs.declared.resources.InheritedAsResources.TheVariants as AsCause
 
--- The same cause.
+-- A cause, as one of choices of AS numbers.
 abbrev pub as_cause : InheritedResources → InheritedAsResources
 as_cause Cause.Inherited = AsCause.Inherited
 as_cause Cause.Memory = AsCause.Memory

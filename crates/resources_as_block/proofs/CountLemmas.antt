@@ -59,7 +59,7 @@ run_none first last h =
     let e : last + 1 - first ≡ 0 = omega arith in
     ap (range_with_len first) e
 
--- What is left behind a number that is the last, and after one that isn't.
+-- What is left after a number that is the last, and after one that isn't.
 pub left_at_last : (a last : Number) → a.value ≡ last.value → numbers_left (Some a) last ≡ a.value ∷ []
 left_at_last a last e = run_first a.value last.value (omega arith) ∙ ap (λ xs. a.value ∷ xs) (run_none (a.value + 1) last.value (omega arith))
 

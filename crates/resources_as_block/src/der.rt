@@ -88,7 +88,7 @@ impl AsBlock {
         }
     }
 
-    /// Skips a number or a range, as `take_opt_from` reads one, and tells whether one was there.
+    /// Skips a number or a range, as `take_opt_from` reads one, and answers whether one was there.
     pub fn skip_opt_in<S: Source>(
         cons: &mut Constructed<S>,
     ) -> Result<Option<()>, DecodeError<S::Error>>

@@ -11,7 +11,7 @@ pub each_below : (n : ℕ) (xs : List ℕ) → ((k : ℕ) → InList xs k → n 
 each_below n [] h = tt
 each_below n (x ∷ xs) h = (h x (inl refl), each_below n xs (λ k i. h k (inr i)))
 
--- A set's list behind its least number is the list of the others.
+-- A set's list after its least number is the list of the others.
 pub list_cons : {P Q : ℕ → Type 0} (x : ℕ) (xs : List ℕ) → IsListOf Q xs → ((n : ℕ) → Q n → x < n) → ((n : ℕ) → P n ↔ ((n ≡ x) ⊎ Q n)) → IsListOf P (x ∷ xs)
 list_cons x xs q least same = record {
   ascending = (each_below x xs (λ k i. least k ((q.same k).0 i)), q.ascending);
@@ -55,7 +55,7 @@ pub same_list : {P Q : ℕ → Type 0} (xs ys : List ℕ) → IsListOf P xs → 
 same_list xs ys a b same =
     one_list xs ys a.ascending b.ascending (λ n. (λ i. (b.same n).1 ((same n).0 ((a.same n).0 i)), λ i. (a.same n).1 ((same n).1 ((b.same n).0 i))))
 
--- A list behind another whose numbers are all smaller.
+-- A list after another whose numbers are all smaller.
 pub list_append : {P Q R : ℕ → Type 0} (xs ys : List ℕ) → IsListOf P xs → IsListOf Q ys → ((m n : ℕ) → P m → Q n → m < n) → ((n : ℕ) → R n ↔ (P n ⊎ Q n)) → IsListOf R (xs ++ ys)
 list_append xs ys a b apart same = record {
   ascending = ascends xs ys a.ascending b.ascending (λ m n i j. apart m n ((a.same m).0 i) ((b.same n).0 j));

@@ -72,7 +72,7 @@ cut_digits : (text front digits : List ℕ) → text ≡ front ++ digits → IsL
 cut_digits text front digits e l =
     ap (drop 2) e ∙ ap (λ k. drop k (front ++ digits)) (sym (two_letters front l)) ∙ drop-append_seam front digits
 
--- Where the letters stand, the digits are what is behind them.
+-- Where the letters stand, the digits are what comes after them.
 pub behind_letters : (text front digits : List ℕ) → front ≡ take 2 text → digits ≡ drop 2 text → IsLetters front → (n : ℕ) → IsAsnText text n ↔ IsDigitText digits n
 behind_letters text front digits f g l n =
     let whole : text ≡ front ++ digits = sym (take-append-drop 2 text) ∙ ap (λ xs. xs ++ drop 2 text) (sym f) ∙ ap (λ ys. front ++ ys) (sym g) in (

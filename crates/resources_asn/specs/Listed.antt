@@ -10,12 +10,12 @@ abbrev pub IsBelow : ℕ → List ℕ → Type 0
 IsBelow n [] = Unit {0}
 IsBelow n (x ∷ xs) = (n < x) × IsBelow n xs
 
--- Each number is smaller than all behind it.
+-- Each number is smaller than all after it.
 abbrev pub IsAscending : List ℕ → Type 0
 IsAscending [] = Unit {0}
 IsAscending (x ∷ xs) = IsBelow x xs × IsAscending xs
 
--- The numbers of the set that P tells, ascending.
+-- The numbers that P holds of, ascending.
 pub record IsListOf (P : ℕ → Type 0) (numbers : List ℕ) : Type 0 where
   pub ascending : IsAscending numbers
   pub same : (n : ℕ) → InList numbers n ↔ P n

@@ -15,7 +15,7 @@ pub record IsDigitText (text : List ℕ) (n : ℕ) : Type 0 where
 abbrev pub IsLetters : List ℕ → Type 0
 IsLetters front = map to_ascii_lowercase front ≡ codes "as"
 
--- The digits alone, or behind the letters.
+-- The digits alone, or after the letters.
 abbrev pub IsAsnText : List ℕ → ℕ → Type 0
 IsAsnText text n = IsDigitText text n ⊎ ((front digits : List ℕ) × (text ≡ front ++ digits) × IsLetters front × IsDigitText digits n)
 

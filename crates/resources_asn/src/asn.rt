@@ -113,7 +113,7 @@ impl FromStr for Asn {
     }
 }
 
-/// What stands behind `AS`, in any case; all of a text that doesn't begin so.
+/// What comes after `AS`, in any case; all of a text that doesn't begin so.
 fn digits_of(text: &str) -> &str
     ensures { (n : ℕ) → IsAsnText text.now n ↔ IsDigitText result.now n }
 {

@@ -31,7 +31,7 @@ struct Step<'a> {
     second: &'a [Asn],
 }
 
-/// A number that is wanted, and what is left behind it.
+/// A number that is wanted, and what is left after it.
 #[derive(Clone, Copy)]
 struct Found<'a> {
     asn: Asn,

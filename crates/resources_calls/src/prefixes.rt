@@ -5,7 +5,7 @@ use anyhow::{Result, anyhow};
 use resources::addr::{MaxLenError, MaxLenPrefix, Prefix, PrefixError};
 use std::net::IpAddr;
 
-// All that a prefix tells, or all that its refusal does.
+// All that a prefix answers, or all that its refusal does.
 fn tell(answer: &mut Answer, made: Result<Prefix, PrefixError>) {
     match made {
         Ok(prefix) => {

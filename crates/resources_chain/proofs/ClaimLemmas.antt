@@ -82,7 +82,7 @@ fits_snoc h front claim fits fit = λ f c b e.
       | inr w ↦ fits f c w.0 w.1
     ]
 
--- The certificates of a path that were gone along, and what is held behind them.
+-- The certificates of a path that were walked so far, and what is held below them.
 pub record Along (h : ℕ → Type 0) (front : Path) (held : List Run) : Type 0 where
   pub fits : FitsAlong h front
   pub kept : IsRunsOf (HeldAlong h front) held

@@ -225,7 +225,7 @@ in_place [] n k h i = absurd (omega arith)
 in_place (r ∷ rs) n zero h i = inl i
 in_place (r ∷ rs) n (suc k) h i = inr (in_place rs n k (omega arith) i)
 
--- A place that is found tells that the runs have the number.
+-- A place that is found shows that the runs have the number.
 pub found_told : (told : Bool) (o : Option ℕ) (rs : List Run) (n : ℕ) → MatchOption o (InRuns rs n → ⊥) (λ k. (k < length rs) × InRun (run_at rs k) n) → told ≡ is_some o → IsTrue told ↔ InRuns rs n
 found_told told None rs n h e = (λ t. absurd (let wrong : true ≡ false = sym t ∙ e in cc), λ i. absurd (h i))
 found_told told (Some k) rs n h e = (λ t. in_place rs n k h.0 h.1, λ i. e)

@@ -74,7 +74,7 @@ halving_less {stands = stands} {places = places} {low = low} {high} next after l
   left = left_halved looks (high - (middle + 1)) h.left more (omega arith) (omega arith);
 }
 
--- The place in the middle is behind what is sought.
+-- The place in the middle comes after what is sought.
 pub halving_greater : {size : ℕ} {stands : ℕ → Ordering} {old now : ℕ} {places : ℕ → Ordering} {count low high : ℕ} (next : ℕ) (after : ℕ → Ordering) (looks middle : ℕ) → IsOrdered size stands → Halving size stands old now places count low high → low < high → middle ≡ low + (high - low) / 2 → next ≡ now → ((k : ℕ) → after k ≡ places k) → looks ≡ count + 1 → places middle ≡ Greater → Halving size stands old next after looks low middle
 halving_greater {stands = stands} {places = places} {low = low} {high} next after looks middle o h some m same k_same more greater = record {
   same_size = let e = h.same_size in omega arith;

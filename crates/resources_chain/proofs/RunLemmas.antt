@@ -28,6 +28,6 @@ pub not_inside : {P Q : ℕ → Type 0} (r : Bool) → r ≡ false → (IsTrue r
 not_inside true e told = absurd cc
 not_inside false e told = (λ t. absurd cc, λ same. told.1 (λ n. (same n).0))
 
--- A number that isn't told to be before another isn't.
+-- A number that a test doesn't find before another isn't before it.
 pub not_before : {a b : ℕ} → (IsTrue false ↔ (a < b)) → b ≤ a
 not_before {a} {b} told = elim (le_or_lt b a) [ inl h ↦ h | inr h ↦ let wrong : IsTrue false = told.1 h in absurd cc ]

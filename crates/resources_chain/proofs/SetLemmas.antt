@@ -82,7 +82,7 @@ runs_of_equal r e = record { maximal = r.maximal; same = λ n. (λ i. (e n).0 ((
 pub one_list_of : {P : ℕ → Type 0} {a b : List Run} → IsRunsOf P a → IsRunsOf P b → a ≡ b
 one_list_of {a = a} {b} r s = one_list a b r.maximal s.maximal (λ n. (λ i. (s.same n).1 ((r.same n).0 i), λ i. (r.same n).1 ((s.same n).0 i)))
 
--- What tells that two sets are one tells that their lists are equal.
+-- What decides whether two sets are one decides whether their lists are equal.
 pub same_told : (told : Bool) (a b : List Run) → AreMaximal a → AreMaximal b → (IsTrue told ↔ ((n : ℕ) → InRuns a n ↔ InRuns b n)) → told ≡ runs_eq a b
 same_told told a b m k t =
     let e = equal_sets a b m k in
@@ -91,7 +91,7 @@ same_told told a b m k t =
 pub same_told_at : {s t a b : List Run} (told : Bool) → s ≡ a → t ≡ b → AreMaximal s → AreMaximal t → (IsTrue told ↔ ((n : ℕ) → InRuns s n ↔ InRuns t n)) → told ≡ runs_eq a b
 same_told_at {s} {t} {a} told e q m k h = same_told told s t m k h ∙ ap (λ (x : List Run). runs_eq x t) e ∙ ap (λ (x : List Run). runs_eq a x) q
 
--- Union: the numbers of two lists behind each other are those of either.
+-- Union: two lists, one after the other, have the numbers of either.
 pub in_append : (a b : List Run) (n : ℕ) → InRuns (a ++ b) n ↔ InEither a b n
 in_append [] b n = (λ i. inr i, λ i. elim i [ inl j ↦ absurd j | inr j ↦ j ])
 in_append (r ∷ a) b n =
@@ -114,7 +114,7 @@ none_told f (x ∷ xs) runs told e m t = (
   λ h. absurd (h (f x).first (subst (λ (s : List Run). InRuns s (f x).first) e (inl (le_refl _, m.0)))),
 )
 
--- Runs of the blocks of two lists, one behind the other, are the union.
+-- Runs of the blocks of two lists, one after the other, are the union.
 pub runs_of_either : {A : Type 0} {all : List A} {a b c : List Run} (f : A → Run) (xs ys : List A) → IsRunsOf (InRuns (map f all)) c → all ≡ xs ++ ys → map f xs ≡ a → map f ys ≡ b → IsRunsOf (InEither a b) c
 runs_of_either {all = all} {a} {b} f xs ys r e p q =
     let parts : map f all ≡ a ++ b = ap (map f) e ∙ map-append f xs ys ∙ ap (λ (s : List Run). s ++ map f ys) p ∙ ap (λ (s : List Run). a ++ s) q in
@@ -136,7 +136,7 @@ inside_both a b c f r n = (λ i. ((r.same n).0 i).0, λ i. (r.same n).1 (i, f n 
 pub no_list : {a : List Run} → IsRunsOf (λ n. ⊥) a → a ≡ []
 no_list {a} r = one_list a [] r.maximal tt (λ n. (λ i. (r.same n).0 i, λ i. absurd i))
 
--- A list of maximal runs that is told to have no numbers is that of the empty set.
+-- A list of maximal runs that a test finds to have no numbers is that of the empty set.
 pub empty_is : {empty listed chain : List Run} → IsRunsOf (λ n. ⊥) empty → listed ≡ chain → AreMaximal chain → (IsTrue true ↔ ((n : ℕ) → InRuns listed n → ⊥)) → empty ≡ chain
 empty_is {empty} {chain = chain} r e m told =
     one_list empty chain r.maximal m (λ n. (λ i. absurd ((r.same n).0 i), λ i. absurd (told.0 refl n (subst (λ (s : List Run). InRuns s n) (sym e) i))))

@@ -17,7 +17,7 @@ no_runs f (x ∷ xs) e = absurd (omega arith)
 pub snoc_runs : {A : Type 0} {all : List A} (f : A → Run) (xs : List A) (x : A) → all ≡ xs ++ x ∷ [] → map f all ≡ map f xs ++ f x ∷ []
 snoc_runs f xs x e = ap (map f) e ∙ map-append f xs (x ∷ [])
 
--- What is told not to hold doesn't.
+-- What a test refutes doesn't hold.
 pub refuted : {P : Type 0} → (IsTrue false ↔ P) → P → ⊥
 refuted told p = let wrong : IsTrue false = told.1 p in absurd cc
 
@@ -113,7 +113,7 @@ add_joined front l r j m b p same =
       order = begin_snoc front j r.first begins.0 (omega arith);
     }
 
--- Behind a run that neither overlaps nor touches it a run stands apart.
+-- After a run that neither overlaps nor touches it a run stands apart.
 pub add_apart : (front : List Run) (l r : Run) → AreMaximal (front ++ l ∷ []) → BeginBy r.first (front ++ l ∷ []) → r.first ≤ r.last → (Touch l r → ⊥) → Adds (front ++ l ∷ []) ((front ++ l ∷ []) ++ r ∷ []) r
 add_apart front l r m b p apart =
     let parts = snoc_maximal front l m in
@@ -170,7 +170,7 @@ outside_ends {f = f} {behind = behind} o a first h last = record {
   );
 }
 
--- The piece goes on behind the first of the runs.
+-- The piece goes on after the first of the runs.
 pub outside_goes_on : {old new next : List Run} {block piece part f : Run} {taken behind : List Run} {low high : ℕ} → Outside old new block piece taken (f ∷ behind) → AddsSet new next (λ n. InRun piece n × (n < low)) → low ≡ f.first → part.first ≡ max piece.first (high + 1) → high ≡ f.last → part.last ≡ piece.last → part.first ≤ part.last → Outside old next block part taken behind
 outside_goes_on {block = block} {piece} {part} {f} {behind = behind} o a below first top last p =
     let ends : piece.last ≡ block.last = o.ends in
@@ -475,7 +475,7 @@ pub some_outside : {a b behind left : List Run} {f : Run} → InsideUpTo a b (f 
 some_outside {behind = behind} {f = f} u stops inside =
     stops (λ n i. (u.same n (inl i)).1 (inside n (subst (λ (s : List Run). InRuns s n) (sym u.whole) ((in_append u.front (f ∷ behind) n).1 (inr (inl i))))))
 
--- Whether something is left tells whether the list is inside.
+-- Whether something is left decides whether the list is inside.
 pub inside_told : {A : Type 0} {a b left : List Run} (f : A → Run) (xs : List A) (told : Bool) → InsideUpTo a b (map f xs) left → FirstOutside (map f xs) left → told ≡ nat_eq (length xs) 0 → IsTrue told ↔ IsInside a b
 inside_told f [] told u stops t = (λ h. all_inside u, λ h. t ∙ eq-eqb 0 0 refl)
 inside_told f (x ∷ xs) told u stops t =

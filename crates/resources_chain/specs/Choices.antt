@@ -4,7 +4,7 @@ use Rattle.resources_chain.specs.Sets.{Run, InRuns, IsRunsOf}
 use Rattle.resources_chain.specs.declared.choice.ResourcesChoice.{ResourcesChoice}
 use Rattle.resources_chain.specs.declared.choice.ResourcesChoice.TheVariants.{Missing, Inherit, Blocks}
 
--- The same choice, with the function's value of the set that it lists.
+-- A choice, with the function's value of the set that it lists.
 abbrev pub choice_map : {T U : Type 0} → (T → U) → ResourcesChoice T → ResourcesChoice U
 choice_map f Missing = Missing
 choice_map f Inherit = Inherit

@@ -30,7 +30,7 @@ Keeps Missing n = ⊥
 Keeps Inherit n = Unit {0}
 Keeps (Blocks runs) n = InRuns runs n
 
--- In all that follows `held` tells the numbers that the issuer holds.
+-- In all that follows `held` says which numbers the issuer holds.
 
 -- Under `Refuse` each number that is listed is held (RFC 6487 7.2); `Trim` has no condition (RFC 8360 4.2).
 abbrev pub FitsIn : Overclaim → Choice → (ℕ → Type 0) → Type 0

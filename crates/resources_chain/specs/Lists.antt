@@ -5,7 +5,7 @@ use Rattle.resources_chain.specs.Sets.{Run, InRuns, IsRunsOf}
 abbrev pub HasNoComma : List ℕ → Type 0
 HasNoComma text = (k : ℕ) → k < length text → get_or text k 0 ≢ 44
 
--- The first piece is cut off, with the comma behind it and the space that stands there, if one does.
+-- The first piece is cut off, with the comma after it and the space that stands there, if one does.
 pub record CutsPiece (text piece rest : List ℕ) : Type 0 where
   pub behind : List ℕ
   pub whole : text ≡ piece ++ 44 ∷ behind

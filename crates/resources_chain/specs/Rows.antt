@@ -3,8 +3,8 @@ use Rattle.std.specs.Prelude.{◌≡◌, ℕ, ◌+◌, ◌<◌, ◌≤◌, ◌^�
 use Rattle.std.specs.declared.cmp.Ordering.{Ordering}
 use Rattle.std.specs.declared.cmp.Ordering.TheVariants.{Less, Greater}
 
--- First places before what is sought, then at most one at it, then places behind it: of any two the first is before it or
--- the second behind it.
+-- First places before what is sought, then at most one at it, then places after it: of any two the first is before it
+-- or the second after it.
 abbrev pub IsOrdered : ℕ → (ℕ → Ordering) → Type 0
 IsOrdered size stands = (i j : ℕ) → i < j → j < size → (stands i ≡ Less) ⊎ (stands j ≡ Greater)
 

@@ -24,7 +24,7 @@ run_is {r} {s} f l =
     let two : record { first = s.first; last = r.last } ≡ s = ap (λ (x : ℕ). let t : Run = record { first = s.first; last = x } in t) l in
     one ∙ two
 
--- The test tells equality.
+-- The test decides equality.
 pub runs_eq_tells : (a b : List Run) → IsTrue (runs_eq a b) ↔ (a ≡ b)
 runs_eq_tells [] [] = (λ t. refl, λ e. refl)
 runs_eq_tells [] (s ∷ ss) = (λ t. absurd cc, λ e. absurd cc)

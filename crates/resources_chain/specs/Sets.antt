@@ -14,23 +14,23 @@ abbrev pub InRuns : List Run → ℕ → Type 0
 InRuns [] n = ⊥
 InRuns (r ∷ rs) n = InRun r n ⊎ InRuns rs n
 
--- At least one number is missing between this number and each of the runs, which are all behind it.
+-- At least one number is missing between this number and each of the runs, which are all after it.
 abbrev pub StandsApart : ℕ → List Run → Type 0
 StandsApart n [] = Unit {0}
 StandsApart n (r ∷ rs) = (n + 1 < r.first) × StandsApart n rs
 
--- None is empty, and each stands apart from all behind it: ascending, neither overlapping nor touching
+-- None is empty, and each stands apart from all after it: ascending, neither overlapping nor touching
 -- (2.2.3.6, 3.2.3.4).
 abbrev pub AreMaximal : List Run → Type 0
 AreMaximal [] = Unit {0}
 AreMaximal (r ∷ rs) = (r.first ≤ r.last) × StandsApart r.last rs × AreMaximal rs
 
--- The maximal runs, ascending, of the set of numbers that P tells.
+-- The maximal runs, ascending, of the set of numbers that P holds of.
 pub record IsRunsOf (P : ℕ → Type 0) (runs : List Run) : Type 0 where
   pub maximal : AreMaximal runs
   pub same : (n : ℕ) → InRuns runs n ↔ P n
 
--- The numbers of both, together, are one run: they overlap, or one begins right behind the other.
+-- The numbers of both, together, are one run: they overlap, or one begins right after the other.
 abbrev pub Touch : Run → Run → Type 0
 Touch a b = (a.first ≤ b.last + 1) × (b.first ≤ a.last + 1)
 

@@ -7,7 +7,7 @@ abbrev pub BeginBy : ℕ → List Run → Type 0
 BeginBy n [] = Unit {0}
 BeginBy n (r ∷ rs) = (r.first ≤ n) × BeginBy n rs
 
--- Each begins no later than those behind it.
+-- Each begins no later than those after it.
 abbrev pub AreAscending : List Run → Type 0
 AreAscending [] = Unit {0}
 AreAscending (r ∷ []) = Unit {0}
@@ -18,7 +18,7 @@ abbrev pub BeginByFirst : List Run → List Run → Type 0
 BeginByFirst found [] = Unit {0}
 BeginByFirst found (r ∷ rs) = BeginBy r.first found
 
--- There is none, or the first begins at the number or behind.
+-- There is none, or the first begins at the number or after.
 abbrev pub BeginFrom : ℕ → List Run → Type 0
 BeginFrom n [] = Unit {0}
 BeginFrom n (r ∷ rs) = n ≤ r.first
@@ -28,7 +28,7 @@ abbrev pub FirstReaches : ℕ → List Run → Type 0
 FirstReaches n [] = Unit {0}
 FirstReaches n (r ∷ rs) = n ≤ r.last
 
--- Maximal runs with the numbers of others and of one more run, which begins behind them all.
+-- Maximal runs with the numbers of others and of one more run, which begins after them all.
 pub record Adds (old new : List Run) (r : Run) : Type 0 where
   pub maximal : AreMaximal new
   pub same : (n : ℕ) → InRuns new n ↔ (InRuns old n ⊎ InRun r n)

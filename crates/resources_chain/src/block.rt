@@ -36,7 +36,7 @@ pub trait Block: Copy {
     fn max(&self) -> Self::Item
         ensures { place result ≡ (run self.now).last };
 
-    /// The item behind this one; none behind the last.
+    /// The item after this one; none after the last.
     fn next(item: Self::Item) -> Option<Self::Item>
         ensures { MatchOption result (place item ≡ last_place)
             (λ after. place after ≡ place item + 1) };
@@ -131,7 +131,7 @@ pub(crate) fn ends_before<B: Block>(first: &B, second: &B) -> bool
     comes_before::<B>(first.max(), second.min())
 }
 
-/// Whether at least one item is missing behind the first block and before the second.
+/// Whether at least one item is missing after the first block and before the second.
 pub(crate) fn is_apart<B: Block>(first: &B, second: &B) -> bool
     ensures { IsTrue result ↔ ((B.run first.now).last + 1 < (B.run second.now).first) }
 {

@@ -61,7 +61,7 @@ impl<T> ResourcesChoice<T> {
 }
 
 impl<T: Clone + Default> ResourcesChoice<T> {
-    /// The set that the choice lists, cloned; the default where there is none. Those of an issuer can't be told.
+    /// The set that the choice lists, cloned; the default where there is none. Those of an issuer can't be given.
     pub fn to_blocks(&self) -> Result<T, InheritedResources>
         ensures ok { IfOk result (λ blocks. TurnsInto T.is_default T.is_clone self.now blocks) }
         ensures inherited { IsErrOf result InheritedResources.Inherited ↔ (self.now ≡ Inherit) }
@@ -87,7 +87,7 @@ impl<T: fmt::Display> fmt::Display for ResourcesChoice<T> {
     }
 }
 
-/// Why the set of a choice can't be told.
+/// Why the set of a choice can't be given.
 #[derive(Clone, Copy, Debug, PartialEq, Eq)]
 pub enum InheritedResources {
     /// It is the issuer's.

@@ -3,7 +3,7 @@
 ghost use Rattle.std.specs.Prelude.{MatchOption};
 ghost use Rattle.resources_chain.specs.Lists.{CutsPiece, HasNoComma};
 
-/// The first piece of a list, and what stands behind its comma and behind a space there; none where there is no comma.
+/// The first piece of a list, and what comes after its comma and after a space there; none where there is no comma.
 pub fn cut_piece(text: &str) -> Option<(&str, &str)>
     ensures { MatchOption result (HasNoComma text.now)
         (λ parts. CutsPiece text.now parts.0.now parts.1.now) }

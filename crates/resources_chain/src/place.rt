@@ -10,7 +10,7 @@ use crate::block::{Block, comes_before};
 use crate::row::{Row, halve};
 use std::cmp::Ordering;
 
-/// The blocks as they stand to an item: before it, with it, or behind it.
+/// The blocks as they stand to an item: before it, with it, or after it.
 #[derive(Drop)]
 struct Around<'a, B: Block> {
     blocks: &'a [B],
@@ -46,7 +46,7 @@ impl<'a, B: Block> Row for Around<'a, B> {
     }
 }
 
-/// The first `near` of the blocks as they stand to the first block that ends at an item or behind it.
+/// The first `near` of the blocks as they stand to the first block that ends at an item or after it.
 #[derive(Drop)]
 struct Reaching<'a, B: Block> {
     blocks: &'a [B],

@@ -7,7 +7,7 @@ ghost use Rattle.resources_chain.specs.Rows.{IsOrdered, Looks};
 
 use std::cmp::Ordering;
 
-/// A row of places, each before what is sought, at it or behind it. A look at a place is counted.
+/// A row of places, each before what is sought, at it or after it. A look at a place is counted.
 pub trait Row {
     // How many places there are.
     ghost size: { Self → ℕ };

@@ -11,7 +11,7 @@ use std::alloc::{AllocError, Global};
 use std::cmp::Ordering;
 use std::ops::RangeInclusive;
 
-/// Adds the items of a block that begins behind all others begin.
+/// Adds the items of a block that begins after all others begin.
 pub(crate) fn add<B: Block>(blocks: &mut Vec<B>, block: B) -> Result<(), AllocError>
     requires maximal { AreMaximal (map B.run blocks.old.items) }
     requires order { BeginBy (B.run block).first (map B.run blocks.old.items) }
@@ -50,7 +50,7 @@ fn part_before<B: Block>(block: &B, item: B::Item) -> Option<B>
     Some(B::new(RangeInclusive::new(block.min(), last)))
 }
 
-/// The block of the items behind this one, where there are any.
+/// The block of the items after this one, where there are any.
 fn part_behind<B: Block>(block: &B, item: B::Item) -> Option<B>
     ensures { MatchOption result ((B.run block.now).last ≤ B.place item)
         (λ part. ((B.run part).first ≡ max (B.run block.now).first (B.place item + 1))
@@ -121,7 +121,7 @@ fn add_common<B: Block>(blocks: &mut Vec<B>, one: &B, other: &B) -> Result<(), A
     }
 }
 
-/// Adds the items of a block that aren't in `taken`; what is left of `taken` behind the block.
+/// Adds the items of a block that aren't in `taken`; what is left of `taken` after the block.
 fn add_outside<'a, B: Block>(
     blocks: &mut Vec<B>,
     block: B,
@@ -171,7 +171,7 @@ pub(crate) fn difference<B: Block>(
     Ok(found)
 }
 
-/// Adds the items of both lists, which come behind all others.
+/// Adds the items of both lists, which come after all others.
 fn add_all_common<B: Block>(blocks: &mut Vec<B>, one: &[B], other: &[B]) -> Result<(), AllocError>
     requires maximal { AreMaximal (map B.run blocks.old.items) }
     requires one_maximal { AreMaximal (map B.run one.now) }
@@ -319,7 +319,7 @@ pub(crate) fn joined<B: Block>(alloc: Global, blocks: &[B]) -> Result<Vec<B>, Al
     Ok(found)
 }
 
-/// The first block where it begins before the item, and the blocks behind it.
+/// The first block where it begins before the item, and the blocks after it.
 fn first_before<B: Block>(blocks: &[B], item: B::Item) -> Option<(&B, &[B])>
     ensures { MatchOption result (BeginFrom (B.place item) (map B.run blocks.now))
         (λ parts. (blocks.now ≡ parts.0.now ∷ parts.1.now)

@@ -35,7 +35,7 @@ of_fields F m family choice {t} {tag} {octets} {lent} so e f g p =
     let d : Fields F m (universal 16) octet_string_tag (family_octets family) choice = subst (λ (x : Choice). Fields F m (universal 16) octet_string_tag (family_octets family) x) g c in
     where_so F so d
 
--- The same of a list of two families.
+-- A list of two families, by the trees and the text of both.
 abbrev Parts : ((Trees → Type 0) → (List ℕ → Type 0) → Type 0) → Mode → TagValue → FamilyChoice → FamilyChoice → Type 0
 Parts F m t x y = F (IsWrapped t (AreBoth (FamilyTrees m x.family x.choice) (FamilyTrees m y.family y.choice))) (WritesWrapped m t (WritesBoth (WritesFamily m x.family x.choice) (WritesFamily m y.family y.choice)))
 

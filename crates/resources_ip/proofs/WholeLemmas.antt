@@ -67,7 +67,7 @@ whole_step r runs maximal = (
   λ parts n m e h. elim h [ inl x ↦ inl (whole_run r parts.0 n m e x) | inr x ↦ inr (parts.1 n m e x) ],
 )
 
--- The same of a list that begins so.
+-- The first run of a list of whole runs is whole.
 pub whole_first : (left : List Run) (r : Run) (rest : List Run) → left ≡ r ∷ rest → AreMaximal left → AreWhole left → IsWhole r
 whole_first left r rest e maximal whole = ((whole_step r rest (subst (λ (l : List Run). AreMaximal l) e maximal)).0 (subst (λ (l : List Run). AreWhole l) e whole)).0
 

@@ -55,6 +55,6 @@ within_all [] n i = absurd i
 within_all (b ∷ bs) n (inl i) = let w = block_within b in omega (arith, i.1, w.1)
 within_all (b ∷ bs) n (inr i) = within_all bs n i
 
--- What is said of a run is told of an equal one.
+-- What is said of a run holds of an equal one.
 pub run_along : (told : Bool) (set : List Run) {r s : Run} → r ≡ s → (IsTrue told ↔ ((n : ℕ) → InRun r n → InRuns set n)) → IsTrue told ↔ ((n : ℕ) → InRun s n → InRuns set n)
 run_along told set e h = subst (λ (x : Run). IsTrue told ↔ ((n : ℕ) → InRun x n → InRuns set n)) e h

@@ -17,7 +17,7 @@ use Rattle.resources_ip_block.specs.Range.{run_of_range, range_within}
 use Rattle.resources_ip_prefix.proofs.Spans.{from_longer, to_longer, own_block, own_first, clear_longer, spaced, first_in}
 use Rattle.resources_ip_block.specs.Cover.{LiesIn, IsLargest, Has, Ascend, IsCover, IsFirst, IsBehind, GivesFrom, gives, filled}
 
--- Whatever lies in the run ends before the number or begins there or behind.
+-- Whatever lies in the run ends before the number or begins there or after it.
 abbrev pub NoneAcross : Run → ℕ → Type 0
 NoneAcross r at = (addr len : ℕ) → LiesIn r addr len → (addr + (span_of len - 1) < at) ⊎ (at ≤ addr)
 
@@ -67,7 +67,7 @@ none_behind r left p end none is addr len lies =
       ]
     ]
 
--- A largest prefix that begins in what is left, and not behind its first prefix, is that one.
+-- A largest prefix that begins in what is left, and not after its first prefix, is that one.
 same_as_first : (r left : Run) (p : Prefix) (addr len : ℕ) → r.first ≤ left.first → left.last ≡ r.last → IsFirst left p → IsLargest r addr len → left.first ≤ addr → addr ≤ (run_of_prefix p).last → (bits_of (prefix_addr p) ≡ addr) × (prefix_len p ≡ len)
 same_as_first r left p addr len from end is largest behind within =
     let m : ℕ = bits_of (prefix_addr p) in

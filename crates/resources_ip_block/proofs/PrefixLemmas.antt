@@ -5,12 +5,12 @@ use Rattle.std.proofs.lemmas.Nat.{pow_pos}
 use Rattle.resources_ip_block.specs.resources_chain.Sets.{Run}
 use Rattle.resources_ip_prefix.specs.Prefixes.{span_of, first_of, prefix_run}
 
--- The length of a prefix is told by how far its last address is from its first.
+-- The length of a prefix is given by how far its last address is from its first.
 pub length_told : (size len : ℕ) → len ≤ 128 → size ≡ span_of len - 1 → len ≡ count_leading_zeros 128 size
 length_told size len h e =
     leading_unique 128 size len (128 - len) (omega arith) (omega (arith, e, pow_pos (128 - len))) (omega (arith, e, pow_pos (128 - len)))
 
--- Where a range is some prefix's, it is that of the prefix that is tried, whose length is told by its size.
+-- Where a range is some prefix's, it is that of the prefix that is tried, whose length is given by its size.
 pub record IsOwn (first last size : ℕ) : Type 0 where
   pub min : first_of (count_leading_zeros 128 size) first ≡ first
   pub max : first_of (count_leading_zeros 128 size) first + (span_of (count_leading_zeros 128 size) - 1) ≡ last

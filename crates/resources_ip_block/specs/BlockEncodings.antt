@@ -10,7 +10,7 @@ use Rattle.resources_ip_block.specs.declared.der.Bounds.{Bounds}
 use Rattle.resources_ip_prefix.specs.Encodings.{FirstBits, IsAddress, prefix_bits}
 use Rattle.resources_ip_prefix.specs.Prefixes.{prefix_run}
 
--- The addresses that begin with the bits: from these with zeros behind them to these with ones.
+-- The addresses that begin with the bits: from these with zeros after them to these with ones.
 abbrev pub beginning : FirstBits → Run
 beginning b = prefix_run b.addr b.len
 

@@ -27,7 +27,7 @@ abbrev pub Has : List Prefix → ℕ → ℕ → Type 0
 Has [] addr len = ⊥
 Has (p ∷ ps) addr len = ((bits_of (prefix_addr p) ≡ addr) × (prefix_len p ≡ len)) ⊎ Has ps addr len
 
--- None begins before the number, and each begins behind the one before it.
+-- None begins before the number, and each begins after the one before it.
 abbrev pub Ascend : ℕ → List Prefix → Type 0
 Ascend n [] = Unit {0}
 Ascend n (p ∷ ps) = (n ≤ (run_of_prefix p).first) × Ascend ((run_of_prefix p).last + 1) ps
@@ -48,7 +48,7 @@ pub record IsFirst (r : Run) (p : Prefix) : Type 0 where
   pub to : (run_of_prefix p).last ≤ r.last
   pub longest : (len : ℕ) → len ≤ 128 → first_of len r.first ≡ r.first → r.first + (span_of len - 1) ≤ r.last → prefix_len p ≤ len
 
--- What is left of the run behind the prefix.
+-- What is left of the run after the prefix.
 abbrev pub IsBehind : Run → Prefix → Option AddressRange → Type 0
 IsBehind r p None = (run_of_prefix p).last ≡ r.last
 IsBehind r p (Some rest) = let left : Run = record { first = (run_of_prefix p).last + 1; last = r.last } in run_of_range rest ≡ left

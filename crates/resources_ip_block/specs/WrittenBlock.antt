@@ -63,7 +63,7 @@ bits_made addr len = record { unused = 8 * octet_count len - len; octets = take 
 same_bits : (p q : Prefix) → bits_of (prefix_addr p) ≡ bits_of (prefix_addr q) → prefix_len p ≡ prefix_len q → spelled_bits p ≡ spelled_bits q
 same_bits p q e f = ap (λ (n : ℕ). bits_made n (prefix_len p)) e ∙ ap (λ (l : ℕ). bits_made (bits_of (prefix_addr q)) l) f
 
--- A length is told by how many addresses begin alike.
+-- A length is given by how many addresses begin alike.
 fewer : (a b : ℕ) → a < b → b ≤ 128 → span_of b < span_of a
 fewer a b h k = let shorter : 128 - b < 128 - a = omega arith in pow-lt shorter
 

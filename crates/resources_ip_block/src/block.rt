@@ -64,7 +64,7 @@ impl IpBlock {
         }
     }
 
-    /// Whether the block is over whole IPv4 addresses: the 96 bits behind the first 32 are zeros in the first
+    /// Whether the block is over whole IPv4 addresses: the 96 bits after the first 32 are zeros in the first
     /// address and ones in the last.
     pub fn is_whole_v4(&self) -> bool
         ensures { IsTrue result ↔ IsWhole (run_of_block self.now) }

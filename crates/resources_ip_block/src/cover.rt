@@ -46,7 +46,7 @@ impl AddressRange {
         Prefix::new(self.min(), 128)
     }
 
-    // What is left of the range behind a prefix that begins where it does.
+    // What is left of the range after a prefix that begins where it does.
     fn behind(self, prefix: Prefix) -> Option<AddressRange>
         requires { IsFirst (run_of_range self) prefix }
         ensures { IsBehind (run_of_range self) prefix result }

@@ -48,7 +48,7 @@ impl AddressRange {
         self.last
     }
 
-    /// Puts another first address, which isn't behind the last.
+    /// Puts another first address, which isn't after the last.
     pub fn set_min(&mut self, min: Addr)
         requires { bits_of min ≤ (run_of_range self.old).last }
         ensures { run_of_range self.new ≡ record (run_of_range self.old) { first = bits_of min } }
@@ -83,7 +83,7 @@ impl AddressRange {
     }
 }
 
-// The address behind this one; none behind the last.
+// The address after this one; none after the last.
 pub(crate) fn after(addr: Addr) -> Option<Addr>
     ensures { MatchOption result (bits_of addr ≡ 340282366920938463463374607431768211455)
         (λ next. bits_of next ≡ bits_of addr + 1) }

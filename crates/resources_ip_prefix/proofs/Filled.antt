@@ -12,7 +12,7 @@ pub filled_none : (count : ℕ) → filled count [] ≡ 0
 filled_none zero = refl
 filled_none (suc count) = refl
 
--- One octet more behind them is a zero.
+-- One octet more after them is a zero.
 filled_more : (count : ℕ) (v : List ℕ) → length v ≤ count → filled (suc count) v ≡ 256 * filled count v
 filled_more zero [] h = refl
 filled_more zero (a ∷ v) h = absurd (omega arith)
@@ -23,7 +23,7 @@ filled_more (suc count) (a ∷ v) h =
     let first : a * 256 ^ suc count ≡ a * 256 ^ count * 256 = ap (λ (n : ℕ). a * n) power ∙ sym (mul_assoc a (256 ^ count) 256) in
     omega (arith, more, first)
 
--- The first octet, and the others behind it.
+-- The first octet, and the others after it.
 pub filled_first : (a : ℕ) (v : List ℕ) → length v + 1 ≤ 16 → filled 16 (a ∷ v) ≡ a * 2 ^ 120 + filled 16 v / 2 ^ 8
 filled_first a v h = omega (arith, filled_more 15 v (omega arith))
 

@@ -1,4 +1,4 @@
--- Bits behind a prefix, cleared and set.
+-- Bits after a prefix, cleared and set.
 use Rattle.std.proofs.Common.{◌≡◌, ℕ, ◌+◌, ◌-◌, ◌*◌, ◌/◌, ◌^◌, ◌≤◌, ap, sym, ◌∙◌, arith, bit_and}
 use Rattle.std.specs.Prelude.{bit_or}
 use Rattle.std.proofs.lemmas.Nat.{and_mask, shr_split, shr_high, pow_pos, pow-add}
@@ -14,7 +14,7 @@ set n k = omega (arith, or_add_and n (2 ^ k - 1), and_mask n k, shr_split n k)
 all_ones : (a b : ℕ) → a * (b + 1) + b + 1 ≡ (a + 1) * (b + 1)
 all_ones a b = grind arith
 
--- As many ones as are left behind the first `len`.
+-- As many ones as are left after the first `len`.
 pub ones_left : (len : ℕ) → len ≤ 128 → (2 ^ 128 - 1) / 2 ^ len ≡ 2 ^ (128 - len) - 1
 ones_left len h =
     let m : ℕ = 128 - len in

@@ -46,7 +46,7 @@ own_block len n = (omega (arith, shr_split n (128 - len)), omega (arith, shr_spl
 pub own_first : (len n : ℕ) → first_of len (first_of len n) ≡ first_of len n
 own_first len n = ap (λ (q : ℕ). q * span_of len) (shl-shr (n / span_of len) (128 - len))
 
--- Bits that are clear behind fewer bits are clear behind more.
+-- Bits that are clear after fewer bits are clear after more.
 pub clear_longer : (short long n : ℕ) → short ≤ long → long ≤ 128 → first_of short n ≡ n → first_of long n ≡ n
 clear_longer short long n h k clear = omega (arith, from_longer short long n h k, clear, own_block long n)
 

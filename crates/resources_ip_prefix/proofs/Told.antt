@@ -1,4 +1,4 @@
--- What is written of a prefix tells its bits.
+-- What is written of a prefix states its bits.
 use Rattle.std.proofs.Common.{◌≡◌, ℕ, zero, suc, ◌+◌, ◌-◌, ◌*◌, ◌/◌, ◌%◌, ◌^◌, ◌<◌, ◌≤◌, List, [], ◌∷◌, length, take, refl, sym, ap, ◌∙◌, subst, arith}
 use Rattle.std.specs.Int.{byte_at, bytes_high_first}
 use Rattle.std.proofs.Math.Arith.{mod-mul}
@@ -41,7 +41,7 @@ low_digits (suc c) n = sym (ap (λ (k : ℕ). n % k) (pow-succ' 256 (suc c)) ∙
 times : (a b c : ℕ) → (a + b) * c ≡ a * c + b * c
 times a b c = grind arith
 
--- The first octets of a number, and zeros behind them.
+-- The first octets of a number, and zeros after them.
 front : (c k n : ℕ) → k ≤ c → filled c (take k (bytes_high_first c n)) ≡ n % 256 ^ c / 256 ^ (c - k) * 256 ^ (c - k)
 front c zero n h =
     let alone : n % 256 ^ c ≡ 0 * 256 ^ c + n % 256 ^ c = omega arith in

@@ -47,7 +47,7 @@ short_in : (f : Family) (len : ℕ) → len ≤ width f → len ≤ 128
 short_in Ipv4 len h = omega arith
 short_in Ipv6 len h = h
 
--- A prefix that knows its family has at most 128 bits, and the bits behind its length are zeros in 128 too.
+-- A prefix that knows its family has at most 128 bits, and the bits after its length are zeros in 128 too.
 pub len_short : (p : PrefixValue) → IsPrefix p → p.len ≤ 128
 len_short p h = short_in p.family p.len h.fits
 

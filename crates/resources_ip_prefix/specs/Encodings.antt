@@ -28,18 +28,18 @@ pub record IsFamilyIn (m : Mode) (tag : TagValue) (t : Tree) (family : AddressFa
 abbrev pub IsFamily : Mode → Tree → AddressFamily → Type 0
 IsFamily m = IsFamilyIn m octet_string_tag
 
--- The number of so many octets, the most significant first: these, and zeros behind them.
+-- The number of so many octets, the most significant first: these, and zeros after them.
 abbrev pub filled : ℕ → List ℕ → ℕ
 filled zero v = 0
 filled (suc count) [] = 0
 filled (suc count) (a ∷ v) = a * 256 ^ count + filled count v
 
--- The first bits of addresses: how many, and the address that has zeros behind them (2.1.1).
+-- The first bits of addresses: how many, and the address that has zeros after them (2.1.1).
 pub record FirstBits : Type 0 where
   pub addr : ℕ
   pub len : ℕ
 
--- Those that a string of at most 128 bits tells: its own.
+-- Those that a string of at most 128 bits states: its own.
 abbrev pub told_by : BitsValue → FirstBits
 told_by v = record { addr = first_of (length (bits v)) (filled 16 v.octets); len = length (bits v) }
 

@@ -13,6 +13,6 @@ first_of len n = n / span_of len * span_of len
 abbrev pub last_of : ℕ → ℕ → ℕ
 last_of len n = first_of len n + (span_of len - 1)
 
--- The addresses of a prefix: its own, whose bits behind the first `len` are zeros, up to that with ones there.
+-- The addresses of a prefix: its own, whose bits after the first `len` are zeros, up to that with ones there.
 abbrev pub prefix_run : ℕ → ℕ → Run
 prefix_run addr len = record { first = addr; last = addr + (span_of len - 1) }

@@ -20,7 +20,7 @@ abbrev pub family_in : AddressFamily → Family
 family_in Of.Ipv4 = Ipv4
 family_in Of.Ipv6 = Ipv6
 
--- The prefix of the family of this length whose first address is told by this first number.
+-- The prefix of the family of this length whose first address is given by this first number.
 pub record IsOfFamily (family : Family) (first len : ℕ) (p : PrefixValue) : Type 0 where
   pub is_prefix : IsPrefix p
   pub family_is : p.family ≡ family

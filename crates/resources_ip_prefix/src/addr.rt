@@ -25,7 +25,7 @@ impl Addr {
         Addr { bits }
     }
 
-    /// The IPv4 address, with zeros behind it.
+    /// The IPv4 address, with zeros after it.
     pub fn from_v4(addr: Ipv4Addr) -> Self
         ensures { bits_of result ≡ ipv4_bits addr * 2 ^ 96 }
     {
@@ -83,7 +83,7 @@ impl Addr {
     }
 }
 
-// Ones behind the first `prefix_len` bits.
+// Ones after the first `prefix_len` bits.
 fn host_mask(prefix_len: u8) -> u128
     ensures { result ≡ 2 ^ (128 - prefix_len) - 1 }
 {

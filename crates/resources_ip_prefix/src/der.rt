@@ -90,7 +90,7 @@ impl AddressFamily {
     }
 }
 
-// The number of 16 octets: these, and zeros behind them.
+// The number of 16 octets: these, and zeros after them.
 #[tactic(auto, using(crate::proofs::Filled::filled_first, crate::proofs::Filled::filled_within))]
 fn filled_of(octets: &[u8]) -> u128
     requires { length octets.now ≤ 16 }

@@ -6,7 +6,7 @@ ghost use Rattle.resources_ip_prefix.specs.Prefixes.{first_of};
 
 use crate::addr::Addr;
 
-/// All addresses that begin with the same bits (RFC 3779 2.1.1, 2.2.3.8). The bits behind these are zeros in its
+/// All addresses that begin with the same bits (RFC 3779 2.1.1, 2.2.3.8). The bits after these are zeros in its
 /// own address.
 #[derive(Clone, Copy, Debug, PartialEq, Eq, Hash)]
 pub struct Prefix {

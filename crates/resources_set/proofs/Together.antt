@@ -31,6 +31,6 @@ each_tells all p q s = (
 alike : {a b c x y z : Bool} → a ≡ x → b ≡ y → c ≡ z → (a && b && c) ≡ (x && y && z)
 alike p q s = cc
 
--- The same answer.
+-- The answer for all three kinds is that of all three values.
 pub each_value : (r : Bool) {a b c x y z : Bool} → (IsTrue r ↔ (IsTrue a × IsTrue b × IsTrue c)) → a ≡ x → b ≡ y → c ≡ z → r ≡ (x && y && z)
 each_value r {a} {b} {c} all p q s = one_answer {P = IsTrue a × IsTrue b × IsTrue c} r (a && b && c) all (all_three a b c) ∙ alike p q s

@@ -23,7 +23,7 @@ set_is {a} {b} e f g =
     let three : record { asn = b.asn; ipv4 = b.ipv4; ipv6 = a.ipv6 } ≡ b = ap (λ (x : List Run). let t : Resources = record { asn = b.asn; ipv4 = b.ipv4; ipv6 = x } in t) g in
     one ∙ two ∙ three
 
--- The test tells equality.
+-- The test decides equality.
 pub sets_eq_tells : (a b : Resources) → IsTrue (sets_eq a b) ↔ (a ≡ b)
 sets_eq_tells a b =
     let three = all_three (runs_eq a.asn b.asn) (runs_eq a.ipv4 b.ipv4) (runs_eq a.ipv6 b.ipv6) in (

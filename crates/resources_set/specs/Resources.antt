@@ -11,13 +11,13 @@ pub record Resources : Type 0 where
   pub ipv4 : List Run
   pub ipv6 : List Run
 
--- In each kind the set has the numbers that P tells.
+-- In each kind the set has the numbers that P holds of.
 pub record AreRunsOf (asn ipv4 ipv6 : ℕ → Type 0) (set : Resources) : Type 0 where
   pub asns : IsRunsOf asn set.asn
   pub v4s : IsRunsOf ipv4 set.ipv4
   pub v6s : IsRunsOf ipv6 set.ipv6
 
--- In each kind the set has the numbers that P tells of those of two sets.
+-- In each kind the set has the numbers that P says of those of two sets.
 abbrev pub Combines : (P : List Run → List Run → ℕ → Type 0) (one other set : Resources) → Type 0
 Combines P one other set = AreRunsOf (P one.asn other.asn) (P one.ipv4 other.ipv4) (P one.ipv6 other.ipv6) set
 

@@ -60,7 +60,7 @@ impl ResourceSet {
 
     /// The set that the resources of a certificate list; none of a kind that is missing. The IPv4 resources are over
     /// whole IPv4 addresses, as all are that were read as IPv4, and those that `Ipv4Blocks` gives; of others
-    /// `IpBlocks::is_whole_v4` tells.
+    /// `IpBlocks::is_whole_v4` answers it.
     pub fn from_resources(
         asn: &AsResources,
         ipv4: &IpResources,

@@ -12,7 +12,7 @@ use Rattle.rpki_authority.specs.rpki_rules.Chains.{Fits}
 use Rattle.rpki_authority.specs.Holders.{cert_of, sets_of}
 
 -- It has the form of its role, another authority's (`Ca`) or a published object's (`Ee`), the authority signed it, and its
--- claim fits. `held` tells what the authority holds.
+-- claim fits. `held` says what the authority holds.
 pub record IsBelow (w : World) (role : Role) (held : Kind → ℕ → Type 0) (ca c : Cert) : Type 0 where
   pub profile : Profile w.digests true role c
   pub signed : Signed w c ca

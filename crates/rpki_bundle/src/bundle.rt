@@ -26,7 +26,7 @@ use std::cmp::Ordering;
 use std::convert::Infallible;
 use std::marker::Model;
 
-/// All that one run of the validator is told: a moment, the greatest length of chains, trust anchor locators,
+/// All that one run of the validator is given: a moment, the greatest length of chains, trust anchor locators,
 /// published objects, and the signatures that are good.
 #[derive(Debug, Drop)]
 pub struct Bundle {

@@ -1,4 +1,4 @@
-//! Bundles: all that one run of the validator is told, in one DER value.
+//! Bundles: all that one run of the validator is given, in one DER value.
 #![tactic(auto)]
 
 pub mod bundle;

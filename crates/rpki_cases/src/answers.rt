@@ -5,7 +5,7 @@ use rpki_commands::Fips;
 use std::alloc::Global;
 use std::fmt;
 
-// More octets are told by their number and their digest.
+// More octets are answered by their number and their digest.
 const MOST_SHOWN: usize = 200;
 
 /// The words of an answer, with a space between. A word that finds no memory is left out, and shows by that.

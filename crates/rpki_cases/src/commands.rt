@@ -1,4 +1,4 @@
-//! Questions about runs and commands: the exit status, what was written, and what was told of faults.
+//! Questions about runs and commands: the exit status, what was written, and what was written of faults.
 
 use crate::answers::Answer;
 use crate::octets::octets_of;
@@ -13,7 +13,7 @@ use rpki_commands::{
 use std::alloc::Global;
 use std::io::{Read, Write};
 
-// Told, but for the octets: how a reader and a writer give and take.
+// What a question says beside the octets: how a reader and a writer give and take.
 type Streams<'a> = [&'a str; 5];
 
 // A run over a reader and a writer, and how often each failed.
@@ -32,7 +32,7 @@ fn run_of(alloc: Global, answer: &mut Answer, octets: &str, streams: Streams<'_>
     Ok(())
 }
 
-/// What a command answered, wrote and told.
+/// What a command answered, wrote, and wrote of faults.
 pub fn end(answer: &mut Answer, status: u8, written: &[u8], faults: &[u8]) {
     answer.say(&status);
     answer.say(&"[");
@@ -42,7 +42,7 @@ pub fn end(answer: &mut Answer, status: u8, written: &[u8], faults: &[u8]) {
     answer.join(&']');
 }
 
-// `check` over a reader and a writer, whose faults are told to a writer with room for so many octets.
+// `check` over a reader and a writer, whose faults go to a writer with room for so many octets.
 fn check_of(
     alloc: Global,
     answer: &mut Answer,

@@ -3,7 +3,7 @@
 use certs_key::{PublicKey, RpkiSignatureAlgorithm, Verifier};
 use std::alloc::Global;
 
-/// Answers as the verifier within, and notes the bits of each key, one behind the other.
+/// Answers as the verifier within, and notes the bits of each key, one after the other.
 #[derive(Drop)]
 pub struct Noting<V> {
     inner: V,

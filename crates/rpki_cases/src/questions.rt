@@ -1,4 +1,4 @@
-//! Questions to the program of questions: its exit status, what it writes, and what it tells of faults.
+//! Questions to the program of questions: its exit status, its output, and what it writes of faults.
 
 use crate::answers::Answer;
 use crate::commands::end;

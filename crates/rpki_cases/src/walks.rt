@@ -1,5 +1,5 @@
-//! Questions about walks: what a run writes of a bundle by digests that are told, and of one with an octet changed,
-//! cut off, not told or not taken, place by place.
+//! Questions about walks: what a run writes of a bundle by digests that are given, and of one with an octet changed,
+//! cut off, not given or not taken, place by place.
 
 use crate::answers::Answer;
 use crate::octets::octets_of;
@@ -32,7 +32,7 @@ impl Digester for Constant {
     }
 }
 
-/// Outcomes in their order; equal ones in a row are told once, with their number.
+/// Outcomes in their order; equal ones in a row are answered once, with their number.
 #[derive(Drop)]
 struct Outcomes {
     last: Answer,
@@ -58,7 +58,7 @@ impl Outcomes {
         self.count = 1;
     }
 
-    // Tells the last row.
+    // Answers the last row.
     fn end(&self, answer: &mut Answer) {
         if self.count > 0 {
             answer.say(&format_args!("{}*{}", self.count, self.last.text()));

@@ -7,7 +7,7 @@ use Rattle.rpki_judge.specs.rpki_rules.World.{World}
 use Rattle.rpki_judge.specs.Evidence.{IsReadCert}
 use Rattle.rpki_anchors.specs.Leads.{NoCertAt}
 
--- The certificate there, as the judge is told it.
+-- The certificate there, as the judge is given it.
 pub cert_told : (w : World) (uri : List ℕ) (found : Option Cert) → MatchOption found (NoCertAt w uri) (λ c. CertAt w uri c) → IsReadCert (λ c. c) w uri found
 cert_told w uri None h = h
 cert_told w uri (Some c) h = h

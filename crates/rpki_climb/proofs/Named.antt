@@ -24,7 +24,7 @@ held_there w (u ∷ us) uri octets (inr h) = held_there w us uri octets h.1
 one_object : (w : World) (uri o p : List ℕ) → w.object uri ≡ Some o → w.object uri ≡ Some p → o ≡ p
 one_object w uri o p h k = let e : Some o ≡ Some p = sym h ∙ k in cc
 
--- What a locator's lead tells of a certificate that stands at a lookup key.
+-- What a locator's lead says of a certificate that stands at a lookup key.
 pub anchor_by : (w : World) (l : Locator) (key : Key) (there octets uri : List ℕ) (c : Cert) (b : Bool) → HoldsAt w l key there octets → CertAt w uri c
     → ((j k : Key) (u v o p : List ℕ) → HoldsAt w l j u o → HoldsAt w l k v p → j ≡ k) → ((j k : Key) (u v o p : List ℕ) → HoldsAt w l j u o → HoldsAt w l k v p → u ≡ v)
     → (IsTrue b ↔ ((there ≡ uri) × IsAnchorCert w key c)) → IsTrue b ↔ IsAnchorOf w l (record { uri = uri; cert = c })

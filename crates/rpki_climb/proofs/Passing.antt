@@ -1,4 +1,4 @@
--- What a test, or a call that may want memory, tells of one thing it tells of another.
+-- What a test, or a call that may lack memory, says of one thing it says of another.
 use Rattle.std.proofs.Common.{◌≡◌, ◌↔◌, Bool, true, false, Result, Ok, Err}
 use Rattle.std.specs.Prelude.{IfOk, IsTrue}
 

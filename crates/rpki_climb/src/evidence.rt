@@ -20,7 +20,7 @@ pub struct BundleEvidence<'a, D, V> {
     pub index: Index<'a>,
     /// What the digests are made by.
     pub digester: &'a D,
-    /// What tells which signatures are good.
+    /// What says which signatures are good.
     pub verifier: &'a mut V,
 }
 

@@ -1,4 +1,4 @@
--- What a folder tells, it tells alone.
+-- A folder gives one bundle.
 use Rattle.std.proofs.Common.{◌≡◌, ℕ, ◌+◌, ◌/◌, ◌%◌, ◌≤◌, ◌⊎◌, inl, inr, List, [], ◌∷◌, ◌++◌, length, get_or, refl, sym, ap, ◌∙◌, subst, arith}
 use Rattle.std.proofs.lemmas.List.Sorted.{IsPermutation-sym, IsPermutation-trans}
 use Rattle.std.specs.List.Sorted.{IsPermutation}
@@ -70,7 +70,7 @@ one_list_told t (v ∷ vs) (w ∷ ws) a b =
 one_sorted : {X : Type 0} (row : X → List ℕ) (read ys zs : List X) → IsPermutation read ys → IsPermutation read zs → IsSortedOn row ys → Ascends row zs → zs ≡ ys
 one_sorted row read ys zs p q s a = sym (one_order row ys zs (IsPermutation-trans ys read zs (IsPermutation-sym read ys p) q) s a)
 
--- The bundle that a folder tells has the parts that it tells, sorted.
+-- The bundle of a folder has the parts that the folder gives, sorted.
 pub one_told : {c : Contents} {p : Parts} {text : List ℕ} → TellsParts c p → (t : TellsText c text) → t.bundle ≡ value_of p
 one_told {c} {p} {text} a t =
     let told = t.told in

@@ -7,7 +7,7 @@ use Rattle.rpki_commands.specs.Lines.{IsLineEnd}
 use Rattle.rpki_commands.specs.Verdicts.{IsHex, TakesDigest, TakesNextDigest, TakesEnd, TakesVerdict, TellsVerdicts}
 use Rattle.rpki_commands.proofs.Hexes.{hex_length, one_digest}
 
--- Two of the same are one, and so is what is behind them.
+-- Two of the same are one, and so is what comes after them.
 pub record Same {A : Type 0} (x y : A) (rest other : List ℕ) : Type 0 where
   pub value : x ≡ y
   pub behind : rest ≡ other

@@ -6,7 +6,7 @@ use Rattle.std.proofs.lemmas.Slice.Eq.{bytes_eq-Decides}
 use Rattle.std.proofs.lemmas.Bool.Decides.{not_from_Decides}
 use Rattle.rpki_commands.specs.Arguments.{Asks}
 
--- Two words, the second of which is told to be the command.
+-- Two words, the second of which a test finds to be the command.
 pub two_words : {A : Type 0} (f : A → List ℕ) (xs : List A) (x : A) (text command : List ℕ) → 2 ≤ length xs → length xs < 3 → x ≡ get_or xs 1 x → text ≡ f x → true ≡ bytes_eq text command → (program : List ℕ) × (map f xs ≡ program ∷ command ∷ [])
 two_words f [] x text command low high e t q = absurd (omega arith)
 two_words f (a ∷ []) x text command low high e t q = absurd (omega arith)
@@ -15,7 +15,7 @@ two_words f (a ∷ b ∷ []) x text command low high e t q =
     (f a, ap (λ (w : List ℕ). f a ∷ w ∷ []) word)
 two_words f (a ∷ b ∷ d ∷ xs) x text command low high e t q = absurd (omega arith)
 
--- Three words, the second of which is told to be the command.
+-- Three words, the second of which a test finds to be the command.
 pub three_words : {A : Type 0} (f : A → List ℕ) (xs : List A) (x y : A) (text last command : List ℕ) → 3 ≤ length xs → length xs < 4 → x ≡ get_or xs 1 x → y ≡ get_or xs 2 y → text ≡ f x → last ≡ f y → true ≡ bytes_eq text command → (program : List ℕ) × (map f xs ≡ program ∷ command ∷ last ∷ [])
 three_words f [] x y text last command low high e g t k q = absurd (omega arith)
 three_words f (a ∷ []) x y text last command low high e g t k q = absurd (omega arith)
@@ -32,7 +32,7 @@ second f [] x program word rest e i = absurd cc
 second f (a ∷ []) x program word rest e i = absurd cc
 second f (a ∷ b ∷ xs) x program word rest e i = let h : f b ≡ word = cc in ap f i ∙ h
 
--- What isn't told to be the command isn't.
+-- What a test doesn't find to be the command isn't the command.
 no_word : {A : Type 0} (f : A → List ℕ) (xs : List A) (x : A) (text command : List ℕ) → x ≡ get_or xs 1 x → text ≡ f x → false ≡ bytes_eq text command → (program : List ℕ) (rest : List (List ℕ)) → map f xs ≡ program ∷ command ∷ rest → ⊥
 no_word f xs x text command i t q program rest e = not_from_Decides (bytes_eq text command) (bytes_eq-Decides text command) (sym q) (t ∙ second f xs x program command rest e i)
 

@@ -3,7 +3,7 @@ use Rattle.std.specs.Prelude.{◌≡◌, ℕ, Option, Some, None, List, [], ◌�
 use Rattle.rpki_commands.specs.declared.arguments.Command.{Command}
 use Rattle.rpki_commands.specs.declared.arguments.Command.TheVariants.{Check, Bundle}
 
--- `check` alone stands behind the program's name.
+-- `check` alone comes after the program's name.
 abbrev pub AsksCheck : List (List ℕ) → Type 0
 AsksCheck words = (program : List ℕ) × (words ≡ program ∷ codes "check" ∷ [])
 

@@ -2,7 +2,7 @@
 use Rattle.std.specs.Prelude.{◌≡◌, ℕ, ◌+◌, ◌/◌, ◌%◌, ◌≤◌, ◌⊎◌, List, [], ◌∷◌, ◌++◌}
 use Rattle.rpki_commands.specs.certs_time.Times.{IsMoment}
 
--- A line feed (10), behind a carriage return (13) or not.
+-- A line feed (10), after a carriage return (13) or not.
 abbrev pub IsLineEnd : List ℕ → Type 0
 IsLineEnd end = (end ≡ 10 ∷ []) ⊎ (end ≡ 13 ∷ 10 ∷ [])
 

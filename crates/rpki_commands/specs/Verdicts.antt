@@ -11,25 +11,25 @@ pub record IsHex (digits digest : List ℕ) : Type 0 where
   pub octets : IsBytes digest
   pub digits_are : map lower digits ≡ encode_lower digest
 
--- A digest in front, and what is behind its digits.
+-- A digest in front, and what comes after its digits.
 pub record TakesDigest (text digest rest : List ℕ) : Type 0 where
   pub digits : List ℕ
   pub whole : text ≡ digits ++ rest
   pub digest_is : IsHex digits digest
 
--- A space (32) and a digest in front, and what is behind its digits.
+-- A space (32) and a digest in front, and what comes after its digits.
 pub record TakesNextDigest (text digest rest : List ℕ) : Type 0 where
   pub behind_space : List ℕ
   pub space : text ≡ 32 ∷ behind_space
   pub digest_is : TakesDigest behind_space digest rest
 
--- A line end in front, and what is behind it; at the end of all it may be missing.
+-- A line end in front, and what comes after it; at the end of all it may be missing.
 pub record TakesEnd (text rest : List ℕ) : Type 0 where
   pub end : List ℕ
   pub whole : text ≡ end ++ rest
   pub end_is : IsLineEnd end ⊎ ((end ≡ []) × (rest ≡ []))
 
--- A line in front that tells a verdict, and what is behind its end.
+-- A line in front that states a verdict, and what comes after its end.
 pub record TakesVerdict (text : List ℕ) (v : Verdict) (rest : List ℕ) : Type 0 where
   pub behind_key : List ℕ
   pub behind_message : List ℕ

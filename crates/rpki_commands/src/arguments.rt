@@ -8,11 +8,11 @@ ghost use Rattle.rpki_commands.specs.Arguments.{Asks};
 pub enum Command<'a> {
     /// `check`: a bundle on standard input, its lines on standard output.
     Check,
-    /// `bundle FOLDER`: the bundle that the folder tells, on standard output.
+    /// `bundle FOLDER`: the bundle that the folder gives, on standard output.
     Bundle(&'a str),
 }
 
-/// What is told of arguments that ask for nothing.
+/// What is written for arguments that ask for nothing.
 pub const USAGE: &str = "usage: rpki_check check | rpki_check bundle FOLDER\n";
 
 /// The command that the arguments ask for, the first of which is the program's name.

@@ -19,7 +19,7 @@ pub const DONE: u8 = 0;
 /// The exit status where something was at fault, which the faults say.
 pub const FAILED: u8 = 1;
 
-/// `check`: reads a bundle to the end, writes its lines, and tells what is at fault on `faults`.
+/// `check`: reads a bundle to the end, writes its lines, and writes what is at fault to `faults`.
 pub fn check<R: Read, W: Write, F: Write>(
     alloc: Global,
     reader: &mut Counted<R>,
@@ -45,14 +45,14 @@ pub fn check<R: Read, W: Write, F: Write>(
     match run(alloc, reader, writer, &Fips) {
         Ok(()) => DONE,
         Err(error) => {
-            // What can't be told is lost; the status says that there was something.
+            // What can't be written is lost; the status says that there was something.
             let _ = writeln!(faults, "{error}");
             FAILED
         }
     }
 }
 
-/// `bundle FOLDER`: reads a folder, writes the bundle that it tells, and tells what is at fault on `faults`.
+/// `bundle FOLDER`: reads a folder, writes the bundle that it gives, and what is at fault to `faults`.
 pub fn bundle<R: Files + AllocGlobal + Clone + Drop, W: Write, F: Write>(
     rt: &R,
     alloc: Global,
@@ -73,7 +73,7 @@ pub fn bundle<R: Files + AllocGlobal + Clone + Drop, W: Write, F: Write>(
     match write_bundle(rt, alloc, folder, writer) {
         Ok(()) => DONE,
         Err(fault) => {
-            // What can't be told is lost; the status says that there was something.
+            // What can't be written is lost; the status says that there was something.
             let _ = writeln!(faults, "{fault}");
             FAILED
         }

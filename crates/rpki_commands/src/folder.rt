@@ -1,4 +1,4 @@
-//! A folder that becomes a bundle: what is read of it, and the parts that this tells.
+//! A folder that becomes a bundle: what is read of it, and the parts that this gives.
 
 mod files;
 mod lines;
@@ -18,7 +18,7 @@ pub enum Fault {
     /// Something in the folder can't be read, or is missing, or is too much.
     #[error("read fault")]
     Read,
-    /// What was read tells no bundle.
+    /// What was read gives no bundle.
     #[error("not a bundle")]
     NotABundle,
     /// The writer answered an error, or took nothing.

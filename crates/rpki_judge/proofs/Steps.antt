@@ -170,7 +170,7 @@ judged_on {C} cert w v u name links l rest uri p need f j r e n z ve ue at h k =
     (subst (λ (o : Option Resources). IsNeedOfFile w (cert l.cert) p uri o) n (subst (λ (x : World). IsNeedOfFile x (cert l.cert) p uri f) ve h)) j
     (subst (λ (xs : List (Code C)). IsJudgedUp w name (links_of cert xs) need j) e (subst (λ (x : World). IsJudgedUp x name (links_of cert links) need j) ue k))))
 
--- The first of a list, as reading it tells.
+-- The first of a list, as reading it answers.
 pub none_first : {X : Type 0} (xs : List X) → None ≡ slice_get xs 0 → xs ≡ []
 none_first [] e = refl
 none_first (x ∷ xs) e = absurd cc

@@ -31,7 +31,7 @@ abbrev pub KeepsAll : Claims → Resources → Type 0
 KeepsAll c need =
     ((n : ℕ) → InRuns need.asn n → Keeps c.asn.now n) × ((n : ℕ) → InRuns need.ipv4 n → Keeps c.v4.now n) × ((n : ℕ) → InRuns need.ipv6 n → Keeps c.v6.now n)
 
--- In each kind the set has the numbers that P tells.
+-- In each kind the set has the numbers that P holds of.
 abbrev pub IsNeed : (Kind → ℕ → Type 0) → Resources → Type 0
 IsNeed P need = (k : Kind) → IsRunsOf (P k) (of_kind need k)
 

@@ -1,4 +1,4 @@
--- Where no accepted chain of a world names one of the URIs, another world that differs at these alone tells the same.
+-- Where no accepted chain of a world names one of the URIs, another world that differs at these alone says the same.
 use Rattle.std.proofs.Common.{◌≡◌, ◌↔◌, ℕ, List, [], ◌∷◌, map, Option, inl, inr, sym, subst}
 use Rattle.rpki_rules.specs.declared.cause.Cause.{Cause}
 use Rattle.rpki_rules.specs.Words.{Each}

@@ -8,7 +8,7 @@ use Rattle.rpki_rules.specs.Kinds.{Kind, Ipv4, Ipv6, As, claim}
 use Rattle.rpki_rules.specs.Chains.{Holds, Fits}
 use Rattle.rpki_rules.specs.Laws.{SignedIsVerified, IssuedIsVerified, AnchorIsVerified, AnchorHolds, IssuedHolds, ChainHolds}
 
--- An identifier that is told is there.
+-- An identifier that is given is there.
 there : (c issuer : Cert) → c.tbs.authority_key_identifier ≡ Some issuer.tbs.subject_key_identifier → c.tbs.authority_key_identifier ≢ None
 there c issuer e n = let z : None ≡ Some issuer.tbs.subject_key_identifier = sym n ∙ e in absurd cc
 

@@ -54,7 +54,7 @@ found_told w ca p uri listed s t b told r e = subst (FindsObject w ca p uri) (sy
     by true told = found_sound w ca p uri listed s t (told.0 refl)
     by false told = found_unsound w ca p uri s.object s.payload t (λ k. let wrong : false ≡ true = told.1 k in absurd cc)
 
--- A test turned down what it tells exactly.
+-- What a test decides isn't so where it says no.
 said_no : (b : Bool) (P : Type 0) → (IsTrue b ↔ P) → b ≡ false → P → ⊥
 said_no b P told turned h = let is : b ≡ true = told.1 h in absurd cc
 

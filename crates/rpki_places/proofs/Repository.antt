@@ -22,7 +22,7 @@ module _ (object : List ℕ → Option (List ℕ)) (ca : Cert) (m : Manifest) wh
         let same : h.repository ≡ folder = cc in
         subst (λ (r : List ℕ). AreFilesIn object r m.files fs) same h.listed
 
-    -- What is said of that folder is told of its repository.
+    -- What is said of that folder holds of its repository.
     pub files_told : {V E : Type 0} (items : V → List File) (r : Result (Option V) E)
         → IfOk r (λ found. MatchOption found (NoFilesIn object folder m.files) (λ v. AreFilesIn object folder m.files (items v)))
         → IfOk r (λ found. MatchOption found (NoFilesOf object ca m) (λ v. AreFilesOf object ca m (items v)))

@@ -1,4 +1,4 @@
--- What stands at an authority's point, as it is told.
+-- What stands at an authority's point, as it is answered.
 use Rattle.std.proofs.Common.{◌≡◌, ◌∙◌, ◌↔◌, ℕ, Bool, true, false, IsTrue, List, Option, Some, None, refl, sym, ap, subst}
 use Rattle.std.specs.Bool.{then_some}
 use Rattle.rpki_standing.specs.objects_kinds.Kinds.{KindValue}

@@ -7,8 +7,8 @@ use Rattle.rpki_standing.specs.rpki_readings.Objects.{File as Listed, Manifest}
 use Rattle.rpki_standing.specs.rpki_rules.Points.{files}
 use Rattle.rpki_places.specs.declared.files.File.{File}
 
--- The file of that name in that folder, with the octets that are held there. `object` tells the octets of the object with a
--- lookup key.
+-- The file of that name in that folder, with the octets that are held there. `object` gives the octets of the object
+-- with a lookup key.
 pub record IsFileIn (object : List ℕ → Option (List ℕ)) (folder name : List ℕ) (file : File) : Type 0 where
   pub uri_is : file.uri ≡ join folder name
   pub held : object (lookup_key file.uri) ≡ Some file.octets

@@ -8,15 +8,15 @@ use Rattle.rpki_places.specs.declared.files.File.{File}
 use Rattle.rpki_places.specs.declared.standing.Point.{Point as Place}
 use Rattle.rpki_places.specs.Files.{AreFilesOf}
 
--- It tells of the point the certificate of its manifest, its revocation list, by which URI this certificate names that list,
--- and the files that the manifest lists, in its order.
+-- A point's place has the certificate of its manifest, its revocation list, by which URI this certificate names that
+-- list, and the files that the manifest lists, in its order.
 pub record IsPlaceOf (w : World) (ca : Cert) (p : Point) (place : Place) : Type 0 where
   pub manifest_cert_is : place.manifest_cert ≡ p.object.cert
   pub crl_is : place.crl ≡ p.crl
   pub crl_uri_is : p.object.cert.tbs.crl_uri ≡ Some place.crl_uri
   pub files_are : AreFilesOf w.object ca p.manifest place.files.items
 
--- It tells of a point that stands by these rules.
+-- The place is that of a point that stands by these rules.
 pub record IsStandingPlace (stands : Point → Type 0) (w : World) (ca : Cert) (place : Place) : Type 0 where
   pub point : Point
   pub standing : stands point

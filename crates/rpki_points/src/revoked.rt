@@ -17,7 +17,7 @@ fn have_one_key(alloc: Global, uri: &Rsync, other: &Rsync) -> Result<bool, Alloc
     Ok(cmp_lookup_key(key.as_slice(), other.as_slice()).is_eq())
 }
 
-/// Whether the certificate names the point's revocation list and isn't on it. The manifest's certificate tells where the
+/// Whether the certificate names the point's revocation list and isn't on it. The manifest's certificate says where the
 /// list stands; both URIs are compared by their lookup keys.
 pub fn is_unrevoked(alloc: Global, cert: &Cert, ee: &Cert, crl: &Crl) -> Result<bool, AllocError>
     ensures { IfOk result (λ yes. (p : Point) → p.object.cert ≡ ee.now → p.crl ≡ crl.now

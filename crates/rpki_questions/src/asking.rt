@@ -55,8 +55,8 @@ fn ask_all<R: Read, W: Write>(
     }
 }
 
-/// Reads a bundle to its end and writes the answer to what is asked of it; what is at fault is told on `faults`. Answers the
-/// exit status.
+/// Reads a bundle to its end and writes the answer to what is asked of it; what is at fault is written to `faults`.
+/// Answers the exit status.
 pub fn ask<R: Read, W: Write, F: Write>(
     alloc: Global,
     request: Request<'_>,

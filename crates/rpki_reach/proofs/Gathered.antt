@@ -63,7 +63,7 @@ one_gains f g uris w s sets way ca names e h (Reaches k n) q = let m = some_more
 )
 one_gains f g uris w s sets way ca names e h (Chains v) q = absurd q
 
--- What is told to be reached is what is reached.
+-- What a walk tells as reached is what is reached.
 told_reached : (uris : List (List ℕ)) (w : World) (k : Kind) (n : ℕ) → IsTold uris w (Reaches k n) ↔ IsReached uris w k n
 told_reached uris w k n = (
   λ t. elim t [

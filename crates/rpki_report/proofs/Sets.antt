@@ -79,7 +79,7 @@ first : List ℕ → ℕ
 first [] = 0
 first (c ∷ cs) = c
 
--- The first letter of a cause's text tells the cause.
+-- The first letter of a cause's text decides the cause.
 abbrev letter : Cause → ℕ
 letter cause.Tal = 116
 letter cause.Anchor = 97

@@ -20,13 +20,13 @@ pub record IsSetOf {X : Type 0} (cmp : X → X → Ordering) (xs ys : List X) : 
   pub ascend : IsStrictlySortedBy cmp ys
   pub exact : (x : X) → Mem ys x ↔ Mem xs x
 
--- The customer's providers are all that P tells of it, in order, and there is one.
+-- The customer's providers are all that P says of it, in order, and there is one.
 pub record IsCustomerOf (P : Provision → Type 0) (c : Customer) : Type 0 where
   pub ascending : Ascending c.providers
   pub some : c.providers ≢ []
   pub exact : (p : ℕ) → Mem c.providers p ↔ P (record { customer = c.number; provider = p })
 
--- Exactly the customers that P tells of, each once, in order.
+-- Exactly the customers that P says something of, each once, in order.
 pub record AreCustomersOf (P : Provision → Type 0) (cs : List Customer) : Type 0 where
   pub ascending : Ascending (map (λ c. c.number) cs)
   pub each : Each (IsCustomerOf P) cs

@@ -1,4 +1,4 @@
--- Where a test fails first, not all are passed; so an answer tells whether all are.
+-- Where a test fails first, not all are passed; so an answer shows whether all are.
 use Rattle.std.proofs.Common.{◌≡◌, ◌↔◌, Bool, true, IsTrue, List, [], ◌∷◌, ◌++◌, Option, Some, None, Result, Ok, Err, sym, ◌∙◌, subst}
 use Rattle.std.specs.Prelude.{◌≢◌, IfErr, is_ok}
 use Rattle.certs_verify.specs.certs_errors.declared.verification.VerificationError.{VerificationError}
@@ -15,7 +15,7 @@ passed_inside P (y ∷ front) x behind all = passed_inside P front x behind all.
 none_fails : {X : Type 0} (P : X → Type 0) (xs : List X) (x : X) → FirstFailing P xs x → Each P xs → ⊥
 none_fails P xs x f all = f.fails (passed_inside P f.front x f.behind (subst (Each P) f.whole all))
 
--- An error that tells lack of memory is that of memory.
+-- An error whose fault is lack of memory is that of memory.
 memory_of : (e : VerificationError) → fault_of e ≡ Some wants_memory → e ≡ error.Memory
 memory_of error.MessageDigest h = absurd cc
 memory_of error.SigningTime h = absurd cc

@@ -41,7 +41,7 @@ module _ (held : Kind → ℕ → Type 0) (x : PublishedValue) where
     λ h. covered_by (HoldsWith held x.object.cert) (InSet sets) x.payload (λ k n. ((f.1 k).same n).1) h.covered,
   )
 
-  -- The same, as it is told.
+  -- It is within exactly where a test says that its certificate's sets cover what it attests.
   pub within_told : (b : Bool) (cert : Cert) (y : Payload) (sets : Resources) → cert ≡ x.object.cert → y ≡ x.payload → FindsSets held cert (Some sets) → IsTrue b ↔ IsCovered (InSet sets) y → IsTrue b ↔ IsWithin held x
   within_told b cert y sets c e f t =
       let h = within sets (subst (λ (z : Cert). FindsSets held z (Some sets)) c f) in

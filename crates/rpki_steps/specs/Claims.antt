@@ -11,7 +11,7 @@ use Rattle.rpki_step.specs.Claimed.{ClaimValue}
 abbrev pub claims_of : Cert → ClaimValue
 claims_of c = record { mode = c.tbs.overclaim; asn = c.tbs.asn; ipv4 = c.tbs.v4; ipv6 = c.tbs.v6 }
 
--- The sets of the numbers that it holds, or nothing where its claim doesn't fit. `held` tells what is held above.
+-- The sets of the numbers that it holds, or nothing where its claim doesn't fit. `held` says what is held above.
 abbrev pub FindsSets : (Kind → ℕ → Type 0) → Cert → Option Resources → Type 0
 FindsSets held c None = ¬ (Fits held c)
 FindsSets held c (Some sets) = Fits held c × HasKept held c sets

@@ -5,8 +5,8 @@ use Rattle.rpki_authority.specs.rpki_rules.Chains.{Fits}
 use Rattle.rpki_authority.specs.rpki_rules.Kinds.{Kind}
 use Rattle.rpki_objects.specs.Published.{PublishedValue}
 
--- The claim of the object's certificate fits, and what it attests is held with that certificate. `held` tells what is held
--- above it.
+-- The claim of the object's certificate fits, and what it attests is held with that certificate. `held` says what is
+-- held above it.
 pub record IsWithin (held : Kind → ℕ → Type 0) (x : PublishedValue) : Type 0 where
   pub fits : Fits held x.object.cert
   pub covered : IsCovered (HoldsWith held x.object.cert) x.payload

@@ -24,7 +24,7 @@ pub struct BundleSteps<'a, D: Digester, V: Verifier> {
     pub index: Index<'a>,
     /// What digests are made by.
     pub digester: &'a D,
-    /// What tells which signatures are good.
+    /// What says which signatures are good.
     pub verifier: &'a mut V,
 }
 

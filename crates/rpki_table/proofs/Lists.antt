@@ -56,7 +56,7 @@ none_found (x ∷ xs) key h =
     first_lacks x xs key None (λ e. h 0 (record { inside = omega arith; same = e }))
     (none_found xs key (λ k p. h (suc k) (record { inside = let l : k < length xs = p.inside in omega arith; same = p.same })))
 
--- The same by another name of the list.
+-- An object at its place, and none without one, in a list by another name.
 pub place_told : (os ps : List Object) (key : List ℕ) (k : ℕ) (o : Object) → os ≡ ps → Ascends (λ (x : Object). x.uri) ps → IsPlace (λ (x : Object). x.uri) os key k → o ≡ get_or os k o → find_object ps key ≡ Some o.octets
 place_told os ps key k o e a p at = place_found ps key k o a (subst (λ (xs : List Object). IsPlace (λ (x : Object). x.uri) xs key k) e p) (at ∙ ap (λ (xs : List Object). get_or xs k o) e)
 

@@ -33,7 +33,7 @@ ascends_ordered row xs key a = λ i j before inside.
 pub row_at : {X : Type 0} (row : X → List ℕ) (xs : List X) (key : List ℕ) (k : ℕ) (x : X) → x ≡ get_or xs k x → k < length xs → get_or (map row xs) k key ≡ row x
 row_at row xs key k x e inside = get_or-map row xs k x key inside ∙ ap row (sym e)
 
--- What halving tells.
+-- What halving answers.
 pub place_told : {X : Type 0} (row : X → List ℕ) (xs : List X) (key : List ℕ) (r : Option ℕ)
     → MatchOption r ((k : ℕ) → k < length xs → stands_at row xs key k ≡ Equal → ⊥) (λ k. (k < length xs) × (stands_at row xs key k ≡ Equal))
     → MatchOption r ((k : ℕ) → IsPlace row xs key k → ⊥) (IsPlace row xs key)

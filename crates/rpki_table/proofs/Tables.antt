@@ -84,7 +84,7 @@ all_true : (a b : Bool) → a ≡ true → b ≡ true → a && b ≡ true
 all_true true b e f = f
 all_true false b e f = absurd cc
 
--- The table's test tells whether the verdict stands there.
+-- The table's test answers whether the verdict stands there.
 pub table_told : (vs : List Verdict) (d : Digests) (key : KeyValue) (has_null : Bool) (message signature : List ℕ) (v : Verdict) (answer : Bool)
     → v.key ≡ d.sha256 (encoded key) → v.message ≡ d.sha256 message → v.signature ≡ d.sha256 signature
     → (IsTrue answer ↔ Mem vs v) → answer ≡ table d vs key has_null message signature

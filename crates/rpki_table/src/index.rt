@@ -28,7 +28,7 @@ impl<'a> Model for Index<'a> {
     ghost invariant = { λ index. IsLawful index.bundle.now };
 }
 
-/// What the bundle tells of the run.
+/// What the bundle says of the run.
 impl<'a> Index<'a> {
     /// The index of a bundle.
     pub fn new(bundle: &'a Bundle) -> Index<'a>

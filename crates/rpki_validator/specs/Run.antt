@@ -35,7 +35,7 @@ pub record ReadsSome (before after : Option (List ℕ)) : Type 0 where
 
 -- In what follows `d` are the digest functions of the run.
 
--- The text of a bundle that was read: its output by the rules, good signatures being those that its table tells.
+-- The text of a bundle that was read: its output by the rules, good signatures being those that its table has.
 pub record HasText (d : Digests) (before after : Option (List ℕ)) (text : List ℕ) : Type 0 where
   pub bundle : BundleValue
   pub read : ReadsBundle before after bundle

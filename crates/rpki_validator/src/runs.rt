@@ -46,7 +46,7 @@ impl From<AllocError> for RunError {
     }
 }
 
-// The output of a bundle: good are the signatures that its own table tells.
+// The output of a bundle: good are the signatures that its own table has.
 fn output_of<D: Digester>(
     alloc: Global,
     bundle: &Bundle,

@@ -1,6 +1,6 @@
 //! Worlds as lists of parts, and what a walk, a judge and a reach answer of them, as data.
 //!
-//! A line of standard input tells one thing of a world, or asks one question, by words with a space between:
+//! A line of standard input gives one thing of a world, or asks one question, by words with a space between:
 //!
 //!     world DEPTH                      an empty world, in which chains have at most so many certificates
 //!     depth DEPTH                      another depth

@@ -1,4 +1,4 @@
-//! A world, told part by part in any order.
+//! A world, given part by part in any order.
 
 use anyhow::{Result, anyhow};
 use bytes::Bytes;
@@ -86,7 +86,7 @@ impl World {
         Ok(())
     }
 
-    /// Whether the line tells something of the world, which is then so.
+    /// Whether the line gives something of the world, which is then so.
     pub fn is_told(&mut self, alloc: Global, words: &[&str]) -> Result<bool> {
         match words {
             ["world", depth] => *self = World::new(alloc, depth.parse::<u8>()?),

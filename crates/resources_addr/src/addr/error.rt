@@ -13,7 +13,7 @@ pub enum PrefixError {
     /// The length is above the address's number of bits.
     #[error("prefix length exceeds the address")]
     LenOverflow,
-    /// A bit behind the length is set.
+    /// A bit after the length is set.
     #[error("host bits are set")]
     NonZeroHost,
 }
@@ -81,7 +81,7 @@ pub enum ParsePrefixError {
     /// What is before the slash is no address.
     #[error("invalid address: {0}")]
     InvalidAddr(AddrParseError),
-    /// What is behind the slash is no number below 256.
+    /// What comes after the slash is no number below 256.
     #[error("invalid prefix length: {0}")]
     InvalidLen(ParseIntError),
     /// The address and the length make no prefix.
@@ -95,7 +95,7 @@ pub enum ParseMaxLenPrefixError {
     /// What is before the dash is no prefix.
     #[error("{0}")]
     InvalidPrefix(ParsePrefixError),
-    /// What is behind the dash is no number below 256.
+    /// What comes after the dash is no number below 256.
     #[error("invalid maximum length: {0}")]
     InvalidMaxLenFormat(ParseIntError),
     /// The prefix can't have this greatest length.

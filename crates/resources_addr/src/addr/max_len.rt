@@ -15,7 +15,7 @@ use std::hash::{Hash, Hasher};
 use std::marker::Model;
 use std::net::IpAddr;
 
-/// A prefix, and the greatest length of the prefixes inside it that are meant, where it is told (RFC 9582 4.3.2.2).
+/// A prefix, and the greatest length of the prefixes inside it that are meant, where it is given (RFC 9582 4.3.2.2).
 ///
 /// They are ordered by prefix and then by greatest length, none first.
 #[derive(Clone, Copy, Debug)]
@@ -92,7 +92,7 @@ impl MaxLenPrefix {
         self.prefix.len()
     }
 
-    /// The greatest length, where it is told.
+    /// The greatest length, where it is given.
     pub fn max_len(self) -> Option<u8>
         ensures value { result ≡ self.max_len }
         ensures whole { IsMaxLen self }
@@ -100,7 +100,7 @@ impl MaxLenPrefix {
         self.max_len
     }
 
-    /// The greatest length, or the prefix's own where none is told.
+    /// The greatest length, or the prefix's own where none is given.
     pub fn resolved_max_len(self) -> u8
         ensures { result ≡ resolved self }
     {

@@ -49,10 +49,10 @@ impl Kind {
 
 /// The addresses whose first bits are those of one address (RFC 4632 3.1, RFC 4291 2.3).
 ///
-/// All bits of the address behind the prefix's length, the host bits, are zeros.
+/// All bits of the address after the prefix's length, the host bits, are zeros.
 ///
 /// Prefixes are ordered by family, IPv4 first, then by their last address, then by length, the longer first: so a
-/// prefix stands behind all prefixes that it covers.
+/// prefix comes after all prefixes that it covers.
 #[derive(Clone, Copy, Debug)]
 pub struct Prefix {
     kind: Kind,
@@ -92,7 +92,7 @@ fn parts(addr: IpAddr) -> (Kind, u128)
 
 impl Prefix {
     /// The prefix with this first address and length. Refused with `LenOverflow` where the length is above the
-    /// address's number of bits, and else with `NonZeroHost` where a bit behind the length is set.
+    /// address's number of bits, and else with `NonZeroHost` where a bit after the length is set.
     pub fn new(addr: IpAddr, len: u8) -> Result<Self, PrefixError>
         ensures { MatchResult result
             (λ p. IsPrefix p

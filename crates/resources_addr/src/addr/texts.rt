@@ -71,8 +71,8 @@ impl Display for Prefix {
     }
 }
 
-/// From a prefix, and where a greatest length is told, a dash and that length in decimal, as `10.0.0.0/8-24`. The first
-/// failing test decides: `InvalidPrefix`, `InvalidMaxLenFormat`, and `InvalidMaxLenValue` with what
+/// From a prefix, and where a greatest length is given, a dash and that length in decimal, as `10.0.0.0/8-24`. The
+/// first failing test decides: `InvalidPrefix`, `InvalidMaxLenFormat`, and `InvalidMaxLenValue` with what
 /// `MaxLenPrefix::new` refuses.
 impl FromStr for MaxLenPrefix {
     type Err = ParseMaxLenPrefixError;
@@ -92,7 +92,7 @@ fn prefix_part(text: &str) -> Result<Prefix, ParseMaxLenPrefixError>
     Prefix::from_str(text).map_err(ParseMaxLenPrefixError::InvalidPrefix)
 }
 
-// The prefix, and the greatest length behind the first dash.
+// The prefix, and the greatest length after the first dash.
 fn prefix_and_max_len(text: &str) -> Result<(Prefix, Option<u8>), ParseMaxLenPrefixError>
     ensures { MatchResult result
         (λ x. IsWrittenMaxLen text.now x.0 x.1)
@@ -108,7 +108,7 @@ fn prefix_and_max_len(text: &str) -> Result<(Prefix, Option<u8>), ParseMaxLenPre
     }
 }
 
-/// The prefix, and where a greatest length is told, a dash and that length, as `10.0.0.0/8-24`.
+/// The prefix, and where a greatest length is given, a dash and that length, as `10.0.0.0/8-24`.
 impl Display for MaxLenPrefix {
     ghost output = { λ m. Some (max_len_text m) };
 

@@ -15,7 +15,7 @@ pub(crate) fn is_end(octets: &[u8]) -> bool
     matches!(octets, [] | [b'\n'] | [b'\r', b'\n'])
 }
 
-/// The moment that a text of one line tells.
+/// The moment that a text of one line states.
 pub(crate) fn moment_of(text: &[u8]) -> Option<Time>
     ensures found { IfSome result (λ moment. TellsMoment text.now moment) }
     ensures none { IfNone result ((moment : ℕ) → TellsMoment text.now moment → ⊥) }
@@ -29,7 +29,7 @@ pub(crate) fn moment_of(text: &[u8]) -> Option<Time>
     Time::from_generalized(line)
 }
 
-/// The depth that a text of one line tells.
+/// The depth that a text of one line states.
 pub(crate) fn depth_of(text: &[u8]) -> Option<u8>
     ensures found { IfSome result (λ depth. TellsDepth text.now depth) }
     ensures none { IfNone result ((depth : ℕ) → TellsDepth text.now depth → ⊥) }

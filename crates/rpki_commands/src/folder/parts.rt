@@ -84,7 +84,7 @@ fn sorted_verdicts(mut verdicts: Vec<Verdict>) -> Vec<Verdict>
     verdicts
 }
 
-/// The parts that the contents of a folder tell. Lists keep what was read, entries that occur twice included.
+/// The parts that the contents of a folder give. Lists keep what was read, entries that occur twice included.
 pub fn parts_of(alloc: Global, contents: Contents) -> Result<Parts, BundleError>
     ensures ok { IfOk result (λ parts. TellsParts contents parts) }
     ensures refused { IfErr result

@@ -12,7 +12,7 @@ use std::alloc::Global;
 // How many digits a digest has.
 const DIGITS: usize = 64;
 
-// The digest in front, and what is behind its digits.
+// The digest in front, and what comes after its digits.
 fn take_digest(text: &[u8]) -> Option<([u8; 32], &[u8])>
     ensures found { IfSome result (λ r. TakesDigest text.now r.0 r.1.now) }
     ensures none { IfNone result ((digest rest : List ℕ) → TakesDigest text.now digest rest → ⊥) }
@@ -26,7 +26,7 @@ fn take_digest(text: &[u8]) -> Option<([u8; 32], &[u8])>
     }
 }
 
-// The digest behind a space in front, and what is behind its digits.
+// The digest after a space in front, and what comes after its digits.
 fn take_next_digest(text: &[u8]) -> Option<([u8; 32], &[u8])>
     ensures found { IfSome result (λ r. TakesNextDigest text.now r.0 r.1.now) }
     ensures none { IfNone result
@@ -38,7 +38,7 @@ fn take_next_digest(text: &[u8]) -> Option<([u8; 32], &[u8])>
     }
 }
 
-// What is behind a line feed.
+// What comes after a line feed.
 fn behind_line_feed(text: &[u8]) -> Option<&[u8]>
     ensures found { IfSome result (λ rest. text.now ≡ 10 ∷ rest.now) }
     ensures none { IfNone result ((rest : List ℕ) → text.now ≡ 10 ∷ rest → ⊥) }
@@ -49,7 +49,7 @@ fn behind_line_feed(text: &[u8]) -> Option<&[u8]>
     }
 }
 
-// What is behind a line end; nothing is behind a missing one.
+// What comes after a line end; nothing comes after a missing one.
 fn behind_end(text: &[u8]) -> Option<&[u8]>
     ensures found { IfSome result (λ rest. TakesEnd text.now rest.now) }
     ensures none { IfNone result ((rest : List ℕ) → TakesEnd text.now rest → ⊥) }
@@ -62,7 +62,7 @@ fn behind_end(text: &[u8]) -> Option<&[u8]>
     }
 }
 
-// The verdict of the line in front, and what is behind its end.
+// The verdict of the line in front, and what comes after its end.
 fn take_verdict(text: &[u8]) -> Option<(Verdict, &[u8])>
     ensures found { IfSome result (λ r. TakesVerdict text.now r.0 r.1.now) }
     ensures none { IfNone result

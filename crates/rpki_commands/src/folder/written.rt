@@ -1,4 +1,4 @@
-//! The bundle that a folder tells, written.
+//! The bundle that a folder gives, written.
 
 ghost use Rattle.std.specs.Prelude.{◌≡◌, ◌<◌, ◌-◌, ◌^◌, IfOk, IfErr, OnOk, MatchResult};
 ghost use Rattle.rpki_commands.specs.rpki_bundle.Errors.{OnNotABundle};
@@ -12,7 +12,7 @@ use std::alloc::Global;
 use std::io::Write;
 use std::rt::Files;
 
-/// The octets of the bundle that the contents of a folder tell.
+/// The octets of the bundle that the contents of a folder give.
 pub fn text_of(alloc: Global, contents: Contents) -> Result<Vec<u8>, BundleError>
     ensures ok { IfOk result (λ text. TellsText contents text.items) }
     ensures refused { IfErr result (λ e. OnNotABundle e (TellsNoText contents)) }
@@ -37,7 +37,7 @@ pub fn text_of(alloc: Global, contents: Contents) -> Result<Vec<u8>, BundleError
     }
 }
 
-/// Writes the bundle that the contents of a folder tell. Nothing is written before all of it is made.
+/// Writes the bundle that the contents of a folder give. Nothing is written before all of it is made.
 pub fn write_contents<W: Write>(
     alloc: Global,
     contents: Contents,
@@ -63,7 +63,7 @@ pub fn write_contents<W: Write>(
     }
 }
 
-/// Reads a folder, and writes the bundle that it tells. Nothing is written before all was read.
+/// Reads a folder, and writes the bundle that it gives. Nothing is written before all was read.
 pub fn write_bundle<R: Files + AllocGlobal + Clone + Drop, W: Write>(
     rt: &R,
     alloc: Global,

@@ -9,7 +9,7 @@ use Rattle.bcder_header.proofs.header.enter_at.Goals as goal
 pub returns-in_default-clause-none : goal.returns-in_default-clause-none
 returns-in_default-clause-none g c = λ t h. no_start (record { head = h.head; whole = h.whole }) (λ span st. c.in_default.ensures.none span (subst (λ (n : ℕ). Starts c.args.mode c.args.source.now.limit c.args.constructed c.args.length n span) h.long st))
 
--- The view behind the header, by the length.
+-- The view after the header, by the length.
 abbrev behind : (rest : List ℕ) (limit : Option ℕ) → Length → View
 behind rest limit l = record { rest = rest; limit = inner_limit l limit }
 

@@ -1,4 +1,4 @@
--- A method, and what it tells.
+-- A method, and what it says.
 use Rattle.std.proofs.Common.{ℕ, List, Option, Some, None, refl}
 use Rattle.certs_basics.specs.Lists.{Mem}
 use Rattle.certs_access.specs.bcder_tree.declared.mode.Mode.{Mode}

@@ -1,4 +1,4 @@
--- The scheme has 8 octets, and behind it stands the host.
+-- The scheme has 8 octets, and after it comes the host.
 use Rattle.std.proofs.Common.{◌+◌}
 use Rattle.certs_uri.proofs.UriTexts.{lookup_key-split}
 use Rattle.certs_uri.proofs.grammar.folded_len.Goals as goal

@@ -1,4 +1,4 @@
--- The scheme, and what stands behind it.
+-- The scheme, and what comes after it.
 use Rattle.std.proofs.Common.{arith}
 use Rattle.std.proofs.lemmas.Bool.Decides.{nat_tests}
 use Rattle.certs_uri.proofs.UriTexts.{HasScheme-from_https, IsHttps-from_parts}

@@ -1,4 +1,4 @@
--- The scheme, and what stands behind it.
+-- The scheme, and what comes after it.
 use Rattle.certs_uri.proofs.UriTexts.{HasScheme-from_rsync, IsRsync-from_parts}
 use Rattle.certs_uri.proofs.grammar.is_rsync.Goals as goal
 

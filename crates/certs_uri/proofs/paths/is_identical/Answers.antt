@@ -1,4 +1,4 @@
--- Lookup keys are the same where scheme and host are but for case, and what stands behind them is.
+-- Lookup keys are the same where scheme and host are but for case, and what comes after them is.
 use Rattle.std.proofs.Common.{refl, sym, ◌∙◌}
 use Rattle.std.proofs.lemmas.Bool.{false≢true}
 use Rattle.std.proofs.lemmas.Bool.Decides.{Decides-eqb}
