@@ -8,3 +8,5 @@ pub mod Writing
 pub mod of_bcder_content
 pub mod of_bcder_octets
 pub mod of_resources_chain
+pub mod ReadLemmas
+pub mod PrintLemmas

@@ -2,6 +2,7 @@ pub mod Range
 pub mod Block
 pub mod BlockEq
 pub mod BlockText
+pub mod ReadTexts
 pub mod Cover
 pub mod BlockEncodings
 pub mod Written
@@ -23,5 +24,6 @@ pub use Rattle.resources_ip_prefix.specs.bcder_source as bcder_source
 pub use Rattle.resources_ip_prefix.specs.bcder_tree as bcder_tree
 pub use Rattle.resources_ip_prefix.specs.bcder_values as bcder_values
 pub use Rattle.resources_ip_prefix.specs.bcder_written as bcder_written
+pub use Rattle.resources_ip_prefix.specs.resources_addr as resources_addr
 pub use Rattle.resources_ip_prefix.specs.resources_chain as resources_chain
 pub use Rattle.resources_ip_prefix.specs as resources_ip_prefix
