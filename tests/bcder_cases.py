@@ -1,17 +1,29 @@
 #!/usr/bin/env python3
-"""Writes the questions and answers of crates/bcder_cases: tests/bcder_cases.py
+"""Writes the questions and answers of the programs of questions about the codec: tests/bcder_cases.py
+
+crates/bcder_cases is asked about sources and headers, crates/bcder_content_cases about contents,
+crates/bcder_values_cases about values and numbers, crates/bcder_strings_cases about identifiers and strings, and
+crates/bcder_written_cases about what is written.
 
 The answers come from Python's own integers and texts, from small readers and writers of this script after X.690, from
 examples of X.690, RFC 3629 and OpenSSL, and from the worked cases `codec-core-cases`, `string-cases` and
-`codec-values`. The questions and answers that `bcder_answers.py` recorded of the Rust crate stand in front. The gate
-runs the program on `stdin`, and compares what it prints with `stdout`.
+`codec-values`. The questions and answers that `bcder_answers.py` recorded of the Rust crate come first. The gate runs
+each program on its `stdin`, and compares what it prints with `stdout`.
 """
 
 import pathlib
 import random
 
 TESTS = pathlib.Path(__file__).resolve().parent
-FOLDER = TESTS.parent / "crates" / "bcder_cases"
+CRATES = TESTS.parent / "crates"
+# The topics of each program: the first word of a question.
+PROGRAMS = {
+    "bcder_cases": "tag length source",
+    "bcder_content_cases": "content fails dry skip tagged",
+    "bcder_values_cases": "front number integer unsigned",
+    "bcder_strings_cases": "oid bits octets text string",
+    "bcder_written_cases": "write",
+}
 MODES = ("ber", "cer", "der")
 rng = random.Random(690)
 
@@ -1039,9 +1051,11 @@ def main():
         identifiers, octet_strings, texts, strings, writing, lists, refusing_writers, forms,
     ):  # fmt: skip
         topic(q)
-    (FOLDER / "stdin").write_text("".join(f"{question}\n" for question, _ in q.rows))
-    (FOLDER / "stdout").write_text("".join(f"{answer}\n" for _, answer in q.rows))
-    print(len(q.rows), "questions")
+    for name, topics in PROGRAMS.items():
+        rows = [row for row in q.rows if row[0].split("\t")[0] in topics.split()]
+        (CRATES / name / "stdin").write_text("".join(f"{question}\n" for question, _ in rows))
+        (CRATES / name / "stdout").write_text("".join(f"{answer}\n" for _, answer in rows))
+        print(len(rows), "questions of", name)
 
 
 if __name__ == "__main__":

@@ -1,62 +1,105 @@
-//! How answers are printed.
+//! The answer to a question, word by word.
 
 use bcder::decode::DecodeError;
 use bytes::Bytes;
-use std::alloc::{AllocError, Global};
-use std::fmt::Debug;
+use std::alloc::Global;
+use std::fmt::{Debug, Display};
 
-/// What has no memory left has no answer.
-pub type Answer = Result<String, AllocError>;
-
-/// A value as it is printed for who debugs.
-pub fn shown<T: Debug + Drop>(alloc: Global, value: T) -> Answer {
-    format!(in alloc; "{value:?}")
+/// The words of an answer, with a space between. A word that finds no memory is left out, and shows by that.
+#[derive(Drop)]
+pub struct Answer {
+    text: String,
 }
 
-/// Octets in hexadecimal digits, behind an `x`.
-pub fn digits(alloc: Global, octets: &[u8]) -> Answer {
-    let digits = hex::encode(alloc, octets)?;
-    format!(in alloc; "x{digits}")
-}
+impl Answer {
+    /// No words yet.
+    pub fn new(alloc: Global) -> Self {
+        Answer {
+            text: String::new(alloc),
+        }
+    }
 
-/// How a read is refused: by the octets, by the source, or for want of memory.
-pub fn refusal<E: Drop>(alloc: Global, error: DecodeError<E>) -> Answer {
-    let word = match error {
-        DecodeError::Content(_, _) => "refused",
-        DecodeError::Source(_) => "fault",
-        DecodeError::Memory => "memory",
-    };
-    word.to_string(alloc)
-}
+    /// All words.
+    pub fn text(&self) -> &str {
+        self.text.as_str()
+    }
 
-/// What was read, or how that was refused.
-pub fn told<T: Debug + Drop, E: Drop>(alloc: Global, read: Result<T, DecodeError<E>>) -> Answer {
-    match read {
-        Ok(value) => shown(alloc, value),
-        Err(error) => refusal(alloc, error),
+    /// One more word.
+    pub fn word(&mut self, word: &str) {
+        if !self.text.is_empty() {
+            let _ = self.text.push_str(" ");
+        }
+        let _ = self.text.push_str(word);
+    }
+
+    /// More of the last word.
+    pub fn join(&mut self, more: &str) {
+        let _ = self.text.push_str(more);
+    }
+
+    /// One more word, as `Display` prints it.
+    pub fn say<T: Display>(&mut self, word: &T) {
+        self.word("");
+        let _ = write!(self.text, "{word}");
+    }
+
+    /// One more word, as `Debug` prints it.
+    pub fn show<T: Debug>(&mut self, word: &T) {
+        self.word("");
+        let _ = write!(self.text, "{word:?}");
+    }
+
+    /// That a question isn't known.
+    pub fn unknown(&mut self) {
+        self.word("no such question");
+    }
+
+    /// Octets in hexadecimal digits, after an `x`.
+    pub fn octets(&mut self, octets: &[u8]) {
+        self.word("x");
+        for octet in octets {
+            let _ = write!(self.text, "{octet:02x}");
+        }
+    }
+
+    /// How a read is refused: by the octets, by the source, or for lack of memory.
+    pub fn refuse<E: Drop>(&mut self, error: DecodeError<E>) {
+        match error {
+            DecodeError::Content(_, _) => self.word("refused"),
+            DecodeError::Source(_) => self.word("fault"),
+            DecodeError::Memory => self.word("memory"),
+        }
+    }
+
+    /// What was read, or how it was refused.
+    pub fn outcome<T: Debug + Drop, E: Drop>(&mut self, read: Result<T, DecodeError<E>>) {
+        match read {
+            Ok(value) => self.show(&value),
+            Err(error) => self.refuse(error),
+        }
+    }
+
+    /// The octets that were read, or how they were refused.
+    pub fn taken<E: Drop>(&mut self, read: Result<Bytes, DecodeError<E>>) {
+        match read {
+            Ok(bytes) => self.octets(bytes.as_slice()),
+            Err(error) => self.refuse(error),
+        }
+    }
+
+    /// What a source gave, or that it failed.
+    pub fn given<T: Debug + Drop, E: Drop>(&mut self, given: Result<T, E>) {
+        match given {
+            Ok(value) => self.show(&value),
+            Err(_) => self.word("fault"),
+        }
     }
 }
 
-/// The octets that were read, or how that was refused.
-pub fn octets<E: Drop>(alloc: Global, read: Result<Bytes, DecodeError<E>>) -> Answer {
-    match read {
-        Ok(bytes) => digits(alloc, bytes.as_slice()),
-        Err(error) => refusal(alloc, error),
-    }
-}
-
-/// The text that was made of what was read, or how that was refused.
-pub fn text<E: Drop>(alloc: Global, read: Result<String, DecodeError<E>>) -> Answer {
-    match read {
-        Ok(text) => Ok(text),
-        Err(error) => refusal(alloc, error),
-    }
-}
-
-/// A result, without its error.
-pub fn plain<T: Debug + Drop, E: Drop>(alloc: Global, made: Result<T, E>) -> Answer {
-    match made {
-        Ok(value) => shown(alloc, value),
-        Err(_) => "fault".to_string(alloc),
+/// The octets of hexadecimal digits; none where the word has others.
+pub fn octets_of(alloc: Global, word: &str) -> Vec<u8> {
+    match hex::decode(alloc, word) {
+        Ok(octets) => octets,
+        Err(_) => Vec::new(alloc),
     }
 }

@@ -1,9 +1,7 @@
 //! Steps, of which the answers stand in a row.
 
 use crate::answers::Answer;
-use crate::tags::named_tag;
-use bcder::Tag;
-use std::alloc::{AllocError, Global};
+use std::alloc::Global;
 
 /// A step: a name, and up to two words for it.
 #[derive(Clone, Copy)]
@@ -14,7 +12,7 @@ pub struct Step<'a> {
 }
 
 impl<'a> Step<'a> {
-    /// The step that words with spaces between tell.
+    /// The step of a text: its words, with a space between.
     pub fn of(text: &'a str) -> Step<'a> {
         let (name, others) = text.split_once(' ').unwrap_or((text, ""));
         let (first, second) = others.split_once(' ').unwrap_or((others, ""));
@@ -25,18 +23,12 @@ impl<'a> Step<'a> {
         }
     }
 
-    /// The number that the first word tells, or 0.
+    /// The first word as a number; 0 where it is none.
     pub fn count(self) -> usize {
         self.first.parse::<usize>().unwrap_or(0)
     }
 
-    /// The tag of the second word, and the word behind it.
-    pub fn tag_and_word(self) -> (Tag, &'a str) {
-        let (name, word) = self.second.split_once(' ').unwrap_or((self.second, ""));
-        (named_tag(name), word)
-    }
-
-    /// The octet that the first word tells, or 0.
+    /// The first word as an octet; 0 where it is none.
     pub fn octet(self) -> u8 {
         self.first.parse::<u8>().unwrap_or(0)
     }
@@ -44,24 +36,13 @@ impl<'a> Step<'a> {
 
 /// What takes steps.
 pub trait Steps {
-    /// The answer to a step.
-    fn step(&mut self, alloc: Global, step: Step<'_>) -> Answer;
+    /// Says the answer to a step.
+    fn step(&mut self, alloc: Global, answer: &mut Answer, step: Step<'_>);
 }
 
-/// The answers to all steps.
-pub fn run<T: Steps>(alloc: Global, on: &mut T, words: &[&str]) -> Answer {
-    let mut text = String::new(alloc);
+/// Says the answers to all steps.
+pub fn run<T: Steps>(alloc: Global, answer: &mut Answer, on: &mut T, words: &[&str]) {
     for word in words {
-        let answer = on.step(alloc, Step::of(*word))?;
-        push(&mut text, answer.as_str())?;
+        on.step(alloc, answer, Step::of(*word));
     }
-    Ok(text)
-}
-
-/// Adds an answer.
-pub fn push(text: &mut String, answer: &str) -> Result<(), AllocError> {
-    if !text.is_empty() {
-        text.push_str(" ")?;
-    }
-    text.push_str(answer)
 }

@@ -1,65 +1,103 @@
 //! Tags and lengths, and the octets of both.
 
-use crate::answers::{Answer, digits, shown};
-use anyhow::{Result, anyhow};
+use crate::answers::{Answer, octets_of};
 use bcder::{Length, Tag};
 use std::alloc::Global;
 
-// The tags that have names.
-const NAMED: [(&str, Tag); 43] = [
-    ("END_OF_VALUE", Tag::END_OF_VALUE),
-    ("BOOLEAN", Tag::BOOLEAN),
-    ("INTEGER", Tag::INTEGER),
-    ("BIT_STRING", Tag::BIT_STRING),
-    ("OCTET_STRING", Tag::OCTET_STRING),
-    ("NULL", Tag::NULL),
-    ("OID", Tag::OID),
-    ("OBJECT_DESCRIPTOR", Tag::OBJECT_DESCRIPTOR),
-    ("EXTERNAL", Tag::EXTERNAL),
-    ("REAL", Tag::REAL),
-    ("ENUMERATED", Tag::ENUMERATED),
-    ("EMBEDDED_PDV", Tag::EMBEDDED_PDV),
-    ("UTF8_STRING", Tag::UTF8_STRING),
-    ("RELATIVE_OID", Tag::RELATIVE_OID),
-    ("TIME", Tag::TIME),
-    ("SEQUENCE", Tag::SEQUENCE),
-    ("SET", Tag::SET),
-    ("NUMERIC_STRING", Tag::NUMERIC_STRING),
-    ("PRINTABLE_STRING", Tag::PRINTABLE_STRING),
-    ("TELETEX_STRING", Tag::TELETEX_STRING),
-    ("VIDEOTEX_STRING", Tag::VIDEOTEX_STRING),
-    ("IA5_STRING", Tag::IA5_STRING),
-    ("UTC_TIME", Tag::UTC_TIME),
-    ("GENERALIZED_TIME", Tag::GENERALIZED_TIME),
-    ("GRAPHIC_STRING", Tag::GRAPHIC_STRING),
-    ("VISIBLE_STRING", Tag::VISIBLE_STRING),
-    ("GENERAL_STRING", Tag::GENERAL_STRING),
-    ("UNIVERSAL_STRING", Tag::UNIVERSAL_STRING),
-    ("CHARACTER_STRING", Tag::CHARACTER_STRING),
-    ("BMP_STRING", Tag::BMP_STRING),
-    ("DATE", Tag::DATE),
-    ("TIME_OF_DAY", Tag::TIME_OF_DAY),
-    ("DATE_TIME", Tag::DATE_TIME),
-    ("DURATION", Tag::DURATION),
-    ("OID_IRI", Tag::OID_IRI),
-    ("RELATIVE_OID_IRI", Tag::RELATIVE_OID_IRI),
-    ("CTX_0", Tag::CTX_0),
-    ("CTX_1", Tag::CTX_1),
-    ("CTX_2", Tag::CTX_2),
-    ("CTX_3", Tag::CTX_3),
-    ("CTX_4", Tag::CTX_4),
-    ("CTX_5", Tag::CTX_5),
-    ("CTX_6", Tag::CTX_6),
-];
+/// The names of tags up to that of SET, by their numbers (X.680 8.4).
+const TYPES: &str = "END_OF_VALUE BOOLEAN INTEGER BIT_STRING OCTET_STRING NULL OID \
+    OBJECT_DESCRIPTOR EXTERNAL REAL ENUMERATED EMBEDDED_PDV UTF8_STRING RELATIVE_OID TIME SEQUENCE \
+    SET";
+
+/// The names of the tags of strings and times.
+const STRINGS: &str = "NUMERIC_STRING PRINTABLE_STRING TELETEX_STRING VIDEOTEX_STRING IA5_STRING \
+    UTC_TIME GENERALIZED_TIME GRAPHIC_STRING VISIBLE_STRING GENERAL_STRING UNIVERSAL_STRING \
+    CHARACTER_STRING BMP_STRING";
+
+/// The names of the other tags.
+const OTHERS: &str = "DATE TIME_OF_DAY DATE_TIME DURATION OID_IRI RELATIVE_OID_IRI CTX_0 CTX_1 \
+    CTX_2 CTX_3 CTX_4 CTX_5 CTX_6";
+
+// The tag in the place of a name among names with spaces between.
+fn find(name: &str, names: &str, tags: &[Tag]) -> Option<Tag> {
+    for (other, tag) in names.split(' ').zip(tags.iter()) {
+        if other == name {
+            return Some(*tag);
+        }
+    }
+    None
+}
+
+// The tag of a type up to SET.
+fn types(name: &str) -> Option<Tag> {
+    let tags = [
+        Tag::END_OF_VALUE,
+        Tag::BOOLEAN,
+        Tag::INTEGER,
+        Tag::BIT_STRING,
+        Tag::OCTET_STRING,
+        Tag::NULL,
+        Tag::OID,
+        Tag::OBJECT_DESCRIPTOR,
+        Tag::EXTERNAL,
+        Tag::REAL,
+        Tag::ENUMERATED,
+        Tag::EMBEDDED_PDV,
+        Tag::UTF8_STRING,
+        Tag::RELATIVE_OID,
+        Tag::TIME,
+        Tag::SEQUENCE,
+        Tag::SET,
+    ];
+    find(name, TYPES, &tags)
+}
+
+// The tag of a string or time.
+fn strings(name: &str) -> Option<Tag> {
+    let tags = [
+        Tag::NUMERIC_STRING,
+        Tag::PRINTABLE_STRING,
+        Tag::TELETEX_STRING,
+        Tag::VIDEOTEX_STRING,
+        Tag::IA5_STRING,
+        Tag::UTC_TIME,
+        Tag::GENERALIZED_TIME,
+        Tag::GRAPHIC_STRING,
+        Tag::VISIBLE_STRING,
+        Tag::GENERAL_STRING,
+        Tag::UNIVERSAL_STRING,
+        Tag::CHARACTER_STRING,
+        Tag::BMP_STRING,
+    ];
+    find(name, STRINGS, &tags)
+}
+
+// Any other tag.
+fn others(name: &str) -> Option<Tag> {
+    let tags = [
+        Tag::DATE,
+        Tag::TIME_OF_DAY,
+        Tag::DATE_TIME,
+        Tag::DURATION,
+        Tag::OID_IRI,
+        Tag::RELATIVE_OID_IRI,
+        Tag::CTX_0,
+        Tag::CTX_1,
+        Tag::CTX_2,
+        Tag::CTX_3,
+        Tag::CTX_4,
+        Tag::CTX_5,
+        Tag::CTX_6,
+    ];
+    find(name, OTHERS, &tags)
+}
 
 /// The tag with that name; NULL where none has it.
 pub fn named_tag(name: &str) -> Tag {
-    for (other, tag) in &NAMED {
-        if *other == name {
-            return *tag;
-        }
-    }
-    Tag::NULL
+    types(name)
+        .or(strings(name))
+        .or(others(name))
+        .unwrap_or(Tag::NULL)
 }
 
 /// The greatest number that a tag has.
@@ -80,86 +118,99 @@ fn tag(class: &str, number: &str) -> Option<Tag> {
 }
 
 // Of which class a tag is.
-fn classes(alloc: Global, tag: Tag) -> Answer {
-    let classes = [
+fn classes(answer: &mut Answer, tag: Tag) {
+    answer.show(&[
         tag.is_universal(),
         tag.is_application(),
         tag.is_context_specific(),
         tag.is_private(),
-    ];
-    shown(alloc, classes)
+    ]);
 }
 
 // The identifier octets of either form.
-fn written(alloc: Global, tag: Tag) -> Result<String> {
+fn written(alloc: Global, answer: &mut Answer, tag: Tag) {
     let mut octets: Vec<u8> = Vec::new(alloc);
-    tag.write_encoded(false, &mut octets)?;
-    tag.write_encoded(true, &mut octets)?;
-    Ok(digits(alloc, octets.as_slice())?)
+    let _ = tag.write_encoded(false, &mut octets);
+    let _ = tag.write_encoded(true, &mut octets);
+    answer.octets(octets.as_slice());
 }
 
 // All that is known of a tag.
-fn known(alloc: Global, tag: Tag) -> Result<String> {
-    let (number, len) = (tag.number(), tag.encoded_len());
-    let classes = classes(alloc, tag)?;
-    let octets = written(alloc, tag)?;
-    Ok(format!(in alloc; "{tag} {tag:?} {number} {classes} {len} {octets}")?)
+fn known(alloc: Global, answer: &mut Answer, tag: Tag) {
+    answer.say(&tag);
+    answer.show(&tag);
+    answer.say(&tag.number());
+    classes(answer, tag);
+    answer.say(&tag.encoded_len());
+    written(alloc, answer, tag);
+}
+
+// What is known of the tag of a class and a number.
+fn of_class(alloc: Global, answer: &mut Answer, class: &str, number: &str) {
+    match tag(class, number) {
+        Some(tag) => known(alloc, answer, tag),
+        None => answer.word("no such tag"),
+    }
+}
+
+fn read(alloc: Global, answer: &mut Answer, digits: &str) {
+    answer.show(&Tag::read(octets_of(alloc, digits).as_slice()));
+}
+
+fn is_end(alloc: Global, answer: &mut Answer, digits: &str) {
+    answer.show(&Tag::is_end(octets_of(alloc, digits).as_slice()));
 }
 
 /// What is known of a tag that has a name, or a class and a number; which one is in front of octets, and whether
 /// end-of-contents octets are.
-pub fn answer(alloc: Global, words: &[&str]) -> Result<String> {
+pub fn answer(alloc: Global, answer: &mut Answer, words: &[&str]) {
     match words {
-        ["named", name] => known(alloc, named_tag(*name)),
-        ["of", class, number] => match tag(*class, *number) {
-            Some(tag) => known(alloc, tag),
-            None => Err(anyhow!("no such tag")),
-        },
-        ["read", octets] => {
-            let octets = hex::decode(alloc, *octets)?;
-            Ok(shown(alloc, Tag::read(octets.as_slice()))?)
-        }
-        ["is-end", octets] => {
-            let octets = hex::decode(alloc, *octets)?;
-            Ok(shown(alloc, Tag::is_end(octets.as_slice()))?)
-        }
-        ["same", one, other] => Ok(shown(alloc, named_tag(*one) == named_tag(*other))?),
-        _ => Err(anyhow!("no tag")),
+        ["named", name] => known(alloc, answer, named_tag(*name)),
+        ["of", class, number] => of_class(alloc, answer, *class, *number),
+        ["read", digits] => read(alloc, answer, *digits),
+        ["is-end", digits] => is_end(alloc, answer, *digits),
+        ["same", one, other] => answer.say(&(named_tag(*one) == named_tag(*other))),
+        _ => answer.unknown(),
     }
 }
 
-// The octets of a length.
-fn length_written(alloc: Global, length: u32) -> Result<String> {
-    let mut octets: Vec<u8> = Vec::new(alloc);
+// How many octets a length is, whether it is zero, and its octets.
+fn length_written(alloc: Global, answer: &mut Answer, length: u32) {
     let length = Length::Definite(length as usize);
-    length.write_encoded(&mut octets)?;
-    let (len, is_zero) = (length.encoded_len(), length.is_zero());
-    let octets = digits(alloc, octets.as_slice())?;
-    Ok(format!(in alloc; "{len} {is_zero} {octets}")?)
+    let mut octets: Vec<u8> = Vec::new(alloc);
+    let _ = length.write_encoded(&mut octets);
+    answer.say(&length.encoded_len());
+    answer.say(&length.is_zero());
+    answer.octets(octets.as_slice());
 }
 
-// The octets of an indefinite length.
-fn indefinite_written(alloc: Global) -> Result<String> {
+// How many octets an indefinite length is, whether it is zero, and its octets.
+fn indefinite_written(alloc: Global, answer: &mut Answer) {
     let mut octets: Vec<u8> = Vec::new(alloc);
-    Length::Indefinite.write_encoded(&mut octets)?;
-    let (len, is_zero) = (
-        Length::Indefinite.encoded_len(),
-        Length::Indefinite.is_zero(),
-    );
-    let octets = digits(alloc, octets.as_slice())?;
-    Ok(format!(in alloc; "{len} {is_zero} {octets}")?)
+    let _ = Length::Indefinite.write_encoded(&mut octets);
+    answer.say(&Length::Indefinite.encoded_len());
+    answer.say(&Length::Indefinite.is_zero());
+    answer.octets(octets.as_slice());
+}
+
+// The octets of the length of a word.
+fn length_of(alloc: Global, answer: &mut Answer, word: &str) {
+    match word.parse::<u32>() {
+        Ok(length) => length_written(alloc, answer, length),
+        Err(_) => indefinite_written(alloc, answer),
+    }
+}
+
+fn read_length(alloc: Global, answer: &mut Answer, mode: &str, digits: &str) {
+    let octets = octets_of(alloc, digits);
+    answer.show(&Length::read(crate::mode(mode), octets.as_slice()));
 }
 
 /// Which length is in front of octets in a mode, and the octets of a length.
-pub fn length(alloc: Global, words: &[&str]) -> Result<String> {
+pub fn length(alloc: Global, answer: &mut Answer, words: &[&str]) {
     match words {
-        ["read", mode, octets] => {
-            let octets = hex::decode(alloc, *octets)?;
-            let read = Length::read(crate::mode(*mode), octets.as_slice());
-            Ok(shown(alloc, read)?)
-        }
-        ["of", "indefinite"] => indefinite_written(alloc),
-        ["of", number] => length_written(alloc, number.parse::<u32>()?),
-        _ => Err(anyhow!("no length")),
+        ["read", mode, digits] => read_length(alloc, answer, *mode, *digits),
+        ["of", length] => length_of(alloc, answer, *length),
+        _ => answer.unknown(),
     }
 }

@@ -1,4 +1,4 @@
-//! A source that gives what it is asked for, and fails or has no memory where that is wanted.
+//! A source that gives what it is asked for, and fails where that is wanted.
 
 ghost use Rattle.std.specs.Prelude.{◌-◌, ◌^◌, ◌<◌, ◌≤◌, length};
 
@@ -28,12 +28,8 @@ pub struct Trickle<'a> {
     taken: usize,
     // How many octets are at hand.
     good: usize,
-    // How many requests are answered before one that fails.
-    before: usize,
     // How many octets can be given: to ask for more fails, each time.
     most: usize,
-    // How many requests are made before there is memory for octets that are kept.
-    dry: usize,
     ghost there: { good ≤ length octets.now },
     ghost small: { length octets.now < 2 ^ 63 },
 }
@@ -45,30 +41,14 @@ impl<'a> Trickle<'a> {
             octets,
             taken: 0,
             good: 0,
-            before: usize::MAX,
             most: usize::MAX,
-            dry: 0,
         }
-    }
-
-    /// Answers so many requests, and then fails once.
-    pub fn failing_behind(octets: &'a [u8], before: usize) -> Trickle<'a> {
-        let mut source = Trickle::new(octets);
-        source.before = before;
-        source
     }
 
     /// Fails where more than so many octets are asked for.
     pub fn failing_above(octets: &'a [u8], most: usize) -> Trickle<'a> {
         let mut source = Trickle::new(octets);
         source.most = most;
-        source
-    }
-
-    /// Has memory from so many requests on.
-    pub fn dry(octets: &'a [u8], dry: usize) -> Trickle<'a> {
-        let mut source = Trickle::new(octets);
-        source.dry = dry;
         source
     }
 }
@@ -88,15 +68,9 @@ impl<'a> Source for Trickle<'a> {
 
     fn request(&mut self, len: usize) -> Result<usize, Fault> {
         let wanted = len.min(self.octets.len());
-        self.dry = self.dry.saturating_sub(1);
-        if self.before == 0 {
-            self.before = usize::MAX;
-            return Err(Fault);
-        }
         if wanted > self.most {
             return Err(Fault);
         }
-        self.before = self.before.saturating_sub(1);
         self.good = self.good.max(wanted);
         Ok(self.good)
     }
@@ -106,9 +80,6 @@ impl<'a> Source for Trickle<'a> {
     }
 
     fn bytes(&self, alloc: Global, start: usize, end: usize) -> Result<Bytes, AllocError> {
-        if self.dry > 0 {
-            return Err(AllocError);
-        }
         Bytes::copy_from_slice(alloc, &self.octets[start..end])
     }
 
@@ -117,9 +88,7 @@ impl<'a> Source for Trickle<'a> {
             octets: &self.octets[len..],
             taken: self.taken.saturating_add(len),
             good: self.good - len,
-            before: self.before,
             most: self.most.saturating_sub(len),
-            dry: self.dry,
         };
     }
 }

@@ -1,0 +1,46 @@
+//! The errors of reading, printed.
+
+use crate::answers::Answer;
+use crate::trickle::Fault;
+use bcder::Tag;
+use bcder::decode::{ContentError, DecodeError, Pos};
+use std::alloc::{AllocError, AllocFailed, Global};
+use std::convert::Infallible;
+
+// One more error, and a semicolon after it.
+fn said<E: std::fmt::Display + Drop>(answer: &mut Answer, error: E) {
+    answer.say(&error);
+    answer.join(";");
+}
+
+// Octets that are refused at a position that is a sum.
+fn unexpected() -> DecodeError<Infallible> {
+    let error = ContentError::from_static("unexpected");
+    DecodeError::content(error, Pos::from(3) + Pos::from(4))
+}
+
+// An error with a text of its own.
+fn owned(alloc: Global, answer: &mut Answer) {
+    if let Ok(text) = "mine".to_string(alloc) {
+        said(answer, ContentError::from(text));
+    }
+}
+
+/// The errors of contents, as they print themselves.
+pub fn of_contents(alloc: Global, answer: &mut Answer) {
+    let refused: DecodeError<Fault> = unexpected().convert();
+    said(answer, refused);
+    said(answer, ContentError::ExpectedTag(Tag::SEQUENCE));
+    said(answer, ContentError::ExpectedInteger(1));
+    owned(alloc, answer);
+    let fault: DecodeError<Fault> = DecodeError::Source(Fault);
+    answer.say(&fault);
+}
+
+/// The errors of lack of memory, as they print themselves.
+pub fn of_memory(answer: &mut Answer) {
+    let memory: DecodeError<Fault> = DecodeError::from(AllocError);
+    said(answer, memory);
+    let growth: DecodeError<Fault> = DecodeError::from(AllocFailed { value: 1u8 });
+    answer.say(&growth);
+}

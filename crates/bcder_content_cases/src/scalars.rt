@@ -1,0 +1,46 @@
+//! Truths, NULLs and numbers of contents.
+
+use crate::answers::Answer;
+use crate::contents::{Refusal, Values};
+
+/// The value of a type that is next.
+pub fn take(answer: &mut Answer, cons: &mut Values<'_>, kind: &str) {
+    match kind {
+        "bool" => answer.outcome(cons.take_bool()),
+        "null" => answer.outcome(cons.take_null()),
+        "u8" => answer.outcome(cons.take_u8()),
+        "u16" => answer.outcome(cons.take_u16()),
+        "u32" => answer.outcome(cons.take_u32()),
+        _ => answer.outcome(cons.take_u64()),
+    }
+}
+
+/// Reads the value where it is next; else nothing is read.
+pub fn take_opt(answer: &mut Answer, cons: &mut Values<'_>, kind: &str) {
+    match kind {
+        "bool" => answer.outcome(cons.take_opt_bool()),
+        "null" => answer.outcome(cons.take_opt_null()),
+        "u8" => answer.outcome(cons.take_opt_u8()),
+        "u16" => answer.outcome(cons.take_opt_u16()),
+        "u32" => answer.outcome(cons.take_opt_u32()),
+        _ => answer.outcome(cons.take_opt_u64()),
+    }
+}
+
+/// What a closure reads of the values in a value: a number, or 0 for a NULL; or nothing; or it passes over a read that
+/// is refused, and ends or reads on.
+pub fn inner(cons: &mut Values<'_>, word: &str) -> Result<u8, Refusal> {
+    match word {
+        "null" => cons.take_null().map(|()| 0),
+        "nothing" => Ok(1),
+        "over" => {
+            let _ = cons.take_bool();
+            Ok(2)
+        }
+        "again" => {
+            let _ = cons.take_bool();
+            cons.take_u8()
+        }
+        _ => cons.take_u8(),
+    }
+}

@@ -1,0 +1,169 @@
+//! INTEGERs of any size.
+
+use crate::answers::{Answer, octets_of};
+use crate::numbers::{KINDS, Kind};
+use crate::orders::sign;
+use bcder::decode::{DecodeError, Primitive};
+use bcder::int::{InvalidInteger, OverflowError};
+use bcder::{Integer, Mode, Unsigned};
+use std::alloc::{AllocError, Global};
+use std::convert::Infallible;
+
+/// The number with these content octets.
+pub fn number(alloc: Global, octets: &[u8]) -> Result<Integer, DecodeError<Infallible>> {
+    Primitive::decode_slice(
+        octets,
+        Mode::Der,
+        |prim| Integer::from_primitive(alloc, prim),
+    )
+}
+
+// The number whose content octets a word has.
+fn number_of(alloc: Global, word: &str) -> Result<Integer, DecodeError<Infallible>> {
+    number(alloc, octets_of(alloc, word).as_slice())
+}
+
+// The number as one of Rust's types.
+fn converted(answer: &mut Answer, number: &Integer, kind: Kind) {
+    match kind {
+        Kind::U8 => answer.show(&number.to_u8().ok()),
+        Kind::U16 => answer.show(&number.to_u16().ok()),
+        Kind::U32 => answer.show(&number.to_u32().ok()),
+        Kind::U64 => answer.show(&number.to_u64().ok()),
+        Kind::U128 => answer.show(&number.to_u128().ok()),
+        Kind::I8 => answer.show(&number.to_i8().ok()),
+        Kind::I16 => answer.show(&number.to_i16().ok()),
+        Kind::I32 => answer.show(&number.to_i32().ok()),
+        Kind::I64 => answer.show(&number.to_i64().ok()),
+        _ => answer.show(&number.to_i128().ok()),
+    }
+}
+
+// The octets of a number, its sign, and what it is as each type.
+fn known(answer: &mut Answer, number: &Integer) {
+    answer.octets(number.as_bytes().as_slice());
+    answer.show(&[number.is_negative(), number.is_zero(), number.is_positive()]);
+    for kind in &KINDS {
+        converted(answer, number, *kind);
+    }
+}
+
+fn read(alloc: Global, answer: &mut Answer, word: &str) {
+    match number_of(alloc, word) {
+        Ok(number) => known(answer, &number),
+        Err(error) => answer.refuse(error),
+    }
+}
+
+// The number of a text, as one of Rust's types; 0 where the text is none.
+fn made(alloc: Global, kind: &str, number: &str) -> Result<Integer, AllocError> {
+    match kind {
+        "u8" => Integer::from_u8(alloc, number.parse::<u8>().unwrap_or(0)),
+        "u16" => Integer::from_u16(alloc, number.parse::<u16>().unwrap_or(0)),
+        "u32" => Integer::from_u32(alloc, number.parse::<u32>().unwrap_or(0)),
+        "u64" => Integer::from_u64(alloc, number.parse::<u64>().unwrap_or(0)),
+        "u128" => Integer::from_u128(alloc, number.parse::<u128>().unwrap_or(0)),
+        _ => made_signed(alloc, kind, number),
+    }
+}
+
+fn made_signed(alloc: Global, kind: &str, number: &str) -> Result<Integer, AllocError> {
+    match kind {
+        "i8" => Integer::from_i8(alloc, number.parse::<i8>().unwrap_or(0)),
+        "i16" => Integer::from_i16(alloc, number.parse::<i16>().unwrap_or(0)),
+        "i32" => Integer::from_i32(alloc, number.parse::<i32>().unwrap_or(0)),
+        "i64" => Integer::from_i64(alloc, number.parse::<i64>().unwrap_or(0)),
+        _ => Integer::from_i128(alloc, number.parse::<i128>().unwrap_or(0)),
+    }
+}
+
+fn from(alloc: Global, answer: &mut Answer, kind: &str, number: &str) {
+    match made(alloc, kind, number) {
+        Ok(number) => known(answer, &number),
+        Err(_) => answer.word("memory"),
+    }
+}
+
+// The numbers of words.
+fn numbers(alloc: Global, words: &[&str]) -> Vec<Integer> {
+    let mut numbers: Vec<Integer> = Vec::new(alloc);
+    for word in words {
+        if let Ok(number) = number_of(alloc, *word) {
+            let _ = numbers.push(number);
+        }
+    }
+    numbers
+}
+
+// How a number stands to each of some.
+fn order_of(answer: &mut Answer, one: &Integer, numbers: &[Integer]) {
+    for other in numbers {
+        answer.join(sign(one, other));
+    }
+}
+
+// How each of some numbers stands to each.
+fn order(answer: &mut Answer, numbers: &[Integer]) {
+    for one in numbers {
+        order_of(answer, one, numbers);
+    }
+}
+
+// The octets of a copy of a number, and how it stands to the number.
+fn copy_of(answer: &mut Answer, number: &Integer, copy: Integer) {
+    let order = copy.partial_cmp(number);
+    answer.octets(copy.into_bytes().as_slice());
+    answer.show(&order);
+}
+
+fn copied(answer: &mut Answer, number: &Integer) {
+    match number.clone() {
+        Ok(copy) => copy_of(answer, number, copy),
+        Err(_) => answer.word("memory"),
+    }
+}
+
+fn read_copied(alloc: Global, answer: &mut Answer, word: &str) {
+    match number_of(alloc, word) {
+        Ok(number) => copied(answer, &number),
+        Err(error) => answer.refuse(error),
+    }
+}
+
+// Whether a number is one from 0 up.
+fn equals_number(answer: &mut Answer, one: &Integer, other: &Unsigned) {
+    answer.say(&one.equals_unsigned(other));
+}
+
+fn equals(alloc: Global, answer: &mut Answer, one: &str, other: &str) {
+    let other = octets_of(alloc, other);
+    match (
+        number_of(alloc, one),
+        Unsigned::from_slice(alloc, other.as_slice()),
+    ) {
+        (Ok(one), Ok(other)) => equals_number(answer, &one, &other),
+        _ => answer.word("refused"),
+    }
+}
+
+// The errors of numbers, printed.
+fn errors(answer: &mut Answer) {
+    answer.say(&InvalidInteger::Invalid);
+    answer.join(";");
+    answer.say(&InvalidInteger::Memory);
+    answer.join(";");
+    answer.say(&OverflowError);
+}
+
+/// What is known of the number with octets, or of Rust's types; how numbers stand to each other.
+pub fn answer(alloc: Global, answer: &mut Answer, words: &[&str]) {
+    match words {
+        ["read", digits] => read(alloc, answer, *digits),
+        ["copied", digits] => read_copied(alloc, answer, *digits),
+        ["from", kind, number] => from(alloc, answer, *kind, *number),
+        ["equals", one, other] => equals(alloc, answer, *one, *other),
+        ["order", others @ ..] => order(answer, numbers(alloc, others).as_slice()),
+        ["errors"] => errors(answer),
+        _ => answer.unknown(),
+    }
+}

@@ -1,0 +1,161 @@
+//! INTEGERs from 0 up, of any size.
+
+use crate::answers::{Answer, octets_of};
+use crate::integers::number;
+use crate::numbers::{KINDS, Kind};
+use crate::orders::sign;
+use bcder::decode::Primitive;
+use bcder::{Integer, Mode, Unsigned};
+use bytes::Bytes;
+use std::alloc::{AllocError, Global};
+use std::fmt::Debug;
+
+// The number as one of Rust's types.
+fn converted(answer: &mut Answer, number: &Unsigned, kind: Kind) {
+    match kind {
+        Kind::U8 => answer.show(&number.to_u8().ok()),
+        Kind::U16 => answer.show(&number.to_u16().ok()),
+        Kind::U32 => answer.show(&number.to_u32().ok()),
+        Kind::U64 => answer.show(&number.to_u64().ok()),
+        Kind::U128 => answer.show(&number.to_u128().ok()),
+        _ => answer.show(&()),
+    }
+}
+
+// The octets of a number, whether it is 0, and what it is as each type.
+fn known(answer: &mut Answer, number: &Unsigned) {
+    answer.octets(number.as_slice());
+    answer.say(&number.is_zero());
+    for kind in &KINDS {
+        converted(answer, number, *kind);
+    }
+}
+
+fn read(alloc: Global, answer: &mut Answer, octets: &[u8]) {
+    let read = Primitive::decode_slice(
+        octets,
+        Mode::Der,
+        |prim| Unsigned::from_primitive(alloc, prim),
+    );
+    match read {
+        Ok(number) => known(answer, &number),
+        Err(error) => answer.refuse(error),
+    }
+}
+
+// The octets of a number that was made, or why none is.
+fn taken<E: Debug + Drop>(answer: &mut Answer, made: Result<Unsigned, E>) {
+    match made {
+        Ok(number) => answer.octets(number.as_bytes().as_slice()),
+        Err(error) => answer.show(&error),
+    }
+}
+
+// The number of a text, as one of Rust's types; 0 where the text is none.
+fn made(alloc: Global, kind: &str, number: &str) -> Result<Unsigned, AllocError> {
+    match kind {
+        "u8" => Unsigned::from_u8(alloc, number.parse::<u8>().unwrap_or(0)),
+        "u16" => Unsigned::from_u16(alloc, number.parse::<u16>().unwrap_or(0)),
+        "u32" => Unsigned::from_u32(alloc, number.parse::<u32>().unwrap_or(0)),
+        "u64" => Unsigned::from_u64(alloc, number.parse::<u64>().unwrap_or(0)),
+        _ => Unsigned::from_u128(alloc, number.parse::<u128>().unwrap_or(0)),
+    }
+}
+
+fn from(alloc: Global, answer: &mut Answer, kind: &str, number: &str) {
+    match made(alloc, kind, number) {
+        Ok(number) => known(answer, &number),
+        Err(_) => answer.word("memory"),
+    }
+}
+
+// How two numbers stand to each other.
+fn compared(answer: &mut Answer, one: &Unsigned, other: &Unsigned) {
+    answer.word(sign(one, other));
+    answer.show(&one.partial_cmp(other));
+}
+
+fn order(alloc: Global, answer: &mut Answer, one: &[u8], other: &[u8]) {
+    match (
+        Unsigned::from_slice(alloc, one),
+        Unsigned::from_slice(alloc, other),
+    ) {
+        (Ok(one), Ok(other)) => compared(answer, &one, &other),
+        _ => answer.word("refused"),
+    }
+}
+
+// Whether a number and its copy are one INTEGER, in each way.
+fn same(answer: &mut Answer, number: Unsigned, copy: Unsigned) {
+    let copy = Integer::from(copy);
+    answer.say(&(*number.as_integer() == copy));
+    answer.say(&(number.into_integer() == copy));
+}
+
+// The octets of a copy of a number.
+fn kept(answer: &mut Answer, number: &Unsigned) {
+    match number.clone() {
+        Ok(copy) => answer.octets(copy.into_bytes().as_slice()),
+        Err(_) => answer.word("memory"),
+    }
+}
+
+// The octets of a copy of a number, and whether another copy is the number.
+fn copied(answer: &mut Answer, number: Unsigned) {
+    kept(answer, &number);
+    match number.clone() {
+        Ok(copy) => same(answer, number, copy),
+        Err(_) => answer.word("memory"),
+    }
+}
+
+fn read_copied(alloc: Global, answer: &mut Answer, octets: &[u8]) {
+    match Unsigned::from_slice(alloc, octets) {
+        Ok(number) => copied(answer, number),
+        Err(error) => answer.show(&error),
+    }
+}
+
+// The number that shared octets are.
+fn of_bytes(alloc: Global, answer: &mut Answer, octets: &[u8]) {
+    match Bytes::copy_from_slice(alloc, octets) {
+        Ok(bytes) => taken(answer, Unsigned::from_bytes(bytes)),
+        Err(_) => answer.word("memory"),
+    }
+}
+
+// The number that an INTEGER is.
+fn of_integer(alloc: Global, answer: &mut Answer, octets: &[u8]) {
+    match number(alloc, octets) {
+        Ok(number) => taken(answer, Unsigned::from_integer(number)),
+        Err(error) => answer.refuse(error),
+    }
+}
+
+// What a call makes of octets.
+fn of_octets(alloc: Global, answer: &mut Answer, call: &str, octets: &[u8]) {
+    match call {
+        "read" => read(alloc, answer, octets),
+        "slice" => taken(answer, Unsigned::from_slice(alloc, octets)),
+        "bytes" => of_bytes(alloc, answer, octets),
+        "copied" => read_copied(alloc, answer, octets),
+        "integer" => of_integer(alloc, answer, octets),
+        _ => answer.unknown(),
+    }
+}
+
+/// What is known of the number with octets, or of one of Rust's types; how two stand to each other.
+pub fn answer(alloc: Global, answer: &mut Answer, words: &[&str]) {
+    match words {
+        ["from", kind, number] => from(alloc, answer, *kind, *number),
+        ["order", one, other] => {
+            let (one, other) = (octets_of(alloc, *one), octets_of(alloc, *other));
+            order(alloc, answer, one.as_slice(), other.as_slice());
+        }
+        [call, digits] => {
+            let octets = octets_of(alloc, *digits);
+            of_octets(alloc, answer, *call, octets.as_slice());
+        }
+        _ => answer.unknown(),
+    }
+}
