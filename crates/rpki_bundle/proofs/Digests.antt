@@ -1,11 +1,10 @@
 -- A digest is read from the octets that lie at hand.
-use Rattle.std.proofs.Common.{◌≡◌, ℕ, ◌+◌, ◌<◌, ◌≤◌, suc, zero, true, false, List, [], ◌∷◌, ◌++◌, length, take, Option, Some, None, refl, sym, ap, ◌∙◌, subst, length-append, arith}
+use Rattle.std.proofs.Common.{◌≡◌, ℕ, ◌+◌, ◌<◌, ◌≤◌, suc, zero, true, false, List, [], ◌∷◌, length, take, Option, Some, None, refl, sym, ap, ◌∙◌, subst, length-append, arith}
 use Rattle.std.proofs.lemmas.List.{length-take}
 use Rattle.std.specs.Prelude.{min}
-use Rattle.rpki_bundle.specs.bcder_source.Limits.{at_hand}
-use Rattle.rpki_bundle.specs.bcder_source.Views.{View, Moved, left, limited, more_limit}
-use Rattle.rpki_bundle.specs.bcder_primitive.Plain.{OctetsLeft, octets_in, GoesBy, Drained, WholeOctets, LacksOctets, GivesOctets}
-use Rattle.rpki_bundle.specs.Grammars.{IsDigest}
+use Rattle.rpki_bundle.specs.bcder_source.Views.{Moved, left, limited, more_limit}
+use Rattle.rpki_bundle.specs.bcder_primitive.Plain.{OctetsLeft, octets_in, GoesBy, WholeOctets, LacksOctets, GivesOctets}
+use Rattle.rpki_bundle.specs.Bundle.{IsDigest}
 
 take_take : (n m : ℕ) (xs : List ℕ) → n ≤ m → take n (take m xs) ≡ take n xs
 take_take zero m xs h = refl

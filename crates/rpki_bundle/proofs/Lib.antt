@@ -1,12 +1,10 @@
-pub mod BundleGrammar
 pub mod Reading
 pub mod Digests
 pub mod DigestWords
-mod Contents
-pub mod Spellings
-pub mod Writing
-pub mod Texts
+mod Agree
+mod Written
 pub mod OneBundle
+pub mod Texts
 pub mod Orders
 pub use Rattle.certs_uri.proofs.UriLaws
 pub use Rattle.certs_uri.proofs.UriTexts

@@ -6,7 +6,7 @@ use Rattle.std.specs.Result.{IsErrAnd}
 use Rattle.rpki_bundle.specs.bcder_tree.declared.mode.Mode.{Mode}
 use Rattle.rpki_bundle.specs.bcder_tree.declared.mode.Mode.TheVariants.{Der}
 use Rattle.rpki_bundle.specs.bcder_tree.Tags.{TagValue}
-use Rattle.rpki_bundle.specs.bcder_tree.Tree.{Tree, Trees, primitive, none, more, SpellsAll}
+use Rattle.rpki_bundle.specs.bcder_tree.Tree.{Tree, Trees, primitive, SpellsAll}
 use Rattle.rpki_bundle.specs.bcder_source.Errors.{OnContent}
 use Rattle.rpki_bundle.specs.bcder_source.Views.{limited, more_limit}
 use Rattle.rpki_bundle.specs.bcder_source.declared.error.DecodeError.{DecodeError}
@@ -27,9 +27,8 @@ use Rattle.rpki_bundle.specs.declared.whole.Parts.{Parts}
 use Rattle.rpki_bundle.specs.Bundle.{BundleValue, BundleText}
 use Rattle.rpki_bundle.specs.Ends.{ReadsToEndAs, Refuses}
 use Rattle.rpki_bundle.specs.Errors.{OnNotABundle}
-use Rattle.rpki_bundle.specs.Grammars.{IsBundleAlone}
-use Rattle.rpki_bundle.specs.PartFields.{TellsBundle, parts_alone}
-use Rattle.rpki_bundle.proofs.BundleGrammar.{text_of, text_alone}
+use Rattle.rpki_bundle.specs.PartFields.{IsBundleAlone, TellsBundle, parts_alone}
+use Rattle.rpki_bundle.proofs.Agree.{last_spelled, spelled_last}
 
 -- What a value means that was read.
 pub meaning : {A B C E : Type 0} (f : A → B) (g : B → C) (Q : Tree → B → Type 0) (old new : ValuesLeft) (r : Result A (DecodeError E)) → ReadsAs f Q old r new → ReadsAs (λ x. g (f x)) (As Q g) old r new
@@ -126,8 +125,8 @@ text_decoded {m = m} {o = o} {r} exact h = decoded_cases m o r exact h.cases
 
 -- A bundle is given by octets that were read as one, and by none that were refused.
 pub told_parts : {E : Type 0} (o : List ℕ) (r : Result Parts (DecodeError E)) → ReadsText {E = E} parts_alone Der (IsBundleAlone Der) o r → TellsBundle o r
-told_parts o (Ok p) h = text_of h.1 h.2
-told_parts o (Err (Content x pos)) h = λ b t. let a = text_alone t in h (more t.tree none) (b, tt) a.0 a.1
+told_parts o (Ok p) h = record { spelled = last_spelled (record { trees = h.0; is = h.1; spelled = h.2 }) }
+told_parts o (Err (Content x pos)) h = λ b t. let a = spelled_last t.spelled in h a.trees (b, tt) a.is a.spelled
 told_parts o (Err (Source x)) h = tt
 told_parts o (Err Memory) h = tt
 

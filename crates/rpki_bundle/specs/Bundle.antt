@@ -1,15 +1,20 @@
--- Bundles: all that one run is told (this project's own form, version 0).
-use Rattle.std.specs.Prelude.{◌≡◌, ◌≢◌, ℕ, ◌≤◌, List, [], ◌∷◌, ◌++◌, length, All}
+-- Bundles: all that one run is told, in one DER value (this project's own form, version 0). Beside each line stands its ASN.1.
+use Rattle.std.specs.Prelude.{◌≡◌, ◌≢◌, ℕ, ◌^◌, ◌≤◌, List, [], ◌++◌, length, All}
+use Rattle.rpki_bundle.specs.bcder_tree.declared.mode.Mode.{Mode}
 use Rattle.rpki_bundle.specs.bcder_tree.declared.mode.Mode.TheVariants.{Der}
 use Rattle.rpki_bundle.specs.bcder_tree.Tags.{universal}
-use Rattle.rpki_bundle.specs.bcder_tree.Tree.{Tree, Spells}
-use Rattle.rpki_bundle.specs.bcder_tree.Sequences.{sequence, IsSequenceOf}
-use Rattle.rpki_bundle.specs.bcder_tree.Integers.{IsNumber}
-use Rattle.rpki_bundle.specs.bcder_tree.Strings.{IsPrintableString, IsIa5String, IsOctetString}
+use Rattle.rpki_bundle.specs.bcder_tree.Tree.{Tree, Trees}
+use Rattle.rpki_bundle.specs.bcder_tree.Sequences.{sequence_tag}
+use Rattle.rpki_bundle.specs.bcder_tree.Strings.{IsPrintable, IsIa5, IsOctetString, octet_string_tag}
+use Rattle.rpki_bundle.specs.bcder_primitive.Values.{IsUnsigned, IsValue}
+use Rattle.rpki_bundle.specs.bcder_chars.Sets.{alone}
+use Rattle.rpki_bundle.specs.bcder_strings.Restricted.{IsRestricted}
+use Rattle.rpki_bundle.specs.bcder_content.Grammar.{Inside, OctetsOf, Such, As, End, Then, Many}
+use Rattle.rpki_bundle.specs.bcder_content.Texts.{SpellsOf}
 use Rattle.rpki_bundle.specs.declared.parts.Locator.{Locator}
 use Rattle.rpki_bundle.specs.declared.parts.Object.{Object}
 use Rattle.rpki_bundle.specs.declared.parts.Verdict.{Verdict}
-use Rattle.rpki_bundle.specs.TimeForms.{IsGeneralizedTime}
+use Rattle.certs_time.specs.Times.{IsMoment}
 use Rattle.certs_uri.specs.Uris.{IsLookupKey}
 use Rattle.rpki_bundle.specs.Orders.{Ascends}
 
@@ -21,63 +26,118 @@ pub record BundleValue : Type 0 where
   pub objects : List Object
   pub verdicts : List Verdict
 
--- SEQUENCE { PrintableString name, OCTET STRING text }: the name isn't empty and has no space (32).
-pub record IsLocator (t : Tree) (l : Locator) : Type 0 where
-  pub name : Tree
-  pub text : Tree
-  pub whole : t ≡ sequence (name ∷ text ∷ [])
-  pub name_is : IsPrintableString Der name l.name
-  pub some : l.name ≢ []
-  pub no_space : All (λ c. c ≢ 32) l.name
-  pub text_is : IsOctetString Der text l.text
+-- INTEGER (0)
+abbrev pub IsVersion : Tree → Unit {0} → Type 0
+IsVersion = OctetsOf (universal 2) (IsValue (IsUnsigned (2 ^ 8)) 0)
 
--- SEQUENCE { IA5String uri, OCTET STRING }: a URI that is its own lookup key.
-pub record IsObject (t : Tree) (o : Object) : Type 0 where
-  pub uri : Tree
-  pub octets : Tree
-  pub whole : t ≡ sequence (uri ∷ octets ∷ [])
-  pub uri_is : IsIa5String Der (universal 22) uri o.uri
-  pub own_key : IsLookupKey o.uri
-  pub octets_are : IsOctetString Der octets o.octets
+-- GeneralizedTime: YYYYMMDDHHMMSSZ (RFC 5280 4.1.2.5.2)
+abbrev pub IsMomentString : Tree → ℕ → Type 0
+IsMomentString = OctetsOf (universal 24) IsMoment
 
--- SEQUENCE { OCTET STRING, OCTET STRING, OCTET STRING }, each of 32 octets.
-pub record IsVerdict (t : Tree) (v : Verdict) : Type 0 where
-  pub key : Tree
-  pub message : Tree
-  pub signature : Tree
-  pub whole : t ≡ sequence (key ∷ message ∷ signature ∷ [])
-  pub key_is : IsOctetString Der key v.key × (length v.key ≡ 32)
-  pub message_is : IsOctetString Der message v.message × (length v.message ≡ 32)
-  pub signature_is : IsOctetString Der signature v.signature × (length v.signature ≡ 32)
+-- INTEGER (1..32)
+abbrev pub IsDepth : ℕ → Type 0
+IsDepth n = (1 ≤ n) × (n ≤ 32)
 
--- Verdicts go by their 96 octets.
+abbrev pub IsDepthNumber : Tree → ℕ → Type 0
+IsDepthNumber = Such (OctetsOf (universal 2) (IsUnsigned (2 ^ 8))) IsDepth
+
+-- PrintableString: a name, not empty, and without a space (32)
+abbrev pub IsWord : List ℕ → Type 0
+IsWord text = (text ≢ []) × All (λ c. c ≢ 32) text
+
+abbrev pub IsNameString : Mode → Tree → List ℕ → Type 0
+IsNameString m = Such (IsRestricted IsPrintable alone m (universal 19)) IsWord
+
+-- IA5String: a URI that is its own lookup key
+abbrev pub IsUriString : Mode → Tree → List ℕ → Type 0
+IsUriString m = Such (IsRestricted IsIa5 alone m (universal 22)) IsLookupKey
+
+-- OCTET STRING (SIZE (32))
+pub record IsDigest (content octets : List ℕ) : Type 0 where
+  pub same : content ≡ octets
+  pub long : length content ≡ 32
+
+abbrev pub IsDigestString : Tree → List ℕ → Type 0
+IsDigestString = OctetsOf octet_string_tag IsDigest
+
+-- Locator ::= SEQUENCE { name, text }
+abbrev pub Strings : Type 0
+Strings = List ℕ × (List ℕ × Unit {0})
+
+abbrev pub as_locator : Strings → Locator
+as_locator f = record { name = f.0; text = f.1.0 }
+
+abbrev pub AreLocatorFields : Mode → Trees → Strings → Type 0
+AreLocatorFields m =
+    Then (IsNameString m)  -- name PrintableString
+    (Then (IsOctetString m)  -- text OCTET STRING
+    End)
+
+abbrev pub IsLocator : Mode → Tree → Locator → Type 0
+IsLocator m = As (Inside sequence_tag (AreLocatorFields m)) as_locator
+
+-- Object ::= SEQUENCE { uri, octets }
+abbrev pub as_object : Strings → Object
+as_object f = record { uri = f.0; octets = f.1.0 }
+
+abbrev pub AreObjectFields : Mode → Trees → Strings → Type 0
+AreObjectFields m =
+    Then (IsUriString m)  -- uri IA5String
+    (Then (IsOctetString m)  -- octets OCTET STRING
+    End)
+
+abbrev pub IsObject : Mode → Tree → Object → Type 0
+IsObject m = As (Inside sequence_tag (AreObjectFields m)) as_object
+
+-- Verdict ::= SEQUENCE { key, message, signature }
+abbrev pub Digests : Type 0
+Digests = List ℕ × Strings
+
+abbrev pub as_verdict : Digests → Verdict
+as_verdict f = record { key = f.0; message = f.1.0; signature = f.1.1.0 }
+
+abbrev pub AreVerdictFields : Trees → Digests → Type 0
+AreVerdictFields =
+    Then IsDigestString  -- key OCTET STRING (SIZE (32))
+    (Then IsDigestString  -- message OCTET STRING (SIZE (32))
+    (Then IsDigestString  -- signature OCTET STRING (SIZE (32))
+    End))
+
+abbrev pub IsVerdict : Tree → Verdict → Type 0
+IsVerdict = As (Inside sequence_tag AreVerdictFields) as_verdict
+
+-- A verdict goes by its 96 octets.
 abbrev pub verdict_row : Verdict → List ℕ
 verdict_row v = v.key ++ (v.message ++ v.signature)
 
--- SEQUENCE { INTEGER 0, GeneralizedTime moment, INTEGER depth, SEQUENCE OF locator, SEQUENCE OF object,
--- SEQUENCE OF verdict }: a depth of 1 to 32, and each list strictly ascending.
-pub record IsBundle (t : Tree) (b : BundleValue) : Type 0 where
-  pub version : Tree
-  pub moment : Tree
-  pub depth : Tree
-  pub locators : Tree
-  pub objects : Tree
-  pub verdicts : Tree
-  pub whole : t ≡ sequence (version ∷ moment ∷ depth ∷ locators ∷ objects ∷ verdicts ∷ [])
-  pub version_is : IsNumber version 0
-  pub moment_is : IsGeneralizedTime moment b.moment
-  pub depth_is : IsNumber depth b.depth
-  pub lowest : 1 ≤ b.depth
-  pub greatest : b.depth ≤ 32
-  pub locators_are : IsSequenceOf IsLocator locators b.locators
-  pub objects_are : IsSequenceOf IsObject objects b.objects
-  pub verdicts_are : IsSequenceOf IsVerdict verdicts b.verdicts
-  pub locators_ascend : Ascends (λ l. l.name) b.locators
-  pub objects_ascend : Ascends (λ o. o.uri) b.objects
-  pub verdicts_ascend : Ascends verdict_row b.verdicts
+-- SEQUENCE OF, strictly ascending by the rows of octets that `row` gives
+abbrev pub IsAscendingList : {A : Type 0} → (Tree → A → Type 0) → (A → List ℕ) → Tree → List A → Type 0
+IsAscendingList Q row = Such (Inside sequence_tag (Many Q)) (Ascends row)
+
+-- Bundle ::= SEQUENCE { version, moment, depth, locators, objects, verdicts }
+abbrev pub BundleFields : Type 0
+BundleFields = Unit {0} × (ℕ × (ℕ × (List Locator × (List Object × (List Verdict × Unit {0})))))
+
+abbrev pub as_bundle : BundleFields → BundleValue
+as_bundle f = record { moment = f.1.0; depth = f.1.1.0; locators = f.1.1.1.0; objects = f.1.1.1.1.0; verdicts = f.1.1.1.1.1.0 }
+
+abbrev pub AreBundleFields : Mode → Trees → BundleFields → Type 0
+AreBundleFields m =
+    Then IsVersion  -- version INTEGER (0)
+    (Then IsMomentString  -- moment GeneralizedTime
+    (Then IsDepthNumber  -- depth INTEGER (1..32)
+    (Then (IsAscendingList (IsLocator m) (λ l. l.name))  -- locators SEQUENCE OF Locator, by their names
+    (Then (IsAscendingList (IsObject m) (λ o. o.uri))  -- objects SEQUENCE OF Object, by their URIs
+    (Then (IsAscendingList IsVerdict verdict_row)  -- verdicts SEQUENCE OF Verdict, by all their octets
+    End)))))
+
+abbrev pub IsBundle : Mode → Tree → BundleValue → Type 0
+IsBundle m = As (Inside sequence_tag (AreBundleFields m)) as_bundle
 
 -- The octets, all of them, spell the bundle in DER.
 pub record BundleText (octets : List ℕ) (b : BundleValue) : Type 0 where
-  pub tree : Tree
-  pub form : IsBundle tree b
-  pub spelled : Spells Der tree octets
+  pub spelled : SpellsOf Der (IsBundle Der) octets b
+
+-- Some octets spell it.
+abbrev pub IsSpelled : BundleValue → Type 0
+IsSpelled b = (octets : List ℕ) × BundleText octets b

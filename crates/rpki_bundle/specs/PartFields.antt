@@ -1,18 +1,33 @@
--- What was read of a bundle, and what it means.
+-- What was read of a bundle and of its parts, field by field, and what it means.
 use Rattle.std.specs.Prelude.{ℕ, List, Result, Ok, Err}
+use Rattle.rpki_bundle.specs.bcder_tree.declared.mode.Mode.{Mode}
+use Rattle.rpki_bundle.specs.bcder_tree.Tree.{Trees}
 use Rattle.rpki_bundle.specs.bcder_source.Errors.{OnContent}
 use Rattle.rpki_bundle.specs.bcder_source.declared.error.DecodeError.{DecodeError}
+use Rattle.rpki_bundle.specs.bcder_content.Grammar.{End, Then}
+use Rattle.rpki_bundle.specs.declared.parts.Locator.{Locator}
+use Rattle.rpki_bundle.specs.declared.parts.Object.{Object}
 use Rattle.rpki_bundle.specs.declared.whole.Parts.{Parts}
-use Rattle.rpki_bundle.specs.Bundle.{BundleValue, BundleText}
-use Rattle.rpki_bundle.specs.Grammars.{BundleFields, as_bundle}
+use Rattle.rpki_bundle.specs.Bundle.{BundleValue, Strings, BundleFields, as_bundle, IsBundle, BundleText}
 
+-- The fields of a locator and of an object.
+abbrev pub locator_fields : Locator → Strings
+locator_fields l = (l.name, (l.text, tt))
+
+abbrev pub object_fields : Object → Strings
+object_fields o = (o.uri, (o.octets, tt))
+
+-- Those of a bundle.
 abbrev pub parts_fields : Parts → BundleFields
 parts_fields p = (tt, (p.moment, (p.depth, (p.locators.items, (p.objects.items, (p.verdicts.items, tt))))))
 
 abbrev pub parts_value : Parts → BundleValue
 parts_value p = as_bundle (parts_fields p)
 
--- Alone in a content.
+-- A bundle, and nothing after it.
+abbrev pub IsBundleAlone : Mode → Trees → BundleValue × Unit {0} → Type 0
+IsBundleAlone m = Then (IsBundle m) End
+
 abbrev pub parts_alone : Parts → BundleValue × Unit {0}
 parts_alone p = (parts_value p, tt)
 

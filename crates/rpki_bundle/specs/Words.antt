@@ -4,7 +4,7 @@ use Rattle.std.specs.Int.{to_le_bytes, w64}
 use Rattle.rpki_bundle.specs.declared.parts.Verdict.{Verdict}
 use Rattle.rpki_bundle.specs.declared.words.DigestWords.{DigestWords}
 use Rattle.rpki_bundle.specs.declared.words.VerdictWords.{VerdictWords}
-use Rattle.rpki_bundle.specs.Grammars.{Digests}
+use Rattle.rpki_bundle.specs.Bundle.{Digests}
 
 -- Each word has eight octets, the lowest first.
 abbrev pub octets_of : DigestWords → List ℕ

@@ -10,7 +10,7 @@ ghost use Rattle.rpki_bundle.specs.declared.error.BundleError.TheVariants.{NotAB
 ghost use Rattle.rpki_bundle.specs.Ends.{Refuses};
 ghost use Rattle.rpki_bundle.specs.Errors.{OnNotABundle};
 ghost use Rattle.rpki_bundle.specs.PartFields.{parts_value};
-ghost use Rattle.rpki_bundle.specs.Lawful.{IsLawful};
+ghost use Rattle.rpki_bundle.specs.Bundle.{IsSpelled};
 
 use crate::entries::is_lawful_list;
 use crate::reader::is_depth;
@@ -42,7 +42,7 @@ impl Model for Bundle {
 
     ghost Value = { BundleValue };
 
-    ghost use Rattle.rpki_bundle.specs.Lawful.{IsLawful};
+    ghost use Rattle.rpki_bundle.specs.Bundle.{IsSpelled};
 
     ghost view = { λ b. record {
       moment = b.moment;
@@ -52,7 +52,7 @@ impl Model for Bundle {
       verdicts = b.verdicts.items;
     } };
 
-    ghost invariant = { λ b. IsLawful
+    ghost invariant = { λ b. IsSpelled
         (record {
           moment = b.moment;
           depth = b.depth;
@@ -64,7 +64,7 @@ impl Model for Bundle {
 
 // The bundle of what was read.
 fn bundle_of(parts: Parts) -> Bundle
-    requires { IsLawful (parts_value parts) }
+    requires { IsSpelled (parts_value parts) }
     ensures { result ≡ parts_value parts }
 {
     let Parts {
@@ -103,7 +103,7 @@ fn is_lawful(
     verdicts: &[Verdict],
 ) -> bool
     ensures { IsTrue result
-        ↔ IsLawful
+        ↔ IsSpelled
         (record {
           moment = moment;
           depth = depth;

@@ -7,7 +7,7 @@ ghost use Rattle.rpki_bundle.specs.bcder_content.Here.{here};
 ghost use Rattle.rpki_bundle.specs.bcder_tree.declared.mode.Mode.{Mode};
 ghost use Rattle.rpki_bundle.specs.bcder_tree.Tags.{universal};
 ghost use Rattle.rpki_bundle.specs.bcder_tree.Tree.{Tree};
-ghost use Rattle.rpki_bundle.specs.Grammars.{AreRows};
+ghost use Rattle.rpki_bundle.specs.Bundle.{IsAscendingList};
 ghost use Rattle.rpki_bundle.specs.Orders.{IsBefore, Ascends};
 ghost use Rattle.rpki_bundle.specs.Lawful.{IsLawfulList};
 
@@ -76,8 +76,8 @@ pub fn take_list<E: Entry, S: Source>(
     cons: &mut Constructed<S>,
 ) -> Result<Vec<E>, DecodeError<S::Error>>
     ensures reads { ReadsAs (λ entries. entries.items)
-        (AreRows (E.form (here S.rest cons.old).mode) E.sort_key) (here S.rest cons.old) result
-        (here S.rest cons.new) }
+        (IsAscendingList (E.form (here S.rest cons.old).mode) E.sort_key)
+        (here S.rest cons.old) result (here S.rest cons.new) }
     ensures failed { OnErr result ((here S.rest cons.new).failed ≡ true) }
 {
     let entries = cons.take_sequence(

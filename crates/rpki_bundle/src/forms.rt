@@ -5,7 +5,8 @@ ghost use Rattle.rpki_bundle.specs.bcder_content.Exact.{ReadsOptAs};
 ghost use Rattle.rpki_bundle.specs.bcder_content.Here.{here};
 ghost use Rattle.rpki_bundle.specs.bcder_content.InMode.{ReadsFields};
 ghost use Rattle.rpki_bundle.specs.bcder_tree.Tags.{universal};
-ghost use Rattle.rpki_bundle.specs.Grammars.{IsLocatorBody, IsObjectBody, IsVerdictBody, IsVerdictRow, locator_fields, object_fields};
+ghost use Rattle.rpki_bundle.specs.Bundle.{AreLocatorFields, AreObjectFields, AreVerdictFields, IsVerdict};
+ghost use Rattle.rpki_bundle.specs.PartFields.{locator_fields, object_fields};
 ghost use Rattle.rpki_bundle.specs.Words.{verdict_of, words_fields};
 
 use crate::entries::{Entry, stands_before};
@@ -47,7 +48,8 @@ fn take_locator<S: Source>(
     alloc: Global,
     cons: &mut Constructed<S>,
 ) -> Result<Locator, DecodeError<S::Error>>
-    ensures { ReadsFields locator_fields IsLocatorBody (here S.rest cons.old) result (here S.rest cons.new) }
+    ensures { ReadsFields locator_fields AreLocatorFields (here S.rest cons.old) result
+        (here S.rest cons.new) }
 {
     let name = take_name(alloc, cons)?;
     let text = take_octets(alloc, cons)?;
@@ -55,11 +57,11 @@ fn take_locator<S: Source>(
 }
 
 impl Entry for Locator {
-    ghost use Rattle.rpki_bundle.specs.Grammars.{IsLocatorRow};
+    ghost use Rattle.rpki_bundle.specs.Bundle.{IsLocator};
     ghost use Rattle.rpki_bundle.specs.RowLaws.{one_locator, locator_tagged};
     ghost use Rattle.rpki_bundle.specs.Lawful.{IsLawfulLocator};
 
-    ghost form = { IsLocatorRow };
+    ghost form = { IsLocator };
 
     ghost sort_key = { λ l. l.name };
 
@@ -70,7 +72,7 @@ impl Entry for Locator {
     ) -> Result<Option<Self>, DecodeError<S::Error>> {
         cons.take_opt_sequence(
             |cons|
-                ensures { ReadsFields locator_fields IsLocatorBody
+                ensures { ReadsFields locator_fields AreLocatorFields
                     (here S.rest cons.old) result (here S.rest cons.new) }
             { take_locator(alloc, cons) },
         )
@@ -118,7 +120,8 @@ fn take_object<S: Source>(
     alloc: Global,
     cons: &mut Constructed<S>,
 ) -> Result<Object, DecodeError<S::Error>>
-    ensures { ReadsFields object_fields IsObjectBody (here S.rest cons.old) result (here S.rest cons.new) }
+    ensures { ReadsFields object_fields AreObjectFields (here S.rest cons.old) result
+        (here S.rest cons.new) }
 {
     let uri = take_uri(alloc, cons)?;
     let octets = take_octets(alloc, cons)?;
@@ -126,11 +129,11 @@ fn take_object<S: Source>(
 }
 
 impl Entry for Object {
-    ghost use Rattle.rpki_bundle.specs.Grammars.{IsObjectRow};
+    ghost use Rattle.rpki_bundle.specs.Bundle.{IsObject};
     ghost use Rattle.rpki_bundle.specs.RowLaws.{one_object, object_tagged};
     ghost use Rattle.rpki_bundle.specs.Lawful.{IsLawfulObject};
 
-    ghost form = { IsObjectRow };
+    ghost form = { IsObject };
 
     ghost sort_key = { λ o. o.uri };
 
@@ -141,7 +144,7 @@ impl Entry for Object {
     ) -> Result<Option<Self>, DecodeError<S::Error>> {
         cons.take_opt_sequence(
             |cons|
-                ensures { ReadsFields object_fields IsObjectBody
+                ensures { ReadsFields object_fields AreObjectFields
                     (here S.rest cons.old) result (here S.rest cons.new) }
             { take_object(alloc, cons) },
         )
@@ -164,7 +167,7 @@ impl Entry for Object {
 
 // The fields of a verdict, up to the end of their content.
 fn take_digests<S: Source>(cons: &mut Constructed<S>) -> Result<VerdictWords, DecodeError<S::Error>>
-    ensures { ReadsFields words_fields (λ m. IsVerdictBody) (here S.rest cons.old) result
+    ensures { ReadsFields words_fields (λ m. AreVerdictFields) (here S.rest cons.old) result
         (here S.rest cons.new) }
 {
     let key = take_digest(cons)?;
@@ -182,13 +185,13 @@ fn take_digests<S: Source>(cons: &mut Constructed<S>) -> Result<VerdictWords, De
 fn take_words<S: Source>(
     cons: &mut Constructed<S>,
 ) -> Result<Option<VerdictWords>, DecodeError<S::Error>>
-    ensures reads { ReadsOptAs verdict_of (universal 16) IsVerdictRow (here S.rest cons.old) result
+    ensures reads { ReadsOptAs verdict_of (universal 16) IsVerdict (here S.rest cons.old) result
         (here S.rest cons.new) }
     ensures failed { OnErr result ((here S.rest cons.new).failed ≡ true) }
 {
     cons.take_opt_sequence(
         |cons|
-            ensures { ReadsFields words_fields (λ m. IsVerdictBody) (here S.rest cons.old) result
+            ensures { ReadsFields words_fields (λ m. AreVerdictFields) (here S.rest cons.old) result
                 (here S.rest cons.new) }
         { take_digests(cons) },
     )
@@ -216,12 +219,11 @@ impl Values for Verdict {
 }
 
 impl Entry for Verdict {
-    ghost use Rattle.rpki_bundle.specs.Bundle.{verdict_row};
-    ghost use Rattle.rpki_bundle.specs.Grammars.{IsVerdictRow};
+    ghost use Rattle.rpki_bundle.specs.Bundle.{IsVerdict, verdict_row};
     ghost use Rattle.rpki_bundle.specs.RowLaws.{one_verdict, verdict_tagged};
     ghost use Rattle.rpki_bundle.specs.Lawful.{IsLawfulVerdict};
 
-    ghost form = { λ m. IsVerdictRow };
+    ghost form = { λ m. IsVerdict };
 
     ghost sort_key = { verdict_row };
 

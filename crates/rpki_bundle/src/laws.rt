@@ -2,6 +2,7 @@
 
 ghost use Rattle.std.specs.Prelude.{◌≡◌, ◌+◌, ◌^◌, ◌≤◌, List, ℕ, length};
 ghost use Rattle.rpki_bundle.specs.Bundle.{BundleValue, BundleText};
+ghost use Rattle.rpki_bundle.specs.Lawful.{IsLawful};
 
 /// Octets spell at most one bundle.
 pub fn one_bundle()
@@ -19,4 +20,10 @@ pub fn one_text()
 pub fn bundle_length()
     ensures { (octets : List ℕ) (b : BundleValue) → BundleText octets b
         → length octets ≤ 2 ^ 32 + 5 }
+{}
+
+/// Each bundle has a depth of 1 to 32, names that are printable, not empty and without a space, URIs that are their own
+/// lookup keys, digests of 32 octets, and lists that ascend strictly.
+pub fn lawful_parts()
+    ensures { (octets : List ℕ) (b : BundleValue) → BundleText octets b → IsLawful b }
 {}

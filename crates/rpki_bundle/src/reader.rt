@@ -8,8 +8,8 @@ ghost use Rattle.rpki_bundle.specs.bcder_content.Grammar.{OctetsOf};
 ghost use Rattle.rpki_bundle.specs.bcder_content.Here.{here, plain};
 ghost use Rattle.rpki_bundle.specs.bcder_primitive.Plain.{ReadsOctetsAs};
 ghost use Rattle.rpki_bundle.specs.bcder_primitive.Values.{AnyOctets};
-ghost use Rattle.rpki_bundle.specs.Grammars.{IsDepthNumber, IsDigest, IsDigestString, IsMomentString, IsNameString, IsUriString};
-ghost use Rattle.rpki_bundle.specs.Lawful.{IsName, IsWord};
+ghost use Rattle.rpki_bundle.specs.Bundle.{IsDepthNumber, IsDigest, IsDigestString, IsMomentString, IsNameString, IsUriString, IsWord};
+ghost use Rattle.rpki_bundle.specs.Lawful.{IsName};
 ghost use Rattle.rpki_bundle.specs.Words.{octets_of};
 
 use crate::Time;

@@ -5,8 +5,8 @@ ghost use Rattle.rpki_bundle.specs.bcder_content.Exact.{ReadsAs};
 ghost use Rattle.rpki_bundle.specs.bcder_content.Here.{here};
 ghost use Rattle.rpki_bundle.specs.bcder_content.InMode.{ReadsFields};
 ghost use Rattle.rpki_bundle.specs.Ends.{ReadsToEndAs};
-ghost use Rattle.rpki_bundle.specs.Grammars.{IsBundleAlone, IsBundleBody, IsBundleTree};
-ghost use Rattle.rpki_bundle.specs.PartFields.{TellsBundle, parts_alone, parts_fields, parts_value};
+ghost use Rattle.rpki_bundle.specs.Bundle.{AreBundleFields, IsBundle};
+ghost use Rattle.rpki_bundle.specs.PartFields.{IsBundleAlone, TellsBundle, parts_alone, parts_fields, parts_value};
 
 use crate::entries::take_list;
 use crate::reader::{take_depth, take_moment};
@@ -35,7 +35,7 @@ fn take_parts<S: Source>(
     alloc: Global,
     cons: &mut Constructed<S>,
 ) -> Result<Parts, DecodeError<S::Error>>
-    ensures { ReadsFields parts_fields IsBundleBody (here S.rest cons.old) result
+    ensures { ReadsFields parts_fields AreBundleFields (here S.rest cons.old) result
         (here S.rest cons.new) }
 {
     cons.skip_u8_if(0)?;
@@ -58,13 +58,13 @@ fn take_bundle<S: Source>(
     alloc: Global,
     cons: &mut Constructed<S>,
 ) -> Result<Parts, DecodeError<S::Error>>
-    ensures reads { ReadsAs parts_value (IsBundleTree (here S.rest cons.old).mode) (here S.rest cons.old)
+    ensures reads { ReadsAs parts_value (IsBundle (here S.rest cons.old).mode) (here S.rest cons.old)
         result (here S.rest cons.new) }
     ensures failed { OnErr result ((here S.rest cons.new).failed ≡ true) }
 {
     cons.take_sequence(
         |cons|
-            ensures { ReadsFields parts_fields IsBundleBody
+            ensures { ReadsFields parts_fields AreBundleFields
                 (here S.rest cons.old) result (here S.rest cons.new) }
         { take_parts(alloc, cons) },
     )

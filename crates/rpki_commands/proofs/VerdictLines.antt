@@ -1,7 +1,7 @@
 -- Lines of verdicts, read one after the other.
 use Rattle.std.proofs.Common.{◌≡◌, ℕ, ◌<◌, ◌⊎◌, inl, inr, List, [], ◌∷◌, ◌++◌, length, sym, ap, ◌∙◌, subst, append_assoc, append-nil, length-append, arith}
 use Rattle.rpki_commands.proofs.of_bcder_tree.Unique.{by_length}
-use Rattle.rpki_commands.specs.rpki_bundle.EntryTrees.{verdict_fields}
+use Rattle.rpki_commands.proofs.of_rpki_bundle.OneBundle.{verdict_fields}
 use Rattle.rpki_commands.specs.rpki_bundle.declared.parts.Verdict.{Verdict}
 use Rattle.rpki_commands.specs.Lines.{IsLineEnd}
 use Rattle.rpki_commands.specs.Verdicts.{IsHex, TakesDigest, TakesNextDigest, TakesEnd, TakesVerdict, TellsVerdicts}

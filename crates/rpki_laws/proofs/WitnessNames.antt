@@ -1,10 +1,9 @@
 -- What a witness names in a bundle's world.
-use Rattle.std.proofs.Common.{◌≡◌, ◌≢◌, ℕ, inl, inr, List, [], ◌∷◌, ◌++◌, Some, None, bytes_eq, sym, subst, ◌∙◌}
+use Rattle.std.proofs.Common.{◌≡◌, ◌≢◌, ℕ, inl, inr, List, [], ◌∷◌, ◌++◌, All, Some, None, bytes_eq, sym, subst, ◌∙◌}
+use Rattle.std.proofs.lemmas.List.Elements.{All-head, All-tail}
 use Rattle.std.proofs.lemmas.Slice.Eq.{bytes_eq-Decides}
-use Rattle.rpki_laws.specs.bcder_tree.Tree.{Trees, none, more}
-use Rattle.rpki_laws.specs.bcder_tree.Sequences.{EachIs}
 use Rattle.rpki_laws.specs.rpki_bundle.declared.parts.Object.{Object}
-use Rattle.rpki_laws.specs.rpki_bundle.Bundle.{IsObject}
+use Rattle.rpki_laws.specs.rpki_bundle.Lawful.{IsLawfulObject}
 use Rattle.rpki_laws.specs.certs_uri.Uris.{IsLookupKey}
 use Rattle.rpki_rules.specs.Words.{Each}
 use Rattle.rpki_rules.specs.World.{World, find_object}
@@ -13,6 +12,7 @@ use Rattle.rpki_rules.specs.Chains.{places, Descends}
 use Rattle.rpki_rules.specs.Laws.{WitnessNames}
 use Rattle.rpki_laws.specs.rpki_readings.Locators.{https_first}
 use Rattle.rpki_rules.proofs.Readings.{first_held}
+use Rattle.rpki_rules.proofs.of_rpki_bundle.Texts.{text_lawful}
 use Rattle.rpki_laws.proofs.LookedUp.{chosen}
 
 -- Something is held at the key.
@@ -45,19 +45,17 @@ anchor_of w name a [] h = h
 anchor_of w name a (c ∷ cs) h = anchor_of w name a cs h.0
 
 -- What a bundle holds is at lookup keys.
-own_key : (ts : Trees) (objects : List Object) → EachIs IsObject ts objects → (key octets : List ℕ) → find_object objects key ≡ Some octets → IsLookupKey key
-own_key none [] h key octets e = absurd cc
-own_key none (o ∷ os) h key octets e = absurd h
-own_key (more t ts) [] h key octets e = absurd h
-own_key (more t ts) (o ∷ os) h key octets e = elim (chosen (bytes_eq o.uri key) (Some o.octets) (find_object os key) (Some octets) e) [
-  | inl q ↦ subst IsLookupKey ((bytes_eq-Decides o.uri key).0 q.0) h.0.own_key
-  | inr q ↦ own_key ts os h.1 key octets q.1
+own_key : (objects : List Object) → All IsLawfulObject objects → (key octets : List ℕ) → find_object objects key ≡ Some octets → IsLookupKey key
+own_key [] h key octets e = absurd cc
+own_key (o ∷ os) h key octets e = elim (chosen (bytes_eq o.uri key) (Some o.octets) (find_object os key) (Some octets) e) [
+  | inl q ↦ subst IsLookupKey ((bytes_eq-Decides o.uri key).0 q.0) (All-head IsLawfulObject o os h)
+  | inr q ↦ own_key os (All-tail IsLawfulObject o os h) key octets q.1
 ]
 
 pub witness_names : WitnessNames
 witness_names d v octets b text t h =
-    let g = h.1 in let l = text.form.objects_are in
-    let own : (key : List ℕ) → (o : List ℕ) × (find_object b.objects key ≡ Some o) → IsLookupKey key = λ key k. own_key l.members b.objects l.each key k.0 k.1 in
+    let g = h.1 in
+    let own : (key : List ℕ) → (o : List ℕ) × (find_object b.objects key ≡ Some o) → IsLookupKey key = λ key k. own_key b.objects (text_lawful text).objects.each key k.0 k.1 in
     let s = g.good.is_signed in
     let a = anchor_of _ t.locator g.anchor g.below g.accepted.descends in (
       own t.object (s.octets, s.held),

@@ -1,10 +1,11 @@
 -- What a bundle holds stands at URIs.
-use Rattle.std.proofs.Common.{◌≡◌, ◌⊎◌, inl, inr, ℕ, Bool, true, false, List, [], ◌∷◌, Some, bytes_eq, if◌then◌else◌, refl, subst}
+use Rattle.std.proofs.Common.{◌≡◌, ◌⊎◌, inl, inr, ℕ, Bool, true, false, List, [], ◌∷◌, All, Some, bytes_eq, if◌then◌else◌, refl, subst}
+use Rattle.std.proofs.lemmas.List.Elements.{All-head, All-tail}
 use Rattle.std.proofs.lemmas.Slice.Eq.{bytes_eq-Decides}
-use Rattle.rpki_bundle.specs.bcder_tree.Tree.{Trees, none, more}
-use Rattle.rpki_bundle.specs.bcder_tree.Sequences.{EachIs}
 use Rattle.rpki_bundle.specs.declared.parts.Object.{Object}
-use Rattle.rpki_bundle.specs.Bundle.{BundleText, BundleValue, IsObject}
+use Rattle.rpki_bundle.specs.Bundle.{BundleText, BundleValue}
+use Rattle.rpki_bundle.specs.Lawful.{IsLawfulObject}
+use Rattle.rpki_bundle.proofs.Texts.{text_lawful}
 use Rattle.rpki_standing.specs.certs_uri.Uris.{IsUri}
 use Rattle.rpki_standing.specs.rpki_rules.World.{find_object}
 
@@ -13,14 +14,12 @@ chosen : {X : Type 0} (b : Bool) (x y r : X) → (if b then x else y) ≡ r → 
 chosen true x y r e = inl (refl, e)
 chosen false x y r e = inr (refl, e)
 
-own_uri : (ts : Trees) (objects : List Object) → EachIs IsObject ts objects → (key octets : List ℕ) → find_object objects key ≡ Some octets → IsUri key
-own_uri none [] h key octets e = absurd cc
-own_uri none (o ∷ os) h key octets e = absurd h
-own_uri (more t ts) [] h key octets e = absurd h
-own_uri (more t ts) (o ∷ os) h key octets e = elim (chosen (bytes_eq o.uri key) (Some o.octets) (find_object os key) (Some octets) e) [
-  | inl q ↦ subst IsUri ((bytes_eq-Decides o.uri key).0 q.0) h.0.own_key.uri
-  | inr q ↦ own_uri ts os h.1 key octets q.1
+own_uri : (objects : List Object) → All IsLawfulObject objects → (key octets : List ℕ) → find_object objects key ≡ Some octets → IsUri key
+own_uri [] h key octets e = absurd cc
+own_uri (o ∷ os) h key octets e = elim (chosen (bytes_eq o.uri key) (Some o.octets) (find_object os key) (Some octets) e) [
+  | inl q ↦ subst IsUri ((bytes_eq-Decides o.uri key).0 q.0) (All-head IsLawfulObject o os h).uri
+  | inr q ↦ own_uri os (All-tail IsLawfulObject o os h) key octets q.1
 ]
 
 pub held_uri : (text : List ℕ) (b : BundleValue) → BundleText text b → (key octets : List ℕ) → find_object b.objects key ≡ Some octets → IsUri key
-held_uri text b t key octets e = let l = t.form.objects_are in own_uri l.members b.objects l.each key octets e
+held_uri text b t key octets e = own_uri b.objects (text_lawful t).objects.each key octets e

@@ -1,23 +1,33 @@
-use Rattle.std.proofs.Common.{refl, sym, ◌∙◌, arith}
-use Rattle.rpki_bundle.proofs.Texts.{with_lists, by_text}
-use Rattle.rpki_bundle.proofs.Writing.{counted_fits, fits_counted}
+use Rattle.std.proofs.Common.{refl, sym, ◌∙◌}
+use Rattle.rpki_bundle.specs.Bundle.{IsDepth}
+use Rattle.rpki_bundle.proofs.Texts.{with_lists, text_lawful, counted_spelled, spelled_counted}
 use Rattle.rpki_bundle.proofs.bundle.is_lawful.Goals as goal
+
+pub returns-then-not-is_depth : goal.returns-then-not-is_depth
+returns-then-not-is_depth c = (λ t. absurd cc, λ s. let l = text_lawful s.1 in let t = c.if-not-is_depth.ensures.1 (l.lowest, l.greatest) in absurd cc)
+
+pub returns-then-not-is_lawful_list : goal.returns-then-not-is_lawful_list
+returns-then-not-is_lawful_list c = (λ t. absurd cc, λ s. let t = c.if-not-is_lawful_list.ensures.1 (text_lawful s.1).locators in absurd cc)
+
+pub returns-then-not-is_lawful_list-2 : goal.returns-then-not-is_lawful_list-2
+returns-then-not-is_lawful_list-2 c = (λ t. absurd cc, λ s. let t = c.if-not-is_lawful_list-2.ensures.1 (text_lawful s.1).objects in absurd cc)
+
+pub returns-then-not-is_lawful_list-3 : goal.returns-then-not-is_lawful_list-3
+returns-then-not-is_lawful_list-3 c = (λ t. absurd cc, λ s. let t = c.if-not-is_lawful_list-3.ensures.1 (text_lawful s.1).verdicts in absurd cc)
 
 pub returns : goal.returns
 returns c =
     let a = c.args in
     let b = with_lists a.moment a.depth a.locators.now a.objects.now a.verdicts.now in
     let text = c.generalized-text.result in
-    let depth = c.if-not-is_depth.ensures.0 refl in (
-      λ t. record {
-        text = text;
-        moment = c.generalized-text.ensures;
+    let m = c.generalized-text.ensures in
+    let depth : IsDepth a.depth = c.if-not-is_depth.ensures.0 refl in (
+      λ t. counted_spelled text b c.members_len.result m (record {
         lowest = depth.0;
         greatest = depth.1;
         locators = c.if-not-is_lawful_list.ensures.0 refl;
         objects = c.if-not-is_lawful_list-2.ensures.0 refl;
         verdicts = c.if-not-is_lawful_list-3.ensures.0 refl;
-        fits = counted_fits text b c.members_len.result (omega (arith, depth.1)) c.members_len.ensures.len (sym c.is_ok.ensures.value ∙ t);
-      },
-      λ l. c.is_ok.ensures.value ∙ fits_counted text b c.members_len.result (omega (arith, depth.1)) c.members_len.ensures.refused (by_text l text c.generalized-text.ensures).0,
+      }) c.members_len.ensures.len (sym c.is_ok.ensures.value ∙ t),
+      λ s. c.is_ok.ensures.value ∙ spelled_counted text b c.members_len.result m c.members_len.ensures.refused s,
     )

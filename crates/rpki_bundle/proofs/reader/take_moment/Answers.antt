@@ -2,7 +2,7 @@ use Rattle.std.proofs.Common.{ℕ, List, sym, subst}
 use Rattle.rpki_bundle.proofs.of_bcder_content.Choices.{stop_value}
 use Rattle.rpki_bundle.proofs.of_bcder_content.Taking.{on_content}
 use Rattle.certs_time.specs.Times.{IsMoment}
-use Rattle.rpki_bundle.proofs.Reading.{octets_mean, octets_lack, octets_refused}
+use Rattle.rpki_bundle.proofs.Reading.{octets_lack, octets_refused}
 use Rattle.rpki_bundle.proofs.reader.take_moment.Goals as goal
 
 pub returns-in_err-text-clause-reads : goal.returns-in_err-text-clause-reads

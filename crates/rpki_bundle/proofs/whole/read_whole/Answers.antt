@@ -1,6 +1,5 @@
 use Rattle.rpki_bundle.specs.bcder_tree.declared.mode.Mode.TheVariants.{Der}
-use Rattle.rpki_bundle.specs.Grammars.{IsBundleAlone}
-use Rattle.rpki_bundle.specs.PartFields.{parts_alone}
+use Rattle.rpki_bundle.specs.PartFields.{IsBundleAlone, parts_alone}
 use Rattle.rpki_bundle.proofs.Reading.{ends_in, text_decoded, told_parts}
 use Rattle.rpki_bundle.proofs.whole.read_whole.Goals as goal
 

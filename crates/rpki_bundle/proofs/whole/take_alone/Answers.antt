@@ -5,8 +5,7 @@ use Rattle.rpki_bundle.specs.bcder_content.Here.{here}
 use Rattle.rpki_bundle.proofs.of_bcder_content.Forests.{begin, next, stop, stop_all, done, there_next, absent_next}
 use Rattle.rpki_bundle.proofs.of_bcder_content.Taking.{weaker, on_content}
 use Rattle.rpki_bundle.proofs.of_bcder_content.Took.{ended_none}
-use Rattle.rpki_bundle.specs.Grammars.{IsBundleAlone}
-use Rattle.rpki_bundle.specs.PartFields.{parts_alone}
+use Rattle.rpki_bundle.specs.PartFields.{IsBundleAlone, parts_alone}
 use Rattle.rpki_bundle.proofs.Reading.{end_lacks, ends_err}
 use Rattle.rpki_bundle.proofs.whole.take_alone.Goals as goal
 

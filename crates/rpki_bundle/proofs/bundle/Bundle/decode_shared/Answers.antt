@@ -1,11 +1,10 @@
 use Rattle.std.proofs.Common.{sym, subst}
 use Rattle.rpki_bundle.specs.Bundle.{BundleValue, BundleText}
 use Rattle.rpki_bundle.proofs.Reading.{refused_text}
-use Rattle.rpki_bundle.proofs.Texts.{text_told}
 use Rattle.rpki_bundle.proofs.bundle.Bundle.decode_shared.Goals as goal
 
 pub bundle_of-requires : goal.bundle_of-requires
-bundle_of-requires c = (text_told c.in-Ok.ensures).lawful
+bundle_of-requires c = (_, c.in-Ok.ensures)
 
 pub returns-in-Ok-clause-ok : goal.returns-in-Ok-clause-ok
 returns-in-Ok-clause-ok c = subst (λ (b : BundleValue). BundleText c.args.octets b) (sym c.bundle_of.ensures) c.in-Ok.ensures

@@ -1,6 +1,6 @@
 use Rattle.std.proofs.Common.{refl, subst, sym}
-use Rattle.rpki_bundle.specs.Lawful.{IsLawful}
-use Rattle.rpki_bundle.proofs.Texts.{text_told, lawful_text, same_lists}
+use Rattle.rpki_bundle.specs.Bundle.{IsSpelled}
+use Rattle.rpki_bundle.proofs.Texts.{same_lists}
 use Rattle.rpki_bundle.proofs.bundle.Bundle.from_parts.Goals as goal
 
 pub returns-then-not-is_lawful-clause-refused : goal.returns-then-not-is_lawful-clause-refused
@@ -8,11 +8,10 @@ returns-then-not-is_lawful-clause-refused c = (
   refl,
   λ octets t.
       let parts = same_lists (sym c.as_slice-names.ensures.value) (sym c.as_slice-uris.ensures.value) (sym c.as_slice-digests.ensures.value) in
-      let no = c.if-not-is_lawful.ensures.1 (subst IsLawful parts (text_told t).lawful) in absurd cc,
+      let no = c.if-not-is_lawful.ensures.1 (subst IsSpelled parts (octets, t)) in absurd cc,
 )
 
 pub returns-clause-spelled : goal.returns-clause-spelled
 returns-clause-spelled c =
     let parts = same_lists c.as_slice-names.ensures.value c.as_slice-uris.ensures.value c.as_slice-digests.ensures.value in
-    let lawful = subst IsLawful parts (c.if-not-is_lawful.ensures.0 refl) in
-    (_, lawful_text lawful)
+    subst IsSpelled parts (c.if-not-is_lawful.ensures.0 refl)
