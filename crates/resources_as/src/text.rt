@@ -104,7 +104,7 @@ impl fmt::Display for AsBlocks {
     }
 }
 
-/// Writes blocks, each behind `, `.
+/// Writes blocks, each after `, `.
 fn write_behind<W: fmt::Write>(blocks: AsBlocksIter<'_>, f: &mut fmt::Formatter<W>) -> fmt::Result
     ensures { DisplaysOnOk W.Write.write_str_gives f.old result
         (Some (flat_map (λ r. codes ", " ++ run_text r) blocks.entry)) f.new }
@@ -116,7 +116,7 @@ fn write_behind<W: fmt::Write>(blocks: AsBlocksIter<'_>, f: &mut fmt::Formatter<
 }
 
 impl AsResources {
-    /// The resources of a text: `inherit`, or a set; of the empty text, none. What is wrong is told as by
+    /// The resources of a text: `inherit`, or a set; of the empty text, none. It is refused as by
     /// `AsBlocks::from_str`.
     pub fn from_str(alloc: Global, text: &str) -> Result<Self, FromStrError>
         ensures { ReadsAsChoice text.now result }

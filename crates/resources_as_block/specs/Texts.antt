@@ -35,7 +35,7 @@ IsNoAsBlock text BadRange =
 IsNoAsBlock text BadBlocks = ⊥
 IsNoAsBlock text Memory = ⊥
 
--- The answer is the block that the text writes; or it writes none, for the reason told.
+-- The answer is the block that the text writes; or it writes none, for that reason.
 abbrev pub ReadsAsBlock : List ℕ → Result AsBlock FromStrError → Type 0
 ReadsAsBlock text r =
     MatchResult r (λ b. IsAsBlockText text (as_run b)) (λ e. IsNoAsBlock text e × ((run : Run) → ¬ (IsAsBlockText text run)))

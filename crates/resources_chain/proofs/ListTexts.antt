@@ -128,6 +128,6 @@ pub piece_printed : (f : Run → List ℕ) (text start : List ℕ) (left rest : 
 piece_printed f text start left rest r e g =
     append_assoc text (codes ", " ++ f r) (flat_map (λ s. codes ", " ++ f s) rest) ∙ ap (λ (z : List Run). text ++ flat_map (λ s. codes ", " ++ f s) z) (sym g) ∙ e
 
--- All pieces are: the first, and those behind it.
+-- All pieces are: the first, and those after it.
 pub pieces_printed : (f : Run → List ℕ) (runs behind : List Run) (r : Run) → runs ≡ r ∷ behind → f r ++ flat_map (λ s. codes ", " ++ f s) behind ≡ join_by f (codes ", ") runs
 pieces_printed f runs behind r e = ap (λ (z : List Run). join_by f (codes ", ") z) (sym e)

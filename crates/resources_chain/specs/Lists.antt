@@ -26,7 +26,7 @@ pub record IsSetText (Writes : List ℕ → Run → Type 0) (text : List ℕ) (s
   pub are : IsListText Writes text runs
   pub union : IsRunsOf (InRuns runs) set
 
--- The first pieces write these runs, and this is left behind the last of their commas.
+-- The first pieces write these runs, and this is left after the last of their commas and its space.
 abbrev pub Leaves : (List ℕ → Run → Type 0) → List ℕ → List Run → List ℕ → Type 0
 Leaves Writes text [] rest = text ≡ rest
 Leaves Writes text (r ∷ runs) rest = (piece behind : List ℕ) × CutsPiece text piece behind × Writes piece r × Leaves Writes behind runs rest

@@ -12,3 +12,4 @@ pub mod of_bcder_content
 pub mod of_bcder_octets
 pub mod of_resources_chain
 pub mod of_resources_ip_block
+pub mod Texts

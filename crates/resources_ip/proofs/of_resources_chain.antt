@@ -2,3 +2,4 @@
 pub use Rattle.resources_ip_block.proofs.of_resources_chain.ClaimLemmas
 pub use Rattle.resources_ip_block.proofs.of_resources_chain.CutLemmas
 pub use Rattle.resources_ip_block.proofs.of_resources_chain.SetLemmas
+pub use Rattle.resources_ip_block.proofs.of_resources_chain.ListTexts

@@ -2,6 +2,7 @@ pub mod Blocks
 pub mod WholeSets
 pub mod Choices
 pub mod Shown
+pub mod Texts
 pub mod Encodings
 pub mod Reading
 pub mod Written

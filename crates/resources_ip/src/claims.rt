@@ -1,6 +1,8 @@
 //! Addresses that are listed and that the issuer doesn't hold.
 
-ghost use Rattle.std.specs.Prelude.{◌≡◌};
+ghost use Rattle.std.specs.Prelude.{◌≡◌, ◌++◌, Some, codes};
+ghost use Rattle.resources_ip.specs.resources_ip_prefix.declared.addr.AddressFamily.TheVariants.{Ipv4, Ipv6};
+ghost use Rattle.resources_ip.specs.Texts.{ip_set_text};
 
 use crate::blocks::IpBlocks;
 use crate::listed::IpBlocksForFamily;
@@ -66,7 +68,10 @@ impl OverclaimedIpResources {
 #[derive(Clone, Debug, Drop, PartialEq, Eq)]
 pub struct OverclaimedIpv4Resources(pub OverclaimedIpResources);
 
+/// `overclaimed IPv4 resources: ` and the set.
 impl fmt::Display for OverclaimedIpv4Resources {
+    ghost output = { λ claim. Some (codes "overclaimed IPv4 resources: " ++ ip_set_text Ipv4 claim.0) };
+
     fn fmt<W: fmt::Write>(&self, f: &mut fmt::Formatter<W>) -> fmt::Result {
         write!(
             f,
@@ -82,7 +87,10 @@ impl Error for OverclaimedIpv4Resources {}
 #[derive(Clone, Debug, Drop, PartialEq, Eq)]
 pub struct OverclaimedIpv6Resources(pub OverclaimedIpResources);
 
+/// `overclaimed IPv6 resources: ` and the set.
 impl fmt::Display for OverclaimedIpv6Resources {
+    ghost output = { λ claim. Some (codes "overclaimed IPv6 resources: " ++ ip_set_text Ipv6 claim.0) };
+
     fn fmt<W: fmt::Write>(&self, f: &mut fmt::Formatter<W>) -> fmt::Result {
         write!(
             f,

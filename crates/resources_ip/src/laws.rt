@@ -11,6 +11,7 @@ ghost use Rattle.resources_ip.specs.resources_ip_prefix.declared.addr.AddressFam
 ghost use Rattle.resources_ip.specs.resources_ip_prefix.declared.addr.AddressFamily.TheVariants.{Ipv4, Ipv6};
 ghost use Rattle.resources_ip.specs.Encodings.{FamilyChoices, IsBlockList, IsIpAddrBlocks, IsIpChoice};
 ghost use Rattle.resources_ip.specs.Blocks.{IsAddress};
+ghost use Rattle.resources_ip.specs.Texts.{IsIpSetText};
 ghost use Rattle.resources_ip.specs.WholeSets.{AreWhole, ListsWhole};
 ghost use Rattle.resources_ip.specs.Written.{AreIpList, AreIpResources, FitsChoice, FitsSet, ReadsChoice, ReadsList};
 ghost use Rattle.resources_ip.specs.WrittenFamilies.{FamiliesTrees, ReadsFamilies, WritesFamilies, both};
@@ -101,4 +102,10 @@ pub fn numbers_of_sets()
 pub fn what_is_kept_is_whole()
     ensures { (choice : Choice) (held set : List Run) → ListsWhole choice → AreWhole held
         → IsRunsOf (Kept choice (InRuns held)) set → AreWhole set }
+{}
+
+/// A text is that of one set of addresses of a family at most.
+pub fn a_text_writes_one_set()
+    ensures { (family : FamilyValue) (text : List ℕ) (one other : List Run) → IsIpSetText family text one
+        → IsIpSetText family text other → one ≡ other }
 {}

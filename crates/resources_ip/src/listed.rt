@@ -1,14 +1,25 @@
 //! Sets of addresses written and read: `10.0.0.0/8, 11.0.0.0-11.0.0.9`.
 
-ghost use Rattle.std.specs.Prelude.{◌≡◌, ◌↔◌, ℕ, [], IfOk};
-ghost use Rattle.resources_ip.specs.resources_chain.Sets.{InRuns};
+ghost use Rattle.std.specs.Prelude.{◌≡◌, ◌↔◌, ◌⊎◌, ◌++◌, ℕ, [], List, map, Some, IfOk, IfErr, MatchResult, codes};
+ghost use Rattle.std.specs.Fmt.{DisplaysOnOk};
+ghost use Rattle.std.specs.List.{flat_map};
+ghost use Rattle.resources_ip.specs.resources_chain.Sets.{Run, InRuns};
+ghost use Rattle.resources_ip.specs.resources_chain.Lists.{IsListText, HasFault};
 ghost use Rattle.resources_ip.specs.resources_ip_prefix.declared.addr.AddressFamily.TheVariants.{Ipv4, Ipv6};
 ghost use Rattle.resources_ip_block.specs.Block.{run_of_block};
 ghost use Rattle.resources_ip.specs.resources_ip_prefix.Whole.{IsWhole};
+ghost use Rattle.resources_ip.specs.resources_ip_prefix.ReadTexts.{Shows};
+ghost use Rattle.resources_ip.specs.resources_ip_prefix.declared.addr.AddressFamily.{AddressFamily as FamilyValue};
+ghost use Rattle.resources_ip.specs.resources_ip_prefix.declared.error.FromStrError.TheVariants as Cause;
+ghost use Rattle.resources_ip_block.specs.BlockText.{block_text, address_text};
+ghost use Rattle.resources_ip_block.specs.ReadTexts.{WritesBlock};
+ghost use Rattle.resources_ip.specs.Blocks.{blocks_left};
 ghost use Rattle.resources_ip.specs.Shown.{shown_family, shown_set};
+ghost use Rattle.resources_ip.specs.Texts.{IsIpSetText, IsNoPiece, ReadsIpSet, ip_set_text};
 ghost use Rattle.resources_ip.specs.WholeSets.{AreWhole};
+ghost use Rattle.resources_ip.specs.Written.{FitsSet};
 
-use crate::blocks::{IpBlocks, IpBlocksBuilder};
+use crate::blocks::{IpBlockIter, IpBlocks, IpBlocksBuilder};
 use resources_chain::cut_piece;
 use resources_ip_block::{AddressFamily, FromStrError, IpBlock};
 pub use resources_ip_block::{DisplayV4Block, DisplayV6Block};
@@ -46,45 +57,105 @@ impl<'a> IpBlocksForFamily<'a> {
     }
 }
 
+/// The blocks, ascending, with `, ` between them.
 impl fmt::Display for IpBlocksForFamily<'_> {
+    ghost output = { λ shown. Some (ip_set_text (shown_family shown) (shown_set shown)) };
+
     fn fmt<W: fmt::Write>(&self, f: &mut fmt::Formatter<W>) -> fmt::Result {
-        let mut is_first = true;
-        for block in self.blocks.iter() {
-            if !is_first {
-                f.write_str(", ")?;
-            }
-            is_first = false;
-            match self.family {
-                AddressFamily::Ipv4 => block.fmt_v4(f)?,
-                AddressFamily::Ipv6 => block.fmt_v6(f)?,
-            }
-        }
-        Ok(())
+        let mut blocks = self.blocks.iter();
+        let Some(first) = blocks.next() else {
+            return Ok(());
+        };
+        write_block(self.family, first, f)?;
+        write_behind(self.family, blocks, f)
     }
+}
+
+// Writes a block as one of the family.
+fn write_block<W: fmt::Write>(
+    family: AddressFamily,
+    block: IpBlock,
+    f: &mut fmt::Formatter<W>,
+) -> fmt::Result
+    ensures { DisplaysOnOk W.Write.write_str_gives f.old result
+        (Some (block_text (address_text family) (run_of_block block))) f.new }
+{
+    match family {
+        AddressFamily::Ipv4 => write!(f, "{}", block.display_v4()),
+        AddressFamily::Ipv6 => write!(f, "{}", block.display_v6()),
+    }
+}
+
+// Writes blocks as those of the family, each after `, `.
+fn write_behind<W: fmt::Write>(
+    family: AddressFamily,
+    blocks: IpBlockIter<'_>,
+    f: &mut fmt::Formatter<W>,
+) -> fmt::Result
+    ensures { DisplaysOnOk W.Write.write_str_gives f.old result
+        (Some (flat_map (λ r. codes ", " ++ block_text (address_text family) r)
+        (map run_of_block (blocks_left blocks.entry)))) f.new }
+{
+    for block in blocks {
+        f.write_str(", ")?;
+        write_block(family, block, f)?;
+    }
+    Ok(())
 }
 
 impl IpBlocks {
     /// The set of a text: blocks of one family with `,` or `, ` between them, in any order; an IPv6 one has a
-    /// colon. Of the empty text, and of no other, it has no addresses.
+    /// colon. Of the empty text, and of no other, it has no addresses. It is refused as by `read_list`.
     pub fn from_str(alloc: Global, text: &str) -> Result<Self, FromStrError>
         ensures none { IfOk result (λ s. ((n : ℕ) → ¬ (InRuns s n)) ↔ (text.now ≡ [])) }
+        ensures reads { (family : FamilyValue) → Shows family text.now
+            → ReadsIpSet family text.now result }
     {
-        read_list(alloc, AddressFamily::of_text(text), text)
+        let family = AddressFamily::of_text(text);
+        read_list(alloc, family, text)
+    }
+
+    /// What is printed of the set as one of a family that it can be of is read as the same set. This is a law about the
+    /// set: nothing is done.
+    pub fn text_is_read(&self)
+        ensures { (family : FamilyValue) → FitsSet family self.now
+            → IsIpSetText family (ip_set_text family self.now) self.now }
+    {
+        self.as_blocks();
     }
 }
 
 /// The set of a text of blocks of the family, with `,` or `, ` between them, in any order. Of the empty text, and of no
-/// other, it has no addresses.
+/// other, it has no addresses. The first piece that is no block of the family says what is wrong: `BadBlocks` where it is
+/// empty, `FamilyMismatch` where it is of the other family by its colons, else what `IpBlock` refuses. `Memory` comes only
+/// of a text without a fault.
 #[tactic(auto, using(crate::proofs::WholeLemmas::whole_none, crate::proofs::WholeLemmas::whole_set, crate::proofs::WholeLemmas::some_set))]
 pub fn read_list(alloc: Global, family: AddressFamily, text: &str) -> Result<IpBlocks, FromStrError>
     ensures whole { IfOk result (λ s. family ≡ Ipv4 → AreWhole s) }
     ensures none { IfOk result (λ s. ((n : ℕ) → ¬ (InRuns s n)) ↔ (text.now ≡ [])) }
+    ensures reads { ReadsIpSet family text.now result }
 {
     if text.is_empty() {
         return Ok(IpBlocks::empty());
     }
+    check_blocks(family, text)?;
     let blocks = read_blocks(alloc, family, text)?;
-    blocks.finalize(alloc).map_err(|_| FromStrError::Memory)
+    Ok(blocks.finalize(alloc)?)
+}
+
+// Whether each piece of a text is a block of the family; what is wrong with the first that is none.
+#[tactic(auto, using(crate::proofs::Cut::piece_shorter))]
+fn check_blocks(family: AddressFamily, text: &str) -> Result<(), FromStrError>
+    ensures { MatchResult result (λ _. (runs : List Run) × IsListText (WritesBlock family) text.now runs)
+        (λ e. HasFault (WritesBlock family) (IsNoPiece family e) text.now) }
+{
+    let mut rest = text;
+    while let Some((piece, behind)) = cut_piece(rest) {
+        read_piece(family, piece)?;
+        rest = behind;
+    }
+    read_piece(family, rest)?;
+    Ok(())
 }
 
 // The blocks of a text that has one at least.
@@ -96,29 +167,35 @@ fn read_blocks(
 ) -> Result<IpBlocksBuilder, FromStrError>
     ensures whole { IfOk result (λ b. family ≡ Ipv4 → AreWhole b) }
     ensures some { IfOk result (λ b. (n : ℕ) × InRuns b n) }
+    ensures listed { IfOk result (λ b. IsListText (WritesBlock family) text.now b) }
+    ensures refused { IfErr result
+        (λ e. (e ≡ Cause.Memory) ⊎ HasFault (WritesBlock family) (IsNoPiece family e) text.now) }
 {
     let mut blocks = IpBlocksBuilder::new(alloc);
     let mut rest = text;
     while let Some((piece, behind)) = cut_piece(rest) {
         let block = read_piece(family, piece)?;
-        blocks.push(block).map_err(|_| FromStrError::Memory)?;
+        blocks.push(block)?;
         rest = behind;
     }
     let block = read_piece(family, rest)?;
-    blocks.push(block).map_err(|_| FromStrError::Memory)?;
+    blocks.push(block)?;
     Ok(blocks)
 }
 
-// The block of a text of the family.
-fn read_piece(family: AddressFamily, text: &str) -> Result<IpBlock, FromStrError>
-    ensures { IfOk result (λ b. family ≡ Ipv4 → IsWhole (run_of_block b)) }
+// The block of a piece between commas.
+fn read_piece(family: AddressFamily, piece: &str) -> Result<IpBlock, FromStrError>
+    ensures whole { IfOk result (λ b. family ≡ Ipv4 → IsWhole (run_of_block b)) }
+    ensures reads { MatchResult result (λ b. WritesBlock family piece.now (run_of_block b))
+        (λ e. IsNoPiece family e piece.now) }
 {
-    if text.is_empty() {
+    if piece.is_empty() {
         return Err(FromStrError::BadBlocks);
     }
-    match (family, AddressFamily::of_text(text)) {
-        (AddressFamily::Ipv4, AddressFamily::Ipv4) => IpBlock::from_v4_str(text),
-        (AddressFamily::Ipv6, AddressFamily::Ipv6) => IpBlock::from_v6_str(text),
-        _ => Err(FromStrError::FamilyMismatch),
+    let shown = AddressFamily::of_text(piece);
+    if shown == family {
+        IpBlock::from_family_str(family, piece)
+    } else {
+        Err(FromStrError::FamilyMismatch)
     }
 }

@@ -16,7 +16,7 @@ pub record IsBlockText (address_text : ℕ → List ℕ) (r : Run) (text : List 
   pub prefix : (len : ℕ) → len ≤ 128 → first_of len r.first ≡ r.first → prefix_run r.first len ≡ r → text ≡ slashed (address_text r.first) len
   pub range : ((len : ℕ) → len ≤ 128 → first_of len r.first ≡ r.first → ¬ (prefix_run r.first len ≡ r)) → text ≡ dashed (address_text r.first) (address_text r.last)
 
--- The same as a function: the length of the one prefix that can have these addresses is told by how many they are.
+-- This text as a function of the run. How many addresses there are gives the length of the one prefix that can have them.
 abbrev pub length_of_run : Run → ℕ
 length_of_run r = count_leading_zeros 128 (r.last - r.first)
 

@@ -14,7 +14,7 @@ use Rattle.resources_ip_block.specs.declared.range.AddressRange.{AddressRange}
 use Rattle.resources_ip_block.specs.Block.{run_of_block}
 use Rattle.resources_ip_block.specs.Range.{run_of_range}
 
--- The first address, a dash (45), and the last, which isn't before the first; behind the family's bits it has ones.
+-- The first address, a dash (45), and the last, which isn't before the first; after the family's bits it has ones.
 pub record WritesRange (family : AddressFamily) (text : List ℕ) (r : Run) : Type 0 where
   pub min : List ℕ
   pub max : List ℕ
@@ -38,7 +38,7 @@ IsNoRange family text Cause.FamilyMismatch = ⊥
 IsNoRange family text Cause.BadBlocks = ⊥
 IsNoRange family text Cause.Memory = ⊥
 
--- The answer is the range that the text writes; or it writes none, for the reason told.
+-- The answer is the range that the text writes; or it writes none, for that reason.
 abbrev pub ReadsRange : AddressFamily → List ℕ → Result AddressRange FromStrError → Type 0
 ReadsRange family text r =
     MatchResult r (λ a. WritesRange family text (run_of_range a))

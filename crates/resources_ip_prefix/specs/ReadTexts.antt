@@ -37,7 +37,7 @@ pub record WritesPrefix (family : AddressFamily) (text : List ℕ) (first len : 
   pub length : IsLengthText family digits len
   pub first_is : first ≡ first_of len bits
 
--- What is wrong with a text: there is no slash, what stands before it is no address, or what stands behind it no length.
+-- What is wrong with a text: there is no slash, what stands before it is no address, or what stands after it no length.
 abbrev pub IsNoPrefix : AddressFamily → List ℕ → FromStrError → Type 0
 IsNoPrefix family text Cause.MissingSeparator = LacksByte 47 text
 IsNoPrefix family text Cause.Addr = (address digits : List ℕ) × IsCut 47 text address digits × IsNoAddr family address
@@ -49,7 +49,7 @@ IsNoPrefix family text Cause.BadBlocks = ⊥
 IsNoPrefix family text Cause.BadRange = ⊥
 IsNoPrefix family text Cause.Memory = ⊥
 
--- The answer is the prefix that the text writes; or it writes none, for the reason told.
+-- The answer is the prefix that the text writes; or it writes none, for that reason.
 abbrev pub ReadsPrefix : AddressFamily → List ℕ → Result Prefix FromStrError → Type 0
 ReadsPrefix family text r =
     MatchResult r (λ p. WritesPrefix family text (bits_of (prefix_addr p)) (prefix_len p))

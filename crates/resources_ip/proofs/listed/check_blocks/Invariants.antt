@@ -1,0 +1,13 @@
+use Rattle.std.proofs.Common.{List, length}
+use denote.Shadow.{shadow}
+use denote.Text.{Utf8}
+use Rattle.resources_ip.specs.resources_chain.Sets.{Run}
+use Rattle.resources_ip.specs.resources_chain.Lists.{Leaves}
+use Rattle.resources_ip_block.specs.ReadTexts.{WritesBlock}
+use Rattle.resources_ip.proofs.listed.check_blocks.Given as goal
+
+abbrev pub invariant-loop-piece : goal.invariant-loop-piece
+invariant-loop-piece l = shadow (Utf8 l.rest) × ((runs : List Run) × Leaves (WritesBlock l.family) l.fn.text runs l.rest)
+
+abbrev pub decreases-loop-piece : goal.decreases-loop-piece
+decreases-loop-piece l = length l.rest
