@@ -3,8 +3,10 @@ use Rattle.std.proofs.Common.{◌≡◌, ℕ, ◌+◌, ◌/◌, ◌%◌, ◌≤�
 use Rattle.std.proofs.lemmas.List.Sorted.{IsPermutation-sym, IsPermutation-trans}
 use Rattle.std.specs.List.Sorted.{IsPermutation}
 use Rattle.rpki_commands.proofs.of_bcder_tree.Unique.{by_length}
+use Rattle.rpki_commands.specs.rpki_bundle.declared.parts.Locator.{Locator}
+use Rattle.rpki_commands.specs.rpki_bundle.declared.parts.Object.{Object}
 use Rattle.rpki_commands.specs.rpki_bundle.declared.parts.Verdict.{Verdict}
-use Rattle.rpki_commands.specs.rpki_bundle.Bundle.{verdict_row}
+use Rattle.rpki_commands.specs.rpki_bundle.Bundle.{BundleText, BundleValue, verdict_row}
 use Rattle.rpki_commands.specs.rpki_bundle.Orders.{Ascends}
 use Rattle.rpki_commands.specs.certs_time.Times.{IsMoment}
 use Rattle.rpki_commands.proofs.of_certs_time.Moments.{one_moment}
@@ -70,16 +72,28 @@ one_list_told t (v ∷ vs) (w ∷ ws) a b =
 one_sorted : {X : Type 0} (row : X → List ℕ) (read ys zs : List X) → IsPermutation read ys → IsPermutation read zs → IsSortedOn row ys → Ascends row zs → zs ≡ ys
 one_sorted row read ys zs p q s a = sym (one_order row ys zs (IsPermutation-trans ys read zs (IsPermutation-sym read ys p) q) s a)
 
+-- The lists of a bundle that has a text ascend.
+abbrev AllAscend : BundleValue → Type 0
+AllAscend b = Ascends (λ (l : Locator). l.name) b.locators × Ascends (λ (o : Object). o.uri) b.objects × Ascends verdict_row b.verdicts
+
+all_ascend : {text : List ℕ} {b : BundleValue} → BundleText text b → AllAscend b
+all_ascend {text} {b} t =
+    let p = t.spelled.is in
+    let locators = p.is.is.rest.rest.rest in
+    let objects = locators.rest in
+    let verdicts = objects.rest in
+    subst AllAscend (sym p.means) (locators.is.meets, objects.is.meets, verdicts.is.meets)
+
 -- The bundle of a folder has the parts that the folder gives, sorted.
 pub one_told : {c : Contents} {p : Parts} {text : List ℕ} → TellsParts c p → (t : TellsText c text) → t.bundle ≡ value_of p
 one_told {c} {p} {text} a t =
     let told = t.told in
-    let form = t.text_is.form in
+    let ascend : AllAscend t.bundle = all_ascend t.text_is in
     let same = one_list_told c.verdicts.items told.verdicts a.told.verdicts told.verdicts_are a.told.verdicts_are in
     let again : IsPermutation a.told.verdicts t.bundle.verdicts = subst (λ (vs : List Verdict). IsPermutation vs t.bundle.verdicts) same told.same_verdicts in
     bundle_fields t.bundle (value_of p)
     (one_moment_told told.moment_is a.told.moment_is)
     (one_depth_told told.depth_is a.told.depth_is)
-    (one_sorted (λ l. l.name) c.locators.items p.locators.items t.bundle.locators a.told.same_locators told.same_locators a.locators_sorted form.locators_ascend)
-    (one_sorted (λ o. o.uri) c.objects.items p.objects.items t.bundle.objects a.told.same_objects told.same_objects a.objects_sorted form.objects_ascend)
-    (one_sorted verdict_row a.told.verdicts p.verdicts.items t.bundle.verdicts a.told.same_verdicts again a.verdicts_sorted form.verdicts_ascend)
+    (one_sorted (λ l. l.name) c.locators.items p.locators.items t.bundle.locators a.told.same_locators told.same_locators a.locators_sorted ascend.0)
+    (one_sorted (λ o. o.uri) c.objects.items p.objects.items t.bundle.objects a.told.same_objects told.same_objects a.objects_sorted ascend.1)
+    (one_sorted verdict_row a.told.verdicts p.verdicts.items t.bundle.verdicts a.told.same_verdicts again a.verdicts_sorted ascend.2)
