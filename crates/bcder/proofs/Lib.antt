@@ -1,5 +1,4 @@
 pub mod of_bcder_bits
-pub mod of_bcder_chars
 pub mod of_bcder_content
 pub mod of_bcder_number
 pub mod of_bcder_octets

@@ -1,7 +1,6 @@
 pub mod Kinds
 -- What stands below, for the crates above.
 pub use Rattle.bcder_bits.specs as bcder_bits
-pub use Rattle.bcder_strings.specs.bcder_chars as bcder_chars
 pub use Rattle.bcder_bits.specs.bcder_content as bcder_content
 pub use Rattle.bcder_bits.specs.bcder_header as bcder_header
 pub use Rattle.bcder_number.specs as bcder_number

@@ -4,7 +4,7 @@ use Rattle.bcder_strings.specs.bcder_tree.declared.mode.Mode.{Mode}
 use Rattle.bcder_strings.specs.bcder_tree.Tags.{TagValue}
 use Rattle.bcder_strings.specs.bcder_tree.Tree.{Tree, Trees, none, more}
 use Rattle.bcder_strings.specs.bcder_tree.Strings.{IsString}
-use Rattle.bcder_chars.specs.Texts.{IsText}
+use Rattle.bcder_strings.specs.Texts.{IsText}
 use Rattle.bcder_strings.specs.bcder_source.declared.error.DecodeError.{DecodeError}
 use Rattle.bcder_strings.specs.bcder_content.Contents.{ValuesLeft}
 use Rattle.bcder_strings.specs.bcder_content.declared.content.Content.{Content}

@@ -2,9 +2,9 @@
 
 ghost use Rattle.std.specs.Prelude.{◌≡◌, ◌∷◌, [], IfSome, IfNone};
 ghost use Rattle.std.specs.Iterator.{YieldsFirst, item_count};
-ghost use Rattle.bcder_chars.specs.Texts.{IsText};
+ghost use Rattle.bcder_strings.specs.Texts.{IsText};
 
-use bcder_chars::CharSet;
+use crate::CharSet;
 use std::marker::{Model, PhantomData};
 
 /// The characters of a restricted string, in their order. Contracts see the list of those that are left.
@@ -16,7 +16,7 @@ pub struct RestrictedStringChars<'a, L: CharSet> {
 
 impl<'a, L: CharSet> Model for RestrictedStringChars<'a, L> {
     ghost use Rattle.std.specs.Prelude.{List, ℕ};
-    ghost use Rattle.bcder_chars.specs.Texts.{IsText};
+    ghost use Rattle.bcder_strings.specs.Texts.{IsText};
 
     ghost Value = { List ℕ };
 

@@ -5,7 +5,7 @@ ghost use Rattle.bcder_strings.specs.bcder_tree.Tags.{IsTag};
 
 use crate::bcder_source::Tag;
 use crate::string::RestrictedString;
-use bcder_chars::CharSet;
+use crate::CharSet;
 use bcder_octets::{OctetSliceEncoder, OctetString, OctetStringEncoder};
 
 /// Strings that are written, as octet strings are with another tag (X.690 8.23).

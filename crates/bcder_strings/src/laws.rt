@@ -3,12 +3,12 @@ ghost use Rattle.std.specs.Prelude.{ℕ, List};
 ghost use Rattle.bcder_strings.specs.bcder_tree.declared.mode.Mode.{Mode};
 ghost use Rattle.bcder_strings.specs.bcder_tree.Tags.{TagValue};
 ghost use Rattle.bcder_strings.specs.bcder_tree.Tree.{Trees};
-ghost use Rattle.bcder_chars.specs.Texts.{IsText};
+ghost use Rattle.bcder_strings.specs.Texts.{IsText};
 ghost use Rattle.bcder_strings.specs.bcder_content.Grammar.{One};
 ghost use Rattle.bcder_octets.specs.Segments.{StringTrees};
 ghost use Rattle.bcder_strings.specs.Restricted.{IsRestricted, WrittenText};
 
-use bcder_chars::CharSet;
+use crate::CharSet;
 
 /// What is written of a text is one value, the restricted string of these octets in the mode (X.690 8.23, 9.2, 10.2).
 pub fn a_text_is_written<L: CharSet>()

@@ -1,7 +1,7 @@
 //! Strings that are read.
 
 ghost use Rattle.std.specs.Prelude.{◌≡◌, ◌↔◌, IsTrue, IfErr, OnErr, true};
-ghost use Rattle.bcder_chars.specs.Texts.{IsText};
+ghost use Rattle.bcder_strings.specs.Texts.{IsText};
 ghost use Rattle.bcder_strings.specs.bcder_content.Ahead.{HasOctets};
 ghost use Rattle.bcder_strings.specs.bcder_content.Either.{left_of};
 ghost use Rattle.bcder_strings.specs.bcder_content.Exact.{ReadsAs, ReadsOptAs};
@@ -17,7 +17,7 @@ use crate::bcder_content::whole::{front, refuse, request_all, take_front};
 use crate::bcder_content::{Constructed, Primitive};
 use crate::bcder_source::{ContentError, DecodeError, Source};
 use crate::string::{RestrictedString, octets_of};
-use bcder_chars::CharSet;
+use crate::CharSet;
 use bcder_octets::OctetString;
 use std::alloc::Global;
 

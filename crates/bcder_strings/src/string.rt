@@ -7,12 +7,12 @@ ghost use Rattle.std.specs.Cmp.Lexicographic.{pointwise, slice_cmp, nat_list_eq_
 ghost use Rattle.std.specs.Cmp.{partial_equiv_from_equiv};
 ghost use Rattle.std.specs.Cmp.Rules.{hashing};
 ghost use Rattle.std.proofs.Common.{rules, refl};
-ghost use Rattle.bcder_chars.specs.Texts.{Tells, IsText};
+ghost use Rattle.bcder_strings.specs.Texts.{Tells, IsText};
 ghost use Rattle.bcder_strings.specs.Errors.{OnCharSet, OnMemory};
 
 use crate::chars::RestrictedStringChars;
 use crate::error::RestrictedStringError;
-use bcder_chars::{
+use crate::{
     CharSet, CharSetError, Ia5CharSet, NumericCharSet, PrintableCharSet, Utf8CharSet,
 };
 use bcder_octets::OctetString;
@@ -47,7 +47,7 @@ pub type Ia5String = RestrictedString<Ia5CharSet>;
 
 impl<L: CharSet> Model for RestrictedString<L> {
     ghost use Rattle.std.specs.Prelude.{ℕ, List};
-    ghost use Rattle.bcder_chars.specs.Texts.{IsText};
+    ghost use Rattle.bcder_strings.specs.Texts.{IsText};
 
     ghost Value = { List ℕ };
 

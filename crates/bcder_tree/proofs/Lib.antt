@@ -4,7 +4,6 @@ pub mod Trees
 pub mod Canonical
 pub mod Modes
 pub mod Fronts
-pub mod Integers
 pub mod Slices
 pub mod Identifiers
 pub mod Lengths

@@ -1,7 +1,5 @@
 -- INTEGER (X.690 8.3), the same in every mode.
 use Rattle.std.specs.Prelude.{◌≡◌, ℕ, ◌+◌, ◌*◌, ◌<◌, ◌≤◌, List, [], ◌∷◌}
-use Rattle.bcder_tree.specs.Tags.{universal}
-use Rattle.bcder_tree.specs.Tree.{Tree, primitive}
 
 -- The number that octets spell, the most significant first, after a number that was read before.
 abbrev pub number_behind : ℕ → List ℕ → ℕ
@@ -21,11 +19,3 @@ IsShortest (a ∷ b ∷ v) = ((a ≡ 0) → 128 ≤ b) × ((a ≡ 255) → b < 1
 abbrev pub IsPositive : List ℕ → Type 0
 IsPositive [] = ⊥
 IsPositive (a ∷ v) = a < 128
-
--- INTEGER n, which isn't negative.
-pub record IsNumber (t : Tree) (n : ℕ) : Type 0 where
-  pub content : List ℕ
-  pub whole : t ≡ primitive (universal 2) content
-  pub shortest : IsShortest content
-  pub positive : IsPositive content
-  pub value : number_of content ≡ n

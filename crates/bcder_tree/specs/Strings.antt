@@ -56,11 +56,3 @@ IsPrintable c = IsLetter c ⊎ (IsDigit c ⊎ IsOneOf (codes " '()+,-./:=?") c)
 -- What an IA5String has: 00 to 7F (X.680 41.1, table 8).
 abbrev pub IsIa5 : ℕ → Type 0
 IsIa5 c = c < 128
-
--- PrintableString (8.23).
-abbrev pub IsPrintableString : Mode → Tree → List ℕ → Type 0
-IsPrintableString m t text = IsString m (universal 19) t text × All IsPrintable text
-
--- IA5String, with its own tag or an implicit one (8.23, 8.14.3).
-abbrev pub IsIa5String : Mode → TagValue → Tree → List ℕ → Type 0
-IsIa5String m tag t text = IsString m tag t text × All IsIa5 text

@@ -4,7 +4,7 @@ use Rattle.certs_access.specs.bcder_tree.declared.mode.Mode.{Mode}
 use Rattle.certs_access.specs.bcder_tree.Tags.{universal, context}
 use Rattle.certs_access.specs.bcder_tree.Tree.{Tree, Trees}
 use Rattle.certs_access.specs.bcder_tree.Strings.{IsIa5}
-use Rattle.certs_access.specs.bcder_chars.Sets.{alone}
+use Rattle.certs_access.specs.bcder_strings.Sets.{alone}
 use Rattle.certs_access.specs.bcder_strings.Restricted.{IsRestricted}
 use Rattle.certs_access.specs.bcder_content.Grammar.{As, End, Inside, OctetsOf, Then}
 use Rattle.certs_access.specs.bcder_content.Words.{Gathers}

@@ -4,7 +4,6 @@ pub mod Seen
 pub mod Access
 pub mod Found
 -- What stands below, for the crates above.
-pub use Rattle.certs_basics.specs.bcder_chars as bcder_chars
 pub use Rattle.certs_basics.specs.bcder_content as bcder_content
 pub use Rattle.certs_basics.specs.bcder_oid as bcder_oid
 pub use Rattle.certs_basics.specs.bcder_strings as bcder_strings

@@ -3,7 +3,7 @@
 ghost use Rattle.std.specs.Prelude.{◌≡◌};
 ghost use Rattle.certs_access.specs.bcder_tree.Strings.{IsIa5};
 ghost use Rattle.certs_access.specs.bcder_tree.Tags.{context};
-ghost use Rattle.certs_access.specs.bcder_chars.Sets.{alone};
+ghost use Rattle.certs_access.specs.bcder_strings.Sets.{alone};
 ghost use Rattle.certs_access.specs.bcder_content.Exact.{ReadsAs, ReadsOptAs};
 ghost use Rattle.certs_access.specs.bcder_content.Here.{here};
 ghost use Rattle.certs_access.specs.bcder_content.InMode.{ReadsFields};

@@ -23,7 +23,7 @@ use Rattle.certs_built.specs.certs_specs.declared.KeyUsage.{KeyUsage}
 use Rattle.certs_built.specs.certs_specs.declared.KeyUsage.TheVariants.{Ca, Ee}
 use Rattle.certs_uri.specs.Uris.{IsRsync, IsUri, IsUriOctet}
 use Rattle.certs_uri.proofs.PathUris.{IsUri-plain}
-use Rattle.certs_uri.proofs.of_bcder_chars.Ascii.{ascii_text}
+use Rattle.certs_uri.proofs.of_bcder_strings.Ascii.{ascii_text}
 use Rattle.certs_uri.proofs.of_bcder_octets.Written.{written_string}
 use Rattle.certs_built.specs.resources_as.Encodings.{IsAsResources}
 use Rattle.certs_built.specs.resources_as.Written.{HasMaximal}

@@ -1,7 +1,7 @@
 pub mod Meanings
 pub mod Written
 pub mod of_bcder_bits
-pub mod of_bcder_chars
+pub mod of_bcder_strings
 pub mod of_bcder_content
 pub mod of_bcder_octets
 pub mod of_bcder_oid

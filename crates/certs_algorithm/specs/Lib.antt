@@ -2,7 +2,6 @@ pub mod Algorithms
 -- What stands below, for the crates above.
 pub use Rattle.certs_basics.specs.bcder as bcder
 pub use Rattle.certs_basics.specs.bcder_bits as bcder_bits
-pub use Rattle.certs_basics.specs.bcder_chars as bcder_chars
 pub use Rattle.certs_basics.specs.bcder_content as bcder_content
 pub use Rattle.certs_basics.specs.bcder_header as bcder_header
 pub use Rattle.certs_basics.specs.bcder_octets as bcder_octets

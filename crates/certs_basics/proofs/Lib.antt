@@ -1,6 +1,5 @@
 pub mod Values
 pub mod of_bcder_bits
-pub mod of_bcder_chars
 pub mod of_bcder_content
 pub mod of_bcder_number
 pub mod of_bcder_octets

@@ -8,7 +8,6 @@ pub mod Verdicts
 -- What stands below, for the crates above.
 pub use Rattle.bcder.specs as bcder
 pub use Rattle.bcder.specs.bcder_bits as bcder_bits
-pub use Rattle.bcder.specs.bcder_chars as bcder_chars
 pub use Rattle.bcder.specs.bcder_content as bcder_content
 pub use Rattle.bcder.specs.bcder_header as bcder_header
 pub use Rattle.bcder.specs.bcder_number as bcder_number

@@ -6,7 +6,7 @@ use Rattle.certs_basics.specs.bcder_tree.Tags.{universal}
 use Rattle.certs_basics.specs.bcder_tree.Tree.{Tree, primitive, constructed, none, more, Spells}
 use Rattle.certs_basics.specs.bcder_tree.Sequences.{sequence}
 use Rattle.certs_basics.specs.bcder_tree.Strings.{IsPrintable}
-use Rattle.certs_basics.specs.bcder_chars.Sets.{alone, IsUnicode}
+use Rattle.certs_basics.specs.bcder_strings.Sets.{alone, IsUnicode}
 use Rattle.certs_basics.specs.bcder_strings.Restricted.{IsRestricted}
 use Rattle.certs_basics.specs.bcder_content.Grammar.{Inside, OctetsOf, As, Then, End, Many}
 use Rattle.certs_basics.specs.bcder_content.Kept.{CapturedValue}

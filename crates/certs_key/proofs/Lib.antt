@@ -3,7 +3,7 @@ pub mod Identifying
 pub mod Alike
 pub mod Formats
 pub mod of_bcder_bits
-pub mod of_bcder_chars
+pub mod of_bcder_strings
 pub mod of_bcder_content
 pub mod of_bcder_octets
 pub mod of_bcder_oid

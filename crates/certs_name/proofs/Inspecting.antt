@@ -9,7 +9,7 @@ use Rattle.certs_name.specs.bcder_tree.Front.{Front}
 use Rattle.certs_name.specs.bcder_tree.Strings.{IsPrintable}
 use Rattle.certs_name.proofs.of_bcder_tree.Fronts.{whole_front}
 use Rattle.certs_name.proofs.of_bcder_tree.Trees.{one_tree}
-use Rattle.certs_name.specs.bcder_chars.Sets.{alone, IsUnicode}
+use Rattle.certs_name.specs.bcder_strings.Sets.{alone, IsUnicode}
 use Rattle.certs_name.specs.bcder_strings.Restricted.{IsRestricted}
 use Rattle.certs_name.specs.bcder_oid.Identifiers.{IsIdentifier}
 use Rattle.certs_name.specs.bcder_content.Grammar.{ManyCases}

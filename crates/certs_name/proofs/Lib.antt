@@ -8,7 +8,7 @@ pub mod Inspecting
 pub mod KeyNames
 pub mod Digits
 pub mod NamesAgain
-pub mod of_bcder_chars
+pub mod of_bcder_strings
 pub mod of_bcder_content
 pub mod of_bcder_number
 pub mod of_bcder_primitive

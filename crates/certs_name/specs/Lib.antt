@@ -5,7 +5,6 @@ pub mod Named
 pub mod Inspected
 -- What stands below, for the crates above.
 pub use Rattle.certs_basics.specs.bcder as bcder
-pub use Rattle.certs_basics.specs.bcder_chars as bcder_chars
 pub use Rattle.certs_basics.specs.bcder_content as bcder_content
 pub use Rattle.certs_basics.specs.bcder_number as bcder_number
 pub use Rattle.certs_basics.specs.bcder_oid as bcder_oid

@@ -3,5 +3,5 @@ pub mod UriTexts
 pub mod PathTexts
 pub mod PathUris
 pub mod SameUris
-pub mod of_bcder_chars
+pub mod of_bcder_strings
 pub mod of_bcder_octets

@@ -2,7 +2,6 @@ pub mod Uris
 pub mod Paths
 pub mod Made
 -- What stands below, for the crates above.
-pub use Rattle.bcder.specs.bcder_chars as bcder_chars
 pub use Rattle.bcder.specs.bcder_octets as bcder_octets
 pub use Rattle.bcder.specs.bcder_source as bcder_source
 pub use Rattle.bcder.specs.bcder_strings as bcder_strings

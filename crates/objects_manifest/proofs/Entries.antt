@@ -10,7 +10,7 @@ use Rattle.objects_manifest.specs.bcder_tree.Strings.{IsIa5, IsLetter}
 use Rattle.objects_manifest.specs.bcder_bits.Bits.{BitsValue}
 use Rattle.objects_manifest.specs.bcder_bits.Contents.{IsBitString, last_octet}
 use Rattle.objects_manifest.specs.bcder_content.Grammar.{Many, ManyCases, One, Tagged}
-use Rattle.certs_key.proofs.of_bcder_chars.Ascii.{ascii_text}
+use Rattle.certs_key.proofs.of_bcder_strings.Ascii.{ascii_text}
 use Rattle.objects_manifest.proofs.of_bcder_content.Simple.{unit_one}
 use Rattle.objects_manifest.proofs.of_bcder_content.Unique.{end_one, inside_one, inside_tagged, octets_one, then_one}
 use Rattle.objects_forms.specs.Manifests.{File, IsFile, IsFileName}

@@ -9,12 +9,12 @@ use Rattle.objects_written.specs.bcder_tree.Tree.{Tree, Trees, constructed, more
 use Rattle.objects_written.specs.bcder_tree.Strings.{IsIa5, IsLetter}
 use Rattle.objects_written.specs.bcder_bits.Bits.{BitsValue}
 use Rattle.objects_written.specs.bcder_bits.Contents.{IsBitString, cleared}
-use Rattle.objects_written.specs.bcder_chars.Sets.{alone}
+use Rattle.objects_written.specs.bcder_strings.Sets.{alone}
 use Rattle.objects_written.specs.bcder_strings.Restricted.{IsRestricted}
 use Rattle.objects_written.specs.bcder_content.Contents.{tag_of}
 use Rattle.objects_written.specs.bcder_content.Grammar.{End, Many, ManyCases, OctetsOf, Such, Then, Without}
 use Rattle.objects_written.specs.bcder_content.Texts.{SpellsOf}
-use Rattle.certs_key.proofs.of_bcder_chars.Ascii.{ascii_text}
+use Rattle.certs_key.proofs.of_bcder_strings.Ascii.{ascii_text}
 use Rattle.certs_key.proofs.of_bcder_content.Unique.{same_trees}
 use Rattle.objects_written.specs.bcder_values.Forms.{Alone}
 use Rattle.objects_written.specs.bcder_written.Encoded.{joined}

@@ -4,7 +4,6 @@ pub mod Manifests
 -- What stands below, for the crates above.
 pub use Rattle.certs_key.specs.bcder as bcder
 pub use Rattle.certs_key.specs.bcder_bits as bcder_bits
-pub use Rattle.objects_forms.specs.bcder_chars as bcder_chars
 pub use Rattle.certs_key.specs.bcder_content as bcder_content
 pub use Rattle.certs_key.specs.bcder_octets as bcder_octets
 pub use Rattle.certs_key.specs.bcder_primitive as bcder_primitive

@@ -11,7 +11,7 @@ pub use Rattle.certs_uri.proofs.UriTexts
 pub use Rattle.certs_time.proofs.Calendar
 pub use Rattle.certs_time.proofs.Moments
 pub mod Objects
-pub mod of_bcder_chars
+pub mod of_bcder_strings
 pub mod of_bcder_content
 pub mod of_bcder_tree
 pub mod of_bcder_values

@@ -7,9 +7,9 @@ use Rattle.rpki_bundle.specs.bcder_tree.Tags.{universal}
 use Rattle.rpki_bundle.specs.bcder_tree.Integers.{number_behind, IsShortest}
 use Rattle.rpki_bundle.specs.bcder_tree.Strings.{IsIa5, octet_string_tag}
 use Rattle.rpki_bundle.specs.bcder_primitive.Values.{AnyOctets, IsUnsigned}
-use Rattle.rpki_bundle.specs.bcder_chars.Sets.{alone}
-use Rattle.rpki_bundle.specs.bcder_chars.Texts.{IsText as IsTextOf}
-use Rattle.rpki_bundle.proofs.of_bcder_chars.Ascii.{ascii_text}
+use Rattle.rpki_bundle.specs.bcder_strings.Sets.{alone}
+use Rattle.rpki_bundle.specs.bcder_strings.Texts.{IsText as IsTextOf}
+use Rattle.rpki_bundle.proofs.of_bcder_strings.Ascii.{ascii_text}
 use Rattle.rpki_bundle.specs.bcder_content.Grammar.{OctetsOf}
 use Rattle.rpki_bundle.specs.bcder_written.Encoded.{WritesWrapped}
 use Rattle.rpki_bundle.specs.bcder_written.Integers.{WritesUnsigned}

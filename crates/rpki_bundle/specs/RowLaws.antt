@@ -4,7 +4,7 @@ use Rattle.rpki_bundle.specs.bcder_tree.declared.mode.Mode.{Mode}
 use Rattle.rpki_bundle.specs.bcder_tree.Tags.{TagValue, universal}
 use Rattle.rpki_bundle.specs.bcder_tree.Sequences.{sequence_tag}
 use Rattle.rpki_bundle.specs.bcder_tree.Strings.{IsString, IsPrintable, IsIa5, IsOctetString, octet_string_tag}
-use Rattle.rpki_bundle.specs.bcder_chars.Sets.{alone}
+use Rattle.rpki_bundle.specs.bcder_strings.Sets.{alone}
 use Rattle.rpki_bundle.specs.bcder_content.Grammar.{One, Tagged}
 use Rattle.certs_key.proofs.of_bcder_content.Unique.{octets_one, such_one, inside_one, then_one, end_one, as_one, as_tagged, inside_tagged}
 use Rattle.certs_key.proofs.of_bcder_octets.Meaning.{one_string}

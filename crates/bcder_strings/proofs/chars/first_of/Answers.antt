@@ -1,4 +1,4 @@
-use Rattle.bcder_chars.proofs.Checks.{text_none}
+use Rattle.bcder_strings.proofs.Checks.{text_none}
 use Rattle.bcder_strings.proofs.Characters.{first_found, rest_found, none_found}
 use Rattle.bcder_strings.proofs.chars.first_of.Goals as goal
 

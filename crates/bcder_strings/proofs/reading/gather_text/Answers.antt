@@ -1,5 +1,5 @@
 use Rattle.std.proofs.Common.{sym, subst, refl}
-use Rattle.bcder_chars.specs.Texts.{IsText}
+use Rattle.bcder_strings.specs.Texts.{IsText}
 use Rattle.bcder_octets.proofs.Wanting.{memory_through}
 use Rattle.bcder_strings.proofs.Texts.{text_given, text_refused, text_stopped}
 use Rattle.bcder_strings.proofs.reading.gather_text.Goals as goal

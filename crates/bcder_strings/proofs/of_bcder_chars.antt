@@ -1,2 +1,0 @@
--- Lemmas of bcder_chars, for the crates above.
-pub use Rattle.bcder_chars.proofs.Ascii
