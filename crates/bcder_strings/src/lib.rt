@@ -8,23 +8,24 @@
 //! The sets of characters stand here, too: how octets spell the characters of each (`char_set`, `sets`).
 //!
 //! What differs from the Rust crate: `next_char` and `check` of a set read a slice, and no iterator of octets;
-//! `next_char` answers what comes after the character, too; a set's `from_str` lends the octets of the text. What takes memory is given an allocator and answers a `Result`; `from_str` and
-//! `from_string` refuse with `RestrictedStringError`, which has a cause for lack of memory; in place of `Deref` there
-//! are `as_octet_string`, `into_octet_string` and the calls of an octet string by name; `chars` in place of an
-//! `IntoIterator`.
+//! `next_char` answers what comes after the character, too; a set's `from_str` lends the octets of the text. What
+//! takes memory is given an allocator and answers a `Result`; `from_str` and `from_string` of a string refuse with
+//! `RestrictedStringError`, which has a cause for lack of memory; in place of `Deref` there are `as_octet_string`,
+//! `into_octet_string` and the calls of an octet string by name; `chars` in place of an `IntoIterator`.
 #![tactic(auto)]
 
+pub mod char_set;
 pub mod chars;
+pub mod chars_laws;
 pub mod encode;
 pub mod error;
 pub mod laws;
+mod octet_set;
 mod reading;
+pub mod sets;
 pub mod string;
+mod utf8;
 
-pub use crate::{
-    CharSet, CharSetError, Ia5CharSet, NumericCharSet, PrintableCharSet, Utf8CharSet,
-    laws as chars_laws,
-};
 pub use bcder_octets::{
     OctetSliceEncoder, OctetString, OctetStringEncoder, OctetStringIter, OctetStringOctets,
     OctetStringSource, WrappingOctetStringEncoder, bcder_content, bcder_source,
