@@ -3,7 +3,7 @@ use Rattle.std.proofs.Common.{◌≡◌, ℕ, Bool, true, false, List, refl, ap,
 use Rattle.std.specs.Prelude.{ℤ, pos, unsigned_abs}
 use Rattle.bcder_bits.specs.bcder_tree.declared.mode.Mode.{Mode}
 use Rattle.bcder_bits.specs.bcder_tree.declared.mode.Mode.TheVariants.{Ber, Cer, Der}
-use Rattle.bcder_bits.specs.bcder_tree.Tags.{TagValue, universal}
+use Rattle.bcder_bits.specs.bcder_tree.Tags.{TagValue, universal, boolean_tag, integer_tag, null_tag, oid_tag}
 use Rattle.bcder_bits.specs.bcder_tree.Strings.{IsString, octet_string_tag}
 use Rattle.bcder_bits.specs.bcder_tree.Tree.{Tree, primitive, constructed}
 use Rattle.bcder_bits.specs.bcder_primitive.Values.{AnyOctets, IsBoolean, IsNull, IsTruth, IsUnsigned}
@@ -148,16 +148,16 @@ octets_at tag = record {
 }
 
 abbrev pub boolean : Form Bool
-boolean = boolean_at (universal 1)
+boolean = boolean_at boolean_tag
 
 abbrev pub integer : Form ℤ
-integer = integer_at (universal 2)
+integer = integer_at integer_tag
 
 abbrev pub natural : Form ℕ
-natural = natural_at (universal 2)
+natural = natural_at integer_tag
 
 abbrev pub unsigned : ℕ → Form ℕ
-unsigned bound = unsigned_at bound (universal 2)
+unsigned bound = unsigned_at bound integer_tag
 
 abbrev pub bits : Form BitsValue
 bits = bits_at (universal 3)
@@ -166,10 +166,10 @@ abbrev pub octets : Form (List ℕ)
 octets = octets_at octet_string_tag
 
 abbrev pub null : Form (Unit {0})
-null = null_at (universal 5)
+null = null_at null_tag
 
 abbrev pub oid : Form (List ℕ)
-oid = oid_at (universal 6)
+oid = oid_at oid_tag
 
 abbrev pub that_oid : List ℕ → Form (Unit {0})
-that_oid octets = that_oid_at octets (universal 6)
+that_oid octets = that_oid_at octets oid_tag

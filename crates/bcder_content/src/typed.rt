@@ -2,7 +2,7 @@
 ghost use Rattle.std.specs.Prelude.{◌≡◌, ◌≢◌, ◌^◌, IfErr, OnOk, OnErr, true};
 ghost use Rattle.bcder_content.specs.bcder_source.Errors.{OnContent};
 ghost use Rattle.bcder_content.specs.bcder_source.declared.error.DecodeError.TheVariants.{Memory};
-ghost use Rattle.bcder_content.specs.bcder_tree.Tags.{universal};
+ghost use Rattle.bcder_content.specs.bcder_tree.Tags.{boolean_tag, integer_tag, null_tag, sequence_tag, set_tag};
 ghost use Rattle.bcder_content.specs.Exact.{ReadsAs, ReadsOptAs};
 ghost use Rattle.bcder_content.specs.Grammar.{OctetsOf};
 ghost use Rattle.bcder_content.specs.Here.{here, SameFrame};
@@ -20,11 +20,11 @@ impl<S: Source> Constructed<S> {
     /// The truth of a BOOLEAN (X.690 8.2, 11.1).
     pub fn take_bool(&mut self) -> Result<bool, DecodeError<S::Error>>
         ensures reads { ReadsAs (λ b. b)
-            (OctetsOf (universal 1) (IsBoolean (here S.rest self.old).mode)) (here S.rest self.old)
+            (OctetsOf boolean_tag (IsBoolean (here S.rest self.old).mode)) (here S.rest self.old)
             result (here S.rest self.new) }
         ensures frame { OnOk result (SameFrame self.old self.new) }
         ensures named { IfErr result
-            (λ e. OnContent e (NamesTag (here S.rest self.old) (universal 1) e)) }
+            (λ e. OnContent e (NamesTag (here S.rest self.old) boolean_tag e)) }
         ensures failed { OnErr result ((here S.rest self.new).failed ≡ true) }
         ensures no_memory { IfErr result (λ e. e ≢ Memory) }
     {
@@ -33,8 +33,8 @@ impl<S: Source> Constructed<S> {
 
     /// The truth of a BOOLEAN, if one is next (X.690 8.2, 11.1).
     pub fn take_opt_bool(&mut self) -> Result<Option<bool>, DecodeError<S::Error>>
-        ensures reads { ReadsOptAs (λ b. b) (universal 1)
-            (OctetsOf (universal 1) (IsBoolean (here S.rest self.old).mode)) (here S.rest self.old)
+        ensures reads { ReadsOptAs (λ b. b) boolean_tag
+            (OctetsOf boolean_tag (IsBoolean (here S.rest self.old).mode)) (here S.rest self.old)
             result (here S.rest self.new) }
         ensures frame { OnOk result (SameFrame self.old self.new) }
         ensures failed { OnErr result ((here S.rest self.new).failed ≡ true) }
@@ -45,11 +45,11 @@ impl<S: Source> Constructed<S> {
 
     /// Reads a NULL (X.690 8.8).
     pub fn take_null(&mut self) -> Result<(), DecodeError<S::Error>>
-        ensures reads { ReadsAs (λ x. x) (OctetsOf (universal 5) (IsNull)) (here S.rest self.old)
+        ensures reads { ReadsAs (λ x. x) (OctetsOf null_tag (IsNull)) (here S.rest self.old)
             result (here S.rest self.new) }
         ensures frame { OnOk result (SameFrame self.old self.new) }
         ensures named { IfErr result
-            (λ e. OnContent e (NamesTag (here S.rest self.old) (universal 5) e)) }
+            (λ e. OnContent e (NamesTag (here S.rest self.old) null_tag e)) }
         ensures failed { OnErr result ((here S.rest self.new).failed ≡ true) }
         ensures no_memory { IfErr result (λ e. e ≢ Memory) }
     {
@@ -58,7 +58,7 @@ impl<S: Source> Constructed<S> {
 
     /// Reads a NULL, if one is next, and answers whether (X.690 8.8).
     pub fn take_opt_null(&mut self) -> Result<Option<()>, DecodeError<S::Error>>
-        ensures reads { ReadsOptAs (λ x. x) (universal 5) (OctetsOf (universal 5) (IsNull))
+        ensures reads { ReadsOptAs (λ x. x) null_tag (OctetsOf null_tag (IsNull))
             (here S.rest self.old) result (here S.rest self.new) }
         ensures frame { OnOk result (SameFrame self.old self.new) }
         ensures failed { OnErr result ((here S.rest self.new).failed ≡ true) }
@@ -69,11 +69,11 @@ impl<S: Source> Constructed<S> {
 
     /// The number of an INTEGER (X.690 8.3) that fits a `u8`; any other is refused.
     pub fn take_u8(&mut self) -> Result<u8, DecodeError<S::Error>>
-        ensures reads { ReadsAs (λ n. n) (OctetsOf (universal 2) (IsUnsigned (2 ^ 8)))
+        ensures reads { ReadsAs (λ n. n) (OctetsOf integer_tag (IsUnsigned (2 ^ 8)))
             (here S.rest self.old) result (here S.rest self.new) }
         ensures frame { OnOk result (SameFrame self.old self.new) }
         ensures named { IfErr result
-            (λ e. OnContent e (NamesTag (here S.rest self.old) (universal 2) e)) }
+            (λ e. OnContent e (NamesTag (here S.rest self.old) integer_tag e)) }
         ensures failed { OnErr result ((here S.rest self.new).failed ≡ true) }
         ensures no_memory { IfErr result (λ e. e ≢ Memory) }
     {
@@ -82,8 +82,8 @@ impl<S: Source> Constructed<S> {
 
     /// The number of an INTEGER, if one is next (X.690 8.3); one that doesn't fit a `u8` is refused.
     pub fn take_opt_u8(&mut self) -> Result<Option<u8>, DecodeError<S::Error>>
-        ensures reads { ReadsOptAs (λ n. n) (universal 2)
-            (OctetsOf (universal 2) (IsUnsigned (2 ^ 8))) (here S.rest self.old) result
+        ensures reads { ReadsOptAs (λ n. n) integer_tag
+            (OctetsOf integer_tag (IsUnsigned (2 ^ 8))) (here S.rest self.old) result
             (here S.rest self.new) }
         ensures frame { OnOk result (SameFrame self.old self.new) }
         ensures failed { OnErr result ((here S.rest self.new).failed ≡ true) }
@@ -94,11 +94,11 @@ impl<S: Source> Constructed<S> {
 
     /// The number of an INTEGER (X.690 8.3) that fits a `u16`; any other is refused.
     pub fn take_u16(&mut self) -> Result<u16, DecodeError<S::Error>>
-        ensures reads { ReadsAs (λ n. n) (OctetsOf (universal 2) (IsUnsigned (2 ^ 16)))
+        ensures reads { ReadsAs (λ n. n) (OctetsOf integer_tag (IsUnsigned (2 ^ 16)))
             (here S.rest self.old) result (here S.rest self.new) }
         ensures frame { OnOk result (SameFrame self.old self.new) }
         ensures named { IfErr result
-            (λ e. OnContent e (NamesTag (here S.rest self.old) (universal 2) e)) }
+            (λ e. OnContent e (NamesTag (here S.rest self.old) integer_tag e)) }
         ensures failed { OnErr result ((here S.rest self.new).failed ≡ true) }
         ensures no_memory { IfErr result (λ e. e ≢ Memory) }
     {
@@ -107,8 +107,8 @@ impl<S: Source> Constructed<S> {
 
     /// The number of an INTEGER, if one is next (X.690 8.3); one that doesn't fit a `u16` is refused.
     pub fn take_opt_u16(&mut self) -> Result<Option<u16>, DecodeError<S::Error>>
-        ensures reads { ReadsOptAs (λ n. n) (universal 2)
-            (OctetsOf (universal 2) (IsUnsigned (2 ^ 16))) (here S.rest self.old) result
+        ensures reads { ReadsOptAs (λ n. n) integer_tag
+            (OctetsOf integer_tag (IsUnsigned (2 ^ 16))) (here S.rest self.old) result
             (here S.rest self.new) }
         ensures frame { OnOk result (SameFrame self.old self.new) }
         ensures failed { OnErr result ((here S.rest self.new).failed ≡ true) }
@@ -119,11 +119,11 @@ impl<S: Source> Constructed<S> {
 
     /// The number of an INTEGER (X.690 8.3) that fits a `u32`; any other is refused.
     pub fn take_u32(&mut self) -> Result<u32, DecodeError<S::Error>>
-        ensures reads { ReadsAs (λ n. n) (OctetsOf (universal 2) (IsUnsigned (2 ^ 32)))
+        ensures reads { ReadsAs (λ n. n) (OctetsOf integer_tag (IsUnsigned (2 ^ 32)))
             (here S.rest self.old) result (here S.rest self.new) }
         ensures frame { OnOk result (SameFrame self.old self.new) }
         ensures named { IfErr result
-            (λ e. OnContent e (NamesTag (here S.rest self.old) (universal 2) e)) }
+            (λ e. OnContent e (NamesTag (here S.rest self.old) integer_tag e)) }
         ensures failed { OnErr result ((here S.rest self.new).failed ≡ true) }
         ensures no_memory { IfErr result (λ e. e ≢ Memory) }
     {
@@ -132,8 +132,8 @@ impl<S: Source> Constructed<S> {
 
     /// The number of an INTEGER, if one is next (X.690 8.3); one that doesn't fit a `u32` is refused.
     pub fn take_opt_u32(&mut self) -> Result<Option<u32>, DecodeError<S::Error>>
-        ensures reads { ReadsOptAs (λ n. n) (universal 2)
-            (OctetsOf (universal 2) (IsUnsigned (2 ^ 32))) (here S.rest self.old) result
+        ensures reads { ReadsOptAs (λ n. n) integer_tag
+            (OctetsOf integer_tag (IsUnsigned (2 ^ 32))) (here S.rest self.old) result
             (here S.rest self.new) }
         ensures frame { OnOk result (SameFrame self.old self.new) }
         ensures failed { OnErr result ((here S.rest self.new).failed ≡ true) }
@@ -144,11 +144,11 @@ impl<S: Source> Constructed<S> {
 
     /// The number of an INTEGER (X.690 8.3) that fits a `u64`; any other is refused.
     pub fn take_u64(&mut self) -> Result<u64, DecodeError<S::Error>>
-        ensures reads { ReadsAs (λ n. n) (OctetsOf (universal 2) (IsUnsigned (2 ^ 64)))
+        ensures reads { ReadsAs (λ n. n) (OctetsOf integer_tag (IsUnsigned (2 ^ 64)))
             (here S.rest self.old) result (here S.rest self.new) }
         ensures frame { OnOk result (SameFrame self.old self.new) }
         ensures named { IfErr result
-            (λ e. OnContent e (NamesTag (here S.rest self.old) (universal 2) e)) }
+            (λ e. OnContent e (NamesTag (here S.rest self.old) integer_tag e)) }
         ensures failed { OnErr result ((here S.rest self.new).failed ≡ true) }
         ensures no_memory { IfErr result (λ e. e ≢ Memory) }
     {
@@ -157,8 +157,8 @@ impl<S: Source> Constructed<S> {
 
     /// The number of an INTEGER, if one is next (X.690 8.3); one that doesn't fit a `u64` is refused.
     pub fn take_opt_u64(&mut self) -> Result<Option<u64>, DecodeError<S::Error>>
-        ensures reads { ReadsOptAs (λ n. n) (universal 2)
-            (OctetsOf (universal 2) (IsUnsigned (2 ^ 64))) (here S.rest self.old) result
+        ensures reads { ReadsOptAs (λ n. n) integer_tag
+            (OctetsOf integer_tag (IsUnsigned (2 ^ 64))) (here S.rest self.old) result
             (here S.rest self.new) }
         ensures frame { OnOk result (SameFrame self.old self.new) }
         ensures failed { OnErr result ((here S.rest self.new).failed ≡ true) }
@@ -170,11 +170,11 @@ impl<S: Source> Constructed<S> {
     /// Reads an INTEGER (X.690 8.3) of that number; any other is refused.
     pub fn skip_u8_if(&mut self, expected: u8) -> Result<(), DecodeError<S::Error>>
         ensures reads { ReadsAs (λ x. x)
-            (OctetsOf (universal 2) (IsValue (IsUnsigned (2 ^ 8)) expected)) (here S.rest self.old)
+            (OctetsOf integer_tag (IsValue (IsUnsigned (2 ^ 8)) expected)) (here S.rest self.old)
             result (here S.rest self.new) }
         ensures frame { OnOk result (SameFrame self.old self.new) }
         ensures named { IfErr result
-            (λ e. OnContent e (NamesTag (here S.rest self.old) (universal 2) e)) }
+            (λ e. OnContent e (NamesTag (here S.rest self.old) integer_tag e)) }
         ensures failed { OnErr result ((here S.rest self.new).failed ≡ true) }
         ensures no_memory { IfErr result (λ e. e ≢ Memory) }
     {
@@ -184,8 +184,8 @@ impl<S: Source> Constructed<S> {
     /// Reads an INTEGER of that number, if an INTEGER is next, and answers whether (X.690 8.3); any other
     /// number is refused.
     pub fn skip_opt_u8_if(&mut self, expected: u8) -> Result<Option<()>, DecodeError<S::Error>>
-        ensures reads { ReadsOptAs (λ x. x) (universal 2)
-            (OctetsOf (universal 2) (IsValue (IsUnsigned (2 ^ 8)) expected)) (here S.rest self.old)
+        ensures reads { ReadsOptAs (λ x. x) integer_tag
+            (OctetsOf integer_tag (IsValue (IsUnsigned (2 ^ 8)) expected)) (here S.rest self.old)
             result (here S.rest self.new) }
         ensures frame { OnOk result (SameFrame self.old self.new) }
         ensures failed { OnErr result ((here S.rest self.new).failed ≡ true) }
@@ -203,14 +203,14 @@ impl<S: Source> Constructed<S> {
         F: FnOnce(&mut Constructed<S>) -> Result<T, DecodeError<S::Error>>,
     >(&mut self, op: F) -> Result<T, DecodeError<S::Error>>
         requires { F.IsAlwaysCallable op }
-        ensures ran { Ran S.rest F.FnOnce op (here S.rest self.old) (universal 16) result
+        ensures ran { Ran S.rest F.FnOnce op (here S.rest self.old) sequence_tag result
             (here S.rest self.new) }
         ensures frame { OnOk result (SameFrame self.old self.new) }
         ensures named { IfErr result
-            (λ e. OnContent e (NamesTag (here S.rest self.old) (universal 16) e)) }
+            (λ e. OnContent e (NamesTag (here S.rest self.old) sequence_tag e)) }
         ensures failed { OnErr result ((here S.rest self.new).failed ≡ true) }
         ensures memory { IfErr result
-            (λ e. OnMemory e (RanErr S.rest F.FnOnce op (here S.rest self.old) (universal 16) e)) }
+            (λ e. OnMemory e (RanErr S.rest F.FnOnce op (here S.rest self.old) sequence_tag e)) }
     {
         self.take_constructed_if(Tag::SEQUENCE, op)
     }
@@ -221,12 +221,12 @@ impl<S: Source> Constructed<S> {
         F: FnOnce(&mut Constructed<S>) -> Result<T, DecodeError<S::Error>>,
     >(&mut self, op: F) -> Result<Option<T>, DecodeError<S::Error>>
         requires { F.IsAlwaysCallable op }
-        ensures ran { RanOpt S.rest F.FnOnce op (here S.rest self.old) (universal 16) result
+        ensures ran { RanOpt S.rest F.FnOnce op (here S.rest self.old) sequence_tag result
             (here S.rest self.new) }
         ensures frame { OnOk result (SameFrame self.old self.new) }
         ensures failed { OnErr result ((here S.rest self.new).failed ≡ true) }
         ensures memory { IfErr result
-            (λ e. OnMemory e (RanErr S.rest F.FnOnce op (here S.rest self.old) (universal 16) e)) }
+            (λ e. OnMemory e (RanErr S.rest F.FnOnce op (here S.rest self.old) sequence_tag e)) }
     {
         self.take_opt_constructed_if(Tag::SEQUENCE, op)
     }
@@ -237,14 +237,14 @@ impl<S: Source> Constructed<S> {
         op: F,
     ) -> Result<T, DecodeError<S::Error>>
         requires { F.IsAlwaysCallable op }
-        ensures ran { Ran S.rest F.FnOnce op (here S.rest self.old) (universal 17) result
+        ensures ran { Ran S.rest F.FnOnce op (here S.rest self.old) set_tag result
             (here S.rest self.new) }
         ensures frame { OnOk result (SameFrame self.old self.new) }
         ensures named { IfErr result
-            (λ e. OnContent e (NamesTag (here S.rest self.old) (universal 17) e)) }
+            (λ e. OnContent e (NamesTag (here S.rest self.old) set_tag e)) }
         ensures failed { OnErr result ((here S.rest self.new).failed ≡ true) }
         ensures memory { IfErr result
-            (λ e. OnMemory e (RanErr S.rest F.FnOnce op (here S.rest self.old) (universal 17) e)) }
+            (λ e. OnMemory e (RanErr S.rest F.FnOnce op (here S.rest self.old) set_tag e)) }
     {
         self.take_constructed_if(Tag::SET, op)
     }
@@ -255,12 +255,12 @@ impl<S: Source> Constructed<S> {
         F: FnOnce(&mut Constructed<S>) -> Result<T, DecodeError<S::Error>>,
     >(&mut self, op: F) -> Result<Option<T>, DecodeError<S::Error>>
         requires { F.IsAlwaysCallable op }
-        ensures ran { RanOpt S.rest F.FnOnce op (here S.rest self.old) (universal 17) result
+        ensures ran { RanOpt S.rest F.FnOnce op (here S.rest self.old) set_tag result
             (here S.rest self.new) }
         ensures frame { OnOk result (SameFrame self.old self.new) }
         ensures failed { OnErr result ((here S.rest self.new).failed ≡ true) }
         ensures memory { IfErr result
-            (λ e. OnMemory e (RanErr S.rest F.FnOnce op (here S.rest self.old) (universal 17) e)) }
+            (λ e. OnMemory e (RanErr S.rest F.FnOnce op (here S.rest self.old) set_tag e)) }
     {
         self.take_opt_constructed_if(Tag::SET, op)
     }

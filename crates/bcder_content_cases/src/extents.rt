@@ -1,6 +1,6 @@
 //! Values that are skipped, or captured as they stand.
 
-ghost use Rattle.bcder_content_cases.specs.bcder_tree.Tags.{universal};
+ghost use Rattle.bcder_content_cases.specs.bcder_tree.Tags.{null_tag};
 ghost use Rattle.bcder_content_cases.specs.bcder_content.Captures.{rest_of};
 ghost use Rattle.bcder_content_cases.specs.bcder_content.Exact.{ReadsAs};
 ghost use Rattle.bcder_content_cases.specs.bcder_content.Grammar.{OctetsOf};
@@ -38,7 +38,7 @@ fn capture_null(alloc: Global, cons: &mut Values<'_>) -> Result<Captured, Refusa
     cons.capture(
         alloc,
         |cons|
-            ensures { ReadsAs (λ x. x) (OctetsOf (universal 5) IsNull) (here rest_of cons.old)
+            ensures { ReadsAs (λ x. x) (OctetsOf null_tag IsNull) (here rest_of cons.old)
                 result (here rest_of cons.new) }
         { cons.take_null() },
     )
@@ -48,7 +48,7 @@ fn capture_null(alloc: Global, cons: &mut Values<'_>) -> Result<Captured, Refusa
 fn take_null(answer: &mut Answer, captured: &mut Captured) {
     answer.outcome(captured.decode_partial(
         |cons|
-            ensures { ReadsAs (λ x. x) (OctetsOf (universal 5) IsNull) (here rest_of cons.old)
+            ensures { ReadsAs (λ x. x) (OctetsOf null_tag IsNull) (here rest_of cons.old)
                 result (here rest_of cons.new) }
         { cons.take_null() },
     ));

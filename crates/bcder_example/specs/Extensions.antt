@@ -1,7 +1,7 @@
 -- Extensions of certificates (RFC 5280 4.2), each by its octets, and values of some of them.
 use Rattle.std.specs.Prelude.{◌≡◌, ℕ, Bool, false, List, [], ◌∷◌, length}
 use Rattle.bcder_example.specs.bcder_tree.declared.mode.Mode.{Mode}
-use Rattle.bcder_example.specs.bcder_tree.Tags.{universal}
+use Rattle.bcder_example.specs.bcder_tree.Tags.{boolean_tag, oid_tag, sequence_tag}
 use Rattle.bcder_example.specs.bcder_tree.Tree.{Tree, Trees}
 use Rattle.bcder_example.specs.bcder_tree.Strings.{IsOctetString}
 use Rattle.bcder_example.specs.bcder_primitive.Values.{IsBoolean}
@@ -24,13 +24,13 @@ abbrev pub Fields : Type 0
 Fields = List ℕ × (Bool × (List ℕ × Unit {0}))
 
 abbrev pub IsExtensionBody : Mode → Trees → Fields → Type 0
-IsExtensionBody m = Then (OctetsOf (universal 6) IsOid) (Default (universal 1) (OctetsOf (universal 1) (IsBoolean m)) false (Then (IsOctetString m) End))
+IsExtensionBody m = Then (OctetsOf oid_tag IsOid) (Default boolean_tag (OctetsOf boolean_tag (IsBoolean m)) false (Then (IsOctetString m) End))
 
 abbrev pub as_extension : Fields → Extension
 as_extension f = record { kind = f.0; critical = f.1.0; octets = f.1.1.0 }
 
 abbrev pub IsExtension : Mode → Tree → Extension → Type 0
-IsExtension m = As (Inside (universal 16) (IsExtensionBody m)) as_extension
+IsExtension m = As (Inside sequence_tag (IsExtensionBody m)) as_extension
 
 abbrev pub raw_fields : RawExtension → Fields
 raw_fields e = (e.kind.0, (e.critical, (e.octets, tt)))
@@ -56,10 +56,10 @@ abbrev pub only_one : {A : Type 0} → A × Unit {0} → A
 only_one x = x.0
 
 abbrev pub IsBasicBody : Mode → Trees → Bool × Unit {0} → Type 0
-IsBasicBody m = Default (universal 1) (OctetsOf (universal 1) (IsBoolean m)) false End
+IsBasicBody m = Default boolean_tag (OctetsOf boolean_tag (IsBoolean m)) false End
 
 abbrev pub IsBasicConstraints : Mode → Tree → Bool → Type 0
-IsBasicConstraints m = As (Inside (universal 16) (IsBasicBody m)) only_one
+IsBasicConstraints m = As (Inside sequence_tag (IsBasicBody m)) only_one
 
 -- SubjectKeyIdentifier ::= OCTET STRING (SIZE (20))
 abbrev pub IsLong : List ℕ → Type 0

@@ -1,7 +1,7 @@
 -- Limits, with fields that may be missing.
 use Rattle.std.proofs.Common.{ℕ, zero, suc, ◌^◌, Bool, true, false, Option, Some, None}
 use Rattle.bcder_example.specs.bcder_tree.declared.mode.Mode.{Mode}
-use Rattle.bcder_example.specs.bcder_tree.Tags.{context, universal}
+use Rattle.bcder_example.specs.bcder_tree.Tags.{context, boolean_tag, sequence_tag}
 use Rattle.bcder_example.specs.bcder_tree.Tree.{Tree}
 use Rattle.bcder_example.specs.bcder_content.Grammar.{OctetsOf}
 use Rattle.bcder_example.specs.bcder_primitive.Values.{IsUnsigned}
@@ -46,7 +46,7 @@ abbrev pub limits_content : Forms Fields
 limits_content =
     default (context 0) number 1 shown_version
     (maybe (context 1) (unsigned_at (2 ^ 8) (context 1))
-    (last_default (universal 1) boolean false shown_truth))
+    (last_default boolean_tag boolean false shown_truth))
 
 abbrev pub limits : Form Fields
-limits = wrapped (universal 16) limits_content
+limits = wrapped sequence_tag limits_content

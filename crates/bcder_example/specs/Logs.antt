@@ -1,7 +1,7 @@
 -- Grammars of logs, and of strings in pieces.
 use Rattle.std.specs.Prelude.{ℕ, List, Option, map}
 use Rattle.bcder_example.specs.bcder_tree.declared.mode.Mode.{Mode}
-use Rattle.bcder_example.specs.bcder_tree.Tags.{universal}
+use Rattle.bcder_example.specs.bcder_tree.Tags.{integer_tag, octet_string_tag, sequence_tag}
 use Rattle.bcder_example.specs.bcder_tree.Tree.{Tree, Trees}
 use Rattle.bcder_example.specs.bcder_content.Grammar.{Inside, OctetsOf, End, Then, Opt, Many}
 use Rattle.bcder_example.specs.bcder_primitive.Values.{AnyOctets}
@@ -17,7 +17,7 @@ abbrev pub IsEntryBody : Mode → Trees → Numbers → Type 0
 IsEntryBody m = Then IsSmall (Then IsSmall End)
 
 abbrev pub IsEntry : Tree → Numbers → Type 0
-IsEntry = Inside (universal 16) (Then IsSmall (Then IsSmall End))
+IsEntry = Inside sequence_tag (Then IsSmall (Then IsSmall End))
 
 -- SEQUENCE OF Entry
 abbrev pub AreEntries : Mode → Trees → List Numbers → Type 0
@@ -31,11 +31,11 @@ abbrev pub log_fields : Log → LogFields
 log_fields l = (l.most, (map entry_fields l.entries.items, tt))
 
 abbrev pub IsLogBody : Mode → Trees → LogFields → Type 0
-IsLogBody m = Opt (universal 2) IsSmall (Then (Inside (universal 16) (AreEntries m)) End)
+IsLogBody m = Opt integer_tag IsSmall (Then (Inside sequence_tag (AreEntries m)) End)
 
 -- A piece of an OCTET STRING (X.690 8.7.3.2), by its octets.
 abbrev pub IsPiece : Tree → List ℕ → Type 0
-IsPiece = OctetsOf (universal 4) AnyOctets
+IsPiece = OctetsOf octet_string_tag AnyOctets
 
 abbrev pub ArePieces : Mode → Trees → List (List ℕ) → Type 0
 ArePieces m = Many IsPiece

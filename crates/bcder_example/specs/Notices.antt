@@ -1,6 +1,6 @@
 -- Notices: SEQUENCE { id OBJECT IDENTIFIER, serial INTEGER (0..MAX), flags BIT STRING, note OCTET STRING }.
 use Rattle.std.specs.Prelude.{ℕ, List}
-use Rattle.bcder_example.specs.bcder_tree.Tags.{TagValue, universal}
+use Rattle.bcder_example.specs.bcder_tree.Tags.{TagValue, universal, integer_tag, octet_string_tag, oid_tag, sequence_tag}
 use Rattle.bcder_example.specs.bcder_bits.Bits.{BitsValue}
 use Rattle.bcder_example.specs.declared.notice.Notice.{Notice}
 use Rattle.bcder_example.specs.bcder_values.Forms.{Form, Forms, both, last, wrapped}
@@ -17,7 +17,7 @@ abbrev pub notice_body : Forms Fields
 notice_body = both oid (both natural (both bits (last octets)))
 
 abbrev pub notice : Form Fields
-notice = wrapped (universal 16) notice_body
+notice = wrapped sequence_tag notice_body
 
 -- The tags of encoders, and what they lend.
 abbrev pub Lent : Type 0
@@ -30,4 +30,4 @@ abbrev pub lends : TagValue → TagValue × List ℕ → TagValue × ℕ → Tag
 lends t a b d e = ((t, (a.0, (b.0, (d.0, e.0)))), (a.1, (b.1, (d.1, (e.1, tt)))))
 
 abbrev pub notice_lends : Notice → Lent
-notice_lends n = lends (universal 16) (universal 6, n.id.0) (universal 2, n.serial) (universal 3, n.flags) (universal 4, n.note)
+notice_lends n = lends sequence_tag (oid_tag, n.id.0) (integer_tag, n.serial) (universal 3, n.flags) (octet_string_tag, n.note)

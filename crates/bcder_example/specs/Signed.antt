@@ -1,6 +1,6 @@
 -- Signed structures: the octets that are signed are kept as they stand, and read.
 use Rattle.std.specs.Prelude.{ℕ, List}
-use Rattle.bcder_example.specs.bcder_tree.Tags.{TagValue, universal}
+use Rattle.bcder_example.specs.bcder_tree.Tags.{TagValue, universal, oid_tag, sequence_tag}
 use Rattle.bcder_example.specs.bcder_bits.Bits.{BitsValue}
 use Rattle.bcder_example.specs.bcder_content.Kept.{CapturedValue}
 use Rattle.bcder_example.specs.bcder_values.Forms.{Form, Forms, both, explicit, last, wrapped}
@@ -20,11 +20,11 @@ abbrev pub body_content : Forms BodyFields
 body_content = both natural (last octets)
 
 abbrev pub body : Form BodyFields
-body = wrapped (universal 16) body_content
+body = wrapped sequence_tag body_content
 
 -- Algorithm ::= SEQUENCE { id OBJECT IDENTIFIER }
 abbrev pub algorithm : Form (List ℕ)
-algorithm = explicit (universal 16) oid
+algorithm = explicit sequence_tag oid
 
 -- Signed ::= SEQUENCE { body Body, algorithm Algorithm, signature BIT STRING }
 abbrev pub Fields : Type 0
@@ -40,7 +40,7 @@ abbrev pub signed_content : Forms Fields
 signed_content = both (kept body) (both algorithm (last bits))
 
 abbrev pub signed : Form Fields
-signed = wrapped (universal 16) signed_content
+signed = wrapped sequence_tag signed_content
 
 -- The only value of a content.
 abbrev pub only : List ℕ → List ℕ × Unit {0}
@@ -60,4 +60,4 @@ abbrev pub lends : TagValue → CapturedValue × BodyFields → TagValue → Tag
 lends t k a i b = ((t, (a, (i.0, b.0))), (k, (i.1, (b.1, tt))))
 
 abbrev pub signed_lends : Signed → Lent
-signed_lends s = lends (universal 16) (kept_body (s.octets, s.body)) (universal 16) (universal 6, s.algorithm.0) (universal 3, s.signature)
+signed_lends s = lends sequence_tag (kept_body (s.octets, s.body)) sequence_tag (oid_tag, s.algorithm.0) (universal 3, s.signature)

@@ -1,7 +1,7 @@
 -- Grammars of versions, settings and names.
 use Rattle.std.specs.Prelude.{◌≡◌, ℕ, ◌^◌}
 use Rattle.bcder_example.specs.bcder_tree.declared.mode.Mode.{Mode}
-use Rattle.bcder_example.specs.bcder_tree.Tags.{universal}
+use Rattle.bcder_example.specs.bcder_tree.Tags.{integer_tag, sequence_tag}
 use Rattle.bcder_example.specs.bcder_tree.Tree.{Tree, Trees}
 use Rattle.bcder_example.specs.bcder_content.Grammar.{Inside, OctetsOf, Such, OneOf, As, End, Rest, Then, Default}
 use Rattle.bcder_example.specs.bcder_primitive.Values.{IsUnsigned}
@@ -12,7 +12,7 @@ use Rattle.bcder_example.specs.declared.versions.Name.TheVariants.{Number, Versi
 
 -- INTEGER (0..255)
 abbrev pub IsSmall : Tree → ℕ → Type 0
-IsSmall = OctetsOf (universal 2) (IsUnsigned (2 ^ 8))
+IsSmall = OctetsOf integer_tag (IsUnsigned (2 ^ 8))
 
 -- Two numbers.
 abbrev pub Numbers : Type 0
@@ -26,7 +26,7 @@ abbrev pub IsVersionBody : Mode → Trees → Numbers → Type 0
 IsVersionBody m = Then IsSmall (Then IsSmall End)
 
 abbrev pub IsVersion : Tree → Numbers → Type 0
-IsVersion = Inside (universal 16) (Then IsSmall (Then IsSmall End))
+IsVersion = Inside sequence_tag (Then IsSmall (Then IsSmall End))
 
 -- The numbers of a pair.
 abbrev pub pair_fields : ℕ × ℕ → Numbers
@@ -40,7 +40,7 @@ abbrev pub IsZero : ℕ → Type 0
 IsZero n = n ≡ 0
 
 abbrev pub IsSettingsBody : Mode → Trees → ℕ × (ℕ × Unit {0}) → Type 0
-IsSettingsBody m = Then (Such IsSmall IsZero) (Default (universal 2) IsSmall 3 Rest)
+IsSettingsBody m = Then (Such IsSmall IsZero) (Default integer_tag IsSmall 3 Rest)
 
 -- Name ::= CHOICE { number INTEGER, version Version }
 pub data NameValue : Type 0 where

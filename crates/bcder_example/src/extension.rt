@@ -1,6 +1,6 @@
 //! One extension.
 
-ghost use Rattle.bcder_example.specs.bcder_tree.Tags.{universal};
+ghost use Rattle.bcder_example.specs.bcder_tree.Tags.{sequence_tag};
 ghost use Rattle.bcder_example.specs.bcder_content.Exact.{ReadsOptAs};
 ghost use Rattle.bcder_example.specs.bcder_content.Here.{here};
 ghost use Rattle.bcder_example.specs.bcder_content.InMode.{ReadsFields};
@@ -44,7 +44,7 @@ pub(crate) fn take_opt_extension<S: Source>(
     alloc: Global,
     cons: &mut Constructed<S>,
 ) -> Result<Option<RawExtension>, DecodeError<S::Error>>
-    ensures { ReadsOptAs raw_value (universal 16) (IsExtension (here S.rest cons.old).mode)
+    ensures { ReadsOptAs raw_value sequence_tag (IsExtension (here S.rest cons.old).mode)
         (here S.rest cons.old) result (here S.rest cons.new) }
 {
     cons.take_opt_sequence(

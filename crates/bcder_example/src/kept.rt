@@ -1,7 +1,7 @@
 //! A field whose octets are kept as they stand.
 
 ghost use Rattle.std.specs.Prelude.{◌≡◌, OnErr, true};
-ghost use Rattle.bcder_example.specs.bcder_tree.Tags.{universal};
+ghost use Rattle.bcder_example.specs.bcder_tree.Tags.{sequence_tag};
 ghost use Rattle.bcder_example.specs.bcder_content.Captures.{rest_of};
 ghost use Rattle.bcder_example.specs.bcder_content.Exact.{ReadsAs};
 ghost use Rattle.bcder_example.specs.bcder_content.Grammar.{As, Inside};
@@ -52,7 +52,7 @@ pub fn take_sealed<S: Source>(
     cons: &mut Constructed<S>,
 ) -> Result<Sealed, DecodeError<S::Error>>
     ensures reads { ReadsAs sealed_fields
-        (Inside (universal 16) (IsSealedBody (here S.rest cons.old).mode)) (here S.rest cons.old)
+        (Inside sequence_tag (IsSealedBody (here S.rest cons.old).mode)) (here S.rest cons.old)
         result (here S.rest cons.new) }
     ensures failed { OnErr result ((here S.rest cons.new).failed ≡ true) }
 {

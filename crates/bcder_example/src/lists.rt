@@ -2,7 +2,7 @@
 
 ghost use Rattle.std.specs.Prelude.{◌≡◌, OnErr, map, true};
 ghost use Rattle.bcder_example.specs.bcder_tree.declared.mode.Mode.{Mode as ModeValue};
-ghost use Rattle.bcder_example.specs.bcder_tree.Tags.{universal};
+ghost use Rattle.bcder_example.specs.bcder_tree.Tags.{octet_string_tag, sequence_tag};
 ghost use Rattle.bcder_example.specs.bcder_content.Exact.{ReadsAs, ReadsOptAs};
 ghost use Rattle.bcder_example.specs.bcder_content.Grammar.{Inside, Many, One};
 ghost use Rattle.bcder_example.specs.bcder_content.Here.{here, plain};
@@ -49,7 +49,7 @@ fn take_entry_fields<S: Source>(cons: &mut Constructed<S>) -> Result<Entry, Deco
 fn take_opt_entry<S: Source>(
     cons: &mut Constructed<S>,
 ) -> Result<Option<Entry>, DecodeError<S::Error>>
-    ensures { ReadsOptAs entry_fields (universal 16) IsEntry
+    ensures { ReadsOptAs entry_fields sequence_tag IsEntry
         (here S.rest cons.old) result (here S.rest cons.new) }
 {
     cons.take_opt_sequence(
@@ -99,7 +99,7 @@ pub fn take_log<S: Source>(
     cons: &mut Constructed<S>,
 ) -> Result<Log, DecodeError<S::Error>>
     ensures reads { ReadsAs log_fields
-        (Inside (universal 16) (IsLogBody (here S.rest cons.old).mode)) (here S.rest cons.old)
+        (Inside sequence_tag (IsLogBody (here S.rest cons.old).mode)) (here S.rest cons.old)
         result (here S.rest cons.new) }
     ensures failed { OnErr result ((here S.rest cons.new).failed ≡ true) }
 {
@@ -116,7 +116,7 @@ fn take_opt_piece<S: Source>(
     alloc: Global,
     cons: &mut Constructed<S>,
 ) -> Result<Option<Bytes>, DecodeError<S::Error>>
-    ensures { ReadsOptAs (λ octets. octets) (universal 4) IsPiece
+    ensures { ReadsOptAs (λ octets. octets) octet_string_tag IsPiece
         (here S.rest cons.old) result (here S.rest cons.new) }
 {
     cons.take_opt_primitive_if(
@@ -150,8 +150,8 @@ pub fn take_pieces<S: Source>(
     cons: &mut Constructed<S>,
 ) -> Result<Vec<Bytes>, DecodeError<S::Error>>
     ensures reads { ReadsAs (λ v. v.items)
-        (Inside (universal 4) (ArePieces (here S.rest cons.old).mode)) (here S.rest cons.old) result
-        (here S.rest cons.new) }
+        (Inside octet_string_tag (ArePieces (here S.rest cons.old).mode))
+        (here S.rest cons.old) result (here S.rest cons.new) }
     ensures failed { OnErr result ((here S.rest cons.new).failed ≡ true) }
 {
     cons.take_constructed_if(
@@ -166,6 +166,6 @@ pub fn take_pieces<S: Source>(
 /// A value of these grammars has one meaning.
 pub fn one_meaning()
     ensures entry { One IsEntry }
-    ensures log { (m : ModeValue) → One (Inside (universal 16) (IsLogBody m)) }
-    ensures pieces { One (Inside (universal 4) (Many IsPiece)) }
+    ensures log { (m : ModeValue) → One (Inside sequence_tag (IsLogBody m)) }
+    ensures pieces { One (Inside octet_string_tag (Many IsPiece)) }
 {}

@@ -3,7 +3,7 @@
 ghost use Rattle.std.specs.Prelude.{◌≡◌, ◌≢◌, IfErr, OnErr, true};
 ghost use Rattle.bcder_example.specs.bcder_source.declared.error.DecodeError.TheVariants.{Memory};
 ghost use Rattle.bcder_example.specs.bcder_tree.declared.mode.Mode.{Mode as ModeValue};
-ghost use Rattle.bcder_example.specs.bcder_tree.Tags.{universal};
+ghost use Rattle.bcder_example.specs.bcder_tree.Tags.{sequence_tag};
 ghost use Rattle.bcder_example.specs.bcder_content.Exact.{ReadsAs};
 ghost use Rattle.bcder_example.specs.bcder_content.Grammar.{Inside, One};
 ghost use Rattle.bcder_example.specs.bcder_content.Here.{here};
@@ -93,7 +93,7 @@ pub fn take_settings<S: Source>(
     cons: &mut Constructed<S>,
 ) -> Result<Settings, DecodeError<S::Error>>
     ensures reads { ReadsAs settings_fields
-        (Inside (universal 16) (IsSettingsBody (here S.rest cons.old).mode)) (here S.rest cons.old)
+        (Inside sequence_tag (IsSettingsBody (here S.rest cons.old).mode)) (here S.rest cons.old)
         result (here S.rest cons.new) }
     ensures failed { OnErr result ((here S.rest cons.new).failed ≡ true) }
 {
@@ -119,6 +119,6 @@ pub fn take_name<S: Source>(cons: &mut Constructed<S>) -> Result<Name, DecodeErr
 /// A value of these grammars has one meaning.
 pub fn one_meaning()
     ensures version { One IsVersion }
-    ensures settings { (m : ModeValue) → One (Inside (universal 16) (IsSettingsBody m)) }
+    ensures settings { (m : ModeValue) → One (Inside sequence_tag (IsSettingsBody m)) }
     ensures name { One IsName }
 {}

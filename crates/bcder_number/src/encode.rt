@@ -2,7 +2,7 @@
 
 ghost use Rattle.std.proofs.Common.{rules};
 ghost use Rattle.std.specs.Prelude.{pos};
-ghost use Rattle.bcder_number.specs.bcder_tree.Tags.{universal};
+ghost use Rattle.bcder_number.specs.bcder_tree.Tags.{integer_tag};
 ghost use Rattle.bcder_number.specs.Integers.{IsInteger, IsNatural};
 ghost use Rattle.bcder_number.specs.Contents.{one_integer};
 
@@ -14,7 +14,7 @@ use std::io::Write;
 
 /// The number's only content octets, in every mode. `TooLong` where they are more than 2^32 - 1.
 impl PrimitiveContent for Integer {
-    ghost type_tag = { universal 2 };
+    ghost type_tag = { integer_tag };
 
     ghost content = { λ x m content. IsInteger content x };
 
@@ -39,7 +39,7 @@ impl PrimitiveContent for Integer {
 
 /// The number's only content octets, in every mode. `TooLong` where they are more than 2^32 - 1.
 impl PrimitiveContent for Unsigned {
-    ghost type_tag = { universal 2 };
+    ghost type_tag = { integer_tag };
 
     ghost content = { λ n m content. IsNatural content n };
 

@@ -1,7 +1,7 @@
 //! INTEGERs of any size (X.690 8.3).
 
 ghost use Rattle.std.specs.Prelude.{◌≡◌, ◌≢◌, ◌↔◌, ◌^◌, ◌<◌, ◌≤◌, ◌<ℤ◌, ℕ, ℤ, pos, IsTrue, IfOk, IfErr, OnErr, MatchResult, ⊤, true};
-ghost use Rattle.bcder_number.specs.bcder_tree.Tags.{universal};
+ghost use Rattle.bcder_number.specs.bcder_tree.Tags.{integer_tag};
 ghost use Rattle.bcder_number.specs.bcder_source.declared.error.DecodeError.TheVariants.{Memory};
 ghost use Rattle.bcder_number.specs.bcder_primitive.Plain.{plain, ReadsOctetsAs};
 ghost use Rattle.bcder_number.specs.bcder_primitive.Values.{IsSigned, IsUnsigned, IsWithin};
@@ -54,11 +54,11 @@ impl Integer {
         alloc: Global,
         cons: &mut Constructed<S>,
     ) -> Result<Integer, DecodeError<S::Error>>
-        ensures reads { ReadsAs (λ x. x) (OctetsOf (universal 2) IsInteger) (here S.rest cons.old)
+        ensures reads { ReadsAs (λ x. x) (OctetsOf integer_tag IsInteger) (here S.rest cons.old)
             result (here S.rest cons.new) }
         ensures failed { OnErr result ((here S.rest cons.new).failed ≡ true) }
         ensures memory { IfErr result
-            (λ e. OnMemory e (HasNext (OctetsOf (universal 2) IsInteger) (here S.rest cons.old))) }
+            (λ e. OnMemory e (HasNext (OctetsOf integer_tag IsInteger) (here S.rest cons.old))) }
     {
         cons.take_primitive_if(Tag::INTEGER, |prim| Integer::from_primitive(alloc, prim))
     }

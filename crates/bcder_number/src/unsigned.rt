@@ -1,7 +1,7 @@
 //! INTEGERs from 0 up, of any size (X.690 8.3).
 
 ghost use Rattle.std.specs.Prelude.{◌≡◌, ◌≢◌, ◌↔◌, ◌<ℤ◌, ℕ, pos, IsTrue, IfOk, IfErr, OnErr, true};
-ghost use Rattle.bcder_number.specs.bcder_tree.Tags.{universal};
+ghost use Rattle.bcder_number.specs.bcder_tree.Tags.{integer_tag};
 ghost use Rattle.bcder_number.specs.bcder_primitive.Plain.{plain, ReadsOctetsAs};
 ghost use Rattle.bcder_number.specs.bcder_content.Exact.{ReadsAs};
 ghost use Rattle.bcder_number.specs.bcder_content.Grammar.{OctetsOf};
@@ -96,11 +96,11 @@ impl Unsigned {
         alloc: Global,
         cons: &mut Constructed<S>,
     ) -> Result<Unsigned, DecodeError<S::Error>>
-        ensures reads { ReadsAs (λ n. n) (OctetsOf (universal 2) IsNatural) (here S.rest cons.old)
+        ensures reads { ReadsAs (λ n. n) (OctetsOf integer_tag IsNatural) (here S.rest cons.old)
             result (here S.rest cons.new) }
         ensures failed { OnErr result ((here S.rest cons.new).failed ≡ true) }
         ensures memory { IfErr result
-            (λ e. OnMemory e (HasNext (OctetsOf (universal 2) IsNatural) (here S.rest cons.old))) }
+            (λ e. OnMemory e (HasNext (OctetsOf integer_tag IsNatural) (here S.rest cons.old))) }
     {
         cons.take_primitive_if(Tag::INTEGER, |prim| Unsigned::from_primitive(alloc, prim))
     }

@@ -2,7 +2,7 @@
 
 ghost use Rattle.std.specs.Prelude.{◌≡◌, ◌↔◌, ◌≢◌, IfErr, OnErr, IsTrue, true};
 ghost use Rattle.bcder_oid.specs.bcder_source.declared.error.DecodeError.TheVariants.{Memory};
-ghost use Rattle.bcder_oid.specs.bcder_tree.Tags.{universal};
+ghost use Rattle.bcder_oid.specs.bcder_tree.Tags.{oid_tag};
 ghost use Rattle.bcder_oid.specs.bcder_primitive.Plain.{plain, ReadsOctetsAs};
 ghost use Rattle.bcder_oid.specs.bcder_content.Exact.{ReadsAs, ReadsOptAs};
 ghost use Rattle.bcder_oid.specs.bcder_content.Grammar.{OctetsOf};
@@ -59,7 +59,7 @@ fn skip_octets<S: Source>(
 impl Oid<Bytes> {
     /// Skips an OBJECT IDENTIFIER (X.690 8.19).
     pub fn skip_in<S: Source>(cons: &mut Constructed<S>) -> Result<(), DecodeError<S::Error>>
-        ensures reads { ReadsAs (λ x. x) (OctetsOf (universal 6) IsAnyOid) (here S.rest cons.old)
+        ensures reads { ReadsAs (λ x. x) (OctetsOf oid_tag IsAnyOid) (here S.rest cons.old)
             result (here S.rest cons.new) }
         ensures failed { OnErr result ((here S.rest cons.new).failed ≡ true) }
         ensures no_memory { IfErr result (λ e. e ≢ Memory) }
@@ -71,7 +71,7 @@ impl Oid<Bytes> {
     pub fn skip_opt_in<S: Source>(
         cons: &mut Constructed<S>,
     ) -> Result<Option<()>, DecodeError<S::Error>>
-        ensures reads { ReadsOptAs (λ x. x) (universal 6) (OctetsOf (universal 6) IsAnyOid)
+        ensures reads { ReadsOptAs (λ x. x) oid_tag (OctetsOf oid_tag IsAnyOid)
             (here S.rest cons.old) result (here S.rest cons.new) }
         ensures failed { OnErr result ((here S.rest cons.new).failed ≡ true) }
         ensures no_memory { IfErr result (λ e. e ≢ Memory) }
@@ -85,11 +85,11 @@ impl Oid<Bytes> {
         alloc: Global,
         cons: &mut Constructed<S>,
     ) -> Result<Self, DecodeError<S::Error>>
-        ensures reads { ReadsAs (λ oid. oid.0) (OctetsOf (universal 6) IsOid) (here S.rest cons.old)
+        ensures reads { ReadsAs (λ oid. oid.0) (OctetsOf oid_tag IsOid) (here S.rest cons.old)
             result (here S.rest cons.new) }
         ensures failed { OnErr result ((here S.rest cons.new).failed ≡ true) }
         ensures memory { IfErr result
-            (λ e. OnMemory e (HasNext (OctetsOf (universal 6) IsOid) (here S.rest cons.old))) }
+            (λ e. OnMemory e (HasNext (OctetsOf oid_tag IsOid) (here S.rest cons.old))) }
     {
         cons.take_primitive_if(Tag::OID, |prim| Oid::from_primitive(alloc, prim))
     }
@@ -99,11 +99,11 @@ impl Oid<Bytes> {
         alloc: Global,
         cons: &mut Constructed<S>,
     ) -> Result<Option<Self>, DecodeError<S::Error>>
-        ensures reads { ReadsOptAs (λ oid. oid.0) (universal 6) (OctetsOf (universal 6) IsOid)
+        ensures reads { ReadsOptAs (λ oid. oid.0) oid_tag (OctetsOf oid_tag IsOid)
             (here S.rest cons.old) result (here S.rest cons.new) }
         ensures failed { OnErr result ((here S.rest cons.new).failed ≡ true) }
         ensures memory { IfErr result
-            (λ e. OnMemory e (HasNext (OctetsOf (universal 6) IsOid) (here S.rest cons.old))) }
+            (λ e. OnMemory e (HasNext (OctetsOf oid_tag IsOid) (here S.rest cons.old))) }
     {
         cons.take_opt_primitive_if(Tag::OID, |prim| Oid::from_primitive(alloc, prim))
     }
@@ -150,7 +150,7 @@ impl Oid<Bytes> {
 impl<T: AsSlice<u8>> Oid<T> {
     /// Skips an OBJECT IDENTIFIER that is this one, by its octets; any other value is refused.
     pub fn skip_if<S: Source>(&self, cons: &mut Constructed<S>) -> Result<(), DecodeError<S::Error>>
-        ensures reads { ReadsAs (λ x. x) (OctetsOf (universal 6) (AreOctets (T.items self.now.0)))
+        ensures reads { ReadsAs (λ x. x) (OctetsOf oid_tag (AreOctets (T.items self.now.0)))
             (here S.rest cons.old) result (here S.rest cons.new) }
         ensures failed { OnErr result ((here S.rest cons.new).failed ≡ true) }
         ensures no_memory { IfErr result (λ e. e ≢ Memory) }

@@ -1,7 +1,7 @@
 //! Laws of object identifiers. These functions do nothing: their contracts are the laws.
 
 ghost use Rattle.std.specs.Prelude.{◌≡◌, ◌↔◌, ℕ, List};
-ghost use Rattle.bcder_oid.specs.bcder_tree.Tags.{universal};
+ghost use Rattle.bcder_oid.specs.bcder_tree.Tags.{oid_tag};
 ghost use Rattle.bcder_oid.specs.bcder_content.Grammar.{OctetsOf, One};
 ghost use Rattle.bcder_oid.specs.Components.{HasComponents, components_of};
 ghost use Rattle.bcder_oid.specs.Identifiers.{IsIdentifier, IsOid, AreSubidentifiers};
@@ -19,5 +19,5 @@ pub fn one_list_of_components()
 
 /// An OBJECT IDENTIFIER has one meaning.
 pub fn one_meaning()
-    ensures { One (OctetsOf (universal 6) IsOid) }
+    ensures { One (OctetsOf oid_tag IsOid) }
 {}

@@ -1,7 +1,7 @@
 //! Object identifiers that are written.
 
 ghost use Rattle.std.proofs.Common.{rules};
-ghost use Rattle.bcder_oid.specs.bcder_tree.Tags.{universal};
+ghost use Rattle.bcder_oid.specs.bcder_tree.Tags.{oid_tag};
 ghost use Rattle.bcder_oid.specs.bcder_primitive.Values.{AnyOctets};
 ghost use Rattle.bcder_oid.specs.bcder_written.Simple.{one_string};
 
@@ -15,7 +15,7 @@ use std::io::Write;
 ///
 /// `TooLong` where the octets are more than 2^32 - 1.
 impl<T: AsSlice<u8>> PrimitiveContent for Oid<T> {
-    ghost type_tag = { universal 6 };
+    ghost type_tag = { oid_tag };
 
     ghost content = { λ x m content. AnyOctets content (T.items x.0) };
 

@@ -2,7 +2,7 @@
 use Rattle.std.proofs.Common.{◌≡◌, ℕ, Bool, true, false, List, Result, Ok, Err, IsErr, Option, refl, sym, ◌∙◌, subst}
 use Rattle.std.specs.Prelude.{IsErrAnd}
 use Rattle.bcder_strings.specs.bcder_tree.declared.mode.Mode.{Mode}
-use Rattle.bcder_strings.specs.bcder_tree.Tags.{TagValue, universal}
+use Rattle.bcder_strings.specs.bcder_tree.Tags.{TagValue, octet_string_tag}
 use Rattle.bcder_strings.specs.bcder_tree.Tree.{primitive}
 use Rattle.bcder_strings.specs.bcder_tree.Strings.{IsString}
 use Rattle.bcder_strings.specs.Texts.{IsText}
@@ -80,7 +80,7 @@ text_in E m tag false old new x g = g.is.meets
 pub is_text : {S E : Type 0} {rest : S → List ℕ} {Has : ℕ → Type 0} {spell : ℕ → List ℕ} {old new : Content S} {x : List ℕ} → ReadsText {S = S} {E = E} Has spell rest old (Ok x) new → IsText Has spell x
 is_text {E = E} {rest = rest} {Has} {spell} {old} {new} {x} h =
     let v = here rest old.values.now in
-    text_in E v.mode (universal 4) old.values.now.constructed v (here rest new.values.now) x (text_reads h (universal 4))
+    text_in E v.mode octet_string_tag old.values.now.constructed v (here rest new.values.now) x (text_reads h octet_string_tag)
 
 -- Values with the tag.
 

@@ -3,9 +3,9 @@
 ghost use Rattle.std.specs.Prelude.{◌≡◌};
 ghost use Rattle.bcder_strings.specs.bcder_tree.Tags.{IsTag};
 
+use crate::CharSet;
 use crate::bcder_source::Tag;
 use crate::string::RestrictedString;
-use crate::CharSet;
 use bcder_octets::{OctetSliceEncoder, OctetString, OctetStringEncoder};
 
 /// Strings that are written, as octet strings are with another tag (X.690 8.23).

@@ -12,12 +12,12 @@ ghost use Rattle.bcder_octets.specs.Parts.{IsWhole};
 ghost use Rattle.bcder_octets.specs.Wants.{WantsString};
 ghost use Rattle.bcder_strings.specs.Restricted.{IsRestricted, IsWholeText, ReadsText, WantsText, WantsTextIn};
 
+use crate::CharSet;
 use crate::bcder_content::content::Content;
 use crate::bcder_content::whole::{front, refuse, request_all, take_front};
 use crate::bcder_content::{Constructed, Primitive};
 use crate::bcder_source::{ContentError, DecodeError, Source};
 use crate::string::{RestrictedString, octets_of};
-use crate::CharSet;
 use bcder_octets::OctetString;
 use std::alloc::Global;
 

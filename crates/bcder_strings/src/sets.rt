@@ -1,21 +1,21 @@
 //! The sets of the restricted character strings.
 ghost use Rattle.std.specs.Prelude.{encode_utf8, chars};
 ghost use Rattle.std.proofs.Common.{rules};
-ghost use Rattle.bcder_strings.specs.bcder_tree.Tags.{universal};
+ghost use Rattle.bcder_strings.specs.bcder_tree.Tags.{universal, ia5_string_tag, printable_string_tag, utf8_string_tag};
 ghost use Rattle.bcder_strings.specs.Laws.{alone_some, alone_one, alone_told, utf8_some, utf8_one, utf8_told, numeric_ascii, printable_ascii, ia5_ascii};
 ghost use Rattle.bcder_strings.specs.Sets.{IsUnicode, IsNumeric, IsPrintable, IsIa5, alone};
 
+use crate::bcder_source::Tag;
 use crate::octet_set::{OctetSet, next_of, text_of};
 use crate::utf8::first_char;
 use crate::{CharSet, CharSetError};
-use crate::bcder_source::Tag;
 
 /// The characters of a UTF8String, in UTF-8 (X.680 41.16, X.690 8.23.10, RFC 3629).
 #[derive(Clone, Copy, Debug, PartialEq, Eq)]
 pub struct Utf8CharSet;
 
 impl CharSet for Utf8CharSet {
-    ghost type_tag = { universal 12 };
+    ghost type_tag = { utf8_string_tag };
 
     ghost has = { IsUnicode };
 
@@ -109,7 +109,7 @@ impl OctetSet for PrintableCharSet {
 }
 
 impl CharSet for PrintableCharSet {
-    ghost type_tag = { universal 19 };
+    ghost type_tag = { printable_string_tag };
 
     ghost has = { IsPrintable };
 
@@ -153,7 +153,7 @@ impl OctetSet for Ia5CharSet {
 }
 
 impl CharSet for Ia5CharSet {
-    ghost type_tag = { universal 22 };
+    ghost type_tag = { ia5_string_tag };
 
     ghost has = { IsIa5 };
 

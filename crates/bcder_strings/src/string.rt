@@ -12,9 +12,7 @@ ghost use Rattle.bcder_strings.specs.Errors.{OnCharSet, OnMemory};
 
 use crate::chars::RestrictedStringChars;
 use crate::error::RestrictedStringError;
-use crate::{
-    CharSet, CharSetError, Ia5CharSet, NumericCharSet, PrintableCharSet, Utf8CharSet,
-};
+use crate::{CharSet, CharSetError, Ia5CharSet, NumericCharSet, PrintableCharSet, Utf8CharSet};
 use bcder_octets::OctetString;
 use bytes::Bytes;
 use std::alloc::{AllocError, Global};

@@ -1,10 +1,7 @@
 -- SEQUENCE (X.690 8.9).
 use Rattle.std.specs.Prelude.{List, [], ◌∷◌}
-use Rattle.bcder_tree.specs.Tags.{TagValue, universal}
+pub use Rattle.bcder_tree.specs.Tags.{sequence_tag}
 use Rattle.bcder_tree.specs.Tree.{Tree, Trees, constructed, none, more}
-
-abbrev pub sequence_tag : TagValue
-sequence_tag = universal 16
 
 -- These trees, in this order.
 abbrev pub forest : List Tree → Trees

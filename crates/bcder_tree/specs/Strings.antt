@@ -3,11 +3,9 @@ use Rattle.std.specs.Prelude.{◌≡◌, ℕ, ◌<◌, ◌≤◌, ◌⊎◌, ◌
 use Rattle.std.specs.List.{list_any}
 use Rattle.bcder_tree.specs.declared.mode.Mode.{Mode}
 use Rattle.bcder_tree.specs.declared.mode.Mode.TheVariants.{Ber, Cer, Der}
-use Rattle.bcder_tree.specs.Tags.{TagValue, universal}
+use Rattle.bcder_tree.specs.Tags.{TagValue}
+pub use Rattle.bcder_tree.specs.Tags.{octet_string_tag}
 use Rattle.bcder_tree.specs.Tree.{Tree, Trees, primitive, constructed, none, more}
-
-abbrev pub octet_string_tag : TagValue
-octet_string_tag = universal 4
 
 abbrev mutual
   -- BER: primitive, or segments that are OCTET STRINGs again, nested at will (8.7.3, 8.23.3).

@@ -1,7 +1,7 @@
 -- Forms of lists of values (X.680 26, 28).
 use Rattle.std.proofs.Common.{◌≡◌, ℕ, List, [], ◌∷◌, map, refl, sym, ap, ◌∙◌, subst}
 use Rattle.bcder_values.specs.bcder_tree.declared.mode.Mode.{Mode}
-use Rattle.bcder_values.specs.bcder_tree.Tags.{TagValue, universal}
+use Rattle.bcder_values.specs.bcder_tree.Tags.{TagValue, sequence_tag, set_tag}
 use Rattle.bcder_values.specs.bcder_tree.Tree.{Tree, Trees, none, more}
 use Rattle.bcder_content.specs.Contents.{tag_of}
 use Rattle.bcder_content.specs.Grammar.{Many, ManyCases}
@@ -46,8 +46,8 @@ items {A} f = record {
 
 -- SEQUENCE OF.
 abbrev pub sequence_of : {A : Type 0} → Form A → Form (List A)
-sequence_of f = wrapped (universal 16) (items f)
+sequence_of f = wrapped sequence_tag (items f)
 
 -- SET OF, whose values are written and read in the order of the list.
 abbrev pub set_of : {A : Type 0} → Form A → Form (List A)
-set_of f = wrapped (universal 17) (items f)
+set_of f = wrapped set_tag (items f)

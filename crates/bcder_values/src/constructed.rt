@@ -2,7 +2,7 @@
 
 ghost use Rattle.bcder_values.specs.bcder_tree.Tags.{IsTag};
 ghost use Rattle.bcder_values.specs.bcder_tree.Sequences.{sequence_tag};
-ghost use Rattle.bcder_values.specs.bcder_tree.Tags.{universal};
+ghost use Rattle.bcder_values.specs.bcder_tree.Tags.{set_tag};
 ghost use Rattle.bcder_written.specs.Encoded.{IsWrapped, WritesWrapped};
 ghost use Rattle.bcder_values.specs.Wraps.{wrapped_spelled, wrapped_one};
 ghost use Rattle.std.specs.Prelude.{◌≡◌};
@@ -57,7 +57,7 @@ pub fn sequence_as<V>(tag: Tag, inner: V) -> Constructed<V>
 
 /// A SET (X.690 8.11, 8.12), whose values are written in their order.
 pub fn set<V>(inner: V) -> Constructed<V>
-    ensures tag { result.tag ≡ universal 17 }
+    ensures tag { result.tag ≡ set_tag }
     ensures inner { result.inner ≡ inner }
 {
     Constructed {

@@ -3,7 +3,7 @@
 ghost use Rattle.std.proofs.Common.{rules};
 ghost use Rattle.std.specs.Prelude.{◌≡◌, ◌↔◌, ◌^◌, ◌<◌, ◌≤◌, ℕ, ℤ, pos, length, IsTrue, IfErr, OnOk};
 ghost use Rattle.bcder_written.specs.bcder_tree.declared.mode.Mode.{Mode as ModeValue};
-ghost use Rattle.bcder_written.specs.bcder_tree.Tags.{universal};
+ghost use Rattle.bcder_written.specs.bcder_tree.Tags.{integer_tag};
 ghost use Rattle.bcder_written.specs.bcder_tree.Integers.{IsShortest};
 ghost use Rattle.bcder_primitive.specs.Values.{IsSigned, IsTwosComplement, IsWithin};
 ghost use Rattle.bcder_written.specs.Contents.{ContentRefused};
@@ -115,7 +115,7 @@ fn put_signed<W: Write>(target: &mut W, number: i128) -> Result<(), EncodeError>
 
 /// An INTEGER from 0 up (X.690 8.3), in the fewest octets.
 impl PrimitiveContent for u8 {
-    ghost type_tag = { universal 2 };
+    ghost type_tag = { integer_tag };
 
     ghost content = { λ x m. WritesUnsigned (2 ^ 8) x };
 
@@ -138,7 +138,7 @@ impl PrimitiveContent for u8 {
 
 /// An INTEGER from 0 up (X.690 8.3), in the fewest octets.
 impl PrimitiveContent for u16 {
-    ghost type_tag = { universal 2 };
+    ghost type_tag = { integer_tag };
 
     ghost content = { λ x m. WritesUnsigned (2 ^ 16) x };
 
@@ -161,7 +161,7 @@ impl PrimitiveContent for u16 {
 
 /// An INTEGER from 0 up (X.690 8.3), in the fewest octets.
 impl PrimitiveContent for u32 {
-    ghost type_tag = { universal 2 };
+    ghost type_tag = { integer_tag };
 
     ghost content = { λ x m. WritesUnsigned (2 ^ 32) x };
 
@@ -184,7 +184,7 @@ impl PrimitiveContent for u32 {
 
 /// An INTEGER from 0 up (X.690 8.3), in the fewest octets.
 impl PrimitiveContent for u64 {
-    ghost type_tag = { universal 2 };
+    ghost type_tag = { integer_tag };
 
     ghost content = { λ x m. WritesUnsigned (2 ^ 64) x };
 
@@ -207,7 +207,7 @@ impl PrimitiveContent for u64 {
 
 /// An INTEGER from 0 up (X.690 8.3), in the fewest octets.
 impl PrimitiveContent for u128 {
-    ghost type_tag = { universal 2 };
+    ghost type_tag = { integer_tag };
 
     ghost content = { λ x m. WritesUnsigned (2 ^ 128) x };
 
@@ -230,7 +230,7 @@ impl PrimitiveContent for u128 {
 
 /// An INTEGER (X.690 8.3), in the fewest octets.
 impl PrimitiveContent for i8 {
-    ghost type_tag = { universal 2 };
+    ghost type_tag = { integer_tag };
 
     ghost content = { λ x m content. IsSigned (2 ^ 7) content x };
 
@@ -253,7 +253,7 @@ impl PrimitiveContent for i8 {
 
 /// An INTEGER (X.690 8.3), in the fewest octets.
 impl PrimitiveContent for i16 {
-    ghost type_tag = { universal 2 };
+    ghost type_tag = { integer_tag };
 
     ghost content = { λ x m content. IsSigned (2 ^ 15) content x };
 
@@ -276,7 +276,7 @@ impl PrimitiveContent for i16 {
 
 /// An INTEGER (X.690 8.3), in the fewest octets.
 impl PrimitiveContent for i32 {
-    ghost type_tag = { universal 2 };
+    ghost type_tag = { integer_tag };
 
     ghost content = { λ x m content. IsSigned (2 ^ 31) content x };
 
@@ -299,7 +299,7 @@ impl PrimitiveContent for i32 {
 
 /// An INTEGER (X.690 8.3), in the fewest octets.
 impl PrimitiveContent for i64 {
-    ghost type_tag = { universal 2 };
+    ghost type_tag = { integer_tag };
 
     ghost content = { λ x m content. IsSigned (2 ^ 63) content x };
 
@@ -322,7 +322,7 @@ impl PrimitiveContent for i64 {
 
 /// An INTEGER (X.690 8.3), in the fewest octets.
 impl PrimitiveContent for i128 {
-    ghost type_tag = { universal 2 };
+    ghost type_tag = { integer_tag };
 
     ghost content = { λ x m content. IsSigned (2 ^ 127) content x };
 

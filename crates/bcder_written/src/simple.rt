@@ -3,7 +3,7 @@
 ghost use Rattle.std.proofs.Common.{rules};
 ghost use Rattle.std.specs.Prelude.{◌≡◌, ◌<◌, ◌≤◌, false, IsTrue};
 ghost use Rattle.bcder_written.specs.bcder_tree.declared.mode.Mode.TheVariants.{Der};
-ghost use Rattle.bcder_written.specs.bcder_tree.Tags.{universal};
+ghost use Rattle.bcder_written.specs.bcder_tree.Tags.{boolean_tag, null_tag, octet_string_tag};
 ghost use Rattle.bcder_primitive.specs.Values.{IsBoolean, IsNull, AnyOctets};
 ghost use Rattle.bcder_written.specs.Simple.{IsOnePiece, one_boolean, one_null, one_piece, one_string};
 
@@ -16,7 +16,7 @@ use std::io::Write;
 
 /// A BOOLEAN (X.690 8.2): `FF` for true in every mode (11.1).
 impl PrimitiveContent for bool {
-    ghost type_tag = { universal 1 };
+    ghost type_tag = { boolean_tag };
 
     ghost content = { λ x m content. IsBoolean Der content x };
 
@@ -42,7 +42,7 @@ impl PrimitiveContent for bool {
 
 /// NULL (X.690 8.8), which has no content octets.
 impl PrimitiveContent for () {
-    ghost type_tag = { universal 5 };
+    ghost type_tag = { null_tag };
 
     ghost content = { λ x m content. IsNull content x };
 
@@ -79,12 +79,12 @@ fn is_cut(mode: Mode, len: usize) -> bool
 /// `CerUnsupported` where they are more than 1000 in CER, which has them in segments (9.2); `TooLong` where
 /// they are more than 2^32 - 1.
 impl PrimitiveContent for &[u8] {
-    ghost type_tag = { universal 4 };
+    ghost type_tag = { octet_string_tag };
 
     ghost content = { λ x m content. IsOnePiece m content x.now };
 
     fn tag() -> Tag
-        ensures { result ≡ universal 4 }
+        ensures { result ≡ octet_string_tag }
     {
         Tag::OCTET_STRING
     }
@@ -125,7 +125,7 @@ pub struct Octets<T>(pub T);
 
 /// `TooLong` where they are more than 2^32 - 1.
 impl<T: AsSlice<u8>> PrimitiveContent for Octets<T> {
-    ghost type_tag = { universal 4 };
+    ghost type_tag = { octet_string_tag };
 
     ghost content = { λ x m content. AnyOctets content (T.items x.0) };
 

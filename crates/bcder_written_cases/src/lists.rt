@@ -2,7 +2,7 @@
 
 ghost use Rattle.std.specs.Prelude.{◌≡◌, ◌^◌, ◌≤◌, replicate};
 ghost use Rattle.std.proofs.Common.{◌∙◌, rules, sym};
-ghost use Rattle.bcder_written_cases.specs.bcder_tree.Tags.{universal};
+ghost use Rattle.bcder_written_cases.specs.bcder_tree.Tags.{octet_string_tag};
 
 use crate::answers::Answer;
 use crate::to::To;
@@ -23,7 +23,7 @@ struct Huge {
 }
 
 impl PrimitiveContent for Huge {
-    ghost type_tag = { universal 4 };
+    ghost type_tag = { octet_string_tag };
 
     ghost content = { λ x m text. text ≡ replicate x.count 0 };
 

@@ -2,7 +2,7 @@
 
 ghost use Rattle.std.specs.Prelude.{◌≡◌, map};
 ghost use Rattle.bcder_written_cases.specs.Flags.{flag as flag_of};
-ghost use Rattle.bcder_written_cases.specs.bcder_tree.Tags.{universal};
+ghost use Rattle.bcder_written_cases.specs.bcder_tree.Tags.{octet_string_tag};
 ghost use Rattle.bcder_written_cases.specs.bcder_written.Encoded.{IsPlain, WritesPlain};
 ghost use Rattle.bcder_written_cases.specs.bcder_values.Plains.{plain_spelled, plain_one};
 ghost use Rattle.bcder_written_cases.specs.bcder_written.Simple.{IsOnePiece, one_piece};
@@ -57,9 +57,10 @@ struct AsStrings;
 impl<'a> Encodes<'a, Name> for AsStrings {
     type Given = Primitive<&'a [u8]>;
 
-    ghost trees = { λ e x m. IsPlain (universal 4) (λ content. IsOnePiece m content x.0) };
+    ghost trees = { λ e x m. IsPlain octet_string_tag (λ content. IsOnePiece m content x.0) };
 
-    ghost writes = { λ e x m. WritesPlain m (universal 4) (λ content. IsOnePiece m content x.0) };
+    ghost writes = { λ e x m. WritesPlain m octet_string_tag
+        (λ content. IsOnePiece m content x.0) };
 
     fn values_of(&self, item: &'a Name) -> Primitive<&'a [u8]> {
         item.0.as_slice().encode()

@@ -2,7 +2,7 @@
 use Rattle.std.proofs.lemmas.Bool.{false≢true}
 use Rattle.std.proofs.Common.{◌≡◌, ◌≢◌, inl, inr, ℕ, Bool, true, false, List, [], ◌∷◌, ◌++◌, Option, Some, None, refl, sym, ap, ◌∙◌, subst}
 use Rattle.certs_access.specs.bcder_tree.declared.mode.Mode.{Mode}
-use Rattle.certs_access.specs.bcder_tree.Tags.{universal}
+use Rattle.certs_access.specs.bcder_tree.Tags.{sequence_tag}
 use Rattle.certs_access.specs.bcder_tree.Tree.{Trees}
 use Rattle.certs_access.specs.bcder_content.Grammar.{One, Tagged}
 use Rattle.certs_access.specs.bcder_content.Words.{Gathers}
@@ -23,7 +23,7 @@ entry_one m = as_one (inside_one (then_by_one (octets_one oid_one) (λ method. r
     at method ts None (Some y) (of_other l) (of_known k p) = absurd (l k)
     at method ts None None (of_other k) (of_other l) = refl
 
-pub entry_tagged : (m : Mode) → Tagged (universal 16) (IsEntry m)
+pub entry_tagged : (m : Mode) → Tagged sequence_tag (IsEntry m)
 entry_tagged m = as_tagged (inside_tagged _ _)
 
 first_stays : (P : List ℕ → Type 0) (method uri : List ℕ) (e : Entry) (xs : List Entry) → IsFirst P method xs (Some uri) → IsFirst P method (xs ++ e ∷ []) (Some uri)

@@ -1,7 +1,7 @@
 -- Subject information access: where an authority publishes (RFC 6487 4.8.8, RFC 8182 3.2).
 use Rattle.std.specs.Prelude.{◌≡◌, ◌⊎◌, ◌≢◌, ℕ, List, [], ◌∷◌, Option, Some, None}
 use Rattle.certs_access.specs.bcder_tree.declared.mode.Mode.{Mode}
-use Rattle.certs_access.specs.bcder_tree.Tags.{universal}
+use Rattle.certs_access.specs.bcder_tree.Tags.{oid_tag, sequence_tag}
 use Rattle.certs_access.specs.bcder_tree.Tree.{Tree, Trees}
 use Rattle.certs_access.specs.bcder_content.Grammar.{Inside, OctetsOf, As, End, Then}
 use Rattle.certs_access.specs.bcder_content.Words.{ThenBy, Gathers}
@@ -40,10 +40,10 @@ abbrev pub as_entry : List ℕ × Option (List ℕ) → Entry
 as_entry x = record { method = x.0; name = x.1 }
 
 abbrev pub IsEntryBody : Mode → Trees → List ℕ × Option (List ℕ) → Type 0
-IsEntryBody m = ThenBy (OctetsOf (universal 6) IsOid) (AreLocation m)
+IsEntryBody m = ThenBy (OctetsOf oid_tag IsOid) (AreLocation m)
 
 abbrev pub IsEntry : Mode → Tree → Entry → Type 0
-IsEntry m = As (Inside (universal 16) (IsEntryBody m)) as_entry
+IsEntry m = As (Inside sequence_tag (IsEntryBody m)) as_entry
 
 -- The entry is of that method and has a URI of the form P.
 pub record HasUri (P : List ℕ → Type 0) (method : List ℕ) (e : Entry) (uri : List ℕ) : Type 0 where
@@ -70,4 +70,4 @@ abbrev pub IsAccessBody : Mode → Trees → AccessValue → Type 0
 IsAccessBody m = Gathers (IsEntry m) AreAccess
 
 abbrev pub IsSubjectAccess : Mode → Tree → AccessValue → Type 0
-IsSubjectAccess m = Inside (universal 16) (IsAccessBody m)
+IsSubjectAccess m = Inside sequence_tag (IsAccessBody m)

@@ -1,7 +1,7 @@
 -- The extensions that name URIs, in a mode.
 use Rattle.std.specs.Prelude.{ℕ, List}
 use Rattle.certs_access.specs.bcder_tree.declared.mode.Mode.{Mode}
-use Rattle.certs_access.specs.bcder_tree.Tags.{universal, context}
+use Rattle.certs_access.specs.bcder_tree.Tags.{context, oid_tag, sequence_tag}
 use Rattle.certs_access.specs.bcder_tree.Tree.{Tree, Trees}
 use Rattle.certs_access.specs.bcder_tree.Strings.{IsIa5}
 use Rattle.certs_access.specs.bcder_strings.Sets.{alone}
@@ -34,22 +34,22 @@ IsPointName m = As (Inside (context 0) (Then (IsFullName m) End)) only
 
 -- DistributionPoint ::= SEQUENCE { distributionPoint }
 abbrev pub IsPoint : Mode → Tree → List ℕ → Type 0
-IsPoint m = As (Inside (universal 16) (Then (IsPointName m) End)) only
+IsPoint m = As (Inside sequence_tag (Then (IsPointName m) End)) only
 
 -- CRLDistributionPoints ::= SEQUENCE { DistributionPoint } (RFC 6487 4.8.6)
 abbrev pub IsDistribution : Mode → Tree → List ℕ → Type 0
-IsDistribution m = As (Inside (universal 16) (Then (IsPoint m) End)) only
+IsDistribution m = As (Inside sequence_tag (Then (IsPoint m) End)) only
 
 -- AccessDescription ::= SEQUENCE { caIssuers, [6] names }
 abbrev pub IsIssuerBody : Mode → Trees → Unit {0} × List ℕ → Type 0
-IsIssuerBody m = Then (OctetsOf (universal 6) (AreOctets ca_issuers)) (HaveOneRsync m)
+IsIssuerBody m = Then (OctetsOf oid_tag (AreOctets ca_issuers)) (HaveOneRsync m)
 
 abbrev pub issuer_fields : List ℕ → Unit {0} × List ℕ
 issuer_fields uri = (tt, uri)
 
 abbrev pub IsIssuer : Mode → Tree → List ℕ → Type 0
-IsIssuer m = As (Inside (universal 16) (IsIssuerBody m)) behind
+IsIssuer m = As (Inside sequence_tag (IsIssuerBody m)) behind
 
 -- AuthorityInfoAccessSyntax ::= SEQUENCE { AccessDescription } (RFC 6487 4.8.7)
 abbrev pub IsAuthority : Mode → Tree → List ℕ → Type 0
-IsAuthority m = As (Inside (universal 16) (Then (IsIssuer m) End)) only
+IsAuthority m = As (Inside sequence_tag (Then (IsIssuer m) End)) only

@@ -1,7 +1,7 @@
 //! Where the subject publishes (RFC 6487 4.8.8).
 
 ghost use Rattle.std.specs.Prelude.{◌≡◌, ◌↔◌, true, IsTrue, OnErr};
-ghost use Rattle.certs_access.specs.bcder_tree.Tags.{universal};
+ghost use Rattle.certs_access.specs.bcder_tree.Tags.{sequence_tag};
 ghost use Rattle.certs_access.specs.bcder_content.Exact.{ReadsAs, ReadsOptAs};
 ghost use Rattle.certs_access.specs.bcder_content.Here.{here};
 ghost use Rattle.certs_access.specs.bcder_content.Grammar.{End, Then};
@@ -119,7 +119,7 @@ fn take_opt_description<S: Source>(
     alloc: Global,
     cons: &mut Constructed<S>,
 ) -> Result<Option<Description>, DecodeError<S::Error>>
-    ensures { ReadsOptAs entry_of (universal 16) (IsEntry (here S.rest cons.old).mode)
+    ensures { ReadsOptAs entry_of sequence_tag (IsEntry (here S.rest cons.old).mode)
         (here S.rest cons.old) result (here S.rest cons.new) }
 {
     cons.take_opt_sequence(

@@ -1,7 +1,7 @@
 -- What is written of subject information access is read again (RFC 6487 4.8.8, RFC 8182 3.2).
 use Rattle.std.proofs.Common.{◌≡◌, ◌≢◌, inl, inr, ℕ, true, false, List, [], ◌∷◌, ◌++◌, Option, Some, None, IfSome, refl, sym, ap, ◌∙◌, subst, append-nil, arith}
 use Rattle.certs_built.specs.bcder_tree.declared.mode.Mode.TheVariants.{Der}
-use Rattle.certs_built.specs.bcder_tree.Tags.{universal}
+use Rattle.certs_built.specs.bcder_tree.Tags.{sequence_tag}
 use Rattle.certs_built.specs.bcder_tree.Tree.{Tree, Trees, constructed, none}
 use Rattle.certs_built.specs.bcder_content.Grammar.{ManyCases}
 use Rattle.certs_built.specs.bcder_oid.Identifiers.{IsIdentifier}
@@ -44,7 +44,7 @@ location_read method uri k is ts p =
     let m = oid.is_read tt method Der p.is.first k.identifies p.is.is_first in
     let n = name_read uri is p.is.second p.is.is_second in
     record {
-      tree = constructed (universal 16) p.values;
+      tree = constructed sequence_tag p.values;
       alone = p.whole;
       is = record {
         x = (method, Some uri);
@@ -126,7 +126,7 @@ access_read a uris some ts p =
     let manifests = many_both (IsEntry Der) second (entries id.rpki_manifest m) of_object (entries_read id.rpki_manifest m manifest_known (rsync_uri m uris.manifest) second.first second.is_first) objects in
     let all = many_both (IsEntry Der) first (entries id.ca_repository r) of_manifest (entries_read id.ca_repository r repository_known (rsync_uri r uris.repository) first.first first.is_first) manifests in
     record {
-      tree = constructed (universal 16) p.values;
+      tree = constructed sequence_tag p.values;
       alone = p.whole;
       is = record {
         values = p.values;

@@ -1,7 +1,7 @@
 -- What is written of a certificate that is built is read again as this certificate (RFC 5280 4.1.1).
 use Rattle.std.proofs.Common.{◌≡◌, ◌⊎◌, inl, inr, ℕ, List, [], refl, sym, ap, ◌∙◌, subst, append-nil}
 use Rattle.certs_built.specs.bcder_tree.declared.mode.Mode.TheVariants.{Ber, Der}
-use Rattle.certs_built.specs.bcder_tree.Tags.{universal}
+use Rattle.certs_built.specs.bcder_tree.Tags.{sequence_tag}
 use Rattle.certs_built.specs.bcder_tree.Tree.{SpellsAll, Trees, constructed}
 use Rattle.certs_built.specs.bcder_bits.Bits.{BitsValue}
 use Rattle.certs_built.specs.bcder_bits.Contents.{IsBitString, bit_string_tag, cleared, padded_in}
@@ -51,7 +51,7 @@ cert_read s c fields ts p =
     let second = algorithm_read s.signature.algorithm algorithm.first algorithm.is_first in
     let last = signature_read s.signature.bits algorithm.second algorithm.is_second in
     record {
-      tree = constructed (universal 16) p.values;
+      tree = constructed sequence_tag p.values;
       alone = p.whole;
       is = record {
         x = ((s.message.octets, c), (s.signature.algorithm, (padded_in Der s.signature.bits, tt)));

@@ -3,7 +3,7 @@ use Rattle.std.proofs.Common.{◌≡◌, ℕ, Bool, true, false, List, [], ◌++
 use Rattle.std.specs.Option.{unwrap_or}
 use Rattle.certs_built.specs.bcder_tree.declared.mode.Mode.TheVariants.{Der}
 use Rattle.certs_built.specs.bcder_tree.Strings.{octet_string_tag}
-use Rattle.certs_built.specs.bcder_tree.Tags.{TagValue, universal}
+use Rattle.certs_built.specs.bcder_tree.Tags.{TagValue, boolean_tag, sequence_tag}
 use Rattle.certs_built.specs.bcder_tree.Tree.{Spells, SpellsAll, Tree, Trees, constructed, more, none}
 use Rattle.certs_built.specs.bcder_content.Texts.{ReadsFront}
 use Rattle.certs_built.specs.bcder_oid.Identifiers.{IsIdentifier}
@@ -50,9 +50,9 @@ shown_lawful true = tt
 shown_lawful false = tt
 
 abbrev body : Forms ExtensionFields
-body = both oid (default (universal 1) boolean false shown (last octets))
+body = both oid (default boolean_tag boolean false shown (last octets))
 
-apart : Apart (universal 1) boolean (last octets)
+apart : Apart boolean_tag boolean (last octets)
 apart = record {
   is = λ t e. e;
   behind = λ e. let n : ◌≡◌ {A = ℕ} 1 4 = ap (λ (t : TagValue). t.number) e in omega (arith, n);
@@ -84,7 +84,7 @@ extension_read kind critical o identifies reads ts p =
       whole = p.is.whole;
     }) in
     record {
-      tree = constructed (universal 16) p.values;
+      tree = constructed sequence_tag p.values;
       alone = p.whole;
       value = value;
       is = record { x = (kind, (critical, (value, tt))); is = record { values = p.values; whole = refl; is = fields }; means = refl };

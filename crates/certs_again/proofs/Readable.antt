@@ -3,7 +3,7 @@ use Rattle.std.proofs.Common.{◌≡◌, ◌≢◌, ◌⊎◌, inl, inr, ℕ, �
 use Rattle.std.proofs.Math.Nat.{mod-one}
 use Rattle.certs_built.specs.bcder_tree.declared.mode.Mode.{Mode}
 use Rattle.certs_built.specs.bcder_tree.declared.mode.Mode.TheVariants.{Der}
-use Rattle.certs_built.specs.bcder_tree.Tags.{universal}
+use Rattle.certs_built.specs.bcder_tree.Tags.{oid_tag}
 use Rattle.certs_built.specs.bcder_tree.Tree.{Tree, Trees}
 use Rattle.certs_built.specs.bcder_bits.Bits.{BitsValue}
 use Rattle.certs_built.specs.bcder_bits.Contents.{IsPadded, cleared, last_octet, padded_in}
@@ -39,7 +39,7 @@ padded_same : (v : BitsValue) → IsPadded Der v → padded_in Der v ≡ v
 padded_same v p = ap (λ (o : List ℕ). (let bits : BitsValue = record { unused = v.unused; octets = o } in bits)) (not_cleared v.unused v.octets p)
 
 -- Purposes.
-identified : (ts : Trees) (xs : List (List ℕ)) → ManyCases (OctetsOf (universal 6) IsOid) ts xs → LawfulAll IsIdentifier xs
+identified : (ts : Trees) (xs : List (List ℕ)) → ManyCases (OctetsOf oid_tag IsOid) ts xs → LawfulAll IsIdentifier xs
 identified ts [] p = tt
 identified ts (x ∷ xs) p = (subst (λ (o : List ℕ). IsIdentifier o) p.3.is.same p.3.is.is, identified p.1 xs p.4)
 

@@ -4,7 +4,7 @@ use Rattle.std.specs.Option.{unwrap_or}
 use Rattle.std.proofs.lemmas.List.Elements.{All-weaker}
 use Rattle.certs_built.specs.bcder_tree.declared.mode.Mode.TheVariants.{Der}
 use Rattle.certs_built.specs.bcder_tree.Strings.{IsIa5}
-use Rattle.certs_built.specs.bcder_tree.Tags.{TagValue, context, universal}
+use Rattle.certs_built.specs.bcder_tree.Tags.{TagValue, context, boolean_tag, octet_string_tag, sequence_tag}
 use Rattle.certs_built.specs.bcder_tree.Tree.{Tree, Trees, constructed, none}
 use Rattle.certs_built.specs.bcder_bits.Bits.{BitsValue}
 use Rattle.certs_built.specs.bcder_bits.Contents.{IsBitString}
@@ -67,7 +67,7 @@ told true = refl
 told false = refl
 
 abbrev constraints : Form Bool
-constraints = mapped (λ (z : Bool × Unit {0}). z.0) (λ (x : Bool). (x, tt)) (wrapped (universal 16) (last_default (universal 1) boolean false shown))
+constraints = mapped (λ (z : Bool × Unit {0}). z.0) (λ (x : Bool). (x, tt)) (wrapped sequence_tag (last_default boolean_tag boolean false shown))
 
 pub constraints_read : (ca : Bool) → IsReadAs IsBasicConstraints ca (values.basic_constraints ca)
 constraints_read ca ts p = constraints.is_read (record { is = λ t e. e; behind = λ e. e }, (record { shows = told; same = λ m. refl }, tt)) ca Der ts (shown_lawful ca) p
@@ -78,14 +78,14 @@ string_read tag octets ts p = (octets_at tag).is_read tt octets Der ts tt p
 
 pub subject_key_read : (octets : List ℕ) → IsTwentyLong octets → IsReadAs IsSubjectKeyIdentifier octets (values.subject_key octets)
 subject_key_read octets long ts p =
-    let a = string_read (universal 4) octets ts p in
+    let a = string_read octet_string_tag octets ts p in
     record { tree = a.tree; alone = a.alone; is = record { is = a.is; meets = long } }
 
 pub authority_key_read : (octets : List ℕ) → IsTwentyLong octets → IsReadAs IsAuthorityKeyIdentifier octets (values.authority_key octets)
 authority_key_read octets long ts p =
     let a = string_read (context 0) octets p.values p.is in
     record {
-      tree = constructed (universal 16) p.values;
+      tree = constructed sequence_tag p.values;
       alone = p.whole;
       is = record {
         x = (octets, tt);
@@ -128,7 +128,7 @@ map_same [] = refl
 map_same (x ∷ xs) = ap (λ ys. x ∷ ys) (map_same xs)
 
 abbrev all_oids : Form (List (List ℕ))
-all_oids = wrapped (universal 16) (items oid)
+all_oids = wrapped sequence_tag (items oid)
 
 pub purposes_read : (xs : List (List ℕ)) → xs ≢ [] → LawfulAll IsIdentifier xs → IsReadAs IsExtendedKeyUsage xs (values.purposes xs)
 purposes_read xs some lawful ts p =
@@ -159,8 +159,8 @@ pub crl_read : (uri : List ℕ) → IsRsync uri → IsReadAs IsCrlDistribution u
 crl_read uri is =
     let full = inside (context 0) (values.uri_name uri) in
     let point = inside (context 0) full in
-    alone_in (universal 16) (inside (universal 16) point)
-    (alone_in (universal 16) point (alone_in (context 0) full (full_read uri is)))
+    alone_in sequence_tag (inside sequence_tag point)
+    (alone_in sequence_tag point (alone_in (context 0) full (full_read uri is)))
 
 issuer_identifies : IsIdentifier id.ca_issuers
 issuer_identifies = record { front = 43 ∷ 6 ∷ 1 ∷ 5 ∷ 5 ∷ 7 ∷ 48 ∷ []; last = 2; whole = refl; ends = omega arith }
@@ -169,7 +169,7 @@ one_issuer : (uri : List ℕ) → IsRsync uri → IsReadAs (IsIssuer Der) uri (v
 one_issuer uri is ts p =
     let method = p.is.is_first in
     record {
-      tree = constructed (universal 16) p.values;
+      tree = constructed sequence_tag p.values;
       alone = p.whole;
       is = record {
         x = (tt, uri);
@@ -189,7 +189,7 @@ one_issuer uri is ts p =
     }
 
 pub issuer_read : (uri : List ℕ) → IsRsync uri → IsReadAs IsAuthorityAccess uri (values.issuer_access uri)
-issuer_read uri is = alone_in (universal 16) (values.location (record { method = id.ca_issuers; uri = uri })) (one_issuer uri is)
+issuer_read uri is = alone_in sequence_tag (values.location (record { method = id.ca_issuers; uri = uri })) (one_issuer uri is)
 
 -- Policies.
 policy_identifies : (p : Overclaim) → IsIdentifier (policy_octets p)
@@ -201,7 +201,7 @@ policies_read policy ts p =
     let inner = p.is in
     let a = oid.is_read tt (policy_octets policy) Der inner.values (policy_identifies policy) inner.is in
     record {
-      tree = constructed (universal 16) p.values;
+      tree = constructed sequence_tag p.values;
       alone = p.whole;
       is = record {
         x = (policy, tt);
@@ -209,7 +209,7 @@ policies_read policy ts p =
           values = p.values;
           whole = refl;
           is = record {
-            first = constructed (universal 16) inner.values;
+            first = constructed sequence_tag inner.values;
             others = none;
             whole = inner.whole;
             is = record {

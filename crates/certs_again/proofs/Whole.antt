@@ -2,7 +2,7 @@
 use Rattle.std.proofs.Common.{◌≡◌, ◌⊎◌, inl, inr, ℕ, ◌^◌, Bool, true, false, List, refl, ap, ◌∙◌, subst}
 use Rattle.certs_built.specs.bcder_tree.declared.mode.Mode.TheVariants.{Ber, Der}
 use Rattle.certs_built.specs.bcder_tree.Front.{Fields}
-use Rattle.certs_built.specs.bcder_tree.Tags.{context, universal}
+use Rattle.certs_built.specs.bcder_tree.Tags.{context, sequence_tag}
 use Rattle.certs_built.specs.bcder_tree.Tree.{Spells, SpellsAll, Tree, Trees, constructed, more, none, primitive}
 use Rattle.certs_built.specs.bcder_content.Grammar.{End, Inside, Then}
 use Rattle.certs_built.specs.bcder_content.Kept.{CapturedValue}
@@ -113,7 +113,7 @@ validity_read a b ts p =
     let first = time_read a p.is.first p.is.is_first in
     let second = time_read b p.is.second p.is.is_second in
     record {
-      tree = constructed (universal 16) p.values;
+      tree = constructed sequence_tag p.values;
       alone = p.whole;
       is = record { values = p.values; whole = refl; is = then_read p.is.second first (last_read second) p.is.whole };
     }
@@ -129,14 +129,14 @@ abbrev the_list : List Extension → List Extension → Type 0
 the_list all same = all ≡ same
 
 abbrev IsListed : Tree → List Extension × Unit {0} → Type 0
-IsListed = Inside (context 3) (Then (Inside (universal 16) (Gathers (IsExtension Der) the_list)) End)
+IsListed = Inside (context 3) (Then (Inside sequence_tag (Gathers (IsExtension Der) the_list)) End)
 
 record ReadsList (c : TbsValue) (ts : Trees) : Type 0 where
   all : List Extension
   read : Alone IsListed (all, tt) ts
   has : HasExtensions all c
 
-list_read : (c : TbsValue) → IsLawful c → IsReadable c → (ts : Trees) → (inside (context 3) (inside (universal 16) (extensions c))).trees Der ts → ReadsList c ts
+list_read : (c : TbsValue) → IsLawful c → IsReadable c → (ts : Trees) → (inside (context 3) (inside sequence_tag (extensions c))).trees Der ts → ReadsList c ts
 list_read c lawful readable ts p =
     let r = extensions_read c lawful readable p.is.values p.is.is in
     record {
@@ -148,7 +148,7 @@ list_read c lawful readable ts p =
           values = p.values;
           whole = refl;
           is = record {
-            first = constructed (universal 16) p.is.values;
+            first = constructed sequence_tag p.is.values;
             others = none;
             whole = p.is.whole;
             is = record { values = p.is.values; whole = refl; is = record { xs = r.all; are = record { cases = r.many }; says = refl } };
@@ -180,7 +180,7 @@ tbs_read c lawful readable ts p =
     (last_read list.read)
     key.whole) subject.whole) validity.whole) issuer.whole) algorithm.whole) serial.whole) version.whole in
     record {
-      tree = constructed (universal 16) p.values;
+      tree = constructed sequence_tag p.values;
       alone = p.whole;
       is = record {
         fields = ((tt, tt), (c.serial, (c.has_null, (c.issuer, ((c.not_before, (c.not_after, tt)), (c.subject, (c.key, ((list.all, tt), tt))))))));

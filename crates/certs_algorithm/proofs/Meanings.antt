@@ -2,7 +2,7 @@
 use Rattle.std.proofs.Common.{◌≡◌, ℕ, Bool, true, false, List, Option, Some, None, Result, Ok, Err, inl, inr, refl, sym, ap, ◌∙◌, subst}
 use Rattle.std.specs.Option.{is_some}
 use Rattle.std.specs.Result.{IsErr, IsErrAnd}
-use Rattle.certs_algorithm.specs.bcder_tree.Tags.{TagValue, universal}
+use Rattle.certs_algorithm.specs.bcder_tree.Tags.{TagValue, sequence_tag}
 use Rattle.certs_algorithm.specs.bcder_tree.Tree.{Tree}
 use Rattle.certs_algorithm.specs.bcder_source.Errors.{OnContent}
 use Rattle.certs_algorithm.specs.bcder_source.declared.error.DecodeError.{DecodeError}
@@ -32,12 +32,12 @@ null_kept false = refl
 
 -- A reader of the fields is one of the algorithm.
 pub algorithm_reads : {E : Type 0} (kind : List ℕ) (old new : ValuesLeft) (r : Result Bool (DecodeError E))
-    → ReadsAs fields_of (Inside (universal 16) (AreFields kind)) old r new → ReadsAs (λ a. a) (IsAlgorithmOf kind) old r new
+    → ReadsAs fields_of (Inside sequence_tag (AreFields kind)) old r new → ReadsAs (λ a. a) (IsAlgorithmOf kind) old r new
 algorithm_reads kind old new (Ok b) h = gives_same (null_kept b) (as_gives has_null h)
 algorithm_reads kind old new (Err e) h = weaker e (as_lacks has_null) h
 
 -- Either identifier is named.
-either_named : (t : Tree) (b : Bool) (x : Fields) → b ≡ has_null x → Inside (universal 16) AreCmsFields t x → IsCmsAlgorithm t b
+either_named : (t : Tree) (b : Bool) (x : Fields) → b ≡ has_null x → Inside sequence_tag AreCmsFields t x → IsCmsAlgorithm t b
 either_named t b x e p = elim p.is.is.is.names [
   | inl h ↦ record { cases = inl (named rsa_encryption h) }
   | inr h ↦ record { cases = inr (named sha256_with_rsa h) }
@@ -61,7 +61,7 @@ either_named t b x e p = elim p.is.is.is.names [
     }
 
 either_fields : (kind : List ℕ) → ((content : List ℕ) → content ≡ kind → NamesSignature content tt) → (t : Tree) (b : Bool)
-    → IsAlgorithmOf kind t b → As (Inside (universal 16) AreCmsFields) has_null t b
+    → IsAlgorithmOf kind t b → As (Inside sequence_tag AreCmsFields) has_null t b
 either_fields kind names t b p = record {
   x = p.x;
   is = record {
@@ -82,17 +82,17 @@ either_fields kind names t b p = record {
   means = p.means;
 }
 
-cms_fields : (t : Tree) (b : Bool) → IsCmsAlgorithm t b → As (Inside (universal 16) AreCmsFields) has_null t b
+cms_fields : (t : Tree) (b : Bool) → IsCmsAlgorithm t b → As (Inside sequence_tag AreCmsFields) has_null t b
 cms_fields t b p = elim p.cases [
   | inl q ↦ either_fields rsa_encryption (λ content h. record { names = inl h }) t b q
   | inr q ↦ either_fields sha256_with_rsa (λ content h. record { names = inr h }) t b q
 ]
 
-cms_lacks : {now : ValuesLeft} → Lacks (Inside (universal 16) AreCmsFields) now → Lacks IsCmsAlgorithm now
+cms_lacks : {now : ValuesLeft} → Lacks (Inside sequence_tag AreCmsFields) now → Lacks IsCmsAlgorithm now
 cms_lacks l = record { none = λ t b p a. let q = cms_fields t b p in l.none t q.x q.is a }
 
 pub cms_reads : {E : Type 0} (old new : ValuesLeft) (r : Result Bool (DecodeError E))
-    → ReadsAs fields_of (Inside (universal 16) AreCmsFields) old r new → ReadsAs (λ a. a) IsCmsAlgorithm old r new
+    → ReadsAs fields_of (Inside sequence_tag AreCmsFields) old r new → ReadsAs (λ a. a) IsCmsAlgorithm old r new
 cms_reads old new (Ok b) h = record { tree = h.tree; is = either_named h.tree b (fields_of b) (null_kept b) h.is; took = h.took }
 cms_reads old new (Err e) h = weaker e cms_lacks h
 
@@ -108,7 +108,7 @@ stop_opt_value {E = E} {tag = tag} f {P} {now} new (Err x) e a h fact =
 pub algorithm_of_one : (kind : List ℕ) → One (IsAlgorithmOf kind)
 algorithm_of_one kind = as_one (inside_one (then_one (octets_one unit_one) opt_null_one))
 
-either_one : One (As (Inside (universal 16) AreCmsFields) has_null)
+either_one : One (As (Inside sequence_tag AreCmsFields) has_null)
 either_one = as_one (inside_one (then_one (octets_one unit_one) opt_null_one))
 
 pub cms_one : One IsCmsAlgorithm

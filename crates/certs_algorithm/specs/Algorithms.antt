@@ -1,6 +1,6 @@
 -- Algorithms of signatures and digests (RFC 5280 4.1.1.2, RFC 5652 10.1, RFC 7935 2).
 use Rattle.std.specs.Prelude.{◌≡◌, ◌⊎◌, ℕ, Bool, true, false, List, [], ◌∷◌, Option, Some, None}
-use Rattle.certs_algorithm.specs.bcder_tree.Tags.{TagValue, universal}
+use Rattle.certs_algorithm.specs.bcder_tree.Tags.{TagValue, universal, sequence_tag, set_tag}
 use Rattle.certs_algorithm.specs.bcder_tree.Tree.{Tree, Trees}
 use Rattle.certs_algorithm.specs.bcder_content.Grammar.{Inside, OctetsOf, As, OneOf, Then, End}
 use Rattle.certs_algorithm.specs.bcder_bits.Bits.{BitsValue}
@@ -25,7 +25,7 @@ abbrev pub AreFields : List ℕ → Trees → Fields → Type 0
 AreFields kind = Then (OctetsOf (universal 6) (AreOctets kind)) OptNull
 
 abbrev pub IsAlgorithmOf : List ℕ → Tree → Bool → Type 0
-IsAlgorithmOf kind = As (Inside (universal 16) (AreFields kind)) has_null
+IsAlgorithmOf kind = As (Inside sequence_tag (AreFields kind)) has_null
 
 -- AlgorithmIdentifier as a form, by which it is written too.
 abbrev pub null_if : Bool → Option (Unit {0})
@@ -39,7 +39,7 @@ abbrev pub algorithm_fields : List ℕ → Forms Fields
 algorithm_fields kind = both (that_oid kind) (last_maybe (universal 5) null)
 
 abbrev pub algorithm_of : List ℕ → Form Bool
-algorithm_of kind = mapped has_null fields_of (wrapped (universal 16) (algorithm_fields kind))
+algorithm_of kind = mapped has_null fields_of (wrapped sequence_tag (algorithm_fields kind))
 
 -- signatureAlgorithm of certificates and lists: sha256WithRSAEncryption (RFC 5280 4.1.1.2, RFC 7935 2)
 abbrev pub x509_algorithm : Form Bool
@@ -66,7 +66,7 @@ IsDigestAlgorithm = As (IsAlgorithmOf sha256) whatever
 
 -- DigestAlgorithmIdentifiers ::= SET OF DigestAlgorithmIdentifier, of one (RFC 5652 5.1, RFC 6488 2.1.2)
 abbrev pub AreDigestAlgorithms : Tree → Unit {0} × Unit {0} → Type 0
-AreDigestAlgorithms = Inside (universal 17) (Then IsDigestAlgorithm End)
+AreDigestAlgorithms = Inside set_tag (Then IsDigestAlgorithm End)
 
 -- SHA-256 is written without NULL (RFC 5754 2).
 abbrev pub without_null : Unit {0} → Bool
@@ -76,7 +76,7 @@ abbrev pub digest_algorithm : Form (Unit {0})
 digest_algorithm = mapped whatever without_null (algorithm_of sha256)
 
 abbrev pub digest_algorithms : Form (Unit {0} × Unit {0})
-digest_algorithms = wrapped (universal 17) (last digest_algorithm)
+digest_algorithms = wrapped set_tag (last digest_algorithm)
 
 -- An algorithm's identifier by its octets, and whether NULL is there: what is written of it.
 pub record AlgorithmValue : Type 0 where

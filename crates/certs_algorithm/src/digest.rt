@@ -2,7 +2,7 @@
 
 ghost use Rattle.std.specs.Prelude.{◌≡◌, ◌≢◌, true, false, IfErr, OnErr};
 ghost use Rattle.certs_algorithm.specs.bcder_source.declared.error.DecodeError.TheVariants.{Memory};
-ghost use Rattle.certs_algorithm.specs.bcder_tree.Tags.{universal};
+ghost use Rattle.certs_algorithm.specs.bcder_tree.Tags.{sequence_tag, set_tag};
 ghost use Rattle.certs_algorithm.specs.bcder_content.Exact.{ReadsAs, ReadsOptAs};
 ghost use Rattle.certs_algorithm.specs.bcder_content.Grammar.{End, Then};
 ghost use Rattle.certs_algorithm.specs.bcder_content.Here.{here};
@@ -64,7 +64,7 @@ impl DigestAlgorithm {
     pub fn take_opt_from<S: Source>(
         cons: &mut Constructed<S>,
     ) -> Result<Option<Self>, DecodeError<S::Error>>
-        ensures reads { ReadsOptAs (λ a. tt) (universal 16) IsDigestAlgorithm
+        ensures reads { ReadsOptAs (λ a. tt) sequence_tag IsDigestAlgorithm
             (here S.rest cons.old) result (here S.rest cons.new) }
         ensures failed { OnErr result ((here S.rest cons.new).failed ≡ true) }
         ensures no_memory { IfErr result (λ e. e ≢ Memory) }
@@ -109,7 +109,7 @@ impl DigestAlgorithm {
 
     /// What is written of a SET of it alone.
     pub fn encode_set(self) -> encode::Constructed<AlgorithmIdentifier>
-        ensures tag { result.tag ≡ universal 17 }
+        ensures tag { result.tag ≡ set_tag }
         ensures algorithm { result.inner ≡ record { kind = sha256; has_null = false } }
     {
         encode::Constructed {

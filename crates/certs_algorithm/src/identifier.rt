@@ -1,7 +1,7 @@
 //! Algorithms as they are written (RFC 5280 4.1.1.2).
 
 ghost use Rattle.std.specs.Prelude.{◌≡◌};
-ghost use Rattle.certs_algorithm.specs.bcder_tree.Tags.{universal};
+ghost use Rattle.certs_algorithm.specs.bcder_tree.Tags.{null_tag, oid_tag, sequence_tag};
 ghost use Rattle.certs_algorithm.specs.Algorithms.{lends_bare, lends_null};
 
 use certs_basics::encode::{self, EncodeError, PrimitiveContent, Values};
@@ -40,7 +40,7 @@ impl AlgorithmIdentifier {
     fn with_null(&self) -> WithNull
         ensures { lends_null result.tag result.inner.0.tag result.inner.1.tag
             result.inner.0.content.0.now
-            ≡ lends_null (universal 16) (universal 6) (universal 5) self.now.kind }
+            ≡ lends_null sequence_tag oid_tag null_tag self.now.kind }
     {
         encode::Constructed {
             tag: Tag::SEQUENCE,
@@ -50,7 +50,7 @@ impl AlgorithmIdentifier {
 
     fn bare(&self) -> Bare
         ensures { lends_bare result.tag result.inner.0.tag result.inner.0.content.0.now
-            ≡ lends_bare (universal 16) (universal 6) self.now.kind }
+            ≡ lends_bare sequence_tag oid_tag self.now.kind }
     {
         encode::Constructed {
             tag: Tag::SEQUENCE,

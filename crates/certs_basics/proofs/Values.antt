@@ -2,7 +2,7 @@
 use Rattle.std.proofs.Common.{◌≡◌, ℕ, List, ◌∷◌, refl, sym, ap, ◌∙◌, subst}
 use Rattle.std.specs.Prelude.{pos, unsigned_abs}
 use Rattle.certs_basics.specs.bcder_tree.declared.mode.Mode.{Mode}
-use Rattle.certs_basics.specs.bcder_tree.Tags.{TagValue, universal}
+use Rattle.certs_basics.specs.bcder_tree.Tags.{TagValue, oid_tag}
 use Rattle.certs_basics.specs.bcder_tree.Tree.{Tree, Trees}
 use Rattle.certs_basics.specs.bcder_tree.Strings.{IsString}
 use Rattle.certs_basics.specs.bcder_content.Grammar.{OctetsOf, Then, End, One, OneAll, OneOctets}
@@ -79,7 +79,7 @@ format_one = inside_one (record { one = at })
     at : (ts : Trees) (x y : PublicKeyFormat) → IsFormatBody ts x → IsFormatBody ts y → x ≡ y
     at ts x y p q =
         let e = same_trees (sym p.are.whole ∙ q.are.whole) in
-        same x y ((octets_one oid_one).one q.are.first (kind_of x) (kind_of y) (subst (λ (t : Tree). OctetsOf (universal 6) IsOid t (kind_of x)) e.0 p.are.is) q.are.is)
+        same x y ((octets_one oid_one).one q.are.first (kind_of x) (kind_of y) (subst (λ (t : Tree). OctetsOf oid_tag IsOid t (kind_of x)) e.0 p.are.is) q.are.is)
 
 pub key_one : {m : Mode} → One (IsKey m)
 key_one {m} = inside_one (record { one = at })

@@ -2,7 +2,7 @@
 use Rattle.std.specs.Prelude.{◌≡◌, ℕ, ◌/◌, ◌%◌, List, [], ◌∷◌, ◌++◌, length, if◌then◌else◌, nat_lt}
 use Rattle.certs_basics.specs.bcder_tree.declared.mode.Mode.{Mode}
 use Rattle.certs_basics.specs.bcder_tree.declared.mode.Mode.TheVariants.{Der}
-use Rattle.certs_basics.specs.bcder_tree.Tags.{universal}
+use Rattle.certs_basics.specs.bcder_tree.Tags.{null_tag, oid_tag, sequence_tag}
 use Rattle.certs_basics.specs.bcder_tree.Tree.{Tree, Trees, primitive, Spells}
 use Rattle.certs_basics.specs.bcder_tree.Sequences.{sequence}
 use Rattle.certs_basics.specs.bcder_content.Grammar.{Inside, OctetsOf, Then, End}
@@ -28,19 +28,19 @@ kind_of Ecdsa = ec_public_key
 
 pub data AreParameters : PublicKeyFormat → Trees → Type 0 where
   of_rsa : {ts : Trees} {x : _} → OptNull ts x → AreParameters Rsa ts
-  of_ecdsa : {ts : Trees} {x : _} → Then (OctetsOf (universal 6) (AreOctets secp256r1)) End ts x → AreParameters Ecdsa ts
+  of_ecdsa : {ts : Trees} {x : _} → Then (OctetsOf oid_tag (AreOctets secp256r1)) End ts x → AreParameters Ecdsa ts
 
 -- AlgorithmIdentifier ::= SEQUENCE { algorithm OBJECT IDENTIFIER, parameters ANY DEFINED BY algorithm }
 pub record IsFormatBody (ts : Trees) (format : PublicKeyFormat) : Type 0 where
-  pub are : ThenBy (OctetsOf (universal 6) IsOid) (λ kind us x. (kind ≡ kind_of x) × AreParameters x us) ts (kind_of format, format)
+  pub are : ThenBy (OctetsOf oid_tag IsOid) (λ kind us x. (kind ≡ kind_of x) × AreParameters x us) ts (kind_of format, format)
 
 abbrev pub IsFormat : Tree → PublicKeyFormat → Type 0
-IsFormat = Inside (universal 16) IsFormatBody
+IsFormat = Inside sequence_tag IsFormatBody
 
 -- The key as a value in DER, with NULL after rsaEncryption and zeros for unused bits (RFC 7935 3.1, X.690 11.2.1).
 abbrev pub format_tree : PublicKeyFormat → Tree
-format_tree Rsa = sequence (primitive (universal 6) rsa_encryption ∷ primitive (universal 5) [] ∷ [])
-format_tree Ecdsa = sequence (primitive (universal 6) ec_public_key ∷ primitive (universal 6) secp256r1 ∷ [])
+format_tree Rsa = sequence (primitive oid_tag rsa_encryption ∷ primitive null_tag [] ∷ [])
+format_tree Ecdsa = sequence (primitive oid_tag ec_public_key ∷ primitive oid_tag secp256r1 ∷ [])
 
 abbrev pub key_tree : KeyValue → Tree
 key_tree k = sequence (format_tree k.format ∷ primitive bit_string_tag (k.bits.unused ∷ cleared k.bits.unused k.bits.octets) ∷ [])
@@ -61,7 +61,7 @@ pub record IsKeyBody (m : Mode) (ts : Trees) (k : KeyValue) : Type 0 where
   pub has : HasEncoding k
 
 abbrev pub IsKey : Mode → Tree → KeyValue → Type 0
-IsKey m = Inside (universal 16) (IsKeyBody m)
+IsKey m = Inside sequence_tag (IsKeyBody m)
 
 -- The encoded octets as a function, for lengths below 2^32 (X.690 8.1.3, 10.1).
 abbrev pub der_length : ℕ → List ℕ

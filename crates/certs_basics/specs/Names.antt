@@ -2,7 +2,7 @@
 use Rattle.std.specs.Prelude.{◌≡◌, ℕ, ◌⊎◌, Bool, false, List, [], ◌∷◌, ◌/◌, ◌%◌, codes, slice_index, encode_utf8}
 use Rattle.certs_basics.specs.bcder_tree.declared.mode.Mode.{Mode}
 use Rattle.certs_basics.specs.bcder_tree.declared.mode.Mode.TheVariants.{Der}
-use Rattle.certs_basics.specs.bcder_tree.Tags.{universal}
+use Rattle.certs_basics.specs.bcder_tree.Tags.{oid_tag, printable_string_tag, sequence_tag, set_tag, utf8_string_tag}
 use Rattle.certs_basics.specs.bcder_tree.Tree.{Tree, primitive, constructed, none, more, Spells}
 use Rattle.certs_basics.specs.bcder_tree.Sequences.{sequence}
 use Rattle.certs_basics.specs.bcder_tree.Strings.{IsPrintable}
@@ -25,15 +25,15 @@ abbrev pub as_attribute : List ℕ × (Tree × Unit {0}) → Attribute
 as_attribute x = record { kind = x.0; value = x.1.0 }
 
 abbrev pub IsAttribute : Tree → Attribute → Type 0
-IsAttribute = As (Inside (universal 16) (Then (OctetsOf (universal 6) IsOid) (Then Itself End))) as_attribute
+IsAttribute = As (Inside sequence_tag (Then (OctetsOf oid_tag IsOid) (Then Itself End))) as_attribute
 
 -- RelativeDistinguishedName ::= SET OF AttributeTypeAndValue
 abbrev pub IsRelativeName : Tree → List Attribute → Type 0
-IsRelativeName = Inside (universal 17) (Many IsAttribute)
+IsRelativeName = Inside set_tag (Many IsAttribute)
 
 -- Name ::= SEQUENCE OF RelativeDistinguishedName; it means all attributes, in their order (RFC 5280 4.1.2.4).
 abbrev pub IsName : Tree → List Attribute → Type 0
-IsName = As (Inside (universal 16) (Many IsRelativeName)) joined
+IsName = As (Inside sequence_tag (Many IsRelativeName)) joined
 
 -- A name is kept as octets and the mode in which they spell it.
 pub record NameSays (name : CapturedValue) (all : List Attribute) : Type 0 where
@@ -58,7 +58,7 @@ pub record SpellsName (m : Mode) (text : List ℕ) (name : CapturedValue) : Type
 pub record IsPlain (strict : Bool) (kind : List ℕ) (a : Attribute) : Type 0 where
   pub kind_is : a.kind ≡ kind
   pub text : List ℕ
-  pub value_is : IsRestricted IsPrintable alone Der (universal 19) a.value text ⊎ ((strict ≡ false) × IsRestricted IsUnicode encode_utf8 Der (universal 12) a.value text)
+  pub value_is : IsRestricted IsPrintable alone Der printable_string_tag a.value text ⊎ ((strict ≡ false) × IsRestricted IsUnicode encode_utf8 Der utf8_string_tag a.value text)
 
 -- One commonName, at most one serialNumber, in any order, and nothing else (RFC 6487 4.4, 4.5).
 abbrev pub AreRpki : Bool → List Attribute → Type 0
@@ -79,4 +79,4 @@ hex_text (a ∷ v) = slice_index (codes "0123456789abcdef") (a / 16) ∷ slice_i
 
 -- The name made from a key's identifier: a commonName of its 40 hexadecimal digits (this project's choice).
 abbrev pub subject_of : List ℕ → Tree
-subject_of key_identifier = sequence (constructed (universal 17) (more (sequence (primitive (universal 6) common_name ∷ primitive (universal 19) (hex_text key_identifier) ∷ [])) none) ∷ [])
+subject_of key_identifier = sequence (constructed set_tag (more (sequence (primitive oid_tag common_name ∷ primitive printable_string_tag (hex_text key_identifier) ∷ [])) none) ∷ [])

@@ -2,7 +2,7 @@
 -- RFC 6487 4).
 use Rattle.std.specs.Prelude.{ℕ, Bool, true, false, List, Option}
 use Rattle.certs_built.specs.bcder_tree.declared.mode.Mode.TheVariants.{Der}
-use Rattle.certs_built.specs.bcder_tree.Tags.{context, universal}
+use Rattle.certs_built.specs.bcder_tree.Tags.{context, sequence_tag}
 use Rattle.certs_built.specs.bcder_content.Kept.{CapturedValue}
 use Rattle.certs_built.specs.certs_algorithm.Algorithms.{AlgorithmValue, algorithm_of}
 use Rattle.certs_built.specs.certs_basics.Identifiers as id
@@ -102,15 +102,15 @@ tbs_parts c = (
 -- TBSCertificate ::= SEQUENCE { version [0] EXPLICIT, serialNumber, signature, issuer, validity, subject,
 --   subjectPublicKeyInfo, extensions [3] EXPLICIT SEQUENCE OF Extension } (RFC 5280 4.1)
 abbrev pub written_tbs : TbsParts → Output
-written_tbs p = inside (universal 16)
+written_tbs p = inside sequence_tag
     (beside (inside (context 0) (version p.0))
     (beside (serial p.1.0)
     (beside (of (algorithm_of p.1.1.0.kind) p.1.1.0.has_null)
     (beside (name p.1.1.1.0)
-    (beside (inside (universal 16) (beside (time p.1.1.1.1.0.0) (time p.1.1.1.1.0.1)))
+    (beside (inside sequence_tag (beside (time p.1.1.1.1.0.0) (time p.1.1.1.1.0.1)))
     (beside (name p.1.1.1.1.1.0)
     (beside (public_key p.1.1.1.1.1.1.0)
-    (inside (context 3) (inside (universal 16) (extensions p.1.1.1.1.1.1.1))))))))))
+    (inside (context 3) (inside sequence_tag (extensions p.1.1.1.1.1.1.1))))))))))
 
 abbrev pub tbs : TbsValue → Output
 tbs c = written_tbs (tbs_parts c)

@@ -1,7 +1,7 @@
 -- A certificate's fields are those with slots for the extensions, where the slots mean what it claims.
 use Rattle.std.proofs.Common.{◌≡◌, List, refl, sym, ◌∙◌, subst}
 use Rattle.certs_cert.specs.bcder_tree.declared.mode.Mode.{Mode}
-use Rattle.certs_cert.specs.bcder_tree.Tags.{context, universal}
+use Rattle.certs_cert.specs.bcder_tree.Tags.{context, sequence_tag}
 use Rattle.certs_cert.specs.bcder_tree.Tree.{Tree, Trees}
 use Rattle.certs_cert.specs.bcder_content.Contents.{ValuesLeft}
 use Rattle.certs_cert.specs.bcder_content.Exact.{Gives, Lacks}
@@ -28,7 +28,7 @@ with_rest h r = record { first = h.first; others = h.others; whole = h.whole; is
 
 -- The value for the extensions, which stands last.
 abbrev pub IsList : {A : Type 0} → Mode → (List Extension → A → Type 0) → Tree → A × Unit {0} → Type 0
-IsList m R = Inside (context 3) (Then (Inside (universal 16) (Gathers (IsExtension m) R)) End)
+IsList m R = Inside (context 3) (Then (Inside sequence_tag (Gathers (IsExtension m) R)) End)
 
 abbrev IsLast : {A : Type 0} → Mode → (List Extension → A → Type 0) → Trees → (A × Unit {0}) × Unit {0} → Type 0
 IsLast m R = Then (IsList m R) End
@@ -142,7 +142,7 @@ same_rest : {A B C D : Type 0} {Q : Tree → A → Type 0} {R : Trees → B → 
     {x : A × B} {y : C × D} → ts ≡ us → (h : Then Q R ts x) → (k : Then S T us y) → h.others ≡ k.others
 same_rest e h k = (same_trees (sym h.whole ∙ e ∙ k.whole)).1
 
-last_one : {m : Mode} → One (Inside (context 3) (Then (Inside (universal 16) (Gathers (IsExtension m) AreSlots)) End))
+last_one : {m : Mode} → One (Inside (context 3) (Then (Inside sequence_tag (Gathers (IsExtension m) AreSlots)) End))
 last_one = inside_one (then_one (inside_one (gathers_one extension_one slots_one)) end_one)
 
 -- One value has its slots in one way: the names in it, whose octets are kept, needn't be the same.

@@ -1,7 +1,7 @@
 -- Readers of a SEQUENCE of a certificate's fields are readers of a certificate.
 use Rattle.std.proofs.Common.{ℕ, List, Result, Ok, Err, Option, Some, None, IfOk, IfSome}
 use Rattle.certs_cert.specs.bcder_tree.declared.mode.Mode.{Mode}
-use Rattle.certs_cert.specs.bcder_tree.Tags.{universal}
+use Rattle.certs_cert.specs.bcder_tree.Tags.{sequence_tag}
 use Rattle.certs_cert.specs.bcder_tree.Tree.{Tree}
 use Rattle.certs_cert.specs.bcder_source.declared.error.DecodeError.{DecodeError}
 use Rattle.certs_cert.specs.bcder_content.declared.constructed.Constructed.{Constructed}
@@ -22,10 +22,10 @@ abbrev same : CertValue → CertValue
 same c = c
 
 abbrev IsSequence : Mode → Tree → CertValue → Type 0
-IsSequence m = Inside (universal 16) (AreCert m)
+IsSequence m = Inside sequence_tag (AreCert m)
 
 abbrev SpellsSequence : Mode → List ℕ → CertValue → Type 0
-SpellsSequence m = Wraps m (universal 16) (AreCertOctets m)
+SpellsSequence m = Wraps m sequence_tag (AreCertOctets m)
 
 cert_lacks : {m : Mode} {v : ValuesLeft} → Lacks (IsSequence m) v → Lacks (IsCert m) v
 cert_lacks l = record { none = λ t c p a. l.none t c (cert_sequence t c p) a }
@@ -35,8 +35,8 @@ pub cert_reads : {E : Type 0} (old new : ValuesLeft) (r : Result CertValue (Deco
 cert_reads old new (Ok c) g = record { tree = g.tree; is = sequence_cert g.tree c g.is; took = g.took }
 cert_reads old new (Err e) l = weaker e cert_lacks l
 
-pub cert_reads_opt : {E : Type 0} (old new : ValuesLeft) (r : Result (Option CertValue) (DecodeError E)) → ReadsOptAs same (universal 16) (IsSequence old.mode) old r new
-    → ReadsOptAs same (universal 16) (IsCert old.mode) old r new
+pub cert_reads_opt : {E : Type 0} (old new : ValuesLeft) (r : Result (Option CertValue) (DecodeError E)) → ReadsOptAs same sequence_tag (IsSequence old.mode) old r new
+    → ReadsOptAs same sequence_tag (IsCert old.mode) old r new
 cert_reads_opt old new (Ok (Some c)) g = record { tree = g.tree; is = sequence_cert g.tree c g.is; took = g.took }
 cert_reads_opt old new (Ok None) a = a
 cert_reads_opt old new (Err e) l = weaker e (λ k. record { tagged = k.tagged; lacks = cert_lacks k.lacks; goes_on = k.goes_on; other = k.other }) l
@@ -55,11 +55,11 @@ cert_octets old new (Ok c) t = took_cert t
 cert_octets old new (Err e) t = tt
 
 opt_cases : {F S E : Type 0} {rest : S → List ℕ} {g : Reader F (Constructed S) CertValue E} {op : F} (old new : ValuesLeft) (r : Result (Option CertValue) (DecodeError E))
-    → EachTook rest g op same AreCertOctets → RanOptCases rest g op old (universal 16) r new → IfOk r (λ found. IfSome found (λ c. TookOctets same SpellsCert old c new))
+    → EachTook rest g op same AreCertOctets → RanOptCases rest g op old sequence_tag r new → IfOk r (λ found. IfSome found (λ c. TookOctets same SpellsCert old c new))
 opt_cases old new (Ok (Some c)) each h = took_cert (inside_took {P = AreCertOctets} each h)
 opt_cases old new (Ok None) each h = tt
 opt_cases old new (Err e) each h = tt
 
 pub cert_octets_opt : {F S E : Type 0} {rest : S → List ℕ} {g : Reader F (Constructed S) CertValue E} {op : F} {old new : ValuesLeft} {r : Result (Option CertValue) (DecodeError E)}
-    → EachTook rest g op same AreCertOctets → RanOpt rest g op old (universal 16) r new → IfOk r (λ found. IfSome found (λ c. TookOctets same SpellsCert old c new))
+    → EachTook rest g op same AreCertOctets → RanOpt rest g op old sequence_tag r new → IfOk r (λ found. IfSome found (λ c. TookOctets same SpellsCert old c new))
 cert_octets_opt {old = old} {new} {r} each h = opt_cases old new r each h.cases

@@ -2,7 +2,7 @@
 use Rattle.std.proofs.Common.{ℕ, List, Result, Ok, Err}
 use Rattle.certs_cert.specs.bcder_tree.declared.mode.Mode.{Mode}
 use Rattle.certs_cert.specs.bcder_tree.declared.mode.Mode.TheVariants.{Der}
-use Rattle.certs_cert.specs.bcder_tree.Tags.{universal}
+use Rattle.certs_cert.specs.bcder_tree.Tags.{sequence_tag}
 use Rattle.certs_cert.specs.bcder_tree.Tree.{Tree, Trees, Spells, SpellsAll, constructed, none, more}
 use Rattle.certs_cert.specs.bcder_source.declared.error.DecodeError.{DecodeError}
 use Rattle.certs_cert.specs.bcder_content.Exact.{DecodesAs}
@@ -29,8 +29,8 @@ joined : {m : Mode} {A B : Type 0} {P : List ℕ → A → Type 0} {R : List ℕ
     → (p : Joins P R text x) → (t : Tree) → Spells m t p.first → HasTrees m p.others → HasTrees m text
 joined p t s h = record { trees = more t h.trees; spelled = (p.first, p.others, s, h.spelled, p.whole) }
 
-wrapped : {m : Mode} {A : Type 0} {P : List ℕ → A → Type 0} {text : List ℕ} {x : A} → (p : Wraps m (universal 16) P text x) → HasTrees m p.content → HasTree m text
-wrapped p h = record { tree = constructed (universal 16) h.trees; spelled = (p.content, p.around, h.spelled) }
+wrapped : {m : Mode} {A : Type 0} {P : List ℕ → A → Type 0} {text : List ℕ} {x : A} → (p : Wraps m sequence_tag P text x) → HasTrees m p.content → HasTree m text
+wrapped p h = record { tree = constructed sequence_tag h.trees; spelled = (p.content, p.around, h.spelled) }
 
 pub fields_tree : {m : Mode} {text : List ℕ} {f : Fields} → SpellsFields m text f → HasTree m text
 fields_tree w =

@@ -2,7 +2,7 @@
 use Rattle.std.proofs.Common.{◌≡◌, ℕ, List, [], ap, ◌∙◌, refl, subst, sym}
 use Rattle.certs_cert.specs.bcder_tree.declared.mode.Mode.{Mode}
 use Rattle.certs_cert.specs.bcder_tree.Front.{Front}
-use Rattle.certs_cert.specs.bcder_tree.Tags.{universal}
+use Rattle.certs_cert.specs.bcder_tree.Tags.{sequence_tag}
 use Rattle.certs_cert.specs.bcder_tree.Tree.{Spells, Tree, Trees}
 use Rattle.certs_cert.specs.bcder_content.Contents.{ValuesLeft}
 use Rattle.certs_cert.specs.bcder_content.Exact.{GivesAll, LacksAll}
@@ -79,8 +79,8 @@ cert_refused {now} {m = m} {s} {octets = octets} em eo ed g refuses =
     (subst (λ (z : Mode). Front z octets p.are.first []) (sym em) (subst (λ (z : List ℕ). Front now.mode z p.are.first []) (sym o) (front_all text)))) cert_within g
 
 -- A SEQUENCE of the fields is a certificate, and a certificate is one.
-pub sequence_cert : {m : Mode} (t : Tree) (c : CertValue) → Inside (universal 16) (AreCert m) t c → IsCert m t c
+pub sequence_cert : {m : Mode} (t : Tree) (c : CertValue) → Inside sequence_tag (AreCert m) t c → IsCert m t c
 sequence_cert t c p = record { x = p.is.fields; is = record { values = p.values; whole = p.whole; is = p.is.are }; means = p.is.says }
 
-pub cert_sequence : {m : Mode} (t : Tree) (c : CertValue) → IsCert m t c → Inside (universal 16) (AreCert m) t c
+pub cert_sequence : {m : Mode} (t : Tree) (c : CertValue) → IsCert m t c → Inside sequence_tag (AreCert m) t c
 cert_sequence t c p = record { values = p.is.values; whole = p.is.whole; is = record { fields = p.x; are = p.is.is; says = p.means } }

@@ -1,7 +1,7 @@
 -- How a certificate is read: its fields, with a slot for the value of each extension, and then what the slots mean as a whole.
 use Rattle.std.specs.Prelude.{◌≡◌, ℕ, Bool, List}
 use Rattle.certs_cert.specs.bcder_tree.declared.mode.Mode.{Mode}
-use Rattle.certs_cert.specs.bcder_tree.Tags.{universal, context}
+use Rattle.certs_cert.specs.bcder_tree.Tags.{context, sequence_tag}
 use Rattle.certs_cert.specs.bcder_tree.Tree.{Tree, Trees}
 use Rattle.certs_cert.specs.bcder_content.Grammar.{Inside, Then, End}
 use Rattle.certs_cert.specs.bcder_content.Kept.{CapturedValue}
@@ -32,7 +32,7 @@ IsNumbered = Inside (context 0) (Then (IsVersion 2) End)
 
 -- [3] EXPLICIT SEQUENCE OF Extension
 abbrev pub AreSlotted : Mode → Trees → Slots × Unit {0} → Type 0
-AreSlotted m = Then (Inside (universal 16) (Gathers (IsExtension m) AreSlots)) End
+AreSlotted m = Then (Inside sequence_tag (Gathers (IsExtension m) AreSlots)) End
 
 -- subject Name, subjectPublicKeyInfo, extensions (RFC 5280 4.1)
 abbrev pub TailFields : Type 0
@@ -58,7 +58,7 @@ IsListedBody m =
     (IsTail m)))))
 
 abbrev pub IsListed : Mode → Tree → ListedFields → Type 0
-IsListed m = Inside (universal 16) (IsListedBody m)
+IsListed m = Inside sequence_tag (IsListedBody m)
 
 abbrev pub Listed : Type 0
 Listed = ℕ × Bool × CapturedValue × Period × (CapturedValue × KeyValue × Slots)
@@ -80,7 +80,7 @@ SpellsListedBody m =
     (SpellsTail m)))))
 
 abbrev pub SpellsListed : Mode → List ℕ → ListedFields → Type 0
-SpellsListed m = Wraps m (universal 16) (SpellsListedBody m)
+SpellsListed m = Wraps m sequence_tag (SpellsListedBody m)
 
 -- The slots of the extensions.
 abbrev pub slots_of : ListedFields → Slots

@@ -1,7 +1,7 @@
 //! Certificates, read (RFC 5280 4.1.1).
 
 ghost use Rattle.std.specs.Prelude.{◌≡◌, IfOk, IfSome, OnErr, true};
-ghost use Rattle.certs_cert.specs.bcder_tree.Tags.{universal};
+ghost use Rattle.certs_cert.specs.bcder_tree.Tags.{sequence_tag};
 ghost use Rattle.certs_cert.specs.bcder_tree.declared.mode.Mode.TheVariants.{Der};
 ghost use Rattle.certs_cert.specs.bcder_content.Captures.{rest_of};
 ghost use Rattle.certs_cert.specs.bcder_content.Exact.{DecodesAs, ReadsAs, ReadsOptAs};
@@ -89,7 +89,7 @@ impl Cert {
         alloc: Global,
         cons: &mut Constructed<S>,
     ) -> Result<Option<Cert>, DecodeError<S::Error>>
-        ensures reads { ReadsOptAs (λ c. c) (universal 16) (IsCert (here S.rest cons.old).mode)
+        ensures reads { ReadsOptAs (λ c. c) sequence_tag (IsCert (here S.rest cons.old).mode)
             (here S.rest cons.old) result (here S.rest cons.new) }
         ensures octets { IfOk result (λ found. IfSome found (λ c. TookOctets (λ c. c) SpellsCert
             (here S.rest cons.old) c (here S.rest cons.new))) }

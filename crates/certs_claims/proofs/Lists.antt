@@ -1,7 +1,7 @@
 -- The list of extensions, one by one.
 use Rattle.std.proofs.Common.{◌≢◌, sym, subst}
 use Rattle.certs_claims.specs.bcder_tree.declared.mode.Mode.{Mode}
-use Rattle.certs_claims.specs.bcder_tree.Tags.{universal}
+use Rattle.certs_claims.specs.bcder_tree.Tags.{sequence_tag}
 use Rattle.certs_claims.specs.bcder_source.Errors.{OnContent}
 use Rattle.certs_claims.specs.bcder_source.declared.error.DecodeError.{DecodeError}
 use Rattle.certs_claims.specs.bcder_content.Grammar.{Tagged}
@@ -11,7 +11,7 @@ use Rattle.certs_extension.specs.declared.error.ExtensionError.TheVariants.{Dupl
 use Rattle.certs_extension.specs.certs_specs.Extensions.{IsExtension}
 use Rattle.certs_claims.specs.Refusals.{IsContentError, Told}
 
-pub extension_tagged : {m : Mode} → Tagged (universal 16) (IsExtension m)
+pub extension_tagged : {m : Mode} → Tagged sequence_tag (IsExtension m)
 extension_tagged {m} = as_tagged (inside_tagged _ _)
 
 on_error : {E : Type 0} (P : Type 0) (r : DecodeError E) → IsContentError r → P → OnContent r P

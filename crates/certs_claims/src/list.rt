@@ -1,7 +1,7 @@
 //! The list of extensions.
 
 ghost use Rattle.std.specs.Prelude.{◌≡◌, OnErr, true};
-ghost use Rattle.certs_claims.specs.bcder_tree.Tags.{universal};
+ghost use Rattle.certs_claims.specs.bcder_tree.Tags.{sequence_tag};
 ghost use Rattle.certs_claims.specs.bcder_content.Exact.{ReadsAs};
 ghost use Rattle.certs_claims.specs.bcder_content.Grammar.{Inside};
 ghost use Rattle.certs_claims.specs.bcder_content.Here.{here};
@@ -63,7 +63,7 @@ pub fn take_extensions<S: Source>(
     cons: &mut Constructed<S>,
 ) -> Result<Slots, DecodeError<S::Error>>
     ensures reads { ReadsAs (λ s. s)
-        (Inside (universal 16) (Gathers (IsExtension (here S.rest cons.old).mode) AreSlots))
+        (Inside sequence_tag (Gathers (IsExtension (here S.rest cons.old).mode) AreSlots))
         (here S.rest cons.old) result (here S.rest cons.new) }
     ensures failed { OnErr result ((here S.rest cons.new).failed ≡ true) }
 {

@@ -4,7 +4,7 @@ use Rattle.certs_crl.specs.bcder_tree.declared.mode.Mode.{Mode}
 use Rattle.certs_crl.specs.bcder_tree.declared.mode.Mode.TheVariants.{Ber, Cer, Der}
 use Rattle.certs_crl.specs.bcder_tree.Front.{Front}
 use Rattle.certs_crl.specs.bcder_tree.Strings.{IsString, octet_string_tag}
-use Rattle.certs_crl.specs.bcder_tree.Tags.{TagValue, context, universal}
+use Rattle.certs_crl.specs.bcder_tree.Tags.{TagValue, context, boolean_tag, integer_tag, oid_tag, sequence_tag}
 use Rattle.certs_crl.specs.bcder_tree.Tree.{Spells, SpellsAll, Tree, Trees, constructed, more, none, primitive}
 use Rattle.certs_name.proofs.of_bcder_tree.Fronts.{front_whole}
 use Rattle.certs_revoked.proofs.of_bcder_tree.Trees.{one_fields, one_tree}
@@ -90,12 +90,12 @@ front_of {text = text} s =
 
 -- The fields.
 
-version_spelled : (m : Mode) (text : List ℕ) → WritesPlain m (universal 2) (WritesUnsigned (2 ^ 8) 1) text → SpellsSome m (Alone (IsVersion 1) tt) text
+version_spelled : (m : Mode) (text : List ℕ) → WritesPlain m integer_tag (WritesUnsigned (2 ^ 8) 1) text → SpellsSome m (Alone (IsVersion 1) tt) text
 version_spelled m text w =
     let s = plain_spelled m text w in
     record {
       trees = s.trees;
-      is = record { tree = primitive (universal 2) s.is.content; alone = s.is.whole; is = record { content = s.is.content; whole = refl; is = record { is = s.is.is.is } } };
+      is = record { tree = primitive integer_tag s.is.content; alone = s.is.whole; is = record { content = s.is.content; whole = refl; is = record { is = s.is.is.is } } };
       spelled = s.spelled;
     }
 
@@ -142,7 +142,7 @@ record HasExtension (m : Mode) (kind : List ℕ) (P : List ℕ → Type 0) (ts :
   alone : Alone (IsExtension m) (record { kind = kind; critical = false; octets = octets }) ts
 
 -- No BOOLEAN stands in front of an OCTET STRING.
-no_truth : {content : List ℕ} {us : Trees} → Without (universal 1) (more (primitive octet_string_tag content) us)
+no_truth : {content : List ℕ} {us : Trees} → Without boolean_tag (more (primitive octet_string_tag content) us)
 no_truth {content} {us} = record { unlike = λ t vs e same. let tags : octet_string_tag ≡ tag_of t = ap tag_of (same_trees e).0 in let wrong : 4 ≡ 1 = ap (λ (z : TagValue). z.number) (tags ∙ same) in absurd (omega arith) }
 
 extension_spelled : (kind : List ℕ) → IsIdentifier kind → (P : List ℕ → Type 0) (m : Mode) (text : List ℕ) → WritesExtension m kind P text → SpellsSome m (HasExtension m kind P) text
@@ -158,7 +158,7 @@ extension_spelled kind known P m text w =
         octets = octets;
         is = string.plain.is;
         alone = record {
-          tree = constructed (universal 16) s.is.values;
+          tree = constructed sequence_tag s.is.values;
           alone = s.is.whole;
           is = record {
             x = (kind, (false, (octets, tt)));
@@ -166,13 +166,13 @@ extension_spelled kind known P m text w =
               values = s.is.values;
               whole = refl;
               is = record {
-                first = primitive (universal 6) b.is_first.content;
+                first = primitive oid_tag b.is_first.content;
                 others = b.second;
                 whole = b.whole ∙ ap (λ (l : Trees). joined l b.second) b.is_first.whole;
                 is = record { content = b.is_first.content; whole = refl; is = record { same = b.is_first.is.same; is = subst IsIdentifier (sym b.is_first.is.same) known } };
                 rest = record {
                   cases = inl (
-                    subst (Without (universal 1)) (sym behind) no_truth,
+                    subst (Without boolean_tag) (sym behind) no_truth,
                     refl,
                     record { first = primitive octet_string_tag octets; others = none; whole = behind; is = string_at m octet_string_tag octets string.not_cer; rest = record { ended = refl } },
                   );
@@ -273,7 +273,7 @@ last_spelled c long m text w =
             values = s.is.values;
             whole = refl;
             is = record {
-              first = constructed (universal 16) inner.values;
+              first = constructed sequence_tag inner.values;
               others = none;
               whole = inner.whole;
               is = record { values = inner.values; whole = refl; is = b.pair };
@@ -289,7 +289,7 @@ last_spelled c long m text w =
     }
 
 -- No list of entries stands in front of [0].
-no_list : {values us : Trees} → Without (universal 16) (more (constructed (context 0) values) us)
+no_list : {values us : Trees} → Without sequence_tag (more (constructed (context 0) values) us)
 no_list {values} {us} = record { unlike = λ t vs e same. let tags : context 0 ≡ tag_of t = ap tag_of (same_trees e).0 in let wrong : 0 ≡ 16 = ap (λ (z : TagValue). z.number) (tags ∙ same) in absurd (omega arith) }
 
 no_entries_tail : (c : TbsListValue) (m : Mode) {ts us vs : Trees} → c.revoked ≡ [] → us ≡ none → ts ≡ joined us vs → HasLast c m vs → HasTail c m ts
@@ -299,7 +299,7 @@ no_entries_tail c m {ts} {us} {vs} none_there e whole l =
     record {
       fields = (None, ((l.pair, tt), tt));
       is = subst (λ (z : Trees). IsTail m z (None, ((l.pair, tt), tt))) (sym same)
-          (record { cases = (subst (Without (universal 16)) (sym first) no_list, l.is) });
+          (record { cases = (subst (Without sequence_tag) (sym first) no_list, l.is) });
       revoked = none_there;
       says = l.says;
     }
@@ -361,7 +361,7 @@ list_spelled c m text w =
     record {
       trees = fields.trees;
       is = record {
-        first = constructed (universal 16) fields.is.values;
+        first = constructed sequence_tag fields.is.values;
         others = none;
         whole = fields.is.whole;
         is = read_tbs (record { values = fields.is.values; whole = refl; is = body }) says;

@@ -4,7 +4,7 @@ use Rattle.std.specs.Result.{IsErr, IsErrAnd}
 use Rattle.certs_crl.specs.bcder_tree.declared.mode.Mode.{Mode}
 use Rattle.certs_crl.specs.bcder_source.Errors.{OnContent}
 use Rattle.certs_crl.specs.bcder_source.declared.error.DecodeError.{DecodeError}
-use Rattle.certs_crl.specs.bcder_tree.Tags.{TagValue, context, universal}
+use Rattle.certs_crl.specs.bcder_tree.Tags.{TagValue, context, sequence_tag}
 use Rattle.certs_crl.specs.bcder_tree.Tree.{Tree, Trees}
 use Rattle.certs_crl.specs.bcder_content.Contents.{ValuesLeft}
 use Rattle.certs_crl.specs.bcder_content.Exact.{Gives, Lacks}
@@ -38,7 +38,7 @@ with_opt {tag = tag} {Q} {R} {S} {ts} {o} {b} {c} f p = record { cases = opt_cas
 
 -- Values in [0], which has a SEQUENCE alone.
 abbrev IsLast : {A : Type 0} → (Trees → A → Type 0) → Trees → (A × Unit {0}) × Unit {0} → Type 0
-IsLast P = Then (Inside (context 0) (Then (Inside (universal 16) P) End)) End
+IsLast P = Then (Inside (context 0) (Then (Inside sequence_tag P) End)) End
 
 within : {A B : Type 0} {P : Trees → A → Type 0} {R : Trees → B → Type 0} (ts : Trees) {x : (A × Unit {0}) × Unit {0}} {y : (B × Unit {0}) × Unit {0}}
     → ((us : Trees) → P us x.0.0 → R us y.0.0) → IsLast P ts x → IsLast R ts y
@@ -67,7 +67,7 @@ the_list all same = all ≡ same
 
 -- The fields after the updates, with the extensions as a list.
 abbrev IsListTail : Mode → Trees → Option (List RevokedValue) × ((List Extension × Unit {0}) × Unit {0}) → Type 0
-IsListTail m = Opt (universal 16) AreRevoked (IsLast (Gathers (IsExtension m) the_list))
+IsListTail m = Opt sequence_tag AreRevoked (IsLast (Gathers (IsExtension m) the_list))
 
 -- Two extensions as a list, and a list of two.
 pair_list : {m : Mode} (p : Pair) (ts : Trees) → IsPair m ts p → Gathers (IsExtension m) the_list ts (list_of p)

@@ -2,7 +2,7 @@
 use Rattle.std.proofs.Common.{◌≡◌, ◌≢◌, ◌⊎◌, ℕ, Bool, true, false, List, [], ◌∷◌, Some, Result, Ok, Err, inl, inr, refl, sym, ◌∙◌, subst, bytes_eq, if◌then◌else◌}
 use Rattle.std.proofs.lemmas.Slice.Eq.{bytes_eq-Decides}
 use Rattle.std.specs.Result.{IsErr, IsErrAnd}
-use Rattle.certs_crl.specs.bcder_tree.Tags.{TagValue, universal}
+use Rattle.certs_crl.specs.bcder_tree.Tags.{TagValue, sequence_tag}
 use Rattle.certs_crl.specs.bcder_tree.Tree.{Tree}
 use Rattle.certs_crl.specs.bcder_source.Errors.{OnContent}
 use Rattle.certs_crl.specs.bcder_source.declared.error.DecodeError.{DecodeError}
@@ -27,7 +27,7 @@ use Rattle.certs_crl.proofs.of_bcder_content.Taking.{weaker}
 use Rattle.certs_crl.proofs.of_bcder_content.Took.{ended_none, whole_none}
 use Rattle.certs_crl.proofs.of_bcder_content.Unique.{as_tagged, inside_tagged}
 
-pub extension_tagged : {m : Mode} → Tagged (universal 16) (IsExtension m)
+pub extension_tagged : {m : Mode} → Tagged sequence_tag (IsExtension m)
 extension_tagged {m} = as_tagged (inside_tagged _ _)
 
 -- The extension that is next isn't one of the list's.

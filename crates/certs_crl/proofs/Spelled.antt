@@ -1,7 +1,7 @@
 -- Octets that spell a revocation list in DER are those of a tree, which is that list.
 use Rattle.std.proofs.Common.{ℕ, List, Result, Ok, Err}
 use Rattle.certs_crl.specs.bcder_tree.declared.mode.Mode.TheVariants.{Der}
-use Rattle.certs_crl.specs.bcder_tree.Tags.{universal}
+use Rattle.certs_crl.specs.bcder_tree.Tags.{sequence_tag}
 use Rattle.certs_crl.specs.bcder_tree.Tree.{Tree, Trees, Spells, SpellsAll, constructed, none, more}
 use Rattle.certs_crl.specs.bcder_source.declared.error.DecodeError.{DecodeError}
 use Rattle.certs_crl.specs.bcder_content.Exact.{DecodesAs}
@@ -30,8 +30,8 @@ joined : {A B : Type 0} {P : List ℕ → A → Type 0} {R : List ℕ → B → 
     → (p : Joins P R text x) → (t : Tree) → Spells Der t p.first → HasTrees p.others → HasTrees text
 joined p t s h = record { trees = more t h.trees; spelled = (p.first, p.others, s, h.spelled, p.whole) }
 
-wrapped : {A : Type 0} {P : List ℕ → A → Type 0} {text : List ℕ} {x : A} → (p : Wraps Der (universal 16) P text x) → HasTrees p.content → HasTree text
-wrapped p h = record { tree = constructed (universal 16) h.trees; spelled = (p.content, p.around, h.spelled) }
+wrapped : {A : Type 0} {P : List ℕ → A → Type 0} {text : List ℕ} {x : A} → (p : Wraps Der sequence_tag P text x) → HasTrees p.content → HasTree text
+wrapped p h = record { tree = constructed sequence_tag h.trees; spelled = (p.content, p.around, h.spelled) }
 
 fields_tree : {text : List ℕ} {f : ListFields} → SpellsListFields Der text f → HasTree text
 fields_tree w =

@@ -2,7 +2,7 @@
 use Rattle.std.proofs.Common.{◌≡◌, ℕ, List, [], Result, Ok, Err, Option, Some, None, ap, ◌∙◌, refl, subst, sym}
 use Rattle.certs_crl.specs.bcder_tree.declared.mode.Mode.{Mode}
 use Rattle.certs_crl.specs.bcder_tree.Front.{Front}
-use Rattle.certs_crl.specs.bcder_tree.Tags.{universal}
+use Rattle.certs_crl.specs.bcder_tree.Tags.{sequence_tag}
 use Rattle.certs_crl.specs.bcder_tree.Tree.{Spells, Tree, Trees}
 use Rattle.certs_crl.specs.bcder_source.declared.error.DecodeError.{DecodeError}
 use Rattle.certs_crl.specs.bcder_content.Contents.{ValuesLeft}
@@ -103,7 +103,7 @@ abbrev same : CrlValue → CrlValue
 same c = c
 
 abbrev IsSequence : Mode → Tree → CrlValue → Type 0
-IsSequence m = Inside (universal 16) (AreCrl m)
+IsSequence m = Inside sequence_tag (AreCrl m)
 
 sequence_crl : {m : Mode} (t : Tree) (c : CrlValue) → IsSequence m t c → IsCrl m t c
 sequence_crl t c p = record { is = record { x = p.is.fields; is = record { values = p.values; whole = p.whole; is = p.is.are }; means = p.is.says }; agree = p.is.agree }
@@ -119,8 +119,8 @@ pub crl_reads : {E : Type 0} (old new : ValuesLeft) (r : Result CrlValue (Decode
 crl_reads old new (Ok c) g = record { tree = g.tree; is = sequence_crl g.tree c g.is; took = g.took }
 crl_reads old new (Err e) l = weaker e crl_lacks l
 
-pub crl_reads_opt : {E : Type 0} (old new : ValuesLeft) (r : Result (Option CrlValue) (DecodeError E)) → ReadsOptAs same (universal 16) (IsSequence old.mode) old r new
-    → ReadsOptAs same (universal 16) (IsCrl old.mode) old r new
+pub crl_reads_opt : {E : Type 0} (old new : ValuesLeft) (r : Result (Option CrlValue) (DecodeError E)) → ReadsOptAs same sequence_tag (IsSequence old.mode) old r new
+    → ReadsOptAs same sequence_tag (IsCrl old.mode) old r new
 crl_reads_opt old new (Ok (Some c)) g = record { tree = g.tree; is = sequence_crl g.tree c g.is; took = g.took }
 crl_reads_opt old new (Ok None) a = a
 crl_reads_opt old new (Err e) l = weaker e (λ k. record { tagged = k.tagged; lacks = crl_lacks k.lacks; goes_on = k.goes_on; other = k.other }) l

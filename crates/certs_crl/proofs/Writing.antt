@@ -5,7 +5,7 @@ use Rattle.std.proofs.Math.Logic.{∥∥₁_elim, ∥∥₁_prop}
 use Rattle.certs_crl.specs.bcder_tree.declared.mode.Mode.{Mode}
 use Rattle.certs_crl.specs.bcder_tree.declared.mode.Mode.TheVariants.{Der}
 use Rattle.certs_crl.specs.bcder_tree.Strings.{octet_string_tag}
-use Rattle.certs_crl.specs.bcder_tree.Tags.{TagValue, context, universal}
+use Rattle.certs_crl.specs.bcder_tree.Tags.{TagValue, context, integer_tag, oid_tag, sequence_tag}
 use Rattle.certs_crl.specs.bcder_tree.Tree.{primitive}
 use Rattle.certs_revoked.specs.bcder_primitive.Values.{AnyOctets}
 use Rattle.certs_crl.specs.bcder_content.Kept.{CapturedValue}
@@ -45,18 +45,18 @@ both_as f g w = record { first = w.first; second = w.second; is_first = f w.firs
 
 -- An extension's encoder: its tags, its identifier, the mode of its value, and what is written of that in DER.
 pub extension_as : {m inner : Mode} {t a b : TagValue} {octets kind : List ℕ} (P : Mode → List ℕ → Type 0) {V : List ℕ → Type 0} {text : List ℕ}
-    → t ≡ universal 16 → a ≡ universal 6 → octets ≡ kind → b ≡ octet_string_tag → inner ≡ Der → ((content : List ℕ) → P Der content → V content)
+    → t ≡ sequence_tag → a ≡ oid_tag → octets ≡ kind → b ≡ octet_string_tag → inner ≡ Der → ((content : List ℕ) → P Der content → V content)
     → WritesWrapped m t (WritesBoth (WritesPlain m a (λ o. AnyOctets o octets)) (WritesAround m b (P inner))) text → WritesExtension m kind V text
 extension_as P is_tag is_kind same is_string is_der f w =
     wrapped_as is_tag (λ o v. both_as
     (λ p k. plain_as is_kind (λ content x. record { same = x.same ∙ same }) k)
     (λ p k. around_as is_string (λ content x. f content (subst (λ (n : Mode). P n content) is_der x)) k) v) w
 
-pub key_as : {t tag : TagValue} {octets key text : List ℕ} → t ≡ universal 16 → tag ≡ context 0 → octets ≡ key → WritesWrapped Der t (WritesString Der tag octets) text → WritesKey key text
+pub key_as : {t tag : TagValue} {octets key text : List ℕ} → t ≡ sequence_tag → tag ≡ context 0 → octets ≡ key → WritesWrapped Der t (WritesString Der tag octets) text → WritesKey key text
 key_as {tag = tag} {octets} {key} is_tag is_context same w =
     wrapped_as is_tag (λ o v. subst (λ (k : TagValue). WritesString Der k key o) is_context (subst (λ (x : List ℕ). WritesString Der tag x o) same v)) w
 
-pub number_as : {tag : TagValue} {n number : ℕ} {text : List ℕ} → number < 2 ^ 160 → tag ≡ universal 2 → n ≡ number → WritesPlain Der tag (λ content. IsNatural content n) text → WritesCrlNumber number text
+pub number_as : {tag : TagValue} {n number : ℕ} {text : List ℕ} → number < 2 ^ 160 → tag ≡ integer_tag → n ≡ number → WritesPlain Der tag (λ content. IsNatural content n) text → WritesCrlNumber number text
 number_as small is_tag same w = plain_as is_tag (λ content p. record { is = subst (λ (k : ℕ). IsNatural content k) same p; small = small }) w
 
 -- Entries.
@@ -66,7 +66,7 @@ abbrev pub LentEntries : {V : Type 0} (tag : V → TagValue) (octets : V → Cap
 LentEntries tag octets m v = WritesWrapped m (tag v) (CapturedText (octets v) m)
 
 pub revoked_as : {V : Type 0} (tag : V → TagValue) (octets : V → CapturedValue) (all : List RevokedValue) (m : Mode) (text : List ℕ) (o : Option V)
-    → IfNone o (all ≡ []) → IfSome o (λ v. tag v ≡ universal 16) → IfSome o (λ v. ∥ SpellsEntries (octets v) all ∥₁)
+    → IfNone o (all ≡ []) → IfSome o (λ v. tag v ≡ sequence_tag) → IfSome o (λ v. ∥ SpellsEntries (octets v) all ∥₁)
     → WritesOptional (LentEntries tag octets m) o text → ∥ WritesRevoked all m text ∥₁
 revoked_as tag octets all m text None none_there is_tag spells w = ∣ inl (none_there, w) ∣₁
 revoked_as tag octets all m text (Some v) none_there is_tag spells w =
@@ -82,7 +82,7 @@ algorithm_as : {a : AlgorithmValue} {b : Bool} {m : Mode} {text : List ℕ} → 
 algorithm_as {m = m} {text} e w = subst (λ (z : AlgorithmValue). (algorithm_of z.kind).writes z.has_null m text) e w
 
 module _ {t version b d : TagValue} {n : ℕ} {a : AlgorithmValue} {name : CapturedValue} {x y : List ℕ} {R E : List ℕ → Type 0} (c : TbsListValue) (m : Mode) where
-  pub list_as : (text : List ℕ) → IsTwentyLong c.authority_key_identifier → IsNamed c.issuer → t ≡ universal 16 → version ≡ universal 2 → n ≡ 1
+  pub list_as : (text : List ℕ) → IsTwentyLong c.authority_key_identifier → IsNamed c.issuer → t ≡ sequence_tag → version ≡ integer_tag → n ≡ 1
       → a ≡ record { kind = id.sha256_with_rsa; has_null = c.has_null } → name ≡ c.issuer → WritesTime c.this_update (primitive b x) → WritesTime c.next_update (primitive d y)
       → ((part : List ℕ) → R part → ∥ WritesRevoked c.revoked m part ∥₁) → ((part : List ℕ) → E part → WritesListExtensions c.authority_key_identifier c.number m part)
       → WritesWrapped m t

@@ -1,7 +1,7 @@
 -- How a revocation list is read: its fields, with its two extensions by their octets, and then what these say.
 use Rattle.std.specs.Prelude.{◌≡◌, ◌⊎◌, ℕ, Bool, List, [], ◌∷◌, Option, Some, Result, Ok, Err}
 use Rattle.certs_crl.specs.bcder_tree.declared.mode.Mode.{Mode}
-use Rattle.certs_crl.specs.bcder_tree.Tags.{universal, context}
+use Rattle.certs_crl.specs.bcder_tree.Tags.{context, sequence_tag}
 use Rattle.certs_crl.specs.bcder_tree.Tree.{Tree, Trees}
 use Rattle.certs_crl.specs.bcder_source.Errors.{OnContent}
 use Rattle.certs_crl.specs.bcder_source.declared.error.DecodeError.{DecodeError}
@@ -48,14 +48,14 @@ list_of p = p.0 ∷ p.1.0 ∷ []
 
 -- crlExtensions [0] EXPLICIT SEQUENCE OF Extension, by its content
 abbrev pub IsPaired : Mode → Trees → Pair × Unit {0} → Type 0
-IsPaired m = Then (Inside (universal 16) (IsPair m)) End
+IsPaired m = Then (Inside sequence_tag (IsPair m)) End
 
 -- revokedCertificates OPTIONAL, crlExtensions (RFC 5280 5.1)
 abbrev pub TailFields : Type 0
 TailFields = Option (List RevokedValue) × ((Pair × Unit {0}) × Unit {0})
 
 abbrev pub IsTail : Mode → Trees → TailFields → Type 0
-IsTail m = Opt (universal 16) AreRevoked (Then (Inside (context 0) (IsPaired m)) End)
+IsTail m = Opt sequence_tag AreRevoked (Then (Inside (context 0) (IsPaired m)) End)
 
 abbrev pub tail_fields : Option (List RevokedValue) × (Raw × Raw) → TailFields
 tail_fields x = (x.0, (alone (pair_fields x.1), tt))
@@ -68,7 +68,7 @@ abbrev pub IsReadBody : Mode → Trees → ReadFields → Type 0
 IsReadBody m = Then (IsVersion 1) (Then IsAlgorithm (Then (IsKeptName m) (Then IsTime (Then IsTime (IsTail m)))))
 
 abbrev pub IsRead : Mode → Tree → ReadFields → Type 0
-IsRead m = Inside (universal 16) (IsReadBody m)
+IsRead m = Inside sequence_tag (IsReadBody m)
 
 abbrev pub Listed : Type 0
 Listed = Bool × CapturedValue × ℕ × ℕ × (Option (List RevokedValue) × (Raw × Raw))

@@ -3,7 +3,7 @@
 use Rattle.std.specs.Prelude.{◌≡◌, ◌⊎◌, ℕ, ◌^◌, List, []}
 use Rattle.certs_crl.specs.bcder_tree.declared.mode.Mode.{Mode}
 use Rattle.certs_crl.specs.bcder_tree.declared.mode.Mode.TheVariants.{Der}
-use Rattle.certs_crl.specs.bcder_tree.Tags.{context, universal}
+use Rattle.certs_crl.specs.bcder_tree.Tags.{context, integer_tag, oid_tag, sequence_tag}
 use Rattle.certs_crl.specs.bcder_tree.Strings.{octet_string_tag}
 use Rattle.certs_revoked.specs.bcder_primitive.Values.{AnyOctets}
 use Rattle.certs_crl.specs.bcder_content.Kept.{CapturedValue}
@@ -27,13 +27,13 @@ use Rattle.certs_crl.specs.Whole.{signed_of}
 -- value, a text of P (RFC 5280 4.2).
 abbrev pub WritesExtension : Mode → List ℕ → (List ℕ → Type 0) → List ℕ → Type 0
 WritesExtension m kind P =
-    WritesWrapped m (universal 16)
-    (WritesBoth (WritesPlain m (universal 6) (λ octets. AnyOctets octets kind))
+    WritesWrapped m sequence_tag
+    (WritesBoth (WritesPlain m oid_tag (λ octets. AnyOctets octets kind))
     (WritesAround m octet_string_tag P))
 
 -- AuthorityKeyIdentifier ::= SEQUENCE { keyIdentifier [0] IMPLICIT KeyIdentifier }, in DER (RFC 5280 5.2.1)
 abbrev pub WritesKey : List ℕ → List ℕ → Type 0
-WritesKey key = WritesWrapped Der (universal 16) (WritesString Der (context 0) key)
+WritesKey key = WritesWrapped Der sequence_tag (WritesString Der (context 0) key)
 
 -- CRLNumber ::= INTEGER, in DER (RFC 5280 5.2.3)
 abbrev pub WritesCrlNumber : ℕ → List ℕ → Type 0
@@ -43,7 +43,7 @@ WritesCrlNumber number = serial.writes number Der
 abbrev pub WritesListExtensions : List ℕ → ℕ → Mode → List ℕ → Type 0
 WritesListExtensions key number m =
     WritesWrapped m (context 0)
-    (WritesWrapped m (universal 16)
+    (WritesWrapped m sequence_tag
     (WritesBoth (WritesExtension m id.authority_key_identifier (WritesKey key))
     (WritesExtension m id.crl_number (WritesCrlNumber number))))
 
@@ -56,7 +56,7 @@ pub record WritesName (name : CapturedValue) (m : Mode) (text : List ℕ) : Type
 pub record WritesEntries (all : List RevokedValue) (m : Mode) (text : List ℕ) : Type 0 where
   pub octets : CapturedValue
   pub spelled : SpellsEntries octets all
-  pub kept : WritesWrapped m (universal 16) (CapturedText octets m) text
+  pub kept : WritesWrapped m sequence_tag (CapturedText octets m) text
 
 abbrev pub WritesRevoked : List RevokedValue → Mode → List ℕ → Type 0
 WritesRevoked all m text = ((all ≡ []) × NoText text) ⊎ WritesEntries all m text
@@ -65,8 +65,8 @@ WritesRevoked all m text = ((all ≡ []) × NoText text) ⊎ WritesEntries all m
 -- Time, revokedCertificates OPTIONAL, crlExtensions [0] } (RFC 5280 5.1)
 pub record WritesTbsList (c : TbsListValue) (m : Mode) (text : List ℕ) : Type 0 where
   pub long : IsTwentyLong c.authority_key_identifier
-  pub fields : WritesWrapped m (universal 16)
-      (WritesBoth (WritesPlain m (universal 2) (WritesUnsigned (2 ^ 8) 1))
+  pub fields : WritesWrapped m sequence_tag
+      (WritesBoth (WritesPlain m integer_tag (WritesUnsigned (2 ^ 8) 1))
       (WritesBoth (x509_algorithm.writes c.has_null m)
       (WritesBoth (WritesName c.issuer m)
       (WritesBoth (WritesMoment c.this_update m)

@@ -6,7 +6,7 @@ ghost use Rattle.certs_crl.specs.bcder_content.Captures.{rest_of};
 ghost use Rattle.certs_crl.specs.bcder_content.Exact.{DecodesAs, ReadsAs, ReadsOptAs};
 ghost use Rattle.certs_crl.specs.bcder_content.Here.{here};
 ghost use Rattle.certs_crl.specs.bcder_content.InMode.{ReadsFields};
-ghost use Rattle.certs_crl.specs.bcder_tree.Tags.{universal};
+ghost use Rattle.certs_crl.specs.bcder_tree.Tags.{sequence_tag};
 ghost use Rattle.certs_crl.specs.Whole.{AreCrl};
 ghost use Rattle.certs_revoked.specs.certs_specs.Calls.{DecodesCrl};
 ghost use Rattle.certs_revoked.specs.certs_specs.CrlText.{IsCrl, IsTbsList};
@@ -90,7 +90,7 @@ impl Crl {
         alloc: Global,
         cons: &mut Constructed<S>,
     ) -> Result<Option<Crl>, DecodeError<S::Error>>
-        ensures reads { ReadsOptAs (λ c. c) (universal 16) (IsCrl (here S.rest cons.old).mode)
+        ensures reads { ReadsOptAs (λ c. c) sequence_tag (IsCrl (here S.rest cons.old).mode)
             (here S.rest cons.old) result (here S.rest cons.new) }
         ensures failed { OnErr result ((here S.rest cons.new).failed ≡ true) }
     {

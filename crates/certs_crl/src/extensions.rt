@@ -2,7 +2,7 @@
 
 ghost use Rattle.std.specs.Prelude.{◌≡◌, ◌↔◌, [], ◌∷◌, IsTrue, OnErr, true};
 ghost use Rattle.certs_crl.specs.bcder_tree.declared.mode.Mode.TheVariants.{Der};
-ghost use Rattle.certs_crl.specs.bcder_tree.Tags.{context, universal};
+ghost use Rattle.certs_crl.specs.bcder_tree.Tags.{context, sequence_tag};
 ghost use Rattle.certs_crl.specs.bcder_content.Captures.{rest_of};
 ghost use Rattle.certs_crl.specs.bcder_content.Exact.{DecodesAs, ReadsAs};
 ghost use Rattle.certs_crl.specs.bcder_content.Grammar.{Inside};
@@ -125,7 +125,7 @@ fn take_sequence<S: Source>(
     alloc: Global,
     cons: &mut Constructed<S>,
 ) -> Result<Pair, DecodeError<S::Error>>
-    ensures { ReadsAs pair_fields (Inside (universal 16) (IsPair (here S.rest cons.old).mode))
+    ensures { ReadsAs pair_fields (Inside sequence_tag (IsPair (here S.rest cons.old).mode))
         (here S.rest cons.old) result (here S.rest cons.new) }
 {
     cons.take_sequence(

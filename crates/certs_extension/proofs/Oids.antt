@@ -1,7 +1,7 @@
 -- What is written of a list, by what is written of its items.
 use Rattle.std.proofs.Common.{◌≡◌, ℕ, List, [], ◌∷◌, map, Option, Result, OnOk, IfOk, IfErr, refl, ap, subst}
 use Rattle.certs_extension.specs.bcder_tree.declared.mode.Mode.{Mode}
-use Rattle.certs_extension.specs.bcder_tree.Tags.{TagValue, universal}
+use Rattle.certs_extension.specs.bcder_tree.Tags.{TagValue, sequence_tag}
 use Rattle.certs_extension.specs.bcder_tree.Tree.{Trees}
 use Rattle.certs_extension.specs.bcder_values.Lists.{AreAll, WritesAll}
 use Rattle.certs_extension.specs.bcder_written.Encoded.{AreBoth, WritesBoth, IsWrapped, WritesWrapped}
@@ -28,12 +28,12 @@ list_trees : (m : Mode) (tag : TagValue) (xs : List (Oid (List ℕ))) → IsWrap
 list_trees m tag xs = ap (IsWrapped tag) (trees_map (λ x. oid.trees x m) purpose_octets xs)
 
 pub list_len : {tag : TagValue} (xs : List (Oid (List ℕ))) {all : List (List ℕ)} (m : Mode) (r : Result ℕ EncodeError)
-    → lends tag (map purpose_octets xs) ≡ lends (universal 16) all
+    → lends tag (map purpose_octets xs) ≡ lends sequence_tag all
     → IfOk r (HasLength (WritesWrapped m tag (WritesAll (λ o. oid.writes o.0 m) xs))) → IfOk r (HasLength (purposes.writes all m))
 list_len {tag} xs m r e h = len_lent listed m r e (subst (λ P. IfOk r (HasLength P)) (list_writes m tag xs) h)
 
 pub list_no_len : {tag : TagValue} (xs : List (Oid (List ℕ))) {all : List (List ℕ)} (m : Mode) (r : Result ℕ EncodeError)
-    → lends tag (map purpose_octets xs) ≡ lends (universal 16) all
+    → lends tag (map purpose_octets xs) ≡ lends sequence_tag all
     → IfErr r (CannotWrite (IsWrapped tag (AreAll (λ o. oid.trees o.0 m) xs)) (WritesWrapped m tag (WritesAll (λ o. oid.writes o.0 m) xs)))
     → IfErr r (CannotWrite (purposes.trees all m) (purposes.writes all m))
 list_no_len {tag} xs m r e h =
@@ -41,12 +41,12 @@ list_no_len {tag} xs m r e h =
     len_refused listed m r e (subst (λ T. IfErr r (CannotWrite T ((listed (lends tag (map purpose_octets xs))).writes (map purpose_octets xs) m))) (list_trees m tag xs) k)
 
 pub list_written : {B : Type 0} {tag : TagValue} (xs : List (Oid (List ℕ))) {all : List (List ℕ)} (m : Mode) (old new : Option (List ℕ)) (r : Result B EncodeError)
-    → lends tag (map purpose_octets xs) ≡ lends (universal 16) all
+    → lends tag (map purpose_octets xs) ≡ lends sequence_tag all
     → OnOk r (Wrote (WritesWrapped m tag (WritesAll (λ o. oid.writes o.0 m) xs)) old new) → OnOk r (Wrote (purposes.writes all m) old new)
 list_written {tag = tag} xs m old new r e h = write_lent listed m old new r e (subst (λ P. OnOk r (Wrote P old new)) (list_writes m tag xs) h)
 
 pub list_unwritten : {B : Type 0} {tag : TagValue} (xs : List (Oid (List ℕ))) {all : List (List ℕ)} (m : Mode) (same : Type 0) (old new : Option (List ℕ)) (r : Result B EncodeError)
-    → lends tag (map purpose_octets xs) ≡ lends (universal 16) all
+    → lends tag (map purpose_octets xs) ≡ lends sequence_tag all
     → IfErr r (WriteRefused (IsWrapped tag (AreAll (λ o. oid.trees o.0 m) xs)) (WritesWrapped m tag (WritesAll (λ o. oid.writes o.0 m) xs)) same old new)
     → IfErr r (WriteRefused (purposes.trees all m) (purposes.writes all m) same old new)
 list_unwritten {tag = tag} xs m same old new r e h =

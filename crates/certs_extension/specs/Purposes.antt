@@ -1,7 +1,7 @@
 -- Purposes of keys (RFC 5280 4.2.1.12), each by its identifier's content octets.
 use Rattle.std.specs.Prelude.{ℕ, List}
 use Rattle.certs_extension.specs.bcder_tree.declared.mode.Mode.{Mode}
-use Rattle.certs_extension.specs.bcder_tree.Tags.{TagValue, universal}
+use Rattle.certs_extension.specs.bcder_tree.Tags.{TagValue, oid_tag, sequence_tag}
 use Rattle.certs_extension.specs.bcder_tree.Tree.{Trees}
 use Rattle.certs_extension.specs.bcder_content.Grammar.{Many, OctetsOf}
 use Rattle.certs_extension.specs.bcder_content.Words.{Gathers}
@@ -17,11 +17,11 @@ purpose_octets o = o.0
 
 -- SEQUENCE OF KeyPurposeId, by its content
 abbrev pub AreOids : Mode → Trees → List (List ℕ) → Type 0
-AreOids m = Many (OctetsOf (universal 6) IsOid)
+AreOids m = Many (OctetsOf oid_tag IsOid)
 
 -- One of them at least.
 abbrev pub ArePurposes : Mode → Trees → List (List ℕ) → Type 0
-ArePurposes m = Gathers (OctetsOf (universal 6) IsOid) AreSome
+ArePurposes m = Gathers (OctetsOf oid_tag IsOid) AreSome
 
 -- A list of identifiers as a form, with a tag, and with that of a SEQUENCE.
 abbrev pub lends : TagValue → List (List ℕ) → TagValue × List (List ℕ)
@@ -31,4 +31,4 @@ abbrev pub listed : TagValue × List (List ℕ) → Form (List (List ℕ))
 listed l = wrapped l.0 (items oid)
 
 abbrev pub purposes : Form (List (List ℕ))
-purposes = wrapped (universal 16) (items oid)
+purposes = wrapped sequence_tag (items oid)

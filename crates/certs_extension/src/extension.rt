@@ -1,7 +1,7 @@
 //! One extension (RFC 5280 4.1).
 
 ghost use Rattle.std.specs.Prelude.{◌≡◌, true, OnErr};
-ghost use Rattle.certs_extension.specs.bcder_tree.Tags.{universal};
+ghost use Rattle.certs_extension.specs.bcder_tree.Tags.{sequence_tag};
 ghost use Rattle.certs_extension.specs.bcder_content.Exact.{ReadsOptAs};
 ghost use Rattle.certs_extension.specs.bcder_content.Here.{here};
 ghost use Rattle.certs_extension.specs.bcder_content.InMode.{ReadsFields};
@@ -56,7 +56,7 @@ impl Extension {
         alloc: Global,
         cons: &mut Constructed<S>,
     ) -> Result<Option<Extension>, DecodeError<S::Error>>
-        ensures reads { ReadsOptAs extension_value (universal 16)
+        ensures reads { ReadsOptAs extension_value sequence_tag
             (IsExtension (here S.rest cons.old).mode)
             (here S.rest cons.old) result (here S.rest cons.new) }
         ensures failed { OnErr result ((here S.rest cons.new).failed ≡ true) }

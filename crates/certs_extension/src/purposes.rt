@@ -1,7 +1,7 @@
 //! Extended key usage (RFC 5280 4.2.1.12).
 
 ghost use Rattle.std.specs.Prelude.{◌≡◌, ◌↔◌, [], ◌∷◌, true, map, IsTrue, IfErr, IfOk, OnErr, OnOk};
-ghost use Rattle.certs_extension.specs.bcder_tree.Tags.{universal};
+ghost use Rattle.certs_extension.specs.bcder_tree.Tags.{sequence_tag};
 ghost use Rattle.certs_extension.specs.bcder_content.Exact.{ReadsAs};
 ghost use Rattle.certs_extension.specs.bcder_content.Here.{here};
 ghost use Rattle.certs_extension.specs.bcder_content.InMode.{ReadsFields};
@@ -135,7 +135,7 @@ impl ExtendedKeyUsage {
     // The purposes, in a SEQUENCE.
     fn as_values(&self) -> encode::Constructed<encode::Slice<'_, Oid, AsOids>>
         ensures { lends result.tag (map purpose_octets result.inner.items.now)
-            ≡ lends (universal 16) self.now }
+            ≡ lends sequence_tag self.now }
     {
         sequence(slice(self.purposes.as_slice(), AsOids))
     }

@@ -3,7 +3,7 @@
 use Rattle.std.proofs.Common.{◌≡◌, ◌≢◌, ℕ, ◌^◌, ◌<◌, ◌≤◌, Bool, true, false, List, [], ◌∷◌, ◌++◌, length, refl, sym, ap, ◌∙◌, subst, arith, append-nil, length-append}
 use Rattle.std.proofs.lemmas.Bool.{cond_below, cond_above}
 use Rattle.certs_key.specs.bcder_tree.declared.mode.Mode.TheVariants.{Ber, Der}
-use Rattle.certs_key.specs.bcder_tree.Tags.{TagValue, universal}
+use Rattle.certs_key.specs.bcder_tree.Tags.{TagValue, universal, null_tag, oid_tag, sequence_tag}
 use Rattle.certs_key.specs.bcder_tree.Octets.{IsIdentifier, IsLength}
 use Rattle.certs_key.specs.bcder_tree.Tree.{Tree, Trees, primitive, constructed, none, more, IsHeader, IsConstructed, definite, indefinite, Spells, SpellsAll}
 use Rattle.certs_key.proofs.of_bcder_tree.Canonical.{spelled_identifier}
@@ -78,34 +78,34 @@ two_are t u content x y one two p =
 
 -- Keys.
 
-sequence_identifies : IsIdentifier (48 ∷ []) true (universal 16)
+sequence_identifies : IsIdentifier (48 ∷ []) true sequence_tag
 sequence_identifies = (refl, omega arith)
 
 bits_identify : IsIdentifier (3 ∷ []) false (universal 3)
 bits_identify = (refl, omega arith)
 
-null_identifies : IsIdentifier (5 ∷ []) false (universal 5)
+null_identifies : IsIdentifier (5 ∷ []) false null_tag
 null_identifies = (refl, omega arith)
 
-oid_identifies : IsIdentifier (6 ∷ []) false (universal 6)
+oid_identifies : IsIdentifier (6 ∷ []) false oid_tag
 oid_identifies = (refl, omega arith)
 
 pair_is : (first second : TagValue) (a b : List ℕ) (c d : ℕ) → IsIdentifier (c ∷ []) false first → IsIdentifier (d ∷ []) false second
-    → (octets : List ℕ) → Spells Der (constructed (universal 16) (more (primitive first a) (more (primitive second b) none))) octets → octets ≡ der 48 (der c a ++ der d b)
+    → (octets : List ℕ) → Spells Der (constructed sequence_tag (more (primitive first a) (more (primitive second b) none))) octets → octets ≡ der 48 (der c a ++ der d b)
 pair_is first second a b c d i j octets p =
-    constructed_is (universal 16) (more (primitive first a) (more (primitive second b) none)) 48 octets (der c a ++ der d b) sequence_identifies
+    constructed_is sequence_tag (more (primitive first a) (more (primitive second b) none)) 48 octets (der c a ++ der d b) sequence_identifies
     (λ content s. two_are (primitive first a) (primitive second b) content (der c a) (der d b) (primitive_is first a c i) (primitive_is second b d j) s) p
 
 format_encoded : (x : PublicKeyFormat) (octets : List ℕ) → Spells Der (format_tree x) octets → octets ≡ encoded_format x
-format_encoded Rsa octets p = pair_is (universal 6) (universal 5) rsa_encryption [] 6 5 oid_identifies null_identifies octets p
-format_encoded Ecdsa octets p = pair_is (universal 6) (universal 6) ec_public_key secp256r1 6 6 oid_identifies oid_identifies octets p
+format_encoded Rsa octets p = pair_is oid_tag null_tag rsa_encryption [] 6 5 oid_identifies null_identifies octets p
+format_encoded Ecdsa octets p = pair_is oid_tag oid_tag ec_public_key secp256r1 6 6 oid_identifies oid_identifies octets p
 
 -- The octets of the function are the only ones.
 pub encoded_alone : (k : KeyValue) (octets : List ℕ) → Encodes k octets → octets ≡ encoded k
 encoded_alone k octets p =
     let last = k.bits.unused ∷ cleared k.bits.unused k.bits.octets in
     let tree = primitive (universal 3) last in
-    constructed_is (universal 16) (more (format_tree k.format) (more tree none)) 48 octets (encoded_format k.format ++ der 3 last) sequence_identifies
+    constructed_is sequence_tag (more (format_tree k.format) (more tree none)) 48 octets (encoded_format k.format ++ der 3 last) sequence_identifies
     (λ content s. two_are (format_tree k.format) tree content (encoded_format k.format) (der 3 last) (format_encoded k.format) (primitive_is (universal 3) last 3 bits_identify) s) p
 
 pub encoded_is : (k : KeyValue) → HasEncoding k → Encodes k (encoded k)
@@ -121,7 +121,7 @@ key_shown k ts p =
     let two : p.is.second ≡ more (primitive (universal 3) last) none = q.whole ∙ ap (λ v. more (primitive (universal 3) v) none) q.is.whole in
     let all : p.values ≡ more (format_tree k.format) (more (primitive (universal 3) last) none) =
     p.is.whole ∙ ap (λ us. joined us p.is.second) one ∙ ap (λ us. more (format_tree k.format) us) two in
-    p.whole ∙ ap (λ us. more (constructed (universal 16) us) none) all
+    p.whole ∙ ap (λ us. more (constructed sequence_tag us) none) all
 
 alone_spelled : (t : Tree) (text : List ℕ) → SpellsAll Der (more t none) text → Spells Der t text
 alone_spelled t text s = subst (Spells Der t) (sym (s.4 ∙ ap (λ v. s.0 ++ v) s.3 ∙ append-nil s.0)) s.2
@@ -166,8 +166,8 @@ pair_written outer first second a b text p =
     }
 
 format_written : (x : PublicKeyFormat) (text : List ℕ) → Spells Der (format_tree x) text → format.writes x Der text
-format_written Rsa text p = pair_written (universal 16) (universal 6) (universal 5) rsa_encryption [] text p
-format_written Ecdsa text p = pair_written (universal 16) (universal 6) (universal 6) ec_public_key secp256r1 text p
+format_written Rsa text p = pair_written sequence_tag oid_tag null_tag rsa_encryption [] text p
+format_written Ecdsa text p = pair_written sequence_tag oid_tag oid_tag ec_public_key secp256r1 text p
 
 -- The encoded octets are written.
 encodes_written : (k : KeyValue) (text : List ℕ) → IsBits k.bits → Encodes k text → key.writes k Der text
@@ -195,7 +195,7 @@ encodes_few : (k : KeyValue) (text : List ℕ) → Encodes k text → length tex
 encodes_few k text p =
     let h = headed p.1 in
     let few = length_few h.header_is.size (length p.0) h.header_is.size_is in
-    let begins = ap length (h.header_is.whole ∙ ap (λ v. v ++ h.header_is.size) (spelled_identifier h.header_is.identifier (48 ∷ []) true (universal 16) h.header_is.identifier_is sequence_identifies)) in
+    let begins = ap length (h.header_is.whole ∙ ap (λ v. v ++ h.header_is.size) (spelled_identifier h.header_is.identifier (48 ∷ []) true sequence_tag h.header_is.identifier_is sequence_identifies)) in
     let all = ap length h.whole ∙ length-append h.header p.0 in
     omega (arith, few.0, few.1, begins, all)
 

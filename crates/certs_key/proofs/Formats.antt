@@ -2,7 +2,7 @@
 use Rattle.std.proofs.Common.{◌≡◌, ℕ, true, false, List, Option, Some, None, Result, Ok, Err, IsErr, refl, sym, ◌∙◌, subst}
 use Rattle.std.specs.Prelude.{IsErrAnd, MatchOption}
 use Rattle.certs_key.specs.bcder_tree.declared.mode.Mode.{Mode}
-use Rattle.certs_key.specs.bcder_tree.Tags.{universal}
+use Rattle.certs_key.specs.bcder_tree.Tags.{oid_tag}
 use Rattle.certs_key.specs.bcder_tree.Tree.{Trees}
 use Rattle.certs_key.specs.bcder_source.declared.error.DecodeError.{DecodeError}
 use Rattle.certs_key.specs.bcder_content.Contents.{ValuesLeft}
@@ -33,10 +33,10 @@ abbrev pub Follows : List ℕ → Trees → PublicKeyFormat → Type 0
 Follows kind us x = (kind ≡ kind_of x) × AreParameters x us
 
 abbrev pub Body : Trees → List ℕ × PublicKeyFormat → Type 0
-Body = ThenBy (OctetsOf (universal 6) IsOid) Follows
+Body = ThenBy (OctetsOf oid_tag IsOid) Follows
 
 abbrev pub Curve : Trees → Unit {0} × Unit {0} → Type 0
-Curve = Then (OctetsOf (universal 6) (AreOctets secp256r1)) End
+Curve = Then (OctetsOf oid_tag (AreOctets secp256r1)) End
 
 abbrev pub Null : Type 0
 Null = Option (Unit {0}) × Unit {0}
@@ -50,7 +50,7 @@ from_body m ts x p = ((kind_of x, x), p.are)
 pub started : {v : ValuesLeft} → Fields (λ m. IsFormatBody) (λ m. Body) (λ c. c.1) v v false
 started = told_by {R = λ m. IsFormatBody} {T = λ m. Body} (λ c. c.1) begin to_body from_body
 
-pub named : {v w : ValuesLeft} {kind : List ℕ} → Gives (OctetsOf (universal 6) IsOid) v kind w → Fields (λ m. IsFormatBody) (λ m. Follows kind) (λ x. x) v w true
+pub named : {v w : ValuesLeft} {kind : List ℕ} → Gives (OctetsOf oid_tag IsOid) v kind w → Fields (λ m. IsFormatBody) (λ m. Follows kind) (λ x. x) v w true
 named g = next_by (λ m. octets_one oid_one) started g
 
 rsa_parameters : (x : PublicKeyFormat) (ts : Trees) → x ≡ Rsa → AreParameters x ts → (y : Null) × OptNull ts y
@@ -70,12 +70,12 @@ curve_named Ecdsa e = refl
 curve_named Rsa e = absurd cc
 
 -- After rsaEncryption stands NULL or nothing,
-pub rsa_next : {v w : ValuesLeft} {kind : List ℕ} → kind ≡ rsa_encryption → Gives (OctetsOf (universal 6) IsOid) v kind w
+pub rsa_next : {v w : ValuesLeft} {kind : List ℕ} → kind ≡ rsa_encryption → Gives (OctetsOf oid_tag IsOid) v kind w
     → Fields (λ m. IsFormatBody) (λ m. OptNull) (λ y. Rsa) v w true
 rsa_next {kind = kind} e g = told_by {R = λ m. Follows kind} {T = λ m. OptNull} (λ y. Rsa) (named g) (λ m ts y p. (e, of_rsa p)) (λ m ts x p. rsa_parameters x ts (rsa_named x (sym e ∙ p.0)) p.1)
 
 -- after ecPublicKey the curve,
-pub curve_next : {v w : ValuesLeft} {kind : List ℕ} → kind ≡ ec_public_key → Gives (OctetsOf (universal 6) IsOid) v kind w
+pub curve_next : {v w : ValuesLeft} {kind : List ℕ} → kind ≡ ec_public_key → Gives (OctetsOf oid_tag IsOid) v kind w
     → Fields (λ m. IsFormatBody) (λ m. Curve) (λ y. Ecdsa) v w true
 curve_next {kind = kind} e g = told_by {R = λ m. Follows kind} {T = λ m. Curve} (λ y. Ecdsa) (named g) (λ m ts y p. (e, of_ecdsa p)) (λ m ts x p. curve_parameters x ts (curve_named x (sym e ∙ p.0)) p.1)
 

@@ -1,7 +1,7 @@
 -- The forms of a key and of its algorithm: what is read, what is written, and that the one is the other.
 use Rattle.std.proofs.Common.{◌≡◌, ℕ, List, [], ◌∷◌, Some, refl, ap, ◌∙◌, arith}
 use Rattle.certs_key.specs.bcder_tree.declared.mode.Mode.{Mode}
-use Rattle.certs_key.specs.bcder_tree.Tags.{TagValue, universal}
+use Rattle.certs_key.specs.bcder_tree.Tags.{TagValue, universal, null_tag, oid_tag, sequence_tag}
 use Rattle.certs_key.specs.bcder_tree.Tree.{Trees, primitive, constructed, none, more}
 use Rattle.certs_key.specs.bcder_primitive.Values.{AnyOctets}
 use Rattle.certs_key.specs.bcder_content.Contents.{tag_of}
@@ -36,8 +36,8 @@ abbrev pub Pair : Type 0
 Pair = List ℕ × (List ℕ × Unit {0})
 
 abbrev pub parameters_tag : PublicKeyFormat → TagValue
-parameters_tag Rsa = universal 5
-parameters_tag Ecdsa = universal 6
+parameters_tag Rsa = null_tag
+parameters_tag Ecdsa = oid_tag
 
 abbrev pub parameters_of : PublicKeyFormat → List ℕ
 parameters_of Rsa = []
@@ -59,10 +59,10 @@ pair_tree m outer first second a b ts p =
     p.is.whole ∙ ap (λ us. joined us p.is.second) one ∙ ap (λ us. more (primitive first a) us) two in
     p.whole ∙ ap (λ us. more (constructed outer us) none) all
 
-pub format_shown : (x : PublicKeyFormat) (m : Mode) (ts : Trees) → (pair (universal 16) (universal 6) (parameters_tag x)).trees (pair_of x) m ts
+pub format_shown : (x : PublicKeyFormat) (m : Mode) (ts : Trees) → (pair sequence_tag oid_tag (parameters_tag x)).trees (pair_of x) m ts
     → ts ≡ more (format_tree x) none
-format_shown Rsa m ts p = pair_tree m (universal 16) (universal 6) (universal 5) rsa_encryption [] ts p
-format_shown Ecdsa m ts p = pair_tree m (universal 16) (universal 6) (universal 6) ec_public_key secp256r1 ts p
+format_shown Rsa m ts p = pair_tree m sequence_tag oid_tag null_tag rsa_encryption [] ts p
+format_shown Ecdsa m ts p = pair_tree m sequence_tag oid_tag oid_tag ec_public_key secp256r1 ts p
 
 rsa_identifies : IsIdentifier rsa_encryption
 rsa_identifies = record { front = 42 ∷ 134 ∷ 72 ∷ 134 ∷ 247 ∷ 13 ∷ 1 ∷ 1 ∷ []; last = 1; whole = refl; ends = omega arith }
@@ -72,19 +72,19 @@ ec_identifies = record { front = 42 ∷ 134 ∷ 72 ∷ 206 ∷ 61 ∷ 2 ∷ []; 
 
 pub format_is : (x : PublicKeyFormat) → IsFormat (format_tree x) x
 format_is Rsa = record {
-  values = more (primitive (universal 6) rsa_encryption) (more (primitive (universal 5) []) none);
+  values = more (primitive oid_tag rsa_encryption) (more (primitive null_tag []) none);
   whole = refl;
   is = record {
     are = record {
-      first = primitive (universal 6) rsa_encryption;
-      others = more (primitive (universal 5) []) none;
+      first = primitive oid_tag rsa_encryption;
+      others = more (primitive null_tag []) none;
       whole = refl;
       is = record { content = rsa_encryption; whole = refl; is = record { same = refl; is = rsa_identifies } };
       rest = (
         refl,
         of_rsa {x = (Some tt, tt)} (record {
           cases = record {
-            first = primitive (universal 5) [];
+            first = primitive null_tag [];
             others = none;
             whole = refl;
             is = record { content = []; whole = refl; is = record { empty = refl } };
@@ -96,18 +96,18 @@ format_is Rsa = record {
   };
 }
 format_is Ecdsa = record {
-  values = more (primitive (universal 6) ec_public_key) (more (primitive (universal 6) secp256r1) none);
+  values = more (primitive oid_tag ec_public_key) (more (primitive oid_tag secp256r1) none);
   whole = refl;
   is = record {
     are = record {
-      first = primitive (universal 6) ec_public_key;
-      others = more (primitive (universal 6) secp256r1) none;
+      first = primitive oid_tag ec_public_key;
+      others = more (primitive oid_tag secp256r1) none;
       whole = refl;
       is = record { content = ec_public_key; whole = refl; is = record { same = refl; is = ec_identifies } };
       rest = (
         refl,
         of_ecdsa {x = (tt, tt)} (record {
-          first = primitive (universal 6) secp256r1;
+          first = primitive oid_tag secp256r1;
           others = none;
           whole = refl;
           is = record { content = secp256r1; whole = refl; is = record { same = refl } };
@@ -125,13 +125,13 @@ format = record {
   reads = λ m. IsFormat;
   lawful = λ x. Unit {0};
   again = λ m x. x;
-  trees = λ x. (pair (universal 16) (universal 6) (parameters_tag x)).trees (pair_of x);
-  writes = λ x. (pair (universal 16) (universal 6) (parameters_tag x)).writes (pair_of x);
-  has = λ t. t ≡ universal 16;
+  trees = λ x. (pair sequence_tag oid_tag (parameters_tag x)).trees (pair_of x);
+  writes = λ x. (pair sequence_tag oid_tag (parameters_tag x)).writes (pair_of x);
+  has = λ t. t ≡ sequence_tag;
   sound = Unit {0};
   clear = λ m. Unit {0};
-  spelled = λ x. (pair (universal 16) (universal 6) (parameters_tag x)).spelled (pair_of x);
-  one_text = λ x. (pair (universal 16) (universal 6) (parameters_tag x)).one_text (pair_of x);
+  spelled = λ x. (pair sequence_tag oid_tag (parameters_tag x)).spelled (pair_of x);
+  one_text = λ x. (pair sequence_tag oid_tag (parameters_tag x)).one_text (pair_of x);
   tagged = λ m t x p. ap tag_of p.whole;
   is_read = λ s x m ts l p. record { tree = format_tree x; alone = format_shown x m ts p; is = format_is x };
   one_meaning = λ s m c. format_one;
@@ -152,16 +152,16 @@ key = record {
   reads = IsKey;
   lawful = HasEncoding;
   again = key_again;
-  trees = λ k. (wrapped (universal 16) key_body).trees (key_fields k);
-  writes = λ k. (wrapped (universal 16) key_body).writes (key_fields k);
-  has = λ t. t ≡ universal 16;
+  trees = λ k. (wrapped sequence_tag key_body).trees (key_fields k);
+  writes = λ k. (wrapped sequence_tag key_body).writes (key_fields k);
+  has = λ t. t ≡ sequence_tag;
   sound = Unit {0};
   clear = λ m. Unit {0};
-  spelled = λ k. (wrapped (universal 16) key_body).spelled (key_fields k);
-  one_text = λ k. (wrapped (universal 16) key_body).one_text (key_fields k);
+  spelled = λ k. (wrapped sequence_tag key_body).spelled (key_fields k);
+  one_text = λ k. (wrapped sequence_tag key_body).one_text (key_fields k);
   tagged = λ m t k p. ap tag_of p.whole;
   is_read = λ s k m ts l p.
-      let a = (wrapped (universal 16) key_body).is_read (tt, tt) (key_fields k) m ts (tt, tt) p in
+      let a = (wrapped sequence_tag key_body).is_read (tt, tt) (key_fields k) m ts (tt, tt) p in
       record {
         tree = a.tree;
         alone = a.alone;
@@ -181,4 +181,4 @@ abbrev pub lends : TagValue → TagValue → TagValue × List ℕ → TagValue �
 lends t u a b d = ((t, (u, (a.0, (b.0, d.0)))), ((a.1, (b.1, tt)), (d.1, tt)))
 
 abbrev pub key_lends : KeyValue → Lent
-key_lends k = lends (universal 16) (universal 16) (universal 6, kind_of k.format) (parameters_tag k.format, parameters_of k.format) (universal 3, k.bits)
+key_lends k = lends sequence_tag sequence_tag (oid_tag, kind_of k.format) (parameters_tag k.format, parameters_of k.format) (universal 3, k.bits)

@@ -3,7 +3,7 @@ use Rattle.std.proofs.Common.{◌≡◌, ℕ, zero, suc, ◌+◌, ◌≤◌, ◌
 use Rattle.std.specs.Prelude.{IsTrue, encode_utf8}
 use Rattle.certs_name.specs.bcder_tree.declared.mode.Mode.{Mode}
 use Rattle.certs_name.specs.bcder_tree.declared.mode.Mode.TheVariants.{Der}
-use Rattle.certs_name.specs.bcder_tree.Tags.{universal}
+use Rattle.certs_name.specs.bcder_tree.Tags.{printable_string_tag, utf8_string_tag}
 use Rattle.certs_name.specs.bcder_tree.Tree.{Tree, Trees, Spells}
 use Rattle.certs_name.specs.bcder_tree.Front.{Front}
 use Rattle.certs_name.specs.bcder_tree.Strings.{IsPrintable}
@@ -25,7 +25,7 @@ use Rattle.certs_name.proofs.Sightings.{at_most_once, commons, serials, name_one
 -- The value of an attribute.
 
 abbrev IsText : Bool → Tree → List ℕ → Type 0
-IsText strict v text = IsRestricted IsPrintable alone Der (universal 19) v text ⊎ ((strict ≡ false) × IsRestricted IsUnicode encode_utf8 Der (universal 12) v text)
+IsText strict v text = IsRestricted IsPrintable alone Der printable_string_tag v text ⊎ ((strict ≡ false) × IsRestricted IsUnicode encode_utf8 Der utf8_string_tag v text)
 
 text_told : (strict : Bool) (v : Tree) (x : Unit {0}) → IsTextValue strict v x → (text : List ℕ) × IsText strict v text
 text_told true v x p = (p.content, inl (record { is = p.whole; meets = p.is.is }))

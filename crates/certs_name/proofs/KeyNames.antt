@@ -3,7 +3,7 @@ use Rattle.std.proofs.Common.{◌≡◌, ℕ, ◌+◌, ◌*◌, ◌/◌, ◌%◌
 use Rattle.std.specs.Prelude.{slice_index}
 use Rattle.certs_name.specs.bcder_tree.declared.mode.Mode.TheVariants.{Der}
 use Rattle.certs_name.specs.bcder_tree.Octets.{form_bit}
-use Rattle.certs_name.specs.bcder_tree.Tags.{universal}
+use Rattle.certs_name.specs.bcder_tree.Tags.{universal, oid_tag, printable_string_tag, sequence_tag, set_tag}
 use Rattle.certs_name.specs.bcder_tree.Tree.{Tree, Trees, primitive, constructed, none, more, IsHeader, definite, Spells, SpellsAll}
 use Rattle.certs_name.specs.bcder_values.Wraps.{one_spelled}
 use Rattle.certs_name.specs.bcder_oid.Identifiers.{IsIdentifier}
@@ -49,23 +49,23 @@ abbrev pub key_name_octets : List ℕ → List ℕ
 key_name_octets digits = 48 ∷ 51 ∷ 49 ∷ 49 ∷ 48 ∷ 47 ∷ 6 ∷ 3 ∷ 85 ∷ 4 ∷ 3 ∷ 19 ∷ 40 ∷ digits
 
 abbrev value_of : List ℕ → Tree
-value_of digits = primitive (universal 19) digits
+value_of digits = primitive printable_string_tag digits
 
 abbrev fields_of : List ℕ → Trees
-fields_of digits = more (primitive (universal 6) common_name) (more (value_of digits) none)
+fields_of digits = more (primitive oid_tag common_name) (more (value_of digits) none)
 
 abbrev attribute_of : List ℕ → Tree
-attribute_of digits = constructed (universal 16) (fields_of digits)
+attribute_of digits = constructed sequence_tag (fields_of digits)
 
 abbrev relative_of : List ℕ → Tree
-relative_of digits = constructed (universal 17) (more (attribute_of digits) none)
+relative_of digits = constructed set_tag (more (attribute_of digits) none)
 
 pub key_name_spelled : (v : List ℕ) → length v ≡ 20 → Spells Der (subject_of v) (key_name_octets (hex_text v))
 key_name_spelled v long =
     let digits = hex_text v in
     let forty : length digits ≡ 40 = omega (arith, hex_long v) in
     let value : Spells Der (value_of digits) (19 ∷ 40 ∷ digits) = holds 19 40 digits (omega arith) (omega arith) (omega arith) forty in
-    let kind : Spells Der (primitive (universal 6) common_name) (6 ∷ 3 ∷ common_name) = holds 6 3 common_name (omega arith) (omega arith) (omega arith) refl in
+    let kind : Spells Der (primitive oid_tag common_name) (6 ∷ 3 ∷ common_name) = holds 6 3 common_name (omega arith) (omega arith) (omega arith) refl in
     let fields : SpellsAll Der (fields_of digits) (6 ∷ 3 ∷ 85 ∷ 4 ∷ 3 ∷ 19 ∷ 40 ∷ digits) =
     (6 ∷ 3 ∷ common_name, 19 ∷ 40 ∷ digits, kind, one_spelled Der (value_of digits) (19 ∷ 40 ∷ digits) value, refl) in
     let attribute : Spells Der (attribute_of digits) (48 ∷ 47 ∷ 6 ∷ 3 ∷ 85 ∷ 4 ∷ 3 ∷ 19 ∷ 40 ∷ digits) =
@@ -84,7 +84,7 @@ is_attribute digits = record {
     values = fields_of digits;
     whole = refl;
     is = record {
-      first = primitive (universal 6) common_name;
+      first = primitive oid_tag common_name;
       others = more (value_of digits) none;
       whole = refl;
       is = record { content = common_name; whole = refl; is = record { same = refl; is = identifier } };

@@ -1,6 +1,6 @@
 -- Names of which only the form is looked at are read in one way.
 use Rattle.std.proofs.Common.{refl}
-use Rattle.certs_name.specs.bcder_tree.Tags.{universal}
+use Rattle.certs_name.specs.bcder_tree.Tags.{sequence_tag, set_tag}
 use Rattle.certs_name.specs.bcder_content.Grammar.{Any, One, Tagged}
 use Rattle.certs_name.proofs.of_bcder_content.Simple.{unit_one}
 use Rattle.certs_name.proofs.of_bcder_content.Unique.{octets_one, inside_one, inside_tagged, then_one, end_one}
@@ -15,8 +15,8 @@ attribute_one = inside_one (then_one (octets_one unit_one) (then_one any_one end
 pub relative_name_one : One IsAnyRelativeName
 relative_name_one = inside_one (record { one = λ ts x y p q. refl })
 
-pub attribute_tagged : Tagged (universal 16) IsAnyAttribute
+pub attribute_tagged : Tagged sequence_tag IsAnyAttribute
 attribute_tagged = inside_tagged _ _
 
-pub relative_name_tagged : Tagged (universal 17) IsAnyRelativeName
+pub relative_name_tagged : Tagged set_tag IsAnyRelativeName
 relative_name_tagged = inside_tagged _ _

@@ -1,6 +1,6 @@
 -- Attributes that were seen, one by one and together.
 use Rattle.std.proofs.Common.{◌≡◌, ℕ, ◌+◌, ◌≤◌, ◌⊎◌, inl, inr, Bool, true, false, List, [], ◌∷◌, ◌++◌, refl, sym, ap, ◌∙◌, arith}
-use Rattle.certs_name.specs.bcder_tree.Tags.{universal}
+use Rattle.certs_name.specs.bcder_tree.Tags.{sequence_tag, set_tag}
 use Rattle.certs_name.specs.bcder_content.Grammar.{One, OneOctets, Tagged}
 use Rattle.certs_name.proofs.of_bcder_content.Unique.{as_one, as_tagged, octets_one, inside_one, inside_tagged, then_one, end_one}
 use Rattle.certs_basics.proofs.Values.{gathers_one}
@@ -60,13 +60,13 @@ text_one strict = record { one = λ t x y p q. refl }
 pub seen_one : (strict : Bool) → One (IsSeenAttribute strict)
 seen_one strict = as_one (inside_one (then_one (octets_one kind_one) (then_one (text_one strict) end_one)))
 
-pub seen_tagged : (strict : Bool) → Tagged (universal 16) (IsSeenAttribute strict)
+pub seen_tagged : (strict : Bool) → Tagged sequence_tag (IsSeenAttribute strict)
 seen_tagged strict = as_tagged (inside_tagged _ _)
 
 pub relative_one : (strict : Bool) → One (IsSeenRelativeName strict)
 relative_one strict = inside_one (gathers_one (seen_one strict) together_one)
 
-pub relative_tagged : (strict : Bool) → Tagged (universal 17) (IsSeenRelativeName strict)
+pub relative_tagged : (strict : Bool) → Tagged set_tag (IsSeenRelativeName strict)
 relative_tagged strict = inside_tagged _ _
 
 pub name_one : (strict : Bool) → One (IsSeenName strict)

@@ -1,7 +1,7 @@
 -- What inspection reads of a name: which of its two attributes are there, in any order (RFC 6487 4.4, 4.5).
 use Rattle.std.specs.Prelude.{◌≡◌, ℕ, ◌⊎◌, ◌+◌, Bool, true, false, List, [], ◌∷◌, encode_utf8}
 use Rattle.certs_name.specs.bcder_tree.declared.mode.Mode.{Mode}
-use Rattle.certs_name.specs.bcder_tree.Tags.{universal}
+use Rattle.certs_name.specs.bcder_tree.Tags.{oid_tag, printable_string_tag, sequence_tag, set_tag, utf8_string_tag}
 use Rattle.certs_name.specs.bcder_tree.Tree.{Tree, Trees}
 use Rattle.certs_name.specs.bcder_tree.Strings.{IsPrintable}
 use Rattle.certs_name.specs.bcder_strings.Sets.{alone, IsUnicode}
@@ -28,10 +28,10 @@ pub record IsTextOf (Has : ℕ → Type 0) (spell : ℕ → List ℕ) (content :
 
 -- A primitive PrintableString; where not strict, a primitive UTF8String too.
 abbrev pub IsPrintableValue : Tree → Unit {0} → Type 0
-IsPrintableValue = OctetsOf (universal 19) (IsTextOf IsPrintable alone)
+IsPrintableValue = OctetsOf printable_string_tag (IsTextOf IsPrintable alone)
 
 abbrev pub IsUnicodeValue : Tree → Unit {0} → Type 0
-IsUnicodeValue = OctetsOf (universal 12) (IsTextOf IsUnicode encode_utf8)
+IsUnicodeValue = OctetsOf utf8_string_tag (IsTextOf IsUnicode encode_utf8)
 
 abbrev pub IsTextValue : Bool → Tree → Unit {0} → Type 0
 IsTextValue true = IsPrintableValue
@@ -47,10 +47,10 @@ abbrev pub seen_of : SeenFields → Seen
 seen_of f = f.0
 
 abbrev pub IsSeenBody : Bool → Mode → Trees → SeenFields → Type 0
-IsSeenBody strict m = Then (OctetsOf (universal 6) IsKind) (Then (IsTextValue strict) End)
+IsSeenBody strict m = Then (OctetsOf oid_tag IsKind) (Then (IsTextValue strict) End)
 
 abbrev pub IsSeenAttribute : Bool → Tree → Seen → Type 0
-IsSeenAttribute strict = As (Inside (universal 16) (Then (OctetsOf (universal 6) IsKind) (Then (IsTextValue strict) End))) seen_of
+IsSeenAttribute strict = As (Inside sequence_tag (Then (OctetsOf oid_tag IsKind) (Then (IsTextValue strict) End))) seen_of
 
 -- How often.
 abbrev pub times : Bool → ℕ
@@ -74,10 +74,10 @@ abbrev pub AreSeenAttributes : Bool → Trees → Seen → Type 0
 AreSeenAttributes strict = Gathers (IsSeenAttribute strict) Together
 
 abbrev pub IsSeenRelativeName : Bool → Tree → Seen → Type 0
-IsSeenRelativeName strict = Inside (universal 17) (AreSeenAttributes strict)
+IsSeenRelativeName strict = Inside set_tag (AreSeenAttributes strict)
 
 abbrev pub AreSeenRelativeNames : Bool → Trees → Seen → Type 0
 AreSeenRelativeNames strict = Gathers (IsSeenRelativeName strict) Together
 
 abbrev pub IsSeenName : Bool → Tree → Seen → Type 0
-IsSeenName strict = Inside (universal 16) (AreSeenRelativeNames strict)
+IsSeenName strict = Inside sequence_tag (AreSeenRelativeNames strict)

@@ -2,7 +2,7 @@
 //! not strict, a primitive UTF8String (RFC 6487 4.4, 4.5).
 
 ghost use Rattle.std.specs.Prelude.{◌≡◌, ◌≢◌, IfErr};
-ghost use Rattle.certs_name.specs.bcder_tree.Tags.{universal};
+ghost use Rattle.certs_name.specs.bcder_tree.Tags.{oid_tag, sequence_tag, utf8_string_tag};
 ghost use Rattle.certs_name.specs.bcder_source.declared.error.DecodeError.TheVariants.{Memory};
 ghost use Rattle.certs_name.specs.bcder_content.Exact.{ReadsAs, ReadsOptAs};
 ghost use Rattle.certs_name.specs.bcder_content.Grammar.{OctetsOf, OneOf};
@@ -19,7 +19,7 @@ use certs_basics::string::{PrintableCharSet, Utf8CharSet};
 
 // Which attribute the identifier is that is next.
 fn take_kind<S: Source>(cons: &mut Constructed<S>) -> Result<Seen, DecodeError<S::Error>>
-    ensures reads { ReadsAs (λ s. s) (OctetsOf (universal 6) IsKind)
+    ensures reads { ReadsAs (λ s. s) (OctetsOf oid_tag IsKind)
         (here S.rest cons.old) result (here S.rest cons.new) }
     ensures no_memory { IfErr result (λ e. e ≢ Memory) }
 {
@@ -41,7 +41,7 @@ fn skip_printable<S: Source>(cons: &mut Constructed<S>) -> Result<(), DecodeErro
 fn skip_opt_unicode<S: Source>(
     cons: &mut Constructed<S>,
 ) -> Result<Option<()>, DecodeError<S::Error>>
-    ensures reads { ReadsOptAs (λ x. x) (universal 12) IsUnicodeValue
+    ensures reads { ReadsOptAs (λ x. x) utf8_string_tag IsUnicodeValue
         (here S.rest cons.old) result (here S.rest cons.new) }
     ensures no_memory { IfErr result (λ e. e ≢ Memory) }
 {
@@ -97,7 +97,7 @@ pub(crate) fn take_opt_attribute<S: Source>(
     cons: &mut Constructed<S>,
     strict: bool,
 ) -> Result<Option<Seen>, DecodeError<S::Error>>
-    ensures reads { ReadsOptAs (λ s. s) (universal 16) (IsSeenAttribute strict)
+    ensures reads { ReadsOptAs (λ s. s) sequence_tag (IsSeenAttribute strict)
         (here S.rest cons.old) result (here S.rest cons.new) }
     ensures no_memory { IfErr result (λ e. e ≢ Memory) }
 {

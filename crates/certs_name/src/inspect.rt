@@ -1,7 +1,7 @@
 //! What inspection asks of names: one commonName, at most one serialNumber, and nothing else (RFC 6487 4.4, 4.5).
 
 ghost use Rattle.std.specs.Prelude.{◌≡◌, ◌≢◌, ◌↔◌, false, IfErr, IsOk, IsTrue};
-ghost use Rattle.certs_name.specs.bcder_tree.Tags.{universal};
+ghost use Rattle.certs_name.specs.bcder_tree.Tags.{set_tag};
 ghost use Rattle.certs_name.specs.bcder_source.declared.error.DecodeError.TheVariants.{Memory};
 ghost use Rattle.certs_name.specs.bcder_content.Captures.{rest_of};
 ghost use Rattle.certs_name.specs.bcder_content.Exact.{DecodesAs, ReadsAs, ReadsOptAs};
@@ -42,7 +42,7 @@ fn take_opt_relative_name<S: Source>(
     cons: &mut Constructed<S>,
     strict: bool,
 ) -> Result<Option<Seen>, DecodeError<S::Error>>
-    ensures reads { ReadsOptAs (λ s. s) (universal 17) (IsSeenRelativeName strict)
+    ensures reads { ReadsOptAs (λ s. s) set_tag (IsSeenRelativeName strict)
         (here S.rest cons.old) result (here S.rest cons.new) }
     ensures no_memory { IfErr result (λ e. e ≢ Memory) }
 {

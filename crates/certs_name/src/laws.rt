@@ -4,7 +4,7 @@ ghost use Rattle.std.specs.Prelude.{◌≡◌, ◌↔◌, ◌<◌, ◌^◌, ℕ,
 ghost use Rattle.std.specs.declared.cmp.Ordering.TheVariants.{Equal};
 ghost use Rattle.certs_name.specs.bcder_tree.declared.mode.Mode.{Mode as ModeValue};
 ghost use Rattle.certs_name.specs.bcder_tree.declared.mode.Mode.TheVariants.{Der};
-ghost use Rattle.certs_name.specs.bcder_tree.Tags.{universal};
+ghost use Rattle.certs_name.specs.bcder_tree.Tags.{integer_tag};
 ghost use Rattle.certs_name.specs.bcder_tree.Tree.{Spells};
 ghost use Rattle.certs_name.specs.bcder_content.Grammar.{End, One, Then};
 ghost use Rattle.certs_name.specs.bcder_content.Kept.{CapturedValue};
@@ -35,7 +35,7 @@ pub fn one_serial()
 /// What is written of a serial number is read again as that number, in each mode.
 pub fn serials_are_read_again()
     ensures { (n : ℕ) (m : ModeValue) (text : List ℕ) → n < 2 ^ 160
-        → WritesPlain m (universal 2) (λ content. IsNatural content n) text
+        → WritesPlain m integer_tag (λ content. IsNatural content n) text
         → ReadAgain m (λ ts. Then IsSerial End ts (n, tt)) text }
 {}
 

@@ -4,7 +4,7 @@ ghost use Rattle.std.proofs.Common.{rules};
 ghost use Rattle.std.specs.Prelude.{◌≡◌, ◌≢◌, ◌≤◌, ◌↔◌, ℕ, pos, length, IfErr, IsTrue, OnErr, true};
 ghost use Rattle.certs_name.specs.bcder_source.declared.error.DecodeError.TheVariants.{Memory};
 ghost use Rattle.certs_name.specs.bcder_tree.Integers.{IsPositive, IsShortest};
-ghost use Rattle.certs_name.specs.bcder_tree.Tags.{universal};
+ghost use Rattle.certs_name.specs.bcder_tree.Tags.{integer_tag};
 ghost use Rattle.certs_name.specs.bcder_primitive.Plain.{plain, ReadsOctetsAs};
 ghost use Rattle.certs_name.specs.bcder_primitive.Values.{IsTwosComplement};
 ghost use Rattle.certs_name.specs.bcder_content.Exact.{ReadsAs};
@@ -101,7 +101,7 @@ fn shortest(octets: &[u8]) -> &[u8]
 
 /// The number's only content octets, in every mode.
 impl PrimitiveContent for Serial {
-    ghost type_tag = { universal 2 };
+    ghost type_tag = { integer_tag };
 
     ghost content = { λ n m content. IsNatural content n };
 

@@ -1,7 +1,7 @@
 //! Names that are passed over (RFC 5280 4.1.2.4): SEQUENCE OF SET OF SEQUENCE { OBJECT IDENTIFIER, ANY }.
 
 ghost use Rattle.std.specs.Prelude.{◌≡◌, OnErr, true};
-ghost use Rattle.certs_name.specs.bcder_tree.Tags.{universal};
+ghost use Rattle.certs_name.specs.bcder_tree.Tags.{sequence_tag, set_tag};
 ghost use Rattle.certs_name.specs.bcder_content.Exact.{ReadsAs, ReadsOptAs};
 ghost use Rattle.certs_name.specs.bcder_content.Grammar.{Any};
 ghost use Rattle.certs_name.specs.bcder_content.Here.{here};
@@ -45,7 +45,7 @@ fn skip_opt_attribute<S: Source>(
     alloc: Global,
     cons: &mut Constructed<S>,
 ) -> Result<Option<()>, DecodeError<S::Error>>
-    ensures { ReadsOptAs any_fields (universal 16) IsAnyAttribute
+    ensures { ReadsOptAs any_fields sequence_tag IsAnyAttribute
         (here S.rest cons.old) result (here S.rest cons.new) }
 {
     cons.take_opt_sequence(
@@ -73,7 +73,7 @@ fn skip_opt_relative_name<S: Source>(
     alloc: Global,
     cons: &mut Constructed<S>,
 ) -> Result<Option<()>, DecodeError<S::Error>>
-    ensures { ReadsOptAs (λ x. x) (universal 17) IsAnyRelativeName
+    ensures { ReadsOptAs (λ x. x) set_tag IsAnyRelativeName
         (here S.rest cons.old) result (here S.rest cons.new) }
 {
     cons.take_opt_set(

@@ -1,7 +1,7 @@
 -- Entries of revocation lists: what is written of one.
 use Rattle.std.proofs.Common.{◌≡◌, ℕ, ◌<◌, ◌^◌, List, refl, sym, ap, ◌∙◌, subst}
 use Rattle.certs_revoked.specs.bcder_tree.declared.mode.Mode.{Mode}
-use Rattle.certs_revoked.specs.bcder_tree.Tags.{TagValue, universal}
+use Rattle.certs_revoked.specs.bcder_tree.Tags.{TagValue, integer_tag, sequence_tag}
 use Rattle.certs_revoked.specs.bcder_tree.Tree.{Tree, Trees, primitive, constructed, none}
 use Rattle.certs_revoked.specs.bcder_primitive.Values.{AnyOctets}
 use Rattle.certs_revoked.specs.bcder_content.Grammar.{End, Then}
@@ -19,14 +19,14 @@ use Rattle.certs_revoked.specs.Written.{WritesEntry}
 
 -- The fields that were written.
 fields : (e : RevokedValue) (tag : TagValue) (content : List ℕ) (ts : Trees) → e.serial < 2 ^ 160 → WritesTime e.time (primitive tag content)
-    → AreBoth (IsPlain (universal 2) (λ octets. IsNatural octets e.serial)) (IsPlain tag (λ octets. AnyOctets octets content)) ts
+    → AreBoth (IsPlain integer_tag (λ octets. IsNatural octets e.serial)) (IsPlain tag (λ octets. AnyOctets octets content)) ts
     → Then IsSerial (Then IsTime End) ts (entry_fields e)
 fields e tag content ts small w b =
     let s = b.is_first in
     let t = b.is_second in
     let same : primitive tag t.content ≡ primitive tag content = ap (primitive tag) t.is.same in
     record {
-      first = primitive (universal 2) s.content;
+      first = primitive integer_tag s.content;
       others = b.second;
       whole = b.whole ∙ ap (λ (l : Trees). joined l b.second) s.whole;
       is = record { is = record { content = s.content; whole = refl; is = s.is }; meets = small };
@@ -46,7 +46,7 @@ entry_spelled e tag content m text small w h =
     record {
       trees = spells.trees;
       is = record {
-        first = constructed (universal 16) spells.is.values;
+        first = constructed sequence_tag spells.is.values;
         others = none;
         whole = spells.is.whole;
         is = record { x = entry_fields e; is = record { values = spells.is.values; whole = refl; is = fields e tag content spells.is.values small w spells.is.is }; means = refl };

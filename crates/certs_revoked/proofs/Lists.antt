@@ -3,7 +3,7 @@ use Rattle.std.proofs.Common.{◌≡◌, false, List, [], ◌∷◌, Ok, refl, s
 use Rattle.std.proofs.Math.Logic.{∥∥₁_elim}
 use Rattle.std.specs.Coded.{Coded-set, coded_list}
 use Rattle.certs_revoked.specs.bcder_tree.declared.mode.Mode.{Mode}
-use Rattle.certs_revoked.specs.bcder_tree.Tags.{universal}
+use Rattle.certs_revoked.specs.bcder_tree.Tags.{sequence_tag}
 use Rattle.certs_revoked.specs.bcder_tree.Tree.{SpellsAll, Tree, Trees, none}
 use Rattle.certs_revoked.specs.bcder_source.Views.{Reading}
 use Rattle.certs_revoked.specs.bcder_content.declared.constructed.Constructed.{Constructed}
@@ -24,7 +24,7 @@ use Rattle.certs_revoked.specs.Entries.{AreEntries, whatever}
 use Rattle.certs_revoked.specs.Listed.{EntriesLeft, SpellsEntries}
 use Rattle.certs_revoked.specs.Listing.{Listing, entry_one, one_list, revoked_code}
 
-pub entry_tagged : Tagged (universal 16) IsRevoked
+pub entry_tagged : Tagged sequence_tag IsRevoked
 entry_tagged = as_tagged (inside_tagged _ _)
 
 -- The list of octets is the one that they spell.
@@ -77,19 +77,19 @@ pub left_first : {now new : ValuesLeft} {x : RevokedValue} {xs : List RevokedVal
 left_first {xs = xs} l g = first_cases l.trees xs l.whole l.are.cases g
 
 -- No value with the tag of an entry is next: no entry is left.
-none_cases : {now : ValuesLeft} (ts : Trees) (xs : List RevokedValue) → Whole now ts → ManyCases IsRevoked ts xs → Unlike now (universal 16) → xs ≡ []
+none_cases : {now : ValuesLeft} (ts : Trees) (xs : List RevokedValue) → Whole now ts → ManyCases IsRevoked ts xs → Unlike now sequence_tag → xs ≡ []
 none_cases ts [] w e u = refl
 none_cases {now = now} ts (y ∷ ys) w p u = absurd (u.none p.0 (whole_first (subst (Whole now) p.2 w)) (entry_tagged.tagged p.0 y p.3))
 
-pub left_none : {now : ValuesLeft} {xs : List RevokedValue} → EntriesLeft now xs → Unlike now (universal 16) → xs ≡ []
+pub left_none : {now : ValuesLeft} {xs : List RevokedValue} → EntriesLeft now xs → Unlike now sequence_tag → xs ≡ []
 left_none {xs = xs} l u = none_cases l.trees xs l.whole l.are.cases u
 
 -- Where entries are left none is refused.
-lacks_cases : {now : ValuesLeft} (ts : Trees) (xs : List RevokedValue) → Whole now ts → ManyCases IsRevoked ts xs → LacksTagged (universal 16) IsRevoked now → ⊥
+lacks_cases : {now : ValuesLeft} (ts : Trees) (xs : List RevokedValue) → Whole now ts → ManyCases IsRevoked ts xs → LacksTagged sequence_tag IsRevoked now → ⊥
 lacks_cases {now = now} ts [] w e l = l.goes_on (whole_none (subst (Whole now) e w))
 lacks_cases {now = now} ts (y ∷ ys) w p l = l.lacks.none p.0 y p.3 (whole_first (subst (Whole now) p.2 w))
 
-pub left_lacks : {now : ValuesLeft} {xs : List RevokedValue} → EntriesLeft now xs → LacksTagged (universal 16) IsRevoked now → ⊥
+pub left_lacks : {now : ValuesLeft} {xs : List RevokedValue} → EntriesLeft now xs → LacksTagged sequence_tag IsRevoked now → ⊥
 left_lacks {xs = xs} l h = lacks_cases l.trees xs l.whole l.are.cases h
 
 pub left_sound : {now : ValuesLeft} {xs : List RevokedValue} → EntriesLeft now xs → now.failed ≡ false

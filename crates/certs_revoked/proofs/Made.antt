@@ -3,7 +3,7 @@ use Rattle.std.proofs.Common.{◌≡◌, ◌↔◌, ℕ, ◌<◌, ◌^◌, List,
 use Rattle.std.specs.Result.{IsErr, IsErrAnd}
 use Rattle.certs_revoked.specs.bcder_tree.declared.mode.Mode.{Mode}
 use Rattle.certs_revoked.specs.bcder_tree.declared.mode.Mode.TheVariants.{Der}
-use Rattle.certs_revoked.specs.bcder_tree.Tags.{TagValue, universal}
+use Rattle.certs_revoked.specs.bcder_tree.Tags.{TagValue, integer_tag, sequence_tag}
 use Rattle.certs_revoked.specs.bcder_tree.Tree.{Trees, constructed, more, none, primitive}
 use Rattle.certs_revoked.specs.bcder_primitive.Values.{AnyOctets}
 use Rattle.certs_revoked.specs.bcder_number.Integers.{IsNatural}
@@ -23,7 +23,7 @@ use Rattle.certs_revoked.proofs.Splits.{same_captured}
 
 -- What an entry's encoders lend is the entry: its tags, its number, and the text of its moment.
 
-module _ {t a b : TagValue} {n : ℕ} {c : List ℕ} (x : RevokedValue) (is_tag : t ≡ universal 16) (is_number : a ≡ universal 2) (same : n ≡ x.serial) (small : x.serial < 2 ^ 160) (time : WritesTime x.time (primitive b c)) where
+module _ {t a b : TagValue} {n : ℕ} {c : List ℕ} (x : RevokedValue) (is_tag : t ≡ sequence_tag) (is_number : a ≡ integer_tag) (same : n ≡ x.serial) (small : x.serial < 2 ^ 160) (time : WritesTime x.time (primitive b c)) where
   serial_content : (content : List ℕ) → IsNatural content n → IsSerialContent content x.serial
   serial_content content p = record { is = subst (λ (k : ℕ). IsNatural content k) same p; small = small }
 
@@ -80,16 +80,16 @@ module _ {t a b : TagValue} {n : ℕ} {c : List ℕ} (x : RevokedValue) (is_tag 
   abbrev NumberText : Mode → TagValue → List ℕ → Type 0
   NumberText m k = WritesPlain m k (λ octets. IsNatural octets n)
 
-  number_text : {m : Mode} {text : List ℕ} → NumberText m a text → WritesPlain m (universal 2) (λ octets. IsSerialContent octets x.serial) text
+  number_text : {m : Mode} {text : List ℕ} → NumberText m a text → WritesPlain m integer_tag (λ octets. IsSerialContent octets x.serial) text
   number_text {m} {text} f = let g = subst (λ (k : TagValue). NumberText m k text) is_number f in record { content = g.content; is = serial_content g.content g.is; spelled = g.spelled }
 
-  text_number : {m : Mode} {text : List ℕ} → WritesPlain m (universal 2) (λ octets. IsSerialContent octets x.serial) text → NumberText m a text
+  text_number : {m : Mode} {text : List ℕ} → WritesPlain m integer_tag (λ octets. IsSerialContent octets x.serial) text → NumberText m a text
   text_number {m} {text} f =
-      let g : NumberText m (universal 2) text = record { content = f.content; is = natural_content f.content f.is; spelled = f.spelled } in
+      let g : NumberText m integer_tag text = record { content = f.content; is = natural_content f.content f.is; spelled = f.spelled } in
       subst (λ (k : TagValue). NumberText m k text) (sym is_number) g
 
   abbrev Whole : Mode → TagValue → List ℕ → Type 0
-  Whole m k = WritesWrapped m k (WritesBoth (WritesPlain m (universal 2) (λ octets. IsSerialContent octets x.serial)) (WritesMoment x.time m))
+  Whole m k = WritesWrapped m k (WritesBoth (WritesPlain m integer_tag (λ octets. IsSerialContent octets x.serial)) (WritesMoment x.time m))
 
   pub entry_text : (m : Mode) (text : List ℕ) → LentText m text ↔ entry.writes x m text
   entry_text m text = (

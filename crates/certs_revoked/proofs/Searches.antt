@@ -6,7 +6,7 @@ use Rattle.std.specs.Cmp.{unsigned_Decides}
 use Rattle.std.specs.Coded.{Coded-set, coded_bool}
 use Rattle.std.specs.declared.convert.Infallible.{Infallible}
 use Rattle.certs_revoked.specs.bcder_tree.declared.mode.Mode.{Mode}
-use Rattle.certs_revoked.specs.bcder_tree.Tags.{universal}
+use Rattle.certs_revoked.specs.bcder_tree.Tags.{sequence_tag}
 use Rattle.certs_revoked.specs.bcder_tree.Tree.{SpellsAll, Trees}
 use Rattle.certs_revoked.specs.bcder_source.Errors.{OnContent}
 use Rattle.certs_revoked.specs.bcder_source.Views.{Reading}
@@ -52,7 +52,7 @@ passed_found {serial} p g same xs l =
     b.2 ∙ ap (has_serial serial) n.whole ∙ ap (λ (z : Bool). z || has_serial serial n.others) same
 
 -- All were read.
-pub passed_all : {serial : ℕ} {start now new : ValuesLeft} → Passed serial start now → (new ≡ now) × Unlike now (universal 16)
+pub passed_all : {serial : ℕ} {start now new : ValuesLeft} → Passed serial start now → (new ≡ now) × Unlike now sequence_tag
     → (xs : List RevokedValue) → EntriesLeft start xs → has_serial serial xs ≡ false
 passed_all {serial} p u xs l =
     let b = p.behind xs l in
@@ -62,7 +62,7 @@ never : Infallible → ⊥
 never x = elim x [ ]
 
 -- Where entries are left, reading the next takes no memory and is not refused.
-pub no_refusal : {now : ValuesLeft} {xs : List RevokedValue} (e : DecodeError Infallible) → EntriesLeft now xs → OnContent e (LacksTagged (universal 16) IsRevoked now) → (e ≢ Memory) → ⊥
+pub no_refusal : {now : ValuesLeft} {xs : List RevokedValue} (e : DecodeError Infallible) → EntriesLeft now xs → OnContent e (LacksTagged sequence_tag IsRevoked now) → (e ≢ Memory) → ⊥
 no_refusal (Content x pos) l h some = left_lacks l h
 no_refusal (Source x) l h some = never x
 no_refusal Memory l h some = some refl

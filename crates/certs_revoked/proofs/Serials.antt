@@ -16,7 +16,7 @@ use Rattle.std.proofs.lemmas.Map.Keys.{IsStrictlyIncreasing-dedup, below_from_so
 use Rattle.certs_revoked.specs.resources_chain.Rows.{IsOrdered}
 use Rattle.std.specs.Coded.{Coded-set, coded_list, coded_ℕ}
 use Rattle.certs_revoked.specs.bcder_tree.declared.mode.Mode.{Mode}
-use Rattle.certs_revoked.specs.bcder_tree.Tags.{universal}
+use Rattle.certs_revoked.specs.bcder_tree.Tags.{sequence_tag}
 use Rattle.certs_revoked.specs.bcder_content.Contents.{ValuesLeft, Unlike}
 use Rattle.certs_revoked.specs.bcder_content.Exact.{Gives}
 use Rattle.certs_revoked.specs.bcder_content.Kept.{CapturedValue}
@@ -42,7 +42,7 @@ collected_more {serials} {more} {x = x} p g e = record {
       (n.others, n.left, b.2 ∙ ap (λ (z : List RevokedValue). serials ++ serials_of z) n.whole ∙ sym (append_assoc serials (x.serial ∷ []) (serials_of n.others)) ∙ ap (λ (z : List ℕ). z ++ serials_of n.others) (sym e));
 }
 
-pub collected_all : {serials : List ℕ} {start now new : ValuesLeft} → Collected serials start now → (new ≡ now) × Unlike now (universal 16)
+pub collected_all : {serials : List ℕ} {start now new : ValuesLeft} → Collected serials start now → (new ≡ now) × Unlike now sequence_tag
     → (xs : List RevokedValue) → EntriesLeft start xs → serials ≡ serials_of xs
 collected_all {serials} p u xs l =
     let b = p.behind xs l in

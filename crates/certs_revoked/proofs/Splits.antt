@@ -9,7 +9,7 @@ use Rattle.std.specs.Coded.{Coded-set, coded_list}
 use Rattle.std.specs.declared.convert.Infallible.{Infallible}
 use Rattle.certs_revoked.specs.bcder_tree.declared.mode.Mode.{Mode}
 use Rattle.certs_revoked.specs.bcder_tree.Front.{Front}
-use Rattle.certs_revoked.specs.bcder_tree.Tags.{universal}
+use Rattle.certs_revoked.specs.bcder_tree.Tags.{sequence_tag}
 use Rattle.certs_revoked.specs.bcder_tree.Tree.{SpellsAll, Tree, Trees, none, more}
 use Rattle.certs_revoked.specs.bcder_source.Errors.{OnContent}
 use Rattle.certs_revoked.specs.bcder_source.Views.{Reading, left}
@@ -34,7 +34,7 @@ use Rattle.certs_revoked.proofs.Lists.{left_none, spelled_is}
 use Rattle.certs_revoked.proofs.Searches.{fresh_left, no_refusal, ran_met}
 
 -- What was read, if anything, are values.
-pub entry_taken : (v w : ValuesLeft) (o : Option RevokedValue) → Perhaps (λ e. e) (universal 16) IsRevoked v o w → (ts : Trees) × TookAll v ts w
+pub entry_taken : (v w : ValuesLeft) (o : Option RevokedValue) → Perhaps (λ e. e) sequence_tag IsRevoked v o w → (ts : Trees) × TookAll v ts w
 entry_taken v w None h = (none, subst (λ (z : ValuesLeft). TookAll v none z) (sym h.0) (took_none h.1.sound))
 entry_taken v w (Some e) g = (more g.tree none, took_one g.took)
 
@@ -78,10 +78,10 @@ Splits c e d = (es : List RevokedValue) → SpellsEntries c es → (others : Lis
 module _ {F : Type 0} {g : Reader F (Constructed Reading) (Option RevokedValue) Infallible} {op : F} {m : Mode} {o : List ℕ} where
   -- An entry was read: it is the first, and the octets after it spell the others.
   pub split_some : (x : Option RevokedValue) (e : RevokedValue) (count : ℕ) → x ≡ Some e → ReadsFront g op m o x count
-      → ((p q : MutBor (Constructed Reading)) → g.post op (p, tt) (Ok x, (q, tt)) → Perhaps (λ e. e) (universal 16) IsRevoked (here rest_of p.now) x (here rest_of q.now))
+      → ((p q : MutBor (Constructed Reading)) → g.post op (p, tt) (Ok x, (q, tt)) → Perhaps (λ e. e) sequence_tag IsRevoked (here rest_of p.now) x (here rest_of q.now))
       → Splits (captured m o) e (captured m (drop count o))
   split_some x e count is h each es s =
-      let gives : Gives IsRevoked (fresh m o) e h.end = there _ _ x is (ran_met (λ v w. Perhaps (λ e. e) (universal 16) IsRevoked v x w) each h.ran) in
+      let gives : Gives IsRevoked (fresh m o) e h.end = there _ _ x is (ran_met (λ v w. Perhaps (λ e. e) sequence_tag IsRevoked v x w) each h.ran) in
       let long : length gives.took.text ≡ count = ap length (same_text gives.took.goes h.took.goes) ∙ h.long in
       let whole : o ≡ gives.took.text ++ left (octets h.end) = left_moved gives.took.goes.moved in
       let rest : left (octets h.end) ≡ drop count o = sym (drop-append_seam gives.took.text (left (octets h.end))) ∙ ap (λ (n : ℕ). drop n (gives.took.text ++ left (octets h.end))) long ∙ ap (drop count) (sym whole) in
@@ -90,17 +90,17 @@ module _ {F : Type 0} {g : Reader F (Constructed Reading) (Option RevokedValue) 
 
   -- None was there: the octets spell none.
   pub split_none : (x : Option RevokedValue) (count : ℕ) → x ≡ None → ReadsFront g op m o x count
-      → ((p q : MutBor (Constructed Reading)) → g.post op (p, tt) (Ok x, (q, tt)) → Perhaps (λ e. e) (universal 16) IsRevoked (here rest_of p.now) x (here rest_of q.now))
+      → ((p q : MutBor (Constructed Reading)) → g.post op (p, tt) (Ok x, (q, tt)) → Perhaps (λ e. e) sequence_tag IsRevoked (here rest_of p.now) x (here rest_of q.now))
       → (es : List RevokedValue) → SpellsEntries (captured m o) es → es ≡ []
   split_none x count is h each es s =
-      left_none (fresh_left s) (absent _ _ x is (ran_met (λ v w. Perhaps (λ e. e) (universal 16) IsRevoked v x w) each h.ran)).1
+      left_none (fresh_left s) (absent _ _ x is (ran_met (λ v w. Perhaps (λ e. e) sequence_tag IsRevoked v x w) each h.ran)).1
 
   -- Octets that spell entries aren't refused.
   pub split_refused : (e : DecodeError Infallible) → RefusesFront g op m o e
-      → ((p q : MutBor (Constructed Reading)) → g.post op (p, tt) (Err e, (q, tt)) → OnContent e (LacksTagged (universal 16) IsRevoked (here rest_of p.now)) × (e ≢ Memory))
+      → ((p q : MutBor (Constructed Reading)) → g.post op (p, tt) (Err e, (q, tt)) → OnContent e (LacksTagged sequence_tag IsRevoked (here rest_of p.now)) × (e ≢ Memory))
       → (es : List RevokedValue) → SpellsEntries (captured m o) es → es ≡ []
   split_refused e h each es s =
-      let told = ran_met (λ v w. OnContent e (LacksTagged (universal 16) IsRevoked v) × (e ≢ Memory)) each h.ran in
+      let told = ran_met (λ v w. OnContent e (LacksTagged sequence_tag IsRevoked v) × (e ≢ Memory)) each h.ran in
       absurd (no_refusal e (fresh_left s) told.0 told.1)
 
 -- Answers that are there, or aren't.

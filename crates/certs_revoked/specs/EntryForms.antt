@@ -2,7 +2,7 @@
 use Rattle.std.proofs.Common.{◌≡◌, ℕ, ◌⊎◌, List, inl, inr, refl, sym, ap, subst}
 use Rattle.std.specs.Prelude.{pos}
 use Rattle.certs_revoked.specs.bcder_tree.declared.mode.Mode.{Mode}
-use Rattle.certs_revoked.specs.bcder_tree.Tags.{TagValue, universal}
+use Rattle.certs_revoked.specs.bcder_tree.Tags.{TagValue, generalized_time_tag, integer_tag, sequence_tag, utc_time_tag}
 use Rattle.certs_revoked.specs.bcder_tree.Tree.{Tree, Trees, primitive}
 use Rattle.certs_revoked.specs.bcder_primitive.Values.{AnyOctets}
 use Rattle.certs_revoked.specs.bcder_number.Contents.{one_integer}
@@ -26,16 +26,16 @@ serial = record {
   reads = λ m. IsSerial;
   lawful = λ n. Unit {0};
   again = λ m n. n;
-  trees = λ n m. IsPlain (universal 2) (λ content. IsSerialContent content n);
-  writes = λ n m. WritesPlain m (universal 2) (λ content. IsSerialContent content n);
-  has = λ t. t ≡ universal 2;
+  trees = λ n m. IsPlain integer_tag (λ content. IsSerialContent content n);
+  writes = λ n m. WritesPlain m integer_tag (λ content. IsSerialContent content n);
+  has = λ t. t ≡ integer_tag;
   sound = Unit {0};
   clear = λ m. Unit {0};
   spelled = λ n m. plain_spelled m;
   one_text = λ n m. plain_one m (λ a b p q. one_integer (pos n) a b p.is q.is);
   tagged = λ m t n p. ap tag_of p.is.whole;
   is_read = λ s n m ts l p. record {
-    tree = primitive (universal 2) p.content;
+    tree = primitive integer_tag p.content;
     alone = p.whole;
     is = record { is = record { content = p.content; whole = refl; is = p.is.is }; meets = p.is.small };
   };
@@ -70,7 +70,7 @@ moment_one moment m a b v w =
     let tagged = subst (λ (t : TagValue). WritesPlain m t (λ octets. AnyOctets octets v.content) a) same.0 v.plain in
     plain_one m (one_string w.content) a b (subst (λ (o : List ℕ). WritesPlain m w.tag (λ octets. AnyOctets octets o) a) same.1 tagged) w.plain
 
-pub time_tagged : (t : Tree) (moment : ℕ) → IsTime t moment → (tag_of t ≡ universal 23) ⊎ (tag_of t ≡ universal 24)
+pub time_tagged : (t : Tree) (moment : ℕ) → IsTime t moment → (tag_of t ≡ utc_time_tag) ⊎ (tag_of t ≡ generalized_time_tag)
 time_tagged t moment p = elim p.cases [
   | inl q ↦ inl (ap tag_of q.whole)
   | inr q ↦ inr (ap tag_of q.whole)
@@ -83,7 +83,7 @@ moment = record {
   again = λ m n. n;
   trees = λ n m. AreMoment n;
   writes = λ n m. WritesMoment n m;
-  has = λ t. (t ≡ universal 23) ⊎ (t ≡ universal 24);
+  has = λ t. (t ≡ utc_time_tag) ⊎ (t ≡ generalized_time_tag);
   sound = Unit {0};
   clear = λ m. Unit {0};
   spelled = λ n m. moment_spelled n m;
@@ -99,7 +99,7 @@ moment = record {
 
 -- SEQUENCE { userCertificate CertificateSerialNumber, revocationDate Time } (RFC 5280 5.1.2.6)
 abbrev pub entry : Form RevokedValue
-entry = mapped as_revoked entry_fields (wrapped (universal 16) (both serial (last moment)))
+entry = mapped as_revoked entry_fields (wrapped sequence_tag (both serial (last moment)))
 
 -- Entries, one after the other.
 abbrev pub entry_list : Forms (List RevokedValue)

@@ -1,7 +1,7 @@
 -- Octets that spell the entries of a revocation list, and what is on it.
 use Rattle.std.specs.Prelude.{◌≡◌, ℕ, Bool, false, ◌||◌, nat_eq, List, [], ◌∷◌, map, Option, Result, Ok, Err}
 use Rattle.certs_revoked.specs.bcder_tree.declared.mode.Mode.{Mode}
-use Rattle.certs_revoked.specs.bcder_tree.Tags.{universal}
+use Rattle.certs_revoked.specs.bcder_tree.Tags.{sequence_tag}
 use Rattle.certs_revoked.specs.bcder_tree.Tree.{Trees}
 use Rattle.certs_revoked.specs.bcder_source.Errors.{OnContent}
 use Rattle.certs_revoked.specs.bcder_source.declared.error.DecodeError.{DecodeError}
@@ -44,5 +44,5 @@ serials_of = map (λ entry. entry.serial)
 -- A list that may be absent: no entries then.
 abbrev pub ReadsList : {E : Type 0} → ValuesLeft → Result (List RevokedValue) (DecodeError E) → ValuesLeft → Type 0
 ReadsList {E} old (Ok xs) new =
-    (o : Option (List RevokedValue)) × ReadsOptAs {E = E} (λ l. l) (universal 16) AreRevoked old (Ok o) new × (xs ≡ entries o)
-ReadsList old (Err e) new = OnContent e (LacksTagged (universal 16) AreRevoked old)
+    (o : Option (List RevokedValue)) × ReadsOptAs {E = E} (λ l. l) sequence_tag AreRevoked old (Ok o) new × (xs ≡ entries o)
+ReadsList old (Err e) new = OnContent e (LacksTagged sequence_tag AreRevoked old)

@@ -1,7 +1,7 @@
 -- What is written of an entry of a revocation list (RFC 5280 5.1.2.6).
 use Rattle.std.specs.Prelude.{ℕ, List}
 use Rattle.certs_revoked.specs.bcder_tree.declared.mode.Mode.{Mode}
-use Rattle.certs_revoked.specs.bcder_tree.Tags.{TagValue, universal}
+use Rattle.certs_revoked.specs.bcder_tree.Tags.{TagValue, integer_tag, sequence_tag}
 use Rattle.certs_revoked.specs.bcder_primitive.Values.{AnyOctets}
 use Rattle.certs_revoked.specs.bcder_number.Integers.{IsNatural}
 use Rattle.certs_revoked.specs.bcder_written.Encoded.{WritesBoth, WritesPlain, WritesWrapped}
@@ -10,6 +10,6 @@ use Rattle.certs_specs.specs.CrlText.{RevokedValue}
 -- A SEQUENCE of the serial number, and of a time that has this tag and these octets.
 abbrev pub WritesEntry : RevokedValue → TagValue → List ℕ → Mode → List ℕ → Type 0
 WritesEntry e tag content m =
-    WritesWrapped m (universal 16)
-    (WritesBoth (WritesPlain m (universal 2) (λ octets. IsNatural octets e.serial))
+    WritesWrapped m sequence_tag
+    (WritesBoth (WritesPlain m integer_tag (λ octets. IsNatural octets e.serial))
     (WritesPlain m tag (λ octets. AnyOctets octets content)))

@@ -2,7 +2,7 @@
 
 ghost use Rattle.std.specs.Prelude.{◌≡◌, ◌≢◌, true, IfErr, OnErr};
 ghost use Rattle.certs_specs.specs.CrlText.{IsRevoked};
-ghost use Rattle.certs_revoked.specs.bcder_tree.Tags.{universal};
+ghost use Rattle.certs_revoked.specs.bcder_tree.Tags.{integer_tag, sequence_tag};
 ghost use Rattle.certs_revoked.specs.bcder_tree.Tree.{primitive};
 ghost use Rattle.certs_revoked.specs.bcder_source.declared.error.DecodeError.TheVariants.{Memory};
 ghost use Rattle.certs_revoked.specs.bcder_content.Exact.{ReadsAs, ReadsOptAs};
@@ -99,7 +99,7 @@ impl CrlEntry {
     pub fn take_opt_from<S: Source>(
         cons: &mut Constructed<S>,
     ) -> Result<Option<Self>, DecodeError<S::Error>>
-        ensures reads { ReadsOptAs (λ e. e) (universal 16) IsRevoked
+        ensures reads { ReadsOptAs (λ e. e) sequence_tag IsRevoked
             (here S.rest cons.old) result (here S.rest cons.new) }
         ensures failed { OnErr result ((here S.rest cons.new).failed ≡ true) }
         ensures no_memory { IfErr result (λ e. e ≢ Memory) }
@@ -115,8 +115,8 @@ impl CrlEntry {
 
     /// What is written of the entry.
     pub fn encode(self) -> EntryValues
-        ensures tag { result.tag ≡ universal 16 }
-        ensures serial_tag { result.inner.0.tag ≡ universal 2 }
+        ensures tag { result.tag ≡ sequence_tag }
+        ensures serial_tag { result.inner.0.tag ≡ integer_tag }
         ensures serial { result.inner.0.content ≡ self.serial }
         ensures time { WritesTime self.time
             (primitive result.inner.1.tag result.inner.1.content.0) }

@@ -3,7 +3,7 @@
 ghost use Rattle.std.specs.Prelude.{◌≡◌, ◌≢◌, ◌≤◌, ◌∷◌, [], List, drop, length, IfErr, IfNone, IfSome};
 ghost use Rattle.std.specs.Iterator.{YieldsFirst, item_count};
 ghost use Rattle.certs_specs.specs.CrlText.{IsRevoked, RevokedValue};
-ghost use Rattle.certs_revoked.specs.bcder_tree.Tags.{universal};
+ghost use Rattle.certs_revoked.specs.bcder_tree.Tags.{sequence_tag};
 ghost use Rattle.certs_revoked.specs.bcder_source.declared.error.DecodeError.TheVariants.{Memory};
 ghost use Rattle.certs_revoked.specs.bcder_content.Captures.{rest_of};
 ghost use Rattle.certs_revoked.specs.bcder_content.Exact.{ReadsOptAs};
@@ -51,7 +51,7 @@ fn first_entry(octets: &[u8], mode: Mode) -> Option<(CrlEntry, usize)>
         octets,
         mode,
         |cons|
-            ensures reads { ReadsOptAs (λ e. e) (universal 16) IsRevoked
+            ensures reads { ReadsOptAs (λ e. e) sequence_tag IsRevoked
                 (here rest_of cons.old) result (here rest_of cons.new) }
             ensures no_memory { IfErr result (λ e. e ≢ Memory) }
         { CrlEntry::take_opt_from(cons) },

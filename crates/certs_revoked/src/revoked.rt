@@ -3,7 +3,7 @@
 ghost use Rattle.std.specs.Prelude.{◌≡◌, ◌≢◌, ◌↔◌, [], false, true, IsTrue, IfErr, IfOk, IfNone, IfSome, OnErr};
 ghost use Rattle.certs_specs.specs.CrlText.{AreRevoked};
 ghost use Rattle.certs_revoked.specs.bcder_tree.declared.mode.Mode.TheVariants.{Der};
-ghost use Rattle.certs_revoked.specs.bcder_tree.Tags.{universal};
+ghost use Rattle.certs_revoked.specs.bcder_tree.Tags.{sequence_tag};
 ghost use Rattle.certs_revoked.specs.bcder_source.declared.error.DecodeError.TheVariants.{Memory};
 ghost use Rattle.certs_revoked.specs.bcder_content.Captures.{rest_of};
 ghost use Rattle.certs_revoked.specs.bcder_content.Exact.{ReadsOptAs};
@@ -100,7 +100,7 @@ impl RevokedCertificates {
         alloc: Global,
         cons: &mut Constructed<S>,
     ) -> Result<Option<Self>, DecodeError<S::Error>>
-        ensures reads { ReadsOptAs (λ l. l) (universal 16) AreRevoked
+        ensures reads { ReadsOptAs (λ l. l) sequence_tag AreRevoked
             (here S.rest cons.old) result (here S.rest cons.new) }
         ensures failed { OnErr result ((here S.rest cons.new).failed ≡ true) }
     {
@@ -160,7 +160,7 @@ impl RevokedCertificates {
     pub fn encode_ref(&self) -> RevokedValues<'_>
         ensures none { IfNone result (self.now ≡ []) }
         ensures some { IfSome result (λ v. self.now ≢ []) }
-        ensures tag { IfSome result (λ v. v.tag ≡ universal 16) }
+        ensures tag { IfSome result (λ v. v.tag ≡ sequence_tag) }
         ensures octets { IfSome result (λ v. ∥ SpellsEntries v.inner.now self.now ∥₁) }
     {
         if self.octets.as_slice().is_empty() {

@@ -1,7 +1,7 @@
 //! Entries, as they are written one after the other (RFC 5280 5.1.2.6).
 
 ghost use Rattle.std.specs.Prelude.{◌≡◌, ◌<◌, ◌^◌};
-ghost use Rattle.certs_revoked.specs.bcder_tree.Tags.{universal};
+ghost use Rattle.certs_revoked.specs.bcder_tree.Tags.{integer_tag, sequence_tag};
 ghost use Rattle.certs_revoked.specs.bcder_tree.Tree.{primitive};
 ghost use Rattle.certs_revoked.specs.certs_time.Forms.{WritesTime};
 
@@ -15,8 +15,8 @@ pub(crate) struct AsEntries;
 // What is written of an entry.
 fn values_of(entry: CrlEntry) -> EntryValues
     ensures small { entry.serial < 2 ^ 160 }
-    ensures tag { result.tag ≡ universal 16 }
-    ensures serial_tag { result.inner.0.tag ≡ universal 2 }
+    ensures tag { result.tag ≡ sequence_tag }
+    ensures serial_tag { result.inner.0.tag ≡ integer_tag }
     ensures serial { result.inner.0.content ≡ entry.serial }
     ensures time { WritesTime entry.time
         (primitive result.inner.1.tag result.inner.1.content.0) }

@@ -1,7 +1,7 @@
 -- Signed data whose message is of a grammar: certificates and lists are read so, from the octets that were kept.
 use Rattle.std.proofs.Common.{ℕ, Bool, List, [], refl, sym, ◌∙◌, subst}
 use Rattle.certs_signed.specs.bcder_tree.declared.mode.Mode.{Mode}
-use Rattle.certs_signed.specs.bcder_tree.Tags.{universal}
+use Rattle.certs_signed.specs.bcder_tree.Tags.{sequence_tag}
 use Rattle.certs_signed.specs.bcder_tree.Tree.{Tree, Spells}
 use Rattle.certs_signed.specs.bcder_tree.Front.{Front}
 use Rattle.certs_signed.proofs.of_bcder_tree.Trees.{one_tree}
@@ -23,7 +23,7 @@ abbrev pub WholeFields : Type 0 → Type 0
 WholeFields A = (List ℕ × A) × (Bool × (BitsValue × Unit {0}))
 
 abbrev pub IsWhole : {A : Type 0} → (Mode → Tree → A → Type 0) → Mode → Tree → WholeFields A → Type 0
-IsWhole Q m = Inside (universal 16) (Then (Kept m (Q m)) (Then IsAlgorithm (Then (OctetsOf bit_string_tag (IsBitString m)) End)))
+IsWhole Q m = Inside sequence_tag (Then (Kept m (Q m)) (Then IsAlgorithm (Then (OctetsOf bit_string_tag (IsBitString m)) End)))
 
 abbrev pub whole_fields : {A : Type 0} → SignedDataValue → A → WholeFields A
 whole_fields s x = ((s.message.octets, x), (s.signature.algorithm, (s.signature.bits, tt)))
@@ -86,7 +86,7 @@ whole_refused Q {now} {s = s} g refuses = record {
 -- By the octets: what is kept is of P, from its first octet to its last.
 abbrev pub SpellsWhole : {A : Type 0} → (Mode → List ℕ → A → Type 0) → Mode → List ℕ → WholeFields A → Type 0
 SpellsWhole P m =
-    Wraps m (universal 16)
+    Wraps m sequence_tag
     (Joins (WithOctets (P m))
     (Joins (SpellsOf m IsAlgorithm)
     (Joins (SpellsOf m (OctetsOf bit_string_tag (IsBitString m)))

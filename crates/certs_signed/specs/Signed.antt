@@ -1,7 +1,7 @@
 -- Signed data: octets that are signed as they stand, an algorithm, and a signature (RFC 5280 4.1.1, 5.1.1).
 use Rattle.std.proofs.Common.{ℕ, Bool, List, refl}
 use Rattle.certs_signed.specs.bcder_tree.declared.mode.Mode.{Mode}
-use Rattle.certs_signed.specs.bcder_tree.Tags.{TagValue, universal}
+use Rattle.certs_signed.specs.bcder_tree.Tags.{TagValue, sequence_tag}
 use Rattle.certs_signed.specs.bcder_content.Grammar.{Any, OctetsOf}
 use Rattle.certs_signed.specs.bcder_content.Kept.{CapturedValue}
 use Rattle.certs_signed.specs.bcder_content.Texts.{Joins, NoOctets, SpellsOf, WithOctets, Wraps}
@@ -51,7 +51,7 @@ abbrev pub signed_content : Forms Fields
 signed_content = both (kept any) (both x509_algorithm (last bits))
 
 abbrev pub signed : Form Fields
-signed = wrapped (universal 16) signed_content
+signed = wrapped sequence_tag signed_content
 
 -- The signed value by its octets, from the outermost down to the message, which is the very octets that stand there.
 abbrev pub OctetFields : Type 0
@@ -68,7 +68,7 @@ AreSignedOctets m =
     NoOctets))
 
 abbrev pub SpellsSignedData : Mode → List ℕ → OctetFields → Type 0
-SpellsSignedData m = Wraps m (universal 16) (AreSignedOctets m)
+SpellsSignedData m = Wraps m sequence_tag (AreSignedOctets m)
 
 -- The tags of encoders, and what they lend.
 abbrev pub Lent : Type 0
@@ -81,4 +81,4 @@ abbrev pub lends : TagValue → CapturedValue → List ℕ × Bool → TagValue 
 lends tag message algorithm bits = ((tag, (algorithm.0, bits.0)), (kept_message message, (algorithm.1, (bits.1, tt))))
 
 abbrev pub signed_lends : SignedDataValue → Lent
-signed_lends s = lends (universal 16) s.message (sha256_with_rsa, s.signature.algorithm) (bit_string_tag, s.signature.bits)
+signed_lends s = lends sequence_tag s.message (sha256_with_rsa, s.signature.algorithm) (bit_string_tag, s.signature.bits)

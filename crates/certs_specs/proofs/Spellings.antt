@@ -1,7 +1,7 @@
 -- Grammars of trees and of octets agree: what is put together alike of parts that agree does.
 use Rattle.std.proofs.Common.{◌≡◌, ◌≢◌, ◌↔◌, ℕ, Bool, List, refl, sym, ap, subst}
 use Rattle.certs_specs.specs.bcder_tree.declared.mode.Mode.TheVariants.{Ber, Der}
-use Rattle.certs_specs.specs.bcder_tree.Tags.{TagValue, universal}
+use Rattle.certs_specs.specs.bcder_tree.Tags.{TagValue, sequence_tag}
 use Rattle.certs_specs.specs.bcder_tree.Tree.{Tree, Trees, constructed, none, more, Spells, SpellsAll}
 use Rattle.certs_specs.proofs.of_bcder_tree.Trees.{one_tree}
 use Rattle.certs_specs.proofs.of_bcder_tree.Canonical.{one_spelling}
@@ -121,12 +121,12 @@ names = record { same = λ text x. (to text x, back text x) }
 
 -- What is signed, the algorithm and the signature, as a tree.
 abbrev IsSignedTree : {A : Type 0} → (Tree → A → Type 0) → Tree → (List ℕ × A) × (Bool × (BitsValue × Unit {0})) → Type 0
-IsSignedTree Q = Inside (universal 16) (Then (Kept Der Q) (Then IsAlgorithm (Then (OctetsOf bit_string_tag (IsBitString Der)) End)))
+IsSignedTree Q = Inside sequence_tag (Then (Kept Der Q) (Then IsAlgorithm (Then (OctetsOf bit_string_tag (IsBitString Der)) End)))
 
 signed : {A : Type 0} {Q : Tree → A → Type 0} {P : List ℕ → A → Type 0} → Agree Q P → Agree (IsSignedTree Q) (SpellsSigned Der P)
 signed e = wraps (joins (kept e) (joins itself (joins itself no_octets)))
 
-fields : Agree (Inside (universal 16) (IsTbsBody Der)) (SpellsFields Der)
+fields : Agree (Inside sequence_tag (IsTbsBody Der)) (SpellsFields Der)
 fields = wraps (joins itself (joins itself (joins itself (joins names (joins itself (joins names (joins itself (joins itself no_octets))))))))
 
 tbs : Agree (IsTbs Der) (SpellsTbs Der)
@@ -137,7 +137,7 @@ tbs = record {
   );
 }
 
-list_fields : Agree (Inside (universal 16) (IsTbsListBody Der)) (SpellsListFields Der)
+list_fields : Agree (Inside sequence_tag (IsTbsListBody Der)) (SpellsListFields Der)
 list_fields = wraps (joins itself (joins itself (joins names in_order)))
 
 tbs_list : Agree (IsTbsList Der) (SpellsTbsList Der)

@@ -4,7 +4,7 @@ use Rattle.std.proofs.Math.Seq.{drop-cons}
 use Rattle.std.proofs.lemmas.Bool.{cases_lt}
 use Rattle.std.proofs.lemmas.Bool.Decides.{nat_tests}
 use Rattle.std.proofs.lemmas.List.{drop_all}
-use Rattle.certs_time.specs.bcder_tree.Tags.{universal}
+use Rattle.certs_time.specs.bcder_tree.Tags.{generalized_time_tag, utc_time_tag}
 use Rattle.certs_time.specs.bcder_tree.Tree.{primitive}
 use Rattle.certs_time.specs.declared.text.Form.{Form}
 use Rattle.certs_time.specs.declared.text.Form.TheVariants.{Utc, Generalized}
@@ -166,10 +166,10 @@ tells_length Utc text s m = short_length text s m
 tells_length Generalized text s m = moment_length text s m
 
 -- What is written in the form that the year wants.
-pub short_tree : (c : Civil) → IsShortYear c.year → time_tree c ≡ primitive (universal 23) (short_text c)
+pub short_tree : (c : Civil) → IsShortYear c.year → time_tree c ≡ primitive utc_time_tag (short_text c)
 short_tree c y = let from = y.0 in let to = y.1 in grind (arith, nat_tests)
 
-pub whole_tree : (c : Civil) → (IsShortYear c.year → ⊥) → time_tree c ≡ primitive (universal 24) (moment_text c)
+pub whole_tree : (c : Civil) → (IsShortYear c.year → ⊥) → time_tree c ≡ primitive generalized_time_tag (moment_text c)
 whole_tree c n = elim (cases_lt c.year 1950) [
   | inl lt ↦ grind (arith, nat_tests)
   | inr le ↦ elim (cases_lt c.year 2050) [
@@ -189,7 +189,7 @@ written_short whole s m y = record {
   civil = m.civil;
   real = m.real;
   seconds_are = m.seconds_are;
-  tree_is = ap (λ (v : List ℕ). primitive (universal 23) (drop 2 v)) m.text_is ∙ ap (primitive (universal 23)) (drop_two m.civil) ∙ sym (short_tree m.civil y);
+  tree_is = ap (λ (v : List ℕ). primitive utc_time_tag (drop 2 v)) m.text_is ∙ ap (primitive utc_time_tag) (drop_two m.civil) ∙ sym (short_tree m.civil y);
 }
 
 pub written_whole : (whole : List ℕ) (s : ℕ) (m : IsMoment whole s) → (IsShortYear m.civil.year → ⊥) → WritesTime s (primitive (tag_of Generalized) (text_in Generalized whole))
@@ -197,5 +197,5 @@ written_whole whole s m n = record {
   civil = m.civil;
   real = m.real;
   seconds_are = m.seconds_are;
-  tree_is = ap (primitive (universal 24)) m.text_is ∙ sym (whole_tree m.civil n);
+  tree_is = ap (primitive generalized_time_tag) m.text_is ∙ sym (whole_tree m.civil n);
 }

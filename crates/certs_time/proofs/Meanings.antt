@@ -2,7 +2,7 @@
 use Rattle.std.proofs.Common.{◌≡◌, ℕ, ◌+◌, ◌/◌, ◌%◌, inl, inr, List, [], ◌∷◌, ◌++◌, Result, Ok, Err, refl, sym, ap, ◌∙◌, subst, arith}
 use Rattle.std.proofs.lemmas.Bool.{cases_lt}
 use Rattle.certs_time.specs.bcder_tree.declared.mode.Mode.{Mode}
-use Rattle.certs_time.specs.bcder_tree.Tags.{TagValue, universal}
+use Rattle.certs_time.specs.bcder_tree.Tags.{TagValue, sequence_tag}
 use Rattle.certs_time.specs.bcder_tree.Tree.{Tree, Trees, primitive, constructed, none}
 use Rattle.certs_time.specs.bcder_source.declared.error.DecodeError.{DecodeError}
 use Rattle.certs_time.specs.bcder_primitive.Values.{AnyOctets}
@@ -97,14 +97,14 @@ time_spelled m s tag content text p w =
     record { trees = spells.trees; is = time_alone p spells.is; spelled = spells.spelled }
 
 pub validity_spelled : (m : Mode) (a b : ℕ) (tag other : TagValue) (first second text : List ℕ) → WritesTime a (primitive tag first) → WritesTime b (primitive other second)
-    → WritesWrapped m (universal 16) (WritesBoth (WritesPlain m tag (λ octets. AnyOctets octets first)) (WritesPlain m other (λ octets. AnyOctets octets second))) text
+    → WritesWrapped m sequence_tag (WritesBoth (WritesPlain m tag (λ octets. AnyOctets octets first)) (WritesPlain m other (λ octets. AnyOctets octets second))) text
     → SpellsSome m (λ ts. Then IsValidity End ts ((a, (b, tt)), tt)) text
 validity_spelled m a b tag other first second text p q w =
     let spells = wrapped_spelled m (both_spelled m (plain_spelled m) (plain_spelled m)) text w in
     record {
       trees = spells.trees;
       is = record {
-        first = constructed (universal 16) spells.is.values;
+        first = constructed sequence_tag spells.is.values;
         others = none;
         whole = spells.is.whole;
         is = record { values = spells.is.values; whole = refl; is = time_then p (λ us h. time_alone q h) spells.is.is };

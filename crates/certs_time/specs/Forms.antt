@@ -1,6 +1,6 @@
 -- Times as values of trees: UTCTime and GeneralizedTime, validity, and what is written (X.680 46, 47; RFC 5280 4.1.2.5).
 use Rattle.std.specs.Prelude.{◌≡◌, ℕ, ◌<◌, ◌≤◌, ◌%◌, ◌&&◌, if◌then◌else◌, nat_le, nat_lt, List, [], ◌∷◌, ◌++◌, drop}
-use Rattle.certs_time.specs.bcder_tree.Tags.{TagValue, universal}
+use Rattle.certs_time.specs.bcder_tree.Tags.{TagValue, generalized_time_tag, sequence_tag, utc_time_tag}
 use Rattle.certs_time.specs.bcder_tree.Tree.{Tree, Trees, primitive}
 use Rattle.certs_time.specs.bcder_content.Grammar.{Inside, OctetsOf, OneOf, Then, End}
 use Rattle.certs_time.specs.Times.{Civil, IsReal, seconds_of, digits, moment_text, IsMoment}
@@ -23,18 +23,18 @@ pub record IsShortMoment (text : List ℕ) (seconds : ℕ) : Type 0 where
 
 -- Time ::= CHOICE { utcTime UTCTime, generalTime GeneralizedTime }, both primitive in every mode (RFC 5280 4.1)
 abbrev pub IsTime : Tree → ℕ → Type 0
-IsTime = OneOf (OctetsOf (universal 23) IsShortMoment) (OctetsOf (universal 24) IsMoment)
+IsTime = OneOf (OctetsOf utc_time_tag IsShortMoment) (OctetsOf generalized_time_tag IsMoment)
 
 -- Validity ::= SEQUENCE { notBefore Time, notAfter Time } (RFC 5280 4.1.2.5)
 abbrev pub IsValidityBody : Trees → ℕ × (ℕ × Unit {0}) → Type 0
 IsValidityBody = Then IsTime (Then IsTime End)
 
 abbrev pub IsValidity : Tree → ℕ × (ℕ × Unit {0}) → Type 0
-IsValidity = Inside (universal 16) IsValidityBody
+IsValidity = Inside sequence_tag IsValidityBody
 
 -- What is written of a moment: UTCTime from 1950 through 2049, GeneralizedTime before and after (RFC 5280 4.1.2.5).
 abbrev pub time_tree : Civil → Tree
-time_tree c = if nat_le 1950 c.year && nat_le c.year 2049 then primitive (universal 23) (short_text c) else primitive (universal 24) (moment_text c)
+time_tree c = if nat_le 1950 c.year && nat_le c.year 2049 then primitive utc_time_tag (short_text c) else primitive generalized_time_tag (moment_text c)
 
 pub record WritesTime (seconds : ℕ) (t : Tree) : Type 0 where
   pub civil : Civil
@@ -44,8 +44,8 @@ pub record WritesTime (seconds : ℕ) (t : Tree) : Type 0 where
 
 -- A form's tag, how many octets it has, and which moment they tell.
 abbrev pub tag_of : Form → TagValue
-tag_of Utc = universal 23
-tag_of Generalized = universal 24
+tag_of Utc = utc_time_tag
+tag_of Generalized = generalized_time_tag
 
 abbrev pub length_of : Form → ℕ
 length_of Utc = 13

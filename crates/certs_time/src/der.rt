@@ -1,7 +1,7 @@
 //! Moments that are read (RFC 5280 4.1.2.5).
 
 ghost use Rattle.std.specs.Prelude.{◌≡◌, ◌≢◌, ℕ, true, IfErr, OnErr};
-ghost use Rattle.certs_time.specs.bcder_tree.Tags.{universal};
+ghost use Rattle.certs_time.specs.bcder_tree.Tags.{generalized_time_tag, utc_time_tag};
 ghost use Rattle.certs_time.specs.bcder_source.Errors.{OnlyContent};
 ghost use Rattle.certs_time.specs.bcder_source.declared.error.DecodeError.TheVariants.{Memory};
 ghost use Rattle.certs_time.specs.bcder_primitive.Plain.{plain, ReadsOctetsAs};
@@ -53,7 +53,7 @@ fn moment<S: Source>(prim: &mut Primitive<S>, form: Form) -> Result<Time, Decode
 fn take_opt_utc_time<S: Source>(
     cons: &mut Constructed<S>,
 ) -> Result<Option<Time>, DecodeError<S::Error>>
-    ensures reads { ReadsOptAs (λ t. t) (universal 23) (OctetsOf (universal 23) IsShortMoment)
+    ensures reads { ReadsOptAs (λ t. t) utc_time_tag (OctetsOf utc_time_tag IsShortMoment)
         (here S.rest cons.old) result (here S.rest cons.new) }
     ensures failed { OnErr result ((here S.rest cons.new).failed ≡ true) }
     ensures no_memory { IfErr result (λ e. e ≢ Memory) }
@@ -81,8 +81,8 @@ impl Time {
     pub fn take_generalized_from<S: Source>(
         cons: &mut Constructed<S>,
     ) -> Result<Time, DecodeError<S::Error>>
-        ensures reads { ReadsAs (λ t. t) (OctetsOf (universal 24) IsMoment) (here S.rest cons.old)
-            result (here S.rest cons.new) }
+        ensures reads { ReadsAs (λ t. t) (OctetsOf generalized_time_tag IsMoment)
+            (here S.rest cons.old) result (here S.rest cons.new) }
         ensures failed { OnErr result ((here S.rest cons.new).failed ≡ true) }
         ensures no_memory { IfErr result (λ e. e ≢ Memory) }
     {

@@ -3,7 +3,7 @@
 ghost use Rattle.std.specs.Prelude.{◌≡◌, ◌↔◌, ℕ, IsTrue, List};
 ghost use Rattle.std.specs.declared.cmp.Ordering.TheVariants.{Equal};
 ghost use Rattle.certs_time.specs.bcder_tree.declared.mode.Mode.{Mode as ModeValue};
-ghost use Rattle.certs_time.specs.bcder_tree.Tags.{TagValue, universal};
+ghost use Rattle.certs_time.specs.bcder_tree.Tags.{TagValue, sequence_tag};
 ghost use Rattle.certs_time.specs.bcder_tree.Tree.{Tree, Trees, primitive};
 ghost use Rattle.certs_time.specs.bcder_primitive.Values.{AnyOctets};
 ghost use Rattle.certs_time.specs.bcder_content.Grammar.{End, One, Then};
@@ -46,7 +46,7 @@ pub fn validity_is_read_again()
     ensures { (not_before not_after : ℕ) (tag other : TagValue) (first second : List ℕ)
         (m : ModeValue) (text : List ℕ) → WritesTime not_before (primitive tag first)
         → WritesTime not_after (primitive other second)
-        → WritesWrapped m (universal 16)
+        → WritesWrapped m sequence_tag
         (WritesBoth (WritesPlain m tag (λ octets. AnyOctets octets first))
         (WritesPlain m other (λ octets. AnyOctets octets second))) text
         → ReadAgain m (λ ts. Then IsValidity End ts ((not_before, (not_after, tt)), tt)) text }

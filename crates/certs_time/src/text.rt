@@ -1,7 +1,7 @@
 //! The two texts of a moment: UTCTime's and GeneralizedTime's (RFC 5280 4.1.2.5).
 
 ghost use Rattle.std.specs.Prelude.{◌≡◌, ◌↔◌, ◌≢◌, ◌∷◌, ◌++◌, ℕ, List, length, IsTrue, IfSome, IfNone};
-ghost use Rattle.certs_time.specs.bcder_tree.Tags.{universal};
+ghost use Rattle.certs_time.specs.bcder_tree.Tags.{generalized_time_tag};
 ghost use Rattle.certs_time.specs.bcder_tree.Tree.{primitive};
 ghost use Rattle.certs_time.specs.Forms.{IsShortMoment, IsShortYear, Tells, WritesTime, length_of, tag_of, with_century_of};
 ghost use Rattle.certs_time.specs.Times.{Civil, IsMoment, IsReal, moment_text};
@@ -109,7 +109,7 @@ impl Time {
 
     /// The moment as a GeneralizedTime, whatever its year (RFC 5280 4.1.2.5.2).
     pub fn encode_generalized_time(self) -> GeneralizedTime
-        ensures tag { result.tag ≡ universal 24 }
+        ensures tag { result.tag ≡ generalized_time_tag }
         ensures text { IsMoment result.content.0 self }
     {
         encode::Primitive {

@@ -1,7 +1,7 @@
 //! Validity: from one moment to another, both included (RFC 5280 4.1.2.5).
 
 ghost use Rattle.std.specs.Prelude.{◌≡◌, ◌≢◌, ◌↔◌, ◌<◌, ◌≤◌, ℕ, true, IsOk, IfErr, IfNone, IfSome, OnErr, Err};
-ghost use Rattle.certs_time.specs.bcder_tree.Tags.{universal};
+ghost use Rattle.certs_time.specs.bcder_tree.Tags.{sequence_tag};
 ghost use Rattle.certs_time.specs.bcder_tree.Tree.{primitive};
 ghost use Rattle.certs_time.specs.bcder_source.declared.error.DecodeError.TheVariants.{Memory};
 ghost use Rattle.certs_time.specs.bcder_content.Exact.{ReadsAs, ReadsAllAs};
@@ -116,7 +116,7 @@ impl Validity {
 
     /// What is written of the validity.
     pub fn encode(self) -> ValidityValue
-        ensures tag { result.tag ≡ universal 16 }
+        ensures tag { result.tag ≡ sequence_tag }
         ensures not_before { WritesTime self.not_before
             (primitive result.inner.0.tag result.inner.0.content.0) }
         ensures not_after { WritesTime self.not_after

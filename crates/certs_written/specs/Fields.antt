@@ -1,7 +1,7 @@
 -- Fields of certificates and revocation lists as they are written (RFC 5280 4.1, 5.1).
 use Rattle.std.proofs.Common.{◌≡◌, ℕ, ◌^◌, Bool, List, subst}
 use Rattle.certs_written.specs.bcder_tree.declared.mode.Mode.{Mode}
-use Rattle.certs_written.specs.bcder_tree.Tags.{universal}
+use Rattle.certs_written.specs.bcder_tree.Tags.{sequence_tag}
 use Rattle.certs_written.specs.bcder_tree.Tree.{Tree, Trees, constructed, primitive}
 use Rattle.certs_written.specs.bcder_content.Kept.{CapturedValue}
 use Rattle.certs_written.specs.bcder_primitive.Values.{AnyOctets}
@@ -65,7 +65,7 @@ time seconds = record {
 
 -- Validity ::= SEQUENCE { notBefore Time, notAfter Time } (RFC 5280 4.1.2.5)
 abbrev pub validity : Period → Output
-validity p = inside (universal 16) (beside (time p.not_before) (time p.not_after))
+validity p = inside sequence_tag (beside (time p.not_before) (time p.not_after))
 
 -- CertificateSerialNumber ::= INTEGER (RFC 5280 4.1.2.2); a CRL's number too (5.2.3)
 abbrev pub serial : ℕ → Output

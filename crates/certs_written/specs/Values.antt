@@ -9,7 +9,7 @@ use Rattle.certs_written.specs.bcder_values.Laws.{both_one, both_spelled}
 use Rattle.certs_written.specs.bcder_values.Wraps.{wrapped_one, wrapped_spelled}
 use Rattle.certs_written.specs.bcder_written.Encoded.{AreBoth, IsWrapped, SpellsSome, WritesBoth, WritesWrapped}
 use Rattle.certs_written.specs.bcder_bits.Contents.{bit_string_tag}
-use Rattle.certs_written.specs.bcder_tree.Tags.{context, universal}
+use Rattle.certs_written.specs.bcder_tree.Tags.{context, sequence_tag}
 use Rattle.certs_written.specs.bcder.Kinds.{boolean, octets_at, oid}
 use Rattle.certs_key.specs.Forms.{raw}
 use Rattle.certs_written.specs.certs_basics.Identifiers as id
@@ -50,11 +50,11 @@ extended_if kind critical (Some value) = Some (extended kind critical value)
 -- Extension ::= SEQUENCE { extnID OBJECT IDENTIFIER, critical BOOLEAN DEFAULT FALSE, extnValue OCTET STRING } (RFC 5280 4.1)
 abbrev pub ExtensionTrees : List ℕ → Bool → (List ℕ → Type 0) → Mode → Trees → Type 0
 ExtensionTrees kind critical P m =
-    IsWrapped (universal 16) (AreBoth (oid.trees kind m) (AreBoth ((truth critical).trees m) (IsAround m octet_string_tag P)))
+    IsWrapped sequence_tag (AreBoth (oid.trees kind m) (AreBoth ((truth critical).trees m) (IsAround m octet_string_tag P)))
 
 abbrev pub ExtensionText : List ℕ → Bool → (List ℕ → Type 0) → Mode → List ℕ → Type 0
 ExtensionText kind critical P m =
-    WritesWrapped m (universal 16) (WritesBoth (oid.writes kind m) (WritesBoth ((truth critical).writes m) (WritesAround m octet_string_tag P)))
+    WritesWrapped m sequence_tag (WritesBoth (oid.writes kind m) (WritesBoth ((truth critical).writes m) (WritesAround m octet_string_tag P)))
 
 pub extension_spelled : (kind : List ℕ) (critical : Bool) (P : List ℕ → Type 0) (m : Mode) (text : List ℕ) → ExtensionText kind critical P m text
     → SpellsSome m (ExtensionTrees kind critical P m) text
@@ -79,15 +79,15 @@ extension_of f e = extension e.kind e.critical (f e.value)
 
 -- BasicConstraints ::= SEQUENCE { cA BOOLEAN DEFAULT FALSE } (RFC 6487 4.8.1)
 abbrev pub basic_constraints : Bool → Output
-basic_constraints ca = inside (universal 16) (truth ca)
+basic_constraints ca = inside sequence_tag (truth ca)
 
 -- SubjectKeyIdentifier ::= OCTET STRING (RFC 6487 4.8.2)
 abbrev pub subject_key : List ℕ → Output
-subject_key = of (octets_at (universal 4))
+subject_key = of (octets_at octet_string_tag)
 
 -- AuthorityKeyIdentifier ::= SEQUENCE { keyIdentifier [0] IMPLICIT OCTET STRING } (RFC 6487 4.8.3)
 abbrev pub authority_key : List ℕ → Output
-authority_key octets = inside (universal 16) (of (octets_at (context 0)) octets)
+authority_key octets = inside sequence_tag (of (octets_at (context 0)) octets)
 
 -- KeyUsage ::= BIT STRING (RFC 6487 4.8.4)
 abbrev pub key_usage : KeyUsage → Output
@@ -103,7 +103,7 @@ uri_name = of (octets_at (context 6))
 
 -- CRLDistributionPoints ::= SEQUENCE { SEQUENCE { distributionPoint [0] { fullName [0] { uri } } } } (RFC 6487 4.8.6)
 abbrev pub crl : List ℕ → Output
-crl uri = inside (universal 16) (inside (universal 16) (inside (context 0) (inside (context 0) (uri_name uri))))
+crl uri = inside sequence_tag (inside sequence_tag (inside (context 0) (inside (context 0) (uri_name uri))))
 
 -- AccessDescription ::= SEQUENCE { accessMethod OBJECT IDENTIFIER, accessLocation } (RFC 5280 4.2.2)
 pub record Located : Type 0 where
@@ -115,11 +115,11 @@ located method None = None
 located method (Some uri) = Some (record { method = method; uri = uri })
 
 abbrev pub location : Located → Output
-location l = inside (universal 16) (beside (of oid l.method) (uri_name l.uri))
+location l = inside sequence_tag (beside (of oid l.method) (uri_name l.uri))
 
 -- AuthorityInfoAccessSyntax ::= SEQUENCE { caIssuers } (RFC 6487 4.8.7)
 abbrev pub issuer_access : List ℕ → Output
-issuer_access uri = inside (universal 16) (location (record { method = id.ca_issuers; uri = uri }))
+issuer_access uri = inside sequence_tag (location (record { method = id.ca_issuers; uri = uri }))
 
 -- SubjectInfoAccessSyntax: repository, manifest, signed object and notification, those that there are (RFC 6487 4.8.8, RFC 8182 3.2)
 abbrev pub locations : AccessValue → Option Located × (Option Located × (Option Located × Option Located))
@@ -129,7 +129,7 @@ locations a = (
 )
 
 abbrev pub all_locations : Option Located × (Option Located × (Option Located × Option Located)) → Output
-all_locations l = inside (universal 16)
+all_locations l = inside sequence_tag
     (beside (perhaps location l.0) (beside (perhaps location l.1.0) (beside (perhaps location l.1.1.0) (perhaps location l.1.1.1))))
 
 abbrev pub subject_access : AccessValue → Output
@@ -148,7 +148,7 @@ some_access a = if has_any a then Some a else None
 
 -- CertificatePolicies ::= SEQUENCE { SEQUENCE { policyIdentifier } } (RFC 6487 4.8.9)
 abbrev pub policies : Overclaim → Output
-policies policy = inside (universal 16) (inside (universal 16) (of oid (policy_octets policy)))
+policies policy = inside sequence_tag (inside sequence_tag (of oid (policy_octets policy)))
 
 -- IPAddrBlocks of the families that aren't missing (RFC 3779 2.2.3)
 abbrev pub addresses : FamilyChoices → Output

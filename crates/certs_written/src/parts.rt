@@ -1,7 +1,7 @@
 //! What values of extensions are put together from.
 
 ghost use Rattle.std.specs.Prelude.{◌≡◌};
-ghost use Rattle.certs_written.specs.bcder_tree.Tags.{context, universal};
+ghost use Rattle.certs_written.specs.bcder_tree.Tags.{context, sequence_tag};
 ghost use Rattle.certs_written.specs.bcder_tree.Strings.{octet_string_tag};
 ghost use Rattle.certs_written.specs.bcder_tree.declared.mode.Mode.TheVariants.{Der};
 ghost use Rattle.certs_written.specs.bcder_octets.Wrapping.{IsAround, WritesAround, around_one, around_spelled};
@@ -20,9 +20,9 @@ use std::io::Write;
 pub struct Sequence<V>(pub V);
 
 impl<V: Values> Values for Sequence<V> {
-    ghost trees = { λ x m. IsWrapped (universal 16) (V.trees x.0 m) };
+    ghost trees = { λ x m. IsWrapped sequence_tag (V.trees x.0 m) };
 
-    ghost writes = { λ x m. WritesWrapped m (universal 16) (V.writes x.0 m) };
+    ghost writes = { λ x m. WritesWrapped m sequence_tag (V.writes x.0 m) };
 
     fn encoded_len(&self, mode: Mode) -> Result<usize, EncodeError> {
         let value = Constructed {

@@ -2,7 +2,7 @@
 use Rattle.std.specs.Prelude.{◌≡◌, ◌⊎◌, ℕ, ◌^◌, Bool, true, false, List, ◌++◌, drop, length}
 use Rattle.example_c.specs.bcder_tree.declared.mode.Mode.TheVariants.{Der}
 use Rattle.example_c.specs.bcder_tree.Front.{Front}
-use Rattle.example_c.specs.bcder_tree.Tags.{universal}
+use Rattle.example_c.specs.bcder_tree.Tags.{integer_tag}
 use Rattle.example_c.specs.bcder_tree.Tree.{Tree}
 use Rattle.example_c.specs.bcder_content.Grammar.{OctetsOf}
 use Rattle.example_c.specs.bcder_primitive.Values.{IsUnsigned}
@@ -10,7 +10,7 @@ use Rattle.bcder.specs.Kinds.{unsigned}
 
 -- INTEGER (0..18446744073709551615) (X.690 8.3)
 abbrev pub IsNumber : Tree → ℕ → Type 0
-IsNumber = OctetsOf (universal 2) (IsUnsigned (2 ^ 64))
+IsNumber = OctetsOf integer_tag (IsUnsigned (2 ^ 64))
 
 -- The octets begin with the number, in DER; what is after it may be anything.
 pub record Says (octets : List ℕ) (n : ℕ) : Type 0 where

@@ -1,6 +1,6 @@
 -- Tallies: SEQUENCE { station INTEGER (0..65535), count INTEGER (0..18446744073709551615), closed BOOLEAN }.
 use Rattle.std.specs.Prelude.{ℕ, ◌^◌, Bool}
-use Rattle.example_codec.specs.bcder_tree.Tags.{TagValue, universal}
+use Rattle.example_codec.specs.bcder_tree.Tags.{TagValue, boolean_tag, integer_tag, sequence_tag}
 use Rattle.example_codec.specs.bcder_values.Forms.{Form, Forms, both, last, wrapped}
 use Rattle.bcder.specs.Kinds.{boolean, boolean_at, unsigned, unsigned_at}
 use Rattle.example_codec.specs.declared.tally.Tally.{Tally}
@@ -16,7 +16,7 @@ abbrev pub tally_body : Forms Fields
 tally_body = both (unsigned (2 ^ 16)) (both (unsigned (2 ^ 64)) (last boolean))
 
 abbrev pub tally : Form Fields
-tally = wrapped (universal 16) tally_body
+tally = wrapped sequence_tag tally_body
 
 -- The tags of encoders, and what they lend.
 abbrev pub Lent : Type 0
@@ -29,4 +29,4 @@ abbrev pub lends : TagValue → TagValue × ℕ → TagValue × ℕ → TagValue
 lends t a b d = ((t, (a.0, (b.0, d.0))), (a.1, (b.1, (d.1, tt))))
 
 abbrev pub tally_lends : Tally → Lent
-tally_lends t = lends (universal 16) (universal 2, t.station) (universal 2, t.count) (universal 1, t.closed)
+tally_lends t = lends sequence_tag (integer_tag, t.station) (integer_tag, t.count) (boolean_tag, t.closed)

@@ -5,7 +5,7 @@ use Rattle.std.specs.Coded.{Coded-set, coded_list, coded_ℕ}
 use Rattle.objects_aspa.specs.bcder_tree.declared.mode.Mode.{Mode}
 use Rattle.objects_aspa.specs.bcder_tree.declared.mode.Mode.TheVariants.{Der}
 use Rattle.objects_aspa.specs.bcder_tree.Front.{Front}
-use Rattle.objects_aspa.specs.bcder_tree.Tags.{universal}
+use Rattle.objects_aspa.specs.bcder_tree.Tags.{sequence_tag}
 use Rattle.objects_aspa.specs.bcder_tree.Tree.{SpellsAll, Tree}
 use Rattle.objects_aspa.specs.bcder_source.declared.error.DecodeError.{DecodeError}
 use Rattle.objects_aspa.specs.bcder_source.Views.{Reading}
@@ -72,7 +72,7 @@ captured_few {c = c} customer l x h = subst (λ (k : List ℕ). length k ≤ 100
 
 -- The fields are those of an attestation, and the other way round.
 
-is_aspa : (m : Mode) (t : Tree) (a : Aspa) → Inside (universal 16) (AreFields m) t (fields_of a) → IsAspa t a
+is_aspa : (m : Mode) (t : Tree) (a : Aspa) → Inside sequence_tag (AreFields m) t (fields_of a) → IsAspa t a
 is_aspa m t a p =
     let behind = p.is.rest in
     let list = behind.rest.is in
@@ -107,10 +107,10 @@ is_aspa m t a p =
       meets = list.is.lawful;
     }
 
-are_fields : (m : Mode) (t : Tree) (a : Aspa) → IsAspa t a → Inside (universal 16) (AreFields m) t (fields_of a)
-are_fields m t a p = subst (λ (b : Aspa). IsLawful b → Inside (universal 16) (AreFields m) t (fields_of b)) (sym p.is.means) at p.meets
+are_fields : (m : Mode) (t : Tree) (a : Aspa) → IsAspa t a → Inside sequence_tag (AreFields m) t (fields_of a)
+are_fields m t a p = subst (λ (b : Aspa). IsLawful b → Inside sequence_tag (AreFields m) t (fields_of b)) (sym p.is.means) at p.meets
   where
-    at : IsLawful (aspa_of p.is.x) → Inside (universal 16) (AreFields m) t (fields_of (aspa_of p.is.x))
+    at : IsLawful (aspa_of p.is.x) → Inside sequence_tag (AreFields m) t (fields_of (aspa_of p.is.x))
     at lawful =
         let q = p.is.is in
         let behind = q.is.rest in
@@ -139,14 +139,14 @@ are_fields m t a p = subst (λ (b : Aspa). IsLawful b → Inside (universal 16) 
           };
         }
 
-aspa_gives : {v w : ValuesLeft} {a : Aspa} → Gives (Inside (universal 16) (AreFields v.mode)) v (fields_of a) w → Gives IsAspa v a w
+aspa_gives : {v w : ValuesLeft} {a : Aspa} → Gives (Inside sequence_tag (AreFields v.mode)) v (fields_of a) w → Gives IsAspa v a w
 aspa_gives {v} {a = a} g = record { tree = g.tree; is = is_aspa v.mode g.tree a g.is; took = g.took }
 
-aspa_lacks : {v : ValuesLeft} → Lacks (Inside (universal 16) (AreFields v.mode)) v → Lacks IsAspa v
+aspa_lacks : {v : ValuesLeft} → Lacks (Inside sequence_tag (AreFields v.mode)) v → Lacks IsAspa v
 aspa_lacks {v} l = record { none = λ t a p ahead. l.none t (fields_of a) (are_fields v.mode t a p) ahead }
 
 -- A reader of the fields is one of the attestation.
-pub aspa_reads : {E : Type 0} (v w : ValuesLeft) (r : Result Aspa (DecodeError E)) → ReadsAs fields_of (Inside (universal 16) (AreFields v.mode)) v r w → ReadsAs (λ a. a) IsAspa v r w
+pub aspa_reads : {E : Type 0} (v w : ValuesLeft) (r : Result Aspa (DecodeError E)) → ReadsAs fields_of (Inside sequence_tag (AreFields v.mode)) v r w → ReadsAs (λ a. a) IsAspa v r w
 aspa_reads v w (Ok a) g = aspa_gives g
 aspa_reads v w (Err e) l = weaker e aspa_lacks l
 

@@ -1,7 +1,7 @@
 -- Providers that are read one by one: the loop over them, and where it stops.
 use Rattle.std.proofs.Common.{◌≡◌, ℕ, zero, suc, ◌≤◌, List, [], ◌∷◌, ◌++◌, length, Result, refl, sym, ap, ◌∙◌, subst, append-nil, arith}
 use Rattle.std.specs.Result.{IsErr, IsErrAnd}
-use Rattle.objects_aspa.specs.bcder_tree.Tags.{TagValue, universal}
+use Rattle.objects_aspa.specs.bcder_tree.Tags.{TagValue, integer_tag}
 use Rattle.objects_aspa.specs.bcder_tree.Tree.{Trees}
 use Rattle.objects_aspa.specs.bcder_source.Errors.{OnContent}
 use Rattle.objects_aspa.specs.bcder_source.declared.error.DecodeError.{DecodeError}
@@ -21,7 +21,7 @@ use Rattle.objects_aspa.specs.Fields.{AreAny, whichever_lawful}
 use Rattle.objects_aspa.specs.Orders.{IsRunOf}
 use Rattle.objects_aspa.proofs.Orders.{follow_lawful, run_of}
 
-pub as_id_tagged : Tagged (universal 2) IsAsId
+pub as_id_tagged : Tagged integer_tag IsAsId
 as_id_tagged = octets_tagged _ _
 
 -- No run of providers is left: no lawful list is.
@@ -39,7 +39,7 @@ run_stop tag c {start} {now} {new} {f = f} {r} e h a l = record {
 }
 
 -- None was read, and none is next.
-pub run_empty : (c : ℕ) {start now new : ValuesLeft} (run : Run) → run.count ≡ 0 → Gathered (λ m. IsAsId) (IsRunOf c) start now run → (new ≡ now) × Unlike now (universal 2)
+pub run_empty : (c : ℕ) {start now new : ValuesLeft} (run : Run) → run.count ≡ 0 → Gathered (λ m. IsAsId) (IsRunOf c) start now run → (new ≡ now) × Unlike now integer_tag
     → LacksAll (Gathers IsAsId (whichever_lawful c)) start
 run_empty c {start} {now} run none h u = record {
   none = λ ts x p w.

@@ -9,7 +9,7 @@ use Rattle.std.proofs.Math.Logic.{∥∥₁_elim}
 use Rattle.std.specs.declared.convert.Infallible.{Infallible}
 use Rattle.objects_aspa.specs.bcder_tree.declared.mode.Mode.{Mode}
 use Rattle.objects_aspa.specs.bcder_tree.Front.{Front}
-use Rattle.objects_aspa.specs.bcder_tree.Tags.{universal}
+use Rattle.objects_aspa.specs.bcder_tree.Tags.{integer_tag}
 use Rattle.objects_aspa.specs.bcder_tree.Tree.{SpellsAll, Tree, Trees, none, more}
 use Rattle.objects_aspa.specs.bcder_source.Errors.{OnContent}
 use Rattle.objects_aspa.specs.bcder_source.Views.{Reading, left}
@@ -38,7 +38,7 @@ use Rattle.objects_aspa.proofs.Contents.{listing_is}
 use Rattle.objects_aspa.proofs.Runs.{as_id_tagged}
 
 -- What was read, if anything, are values.
-pub number_taken : (v w : ValuesLeft) (o : Option Number) → Perhaps (λ a. a.value) (universal 2) IsAsId v o w → (ts : Trees) × TookAll v ts w
+pub number_taken : (v w : ValuesLeft) (o : Option Number) → Perhaps (λ a. a.value) integer_tag IsAsId v o w → (ts : Trees) × TookAll v ts w
 number_taken v w None h = (none, subst (λ (z : ValuesLeft). TookAll v none z) (sym h.0) (took_none h.1.sound))
 number_taken v w (Some a) g = (more g.tree none, took_one g.took)
 
@@ -92,12 +92,12 @@ read_first m o n end (k ∷ others) g s =
     (others, subst (λ (r : List ℕ). SpellsAsIds (captured m r) others) e.1 f.spelled, ap (λ (z : ℕ). z ∷ others) same)
 
 -- None was next: the octets spell none.
-none_there : {m : Mode} {o : List ℕ} → Unlike (fresh m o) (universal 2) → (ns : List ℕ) → SpellsAsIds (captured m o) ns → ns ≡ []
+none_there : {m : Mode} {o : List ℕ} → Unlike (fresh m o) integer_tag → (ns : List ℕ) → SpellsAsIds (captured m o) ns → ns ≡ []
 none_there u [] s = refl
 none_there {m} {o} u (n ∷ others) s = let f = firsts m o n others s in absurd (u.none f.tree (front_ahead f.front) (as_id_tagged.tagged f.tree n f.is))
 
 -- Octets that spell AS numbers aren't refused.
-none_refused : {m : Mode} {o : List ℕ} (e : DecodeError Infallible) → OnContent e (LacksTagged (universal 2) IsAsId (fresh m o)) → e ≢ Memory → (ns : List ℕ) → SpellsAsIds (captured m o) ns → ns ≡ []
+none_refused : {m : Mode} {o : List ℕ} (e : DecodeError Infallible) → OnContent e (LacksTagged integer_tag IsAsId (fresh m o)) → e ≢ Memory → (ns : List ℕ) → SpellsAsIds (captured m o) ns → ns ≡ []
 none_refused e l some [] s = refl
 none_refused {m} {o} (Content x pos) l some (n ∷ others) s = let f = firsts m o n others s in absurd (l.lacks.none f.tree n f.is (front_ahead f.front))
 none_refused (Source x) l some (n ∷ others) s = elim x [ ]
@@ -106,10 +106,10 @@ none_refused Memory l some (n ∷ others) s = absurd (some refl)
 module _ {F : Type 0} {g : Reader F (Constructed Reading) (Option Number) Infallible} {op : F} {m : Mode} {o : List ℕ} where
   -- An AS number was read: it is the first, and the octets after it spell the others.
   pub split_some : (x : Option Number) (a : Number) (n count : ℕ) (behind : List ℕ) → x ≡ Some a → n ≡ a.value → ReadsFront g op m o x count → behind ≡ drop count o
-      → ((p q : MutBor (Constructed Reading)) → g.post op (p, tt) (Ok x, (q, tt)) → Perhaps (λ (a : Number). a.value) (universal 2) IsAsId (here rest_of p.now) x (here rest_of q.now))
+      → ((p q : MutBor (Constructed Reading)) → g.post op (p, tt) (Ok x, (q, tt)) → Perhaps (λ (a : Number). a.value) integer_tag IsAsId (here rest_of p.now) x (here rest_of q.now))
       → (ns : List ℕ) → SpellsAsIds (captured m o) ns → (others : List ℕ) × SpellsAsIds (captured m behind) others × (ns ≡ n ∷ others)
   split_some x a n count behind is value h e each ns s =
-      let gives : Gives IsAsId (fresh m o) a.value h.end = there _ _ x is (ran_met (λ v w. Perhaps (λ (a : Number). a.value) (universal 2) IsAsId v x w) each h.ran) in
+      let gives : Gives IsAsId (fresh m o) a.value h.end = there _ _ x is (ran_met (λ v w. Perhaps (λ (a : Number). a.value) integer_tag IsAsId v x w) each h.ran) in
       let long : length gives.took.text ≡ count = ap length (same_text gives.took.goes h.took.goes) ∙ h.long in
       let whole : o ≡ gives.took.text ++ left (octets h.end) = left_moved gives.took.goes.moved in
       let rest : left (octets h.end) ≡ behind = sym (drop-append_seam gives.took.text (left (octets h.end))) ∙ ap (λ (n : ℕ). drop n (gives.took.text ++ left (octets h.end))) long ∙ ap (drop count) (sym whole) ∙ sym e in
@@ -118,16 +118,16 @@ module _ {F : Type 0} {g : Reader F (Constructed Reading) (Option Number) Infall
 
   -- None was there: the octets spell none.
   pub split_none : (x : Option Number) (count : ℕ) → x ≡ None → ReadsFront g op m o x count
-      → ((p q : MutBor (Constructed Reading)) → g.post op (p, tt) (Ok x, (q, tt)) → Perhaps (λ (a : Number). a.value) (universal 2) IsAsId (here rest_of p.now) x (here rest_of q.now))
+      → ((p q : MutBor (Constructed Reading)) → g.post op (p, tt) (Ok x, (q, tt)) → Perhaps (λ (a : Number). a.value) integer_tag IsAsId (here rest_of p.now) x (here rest_of q.now))
       → (ns : List ℕ) → SpellsAsIds (captured m o) ns → ns ≡ []
-  split_none x count is h each = none_there (absent _ _ x is (ran_met (λ v w. Perhaps (λ (a : Number). a.value) (universal 2) IsAsId v x w) each h.ran)).1
+  split_none x count is h each = none_there (absent _ _ x is (ran_met (λ v w. Perhaps (λ (a : Number). a.value) integer_tag IsAsId v x w) each h.ran)).1
 
   -- The octets were refused: they spell none.
   pub split_refused : (e : DecodeError Infallible) → RefusesFront g op m o e
-      → ((p q : MutBor (Constructed Reading)) → g.post op (p, tt) (Err e, (q, tt)) → OnContent e (LacksTagged (universal 2) IsAsId (here rest_of p.now)) × (e ≢ Memory))
+      → ((p q : MutBor (Constructed Reading)) → g.post op (p, tt) (Err e, (q, tt)) → OnContent e (LacksTagged integer_tag IsAsId (here rest_of p.now)) × (e ≢ Memory))
       → (ns : List ℕ) → SpellsAsIds (captured m o) ns → ns ≡ []
   split_refused e h each =
-      let told = ran_met (λ v w. OnContent e (LacksTagged (universal 2) IsAsId v) × (e ≢ Memory)) each h.ran in
+      let told = ran_met (λ v w. OnContent e (LacksTagged integer_tag IsAsId v) × (e ≢ Memory)) each h.ran in
       none_refused e told.0 told.1
 
 -- Answers that are there, or aren't.

@@ -1,7 +1,7 @@
 -- A provider attestation, by its fields (draft-ietf-sidrops-aspa-profile 3).
 use Rattle.std.specs.Prelude.{ℕ, List}
 use Rattle.objects_aspa.specs.bcder_tree.declared.mode.Mode.{Mode}
-use Rattle.objects_aspa.specs.bcder_tree.Tags.{universal}
+use Rattle.objects_aspa.specs.bcder_tree.Tags.{sequence_tag}
 use Rattle.objects_aspa.specs.bcder_tree.Tree.{Tree, Trees}
 use Rattle.objects_aspa.specs.bcder_content.Grammar.{End, Inside, Many, Then}
 use Rattle.objects_aspa.specs.bcder_content.Words.{Gathers, ThenBy}
@@ -36,7 +36,7 @@ AreAny customer m = Gathers IsAsId (whichever_lawful customer)
 
 -- SEQUENCE (SIZE(1..MAX)) OF ASID, of the customer's providers.
 abbrev pub IsProviders : ℕ → Tree → List ℕ → Type 0
-IsProviders customer = Inside (universal 16) (AreProviders customer)
+IsProviders customer = Inside sequence_tag (AreProviders customer)
 
 -- What stands after the customer.
 abbrev pub AreBehind : ℕ → Trees → List ℕ × Unit {0} → Type 0

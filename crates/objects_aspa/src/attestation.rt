@@ -1,7 +1,7 @@
 //! Contents of provider attestations (draft-ietf-sidrops-aspa-profile 3).
 
 ghost use Rattle.std.specs.Prelude.{◌≡◌, true, IfOk, OnErr};
-ghost use Rattle.objects_aspa.specs.bcder_tree.Tags.{context, universal};
+ghost use Rattle.objects_aspa.specs.bcder_tree.Tags.{context, integer_tag, sequence_tag};
 ghost use Rattle.objects_forms.specs.Aspas.{IsAspa};
 ghost use Rattle.objects_forms.specs.Contents.{IsVersion};
 ghost use Rattle.objects_aspa.specs.bcder_content.Exact.{ReadsAs};
@@ -146,13 +146,13 @@ impl AsProviderAttestation {
 
     /// What is written of the attestation.
     pub fn encode_ref(&self) -> AttestationValues<'_>
-        ensures tag { result.tag ≡ universal 16 }
+        ensures tag { result.tag ≡ sequence_tag }
         ensures version_tag { result.inner.0.tag ≡ context 0 }
-        ensures number_tag { result.inner.0.inner.tag ≡ universal 2 }
+        ensures number_tag { result.inner.0.inner.tag ≡ integer_tag }
         ensures number { result.inner.0.inner.content ≡ 1 }
-        ensures customer_tag { result.inner.1.tag ≡ universal 2 }
+        ensures customer_tag { result.inner.1.tag ≡ integer_tag }
         ensures customer { result.inner.1.content.value ≡ self.now.customer }
-        ensures providers_tag { result.inner.2.tag ≡ universal 16 }
+        ensures providers_tag { result.inner.2.tag ≡ sequence_tag }
         ensures providers { ∥ SpellsAsIds result.inner.2.inner.now self.now.providers ∥₁ }
     {
         let version = encode::Primitive {

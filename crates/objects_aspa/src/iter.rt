@@ -2,7 +2,7 @@
 
 ghost use Rattle.std.specs.Prelude.{◌≡◌, ◌≢◌, ◌∷◌, [], ℕ, List, IfErr, IfNone, IfSome};
 ghost use Rattle.std.specs.Iterator.{YieldsFirstBy, item_count};
-ghost use Rattle.objects_aspa.specs.bcder_tree.Tags.{universal};
+ghost use Rattle.objects_aspa.specs.bcder_tree.Tags.{integer_tag};
 ghost use Rattle.objects_aspa.specs.bcder_source.declared.error.DecodeError.TheVariants.{Memory};
 ghost use Rattle.objects_aspa.specs.bcder_content.Captures.{rest_of};
 ghost use Rattle.objects_aspa.specs.bcder_content.Exact.{ReadsOptAs};
@@ -45,7 +45,7 @@ fn split_first(octets: &[u8], mode: Mode) -> Option<(u32, &[u8])>
         octets,
         mode,
         |cons|
-            ensures reads { ReadsOptAs (λ a. a.value) (universal 2) IsAsId
+            ensures reads { ReadsOptAs (λ a. a.value) integer_tag IsAsId
                 (here rest_of cons.old) result (here rest_of cons.new) }
             ensures no_memory { IfErr result (λ e. e ≢ Memory) }
         { Asn::take_opt_from(cons) },

@@ -4,7 +4,7 @@ use Rattle.std.proofs.lemmas.List.Elements.{All-nil, All-cons, All-head, All-tai
 use Rattle.std.proofs.lemmas.Slice.Eq.{bytes_eq-Decides}
 use Rattle.std.specs.List.{cons_option}
 use Rattle.objects_attributes.specs.bcder_tree.declared.mode.Mode.{Mode}
-use Rattle.objects_attributes.specs.bcder_tree.Tags.{universal}
+use Rattle.objects_attributes.specs.bcder_tree.Tags.{oid_tag}
 use Rattle.objects_attributes.specs.bcder_tree.Tree.{Tree, Trees}
 use Rattle.objects_attributes.specs.bcder_tree.Strings.{IsOctetString, octet_string_tag}
 use Rattle.objects_attributes.specs.bcder_content.Grammar.{ManyCases, OctetsOf, One}
@@ -137,7 +137,7 @@ module _ {A : Type 0} {m : Mode} {k : Kind} {f : Said → Option A} {Q : Tree �
 
 -- The four kinds.
 abbrev IsType : Tree → Oid (List ℕ) → Type 0
-IsType t oid = OctetsOf (universal 6) IsOid t oid.0
+IsType t oid = OctetsOf oid_tag IsOid t oid.0
 
 tells_type : {m : Mode} → Tells m kinds.ContentType type_in IsType
 tells_type = record {
@@ -192,12 +192,12 @@ tells_seconds = record {
     other (BinarySigningTime seconds) n = absurd (n refl)
 
 -- The content type, as octets and as an identifier.
-type_octets : (all : List Attribute) (octets : List ℕ) → IsOnce IsType all (Some (record { 0 = octets })) → IsOnce (OctetsOf (universal 6) IsOid) all (Some octets)
+type_octets : (all : List Attribute) (octets : List ℕ) → IsOnce IsType all (Some (record { 0 = octets })) → IsOnce (OctetsOf oid_tag IsOid) all (Some octets)
 type_octets [] octets h = absurd h
 type_octets (a ∷ []) octets h = h
 type_octets (a ∷ b ∷ all) octets h = absurd h
 
-octets_type : (all : List Attribute) (octets : List ℕ) → IsOnce (OctetsOf (universal 6) IsOid) all (Some octets) → IsOnce IsType all (Some (record { 0 = octets }))
+octets_type : (all : List Attribute) (octets : List ℕ) → IsOnce (OctetsOf oid_tag IsOid) all (Some octets) → IsOnce IsType all (Some (record { 0 = octets }))
 octets_type [] octets h = absurd h
 octets_type (a ∷ []) octets h = h
 octets_type (a ∷ b ∷ all) octets h = absurd h

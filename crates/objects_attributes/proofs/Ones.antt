@@ -1,7 +1,7 @@
 -- Attributes are read in one way, and so is what they say together.
 use Rattle.std.proofs.Common.{◌≡◌, List, [], ◌∷◌, Option, filter_map, sym, ◌∙◌}
 use Rattle.objects_attributes.specs.bcder_tree.declared.mode.Mode.{Mode}
-use Rattle.objects_attributes.specs.bcder_tree.Tags.{universal}
+use Rattle.objects_attributes.specs.bcder_tree.Tags.{oid_tag}
 use Rattle.objects_attributes.specs.bcder_tree.Strings.{IsOctetString, octet_string_tag}
 use Rattle.objects_attributes.specs.bcder_content.Grammar.{OctetsOf, One, OneAll}
 use Rattle.objects_attributes.specs.bcder_content.Words.{Gathers, Means}
@@ -21,7 +21,7 @@ use Rattle.objects_attributes.specs.Said.{IsKindOid, IsSaid, IsValueOf}
 use Rattle.objects_attributes.specs.Slots.{AreSlots, IsOnly, digest_in, seconds_in, time_in, type_in}
 use Rattle.objects_attributes.proofs.Single.{same_kind}
 
-pub oid_value_one : One (OctetsOf (universal 6) IsOid)
+pub oid_value_one : One (OctetsOf oid_tag IsOid)
 oid_value_one = octets_one oid_one
 
 pub string_value_one : (m : Mode) → One (IsOctetString m)
@@ -33,7 +33,7 @@ time_value_one = time_one
 pub seconds_one : One IsBinaryTime
 seconds_one = octets_one unsigned_one
 
-pub kind_one : One (Means (OctetsOf (universal 6) IsOid) IsKindOid)
+pub kind_one : One (Means (OctetsOf oid_tag IsOid) IsKindOid)
 kind_one = means_one oid_value_one (λ x k l p q. same_kind k l (sym p ∙ q))
 
 value_one : (m : Mode) (k : Kind) → One (IsValueOf m k)

@@ -1,7 +1,7 @@
 -- One attribute by its identifier and its value, and what it says.
 use Rattle.std.proofs.Common.{◌≡◌, ℕ, Bool, List, Result, Err, refl, sym, ap, ◌∙◌, subst}
 use Rattle.objects_attributes.specs.bcder_tree.declared.mode.Mode.{Mode}
-use Rattle.objects_attributes.specs.bcder_tree.Tags.{universal}
+use Rattle.objects_attributes.specs.bcder_tree.Tags.{sequence_tag}
 use Rattle.objects_attributes.specs.bcder_tree.Tree.{Tree, Trees}
 use Rattle.objects_attributes.specs.bcder_content.Grammar.{Tagged}
 use Rattle.objects_attributes.specs.bcder_content.Words.{ThenBy}
@@ -22,7 +22,7 @@ use Rattle.objects_attributes.specs.declared.said.Said.{Said}
 use Rattle.objects_attributes.specs.declared.said.Said.TheVariants.{ContentType, MessageDigest, SigningTime, BinarySigningTime}
 use Rattle.objects_attributes.specs.Said.{IsSaid, IsValueOf, kind_of, octets_of}
 
-pub said_tagged : (m : Mode) → Tagged (universal 16) (IsSaid m)
+pub said_tagged : (m : Mode) → Tagged sequence_tag (IsSaid m)
 said_tagged m = as_tagged (inside_tagged _ _)
 
 -- The field that says what follows is none that it can be.

@@ -1,7 +1,7 @@
 -- What one attribute says, by its kind (RFC 5652 5.3, 11, RFC 6019 3).
 use Rattle.std.specs.Prelude.{◌≡◌, ℕ, List}
 use Rattle.objects_attributes.specs.bcder_tree.declared.mode.Mode.{Mode}
-use Rattle.objects_attributes.specs.bcder_tree.Tags.{universal}
+use Rattle.objects_attributes.specs.bcder_tree.Tags.{oid_tag, sequence_tag, set_tag}
 use Rattle.objects_attributes.specs.bcder_tree.Tree.{Tree, Trees}
 use Rattle.objects_attributes.specs.bcder_tree.Strings.{IsOctetString}
 use Rattle.objects_attributes.specs.bcder_oid.Identifiers.{IsOid}
@@ -33,7 +33,7 @@ as_type octets = ContentType (record { 0 = octets })
 
 -- The value of an attribute of that kind: an identifier, a string of octets, a time, or a number of seconds.
 abbrev pub IsValueOf : Mode → Kind → Tree → Said → Type 0
-IsValueOf m kinds.ContentType = As (OctetsOf (universal 6) IsOid) as_type
+IsValueOf m kinds.ContentType = As (OctetsOf oid_tag IsOid) as_type
 IsValueOf m kinds.MessageDigest = As (IsOctetString m) MessageDigest
 IsValueOf m kinds.SigningTime = As IsTime SigningTime
 IsValueOf m kinds.BinarySigningTime = As IsBinaryTime BinarySigningTime
@@ -53,7 +53,7 @@ abbrev pub SaidFields : Type 0
 SaidFields = Kind × ((Said × Unit {0}) × Unit {0})
 
 abbrev pub AreSaid : Mode → Trees → SaidFields → Type 0
-AreSaid m = ThenBy (Means (OctetsOf (universal 6) IsOid) IsKindOid) (λ kind. Then (Inside (universal 17) (AreOneValue m kind)) End)
+AreSaid m = ThenBy (Means (OctetsOf oid_tag IsOid) IsKindOid) (λ kind. Then (Inside set_tag (AreOneValue m kind)) End)
 
 abbrev pub said_fields : Said → SaidFields
 said_fields s = (kind_of s, (alone s, tt))
@@ -62,4 +62,4 @@ abbrev pub said_of : SaidFields → Said
 said_of f = f.1.0.0
 
 abbrev pub IsSaid : Mode → Tree → Said → Type 0
-IsSaid m = As (Inside (universal 16) (AreSaid m)) said_of
+IsSaid m = As (Inside sequence_tag (AreSaid m)) said_of

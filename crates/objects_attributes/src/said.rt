@@ -1,7 +1,7 @@
 //! One attribute, read (RFC 5652 5.3).
 
 ghost use Rattle.std.specs.Prelude.{◌≡◌, true, OnErr};
-ghost use Rattle.objects_attributes.specs.bcder_tree.Tags.{universal};
+ghost use Rattle.objects_attributes.specs.bcder_tree.Tags.{sequence_tag, set_tag};
 ghost use Rattle.objects_attributes.specs.bcder_content.Exact.{ReadsAs, ReadsOptAs};
 ghost use Rattle.objects_attributes.specs.bcder_content.Grammar.{Inside};
 ghost use Rattle.objects_attributes.specs.bcder_content.Here.{here};
@@ -75,7 +75,7 @@ fn take_values<S: Source>(
     cons: &mut Constructed<S>,
     kind: Kind,
 ) -> Result<Said, DecodeError<S::Error>>
-    ensures { ReadsAs alone (Inside (universal 17) (AreOneValue (here S.rest cons.old).mode kind))
+    ensures { ReadsAs alone (Inside set_tag (AreOneValue (here S.rest cons.old).mode kind))
         (here S.rest cons.old) result (here S.rest cons.new) }
 {
     cons.take_set(
@@ -110,7 +110,7 @@ impl Said {
         alloc: Global,
         cons: &mut Constructed<S>,
     ) -> Result<Option<Said>, DecodeError<S::Error>>
-        ensures reads { ReadsOptAs (λ s. s) (universal 16) (IsSaid (here S.rest cons.old).mode)
+        ensures reads { ReadsOptAs (λ s. s) sequence_tag (IsSaid (here S.rest cons.old).mode)
             (here S.rest cons.old) result (here S.rest cons.new) }
         ensures failed { OnErr result ((here S.rest cons.new).failed ≡ true) }
     {

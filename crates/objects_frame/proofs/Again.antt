@@ -1,7 +1,7 @@
 -- What is written of signed attributes is read again.
 use Rattle.std.proofs.Common.{◌≡◌, ℕ, List, [], ◌∷◌, ◌++◌, Result, Ok, Err, IfOk, inl, inr, refl, sym, ap, ◌∙◌, subst, arith, append-nil}
 use Rattle.objects_frame.specs.bcder_tree.declared.mode.Mode.TheVariants.{Der}
-use Rattle.objects_frame.specs.bcder_tree.Tags.{universal}
+use Rattle.objects_frame.specs.bcder_tree.Tags.{octet_string_tag, oid_tag, sequence_tag}
 use Rattle.objects_frame.specs.bcder_tree.Tree.{Tree, Trees, constructed, more, none, primitive}
 use Rattle.objects_frame.specs.bcder_content.Grammar.{Many}
 use Rattle.objects_frame.specs.bcder_content.Kept.{CapturedValue}
@@ -34,7 +34,7 @@ said_alone kind known V s value ts p =
     let b = p.is in
     let inner = inside_of (AreOneValue Der kind) {x = (s, tt)} (last_of value) b.second b.is_second in
     record {
-      tree = constructed (universal 16) p.values;
+      tree = constructed sequence_tag p.values;
       alone = p.whole;
       is = record {
         x = (kind, ((s, tt), tt));
@@ -42,7 +42,7 @@ said_alone kind known V s value ts p =
           values = p.values;
           whole = refl;
           is = record {
-            first = primitive (universal 6) b.is_first.content;
+            first = primitive oid_tag b.is_first.content;
             others = b.second;
             whole = b.whole ∙ ap (λ (us : Trees). joined us b.second) b.is_first.whole;
             is = record {
@@ -71,15 +71,15 @@ typed o = ContentType (record { 0 = o })
 
 type_value : (o : List ℕ) → IsIdentifier o → (us : Trees) → (of oid o).trees Der us → Alone (IsValueOf Der kinds.ContentType) (typed o) us
 type_value o known us p = record {
-  tree = primitive (universal 6) p.content;
+  tree = primitive oid_tag p.content;
   alone = p.whole;
   is = record { x = o; is = record { content = p.content; whole = refl; is = record { same = p.is.same; is = subst IsIdentifier (sym p.is.same) known } }; means = refl };
 }
 
 digest_value : (d : List ℕ) (us : Trees) → (of octets d).trees Der us → Alone (IsValueOf Der kinds.MessageDigest) (MessageDigest d) us
 digest_value d us p = record {
-  tree = primitive (universal 4) d;
-  alone = p.whole ∙ ap (λ (o : List ℕ). more (primitive (universal 4) o) none) p.is.same;
+  tree = primitive octet_string_tag d;
+  alone = p.whole ∙ ap (λ (o : List ℕ). more (primitive octet_string_tag o) none) p.is.same;
   is = record { x = d; is = refl; means = refl };
 }
 

@@ -1,7 +1,7 @@
 -- What is written of a signed object is read again, where its certificate and its attributes are.
 use Rattle.std.proofs.Common.{◌≡◌, ℕ, List, [], true, refl, sym, ap, ◌∙◌, subst, append-nil}
 use Rattle.objects_frame.specs.bcder_tree.declared.mode.Mode.TheVariants.{Der}
-use Rattle.objects_frame.specs.bcder_tree.Tags.{TagValue, context, universal}
+use Rattle.objects_frame.specs.bcder_tree.Tags.{TagValue, context, integer_tag, octet_string_tag, oid_tag, set_tag}
 use Rattle.objects_frame.specs.bcder_tree.Tree.{Tree, Trees, more, none, primitive}
 use Rattle.objects_frame.specs.bcder_tree.Strings.{IsOctetString}
 use Rattle.objects_frame.specs.bcder_content.Grammar.{End, Inside, OctetsOf, Then}
@@ -45,7 +45,7 @@ by_trees o f text w = let s = o.spelled Der text w in spelled_of Der (record { t
 -- The constants.
 
 three_spelled : (text : List ℕ) → (version 3).writes Der text → SpellsOf Der IsThree text tt
-three_spelled = by_trees (version 3) (λ ts p. record { tree = primitive (universal 2) p.content; alone = p.whole; is = record { content = p.content; whole = refl; is = record { is = p.is.is } } })
+three_spelled = by_trees (version 3) (λ ts p. record { tree = primitive integer_tag p.content; alone = p.whole; is = record { content = p.content; whole = refl; is = record { is = p.is.is } } })
 
 only : {A : Type 0} {Q : Tree → A → Type 0} {x : A} {ts : Trees} → Then Q End ts (x, tt) → Alone Q x ts
 only p = record { tree = p.first; alone = p.whole ∙ ap (more p.first) p.rest.ended; is = p.is }
@@ -56,11 +56,11 @@ sha256_spelled text w = let s = digest_spelled Der text w in spelled_of Der (rec
 rsa_spelled : (text : List ℕ) → (algorithm rsa).writes Der text → SpellsOf Der id.IsSignatureAlgorithm text true
 rsa_spelled text w = let s = cms_spelled Der text w in spelled_of Der (record { trees = s.trees; is = only s.is; spelled = s.spelled })
 
-sha256_set_spelled : (text : List ℕ) → WritesWrapped Der (universal 17) ((algorithm sha256).writes Der) text → SpellsOf Der AreDigestAlgorithms text (tt, tt)
+sha256_set_spelled : (text : List ℕ) → WritesWrapped Der set_tag ((algorithm sha256).writes Der) text → SpellsOf Der AreDigestAlgorithms text (tt, tt)
 sha256_set_spelled text w = let s = digests_spelled Der text w in spelled_of Der (record { trees = s.trees; is = only s.is; spelled = s.spelled })
 
 signed_data_spelled : (text : List ℕ) → (of oid id.signed_data).writes Der text → SpellsOf Der (id.TheOid id.signed_data) text tt
-signed_data_spelled = by_trees (of oid id.signed_data) (λ ts p. record { tree = primitive (universal 6) p.content; alone = p.whole; is = record { content = p.content; whole = refl; is = record { same = p.is.same } } })
+signed_data_spelled = by_trees (of oid id.signed_data) (λ ts p. record { tree = primitive oid_tag p.content; alone = p.whole; is = record { content = p.content; whole = refl; is = record { same = p.is.same } } })
 
 -- Strings.
 
@@ -68,23 +68,23 @@ string_alone : (tag : TagValue) (v : List ℕ) (ts : Trees) → (of (octets_at t
 string_alone tag v ts p = p.whole ∙ ap (λ (o : List ℕ). more (primitive tag o) none) p.is.same
 
 string_spelled : (v text : List ℕ) → (of octets v).writes Der text → SpellsOf Der (IsOctetString Der) text v
-string_spelled v = by_trees (of octets v) (λ ts p. record { tree = primitive (universal 4) v; alone = string_alone (universal 4) v ts p; is = refl })
+string_spelled v = by_trees (of octets v) (λ ts p. record { tree = primitive octet_string_tag v; alone = string_alone octet_string_tag v ts p; is = refl })
 
 sid_spelled : (v : List ℕ) → IsTwentyLong v → (text : List ℕ) → (of (octets_at (context 0)) v).writes Der text → SpellsOf Der (IsSid Der) text v
 sid_spelled v long = by_trees (of (octets_at (context 0)) v) (λ ts p. record { tree = primitive (context 0) v; alone = string_alone (context 0) v ts p; is = record { is = refl; meets = long } })
 
 -- The content with its type.
-type_alone : (v : List ℕ) → IsIdentifier v → (ts : Trees) → (of oid v).trees Der ts → Alone (OctetsOf (universal 6) IsOid) v ts
+type_alone : (v : List ℕ) → IsIdentifier v → (ts : Trees) → (of oid v).trees Der ts → Alone (OctetsOf oid_tag IsOid) v ts
 type_alone v known ts p = record {
-  tree = primitive (universal 6) p.content;
+  tree = primitive oid_tag p.content;
   alone = p.whole;
   is = record { content = p.content; whole = refl; is = record { same = p.is.same; is = subst IsIdentifier (sym p.is.same) known } };
 }
 
 content_spelled : (kind content : List ℕ) → IsIdentifier kind → (text : List ℕ) → (content_info kind content).writes Der text → SpellsOf Der (IsContentInfo Der) text (kind, ((content, tt), tt))
 content_spelled kind content known = by_trees (content_info kind content) (λ ts p.
-    inside_of (Then (OctetsOf (universal 6) IsOid) (Then (Inside (context 0) (Then (IsOctetString Der) End)) End))
-    (then_of (type_alone kind known) (last_of (inside_of (Then (IsOctetString Der) End) (last_of (λ us q. record { tree = primitive (universal 4) content; alone = string_alone (universal 4) content us q; is = refl })))))
+    inside_of (Then (OctetsOf oid_tag IsOid) (Then (Inside (context 0) (Then (IsOctetString Der) End)) End))
+    (then_of (type_alone kind known) (last_of (inside_of (Then (IsOctetString Der) End) (last_of (λ us q. record { tree = primitive octet_string_tag content; alone = string_alone octet_string_tag content us q; is = refl })))))
     ts p)
 
 -- The signer.

@@ -1,7 +1,7 @@
 -- Why signed attributes have no message.
 use Rattle.std.proofs.Common.{◌≡◌, ℕ, List, [], ◌∷◌, length, Result, Ok, Err, IfErr, inr, refl, arith}
 use Rattle.objects_frame.specs.bcder_tree.declared.mode.Mode.TheVariants.{Der}
-use Rattle.objects_frame.specs.bcder_tree.Tags.{universal}
+use Rattle.objects_frame.specs.bcder_tree.Tags.{set_tag}
 use Rattle.objects_frame.specs.bcder_tree.Tree.{constructed, definite, more, none}
 use Rattle.objects_frame.specs.bcder_content.Kept.{CapturedValue, SpellsValues}
 use Rattle.objects_frame.specs.bcder_written.Encoded.{IsWrapped, WritesWrapped}
@@ -13,7 +13,7 @@ use Rattle.objects_frame.specs.bcder_values.Gathered.{ExtendRefused}
 use Rattle.objects_frame.specs.Attributes.{IsMessage, MessageRefused}
 
 -- A message of values in DER is what is written of them as a SET.
-message_written : (c : CapturedValue) (text : List ℕ) → c.mode ≡ Der → SpellsValues c.mode c.octets → IsMessage c.octets text → WritesWrapped Der (universal 17) (CapturedText c Der) text
+message_written : (c : CapturedValue) (text : List ℕ) → c.mode ≡ Der → SpellsValues c.mode c.octets → IsMessage c.octets text → WritesWrapped Der set_tag (CapturedText c Der) text
 message_written c text mode values message = record {
   content = c.octets;
   is = record { stands = inr mode; values = values; whole = refl };
@@ -29,14 +29,14 @@ message_written c text mode values message = record {
 }
 
 message_error : (c : CapturedValue) → c.mode ≡ Der → SpellsValues c.mode c.octets → (e : EncodeError)
-    → ExtendRefused (IsWrapped (universal 17) (CapturedTrees c Der)) (WritesWrapped Der (universal 17) (CapturedText c Der)) e → MessageRefused c.octets e
+    → ExtendRefused (IsWrapped set_tag (CapturedTrees c Der)) (WritesWrapped Der set_tag (CapturedText c Der)) e → MessageRefused c.octets e
 message_error c mode values errors.CerUnsupported h =
-    h (more (constructed (universal 17) values.trees) none) (record { values = values.trees; is = record { stands = inr mode; spelled = values.spelled }; whole = refl })
+    h (more (constructed set_tag values.trees) none) (record { values = values.trees; is = record { stands = inr mode; spelled = values.spelled }; whole = refl })
 message_error c mode values errors.TooLong h = λ text message few. h text (message_written c text mode values message) few
 message_error c mode values errors.Write h = h
 message_error c mode values errors.Memory h = tt
 
 pub message_stop : {A : Type 0} (c : CapturedValue) → c.mode ≡ Der → SpellsValues c.mode c.octets → (r : Result A EncodeError)
-    → IfErr r (ExtendRefused (IsWrapped (universal 17) (CapturedTrees c Der)) (WritesWrapped Der (universal 17) (CapturedText c Der))) → IfErr r (MessageRefused c.octets)
+    → IfErr r (ExtendRefused (IsWrapped set_tag (CapturedTrees c Der)) (WritesWrapped Der set_tag (CapturedText c Der))) → IfErr r (MessageRefused c.octets)
 message_stop c mode values (Ok x) h = tt
 message_stop c mode values (Err e) h = message_error c mode values e h

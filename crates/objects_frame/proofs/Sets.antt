@@ -1,7 +1,7 @@
 -- What is written of captured values, one after the other and in a SET.
 use Rattle.std.proofs.Common.{◌≡◌, ◌+◌, ℕ, List, ◌++◌, length, length-append, Result, Ok, Err, IfOk, IfErr, inl, inr, refl, ap, ◌∙◌, subst, arith}
 use Rattle.objects_frame.specs.bcder_tree.declared.mode.Mode.TheVariants.{Der}
-use Rattle.objects_frame.specs.bcder_tree.Tags.{universal}
+use Rattle.objects_frame.specs.bcder_tree.Tags.{set_tag}
 use Rattle.objects_frame.specs.bcder_tree.Tree.{IsConstructed, Trees, definite, indefinite}
 use Rattle.objects_frame.specs.bcder_content.Kept.{CapturedValue, SpellsValues}
 use Rattle.objects_frame.specs.bcder_written.Encoded.{AreBoth, WritesBoth, WritesWrapped, joined}
@@ -19,7 +19,7 @@ mode_of e = ap (λ (z : CapturedValue). z.mode) e
 octets_of : {c d : CapturedValue} → c ≡ d → c.octets ≡ d.octets
 octets_of e = ap (λ (z : CapturedValue). z.octets) e
 
-message_of : (text content : List ℕ) → IsConstructed Der text (universal 17) content → IsMessage content text
+message_of : (text content : List ℕ) → IsConstructed Der text set_tag content → IsMessage content text
 message_of text content (definite d header is whole) = record {
   size = is.size;
   size_is = is.size_is;
@@ -28,10 +28,10 @@ message_of text content (definite d header is whole) = record {
 message_of text content (indefinite d i tag is whole) = absurd d
 
 -- A SET of captured values is the message of their octets.
-pub message_is : (c : CapturedValue) (text : List ℕ) → WritesWrapped Der (universal 17) (CapturedText c Der) text → IsMessage c.octets text
+pub message_is : (c : CapturedValue) (text : List ℕ) → WritesWrapped Der set_tag (CapturedText c Der) text → IsMessage c.octets text
 message_is c text w = subst (λ (o : List ℕ). IsMessage o text) w.is.whole (message_of text w.content w.spelled)
 
-pub message_told : {E : Type 0} (a : CapturedValue) (r : Result CapturedValue E) → IfOk r (λ c. WritesWrapped Der (universal 17) (CapturedText a Der) c.octets) → IfOk r (λ c. IsMessage a.octets c.octets)
+pub message_told : {E : Type 0} (a : CapturedValue) (r : Result CapturedValue E) → IfOk r (λ c. WritesWrapped Der set_tag (CapturedText a Der) c.octets) → IfOk r (λ c. IsMessage a.octets c.octets)
 message_told a (Ok c) h = message_is a c.octets h
 message_told a (Err e) h = tt
 

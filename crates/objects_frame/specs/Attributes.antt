@@ -1,7 +1,7 @@
 -- The attributes that a signer signs, as they are written: a SET OF in DER (RFC 5652 5.3, 5.4; RFC 6488 2.1.6.4; X.690 11.6).
 use Rattle.std.specs.Prelude.{◌≡◌, ℕ, ◌^◌, ◌<◌, List, ◌∷◌, ◌++◌, length, Some, None}
 use Rattle.objects_frame.specs.bcder_tree.declared.mode.Mode.TheVariants.{Der}
-use Rattle.objects_frame.specs.bcder_tree.Tags.{universal}
+use Rattle.objects_frame.specs.bcder_tree.Tags.{sequence_tag, set_tag}
 use Rattle.objects_frame.specs.bcder_tree.Octets.{IsLength}
 use Rattle.objects_frame.specs.bcder_written.declared.error.EncodeError.{EncodeError}
 use Rattle.objects_frame.specs.bcder_written.declared.error.EncodeError.TheVariants as errors
@@ -26,7 +26,7 @@ attributes_of s = record { content_type = s.content_type; digest = s.digest; sig
 
 -- Attribute ::= SEQUENCE { attrType OBJECT IDENTIFIER, attrValues SET OF AttributeValue }, of one value (RFC 5652 5.3)
 abbrev pub attribute : List ℕ → Output → Output
-attribute kind value = inside (universal 16) (beside (of oid kind) (inside (universal 17) value))
+attribute kind value = inside sequence_tag (beside (of oid kind) (inside set_tag value))
 
 -- RFC 5652 11.1 to 11.3
 abbrev pub content_type : List ℕ → Output

@@ -1,7 +1,7 @@
 -- What is written of a signed object (RFC 5652 3, 5; RFC 6488 2).
 use Rattle.std.specs.Prelude.{◌≡◌, ℕ, List, Some, None, true, false}
 use Rattle.objects_frame.specs.bcder_tree.declared.mode.Mode.TheVariants.{Der}
-use Rattle.objects_frame.specs.bcder_tree.Tags.{context, universal}
+use Rattle.objects_frame.specs.bcder_tree.Tags.{context, sequence_tag, set_tag}
 use Rattle.objects_frame.specs.bcder_content.Kept.{CapturedValue}
 use Rattle.objects_frame.specs.bcder.Kinds.{octets, octets_at, oid}
 use Rattle.objects_frame.specs.certs_algorithm.Algorithms.{AlgorithmValue, algorithm_of}
@@ -48,7 +48,7 @@ signer_fields s = (3, (s.sid, (sha256, (s.attributes, (rsa, s.signature)))))
 -- signatureAlgorithm, signature OCTET STRING } (RFC 5652 5.3, RFC 6488 2.1.6)
 abbrev pub written_signer : SignerFields → Output
 written_signer f =
-    inside (universal 16)
+    inside sequence_tag
     (beside (version f.0)
     (beside (of (octets_at (context 0)) f.1.0)
     (beside (algorithm f.1.1.0)
@@ -68,7 +68,7 @@ pub record ObjectParts : Type 0 where
 
 -- EncapsulatedContentInfo ::= SEQUENCE { eContentType OBJECT IDENTIFIER, eContent [0] EXPLICIT OCTET STRING } (RFC 5652 5.2)
 abbrev pub content_info : List ℕ → List ℕ → Output
-content_info kind content = inside (universal 16) (beside (of oid kind) (inside (context 0) (of octets content)))
+content_info kind content = inside sequence_tag (beside (of oid kind) (inside (context 0) (of octets content)))
 
 abbrev pub SignedFields : Type 0
 SignedFields = ℕ × (AlgorithmValue × (List ℕ × (List ℕ × (CapturedValue × SignerParts))))
@@ -80,19 +80,19 @@ signed_fields o = (3, (sha256, (o.content_type, (o.content, (o.cert, o.signer)))
 -- (RFC 5652 5.1, RFC 6488 2.1)
 abbrev pub written_signed : SignedFields → Output
 written_signed f =
-    inside (universal 16)
+    inside sequence_tag
     (beside (version f.0)
-    (beside (inside (universal 17) (algorithm f.1.0))
+    (beside (inside set_tag (algorithm f.1.0))
     (beside (content_info f.1.1.0 f.1.1.1.0)
     (beside (inside (context 0) (kept f.1.1.1.1.0))
-    (inside (universal 17) (signer f.1.1.1.1.1))))))
+    (inside set_tag (signer f.1.1.1.1.1))))))
 
 abbrev pub signed_data : ObjectParts → Output
 signed_data o = written_signed (signed_fields o)
 
 -- ContentInfo ::= SEQUENCE { contentType (signedData), content [0] EXPLICIT SignedData } (RFC 5652 3)
 abbrev pub object : ObjectParts → Output
-object o = inside (universal 16) (beside (of oid id.signed_data) (inside (context 0) (signed_data o)))
+object o = inside sequence_tag (beside (of oid id.signed_data) (inside (context 0) (signed_data o)))
 
 -- The parts fit together: the octets of the certificate spell it, its subject is the signer, and the attributes are of this
 -- content's type, which is an identifier (RFC 6488 2.1.4, 2.1.6).

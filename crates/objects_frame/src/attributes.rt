@@ -2,7 +2,7 @@
 
 ghost use Rattle.std.specs.Prelude.{◌≡◌, IfErr, IfOk};
 ghost use Rattle.objects_frame.specs.bcder_tree.declared.mode.Mode.TheVariants.{Der};
-ghost use Rattle.objects_frame.specs.bcder_tree.Tags.{universal};
+ghost use Rattle.objects_frame.specs.bcder_tree.Tags.{set_tag};
 ghost use Rattle.objects_frame.specs.bcder_content.Texts.{InOrder};
 ghost use Rattle.objects_frame.specs.bcder_oid.Identifiers.{IsIdentifier};
 ghost use Rattle.objects_frame.specs.bcder_values.Gathered.{ExtendRefused};
@@ -39,9 +39,9 @@ const SIGNING_TIME: ConstOid = Oid(&[42, 134, 72, 134, 247, 13, 1, 9, 5]);
 pub struct SetOf<V>(pub V);
 
 impl<V: Values> Values for SetOf<V> {
-    ghost trees = { λ x m. IsWrapped (universal 17) (V.trees x.0 m) };
+    ghost trees = { λ x m. IsWrapped set_tag (V.trees x.0 m) };
 
-    ghost writes = { λ x m. WritesWrapped m (universal 17) (V.writes x.0 m) };
+    ghost writes = { λ x m. WritesWrapped m set_tag (V.writes x.0 m) };
 
     fn encoded_len(&self, mode: Mode) -> Result<usize, EncodeError> {
         let value = Constructed {

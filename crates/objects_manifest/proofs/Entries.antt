@@ -4,7 +4,7 @@ use Rattle.std.specs.Prelude.{All}
 use Rattle.std.proofs.lemmas.List.Elements.{All-append, All-cons, All-weaker}
 use native.Mathlib.Nat.{mod-one}
 use Rattle.objects_manifest.specs.bcder_tree.declared.mode.Mode.TheVariants.{Der}
-use Rattle.objects_manifest.specs.bcder_tree.Tags.{universal}
+use Rattle.objects_manifest.specs.bcder_tree.Tags.{sequence_tag}
 use Rattle.objects_manifest.specs.bcder_tree.Tree.{Tree, Trees}
 use Rattle.objects_manifest.specs.bcder_tree.Strings.{IsIa5, IsLetter}
 use Rattle.objects_manifest.specs.bcder_bits.Bits.{BitsValue}
@@ -19,7 +19,7 @@ use Rattle.objects_manifest.specs.Files.{EntryFields, IsBaseOctet, IsEntry, entr
 pub entry_one : One IsEntry
 entry_one = inside_one (then_one (octets_one unit_one) (then_one (octets_one unit_one) end_one))
 
-pub entry_tagged : Tagged (universal 16) IsEntry
+pub entry_tagged : Tagged sequence_tag IsEntry
 entry_tagged = inside_tagged _ _
 
 -- A file is such a value.

@@ -6,7 +6,7 @@ use Rattle.std.specs.Coded.{Coded-set, coded_bool, coded_list, coded_ℕ, le_pro
 use Rattle.objects_manifest.specs.bcder_tree.declared.mode.Mode.{Mode}
 use Rattle.objects_manifest.specs.bcder_tree.declared.length.Length.TheVariants.{Definite as LengthIs, Indefinite as NoLength}
 use Rattle.objects_manifest.specs.bcder_tree.Octets.{IsIdentifier}
-use Rattle.objects_manifest.specs.bcder_tree.Tags.{TagValue, universal}
+use Rattle.objects_manifest.specs.bcder_tree.Tags.{TagValue, universal, ia5_string_tag, sequence_tag}
 use Rattle.objects_manifest.specs.bcder_tree.Tree.{IsHeader, IsPrimitive, Spells, SpellsAll, Tree, Trees, constructed, definite, indefinite, more, none, primitive}
 use Rattle.objects_manifest.specs.bcder_content.Grammar.{Many, ManyCases}
 use Rattle.objects_manifest.specs.bcder_content.Kept.{CapturedValue}
@@ -19,20 +19,20 @@ use Rattle.objects_manifest.specs.Held.{HoldsFiles, Left, one_holds, pieces_of, 
 
 -- The values of a file.
 abbrev file_trees : File → Trees
-file_trees f = more (primitive (universal 22) f.name) (more (primitive (universal 3) (0 ∷ f.hash)) none)
+file_trees f = more (primitive ia5_string_tag f.name) (more (primitive (universal 3) (0 ∷ f.hash)) none)
 
-shape : (t : Tree) (f : File) → IsFile t f → t ≡ constructed (universal 16) (file_trees f)
+shape : (t : Tree) (f : File) → IsFile t f → t ≡ constructed sequence_tag (file_trees f)
 shape t f p =
     let all = p.is.is in
     let behind = all.rest in
     let hash = behind.is in
     let value = p.x.1.0 in
-    let name : all.first ≡ primitive (universal 22) p.x.0 = all.is.is.is in
+    let name : all.first ≡ primitive ia5_string_tag p.x.0 = all.is.is.is in
     let content : hash.is.content ≡ 0 ∷ value.octets = hash.is.is.whole ∙ ap (λ (n : ℕ). n ∷ value.octets) hash.meets in
     let second : behind.first ≡ primitive (universal 3) (0 ∷ value.octets) = hash.is.whole ∙ ap (primitive (universal 3)) content in
     let last : all.others ≡ more (primitive (universal 3) (0 ∷ value.octets)) none = behind.whole ∙ ap (λ (u : Tree). more u behind.others) second ∙ ap (more (primitive (universal 3) (0 ∷ value.octets))) behind.rest.ended in
-    let values : p.is.values ≡ file_trees (record { name = p.x.0; hash = value.octets }) = all.whole ∙ ap (λ (u : Tree). more u all.others) name ∙ ap (more (primitive (universal 22) p.x.0)) last in
-    p.is.whole ∙ ap (constructed (universal 16)) values ∙ ap (λ (g : File). constructed (universal 16) (file_trees g)) (sym p.means)
+    let values : p.is.values ≡ file_trees (record { name = p.x.0; hash = value.octets }) = all.whole ∙ ap (λ (u : Tree). more u all.others) name ∙ ap (more (primitive ia5_string_tag p.x.0)) last in
+    p.is.whole ∙ ap (constructed sequence_tag) values ∙ ap (λ (g : File). constructed sequence_tag (file_trees g)) (sym p.means)
 
 -- Octets that begin with these contents of primitive values, and then hold those of the others.
 record Front (pieces : List (List ℕ)) (octets : List ℕ) (others : List Mark) : Type 0 where
@@ -50,11 +50,11 @@ fields_marks m f content rest others s h =
     let e : content ++ rest ≡ s.0 ++ (last.0 ++ rest) = ap (λ (z : List ℕ). z ++ rest) (s.4 ∙ ap (λ (z : List ℕ). s.0 ++ z) b) ∙ append_assoc s.0 last.0 rest in
     subst (Marks (holds f.name ∷ holds (0 ∷ f.hash) ∷ others)) (sym e) (plain_mark (last.0 ++ rest) (holds (0 ∷ f.hash) ∷ others) s.2 (plain_mark rest others last.2 h))
 
-file_front : (m : Mode) (f : File) (text rest : List ℕ) (others : List Mark) → Spells m (constructed (universal 16) (file_trees f)) text → Marks others rest → Front (f.name ∷ (0 ∷ f.hash) ∷ []) (text ++ rest) others
+file_front : (m : Mode) (f : File) (text rest : List ℕ) (others : List Mark) → Spells m (constructed sequence_tag (file_trees f)) text → Marks others rest → Front (f.name ∷ (0 ∷ f.hash) ∷ []) (text ++ rest) others
 file_front m f text rest others s h = elim s.1 [
   | definite d header is whole ↦ record {
     marks = around ∷ holds f.name ∷ holds (0 ∷ f.hash) ∷ others;
-    is = (header, s.0 ++ rest, ap (λ (z : List ℕ). z ++ rest) whole ∙ append_assoc header s.0 rest, inr (universal 16, LengthIs (length s.0), head_of (ber_header is)), fields_marks m f s.0 rest others s.2 h);
+    is = (header, s.0 ++ rest, ap (λ (z : List ℕ). z ++ rest) whole ∙ append_assoc header s.0 rest, inr (sequence_tag, LengthIs (length s.0), head_of (ber_header is)), fields_marks m f s.0 rest others s.2 h);
     whole = refl;
   }
   | indefinite d i tag_is is whole ↦ record {
@@ -63,7 +63,7 @@ file_front m f text rest others s h = elim s.1 [
       i ++ (128 ∷ []),
       s.0 ++ (0 ∷ 0 ∷ rest),
       ap (λ (z : List ℕ). z ++ rest) whole ∙ append_assoc i (128 ∷ s.0 ++ (0 ∷ 0 ∷ [])) rest ∙ ap (λ (z : List ℕ). i ++ (128 ∷ z)) (append_assoc s.0 (0 ∷ 0 ∷ []) rest) ∙ sym (append_assoc i (128 ∷ []) (s.0 ++ (0 ∷ 0 ∷ rest))),
-      inr (universal 16, NoLength, record { identifier = i; size = 128 ∷ []; whole = refl; tag = tag_is; identifier_is = is; size_is = refl }),
+      inr (sequence_tag, NoLength, record { identifier = i; size = 128 ∷ []; whole = refl; tag = tag_is; identifier_is = is; size_is = refl }),
       fields_marks m f s.0 (0 ∷ 0 ∷ rest) (around ∷ others) s.2 (0 ∷ 0 ∷ [], rest, refl, inl refl, h),
     );
     whole = refl;

@@ -2,7 +2,7 @@
 use Rattle.std.specs.Prelude.{ℕ, List, Option}
 use Rattle.std.specs.Option.{option_map}
 use Rattle.objects_manifest.specs.bcder_tree.declared.mode.Mode.{Mode}
-use Rattle.objects_manifest.specs.bcder_tree.Tags.{universal}
+use Rattle.objects_manifest.specs.bcder_tree.Tags.{sequence_tag}
 use Rattle.objects_manifest.specs.bcder_tree.Tree.{Trees}
 use Rattle.objects_manifest.specs.bcder_content.Grammar.{End, Inside, Many, Then}
 use Rattle.certs_key.specs.certs_basics.Basics.{IsSerial}
@@ -27,7 +27,7 @@ AreManifestFields m =
     (Then IsMomentString
     (Then IsMomentString
     (Then (id.TheOid id.sha256)
-    (Then (Inside (universal 16) (Many IsFile))
+    (Then (Inside sequence_tag (Many IsFile))
     End)))))
 
 -- Whether the version is written out, and what else is read.

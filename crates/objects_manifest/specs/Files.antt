@@ -2,7 +2,7 @@
 use Rattle.std.specs.Prelude.{◌≡◌, ◌≢◌, ◌⊎◌, ℕ, List, [], ◌∷◌, length, All}
 use Rattle.objects_manifest.specs.bcder_tree.declared.mode.Mode.{Mode}
 use Rattle.objects_manifest.specs.bcder_tree.Strings.{IsDigit, IsLetter}
-use Rattle.objects_manifest.specs.bcder_tree.Tags.{universal}
+use Rattle.objects_manifest.specs.bcder_tree.Tags.{universal, ia5_string_tag, sequence_tag}
 use Rattle.objects_manifest.specs.bcder_tree.Tree.{Tree, Trees}
 use Rattle.objects_manifest.specs.bcder_content.Grammar.{End, Inside, Many, OctetsOf, Then}
 use Rattle.objects_manifest.specs.bcder_content.Words.{Gathers}
@@ -32,7 +32,7 @@ pub record IsHashContent (content : List ℕ) (x : Unit {0}) : Type 0 where
   pub whole : content ≡ 0 ∷ hash
 
 abbrev pub IsName : Tree → Unit {0} → Type 0
-IsName = OctetsOf (universal 22) IsNameContent
+IsName = OctetsOf ia5_string_tag IsNameContent
 
 abbrev pub IsHash : Tree → Unit {0} → Type 0
 IsHash = OctetsOf (universal 3) IsHashContent
@@ -49,7 +49,7 @@ AreEntryFields m = Then IsName (Then IsHash End)
 
 -- Some file.
 abbrev pub IsEntry : Tree → EntryFields → Type 0
-IsEntry = Inside (universal 16) (Then IsName (Then IsHash End))
+IsEntry = Inside sequence_tag (Then IsName (Then IsHash End))
 
 -- Files, one for each of a list, in every mode; and whatever files.
 abbrev pub AreFiles : Mode → Trees → List File → Type 0

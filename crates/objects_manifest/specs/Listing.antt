@@ -3,7 +3,7 @@ use Rattle.std.proofs.Common.{◌≡◌, ℕ, List, refl, ap, subst}
 use Rattle.std.proofs.Math.Logic.{∥∥₁_elim, ∥∥₁_prop}
 use Rattle.std.specs.Coded.{Coded, Coded-set, code_by, coded_list, coded×, coded_ℕ}
 use Rattle.objects_manifest.specs.bcder_tree.declared.mode.Mode.TheVariants.{Der}
-use Rattle.objects_manifest.specs.bcder_tree.Tags.{universal}
+use Rattle.objects_manifest.specs.bcder_tree.Tags.{ia5_string_tag}
 use Rattle.objects_manifest.specs.bcder_tree.Tree.{Trees}
 use Rattle.objects_manifest.specs.bcder_content.Grammar.{Many, One}
 use Rattle.objects_manifest.specs.bcder_content.Kept.{CapturedValue}
@@ -16,7 +16,7 @@ use Rattle.certs_key.proofs.of_certs_basics.Values.{string_one}
 
 -- A value is one file at most.
 pub file_one : One IsFile
-file_one = as_one (inside_one (then_one (such_one (such_one (string_one Der (universal 22)))) (then_one (such_one (octets_one bit_string_one)) end_one)))
+file_one = as_one (inside_one (then_one (such_one (such_one (string_one Der ia5_string_tag))) (then_one (such_one (octets_one bit_string_one)) end_one)))
 
 -- A file is stored as the pair of its fields.
 abbrev pub file_code : Coded File

@@ -3,7 +3,7 @@
 ghost use Rattle.std.specs.Prelude.{◌≡◌, ◌≢◌, ◌↔◌, true, IsTrue, IfErr, OnErr};
 ghost use Rattle.objects_forms.specs.Manifests.{IsFileName};
 ghost use Rattle.objects_manifest.specs.bcder_tree.Strings.{IsLetter};
-ghost use Rattle.objects_manifest.specs.bcder_tree.Tags.{universal};
+ghost use Rattle.objects_manifest.specs.bcder_tree.Tags.{sequence_tag};
 ghost use Rattle.objects_manifest.specs.bcder_source.declared.error.DecodeError.TheVariants.{Memory};
 ghost use Rattle.objects_manifest.specs.bcder_primitive.Plain.{plain, ReadsOctetsAs};
 ghost use Rattle.objects_manifest.specs.bcder_content.Exact.{ReadsAs, ReadsOptAs};
@@ -183,7 +183,7 @@ fn skip_fields<S: Source>(cons: &mut Constructed<S>) -> Result<(), DecodeError<S
 pub(crate) fn skip_opt_file<S: Source>(
     cons: &mut Constructed<S>,
 ) -> Result<Option<()>, DecodeError<S::Error>>
-    ensures reads { ReadsOptAs entry (universal 16) IsEntry
+    ensures reads { ReadsOptAs entry sequence_tag IsEntry
         (here S.rest cons.old) result (here S.rest cons.new) }
     ensures no_memory { IfErr result (λ e. e ≢ Memory) }
 {

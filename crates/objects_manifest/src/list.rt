@@ -2,7 +2,7 @@
 
 ghost use Rattle.std.specs.Prelude.{◌≡◌, ◌≢◌, ◌≤◌, ◌↔◌, [], true, length, IsTrue, IfErr, OnErr};
 ghost use Rattle.std.specs.Iterator.{YieldsFirst, item_count};
-ghost use Rattle.objects_manifest.specs.bcder_tree.Tags.{universal};
+ghost use Rattle.objects_manifest.specs.bcder_tree.Tags.{sequence_tag};
 ghost use Rattle.objects_manifest.specs.bcder_source.declared.error.DecodeError.TheVariants.{Memory};
 ghost use Rattle.objects_manifest.specs.bcder_content.Captures.{rest_of};
 ghost use Rattle.objects_manifest.specs.bcder_content.Exact.{ReadsAs};
@@ -80,7 +80,7 @@ impl FileList {
         alloc: Global,
         cons: &mut Constructed<S>,
     ) -> Result<Self, DecodeError<S::Error>>
-        ensures reads { ReadsAs (λ l. l) (Inside (universal 16) (Many IsFile))
+        ensures reads { ReadsAs (λ l. l) (Inside sequence_tag (Many IsFile))
             (here S.rest cons.old) result (here S.rest cons.new) }
         ensures failed { OnErr result ((here S.rest cons.new).failed ≡ true) }
     {

@@ -5,7 +5,7 @@ use Rattle.std.specs.declared.net.ip_addr.IpAddr.{IpAddr}
 use Rattle.std.specs.declared.net.ip_addr.IpAddr.TheVariants.{V4, V6}
 use Rattle.std.specs.Result.{IsErr, IsErrAnd}
 use Rattle.objects_roa.specs.bcder_tree.declared.mode.Mode.{Mode}
-use Rattle.objects_roa.specs.bcder_tree.Tags.{universal}
+use Rattle.objects_roa.specs.bcder_tree.Tags.{sequence_tag}
 use Rattle.objects_roa.specs.bcder_tree.Tree.{Tree, Trees}
 use Rattle.objects_roa.specs.bcder_source.Errors.{OnContent}
 use Rattle.objects_roa.specs.bcder_source.declared.error.DecodeError.{DecodeError}
@@ -26,7 +26,7 @@ use Rattle.objects_forms.specs.Roas.{HasMaxLen, RoaAddress, address_of}
 use Rattle.objects_roa.specs.declared.address.RoaIpAddress.{RoaIpAddress}
 use Rattle.objects_roa.specs.Addresses.{AllOf, AreAddress, AreAddressFields, IsAddressOf, IsOf, address_fields, roa_address}
 
-pub address_tagged : (family : AddressFamily) (m : Mode) → Tagged (universal 16) (IsAddressOf family m)
+pub address_tagged : (family : AddressFamily) (m : Mode) → Tagged sequence_tag (IsAddressOf family m)
 address_tagged family m = such_tagged (as_tagged (inside_tagged _ _))
 
 -- Fields whose greatest length is tested.
@@ -61,13 +61,13 @@ address_unfit family a e {v} g unfit = record {
 }
 
 -- The value of such fields is an address.
-address_is : {m : Mode} {family : AddressFamily} {t : Tree} {a : RoaAddress} → Inside (universal 16) (AreAddress family m) t a → IsAddressOf family m t a
+address_is : {m : Mode} {family : AddressFamily} {t : Tree} {a : RoaAddress} → Inside sequence_tag (AreAddress family m) t a → IsAddressOf family m t a
 address_is p = record {
   is = record { x = p.is.fields; is = record { values = p.values; whole = p.whole; is = p.is.are }; means = p.is.means };
   meets = p.is.has_max;
 }
 
-address_fields_are : {m : Mode} {family : AddressFamily} {t : Tree} {a : RoaAddress} → IsAddressOf family m t a → Inside (universal 16) (AreAddress family m) t a
+address_fields_are : {m : Mode} {family : AddressFamily} {t : Tree} {a : RoaAddress} → IsAddressOf family m t a → Inside sequence_tag (AreAddress family m) t a
 address_fields_are p = record {
   values = p.is.is.values;
   whole = p.is.is.whole;
@@ -75,7 +75,7 @@ address_fields_are p = record {
 }
 
 pub opt_address : {E : Type 0} (family : AddressFamily) (m : Mode) (old new : ValuesLeft) (r : Result (Option RoaIpAddress) (DecodeError E))
-    → ReadsOptAs roa_address (universal 16) (Inside (universal 16) (AreAddress family m)) old r new → ReadsOptAs roa_address (universal 16) (IsAddressOf family m) old r new
+    → ReadsOptAs roa_address sequence_tag (Inside sequence_tag (AreAddress family m)) old r new → ReadsOptAs roa_address sequence_tag (IsAddressOf family m) old r new
 opt_address family m old new (Ok (Some x)) h = record { tree = h.tree; is = address_is h.is; took = h.took }
 opt_address family m old new (Ok None) h = h
 opt_address family m old new (Err e) h =

@@ -3,7 +3,7 @@ use Rattle.std.proofs.Common.{◌≡◌, ℕ, List, Option, Some, None, Result, 
 use Rattle.std.specs.Result.{IsErr, IsErrAnd}
 use Rattle.objects_roa.specs.bcder_tree.declared.mode.Mode.{Mode}
 use Rattle.objects_roa.specs.bcder_tree.declared.mode.Mode.TheVariants.{Der}
-use Rattle.objects_roa.specs.bcder_tree.Tags.{context, universal}
+use Rattle.objects_roa.specs.bcder_tree.Tags.{context, sequence_tag}
 use Rattle.objects_roa.specs.bcder_tree.Tree.{Tree, Trees}
 use Rattle.objects_roa.specs.bcder_source.Errors.{OnContent}
 use Rattle.objects_roa.specs.bcder_source.declared.error.DecodeError.{DecodeError}
@@ -42,10 +42,10 @@ abbrev Behind : Type 0
 Behind = ℕ × ((List RoaAddress × List RoaAddress) × Unit {0})
 
 abbrev Rest : Mode → Trees → Behind → Type 0
-Rest m = Then IsAsId (Then (Inside (universal 16) (AreFamilies m)) End)
+Rest m = Then IsAsId (Then (Inside sequence_tag (AreFamilies m)) End)
 
 abbrev RoaRest : Trees → Behind → Type 0
-RoaRest = Then IsAsId (Then (Inside (universal 16) AreRoaFamilies) End)
+RoaRest = Then IsAsId (Then (Inside sequence_tag AreRoaFamilies) End)
 
 -- The addresses of each family are addresses of it.
 rest_all : (m : Mode) (ts : Trees) (r : Behind) → Rest m ts r → AllOf Ipv4 r.1.0.0 × AllOf Ipv6 r.1.0.1

@@ -3,7 +3,7 @@ use Rattle.std.proofs.Common.{◌≡◌, List, [], Option, Some, None, Result, O
 use Rattle.std.specs.Result.{IsErr, IsErrAnd}
 use Rattle.objects_roa.specs.bcder_tree.declared.mode.Mode.{Mode}
 use Rattle.objects_roa.specs.bcder_tree.declared.mode.Mode.TheVariants.{Der}
-use Rattle.objects_roa.specs.bcder_tree.Tags.{universal}
+use Rattle.objects_roa.specs.bcder_tree.Tags.{sequence_tag}
 use Rattle.objects_roa.specs.bcder_tree.Tree.{Tree, Trees}
 use Rattle.objects_roa.specs.bcder_source.Errors.{OnContent}
 use Rattle.objects_roa.specs.bcder_source.declared.error.DecodeError.{DecodeError}
@@ -30,7 +30,7 @@ use Rattle.objects_roa.proofs.AddressLemmas.{addresses_of_family}
 
 -- The fields of a family: the first says what the second is of.
 abbrev pub FieldsBy : Mode → Trees → AddressFamily × (List RoaAddress × Unit {0}) → Type 0
-FieldsBy m = ThenBy (IsFamily m) (λ family. Then (Inside (universal 16) (AreAddresses family m)) End)
+FieldsBy m = ThenBy (IsFamily m) (λ family. Then (Inside sequence_tag (AreAddresses family m)) End)
 
 abbrev pub family_of : AddressFamily × (List RoaAddress × Unit {0}) → FamilyAddresses
 family_of f = record { family = f.0; addresses = f.1.0 }
@@ -52,14 +52,14 @@ address_is_one family = such_one (as_one (inside_one (then_one (address_one fami
 family_fields_one : {m : Mode} → OneAll (AreFamilyIn m)
 family_fields_one {m} = record { one = at }
   where
-    fields : (family : AddressFamily) → OneAll (Then (IsFamily m) (Then (Inside (universal 16) (AreAddresses family m)) End))
+    fields : (family : AddressFamily) → OneAll (Then (IsFamily m) (Then (Inside sequence_tag (AreAddresses family m)) End))
     fields family = then_one family_one (then_one (inside_one (many_one (address_is_one family))) end_one)
 
     at : (ts : Trees) (x y : FamilyAddresses) → AreFamilyIn m ts x → AreFamilyIn m ts y → x ≡ y
     at ts x y p q =
         let e = same_trees (sym p.are.whole ∙ q.are.whole) in
         let family : x.family ≡ y.family = family_one.one q.are.first x.family y.family (subst (λ (t : Tree). IsFamily m t x.family) e.0 p.are.is) q.are.is in
-        let moved = subst (λ (f : AddressFamily). Then (IsFamily m) (Then (Inside (universal 16) (AreAddresses f m)) End) ts (f, (x.addresses, tt))) family p.are in
+        let moved = subst (λ (f : AddressFamily). Then (IsFamily m) (Then (Inside sequence_tag (AreAddresses f m)) End) ts (f, (x.addresses, tt))) family p.are in
         let same = (fields y.family).one ts (y.family, (x.addresses, tt)) (y.family, (y.addresses, tt)) moved q.are in
         let addresses : x.addresses ≡ y.addresses = ap (λ (z : AddressFamily × (List RoaAddress × Unit {0})). z.1.0) same in
         λ i. record { family = family i; addresses = addresses i }
@@ -101,7 +101,7 @@ none_of : (family : AddressFamily) {ys : List RoaAddress} → ys ≡ [] → AllO
 none_of family f = subst (λ (zs : List RoaAddress). AllOf family zs) (sym f) tt
 
 of_families : (m : Mode) (ts : Trees) (x : FamilyAddresses) (o : Option FamilyAddresses) (v4 v6 : List RoaAddress) → AllOf x.family x.addresses
-    → OptCases (universal 16) (IsFamilyOf m) End ts o tt → AreOf x o v4 v6 → AllOf Ipv4 v4 × AllOf Ipv6 v6
+    → OptCases sequence_tag (IsFamilyOf m) End ts o tt → AreOf x o v4 v6 → AllOf Ipv4 v4 × AllOf Ipv6 v6
 of_families m ts x None v4 v6 h r (inl p) = (all_as x.family Ipv4 x.addresses v4 p.0 p.1 h, none_of Ipv6 p.2)
 of_families m ts x None v4 v6 h r (inr p) = (none_of Ipv4 p.1, all_as x.family Ipv6 x.addresses v6 p.0 p.2 h)
 of_families m ts x (Some y) v4 v6 h r (inl p) = (all_as x.family Ipv4 x.addresses v4 p.0 p.2 h, all_as y.family Ipv6 y.addresses v6 p.1 p.3 (family_all m r.first y r.is))
@@ -118,11 +118,11 @@ family_in_der p = record { values = p.values; whole = p.whole; is = record { are
 family_of_der : {t : Tree} {x : FamilyAddresses} → IsRoaFamily t x → IsFamilyOf Der t x
 family_of_der p = record { values = p.values; whole = p.whole; is = record { are = p.is.are } }
 
-opt_in_der : (ts : Trees) (o : Option FamilyAddresses) → OptCases (universal 16) (IsFamilyOf Der) End ts o tt → OptCases (universal 16) IsRoaFamily End ts o tt
+opt_in_der : (ts : Trees) (o : Option FamilyAddresses) → OptCases sequence_tag (IsFamilyOf Der) End ts o tt → OptCases sequence_tag IsRoaFamily End ts o tt
 opt_in_der ts None p = p
 opt_in_der ts (Some x) p = record { first = p.first; others = p.others; whole = p.whole; is = family_in_der p.is; rest = p.rest }
 
-opt_of_der : (ts : Trees) (o : Option FamilyAddresses) → OptCases (universal 16) IsRoaFamily End ts o tt → OptCases (universal 16) (IsFamilyOf Der) End ts o tt
+opt_of_der : (ts : Trees) (o : Option FamilyAddresses) → OptCases sequence_tag IsRoaFamily End ts o tt → OptCases sequence_tag (IsFamilyOf Der) End ts o tt
 opt_of_der ts None p = p
 opt_of_der ts (Some x) p = record { first = p.first; others = p.others; whole = p.whole; is = family_of_der p.is; rest = p.rest }
 

@@ -3,7 +3,7 @@ use Rattle.std.specs.Prelude.{◌≡◌, ℕ, ◌^◌, ◌≤◌, List, [], ◌�
 use Rattle.std.specs.declared.net.ip_addr.IpAddr.{IpAddr}
 use Rattle.std.specs.declared.net.ip_addr.IpAddr.TheVariants.{V4, V6}
 use Rattle.objects_roa.specs.bcder_tree.declared.mode.Mode.{Mode}
-use Rattle.objects_roa.specs.bcder_tree.Tags.{universal}
+use Rattle.objects_roa.specs.bcder_tree.Tags.{integer_tag, sequence_tag}
 use Rattle.objects_roa.specs.bcder_tree.Tree.{Tree, Trees}
 use Rattle.objects_roa.specs.bcder_primitive.Values.{IsUnsigned}
 use Rattle.objects_roa.specs.bcder_content.Grammar.{As, End, Inside, Many, OctetsOf, Opt, Such, Then}
@@ -21,10 +21,10 @@ abbrev pub AddressFields : Type 0
 AddressFields = FirstBits × (Option ℕ × Unit {0})
 
 abbrev pub AreAddressFields : AddressFamily → Mode → Trees → AddressFields → Type 0
-AreAddressFields family m = Then (IsAddress m family) (Opt (universal 2) (OctetsOf (universal 2) (IsUnsigned (2 ^ 8))) End)
+AreAddressFields family m = Then (IsAddress m family) (Opt integer_tag (OctetsOf integer_tag (IsUnsigned (2 ^ 8))) End)
 
 abbrev pub IsAddressOf : AddressFamily → Mode → Tree → RoaAddress → Type 0
-IsAddressOf family m = Such (As (Inside (universal 16) (AreAddressFields family m)) address_of) (HasMaxLen family)
+IsAddressOf family m = Such (As (Inside sequence_tag (AreAddressFields family m)) address_of) (HasMaxLen family)
 
 -- An address of the family, by its fields.
 pub record AreAddress (family : AddressFamily) (m : Mode) (ts : Trees) (a : RoaAddress) : Type 0 where

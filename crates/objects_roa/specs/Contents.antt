@@ -2,7 +2,7 @@
 use Rattle.std.specs.Prelude.{◌≡◌, Option}
 use Rattle.std.specs.Option.{option_map}
 use Rattle.objects_roa.specs.bcder_tree.declared.mode.Mode.{Mode}
-use Rattle.objects_roa.specs.bcder_tree.Tags.{universal}
+use Rattle.objects_roa.specs.bcder_tree.Tags.{sequence_tag}
 use Rattle.objects_roa.specs.bcder_tree.Tree.{Tree, Trees}
 use Rattle.objects_roa.specs.bcder_content.Grammar.{End, Inside, Then}
 use Rattle.objects_forms.specs.certs_specs.CertText.{IsVersion as IsInteger}
@@ -20,7 +20,7 @@ AreNumber m = Then (IsInteger 0) End
 -- SEQUENCE { version [0] INTEGER DEFAULT 0, asID ASID, ipAddrBlocks SEQUENCE SIZE (1..2) OF ROAIPAddressFamily }, by its
 -- values, and what they say
 abbrev pub AreRoaFields : Mode → Trees → Fields → Type 0
-AreRoaFields m = VersionZero (Then IsAsId (Then (Inside (universal 16) (AreFamilies m)) End))
+AreRoaFields m = VersionZero (Then IsAsId (Then (Inside sequence_tag (AreFamilies m)) End))
 
 pub record AreRoa (m : Mode) (ts : Trees) (r : Roa) : Type 0 where
   pub fields : Fields
@@ -28,7 +28,7 @@ pub record AreRoa (m : Mode) (ts : Trees) (r : Roa) : Type 0 where
   pub means : r ≡ roa_of fields
 
 abbrev pub IsRoaIn : Mode → Tree → Roa → Type 0
-IsRoaIn m = Inside (universal 16) (AreRoa m)
+IsRoaIn m = Inside sequence_tag (AreRoa m)
 
 -- What is read, as the grammars name it.
 abbrev pub alone : Unit {0} → Unit {0} × Unit {0}

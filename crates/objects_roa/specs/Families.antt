@@ -2,7 +2,7 @@
 use Rattle.std.specs.Prelude.{List, Option}
 use Rattle.std.specs.Option.{option_map}
 use Rattle.objects_roa.specs.bcder_tree.declared.mode.Mode.{Mode}
-use Rattle.objects_roa.specs.bcder_tree.Tags.{universal}
+use Rattle.objects_roa.specs.bcder_tree.Tags.{sequence_tag}
 use Rattle.objects_roa.specs.bcder_tree.Tree.{Tree, Trees}
 use Rattle.objects_roa.specs.bcder_content.Grammar.{End, Inside, Opt, Then}
 use Rattle.objects_roa.specs.resources_ip_prefix.Encodings.{IsFamily}
@@ -13,14 +13,14 @@ use Rattle.objects_roa.specs.Addresses.{AreAddresses}
 
 -- SEQUENCE { addressFamily OCTET STRING, addresses SEQUENCE OF ROAIPAddress }, by its values
 pub record AreFamilyIn (m : Mode) (ts : Trees) (x : FamilyAddresses) : Type 0 where
-  pub are : Then (IsFamily m) (Then (Inside (universal 16) (AreAddresses x.family m)) End) ts (x.family, (x.addresses, tt))
+  pub are : Then (IsFamily m) (Then (Inside sequence_tag (AreAddresses x.family m)) End) ts (x.family, (x.addresses, tt))
 
 abbrev pub IsFamilyOf : Mode → Tree → FamilyAddresses → Type 0
-IsFamilyOf m = Inside (universal 16) (AreFamilyIn m)
+IsFamilyOf m = Inside sequence_tag (AreFamilyIn m)
 
 -- SEQUENCE SIZE (1..2) OF ROAIPAddressFamily, by its values: one family, or both, each once
 abbrev pub ArePair : Mode → Trees → FamilyPair → Type 0
-ArePair m = Then (IsFamilyOf m) (Opt (universal 16) (IsFamilyOf m) End)
+ArePair m = Then (IsFamilyOf m) (Opt sequence_tag (IsFamilyOf m) End)
 
 pub record AreFamilies (m : Mode) (ts : Trees) (x : List RoaAddress × List RoaAddress) : Type 0 where
   pub families : FamilyPair

@@ -5,7 +5,7 @@ ghost use Rattle.objects_forms.specs.Roas.{HasMaxLen, address_of};
 ghost use Rattle.objects_roa.specs.bcder_content.Exact.{ReadsOptAs};
 ghost use Rattle.objects_roa.specs.bcder_content.Here.{here};
 ghost use Rattle.objects_roa.specs.bcder_content.InMode.{ReadsFields};
-ghost use Rattle.objects_roa.specs.bcder_tree.Tags.{universal};
+ghost use Rattle.objects_roa.specs.bcder_tree.Tags.{sequence_tag};
 ghost use Rattle.objects_roa.specs.resources_ip_prefix.Address.{bits_of};
 ghost use Rattle.objects_roa.specs.resources_ip_prefix.Encodings.{prefix_bits};
 ghost use Rattle.objects_roa.specs.resources_ip_prefix.Prefixes.{prefix_run};
@@ -115,7 +115,7 @@ impl RoaIpAddress {
         cons: &mut Constructed<S>,
         family: AddressFamily,
     ) -> Result<Option<Self>, DecodeError<S::Error>>
-        ensures reads { ReadsOptAs roa_address (universal 16)
+        ensures reads { ReadsOptAs roa_address sequence_tag
             (IsAddressOf family (here S.rest cons.old).mode)
             (here S.rest cons.old) result (here S.rest cons.new) }
         ensures failed { OnErr result ((here S.rest cons.new).failed ≡ true) }

@@ -6,7 +6,7 @@ ghost use Rattle.objects_roa.specs.bcder_content.Exact.{ReadsAs};
 ghost use Rattle.objects_roa.specs.bcder_content.Grammar.{Inside};
 ghost use Rattle.objects_roa.specs.bcder_content.Here.{here};
 ghost use Rattle.objects_roa.specs.bcder_content.InMode.{ReadsFields};
-ghost use Rattle.objects_roa.specs.bcder_tree.Tags.{universal};
+ghost use Rattle.objects_roa.specs.bcder_tree.Tags.{sequence_tag};
 ghost use Rattle.objects_roa.specs.Addresses.{AreAddresses, roa_address};
 
 use crate::address::RoaIpAddress;
@@ -110,7 +110,7 @@ impl RoaIpAddresses {
         family: AddressFamily,
     ) -> Result<Self, DecodeError<S::Error>>
         ensures reads { ReadsAs (λ l. l)
-            (Inside (universal 16) (AreAddresses family (here S.rest cons.old).mode))
+            (Inside sequence_tag (AreAddresses family (here S.rest cons.old).mode))
             (here S.rest cons.old) result (here S.rest cons.new) }
         ensures failed { OnErr result ((here S.rest cons.new).failed ≡ true) }
     {

@@ -6,7 +6,7 @@ ghost use Rattle.objects_forms.specs.Roas.{AreOf, RoaAddress};
 ghost use Rattle.objects_roa.specs.bcder_content.Exact.{ReadsAs, ReadsOptAs};
 ghost use Rattle.objects_roa.specs.bcder_content.Here.{here};
 ghost use Rattle.objects_roa.specs.bcder_content.InMode.{ReadsFields};
-ghost use Rattle.objects_roa.specs.bcder_tree.Tags.{universal};
+ghost use Rattle.objects_roa.specs.bcder_tree.Tags.{sequence_tag};
 ghost use Rattle.objects_roa.specs.Families.{AreFamilies, AreFamilyIn, ArePair, IsFamilyOf};
 ghost use Rattle.objects_roa.specs.Families.{both_families, family_value, pair_value};
 
@@ -64,7 +64,7 @@ impl RoaIpAddressFamily {
         alloc: Global,
         cons: &mut Constructed<S>,
     ) -> Result<Option<Self>, DecodeError<S::Error>>
-        ensures { ReadsOptAs family_value (universal 16) (IsFamilyOf (here S.rest cons.old).mode)
+        ensures { ReadsOptAs family_value sequence_tag (IsFamilyOf (here S.rest cons.old).mode)
             (here S.rest cons.old) result (here S.rest cons.new) }
     {
         cons.take_opt_sequence(

@@ -1,7 +1,7 @@
 -- Octets that spell what stands around a content are those of a tree of the same values, in each mode.
 use Rattle.std.proofs.Common.{ℕ, List, ap, refl, subst, sym}
 use Rattle.objects_signed.specs.bcder_tree.declared.mode.Mode.{Mode}
-use Rattle.objects_signed.specs.bcder_tree.Tags.{TagValue, universal}
+use Rattle.objects_signed.specs.bcder_tree.Tags.{TagValue, sequence_tag}
 use Rattle.objects_signed.specs.bcder_tree.Tree.{Tree, Trees, Spells, SpellsAll, constructed, more, none}
 use Rattle.objects_signed.specs.bcder_content.Grammar.{End, Inside, Then}
 use Rattle.objects_signed.specs.bcder_content.Kept.{CapturedValue}
@@ -52,7 +52,7 @@ named {m} p = record {
 }
 
 -- Certificates.
-fields_of : {m : Mode} {text : List ℕ} {f : Fields} → SpellsFields m text f → SpellsOf m (Inside (universal 16) (IsTbsBody m)) text f
+fields_of : {m : Mode} {text : List ℕ} {f : Fields} → SpellsFields m text f → SpellsOf m (Inside sequence_tag (IsTbsBody m)) text f
 fields_of w =
     let version = w.is in
     let serial = version.rest in

@@ -1,7 +1,7 @@
 -- What stands around a signed object's content, by values and by octets (RFC 5652 3, 5; RFC 6488 2.1).
 use Rattle.std.specs.Prelude.{ℕ, List}
 use Rattle.objects_signed.specs.bcder_tree.declared.mode.Mode.{Mode}
-use Rattle.objects_signed.specs.bcder_tree.Tags.{context, universal}
+use Rattle.objects_signed.specs.bcder_tree.Tags.{context, oid_tag, sequence_tag, set_tag}
 use Rattle.objects_signed.specs.bcder_tree.Tree.{Tree, Trees}
 use Rattle.objects_signed.specs.bcder_tree.Strings.{IsOctetString}
 use Rattle.objects_signed.specs.bcder_oid.Identifiers.{IsOid}
@@ -33,7 +33,7 @@ abbrev pub IsString : Mode → Trees → List ℕ × Unit {0} → Type 0
 IsString m = Then (IsOctetString m) End
 
 abbrev pub AreTyped : Mode → Trees → TypedFields → Type 0
-AreTyped m = Then (OctetsOf (universal 6) IsOid) (Then (Inside (context 0) (IsString m)) End)
+AreTyped m = Then (OctetsOf oid_tag IsOid) (Then (Inside (context 0) (IsString m)) End)
 
 -- One certificate; its octets are kept (RFC 6488 2.1.4).
 abbrev pub AreCerts : Mode → Trees → CertValue × Unit {0} → Type 0
@@ -56,7 +56,7 @@ abbrev pub AreSignerTexts : Mode → List ℕ → SignerFields × Unit {0} → T
 AreSignerTexts m = Joins (SpellsSigner m) NoOctets
 
 abbrev pub SpellsSigners : Mode → List ℕ → SignerFields × Unit {0} → Type 0
-SpellsSigners m = Wraps m (universal 17) (AreSignerTexts m)
+SpellsSigners m = Wraps m set_tag (AreSignerTexts m)
 
 -- The content with its type, the certificate, and the signer.
 abbrev pub Parts : Type 0
@@ -72,11 +72,11 @@ AreSigned m =
     (Then AreDigestAlgorithms
     (Then (IsContentInfo m)
     (Then (Inside (context 0) (AreCerts m))
-    (Then (Inside (universal 17) (AreSigners m))
+    (Then (Inside set_tag (AreSigners m))
     End))))
 
 abbrev pub IsSigned : Mode → Tree → SignedFields → Type 0
-IsSigned m = Inside (universal 16) (AreSigned m)
+IsSigned m = Inside sequence_tag (AreSigned m)
 
 abbrev pub AreSignedOctets : Mode → List ℕ → SignedFields → Type 0
 AreSignedOctets m =
@@ -108,7 +108,7 @@ abbrev pub AreFrame : Mode → Trees → ObjectFields → Type 0
 AreFrame m = Then (id.TheOid id.signed_data) (Then (Inside (context 0) (IsOneSigned m)) End)
 
 abbrev pub IsFrame : Mode → Tree → ObjectFields → Type 0
-IsFrame m = Inside (universal 16) (AreFrame m)
+IsFrame m = Inside sequence_tag (AreFrame m)
 
 abbrev pub AreFrameOctets : Mode → List ℕ → ObjectFields → Type 0
 AreFrameOctets m = Joins (SpellsOf m (id.TheOid id.signed_data)) (Joins (SpellsInner m) NoOctets)

@@ -1,7 +1,7 @@
 -- What one signer signed, and how, by values and by octets (RFC 5652 5.3, RFC 6488 2.1.6).
 use Rattle.std.specs.Prelude.{ℕ, Bool, List}
 use Rattle.objects_signed.specs.bcder_tree.declared.mode.Mode.{Mode}
-use Rattle.objects_signed.specs.bcder_tree.Tags.{context, universal}
+use Rattle.objects_signed.specs.bcder_tree.Tags.{context, sequence_tag}
 use Rattle.objects_signed.specs.bcder_tree.Tree.{Tree, Trees}
 use Rattle.objects_signed.specs.bcder_tree.Strings.{IsOctetString}
 use Rattle.objects_signed.specs.bcder_content.Grammar.{End, Inside, Then}
@@ -35,7 +35,7 @@ AreSigner m =
     End)))))
 
 abbrev pub IsSigner : Mode → Tree → SignerFields → Type 0
-IsSigner m = Inside (universal 16) (AreSigner m)
+IsSigner m = Inside sequence_tag (AreSigner m)
 
 -- By octets: the attributes' are kept.
 abbrev pub AreKeptOctets : Mode → List ℕ → List ℕ × AttributesValue → Type 0

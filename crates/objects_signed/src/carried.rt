@@ -1,7 +1,7 @@
 //! The certificate and the signer that a signed object carries (RFC 5652 5.1, RFC 6488 2.1.4, 2.1.6).
 
 ghost use Rattle.std.specs.Prelude.{IfOk};
-ghost use Rattle.objects_signed.specs.bcder_tree.Tags.{context, universal};
+ghost use Rattle.objects_signed.specs.bcder_tree.Tags.{context, set_tag};
 ghost use Rattle.objects_signed.specs.bcder_content.Exact.{ReadsAs};
 ghost use Rattle.objects_signed.specs.bcder_content.Grammar.{Inside};
 ghost use Rattle.objects_signed.specs.bcder_content.Here.{here};
@@ -70,7 +70,7 @@ pub(crate) fn take_signers<S: Source>(
     cons: &mut Constructed<S>,
 ) -> Result<SignerInfo, DecodeError<S::Error>>
     ensures reads { ReadsAs one_signer
-        (Inside (universal 17) (AreSigners (here S.rest cons.old).mode))
+        (Inside set_tag (AreSigners (here S.rest cons.old).mode))
         (here S.rest cons.old) result (here S.rest cons.new) }
     ensures octets { IfOk result (λ s. TookOctets one_signer SpellsSigners
         (here S.rest cons.old) s (here S.rest cons.new)) }

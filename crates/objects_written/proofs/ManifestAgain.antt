@@ -4,7 +4,7 @@ use Rattle.std.specs.Prelude.{All}
 use Rattle.std.proofs.lemmas.List.Elements.{All-append, All-cons, All-head, All-tail, All-weaker}
 use native.Mathlib.Nat.{mod-one}
 use Rattle.objects_written.specs.bcder_tree.declared.mode.Mode.TheVariants.{Der}
-use Rattle.objects_written.specs.bcder_tree.Tags.{TagValue, context, universal}
+use Rattle.objects_written.specs.bcder_tree.Tags.{TagValue, context, universal, generalized_time_tag, ia5_string_tag, integer_tag, oid_tag, sequence_tag}
 use Rattle.objects_written.specs.bcder_tree.Tree.{Tree, Trees, constructed, more, none, primitive}
 use Rattle.objects_written.specs.bcder_tree.Strings.{IsIa5, IsLetter}
 use Rattle.objects_written.specs.bcder_bits.Bits.{BitsValue}
@@ -52,15 +52,15 @@ name_ia5 name n =
     (All-cons IsIa5 46 n.extension (omega arith) (All-weaker IsLetter IsIa5 letter_ia5 n.extension n.extension_is)))
 
 abbrev IsName : Tree → List ℕ → Type 0
-IsName = Such (IsRestricted IsIa5 alone Der (universal 22)) IsFileName
+IsName = Such (IsRestricted IsIa5 alone Der ia5_string_tag) IsFileName
 
 abbrev IsHash : Tree → BitsValue → Type 0
 IsHash = Such (OctetsOf (universal 3) (IsBitString Der)) IsWhole
 
 name_alone : (name : List ℕ) → IsFileName name → (ts : Trees) → (file_name name).trees Der ts → Alone IsName name ts
 name_alone name n ts p = record {
-  tree = primitive (universal 22) name;
-  alone = p.whole ∙ ap (λ (o : List ℕ). more (primitive (universal 22) o) none) p.is.same;
+  tree = primitive ia5_string_tag name;
+  alone = p.whole ∙ ap (λ (o : List ℕ). more (primitive ia5_string_tag o) none) p.is.same;
   is = record { is = record { is = refl; meets = (ascii_text IsIa5 name).1 (name_ia5 name n) }; meets = n };
 }
 
@@ -99,17 +99,17 @@ files_read (f ∷ fs) all ts p =
 
 number_alone : (n : ℕ) → IsManifestNumber n → (ts : Trees) → (number n).trees Der ts → Alone IsSerial n ts
 number_alone n small ts p = record {
-  tree = primitive (universal 2) p.content;
+  tree = primitive integer_tag p.content;
   alone = p.whole;
   is = record { is = record { content = p.content; whole = refl; is = p.is }; meets = small };
 }
 
 moment_alone : (seconds : ℕ) (ts : Trees) → (moment seconds).trees Der ts → Alone IsMomentString seconds ts
-moment_alone seconds ts p = record { tree = primitive (universal 24) p.content; alone = p.whole; is = record { content = p.content; whole = refl; is = p.is } }
+moment_alone seconds ts p = record { tree = primitive generalized_time_tag p.content; alone = p.whole; is = record { content = p.content; whole = refl; is = p.is } }
 
 algorithm_alone : (ts : Trees) → (of oid id.sha256).trees Der ts → Alone (id.TheOid id.sha256) tt ts
 algorithm_alone ts p = record {
-  tree = primitive (universal 6) p.content;
+  tree = primitive oid_tag p.content;
   alone = p.whole;
   is = record { content = p.content; whole = refl; is = record { same = p.is.same } };
 }
@@ -117,7 +117,7 @@ algorithm_alone ts p = record {
 no_version : {B : Type 0} {R : Trees → B → Type 0} {n : ℕ} {y : B} {ts : Trees} → Then IsSerial R ts (n, y) → Without (context 0) ts
 no_version p = record {
   unlike = λ t us e same.
-      let tags : universal 2 ≡ tag_of t = ap tag_of (sym p.is.is.whole ∙ (same_trees (sym p.whole ∙ e)).0) in
+      let tags : integer_tag ≡ tag_of t = ap tag_of (sym p.is.is.whole ∙ (same_trees (sym p.whole ∙ e)).0) in
       let wrong : 0 ≡ 2 = ap (λ (z : TagValue). z.class) (tags ∙ same) in
       absurd (omega arith);
 }
@@ -132,7 +132,7 @@ manifest_alone x small names ts p =
     let others = then_of (moment_alone x.this_update) (then_of (moment_alone x.next_update) (then_of algorithm_alone listed)) in
     let rest = then_of (number_alone x.number small) others p.values p.is in
     record {
-      tree = constructed (universal 16) p.values;
+      tree = constructed sequence_tag p.values;
       alone = p.whole;
       is = record {
         x = fields;

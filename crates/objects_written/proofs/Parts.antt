@@ -1,7 +1,7 @@
 -- A prefix and a moment, by what they mean.
 use Rattle.std.proofs.Common.{◌≡◌, ℕ, List, sym, ◌∙◌, subst}
 use Rattle.objects_written.specs.bcder_tree.declared.mode.Mode.{Mode}
-use Rattle.objects_written.specs.bcder_tree.Tags.{TagValue, universal}
+use Rattle.objects_written.specs.bcder_tree.Tags.{TagValue, generalized_time_tag}
 use Rattle.objects_written.specs.bcder_bits.Bits.{BitsValue}
 use Rattle.objects_written.specs.bcder_bits.Contents.{WritesBits, bit_string_tag}
 use Rattle.objects_written.specs.bcder_primitive.Values.{AnyOctets}
@@ -26,7 +26,7 @@ prefix_turns m p x e = record {
     bits : (content : List ℕ) → WritesPrefix m x content → WritesBits m (spelled_bits p) content
     bits content w = subst (λ (z : BitsValue). WritesBits m z content) (same_bits w.prefix p (w.told ∙ sym e)) w.is
 
-pub moment_turns : (m : Mode) (tag : TagValue) (text : List ℕ) (seconds : ℕ) → tag ≡ universal 24 → IsMoment text seconds
+pub moment_turns : (m : Mode) (tag : TagValue) (text : List ℕ) (seconds : ℕ) → tag ≡ generalized_time_tag → IsMoment text seconds
     → Turns (IsPlain tag (λ octets. AnyOctets octets text)) ((moment seconds).trees m) (WritesPlain m tag (λ octets. AnyOctets octets text)) ((moment seconds).writes m)
 moment_turns m tag text seconds e is =
     subst (λ (t : TagValue). Turns (IsPlain t (λ octets. AnyOctets octets text)) ((moment seconds).trees m) (WritesPlain m t (λ octets. AnyOctets octets text)) ((moment seconds).writes m)) (sym e) (record {

@@ -2,7 +2,7 @@
 use Rattle.std.proofs.Common.{◌≡◌, ◌≢◌, ◌⊎◌, ℕ, ◌^◌, ◌≤◌, List, [], ◌∷◌, Option, Some, None, inl, inr, refl, sym, ap, ◌∙◌, subst, arith}
 use Rattle.objects_written.specs.bcder_tree.declared.mode.Mode.{Mode}
 use Rattle.objects_written.specs.bcder_tree.declared.mode.Mode.TheVariants.{Der}
-use Rattle.objects_written.specs.bcder_tree.Tags.{TagValue, context, universal}
+use Rattle.objects_written.specs.bcder_tree.Tags.{TagValue, context, integer_tag}
 use Rattle.objects_written.specs.bcder_tree.Tree.{Trees, none, primitive}
 use Rattle.objects_written.specs.bcder_bits.Contents.{bit_string_tag}
 use Rattle.objects_written.specs.bcder_primitive.Values.{IsUnsigned}
@@ -41,11 +41,11 @@ prefix_alone m f x fits ts p =
     }
 
 -- A greatest length, or none.
-most_read : (m : Mode) (o : Option ℕ) (ts : Trees) → (perhaps (of (unsigned (2 ^ 8))) o).trees m ts → Opt (universal 2) (OctetsOf (universal 2) (IsUnsigned (2 ^ 8))) End ts (o, tt)
+most_read : (m : Mode) (o : Option ℕ) (ts : Trees) → (perhaps (of (unsigned (2 ^ 8))) o).trees m ts → Opt integer_tag (OctetsOf integer_tag (IsUnsigned (2 ^ 8))) End ts (o, tt)
 most_read m None ts p = record { cases = (record { unlike = λ t us e same. not_more (sym p ∙ e) }, record { ended = p }) }
 most_read m (Some n) ts p = record {
   cases = record {
-    first = primitive (universal 2) p.content;
+    first = primitive integer_tag p.content;
     others = none;
     whole = p.whole;
     is = record { content = p.content; whole = refl; is = p.is.is };
@@ -128,12 +128,12 @@ families_read m (b ∷ xs) (c ∷ ys) some l k ts p =
 -- The whole content.
 
 asn_alone : (m : Mode) (n : ℕ) (ts : Trees) → (of (unsigned (2 ^ 32)) n).trees m ts → Alone IsAsId n ts
-asn_alone m n ts p = record { tree = primitive (universal 2) p.content; alone = p.whole; is = record { content = p.content; whole = refl; is = p.is.is } }
+asn_alone m n ts p = record { tree = primitive integer_tag p.content; alone = p.whole; is = record { content = p.content; whole = refl; is = p.is.is } }
 
 no_version : {B : Type 0} {R : Trees → B → Type 0} {n : ℕ} {y : B} {ts : Trees} → Then IsAsId R ts (n, y) → Without (context 0) ts
 no_version p = record {
   unlike = λ t us e same.
-      let tags : universal 2 ≡ tag_of t = ap tag_of (sym p.is.whole ∙ (same_trees (sym p.whole ∙ e)).0) in
+      let tags : integer_tag ≡ tag_of t = ap tag_of (sym p.is.whole ∙ (same_trees (sym p.whole ∙ e)).0) in
       let wrong : 0 ≡ 2 = ap (λ (z : TagValue). z.class) (tags ∙ same) in
       absurd (omega arith);
 }

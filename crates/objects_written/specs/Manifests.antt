@@ -1,6 +1,6 @@
 -- What is written of manifests (RFC 9286 4.2).
 use Rattle.std.specs.Prelude.{◌^◌, ◌<◌, ℕ, List, All}
-use Rattle.objects_written.specs.bcder_tree.Tags.{universal}
+use Rattle.objects_written.specs.bcder_tree.Tags.{generalized_time_tag, ia5_string_tag, sequence_tag}
 use Rattle.objects_written.specs.bcder_bits.Bits.{BitsValue}
 use Rattle.objects_written.specs.bcder_values.Plains.{plain_one, plain_spelled}
 use Rattle.objects_written.specs.bcder_written.Encoded.{IsPlain, WritesPlain}
@@ -17,7 +17,7 @@ whole_octets hash = record { unused = 0; octets = hash }
 
 -- FileAndHash ::= SEQUENCE { file IA5String, hash BIT STRING } (RFC 9286 4.2)
 abbrev pub file_name : List ℕ → Output
-file_name = of (octets_at (universal 22))
+file_name = of (octets_at ia5_string_tag)
 
 abbrev pub file_hash : List ℕ → Output
 file_hash hash = of bits (whole_octets hash)
@@ -26,7 +26,7 @@ abbrev pub file_parts : File → List ℕ × List ℕ
 file_parts f = (f.name, f.hash)
 
 abbrev pub written_file : List ℕ × List ℕ → Output
-written_file p = inside (universal 16) (beside (file_name p.0) (file_hash p.1))
+written_file p = inside sequence_tag (beside (file_name p.0) (file_hash p.1))
 
 abbrev pub file : File → Output
 file f = written_file (file_parts f)
@@ -34,8 +34,8 @@ file f = written_file (file_parts f)
 -- GeneralizedTime, whatever the year (RFC 9286 4.2.1)
 abbrev pub moment : ℕ → Output
 moment seconds = record {
-  trees = λ m. IsPlain (universal 24) (λ content. IsMoment content seconds);
-  writes = λ m. WritesPlain m (universal 24) (λ content. IsMoment content seconds);
+  trees = λ m. IsPlain generalized_time_tag (λ content. IsMoment content seconds);
+  writes = λ m. WritesPlain m generalized_time_tag (λ content. IsMoment content seconds);
   spelled = λ m. plain_spelled m;
   one_text = λ m. plain_one m (λ a b. one_text a b seconds);
 }
@@ -51,12 +51,12 @@ manifest_parts x = (x.number, (x.this_update, (x.next_update, (id.sha256, x.file
 
 abbrev pub written_manifest : ManifestParts → Output
 written_manifest p =
-    inside (universal 16)
+    inside sequence_tag
     (beside (number p.0)
     (beside (moment p.1.0)
     (beside (moment p.1.1.0)
     (beside (of oid p.1.1.1.0)
-    (inside (universal 16) (each file p.1.1.1.1))))))
+    (inside sequence_tag (each file p.1.1.1.1))))))
 
 abbrev pub manifest : Manifest → Output
 manifest x = written_manifest (manifest_parts x)

@@ -2,7 +2,7 @@
 use Rattle.std.proofs.Common.{◌≡◌, ◌≢◌, ◌⊎◌, ℕ, ◌-◌, ◌*◌, ◌^◌, List, [], ◌∷◌, Option, Some, None, take, sym, ap, ◌∙◌, subst}
 use Rattle.std.specs.Int.{to_be_bytes, w128}
 use Rattle.objects_written.specs.bcder_tree.declared.mode.Mode.{Mode}
-use Rattle.objects_written.specs.bcder_tree.Tags.{universal}
+use Rattle.objects_written.specs.bcder_tree.Tags.{sequence_tag}
 use Rattle.objects_written.specs.bcder_bits.Bits.{BitsValue}
 use Rattle.objects_written.specs.bcder_bits.Contents.{WritesBits, bit_string_tag}
 use Rattle.objects_written.specs.bcder_bits.Written.{one_bits}
@@ -53,7 +53,7 @@ abbrev pub max_length : ℕ → Output
 max_length = of (unsigned (2 ^ 8))
 
 abbrev pub written_address : FirstBits × Option ℕ → Output
-written_address p = inside (universal 16) (beside (prefix p.0) (perhaps max_length p.1))
+written_address p = inside sequence_tag (beside (prefix p.0) (perhaps max_length p.1))
 
 abbrev pub address : RoaAddress → Output
 address a = written_address (address_parts a)
@@ -66,7 +66,7 @@ abbrev pub family_parts : FamilyAddresses → AddressFamily × List RoaAddress
 family_parts x = (x.family, x.addresses)
 
 abbrev pub written_family : AddressFamily × List RoaAddress → Output
-written_family p = inside (universal 16) (beside (family_id p.0) (inside (universal 16) (each address p.1)))
+written_family p = inside sequence_tag (beside (family_id p.0) (inside sequence_tag (each address p.1)))
 
 abbrev pub family : FamilyAddresses → Output
 family x = written_family (family_parts x)
@@ -88,7 +88,7 @@ abbrev pub as_id : ℕ → Output
 as_id = of (unsigned (2 ^ 32))
 
 abbrev pub written_roa : RoaParts → Output
-written_roa p = inside (universal 16) (beside (as_id p.0) (inside (universal 16) (beside (perhaps family p.1.0) (perhaps family p.1.1))))
+written_roa p = inside sequence_tag (beside (as_id p.0) (inside sequence_tag (beside (perhaps family p.1.0) (perhaps family p.1.1))))
 
 abbrev pub roa : Roa → Output
 roa r = written_roa (roa_parts r)

@@ -1,7 +1,7 @@
 -- What is written of AS resources means just these.
 use Rattle.std.proofs.Common.{◌≡◌, ◌≢◌, List, Result, Ok, Err, refl, sym, subst, inl, inr, arith}
 use Rattle.std.specs.Prelude.{IfOk}
-use Rattle.resources_as.specs.bcder_tree.Tags.{universal, context}
+use Rattle.resources_as.specs.bcder_tree.Tags.{context, null_tag, sequence_tag}
 use Rattle.resources_as.specs.bcder_tree.Tree.{Tree, Trees, primitive, constructed, none}
 use Rattle.resources_as.specs.bcder_primitive.Values.{IsNull}
 use Rattle.resources_as.specs.bcder_source.declared.error.DecodeError.{DecodeError}
@@ -20,9 +20,9 @@ use Rattle.resources_as.specs.Encodings.{AreBlocks, IsAsSet, IsAsChoice, IsAsRes
 use Rattle.resources_as.specs.Written.{AreAsBlocks, AreIdentifiers, AreAsResources, HasMaximal, MeansJust, ReadsSet}
 use Rattle.resources_as.proofs.Reading.{inherit_tagged, list_tagged}
 
-set_is : (runs : List Run) (ts : Trees) → AreMaximal runs → IsWrapped (universal 16) (AreAsBlocks runs) ts → IsOne IsAsSet runs ts
+set_is : (runs : List Run) (ts : Trees) → AreMaximal runs → IsWrapped sequence_tag (AreAsBlocks runs) ts → IsOne IsAsSet runs ts
 set_is runs ts m p = record {
-  tree = constructed (universal 16) p.values;
+  tree = constructed sequence_tag p.values;
   whole = p.whole;
   is = record {
     values = p.values;
@@ -35,21 +35,21 @@ set_is runs ts m p = record {
   };
 }
 
-null_is : (ts : Trees) → IsPlain (universal 5) (λ content. IsNull content tt) ts → IsOne IsAsChoice Inherit ts
+null_is : (ts : Trees) → IsPlain null_tag (λ content. IsNull content tt) ts → IsOne IsAsChoice Inherit ts
 null_is ts p = record {
-  tree = primitive (universal 5) p.content;
+  tree = primitive null_tag p.content;
   whole = p.whole;
   is = record { cases = inl (record { x = tt; is = record { content = p.content; whole = refl; is = p.is }; means = refl }) };
 }
 
-list_is : (runs : List Run) (ts : Trees) → AreMaximal runs → IsWrapped (universal 16) (AreAsBlocks runs) ts → IsOne IsAsChoice (Blocks runs) ts
+list_is : (runs : List Run) (ts : Trees) → AreMaximal runs → IsWrapped sequence_tag (AreAsBlocks runs) ts → IsOne IsAsChoice (Blocks runs) ts
 list_is runs ts m p = let a = set_is runs ts m p in record { tree = a.tree; whole = a.whole; is = record { cases = inr (record { x = runs; is = a.is; means = refl }) } }
 
 identifiers_are : (P : Trees → Type 0) (choice : Choice) → ((ts : Trees) → P ts → IsOne IsAsChoice choice ts) → (ts : Trees) → AreIdentifiers P ts → IsOne IsAsResources choice ts
 identifiers_are P choice inner ts p =
     let a = inner p.is.values p.is.is in
     record {
-      tree = constructed (universal 16) p.values;
+      tree = constructed sequence_tag p.values;
       whole = p.whole;
       is = record {
         x = ((choice, tt), tt);
@@ -90,14 +90,14 @@ just choice ts a = record { tree = a.tree; whole = a.whole; is = a.is; only = λ
 
 pub means_just : (choice : Choice) (ts : Trees) → HasMaximal choice → choice ≢ Missing → AreAsResources choice ts → MeansJust choice ts
 means_just Missing ts m there p = absurd (there refl)
-means_just Inherit ts m there p = just Inherit ts (identifiers_are (IsPlain (universal 5) (λ content. IsNull content tt)) Inherit null_is ts p)
-means_just (Blocks runs) ts m there p = just (Blocks runs) ts (identifiers_are (IsWrapped (universal 16) (AreAsBlocks runs)) (Blocks runs) (λ us q. list_is runs us m q) ts p)
+means_just Inherit ts m there p = just Inherit ts (identifiers_are (IsPlain null_tag (λ content. IsNull content tt)) Inherit null_is ts p)
+means_just (Blocks runs) ts m there p = just (Blocks runs) ts (identifiers_are (IsWrapped sequence_tag (AreAsBlocks runs)) (Blocks runs) (λ us q. list_is runs us m q) ts p)
 
 pub one_choice : (t : Tree) (one other : Choice) → IsAsResources t one → IsAsResources t other → one ≡ other
 one_choice t one other p q = resources_one.one t one other p q
 
 -- A SEQUENCE of the blocks is read as the same set, and a set that is read can be written.
-pub set_again : (runs : List Run) (ts : Trees) → AreMaximal runs → IsWrapped (universal 16) (AreAsBlocks runs) ts → ReadsSet runs ts
+pub set_again : (runs : List Run) (ts : Trees) → AreMaximal runs → IsWrapped sequence_tag (AreAsBlocks runs) ts → ReadsSet runs ts
 set_again runs ts m p = let a = set_is runs ts m p in record { tree = a.tree; alone = a.whole; is = a.is }
 
 pub one_set : (t : Tree) (one other : List Run) → IsAsSet t one → IsAsSet t other → one ≡ other

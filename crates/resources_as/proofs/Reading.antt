@@ -1,7 +1,7 @@
 -- What reading AS resources rests on: tags, one meaning of a value, and lists by their sets.
 use Rattle.std.proofs.Common.{◌≡◌, List, Result, Ok, Err, subst, sym}
 use Rattle.std.specs.Result.{IsErr, IsErrAnd}
-use Rattle.resources_as.specs.bcder_tree.Tags.{universal}
+use Rattle.resources_as.specs.bcder_tree.Tags.{null_tag, sequence_tag}
 use Rattle.resources_as.specs.bcder_source.Errors.{OnContent}
 use Rattle.resources_as.specs.bcder_content.Contents.{ValuesLeft}
 use Rattle.resources_as.specs.bcder_content.Exact.{GivesAll, LacksAll, ReadsAllAs}
@@ -13,10 +13,10 @@ use Rattle.resources_as.specs.resources_chain.Sets.{Run, InRuns, IsRunsOf}
 use Rattle.resources_as_block.specs.Encodings.{IsAsBlock}
 use Rattle.resources_as.specs.Encodings.{AreBlocks, InheritsAs, ListsAs}
 
-pub inherit_tagged : Tagged (universal 5) InheritsAs
+pub inherit_tagged : Tagged null_tag InheritsAs
 inherit_tagged = as_tagged (octets_tagged _ _)
 
-pub list_tagged : Tagged (universal 16) ListsAs
+pub list_tagged : Tagged sequence_tag ListsAs
 list_tagged = as_tagged (inside_tagged _ _)
 
 -- Blocks mean their union.

@@ -1,6 +1,6 @@
 -- AS resources in an encoding: ASIdentifiers (RFC 3779 3.2.3).
 use Rattle.std.specs.Prelude.{List}
-use Rattle.resources_as.specs.bcder_tree.Tags.{universal, context}
+use Rattle.resources_as.specs.bcder_tree.Tags.{context, null_tag, sequence_tag}
 use Rattle.resources_as.specs.bcder_tree.Tree.{Tree, Trees}
 use Rattle.resources_as.specs.bcder_primitive.Values.{IsNull}
 use Rattle.resources_as.specs.bcder_content.Grammar.{Inside, OctetsOf, OneOf, As, End, Then, Many}
@@ -16,7 +16,7 @@ pub record AreBlocks (ts : Trees) (set : List Run) : Type 0 where
   pub union : IsRunsOf (InRuns runs) set
 
 abbrev pub IsAsSet : Tree → List Run → Type 0
-IsAsSet = Inside (universal 16) AreBlocks
+IsAsSet = Inside sequence_tag AreBlocks
 
 abbrev pub lists : List Run → Choice
 lists set = Blocks set
@@ -29,7 +29,7 @@ abbrev pub inherits : Unit {0} → Choice
 inherits x = Inherit
 
 abbrev pub InheritsAs : Tree → Choice → Type 0
-InheritsAs = As (OctetsOf (universal 5) IsNull) inherits
+InheritsAs = As (OctetsOf null_tag IsNull) inherits
 
 -- ASIdentifierChoice ::= CHOICE { inherit NULL, asIdsOrRanges SEQUENCE OF ASIdOrRange } (3.2.3.2).
 abbrev pub IsAsChoice : Tree → Choice → Type 0
@@ -46,4 +46,4 @@ abbrev pub innermost : (Choice × Unit {0}) × Unit {0} → Choice
 innermost x = x.0.0
 
 abbrev pub IsAsResources : Tree → Choice → Type 0
-IsAsResources = As (Inside (universal 16) AreAsIdentifiers) innermost
+IsAsResources = As (Inside sequence_tag AreAsIdentifiers) innermost

@@ -1,7 +1,7 @@
 -- What is written of AS resources (RFC 3779 3.2.3), in their canonical form (3.2.3.4).
 use Rattle.std.specs.Prelude.{◌≡◌, ℕ, List}
 use Rattle.resources_as.specs.bcder_tree.declared.mode.Mode.{Mode}
-use Rattle.resources_as.specs.bcder_tree.Tags.{universal, context}
+use Rattle.resources_as.specs.bcder_tree.Tags.{context, null_tag, sequence_tag}
 use Rattle.resources_as.specs.bcder_tree.Tree.{Tree, Trees, none, more}
 use Rattle.resources_as.specs.bcder_primitive.Values.{IsNull}
 use Rattle.resources_as.specs.bcder_written.Encoded.{NoTree, NoText, IsPlain, WritesPlain, IsWrapped, WritesWrapped, SpellsSome}
@@ -26,21 +26,21 @@ WritesAsBlocks m = WritesAll (WritesAsBlock m)
 
 -- ASIdentifiers: `asnum` alone (3.2.3.1).
 abbrev pub AreIdentifiers : (Trees → Type 0) → Trees → Type 0
-AreIdentifiers P = IsWrapped (universal 16) (IsWrapped (context 0) P)
+AreIdentifiers P = IsWrapped sequence_tag (IsWrapped (context 0) P)
 
 abbrev pub WritesIdentifiers : Mode → (List ℕ → Type 0) → List ℕ → Type 0
-WritesIdentifiers m P = WritesWrapped m (universal 16) (WritesWrapped m (context 0) P)
+WritesIdentifiers m P = WritesWrapped m sequence_tag (WritesWrapped m (context 0) P)
 
 -- Nothing where AS resources are missing; else `inherit`, or the blocks of the set.
 abbrev pub AreAsResources : Choice → Trees → Type 0
 AreAsResources Missing = NoTree
-AreAsResources Inherit = AreIdentifiers (IsPlain (universal 5) (λ content. IsNull content tt))
-AreAsResources (Blocks runs) = AreIdentifiers (IsWrapped (universal 16) (AreAsBlocks runs))
+AreAsResources Inherit = AreIdentifiers (IsPlain null_tag (λ content. IsNull content tt))
+AreAsResources (Blocks runs) = AreIdentifiers (IsWrapped sequence_tag (AreAsBlocks runs))
 
 abbrev pub WritesAsResources : Mode → Choice → List ℕ → Type 0
 WritesAsResources m Missing = NoText
-WritesAsResources m Inherit = WritesIdentifiers m (WritesPlain m (universal 5) (λ content. IsNull content tt))
-WritesAsResources m (Blocks runs) = WritesIdentifiers m (WritesWrapped m (universal 16) (WritesAsBlocks m runs))
+WritesAsResources m Inherit = WritesIdentifiers m (WritesPlain m null_tag (λ content. IsNull content tt))
+WritesAsResources m (Blocks runs) = WritesIdentifiers m (WritesWrapped m sequence_tag (WritesAsBlocks m runs))
 
 -- One value, which is AS resources of the choice, and of no other.
 pub record MeansJust (choice : Choice) (ts : Trees) : Type 0 where

@@ -1,7 +1,7 @@
 //! Laws of AS resources: the contracts of functions that do nothing.
 
 ghost use Rattle.std.specs.Prelude.{◌≡◌, ℕ, List};
-ghost use Rattle.resources_as.specs.bcder_tree.Tags.{universal};
+ghost use Rattle.resources_as.specs.bcder_tree.Tags.{sequence_tag};
 ghost use Rattle.resources_as.specs.bcder_tree.Tree.{Tree, Trees};
 ghost use Rattle.resources_as.specs.bcder_written.Encoded.{IsWrapped};
 ghost use Rattle.resources_as.specs.resources_chain.Claims.{Choice};
@@ -22,7 +22,7 @@ pub fn what_is_written_means_just_these()
 /// A SEQUENCE of what is written of a set is one value, which is read as the same set (RFC 3779 section 3.2.3.4).
 pub fn a_set_is_read_again()
     ensures { (runs : List Run) (ts : Trees) → AreMaximal runs
-        → IsWrapped (universal 16) (AreAsBlocks runs) ts → ReadsSet runs ts }
+        → IsWrapped sequence_tag (AreAsBlocks runs) ts → ReadsSet runs ts }
 {}
 
 /// What is read of AS resources, or as a set of them, is by maximal runs: so it can be written, and is read again.

@@ -1,7 +1,7 @@
 //! Sets of AS numbers and AS resources that are written (RFC 3779 section 3.2.3).
 
 ghost use Rattle.std.specs.Prelude.{◌≡◌, IfOk, IfErr, OnOk};
-ghost use Rattle.resources_as.specs.bcder_tree.Tags.{universal};
+ghost use Rattle.resources_as.specs.bcder_tree.Tags.{sequence_tag};
 ghost use Rattle.resources_as.specs.bcder_written.Encoded.{IsWrapped, WritesWrapped};
 ghost use Rattle.resources_as.specs.bcder_written.Writing.{HasLength, Wrote, CannotWrite, WriteRefused};
 ghost use Rattle.resources_as.specs.resources_chain.Claims.{HasMaximal};
@@ -130,10 +130,10 @@ fn write_inherit<W: Write>(mode: Mode, target: &mut W) -> Result<(), EncodeError
 fn list_len<V: Values + Drop>(mode: Mode, blocks: V) -> Result<usize, EncodeError>
     ensures len { IfOk result
         (HasLength
-        (WritesIdentifiers mode (WritesWrapped mode (universal 16) (V.writes blocks mode)))) }
+        (WritesIdentifiers mode (WritesWrapped mode sequence_tag (V.writes blocks mode)))) }
     ensures refused { IfErr result
-        (CannotWrite (AreIdentifiers (IsWrapped (universal 16) (V.trees blocks mode)))
-        (WritesIdentifiers mode (WritesWrapped mode (universal 16) (V.writes blocks mode)))) }
+        (CannotWrite (AreIdentifiers (IsWrapped sequence_tag (V.trees blocks mode)))
+        (WritesIdentifiers mode (WritesWrapped mode sequence_tag (V.writes blocks mode)))) }
 {
     let list = Constructed {
         tag: Tag::SEQUENCE,
@@ -149,11 +149,11 @@ fn write_list<V: Values + Drop, W: Write>(
     target: &mut W,
 ) -> Result<(), EncodeError>
     ensures written { OnOk result
-        (Wrote (WritesIdentifiers mode (WritesWrapped mode (universal 16) (V.writes blocks mode)))
+        (Wrote (WritesIdentifiers mode (WritesWrapped mode sequence_tag (V.writes blocks mode)))
         (W.contents target.old) (W.contents target.new)) }
     ensures refused { IfErr result
-        (WriteRefused (AreIdentifiers (IsWrapped (universal 16) (V.trees blocks mode)))
-        (WritesIdentifiers mode (WritesWrapped mode (universal 16) (V.writes blocks mode)))
+        (WriteRefused (AreIdentifiers (IsWrapped sequence_tag (V.trees blocks mode)))
+        (WritesIdentifiers mode (WritesWrapped mode sequence_tag (V.writes blocks mode)))
         (target.new ≡ target.old) (W.contents target.old) (W.contents target.new)) }
 {
     let list = Constructed {

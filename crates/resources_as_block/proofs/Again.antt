@@ -1,7 +1,7 @@
 -- What is written of blocks of AS numbers means just these.
 use Rattle.std.proofs.Common.{◌≡◌, ℕ, ◌≤◌, ◌==◌, Bool, true, false, List, [], ◌∷◌, refl, sym, ap, ◌∙◌, inl, inr, arith}
 use Rattle.std.proofs.lemmas.Bool.{eqb-true}
-use Rattle.resources_as_block.specs.bcder_tree.Tags.{universal}
+use Rattle.resources_as_block.specs.bcder_tree.Tags.{integer_tag, sequence_tag}
 use Rattle.resources_as_block.specs.bcder_tree.Tree.{Tree, Trees, primitive, constructed, none, more}
 use Rattle.resources_as_block.specs.bcder_content.Grammar.{Inside, OctetsOf, OneOf, As, End, Then, Many, ManyCases, Tagged, One, OneAll}
 use Rattle.resources_as_block.proofs.of_bcder_content.Unique.{octets_one, unsigned_one, inside_one, as_one, one_of_one, end_one, then_one, many_one}
@@ -22,7 +22,7 @@ pub record IsOne {A : Type 0} (Q : Tree → A → Type 0) (x : A) (ts : Trees) :
   pub is : Q tree x
 
 id_is : (n : ℕ) (ts : Trees) → AreAsId n ts → IsOne IsAsId n ts
-id_is n ts p = record { tree = primitive (universal 2) p.content; whole = p.whole; is = record { content = p.content; whole = refl; is = p.is.is } }
+id_is n ts p = record { tree = primitive integer_tag p.content; whole = p.whole; is = record { content = p.content; whole = refl; is = p.is.is } }
 
 ends_are : (r : Run) (ts : Trees) → AreBoth (AreAsId r.first) (AreAsId r.last) ts → AreEnds ts (r.first, (r.last, tt))
 ends_are r ts p =
@@ -39,7 +39,7 @@ ends_are r ts p =
 
 range_is : (r : Run) (ts : Trees) → r.first ≤ r.last → AreAsRange r ts → IsOne (As IsAsRange from_to) r ts
 range_is r ts order p = record {
-  tree = constructed (universal 16) p.values;
+  tree = constructed sequence_tag p.values;
   whole = p.whole;
   is = record {
     x = (r.first, (r.last, tt));

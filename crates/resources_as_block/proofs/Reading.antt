@@ -1,7 +1,7 @@
 -- What reading blocks of AS numbers rests on: tags, and one meaning of a value.
 use Rattle.std.proofs.Common.{◌≡◌, ◌≤◌, ℕ, Result, Ok, Err, ap, arith, subst, sym}
 use Rattle.std.specs.Result.{IsErr, IsErrAnd}
-use Rattle.resources_as_block.specs.bcder_tree.Tags.{TagValue, universal}
+use Rattle.resources_as_block.specs.bcder_tree.Tags.{TagValue, integer_tag, sequence_tag}
 use Rattle.resources_as_block.specs.bcder_tree.Tree.{Trees}
 use Rattle.resources_as_block.specs.bcder_source.Errors.{OnContent}
 use Rattle.resources_as_block.specs.bcder_source.declared.error.DecodeError.{DecodeError}
@@ -16,10 +16,10 @@ use Rattle.resources_as_block.proofs.of_bcder_content.Unique.{octets_tagged, ins
 use Rattle.resources_asn.specs.Encodings.{IsAsId, whichever}
 use Rattle.resources_as_block.specs.Encodings.{AreEnds, AreOrdered, Ends, IsAsRange, IsAsBlock, IsAnyAsBlock, alone, from_to}
 
-pub id_tagged : Tagged (universal 2) (As IsAsId alone)
+pub id_tagged : Tagged integer_tag (As IsAsId alone)
 id_tagged = as_tagged (octets_tagged _ _)
 
-pub range_tagged : Tagged (universal 16) (As IsAsRange from_to)
+pub range_tagged : Tagged sequence_tag (As IsAsRange from_to)
 range_tagged = as_tagged (inside_tagged _ _)
 
 -- Two numbers are read in one way.

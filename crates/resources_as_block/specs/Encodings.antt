@@ -1,6 +1,6 @@
 -- Blocks of AS numbers in an encoding (RFC 3779 3.2.3.5 to 3.2.3.9).
 use Rattle.std.specs.Prelude.{ℕ, ◌≤◌}
-use Rattle.resources_as_block.specs.bcder_tree.Tags.{universal}
+use Rattle.resources_as_block.specs.bcder_tree.Tags.{sequence_tag}
 use Rattle.resources_as_block.specs.bcder_tree.Tree.{Tree, Trees}
 use Rattle.resources_as_block.specs.bcder_content.Grammar.{Inside, OneOf, As, End, Then}
 use Rattle.resources_as_block.specs.resources_chain.Sets.{Run}
@@ -24,7 +24,7 @@ pub record AreOrdered (ts : Trees) (ends : Ends) : Type 0 where
   pub ordered : ends.0 ≤ ends.1.0
 
 abbrev pub IsAsRange : Tree → Ends → Type 0
-IsAsRange = Inside (universal 16) AreOrdered
+IsAsRange = Inside sequence_tag AreOrdered
 
 -- ASIdOrRange ::= CHOICE { id ASId, range ASRange } (3.2.3.5).
 abbrev pub IsAsBlock : Tree → Run → Type 0

@@ -1,7 +1,7 @@
 -- What is written of blocks of AS numbers (RFC 3779 3.2.3.5 to 3.2.3.10).
 use Rattle.std.specs.Prelude.{◌≡◌, ℕ, ◌^◌, ◌==◌, Bool, true, false, List}
 use Rattle.resources_as_block.specs.bcder_tree.declared.mode.Mode.{Mode}
-use Rattle.resources_as_block.specs.bcder_tree.Tags.{universal}
+use Rattle.resources_as_block.specs.bcder_tree.Tags.{integer_tag, sequence_tag}
 use Rattle.resources_as_block.specs.bcder_tree.Tree.{Trees}
 use Rattle.resources_as_block.specs.bcder_written.Encoded.{IsPlain, WritesPlain, IsWrapped, WritesWrapped, AreBoth, WritesBoth, SpellsSome}
 use Rattle.resources_as_block.specs.bcder_written.Integers.{WritesUnsigned, one_unsigned}
@@ -12,17 +12,17 @@ use Rattle.resources_as_block.specs.resources_chain.Sets.{Run}
 
 -- id ASId.
 abbrev pub AreAsId : ℕ → Trees → Type 0
-AreAsId n = IsPlain (universal 2) (WritesUnsigned (2 ^ 32) n)
+AreAsId n = IsPlain integer_tag (WritesUnsigned (2 ^ 32) n)
 
 abbrev pub WritesAsId : Mode → ℕ → List ℕ → Type 0
-WritesAsId m n = WritesPlain m (universal 2) (WritesUnsigned (2 ^ 32) n)
+WritesAsId m n = WritesPlain m integer_tag (WritesUnsigned (2 ^ 32) n)
 
 -- range ASRange.
 abbrev pub AreAsRange : Run → Trees → Type 0
-AreAsRange r = IsWrapped (universal 16) (AreBoth (AreAsId r.first) (AreAsId r.last))
+AreAsRange r = IsWrapped sequence_tag (AreBoth (AreAsId r.first) (AreAsId r.last))
 
 abbrev pub WritesAsRange : Mode → Run → List ℕ → Type 0
-WritesAsRange m r = WritesWrapped m (universal 16) (WritesBoth (WritesAsId m r.first) (WritesAsId m r.last))
+WritesAsRange m r = WritesWrapped m sequence_tag (WritesBoth (WritesAsId m r.first) (WritesAsId m r.last))
 
 -- ASIdOrRange: `id` for one number alone, else `range` (3.2.3.5).
 abbrev pub AreIdOrRange : (is_one : Bool) → Run → Trees → Type 0

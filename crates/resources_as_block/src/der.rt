@@ -1,7 +1,7 @@
 //! Blocks of AS numbers that are read from an encoding (RFC 3779 section 3.2.3.5).
 
 ghost use Rattle.std.specs.Prelude.{◌≡◌, ◌≢◌, true, IfErr, OnErr};
-ghost use Rattle.resources_as_block.specs.bcder_tree.Tags.{universal};
+ghost use Rattle.resources_as_block.specs.bcder_tree.Tags.{sequence_tag};
 ghost use Rattle.resources_as_block.specs.bcder_source.declared.error.DecodeError.TheVariants.{Memory};
 ghost use Rattle.resources_as_block.specs.bcder_content.Exact.{ReadsOptAs, ReadsAllAs};
 ghost use Rattle.resources_as_block.specs.bcder_content.Here.{here};
@@ -52,7 +52,7 @@ fn range_in<S: Source>(cons: &mut Constructed<S>) -> Result<AsRange, DecodeError
 fn take_opt_range<S: Source>(
     cons: &mut Constructed<S>,
 ) -> Result<Option<AsRange>, DecodeError<S::Error>>
-    ensures reads { ReadsOptAs range_ends (universal 16) IsAsRange (here S.rest cons.old) result
+    ensures reads { ReadsOptAs range_ends sequence_tag IsAsRange (here S.rest cons.old) result
         (here S.rest cons.new) }
     ensures failed { OnErr result ((here S.rest cons.new).failed ≡ true) }
     ensures no_memory { IfErr result (λ e. e ≢ Memory) }

@@ -2,7 +2,7 @@
 
 ghost use Rattle.std.proofs.Common.{rules};
 ghost use Rattle.std.specs.Prelude.{◌≡◌, ◌≢◌, ◌^◌, true, IfErr, OnErr};
-ghost use Rattle.resources_asn.specs.bcder_tree.Tags.{universal};
+ghost use Rattle.resources_asn.specs.bcder_tree.Tags.{integer_tag};
 ghost use Rattle.resources_asn.specs.bcder_source.declared.error.DecodeError.TheVariants.{Memory};
 ghost use Rattle.resources_asn.specs.bcder_content.Exact.{ReadsAs, ReadsOptAs};
 ghost use Rattle.resources_asn.specs.bcder_content.Here.{here};
@@ -34,7 +34,7 @@ impl Asn {
     pub fn take_opt_from<S: Source>(
         cons: &mut Constructed<S>,
     ) -> Result<Option<Self>, DecodeError<S::Error>>
-        ensures reads { ReadsOptAs (λ a. a.value) (universal 2) IsAsId (here S.rest cons.old) result
+        ensures reads { ReadsOptAs (λ a. a.value) integer_tag IsAsId (here S.rest cons.old) result
             (here S.rest cons.new) }
         ensures failed { OnErr result ((here S.rest cons.new).failed ≡ true) }
         ensures no_memory { IfErr result (λ e. e ≢ Memory) }
@@ -62,7 +62,7 @@ impl Asn {
 
 /// An INTEGER (X.690 8.3), in the fewest octets.
 impl PrimitiveContent for Asn {
-    ghost type_tag = { universal 2 };
+    ghost type_tag = { integer_tag };
 
     ghost content = { λ x m. WritesUnsigned (2 ^ 32) x.value };
 

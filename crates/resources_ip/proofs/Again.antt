@@ -1,7 +1,7 @@
 -- What is written of IP resources is read again as the same.
 use Rattle.std.proofs.Common.{◌≢◌, List, [], ◌∷◌, inl, inr, refl, ap, ◌∙◌}
 use Rattle.resources_ip.specs.bcder_tree.declared.mode.Mode.{Mode}
-use Rattle.resources_ip.specs.bcder_tree.Tags.{universal}
+use Rattle.resources_ip.specs.bcder_tree.Tags.{null_tag, sequence_tag}
 use Rattle.resources_ip.specs.bcder_tree.Tree.{Trees, primitive, constructed}
 use Rattle.resources_ip.specs.bcder_content.Grammar.{ManyCases}
 use Rattle.resources_ip.specs.bcder_written.Encoded.{joined}
@@ -37,7 +37,7 @@ blocks_again m family (r ∷ runs) ts fits p =
 
 pub list_again : (m : Mode) (family : AddressFamily) (runs : List Run) (ts : Trees) → FitsSet family runs → AreIpList m runs ts → ReadsList m family runs ts
 list_again m family runs ts fits p = record {
-  tree = constructed (universal 16) p.values;
+  tree = constructed sequence_tag p.values;
   alone = p.whole;
   is = record {
     values = p.values;
@@ -53,7 +53,7 @@ list_again m family runs ts fits p = record {
 pub choice_again : (m : Mode) (family : AddressFamily) (choice : Choice) (ts : Trees) → FitsChoice family choice → choice ≢ Missing → AreIpResources m choice ts → ReadsChoice m family choice ts
 choice_again m family Missing ts fits there p = absurd (there refl)
 choice_again m family Inherit ts fits there p = record {
-  tree = primitive (universal 5) p.content;
+  tree = primitive null_tag p.content;
   alone = p.whole;
   is = record { cases = inl (record { x = tt; is = record { content = p.content; whole = refl; is = p.is }; means = refl }) };
 }

@@ -2,7 +2,7 @@
 use Rattle.std.proofs.Common.{◌≡◌, ◌≢◌, ℕ, Bool, true, List, [], ◌∷◌, refl, sym, ap, ◌∙◌, subst}
 use Rattle.resources_ip.specs.bcder_tree.declared.mode.Mode.{Mode}
 use Rattle.resources_ip.specs.bcder_tree.Strings.{octet_string_tag}
-use Rattle.resources_ip.specs.bcder_tree.Tags.{TagValue, universal}
+use Rattle.resources_ip.specs.bcder_tree.Tags.{TagValue, sequence_tag}
 use Rattle.resources_ip.specs.bcder_tree.Tree.{Tree, Trees, constructed, none, more}
 use Rattle.resources_ip.specs.bcder_content.Grammar.{ManyCases}
 use Rattle.resources_ip.proofs.of_bcder_octets.Written.{written_string}
@@ -27,12 +27,12 @@ abbrev Fields : ((Trees → Type 0) → (List ℕ → Type 0) → Type 0) → Mo
 Fields F m t tag octets choice = F (IsWrapped t (AreBoth (StringTrees m tag octets) (AreIpResources m choice))) (WritesWrapped m t (WritesBoth (WritesString m tag octets) (WritesIpResources m choice)))
 
 pub of_fields : (F : (Trees → Type 0) → (List ℕ → Type 0) → Type 0) (m : Mode) (family : AddressFamily) (choice : Choice) {t tag : TagValue} {octets : List ℕ} {lent : Choice}
-    → is_said choice ≡ true → t ≡ universal 16 → (tag ≡ octet_string_tag) × (octets ≡ family_octets family) → lent ≡ choice → Fields F m t tag octets lent → F (FamilyTrees m family choice) (WritesFamily m family choice)
+    → is_said choice ≡ true → t ≡ sequence_tag → (tag ≡ octet_string_tag) × (octets ≡ family_octets family) → lent ≡ choice → Fields F m t tag octets lent → F (FamilyTrees m family choice) (WritesFamily m family choice)
 of_fields F m family choice {t} {tag} {octets} {lent} so e f g p =
-    let a : Fields F m (universal 16) tag octets lent = subst (λ (u : TagValue). Fields F m u tag octets lent) e p in
-    let b : Fields F m (universal 16) octet_string_tag octets lent = subst (λ (u : TagValue). Fields F m (universal 16) u octets lent) f.0 a in
-    let c : Fields F m (universal 16) octet_string_tag (family_octets family) lent = subst (λ (v : List ℕ). Fields F m (universal 16) octet_string_tag v lent) f.1 b in
-    let d : Fields F m (universal 16) octet_string_tag (family_octets family) choice = subst (λ (x : Choice). Fields F m (universal 16) octet_string_tag (family_octets family) x) g c in
+    let a : Fields F m sequence_tag tag octets lent = subst (λ (u : TagValue). Fields F m u tag octets lent) e p in
+    let b : Fields F m sequence_tag octet_string_tag octets lent = subst (λ (u : TagValue). Fields F m sequence_tag u octets lent) f.0 a in
+    let c : Fields F m sequence_tag octet_string_tag (family_octets family) lent = subst (λ (v : List ℕ). Fields F m sequence_tag octet_string_tag v lent) f.1 b in
+    let d : Fields F m sequence_tag octet_string_tag (family_octets family) choice = subst (λ (x : Choice). Fields F m sequence_tag octet_string_tag (family_octets family) x) g c in
     where_so F so d
 
 -- A list of two families, by the trees and the text of both.
@@ -46,11 +46,11 @@ same_part : {f g : AddressFamily} {c d : Choice} → (f ≡ g) × (c ≡ d) → 
 same_part {g = g} {c} e = ap (λ (h : AddressFamily). of h c) e.0 ∙ ap (of g) e.1
 
 pub of_parts : (F : (Trees → Type 0) → (List ℕ → Type 0) → Type 0) (m : Mode) (v4 v6 : Choice) {t : TagValue} {f g : AddressFamily} {c d : Choice}
-    → says_any (both v4 v6) ≡ true → t ≡ universal 16 → (f ≡ Ipv4) × (c ≡ v4) → (g ≡ Ipv6) × (d ≡ v6) → Parts F m t (of f c) (of g d) → F (FamiliesTrees m (both v4 v6)) (WritesFamilies m (both v4 v6))
+    → says_any (both v4 v6) ≡ true → t ≡ sequence_tag → (f ≡ Ipv4) × (c ≡ v4) → (g ≡ Ipv6) × (d ≡ v6) → Parts F m t (of f c) (of g d) → F (FamiliesTrees m (both v4 v6)) (WritesFamilies m (both v4 v6))
 of_parts F m v4 v6 {t} {f} {g} {c} {d} so e first second p =
-    let a : Parts F m (universal 16) (of f c) (of g d) = subst (λ (u : TagValue). Parts F m u (of f c) (of g d)) e p in
-    let b : Parts F m (universal 16) (of Ipv4 v4) (of g d) = subst (λ (x : FamilyChoice). Parts F m (universal 16) x (of g d)) (same_part first) a in
-    let q : Parts F m (universal 16) (of Ipv4 v4) (of Ipv6 v6) = subst (λ (x : FamilyChoice). Parts F m (universal 16) (of Ipv4 v4) x) (same_part second) b in
+    let a : Parts F m sequence_tag (of f c) (of g d) = subst (λ (u : TagValue). Parts F m u (of f c) (of g d)) e p in
+    let b : Parts F m sequence_tag (of Ipv4 v4) (of g d) = subst (λ (x : FamilyChoice). Parts F m sequence_tag x (of g d)) (same_part first) a in
+    let q : Parts F m sequence_tag (of Ipv4 v4) (of Ipv6 v6) = subst (λ (x : FamilyChoice). Parts F m sequence_tag (of Ipv4 v4) x) (same_part second) b in
     where_so F so q
 
 -- A family of which something is said is one value, which is read as the same.
@@ -60,13 +60,13 @@ pub record ReadsFamily (m : Mode) (x : FamilyChoice) (ts : Trees) : Type 0 where
   pub is : IsIpFamily m tree x
 
 fields_again : (m : Mode) (family : AddressFamily) (choice : Choice) (ts : Trees) → FitsChoice family choice → choice ≢ Missing
-    → IsWrapped (universal 16) (AreBoth (StringTrees m octet_string_tag (family_octets family)) (AreIpResources m choice)) ts → ReadsFamily m (of family choice) ts
+    → IsWrapped sequence_tag (AreBoth (StringTrees m octet_string_tag (family_octets family)) (AreIpResources m choice)) ts → ReadsFamily m (of family choice) ts
 fields_again m family choice ts fits there p =
     let number = written_string m octet_string_tag (family_octets family) p.is.first p.is.is_first in
     let said = choice_again m family choice p.is.second fits there p.is.is_second in
     let values : p.values ≡ more number.tree (more said.tree none) = p.is.whole ∙ ap (λ (us : Trees). joined us p.is.second) number.alone ∙ ap (λ (us : Trees). more number.tree us) said.alone in
     record {
-      tree = constructed (universal 16) p.values;
+      tree = constructed sequence_tag p.values;
       alone = p.whole;
       is = record {
         values = p.values;
@@ -90,7 +90,7 @@ listed family Inherit xs = of family Inherit ∷ xs
 listed family (Blocks runs) xs = of family (Blocks runs) ∷ xs
 
 said_again : (m : Mode) (family : AddressFamily) (choice : Choice) (ts us : Trees) (xs : List FamilyChoice) → FitsChoice family choice → choice ≢ Missing
-    → IsWrapped (universal 16) (AreBoth (StringTrees m octet_string_tag (family_octets family)) (AreIpResources m choice)) ts → ManyCases (IsIpFamily m) us xs → ManyCases (IsIpFamily m) (joined ts us) (of family choice ∷ xs)
+    → IsWrapped sequence_tag (AreBoth (StringTrees m octet_string_tag (family_octets family)) (AreIpResources m choice)) ts → ManyCases (IsIpFamily m) us xs → ManyCases (IsIpFamily m) (joined ts us) (of family choice ∷ xs)
 said_again m family choice ts us xs fits there p behind =
     let read = fields_again m family choice ts fits there p in
     (read.tree, us, ap (λ (vs : Trees). joined vs us) read.alone, read.is, behind)
@@ -140,13 +140,13 @@ any_said (Blocks runs) v6 any = refl
 pub families_again : (m : Mode) (v4 v6 : Choice) (ts : Trees) → FitsChoice Ipv4 v4 → FitsChoice Ipv6 v6 → ¬ ((v4 ≡ Missing) × (v6 ≡ Missing)) → FamiliesTrees m (both v4 v6) ts → ReadsFamilies m (both v4 v6) ts
 families_again m v4 v6 ts fit_v4 fit_v6 any p =
     let inner = AreBoth (FamilyTrees m Ipv4 v4) (FamilyTrees m Ipv6 v6) in
-    let w : IsWrapped (universal 16) inner ts = subst (λ (b : Bool). TreesIf b (IsWrapped (universal 16) inner) ts) (any_said v4 v6 any) p in
+    let w : IsWrapped sequence_tag inner ts = subst (λ (b : Bool). TreesIf b (IsWrapped sequence_tag inner) ts) (any_said v4 v6 any) p in
     let told = tells v4 v6 any in
     let last = family_again m Ipv6 v6 w.is.second none [] fit_v6 w.is.is_second refl in
     let both_read = family_again m Ipv4 v4 w.is.first (joined w.is.second none) (listed Ipv6 v6 []) fit_v4 w.is.is_first last in
     let whole : joined w.is.first (joined w.is.second none) ≡ w.values = ap (λ (us : Trees). joined w.is.first us) (joined_none w.is.second) ∙ sym w.is.whole in
     record {
-      tree = constructed (universal 16) w.values;
+      tree = constructed sequence_tag w.values;
       alone = w.whole;
       is = record {
         values = w.values;

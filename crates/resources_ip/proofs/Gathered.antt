@@ -2,7 +2,7 @@
 use Rattle.std.proofs.Common.{◌≡◌, ℕ, List, [], ◌∷◌, ◌++◌, Result, refl, ap, ◌∙◌, subst, arith}
 use Rattle.std.specs.Result.{IsErr, IsErrAnd}
 use Rattle.resources_ip.specs.bcder_tree.declared.mode.Mode.{Mode}
-use Rattle.resources_ip.specs.bcder_tree.Tags.{TagValue, universal}
+use Rattle.resources_ip.specs.bcder_tree.Tags.{TagValue, null_tag, sequence_tag}
 use Rattle.resources_ip.specs.bcder_source.Errors.{OnContent}
 use Rattle.resources_ip.specs.bcder_source.declared.error.DecodeError.{DecodeError}
 use Rattle.resources_ip.specs.bcder_content.Contents.{ValuesLeft, Ended}
@@ -52,8 +52,8 @@ blocks_given m family runs g union = all_gives (AreBlocks m family) (Many (IsBlo
 
 -- Choices.
 
-pub inherit_tagged : Tagged (universal 5) Inherits
+pub inherit_tagged : Tagged null_tag Inherits
 inherit_tagged = as_tagged (octets_tagged _ _)
 
-pub list_tagged : {m : Mode} {family : AddressFamily} → Tagged (universal 16) (As (IsBlockList m family) lists)
+pub list_tagged : {m : Mode} {family : AddressFamily} → Tagged sequence_tag (As (IsBlockList m family) lists)
 list_tagged = as_tagged (inside_tagged _ _)

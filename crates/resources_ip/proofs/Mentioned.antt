@@ -2,7 +2,7 @@
 use Rattle.std.proofs.Common.{◌≡◌, ◌≢◌, List, [], ◌∷◌, Option, Some, None, Result, Ok, Err, refl, sym, ◌∙◌, subst}
 use Rattle.std.specs.Result.{IsErr, IsErrAnd}
 use Rattle.resources_ip.specs.bcder_tree.declared.mode.Mode.{Mode}
-use Rattle.resources_ip.specs.bcder_tree.Tags.{universal}
+use Rattle.resources_ip.specs.bcder_tree.Tags.{sequence_tag}
 use Rattle.resources_ip.specs.bcder_tree.Tree.{Tree, Trees, none, more}
 use Rattle.resources_ip.specs.bcder_tree.Strings.{octet_string_tag}
 use Rattle.resources_ip.specs.bcder_source.Errors.{OnContent}
@@ -67,7 +67,7 @@ fields_given m family {v} given mode second =
     let all = done (next s (gives_in (λ (n : Mode). IsIpChoice n family) (given.took.goes.mode ∙ sym mode) second)) in
     record { trees = all.trees; took = all.took; is = record { are = all.is }; only = λ on. fields_lack given (all.only on) }
 
-pub family_tagged : {m : Mode} → Tagged (universal 16) (IsIpFamily m)
+pub family_tagged : {m : Mode} → Tagged sequence_tag (IsIpFamily m)
 family_tagged = inside_tagged _ _
 
 -- A value is of one family.
@@ -90,7 +90,7 @@ no_third Ipv6 Ipv4 Ipv6 a b c = b refl
 
 -- One family or two, each once.
 
-none_without : {us : Trees} → us ≡ none → Without (universal 16) us
+none_without : {us : Trees} → us ≡ none → Without sequence_tag us
 none_without e = record { unlike = λ t vs f g. let k : none ≡ more t vs = sym e ∙ f in cc }
 
 pair_at : (m : Mode) (ts : Trees) (families : List FamilyChoice) → ManyCases (IsIpFamily m) ts families → families ≢ [] → EachOnce families → (x : PairFields) × ArePair m ts x

@@ -1,7 +1,7 @@
 -- IP resources in an encoding: IPAddrBlocks (RFC 3779 2.2.3).
 use Rattle.std.specs.Prelude.{◌≡◌, ◌≢◌, Bool, true, false, List, [], ◌∷◌, if◌then◌else◌}
 use Rattle.resources_ip.specs.bcder_tree.declared.mode.Mode.{Mode}
-use Rattle.resources_ip.specs.bcder_tree.Tags.{universal}
+use Rattle.resources_ip.specs.bcder_tree.Tags.{null_tag, sequence_tag}
 use Rattle.resources_ip.specs.bcder_tree.Tree.{Tree, Trees}
 use Rattle.resources_ip.specs.bcder_primitive.Values.{IsNull}
 use Rattle.resources_ip.specs.bcder_content.Grammar.{As, End, Inside, Many, OctetsOf, OneOf, Then}
@@ -20,7 +20,7 @@ pub record AreBlocks (m : Mode) (family : AddressFamily) (ts : Trees) (set : Lis
   pub union : IsRunsOf (InRuns runs) set
 
 abbrev pub IsBlockList : Mode → AddressFamily → Tree → List Run → Type 0
-IsBlockList m family = Inside (universal 16) (AreBlocks m family)
+IsBlockList m family = Inside sequence_tag (AreBlocks m family)
 
 abbrev pub lists : List Run → Choice
 lists set = Blocks set
@@ -30,7 +30,7 @@ abbrev pub inherits : Unit {0} → Choice
 inherits x = Inherit
 
 abbrev pub Inherits : Tree → Choice → Type 0
-Inherits = As (OctetsOf (universal 5) IsNull) inherits
+Inherits = As (OctetsOf null_tag IsNull) inherits
 
 -- IPAddressChoice ::= CHOICE { inherit NULL, addressesOrRanges SEQUENCE OF IPAddressOrRange } (2.2.3.4).
 abbrev pub IsIpChoice : Mode → AddressFamily → Tree → Choice → Type 0
@@ -45,7 +45,7 @@ pub record AreFamilyFields (m : Mode) (ts : Trees) (x : FamilyChoice) : Type 0 w
   pub are : Then (IsFamily m) (Then (IsIpChoice m x.family) End) ts (x.family, (x.choice, tt))
 
 abbrev pub IsIpFamily : Mode → Tree → FamilyChoice → Type 0
-IsIpFamily m = Inside (universal 16) (AreFamilyFields m)
+IsIpFamily m = Inside sequence_tag (AreFamilyFields m)
 
 -- No value is of that family.
 abbrev pub NoneOf : AddressFamily → List FamilyChoice → Type 0
@@ -84,4 +84,4 @@ pub record AreIpFamilies (m : Mode) (ts : Trees) (x : FamilyChoices) : Type 0 wh
   pub says : x ≡ choices_of families
 
 abbrev pub IsIpAddrBlocks : Mode → Tree → FamilyChoices → Type 0
-IsIpAddrBlocks m = Inside (universal 16) (AreIpFamilies m)
+IsIpAddrBlocks m = Inside sequence_tag (AreIpFamilies m)

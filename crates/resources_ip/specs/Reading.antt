@@ -2,7 +2,7 @@
 use Rattle.std.specs.Prelude.{◌≡◌, List, [], ◌∷◌, Option, Some, None}
 use Rattle.std.specs.Option.{option_map}
 use Rattle.resources_ip.specs.bcder_tree.declared.mode.Mode.{Mode}
-use Rattle.resources_ip.specs.bcder_tree.Tags.{universal}
+use Rattle.resources_ip.specs.bcder_tree.Tags.{sequence_tag}
 use Rattle.resources_ip.specs.bcder_tree.Tree.{Trees}
 use Rattle.resources_ip.specs.bcder_content.Grammar.{End, Opt, Then}
 use Rattle.resources_ip.specs.declared.der.IpFamily.{IpFamily}
@@ -21,7 +21,7 @@ abbrev pub PairFields : Type 0
 PairFields = FamilyChoice × (Option FamilyChoice × Unit {0})
 
 abbrev pub ArePair : Mode → Trees → PairFields → Type 0
-ArePair m = Then (IsIpFamily m) (Opt (universal 16) (IsIpFamily m) End)
+ArePair m = Then (IsIpFamily m) (Opt sequence_tag (IsIpFamily m) End)
 
 abbrev pub pair_fields : Pair → PairFields
 pair_fields p = (family_choice p.first, (option_map family_choice p.second, tt))

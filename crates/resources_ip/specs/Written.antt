@@ -1,7 +1,7 @@
 -- What is written of IP resources (RFC 3779 2.2.3), in their canonical form (2.2.3.6).
 use Rattle.std.specs.Prelude.{◌≡◌, ℕ, List}
 use Rattle.resources_ip.specs.bcder_tree.declared.mode.Mode.{Mode}
-use Rattle.resources_ip.specs.bcder_tree.Tags.{universal}
+use Rattle.resources_ip.specs.bcder_tree.Tags.{null_tag, sequence_tag}
 use Rattle.resources_ip.specs.bcder_tree.Tree.{Tree, Trees, none, more}
 use Rattle.resources_ip.specs.bcder_primitive.Values.{IsNull}
 use Rattle.resources_ip.specs.bcder_written.Encoded.{NoTree, NoText, IsPlain, WritesPlain, IsWrapped, WritesWrapped, SpellsSome}
@@ -27,20 +27,20 @@ abbrev pub WritesIpBlocks : Mode → List Run → List ℕ → Type 0
 WritesIpBlocks m = WritesAll (WritesIpBlock m)
 
 abbrev pub AreIpList : Mode → List Run → Trees → Type 0
-AreIpList m runs = IsWrapped (universal 16) (AreIpBlocks m runs)
+AreIpList m runs = IsWrapped sequence_tag (AreIpBlocks m runs)
 
 abbrev pub WritesIpList : Mode → List Run → List ℕ → Type 0
-WritesIpList m runs = WritesWrapped m (universal 16) (WritesIpBlocks m runs)
+WritesIpList m runs = WritesWrapped m sequence_tag (WritesIpBlocks m runs)
 
 -- IPAddressChoice: nothing where a family is missing, else `inherit`, or the list (2.2.3.4).
 abbrev pub AreIpResources : Mode → Choice → Trees → Type 0
 AreIpResources m Missing = NoTree
-AreIpResources m Inherit = IsPlain (universal 5) (λ content. IsNull content tt)
+AreIpResources m Inherit = IsPlain null_tag (λ content. IsNull content tt)
 AreIpResources m (Blocks runs) = AreIpList m runs
 
 abbrev pub WritesIpResources : Mode → Choice → List ℕ → Type 0
 WritesIpResources m Missing = NoText
-WritesIpResources m Inherit = WritesPlain m (universal 5) (λ content. IsNull content tt)
+WritesIpResources m Inherit = WritesPlain m null_tag (λ content. IsNull content tt)
 WritesIpResources m (Blocks runs) = WritesIpList m runs
 
 -- A set that is listed is so by its maximal runs, and of IPv4 over whole addresses.

@@ -2,7 +2,7 @@
 use Rattle.std.specs.Prelude.{◌≡◌, ℕ, Bool, true, false, List, if◌then◌else◌}
 use Rattle.resources_ip.specs.bcder_tree.declared.mode.Mode.{Mode}
 use Rattle.resources_ip.specs.bcder_tree.Strings.{octet_string_tag}
-use Rattle.resources_ip.specs.bcder_tree.Tags.{universal}
+use Rattle.resources_ip.specs.bcder_tree.Tags.{sequence_tag}
 use Rattle.resources_ip.specs.bcder_tree.Tree.{Tree, Trees, none, more}
 use Rattle.resources_ip.specs.bcder_octets.Segments.{StringTrees, WritesString, string_spelled, string_one}
 use Rattle.resources_ip.specs.bcder_written.Encoded.{NoTree, NoText, AreBoth, WritesBoth, IsWrapped, WritesWrapped, SpellsSome}
@@ -37,18 +37,18 @@ TextIf false P = NoText
 
 -- IPAddressFamily: a SEQUENCE of the family's number and of what is said of it (2.2.3.2); nothing where it is missing.
 abbrev pub FamilyTrees : Mode → AddressFamily → Choice → Trees → Type 0
-FamilyTrees m family choice = TreesIf (is_said choice) (IsWrapped (universal 16) (AreBoth (StringTrees m octet_string_tag (family_octets family)) (AreIpResources m choice)))
+FamilyTrees m family choice = TreesIf (is_said choice) (IsWrapped sequence_tag (AreBoth (StringTrees m octet_string_tag (family_octets family)) (AreIpResources m choice)))
 
 abbrev pub WritesFamily : Mode → AddressFamily → Choice → List ℕ → Type 0
-WritesFamily m family choice = TextIf (is_said choice) (WritesWrapped m (universal 16) (WritesBoth (WritesString m octet_string_tag (family_octets family)) (WritesIpResources m choice)))
+WritesFamily m family choice = TextIf (is_said choice) (WritesWrapped m sequence_tag (WritesBoth (WritesString m octet_string_tag (family_octets family)) (WritesIpResources m choice)))
 
 -- IPAddrBlocks: a SEQUENCE of these, IPv4 first (2.2.3.1, 2.2.3.3); nothing where both are missing, since a list names
 -- one family at least.
 abbrev pub FamiliesTrees : Mode → FamilyChoices → Trees → Type 0
-FamiliesTrees m x = TreesIf (says_any x) (IsWrapped (universal 16) (AreBoth (FamilyTrees m Ipv4 x.v4) (FamilyTrees m Ipv6 x.v6)))
+FamiliesTrees m x = TreesIf (says_any x) (IsWrapped sequence_tag (AreBoth (FamilyTrees m Ipv4 x.v4) (FamilyTrees m Ipv6 x.v6)))
 
 abbrev pub WritesFamilies : Mode → FamilyChoices → List ℕ → Type 0
-WritesFamilies m x = TextIf (says_any x) (WritesWrapped m (universal 16) (WritesBoth (WritesFamily m Ipv4 x.v4) (WritesFamily m Ipv6 x.v6)))
+WritesFamilies m x = TextIf (says_any x) (WritesWrapped m sequence_tag (WritesBoth (WritesFamily m Ipv4 x.v4) (WritesFamily m Ipv6 x.v6)))
 
 -- Choices of both families.
 abbrev pub both : Choice → Choice → FamilyChoices

@@ -1,7 +1,7 @@
 //! IP resources that are read from an encoding (RFC 3779 2.2.3).
 
 ghost use Rattle.std.specs.Prelude.{◌≡◌, ◌≢◌, [], ◌∷◌, true, MatchOption, IfOk, OnErr};
-ghost use Rattle.resources_ip.specs.bcder_tree.Tags.{universal};
+ghost use Rattle.resources_ip.specs.bcder_tree.Tags.{sequence_tag};
 ghost use Rattle.resources_ip.specs.bcder_content.Exact.{ReadsAllAs, ReadsAs, ReadsOptAs};
 ghost use Rattle.resources_ip.specs.bcder_content.Grammar.{Many};
 ghost use Rattle.resources_ip.specs.bcder_content.Here.{here};
@@ -111,7 +111,7 @@ fn take_opt_family<S: Source>(
     alloc: Global,
     cons: &mut Constructed<S>,
 ) -> Result<Option<IpFamily>, DecodeError<S::Error>>
-    ensures { ReadsOptAs family_choice (universal 16) (IsIpFamily (here S.rest cons.old).mode)
+    ensures { ReadsOptAs family_choice sequence_tag (IsIpFamily (here S.rest cons.old).mode)
         (here S.rest cons.old) result (here S.rest cons.new) }
 {
     cons.take_opt_sequence(

@@ -2,7 +2,7 @@
 
 ghost use Rattle.std.specs.Prelude.{◌≡◌, IfOk, IfErr, OnOk};
 ghost use Rattle.resources_ip.specs.bcder_tree.Strings.{octet_string_tag};
-ghost use Rattle.resources_ip.specs.bcder_tree.Tags.{universal};
+ghost use Rattle.resources_ip.specs.bcder_tree.Tags.{sequence_tag};
 ghost use Rattle.resources_ip.specs.bcder_written.Writing.{HasLength, Wrote, CannotWrite, WriteRefused};
 ghost use Rattle.resources_ip.specs.resources_ip_prefix.declared.addr.AddressFamily.TheVariants.{Ipv4, Ipv6};
 ghost use Rattle.resources_ip.specs.resources_ip_prefix.Encodings.{family_octets};
@@ -39,7 +39,7 @@ type FieldsEncoder<'a> = Constructed<(OctetSliceEncoder<&'static [u8]>, &'a IpRe
 
 // The fields of a family (RFC 3779 2.2.3.2).
 fn fields<'a>(family: AddressFamily, resources: &'a IpResources) -> FieldsEncoder<'a>
-    ensures sequence { result.tag ≡ universal 16 }
+    ensures sequence { result.tag ≡ sequence_tag }
     ensures family { (result.inner.0.tag ≡ octet_string_tag)
         × (result.inner.0.octets.now ≡ family_octets family) }
     ensures resources { result.inner.1.now ≡ resources.now }
@@ -120,7 +120,7 @@ type ListEncoder<'a> = Constructed<(FamilyEncoder<'a>, FamilyEncoder<'a>)>;
 
 // The list of the families, IPv4 first (RFC 3779 2.2.3.1, 2.2.3.3).
 fn list<'a>(v4: &'a IpResources, v6: &'a IpResources) -> ListEncoder<'a>
-    ensures sequence { result.tag ≡ universal 16 }
+    ensures sequence { result.tag ≡ sequence_tag }
     ensures v4 { (result.inner.0.family ≡ Ipv4) × (result.inner.0.resources.now ≡ v4.now) }
     ensures v6 { (result.inner.1.family ≡ Ipv6) × (result.inner.1.resources.now ≡ v6.now) }
 {

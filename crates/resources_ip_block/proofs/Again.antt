@@ -4,7 +4,7 @@ use Rattle.std.proofs.lemmas.Bool.Decides.{leb_tells}
 use Rattle.std.proofs.Math.Pow.{pow-lt}
 use Rattle.std.proofs.lemmas.Nat.{pow_pos}
 use Rattle.resources_ip_block.specs.bcder_tree.declared.mode.Mode.{Mode}
-use Rattle.resources_ip_block.specs.bcder_tree.Tags.{TagValue, universal}
+use Rattle.resources_ip_block.specs.bcder_tree.Tags.{TagValue, sequence_tag}
 use Rattle.resources_ip_block.specs.bcder_tree.Tree.{Tree, Trees, primitive, constructed, none, more}
 use Rattle.resources_ip_block.specs.bcder_bits.Contents.{bit_string_tag}
 use Rattle.resources_ip_block.specs.bcder_values.declared.choice.Choice2.{Choice2}
@@ -73,7 +73,7 @@ range_again m family run x ts order fits e t =
       ordered = order;
     } in
     record {
-      tree = constructed (universal 16) t.values;
+      tree = constructed sequence_tag t.values;
       alone = t.whole ∙ ap (λ (u : TagValue). more (constructed u t.values) none) e.tag_is;
       is = record { cases = inr (record { values = t.values; whole = refl; is = ordered }) };
     }

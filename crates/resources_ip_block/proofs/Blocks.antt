@@ -2,7 +2,7 @@
 use Rattle.std.proofs.Common.{◌≡◌, ◌<◌, ◌≤◌, Result, ap, ◌∙◌, subst, arith}
 use Rattle.std.specs.Result.{IsErr, IsErrAnd}
 use Rattle.resources_ip_block.specs.bcder_tree.declared.mode.Mode.{Mode}
-use Rattle.resources_ip_block.specs.bcder_tree.Tags.{universal}
+use Rattle.resources_ip_block.specs.bcder_tree.Tags.{universal, sequence_tag}
 use Rattle.resources_ip_block.specs.bcder_source.Errors.{OnContent}
 use Rattle.resources_ip_block.specs.bcder_source.declared.error.DecodeError.{DecodeError}
 use Rattle.resources_ip_block.specs.bcder_content.Contents.{ValuesLeft}
@@ -26,7 +26,7 @@ ends_one family = then_one (address_one family) (then_one (address_one family) e
 pub prefix_tagged : {m : Mode} (family : AddressFamily) → Tagged (universal 3) (As (IsAddress m family) beginning)
 prefix_tagged family = as_tagged (as_tagged (such_tagged (octets_tagged _ _)))
 
-pub range_tagged : {m : Mode} {family : AddressFamily} → Tagged (universal 16) (IsRange m family)
+pub range_tagged : {m : Mode} {family : AddressFamily} → Tagged sequence_tag (IsRange m family)
 range_tagged = inside_tagged _ _
 
 -- Contents of values of which something is tested.

@@ -1,7 +1,7 @@
 -- Prefixes and ranges in an encoding (RFC 3779 2.2.3.7 to 2.2.3.9).
 use Rattle.std.specs.Prelude.{◌≡◌, ◌≤◌}
 use Rattle.resources_ip_block.specs.bcder_tree.declared.mode.Mode.{Mode}
-use Rattle.resources_ip_block.specs.bcder_tree.Tags.{universal}
+use Rattle.resources_ip_block.specs.bcder_tree.Tags.{sequence_tag}
 use Rattle.resources_ip_block.specs.bcder_tree.Tree.{Tree, Trees}
 use Rattle.resources_ip_block.specs.bcder_content.Grammar.{As, End, Inside, OneOf, Then}
 use Rattle.resources_ip_block.specs.resources_chain.Sets.{Run}
@@ -33,7 +33,7 @@ pub record AreOrdered (m : Mode) (family : AddressFamily) (ts : Trees) (run : Ru
 
 -- IPAddressRange (2.2.3.9).
 abbrev pub IsRange : Mode → AddressFamily → Tree → Run → Type 0
-IsRange m family = Inside (universal 16) (AreOrdered m family)
+IsRange m family = Inside sequence_tag (AreOrdered m family)
 
 -- IPAddressOrRange ::= CHOICE { addressPrefix IPAddress, addressRange IPAddressRange } (2.2.3.7).
 abbrev pub IsBlock : Mode → AddressFamily → Tree → Run → Type 0

@@ -2,7 +2,7 @@
 use Rattle.std.specs.Prelude.{◌≡◌, ℕ, ◌+◌, ◌-◌, ◌*◌, ◌/◌, ◌≤◌, take}
 use Rattle.std.specs.Int.{to_be_bytes, w128}
 use Rattle.resources_ip_block.specs.bcder_tree.declared.mode.Mode.{Mode}
-use Rattle.resources_ip_block.specs.bcder_tree.Tags.{universal}
+use Rattle.resources_ip_block.specs.bcder_tree.Tags.{sequence_tag}
 use Rattle.resources_ip_block.specs.bcder_tree.Tree.{Tree, Trees, none, more}
 use Rattle.resources_ip_block.specs.bcder_bits.Bits.{BitsValue}
 use Rattle.resources_ip_block.specs.bcder_bits.Contents.{WritesBits, bit_string_tag}
@@ -39,7 +39,7 @@ RangeValue = Constructed (Primitive Prefix × Primitive Prefix)
 
 -- A SEQUENCE of the shortest bit strings for the ends of a run.
 pub record EncodesRange (run : Run) (x : RangeValue) : Type 0 where
-  pub tag_is : x.tag ≡ universal 16
+  pub tag_is : x.tag ≡ sequence_tag
   pub min_tag : x.inner.0.tag ≡ bit_string_tag
   pub max_tag : x.inner.1.tag ≡ bit_string_tag
   pub min_is : IsShortestMin run.first x.inner.0.content

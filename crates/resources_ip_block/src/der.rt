@@ -1,7 +1,7 @@
 //! Ranges and blocks that are read from an encoding (RFC 3779 2.2.3.7, 2.2.3.9).
 
 ghost use Rattle.std.specs.Prelude.{◌≡◌, true, OnErr};
-ghost use Rattle.resources_ip_block.specs.bcder_tree.Tags.{universal};
+ghost use Rattle.resources_ip_block.specs.bcder_tree.Tags.{sequence_tag};
 ghost use Rattle.resources_ip_block.specs.bcder_content.Exact.{ReadsAllAs, ReadsAs, ReadsOptAs};
 ghost use Rattle.resources_ip_block.specs.bcder_content.Here.{here};
 ghost use Rattle.resources_ip_block.specs.bcder_content.Perhaps.{ReadsIfAs};
@@ -82,7 +82,7 @@ impl AddressRange {
         cons: &mut Constructed<S>,
         family: AddressFamily,
     ) -> Result<Option<AddressRange>, DecodeError<S::Error>>
-        ensures reads { ReadsOptAs run_of_range (universal 16)
+        ensures reads { ReadsOptAs run_of_range sequence_tag
             (IsRange (here S.rest cons.old).mode family) (here S.rest cons.old) result
             (here S.rest cons.new) }
         ensures failed { OnErr result ((here S.rest cons.new).failed ≡ true) }

@@ -2,7 +2,7 @@
 use Rattle.std.proofs.Common.{◌≡◌, ℕ, true, List, Some, ◌++◌, [], refl, sym, ap, ◌∙◌, subst, arith, Result, Ok, Err}
 use Rattle.std.specs.Prelude.{IfOk, IfErr, is_ok}
 use Rattle.rpki_bundle.specs.bcder_tree.declared.mode.Mode.TheVariants.{Der}
-use Rattle.rpki_bundle.specs.bcder_tree.Tags.{universal}
+use Rattle.rpki_bundle.specs.bcder_tree.Tags.{ia5_string_tag, printable_string_tag}
 use Rattle.rpki_bundle.specs.bcder_written.Encoded.{SpellsSome}
 use Rattle.rpki_bundle.specs.bcder_written.Integers.{one_unsigned}
 use Rattle.rpki_bundle.specs.bcder_written.Simple.{one_string}
@@ -53,8 +53,8 @@ written_text {o} {b} text m l w = record { spelled = (bundle text b m).back o w 
 written_one : (text : List ℕ) (b : BundleValue) (s t : List ℕ) → WritesBundle text b Der s → WritesBundle text b Der t → s ≡ t
 written_one text b =
     wrapped_one Der (both_one (plain_one Der (one_unsigned 0)) (both_one (plain_one Der (one_string text)) (both_one (plain_one Der (one_unsigned b.depth))
-    (both_one (wrapped_one Der (all_one (λ (l : Locator). pair_one Der (universal 19) l.name l.text) b.locators))
-    (both_one (wrapped_one Der (all_one (λ (o : Object). pair_one Der (universal 22) o.uri o.octets) b.objects))
+    (both_one (wrapped_one Der (all_one (λ (l : Locator). pair_one Der printable_string_tag l.name l.text) b.locators))
+    (both_one (wrapped_one Der (all_one (λ (o : Object). pair_one Der ia5_string_tag o.uri o.octets) b.objects))
     (wrapped_one Der (all_one (λ (v : Verdict). triple_one Der) b.verdicts)))))))
 
 pub one_bundle_text : {a c : List ℕ} {b : BundleValue} → BundleText a b → BundleText c b → a ≡ c
@@ -64,8 +64,8 @@ one_bundle_text {a} {c} {b} p q = let t = text_told p in written_one t.text b a 
 bundle_spells : (text : List ℕ) (b : BundleValue) (o : List ℕ) → WritesBundle text b Der o → SpellsSome Der (AreBundle text b Der) o
 bundle_spells text b =
     wrapped_spelled Der (both_spelled Der (plain_spelled Der) (both_spelled Der (plain_spelled Der) (both_spelled Der (plain_spelled Der)
-    (both_spelled Der (wrapped_spelled Der (all_spelled Der (λ l o w. pair_spelled Der (universal 19) l.name l.text o w) b.locators))
-    (both_spelled Der (wrapped_spelled Der (all_spelled Der (λ x o w. pair_spelled Der (universal 22) x.uri x.octets o w) b.objects))
+    (both_spelled Der (wrapped_spelled Der (all_spelled Der (λ l o w. pair_spelled Der printable_string_tag l.name l.text o w) b.locators))
+    (both_spelled Der (wrapped_spelled Der (all_spelled Der (λ x o w. pair_spelled Der ia5_string_tag x.uri x.octets o w) b.objects))
     (wrapped_spelled Der (all_spelled Der (λ v o w. triple_spelled Der o w) b.verdicts)))))))
 
 -- A bundle that has a text is never refused by the encoder,

@@ -3,7 +3,7 @@ use Rattle.std.proofs.Common.{◌≡◌, ℕ, ◌+◌, ◌*◌, ◌^◌, ◌<◌
 use Rattle.std.proofs.lemmas.Bool.{cases_lt}
 use Rattle.std.proofs.lemmas.List.Elements.{All-cons, All-nil}
 use Rattle.rpki_bundle.specs.bcder_tree.declared.mode.Mode.TheVariants.{Der}
-use Rattle.rpki_bundle.specs.bcder_tree.Tags.{universal}
+use Rattle.rpki_bundle.specs.bcder_tree.Tags.{generalized_time_tag, ia5_string_tag, integer_tag, printable_string_tag, sequence_tag}
 use Rattle.rpki_bundle.specs.bcder_tree.Integers.{number_behind, IsShortest}
 use Rattle.rpki_bundle.specs.bcder_tree.Strings.{IsIa5, octet_string_tag}
 use Rattle.rpki_bundle.specs.bcder_primitive.Values.{AnyOctets, IsUnsigned}
@@ -55,13 +55,13 @@ number_octets (a ∷ b ∷ c ∷ v) {n} u =
     let below : n < 256 = u.below in absurd (three_octets a b c v u.shortest (omega arith))
 
 -- Numbers, moments and digests.
-number : (n : ℕ) → Agree (OctetsOf (universal 2) (IsUnsigned (2 ^ 8))) n (WritesInteger Der n) (Unit {0})
+number : (n : ℕ) → Agree (OctetsOf integer_tag (IsUnsigned (2 ^ 8))) n (WritesInteger Der n) (Unit {0})
 number n = plain (WritesUnsigned (2 ^ 8) n) (Unit {0}) (λ c p. (record { octets = number_octets c p; is = p }, tt)) (λ c w l. w.is)
 
 version : Agree IsVersion tt (WritesInteger Der 0) (Unit {0})
 version = plain (WritesUnsigned (2 ^ 8) 0) (Unit {0}) (λ c p. (record { octets = number_octets c p.is; is = p.is }, tt)) (λ c w l. record { is = w.is })
 
-moment : (text : List ℕ) (n : ℕ) → IsMoment text n → Agree IsMomentString n (WritesText Der (universal 24) text) (Unit {0})
+moment : (text : List ℕ) (n : ℕ) → IsMoment text n → Agree IsMomentString n (WritesText Der generalized_time_tag text) (Unit {0})
 moment text n m = plain (λ c. AnyOctets c text) (Unit {0}) (λ c p. (record { same = one_text c text n p m }, tt)) (λ c w l. subst (λ (z : List ℕ). IsMoment z n) (sym w.same) m)
 
 digest : (x : List ℕ) → Agree IsDigestString x (WritesText Der octet_string_tag x) (length x ≡ 32)
@@ -78,12 +78,12 @@ uri_text {uri} k = (ascii_text IsIa5 uri).1 (λ i d h. let octet = plain_uri k.u
 -- The entries of lists.
 locator : (l : Locator) → Agree (IsLocator Der) l (WritesLocator l Der) (IsLawfulLocator l)
 locator l =
-    lawful_as (means as_locator locator_fields (λ x. refl) refl (inside (joins (such (such (string (universal 19) l.name))) (last (string octet_string_tag l.text)))))
+    lawful_as (means as_locator locator_fields (λ x. refl) refl (inside (joins (such (such (string printable_string_tag l.name))) (last (string octet_string_tag l.text)))))
     (λ h. (h.0.0.1, h.0.1)) (λ n. (((tt, n.0), n.1), tt))
 
 object : (o : Object) → Agree (IsObject Der) o (WritesObject o Der) (IsLawfulObject o)
 object o =
-    lawful_as (means as_object object_fields (λ x. refl) refl (inside (joins (such (such (string (universal 22) o.uri))) (last (string octet_string_tag o.octets)))))
+    lawful_as (means as_object object_fields (λ x. refl) refl (inside (joins (such (such (string ia5_string_tag o.uri))) (last (string octet_string_tag o.octets)))))
     (λ h. h.0.1) (λ k. (((tt, uri_text k), k), tt))
 
 abbrev digest_fields : Verdict → Digests
@@ -96,7 +96,7 @@ verdict v =
 
 -- A list.
 list : {A : Type 0} {Q : Tree → A → Type 0} {W : A → List ℕ → Type 0} {law : A → Type 0} (row : A → List ℕ) → ((x : A) → Agree Q x (W x) (law x)) → (xs : List A)
-    → Agree (IsAscendingList Q row) xs (WritesWrapped Der (universal 16) (WritesAll W xs)) (IsLawfulList law row xs)
+    → Agree (IsAscendingList Q row) xs (WritesWrapped Der sequence_tag (WritesAll W xs)) (IsLawfulList law row xs)
 list row entry xs = lawful_as (such (inside (each entry xs))) (λ h. record { each = h.0; ascend = h.1 }) (λ l. (l.each, l.ascend))
 
 -- A bundle, whose moment has that text.

@@ -2,7 +2,7 @@
 use Rattle.std.specs.Prelude.{◌≡◌, ◌≢◌, ℕ, ◌^◌, ◌≤◌, List, [], ◌++◌, length, All}
 use Rattle.rpki_bundle.specs.bcder_tree.declared.mode.Mode.{Mode}
 use Rattle.rpki_bundle.specs.bcder_tree.declared.mode.Mode.TheVariants.{Der}
-use Rattle.rpki_bundle.specs.bcder_tree.Tags.{universal}
+use Rattle.rpki_bundle.specs.bcder_tree.Tags.{generalized_time_tag, ia5_string_tag, integer_tag, printable_string_tag}
 use Rattle.rpki_bundle.specs.bcder_tree.Tree.{Tree, Trees}
 use Rattle.rpki_bundle.specs.bcder_tree.Sequences.{sequence_tag}
 use Rattle.rpki_bundle.specs.bcder_tree.Strings.{IsPrintable, IsIa5, IsOctetString, octet_string_tag}
@@ -28,29 +28,29 @@ pub record BundleValue : Type 0 where
 
 -- INTEGER (0)
 abbrev pub IsVersion : Tree → Unit {0} → Type 0
-IsVersion = OctetsOf (universal 2) (IsValue (IsUnsigned (2 ^ 8)) 0)
+IsVersion = OctetsOf integer_tag (IsValue (IsUnsigned (2 ^ 8)) 0)
 
 -- GeneralizedTime: YYYYMMDDHHMMSSZ (RFC 5280 4.1.2.5.2)
 abbrev pub IsMomentString : Tree → ℕ → Type 0
-IsMomentString = OctetsOf (universal 24) IsMoment
+IsMomentString = OctetsOf generalized_time_tag IsMoment
 
 -- INTEGER (1..32)
 abbrev pub IsDepth : ℕ → Type 0
 IsDepth n = (1 ≤ n) × (n ≤ 32)
 
 abbrev pub IsDepthNumber : Tree → ℕ → Type 0
-IsDepthNumber = Such (OctetsOf (universal 2) (IsUnsigned (2 ^ 8))) IsDepth
+IsDepthNumber = Such (OctetsOf integer_tag (IsUnsigned (2 ^ 8))) IsDepth
 
 -- PrintableString: a name, not empty, and without a space (32)
 abbrev pub IsWord : List ℕ → Type 0
 IsWord text = (text ≢ []) × All (λ c. c ≢ 32) text
 
 abbrev pub IsNameString : Mode → Tree → List ℕ → Type 0
-IsNameString m = Such (IsRestricted IsPrintable alone m (universal 19)) IsWord
+IsNameString m = Such (IsRestricted IsPrintable alone m printable_string_tag) IsWord
 
 -- IA5String: a URI that is its own lookup key
 abbrev pub IsUriString : Mode → Tree → List ℕ → Type 0
-IsUriString m = Such (IsRestricted IsIa5 alone m (universal 22)) IsLookupKey
+IsUriString m = Such (IsRestricted IsIa5 alone m ia5_string_tag) IsLookupKey
 
 -- OCTET STRING (SIZE (32))
 pub record IsDigest (content octets : List ℕ) : Type 0 where

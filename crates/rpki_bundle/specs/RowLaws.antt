@@ -1,7 +1,7 @@
 -- That entries of lists have the tag of SEQUENCE, and one meaning.
 use Rattle.std.proofs.Common.{ℕ, List, sym, ◌∙◌}
 use Rattle.rpki_bundle.specs.bcder_tree.declared.mode.Mode.{Mode}
-use Rattle.rpki_bundle.specs.bcder_tree.Tags.{TagValue, universal}
+use Rattle.rpki_bundle.specs.bcder_tree.Tags.{TagValue, ia5_string_tag, printable_string_tag}
 use Rattle.rpki_bundle.specs.bcder_tree.Sequences.{sequence_tag}
 use Rattle.rpki_bundle.specs.bcder_tree.Strings.{IsString, IsPrintable, IsIa5, IsOctetString, octet_string_tag}
 use Rattle.rpki_bundle.specs.bcder_strings.Sets.{alone}
@@ -24,10 +24,10 @@ digest : One IsDigestString
 digest = octets_one (record { one = λ content x y p q. sym p.same ∙ q.same })
 
 pub one_locator : (m : Mode) → One (IsLocator m)
-one_locator m = let name : One (IsNameString m) = such_one (text IsPrintable alone m (universal 19)) in as_one (inside_one (then_one name (then_one (octets m) end_one)))
+one_locator m = let name : One (IsNameString m) = such_one (text IsPrintable alone m printable_string_tag) in as_one (inside_one (then_one name (then_one (octets m) end_one)))
 
 pub one_object : (m : Mode) → One (IsObject m)
-one_object m = let uri : One (IsUriString m) = such_one (text IsIa5 alone m (universal 22)) in as_one (inside_one (then_one uri (then_one (octets m) end_one)))
+one_object m = let uri : One (IsUriString m) = such_one (text IsIa5 alone m ia5_string_tag) in as_one (inside_one (then_one uri (then_one (octets m) end_one)))
 
 pub one_verdict : One IsVerdict
 one_verdict = as_one (inside_one (then_one digest (then_one digest (then_one digest end_one))))

@@ -1,7 +1,7 @@
 -- What is written of bundles and of their entries: the codec's encoders, by the words of its specification.
 use Rattle.std.specs.Prelude.{ℕ, ◌^◌, List}
 use Rattle.rpki_bundle.specs.bcder_tree.declared.mode.Mode.{Mode}
-use Rattle.rpki_bundle.specs.bcder_tree.Tags.{TagValue, universal}
+use Rattle.rpki_bundle.specs.bcder_tree.Tags.{TagValue, generalized_time_tag, ia5_string_tag, integer_tag, octet_string_tag, printable_string_tag, sequence_tag}
 use Rattle.rpki_bundle.specs.bcder_tree.Tree.{Trees}
 use Rattle.rpki_bundle.specs.bcder_primitive.Values.{AnyOctets}
 use Rattle.rpki_bundle.specs.bcder_written.Encoded.{IsPlain, WritesPlain, IsWrapped, WritesWrapped, AreBoth, WritesBoth, SpellsSome}
@@ -27,36 +27,36 @@ WritesText m tag octets = WritesPlain m tag (λ c. AnyOctets c octets)
 
 -- One INTEGER.
 abbrev pub IsInteger : ℕ → Trees → Type 0
-IsInteger n = IsPlain (universal 2) (WritesUnsigned (2 ^ 8) n)
+IsInteger n = IsPlain integer_tag (WritesUnsigned (2 ^ 8) n)
 
 abbrev pub WritesInteger : Mode → ℕ → List ℕ → Type 0
-WritesInteger m n = WritesPlain m (universal 2) (WritesUnsigned (2 ^ 8) n)
+WritesInteger m n = WritesPlain m integer_tag (WritesUnsigned (2 ^ 8) n)
 
 -- Two strings, or three primitive ones, in a SEQUENCE.
 abbrev pub IsPair : Mode → TagValue → List ℕ → List ℕ → Trees → Type 0
-IsPair m tag a b = IsWrapped (universal 16) (AreBoth (StringTrees m tag a) (StringTrees m (universal 4) b))
+IsPair m tag a b = IsWrapped sequence_tag (AreBoth (StringTrees m tag a) (StringTrees m octet_string_tag b))
 
 abbrev pub WritesPair : Mode → TagValue → List ℕ → List ℕ → List ℕ → Type 0
-WritesPair m tag a b = WritesWrapped m (universal 16) (WritesBoth (WritesString m tag a) (WritesString m (universal 4) b))
+WritesPair m tag a b = WritesWrapped m sequence_tag (WritesBoth (WritesString m tag a) (WritesString m octet_string_tag b))
 
 abbrev pub IsTriple : List ℕ → List ℕ → List ℕ → Trees → Type 0
-IsTriple a b c = IsWrapped (universal 16) (AreBoth (IsText (universal 4) a) (AreBoth (IsText (universal 4) b) (IsText (universal 4) c)))
+IsTriple a b c = IsWrapped sequence_tag (AreBoth (IsText octet_string_tag a) (AreBoth (IsText octet_string_tag b) (IsText octet_string_tag c)))
 
 abbrev pub WritesTriple : Mode → List ℕ → List ℕ → List ℕ → List ℕ → Type 0
-WritesTriple m a b c = WritesWrapped m (universal 16) (WritesBoth (WritesText m (universal 4) a) (WritesBoth (WritesText m (universal 4) b) (WritesText m (universal 4) c)))
+WritesTriple m a b c = WritesWrapped m sequence_tag (WritesBoth (WritesText m octet_string_tag a) (WritesBoth (WritesText m octet_string_tag b) (WritesText m octet_string_tag c)))
 
 -- The entries of lists.
 abbrev pub AreLocator : Locator → Mode → Trees → Type 0
-AreLocator l m = IsPair m (universal 19) l.name l.text
+AreLocator l m = IsPair m printable_string_tag l.name l.text
 
 abbrev pub WritesLocator : Locator → Mode → List ℕ → Type 0
-WritesLocator l m = WritesPair m (universal 19) l.name l.text
+WritesLocator l m = WritesPair m printable_string_tag l.name l.text
 
 abbrev pub AreObject : Object → Mode → Trees → Type 0
-AreObject o m = IsPair m (universal 22) o.uri o.octets
+AreObject o m = IsPair m ia5_string_tag o.uri o.octets
 
 abbrev pub WritesObject : Object → Mode → List ℕ → Type 0
-WritesObject o m = WritesPair m (universal 22) o.uri o.octets
+WritesObject o m = WritesPair m ia5_string_tag o.uri o.octets
 
 abbrev pub AreVerdict : Verdict → Mode → Trees → Type 0
 AreVerdict v m = IsTriple v.key v.message v.signature
@@ -67,13 +67,13 @@ WritesVerdict v m = WritesTriple m v.key v.message v.signature
 -- The members of a bundle of version 0, by what is written of its lists.
 abbrev pub AreMembers : List ℕ → ℕ → (Trees → Type 0) → (Trees → Type 0) → (Trees → Type 0) → Trees → Type 0
 AreMembers text depth P Q R =
-    IsWrapped (universal 16) (AreBoth (IsInteger 0) (AreBoth (IsText (universal 24) text) (AreBoth (IsInteger depth)
-    (AreBoth (IsWrapped (universal 16) P) (AreBoth (IsWrapped (universal 16) Q) (IsWrapped (universal 16) R))))))
+    IsWrapped sequence_tag (AreBoth (IsInteger 0) (AreBoth (IsText generalized_time_tag text) (AreBoth (IsInteger depth)
+    (AreBoth (IsWrapped sequence_tag P) (AreBoth (IsWrapped sequence_tag Q) (IsWrapped sequence_tag R))))))
 
 abbrev pub WritesMembers : Mode → List ℕ → ℕ → (List ℕ → Type 0) → (List ℕ → Type 0) → (List ℕ → Type 0) → List ℕ → Type 0
 WritesMembers m text depth P Q R =
-    WritesWrapped m (universal 16) (WritesBoth (WritesInteger m 0) (WritesBoth (WritesText m (universal 24) text) (WritesBoth (WritesInteger m depth)
-    (WritesBoth (WritesWrapped m (universal 16) P) (WritesBoth (WritesWrapped m (universal 16) Q) (WritesWrapped m (universal 16) R))))))
+    WritesWrapped m sequence_tag (WritesBoth (WritesInteger m 0) (WritesBoth (WritesText m generalized_time_tag text) (WritesBoth (WritesInteger m depth)
+    (WritesBoth (WritesWrapped m sequence_tag P) (WritesBoth (WritesWrapped m sequence_tag Q) (WritesWrapped m sequence_tag R))))))
 
 -- A bundle, the moment being given by that text.
 abbrev pub AreBundle : List ℕ → BundleValue → Mode → Trees → Type 0
@@ -84,13 +84,13 @@ WritesBundle text b m = WritesMembers m text b.depth (WritesAll (λ l. WritesLoc
 
 -- What is written of entries spells their values, and is always the same.
 pub pair_spelled : (m : Mode) (tag : TagValue) (a b : List ℕ) (text : List ℕ) → WritesPair m tag a b text → SpellsSome m (IsPair m tag a b) text
-pair_spelled m tag a b = wrapped_spelled m (both_spelled m (string_spelled m tag a) (string_spelled m (universal 4) b))
+pair_spelled m tag a b = wrapped_spelled m (both_spelled m (string_spelled m tag a) (string_spelled m octet_string_tag b))
 
 pub triple_spelled : (m : Mode) {a b c : List ℕ} (text : List ℕ) → WritesTriple m a b c text → SpellsSome m (IsTriple a b c) text
 triple_spelled m = wrapped_spelled m (both_spelled m (plain_spelled m) (both_spelled m (plain_spelled m) (plain_spelled m)))
 
 pub pair_one : (m : Mode) (tag : TagValue) (a b : List ℕ) (s t : List ℕ) → WritesPair m tag a b s → WritesPair m tag a b t → s ≡ t
-pair_one m tag a b = wrapped_one m (both_one (string_one m tag a) (string_one m (universal 4) b))
+pair_one m tag a b = wrapped_one m (both_one (string_one m tag a) (string_one m octet_string_tag b))
 
 pub triple_one : (m : Mode) {a b c : List ℕ} (s t : List ℕ) → WritesTriple m a b c s → WritesTriple m a b c t → s ≡ t
 triple_one m {a} {b} {c} = wrapped_one m (both_one (plain_one m (one_string a)) (both_one (plain_one m (one_string b)) (plain_one m (one_string c))))

@@ -5,7 +5,7 @@ ghost use Rattle.rpki_bundle.specs.bcder_content.Exact.{ReadsAs, ReadsAllAs, Rea
 ghost use Rattle.rpki_bundle.specs.bcder_content.Grammar.{Many, One, Tagged};
 ghost use Rattle.rpki_bundle.specs.bcder_content.Here.{here};
 ghost use Rattle.rpki_bundle.specs.bcder_tree.declared.mode.Mode.{Mode};
-ghost use Rattle.rpki_bundle.specs.bcder_tree.Tags.{universal};
+ghost use Rattle.rpki_bundle.specs.bcder_tree.Tags.{sequence_tag};
 ghost use Rattle.rpki_bundle.specs.bcder_tree.Tree.{Tree};
 ghost use Rattle.rpki_bundle.specs.Bundle.{IsAscendingList};
 ghost use Rattle.rpki_bundle.specs.Orders.{IsBefore, Ascends};
@@ -30,7 +30,7 @@ pub trait Entry: Values + Drop {
     ) -> Result<Option<Self>, DecodeError<S::Error>>
     where
         Self: Sized,
-        ensures reads { ReadsOptAs (λ entry. entry) (universal 16) (form (here S.rest cons.old).mode)
+        ensures reads { ReadsOptAs (λ entry. entry) sequence_tag (form (here S.rest cons.old).mode)
             (here S.rest cons.old) result (here S.rest cons.new) }
         ensures failed { OnErr result ((here S.rest cons.new).failed ≡ true) };
 
@@ -46,7 +46,7 @@ pub trait Entry: Values + Drop {
         ensures { IsTrue result ↔ lawful self.now };
 
     // Entries are SEQUENCEs, and each is read in one way.
-    ghost is_sequence: { (m : Mode) → Tagged (universal 16) (form m) };
+    ghost is_sequence: { (m : Mode) → Tagged sequence_tag (form m) };
 
     ghost one_value: { (m : Mode) → One (form m) };
 }

@@ -4,7 +4,7 @@ ghost use Rattle.std.specs.Prelude.{◌≡◌, OnErr, true};
 ghost use Rattle.rpki_bundle.specs.bcder_content.Exact.{ReadsOptAs};
 ghost use Rattle.rpki_bundle.specs.bcder_content.Here.{here};
 ghost use Rattle.rpki_bundle.specs.bcder_content.InMode.{ReadsFields};
-ghost use Rattle.rpki_bundle.specs.bcder_tree.Tags.{universal};
+ghost use Rattle.rpki_bundle.specs.bcder_tree.Tags.{sequence_tag};
 ghost use Rattle.rpki_bundle.specs.Bundle.{AreLocatorFields, AreObjectFields, AreVerdictFields, IsVerdict};
 ghost use Rattle.rpki_bundle.specs.PartFields.{locator_fields, object_fields};
 ghost use Rattle.rpki_bundle.specs.Words.{verdict_of, words_fields};
@@ -23,7 +23,7 @@ use std::io::Write;
 
 /// A SEQUENCE of its strings.
 impl Values for Locator {
-    ghost use Rattle.rpki_bundle.specs.bcder_tree.Tags.{universal};
+    ghost use Rattle.rpki_bundle.specs.bcder_tree.Tags.{printable_string_tag};
     ghost use Rattle.rpki_bundle.specs.Written.{AreLocator, WritesLocator, pair_spelled, pair_one};
 
     ghost trees = { AreLocator };
@@ -38,9 +38,9 @@ impl Values for Locator {
         write_pair(mode, Tag::PRINTABLE_STRING, &self.name, &self.text, target)
     }
 
-    ghost spelled = { λ l m. pair_spelled m (universal 19) l.name l.text };
+    ghost spelled = { λ l m. pair_spelled m printable_string_tag l.name l.text };
 
-    ghost one_text = { λ l m. pair_one m (universal 19) l.name l.text };
+    ghost one_text = { λ l m. pair_one m printable_string_tag l.name l.text };
 }
 
 // The fields of a locator, up to the end of their content.
@@ -95,7 +95,7 @@ impl Entry for Locator {
 
 /// A SEQUENCE of its strings.
 impl Values for Object {
-    ghost use Rattle.rpki_bundle.specs.bcder_tree.Tags.{universal};
+    ghost use Rattle.rpki_bundle.specs.bcder_tree.Tags.{ia5_string_tag};
     ghost use Rattle.rpki_bundle.specs.Written.{AreObject, WritesObject, pair_spelled, pair_one};
 
     ghost trees = { AreObject };
@@ -110,9 +110,9 @@ impl Values for Object {
         write_pair(mode, Tag::IA5_STRING, &self.uri, &self.octets, target)
     }
 
-    ghost spelled = { λ o m. pair_spelled m (universal 22) o.uri o.octets };
+    ghost spelled = { λ o m. pair_spelled m ia5_string_tag o.uri o.octets };
 
-    ghost one_text = { λ o m. pair_one m (universal 22) o.uri o.octets };
+    ghost one_text = { λ o m. pair_one m ia5_string_tag o.uri o.octets };
 }
 
 // The fields of an object, up to the end of their content.
@@ -185,7 +185,7 @@ fn take_digests<S: Source>(cons: &mut Constructed<S>) -> Result<VerdictWords, De
 fn take_words<S: Source>(
     cons: &mut Constructed<S>,
 ) -> Result<Option<VerdictWords>, DecodeError<S::Error>>
-    ensures reads { ReadsOptAs verdict_of (universal 16) IsVerdict (here S.rest cons.old) result
+    ensures reads { ReadsOptAs verdict_of sequence_tag IsVerdict (here S.rest cons.old) result
         (here S.rest cons.new) }
     ensures failed { OnErr result ((here S.rest cons.new).failed ≡ true) }
 {

@@ -2,7 +2,7 @@
 
 ghost use Rattle.std.specs.Prelude.{◌↔◌, ◌≡◌, ◌≤◌, IsTrue, OnErr, true};
 ghost use Rattle.rpki_bundle.specs.bcder_tree.Strings.{IsOctetString};
-ghost use Rattle.rpki_bundle.specs.bcder_tree.Tags.{universal};
+ghost use Rattle.rpki_bundle.specs.bcder_tree.Tags.{generalized_time_tag};
 ghost use Rattle.rpki_bundle.specs.bcder_content.Exact.{ReadsAs};
 ghost use Rattle.rpki_bundle.specs.bcder_content.Grammar.{OctetsOf};
 ghost use Rattle.rpki_bundle.specs.bcder_content.Here.{here, plain};
@@ -140,8 +140,8 @@ fn take_text<S: Source>(
     alloc: Global,
     cons: &mut Constructed<S>,
 ) -> Result<Bytes, DecodeError<S::Error>>
-    ensures reads { ReadsAs (λ octets. octets) (OctetsOf (universal 24) AnyOctets) (here S.rest cons.old)
-        result (here S.rest cons.new) }
+    ensures reads { ReadsAs (λ octets. octets) (OctetsOf generalized_time_tag AnyOctets)
+        (here S.rest cons.old) result (here S.rest cons.new) }
     ensures failed { OnErr result ((here S.rest cons.new).failed ≡ true) }
 {
     cons.take_primitive_if(

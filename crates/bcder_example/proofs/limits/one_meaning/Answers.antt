@@ -1,6 +1,6 @@
 use Rattle.std.proofs.Common.{◌≡◌, ◌⊎◌, inl, inr, ℕ, zero, suc, Bool, true, false, refl, ap, arith}
 use Rattle.std.specs.Option.{unwrap_or}
-use Rattle.bcder_example.specs.bcder_tree.Tags.{TagValue, context, universal}
+use Rattle.bcder_example.specs.bcder_tree.Tags.{TagValue, context, boolean_tag}
 use Rattle.bcder_example.specs.Limits.{limits, shown_truth, shown_version}
 use Rattle.bcder_example.proofs.limits.one_meaning.Goals as goal
 
@@ -14,12 +14,12 @@ truth_told false = refl
 truth_told true = refl
 
 -- No field after another one has its tag.
-behind_version : (context 0 ≡ context 1) ⊎ ((context 0 ≡ universal 1) ⊎ ⊥) → ⊥
+behind_version : (context 0 ≡ context 1) ⊎ ((context 0 ≡ boolean_tag) ⊎ ⊥) → ⊥
 behind_version (inl e) = let n : ◌≡◌ {A = ℕ} 0 1 = ap (λ (t : TagValue). t.number) e in omega arith
 behind_version (inr (inl e)) = let n : ◌≡◌ {A = ℕ} 2 0 = ap (λ (t : TagValue). t.class) e in omega arith
 behind_version (inr (inr e)) = e
 
-behind_most : (context 1 ≡ universal 1) ⊎ ⊥ → ⊥
+behind_most : (context 1 ≡ boolean_tag) ⊎ ⊥ → ⊥
 behind_most (inl e) = let n : ◌≡◌ {A = ℕ} 2 0 = ap (λ (t : TagValue). t.class) e in omega arith
 behind_most (inr e) = e
 

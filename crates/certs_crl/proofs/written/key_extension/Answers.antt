@@ -1,5 +1,5 @@
 use Rattle.std.proofs.Common.{refl, rules}
-use Rattle.certs_crl.specs.bcder_tree.Tags.{context, universal}
+use Rattle.certs_crl.specs.bcder_tree.Tags.{context, sequence_tag}
 use Rattle.certs_revoked.specs.bcder_written.Encoded.{WritesWrapped}
 use Rattle.bcder.specs.bcder_octets.Segments.{WritesString}
 use Rattle.certs_crl.proofs.Writing.{extension_as, key_as}
@@ -7,5 +7,5 @@ use Rattle.certs_crl.proofs.written.key_extension.Goals as goal
 
 pub returns-clause-writes : goal.returns-clause-writes
 returns-clause-writes c = λ m text w.
-    extension_as (λ n. WritesWrapped n (universal 16) (WritesString n (context 0) c.as_slice-octets.result.now)) refl c.encode-oid.ensures.tag (search rules) refl refl
+    extension_as (λ n. WritesWrapped n sequence_tag (WritesString n (context 0) c.as_slice-octets.result.now)) refl c.encode-oid.ensures.tag (search rules) refl refl
     (λ content x. key_as refl refl c.as_slice-octets.ensures.octets x) w

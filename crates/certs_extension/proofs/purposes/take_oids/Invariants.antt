@@ -1,5 +1,5 @@
 use Rattle.std.proofs.Common.{length, map}
-use Rattle.certs_extension.specs.bcder_tree.Tags.{universal}
+use Rattle.certs_extension.specs.bcder_tree.Tags.{oid_tag}
 use Rattle.certs_extension.specs.bcder_content.Grammar.{OctetsOf}
 use Rattle.certs_extension.specs.bcder_content.Here.{here}
 use Rattle.certs_extension.specs.bcder_oid.Identifiers.{IsOid}
@@ -8,7 +8,7 @@ use Rattle.certs_extension.specs.Purposes.{AreOids, purpose_octets}
 use Rattle.certs_extension.proofs.purposes.take_oids.Given as goal
 
 abbrev pub invariant-loop-purposes : goal.invariant-loop-purposes
-invariant-loop-purposes g l = Items AreOids (λ m. OctetsOf (universal 6) IsOid) (λ xs. xs) (map purpose_octets l.purposes.items) (here g.S.Source.rest l.fn.cons) (here g.S.Source.rest l.cons)
+invariant-loop-purposes g l = Items AreOids (λ m. OctetsOf oid_tag IsOid) (λ xs. xs) (map purpose_octets l.purposes.items) (here g.S.Source.rest l.fn.cons) (here g.S.Source.rest l.cons)
 
 abbrev pub decreases-loop-purposes : goal.decreases-loop-purposes
 decreases-loop-purposes g l = length (g.S.Source.rest l.cons.octets.source.source)

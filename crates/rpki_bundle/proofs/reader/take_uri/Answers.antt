@@ -1,5 +1,5 @@
 use Rattle.std.proofs.Common.{refl, sym, subst}
-use Rattle.rpki_bundle.specs.bcder_tree.Tags.{universal}
+use Rattle.rpki_bundle.specs.bcder_tree.Tags.{ia5_string_tag}
 use Rattle.rpki_bundle.specs.bcder_strings.Sets.{IsIa5, alone}
 use Rattle.rpki_bundle.specs.bcder_content.Here.{here}
 use Rattle.rpki_bundle.proofs.of_bcder_content.Choices.{gives_same, such_gives, such_lacks, such_refused, stop_value}
@@ -12,7 +12,7 @@ pub returns-in_err-string-clause-reads : goal.returns-in_err-string-clause-reads
 returns-in_err-string-clause-reads g c = stop_value _ _ _ _ c.from_residual.ensures (λ l. such_lacks l) c.in_err-string.ensures.reads
 
 pub returns-then-not-is_lookup_key-clause-reads : goal.returns-then-not-is_lookup_key-clause-reads
-returns-then-not-is_lookup_key-clause-reads g c = on_content _ (such_refused (text IsIa5 alone (here g.S.Source.rest c.args.cons.now).mode (universal 22)) (gives_same c.into_bytes-uri.ensures c.in_ok-string.ensures.reads) (λ h. let t = c.if-not-is_lookup_key.ensures.1 (subst IsLookupKey (sym c.as_slice.ensures) h) in absurd cc))
+returns-then-not-is_lookup_key-clause-reads g c = on_content _ (such_refused (text IsIa5 alone (here g.S.Source.rest c.args.cons.now).mode ia5_string_tag) (gives_same c.into_bytes-uri.ensures c.in_ok-string.ensures.reads) (λ h. let t = c.if-not-is_lookup_key.ensures.1 (subst IsLookupKey (sym c.as_slice.ensures) h) in absurd cc))
 
 pub returns-clause-reads : goal.returns-clause-reads
 returns-clause-reads g c = such_gives (gives_same c.into_bytes-uri.ensures c.in_ok-string.ensures.reads) (subst IsLookupKey c.as_slice.ensures (c.if-not-is_lookup_key.ensures.0 refl))

@@ -1,5 +1,5 @@
 use Rattle.std.proofs.Common.{ℕ, rules}
-use Rattle.certs_name.specs.bcder_tree.Tags.{universal}
+use Rattle.certs_name.specs.bcder_tree.Tags.{integer_tag}
 use Rattle.certs_name.specs.bcder_content.Grammar.{OctetsOf}
 use Rattle.certs_name.proofs.of_bcder_content.Inside.{exact_octets}
 use Rattle.certs_basics.specs.Basics.{IsSerial}
@@ -9,7 +9,7 @@ use Rattle.certs_name.proofs.serial.Serial.take_from.Goals as goal
 
 pub returns-clause-reads : goal.returns-clause-reads
 returns-clause-reads g c =
-    reads_same (λ (n : ℕ). n) {P = OctetsOf (universal 2) IsSerialContent} {Q = IsSerial} _ _ c.take_primitive_if.result
+    reads_same (λ (n : ℕ). n) {P = OctetsOf integer_tag IsSerialContent} {Q = IsSerial} _ _ c.take_primitive_if.result
     (λ t n p. record { is = record { content = p.content; whole = p.whole; is = p.is.is }; meets = p.is.small })
     (λ t n p. record { content = p.is.content; whole = p.is.whole; is = record { is = p.is.is; small = p.meets } })
     (exact_octets (record { each = λ p q r mode m. search rules }) c.take_primitive_if.ensures.ran)

@@ -1,12 +1,12 @@
 use Rattle.std.specs.Prelude.{IfOk, IfErr}
-use Rattle.resources_ip.specs.bcder_tree.Tags.{universal}
+use Rattle.resources_ip.specs.bcder_tree.Tags.{sequence_tag}
 use Rattle.resources_ip.specs.bcder_written.Encoded.{IsWrapped, WritesWrapped}
 use Rattle.resources_ip.specs.bcder_written.Writing.{HasLength, CannotWrite}
 use Rattle.resources_ip.proofs.Writing.{of_runs}
 use Rattle.resources_ip.proofs.write.IpBlocksValues.encoded_len.Goals as goal
 
 pub returns-clause-len : goal.returns-clause-len
-returns-clause-len c = of_runs c.args.mode (λ T P. IfOk c.encoded_len.result (HasLength (WritesWrapped c.args.mode (universal 16) P))) c.as_blocks.result.now c.as_blocks.ensures c.encoded_len.ensures.len
+returns-clause-len c = of_runs c.args.mode (λ T P. IfOk c.encoded_len.result (HasLength (WritesWrapped c.args.mode sequence_tag P))) c.as_blocks.result.now c.as_blocks.ensures c.encoded_len.ensures.len
 
 pub returns-clause-refused : goal.returns-clause-refused
-returns-clause-refused c = of_runs c.args.mode (λ T P. IfErr c.encoded_len.result (CannotWrite (IsWrapped (universal 16) T) (WritesWrapped c.args.mode (universal 16) P))) c.as_blocks.result.now c.as_blocks.ensures c.encoded_len.ensures.refused
+returns-clause-refused c = of_runs c.args.mode (λ T P. IfErr c.encoded_len.result (CannotWrite (IsWrapped sequence_tag T) (WritesWrapped c.args.mode sequence_tag P))) c.as_blocks.result.now c.as_blocks.ensures c.encoded_len.ensures.refused

@@ -1,6 +1,6 @@
 use Rattle.std.proofs.Common.{◌≡◌}
 use Rattle.std.specs.Prelude.{IfErr, OnOk}
-use Rattle.resources_ip.specs.bcder_tree.Tags.{universal}
+use Rattle.resources_ip.specs.bcder_tree.Tags.{sequence_tag}
 use Rattle.resources_ip.specs.bcder_written.Encoded.{IsWrapped, WritesWrapped}
 use Rattle.resources_ip.specs.bcder_written.Writing.{Wrote, WriteRefused}
 use Rattle.resources_ip.proofs.Writing.{of_runs}
@@ -9,9 +9,9 @@ use Rattle.resources_ip.proofs.write.IpBlocksValues.write_encoded.Goals as goal
 pub returns-clause-written : goal.returns-clause-written
 returns-clause-written g c =
     let contents = g.W.Write.contents in
-    of_runs c.args.mode (λ T P. OnOk c.write_encoded.result (Wrote (WritesWrapped c.args.mode (universal 16) P) (contents c.args.target.now) (contents c.write_encoded.new.target))) c.as_blocks.result.now c.as_blocks.ensures c.write_encoded.ensures.written
+    of_runs c.args.mode (λ T P. OnOk c.write_encoded.result (Wrote (WritesWrapped c.args.mode sequence_tag P) (contents c.args.target.now) (contents c.write_encoded.new.target))) c.as_blocks.result.now c.as_blocks.ensures c.write_encoded.ensures.written
 
 pub returns-clause-refused : goal.returns-clause-refused
 returns-clause-refused g c =
     let contents = g.W.Write.contents in
-    of_runs c.args.mode (λ T P. IfErr c.write_encoded.result (WriteRefused (IsWrapped (universal 16) T) (WritesWrapped c.args.mode (universal 16) P) (c.write_encoded.new.target ≡ c.args.target.now) (contents c.args.target.now) (contents c.write_encoded.new.target))) c.as_blocks.result.now c.as_blocks.ensures c.write_encoded.ensures.refused
+    of_runs c.args.mode (λ T P. IfErr c.write_encoded.result (WriteRefused (IsWrapped sequence_tag T) (WritesWrapped c.args.mode sequence_tag P) (c.write_encoded.new.target ≡ c.args.target.now) (contents c.args.target.now) (contents c.write_encoded.new.target))) c.as_blocks.result.now c.as_blocks.ensures c.write_encoded.ensures.refused
