@@ -1,5 +1,5 @@
 -- The forms of the codec's own types, with a tag that is given (an implicit tag, X.690 8.14), and with their own.
-use Rattle.std.proofs.Common.{◌≡◌, ℕ, Bool, true, false, List, refl, ap, subst, sym, ◌∙◌}
+use Rattle.std.proofs.Common.{◌≡◌, ℕ, Bool, true, false, List, ap, subst, sym, ◌∙◌}
 use Rattle.std.specs.Prelude.{ℤ, pos, unsigned_abs}
 use Rattle.bcder_bits.specs.bcder_tree.declared.mode.Mode.{Mode}
 use Rattle.bcder_bits.specs.bcder_tree.declared.mode.Mode.TheVariants.{Ber, Cer, Der}

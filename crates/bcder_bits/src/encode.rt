@@ -5,7 +5,7 @@ ghost use Rattle.bcder_bits.specs.bcder_tree.Tags.{IsTag};
 ghost use Rattle.bcder_bits.specs.bcder_written.Contents.{NoContent, ContentRefused};
 ghost use Rattle.bcder_bits.specs.bcder_written.Writing.{HasLength, Wrote, TookFront};
 ghost use Rattle.bcder_bits.specs.bcder_written.declared.error.EncodeError.TheVariants.{Write as refusal};
-ghost use Rattle.bcder_bits.specs.Bits.{BitsValue, IsBits};
+ghost use Rattle.bcder_bits.specs.Bits.{IsBits};
 ghost use Rattle.bcder_bits.specs.Contents.{WritesBits, bit_string_tag, cleared, padded_in};
 ghost use Rattle.bcder_bits.specs.Written.{one_bits};
 

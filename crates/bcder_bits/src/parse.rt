@@ -1,6 +1,6 @@
 //! Which octets are the content of a bit string.
-ghost use Rattle.std.specs.Prelude.{◌≡◌, ◌↔◌, ◌<◌, ◌%◌, ◌^◌, IsTrue, length};
-ghost use Rattle.bcder_bits.specs.Bits.{BitsValue, IsBits};
+ghost use Rattle.std.specs.Prelude.{◌≡◌, ◌↔◌, ◌<◌, ◌%◌, ◌^◌, IsTrue};
+ghost use Rattle.bcder_bits.specs.Bits.{IsBits};
 ghost use Rattle.bcder_bits.specs.Contents.{IsAnyBits, IsPadded, IsShortIn, last_octet};
 
 use crate::bcder_tree::Mode;

@@ -1,5 +1,5 @@
 //! Contents of primitive values, read as bit strings.
-ghost use Rattle.std.specs.Prelude.{◌≡◌, ◌≢◌, ◌≤◌, ◌<◌, ℕ, true, false, take, drop, length, Some, IfOk, IfErr, OnOk, OnErr};
+ghost use Rattle.std.specs.Prelude.{◌≡◌, ◌≢◌, ◌≤◌, ◌<◌, true, false, take, length, Some, IfOk, IfErr, OnOk, OnErr};
 ghost use Rattle.bcder_bits.specs.bcder_source.Errors.{OnlyContent};
 ghost use Rattle.bcder_bits.specs.bcder_source.declared.error.DecodeError.TheVariants.{Memory};
 ghost use Rattle.bcder_bits.specs.bcder_primitive.Plain.{plain, LacksOctets, ReadsOctetsAs};

@@ -1,5 +1,5 @@
 -- Lack of memory within a value shows that the value is of the grammar.
-use Rattle.std.proofs.Common.{◌≡◌, ℕ, Bool, false, true, List, Result, Ok, Err, Option, Some, None, refl, sym, ap, ◌∙◌, subst}
+use Rattle.std.proofs.Common.{◌≡◌, ℕ, Bool, false, true, List, Result, Ok, Err, refl, sym, ap, ◌∙◌, subst}
 use Rattle.std.specs.Prelude.{IfErr}
 use Rattle.std.specs.Result.{IsErr, IsErrAnd}
 use Rattle.bcder_header.specs.bcder_source.Errors.{OnContent, OnlyContent}

@@ -4,7 +4,7 @@ ghost use Rattle.bcder_content.specs.bcder_source.Errors.{OnContent};
 ghost use Rattle.bcder_content.specs.bcder_source.Limits.{view, at_hand};
 ghost use Rattle.bcder_content.specs.bcder_source.Views.{left};
 ghost use Rattle.bcder_content.specs.Here.{here, SameFrame};
-ghost use Rattle.bcder_content.specs.Captures.{rest_of, cut, ReadsValues, ReadsSome, Wants, Captures, CapturesAll, RefusesIn, RefusedAt, Rebased};
+ghost use Rattle.bcder_content.specs.Captures.{rest_of, ReadsValues, ReadsSome, Wants, Captures, CapturesAll, RefusesIn, RefusedAt, Rebased};
 ghost use Rattle.bcder_content.specs.Contents.{Goes, Ended};
 ghost use Rattle.bcder_content.specs.Exact.{ReadsAs};
 ghost use Rattle.bcder_content.specs.Grammar.{Any, Exactly};

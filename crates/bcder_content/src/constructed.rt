@@ -1,14 +1,13 @@
 //! Contents of values.
-ghost use Rattle.std.specs.Prelude.{◌≡◌, ◌↔◌, Bool, true, false, IfOk, IfErr, OnOk, OnErr, IsTrue};
+ghost use Rattle.std.specs.Prelude.{◌≡◌, ◌↔◌, true, false, IfOk, IfErr, OnOk, OnErr, IsTrue};
 ghost use Rattle.bcder_content.specs.bcder_source.Errors.{OnContent, OnlyContent};
 ghost use Rattle.bcder_content.specs.bcder_source.Views.{left};
-ghost use Rattle.bcder_content.specs.bcder_tree.Tags.{TagValue};
 ghost use Rattle.bcder_content.specs.bcder_source.declared.error.DecodeError.TheVariants.{Content as content_error};
-ghost use Rattle.bcder_content.specs.Contents.{octets, EndsHere, Ended, Unlike, Untold};
-ghost use Rattle.bcder_content.specs.Here.{here, plain, start_of, SameFrame};
+ghost use Rattle.bcder_content.specs.Contents.{octets, EndsHere, Unlike, Untold};
+ghost use Rattle.bcder_content.specs.Here.{here, start_of, SameFrame};
 ghost use Rattle.bcder_content.specs.Memory.{OnMemory, RanErr, PlainErr};
-ghost use Rattle.bcder_header.specs.Openings.{ending_of, OfTag};
-ghost use Rattle.bcder_content.specs.Ran.{Enters, Leaves, NoneOf, Comes, Ran, RanOpt, PlainRan, PlainRanOpt};
+ghost use Rattle.bcder_header.specs.Openings.{OfTag};
+ghost use Rattle.bcder_content.specs.Ran.{Enters, NoneOf, Comes, Ran, RanOpt, PlainRan, PlainRanOpt};
 ghost use Rattle.bcder_content.specs.Stops.{NoneAhead, NamesTag, EndsUnread, LeftBy};
 
 use crate::bcder_source::{ContentError, DecodeError, Mode, Pos, Source, Tag};

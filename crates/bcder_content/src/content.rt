@@ -1,8 +1,6 @@
 //! Contents of either form, and values of any tag.
 ghost use Rattle.std.specs.Prelude.{◌≡◌, ◌↔◌, true, false, IsTrue, IfErr, IfOk, OnOk, OnErr};
-ghost use Rattle.std.specs.Fn.{FnOnceReturnsAtMut};
 ghost use Rattle.bcder_content.specs.bcder_source.Errors.{OnContent, OnlyContent};
-ghost use Rattle.bcder_content.specs.bcder_source.declared.error.DecodeError.TheVariants.{Content as content_error};
 ghost use Rattle.bcder_content.specs.Contents.{Ended};
 ghost use Rattle.bcder_content.specs.Either.{SameContent, left_of, form_in, RunsOctets, RunsValues, ByContent, ByContentAlone, ByValues, ByOctets, Takes, TakesNext, TakesOpt, AnyKind, OfForm, WithTag};
 ghost use Rattle.bcder_content.specs.Here.{here, SameFrame};

@@ -1,5 +1,5 @@
 //! Sources that are read from their beginning.
-ghost use Rattle.std.specs.Prelude.{◌≡◌, ℕ, List, IfErr};
+ghost use Rattle.std.specs.Prelude.{IfErr};
 ghost use Rattle.bcder_content.specs.bcder_tree.declared.mode.Mode.{Mode as ModeValue};
 ghost use Rattle.bcder_content.specs.Memory.{OnMemory, InErr};
 ghost use Rattle.bcder_content.specs.Ran.{Decoded, fresh};

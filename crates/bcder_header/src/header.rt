@@ -1,7 +1,6 @@
 //! Where values begin and end (X.690 8.1.1 to 8.1.5): what skipping and taking stand on.
 ghost use Rattle.std.specs.Prelude.{◌≡◌, ◌≤◌, ◌+◌, ℕ, Option, IfOk, IfSome, IfNone, OnErr, IsTrue, IsFalse, ◌↔◌, true, false};
 ghost use Rattle.bcder_source.specs.Limits.{view, at_hand};
-ghost use Rattle.bcder_header.specs.bcder_tree.Reads.{Begins, Identifies};
 ghost use Rattle.bcder_header.specs.bcder_tree.Tags.{TagValue};
 ghost use Rattle.bcder_header.specs.bcder_tree.Tree.{HasDefinite, HasIndefinite};
 ghost use Rattle.bcder_source.specs.Views.{View, left, more_limit};

@@ -1,10 +1,8 @@
 //! INTEGERs of any size (X.690 8.3).
 
-ghost use Rattle.std.specs.Prelude.{◌≡◌, ◌≢◌, ◌↔◌, ◌^◌, ◌<◌, ◌≤◌, ◌<ℤ◌, ℕ, ℤ, pos, IsTrue, IfOk, IfErr, OnErr, MatchResult, ⊤, true};
+ghost use Rattle.std.specs.Prelude.{◌≡◌, ◌↔◌, ◌<◌, ◌<ℤ◌, ℤ, pos, IsTrue, IfErr, OnErr, true};
 ghost use Rattle.bcder_number.specs.bcder_tree.Tags.{integer_tag};
-ghost use Rattle.bcder_number.specs.bcder_source.declared.error.DecodeError.TheVariants.{Memory};
 ghost use Rattle.bcder_number.specs.bcder_primitive.Plain.{plain, ReadsOctetsAs};
-ghost use Rattle.bcder_number.specs.bcder_primitive.Values.{IsSigned, IsUnsigned, IsWithin};
 ghost use Rattle.bcder_number.specs.bcder_content.Exact.{ReadsAs};
 ghost use Rattle.bcder_number.specs.bcder_content.Grammar.{OctetsOf};
 ghost use Rattle.bcder_number.specs.bcder_content.Here.{here};

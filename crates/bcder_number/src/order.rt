@@ -4,7 +4,7 @@ ghost use Rattle.std.proofs.Common.{rules};
 ghost use Rattle.std.specs.Cmp.{partial_equiv_from_equiv, int_cmp_total, int_eq_equiv, signed_po, nat_cmp_total, nat_eq_equiv, unsigned_po};
 ghost use Rattle.std.specs.Cmp.Rules.{comparing};
 ghost use Rattle.std.specs.Ordering.{int_cmp, int_eq, nat_cmp};
-ghost use Rattle.std.specs.Prelude.{◌≡◌, Some, pos, nat_eq};
+ghost use Rattle.std.specs.Prelude.{Some, pos, nat_eq};
 ghost use Rattle.bcder_number.specs.Hashed.{hash_of, same_hash, same_unsigned};
 
 use crate::integer::Integer;

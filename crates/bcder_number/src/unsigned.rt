@@ -1,6 +1,6 @@
 //! INTEGERs from 0 up, of any size (X.690 8.3).
 
-ghost use Rattle.std.specs.Prelude.{◌≡◌, ◌≢◌, ◌↔◌, ◌<ℤ◌, ℕ, pos, IsTrue, IfOk, IfErr, OnErr, true};
+ghost use Rattle.std.specs.Prelude.{◌≡◌, ◌↔◌, ◌<ℤ◌, ℕ, pos, IsTrue, IfOk, IfErr, OnErr, true};
 ghost use Rattle.bcder_number.specs.bcder_tree.Tags.{integer_tag};
 ghost use Rattle.bcder_number.specs.bcder_primitive.Plain.{plain, ReadsOctetsAs};
 ghost use Rattle.bcder_number.specs.bcder_content.Exact.{ReadsAs};

@@ -11,7 +11,6 @@ use Rattle.bcder_octets.specs.bcder_tree.Strings.{IsOctetString, octet_string_ta
 use Rattle.bcder_octets.specs.bcder_source.declared.error.DecodeError.{DecodeError}
 use Rattle.bcder_octets.specs.bcder_source.declared.error.DecodeError.TheVariants.{Content as content_error, Source, Memory}
 use Rattle.bcder_octets.specs.bcder_header.declared.ending.Span.{Span}
-use Rattle.bcder_octets.specs.bcder_primitive.Plain.{OctetsLeft}
 use Rattle.bcder_octets.specs.bcder_primitive.Values.{AnyOctets}
 use Rattle.bcder_octets.specs.bcder_content.declared.constructed.Constructed.{Constructed}
 use Rattle.bcder_octets.specs.bcder_content.declared.content.Content.{Content}

@@ -1,5 +1,5 @@
 -- The numbers that octets spell, and how many octets a number takes (X.690 8.3).
-use Rattle.std.proofs.Common.{◌≡◌, ℕ, zero, suc, ◌+◌, ◌-◌, get_or, take, drop, subst, ◌-ℤ◌, ◌*◌, ◌^◌, ◌<◌, ◌≤◌, List, [], ◌∷◌, length, refl, sym, ap, ◌∙◌, arith, All, add-one, inl, inr, lit<}
+use Rattle.std.proofs.Common.{◌≡◌, ℕ, suc, ◌+◌, ◌-◌, get_or, take, drop, subst, ◌-ℤ◌, ◌*◌, ◌^◌, ◌<◌, ◌≤◌, List, [], ◌∷◌, length, sym, ap, arith, All, add-one, inl, inr, lit<}
 use Rattle.std.proofs.Math.Nat.{pow-succ', pow-le-pow_right, mul-le-mul_right}
 use Rattle.std.proofs.lemmas.Bool.{cases_lt}
 use Rattle.std.proofs.lemmas.Int.{ints, to_z_pos}
@@ -9,7 +9,7 @@ use Rattle.bcder_primitive.proofs.of_bcder_tree.Slices.{rest_is}
 use Rattle.std.proofs.lemmas.List.Elements.{All-head, All-tail, All-from_get_or}
 use Rattle.std.specs.Prelude.{ℤ, pos, negsuc}
 use Rattle.bcder_primitive.specs.bcder_tree.Integers.{number_behind, number_of, IsShortest, IsPositive}
-use Rattle.bcder_primitive.specs.Values.{IsUnsigned, IsSigned, IsNegative, IsTwosComplement, IsWithin}
+use Rattle.bcder_primitive.specs.Values.{IsUnsigned, IsSigned, IsNegative}
 
 -- One octet more.
 pub more_octets : (i : ℕ) → 256 ^ (i + 1) ≡ 256 * 256 ^ i

@@ -1,10 +1,10 @@
 //! Contents of primitive values.
 ghost use Rattle.std.specs.Prelude.{◌≡◌, ◌↔◌, ◌+◌, ◌-◌, ◌^◌, ◌<◌, ◌≤◌, ◌≢◌, ℕ, List, [], ◌∷◌, length, take, drop, min, IfOk, IfErr, IfSome, IfNone, OnOk, OnErr, IsTrue, Option, Some, None, true, false};
-ghost use Rattle.bcder_source.specs.Errors.{OnContent, OnlyContent, OnlyOctets, OnlyAtEnd, OnMemory};
+ghost use Rattle.bcder_source.specs.Errors.{OnlyContent, OnlyOctets, OnlyAtEnd, OnMemory};
 ghost use Rattle.bcder_source.specs.Limits.{at_hand, HasAll};
 ghost use Rattle.bcder_source.specs.Views.{left, limited, Moved, NextOctet, octets_of};
 ghost use Rattle.bcder_source.specs.declared.error.DecodeError.TheVariants.{Content as content_error, Memory};
-ghost use Rattle.bcder_primitive.specs.Plain.{OctetsLeft, plain, octets_in, Drained, WholeOctets, ReadsOctetsAs, NamesOther};
+ghost use Rattle.bcder_primitive.specs.Plain.{plain, octets_in, Drained, WholeOctets, ReadsOctetsAs, NamesOther};
 ghost use Rattle.bcder_primitive.specs.Sliced.{content_of, RanOnSlice};
 ghost use Rattle.bcder_primitive.specs.Values.{IsBoolean, IsNull, IsUnsigned, IsSigned, IsValue, AnyOctets, Skipped};
 

@@ -4,7 +4,7 @@ use Rattle.std.specs.Prelude.{IfSome, IfNone, encode_utf8, encode_utf8_all}
 use denote.Bor.{Bor}
 use Rattle.std.proofs.lemmas.List.Elements.{All-nil, All-cons}
 use Rattle.bcder_strings.specs.Texts.{Tells, IsText, Starts, HasOneStart}
-use Rattle.bcder_strings.proofs.Checks.{text_less, text_none}
+use Rattle.bcder_strings.proofs.Checks.{text_less}
 
 -- The characters that octets state are answered.
 abbrev pub Told : (ℕ → Type 0) → (ℕ → List ℕ) → (List ℕ → List ℕ) → Type 0

@@ -1,5 +1,5 @@
 //! Characters in UTF-8 (RFC 3629 3).
-ghost use Rattle.std.specs.Prelude.{◌≡◌, ◌≤◌, ◌++◌, ℕ, List, length, take, encode_utf8, IsUtf8, IfSome, IfNone};
+ghost use Rattle.std.specs.Prelude.{◌≡◌, ◌≤◌, ℕ, List, length, take, encode_utf8, IsUtf8, IfSome, IfNone};
 ghost use Rattle.bcder_strings.specs.Sets.{IsUnicode};
 ghost use Rattle.bcder_strings.specs.Texts.{Starts};
 

@@ -2,7 +2,7 @@
 
 ghost use Rattle.std.specs.Prelude.{◌≡◌, ◌≢◌, List, ℕ, [], ◌∷◌, ◌++◌, map};
 ghost use Rattle.bcder_tree.specs.declared.mode.Mode.{Mode as ModeValue};
-ghost use Rattle.bcder_tree.specs.declared.mode.Mode.TheVariants.{Ber, Cer, Der};
+ghost use Rattle.bcder_tree.specs.declared.mode.Mode.TheVariants.{Ber};
 ghost use Rattle.bcder_tree.specs.Tree.{Tree, Spells};
 ghost use Rattle.bcder_tree.specs.Front.{Front};
 ghost use Rattle.bcder_tree.specs.Tags.{universal, context};

@@ -1,5 +1,5 @@
 -- Forms of values of one of two types (X.680 29).
-use Rattle.std.proofs.Common.{◌≡◌, ◌⊎◌, inl, inr, ℕ, List, refl, sym, ap, ◌∙◌, subst}
+use Rattle.std.proofs.Common.{◌≡◌, ◌⊎◌, inl, inr, ℕ, List, refl, sym, ap, ◌∙◌}
 use Rattle.bcder_values.specs.bcder_tree.declared.mode.Mode.{Mode}
 use Rattle.bcder_values.specs.bcder_tree.Tags.{TagValue}
 use Rattle.bcder_values.specs.bcder_tree.Tree.{Tree, Trees}

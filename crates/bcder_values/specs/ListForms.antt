@@ -1,7 +1,7 @@
 -- Forms of lists of values (X.680 26, 28).
-use Rattle.std.proofs.Common.{◌≡◌, ℕ, List, [], ◌∷◌, map, refl, sym, ap, ◌∙◌, subst}
+use Rattle.std.proofs.Common.{◌≡◌, List, [], ◌∷◌, map, sym, ap, ◌∙◌, subst}
 use Rattle.bcder_values.specs.bcder_tree.declared.mode.Mode.{Mode}
-use Rattle.bcder_values.specs.bcder_tree.Tags.{TagValue, sequence_tag, set_tag}
+use Rattle.bcder_values.specs.bcder_tree.Tags.{sequence_tag, set_tag}
 use Rattle.bcder_values.specs.bcder_tree.Tree.{Tree, Trees, none, more}
 use Rattle.bcder_content.specs.Contents.{tag_of}
 use Rattle.bcder_content.specs.Grammar.{Many, ManyCases}

@@ -1,6 +1,5 @@
 //! General names that are URIs (RFC 5280 4.2.1.6).
 
-ghost use Rattle.std.specs.Prelude.{◌≡◌};
 ghost use Rattle.certs_access.specs.bcder_tree.Strings.{IsIa5};
 ghost use Rattle.certs_access.specs.bcder_tree.Tags.{context};
 ghost use Rattle.certs_access.specs.bcder_strings.Sets.{alone};

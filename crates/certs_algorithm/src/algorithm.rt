@@ -3,7 +3,6 @@
 ghost use Rattle.std.specs.Prelude.{◌≡◌, ◌≢◌, ◌↔◌, true, Bool, IfErr, IsTrue, OnErr};
 ghost use Rattle.certs_algorithm.specs.bcder_source.Errors.{OnlyContent};
 ghost use Rattle.certs_algorithm.specs.bcder_source.declared.error.DecodeError.TheVariants.{Memory};
-ghost use Rattle.certs_algorithm.specs.bcder_tree.Tags.{universal};
 ghost use Rattle.certs_algorithm.specs.bcder_tree.Tree.{Tree};
 ghost use Rattle.certs_algorithm.specs.bcder_tree.declared.mode.Mode.{Mode as ModeValue};
 ghost use Rattle.certs_algorithm.specs.bcder_primitive.Plain.{plain, ReadsOctetsAs};
@@ -11,7 +10,7 @@ ghost use Rattle.certs_algorithm.specs.bcder_content.Exact.{ReadsAs};
 ghost use Rattle.certs_algorithm.specs.bcder_content.Here.{here};
 ghost use Rattle.certs_algorithm.specs.bcder_content.InMode.{ReadsFields};
 ghost use Rattle.certs_algorithm.specs.Algorithms.{AlgorithmValue, AreCmsFields, AreFields, IsCmsAlgorithm};
-ghost use Rattle.certs_algorithm.specs.Algorithms.{IsAlgorithmOf, NamesSignature, fields_of};
+ghost use Rattle.certs_algorithm.specs.Algorithms.{NamesSignature, fields_of};
 ghost use Rattle.certs_basics.specs.Basics.{IsAlgorithm};
 ghost use Rattle.certs_basics.specs.Identifiers.{rsa_encryption, sha256_with_rsa};
 

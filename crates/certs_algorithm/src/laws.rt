@@ -1,8 +1,7 @@
 //! Laws of algorithms: the contracts of functions that do nothing.
 
-ghost use Rattle.std.specs.Prelude.{◌≡◌, ℕ, Bool, List, true};
+ghost use Rattle.std.specs.Prelude.{ℕ, Bool, List, true};
 ghost use Rattle.certs_algorithm.specs.bcder_tree.declared.mode.Mode.{Mode as ModeValue};
-ghost use Rattle.certs_algorithm.specs.bcder_tree.Tree.{Tree};
 ghost use Rattle.certs_algorithm.specs.bcder_content.Grammar.{End, One, Then};
 ghost use Rattle.certs_algorithm.specs.bcder_values.Returns.{ReadAgain};
 ghost use Rattle.certs_basics.specs.Basics.{IsAlgorithm};

@@ -1,5 +1,5 @@
 -- The values of names, keys and algorithms are read in one way.
-use Rattle.std.proofs.Common.{◌≡◌, ℕ, List, ◌∷◌, refl, sym, ap, ◌∙◌, subst}
+use Rattle.std.proofs.Common.{◌≡◌, List, refl, sym, ap, ◌∙◌, subst}
 use Rattle.std.specs.Prelude.{pos, unsigned_abs}
 use Rattle.certs_basics.specs.bcder_tree.declared.mode.Mode.{Mode}
 use Rattle.certs_basics.specs.bcder_tree.Tags.{TagValue, oid_tag}

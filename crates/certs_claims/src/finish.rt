@@ -1,6 +1,6 @@
 //! The tests after the list of extensions.
 
-ghost use Rattle.std.specs.Prelude.{◌≡◌, ◌↔◌, IfErr, IfOk, IsTrue, MatchOption, None, OnErr};
+ghost use Rattle.std.specs.Prelude.{◌≡◌, ◌↔◌, IfErr, IfOk, IsTrue, None, OnErr};
 ghost use Rattle.certs_claims.specs.resources_chain.declared.choice.ResourcesChoice.TheVariants.{Missing};
 ghost use Rattle.certs_claims.specs.Finishing.{Finishes, HasClaims, HasSome, IsListFault, IsUnder, Stands, access_of, no_families};
 ghost use Rattle.certs_claims.specs.Needed.{HasNeeded};

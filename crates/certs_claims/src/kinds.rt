@@ -1,6 +1,6 @@
 //! Which extension it is, by its identifier.
 
-ghost use Rattle.std.specs.Prelude.{◌≡◌, MatchOption};
+ghost use Rattle.std.specs.Prelude.{MatchOption};
 ghost use Rattle.certs_claims.specs.certs_basics.Lists.{Mem};
 ghost use Rattle.certs_claims.specs.Kinds.{IsNamed, key_kinds, octets_of, place_kinds, resource_kinds};
 

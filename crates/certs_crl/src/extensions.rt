@@ -1,6 +1,6 @@
 //! The two extensions of a revocation list (RFC 5280 5.2, RFC 6487 5).
 
-ghost use Rattle.std.specs.Prelude.{◌≡◌, ◌↔◌, [], ◌∷◌, IsTrue, OnErr, true};
+ghost use Rattle.std.specs.Prelude.{◌≡◌, ◌↔◌, [], ◌∷◌, IsTrue};
 ghost use Rattle.certs_crl.specs.bcder_tree.declared.mode.Mode.TheVariants.{Der};
 ghost use Rattle.certs_crl.specs.bcder_tree.Tags.{context, sequence_tag};
 ghost use Rattle.certs_crl.specs.bcder_content.Captures.{rest_of};

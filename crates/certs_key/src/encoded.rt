@@ -1,7 +1,6 @@
 //! Keys that are written.
 
 ghost use Rattle.std.specs.Prelude.{◌≡◌, IfOk, MatchOption};
-ghost use Rattle.certs_key.specs.bcder_tree.Tags.{TagValue, universal};
 ghost use Rattle.certs_key.specs.bcder_bits.Bits.{IsBits};
 ghost use Rattle.certs_key.specs.certs_basics.Keys.{HasEncoding, Encodes, kind_of};
 ghost use Rattle.certs_key.specs.Forms.{lends, key_lends, parameters_of, parameters_tag};

@@ -6,10 +6,9 @@ ghost use Rattle.certs_key.specs.bcder_tree.Tree.{Spells};
 ghost use Rattle.certs_key.specs.bcder_content.Exact.{DecodesAs, ReadsAs};
 ghost use Rattle.certs_key.specs.bcder_content.Here.{here};
 ghost use Rattle.certs_key.specs.bcder_content.InMode.{ReadsFields};
-ghost use Rattle.certs_key.specs.bcder_bits.Bits.{IsBits};
 ghost use Rattle.certs_key.specs.certs_basics.declared.PublicKeyFormat.TheVariants.{Rsa, Ecdsa};
 ghost use Rattle.certs_key.specs.certs_basics.Names.{subject_of};
-ghost use Rattle.certs_key.specs.certs_basics.Keys.{Encodes, HasEncoding, IsKey, IsKeyBody, encoded, identifier};
+ghost use Rattle.certs_key.specs.certs_basics.Keys.{Encodes, IsKey, IsKeyBody, encoded, identifier};
 ghost use Rattle.certs_key.specs.Digesting.{digests_of};
 ghost use Rattle.certs_key.specs.Reading.{AreParts, parts_fields};
 

@@ -1,7 +1,7 @@
 //! Attributes of names that inspection reads: a commonName or a serialNumber, as a primitive PrintableString or, where
 //! not strict, a primitive UTF8String (RFC 6487 4.4, 4.5).
 
-ghost use Rattle.std.specs.Prelude.{◌≡◌, ◌≢◌, IfErr};
+ghost use Rattle.std.specs.Prelude.{◌≢◌, IfErr};
 ghost use Rattle.certs_name.specs.bcder_tree.Tags.{oid_tag, sequence_tag, utf8_string_tag};
 ghost use Rattle.certs_name.specs.bcder_source.declared.error.DecodeError.TheVariants.{Memory};
 ghost use Rattle.certs_name.specs.bcder_content.Exact.{ReadsAs, ReadsOptAs};

@@ -1,6 +1,6 @@
 //! What inspection asks of names: one commonName, at most one serialNumber, and nothing else (RFC 6487 4.4, 4.5).
 
-ghost use Rattle.std.specs.Prelude.{◌≡◌, ◌≢◌, ◌↔◌, false, IfErr, IsOk, IsTrue};
+ghost use Rattle.std.specs.Prelude.{◌≢◌, ◌↔◌, false, IfErr, IsOk, IsTrue};
 ghost use Rattle.certs_name.specs.bcder_tree.Tags.{set_tag};
 ghost use Rattle.certs_name.specs.bcder_source.declared.error.DecodeError.TheVariants.{Memory};
 ghost use Rattle.certs_name.specs.bcder_content.Captures.{rest_of};

@@ -1,7 +1,7 @@
 //! Serial numbers that are read and written (RFC 5280 4.1.2.2, X.690 8.3).
 
 ghost use Rattle.std.proofs.Common.{rules};
-ghost use Rattle.std.specs.Prelude.{◌≡◌, ◌≢◌, ◌≤◌, ◌↔◌, ℕ, pos, length, IfErr, IsTrue, OnErr, true};
+ghost use Rattle.std.specs.Prelude.{◌≡◌, ◌≢◌, ◌↔◌, ℕ, pos, IfErr, IsTrue, OnErr, true};
 ghost use Rattle.certs_name.specs.bcder_source.declared.error.DecodeError.TheVariants.{Memory};
 ghost use Rattle.certs_name.specs.bcder_tree.Integers.{IsPositive, IsShortest};
 ghost use Rattle.certs_name.specs.bcder_tree.Tags.{integer_tag};

@@ -1,6 +1,6 @@
 //! The revoked certificates of a list, as the octets of their entries (RFC 5280 5.1.2.6).
 
-ghost use Rattle.std.specs.Prelude.{◌≡◌, ◌≢◌, ◌↔◌, [], false, true, IsTrue, IfErr, IfOk, IfNone, IfSome, OnErr};
+ghost use Rattle.std.specs.Prelude.{◌≡◌, ◌≢◌, ◌↔◌, [], true, IsTrue, IfErr, IfOk, IfNone, IfSome, OnErr};
 ghost use Rattle.certs_specs.specs.CrlText.{AreRevoked};
 ghost use Rattle.certs_revoked.specs.bcder_tree.declared.mode.Mode.TheVariants.{Der};
 ghost use Rattle.certs_revoked.specs.bcder_tree.Tags.{sequence_tag};

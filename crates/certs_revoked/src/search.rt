@@ -1,6 +1,6 @@
 //! Entries that are read one by one, of octets that spell them.
 
-ghost use Rattle.std.specs.Prelude.{◌≡◌, ℕ, List, false, IfOk, IsOk};
+ghost use Rattle.std.specs.Prelude.{◌≡◌, List, false, IfOk, IsOk};
 ghost use Rattle.certs_specs.specs.CrlText.{RevokedValue};
 ghost use Rattle.certs_revoked.specs.bcder_content.Captures.{rest_of};
 ghost use Rattle.certs_revoked.specs.bcder_content.Here.{here};

@@ -1,6 +1,6 @@
 //! Moments that are read (RFC 5280 4.1.2.5).
 
-ghost use Rattle.std.specs.Prelude.{◌≡◌, ◌≢◌, ℕ, true, IfErr, OnErr};
+ghost use Rattle.std.specs.Prelude.{◌≡◌, ◌≢◌, true, IfErr, OnErr};
 ghost use Rattle.certs_time.specs.bcder_tree.Tags.{generalized_time_tag, utc_time_tag};
 ghost use Rattle.certs_time.specs.bcder_source.Errors.{OnlyContent};
 ghost use Rattle.certs_time.specs.bcder_source.declared.error.DecodeError.TheVariants.{Memory};

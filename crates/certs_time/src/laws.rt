@@ -4,7 +4,7 @@ ghost use Rattle.std.specs.Prelude.{◌≡◌, ◌↔◌, ℕ, IsTrue, List};
 ghost use Rattle.std.specs.declared.cmp.Ordering.TheVariants.{Equal};
 ghost use Rattle.certs_time.specs.bcder_tree.declared.mode.Mode.{Mode as ModeValue};
 ghost use Rattle.certs_time.specs.bcder_tree.Tags.{TagValue, sequence_tag};
-ghost use Rattle.certs_time.specs.bcder_tree.Tree.{Tree, Trees, primitive};
+ghost use Rattle.certs_time.specs.bcder_tree.Tree.{Tree, primitive};
 ghost use Rattle.certs_time.specs.bcder_primitive.Values.{AnyOctets};
 ghost use Rattle.certs_time.specs.bcder_content.Grammar.{End, One, Then};
 ghost use Rattle.certs_time.specs.bcder_written.Encoded.{WritesBoth, WritesPlain, WritesWrapped};

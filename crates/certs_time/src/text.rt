@@ -1,6 +1,6 @@
 //! The two texts of a moment: UTCTime's and GeneralizedTime's (RFC 5280 4.1.2.5).
 
-ghost use Rattle.std.specs.Prelude.{◌≡◌, ◌↔◌, ◌≢◌, ◌∷◌, ◌++◌, ℕ, List, length, IsTrue, IfSome, IfNone};
+ghost use Rattle.std.specs.Prelude.{◌≡◌, ◌↔◌, ◌≢◌, ℕ, List, length, IsTrue, IfSome, IfNone};
 ghost use Rattle.certs_time.specs.bcder_tree.Tags.{generalized_time_tag};
 ghost use Rattle.certs_time.specs.bcder_tree.Tree.{primitive};
 ghost use Rattle.certs_time.specs.Forms.{IsShortMoment, IsShortYear, Tells, WritesTime, length_of, tag_of, with_century_of};

@@ -1,6 +1,6 @@
 //! Moments, by jiff's calendar.
 
-ghost use Rattle.std.specs.Prelude.{◌≡◌, ℕ, ◌<◌, ◌*◌, ◌↔◌, IsSome, IfSome, IfNone, SomeIff, List, [], ◌∷◌};
+ghost use Rattle.std.specs.Prelude.{◌≡◌, ℕ, ◌<◌, ◌*◌, IfSome, IfNone, SomeIff, List, [], ◌∷◌};
 ghost use Rattle.certs_time.specs.Periods.{IsLater, IsTimeNumber};
 ghost use Rattle.certs_time.specs.Pairs.{IsPairs, pair_text};
 ghost use Rattle.certs_time.specs.Times.{digits};

@@ -1,6 +1,6 @@
 //! Which texts are rsync and https URIs, and the keys under which they are looked up.
 
-ghost use Rattle.std.specs.Prelude.{◌≡◌, List, ℕ, ◌+◌, ◌≤◌, ◌==◌, ◌++◌, map, take, drop, length, min, All, ◌↔◌, IsTrue, IfOk, MatchOption};
+ghost use Rattle.std.specs.Prelude.{◌≡◌, ◌+◌, ◌≤◌, ◌==◌, ◌++◌, map, take, drop, length, min, All, ◌↔◌, IsTrue, IfOk, MatchOption};
 ghost use Rattle.std.specs.Cmp.Lexicographic.{slice_cmp};
 ghost use Rattle.std.specs.List.{position_or_len};
 ghost use Rattle.std.specs.Ordering.{nat_cmp};

@@ -1,6 +1,6 @@
 //! Laws of URIs and their lookup keys: the contracts of functions that do nothing.
 
-ghost use Rattle.std.specs.Prelude.{◌≡◌, ◌↔◌, ◌++◌, ◌∷◌, [], List, ℕ, All, IsTrue, Some};
+ghost use Rattle.std.specs.Prelude.{◌≡◌, ◌↔◌, List, ℕ, IsTrue};
 ghost use Rattle.std.specs.declared.cmp.Ordering.TheVariants.{Equal};
 ghost use Rattle.certs_uri.specs.bcder_tree.declared.mode.Mode.{Mode};
 ghost use Rattle.certs_uri.specs.bcder_tree.Strings.{IsIa5};

@@ -1,6 +1,6 @@
 //! Paths of URIs: folders, names joined to them, and which texts name the same place.
 
-ghost use Rattle.std.specs.Prelude.{◌≡◌, ◌↔◌, ◌++◌, ◌∷◌, IsTrue, IfOk, option_copied};
+ghost use Rattle.std.specs.Prelude.{◌≡◌, ◌↔◌, IsTrue, IfOk, option_copied};
 ghost use Rattle.certs_uri.specs.Paths.{behind_slashes as behind, IsIdenticalTo, join as joined, parent as parent_of, to_last_slash as folder_of, without_slash as trimmed};
 
 use crate::grammar::{folded_len, segment_len};

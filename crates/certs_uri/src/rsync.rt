@@ -1,6 +1,6 @@
 //! `Rsync`.
 
-ghost use Rattle.std.specs.Prelude.{◌≡◌, ◌≢◌, ◌↔◌, ◌++◌, All, IsTrue, IsOk, IfOk, IfErr, Some, None};
+ghost use Rattle.std.specs.Prelude.{◌≡◌, ◌≢◌, ◌↔◌, All, IsTrue, IsOk, IfOk, IfErr, Some, None};
 ghost use Rattle.certs_uri.specs.bcder_tree.Tags.{context};
 ghost use Rattle.certs_uri.specs.Made.{MakesIf};
 ghost use Rattle.certs_uri.specs.Paths.{IsIdenticalTo, join as joined, parent as parent_of};

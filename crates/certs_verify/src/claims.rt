@@ -1,6 +1,6 @@
 //! What a certificate holds of each kind: below an issuer by the claim rule (RFC 6487 7.2, RFC 8360 4.2), or as an anchor.
 
-ghost use Rattle.std.specs.Prelude.{◌≡◌, ◌∷◌, [], ℕ, IfErr, IfOk};
+ghost use Rattle.std.specs.Prelude.{◌∷◌, [], ℕ, IfErr, IfOk};
 ghost use Rattle.certs_inspect.specs.certs_specs.Cert.{CertValue};
 ghost use Rattle.certs_inspect.specs.certs_specs.Verified.{HoldsBelow, HoldsOwn, PassesAt, held_by, nothing};
 ghost use Rattle.certs_inspect.specs.certs_specs.declared.VerificationTest.TheVariants as test;

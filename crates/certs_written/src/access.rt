@@ -3,7 +3,7 @@
 
 ghost use Rattle.std.specs.Prelude.{◌≡◌, false, option_copied};
 ghost use Rattle.certs_written.specs.certs_basics.Identifiers as id;
-ghost use Rattle.certs_written.specs.Values.{all_locations, extended_if, issuer_access, located};
+ghost use Rattle.certs_written.specs.Values.{extended_if, issuer_access, located};
 ghost use Rattle.certs_written.specs.Values.{locations, or_some, some_access, subject_access};
 
 use crate::extension::{ExtensionEncoder, encode_extension};

@@ -1,18 +1,18 @@
 -- Attributes one by one, each of which says something, are signed attributes as a whole.
-use Rattle.std.proofs.Common.{◌≡◌, ℕ, zero, suc, ◌<◌, Bool, true, false, cond, List, [], ◌∷◌, length, Option, Some, None, refl, sym, ap, ◌∙◌, subst, arith, filter, filter_map, bytes_eq, All, Contains}
+use Rattle.std.proofs.Common.{◌≡◌, ℕ, zero, suc, Bool, true, false, cond, List, [], ◌∷◌, Option, Some, None, refl, sym, ap, ◌∙◌, subst, arith, filter_map, bytes_eq, All, Contains}
 use Rattle.std.proofs.lemmas.List.Elements.{All-nil, All-cons, All-head, All-tail}
 use Rattle.std.proofs.lemmas.Slice.Eq.{bytes_eq-Decides}
 use Rattle.std.specs.List.{cons_option}
 use Rattle.objects_attributes.specs.bcder_tree.declared.mode.Mode.{Mode}
 use Rattle.objects_attributes.specs.bcder_tree.Tags.{oid_tag}
 use Rattle.objects_attributes.specs.bcder_tree.Tree.{Tree, Trees}
-use Rattle.objects_attributes.specs.bcder_tree.Strings.{IsOctetString, octet_string_tag}
+use Rattle.objects_attributes.specs.bcder_tree.Strings.{IsOctetString}
 use Rattle.objects_attributes.specs.bcder_content.Grammar.{ManyCases, OctetsOf, One}
 use Rattle.objects_attributes.specs.bcder_content.Words.{Gathers}
 use Rattle.objects_attributes.specs.bcder_oid.declared.oid.Oid.{Oid}
 use Rattle.objects_attributes.specs.bcder_oid.Identifiers.{IsOid}
 use Rattle.objects_attributes.specs.certs_time.Forms.{IsTime}
-use Rattle.objects_forms.specs.SignedAttributes.{AreAttributes, AreSigned, Attribute, AttributesValue, IsAttribute, IsBinaryTime, IsOnce, kinds as signed_kinds, those_of}
+use Rattle.objects_forms.specs.SignedAttributes.{AreAttributes, Attribute, AttributesValue, IsAttribute, IsBinaryTime, IsOnce, kinds as signed_kinds, those_of}
 use Rattle.objects_attributes.specs.declared.kinds.Kind.{Kind}
 use Rattle.objects_attributes.specs.declared.kinds.Kind.TheVariants as kinds
 use Rattle.objects_attributes.specs.declared.said.Said.{Said}

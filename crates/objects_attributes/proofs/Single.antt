@@ -15,7 +15,7 @@ use Rattle.objects_attributes.proofs.of_bcder_content.Taking.{on_content}
 use Rattle.objects_attributes.proofs.of_bcder_content.Took.{whole_first}
 use Rattle.objects_attributes.proofs.of_bcder_content.Unique.{as_tagged, inside_tagged}
 use Rattle.objects_forms.specs.Identifiers as id
-use Rattle.objects_forms.specs.SignedAttributes.{Attribute, AttributeFields, IsAttribute, attribute_of}
+use Rattle.objects_forms.specs.SignedAttributes.{Attribute, IsAttribute}
 use Rattle.objects_attributes.specs.declared.kinds.Kind.{Kind}
 use Rattle.objects_attributes.specs.declared.kinds.Kind.TheVariants as kinds
 use Rattle.objects_attributes.specs.declared.said.Said.{Said}

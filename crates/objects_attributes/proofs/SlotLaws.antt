@@ -5,7 +5,7 @@ use Rattle.std.specs.List.{cons_option}
 use Rattle.objects_attributes.specs.declared.said.Said.{Said}
 use Rattle.objects_attributes.specs.declared.said.Said.TheVariants.{ContentType, MessageDigest, SigningTime, BinarySigningTime}
 use Rattle.objects_attributes.specs.declared.slots.Slots.{Slots}
-use Rattle.objects_attributes.specs.Slots.{Adds, AreSlots, IsOnly, Refuses, digest_in, seconds_in, time_in, type_in}
+use Rattle.objects_attributes.specs.Slots.{Adds, IsOnly, Refuses, digest_in, seconds_in, time_in, type_in}
 
 only_none : {A : Type 0} (l : List A) → IsOnly l None → l ≡ []
 only_none [] e = refl

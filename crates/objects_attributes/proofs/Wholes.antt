@@ -20,7 +20,7 @@ use Rattle.objects_attributes.specs.bcder_content.Texts.{InOrder}
 use Rattle.objects_attributes.proofs.of_bcder_content.Took.{one_whole}
 use Rattle.objects_forms.specs.SignedAttributes.{AreAttributes, AttributesValue}
 use Rattle.objects_attributes.specs.declared.attrs.Attributes.{Attributes}
-use Rattle.objects_attributes.specs.Kept.{AreKept, AreWhole, DecodesAll, IsWholly, attributes_of}
+use Rattle.objects_attributes.specs.Kept.{AreKept, AreWhole, DecodesAll, IsWholly}
 
 -- A refusal, which `?` passes on.
 pub whole_stop : {E : Type 0} (v new : ValuesLeft) (r : Result Attributes (DecodeError E)) (e : DecodeError E) → IsErr r × IsErrAnd r (λ x. x ≡ e)

@@ -3,7 +3,6 @@
 ghost use Rattle.std.specs.Prelude.{◌≡◌};
 ghost use Rattle.objects_frame.specs.bcder_tree.Tags.{context};
 ghost use Rattle.objects_frame.specs.bcder.Kinds.{octets_at};
-ghost use Rattle.objects_frame.specs.objects_forms.Identifiers as id;
 ghost use Rattle.objects_frame.specs.Frames.{object, signed_data, signed_fields, signer, signer_fields};
 
 use crate::attributes::{OidValue, SetOf, StringValue};

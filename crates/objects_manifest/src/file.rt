@@ -1,6 +1,6 @@
 //! One file of a manifest: its name, and its hash (RFC 9286 4.2).
 
-ghost use Rattle.std.specs.Prelude.{◌≡◌, ◌≢◌, ◌↔◌, true, IsTrue, IfErr, OnErr};
+ghost use Rattle.std.specs.Prelude.{◌≡◌, ◌≢◌, ◌↔◌, IsTrue, IfErr};
 ghost use Rattle.objects_forms.specs.Manifests.{IsFileName};
 ghost use Rattle.objects_manifest.specs.bcder_tree.Strings.{IsLetter};
 ghost use Rattle.objects_manifest.specs.bcder_tree.Tags.{sequence_tag};

@@ -1,6 +1,6 @@
 //! Hashes of listed files (RFC 9286 4.2.1, RFC 7935 2).
 
-ghost use Rattle.std.specs.Prelude.{◌≡◌, ◌↔◌, IsOk, IsTrue};
+ghost use Rattle.std.specs.Prelude.{◌≡◌, ◌↔◌, IsOk};
 
 use certs_key::Digester;
 use std::marker::Model;

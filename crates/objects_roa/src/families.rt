@@ -1,6 +1,6 @@
 //! The families of a route origin attestation (RFC 9582 4.3).
 
-ghost use Rattle.std.specs.Prelude.{◌≡◌, ◌≢◌, List, MatchOption, None, Some};
+ghost use Rattle.std.specs.Prelude.{◌≢◌, List, MatchOption, None, Some};
 ghost use Rattle.std.specs.Option.{option_map};
 ghost use Rattle.objects_forms.specs.Roas.{AreOf, RoaAddress};
 ghost use Rattle.objects_roa.specs.bcder_content.Exact.{ReadsAs, ReadsOptAs};

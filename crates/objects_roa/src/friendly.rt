@@ -89,7 +89,7 @@ pub struct FriendlyRoaIpAddressIter<'a> {
 }
 
 impl<'a> Model for FriendlyRoaIpAddressIter<'a> {
-    ghost use Rattle.std.specs.Prelude.{List, ◌++◌, map};
+    ghost use Rattle.std.specs.Prelude.{List, map};
     ghost use Rattle.objects_roa.specs.resources_addr.MaxLens.{MaxLenValue};
     ghost use Rattle.objects_roa.specs.resources_ip_prefix.declared.addr.AddressFamily.TheVariants as Of;
     ghost use Rattle.objects_roa.specs.Addresses.{AllOf, roa_address};

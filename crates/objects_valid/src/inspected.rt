@@ -1,6 +1,6 @@
 //! What is tested of a signed object after its certificate's form: its content, then its certificate below an issuer.
 
-ghost use Rattle.std.specs.Prelude.{◌≡◌, ◌+◌, ◌≤◌, ℕ, Bool, IfErr, IfOk};
+ghost use Rattle.std.specs.Prelude.{◌≡◌, ◌+◌, ◌≤◌, Bool, IfErr, IfOk};
 ghost use Rattle.objects_valid.specs.certs_specs.Verified.{HolderValue, held_by};
 ghost use Rattle.objects_valid.specs.certs_specs.declared.Role.{Role};
 ghost use Rattle.certs_verify.specs.certs_errors.declared.validation.ValidationError.TheVariants.{Verification};

@@ -4,7 +4,7 @@ ghost use Rattle.std.specs.Prelude.{◌≡◌, ◌≢◌, ◌↔◌, ℕ, List, 
 ghost use Rattle.objects_signed.specs.certs_key.Digesting.{digests_of};
 ghost use Rattle.certs_errors.specs.declared.verification.VerificationError.TheVariants.{BadSignature};
 ghost use Rattle.objects_signed.specs.objects_forms.ObjectText.{IsNotAfter};
-ghost use Rattle.objects_verify.specs.Content.{AsksOnce, FailsSignature, HasDigest, IsSigned};
+ghost use Rattle.objects_verify.specs.Content.{AsksOnce, FailsSignature, IsSigned};
 ghost use Rattle.objects_verify.specs.Content.{VerifiesContent, object_with};
 
 use crate::message::signed_message;

@@ -1,14 +1,12 @@
 -- A trace is good where reading it from its object up finds all that is needed.
-use Rattle.std.proofs.Common.{◌≡◌, ℕ, ◌⊎◌, ◌↔◌, List, [], ◌∷◌, map, inl, inr, refl, sym, subst}
-use Rattle.rpki_laws.specs.resources_chain.Sets.{InRun, InRuns}
-use Rattle.rpki_laws.specs.resources_chain.Claims.{Keeps, FitsIn}
-use Rattle.rpki_laws.specs.resources_ip_prefix.Prefixes.{prefix_run}
+use Rattle.std.proofs.Common.{ℕ, List, [], ◌∷◌, inl, inr, refl, sym, subst}
+use Rattle.rpki_laws.specs.resources_chain.Sets.{InRuns}
+use Rattle.rpki_laws.specs.resources_chain.Claims.{FitsIn}
 use Rattle.rpki_laws.specs.rpki_readings.Objects.{RoaAddress}
-use Rattle.rpki_rules.specs.Words.{Each}
 use Rattle.rpki_rules.specs.Kinds.{Kind, Ipv4, Ipv6, As, claim}
-use Rattle.rpki_rules.specs.Chains.{last_of, Holds}
+use Rattle.rpki_rules.specs.Chains.{Holds}
 use Rattle.rpki_rules.specs.Attests.{Payload, OfRoa, OfAspa, AreHeld, IsCovered, HoldsWith}
-use Rattle.rpki_rules.specs.Judge.{NeedAbove, NeedAt, Needs, runs_of, Climbed}
+use Rattle.rpki_rules.specs.Judge.{NeedAbove, NeedAt, Needs, runs_of}
 use Rattle.rpki_rules.specs.Laws.{JudgingIsExact}
 use Rattle.rpki_laws.proofs.Climb.{up, down, with_list, without, climbs_is}
 

@@ -1,5 +1,5 @@
 -- What is looked up: only a URI has a URI's lookup key, and the two ways to find an object agree.
-use Rattle.std.proofs.Common.{◌≡◌, ℕ, ◌+◌, ◌<◌, ◌==◌, cond, not, inl, inr, ◌⊎◌, ◌↔◌, Bool, true, false, List, [], ◌∷◌, ◌++◌, map, take, drop, length, All, codes, Option, Some, None, bytes_eq, if◌then◌else◌, refl, sym, ap, subst, ◌∙◌, arith, take-append-drop}
+use Rattle.std.proofs.Common.{◌≡◌, ℕ, ◌+◌, ◌==◌, cond, not, inl, inr, ◌⊎◌, Bool, true, false, List, [], ◌∷◌, ◌++◌, map, take, drop, length, All, codes, Some, bytes_eq, if◌then◌else◌, refl, sym, ap, subst, ◌∙◌, arith, take-append-drop}
 use Rattle.std.specs.List.{AllByRecursion}
 use Rattle.std.specs.List.Sorted.{IsStrictlySortedBy}
 use Rattle.std.specs.Ordering.{nat_cmp, ordering_reverse}
@@ -12,7 +12,7 @@ use Rattle.std.proofs.lemmas.Slice.Eq.{bytes_eq-Decides}
 use Rattle.rpki_laws.specs.rpki_bundle.declared.parts.Object.{Object}
 use Rattle.rpki_laws.specs.rpki_bundle.Objects.{IsAt}
 use Rattle.rpki_laws.specs.certs_uri.Uris.{lower, lower_host, lookup_key, IsUriOctet, HasScheme, IsModulePath, IsUri}
-use Rattle.rpki_laws.proofs.of_certs_uri.UriTexts.{segment_len, HasModule, HasModule-from_path, IsModulePath-from_lens, HasScheme-from_rsync, HasScheme-from_https, IsRsync-from_parts, IsHttps-from_parts}
+use Rattle.rpki_laws.proofs.of_certs_uri.UriTexts.{segment_len, HasModule-from_path, IsModulePath-from_lens, HasScheme-from_rsync, HasScheme-from_https, IsRsync-from_parts, IsHttps-from_parts}
 use Rattle.rpki_rules.specs.World.{find_object}
 use Rattle.rpki_rules.specs.Laws.{OnlyUris, OneObjectAt}
 

@@ -1,20 +1,20 @@
 -- A world has one output: lists in order are given by their members.
-use Rattle.std.proofs.Common.{◌≡◌, ℕ, ◌<◌, ◌⊎◌, ◌↔◌, List, [], ◌∷◌, ◌++◌, map, inl, inr, refl, sym, ap, subst, ◌∙◌, arith}
+use Rattle.std.proofs.Common.{◌≡◌, ℕ, ◌<◌, ◌↔◌, List, [], ◌∷◌, ◌++◌, map, inl, inr, refl, sym, ap, subst, ◌∙◌, arith}
 use Rattle.std.specs.Prelude.{flat_map}
 use Rattle.std.specs.List.{AllByRecursion}
 use Rattle.std.specs.List.Sorted.{IsStrictlySortedBy}
 use Rattle.std.specs.Ordering.{nat_cmp, ordering_then, ordering_reverse}
 use Rattle.std.specs.Cmp.{nat_cmp_total, then_flip}
-use Rattle.std.specs.Cmp.Lexicographic.{slice_cmp, nat_list_cmp_total}
+use Rattle.std.specs.Cmp.Lexicographic.{nat_list_cmp_total}
 use Rattle.std.specs.declared.cmp.Ordering.{Ordering}
 use Rattle.std.specs.declared.cmp.Ordering.TheVariants.{Less, Greater}
 use Rattle.rpki_rules.specs.Words.{Mem, Each, Ascending}
 use Rattle.rpki_rules.specs.World.{World}
-use Rattle.rpki_rules.specs.Attests.{Origin, Provision, AttestsProvision}
+use Rattle.rpki_rules.specs.Attests.{Origin, AttestsProvision}
 use Rattle.rpki_rules.specs.Lines.{Customer, Refusal, origin_line, origin_cmp, family_place, customer_line, refusal_line, refusal_cmp, cause_text}
-use Rattle.rpki_rules.specs.Output.{AreOrigins, IsCustomer, AreCustomers, AreRefusals, IsOutput}
+use Rattle.rpki_rules.specs.Output.{IsCustomer, AreCustomers}
 use Rattle.rpki_rules.specs.Laws.{OneOutput}
-use Rattle.rpki_laws.proofs.Lists.{each_at, mem_map, map_mem}
+use Rattle.rpki_laws.proofs.Lists.{each_at, mem_map}
 
 -- Each stands before all after it.
 Sorted : {X : Type 0} → (X → X → Type 0) → List X → Type 0

@@ -1,9 +1,5 @@
 -- Lines outside what is reached.
-use Rattle.std.proofs.Common.{ℕ, ◌↔◌, List}
-use Rattle.rpki_laws.specs.Outside.{AreAlikeOutside, OutsideStays}
-use Rattle.rpki_rules.specs.World.{World}
-use Rattle.rpki_rules.specs.Attests.{Provision}
-use Rattle.rpki_rules.specs.Output.{IsOutput}
+use Rattle.rpki_laws.specs.Outside.{OutsideStays}
 use Rattle.rpki_laws.proofs.Cross.{non_interference}
 use Rattle.rpki_laws.proofs.OneOutput.{in_other}
 

@@ -1,5 +1,5 @@
 -- The table of good signatures as a relation.
-use Rattle.std.proofs.Common.{◌≡◌, List, ◌&&◌, Bool, true, false, bytes_eq, inl, refl, sym, ap, ◌∙◌}
+use Rattle.std.proofs.Common.{◌≡◌, ◌&&◌, Bool, true, false, bytes_eq, refl}
 use Rattle.std.proofs.lemmas.Slice.Eq.{bytes_eq-Decides}
 use Rattle.rpki_laws.specs.rpki_bundle.declared.parts.Verdict.{Verdict}
 use Rattle.rpki_laws.specs.rpki_readings.Certs.{encoded}

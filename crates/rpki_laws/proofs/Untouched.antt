@@ -1,14 +1,14 @@
 -- Where no accepted chain of a world names one of the URIs, another world that differs at these alone says the same.
-use Rattle.std.proofs.Common.{◌≡◌, ◌↔◌, ℕ, List, [], ◌∷◌, map, Option, inl, inr, sym, subst}
+use Rattle.std.proofs.Common.{◌≡◌, ◌↔◌, ℕ, List, [], ◌∷◌, Option, inl, inr, sym, subst}
 use Rattle.rpki_rules.specs.declared.cause.Cause.{Cause}
 use Rattle.rpki_rules.specs.Words.{Each}
 use Rattle.rpki_rules.specs.World.{World}
 use Rattle.rpki_rules.specs.Points.{Link}
-use Rattle.rpki_rules.specs.Chains.{last_of, IsFront, Accepted}
+use Rattle.rpki_rules.specs.Chains.{last_of, Accepted}
 use Rattle.rpki_rules.specs.Attests.{Origin, Provision, Payload, Trace, Good, AttestsOrigin, AttestsProvision}
 use Rattle.rpki_rules.specs.Refused.{ChainRefuses, IsRefused}
-use Rattle.rpki_rules.specs.Lines.{Customer, Refusal}
-use Rattle.rpki_rules.specs.Output.{AreOrigins, IsCustomer, AreCustomers, AreRefusals, IsOutput}
+use Rattle.rpki_rules.specs.Lines.{Customer}
+use Rattle.rpki_rules.specs.Output.{IsCustomer, IsOutput}
 use Rattle.rpki_rules.specs.Reach.{IsOneOf, NamesOne, SomeLocatorNames, NoFrontNames}
 use Rattle.rpki_rules.specs.Laws.{UntouchedOutput}
 use Rattle.rpki_rules.proofs.Fronts.{accepted_front}

@@ -7,7 +7,7 @@ use Rattle.rpki_standing.specs.rpki_points.Crls.{Finds}
 use Rattle.rpki_standing.specs.rpki_readings.Certs.{Cert, Crl, Digests, Verdicts}
 use Rattle.rpki_standing.specs.rpki_readings.Objects.{Manifest}
 use Rattle.rpki_standing.specs.rpki_rules.Points.{HasFiles, IsCrlOf, files}
-use Rattle.rpki_standing.specs.rpki_rules.World.{World, find_object, world_of}
+use Rattle.rpki_standing.specs.rpki_rules.World.{find_object, world_of}
 use Rattle.rpki_standing.specs.Standing.{HasNoParts}
 use Rattle.rpki_places.specs.declared.files.File.{File}
 use Rattle.rpki_places.specs.Files.{AreFilesOf, NoFilesOf}

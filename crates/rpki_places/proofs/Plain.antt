@@ -1,5 +1,5 @@
 -- What is written in octets of URIs, as its lookup key is.
-use Rattle.std.proofs.Common.{◌==◌, ◌⊎◌, inl, inr, ℕ, Bool, true, false, List, [], ◌∷◌, ◌++◌, map, take, drop, All, if◌then◌else◌, subst, arith, take-append-drop}
+use Rattle.std.proofs.Common.{◌==◌, inl, inr, ℕ, Bool, true, false, List, [], ◌∷◌, ◌++◌, map, take, drop, All, if◌then◌else◌, subst, arith, take-append-drop}
 use Rattle.std.proofs.lemmas.Bool.Decides.{nat_tests}
 use Rattle.std.proofs.lemmas.List.Elements.{All-append, All-cons, All-head, All-nil, All-tail}
 use Rattle.rpki_standing.specs.certs_uri.Paths.{ends_with_slash, join}

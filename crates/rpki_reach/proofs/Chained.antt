@@ -8,8 +8,7 @@ use Rattle.rpki_reach.specs.rpki_report.Views.{Way, way_of}
 use Rattle.rpki_reach.specs.rpki_readings.Certs.{Cert}
 use Rattle.rpki_reach.specs.rpki_rules.declared.cause.Cause.{Cause}
 use Rattle.rpki_reach.specs.rpki_rules.Attests.{Payload, Trace}
-use Rattle.rpki_reach.specs.rpki_rules.Chains.{Accepted}
-use Rattle.rpki_reach.specs.rpki_rules.Kinds.{InSet, Kind}
+use Rattle.rpki_reach.specs.rpki_rules.Kinds.{Kind}
 use Rattle.rpki_reach.specs.rpki_rules.Reach.{NamesOne}
 use Rattle.rpki_reach.specs.rpki_rules.Words.{Mem}
 use Rattle.rpki_reach.specs.rpki_rules.World.{World}

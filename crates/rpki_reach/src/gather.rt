@@ -1,6 +1,5 @@
 //! The sets of the authorities that name one of the URIs.
 
-ghost use Rattle.std.specs.Prelude.{◌≡◌};
 ghost use Rattle.rpki_reach.specs.Gathered.{has_gathered, IsReaches};
 
 use crate::keys::{Wanted, names_any};

@@ -1,6 +1,6 @@
 //! One run: a bundle is read, and its lines are written.
 
-ghost use Rattle.std.specs.Prelude.{◌≡◌, ◌<◌, ◌-◌, ◌^◌, ℕ, List, IfOk, IfErr, OnOk};
+ghost use Rattle.std.specs.Prelude.{◌≡◌, ◌<◌, ◌-◌, ◌^◌, IfOk, IfErr, OnOk};
 ghost use Rattle.rpki_validator.specs.certs_key.Digesting.{digests_of};
 ghost use Rattle.rpki_validator.specs.rpki_bundle.Bundle.{BundleText};
 ghost use Rattle.rpki_validator.specs.rpki_rules.Output.{IsOutput};

@@ -1,6 +1,5 @@
 -- What is told is what is attested and refused, and so the findings make the report.
 use Rattle.std.proofs.Common.{◌≡◌, ℕ, ◌+◌, ◌⊎◌, ◌↔◌, List, [], ◌∷◌, ◌++◌, map, Vec, Global, length, refl, sym, ap, subst, ◌∙◌, inl, inr}
-use Rattle.rpki_walk.specs.rpki_readings.Certs.{Cert}
 use Rattle.rpki_walk.specs.rpki_rules.declared.cause.Cause.{Cause}
 use Rattle.rpki_walk.specs.rpki_rules.declared.cause.Cause.TheVariants as cause
 use Rattle.rpki_walk.specs.rpki_rules.Words.{Mem}
@@ -8,7 +7,7 @@ use Rattle.rpki_walk.specs.rpki_rules.World.{World}
 use Rattle.rpki_walk.specs.rpki_rules.Points.{Link, Point, files}
 use Rattle.rpki_walk.specs.rpki_rules.Chains.{last_of, places, keys, Holds, Stands, Accepted}
 use Rattle.rpki_walk.specs.rpki_rules.Attests.{Origin, Provision, Payload, origins, provisions, Trace, Good, IsGood, IsWitness, AttestsOrigin, AttestsProvision}
-use Rattle.rpki_walk.specs.rpki_rules.Refused.{LocatorRefused, AnchorRefused, IsFileRefused, PointRefused, FileRefused, ChainRefuses, IsRefused}
+use Rattle.rpki_walk.specs.rpki_rules.Refused.{LocatorRefused, AnchorRefused, IsFileRefused, ChainRefuses, IsRefused}
 use Rattle.rpki_walk.specs.rpki_rules.Lines.{Customer, Refusal}
 use Rattle.rpki_walk.specs.rpki_rules.Output.{AreCustomers}
 use Rattle.rpki_report.specs.Report.{ReportValue, IsReportOf, IsReport, AreCustomersOf}
@@ -22,7 +21,7 @@ use Rattle.rpki_report.specs.declared.witness.Witness.{Witness as CodeWitness}
 use Rattle.rpki_report.specs.declared.origin.Origin.{Origin as CodeOrigin}
 use Rattle.rpki_report.specs.declared.customer.Provision.{Provision as CodeProvision}
 use Rattle.rpki_walk.specs.declared.whole.Findings.{Findings}
-use Rattle.rpki_walk.specs.Facts.{Told, Refuses, Shows, Originates, Provides, Reaches, Chains, ShownBy, RefusedBy, TellsFile, Tells, IsTold, Gains}
+use Rattle.rpki_walk.specs.Facts.{Told, Refuses, Shows, Originates, Provides, Reaches, Chains, ShownBy, IsTold, Gains}
 use Rattle.rpki_walk.specs.Lines.{has_found, IsLine}
 use Rattle.rpki_walk.proofs.of_rpki_rules.Fronts.{keys_count}
 

@@ -1,5 +1,5 @@
 -- What the walk's report is made of.
-use Rattle.std.specs.Prelude.{List, map}
+use Rattle.std.specs.Prelude.{map}
 use Rattle.rpki_walk.specs.rpki_rules.Words.{Mem}
 use Rattle.rpki_report.specs.Views.{origin_of, provision_of, refusal_of, trace_of}
 use Rattle.rpki_walk.specs.declared.whole.Findings.{Findings}

@@ -1,6 +1,6 @@
 //! Files of one line: the moment and the depth.
 
-ghost use Rattle.std.specs.Prelude.{◌≡◌, ℕ, ◌↔◌, IsTrue, IfSome, IfNone};
+ghost use Rattle.std.specs.Prelude.{ℕ, ◌↔◌, IsTrue, IfSome, IfNone};
 ghost use Rattle.rpki_commands.specs.Lines.{IsEnd, TellsMoment, TellsDepth};
 
 use rpki_validator::Time;

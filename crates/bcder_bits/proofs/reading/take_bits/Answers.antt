@@ -2,7 +2,6 @@ use Rattle.std.proofs.Common.{◌≡◌, take, drop, Some, ◌∙◌, subst}
 use Rattle.bcder_bits.specs.bcder_primitive.Plain.{OctetsLeft, plain}
 use Rattle.bcder_bits.proofs.of_bcder_primitive.Primitives.{gives_whole}
 use Rattle.bcder_bits.specs.Contents.{IsBitString}
-use Rattle.bcder_bits.proofs.of_bcder_content.Memories.{wanted}
 use Rattle.bcder_values.proofs.of_bcder_content.Wants.{no_want_through, wants}
 use Rattle.bcder_bits.proofs.Readings.{has_bits}
 use Rattle.bcder_bits.proofs.reading.take_bits.Goals as goal

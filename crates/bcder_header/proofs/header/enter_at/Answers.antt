@@ -1,8 +1,8 @@
-use Rattle.std.proofs.Common.{◌≡◌, ℕ, List, Option, subst, sym, ap, ◌∙◌, refl}
+use Rattle.std.proofs.Common.{ℕ, List, Option, subst, sym, ap, ◌∙◌}
 use Rattle.bcder_header.specs.bcder_tree.declared.length.Length.{Length}
 use Rattle.bcder_source.specs.Limits.{view}
 use Rattle.bcder_source.specs.Views.{View}
-use Rattle.bcder_header.specs.Openings.{Starts, Opens}
+use Rattle.bcder_header.specs.Openings.{Starts}
 use Rattle.bcder_header.proofs.Opening.{no_start, opens_at, inner_limit}
 use Rattle.bcder_header.proofs.header.enter_at.Goals as goal
 

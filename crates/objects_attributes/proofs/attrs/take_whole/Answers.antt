@@ -1,6 +1,4 @@
-use Rattle.std.proofs.Common.{subst}
 use Rattle.objects_attributes.specs.bcder_content.Grammar.{Any}
-use Rattle.objects_attributes.specs.bcder_content.Here.{here}
 use Rattle.objects_attributes.proofs.of_bcder_content.Forests.{absent_next, there_next}
 use Rattle.objects_attributes.proofs.of_bcder_content.Taking.{on_content, weaker}
 use Rattle.objects_attributes.proofs.of_bcder_content.Took.{ended_none}

@@ -1,4 +1,4 @@
-use Rattle.std.proofs.Common.{◌≡◌, ◌∙◌, Some, None, sym}
+use Rattle.std.proofs.Common.{◌≡◌, Some}
 use Rattle.rpki_places.proofs.Found.{list_told}
 use Rattle.rpki_places.proofs.parts.named_list.Goals as goal
 

@@ -1,5 +1,5 @@
-use Rattle.std.proofs.Common.{◌≡◌, ℕ, List, map, refl, ap, subst}
-use Rattle.rpki_reach.specs.rpki_report.Views.{Way, way_of}
+use Rattle.std.proofs.Common.{ℕ, List, map, refl, ap, subst}
+use Rattle.rpki_reach.specs.rpki_report.Views.{way_of}
 use Rattle.rpki_walk.specs.Facts.{Chains}
 use Rattle.rpki_reach.specs.Chained.{AreNamingChains, way_cmp}
 use Rattle.rpki_reach.proofs.of_rpki_report.Sets.{set_of}

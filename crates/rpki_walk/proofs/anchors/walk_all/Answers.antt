@@ -1,9 +1,9 @@
-use Rattle.std.proofs.Common.{◌≡◌, ℕ, ◌+◌, ◌≤◌, ◌<◌, ◌⊎◌, ◌↔◌, List, [], take, take_all, refl, sym, ap, subst, ◌∙◌}
+use Rattle.std.proofs.Common.{ℕ, ◌≤◌, ◌<◌, ◌⊎◌, ◌↔◌, List, [], take_all, sym, subst, ◌∙◌}
 use Rattle.rpki_walk.specs.rpki_bundle.declared.parts.Locator.{Locator}
 use Rattle.rpki_walk.specs.rpki_rules.Words.{Mem}
 use Rattle.rpki_walk.specs.rpki_rules.World.{World}
 use Rattle.rpki_walk.specs.Filed.{locator_at}
-use Rattle.rpki_walk.specs.Facts.{Told, Gains, FromLocator, IsTold}
+use Rattle.rpki_walk.specs.Facts.{Gains, FromLocator, IsTold}
 use Rattle.rpki_walk.proofs.Mems.{gains_same, gains_next}
 use Rattle.rpki_walk.proofs.Leading.{told_is}
 use Rattle.rpki_walk.proofs.anchors.walk_all.Goals as goal

@@ -1,4 +1,4 @@
-use Rattle.std.proofs.Common.{◌≡◌, ◌⊎◌, List, take}
+use Rattle.std.proofs.Common.{◌≡◌, ◌⊎◌, take}
 use Rattle.rpki_walk.specs.rpki_bundle.declared.parts.Locator.{Locator}
 use Rattle.rpki_walk.specs.rpki_rules.Words.{Mem}
 use Rattle.rpki_walk.specs.Facts.{Gains, FromLocator}

@@ -1,4 +1,4 @@
-use Rattle.std.proofs.Common.{sym, ◌∙◌}
+use Rattle.std.proofs.Common.{sym}
 use Rattle.objects_attributes.proofs.of_bcder_content.InMode.{begin, stop_all}
 use Rattle.objects_attributes.proofs.of_bcder_content.Keeping.{same_refusal}
 use Rattle.objects_attributes.proofs.of_bcder_content.Taking.{weaker}

@@ -1,4 +1,4 @@
-use Rattle.std.proofs.Common.{◌≤◌, ℕ, List, ap, length, subst, sym, ◌∙◌, arith}
+use Rattle.std.proofs.Common.{ap, length, arith}
 use Rattle.objects_manifest.proofs.Stepping.{files_few}
 use Rattle.objects_manifest.proofs.list.FileList.len.Goals as goal
 

@@ -1,9 +1,7 @@
-use Rattle.std.proofs.Common.{◌≡◌, ℕ, ◌⊎◌, ◌↔◌, false, true, List, ap, map, sym, subst, ◌∙◌}
-use Rattle.rpki_reach.specs.rpki_report.Views.{Way, way_of}
+use Rattle.std.proofs.Common.{◌≡◌, ℕ, false, true, List, ap, sym, subst, ◌∙◌}
+use Rattle.rpki_reach.specs.rpki_report.Views.{way_of}
 use Rattle.rpki_reach.specs.rpki_rules.Kinds.{InSet}
-use Rattle.rpki_reach.specs.rpki_rules.Reach.{NamesOne}
-use Rattle.rpki_reach.specs.rpki_rules.Words.{Mem}
-use Rattle.rpki_walk.specs.Facts.{Chains, Gains, Originates, Provides, ReachedBy, Reaches, Refuses, Shows, Told}
+use Rattle.rpki_walk.specs.Facts.{Gains, ReachedBy}
 use Rattle.rpki_reach.specs.Chained.{has_chained, IsChains}
 use Rattle.rpki_reach.specs.Naming.{names_any}
 use Rattle.rpki_reach.proofs.Named.{authority_names}

@@ -1,4 +1,4 @@
-use Rattle.std.proofs.Common.{◌≡◌, refl, ap, ◌∙◌}
+use Rattle.std.proofs.Common.{refl, ◌∙◌}
 use Rattle.rpki_walk.proofs.Reports.{refuse_gains}
 use Rattle.rpki_walk.proofs.whole.FindingsVisitor.refuse.Goals as goal
 
