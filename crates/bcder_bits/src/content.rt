@@ -1,11 +1,12 @@
 //! Bit strings taken from contents of values.
 ghost use Rattle.std.specs.Prelude.{◌≡◌, ◌≢◌, true, IfErr, OnErr};
 ghost use Rattle.bcder_bits.specs.bcder_source.declared.error.DecodeError.TheVariants.{Memory};
-ghost use Rattle.bcder_bits.specs.bcder_content.Either.{SameContent, left_of, ReadsContentAs};
+ghost use Rattle.bcder_bits.specs.bcder_content.Either.{left_of};
 ghost use Rattle.bcder_bits.specs.bcder_content.Exact.{ReadsAs};
 ghost use Rattle.bcder_bits.specs.bcder_content.Grammar.{OctetsOf};
 ghost use Rattle.bcder_bits.specs.bcder_content.Here.{here};
 ghost use Rattle.bcder_bits.specs.bcder_content.Memory.{OnMemory};
+ghost use Rattle.bcder_bits.specs.bcder_content.Tagged.{ReadsTagged};
 ghost use Rattle.bcder_values.specs.bcder_content.Ahead.{HasNext, HasPrimitive};
 ghost use Rattle.bcder_bits.specs.Contents.{IsAnyBits, IsBitString, bit_string_tag};
 
@@ -50,11 +51,8 @@ impl BitString {
         alloc: Global,
         content: &mut Content<'_, S>,
     ) -> Result<BitString, DecodeError<S::Error>>
-        ensures same { SameContent content.old content.new }
-        ensures reads { (tag : _)
-            → ReadsContentAs S.rest (λ v. v)
-            (OctetsOf tag (IsBitString (left_of S.rest content.old).mode)) tag content.old result
-            content.new }
+        ensures reads { ReadsTagged S.rest (λ v. v) (λ m tag. OctetsOf tag (IsBitString m))
+            content.old result content.new }
         ensures failed { OnErr result ((left_of S.rest content.new).failed ≡ true) }
         ensures memory { IfErr result (λ e. OnMemory e
             (HasPrimitive S.rest (IsBitString (left_of S.rest content.old).mode) content.old)) }

@@ -19,11 +19,12 @@ use Rattle.bcder_octets.specs.bcder_content.Exact.{ReadsAllAs}
 use Rattle.bcder_octets.specs.bcder_content.Here.{here, plain}
 use Rattle.bcder_octets.specs.bcder_content.Ran.{Reader}
 use Rattle.bcder_octets.specs.bcder_content.Either.{SameContent, left_of, form_in, Shows, ReadsInAs, ReadsContentAs, OctetsRun, RunsOctets, ValuesRun, RunsValues}
+use Rattle.bcder_octets.specs.bcder_content.Tagged.{ReadsTagged}
 use Rattle.bcder_octets.proofs.of_bcder_content.Failing.{refused_still}
 use Rattle.bcder_octets.proofs.of_bcder_content.Inside.{ReadsEach, each_met, PlainEach, plain_met}
 use Rattle.bcder_octets.proofs.of_bcder_content.Tagged.{HasTag}
 use Rattle.bcder_octets.proofs.Cuts.{not_so}
-use Rattle.bcder_octets.specs.Parts.{FitsWhole, IsWhole, AreParts, ReadsString}
+use Rattle.bcder_octets.specs.Parts.{FitsWhole, IsWhole, AreParts}
 
 -- Contents of primitive values.
 
@@ -60,15 +61,11 @@ string_tag Der tag t octets s = ap tag_of s
 pub string_tagged : HasTag IsString
 string_tagged = record { has = string_tag }
 
--- A reader of the content of a string reads it in the mode that the content has.
-pub string_reads : {S E : Type 0} {rest : S → List ℕ} {old new : Content S} {r : Result (List ℕ) (DecodeError E)} → ReadsString rest old r new → (tag : TagValue) → ReadsContentAs rest (λ x. x) (IsString (here rest old.values.now).mode tag) tag old r new
-string_reads h tag = h.reads tag _ (record { left_is = refl })
-
 -- A refused reading stays so, whatever is done to the content then.
-pub refused_string : {S E : Type 0} {rest : S → List ℕ} {old mid new : Content S} {e : DecodeError E} → SameContent mid new → ReadsString rest old (Err e) mid → ReadsString rest old (Err e) new
+pub refused_string : {S E : Type 0} {rest : S → List ℕ} {old mid new : Content S} {e : DecodeError E} → SameContent mid new → ReadsTagged {A = List ℕ} rest (λ x. x) IsString old (Err e) mid → ReadsTagged {A = List ℕ} rest (λ x. x) IsString old (Err e) new
 refused_string {rest = rest} {old} {mid} {new} {e} same h = record {
   same = record { reference = h.same.reference ∙ same.reference };
-  reads = λ tag v s. refused_still (λ (x : List ℕ). x) (IsString v.mode tag) (form_in old) tag (left_of rest old) (left_of rest mid) (left_of rest new) e (h.reads tag v s);
+  reads = λ tag. refused_still (λ (x : List ℕ). x) (IsString (left_of rest old).mode tag) (form_in old) tag (left_of rest old) (left_of rest mid) (left_of rest new) e (h.reads tag);
 }
 
 -- Readers of grammars that say the same.

@@ -1,14 +1,10 @@
 -- What the content of a string holds, by mode and form (X.690 8.7, 9.2, 10.2).
-use Rattle.std.specs.Prelude.{◌≡◌, ℕ, ◌<◌, ◌≤◌, Bool, true, false, List, length, Result}
+use Rattle.std.specs.Prelude.{◌≡◌, ℕ, ◌<◌, ◌≤◌, Bool, true, false, List, length}
 use Rattle.bcder_octets.specs.bcder_tree.declared.mode.Mode.{Mode}
 use Rattle.bcder_octets.specs.bcder_tree.declared.mode.Mode.TheVariants.{Ber, Cer, Der}
 use Rattle.bcder_octets.specs.bcder_tree.Tags.{TagValue}
 use Rattle.bcder_octets.specs.bcder_tree.Tree.{Tree, Trees, primitive}
-use Rattle.bcder_octets.specs.bcder_tree.Strings.{octet_string_tag, IsBerString, AreSegments, AreCerSegments, IsString}
-use Rattle.bcder_octets.specs.bcder_source.declared.error.DecodeError.{DecodeError}
-use Rattle.bcder_octets.specs.bcder_content.Contents.{ValuesLeft}
-use Rattle.bcder_octets.specs.bcder_content.declared.content.Content.{Content}
-use Rattle.bcder_octets.specs.bcder_content.Either.{SameContent, Shows, ReadsContentAs}
+use Rattle.bcder_octets.specs.bcder_tree.Strings.{octet_string_tag, IsBerString, AreSegments, AreCerSegments}
 use Rattle.bcder_octets.specs.Pieces.{ArePlain}
 
 -- In CER a string in one piece has at most 1000 octets (9.2).
@@ -53,8 +49,3 @@ PartsCases false ts = (pieces : List (List ℕ)) × ArePlain ts pieces
 -- All are such.
 pub record AllParts (nested : Bool) (ts : Trees) (x : Unit {0}) : Type 0 where
   pub cases : PartsCases nested ts
-
--- A reader of the content of a string, whatever its tag.
-pub record ReadsString {S E : Type 0} (rest : S → List ℕ) (old : Content S) (r : Result (List ℕ) (DecodeError E)) (new : Content S) : Type 0 where
-  pub same : SameContent old new
-  pub reads : (tag : TagValue) (v : ValuesLeft) → Shows rest old v → ReadsContentAs rest (λ octets. octets) (IsString v.mode tag) tag old r new

@@ -13,7 +13,8 @@ ghost use Rattle.bcder_octets.specs.bcder_primitive.Plain.{ReadsOctetsAs};
 ghost use Rattle.bcder_octets.specs.bcder_primitive.Values.{AnyOctets};
 ghost use Rattle.bcder_values.specs.bcder_content.Ahead.{HasOctets, HasNext};
 ghost use Rattle.bcder_octets.specs.Wants.{WantsString, WantsNext};
-ghost use Rattle.bcder_octets.specs.Parts.{IsWhole, AreCut, AreParts, FitsPart, IsPart, AllParts, ReadsString};
+ghost use Rattle.bcder_octets.specs.bcder_content.Tagged.{ReadsTagged};
+ghost use Rattle.bcder_octets.specs.Parts.{IsWhole, AreCut, AreParts, FitsPart, IsPart, AllParts};
 
 use crate::bcder_content::content::Content;
 use crate::bcder_content::whole::{front, refuse, request_all, take_front};
@@ -192,7 +193,8 @@ fn read_content<S: Source>(
     alloc: Global,
     content: &mut Content<'_, S>,
 ) -> Result<OctetString, DecodeError<S::Error>>
-    ensures reads { ReadsString S.rest content.old result content.new }
+    ensures reads { ReadsTagged S.rest (λ octets. octets) IsString
+        content.old result content.new }
     ensures memory { IfErr result (λ e. OnMemory e (WantsString IsWhole S.rest content.old)) }
 {
     if (*content).is_primitive() {
@@ -221,7 +223,8 @@ pub(crate) fn take_content<S: Source>(
     alloc: Global,
     content: &mut Content<'_, S>,
 ) -> Result<OctetString, DecodeError<S::Error>>
-    ensures reads { ReadsString S.rest content.old result content.new }
+    ensures reads { ReadsTagged S.rest (λ octets. octets) IsString
+        content.old result content.new }
     ensures failed { OnErr result ((left_of S.rest content.new).failed ≡ true) }
     ensures memory { IfErr result (λ e. OnMemory e (WantsString IsWhole S.rest content.old)) }
 {
@@ -248,7 +251,8 @@ pub(crate) fn take_string<S: Source>(
     cons.take_value_if(
         Tag::OCTET_STRING,
         |content|
-            ensures reads { ReadsString S.rest content.old result content.new }
+            ensures reads { ReadsTagged S.rest (λ octets. octets) IsString
+                content.old result content.new }
             ensures memory { IfErr result
                 (λ e. OnMemory e (WantsString IsWhole S.rest content.old)) }
         { take_content(alloc, content) },

@@ -9,7 +9,8 @@ ghost use Rattle.bcder_octets.specs.bcder_content.Memory.{OnMemory};
 ghost use Rattle.bcder_octets.specs.bcder_tree.declared.mode.Mode.TheVariants.{Der};
 ghost use Rattle.bcder_values.specs.bcder_content.Ahead.{HasNext};
 ghost use Rattle.bcder_octets.specs.Wants.{WantsString, WantsNext};
-ghost use Rattle.bcder_octets.specs.Parts.{FitsWhole, IsWhole, ReadsString};
+ghost use Rattle.bcder_octets.specs.bcder_content.Tagged.{ReadsTagged};
+ghost use Rattle.bcder_octets.specs.Parts.{FitsWhole, IsWhole};
 
 use crate::bcder_content::Constructed;
 use crate::bcder_content::content::Content;
@@ -148,7 +149,8 @@ impl OctetString {
         cons.take_opt_value_if(
             Tag::OCTET_STRING,
             |content|
-                ensures reads { ReadsString S.rest content.old result content.new }
+                ensures reads { ReadsTagged S.rest (λ octets. octets) IsString
+                    content.old result content.new }
                 ensures memory { IfErr result
                     (λ e. OnMemory e (WantsString IsWhole S.rest content.old)) }
             { take_content(alloc, content) },
@@ -161,7 +163,8 @@ impl OctetString {
         alloc: Global,
         content: &mut Content<'_, S>,
     ) -> Result<OctetString, DecodeError<S::Error>>
-        ensures reads { ReadsString S.rest content.old result content.new }
+        ensures reads { ReadsTagged S.rest (λ octets. octets) IsString
+            content.old result content.new }
         ensures failed { OnErr result ((left_of S.rest content.new).failed ≡ true) }
         ensures memory { IfErr result (λ e. OnMemory e (WantsString IsWhole S.rest content.old)) }
     {

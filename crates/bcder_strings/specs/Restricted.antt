@@ -1,14 +1,12 @@
 -- Restricted character strings (X.690 8.23): octet strings under a tag of their own, whose octets are a text.
-use Rattle.std.specs.Prelude.{◌≡◌, ℕ, List, Result}
+use Rattle.std.specs.Prelude.{◌≡◌, ℕ, List}
 use Rattle.bcder_strings.specs.bcder_tree.declared.mode.Mode.{Mode}
 use Rattle.bcder_strings.specs.bcder_tree.Tags.{TagValue}
 use Rattle.bcder_strings.specs.bcder_tree.Tree.{Tree, Trees, none, more}
 use Rattle.bcder_strings.specs.bcder_tree.Strings.{IsString}
 use Rattle.bcder_strings.specs.Texts.{IsText}
-use Rattle.bcder_strings.specs.bcder_source.declared.error.DecodeError.{DecodeError}
 use Rattle.bcder_strings.specs.bcder_content.Contents.{ValuesLeft}
 use Rattle.bcder_strings.specs.bcder_content.declared.content.Content.{Content}
-use Rattle.bcder_strings.specs.bcder_content.Either.{SameContent, Shows, ReadsContentAs}
 use Rattle.bcder_strings.specs.bcder_content.Grammar.{Such}
 use Rattle.bcder_octets.specs.Parts.{IsWhole}
 use Rattle.bcder_octets.specs.Wants.{WantsString, WantsNext}
@@ -29,11 +27,6 @@ WantsTextIn Has spell = WantsString (IsWholeText Has spell)
 -- The octets of a string with that tag, its own or an implicit one, which are a text of the set.
 abbrev pub IsRestricted : (ℕ → Type 0) → (ℕ → List ℕ) → Mode → TagValue → Tree → List ℕ → Type 0
 IsRestricted Has spell m tag = Such (IsString m tag) (IsText Has spell)
-
--- A reader of the content of a restricted string, whatever its tag.
-pub record ReadsText {S E : Type 0} (Has : ℕ → Type 0) (spell : ℕ → List ℕ) (rest : S → List ℕ) (old : Content S) (r : Result (List ℕ) (DecodeError E)) (new : Content S) : Type 0 where
-  pub same : SameContent old new
-  pub reads : (tag : TagValue) (v : ValuesLeft) → Shows rest old v → ReadsContentAs rest (λ octets. octets) (IsRestricted Has spell v.mode tag) tag old r new
 
 -- The values are one, which is a restricted string of these octets.
 pub record WrittenText (Has : ℕ → Type 0) (spell : ℕ → List ℕ) (m : Mode) (tag : TagValue) (octets : List ℕ) (ts : Trees) : Type 0 where

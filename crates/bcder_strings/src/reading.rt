@@ -10,7 +10,8 @@ ghost use Rattle.bcder_strings.specs.bcder_content.Memory.{OnMemory};
 ghost use Rattle.bcder_octets.specs.bcder_primitive.Plain.{ReadsOctetsAs};
 ghost use Rattle.bcder_octets.specs.Parts.{IsWhole};
 ghost use Rattle.bcder_octets.specs.Wants.{WantsString};
-ghost use Rattle.bcder_strings.specs.Restricted.{IsRestricted, IsWholeText, ReadsText, WantsText, WantsTextIn};
+ghost use Rattle.bcder_strings.specs.bcder_content.Tagged.{ReadsTagged};
+ghost use Rattle.bcder_strings.specs.Restricted.{IsRestricted, IsWholeText, WantsText, WantsTextIn};
 
 use crate::CharSet;
 use crate::bcder_content::content::Content;
@@ -64,7 +65,8 @@ fn gather_text<L: CharSet, S: Source>(
     alloc: Global,
     content: &mut Content<'_, S>,
 ) -> Result<OctetString, DecodeError<S::Error>>
-    ensures reads { ReadsText L.has L.spell S.rest content.old result content.new }
+    ensures reads { ReadsTagged S.rest (λ octets. octets) (IsRestricted L.has L.spell)
+        content.old result content.new }
     ensures memory { IfErr result (λ e. OnMemory e (WantsString IsWhole S.rest content.old)) }
 {
     let octets = OctetString::from_content(alloc, content)?;
@@ -82,7 +84,8 @@ fn read_text<L: CharSet, S: Source>(
     alloc: Global,
     content: &mut Content<'_, S>,
 ) -> Result<OctetString, DecodeError<S::Error>>
-    ensures reads { ReadsText L.has L.spell S.rest content.old result content.new }
+    ensures reads { ReadsTagged S.rest (λ octets. octets) (IsRestricted L.has L.spell)
+        content.old result content.new }
     ensures memory { IfErr result
         (λ e. OnMemory e (WantsTextIn L.has L.spell S.rest content.old)) }
 {
@@ -106,7 +109,8 @@ fn take_text<L: CharSet, S: Source>(
     alloc: Global,
     content: &mut Content<'_, S>,
 ) -> Result<OctetString, DecodeError<S::Error>>
-    ensures reads { ReadsText L.has L.spell S.rest content.old result content.new }
+    ensures reads { ReadsTagged S.rest (λ octets. octets) (IsRestricted L.has L.spell)
+        content.old result content.new }
     ensures failed { OnErr result ((left_of S.rest content.new).failed ≡ true) }
     ensures memory { IfErr result
         (λ e. OnMemory e (WantsTextIn L.has L.spell S.rest content.old)) }
@@ -143,7 +147,8 @@ impl<L: CharSet> RestrictedString<L> {
         let octets = cons.take_value_if(
             tag,
             |content|
-                ensures reads { ReadsText L.has L.spell S.rest content.old result content.new }
+                ensures reads { ReadsTagged S.rest (λ octets. octets) (IsRestricted L.has L.spell)
+                    content.old result content.new }
                 ensures memory { IfErr result
                     (λ e. OnMemory e (WantsTextIn L.has L.spell S.rest content.old)) }
             { take_text::<L, S>(alloc, content) },
@@ -166,7 +171,8 @@ impl<L: CharSet> RestrictedString<L> {
         let taken = cons.take_opt_value_if(
             L::tag(),
             |content|
-                ensures reads { ReadsText L.has L.spell S.rest content.old result content.new }
+                ensures reads { ReadsTagged S.rest (λ octets. octets) (IsRestricted L.has L.spell)
+                    content.old result content.new }
                 ensures memory { IfErr result
                     (λ e. OnMemory e (WantsTextIn L.has L.spell S.rest content.old)) }
             { take_text::<L, S>(alloc, content) },
@@ -184,7 +190,8 @@ impl<L: CharSet> RestrictedString<L> {
         alloc: Global,
         content: &mut Content<'_, S>,
     ) -> Result<Self, DecodeError<S::Error>>
-        ensures reads { ReadsText L.has L.spell S.rest content.old result content.new }
+        ensures reads { ReadsTagged S.rest (λ octets. octets) (IsRestricted L.has L.spell)
+            content.old result content.new }
         ensures failed { OnErr result ((left_of S.rest content.new).failed ≡ true) }
         ensures memory { IfErr result
             (λ e. OnMemory e (WantsTextIn L.has L.spell S.rest content.old)) }

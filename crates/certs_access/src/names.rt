@@ -7,7 +7,8 @@ ghost use Rattle.certs_access.specs.bcder_content.Exact.{ReadsAs, ReadsOptAs};
 ghost use Rattle.certs_access.specs.bcder_content.Here.{here};
 ghost use Rattle.certs_access.specs.bcder_content.InMode.{ReadsFields};
 ghost use Rattle.certs_access.specs.bcder_content.Words.{Gathers};
-ghost use Rattle.certs_access.specs.bcder_strings.Restricted.{ReadsText};
+ghost use Rattle.certs_access.specs.bcder_strings.Restricted.{IsRestricted};
+ghost use Rattle.certs_access.specs.bcder_content.Tagged.{ReadsTagged};
 ghost use Rattle.certs_access.specs.Grammars.{HaveOneRsync, IsName};
 ghost use Rattle.certs_access.specs.Seen.{NameSays, Seen};
 
@@ -27,7 +28,8 @@ pub(crate) fn take_opt_name<S: Source>(
     cons.take_opt_value_if(
         Tag::CTX_6,
         |content|
-            ensures { ReadsText IsIa5 alone S.rest content.old result content.new }
+            ensures { ReadsTagged S.rest (λ octets. octets) (IsRestricted IsIa5 alone)
+                content.old result content.new }
         { Ia5String::from_content(alloc, content) },
     )
 }
@@ -43,7 +45,8 @@ pub(crate) fn take_name<S: Source>(
     cons.take_value_if(
         Tag::CTX_6,
         |content|
-            ensures { ReadsText IsIa5 alone S.rest content.old result content.new }
+            ensures { ReadsTagged S.rest (λ octets. octets) (IsRestricted IsIa5 alone)
+                content.old result content.new }
         { Ia5String::from_content(alloc, content) },
     )
 }

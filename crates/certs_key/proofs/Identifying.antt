@@ -11,7 +11,6 @@ use Rattle.certs_key.specs.bcder_content.Either.{SameContent}
 use Rattle.certs_key.specs.bcder_content.Tagged.{ReadsTagged}
 use Rattle.certs_key.proofs.of_bcder_content.Tagged.{HasTag}
 use Rattle.certs_key.proofs.of_bcder_content.Within.{Within, content_gives, content_stop, content_unfit}
-use Rattle.certs_key.specs.bcder_octets.Parts.{ReadsString}
 use Rattle.certs_key.proofs.of_bcder_octets.Meaning.{one_string}
 use Rattle.certs_key.proofs.of_bcder_octets.Strings.{string_tagged}
 use Rattle.certs_key.specs.certs_basics.Basics.{IsTwentyLong, IsKeyIdentifier}
@@ -29,33 +28,33 @@ is_string : (m : Mode) (tag : TagValue) → Within (IsKeyIdentifier m tag) (IsSt
 is_string m tag t x p = (x, p.is)
 
 -- Twenty octets were read.
-pub identifier_given : {S E : Type 0} {rest : S → List ℕ} {old new : Content S} {x y : List ℕ} → ReadsString {S = S} {E = E} rest old (Ok x) new → IsTwentyLong x → y ≡ x
+pub identifier_given : {S E : Type 0} {rest : S → List ℕ} {old new : Content S} {x y : List ℕ} → ReadsTagged {A = List ℕ} {S = S} {E = E} rest (λ x. x) IsString old (Ok x) new → IsTwentyLong x → y ≡ x
     → ReadsTagged {S = S} {E = E} rest (λ v. v) IsKeyIdentifier old (Ok y) new
 identifier_given {S} {E} {rest} {old} {new} {x} h long e = subst (λ (z : List ℕ). ReadsTagged {S = S} {E = E} rest (λ v. v) IsKeyIdentifier old (Ok z) new) (sym e) (record {
   same = h.same;
   reads = λ tag. let m = (here rest old.values.now).mode in
       content_gives E (λ (v : List ℕ). v) (λ (v : List ℕ). v) (IsString m tag) (IsKeyIdentifier m tag) old.values.now.constructed tag (here rest old.values.now) (here rest new.values.now)
-      (λ t is. record { is = is; meets = long }) (is_string m tag) (h.reads tag (here rest old.values.now) (record { left_is = refl }));
+      (λ t is. record { is = is; meets = long }) (is_string m tag) (h.reads tag);
 })
 
 -- No string is there.
 pub identifier_stopped : {S E : Type 0} {rest : S → List ℕ} {old new : Content S} (r : Result (List ℕ) (DecodeError E)) {e : DecodeError E} → IsErr r × IsErrAnd r (λ x. x ≡ e)
-    → ReadsString rest old (Err e) new → ReadsTagged rest (λ v. v) IsKeyIdentifier old r new
+    → ReadsTagged {A = List ℕ} rest (λ x. x) IsString old (Err e) new → ReadsTagged rest (λ v. v) IsKeyIdentifier old r new
 identifier_stopped {rest = rest} {old} {new} r {e} a h = record {
   same = h.same;
   reads = λ tag. let m = (here rest old.values.now).mode in
       content_stop (λ (v : List ℕ). v) (λ (v : List ℕ). v) (IsString m tag) (IsKeyIdentifier m tag) old.values.now.constructed tag (here rest old.values.now) (here rest new.values.now)
-      r e a (is_string m tag) (h.reads tag (here rest old.values.now) (record { left_is = refl }));
+      r e a (is_string m tag) (h.reads tag);
 }
 
 -- A string is there that isn't so long.
 pub identifier_refused : {S E : Type 0} {rest : S → List ℕ} {old mid new : Content S} {x : List ℕ} (e : DecodeError E) → (IsTwentyLong x → ⊥) → SameContent mid new
-    → ReadsString {S = S} {E = E} rest old (Ok x) mid → ReadsTagged {S = S} {E = E} rest (λ v. v) IsKeyIdentifier old (Err e) new
+    → ReadsTagged {A = List ℕ} {S = S} {E = E} rest (λ x. x) IsString old (Ok x) mid → ReadsTagged {S = S} {E = E} rest (λ v. v) IsKeyIdentifier old (Err e) new
 identifier_refused {rest = rest} {old} {mid} {new} {x} e never same h = record {
   same = record { reference = h.same.reference ∙ same.reference };
   reads = λ tag. let m = (here rest old.values.now).mode in
       content_unfit (λ (v : List ℕ). v) (λ (v : List ℕ). v) (IsString m tag) (IsKeyIdentifier m tag) old.values.now.constructed tag (here rest old.values.now) (here rest mid.values.now) (here rest new.values.now)
-      e (λ t z p is. never (subst IsTwentyLong (sym (one_string m tag t x z is p.is)) p.meets)) (is_string m tag) (h.reads tag (here rest old.values.now) (record { left_is = refl }));
+      e (λ t z p is. never (subst IsTwentyLong (sym (one_string m tag t x z is p.is)) p.meets)) (is_string m tag) (h.reads tag);
 }
 
 -- Hexadecimal digits.

@@ -1,6 +1,6 @@
 -- Texts of addresses and prefixes that are read: what they write is one thing, and of one family.
 use Rattle.std.proofs.Common.{◌≡◌, ◌≢◌, ℕ, zero, suc, ◌+◌, ◌*◌, ◌^◌, ◌<◌, ◌≤◌, ◌⊎◌, ◌↔◌, Bool, true, false, cond, ◌==◌, List, [], ◌∷◌, ◌++◌, length, drop, get_or, inl, inr, sym, subst, ap, ◌∙◌, arith, refl}
-use Rattle.std.specs.Prelude.{codes, Result, Ok, Err, MatchResult, IfOk}
+use Rattle.std.specs.Prelude.{codes, Result, Ok, Err, IfOk}
 use Rattle.std.specs.Str.Parse.{AllDigits}
 use Rattle.std.specs.Net.Addr.{ipv4_bits, ipv6_bits, segments_of}
 use Rattle.std.specs.Net.Grammar.{IsDotted, IsGroupsAfter, IsGroups, IsElided, IsColonHex, IsIpv4Text, IsIpv6Text}
@@ -12,7 +12,7 @@ use Rattle.std.proofs.NetLemmas.Alphabet.{IsDigitOrDot, All-ipv4_text}
 use Rattle.std.proofs.lemmas.Bool.{eqb-true}
 use Rattle.std.proofs.lemmas.List.Elements.{All-get_or}
 use Rattle.std.proofs.lemmas.Str.Parse.{digit_at}
-use Rattle.resources_addr.specs.Cuts.{LacksByte, IsCut, IsLenText}
+use Rattle.resources_addr.specs.Cuts.{IsCut, IsLenText}
 use Rattle.resources_addr.proofs.Texts.{cut_once, cut_lacks, len_once}
 use Rattle.resources_ip_prefix.specs.declared.addr.AddressFamily.{AddressFamily}
 use Rattle.resources_ip_prefix.specs.declared.addr.AddressFamily.TheVariants.{Ipv4, Ipv6}
@@ -24,7 +24,7 @@ use Rattle.resources_ip_prefix.specs.Family.{max_len_of, HasColon}
 use Rattle.resources_ip_prefix.specs.Prefix.{prefix_addr, prefix_len, run_of_prefix, host_clear}
 use Rattle.resources_ip_prefix.specs.Prefixes.{first_of}
 use Rattle.resources_ip_prefix.specs.Whole.{IsWhole}
-use Rattle.resources_ip_prefix.specs.ReadTexts.{IsAddrText, IsNoAddr, IsLengthText, WritesPrefix, IsNoPrefix, ReadsPrefix, Shows}
+use Rattle.resources_ip_prefix.specs.ReadTexts.{IsAddrText, IsNoAddr, IsLengthText, WritesPrefix, IsNoPrefix, Shows}
 use Rattle.resources_ip_prefix.proofs.WholePrefix.{whole_prefix}
 
 pub longest : (family : AddressFamily) → max_len_of family ≤ 128

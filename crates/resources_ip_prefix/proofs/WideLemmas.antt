@@ -11,8 +11,8 @@ use Rattle.resources_addr.specs.declared.addr.error.PrefixError.{PrefixError}
 use Rattle.resources_addr.specs.declared.addr.error.PrefixError.TheVariants.{LenOverflow, NonZeroHost}
 use Rattle.resources_addr.specs.Refusals.{IsTooLong}
 use Rattle.resources_addr.proofs.Numbers.{ipv4_is, ipv6_is}
-use Rattle.resources_chain.specs.Sets.{Run, InRun}
-use Rattle.resources_addr.specs.Prefixes.{Family, Ipv4, Ipv6, PrefixValue, IsPrefix, width, span, last_of, Has, family_of, bits_of as addr_bits, prefix_around}
+use Rattle.resources_chain.specs.Sets.{InRun}
+use Rattle.resources_addr.specs.Prefixes.{Family, Ipv4, Ipv6, PrefixValue, IsPrefix, width, span, Has, family_of, bits_of as addr_bits, prefix_around}
 use Rattle.resources_ip_prefix.specs.Prefixes.{span_of, first_of, prefix_run}
 use Rattle.resources_ip_prefix.specs.Whole.{IsWhole}
 use Rattle.resources_ip_prefix.specs.Wide.{widened, wide_run, IsOfFamily}

@@ -1,6 +1,6 @@
 //! Address prefixes.
 
-ghost use Rattle.std.specs.Prelude.{◌≡◌, ℕ, ◌≤◌};
+ghost use Rattle.std.specs.Prelude.{◌≡◌, ◌≤◌};
 ghost use Rattle.resources_ip_prefix.specs.Address.{bits_of};
 ghost use Rattle.resources_ip_prefix.specs.Prefixes.{first_of};
 

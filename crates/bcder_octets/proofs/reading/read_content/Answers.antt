@@ -1,4 +1,4 @@
-use Rattle.std.proofs.Common.{subst, IfErr}
+use Rattle.std.proofs.Common.{refl, subst, IfErr}
 use Rattle.bcder_octets.specs.bcder_tree.declared.mode.Mode.{Mode}
 use Rattle.bcder_octets.specs.bcder_tree.Strings.{IsString}
 use Rattle.bcder_octets.specs.bcder_source.declared.error.DecodeError.{DecodeError}
@@ -14,7 +14,7 @@ use Rattle.bcder_octets.proofs.reading.read_content.Goals as goal
 pub returns-then-is_primitive-clause-reads : goal.returns-then-is_primitive-clause-reads
 returns-then-is_primitive-clause-reads g c = record {
   same = c.primitive.ensures.same;
-  reads = λ tag v s. primitive_reads IsWhole IsString whole_string string_whole _ _ _ tag v (λ p q r h. h.0) (c.is_primitive.ensures.0 c.if-is_primitive.true) c.primitive.ensures.ran s;
+  reads = λ tag. primitive_reads IsWhole IsString whole_string string_whole _ _ _ tag _ (λ p q r h. h.0) (c.is_primitive.ensures.0 c.if-is_primitive.true) c.primitive.ensures.ran (record { left_is = refl });
 }
 
 pub returns-then-is_primitive-clause-memory : goal.returns-then-is_primitive-clause-memory
@@ -26,7 +26,7 @@ returns-then-is_primitive-clause-memory g c =
 pub returns-clause-reads : goal.returns-clause-reads
 returns-clause-reads g c = record {
   same = c.constructed.ensures.same;
-  reads = λ tag v s. constructed_read _ _ _ tag v (λ p q r h. h.0) (not_primitive _ c.is_primitive.ensures c.if-is_primitive.false) c.constructed.ensures.ran s;
+  reads = λ tag. constructed_read _ _ _ tag _ (λ p q r h. h.0) (not_primitive _ c.is_primitive.ensures c.if-is_primitive.false) c.constructed.ensures.ran (record { left_is = refl });
 }
 
 pub returns-clause-memory : goal.returns-clause-memory

@@ -1,4 +1,4 @@
-use Rattle.std.proofs.Common.{subst, IfErr}
+use Rattle.std.proofs.Common.{refl, subst, IfErr}
 use Rattle.bcder_strings.specs.bcder_tree.declared.mode.Mode.{Mode}
 use Rattle.bcder_strings.specs.bcder_source.declared.error.DecodeError.{DecodeError}
 use Rattle.bcder_strings.specs.bcder_content.Ahead.{HasOctets}
@@ -14,7 +14,7 @@ use Rattle.bcder_strings.proofs.reading.read_text.Goals as goal
 pub returns-then-is_primitive-clause-reads : goal.returns-then-is_primitive-clause-reads
 returns-then-is_primitive-clause-reads g c = record {
   same = c.primitive.ensures.same;
-  reads = λ tag v s. primitive_reads (IsWholeText g.L.CharSet.has g.L.CharSet.spell) (IsRestricted g.L.CharSet.has g.L.CharSet.spell) whole_text text_whole _ _ _ tag v (λ p q r h. h.0) (c.is_primitive.ensures.0 c.if-is_primitive.true) c.primitive.ensures.ran s;
+  reads = λ tag. primitive_reads (IsWholeText g.L.CharSet.has g.L.CharSet.spell) (IsRestricted g.L.CharSet.has g.L.CharSet.spell) whole_text text_whole _ _ _ tag _ (λ p q r h. h.0) (c.is_primitive.ensures.0 c.if-is_primitive.true) c.primitive.ensures.ran (record { left_is = refl });
 }
 
 pub returns-then-is_primitive-clause-memory : goal.returns-then-is_primitive-clause-memory

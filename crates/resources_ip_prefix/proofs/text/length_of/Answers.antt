@@ -1,5 +1,4 @@
-use Rattle.std.proofs.Common.{◌≤◌, refl, sym, arith}
-use Rattle.resources_ip_prefix.specs.Family.{max_len_of}
+use Rattle.std.proofs.Common.{refl, sym, arith}
 use Rattle.resources_ip_prefix.proofs.ReadLemmas.{longest}
 use Rattle.resources_ip_prefix.proofs.text.length_of.Goals as goal
 

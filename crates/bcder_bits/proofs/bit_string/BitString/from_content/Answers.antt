@@ -13,11 +13,14 @@ use Rattle.bcder_values.proofs.of_bcder_content.Wants.{content_wants}
 use Rattle.bcder_bits.proofs.bit_string.BitString.from_content.Goals as goal
 
 pub returns-clause-reads : goal.returns-clause-reads
-returns-clause-reads g c = λ tag. content_reads (λ v. v) (IsBitString c.args.content.now.values.now.octets.mode) tag _ _ _ (record {
-  each = λ p q r mode m.
-      let h : ReadsOctetsAs (λ (v : BitsValue). v) (IsBitString (plain g.S.Source.rest p.now).mode) (plain g.S.Source.rest p.now) r (plain g.S.Source.rest q.now) = search rules in
-      subst (λ (z : Mode). ReadsOctetsAs (λ (v : BitsValue). v) (IsBitString z) (plain g.S.Source.rest p.now) r (plain g.S.Source.rest q.now)) mode h;
-}) c.primitive.ensures.ran
+returns-clause-reads g c = record {
+  same = c.primitive.ensures.same;
+  reads = λ tag. content_reads (λ v. v) (IsBitString c.args.content.now.values.now.octets.mode) tag _ _ _ (record {
+    each = λ p q r mode m.
+        let h : ReadsOctetsAs (λ (v : BitsValue). v) (IsBitString (plain g.S.Source.rest p.now).mode) (plain g.S.Source.rest p.now) r (plain g.S.Source.rest q.now) = search rules in
+        subst (λ (z : Mode). ReadsOctetsAs (λ (v : BitsValue). v) (IsBitString z) (plain g.S.Source.rest p.now) r (plain g.S.Source.rest q.now)) mode h;
+  }) c.primitive.ensures.ran;
+}
 
 pub returns-clause-failed : goal.returns-clause-failed
 returns-clause-failed g c = octets_fail _ (record {

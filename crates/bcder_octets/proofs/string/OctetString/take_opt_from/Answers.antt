@@ -3,11 +3,11 @@ use Rattle.bcder_octets.specs.bcder_tree.Strings.{octet_string_tag}
 use Rattle.bcder_octets.specs.bcder_content.Here.{here}
 use Rattle.bcder_octets.specs.Parts.{IsWhole}
 use Rattle.bcder_octets.proofs.Wanting.{value_wants}
-use Rattle.bcder_octets.proofs.Strings.{string_tagged, string_reads}
+use Rattle.bcder_octets.proofs.Strings.{string_tagged}
 use Rattle.bcder_octets.proofs.string.OctetString.take_opt_from.Goals as goal
 
 pub returns-clause-reads : goal.returns-clause-reads
-returns-clause-reads g c = exact_tagged_opt string_tagged (record { each = λ form tag v r w met. record { old = met.0.now; new = met.1.now; before = met.2; behind = met.3; form_is = met.4; reads = string_reads met.5.0 } }) c.take_opt_value_if.ensures.taken
+returns-clause-reads g c = exact_tagged_opt string_tagged (record { each = λ form tag v r w met. record { old = met.0.now; new = met.1.now; before = met.2; behind = met.3; form_is = met.4; reads = met.5.0.reads } }) c.take_opt_value_if.ensures.taken
 
 pub returns-clause-memory : goal.returns-clause-memory
 returns-clause-memory g c = value_wants IsWhole g.S.Source.rest (here g.S.Source.rest c.args.cons.now) octet_string_tag c.take_opt_value_if.result (record { each = λ form tag v r w met. record { content = met.0.now; shows = met.2.left_is; form_is = met.4; wants = met.5.1 } }) c.take_opt_value_if.ensures.memory

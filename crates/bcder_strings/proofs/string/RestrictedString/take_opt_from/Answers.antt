@@ -1,24 +1,24 @@
 use Rattle.bcder_strings.specs.bcder_content.Here.{here}
-use Rattle.bcder_strings.proofs.Texts.{text_reads, text_taken_opt, text_wants}
+use Rattle.bcder_strings.proofs.Texts.{text_taken_opt, text_wants}
 use Rattle.bcder_strings.proofs.string.RestrictedString.take_opt_from.Goals as goal
 
 pub of_text-requires : goal.of_text-requires
 of_text-requires g c =
     let t = rw c.in-Ok-Some.field-0-is at c.in-Ok-Some.ensures.taken in
-    (text_taken_opt c.tag.ensures t (record { each = λ form tag v r w met. record { old = met.0.now; new = met.1.now; before = met.2; behind = met.3; form_is = met.4; reads = text_reads met.5.0 } })).is.meets
+    (text_taken_opt c.tag.ensures t (record { each = λ form tag v r w met. record { old = met.0.now; new = met.1.now; before = met.2; behind = met.3; form_is = met.4; reads = met.5.0.reads } })).is.meets
 
 pub returns-in-Ok-Some-clause-reads : goal.returns-in-Ok-Some-clause-reads
 returns-in-Ok-Some-clause-reads g c =
     let t = rw c.in-Ok-Some.field-0-is at c.in-Ok-Some.ensures.taken in
-    rw c.of_text.ensures (text_taken_opt c.tag.ensures t (record { each = λ form tag v r w met. record { old = met.0.now; new = met.1.now; before = met.2; behind = met.3; form_is = met.4; reads = text_reads met.5.0 } }))
+    rw c.of_text.ensures (text_taken_opt c.tag.ensures t (record { each = λ form tag v r w met. record { old = met.0.now; new = met.1.now; before = met.2; behind = met.3; form_is = met.4; reads = met.5.0.reads } }))
 
 pub returns-in-Ok-None-clause-reads : goal.returns-in-Ok-None-clause-reads
 returns-in-Ok-None-clause-reads g c =
     let t = rw c.in-Ok-None.field-0-is at c.in-Ok-None.ensures.taken in
-    text_taken_opt c.tag.ensures t (record { each = λ form tag v r w met. record { old = met.0.now; new = met.1.now; before = met.2; behind = met.3; form_is = met.4; reads = text_reads met.5.0 } })
+    text_taken_opt c.tag.ensures t (record { each = λ form tag v r w met. record { old = met.0.now; new = met.1.now; before = met.2; behind = met.3; form_is = met.4; reads = met.5.0.reads } })
 
 pub returns-in-Err-clause-reads : goal.returns-in-Err-clause-reads
-returns-in-Err-clause-reads g c = text_taken_opt c.tag.ensures c.in-Err.ensures.taken (record { each = λ form tag v r w met. record { old = met.0.now; new = met.1.now; before = met.2; behind = met.3; form_is = met.4; reads = text_reads met.5.0 } })
+returns-in-Err-clause-reads g c = text_taken_opt c.tag.ensures c.in-Err.ensures.taken (record { each = λ form tag v r w met. record { old = met.0.now; new = met.1.now; before = met.2; behind = met.3; form_is = met.4; reads = met.5.0.reads } })
 
 pub returns-in-Err-clause-memory : goal.returns-in-Err-clause-memory
 returns-in-Err-clause-memory g c =

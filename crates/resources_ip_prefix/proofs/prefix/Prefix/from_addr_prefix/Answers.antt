@@ -1,6 +1,6 @@
 use Rattle.std.proofs.Common.{ℕ, ap, ◌∙◌}
 use Rattle.resources_ip_prefix.specs.Address.{bits_of}
-use Rattle.resources_ip_prefix.specs.Prefix.{prefix_addr, prefix_len}
+use Rattle.resources_ip_prefix.specs.Prefix.{prefix_addr}
 use Rattle.resources_ip_prefix.specs.Prefixes.{first_of, prefix_run}
 use Rattle.resources_ip_prefix.proofs.WideLemmas.{made_wide}
 use Rattle.resources_ip_prefix.proofs.prefix.Prefix.from_addr_prefix.Goals as goal
