@@ -1,7 +1,7 @@
 //! Strings that are read.
 
 ghost use Rattle.std.specs.Prelude.{◌≡◌, ◌↔◌, IsOk, IfErr, OnErr, true, false};
-ghost use Rattle.bcder_octets.specs.bcder_tree.Strings.{AreSegments, IsOctetString, octet_string_tag};
+ghost use Rattle.bcder_octets.specs.bcder_tree.Strings.{AreSegments, IsOctetString, IsString, octet_string_tag};
 ghost use Rattle.bcder_octets.specs.bcder_tree.declared.mode.Mode.TheVariants.{Der};
 ghost use Rattle.bcder_octets.specs.bcder_content.Captures.{rest_of};
 ghost use Rattle.bcder_octets.specs.bcder_content.Either.{left_of};

@@ -1,7 +1,7 @@
 //! `OctetString`.
 
 ghost use Rattle.std.specs.Prelude.{◌≡◌, ◌↔◌, [], length, IsTrue, IfOk, IfErr, IsSomeAnd, OnErr, true};
-ghost use Rattle.bcder_octets.specs.bcder_tree.Strings.{octet_string_tag, IsOctetString};
+ghost use Rattle.bcder_octets.specs.bcder_tree.Strings.{octet_string_tag, IsOctetString, IsString};
 ghost use Rattle.bcder_octets.specs.bcder_content.Either.{left_of};
 ghost use Rattle.bcder_octets.specs.bcder_content.Exact.{ReadsAs, ReadsOptAs};
 ghost use Rattle.bcder_octets.specs.bcder_content.Here.{here};
