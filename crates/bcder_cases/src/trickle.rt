@@ -62,6 +62,8 @@ impl<'a> Source for Trickle<'a> {
 
     ghost position = { λ s. s.taken };
 
+    ghost asked = { λ s. 0 };
+
     fn pos(&self) -> Pos {
         Pos::from(self.taken)
     }

@@ -45,6 +45,9 @@ impl Source for OctetStringSource {
 
     ghost position = { λ s. s.position };
 
+    // All octets are in memory.
+    ghost asked = { λ s. 0 };
+
     fn pos(&self) -> Pos {
         self.octets.pos()
     }

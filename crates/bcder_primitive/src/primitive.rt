@@ -1,5 +1,5 @@
 //! Contents of primitive values.
-ghost use Rattle.std.specs.Prelude.{◌≡◌, ◌↔◌, ◌+◌, ◌-◌, ◌^◌, ◌<◌, ◌≤◌, ◌≢◌, ℕ, List, [], ◌∷◌, length, take, drop, min, IfOk, IfErr, IfSome, IfNone, OnOk, OnErr, IsTrue, Option, Some, None, true, false};
+ghost use Rattle.std.specs.Prelude.{◌≡◌, ◌↔◌, ◌+◌, ◌-◌, ◌^◌, ◌<◌, ◌≤◌, ◌≢◌, ℕ, List, [], ◌∷◌, length, take, drop, max, min, IfOk, IfErr, IfSome, IfNone, OnOk, OnErr, IsTrue, Option, Some, None, true, false};
 ghost use Rattle.bcder_source.specs.Errors.{OnlyContent, OnlyOctets, OnlyAtEnd, OnMemory};
 ghost use Rattle.bcder_source.specs.Limits.{at_hand, HasAll};
 ghost use Rattle.bcder_source.specs.Views.{left, limited, Moved, NextOctet, octets_of};
@@ -400,6 +400,8 @@ impl<S: Source> Source for Primitive<S> {
 
     ghost position = { λ p. S.position p.source.source };
 
+    ghost asked = { λ p. S.asked p.source.source };
+
     fn pos(&self) -> Pos {
         self.source.pos()
     }
@@ -419,6 +421,9 @@ impl<S: Source> Source for Primitive<S> {
         ensures bound { IfOk result (λ n. n < 2 ^ 63) }
         ensures enough { IfOk result
             (λ n. n < len → n ≡ length (left (octets_in (plain S.rest self.new)))) }
+        ensures asked { S.asked self.new.source.source ≤ max (S.asked self.old.source.source) len }
+        ensures within { S.asked self.new.source.source
+            ≤ max (S.asked self.old.source.source) (at_hand self.old.source.limit len) }
     {
         match self.source.request(len) {
             Ok(count) => Ok(count),

@@ -1,5 +1,5 @@
 //! A source that keeps what is taken from it.
-ghost use Rattle.std.specs.Prelude.{◌≡◌, ◌+◌, ◌-◌, ◌^◌, ◌<◌, ◌≤◌, [], ◌∷◌, length, take, drop, min, IfOk, IfErr, OnOk, OnErr};
+ghost use Rattle.std.specs.Prelude.{◌≡◌, ◌+◌, ◌-◌, ◌^◌, ◌<◌, ◌≤◌, [], ◌∷◌, length, take, drop, max, min, IfOk, IfErr, OnOk, OnErr};
 ghost use Rattle.bcder_source.specs.Errors.{OnlyAtEnd};
 ghost use Rattle.bcder_source.specs.Views.{NextOctet, octets_of};
 
@@ -69,6 +69,8 @@ impl<'a, S: Source> Source for CaptureSource<'a, S> {
 
     ghost position = { λ s. min (S.position s.source.now + s.len) (2 ^ 64 - 1) };
 
+    ghost asked = { λ s. S.asked s.source.now - s.len };
+
     fn pos(&self) -> Pos {
         (*self.source).pos() + Pos::from(self.len)
     }
@@ -90,6 +92,8 @@ impl<'a, S: Source> Source for CaptureSource<'a, S> {
         ensures bound { IfOk result (λ n. n < 2 ^ 63) }
         ensures enough { IfOk result
             (λ n. n < len → n ≡ length (drop self.new.len (S.rest self.new.source.now))) }
+        ensures asked { S.asked self.new.source.now - self.new.len
+            ≤ max (S.asked self.old.source.now - self.old.len) len }
     {
         let count = self.source.request(self.len.saturating_add(len))?;
         Ok(count - self.len)

@@ -1,5 +1,5 @@
 //! Sources of which some octets at most are read.
-ghost use Rattle.std.specs.Prelude.{◌≡◌, ◌+◌, ◌-◌, ◌^◌, ◌<◌, ◌≤◌, [], ◌∷◌, length, take, drop, min, slice_range, IfOk, IfErr, OnOk, OnErr, Option, Some, None, IsSome};
+ghost use Rattle.std.specs.Prelude.{◌≡◌, ◌+◌, ◌-◌, ◌^◌, ◌<◌, ◌≤◌, [], ◌∷◌, length, take, drop, max, min, slice_range, IfOk, IfErr, OnOk, OnErr, Option, Some, None, IsSome};
 ghost use Rattle.bcder_source.specs.Errors.{OnContent, OnlyContent, OnlyAtEnd, OnMemory};
 ghost use Rattle.bcder_source.specs.Limits.{view, within, Narrows, at_hand, IsSpent, IsShort, HasAll};
 ghost use Rattle.bcder_source.specs.Views.{Moved, NextOctet, octets_of, limited, left};
@@ -94,6 +94,8 @@ impl<S: Source> Source for LimitedSource<S> {
 
     ghost position = { λ s. S.position s.source };
 
+    ghost asked = { λ s. S.asked s.source };
+
     fn pos(&self) -> Pos {
         self.source.pos()
     }
@@ -110,6 +112,9 @@ impl<S: Source> Source for LimitedSource<S> {
         ensures there { IfOk result (λ n. n ≤ length (left (view S.rest self.new))) }
         ensures bound { IfOk result (λ n. n < 2 ^ 63) }
         ensures enough { IfOk result (λ n. n < len → n ≡ length (left (view S.rest self.new))) }
+        ensures asked { S.asked self.new.source ≤ max (S.asked self.old.source) len }
+        ensures within { S.asked self.new.source
+            ≤ max (S.asked self.old.source) (at_hand self.old.limit len) }
     {
         let Some(limit) = self.limit else {
             return self.source.request(len);

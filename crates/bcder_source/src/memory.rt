@@ -95,6 +95,9 @@ impl Source for BytesSource {
 
     ghost position = { λ s. s.position };
 
+    // All octets are in memory.
+    ghost asked = { λ s. 0 };
+
     fn pos(&self) -> Pos {
         self.pos
     }
@@ -183,6 +186,9 @@ impl<'a> Source for SliceSource<'a> {
     ghost available = { λ s. length s.rest };
 
     ghost position = { λ s. s.position };
+
+    // All octets are in memory.
+    ghost asked = { λ s. 0 };
 
     fn pos(&self) -> Pos {
         self.pos

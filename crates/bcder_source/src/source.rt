@@ -1,5 +1,5 @@
 //! Sources of octets.
-ghost use Rattle.std.specs.Prelude.{◌≡◌, ◌+◌, ◌-◌, ◌^◌, ◌<◌, ◌≤◌, ℕ, List, [], ◌∷◌, length, take, drop, min, slice_range, IfOk, IfErr, OnErr};
+ghost use Rattle.std.specs.Prelude.{◌≡◌, ◌+◌, ◌-◌, ◌^◌, ◌<◌, ◌≤◌, ℕ, List, [], ◌∷◌, length, take, drop, max, min, slice_range, IfOk, IfErr, OnErr};
 ghost use Rattle.bcder_source.specs.Errors.{OnlyAtEnd};
 ghost use Rattle.bcder_source.specs.Views.{NextOctet};
 ghost use Rattle.bcder_source.specs.declared.error.DecodeError.TheVariants.{Content as content_error};
@@ -12,7 +12,8 @@ use std::error::Error;
 /// Octets that are asked for piece by piece.
 ///
 /// `rest` are the octets that were not taken yet, `available` how many of them lie at hand, and
-/// `position` how many were taken before: a position is for diagnostics alone.
+/// `position` how many were taken before: a position is for diagnostics alone. `asked` is how many octets from the next
+/// one on were asked for at most, so that nobody who reads a front of a stream need wait for what comes after it.
 pub trait Source: Drop {
     /// How the source itself fails.
     type Error: Error;
@@ -22,6 +23,8 @@ pub trait Source: Drop {
     ghost available: { Self → ℕ };
 
     ghost position: { Self → ℕ };
+
+    ghost asked: { Self → ℕ };
 
     /// How many octets were taken.
     fn pos(&self) -> Pos
@@ -37,7 +40,8 @@ pub trait Source: Drop {
         ensures available { IfOk result (λ n. n ≡ available self.new) }
         ensures there { IfOk result (λ n. n ≤ length (rest self.new)) }
         ensures bound { IfOk result (λ n. n < 2 ^ 63) }
-        ensures enough { IfOk result (λ n. n < len → n ≡ length (rest self.new)) };
+        ensures enough { IfOk result (λ n. n < len → n ≡ length (rest self.new)) }
+        ensures asked { asked self.new ≤ max (asked self.old) len };
 
     /// The octets at hand.
     fn slice(&self) -> &[u8]
@@ -132,6 +136,8 @@ impl<'a, T: Source> Source for &'a mut T {
     ghost available = { λ s. T.available s.now };
 
     ghost position = { λ s. T.position s.now };
+
+    ghost asked = { λ s. T.asked s.now };
 
     fn pos(&self) -> Pos {
         T::pos(*self)
