@@ -1,7 +1,7 @@
 -- What stands at a file of a publication point, of what the object there reads as.
-use Rattle.std.proofs.Common.{◌≡◌, ◌↔◌, ℕ, Bool, true, false, IsTrue, List, Option, Some, None, refl, sym, subst}
-use Rattle.std.specs.Bool.{then_some}
-use Rattle.rpki_standing.specs.rpki_readings.Certs.{Cert, Digests, Verdicts}
+use Rattle.std.proofs.Common.{◌≡◌, ◌↔◌, ℕ, Bool, true, false, IsTrue, List, Option, Some, None, Result, Ok, Err, MatchOption, refl, sym, subst}
+use Rattle.std.specs.Prelude.{IfOk}
+use Rattle.rpki_standing.specs.rpki_readings.Certs.{Cert, Crl, Digests, Verdicts}
 use Rattle.rpki_standing.specs.rpki_signed.Issued.{IsIssued}
 use Rattle.rpki_standing.specs.certs_specs.declared.Role.TheVariants.{Ee}
 use Rattle.rpki_standing.specs.rpki_readings.Objects.{Object, Sound}
@@ -45,14 +45,23 @@ module _ (w : World) (ca : Cert) (p : Point) (uri : List ℕ) where
   found_unsound o x t n = λ q y s.
       n (subst (IsSoundAt w ca p) (one_reading w uri q o y x (reading_of q y s) t).0 (soundness_of q y s))
 
--- What it reads as is handed over where it is sound.
-pub found_told : (w : World) (ca : Cert) (p : Point) (uri : List ℕ) → Mem (files ca p.manifest) uri → (s : PublishedValue) → ReadsAt w uri s.object s.payload → (b : Bool) → (IsTrue b ↔ IsSoundAt w ca p s.object)
-    → (r : Option PublishedValue) → r ≡ then_some b s → FindsObject w ca p uri r
-found_told w ca p uri listed s t b told r e = subst (FindsObject w ca p uri) (sym e) (by b told)
+-- What it reads as is kept where it is sound.
+pub found_kept : {E : Type 0} (w : World) (ca ee : Cert) (crl : Crl) (uri : List ℕ) (s : PublishedValue) → ReadsAt w uri s.object s.payload → (passed : Result Bool E) (r : Result (Option PublishedValue) E)
+    → IfOk passed (λ yes. (p : Point) → p.object.cert ≡ ee → p.crl ≡ crl → IsTrue yes ↔ IsSoundAt w ca p s.object)
+    → IfOk r (λ kept. MatchOption kept (passed ≡ Ok false) (λ x. (x ≡ s) × (passed ≡ Ok true)))
+    → IfOk r (λ found. (p : Point) → p.object.cert ≡ ee → p.crl ≡ crl → Mem (files ca p.manifest) uri → FindsObject w ca p uri found)
+found_kept {E} w ca ee crl uri s t passed (Err e) told kept = tt
+found_kept {E} w ca ee crl uri s t passed (Ok None) told kept = λ p a b listed.
+    found_unsound w ca p uri s.object s.payload t (unsound p a b)
   where
-    by : (b : Bool) → (IsTrue b ↔ IsSoundAt w ca p s.object) → FindsObject w ca p uri (then_some b s)
-    by true told = found_sound w ca p uri listed s t (told.0 refl)
-    by false told = found_unsound w ca p uri s.object s.payload t (λ k. let wrong : false ≡ true = told.1 k in absurd cc)
+    unsound : (p : Point) → p.object.cert ≡ ee → p.crl ≡ crl → IsSoundAt w ca p s.object → ⊥
+    unsound p a b k =
+        let not = subst (λ (q : Result Bool E). IfOk q (λ yes. (p : Point) → p.object.cert ≡ ee → p.crl ≡ crl → IsTrue yes ↔ IsSoundAt w ca p s.object)) kept told in
+        let wrong : false ≡ true = (not p a b).1 k in
+        absurd cc
+found_kept {E} w ca ee crl uri s t passed (Ok (Some x)) told kept = λ p a b listed.
+    let is = subst (λ (q : Result Bool E). IfOk q (λ yes. (p : Point) → p.object.cert ≡ ee → p.crl ≡ crl → IsTrue yes ↔ IsSoundAt w ca p s.object)) kept.1 told in
+    subst (λ (y : PublishedValue). FindsObject w ca p uri (Some y)) (sym kept.0) (found_sound w ca p uri listed s t ((is p a b).0 refl))
 
 -- What a test decides isn't so where it says no.
 said_no : (b : Bool) (P : Type 0) → (IsTrue b ↔ P) → b ≡ false → P → ⊥

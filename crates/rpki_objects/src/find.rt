@@ -10,7 +10,7 @@ ghost use Rattle.rpki_objects.specs.Published.{FindsObject, IsSoundAt};
 use crate::published::Published;
 use crate::readings::object_at;
 use rpki_standing::{
-    Cert, Crl, Digester, Index, Verifier, is_issued_to_object, is_sound, is_unrevoked,
+    Cert, Crl, Digester, Index, Verifier, is_issued_to_object, is_sound, is_unrevoked, keep_if,
 };
 use std::alloc::{AllocError, Global};
 
@@ -67,6 +67,6 @@ pub fn find_object<D: Digester, V: Verifier>(
     let Some(object) = object_at(alloc, key, index)? else {
         return Ok(None);
     };
-    let sound = is_sound_at(alloc, &object, ca, ee, crl, index, digester, verifier)?;
-    Ok(sound.then_some(object))
+    let sound = is_sound_at(alloc, &object, ca, ee, crl, index, digester, verifier);
+    keep_if(object, sound)
 }

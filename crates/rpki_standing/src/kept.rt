@@ -5,7 +5,7 @@ ghost use Rattle.std.specs.Prelude.{◌≡◌, false, true, IfOk, MatchOption, N
 use std::alloc::AllocError;
 
 /// The value, if the test was passed.
-pub(crate) fn keep_if<T: Drop>(
+pub fn keep_if<T: Drop>(
     value: T,
     passed: Result<bool, AllocError>,
 ) -> Result<Option<T>, AllocError>

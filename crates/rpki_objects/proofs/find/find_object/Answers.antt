@@ -2,7 +2,7 @@ use Rattle.std.proofs.Common.{subst}
 use Rattle.rpki_objects.specs.certs_key.Digesting.{digests_of}
 use Rattle.rpki_objects.specs.rpki_rules.World.{world_of}
 use Rattle.rpki_objects.specs.Published.{FindsReading, ReadsAt}
-use Rattle.rpki_objects.proofs.Soundness.{found_none, found_told}
+use Rattle.rpki_objects.proofs.Soundness.{found_kept, found_none}
 use Rattle.rpki_objects.proofs.find.find_object.Goals as goal
 
 pub returns-in_default-clause-found : goal.returns-in_default-clause-found
@@ -13,10 +13,10 @@ returns-in_default-clause-found g c = λ p e f m.
     found_none w c.args.ca.now p c.args.key.now (subst (FindsReading w c.args.key.now) c.in_default.is (c.in_ok-object.ensures d v))
 
 pub returns-clause-found : goal.returns-clause-found
-returns-clause-found g c = λ p e f listed.
+returns-clause-found g c =
     let d = digests_of g.D.Digester.sha256_digest g.D.Digester.sha1_digest c.args.digester.now in
     let v = g.V.Verifier.says c.args.verifier.now in
     let w = world_of d v c.args.index.now in
     let s = c.in-Some.object in
     let reads : ReadsAt w c.args.key.now s.object s.payload = subst (FindsReading w c.args.key.now) c.in-Some.is (c.in_ok-object.ensures d v) in
-    found_told w c.args.ca.now p c.args.key.now listed s reads c.in_ok-sound.sound (c.in_ok-sound.ensures.sound p e f) c.then_some.result c.then_some.ensures
+    found_kept w c.args.ca.now c.args.ee.now c.args.crl.now c.args.key.now s reads c.is_sound_at-sound.result c.keep_if.result c.is_sound_at-sound.ensures.sound c.keep_if.ensures
