@@ -1,18 +1,22 @@
 //! Values that are kept only where a test is passed or something is found.
 
-ghost use Rattle.std.specs.Prelude.{◌≡◌, false, true, IfOk, MatchOption, None, Ok, Some};
+ghost use Rattle.std.specs.Prelude.{◌≡◌, false, true, Err, IfErr, IfOk, MatchOption, None, Ok, Some};
 
 use std::alloc::AllocError;
 
-/// The value, if the test was passed.
-pub fn keep_if<T: Drop>(
-    value: T,
-    passed: Result<bool, AllocError>,
-) -> Result<Option<T>, AllocError>
-    ensures { IfOk result (λ kept. MatchOption kept (passed ≡ Ok false)
+/// The value, if the test was passed. A refusal of the test is handed on.
+pub fn keep_if<T: Drop>(value: T, passed: Result<bool, AllocError>) -> Result<Option<T>, AllocError>
+    ensures kept { IfOk result (λ kept. MatchOption kept (passed ≡ Ok false)
         (λ x. (x ≡ value) × (passed ≡ Ok true))) }
+    ensures refused { IfErr result (λ error. passed ≡ Err error) }
 {
-    Ok(passed?.then_some(value))
+    match passed {
+        Ok(yes) => Ok(yes.then_some(value)),
+        Err(error) => {
+            drop(value);
+            Err(error)
+        }
+    }
 }
 
 /// The value with what was found, if something was.

@@ -19,4 +19,4 @@ returns-clause-found g c =
     let w = world_of d v c.args.index.now in
     let s = c.in-Some.object in
     let reads : ReadsAt w c.args.key.now s.object s.payload = subst (FindsReading w c.args.key.now) c.in-Some.is (c.in_ok-object.ensures d v) in
-    found_kept w c.args.ca.now c.args.ee.now c.args.crl.now c.args.key.now s reads c.is_sound_at-sound.result c.keep_if.result c.is_sound_at-sound.ensures.sound c.keep_if.ensures
+    found_kept w c.args.ca.now c.args.ee.now c.args.crl.now c.args.key.now s reads c.is_sound_at-sound.result c.keep_if.result c.is_sound_at-sound.ensures.sound c.keep_if.ensures.kept

@@ -18,4 +18,4 @@ returns-clause-found g c =
     let v = g.V.Verifier.says c.args.verifier.now in
     let w : World = world_of d v c.args.index.now in
     let reads : IsReadAt w c.args.ca.now c.in-Some.manifest = subst (Finds (IsReadAt w c.args.ca.now)) c.in-Some.is (c.in_ok-manifest.ensures d v) in
-    own_told w c.args.ca.now c.in-Some.manifest c.is_own-own.result c.keep_if.result reads c.is_own-own.ensures.own c.keep_if.ensures
+    own_told w c.args.ca.now c.in-Some.manifest c.is_own-own.result c.keep_if.result reads c.is_own-own.ensures.own c.keep_if.ensures.kept
