@@ -1,8 +1,11 @@
 #!/usr/bin/env python3
-"""Writes the questions and answers of crates/resources_calls: tests/resources_calls.py
+"""Writes the questions and answers of the programs of calls of the resources' crates: tests/resources_calls.py
 
-The answers come from Python's own integers and sets, `ipaddress`, and X.690 and RFC 3779 for octets. The gate runs the
-program on `stdin`, and compares what it prints with `stdout`. A tab stands between the words of a question.
+crates/resources_calls is asked about addresses, prefixes and numbers, crates/resources_chains_calls about chains and
+blocks of AS numbers, and crates/resources_sets_calls about sets and resources.
+
+The answers come from Python's own integers and sets, `ipaddress`, and X.690 and RFC 3779 for octets. The gate runs each
+program on its `stdin`, and compares what it prints with `stdout`. A tab stands between the words of a question.
 """
 
 import ipaddress
@@ -15,7 +18,13 @@ from resources_calls_values import (
 )
 from resources_cases import as_block, bits, difference, integer, intersection, maximal, shortest, tlv, union
 
-FOLDER = pathlib.Path(__file__).resolve().parent.parent / "crates" / "resources_calls"
+CRATES = pathlib.Path(__file__).resolve().parent.parent / "crates"
+# The topics of each program: the first word of a question.
+PROGRAMS = {
+    "resources_calls": "prefix max asn addr range block",
+    "resources_chains_calls": "as chain list",
+    "resources_sets_calls": "resources family der set",
+}
 
 
 # Strict prefixes.
@@ -679,9 +688,11 @@ def main():
     q = Questions()
     for part in (prefixes, greatest_lengths, asns, as_blocks, chains, addresses, blocks, resources, families, octets, all_kinds, looked_up):
         part(q)
-    (FOLDER / "stdin").write_text("".join(f"{question}\n" for question, _ in q.rows))
-    (FOLDER / "stdout").write_text("".join(f"{answer}\n" for _, answer in q.rows))
-    print(len(q.rows), "questions")
+    for name, topics in PROGRAMS.items():
+        rows = [row for row in q.rows if row[0].split("\t")[0] in topics.split()]
+        (CRATES / name / "stdin").write_text("".join(f"{question}\n" for question, _ in rows))
+        (CRATES / name / "stdout").write_text("".join(f"{answer}\n" for _, answer in rows))
+        print(len(rows), "questions of", name)
 
 
 if __name__ == "__main__":

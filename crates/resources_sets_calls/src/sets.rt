@@ -46,7 +46,7 @@ fn families(answer: &mut Answer, set: &ResourceSet) -> Result<()> {
     Ok(())
 }
 
-// The set of the three sets of texts, and what is told of it.
+// The set of the three sets of texts, and what is known of it.
 fn made(alloc: Global, answer: &mut Answer, words: [&str; 3]) -> Result<()> {
     let set = new(alloc, words)?;
     answer.say(&set);
@@ -106,7 +106,7 @@ fn texts(answer: &mut Answer) {
     answer.say(&format_args!("{};", InheritError::Memory));
 }
 
-// Whether an identifier is told as that of a policy, by each of the three tables.
+// Whether an identifier is that of a policy, by each of the three tables.
 fn table(answer: &mut Answer, id: &ConstOid) {
     let trim = Some(Overclaim::Trim);
     answer.say(&(Overclaim::from_policy(id) == trim));
