@@ -1,8 +1,11 @@
 #!/usr/bin/env python3
-"""Writes the questions and answers of crates/resources_calls: tests/resources_calls.py
+"""Writes the questions and answers of the programs of calls of the resources' crates: tests/resources_calls.py
 
-The answers come from Python's own integers and sets, `ipaddress`, and X.690 and RFC 3779 for octets. The gate runs the
-program on `stdin`, and compares what it prints with `stdout`. A tab stands between the words of a question.
+crates/resources_calls is asked about addresses, prefixes and numbers, crates/resources_chains_calls about chains and
+blocks of AS numbers, and crates/resources_sets_calls about sets and resources.
+
+The answers come from Python's own integers and sets, `ipaddress`, and X.690 and RFC 3779 for octets. The gate runs each
+program on its `stdin`, and compares what it prints with `stdout`. A tab stands between the words of a question.
 """
 
 import ipaddress
@@ -15,7 +18,13 @@ from resources_calls_values import (
 )
 from resources_cases import as_block, bits, difference, integer, intersection, maximal, shortest, tlv, union
 
-FOLDER = pathlib.Path(__file__).resolve().parent.parent / "crates" / "resources_calls"
+CRATES = pathlib.Path(__file__).resolve().parent.parent / "crates"
+# The topics of each program: the first word of a question.
+PROGRAMS = {
+    "resources_calls": "prefix max asn addr range block",
+    "resources_chains_calls": "as chain list",
+    "resources_sets_calls": "resources family der set",
+}
 
 
 # Strict prefixes.
@@ -603,6 +612,8 @@ def all_kinds(q):
         same = (v4, v6) in (("", ""), ("0.0.0.0/0", "::/0"))
         q.ask([three(*shown), True, True, shown[0], same, True, True], "set", "made", asn_, v4, v6)
         q.ask(three(*shown), "set", "read", asn_, v4, v6)
+        q.ask([True], "set", "again", asn_, v4, v6)
+    checked(q)
     q.ask("cannot parse ASN resources: invalid AS number", "set", "read", "x", "10.0.0.0/8", "::/0")
     q.ask("cannot parse IPv4 resources: invalid address", "set", "read", "AS1", "10.0.0/8", "::/0")
     q.ask("cannot parse IPv6 resources: invalid prefix length", "set", "read", "AS1", "10.0.0.0/8", "::/129")
@@ -614,6 +625,48 @@ def all_kinds(q):
     own = [[i == j for j in range(3)] for i in range(3)]
     for policy, is_trim in (("refuse", False), ("trim", True)):
         q.ask([word_ for row in own for word_ in [is_own and is_trim for is_own in row] + row], "set", policy)
+
+
+# The faults of a text of each kind: the first faulty piece says what is wrong.
+AS_FAULTS = {
+    "invalid list of AS blocks": (",", "AS1,", "AS1, ", ",AS1", "AS1,,AS2", "AS1,,x"),
+    "invalid AS number": ("x", "AS", "AS4294967296", "AS1-", "-AS1", " AS1", "AS1,  AS2", "AS1 ,AS2", "inherit", "AS1, x, "),
+    "invalid AS range": ("AS2-AS1", "AS1, AS9-AS2, x"),
+}
+V4_FAULTS = {
+    "invalid list of blocks": (",", "10.0.0.0/8,", "10.0.0.0/8, ", ",10.0.0.0/8", "10.0.0.0/8,,11.0.0.0/8"),
+    "invalid address": ("10.0.0/8", "10.0.0.0-", " 10.0.0.0/8", "10.0.0.0/8,  11.0.0.0/8", "256.0.0.0/8"),
+    "invalid prefix length": ("10.0.0.0/33", "10.0.0.0/", "10.0.0.0/8 , 11.0.0.0/8"),
+    "missing separator": ("10.0.0.0", "10.0.0.0/8, 11.0.0.0, x"),
+    "invalid range": ("10.0.0.9-10.0.0.0", "11.0.0.0/8, 10.0.0.9-10.0.0.0"),
+    "addresses of different families": ("::/0", "10.0.0.0/8, 2001:db8::/32, x"),
+}
+V6_FAULTS = {
+    "invalid list of blocks": (",", "::/0,", "::/0, ", ",::/0", "::/0,,::1/128"),
+    "invalid address": (":::/8", "::-:", " ::/0", "::/0,  ::1/128", "g::/8"),
+    "invalid prefix length": ("::/129", "::/", "::/0 , ::1/128"),
+    "missing separator": ("2001:db8::", "::/0, ::1, x"),
+    "invalid range": ("::9-::1", "::/0, ::9-::1"),
+    "addresses of different families": ("10.0.0.0/8", "::/0, 10.0.0.0/8, :"),
+}
+
+
+def checked(q):
+    """Texts that are tested alone, and as three of which the first faulty one is told."""
+    good = ("AS2, AS1,AS7-AS9", "10.0.0.0/9,10.128.0.0/9", "::/1, 8000::-ffff::")
+    kinds = (("ASN", AS_FAULTS), ("IPv4", V4_FAULTS), ("IPv6", V6_FAULTS))
+    q.ask(["good; good; good;"], "set", "check", *good)
+    q.ask(["good; good; good;"], "set", "check", "", "", "")
+    for at, (name, faults) in enumerate(kinds):
+        for fault, texts in faults.items():
+            for text in texts:
+                words = [text if i == at else it for i, it in enumerate(good)]
+                q.ask(" ".join(f"{fault};" if i == at else "good;" for i in range(3)), "set", "check", *words)
+                q.ask(f"cannot parse {name} resources: {fault}", "set", "read", *words)
+                # Where a later one is faulty, too, or has nothing, the same is told.
+                for later in ("x", "", ",") if at < 2 else ():
+                    others = [later if i > at else it for i, it in enumerate(words)]
+                    q.ask(f"cannot parse {name} resources: {fault}", "set", "read", *others)
 
 
 # Orders of lists, places, and what sets have.
@@ -679,9 +732,11 @@ def main():
     q = Questions()
     for part in (prefixes, greatest_lengths, asns, as_blocks, chains, addresses, blocks, resources, families, octets, all_kinds, looked_up):
         part(q)
-    (FOLDER / "stdin").write_text("".join(f"{question}\n" for question, _ in q.rows))
-    (FOLDER / "stdout").write_text("".join(f"{answer}\n" for _, answer in q.rows))
-    print(len(q.rows), "questions")
+    for name, topics in PROGRAMS.items():
+        rows = [row for row in q.rows if row[0].split("\t")[0] in topics.split()]
+        (CRATES / name / "stdin").write_text("".join(f"{question}\n" for question, _ in rows))
+        (CRATES / name / "stdout").write_text("".join(f"{answer}\n" for _, answer in rows))
+        print(len(rows), "questions of", name)
 
 
 if __name__ == "__main__":

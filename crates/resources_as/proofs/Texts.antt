@@ -14,7 +14,7 @@ use Rattle.resources_as_block.proofs.Texts.{no_block, block_once, block_some, ru
 use Rattle.resources_as.specs.resources_chain.Claims.{Choice}
 use Rattle.resources_as.specs.resources_chain.Choices.{choice_text}
 use Rattle.resources_as.specs.resources_chain.declared.choice.ResourcesChoice.TheVariants.{Missing, Inherit, Blocks}
-use Rattle.resources_as.specs.Texts.{IsAsSetText, IsNoPiece, RefusesAsSet, as_set_text, IsAsChoiceText, as_choice_text}
+use Rattle.resources_as.specs.Texts.{IsAsSetText, IsAsListText, IsNoAsSet, IsNoPiece, RefusesAsSet, as_set_text, IsAsChoiceText, as_choice_text}
 
 -- What is wrong with a piece is wrong with that of no block.
 no_piece : (e : FromStrError) (piece : List ℕ) (r : Run) → IsNoPiece e piece → ¬ (IsAsBlockText piece r)
@@ -38,6 +38,10 @@ refuses BadAsn text some h = fault_of BadAsn text some h
 refuses BadRange text some h = fault_of BadRange text some h
 refuses BadBlocks text some h = fault_of BadBlocks text some h
 refuses Memory text some h = absurd h.faulty
+
+pub checked : {A : Type 0} (text : List ℕ) (r : Result A FromStrError) → ¬ (text ≡ []) → MatchResult r (λ _. IsAsListText text) (λ e. HasFault IsAsBlockText (IsNoPiece e) text) → MatchResult r (λ _. IsAsListText text) (IsNoAsSet text)
+checked text (Ok a) some h = h
+checked text (Err e) some h = fault_of e text some h
 
 -- Where each piece is a block, memory is all that can lack.
 pub refuses_late : (e : FromStrError) (text : List ℕ) → ¬ (text ≡ []) → ((runs : List Run) × IsListText IsAsBlockText text runs) → (e ≡ Memory) ⊎ HasFault IsAsBlockText (IsNoPiece e) text → RefusesAsSet text e

@@ -20,10 +20,18 @@ IsNoPiece Memory piece = ⊥
 IsNoPiece BadBlocks piece = piece ≡ []
 IsNoPiece cause piece = ¬ (piece ≡ []) × IsNoAsBlock piece cause
 
+-- The text is that of blocks, so that it writes their union.
+abbrev pub IsAsListText : List ℕ → Type 0
+IsAsListText text = (runs : List Run) × IsListText IsAsBlockText text runs
+
+-- The text is that of no set, by what is wrong with its first faulty piece.
+abbrev pub IsNoAsSet : List ℕ → FromStrError → Type 0
+IsNoAsSet text cause = IsNoListText IsAsBlockText (IsNoPiece cause) text
+
 -- Why no set is read: what is wrong with the first faulty piece; or memory, of a text without a fault.
 abbrev pub RefusesAsSet : List ℕ → FromStrError → Type 0
-RefusesAsSet text Memory = ¬ (text ≡ []) × ((runs : List Run) × IsListText IsAsBlockText text runs)
-RefusesAsSet text cause = IsNoListText IsAsBlockText (IsNoPiece cause) text
+RefusesAsSet text Memory = ¬ (text ≡ []) × IsAsListText text
+RefusesAsSet text cause = IsNoAsSet text cause
 
 -- The answer is the set of the text; or it has none, or no memory is left.
 abbrev pub ReadsAsSet : List ℕ → Result (List Run) FromStrError → Type 0

@@ -9,7 +9,7 @@ ghost use Rattle.resources_as_block.specs.Blocks.{as_run, run_text};
 ghost use Rattle.resources_as_block.specs.Texts.{IsAsBlockText};
 ghost use Rattle.resources_as_block.specs.declared.error.FromStrError.TheVariants.{Memory};
 ghost use Rattle.resources_as.specs.resources_chain.declared.choice.ResourcesChoice.TheVariants.{Blocks};
-ghost use Rattle.resources_as.specs.Texts.{IsAsSetText, IsNoPiece, ReadsAsSet, IsAsChoiceText, ReadsAsChoice, as_set_text, as_choice_text};
+ghost use Rattle.resources_as.specs.Texts.{IsAsSetText, IsAsListText, IsNoAsSet, IsNoPiece, ReadsAsSet, IsAsChoiceText, ReadsAsChoice, as_set_text, as_choice_text};
 
 use crate::blocks::{AsBlocks, AsBlocksBuilder};
 use crate::resources::AsResources;
@@ -33,6 +33,18 @@ impl AsBlocks {
         check_blocks(text)?;
         let blocks = read_blocks(alloc, text)?;
         Ok(blocks.finalize(alloc)?)
+    }
+
+    /// Whether a text is that of a set, and what is wrong with it else, as of `from_str`. No memory is taken, so `Memory`
+    /// isn't answered.
+    pub fn check_str(text: &str) -> Result<(), FromStrError>
+        ensures { MatchResult result (λ _. IsAsListText text.now) (IsNoAsSet text.now) }
+    {
+        if text.is_empty() {
+            Ok(())
+        } else {
+            check_blocks(text)
+        }
     }
 
     /// What is printed of the set is read as the same set. This is a law about the set: nothing is done.

@@ -74,7 +74,7 @@ fn made(answer: &mut Answer, addr: IpAddr) {
     answer.say(&(one == Addr::from_bits(one.to_bits())));
 }
 
-// An address with all bits behind some cleared, and set.
+// An address with all bits after some cleared, and set.
 fn cut(answer: &mut Answer, addr: Addr, len: u8) {
     answer.say(&addr.to_min(len).to_bits());
     answer.say(&addr.to_max(len).to_bits());

@@ -25,7 +25,7 @@ impl Answer {
         self.text.as_str()
     }
 
-    /// One more word, as it prints itself.
+    /// One more word, as `Display` prints it.
     pub fn say<T: fmt::Display>(&mut self, word: &T) {
         if !self.text.is_empty() {
             let _ = self.text.push_str(" ");
@@ -49,7 +49,7 @@ impl Answer {
         }
     }
 
-    /// How two values stand.
+    /// How two values stand to each other.
     pub fn order(&mut self, order: Ordering) {
         match order {
             Ordering::Less => self.say(&"less"),

@@ -1,5 +1,5 @@
-//! The calls of the resources' crates, as data: each line of standard input asks a question, by words with a tab
-//! between, and each line of standard output answers one. What sets and claims come to, `resources_cases` asks.
+//! The calls of addresses, prefixes and numbers, as data: each line of standard input asks a question, by words with a
+//! tab between, and each line of standard output answers one. What sets and claims come to, `resources_cases` asks.
 //!
 //! The first word names the module that answers, and the second one what it is asked. `tests/resources_calls.py` writes
 //! both, and knows the answers by means of its own.
@@ -8,44 +8,23 @@
 mod addresses;
 mod answers;
 mod asns;
-mod blocks;
-mod builders;
-mod chains;
-mod decoded;
-mod families;
-mod lookups;
 mod prefixes;
 mod ranges;
-mod sets;
 
 use answers::{Answer, unknown};
 use anyhow::Result;
 use std::alloc::Global;
 
-// The answer to a question about values with no set.
-fn of_values(answer: &mut Answer, topic: &str, words: &[&str]) -> Result<()> {
+// The answer to a question about a topic.
+fn say(alloc: Global, answer: &mut Answer, topic: &str, words: &[&str]) -> Result<()> {
     match topic {
         "prefix" => prefixes::answer(answer, words),
         "max" => prefixes::max(answer, words),
         "addr" => addresses::answer(answer, words),
         "range" => ranges::answer(answer, words),
         "block" => ranges::of_blocks(answer, words),
-        _ => unknown(),
-    }
-}
-
-// The answer to a question about any topic.
-fn say(alloc: Global, answer: &mut Answer, topic: &str, words: &[&str]) -> Result<()> {
-    match topic {
         "asn" => asns::answer(alloc, answer, words),
-        "as" => blocks::answer(alloc, answer, words),
-        "chain" => chains::answer(alloc, answer, words),
-        "resources" => builders::answer(alloc, answer, words),
-        "family" => families::answer(alloc, answer, words),
-        "der" => decoded::answer(alloc, answer, words),
-        "list" => lookups::answer(alloc, answer, words),
-        "set" => sets::answer(alloc, answer, words),
-        _ => of_values(answer, topic, words),
+        _ => unknown(),
     }
 }
 

@@ -53,7 +53,7 @@ fn ends<B: Block<Item = Addr>>(answer: &mut Answer, block: &B) {
     answer.say(&block.max().to_bits());
 }
 
-// The addresses before and behind, as any type of blocks tells them.
+// The addresses before and after a range, by the calls of any type of blocks.
 fn beside<B: Block<Item = Addr>>(answer: &mut Answer, block: &B) {
     let bounds = block.bounds();
     answer.say_some(&B::previous(*bounds.start()).map(|addr| addr.to_bits()));

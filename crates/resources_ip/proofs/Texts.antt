@@ -15,7 +15,7 @@ use Rattle.resources_ip_block.specs.BlockText.{block_text, address_text}
 use Rattle.resources_ip_block.specs.ReadTexts.{WritesBlock, IsNoBlock, ReadsBlock}
 use Rattle.resources_ip_block.proofs.PrintLemmas.{IsFamilyRun, block_written}
 use Rattle.resources_ip_block.proofs.ReadLemmas.{block_once, block_some, block_shows, block_refused, one_family}
-use Rattle.resources_ip.specs.Texts.{IsIpSetText, IsNoPiece, RefusesIpSet, ReadsIpSet, ip_set_text}
+use Rattle.resources_ip.specs.Texts.{IsIpSetText, IsIpListText, IsNoIpSet, IsNoPiece, RefusesIpSet, ReadsIpSet, ip_set_text}
 use Rattle.resources_ip.specs.Written.{FitsSet}
 use Rattle.resources_ip.proofs.WholeLemmas.{whole_step}
 
@@ -61,6 +61,10 @@ refuses family Cause.Addr text some h = fault_of family Cause.Addr text some h
 refuses family Cause.PrefixLen text some h = fault_of family Cause.PrefixLen text some h
 refuses family Cause.MissingSeparator text some h = fault_of family Cause.MissingSeparator text some h
 refuses family Cause.BadRange text some h = fault_of family Cause.BadRange text some h
+
+pub checked : {A : Type 0} (family : AddressFamily) (text : List ℕ) (r : Result A FromStrError) → ¬ (text ≡ []) → MatchResult r (λ _. IsIpListText family text) (λ e. HasFault (WritesBlock family) (IsNoPiece family e) text) → MatchResult r (λ _. IsIpListText family text) (IsNoIpSet family text)
+checked family text (Ok a) some h = h
+checked family text (Err e) some h = fault_of family e text some h
 
 -- Where each piece is a block, memory is all that can lack.
 pub refuses_late : (family : AddressFamily) (e : FromStrError) (text : List ℕ) → ¬ (text ≡ []) → ((runs : List Run) × IsListText (WritesBlock family) text runs) → (e ≡ Cause.Memory) ⊎ HasFault (WritesBlock family) (IsNoPiece family e) text → RefusesIpSet family text e

@@ -21,10 +21,18 @@ IsNoPiece family Cause.BadBlocks piece = piece ≡ []
 IsNoPiece family Cause.FamilyMismatch piece = ¬ (piece ≡ []) × ¬ (Shows family piece)
 IsNoPiece family cause piece = ¬ (piece ≡ []) × Shows family piece × IsNoBlock family piece cause
 
+-- The text is that of blocks of the family, so that it writes their union.
+abbrev pub IsIpListText : AddressFamily → List ℕ → Type 0
+IsIpListText family text = (runs : List Run) × IsListText (WritesBlock family) text runs
+
+-- The text is that of no set, by what is wrong with its first faulty piece.
+abbrev pub IsNoIpSet : AddressFamily → List ℕ → FromStrError → Type 0
+IsNoIpSet family text cause = IsNoListText (WritesBlock family) (IsNoPiece family cause) text
+
 -- Why no set is read: what is wrong with the first faulty piece; or memory, of a text without a fault.
 abbrev pub RefusesIpSet : AddressFamily → List ℕ → FromStrError → Type 0
-RefusesIpSet family text Cause.Memory = ¬ (text ≡ []) × ((runs : List Run) × IsListText (WritesBlock family) text runs)
-RefusesIpSet family text cause = IsNoListText (WritesBlock family) (IsNoPiece family cause) text
+RefusesIpSet family text Cause.Memory = ¬ (text ≡ []) × IsIpListText family text
+RefusesIpSet family text cause = IsNoIpSet family text cause
 
 -- The answer is the set of the text; or it has none, or no memory is left.
 abbrev pub ReadsIpSet : AddressFamily → List ℕ → Result (List Run) FromStrError → Type 0

@@ -160,7 +160,7 @@ impl IpBlocks {
         IpBlocks::from_owned(alloc, chain)
     }
 
-    /// Leaves the addresses of both sets. Where memory is wanting the set stays as it was.
+    /// Leaves the addresses of both sets. On an error the set stays as it was.
     pub fn intersection_assign(&mut self, alloc: Global, other: &IpBlocks) -> Result<(), AllocError>
         ensures ok { OnOk result (IsRunsOf (InBoth self.old other.now) self.new) }
         ensures err { OnErr result (self.new ≡ self.old) }
@@ -359,7 +359,7 @@ impl IpBlocksBuilder {
         }
     }
 
-    /// One block more. Where memory is wanting nothing is added.
+    /// One block more. On an error nothing is added.
     pub fn push(&mut self, block: IpBlock) -> Result<(), AllocError>
         ensures ok { OnOk result (self.new ≡ self.old ++ run_of_block block ∷ []) }
         ensures err { OnErr result (self.new ≡ self.old) }
@@ -368,7 +368,7 @@ impl IpBlocksBuilder {
         Ok(())
     }
 
-    /// All blocks of the other one more. Where memory is wanting nothing is added.
+    /// All blocks of the other one more. On an error nothing is added.
     pub(crate) fn append(&mut self, other: &IpBlocksBuilder) -> Result<(), AllocError>
         ensures ok { OnOk result (self.new ≡ self.old ++ other.now) }
         ensures err { OnErr result (self.new ≡ self.old) }

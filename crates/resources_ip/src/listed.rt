@@ -15,7 +15,7 @@ ghost use Rattle.resources_ip_block.specs.BlockText.{block_text, address_text};
 ghost use Rattle.resources_ip_block.specs.ReadTexts.{WritesBlock};
 ghost use Rattle.resources_ip.specs.Blocks.{blocks_left};
 ghost use Rattle.resources_ip.specs.Shown.{shown_family, shown_set};
-ghost use Rattle.resources_ip.specs.Texts.{IsIpSetText, IsNoPiece, ReadsIpSet, ip_set_text};
+ghost use Rattle.resources_ip.specs.Texts.{IsIpSetText, IsIpListText, IsNoIpSet, IsNoPiece, ReadsIpSet, ip_set_text};
 ghost use Rattle.resources_ip.specs.WholeSets.{AreWhole};
 ghost use Rattle.resources_ip.specs.Written.{FitsSet};
 
@@ -141,6 +141,18 @@ pub fn read_list(alloc: Global, family: AddressFamily, text: &str) -> Result<IpB
     check_blocks(family, text)?;
     let blocks = read_blocks(alloc, family, text)?;
     Ok(blocks.finalize(alloc)?)
+}
+
+/// Whether a text is that of a set of the family, and what is wrong with it else, as of `read_list`. No memory is taken, so
+/// `Memory` isn't answered.
+pub fn check_list(family: AddressFamily, text: &str) -> Result<(), FromStrError>
+    ensures { MatchResult result (λ _. IsIpListText family text.now) (IsNoIpSet family text.now) }
+{
+    if text.is_empty() {
+        Ok(())
+    } else {
+        check_blocks(family, text)
+    }
 }
 
 // Whether each piece of a text is a block of the family; what is wrong with the first that is none.

@@ -1,4 +1,5 @@
 pub mod Families
+pub mod Texts
 -- What stands below, for the crates above.
 pub use Rattle.resources_ip.specs.resources_chain as resources_chain
 pub use Rattle.resources_ip.specs as resources_ip

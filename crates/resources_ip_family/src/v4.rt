@@ -1,6 +1,6 @@
 //! IPv4 blocks and sets.
 
-ghost use Rattle.std.specs.Prelude.{◌≡◌, ◌↔◌, ◌<◌, ℕ, [], List, IsTrue, IfOk, MatchResult, map, ⊤};
+ghost use Rattle.std.specs.Prelude.{◌≡◌, ◌↔◌, ◌<◌, ℕ, [], List, IsTrue, IfOk, MatchResult, map, ⊤, Some};
 ghost use Rattle.std.specs.Cmp.{partial_equiv_from_equiv};
 ghost use Rattle.std.specs.Iterator.{IsFinite, DrainsIf};
 ghost use Rattle.resources_ip_family.specs.resources_chain.declared.choice.ResourcesChoice.TheVariants.{Blocks};
@@ -12,9 +12,12 @@ ghost use Rattle.resources_ip.specs.Blocks.{IsAddress};
 ghost use Rattle.resources_ip_family.specs.resources_ip_prefix.Whole.{IsWhole};
 ghost use Rattle.resources_ip_family.specs.resources_ip_prefix.declared.addr.AddressFamily.TheVariants.{Ipv4};
 ghost use Rattle.resources_ip.specs.WholeSets.{AreWhole, ListsWhole};
+ghost use Rattle.resources_ip_family.specs.resources_ip_prefix.Text.{v4_text};
+ghost use Rattle.resources_ip_family.specs.resources_ip_block.BlockText.{block_text};
+ghost use Rattle.resources_ip.specs.Texts.{IsIpSetText, IsIpListText, IsNoIpSet, ReadsIpSet, ip_set_text};
 ghost use Rattle.resources_ip.specs.Written.{FitsChoice};
 
-use resources_ip::listed::read_list;
+use resources_ip::listed::{check_list, read_list};
 use resources_ip::{
     Addr, AddressFamily, FromStrError, IpBlock, IpBlocks, IpBlocksBuilder, IpBlocksForFamily,
     IpResources,
@@ -80,7 +83,11 @@ impl From<Ipv4Block> for IpBlock {
 
 /// The block of a text `10.0.0.0/8` or `10.0.0.0-10.0.0.9`.
 impl FromStr for Ipv4Block {
+    ghost use Rattle.resources_ip_family.specs.Texts.{ReadsV4Block};
+
     type Err = FromStrError;
+
+    ghost from_str_gives = { ReadsV4Block };
 
     fn from_str(text: &str) -> Result<Self, FromStrError> {
         let block = IpBlock::from_v4_str(text)?;
@@ -88,7 +95,12 @@ impl FromStr for Ipv4Block {
     }
 }
 
+/// As a prefix where it is one, else as a range.
 impl fmt::Display for Ipv4Block {
+    ghost use Rattle.resources_ip_family.specs.Families.{run_of_v4};
+
+    ghost output = { λ b. Some (block_text v4_text (run_of_v4 b)) };
+
     fn fmt<W: fmt::Write>(&self, f: &mut fmt::Formatter<W>) -> fmt::Result {
         self.block.fmt_v4(f)
     }
@@ -161,12 +173,31 @@ impl Ipv4Blocks {
     }
 
     /// The set of a text: blocks with `,` or `, ` between them, in any order.
-    /// Of the empty text, and of no other, it has no addresses.
+    /// Of the empty text, and of no other, it has no addresses. It is refused as by `read_list`: `Memory` comes only of a
+    /// text without a fault.
     pub fn from_str(alloc: Global, text: &str) -> Result<Self, FromStrError>
         ensures none { IfOk result (λ s. ((n : ℕ) → ¬ (InRuns s n)) ↔ (text.now ≡ [])) }
+        ensures reads { ReadsIpSet Ipv4 text.now result }
     {
         let blocks = read_list(alloc, AddressFamily::Ipv4, text)?;
         Ok(Ipv4Blocks { blocks })
+    }
+
+    /// Whether a text is that of a set, and what is wrong with it else, as of `from_str`. No memory is taken, so `Memory`
+    /// isn't answered.
+    pub fn check_str(text: &str) -> Result<(), FromStrError>
+        ensures { MatchResult result (λ _. IsIpListText Ipv4 text.now) (IsNoIpSet Ipv4 text.now) }
+    {
+        check_list(AddressFamily::Ipv4, text)
+    }
+
+    /// What is printed of the set is read as the same set. This is a law about the set: nothing is done.
+    pub fn text_is_read(&self)
+        ensures { IsIpSetText Ipv4 (ip_set_text Ipv4 self.now) self.now }
+    {
+        let blocks = self.as_blocks();
+        blocks.runs_are_maximal();
+        blocks.text_is_read();
     }
 
     /// The set, as one of either family.
@@ -223,7 +254,10 @@ impl Eq for Ipv4Blocks {
     ghost laws = { runs_eq_equiv };
 }
 
+/// The blocks, ascending, with `, ` between them.
 impl fmt::Display for Ipv4Blocks {
+    ghost output = { λ set. Some (ip_set_text Ipv4 set) };
+
     fn fmt<W: fmt::Write>(&self, f: &mut fmt::Formatter<W>) -> fmt::Result {
         IpBlocksForFamily::v4(&self.blocks).fmt(f)
     }

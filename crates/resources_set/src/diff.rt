@@ -1,9 +1,16 @@
 //! What sets of resources differ in.
 
-ghost use Rattle.std.specs.Prelude.{◌≡◌, ◌↔◌, IsTrue};
+ghost use Rattle.std.specs.Prelude.{◌≡◌, ◌↔◌, IsTrue, Some, codes};
+ghost use Rattle.std.specs.Fmt.{DisplaysOnOk};
+ghost use Rattle.resources_set.specs.resources_ip_prefix.declared.addr.AddressFamily.TheVariants.{Ipv4, Ipv6};
+ghost use Rattle.resources_set.specs.resources_as.Texts.{as_set_text};
+ghost use Rattle.resources_set.specs.resources_ip.Texts.{ip_set_text};
 ghost use Rattle.resources_set.specs.Resources.{HasNone};
+ghost use Rattle.resources_set.specs.Texts.{changes_text, kind_text, kinds_text, no_runs};
 
 use crate::set::ResourceSet;
+use resources_as::AsBlocks;
+use resources_ip_family::{Ipv4Blocks, Ipv6Blocks};
 use std::fmt;
 use std::marker::Model;
 
@@ -37,7 +44,7 @@ impl ResourceDiff {
         &self.added
     }
 
-    /// What is lacking.
+    /// What there is no more.
     pub fn removed(&self) -> &ResourceSet
         ensures { result.now ≡ self.now.removed }
     {
@@ -61,37 +68,84 @@ fn are_both(added: bool, removed: bool) -> bool
     matches!((added, removed), (true, true))
 }
 
-// The kinds of which there are some, each after its name.
-fn write_kinds<W: fmt::Write>(set: &ResourceSet, f: &mut fmt::Formatter<W>) -> fmt::Result {
-    if !set.asn().is_empty() {
-        write!(f, " asn: {}", set.asn())?;
+// The AS numbers after their name, where there are some.
+fn write_asn<W: fmt::Write>(asn: &AsBlocks, f: &mut fmt::Formatter<W>) -> fmt::Result
+    ensures { DisplaysOnOk W.Write.write_str_gives f.old result
+        (Some (kind_text (codes " asn: ") as_set_text asn.now)) f.new }
+{
+    asn.runs_are_maximal();
+    if asn.is_empty() {
+        return Ok(());
     }
-    if !set.ipv4().as_blocks().is_empty() {
-        write!(f, " ipv4: {}", set.ipv4())?;
-    }
-    if !set.ipv6().as_blocks().is_empty() {
-        write!(f, " ipv6: {}", set.ipv6())?;
-    }
-    Ok(())
+    write!(f, " asn: {asn}")
 }
 
-/// `Added: asn: .. Removed: ipv4: ..`, with the kinds of which there are some.
-impl fmt::Display for ResourceDiff {
-    fn fmt<W: fmt::Write>(&self, f: &mut fmt::Formatter<W>) -> fmt::Result {
-        if self.is_empty() {
-            return f.write_str("<no changes in resources>");
-        }
-        if !self.added.is_empty() {
-            f.write_str("Added:")?;
-            write_kinds(&self.added, f)?;
-        }
-        if !self.removed.is_empty() {
-            if !self.added.is_empty() {
-                f.write_str(" ")?;
-            }
-            f.write_str("Removed:")?;
-            write_kinds(&self.removed, f)?;
-        }
-        Ok(())
+// The IPv4 addresses after their name, where there are some.
+fn write_ipv4<W: fmt::Write>(ipv4: &Ipv4Blocks, f: &mut fmt::Formatter<W>) -> fmt::Result
+    ensures { DisplaysOnOk W.Write.write_str_gives f.old result
+        (Some (kind_text (codes " ipv4: ") (ip_set_text Ipv4) ipv4.now)) f.new }
+{
+    let blocks = ipv4.as_blocks();
+    blocks.runs_are_maximal();
+    if blocks.is_empty() {
+        return Ok(());
     }
+    write!(f, " ipv4: {ipv4}")
+}
+
+// The IPv6 addresses after their name, where there are some.
+fn write_ipv6<W: fmt::Write>(ipv6: &Ipv6Blocks, f: &mut fmt::Formatter<W>) -> fmt::Result
+    ensures { DisplaysOnOk W.Write.write_str_gives f.old result
+        (Some (kind_text (codes " ipv6: ") (ip_set_text Ipv6) ipv6.now)) f.new }
+{
+    let blocks = ipv6.as_blocks();
+    blocks.runs_are_maximal();
+    if blocks.is_empty() {
+        return Ok(());
+    }
+    write!(f, " ipv6: {ipv6}")
+}
+
+// The kinds of which there are some, each after its name.
+fn write_kinds<W: fmt::Write>(set: &ResourceSet, f: &mut fmt::Formatter<W>) -> fmt::Result
+    ensures { DisplaysOnOk W.Write.write_str_gives f.old result (Some (kinds_text set.now)) f.new }
+{
+    write_asn(set.asn(), f)?;
+    write_ipv4(set.ipv4(), f)?;
+    write_ipv6(set.ipv6(), f)
+}
+
+/// `Added: asn: .. Removed: ipv4: ..`, with the kinds of which there are some, or `<no changes in resources>`.
+impl fmt::Display for ResourceDiff {
+    ghost output = { λ diff. Some (changes_text diff) };
+
+    fn fmt<W: fmt::Write>(&self, f: &mut fmt::Formatter<W>) -> fmt::Result {
+        match (has_no_runs(&self.added), has_no_runs(&self.removed)) {
+            (true, true) => f.write_str("<no changes in resources>"),
+            (true, false) => {
+                f.write_str("Removed:")?;
+                write_kinds(&self.removed, f)
+            }
+            (false, true) => {
+                f.write_str("Added:")?;
+                write_kinds(&self.added, f)
+            }
+            (false, false) => {
+                f.write_str("Added:")?;
+                write_kinds(&self.added, f)?;
+                f.write_str(" Removed:")?;
+                write_kinds(&self.removed, f)
+            }
+        }
+    }
+}
+
+// Whether no kind has a run.
+fn has_no_runs(set: &ResourceSet) -> bool
+    ensures { result ≡ no_runs set.now }
+{
+    set.asn().runs_are_maximal();
+    set.ipv4().as_blocks().runs_are_maximal();
+    set.ipv6().as_blocks().runs_are_maximal();
+    set.is_empty()
 }

@@ -1,7 +1,5 @@
 //! Why there is no set of resources.
 
-ghost use Rattle.std.specs.Prelude.{◌≡◌};
-
 use resources_as::InheritedAsResources;
 use resources_ip_family::InheritedIpResources;
 use std::alloc::AllocError;
@@ -22,32 +20,6 @@ pub enum FromStrError {
     /// A growth of memory was refused.
     #[error("out of memory")]
     Memory,
-}
-
-impl FromStrError {
-    // Why a text is no set of AS numbers.
-    pub(crate) fn of_asn(error: resources_as::FromStrError) -> Self {
-        match error {
-            resources_as::FromStrError::Memory => FromStrError::Memory,
-            error => FromStrError::Asn(error),
-        }
-    }
-
-    // Why a text is no set of IPv4 addresses.
-    pub(crate) fn of_ipv4(error: resources_ip_family::FromStrError) -> Self {
-        match error {
-            resources_ip_family::FromStrError::Memory => FromStrError::Memory,
-            error => FromStrError::Ipv4(error),
-        }
-    }
-
-    // Why a text is no set of IPv6 addresses.
-    pub(crate) fn of_ipv6(error: resources_ip_family::FromStrError) -> Self {
-        match error {
-            resources_ip_family::FromStrError::Memory => FromStrError::Memory,
-            error => FromStrError::Ipv6(error),
-        }
-    }
 }
 
 /// Why the resources of a certificate have no set of their own.

@@ -1,6 +1,6 @@
 //! Sets of resources of all three kinds.
 
-ghost use Rattle.std.specs.Prelude.{◌≡◌, ℕ, [], ◌≤◌, ◌↔◌, ◌⊎◌, ◌==◌, ◌&&◌, IsTrue, IsErrOf, IfOk};
+ghost use Rattle.std.specs.Prelude.{◌≡◌, ◌≢◌, ℕ, [], ◌≤◌, ◌↔◌, ◌⊎◌, ◌==◌, ◌&&◌, IsTrue, IsErrOf, IfOk, MatchResult};
 ghost use Rattle.std.proofs.Common.{rules};
 ghost use Rattle.resources_set.specs.resources_chain.Sets.{IsRunsOf, InEither, InBoth, InFirstOnly};
 ghost use Rattle.resources_set.specs.resources_chain.Claims.{HasMaximal, Lists};
@@ -8,7 +8,11 @@ ghost use Rattle.resources_set.specs.resources_chain.declared.choice.ResourcesCh
 ghost use Rattle.resources_set.specs.resources_ip_prefix.declared.addr.AddressFamily.TheVariants.{Ipv4, Ipv6};
 ghost use Rattle.resources_set.specs.resources_ip.Blocks.{IsAddress};
 ghost use Rattle.resources_set.specs.resources_ip.Written.{FitsChoice};
+ghost use Rattle.resources_set.specs.resources_as.Texts.{as_set_text};
+ghost use Rattle.resources_set.specs.resources_ip.Texts.{ip_set_text};
 ghost use Rattle.resources_set.specs.Resources.{Resources, AreRunsOf, Combines, HasNone, IsNone, AreInside, HaveSame, AreChanges, SomeInherit, ListsWhole};
+ghost use Rattle.resources_set.specs.Texts.{AreTextsOf, AreListTexts, ReadsTexts, RefusesTexts};
+ghost use Rattle.resources_set.specs.declared.error.FromStrError.TheVariants.{Memory};
 
 use crate::diff::ResourceDiff;
 use crate::error::{FromStrError, InheritError};
@@ -46,16 +50,26 @@ impl ResourceSet {
     }
 
     /// The set of three texts, each of blocks with `,` or `, ` between them, in any order. It has none of a kind exactly
-    /// where that kind's text is empty.
+    /// where that kind's text is empty. The first faulty text says what is wrong; `Memory` comes only where none is faulty.
     pub fn from_strs(alloc: Global, asn: &str, ipv4: &str, ipv6: &str) -> Result<Self, FromStrError>
         ensures no_asn { IfOk result (λ set. IsNone set.asn ↔ (asn.now ≡ [])) }
         ensures no_ipv4 { IfOk result (λ set. IsNone set.ipv4 ↔ (ipv4.now ≡ [])) }
         ensures no_ipv6 { IfOk result (λ set. IsNone set.ipv6 ↔ (ipv6.now ≡ [])) }
+        ensures reads { ReadsTexts asn.now ipv4.now ipv6.now result }
     {
-        let asn = AsBlocks::from_str(alloc, asn).map_err(|error| FromStrError::of_asn(error))?;
-        let ipv4 = Ipv4Blocks::from_str(alloc, ipv4).map_err(|error| FromStrError::of_ipv4(error))?;
-        let ipv6 = Ipv6Blocks::from_str(alloc, ipv6).map_err(|error| FromStrError::of_ipv6(error))?;
-        Ok(ResourceSet { asn, ipv4, ipv6 })
+        check_texts(asn, ipv4, ipv6)?;
+        read_texts(alloc, asn, ipv4, ipv6)
+    }
+
+    /// The three texts that are printed of the set are read as the same set. This is a law about the set: nothing is
+    /// done.
+    pub fn text_is_read(&self)
+        ensures { AreTextsOf (as_set_text self.now.asn) (ip_set_text Ipv4 self.now.ipv4)
+            (ip_set_text Ipv6 self.now.ipv6) self.now }
+    {
+        self.asn.text_is_read();
+        self.ipv4.text_is_read();
+        self.ipv6.text_is_read();
     }
 
     /// The set that the resources of a certificate list; none of a kind that is missing. The IPv4 resources are over
@@ -241,6 +255,37 @@ impl ResourceSet {
     }
 }
 
+// Whether the three texts are those of a set, in their order; no memory is taken.
+fn check_texts(asn: &str, ipv4: &str, ipv6: &str) -> Result<(), FromStrError>
+    ensures { MatchResult result (λ _. AreListTexts asn.now ipv4.now ipv6.now)
+        (λ e. RefusesTexts asn.now ipv4.now ipv6.now e × (e ≢ Memory)) }
+{
+    AsBlocks::check_str(asn).map_err(FromStrError::Asn)?;
+    Ipv4Blocks::check_str(ipv4).map_err(FromStrError::Ipv4)?;
+    Ipv6Blocks::check_str(ipv6).map_err(FromStrError::Ipv6)?;
+    Ok(())
+}
+
+// The set of three texts without a fault: no other refusal than that of memory is left.
+fn read_texts(alloc: Global, asn: &str, ipv4: &str, ipv6: &str) -> Result<ResourceSet, FromStrError>
+    requires { AreListTexts asn.now ipv4.now ipv6.now }
+    ensures no_asn { IfOk result (λ set. IsNone set.asn ↔ (asn.now ≡ [])) }
+    ensures no_ipv4 { IfOk result (λ set. IsNone set.ipv4 ↔ (ipv4.now ≡ [])) }
+    ensures no_ipv6 { IfOk result (λ set. IsNone set.ipv6 ↔ (ipv6.now ≡ [])) }
+    ensures reads { ReadsTexts asn.now ipv4.now ipv6.now result }
+{
+    let Ok(asn) = AsBlocks::from_str(alloc, asn) else {
+        return Err(FromStrError::Memory);
+    };
+    let Ok(ipv4) = Ipv4Blocks::from_str(alloc, ipv4) else {
+        return Err(FromStrError::Memory);
+    };
+    let Ok(ipv6) = Ipv6Blocks::from_str(alloc, ipv6) else {
+        return Err(FromStrError::Memory);
+    };
+    Ok(ResourceSet { asn, ipv4, ipv6 })
+}
+
 // Whether it is so of each kind.
 pub(crate) fn are_all(asn: bool, ipv4: bool, ipv6: bool) -> bool
     ensures { IsTrue result ↔ (IsTrue asn × IsTrue ipv4 × IsTrue ipv6) }
@@ -297,6 +342,11 @@ impl Eq for ResourceSet {
 
 /// `asn: '..', ipv4: '..', ipv6: '..'`.
 impl fmt::Display for ResourceSet {
+    ghost use Rattle.std.specs.Prelude.{Some};
+    ghost use Rattle.resources_set.specs.Texts.{resources_text};
+
+    ghost output = { λ set. Some (resources_text set) };
+
     fn fmt<W: fmt::Write>(&self, f: &mut fmt::Formatter<W>) -> fmt::Result {
         write!(
             f,

@@ -92,7 +92,7 @@ fn push_as(alloc: Global, builder: &mut AsResourcesBuilder, text: &str) -> Resul
     Ok(())
 }
 
-// What a builder is told by a word: `inherit`, `refused` for blocks that are given up, or a block.
+// What a builder takes of a word: `inherit`, `refused` for blocks that are given up, or a block.
 fn tell_as_builder(alloc: Global, builder: &mut AsResourcesBuilder, word: &str) -> Result<()> {
     match word {
         "inherit" => builder.inherit(),
@@ -102,7 +102,7 @@ fn tell_as_builder(alloc: Global, builder: &mut AsResourcesBuilder, word: &str) 
     Ok(())
 }
 
-// The AS resources that a builder makes of the words behind the first.
+// The AS resources that a builder makes of the words after the first.
 fn build_as(alloc: Global, words: &[&str]) -> Result<AsResources> {
     let mut builder = AsResourcesBuilder::new();
     for word in words.iter().skip(1) {
@@ -126,7 +126,7 @@ fn push_ip(alloc: Global, builder: &mut IpResourcesBuilder, text: &str) -> Resul
     Ok(())
 }
 
-// What a builder is told by a word: `inherit`, `refused` for blocks that are given up, or a block.
+// What a builder takes of a word: `inherit`, `refused` for blocks that are given up, or a block.
 fn tell_ip_builder(alloc: Global, builder: &mut IpResourcesBuilder, word: &str) -> Result<()> {
     match word {
         "inherit" => builder.inherit(),
@@ -136,7 +136,7 @@ fn tell_ip_builder(alloc: Global, builder: &mut IpResourcesBuilder, word: &str) 
     Ok(())
 }
 
-// The IP resources that a builder makes of the words behind the first.
+// The IP resources that a builder makes of the words after the first.
 fn build_ip(alloc: Global, words: &[&str]) -> Result<IpResources> {
     let mut builder = IpResourcesBuilder::new();
     for word in words.iter().skip(1) {
@@ -245,7 +245,7 @@ fn ends(alloc: Global, answer: &mut Answer) -> Result<()> {
     none(alloc, answer)
 }
 
-// What builders make that were told nothing.
+// What builders make of nothing.
 fn untold(alloc: Global, answer: &mut Answer) -> Result<()> {
     let resources = AsResourcesBuilder::default().finalize(alloc)?;
     answer.say(&resources.is_missing());

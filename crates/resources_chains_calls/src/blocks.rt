@@ -32,7 +32,7 @@ fn given(answer: &mut Answer, block: AsBlock) {
     }
 }
 
-// The numbers before and behind a block, as any type of blocks tells them.
+// The numbers before and after a block, by the calls of any type of blocks.
 fn beside<B: Block<Item = Asn>>(answer: &mut Answer, block: &B) {
     let bounds = block.bounds();
     answer.say_some(&B::previous(*bounds.start()));

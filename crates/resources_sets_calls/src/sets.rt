@@ -8,6 +8,7 @@ use resources::ipres::{IpResources, Ipv4Blocks, Ipv6Blocks};
 use resources::overclaim::{Overclaim, OverclaimIds};
 use resources::set::{FromStrError, InheritError, ResourceSet};
 use std::alloc::Global;
+use std::fmt;
 
 // Three sets as one.
 fn new(alloc: Global, words: [&str; 3]) -> Result<ResourceSet> {
@@ -46,7 +47,7 @@ fn families(answer: &mut Answer, set: &ResourceSet) -> Result<()> {
     Ok(())
 }
 
-// The set of the three sets of texts, and what is told of it.
+// The set of the three sets of texts, and what is known of it.
 fn made(alloc: Global, answer: &mut Answer, words: [&str; 3]) -> Result<()> {
     let set = new(alloc, words)?;
     answer.say(&set);
@@ -99,6 +100,33 @@ fn read(alloc: Global, answer: &mut Answer, words: [&str; 3]) {
     answer.say_or(&ResourceSet::from_strs(alloc, asn, ipv4, ipv6));
 }
 
+// Whether a text is that of a set, or what is wrong with it.
+fn tell_good<E: fmt::Display>(answer: &mut Answer, checked: &Result<(), E>) {
+    match checked {
+        Ok(()) => answer.say(&"good;"),
+        Err(error) => answer.say(&format_args!("{error};")),
+    }
+}
+
+// Whether each of three texts is that of a set of its kind.
+fn checked(answer: &mut Answer, words: [&str; 3]) {
+    let [asn, ipv4, ipv6] = words;
+    tell_good(answer, &AsBlocks::check_str(asn));
+    tell_good(answer, &Ipv4Blocks::check_str(ipv4));
+    tell_good(answer, &Ipv6Blocks::check_str(ipv6));
+}
+
+// Whether the set of three texts is read again from those that are printed of its kinds.
+fn again(alloc: Global, answer: &mut Answer, words: [&str; 3]) -> Result<()> {
+    let set = new(alloc, words)?;
+    let asn = set.asn().to_string(alloc)?;
+    let ipv4 = set.ipv4().to_string(alloc)?;
+    let ipv6 = set.ipv6().to_string(alloc)?;
+    let read = ResourceSet::from_strs(alloc, asn.as_str(), ipv4.as_str(), ipv6.as_str())?;
+    answer.say(&(read == set));
+    Ok(())
+}
+
 // The texts of refusals.
 fn texts(answer: &mut Answer) {
     answer.say(&format_args!("{};", FromStrError::Memory));
@@ -106,7 +134,7 @@ fn texts(answer: &mut Answer) {
     answer.say(&format_args!("{};", InheritError::Memory));
 }
 
-// Whether an identifier is told as that of a policy, by each of the three tables.
+// Whether an identifier is that of a policy, by each of the three tables.
 fn table(answer: &mut Answer, id: &ConstOid) {
     let trim = Some(Overclaim::Trim);
     answer.say(&(Overclaim::from_policy(id) == trim));
@@ -133,6 +161,8 @@ pub fn answer(alloc: Global, answer: &mut Answer, words: &[&str]) -> Result<()> 
         "refuse" => tables(answer, Overclaim::Refuse),
         "trim" => tables(answer, Overclaim::Trim),
         "read" => read(alloc, answer, three),
+        "check" => checked(answer, three),
+        "again" => return again(alloc, answer, three),
         "made" => return made(alloc, answer, three),
         _ => return unknown(),
     }
