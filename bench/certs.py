@@ -59,19 +59,6 @@ def build(folder):
     return os.path.join(crate, "out", NAME)
 
 
-def build_rust(folder, packages):
-    """Builds the walk in Rust over Debian's crates; its path."""
-    registry = os.path.join(os.path.abspath(packages), "usr", "share", "cargo", "registry")
-    found = {name.rsplit("-", 1)[0]: name for name in os.listdir(registry)}
-    crate = os.path.join(folder, "rust")
-    os.makedirs(os.path.join(crate, "src"), exist_ok=True)
-    content.write(os.path.join(crate, "Cargo.toml"), content.CARGO.format(registry=registry, **found))
-    with open(os.path.join(BENCH, "certs.rs.in")) as source:
-        content.write(os.path.join(crate, "src", "main.rs"), source.read())
-    content.run(["cargo", "build", "--release", "--offline"], crate)
-    return os.path.join(crate, "target", "release", content.NAME)
-
-
 def run_once(program, octets):
     """The seconds, and the count and octets that were told."""
     told = subprocess.run([program], input=octets, capture_output=True, check=True).stdout.split()
@@ -92,7 +79,7 @@ def bench(folder, packages):
     """Makes, builds and measures; how many targets were missed or answers wrong."""
     programs = [build(folder)]
     if packages is not None:
-        programs.append(build_rust(folder, packages))
+        programs.append(content.build_rust(folder, packages, "certs.rs.in"))
     print(HEAD)
     failures, before = 0, None
     for count in SIZES:

@@ -98,14 +98,14 @@ def build(folder):
     return os.path.join(crate, "out", NAME)
 
 
-def build_rust(folder, packages):
-    """Builds the same program in Rust over Debian's crates; its path."""
+def build_rust(folder, packages, source="content.rs.in"):
+    """Builds a program in Rust over Debian's crates; its path."""
     registry = os.path.join(os.path.abspath(packages), "usr", "share", "cargo", "registry")
     found = {name.rsplit("-", 1)[0]: name for name in os.listdir(registry)}
     crate = os.path.join(folder, "rust")
     os.makedirs(os.path.join(crate, "src"), exist_ok=True)
     write(os.path.join(crate, "Cargo.toml"), CARGO.format(registry=registry, **found))
-    shutil.copy(os.path.join(BENCH, "content.rs.in"), os.path.join(crate, "src", "main.rs"))
+    shutil.copy(os.path.join(BENCH, source), os.path.join(crate, "src", "main.rs"))
     run(["cargo", "build", "--release", "--offline"], crate)
     return os.path.join(crate, "target", "release", NAME)
 

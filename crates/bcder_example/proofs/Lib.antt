@@ -1,3 +1,5 @@
+mod AttributeLaws
+mod AttributeTexts
 mod ExtensionOnes
 mod SlotLaws
 pub mod of_bcder_bits

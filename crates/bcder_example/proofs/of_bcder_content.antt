@@ -14,3 +14,4 @@ pub use Rattle.bcder.proofs.of_bcder_content.Tagged
 pub use Rattle.bcder.proofs.of_bcder_content.Taking
 pub use Rattle.bcder.proofs.of_bcder_content.Took
 pub use Rattle.bcder.proofs.of_bcder_content.Unique
+pub use Rattle.bcder.proofs.of_bcder_content.Within

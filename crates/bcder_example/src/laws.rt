@@ -2,10 +2,12 @@
 
 ghost use Rattle.std.specs.Prelude.{ℕ, List};
 ghost use Rattle.bcder_example.specs.bcder_tree.declared.mode.Mode.{Mode as ModeValue};
-ghost use Rattle.bcder_example.specs.bcder_content.Grammar.{End, One, Then};
+ghost use Rattle.bcder_example.specs.bcder_tree.Tags.{set_tag};
+ghost use Rattle.bcder_example.specs.bcder_content.Grammar.{End, Inside, One, Then};
 ghost use Rattle.bcder_example.specs.bcder_values.Returns.{ReadAgain};
 ghost use Rattle.bcder_example.specs.declared.notice.Notice.{Notice};
 ghost use Rattle.bcder_example.specs.Notices.{notice, notice_fields};
+ghost use Rattle.bcder_example.specs.Attributes.{AreAttributes, AttributesValue, WritesAttributes};
 ghost use Rattle.bcder_example.specs.Signed.{signed, signed_fields};
 ghost use Rattle.bcder_example.specs.declared.signed.Signed.{Signed};
 
@@ -30,4 +32,15 @@ pub fn what_is_signed_is_read()
         → signed.writes (signed_fields s) m text
         → ReadAgain m (λ ts. Then (signed.reads m) End ts (signed.again m (signed_fields s), tt))
         text }
+{}
+
+/// A value is one set of attributes at most, whatever their order.
+pub fn attributes_one_meaning()
+    ensures { (m : ModeValue) → One (Inside set_tag (AreAttributes m)) }
+{}
+
+/// What is written of a name and a note is read again as these, in each mode.
+pub fn attributes_are_read_again()
+    ensures { (a : AttributesValue) (m : ModeValue) (text : List ℕ) → WritesAttributes a m text
+        → ReadAgain m (λ ts. Then (Inside set_tag (AreAttributes m)) End ts (a, tt)) text }
 {}
