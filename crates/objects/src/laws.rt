@@ -3,6 +3,7 @@
 //! | Module | Has |
 //! |---|---|
 //! | [`aspa`] | contents of provider attestations |
+//! | [`attested`] | provider attestations that are written or signed are read again |
 //! | [`built`] | signed objects that are built are read again, and are sound |
 //! | [`frame`] | what is written around a content is read again |
 //! | [`issued`] | manifests and route origin attestations that are signed are read again |
@@ -11,6 +12,7 @@
 //! | [`written`] | contents that are written are read again |
 
 pub use objects_aspa::laws as aspa;
+pub use objects_attested::laws as attested;
 pub use objects_built::laws as built;
 pub use objects_frame::laws as frame;
 pub use objects_issued::laws as issued;

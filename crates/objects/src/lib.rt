@@ -11,7 +11,7 @@
 //! | [`sigobj`] | signed objects of any kind, and what a signer signs |
 //! | [`manifest`] | manifests, their files and hashes |
 //! | [`roa`] | route origin attestations, their addresses and builders |
-//! | [`aspa`] | provider attestations |
+//! | [`aspa`] | provider attestations, and their builder |
 //! | [`tal`] | trust anchor locators |
 //! | [`laws`] | what follows for objects and contents, as functions that do nothing |
 //!

@@ -1,2 +1,3 @@
 pub mod ManifestAgain
+pub mod OfFamily
 pub mod RoaAgain

@@ -5,19 +5,18 @@ ghost use Rattle.objects_issued.specs.bcder_tree.declared.mode.Mode.TheVariants.
 ghost use Rattle.objects_issued.specs.certs_key.Digesting.{digests_of};
 ghost use Rattle.objects_issued.specs.objects_forms.Roas.{Roa};
 ghost use Rattle.objects_issued.specs.objects_written.Roas.{roa};
-ghost use Rattle.objects_issued.specs.resources_chain.Sets.{InRuns, IsRunsOf};
 ghost use Rattle.objects_issued.specs.resources_chain.declared.choice.ResourcesChoice.TheVariants.{Missing};
 ghost use Rattle.objects_issued.specs.resources_ip_prefix.declared.addr.AddressFamily.TheVariants.{Ipv4, Ipv6};
 ghost use Rattle.objects_roa.specs.Addresses.{AllOf};
-ghost use Rattle.objects_issued.specs.Issued.{AreResourcesOf, Attests, IsRoaFor, runs_of};
+ghost use Rattle.objects_issued.specs.Issued.{Attests, IsRoaFor};
 
+use crate::addresses::resources_of;
 use certs_extension::{AsResources, IpResources};
 use certs_key::encode::EncodeError;
 use certs_key::{Captured, Digester, Signer, SigningError};
 use objects_built::SignedObjectBuilder;
-use objects_roa::{RoaBuilder, RoaIpAddresses, RouteOriginAttestation};
+use objects_roa::{RoaBuilder, RouteOriginAttestation};
 use objects_written::EncodeRoa;
-use resources_ip::{IpBlock, IpBlocks, IpBlocksBuilder};
 use std::alloc::{AllocError, Global};
 
 // id-ct-routeOriginAuthz, 1.2.840.113549.1.9.16.1.24 (RFC 9582 3).
@@ -35,28 +34,6 @@ fn content_of<E>(
         Err(EncodeError::Memory) => Err(SigningError::Memory),
         Err(_) => Err(SigningError::TooLong),
     }
-}
-
-// The set of all addresses that begin with one of these prefixes.
-fn blocks_of(alloc: Global, addresses: &RoaIpAddresses) -> Result<IpBlocks, AllocError>
-    ensures { IfOk result (IsRunsOf (InRuns (runs_of addresses.now))) }
-{
-    let mut blocks = IpBlocksBuilder::new(alloc);
-    for address in addresses.iter() {
-        blocks.push(IpBlock::Prefix(address.prefix()))?;
-    }
-    blocks.finalize(alloc)
-}
-
-// These prefixes, as resources; none where there are none.
-fn resources_of(alloc: Global, addresses: &RoaIpAddresses) -> Result<IpResources, AllocError>
-    ensures { IfOk result (AreResourcesOf addresses.now) }
-{
-    if addresses.is_empty() {
-        return Ok(IpResources::missing());
-    }
-    let blocks = blocks_of(alloc, addresses)?;
-    Ok(IpResources::blocks(blocks))
 }
 
 // The builder's fields with these addresses, and without AS resources.

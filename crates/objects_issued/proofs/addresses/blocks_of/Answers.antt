@@ -1,7 +1,7 @@
 use Rattle.std.proofs.Common.{IfOk, List, subst}
 use Rattle.objects_issued.specs.resources_chain.Sets.{InRuns, IsRunsOf, Run}
 use Rattle.objects_issued.proofs.RoaAgain.{pushed_all, pushed_more}
-use Rattle.objects_issued.proofs.roas.blocks_of.Goals as goal
+use Rattle.objects_issued.proofs.addresses.blocks_of.Goals as goal
 
 pub loop-address-preserved : goal.loop-address-preserved
 loop-address-preserved c = pushed_more _ _ _ _ _ _ c.prefix.result c.loop-address.invariant c.in-Some.ensures.steps c.prefix.ensures c.in_ok-push.ensures.ok

@@ -1,0 +1,4 @@
+pub mod Sorting
+pub mod Adding
+pub mod AspaAgain
+pub mod SignedAgain

@@ -1,0 +1,160 @@
+//! The content of a provider attestation that is put together (draft-ietf-sidrops-aspa-profile 3).
+
+ghost use Rattle.std.specs.Prelude.{◌≡◌, ◌⊎◌, ◌↔◌, [], IfErr, IfOk, IsTrue, OnErr, OnOk, length};
+ghost use Rattle.std.specs.Result.{IsErrAnd};
+ghost use Rattle.objects_aspa.specs.Resources.{ListsAlone};
+ghost use Rattle.objects_attested.specs.objects_forms.Aspas.{IsLawful};
+ghost use Rattle.objects_attested.specs.resources_asn.Chosen.{values};
+ghost use Rattle.objects_attested.specs.resources_asn.Listed.{InList, IsAscending, IsListOf};
+ghost use Rattle.objects_attested.specs.Providers.{AreDistinct, IsDuplicate, IsZeroAlone};
+
+use crate::error::{DuplicateProviderAs, ProviderError};
+use certs_extension::{AsBlock, AsBlocksBuilder, AsResources};
+use resources_asn::Asn;
+use std::alloc::{AllocError, Global};
+use std::marker::Model;
+
+// At most so many providers are attested.
+const MAX_PROVIDERS: usize = 10_000;
+
+/// A provider attestation that is put together: a customer and its providers, each once, in ascending order. Contracts see
+/// the attestation.
+#[derive(Debug, Drop)]
+pub struct AspaBuilder {
+    pub(crate) customer_as: Asn,
+    pub(crate) providers: Vec<Asn>,
+}
+
+impl Model for AspaBuilder {
+    ghost use Rattle.objects_attested.specs.objects_forms.Aspas.{Aspa};
+    ghost use Rattle.objects_attested.specs.resources_asn.Chosen.{values};
+    ghost use Rattle.objects_attested.specs.resources_asn.Listed.{IsAscending};
+
+    ghost Value = { Aspa };
+
+    ghost view = { λ b. record {
+      customer = b.customer_as.value;
+      providers = values b.providers.items;
+    } };
+
+    ghost invariant = { λ b. IsAscending (values b.providers.items) };
+}
+
+// AS numbers in ascending order, each once. It is as many as before just where none stood twice.
+fn sorted(alloc: Global, asns: &[Asn]) -> Result<Vec<Asn>, AllocError>
+    ensures sorted { IfOk result (λ v. IsListOf (InList (values asns.now)) (values v.items)) }
+    ensures distinct { IfOk result
+        (λ v. (length v.items ≡ length asns.now) ↔ AreDistinct asns.now) }
+{
+    let mut sorted = Vec::from_slice(alloc, asns)?;
+    sorted.sort_unstable();
+    sorted.dedup();
+    Ok(sorted)
+}
+
+// Whether AS 0 isn't there with others.
+fn is_zero_alone(providers: &[Asn]) -> bool
+    requires { IsAscending (values providers.now) }
+    ensures { IsTrue result ↔ IsZeroAlone (values providers.now) }
+{
+    if providers.len() < 2 {
+        return true;
+    }
+    providers[0].into_u32() != 0
+}
+
+// Whether an AS number is there.
+fn has(providers: &[Asn], asn: Asn) -> bool
+    requires { IsAscending (values providers.now) }
+    ensures { IsTrue result ↔ InList (values providers.now) asn.value }
+{
+    providers.binary_search(&asn).is_ok()
+}
+
+impl AspaBuilder {
+    /// A customer without providers.
+    pub fn empty(alloc: Global, customer_as: Asn) -> Self
+        ensures { result ≡ record { customer = customer_as.value; providers = [] } }
+    {
+        AspaBuilder {
+            customer_as,
+            providers: Vec::new(alloc),
+        }
+    }
+
+    /// A customer with these providers, in any order. It is `Duplicate` where one stands twice; the AS numbers are copied
+    /// first, so `Memory` may come before that is known.
+    pub fn new(alloc: Global, customer_as: Asn, providers: &[Asn]) -> Result<Self, ProviderError>
+        ensures customer { IfOk result (λ b. b.customer ≡ customer_as.value) }
+        ensures providers { IfOk result
+            (λ b. IsListOf (InList (values providers.now)) b.providers) }
+        ensures distinct { OnOk result (AreDistinct providers.now) }
+        ensures duplicate { IfErr result (λ e. IsDuplicate e → ¬ (AreDistinct providers.now)) }
+    {
+        let sorted = sorted(alloc, providers)?;
+        if sorted.len() != providers.len() {
+            drop(sorted);
+            return Err(ProviderError::Duplicate(DuplicateProviderAs));
+        }
+        Ok(AspaBuilder {
+            customer_as,
+            providers: sorted,
+        })
+    }
+
+    /// One provider more. It is `Duplicate` just where it is there already; where it is refused nothing changes.
+    pub fn add_provider(&mut self, provider: Asn) -> Result<(), ProviderError>
+        ensures customer { self.new.customer ≡ self.old.customer }
+        ensures added { OnOk result (IsListOf
+            (λ n. (n ≡ provider.value) ⊎ InList self.old.providers n) self.new.providers) }
+        ensures duplicate { IsErrAnd result IsDuplicate
+            ↔ InList self.old.providers provider.value }
+        ensures err { OnErr result (self.new ≡ self.old) }
+    {
+        match self.providers.binary_search(&provider) {
+            Ok(_) => Err(ProviderError::Duplicate(DuplicateProviderAs)),
+            Err(place) => {
+                self.providers.insert(place, provider)?;
+                Ok(())
+            }
+        }
+    }
+
+    /// The customer.
+    pub fn customer_as(&self) -> Asn
+        ensures { result.value ≡ self.now.customer }
+    {
+        self.customer_as
+    }
+
+    /// The providers, in ascending order.
+    pub fn providers(&self) -> &[Asn]
+        ensures same { values result.now ≡ self.now.providers }
+        ensures ascending { IsAscending self.now.providers }
+    {
+        &self.providers
+    }
+
+    /// Whether a reader accepts the providers: there are some, at most 10,000, the customer isn't one of them, and AS 0 is
+    /// alone (draft-ietf-sidrops-aspa-profile 3).
+    pub fn has_lawful_providers(&self) -> bool
+        ensures { IsTrue result ↔ IsLawful self.now }
+    {
+        let providers = self.providers();
+        !providers.is_empty()
+            && providers.len() <= MAX_PROVIDERS
+            && !has(providers, self.customer_as())
+            && is_zero_alone(providers)
+    }
+
+    /// The customer's AS number, as resources. Refused for lack of memory alone.
+    pub fn as_resources(&self, alloc: Global) -> Result<AsResources, AllocError>
+        ensures { IfOk result (ListsAlone self.now.customer) }
+    {
+        let mut builder = AsBlocksBuilder::new(alloc);
+        builder.push(AsBlock::Id(self.customer_as))?;
+        let blocks = builder.finalize(alloc)?;
+        let resources = AsResources::blocks(blocks);
+        Ok(resources)
+    }
+}

@@ -1,0 +1,20 @@
+//! Provider attestations that are put together, written and signed (draft-ietf-sidrops-aspa-profile 3, 4).
+//!
+//! An [`AspaBuilder`] has a customer and its providers; `finalize` writes this content, and signs it with what a
+//! `SignedObjectBuilder` has.
+//!
+//! What differs from the Rust crate: what takes memory is given an allocator and answers a `Result`; that a provider is there
+//! already is told beside lack of memory, by [`ProviderError`]; `finalize` is given a digester, and answers the octets of the
+//! object, which `Aspa::decode` reads.
+#![tactic(auto)]
+
+pub mod builder;
+pub mod error;
+pub mod laws;
+pub mod signed;
+pub mod written;
+
+pub use builder::AspaBuilder;
+pub use error::{DuplicateProviderAs, ProviderError};
+pub use objects_built::SignedObjectBuilder;
+pub use written::AspaValue;
