@@ -1,7 +1,6 @@
 //! Values of extensions.
 
 ghost use Rattle.std.specs.Prelude.{◌≡◌, ◌↔◌, IsTrue, MatchOption};
-ghost use Rattle.bcder_example.specs.bcder_tree.Tags.{universal};
 ghost use Rattle.bcder_example.specs.bcder_content.Exact.{ReadsAs};
 ghost use Rattle.bcder_example.specs.bcder_content.Here.{here};
 ghost use Rattle.bcder_example.specs.bcder_content.InMode.{ReadsFields};

@@ -1,6 +1,5 @@
 //! A value within the octets of an OCTET STRING, in DER, read from their front.
 
-ghost use Rattle.std.specs.Prelude.{◌≡◌};
 ghost use Rattle.bcder_example.specs.bcder_tree.declared.mode.Mode.TheVariants.{Der};
 ghost use Rattle.bcder_example.specs.bcder_content.Captures.{rest_of};
 ghost use Rattle.bcder_example.specs.bcder_content.Exact.{DecodesAs, ReadsAs};

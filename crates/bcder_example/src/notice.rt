@@ -1,7 +1,6 @@
 //! Notices.
 
 ghost use Rattle.std.specs.Prelude.{◌≡◌, true, OnErr};
-ghost use Rattle.bcder_example.specs.bcder_tree.Tags.{universal};
 ghost use Rattle.bcder_example.specs.bcder_content.Exact.{ReadsAs};
 ghost use Rattle.bcder_example.specs.bcder_content.InMode.{ReadsFields};
 ghost use Rattle.bcder_example.specs.bcder_content.Here.{here};

@@ -1,7 +1,6 @@
 //! A signed structure: a body whose exact octets are kept, since the signature is over them, and which is read of them.
 
 ghost use Rattle.std.specs.Prelude.{◌≡◌, true, OnErr};
-ghost use Rattle.bcder_example.specs.bcder_tree.Tags.{universal};
 ghost use Rattle.bcder_example.specs.bcder_content.Captures.{rest_of};
 ghost use Rattle.bcder_example.specs.bcder_content.Exact.{DecodesAs, ReadsAs};
 ghost use Rattle.bcder_example.specs.bcder_content.Here.{here};

@@ -1,10 +1,9 @@
 //! The values of the known extensions of a certificate, put together one by one (RFC 5280 4.2).
 
-ghost use Rattle.std.specs.Prelude.{◌≡◌, ◌↔◌, IsTrue, OnOk, OnErr, IfErr, None};
+ghost use Rattle.std.specs.Prelude.{◌≡◌, ◌↔◌, IsTrue, OnOk, IfErr, None};
 ghost use Rattle.bcder_example.specs.bcder_content.Captures.{rest_of};
 ghost use Rattle.bcder_example.specs.bcder_content.Exact.{ReadsAs};
 ghost use Rattle.bcder_example.specs.bcder_content.Here.{here};
-ghost use Rattle.bcder_example.specs.declared.slots.Slots.{Slots as SlotsValue};
 ghost use Rattle.bcder_example.specs.Extensions.{IsBasicConstraints, IsKeyIdentifier, IsKeyUsage, raw_value};
 ghost use Rattle.bcder_example.specs.Slots.{Found, Meets, Adds, found_of, OnFault, PutsOnce, CannotPut};
 

@@ -1,8 +1,6 @@
 -- What is written of a manifest that is put together, and why its content isn't made.
 use Rattle.std.proofs.Common.{◌≡◌, ℕ, List, Result, Ok, Err, IfErr, IfOk, sym, subst}
 use Rattle.objects_frame.specs.bcder_tree.declared.mode.Mode.TheVariants.{Der}
-use Rattle.objects_frame.specs.bcder_tree.Front.{Front}
-use Rattle.objects_frame.specs.bcder_tree.Tree.{Tree}
 use Rattle.objects_frame.specs.bcder_content.Kept.{CapturedValue}
 use Rattle.objects_frame.specs.bcder_content.Texts.{SpellsOf}
 use Rattle.objects_frame.specs.bcder_values.Gathered.{ExtendRefused}
@@ -10,11 +8,10 @@ use Rattle.objects_frame.specs.bcder_written.declared.error.EncodeError.{EncodeE
 use Rattle.objects_frame.specs.bcder_written.declared.error.EncodeError.TheVariants as errors
 use Rattle.objects_frame.specs.objects_forms.Manifests.{IsManifest, Manifest}
 use Rattle.objects_written.specs.Manifests.{AreFileNames, IsManifestNumber, ManifestParts, manifest, manifest_parts, written_manifest}
-use Rattle.objects_written.proofs.Making.{same_manifest}
 use Rattle.objects_written.proofs.Told.{manifest_told}
 use Rattle.objects_again.specs.Making.{IsCause, MakingRefused}
 use Rattle.objects_again.specs.declared.making.ManifestError.{ManifestError}
-use Rattle.objects_again.specs.declared.making.ManifestError.TheVariants.{FileName, TooLong, Memory}
+use Rattle.objects_again.specs.declared.making.ManifestError.TheVariants.{TooLong, Memory}
 
 pub parts_again : {E : Type 0} (x : Manifest) (p : ManifestParts) → p ≡ manifest_parts x → IsManifestNumber x.number → (r : Result CapturedValue E) → IfOk r (λ c. (written_manifest p).writes Der c.octets)
     → IfOk r (λ c. AreFileNames x.files → SpellsOf Der IsManifest c.octets x)

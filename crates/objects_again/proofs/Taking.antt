@@ -4,7 +4,7 @@ use denote.Ref.{MutBor}
 use Rattle.objects_frame.specs.bcder_tree.declared.mode.Mode.TheVariants.{Der}
 use Rattle.objects_frame.specs.bcder_tree.Tree.{SpellsAll}
 use Rattle.objects_frame.specs.bcder_content.Captures.{CapturesAll}
-use Rattle.objects_frame.specs.bcder_content.Contents.{EndsHere, Ended, ValuesLeft, Whole, octets}
+use Rattle.objects_frame.specs.bcder_content.Contents.{EndsHere, Ended, ValuesLeft, octets}
 use Rattle.objects_frame.specs.bcder_content.Here.{here}
 use Rattle.objects_frame.specs.bcder_content.Kept.{CapturedValue}
 use Rattle.objects_frame.specs.bcder_content.Skips.{NotWhole}

@@ -1,5 +1,5 @@
 -- What is written again of an object is read again.
-use Rattle.std.proofs.Common.{◌≡◌, ◌≢◌, ℕ, Bool, List, [], true, refl, sym, ap, ◌∙◌, subst, append-nil}
+use Rattle.std.proofs.Common.{◌≡◌, ℕ, Bool, List, [], true, refl, sym, ap, ◌∙◌, subst, append-nil}
 use Rattle.objects_frame.specs.bcder_tree.declared.mode.Mode.TheVariants.{Der}
 use Rattle.objects_frame.specs.bcder_tree.Tags.{TagValue, context, universal}
 use Rattle.objects_frame.specs.bcder_tree.Tree.{Tree, Trees, more, none, primitive}
@@ -31,7 +31,7 @@ use Rattle.certs_written.specs.Fields.{version}
 use Rattle.certs_written.specs.Outputs.{Output, of}
 use Rattle.objects_written.proofs.Words.{inside_of, last_of, spelled_of, then_of}
 use Rattle.objects_frame.specs.Frames.{ObjectParts, SignerParts, algorithm, content_info, kept, object, rsa, sha256, signed_data, signer}
-use Rattle.objects_again.specs.Again.{ArePartsOf, WritesAgain, WritesCertAgain, cert_value, parts_of, with_null}
+use Rattle.objects_again.specs.Again.{WritesAgain, WritesCertAgain, cert_value, parts_of, with_null}
 
 -- Words: grammars of octets.
 

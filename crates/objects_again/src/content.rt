@@ -1,6 +1,6 @@
 //! The content of a signed object, read by a closure (RFC 5652 5.2).
 
-ghost use Rattle.std.specs.Prelude.{◌≡◌, List, ℕ};
+ghost use Rattle.std.specs.Prelude.{List, ℕ};
 ghost use Rattle.objects_frame.specs.bcder_tree.declared.mode.Mode.TheVariants.{Der};
 ghost use Rattle.objects_frame.specs.bcder_content.Captures.{rest_of};
 ghost use Rattle.objects_frame.specs.bcder_content.Ran.{Decoded, fresh};

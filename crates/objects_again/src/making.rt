@@ -1,6 +1,6 @@
 //! Contents of manifests that are made (RFC 9286 4.2).
 
-ghost use Rattle.std.specs.Prelude.{◌≡◌, ◌++◌, ◌∷◌, ◌↔◌, [], All, IfErr, IfOk, IsTrue, OnErr, OnOk};
+ghost use Rattle.std.specs.Prelude.{◌≡◌, ◌++◌, ◌∷◌, ◌↔◌, [], IfErr, IfOk, IsTrue, OnErr, OnOk};
 ghost use Rattle.objects_frame.specs.bcder_tree.declared.mode.Mode.TheVariants.{Der};
 ghost use Rattle.objects_frame.specs.bcder_content.Texts.{SpellsOf};
 ghost use Rattle.objects_frame.specs.bcder_values.Gathered.{ExtendRefused};

@@ -5,7 +5,7 @@ ghost use Rattle.std.specs.Cmp.{IsTotalOrder};
 ghost use Rattle.std.specs.Ordering.{is_lt};
 ghost use Rattle.std.specs.declared.cmp.Ordering.TheVariants.{Equal, Greater};
 ghost use Rattle.resources_addr.specs.Prefixes.{Family, PrefixValue, IsPrefix, width, span, prefix_around, Has, Covers, prefix_cmp};
-ghost use Rattle.resources_addr.specs.MaxLens.{MaxLenValue, IsMaxLen, max_len_cmp};
+ghost use Rattle.resources_addr.specs.MaxLens.{MaxLenValue, IsMaxLen};
 ghost use Rattle.resources_addr.specs.Orders.{prefix_eq, max_len_eq};
 ghost use Rattle.resources_addr.specs.Starts.{start_cmp};
 ghost use Rattle.resources_addr.specs.PrefixTexts.{IsPrefixText, prefix_text};

@@ -1,8 +1,8 @@
 -- Texts of sets of AS numbers.
-use Rattle.std.proofs.Common.{◌≡◌, ℕ, ◌<◌, ◌≤◌, ◌⊎◌, List, [], ◌∷◌, ◌++◌, length, map, inl, inr, sym, subst, refl, ap, arith}
-use Rattle.std.specs.Prelude.{Option, Some, Result, MatchResult}
+use Rattle.std.proofs.Common.{◌≡◌, ℕ, ◌⊎◌, List, [], ◌∷◌, length, map, inl, inr, sym, subst, refl, ap, arith}
+use Rattle.std.specs.Prelude.{Some, Result, MatchResult}
 use Rattle.std.proofs.Common.{Ok, Err}
-use Rattle.resources_as.specs.resources_chain.Sets.{Run, InRuns, AreMaximal, IsRunsOf}
+use Rattle.resources_as.specs.resources_chain.Sets.{Run, AreMaximal, IsRunsOf}
 use Rattle.resources_as.specs.resources_chain.Lists.{IsListText, HasFault, IsNoListText}
 use Rattle.resources_as.proofs.of_resources_chain.ListTexts.{refuses_list, set_once, set_printed, AllWritten}
 use Rattle.resources_as_block.specs.Blocks.{as_run, as_run_within, run_text}

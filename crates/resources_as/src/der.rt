@@ -1,9 +1,8 @@
 //! AS resources that are read from an encoding (RFC 3779 section 3.2.3).
 
-ghost use Rattle.std.specs.Prelude.{◌≡◌, List, true, IfOk, OnErr};
-ghost use Rattle.resources_as.specs.bcder_tree.Tags.{context};
+ghost use Rattle.std.specs.Prelude.{◌≡◌, true, IfOk, OnErr};
 ghost use Rattle.resources_as.specs.bcder_content.Exact.{ReadsAs, ReadsAllAs};
-ghost use Rattle.resources_as.specs.bcder_content.Grammar.{Inside, Then, End, Many};
+ghost use Rattle.resources_as.specs.bcder_content.Grammar.{Then, End, Many};
 ghost use Rattle.resources_as.specs.bcder_content.Here.{here};
 ghost use Rattle.resources_as.specs.resources_chain.Claims.{HasMaximal};
 ghost use Rattle.resources_as.specs.resources_chain.Sets.{AreMaximal};

@@ -3,15 +3,15 @@ use Rattle.std.proofs.Common.{◌≡◌, ℕ, ◌≤◌, ◌==◌, Bool, true, f
 use Rattle.std.proofs.lemmas.Bool.{eqb-true}
 use Rattle.resources_as_block.specs.bcder_tree.Tags.{integer_tag, sequence_tag}
 use Rattle.resources_as_block.specs.bcder_tree.Tree.{Tree, Trees, primitive, constructed, none, more}
-use Rattle.resources_as_block.specs.bcder_content.Grammar.{Inside, OctetsOf, OneOf, As, End, Then, Many, ManyCases, Tagged, One, OneAll}
-use Rattle.resources_as_block.proofs.of_bcder_content.Unique.{octets_one, unsigned_one, inside_one, as_one, one_of_one, end_one, then_one, many_one}
-use Rattle.resources_as_block.specs.bcder_written.Encoded.{IsPlain, IsWrapped, AreBoth, joined}
+use Rattle.resources_as_block.specs.bcder_content.Grammar.{As, ManyCases, One}
+use Rattle.resources_as_block.proofs.of_bcder_content.Unique.{octets_one, unsigned_one, inside_one, as_one, one_of_one}
+use Rattle.resources_as_block.specs.bcder_written.Encoded.{AreBoth, joined}
 use Rattle.resources_as_block.proofs.of_bcder_content.Choices.{universal_apart}
 use Rattle.resources_as_block.specs.bcder_values.Lists.{AreAll}
 use Rattle.resources_as_block.specs.resources_chain.Sets.{Run, AreMaximal}
 use Rattle.resources_as_block.specs.resources_chain.Same.{run_is}
 use Rattle.resources_asn.specs.Encodings.{IsAsId}
-use Rattle.resources_as_block.specs.Encodings.{Ends, AreEnds, IsAsRange, IsAsBlock, alone, from_to}
+use Rattle.resources_as_block.specs.Encodings.{AreEnds, IsAsRange, IsAsBlock, alone, from_to}
 use Rattle.resources_as_block.specs.Written.{AreAsId, AreAsRange, AreIdOrRange, AreAsBlock}
 use Rattle.resources_as_block.proofs.Reading.{id_tagged, range_tagged, ordered_one}
 

@@ -1,20 +1,18 @@
 -- What reading blocks of AS numbers rests on: tags, and one meaning of a value.
-use Rattle.std.proofs.Common.{◌≡◌, ◌≤◌, ℕ, Result, Ok, Err, ap, arith, subst, sym}
+use Rattle.std.proofs.Common.{◌≡◌, ◌≤◌, ℕ, Result, Ok, Err, subst, sym}
 use Rattle.std.specs.Result.{IsErr, IsErrAnd}
-use Rattle.resources_as_block.specs.bcder_tree.Tags.{TagValue, integer_tag, sequence_tag}
+use Rattle.resources_as_block.specs.bcder_tree.Tags.{integer_tag, sequence_tag}
 use Rattle.resources_as_block.specs.bcder_tree.Tree.{Trees}
 use Rattle.resources_as_block.specs.bcder_source.Errors.{OnContent}
 use Rattle.resources_as_block.specs.bcder_source.declared.error.DecodeError.{DecodeError}
 use Rattle.resources_as_block.specs.bcder_content.Contents.{ValuesLeft, Whole}
 use Rattle.resources_as_block.specs.bcder_content.Exact.{GivesAll, LacksAll, ReadsAllAs}
 use Rattle.resources_as_block.specs.bcder_content.Grammar.{As, OneAll, Tagged}
-use Rattle.resources_as_block.specs.bcder_content.Perhaps.{NoneNext}
-use Rattle.resources_as_block.proofs.of_bcder_content.Choices.{as_lacks}
 use Rattle.resources_as_block.proofs.of_bcder_content.Taking.{on_content, weaker}
 use Rattle.resources_as_block.proofs.of_bcder_content.Took.{one_whole}
 use Rattle.resources_as_block.proofs.of_bcder_content.Unique.{octets_tagged, inside_tagged, as_tagged, octets_one, unsigned_one, then_one, end_one}
-use Rattle.resources_asn.specs.Encodings.{IsAsId, whichever}
-use Rattle.resources_as_block.specs.Encodings.{AreEnds, AreOrdered, Ends, IsAsRange, IsAsBlock, IsAnyAsBlock, alone, from_to}
+use Rattle.resources_asn.specs.Encodings.{IsAsId}
+use Rattle.resources_as_block.specs.Encodings.{AreEnds, AreOrdered, Ends, IsAsRange, alone, from_to}
 
 pub id_tagged : Tagged integer_tag (As IsAsId alone)
 id_tagged = as_tagged (octets_tagged _ _)

@@ -1,5 +1,5 @@
 -- Texts of blocks of AS numbers.
-use Rattle.std.proofs.Common.{◌≡◌, ℕ, ◌<◌, ◌≤◌, ◌⊎◌, Bool, true, false, ◌==◌, List, [], ◌∷◌, ◌++◌, length, get_or, decimal, inl, inr, sym, subst, ap, ◌∙◌, arith, refl, append_assoc}
+use Rattle.std.proofs.Common.{◌≡◌, ℕ, ◌<◌, ◌≤◌, ◌==◌, List, [], ◌∷◌, ◌++◌, length, get_or, decimal, inl, inr, sym, subst, ◌∙◌, arith, refl, append_assoc}
 use Rattle.std.specs.Prelude.{codes}
 use Rattle.std.proofs.lemmas.Bool.{cond_both, eqb-true}
 use Rattle.resources_as_block.specs.resources_addr.Cuts.{LacksByte, IsCut}
@@ -13,7 +13,7 @@ use Rattle.resources_asn.proofs.of_resources_addr.Texts.{cut_once, cut_lacks}
 use Rattle.resources_as_block.specs.declared.error.FromStrError.{FromStrError}
 use Rattle.resources_as_block.specs.declared.error.FromStrError.TheVariants.{BadAsn, BadRange, BadBlocks, Memory}
 use Rattle.resources_as_block.specs.Blocks.{run_text}
-use Rattle.resources_as_block.specs.Texts.{IsAsRangeText, IsAsBlockText, IsNoAsn, IsNoAsBlock}
+use Rattle.resources_as_block.specs.Texts.{IsAsRangeText, IsAsBlockText, IsNoAsBlock}
 
 no_dash : (text : List ℕ) (n : ℕ) → IsAsnText text n → LacksByte 45 text
 no_dash text n h = asn_lacks 45 (omega arith) (λ e. omega arith) text n h

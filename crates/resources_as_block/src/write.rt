@@ -1,10 +1,10 @@
 //! Blocks of AS numbers that are written (RFC 3779 section 3.2.3.5).
 
-ghost use Rattle.std.specs.Prelude.{◌≡◌, ◌==◌, ℕ, IfOk, IfErr, OnOk};
+ghost use Rattle.std.specs.Prelude.{◌≡◌, ◌==◌, IfOk, IfErr, OnOk};
 ghost use Rattle.resources_as_block.specs.bcder_written.Writing.{HasLength, Wrote, CannotWrite, WriteRefused};
 ghost use Rattle.resources_as_block.specs.Blocks.{as_run};
 ghost use Rattle.resources_as_block.specs.Ranges.{range_run};
-ghost use Rattle.resources_as_block.specs.Written.{AreAsId, WritesAsId, AreIdOrRange, WritesIdOrRange, AreAsRange, WritesAsRange, AreAsBlock, WritesAsBlock, range_spelled, range_one, block_spelled, block_one};
+ghost use Rattle.resources_as_block.specs.Written.{AreAsId, WritesAsId, AreAsRange, WritesAsRange, AreAsBlock, WritesAsBlock, range_spelled, range_one, block_spelled, block_one};
 
 use crate::block::AsBlock;
 use crate::codec::encode::{Constructed, EncodeError, Primitive, Values};

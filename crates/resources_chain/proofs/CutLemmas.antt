@@ -1,5 +1,5 @@
 -- Pieces of texts of lists.
-use Rattle.std.proofs.Common.{◌≡◌, ℕ, ◌<◌, List, ◌∷◌, ◌++◌, length, inl, inr, ap, length-append, arith}
+use Rattle.std.proofs.Common.{ℕ, ◌<◌, List, ◌∷◌, length, inl, inr, ap, length-append, arith}
 use Rattle.resources_chain.specs.Lists.{CutsPiece}
 
 pub piece_shorter : {text piece rest : List ℕ} → CutsPiece text piece rest → length rest < length text

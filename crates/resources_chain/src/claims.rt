@@ -1,6 +1,6 @@
 //! The claim rule: what a certificate holds by what it lists, its policy and what its issuer holds.
 
-ghost use Rattle.std.specs.Prelude.{◌≡◌, ◌↔◌, List, IfOk, IfErr, OnOk, OnErr};
+ghost use Rattle.std.specs.Prelude.{◌≡◌, List, IfOk, IfErr, OnOk, OnErr};
 ghost use Rattle.resources_chain.specs.Sets.{Run, InRuns, InBoth, IsRunsOf, IsInside};
 ghost use Rattle.resources_chain.specs.declared.choice.ResourcesChoice.{ResourcesChoice};
 ghost use Rattle.resources_chain.specs.declared.choice.ResourcesChoice.TheVariants.{Missing, Blocks};

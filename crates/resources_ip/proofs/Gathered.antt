@@ -1,8 +1,8 @@
 -- What reading blocks and choices rests on.
-use Rattle.std.proofs.Common.{◌≡◌, ℕ, List, [], ◌∷◌, ◌++◌, Result, refl, ap, ◌∙◌, subst, arith}
+use Rattle.std.proofs.Common.{◌≡◌, List, [], ◌∷◌, ◌++◌, Result, refl, ◌∙◌, subst}
 use Rattle.std.specs.Result.{IsErr, IsErrAnd}
 use Rattle.resources_ip.specs.bcder_tree.declared.mode.Mode.{Mode}
-use Rattle.resources_ip.specs.bcder_tree.Tags.{TagValue, null_tag, sequence_tag}
+use Rattle.resources_ip.specs.bcder_tree.Tags.{null_tag, sequence_tag}
 use Rattle.resources_ip.specs.bcder_source.Errors.{OnContent}
 use Rattle.resources_ip.specs.bcder_source.declared.error.DecodeError.{DecodeError}
 use Rattle.resources_ip.specs.bcder_content.Contents.{ValuesLeft, Ended}

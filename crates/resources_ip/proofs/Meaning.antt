@@ -1,7 +1,7 @@
 -- IP resources have one meaning.
 use Rattle.std.proofs.Common.{◌≡◌, List, arith, ap, refl, sym, ◌∙◌, subst}
 use Rattle.resources_ip.specs.bcder_tree.declared.mode.Mode.{Mode}
-use Rattle.resources_ip.specs.bcder_tree.Tree.{Tree, Trees}
+use Rattle.resources_ip.specs.bcder_tree.Tree.{Tree}
 use Rattle.resources_ip.specs.bcder_primitive.Values.{IsNull}
 use Rattle.resources_ip.specs.bcder_content.Grammar.{End, One, OneAll, OneOctets, Then}
 use Rattle.resources_ip.proofs.of_bcder_content.Choices.{universal_apart}
@@ -10,7 +10,7 @@ use Rattle.resources_ip.specs.resources_chain.Claims.{Choice}
 use Rattle.resources_ip.specs.resources_chain.Sets.{InRuns, IsRunsOf, Run}
 use Rattle.resources_ip.proofs.of_resources_chain.SetLemmas.{one_list_of}
 use Rattle.resources_ip.specs.resources_ip_prefix.declared.addr.AddressFamily.{AddressFamily}
-use Rattle.resources_ip_block.specs.BlockEncodings.{AreOrdered, IsBlock, IsRange, from_to}
+use Rattle.resources_ip_block.specs.BlockEncodings.{AreOrdered, IsBlock, from_to}
 use Rattle.resources_ip.specs.resources_ip_prefix.Encodings.{IsFamily}
 use Rattle.resources_ip_block.proofs.Blocks.{address_one, ends_one, prefix_tagged, range_tagged}
 use Rattle.resources_ip.specs.Encodings.{AreBlocks, AreFamilyFields, AreIpFamilies, FamilyChoice, FamilyChoices, IsBlockList, IsIpAddrBlocks, IsIpChoice, choices_of}

@@ -1,7 +1,7 @@
 -- Texts of sets of addresses.
-use Rattle.std.proofs.Common.{◌≡◌, ℕ, ◌<◌, ◌≤◌, ◌⊎◌, List, [], ◌∷◌, ◌++◌, length, map, inl, inr, sym, subst, refl, ap, arith}
-use Rattle.std.specs.Prelude.{Result, Ok, Err, MatchResult, IfOk}
-use Rattle.resources_ip.specs.resources_chain.Sets.{Run, InRuns, AreMaximal, IsRunsOf}
+use Rattle.std.proofs.Common.{◌≡◌, ℕ, ◌⊎◌, List, [], ◌∷◌, length, map, inl, inr, sym, subst, refl, arith}
+use Rattle.std.specs.Prelude.{Result, Ok, Err, MatchResult}
+use Rattle.resources_ip.specs.resources_chain.Sets.{Run, AreMaximal, IsRunsOf}
 use Rattle.resources_ip.specs.resources_chain.Lists.{IsListText, HasFault, IsNoListText}
 use Rattle.resources_ip.proofs.of_resources_chain.ListTexts.{refuses_list, set_once, set_printed, AllWritten}
 use Rattle.resources_ip.specs.resources_ip_prefix.declared.addr.AddressFamily.{AddressFamily}

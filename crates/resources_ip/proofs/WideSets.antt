@@ -1,9 +1,9 @@
 -- Sets over whole IPv4 addresses as sets of numbers of 32 bits.
-use Rattle.std.proofs.Common.{◌≡◌, ℕ, ◌+◌, ◌*◌, ◌/◌, ◌^◌, ◌<◌, ◌⊎◌, ◌↔◌, ◌≤◌, Bool, IsTrue, List, [], ◌∷◌, map, subst, inl, inr, arith, sym}
-use Rattle.resources_ip.specs.resources_chain.Sets.{Run, InRun, InRuns, AreMaximal, IsRunsOf, InEither, IsInside}
+use Rattle.std.proofs.Common.{◌≡◌, ℕ, ◌*◌, ◌/◌, ◌^◌, ◌<◌, ◌↔◌, Bool, IsTrue, List, [], ◌∷◌, map, subst, inl, inr, arith, sym}
+use Rattle.resources_ip.specs.resources_chain.Sets.{Run, InRun, InRuns, IsRunsOf, IsInside}
 use Rattle.resources_ip.specs.resources_chain.Claims.{Choice, Lists, Keeps, Kept}
 use Rattle.resources_ip.specs.resources_chain.declared.choice.ResourcesChoice.TheVariants.{Missing, Inherit, Blocks}
-use Rattle.resources_ip.specs.resources_chain.Kinds.{Kind, Ipv4, HasNumber, KeepsNumber}
+use Rattle.resources_ip.specs.resources_chain.Kinds.{Ipv4, HasNumber}
 use Rattle.resources_ip.specs.resources_ip_prefix.declared.addr.AddressFamily.TheVariants as family
 use Rattle.resources_ip_block.specs.declared.block.IpBlock.{IpBlock}
 use Rattle.resources_ip_block.specs.Block.{run_of_block, block_within}

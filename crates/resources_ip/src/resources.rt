@@ -4,7 +4,7 @@ ghost use Rattle.std.specs.Prelude.{◌≡◌, ◌↔◌, ◌++◌, [], List, Re
 ghost use Rattle.std.specs.Fn.{FnOnceReturnsAtMut};
 ghost use Rattle.resources_ip.specs.resources_chain.declared.choice.ResourcesChoice.{ResourcesChoice};
 ghost use Rattle.resources_ip.specs.resources_chain.declared.choice.ResourcesChoice.TheVariants.{Missing, Inherit, Blocks};
-ghost use Rattle.resources_ip.specs.resources_chain.Sets.{Run, InRuns, IsRunsOf};
+ghost use Rattle.resources_ip.specs.resources_chain.Sets.{Run, IsRunsOf};
 ghost use Rattle.resources_ip.specs.resources_chain.Claims.{HasMaximal, Lists};
 ghost use Rattle.resources_ip.specs.resources_chain.Choices.{listed, IsChoiceOf};
 ghost use Rattle.resources_ip.specs.resources_ip_prefix.declared.addr.AddressFamily.TheVariants.{Ipv4, Ipv6};

@@ -1,14 +1,10 @@
 -- What a block prints: as a prefix where it is one.
-use Rattle.std.proofs.Common.{◌≡◌, ℕ, ◌+◌, ◌-◌, ◌^◌, ◌≤◌, List, ap, sym, subst, ◌∙◌, arith, refl}
-use Rattle.std.proofs.lemmas.Nat.{pow_pos}
-use Rattle.std.specs.Int.Count.{count_leading_zeros}
+use Rattle.std.proofs.Common.{◌≡◌, ℕ, ◌+◌, ◌-◌, ◌≤◌, List, ap, sym, ◌∙◌, arith, refl}
 use Rattle.resources_ip_block.specs.resources_chain.Sets.{Run}
 use Rattle.resources_ip_prefix.specs.declared.prefix.Prefix.{Prefix}
-use Rattle.resources_ip_block.specs.declared.range.AddressRange.{AddressRange}
 use Rattle.resources_ip_prefix.specs.Address.{bits_of}
 use Rattle.resources_ip_prefix.specs.Prefix.{prefix_addr, prefix_len, run_of_prefix, len_within, host_clear}
 use Rattle.resources_ip_prefix.specs.Prefixes.{span_of, first_of, prefix_run}
-use Rattle.resources_ip_block.specs.Range.{run_of_range}
 use Rattle.resources_ip_prefix.specs.Text.{slashed}
 use Rattle.resources_ip_block.specs.BlockText.{dashed, IsBlockText}
 use Rattle.resources_ip_block.proofs.PrefixLemmas.{length_told}

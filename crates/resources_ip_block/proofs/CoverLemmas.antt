@@ -1,19 +1,19 @@
 -- What `next` gives from a range up to its end is the range's cover.
-use Rattle.std.proofs.Common.{◌≡◌, ℕ, suc, ◌+◌, ◌-◌, ◌*◌, ◌/◌, ◌%◌, ◌^◌, ◌<◌, ◌≤◌, ◌⊎◌, ◌↔◌, inl, inr, List, [], ◌∷◌, Option, Some, None, ap, sym, subst, ◌∙◌, arith, refl, le_refl}
+use Rattle.std.proofs.Common.{◌≡◌, ℕ, ◌+◌, ◌-◌, ◌<◌, ◌≤◌, ◌⊎◌, ◌↔◌, inl, inr, List, [], ◌∷◌, Option, Some, None, ap, sym, subst, ◌∙◌, arith, refl, le_refl}
 use Rattle.std.specs.Prelude.{map}
 use Rattle.std.specs.Iterator.{Yields, Drains}
 use Rattle.std.proofs.lemmas.Bool.Decides.{leb_tells}
-use Rattle.std.proofs.lemmas.Nat.{pow_pos, pow-add, shl-shr, shr-shr, shr_split, mul-le, mod_below}
+use Rattle.std.proofs.lemmas.Nat.{pow_pos}
 use Rattle.resources_ip_block.specs.resources_chain.Same.{run_is}
-use Rattle.resources_ip_block.specs.resources_chain.Sets.{Run, InRun, InRuns}
+use Rattle.resources_ip_block.specs.resources_chain.Sets.{Run, InRuns}
 use Rattle.resources_ip_block.specs.declared.cover.RangePrefixes.{RangePrefixes}
 use Rattle.resources_ip_prefix.specs.declared.prefix.Prefix.{Prefix}
 use Rattle.resources_ip_block.specs.declared.range.AddressRange.{AddressRange}
 use Rattle.resources_ip_prefix.specs.Address.{bits_of}
 use Rattle.resources_ip_prefix.specs.Prefix.{prefix_addr, prefix_len, run_of_prefix, len_within, host_clear}
-use Rattle.resources_ip_prefix.specs.Prefixes.{span_of, first_of, last_of, prefix_run}
+use Rattle.resources_ip_prefix.specs.Prefixes.{span_of, first_of}
 use Rattle.resources_ip_prefix.specs.Whole.{IsWhole}
-use Rattle.resources_ip_block.specs.Range.{run_of_range, range_within}
+use Rattle.resources_ip_block.specs.Range.{run_of_range}
 use Rattle.resources_ip_prefix.proofs.Spans.{from_longer, to_longer, own_block, own_first, clear_longer, spaced, first_in}
 use Rattle.resources_ip_block.specs.Cover.{LiesIn, IsLargest, Has, Ascend, IsCover, IsFirst, IsBehind, GivesFrom, gives, filled}
 

@@ -1,6 +1,5 @@
 -- What is printed of blocks of addresses, and that it is read.
-use Rattle.std.proofs.Common.{◌≡◌, ◌≢◌, ℕ, ◌+◌, ◌-◌, ◌*◌, ◌/◌, ◌%◌, ◌^◌, ◌<◌, ◌≤◌, ◌⊎◌, ◌==◌, ◌&&◌, Bool, true, false, List, [], ◌∷◌, ◌++◌, decimal, inl, inr, sym, subst, ap, ◌∙◌, arith, refl, eq-eqb}
-use Rattle.std.specs.Int.Count.{count_leading_zeros}
+use Rattle.std.proofs.Common.{◌≡◌, ◌≢◌, ℕ, ◌+◌, ◌-◌, ◌*◌, ◌/◌, ◌%◌, ◌^◌, ◌<◌, ◌≤◌, ◌==◌, ◌&&◌, Bool, true, false, List, [], ◌∷◌, ◌++◌, decimal, inl, inr, sym, subst, ap, ◌∙◌, arith, refl, eq-eqb}
 use Rattle.std.proofs.lemmas.Bool.{cond_both, eqb-true}
 use Rattle.std.proofs.lemmas.Bool.Decides.{leb_tells}
 use Rattle.std.proofs.lemmas.Nat.{leading_le, pow_pos}
@@ -11,7 +10,7 @@ use Rattle.std.specs.declared.net.ipv4_addr.Ipv4Addr.{Ipv4Addr}
 use Rattle.std.specs.declared.net.ipv6_addr.Ipv6Addr.{Ipv6Addr}
 use Rattle.std.specs.declared.net.ip_addr.IpAddr.{IpAddr}
 use Rattle.std.specs.declared.net.ip_addr.IpAddr.TheVariants.{V4, V6}
-use Rattle.resources_ip_block.specs.resources_addr.Cuts.{LacksByte, IsCut}
+use Rattle.resources_ip_block.specs.resources_addr.Cuts.{LacksByte}
 use Rattle.resources_ip_block.specs.resources_addr.Prefixes as Of
 use Rattle.resources_ip_block.specs.resources_chain.Sets.{Run}
 use Rattle.resources_ip_block.specs.resources_chain.Same.{run_is}
@@ -22,10 +21,10 @@ use Rattle.resources_ip_prefix.specs.Family.{max_len_of}
 use Rattle.resources_ip_prefix.specs.Prefixes.{span_of, first_of, last_of, prefix_run}
 use Rattle.resources_ip_prefix.specs.Text.{slashed}
 use Rattle.resources_ip_prefix.specs.Whole.{IsWhole}
-use Rattle.resources_ip_prefix.specs.ReadTexts.{IsAddrText, IsLengthText, WritesPrefix}
+use Rattle.resources_ip_prefix.specs.ReadTexts.{IsAddrText}
 use Rattle.resources_ip_prefix.proofs.of_resources_addr.Printed.{address_read, address_plain, plain_lacks, decimal_plain, len_printed, lacks_both}
 use Rattle.resources_ip_block.specs.BlockText.{dashed, IsBlockText, length_of_run, block_text, address_text}
-use Rattle.resources_ip_block.specs.ReadTexts.{WritesRange, WritesBlock}
+use Rattle.resources_ip_block.specs.ReadTexts.{WritesBlock}
 use Rattle.resources_ip_block.proofs.PrefixLemmas.{tried}
 
 -- ---- the text of a run is one

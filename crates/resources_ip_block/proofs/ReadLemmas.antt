@@ -1,7 +1,7 @@
 -- Texts of ranges and blocks of addresses that are read.
-use Rattle.std.proofs.Common.{◌≡◌, ◌≢◌, ℕ, ◌+◌, ◌-◌, ◌*◌, ◌/◌, ◌%◌, ◌^◌, ◌<◌, ◌≤◌, ◌⊎◌, ◌↔◌, List, [], ◌∷◌, ◌++◌, inl, inr, sym, subst, ap, ◌∙◌, arith, refl}
+use Rattle.std.proofs.Common.{◌≡◌, ◌≢◌, ℕ, ◌+◌, ◌<◌, ◌≤◌, ◌⊎◌, ◌↔◌, List, [], ◌∷◌, ◌++◌, inl, inr, sym, subst, ap, ◌∙◌, arith, refl}
 use Rattle.std.specs.Prelude.{Result, Ok, Err, MatchResult, IfOk}
-use Rattle.resources_ip_block.specs.resources_addr.Cuts.{LacksByte, IsCut}
+use Rattle.resources_ip_block.specs.resources_addr.Cuts.{IsCut}
 use Rattle.resources_ip_block.specs.resources_chain.Sets.{Run}
 use Rattle.resources_ip_block.specs.resources_chain.Same.{run_is}
 use Rattle.resources_ip_prefix.specs.declared.addr.AddressFamily.{AddressFamily}
@@ -11,7 +11,7 @@ use Rattle.resources_ip_prefix.specs.declared.error.FromStrError.TheVariants as 
 use Rattle.resources_ip_prefix.specs.Family.{max_len_of, HasColon}
 use Rattle.resources_ip_prefix.specs.Prefixes.{first_of, last_of, prefix_run}
 use Rattle.resources_ip_prefix.specs.Whole.{IsWhole}
-use Rattle.resources_ip_prefix.specs.ReadTexts.{IsAddrText, IsNoAddr, WritesPrefix, IsNoPrefix, Shows}
+use Rattle.resources_ip_prefix.specs.ReadTexts.{IsAddrText, WritesPrefix, Shows}
 use Rattle.resources_ip_prefix.proofs.of_resources_addr.Texts.{cut_once, cut_lacks}
 use Rattle.resources_ip_prefix.proofs.ReadLemmas.{addr_once, addr_at, addr_shows, prefix_once, prefix_refused, prefix_shows, between_shows, shown_by}
 use Rattle.resources_ip_prefix.proofs.Spans.{own_first}
@@ -20,7 +20,7 @@ use Rattle.resources_ip_block.specs.declared.block.IpBlock.{IpBlock}
 use Rattle.resources_ip_block.specs.declared.range.AddressRange.{AddressRange}
 use Rattle.resources_ip_block.specs.Block.{run_of_block}
 use Rattle.resources_ip_block.specs.Range.{run_of_range}
-use Rattle.resources_ip_block.specs.ReadTexts.{WritesRange, IsNoRange, ReadsRange, WritesBlock, IsNoBlock, ReadsBlock, ShowsBoth, ShowsTwo, IsNoRangeOfAny, IsNoBlockOfAny}
+use Rattle.resources_ip_block.specs.ReadTexts.{WritesRange, IsNoRange, ReadsRange, WritesBlock, IsNoBlock, ReadsBlock, ShowsBoth, IsNoRangeOfAny, IsNoBlockOfAny}
 
 -- ---- ranges
 

@@ -1,8 +1,7 @@
 -- Blocks that are read as IPv4 are over whole addresses.
-use Rattle.std.proofs.Common.{◌≡◌, ◌≤◌, ◌⊎◌, inl, inr, sym, subst}
+use Rattle.std.proofs.Common.{inl, inr, sym, subst}
 use Rattle.resources_ip_block.specs.bcder_tree.declared.mode.Mode.{Mode}
 use Rattle.resources_ip_block.specs.bcder_tree.Tree.{Tree}
-use Rattle.resources_ip_block.specs.bcder_bits.Bits.{bits}
 use Rattle.resources_ip_block.specs.resources_chain.Sets.{Run}
 use Rattle.resources_ip_prefix.specs.declared.addr.AddressFamily.TheVariants.{Ipv4}
 use Rattle.resources_ip_block.specs.BlockEncodings.{IsBlock, beginning}

@@ -1,5 +1,5 @@
 -- A block that is written, by its addresses.
-use Rattle.std.proofs.Common.{◌≡◌, ℕ, List, Option, Result, Ok, Err, ◌∙◌}
+use Rattle.std.proofs.Common.{ℕ, List, Option, Result, Ok, Err}
 use Rattle.std.specs.Prelude.{IfOk, IfErr, OnOk}
 use Rattle.resources_ip_block.specs.bcder_tree.declared.mode.Mode.{Mode}
 use Rattle.resources_ip_block.specs.bcder_tree.Tree.{Trees}
@@ -7,7 +7,7 @@ use Rattle.resources_ip_block.specs.bcder_values.declared.choice.Choice2.{Choice
 use Rattle.resources_ip_block.specs.bcder_written.declared.error.EncodeError.{EncodeError}
 use Rattle.resources_ip_block.specs.bcder_written.declared.error.EncodeError.TheVariants as errors
 use Rattle.resources_ip_block.specs.bcder_written.declared.primitive.Primitive.{Primitive}
-use Rattle.resources_ip_block.specs.bcder_written.Writing.{HasLength, Wrote, TookFront, CannotWrite, WriteRefused}
+use Rattle.resources_ip_block.specs.bcder_written.Writing.{HasLength, Wrote, CannotWrite, WriteRefused}
 use Rattle.resources_ip_block.specs.resources_chain.Sets.{Run}
 use Rattle.resources_ip_prefix.specs.declared.prefix.Prefix.{Prefix}
 use Rattle.resources_ip_block.specs.Written.{BlockTrees, EncodesBlock, RangeValue}

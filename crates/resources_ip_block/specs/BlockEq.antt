@@ -1,5 +1,5 @@
 -- A test of whether two blocks have the same addresses, for `==`.
-use Rattle.std.specs.Prelude.{◌≡◌, ◌↔◌, Bool, IsTrue, List, [], ◌∷◌, refl}
+use Rattle.std.specs.Prelude.{◌≡◌, ◌↔◌, Bool, IsTrue, [], ◌∷◌, refl}
 use Rattle.std.proofs.Common.{ap}
 use Rattle.std.specs.Cmp.{IsEquivalence}
 use Rattle.resources_ip_block.specs.resources_chain.Sets.{Run}

@@ -1,10 +1,8 @@
 -- What is written of ranges and blocks (RFC 3779 2.2.3).
-use Rattle.std.specs.Prelude.{◌≡◌, ℕ, ◌+◌, ◌-◌, ◌*◌, ◌/◌, ◌≤◌, take}
-use Rattle.std.specs.Int.{to_be_bytes, w128}
+use Rattle.std.specs.Prelude.{◌≡◌, ℕ, ◌≤◌}
 use Rattle.resources_ip_block.specs.bcder_tree.declared.mode.Mode.{Mode}
 use Rattle.resources_ip_block.specs.bcder_tree.Tags.{sequence_tag}
 use Rattle.resources_ip_block.specs.bcder_tree.Tree.{Tree, Trees, none, more}
-use Rattle.resources_ip_block.specs.bcder_bits.Bits.{BitsValue}
 use Rattle.resources_ip_block.specs.bcder_bits.Contents.{WritesBits, bit_string_tag}
 use Rattle.resources_ip_block.specs.bcder_values.declared.choice.Choice2.{Choice2}
 use Rattle.resources_ip_block.specs.bcder_values.declared.choice.Choice2.TheVariants.{One, Two}
@@ -16,8 +14,7 @@ use Rattle.resources_ip_block.specs.resources_chain.Sets.{Run}
 use Rattle.resources_ip_prefix.specs.declared.addr.AddressFamily.{AddressFamily}
 use Rattle.resources_ip_prefix.specs.declared.addr.AddressFamily.TheVariants.{Ipv4, Ipv6}
 use Rattle.resources_ip_prefix.specs.declared.prefix.Prefix.{Prefix}
-use Rattle.resources_ip_prefix.specs.Address.{bits_of}
-use Rattle.resources_ip_prefix.specs.Prefix.{prefix_addr, prefix_len, run_of_prefix}
+use Rattle.resources_ip_prefix.specs.Prefix.{prefix_len, run_of_prefix}
 use Rattle.resources_ip_prefix.specs.Prefixes.{first_of, last_of, prefix_run}
 use Rattle.resources_ip_prefix.specs.Written.{spelled_bits}
 use Rattle.resources_ip_block.specs.BlockEncodings.{IsBlock}

@@ -1,5 +1,5 @@
 -- What is written of a block, by its addresses alone (RFC 3779 2.2.3.7).
-use Rattle.std.proofs.Common.{◌≡◌, ℕ, ◌+◌, ◌-◌, ◌*◌, ◌/◌, ◌^◌, ◌<◌, ◌≤◌, inl, inr, List, ap, sym, ◌∙◌, subst, take, refl, arith}
+use Rattle.std.proofs.Common.{◌≡◌, ℕ, ◌+◌, ◌-◌, ◌*◌, ◌/◌, ◌^◌, ◌<◌, ◌≤◌, inl, inr, List, ap, sym, ◌∙◌, subst, take, arith}
 use Rattle.std.proofs.lemmas.Bool.Decides.{leb_tells}
 use Rattle.std.proofs.lemmas.Nat.{pow_pos, shr_high}
 use Rattle.std.proofs.Math.Pow.{pow-lt}
@@ -23,7 +23,7 @@ use Rattle.resources_ip_prefix.specs.declared.prefix.Prefix.{Prefix}
 use Rattle.resources_ip_prefix.specs.Address.{bits_of}
 use Rattle.resources_ip_prefix.specs.Prefix.{prefix_addr, prefix_len, run_of_prefix, len_within, host_clear}
 use Rattle.resources_ip_prefix.specs.Prefixes.{first_of, last_of, span_of}
-use Rattle.resources_ip_block.specs.Written.{BlockTrees, EncodesBlock, EncodesRange, IsShortestMax, IsShortestMin, PrefixTrees, RangeTrees, RangeValue}
+use Rattle.resources_ip_block.specs.Written.{BlockTrees, EncodesBlock, IsShortestMax, IsShortestMin, PrefixTrees, RangeTrees, RangeValue}
 use Rattle.resources_ip_prefix.specs.Written.{octet_count, spelled_bits}
 
 -- The octets that are written of a prefix, of a range, of a block.

@@ -167,7 +167,6 @@ impl From<AddressRange> for IpBlock {
 }
 
 impl PartialEq for IpBlock {
-    ghost use Rattle.std.specs.Prelude.{List, [], ◌∷◌};
     ghost use Rattle.std.specs.Cmp.{partial_equiv_from_equiv};
     ghost use Rattle.resources_ip_block.specs.Block.{run_of_block};
     ghost use Rattle.resources_ip_block.specs.BlockEq.{block_eq, block_eq_equiv};

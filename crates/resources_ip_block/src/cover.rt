@@ -1,8 +1,7 @@
 //! The prefixes that cover a range of addresses.
 
-ghost use Rattle.std.specs.Prelude.{◌≡◌, ◌≤◌, List};
+ghost use Rattle.std.specs.Prelude.{List};
 ghost use Rattle.std.specs.Iterator.{Drains};
-ghost use Rattle.resources_ip_prefix.specs.Prefix.{prefix_len, run_of_prefix};
 ghost use Rattle.resources_ip_block.specs.Range.{run_of_range};
 ghost use Rattle.resources_ip_block.specs.Cover.{IsCover, IsFirst, IsBehind, filled, gives, left_at_most};
 

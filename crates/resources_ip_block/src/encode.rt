@@ -1,6 +1,5 @@
 //! Ranges and blocks that are written (RFC 3779 2.2.3.7, 2.2.3.9).
 
-ghost use Rattle.std.specs.Prelude.{◌≡◌};
 ghost use Rattle.resources_ip_block.specs.Block.{run_of_block};
 ghost use Rattle.resources_ip_block.specs.Range.{run_of_range};
 ghost use Rattle.resources_ip_block.specs.WrittenBlock.{AreIpBlock, WritesIpBlock, block_one, block_spelled};

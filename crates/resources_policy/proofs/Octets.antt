@@ -1,5 +1,5 @@
 -- Components below 128 are one octet each.
-use Rattle.std.proofs.Common.{◌≡◌, ℕ, ◌+◌, ◌*◌, ◌<◌, ◌≤◌, List, [], ◌∷◌, All, refl, arith}
+use Rattle.std.proofs.Common.{ℕ, ◌<◌, ◌≤◌, List, [], ◌∷◌, All, refl, arith}
 use Rattle.resources_chain.specs.declared.claims.Overclaim.{Overclaim}
 use Rattle.resources_chain.specs.declared.claims.Overclaim.TheVariants.{Refuse, Trim}
 use Rattle.resources_policy.specs.bcder_oid.Subidentifiers.{InTurn, IsShortest}

@@ -1,5 +1,5 @@
 -- What changes lead to.
-use Rattle.std.proofs.Common.{◌≡◌, ℕ, List, inl, inr}
+use Rattle.std.proofs.Common.{◌≡◌, List, inl, inr}
 use Rattle.resources_set.specs.resources_chain.Sets.{Run, InFirstOnly, IsRunsOf}
 use Rattle.resources_set.proofs.of_resources_chain.SetLemmas.{decides, one_list_of}
 use Rattle.resources_set.specs.Resources.{Resources, Changes, AreChanges, Combines}

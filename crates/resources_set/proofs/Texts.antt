@@ -1,6 +1,6 @@
 -- Texts of sets of all three kinds.
 use Rattle.std.proofs.Common.{◌≡◌, ℕ, List, [], ◌∷◌, ◌++◌, inl, refl, le_refl}
-use Rattle.std.specs.Prelude.{◌↔◌, Bool, true, false, IsTrue, if◌then◌else◌, codes}
+use Rattle.std.specs.Prelude.{◌↔◌, Bool, IsTrue, if◌then◌else◌, codes}
 use Rattle.resources_set.specs.resources_chain.Sets.{Run, AreMaximal}
 use Rattle.resources_set.specs.resources_chain.Same.{one_answer}
 use Rattle.resources_set.specs.Equal.{all_three}

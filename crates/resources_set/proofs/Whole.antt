@@ -1,5 +1,5 @@
 -- Sets over whole IPv4 addresses, joined and cut.
-use Rattle.std.proofs.Common.{ℕ, List, inl, inr, sym}
+use Rattle.std.proofs.Common.{List, inl, inr, sym}
 use Rattle.resources_set.specs.resources_chain.Sets.{Run, InEither, InBoth, InFirstOnly, IsRunsOf}
 use Rattle.resources_set.specs.resources_ip.WholeSets.{AreWhole}
 

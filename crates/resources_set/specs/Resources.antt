@@ -1,7 +1,7 @@
 -- Sets of resources of three kinds: AS numbers, and addresses of IPv4 and of IPv6.
-use Rattle.std.specs.Prelude.{◌≡◌, ℕ, ◌/◌, ◌^◌, ◌⊎◌, ◌↔◌, List}
+use Rattle.std.specs.Prelude.{◌≡◌, ℕ, ◌⊎◌, ◌↔◌, List}
 use Rattle.resources_set.specs.resources_chain.Sets.{Run, InRuns, IsRunsOf, InFirstOnly, IsInside}
-use Rattle.resources_set.specs.resources_chain.Claims.{Choice, Lists}
+use Rattle.resources_set.specs.resources_chain.Claims.{Choice}
 pub use Rattle.resources_set.specs.resources_ip.WholeSets.{ListsWhole}
 use Rattle.resources_set.specs.resources_chain.declared.choice.ResourcesChoice.TheVariants.{Inherit}
 

@@ -1,10 +1,10 @@
 //! Sets of resources of all three kinds.
 
-ghost use Rattle.std.specs.Prelude.{◌≡◌, ◌≢◌, ℕ, [], ◌≤◌, ◌↔◌, ◌⊎◌, ◌==◌, ◌&&◌, IsTrue, IsErrOf, IfOk, MatchResult};
+ghost use Rattle.std.specs.Prelude.{◌≡◌, ◌≢◌, [], ◌≤◌, ◌↔◌, ◌==◌, IsTrue, IsErrOf, IfOk, MatchResult};
 ghost use Rattle.std.proofs.Common.{rules};
-ghost use Rattle.resources_set.specs.resources_chain.Sets.{IsRunsOf, InEither, InBoth, InFirstOnly};
+ghost use Rattle.resources_set.specs.resources_chain.Sets.{InEither, InBoth, InFirstOnly};
 ghost use Rattle.resources_set.specs.resources_chain.Claims.{HasMaximal, Lists};
-ghost use Rattle.resources_set.specs.resources_chain.declared.choice.ResourcesChoice.TheVariants.{Inherit, Blocks};
+ghost use Rattle.resources_set.specs.resources_chain.declared.choice.ResourcesChoice.TheVariants.{Blocks};
 ghost use Rattle.resources_set.specs.resources_ip_prefix.declared.addr.AddressFamily.TheVariants.{Ipv4, Ipv6};
 ghost use Rattle.resources_set.specs.resources_ip.Blocks.{IsAddress};
 ghost use Rattle.resources_set.specs.resources_ip.Written.{FitsChoice};

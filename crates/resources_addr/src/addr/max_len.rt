@@ -1,11 +1,11 @@
 //! Prefixes with a greatest length.
 
-ghost use Rattle.std.specs.Prelude.{◌≡◌, ℕ, Option, Some, None, refl, MatchResult, MatchOption};
+ghost use Rattle.std.specs.Prelude.{◌≡◌, Option, Some, None, refl, MatchResult};
 ghost use Rattle.std.specs.Cmp.{partial_equiv_from_equiv, po};
 ghost use Rattle.std.specs.Ordering.{as_partial_cmp};
-ghost use Rattle.resources_addr.specs.Prefixes.{PrefixValue, IsPrefix, family_of, bits_of};
+ghost use Rattle.resources_addr.specs.Prefixes.{family_of, bits_of};
 ghost use Rattle.resources_addr.specs.MaxLens.{MaxLenValue, IsMaxLen, resolved, saturated, max_len_cmp};
-ghost use Rattle.resources_addr.specs.Refusals.{IsNoMaxLen, HasNoMaxLen};
+ghost use Rattle.resources_addr.specs.Refusals.{HasNoMaxLen};
 ghost use Rattle.resources_addr.specs.Orders.{max_len_total, max_len_eq, max_len_equiv, max_len_ties, max_len_fed, max_len_alike};
 
 use super::error::MaxLenError;

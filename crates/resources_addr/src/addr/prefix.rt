@@ -1,6 +1,6 @@
 //! Prefixes of IPv4 and IPv6 addresses.
 
-ghost use Rattle.std.specs.Prelude.{◌≡◌, ◌-◌, ◌+◌, ◌<◌, ◌≤◌, ◌^◌, ◌↔◌, IsTrue, MatchResult, refl};
+ghost use Rattle.std.specs.Prelude.{◌≡◌, ◌-◌, ◌+◌, ◌<◌, ◌^◌, ◌↔◌, IsTrue, MatchResult, refl};
 ghost use Rattle.std.specs.Net.Addr.{MatchIp, IsIpv4OfBits, IsIpv6OfBits, ipv4_bits, ipv6_bits};
 ghost use Rattle.resources_addr.specs.Prefixes.{width, family_of, bits_of, IsPrefix, prefix_around, last_of, Covers, family_cmp, prefix_cmp, Ipv4, Ipv6};
 ghost use Rattle.std.specs.Cmp.{partial_equiv_from_equiv, po};

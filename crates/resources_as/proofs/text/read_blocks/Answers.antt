@@ -1,9 +1,7 @@
-use Rattle.std.proofs.Common.{inl, inr, refl, rules, subst, List, ℕ}
+use Rattle.std.proofs.Common.{inl, inr, refl, rules}
 use Rattle.std.proofs.lemmas.Result.{err_from_is_err_and}
 use denote.Shadow.{shadow}
 use denote.Text.{Utf8}
-use Rattle.resources_as.specs.resources_chain.Sets.{Run}
-use Rattle.resources_as.specs.resources_chain.Lists.{Leaves}
 use Rattle.resources_as_block.specs.Blocks.{as_run}
 use Rattle.resources_as_block.specs.Texts.{IsAsBlockText}
 use Rattle.resources_as.proofs.Pushed.{some_pushed}

@@ -1,4 +1,4 @@
-use Rattle.std.proofs.Common.{◌≡◌, [], arith}
+use Rattle.std.proofs.Common.{arith}
 use Rattle.resources_as.proofs.Texts.{read_piece_is}
 use Rattle.resources_as.proofs.text.read_piece.Goals as goal
 

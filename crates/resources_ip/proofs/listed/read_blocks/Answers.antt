@@ -1,11 +1,9 @@
-use Rattle.std.proofs.Common.{◌≡◌, [], ◌∷◌, ◌++◌, inl, inr, refl, rules}
+use Rattle.std.proofs.Common.{inl, inr, refl, rules}
 use Rattle.std.proofs.lemmas.Result.{err_from_is_err_and}
 use denote.Shadow.{shadow}
 use denote.Text.{Utf8}
-use Rattle.resources_ip.specs.resources_ip_prefix.declared.addr.AddressFamily.TheVariants.{Ipv4}
 use Rattle.resources_ip_block.specs.Block.{run_of_block}
 use Rattle.resources_ip_block.specs.ReadTexts.{WritesBlock}
-use Rattle.resources_ip.specs.WholeSets.{AreWhole}
 use Rattle.resources_ip.proofs.of_resources_chain.ListTexts.{leaves_more, leaves_last}
 use Rattle.resources_ip.proofs.WholeLemmas.{whole_push, some_pushed}
 use Rattle.resources_ip.proofs.listed.read_blocks.Goals as goal

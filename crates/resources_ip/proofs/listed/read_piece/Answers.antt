@@ -1,4 +1,4 @@
-use Rattle.std.proofs.Common.{◌≡◌, ◌≢◌, arith, rules, sym, subst, refl}
+use Rattle.std.proofs.Common.{◌≡◌, ◌≢◌, arith, rules, subst}
 use Rattle.resources_ip.specs.resources_ip_prefix.declared.addr.AddressFamily.{AddressFamily}
 use Rattle.resources_ip.specs.resources_ip_prefix.ReadTexts.{Shows}
 use Rattle.resources_ip_block.proofs.ReadLemmas.{shown_as}

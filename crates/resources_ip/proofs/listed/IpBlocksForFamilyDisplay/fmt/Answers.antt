@@ -1,4 +1,4 @@
-use Rattle.std.proofs.Common.{List, ℕ, map, ap, sym, ◌∙◌, rules}
+use Rattle.std.proofs.Common.{List, map, ap, sym, ◌∙◌, rules}
 use Rattle.std.specs.Fmt.{HasWritten}
 use Rattle.std.proofs.Output.{has_written_append, has_written_of_eq}
 use Rattle.resources_ip_block.specs.declared.block.IpBlock.{IpBlock}

@@ -1,7 +1,7 @@
-use Rattle.std.proofs.Common.{subst, List}
+use Rattle.std.proofs.Common.{subst}
 use Rattle.resources_ip_block.specs.resources_chain.Sets.{Run}
 use Rattle.resources_ip_prefix.specs.Address.{bits_of}
-use Rattle.resources_ip_prefix.specs.Prefix.{prefix_addr, prefix_len, run_of_prefix}
+use Rattle.resources_ip_prefix.specs.Prefix.{prefix_addr, prefix_len}
 use Rattle.resources_ip_block.specs.Range.{run_of_range}
 use Rattle.resources_ip_prefix.specs.Text.{v4_text, slashed}
 use Rattle.resources_ip_block.specs.BlockText.{dashed, IsBlockText}

@@ -1,4 +1,4 @@
-use Rattle.std.proofs.Common.{◌≡◌, ◌-◌, ◌∙◌, ℕ, Bool, true, false, refl, sym, ap, arith, eq-eqb}
+use Rattle.std.proofs.Common.{◌≡◌, ◌-◌, ◌∙◌, true, false, refl, sym, arith, eq-eqb}
 use Rattle.resources_ip_block.proofs.PrefixLemmas.{tried}
 use Rattle.resources_ip_prefix.specs.Address.{bits_of}
 use Rattle.resources_ip_block.specs.Range.{run_of_range}

@@ -1,7 +1,6 @@
-use Rattle.std.proofs.Common.{◌≡◌, ◌∙◌, subst, ap}
+use Rattle.std.proofs.Common.{◌≡◌, subst}
 use Rattle.resources_ip_block.specs.resources_chain.Sets.{Run}
 use Rattle.resources_ip_block.specs.Cover.{IsCover, filled}
-use Rattle.resources_ip_prefix.specs.Prefixes.{first_of, last_of}
 use Rattle.resources_ip_block.specs.Range.{run_of_range}
 use Rattle.resources_ip_block.proofs.range.AddressRange.to_v4_prefixes.Goals as goal
 
