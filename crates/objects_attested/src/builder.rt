@@ -1,6 +1,6 @@
 //! The content of a provider attestation that is put together (draft-ietf-sidrops-aspa-profile 3).
 
-ghost use Rattle.std.specs.Prelude.{◌≡◌, ◌⊎◌, ◌↔◌, [], IfErr, IfOk, IsTrue, OnErr, OnOk, length};
+ghost use Rattle.std.specs.Prelude.{◌≡◌, ◌⊎◌, ◌↔◌, [], IfOk, IsTrue, OnErr, OnOk, length};
 ghost use Rattle.std.specs.Result.{IsErrAnd};
 ghost use Rattle.objects_aspa.specs.Resources.{ListsAlone};
 ghost use Rattle.objects_attested.specs.objects_forms.Aspas.{IsLawful};
@@ -40,16 +40,15 @@ impl Model for AspaBuilder {
     ghost invariant = { λ b. IsAscending (values b.providers.items) };
 }
 
-// AS numbers in ascending order, each once. It is as many as before just where none stood twice.
-fn sorted(alloc: Global, asns: &[Asn]) -> Result<Vec<Asn>, AllocError>
-    ensures sorted { IfOk result (λ v. IsListOf (InList (values asns.now)) (values v.items)) }
-    ensures distinct { IfOk result
-        (λ v. (length v.items ≡ length asns.now) ↔ AreDistinct asns.now) }
+// The AS numbers in ascending order, each once. They are as many as before just where none stood twice.
+fn sorted(asns: Vec<Asn>) -> Vec<Asn>
+    ensures sorted { IsListOf (InList (values asns.items)) (values result.items) }
+    ensures distinct { (length result.items ≡ length asns.items) ↔ AreDistinct asns.items }
 {
-    let mut sorted = Vec::from_slice(alloc, asns)?;
+    let mut sorted = asns;
     sorted.sort_unstable();
     sorted.dedup();
-    Ok(sorted)
+    sorted
 }
 
 // Whether AS 0 isn't there with others.
@@ -82,19 +81,19 @@ impl AspaBuilder {
         }
     }
 
-    /// A customer with these providers, in any order. It is `Duplicate` where one stands twice; the AS numbers are copied
-    /// first, so `Memory` may come before that is known.
-    pub fn new(alloc: Global, customer_as: Asn, providers: &[Asn]) -> Result<Self, ProviderError>
+    /// A customer with these providers, in any order. It is refused just where one stands twice.
+    pub fn new(customer_as: Asn, providers: Vec<Asn>) -> Result<Self, DuplicateProviderAs>
         ensures customer { IfOk result (λ b. b.customer ≡ customer_as.value) }
         ensures providers { IfOk result
-            (λ b. IsListOf (InList (values providers.now)) b.providers) }
-        ensures distinct { OnOk result (AreDistinct providers.now) }
-        ensures duplicate { IfErr result (λ e. IsDuplicate e → ¬ (AreDistinct providers.now)) }
+            (λ b. IsListOf (InList (values providers.items)) b.providers) }
+        ensures distinct { OnOk result (AreDistinct providers.items) }
+        ensures duplicate { OnErr result (¬ (AreDistinct providers.items)) }
     {
-        let sorted = sorted(alloc, providers)?;
-        if sorted.len() != providers.len() {
+        let count = providers.len();
+        let sorted = sorted(providers);
+        if sorted.len() != count {
             drop(sorted);
-            return Err(ProviderError::Duplicate(DuplicateProviderAs));
+            return Err(DuplicateProviderAs);
         }
         Ok(AspaBuilder {
             customer_as,
