@@ -2,6 +2,7 @@
 //!
 //! | Module | Has |
 //! |---|---|
+//! | [`again`] | signed objects that are written again are read again |
 //! | [`aspa`] | contents of provider attestations |
 //! | [`built`] | signed objects that are built are read again, and are sound |
 //! | [`frame`] | what is written around a content is read again |
@@ -10,6 +11,7 @@
 //! | [`tal`] | trust anchor locators |
 //! | [`written`] | contents that are written are read again |
 
+pub use objects_again::laws as again;
 pub use objects_aspa::laws as aspa;
 pub use objects_built::laws as built;
 pub use objects_frame::laws as frame;
