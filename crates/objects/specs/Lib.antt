@@ -1,5 +1,6 @@
 -- What stands below, for the crates above.
 pub use Rattle.certs.specs as certs
+pub use Rattle.objects_again.specs as objects_again
 pub use Rattle.objects_built.specs as objects_built
 pub use Rattle.objects_forms.specs as objects_forms
 pub use Rattle.objects_frame.specs as objects_frame

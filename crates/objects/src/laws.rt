@@ -2,6 +2,7 @@
 //!
 //! | Module | Has |
 //! |---|---|
+//! | [`again`] | signed objects that are written again are read again |
 //! | [`aspa`] | contents of provider attestations |
 //! | [`attested`] | provider attestations that are written or signed are read again |
 //! | [`built`] | signed objects that are built are read again, and are sound |
@@ -11,6 +12,7 @@
 //! | [`tal`] | trust anchor locators |
 //! | [`written`] | contents that are written are read again |
 
+pub use objects_again::laws as again;
 pub use objects_aspa::laws as aspa;
 pub use objects_attested::laws as attested;
 pub use objects_built::laws as built;

@@ -28,8 +28,8 @@
 //!   and never another answer.
 //! - Digests, verdicts on signatures, keys that sign and clocks are handed in.
 //! - Validation, processing and encoding are calls of traits ([`sigobj::ProcessObject`], [`manifest::ValidateManifest`],
-//!   [`roa::ProcessRoa`], [`aspa::ProcessAspa`], [`roa::EncodeRoa`], [`manifest::EncodeManifest`], [`roa::FinalizeRoa`],
-//!   [`manifest::IntoManifest`]), since each is a crate of its own.
+//!   [`roa::ProcessRoa`], [`aspa::ProcessAspa`], [`sigobj::EncodeObject`], [`roa::EncodeRoa`], [`manifest::EncodeManifest`],
+//!   [`roa::FinalizeRoa`], [`manifest::IntoManifest`] and others), since each is a crate of its own.
 //!
 //! Each part's page has the rest.
 #![tactic(auto)]

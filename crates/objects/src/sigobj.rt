@@ -1,5 +1,8 @@
-//! Signed objects of any kind (RFC 5652 5; RFC 6488): read, validated and built, and what a signer signs.
+//! Signed objects of any kind (RFC 5652 5; RFC 6488): read, validated, written again and built, and what a signer signs.
 
+pub use objects_again::{
+    DecodeContent, EncodeAttributes, EncodeObject, MessageDigest, ObjectValues, SignedAttrs,
+};
 pub use objects_built::SignedObjectBuilder;
 pub use objects_frame::{ObjectValue, SignerValue, signed_attributes, signed_message};
 pub use objects_valid::{DecodeIfType, ProcessObject, SignedObject};

@@ -1,0 +1,113 @@
+//! Questions about the files of manifests.
+
+use crate::answers::{Answer, unknown};
+use anyhow::{Result, anyhow};
+use bcder::Mode;
+use bytes::Bytes;
+use certs_uri::Rsync;
+use certs_x509::{Serial, Time};
+use objects_again::{ManifestBuilder, ManifestFiles};
+use objects_manifest::ManifestContent;
+use objects_written::EncodeManifest;
+use std::alloc::Global;
+use std::str::FromStr;
+
+// The URIs of the files in that folder, and their hashes.
+fn listed(alloc: Global, answer: &mut Answer, content: &ManifestContent, base: &Rsync) {
+    for item in content.iter_uris(alloc, base) {
+        match item {
+            Ok((uri, hash)) => {
+                answer.say(&uri);
+                answer.say_octets(alloc, hash.as_slice());
+                drop(uri);
+            }
+            Err(error) => answer.say(&error),
+        }
+    }
+    answer.say(&"end");
+    let algorithm = content.file_hash_alg();
+    answer.say_written(alloc, &algorithm.encode(), Mode::Der);
+}
+
+/// The files that the content of a manifest lists, by their URIs in a folder.
+pub fn uris(alloc: Global, answer: &mut Answer, words: &[&str]) -> Result<()> {
+    let [folder, digits] = words else {
+        return unknown();
+    };
+    let Ok(base) = Rsync::from_slice(alloc, folder.as_bytes()) else {
+        return Err(anyhow!("no URI"));
+    };
+    let octets = hex::decode(alloc, *digits)?;
+    match ManifestContent::decode(alloc, octets.as_slice()) {
+        Ok(content) => {
+            listed(alloc, answer, &content, &base);
+            drop(content);
+        }
+        Err(error) => answer.refuse(error),
+    }
+    drop(base);
+    Ok(())
+}
+
+// The moment of a word.
+fn moment(word: &str) -> Result<Time> {
+    match Time::from_generalized(word.as_bytes()) {
+        Some(moment) => Ok(moment),
+        None => Err(anyhow!("no moment")),
+    }
+}
+
+// A hash of 32 octets.
+fn hash(alloc: Global, digits: &str) -> Result<[u8; 32]> {
+    let octets = hex::decode(alloc, digits)?;
+    let mut hash = [0u8; 32];
+    if octets.len() != hash.len() {
+        return Err(anyhow!("no hash"));
+    }
+    hash.copy_from_slice(octets.as_slice());
+    Ok(hash)
+}
+
+// One more file: its name in hexadecimal digits, and its hash.
+fn push(alloc: Global, builder: &mut ManifestBuilder, word: &str) -> Result<()> {
+    let Some((name, digits)) = word.split_once('=') else {
+        return Err(anyhow!("no file"));
+    };
+    let name = hex::decode(alloc, name)?;
+    let digest = hash(alloc, digits)?;
+    let name = Bytes::copy_from_slice(alloc, name.as_slice())?;
+    builder.push(name, digest)?;
+    Ok(())
+}
+
+// What the content says, by its octets.
+fn made(alloc: Global, answer: &mut Answer, builder: &ManifestBuilder) {
+    match builder.to_content(alloc) {
+        Ok(content) => {
+            let value = content.encode_ref();
+            answer.say_written(alloc, &value, Mode::Der);
+            drop(value);
+            drop(content);
+        }
+        Err(error) => answer.say(&error),
+    }
+}
+
+/// Contents of manifests that are put together.
+pub fn make(alloc: Global, answer: &mut Answer, words: &[&str]) -> Result<()> {
+    let [number, this_update, next_update, files @ ..] = words else {
+        return unknown();
+    };
+    let number = Serial::from(u64::from_str(*number)?);
+    let (this_update, next_update) = (moment(*this_update)?, moment(*next_update)?);
+    let mut builder = ManifestBuilder::new(alloc, number, this_update, next_update);
+    for file in files {
+        if let Err(error) = push(alloc, &mut builder, *file) {
+            drop(builder);
+            return Err(error);
+        }
+    }
+    made(alloc, answer, &builder);
+    drop(builder);
+    Ok(())
+}

@@ -1,0 +1,220 @@
+#!/usr/bin/env python3
+"""Writes the questions and answers of crates/objects_again_cases: tests/objects_again_cases.py
+
+Objects are made and read by objects_signed_cases.py. What is written of them is put together here from the parts that were
+read, by the grammar of RFC 5652 3 and 5: what is signed as it stood, all else in DER. Objects in DER whose algorithms have NULL
+where they are written with it are written as the very octets that were read.
+"""
+
+import pathlib
+
+import objects_cases as contents
+import objects_signed_cases as signed
+import rpki_readers as der
+import rpki_repositories as world
+from objects_signed_cases import KINDS, Object, Refused, front, header, made, need, respelled
+from rpki_repositories import NULL, RSA, SHA256, bits, integer, oid, seq, tlv
+
+FOLDER = pathlib.Path(__file__).resolve().parent.parent / "crates" / "objects_again_cases"
+
+
+def are_der(octets):
+    """Whether octets are values in DER, one after the other."""
+    try:
+        while octets:
+            octets = octets[front(octets, False).end :]
+    except Refused:
+        return False
+    return True
+
+
+def are_pieces(attributes):
+    """Whether each string of octets is one piece, as in DER."""
+    return not any(node.constructed and node.tag == (0, 4) for node in signed.nodes(front(tlv(0xA0, attributes), False)))
+
+
+class Parts:
+    """The parts of an object that is read, as they stand."""
+
+    def __init__(self, octets, ber):
+        self.read = Object(octets, ber)
+        data = der.only(der.counted(front(octets, ber), 2)[1], 0, der.CONTEXT)
+        _, _, info, carried, signers = der.counted(data, 5)
+        self.cert, self.signer = der.only(carried, 0, der.CONTEXT), der.only(signers, 17)
+        self.kind, self.content, self.ber = self.read.kind, self.read.content, ber
+        self.tbs, outer, said = der.counted(self.cert, 3)
+        self.algorithm = world.ALGORITHM if der.algorithm(outer, der.SHA256_RSA) else seq(oid("1.2.840.113549.1.1.11"))
+        self.cert_signature, _ = signed.bit_string(said, ber)
+        _, sid, _, attributes, _, signature = der.counted(self.signer, 6)
+        self.sid, self.signature = signed.string(sid, ber, (2, 0)), signed.string(signature, ber)
+        self.attributes = attributes.inner()
+        self.digest = self.read.signer(self.signer, ber)[3]
+
+    def written(self):
+        """The octets in DER, or None where what was signed doesn't stand in DER."""
+        if not (are_der(self.attributes) and are_der(self.tbs.octets())):
+            return None
+        cert = seq(self.tbs.octets(), self.algorithm, bits(self.cert_signature))
+        signer = seq(integer(3), tlv(0x80, self.sid), SHA256, tlv(0xA0, self.attributes), RSA, tlv(4, self.signature))
+        info = seq(tlv(6, self.kind), tlv(0xA0, tlv(4, self.content)))
+        data = seq(integer(3), tlv(0x31, SHA256), info, tlv(0xA0, cert), tlv(0x31, signer))
+        return seq(oid("1.2.840.113549.1.7.2"), tlv(0xA0, data))
+
+
+class Questions:
+    def __init__(self):
+        self.rows, self.messages = [], set()
+
+    def ask(self, answer, *words):
+        self.rows.append(("\t".join(words), answer))
+
+    def parts(self, how, octets):
+        try:
+            return Parts(octets, how == "relaxed")
+        except Refused:
+            return None
+
+    def again(self, how, kind, octets, same=None):
+        """Asks what is written of an object; `same` where it has to be the octets that were read."""
+        parts = self.parts(how, octets)
+        if parts and kind != "any" and (parts.kind != KINDS[kind] or contents.answer_of(kind, parts.content) == "refused"):
+            parts = None
+        if parts is None:
+            answer = "refused"
+        else:
+            text = parts.written()
+            assert not same or text == octets
+            # What was read strictly is read again, strictly, and a second time nothing changes.
+            assert how == "relaxed" or Parts(text, False).written() == text
+            answer = f"x{text.hex()} same same unsupported" if text else "unsupported x unsupported"
+        self.ask(answer, "again", how, kind, octets.hex())
+        return answer
+
+    def attributes(self, how, octets):
+        parts = self.parts(how, octets)
+        if parts is None:
+            return self.ask("refused", "attributes", how, octets.hex())
+        digest = f"x{parts.digest.hex()} x{tlv(4, parts.digest).hex()}"
+        if not are_der(parts.attributes):
+            return self.ask(f"unsupported unsupported {digest}", "attributes", how, octets.hex())
+        kept, message = tlv(0xA0, parts.attributes), tlv(0x31, parts.attributes)
+        told = f"x{kept.hex()} x{message.hex()} {digest}"
+        self.ask(told, "attributes", how, octets.hex())
+        # What is signed is read in DER, where the digest is one piece.
+        if message not in self.messages:
+            self.messages.add(message)
+            told = told if are_pieces(parts.attributes) else "refused"
+            self.ask(told, "message", message.hex())
+            self.ask("refused", "message", kept.hex())
+
+    def content(self, how, octets):
+        parts = self.parts(how, octets)
+        if parts is None:
+            return self.ask("refused", "content", how, octets.hex())
+        try:
+            first = f"x{front(parts.content, False).octets().hex()}"
+        except Refused:
+            first = "refused"
+        self.ask(f"{first} x{SHA256.hex()}", "content", how, octets.hex())
+
+    def uris(self, base, octets, files):
+        folder = base if base.endswith("/") else base + "/"
+        told = "".join(f"{folder}{name.decode()} x{digest.hex()} " for name, digest in files)
+        self.ask(f"{told}end x{SHA256.hex()}", "uris", base, octets.hex())
+
+
+def objects(q):
+    for what in signed.CONTENTS:
+        octets = made(what)
+        for kind in ("any", *KINDS):
+            for how in ("strict", "relaxed"):
+                q.again(how, kind, octets, kind in ("any", what))
+                q.again(how, kind, octets + b"behind")
+                q.again(how, kind, respelled(octets))
+        # In BER around parts that stand in DER, and with all lengths indefinite.
+        parts = Parts(octets, False)
+        kept = {node.start for part in (parts.tbs, parts.signer.members[3]) for node in signed.nodes(part)}
+        kept.discard(parts.signer.members[3].start)
+        for form in ("open", 1, 4):
+            way = signed.spelled(front(octets, False), lambda node: ("shortest" if node.start in kept else form, None))
+            answer = q.again("relaxed", what, way)
+            assert answer.split()[0] == "x" + octets.hex(), form
+            q.again("strict", what, way)
+            assert q.again("relaxed", what, signed.spelled(front(octets, False), lambda node: (form, None))).startswith("unsupported")
+        for _ in range(10):
+            q.again("relaxed", what, respelled(octets, signed.by_chance))
+        for how in ("strict", "relaxed"):
+            q.attributes(how, octets)
+            q.attributes(how, respelled(octets))
+            q.content(how, octets)
+            q.content(how, respelled(octets))
+    changed(q)
+
+
+def changed(q):
+    """Each part changed, as it is read and written."""
+    for changes in (signed.objects_changed(), signed.certificates_changed()):
+        for change in changes:
+            octets = made("roa", **change)
+            for how in ("strict", "relaxed"):
+                if q.parts(how, octets):
+                    q.again(how, "any", octets)
+                    q.attributes(how, octets)
+    for octets in (b"", b"\x30\x80", seq(), world.roa(1, "10.0.0.0/8") + b"behind", world.roa(1, "10.0.0.0/8")[:-1]):
+        for how in ("strict", "relaxed"):
+            q.content(how, made("roa", content=tlv(4, octets)))
+
+
+def messages(q):
+    """What isn't the message of a signer."""
+    parts = Parts(made("roa"), False)
+    for octets in (b"", tlv(0x31), tlv(0x11, parts.attributes), tlv(0x30, parts.attributes), tlv(0x31, parts.attributes[:-1]), tlv(0x31, parts.attributes, NULL),
+                   b"\x31\x80" + parts.attributes + b"\0\0", tlv(0x31, parts.attributes * 2), tlv(0x31, tlv(0x31, parts.attributes))):
+        q.ask("refused", "message", octets.hex())
+
+
+def files(q):
+    digest = bytes(range(32))
+    updates = (b"20261123000000Z", b"20261124000000Z")
+    some = [(b"a.roa", digest), (b"B_-9.crl", digest[::-1]), (b"-.cer", b""), (b"a.roa", b"\0"), (b"x" * 300 + b".asa", digest * 3)]
+    for base in ("rsync://a.example/m", "rsync://a.example/m/", "rsync://A.EXAMPLE/m/b//", "RSYNC://h/m/p.q"):
+        for listed in ([], some[:1], some, some[::-1], [(b"f%d.roa" % at, digest) for at in range(300)]):
+            q.uris(base, world.manifest(7, updates, listed), listed)
+    for octets in (b"", world.manifest(7, updates, [(b"a/b.roa", digest)]), world.manifest(7, updates, some)[:-1]):
+        q.ask("refused", "uris", "rsync://a.example/m/", octets.hex())
+
+
+def made_manifests(q):
+    digest = bytes(range(32))
+
+    def make(number, updates, files):
+        good = all(contents.NAME.fullmatch(name) for name, _ in files)
+        answer = "x" + world.manifest(number, updates, files).hex() if good else "invalid file name"
+        q.ask(answer, "make", str(number), *(text.decode() for text in updates), *(f"{name.hex()}={hash.hex()}" for name, hash in files))
+
+    updates = (b"20261123000000Z", b"20261124000000Z")
+    some = [(b"a.roa", digest), (b"B_-9.crl", digest[::-1]), (b"a.roa", bytes(32))]
+    for number in (0, 127, 128, 2**63, 2**64 - 1):
+        make(number, updates, some)
+    for moments in (updates, updates[::-1], (b"00000101000000Z", b"99991231235959Z"), (b"20491231235959Z", b"19500101000000Z")):
+        for listed in ([], some[:1], some, [(b"f%d.cer" % at, digest) for at in range(200)]):
+            make(7, moments, listed)
+    for name in (b"", b".roa", b"a/b.roa", b"a.roas", b"a", b"\xc3\xa9.roa", b"a.r0a", b"-.cer"):
+        for listed in ([(name, digest)], some + [(name, digest)], [(name, digest)] + some):
+            make(7, updates, listed)
+
+
+def main():
+    q = Questions()
+    objects(q)
+    messages(q)
+    files(q)
+    made_manifests(q)
+    FOLDER.mkdir(parents=True, exist_ok=True)
+    (FOLDER / "stdin").write_text("".join(f"{question}\n" for question, _ in q.rows))
+    (FOLDER / "stdout").write_text("".join(f"{answer}\n" for _, answer in q.rows))
+    print(len(q.rows), "questions")
+
+
+if __name__ == "__main__":
+    main()
