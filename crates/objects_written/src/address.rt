@@ -1,9 +1,10 @@
 //! One address of a route origin attestation, written (RFC 9582 4.3.2).
 
-ghost use Rattle.std.specs.Prelude.{◌≡◌};
+ghost use Rattle.std.specs.Prelude.{◌≡◌, List};
+ghost use Rattle.objects_written.specs.objects_forms.Roas.{RoaAddress};
 ghost use Rattle.objects_written.specs.Roas.{address, address_parts, max_length, prefix};
 
-use crate::lists::Lists;
+use crate::lists::{Each, Lists};
 use certs_key::encode::{EncodeError, Primitive, Values};
 use certs_key::{Mode, Tag};
 use certs_written::Sequence;
@@ -182,5 +183,24 @@ impl<'a> Lists for Addresses<'a> {
     fn next(pass: &mut RoaIpAddressIter<'a>) -> Option<AddressValue> {
         let address = pass.next()?;
         Some(AddressValue(address))
+    }
+}
+
+/// Addresses of one family, which are written.
+pub trait EncodeAddresses {
+    // The addresses, in their order.
+    ghost addresses: { Self → List RoaAddress };
+
+    /// The addresses as they are written: a SEQUENCE OF them, in their order (RFC 9582 4.3.2).
+    fn encode_ref(&self) -> Sequence<Each<Addresses<'_>>>
+        ensures { result.0.0 ≡ addresses self.now };
+}
+
+impl EncodeAddresses for RoaIpAddresses {
+    ghost addresses = { λ a. a };
+
+    fn encode_ref(&self) -> Sequence<Each<Addresses<'_>>> {
+        let addresses = Addresses::new(self);
+        Sequence(Each(addresses))
     }
 }

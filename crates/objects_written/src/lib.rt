@@ -1,8 +1,9 @@
 //! What is written of the contents of signed objects: route origin attestations (RFC 9582 4) and manifests
 //! (RFC 9286 4.2).
 //!
-//! [`EncodeRoa`], [`EncodeManifest`] and [`EncodeFile`] give contents and listed files what the codec writes; the `to_octets`
-//! of the first two is the DER that a signed object holds, and is read again as the same content.
+//! [`EncodeRoa`], [`EncodeManifest`], [`EncodeAddresses`] and [`EncodeFile`] give contents, addresses and listed files
+//! what the codec writes; the `to_octets` of the first two is the DER that a signed object holds, and is read again as
+//! the same content.
 //!
 //! What differs from the Rust crate: these are calls of traits; what is refused is answered with an error, where the
 //! Rust crate panics.
@@ -16,7 +17,7 @@ pub mod lists;
 pub mod manifest;
 pub mod roa;
 
-pub use address::AddressValue;
+pub use address::{AddressValue, Addresses, EncodeAddresses};
 pub use family::FamilyValue;
 pub use file::{EncodeFile, FileValue};
 pub use lists::{Each, Lists};
