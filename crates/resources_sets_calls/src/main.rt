@@ -7,7 +7,6 @@
 
 mod answers;
 mod builders;
-mod decoded;
 mod families;
 mod sets;
 
@@ -20,7 +19,6 @@ fn say(alloc: Global, answer: &mut Answer, topic: &str, words: &[&str]) -> Resul
     match topic {
         "resources" => builders::answer(alloc, answer, words),
         "family" => families::answer(alloc, answer, words),
-        "der" => decoded::answer(alloc, answer, words),
         "set" => sets::answer(alloc, answer, words),
         _ => unknown(),
     }
