@@ -197,7 +197,23 @@ def lines(q):
         q.ask(told(name, [RSYNC], PLAIN).lstrip(" ") if name else told("", [RSYNC], PLAIN)[1:], "locator", name, (RSYNC + b"\n\n" + key).hex())
 
 
+def one_uri(q):
+    """One URI, by each call that makes one."""
+    good = (RSYNC, HTTPS, b"rsync://h/m", b"rsync://h/m/", b"RSYNC://H/M//", b"rSyNc://h/m/a/../b", b"https://h", b"HTTPS://h/", b"https://h//x", b"https://h?q#f")
+    wrong = (b"", b"rsync://h", b"rsync://h/", b"rsync:///m", b"rsync://h//", b"https://", b"https:///", b"http://h/", b"ftp://h/m", b"rsync://h/m/ x", b" " + RSYNC,
+             RSYNC + b" ", RSYNC + b"\n", b"rsync://h/m/\x7f", b"https://h/\0", b"file:///x", b"x", b"https:/h", b"rsync:h/m")
+    for text in (*good, *wrong):
+        assert bool(URI.fullmatch(text)) == (text in good), text
+        is_rsync = text[:5].lower() == b"rsync"
+        told = f"{text.decode()} {text.decode()} {'true false' if is_rsync else 'false true'}" if text in good else "bad URI"
+        for call in ("slice", "bytes", "string"):
+            q.ask(told, "locator", "uri", call, text.hex())
+    for call in ("slice", "bytes"):
+        q.ask("bad URI", "locator", "uri", call, b"rsync://h/m/\x80".hex())
+
+
 def locators(q):
     """Asks all questions."""
     lines(q)
     encodings(q)
+    one_uri(q)

@@ -229,12 +229,14 @@ class Answers:
     def of(self, how, kind, octets):
         try:
             made = Object(octets, how == "relaxed")
-            need(kind == "any" or made.kind == KINDS[kind])
+            need(kind in ("any", "parts") or made.kind == KINDS[kind])
         except Refused:
             return "refused"
         told = " ".join(map(word, made.told))
         if kind == "any":
             return told
+        if kind == "parts":  # what is handed over: both times stand in the attributes
+            return " ".join(map(word, made.told[:2] + made.told[4:]))
         content = self.of_content(kind, made.content)
         return content if content == "refused" else f"{told} {content}"
 
@@ -552,6 +554,10 @@ def signed(q, of_content):
     worked(ask)
     deep(q, answers)
     rows(q, answers)
+    for what in CONTENTS:
+        octets = made(what)
+        for way in (octets, respelled(octets), octets + b"behind", octets[:-1]):
+            both("parts", way)
 
 
 def contents(ask):

@@ -1,36 +1,23 @@
-//! Signed objects that are built of given fields, as data: each line of standard input names the fields by words with a tab
-//! between, and each line of standard output answers the octets of the object, and whether they are read as that object.
+//! Signed objects that are built of given fields, and contents that are put together, as data: each line of standard input names
+//! the fields by words with a tab between, and each line of standard output answers the octets of the object, and whether they
+//! are read as that object, or what was put together.
 //!
 //! `tests/objects_built_cases.py` writes both, and knows the answers by means of its own.
 #![tactic(auto)]
 
+mod addresses;
+mod answers;
+mod attested;
 mod fields;
+mod files;
+mod issued;
 mod signer;
 
+use answers::told;
 use anyhow::{Result, anyhow};
 use objects_built::SignedObjectBuilder;
-use objects_signed::SignedObject;
 use signer::{Fips, Stub};
 use std::alloc::Global;
-
-// What is read of octets that were built: the content and its type, or nothing.
-fn again(alloc: Global, octets: &[u8]) -> Result<String> {
-    match SignedObject::decode(alloc, octets, true) {
-        Ok(object) => {
-            let kind = hex::encode(alloc, object.content_type().as_slice());
-            drop(object);
-            Ok(format!(in alloc; "again {}", kind?)?)
-        }
-        Err(_) => Ok(String::from_str(alloc, "unread")?),
-    }
-}
-
-// The octets of an object, and what is read of them.
-fn shown(alloc: Global, octets: &[u8]) -> Result<String> {
-    let read = again(alloc, octets)?;
-    let digits = hex::encode(alloc, octets)?;
-    Ok(format!(in alloc; "{digits} {read}")?)
-}
 
 // The object that is built, with a content of that type.
 fn built(
@@ -40,14 +27,10 @@ fn built(
     content: &[u8],
     signer: &Stub,
 ) -> Result<String> {
-    match builder.finalize(alloc, kind, content, signer, &(), &Fips) {
-        Ok(octets) => {
-            let text = shown(alloc, octets.as_slice());
-            drop(octets);
-            text
-        }
-        Err(error) => Ok(format!(in alloc; "{error}")?),
-    }
+    told(
+        alloc,
+        builder.finalize(alloc, kind, content, signer, &(), &Fips),
+    )
 }
 
 // The answer to a question about a content and its type.
@@ -66,6 +49,16 @@ fn answer(alloc: Global, words: &[&str]) -> Result<String> {
     match *what {
         "build" => answered(alloc, rest, &Stub::willing()),
         "refuse" => answered(alloc, rest, &Stub::refusing()),
+        "roa" => issued::roa(alloc, rest, &Stub::willing()),
+        "refuse-roa" => issued::roa(alloc, rest, &Stub::refusing()),
+        "manifest" => issued::manifest(alloc, rest, &Stub::willing()),
+        "refuse-manifest" => issued::manifest(alloc, rest, &Stub::refusing()),
+        "aspa" => attested::answer(alloc, rest, &Stub::willing()),
+        "refuse-aspa" => attested::answer(alloc, rest, &Stub::refusing()),
+        "providers" => attested::providers(alloc, rest),
+        "addresses" => addresses::answer(alloc, rest),
+        "pair" => files::pair(alloc, rest),
+        "hash" => files::hash(alloc, rest),
         _ => Err(anyhow!("no such question")),
     }
 }

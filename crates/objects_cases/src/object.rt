@@ -49,6 +49,24 @@ fn any(alloc: Global, answer: &mut Answer, strict: bool, octets: &[u8]) {
     }
 }
 
+// The parts of an object that is taken apart: the content's type, the content, who signed, and the certificate.
+fn parts(alloc: Global, answer: &mut Answer, strict: bool, octets: &[u8]) {
+    match SignedObject::decode(alloc, octets, strict) {
+        Ok(signed) => {
+            let (kind, content, cert, signed_by) = signed.into_parts();
+            answer.say_octets(alloc, kind.as_slice());
+            string(alloc, answer, &content);
+            signer(alloc, answer, &signed_by);
+            cert::shown(alloc, answer, &cert);
+            drop(kind);
+            drop(content);
+            drop(cert);
+            drop(signed_by);
+        }
+        Err(error) => answer.refuse(error),
+    }
+}
+
 fn manifest_of(alloc: Global, answer: &mut Answer, strict: bool, octets: &[u8]) {
     match Manifest::decode(alloc, octets, strict) {
         Ok(object) => {
@@ -83,6 +101,7 @@ fn aspa_of(alloc: Global, answer: &mut Answer, strict: bool, octets: &[u8]) {
 fn read(alloc: Global, answer: &mut Answer, strict: bool, kind: &str, octets: &[u8]) -> Result<()> {
     match kind {
         "any" => any(alloc, answer, strict, octets),
+        "parts" => parts(alloc, answer, strict, octets),
         "manifest" => manifest_of(alloc, answer, strict, octets),
         "roa" => roa_of(alloc, answer, strict, octets),
         "aspa" => aspa_of(alloc, answer, strict, octets),

@@ -1,0 +1,75 @@
+//! The octets of objects that were built, and what is read of them.
+
+use anyhow::Result;
+use bcder::Captured;
+use certs_x509::SigningError;
+use objects_kinds::{Aspa, Manifest, Roa, SignedObject};
+use std::alloc::Global;
+use std::convert::Infallible;
+
+// The content types of the kinds (RFC 9582 3, RFC 9286 4.1, draft-ietf-sidrops-aspa-profile 2), by their octets.
+const ROA: &[u8] = &[42, 134, 72, 134, 247, 13, 1, 9, 16, 1, 24];
+
+const MANIFEST: &[u8] = &[42, 134, 72, 134, 247, 13, 1, 9, 16, 1, 26];
+
+const ASPA: &[u8] = &[42, 134, 72, 134, 247, 13, 1, 9, 16, 1, 49];
+
+// Whether something was read.
+fn is_read<T: Drop, E: Drop>(read: Result<T, E>) -> &'static str {
+    match read {
+        Ok(object) => {
+            drop(object);
+            "read"
+        }
+        Err(error) => {
+            drop(error);
+            "refused"
+        }
+    }
+}
+
+// Whether octets are read as an object of the kind that the type of its content names.
+fn kind_read(alloc: Global, kind: &[u8], octets: &[u8]) -> &'static str {
+    if kind == ROA {
+        return is_read(Roa::decode(alloc, octets, true));
+    }
+    if kind == MANIFEST {
+        return is_read(Manifest::decode(alloc, octets, true));
+    }
+    if kind == ASPA {
+        return is_read(Aspa::decode(alloc, octets, true));
+    }
+    "other"
+}
+
+// What is read of octets that were built: the type of the content, and whether it is of its kind; or nothing.
+fn again(alloc: Global, octets: &[u8]) -> Result<String> {
+    match SignedObject::decode(alloc, octets, true) {
+        Ok(object) => {
+            let read = kind_read(alloc, object.content_type().as_slice(), octets);
+            let kind = hex::encode(alloc, object.content_type().as_slice());
+            drop(object);
+            Ok(format!(in alloc; "again {} {read}", kind?)?)
+        }
+        Err(_) => Ok(String::from_str(alloc, "unread")?),
+    }
+}
+
+// The octets of an object, and what is read of them.
+fn shown(alloc: Global, octets: &[u8]) -> Result<String> {
+    let read = again(alloc, octets)?;
+    let digits = hex::encode(alloc, octets)?;
+    Ok(format!(in alloc; "{digits} {read}")?)
+}
+
+/// What is answered of an object, or why there is none.
+pub fn told(alloc: Global, built: Result<Captured, SigningError<Infallible>>) -> Result<String> {
+    match built {
+        Ok(octets) => {
+            let text = shown(alloc, octets.as_slice());
+            drop(octets);
+            text
+        }
+        Err(error) => Ok(format!(in alloc; "{error}")?),
+    }
+}
