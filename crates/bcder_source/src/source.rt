@@ -12,8 +12,9 @@ use std::error::Error;
 /// Octets that are asked for piece by piece.
 ///
 /// `rest` are the octets that were not taken yet, `available` how many of them lie at hand, and
-/// `position` how many were taken before: a position is for diagnostics alone. `asked` is how many octets from the next
-/// one on were asked for at most, so that nobody who reads a front of a stream need wait for what comes after it.
+/// `position` how many were taken before: a position is for diagnostics alone. `asked` is a count of
+/// octets from the next one on, which a request for `len` raises to `len` at most: a source that waits for others can
+/// count by it what it was asked for, and one whose octets are all in memory says 0.
 pub trait Source: Drop {
     /// How the source itself fails.
     type Error: Error;

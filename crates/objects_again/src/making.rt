@@ -210,7 +210,7 @@ impl ManifestBuilder {
         }
     }
 
-    /// Lists one more file, behind the others: its name, and the SHA-256 digest of its octets. A refusal changes nothing.
+    /// Lists one more file, after the others: its name, and the SHA-256 digest of its octets. A refusal changes nothing.
     pub fn push(&mut self, name: Bytes, hash: [u8; HASH_LEN]) -> Result<(), AllocError>
         ensures ok { OnOk result (self.new
             ≡ record self.old { files = self.old.files ++ file_of name hash ∷ [] }) }

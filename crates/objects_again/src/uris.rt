@@ -15,7 +15,7 @@ use std::marker::Model;
 /// folder's URI and the files that are left.
 ///
 /// An item is `BadUri` where the name has an octet that no URI has, and `Memory` where there was no memory for the URI; the
-/// iterator then goes on behind that file.
+/// iterator then goes on after that file.
 #[derive(Drop)]
 pub struct FileUris<'a> {
     alloc: Global,

@@ -28,7 +28,7 @@ pub enum ProviderError {
     /// One of them is there already.
     #[error("{0}")]
     Duplicate(DuplicateProviderAs),
-    /// Memory was wanted, and refused.
+    /// A growth of memory was refused.
     #[error("out of memory")]
     Memory,
 }

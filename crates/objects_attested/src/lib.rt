@@ -4,7 +4,7 @@
 //! `SignedObjectBuilder` has.
 //!
 //! What differs from the Rust crate: what takes memory is given an allocator and answers a `Result`; that a provider is there
-//! already is told beside lack of memory, by [`ProviderError`]; `finalize` is given a digester, and answers the octets of the
+//! already is answered beside lack of memory, by [`ProviderError`]; `finalize` is given a digester, and answers the octets of the
 //! object, which `Aspa::decode` reads.
 #![tactic(auto)]
 
