@@ -10,6 +10,9 @@ use resources_chain::Block;
 use resources_ip_prefix::{Addr, Prefix};
 use std::ops::RangeInclusive;
 
+// How many bits an address has.
+pub(crate) const ADDR_BITS: u8 = 128;
+
 /// The addresses from one on up to another, both included (RFC 3779 2.2.3.9).
 #[derive(Clone, Copy, Debug, PartialEq, Eq, Hash)]
 pub struct AddressRange {
