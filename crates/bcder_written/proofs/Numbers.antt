@@ -1,5 +1,5 @@
 -- The octets of numbers in two's complement (X.690 8.3.3), and those in front that only repeat the sign.
-use Rattle.std.proofs.Common.{◌≡◌, ℕ, zero, suc, ◌+◌, ◌-◌, ◌*◌, ◌/◌, ◌%◌, ◌^◌, ◌<◌, ◌≤◌, List, [], ◌∷◌, length, All, take, drop, sym, refl, ap, ◌∙◌, subst, arith, inl, inr, Option, length-drop}
+use Rattle.std.proofs.Common.{◌≡◌, ℕ, zero, suc, ◌+◌, ◌-◌, ◌*◌, ◌/◌, ◌%◌, ◌^◌, ◌<◌, ◌≤◌, ◌⊎◌, List, [], ◌∷◌, length, All, take, drop, sym, refl, ap, ◌∙◌, subst, arith, inl, inr, Option, length-drop}
 use Rattle.std.proofs.Math.Nat.{pow-succ', lt_of_mul-lt-mul_right}
 use Rattle.std.proofs.Math.Pow.{pow_mono}
 use Rattle.std.proofs.lemmas.Nat.{pow-add, leading_length}
@@ -23,7 +23,7 @@ use Rattle.bcder_written.specs.declared.error.EncodeError.TheVariants as errors
 use Rattle.bcder_written.specs.Contents.{ContentRefused}
 use Rattle.bcder_written.specs.Writing.{TookFront, HasLength}
 use Rattle.bcder_written.proofs.Pieces.{front_as}
-use Rattle.bcder_written.specs.Integers.{WritesUnsigned, Repeats, IsFewest, steps_of, near}
+use Rattle.bcder_written.specs.Integers.{WritesUnsigned, IsFewest, steps_of, near}
 
 -- A number in front counts at its place.
 shifted : (p c : ℕ) (v : List ℕ) → number_behind (p + c) v ≡ p * 256 ^ length v + number_behind c v
@@ -31,6 +31,10 @@ shifted p c [] = omega arith
 shifted p c (a ∷ v) =
     let e : (p + c) * 256 + a ≡ p * 256 + (c * 256 + a) = omega arith in
     omega (arith, ap (λ n. number_behind n v) e, shifted (p * 256) (c * 256 + a) v, ap (λ n. p * n) (pow-succ' 256 (length v)))
+
+-- The first of two octets in front only repeats the sign of the second (8.3.2).
+abbrev Repeats : ℕ → ℕ → Type 0
+Repeats a b = ((a ≡ 0) × (b < 128)) ⊎ ((a ≡ 255) × (128 ≤ b))
 
 -- Without such an octet the number is the same.
 behind_repeated : (a b : ℕ) (v : List ℕ) (x : ℤ) → Repeats a b → IsTwosComplement (a ∷ b ∷ v) x → IsTwosComplement (b ∷ v) x
@@ -105,6 +109,7 @@ fewest_few steps n k f close =
       | inr l ↦ absurd (omega (arith, f.least (omega (arith, l)), further k (n - 2) (omega (arith, l)), close))
     ]
 
+-- The same of a slice from there.
 pub last_shortest : (s : List ℕ) (x : ℤ) (n : ℕ) → All (λ a. a < 256) s → IsTwosComplement s x → IsFewest (steps_of x) n → n ≤ length s → IsShortest (take (length s - (length s - n)) (drop (length s - n) s))
 last_shortest s x n all is f there = subst IsShortest (sym (rest_is (length s - n) s)) (fewest_last s x n all is f there).0
 
@@ -136,6 +141,7 @@ fewest_bits n m low high q some most =
         let left : r ≡ suc (suc r) - 2 = omega arith in
         subst (λ k. 128 * 256 ^ k ≤ n) left reach
 
+-- And as many as a count of the zeros in front leaves.
 pub fewest_counted : (n : ℕ) → n < 2 ^ 128 → IsFewest n ((128 - count_leading_zeros 128 n) / 8 + 1)
 fewest_counted n low =
     let bits = leading_length 128 n low in
@@ -156,6 +162,7 @@ digits_spell : (k n p : ℕ) → number_behind p (bytes_high_first k n) ≡ p * 
 digits_spell zero n p = omega arith
 digits_spell (suc k) n p = digits_spell k n (p * 256 + byte_at k n) ∙ digit_more k n p
 
+-- These are octets.
 byte_small : (k n : ℕ) → byte_at k n < 256
 byte_small zero n = omega arith
 byte_small (suc k) n = let m : ℕ = n / 256 ^ suc k in let e : m % 256 < 256 = omega arith in e

@@ -1,5 +1,5 @@
 -- The content octets of INTEGERs (X.690 8.3), and that a number has one shortest content.
-use Rattle.std.proofs.Common.{◌≡◌, ℕ, suc, ◌+◌, ◌-◌, ◌*◌, ◌^◌, ◌<◌, ◌≤◌, List, [], ◌∷◌, length, All, refl, sym, ap, ◌∙◌, arith, ◌⊎◌, inl, inr}
+use Rattle.std.proofs.Common.{◌≡◌, ℕ, suc, ◌+◌, ◌-◌, ◌*◌, ◌^◌, ◌<◌, ◌≤◌, List, [], ◌∷◌, length, All, refl, sym, ap, ◌∙◌, arith, inl, inr}
 use Rattle.std.proofs.Math.Nat.{pow-succ', mul-le-mul_right}
 use Rattle.std.proofs.lemmas.Bool.{cases_lt}
 use Rattle.std.proofs.lemmas.List.Elements.{All-head, All-tail}
@@ -12,10 +12,6 @@ use Rattle.bcder_primitive.proofs.Numbers.{number_low, number_high, further}
 pub record WritesUnsigned (bound x : ℕ) (content : List ℕ) : Type 0 where
   pub octets : All (λ a. a < 256) content
   pub is : IsUnsigned bound content x
-
--- The first of two octets in front only repeats the sign of the second (8.3.2).
-abbrev pub Repeats : ℕ → ℕ → Type 0
-Repeats a b = ((a ≡ 0) × (b < 128)) ⊎ ((a ≡ 255) × (128 ≤ b))
 
 -- As many octets spell one number.
 same_digits : (p q : ℕ) (v w : List ℕ) → length v ≡ length w → All (λ a. a < 256) v → All (λ a. a < 256) w → number_behind p v ≡ number_behind q w → (p ≡ q) × (v ≡ w)
