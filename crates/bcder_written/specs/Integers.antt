@@ -1,5 +1,5 @@
 -- The content octets of INTEGERs (X.690 8.3), and that a number has one shortest content.
-use Rattle.std.proofs.Common.{◌≡◌, ℕ, suc, ◌+◌, ◌*◌, ◌^◌, ◌<◌, ◌≤◌, List, [], ◌∷◌, length, All, refl, sym, ap, ◌∙◌, arith, ◌⊎◌, inl, inr}
+use Rattle.std.proofs.Common.{◌≡◌, ℕ, suc, ◌+◌, ◌-◌, ◌*◌, ◌^◌, ◌<◌, ◌≤◌, List, [], ◌∷◌, length, All, refl, sym, ap, ◌∙◌, arith, inl, inr}
 use Rattle.std.proofs.Math.Nat.{pow-succ', mul-le-mul_right}
 use Rattle.std.proofs.lemmas.Bool.{cases_lt}
 use Rattle.std.proofs.lemmas.List.Elements.{All-head, All-tail}
@@ -12,10 +12,6 @@ use Rattle.bcder_primitive.proofs.Numbers.{number_low, number_high, further}
 pub record WritesUnsigned (bound x : ℕ) (content : List ℕ) : Type 0 where
   pub octets : All (λ a. a < 256) content
   pub is : IsUnsigned bound content x
-
--- The first of two octets in front only repeats the sign of the second (8.3.2).
-abbrev pub Repeats : ℕ → ℕ → Type 0
-Repeats a b = ((a ≡ 0) × (b < 128)) ⊎ ((a ≡ 255) × (128 ≤ b))
 
 -- As many octets spell one number.
 same_digits : (p q : ℕ) (v w : List ℕ) → length v ≡ length w → All (λ a. a < 256) v → All (λ a. a < 256) w → number_behind p v ≡ number_behind q w → (p ≡ q) × (v ≡ w)
@@ -31,13 +27,19 @@ same_digits p q (a ∷ v) (b ∷ w) n vs ws e =
     let others : v ≡ w = rest.1 in
     (omega arith, cc)
 
--- How far a number is from 0, or from -1.
-abbrev pub steps : ℤ → ℕ
-steps (pos n) = n
-steps (negsuc k) = k
+-- How many steps a number is from 0, or from -1.
+abbrev pub steps_of : ℤ → ℕ
+steps_of (pos n) = n
+steps_of (negsuc k) = k
+
+-- In how few octets a number stands that is so many steps from 0 or from -1 (8.3.2).
+pub record IsFewest (steps n : ℕ) : Type 0 where
+  pub some : 1 ≤ n
+  pub enough : steps < 128 * 256 ^ (n - 1)
+  pub least : 2 ≤ n → 128 * 256 ^ (n - 2) ≤ steps
 
 -- With octets after the first, a number reaches so far,
-pub near : (a : ℕ) (v : List ℕ) (x : ℤ) → All (λ a. a < 256) (a ∷ v) → IsTwosComplement (a ∷ v) x → steps x < 128 * 256 ^ length v
+pub near : (a : ℕ) (v : List ℕ) (x : ℤ) → All (λ a. a < 256) (a ∷ v) → IsTwosComplement (a ∷ v) x → steps_of x < 128 * 256 ^ length v
 near a v (pos n) all is =
     let low : a < 128 = is.0 in
     let p : (0 * 256 + a + 1) * 256 ^ length v ≤ 128 * 256 ^ length v = mul-le-mul_right (256 ^ length v) (omega arith) in
@@ -47,7 +49,7 @@ near a v (negsuc k) all is =
     omega (arith, number_low (0 * 256 + a) v, is.1, pow-succ' 256 (length v))
 
 -- and where they are shortest, at least so far.
-far : (a b : ℕ) (v : List ℕ) (x : ℤ) → All (λ a. a < 256) (a ∷ b ∷ v) → IsShortest (a ∷ b ∷ v) → IsTwosComplement (a ∷ b ∷ v) x → 128 * 256 ^ length v ≤ steps x
+far : (a b : ℕ) (v : List ℕ) (x : ℤ) → All (λ a. a < 256) (a ∷ b ∷ v) → IsShortest (a ∷ b ∷ v) → IsTwosComplement (a ∷ b ∷ v) x → 128 * 256 ^ length v ≤ steps_of x
 far a b v (pos n) all shortest is =
     let h : 128 ≤ (0 * 256 + a) * 256 + b = grind (arith, shortest.0) in
     let p : 128 * 256 ^ length v ≤ ((0 * 256 + a) * 256 + b) * 256 ^ length v = mul-le-mul_right (256 ^ length v) h in

@@ -64,6 +64,9 @@ pub fn put_header<W: Write>(
 {
     let (identifier, long) = tag.encoded(constructed);
     let (size, wide) = Length::encoded(content_len);
+    if long == 1 && wide == 1 {
+        return write_octets(target, &[identifier[0], size[0]]);
+    }
     write_octets(target, &identifier[..long])?;
     write_octets(target, &size[..wide])
 }

@@ -1,13 +1,13 @@
 //! Numbers, as the content of INTEGERs (X.690 8.3).
 
 ghost use Rattle.std.proofs.Common.{rules};
-ghost use Rattle.std.specs.Prelude.{◌≡◌, ◌↔◌, ◌^◌, ◌<◌, ◌≤◌, ℕ, ℤ, pos, length, IsTrue, IfErr, OnOk};
+ghost use Rattle.std.specs.Prelude.{◌≡◌, ◌-◌, ◌*◌, ◌^◌, ◌<◌, ◌≤◌, ℕ, ℤ, pos, length, IfErr, OnOk};
 ghost use Rattle.bcder_written.specs.bcder_tree.declared.mode.Mode.{Mode as ModeValue};
 ghost use Rattle.bcder_written.specs.bcder_tree.Tags.{integer_tag};
 ghost use Rattle.bcder_written.specs.bcder_tree.Integers.{IsShortest};
 ghost use Rattle.bcder_primitive.specs.Values.{IsSigned, IsTwosComplement, IsWithin};
 ghost use Rattle.bcder_written.specs.Contents.{ContentRefused};
-ghost use Rattle.bcder_written.specs.Integers.{WritesUnsigned, Repeats, one_unsigned, one_signed};
+ghost use Rattle.bcder_written.specs.Integers.{WritesUnsigned, IsFewest, steps_of, one_unsigned, one_signed};
 ghost use Rattle.bcder_written.specs.Writing.{HasLength, Wrote};
 
 use crate::bcder_tree::{Mode, Tag};
@@ -15,34 +15,23 @@ use crate::write::write_octets;
 use crate::{EncodeError, PrimitiveContent};
 use std::io::Write;
 
-// Whether the first of two octets in front only repeats the sign of the second (8.3.2).
-fn repeats_sign(first: u8, second: u8) -> bool
-    ensures { IsTrue result ↔ Repeats first second }
+// In how few octets a number stands that is so many steps from 0 or from -1, its sign with them (8.3.2).
+fn fewest(steps: u128) -> usize
+    ensures { IsFewest steps result }
 {
-    match first {
-        0 => second < 128,
-        255 => second >= 128,
-        _ => false,
-    }
+    (128 - steps.leading_zeros()) as usize / 8 + 1
 }
 
-// The octets without those in front that only repeat the sign.
-fn shortest(octets: &[u8]) -> &[u8]
-    requires { 1 ≤ length octets.now }
-    ensures shortest { IsShortest result.now }
-    ensures same { (x : ℤ) → IsTwosComplement octets.now x → IsTwosComplement result.now x }
-    ensures few { length result.now ≤ length octets.now }
+// The last octets, as few as the number takes that is so many steps from 0 or from -1.
+fn shortest(octets: &[u8], steps: u128) -> &[u8]
+    requires some { 1 ≤ length octets.now }
+    requires close { steps < 128 * 256 ^ (length octets.now - 1) }
+    ensures shortest { (x : ℤ) → steps_of x ≡ steps → IsTwosComplement octets.now x
+        → IsShortest result.now }
+    ensures same { (x : ℤ) → steps_of x ≡ steps → IsTwosComplement octets.now x
+        → IsTwosComplement result.now x }
 {
-    let mut rest = octets;
-    loop {
-        let [first, second, ..] = rest else {
-            return rest;
-        };
-        if !repeats_sign(*first, *second) {
-            return rest;
-        }
-        rest = &rest[1..];
-    }
+    &octets[octets.len() - fewest(steps)..]
 }
 
 // A number's octets, after a zero.
@@ -61,14 +50,23 @@ fn twos_complement(number: i128) -> [u8; 16]
     number.to_be_bytes()
 }
 
+// How many steps a number is from 0, or from -1.
+fn steps_from_zero(number: i128) -> u128
+    ensures { result ≡ steps_of number }
+{
+    if number < 0 {
+        !number.cast_unsigned()
+    } else {
+        number as u128
+    }
+}
+
 // How many content octets a number from 0 up has.
 fn unsigned_len(number: u128) -> usize
     ensures len { (bound : ℕ) → number < bound → HasLength (WritesUnsigned bound number) result }
     ensures few { result ≤ 17 }
 {
-    let octets = padded(number);
-    let content = shortest(&octets);
-    content.len()
+    fewest(number)
 }
 
 // Writes the content octets of a number from 0 up.
@@ -82,7 +80,7 @@ fn put_unsigned<W: Write>(target: &mut W, number: u128) -> Result<(), EncodeErro
         (W.contents target.old) (W.contents target.new)) }
 {
     let octets = padded(number);
-    let content = shortest(&octets);
+    let content = shortest(&octets, number);
     write_octets(target, content)
 }
 
@@ -92,9 +90,7 @@ fn signed_len(number: i128) -> usize
         → HasLength (λ content. IsSigned bound content number) result }
     ensures few { result ≤ 16 }
 {
-    let octets = twos_complement(number);
-    let content = shortest(&octets);
-    content.len()
+    fewest(steps_from_zero(number))
 }
 
 // Writes the content octets of a number.
@@ -109,7 +105,7 @@ fn put_signed<W: Write>(target: &mut W, number: i128) -> Result<(), EncodeError>
         (W.contents target.old) (W.contents target.new)) }
 {
     let octets = twos_complement(number);
-    let content = shortest(&octets);
+    let content = shortest(&octets, steps_from_zero(number));
     write_octets(target, content)
 }
 

@@ -1,13 +1,28 @@
-use Rattle.bcder_written.proofs.Numbers.{rest_same, rest_there, rest_fewer}
+use Rattle.bcder_primitive.proofs.Numbers.{all_octets}
+use Rattle.bcder_written.proofs.Numbers.{fewest_few, last_shortest, last_same}
 use Rattle.bcder_written.proofs.integers.shortest.Goals as goal
-use Rattle.std.proofs.Common.{arith}
+use Rattle.bcder_written.specs.Integers.{IsFewest}
+use Rattle.std.proofs.Common.{ℕ, ◌-◌, ◌≤◌, length, get_or, Fits, w8, subst, sym, rules, arith}
 
-pub loop-rest-preserved : goal.loop-rest-preserved
-loop-rest-preserved c =
-    let s = c.loop-rest.rest.now in
-    let there = c.in-len2-up.len_at_least in
-    record {
-      there = rest_there s there;
-      few = omega (arith, rest_fewer s, c.loop-rest.invariant.few);
-      same = λ x h. rest_same s x there (c.repeats_sign.ensures.0 c.if-not-repeats_sign.false) (c.loop-rest.invariant.same x h);
-    }
+pub overflow_sub-result : goal.overflow_sub-result
+overflow_sub-result c =
+    let few = fewest_few c.args.steps c.fewest.result (length c.args.octets.now - 1) c.fewest.ensures c.requires.close in
+    omega (arith, few, c.requires.some)
+
+pub returns-clause-shortest : goal.returns-clause-shortest
+returns-clause-shortest c = λ x e is.
+    let s = c.args.octets.now in
+    let n = c.fewest.result in
+    let few = fewest_few c.args.steps n (length s - 1) c.fewest.ensures c.requires.close in
+    let there : n ≤ length s = omega (arith, few, c.requires.some) in
+    let fits : (i : ℕ) → Fits w8 (get_or s i 0) = search rules in
+    last_shortest s x n (all_octets s fits) is (subst (λ k. IsFewest k n) (sym e) c.fewest.ensures) there
+
+pub returns-clause-same : goal.returns-clause-same
+returns-clause-same c = λ x e is.
+    let s = c.args.octets.now in
+    let n = c.fewest.result in
+    let few = fewest_few c.args.steps n (length s - 1) c.fewest.ensures c.requires.close in
+    let there : n ≤ length s = omega (arith, few, c.requires.some) in
+    let fits : (i : ℕ) → Fits w8 (get_or s i 0) = search rules in
+    last_same s x n (all_octets s fits) is (subst (λ k. IsFewest k n) (sym e) c.fewest.ensures) there
