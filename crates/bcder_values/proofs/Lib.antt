@@ -2,6 +2,7 @@ pub mod Wrapping
 pub mod Gathering
 pub mod Returning
 pub mod Lists
+pub mod Known
 pub mod Lent
 pub mod KeptRead
 pub mod of_bcder_content

@@ -7,6 +7,7 @@ pub mod Captures
 pub mod Gathered
 pub mod Returns
 pub mod Lists
+pub mod Writable
 pub mod Forms
 pub mod OptionalForms
 pub mod ListForms

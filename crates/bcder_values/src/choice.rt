@@ -50,6 +50,13 @@ impl<V: Values> Values for Option<V> {
         }
     }
 
+    fn write_known<W: Write>(&self, mode: Mode, target: &mut W) -> Result<(), EncodeError> {
+        match self {
+            Some(values) => values.write_known(mode, target),
+            None => Ok(()),
+        }
+    }
+
     ghost spelled = { λ x m. optional_spelled m (λ v. V.spelled v m) x };
 
     ghost one_text = { λ x m. optional_one (λ v. V.one_text v m) x };
@@ -78,6 +85,13 @@ impl<L: Values, R: Values> Values for Choice2<L, R> {
         match self {
             Choice2::One(values) => values.write_encoded(mode, target),
             Choice2::Two(values) => values.write_encoded(mode, target),
+        }
+    }
+
+    fn write_known<W: Write>(&self, mode: Mode, target: &mut W) -> Result<(), EncodeError> {
+        match self {
+            Choice2::One(values) => values.write_known(mode, target),
+            Choice2::Two(values) => values.write_known(mode, target),
         }
     }
 
@@ -113,6 +127,14 @@ impl<L: Values, C: Values, R: Values> Values for Choice3<L, C, R> {
             Choice3::One(values) => values.write_encoded(mode, target),
             Choice3::Two(values) => values.write_encoded(mode, target),
             Choice3::Three(values) => values.write_encoded(mode, target),
+        }
+    }
+
+    fn write_known<W: Write>(&self, mode: Mode, target: &mut W) -> Result<(), EncodeError> {
+        match self {
+            Choice3::One(values) => values.write_known(mode, target),
+            Choice3::Two(values) => values.write_known(mode, target),
+            Choice3::Three(values) => values.write_known(mode, target),
         }
     }
 

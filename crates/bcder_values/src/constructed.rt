@@ -94,7 +94,7 @@ impl<V: Values> Values for Constructed<V> {
             return Err(EncodeError::TooLong);
         }
         put_opening(target, mode, self.tag, content)?;
-        self.inner.write_encoded(mode, target)?;
+        self.inner.write_known(mode, target)?;
         put_closing(target, mode)
     }
 

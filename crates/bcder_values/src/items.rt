@@ -5,7 +5,9 @@ ghost use Rattle.bcder_values.specs.bcder_tree.declared.mode.Mode.{Mode as ModeV
 ghost use Rattle.bcder_values.specs.bcder_tree.Tree.{Trees};
 ghost use Rattle.bcder_written.specs.Encoded.{SpellsSome};
 ghost use Rattle.bcder_values.specs.Lists.{AreAll, WritesAll, all_spelled, all_one};
-ghost use Rattle.bcder_written.specs.Writing.{HasLength, Wrote, CannotWrite, WriteRefused};
+ghost use Rattle.bcder_values.specs.Writable.{Writable};
+ghost use Rattle.bcder_written.specs.Writing.{HasLength, Wrote, TookFront, CannotWrite, WriteRefused};
+ghost use Rattle.bcder_written.specs.declared.error.EncodeError.TheVariants.{Write as refusal};
 
 use crate::bcder_tree::Mode;
 use crate::{EncodeError, Values};
@@ -82,23 +84,22 @@ fn len_of_item<'a, U, E: Encodes<'a, U>>(
     values.encoded_len(mode)
 }
 
-// Writes an item, or nothing where `len_of_item` refuses; what is written spells its values.
+// Writes an item that `len_of_item` doesn't refuse.
 fn write_item<'a, U, E: Encodes<'a, U>, W: Write>(
     by: &E,
     item: &'a U,
     mode: Mode,
     target: &mut W,
 ) -> Result<(), EncodeError>
+    requires { Writable (E.writes by.now item.now mode) }
     ensures written { OnOk result
         (Wrote (E.writes by.now item.now mode) (W.contents target.old) (W.contents target.new)) }
-    ensures refused { IfErr result
-        (WriteRefused (E.trees by.now item.now mode) (E.writes by.now item.now mode)
-        (target.new ≡ target.old) (W.contents target.old) (W.contents target.new)) }
-    ensures spelled { (text : List ℕ) → E.writes by.now item.now mode text
-        → SpellsSome mode (E.trees by.now item.now mode) text }
+    ensures refused { IfErr result (λ e. (e ≡ refusal)
+        × TookFront (E.writes by.now item.now mode) (W.contents target.old)
+        (W.contents target.new)) }
 {
     let values = by.values_of(item);
-    values.write_encoded(mode, target)
+    values.write_known(mode, target)
 }
 
 // How many octets are written of all items together.
@@ -125,6 +126,29 @@ pub(crate) fn len_of_each<'a, U, E: Encodes<'a, U>>(
     Ok(sum)
 }
 
+// Writes all items, which `len_of_each` doesn't refuse.
+pub(crate) fn put_each<'a, U, E: Encodes<'a, U>, W: Write>(
+    by: &E,
+    items: &'a [U],
+    mode: Mode,
+    target: &mut W,
+) -> Result<(), EncodeError>
+    requires { Writable (WritesAll (λ x. E.writes by.now x mode) items.now) }
+    ensures written { OnOk result
+        (Wrote (WritesAll (λ x. E.writes by.now x mode) items.now) (W.contents target.old)
+        (W.contents target.new)) }
+    ensures refused { IfErr result (λ e. (e ≡ refusal)
+        × TookFront (WritesAll (λ x. E.writes by.now x mode) items.now) (W.contents target.old)
+        (W.contents target.new)) }
+{
+    let mut rest = items;
+    while let Some((first, others)) = rest.split_first() {
+        write_item(by, first, mode, target)?;
+        rest = others;
+    }
+    Ok(())
+}
+
 // Writes all items, or nothing where `len_of_each` refuses.
 pub(crate) fn write_each<'a, U, E: Encodes<'a, U>, W: Write>(
     by: &E,
@@ -141,12 +165,7 @@ pub(crate) fn write_each<'a, U, E: Encodes<'a, U>, W: Write>(
         (W.contents target.old) (W.contents target.new)) }
 {
     len_of_each(by, items, mode)?;
-    let mut rest = items;
-    while let Some((first, others)) = rest.split_first() {
-        write_item(by, first, mode, target)?;
-        rest = others;
-    }
-    Ok(())
+    put_each(by, items, mode, target)
 }
 
 /// The values of all items, in their order.
@@ -161,6 +180,10 @@ impl<'a, U, E: Encodes<'a, U>> Values for Slice<'a, U, E> {
 
     fn write_encoded<W: Write>(&self, mode: Mode, target: &mut W) -> Result<(), EncodeError> {
         write_each(&self.by, self.items, mode, target)
+    }
+
+    fn write_known<W: Write>(&self, mode: Mode, target: &mut W) -> Result<(), EncodeError> {
+        put_each(&self.by, self.items, mode, target)
     }
 
     ghost spelled = { λ x m. all_spelled m (λ u. E.spelled x.by u m) x.items.now };

@@ -4,7 +4,7 @@ ghost use Rattle.std.specs.Prelude.{◌≡◌};
 ghost use Rattle.bcder_values.specs.Lists.{AreAll, WritesAll, all_spelled, all_one};
 
 use crate::bcder_tree::Mode;
-use crate::items::{len_of_each, write_each};
+use crate::items::{len_of_each, put_each, write_each};
 use crate::{EncodeError, Iter, Itself, Slice, Values};
 use std::io::Write;
 
@@ -37,6 +37,10 @@ impl<V: Values> Values for &[V] {
         write_each(&Itself, *self, mode, target)
     }
 
+    fn write_known<W: Write>(&self, mode: Mode, target: &mut W) -> Result<(), EncodeError> {
+        put_each(&Itself, *self, mode, target)
+    }
+
     ghost spelled = { λ x m. all_spelled m (λ v. V.spelled v m) x.now };
 
     ghost one_text = { λ x m. all_one (λ v. V.one_text v m) x.now };
@@ -54,6 +58,10 @@ impl<V: Values> Values for Vec<V> {
 
     fn write_encoded<W: Write>(&self, mode: Mode, target: &mut W) -> Result<(), EncodeError> {
         write_each(&Itself, self.as_slice(), mode, target)
+    }
+
+    fn write_known<W: Write>(&self, mode: Mode, target: &mut W) -> Result<(), EncodeError> {
+        put_each(&Itself, self.as_slice(), mode, target)
     }
 
     ghost spelled = { λ x m. all_spelled m (λ v. V.spelled v m) x.items };

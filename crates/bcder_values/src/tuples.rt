@@ -21,6 +21,10 @@ impl<A: Values> Values for (A,) {
         self.0.write_encoded(mode, target)
     }
 
+    fn write_known<W: Write>(&self, mode: Mode, target: &mut W) -> Result<(), EncodeError> {
+        self.0.write_known(mode, target)
+    }
+
     ghost spelled = { λ x m. A.spelled x.0 m };
 
     ghost one_text = { λ x m. A.one_text x.0 m };
@@ -43,8 +47,12 @@ impl<A: Values, B: Values> Values for (A, B) {
 
     fn write_encoded<W: Write>(&self, mode: Mode, target: &mut W) -> Result<(), EncodeError> {
         (*self).encoded_len(mode)?;
-        self.0.write_encoded(mode, target)?;
-        self.1.write_encoded(mode, target)
+        (*self).write_known(mode, target)
+    }
+
+    fn write_known<W: Write>(&self, mode: Mode, target: &mut W) -> Result<(), EncodeError> {
+        self.0.write_known(mode, target)?;
+        self.1.write_known(mode, target)
     }
 
     ghost spelled = { λ x m text w. both_spelled m (A.spelled x.0 m) (B.spelled x.1 m) text w };
@@ -66,6 +74,10 @@ impl<A: Values, B: Values, C: Values> Values for (A, B, C) {
 
     fn write_encoded<W: Write>(&self, mode: Mode, target: &mut W) -> Result<(), EncodeError> {
         (&self.0, (&self.1, &self.2)).write_encoded(mode, target)
+    }
+
+    fn write_known<W: Write>(&self, mode: Mode, target: &mut W) -> Result<(), EncodeError> {
+        (&self.0, (&self.1, &self.2)).write_known(mode, target)
     }
 
     ghost spelled = { λ x m. both_spelled m (A.spelled x.0 m)
@@ -90,6 +102,10 @@ impl<A: Values, B: Values, C: Values, D: Values> Values for (A, B, C, D) {
         (&self.0, (&self.1, &self.2, &self.3)).write_encoded(mode, target)
     }
 
+    fn write_known<W: Write>(&self, mode: Mode, target: &mut W) -> Result<(), EncodeError> {
+        (&self.0, (&self.1, &self.2, &self.3)).write_known(mode, target)
+    }
+
     ghost spelled = { λ x m. both_spelled m (A.spelled x.0 m)
         (both_spelled m (B.spelled x.1 m) (both_spelled m (C.spelled x.2 m) (D.spelled x.3 m))) };
 
@@ -112,6 +128,10 @@ impl<A: Values, B: Values, C: Values, D: Values, E: Values> Values for (A, B, C,
 
     fn write_encoded<W: Write>(&self, mode: Mode, target: &mut W) -> Result<(), EncodeError> {
         (&self.0, (&self.1, &self.2, &self.3, &self.4)).write_encoded(mode, target)
+    }
+
+    fn write_known<W: Write>(&self, mode: Mode, target: &mut W) -> Result<(), EncodeError> {
+        (&self.0, (&self.1, &self.2, &self.3, &self.4)).write_known(mode, target)
     }
 
     ghost spelled = { λ x m. both_spelled m (A.spelled x.0 m)
@@ -141,6 +161,10 @@ impl<A: Values, B: Values, C: Values, D: Values, E: Values, F: Values> Values
 
     fn write_encoded<W: Write>(&self, mode: Mode, target: &mut W) -> Result<(), EncodeError> {
         (&self.0, (&self.1, &self.2, &self.3, &self.4, &self.5)).write_encoded(mode, target)
+    }
+
+    fn write_known<W: Write>(&self, mode: Mode, target: &mut W) -> Result<(), EncodeError> {
+        (&self.0, (&self.1, &self.2, &self.3, &self.4, &self.5)).write_known(mode, target)
     }
 
     ghost spelled = { λ x m. both_spelled m (A.spelled x.0 m)
@@ -182,6 +206,14 @@ impl<A: Values, B: Values, C: Values, D: Values, E: Values, F: Values, G: Values
             (&self.1, &self.2, &self.3, &self.4, &self.5, &self.6),
         )
             .write_encoded(mode, target)
+    }
+
+    fn write_known<W: Write>(&self, mode: Mode, target: &mut W) -> Result<(), EncodeError> {
+        (
+            &self.0,
+            (&self.1, &self.2, &self.3, &self.4, &self.5, &self.6),
+        )
+            .write_known(mode, target)
     }
 
     ghost spelled = { λ x m. both_spelled m (A.spelled x.0 m)
@@ -232,6 +264,16 @@ impl<A: Values, B: Values, C: Values, D: Values, E: Values, F: Values, G: Values
             ),
         )
             .write_encoded(mode, target)
+    }
+
+    fn write_known<W: Write>(&self, mode: Mode, target: &mut W) -> Result<(), EncodeError> {
+        (
+            &self.0,
+            (
+                &self.1, &self.2, &self.3, &self.4, &self.5, &self.6, &self.7,
+            ),
+        )
+            .write_known(mode, target)
     }
 
     ghost spelled = { λ x m. both_spelled m (A.spelled x.0 m)
@@ -295,6 +337,16 @@ impl<
             ),
         )
             .write_encoded(mode, target)
+    }
+
+    fn write_known<W: Write>(&self, mode: Mode, target: &mut W) -> Result<(), EncodeError> {
+        (
+            &self.0,
+            (
+                &self.1, &self.2, &self.3, &self.4, &self.5, &self.6, &self.7, &self.8,
+            ),
+        )
+            .write_known(mode, target)
     }
 
     ghost spelled = { λ x m. both_spelled m (A.spelled x.0 m)
@@ -363,6 +415,16 @@ impl<
             ),
         )
             .write_encoded(mode, target)
+    }
+
+    fn write_known<W: Write>(&self, mode: Mode, target: &mut W) -> Result<(), EncodeError> {
+        (
+            &self.0,
+            (
+                &self.1, &self.2, &self.3, &self.4, &self.5, &self.6, &self.7, &self.8, &self.9,
+            ),
+        )
+            .write_known(mode, target)
     }
 
     ghost spelled = { λ x m. both_spelled m (A.spelled x.0 m)
@@ -438,6 +500,17 @@ impl<
             ),
         )
             .write_encoded(mode, target)
+    }
+
+    fn write_known<W: Write>(&self, mode: Mode, target: &mut W) -> Result<(), EncodeError> {
+        (
+            &self.0,
+            (
+                &self.1, &self.2, &self.3, &self.4, &self.5, &self.6, &self.7, &self.8, &self.9,
+                &self.10,
+            ),
+        )
+            .write_known(mode, target)
     }
 
     ghost spelled = { λ x m. both_spelled m (A.spelled x.0 m)
@@ -518,6 +591,17 @@ impl<
             ),
         )
             .write_encoded(mode, target)
+    }
+
+    fn write_known<W: Write>(&self, mode: Mode, target: &mut W) -> Result<(), EncodeError> {
+        (
+            &self.0,
+            (
+                &self.1, &self.2, &self.3, &self.4, &self.5, &self.6, &self.7, &self.8, &self.9,
+                &self.10, &self.11,
+            ),
+        )
+            .write_known(mode, target)
     }
 
     ghost spelled = { λ x m. both_spelled m (A.spelled x.0 m)

@@ -6,7 +6,9 @@ ghost use Rattle.bcder_values.specs.bcder_tree.Tree.{Trees};
 ghost use Rattle.bcder_values.specs.bcder_tree.Tags.{IsTag};
 ghost use Rattle.bcder_written.specs.Encoded.{SpellsSome};
 ghost use Rattle.bcder_values.specs.Gathered.{ExtendRefused};
-ghost use Rattle.bcder_written.specs.Writing.{HasLength, Wrote, CannotWrite, WriteRefused};
+ghost use Rattle.bcder_values.specs.Writable.{Writable};
+ghost use Rattle.bcder_written.specs.Writing.{HasLength, Wrote, TookFront, CannotWrite, WriteRefused};
+ghost use Rattle.bcder_written.specs.declared.error.EncodeError.TheVariants.{Write as refusal};
 
 use crate::bcder_tree::{Mode, Tag};
 use crate::{CapturedBuilder, Constructed, EncodeError};
@@ -41,6 +43,19 @@ pub trait Values {
         ensures refused { IfErr result
             (WriteRefused (trees self.now mode) (writes self.now mode) (target.new ≡ target.old)
             (W.contents target.old) (W.contents target.new)) };
+
+    /// Writes values that `encoded_len` is known not to refuse, so that it needn't be asked before the first of them.
+    ///
+    /// `Write` where the writer refuses, which then has taken a front of the octets.
+    fn write_known<W: Write>(&self, mode: Mode, target: &mut W) -> Result<(), EncodeError>
+        requires { Writable (writes self.now mode) }
+        ensures written { OnOk result
+            (Wrote (writes self.now mode) (W.contents target.old) (W.contents target.new)) }
+        ensures refused { IfErr result (λ e. (e ≡ refusal)
+            × TookFront (writes self.now mode) (W.contents target.old) (W.contents target.new)) }
+    {
+        self.write_encoded(mode, target)
+    }
 
     /// The values within a constructed value of that tag: an explicit tag (X.690 8.14).
     final fn explicit(self, tag: Tag) -> Constructed<Self>
@@ -86,6 +101,10 @@ impl<V: Values> Values for &V {
 
     fn write_encoded<W: Write>(&self, mode: Mode, target: &mut W) -> Result<(), EncodeError> {
         (**self).write_encoded(mode, target)
+    }
+
+    fn write_known<W: Write>(&self, mode: Mode, target: &mut W) -> Result<(), EncodeError> {
+        (**self).write_known(mode, target)
     }
 
     ghost spelled = { λ x m. V.spelled x.now m };

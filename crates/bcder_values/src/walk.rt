@@ -2,7 +2,9 @@
 
 ghost use Rattle.std.specs.Prelude.{◌≡◌, [], ◌∷◌, List, MatchOption, IfOk, IfErr, OnOk};
 ghost use Rattle.bcder_values.specs.Lists.{AreAll, WritesAll, all_spelled, all_one};
-ghost use Rattle.bcder_written.specs.Writing.{HasLength, Wrote, CannotWrite, WriteRefused};
+ghost use Rattle.bcder_values.specs.Writable.{Writable};
+ghost use Rattle.bcder_written.specs.Writing.{HasLength, Wrote, TookFront, CannotWrite, WriteRefused};
+ghost use Rattle.bcder_written.specs.declared.error.EncodeError.TheVariants.{Write as refusal};
 
 use crate::bcder_tree::Mode;
 use crate::{EncodeError, Values};
@@ -53,6 +55,23 @@ fn len_of_walk<T: Walk>(walk: &T, mode: Mode) -> Result<usize, EncodeError>
     Ok(sum)
 }
 
+// Writes all values, which `len_of_walk` doesn't refuse.
+fn put_walk<T: Walk, W: Write>(walk: &T, mode: Mode, target: &mut W) -> Result<(), EncodeError>
+    requires { Writable (WritesAll (λ v. T.Item.writes v mode) (T.items walk.now)) }
+    ensures written { OnOk result
+        (Wrote (WritesAll (λ v. T.Item.writes v mode) (T.items walk.now)) (W.contents target.old)
+        (W.contents target.new)) }
+    ensures refused { IfErr result (λ e. (e ≡ refusal)
+        × TookFront (WritesAll (λ v. T.Item.writes v mode) (T.items walk.now))
+        (W.contents target.old) (W.contents target.new)) }
+{
+    let mut rest = walk.again();
+    while let Some(item) = rest.next() {
+        item.write_known(mode, target)?;
+    }
+    Ok(())
+}
+
 // Writes all values, or nothing where `len_of_walk` refuses.
 fn write_walk<T: Walk, W: Write>(walk: &T, mode: Mode, target: &mut W) -> Result<(), EncodeError>
     ensures written { OnOk result
@@ -64,11 +83,7 @@ fn write_walk<T: Walk, W: Write>(walk: &T, mode: Mode, target: &mut W) -> Result
         (W.contents target.old) (W.contents target.new)) }
 {
     len_of_walk(walk, mode)?;
-    let mut rest = walk.again();
-    while let Some(item) = rest.next() {
-        item.write_encoded(mode, target)?;
-    }
-    Ok(())
+    put_walk(walk, mode, target)
 }
 
 /// The values that are still to come, in their order.
@@ -83,6 +98,10 @@ impl<T: Walk> Values for Iter<T> {
 
     fn write_encoded<W: Write>(&self, mode: Mode, target: &mut W) -> Result<(), EncodeError> {
         write_walk(&self.0, mode, target)
+    }
+
+    fn write_known<W: Write>(&self, mode: Mode, target: &mut W) -> Result<(), EncodeError> {
+        put_walk(&self.0, mode, target)
     }
 
     ghost spelled = { λ x m. all_spelled m (λ v. T.Item.spelled v m) (T.items x.0) };

@@ -1,6 +1,6 @@
 use Rattle.bcder_values.specs.Lists.{WritesAll}
 use Rattle.bcder_written.specs.Writing.{Wrote}
-use Rattle.bcder_values.proofs.items.write_each.Given as goal
+use Rattle.bcder_values.proofs.items.put_each.Given as goal
 use Rattle.std.proofs.Common.{◌≡◌, List, ◌++◌, length}
 
 abbrev pub invariant-loop-first : goal.invariant-loop-first
