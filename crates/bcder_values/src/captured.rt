@@ -1,6 +1,6 @@
 //! Captured octets that are written, and values that are gathered as such.
 
-ghost use Rattle.std.specs.Prelude.{◌≡◌, [], IfOk, IfErr, OnOk};
+ghost use Rattle.std.specs.Prelude.{◌≡◌, ◌≤◌, ℕ, List, [], length, IfOk, IfErr, OnOk, OnErr};
 ghost use Rattle.bcder_values.specs.Gathered.{Extended, ExtendRefused};
 ghost use Rattle.bcder_values.specs.Captures.{StandsIn, CapturedTrees, CapturedText, captured_spelled, captured_one};
 ghost use Rattle.bcder_written.specs.declared.error.EncodeError.TheVariants.{Memory as memory_refused};
@@ -11,7 +11,7 @@ use crate::bcder_tree::Mode;
 use bcder_content::Captured;
 use bcder_written::{EncodeError, write_octets};
 use bytes::Bytes;
-use std::alloc::Global;
+use std::alloc::{AllocError, Global};
 use std::io::Write;
 use std::marker::Model;
 
@@ -66,6 +66,17 @@ impl Model for CapturedBuilder {
     ghost invariant = { λ a. SpellsValues a.mode a.octets.items };
 }
 
+// A copy of octets; where there are none no memory is wanted.
+fn copy_of(alloc: Global, octets: &[u8]) -> Result<Vec<u8>, AllocError>
+    ensures octets { IfOk result (λ v. v.items ≡ octets.now) }
+    ensures some { OnErr result (1 ≤ length octets.now) }
+{
+    if octets.is_empty() {
+        return Ok(Vec::new(alloc));
+    }
+    Vec::from_slice(alloc, octets)
+}
+
 impl CapturedBuilder {
     /// No values yet, in that mode.
     pub fn new(alloc: Global, mode: Mode) -> CapturedBuilder
@@ -77,7 +88,7 @@ impl CapturedBuilder {
         }
     }
 
-    /// No values yet, with room for so many octets.
+    /// No values yet, with room for so many octets. Memory is wanted only where they are some.
     pub fn with_capacity(
         alloc: Global,
         capacity: usize,
@@ -85,6 +96,7 @@ impl CapturedBuilder {
     ) -> Result<CapturedBuilder, EncodeError>
         ensures made { IfOk result (λ b. b ≡ record { mode = mode; octets = [] }) }
         ensures refused { IfErr result (λ e. e ≡ memory_refused) }
+        ensures memory { OnErr result (1 ≤ capacity) }
     {
         match Vec::with_capacity(alloc, capacity) {
             Ok(octets) => Ok(CapturedBuilder { octets, mode }),
@@ -92,12 +104,13 @@ impl CapturedBuilder {
         }
     }
 
-    /// The captured values, to go on after them; their octets are copied.
+    /// The captured values, to go on after them; their octets are copied. Memory is wanted only where there are some.
     pub fn from_captured(alloc: Global, captured: &Captured) -> Result<CapturedBuilder, EncodeError>
         ensures made { IfOk result (λ b. b ≡ captured.now) }
         ensures refused { IfErr result (λ e. e ≡ memory_refused) }
+        ensures memory { OnErr result (1 ≤ length captured.now.octets) }
     {
-        match Vec::from_slice(alloc, captured.as_slice()) {
+        match copy_of(alloc, captured.as_slice()) {
             Ok(octets) => Ok(CapturedBuilder {
                 octets,
                 mode: captured.mode(),
@@ -108,12 +121,15 @@ impl CapturedBuilder {
 
     /// Appends values, encoded in the builder's mode.
     ///
-    /// Where `encoded_len` refuses them, or memory is wanted and refused, the builder is as it was.
+    /// Where `encoded_len` refuses them, or memory is wanted and refused, the builder is as it was. Memory is wanted only
+    /// for values that can be written.
     pub fn extend<V: Values>(&mut self, values: &V) -> Result<(), EncodeError>
         ensures extended { OnOk result
             (Extended (V.writes values.now self.old.mode) self.old self.new) }
         ensures refused { IfErr result
             (ExtendRefused (V.trees values.now self.old.mode) (V.writes values.now self.old.mode)) }
+        ensures memory { IfErr result (λ e. e ≡ memory_refused
+            → (text : List ℕ) × V.writes values.now self.old.mode text) }
         ensures kept { IfErr result (λ e. self.new ≡ self.old) }
     {
         let before = self.octets.len();
@@ -126,10 +142,11 @@ impl CapturedBuilder {
         }
     }
 
-    /// The values, captured.
+    /// The values, captured. Memory is wanted only where there are some.
     pub fn freeze(self) -> Result<Captured, EncodeError>
         ensures frozen { IfOk result (λ c. c ≡ self) }
         ensures refused { IfErr result (λ e. e ≡ memory_refused) }
+        ensures memory { OnErr result (1 ≤ length self.octets) }
     {
         let mode = self.mode;
         match Bytes::from_vec(self.octets) {

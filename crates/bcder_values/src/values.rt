@@ -5,6 +5,7 @@ ghost use Rattle.bcder_values.specs.bcder_tree.declared.mode.Mode.{Mode as ModeV
 ghost use Rattle.bcder_values.specs.bcder_tree.Tree.{Trees};
 ghost use Rattle.bcder_values.specs.bcder_tree.Tags.{IsTag};
 ghost use Rattle.bcder_written.specs.Encoded.{SpellsSome};
+ghost use Rattle.bcder_written.specs.declared.error.EncodeError.TheVariants.{Memory as memory_refused};
 ghost use Rattle.bcder_values.specs.Gathered.{ExtendRefused};
 ghost use Rattle.bcder_values.specs.Writable.{Writable};
 ghost use Rattle.bcder_written.specs.Writing.{HasLength, Wrote, TookFront, CannotWrite, WriteRefused};
@@ -68,7 +69,7 @@ pub trait Values {
         Constructed { tag, inner: self }
     }
 
-    /// The octets that are written, captured.
+    /// The octets that are written, captured. Memory is wanted only for values that can be written.
     final fn to_captured(&self, alloc: Global, mode: Mode) -> Result<Captured, EncodeError>
     where
         Self: Sized,
@@ -76,6 +77,8 @@ pub trait Values {
         ensures mode { IfOk result (λ c. c.mode ≡ mode) }
         ensures refused { IfErr result
             (ExtendRefused (trees self.now mode) (writes self.now mode)) }
+        ensures memory { IfErr result
+            (λ e. e ≡ memory_refused → (text : List ℕ) × writes self.now mode text) }
     {
         let len = self.encoded_len(mode)?;
         let mut builder = CapturedBuilder::with_capacity(alloc, len, mode)?;
