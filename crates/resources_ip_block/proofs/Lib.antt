@@ -1,5 +1,6 @@
 pub mod PrefixLemmas
 pub mod BlockText
+pub mod Counting
 pub mod CoverLemmas
 pub mod Blocks
 pub mod Again

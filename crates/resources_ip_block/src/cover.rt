@@ -1,11 +1,11 @@
 //! The prefixes that cover a range of addresses.
 
-ghost use Rattle.std.specs.Prelude.{List};
+ghost use Rattle.std.specs.Prelude.{ℕ, ◌+◌, ◌^◌, ◌≤◌, List};
 ghost use Rattle.std.specs.Iterator.{Drains};
 ghost use Rattle.resources_ip_block.specs.Range.{run_of_range};
 ghost use Rattle.resources_ip_block.specs.Cover.{IsCover, IsFirst, IsBehind, filled, gives, left_at_most};
 
-use crate::range::{AddressRange, after};
+use crate::range::{ADDR_BITS, AddressRange, after};
 use resources_ip_prefix::Prefix;
 
 /// The prefixes that cover a range, as few as there can be, ascending.
@@ -32,17 +32,14 @@ impl AddressRange {
         AddressRange::new(self.min().to_min(32), self.max().to_max(32)).to_v6_prefixes()
     }
 
-    // The longest of the prefixes that lie in the range and begin where it does.
+    // The largest of the prefixes that lie in the range and begin where it does.
     fn first_prefix(self) -> Prefix
         ensures { IsFirst (run_of_range self) result }
     {
-        for len in 0..128 {
-            let prefix = Prefix::new(self.min(), len);
-            if prefix.min() == self.min() && prefix.max() <= self.max() {
-                return prefix;
-            }
-        }
-        Prefix::new(self.min(), 128)
+        let first = self.min().to_bits();
+        let zeros = first.trailing_zeros() as u8;
+        let fitting = fitting_bits(self.max().to_bits() - first);
+        Prefix::new(self.min(), ADDR_BITS - zeros.min(fitting))
     }
 
     // What is left of the range after a prefix that begins where it does.
@@ -55,6 +52,18 @@ impl AddressRange {
             return None;
         }
         Some(AddressRange::new(min, self.max()))
+    }
+}
+
+// How many bits can be free at most where there are only so many addresses as numbers from 0 to `last`.
+fn fitting_bits(last: u128) -> u8
+    ensures within { result ≤ 128 }
+    ensures fits { 2 ^ result ≤ last + 1 }
+    ensures most { (bits : ℕ) → bits ≤ 128 → 2 ^ bits ≤ last + 1 → bits ≤ result }
+{
+    match last.checked_add(1) {
+        Some(count) => ADDR_BITS - 1 - count.leading_zeros() as u8,
+        None => ADDR_BITS,
     }
 }
 

@@ -10,7 +10,7 @@ use crate::codec::Mode;
 use crate::codec::encode::{
     Choice2, Constructed, EncodeError, Primitive, PrimitiveContent, Values, sequence,
 };
-use crate::range::AddressRange;
+use crate::range::{ADDR_BITS, AddressRange};
 use resources_ip_prefix::Prefix;
 use std::io::Write;
 
@@ -25,26 +25,16 @@ impl AddressRange {
     fn shortest_min(self) -> Prefix
         ensures { IsShortestMin (run_of_range self).first result }
     {
-        for len in 0..128 {
-            let prefix = Prefix::new(self.min(), len);
-            if prefix.min() == self.min() {
-                return prefix;
-            }
-        }
-        Prefix::new(self.min(), 128)
+        let zeros = self.min().to_bits().trailing_zeros() as u8;
+        Prefix::new(self.min(), ADDR_BITS - zeros)
     }
 
     // The bits of the last address, without the ones at its end.
     fn shortest_max(self) -> Prefix
         ensures { IsShortestMax (run_of_range self).last result }
     {
-        for len in 0..128 {
-            let prefix = Prefix::new(self.max(), len);
-            if prefix.max() == self.max() {
-                return prefix;
-            }
-        }
-        Prefix::new(self.max(), 128)
+        let ones = self.max().to_bits().trailing_ones() as u8;
+        Prefix::new(self.max(), ADDR_BITS - ones)
     }
 
     /// The first and the last address, in a SEQUENCE of the shortest bit strings: zeros at the end of the first are
