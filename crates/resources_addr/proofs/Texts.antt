@@ -17,6 +17,11 @@ use Rattle.resources_addr.specs.Refusals.{IsNoPrefix, IsTooLong, TooLong, NoReas
 use Rattle.resources_addr.specs.Cuts.{LacksByte, IsCut, IsLenText}
 use Rattle.resources_addr.specs.PrefixTexts.{IsWritten, IsPrefixText, IsRelaxedText, IsUnreadable, Reads, address_text}
 
+-- The answer that another was before its error was mapped.
+pub mapped : {T E D : Type 0} (V : E → D) (s : Result T E) (r : Result T D) → MatchResult s (λ x. r ≡ Ok x) (λ e. IsErrAnd r (λ d. d ≡ V e)) → MatchResult r (λ x. s ≡ Ok x) (λ d. (e : E) × (s ≡ Err e) × (d ≡ V e))
+mapped V (Ok x) r k = rw k refl
+mapped V (Err e) r k = let p = err_from_is_err_and r k in rw p.1 (e, refl, p.2)
+
 cut_same : (c : ℕ) (a x b y : List ℕ) → LacksByte c a → LacksByte c b → a ++ c ∷ x ≡ b ++ c ∷ y → (a ≡ b) × (x ≡ y)
 cut_same c [] x [] y l m e = (refl, cc)
 cut_same c [] x (b ∷ bs) y l m e = absurd (m 0 (omega arith) (let h : c ≡ b = cc in sym h))

@@ -11,6 +11,7 @@ ghost use Rattle.resources_as.specs.resources_chain.Claims.{Lists, FitsIn, Kept,
 ghost use Rattle.resources_as_block.specs.Blocks.{as_run};
 ghost use Rattle.resources_as_block.specs.Counted.{runs_count};
 ghost use Rattle.resources_as.specs.resources_asn.Listed.{IsListOf};
+ghost use Rattle.resources_as.specs.resources_asn.Numbers.{last_number};
 
 use crate::Asn;
 use crate::claims::OverclaimedAsResources;
@@ -50,7 +51,7 @@ impl AsBlocks {
 
     /// The set of all AS numbers.
     pub fn all(alloc: Global) -> Result<Self, AllocError>
-        ensures { IfOk result (λ a. IsRunsOf (λ n. n ≤ 4294967295) a) }
+        ensures { IfOk result (λ a. IsRunsOf (λ n. n ≤ last_number) a) }
     {
         AsBlocks::from_vec(alloc, vec![in alloc; AsBlock::all()]?)
     }

@@ -11,7 +11,7 @@ use Rattle.resources_as_block.specs.declared.block.AsBlock.{AsBlock}
 use Rattle.resources_asn.specs.Listed.{IsListOf}
 use Rattle.resources_as_block.specs.Counted.{run_count, runs_count, run_numbers, runs_numbers}
 use Rattle.std.specs.Prelude.{Option, Some, None, MatchOption}
-use Rattle.resources_asn.specs.Numbers.{Number}
+use Rattle.resources_asn.specs.Numbers.{Number, last_number}
 use Rattle.resources_as_block.specs.Left.{numbers_left}
 use Rattle.resources_asn.proofs.ListLemmas.{list_cons, list_nil, list_append}
 
@@ -63,8 +63,8 @@ run_none first last h =
 pub left_at_last : (a last : Number) → a.value ≡ last.value → numbers_left (Some a) last ≡ a.value ∷ []
 left_at_last a last e = run_first a.value last.value (omega arith) ∙ ap (λ xs. a.value ∷ xs) (run_none (a.value + 1) last.value (omega arith))
 
-pub left_behind : (a last : Number) (r : Option Number) → a.value ≤ last.value → (a.value ≡ last.value → ⊥) → MatchOption r (a.value ≡ 4294967295) (λ b. b.value ≡ a.value + 1) → numbers_left (Some a) last ≡ a.value ∷ numbers_left r last
-left_behind a last None h ne m = let l = last.in_range in let e : a.value ≡ 4294967295 = m in absurd (ne (omega arith))
+pub left_behind : (a last : Number) (r : Option Number) → a.value ≤ last.value → (a.value ≡ last.value → ⊥) → MatchOption r (a.value ≡ last_number) (λ b. b.value ≡ a.value + 1) → numbers_left (Some a) last ≡ a.value ∷ numbers_left r last
+left_behind a last None h ne m = let l = last.in_range in let e : a.value ≡ last_number = m in absurd (ne (omega arith))
 left_behind a last (Some b) h ne m =
     let e : b.value ≡ a.value + 1 = m in
     run_first a.value last.value h ∙ ap (λ k. a.value ∷ run_numbers (record { first = k; last = last.value })) (sym e)

@@ -6,6 +6,7 @@ use Rattle.resources_as_block.specs.resources_addr.Cuts.{LacksByte, IsCut}
 use Rattle.resources_as_block.specs.resources_chain.Sets.{Run}
 use Rattle.resources_as_block.specs.resources_chain.Lists.{HasNoComma}
 use Rattle.resources_as_block.specs.resources_chain.Same.{run_is}
+use Rattle.resources_asn.specs.Numbers.{last_number}
 use Rattle.resources_asn.specs.Texts.{IsAsnText}
 use Rattle.resources_asn.proofs.TextLemmas.{asn_lacks, asn_some, asn_once, asn_printed}
 use Rattle.resources_asn.proofs.of_resources_addr.Printed.{lacks_both}
@@ -73,7 +74,7 @@ block_some r (inr h) = not_nil h.min h.max h.cut.whole
 Written : Run → List ℕ → Type 0
 Written r text = HasNoComma text × IsAsBlockText text r
 
-alone_written : (r : Run) → r.first ≤ r.last → r.last ≤ 4294967295 → r.first ≡ r.last → Written r (codes "AS" ++ decimal r.first)
+alone_written : (r : Run) → r.first ≤ r.last → r.last ≤ last_number → r.first ≡ r.last → Written r (codes "AS" ++ decimal r.first)
 unfolding Written
 alone_written r ordered within e =
     let is = asn_printed r.first (omega arith) in
@@ -82,7 +83,7 @@ alone_written r ordered within e =
 dash_lacks : (ys : List ℕ) → LacksByte 44 ys → LacksByte 44 (45 ∷ ys)
 dash_lacks ys h = lacks_both 44 (45 ∷ []) ys (λ i l e. grind arith) h
 
-pair_written : (r : Run) → r.first ≤ r.last → r.last ≤ 4294967295 → Written r ((codes "AS" ++ decimal r.first) ++ 45 ∷ (codes "AS" ++ decimal r.last))
+pair_written : (r : Run) → r.first ≤ r.last → r.last ≤ last_number → Written r ((codes "AS" ++ decimal r.first) ++ 45 ∷ (codes "AS" ++ decimal r.last))
 unfolding Written
 pair_written r ordered within =
     let first = asn_printed r.first (omega arith) in
@@ -100,11 +101,11 @@ pair_written r ordered within =
       }),
     )
 
-range_written : (r : Run) → r.first ≤ r.last → r.last ≤ 4294967295 → Written r (codes "AS" ++ decimal r.first ++ codes "-AS" ++ decimal r.last)
+range_written : (r : Run) → r.first ≤ r.last → r.last ≤ last_number → Written r (codes "AS" ++ decimal r.first ++ codes "-AS" ++ decimal r.last)
 range_written r ordered within =
     subst (Written r) (sym (append_assoc (codes "AS" ++ decimal r.first) (codes "-AS") (decimal r.last))) (pair_written r ordered within)
 
-pub run_written : (r : Run) → r.first ≤ r.last → r.last ≤ 4294967295 → HasNoComma (run_text r) × IsAsBlockText (run_text r) r
+pub run_written : (r : Run) → r.first ≤ r.last → r.last ≤ last_number → HasNoComma (run_text r) × IsAsBlockText (run_text r) r
 unfolding Written
 run_written r ordered within =
     cond_both (r.first == r.last) (codes "AS" ++ decimal r.first) (codes "AS" ++ decimal r.first ++ codes "-AS" ++ decimal r.last) (Written r)

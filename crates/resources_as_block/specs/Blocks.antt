@@ -3,6 +3,7 @@ use Rattle.std.specs.Prelude.{ℕ, ◌<◌, ◌≤◌, ◌++◌, ◌==◌, if◌
 use Rattle.std.specs.Fmt.{decimal}
 use Rattle.std.proofs.Common.{le_refl}
 use Rattle.resources_as_block.specs.resources_chain.Sets.{Run}
+use Rattle.resources_asn.specs.Numbers.{last_number}
 use Rattle.resources_as_block.specs.Ranges.{range_run}
 use Rattle.resources_as_block.specs.declared.block.AsBlock.{AsBlock}
 use Rattle.resources_as_block.specs.declared.block.AsBlock.TheVariants.{Id, Range}
@@ -13,7 +14,7 @@ as_run (Id n) = record { first = n.value; last = n.value }
 as_run (Range r) = range_run r
 
 -- A block has a number, and none above the greatest.
-pub as_run_within : (b : AsBlock) → ((as_run b).first ≤ (as_run b).last) × ((as_run b).last ≤ 4294967295)
+pub as_run_within : (b : AsBlock) → ((as_run b).first ≤ (as_run b).last) × ((as_run b).last ≤ last_number)
 as_run_within (Id n) = (le_refl n.value, n.in_range)
 as_run_within (Range r) = (r.ordered, r.last.in_range)
 

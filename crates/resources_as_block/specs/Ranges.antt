@@ -5,7 +5,7 @@ use Rattle.std.proofs.Common.{ap, arith, subst}
 use Rattle.std.proofs.Math.Bridge.{le_prop}
 use Rattle.resources_as_block.specs.resources_chain.Sets.{Run}
 use Rattle.resources_as_block.specs.resources_chain.Items.{made_alike}
-use Rattle.resources_asn.specs.Numbers.{Number, number_at, number_code}
+use Rattle.resources_asn.specs.Numbers.{Number, last_number, number_at, number_code}
 
 -- The numbers from the first to the last, both included.
 pub record Range : Type 0 where
@@ -17,7 +17,7 @@ abbrev pub range_run : Range → Run
 range_run r = record { first = r.first.value; last = r.last.value }
 
 -- How the check keeps a range: as its two ends.
-pub larger_in_range : (a b : Number) → max a.value b.value ≤ 4294967295
+pub larger_in_range : (a b : Number) → max a.value b.value ≤ last_number
 larger_in_range a b = let l = a.in_range in let r = b.in_range in omega arith
 
 abbrev pub larger : Number → Number → Number

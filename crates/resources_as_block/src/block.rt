@@ -5,6 +5,7 @@ ghost use Rattle.std.proofs.Common.{rules};
 ghost use Rattle.std.specs.Cmp.Rules.{comparing};
 ghost use Rattle.std.specs.Ordering.{on, eq_of_both};
 ghost use Rattle.std.specs.Range.{range_inclusive_start, range_inclusive_end};
+ghost use Rattle.resources_asn.specs.Numbers.{last_number};
 ghost use Rattle.resources_as_block.specs.Blocks.{as_run, run_text, HasOneForm};
 
 use crate::range::{AsRange, predecessor, successor};
@@ -26,7 +27,7 @@ impl AsBlock {
     /// The block of all AS numbers.
     pub fn all() -> Self
         ensures first { (as_run result).first ≡ 0 }
-        ensures last { (as_run result).last ≡ 4294967295 }
+        ensures last { (as_run result).last ≡ last_number }
         ensures form { HasOneForm result }
     {
         AsBlock::Range(AsRange::all())
@@ -99,7 +100,7 @@ impl AsBlock {
     /// Whether the block has all AS numbers.
     pub fn is_whole_range(&self) -> bool
         ensures { IsTrue result
-            ↔ (((as_run self.now).first ≡ 0) × ((as_run self.now).last ≡ 4294967295)) }
+            ↔ (((as_run self.now).first ≡ 0) × ((as_run self.now).last ≡ last_number)) }
     {
         self.min() == Asn::MIN && self.max() == Asn::MAX
     }
@@ -113,7 +114,7 @@ impl Block for AsBlock {
 
     ghost place = { λ n. n.value };
 
-    ghost last_place = { 4294967295 };
+    ghost last_place = { last_number };
 
     ghost run = { as_run };
 

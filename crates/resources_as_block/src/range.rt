@@ -3,6 +3,7 @@
 ghost use Rattle.std.specs.Prelude.{◌≡◌, ◌+◌, ◌≤◌, ◌++◌, codes, Some, MatchOption, refl};
 ghost use Rattle.std.specs.Fmt.{decimal};
 ghost use Rattle.std.specs.Range.{range_inclusive_start, range_inclusive_end};
+ghost use Rattle.resources_asn.specs.Numbers.{last_number};
 
 use resources_asn::Asn;
 use resources_chain::Block;
@@ -43,7 +44,7 @@ impl AsRange {
     /// The range of all AS numbers.
     pub fn all() -> Self
         ensures first { result.first.value ≡ 0 }
-        ensures last { result.last.value ≡ 4294967295 }
+        ensures last { result.last.value ≡ last_number }
     {
         AsRange::new(Asn::MIN, Asn::MAX)
     }
@@ -78,7 +79,7 @@ impl Block for AsRange {
 
     ghost place = { λ n. n.value };
 
-    ghost last_place = { 4294967295 };
+    ghost last_place = { last_number };
 
     ghost run = { range_run };
 
@@ -128,7 +129,7 @@ impl fmt::Display for AsRange {
 
 /// The AS number after this one; none after the largest.
 pub(crate) fn successor(asn: Asn) -> Option<Asn>
-    ensures { MatchOption result (asn.value ≡ 4294967295) (λ after. after.value ≡ asn.value + 1) }
+    ensures { MatchOption result (asn.value ≡ last_number) (λ after. after.value ≡ asn.value + 1) }
 {
     asn.into_u32().checked_add(1).map(Asn::from_u32)
 }

@@ -15,6 +15,7 @@ use Rattle.std.proofs.lemmas.Str.Ascii.{lowercase_is}
 use Rattle.std.proofs.lemmas.Str.Parse.{without_leading_plus_none, digit_at}
 use Rattle.resources_addr.specs.Cuts.{LacksByte}
 use Rattle.resources_addr.proofs.Printed.{lacks_both}
+use Rattle.resources_asn.specs.Numbers.{last_number}
 use Rattle.resources_asn.specs.Texts.{IsDigitText, IsLetters, IsAsnText}
 
 two_letters : (front : List ℕ) → IsLetters front → length front ≡ 2
@@ -141,7 +142,7 @@ asn_once text m n (inr v) (inr w) =
     sym v.4.value ∙ ap (λ (x : List ℕ). digits_value 10 (without_leading_plus x)) same ∙ w.4.value
 
 -- What is printed of a number writes it.
-pub asn_printed : (n : ℕ) → n ≤ 4294967295 → IsAsnText (codes "AS" ++ decimal n) n
+pub asn_printed : (n : ℕ) → n ≤ last_number → IsAsnText (codes "AS" ++ decimal n) n
 asn_printed n within =
     let number = decimal_is_IsNumeral n (omega arith) in
     let first = digit_at (decimal n) 0 number.0.1 number.0.0 in

@@ -3,6 +3,7 @@
 ghost use Rattle.std.specs.Prelude.{◌≡◌, ℕ, ◌+◌, ◌≤◌, ◌++◌, ◌↔◌, codes, Some};
 ghost use Rattle.std.specs.Fmt.{decimal};
 ghost use Rattle.std.specs.Int.{w32, to_be_bytes};
+ghost use Rattle.resources_asn.specs.Numbers.{last_number};
 ghost use Rattle.resources_asn.specs.Texts.{IsDigitText, IsAsnText, Reads};
 
 use std::error::Error;
@@ -15,7 +16,7 @@ use std::str::FromStr;
 #[derive(Clone, Copy, Debug, PartialEq, Eq, PartialOrd, Ord, Hash)]
 pub struct Asn {
     number: u32,
-    ghost in_range: { number ≤ 4294967295 },
+    ghost in_range: { number ≤ last_number },
 }
 
 impl Model for Asn {
@@ -79,7 +80,7 @@ impl From<Asn> for u32 {
 impl Add<u32> for Asn {
     type Output = Asn;
 
-    ghost can_add = { λ a n. a.value + n ≤ 4294967295 };
+    ghost can_add = { λ a n. a.value + n ≤ last_number };
 
     ghost add_gives = { λ a n b. b.value ≡ a.value + n };
 

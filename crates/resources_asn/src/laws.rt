@@ -3,6 +3,7 @@
 ghost use Rattle.std.specs.Prelude.{◌≡◌, ◌↔◌, ℕ, List};
 ghost use Rattle.std.specs.Cmp.{IsTotalOrder};
 ghost use Rattle.std.specs.declared.cmp.Ordering.TheVariants.{Equal};
+ghost use Rattle.resources_asn.specs.Numbers.{last_number};
 ghost use Rattle.resources_asn.specs.Listed.{InList, IsAscending};
 ghost use Rattle.resources_asn.specs.Origins.{OriginValue, origin_cmp};
 
@@ -11,7 +12,7 @@ use crate::asn::Asn;
 /// The smallest AS number and the largest, `Asn::MIN` and `Asn::MAX`: of 32 bits (RFC 6793 section 3).
 pub fn least_and_greatest() -> (Asn, Asn)
     ensures least { result.0.value ≡ 0 }
-    ensures greatest { result.1.value ≡ 4294967295 }
+    ensures greatest { result.1.value ≡ last_number }
 {
     (Asn::MIN, Asn::MAX)
 }

@@ -5,6 +5,7 @@ use Rattle.std.specs.Int.{trailing_ones, w128}
 use Rattle.std.proofs.Math.Pow.{pow_mono}
 use Rattle.std.proofs.lemmas.Bool.Decides.{leb_tells}
 use Rattle.resources_ip_block.specs.resources_chain.Sets.{Run}
+use Rattle.resources_ip_prefix.specs.All.{last_address}
 use Rattle.resources_ip_prefix.specs.declared.prefix.Prefix.{Prefix}
 use Rattle.resources_ip_prefix.specs.Address.{bits_of}
 use Rattle.resources_ip_prefix.specs.Prefix.{prefix_addr, prefix_len, run_of_prefix}
@@ -113,13 +114,13 @@ pub zeros_all : (n len : ℕ) → len ≤ 128 → first_of len n ≡ n → 128 -
 zeros_all n len short e = omega (arith, trailing_most 128 n (128 - len) (omega arith) e, short)
 
 -- And those without the ones at its end the shortest that ends with it.
-pub ones_cut : (n : ℕ) → n ≤ 340282366920938463463374607431768211455 → last_of (128 - trailing_ones w128 n) n ≡ n
+pub ones_cut : (n : ℕ) → n ≤ last_address → last_of (128 - trailing_ones w128 n) n ≡ n
 ones_cut n h =
     let t : ℕ = count_trailing_zeros 128 (2 ^ 128 - 1 - n) in
     let back : 128 - (128 - t) ≡ t = omega (arith, trailing_le 128 (2 ^ 128 - 1 - n)) in
     subst (λ (j : ℕ). n / 2 ^ j * 2 ^ j + (2 ^ j - 1) ≡ n) (sym back) (lacks_ones n t (omega (arith, h)) (trailing_le 128 (2 ^ 128 - 1 - n)) (trailing_multiple 128 (2 ^ 128 - 1 - n)))
 
-pub ones_all : (n len : ℕ) → n ≤ 340282366920938463463374607431768211455 → len ≤ 128 → last_of len n ≡ n → 128 - trailing_ones w128 n ≤ len
+pub ones_all : (n len : ℕ) → n ≤ last_address → len ≤ 128 → last_of len n ≡ n → 128 - trailing_ones w128 n ≤ len
 ones_all n len h short e =
     omega (arith, trailing_most 128 (2 ^ 128 - 1 - n) (128 - len) (omega arith) (lacks_multiple n (128 - len) (omega (arith, h)) (omega arith) e), short)
 
@@ -129,7 +130,7 @@ shortest_min_is first p addr len = record {
   shortest = λ k short e. omega (arith, len, zeros_all first k short e);
 }
 
-pub shortest_max_is : (last : ℕ) (p : Prefix) → last ≤ 340282366920938463463374607431768211455 → bits_of (prefix_addr p) ≡ first_of (128 - trailing_ones w128 last) last → prefix_len p ≡ 128 - trailing_ones w128 last → IsShortestMax last p
+pub shortest_max_is : (last : ℕ) (p : Prefix) → last ≤ last_address → bits_of (prefix_addr p) ≡ first_of (128 - trailing_ones w128 last) last → prefix_len p ≡ 128 - trailing_ones w128 last → IsShortestMax last p
 shortest_max_is last p within addr len = record {
   ends =
       let own : bits_of (prefix_addr p) + (span_of (128 - trailing_ones w128 last) - 1) ≡ last = omega (arith, addr, ones_cut last within) in

@@ -15,6 +15,7 @@ use Rattle.resources_ip_block.specs.resources_addr.Prefixes as Of
 use Rattle.resources_ip_block.specs.resources_chain.Sets.{Run}
 use Rattle.resources_ip_block.specs.resources_chain.Same.{run_is}
 use Rattle.resources_ip_block.specs.resources_chain.Lists.{HasNoComma}
+use Rattle.resources_ip_prefix.specs.All.{last_address}
 use Rattle.resources_ip_prefix.specs.declared.addr.AddressFamily.{AddressFamily}
 use Rattle.resources_ip_prefix.specs.declared.addr.AddressFamily.TheVariants.{Ipv4, Ipv6}
 use Rattle.resources_ip_prefix.specs.Family.{max_len_of}
@@ -176,7 +177,7 @@ range_written family r w ordered fits =
       ),
     )
 
-pub block_written : (family : AddressFamily) (r : Run) → IsFamilyRun family r → r.first ≤ r.last → r.last ≤ 340282366920938463463374607431768211455 → HasNoComma (block_text (address_text family) r) × WritesBlock family (block_text (address_text family) r) r
+pub block_written : (family : AddressFamily) (r : Run) → IsFamilyRun family r → r.first ≤ r.last → r.last ≤ last_address → HasNoComma (block_text (address_text family) r) × WritesBlock family (block_text (address_text family) r) r
 unfolding block_text OwnLength Written
 block_written family r w ordered within =
     let f = address_text family in

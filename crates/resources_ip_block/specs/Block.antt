@@ -3,6 +3,7 @@ use Rattle.std.specs.Prelude.{◌≡◌, ◌≢◌, ℕ, ◌≤◌}
 use Rattle.resources_ip_block.specs.resources_chain.Sets.{Run}
 use Rattle.resources_ip_block.specs.declared.block.IpBlock.{IpBlock}
 use Rattle.resources_ip_block.specs.declared.block.IpBlock.TheVariants as Of
+use Rattle.resources_ip_prefix.specs.All.{last_address}
 use Rattle.resources_ip_prefix.specs.Prefix.{run_of_prefix}
 use Rattle.resources_ip_block.specs.Range.{run_of_range, range_within}
 use Rattle.resources_ip_prefix.specs.Prefixes.{first_of, prefix_run}
@@ -13,7 +14,7 @@ abbrev pub run_of_block : IpBlock → Run
 run_of_block (Of.Prefix p) = run_of_prefix p
 run_of_block (Of.Range r) = run_of_range r
 
-pub block_within : (b : IpBlock) → ((run_of_block b).first ≤ (run_of_block b).last) × ((run_of_block b).last ≤ 340282366920938463463374607431768211455)
+pub block_within : (b : IpBlock) → ((run_of_block b).first ≤ (run_of_block b).last) × ((run_of_block b).last ≤ last_address)
 block_within (Of.Prefix p) = prefix_within p
 block_within (Of.Range r) = range_within r
 

@@ -2,6 +2,7 @@
 
 ghost use Rattle.std.specs.Prelude.{◌≡◌, ℕ, ◌≤◌, ◌↔◌, ◌≢◌, IsTrue, MatchResult, refl};
 ghost use Rattle.std.specs.Range.{range_inclusive_start, range_inclusive_end};
+ghost use Rattle.resources_ip_prefix.specs.All.{all_addresses, last_address};
 ghost use Rattle.resources_ip_prefix.specs.Address.{bits_of, bits_within, one_addr};
 ghost use Rattle.resources_ip_prefix.specs.Prefix.{run_of_prefix};
 ghost use Rattle.resources_ip_prefix.specs.Prefixes.{first_of, prefix_run};
@@ -29,17 +30,14 @@ impl IpBlock {
     /// The block of all addresses.
     pub fn all() -> Self
         ensures form { HasOneForm result }
-        ensures run { run_of_block result
-            ≡ record { first = 0; last = 340282366920938463463374607431768211455 } }
+        ensures run { run_of_block result ≡ all_addresses }
     {
         IpBlock::Prefix(Prefix::new(Addr::from_bits(0), 0))
     }
 
     /// Whether the block has all addresses.
     pub fn is_slash_zero(&self) -> bool
-        ensures { IsTrue result
-            ↔ (run_of_block self.now
-            ≡ record { first = 0; last = 340282366920938463463374607431768211455 }) }
+        ensures { IsTrue result ↔ (run_of_block self.now ≡ all_addresses) }
     {
         self.min().to_bits() == 0 && self.max().to_bits() == u128::MAX
     }
@@ -103,7 +101,7 @@ impl Block for IpBlock {
 
     ghost place = { bits_of };
 
-    ghost last_place = { 340282366920938463463374607431768211455 };
+    ghost last_place = { last_address };
 
     ghost run = { run_of_block };
 

@@ -2,6 +2,7 @@
 
 ghost use Rattle.std.specs.Prelude.{◌≡◌, ◌≢◌, ◌+◌, ℕ, ◌≤◌, MatchOption, MatchResult, refl};
 ghost use Rattle.std.specs.Range.{range_inclusive_start, range_inclusive_end};
+ghost use Rattle.resources_ip_prefix.specs.All.{last_address};
 ghost use Rattle.resources_ip_prefix.specs.Address.{bits_of, bits_within, one_addr};
 ghost use Rattle.resources_ip_prefix.specs.Prefix.{run_of_prefix};
 ghost use Rattle.resources_ip_prefix.specs.Prefixes.{first_of, prefix_run};
@@ -88,7 +89,7 @@ impl AddressRange {
 
 // The address after this one; none after the last.
 pub(crate) fn after(addr: Addr) -> Option<Addr>
-    ensures { MatchOption result (bits_of addr ≡ 340282366920938463463374607431768211455)
+    ensures { MatchOption result (bits_of addr ≡ last_address)
         (λ next. bits_of next ≡ bits_of addr + 1) }
 {
     Some(Addr::from_bits(addr.to_bits().checked_add(1)?))
@@ -109,7 +110,7 @@ impl Block for AddressRange {
 
     ghost place = { bits_of };
 
-    ghost last_place = { 340282366920938463463374607431768211455 };
+    ghost last_place = { last_address };
 
     ghost run = { run_of_range };
 

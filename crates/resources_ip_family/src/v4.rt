@@ -6,6 +6,7 @@ ghost use Rattle.std.specs.Iterator.{IsFinite, DrainsIf};
 ghost use Rattle.resources_ip_family.specs.resources_chain.declared.choice.ResourcesChoice.TheVariants.{Blocks};
 ghost use Rattle.resources_ip_family.specs.resources_chain.Sets.{InRuns, IsRunsOf};
 ghost use Rattle.resources_ip_family.specs.resources_chain.Same.{runs_eq, runs_eq_equiv};
+ghost use Rattle.resources_ip_family.specs.resources_ip_prefix.All.{all_addresses};
 ghost use Rattle.resources_ip_family.specs.resources_ip_prefix.Address.{bits_of};
 ghost use Rattle.resources_ip_family.specs.resources_ip_block.Block.{run_of_block};
 ghost use Rattle.resources_ip.specs.Blocks.{IsAddress};
@@ -39,8 +40,7 @@ impl Ipv4Block {
 
     /// The block of all addresses.
     pub fn all() -> Self
-        ensures { run_of_v4 result
-            ≡ record { first = 0; last = 340282366920938463463374607431768211455 } }
+        ensures { run_of_v4 result ≡ all_addresses }
     {
         Ipv4Block {
             block: IpBlock::all(),
@@ -49,9 +49,7 @@ impl Ipv4Block {
 
     /// Whether the block has all addresses.
     pub fn is_slash_zero(&self) -> bool
-        ensures { IsTrue result
-            ↔ (run_of_v4 self.now
-            ≡ record { first = 0; last = 340282366920938463463374607431768211455 }) }
+        ensures { IsTrue result ↔ (run_of_v4 self.now ≡ all_addresses) }
     {
         self.block.is_slash_zero()
     }

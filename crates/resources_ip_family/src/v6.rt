@@ -6,6 +6,7 @@ ghost use Rattle.std.specs.Iterator.{IsFinite, DrainsIf};
 ghost use Rattle.resources_ip_family.specs.resources_chain.declared.choice.ResourcesChoice.TheVariants.{Blocks};
 ghost use Rattle.resources_ip_family.specs.resources_chain.Sets.{InRuns, IsRunsOf};
 ghost use Rattle.resources_ip_family.specs.resources_chain.Same.{runs_eq, runs_eq_equiv};
+ghost use Rattle.resources_ip_family.specs.resources_ip_prefix.All.{all_addresses};
 ghost use Rattle.resources_ip_family.specs.resources_ip_prefix.Address.{bits_of};
 ghost use Rattle.resources_ip_family.specs.resources_ip_block.Block.{run_of_block};
 ghost use Rattle.resources_ip_family.specs.resources_ip_prefix.declared.addr.AddressFamily.TheVariants.{Ipv6};
@@ -36,8 +37,7 @@ impl Ipv6Block {
 
     /// The block of all addresses.
     pub fn all() -> Self
-        ensures { run_of_v6 result
-            ≡ record { first = 0; last = 340282366920938463463374607431768211455 } }
+        ensures { run_of_v6 result ≡ all_addresses }
     {
         Ipv6Block {
             block: IpBlock::all(),
@@ -46,9 +46,7 @@ impl Ipv6Block {
 
     /// Whether the block has all addresses.
     pub fn is_slash_zero(&self) -> bool
-        ensures { IsTrue result
-            ↔ (run_of_v6 self.now
-            ≡ record { first = 0; last = 340282366920938463463374607431768211455 }) }
+        ensures { IsTrue result ↔ (run_of_v6 self.now ≡ all_addresses) }
     {
         self.block.is_slash_zero()
     }

@@ -1,3 +1,4 @@
+pub mod All
 pub mod Prefixes
 pub mod Address
 pub mod Prefix

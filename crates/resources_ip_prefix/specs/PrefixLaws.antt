@@ -3,6 +3,7 @@ use Rattle.std.proofs.Common.{◌≡◌, ℕ, ◌+◌, ◌-◌, ◌*◌, ◌/◌
 use Rattle.std.proofs.lemmas.Bool.Decides.{leb_tells}
 use Rattle.std.proofs.lemmas.Nat.{pow_pos, pow-add, mul-le}
 use Rattle.resources_ip_prefix.specs.declared.prefix.Prefix.{Prefix}
+use Rattle.resources_ip_prefix.specs.All.{last_address}
 use Rattle.resources_ip_prefix.specs.Address.{bits_of, bits_within}
 use Rattle.resources_ip_prefix.specs.Prefix.{prefix_addr, prefix_len, run_of_prefix, len_within, host_clear}
 use Rattle.resources_ip_prefix.specs.Prefixes.{span_of, first_of}
@@ -26,5 +27,5 @@ ends_within addr len h clear within =
     let below : addr / 2 ^ m * 2 ^ m < 2 ^ len * 2 ^ m = omega (arith, parts, clear, within) in
     omega (arith, apart (addr / 2 ^ m) (2 ^ len) (2 ^ m) below, parts, clear, pow_pos m)
 
-pub prefix_within : (p : Prefix) → ((run_of_prefix p).first ≤ (run_of_prefix p).last) × ((run_of_prefix p).last ≤ 340282366920938463463374607431768211455)
+pub prefix_within : (p : Prefix) → ((run_of_prefix p).first ≤ (run_of_prefix p).last) × ((run_of_prefix p).last ≤ last_address)
 prefix_within p = (omega arith, omega (arith, ends_within (bits_of (prefix_addr p)) (prefix_len p) (len_within p) (host_clear p) (omega (arith, bits_within (prefix_addr p)))))

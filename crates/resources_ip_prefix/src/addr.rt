@@ -3,6 +3,7 @@
 ghost use Rattle.std.specs.Prelude.{◌≡◌, ◌*◌, ◌/◌, ◌-◌, ◌^◌, ◌≤◌};
 ghost use Rattle.std.specs.Int.{to_be_bytes, w128};
 ghost use Rattle.std.specs.Net.Addr.{ipv4_bits, ipv6_bits, IsIpv4OfBits, IsIpv6OfBits, MatchIp};
+ghost use Rattle.resources_ip_prefix.specs.All.{last_address};
 ghost use Rattle.resources_ip_prefix.specs.Prefixes.{first_of, last_of};
 
 use std::net::{IpAddr, Ipv4Addr, Ipv6Addr};
@@ -12,7 +13,7 @@ use std::net::{IpAddr, Ipv4Addr, Ipv6Addr};
 #[derive(Clone, Copy, Debug, PartialEq, Eq, PartialOrd, Ord, Hash)]
 pub struct Addr {
     bits: u128,
-    ghost in_range: { bits ≤ 340282366920938463463374607431768211455 },
+    ghost in_range: { bits ≤ last_address },
 }
 
 impl Addr {

@@ -5,6 +5,7 @@ ghost use Rattle.std.proofs.Common.{rules};
 ghost use Rattle.resources_set.specs.resources_chain.Sets.{InEither, InBoth, InFirstOnly};
 ghost use Rattle.resources_set.specs.resources_chain.Claims.{HasMaximal, Lists};
 ghost use Rattle.resources_set.specs.resources_chain.declared.choice.ResourcesChoice.TheVariants.{Blocks};
+ghost use Rattle.resources_set.specs.resources_asn.Numbers.{last_number};
 ghost use Rattle.resources_set.specs.resources_ip_prefix.declared.addr.AddressFamily.TheVariants.{Ipv4, Ipv6};
 ghost use Rattle.resources_set.specs.resources_ip.Blocks.{IsAddress};
 ghost use Rattle.resources_set.specs.resources_ip.Written.{FitsChoice};
@@ -112,7 +113,7 @@ impl ResourceSet {
 
     /// The set of all AS numbers and addresses.
     pub fn all(alloc: Global) -> Result<Self, AllocError>
-        ensures { IfOk result (λ set. AreRunsOf (λ n. n ≤ 4294967295) IsAddress IsAddress set) }
+        ensures { IfOk result (λ set. AreRunsOf (λ n. n ≤ last_number) IsAddress IsAddress set) }
     {
         Ok(ResourceSet {
             asn: AsBlocks::all(alloc)?,
@@ -125,10 +126,8 @@ impl ResourceSet {
     pub fn is_empty(&self) -> bool
         ensures { IsTrue result ↔ HasNone self.now }
     {
-        let asn = self.asn.is_empty();
-        let ipv4 = self.ipv4.as_blocks().is_empty();
-        let ipv6 = self.ipv6.as_blocks().is_empty();
-        are_all(asn, ipv4, ipv6)
+        let (ipv4, ipv6) = (self.ipv4.as_blocks(), self.ipv6.as_blocks());
+        self.asn.is_empty() && ipv4.is_empty() && ipv6.is_empty()
     }
 
     /// Sets the AS numbers.
@@ -202,10 +201,9 @@ impl ResourceSet {
     pub fn contains(&self, other: &ResourceSet) -> bool
         ensures { IsTrue result ↔ AreInside other.now self.now }
     {
-        let asn = self.asn.contains(&other.asn);
-        let ipv4 = self.ipv4.as_blocks().contains(other.ipv4.as_blocks());
-        let ipv6 = self.ipv6.as_blocks().contains(other.ipv6.as_blocks());
-        are_all(asn, ipv4, ipv6)
+        self.asn.contains(&other.asn)
+            && self.ipv4.as_blocks().contains(other.ipv4.as_blocks())
+            && self.ipv6.as_blocks().contains(other.ipv6.as_blocks())
     }
 
     /// The AS numbers and addresses of either set.
@@ -286,13 +284,6 @@ fn read_texts(alloc: Global, asn: &str, ipv4: &str, ipv6: &str) -> Result<Resour
     Ok(ResourceSet { asn, ipv4, ipv6 })
 }
 
-// Whether it is so of each kind.
-pub(crate) fn are_all(asn: bool, ipv4: bool, ipv6: bool) -> bool
-    ensures { IsTrue result ↔ (IsTrue asn × IsTrue ipv4 × IsTrue ipv6) }
-{
-    matches!((asn, ipv4, ipv6), (true, true, true))
-}
-
 impl Default for ResourceSet {
     ghost is_default = { HasNone };
 
@@ -327,10 +318,7 @@ impl PartialEq for ResourceSet {
         ensures value { result ≡ sets_eq self.now other.now }
         ensures set { IsTrue result ↔ HaveSame self.now other.now }
     {
-        let asn = self.asn == other.asn;
-        let ipv4 = self.ipv4 == other.ipv4;
-        let ipv6 = self.ipv6 == other.ipv6;
-        are_all(asn, ipv4, ipv6)
+        self.asn == other.asn && self.ipv4 == other.ipv4 && self.ipv6 == other.ipv6
     }
 }
 

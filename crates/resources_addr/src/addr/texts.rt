@@ -26,14 +26,9 @@ fn address_and_len(text: &str) -> Result<(IpAddr, u8), ParsePrefixError>
     let Some((address, digits)) = text.split_once('/') else {
         return Err(ParsePrefixError::MissingLen);
     };
-    let addr = match IpAddr::from_str(address) {
-        Ok(addr) => addr,
-        Err(error) => return Err(ParsePrefixError::InvalidAddr(error)),
-    };
-    match u8::from_str(digits) {
-        Ok(len) => Ok((addr, len)),
-        Err(error) => Err(ParsePrefixError::InvalidLen(error)),
-    }
+    let addr = IpAddr::from_str(address).map_err(ParsePrefixError::InvalidAddr)?;
+    let len = u8::from_str(digits).map_err(ParsePrefixError::InvalidLen)?;
+    Ok((addr, len))
 }
 
 /// From an address, a slash and a decimal length, as `10.0.0.0/8`. The first failing test decides: `Empty`,
@@ -102,10 +97,8 @@ fn prefix_and_max_len(text: &str) -> Result<(Prefix, Option<u8>), ParseMaxLenPre
         return Ok((prefix_part(text)?, None));
     };
     let prefix = prefix_part(prefix)?;
-    match u8::from_str(digits) {
-        Ok(max_len) => Ok((prefix, Some(max_len))),
-        Err(error) => Err(ParseMaxLenPrefixError::InvalidMaxLenFormat(error)),
-    }
+    let max_len = u8::from_str(digits).map_err(ParseMaxLenPrefixError::InvalidMaxLenFormat)?;
+    Ok((prefix, Some(max_len)))
 }
 
 /// The prefix, and where a greatest length is given, a dash and that length, as `10.0.0.0/8-24`.

@@ -1,6 +1,9 @@
-use Rattle.std.proofs.Common.{Some, None, lit<, sym}
+use Rattle.std.proofs.Common.{Some, None, Ok, Err, lit<, sym, subst}
+use Rattle.std.specs.Str.Parse.{ParsesUnsigned}
 use Rattle.std.proofs.lemmas.Str.Pattern.{split_parts}
 use Rattle.std.proofs.lemmas.Result.{err_from_is_err_and}
+use Rattle.resources_addr.specs.declared.addr.error.ParseMaxLenPrefixError.TheVariants.{InvalidMaxLenFormat}
+use Rattle.resources_addr.proofs.Texts.{mapped}
 use Rattle.resources_addr.proofs.MaxLenTexts.{fault_alone, fault_before}
 use Rattle.resources_addr.proofs.addr.texts.prefix_and_max_len.Goals as goal
 
@@ -21,24 +24,29 @@ returns-in_err-prefix c =
     rw (p.1, p.2)
     (fault_before c.args.text.now c.in-Some.prefix.now c.in-Some.digits.now _ (record { whole = parts.0; first = parts.1 }) c.in_err-prefix.ensures)
 
-pub returns-in-Ok : goal.returns-in-Ok
-returns-in-Ok c =
+pub returns-in_err-max_len : goal.returns-in_err-max_len
+returns-in_err-max_len c =
+    let p = err_from_is_err_and c.from_residual-in_err-max_len.result c.from_residual-in_err-max_len.ensures.1 in
     let parts = split_parts 45 c.args.text.now (Some (c.in-Some.prefix, c.in-Some.digits)) c.in-Some.ensures.cases (lit< tt) in
-    let number = c.in-Ok.ensures in (
-      c.in-Some.prefix.now,
-      c.in-Some.digits.now,
-      record { whole = parts.0; first = parts.1 },
-      c.in_ok-prefix.ensures,
-      record { numeral = number.0.0.0; value = sym number.0.1; fits = rw number.0.1 number.0.0.1 },
-    )
-
-pub returns-in-Err : goal.returns-in-Err
-returns-in-Err c =
-    let parts = split_parts 45 c.args.text.now (Some (c.in-Some.prefix, c.in-Some.digits)) c.in-Some.ensures.cases (lit< tt) in (
+    let m = mapped InvalidMaxLenFormat c.from_str.result (Err c.in_err-max_len.field-0.0) c.in_err-max_len.ensures.cases in
+    let none = subst (ParsesUnsigned 8 10 c.in-Some.digits.now) m.1 c.from_str.ensures.0 in
+    rw (p.1, p.2, m.2) (
       c.in-Some.prefix.now,
       c.in-Some.digits.now,
       c.in_ok-prefix.prefix,
       record { whole = parts.0; first = parts.1 },
       c.in_ok-prefix.ensures,
-      λ n h. c.in-Err.ensures.0 (h.numeral, rw h.value h.fits),
+      λ n h. none (h.numeral, rw h.value h.fits),
+    )
+
+pub returns : goal.returns
+returns c =
+    let parts = split_parts 45 c.args.text.now (Some (c.in-Some.prefix, c.in-Some.digits)) c.in-Some.ensures.cases (lit< tt) in
+    let read = mapped InvalidMaxLenFormat c.from_str.result (Ok c.in_ok-max_len.max_len) c.in_ok-max_len.ensures.cases in
+    let number = subst (ParsesUnsigned 8 10 c.in-Some.digits.now) read c.from_str.ensures.0 in (
+      c.in-Some.prefix.now,
+      c.in-Some.digits.now,
+      record { whole = parts.0; first = parts.1 },
+      c.in_ok-prefix.ensures,
+      record { numeral = number.0.0; value = sym number.1; fits = rw number.1 number.0.1 },
     )
