@@ -9,7 +9,7 @@ use Rattle.bcder_number.specs.bcder_written.declared.error.EncodeError.TheVarian
 use Rattle.bcder_number.specs.bcder_written.Contents.{NoContent, ContentRefused, BytesRefused}
 use Rattle.bcder_number.specs.bcder_written.Integers.{WritesUnsigned}
 use Rattle.bcder_number.specs.Integers.{IsInteger}
-use Rattle.bcder_number.specs.bcder_written.Integers.{steps}
+use Rattle.bcder_number.specs.bcder_written.Integers.{steps_of}
 use Rattle.bcder_number.specs.Contents.{content, content_is, few_octets, one_integer}
 
 -- Few octets are refused for lack of memory alone.
@@ -20,7 +20,7 @@ only_memory P (Err errors.TooLong) v is few h = absurd (h v is (omega arith))
 only_memory P (Err errors.Write) v is few h = absurd h
 only_memory P (Err errors.Memory) v is few h = refl
 
-steps_within : (x : ℤ) → IsWithin (2 ^ 127) x → steps x < 2 ^ 128
+steps_within : (x : ℤ) → IsWithin (2 ^ 127) x → steps_of x < 2 ^ 128
 steps_within (pos n) low = omega arith
 steps_within (negsuc n) low = omega arith
 

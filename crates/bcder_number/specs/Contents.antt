@@ -8,20 +8,20 @@ use Rattle.std.specs.Prelude.{ℤ, pos, negsuc}
 use Rattle.bcder_number.specs.bcder_tree.Integers.{number_behind, number_of, IsShortest, IsPositive}
 use Rattle.bcder_number.specs.bcder_primitive.Values.{IsSigned, IsNegative, IsTwosComplement, IsWithin}
 use Rattle.bcder_values.proofs.of_bcder_primitive.Numbers.{number_high, further}
-use Rattle.bcder_number.specs.bcder_written.Integers.{near, one_signed, steps}
+use Rattle.bcder_number.specs.bcder_written.Integers.{near, one_signed, steps_of}
 use Rattle.bcder_number.specs.Integers.{IsInteger, told}
 
 -- Each number is within some bound,
-within_steps : (x : ℤ) → IsWithin (steps x + 1) x
+within_steps : (x : ℤ) → IsWithin (steps_of x + 1) x
 within_steps (pos n) = omega arith
 within_steps (negsuc k) = omega arith
 
-signed : {content : List ℕ} {x : ℤ} → IsInteger content x → IsSigned (steps x + 1) content x
+signed : {content : List ℕ} {x : ℤ} → IsInteger content x → IsSigned (steps_of x + 1) content x
 signed {content} {x} is = record { octets = is.octets; shortest = is.shortest; value = is.value; within = within_steps x }
 
 -- so it has one content.
 pub one_integer : (x : ℤ) (a b : List ℕ) → IsInteger a x → IsInteger b x → a ≡ b
-one_integer x a b s t = one_signed {bound = steps x + 1} x a b (signed s) (signed t)
+one_integer x a b s t = one_signed {bound = steps_of x + 1} x a b (signed s) (signed t)
 
 -- Octets are one number in two's complement.
 told_two : (content : List ℕ) (x : ℤ) → All (λ a. a < 256) content → IsTwosComplement content x → told content ≡ x
@@ -119,7 +119,7 @@ more_neg k n high h =
     )))
     (negative_more v (r ∷ []) is.value.0, omega (arith, e, is.value.1, ap (λ (z : ℕ). 256 ^ z) long, pow-succ' 256 (length v)))
 
-has_below : (k : ℕ) (x : ℤ) → steps x < 128 * 256 ^ k → Has (suc k) x
+has_below : (k : ℕ) (x : ℤ) → steps_of x < 128 * 256 ^ k → Has (suc k) x
 has_below zero (pos n) low = (n ∷ [], record { octets = single _ (omega arith); shortest = tt; value = (omega arith, omega arith) }, omega arith)
 has_below zero (negsuc n) low = ((255 - n) ∷ [], record { octets = single _ (omega arith); shortest = tt; value = (omega arith, omega arith) }, omega arith)
 has_below (suc k) (pos n) low =
@@ -139,23 +139,23 @@ enough (suc n) = omega (arith, enough n, pow-succ' 256 n)
 
 -- The content octets of a number.
 pub content : ℤ → List ℕ
-content x = (has_below (steps x) x (enough (steps x))).0
+content x = (has_below (steps_of x) x (enough (steps_of x))).0
 
 pub content_is : (x : ℤ) → IsInteger (content x) x
 unfolding content
-content_is x = (has_below (steps x) x (enough (steps x))).1
+content_is x = (has_below (steps_of x) x (enough (steps_of x))).1
 
 -- Numbers that are near have few of them.
-few_of : (k : ℕ) (x : ℤ) → steps x < 128 * 256 ^ k → length (content x) ≤ suc k
+few_of : (k : ℕ) (x : ℤ) → steps_of x < 128 * 256 ^ k → length (content x) ≤ suc k
 few_of k x low =
     let h = has_below k x low in
     omega (arith, ap length (one_integer x (content x) h.0 (content_is x) h.1), h.2)
 
 -- Longer contents are of numbers that are further away.
-pub further_away : (a b : List ℕ) (x y : ℤ) → IsInteger a x → IsInteger b y → length a < length b → steps x < steps y
+pub further_away : (a b : List ℕ) (x y : ℤ) → IsInteger a x → IsInteger b y → length a < length b → steps_of x < steps_of y
 further_away [] b x y s t h = absurd s.shortest
 further_away (a ∷ v) b x y s t h =
-    elim (cases_lt (steps x) (steps y)) [
+    elim (cases_lt (steps_of x) (steps_of y)) [
       | inl l ↦ l
       | inr r ↦
           let low = near a v x s.octets s.value in
@@ -163,5 +163,5 @@ further_away (a ∷ v) b x y s t h =
     ]
 
 -- A number from -2^128 up and below 2^128 has at most seventeen octets.
-pub few_octets : (x : ℤ) → steps x < 2 ^ 128 → length (content x) ≤ 17
+pub few_octets : (x : ℤ) → steps_of x < 2 ^ 128 → length (content x) ≤ 17
 few_octets x low = few_of 16 x (omega arith)
