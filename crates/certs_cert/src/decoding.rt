@@ -16,18 +16,19 @@ ghost use Rattle.certs_claims.specs.certs_specs.CertText.{IsCert, IsTbs, SpellsC
 use crate::cert::Cert;
 use crate::tbs::TbsCert;
 use certs_claims::cert_is_spelled;
+use certs_key::Captured;
 use certs_signed::decode::{Constructed, Decode, DecodeError, IntoSource, Source};
 use certs_signed::{Mode, SignedData};
 use std::alloc::Global;
 use std::convert::Infallible;
 
-// What is signed, read of the octets that it begins with.
-fn tbs_of(alloc: Global, octets: &[u8], mode: Mode) -> Result<TbsCert, DecodeError<Infallible>>
-    ensures reads { DecodesAs (λ t. t) mode (IsTbs mode) octets.now result }
-    ensures octets { IfOk result (InFront (SpellsTbs mode) octets.now) }
+// What is signed, read of the octets that it begins with, and sharing them.
+fn tbs_of(alloc: Global, message: Captured, mode: Mode) -> Result<TbsCert, DecodeError<Infallible>>
+    ensures reads { DecodesAs (λ t. t) mode (IsTbs mode) message.octets result }
+    ensures octets { IfOk result (InFront (SpellsTbs mode) message.octets) }
 {
     mode.decode(
-        octets,
+        message.into_bytes(),
         |cons|
             ensures reads { ReadsAs (λ t. t) (IsTbs (here rest_of cons.old).mode)
                 (here rest_of cons.old) result (here rest_of cons.new) }
@@ -51,7 +52,8 @@ impl Cert {
     {
         let mode = cons.mode();
         let signed = SignedData::from_constructed(alloc, cons)?;
-        let tbs = match tbs_of(alloc, signed.data().as_slice(), mode) {
+        let message = signed.data().clone()?;
+        let tbs = match tbs_of(alloc, message, mode) {
             Ok(tbs) => tbs,
             Err(error) => {
                 cons.fail();

@@ -11,7 +11,6 @@ ghost use Rattle.certs_extension.specs.certs_specs.Extensions.{IsExtension};
 ghost use Rattle.certs_claims.specs.Refusals.{Told};
 ghost use Rattle.certs_claims.specs.Slots.{AreSlots};
 
-use crate::holding::beside;
 use crate::slots::Slots;
 use certs_extension::decode::{Constructed, ContentError, DecodeError, Source};
 use certs_extension::{Extension, ExtensionError};
@@ -41,13 +40,17 @@ fn take_all<S: Source>(
 {
     let mut slots = Slots::new();
     loop {
-        let (kept, next) = beside(slots, Extension::take_opt_from(alloc, cons))?;
-        slots = kept;
+        let next = match Extension::take_opt_from(alloc, cons) {
+            Ok(next) => next,
+            Err(error) => {
+                drop(slots);
+                return Err(error);
+            }
+        };
         let Some(extension) = next else {
             return Ok(slots);
         };
-        let put = slots.put(alloc, &extension);
-        drop(extension);
+        let put = slots.put(alloc, extension);
         if let Err(fault) = put {
             drop(slots);
             return Err(refusal(cons, fault));

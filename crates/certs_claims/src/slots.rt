@@ -70,11 +70,11 @@ impl Slots {
         &mut self,
         alloc: Global,
         kind: Kind,
-        extension: &Extension,
+        extension: Extension,
     ) -> Result<(), ExtensionError>
         ensures ok { OnOk result
-            (Puts (octets_of kind) (extension_value extension.now) self.old self.new) }
-        ensures refused { IfErr result (CannotPut kind (extension_value extension.now) self.old) }
+            (Puts (octets_of kind) (extension_value extension) self.old self.new) }
+        ensures refused { IfErr result (CannotPut kind (extension_value extension) self.old) }
         ensures same { OnErr result (self.new ≡ self.old) }
     {
         match kind {
@@ -111,7 +111,7 @@ impl Slots {
             Kind::AsResources => put_asn(&mut self.asn, Overclaim::Refuse, alloc, extension),
             Kind::IpResourcesV2 => put_ip(&mut self.ip, Overclaim::Trim, alloc, extension),
             Kind::AsResourcesV2 => put_asn(&mut self.asn, Overclaim::Trim, alloc, extension),
-            Kind::Unknown => skip_unknown(extension),
+            Kind::Unknown => skip_unknown(&extension),
         }
     }
 
@@ -123,11 +123,11 @@ impl Slots {
     /// don't begin with a value of its type, or `Memory` where none is left to read it.
     /// `UnknownCritical` where it is critical and unknown. The slots are as they were where it is
     /// refused.
-    pub fn put(&mut self, alloc: Global, extension: &Extension) -> Result<(), ExtensionError>
-        ensures ok { OnOk result (Adds (extension_value extension.now) self.old self.new) }
-        ensures refused { IfErr result (IsFault (extension_value extension.now) self.old) }
+    pub fn put(&mut self, alloc: Global, extension: Extension) -> Result<(), ExtensionError>
+        ensures ok { OnOk result (Adds (extension_value extension) self.old self.new) }
+        ensures refused { IfErr result (IsFault (extension_value extension) self.old) }
         ensures none { IfErr result
-            (λ e. e ≢ ExtensionError.Memory → Refuses (extension_value extension.now) self.old) }
+            (λ e. e ≢ ExtensionError.Memory → Refuses (extension_value extension) self.old) }
         ensures same { OnErr result (self.new ≡ self.old) }
     {
         let kind = kind_of(&extension.kind);

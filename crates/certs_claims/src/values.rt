@@ -28,12 +28,12 @@ use std::alloc::Global;
 // Puts the basic constraints.
 pub(crate) fn put_basic_constraints(
     slot: &mut Option<bool>,
-    extension: &Extension,
+    extension: Extension,
 ) -> Result<(), ExtensionError>
     ensures ok { OnOk result
-        (Fills Must IsBasicConstraints (extension_value extension.now) slot.old slot.new) }
+        (Fills Must IsBasicConstraints (extension_value extension) slot.old slot.new) }
     ensures refused { IfErr result
-        (CannotFill Must IsBasicConstraints (extension_value extension.now) slot.old) }
+        (CannotFill Must IsBasicConstraints (extension_value extension) slot.old) }
     ensures same { OnErr result (slot.new ≡ slot.old) }
 {
     put_once(
@@ -51,12 +51,12 @@ pub(crate) fn put_basic_constraints(
 pub(crate) fn put_subject_key_identifier(
     slot: &mut Option<KeyIdentifier>,
     alloc: Global,
-    extension: &Extension,
+    extension: Extension,
 ) -> Result<(), ExtensionError>
     ensures ok { OnOk result
-        (Fills MustNot IsSubjectKeyIdentifier (extension_value extension.now) slot.old slot.new) }
+        (Fills MustNot IsSubjectKeyIdentifier (extension_value extension) slot.old slot.new) }
     ensures refused { IfErr result
-        (CannotFill MustNot IsSubjectKeyIdentifier (extension_value extension.now) slot.old) }
+        (CannotFill MustNot IsSubjectKeyIdentifier (extension_value extension) slot.old) }
     ensures same { OnErr result (slot.new ≡ slot.old) }
 {
     put_once(
@@ -75,12 +75,12 @@ pub(crate) fn put_subject_key_identifier(
 pub(crate) fn put_authority_key_identifier(
     slot: &mut Option<KeyIdentifier>,
     alloc: Global,
-    extension: &Extension,
+    extension: Extension,
 ) -> Result<(), ExtensionError>
     ensures ok { OnOk result
-        (Fills MustNot IsAuthorityKeyIdentifier (extension_value extension.now) slot.old slot.new) }
+        (Fills MustNot IsAuthorityKeyIdentifier (extension_value extension) slot.old slot.new) }
     ensures refused { IfErr result
-        (CannotFill MustNot IsAuthorityKeyIdentifier (extension_value extension.now) slot.old) }
+        (CannotFill MustNot IsAuthorityKeyIdentifier (extension_value extension) slot.old) }
     ensures same { OnErr result (slot.new ≡ slot.old) }
 {
     put_once(
@@ -98,12 +98,12 @@ pub(crate) fn put_authority_key_identifier(
 pub(crate) fn put_key_usage(
     slot: &mut Option<KeyUsage>,
     alloc: Global,
-    extension: &Extension,
+    extension: Extension,
 ) -> Result<(), ExtensionError>
     ensures ok { OnOk result
-        (Fills Must IsKeyUsage (extension_value extension.now) slot.old slot.new) }
+        (Fills Must IsKeyUsage (extension_value extension) slot.old slot.new) }
     ensures refused { IfErr result
-        (CannotFill Must IsKeyUsage (extension_value extension.now) slot.old) }
+        (CannotFill Must IsKeyUsage (extension_value extension) slot.old) }
     ensures same { OnErr result (slot.new ≡ slot.old) }
 {
     put_once(
@@ -121,12 +121,12 @@ pub(crate) fn put_key_usage(
 pub(crate) fn put_extended_key_usage(
     slot: &mut Option<ExtendedKeyUsage>,
     alloc: Global,
-    extension: &Extension,
+    extension: Extension,
 ) -> Result<(), ExtensionError>
     ensures ok { OnOk result
-        (Fills MustNot IsExtendedKeyUsage (extension_value extension.now) slot.old slot.new) }
+        (Fills MustNot IsExtendedKeyUsage (extension_value extension) slot.old slot.new) }
     ensures refused { IfErr result
-        (CannotFill MustNot IsExtendedKeyUsage (extension_value extension.now) slot.old) }
+        (CannotFill MustNot IsExtendedKeyUsage (extension_value extension) slot.old) }
     ensures same { OnErr result (slot.new ≡ slot.old) }
 {
     put_once(
@@ -144,12 +144,12 @@ pub(crate) fn put_extended_key_usage(
 pub(crate) fn put_crl_distribution(
     slot: &mut Option<Rsync>,
     alloc: Global,
-    extension: &Extension,
+    extension: Extension,
 ) -> Result<(), ExtensionError>
     ensures ok { OnOk result
-        (Fills MustNot IsCrlDistribution (extension_value extension.now) slot.old slot.new) }
+        (Fills MustNot IsCrlDistribution (extension_value extension) slot.old slot.new) }
     ensures refused { IfErr result
-        (CannotFill MustNot IsCrlDistribution (extension_value extension.now) slot.old) }
+        (CannotFill MustNot IsCrlDistribution (extension_value extension) slot.old) }
     ensures same { OnErr result (slot.new ≡ slot.old) }
 {
     put_once(
@@ -167,12 +167,12 @@ pub(crate) fn put_crl_distribution(
 pub(crate) fn put_authority_access(
     slot: &mut Option<Rsync>,
     alloc: Global,
-    extension: &Extension,
+    extension: Extension,
 ) -> Result<(), ExtensionError>
     ensures ok { OnOk result
-        (Fills MustNot IsAuthorityAccess (extension_value extension.now) slot.old slot.new) }
+        (Fills MustNot IsAuthorityAccess (extension_value extension) slot.old slot.new) }
     ensures refused { IfErr result
-        (CannotFill MustNot IsAuthorityAccess (extension_value extension.now) slot.old) }
+        (CannotFill MustNot IsAuthorityAccess (extension_value extension) slot.old) }
     ensures same { OnErr result (slot.new ≡ slot.old) }
 {
     put_once(
@@ -190,12 +190,12 @@ pub(crate) fn put_authority_access(
 pub(crate) fn put_subject_access(
     slot: &mut Option<SubjectAccess>,
     alloc: Global,
-    extension: &Extension,
+    extension: Extension,
 ) -> Result<(), ExtensionError>
     ensures ok { OnOk result
-        (Fills MustNot IsSubjectAccess (extension_value extension.now) slot.old slot.new) }
+        (Fills MustNot IsSubjectAccess (extension_value extension) slot.old slot.new) }
     ensures refused { IfErr result
-        (CannotFill MustNot IsSubjectAccess (extension_value extension.now) slot.old) }
+        (CannotFill MustNot IsSubjectAccess (extension_value extension) slot.old) }
     ensures same { OnErr result (slot.new ≡ slot.old) }
 {
     put_once(
@@ -213,12 +213,12 @@ pub(crate) fn put_subject_access(
 pub(crate) fn put_policies(
     slot: &mut Option<Overclaim>,
     alloc: Global,
-    extension: &Extension,
+    extension: Extension,
 ) -> Result<(), ExtensionError>
     ensures ok { OnOk result
-        (Fills Must IsPolicies (extension_value extension.now) slot.old slot.new) }
+        (Fills Must IsPolicies (extension_value extension) slot.old slot.new) }
     ensures refused { IfErr result
-        (CannotFill Must IsPolicies (extension_value extension.now) slot.old) }
+        (CannotFill Must IsPolicies (extension_value extension) slot.old) }
     ensures same { OnErr result (slot.new ≡ slot.old) }
 {
     put_once(
@@ -250,12 +250,12 @@ pub(crate) fn put_ip(
     slot: &mut Option<(Overclaim, IpFamilies)>,
     policy: Overclaim,
     alloc: Global,
-    extension: &Extension,
+    extension: Extension,
 ) -> Result<(), ExtensionError>
     ensures ok { OnOk result (Fills May (Under policy (AreFamilies Der))
-        (extension_value extension.now) slot.old slot.new) }
+        (extension_value extension) slot.old slot.new) }
     ensures refused { IfErr result
-        (CannotFill May (Under policy (AreFamilies Der)) (extension_value extension.now) slot.old) }
+        (CannotFill May (Under policy (AreFamilies Der)) (extension_value extension) slot.old) }
     ensures same { OnErr result (slot.new ≡ slot.old) }
 {
     put_once(
@@ -287,12 +287,12 @@ pub(crate) fn put_asn(
     slot: &mut Option<(Overclaim, AsResources)>,
     policy: Overclaim,
     alloc: Global,
-    extension: &Extension,
+    extension: Extension,
 ) -> Result<(), ExtensionError>
     ensures ok { OnOk result
-        (Fills May (Under policy IsAsResources) (extension_value extension.now) slot.old slot.new) }
+        (Fills May (Under policy IsAsResources) (extension_value extension) slot.old slot.new) }
     ensures refused { IfErr result
-        (CannotFill May (Under policy IsAsResources) (extension_value extension.now) slot.old) }
+        (CannotFill May (Under policy IsAsResources) (extension_value extension) slot.old) }
     ensures same { OnErr result (slot.new ≡ slot.old) }
 {
     put_once(

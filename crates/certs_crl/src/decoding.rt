@@ -13,19 +13,23 @@ ghost use Rattle.certs_revoked.specs.certs_specs.CrlText.{IsCrl, IsTbsList};
 
 use crate::crl::Crl;
 use crate::tbs::TbsCertList;
-use bcder::Mode;
 use bcder::decode::{Constructed, ContentError, Decode, DecodeError, IntoSource, Source};
+use bcder::{Captured, Mode};
 use certs_revoked::crl_is_spelled;
 use certs_signed::SignedData;
 use std::alloc::Global;
 use std::convert::Infallible;
 
-// What is signed, read of the octets that it begins with.
-fn tbs_of(alloc: Global, octets: &[u8], mode: Mode) -> Result<TbsCertList, DecodeError<Infallible>>
-    ensures { DecodesAs (λ t. t) mode (IsTbsList mode) octets.now result }
+// What is signed, read of the octets that it begins with, and sharing them.
+fn tbs_of(
+    alloc: Global,
+    message: Captured,
+    mode: Mode,
+) -> Result<TbsCertList, DecodeError<Infallible>>
+    ensures { DecodesAs (λ t. t) mode (IsTbsList mode) message.octets result }
 {
     mode.decode(
-        octets,
+        message.into_bytes(),
         |cons|
             ensures { ReadsAs (λ t. t) (IsTbsList (here rest_of cons.old).mode)
                 (here rest_of cons.old) result (here rest_of cons.new) }
@@ -52,7 +56,8 @@ impl Crl {
     {
         let mode = cons.mode();
         let signed = SignedData::from_constructed(alloc, cons)?;
-        let tbs = match tbs_of(alloc, signed.data().as_slice(), mode) {
+        let message = signed.data().clone()?;
+        let tbs = match tbs_of(alloc, message, mode) {
             Ok(tbs) => tbs,
             Err(error) => {
                 cons.fail();

@@ -8,7 +8,7 @@ ghost use Rattle.certs_extension.specs.Raw.{extension_value};
 use crate::error::ExtensionError;
 use crate::extension::Extension;
 use certs_key::Mode;
-use certs_key::decode::{Constructed, Decode, DecodeError, SliceSource};
+use certs_key::decode::{BytesSource, Constructed, Decode, DecodeError};
 use std::convert::Infallible;
 
 /// Whether an extension has to be critical.
@@ -36,17 +36,17 @@ fn is_met(need: Need, critical: bool) -> bool
 /// Puts the value of an extension into its slot, which has to be empty.
 ///
 /// `Duplicate` where there is a value; else `Criticality` where the need isn't met; else what `op` reads from the front
-/// of the octets in DER is put there: `BadValue` where it refuses them, and `Memory` where it does so for lack of
-/// memory. The slot is as it was where the extension is refused.
+/// of the octets in DER is put there, and shares them: `BadValue` where it refuses them, and `Memory` where it does so
+/// for lack of memory. The slot is as it was where the extension is refused.
 pub fn put_once<
     T: Drop,
-    F: FnOnce(&mut Constructed<SliceSource<'_>>) -> Result<T, DecodeError<Infallible>>,
->(slot: &mut Option<T>, need: Need, extension: &Extension, op: F) -> Result<(), ExtensionError>
+    F: FnOnce(&mut Constructed<BytesSource>) -> Result<T, DecodeError<Infallible>>,
+>(slot: &mut Option<T>, need: Need, extension: Extension, op: F) -> Result<(), ExtensionError>
     requires { F.IsAlwaysCallable op }
     ensures ok { OnOk result
-        (PutsOnce F.FnOnce op (need_of need) (extension_value extension.now) slot.old slot.new) }
+        (PutsOnce F.FnOnce op (need_of need) (extension_value extension) slot.old slot.new) }
     ensures refused { IfErr result
-        (CannotPut F.FnOnce op (need_of need) (extension_value extension.now) slot.old) }
+        (CannotPut F.FnOnce op (need_of need) (extension_value extension) slot.old) }
     ensures same { OnErr result (slot.new ≡ slot.old) }
 {
     if slot.is_some() {
@@ -55,7 +55,7 @@ pub fn put_once<
     if !is_met(need, extension.critical) {
         return Err(ExtensionError::Criticality);
     }
-    match Mode::Der.decode(extension.value(), op) {
+    match Mode::Der.decode(extension.octets.into_bytes(), op) {
         Ok(value) => {
             *slot = Some(value);
             Ok(())

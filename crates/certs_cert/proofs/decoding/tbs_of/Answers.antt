@@ -10,7 +10,7 @@ use Rattle.certs_claims.specs.certs_specs.CertText.{IsTbs, SpellsTbs}
 use Rattle.certs_cert.proofs.decoding.tbs_of.Goals as goal
 
 pub returns-clause-reads : goal.returns-clause-reads
-returns-clause-reads c = exact_decode (record { each = λ p q r m h. subst (λ (z : Mode). ReadsAs (λ (t : TbsValue). t) (IsTbs z) (here rest_of p.now) r (here rest_of q.now)) m h.0 }) c.decode.ensures.decoded
+returns-clause-reads c = exact_decode (record { each = λ p q r m h. subst (λ (z : Mode). ReadsAs (λ (t : TbsValue). t) (IsTbs z) (here rest_of p.now) r (here rest_of q.now)) m h.0 }) (rw c.into_bytes.ensures.octets at c.decode.ensures.decoded)
 
 pub returns-clause-octets : goal.returns-clause-octets
-returns-clause-octets c = front_took {P = SpellsTbs} (record { each = λ p q x h. h.1 }) c.decode.ensures.decoded
+returns-clause-octets c = front_took {P = SpellsTbs} (record { each = λ p q x h. h.1 }) (rw c.into_bytes.ensures.octets at c.decode.ensures.decoded)

@@ -8,4 +8,4 @@ use Rattle.certs_revoked.specs.certs_specs.CrlText.{IsTbsList, TbsListValue}
 use Rattle.certs_crl.proofs.decoding.tbs_of.Goals as goal
 
 pub returns : goal.returns
-returns c = exact_decode (record { each = λ p q r m h. subst (λ (z : Mode). ReadsAs (λ (t : TbsListValue). t) (IsTbsList z) (here rest_of p.now) r (here rest_of q.now)) m h }) c.decode.ensures.decoded
+returns c = exact_decode (record { each = λ p q r m h. subst (λ (z : Mode). ReadsAs (λ (t : TbsListValue). t) (IsTbsList z) (here rest_of p.now) r (here rest_of q.now)) m h }) (rw c.into_bytes.ensures.octets at c.decode.ensures.decoded)

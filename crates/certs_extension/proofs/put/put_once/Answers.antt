@@ -13,5 +13,5 @@ returns-in-Err-Content-clause-refused g c =
       record { empty = search rules; met = search rules },
       x,
       pos,
-      subst (λ (o : List ℕ). Decoded rest_of g.F.FnOnce c.args.op (fresh Der o) (Err (Content x pos))) c.value.ensures d,
+      subst (λ (o : List ℕ). Decoded rest_of g.F.FnOnce c.args.op (fresh Der o) (Err (Content x pos))) c.into_bytes.ensures d,
     )
