@@ -19,8 +19,15 @@ use certs_claims::cert_is_spelled;
 use certs_key::Captured;
 use certs_signed::decode::{Constructed, Decode, DecodeError, IntoSource, Source};
 use certs_signed::{Mode, SignedData};
-use std::alloc::Global;
+use std::alloc::{AllocError, Global};
 use std::convert::Infallible;
+
+// What is signed of it; no octet is copied.
+fn message_of(signed: &SignedData) -> Result<Captured, AllocError>
+    ensures { IfOk result (λ message. message ≡ signed.now.message) }
+{
+    signed.data().clone()
+}
 
 // What is signed, read of the octets that it begins with, and sharing them.
 fn tbs_of(alloc: Global, message: Captured, mode: Mode) -> Result<TbsCert, DecodeError<Infallible>>
@@ -52,7 +59,7 @@ impl Cert {
     {
         let mode = cons.mode();
         let signed = SignedData::from_constructed(alloc, cons)?;
-        let message = signed.data().clone()?;
+        let message = message_of(&signed)?;
         let tbs = match tbs_of(alloc, message, mode) {
             Ok(tbs) => tbs,
             Err(error) => {

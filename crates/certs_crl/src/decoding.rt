@@ -1,6 +1,6 @@
 //! Revocation lists, read (RFC 5280 5.1.1).
 
-ghost use Rattle.std.specs.Prelude.{◌≡◌, ◌↔◌, IsTrue, OnErr, true};
+ghost use Rattle.std.specs.Prelude.{◌≡◌, ◌↔◌, IfOk, IsTrue, OnErr, true};
 ghost use Rattle.certs_crl.specs.bcder_tree.declared.mode.Mode.TheVariants.{Der};
 ghost use Rattle.certs_crl.specs.bcder_content.Captures.{rest_of};
 ghost use Rattle.certs_crl.specs.bcder_content.Exact.{DecodesAs, ReadsAs, ReadsOptAs};
@@ -17,8 +17,15 @@ use bcder::decode::{Constructed, ContentError, Decode, DecodeError, IntoSource, 
 use bcder::{Captured, Mode};
 use certs_revoked::crl_is_spelled;
 use certs_signed::SignedData;
-use std::alloc::Global;
+use std::alloc::{AllocError, Global};
 use std::convert::Infallible;
+
+// What is signed of it; no octet is copied.
+fn message_of(signed: &SignedData) -> Result<Captured, AllocError>
+    ensures { IfOk result (λ message. message ≡ signed.now.message) }
+{
+    signed.data().clone()
+}
 
 // What is signed, read of the octets that it begins with, and sharing them.
 fn tbs_of(
@@ -56,7 +63,7 @@ impl Crl {
     {
         let mode = cons.mode();
         let signed = SignedData::from_constructed(alloc, cons)?;
-        let message = signed.data().clone()?;
+        let message = message_of(&signed)?;
         let tbs = match tbs_of(alloc, message, mode) {
             Ok(tbs) => tbs,
             Err(error) => {

@@ -55,8 +55,17 @@ impl ResourceDiff {
     pub fn is_empty(&self) -> bool
         ensures { IsTrue result ↔ (HasNone self.now.added × HasNone self.now.removed) }
     {
-        self.added.is_empty() && self.removed.is_empty()
+        let added = self.added.is_empty();
+        let removed = self.removed.is_empty();
+        are_both(added, removed)
     }
+}
+
+// Whether it is so of both.
+fn are_both(added: bool, removed: bool) -> bool
+    ensures { IsTrue result ↔ (IsTrue added × IsTrue removed) }
+{
+    matches!((added, removed), (true, true))
 }
 
 // The AS numbers after their name, where there are some.

@@ -126,8 +126,10 @@ impl ResourceSet {
     pub fn is_empty(&self) -> bool
         ensures { IsTrue result ↔ HasNone self.now }
     {
-        let (ipv4, ipv6) = (self.ipv4.as_blocks(), self.ipv6.as_blocks());
-        self.asn.is_empty() && ipv4.is_empty() && ipv6.is_empty()
+        let asn = self.asn.is_empty();
+        let ipv4 = self.ipv4.as_blocks().is_empty();
+        let ipv6 = self.ipv6.as_blocks().is_empty();
+        are_all(asn, ipv4, ipv6)
     }
 
     /// Sets the AS numbers.
@@ -201,9 +203,10 @@ impl ResourceSet {
     pub fn contains(&self, other: &ResourceSet) -> bool
         ensures { IsTrue result ↔ AreInside other.now self.now }
     {
-        self.asn.contains(&other.asn)
-            && self.ipv4.as_blocks().contains(other.ipv4.as_blocks())
-            && self.ipv6.as_blocks().contains(other.ipv6.as_blocks())
+        let asn = self.asn.contains(&other.asn);
+        let ipv4 = self.ipv4.as_blocks().contains(other.ipv4.as_blocks());
+        let ipv6 = self.ipv6.as_blocks().contains(other.ipv6.as_blocks());
+        are_all(asn, ipv4, ipv6)
     }
 
     /// The AS numbers and addresses of either set.
@@ -284,6 +287,13 @@ fn read_texts(alloc: Global, asn: &str, ipv4: &str, ipv6: &str) -> Result<Resour
     Ok(ResourceSet { asn, ipv4, ipv6 })
 }
 
+// Whether it is so of each kind.
+pub(crate) fn are_all(asn: bool, ipv4: bool, ipv6: bool) -> bool
+    ensures { IsTrue result ↔ (IsTrue asn × IsTrue ipv4 × IsTrue ipv6) }
+{
+    matches!((asn, ipv4, ipv6), (true, true, true))
+}
+
 impl Default for ResourceSet {
     ghost is_default = { HasNone };
 
@@ -318,7 +328,10 @@ impl PartialEq for ResourceSet {
         ensures value { result ≡ sets_eq self.now other.now }
         ensures set { IsTrue result ↔ HaveSame self.now other.now }
     {
-        self.asn == other.asn && self.ipv4 == other.ipv4 && self.ipv6 == other.ipv6
+        let asn = self.asn == other.asn;
+        let ipv4 = self.ipv4 == other.ipv4;
+        let ipv6 = self.ipv6 == other.ipv6;
+        are_all(asn, ipv4, ipv6)
     }
 }
 

@@ -5,8 +5,8 @@ use Rattle.certs_extension.specs.certs_specs.Extensions.{IsExtension}
 use Rattle.certs_claims.specs.Slots.{AreSlots}
 use Rattle.certs_claims.proofs.list.take_all.Given as goal
 
-abbrev pub invariant-loop-kept : goal.invariant-loop-kept
-invariant-loop-kept g l = Gathered IsExtension AreSlots (here g.S.Source.rest l.fn.cons) (here g.S.Source.rest l.cons) l.slots
+abbrev pub invariant-loop-next : goal.invariant-loop-next
+invariant-loop-next g l = Gathered IsExtension AreSlots (here g.S.Source.rest l.fn.cons) (here g.S.Source.rest l.cons) l.slots
 
-abbrev pub decreases-loop-kept : goal.decreases-loop-kept
-decreases-loop-kept g l = length (g.S.Source.rest l.cons.octets.source.source)
+abbrev pub decreases-loop-next : goal.decreases-loop-next
+decreases-loop-next g l = length (g.S.Source.rest l.cons.octets.source.source)

@@ -1,3 +1,4 @@
+use Rattle.std.proofs.Common.{refl}
 use Rattle.certs_signed.proofs.of_bcder_content.Within.{all_stop}
 use Rattle.certs_signed.specs.Signed.{signed_content}
 use Rattle.certs_crl.proofs.of_bcder_content.Keeping.{same_refusal}
@@ -12,15 +13,15 @@ returns-in_err-signed g c = record { reads = all_stop _ (AreCrl _) (signed_conte
 pub returns-in-Err : goal.returns-in-Err
 returns-in-Err g c = record {
   reads = same_refusal _ _ _ c.convert.ensures
-      (weaker _ (λ none. crl_refused c.mode-mode.ensures c.as_slice.ensures.octets c.data.ensures c.in_ok-signed.ensures.reads.reads none) c.in-Err.ensures);
+      (weaker _ (λ none. crl_refused c.mode-mode.ensures refl c.in_ok-message.ensures c.in_ok-signed.ensures.reads.reads none) c.in-Err.ensures);
 }
 
 pub returns-then-not-agree : goal.returns-then-not-agree
 returns-then-not-agree g c =
-    let read = was_read c.mode-mode.ensures c.as_slice.ensures.octets c.data.ensures c.in-Ok.ensures in
+    let read = was_read c.mode-mode.ensures refl c.in_ok-message.ensures c.in-Ok.ensures in
     record { reads = on_content _ (crl_disagrees read c.in_ok-signed.ensures.reads.reads (λ p. let yes = c.agree.ensures.1 p in let no = c.if-not-agree.true in absurd cc)) }
 
 pub returns : goal.returns
 returns g c =
-    let read = was_read c.mode-mode.ensures c.as_slice.ensures.octets c.data.ensures c.in-Ok.ensures in
+    let read = was_read c.mode-mode.ensures refl c.in_ok-message.ensures c.in-Ok.ensures in
     record { reads = crl_gives read c.from_parts.ensures (c.agree.ensures.0 c.if-not-agree.false) c.in_ok-signed.ensures.reads.reads }
