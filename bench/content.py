@@ -47,6 +47,7 @@ edition = "2021"
 
 [dependencies]
 bcder = {{ path = "{registry}/{bcder}" }}
+bytes = {{ path = "{registry}/{bytes}" }}
 
 [patch.crates-io]
 bytes = {{ path = "{registry}/{bytes}" }}
@@ -98,11 +99,11 @@ def build(folder):
     return os.path.join(crate, "out", NAME)
 
 
-def build_rust(folder, packages, source="content.rs.in"):
-    """Builds a program in Rust over Debian's crates; its path."""
+def build_rust(folder, packages, source="content.rs.in", name="rust"):
+    """Builds a program in Rust over Debian's crates, in a folder of that name; its path."""
     registry = os.path.join(os.path.abspath(packages), "usr", "share", "cargo", "registry")
     found = {name.rsplit("-", 1)[0]: name for name in os.listdir(registry)}
-    crate = os.path.join(folder, "rust")
+    crate = os.path.join(folder, name)
     os.makedirs(os.path.join(crate, "src"), exist_ok=True)
     write(os.path.join(crate, "Cargo.toml"), CARGO.format(registry=registry, **found))
     shutil.copy(os.path.join(BENCH, source), os.path.join(crate, "src", "main.rs"))
