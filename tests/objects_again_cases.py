@@ -6,6 +6,7 @@ read, by the grammar of RFC 5652 3 and 5: what is signed as it stood, all else i
 where they are written with it are written as the very octets that were read.
 """
 
+import ipaddress
 import pathlib
 
 import objects_cases as contents
@@ -204,12 +205,45 @@ def made_manifests(q):
             make(7, updates, listed)
 
 
+def addresses(q):
+    """The addresses of each family: prefixes with their greatest lengths, if any; None for a family that isn't there."""
+
+    def entry(text):
+        prefix, _, most = text.partition("-")
+        return seq(world.prefix_bits(ipaddress.ip_network(prefix)), integer(int(most)) if most else b"")
+
+    def ask(*families):
+        lists = [seq(*map(entry, texts or [])) for texts in families]
+        blocks = [seq(tlv(4, kind), some) for kind, texts, some in zip(world.FAMILIES.values(), families, lists) if texts is not None]
+        content = seq(integer(64496), seq(*blocks))
+        good = contents.answer_of("roa", content) != "refused"
+        answer = " ".join(f"x{some.hex()}" for some in lists) if good else "refused"
+        digest = signed.attribute("4", tlv(4, world.Fips.sha256(content)))
+        q.ask(answer, "addresses", made("roa", content=tlv(4, content), digest=digest).hex())
+
+    v4 = ["192.0.2.0/24", "192.0.2.128/25-26", "0.0.0.0/0", "198.51.100.7/32-32", "10.0.0.0/8", "192.0.2.0/24"]
+    v6 = ["2001:db8::/32-48", "::/0-0", "2001:db8::/33", "2001:db8::1/128", "2001:db8:8000::/33-128"]
+    for families in (([], None), (None, []), ([], [])):
+        ask(*families)
+    # With no greatest length, with its own, with that of an address, and with one more.
+    for prefix in ("10.0.0.0/8", "0.0.0.0/0", "203.0.113.255/32"):
+        for most in dict.fromkeys(("", "-" + prefix.split("/")[1], "-32", "-33")):
+            ask([prefix + most], None)
+    for prefix in ("2001:db8::/32", "::/0", "2001:db8::ffff/128"):
+        for most in dict.fromkeys(("", "-" + prefix.split("/")[1], "-128", "-129")):
+            ask(None, [prefix + most])
+    for families in ((v4, None), (None, v6), (v4, v6), (v4[::-1], v6[::-1]), (v4[:1], []), ([], v6[:1]), (["10.0.0.0/8-7"], v6)):
+        ask(*families)
+    ask([f"10.{at}.0.0/16" for at in range(256)], [f"2001:db8:{at:x}::/48-64" for at in range(256)])
+
+
 def main():
     q = Questions()
     objects(q)
     messages(q)
     files(q)
     made_manifests(q)
+    addresses(q)
     FOLDER.mkdir(parents=True, exist_ok=True)
     (FOLDER / "stdin").write_text("".join(f"{question}\n" for question, _ in q.rows))
     (FOLDER / "stdout").write_text("".join(f"{answer}\n" for _, answer in q.rows))

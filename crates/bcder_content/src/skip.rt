@@ -52,7 +52,7 @@ impl<S: Source> Constructed<S> {
     /// those in it.
     ///
     /// The content is refused where no value is next, and with the error of `op` where that
-    /// refuses a value. Memory is wanted only where more than 16 values lie in each
+    /// refuses a value. Memory is wanted only where more than 8 values lie in each
     /// other, and never where the content has ended.
     pub fn skip<F: FnMut(Tag, bool, usize) -> Result<(), ContentError>>(
         &mut self,

@@ -16,7 +16,7 @@ use smallvec::SmallVec;
 use std::alloc::Global;
 
 // How the values end that are being skipped, the innermost last.
-type Spans = SmallVec<Span, 16>;
+type Spans = SmallVec<Span, 8>;
 
 // Goes into the value in front, which must be there.
 fn open<S: Source>(
@@ -100,7 +100,7 @@ fn leave_ended<S: Source>(
 /// is constructed, and in how many of the values it lies. A value comes before those in it.
 ///
 /// The content is refused where no value is in front, and with the error of `op` where that
-/// refuses a value. Memory is wanted for more than 16 values in each other.
+/// refuses a value. Memory is wanted for more than 8 values in each other.
 pub fn skip_value<S: Source, F: FnMut(Tag, bool, usize) -> Result<(), ContentError>>(
     alloc: Global,
     mode: Mode,

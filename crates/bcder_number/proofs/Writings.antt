@@ -52,7 +52,7 @@ len_refused m v x (Err e) is h = no_content m (λ t. AnyOctets t v) (λ t. IsInt
 write_cases : (m : Mode) (v : List ℕ) (x : ℤ) (same : Type 0) (old new : Option (List ℕ)) (e : EncodeError) → IsInteger v x → ContentRefused m (λ t. AnyOctets t v) same old new e → ContentRefused m (λ t. IsInteger t x) same old new e
 write_cases m v x same old new errors.CerUnsupported is h = (no_content m (λ t. AnyOctets t v) (λ t. IsInteger t x) errors.CerUnsupported (λ t q. record { same = one_integer x t v q is }) h.0, h.1)
 write_cases m v x same old new errors.TooLong is h = (no_content m (λ t. AnyOctets t v) (λ t. IsInteger t x) errors.TooLong (λ t q. record { same = one_integer x t v q is }) h.0, h.1)
-write_cases m v x same old new errors.Write is h = record { text = h.text; is = subst (λ (t : List ℕ). IsInteger t x) (sym h.is.same) is; taken = h.taken; others = h.others; whole = h.whole; appended = h.appended }
+write_cases m v x same old new errors.Write is h = record { text = h.text; is = subst (λ (t : List ℕ). IsInteger t x) (sym h.is.same) is; taken = h.taken; others = h.others; whole = h.whole; some = h.some; appended = h.appended }
 write_cases m v x same old new errors.Memory is h = h
 
 pub write_refused : {T : Type 0} (m : Mode) (v : List ℕ) (x : ℤ) (same : Type 0) (old new : Option (List ℕ)) (r : Result T EncodeError) → IsInteger v x → IfErr r (ContentRefused m (λ t. AnyOctets t v) same old new) → IfErr r (ContentRefused m (λ t. IsInteger t x) same old new)

@@ -1,6 +1,6 @@
 //! `RestrictedString`.
 
-ghost use Rattle.std.specs.Prelude.{◌≡◌, ◌↔◌, [], chars as chars_of_text, length, encode_utf8_all, string_bytes, All, IsTrue, IfOk, IfErr, IsSomeAnd, OnErr, Some, nat_eq};
+ghost use Rattle.std.specs.Prelude.{◌≡◌, ◌↔◌, ◌≤◌, [], chars as chars_of_text, length, encode_utf8_all, string_bytes, All, IsTrue, IfOk, IfErr, IsSomeAnd, OnErr, Some, nat_eq};
 ghost use Rattle.std.specs.Ordering.{nat_cmp};
 ghost use Rattle.std.specs.Hash as fed;
 ghost use Rattle.std.specs.Cmp.Lexicographic.{pointwise, slice_cmp, nat_list_eq_equiv, nat_list_cmp_total, texts_ties, texts_po};
@@ -61,6 +61,17 @@ pub(crate) fn octets_of(string: &OctetString) -> &[u8]
     string.as_slice().unwrap_or(&[])
 }
 
+// A copy of octets; where there are none no memory is wanted.
+fn copy_of(alloc: Global, octets: &[u8]) -> Result<Bytes, AllocError>
+    ensures octets { IfOk result (λ b. b ≡ octets.now) }
+    ensures some { OnErr result (1 ≤ length octets.now) }
+{
+    if octets.is_empty() {
+        return Ok(Bytes::new());
+    }
+    Bytes::copy_from_slice(alloc, octets)
+}
+
 /// Strings that are made.
 impl<L: CharSet> RestrictedString<L> {
     // The string of octets that are a text.
@@ -84,22 +95,24 @@ impl<L: CharSet> RestrictedString<L> {
         Ok(RestrictedString::of_text(octets))
     }
 
-    /// The string of these characters, if all are in the set.
+    /// The string of these characters, if all are in the set. Memory is wanted only where there are some, all in the set.
     pub fn from_str(alloc: Global, text: &str) -> Result<Self, RestrictedStringError>
         ensures told { IfOk result (λ string. Tells L.has L.spell string (chars_of_text text.now)) }
         ensures refused { IfErr result (λ e. OnCharSet e (All L.has (chars_of_text text.now) → ⊥)) }
         ensures memory { IfErr result (λ e. OnMemory e (All L.has (chars_of_text text.now))) }
+        ensures some { IfErr result (λ e. OnMemory e (1 ≤ length (chars_of_text text.now))) }
     {
         let Ok(octets) = L::from_str(text) else {
             return Err(RestrictedStringError::CharSet);
         };
-        match Bytes::copy_from_slice(alloc, octets) {
+        match copy_of(alloc, octets) {
             Ok(octets) => Ok(RestrictedString::of_text(OctetString::new(octets))),
             Err(_) => Err(RestrictedStringError::Memory),
         }
     }
 
     /// The string of these characters, if all are in the set; where their octets are those of the text, none is copied.
+    /// Memory is wanted as by `from_str`.
     pub fn from_string(alloc: Global, text: String) -> Result<Self, RestrictedStringError>
         ensures told { IfOk result
             (λ string. Tells L.has L.spell string (chars_of_text (string_bytes text))) }
@@ -107,6 +120,8 @@ impl<L: CharSet> RestrictedString<L> {
             (λ e. OnCharSet e (All L.has (chars_of_text (string_bytes text)) → ⊥)) }
         ensures memory { IfErr result
             (λ e. OnMemory e (All L.has (chars_of_text (string_bytes text)))) }
+        ensures some { IfErr result
+            (λ e. OnMemory e (1 ≤ length (chars_of_text (string_bytes text)))) }
     {
         let Ok(octets) = L::from_str(text.as_str()) else {
             return Err(RestrictedStringError::CharSet);

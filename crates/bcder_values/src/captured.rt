@@ -1,8 +1,9 @@
 //! Captured octets that are written, and values that are gathered as such.
 
-ghost use Rattle.std.specs.Prelude.{◌≡◌, ◌≤◌, ℕ, List, [], length, IfOk, IfErr, OnOk, OnErr};
+ghost use Rattle.std.specs.Prelude.{◌≡◌, ◌≤◌, ℕ, [], length, IfOk, IfErr, OnOk, OnErr};
 ghost use Rattle.bcder_values.specs.Gathered.{Extended, ExtendRefused};
 ghost use Rattle.bcder_values.specs.Captures.{StandsIn, CapturedTrees, CapturedText, captured_spelled, captured_one};
+ghost use Rattle.bcder_written.specs.Writing.{HasLength};
 ghost use Rattle.bcder_written.specs.declared.error.EncodeError.TheVariants.{Memory as memory_refused};
 ghost use Rattle.std.specs.Prelude.{◌↔◌, IsTrue};
 
@@ -122,14 +123,14 @@ impl CapturedBuilder {
     /// Appends values, encoded in the builder's mode.
     ///
     /// Where `encoded_len` refuses them, or memory is wanted and refused, the builder is as it was. Memory is wanted only
-    /// for values that can be written.
+    /// where something is written of them.
     pub fn extend<V: Values>(&mut self, values: &V) -> Result<(), EncodeError>
         ensures extended { OnOk result
             (Extended (V.writes values.now self.old.mode) self.old self.new) }
         ensures refused { IfErr result
             (ExtendRefused (V.trees values.now self.old.mode) (V.writes values.now self.old.mode)) }
         ensures memory { IfErr result (λ e. e ≡ memory_refused
-            → (text : List ℕ) × V.writes values.now self.old.mode text) }
+            → (n : ℕ) × HasLength (V.writes values.now self.old.mode) n × (1 ≤ n)) }
         ensures kept { IfErr result (λ e. self.new ≡ self.old) }
     {
         let before = self.octets.len();

@@ -1,6 +1,6 @@
 //! Values that can be written.
 
-ghost use Rattle.std.specs.Prelude.{◌≡◌, ℕ, List, IfOk, IfErr, OnOk};
+ghost use Rattle.std.specs.Prelude.{◌≡◌, ◌≤◌, ℕ, List, IfOk, IfErr, OnOk};
 ghost use Rattle.bcder_values.specs.bcder_tree.declared.mode.Mode.{Mode as ModeValue};
 ghost use Rattle.bcder_values.specs.bcder_tree.Tree.{Trees};
 ghost use Rattle.bcder_values.specs.bcder_tree.Tags.{IsTag};
@@ -69,7 +69,7 @@ pub trait Values {
         Constructed { tag, inner: self }
     }
 
-    /// The octets that are written, captured. Memory is wanted only for values that can be written.
+    /// The octets that are written, captured. Memory is wanted only where something is written.
     final fn to_captured(&self, alloc: Global, mode: Mode) -> Result<Captured, EncodeError>
     where
         Self: Sized,
@@ -78,7 +78,7 @@ pub trait Values {
         ensures refused { IfErr result
             (ExtendRefused (trees self.now mode) (writes self.now mode)) }
         ensures memory { IfErr result
-            (λ e. e ≡ memory_refused → (text : List ℕ) × writes self.now mode text) }
+            (λ e. e ≡ memory_refused → (n : ℕ) × HasLength (writes self.now mode) n × (1 ≤ n)) }
     {
         let len = self.encoded_len(mode)?;
         let mut builder = CapturedBuilder::with_capacity(alloc, len, mode)?;

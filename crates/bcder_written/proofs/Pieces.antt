@@ -1,10 +1,10 @@
 -- Texts that are written piece by piece.
-use Rattle.std.proofs.Common.{◌≡◌, ℕ, ◌-◌, List, ◌++◌, length, take, drop, sym, ap, refl, ◌∙◌, append_assoc, take-append-drop, subst, Option, [], ◌≤◌, zero-le}
+use Rattle.std.proofs.Common.{◌≡◌, ℕ, ◌+◌, ◌-◌, List, ◌++◌, length, take, drop, sym, ap, refl, ◌∙◌, append_assoc, take-append-drop, subst, Option, [], ◌≤◌, zero-le, arith}
 use Rattle.std.specs.Prelude.{Result, Ok, Err, IsErr, IsErrAnd, IfErr}
-use Rattle.std.proofs.lemmas.List.{take_rest}
+use Rattle.std.proofs.lemmas.List.{take_rest, length-append}
 use Rattle.std.specs.declared.io.Error.{Error}
 use Rattle.std.specs.Io.{WritesAtMost}
-use Rattle.std.specs.Io.KnownBytes.{Appends, Keeps, WriteAppends}
+use Rattle.std.specs.Io.KnownBytes.{Appends, WriteAppends}
 use Rattle.std.proofs.KnownBytes.{Appends-nil, Appends-trans, Appends-kept}
 use Rattle.bcder_written.specs.Writing.{Wrote, Took, TookFront}
 use Rattle.bcder_written.specs.Encoded.{WritesBoth}
@@ -31,7 +31,7 @@ pub wrote_as : {P Q : List ℕ → Type 0} {old new : Option (List ℕ)} → ((t
 wrote_as f w = record { text = w.text; is = f w.text w.is; appended = w.appended }
 
 pub front_as : {P Q : List ℕ → Type 0} {old new : Option (List ℕ)} → ((text : List ℕ) → P text → Q text) → TookFront P old new → TookFront Q old new
-front_as f w = record { text = w.text; is = f w.text w.is; taken = w.taken; others = w.others; whole = w.whole; appended = w.appended }
+front_as f w = record { text = w.text; is = f w.text w.is; taken = w.taken; others = w.others; whole = w.whole; some = w.some; appended = w.appended }
 
 -- Two texts, one after the other.
 pub wrote_both : {P Q : List ℕ → Type 0} {old mid new : Option (List ℕ)} → Wrote P old mid → Wrote Q mid new → Wrote (WritesBoth P Q) old new
@@ -48,6 +48,7 @@ front_first b is a = record {
   taken = a.taken;
   others = a.others ++ b;
   whole = ap (λ l. l ++ b) a.whole ∙ append_assoc a.taken a.others b;
+  some = omega (arith, a.some, length-append a.others b);
   appended = a.appended;
 }
 
@@ -57,16 +58,14 @@ front_second {P} {Q} {old} {mid} {new} a b = record {
   is = record { first = a.text; second = b.text; is_first = a.is; is_second = b.is; whole = refl };
   taken = a.text ++ b.taken;
   others = b.others;
+  some = b.some;
   whole = ap (λ l. a.text ++ l) b.whole ∙ sym (append_assoc a.text b.taken b.others);
   appended = Appends-trans old mid new a.text b.taken a.appended b.appended;
 }
 
--- All of a text was written, or nothing of it.
+-- All of a text was written.
 pub wrote_that : {P : List ℕ → Type 0} {old new : Option (List ℕ)} (text : List ℕ) → P text → Appends old new text → Wrote P old new
 wrote_that text is a = record { text = text; is = is; appended = a }
-
-pub front_none : {old new : Option (List ℕ)} (text : List ℕ) (P : List ℕ → Type 0) → P text → Keeps old new → TookFront P old new
-front_none {old} {new} text P is kept = record { text = text; is = is; taken = []; others = text; whole = refl; appended = Appends-kept old old new [] (Appends-nil old) kept }
 
 -- A refusal with that error, and what follows from what was known with it.
 pub refused_as : {T E P Q : Type 0} (r : Result T E) (x : E) → (P → Q) → IfErr r (λ e. (e ≡ x) × P) → IfErr r (λ e. (e ≡ x) × Q)

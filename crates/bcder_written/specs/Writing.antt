@@ -30,13 +30,14 @@ pub record Wrote (P : List ℕ → Type 0) (old new : Option (List ℕ)) : Type 
   pub is : P text
   pub appended : Appends old new text
 
--- The writer took a front of a text of P.
+-- The writer took a front of a text of P, and not all of it.
 pub record TookFront (P : List ℕ → Type 0) (old new : Option (List ℕ)) : Type 0 where
   pub text : List ℕ
   pub is : P text
   pub taken : List ℕ
   pub others : List ℕ
   pub whole : text ≡ taken ++ others
+  pub some : 1 ≤ length others
   pub appended : Appends old new taken
 
 -- Why values aren't written: in the mode no trees are a form of them, or there is no text of theirs with lengths that

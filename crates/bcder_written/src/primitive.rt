@@ -1,6 +1,6 @@
 //! Primitive values.
 
-ghost use Rattle.std.specs.Prelude.{◌≡◌, ◌^◌, ◌<◌, ℕ, List, IfOk, IfErr, OnOk};
+ghost use Rattle.std.specs.Prelude.{◌≡◌, ◌^◌, ◌<◌, ◌≤◌, ℕ, List, IfOk, IfErr, OnOk};
 ghost use Rattle.bcder_written.specs.bcder_tree.declared.mode.Mode.{Mode as ModeValue};
 ghost use Rattle.bcder_written.specs.bcder_tree.Tags.{TagValue, IsTag};
 ghost use Rattle.bcder_written.specs.Contents.{NoContent, ContentRefused, BytesRefused};
@@ -36,7 +36,7 @@ pub trait PrimitiveContent {
     /// Writes the content octets.
     ///
     /// Where `encoded_len` refuses, nothing is written. `Write` where the writer refuses, which then has
-    /// taken a front of the octets.
+    /// taken a front of the octets, and not all of them.
     fn write_encoded<W: Write>(&self, mode: Mode, target: &mut W) -> Result<(), EncodeError>
         ensures written { OnOk result
             (Wrote (content self.now mode) (W.contents target.old) (W.contents target.new)) }
@@ -100,6 +100,8 @@ pub trait PrimitiveContent {
         ensures refused { IfErr result (BytesRefused mode (content self.now mode)) }
         ensures memory { IfErr result
             (λ e. e ≡ no_memory → (n : ℕ) × HasLength (content self.now mode) n × (n < 2 ^ 32)) }
+        ensures some { IfErr result
+            (λ e. e ≡ no_memory → (n : ℕ) × HasLength (content self.now mode) n × (1 ≤ n)) }
     {
         let len = self.encoded_len(mode)?;
         let Ok(mut octets) = Vec::with_capacity(alloc, len) else {

@@ -1,1 +1,2 @@
+mod Signed
 pub mod of_certs_written

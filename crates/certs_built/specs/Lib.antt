@@ -1,4 +1,5 @@
 pub mod Tbs
+pub mod Signing
 -- What stands below, for the crates above.
 pub use Rattle.certs_written.specs.bcder as bcder
 pub use Rattle.certs_written.specs.bcder_bits as bcder_bits

@@ -1,8 +1,9 @@
 //! Certificates that are made of fields and signed (RFC 5280 4.1.1).
 
-ghost use Rattle.std.specs.Prelude.{◌≡◌, IfOk};
+ghost use Rattle.std.specs.Prelude.{◌≡◌, IfErr, IfOk};
 ghost use Rattle.certs_built.specs.bcder_tree.declared.mode.Mode.TheVariants.{Der};
 ghost use Rattle.certs_built.specs.certs_specs.Cert.{TbsValue};
+ghost use Rattle.certs_built.specs.Signing.{NotWritten, SigningRefused};
 ghost use Rattle.certs_built.specs.Tbs.{WritesTbs};
 
 use crate::values::TbsCertValues;
@@ -14,6 +15,7 @@ use std::alloc::Global;
 fn message_of(alloc: Global, tbs: &TbsCert) -> Result<Captured, EncodeError>
     ensures message { IfOk result (λ message. WritesTbs tbs.now message.octets) }
     ensures mode { IfOk result (λ message. message.mode ≡ Der) }
+    ensures refused { IfErr result (NotWritten tbs.now) }
 {
     let value = TbsCertValues::new(tbs);
     value.to_captured(alloc, Mode::Der)
@@ -29,6 +31,9 @@ fn signed_by<S: Signer>(
     ensures message { IfOk result (λ signed. WritesTbs tbs.now signed.message.octets) }
     ensures mode { IfOk result (λ signed. signed.message.mode ≡ Der) }
     ensures algorithm { IfOk result (λ signed. signed.signature.algorithm ≡ tbs.now.has_null) }
+    ensures signed { IfOk result (λ signed. S.signs signer.now key.now
+        signed.message.octets signed.signature.bits.octets) }
+    ensures refused { IfErr result (SigningRefused tbs.now) }
 {
     let message = match message_of(alloc, tbs) {
         Ok(message) => message,
@@ -51,9 +56,9 @@ pub trait BuildCert: Sized {
     /// The certificate with these fields, and with a signature over what is written of them in DER, by
     /// that key of the signer, which is asked just once and by the algorithm that the fields name.
     ///
-    /// What the signer refuses is refused as it says. Before it is asked, fields are refused as
-    /// `TooLong` of which nothing can be written in DER: where a content would have more than 2^32 - 1
-    /// octets, and where a name is kept in another mode.
+    /// What the signer refuses is refused as it says. Before it is asked, lack of memory is refused as
+    /// `Memory`, and fields are refused as `TooLong` of which nothing can be written in DER: where a
+    /// content would have more than 2^32 - 1 octets, and where a name is kept in another mode.
     fn into_cert<S: Signer>(
         self,
         alloc: Global,
@@ -62,7 +67,10 @@ pub trait BuildCert: Sized {
     ) -> Result<Cert, SigningError<S::Error>>
         ensures fields { IfOk result (λ cert. cert.tbs ≡ fields self) }
         ensures message { IfOk result (λ cert. WritesTbs (fields self) cert.signed.message) }
-        ensures algorithm { IfOk result (λ cert. cert.signed.has_null ≡ (fields self).has_null) };
+        ensures algorithm { IfOk result (λ cert. cert.signed.has_null ≡ (fields self).has_null) }
+        ensures signed { IfOk result (λ cert. S.signs signer.now key.now
+            cert.signed.message cert.signed.signature) }
+        ensures refused { IfErr result (SigningRefused (fields self)) };
 }
 
 impl BuildCert for TbsCert {

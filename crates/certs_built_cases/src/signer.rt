@@ -1,5 +1,7 @@
 //! A signer whose signatures are digests.
 
+ghost use Rattle.std.specs.Prelude.{◌≡◌};
+
 use bytes::Bytes;
 use certs_x509::{Digester, PublicKey, Signature, SignatureAlgorithm, Signer, SigningError};
 use rpki_digests::Fips;
@@ -17,6 +19,13 @@ impl Signer for Stub {
     type KeyId = ();
 
     type Error = Infallible;
+
+    ghost has_key = { λ _ _ _. ⊥ };
+
+    ghost signs = { λ _ _ message signature. signature
+        ≡ ⟦<Fips as Digester>⟧.sha256_digest (record {}) message };
+
+    ghost signs_once = { λ _ _ _ _. ⊥ };
 
     fn get_key_info(
         &self,

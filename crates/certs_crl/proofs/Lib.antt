@@ -6,5 +6,6 @@ mod Spelled
 mod Stored
 mod Again
 mod Writing
+mod Alone
 mod Signed
 pub mod of_bcder_content

@@ -1,25 +1,47 @@
--- Where a list wasn't signed.
-use Rattle.std.proofs.Common.{ℕ, List, Result, Ok, Err, IfErr}
+-- Where a list wasn't written, or not signed.
+use Rattle.std.proofs.Common.{◌≡◌, ◌≢◌, ℕ, List, [], Result, Ok, Err, IfErr, refl}
 use Rattle.std.proofs.Math.Logic.{∥∥₁_elim, ∥∥₁_prop}
 use Rattle.certs_crl.specs.bcder_tree.declared.mode.Mode.TheVariants.{Der}
+use Rattle.certs_revoked.specs.bcder_values.Writable.{Writable}
+use Rattle.certs_revoked.specs.bcder_written.declared.error.EncodeError.{EncodeError}
+use Rattle.certs_revoked.specs.bcder_written.declared.error.EncodeError.TheVariants as causes
 use Rattle.certs_key.specs.declared.signer.SigningError.{SigningError}
 use Rattle.certs_key.specs.declared.signer.SigningError.TheVariants as errors
 use Rattle.certs_revoked.specs.certs_specs.CrlText.{TbsListValue}
-use Rattle.certs_crl.specs.Signing.{CanBeWritten, SigningRefused}
+use Rattle.certs_crl.specs.Signing.{CanBeWritten, CannotBeWritten, LacksText, NotWritten, SigningRefused}
 use Rattle.certs_crl.specs.Written.{WritesTbsList}
 
 -- What was written can be written.
 pub can_be_written : {c : TbsListValue} {text : List ℕ} → ∥ WritesTbsList c Der text ∥₁ → CanBeWritten c
 can_be_written {c} {text} w = ∥∥₁_elim w ∥∥₁_prop (λ h. ∣ (text, h) ∣₁)
 
--- Whatever the signer answers, the list can be written.
-pub any_refused : {E : Type 0} {c : TbsListValue} (e : SigningError E) → CanBeWritten c → SigningRefused c e
-any_refused errors.KeyNotFound w = w
-any_refused errors.IncompatibleKey w = w
-any_refused (errors.Signer e) w = w
-any_refused errors.TooLong w = tt
-any_refused errors.Memory w = tt
+-- Why nothing was written, where the encoders write octets of P.
+module _ (c : TbsListValue) (P : List ℕ → Type 0) (sound : (text : List ℕ) → P text → ∥ WritesTbsList c Der text ∥₁)
+    (alone : c.revoked ≡ [] → (text : List ℕ) → WritesTbsList c Der text → Writable P) where
+  cannot : (Writable P → ⊥) → CannotBeWritten c
+  cannot r none w = ∥∥₁_elim w (λ a b. absurd a) (λ h. r (alone none h.0 h.1))
 
-pub all_refused : {A E : Type 0} {c : TbsListValue} (r : Result A (SigningError E)) → CanBeWritten c → IfErr r (SigningRefused c)
-all_refused (Ok x) w = tt
-all_refused (Err e) w = any_refused e w
+  why : (e : EncodeError) → LacksText P e → NotWritten c e
+  why causes.CerUnsupported r = cannot r
+  why causes.TooLong r = cannot r
+  why causes.Write r = r
+  why causes.Memory r = can_be_written (sound r.0 r.1)
+
+  pub not_written : {A : Type 0} (r : Result A EncodeError) → IfErr r (LacksText P) → IfErr r (NotWritten c)
+  not_written (Ok x) h = tt
+  not_written (Err e) h = why e h
+
+-- Where it isn't for lack of memory, nothing can be written.
+pub too_long : {c : TbsListValue} (e : EncodeError) → e ≢ causes.Memory → NotWritten c e → CannotBeWritten c
+too_long causes.CerUnsupported n r = r
+too_long causes.TooLong n r = r
+too_long causes.Write n r = absurd r
+too_long causes.Memory n r = absurd (n refl)
+
+-- Whatever the signer answers, the list can be written.
+pub any_refused : {E : Type 0} {c : TbsListValue} (e : SigningError E) → e ≢ errors.TooLong → CanBeWritten c → SigningRefused c e
+any_refused errors.KeyNotFound n w = w
+any_refused errors.IncompatibleKey n w = w
+any_refused (errors.Signer e) n w = w
+any_refused errors.TooLong n w = absurd (n refl)
+any_refused errors.Memory n w = w

@@ -31,11 +31,11 @@ pub wrapped_as : {m : Mode} {t tag : TagValue} {P V : List ℕ → Type 0} {text
 wrapped_as {m} {V = V} {text} e f w =
     subst (λ (k : TagValue). WritesWrapped m k V text) e (record { content = w.content; is = f w.content w.is; few = w.few; spelled = w.spelled })
 
-plain_as : {m : Mode} {t tag : TagValue} {P V : List ℕ → Type 0} {text : List ℕ} → t ≡ tag → ((content : List ℕ) → P content → V content) → WritesPlain m t P text → WritesPlain m tag V text
+pub plain_as : {m : Mode} {t tag : TagValue} {P V : List ℕ → Type 0} {text : List ℕ} → t ≡ tag → ((content : List ℕ) → P content → V content) → WritesPlain m t P text → WritesPlain m tag V text
 plain_as {m} {V = V} {text} e f w =
     subst (λ (k : TagValue). WritesPlain m k V text) e (record { content = w.content; is = f w.content w.is; spelled = w.spelled })
 
-around_as : {m : Mode} {t tag : TagValue} {P V : List ℕ → Type 0} {text : List ℕ} → t ≡ tag → ((content : List ℕ) → P content → V content) → WritesAround m t P text → WritesAround m tag V text
+pub around_as : {m : Mode} {t tag : TagValue} {P V : List ℕ → Type 0} {text : List ℕ} → t ≡ tag → ((content : List ℕ) → P content → V content) → WritesAround m t P text → WritesAround m tag V text
 around_as e f w = record { not_cer = w.not_cer; plain = plain_as e f w.plain }
 
 pub both_as : {P V Q W : List ℕ → Type 0} {text : List ℕ} → ((part : List ℕ) → P part → V part) → ((part : List ℕ) → Q part → W part) → WritesBoth P Q text → WritesBoth V W text
@@ -74,7 +74,7 @@ revoked_as tag octets all m text (Some v) none_there is_tag spells w =
 
 -- All fields.
 
-unsigned_as : {n k : ℕ} {content : List ℕ} → n ≡ k → WritesUnsigned (2 ^ 8) n content → WritesUnsigned (2 ^ 8) k content
+pub unsigned_as : {n k : ℕ} {content : List ℕ} → n ≡ k → WritesUnsigned (2 ^ 8) n content → WritesUnsigned (2 ^ 8) k content
 unsigned_as {content = content} e p = subst (λ (z : ℕ). WritesUnsigned (2 ^ 8) z content) e p
 
 algorithm_as : {a : AlgorithmValue} {b : Bool} {m : Mode} {text : List ℕ} → a ≡ record { kind = id.sha256_with_rsa; has_null = b } → (algorithm_of a.kind).writes a.has_null m text

@@ -2,7 +2,7 @@
 
 ghost use Rattle.std.specs.Prelude.{◌≡◌, IfErr, IfOk};
 ghost use Rattle.certs_crl.specs.bcder_tree.declared.mode.Mode.TheVariants.{Der};
-ghost use Rattle.certs_crl.specs.Signing.{SigningRefused};
+ghost use Rattle.certs_crl.specs.Signing.{LacksText, NotWritten, SigningRefused};
 ghost use Rattle.certs_crl.specs.Written.{WritesTbsList};
 
 use crate::crl::Crl;
@@ -13,12 +13,23 @@ use certs_key::{Signer, SigningError};
 use certs_signed::SignedData;
 use std::alloc::Global;
 
+// What is written of values in DER.
+fn in_der<V: Values>(alloc: Global, values: &V) -> Result<Captured, EncodeError>
+    ensures mode { IfOk result (λ c. c.mode ≡ Der) }
+    ensures written { IfOk result (λ c. V.writes values.now Der c.octets) }
+    ensures refused { IfErr result (LacksText (V.writes values.now Der)) }
+{
+    values.to_captured(alloc, Mode::Der)
+}
+
 // The octets that are signed.
 fn message_of(alloc: Global, tbs: &TbsCertList) -> Result<Captured, EncodeError>
     ensures mode { IfOk result (λ c. c.mode ≡ Der) }
     ensures written { IfOk result (λ c. ∥ WritesTbsList tbs.now Der c.octets ∥₁) }
+    ensures refused { IfErr result (NotWritten tbs.now) }
 {
-    tbs.encode_ref().to_captured(alloc, Mode::Der)
+    let values = tbs.encode_ref();
+    in_der(alloc, &values)
 }
 
 // These fields, with a signature over what is written of them.
@@ -31,6 +42,8 @@ fn signed_by<S: Signer>(
     ensures message { IfOk result (λ signed. ∥ WritesTbsList tbs.now Der signed.message.octets ∥₁) }
     ensures mode { IfOk result (λ signed. signed.message.mode ≡ Der) }
     ensures algorithm { IfOk result (λ signed. signed.signature.algorithm ≡ tbs.now.has_null) }
+    ensures signed { IfOk result (λ signed. S.signs signer.now key.now
+        signed.message.octets signed.signature.bits.octets) }
     ensures refused { IfErr result (SigningRefused tbs.now) }
 {
     let message = match message_of(alloc, tbs) {
@@ -58,6 +71,8 @@ impl TbsCertList {
         ensures fields { IfOk result (λ crl. crl.tbs ≡ self) }
         ensures algorithm { IfOk result (λ crl. crl.signed.has_null ≡ self.has_null) }
         ensures message { IfOk result (λ crl. ∥ WritesTbsList self Der crl.signed.message ∥₁) }
+        ensures signed { IfOk result (λ crl. S.signs signer.now key.now
+            crl.signed.message crl.signed.signature) }
         ensures refused { IfErr result (SigningRefused self) }
     {
         match signed_by(alloc, &self, signer, key) {

@@ -1,7 +1,9 @@
 //! What is signed of a revocation list, written (RFC 5280 5.1.2, RFC 6487 5).
 
-ghost use Rattle.std.specs.Prelude.{◌≡◌, ◌<◌, ◌^◌, ℕ, List};
+ghost use Rattle.std.specs.Prelude.{◌≡◌, ◌<◌, ◌^◌, ℕ, List, []};
 ghost use Rattle.certs_crl.specs.bcder_tree.declared.mode.Mode.{Mode as ModeValue};
+ghost use Rattle.certs_crl.specs.bcder_tree.declared.mode.Mode.TheVariants.{Der};
+ghost use Rattle.certs_revoked.specs.bcder_values.Writable.{Writable};
 ghost use Rattle.certs_crl.specs.certs_basics.Basics.{IsTwentyLong};
 ghost use Rattle.certs_crl.specs.certs_basics.Identifiers as id;
 ghost use Rattle.certs_crl.specs.Written.{WritesCrlNumber, WritesExtension, WritesKey};
@@ -56,6 +58,9 @@ fn key_extension<'a>(key: &'a KeyIdentifier) -> KeyValues<'a>
     ensures writes { (m : ModeValue) (text : List ℕ)
         → ⟦<KeyValues<'a> as Values>⟧.writes result m text
         → WritesExtension m id.authority_key_identifier (WritesKey key.now) text }
+    ensures whole { (m : ModeValue) (text : List ℕ)
+        → WritesExtension m id.authority_key_identifier (WritesKey key.now) text
+        → ⟦<KeyValues<'a> as Values>⟧.writes result m text }
     ensures long { IsTwentyLong key.now }
 {
     let octets = key.as_slice();
@@ -89,9 +94,12 @@ fn number_of(number: Serial) -> Serial
 
 // The list's number (RFC 5280 5.2.3).
 fn number_extension(number: Serial) -> NumberValues
-    ensures { (m : ModeValue) (text : List ℕ)
+    ensures writes { (m : ModeValue) (text : List ℕ)
         → ⟦<NumberValues as Values>⟧.writes result m text
         → WritesExtension m id.crl_number (WritesCrlNumber number) text }
+    ensures whole { (m : ModeValue) (text : List ℕ)
+        → WritesExtension m id.crl_number (WritesCrlNumber number) text
+        → ⟦<NumberValues as Values>⟧.writes result m text }
 {
     let oid = CE_CRL_NUMBER.encode();
     let value = number_of(number).encode();
@@ -113,6 +121,9 @@ fn extensions<'a>(key: &'a KeyIdentifier, number: Serial) -> ListExtensionValues
     ensures writes { (m : ModeValue) (text : List ℕ)
         → ⟦<ListExtensionValues<'a> as Values>⟧.writes result m text
         → WritesListExtensions key.now number m text }
+    ensures whole { (m : ModeValue) (text : List ℕ)
+        → WritesListExtensions key.now number m text
+        → ⟦<ListExtensionValues<'a> as Values>⟧.writes result m text }
     ensures long { IsTwentyLong key.now }
 {
     let first = key_extension(key);
@@ -140,11 +151,13 @@ impl TbsCertList {
     /// (RFC 5280 5.1.2, RFC 6487 5). The name and the entries are written as they are kept.
     ///
     /// `CerUnsupported` in CER, and where the name or the entries stand in another mode; `TooLong` where a content has more
-    /// than 2^32 - 1 octets.
+    /// than 2^32 - 1 octets. Contracts don't see in which mode entries stand.
     pub fn encode_ref<'a>(&'a self) -> TbsCertListValues<'a>
-        ensures { (m : ModeValue) (text : List ℕ)
+        ensures writes { (m : ModeValue) (text : List ℕ)
             → ⟦<TbsCertListValues<'a> as Values>⟧.writes result m text
             → ∥ WritesTbsList self.now m text ∥₁ }
+        ensures alone { self.now.revoked ≡ [] → (text : List ℕ) → WritesTbsList self.now Der text
+            → Writable (⟦<TbsCertListValues<'a> as Values>⟧.writes result Der) }
     {
         let version = VERSION.encode();
         let signature = self.signature.x509_encode();

@@ -1,6 +1,8 @@
 //! Keys that sign, which are handed in.
 
-ghost use Rattle.std.specs.Prelude.{◌≡◌, IfOk};
+ghost use Rattle.std.specs.Prelude.{◌≡◌, ◌≢◌, ℕ, List, IfErr, IfOk};
+ghost use Rattle.certs_key.specs.certs_basics.Keys.{KeyValue};
+ghost use Rattle.certs_key.specs.declared.signer.SigningError.TheVariants.{TooLong};
 
 use crate::key::PublicKey;
 use certs_algorithm::{Signature, SignatureAlgorithm};
@@ -30,6 +32,9 @@ pub enum SigningError<E> {
 }
 
 /// Keys that sign, by names of the signer's own.
+///
+/// `has_key` and `signs` are relations, so a signer may sign one message in more than one way. No signer answers
+/// `TooLong`, which is told of what is to be signed, before the signer is asked.
 pub trait Signer {
     /// By what a key is named.
     type KeyId;
@@ -37,12 +42,23 @@ pub trait Signer {
     /// Why the signer itself fails.
     type Error;
 
+    // Which public key may be told of a name.
+    ghost has_key: { Self → Self.KeyId → KeyValue → Type 0 };
+
+    // Which octets may be a signature of a message by the key of a name.
+    ghost signs: { Self → Self.KeyId → List ℕ → List ℕ → Type 0 };
+
+    // Which octets may be a signature of a message by a key that is made for it alone.
+    ghost signs_once: { Self → KeyValue → List ℕ → List ℕ → Type 0 };
+
     /// The public part of that key.
     fn get_key_info(
         &self,
         alloc: Global,
         key: &Self::KeyId,
-    ) -> Result<PublicKey, SigningError<Self::Error>>;
+    ) -> Result<PublicKey, SigningError<Self::Error>>
+        ensures key { IfOk result (λ public. has_key self.now key.now public) }
+        ensures told { IfErr result (λ e. e ≢ TooLong) };
 
     /// A signature of the data by that key and algorithm.
     fn sign<A: SignatureAlgorithm + Drop>(
@@ -52,7 +68,10 @@ pub trait Signer {
         algorithm: A,
         data: &[u8],
     ) -> Result<Signature<A>, SigningError<Self::Error>>
-        ensures algorithm { IfOk result (λ signature. signature.algorithm ≡ algorithm) };
+        ensures algorithm { IfOk result (λ signature. signature.algorithm ≡ algorithm) }
+        ensures signed { IfOk result
+            (λ signature. signs self.now key.now data.now signature.bits.octets) }
+        ensures told { IfErr result (λ e. e ≢ TooLong) };
 
     /// A signature of the data by a key that is made for it alone, and that key.
     fn sign_one_off<A: SignatureAlgorithm + Drop>(
@@ -61,5 +80,8 @@ pub trait Signer {
         algorithm: A,
         data: &[u8],
     ) -> Result<(Signature<A>, PublicKey), SigningError<Self::Error>>
-        ensures algorithm { IfOk result (λ made. made.0.algorithm ≡ algorithm) };
+        ensures algorithm { IfOk result (λ made. made.0.algorithm ≡ algorithm) }
+        ensures signed { IfOk result
+            (λ made. signs_once self.now made.1 data.now made.0.bits.octets) }
+        ensures told { IfErr result (λ e. e ≢ TooLong) };
 }

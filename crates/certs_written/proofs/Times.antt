@@ -42,7 +42,7 @@ refused : (m : Mode) {seconds : ℕ} {t : Tree} (same : Type 0) (old new : Optio
     → WriteRefused (PlainTrees t) (PlainText m t) same old new e → WriteRefused (IsTimeOf seconds) (WritesTimeOf m seconds) same old new e
 refused m same old new w errors.CerUnsupported c = (cannot m w errors.CerUnsupported c.0, c.1)
 refused m same old new w errors.TooLong c = (cannot m w errors.TooLong c.0, c.1)
-refused m same old new w errors.Write c = record { text = c.text; is = of_text w c.is; taken = c.taken; others = c.others; whole = c.whole; appended = c.appended }
+refused m same old new w errors.Write c = record { text = c.text; is = of_text w c.is; taken = c.taken; others = c.others; whole = c.whole; some = c.some; appended = c.appended }
 refused m same old new w errors.Memory c = c
 
 pub time_refused : {B : Type 0} (m : Mode) {seconds : ℕ} {t : Tree} (same : Type 0) (old new : Option (List ℕ)) (r : Result B EncodeError) → WritesTime seconds t

@@ -13,9 +13,17 @@ pub struct Echo {
 }
 
 impl Signer for Echo {
+    ghost use Rattle.std.specs.Prelude.{◌≡◌};
+
     type KeyId = u8;
 
     type Error = &'static str;
+
+    ghost has_key = { λ _ _ _. ⊥ };
+
+    ghost signs = { λ _ _ message signature. signature ≡ message };
+
+    ghost signs_once = { λ _ _ _ _. ⊥ };
 
     fn get_key_info(
         &self,

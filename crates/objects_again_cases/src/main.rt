@@ -1,5 +1,5 @@
-//! Questions about signed objects that are written again, about their attributes, their contents and the files of manifests, as
-//! data: each line of standard input asks one, by words with a tab between, and each line of standard output answers one.
+//! Questions about signed objects that are written again, about their attributes, their contents, the files of manifests and
+//! the addresses of attestations, as data: each line of standard input asks one, by words with a tab between, and each line of standard output answers one.
 //!
 //! `tests/objects_again_cases.py` writes both, and knows the answers by means of its own.
 #![tactic(auto)]
@@ -8,6 +8,7 @@ mod again;
 mod answers;
 mod files;
 mod parts;
+mod roas;
 
 use answers::{Answer, unknown};
 use anyhow::Result;
@@ -22,6 +23,7 @@ fn say(alloc: Global, answer: &mut Answer, topic: &str, words: &[&str]) -> Resul
         "content" => parts::content(alloc, answer, words),
         "uris" => files::uris(alloc, answer, words),
         "make" => files::make(alloc, answer, words),
+        "addresses" => roas::addresses(alloc, answer, words),
         _ => unknown(),
     }
 }

@@ -4,13 +4,14 @@ use Rattle.objects_attested.specs.bcder_tree.declared.mode.Mode.TheVariants.{Der
 use Rattle.objects_attested.specs.bcder_content.Kept.{CapturedValue}
 use Rattle.objects_attested.specs.certs_basics.Basics.{IsSmallEnough}
 use Rattle.objects_attested.specs.certs_basics.HandedIn.{Digests}
+use Rattle.objects_attested.specs.certs_basics.Keys.{KeyValue}
 use Rattle.objects_attested.specs.objects_forms.Aspas.{Aspa, AspaText, IsAspa, IsLawful}
 use Rattle.objects_attested.specs.objects_forms.Identifiers as id
 use Rattle.objects_attested.specs.resources_chain.Claims.{Choice}
 use Rattle.objects_attested.specs.resources_chain.Sets.{Run}
 use Rattle.objects_attested.specs.resources_chain.declared.choice.ResourcesChoice.TheVariants.{Blocks, Missing}
 use Rattle.resources_ip.specs.WholeSets.{ListsWhole}
-use Rattle.objects_built.specs.Builders.{BuilderValue, IsBuilt, IsComplete, IsPadded, KindIsRead, built_object}
+use Rattle.objects_built.specs.Builders.{BuilderValue, IsBuilt, IsComplete, IsPadded, IsSigned, KindIsRead, built_object}
 use Rattle.objects_attested.specs.Attested.{Attests, IsAspaFor}
 use Rattle.objects_attested.specs.Written.{aspa}
 use Rattle.objects_attested.proofs.AspaAgain.{aspa_text}
@@ -45,3 +46,11 @@ signed_built d b a fields content octets attests is same (Ok c) built = record {
   built = built;
 }
 signed_built d b a fields content octets attests is same (Err e) built = tt
+
+-- Who signed it.
+pub signer_told : {E : Type 0} (HasKey : KeyValue → Type 0) (Signs : List ℕ → List ℕ → Type 0) (SignsOnce : KeyValue → List ℕ → List ℕ → Type 0) (d : Digests) (b : BuilderValue) (a : Aspa) (fields : BuilderValue)
+    (content octets : List ℕ) → Attests b a fields → (aspa a).writes Der content → octets ≡ content → (x : Result CapturedValue E)
+    → IfOk x (λ c. (y : IsBuilt d fields id.provider_authorization octets c.octets) × IsSigned HasKey Signs SignsOnce y) → IfOk x (λ c. (y : IsAspaFor d b a c.octets) × IsSigned HasKey Signs SignsOnce y.built)
+signer_told HasKey Signs SignsOnce d b a fields content octets attests is same (Ok c) s =
+    (record { fields = fields; attests = attests; content = octets; content_is = subst (λ (w : List ℕ). (aspa a).writes Der w) (sym same) is; built = s.0 }, s.1)
+signer_told HasKey Signs SignsOnce d b a fields content octets attests is same (Err e) s = tt

@@ -4,6 +4,7 @@ ghost use Rattle.std.specs.Prelude.{◌≡◌, IfOk};
 ghost use Rattle.objects_attested.specs.bcder_tree.declared.mode.Mode.TheVariants.{Der};
 ghost use Rattle.objects_attested.specs.certs_key.Digesting.{digests_of};
 ghost use Rattle.objects_attested.specs.resources_chain.declared.choice.ResourcesChoice.TheVariants.{Missing};
+ghost use Rattle.objects_built.specs.Builders.{IsSigned};
 ghost use Rattle.objects_attested.specs.Attested.{Attests, IsAspaFor};
 ghost use Rattle.objects_attested.specs.Written.{aspa};
 
@@ -68,6 +69,10 @@ fn sign<S: Signer, D: Digester>(
     ensures built { IfOk result (λ c. IsAspaFor
         (digests_of D.sha256_digest D.sha1_digest digester.now) builder attestation.now
         c.octets) }
+    ensures signed { IfOk result (λ c. (x : IsAspaFor
+        (digests_of D.sha256_digest D.sha1_digest digester.now) builder attestation.now
+        c.octets) × IsSigned (S.has_key signer.now issuer_key.now)
+        (S.signs signer.now issuer_key.now) (S.signs_once signer.now) x.built) }
     ensures mode { IfOk result (λ c. c.mode ≡ Der) }
 {
     match content_of(alloc, attestation) {
@@ -113,6 +118,10 @@ impl AspaBuilder {
     ) -> Result<Captured, SigningError<S::Error>>
         ensures built { IfOk result (λ c. IsAspaFor
             (digests_of D.sha256_digest D.sha1_digest digester.now) builder self c.octets) }
+        ensures signed { IfOk result (λ c. (x : IsAspaFor
+            (digests_of D.sha256_digest D.sha1_digest digester.now) builder self c.octets)
+            × IsSigned (S.has_key signer.now issuer_key.now)
+            (S.signs signer.now issuer_key.now) (S.signs_once signer.now) x.built) }
         ensures mode { IfOk result (λ c. c.mode ≡ Der) }
     {
         let octets = sign(alloc, &self, builder, signer, issuer_key, digester);

@@ -8,10 +8,9 @@ ghost use Rattle.objects_attested.specs.objects_forms.Aspas.{IsAspa, IsLawful};
 ghost use Rattle.objects_attested.specs.Written.{as_id, aspa, aspa_parts};
 
 use crate::builder::AspaBuilder;
-use certs_key::encode::{EncodeError, Primitive, Values};
+use certs_key::encode::{EncodeError, Iter, Primitive, Values, Walk};
 use certs_key::{Captured, Mode, Tag};
 use certs_written::{Context0, Sequence, Version};
-use objects_written::{Each, Lists};
 use resources_asn::Asn;
 use std::alloc::Global;
 use std::io::Write;
@@ -58,7 +57,7 @@ impl Values for AsIdValue {
     ghost one_text = { λ v. (as_id v).one_text };
 }
 
-/// Providers, in their order. Contracts see the list of those that are there.
+/// Providers that are still to come, in their order. Contracts see their list.
 #[derive(Debug, Drop)]
 pub struct Providers<'a> {
     asns: &'a [Asn],
@@ -73,23 +72,19 @@ impl<'a> Model for Providers<'a> {
     ghost view = { λ p. values p.asns.now };
 }
 
-impl<'a> Lists for Providers<'a> {
+impl<'a> Walk for Providers<'a> {
     type Item = AsIdValue;
 
-    type Pass = Providers<'a>;
+    ghost items = { λ p. p };
 
-    ghost all = { λ p. p };
-
-    ghost left = { λ p. p };
-
-    fn pass(&self) -> Providers<'a> {
-        Providers { asns: self.asns }
+    fn next(&mut self) -> Option<AsIdValue> {
+        let (first, rest) = self.asns.split_first()?;
+        self.asns = rest;
+        Some(AsIdValue(*first))
     }
 
-    fn next(pass: &mut Providers<'a>) -> Option<AsIdValue> {
-        let (first, rest) = pass.asns.split_first()?;
-        pass.asns = rest;
-        Some(AsIdValue(*first))
+    fn again(&self) -> Providers<'a> {
+        Providers { asns: self.asns }
     }
 }
 
@@ -114,7 +109,7 @@ impl<'a> Model for AspaValue<'a> {
 }
 
 // The version, the customer and the providers.
-type Parts<'a> = (Context0<Version>, AsIdValue, Sequence<Each<Providers<'a>>>);
+type Parts<'a> = (Context0<Version>, AsIdValue, Sequence<Iter<Providers<'a>>>);
 
 impl<'a> AspaValue<'a> {
     // The parts, in a SEQUENCE.
@@ -127,7 +122,7 @@ impl<'a> AspaValue<'a> {
         Sequence((
             Context0(Version(VERSION)),
             AsIdValue(self.customer_as),
-            Sequence(Each(providers)),
+            Sequence(Iter(providers)),
         ))
     }
 }

@@ -18,7 +18,7 @@ use Rattle.certs_again.specs.Laws.{IsLawful, as_read}
 use Rattle.certs_cert.specs.Fresh.{IsSubjectFor}
 use Rattle.certs_cert.specs.Written.{WritesCert}
 use Rattle.certs_built.specs.Tbs.{WritesTbs}
-use Rattle.objects_frame.specs.Attributes.{WritesAttributes, to_sign}
+use Rattle.objects_frame.specs.Attributes.{IsMessage, WritesAttributes, to_sign}
 use Rattle.objects_built.specs.objects_forms.ObjectText.{Object}
 use Rattle.objects_frame.specs.Frames.{ObjectParts, object, object_with}
 
@@ -69,8 +69,8 @@ pub record AreFieldsOf (d : Digests) (b : BuilderValue) (issuer_key key : KeyVal
   pub subject : IsSubjectFor d key b.subject t.subject
   pub fields : t ≡ cert_fields b t.issuer t.subject key (identifier d key) (identifier d issuer_key)
 
--- What is written of an object with that content, certificate and attributes.
-pub record WritesObject (content_type content : List ℕ) (cert : CertValue) (attributes : CapturedValue) (octets : List ℕ) : Type 0 where
+-- What is written of an object with that content, certificate, attributes and signature.
+pub record WritesObject (content_type content : List ℕ) (cert : CertValue) (attributes : CapturedValue) (signature octets : List ℕ) : Type 0 where
   pub parts : ObjectParts
   pub type_is : parts.content_type ≡ content_type
   pub content_is : parts.content ≡ content
@@ -78,6 +78,7 @@ pub record WritesObject (content_type content : List ℕ) (cert : CertValue) (at
   pub own : parts.signer.sid ≡ cert.tbs.subject_key_identifier
   pub long : IsTwentyLong parts.signer.sid
   pub attributes_are : parts.signer.attributes ≡ attributes
+  pub signature_is : parts.signer.signature ≡ signature
   pub written : (object parts).writes Der octets
 
 -- A signed object that is built: its certificate has the builder's fields, and what is written of them was signed by the
@@ -93,7 +94,23 @@ pub record IsBuilt (d : Digests) (b : BuilderValue) (content_type content octets
   pub algorithm : cert.signed.has_null ≡ cert.tbs.has_null
   pub attributes : CapturedValue
   pub attributes_are : WritesAttributes (to_sign content_type (d.sha256 content) b.signing_time) attributes.octets
-  pub written : WritesObject content_type content cert attributes octets
+  pub signature : List ℕ
+  pub written : WritesObject content_type content cert attributes signature octets
+
+-- A signature of attributes by that key, which is made for it alone: over them as a SET in DER (RFC 5652 5.4). SignsOnce says
+-- which octets may be a signature of a message by such a key.
+pub record SignsAttributes (SignsOnce : KeyValue → List ℕ → List ℕ → Type 0) (attributes : List ℕ) (key : KeyValue) (signature : List ℕ) : Type 0 where
+  pub message : List ℕ
+  pub message_is : IsMessage attributes message
+  pub is : SignsOnce key message signature
+
+-- Who signed an object that is built: the issuer's key is one that the signer has, and signed the certificate's fields, as
+-- they stand in it; the certificate's key signed the attributes (RFC 5280 4.1.1.3, RFC 5652 5.4).
+pub record IsSigned {d : Digests} {b : BuilderValue} {content_type content octets : List ℕ} (HasKey : KeyValue → Type 0) (Signs : List ℕ → List ℕ → Type 0)
+    (SignsOnce : KeyValue → List ℕ → List ℕ → Type 0) (x : IsBuilt d b content_type content octets) : Type 0 where
+  pub issuer : HasKey x.issuer_key
+  pub cert : Signs x.cert.signed.message x.cert.signed.signature
+  pub attributes : SignsAttributes SignsOnce x.attributes.octets x.key x.signature
 
 -- The certificate can be read again: some kind of resources is there, IPv4 ones over whole addresses (RFC 6487 4.8.10, 4.8.11;
 -- RFC 3779 2.2.3), and the serial number is below 2^160, as each `Serial` is.

@@ -10,7 +10,8 @@ ghost use Rattle.certs_again.specs.Laws.{IsLawful};
 ghost use Rattle.certs_cert.specs.Fresh.{IsSubjectFor, fresh};
 ghost use Rattle.certs_built.specs.Tbs.{WritesTbs};
 ghost use Rattle.objects_frame.specs.Attributes.{WritesAttributes, to_sign};
-ghost use Rattle.objects_built.specs.Builders.{AreFieldsOf, IsBuilt, WritesObject};
+ghost use Rattle.objects_built.specs.Builders.{AreFieldsOf, IsBuilt, IsSigned};
+ghost use Rattle.objects_built.specs.Builders.{SignsAttributes, WritesObject};
 ghost use Rattle.objects_built.specs.Builders.{with_places, with_resources};
 
 use crate::builder::{Holdings, Names, Places, SignedObjectBuilder};
@@ -65,6 +66,8 @@ fn sign<S: Signer>(
     signer: &S,
 ) -> Result<(RpkiSignature, PublicKey), SigningError<S::Error>>
     requires { attributes.now.mode ≡ Der }
+    ensures { IfOk result (λ made. SignsAttributes (S.signs_once signer.now)
+        attributes.now.octets made.1 made.0.bits.octets) }
 {
     match signed_message(alloc, attributes) {
         Ok(message) => {
@@ -88,6 +91,8 @@ fn sign_content<S: Signer, D: Digester>(
         (to_sign content_type.now (D.sha256_digest digester.now content.now) time)
         s.attributes.octets) }
     ensures mode { IfOk result (λ s. s.attributes.mode ≡ Der) }
+    ensures signed { IfOk result (λ s. SignsAttributes (S.signs_once signer.now)
+        s.attributes.octets s.key s.signature.bits.octets) }
 {
     match attributes_of(alloc, content_type, content, time, digester) {
         Ok(attributes) => match sign(alloc, &attributes, signer) {
@@ -239,6 +244,8 @@ fn certify<S: Signer, D: Digester>(
     ensures lawful { IfOk result (λ c. IsLawful c.tbs) }
     ensures message { IfOk result (λ c. WritesTbs c.tbs c.signed.message) }
     ensures algorithm { IfOk result (λ c. c.signed.has_null ≡ c.tbs.has_null) }
+    ensures signed { IfOk result (λ c. S.signs signer.now issuer_key.now
+        c.signed.message c.signed.signature) }
 {
     match fields_for(alloc, builder, issuer_public, key, digester) {
         Ok(fields) => {
@@ -259,7 +266,7 @@ fn object_octets(
     signature: &[u8],
 ) -> Result<Captured, EncodeError>
     ensures written { IfOk result (λ c. WritesObject content_type.now content.now cert.now
-        attributes.now c.octets) }
+        attributes.now signature.now c.octets) }
     ensures mode { IfOk result (λ c. c.mode ≡ Der) }
 {
     let carried = cert.to_captured(alloc)?;
@@ -279,7 +286,7 @@ fn write_object<E>(
     signature: &[u8],
 ) -> Result<Captured, SigningError<E>>
     ensures written { IfOk result (λ c. WritesObject content_type.now content.now cert.now
-        attributes.now c.octets) }
+        attributes.now signature.now c.octets) }
     ensures mode { IfOk result (λ c. c.mode ≡ Der) }
 {
     match object_octets(alloc, content_type, content, cert, attributes, signature) {
@@ -305,6 +312,13 @@ fn with_cert<S: Signer, D: Digester>(
     ensures built { IfOk result (λ c. IsBuilt
         (digests_of D.sha256_digest D.sha1_digest digester.now) builder content_type.now
         content.now c.octets) }
+    ensures signed { S.has_key signer.now issuer_key.now issuer_public.now
+        → SignsAttributes (S.signs_once signer.now)
+        signed.attributes.octets signed.key signed.signature.bits.octets
+        → IfOk result (λ c. (x : IsBuilt
+        (digests_of D.sha256_digest D.sha1_digest digester.now) builder content_type.now
+        content.now c.octets) × IsSigned (S.has_key signer.now issuer_key.now)
+        (S.signs signer.now issuer_key.now) (S.signs_once signer.now) x) }
     ensures mode { IfOk result (λ c. c.mode ≡ Der) }
 {
     let Signed {
@@ -352,6 +366,11 @@ fn build<S: Signer, D: Digester>(
     ensures built { IfOk result (λ c. IsBuilt
         (digests_of D.sha256_digest D.sha1_digest digester.now) builder content_type.now
         content.now c.octets) }
+    ensures signed { S.has_key signer.now issuer_key.now issuer_public.now
+        → IfOk result (λ c. (x : IsBuilt
+        (digests_of D.sha256_digest D.sha1_digest digester.now) builder content_type.now
+        content.now c.octets) × IsSigned (S.has_key signer.now issuer_key.now)
+        (S.signs signer.now issuer_key.now) (S.signs_once signer.now) x) }
     ensures mode { IfOk result (λ c. c.mode ≡ Der) }
 {
     let time = builder.signing_time();
@@ -393,6 +412,10 @@ impl SignedObjectBuilder {
         ensures built { IfOk result (λ c. IsBuilt
             (digests_of D.sha256_digest D.sha1_digest digester.now) self content_type.now
             content.now c.octets) }
+        ensures signed { IfOk result (λ c. (x : IsBuilt
+            (digests_of D.sha256_digest D.sha1_digest digester.now) self content_type.now
+            content.now c.octets) × IsSigned (S.has_key signer.now issuer_key.now)
+            (S.signs signer.now issuer_key.now) (S.signs_once signer.now) x) }
         ensures mode { IfOk result (λ c. c.mode ≡ Der) }
     {
         match signer.get_key_info(alloc, issuer_key) {

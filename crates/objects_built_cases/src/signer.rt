@@ -1,5 +1,7 @@
 //! A signer whose signatures are digests of its key's bits and of the data.
 
+ghost use Rattle.std.specs.Prelude.{◌≡◌, ◌≢◌, ◌∷◌, ◌++◌, IfErr, IfOk};
+ghost use Rattle.objects_built.specs.certs_key.declared.signer.SigningError.TheVariants.{TooLong};
 ghost use Rattle.sha1.specs.Sha1.{sha1 as sha1_of};
 ghost use Rattle.sha2.specs.Sha256.{sha256 as sha256_of};
 
@@ -44,7 +46,9 @@ pub struct Stub {
 }
 
 // The digest of both, one after the other.
-fn digest_of(alloc: Global, bits: &[u8], data: &[u8]) -> Result<Bytes, AllocError> {
+fn digest_of(alloc: Global, bits: &[u8], data: &[u8]) -> Result<Bytes, AllocError>
+    ensures { IfOk result (λ digest. digest ≡ sha256_of (bits.now ++ data.now)) }
+{
     let mut octets = Vec::from_slice(alloc, bits)?;
     octets.extend_from_slice(data)?;
     let digest = Fips.sha256(octets.as_slice());
@@ -52,7 +56,9 @@ fn digest_of(alloc: Global, bits: &[u8], data: &[u8]) -> Result<Bytes, AllocErro
 }
 
 // A key of its encoded octets.
-fn key_of(alloc: Global, octets: &[u8]) -> Result<PublicKey, SigningError<Infallible>> {
+fn key_of(alloc: Global, octets: &[u8]) -> Result<PublicKey, SigningError<Infallible>>
+    ensures { IfErr result (λ e. e ≢ TooLong) }
+{
     match PublicKey::decode(alloc, octets) {
         Ok(key) => Ok(key),
         Err(_) => Err(SigningError::KeyNotFound),
@@ -75,6 +81,13 @@ impl Signer for Stub {
     type KeyId = ();
 
     type Error = Infallible;
+
+    // Of its two keys nothing is told.
+    ghost has_key = { λ _ _ _. Unit {0} };
+
+    ghost signs = { λ _ _ message signature. signature ≡ sha256_of (0 ∷ 1 ∷ message) };
+
+    ghost signs_once = { λ _ _ message signature. signature ≡ sha256_of (0 ∷ 2 ∷ message) };
 
     fn get_key_info(
         &self,

@@ -4,6 +4,7 @@ use Rattle.objects_issued.specs.bcder_tree.declared.mode.Mode.TheVariants.{Der}
 use Rattle.objects_issued.specs.bcder_content.Kept.{CapturedValue}
 use Rattle.objects_issued.specs.certs_basics.Basics.{IsSmallEnough}
 use Rattle.objects_issued.specs.certs_basics.HandedIn.{Digests}
+use Rattle.objects_issued.specs.certs_basics.Keys.{KeyValue}
 use Rattle.objects_issued.specs.objects_forms.Identifiers as id
 use Rattle.objects_issued.specs.objects_forms.Roas.{IsRoa, Roa, RoaAddress, RoaText}
 use Rattle.objects_issued.specs.objects_written.Roas.{AreOfFamilies, HasAddress, roa}
@@ -15,7 +16,7 @@ use Rattle.objects_issued.specs.resources_ip_prefix.Prefix.{run_of_prefix}
 use Rattle.objects_issued.specs.resources_ip_prefix.Prefixes.{prefix_run}
 use Rattle.objects_issued.specs.resources_ip_prefix.declared.prefix.Prefix.{Prefix}
 use Rattle.resources_ip.specs.WholeSets.{ListsWhole}
-use Rattle.objects_built.specs.Builders.{BuilderValue, IsBuilt, IsComplete, IsPadded, KindIsRead, built_object}
+use Rattle.objects_built.specs.Builders.{BuilderValue, IsBuilt, IsComplete, IsPadded, IsSigned, KindIsRead, built_object}
 use Rattle.objects_written.proofs.RoaAgain.{roa_text}
 use Rattle.objects_issued.specs.Issued.{AreResourcesOf, Attests, IsRoaFor, runs_of}
 
@@ -76,3 +77,15 @@ roa_built d b r fields content octets attests is same (Ok c) built = record {
   built = built;
 }
 roa_built d b r fields content octets attests is same (Err e) built = tt
+
+-- Who signed it.
+module _ (HasKey : KeyValue → Type 0) (Signs : List ℕ → List ℕ → Type 0) (SignsOnce : KeyValue → List ℕ → List ℕ → Type 0) (d : Digests) (b : BuilderValue) where
+  pub roa_signed : {E : Type 0} (r : Roa) (fields : BuilderValue) (content octets : List ℕ) → Attests b r fields → (roa r).writes Der content → octets ≡ content → (x : Result CapturedValue E)
+      → IfOk x (λ c. (y : IsBuilt d fields id.route_origin octets c.octets) × IsSigned HasKey Signs SignsOnce y) → IfOk x (λ c. (y : IsRoaFor d b r c.octets) × IsSigned HasKey Signs SignsOnce y.built)
+  roa_signed r fields content octets attests is same (Ok c) s =
+      (record { fields = fields; attests = attests; content = octets; content_is = subst (λ (w : List ℕ). (roa r).writes Der w) (sym same) is; built = s.0 }, s.1)
+  roa_signed r fields content octets attests is same (Err e) s = tt
+
+  pub same_roa : {E : Type 0} (r other : Roa) → r ≡ other → (x : Result CapturedValue E) → IfOk x (λ c. (y : IsRoaFor d b r c.octets) × IsSigned HasKey Signs SignsOnce y.built)
+      → IfOk x (λ c. (y : IsRoaFor d b other c.octets) × IsSigned HasKey Signs SignsOnce y.built)
+  same_roa r other same x s = subst (λ (z : Roa). IfOk x (λ c. (y : IsRoaFor d b z c.octets) × IsSigned HasKey Signs SignsOnce y.built)) same s

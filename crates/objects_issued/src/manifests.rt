@@ -4,7 +4,7 @@ ghost use Rattle.std.specs.Prelude.{◌≡◌, IfOk};
 ghost use Rattle.objects_issued.specs.bcder_tree.declared.mode.Mode.TheVariants.{Der};
 ghost use Rattle.objects_issued.specs.certs_key.Digesting.{digests_of};
 ghost use Rattle.objects_issued.specs.objects_forms.Manifests.{Manifest};
-ghost use Rattle.objects_built.specs.Builders.{IsBuilt};
+ghost use Rattle.objects_built.specs.Builders.{IsBuilt, IsSigned};
 ghost use Rattle.objects_issued.specs.Issued.{IsManifestFor, inheriting};
 ghost use Rattle.objects_issued.specs.objects_forms.Identifiers as id;
 ghost use Rattle.objects_issued.specs.objects_written.Manifests.{manifest};
@@ -63,6 +63,10 @@ pub trait IntoManifest: Sized {
         ensures built { IfOk result (λ c. IsManifestFor
             (digests_of D.sha256_digest D.sha1_digest digester.now) builder (content self)
             c.octets) }
+        ensures signed { IfOk result (λ c. (x : IsManifestFor
+            (digests_of D.sha256_digest D.sha1_digest digester.now) builder (content self)
+            c.octets) × IsSigned (S.has_key signer.now issuer_key.now)
+            (S.signs signer.now issuer_key.now) (S.signs_once signer.now) x.built) }
         ensures mode { IfOk result (λ c. c.mode ≡ Der) };
 }
 
@@ -101,6 +105,10 @@ fn sign<S: Signer, D: Digester>(
     ensures built { IfOk result (λ c. IsBuilt
         (digests_of D.sha256_digest D.sha1_digest digester.now) (inheriting builder) id.manifest
         content.octets c.octets) }
+    ensures signed { IfOk result (λ c. (x : IsBuilt
+        (digests_of D.sha256_digest D.sha1_digest digester.now) (inheriting builder) id.manifest
+        content.octets c.octets) × IsSigned (S.has_key signer.now issuer_key.now)
+        (S.signs signer.now issuer_key.now) (S.signs_once signer.now) x) }
     ensures mode { IfOk result (λ c. c.mode ≡ Der) }
 {
     let inheriting = inherits(builder);

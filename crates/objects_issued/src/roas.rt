@@ -8,6 +8,7 @@ ghost use Rattle.objects_issued.specs.objects_written.Roas.{roa};
 ghost use Rattle.objects_issued.specs.resources_chain.declared.choice.ResourcesChoice.TheVariants.{Missing};
 ghost use Rattle.objects_issued.specs.resources_ip_prefix.declared.addr.AddressFamily.TheVariants.{Ipv4, Ipv6};
 ghost use Rattle.objects_roa.specs.Addresses.{AllOf};
+ghost use Rattle.objects_built.specs.Builders.{IsSigned};
 ghost use Rattle.objects_issued.specs.Issued.{Attests, IsRoaFor};
 
 use crate::addresses::resources_of;
@@ -87,6 +88,10 @@ fn sign<S: Signer, D: Digester>(
     ensures built { IfOk result (λ c. IsRoaFor
         (digests_of D.sha256_digest D.sha1_digest digester.now) builder attestation.now
         c.octets) }
+    ensures signed { IfOk result (λ c. (x : IsRoaFor
+        (digests_of D.sha256_digest D.sha1_digest digester.now) builder attestation.now
+        c.octets) × IsSigned (S.has_key signer.now issuer_key.now)
+        (S.signs signer.now issuer_key.now) (S.signs_once signer.now) x.built) }
     ensures mode { IfOk result (λ c. c.mode ≡ Der) }
 {
     match content_of(alloc, attestation) {
@@ -139,6 +144,10 @@ pub trait FinalizeRoa: Sized {
         ensures built { IfOk result (λ c. IsRoaFor
             (digests_of D.sha256_digest D.sha1_digest digester.now) builder (content self)
             c.octets) }
+        ensures signed { IfOk result (λ c. (x : IsRoaFor
+            (digests_of D.sha256_digest D.sha1_digest digester.now) builder (content self)
+            c.octets) × IsSigned (S.has_key signer.now issuer_key.now)
+            (S.signs signer.now issuer_key.now) (S.signs_once signer.now) x.built) }
         ensures mode { IfOk result (λ c. c.mode ≡ Der) };
 }
 

@@ -6,3 +6,4 @@ pub mod RoaAgain
 pub mod ManifestAgain
 pub mod Making
 pub mod Told
+pub mod Passed

@@ -21,7 +21,7 @@ module _ {T U : Trees → Type 0} {P Q : List ℕ → Type 0} (s : Turns T U P Q
   refused : (same : Type 0) (old new : Option (List ℕ)) (e : EncodeError) → WriteRefused T P same old new e → WriteRefused U Q same old new e
   refused same old new errors.CerUnsupported c = (cannot errors.CerUnsupported c.0, c.1)
   refused same old new errors.TooLong c = (cannot errors.TooLong c.0, c.1)
-  refused same old new errors.Write c = record { text = c.text; is = s.to c.text c.is; taken = c.taken; others = c.others; whole = c.whole; appended = c.appended }
+  refused same old new errors.Write c = record { text = c.text; is = s.to c.text c.is; taken = c.taken; others = c.others; whole = c.whole; some = c.some; appended = c.appended }
   refused same old new errors.Memory c = c
 
   pub len_turned : (r : Result ℕ EncodeError) → IfOk r (HasLength P) → IfOk r (HasLength Q)

@@ -4,8 +4,7 @@ ghost use Rattle.std.specs.Prelude.{◌≡◌, List};
 ghost use Rattle.objects_written.specs.objects_forms.Roas.{RoaAddress};
 ghost use Rattle.objects_written.specs.Roas.{address, address_parts, max_length, prefix};
 
-use crate::lists::{Each, Lists};
-use certs_key::encode::{EncodeError, Primitive, Values};
+use certs_key::encode::{EncodeError, Iter, Primitive, Values, Walk};
 use certs_key::{Mode, Tag};
 use certs_written::Sequence;
 use objects_forms::Prefix;
@@ -145,9 +144,9 @@ impl Values for AddressValue {
     ghost one_text = { λ v. (address v).one_text };
 }
 
-/// The addresses of one family, in their order. Contracts see their list.
+/// Addresses of one family that are still to come, in their order. Contracts see their list.
 #[derive(Drop)]
-pub struct Addresses<'a>(&'a RoaIpAddresses);
+pub struct Addresses<'a>(RoaIpAddressIter<'a>);
 
 impl<'a> Model for Addresses<'a> {
     ghost use Rattle.std.specs.Prelude.{List};
@@ -155,7 +154,7 @@ impl<'a> Model for Addresses<'a> {
 
     ghost Value = { List RoaAddress };
 
-    ghost view = { λ a. a.0.now };
+    ghost view = { λ a. a.0 };
 }
 
 impl<'a> Addresses<'a> {
@@ -163,26 +162,25 @@ impl<'a> Addresses<'a> {
     pub(crate) fn new(addresses: &'a RoaIpAddresses) -> Addresses<'a>
         ensures { result ≡ addresses.now }
     {
-        Addresses(addresses)
+        Addresses(addresses.iter())
     }
 }
 
-impl<'a> Lists for Addresses<'a> {
+impl<'a> Walk for Addresses<'a> {
     type Item = AddressValue;
 
-    type Pass = RoaIpAddressIter<'a>;
+    ghost items = { λ a. a };
 
-    ghost all = { λ a. a };
-
-    ghost left = { λ pass. pass };
-
-    fn pass(&self) -> RoaIpAddressIter<'a> {
-        self.0.iter()
+    fn next(&mut self) -> Option<AddressValue> {
+        let address = self.0.next()?;
+        Some(AddressValue(address))
     }
 
-    fn next(pass: &mut RoaIpAddressIter<'a>) -> Option<AddressValue> {
-        let address = pass.next()?;
-        Some(AddressValue(address))
+    fn again(&self) -> Addresses<'a> {
+        match self.0.clone() {
+            Ok(rest) => Addresses(rest),
+            Err(_) => unreachable!(),
+        }
     }
 }
 
@@ -192,15 +190,15 @@ pub trait EncodeAddresses {
     ghost addresses: { Self → List RoaAddress };
 
     /// The addresses as they are written: a SEQUENCE OF them, in their order (RFC 9582 4.3.2).
-    fn encode_ref(&self) -> Sequence<Each<Addresses<'_>>>
+    fn encode_ref(&self) -> Sequence<Iter<Addresses<'_>>>
         ensures { result.0.0 ≡ addresses self.now };
 }
 
 impl EncodeAddresses for RoaIpAddresses {
     ghost addresses = { λ a. a };
 
-    fn encode_ref(&self) -> Sequence<Each<Addresses<'_>>> {
+    fn encode_ref(&self) -> Sequence<Iter<Addresses<'_>>> {
         let addresses = Addresses::new(self);
-        Sequence(Each(addresses))
+        Sequence(Iter(addresses))
     }
 }

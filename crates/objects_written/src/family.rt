@@ -4,9 +4,8 @@ ghost use Rattle.std.specs.Prelude.{◌≡◌};
 ghost use Rattle.objects_written.specs.Roas.{family, family_id, family_parts, shown as shown_of};
 
 use crate::address::Addresses;
-use crate::lists::Each;
 use certs_key::Mode;
-use certs_key::encode::{EncodeError, Values};
+use certs_key::encode::{EncodeError, Iter, Values};
 use certs_written::Sequence;
 use objects_forms::AddressFamily;
 use objects_roa::RoaIpAddresses;
@@ -55,11 +54,11 @@ impl<'a> Model for FamilyValue<'a> {
 
 impl<'a> FamilyValue<'a> {
     // The number of the family and its addresses, in a SEQUENCE.
-    fn parts(&self) -> Sequence<(FamilyId, Sequence<Each<Addresses<'a>>>)>
+    fn parts(&self) -> Sequence<(FamilyId, Sequence<Iter<Addresses<'a>>>)>
         ensures { (result.0.0.0, result.0.1.0.0) ≡ family_parts self.now }
     {
         let addresses = Addresses::new(self.addresses);
-        Sequence((FamilyId(self.family), Sequence(Each(addresses))))
+        Sequence((FamilyId(self.family), Sequence(Iter(addresses))))
     }
 }
 

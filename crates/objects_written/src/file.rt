@@ -1,11 +1,10 @@
 //! The files of a manifest, written (RFC 9286 4.2).
 
-ghost use Rattle.std.specs.Prelude.{◌≡◌};
+ghost use Rattle.std.specs.Prelude.{◌≡◌, ◌+◌, ◌<◌, drop, length};
 ghost use Rattle.objects_written.specs.objects_forms.Manifests.{File};
 ghost use Rattle.objects_written.specs.Manifests.{file, file_hash, file_name, file_parts};
 
-use crate::lists::Lists;
-use certs_key::encode::{EncodeError, Primitive, Values};
+use certs_key::encode::{EncodeError, Primitive, Values, Walk};
 use certs_key::string::{BitSlice, OctetSliceEncoder};
 use certs_key::{Mode, Tag};
 use certs_written::Sequence;
@@ -151,17 +150,44 @@ impl EncodeFile for FileAndHash<'_> {
     }
 }
 
-/// The files that a manifest lists, in its order. Contracts see them.
+/// The files of a manifest that are still to come, in its order. Contracts see them.
 #[derive(Drop)]
-pub struct ListedFiles<'a>(&'a ManifestContent);
+pub struct ListedFiles<'a> {
+    content: &'a ManifestContent,
+    given: usize,
+    rest: FileListIter<'a>,
+}
 
 impl<'a> Model for ListedFiles<'a> {
-    ghost use Rattle.std.specs.Prelude.{List};
+    ghost use Rattle.std.specs.Prelude.{◌≡◌, List, drop};
     ghost use Rattle.objects_written.specs.objects_forms.Manifests.{File};
 
     ghost Value = { List File };
 
-    ghost view = { λ f. f.0.now.files };
+    ghost view = { λ f. f.rest };
+
+    ghost invariant = { λ f. f.rest ≡ drop f.given f.content.now.files };
+}
+
+// The files of a manifest that come after so many of them.
+fn files_after(content: &ManifestContent, count: usize) -> FileListIter<'_>
+    ensures { result ≡ drop count content.now.files }
+{
+    let mut rest = content.iter();
+    for _ in 0..count {
+        let _ = rest.next();
+    }
+    rest
+}
+
+// One more than were given, where there is one more file: their number can be counted.
+fn one_more(content: &ManifestContent, given: usize) -> usize
+    ensures { given < length content.now.files → result ≡ given + 1 }
+{
+    match given.checked_add(1) {
+        Some(more) => more,
+        None => content.len(),
+    }
 }
 
 impl<'a> ListedFiles<'a> {
@@ -169,25 +195,30 @@ impl<'a> ListedFiles<'a> {
     pub(crate) fn new(content: &'a ManifestContent) -> ListedFiles<'a>
         ensures { result ≡ content.now.files }
     {
-        ListedFiles(content)
+        ListedFiles {
+            content,
+            given: 0,
+            rest: content.iter(),
+        }
     }
 }
 
-impl<'a> Lists for ListedFiles<'a> {
+impl<'a> Walk for ListedFiles<'a> {
     type Item = FileValue<'a>;
 
-    type Pass = FileListIter<'a>;
+    ghost items = { λ f. f };
 
-    ghost all = { λ f. f };
-
-    ghost left = { λ pass. pass };
-
-    fn pass(&self) -> FileListIter<'a> {
-        self.0.iter()
+    fn next(&mut self) -> Option<FileValue<'a>> {
+        let file = self.rest.next()?;
+        self.given = one_more(self.content, self.given);
+        Some(FileValue::of(&file))
     }
 
-    fn next(pass: &mut FileListIter<'a>) -> Option<FileValue<'a>> {
-        let file = pass.next()?;
-        Some(FileValue::of(&file))
+    fn again(&self) -> ListedFiles<'a> {
+        ListedFiles {
+            content: self.content,
+            given: self.given,
+            rest: files_after(self.content, self.given),
+        }
     }
 }

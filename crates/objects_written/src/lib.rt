@@ -13,13 +13,11 @@ pub mod address;
 pub mod family;
 pub mod file;
 pub mod laws;
-pub mod lists;
 pub mod manifest;
 pub mod roa;
 
 pub use address::{AddressValue, Addresses, EncodeAddresses};
 pub use family::FamilyValue;
 pub use file::{EncodeFile, FileValue};
-pub use lists::{Each, Lists};
 pub use manifest::{EncodeManifest, ManifestValue, has_file_names};
 pub use roa::{EncodeRoa, RoaValue, has_address};

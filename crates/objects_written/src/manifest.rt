@@ -9,8 +9,7 @@ ghost use Rattle.objects_written.specs.objects_forms.Manifests.{IsManifest, Mani
 ghost use Rattle.objects_written.specs.Manifests.{AreFileNames, IsManifestNumber, manifest, manifest_parts, moment};
 
 use crate::file::ListedFiles;
-use crate::lists::Each;
-use certs_key::encode::{EncodeError, Values};
+use certs_key::encode::{EncodeError, Iter, Values};
 use certs_key::{Captured, ConstOid, Mode, Oid, Serial};
 use certs_written::{Identifier, Sequence, SerialValue};
 use objects_forms::Time;
@@ -94,7 +93,7 @@ impl<'a> Model for ManifestValue<'a> {
 
 impl<'a> ManifestValue<'a> {
     // The parts, in a SEQUENCE.
-    fn parts(&self) -> Sequence<Parts<Each<ListedFiles<'a>>>>
+    fn parts(&self) -> Sequence<Parts<Iter<ListedFiles<'a>>>>
         ensures { (
           result.0.0.0,
           (result.0.1.0, (result.0.2.0, (result.0.3.0.0.now, result.0.4.0.0))),
@@ -106,7 +105,7 @@ impl<'a> ManifestValue<'a> {
             content.manifest_number(),
             content.this_update(),
             content.next_update(),
-            Each(ListedFiles::new(content)),
+            Iter(ListedFiles::new(content)),
         )
     }
 }

@@ -35,7 +35,7 @@ impl Asn {
     /// The smallest AS number: 0.
     pub const MIN: Asn = Asn { number: 0 };
 
-    /// The largest AS number: 4294967295.
+    /// The largest AS number: 4,294,967,295, which is 2^32 - 1.
     pub const MAX: Asn = Asn { number: u32::MAX };
 
     /// The AS number with this value.

@@ -24,10 +24,8 @@ impl Asn {
         ensures failed { OnErr result ((here S.rest cons.new).failed ≡ true) }
         ensures no_memory { IfErr result (λ e. e ≢ Memory) }
     {
-        match cons.take_u32() {
-            Ok(number) => Ok(Asn::from_u32(number)),
-            Err(error) => Err(error),
-        }
+        let number = cons.take_u32()?;
+        Ok(Asn::from_u32(number))
     }
 
     /// The AS number of an INTEGER, if one is next (RFC 3779 section 3.2.3.10).
@@ -39,10 +37,9 @@ impl Asn {
         ensures failed { OnErr result ((here S.rest cons.new).failed ≡ true) }
         ensures no_memory { IfErr result (λ e. e ≢ Memory) }
     {
-        match cons.take_opt_u32() {
-            Ok(Some(number)) => Ok(Some(Asn::from_u32(number))),
-            Ok(None) => Ok(None),
-            Err(error) => Err(error),
+        match cons.take_opt_u32()? {
+            Some(number) => Ok(Some(Asn::from_u32(number))),
+            None => Ok(None),
         }
     }
 
@@ -53,10 +50,8 @@ impl Asn {
         ensures failed { OnErr result ((here S.rest cons.new).failed ≡ true) }
         ensures no_memory { IfErr result (λ e. e ≢ Memory) }
     {
-        match cons.take_u32() {
-            Ok(_) => Ok(()),
-            Err(error) => Err(error),
-        }
+        let _number = cons.take_u32()?;
+        Ok(())
     }
 }
 

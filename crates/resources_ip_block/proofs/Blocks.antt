@@ -10,15 +10,15 @@ use Rattle.resources_ip_block.specs.bcder_content.Exact.{LacksAll, GivesAll, Rea
 use Rattle.resources_ip_block.specs.bcder_content.Grammar.{As, Tagged, One, OneAll}
 use Rattle.resources_ip_block.proofs.of_bcder_content.Taking.{on_content}
 use Rattle.resources_ip_block.proofs.of_bcder_content.Within.{AllWithin, all_gives, all_stop, all_unfit}
-use Rattle.resources_ip_block.proofs.of_bcder_content.Unique.{as_tagged, as_one, end_one, inside_tagged, octets_tagged, such_one, such_tagged, then_one}
+use Rattle.resources_ip_block.proofs.of_bcder_content.Unique.{as_tagged, as_one, end_one, inside_tagged, octets_one, octets_tagged, such_one, such_tagged, then_one}
 use Rattle.resources_ip_block.specs.resources_chain.Sets.{Run}
 use Rattle.resources_ip_prefix.specs.declared.addr.AddressFamily.{AddressFamily}
 use Rattle.resources_ip_block.specs.BlockEncodings.{AreEnds, AreOrdered, Ends, IsRange, beginning, from_to}
 use Rattle.resources_ip_prefix.specs.Encodings.{IsAddress}
-use Rattle.resources_ip_prefix.proofs.Values.{bits_one}
+use Rattle.resources_ip_prefix.proofs.of_bcder_bits.Readings.{bit_string_one}
 
 pub address_one : {m : Mode} (family : AddressFamily) → One (IsAddress m family)
-address_one family = as_one (such_one bits_one)
+address_one family = as_one (such_one (octets_one bit_string_one))
 
 pub ends_one : {m : Mode} (family : AddressFamily) → OneAll (AreEnds m family)
 ends_one family = then_one (address_one family) (then_one (address_one family) end_one)

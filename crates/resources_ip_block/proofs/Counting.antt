@@ -1,5 +1,5 @@
 -- How many zeros, or ones, stand at the end of a number of 128 bits, and which prefixes that makes.
-use Rattle.std.proofs.Common.{◌≡◌, ℕ, zero, suc, ◌+◌, ◌-◌, ◌*◌, ◌/◌, ◌%◌, ◌^◌, ◌<◌, ◌≤◌, ◌⊎◌, inl, inr, ap, sym, subst, ◌∙◌, arith, refl, le_refl}
+use Rattle.std.proofs.Common.{◌≡◌, ℕ, zero, suc, ◌+◌, ◌-◌, ◌*◌, ◌/◌, ◌%◌, ◌^◌, ◌<◌, ◌≤◌, ◌⊎◌, inl, inr, ap, sym, subst, ◌∙◌, arith, refl}
 use Rattle.std.specs.Int.Count.{count_leading_zeros, count_trailing_zeros, under}
 use Rattle.std.specs.Int.{trailing_ones, w128}
 use Rattle.std.proofs.Math.Pow.{pow_mono}
@@ -8,7 +8,7 @@ use Rattle.resources_ip_block.specs.resources_chain.Sets.{Run}
 use Rattle.resources_ip_prefix.specs.All.{last_address}
 use Rattle.resources_ip_prefix.specs.declared.prefix.Prefix.{Prefix}
 use Rattle.resources_ip_prefix.specs.Address.{bits_of}
-use Rattle.resources_ip_prefix.specs.Prefix.{prefix_addr, prefix_len, run_of_prefix}
+use Rattle.resources_ip_prefix.specs.Prefix.{prefix_addr, prefix_len}
 use Rattle.resources_ip_prefix.specs.Prefixes.{span_of, first_of, last_of}
 use Rattle.resources_ip_prefix.proofs.Spans.{clear_longer}
 use Rattle.resources_ip_block.specs.Cover.{IsFirst}

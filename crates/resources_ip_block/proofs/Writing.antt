@@ -43,7 +43,7 @@ wrote_of m run x (Err error) old new e h = h
 left : (m : Mode) (run : Run) (x : Choice2 (Primitive Prefix) RangeValue) (same : Type 0) (old new : Option (List ℕ)) → EncodesBlock run x → (error : EncodeError) → WriteRefused (BlockTrees m x) (BlockText m x) same old new error → WriteRefused (AreIpBlock m run) (WritesIpBlock m run) same old new error
 left m run x same old new e errors.CerUnsupported h = (cannot m run x e errors.CerUnsupported h.0, h.1)
 left m run x same old new e errors.TooLong h = (cannot m run x e errors.TooLong h.0, h.1)
-left m run x same old new e errors.Write h = record { text = h.text; is = text_of m run x e h.text h.is; taken = h.taken; others = h.others; whole = h.whole; appended = h.appended }
+left m run x same old new e errors.Write h = record { text = h.text; is = text_of m run x e h.text h.is; taken = h.taken; others = h.others; whole = h.whole; some = h.some; appended = h.appended }
 left m run x same old new e errors.Memory h = h
 
 pub write_refused : (m : Mode) (run : Run) (x : Choice2 (Primitive Prefix) RangeValue) (same : Type 0) (r : Result (Unit {0}) EncodeError) (old new : Option (List ℕ)) → EncodesBlock run x → IfErr r (WriteRefused (BlockTrees m x) (BlockText m x) same old new) → IfErr r (WriteRefused (AreIpBlock m run) (WritesIpBlock m run) same old new)

@@ -4,12 +4,14 @@ pub mod WholePrefix
 pub mod Spans
 pub mod Filled
 pub mod Values
+pub mod Stated
 pub mod Spelled
 pub mod Told
 pub mod WideLemmas
 pub mod of_bcder_bits
 pub mod of_bcder_content
 pub mod of_bcder_octets
+pub mod of_bcder_primitive
 pub mod of_resources_chain
 pub mod ReadLemmas
 pub mod of_resources_addr

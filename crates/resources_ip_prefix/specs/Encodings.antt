@@ -1,11 +1,11 @@
 -- Addresses and families in an encoding (RFC 3779 2.2.3).
-use Rattle.std.specs.Prelude.{ℕ, zero, suc, ◌+◌, ◌*◌, ◌^◌, ◌≤◌, List, [], ◌∷◌, length}
+use Rattle.std.specs.Prelude.{◌≡◌, ℕ, zero, suc, ◌+◌, ◌*◌, ◌^◌, ◌≤◌, List, [], ◌∷◌, length}
 use Rattle.resources_ip_prefix.specs.bcder_tree.declared.mode.Mode.{Mode}
 use Rattle.resources_ip_prefix.specs.bcder_tree.Tags.{TagValue}
 use Rattle.resources_ip_prefix.specs.bcder_tree.Strings.{IsString, octet_string_tag}
 use Rattle.resources_ip_prefix.specs.bcder_tree.Tree.{Tree}
-use Rattle.resources_ip_prefix.specs.bcder_bits.Bits.{BitsValue, bits}
-use Rattle.resources_ip_prefix.specs.bcder_bits.Contents.{IsBitString, bit_string_tag}
+use Rattle.resources_ip_prefix.specs.bcder_bits.Bits.{BitsValue, IsBits, bits}
+use Rattle.resources_ip_prefix.specs.bcder_bits.Contents.{IsBitString, IsPadded, bit_string_tag}
 use Rattle.resources_ip_prefix.specs.bcder_content.Grammar.{As, OctetsOf, Such}
 use Rattle.resources_ip_prefix.specs.declared.addr.AddressFamily.{AddressFamily}
 use Rattle.resources_ip_prefix.specs.declared.addr.AddressFamily.TheVariants.{Ipv4, Ipv6}
@@ -53,6 +53,18 @@ IsAddressIn family m tag = As (Such (OctetsOf tag (IsBitString m)) (FitsFamily f
 
 abbrev pub IsAddress : Mode → AddressFamily → Tree → FirstBits → Type 0
 IsAddress m family = IsAddressIn family m bit_string_tag
+
+-- So many bits at the end of octets may be unused, with the values that they have (X.690 8.6.2, 11.2.1).
+pub record AreUnused (m : Mode) (unused : ℕ) (octets : List ℕ) : Type 0 where
+  pub lawful : IsBits (record { unused = unused; octets = octets })
+  pub padded : IsPadded m (record { unused = unused; octets = octets })
+
+-- The content octets of such a BIT STRING, by the address that they state.
+pub record AreAddressOctets (family : AddressFamily) (m : Mode) (content : List ℕ) (b : FirstBits) : Type 0 where
+  pub value : BitsValue
+  pub is : IsBitString m content value
+  pub fits : FitsFamily family value
+  pub means : b ≡ told_by value
 
 -- A prefix, by its bits.
 abbrev pub prefix_bits : Prefix → FirstBits

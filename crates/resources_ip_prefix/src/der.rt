@@ -1,17 +1,19 @@
 //! Families and prefixes that are read from an encoding (RFC 3779 2.2.3.3, 2.2.3.8).
 
-ghost use Rattle.std.specs.Prelude.{◌≡◌, ◌≤◌, true, length, MatchOption, OnErr};
+ghost use Rattle.std.specs.Prelude.{◌≡◌, ◌↔◌, ◌%◌, ◌^◌, ◌<◌, ◌≤◌, true, length, IfNone, IfSome, IsTrue, OnErr};
 ghost use Rattle.resources_ip_prefix.specs.bcder_tree.Strings.{octet_string_tag};
-ghost use Rattle.resources_ip_prefix.specs.bcder_bits.Contents.{bit_string_tag};
+ghost use Rattle.resources_ip_prefix.specs.bcder_bits.Contents.{bit_string_tag, last_octet};
+ghost use Rattle.resources_ip_prefix.specs.bcder_primitive.Plain.{plain, ReadsOctetsAs};
 ghost use Rattle.resources_ip_prefix.specs.bcder_content.Exact.{ReadsAs, ReadsOptAs};
 ghost use Rattle.resources_ip_prefix.specs.bcder_content.Here.{here};
 ghost use Rattle.resources_ip_prefix.specs.bcder_content.Tagged.{ReadsTagged};
-ghost use Rattle.resources_ip_prefix.specs.Encodings.{FitsFamily, IsAddress, IsAddressIn, IsAnyFamily, IsFamily, IsFamilyIn, filled, prefix_bits, told_by};
+ghost use Rattle.resources_ip_prefix.specs.Encodings.{AreAddressOctets, AreUnused, FirstBits, IsAddress, IsAnyFamily, IsFamily, IsFamilyIn, filled, prefix_bits};
 
 use crate::addr::{Addr, AddressFamily};
 use crate::prefix::Prefix;
-use bcder::decode::{Constructed, Content, ContentError, DecodeError, Source};
-use bcder::{BitString, OctetString, Tag};
+use bcder::decode::whole::{front, pass, refuse, request_all};
+use bcder::decode::{Constructed, Content, ContentError, DecodeError, Primitive, Source};
+use bcder::{Mode, OctetString, Tag};
 use std::alloc::Global;
 
 // The family of the content of an OCTET STRING.
@@ -82,10 +84,9 @@ impl AddressFamily {
             (here S.rest cons.new) }
         ensures failed { OnErr result ((here S.rest cons.new).failed ≡ true) }
     {
-        match AddressFamily::take_opt_from(alloc, cons) {
-            Ok(Some(_)) => Ok(Some(())),
-            Ok(None) => Ok(None),
-            Err(error) => Err(error),
+        match AddressFamily::take_opt_from(alloc, cons)? {
+            Some(_) => Ok(Some(())),
+            None => Ok(None),
         }
     }
 }
@@ -102,15 +103,43 @@ fn filled_of(octets: &[u8]) -> u128
     (u128::from(*first) << 120) + (filled_of(rest) >> 8)
 }
 
-// The addresses that begin with the bits, if these are no more than an address of the family has.
-#[tactic(auto, using(crate::proofs::Filled::bits_counted, crate::proofs::Filled::bits_lawful))]
-fn prefix_of(family: AddressFamily, bits: &BitString) -> Option<Prefix>
-    ensures { MatchOption result (¬ (FitsFamily family bits.now))
-        (λ p. FitsFamily family bits.now × (prefix_bits p ≡ told_by bits.now)) }
+// Whether the unused bits of the last octet are zeros.
+fn is_clear(unused: u8, octets: &[u8]) -> bool
+    requires { unused < 8 }
+    ensures { IsTrue result ↔ (last_octet octets.now % 2 ^ unused ≡ 0) }
 {
-    let unused = bits.unused();
-    let octets = bits.octet_slice()?;
-    if octets.len() > 16 {
+    let Some((first, rest)) = octets.split_first() else {
+        return true;
+    };
+    if rest.is_empty() {
+        return *first % (1 << unused) == 0;
+    }
+    is_clear(unused, rest)
+}
+
+// Whether so many bits may be unused, with the values that they have (X.690 8.6.2, 11.2.1).
+fn are_unused(mode: Mode, unused: u8, octets: &[u8]) -> bool
+    ensures { IsTrue result ↔ AreUnused mode unused octets.now }
+{
+    if unused >= 8 || (octets.is_empty() && unused > 0) {
+        return false;
+    }
+    match mode {
+        Mode::Ber => true,
+        Mode::Cer | Mode::Der => is_clear(unused, octets),
+    }
+}
+
+// The prefix that content octets of a BIT STRING state: no more bits than an address of the family has.
+#[tactic(auto, using(crate::proofs::Filled::bits_counted, crate::proofs::Filled::bits_lawful))]
+fn stated(mode: Mode, family: AddressFamily, content: &[u8]) -> Option<Prefix>
+    ensures found { IfSome result (λ p. AreAddressOctets family mode content.now (prefix_bits p)) }
+    ensures none { IfNone result
+        ((b : FirstBits) → AreAddressOctets family mode content.now b → ⊥) }
+{
+    let (unused, octets) = content.split_first()?;
+    let unused = *unused;
+    if octets.len() > 16 || !are_unused(mode, unused, octets) {
         return None;
     }
     let len = 8 * octets.len() as u8 - unused;
@@ -120,24 +149,24 @@ fn prefix_of(family: AddressFamily, bits: &BitString) -> Option<Prefix>
     Some(Prefix::new(Addr::from_bits(filled_of(octets)), len))
 }
 
-// The prefix of the content of a BIT STRING.
-fn prefix_in<S: Source>(
-    alloc: Global,
+// The prefix of a content. No octet is copied, and no memory is taken.
+fn take_prefix<S: Source>(
     family: AddressFamily,
-    content: &mut Content<'_, S>,
+    prim: &mut Primitive<S>,
 ) -> Result<Prefix, DecodeError<S::Error>>
-    ensures { ReadsTagged S.rest prefix_bits (IsAddressIn family) content.old result content.new }
+    ensures reads { ReadsOctetsAs prefix_bits
+        (AreAddressOctets family (plain S.rest prim.old).mode) (plain S.rest prim.old) result
+        (plain S.rest prim.new) }
+    ensures failed { OnErr result ((plain S.rest prim.new).failed ≡ true) }
 {
-    let bits = BitString::from_content(alloc, content)?;
-    match prefix_of(family, &bits) {
-        Some(prefix) => Ok(prefix),
-        None => Err(prefix_too_long(content)),
+    let count = request_all(prim)?;
+    match stated(prim.mode, family, front(prim, count)) {
+        Some(prefix) => {
+            pass(prim, count);
+            Ok(prefix)
+        }
+        None => Err(refuse(prim, "no address prefix of the family")),
     }
-}
-
-// The refusal of more bits than an address has.
-fn prefix_too_long<S: Source>(content: &Content<'_, S>) -> DecodeError<S::Error> {
-    content.content_err(ContentError::from_static("a prefix that is too long"))
 }
 
 impl Prefix {
@@ -152,13 +181,7 @@ impl Prefix {
             (here S.rest cons.old) result (here S.rest cons.new) }
         ensures failed { OnErr result ((here S.rest cons.new).failed ≡ true) }
     {
-        cons.take_value_if(
-            Tag::BIT_STRING,
-            |content|
-                ensures { ReadsTagged S.rest prefix_bits (IsAddressIn family) content.old result
-                    content.new }
-            { prefix_in(alloc, family, content) },
-        )
+        cons.take_primitive_if(Tag::BIT_STRING, |prim| take_prefix(family, prim))
     }
 
     /// Reads a prefix where a BIT STRING is next; else nothing is read.
@@ -172,12 +195,6 @@ impl Prefix {
             (here S.rest cons.new) }
         ensures failed { OnErr result ((here S.rest cons.new).failed ≡ true) }
     {
-        cons.take_opt_value_if(
-            Tag::BIT_STRING,
-            |content|
-                ensures { ReadsTagged S.rest prefix_bits (IsAddressIn family) content.old result
-                    content.new }
-            { prefix_in(alloc, family, content) },
-        )
+        cons.take_opt_primitive_if(Tag::BIT_STRING, |prim| take_prefix(family, prim))
     }
 }

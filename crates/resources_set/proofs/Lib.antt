@@ -1,6 +1,6 @@
-pub mod Whole
+pub mod FamilyLemmas
+pub mod Joined
 pub mod Changing
-pub mod Together
 pub mod Texts
 pub mod of_resources_as
 pub mod of_resources_chain

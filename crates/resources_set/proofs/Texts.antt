@@ -6,7 +6,13 @@ use Rattle.resources_set.specs.resources_chain.Same.{one_answer}
 use Rattle.resources_set.specs.Equal.{all_three}
 use Rattle.resources_set.specs.Resources.{Resources, Changes, HasNone, IsNone}
 use Rattle.resources_set.specs.Texts.{no_run, no_runs, kind_text, kinds_text, changes_text}
-use Rattle.resources_set.proofs.Together.{each_tells}
+
+-- What is said of each kind, together.
+each_tells : {r a b c : Bool} {P Q R : Type 0} → (IsTrue r ↔ (IsTrue a × IsTrue b × IsTrue c)) → (IsTrue a ↔ P) → (IsTrue b ↔ Q) → (IsTrue c ↔ R) → IsTrue r ↔ (P × Q × R)
+each_tells all p q s = (
+  λ t. let each = all.0 t in (p.0 each.0, q.0 each.1, s.0 each.2),
+  λ x. all.1 (p.1 x.0, q.1 x.1, s.1 x.2),
+)
 
 -- A set without numbers has no run.
 no_run_tells : (runs : List Run) → AreMaximal runs → IsTrue (no_run runs) ↔ IsNone runs

@@ -1,3 +1,3 @@
 -- Lemmas of resources_ip, for the crates above.
-pub use Rattle.resources_ip_family.proofs.of_resources_ip.Meaning
-pub use Rattle.resources_ip_family.proofs.of_resources_ip.Mentioned
+pub use Rattle.resources_ip.proofs.Meaning
+pub use Rattle.resources_ip.proofs.Mentioned

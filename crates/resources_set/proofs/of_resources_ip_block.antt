@@ -1,2 +1,2 @@
 -- Lemmas of resources_ip_block, for the crates above.
-pub use Rattle.resources_ip_family.proofs.of_resources_ip_block.Blocks
+pub use Rattle.resources_ip.proofs.of_resources_ip_block.Blocks

@@ -8,9 +8,9 @@ ghost use Rattle.resources_set.specs.resources_ip.Texts.{ip_set_text};
 ghost use Rattle.resources_set.specs.Resources.{HasNone};
 ghost use Rattle.resources_set.specs.Texts.{changes_text, kind_text, kinds_text, no_runs};
 
+use crate::family::blocks::{Ipv4Blocks, Ipv6Blocks};
 use crate::set::ResourceSet;
 use resources_as::AsBlocks;
-use resources_ip_family::{Ipv4Blocks, Ipv6Blocks};
 use std::fmt;
 use std::marker::Model;
 
@@ -55,17 +55,8 @@ impl ResourceDiff {
     pub fn is_empty(&self) -> bool
         ensures { IsTrue result ↔ (HasNone self.now.added × HasNone self.now.removed) }
     {
-        let added = self.added.is_empty();
-        let removed = self.removed.is_empty();
-        are_both(added, removed)
+        self.added.is_empty() && self.removed.is_empty()
     }
-}
-
-// Whether it is so of both.
-fn are_both(added: bool, removed: bool) -> bool
-    ensures { IsTrue result ↔ (IsTrue added × IsTrue removed) }
-{
-    matches!((added, removed), (true, true))
 }
 
 // The AS numbers after their name, where there are some.

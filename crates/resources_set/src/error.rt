@@ -1,7 +1,7 @@
 //! Why there is no set of resources.
 
 use resources_as::InheritedAsResources;
-use resources_ip_family::InheritedIpResources;
+use resources_ip::InheritedIpResources;
 use std::alloc::AllocError;
 use thiserror::Error;
 
@@ -13,10 +13,10 @@ pub enum FromStrError {
     Asn(resources_as::FromStrError),
     /// The second is no set of IPv4 addresses.
     #[error("cannot parse IPv4 resources: {0}")]
-    Ipv4(resources_ip_family::FromStrError),
+    Ipv4(resources_ip::FromStrError),
     /// The third is no set of IPv6 addresses.
     #[error("cannot parse IPv6 resources: {0}")]
-    Ipv6(resources_ip_family::FromStrError),
+    Ipv6(resources_ip::FromStrError),
     /// A growth of memory was refused.
     #[error("out of memory")]
     Memory,

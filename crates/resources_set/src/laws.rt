@@ -5,8 +5,6 @@ ghost use Rattle.resources_set.specs.Resources.{Resources, Changes, AreChanges};
 ghost use Rattle.resources_set.specs.Laws.{LeadsTo};
 ghost use Rattle.resources_set.specs.Texts.{AreTextsOf};
 
-use resources_ip_family::resources_ip;
-
 /// What was there before, without what was removed and with what was added, is what is there now.
 pub fn changes_lead_from_one_to_the_other()
     ensures { (now before : Resources) (d : Changes) → AreChanges now before d

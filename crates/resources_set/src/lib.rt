@@ -1,4 +1,5 @@
-//! Sets of resources of all three kinds: AS numbers, and addresses of IPv4 and of IPv6.
+//! Sets of resources of all three kinds: AS numbers, and addresses of IPv4 and of IPv6; blocks and sets of addresses of
+//! one family (RFC 3779 section 2).
 //!
 //! What differs from the Rust crate: what takes memory is given an allocator and answers a `Result`; a set is made
 //! from the resources of a certificate by `ResourceSet::from_resources`; a difference lends what was added and what
@@ -7,16 +8,17 @@
 
 pub mod diff;
 pub mod error;
-mod families;
+pub mod family;
 pub mod laws;
 pub mod set;
 
 pub use diff::ResourceDiff;
 pub use error::{FromStrError, InheritError};
+pub use family::{
+    Family, FamilyBlock, FamilyBlocks, Ipv4Block, Ipv4Blocks, Ipv6Block, Ipv6Blocks, V4, V6,
+};
 pub use resources_as;
 pub use resources_as::Origin;
-pub use resources_ip_family::{
-    Ipv4Block, Ipv4Blocks, Ipv6Block, Ipv6Blocks, OverclaimedIpv6Resources, RangeEncoder,
-    resources_ip,
-};
+pub use resources_ip;
+pub use resources_ip::{OverclaimedIpv6Resources, RangeEncoder};
 pub use set::ResourceSet;

@@ -17,11 +17,10 @@ ghost use Rattle.resources_set.specs.declared.error.FromStrError.TheVariants.{Me
 
 use crate::diff::ResourceDiff;
 use crate::error::{FromStrError, InheritError};
-use crate::families::{
-    difference_v4, difference_v6, intersection_v4, intersection_v6, union_v4, union_v6,
-};
+use crate::family::blocks::{Ipv4Blocks, Ipv6Blocks};
+use crate::family::joined::{difference, intersection, union};
 use resources_as::{AsBlocks, AsResources};
-use resources_ip_family::{IpResources, Ipv4Blocks, Ipv6Blocks};
+use resources_ip::IpResources;
 use std::alloc::{AllocError, Global};
 use std::fmt;
 use std::marker::Model;
@@ -126,10 +125,7 @@ impl ResourceSet {
     pub fn is_empty(&self) -> bool
         ensures { IsTrue result ↔ HasNone self.now }
     {
-        let asn = self.asn.is_empty();
-        let ipv4 = self.ipv4.as_blocks().is_empty();
-        let ipv6 = self.ipv6.as_blocks().is_empty();
-        are_all(asn, ipv4, ipv6)
+        self.asn.is_empty() && self.ipv4.as_blocks().is_empty() && self.ipv6.as_blocks().is_empty()
     }
 
     /// Sets the AS numbers.
@@ -203,10 +199,9 @@ impl ResourceSet {
     pub fn contains(&self, other: &ResourceSet) -> bool
         ensures { IsTrue result ↔ AreInside other.now self.now }
     {
-        let asn = self.asn.contains(&other.asn);
-        let ipv4 = self.ipv4.as_blocks().contains(other.ipv4.as_blocks());
-        let ipv6 = self.ipv6.as_blocks().contains(other.ipv6.as_blocks());
-        are_all(asn, ipv4, ipv6)
+        self.asn.contains(&other.asn)
+            && self.ipv4.as_blocks().contains(other.ipv4.as_blocks())
+            && self.ipv6.as_blocks().contains(other.ipv6.as_blocks())
     }
 
     /// The AS numbers and addresses of either set.
@@ -215,8 +210,8 @@ impl ResourceSet {
     {
         Ok(ResourceSet {
             asn: self.asn.union(alloc, &other.asn)?,
-            ipv4: union_v4(alloc, &self.ipv4, &other.ipv4)?,
-            ipv6: union_v6(alloc, &self.ipv6, &other.ipv6)?,
+            ipv4: union(alloc, &self.ipv4, &other.ipv4)?,
+            ipv6: union(alloc, &self.ipv6, &other.ipv6)?,
         })
     }
 
@@ -230,8 +225,8 @@ impl ResourceSet {
     {
         Ok(ResourceSet {
             asn: self.asn.intersection(alloc, &other.asn)?,
-            ipv4: intersection_v4(alloc, &self.ipv4, &other.ipv4)?,
-            ipv6: intersection_v6(alloc, &self.ipv6, &other.ipv6)?,
+            ipv4: intersection(alloc, &self.ipv4, &other.ipv4)?,
+            ipv6: intersection(alloc, &self.ipv6, &other.ipv6)?,
         })
     }
 
@@ -250,8 +245,8 @@ impl ResourceSet {
     {
         Ok(ResourceSet {
             asn: self.asn.difference(alloc, &other.asn)?,
-            ipv4: difference_v4(alloc, &self.ipv4, &other.ipv4)?,
-            ipv6: difference_v6(alloc, &self.ipv6, &other.ipv6)?,
+            ipv4: difference(alloc, &self.ipv4, &other.ipv4)?,
+            ipv6: difference(alloc, &self.ipv6, &other.ipv6)?,
         })
     }
 }
@@ -285,13 +280,6 @@ fn read_texts(alloc: Global, asn: &str, ipv4: &str, ipv6: &str) -> Result<Resour
         return Err(FromStrError::Memory);
     };
     Ok(ResourceSet { asn, ipv4, ipv6 })
-}
-
-// Whether it is so of each kind.
-pub(crate) fn are_all(asn: bool, ipv4: bool, ipv6: bool) -> bool
-    ensures { IsTrue result ↔ (IsTrue asn × IsTrue ipv4 × IsTrue ipv6) }
-{
-    matches!((asn, ipv4, ipv6), (true, true, true))
 }
 
 impl Default for ResourceSet {
@@ -328,10 +316,7 @@ impl PartialEq for ResourceSet {
         ensures value { result ≡ sets_eq self.now other.now }
         ensures set { IsTrue result ↔ HaveSame self.now other.now }
     {
-        let asn = self.asn == other.asn;
-        let ipv4 = self.ipv4 == other.ipv4;
-        let ipv6 = self.ipv6 == other.ipv6;
-        are_all(asn, ipv4, ipv6)
+        self.asn == other.asn && self.ipv4 == other.ipv4 && self.ipv6 == other.ipv6
     }
 }
 

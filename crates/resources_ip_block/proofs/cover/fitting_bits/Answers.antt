@@ -1,4 +1,4 @@
-use Rattle.std.proofs.Common.{◌≡◌, ◌≤◌, ◌<◌, ◌+◌, ◌^◌, ℕ, arith}
+use Rattle.std.proofs.Common.{arith}
 use Rattle.resources_ip_block.proofs.Counting.{highest}
 use Rattle.resources_ip_block.proofs.cover.fitting_bits.Goals as goal
 

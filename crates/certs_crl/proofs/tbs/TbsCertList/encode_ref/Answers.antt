@@ -1,11 +1,15 @@
-use Rattle.std.proofs.Common.{refl, subst}
+use Rattle.std.proofs.Common.{◌≡◌, [], refl, subst, sym}
+use Rattle.certs_crl.specs.bcder_tree.declared.mode.Mode.TheVariants.{Der}
+use Rattle.certs_revoked.specs.bcder_written.Encoded.{WritesWrapped}
+use Rattle.certs_revoked.specs.bcder_values.Captures.{CapturedText}
 use Rattle.certs_revoked.specs.certs_specs.CrlText.{TbsListValue}
 use Rattle.certs_crl.specs.Written.{WritesTbsList}
+use Rattle.certs_crl.proofs.Alone.{alone_written, none_back}
 use Rattle.certs_crl.proofs.Writing.{list_as, revoked_as}
 use Rattle.certs_crl.proofs.tbs.TbsCertList.encode_ref.Goals as goal
 
-pub returns : goal.returns
-returns c = λ m text w.
+pub returns-clause-writes : goal.returns-clause-writes
+returns-clause-writes c = λ m text w.
     let list : TbsListValue = record {
       has_null = c.self.inside.signature;
       issuer = c.self.inside.issuer;
@@ -20,3 +24,20 @@ returns c = λ m text w.
     c.x509_encode-signature.ensures c.name_of-issuer.ensures.same c.encode_varied-this_update.ensures c.encode_varied-next_update.ensures
     (λ part h. revoked_as (λ v. v.tag) (λ v. v.inner.now) list.revoked m part c.encode_ref-revoked.result c.encode_ref-revoked.ensures.none c.encode_ref-revoked.ensures.tag c.encode_ref-revoked.ensures.octets h)
     (λ part h. c.extensions-extensions.ensures.writes m part h) w)
+
+pub returns-clause-alone : goal.returns-clause-alone
+returns-clause-alone c = λ none text w.
+    let list : TbsListValue = record {
+      has_null = c.self.inside.signature;
+      issuer = c.self.inside.issuer;
+      this_update = c.self.inside.this_update;
+      next_update = c.self.inside.next_update;
+      revoked = c.self.inside.revoked_certs;
+      authority_key_identifier = c.self.inside.authority_key_id;
+      number = c.self.inside.crl_number;
+    } in
+    let no_entries : list.revoked ≡ [] = subst (λ (z : TbsListValue). z.revoked ≡ []) (sym c.self.view_is) none in
+    alone_written list refl c.encode-version.ensures.tag c.encode-version.ensures.content c.x509_encode-signature.ensures c.name_of-issuer.ensures.same
+    c.encode_varied-this_update.ensures c.encode_varied-next_update.ensures
+    (none_back (λ v. WritesWrapped Der v.tag (CapturedText v.inner.now Der)) c.encode_ref-revoked.result c.encode_ref-revoked.ensures.some no_entries)
+    (λ part h. c.extensions-extensions.ensures.whole Der part h) text (subst (λ (z : TbsListValue). WritesTbsList z Der text) (sym c.self.view_is) w)

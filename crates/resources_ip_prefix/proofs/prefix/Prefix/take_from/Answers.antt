@@ -1,6 +1,8 @@
-use Rattle.resources_ip_prefix.proofs.of_bcder_content.Tagged.{exact_tagged}
-use Rattle.resources_ip_prefix.proofs.Values.{address_has_tag}
+use Rattle.std.proofs.Common.{rules}
+use Rattle.resources_ip_prefix.proofs.of_bcder_content.Inside.{exact_octets}
+use Rattle.resources_ip_prefix.proofs.Stated.{address_read}
+use Rattle.resources_ip_prefix.specs.Encodings.{prefix_bits}
 use Rattle.resources_ip_prefix.proofs.prefix.Prefix.take_from.Goals as goal
 
 pub returns-clause-reads : goal.returns-clause-reads
-returns-clause-reads g c = exact_tagged (address_has_tag c.args.family) (record { each = λ form tag v r w met. record { old = met.0.now; new = met.1.now; before = met.2; behind = met.3; form_is = met.4; reads = met.5.reads } }) c.take_value_if.ensures.taken
+returns-clause-reads g c = address_read prefix_bits c.args.family _ _ _ _ (exact_octets (record { each = λ p q r mode m. search rules }) c.take_primitive_if.ensures.ran)

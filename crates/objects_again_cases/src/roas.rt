@@ -1,0 +1,38 @@
+//! Questions about the addresses of route origin attestations.
+
+use crate::answers::{Answer, unknown};
+use anyhow::Result;
+use bcder::Mode;
+use objects_kinds::Roa;
+use objects_written::EncodeAddresses;
+use std::alloc::Global;
+
+// What is written of addresses of one family.
+fn written<T: EncodeAddresses>(alloc: Global, answer: &mut Answer, addresses: &T) {
+    let value = addresses.encode_ref();
+    answer.say_written(alloc, &value, Mode::Der);
+    drop(value);
+}
+
+// What is written of the addresses of IPv4, and of those of IPv6.
+fn both(alloc: Global, answer: &mut Answer, object: &Roa) {
+    let content = object.content();
+    written(alloc, answer, content.v4_addrs());
+    written(alloc, answer, content.v6_addrs());
+}
+
+/// The addresses of an attestation that is read, written.
+pub fn addresses(alloc: Global, answer: &mut Answer, words: &[&str]) -> Result<()> {
+    let [digits] = words else {
+        return unknown();
+    };
+    let octets = hex::decode(alloc, *digits)?;
+    match Roa::decode(alloc, octets.as_slice(), true) {
+        Ok(object) => {
+            both(alloc, answer, &object);
+            drop(object);
+        }
+        Err(error) => answer.refuse(error),
+    }
+    Ok(())
+}

@@ -1,3 +1,0 @@
-pub mod FamilyLemmas
-pub mod of_resources_ip
-pub mod of_resources_ip_block

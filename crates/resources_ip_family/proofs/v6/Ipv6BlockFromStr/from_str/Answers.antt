@@ -1,5 +1,0 @@
-use Rattle.std.proofs.lemmas.Result.{err_from_is_err_and}
-use Rattle.resources_ip_family.proofs.v6.Ipv6BlockFromStr.from_str.Goals as goal
-
-pub returns-in_err-block : goal.returns-in_err-block
-returns-in_err-block c = let p = err_from_is_err_and c.from_residual.result c.from_residual.ensures.1 in rw (p.1, p.2) c.in_err-block.ensures

@@ -1,0 +1,23 @@
+-- What blocks and sets of one family promise.
+use Rattle.std.specs.Prelude.{List}
+use Rattle.resources_set.specs.resources_chain.Sets.{Run}
+use Rattle.resources_set.specs.resources_chain.Claims.{Choice}
+use Rattle.resources_set.specs.resources_ip_prefix.declared.addr.AddressFamily.{AddressFamily}
+use Rattle.resources_set.specs.resources_ip_prefix.declared.addr.AddressFamily.TheVariants.{Ipv4, Ipv6}
+use Rattle.resources_set.specs.resources_ip_prefix.Whole.{IsWhole}
+use Rattle.resources_set.specs.resources_ip.WholeSets.{AreWhole, ListsWhole}
+
+-- A block of IPv4 is over whole addresses.
+abbrev pub FitsBlock : AddressFamily → Run → Type 0
+FitsBlock Ipv4 run = IsWhole run
+FitsBlock Ipv6 run = Unit {0}
+
+-- So is a set of IPv4.
+abbrev pub FitsBlocks : AddressFamily → List Run → Type 0
+FitsBlocks Ipv4 runs = AreWhole runs
+FitsBlocks Ipv6 runs = Unit {0}
+
+-- And what a certificate lists of IPv4.
+abbrev pub FitsListed : AddressFamily → Choice → Type 0
+FitsListed Ipv4 choice = ListsWhole choice
+FitsListed Ipv6 choice = Unit {0}
