@@ -170,6 +170,11 @@ def asn_facts(number):
     return [asn(number), number, number, *number.to_bytes(4, "big"), asn(number), asn(number)]
 
 
+def are_new(there, others):
+    """Whether each number is new, as it is added after those before it."""
+    return [number not in there | set(others[:i]) for i, number in enumerate(others)]
+
+
 def asns(q):
     numbers = [0, 1, 255, 256, 64496, 0x01020304, 2**31, LAST - 1, LAST] + [rng.randrange(2**32) for _ in range(20)]
     for number in numbers:
@@ -190,6 +195,7 @@ def asns(q):
             q.ask([part for some in (a | b, a & b, a - b, a ^ b) for part in [*map(asn, sorted(some)), ";"]], "asn", "sets", *texts)
             each = [*map(asn, sorted(a)), ";"]
             q.ask([len(a), not a, *each, *each, *(number in a for number in sorted(b))], "asn", "members", *texts)
+            q.ask([len(a), *each, *are_new(a, other), *map(asn, sorted(a | b)), ";"], "asn", "added", *texts)
     q.ask([0, True, False, "AS0", "AS7", asn(LAST), ";"], "asn", "sorted")
 
 

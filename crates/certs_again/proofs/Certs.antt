@@ -19,6 +19,7 @@ use Rattle.certs_built.specs.certs_specs.Spellings.{CertIsSpelled}
 use Rattle.certs_again.specs.Laws.{BuiltIsRead, BuiltIsSpelled, ReadIsBuilt, as_read}
 use Rattle.certs_again.proofs.Ext.{one_of_all}
 use Rattle.certs_again.proofs.Readable.{all_used}
+use Rattle.certs_again.proofs.ValuesRead.{ResourcesAreRead}
 use Rattle.certs_again.proofs.Whole.{algorithm_read, fields_are_read, last_read, only_tree, then_read}
 
 -- What was signed, which is kept in DER, is one value: the fields.
@@ -60,17 +61,17 @@ cert_read s c fields ts p =
       };
     }
 
-pub built_is_spelled : CertIsSpelled → BuiltIsSpelled
-built_is_spelled spelled s c text lawful readable built =
+pub built_is_spelled : ResourcesAreRead → CertIsSpelled → BuiltIsSpelled
+built_is_spelled reads spelled s c text lawful readable built =
     let w = signed.spelled (signed_fields s) Der text built.written in
-    let fields = fields_are_read c s.message.octets lawful readable built.message in
+    let fields = fields_are_read reads c s.message.octets lawful readable built.message in
     let a = cert_read s c fields w.trees w.is in
     let one = one_of_all text a.alone w.spelled in
     (spelled a.tree text (as_read s c) one).0 a.is
 
-pub built_is_read : CertIsSpelled → BuiltIsRead
-built_is_read spelled s c text lawful readable built =
-    record { text = text; rest = []; whole = sym (append-nil text); is = built_is_spelled spelled s c text lawful readable built }
+pub built_is_read : ResourcesAreRead → CertIsSpelled → BuiltIsRead
+built_is_read reads spelled s c text lawful readable built =
+    record { text = text; rest = []; whole = sym (append-nil text); is = built_is_spelled reads spelled s c text lawful readable built }
 
 -- It is the certificate that was built, where all bits of the signature are used.
 pub read_is_built : ReadIsBuilt

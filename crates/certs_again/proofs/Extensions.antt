@@ -25,7 +25,7 @@ use Rattle.certs_built.specs.Tbs.{extensions, key_parts, place_parts, resource_p
 use Rattle.certs_again.proofs.Access.{many_both, many_end}
 use Rattle.certs_again.proofs.Items.{all_known, flat, flat_append, item, of_none, of_only, there}
 use Rattle.certs_again.proofs.Listed as listed
-use Rattle.certs_again.proofs.ValuesRead.{authority_key_read, constraints_read, crl_read, issuer_read, policies_read, purposes_read, subject_key_read, usage_read}
+use Rattle.certs_again.proofs.ValuesRead.{ResourcesAreRead, authority_key_read, constraints_read, crl_read, issuer_read, policies_read, purposes_read, subject_key_read, usage_read}
 
 basic_identifies : IsIdentifier id.basic_constraints
 basic_identifies = record { front = 85 ∷ 29 ∷ []; last = 19; whole = refl; ends = omega arith }
@@ -155,13 +155,13 @@ record ReadsResources (c : TbsValue) (ts : Trees) : Type 0 where
   many : ManyCases (IsExtension Der) ts
       (there id.certificate_policies true policy ++ (there (ip_octets c.overclaim) true ip ++ (there (as_octets c.overclaim) true asn ++ [])))
 
-resources_read : (c : TbsValue) → IsLawful c → IsReadable c → (ts : Trees) → (written_resources (resource_parts c)).trees Der ts → ReadsResources c ts
-resources_read c lawful readable ts p =
+resources_read : ResourcesAreRead → (c : TbsValue) → IsLawful c → IsReadable c → (ts : Trees) → (written_resources (resource_parts c)).trees Der ts → ReadsResources c ts
+resources_read reads c lawful readable ts p =
     let q = p.is_second in
     let policy = listed.one_read id.certificate_policies true Must values.policies (Some c.overclaim) refl policies_identifies (λ x e. policies_read x) p.first p.is_first in
     let ip = listed.one_read (ip_octets c.overclaim) true May values.addresses (said_families (says_any (both c.v4 c.v6)) (both c.v4 c.v6)) tt (ip_identifies c.overclaim)
-    (listed.ip_reads c.v4 c.v6 (lawful.v4 readable.whole) lawful.v6) q.first q.is_first in
-    let asn = listed.one_read (as_octets c.overclaim) true May values.asns (said_numbers c.asn) tt (asn_identifies c.overclaim) (listed.asn_reads c.asn lawful.asn) q.second q.is_second in
+    (listed.ip_reads reads.families c.v4 c.v6 (lawful.v4 readable.whole) lawful.v6) q.first q.is_first in
+    let asn = listed.one_read (as_octets c.overclaim) true May values.asns (said_numbers c.asn) tt (asn_identifies c.overclaim) (listed.asn_reads reads.numbers c.asn lawful.asn) q.second q.is_second in
     let of_asn : List Extension = there (as_octets c.overclaim) true asn.found ++ [] in
     let of_ip : List Extension = there (ip_octets c.overclaim) true ip.found ++ of_asn in
     record {
@@ -194,13 +194,13 @@ some_there c ips asns readable p q = elim readable.some [
   ]
 ]
 
-pub extensions_read : (c : TbsValue) → IsLawful c → IsReadable c → (ts : Trees) → (extensions c).trees Der ts → ReadsAllOf c ts
-extensions_read c lawful readable ts p =
+pub extensions_read : ResourcesAreRead → (c : TbsValue) → IsLawful c → IsReadable c → (ts : Trees) → (extensions c).trees Der ts → ReadsAllOf c ts
+extensions_read reads c lawful readable ts p =
     let v = c.overclaim in
     let k = keys_read c lawful readable p.first p.is_first in
     let q = p.is_second in
     let n = places_read c lawful q.first q.is_first in
-    let r = resources_read c lawful readable q.second q.is_second in
+    let r = resources_read reads c lawful readable q.second q.is_second in
     let f : listed.Found = record {
       basic = k.basic;
       subject = k.subject;

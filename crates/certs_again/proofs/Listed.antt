@@ -29,7 +29,7 @@ use Rattle.certs_again.specs.Laws.{AreAccessUris}
 use Rattle.certs_again.proofs.Access.{access_read}
 use Rattle.certs_again.proofs.Ext.{extension_read}
 use Rattle.certs_again.proofs.Items.{Item, item, items_of, there}
-use Rattle.certs_again.proofs.ValuesRead.{addresses_read, asns_read}
+use Rattle.certs_again.proofs.ValuesRead.{FamiliesAreRead, NumbersAreRead, addresses_read, asns_read}
 
 -- An extension that may be there: the octets of its value, if it is, and what they say.
 pub record ReadsOne {A : Type 0} (kind : List ℕ) (critical : Bool) (need : Need) (Q : Tree → A → Type 0) (o : Option A) (ts : Trees) : Type 0 where
@@ -240,11 +240,11 @@ none_there Missing (Blocks runs) e = let t : true ≡ false = e in absurd cc
 none_there Inherit v6 e = let t : true ≡ false = e in absurd cc
 none_there (Blocks runs) v6 e = let t : true ≡ false = e in absurd cc
 
-pub ip_reads : (v4 v6 : Choice) → FitsChoice Ipv4 v4 → FitsChoice Ipv6 v6 → (x : FamilyChoices) → said_families (says_any (both v4 v6)) (both v4 v6) ≡ Some x → IsReadAs (IsIpAddrBlocks Der) x (values.addresses x)
-ip_reads v4 v6 fit_v4 fit_v6 x e = at (says_any (both v4 v6)) refl e
+pub ip_reads : FamiliesAreRead → (v4 v6 : Choice) → FitsChoice Ipv4 v4 → FitsChoice Ipv6 v6 → (x : FamilyChoices) → said_families (says_any (both v4 v6)) (both v4 v6) ≡ Some x → IsReadAs (IsIpAddrBlocks Der) x (values.addresses x)
+ip_reads families v4 v6 fit_v4 fit_v6 x e = at (says_any (both v4 v6)) refl e
   where
     at : (b : Bool) → says_any (both v4 v6) ≡ b → said_families b (both v4 v6) ≡ Some x → IsReadAs (IsIpAddrBlocks Der) x (values.addresses x)
-    at true some e = subst (λ (z : FamilyChoices). IsReadAs (IsIpAddrBlocks Der) z (values.addresses z)) (same_some e) (addresses_read v4 v6 fit_v4 fit_v6 (any_there v4 v6 some))
+    at true some e = subst (λ (z : FamilyChoices). IsReadAs (IsIpAddrBlocks Der) z (values.addresses z)) (same_some e) (addresses_read families v4 v6 fit_v4 fit_v6 (any_there v4 v6 some))
     at false missing e = absurd (none_some e)
 
 pub ip_says : (v4 v6 : Choice) (es : List Extension) → IsOptional May (IsIpAddrBlocks Der) es (said_families (says_any (both v4 v6)) (both v4 v6)) → AreIpResources es v4 v6
@@ -267,10 +267,10 @@ ip_some v4 v6 [] p some = λ e. at (says_any (both v4 v6)) refl p
 ip_some v4 v6 (x ∷ es) p some = λ e. cc
 
 -- AS resources, which are there where they aren't missing.
-pub asn_reads : (choice : Choice) → HasMaximal choice → (x : Choice) → said_numbers choice ≡ Some x → IsReadAs IsAsResources x (values.asns x)
-asn_reads Missing maximal x e = absurd (none_some e)
-asn_reads Inherit maximal x e = subst (λ (z : Choice). IsReadAs IsAsResources z (values.asns z)) (same_some e) (asns_read Inherit maximal (λ h. cc))
-asn_reads (Blocks runs) maximal x e = subst (λ (z : Choice). IsReadAs IsAsResources z (values.asns z)) (same_some e) (asns_read (Blocks runs) maximal (λ h. cc))
+pub asn_reads : NumbersAreRead → (choice : Choice) → HasMaximal choice → (x : Choice) → said_numbers choice ≡ Some x → IsReadAs IsAsResources x (values.asns x)
+asn_reads numbers Missing maximal x e = absurd (none_some e)
+asn_reads numbers Inherit maximal x e = subst (λ (z : Choice). IsReadAs IsAsResources z (values.asns z)) (same_some e) (asns_read numbers Inherit maximal (λ h. cc))
+asn_reads numbers (Blocks runs) maximal x e = subst (λ (z : Choice). IsReadAs IsAsResources z (values.asns z)) (same_some e) (asns_read numbers (Blocks runs) maximal (λ h. cc))
 
 pub asn_says : (choice : Choice) (es : List Extension) → IsOptional May IsAsResources es (said_numbers choice) → AreAsResources es choice
 asn_says Missing [] p = refl

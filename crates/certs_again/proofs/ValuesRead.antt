@@ -2,6 +2,7 @@
 use Rattle.std.proofs.Common.{◌≡◌, ◌≢◌, inl, ℕ, Bool, true, false, List, [], ◌∷◌, map, refl, sym, ap, ◌∙◌, subst, arith}
 use Rattle.std.specs.Option.{unwrap_or}
 use Rattle.std.proofs.lemmas.List.Elements.{All-weaker}
+use Rattle.certs_built.specs.bcder_tree.declared.mode.Mode.{Mode}
 use Rattle.certs_built.specs.bcder_tree.declared.mode.Mode.TheVariants.{Der}
 use Rattle.certs_built.specs.bcder_tree.Strings.{IsIa5}
 use Rattle.certs_built.specs.bcder_tree.Tags.{TagValue, context, boolean_tag, octet_string_tag, sequence_tag}
@@ -26,17 +27,15 @@ use Rattle.certs_uri.proofs.PathUris.{IsUri-plain}
 use Rattle.certs_uri.proofs.of_bcder_strings.Ascii.{ascii_text}
 use Rattle.certs_uri.proofs.of_bcder_octets.Written.{written_string}
 use Rattle.certs_built.specs.resources_as.Encodings.{IsAsResources}
-use Rattle.certs_built.specs.resources_as.Written.{HasMaximal}
-use Rattle.certs_written.proofs.of_resources_as.Again.{means_just}
+use Rattle.certs_built.specs.resources_as.Written.{AreAsResources, HasMaximal, MeansJust}
 use Rattle.certs_built.specs.resources_chain.Claims.{Choice}
 use Rattle.certs_built.specs.resources_chain.declared.choice.ResourcesChoice.TheVariants.{Missing}
 use Rattle.certs_built.specs.resources_chain.declared.claims.Overclaim.{Overclaim}
 use Rattle.certs_built.specs.resources_chain.declared.claims.Overclaim.TheVariants.{Refuse, Trim}
 use Rattle.certs_built.specs.resources_ip.Encodings.{IsIpAddrBlocks}
 use Rattle.certs_built.specs.resources_ip.Written.{FitsChoice}
-use Rattle.certs_built.specs.resources_ip.WrittenFamilies.{both}
+use Rattle.certs_built.specs.resources_ip.WrittenFamilies.{FamiliesTrees, ReadsFamilies, both}
 use Rattle.certs_built.specs.resources_ip.resources_ip_prefix.declared.addr.AddressFamily.TheVariants.{Ipv4, Ipv6}
-use Rattle.resources_ip.proofs.BothFamilies.{families_again}
 use Rattle.certs_built.specs.resources_policy.Identifiers.{policy_octets}
 use Rattle.certs_built.specs.certs_written.certs_extension.Usages.{usage_octets}
 use Rattle.certs_written.specs.Outputs.{IsReadAs, Output, inside}
@@ -228,13 +227,25 @@ policies_read policy ts p =
       };
     }
 
--- Resources.
-pub addresses_read : (v4 v6 : Choice) → FitsChoice Ipv4 v4 → FitsChoice Ipv6 v6 → ¬ ((v4 ≡ Missing) × (v6 ≡ Missing)) → IsReadAs (IsIpAddrBlocks Der) (both v4 v6) (values.addresses (both v4 v6))
-addresses_read v4 v6 fit_v4 fit_v6 some ts p =
-    let a = families_again Der v4 v6 ts fit_v4 fit_v6 some p in
+-- What is written of resources is read again as the same: of both families of addresses (RFC 3779 2.2.3), and of AS numbers
+-- (3.2.3).
+abbrev pub FamiliesAreRead : Type 0
+FamiliesAreRead =
+    (m : Mode) (v4 v6 : Choice) (ts : Trees) → FitsChoice Ipv4 v4 → FitsChoice Ipv6 v6 → ¬ ((v4 ≡ Missing) × (v6 ≡ Missing)) → FamiliesTrees m (both v4 v6) ts → ReadsFamilies m (both v4 v6) ts
+
+abbrev pub NumbersAreRead : Type 0
+NumbersAreRead = (choice : Choice) (ts : Trees) → HasMaximal choice → choice ≢ Missing → AreAsResources choice ts → MeansJust choice ts
+
+pub record ResourcesAreRead : Type 0 where
+  pub families : FamiliesAreRead
+  pub numbers : NumbersAreRead
+
+pub addresses_read : FamiliesAreRead → (v4 v6 : Choice) → FitsChoice Ipv4 v4 → FitsChoice Ipv6 v6 → ¬ ((v4 ≡ Missing) × (v6 ≡ Missing)) → IsReadAs (IsIpAddrBlocks Der) (both v4 v6) (values.addresses (both v4 v6))
+addresses_read families v4 v6 fit_v4 fit_v6 some ts p =
+    let a = families Der v4 v6 ts fit_v4 fit_v6 some p in
     record { tree = a.tree; alone = a.alone; is = a.is }
 
-pub asns_read : (choice : Choice) → HasMaximal choice → choice ≢ Missing → IsReadAs IsAsResources choice (values.asns choice)
-asns_read choice maximal there ts p =
-    let a = means_just choice ts maximal there p in
+pub asns_read : NumbersAreRead → (choice : Choice) → HasMaximal choice → choice ≢ Missing → IsReadAs IsAsResources choice (values.asns choice)
+asns_read numbers choice maximal there ts p =
+    let a = numbers choice ts maximal there p in
     record { tree = a.tree; alone = a.whole; is = a.is }

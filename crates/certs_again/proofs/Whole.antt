@@ -32,6 +32,7 @@ use Rattle.certs_again.specs.Laws.{FieldsAreRead, IsLawful, IsReadable}
 use Rattle.certs_built.specs.Tbs.{extensions, tbs}
 use Rattle.certs_again.proofs.Ext.{one_of_all}
 use Rattle.certs_again.proofs.Extensions.{extensions_read}
+use Rattle.certs_again.proofs.ValuesRead.{ResourcesAreRead}
 
 -- A value in front of others.
 pub then_read : {A B : Type 0} {Q : Tree → A → Type 0} {R : Trees → B → Type 0} {x : A} {y : B} {a ts : Trees} (b : Trees) → Alone Q x a → R b y → ts ≡ joined a b → Then Q R ts (x, y)
@@ -136,9 +137,9 @@ record ReadsList (c : TbsValue) (ts : Trees) : Type 0 where
   read : Alone IsListed (all, tt) ts
   has : HasExtensions all c
 
-list_read : (c : TbsValue) → IsLawful c → IsReadable c → (ts : Trees) → (inside (context 3) (inside sequence_tag (extensions c))).trees Der ts → ReadsList c ts
-list_read c lawful readable ts p =
-    let r = extensions_read c lawful readable p.is.values p.is.is in
+list_read : ResourcesAreRead → (c : TbsValue) → IsLawful c → IsReadable c → (ts : Trees) → (inside (context 3) (inside sequence_tag (extensions c))).trees Der ts → ReadsList c ts
+list_read reads c lawful readable ts p =
+    let r = extensions_read reads c lawful readable p.is.values p.is.is in
     record {
       all = r.all;
       read = record {
@@ -159,8 +160,8 @@ list_read c lawful readable ts p =
       has = r.has;
     }
 
-tbs_read : (c : TbsValue) → IsLawful c → IsReadable c → IsReadAs (IsTbs Der) c (tbs c)
-tbs_read c lawful readable ts p =
+tbs_read : ResourcesAreRead → (c : TbsValue) → IsLawful c → IsReadable c → IsReadAs (IsTbs Der) c (tbs c)
+tbs_read reads c lawful readable ts p =
     let version = p.is in
     let serial = version.is_second in
     let algorithm = serial.is_second in
@@ -168,7 +169,7 @@ tbs_read c lawful readable ts p =
     let validity = issuer.is_second in
     let subject = validity.is_second in
     let key = subject.is_second in
-    let list = list_read c lawful readable key.second key.is_second in
+    let list = list_read reads c lawful readable key.second key.is_second in
     let body =
     then_read version.second (version_read version.first version.is_first)
     (then_read serial.second (serial_read c.serial readable.serial serial.first serial.is_first)
@@ -189,8 +190,8 @@ tbs_read c lawful readable ts p =
       };
     }
 
-pub fields_are_read : FieldsAreRead
-fields_are_read c text lawful readable w =
+pub fields_are_read : ResourcesAreRead → FieldsAreRead
+fields_are_read reads c text lawful readable w =
     let s = (tbs c).spelled Der text w in
-    let a = tbs_read c lawful readable s.trees s.is in
+    let a = tbs_read reads c lawful readable s.trees s.is in
     record { tree = a.tree; is = a.is; spelled = one_of_all text a.alone s.spelled }

@@ -4,7 +4,10 @@ ghost use Rattle.certs_again.specs.Laws.{BuiltIsRead, BuiltIsSpelled, FieldsAreR
 ghost use Rattle.certs_again.specs.Laws.{OctetsAreOneCert, ReadIsBuilt, ReadIsReadable};
 
 use certs_specs::laws::cert_is_spelled;
-use resources_ip::laws::{choices_that_are_read_fit, families_that_are_read_fit};
+use resources_as::laws::what_is_written_means_just_these;
+use resources_ip::laws::{
+    choices_that_are_read_fit, families_are_read_again, families_that_are_read_fit,
+};
 
 /// What is written of a certificate's fields is read again as these fields, and what is written of the certificate that
 /// is built of them as one that has them: where some kind of resources is there, and IPv4 resources are over whole
@@ -17,6 +20,8 @@ pub fn what_is_built_is_read()
     ensures same { ReadIsBuilt }
 {
     cert_is_spelled();
+    families_are_read_again();
+    what_is_written_means_just_these();
 }
 
 /// The fields of a certificate that is read meet the condition under which what is written of them is read again: some kind

@@ -1,9 +1,8 @@
 -- What a refusal to write or to sign says of a certificate's fields.
 use Rattle.std.specs.Prelude.{ℕ, List}
 use Rattle.certs_built.specs.bcder_written.declared.error.EncodeError.{EncodeError}
-use Rattle.certs_built.specs.bcder_written.declared.error.EncodeError.TheVariants as causes
 use Rattle.certs_built.specs.certs_key.declared.signer.SigningError.{SigningError}
-use Rattle.certs_built.specs.certs_key.declared.signer.SigningError.TheVariants as errors
+use Rattle.certs_built.specs.certs_key.Refusing.{NotWrittenIf, SigningRefusedIf}
 use Rattle.certs_built.specs.certs_specs.Cert.{TbsValue}
 use Rattle.certs_built.specs.Tbs.{WritesTbs}
 
@@ -13,15 +12,8 @@ CanBeWritten c = (text : List ℕ) × WritesTbs c text
 
 -- Why nothing is written: nothing can be, or there was no memory for what can.
 abbrev pub NotWritten : TbsValue → EncodeError → Type 0
-NotWritten c causes.CerUnsupported = CanBeWritten c → ⊥
-NotWritten c causes.TooLong = CanBeWritten c → ⊥
-NotWritten c causes.Write = ⊥
-NotWritten c causes.Memory = CanBeWritten c
+NotWritten c = NotWrittenIf (CanBeWritten c) (CanBeWritten c → ⊥)
 
 -- The fields can be written, but for `TooLong`, which no signer answers: the signer is asked after that, and memory too.
 abbrev pub SigningRefused : {E : Type 0} → TbsValue → SigningError E → Type 0
-SigningRefused c errors.KeyNotFound = CanBeWritten c
-SigningRefused c errors.IncompatibleKey = CanBeWritten c
-SigningRefused c (errors.Signer e) = CanBeWritten c
-SigningRefused c errors.TooLong = CanBeWritten c → ⊥
-SigningRefused c errors.Memory = CanBeWritten c
+SigningRefused c = SigningRefusedIf (CanBeWritten c) (CanBeWritten c → ⊥)

@@ -8,7 +8,7 @@ use rpki_digests::Fips;
 use std::alloc::Global;
 use std::convert::Infallible;
 
-/// Signs by the SHA-256 digest of the data, or not at all.
+/// Signs by the SHA-256 digest of the message, or not at all.
 #[derive(Clone, Copy)]
 pub struct Stub {
     /// Whether it signs.
@@ -40,12 +40,12 @@ impl Signer for Stub {
         alloc: Global,
         _key: &(),
         algorithm: A,
-        data: &[u8],
+        message: &[u8],
     ) -> Result<Signature<A>, SigningError<Infallible>> {
         if !self.is_willing {
             return Err(SigningError::KeyNotFound);
         }
-        match Bytes::copy_from_slice(alloc, &Fips.sha256(data)) {
+        match Bytes::copy_from_slice(alloc, &Fips.sha256(message)) {
             Ok(octets) => Ok(Signature::new(algorithm, octets)),
             Err(_) => Err(SigningError::Memory),
         }
@@ -55,7 +55,7 @@ impl Signer for Stub {
         &self,
         _alloc: Global,
         _algorithm: A,
-        _data: &[u8],
+        _message: &[u8],
     ) -> Result<(Signature<A>, PublicKey), SigningError<Infallible>> {
         Err(SigningError::KeyNotFound)
     }

@@ -6,11 +6,13 @@ use Rattle.certs_claims.specs.bcder_content.Grammar.{One}
 use Rattle.certs_claims.specs.bcder_content.Texts.{ReadsFront}
 use Rattle.certs_claims.specs.certs_basics.Identifiers as id
 use Rattle.certs_claims.specs.resources_as.Encodings.{IsAsResources}
+use Rattle.certs_claims.specs.resources_as.Meanings.{resources_one}
 use Rattle.certs_claims.specs.resources_chain.Claims.{Choice}
 use Rattle.certs_claims.specs.resources_chain.declared.choice.ResourcesChoice.TheVariants.{Missing}
 use Rattle.certs_claims.specs.resources_chain.declared.claims.Overclaim.{Overclaim}
 use Rattle.certs_claims.specs.resources_chain.declared.claims.Overclaim.TheVariants.{Refuse, Trim}
 use Rattle.certs_claims.specs.resources_ip.Encodings.{FamilyChoices}
+use Rattle.certs_claims.specs.resources_ip.Meanings.{one_of_families}
 use Rattle.certs_claims.specs.resources_ip.Reading.{family_choices}
 use Rattle.certs_claims.specs.resources_ip.declared.resources.IpFamilies.{IpFamilies}
 use Rattle.certs_claims.specs.resources_policy.Identifiers.{as_octets, ip_octets}
@@ -19,8 +21,6 @@ use Rattle.certs_extension.specs.certs_specs.Cert.{TbsValue}
 use Rattle.certs_extension.specs.certs_specs.CertText.{AreAsResources, AreIpResources, HasExtensions, IsAccess, other}
 use Rattle.certs_extension.specs.certs_specs.Extensions.{Extension, IsAuthorityAccess, IsAuthorityKeyIdentifier, IsBasicConstraints, IsCrlDistribution, IsExtendedKeyUsage, IsKeyUsage, IsOptional, IsPolicies, IsSubjectKeyIdentifier, May, Must, MustNot, of_kind}
 use Rattle.certs_extension.proofs.of_certs_specs.Values.{authority_access_one, authority_key_one, basic_one, crl_distribution_one, optional_one, policies_one, purposes_one, same_some, subject_access_one, subject_key_one, usage_one}
-use Rattle.certs_extension.proofs.of_resources_as.Again.{resources_one}
-use Rattle.certs_extension.proofs.of_resources_ip.Meaning.{one_of_families}
 use Rattle.certs_claims.specs.declared.slots.Slots.{Slots}
 use Rattle.certs_claims.specs.Finishing.{Finishes, IsUnder, access_of, claims_of, no_families}
 use Rattle.certs_claims.specs.Slots.{AreFamilies, AreSlots, IsVersioned}

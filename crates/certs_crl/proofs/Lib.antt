@@ -1,4 +1,5 @@
 mod Cached
+mod Inside
 mod Pairs
 mod Listed
 mod Whole

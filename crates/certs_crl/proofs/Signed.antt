@@ -31,13 +31,6 @@ module _ (c : TbsListValue) (P : List ℕ → Type 0) (sound : (text : List ℕ)
   not_written (Ok x) h = tt
   not_written (Err e) h = why e h
 
--- Where it isn't for lack of memory, nothing can be written.
-pub too_long : {c : TbsListValue} (e : EncodeError) → e ≢ causes.Memory → NotWritten c e → CannotBeWritten c
-too_long causes.CerUnsupported n r = r
-too_long causes.TooLong n r = r
-too_long causes.Write n r = absurd r
-too_long causes.Memory n r = absurd (n refl)
-
 -- Whatever the signer answers, the list can be written.
 pub any_refused : {E : Type 0} {c : TbsListValue} (e : SigningError E) → e ≢ errors.TooLong → CanBeWritten c → SigningRefused c e
 any_refused errors.KeyNotFound n w = w

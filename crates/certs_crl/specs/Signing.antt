@@ -5,7 +5,7 @@ use Rattle.certs_revoked.specs.bcder_values.Writable.{Writable}
 use Rattle.certs_revoked.specs.bcder_written.declared.error.EncodeError.{EncodeError}
 use Rattle.certs_revoked.specs.bcder_written.declared.error.EncodeError.TheVariants as causes
 use Rattle.certs_key.specs.declared.signer.SigningError.{SigningError}
-use Rattle.certs_key.specs.declared.signer.SigningError.TheVariants as errors
+use Rattle.certs_key.specs.Refusing.{NotWrittenIf, SigningRefusedIf}
 use Rattle.certs_revoked.specs.certs_specs.CrlText.{TbsListValue}
 use Rattle.certs_crl.specs.Written.{WritesTbsList}
 
@@ -20,21 +20,16 @@ LacksText P causes.Memory = (text : List ℕ) × P text
 abbrev pub CanBeWritten : TbsListValue → Type 0
 CanBeWritten c = ∥ ((text : List ℕ) × WritesTbsList c Der text) ∥₁
 
--- Nothing can, where the list has no entries. Entries may be kept in another mode, which contracts don't see; they aren't
--- written then, though octets in DER spell the same, so that of a list with entries this says nothing.
+-- Nothing can be written of a list's fields, where it has no entries. Entries may be kept in another mode, which contracts
+-- don't see; they aren't written then, though octets in DER spell the same, so that of a list with entries this says nothing.
 abbrev pub CannotBeWritten : TbsListValue → Type 0
 CannotBeWritten c = c.revoked ≡ [] → CanBeWritten c → ⊥
 
+-- Why nothing is written of a list's fields: nothing can be, where the list has no entries, or there was no memory for what
+-- can.
 abbrev pub NotWritten : TbsListValue → EncodeError → Type 0
-NotWritten c causes.CerUnsupported = CannotBeWritten c
-NotWritten c causes.TooLong = CannotBeWritten c
-NotWritten c causes.Write = ⊥
-NotWritten c causes.Memory = CanBeWritten c
+NotWritten c = NotWrittenIf (CanBeWritten c) (CannotBeWritten c)
 
 -- The list can be written, but for `TooLong`, which no signer answers: the signer is asked after that, and memory too.
 abbrev pub SigningRefused : {E : Type 0} → TbsListValue → SigningError E → Type 0
-SigningRefused c errors.KeyNotFound = CanBeWritten c
-SigningRefused c errors.IncompatibleKey = CanBeWritten c
-SigningRefused c (errors.Signer e) = CanBeWritten c
-SigningRefused c errors.TooLong = CannotBeWritten c
-SigningRefused c errors.Memory = CanBeWritten c
+SigningRefused c = SigningRefusedIf (CanBeWritten c) (CannotBeWritten c)

@@ -4,7 +4,5 @@ pub mod of_bcder_oid
 pub mod of_bcder_values
 pub mod Oids
 pub mod of_certs_specs
-pub mod of_resources_as
-pub mod of_resources_ip
 pub mod of_certs_key
 pub mod of_certs_basics

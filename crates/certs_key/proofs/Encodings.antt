@@ -1,6 +1,6 @@
 -- The encoded octets of a key: those that spell its tree in DER are the octets of the function `encoded`, and they are
 -- what is written of it in DER.
-use Rattle.std.proofs.Common.{◌≡◌, ◌≢◌, ℕ, ◌^◌, ◌<◌, ◌≤◌, Bool, true, false, List, [], ◌∷◌, ◌++◌, length, refl, sym, ap, ◌∙◌, subst, arith, append-nil, length-append}
+use Rattle.std.proofs.Common.{◌≡◌, ◌≢◌, ℕ, ◌^◌, ◌<◌, ◌≤◌, Bool, true, false, List, [], ◌∷◌, ◌++◌, length, take, Some, refl, sym, ap, ◌∙◌, subst, arith, append-nil, length-append}
 use Rattle.std.proofs.lemmas.Bool.{cond_below, cond_above}
 use Rattle.certs_key.specs.bcder_tree.declared.mode.Mode.TheVariants.{Ber, Der}
 use Rattle.certs_key.specs.bcder_tree.Tags.{TagValue, universal, null_tag, oid_tag, sequence_tag}
@@ -12,6 +12,7 @@ use Rattle.certs_key.specs.bcder_bits.Contents.{cleared}
 use Rattle.certs_key.proofs.of_bcder_bits.Writings.{written}
 use Rattle.certs_key.specs.bcder_primitive.Values.{AnyOctets}
 use Rattle.certs_key.specs.bcder_written.Encoded.{WritesPlain, joined}
+use Rattle.certs_key.specs.bcder_written.Writing.{Wrote}
 use Rattle.certs_key.specs.bcder_written.declared.error.EncodeError.{EncodeError}
 use Rattle.certs_key.specs.bcder_written.declared.error.EncodeError.TheVariants as errors
 use Rattle.certs_key.specs.bcder_values.Gathered.{ExtendRefused}
@@ -203,6 +204,13 @@ encodes_few k text p =
 
 pub lent_encodes : {l : Lent} (k : KeyValue) (text : List ℕ) → l ≡ key_lends k → (lent l).writes l.1 Der text → Encodes k text
 lent_encodes k text e w = written_encodes k text (subst (λ (m : Lent). (lent m).writes m.1 Der text) e w)
+
+-- Octets that are equal to what was written, from nothing on, are the encoded octets.
+pub same_encodes : {l : Lent} (k : KeyValue) {n : ℕ} (before now octets : List ℕ) → l ≡ key_lends k → n ≡ 0
+    → Wrote ((lent l).writes l.1 Der) (Some (take n before)) (Some now) → now ≡ octets → Encodes k octets
+same_encodes k before now octets e zero w same =
+    let all : w.text ≡ octets = sym (w.appended ∙ ap (λ i. take i before ++ w.text) zero) ∙ same in
+    subst (Encodes k) all (lent_encodes k w.text e w.is)
 
 pub lent_lacks : {l : Lent} {k : KeyValue} (e : EncodeError) → (e ≡ errors.Memory → ⊥) → l ≡ key_lends k → IsBits k.bits
     → ExtendRefused ((lent l).trees l.1 Der) ((lent l).writes l.1 Der) e → HasEncoding k → ⊥

@@ -1,31 +1,30 @@
--- The algorithm of a key, and the fields of a key, step by step.
-use Rattle.std.proofs.Common.{◌≡◌, ℕ, true, false, List, Option, Some, None, Result, Ok, Err, IsErr, refl, sym, ◌∙◌, subst}
-use Rattle.std.specs.Prelude.{IsErrAnd, MatchOption}
+-- The algorithm of a key, step by step, and keys by their parts.
+use Rattle.std.proofs.Common.{◌≡◌, ℕ, true, false, List, Option, Some, None, refl, sym, ◌∙◌, subst}
+use Rattle.std.specs.Prelude.{MatchOption}
 use Rattle.certs_key.specs.bcder_tree.declared.mode.Mode.{Mode}
 use Rattle.certs_key.specs.bcder_tree.Tags.{oid_tag}
-use Rattle.certs_key.specs.bcder_tree.Tree.{Trees}
-use Rattle.certs_key.specs.bcder_source.declared.error.DecodeError.{DecodeError}
+use Rattle.certs_key.specs.bcder_tree.Tree.{Tree, Trees}
 use Rattle.certs_key.specs.bcder_content.Contents.{ValuesLeft}
-use Rattle.certs_key.specs.bcder_content.Exact.{Gives}
-use Rattle.certs_key.specs.bcder_content.Grammar.{OctetsOf, Then, End, OneAll}
-use Rattle.certs_key.specs.bcder_content.InMode.{ReadsFields}
+use Rattle.certs_key.specs.bcder_content.Exact.{Gives, Lacks}
+use Rattle.certs_key.specs.bcder_content.Grammar.{OctetsOf, One, Then, End}
+use Rattle.certs_key.specs.bcder_content.Kept.{CapturedValue}
 use Rattle.certs_key.specs.bcder_content.Words.{ThenBy}
 use Rattle.certs_key.proofs.of_bcder_content.InMode.{Fields, begin}
 use Rattle.certs_key.proofs.of_bcder_content.Choosing.{next_by, told_by}
-use Rattle.certs_key.proofs.of_bcder_content.Taking.{on_content}
-use Rattle.certs_key.proofs.of_bcder_content.Unique.{octets_one, then_one, end_one}
-use Rattle.certs_key.proofs.of_bcder_content.Within.{AllWithin, all_gives, all_stop, all_unfit}
+use Rattle.certs_key.proofs.of_bcder_content.Took.{one_took}
+use Rattle.certs_key.proofs.of_bcder_content.Unique.{inside_one, octets_one, then_one, end_one}
 use Rattle.certs_key.specs.bcder_bits.Bits.{BitsValue}
 use Rattle.certs_key.proofs.of_bcder_bits.Readings.{bit_string_one}
+use Rattle.certs_key.specs.bcder_values.KeptForms.{KeptIn}
 use Rattle.certs_key.specs.bcder_oid.Identifiers.{AreOctets, IsOid}
 use Rattle.certs_key.proofs.of_bcder_oid.Read.{oid_one}
 use Rattle.certs_key.specs.certs_basics.declared.PublicKeyFormat.{PublicKeyFormat}
 use Rattle.certs_key.specs.certs_basics.declared.PublicKeyFormat.TheVariants.{Rsa, Ecdsa}
 use Rattle.certs_key.specs.certs_basics.Basics.{OptNull}
 use Rattle.certs_key.specs.certs_basics.Identifiers.{rsa_encryption, ec_public_key, secp256r1}
-use Rattle.certs_key.specs.certs_basics.Keys.{KeyValue, kind_of, AreParameters, of_rsa, of_ecdsa, IsFormatBody, IsKeyBody, Encodes, HasEncoding}
+use Rattle.certs_key.specs.certs_basics.Keys.{KeyValue, kind_of, AreParameters, of_rsa, of_ecdsa, IsFormatBody, IsKey, Encodes, HasEncoding}
 use Rattle.certs_key.proofs.of_certs_basics.Values.{format_one}
-use Rattle.certs_key.specs.Reading.{parts_fields, AreParts}
+use Rattle.certs_key.specs.Reading.{IsParts, Parts, kept_parts, parts_fields}
 
 -- The algorithm.
 
@@ -84,36 +83,49 @@ pub none_follows : (kind : List ℕ) → (kind ≡ rsa_encryption → ⊥) → (
 none_follows kind a b m ts Rsa p = a p.0
 none_follows kind a b m ts Ecdsa p = b p.0
 
--- The fields of a key.
+-- Keys by their parts, whose octets are kept.
 
 abbrev pub key_of : PublicKeyFormat × BitsValue → KeyValue
 key_of x = record { format = x.0; bits = x.1 }
 
-abbrev of_fields : PublicKeyFormat × (BitsValue × Unit {0}) → KeyValue
-of_fields f = record { format = f.0; bits = f.1.0 }
+abbrev of_parts : Parts → KeyValue
+of_parts f = record { format = f.0; bits = f.1.0 }
 
-parts_one : (m : Mode) → OneAll (AreParts m)
-parts_one m = then_one format_one (then_one (octets_one bit_string_one) end_one)
+parts_one : (m : Mode) → One (IsParts m)
+parts_one m = inside_one (then_one format_one (then_one (octets_one bit_string_one) end_one))
 
-are_parts : (m : Mode) → AllWithin (IsKeyBody m) (AreParts m)
-are_parts m ts k p = ((k.format, (k.bits, tt)), p.are)
+has_parts : {m : Mode} {t : Tree} {k : KeyValue} → IsKey m t k → IsParts m t (k.format, (k.bits, tt))
+has_parts p = record { values = p.values; whole = p.whole; is = p.is.are }
 
-pub key_given : {E : Type 0} {v w : ValuesLeft} {x : PublicKeyFormat × BitsValue} (text : List ℕ) → Encodes (key_of x) text
-    → ReadsFields {E = E} parts_fields AreParts v (Ok x) w → ReadsFields {A = KeyValue} {E = E} (λ k. k) IsKeyBody v (Ok (key_of x)) w
-key_given {v = v} {x = x} text e h = record {
-  reads = all_gives (IsKeyBody v.mode) (AreParts v.mode) (λ ts are. record { are = are; has = record { octets = text; encodes = e } }) (are_parts v.mode) h.reads;
+-- A key that has encoded octets was read.
+pub key_given : {v w : ValuesLeft} {c : CapturedValue} {x : PublicKeyFormat × BitsValue} (text : List ℕ) → Encodes (key_of x) text
+    → Gives (KeptIn IsParts v.mode) v (kept_parts (c, x)) w → Gives (IsKey v.mode) v (key_of x) w
+key_given text e g = record {
+  tree = g.tree;
+  is = record {
+    values = g.is.kept.is.values;
+    whole = g.is.kept.is.whole;
+    is = record { are = g.is.kept.is.is; has = record { octets = text; encodes = e } };
+  };
+  took = g.took;
 }
 
-pub key_stopped : {E : Type 0} {v w u : ValuesLeft} {r : Result KeyValue (DecodeError E)} (e : DecodeError E) → IsErr r × IsErrAnd r (λ x. x ≡ e)
-    → ReadsFields {E = E} parts_fields AreParts v (Err e) u → ReadsFields (λ k. k) IsKeyBody v r w
-key_stopped {v = v} {w} {r = r} e a h = record { reads = all_stop (λ (k : KeyValue). k) (IsKeyBody v.mode) (AreParts v.mode) v w r e a (are_parts v.mode) h.reads }
+-- No key's parts are next, so no key is.
+pub key_lacks : {v : ValuesLeft} → Lacks (KeptIn IsParts v.mode) v → Lacks (IsKey v.mode) v
+key_lacks {v} l = record {
+  none = λ t k p a.
+      let kept : CapturedValue = record { mode = v.mode; octets = a.1.text } in
+      l.none t (kept_parts (kept, (k.format, k.bits))) (record { mode = refl; kept = record { spelled = a.1.spelled; is = has_parts p } }) a;
+}
 
-pub key_refused : {E : Type 0} {v w u : ValuesLeft} {x : PublicKeyFormat × BitsValue} (e : DecodeError E) → (HasEncoding (key_of x) → ⊥)
-    → ReadsFields {E = E} parts_fields AreParts v (Ok x) w → ReadsFields {A = KeyValue} {E = E} (λ k. k) IsKeyBody v (Err e) u
-key_refused {v = v} {x = x} e never h = record {
-  reads = on_content e (all_unfit (IsKeyBody v.mode) (AreParts v.mode)
-      (λ ts k p are. never (subst (λ (f : PublicKeyFormat × (BitsValue × Unit {0})). HasEncoding (of_fields f)) ((parts_one v.mode).one ts (k.format, (k.bits, tt)) (parts_fields x) p.are are) p.has))
-      (are_parts v.mode) h.reads);
+-- The parts were read of what would be a key, if it had encoded octets.
+pub key_unfit : {v w : ValuesLeft} {c : CapturedValue} {x : PublicKeyFormat × BitsValue} → (HasEncoding (key_of x) → ⊥)
+    → Gives (KeptIn IsParts v.mode) v (kept_parts (c, x)) w → Lacks (IsKey v.mode) v
+key_unfit {v = v} {x = x} never g = record {
+  none = λ t k p a.
+      let same = (one_took g.took a.1).0 in
+      let parts = subst (λ (u : Tree). IsParts v.mode u (parts_fields x)) same g.is.kept.is in
+      never (subst (λ (f : Parts). HasEncoding (of_parts f)) ((parts_one v.mode).one t (k.format, (k.bits, tt)) (parts_fields x) (has_parts p) parts) p.is.has);
 }
 
 -- The encoded octets that were found, or that there are none.

@@ -3,6 +3,7 @@ pub mod Alike
 pub mod Cleared
 pub mod Forms
 pub mod Reading
+pub mod Refusing
 -- What stands below, for the crates above.
 pub use Rattle.certs_algorithm.specs.bcder as bcder
 pub use Rattle.certs_algorithm.specs.bcder_bits as bcder_bits

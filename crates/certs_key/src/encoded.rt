@@ -1,10 +1,11 @@
 //! Keys that are written.
 
-ghost use Rattle.std.specs.Prelude.{◌≡◌, IfOk, MatchOption};
+ghost use Rattle.std.specs.Prelude.{◌≡◌, IfOk, IsTrue, MatchOption};
 ghost use Rattle.certs_key.specs.bcder_bits.Bits.{IsBits};
 ghost use Rattle.certs_key.specs.certs_basics.Keys.{HasEncoding, Encodes, kind_of};
 ghost use Rattle.certs_key.specs.Forms.{lends, key_lends, parameters_of, parameters_tag};
 
+use crate::expected::Expected;
 use crate::format::{EC_PUBLIC_KEY, RSA_ENCRYPTION, SECP256R1};
 use bytes::Bytes;
 use certs_algorithm::encode::{
@@ -81,18 +82,35 @@ pub(crate) fn encoder(format: PublicKeyFormat, bits: &BitString) -> KeyEncoder<'
     }
 }
 
+// Whether the octets are a key's DER, with NULL after rsaEncryption (RFC 7935 3.1) and unused bits zero (X.690 11.2.1).
+fn is_der_of(octets: &[u8], format: PublicKeyFormat, bits: &BitString) -> bool
+    ensures { IsTrue result → Encodes (record { format = format; bits = bits.now }) octets.now }
+{
+    let mut target = Expected::new(octets);
+    match encoder(format, bits).write_encoded(Mode::Der, &mut target) {
+        Ok(()) => target.taken() == octets,
+        Err(_) => false,
+    }
+}
+
 /// The encoded octets of a key: its DER, with NULL after rsaEncryption (RFC 7935 3.1) and unused bits zero (X.690
 /// 11.2.1). `None` where there are none, as no length states so many octets.
+///
+/// They are the octets that were read, where these are its DER; only where they aren't others are made.
 pub(crate) fn encoded_of(
     alloc: Global,
     format: PublicKeyFormat,
     bits: &BitString,
+    read: Bytes,
 ) -> Result<Option<Bytes>, AllocError>
     requires { IsBits bits.now }
     ensures { IfOk result (λ found. MatchOption found
         (HasEncoding (record { format = format; bits = bits.now }) → ⊥)
         (Encodes (record { format = format; bits = bits.now }))) }
 {
+    if is_der_of(read.as_slice(), format, bits) {
+        return Ok(Some(read));
+    }
     match encoder(format, bits).to_captured(alloc, Mode::Der) {
         Ok(captured) => Ok(Some(captured.into_bytes())),
         Err(EncodeError::Memory) => Err(AllocError),

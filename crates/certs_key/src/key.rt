@@ -5,17 +5,15 @@ ghost use Rattle.certs_key.specs.bcder_tree.declared.mode.Mode.TheVariants.{Der}
 ghost use Rattle.certs_key.specs.bcder_tree.Tree.{Spells};
 ghost use Rattle.certs_key.specs.bcder_content.Exact.{DecodesAs, ReadsAs};
 ghost use Rattle.certs_key.specs.bcder_content.Here.{here};
-ghost use Rattle.certs_key.specs.bcder_content.InMode.{ReadsFields};
 ghost use Rattle.certs_key.specs.certs_basics.declared.PublicKeyFormat.TheVariants.{Rsa, Ecdsa};
 ghost use Rattle.certs_key.specs.certs_basics.Names.{subject_of};
-ghost use Rattle.certs_key.specs.certs_basics.Keys.{Encodes, IsKey, IsKeyBody, encoded, identifier};
+ghost use Rattle.certs_key.specs.certs_basics.Keys.{Encodes, IsKey, encoded, identifier};
 ghost use Rattle.certs_key.specs.Digesting.{digests_of};
-ghost use Rattle.certs_key.specs.Reading.{AreParts, parts_fields};
 
 use crate::digest::Digester;
 use crate::encoded::{encoded_of, encoder};
-use crate::format::take_format;
 use crate::identifier::KeyIdentifier;
+use crate::taken::take_kept;
 use bytes::Bytes;
 use certs_algorithm::decode::{Constructed, ContentError, Decode, DecodeError, IntoSource, Source};
 use certs_algorithm::encode::{EncodeError, Values};
@@ -135,7 +133,8 @@ impl PublicKey {
     /// secp256r1, and any bits. Any other value is refused, and so is a key that is too long to be encoded, since some
     /// of its DER would have more than 2^32 - 1 octets.
     ///
-    /// Where the source shares its octets none is copied; the encoded octets are made anew.
+    /// Where the source shares its octets none is copied; the encoded octets are made anew only where the octets that
+    /// were read aren't the key's DER.
     pub fn take_from<S: Source>(
         alloc: Global,
         cons: &mut Constructed<S>,
@@ -144,24 +143,25 @@ impl PublicKey {
             (here S.rest cons.old) result (here S.rest cons.new) }
         ensures failed { OnErr result ((here S.rest cons.new).failed ≡ true) }
     {
-        cons.take_sequence(
-            |cons|
-                ensures { ReadsFields (λ k. k) IsKeyBody
-                    (here S.rest cons.old) result (here S.rest cons.new) }
-            { PublicKey::take_fields(alloc, cons) },
-        )
+        match PublicKey::take_next(alloc, cons) {
+            Ok(key) => Ok(key),
+            Err(error) => {
+                cons.fail();
+                Err(error)
+            }
+        }
     }
 
-    // The fields of a key that has encoded octets, up to the end of their content.
-    fn take_fields<S: Source>(
+    // The next value, a key that has encoded octets: those that were read, where they are its DER.
+    fn take_next<S: Source>(
         alloc: Global,
         cons: &mut Constructed<S>,
     ) -> Result<PublicKey, DecodeError<S::Error>>
-        ensures { ReadsFields (λ k. k) IsKeyBody
+        ensures { ReadsAs (λ k. k) (IsKey (here S.rest cons.old).mode)
             (here S.rest cons.old) result (here S.rest cons.new) }
     {
-        let (format, bits) = take_parts(alloc, cons)?;
-        match encoded_of(alloc, format, &bits) {
+        let (octets, (format, bits)) = take_kept(alloc, cons)?;
+        match encoded_of(alloc, format, &bits, octets.into_bytes()) {
             Ok(Some(encoded)) => Ok(PublicKey {
                 format,
                 bits,
@@ -171,19 +171,6 @@ impl PublicKey {
             Err(_) => Err(DecodeError::Memory),
         }
     }
-}
-
-// The algorithm and the bits of a key, up to the end of their content.
-fn take_parts<S: Source>(
-    alloc: Global,
-    cons: &mut Constructed<S>,
-) -> Result<(PublicKeyFormat, BitString), DecodeError<S::Error>>
-    ensures { ReadsFields parts_fields AreParts
-        (here S.rest cons.old) result (here S.rest cons.new) }
-{
-    let format = take_format(alloc, cons)?;
-    let bits = BitString::take_from(alloc, cons)?;
-    Ok((format, bits))
 }
 
 /// Keys that are written.

@@ -9,11 +9,13 @@
 pub mod digest;
 mod encoded;
 mod equal;
+mod expected;
 mod format;
 pub mod identifier;
 pub mod key;
 pub mod laws;
 pub mod signer;
+mod taken;
 pub mod verifier;
 
 pub use certs_algorithm::{

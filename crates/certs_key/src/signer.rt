@@ -60,28 +60,28 @@ pub trait Signer {
         ensures key { IfOk result (λ public. has_key self.now key.now public) }
         ensures told { IfErr result (λ e. e ≢ TooLong) };
 
-    /// A signature of the data by that key and algorithm.
+    /// A signature of the message by that key and algorithm.
     fn sign<A: SignatureAlgorithm + Drop>(
         &self,
         alloc: Global,
         key: &Self::KeyId,
         algorithm: A,
-        data: &[u8],
+        message: &[u8],
     ) -> Result<Signature<A>, SigningError<Self::Error>>
         ensures algorithm { IfOk result (λ signature. signature.algorithm ≡ algorithm) }
         ensures signed { IfOk result
-            (λ signature. signs self.now key.now data.now signature.bits.octets) }
+            (λ signature. signs self.now key.now message.now signature.bits.octets) }
         ensures told { IfErr result (λ e. e ≢ TooLong) };
 
-    /// A signature of the data by a key that is made for it alone, and that key.
+    /// A signature of the message by a key that is made for it alone, and that key.
     fn sign_one_off<A: SignatureAlgorithm + Drop>(
         &self,
         alloc: Global,
         algorithm: A,
-        data: &[u8],
+        message: &[u8],
     ) -> Result<(Signature<A>, PublicKey), SigningError<Self::Error>>
         ensures algorithm { IfOk result (λ made. made.0.algorithm ≡ algorithm) }
         ensures signed { IfOk result
-            (λ made. signs_once self.now made.1 data.now made.0.bits.octets) }
+            (λ made. signs_once self.now made.1 message.now made.0.bits.octets) }
         ensures told { IfErr result (λ e. e ≢ TooLong) };
 }

@@ -3,4 +3,3 @@ mod Said
 mod Times
 pub mod of_certs_algorithm
 pub mod of_certs_time
-pub mod of_resources_as

@@ -38,7 +38,7 @@ impl Signer for Echo {
         alloc: Global,
         key: &u8,
         algorithm: A,
-        data: &[u8],
+        message: &[u8],
     ) -> Result<Signature<A>, SigningError<&'static str>> {
         if self.refuses {
             return Err(SigningError::Signer("no pen"));
@@ -46,7 +46,7 @@ impl Signer for Echo {
         if *key != 1 {
             return Err(SigningError::KeyNotFound);
         }
-        match Bytes::copy_from_slice(alloc, data) {
+        match Bytes::copy_from_slice(alloc, message) {
             Ok(octets) => Ok(Signature::from_bits(algorithm, BitString::new(0, octets))),
             Err(_) => Err(SigningError::Memory),
         }
@@ -56,7 +56,7 @@ impl Signer for Echo {
         &self,
         _alloc: Global,
         _algorithm: A,
-        _data: &[u8],
+        _message: &[u8],
     ) -> Result<(Signature<A>, PublicKey), SigningError<&'static str>> {
         Err(SigningError::IncompatibleKey)
     }

@@ -1,4 +1,3 @@
-pub mod Sorting
-pub mod Adding
+pub mod Alone
 pub mod AspaAgain
 pub mod SignedAgain

@@ -1,17 +1,8 @@
 -- The providers of an attestation that is put together (draft-ietf-sidrops-aspa-profile 3).
-use Rattle.std.specs.Prelude.{◌≡◌, ◌==◌, ℕ, Bool, List, [], ◌∷◌}
-use Rattle.std.specs.List.{IsDistinct}
+use Rattle.std.specs.Prelude.{◌≡◌, ℕ, List, [], ◌∷◌}
 use Rattle.objects_attested.specs.resources_asn.Listed.{InList}
-use Rattle.objects_attested.specs.resources_asn.Numbers.{Number}
 use Rattle.objects_attested.specs.declared.error.ProviderError.{ProviderError}
 use Rattle.objects_attested.specs.declared.error.ProviderError.TheVariants.{Duplicate, Memory}
-
-abbrev pub is_same : Number → Number → Bool
-is_same a b = a.value == b.value
-
--- No AS number stands twice.
-abbrev pub AreDistinct : List Number → Type 0
-AreDistinct asns = IsDistinct is_same asns
 
 -- AS 0, which means that there is no provider, has no other beside it.
 abbrev pub IsZeroAlone : List ℕ → Type 0

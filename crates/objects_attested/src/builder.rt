@@ -1,16 +1,16 @@
 //! The content of a provider attestation that is put together (draft-ietf-sidrops-aspa-profile 3).
 
-ghost use Rattle.std.specs.Prelude.{◌≡◌, ◌⊎◌, ◌↔◌, [], IfOk, IsTrue, OnErr, OnOk, length};
+ghost use Rattle.std.specs.Prelude.{◌≡◌, ◌⊎◌, ◌↔◌, [], IfOk, IsTrue, OnErr, OnOk};
 ghost use Rattle.std.specs.Result.{IsErrAnd};
 ghost use Rattle.objects_aspa.specs.Resources.{ListsAlone};
 ghost use Rattle.objects_attested.specs.objects_forms.Aspas.{IsLawful};
 ghost use Rattle.objects_attested.specs.resources_asn.Chosen.{values};
-ghost use Rattle.objects_attested.specs.resources_asn.Listed.{InList, IsAscending, IsListOf};
-ghost use Rattle.objects_attested.specs.Providers.{AreDistinct, IsDuplicate, IsZeroAlone};
+ghost use Rattle.objects_attested.specs.resources_asn.Listed.{AreDistinct, InList, IsAscending, IsListOf};
+ghost use Rattle.objects_attested.specs.Providers.{IsDuplicate, IsZeroAlone};
 
 use crate::error::{DuplicateProviderAs, ProviderError};
 use certs_extension::{AsBlock, AsBlocksBuilder, AsResources};
-use resources_asn::Asn;
+use resources_asn::{Asn, SmallAsnSet};
 use std::alloc::{AllocError, Global};
 use std::marker::Model;
 
@@ -22,52 +22,25 @@ const MAX_PROVIDERS: usize = 10_000;
 #[derive(Debug, Drop)]
 pub struct AspaBuilder {
     pub(crate) customer_as: Asn,
-    pub(crate) providers: Vec<Asn>,
+    pub(crate) providers: SmallAsnSet,
 }
 
 impl Model for AspaBuilder {
     ghost use Rattle.objects_attested.specs.objects_forms.Aspas.{Aspa};
-    ghost use Rattle.objects_attested.specs.resources_asn.Chosen.{values};
-    ghost use Rattle.objects_attested.specs.resources_asn.Listed.{IsAscending};
 
     ghost Value = { Aspa };
 
     ghost view = { λ b. record {
       customer = b.customer_as.value;
-      providers = values b.providers.items;
+      providers = b.providers;
     } };
-
-    ghost invariant = { λ b. IsAscending (values b.providers.items) };
-}
-
-// The AS numbers in ascending order, each once. They are as many as before just where none stood twice.
-fn sorted(asns: Vec<Asn>) -> Vec<Asn>
-    ensures sorted { IsListOf (InList (values asns.items)) (values result.items) }
-    ensures distinct { (length result.items ≡ length asns.items) ↔ AreDistinct asns.items }
-{
-    let mut sorted = asns;
-    sorted.sort_unstable();
-    sorted.dedup();
-    sorted
 }
 
 // Whether AS 0 isn't there with others.
-fn is_zero_alone(providers: &[Asn]) -> bool
-    requires { IsAscending (values providers.now) }
-    ensures { IsTrue result ↔ IsZeroAlone (values providers.now) }
+fn is_zero_alone(providers: &SmallAsnSet) -> bool
+    ensures { IsTrue result ↔ IsZeroAlone providers.now }
 {
-    if providers.len() < 2 {
-        return true;
-    }
-    providers[0].into_u32() != 0
-}
-
-// Whether an AS number is there.
-fn has(providers: &[Asn], asn: Asn) -> bool
-    requires { IsAscending (values providers.now) }
-    ensures { IsTrue result ↔ InList (values providers.now) asn.value }
-{
-    providers.binary_search(&asn).is_ok()
+    !providers.contains(Asn::from_u32(0)) || providers.len() == 1
 }
 
 impl AspaBuilder {
@@ -77,7 +50,7 @@ impl AspaBuilder {
     {
         AspaBuilder {
             customer_as,
-            providers: Vec::new(alloc),
+            providers: SmallAsnSet::new(alloc),
         }
     }
 
@@ -90,14 +63,14 @@ impl AspaBuilder {
         ensures duplicate { OnErr result (¬ (AreDistinct providers.items)) }
     {
         let count = providers.len();
-        let sorted = sorted(providers);
-        if sorted.len() != count {
-            drop(sorted);
+        let providers = SmallAsnSet::from_vec(providers);
+        if providers.len() != count {
+            drop(providers);
             return Err(DuplicateProviderAs);
         }
         Ok(AspaBuilder {
             customer_as,
-            providers: sorted,
+            providers,
         })
     }
 
@@ -110,12 +83,10 @@ impl AspaBuilder {
             ↔ InList self.old.providers provider.value }
         ensures err { OnErr result (self.new ≡ self.old) }
     {
-        match self.providers.binary_search(&provider) {
-            Ok(_) => Err(ProviderError::Duplicate(DuplicateProviderAs)),
-            Err(place) => {
-                self.providers.insert(place, provider)?;
-                Ok(())
-            }
+        if self.providers.insert(provider)? {
+            Ok(())
+        } else {
+            Err(ProviderError::Duplicate(DuplicateProviderAs))
         }
     }
 
@@ -131,7 +102,7 @@ impl AspaBuilder {
         ensures same { values result.now ≡ self.now.providers }
         ensures ascending { IsAscending self.now.providers }
     {
-        &self.providers
+        self.providers.as_slice()
     }
 
     /// Whether a reader accepts the providers: there are some, at most 10,000, the customer isn't one of them, and AS 0 is
@@ -142,8 +113,8 @@ impl AspaBuilder {
         let providers = self.providers();
         !providers.is_empty()
             && providers.len() <= MAX_PROVIDERS
-            && !has(providers, self.customer_as())
-            && is_zero_alone(providers)
+            && !self.providers.contains(self.customer_as)
+            && is_zero_alone(&self.providers)
     }
 
     /// The customer's AS number, as resources. Refused for lack of memory alone.

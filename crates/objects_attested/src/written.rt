@@ -154,7 +154,7 @@ impl AspaBuilder {
     {
         AspaValue {
             customer_as: self.customer_as,
-            providers: &self.providers,
+            providers: self.providers(),
         }
     }
 

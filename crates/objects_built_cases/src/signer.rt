@@ -1,4 +1,4 @@
-//! A signer whose signatures are digests of its key's bits and of the data.
+//! A signer whose signatures are digests of its key's bits and of the message.
 
 ghost use Rattle.std.specs.Prelude.{◌≡◌, ◌≢◌, ◌∷◌, ◌++◌, IfErr, IfOk};
 ghost use Rattle.objects_built.specs.certs_key.declared.signer.SigningError.TheVariants.{TooLong};
@@ -39,18 +39,18 @@ const MADE: &[u8] = &[
     48, 20, 48, 13, 6, 9, 42, 134, 72, 134, 247, 13, 1, 1, 1, 5, 0, 3, 3, 0, 0, 2,
 ];
 
-/// Signs by the SHA-256 digest of a key's bits and of the data, or not at all.
+/// Signs by the SHA-256 digest of a key's bits and of the message, or not at all.
 #[derive(Drop)]
 pub struct Stub {
     is_willing: bool,
 }
 
 // The digest of both, one after the other.
-fn digest_of(alloc: Global, bits: &[u8], data: &[u8]) -> Result<Bytes, AllocError>
-    ensures { IfOk result (λ digest. digest ≡ sha256_of (bits.now ++ data.now)) }
+fn digest_of(alloc: Global, bits: &[u8], message: &[u8]) -> Result<Bytes, AllocError>
+    ensures { IfOk result (λ digest. digest ≡ sha256_of (bits.now ++ message.now)) }
 {
     let mut octets = Vec::from_slice(alloc, bits)?;
-    octets.extend_from_slice(data)?;
+    octets.extend_from_slice(message)?;
     let digest = Fips.sha256(octets.as_slice());
     Bytes::copy_from_slice(alloc, digest.as_slice())
 }
@@ -102,9 +102,9 @@ impl Signer for Stub {
         alloc: Global,
         _key: &(),
         algorithm: A,
-        data: &[u8],
+        message: &[u8],
     ) -> Result<Signature<A>, SigningError<Infallible>> {
-        match digest_of(alloc, &[0, 1], data) {
+        match digest_of(alloc, &[0, 1], message) {
             Ok(octets) => Ok(Signature::new(algorithm, octets)),
             Err(_) => Err(SigningError::Memory),
         }
@@ -114,13 +114,13 @@ impl Signer for Stub {
         &self,
         alloc: Global,
         algorithm: A,
-        data: &[u8],
+        message: &[u8],
     ) -> Result<(Signature<A>, PublicKey), SigningError<Infallible>> {
         if !self.is_willing {
             return Err(SigningError::IncompatibleKey);
         }
         let key = key_of(alloc, MADE)?;
-        match digest_of(alloc, &[0, 2], data) {
+        match digest_of(alloc, &[0, 2], message) {
             Ok(octets) => Ok((Signature::new(algorithm, octets), key)),
             Err(_) => {
                 drop(key);

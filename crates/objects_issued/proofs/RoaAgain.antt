@@ -2,6 +2,7 @@
 use Rattle.std.proofs.Common.{◌≡◌, ◌≢◌, ◌⊎◌, ℕ, List, [], ◌∷◌, ◌++◌, Result, Ok, Err, IfOk, true, inl, inr, refl, sym, ap, ◌∙◌, subst, append_assoc, append-nil}
 use Rattle.objects_issued.specs.bcder_tree.declared.mode.Mode.TheVariants.{Der}
 use Rattle.objects_issued.specs.bcder_content.Kept.{CapturedValue}
+use Rattle.objects_issued.specs.bcder_content.Texts.{SpellsOf}
 use Rattle.objects_issued.specs.certs_basics.Basics.{IsSmallEnough}
 use Rattle.objects_issued.specs.certs_basics.HandedIn.{Digests}
 use Rattle.objects_issued.specs.certs_basics.Keys.{KeyValue}
@@ -17,7 +18,6 @@ use Rattle.objects_issued.specs.resources_ip_prefix.Prefixes.{prefix_run}
 use Rattle.objects_issued.specs.resources_ip_prefix.declared.prefix.Prefix.{Prefix}
 use Rattle.resources_ip.specs.WholeSets.{ListsWhole}
 use Rattle.objects_built.specs.Builders.{BuilderValue, IsBuilt, IsComplete, IsPadded, IsSigned, KindIsRead, built_object}
-use Rattle.objects_written.proofs.RoaAgain.{roa_text}
 use Rattle.objects_issued.specs.Issued.{AreResourcesOf, Attests, IsRoaFor, runs_of}
 
 -- One prefix more.
@@ -62,10 +62,14 @@ complete b r made p some small whole = record {
   whole = whole;
 }
 
-pub roa_again : KindIsRead id.route_origin IsRoa RoaText → (d : Digests) (b : BuilderValue) (r : Roa) (octets : List ℕ) (x : IsRoaFor d b r octets) → HasAddress r → AreOfFamilies r → IsSmallEnough b.serial
+-- What is written of an attestation is read again.
+abbrev pub ContentIsRead : Type 0
+ContentIsRead = (r : Roa) (text : List ℕ) → HasAddress r → AreOfFamilies r → (roa r).writes Der text → SpellsOf Der IsRoa text r
+
+pub roa_again : KindIsRead id.route_origin IsRoa RoaText → ContentIsRead → (d : Digests) (b : BuilderValue) (r : Roa) (octets : List ℕ) (x : IsRoaFor d b r octets) → HasAddress r → AreOfFamilies r → IsSmallEnough b.serial
     → ListsWhole x.fields.v4 → IsPadded x.built.key → RoaText true octets (built_object x.built) r
-roa_again kinds d b r octets x some all small whole padded =
-    kinds d x.fields x.content octets x.built r (roa_text r x.content some all x.content_is) (complete b r x.fields x.attests some small whole) padded
+roa_again kinds contents d b r octets x some all small whole padded =
+    kinds d x.fields x.content octets x.built r (contents r x.content some all x.content_is) (complete b r x.fields x.attests some small whole) padded
 
 pub roa_built : {E : Type 0} (d : Digests) (b : BuilderValue) (r : Roa) (fields : BuilderValue) (content octets : List ℕ) → Attests b r fields → (roa r).writes Der content → octets ≡ content
     → (x : Result CapturedValue E) → IfOk x (λ c. IsBuilt d fields id.route_origin octets c.octets) → IfOk x (λ c. IsRoaFor d b r c.octets)

@@ -12,7 +12,7 @@ ghost use Rattle.objects_built.specs.Builders.{BuilderValue, IsPadded, built_obj
 ghost use Rattle.objects_issued.specs.Issued.{IsManifestFor, IsRoaFor};
 
 use objects_built::laws::built_kinds_are_read_again;
-use objects_written::laws::manifests_are_read_again;
+use objects_written::laws::{attestations_are_read_again, manifests_are_read_again};
 
 /// A manifest that is signed is read again, strictly, as the same manifest: where its files have names of the profile, and
 /// the unused bits of the key that the signer made are zero. Numbers are below 2^160, as each `Serial` is.
@@ -35,4 +35,5 @@ pub fn signed_roas_are_read_again()
         → RoaText true octets (built_object x.built) r }
 {
     built_kinds_are_read_again();
+    attestations_are_read_again();
 }

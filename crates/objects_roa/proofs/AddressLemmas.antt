@@ -21,7 +21,7 @@ use Rattle.objects_roa.specs.resources_ip_prefix.Prefixes.{first_of}
 use Rattle.objects_roa.specs.resources_ip_prefix.Wide.{widened}
 use Rattle.objects_roa.specs.resources_ip_prefix.declared.addr.AddressFamily.{AddressFamily}
 use Rattle.objects_roa.specs.resources_ip_prefix.Encodings.{FirstBits, told_by}
-use Rattle.objects_forms.proofs.of_resources_ip_block.Blocks.{address_one}
+use Rattle.objects_roa.specs.resources_ip_prefix.Meanings.{address_one}
 use Rattle.objects_forms.specs.Roas.{HasMaxLen, RoaAddress, address_of}
 use Rattle.objects_roa.specs.declared.address.RoaIpAddress.{RoaIpAddress}
 use Rattle.objects_roa.specs.Addresses.{AllOf, AreAddress, AreAddressFields, IsAddressOf, IsOf, address_fields, roa_address}

@@ -20,8 +20,7 @@ use Rattle.objects_roa.proofs.of_bcder_content.Within.{AllWithin, all_gives, all
 use Rattle.objects_roa.specs.resources_ip_prefix.declared.addr.AddressFamily.{AddressFamily}
 use Rattle.objects_roa.specs.resources_ip_prefix.declared.addr.AddressFamily.TheVariants.{Ipv4, Ipv6}
 use Rattle.objects_roa.specs.resources_ip_prefix.Encodings.{IsFamily}
-use Rattle.objects_forms.proofs.of_resources_ip.Mentioned.{family_one}
-use Rattle.objects_forms.proofs.of_resources_ip_block.Blocks.{address_one}
+use Rattle.objects_roa.specs.resources_ip_prefix.Meanings.{address_one, family_one}
 use Rattle.objects_forms.specs.Roas.{AreOf, AreRoaFamilies, FamilyAddresses, FamilyPair, IsRoaFamily, RoaAddress}
 use Rattle.objects_roa.specs.declared.families.Families.{Families}
 use Rattle.objects_roa.specs.Addresses.{AllOf, AreAddresses, IsAddressOf}

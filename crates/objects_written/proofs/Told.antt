@@ -9,7 +9,7 @@ use Rattle.objects_written.specs.objects_forms.Roas.{FamilyAddresses, IsRoa, Roa
 use Rattle.objects_written.specs.Manifests.{AreFileNames, IsManifestNumber, manifest}
 use Rattle.objects_written.specs.Roas.{AreOfFamilies, HasAddress, roa, shown}
 use Rattle.objects_written.proofs.ManifestAgain.{manifest_text}
-use Rattle.objects_written.proofs.RoaAgain.{roa_text}
+use Rattle.objects_written.proofs.RoaAgain.{PrefixIsRead, roa_text}
 
 pub shown_none : (f : AddressFamily) (xs : List RoaAddress) → xs ≡ [] → None ≡ shown f xs
 shown_none f xs e = subst (λ (l : List RoaAddress). None ≡ shown f l) (sym e) refl
@@ -21,9 +21,9 @@ pub shown_some : (f : AddressFamily) (xs : List RoaAddress) → (xs ≡ [] → �
 shown_some f [] n = absurd (n refl)
 shown_some f (x ∷ xs) n = refl
 
-pub roa_told : {E : Type 0} (r : Roa) → AreOfFamilies r → (result : Result CapturedValue E) → IfOk result (λ c. (roa r).writes Der c.octets) → IfOk result (λ c. HasAddress r → SpellsOf Der IsRoa c.octets r)
-roa_told r all (Ok c) h = λ some. roa_text r c.octets some all h
-roa_told r all (Err e) h = tt
+pub roa_told : {E : Type 0} → PrefixIsRead → (r : Roa) → AreOfFamilies r → (result : Result CapturedValue E) → IfOk result (λ c. (roa r).writes Der c.octets) → IfOk result (λ c. HasAddress r → SpellsOf Der IsRoa c.octets r)
+roa_told read r all (Ok c) h = λ some. roa_text read r c.octets some all h
+roa_told read r all (Err e) h = tt
 
 pub manifest_told : {E : Type 0} (x : Manifest) → IsManifestNumber x.number → (result : Result CapturedValue E) → IfOk result (λ c. (manifest x).writes Der c.octets)
     → IfOk result (λ c. AreFileNames x.files → SpellsOf Der IsManifest c.octets x)

@@ -6,16 +6,23 @@ ghost use Rattle.objects_written.specs.bcder_tree.declared.mode.Mode.TheVariants
 ghost use Rattle.objects_written.specs.bcder_content.Grammar.{One};
 ghost use Rattle.objects_written.specs.bcder_content.Texts.{SpellsOf};
 ghost use Rattle.objects_written.specs.objects_forms.Manifests.{IsManifest, Manifest};
-ghost use Rattle.objects_written.specs.objects_forms.Roas.{Roa};
+ghost use Rattle.objects_written.specs.objects_forms.Roas.{IsRoa, Roa};
 ghost use Rattle.objects_roa.specs.Contents.{IsRoaIn};
 ghost use Rattle.objects_written.specs.Manifests.{AreFileNames, IsManifestNumber, manifest};
 ghost use Rattle.objects_written.specs.Roas.{AreOfFamilies, HasAddress, roa};
 
-/// What is written of an attestation that has an address is read again as the same attestation, in each mode.
+use resources_ip_prefix::laws::a_prefix_is_read_again;
+
+/// What is written of an attestation that has an address is read again as the same attestation, in each mode; in DER as
+/// the content of a signed object.
 pub fn attestations_are_read_again()
-    ensures { (m : ModeValue) (r : Roa) (text : List ℕ) → HasAddress r → AreOfFamilies r
+    ensures modes { (m : ModeValue) (r : Roa) (text : List ℕ) → HasAddress r → AreOfFamilies r
         → (roa r).writes m text → SpellsOf m (IsRoaIn m) text r }
-{}
+    ensures der { (r : Roa) (text : List ℕ) → HasAddress r → AreOfFamilies r
+        → (roa r).writes Der text → SpellsOf Der IsRoa text r }
+{
+    a_prefix_is_read_again();
+}
 
 /// What is written in DER of a manifest, whose files have names of the profile, is read again as the same manifest.
 pub fn manifests_are_read_again()

@@ -13,6 +13,7 @@ use certs_key::{Captured, Mode, Tag};
 use certs_written::Sequence;
 use objects_forms::{AddressFamily, Asn};
 use objects_roa::RouteOriginAttestation;
+use resources_ip_prefix::laws::a_prefix_is_read_again;
 use std::alloc::Global;
 use std::io::Write;
 use std::marker::Model;
@@ -143,6 +144,7 @@ impl EncodeRoa for RouteOriginAttestation {
     }
 
     fn to_octets(&self, alloc: Global) -> Result<Captured, EncodeError> {
+        a_prefix_is_read_again();
         let value = value_of(self);
         value.to_captured(alloc, Mode::Der)
     }

@@ -29,7 +29,8 @@
 //!   where nothing was trimmed.
 //! - A refused claim is a [`ClaimError`], with the numbers outside. `verify_path` is new: it folds `verify_issued`
 //!   along a path.
-//! - AS numbers, blocks, sets and resources are values that can be written, and `encode` answers them as they are.
+//! - Ranges and blocks of AS numbers, sets and resources are themselves values that can be written, where the Rust crate
+//!   has `encode`; `encode_ref` lends a set or resources as they are.
 //!   Both families of IP resources are read together, as an [`IpFamilies`], of which at least one is there, and
 //!   written together, as that or by [`IpResources::encode_families`].
 //! - The identifiers of [`Overclaim`] are calls of the trait [`OverclaimIds`].

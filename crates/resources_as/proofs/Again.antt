@@ -1,5 +1,5 @@
 -- What is written of AS resources means just these.
-use Rattle.std.proofs.Common.{◌≡◌, ◌≢◌, List, Result, Ok, Err, refl, sym, subst, inl, inr, arith}
+use Rattle.std.proofs.Common.{◌≢◌, List, Result, Ok, Err, refl, sym, subst, inl, inr}
 use Rattle.std.specs.Prelude.{IfOk}
 use Rattle.resources_as.specs.bcder_tree.Tags.{context, null_tag, sequence_tag}
 use Rattle.resources_as.specs.bcder_tree.Tree.{Tree, Trees, primitive, constructed, none}
@@ -7,18 +7,14 @@ use Rattle.resources_as.specs.bcder_primitive.Values.{IsNull}
 use Rattle.resources_as.specs.bcder_source.declared.error.DecodeError.{DecodeError}
 use Rattle.resources_as.specs.bcder_content.Contents.{ValuesLeft}
 use Rattle.resources_as.specs.bcder_content.Exact.{ReadsAs}
-use Rattle.resources_as.specs.bcder_content.Grammar.{One, OneAll, OneOctets}
-use Rattle.resources_as.proofs.of_bcder_content.Choices.{universal_apart}
-use Rattle.resources_as.proofs.of_bcder_content.Unique.{octets_one, inside_one, as_one, one_of_one, end_one, then_one, many_one}
 use Rattle.resources_as.specs.bcder_written.Encoded.{IsPlain, IsWrapped}
-use Rattle.resources_as.specs.resources_chain.Sets.{Run, InRuns, AreMaximal, IsRunsOf}
+use Rattle.resources_as.specs.resources_chain.Sets.{Run, AreMaximal}
 use Rattle.resources_as.specs.resources_chain.Claims.{Choice}
 use Rattle.resources_as.specs.resources_chain.declared.choice.ResourcesChoice.TheVariants.{Missing, Inherit, Blocks}
-use Rattle.resources_as.proofs.of_resources_chain.SetLemmas.{one_list_of}
-use Rattle.resources_as_block.proofs.Again.{IsOne, blocks_are, block_one}
-use Rattle.resources_as.specs.Encodings.{AreBlocks, IsAsSet, IsAsChoice, IsAsResources}
+use Rattle.resources_as_block.proofs.Again.{IsOne, blocks_are}
+use Rattle.resources_as.specs.Encodings.{IsAsSet, IsAsChoice, IsAsResources}
+use Rattle.resources_as.specs.Meanings.{resources_one}
 use Rattle.resources_as.specs.Written.{AreAsBlocks, AreIdentifiers, AreAsResources, HasMaximal, MeansJust, ReadsSet}
-use Rattle.resources_as.proofs.Reading.{inherit_tagged, list_tagged}
 
 set_is : (runs : List Run) (ts : Trees) → AreMaximal runs → IsWrapped sequence_tag (AreAsBlocks runs) ts → IsOne IsAsSet runs ts
 set_is runs ts m p = record {
@@ -68,23 +64,6 @@ identifiers_are P choice inner ts p =
       };
     }
 
--- AS resources have one meaning.
-null_one : OneOctets IsNull
-null_one = record { one = λ content x y p q. refl }
-
-blocks_one : OneAll AreBlocks
-blocks_one = record {
-  one = λ ts x y p q.
-      let same : p.runs ≡ q.runs = (many_one block_one).one ts p.runs q.runs p.are q.are in
-      one_list_of p.union (subst (λ (runs : List Run). IsRunsOf (InRuns runs) y) (sym same) q.union);
-}
-
-choice_one : One IsAsChoice
-choice_one = one_of_one inherit_tagged list_tagged (universal_apart (λ e. omega arith)) (as_one (octets_one null_one)) (as_one (inside_one blocks_one))
-
-pub resources_one : One IsAsResources
-resources_one = as_one (inside_one (then_one (inside_one (then_one choice_one end_one)) end_one))
-
 just : (choice : Choice) (ts : Trees) → IsOne IsAsResources choice ts → MeansJust choice ts
 just choice ts a = record { tree = a.tree; whole = a.whole; is = a.is; only = λ other p. resources_one.one a.tree other choice p a.is }
 
@@ -93,15 +72,9 @@ means_just Missing ts m there p = absurd (there refl)
 means_just Inherit ts m there p = just Inherit ts (identifiers_are (IsPlain null_tag (λ content. IsNull content tt)) Inherit null_is ts p)
 means_just (Blocks runs) ts m there p = just (Blocks runs) ts (identifiers_are (IsWrapped sequence_tag (AreAsBlocks runs)) (Blocks runs) (λ us q. list_is runs us m q) ts p)
 
-pub one_choice : (t : Tree) (one other : Choice) → IsAsResources t one → IsAsResources t other → one ≡ other
-one_choice t one other p q = resources_one.one t one other p q
-
 -- A SEQUENCE of the blocks is read as the same set, and a set that is read can be written.
 pub set_again : (runs : List Run) (ts : Trees) → AreMaximal runs → IsWrapped sequence_tag (AreAsBlocks runs) ts → ReadsSet runs ts
 set_again runs ts m p = let a = set_is runs ts m p in record { tree = a.tree; alone = a.whole; is = a.is }
-
-pub one_set : (t : Tree) (one other : List Run) → IsAsSet t one → IsAsSet t other → one ≡ other
-one_set t one other p q = (inside_one blocks_one).one t one other p q
 
 pub set_fits : (t : Tree) (runs : List Run) → IsAsSet t runs → AreMaximal runs
 set_fits t runs p = p.is.union.maximal

@@ -1,23 +1,15 @@
--- What reading AS resources rests on: tags, one meaning of a value, and lists by their sets.
+-- What reading AS resources rests on: a list of blocks is read by its set.
 use Rattle.std.proofs.Common.{◌≡◌, List, Result, Ok, Err, subst, sym}
 use Rattle.std.specs.Result.{IsErr, IsErrAnd}
-use Rattle.resources_as.specs.bcder_tree.Tags.{null_tag, sequence_tag}
 use Rattle.resources_as.specs.bcder_source.Errors.{OnContent}
 use Rattle.resources_as.specs.bcder_content.Contents.{ValuesLeft}
 use Rattle.resources_as.specs.bcder_content.Exact.{GivesAll, LacksAll, ReadsAllAs}
 use Rattle.resources_as.specs.bcder_source.declared.error.DecodeError.{DecodeError}
 use Rattle.resources_as.proofs.of_bcder_content.Taking.{weaker}
-use Rattle.resources_as.specs.bcder_content.Grammar.{Many, Tagged}
-use Rattle.resources_as.proofs.of_bcder_content.Unique.{octets_tagged, as_tagged, inside_tagged}
+use Rattle.resources_as.specs.bcder_content.Grammar.{Many}
 use Rattle.resources_as.specs.resources_chain.Sets.{Run, InRuns, IsRunsOf}
 use Rattle.resources_as_block.specs.Encodings.{IsAsBlock}
-use Rattle.resources_as.specs.Encodings.{AreBlocks, InheritsAs, ListsAs}
-
-pub inherit_tagged : Tagged null_tag InheritsAs
-inherit_tagged = as_tagged (octets_tagged _ _)
-
-pub list_tagged : Tagged sequence_tag ListsAs
-list_tagged = as_tagged (inside_tagged _ _)
+use Rattle.resources_as.specs.Encodings.{AreBlocks}
 
 -- Blocks mean their union.
 pub blocks_stop : {C E : Type 0} (f : C → List Run) (v w : ValuesLeft) (r : Result C (DecodeError E)) (e : DecodeError E) → IsErr r × IsErrAnd r (λ x. x ≡ e) → OnContent e (LacksAll (Many IsAsBlock) v) → ReadsAllAs f AreBlocks v r w

@@ -4,4 +4,3 @@ pub use Rattle.resources_as_block.proofs.of_bcder_content.Forests
 pub use Rattle.resources_as_block.proofs.of_bcder_content.Inside
 pub use Rattle.resources_as_block.proofs.of_bcder_content.Perhaps
 pub use Rattle.resources_as_block.proofs.of_bcder_content.Taking
-pub use Rattle.resources_as_block.proofs.of_bcder_content.Unique

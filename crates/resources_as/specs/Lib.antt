@@ -1,5 +1,6 @@
 pub mod Choices
 pub mod Encodings
+pub mod Meanings
 pub mod Texts
 pub mod Written
 -- What stands below, for the crates above.

@@ -11,7 +11,9 @@ ghost use Rattle.resources_as.specs.Encodings.{IsAsResources, IsAsSet};
 ghost use Rattle.resources_as.specs.Texts.{IsAsSetText};
 ghost use Rattle.resources_as.specs.Written.{AreAsBlocks, AreAsResources, HasMaximal, MeansJust, ReadsSet};
 
-pub use resources_as_block::laws::{one_list_of_a_set, runs_are_counted, runs_are_listed};
+pub use resources_as_block::laws::{
+    one_list_of_a_set, one_meaning as one_block, runs_are_counted, runs_are_listed,
+};
 
 /// What is written of AS resources that aren't missing is one value, which a reader takes for just these.
 pub fn what_is_written_means_just_these()

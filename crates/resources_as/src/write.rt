@@ -37,15 +37,6 @@ impl Values for AsBlocks {
 
 impl AsBlocks {
     /// The set as values that can be written: its blocks (RFC 3779 section 3.2.3.4), with no SEQUENCE around them.
-    pub fn encode(self) -> AsBlocks
-        ensures same { result ≡ self }
-        ensures maximal { AreMaximal result }
-    {
-        self.runs_are_maximal();
-        self
-    }
-
-    /// Encodes the borrowed set, as `encode` does.
     pub fn encode_ref(&self) -> &AsBlocks
         ensures same { result.now ≡ self.now }
         ensures maximal { AreMaximal self.now }
@@ -192,15 +183,6 @@ impl Values for AsResources {
 
 impl AsResources {
     /// The resources as values that can be written (RFC 3779 section 3.2.3).
-    pub fn encode(self) -> AsResources
-        ensures same { result ≡ self }
-        ensures maximal { HasMaximal result }
-    {
-        self.runs_are_maximal();
-        self
-    }
-
-    /// Encodes the borrowed resources, as `encode` does.
     pub fn encode_ref(&self) -> &AsResources
         ensures same { result.now ≡ self.now }
         ensures maximal { HasMaximal self.now }

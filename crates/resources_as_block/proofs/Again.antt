@@ -1,19 +1,16 @@
 -- What is written of blocks of AS numbers means just these.
-use Rattle.std.proofs.Common.{◌≡◌, ℕ, ◌≤◌, ◌==◌, Bool, true, false, List, [], ◌∷◌, refl, sym, ap, ◌∙◌, inl, inr, arith}
+use Rattle.std.proofs.Common.{◌≡◌, ℕ, ◌≤◌, ◌==◌, Bool, true, false, List, [], ◌∷◌, refl, sym, ap, ◌∙◌, inl, inr}
 use Rattle.std.proofs.lemmas.Bool.{eqb-true}
 use Rattle.resources_as_block.specs.bcder_tree.Tags.{integer_tag, sequence_tag}
 use Rattle.resources_as_block.specs.bcder_tree.Tree.{Tree, Trees, primitive, constructed, none, more}
-use Rattle.resources_as_block.specs.bcder_content.Grammar.{As, ManyCases, One}
-use Rattle.resources_as_block.proofs.of_bcder_content.Unique.{octets_one, unsigned_one, inside_one, as_one, one_of_one}
+use Rattle.resources_as_block.specs.bcder_content.Grammar.{As, ManyCases}
 use Rattle.resources_as_block.specs.bcder_written.Encoded.{AreBoth, joined}
-use Rattle.resources_as_block.proofs.of_bcder_content.Choices.{universal_apart}
 use Rattle.resources_as_block.specs.bcder_values.Lists.{AreAll}
 use Rattle.resources_as_block.specs.resources_chain.Sets.{Run, AreMaximal}
 use Rattle.resources_as_block.specs.resources_chain.Same.{run_is}
 use Rattle.resources_asn.specs.Encodings.{IsAsId}
 use Rattle.resources_as_block.specs.Encodings.{AreEnds, IsAsRange, IsAsBlock, alone, from_to}
 use Rattle.resources_as_block.specs.Written.{AreAsId, AreAsRange, AreIdOrRange, AreAsBlock}
-use Rattle.resources_as_block.proofs.Reading.{id_tagged, range_tagged, ordered_one}
 
 -- One value of the grammar with that meaning.
 pub record IsOne {A : Type 0} (Q : Tree → A → Type 0) (x : A) (ts : Trees) : Type 0 where
@@ -65,7 +62,3 @@ blocks_are [] ts m p = p
 blocks_are (r ∷ runs) ts m p =
     let a = block_is r p.first m.0 p.is_first in
     (a.tree, p.second, p.whole ∙ ap (λ (x : Trees). joined x p.second) a.whole, a.is, blocks_are runs p.second m.2 p.is_second)
-
--- A block has one meaning.
-pub block_one : One IsAsBlock
-block_one = one_of_one id_tagged range_tagged (universal_apart (λ e. omega arith)) (as_one (octets_one unsigned_one)) (as_one (inside_one ordered_one))

@@ -1,33 +1,16 @@
--- What reading blocks of AS numbers rests on: tags, and one meaning of a value.
+-- What reading ranges of AS numbers rests on: of two numbers it is tested that the first isn't above the second.
 use Rattle.std.proofs.Common.{◌≡◌, ◌≤◌, ℕ, Result, Ok, Err, subst, sym}
 use Rattle.std.specs.Result.{IsErr, IsErrAnd}
-use Rattle.resources_as_block.specs.bcder_tree.Tags.{integer_tag, sequence_tag}
 use Rattle.resources_as_block.specs.bcder_tree.Tree.{Trees}
 use Rattle.resources_as_block.specs.bcder_source.Errors.{OnContent}
 use Rattle.resources_as_block.specs.bcder_source.declared.error.DecodeError.{DecodeError}
 use Rattle.resources_as_block.specs.bcder_content.Contents.{ValuesLeft, Whole}
 use Rattle.resources_as_block.specs.bcder_content.Exact.{GivesAll, LacksAll, ReadsAllAs}
-use Rattle.resources_as_block.specs.bcder_content.Grammar.{As, OneAll, Tagged}
 use Rattle.resources_as_block.proofs.of_bcder_content.Taking.{on_content, weaker}
 use Rattle.resources_as_block.proofs.of_bcder_content.Took.{one_whole}
-use Rattle.resources_as_block.proofs.of_bcder_content.Unique.{octets_tagged, inside_tagged, as_tagged, octets_one, unsigned_one, then_one, end_one}
-use Rattle.resources_asn.specs.Encodings.{IsAsId}
-use Rattle.resources_as_block.specs.Encodings.{AreEnds, AreOrdered, Ends, IsAsRange, alone, from_to}
+use Rattle.resources_as_block.specs.Encodings.{AreEnds, AreOrdered, Ends}
+use Rattle.resources_as_block.specs.Meanings.{ends_one}
 
-pub id_tagged : Tagged integer_tag (As IsAsId alone)
-id_tagged = as_tagged (octets_tagged _ _)
-
-pub range_tagged : Tagged sequence_tag (As IsAsRange from_to)
-range_tagged = as_tagged (inside_tagged _ _)
-
--- Two numbers are read in one way.
-ends_one : OneAll AreEnds
-ends_one = then_one (octets_one unsigned_one) (then_one (octets_one unsigned_one) end_one)
-
-pub ordered_one : OneAll AreOrdered
-ordered_one = record { one = λ ts x y p q. ends_one.one ts x y p.are q.are }
-
--- Two numbers that are read are tested for their order.
 pub ordered_stop : {C E : Type 0} (f : C → Ends) (v w : ValuesLeft) (r : Result C (DecodeError E)) (e : DecodeError E) → IsErr r × IsErrAnd r (λ x. x ≡ e) → OnContent e (LacksAll AreEnds v) → ReadsAllAs f AreOrdered v r w
 ordered_stop f v w (Ok y) e a l = absurd a.1
 ordered_stop {E = E} f v w (Err x) e a l = subst (λ (z : DecodeError E). OnContent z (LacksAll AreOrdered v)) (sym a.1) (weaker e (λ lacks. record { none = λ ts y p whole. lacks.none ts y p.are whole }) l)

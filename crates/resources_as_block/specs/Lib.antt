@@ -3,6 +3,7 @@ pub mod Blocks
 pub mod Counted
 pub mod Left
 pub mod Encodings
+pub mod Meanings
 pub mod Texts
 pub mod Reading
 pub mod Written

@@ -140,15 +140,6 @@ impl Values for AsRange {
     ghost one_text = { λ r m. range_one m (range_run r) };
 }
 
-impl AsRange {
-    /// The range as values that can be written.
-    pub fn encode(self) -> AsRange
-        ensures { result ≡ self }
-    {
-        self
-    }
-}
-
 /// A number where the block has one alone, else a range, whatever it was made of.
 impl Values for AsBlock {
     ghost trees = { λ b m. AreAsBlock (as_run b) };
@@ -166,13 +157,4 @@ impl Values for AsBlock {
     ghost spelled = { λ b m. block_spelled m (as_run b) };
 
     ghost one_text = { λ b m. block_one m (as_run b) };
-}
-
-impl AsBlock {
-    /// The block as values that can be written.
-    pub fn encode(self) -> AsBlock
-        ensures { result ≡ self }
-    {
-        self
-    }
 }

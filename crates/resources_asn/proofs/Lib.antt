@@ -1,6 +1,8 @@
 pub mod ListLemmas
 pub mod ChosenLemmas
 pub mod SmallLemmas
+pub mod Sorting
+pub mod Adding
 pub mod TextLemmas
 pub mod of_bcder_content
 pub mod of_resources_chain

@@ -1,5 +1,5 @@
 -- Sets of AS numbers as ascending lists.
-use Rattle.std.proofs.Common.{◌≡◌, ℕ, ◌<◌, ◌≤◌, ◌⊎◌, ◌↔◌, ◌==◌, Bool, true, false, IsTrue, List, [], ◌∷◌, inl, inr, refl, suc, zero, sym, subst, ap, ◌∙◌, arith, get_or}
+use Rattle.std.proofs.Common.{◌≡◌, ℕ, ◌<◌, ◌≤◌, ◌⊎◌, ◌↔◌, Bool, true, false, IsTrue, List, [], ◌∷◌, inl, inr, refl, suc, zero, sym, subst, ap, ◌∙◌, arith, get_or}
 use Rattle.std.specs.Prelude.{length, Result, Ok, Err, is_ok}
 use Rattle.std.specs.List.{Contains, dedup}
 use Rattle.std.specs.List.Sorted.{IsPermutation, IsStrictlySortedBy, IsSorted, IsNonDecreasingBy, IsBinarySearchResult, IsPartitionPoint, IsSearchInRange}
@@ -15,7 +15,7 @@ use Rattle.std.proofs.lemmas.List.Filters.{dedup_is}
 use Rattle.std.proofs.lemmas.List.Kept.{IsStrictlySortedBy-dedup, Contains-dedup, Contains-from_dedup}
 use Rattle.std.proofs.lemmas.List.Sorted.{Contains-permutation, IsPermutation-sym}
 use Rattle.resources_asn.specs.Numbers.{Number, same_number}
-use Rattle.resources_asn.specs.Listed.{InList, IsBelow, IsAscending, IsListOf}
+use Rattle.resources_asn.specs.Listed.{InList, IsBelow, IsAscending, IsListOf, is_same}
 use Rattle.resources_asn.specs.Chosen.{values, has, chooses, is_chosen, passing}
 use Rattle.resources_asn.specs.declared.selection.Choice.{Choice}
 use Rattle.resources_asn.specs.declared.selection.Choice.TheVariants.{Either, Both, FirstOnly, OneOnly}
@@ -87,7 +87,7 @@ placed [] n i = absurd i
 placed (a ∷ us) n (inl e) = (a, (0, omega arith, refl), e)
 placed (a ∷ us) n (inr i) = let h = placed us n i in (h.0, (suc h.1.0, omega (arith, h.1.1), h.1.2), h.2)
 
-at_place : (us : List Number) (n k : ℕ) (d : Number) → k < length us → (get_or us k d).value ≡ n → InList (values us) n
+pub at_place : (us : List Number) (n k : ℕ) (d : Number) → k < length us → (get_or us k d).value ≡ n → InList (values us) n
 at_place [] n k d p e = absurd (omega arith)
 at_place (a ∷ us) n zero d p e = inl (sym e)
 at_place (a ∷ us) n (suc k) d p e = inr (at_place us n k d (omega arith) e)
@@ -96,11 +96,8 @@ contained : (us : List Number) (n : ℕ) (a : Number) → Contains us a → n �
 contained us n a h e = at_place us n h.0 a h.1 (ap (λ (x : Number). x.value) h.2 ∙ sym e)
 
 -- Strictly sorted numbers ascend.
-abbrev by_value : Number → Number → Ordering
+abbrev pub by_value : Number → Number → Ordering
 by_value = on (λ a. a.value) nat_cmp
-
-abbrev eq_value : Number → Number → Bool
-eq_value a b = a.value == b.value
 
 strict_below : (x : Number) (us : List Number) → IsStrictlySortedBy by_value (x ∷ us) → IsBelow x.value (values us) × IsStrictlySortedBy by_value us
 unfolding IsStrictlySortedBy
@@ -114,23 +111,23 @@ strict_ascends [] s = tt
 strict_ascends (a ∷ us) s = let h = strict_below a us s in (h.0, strict_ascends us h.1)
 
 -- What a sort and the removal of doubles leave.
-pub sorted_list : (old mid new : List Number) → IsPermutation old mid → IsSorted by_value mid → IsFiltered (DiffersFromLast eq_value) [] mid new → IsListOf (InList (values old)) (values new)
+pub sorted_list : (old mid new : List Number) → IsPermutation old mid → IsSorted by_value mid → IsFiltered (DiffersFromLast is_same) [] mid new → IsListOf (InList (values old)) (values new)
 sorted_list old mid new p s f =
-    let e : new ≡ dedup eq_value mid = dedup_is eq_value mid new f in
-    let same : (a b : Number) → eq_value a b ≡ true → a ≡ b = λ a b t. same_number a b (eqb-true a.value b.value t) in
-    let strict : IsStrictlySortedBy by_value (dedup eq_value mid) = IsStrictlySortedBy-dedup (on_total (λ (a : Number). a.value) nat_cmp_total) (λ a b. unsigned_ties a.value b.value) mid s in
-    let up : IsAscending (values (dedup eq_value mid)) = strict_ascends (dedup eq_value mid) strict in
+    let e : new ≡ dedup is_same mid = dedup_is is_same mid new f in
+    let same : (a b : Number) → is_same a b ≡ true → a ≡ b = λ a b t. same_number a b (eqb-true a.value b.value t) in
+    let strict : IsStrictlySortedBy by_value (dedup is_same mid) = IsStrictlySortedBy-dedup (on_total (λ (a : Number). a.value) nat_cmp_total) (λ a b. unsigned_ties a.value b.value) mid s in
+    let up : IsAscending (values (dedup is_same mid)) = strict_ascends (dedup is_same mid) strict in
     let P : List Number → Type 0 = λ us. IsListOf (InList (values old)) (values us) in
     subst P (sym e) (record {
       ascending = up;
       same = λ n. (
-        λ i. let h = placed (dedup eq_value mid) n i in contained old n h.0 (Contains-permutation mid old h.0 (IsPermutation-sym old mid p) (Contains-from_dedup eq_value mid h.0 h.1)) h.2,
-        λ i. let h = placed old n i in contained (dedup eq_value mid) n h.0 (Contains-dedup (on_equiv (λ (a : Number). a.value) nat_eq_equiv) same mid h.0 (Contains-permutation old mid h.0 p h.1)) h.2,
+        λ i. let h = placed (dedup is_same mid) n i in contained old n h.0 (Contains-permutation mid old h.0 (IsPermutation-sym old mid p) (Contains-from_dedup is_same mid h.0 h.1)) h.2,
+        λ i. let h = placed old n i in contained (dedup is_same mid) n h.0 (Contains-dedup (on_equiv (λ (a : Number). a.value) nat_eq_equiv) same mid h.0 (Contains-permutation old mid h.0 p h.1)) h.2,
       );
     })
 
 -- What a search by halves finds.
-ascends_at : (us : List Number) → IsAscending (values us) → (i j : ℕ) (d : Number) → i ≤ j → j < length us → (get_or us i d).value ≤ (get_or us j d).value
+pub ascends_at : (us : List Number) → IsAscending (values us) → (i j : ℕ) (d : Number) → i ≤ j → j < length us → (get_or us i d).value ≤ (get_or us j d).value
 ascends_at [] up i j d l b = absurd (omega arith)
 ascends_at (u ∷ us) up zero zero d l b = omega arith
 ascends_at (u ∷ us) up zero (suc j) d l b =
@@ -139,10 +136,10 @@ ascends_at (u ∷ us) up zero (suc j) d l b =
 ascends_at (u ∷ us) up (suc i) zero d l b = absurd (omega arith)
 ascends_at (u ∷ us) up (suc i) (suc j) d l b = ascends_at us up.1 i j d (omega arith) (omega arith)
 
-index_up : (a b x : ℕ) → a ≤ b → ordering_index (nat_cmp a x) ≤ ordering_index (nat_cmp b x)
+pub index_up : (a b x : ℕ) → a ≤ b → ordering_index (nat_cmp a x) ≤ ordering_index (nat_cmp b x)
 index_up a b x l = grind (arith, nat_tests)
 
-not_found : (us : List Number) (n i : ℕ) → IsAscending (values us) → (IsNonDecreasingBy (λ (y : Number). ordering_index (nat_cmp y.value n)) us → IsPartitionPoint (λ (y : Number). nat_cmp y.value n ≡ Less) (λ (y : Number). nat_cmp y.value n ≡ Greater) us i) → InList (values us) n → ⊥
+pub not_found : (us : List Number) (n i : ℕ) → IsAscending (values us) → (IsNonDecreasingBy (λ (y : Number). ordering_index (nat_cmp y.value n)) us → IsPartitionPoint (λ (y : Number). nat_cmp y.value n ≡ Less) (λ (y : Number). nat_cmp y.value n ≡ Greater) us i) → InList (values us) n → ⊥
 not_found us n i up part j =
     let p = part (λ a b d l m. index_up (get_or us a d).value (get_or us b d).value n (ascends_at us up a b d l m)) in
     let h = placed us n j in

@@ -1,5 +1,7 @@
 -- Sets of numbers as lists, each number once, ascending.
-use Rattle.std.specs.Prelude.{◌≡◌, ℕ, ◌<◌, ◌⊎◌, ◌↔◌, List, [], ◌∷◌}
+use Rattle.std.specs.Prelude.{◌≡◌, ◌==◌, ℕ, ◌<◌, ◌⊎◌, ◌↔◌, Bool, List, [], ◌∷◌}
+use Rattle.std.specs.List.{IsDistinct}
+use Rattle.resources_asn.specs.Numbers.{Number}
 
 abbrev pub InList : List ℕ → ℕ → Type 0
 InList [] n = ⊥
@@ -19,3 +21,11 @@ IsAscending (x ∷ xs) = IsBelow x xs × IsAscending xs
 pub record IsListOf (P : ℕ → Type 0) (numbers : List ℕ) : Type 0 where
   pub ascending : IsAscending numbers
   pub same : (n : ℕ) → InList numbers n ↔ P n
+
+-- Whether they are one AS number.
+abbrev pub is_same : Number → Number → Bool
+is_same a b = a.value == b.value
+
+-- No AS number stands twice.
+abbrev pub AreDistinct : List Number → Type 0
+AreDistinct asns = IsDistinct is_same asns

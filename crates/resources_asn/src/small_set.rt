@@ -1,9 +1,9 @@
 //! Small sets of AS numbers, kept as ascending lists.
 
-ghost use Rattle.std.specs.Prelude.{◌≡◌, ℕ, ◌⊎◌, ◌↔◌, List, [], IsTrue, IfOk, length, ⊤};
+ghost use Rattle.std.specs.Prelude.{◌≡◌, ℕ, ◌⊎◌, ◌↔◌, List, [], IsTrue, IfOk, OnErr, OnOk, false, length, ⊤};
 ghost use Rattle.std.specs.Iterator.{IsFinite, DrainsIf, YieldsFirstBy, item_count};
 ghost use Rattle.resources_asn.specs.Chosen.{values};
-ghost use Rattle.resources_asn.specs.Listed.{InList, IsAscending, IsListOf};
+ghost use Rattle.resources_asn.specs.Listed.{AreDistinct, InList, IsAscending, IsListOf};
 
 use crate::asn::Asn;
 use crate::selection::{Choice, Selection};
@@ -46,6 +46,18 @@ impl SmallAsnSet {
         SmallAsnSet { asns }
     }
 
+    /// The set of these AS numbers, in any order; those that come again are left out. It has as many as came just where none
+    /// came twice.
+    pub fn from_vec(asns: Vec<Asn>) -> Self
+        ensures set { IsListOf (InList (values asns.items)) result }
+        ensures distinct { (length result ≡ length asns.items) ↔ AreDistinct asns.items }
+    {
+        let mut sorted = asns;
+        sorted.sort_unstable();
+        sorted.dedup();
+        SmallAsnSet { asns: sorted }
+    }
+
     /// The set of the AS numbers that come, in any order; those that come again are left out.
     pub fn from_iter<I: Iterator<Item = Asn> + Drop>(
         alloc: Global,
@@ -56,9 +68,37 @@ impl SmallAsnSet {
         ensures { IfOk result (λ s. (came : List Asn) × DrainsIf I.next_gives ⊤ asns came
             × IsListOf (InList (values came)) s) }
     {
-        let mut asns: Vec<Asn> = asns.collect(alloc)?;
-        sort(&mut asns);
-        Ok(SmallAsnSet { asns })
+        let asns: Vec<Asn> = asns.collect(alloc)?;
+        Ok(SmallAsnSet::from_vec(asns))
+    }
+
+    /// One AS number more, in its place. Answers whether it is new; where it is there already nothing changes.
+    ///
+    /// Refused for lack of memory alone, which is asked for only where the number is new; then nothing changes.
+    pub fn insert(&mut self, asn: Asn) -> Result<bool, AllocError>
+        ensures added { OnOk result (IsListOf
+            (λ n. (n ≡ asn.value) ⊎ InList self.old n) self.new) }
+        ensures new { IfOk result (λ is_new. IsTrue is_new ↔ ¬ (InList self.old asn.value)) }
+        ensures known { IfOk result (λ is_new. (is_new ≡ false) ↔ InList self.old asn.value) }
+        ensures same { InList self.old asn.value → self.new ≡ self.old }
+        ensures err { OnErr result (self.new ≡ self.old) }
+        ensures memory { OnErr result (¬ (InList self.old asn.value)) }
+    {
+        match self.asns.binary_search(&asn) {
+            Ok(_) => Ok(false),
+            Err(place) => {
+                self.asns.insert(place, asn)?;
+                Ok(true)
+            }
+        }
+    }
+
+    /// The AS numbers, ascending, as a slice.
+    pub fn as_slice(&self) -> &[Asn]
+        ensures same { values result.now ≡ self.now }
+        ensures ascending { IsAscending self.now }
+    {
+        &self.asns
     }
 
     /// The AS numbers, ascending.
@@ -152,14 +192,6 @@ impl<'a> IntoIterator for &'a SmallAsnSet {
     fn into_iter(self) -> SmallSetIter<'a> {
         self.iter()
     }
-}
-
-/// Sorts AS numbers and leaves out those that come again.
-fn sort(asns: &mut Vec<Asn>)
-    ensures { IsListOf (InList (values asns.old.items)) (values asns.new.items) }
-{
-    asns.sort_unstable();
-    asns.dedup();
 }
 
 /// The AS numbers of a set, ascending. Contracts see the list of those that are left.

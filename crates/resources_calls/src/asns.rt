@@ -28,13 +28,19 @@ fn pair(answer: &mut Answer, one: Asn, other: Asn) {
 }
 
 // The AS numbers of a text, with commas between.
-fn set(alloc: Global, text: &str) -> Result<SmallAsnSet> {
+fn asns_of(alloc: Global, text: &str) -> Result<Vec<Asn>> {
     let mut asns = Vec::new(alloc);
     for piece in text.split(',') {
         if !piece.is_empty() {
             asns.push(piece.parse::<Asn>()?)?;
         }
     }
+    Ok(asns)
+}
+
+// Their set.
+fn set(alloc: Global, text: &str) -> Result<SmallAsnSet> {
+    let asns = asns_of(alloc, text)?;
     Ok(SmallAsnSet::from_iter(alloc, asns.into_iter())?)
 }
 
@@ -80,6 +86,26 @@ fn sorted_already(alloc: Global, answer: &mut Answer) -> Result<()> {
     Ok(())
 }
 
+// The AS numbers of a set as a slice.
+fn slice(answer: &mut Answer, set: &SmallAsnSet) {
+    for asn in set.as_slice() {
+        answer.say(asn);
+    }
+    answer.say(&";");
+}
+
+// The set of the AS numbers of a text, and what it is once those of another are added one by one: whether each is new.
+fn added(alloc: Global, answer: &mut Answer, one: &str, other: &str) -> Result<()> {
+    let mut set = SmallAsnSet::from_vec(asns_of(alloc, one)?);
+    answer.say(&set.len());
+    slice(answer, &set);
+    for asn in asns_of(alloc, other)?.as_slice() {
+        answer.say(&set.insert(*asn)?);
+    }
+    slice(answer, &set);
+    Ok(())
+}
+
 // The number of a text.
 fn read(answer: &mut Answer, text: &str) -> Result<()> {
     tell(answer, text.parse::<Asn>()?);
@@ -118,6 +144,7 @@ pub fn answer(alloc: Global, answer: &mut Answer, words: &[&str]) -> Result<()> 
         "ends" => ends(answer),
         "sets" => of_sets(alloc, answer, false, words),
         "members" => of_sets(alloc, answer, true, words),
+        "added" => added(alloc, answer, word(words, 1), word(words, 2)),
         "sorted" => sorted_already(alloc, answer),
         _ => unknown(),
     }

@@ -110,7 +110,7 @@ fn encode(alloc: Global, text: &str) -> Result<String> {
     let Ok(blocks) = resources.to_blocks() else {
         return Ok(whole);
     };
-    let bare = written(alloc, &blocks.encode())?;
+    let bare = written(alloc, &blocks)?;
     Ok(format!(in alloc; "{whole} {bare}")?)
 }
 

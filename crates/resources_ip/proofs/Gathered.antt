@@ -1,22 +1,20 @@
--- What reading blocks and choices rests on.
+-- What reading blocks rests on.
 use Rattle.std.proofs.Common.{◌≡◌, List, [], ◌∷◌, ◌++◌, Result, refl, ◌∙◌, subst}
 use Rattle.std.specs.Result.{IsErr, IsErrAnd}
 use Rattle.resources_ip.specs.bcder_tree.declared.mode.Mode.{Mode}
-use Rattle.resources_ip.specs.bcder_tree.Tags.{null_tag, sequence_tag}
 use Rattle.resources_ip.specs.bcder_source.Errors.{OnContent}
 use Rattle.resources_ip.specs.bcder_source.declared.error.DecodeError.{DecodeError}
 use Rattle.resources_ip.specs.bcder_content.Contents.{ValuesLeft, Ended}
 use Rattle.resources_ip.specs.bcder_content.Exact.{Gives, Lacks, LacksAll, GivesAll, ReadsAllAs}
-use Rattle.resources_ip.specs.bcder_content.Grammar.{As, Many, Tagged}
+use Rattle.resources_ip.specs.bcder_content.Grammar.{Many}
 use Rattle.resources_ip.specs.bcder_content.Perhaps.{NoneNext}
 use Rattle.resources_ip.proofs.of_bcder_content.Forests.{Listing, begin, list_begin, list_next, list_stop_next}
 use Rattle.resources_ip.proofs.of_bcder_content.Perhaps.{list_done}
 use Rattle.resources_ip.proofs.of_bcder_content.Within.{AllWithin, all_gives, all_stop}
-use Rattle.resources_ip.proofs.of_bcder_content.Unique.{as_tagged, inside_tagged, octets_tagged}
 use Rattle.resources_ip.specs.resources_chain.Sets.{Run, InRuns, IsRunsOf}
 use Rattle.resources_ip.specs.resources_ip_prefix.declared.addr.AddressFamily.{AddressFamily}
 use Rattle.resources_ip_block.specs.BlockEncodings.{IsBlock}
-use Rattle.resources_ip.specs.Encodings.{AreBlocks, Inherits, IsBlockList, lists}
+use Rattle.resources_ip.specs.Encodings.{AreBlocks}
 
 -- A loop has read these blocks, in the mode in which it began.
 pub record Gathered (family : AddressFamily) (runs : List Run) (start now : ValuesLeft) : Type 0 where
@@ -49,11 +47,3 @@ blocks_stop f m family v w r e a l = all_stop f (AreBlocks m family) (Many (IsBl
 
 pub blocks_given : (m : Mode) (family : AddressFamily) (runs : List Run) {v w : ValuesLeft} {set : List Run} → GivesAll (Many (IsBlock m family)) v runs w → IsRunsOf (InRuns runs) set → GivesAll (AreBlocks m family) v set w
 blocks_given m family runs g union = all_gives (AreBlocks m family) (Many (IsBlock m family)) (λ ts are. record { runs = runs; are = are; union = union }) (blocks_within m family) g
-
--- Choices.
-
-pub inherit_tagged : Tagged null_tag Inherits
-inherit_tagged = as_tagged (octets_tagged _ _)
-
-pub list_tagged : {m : Mode} {family : AddressFamily} → Tagged sequence_tag (As (IsBlockList m family) lists)
-list_tagged = as_tagged (inside_tagged _ _)

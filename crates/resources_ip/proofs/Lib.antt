@@ -2,7 +2,6 @@ pub mod Cut
 pub mod WholeLemmas
 pub mod Gathered
 pub mod Mentioned
-pub mod Meaning
 pub mod Again
 pub mod Writing
 pub mod BothFamilies
@@ -11,5 +10,4 @@ pub mod WideSets
 pub mod of_bcder_content
 pub mod of_bcder_octets
 pub mod of_resources_chain
-pub mod of_resources_ip_block
 pub mod Texts

@@ -4,35 +4,25 @@ use Rattle.std.specs.Result.{IsErr, IsErrAnd}
 use Rattle.resources_ip.specs.bcder_tree.declared.mode.Mode.{Mode}
 use Rattle.resources_ip.specs.bcder_tree.Tags.{sequence_tag}
 use Rattle.resources_ip.specs.bcder_tree.Tree.{Tree, Trees, none, more}
-use Rattle.resources_ip.specs.bcder_tree.Strings.{octet_string_tag}
 use Rattle.resources_ip.specs.bcder_source.Errors.{OnContent}
 use Rattle.resources_ip.specs.bcder_source.declared.error.DecodeError.{DecodeError}
 use Rattle.resources_ip.specs.bcder_content.Contents.{ValuesLeft, Whole}
 use Rattle.resources_ip.specs.bcder_content.Exact.{Gives, Lacks, LacksAll, GivesAll, ReadsAllAs}
-use Rattle.resources_ip.specs.bcder_content.Grammar.{End, ManyCases, Then, Without, One, Tagged}
+use Rattle.resources_ip.specs.bcder_content.Grammar.{End, ManyCases, Then, Without, Tagged}
 use Rattle.resources_ip.proofs.of_bcder_content.Forests.{begin, next, done, first_lacks}
 use Rattle.resources_ip.proofs.of_bcder_content.Taking.{on_content, weaker}
 use Rattle.resources_ip.proofs.of_bcder_content.Took.{one_took, whole_first}
 use Rattle.resources_ip.proofs.of_bcder_content.Modes.{gives_in, lacks_in}
 use Rattle.resources_ip.proofs.of_bcder_content.Within.{AllWithin, all_gives, all_stop, all_unfit}
 use Rattle.resources_ip.proofs.of_bcder_content.Unique.{inside_tagged, same_trees, same_values}
-use Rattle.resources_ip.proofs.of_bcder_octets.Meaning.{one_string}
 use Rattle.resources_ip.specs.resources_chain.Claims.{Choice}
 use Rattle.resources_ip.specs.resources_ip_prefix.declared.addr.AddressFamily.{AddressFamily}
 use Rattle.resources_ip.specs.resources_ip_prefix.declared.addr.AddressFamily.TheVariants.{Ipv4, Ipv6}
-use Rattle.resources_ip.specs.resources_ip_prefix.Encodings.{IsFamily, family_octets}
+use Rattle.resources_ip.specs.resources_ip_prefix.Encodings.{IsFamily}
+use Rattle.resources_ip.specs.resources_ip_prefix.Meanings.{family_one}
 use Rattle.resources_ip.specs.Encodings.{AreFamilyFields, AreIpFamilies, EachOnce, FamilyChoice, FamilyChoices, IsIpChoice, IsIpFamily, choices_of}
+use Rattle.resources_ip.specs.Meanings.{one_family_in}
 use Rattle.resources_ip.specs.Reading.{ArePair, PairFields, Repeats, all_of}
-
--- The octets of a family tell it.
-same_family : (f g : AddressFamily) → family_octets f ≡ family_octets g → f ≡ g
-same_family Ipv4 Ipv4 e = refl
-same_family Ipv6 Ipv6 e = refl
-same_family Ipv4 Ipv6 e = absurd cc
-same_family Ipv6 Ipv4 e = absurd cc
-
-pub family_one : {m : Mode} → One (IsFamily m)
-family_one {m} = record { one = λ t f g p q. same_family f g (one_string m octet_string_tag t (family_octets f) (family_octets g) p.is q.is) }
 
 -- The fields of a family, where the first is this one.
 
@@ -71,11 +61,6 @@ pub family_tagged : {m : Mode} → Tagged sequence_tag (IsIpFamily m)
 family_tagged = inside_tagged _ _
 
 -- A value is of one family.
-pub one_family_in : {m : Mode} (ts : Trees) (x y : FamilyChoice) → AreFamilyFields m ts x → AreFamilyFields m ts y → x.family ≡ y.family
-one_family_in {m} ts x y p q =
-    let first = (same_trees (sym p.are.whole ∙ q.are.whole)).0 in
-    family_one.one q.are.first x.family y.family (subst (λ (u : Tree). IsFamily m u x.family) first p.are.is) q.are.is
-
 one_family : {m : Mode} (t : Tree) (x y : FamilyChoice) → IsIpFamily m t x → IsIpFamily m t y → x.family ≡ y.family
 one_family {m} t x y p q = one_family_in q.values x y (subst (λ (ts : Trees). AreFamilyFields m ts x) (same_values (sym p.whole ∙ q.whole)) p.is) q.is
 

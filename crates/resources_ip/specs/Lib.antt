@@ -4,6 +4,7 @@ pub mod Choices
 pub mod Shown
 pub mod Texts
 pub mod Encodings
+pub mod Meanings
 pub mod Reading
 pub mod Written
 pub mod WrittenFamilies

@@ -17,8 +17,8 @@ ghost use Rattle.resources_ip.specs.Written.{AreIpList, AreIpResources, FitsChoi
 ghost use Rattle.resources_ip.specs.WrittenFamilies.{FamiliesTrees, ReadsFamilies, WritesFamilies, both};
 
 pub use resources_ip_block::laws::{
-    a_block_is_read_again, prefix_is_shared_bits, prefixes_of_whole_addresses_are_short,
-    v4_blocks_are_whole, whole_addresses_are_filled,
+    a_block_is_read_again, one_address, one_meaning as one_block, prefix_is_shared_bits,
+    prefixes_of_whole_addresses_are_short, v4_blocks_are_whole, whole_addresses_are_filled,
 };
 
 /// What is written of a set is one value, which is read as a list of the same addresses, in each mode

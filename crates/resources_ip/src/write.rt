@@ -45,15 +45,6 @@ impl Values for IpBlocks {
 
 impl IpBlocks {
     /// The set as values that can be written: the list of a family (RFC 3779 2.2.3.6).
-    pub fn encode(self) -> IpBlocks
-        ensures same { result ≡ self }
-        ensures maximal { AreMaximal result }
-    {
-        self.runs_are_maximal();
-        self
-    }
-
-    /// Encodes the borrowed set, as `encode` does.
     pub fn encode_ref(&self) -> &IpBlocks
         ensures same { result.now ≡ self.now }
         ensures maximal { AreMaximal self.now }
@@ -120,17 +111,6 @@ impl Values for IpResources {
 
 impl IpResources {
     /// The resources as values that can be written: what is said of a family (RFC 3779 2.2.3.4).
-    #[tactic(auto, using(crate::proofs::Fitting::fits_v4, crate::proofs::Fitting::fits_v6))]
-    pub fn encode(self) -> IpResources
-        ensures same { result ≡ self }
-        ensures fits_v4 { ListsWhole result → FitsChoice Ipv4 result }
-        ensures fits_v6 { FitsChoice Ipv6 result }
-    {
-        self.runs_are_maximal();
-        self
-    }
-
-    /// Encodes the borrowed resources, as `encode` does.
     #[tactic(auto, using(crate::proofs::Fitting::fits_v4, crate::proofs::Fitting::fits_v6))]
     pub fn encode_ref(&self) -> &IpResources
         ensures same { result.now ≡ self.now }

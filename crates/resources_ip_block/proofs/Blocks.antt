@@ -1,35 +1,17 @@
--- What reading ranges and blocks rests on.
+-- What reading ranges rests on: of the two addresses of a range it is tested that the first isn't above the second.
 use Rattle.std.proofs.Common.{◌≡◌, ◌<◌, ◌≤◌, Result, ap, ◌∙◌, subst, arith}
 use Rattle.std.specs.Result.{IsErr, IsErrAnd}
 use Rattle.resources_ip_block.specs.bcder_tree.declared.mode.Mode.{Mode}
-use Rattle.resources_ip_block.specs.bcder_tree.Tags.{universal, sequence_tag}
 use Rattle.resources_ip_block.specs.bcder_source.Errors.{OnContent}
 use Rattle.resources_ip_block.specs.bcder_source.declared.error.DecodeError.{DecodeError}
 use Rattle.resources_ip_block.specs.bcder_content.Contents.{ValuesLeft}
 use Rattle.resources_ip_block.specs.bcder_content.Exact.{LacksAll, GivesAll, ReadsAllAs}
-use Rattle.resources_ip_block.specs.bcder_content.Grammar.{As, Tagged, One, OneAll}
 use Rattle.resources_ip_block.proofs.of_bcder_content.Taking.{on_content}
 use Rattle.resources_ip_block.proofs.of_bcder_content.Within.{AllWithin, all_gives, all_stop, all_unfit}
-use Rattle.resources_ip_block.proofs.of_bcder_content.Unique.{as_tagged, as_one, end_one, inside_tagged, octets_one, octets_tagged, such_one, such_tagged, then_one}
 use Rattle.resources_ip_block.specs.resources_chain.Sets.{Run}
 use Rattle.resources_ip_prefix.specs.declared.addr.AddressFamily.{AddressFamily}
-use Rattle.resources_ip_block.specs.BlockEncodings.{AreEnds, AreOrdered, Ends, IsRange, beginning, from_to}
-use Rattle.resources_ip_prefix.specs.Encodings.{IsAddress}
-use Rattle.resources_ip_prefix.proofs.of_bcder_bits.Readings.{bit_string_one}
-
-pub address_one : {m : Mode} (family : AddressFamily) → One (IsAddress m family)
-address_one family = as_one (such_one (octets_one bit_string_one))
-
-pub ends_one : {m : Mode} (family : AddressFamily) → OneAll (AreEnds m family)
-ends_one family = then_one (address_one family) (then_one (address_one family) end_one)
-
-pub prefix_tagged : {m : Mode} (family : AddressFamily) → Tagged (universal 3) (As (IsAddress m family) beginning)
-prefix_tagged family = as_tagged (as_tagged (such_tagged (octets_tagged _ _)))
-
-pub range_tagged : {m : Mode} {family : AddressFamily} → Tagged sequence_tag (IsRange m family)
-range_tagged = inside_tagged _ _
-
--- Contents of values of which something is tested.
+use Rattle.resources_ip_block.specs.BlockEncodings.{AreEnds, AreOrdered, Ends, from_to}
+use Rattle.resources_ip_block.specs.Meanings.{ends_one}
 
 ordered_within : (m : Mode) (family : AddressFamily) → AllWithin (AreOrdered m family) (AreEnds m family)
 ordered_within m family ts run p = (p.ends, p.are)

@@ -5,6 +5,7 @@ pub mod BlockText
 pub mod ReadTexts
 pub mod Cover
 pub mod BlockEncodings
+pub mod Meanings
 pub mod Written
 pub mod WrittenBlock
 pub use Rattle.resources_ip_prefix.specs.Address

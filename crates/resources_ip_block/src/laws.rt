@@ -14,7 +14,13 @@ ghost use Rattle.resources_ip_block.specs.Cover.{IsLargest, filled};
 ghost use Rattle.resources_ip_prefix.specs.Whole.{IsWhole};
 ghost use Rattle.resources_ip_block.specs.Written.{BlockTrees, EncodesBlock, FitsRun, RangeValue, ReadsBlock};
 
-pub use resources_ip_prefix::laws::prefix_is_shared_bits;
+pub use resources_ip_prefix::laws::{one_meaning as one_address, prefix_is_shared_bits};
+
+/// A value has one meaning: as a block of addresses of a family, a prefix or a range (RFC 3779 2.2.3.7).
+pub fn one_meaning()
+    ensures block { (m : ModeValue) (family : FamilyValue) (t : Tree) (one other : Run)
+        → IsBlock m family t one → IsBlock m family t other → one ≡ other }
+{}
 
 /// Over whole IPv4 addresses `to_v4_prefixes` and `to_v6_prefixes` cover the same.
 #[tactic(auto, using(crate::proofs::CoverLemmas::whole_filled))]

@@ -1,3 +1,2 @@
 -- Lemmas of bcder_bits, for the crates above.
 pub use Rattle.bcder.proofs.of_bcder_bits.BitLists
-pub use Rattle.bcder.proofs.of_bcder_bits.Readings

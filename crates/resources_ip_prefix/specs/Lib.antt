@@ -7,6 +7,7 @@ pub mod Text
 pub mod Family
 pub mod Whole
 pub mod Encodings
+pub mod Meanings
 pub mod ReadTexts
 pub mod Written
 pub mod Wide

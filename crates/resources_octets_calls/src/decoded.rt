@@ -172,7 +172,7 @@ fn written<V: Values>(alloc: Global, answer: &mut Answer, values: &V) -> Result<
 // The range that a block of AS numbers is, where it is one.
 fn write_as_range(alloc: Global, answer: &mut Answer, block: AsBlock) -> Result<()> {
     if let AsBlock::Range(range) = block {
-        return written(alloc, answer, &range.encode());
+        return written(alloc, answer, &range);
     }
     Ok(())
 }
@@ -180,14 +180,14 @@ fn write_as_range(alloc: Global, answer: &mut Answer, block: AsBlock) -> Result<
 // The set of one block of AS numbers.
 fn write_as_set(alloc: Global, answer: &mut Answer, block: AsBlock) -> Result<()> {
     let set = AsBlocks::from_iter(alloc, once(block))?;
-    written(alloc, answer, &set.encode())
+    written(alloc, answer, &set)
 }
 
 // A number, a block, and a set of AS numbers.
 fn write_as(alloc: Global, answer: &mut Answer, text: &str) -> Result<()> {
     let block = text.parse::<AsBlock>()?;
     written(alloc, answer, &block.min().encode())?;
-    written(alloc, answer, &block.encode())?;
+    written(alloc, answer, &block)?;
     write_as_range(alloc, answer, block)?;
     write_as_set(alloc, answer, block)
 }

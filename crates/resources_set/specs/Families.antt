@@ -7,17 +7,17 @@ use Rattle.resources_set.specs.resources_ip_prefix.declared.addr.AddressFamily.T
 use Rattle.resources_set.specs.resources_ip_prefix.Whole.{IsWhole}
 use Rattle.resources_set.specs.resources_ip.WholeSets.{AreWhole, ListsWhole}
 
--- A block of IPv4 is over whole addresses.
+-- A block fits a family: one of IPv4 is over whole IPv4 addresses, and any is one of IPv6.
 abbrev pub FitsBlock : AddressFamily → Run → Type 0
 FitsBlock Ipv4 run = IsWhole run
 FitsBlock Ipv6 run = Unit {0}
 
--- So is a set of IPv4.
+-- A set fits a family: one of IPv4 is over whole IPv4 addresses, and any is one of IPv6.
 abbrev pub FitsBlocks : AddressFamily → List Run → Type 0
 FitsBlocks Ipv4 runs = AreWhole runs
 FitsBlocks Ipv6 runs = Unit {0}
 
--- And what a certificate lists of IPv4.
+-- What a certificate says of a family fits it: a list of IPv4 is over whole IPv4 addresses, and any choice fits IPv6.
 abbrev pub FitsListed : AddressFamily → Choice → Type 0
 FitsListed Ipv4 choice = ListsWhole choice
 FitsListed Ipv6 choice = Unit {0}

@@ -1,6 +1,6 @@
 use Rattle.resources_as.proofs.of_bcder_content.Choices.{stop_value, second_gives, choice_lacks, second_lacks, as_gives, as_lacks, as_lacks_tagged, universal_apart}
 use Rattle.resources_as.proofs.of_bcder_content.Forests.{absent}
-use Rattle.resources_as.proofs.Reading.{inherit_tagged, list_tagged}
+use Rattle.resources_as.specs.Meanings.{inherit_tagged, list_tagged}
 use Rattle.resources_as.specs.Encodings.{IsAsChoice, inherits, lists}
 use Rattle.resources_as.specs.bcder_content.Exact.{Gives}
 use Rattle.resources_as.specs.bcder_content.Here.{here}

@@ -5,20 +5,13 @@ use Rattle.certs_revoked.specs.bcder_values.Captures.{CapturedText}
 use Rattle.certs_revoked.specs.certs_specs.CrlText.{TbsListValue}
 use Rattle.certs_crl.specs.Written.{WritesTbsList}
 use Rattle.certs_crl.proofs.Alone.{alone_written, none_back}
+use Rattle.certs_crl.proofs.Inside.{list_of}
 use Rattle.certs_crl.proofs.Writing.{list_as, revoked_as}
 use Rattle.certs_crl.proofs.tbs.TbsCertList.encode_ref.Goals as goal
 
 pub returns-clause-writes : goal.returns-clause-writes
 returns-clause-writes c = λ m text w.
-    let list : TbsListValue = record {
-      has_null = c.self.inside.signature;
-      issuer = c.self.inside.issuer;
-      this_update = c.self.inside.this_update;
-      next_update = c.self.inside.next_update;
-      revoked = c.self.inside.revoked_certs;
-      authority_key_identifier = c.self.inside.authority_key_id;
-      number = c.self.inside.crl_number;
-    } in
+    let list = list_of c.self.inside in
     subst (λ (z : TbsListValue). ∥ WritesTbsList z m text ∥₁) c.self.view_is
     (list_as list m text c.extensions-extensions.ensures.long c.name_of-issuer.ensures.named refl c.encode-version.ensures.tag c.encode-version.ensures.content
     c.x509_encode-signature.ensures c.name_of-issuer.ensures.same c.encode_varied-this_update.ensures c.encode_varied-next_update.ensures
@@ -27,15 +20,7 @@ returns-clause-writes c = λ m text w.
 
 pub returns-clause-alone : goal.returns-clause-alone
 returns-clause-alone c = λ none text w.
-    let list : TbsListValue = record {
-      has_null = c.self.inside.signature;
-      issuer = c.self.inside.issuer;
-      this_update = c.self.inside.this_update;
-      next_update = c.self.inside.next_update;
-      revoked = c.self.inside.revoked_certs;
-      authority_key_identifier = c.self.inside.authority_key_id;
-      number = c.self.inside.crl_number;
-    } in
+    let list = list_of c.self.inside in
     let no_entries : list.revoked ≡ [] = subst (λ (z : TbsListValue). z.revoked ≡ []) (sym c.self.view_is) none in
     alone_written list refl c.encode-version.ensures.tag c.encode-version.ensures.content c.x509_encode-signature.ensures c.name_of-issuer.ensures.same
     c.encode_varied-this_update.ensures c.encode_varied-next_update.ensures

@@ -1,7 +1,7 @@
 use Rattle.std.proofs.Common.{refl}
-use Rattle.objects_forms.proofs.of_resources_ip.Mentioned.{family_one}
 use Rattle.objects_roa.proofs.of_bcder_content.Choosing.{next_by, stop_by}
 use Rattle.objects_roa.proofs.of_bcder_content.InMode.{next, stop, done}
+use Rattle.objects_roa.specs.resources_ip_prefix.Meanings.{family_one}
 use Rattle.objects_roa.proofs.FamilyLemmas.{begin_family}
 use Rattle.objects_roa.proofs.families.RoaIpAddressFamily.from_constructed.Goals as goal
 

@@ -7,5 +7,5 @@ use Rattle.objects_written.proofs.roa.RouteOriginAttestationEncodeRoa.to_octets.
 
 pub returns-clause-again : goal.returns-clause-again
 returns-clause-again c =
-    roa_told c.args.self.now c.value_of-value.ensures.families c.to_captured.result
+    roa_told c.a_prefix_is_read_again.ensures c.args.self.now c.value_of-value.ensures.families c.to_captured.result
     (subst (λ (r : Roa). IfOk c.to_captured.result (λ k. (roa r).writes Der k.octets)) c.value_of-value.ensures.value c.to_captured.ensures.captured)

@@ -2,7 +2,7 @@ use Rattle.std.proofs.Common.{arith}
 use Rattle.resources_as_block.proofs.of_bcder_content.Choices.{as_lacks_tagged, universal_apart}
 use Rattle.resources_as_block.proofs.of_bcder_content.Forests.{absent}
 use Rattle.resources_as_block.proofs.of_bcder_content.Perhaps.{stop_if, first_refused, second_refused, neither_next}
-use Rattle.resources_as_block.proofs.Reading.{id_tagged, range_tagged}
+use Rattle.resources_as_block.specs.Meanings.{id_tagged, range_tagged}
 use Rattle.resources_as_block.specs.Blocks.{as_run}
 use Rattle.resources_as_block.specs.Encodings.{alone, from_to}
 use Rattle.resources_as_block.proofs.block.AsBlock.take_opt_from.Goals as goal

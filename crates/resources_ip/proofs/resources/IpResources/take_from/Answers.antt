@@ -7,7 +7,7 @@ use Rattle.resources_ip.proofs.of_bcder_content.Choices.{stop_value, as_lacks, c
 use Rattle.resources_ip.proofs.of_bcder_content.Forests.{absent}
 use Rattle.resources_ip.proofs.of_bcder_content.Modes.{lacks_in}
 use Rattle.resources_ip.specs.Encodings.{IsBlockList, inherits, lists}
-use Rattle.resources_ip.proofs.Gathered.{inherit_tagged, list_tagged}
+use Rattle.resources_ip.specs.Meanings.{inherit_tagged, list_tagged}
 use Rattle.resources_ip.proofs.resources.IpResources.take_from.Goals as goal
 
 pub returns-in_err-inherit-clause-reads : goal.returns-in_err-inherit-clause-reads

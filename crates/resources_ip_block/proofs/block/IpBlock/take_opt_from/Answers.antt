@@ -7,7 +7,7 @@ use Rattle.resources_ip_block.proofs.of_bcder_content.Modes.{lacks_tagged_in}
 use Rattle.resources_ip_block.proofs.of_bcder_content.Perhaps.{stop_if, first_refused, second_refused, neither_next}
 use Rattle.resources_ip_block.specs.Block.{run_of_block}
 use Rattle.resources_ip_block.specs.BlockEncodings.{IsRange, beginning}
-use Rattle.resources_ip_block.proofs.Blocks.{prefix_tagged, range_tagged}
+use Rattle.resources_ip_block.specs.Meanings.{prefix_tagged, range_tagged}
 use Rattle.resources_ip_block.proofs.block.IpBlock.take_opt_from.Goals as goal
 
 pub returns-in_err-prefix-clause-reads : goal.returns-in_err-prefix-clause-reads

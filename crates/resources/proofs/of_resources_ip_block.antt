@@ -1,2 +1,0 @@
--- Lemmas of resources_ip_block, for the crates above.
-pub use Rattle.resources_set.proofs.of_resources_ip_block.Blocks
