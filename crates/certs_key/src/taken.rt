@@ -58,7 +58,7 @@ fn parts_of(
     )
 }
 
-// The same octets, which aren't copied.
+// Octets that are kept, lent once more; none is copied.
 fn shared_of(octets: &Captured) -> Result<Captured, AllocError>
     ensures { IfOk result (λ shared. shared ≡ octets.now) }
 {
