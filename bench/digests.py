@@ -1,15 +1,17 @@
 #!/usr/bin/env python3
-"""Shows the least time that walking 1,000 objects can take: that of the digests which the rules ask for, and that of reading
-the objects' certificates as a Rust program reads them.
+"""Shows what the digests that the rules ask for take of the time in which 1,000 objects are walked, and beside it what a Rust
+program takes to read the objects' certificates.
 
     chrt -f 1 digests.py FOLDER [BCDER]
 
 The objects are those of walks.py's smallest bundle. Of each the pieces are written down that a validator digests by SHA-256:
 the file, whose digest the manifest has; the content, whose digest the attributes have; and of both signatures (the
-certificate's and that over the attributes) key, message and signature, since a verdict is found by their digests. In FOLDER
-digests.rt.in is proved and built by `rt run`, with the kit's `sha2`, which `rpki_digests` has too. BCDER is as in certs.py:
-where it is given, certs_read.rs.in reads the certificates inside the objects, with their fields, extensions and rules, in Rust.
-Each is run fifteen times, of which the best time counts. Exits with 1 where an answer is wrong.
+certificate's and that over the attributes) key, message and signature, since a verdict is found by their digests. An
+authority's key is digested once for all that it signs. In FOLDER digests.rt.in is proved and built by `rt run`, with the
+kit's `sha2`, which `rpki_digests` has too. BCDER is as in certs.py: where it is given, certs_read.rs.in reads the
+certificates inside the objects, with their fields, extensions and rules, in Rust, and certs.rs.in walks over them and over
+all objects by the Rust crate's codec. Each is run fifteen times, of which the best time counts. Exits with 1 where an answer
+is wrong.
 """
 
 import hashlib
@@ -21,7 +23,7 @@ sys.dont_write_bytecode = True
 import content  # noqa: E402
 import copies  # noqa: E402
 from repository import Authority, Repository, StandIn  # noqa: E402
-from walks import AUTHORITIES, CUSTOMERS, OBJECTS, ORIGINS  # noqa: E402
+from walks import AUTHORITIES, CUSTOMERS, ORIGINS  # noqa: E402
 
 RUNS = 15
 KEYS = 16
@@ -33,10 +35,11 @@ class Recorded(StandIn):
     """Octets in a key's place, which write down what is digested for each of their signatures."""
 
     pieces = []
+    is_digested = False
 
     def sign(self, message):
         signature = super().sign(message)
-        Recorded.pieces += [self.encoded, message, signature]
+        Recorded.pieces += [message, signature] if self.is_digested else [self.encoded, message, signature]
         return signature
 
 
@@ -47,7 +50,7 @@ class Certificates(Authority):
 
 
 def record():
-    """The pieces, and the certificates of objects."""
+    """The pieces, the certificates inside objects, and the objects."""
     sign_object, issue = Authority.sign_object, Authority.issue
     inside = []
 
@@ -60,6 +63,7 @@ def record():
 
     def issuing(self, *given):
         made = issue(self, *given)
+        self.key.is_digested = True
         if inside:
             Certificates.found.append(made)
         return made
@@ -67,7 +71,7 @@ def record():
     Authority.sign_object, Authority.issue = signing, issuing
     repository = Repository(AUTHORITIES[0], ORIGINS, CUSTOMERS, KEYS, Recorded)
     listed = [octets for at, octets in repository.objects.items() if at != repository.anchor.at and at[-4:] != ".mft"]
-    return [*Recorded.pieces, *listed], Certificates.found
+    return [*Recorded.pieces, *listed], Certificates.found, list(repository.objects.values())
 
 
 def best(program, octets, answer):
@@ -79,26 +83,38 @@ def best(program, octets, answer):
     return min(seconds for seconds, _ in runs), all(right for _, right in runs)
 
 
+def beside(folder, packages, objects, certificates, right):
+    """Prints what Rust takes for the certificates, and for a walk over all objects; the seconds for the certificates."""
+    read = content.build_rust(folder, packages, "certs_read.rs.in", "read")
+    walk = content.build_rust(folder, packages, "certs.rs.in", "walk")
+    joined, whole = b"".join(certificates), b"".join(objects)
+    rows = [
+        (f"{len(certificates)} certificates, read in Rust", *best(read, joined, [len(certificates), len(joined)])),
+        ("the same certificates, walked over in Rust", *best(walk, joined, [len(certificates), len(joined)])),
+        (f"all {len(objects)} objects, walked over in Rust", *best(walk, whole, [len(objects), len(whole)])),
+    ]
+    for what, seconds, _ in rows:
+        print(f"{what}: {seconds * 1e3:.2f} ms, {seconds * 1e6 / len(objects):.1f} ms for 1,000 objects")
+    return rows[0][1], right and all(fine for _, _, fine in rows)
+
+
 def main():
     if len(sys.argv) not in (2, 3):
         sys.exit("usage: digests.py FOLDER [BCDER]")
-    folder, objects = sys.argv[1], OBJECTS[AUTHORITIES[0]]
-    pieces, certificates = record()
+    folder = sys.argv[1]
+    pieces, certificates, objects = record()
     crate = copies.make(folder, NAME, os.path.join(BENCH, "digests.rt.in"), ["sha2"])
     content.run(["rt", "run"], crate)
     octets = b"".join(len(piece).to_bytes(4, "big") + piece for piece in pieces)
     answer = [len(pieces), sum(hashlib.sha256(piece).digest()[0] for piece in pieces)]
     total, right = best(os.path.join(crate, "out", NAME), octets, answer)
     blocks = sum((len(piece) + 8) // 64 + 1 for piece in pieces)
-    print(f"{objects} objects: {len(pieces)} pieces, {blocks / objects:.1f} blocks an object")
-    print(f"SHA-256: {total * 1e3:.2f} ms, {total * 1e6 / objects:.1f} ms for 1,000 objects, {64e-6 * blocks / total:.0f} MB/s")
+    print(f"{len(objects)} objects: {len(pieces)} pieces, {blocks / len(objects):.1f} blocks an object")
+    rate = f"{64e-6 * blocks / total:.0f} MB/s"
+    print(f"SHA-256: {total * 1e3:.2f} ms, {total * 1e6 / len(objects):.1f} ms for 1,000 objects, {rate}")
     if len(sys.argv) == 3:
-        program = content.build_rust(folder, sys.argv[2], "certs_read.rs.in", "read")
-        joined = b"".join(certificates)
-        seconds, fine = best(program, joined, [len(certificates), len(joined)])
-        right, total = right and fine, total + seconds
-        print(f"{len(certificates)} certificates in Rust: {seconds * 1e3:.2f} ms")
-        print(f"both: {total * 1e6 / objects:.1f} ms for 1,000 objects")
+        seconds, right = beside(folder, sys.argv[2], objects, certificates, right)
+        print(f"SHA-256 and the certificates: {(total + seconds) * 1e6 / len(objects):.1f} ms for 1,000 objects")
     if not right:
         print("WRONG ANSWER")
     sys.exit(0 if right else 1)
