@@ -50,7 +50,7 @@ impl<S: Source> Constructed<S> {
 
     /// From now on values are read by these rules, up to the end of this content.
     pub fn set_mode(&mut self, mode: Mode)
-        ensures { here S.rest self.new
+        ensures content { here S.rest self.new
             ≡ record {
               mode = mode;
               end = (here S.rest self.old).end;
@@ -58,6 +58,7 @@ impl<S: Source> Constructed<S> {
               rest = (here S.rest self.old).rest;
               limit = (here S.rest self.old).limit;
             } }
+        ensures frame { SameFrame self.old self.new }
     {
         self.octets.mode = mode;
     }
@@ -72,7 +73,7 @@ impl<S: Source> Constructed<S> {
     /// From now on the content is failed: each later read of it is refused. So a reader leaves it that
     /// finds what it read unfit.
     pub fn fail(&mut self)
-        ensures { here S.rest self.new
+        ensures content { here S.rest self.new
             ≡ record {
               mode = (here S.rest self.old).mode;
               end = (here S.rest self.old).end;
@@ -80,6 +81,7 @@ impl<S: Source> Constructed<S> {
               rest = (here S.rest self.old).rest;
               limit = (here S.rest self.old).limit;
             } }
+        ensures frame { SameFrame self.old self.new }
     {
         self.octets.failed = true;
     }
@@ -89,7 +91,7 @@ impl<S: Source> Constructed<S> {
         ensures error { (pos : _) × (result ≡ content_error error pos) }
         ensures failed { (here S.rest self.new).failed ≡ true }
     {
-        self.octets.failed = true;
+        self.fail();
         let pos = self.octets.source.pos();
         DecodeError::content(error, pos)
     }
@@ -99,7 +101,7 @@ impl<S: Source> Constructed<S> {
         ensures error { result ≡ DecodeError.Source error }
         ensures failed { (here S.rest self.new).failed ≡ true }
     {
-        self.octets.failed = true;
+        self.fail();
         DecodeError::Source(error)
     }
 

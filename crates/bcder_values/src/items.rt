@@ -33,10 +33,12 @@ pub trait Encodes<'a, U> {
             ↔ writes self.now item.now m text };
 
     // What is written of an item spells its values.
-    ghost spelled: { (e : Self) (x : U) (m : ModeValue) (text : List ℕ) → writes e x m text → SpellsSome m (trees e x m) text };
+    ghost spelled: { (e : Self) (x : U) (m : ModeValue) (text : List ℕ)
+        → writes e x m text → SpellsSome m (trees e x m) text };
 
     // It is always the same.
-    ghost one_text: { (e : Self) (x : U) (m : ModeValue) (a b : List ℕ) → writes e x m a → writes e x m b → a ≡ b };
+    ghost one_text: { (e : Self) (x : U) (m : ModeValue) (a b : List ℕ)
+        → writes e x m a → writes e x m b → a ≡ b };
 }
 
 /// Each item as it is, where items are values that can be written.

@@ -87,10 +87,12 @@ pub trait Values {
     }
 
     // What is written spells the values.
-    ghost spelled: { (x : Self) (m : ModeValue) (text : List ℕ) → writes x m text → SpellsSome m (trees x m) text };
+    ghost spelled: { (x : Self) (m : ModeValue) (text : List ℕ)
+        → writes x m text → SpellsSome m (trees x m) text };
 
     // It is always the same.
-    ghost one_text: { (x : Self) (m : ModeValue) (a b : List ℕ) → writes x m a → writes x m b → a ≡ b };
+    ghost one_text: { (x : Self) (m : ModeValue) (a b : List ℕ)
+        → writes x m a → writes x m b → a ≡ b };
 }
 
 impl<V: Values> Values for &V {

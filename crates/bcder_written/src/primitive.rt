@@ -121,7 +121,8 @@ pub trait PrimitiveContent {
     ghost is_tag: { IsTag type_tag };
 
     // The content is always the same.
-    ghost one_content: { (x : Self) (m : ModeValue) (a b : List ℕ) → content x m a → content x m b → a ≡ b };
+    ghost one_content: { (x : Self) (m : ModeValue) (a b : List ℕ)
+        → content x m a → content x m b → a ≡ b };
 }
 
 /// What is borrowed has the tag and the content octets of what it leads to.

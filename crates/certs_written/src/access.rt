@@ -298,7 +298,8 @@ fn is_any(
     object: Option<&Rsync>,
     notify: Option<&Https>,
 ) -> bool
-    ensures { result ≡ or_some (option_copied repository.entry) (or_some (option_copied manifest.entry)
+    ensures { result ≡ or_some (option_copied repository.entry)
+        (or_some (option_copied manifest.entry)
         (or_some (option_copied object.entry) (or_some (option_copied notify.entry) false))) }
 {
     let fourth = or_https(notify, false);

@@ -14,7 +14,8 @@ pub fn outside(
     claimed: &ResourceSet,
 ) -> Result<Option<ResourceSet>, AllocError>
     ensures inside { IfOk result (λ found. IfNone found (AreInside claimed.now held.now)) }
-    ensures outside { IfOk result (λ found. IfSome found (λ set. AreInside claimed.now held.now → ⊥)) }
+    ensures outside { IfOk result
+        (λ found. IfSome found (λ set. AreInside claimed.now held.now → ⊥)) }
     ensures set { IfOk result
         (λ found. IfSome found (λ set. Combines InFirstOnly claimed.now held.now set)) }
 {

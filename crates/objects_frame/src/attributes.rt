@@ -174,7 +174,8 @@ fn set_text(
     requires a { a.now.mode ≡ Der }
     requires b { b.now.mode ≡ Der }
     requires c { c.now.mode ≡ Der }
-    ensures text { IfOk result (λ s. SetText (a.now.octets, (b.now.octets, c.now.octets)) s.octets) }
+    ensures text { IfOk result (λ s. SetText
+        (a.now.octets, (b.now.octets, c.now.octets)) s.octets) }
     ensures mode { IfOk result (λ s. s.mode ≡ Der) }
     ensures refused { IfErr result (SetRefused (a.now.octets, (b.now.octets, c.now.octets))) }
 {
@@ -199,8 +200,9 @@ pub fn signed_attributes(
     ensures written { IfOk result (λ c. WritesAttributes
         (to_sign content_type.now digest.now time) c.octets) }
     ensures mode { IfOk result (λ c. c.mode ≡ Der) }
-    ensures again { IfOk result (λ c. IsIdentifier content_type.now → InOrder Der (AreAttributes Der)
-        c.octets (attributes_of (to_sign content_type.now digest.now time))) }
+    ensures again { IfOk result (λ c. IsIdentifier content_type.now
+        → InOrder Der (AreAttributes Der) c.octets
+        (attributes_of (to_sign content_type.now digest.now time))) }
     ensures refused { IfErr result (IsRefused (to_sign content_type.now digest.now time)) }
 {
     let first = type_text(alloc, content_type)?;

@@ -37,7 +37,11 @@ impl Model for Tal {
 
     ghost Value = { TalValue };
 
-    ghost view = { λ t. record { uris = map text_of t.uris.items; key = t.key_info; info = t.info.value } };
+    ghost view = { λ t. record {
+      uris = map text_of t.uris.items;
+      key = t.key_info;
+      info = t.info.value;
+    } };
 }
 
 impl Tal {

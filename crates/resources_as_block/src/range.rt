@@ -119,7 +119,8 @@ impl Block for AsRange {
 
 /// The first number and the last with a dash between: `AS1-AS5`.
 impl fmt::Display for AsRange {
-    ghost output = { λ r. Some (codes "AS" ++ decimal r.first.value ++ codes "-AS" ++ decimal r.last.value) };
+    ghost output = { λ r. Some
+        (codes "AS" ++ decimal r.first.value ++ codes "-AS" ++ decimal r.last.value) };
 
     fn fmt<W: fmt::Write>(&self, f: &mut fmt::Formatter<W>) -> fmt::Result {
         let (min, max) = (self.min, self.max);

@@ -70,7 +70,8 @@ pub struct OverclaimedIpv4Resources(pub OverclaimedIpResources);
 
 /// `overclaimed IPv4 resources: ` and the set.
 impl fmt::Display for OverclaimedIpv4Resources {
-    ghost output = { λ claim. Some (codes "overclaimed IPv4 resources: " ++ ip_set_text Ipv4 claim.0) };
+    ghost output = { λ claim. Some
+        (codes "overclaimed IPv4 resources: " ++ ip_set_text Ipv4 claim.0) };
 
     fn fmt<W: fmt::Write>(&self, f: &mut fmt::Formatter<W>) -> fmt::Result {
         write!(
@@ -89,7 +90,8 @@ pub struct OverclaimedIpv6Resources(pub OverclaimedIpResources);
 
 /// `overclaimed IPv6 resources: ` and the set.
 impl fmt::Display for OverclaimedIpv6Resources {
-    ghost output = { λ claim. Some (codes "overclaimed IPv6 resources: " ++ ip_set_text Ipv6 claim.0) };
+    ghost output = { λ claim. Some
+        (codes "overclaimed IPv6 resources: " ++ ip_set_text Ipv6 claim.0) };
 
     fn fmt<W: fmt::Write>(&self, f: &mut fmt::Formatter<W>) -> fmt::Result {
         write!(

@@ -106,6 +106,6 @@ pub fn what_is_kept_is_whole()
 
 /// A text is that of one set of addresses of a family at most.
 pub fn a_text_writes_one_set()
-    ensures { (family : FamilyValue) (text : List ℕ) (one other : List Run) → IsIpSetText family text one
-        → IsIpSetText family text other → one ≡ other }
+    ensures { (family : FamilyValue) (text : List ℕ) (one other : List Run)
+        → IsIpSetText family text one → IsIpSetText family text other → one ≡ other }
 {}

@@ -158,7 +158,8 @@ pub fn check_list(family: AddressFamily, text: &str) -> Result<(), FromStrError>
 // Whether each piece of a text is a block of the family; what is wrong with the first that is none.
 #[tactic(auto, using(crate::proofs::Cut::piece_shorter))]
 fn check_blocks(family: AddressFamily, text: &str) -> Result<(), FromStrError>
-    ensures { MatchResult result (λ _. (runs : List Run) × IsListText (WritesBlock family) text.now runs)
+    ensures { MatchResult result
+        (λ _. (runs : List Run) × IsListText (WritesBlock family) text.now runs)
         (λ e. HasFault (WritesBlock family) (IsNoPiece family e) text.now) }
 {
     let mut rest = text;

@@ -58,8 +58,8 @@ fn take_bundle<S: Source>(
     alloc: Global,
     cons: &mut Constructed<S>,
 ) -> Result<Parts, DecodeError<S::Error>>
-    ensures reads { ReadsAs parts_value (IsBundle (here S.rest cons.old).mode) (here S.rest cons.old)
-        result (here S.rest cons.new) }
+    ensures reads { ReadsAs parts_value (IsBundle (here S.rest cons.old).mode)
+        (here S.rest cons.old) result (here S.rest cons.new) }
     ensures failed { OnErr result ((here S.rest cons.new).failed ≡ true) }
 {
     cons.take_sequence(

@@ -279,7 +279,8 @@ impl Walk {
 
 // The name of the locator that a file of this name holds.
 fn locator_name(file: &str) -> Option<&str>
-    ensures { MatchOption result ((name : List ℕ) → file.now ≢ name ++ codes ".tal") (λ name. file.now ≡ name.now ++ codes ".tal") }
+    ensures { MatchOption result ((name : List ℕ) → file.now ≢ name ++ codes ".tal")
+        (λ name. file.now ≡ name.now ++ codes ".tal") }
 {
     file.strip_suffix(".tal")
 }
