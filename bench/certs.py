@@ -82,7 +82,7 @@ def bench(folder, packages):
     programs = [build(folder)]
     if packages is not None:
         programs.append(content.build_rust(folder, packages, "certs.rs.in", "walk"))
-        programs.append(content.build_rust(folder, packages, "certs_read.rs.in", "read"))
+        programs.append(content.build_rust(folder, packages, "certs_read.rs.in", "read", ["rust_cert"]))
     print(HEAD)
     failures, before = 0, None
     for count in SIZES:

@@ -99,14 +99,17 @@ def build(folder):
     return os.path.join(crate, "out", NAME)
 
 
-def build_rust(folder, packages, source="content.rs.in", name="rust"):
-    """Builds a program in Rust over Debian's crates, in a folder of that name; its path."""
+def build_rust(folder, packages, source="content.rs.in", name="rust", modules=(), dependencies=""):
+    """Builds a program in Rust over Debian's crates, in a folder of that name, with modules that stand in files of their own
+    and with more lines of Cargo.toml, where {registry} stands for where Debian has its crates; its path."""
     registry = os.path.join(os.path.abspath(packages), "usr", "share", "cargo", "registry")
     found = {name.rsplit("-", 1)[0]: name for name in os.listdir(registry)}
     crate = os.path.join(folder, name)
     os.makedirs(os.path.join(crate, "src"), exist_ok=True)
-    write(os.path.join(crate, "Cargo.toml"), CARGO.format(registry=registry, **found))
+    write(os.path.join(crate, "Cargo.toml"), (CARGO + dependencies).format(registry=registry, **found))
     shutil.copy(os.path.join(BENCH, source), os.path.join(crate, "src", "main.rs"))
+    for module in modules:
+        shutil.copy(os.path.join(BENCH, module + ".rs.in"), os.path.join(crate, "src", module + ".rs"))
     run(["cargo", "build", "--release", "--offline"], crate)
     return os.path.join(crate, "target", "release", NAME)
 

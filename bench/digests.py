@@ -7,11 +7,11 @@ program takes to read the objects' certificates.
 The objects are those of walks.py's smallest bundle. Of each the pieces are written down that a validator digests by SHA-256:
 the file, whose digest the manifest has; the content, whose digest the attributes have; and of both signatures (the
 certificate's and that over the attributes) key, message and signature, since a verdict is found by their digests. An
-authority's key is digested once for all that it signs. In FOLDER digests.rt.in is proved and built by `rt run`, with the
-kit's `sha2`, which `rpki_digests` has too. BCDER is as in certs.py: where it is given, certs_read.rs.in reads the
-certificates inside the objects, with their fields, extensions and rules, in Rust, and certs.rs.in walks over them and over
-all objects by the Rust crate's codec. Each is run fifteen times, of which the best time counts. Exits with 1 where an answer
-is wrong.
+authority's key is digested once for all that it signs. By SHA-1 each certificate's key is digested, which its key
+identifier has to be (RFC 6487 4.8.2). In FOLDER digests.rt.in is proved and built by `rt run`, with the kit's `sha1` and
+`sha2`, which `rpki_digests` has too. BCDER is as in certs.py: where it is given, certs_read.rs.in reads the certificates
+inside the objects, with their fields, extensions and rules, in Rust, and certs.rs.in walks over them and over all objects by
+the Rust crate's codec. Each is run fifteen times, of which the best time counts. Exits with 1 where an answer is wrong.
 """
 
 import hashlib
@@ -27,6 +27,8 @@ from walks import AUTHORITIES, CUSTOMERS, ORIGINS  # noqa: E402
 
 RUNS = 15
 KEYS = 16
+# What digests.rt.in is told of the digest function, by the function's name in Python.
+FUNCTIONS = {"sha1": b"\1", "sha256": b"\2"}
 BENCH = os.path.dirname(os.path.abspath(__file__))
 NAME = "digests_bench"
 
@@ -43,16 +45,10 @@ class Recorded(StandIn):
         return signature
 
 
-class Certificates(Authority):
-    """What is issued inside objects, one certificate behind another."""
-
-    found = []
-
-
 def record():
-    """The pieces, the certificates inside objects, and the objects."""
+    """The pieces for SHA-1 and for SHA-256, the certificates inside objects, and the objects."""
     sign_object, issue = Authority.sign_object, Authority.issue
-    inside = []
+    inside, certificates, keys = [], [], []
 
     def signing(self, kind, octets, *others):
         Recorded.pieces.append(octets)
@@ -61,17 +57,18 @@ def record():
         inside.pop()
         return made
 
-    def issuing(self, *given):
-        made = issue(self, *given)
+    def issuing(self, key, extensions):
+        made = issue(self, key, extensions)
         self.key.is_digested = True
+        keys.append(key.octets)
         if inside:
-            Certificates.found.append(made)
+            certificates.append(made)
         return made
 
     Authority.sign_object, Authority.issue = signing, issuing
     repository = Repository(AUTHORITIES[0], ORIGINS, CUSTOMERS, KEYS, Recorded)
     listed = [octets for at, octets in repository.objects.items() if at != repository.anchor.at and at[-4:] != ".mft"]
-    return [*Recorded.pieces, *listed], Certificates.found, list(repository.objects.values())
+    return {"sha1": keys, "sha256": [*Recorded.pieces, *listed]}, certificates, list(repository.objects.values())
 
 
 def best(program, octets, answer):
@@ -85,7 +82,7 @@ def best(program, octets, answer):
 
 def beside(folder, packages, objects, certificates, right):
     """Prints what Rust takes for the certificates, and for a walk over all objects; the seconds for the certificates."""
-    read = content.build_rust(folder, packages, "certs_read.rs.in", "read")
+    read = content.build_rust(folder, packages, "certs_read.rs.in", "read", ["rust_cert"])
     walk = content.build_rust(folder, packages, "certs.rs.in", "walk")
     joined, whole = b"".join(certificates), b"".join(objects)
     rows = [
@@ -98,23 +95,31 @@ def beside(folder, packages, objects, certificates, right):
     return rows[0][1], right and all(fine for _, _, fine in rows)
 
 
+def digested(program, function, pieces, count):
+    """Prints what the pieces take by a digest function; the seconds, and whether each answer was right."""
+    octets = b"".join(len(piece).to_bytes(4, "big") + piece for piece in pieces)
+    answer = [len(pieces), sum(hashlib.new(function, piece).digest()[0] for piece in pieces)]
+    seconds, right = best(program, FUNCTIONS[function] + octets, answer)
+    blocks = sum((len(piece) + 8) // 64 + 1 for piece in pieces)
+    print(f"{function}: {len(pieces)} pieces, {blocks} blocks, {blocks / count:.1f} an object, {64e-6 * blocks / seconds:.0f} MB/s")
+    print(f"{function}: {seconds * 1e3:.2f} ms, {seconds * 1e6 / count:.1f} ms for 1,000 objects")
+    return seconds, right
+
+
 def main():
     if len(sys.argv) not in (2, 3):
         sys.exit("usage: digests.py FOLDER [BCDER]")
     folder = sys.argv[1]
     pieces, certificates, objects = record()
-    crate = copies.make(folder, NAME, os.path.join(BENCH, "digests.rt.in"), ["sha2"])
+    crate = copies.make(folder, NAME, os.path.join(BENCH, "digests.rt.in"), ["sha1", "sha2"])
     content.run(["rt", "run"], crate)
-    octets = b"".join(len(piece).to_bytes(4, "big") + piece for piece in pieces)
-    answer = [len(pieces), sum(hashlib.sha256(piece).digest()[0] for piece in pieces)]
-    total, right = best(os.path.join(crate, "out", NAME), octets, answer)
-    blocks = sum((len(piece) + 8) // 64 + 1 for piece in pieces)
-    print(f"{len(objects)} objects: {len(pieces)} pieces, {blocks / len(objects):.1f} blocks an object")
-    rate = f"{64e-6 * blocks / total:.0f} MB/s"
-    print(f"SHA-256: {total * 1e3:.2f} ms, {total * 1e6 / len(objects):.1f} ms for 1,000 objects, {rate}")
+    program = os.path.join(crate, "out", NAME)
+    taken = [digested(program, function, pieces[function], len(objects)) for function in FUNCTIONS]
+    total, right = sum(seconds for seconds, _ in taken), all(fine for _, fine in taken)
+    print(f"both: {total * 1e6 / len(objects):.1f} ms for 1,000 objects")
     if len(sys.argv) == 3:
         seconds, right = beside(folder, sys.argv[2], objects, certificates, right)
-        print(f"SHA-256 and the certificates: {(total + seconds) * 1e6 / len(objects):.1f} ms for 1,000 objects")
+        print(f"digests and certificates: {(total + seconds) * 1e6 / len(objects):.1f} ms for 1,000 objects")
     if not right:
         print("WRONG ANSWER")
     sys.exit(0 if right else 1)

@@ -1,7 +1,7 @@
 #!/usr/bin/env python3
 """Shows the processor time and the memory that the built program takes to walk repositories, and how both grow.
 
-    walks.py PROGRAM [--rsa]        (PROGRAM is crates/rpki_check/out/rpki_check)
+    walks.py PROGRAM [--rsa] [--beside DEBIAN]        (PROGRAM is crates/rpki_check/out/rpki_check)
 
 Bundles of some 1,000, 10,000 and 100,000 objects are read from a file as standard input, several times each: a trust anchor
 over 10, 102 and 1,020 authorities, each with 90 ROAs, 5 ASPAs, a revocation list and a manifest, and two verdicts or more
@@ -11,6 +11,11 @@ with the right one. Time is the processor time of the run, the kernel's for it i
 so other work on the machine changes little. GNU time, where it is installed, tells the peak of resident memory in one more
 run.
 
+With --beside the same bundles are walked in Rust too, in turns: by walk.rs.in over the Rust crate `bcder` and the crates `sha1`
+and `sha2`, as Debian has them (0.6.1, 0.10.1 and 0.10.5). DEBIAN is a folder in which these packages are unpacked: the
+librust-*-dev of bcder, bytes, smallvec, sha1, sha2, digest, block-buffer, generic-array, crypto-common, typenum, cpufeatures,
+libc, cfg-if, rand-core, subtle and version-check.
+
 Targets: 1,000 objects take at most 25 ms; ten times the objects take at most 11 times the time; and the peak is at most 2.2
 times the bundle's size, where that is 10 MB or more. Exits with 1 where one of them is missed or an answer is wrong.
 """
@@ -18,6 +23,7 @@ times the bundle's size, where that is 10 MB or more. Exits with 1 where one of 
 import argparse
 import collections
 import filecmp
+import math
 import os
 import subprocess
 import sys
@@ -25,6 +31,7 @@ import tempfile
 
 sys.dont_write_bytecode = True
 
+import content  # noqa: E402
 from bench import has_gnu_time, peak_of  # noqa: E402
 
 AUTHORITIES = (10, 102, 1_020)
@@ -39,10 +46,17 @@ MOST_GROWTH = 11
 MOST_MEMORY = 2.2
 LEAST_JUDGED = 10_000_000
 
+# The crates that sha1 and sha2 stand on, by their names in Debian's registry.
+BELOW = "block-buffer cfg-if cpufeatures crypto-common digest generic-array libc rand_core subtle typenum version_check"
+# Lines of Cargo.toml in which content.py fills in the folders.
+PATCHES = "".join(f'{name} = {{{{ path = "{{registry}}/{{{name}}}" }}}}\n' for name in BELOW.split())
+NAMED = "".join(f'\n[dependencies.{name}]\npath = "{{registry}}/{{{name}}}"\n' for name in ("sha1", "sha2"))
+
 MAKER = os.path.join(os.path.dirname(os.path.abspath(__file__)), "repository.py")
 
-# One bundle's figures: `size` and `peak` in octets, `seconds` of processor time of the best run.
-Row = collections.namedtuple("Row", "objects size seconds peak right")
+# One bundle's figures: `size` and `peak` in octets, `seconds` of processor time of the best run, `beside` those in Rust,
+# None where it isn't walked in Rust.
+Row = collections.namedtuple("Row", "objects size seconds beside peak right")
 
 
 def make(folder, authorities, is_rsa):
@@ -64,17 +78,22 @@ def run_once(program, bundle, answer):
     return usage.ru_utime + usage.ru_stime, usage.ru_maxrss * 1024, status
 
 
-def measure(program, folder, authorities, is_rsa):
+def measure(programs, folder, authorities, is_rsa):
+    """The figures of the first program, with those of another beside it where there are two."""
     bundle, lines = make(folder, authorities, is_rsa)
     answer = os.path.join(folder, "answer")
-    runs, right = [], True
+    best, peaks, right = [math.inf] * len(programs), [], True
     for _ in range(RUNS[authorities]):
-        seconds, peak, status = run_once(program, bundle, answer)
-        right = right and status == 0 and filecmp.cmp(answer, lines, shallow=False)
-        filecmp.clear_cache()
-        runs.append((seconds, peak))
-    peak = peak_of(program, folder, bundle) if has_gnu_time() else max(peak for _, peak in runs)
-    return Row(OBJECTS[authorities], os.path.getsize(bundle), min(seconds for seconds, _ in runs), peak, right)
+        for index, program in enumerate(programs):
+            seconds, peak, status = run_once(program, bundle, answer)
+            right = right and status == 0 and filecmp.cmp(answer, lines, shallow=False)
+            filecmp.clear_cache()
+            best[index] = min(best[index], seconds)
+            if index == 0:
+                peaks.append(peak)
+    peak = peak_of(programs[0], folder, bundle) if has_gnu_time() else max(peaks)
+    beside = best[1] if len(best) > 1 else None
+    return Row(OBJECTS[authorities], os.path.getsize(bundle), best[0], beside, peak, right)
 
 
 def judged(what, value, most, form):
@@ -96,20 +115,40 @@ def notes(row, before):
     return "; ".join(text for text, _ in said), sum(missed for _, missed in said)
 
 
+def cells(row):
+    """The figures of a row."""
+    found = [f"{row.objects:,}", f"{row.size / 1e6:.2f}", f"{row.seconds * 1000:.1f}", f"{row.seconds * 1e6 / row.objects:.1f}"]
+    if row.beside:
+        found += [f"{row.beside * 1000:.1f}", f"{row.seconds / row.beside:.2f}"]
+    return [*found, f"{row.peak / 1e6:.1f}", f"{row.peak / row.size:.2f}"]
+
+
 def main():
     parser = argparse.ArgumentParser(description=__doc__, formatter_class=argparse.RawDescriptionHelpFormatter)
     parser.add_argument("program")
     parser.add_argument("--rsa", action="store_true", help="real keys and signatures")
+    parser.add_argument("--beside", metavar="DEBIAN", help="the same walk in Rust, over crates that are unpacked there")
     given = parser.parse_args()
-    print("| objects | bundle MB | ms | ms / 1,000 objects | peak MB | peak / bundle | against the target |")
-    print("|---:|---:|---:|---:|---:|---:|---|", flush=True)
+    with tempfile.TemporaryDirectory() as folder:
+        programs = [os.path.abspath(given.program)]
+        if given.beside:
+            modules = ["rust_cert", "rust_object"]
+            programs.append(content.build_rust(folder, given.beside, "walk.rs.in", "walk", modules, PATCHES + NAMED))
+        return compare(programs, given.rsa)
+
+
+def compare(programs, is_rsa):
+    """Prints a row for each size; 1 where a target is missed or an answer wrong, else 0."""
+    heads = ["objects", "bundle MB", "ms", "ms / 1,000 objects", *(["ms in Rust", "ratio"] if len(programs) > 1 else [])]
+    heads += ["peak MB", "peak / bundle", "against the target"]
+    print(f"| {' | '.join(heads)} |")
+    print(f"|{'---:|' * (len(heads) - 1)}---|", flush=True)
     failures, before = 0, None
     for authorities in AUTHORITIES:
         with tempfile.TemporaryDirectory() as folder:
-            row = measure(os.path.abspath(given.program), folder, authorities, given.rsa)
+            row = measure(programs, folder, authorities, is_rsa)
         said, missed = notes(row, before)
-        figures = f"{row.size / 1e6:.2f} | {row.seconds * 1000:.1f} | {row.seconds * 1e6 / row.objects:.1f}"
-        print(f"| {row.objects:,} | {figures} | {row.peak / 1e6:.1f} | {row.peak / row.size:.2f} | {said} |", flush=True)
+        print(f"| {' | '.join(cells(row))} | {said} |", flush=True)
         failures, before = failures + missed, row
     print(f"{failures} targets missed or answers wrong" if failures else "all targets met")
     return 1 if failures else 0

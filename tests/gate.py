@@ -1,5 +1,5 @@
 #!/usr/bin/env python3
-"""Runs the gate and writes docs/GATE.md: what each crate costs in processor seconds.
+"""Runs the gate and writes docs/GATE.md: what each crate costs in processor seconds. Sections behind the table are kept.
 
     gate.py [--log FILE]
 
@@ -11,6 +11,7 @@ much processor time each has taken. What a check takes in its last half second i
 import argparse
 import collections
 import datetime
+import heapq
 import os
 import re
 import subprocess
@@ -80,6 +81,36 @@ def longest_chain(needs, sums):
     return max(of(crate) for crate in needs)
 
 
+def minutes_on(processors, needs, sums):
+    """How long so many processors would take, each with one check at a time: of the proofs whose crates below are proved
+    the one with the longest chain above it first, and wrong bodies and tests of proved crates where no proof waits."""
+    above = {crate: [name for name in needs if crate in needs[name]] for crate in needs}
+    rank = {}
+
+    def of(crate):
+        if crate not in rank:
+            rank[crate] = sums[crate, "proof"] + max((of(name) for name in above[crate]), default=0.0)
+        return rank[crate]
+
+    waits = {crate: {name for name in needs[crate] if name in needs} for crate in needs}
+    proofs = [(-of(crate), crate) for crate in needs if not waits[crate]]
+    others, running, now = [], [], 0.0
+    while proofs or others or running:
+        heapq.heapify(proofs)
+        while len(running) < processors and (proofs or others):
+            crate = heapq.heappop(proofs)[1] if proofs else None
+            seconds = sums[crate, "proof"] if crate else others.pop()
+            heapq.heappush(running, (now + seconds, crate or ""))
+        now, crate = heapq.heappop(running)
+        if crate:
+            others += [sums[crate, kind] for kind in KINDS[1:]]
+            for name in above[crate]:
+                waits[name].discard(crate)
+                if not waits[name]:
+                    proofs.append((-of(name), name))
+    return now / 60
+
+
 def page(status, wall, sums, log):
     needs = copies.stands_on()
     with open(log) as file:
@@ -101,6 +132,7 @@ def page(status, wall, sums, log):
         f"last line `{lines[-1]}`.",
         "",
         f"Proofs {total['proof']:,.0f}, tests {total['tests']:,.0f}, wrong bodies {total['edits']:,.0f}. "
+        f"Two processors of this kind would take {minutes_on(2, needs, sums):.0f} minutes for these seconds. "
         f"The longest chain of proofs, {seconds:,.0f} seconds: {', '.join(f'`{name}`' for name in reversed(names))}.",
         "",
         "| Crate | Proof, s | Tests, s | Wrong bodies, s | Wrong bodies |",
@@ -112,14 +144,22 @@ def page(status, wall, sums, log):
     return "\n".join(rows) + "\n"
 
 
+def sections():
+    """What stands in the page from its first section on."""
+    with open(PAGE) as file:
+        _, mark, kept = file.read().partition("\n## ")
+    return mark + kept
+
+
 def main():
     parser = argparse.ArgumentParser(description="Runs the gate and writes docs/GATE.md.")
     parser.add_argument("--log", help="the file for what the gate prints")
     given = parser.parse_args()
     log = os.path.abspath(given.log) if given.log else os.path.join(tempfile.mkdtemp(), "gate.log")
     status, wall, sums = watched(["bash", ".ci/run"], log)
+    text = page(status, wall, sums, log) + sections()
     with open(PAGE, "w") as file:
-        file.write(page(status, wall, sums, log))
+        file.write(text)
     print(f"status {status}, {wall:.0f} s; {log}")
     sys.exit(status)
 
