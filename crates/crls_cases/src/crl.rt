@@ -7,7 +7,7 @@ use bcder::Mode;
 use bcder::encode::Values;
 use certs_cert::Cert;
 use certs_crl::{Crl, TbsCertList};
-use certs_key::Serial;
+use certs_key::{PublicKey, Serial};
 use std::alloc::Global;
 use std::str::FromStr;
 
@@ -45,13 +45,17 @@ pub fn shown(alloc: Global, answer: &mut Answer, tbs: &TbsCertList) {
     entries(alloc, answer, tbs);
 }
 
+// What a list that was read holds, and its signature.
+fn say_read(alloc: Global, answer: &mut Answer, crl: Crl) {
+    shown(alloc, answer, crl.as_cert_list());
+    answer.say_octets(alloc, crl.signed_data().signature().value());
+    drop(crl);
+}
+
 fn read(alloc: Global, answer: &mut Answer, digits: &str) -> Result<()> {
     let octets = octets(alloc, digits)?;
     match Crl::decode(alloc, octets.as_slice()) {
-        Ok(crl) => {
-            shown(alloc, answer, crl.as_cert_list());
-            answer.say_octets(alloc, crl.signed_data().signature().value());
-        }
+        Ok(crl) => say_read(alloc, answer, crl),
         Err(error) => answer.refuse(error),
     }
     Ok(())
@@ -61,7 +65,10 @@ fn read(alloc: Global, answer: &mut Answer, digits: &str) -> Result<()> {
 fn told(alloc: Global, answer: &mut Answer, digits: &str) -> Result<()> {
     let octets = octets(alloc, digits)?;
     match Crl::decode(alloc, octets.as_slice()) {
-        Ok(_) => answer.say(&"read"),
+        Ok(crl) => {
+            answer.say(&"read");
+            drop(crl);
+        }
         Err(error) => answer.tell(error),
     }
     Ok(())
@@ -71,7 +78,9 @@ fn told(alloc: Global, answer: &mut Answer, digits: &str) -> Result<()> {
 fn again(alloc: Global, answer: &mut Answer, digits: &str) -> Result<()> {
     let octets = octets(alloc, digits)?;
     let crl = list(alloc, digits)?;
-    match crl.encode_ref().to_captured(alloc, Mode::Der) {
+    let written = crl.encode_ref().to_captured(alloc, Mode::Der);
+    drop(crl);
+    match written {
         Ok(captured) => answer.say(&(captured.as_slice() == octets.as_slice())),
         Err(error) => answer.say(&error),
     }
@@ -86,15 +95,23 @@ fn position(answer: &mut Answer, crl: &Crl, serial: Serial, most: u64) {
     answer.say(&(probes <= most));
 }
 
-// Whether the list has a serial number, without and with those that are kept aside, and where that one is.
+// Whether the list has a serial number, and where it is by so many looks.
+fn say_has(answer: &mut Answer, crl: &Crl, serial: Serial, most: u64) {
+    answer.say(&crl.contains(serial));
+    position(answer, crl, serial, most);
+}
+
+// That of a list without and with serial numbers that are kept aside.
 fn has(alloc: Global, answer: &mut Answer, digits: &str, word: &str, most: u64) -> Result<()> {
     let serial = serial(alloc, word)?;
     let mut crl = list(alloc, digits)?;
-    answer.say(&crl.contains(serial));
-    position(answer, &crl, serial, 0);
-    crl.cache_serials(alloc)?;
-    answer.say(&crl.contains(serial));
-    position(answer, &crl, serial, most);
+    say_has(answer, &crl, serial, 0);
+    let cached = crl.cache_serials(alloc);
+    if cached.is_ok() {
+        say_has(answer, &crl, serial, most);
+    }
+    drop(crl);
+    cached?;
     Ok(())
 }
 
@@ -108,25 +125,55 @@ fn cert(alloc: Global, word: &str) -> Result<Cert> {
 }
 
 // Whether the list claims that certificate for its issuer.
-fn claims(alloc: Global, answer: &mut Answer, digits: &str, word: &str) -> Result<()> {
-    let issuer = cert(alloc, word)?;
-    match list(alloc, digits)?.verify_issuer_claim(&issuer) {
+fn say_claim(alloc: Global, answer: &mut Answer, digits: &str, issuer: &Cert) -> Result<()> {
+    let crl = list(alloc, digits)?;
+    match crl.verify_issuer_claim(issuer) {
         Ok(()) => answer.say(&"claimed"),
         Err(error) => answer.say(&error),
     }
+    drop(crl);
     Ok(())
 }
 
-// Whether the signature is one of that certificate's key, by a verifier that is asked for it, and of what it was asked.
-fn verified(alloc: Global, answer: &mut Answer, digits: &str, word: &str) -> Result<()> {
+fn claims(alloc: Global, answer: &mut Answer, digits: &str, word: &str) -> Result<()> {
     let issuer = cert(alloc, word)?;
+    let told = say_claim(alloc, answer, digits, &issuer);
+    drop(issuer);
+    told
+}
+
+// Whether the signature is one of that key, by a verifier that is asked for it, and of what it was asked.
+fn say_verified(alloc: Global, answer: &mut Answer, digits: &str, key: &PublicKey) -> Result<()> {
+    let crl = list(alloc, digits)?;
     let mut verifier = Mirror::new(alloc);
-    let key = issuer.tbs().subject_public_key_info();
-    match list(alloc, digits)?.verify_signature(key, &mut verifier) {
+    match crl.verify_signature(key, &mut verifier) {
         Ok(()) => answer.say(&"good"),
         Err(error) => answer.say(&error),
     }
+    drop(crl);
     verifier.tell(alloc, answer);
+    Ok(())
+}
+
+// That of the key of a certificate.
+fn verified(alloc: Global, answer: &mut Answer, digits: &str, word: &str) -> Result<()> {
+    let issuer = cert(alloc, word)?;
+    let told = say_verified(
+        alloc,
+        answer,
+        digits,
+        issuer.tbs().subject_public_key_info(),
+    );
+    drop(issuer);
+    told
+}
+
+// Whether the list is stale at a moment.
+fn stale(alloc: Global, answer: &mut Answer, digits: &str, word: &str) -> Result<()> {
+    let now = moment(word)?;
+    let crl = list(alloc, digits)?;
+    answer.say(&crl.as_cert_list().is_stale(now));
+    drop(crl);
     Ok(())
 }
 
@@ -139,11 +186,7 @@ pub fn answer(alloc: Global, answer: &mut Answer, words: &[&str]) -> Result<()> 
         ["has", digits, word, most] => has(alloc, answer, *digits, *word, u64::from_str(*most)?),
         ["claims", digits, word] => claims(alloc, answer, *digits, *word),
         ["verified", digits, word] => verified(alloc, answer, *digits, *word),
-        ["stale", digits, word] => {
-            let now = moment(*word)?;
-            answer.say(&list(alloc, *digits)?.as_cert_list().is_stale(now));
-            Ok(())
-        }
+        ["stale", digits, word] => stale(alloc, answer, *digits, *word),
         _ => unknown(),
     }
 }

@@ -53,7 +53,11 @@ fn say_read(
     read: Result<RevokedCertificates, DecodeError<Infallible>>,
 ) -> Result<()> {
     match read {
-        Ok(list) => say_list(alloc, answer, word, &list),
+        Ok(list) => {
+            let told = say_list(alloc, answer, word, &list);
+            drop(list);
+            told
+        }
         Err(error) => {
             answer.refuse(error);
             Ok(())
@@ -79,7 +83,7 @@ fn next(alloc: Global, answer: &mut Answer, word: &str, digits: &str) -> Result<
         |cons| RevokedCertificates::take_opt_from(alloc, cons),
     );
     match read {
-        Ok(Some(list)) => say_list(alloc, answer, word, &list),
+        Ok(Some(list)) => say_read(alloc, answer, word, Ok(list)),
         Ok(None) => {
             answer.say(&"absent");
             Ok(())

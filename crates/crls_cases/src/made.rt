@@ -79,15 +79,17 @@ fn list(alloc: Global, words: &[&str]) -> Result<TbsCertList> {
     else {
         return Err(anyhow!("too few fields"));
     };
-    Ok(TbsCertList::new(
-        algorithm(alloc, *signature)?,
-        name(alloc, *issuer)?,
-        moment(*this)?,
-        moment(*next)?,
-        revoked(alloc, entries)?,
-        key(alloc, *identifier)?,
-        serial(alloc, *number)?,
-    ))
+    let signature = algorithm(alloc, *signature)?;
+    let (this, next) = (moment(*this)?, moment(*next)?);
+    let (identifier, number) = (key(alloc, *identifier)?, serial(alloc, *number)?);
+    let issuer = name(alloc, *issuer)?;
+    match revoked(alloc, entries) {
+        Ok(list) => Ok(TbsCertList::new(signature, issuer, this, next, list, identifier, number)),
+        Err(error) => {
+            drop(issuer);
+            Err(error)
+        }
+    }
 }
 
 // What is written of a list.
@@ -98,25 +100,43 @@ fn say_list(alloc: Global, answer: &mut Answer, crl: &Crl) {
     }
 }
 
+// What is written of a list and of its clone, which is all that is left then.
+fn say_both(alloc: Global, answer: &mut Answer, crl: Crl) -> Result<()> {
+    say_list(alloc, answer, &crl);
+    let copy: Result<_, _> = crl.clone();
+    drop(crl);
+    let copy = copy?;
+    say_list(alloc, answer, &copy);
+    drop(copy);
+    Ok(())
+}
+
+// The clone of the list of the words, which is gone.
+fn copied(alloc: Global, words: &[&str]) -> Result<TbsCertList> {
+    let list = list(alloc, words)?;
+    let copy: Result<_, _> = list.clone();
+    drop(list);
+    Ok(copy?)
+}
+
 // The octets of the list, signed by the signer that shows what it signed, and those of its clone.
 fn built(alloc: Global, answer: &mut Answer, words: &[&str]) -> Result<()> {
-    let list = list(alloc, words)?;
-    let copy = list.clone()?;
-    drop(list);
-    match copy.into_crl(alloc, &Echo { refuses: false }, &1) {
-        Ok(crl) => {
-            say_list(alloc, answer, &crl);
-            say_list(alloc, answer, &crl.clone()?);
+    match copied(alloc, words)?.into_crl(alloc, &Echo { refuses: false }, &1) {
+        Ok(crl) => say_both(alloc, answer, crl),
+        Err(error) => {
+            answer.say(&error);
+            Ok(())
         }
-        Err(error) => answer.say(&error),
     }
-    Ok(())
 }
 
 // How a signer refuses.
 fn refused(alloc: Global, answer: &mut Answer, refuses: bool, words: &[&str]) -> Result<()> {
     match list(alloc, words)?.into_crl(alloc, &Echo { refuses }, &0) {
-        Ok(_) => answer.say(&"signed"),
+        Ok(crl) => {
+            answer.say(&"signed");
+            drop(crl);
+        }
         Err(error) => answer.say(&error),
     }
     Ok(())
@@ -126,6 +146,7 @@ fn refused(alloc: Global, answer: &mut Answer, refuses: bool, words: &[&str]) ->
 fn written(alloc: Global, answer: &mut Answer, word: &str, words: &[&str]) -> Result<()> {
     let list = list(alloc, words)?;
     answer.say_written(alloc, mode(word), &list.encode_ref());
+    drop(list);
     Ok(())
 }
 
@@ -137,13 +158,25 @@ fn split<'a>(count: &str, words: &'a [&'a str]) -> Result<(&'a [&'a str], &'a [&
     }
 }
 
-// The fields of so many words, where they lent their entries and those of the pairs were put there.
+// A list that lent its entries, where those of the pairs were put there.
+fn say_lent(
+    alloc: Global,
+    answer: &mut Answer,
+    list: &mut TbsCertList,
+    pairs: &[&str],
+) -> Result<()> {
+    *list.revoked_certs_mut() = revoked(alloc, pairs)?;
+    shown(alloc, answer, list);
+    Ok(())
+}
+
+// That of the fields of so many words and the pairs after them.
 fn lent(alloc: Global, answer: &mut Answer, count: &str, words: &[&str]) -> Result<()> {
     let (fields, pairs) = split(count, words)?;
     let mut list = list(alloc, fields)?;
-    *list.revoked_certs_mut() = revoked(alloc, pairs)?;
-    shown(alloc, answer, &list);
-    Ok(())
+    let told = say_lent(alloc, answer, &mut list, pairs);
+    drop(list);
+    told
 }
 
 // Sets a field to that of another list.
@@ -161,13 +194,29 @@ fn set_field(list: &mut TbsCertList, field: &str, other: &TbsCertList) -> Result
     Ok(())
 }
 
+// A list, after one of its fields was set to that of other words.
+fn say_set(
+    alloc: Global,
+    answer: &mut Answer,
+    made: &mut TbsCertList,
+    field: &str,
+    others: &[&str],
+) -> Result<()> {
+    let other = list(alloc, others)?;
+    let known = set_field(made, field, &other);
+    drop(other);
+    known?;
+    shown(alloc, answer, made);
+    Ok(())
+}
+
 // The fields of so many words, where one was set to that of the words after them.
 fn set(alloc: Global, answer: &mut Answer, field: &str, count: &str, words: &[&str]) -> Result<()> {
     let (fields, others) = split(count, words)?;
     let mut made = list(alloc, fields)?;
-    set_field(&mut made, field, &list(alloc, others)?)?;
-    shown(alloc, answer, &made);
-    Ok(())
+    let told = say_set(alloc, answer, &mut made, field, others);
+    drop(made);
+    told
 }
 
 /// The answer to a question about a list that is built.

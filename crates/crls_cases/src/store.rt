@@ -21,10 +21,19 @@ fn uri(alloc: Global, word: &str) -> Result<Rsync> {
 // Puts a list after the others.
 fn push(alloc: Global, store: &mut CrlStore, word: &str, digits: &str) -> Result<()> {
     let uri = uri(alloc, word)?;
-    let crl = list(alloc, digits)?;
+    let crl = match list(alloc, digits) {
+        Ok(crl) => crl,
+        Err(error) => {
+            drop(uri);
+            return Err(error);
+        }
+    };
     match store.push(alloc, uri, crl) {
         Ok(()) => Ok(()),
-        Err(_) => Err(anyhow!("memory")),
+        Err(error) => {
+            drop(error);
+            Err(anyhow!("memory"))
+        }
     }
 }
 

@@ -3,7 +3,7 @@
 
 use crate::answers::{Answer, mode, octets, serial, unknown};
 use crate::crl::{list, shown};
-use anyhow::Result;
+use anyhow::{Error, Result};
 use bcder::Tag;
 use bcder::decode::{Constructed, Decode, DecodeError, SliceSource};
 use certs_crl::{Crl, TbsCertList};
@@ -13,7 +13,10 @@ use std::convert::Infallible;
 // The number of a list that was read.
 fn say_number(answer: &mut Answer, read: Result<Crl, DecodeError<Infallible>>) {
     match read {
-        Ok(crl) => answer.say(&crl.as_cert_list().crl_number()),
+        Ok(crl) => {
+            answer.say(&crl.as_cert_list().crl_number());
+            drop(crl);
+        }
         Err(error) => answer.refuse(error),
     }
 }
@@ -60,7 +63,10 @@ fn fields(alloc: Global, answer: &mut Answer, word: &str, digits: &str) -> Resul
         octets.as_slice(),
         |cons| TbsCertList::take_from(alloc, cons),
     ) {
-        Ok(tbs) => shown(alloc, answer, &tbs),
+        Ok(tbs) => {
+            shown(alloc, answer, &tbs);
+            drop(tbs);
+        }
         Err(error) => answer.refuse(error),
     }
     Ok(())
@@ -80,15 +86,54 @@ fn place(alloc: Global, answer: &mut Answer, crl: &Crl, word: &str) -> Result<()
     Ok(())
 }
 
-// That of the clone of a list, and of another one that was made when its serial numbers were kept aside.
-fn cloned(alloc: Global, answer: &mut Answer, digits: &str, word: &str) -> Result<()> {
-    let mut crl = list(alloc, digits)?;
+// The clone of a list that is made before its serial numbers are kept aside.
+fn clone_before(alloc: Global, crl: &mut Crl) -> Result<Crl> {
     let copy = crl.clone()?;
+    match crl.cache_serials(alloc) {
+        Ok(()) => Ok(copy),
+        Err(error) => {
+            drop(copy);
+            Err(Error::from(error))
+        }
+    }
+}
+
+// The clone of a list that is made after that.
+fn clone_after(alloc: Global, crl: &mut Crl) -> Result<Crl> {
     crl.cache_serials(alloc)?;
-    let kept = crl.clone()?;
+    Ok(crl.clone()?)
+}
+
+// The clone of a list whose serial numbers were kept aside, of before or after; the list itself is gone.
+fn copied(alloc: Global, digits: &str, after: bool) -> Result<Crl> {
+    let mut crl = list(alloc, digits)?;
+    let copy = if after {
+        clone_after(alloc, &mut crl)
+    } else {
+        clone_before(alloc, &mut crl)
+    };
     drop(crl);
-    place(alloc, answer, &copy, word)?;
-    place(alloc, answer, &kept, word)
+    copy
+}
+
+// Where a serial number is in the clone of before or after.
+fn say_copied(
+    alloc: Global,
+    answer: &mut Answer,
+    digits: &str,
+    word: &str,
+    after: bool,
+) -> Result<()> {
+    let copy = copied(alloc, digits, after)?;
+    let told = place(alloc, answer, &copy, word);
+    drop(copy);
+    told
+}
+
+// That of the clone of before, and then of the clone of after.
+fn cloned(alloc: Global, answer: &mut Answer, digits: &str, word: &str) -> Result<()> {
+    say_copied(alloc, answer, digits, word, false)?;
+    say_copied(alloc, answer, digits, word, true)
 }
 
 /// The answer to a question about a list within others, or about a clone.

@@ -41,7 +41,10 @@ pub fn answer(alloc: Global, answer: &mut Answer, words: &[&str]) -> Result<()> 
     };
     let octets = octets(alloc, *digits)?;
     match AsProviderAttestation::decode(alloc, octets.as_slice()) {
-        Ok(content) => shown(alloc, answer, &content),
+        Ok(content) => {
+            shown(alloc, answer, &content);
+            drop(content);
+        }
         Err(error) => answer.refuse(error),
     }
     Ok(())

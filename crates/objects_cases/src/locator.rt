@@ -24,6 +24,7 @@ fn uri(alloc: Global, answer: &mut Answer, call: &str, octets: &[u8]) -> Result<
         Ok(uri) => {
             answer.say(&uri.as_str());
             answer.say(&format_args!("{uri} {} {}", uri.is_rsync(), uri.is_https()));
+            drop(uri);
         }
         Err(error) => answer.say(&error),
     }
@@ -42,6 +43,7 @@ fn locator(alloc: Global, answer: &mut Answer, name: &str, digits: &str) -> Resu
             uris(answer, &tal);
             tal.prefer_https();
             uris(answer, &tal);
+            drop(tal);
         }
         Err(error) => answer.say(&error),
     }

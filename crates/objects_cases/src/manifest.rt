@@ -30,7 +30,10 @@ pub fn shown(alloc: Global, answer: &mut Answer, content: &ManifestContent) {
 fn read(alloc: Global, answer: &mut Answer, digits: &str) -> Result<()> {
     let octets = octets(alloc, digits)?;
     match ManifestContent::decode(alloc, octets.as_slice()) {
-        Ok(content) => shown(alloc, answer, &content),
+        Ok(content) => {
+            shown(alloc, answer, &content);
+            drop(content);
+        }
         Err(error) => answer.refuse(error),
     }
     Ok(())
@@ -41,10 +44,16 @@ fn stale(alloc: Global, answer: &mut Answer, digits: &str, word: &str) -> Result
     let now = moment(word)?;
     let octets = octets(alloc, digits)?;
     match ManifestContent::decode(alloc, octets.as_slice()) {
-        Ok(content) => answer.say(&content.is_stale(now)),
-        Err(_) => return Err(anyhow!("no manifest")),
+        Ok(content) => {
+            answer.say(&content.is_stale(now));
+            drop(content);
+            Ok(())
+        }
+        Err(error) => {
+            drop(error);
+            Err(anyhow!("no manifest"))
+        }
     }
-    Ok(())
 }
 
 /// The answer to a question about manifests, or the names of files in them.

@@ -5,6 +5,7 @@ use crate::answers::{Answer, octets, unknown};
 use crate::{aspa, cert, manifest, roa};
 use anyhow::Result;
 use bcder::OctetString;
+use certs_cert::Cert;
 use objects_kinds::{Aspa, Manifest, Roa, SignedObject, SignerInfo};
 use sha2::{Digest, Sha256};
 use std::alloc::Global;
@@ -44,25 +45,41 @@ fn shown(alloc: Global, answer: &mut Answer, signed: &SignedObject) {
 
 fn any(alloc: Global, answer: &mut Answer, strict: bool, octets: &[u8]) {
     match SignedObject::decode(alloc, octets, strict) {
-        Ok(signed) => shown(alloc, answer, &signed),
+        Ok(signed) => {
+            shown(alloc, answer, &signed);
+            drop(signed);
+        }
         Err(error) => answer.refuse(error),
     }
+}
+
+// Tells who signed, and drops it.
+fn say_signer(alloc: Global, answer: &mut Answer, signed_by: SignerInfo) {
+    signer(alloc, answer, &signed_by);
+    drop(signed_by);
+}
+
+// Tells what a certificate says, and drops it.
+fn say_cert(alloc: Global, answer: &mut Answer, cert: Cert) {
+    cert::shown(alloc, answer, &cert);
+    drop(cert);
+}
+
+// Takes an object apart, and tells its type, the content, who signed, and the certificate.
+fn say_parts(alloc: Global, answer: &mut Answer, signed: SignedObject) {
+    let (kind, content, cert, signed_by) = signed.into_parts();
+    answer.say_octets(alloc, kind.as_slice());
+    drop(kind);
+    string(alloc, answer, &content);
+    drop(content);
+    say_signer(alloc, answer, signed_by);
+    say_cert(alloc, answer, cert);
 }
 
 // The parts of an object that is taken apart: the content's type, the content, who signed, and the certificate.
 fn parts(alloc: Global, answer: &mut Answer, strict: bool, octets: &[u8]) {
     match SignedObject::decode(alloc, octets, strict) {
-        Ok(signed) => {
-            let (kind, content, cert, signed_by) = signed.into_parts();
-            answer.say_octets(alloc, kind.as_slice());
-            string(alloc, answer, &content);
-            signer(alloc, answer, &signed_by);
-            cert::shown(alloc, answer, &cert);
-            drop(kind);
-            drop(content);
-            drop(cert);
-            drop(signed_by);
-        }
+        Ok(signed) => say_parts(alloc, answer, signed),
         Err(error) => answer.refuse(error),
     }
 }
@@ -72,6 +89,7 @@ fn manifest_of(alloc: Global, answer: &mut Answer, strict: bool, octets: &[u8]) 
         Ok(object) => {
             shown(alloc, answer, object.signed());
             manifest::shown(alloc, answer, object.content());
+            drop(object);
         }
         Err(error) => answer.refuse(error),
     }
@@ -82,6 +100,7 @@ fn roa_of(alloc: Global, answer: &mut Answer, strict: bool, octets: &[u8]) {
         Ok(object) => {
             shown(alloc, answer, object.signed());
             roa::shown(answer, object.content());
+            drop(object);
         }
         Err(error) => answer.refuse(error),
     }
@@ -92,6 +111,7 @@ fn aspa_of(alloc: Global, answer: &mut Answer, strict: bool, octets: &[u8]) {
         Ok(object) => {
             shown(alloc, answer, object.signed());
             aspa::shown(alloc, answer, object.content());
+            drop(object);
         }
         Err(error) => answer.refuse(error),
     }

@@ -45,7 +45,10 @@ pub fn answer(alloc: Global, answer: &mut Answer, words: &[&str]) -> Result<()> 
     };
     let octets = octets(alloc, *digits)?;
     match RouteOriginAttestation::decode(alloc, octets.as_slice()) {
-        Ok(content) => shown(answer, &content),
+        Ok(content) => {
+            shown(answer, &content);
+            drop(content);
+        }
         Err(error) => answer.refuse(error),
     }
     Ok(())
