@@ -101,7 +101,8 @@ def digested(program, function, pieces, count):
     answer = [len(pieces), sum(hashlib.new(function, piece).digest()[0] for piece in pieces)]
     seconds, right = best(program, FUNCTIONS[function] + octets, answer)
     blocks = sum((len(piece) + 8) // 64 + 1 for piece in pieces)
-    print(f"{function}: {len(pieces)} pieces, {blocks} blocks, {blocks / count:.1f} an object, {64e-6 * blocks / seconds:.0f} MB/s")
+    rate = f"{64e-6 * blocks / seconds:.0f} MB/s"
+    print(f"{function}: {len(pieces)} pieces, {blocks} blocks, {blocks / count:.1f} an object, {rate}")
     print(f"{function}: {seconds * 1e3:.2f} ms, {seconds * 1e6 / count:.1f} ms for 1,000 objects")
     return seconds, right
 

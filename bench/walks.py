@@ -11,8 +11,8 @@ with the right one. Time is the processor time of the run, the kernel's for it i
 so other work on the machine changes little. GNU time, where it is installed, tells the peak of resident memory in one more
 run.
 
-With --beside the same bundles are walked in Rust too, in turns: by walk.rs.in over the Rust crate `bcder` and the crates `sha1`
-and `sha2`, as Debian has them (0.6.1, 0.10.1 and 0.10.5). DEBIAN is a folder in which these packages are unpacked: the
+With --beside the same bundles are walked in Rust too, in turns: by walk.rs.in over the Rust crate `bcder` and the crates
+`sha1` and `sha2`, as Debian has them (0.6.1, 0.10.1 and 0.10.5). DEBIAN is a folder in which these packages are unpacked: the
 librust-*-dev of bcder, bytes, smallvec, sha1, sha2, digest, block-buffer, generic-array, crypto-common, typenum, cpufeatures,
 libc, cfg-if, rand-core, subtle and version-check.
 
@@ -117,7 +117,8 @@ def notes(row, before):
 
 def cells(row):
     """The figures of a row."""
-    found = [f"{row.objects:,}", f"{row.size / 1e6:.2f}", f"{row.seconds * 1000:.1f}", f"{row.seconds * 1e6 / row.objects:.1f}"]
+    found = [f"{row.objects:,}", f"{row.size / 1e6:.2f}"]
+    found += [f"{row.seconds * 1000:.1f}", f"{row.seconds * 1e6 / row.objects:.1f}"]
     if row.beside:
         found += [f"{row.beside * 1000:.1f}", f"{row.seconds / row.beside:.2f}"]
     return [*found, f"{row.peak / 1e6:.1f}", f"{row.peak / row.size:.2f}"]

@@ -101,7 +101,7 @@ fn say_has(answer: &mut Answer, crl: &Crl, serial: Serial, most: u64) {
     position(answer, crl, serial, most);
 }
 
-// That of a list without and with serial numbers that are kept aside.
+// Whether a list has a serial number, and where it is, without and with serial numbers that are kept aside.
 fn has(alloc: Global, answer: &mut Answer, digits: &str, word: &str, most: u64) -> Result<()> {
     let serial = serial(alloc, word)?;
     let mut crl = list(alloc, digits)?;
@@ -124,7 +124,7 @@ fn cert(alloc: Global, word: &str) -> Result<Cert> {
     }
 }
 
-// Whether the list claims that certificate for its issuer.
+// Whether the list claims a certificate that was read for its issuer.
 fn say_claim(alloc: Global, answer: &mut Answer, digits: &str, issuer: &Cert) -> Result<()> {
     let crl = list(alloc, digits)?;
     match crl.verify_issuer_claim(issuer) {
@@ -135,6 +135,7 @@ fn say_claim(alloc: Global, answer: &mut Answer, digits: &str, issuer: &Cert) ->
     Ok(())
 }
 
+// Whether the list claims the certificate of a word for its issuer.
 fn claims(alloc: Global, answer: &mut Answer, digits: &str, word: &str) -> Result<()> {
     let issuer = cert(alloc, word)?;
     let told = say_claim(alloc, answer, digits, &issuer);
@@ -155,7 +156,7 @@ fn say_verified(alloc: Global, answer: &mut Answer, digits: &str, key: &PublicKe
     Ok(())
 }
 
-// That of the key of a certificate.
+// Whether the signature is one of the key of a certificate.
 fn verified(alloc: Global, answer: &mut Answer, digits: &str, word: &str) -> Result<()> {
     let issuer = cert(alloc, word)?;
     let told = say_verified(

@@ -170,7 +170,7 @@ fn say_lent(
     Ok(())
 }
 
-// That of the fields of so many words and the pairs after them.
+// The list of so many words, where it lent its entries and those of the pairs after them were put there.
 fn lent(alloc: Global, answer: &mut Answer, count: &str, words: &[&str]) -> Result<()> {
     let (fields, pairs) = split(count, words)?;
     let mut list = list(alloc, fields)?;

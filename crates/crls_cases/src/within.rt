@@ -98,13 +98,13 @@ fn clone_before(alloc: Global, crl: &mut Crl) -> Result<Crl> {
     }
 }
 
-// The clone of a list that is made after that.
+// The clone of a list that is made after its serial numbers are kept aside.
 fn clone_after(alloc: Global, crl: &mut Crl) -> Result<Crl> {
     crl.cache_serials(alloc)?;
     Ok(crl.clone()?)
 }
 
-// The clone of a list whose serial numbers were kept aside, of before or after; the list itself is gone.
+// The clone of a list, made after its serial numbers were kept aside or before; the list itself is gone.
 fn copied(alloc: Global, digits: &str, after: bool) -> Result<Crl> {
     let mut crl = list(alloc, digits)?;
     let copy = if after {
@@ -116,7 +116,7 @@ fn copied(alloc: Global, digits: &str, after: bool) -> Result<Crl> {
     copy
 }
 
-// Where a serial number is in the clone of before or after.
+// Where a serial number is in the clone that was made after serial numbers were kept aside, or before.
 fn say_copied(
     alloc: Global,
     answer: &mut Answer,
@@ -130,7 +130,7 @@ fn say_copied(
     told
 }
 
-// That of the clone of before, and then of the clone of after.
+// Where a serial number is in the clone from before serial numbers were kept aside, and in that from after.
 fn cloned(alloc: Global, answer: &mut Answer, digits: &str, word: &str) -> Result<()> {
     say_copied(alloc, answer, digits, word, false)?;
     say_copied(alloc, answer, digits, word, true)
