@@ -1,4 +1,5 @@
 mod Joined
+mod NoMemory
 mod Ones
 mod Spelled
 mod Whole

@@ -10,6 +10,7 @@ ghost use Rattle.certs_cert.specs.certs_signed.Took.{TookOctets};
 ghost use Rattle.objects_signed.specs.Frame.{AreCertOctets, AreCerts, AreSignerTexts, AreSigners};
 ghost use Rattle.objects_signed.specs.Frame.{SpellsCerts, SpellsSigners, alone, one_signer};
 
+use crate::kept::KeptCert;
 use crate::signer::SignerInfo;
 use certs_cert::decode::{Constructed, DecodeError, Source};
 use certs_cert::{Cert, Tag};
@@ -19,21 +20,22 @@ use std::alloc::Global;
 fn take_cert<S: Source>(
     alloc: Global,
     cons: &mut Constructed<S>,
-) -> Result<Cert, DecodeError<S::Error>>
+) -> Result<KeptCert, DecodeError<S::Error>>
     ensures reads { ReadsFields alone AreCerts
         (here S.rest cons.old) result (here S.rest cons.new) }
     ensures octets { IfOk result (λ c. TookOctets alone AreCertOctets
         (here S.rest cons.old) c (here S.rest cons.new)) }
 {
     let cert = Cert::take_from(alloc, cons)?;
-    Ok(cert)
+    let kept = KeptCert::new(alloc, cert)?;
+    Ok(kept)
 }
 
 // The certificates: `[0] IMPLICIT SET` of just one (RFC 6488 2.1.4).
 pub(crate) fn take_certificates<S: Source>(
     alloc: Global,
     cons: &mut Constructed<S>,
-) -> Result<Cert, DecodeError<S::Error>>
+) -> Result<KeptCert, DecodeError<S::Error>>
     ensures reads { ReadsAs alone (Inside (context 0) (AreCerts (here S.rest cons.old).mode))
         (here S.rest cons.old) result (here S.rest cons.new) }
     ensures octets { IfOk result (λ c. TookOctets alone SpellsCerts

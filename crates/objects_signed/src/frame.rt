@@ -16,9 +16,10 @@ ghost use Rattle.objects_signed.specs.Frame.{signed_fields};
 use crate::carried::{take_certificates, take_signers};
 use crate::content::{Typed, take_content_info};
 use crate::holding::beside;
+use crate::kept::KeptCert;
 use crate::signer::SignerInfo;
 use certs_cert::decode::{Constructed, DecodeError, Source};
-use certs_cert::{Cert, ConstOid, DigestAlgorithm, Oid, Tag};
+use certs_cert::{ConstOid, DigestAlgorithm, Oid, Tag};
 use std::alloc::Global;
 
 // id-signedData, 1.2.840.113549.1.7.2 (RFC 5652 5.1).
@@ -28,7 +29,7 @@ const SIGNED_DATA: ConstOid = Oid(&[42, 134, 72, 134, 247, 13, 1, 7, 2]);
 const VERSION: u8 = 3;
 
 // The content with its type, the certificate, and the signer.
-pub(crate) type Parts = (Typed, Cert, SignerInfo);
+pub(crate) type Parts = (Typed, KeptCert, SignerInfo);
 
 // The fields of signed data, up to the end of their content.
 fn take_fields<S: Source>(

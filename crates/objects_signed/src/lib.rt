@@ -6,6 +6,7 @@ mod carried;
 mod content;
 mod frame;
 mod holding;
+mod kept;
 pub mod object;
 pub mod signer;
 

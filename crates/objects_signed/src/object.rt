@@ -8,6 +8,7 @@ ghost use Rattle.objects_signed.specs.Frame.{signed_fields};
 ghost use Rattle.objects_signed.specs.Decoded.{Agrees, DecodesObject, ReadsOctets};
 
 use crate::frame::{Parts, take_frame};
+use crate::kept::KeptCert;
 use crate::signer::SignerInfo;
 use certs_cert::decode::{Constructed, ContentError, Decode, DecodeError, IntoSource, Source};
 use certs_cert::{Cert, Mode, OctetString, Oid, Time};
@@ -20,7 +21,7 @@ use std::marker::Model;
 pub struct SignedObject {
     content_type: Oid,
     content: OctetString,
-    cert: Cert,
+    cert: KeptCert,
     signer: SignerInfo,
 }
 
@@ -55,7 +56,7 @@ fn agrees(parts: &Parts) -> bool
         .attributes()
         .content_type
         .equals(&parts.0.0);
-    let own = parts.2.sid() == parts.1.tbs().subject_key_identifier();
+    let own = parts.2.sid() == parts.1.as_cert().tbs().subject_key_identifier();
     same_type && own
 }
 
@@ -129,7 +130,7 @@ impl SignedObject {
     pub fn cert(&self) -> &Cert
         ensures { result.now ≡ self.now.cert }
     {
-        &self.cert
+        self.cert.as_cert()
     }
 
     /// The certificate with the signer's key, handed over (RFC 6488 2.1.4).
@@ -145,7 +146,7 @@ impl SignedObject {
         drop(content_type);
         drop(content);
         drop(signer);
-        cert
+        cert.into_cert()
     }
 
     /// Who signed it, and what was signed of the attributes (RFC 6488 2.1.6).
@@ -176,6 +177,7 @@ impl SignedObject {
         ensures cert { result.2 ≡ self.cert }
         ensures signer { signer_of (signer_fields result.3) ≡ self.signer }
     {
-        (self.content_type, self.content, self.cert, self.signer)
+        let cert = self.cert.into_cert();
+        (self.content_type, self.content, cert, self.signer)
     }
 }
