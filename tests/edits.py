@@ -7,8 +7,9 @@
 Of each crate the edits of crates/CRATE/must-fail and tests/edits/CRATE are tried, or the named one; with --stale only
 those that weren't tried at the present state of the crate. In FOLDER, or in a temporary folder, copies of the crate and
 of those below it are made, with their out/. The crate has to be proved as it stands. Then edits of different functions
-are applied together and checked once, over what the checks before kept; the check names each function that has no
-proof. An edit whose function wasn't reached, because a function that it calls was refused, is tried again alone.
+are applied together, a few at a time, and these functions alone are checked, with those that they call; the check names
+each one that has no proof. An edit that isn't refused so, since another function refuses it, or since one that its own
+function calls was refused, is tried again alone by a check of the whole crate.
 
 A line says of each whether it was refused. tests/edits/TRIED.tsv keeps what was tried at which state of the crate (a
 digest of its sources, specs and proofs and of the edit); --list prints the edits that it doesn't have so. Exits with 1
@@ -17,6 +18,7 @@ where an edit wasn't refused or can't be applied.
 
 import argparse
 import datetime
+import fcntl
 import glob
 import hashlib
 import os
@@ -28,6 +30,8 @@ import tempfile
 HERE = os.path.dirname(os.path.abspath(__file__))
 TRIED = os.path.join(HERE, "edits", "TRIED.tsv")
 REFUSED = "refused"
+# So many edits stand in one copy at most: where the check stops before it has a verdict, each is tried alone.
+MOST_TOGETHER = 8
 sys.dont_write_bytecode = True
 sys.path.insert(0, os.path.join(HERE, os.pardir, "bench"))
 
@@ -123,14 +127,19 @@ def is_stale(edit, rows):
 
 
 def record(edit, answer):
-    rows = tried()
-    rows[edit.crate, edit.name] = [edit.state(), str(datetime.date.today()), answer]
-    write(TRIED, "".join("\t".join([*key, *row]) + "\n" for key, row in sorted(rows.items())))
+    """Writes an answer down, while no other run of this script does."""
+    with open(TRIED, "a") as held:
+        fcntl.flock(held, fcntl.LOCK_EX)
+        rows = tried()
+        rows[edit.crate, edit.name] = [edit.state(), str(datetime.date.today()), answer]
+        write(TRIED, "".join("\t".join([*key, *row]) + "\n" for key, row in sorted(rows.items())))
 
 
-def check(folder):
-    """Whether the crate is proved, None where the prover wasn't reached; of each function how it ended; what was said."""
-    done = subprocess.run(["rt", "check"], cwd=folder, capture_output=True, text=True)
+def check(folder, paths=()):
+    """Whether the crate is proved, None where the prover wasn't reached or functions of these paths alone were checked; of
+    each function how it ended; what was said."""
+    words = [word for path in paths for word in ("--only", path)]
+    done = subprocess.run(["rt", "check", *words], cwd=folder, capture_output=True, text=True)
     said = done.stdout + done.stderr
     verdicts = re.findall(r"^logic=(\S+)", said, re.MULTILINE)
     ends = dict(re.findall(r"^(?:fn|impl|trait|struct|enum|const) (\S+): (.*)$", said, re.MULTILINE))
@@ -144,16 +153,20 @@ def is_refused(end):
     return end.startswith("not proved") and "waits for" not in end
 
 
-def refused_at(edit, folder, ends):
-    """The functions of the edit that were refused by themselves."""
+def functions_of(edit, folder, ends):
+    """The functions of the edit, by their paths, among those that a check named. A method has the path of its type, which may
+    stand in another file."""
     found = []
     for module, function in edit.functions(folder) or ():
-        for path, end in ends.items():
-            parts = path.split("::")
-            in_module = module == "" or "::".join(parts[1:]).startswith(module + "::")
-            if in_module and function in re.split(r"[:/]+", path) and is_refused(end):
-                found.append(path)
+        named = [path for path in ends if function in re.split(r"[:/]+", path)]
+        inside = [path for path in named if module == "" or path.partition("::")[2].startswith(module + "::")]
+        found += inside or named
     return found
+
+
+def refused_at(edit, folder, ends):
+    """The functions of the edit that were refused by themselves."""
+    return [path for path in functions_of(edit, folder, ends) if is_refused(ends[path])]
 
 
 def with_texts(folder, texts, call):
@@ -183,13 +196,15 @@ def try_alone(edit, folder):
 
 
 def groups(edits, folder):
-    """The edits in groups that can stand in one copy together: no two in one function, each text there once."""
+    """The edits in groups that can stand in one copy together: no two in functions of one name, each text there once, and
+    not too many."""
     left = list(edits)
     while left:
         group, texts, used, others = [], {}, set(), []
         for edit in left:
-            functions = edit.functions(folder)
-            made = edit.applied(texts, folder) if functions and not used & functions else None
+            functions = {name for _, name in edit.functions(folder) or ()}
+            has_room = functions and len(group) < MOST_TOGETHER and not used & functions
+            made = edit.applied(texts, folder) if has_room else None
             if made is None:
                 others.append(edit)
             else:
@@ -201,16 +216,16 @@ def groups(edits, folder):
         left = others
 
 
-def try_group(group, folder):
-    """The answers to the edits of a group, None for those that have to be tried alone."""
-    if len(group) == 1:
-        return [None]
+def try_group(group, folder, known):
+    """The answers to the edits of a group by a check of their functions, None for those that have to be tried alone. Known
+    is how each function of the crate as it stands ended."""
+    paths = {path.partition("::")[2] for edit in group for path in functions_of(edit, folder, known)}
     texts = {}
     for edit in group:
-        texts = edit.applied(texts, folder)
-    proved, ends, _ = with_texts(folder, texts, lambda: check(folder))
-    if proved is None:
+        texts = edit.applied(texts, folder) if texts is not None else None
+    if not paths or not texts:
         return [None for _ in group]
+    _, ends, _ = with_texts(folder, texts, lambda: check(folder, sorted(paths)))
     where = [refused_at(edit, folder, ends) for edit in group]
     return [f"{REFUSED}: {' '.join(sorted(paths))[:160]}" if paths else None for paths in where]
 
@@ -219,11 +234,12 @@ def try_crate(folder, crate, edits):
     """Tries the edits of a crate; how many were not refused."""
     copies.copy(folder, [crate])
     crate_folder = os.path.join(folder, "crates", crate)
-    if check(crate_folder)[0] is not True:
+    proved, known, _ = check(crate_folder)
+    if proved is not True:
         sys.exit(f"{crate} isn't proved as it stands")
     failures = 0
     for group in groups(edits, crate_folder):
-        for edit, answer in zip(group, try_group(group, crate_folder)):
+        for edit, answer in zip(group, try_group(group, crate_folder, known)):
             answer = answer or try_alone(edit, crate_folder)
             failures += not answer.startswith(REFUSED)
             record(edit, answer)

@@ -87,12 +87,15 @@ def compiled(folder):
 
 
 def run(program, shim, words, octets, refusal):
-    """One run's status, what it printed on both streams, and a `+` or `-` for each growth."""
-    with tempfile.TemporaryFile() as told:
+    """One run's status, what it printed on both streams, and a `+` or `-` for each growth. The input is a file: of a pipe the
+    program would read now more and now less at once, and so grow more or less often."""
+    with tempfile.TemporaryFile() as told, tempfile.TemporaryFile() as given:
+        given.write(octets)
+        given.seek(0)
         environment = {"LD_PRELOAD": shim, "GROWTHS_FD": str(told.fileno()), **refusal}
         done = subprocess.run(
             [program, *words],
-            input=octets,
+            stdin=given,
             capture_output=True,
             env=environment,
             pass_fds=[told.fileno()],
