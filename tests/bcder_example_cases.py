@@ -1,9 +1,10 @@
 #!/usr/bin/env python3
 """Writes the questions and answers of crates/bcder_example_cases: tests/bcder_example_cases.py
 
-They are about the worked reader of attributes, a SET OF two of them: a name, of kind 1, and a note, of kind 2. The answers
-come from a writer and a reader of this script after X.690 8.1, 8.3, 8.7, 8.12, 9 to 11. The gate runs the program on
-`stdin`, and compares what it prints with `stdout`.
+They are about the worked reader of attributes, a SET OF two of them: a name, of kind 1, and a note, of kind 2; and about
+values that are walked through (`bcder_walks.py`). The answers about attributes come from a writer and a reader of this
+script after X.690 8.1, 8.3, 8.7, 8.12, 9 to 11. The gate runs the program on `stdin`, and compares what it prints with
+`stdout`.
 """
 
 import itertools
@@ -197,9 +198,9 @@ def questions():
     for mode in MODES:
         for octets in sets(mode):
             for asked in MODES if len(octets) < 40 else (mode,):
-                yield f"read\t{asked}\t{octets.hex()}", read(asked, octets)
+                yield f"attributes\tread\t{asked}\t{octets.hex()}", read(asked, octets)
         for octets in changed(written(mode, b"ab", b"c")):
-            yield f"read\t{mode}\t{octets.hex()}", read(mode, octets)
+            yield f"attributes\tread\t{mode}\t{octets.hex()}", read(mode, octets)
         sizes = (0, 1, 119, 120, 121, 122, 1000, 1001, 2001)
         for one, other in itertools.product(sizes, sizes):
             name, note = b"n" * one, bytes(other)
@@ -207,14 +208,15 @@ def questions():
             answer = f"name {name.hex()} note {note.hex()} left 0"
             assert read(mode, octets) == read("ber", octets) == answer
             if one + other < 300 or {one, other} == {1000, 1001} or {one, other} == {0, 2001}:
-                yield f"write\t{mode}\t{name.hex()}\t{note.hex()}", octets.hex()
+                yield f"attributes\twrite\t{mode}\t{name.hex()}\t{note.hex()}", octets.hex()
 
 
 def main():
-    rows = list(dict(questions()).items())
+    rows = list(dict(itertools.chain(questions(), bcder_walks.questions())).items())
     for name, at in (("stdin", 0), ("stdout", 1)):
         (FOLDER / name).write_text("".join(row[at] + "\n" for row in rows))
-    print(len(rows), "questions", sum(answer != "refused" for _, answer in rows), "with an answer")
+    known = sum(not answer.startswith(("refused", "end")) for _, answer in rows)
+    print(len(rows), "questions, of which a value is read or written in", known)
 
 
 if __name__ == "__main__":

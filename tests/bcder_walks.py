@@ -1,18 +1,13 @@
-#!/usr/bin/env python3
-"""Writes the questions and answers of crates/bcder_walks: tests/bcder_walks.py
+"""Questions about values that are walked through, for tests/bcder_example_cases.py, and their answers.
 
-The answers come from a reader of this script after X.690 8.1, 9.1 and 10.1. The gate runs the program on `stdin`, and
-compares what it prints with `stdout`. The questions are random trees as they are spelled in each mode, the same with
-an octet changed, left out or put in, all short rows of octets that mean something in a header, and values deep in each
-other. Each is asked in each mode.
+The answers come from a reader of this module after X.690 8.1, 9.1 and 10.1. The questions are random trees as they are
+spelled in each mode, the same with an octet changed, left out or put in, all short rows of octets that mean something in
+a header, and values deep in each other. Each is asked in each mode.
 """
 
 import itertools
-import pathlib
 import random
 
-TESTS = pathlib.Path(__file__).resolve().parent
-FOLDER = TESTS.parent / "crates" / "bcder_walks"
 MODES = ("ber", "cer", "der")
 # How many constructed values may be within one another, for the reader that calls itself.
 MOST_DEPTH = 24
@@ -186,7 +181,7 @@ def nested(levels, is_definite, inner):
     return octets
 
 
-def questions():
+def spellings():
     for size in range(4):
         for row in itertools.product(MARKS, repeat=size):
             yield bytes(row)
@@ -218,14 +213,7 @@ def questions():
         yield b"\x04" + bytes([size & 0x7F]) + bytes(size)
 
 
-def main():
-    seen = dict.fromkeys(questions())
-    rows = [(f"{mode}\t{octets.hex()}", answer(mode, octets)) for octets in seen for mode in MODES]
-    (FOLDER / "stdin").write_text("".join(f"{question}\n" for question, _ in rows))
-    (FOLDER / "stdout").write_text("".join(f"{told}\n" for _, told in rows))
-    read = sum(not told.startswith(("refused", "end")) for _, told in rows)
-    print(len(rows), "questions, of which a value stands in front in", read)
-
-
-if __name__ == "__main__":
-    main()
+def questions():
+    for octets in dict.fromkeys(spellings()):
+        for mode in MODES:
+            yield f"walks\t{mode}\t{octets.hex()}", answer(mode, octets)

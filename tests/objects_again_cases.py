@@ -1,5 +1,4 @@
-#!/usr/bin/env python3
-"""Writes the questions and answers of crates/objects_again_cases: tests/objects_again_cases.py
+"""Questions about what is written of signed objects, for tests/objects_cases.py.
 
 Objects are made and read by objects_signed_cases.py. What is written of them is put together here from the parts that were
 read, by the grammar of RFC 5652 3 and 5: what is signed as it stood, all else in DER. Objects in DER whose algorithms have NULL
@@ -7,16 +6,12 @@ where they are written with it are written as the very octets that were read.
 """
 
 import ipaddress
-import pathlib
 
-import objects_cases as contents
 import objects_signed_cases as signed
 import rpki_readers as der
 import rpki_repositories as world
 from objects_signed_cases import KINDS, Object, Refused, front, header, made, need, respelled
 from rpki_repositories import NULL, RSA, SHA256, bits, integer, oid, seq, tlv
-
-FOLDER = pathlib.Path(__file__).resolve().parent.parent / "crates" / "objects_again_cases"
 
 
 def are_der(octets):
@@ -63,11 +58,8 @@ class Parts:
 
 
 class Questions:
-    def __init__(self):
-        self.rows, self.messages = [], set()
-
-    def ask(self, answer, *words):
-        self.rows.append(("\t".join(words), answer))
+    def __init__(self, q, answer_of, is_name):
+        self.ask, self.answer_of, self.is_name, self.messages = q.ask, answer_of, is_name, set()
 
     def parts(self, how, octets):
         try:
@@ -78,7 +70,7 @@ class Questions:
     def again(self, how, kind, octets, same=None):
         """Asks what is written of an object; `same` where it has to be the octets that were read."""
         parts = self.parts(how, octets)
-        if parts and kind != "any" and (parts.kind != KINDS[kind] or contents.answer_of(kind, parts.content) == "refused"):
+        if parts and kind != "any" and (parts.kind != KINDS[kind] or self.answer_of(kind, parts.content) == "refused"):
             parts = None
         if parts is None:
             answer = "refused"
@@ -189,7 +181,7 @@ def made_manifests(q):
     digest = bytes(range(32))
 
     def make(number, updates, files):
-        good = all(contents.NAME.fullmatch(name) for name, _ in files)
+        good = all(q.is_name(name) for name, _ in files)
         answer = "x" + world.manifest(number, updates, files).hex() if good else "invalid file name"
         q.ask(answer, "make", str(number), *(text.decode() for text in updates), *(f"{name.hex()}={hash.hex()}" for name, hash in files))
 
@@ -216,7 +208,7 @@ def addresses(q):
         lists = [seq(*map(entry, texts or [])) for texts in families]
         blocks = [seq(tlv(4, kind), some) for kind, texts, some in zip(world.FAMILIES.values(), families, lists) if texts is not None]
         content = seq(integer(64496), seq(*blocks))
-        good = contents.answer_of("roa", content) != "refused"
+        good = q.answer_of("roa", content) != "refused"
         answer = " ".join(f"x{some.hex()}" for some in lists) if good else "refused"
         digest = signed.attribute("4", tlv(4, world.Fips.sha256(content)))
         q.ask(answer, "addresses", made("roa", content=tlv(4, content), digest=digest).hex())
@@ -237,18 +229,12 @@ def addresses(q):
     ask([f"10.{at}.0.0/16" for at in range(256)], [f"2001:db8:{at:x}::/48-64" for at in range(256)])
 
 
-def main():
-    q = Questions()
+def written(q, answer_of, is_name):
+    """Asks all. What a content is told as is `answer_of(KIND, CONTENT)`; which names a manifest may list, `is_name(NAME)`."""
+    signed.rng.seed(6488)
+    q = Questions(q, answer_of, is_name)
     objects(q)
     messages(q)
     files(q)
     made_manifests(q)
     addresses(q)
-    FOLDER.mkdir(parents=True, exist_ok=True)
-    (FOLDER / "stdin").write_text("".join(f"{question}\n" for question, _ in q.rows))
-    (FOLDER / "stdout").write_text("".join(f"{answer}\n" for _, answer in q.rows))
-    print(len(q.rows), "questions")
-
-
-if __name__ == "__main__":
-    main()

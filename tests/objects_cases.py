@@ -13,6 +13,7 @@ import random
 import re
 
 from certs_signed_cases import RSA, SHA256, SHA256_RSA, Refused, bits_of, content_of, need, parts_of, tlv, value
+from objects_again_cases import written
 from objects_locator_cases import locators
 from objects_signed_cases import signed
 
@@ -301,6 +302,7 @@ def main():
     manifests(q)
     locators(q)
     signed(q, answer_of)
+    written(q, answer_of, NAME.fullmatch)
     (FOLDER / "stdin").write_text("".join(f"{question}\n" for question, _ in q.rows))
     (FOLDER / "stdout").write_text("".join(f"{answer}\n" for _, answer in q.rows))
     print(len(q.rows), "questions")

@@ -2,8 +2,7 @@
 """Writes the questions and answers of the programs of calls of the resources' crates: tests/resources_calls.py
 
 crates/resources_calls is asked about addresses, prefixes and numbers, crates/resources_chains_calls about chains and
-blocks of AS numbers, crates/resources_sets_calls about sets and resources, and crates/resources_octets_calls about what
-is read and written of them.
+blocks of AS numbers, and crates/resources_sets_calls about sets and resources, and what is read and written of them.
 
 The answers come from Python's own integers and sets, `ipaddress`, and X.690 and RFC 3779 for octets. The gate runs each
 program on its `stdin`, and compares what it prints with `stdout`. A tab stands between the words of a question.
@@ -24,8 +23,7 @@ CRATES = pathlib.Path(__file__).resolve().parent.parent / "crates"
 PROGRAMS = {
     "resources_calls": "prefix max asn addr range block",
     "resources_chains_calls": "as chain list",
-    "resources_sets_calls": "resources family set",
-    "resources_octets_calls": "der",
+    "resources_sets_calls": "resources family set der",
 }
 
 

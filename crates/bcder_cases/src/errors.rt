@@ -1,7 +1,7 @@
 //! The errors of reading, printed.
 
-use crate::answers::Answer;
 use crate::trickle::Fault;
+use answers::Answer;
 use bcder::Tag;
 use bcder::decode::{ContentError, DecodeError, Pos};
 use std::alloc::{AllocError, AllocFailed, Global};

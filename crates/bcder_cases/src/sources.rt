@@ -1,9 +1,9 @@
 //! Sources that are gone through step by step, and contents of octets.
 
-use crate::answers::{Answer, octets_of};
 use crate::errors;
 use crate::steps::{Step, Steps, run};
 use crate::trickle::Trickle;
+use answers::{Answer, mode_of, octets_of};
 use bcder::decode::{
     BytesSource, CaptureSource, ContentError, IntoSource, LimitedSource, Pos, Primitive,
     SliceSource, Source,
@@ -11,6 +11,7 @@ use bcder::decode::{
 use bcder::{Mode, OctetString, Tag};
 use bytes::Bytes;
 use std::alloc::Global;
+use std::fmt::Debug;
 
 // A source by its calls alone.
 #[derive(Drop)]
@@ -26,14 +27,22 @@ impl<S: Source> Steps for Plain<S> {
 fn any<S: Source>(alloc: Global, answer: &mut Answer, source: &mut S, step: Step<'_>) {
     match step.name {
         "pos" => answer.say(&(*source).pos()),
-        "request" => answer.given(source.request(step.count())),
+        "request" => given(answer, source.request(step.count())),
         "slice" => answer.octets((*source).slice()),
-        "skip" => answer.given(source.skip(step.count())),
+        "skip" => given(answer, source.skip(step.count())),
         "u8" => answer.outcome(source.take_u8()),
-        "opt" => answer.given(source.take_opt_u8()),
+        "opt" => given(answer, source.take_opt_u8()),
         "refuse" => answer.say(&source.content_err(ContentError::from_static("unexpected"))),
         "bytes" => bytes(alloc, answer, source, step.count()),
         _ => advance(answer, source, step.count()),
+    }
+}
+
+// What a source gave, or that it failed.
+fn given<T: Debug + Drop, E: Drop>(answer: &mut Answer, given: Result<T, E>) {
+    match given {
+        Ok(value) => answer.show(&value),
+        Err(_) => answer.word("fault"),
     }
 }
 
@@ -103,7 +112,7 @@ impl<S: Source> Steps for Primitive<S> {
         match step.name {
             "remaining" => answer.show(&(*self).remaining()),
             "mode" => {
-                self.set_mode(crate::mode(step.first));
+                self.set_mode(mode_of(step.first));
                 answer.show(&(*self).mode());
             }
             "is" => answer.outcome(self.skip_u8_if(step.octet())),
@@ -151,7 +160,7 @@ fn captured(alloc: Global, answer: &mut Answer, octets: &[u8], words: &[&str]) {
         let mut capture = CaptureSource::new(&mut source);
         run(alloc, answer, &mut capture, words);
     }
-    answer.given(source.take_opt_u8());
+    given(answer, source.take_opt_u8());
 }
 
 fn limited(alloc: Global, answer: &mut Answer, octets: &[u8], words: &[&str]) {

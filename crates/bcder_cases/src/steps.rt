@@ -1,6 +1,6 @@
 //! Steps, of which the answers stand in a row.
 
-use crate::answers::Answer;
+use answers::{Answer, count_of};
 use std::alloc::Global;
 
 /// A step: a name, and up to two words for it.
@@ -25,7 +25,7 @@ impl<'a> Step<'a> {
 
     /// The first word as a number; 0 where it is none.
     pub fn count(self) -> usize {
-        self.first.parse::<usize>().unwrap_or(0)
+        count_of(self.first)
     }
 
     /// The first word as an octet; 0 where it is none.

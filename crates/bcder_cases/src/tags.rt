@@ -1,6 +1,6 @@
 //! Tags and lengths, and the octets of both.
 
-use crate::answers::{Answer, octets_of};
+use answers::{Answer, mode_of, octets_of};
 use bcder::{Length, Tag};
 use std::alloc::Global;
 
@@ -203,7 +203,7 @@ fn length_of(alloc: Global, answer: &mut Answer, word: &str) {
 
 fn read_length(alloc: Global, answer: &mut Answer, mode: &str, digits: &str) {
     let octets = octets_of(alloc, digits);
-    answer.show(&Length::read(crate::mode(mode), octets.as_slice()));
+    answer.show(&Length::read(mode_of(mode), octets.as_slice()));
 }
 
 /// Which length is in front of octets in a mode, and the octets of a length.

@@ -1,9 +1,9 @@
 //! Contents that are read step by step.
 
-use crate::answers::{Answer, octets_of};
 use crate::steps::{Step, Steps, run};
 use crate::trickle::{Fault, Trickle};
 use crate::{extents, fields, scalars};
+use answers::{Answer, mode_of, octets_of};
 use bcder::decode::{Constructed, Decode, DecodeError};
 use std::alloc::Global;
 
@@ -37,7 +37,7 @@ pub fn answer(alloc: Global, answer: &mut Answer, words: &[&str]) {
     };
     let octets = octets_of(alloc, *digits);
     let source = Trickle::new(octets.as_slice());
-    let whole = crate::mode(*mode).decode(source, |cons| {
+    let whole = mode_of(*mode).decode(source, |cons| {
         run(alloc, answer, cons, words);
         Ok(())
     });

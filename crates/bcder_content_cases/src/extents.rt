@@ -7,9 +7,9 @@ ghost use Rattle.bcder_content_cases.specs.bcder_content.Grammar.{OctetsOf};
 ghost use Rattle.bcder_content_cases.specs.bcder_content.Here.{here};
 ghost use Rattle.bcder_content_cases.specs.bcder_primitive.Values.{IsNull};
 
-use crate::answers::Answer;
 use crate::contents::{Refusal, Values};
 use crate::steps::Step;
+use answers::Answer;
 use bcder::decode::{Constructed, ContentError, Source};
 use bcder::{Captured, Mode, Tag};
 use std::alloc::Global;

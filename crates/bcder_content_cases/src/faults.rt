@@ -1,9 +1,9 @@
 //! Sources that fail at each request in turn, or have no memory at first.
 
-use crate::answers::{Answer, octets_of};
 use crate::contents::Values;
 use crate::steps::{Step, Steps};
 use crate::trickle::Trickle;
+use answers::{Answer, octets_of};
 use bcder::Mode;
 use bcder::decode::Decode;
 use std::alloc::Global;

@@ -2,11 +2,11 @@
 
 ghost use Rattle.bcder_content_cases.specs.bcder_content.Either.{SameContent};
 
-use crate::answers::Answer;
 use crate::contents::{Refusal, Values};
 use crate::scalars::inner;
 use crate::steps::{Step, named_tag};
 use crate::trickle::Trickle;
+use answers::Answer;
 use bcder::Tag;
 use bcder::decode::{Content, Primitive};
 use std::alloc::Global;

@@ -2,7 +2,7 @@
 
 ghost use Rattle.bcder_content_cases.specs.bcder_content.Either.{SameContent};
 
-use crate::answers::{Answer, octets_of};
+use answers::{Answer, mode_of, octets_of};
 use bcder::decode::{Constructed, Content, Decode, DecodeError, SliceSource};
 use bcder::{Mode, Tag};
 use std::alloc::Global;
@@ -64,6 +64,6 @@ fn read(answer: &mut Answer, kind: &str, mode: Mode, octets: &[u8]) {
 pub fn answer(alloc: Global, answer: &mut Answer, words: &[&str]) {
     if let [kind, mode, digits] = words {
         let octets = octets_of(alloc, *digits);
-        read(answer, *kind, crate::mode(*mode), octets.as_slice());
+        read(answer, *kind, mode_of(*mode), octets.as_slice());
     }
 }

@@ -2,7 +2,6 @@
 //! answer. `tests/bcder_cases.py` writes both, by its own means.
 #![tactic(auto)]
 
-mod answers;
 mod contents;
 mod extents;
 mod faults;
@@ -13,48 +12,27 @@ mod skips;
 mod steps;
 mod trickle;
 
-use answers::Answer;
-use bcder::Mode;
-use std::alloc::{AllocError, Global};
-use std::io;
+use answers::{Answer, Questions, answer_lines};
+use anyhow::Result;
+use std::alloc::Global;
 
-/// The mode of a word.
-fn mode(word: &str) -> Mode {
-    match word {
-        "ber" => Mode::Ber,
-        "cer" => Mode::Cer,
-        _ => Mode::Der,
-    }
-}
+// What is asked about contents.
+struct CodecContents;
 
-// Says the answer of a topic.
-fn say(alloc: Global, answer: &mut Answer, topic: &str, words: &[&str]) {
-    match topic {
-        "content" => contents::answer(alloc, answer, words),
-        "fails" => faults::fails(alloc, answer, words),
-        "dry" => faults::dry(alloc, answer, words),
-        "skip" => skips::answer(alloc, answer, words),
-        "tagged" => forms::answer(alloc, answer, words),
-        _ => answer.unknown(),
-    }
-}
-
-// The answer to the question of a line.
-fn answer_of(alloc: Global, line: &str) -> Answer {
-    let mut answer = Answer::new(alloc);
-    let words: Result<Vec<&str>, AllocError> = line.split('\t').collect(alloc);
-    if let Ok(words) = words {
-        if let Some((topic, others)) = words.as_slice().split_first() {
-            say(alloc, &mut answer, *topic, others);
+impl Questions for CodecContents {
+    fn answer(&self, alloc: Global, answer: &mut Answer, words: &[&str]) -> Result<()> {
+        match words {
+            ["content", words @ ..] => contents::answer(alloc, answer, words),
+            ["fails", words @ ..] => faults::fails(alloc, answer, words),
+            ["dry", words @ ..] => faults::dry(alloc, answer, words),
+            ["skip", words @ ..] => skips::answer(alloc, answer, words),
+            ["tagged", words @ ..] => forms::answer(alloc, answer, words),
+            _ => answer.unknown(),
         }
+        Ok(())
     }
-    answer
 }
 
-fn main(rt: HostRuntime) -> io::Result<()> {
-    for line in rt.lines(rt.alloc()) {
-        let line = line?;
-        println!(rt; "{}", answer_of(rt.alloc(), line.as_str()).text())?;
-    }
-    Ok(())
+fn main(rt: HostRuntime) -> Result<()> {
+    answer_lines(rt, &CodecContents)
 }

@@ -1,7 +1,7 @@
 //! Truths, NULLs and numbers of contents.
 
-use crate::answers::Answer;
 use crate::contents::{Refusal, Values};
+use answers::Answer;
 
 /// The value of a type that is next.
 pub fn take(answer: &mut Answer, cons: &mut Values<'_>, kind: &str) {

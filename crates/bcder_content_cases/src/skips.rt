@@ -1,6 +1,6 @@
 //! Values that a closure sees while they are skipped, and values deep in each other.
 
-use crate::answers::{Answer, octets_of};
+use answers::{Answer, count_of, mode_of, octets_of};
 use bcder::decode::{ContentError, Decode};
 use bcder::{Mode, Tag};
 use std::alloc::{AllocError, Global};
@@ -104,8 +104,7 @@ fn levels_of(alloc: Global, form: &str, levels: usize) -> Result<Vec<u8>, AllocE
 
 // The greatest depth in so many SEQUENCEs.
 fn deep(alloc: Global, answer: &mut Answer, mode: Mode, form: &str, levels: &str) {
-    let levels = levels.parse::<usize>().unwrap_or(0);
-    match levels_of(alloc, form, levels) {
+    match levels_of(alloc, form, count_of(levels)) {
         Ok(octets) => answer.show(&depth(alloc, mode, octets.as_slice())),
         Err(_) => answer.word("memory"),
     }
@@ -123,10 +122,10 @@ fn of_octets(alloc: Global, answer: &mut Answer, kind: &str, mode: Mode, octets:
 /// What a closure sees of values that are skipped, or how deep they lie in each other.
 pub fn answer(alloc: Global, answer: &mut Answer, words: &[&str]) {
     match words {
-        ["deep", mode, form, levels] => deep(alloc, answer, crate::mode(*mode), *form, *levels),
+        ["deep", mode, form, levels] => deep(alloc, answer, mode_of(*mode), *form, *levels),
         [kind, mode, digits] => {
             let octets = octets_of(alloc, *digits);
-            of_octets(alloc, answer, *kind, crate::mode(*mode), octets.as_slice());
+            of_octets(alloc, answer, *kind, mode_of(*mode), octets.as_slice());
         }
         _ => answer.unknown(),
     }

@@ -1,6 +1,6 @@
 //! Steps, of which the answers stand in a row.
 
-use crate::answers::Answer;
+use answers::Answer;
 use bcder::Tag;
 use std::alloc::Global;
 

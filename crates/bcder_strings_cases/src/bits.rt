@@ -1,6 +1,6 @@
 //! Bit strings.
 
-use crate::answers::{Answer, octets_of};
+use answers::{Answer, mode_of, octets_of};
 use bcder::decode::{Constructed, Decode, DecodeError, SliceSource};
 use bcder::{BitString, Mode};
 use bytes::Bytes;
@@ -33,7 +33,7 @@ fn places(answer: &mut Answer, bits: &BitString) {
 fn each(answer: &mut Answer, bits: &BitString) {
     answer.word("x");
     for octet in bits.octets() {
-        answer.join_octet(octet);
+        answer.join_octets(&[octet]);
     }
 }
 
@@ -88,7 +88,7 @@ pub fn answer(alloc: Global, answer: &mut Answer, words: &[&str]) {
         return answer.unknown();
     };
     let octets = octets_of(alloc, *digits);
-    let (octets, mode) = (octets.as_slice(), crate::mode(*mode));
+    let (octets, mode) = (octets.as_slice(), mode_of(*mode));
     match *call {
         "skip" => answer.outcome(mode.decode(octets, BitString::skip_in)),
         _ => read(alloc, answer, mode, octets, *call),

@@ -1,7 +1,7 @@
 //! Object identifiers.
 
-use crate::answers::{Answer, octets_of};
 use crate::orders::hashed;
+use answers::{Answer, mode_of, octets_of};
 use bcder::decode::{Constructed, Decode, DecodeError, Primitive, SliceSource};
 use bcder::oid::ParseOidError;
 use bcder::{ConstOid, Mode, Oid};
@@ -131,7 +131,7 @@ pub fn answer(alloc: Global, answer: &mut Answer, words: &[&str]) {
         [call, digits] => of_octets(answer, *call, octets_of(alloc, *digits).as_slice()),
         [call, mode, digits] => {
             let octets = octets_of(alloc, *digits);
-            read(alloc, answer, crate::mode(*mode), octets.as_slice(), *call);
+            read(alloc, answer, mode_of(*mode), octets.as_slice(), *call);
         }
         _ => answer.unknown(),
     }

@@ -2,7 +2,6 @@
 //! output its answer. `tests/bcder_cases.py` writes both, by its own means.
 #![tactic(auto)]
 
-mod answers;
 mod bits;
 mod identifiers;
 mod octets;
@@ -10,48 +9,27 @@ mod orders;
 mod strings;
 mod texts;
 
-use answers::Answer;
-use bcder::Mode;
-use std::alloc::{AllocError, Global};
-use std::io;
+use answers::{Answer, Questions, answer_lines};
+use anyhow::Result;
+use std::alloc::Global;
 
-/// The mode of a word.
-fn mode(word: &str) -> Mode {
-    match word {
-        "ber" => Mode::Ber,
-        "cer" => Mode::Cer,
-        _ => Mode::Der,
-    }
-}
+// What is asked about identifiers and strings.
+struct CodecStrings;
 
-// Says the answer of a topic.
-fn say(alloc: Global, answer: &mut Answer, topic: &str, words: &[&str]) {
-    match topic {
-        "oid" => identifiers::answer(alloc, answer, words),
-        "bits" => bits::answer(alloc, answer, words),
-        "octets" => octets::answer(alloc, answer, words),
-        "text" => texts::answer(alloc, answer, words),
-        "string" => strings::answer(alloc, answer, words),
-        _ => answer.unknown(),
-    }
-}
-
-// The answer to the question of a line.
-fn answer_of(alloc: Global, line: &str) -> Answer {
-    let mut answer = Answer::new(alloc);
-    let words: Result<Vec<&str>, AllocError> = line.split('\t').collect(alloc);
-    if let Ok(words) = words {
-        if let Some((topic, others)) = words.as_slice().split_first() {
-            say(alloc, &mut answer, *topic, others);
+impl Questions for CodecStrings {
+    fn answer(&self, alloc: Global, answer: &mut Answer, words: &[&str]) -> Result<()> {
+        match words {
+            ["oid", words @ ..] => identifiers::answer(alloc, answer, words),
+            ["bits", words @ ..] => bits::answer(alloc, answer, words),
+            ["octets", words @ ..] => octets::answer(alloc, answer, words),
+            ["text", words @ ..] => texts::answer(alloc, answer, words),
+            ["string", words @ ..] => strings::answer(alloc, answer, words),
+            _ => answer.unknown(),
         }
+        Ok(())
     }
-    answer
 }
 
-fn main(rt: HostRuntime) -> io::Result<()> {
-    for line in rt.lines(rt.alloc()) {
-        let line = line?;
-        println!(rt; "{}", answer_of(rt.alloc(), line.as_str()).text())?;
-    }
-    Ok(())
+fn main(rt: HostRuntime) -> Result<()> {
+    answer_lines(rt, &CodecStrings)
 }

@@ -2,8 +2,8 @@
 
 ghost use Rattle.bcder_strings_cases.specs.bcder_content.Either.{SameContent};
 
-use crate::answers::{Answer, octets_of};
 use crate::orders::sign;
+use answers::{Answer, mode_of, octets_of};
 use bcder::decode::{Constructed, Content, Decode, DecodeError, SliceSource};
 use bcder::{Mode, OctetString, Tag};
 use bytes::Bytes;
@@ -134,11 +134,11 @@ pub fn answer(alloc: Global, answer: &mut Answer, words: &[&str]) {
         }
         ["goes-on", mode, digits] => {
             let octets = octets_of(alloc, *digits);
-            goes_on(alloc, answer, crate::mode(*mode), octets.as_slice());
+            goes_on(alloc, answer, mode_of(*mode), octets.as_slice());
         }
         [call, mode, digits] => {
             let octets = octets_of(alloc, *digits);
-            read(alloc, answer, crate::mode(*mode), octets.as_slice(), *call);
+            read(alloc, answer, mode_of(*mode), octets.as_slice(), *call);
         }
         _ => answer.unknown(),
     }

@@ -2,9 +2,9 @@
 
 ghost use Rattle.bcder_strings_cases.specs.bcder_content.Either.{SameContent};
 
-use crate::answers::{Answer, octets_of};
 use crate::octets::string;
 use crate::orders::sign;
+use answers::{Answer, mode_of, octets_of};
 use bcder::decode::{Constructed, Content, Decode, DecodeError, SliceSource};
 use bcder::string::{
     CharSet, Ia5CharSet, NumericCharSet, PrintableCharSet, RestrictedString, RestrictedStringError,
@@ -212,7 +212,7 @@ fn of_set<L: CharSet>(alloc: Global, answer: &mut Answer, words: &[&str]) {
         ["order", one, other] => order::<L>(alloc, answer, *one, *other),
         [call, mode, digits] => {
             let octets = octets_of(alloc, *digits);
-            of_octets::<L>(alloc, answer, crate::mode(*mode), octets.as_slice(), *call);
+            of_octets::<L>(alloc, answer, mode_of(*mode), octets.as_slice(), *call);
         }
         _ => errors(answer),
     }

@@ -1,6 +1,6 @@
 //! Character sets.
 
-use crate::answers::{Answer, octets_of};
+use answers::{Answer, octets_of};
 use bcder::string::{
     CharSet, CharSetError, Ia5CharSet, NumericCharSet, PrintableCharSet, Utf8CharSet,
 };

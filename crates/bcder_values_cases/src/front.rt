@@ -2,7 +2,7 @@
 //!
 //! `tests/bcder_answers.py` asks these of the Rust crate, too.
 
-use crate::answers::{Answer, octets_of};
+use answers::{Answer, mode_of, octets_of};
 use bcder::decode::{Constructed, Decode, DecodeError, Primitive, SliceSource};
 use bcder::string::{
     CharSet, Ia5CharSet, NumericCharSet, PrintableCharSet, RestrictedString, Utf8CharSet,
@@ -62,7 +62,7 @@ fn null(answer: &mut Answer, cons: &mut Values<'_, '_>) -> Result<(), Refusal> {
 fn bits(alloc: Global, answer: &mut Answer, cons: &mut Values<'_, '_>) -> Result<(), Refusal> {
     let bits = BitString::take_from(alloc, cons)?;
     answer.say(&bits.unused());
-    answer.join("/");
+    answer.join("/x");
     answer.join_octets(bits.octet_slice().unwrap_or(&[]));
     Ok(())
 }
@@ -153,7 +153,7 @@ pub fn answer(alloc: Global, answer: &mut Answer, words: &[&str]) {
     match words {
         [mode, kind, digits] => {
             let octets = octets_of(alloc, *digits);
-            read(alloc, answer, crate::mode(*mode), *kind, octets.as_slice());
+            read(alloc, answer, mode_of(*mode), *kind, octets.as_slice());
         }
         _ => answer.unknown(),
     }

@@ -1,8 +1,8 @@
 //! INTEGERs of any size.
 
-use crate::answers::{Answer, octets_of};
 use crate::numbers::{KINDS, Kind};
 use crate::orders::sign;
+use answers::{Answer, octets_of};
 use bcder::decode::{DecodeError, Primitive};
 use bcder::int::{InvalidInteger, OverflowError};
 use bcder::{Integer, Mode, Unsigned};

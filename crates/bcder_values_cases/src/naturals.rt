@@ -1,9 +1,9 @@
 //! INTEGERs from 0 up, of any size.
 
-use crate::answers::{Answer, octets_of};
 use crate::integers::number;
 use crate::numbers::{KINDS, Kind};
 use crate::orders::sign;
+use answers::{Answer, octets_of};
 use bcder::decode::Primitive;
 use bcder::{Integer, Mode, Unsigned};
 use bytes::Bytes;

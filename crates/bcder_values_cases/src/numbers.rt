@@ -1,6 +1,6 @@
 //! Numbers of Rust's types, of contents in octets.
 
-use crate::answers::{Answer, octets_of};
+use answers::{Answer, mode_of, octets_of};
 use bcder::decode::{DecodeError, LimitedSource, Pos, Primitive, SliceSource};
 use bcder::{Integer, Mode, Unsigned};
 use std::alloc::Global;
@@ -170,7 +170,7 @@ pub fn answer(alloc: Global, answer: &mut Answer, words: &[&str]) {
         ["all", first, size] => answer.say(&all(first.parse::<u8>().unwrap_or(0), *size == "3")),
         [by, mode, digits] => {
             let octets = octets_of(alloc, *digits);
-            each(answer, *by, crate::mode(*mode), octets.as_slice());
+            each(answer, *by, mode_of(*mode), octets.as_slice());
         }
         _ => answer.unknown(),
     }

@@ -4,8 +4,8 @@ ghost use Rattle.std.specs.Prelude.{◌≡◌, ◌^◌, ◌≤◌, replicate};
 ghost use Rattle.std.proofs.Common.{◌∙◌, rules, sym};
 ghost use Rattle.bcder_written_cases.specs.bcder_tree.Tags.{octet_string_tag};
 
-use crate::answers::Answer;
 use crate::to::To;
+use answers::Answer;
 use bcder::encode::{
     Choice2, Choice3, Constructed, EncodeError, Nothing, Octets, Primitive, PrimitiveContent,
     Values, sequence, sequence_as, set, set_as, total_encoded_len, write_header,

@@ -2,41 +2,29 @@
 //! output its answer. `tests/bcder_cases.py` writes both, by its own means.
 #![tactic(auto)]
 
-mod answers;
 mod lists;
 mod strings;
 mod to;
 mod walks;
 mod writing;
 
-use answers::Answer;
-use std::alloc::{AllocError, Global};
-use std::io;
+use answers::{Answer, Questions, answer_lines};
+use anyhow::Result;
+use std::alloc::Global;
 
-// Says the answer of a topic.
-fn say(alloc: Global, answer: &mut Answer, topic: &str, words: &[&str]) {
-    match topic {
-        "write" => writing::answer(alloc, answer, words),
-        _ => answer.unknown(),
-    }
-}
+// What is asked about what is written.
+struct CodecWriting;
 
-// The answer to the question of a line.
-fn answer_of(alloc: Global, line: &str) -> Answer {
-    let mut answer = Answer::new(alloc);
-    let words: Result<Vec<&str>, AllocError> = line.split('\t').collect(alloc);
-    if let Ok(words) = words {
-        if let Some((topic, others)) = words.as_slice().split_first() {
-            say(alloc, &mut answer, *topic, others);
+impl Questions for CodecWriting {
+    fn answer(&self, alloc: Global, answer: &mut Answer, words: &[&str]) -> Result<()> {
+        match words {
+            ["write", words @ ..] => writing::answer(alloc, answer, words),
+            _ => answer.unknown(),
         }
+        Ok(())
     }
-    answer
 }
 
-fn main(rt: HostRuntime) -> io::Result<()> {
-    for line in rt.lines(rt.alloc()) {
-        let line = line?;
-        println!(rt; "{}", answer_of(rt.alloc(), line.as_str()).text())?;
-    }
-    Ok(())
+fn main(rt: HostRuntime) -> Result<()> {
+    answer_lines(rt, &CodecWriting)
 }

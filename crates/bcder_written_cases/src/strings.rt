@@ -1,7 +1,7 @@
 //! Strings that are written, by each encoder.
 
-use crate::answers::Answer;
 use crate::to::To;
+use answers::Answer;
 use bcder::decode::Decode;
 use bcder::{BitString, Ia5String, Mode, OctetString, PrintableString, Tag};
 use bytes::Bytes;

@@ -2,7 +2,7 @@
 
 ghost use Rattle.std.specs.Prelude.{Some};
 
-use crate::answers::Answer;
+use answers::Answer;
 use bcder::encode::{PrimitiveContent, Values};
 use bcder::{Mode, Tag};
 use std::alloc::Global;

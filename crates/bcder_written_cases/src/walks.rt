@@ -7,8 +7,8 @@ ghost use Rattle.bcder_written_cases.specs.bcder_written.Encoded.{IsPlain, Write
 ghost use Rattle.bcder_written_cases.specs.bcder_values.Plains.{plain_spelled, plain_one};
 ghost use Rattle.bcder_written_cases.specs.bcder_written.Simple.{IsOnePiece, one_piece};
 
-use crate::answers::Answer;
 use crate::to::To;
+use answers::Answer;
 use bcder::Tag;
 use bcder::encode::{
     Encodes, Itself, Primitive, PrimitiveContent, Values, Walk, iter, sequence, slice,

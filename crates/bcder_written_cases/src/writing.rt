@@ -1,8 +1,8 @@
 //! Values that are written.
 
-use crate::answers::{Answer, octets_of};
 use crate::to::To;
 use crate::{lists, strings, walks};
+use answers::{Answer, count_of, mode_of, octets_of};
 use bcder::decode::Primitive;
 use bcder::encode::{Octets, PrimitiveContent, sequence};
 use bcder::{Integer, Mode, OctetString, Oid, Tag, Unsigned};
@@ -120,16 +120,7 @@ pub fn answer(alloc: Global, answer: &mut Answer, words: &[&str]) {
     let to = To {
         alloc,
         mode: mode_of(*mode),
-        room: room.parse::<usize>().unwrap_or(0),
+        room: count_of(*room),
     };
     of_kind(to, answer, *kind, *word);
-}
-
-// The mode of a word.
-fn mode_of(word: &str) -> Mode {
-    match word {
-        "ber" => Mode::Ber,
-        "cer" => Mode::Cer,
-        _ => Mode::Der,
-    }
 }

@@ -1,9 +1,9 @@
 //! What is written of the fields, of a copy of them, and of the certificate that a signer makes.
 
-use crate::answers::{Answer, word_at};
 use crate::made::made;
 use crate::set;
 use crate::signer::Stub;
+use answers::Answer;
 use bcder::Mode;
 use bcder::encode::Values;
 use certs_built::BuildCert;
@@ -54,9 +54,17 @@ fn signed(alloc: Global, answer: &mut Answer, tbs: TbsCert, is_willing: bool) {
     }
 }
 
+// What is written of a value in a mode.
+fn say_written<V: Values>(alloc: Global, answer: &mut Answer, mode: Mode, value: &V) {
+    match value.to_captured(alloc, mode) {
+        Ok(captured) => answer.octets(captured.as_slice()),
+        Err(error) => answer.say(&error),
+    }
+}
+
 // What is written of the fields in a mode.
 fn written(alloc: Global, answer: &mut Answer, mode: Mode, tbs: TbsCert) {
-    answer.written(alloc, mode, &tbs.encode_ref());
+    say_written(alloc, answer, mode, &tbs.encode_ref());
     drop(tbs);
 }
 

@@ -1,6 +1,6 @@
 //! The values of fields, each of a word. A word that has no such value has none.
 
-use crate::answers::octets_of;
+use answers::octets_of;
 use bcder::Mode;
 use bcder::decode::Decode;
 use certs_cert::{ExtendedKeyUsage, KeyUsage};

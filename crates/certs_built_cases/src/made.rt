@@ -1,8 +1,8 @@
 //! Fields by those that each certificate has: the serial number, the issuer, the validity, the subject, the key, what it is
 //! for, and the policy.
 
-use crate::answers::word_at;
 use crate::fields::{key_of, name_of, overclaim_of, serial_of, usage_of, validity_of};
+use answers::word_at;
 use bcder::Mode;
 use certs_cert::{KeyUsage, TbsCert};
 use certs_x509::{Name, PublicKey, Serial, Validity};

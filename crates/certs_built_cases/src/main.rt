@@ -7,7 +7,6 @@
 //! Fields are let go by `drop`, since the check of a function takes ten times as long where the end of a block does that.
 #![tactic(auto)]
 
-mod answers;
 mod built;
 mod fields;
 mod made;
@@ -15,24 +14,20 @@ mod numbers;
 mod set;
 mod signer;
 
-use answers::Answer;
-use std::alloc::{AllocError, Global};
-use std::io;
+use answers::{Answer, Questions, answer_lines};
+use anyhow::Result;
+use std::alloc::Global;
 
-// The answer to the question of a line.
-fn answer_of(alloc: Global, line: &str) -> Answer {
-    let mut answer = Answer::new(alloc);
-    let words: Result<Vec<&str>, AllocError> = line.split('\t').collect(alloc);
-    if let Ok(words) = words {
-        built::answer(alloc, &mut answer, words.as_slice());
+// What is asked about certificates that are built.
+struct BuiltCerts;
+
+impl Questions for BuiltCerts {
+    fn answer(&self, alloc: Global, answer: &mut Answer, words: &[&str]) -> Result<()> {
+        built::answer(alloc, answer, words);
+        Ok(())
     }
-    answer
 }
 
-fn main(rt: HostRuntime) -> io::Result<()> {
-    for line in rt.lines(rt.alloc()) {
-        let line = line?;
-        println!(rt; "{}", answer_of(rt.alloc(), line.as_str()).text())?;
-    }
-    Ok(())
+fn main(rt: HostRuntime) -> Result<()> {
+    answer_lines(rt, &BuiltCerts)
 }

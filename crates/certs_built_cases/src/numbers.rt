@@ -1,7 +1,7 @@
 //! The numbers that a certificate claims: `-` for none, `inherit`, or a list, after the word by which it is set: as a `set`,
 //! or its blocks `pushed` or `listed`.
 
-use crate::answers::Answer;
+use answers::Answer;
 use certs_cert::TbsCert;
 use resources::{
     AsBlocks, AsBlocksBuilder, AsResources, IpBlocks, IpBlocksBuilder, IpResources, Ipv4Blocks,

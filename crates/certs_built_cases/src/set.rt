@@ -1,11 +1,11 @@
 //! Fields that are set, each by a word `name=value`. A field that may be absent is so where the value is none.
 
-use crate::answers::Answer;
 use crate::fields::{
     https_of, identifier_of, key_of, name_of, overclaim_of, purposes_of, rsync_of, serial_of,
     truth_of, usage_of, validity_of,
 };
 use crate::numbers;
+use answers::Answer;
 use bcder::Mode;
 use certs_cert::TbsCert;
 use rpki_digests::Fips;

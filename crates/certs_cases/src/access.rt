@@ -1,22 +1,13 @@
 //! Questions about extensions that name URIs: which, the mode, and octets in hexadecimal digits, at whose front the
 //! value stands.
 
+use answers::{mode_of, octets_of};
 use anyhow::{Result, anyhow};
-use bcder::Mode;
 use bcder::decode::{Decode, DecodeError};
 use certs_access::{take_authority_access, take_crl_distribution};
 use certs_x509::uri::Rsync;
 use std::alloc::Global;
 use std::convert::Infallible;
-
-// The mode of a word.
-fn mode(word: &str) -> Mode {
-    match word {
-        "ber" => Mode::Ber,
-        "cer" => Mode::Cer,
-        _ => Mode::Der,
-    }
-}
 
 // What is said of an extension that was read or refused.
 fn told(alloc: Global, read: Result<Rsync, DecodeError<Infallible>>) -> Result<String> {
@@ -32,8 +23,8 @@ pub fn answer(alloc: Global, words: &[&str]) -> Result<String> {
     let [kind, word, digits] = words else {
         return Err(anyhow!("no such question"));
     };
-    let octets = hex::decode(alloc, *digits)?;
-    let mode = mode(*word);
+    let octets = octets_of(alloc, *digits);
+    let mode = mode_of(*word);
     match *kind {
         "crl" => told(
             alloc,

@@ -3,11 +3,11 @@
 ghost use Rattle.sha1.specs.Sha1.{sha1 as sha1_of};
 ghost use Rattle.sha2.specs.Sha256.{sha256 as sha256_of};
 
+use crate::values::{bytes_of, found, written};
+use answers::mode_of;
 use anyhow::{Result, anyhow};
-use bcder::decode::{Constructed, ContentError, Decode, DecodeError, Source};
-use bcder::encode::Values;
-use bcder::{Mode, Tag};
-use bytes::Bytes;
+use bcder::Tag;
+use bcder::decode::{Constructed, Decode, DecodeError, Source};
 use certs_x509::{Digester, KeyIdentifier, PublicKey};
 use sha1::Sha1;
 use sha2::{Digest, Sha256};
@@ -30,31 +30,6 @@ impl Digester for Fips {
     }
 }
 
-// The octets of a word.
-fn octets(alloc: Global, digits: &str) -> Result<Bytes> {
-    let octets = hex::decode(alloc, digits)?;
-    Ok(Bytes::from_vec(octets)?)
-}
-
-// The mode of a word.
-fn mode(word: &str) -> Mode {
-    match word {
-        "ber" => Mode::Ber,
-        "cer" => Mode::Cer,
-        _ => Mode::Der,
-    }
-}
-
-// What was read, or why not: of a refusal no more than that.
-fn found<T, E: Drop>(read: Result<T, DecodeError<E>>) -> Result<T> {
-    match read {
-        Ok(value) => Ok(value),
-        Err(DecodeError::Content(_, _)) => Err(anyhow!("content")),
-        Err(DecodeError::Source(_)) => Err(anyhow!("source")),
-        Err(DecodeError::Memory) => Err(anyhow!("memory")),
-    }
-}
-
 // The algorithm, the bits, the encoded octets, and the identifier.
 fn shown(alloc: Global, key: &PublicKey) -> Result<String> {
     let bits = hex::encode(alloc, key.bits())?;
@@ -69,22 +44,16 @@ fn shown(alloc: Global, key: &PublicKey) -> Result<String> {
 
 // A key that is all of the octets.
 fn whole(alloc: Global, word: &str, digits: &str) -> Result<PublicKey> {
-    let read = mode(word).decode(octets(alloc, digits)?, |cons| {
+    let read = mode_of(word).decode(bytes_of(alloc, digits)?, |cons| {
         let key = PublicKey::take_from(alloc, cons)?;
         Ok(key)
     });
     found(read)
 }
 
-// What is written of a value.
-fn written<V: Values>(alloc: Global, value: &V, word: &str) -> Result<String> {
-    let captured = value.to_captured(alloc, mode(word))?;
-    Ok(hex::encode(alloc, captured.as_slice())?)
-}
-
 // Whether a content goes on after a refusal that is forgotten.
 fn forgotten(alloc: Global, word: &str, digits: &str) -> Result<String> {
-    let read = mode(word).decode(octets(alloc, digits)?, |cons| {
+    let read = mode_of(word).decode(bytes_of(alloc, digits)?, |cons| {
         let first = PublicKey::take_from(alloc, cons).is_ok();
         let second = PublicKey::take_from(alloc, cons).is_ok();
         Ok((first, second))
@@ -95,8 +64,8 @@ fn forgotten(alloc: Global, word: &str, digits: &str) -> Result<String> {
 
 // An identifier with its own tag.
 fn identifier(alloc: Global, word: &str, digits: &str) -> Result<KeyIdentifier> {
-    found(mode(word).decode(
-        octets(alloc, digits)?,
+    found(mode_of(word).decode(
+        bytes_of(alloc, digits)?,
         |cons| KeyIdentifier::take_from(alloc, cons),
     ))
 }
@@ -117,10 +86,10 @@ fn of_identifiers(alloc: Global, words: &[&str]) -> Result<String> {
     match words {
         ["read", mode, digits] => Ok(format!(in alloc; "{}", identifier(alloc, *mode, *digits)?)?),
         ["tagged", word, digits] => {
-            let read = mode(*word).decode(octets(alloc, *digits)?, |cons| tagged(alloc, cons));
+            let read = mode_of(*word).decode(bytes_of(alloc, *digits)?, |cons| tagged(alloc, cons));
             Ok(format!(in alloc; "{}", found(read)?)?)
         }
-        ["slice", digits] => match KeyIdentifier::from_slice(octets(alloc, *digits)?.as_slice()) {
+        ["slice", digits] => match KeyIdentifier::from_slice(bytes_of(alloc, *digits)?.as_slice()) {
             Some(identifier) => Ok(hex::encode(alloc, identifier.as_slice())?),
             None => Err(anyhow!("no identifier")),
         },
@@ -145,7 +114,7 @@ pub fn answer(alloc: Global, words: &[&str]) -> Result<String> {
         ["identifier", rest @ ..] => of_identifiers(alloc, rest),
         ["read", mode, digits] => shown(alloc, &whole(alloc, *mode, *digits)?),
         ["decode", digits] => {
-            let key = found(PublicKey::decode(alloc, octets(alloc, *digits)?))?;
+            let key = found(PublicKey::decode(alloc, bytes_of(alloc, *digits)?))?;
             shown(alloc, &key)
         }
         ["write", mode, digits] => {

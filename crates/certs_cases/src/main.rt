@@ -11,35 +11,39 @@ mod serial;
 mod signed;
 mod time;
 mod uri;
+mod values;
 
+use answers::{Answer, Questions, answer_lines};
 use anyhow::{Result, anyhow};
 use std::alloc::Global;
 
-// The answer to the question of a line.
-fn answer(alloc: Global, words: &[&str]) -> Result<String> {
-    let [topic, rest @ ..] = words else {
-        return Err(anyhow!("no question"));
-    };
-    match *topic {
-        "signed" => signed::answer(alloc, rest),
-        "key" => key::answer(alloc, rest),
-        "name" => name::answer(alloc, rest),
-        "serial" => serial::answer(alloc, rest),
-        "time" => time::answer(alloc, rest),
-        "access" => access::answer(alloc, rest),
-        "uri" => uri::answer(alloc, rest),
+// What is asked about the parts of certificates.
+struct Parts;
+
+// What is said of a part.
+fn told(alloc: Global, words: &[&str]) -> Result<String> {
+    match words {
+        ["signed", words @ ..] => signed::answer(alloc, words),
+        ["key", words @ ..] => key::answer(alloc, words),
+        ["name", words @ ..] => name::answer(alloc, words),
+        ["serial", words @ ..] => serial::answer(alloc, words),
+        ["time", words @ ..] => time::answer(alloc, words),
+        ["access", words @ ..] => access::answer(alloc, words),
+        ["uri", words @ ..] => uri::answer(alloc, words),
         _ => Err(anyhow!("no such topic")),
     }
 }
 
-fn main(rt: HostRuntime) -> Result<()> {
-    for line in rt.lines(rt.alloc()) {
-        let line = line?;
-        let words: Vec<&str> = line.as_str().split('\t').collect(rt.alloc())?;
-        match answer(rt.alloc(), words.as_slice()) {
-            Ok(text) => println!(rt; "{text}")?,
-            Err(error) => println!(rt; "refused: {error}")?,
+impl Questions for Parts {
+    fn answer(&self, alloc: Global, answer: &mut Answer, words: &[&str]) -> Result<()> {
+        match told(alloc, words) {
+            Ok(text) => answer.word(text.as_str()),
+            Err(error) => answer.say(&format_args!("refused: {error}")),
         }
+        Ok(())
     }
-    Ok(())
+}
+
+fn main(rt: HostRuntime) -> Result<()> {
+    answer_lines(rt, &Parts)
 }

@@ -1,41 +1,20 @@
 //! Questions about names: what is asked, the mode, and octets in hexadecimal digits.
 
+use crate::values::{bytes_of, found};
+use answers::mode_of;
 use anyhow::{Result, anyhow};
 use bcder::Mode;
-use bcder::decode::{Decode, DecodeError};
+use bcder::decode::Decode;
 use bcder::encode::Values;
-use bytes::Bytes;
 use certs_x509::Name;
 use std::alloc::Global;
 
-// The octets of a word.
-fn octets(alloc: Global, digits: &str) -> Result<Bytes> {
-    let octets = hex::decode(alloc, digits)?;
-    Ok(Bytes::from_vec(octets)?)
-}
-
-// The mode of a word.
-fn mode(word: &str) -> Mode {
-    match word {
-        "ber" => Mode::Ber,
-        "cer" => Mode::Cer,
-        _ => Mode::Der,
-    }
-}
-
-// What was read, or why not: of a refusal no more than that.
-fn found<T, E: Drop>(read: Result<T, DecodeError<E>>) -> Result<T> {
-    match read {
-        Ok(value) => Ok(value),
-        Err(DecodeError::Content(_, _)) => Err(anyhow!("content")),
-        Err(DecodeError::Source(_)) => Err(anyhow!("source")),
-        Err(DecodeError::Memory) => Err(anyhow!("memory")),
-    }
-}
-
 // The name that octets begin with.
 fn front(alloc: Global, word: &str, digits: &str) -> Result<Name> {
-    found(mode(word).decode(octets(alloc, digits)?, |cons| Name::take_from(alloc, cons)))
+    found(mode_of(word).decode(
+        bytes_of(alloc, digits)?,
+        |cons| Name::take_from(alloc, cons),
+    ))
 }
 
 // Whether inspection passes a name: strict and not, and as a router's, strict and not.
@@ -64,7 +43,7 @@ fn inspect(alloc: Global, word: &str, digits: &str) -> Result<String> {
 // What is written, in another mode, of the name that octets begin with.
 fn write(alloc: Global, word: &str, digits: &str, to: &str) -> Result<String> {
     let name = front(alloc, word, digits)?;
-    written(alloc, name.encode_ref(), mode(to))
+    written(alloc, name.encode_ref(), mode_of(to))
 }
 
 // The octets of a clone.
@@ -86,7 +65,7 @@ fn equal(alloc: Global, words: &[&str]) -> Result<String> {
 
 // Whether a content goes on after a refusal that is forgotten.
 fn forgotten(alloc: Global, word: &str, digits: &str) -> Result<String> {
-    let read = mode(word).decode(octets(alloc, digits)?, |cons| {
+    let read = mode_of(word).decode(bytes_of(alloc, digits)?, |cons| {
         let first = Name::take_from(alloc, cons).is_ok();
         let second = Name::take_from(alloc, cons).is_ok();
         Ok((first, second))
@@ -97,7 +76,7 @@ fn forgotten(alloc: Global, word: &str, digits: &str) -> Result<String> {
 
 // The name that is made from a key's identifier.
 fn of_key(alloc: Global, digits: &str) -> Result<Name> {
-    let identifier = octets(alloc, digits)?;
+    let identifier = bytes_of(alloc, digits)?;
     match <[u8; 20]>::try_from(identifier.as_slice()) {
         Ok(identifier) => Ok(Name::from_key_identifier(alloc, &identifier)?),
         Err(_) => Err(anyhow!("no identifier")),

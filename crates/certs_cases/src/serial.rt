@@ -1,25 +1,16 @@
 //! Questions about serial numbers: what is asked, the mode, and octets in hexadecimal digits.
 
+use answers::{mode_of, octets_of};
 use anyhow::{Result, anyhow};
-use bcder::Mode;
 use bcder::decode::Decode;
 use bcder::encode::{PrimitiveContent, Values};
 use certs_x509::Serial;
 use std::alloc::Global;
 
-// The mode of a word.
-fn mode(word: &str) -> Mode {
-    match word {
-        "ber" => Mode::Ber,
-        "cer" => Mode::Cer,
-        _ => Mode::Der,
-    }
-}
-
 // The serial number that octets begin with.
 fn front(alloc: Global, word: &str, digits: &str) -> Result<Serial> {
-    let octets = hex::decode(alloc, digits)?;
-    let read = mode(word).decode(octets.as_slice(), |cons| Serial::take_from(cons));
+    let octets = octets_of(alloc, digits);
+    let read = mode_of(word).decode(octets.as_slice(), |cons| Serial::take_from(cons));
     match read {
         Ok(serial) => Ok(serial),
         Err(_) => Err(anyhow!("content")),
@@ -29,14 +20,14 @@ fn front(alloc: Global, word: &str, digits: &str) -> Result<Serial> {
 // The number that octets begin with, and what is written of it in that mode.
 fn read(alloc: Global, word: &str, digits: &str) -> Result<String> {
     let serial = front(alloc, word, digits)?;
-    let captured = serial.encode().to_captured(alloc, mode(word))?;
+    let captured = serial.encode().to_captured(alloc, mode_of(word))?;
     let text = hex::encode(alloc, captured.as_slice())?;
     Ok(format!(in alloc; "{serial} {text}")?)
 }
 
 // The serial number of octets in base 256.
 fn of_slice(alloc: Global, digits: &str) -> Result<Serial> {
-    let octets = hex::decode(alloc, digits)?;
+    let octets = octets_of(alloc, digits);
     match Serial::from_slice(octets.as_slice()) {
         Ok(serial) => Ok(serial),
         Err(_) => Err(anyhow!("too great")),

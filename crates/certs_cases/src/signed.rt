@@ -1,5 +1,7 @@
 //! Questions about algorithms and signed data: what octets begin with, in a mode, and what is written of it.
 
+use crate::values::bytes_of;
+use answers::mode_of;
 use anyhow::{Result, anyhow};
 use bcder::Mode;
 use bcder::decode::Decode;
@@ -7,22 +9,6 @@ use bcder::encode::Values;
 use bytes::Bytes;
 use certs_x509::{DigestAlgorithm, RpkiSignatureAlgorithm, SignatureAlgorithm, SignedData};
 use std::alloc::Global;
-
-// The octets of hexadecimal digits.
-fn octets(alloc: Global, digits: &str) -> Result<Bytes> {
-    let octets = hex::decode(alloc, digits)?;
-    Ok(Bytes::copy_from_slice(alloc, octets.as_slice())?)
-}
-
-// The mode of a word.
-fn mode_of(word: &str) -> Result<Mode> {
-    match word {
-        "ber" => Ok(Mode::Ber),
-        "cer" => Ok(Mode::Cer),
-        "der" => Ok(Mode::Der),
-        _ => Err(anyhow!("no such mode")),
-    }
-}
 
 fn refused(alloc: Global) -> Result<String> {
     Ok(String::from_str(alloc, "refused")?)
@@ -113,8 +99,8 @@ pub fn answer(alloc: Global, words: &[&str]) -> Result<String> {
     let [topic, word, digits] = words else {
         return Err(anyhow!("no such question"));
     };
-    let mode = mode_of(*word)?;
-    let octets = octets(alloc, *digits)?;
+    let mode = mode_of(*word);
+    let octets = bytes_of(alloc, *digits)?;
     match *topic {
         "x509" => x509(alloc, mode, octets),
         "cms" => cms(alloc, mode, octets),

@@ -1,20 +1,11 @@
 //! Questions about moments and validity: what is asked, the mode, and octets in hexadecimal digits or a moment's text.
 
+use crate::values::written;
+use answers::{mode_of, octets_of};
 use anyhow::{Result, anyhow};
-use bcder::Mode;
 use bcder::decode::Decode;
-use bcder::encode::Values;
 use certs_x509::{Time, Validity};
 use std::alloc::Global;
-
-// The mode of a word.
-fn mode(word: &str) -> Mode {
-    match word {
-        "ber" => Mode::Ber,
-        "cer" => Mode::Cer,
-        _ => Mode::Der,
-    }
-}
 
 // The text of a moment.
 fn shown(alloc: Global, moment: Time) -> Result<String> {
@@ -22,16 +13,10 @@ fn shown(alloc: Global, moment: Time) -> Result<String> {
     Ok(String::from_utf8(Vec::from_slice(alloc, text.as_slice())?)?)
 }
 
-// What is written of a value, in hexadecimal digits.
-fn written<V: Values>(alloc: Global, value: &V, word: &str) -> Result<String> {
-    let captured = value.to_captured(alloc, mode(word))?;
-    Ok(hex::encode(alloc, captured.as_slice())?)
-}
-
 // The moment that octets begin with.
 fn front(alloc: Global, word: &str, digits: &str) -> Result<Time> {
-    let octets = hex::decode(alloc, digits)?;
-    match mode(word).decode(octets.as_slice(), |cons| Time::take_from(cons)) {
+    let octets = octets_of(alloc, digits);
+    match mode_of(word).decode(octets.as_slice(), |cons| Time::take_from(cons)) {
         Ok(moment) => Ok(moment),
         Err(_) => Err(anyhow!("content")),
     }
@@ -48,8 +33,8 @@ fn read(alloc: Global, word: &str, digits: &str) -> Result<String> {
 
 // The moment that octets begin with, which has to be a GeneralizedTime.
 fn general(alloc: Global, word: &str, digits: &str) -> Result<String> {
-    let octets = hex::decode(alloc, digits)?;
-    match mode(word).decode(octets.as_slice(), |cons| Time::take_generalized_from(cons)) {
+    let octets = octets_of(alloc, digits);
+    match mode_of(word).decode(octets.as_slice(), |cons| Time::take_generalized_from(cons)) {
         Ok(moment) => shown(alloc, moment),
         Err(_) => Err(anyhow!("content")),
     }
@@ -57,8 +42,8 @@ fn general(alloc: Global, word: &str, digits: &str) -> Result<String> {
 
 // The validity that octets begin with, and what is written of it.
 fn validity(alloc: Global, word: &str, digits: &str) -> Result<String> {
-    let octets = hex::decode(alloc, digits)?;
-    match mode(word).decode(octets.as_slice(), |cons| Validity::take_from(cons)) {
+    let octets = octets_of(alloc, digits);
+    match mode_of(word).decode(octets.as_slice(), |cons| Validity::take_from(cons)) {
         Ok(period) => {
             let first = shown(alloc, period.not_before())?;
             let last = shown(alloc, period.not_after())?;

@@ -1,9 +1,8 @@
 //! Questions about URIs: the scheme, what is asked, and texts. A text that begins with `hex:` stands for the octets
 //! of the hexadecimal digits after that.
 
+use crate::values::{bytes_of, written};
 use anyhow::{Result, anyhow};
-use bcder::Mode;
-use bcder::encode::Values;
 use bytes::Bytes;
 use certs_x509::uri::{Https, Rsync};
 use std::alloc::Global;
@@ -11,10 +10,7 @@ use std::alloc::Global;
 // The octets of a word.
 fn octets(alloc: Global, word: &str) -> Result<Bytes> {
     match word.strip_prefix("hex:") {
-        Some(digits) => {
-            let octets = hex::decode(alloc, digits)?;
-            Ok(Bytes::copy_from_slice(alloc, octets.as_slice())?)
-        }
+        Some(digits) => bytes_of(alloc, digits),
         None => Ok(Bytes::copy_from_slice(alloc, word.as_bytes())?),
     }
 }
@@ -25,21 +21,6 @@ fn rsync(alloc: Global, word: &str) -> Result<Rsync> {
 
 fn https(alloc: Global, word: &str) -> Result<Https> {
     Ok(Https::from_bytes(octets(alloc, word)?)?)
-}
-
-// The mode of a word.
-fn mode(word: &str) -> Mode {
-    match word {
-        "ber" => Mode::Ber,
-        "cer" => Mode::Cer,
-        _ => Mode::Der,
-    }
-}
-
-// What is written of a general name.
-fn written<V: Values>(alloc: Global, name: &V, word: &str) -> Result<String> {
-    let captured = name.to_captured(alloc, mode(word))?;
-    Ok(hex::encode(alloc, captured.as_slice())?)
 }
 
 // The answer about an rsync URI, made in both ways.

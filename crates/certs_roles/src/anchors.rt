@@ -1,8 +1,9 @@
 //! Questions about trust anchors: the call, whether names are strict, the moment, whether signatures are good, and octets.
 
-use crate::answers::{Answer, cert_of, word_at};
+use crate::read::cert_of;
 use crate::shown::written;
 use crate::terms::{Judge, Terms, locator};
+use answers::{Answer, word_at};
 use certs_verify::{Cert, Refused, ResourceCert, TalInfo, Validate, Verifier, Verify};
 use resources::IpBlocksForFamily;
 use rpki_digests::Fips;

@@ -1,6 +1,7 @@
 //! Questions about a certificate's form: the role, whether names are strict, and octets.
 
-use crate::answers::{Answer, cert_of, word_at};
+use crate::read::cert_of;
+use answers::{Answer, word_at};
 use certs_verify::{Cert, Inspect, InspectionError};
 use rpki_digests::Fips;
 use std::alloc::Global;

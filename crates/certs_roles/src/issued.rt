@@ -2,9 +2,10 @@
 //! moment, whether signatures are good, and octets of the anchor and of the certificate.
 
 use crate::anchors::{accepted, anchor};
-use crate::answers::{Answer, cert_of, word_at};
 use crate::lent;
+use crate::read::cert_of;
 use crate::terms::{Judge, Terms};
+use answers::{Answer, word_at};
 use certs_verify::{
     Cert, Refused, ResourceCert, Validate, ValidationError, VerificationError, Verifier, Verify,
 };

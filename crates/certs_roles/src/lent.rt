@@ -1,7 +1,7 @@
 //! What the calls say to which a certificate is lent.
 
-use crate::answers::Answer;
 use crate::terms::{Judge, Terms};
+use answers::Answer;
 use certs_verify::{Cert, ResourceCert, Validate, Verify};
 use rpki_digests::Fips;
 use std::alloc::Global;

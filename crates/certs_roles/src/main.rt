@@ -8,7 +8,6 @@
 #![tactic(auto)]
 
 mod anchors;
-mod answers;
 mod inspect;
 mod issued;
 mod lent;
@@ -17,38 +16,27 @@ mod shown;
 mod terms;
 mod within;
 
-use answers::Answer;
-use std::alloc::{AllocError, Global};
-use std::io;
+use answers::{Answer, Questions, answer_lines};
+use anyhow::Result;
+use std::alloc::Global;
 
-// Says the answer to a question about a topic.
-fn say(alloc: Global, answer: &mut Answer, topic: &str, words: &[&str]) {
-    match topic {
-        "read" => read::answer(alloc, answer, words),
-        "within" => within::answer(alloc, answer, words),
-        "inspect" => inspect::answer(alloc, answer, words),
-        "anchor" => anchors::answer(alloc, answer, words),
-        "issued" => issued::answer(alloc, answer, words),
-        _ => answer.word("no such question"),
-    }
-}
+// What is asked about certificates.
+struct Certs;
 
-// The answer to the question of a line.
-fn answer_of(alloc: Global, line: &str) -> Answer {
-    let mut answer = Answer::new(alloc);
-    let words: Result<Vec<&str>, AllocError> = line.split('\t').collect(alloc);
-    if let Ok(words) = words {
-        if let Some((topic, others)) = words.as_slice().split_first() {
-            say(alloc, &mut answer, *topic, others);
+impl Questions for Certs {
+    fn answer(&self, alloc: Global, answer: &mut Answer, words: &[&str]) -> Result<()> {
+        match words {
+            ["read", words @ ..] => read::answer(alloc, answer, words),
+            ["within", words @ ..] => within::answer(alloc, answer, words),
+            ["inspect", words @ ..] => inspect::answer(alloc, answer, words),
+            ["anchor", words @ ..] => anchors::answer(alloc, answer, words),
+            ["issued", words @ ..] => issued::answer(alloc, answer, words),
+            _ => answer.unknown(),
         }
+        Ok(())
     }
-    answer
 }
 
-fn main(rt: HostRuntime) -> io::Result<()> {
-    for line in rt.lines(rt.alloc()) {
-        let line = line?;
-        println!(rt; "{}", answer_of(rt.alloc(), line.as_str()).text())?;
-    }
-    Ok(())
+fn main(rt: HostRuntime) -> Result<()> {
+    answer_lines(rt, &Certs)
 }

@@ -1,15 +1,31 @@
 //! Questions about what is read of a certificate in DER: what is asked, and octets.
 
-use crate::answers::{Answer, cert_of, octets_of, word_at};
 use crate::shown::{last_shown, shown, written};
+use answers::{Answer, octets_of, word_at};
+use bcder::decode::DecodeError;
 use certs_cert::Cert;
 use std::alloc::{AllocError, Global};
+
+/// The certificate of hexadecimal digits, in DER; none where they have no such.
+pub fn cert_of(alloc: Global, word: &str) -> Option<Cert> {
+    let octets = octets_of(alloc, word);
+    Cert::decode(alloc, octets.as_slice()).ok()
+}
+
+// By which text octets were refused, by their source, or for lack of memory.
+fn refuse<E: Drop>(answer: &mut Answer, error: DecodeError<E>) {
+    match error {
+        DecodeError::Content(error, _) => answer.say(&format_args!("refused: {error}")),
+        DecodeError::Source(_) => answer.word("fault"),
+        DecodeError::Memory => answer.word("memory"),
+    }
+}
 
 // All that is answered of the certificate that octets begin with, or why it is refused.
 fn told(alloc: Global, answer: &mut Answer, octets: &[u8]) {
     match Cert::decode(alloc, octets) {
         Ok(cert) => last_shown(answer, cert),
-        Err(error) => answer.refuse(error),
+        Err(error) => refuse(answer, error),
     }
 }
 

@@ -1,16 +1,25 @@
 //! What is answered of a certificate, field by field.
 
-use crate::answers::Answer;
-use certs_cert::{Cert, KeyUsage, TbsCert};
+use answers::Answer;
+use certs_cert::{Cert, KeyUsage, TbsCert, Time};
 use resources::Overclaim;
 use std::alloc::Global;
+
+// A moment, to its seconds.
+fn moment(answer: &mut Answer, moment: Time) {
+    let text = moment.generalized();
+    match std::str::from_utf8(text.as_slice()) {
+        Ok(text) => answer.word(text),
+        Err(_) => answer.word("no text"),
+    }
+}
 
 // Who signs for whom: the serial number, names as they stand, validity, the key, and whether NULL stands in the algorithm.
 fn identity(answer: &mut Answer, tbs: &TbsCert) {
     answer.say(&tbs.serial_number());
     answer.octets(tbs.issuer().as_slice());
-    answer.moment(tbs.validity().not_before());
-    answer.moment(tbs.validity().not_after());
+    moment(answer, tbs.validity().not_before());
+    moment(answer, tbs.validity().not_after());
     answer.octets(tbs.subject().as_slice());
     answer.octets(tbs.subject_public_key_info().encoded());
     answer.say(&tbs.signature().has_null());

@@ -2,7 +2,6 @@
 
 ghost use Rattle.std.specs.Prelude.{◌≡◌};
 
-use crate::answers::{Answer, word_at};
 use certs_cert::{RpkiSignatureAlgorithm, Time};
 use certs_verify::{PublicKey, TalInfo, Verifier};
 use certs_x509::Clock;

@@ -1,7 +1,7 @@
 //! Questions about certificates that are read in a mode, from within others: what is asked, the mode, and octets.
 
-use crate::answers::{Answer, mode_of, octets_of, word_at};
 use crate::shown::{fields, last_shown};
+use answers::{Answer, mode_of, octets_of, word_at};
 use bcder::decode::{Constructed, Decode, DecodeError, SliceSource};
 use bcder::{Mode, Tag};
 use certs_cert::{Cert, TbsCert};

@@ -1,7 +1,8 @@
 //! Questions about revocation lists: what is asked, octets, and serial numbers in base 256.
 
-use crate::answers::{Answer, moment, octets, serial, unknown, unread};
 use crate::verifier::Mirror;
+use crate::words::{moment, say_moment, serial, unread};
+use answers::{Answer, pieces_of, unknown};
 use anyhow::Result;
 use bcder::Mode;
 use bcder::encode::Values;
@@ -13,7 +14,7 @@ use std::str::FromStr;
 
 /// The list that octets begin with.
 pub fn list(alloc: Global, word: &str) -> Result<Crl> {
-    let octets = octets(alloc, word)?;
+    let octets = pieces_of(alloc, word)?;
     match Crl::decode(alloc, octets.as_slice()) {
         Ok(crl) => Ok(crl),
         Err(error) => Err(unread(error, "no list")),
@@ -29,7 +30,7 @@ fn entries(alloc: Global, answer: &mut Answer, tbs: &TbsCertList) {
                 answer.say(serial);
             }
         }
-        Err(_) => answer.say(&"memory"),
+        Err(_) => answer.word("memory"),
     }
 }
 
@@ -37,23 +38,23 @@ fn entries(alloc: Global, answer: &mut Answer, tbs: &TbsCertList) {
 /// and name, and the entries.
 pub fn shown(alloc: Global, answer: &mut Answer, tbs: &TbsCertList) {
     answer.say(&tbs.signature().has_null());
-    answer.say_moment(tbs.this_update());
-    answer.say_moment(tbs.next_update());
+    say_moment(answer, tbs.this_update());
+    say_moment(answer, tbs.next_update());
     answer.say(&tbs.crl_number());
     answer.say(tbs.authority_key_identifier());
-    answer.say_octets(alloc, tbs.issuer().as_slice());
+    answer.octets(tbs.issuer().as_slice());
     entries(alloc, answer, tbs);
 }
 
 // What a list that was read holds, and its signature.
 fn say_read(alloc: Global, answer: &mut Answer, crl: Crl) {
     shown(alloc, answer, crl.as_cert_list());
-    answer.say_octets(alloc, crl.signed_data().signature().value());
+    answer.octets(crl.signed_data().signature().value());
     drop(crl);
 }
 
 fn read(alloc: Global, answer: &mut Answer, digits: &str) -> Result<()> {
-    let octets = octets(alloc, digits)?;
+    let octets = pieces_of(alloc, digits)?;
     match Crl::decode(alloc, octets.as_slice()) {
         Ok(crl) => say_read(alloc, answer, crl),
         Err(error) => answer.refuse(error),
@@ -63,20 +64,20 @@ fn read(alloc: Global, answer: &mut Answer, digits: &str) -> Result<()> {
 
 // By which text octets are refused as a list.
 fn told(alloc: Global, answer: &mut Answer, digits: &str) -> Result<()> {
-    let octets = octets(alloc, digits)?;
+    let octets = pieces_of(alloc, digits)?;
     match Crl::decode(alloc, octets.as_slice()) {
         Ok(crl) => {
-            answer.say(&"read");
+            answer.word("read");
             drop(crl);
         }
-        Err(error) => answer.tell(error),
+        Err(error) => answer.refuse_by_text(error),
     }
     Ok(())
 }
 
 // Whether the very octets are written again.
 fn again(alloc: Global, answer: &mut Answer, digits: &str) -> Result<()> {
-    let octets = octets(alloc, digits)?;
+    let octets = pieces_of(alloc, digits)?;
     let crl = list(alloc, digits)?;
     let written = crl.encode_ref().to_captured(alloc, Mode::Der);
     drop(crl);
@@ -91,7 +92,7 @@ fn again(alloc: Global, answer: &mut Answer, digits: &str) -> Result<()> {
 fn position(answer: &mut Answer, crl: &Crl, serial: Serial, most: u64) {
     let mut probes = 0;
     let place = crl.cached_position(serial, &mut probes);
-    answer.say_some(&place);
+    answer.some(place.as_ref());
     answer.say(&(probes <= most));
 }
 
@@ -117,7 +118,7 @@ fn has(alloc: Global, answer: &mut Answer, digits: &str, word: &str, most: u64) 
 
 // The certificate of a word.
 fn cert(alloc: Global, word: &str) -> Result<Cert> {
-    let octets = octets(alloc, word)?;
+    let octets = pieces_of(alloc, word)?;
     match Cert::decode(alloc, octets.as_slice()) {
         Ok(cert) => Ok(cert),
         Err(error) => Err(unread(error, "no certificate")),
@@ -128,7 +129,7 @@ fn cert(alloc: Global, word: &str) -> Result<Cert> {
 fn say_claim(alloc: Global, answer: &mut Answer, digits: &str, issuer: &Cert) -> Result<()> {
     let crl = list(alloc, digits)?;
     match crl.verify_issuer_claim(issuer) {
-        Ok(()) => answer.say(&"claimed"),
+        Ok(()) => answer.word("claimed"),
         Err(error) => answer.say(&error),
     }
     drop(crl);
@@ -148,11 +149,11 @@ fn say_verified(alloc: Global, answer: &mut Answer, digits: &str, key: &PublicKe
     let crl = list(alloc, digits)?;
     let mut verifier = Mirror::new(alloc);
     match crl.verify_signature(key, &mut verifier) {
-        Ok(()) => answer.say(&"good"),
+        Ok(()) => answer.word("good"),
         Err(error) => answer.say(&error),
     }
     drop(crl);
-    verifier.tell(alloc, answer);
+    verifier.tell(answer);
     Ok(())
 }
 

@@ -1,6 +1,7 @@
 //! Questions about one entry of a revocation list: what is asked, the mode, and octets, or a serial number and a moment.
 
-use crate::answers::{Answer, mode, moment, octets, serial, unknown};
+use crate::words::{moment, say_moment, say_written, serial};
+use answers::{Answer, mode_of, pieces_of, unknown};
 use anyhow::Result;
 use bcder::Tag;
 use bcder::decode::{Constructed, Decode, DecodeError, SliceSource};
@@ -11,7 +12,7 @@ use std::convert::Infallible;
 /// The serial number and the moment of an entry.
 pub fn say_entry(answer: &mut Answer, entry: CrlEntry) {
     answer.say(&entry.user_certificate());
-    answer.say_moment(entry.revocation_date());
+    say_moment(answer, entry.revocation_date());
 }
 
 // An entry that was read.
@@ -24,18 +25,18 @@ fn say_read(answer: &mut Answer, read: Result<CrlEntry, DecodeError<Infallible>>
 
 // The entry that octets begin with.
 fn taken(alloc: Global, answer: &mut Answer, word: &str, digits: &str) -> Result<()> {
-    let octets = octets(alloc, digits)?;
-    let read = mode(word).decode(octets.as_slice(), |cons| CrlEntry::take_from(cons));
+    let octets = pieces_of(alloc, digits)?;
+    let read = mode_of(word).decode(octets.as_slice(), |cons| CrlEntry::take_from(cons));
     say_read(answer, read);
     Ok(())
 }
 
 // The entry that octets begin with, and `none` where another value is first.
 fn next(alloc: Global, answer: &mut Answer, word: &str, digits: &str) -> Result<()> {
-    let octets = octets(alloc, digits)?;
-    match mode(word).decode(octets.as_slice(), |cons| CrlEntry::take_opt_from(cons)) {
+    let octets = pieces_of(alloc, digits)?;
+    match mode_of(word).decode(octets.as_slice(), |cons| CrlEntry::take_opt_from(cons)) {
         Ok(Some(entry)) => say_entry(answer, entry),
-        Ok(None) => answer.say(&"none"),
+        Ok(None) => answer.word("none"),
         Err(error) => answer.refuse(error),
     }
     Ok(())
@@ -50,8 +51,8 @@ fn take_tagged(
 
 // The entry under an implicit tag.
 fn tagged(alloc: Global, answer: &mut Answer, word: &str, digits: &str) -> Result<()> {
-    let octets = octets(alloc, digits)?;
-    let read = mode(word).decode(octets.as_slice(), |cons| take_tagged(cons));
+    let octets = pieces_of(alloc, digits)?;
+    let read = mode_of(word).decode(octets.as_slice(), |cons| take_tagged(cons));
     say_read(answer, read);
     Ok(())
 }
@@ -59,7 +60,7 @@ fn tagged(alloc: Global, answer: &mut Answer, word: &str, digits: &str) -> Resul
 // What is written of an entry.
 fn written(alloc: Global, answer: &mut Answer, word: &str, number: &str, date: &str) -> Result<()> {
     let entry = CrlEntry::new(serial(alloc, number)?, moment(date)?);
-    answer.say_written(alloc, mode(word), &entry.encode());
+    say_written(alloc, answer, mode_of(word), &entry.encode());
     Ok(())
 }
 

@@ -1,9 +1,10 @@
 //! Questions about the revoked certificates of a list by themselves: what is asked, the mode, octets or pairs, and a serial
 //! number.
 
-use crate::answers::{Answer, mode, octets, serial, unknown};
 use crate::entry::say_entry;
 use crate::made::revoked;
+use crate::words::{say_written, serial};
+use answers::{Answer, mode_of, pieces_of, unknown};
 use anyhow::Result;
 use bcder::decode::{Decode, DecodeError};
 use certs_crl::{RevokedCertificates, RevokedCertificatesIter, SerialCache};
@@ -12,7 +13,7 @@ use std::convert::Infallible;
 
 // Each entry that is left.
 fn say_left(answer: &mut Answer, left: RevokedCertificatesIter<'_>) {
-    answer.say(&"left");
+    answer.word("left");
     for entry in left {
         say_entry(answer, entry);
     }
@@ -39,8 +40,8 @@ fn say_list(
 ) -> Result<()> {
     say_entries(answer, list)?;
     match list.encode_ref() {
-        Some(values) => answer.say_written(alloc, mode(word), &values),
-        None => answer.say(&"none"),
+        Some(values) => say_written(alloc, answer, mode_of(word), &values),
+        None => answer.word("none"),
     }
     Ok(())
 }
@@ -67,8 +68,8 @@ fn say_read(
 
 // The list that octets begin with; none where another value is first.
 fn taken(alloc: Global, answer: &mut Answer, word: &str, digits: &str) -> Result<()> {
-    let octets = octets(alloc, digits)?;
-    let read = mode(word).decode(
+    let octets = pieces_of(alloc, digits)?;
+    let read = mode_of(word).decode(
         octets.as_slice(),
         |cons| RevokedCertificates::take_from(alloc, cons),
     );
@@ -77,15 +78,15 @@ fn taken(alloc: Global, answer: &mut Answer, word: &str, digits: &str) -> Result
 
 // The list of entries that octets begin with, and `absent` where another value is first.
 fn next(alloc: Global, answer: &mut Answer, word: &str, digits: &str) -> Result<()> {
-    let octets = octets(alloc, digits)?;
-    let read = mode(word).decode(
+    let octets = pieces_of(alloc, digits)?;
+    let read = mode_of(word).decode(
         octets.as_slice(),
         |cons| RevokedCertificates::take_opt_from(alloc, cons),
     );
     match read {
         Ok(Some(list)) => say_read(alloc, answer, word, Ok(list)),
         Ok(None) => {
-            answer.say(&"absent");
+            answer.word("absent");
             Ok(())
         }
         Err(error) => say_read(alloc, answer, word, Err(error)),
@@ -97,7 +98,7 @@ fn say_place(alloc: Global, answer: &mut Answer, cache: &SerialCache, word: &str
     let serial = serial(alloc, word)?;
     let mut probes = 0;
     answer.say(&cache.contains(serial));
-    answer.say_some(&cache.position(serial, &mut probes));
+    answer.some(cache.position(serial, &mut probes).as_ref());
     Ok(())
 }
 

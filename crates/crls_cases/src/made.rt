@@ -1,9 +1,10 @@
 //! Questions about revocation lists that are built: the algorithm, the issuer's name, both updates, the identifier of the
 //! issuer's key, the number, and pairs of a serial number and a moment.
 
-use crate::answers::{Answer, mode, moment, octets, serial, unknown, unread};
 use crate::crl::shown;
 use crate::signer::Echo;
+use crate::words::{moment, say_written, serial, unread};
+use answers::{Answer, mode_of, pieces_of, unknown};
 use anyhow::{Result, anyhow};
 use bcder::Mode;
 use bcder::decode::Decode;
@@ -14,7 +15,7 @@ use std::str::FromStr;
 
 // The algorithm, with NULL or without.
 fn algorithm(alloc: Global, word: &str) -> Result<RpkiSignatureAlgorithm> {
-    let octets = octets(alloc, word)?;
+    let octets = pieces_of(alloc, word)?;
     match Mode::Der.decode(
         octets.as_slice(),
         |cons| RpkiSignatureAlgorithm::x509_take_from(cons),
@@ -29,8 +30,8 @@ fn name(alloc: Global, word: &str) -> Result<Name> {
     let Some((word, digits)) = word.split_once(' ') else {
         return Err(anyhow!("no mode"));
     };
-    let octets = octets(alloc, digits)?;
-    match mode(word).decode(octets.as_slice(), |cons| Name::take_from(alloc, cons)) {
+    let octets = pieces_of(alloc, digits)?;
+    match mode_of(word).decode(octets.as_slice(), |cons| Name::take_from(alloc, cons)) {
         Ok(name) => Ok(name),
         Err(error) => Err(unread(error, "no name")),
     }
@@ -38,7 +39,7 @@ fn name(alloc: Global, word: &str) -> Result<Name> {
 
 // The identifier of a key.
 fn key(alloc: Global, word: &str) -> Result<KeyIdentifier> {
-    let octets = octets(alloc, word)?;
+    let octets = pieces_of(alloc, word)?;
     match KeyIdentifier::from_slice(octets.as_slice()) {
         Some(key) => Ok(key),
         None => Err(anyhow!("no key identifier")),
@@ -95,7 +96,7 @@ fn list(alloc: Global, words: &[&str]) -> Result<TbsCertList> {
 // What is written of a list.
 fn say_list(alloc: Global, answer: &mut Answer, crl: &Crl) {
     match crl.to_captured(alloc) {
-        Ok(captured) => answer.say_octets(alloc, captured.as_slice()),
+        Ok(captured) => answer.octets(captured.as_slice()),
         Err(error) => answer.say(&error),
     }
 }
@@ -134,7 +135,7 @@ fn built(alloc: Global, answer: &mut Answer, words: &[&str]) -> Result<()> {
 fn refused(alloc: Global, answer: &mut Answer, refuses: bool, words: &[&str]) -> Result<()> {
     match list(alloc, words)?.into_crl(alloc, &Echo { refuses }, &0) {
         Ok(crl) => {
-            answer.say(&"signed");
+            answer.word("signed");
             drop(crl);
         }
         Err(error) => answer.say(&error),
@@ -145,7 +146,7 @@ fn refused(alloc: Global, answer: &mut Answer, refuses: bool, words: &[&str]) ->
 // What is written of the fields in a mode.
 fn written(alloc: Global, answer: &mut Answer, word: &str, words: &[&str]) -> Result<()> {
     let list = list(alloc, words)?;
-    answer.say_written(alloc, mode(word), &list.encode_ref());
+    say_written(alloc, answer, mode_of(word), &list.encode_ref());
     drop(list);
     Ok(())
 }

@@ -4,7 +4,6 @@
 //! `tests/crls_cases.py` writes both, and knows the answers by means of its own.
 #![tactic(auto)]
 
-mod answers;
 mod crl;
 mod entry;
 mod listed;
@@ -13,10 +12,14 @@ mod signer;
 mod store;
 mod verifier;
 mod within;
+mod words;
 
 use answers::{Answer, unknown};
 use anyhow::Result;
 use std::alloc::Global;
+
+// How many octets an answer has room for before it grows.
+const ROOM: usize = 1 << 18;
 
 // The answer to a question about a topic.
 fn say(alloc: Global, answer: &mut Answer, topic: &str, words: &[&str]) -> Result<()> {
@@ -33,7 +36,7 @@ fn say(alloc: Global, answer: &mut Answer, topic: &str, words: &[&str]) -> Resul
 
 // The answer to the question of a line.
 fn answer_of(alloc: Global, words: &[&str]) -> Result<Answer> {
-    let mut answer = Answer::new(alloc)?;
+    let mut answer = Answer::with_capacity(alloc, ROOM)?;
     if let Some((topic, rest)) = words.split_first() {
         if let Err(error) = say(alloc, &mut answer, *topic, rest) {
             answer.say(&error);

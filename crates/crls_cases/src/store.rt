@@ -1,8 +1,8 @@
 //! Questions about stores of revocation lists: when serial numbers begin to be kept aside, the URI that is asked for, a
 //! serial number, and pairs of a URI and the octets of a list.
 
-use crate::answers::{Answer, unknown};
 use crate::crl::list;
+use answers::{Answer, unknown};
 use anyhow::{Result, anyhow};
 use certs_cert::Rsync;
 use certs_crl::CrlStore;
@@ -59,9 +59,9 @@ fn found(answer: &mut Answer, store: &CrlStore, uri: &Rsync) {
             let serial = Serial::from(12u64);
             answer.say(&crl.as_cert_list().crl_number());
             answer.say(&crl.contains(serial));
-            answer.say_some(&crl.cached_position(serial, &mut probes));
+            answer.some(crl.cached_position(serial, &mut probes).as_ref());
         }
-        None => answer.say(&"none"),
+        None => answer.word("none"),
     }
 }
 

@@ -2,7 +2,7 @@
 
 ghost use Rattle.std.specs.Prelude.{bytes_eq};
 
-use crate::answers::Answer;
+use answers::Answer;
 use certs_key::{PublicKey, RpkiSignatureAlgorithm, Verifier};
 use std::alloc::Global;
 
@@ -26,9 +26,9 @@ impl Mirror {
     }
 
     /// How often it was asked, by which keys, and whether NULL stood in the last algorithm.
-    pub fn tell(&self, alloc: Global, answer: &mut Answer) {
+    pub fn tell(&self, answer: &mut Answer) {
         answer.say(&self.asked);
-        answer.say_octets(alloc, self.keys.as_slice());
+        answer.octets(self.keys.as_slice());
         answer.say(&self.null);
     }
 }

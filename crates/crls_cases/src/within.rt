@@ -1,8 +1,9 @@
 //! Questions about revocation lists that are read in a mode, from within others, and about clones of those whose serial
 //! numbers are kept aside.
 
-use crate::answers::{Answer, mode, octets, serial, unknown};
 use crate::crl::{list, shown};
+use crate::words::serial;
+use answers::{Answer, mode_of, pieces_of, unknown};
 use anyhow::{Error, Result};
 use bcder::Tag;
 use bcder::decode::{Constructed, Decode, DecodeError, SliceSource};
@@ -23,18 +24,18 @@ fn say_number(answer: &mut Answer, read: Result<Crl, DecodeError<Infallible>>) {
 
 // The number of the list that octets begin with in a mode.
 fn taken(alloc: Global, answer: &mut Answer, word: &str, digits: &str) -> Result<()> {
-    let octets = octets(alloc, digits)?;
-    let read = mode(word).decode(octets.as_slice(), |cons| Crl::take_from(alloc, cons));
+    let octets = pieces_of(alloc, digits)?;
+    let read = mode_of(word).decode(octets.as_slice(), |cons| Crl::take_from(alloc, cons));
     say_number(answer, read);
     Ok(())
 }
 
 // The number of the list that is first of all values, `none` where another value is first.
 fn next(alloc: Global, answer: &mut Answer, word: &str, digits: &str) -> Result<()> {
-    let octets = octets(alloc, digits)?;
-    match mode(word).decode(octets.as_slice(), |cons| Crl::take_opt_from(alloc, cons)) {
+    let octets = pieces_of(alloc, digits)?;
+    match mode_of(word).decode(octets.as_slice(), |cons| Crl::take_opt_from(alloc, cons)) {
         Ok(Some(crl)) => say_number(answer, Ok(crl)),
-        Ok(None) => answer.say(&"none"),
+        Ok(None) => answer.word("none"),
         Err(error) => answer.refuse(error),
     }
     Ok(())
@@ -50,16 +51,16 @@ fn take_tagged(
 
 // The number of the list under an implicit tag.
 fn tagged(alloc: Global, answer: &mut Answer, word: &str, digits: &str) -> Result<()> {
-    let octets = octets(alloc, digits)?;
-    let read = mode(word).decode(octets.as_slice(), |cons| take_tagged(alloc, cons));
+    let octets = pieces_of(alloc, digits)?;
+    let read = mode_of(word).decode(octets.as_slice(), |cons| take_tagged(alloc, cons));
     say_number(answer, read);
     Ok(())
 }
 
 // What is signed of a list, by itself.
 fn fields(alloc: Global, answer: &mut Answer, word: &str, digits: &str) -> Result<()> {
-    let octets = octets(alloc, digits)?;
-    match mode(word).decode(
+    let octets = pieces_of(alloc, digits)?;
+    match mode_of(word).decode(
         octets.as_slice(),
         |cons| TbsCertList::take_from(alloc, cons),
     ) {
@@ -79,9 +80,9 @@ fn place(alloc: Global, answer: &mut Answer, crl: &Crl, word: &str) -> Result<()
     match crl.cached_serials() {
         Some(cache) => {
             let mut probes = 0;
-            answer.say_some(&cache.position(serial, &mut probes));
+            answer.some(cache.position(serial, &mut probes).as_ref());
         }
-        None => answer.say(&"no cache"),
+        None => answer.word("no cache"),
     }
     Ok(())
 }

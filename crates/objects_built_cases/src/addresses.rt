@@ -2,6 +2,7 @@
 
 ghost use Rattle.std.specs.Prelude.{◌≤◌};
 
+use answers::Answer;
 use anyhow::{Result, anyhow};
 use objects_issued::{ToIpResources, are_of_family};
 use objects_roa::{RoaIpAddress, RoaIpAddresses, RoaIpAddressesBuilder};
@@ -65,34 +66,32 @@ pub fn addresses_of(alloc: Global, words: &str) -> Result<Vec<RoaIpAddress>> {
 }
 
 // An address: the bits of its first and of its last one, its length and the greatest one.
-fn say_address(text: &mut String, address: RoaIpAddress) -> Result<()> {
+fn say_address(answer: &mut Answer, address: RoaIpAddress) {
     let (first, last) = address.range();
     let len = address.prefix().addr_len();
-    write!(text, " {}-{}/{len}", first.to_bits(), last.to_bits())?;
+    answer.say(&format_args!("{}-{}/{len}", first.to_bits(), last.to_bits()));
     if let Some(most) = address.max_length() {
-        write!(text, "-{most}")?;
+        answer.join_as(&format_args!("-{most}"));
     }
-    Ok(())
 }
 
-/// Addresses, each after a space.
-pub fn say_addresses(text: &mut String, addresses: &RoaIpAddresses) -> Result<()> {
+/// Addresses, each as one more word.
+pub fn say_addresses(answer: &mut Answer, addresses: &RoaIpAddresses) {
     for address in addresses.iter() {
-        say_address(text, address)?;
+        say_address(answer, address);
     }
-    Ok(())
 }
 
 // Resources, as those of a family.
-fn say_resources(text: &mut String, resources: &IpResources, family: &str) -> Result<()> {
+fn say_resources(answer: &mut Answer, resources: &IpResources, family: &str) -> Result<()> {
     if resources.is_missing() {
-        write!(text, " missing")?;
+        answer.word("missing");
         return Ok(());
     }
     let blocks = resources.to_blocks()?;
     match family {
-        "v4" => write!(text, " {}", IpBlocksForFamily::v4(&blocks))?,
-        _ => write!(text, " {}", IpBlocksForFamily::v6(&blocks))?,
+        "v4" => answer.say(&IpBlocksForFamily::v4(&blocks)),
+        _ => answer.say(&IpBlocksForFamily::v6(&blocks)),
     }
     Ok(())
 }
@@ -129,7 +128,7 @@ pub fn builder_of(alloc: Global, calls: &[&str]) -> Result<RoaIpAddressesBuilder
 // The addresses, of which families they are, and what they are as resources.
 fn say_all(
     alloc: Global,
-    text: &mut String,
+    answer: &mut Answer,
     builder: &RoaIpAddressesBuilder,
     family: &str,
 ) -> Result<()> {
@@ -138,22 +137,20 @@ fn say_all(
         are_of_family(&addresses, AddressFamily::Ipv4),
         are_of_family(&addresses, AddressFamily::Ipv6),
     );
-    write!(text, "{} {v4} {v6}", addresses.is_empty())?;
-    say_addresses(text, &addresses)?;
+    answer.say(&format_args!("{} {v4} {v6}", addresses.is_empty()));
+    say_addresses(answer, &addresses);
     let resources = builder.to_resources(alloc)?;
-    say_resources(text, &resources, family)?;
+    say_resources(answer, &resources, family)?;
     let same = addresses.to_resources(alloc)? == resources;
-    write!(text, " {same}")?;
+    answer.say(&same);
     Ok(())
 }
 
 /// The answer to a question about the addresses of a family.
-pub fn answer(alloc: Global, words: &[&str]) -> Result<String> {
+pub fn answer(alloc: Global, answer: &mut Answer, words: &[&str]) -> Result<()> {
     let [family, calls @ ..] = words else {
         return Err(anyhow!("no family"));
     };
     let builder = builder_of(alloc, calls)?;
-    let mut text = String::new(alloc);
-    say_all(alloc, &mut text, &builder, *family)?;
-    Ok(text)
+    say_all(alloc, answer, &builder, *family)
 }

@@ -1,8 +1,9 @@
 //! Provider attestations that are put together and signed, of words.
 
-use crate::answers::told;
 use crate::fields;
 use crate::signer::{Fips, Stub};
+use crate::told::{say_built, say_digits};
+use answers::Answer;
 use anyhow::{Result, anyhow};
 use objects_attested::{AspaBuilder, DuplicateProviderAs};
 use resources::Asn;
@@ -33,47 +34,47 @@ fn begun(
     Ok(AspaBuilder::new(customer, asns))
 }
 
-// Adds providers one by one, and appends what each call answered.
-fn add(alloc: Global, text: &mut String, builder: &mut AspaBuilder, words: &str) -> Result<()> {
+// Adds providers one by one, and says what each call answered.
+fn add(alloc: Global, answer: &mut Answer, builder: &mut AspaBuilder, words: &str) -> Result<()> {
     for asn in asns_of(alloc, words)?.as_slice() {
         match builder.add_provider(*asn) {
-            Ok(()) => write!(text, "added ")?,
-            Err(error) => write!(text, "{error}: {} ", asn.into_u32())?,
+            Ok(()) => answer.word("added"),
+            Err(error) => answer.say(&format_args!("{error}: {}", asn.into_u32())),
         }
     }
     Ok(())
 }
 
-// Appends the customer, the providers, whether they are lawful, and what they are as resources and in DER.
-fn say(alloc: Global, text: &mut String, builder: &AspaBuilder) -> Result<()> {
-    write!(text, "{}", builder.customer_as())?;
+// The customer, the providers, whether they are lawful, and what they are as resources and in DER.
+fn say(alloc: Global, answer: &mut Answer, builder: &AspaBuilder) -> Result<()> {
+    answer.say(&builder.customer_as());
     for asn in builder.providers() {
-        write!(text, " {}", asn.into_u32())?;
+        answer.say(&asn.into_u32());
     }
     let resources = builder.as_resources(alloc)?;
-    write!(text, " {} {resources}", builder.has_lawful_providers())?;
+    answer.say(&builder.has_lawful_providers());
+    answer.say(&resources);
     match builder.to_octets(alloc) {
-        Ok(octets) => write!(text, " {}", hex::encode(alloc, octets.as_slice())?)?,
-        Err(error) => write!(text, " {error}")?,
+        Ok(octets) => say_digits(answer, octets.as_slice()),
+        Err(error) => answer.say(&error),
     }
     Ok(())
 }
 
 /// The answer to a question about providers: a customer, providers that are there at first, and others that are added.
-pub fn providers(alloc: Global, words: &[&str]) -> Result<String> {
+pub fn providers(alloc: Global, answer: &mut Answer, words: &[&str]) -> Result<()> {
     let [customer, first, others] = words else {
         return Err(anyhow!("no customer"));
     };
-    let mut text = String::new(alloc);
     match begun(alloc, Asn::from_u32(customer.parse::<u32>()?), *first)? {
         Ok(builder) => {
             let mut builder = builder;
-            add(alloc, &mut text, &mut builder, *others)?;
-            say(alloc, &mut text, &builder)?;
+            add(alloc, answer, &mut builder, *others)?;
+            say(alloc, answer, &builder)?;
         }
-        Err(error) => write!(text, "{error}")?,
+        Err(error) => answer.say(&error),
     }
-    Ok(text)
+    Ok(())
 }
 
 // An attestation of a customer and providers.
@@ -85,16 +86,17 @@ fn attestation_of(alloc: Global, customer: &str, words: &str) -> Result<AspaBuil
 }
 
 /// The answer to a question about an attestation: a customer, providers, and the fields.
-pub fn answer(alloc: Global, words: &[&str], signer: &Stub) -> Result<String> {
+pub fn answer(alloc: Global, answer: &mut Answer, words: &[&str], signer: &Stub) -> Result<()> {
     let [customer, providers, rest @ ..] = words else {
         return Err(anyhow!("no customer"));
     };
     let attestation = attestation_of(alloc, *customer, *providers)?;
     match fields::builder_of(alloc, rest) {
-        Ok(fields) => told(
-            alloc,
-            attestation.finalize(alloc, fields, signer, &(), &Fips),
-        ),
+        Ok(fields) => {
+            let built = attestation.finalize(alloc, fields, signer, &(), &Fips);
+            say_built(alloc, answer, built);
+            Ok(())
+        }
         Err(error) => {
             drop(attestation);
             Err(error)

@@ -5,9 +5,10 @@ ghost use Rattle.objects_issued.specs.objects_written.Roas.{AreOfFamilies};
 ghost use Rattle.objects_roa.specs.Addresses.{AllOf};
 
 use crate::addresses::{address_of, addresses_of, say_addresses, text_of};
-use crate::answers::told;
 use crate::fields;
 use crate::signer::{Fips, Stub};
+use crate::told::say_built;
+use answers::Answer;
 use anyhow::{Result, anyhow};
 use objects_built::SignedObjectBuilder;
 use objects_issued::{FinalizeRoa, IntoManifest, are_of_family};
@@ -98,33 +99,34 @@ fn test_family(addresses: &RoaIpAddresses, family: AddressFamily) -> Result<()>
     }
 }
 
-// Appends the AS number and the addresses of each family, where each is one of its family.
-fn say_roa(alloc: Global, text: &mut String, builder: &RoaBuilder) -> Result<()>
+// The AS number and the addresses of each family, where each is one of its family.
+fn say_roa(alloc: Global, answer: &mut Answer, builder: &RoaBuilder) -> Result<()>
     ensures { IfOk result (λ u. AreOfFamilies builder.now) }
 {
     let v4 = builder.v4().to_addresses(alloc)?;
     let v6 = builder.v6().to_addresses(alloc)?;
     test_family(&v4, AddressFamily::Ipv4)?;
     test_family(&v6, AddressFamily::Ipv6)?;
-    write!(text, "{}", builder.as_id())?;
-    say_addresses(text, &v4)?;
-    write!(text, " v6")?;
-    say_addresses(text, &v6)?;
+    answer.say(&builder.as_id());
+    say_addresses(answer, &v4);
+    answer.word("v6");
+    say_addresses(answer, &v6);
     Ok(())
 }
 
 // The object of an attestation.
 fn signed_roa(
     alloc: Global,
+    answer: &mut Answer,
     roa: RoaBuilder,
     fields: SignedObjectBuilder,
     signer: &Stub,
-) -> Result<String> {
-    let mut text = String::new(alloc);
-    match say_roa(alloc, &mut text, &roa) {
+) -> Result<()> {
+    match say_roa(alloc, answer, &roa) {
         Ok(()) => {
-            let object = told(alloc, roa.finalize(alloc, fields, signer, &(), &Fips))?;
-            Ok(format!(in alloc; "{text} {object}")?)
+            let built = roa.finalize(alloc, fields, signer, &(), &Fips);
+            say_built(alloc, answer, built);
+            Ok(())
         }
         Err(error) => {
             drop(roa);
@@ -135,13 +137,13 @@ fn signed_roa(
 }
 
 /// The answer to a question about a route origin attestation: its AS number, calls, and the fields.
-pub fn roa(alloc: Global, words: &[&str], signer: &Stub) -> Result<String> {
+pub fn roa(alloc: Global, answer: &mut Answer, words: &[&str], signer: &Stub) -> Result<()> {
     let [asn, calls, rest @ ..] = words else {
         return Err(anyhow!("no attestation"));
     };
     let roa = roa_of(alloc, *asn, *calls)?;
     match fields::builder_of(alloc, rest) {
-        Ok(fields) => signed_roa(alloc, roa, fields, signer),
+        Ok(fields) => signed_roa(alloc, answer, roa, fields, signer),
         Err(error) => {
             drop(roa);
             Err(error)
@@ -159,13 +161,14 @@ fn manifest_of(alloc: Global, words: &[&str]) -> Result<ManifestContent> {
 }
 
 /// The answer to a question about a manifest: its content, and the fields.
-pub fn manifest(alloc: Global, words: &[&str], signer: &Stub) -> Result<String> {
+pub fn manifest(alloc: Global, answer: &mut Answer, words: &[&str], signer: &Stub) -> Result<()> {
     let content = manifest_of(alloc, words)?;
     match fields::builder_of(alloc, words) {
-        Ok(fields) => told(
-            alloc,
-            content.into_manifest(alloc, fields, signer, &(), &Fips),
-        ),
+        Ok(fields) => {
+            let built = content.into_manifest(alloc, fields, signer, &(), &Fips);
+            say_built(alloc, answer, built);
+            Ok(())
+        }
         Err(error) => {
             drop(content);
             Err(error)

@@ -1,6 +1,7 @@
 //! Questions about the content of provider attestations: octets.
 
-use crate::answers::{Answer, octets, unknown};
+use crate::values::say_written;
+use answers::{Answer, pieces_of, unknown};
 use anyhow::Result;
 use objects_aspa::AsProviderAttestation;
 use std::alloc::Global;
@@ -15,7 +16,7 @@ fn providers(alloc: Global, answer: &mut Answer, content: &AsProviderAttestation
     }
     match providers.to_set(alloc) {
         Ok(set) => answer.say(&set.len()),
-        Err(_) => answer.say(&"memory"),
+        Err(_) => answer.word("memory"),
     }
 }
 
@@ -23,9 +24,9 @@ fn providers(alloc: Global, answer: &mut Answer, content: &AsProviderAttestation
 fn written(alloc: Global, answer: &mut Answer, content: &AsProviderAttestation) {
     match content.as_resources(alloc) {
         Ok(resources) => answer.say(&resources),
-        Err(_) => answer.say(&"memory"),
+        Err(_) => answer.word("memory"),
     }
-    answer.say_written(alloc, &content.encode_ref());
+    say_written(alloc, answer, &content.encode_ref());
 }
 
 /// All that is answered of the content.
@@ -39,7 +40,7 @@ pub fn answer(alloc: Global, answer: &mut Answer, words: &[&str]) -> Result<()> 
     let [digits] = words else {
         return unknown();
     };
-    let octets = octets(alloc, *digits)?;
+    let octets = pieces_of(alloc, *digits)?;
     match AsProviderAttestation::decode(alloc, octets.as_slice()) {
         Ok(content) => {
             shown(alloc, answer, &content);

@@ -1,6 +1,6 @@
 //! Questions about locators: what it is called, and the octets of the text; and about one URI of a locator.
 
-use crate::answers::{Answer, octets, unknown};
+use answers::{Answer, pieces_of, unknown};
 use anyhow::{Result, anyhow};
 use bytes::Bytes;
 use objects_locator::{Tal, TalUri};
@@ -22,7 +22,7 @@ fn uri(alloc: Global, answer: &mut Answer, call: &str, octets: &[u8]) -> Result<
     };
     match made {
         Ok(uri) => {
-            answer.say(&uri.as_str());
+            answer.word(uri.as_str());
             answer.say(&format_args!("{uri} {} {}", uri.is_rsync(), uri.is_https()));
             drop(uri);
         }
@@ -33,13 +33,13 @@ fn uri(alloc: Global, answer: &mut Answer, call: &str, octets: &[u8]) -> Result<
 
 // What a locator is called, the key, the URIs, and the URIs with those by https in front; or why there is none.
 fn locator(alloc: Global, answer: &mut Answer, name: &str, digits: &str) -> Result<()> {
-    let octets = octets(alloc, digits)?;
+    let octets = pieces_of(alloc, digits)?;
     let mut reader = octets.as_slice();
     match Tal::read_named(alloc, String::from_str(alloc, name)?, &mut reader) {
         Ok(tal) => {
             let mut tal = tal;
             answer.say(&tal.info().name());
-            answer.say_octets(alloc, tal.key_info().encoded());
+            answer.octets(tal.key_info().encoded());
             uris(answer, &tal);
             tal.prefer_https();
             uris(answer, &tal);
@@ -55,7 +55,7 @@ pub fn answer(alloc: Global, answer: &mut Answer, words: &[&str]) -> Result<()> 
     match words {
         [name, digits] => locator(alloc, answer, *name, *digits),
         ["uri", call, digits] => {
-            let octets = octets(alloc, *digits)?;
+            let octets = pieces_of(alloc, *digits)?;
             uri(alloc, answer, *call, octets.as_slice())
         }
         _ => unknown(),

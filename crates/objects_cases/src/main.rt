@@ -1,51 +1,51 @@
-//! Questions about signed objects, what they have in them, and locators, as data:
+//! Questions about signed objects, what they have in them, what is written of them again, and locators, as data:
 //! each line of standard input asks one, by words with a tab between, and each line of standard
-//! output answers one. The first word names the module that answers.
+//! output answers one. The first word names what is asked.
 //!
 //! `tests/objects_cases.py` writes both, and knows the answers by means of its own.
 #![tactic(auto)]
 
-mod answers;
+mod addresses;
+mod again;
 mod aspa;
 mod cert;
+mod files;
 mod locator;
 mod manifest;
 mod object;
+mod parts;
 mod roa;
+mod values;
 
-use answers::{Answer, unknown};
+use answers::{Answer, Questions, answer_lines, unknown};
 use anyhow::Result;
 use std::alloc::Global;
 
-// The answer to a question about a topic.
-fn say(alloc: Global, answer: &mut Answer, topic: &str, words: &[&str]) -> Result<()> {
-    match topic {
-        "aspa" => aspa::answer(alloc, answer, words),
-        "roa" => roa::answer(alloc, answer, words),
-        "manifest" => manifest::answer(alloc, answer, words),
-        "object" => object::answer(alloc, answer, words),
-        "locator" => locator::answer(alloc, answer, words),
-        _ => unknown(),
-    }
-}
+struct Objects;
 
-// The answer to the question of a line.
-fn answer_of(alloc: Global, words: &[&str]) -> Answer {
-    let mut answer = Answer::new(alloc);
-    if let Some((topic, rest)) = words.split_first() {
-        if let Err(error) = say(alloc, &mut answer, *topic, rest) {
-            answer.say(&error);
+impl Questions for Objects {
+    fn answer(&self, alloc: Global, answer: &mut Answer, words: &[&str]) -> Result<()> {
+        let [topic, rest @ ..] = words else {
+            return unknown();
+        };
+        match *topic {
+            "aspa" => aspa::answer(alloc, answer, rest),
+            "roa" => roa::answer(alloc, answer, rest),
+            "manifest" => manifest::answer(alloc, answer, rest),
+            "object" => object::answer(alloc, answer, rest),
+            "locator" => locator::answer(alloc, answer, rest),
+            "again" => again::answer(alloc, answer, rest),
+            "attributes" => parts::attributes(alloc, answer, rest),
+            "message" => parts::message(alloc, answer, rest),
+            "content" => parts::content(alloc, answer, rest),
+            "uris" => files::uris(alloc, answer, rest),
+            "make" => files::make(alloc, answer, rest),
+            "addresses" => addresses::answer(alloc, answer, rest),
+            _ => unknown(),
         }
     }
-    answer
 }
 
 fn main(rt: HostRuntime) -> Result<()> {
-    for line in rt.lines(rt.alloc()) {
-        let line = line?;
-        let words: Vec<&str> = line.as_str().split('\t').collect(rt.alloc())?;
-        let answer = answer_of(rt.alloc(), words.as_slice());
-        println!(rt; "{}", answer.text())?;
-    }
-    Ok(())
+    answer_lines(rt, &Objects)
 }

@@ -1,37 +1,38 @@
 //! Questions about the content of manifests: what is asked, and octets or a moment.
 
-use crate::answers::{Answer, moment, octets, unknown};
+use crate::values::{moment, say_moment};
+use answers::{Answer, pieces_of, unknown};
 use anyhow::{Result, anyhow};
 use objects_manifest::file::is_file_name;
 use objects_manifest::{FileAndHash, ManifestContent};
 use std::alloc::Global;
 
 // A file's name, and its hash.
-fn file(alloc: Global, answer: &mut Answer, file: &FileAndHash<'_>) {
+fn file(answer: &mut Answer, file: &FileAndHash<'_>) {
     match std::str::from_utf8(file.file()) {
-        Ok(name) => answer.say(&name),
-        Err(_) => answer.say(&"no text"),
+        Ok(name) => answer.word(name),
+        Err(_) => answer.word("no text"),
     }
-    answer.say_octets(alloc, file.hash());
+    answer.octets(file.hash());
 }
 
 /// The number, both moments, how many files there are, and each of them.
-pub fn shown(alloc: Global, answer: &mut Answer, content: &ManifestContent) {
+pub fn shown(answer: &mut Answer, content: &ManifestContent) {
     answer.say(&content.manifest_number());
-    answer.say_moment(content.this_update());
-    answer.say_moment(content.next_update());
+    say_moment(answer, content.this_update());
+    say_moment(answer, content.next_update());
     answer.say(&content.len());
     answer.say(&content.is_empty());
     for listed in content.iter() {
-        file(alloc, answer, &listed);
+        file(answer, &listed);
     }
 }
 
 fn read(alloc: Global, answer: &mut Answer, digits: &str) -> Result<()> {
-    let octets = octets(alloc, digits)?;
+    let octets = pieces_of(alloc, digits)?;
     match ManifestContent::decode(alloc, octets.as_slice()) {
         Ok(content) => {
-            shown(alloc, answer, &content);
+            shown(answer, &content);
             drop(content);
         }
         Err(error) => answer.refuse(error),
@@ -42,7 +43,7 @@ fn read(alloc: Global, answer: &mut Answer, digits: &str) -> Result<()> {
 // Whether the content is stale at a moment.
 fn stale(alloc: Global, answer: &mut Answer, digits: &str, word: &str) -> Result<()> {
     let now = moment(word)?;
-    let octets = octets(alloc, digits)?;
+    let octets = pieces_of(alloc, digits)?;
     match ManifestContent::decode(alloc, octets.as_slice()) {
         Ok(content) => {
             answer.say(&content.is_stale(now));
@@ -62,7 +63,7 @@ pub fn answer(alloc: Global, answer: &mut Answer, words: &[&str]) -> Result<()> 
         ["read", digits] => read(alloc, answer, *digits),
         ["stale", digits, moment] => stale(alloc, answer, *digits, *moment),
         ["name", digits] => {
-            let octets = octets(alloc, *digits)?;
+            let octets = pieces_of(alloc, *digits)?;
             answer.say(&is_file_name(octets.as_slice()));
             Ok(())
         }

@@ -1,8 +1,9 @@
 //! Questions about signed objects: `strict` or `relaxed`, what they have to be, and octets; about
 //! those with some bits of one octet flipped, octet by octet, and about their proper fronts.
 
-use crate::answers::{Answer, octets, unknown};
+use crate::values::say_moment;
 use crate::{aspa, cert, manifest, roa};
+use answers::{Answer, pieces_of, unknown};
 use anyhow::Result;
 use bcder::OctetString;
 use certs_cert::Cert;
@@ -13,18 +14,18 @@ use std::str::FromStr;
 
 fn string(alloc: Global, answer: &mut Answer, string: &OctetString) {
     match string.to_bytes(alloc) {
-        Ok(octets) => answer.say_octets(alloc, octets.as_slice()),
-        Err(_) => answer.say(&"memory"),
+        Ok(octets) => answer.octets(octets.as_slice()),
+        Err(_) => answer.word("memory"),
     }
 }
 
 // The key's identifier, the attributes as they stand, the type and the digest that they tell,
 // whether NULL stands in the algorithm, and the signature.
 fn signer(alloc: Global, answer: &mut Answer, signer: &SignerInfo) {
-    answer.say_octets(alloc, signer.sid().as_slice());
-    answer.say_octets(alloc, signer.attributes().as_slice());
+    answer.octets(signer.sid().as_slice());
+    answer.octets(signer.attributes().as_slice());
     let said = signer.attributes().attributes();
-    answer.say_octets(alloc, said.content_type.as_slice());
+    answer.octets(said.content_type.as_slice());
     string(alloc, answer, &said.message_digest);
     answer.say(&signer.algorithm().has_null());
     string(alloc, answer, signer.signature());
@@ -32,15 +33,15 @@ fn signer(alloc: Global, answer: &mut Answer, signer: &SignerInfo) {
 
 // The content's type, the content, both times, who signed, and the certificate.
 fn shown(alloc: Global, answer: &mut Answer, signed: &SignedObject) {
-    answer.say_octets(alloc, signed.content_type().as_slice());
+    answer.octets(signed.content_type().as_slice());
     string(alloc, answer, signed.content());
     match signed.signing_time() {
-        Some(moment) => answer.say_moment(moment),
-        None => answer.say(&"-"),
+        Some(moment) => say_moment(answer, moment),
+        None => answer.word("-"),
     }
-    answer.say_some(&signed.binary_signing_time());
+    answer.some(signed.binary_signing_time().as_ref());
     signer(alloc, answer, signed.signer());
-    cert::shown(alloc, answer, signed.cert());
+    cert::shown(answer, signed.cert());
 }
 
 fn any(alloc: Global, answer: &mut Answer, strict: bool, octets: &[u8]) {
@@ -60,20 +61,20 @@ fn say_signer(alloc: Global, answer: &mut Answer, signed_by: SignerInfo) {
 }
 
 // Tells what a certificate says, and drops it.
-fn say_cert(alloc: Global, answer: &mut Answer, cert: Cert) {
-    cert::shown(alloc, answer, &cert);
+fn say_cert(answer: &mut Answer, cert: Cert) {
+    cert::shown(answer, &cert);
     drop(cert);
 }
 
 // Takes an object apart, and tells its type, the content, who signed, and the certificate.
 fn say_parts(alloc: Global, answer: &mut Answer, signed: SignedObject) {
     let (kind, content, cert, signed_by) = signed.into_parts();
-    answer.say_octets(alloc, kind.as_slice());
+    answer.octets(kind.as_slice());
     drop(kind);
     string(alloc, answer, &content);
     drop(content);
     say_signer(alloc, answer, signed_by);
-    say_cert(alloc, answer, cert);
+    say_cert(answer, cert);
 }
 
 // The parts of an object that is taken apart: the content's type, the content, who signed, and the certificate.
@@ -88,7 +89,7 @@ fn manifest_of(alloc: Global, answer: &mut Answer, strict: bool, octets: &[u8]) 
     match Manifest::decode(alloc, octets, strict) {
         Ok(object) => {
             shown(alloc, answer, object.signed());
-            manifest::shown(alloc, answer, object.content());
+            manifest::shown(answer, object.content());
             drop(object);
         }
         Err(error) => answer.refuse(error),
@@ -157,9 +158,9 @@ impl Row {
     }
 
     // The refusals, and the digest of all answers, each on a line.
-    fn end(&self, alloc: Global, answer: &mut Answer) {
+    fn end(&self, answer: &mut Answer) {
         answer.say(&self.read);
-        answer.say_octets(alloc, &Sha256::digest(self.all.as_bytes()));
+        answer.octets(&Sha256::digest(self.all.as_bytes()));
     }
 }
 
@@ -201,7 +202,7 @@ fn cuts(alloc: Global, row: &mut Row, strict: bool, kind: &str, octets: &[u8]) -
 pub fn answer(alloc: Global, answer: &mut Answer, words: &[&str]) -> Result<()> {
     match words {
         ["flips", bits, how, kind, digits] => {
-            let octets = octets(alloc, *digits)?;
+            let octets = pieces_of(alloc, *digits)?;
             let mut row = Row::new(alloc);
             flips(
                 alloc,
@@ -211,18 +212,18 @@ pub fn answer(alloc: Global, answer: &mut Answer, words: &[&str]) -> Result<()> 
                 u8::from_str(*bits)?,
                 octets.as_slice(),
             )?;
-            row.end(alloc, answer);
+            row.end(answer);
             Ok(())
         }
         ["cuts", how, kind, digits] => {
-            let octets = octets(alloc, *digits)?;
+            let octets = pieces_of(alloc, *digits)?;
             let mut row = Row::new(alloc);
             cuts(alloc, &mut row, *how == "strict", *kind, octets.as_slice())?;
-            row.end(alloc, answer);
+            row.end(answer);
             Ok(())
         }
         [how, kind, digits] => {
-            let octets = octets(alloc, *digits)?;
+            let octets = pieces_of(alloc, *digits)?;
             read(alloc, answer, *how == "strict", *kind, octets.as_slice())
         }
         _ => unknown(),

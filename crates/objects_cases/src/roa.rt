@@ -1,6 +1,6 @@
 //! Questions about the content of route origin attestations: octets.
 
-use crate::answers::{Answer, octets, unknown};
+use answers::{Answer, pieces_of, unknown};
 use anyhow::Result;
 use objects_roa::{RoaIpAddresses, RouteOriginAttestation};
 use std::alloc::Global;
@@ -9,7 +9,7 @@ use std::alloc::Global;
 fn lengths(answer: &mut Answer, addresses: &RoaIpAddresses) {
     answer.say(&addresses.is_empty());
     for address in addresses.iter() {
-        answer.say_some(&address.max_length());
+        answer.some(address.max_length().as_ref());
     }
 }
 
@@ -19,9 +19,9 @@ fn addresses(answer: &mut Answer, content: &RouteOriginAttestation) {
     for address in content.iter() {
         answer.say(&format_args!("{}-{}", address.prefix(), address.max_length()));
     }
-    answer.say(&"v4");
+    answer.word("v4");
     lengths(answer, content.v4_addrs());
-    answer.say(&"v6");
+    answer.word("v6");
     lengths(answer, content.v6_addrs());
 }
 
@@ -43,7 +43,7 @@ pub fn answer(alloc: Global, answer: &mut Answer, words: &[&str]) -> Result<()> 
     let [digits] = words else {
         return unknown();
     };
-    let octets = octets(alloc, *digits)?;
+    let octets = pieces_of(alloc, *digits)?;
     match RouteOriginAttestation::decode(alloc, octets.as_slice()) {
         Ok(content) => {
             shown(answer, &content);

@@ -1,6 +1,7 @@
 //! Addresses of both families as numbers of 128 bits, and prefixes of them.
 
-use crate::answers::{Answer, hash_of, unknown, word};
+use crate::hashes::hash_of;
+use answers::{Answer, unknown, word_at};
 use anyhow::Result;
 use resources::ipres::{Addr, AddressFamily, Prefix};
 use std::fmt;
@@ -117,12 +118,12 @@ fn read(answer: &mut Answer, text: &str) {
     ] {
         match read {
             Ok(addr) => answer.say(&addr.to_bits()),
-            Err(_) => answer.say(&"none"),
+            Err(_) => answer.word("none"),
         }
     }
     match AddressFamily::of_text(text) {
-        AddressFamily::Ipv4 => answer.say(&"4"),
-        AddressFamily::Ipv6 => answer.say(&"6"),
+        AddressFamily::Ipv4 => answer.word("4"),
+        AddressFamily::Ipv6 => answer.word("6"),
     }
     answer.say(&AddressFamily::of_text(text).max_addr_len());
 }
@@ -141,8 +142,8 @@ fn read_made(answer: &mut Answer, text: &str) -> Result<()> {
 
 // A question about an address and a count of bits.
 fn with_len(answer: &mut Answer, is_prefix: bool, words: &[&str]) -> Result<()> {
-    let addr = word(words, 1).parse::<Addr>()?;
-    let len = word(words, 2).parse::<u8>()?;
+    let addr = word_at(words, 1).parse::<Addr>()?;
+    let len = word_at(words, 2).parse::<u8>()?;
     if is_prefix {
         around(answer, addr, len);
     } else {
@@ -159,13 +160,13 @@ fn read_pair(answer: &mut Answer, one: &str, other: &str) -> Result<()> {
 
 /// The answer to a question about addresses.
 pub fn answer(answer: &mut Answer, words: &[&str]) -> Result<()> {
-    match word(words, 0) {
-        "read" => read(answer, word(words, 1)),
-        "made" => return read_made(answer, word(words, 1)),
-        "prefix" => prefixes(answer, word(words, 1)),
+    match word_at(words, 0) {
+        "read" => read(answer, word_at(words, 1)),
+        "made" => return read_made(answer, word_at(words, 1)),
+        "prefix" => prefixes(answer, word_at(words, 1)),
         "cut" => return with_len(answer, false, words),
         "around" => return with_len(answer, true, words),
-        "pair" => return read_pair(answer, word(words, 1), word(words, 2)),
+        "pair" => return read_pair(answer, word_at(words, 1), word_at(words, 2)),
         _ => return unknown(),
     }
     Ok(())

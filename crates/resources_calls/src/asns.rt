@@ -2,7 +2,8 @@
 
 ghost use Rattle.std.specs.Iterator.{IsFinite};
 
-use crate::answers::{Answer, hash_of, unknown, word};
+use crate::hashes::hash_of;
+use answers::{Answer, unknown, word_at};
 use anyhow::Result;
 use resources::asn::{Asn, SmallAsnSet};
 use std::alloc::Global;
@@ -51,7 +52,7 @@ fn each<I: Iterator<Item = Asn>>(answer: &mut Answer, asns: I)
     for asn in asns {
         answer.say(&asn);
     }
-    answer.say(&";");
+    answer.word(";");
 }
 
 // What is in either set, in both, in the first alone, and in one alone.
@@ -91,7 +92,7 @@ fn slice(answer: &mut Answer, set: &SmallAsnSet) {
     for asn in set.as_slice() {
         answer.say(asn);
     }
-    answer.say(&";");
+    answer.word(";");
 }
 
 // The set of the AS numbers of a text, and what it is once those of another are added one by one: whether each is new.
@@ -127,8 +128,8 @@ fn ends(answer: &mut Answer) -> Result<()> {
 
 // A question about the sets of two texts.
 fn of_sets(alloc: Global, answer: &mut Answer, is_members: bool, words: &[&str]) -> Result<()> {
-    let one = set(alloc, word(words, 1))?;
-    let other = set(alloc, word(words, 2))?;
+    let one = set(alloc, word_at(words, 1))?;
+    let other = set(alloc, word_at(words, 2))?;
     if is_members {
         return members(answer, &one, &other);
     }
@@ -138,13 +139,13 @@ fn of_sets(alloc: Global, answer: &mut Answer, is_members: bool, words: &[&str])
 
 /// The answer to a question about AS numbers.
 pub fn answer(alloc: Global, answer: &mut Answer, words: &[&str]) -> Result<()> {
-    match word(words, 0) {
-        "read" => read(answer, word(words, 1)),
-        "pair" => read_pair(answer, word(words, 1), word(words, 2)),
+    match word_at(words, 0) {
+        "read" => read(answer, word_at(words, 1)),
+        "pair" => read_pair(answer, word_at(words, 1), word_at(words, 2)),
         "ends" => ends(answer),
         "sets" => of_sets(alloc, answer, false, words),
         "members" => of_sets(alloc, answer, true, words),
-        "added" => added(alloc, answer, word(words, 1), word(words, 2)),
+        "added" => added(alloc, answer, word_at(words, 1), word_at(words, 2)),
         "sorted" => sorted_already(alloc, answer),
         _ => unknown(),
     }

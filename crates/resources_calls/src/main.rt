@@ -6,45 +6,35 @@
 #![tactic(auto)]
 
 mod addresses;
-mod answers;
 mod asns;
+mod hashes;
 mod prefixes;
 mod ranges;
 
-use answers::{Answer, unknown};
+use answers::{Answer, Questions, answer_lines, unknown};
 use anyhow::Result;
 use std::alloc::Global;
 
-// The answer to a question about a topic.
-fn say(alloc: Global, answer: &mut Answer, topic: &str, words: &[&str]) -> Result<()> {
-    match topic {
-        "prefix" => prefixes::answer(answer, words),
-        "max" => prefixes::max(answer, words),
-        "addr" => addresses::answer(answer, words),
-        "range" => ranges::answer(answer, words),
-        "block" => ranges::of_blocks(answer, words),
-        "asn" => asns::answer(alloc, answer, words),
-        _ => unknown(),
-    }
-}
+/// What is asked about addresses, prefixes and numbers.
+struct AddressCalls;
 
-// The answer to the question of a line.
-fn answer_of(alloc: Global, words: &[&str]) -> Answer {
-    let mut answer = Answer::new(alloc);
-    if let Some((topic, rest)) = words.split_first() {
-        if let Err(error) = say(alloc, &mut answer, *topic, rest) {
-            answer.say(&error);
+impl Questions for AddressCalls {
+    fn answer(&self, alloc: Global, answer: &mut Answer, words: &[&str]) -> Result<()> {
+        let [topic, words @ ..] = words else {
+            return unknown();
+        };
+        match *topic {
+            "prefix" => prefixes::answer(answer, words),
+            "max" => prefixes::max(answer, words),
+            "addr" => addresses::answer(answer, words),
+            "range" => ranges::answer(answer, words),
+            "block" => ranges::of_blocks(answer, words),
+            "asn" => asns::answer(alloc, answer, words),
+            _ => unknown(),
         }
     }
-    answer
 }
 
 fn main(rt: HostRuntime) -> Result<()> {
-    for line in rt.lines(rt.alloc()) {
-        let line = line?;
-        let words: Vec<&str> = line.as_str().split('\t').collect(rt.alloc())?;
-        let answer = answer_of(rt.alloc(), words.as_slice());
-        println!(rt; "{}", answer.text())?;
-    }
-    Ok(())
+    answer_lines(rt, &AddressCalls)
 }

@@ -1,6 +1,7 @@
 //! Strict prefixes, and those with a greatest length.
 
-use crate::answers::{Answer, hash_of, unknown, word};
+use crate::hashes::hash_of;
+use answers::{Answer, unknown, word_at};
 use anyhow::{Result, anyhow};
 use resources::addr::{MaxLenError, MaxLenPrefix, Prefix, PrefixError};
 use std::net::IpAddr;
@@ -69,7 +70,7 @@ fn tell_max(answer: &mut Answer, prefix: MaxLenPrefix) {
     answer.say(&prefix.prefix());
     answer.say(&prefix.addr());
     answer.say(&prefix.prefix_len());
-    answer.say_some(&prefix.max_len());
+    answer.some(prefix.max_len().as_ref());
     answer.say(&prefix.resolved_max_len());
 }
 
@@ -127,10 +128,10 @@ fn read_pair_max(answer: &mut Answer, one: &str, other: &str) -> Result<()> {
 
 /// The answer to a question about prefixes with a greatest length.
 pub fn max(answer: &mut Answer, words: &[&str]) -> Result<()> {
-    match word(words, 0) {
-        "read" => read_max(answer, word(words, 1)),
-        "made" => return read_made_max(answer, word(words, 1), word(words, 2)),
-        "pair" => return read_pair_max(answer, word(words, 1), word(words, 2)),
+    match word_at(words, 0) {
+        "read" => read_max(answer, word_at(words, 1)),
+        "made" => return read_made_max(answer, word_at(words, 1), word_at(words, 2)),
+        "pair" => return read_pair_max(answer, word_at(words, 1), word_at(words, 2)),
         _ => return unknown(),
     }
     Ok(())
@@ -154,10 +155,10 @@ fn read_pair(answer: &mut Answer, one: &str, other: &str) -> Result<()> {
 
 /// The answer to a question about prefixes.
 pub fn answer(answer: &mut Answer, words: &[&str]) -> Result<()> {
-    match word(words, 0) {
-        "read" => read(answer, word(words, 1)),
-        "made" => return read_made(answer, word(words, 1), word(words, 2)),
-        "pair" => return read_pair(answer, word(words, 1), word(words, 2)),
+    match word_at(words, 0) {
+        "read" => read(answer, word_at(words, 1)),
+        "made" => return read_made(answer, word_at(words, 1), word_at(words, 2)),
+        "pair" => return read_pair(answer, word_at(words, 1), word_at(words, 2)),
         _ => return unknown(),
     }
     Ok(())

@@ -1,6 +1,6 @@
 //! Ranges and blocks of addresses.
 
-use crate::answers::{Answer, unknown, word};
+use answers::{Answer, unknown, word_at};
 use anyhow::Result;
 use resources::chain::Block;
 use resources::ipres::{Addr, AddressRange, FromStrError, IpBlock, Prefix};
@@ -56,8 +56,10 @@ fn ends<B: Block<Item = Addr>>(answer: &mut Answer, block: &B) {
 // The addresses before and after a range, by the calls of any type of blocks.
 fn beside<B: Block<Item = Addr>>(answer: &mut Answer, block: &B) {
     let bounds = block.bounds();
-    answer.say_some(&B::previous(*bounds.start()).map(|addr| addr.to_bits()));
-    answer.say_some(&B::next(*bounds.end()).map(|addr| addr.to_bits()));
+    let previous = B::previous(*bounds.start()).map(|addr| addr.to_bits());
+    answer.some(previous.as_ref());
+    let next = B::next(*bounds.end()).map(|addr| addr.to_bits());
+    answer.some(next.as_ref());
 }
 
 // The prefix that a range is, or the range again.
@@ -136,7 +138,7 @@ fn made(answer: &mut Answer, range: AddressRange, other: IpBlock) {
 // The block between two addresses, made in each way.
 fn between(answer: &mut Answer, min: Addr, max: Addr) {
     if max < min {
-        return answer.say(&"no range");
+        return answer.word("no range");
     }
     let range = AddressRange::new(min, max);
     tell_range(answer, range);
@@ -158,7 +160,7 @@ fn pair(answer: &mut Answer, one: IpBlock, other: IpBlock) {
     answer.say(&<IpBlock as Block>::contains(&one, other.min()));
     match one.sum(&other) {
         Some(sum) => ends(answer, &sum),
-        None => answer.say(&"-"),
+        None => answer.word("-"),
     }
 }
 
@@ -180,7 +182,7 @@ fn covers(answer: &mut Answer, range: AddressRange) {
     for prefix in range.to_v4_prefixes() {
         answer.say(&IpBlock::Prefix(prefix).display_v4());
     }
-    answer.say(&";");
+    answer.word(";");
     for prefix in range.to_v6_prefixes().take(3) {
         answer.say(&IpBlock::Prefix(prefix).display_v6());
     }
@@ -222,11 +224,11 @@ fn read_set(answer: &mut Answer, one: &str, other: &str) -> Result<()> {
 
 /// The answer to a question about ranges.
 pub fn answer(answer: &mut Answer, words: &[&str]) -> Result<()> {
-    match word(words, 0) {
-        "read" => read_ranges(answer, word(words, 1)),
-        "covers" => return read_covers(answer, word(words, 1)),
-        "between" => return read_between(answer, word(words, 1), word(words, 2)),
-        "set" => return read_set(answer, word(words, 1), word(words, 2)),
+    match word_at(words, 0) {
+        "read" => read_ranges(answer, word_at(words, 1)),
+        "covers" => return read_covers(answer, word_at(words, 1)),
+        "between" => return read_between(answer, word_at(words, 1), word_at(words, 2)),
+        "set" => return read_set(answer, word_at(words, 1), word_at(words, 2)),
         _ => return unknown(),
     }
     Ok(())
@@ -244,11 +246,11 @@ fn read_pair(answer: &mut Answer, one: &str, other: &str) -> Result<()> {
 
 /// The answer to a question about blocks.
 pub fn of_blocks(answer: &mut Answer, words: &[&str]) -> Result<()> {
-    match word(words, 0) {
+    match word_at(words, 0) {
         "texts" => texts(answer),
-        "read" => read_blocks(answer, word(words, 1)),
-        "tell" => return read_block(answer, word(words, 1)),
-        "pair" => return read_pair(answer, word(words, 1), word(words, 2)),
+        "read" => read_blocks(answer, word_at(words, 1)),
+        "tell" => return read_block(answer, word_at(words, 1)),
+        "pair" => return read_pair(answer, word_at(words, 1), word_at(words, 2)),
         _ => return unknown(),
     }
     Ok(())

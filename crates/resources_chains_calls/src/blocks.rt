@@ -1,6 +1,6 @@
 //! Blocks and ranges of AS numbers, and sets that are put together of them.
 
-use crate::answers::{Answer, unknown, word};
+use answers::{Answer, unknown, word_at};
 use anyhow::Result;
 use resources::asn::Asn;
 use resources::asres::{AsBlock, AsBlocks, AsBlocksBuilder, AsRange};
@@ -35,8 +35,8 @@ fn given(answer: &mut Answer, block: AsBlock) {
 // The numbers before and after a block, by the calls of any type of blocks.
 fn beside<B: Block<Item = Asn>>(answer: &mut Answer, block: &B) {
     let bounds = block.bounds();
-    answer.say_some(&B::previous(*bounds.start()));
-    answer.say_some(&B::next(*bounds.end()));
+    answer.some(B::previous(*bounds.start()).as_ref());
+    answer.some(B::next(*bounds.end()).as_ref());
 }
 
 // How two blocks stand.
@@ -46,7 +46,7 @@ fn pair(answer: &mut Answer, one: &AsBlock, other: &AsBlock) {
     answer.say(&one.is_encompassed(other));
     answer.say(&one.is_equivalent(other));
     answer.say(&<AsBlock as Block>::contains(one, other.min()));
-    answer.say_some(&one.sum(other));
+    answer.some(one.sum(other).as_ref());
 }
 
 // A block whose ends are set to those of another, where that can be.
@@ -74,7 +74,7 @@ fn tell_range(answer: &mut Answer, range: AsRange) {
 // The range from one number to another, as a block too.
 fn range(answer: &mut Answer, min: Asn, max: Asn) {
     if max < min {
-        return answer.say(&"no range");
+        return answer.word("no range");
     }
     let range = AsRange::new(min, max);
     tell_range(answer, range);
@@ -137,7 +137,7 @@ fn intersect(alloc: Global, set: &mut AsBlocks, text: &str) -> Result<()> {
 fn common(alloc: Global, answer: &mut Answer, one: &str, other: &str) -> Result<()> {
     let mut one = AsBlocks::from_str(alloc, one)?;
     intersect(alloc, &mut one, other)?;
-    answer.say(&"=");
+    answer.word("=");
     answer.say(&one);
     Ok(())
 }
@@ -204,13 +204,13 @@ fn read_set(alloc: Global, answer: &mut Answer, one: &str, other: &str) -> Resul
 
 /// The answer to a question about blocks of AS numbers.
 pub fn answer(alloc: Global, answer: &mut Answer, words: &[&str]) -> Result<()> {
-    match word(words, 0) {
+    match word_at(words, 0) {
         "ends" => ends(alloc, answer),
-        "block" => read(answer, word(words, 1)),
-        "range" => read_range(answer, word(words, 1), word(words, 2)),
-        "pair" => read_pair(answer, word(words, 1), word(words, 2)),
-        "set" => read_set(alloc, answer, word(words, 1), word(words, 2)),
-        "common" => common(alloc, answer, word(words, 1), word(words, 2)),
+        "block" => read(answer, word_at(words, 1)),
+        "range" => read_range(answer, word_at(words, 1), word_at(words, 2)),
+        "pair" => read_pair(answer, word_at(words, 1), word_at(words, 2)),
+        "set" => read_set(alloc, answer, word_at(words, 1), word_at(words, 2)),
+        "common" => common(alloc, answer, word_at(words, 1), word_at(words, 2)),
         _ => unknown(),
     }
 }

@@ -1,6 +1,6 @@
 //! Chains of blocks, choices and claims by themselves, over blocks of AS numbers.
 
-use crate::answers::{Answer, unknown, word};
+use answers::{Answer, unknown, word_at};
 use anyhow::Result;
 use resources::asres::{AsBlock, AsBlocks, AsResources, InheritedAsResources};
 use resources::chain::{Block, Chain, OwnedChain, SharedChain};
@@ -36,7 +36,7 @@ fn print(answer: &mut Answer, chain: &Chain<'_, AsBlock>) {
     for block in chain.as_slice() {
         answer.say(block);
     }
-    answer.say(&";");
+    answer.word(";");
 }
 
 // What two chains have in common, what the first has alone, and what either has.
@@ -64,7 +64,7 @@ fn trimmed(
 ) -> Result<()> {
     match one.trim(alloc, other)? {
         Some(kept) => print(answer, &kept.as_chain()),
-        None => answer.say(&"nothing trimmed;"),
+        None => answer.word("nothing trimmed;"),
     }
     Ok(())
 }
@@ -200,10 +200,10 @@ fn held(
     match verdict {
         Ok(held) => print(answer, &held.as_chain()),
         Err(ClaimError::Overclaimed(outside)) => {
-            answer.say(&"outside");
+            answer.word("outside");
             print(answer, &outside.as_chain());
         }
-        Err(ClaimError::Memory) => answer.say(&"out of memory"),
+        Err(ClaimError::Memory) => answer.word("out of memory"),
     }
 }
 
@@ -221,7 +221,7 @@ fn issued(
 // Whether an issuer covers a claim.
 fn covered(alloc: Global, answer: &mut Answer, issuer: &SharedChain<AsBlock>, claim: &Choice) {
     match issuer.verify_covered(alloc, claim) {
-        Ok(()) => answer.say(&"covered"),
+        Ok(()) => answer.word("covered"),
         Err(error) => held(answer, Err(error)),
     }
 }
@@ -324,14 +324,14 @@ fn texts(answer: &mut Answer) {
 
 /// The answer to a question about chains, choices and claims.
 pub fn answer(alloc: Global, answer: &mut Answer, words: &[&str]) -> Result<()> {
-    match word(words, 0) {
+    match word_at(words, 0) {
         "texts" => texts(answer),
-        "choice" => return of_choice(alloc, answer, word(words, 1)),
+        "choice" => return of_choice(alloc, answer, word_at(words, 1)),
         "lent" => return lent(alloc, answer),
         "unchecked" => return unchecked(alloc, answer),
-        "made" => return made(alloc, answer, word(words, 1)),
-        "sets" => return sets(alloc, answer, word(words, 1), word(words, 2)),
-        "claim" => return claims(alloc, answer, word(words, 1), word(words, 2)),
+        "made" => return made(alloc, answer, word_at(words, 1)),
+        "sets" => return sets(alloc, answer, word_at(words, 1), word_at(words, 2)),
+        "claim" => return claims(alloc, answer, word_at(words, 1), word_at(words, 2)),
         "path" => return path(alloc, answer, words),
         _ => return unknown(),
     }

@@ -1,7 +1,7 @@
 //! Orders of lists, prefixes that know their family, and what sets have.
 
-use crate::answers::{Answer, unknown, word};
 use crate::chains::owned;
+use answers::{Answer, unknown, word_at};
 use anyhow::Result;
 use resources::addr::Prefix;
 use resources::asn::{Asn, Origin};
@@ -32,8 +32,8 @@ fn origin(prefix: &str, max_len: &str, asn: &str) -> Result<Origin> {
 
 // The order of two origins in lists.
 fn origins(answer: &mut Answer, words: &[&str]) -> Result<()> {
-    let one = origin(word(words, 1), word(words, 2), word(words, 3))?;
-    let other = origin(word(words, 4), word(words, 5), word(words, 6))?;
+    let one = origin(word_at(words, 1), word_at(words, 2), word_at(words, 3))?;
+    let other = origin(word_at(words, 4), word_at(words, 5), word_at(words, 6))?;
     answer.order(one.cmp_by_start(&other));
     Ok(())
 }
@@ -42,7 +42,7 @@ fn origins(answer: &mut Answer, words: &[&str]) -> Result<()> {
 fn find(answer: &mut Answer, chain: &OwnedChain<AsBlock>, asn: Asn) {
     let mut looks = 0;
     let place = chain.as_chain().find(asn, &mut looks);
-    answer.say_some(&place);
+    answer.some(place.as_ref());
     answer.say(&(looks <= most_looks(chain.as_chain().as_slice().len())));
 }
 
@@ -62,7 +62,7 @@ fn in_chain(alloc: Global, answer: &mut Answer, chain: &str, block: &str) -> Res
 
 // A prefix as one of a family, where its bits are few enough.
 fn as_family(answer: &mut Answer, prefix: WidePrefix, family: AddressFamily) {
-    answer.say_some(&prefix.to_addr_prefix(family));
+    answer.some(prefix.to_addr_prefix(family).as_ref());
 }
 
 // A prefix that knows its family as bits, and as each family again.
@@ -93,12 +93,12 @@ fn within(alloc: Global, answer: &mut Answer, set: &str, prefix: &str) -> Result
 
 /// The answer to a question about orders, places and what sets have.
 pub fn answer(alloc: Global, answer: &mut Answer, words: &[&str]) -> Result<()> {
-    match word(words, 0) {
-        "starts" => starts(answer, word(words, 1), word(words, 2)),
+    match word_at(words, 0) {
+        "starts" => starts(answer, word_at(words, 1), word_at(words, 2)),
         "origins" => origins(answer, words),
-        "chain" => in_chain(alloc, answer, word(words, 1), word(words, 2)),
-        "widened" => widened(answer, word(words, 1)),
-        "within" => within(alloc, answer, word(words, 1), word(words, 2)),
+        "chain" => in_chain(alloc, answer, word_at(words, 1), word_at(words, 2)),
+        "widened" => widened(answer, word_at(words, 1)),
+        "within" => within(alloc, answer, word_at(words, 1), word_at(words, 2)),
         _ => unknown(),
     }
 }

@@ -5,42 +5,31 @@
 //! both, and knows the answers by means of its own.
 #![tactic(auto)]
 
-mod answers;
 mod blocks;
 mod chains;
 mod lookups;
 
-use answers::{Answer, unknown};
+use answers::{Answer, Questions, answer_lines, unknown};
 use anyhow::Result;
 use std::alloc::Global;
 
-// The answer to a question about a topic.
-fn say(alloc: Global, answer: &mut Answer, topic: &str, words: &[&str]) -> Result<()> {
-    match topic {
-        "as" => blocks::answer(alloc, answer, words),
-        "chain" => chains::answer(alloc, answer, words),
-        "list" => lookups::answer(alloc, answer, words),
-        _ => unknown(),
-    }
-}
+/// What is asked about chains, and about blocks of AS numbers.
+struct ChainCalls;
 
-// The answer to the question of a line.
-fn answer_of(alloc: Global, words: &[&str]) -> Answer {
-    let mut answer = Answer::new(alloc);
-    if let Some((topic, rest)) = words.split_first() {
-        if let Err(error) = say(alloc, &mut answer, *topic, rest) {
-            answer.say(&error);
+impl Questions for ChainCalls {
+    fn answer(&self, alloc: Global, answer: &mut Answer, words: &[&str]) -> Result<()> {
+        let [topic, words @ ..] = words else {
+            return unknown();
+        };
+        match *topic {
+            "as" => blocks::answer(alloc, answer, words),
+            "chain" => chains::answer(alloc, answer, words),
+            "list" => lookups::answer(alloc, answer, words),
+            _ => unknown(),
         }
     }
-    answer
 }
 
 fn main(rt: HostRuntime) -> Result<()> {
-    for line in rt.lines(rt.alloc()) {
-        let line = line?;
-        let words: Vec<&str> = line.as_str().split('\t').collect(rt.alloc())?;
-        let answer = answer_of(rt.alloc(), words.as_slice());
-        println!(rt; "{}", answer.text())?;
-    }
-    Ok(())
+    answer_lines(rt, &ChainCalls)
 }

@@ -1,6 +1,6 @@
 //! Resources that are missing, inherited or listed, their builders, and sets of addresses.
 
-use crate::answers::{Answer, unknown, word};
+use answers::{Answer, unknown, word_at};
 use anyhow::Result;
 use resources::asres::{AsBlock, AsBlocks, AsResources, AsResourcesBuilder};
 use resources::choice::Claim;
@@ -14,7 +14,7 @@ use std::iter::once;
 
 // A set of addresses, as IPv6.
 fn print(answer: &mut Answer, set: &IpBlocks) {
-    answer.say(&"=");
+    answer.word("=");
     answer.say(&IpBlocksForFamily::v6(set));
 }
 
@@ -258,27 +258,43 @@ fn read_set(alloc: Global, answer: &mut Answer, one: &str, other: &str) -> Resul
     set(alloc, answer, one, other)
 }
 
+// AS resources, or why there are none.
+fn say_as(answer: &mut Answer, made: Result<AsResources>) -> Result<()> {
+    let resources = made?;
+    let said = tell_as(answer, &resources);
+    drop(resources);
+    said
+}
+
+// IP resources, or why there are none.
+fn say_ip(answer: &mut Answer, made: Result<IpResources>) -> Result<()> {
+    let resources = made?;
+    let said = tell_ip(answer, &resources);
+    drop(resources);
+    said
+}
+
 // A question about resources.
 fn of_resources(alloc: Global, answer: &mut Answer, words: &[&str]) -> Result<()> {
-    match word(words, 0) {
-        "build-as" => tell_as(answer, &build_as(alloc, words)?),
-        "build-ip" => tell_ip(answer, &build_ip(alloc, words)?),
-        "listed-as" => tell_as(answer, &asns_in(alloc, word(words, 1))?),
-        "listed-ip" => tell_ip(answer, &listed_in(alloc, word(words, 1))?),
+    match word_at(words, 0) {
+        "build-as" => say_as(answer, build_as(alloc, words)),
+        "build-ip" => say_ip(answer, build_ip(alloc, words)),
+        "listed-as" => say_as(answer, asns_in(alloc, word_at(words, 1))),
+        "listed-ip" => say_ip(answer, listed_in(alloc, word_at(words, 1))),
         _ => unknown(),
     }
 }
 
 // A question about what is outside of an issuer's set.
 fn of_claims(alloc: Global, answer: &mut Answer, words: &[&str]) -> Result<()> {
-    match word(words, 0) {
+    match word_at(words, 0) {
         "outside-as" => {
-            let claim = asns_in(alloc, word(words, 2))?;
-            outside_as(alloc, answer, word(words, 1), &claim)
+            let claim = asns_in(alloc, word_at(words, 2))?;
+            outside_as(alloc, answer, word_at(words, 1), &claim)
         }
         "outside-ip" => {
-            let claim = listed_in(alloc, word(words, 2))?;
-            outside(alloc, answer, word(words, 1), &claim)
+            let claim = listed_in(alloc, word_at(words, 2))?;
+            outside(alloc, answer, word_at(words, 1), &claim)
         }
         _ => of_resources(alloc, answer, words),
     }
@@ -286,11 +302,11 @@ fn of_claims(alloc: Global, answer: &mut Answer, words: &[&str]) -> Result<()> {
 
 /// The answer to a question about resources and sets of addresses.
 pub fn answer(alloc: Global, answer: &mut Answer, words: &[&str]) -> Result<()> {
-    match word(words, 0) {
+    match word_at(words, 0) {
         "ends" => ends(alloc, answer),
         "untold" => untold(alloc, answer),
-        "set" => read_set(alloc, answer, word(words, 1), word(words, 2)),
-        "common" => common(alloc, answer, word(words, 1), word(words, 2)),
+        "set" => read_set(alloc, answer, word_at(words, 1), word_at(words, 2)),
+        "common" => common(alloc, answer, word_at(words, 1), word_at(words, 2)),
         _ => of_claims(alloc, answer, words),
     }
 }

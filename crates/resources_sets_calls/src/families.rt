@@ -1,121 +1,107 @@
 //! Blocks and sets of one family.
 
-use crate::answers::{Answer, unknown, word};
+use answers::{Answer, unknown, word_at};
 use anyhow::Result;
-use resources::ipres::{
-    IpBlock, IpBlocks, IpResources, Ipv4Block, Ipv4Blocks, Ipv6Block, Ipv6Blocks,
-};
+use resources::ipres::{IpBlock, IpBlocks, IpResources, Ipv4Block, Ipv6Block};
+use resources_set::{Family, FamilyBlock, FamilyBlocks, V4, V6};
 use std::alloc::Global;
 use std::iter::once;
 
-fn v4_block(answer: &mut Answer, block: Ipv4Block) {
+// What a block says of itself.
+fn block<F: Family>(answer: &mut Answer, block: FamilyBlock<F>) {
     answer.say(&block);
     answer.say(&block.min().to_bits());
     answer.say(&block.max().to_bits());
     answer.say(&block.is_slash_zero());
-    answer.say(&IpBlock::from(block).display_v4());
 }
 
-fn v6_block(answer: &mut Answer, block: Ipv6Block) {
-    answer.say(&block);
-    answer.say(&block.min().to_bits());
-    answer.say(&block.max().to_bits());
-    answer.say(&block.is_slash_zero());
-    answer.say(&IpBlock::from(block).display_v6());
+fn v4_block(answer: &mut Answer, v4: Ipv4Block) {
+    block(answer, v4);
+    answer.say(&IpBlock::from(v4).display_v4());
 }
 
-// The set of two blocks of IPv4 addresses.
-fn v4_pair(alloc: Global, pair: [&str; 2]) -> Result<Ipv4Blocks> {
+fn v6_block(answer: &mut Answer, v6: Ipv6Block) {
+    block(answer, v6);
+    answer.say(&IpBlock::from(v6).display_v6());
+}
+
+// The set of two blocks.
+fn joined<F: Family>(alloc: Global, pair: [&str; 2]) -> Result<FamilyBlocks<F>> {
     let [one, other] = pair;
-    let one = one.parse::<Ipv4Block>()?;
-    let other = other.parse::<Ipv4Block>()?;
-    Ok(Ipv4Blocks::from_iter(alloc, once(one).chain(once(other)))?)
+    let one = one.parse::<FamilyBlock<F>>()?;
+    let other = other.parse::<FamilyBlock<F>>()?;
+    Ok(FamilyBlocks::from_iter(alloc, once(one).chain(once(other)))?)
 }
 
-// Two sets of IPv4 addresses, and whether they are equal, empty or whole.
-fn v4_sets(
-    alloc: Global,
+// All of the family.
+fn whole<F: Family>(alloc: Global) -> Result<FamilyBlocks<F>> {
+    Ok(FamilyBlocks::all(alloc)?)
+}
+
+// A set, the set of two blocks, and whether the first one is equal to that, to none or to all.
+fn sets<F: Family>(
     answer: &mut Answer,
-    set: &Ipv4Blocks,
-    joined: &Ipv4Blocks,
-) -> Result<()> {
+    set: &FamilyBlocks<F>,
+    joined: &FamilyBlocks<F>,
+    all: &FamilyBlocks<F>,
+) {
     answer.say(&format_args!("[{set}]"));
     answer.say(joined);
     answer.say(&(*set == *joined));
-    answer.say(&(*set == Ipv4Blocks::empty()));
-    let all = Ipv4Blocks::all(alloc)?;
-    answer.say(&(*set == all));
-    Ok(())
+    answer.say(&(*set == FamilyBlocks::empty()));
+    answer.say(&(*set == *all));
 }
 
-// A set of IPv4 addresses as other types have it.
-fn v4_others(alloc: Global, answer: &mut Answer, text: &str, set: &Ipv4Blocks) -> Result<()> {
+// Whether the blocks of the set are those of the text, as they are and as resources.
+fn others<F: Family>(
+    alloc: Global,
+    answer: &mut Answer,
+    text: &str,
+    set: &FamilyBlocks<F>,
+) -> Result<()> {
     let blocks = IpBlocks::from_str(alloc, text)?;
     answer.say(&(*set.as_blocks() == blocks));
     let resources = IpResources::blocks(blocks);
     answer.say(&(set.to_ip_resources()? == resources));
-    let again = Ipv4Blocks::from_blocks(set.clone()?.into_blocks());
+    Ok(())
+}
+
+// Whether a set is made of its own blocks again.
+fn again<F: Family>(answer: &mut Answer, set: &FamilyBlocks<F>) -> Result<()> {
+    let again = FamilyBlocks::from_blocks(set.clone()?.into_blocks());
     answer.say(&(again == *set));
     Ok(())
 }
 
-// The set of a text of IPv4 addresses, and that of two blocks.
-fn of_v4(alloc: Global, answer: &mut Answer, text: &str, pair: [&str; 2]) -> Result<()> {
-    let set = Ipv4Blocks::from_str(alloc, text)?;
-    let joined = v4_pair(alloc, pair)?;
-    v4_sets(alloc, answer, &set, &joined)?;
-    v4_others(alloc, answer, text, &set)
-}
-
-// The set of two blocks of IPv6 addresses.
-fn v6_pair(alloc: Global, pair: [&str; 2]) -> Result<Ipv6Blocks> {
-    let [one, other] = pair;
-    let one = one.parse::<Ipv6Block>()?;
-    let other = other.parse::<Ipv6Block>()?;
-    Ok(Ipv6Blocks::from_iter(alloc, once(one).chain(once(other)))?)
-}
-
-// Two sets of IPv6 addresses, and whether they are equal, empty or whole.
-fn v6_sets(
+// The set of a text beside that of two blocks.
+fn compare<F: Family>(
     alloc: Global,
     answer: &mut Answer,
-    set: &Ipv6Blocks,
-    joined: &Ipv6Blocks,
+    set: &FamilyBlocks<F>,
+    pair: [&str; 2],
 ) -> Result<()> {
-    answer.say(&format_args!("[{set}]"));
-    answer.say(joined);
-    answer.say(&(*set == *joined));
-    answer.say(&(*set == Ipv6Blocks::empty()));
-    let all = Ipv6Blocks::all(alloc)?;
-    answer.say(&(*set == all));
+    let joined = joined(alloc, pair)?;
+    let all = whole(alloc)?;
+    sets(answer, set, &joined, &all);
     Ok(())
 }
 
-// A set of IPv6 addresses as other types have it.
-fn v6_others(alloc: Global, answer: &mut Answer, text: &str, set: &Ipv6Blocks) -> Result<()> {
-    let blocks = IpBlocks::from_str(alloc, text)?;
-    answer.say(&(*set.as_blocks() == blocks));
-    let resources = IpResources::blocks(blocks);
-    answer.say(&(set.to_ip_resources()? == resources));
-    let again = Ipv6Blocks::from_blocks(set.clone()?.into_blocks());
-    answer.say(&(again == *set));
-    Ok(())
+// The set of a text, beside that of two blocks and as other types have it.
+fn of_family<F: Family>(
+    alloc: Global,
+    answer: &mut Answer,
+    text: &str,
+    pair: [&str; 2],
+) -> Result<()> {
+    let set = FamilyBlocks::<F>::from_str(alloc, text)?;
+    compare(alloc, answer, &set, pair)?;
+    others(alloc, answer, text, &set)?;
+    again(answer, &set)
 }
 
-// The set of a text of IPv6 addresses, and that of two blocks.
-fn of_v6(alloc: Global, answer: &mut Answer, text: &str, pair: [&str; 2]) -> Result<()> {
-    let set = Ipv6Blocks::from_str(alloc, text)?;
-    let joined = v6_pair(alloc, pair)?;
-    v6_sets(alloc, answer, &set, &joined)?;
-    v6_others(alloc, answer, text, &set)
-}
-
-// All of each family.
-fn whole(alloc: Global, answer: &mut Answer) -> Result<()> {
-    let v4 = Ipv4Blocks::all(alloc)?;
-    answer.say(&v4);
-    let v6 = Ipv6Blocks::all(alloc)?;
-    answer.say(&v6);
+// All of a family.
+fn say_whole<F: Family>(alloc: Global, answer: &mut Answer) -> Result<()> {
+    answer.say(&whole::<F>(alloc)?);
     Ok(())
 }
 
@@ -123,9 +109,10 @@ fn whole(alloc: Global, answer: &mut Answer) -> Result<()> {
 fn ends(alloc: Global, answer: &mut Answer) -> Result<()> {
     v4_block(answer, Ipv4Block::all());
     v6_block(answer, Ipv6Block::all());
-    whole(alloc, answer)?;
-    answer.say(&Ipv4Blocks::empty().as_blocks().is_empty());
-    answer.say(&Ipv6Blocks::empty().as_blocks().is_empty());
+    say_whole::<V4>(alloc, answer)?;
+    say_whole::<V6>(alloc, answer)?;
+    answer.say(&FamilyBlocks::<V4>::empty().as_blocks().is_empty());
+    answer.say(&FamilyBlocks::<V6>::empty().as_blocks().is_empty());
     Ok(())
 }
 
@@ -141,13 +128,13 @@ fn read_v6_block(answer: &mut Answer, text: &str) -> Result<()> {
 
 /// The answer to a question about one family.
 pub fn answer(alloc: Global, answer: &mut Answer, words: &[&str]) -> Result<()> {
-    let (text, pair) = (word(words, 1), [word(words, 2), word(words, 3)]);
-    match word(words, 0) {
+    let (text, pair) = (word_at(words, 1), [word_at(words, 2), word_at(words, 3)]);
+    match word_at(words, 0) {
         "ends" => ends(alloc, answer),
         "v4-block" => read_v4_block(answer, text),
         "v6-block" => read_v6_block(answer, text),
-        "v4-sets" => of_v4(alloc, answer, text, pair),
-        "v6-sets" => of_v6(alloc, answer, text, pair),
+        "v4-sets" => of_family::<V4>(alloc, answer, text, pair),
+        "v6-sets" => of_family::<V6>(alloc, answer, text, pair),
         _ => unknown(),
     }
 }

@@ -1,46 +1,38 @@
-//! The calls of sets and resources, as data: each line of standard input asks a question, by words with a tab between,
-//! and each line of standard output answers one. What sets and claims come to, `resources_cases` asks.
+//! The calls of sets and resources, and those that read and write them, single numbers and blocks in DER, as data: each
+//! line of standard input asks a question, by words with a tab between, and each line of standard output answers one.
+//! What sets and claims come to, `resources_cases` asks.
 //!
 //! The first word names the module that answers, and the second one what it is asked. `tests/resources_calls.py` writes
 //! both, and knows the answers by means of its own.
 #![tactic(auto)]
 
-mod answers;
 mod builders;
+mod decoded;
 mod families;
 mod sets;
 
-use answers::{Answer, unknown};
+use answers::{Answer, Questions, answer_lines, unknown};
 use anyhow::Result;
 use std::alloc::Global;
 
-// The answer to a question about a topic.
-fn say(alloc: Global, answer: &mut Answer, topic: &str, words: &[&str]) -> Result<()> {
-    match topic {
-        "resources" => builders::answer(alloc, answer, words),
-        "family" => families::answer(alloc, answer, words),
-        "set" => sets::answer(alloc, answer, words),
-        _ => unknown(),
-    }
-}
+/// What is asked about sets and resources.
+struct SetCalls;
 
-// The answer to the question of a line.
-fn answer_of(alloc: Global, words: &[&str]) -> Answer {
-    let mut answer = Answer::new(alloc);
-    if let Some((topic, rest)) = words.split_first() {
-        if let Err(error) = say(alloc, &mut answer, *topic, rest) {
-            answer.say(&error);
+impl Questions for SetCalls {
+    fn answer(&self, alloc: Global, answer: &mut Answer, words: &[&str]) -> Result<()> {
+        let [topic, words @ ..] = words else {
+            return unknown();
+        };
+        match *topic {
+            "resources" => builders::answer(alloc, answer, words),
+            "family" => families::answer(alloc, answer, words),
+            "set" => sets::answer(alloc, answer, words),
+            "der" => decoded::answer(alloc, answer, words),
+            _ => unknown(),
         }
     }
-    answer
 }
 
 fn main(rt: HostRuntime) -> Result<()> {
-    for line in rt.lines(rt.alloc()) {
-        let line = line?;
-        let words: Vec<&str> = line.as_str().split('\t').collect(rt.alloc())?;
-        let answer = answer_of(rt.alloc(), words.as_slice());
-        println!(rt; "{}", answer.text())?;
-    }
-    Ok(())
+    answer_lines(rt, &SetCalls)
 }

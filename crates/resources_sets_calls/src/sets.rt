@@ -1,6 +1,6 @@
 //! Sets of all three kinds, by the calls that `resources_cases` doesn't ask.
 
-use crate::answers::{Answer, unknown, word};
+use answers::{Answer, unknown, word_at};
 use anyhow::Result;
 use bcder::ConstOid;
 use resources::asres::AsBlocks;
@@ -83,15 +83,33 @@ fn tell(answer: &mut Answer, set: &ResourceSet) {
     answer.say(&(*set == ResourceSet::default()));
 }
 
-// All, none, and how the one changes into the other.
+// How two sets change into each other.
+fn changes(
+    alloc: Global,
+    answer: &mut Answer,
+    one: &ResourceSet,
+    other: &ResourceSet,
+) -> Result<()> {
+    change(alloc, answer, one, one)?;
+    change(alloc, answer, one, other)?;
+    change(alloc, answer, other, one)
+}
+
+// Two sets, how they contain each other, and how they change into each other.
+fn pair(alloc: Global, answer: &mut Answer, one: &ResourceSet, other: &ResourceSet) -> Result<()> {
+    tell(answer, one);
+    tell(answer, other);
+    contained(answer, one, other);
+    changes(alloc, answer, one, other)
+}
+
+// All, and none.
 fn ends(alloc: Global, answer: &mut Answer) -> Result<()> {
     let (all, none) = (ResourceSet::all(alloc)?, ResourceSet::empty());
-    tell(answer, &all);
-    tell(answer, &none);
-    contained(answer, &all, &none);
-    change(alloc, answer, &all, &all)?;
-    change(alloc, answer, &all, &none)?;
-    change(alloc, answer, &none, &all)
+    let said = pair(alloc, answer, &all, &none);
+    drop(all);
+    drop(none);
+    said
 }
 
 // The set of three texts, or the refusal of one.
@@ -103,7 +121,7 @@ fn read(alloc: Global, answer: &mut Answer, words: [&str; 3]) {
 // Whether a text is that of a set, or what is wrong with it.
 fn tell_good<E: fmt::Display>(answer: &mut Answer, checked: &Result<(), E>) {
     match checked {
-        Ok(()) => answer.say(&"good;"),
+        Ok(()) => answer.word("good;"),
         Err(error) => answer.say(&format_args!("{error};")),
     }
 }
@@ -154,8 +172,8 @@ fn tables(answer: &mut Answer, policy: Overclaim) {
 
 /// The answer to a question about sets of all three kinds.
 pub fn answer(alloc: Global, answer: &mut Answer, words: &[&str]) -> Result<()> {
-    let three = [word(words, 1), word(words, 2), word(words, 3)];
-    match word(words, 0) {
+    let three = [word_at(words, 1), word_at(words, 2), word_at(words, 3)];
+    match word_at(words, 0) {
         "ends" => return ends(alloc, answer),
         "texts" => texts(answer),
         "refuse" => tables(answer, Overclaim::Refuse),

@@ -1,7 +1,8 @@
 //! Questions about bundles: octets that are decoded and written again, and parts that are put together.
 
-use crate::answers::Answer;
-use crate::octets::{number_of, octets_of};
+use crate::octets::{bundle_of, number_of};
+use crate::shown::{tell_lines, tell_octets};
+use answers::{Answer, pieces_of};
 use anyhow::{Result, anyhow};
 use bytes::Bytes;
 use hex::FromHex;
@@ -10,7 +11,7 @@ use std::alloc::Global;
 
 // The octets of a word, as a bundle shares them.
 fn shared(alloc: Global, word: &str) -> Result<Bytes> {
-    Ok(Bytes::from_vec(octets_of(alloc, word)?)?)
+    Ok(Bytes::from_vec(pieces_of(alloc, word)?)?)
 }
 
 // Two words with a colon between.
@@ -21,41 +22,19 @@ fn pair(text: &str) -> Result<(&str, &str)> {
     }
 }
 
+// The octets of each of two words with a colon between.
+fn shared_pair(alloc: Global, text: &str) -> Result<(Bytes, Bytes)> {
+    let (one, other) = pair(text)?;
+    let one = shared(alloc, one)?;
+    let other = shared(alloc, other)?;
+    Ok((one, other))
+}
+
 fn digest(digits: &str) -> Result<[u8; 32]> {
     match <[u8; 32]>::from_hex(digits.as_bytes()) {
         Ok(digest) => Ok(digest),
         Err(_) => Err(anyhow!("no digest")),
     }
-}
-
-// The pieces of a word with commas between; of an empty word none.
-fn pieces(alloc: Global, word: &str) -> Result<Vec<&str>> {
-    if word.is_empty() {
-        return Ok(Vec::new(alloc));
-    }
-    Ok(word.split(',').collect(alloc)?)
-}
-
-fn locators(alloc: Global, word: &str) -> Result<Vec<Locator>> {
-    let mut locators = Vec::new(alloc);
-    for piece in pieces(alloc, word)? {
-        let (name, text) = pair(piece)?;
-        let name = shared(alloc, name)?;
-        let text = shared(alloc, text)?;
-        locators.push(Locator { name, text })?;
-    }
-    Ok(locators)
-}
-
-fn objects(alloc: Global, word: &str) -> Result<Vec<Object>> {
-    let mut objects = Vec::new(alloc);
-    for piece in pieces(alloc, word)? {
-        let (uri, octets) = pair(piece)?;
-        let uri = shared(alloc, uri)?;
-        let octets = shared(alloc, octets)?;
-        objects.push(Object { uri, octets })?;
-    }
-    Ok(objects)
 }
 
 fn verdict(text: &str) -> Result<Verdict> {
@@ -68,105 +47,168 @@ fn verdict(text: &str) -> Result<Verdict> {
     })
 }
 
-fn verdicts(alloc: Global, word: &str) -> Result<Vec<Verdict>> {
-    let mut verdicts = Vec::new(alloc);
-    for piece in pieces(alloc, word)? {
+// Appends the locators of a word, with commas between; of an empty word none.
+fn push_locators(locators: &mut Vec<Locator>, alloc: Global, word: &str) -> Result<()> {
+    for piece in word.split_terminator(',') {
+        let (name, text) = shared_pair(alloc, piece)?;
+        locators.push(Locator { name, text })?;
+    }
+    Ok(())
+}
+
+// Appends the objects of a word, with commas between; of an empty word none.
+fn push_objects(objects: &mut Vec<Object>, alloc: Global, word: &str) -> Result<()> {
+    for piece in word.split_terminator(',') {
+        let (uri, octets) = shared_pair(alloc, piece)?;
+        objects.push(Object { uri, octets })?;
+    }
+    Ok(())
+}
+
+// Appends the verdicts of a word, with commas between; of an empty word none.
+fn push_verdicts(verdicts: &mut Vec<Verdict>, word: &str) -> Result<()> {
+    for piece in word.split_terminator(',') {
         verdicts.push(verdict(piece)?)?;
     }
-    Ok(verdicts)
+    Ok(())
+}
+
+/// The parts of a bundle beside its moment and its depth.
+#[derive(Drop)]
+struct Parts {
+    locators: Vec<Locator>,
+    objects: Vec<Object>,
+    verdicts: Vec<Verdict>,
+}
+
+impl Parts {
+    fn new(alloc: Global) -> Self {
+        Parts {
+            locators: Vec::new(alloc),
+            objects: Vec::new(alloc),
+            verdicts: Vec::new(alloc),
+        }
+    }
+
+    // Adds those of three words.
+    fn read(&mut self, alloc: Global, names: &str, uris: &str, digests: &str) -> Result<()> {
+        push_locators(&mut self.locators, alloc, names)?;
+        push_objects(&mut self.objects, alloc, uris)?;
+        push_verdicts(&mut self.verdicts, digests)
+    }
+
+    // The bundle of them.
+    fn bundle(self, moment: Time, depth: u8) -> Result<Bundle, BundleError> {
+        Bundle::from_parts(moment, depth, self.locators, self.objects, self.verdicts)
+    }
 }
 
 // All that the getters of a bundle tell.
 fn tell(answer: &mut Answer, bundle: &Bundle) {
-    answer.say(&"");
-    answer.lines(&bundle.moment().generalized());
+    tell_lines(answer, &bundle.moment().generalized());
     answer.say(&bundle.depth());
     for locator in bundle.locators() {
-        answer.say(&"locator ");
-        answer.octets(locator.name.as_slice());
-        answer.join(&':');
-        answer.octets(locator.text.as_slice());
+        answer.word("locator ");
+        tell_octets(answer, locator.name.as_slice());
+        answer.join(":");
+        tell_octets(answer, locator.text.as_slice());
     }
     for object in bundle.objects() {
-        answer.say(&"object ");
-        answer.octets(object.uri.as_slice());
-        answer.join(&':');
-        answer.octets(object.octets.as_slice());
+        answer.word("object ");
+        tell_octets(answer, object.uri.as_slice());
+        answer.join(":");
+        tell_octets(answer, object.octets.as_slice());
     }
     for verdict in bundle.verdicts() {
-        answer.say(&"verdict ");
-        answer.octets(&verdict.key);
-        answer.join(&':');
-        answer.octets(&verdict.message);
-        answer.join(&':');
-        answer.octets(&verdict.signature);
+        answer.word("verdict ");
+        tell_octets(answer, &verdict.key);
+        answer.join(":");
+        tell_octets(answer, &verdict.message);
+        answer.join(":");
+        tell_octets(answer, &verdict.signature);
     }
 }
 
 // The octets of a bundle.
-fn encode(alloc: Global, answer: &mut Answer, bundle: Result<Bundle, BundleError>) {
-    match bundle.map(|bundle| bundle.encode(alloc)) {
-        Ok(Ok(octets)) => answer.octets(octets.as_slice()),
-        Ok(Err(_)) => answer.say(&"out of memory"),
-        Err(error) => answer.say(&error),
+fn encode(alloc: Global, answer: &mut Answer, bundle: &Bundle) {
+    match bundle.encode(alloc) {
+        Ok(octets) => tell_octets(answer, octets.as_slice()),
+        Err(_) => answer.word("out of memory"),
     }
-}
-
-// What the bundle of octets has.
-fn decode(alloc: Global, answer: &mut Answer, word: &str) -> Result<()> {
-    match Bundle::decode(alloc, octets_of(alloc, word)?.as_slice()) {
-        Ok(bundle) => tell(answer, &bundle),
-        Err(error) => answer.say(&error),
-    }
-    Ok(())
-}
-
-// The octets of the bundle of octets.
-fn again(alloc: Global, answer: &mut Answer, word: &str) -> Result<()> {
-    let octets = octets_of(alloc, word)?;
-    encode(alloc, answer, Bundle::decode(alloc, octets.as_slice()));
-    Ok(())
 }
 
 // The object of a bundle at a text.
-fn get(alloc: Global, answer: &mut Answer, word: &str, uri: &str) -> Result<()> {
-    let bundle = Bundle::decode(alloc, octets_of(alloc, word)?.as_slice())?;
-    match bundle.get(octets_of(alloc, uri)?.as_slice()) {
+fn get(alloc: Global, answer: &mut Answer, bundle: &Bundle, uri: &str) -> Result<()> {
+    let uri = pieces_of(alloc, uri)?;
+    match bundle.get(uri.as_slice()) {
         Some(octets) => {
-            answer.say(&"held ");
-            answer.octets(octets);
+            answer.word("held ");
+            tell_octets(answer, octets);
         }
-        None => answer.say(&"none"),
+        None => answer.word("none"),
     }
     Ok(())
 }
 
 // The octets of the bundle of parts.
-fn parts(alloc: Global, answer: &mut Answer, words: [&str; 5]) -> Result<()> {
+fn make_parts(alloc: Global, answer: &mut Answer, words: [&str; 5]) -> Result<()> {
     let [moment, depth, names, uris, digests] = words;
     let Some(moment) = Time::from_generalized(moment.as_bytes()) else {
         return Err(anyhow!("no moment"));
     };
     let depth = number_of(depth)?.min(255) as u8;
-    let locators = locators(alloc, names)?;
-    let objects = objects(alloc, uris)?;
-    let verdicts = verdicts(alloc, digests)?;
-    encode(
-        alloc,
-        answer,
-        Bundle::from_parts(moment, depth, locators, objects, verdicts),
-    );
+    let mut parts = Parts::new(alloc);
+    match parts.read(alloc, names, uris, digests) {
+        Ok(()) => {
+            made(alloc, answer, parts.bundle(moment, depth));
+            Ok(())
+        }
+        Err(error) => {
+            drop(parts);
+            Err(error)
+        }
+    }
+}
+
+// The octets of a bundle that was put together, or why there is none.
+fn made(alloc: Global, answer: &mut Answer, bundle: Result<Bundle, BundleError>) {
+    match bundle {
+        Ok(bundle) => {
+            encode(alloc, answer, &bundle);
+            drop(bundle);
+        }
+        Err(error) => answer.say(&error),
+    }
+}
+
+// What a bundle has, its octets, or its object at a text.
+fn decoded(
+    alloc: Global,
+    answer: &mut Answer,
+    question: &str,
+    words: &[&str],
+    bundle: &Bundle,
+) -> Result<()> {
+    match (question, words) {
+        ("decode", []) => tell(answer, bundle),
+        ("again", []) => encode(alloc, answer, bundle),
+        ("get", [uri]) => return get(alloc, answer, bundle, *uri),
+        _ => return Err(anyhow!("other words")),
+    }
     Ok(())
 }
 
-/// The answer to a question about a bundle.
+/// The answer to a question about a bundle: the bundle of octets, or of parts.
 pub fn answer(alloc: Global, answer: &mut Answer, question: &str, words: &[&str]) -> Result<()> {
     match (question, words) {
-        ("decode", [octets]) => decode(alloc, answer, *octets),
-        ("again", [octets]) => again(alloc, answer, *octets),
-        ("get", [octets, uri]) => get(alloc, answer, *octets, *uri),
         ("parts", [moment, depth, names, uris, digests]) => {
-            parts(alloc, answer, [*moment, *depth, *names, *uris, *digests])
+            make_parts(alloc, answer, [*moment, *depth, *names, *uris, *digests])
+        }
+        (_, [octets, rest @ ..]) => {
+            let bundle = bundle_of(alloc, *octets)?;
+            let said = decoded(alloc, answer, question, rest, &bundle);
+            drop(bundle);
+            said
         }
         _ => Err(anyhow!("other words")),
     }

@@ -1,8 +1,9 @@
 //! Questions about runs and commands: the exit status, what was written, and what was written of faults.
 
-use crate::answers::Answer;
-use crate::octets::octets_of;
+use crate::octets::{number_of, push_texts};
+use crate::shown::{tell_lines, tell_octets};
 use crate::streams::{Broken, Sink, Source};
+use answers::{Answer, pieces_of};
 use anyhow::{Result, anyhow};
 use rpki_bundle::{BundleError, Digester};
 use rpki_commands::folder::Fault;
@@ -17,16 +18,15 @@ use std::io::{Read, Write};
 type Streams<'a> = [&'a str; 5];
 
 // A run over a reader and a writer, and how often each failed.
-fn run_of(alloc: Global, answer: &mut Answer, octets: &str, streams: Streams<'_>) -> Result<()> {
-    let octets = octets_of(alloc, octets)?;
+fn run_of(alloc: Global, answer: &mut Answer, octets: &[u8], streams: Streams<'_>) -> Result<()> {
     let [most, good_reads, most_written, room, end] = streams;
-    let mut reader = Counted::new(Source::new(octets.as_slice(), most, good_reads)?);
-    let mut writer = Counted::new(Sink::new(alloc, most_written, room, end)?);
+    let mut reader = Counted::new(Source::of_words(octets, most, good_reads)?);
+    let mut writer = Counted::new(Sink::of_words(alloc, most_written, room, end)?);
     match run(alloc, &mut reader, &mut writer, &Fips) {
-        Ok(()) => answer.say(&"ok "),
+        Ok(()) => answer.word("ok "),
         Err(error) => answer.say(&format_args!("{error} ")),
     }
-    answer.lines(writer.inner.taken.as_slice());
+    tell_lines(answer, writer.inner.taken.as_slice());
     answer.say(&reader.failures());
     answer.say(&writer.failures());
     Ok(())
@@ -35,26 +35,26 @@ fn run_of(alloc: Global, answer: &mut Answer, octets: &str, streams: Streams<'_>
 /// What a command answered, wrote, and wrote of faults.
 pub fn end(answer: &mut Answer, status: u8, written: &[u8], faults: &[u8]) {
     answer.say(&status);
-    answer.say(&"[");
-    answer.lines(written);
-    answer.join(&"] [");
-    answer.lines(faults);
-    answer.join(&']');
+    answer.word("[");
+    tell_lines(answer, written);
+    answer.join("] [");
+    tell_lines(answer, faults);
+    answer.join("]");
 }
 
 // `check` over a reader and a writer, whose faults go to a writer with room for so many octets.
 fn check_of(
     alloc: Global,
     answer: &mut Answer,
-    octets: &str,
+    octets: &[u8],
     streams: Streams<'_>,
     told: &str,
 ) -> Result<()> {
-    let octets = octets_of(alloc, octets)?;
     let [most, good_reads, most_written, room, full] = streams;
-    let mut reader = Counted::new(Source::new(octets.as_slice(), most, good_reads)?);
-    let mut writer = Counted::new(Sink::new(alloc, most_written, room, full)?);
-    let mut faults = Sink::new(alloc, told, told, "full")?;
+    let told = number_of(told)? as usize;
+    let mut reader = Counted::new(Source::of_words(octets, most, good_reads)?);
+    let mut writer = Counted::new(Sink::of_words(alloc, most_written, room, full)?);
+    let mut faults = Sink::new(alloc, told, told, false);
     let status = check(alloc, &mut reader, &mut writer, &mut faults);
     end(
         answer,
@@ -68,25 +68,24 @@ fn check_of(
 // `bundle FOLDER` to a writer.
 fn bundle_of(rt: &HostRuntime, answer: &mut Answer, folder: &str, writer: [&str; 3]) -> Result<()> {
     let [most, room, full] = writer;
-    let mut writer = Counted::new(Sink::new(rt.alloc(), most, room, full)?);
+    let mut writer = Counted::new(Sink::of_words(rt.alloc(), most, room, full)?);
     let mut faults = Vec::new(rt.alloc());
     let status = bundle(rt, rt.alloc(), folder, &mut writer, &mut faults);
     answer.say(&status);
-    answer.say(&"");
-    answer.octets(writer.inner.taken.as_slice());
-    answer.say(&"");
-    answer.lines(faults.as_slice());
+    answer.word("");
+    tell_octets(answer, writer.inner.taken.as_slice());
+    answer.word("");
+    tell_lines(answer, faults.as_slice());
     Ok(())
 }
 
 // A text that is written whole or in part.
-fn write_of(alloc: Global, answer: &mut Answer, text: &str, writer: [&str; 3]) -> Result<()> {
+fn write_of(alloc: Global, answer: &mut Answer, text: &[u8], writer: [&str; 3]) -> Result<()> {
     let [most, room, full] = writer;
-    let mut writer = Counted::new(Sink::new(alloc, most, room, full)?);
-    let octets = octets_of(alloc, text)?;
-    answer.say(&write_all(&mut writer, octets.as_slice()).is_ok());
-    answer.say(&"");
-    answer.octets(writer.inner.taken.as_slice());
+    let mut writer = Counted::new(Sink::of_words(alloc, most, room, full)?);
+    answer.say(&write_all(&mut writer, text).is_ok());
+    answer.word("");
+    tell_octets(answer, writer.inner.taken.as_slice());
     answer.say(&writer.failures());
     Ok(())
 }
@@ -140,38 +139,37 @@ fn texts(answer: &mut Answer) {
         Cause::Loop,
         Cause::Depth,
     ] {
-        answer.say(&word_of(cause));
+        answer.word(word_of(cause));
     }
 }
 
 // Both digests of octets.
 fn digests(alloc: Global, answer: &mut Answer, octets: &str) -> Result<()> {
-    let octets = octets_of(alloc, octets)?;
-    answer.octets(&Fips.sha256(octets.as_slice()));
-    answer.say(&"");
-    answer.octets(&Fips.sha1(octets.as_slice()));
+    let octets = pieces_of(alloc, octets)?;
+    answer.join_octets(&Fips.sha256(octets.as_slice()));
+    answer.word("");
+    answer.join_octets(&Fips.sha1(octets.as_slice()));
     Ok(())
 }
 
 // The command that words ask for.
 fn command(alloc: Global, answer: &mut Answer, words: &[&str]) -> Result<()> {
     let mut arguments = Vec::new(alloc);
-    for word in words {
-        arguments.push(word.to_string(alloc)?)?;
-    }
+    push_texts(&mut arguments, alloc, words)?;
     match command_of(arguments.as_slice()) {
-        Some(Command::Check) => answer.say(&"check"),
+        Some(Command::Check) => answer.word("check"),
         Some(Command::Bundle(folder)) => answer.say(&format_args!("bundle {folder}")),
         None => answer.say(&FAILED),
     }
     Ok(())
 }
 
+// The answer to a question about a reader and a writer.
 fn of_streams(
     alloc: Global,
     answer: &mut Answer,
     question: &str,
-    octets: &str,
+    octets: &[u8],
     words: &[&str],
 ) -> Result<()> {
     match (question, words) {
@@ -195,7 +193,12 @@ pub fn answer(rt: &HostRuntime, answer: &mut Answer, question: &str, words: &[&s
         ("bundle", [folder, most, room, full]) => {
             return bundle_of(rt, answer, *folder, [*most, *room, *full]);
         }
-        (_, [octets, rest @ ..]) => return of_streams(rt.alloc(), answer, question, *octets, rest),
+        (_, [octets, rest @ ..]) => {
+            let octets = pieces_of(rt.alloc(), *octets)?;
+            let said = of_streams(rt.alloc(), answer, question, octets.as_slice(), rest);
+            drop(octets);
+            return said;
+        }
         _ => return Err(anyhow!("other words")),
     }
     Ok(())

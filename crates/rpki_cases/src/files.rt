@@ -1,7 +1,6 @@
 //! What a folder's questions need and can't lie in `data/`: empty folders, links, and what may not be read.
 
-use crate::answers::Answer;
-use crate::octets::octets_of;
+use answers::{Answer, pieces_of};
 use anyhow::{Result, anyhow};
 use std::fs::{self, Permissions};
 use std::os::unix::fs::{PermissionsExt, symlink};
@@ -11,7 +10,7 @@ fn put(rt: &HostRuntime, path: &str, octets: &str) -> Result<()> {
     if let Some((folder, _)) = path.rsplit_once('/') {
         fs::create_dir_all(rt, folder)?;
     }
-    Ok(fs::write(rt, path, octets_of(rt.alloc(), octets)?)?)
+    Ok(fs::write(rt, path, pieces_of(rt.alloc(), octets)?)?)
 }
 
 /// The answer to a wish for a file, a folder, a link, or for other permissions (`none`, or all of the owner's).
@@ -24,6 +23,6 @@ pub fn answer(rt: &HostRuntime, answer: &mut Answer, question: &str, words: &[&s
         ("mode", [path, _]) => fs::set_permissions(rt, *path, Permissions::from_mode(0o700))?,
         _ => return Err(anyhow!("other words")),
     }
-    answer.say(&"done");
+    answer.word("done");
     Ok(())
 }

@@ -1,27 +1,16 @@
-//! Octets as the words of a question have them.
+//! Octets, texts and bundles as the words of a question have them.
 
+use answers::pieces_of;
 use anyhow::{Result, anyhow};
+use rpki_bundle::Bundle;
 use std::alloc::Global;
 
-// Appends the octets of a piece: hexadecimal digits, or an octet, a star and how often it comes.
-fn push_piece(octets: &mut Vec<u8>, alloc: Global, piece: &str) -> Result<()> {
-    let Some((octet, count)) = piece.split_once('*') else {
-        octets.extend_from_slice(hex::decode(alloc, piece)?.as_slice())?;
-        return Ok(());
-    };
-    let octet = u8::from_str_radix(octet, 16)?;
-    let len = octets.len() + usize::from(count.parse::<u16>()?);
-    octets.resize(len, octet)?;
-    Ok(())
-}
-
-/// The octets of a word: pieces with a plus between.
-pub fn octets_of(alloc: Global, word: &str) -> Result<Vec<u8>> {
-    let mut octets = Vec::new(alloc);
-    for piece in word.split('+') {
-        push_piece(&mut octets, alloc, piece)?;
-    }
-    Ok(octets)
+/// The bundle of a word's octets.
+pub fn bundle_of(alloc: Global, word: &str) -> Result<Bundle> {
+    let octets = pieces_of(alloc, word)?;
+    let bundle = Bundle::decode(alloc, octets.as_slice());
+    drop(octets);
+    Ok(bundle?)
 }
 
 /// The number of a word.
@@ -30,4 +19,12 @@ pub fn number_of(word: &str) -> Result<u32> {
         Ok(number) => Ok(number),
         Err(_) => Err(anyhow!("no number")),
     }
+}
+
+/// Appends the words, each as a text of its own.
+pub fn push_texts(texts: &mut Vec<String>, alloc: Global, words: &[&str]) -> Result<()> {
+    for word in words {
+        texts.push(word.to_string(alloc)?)?;
+    }
+    Ok(())
 }

@@ -10,7 +10,7 @@ use std::io::{self, ErrorKind, Read, Write};
 pub struct Source<'a> {
     rest: &'a [u8],
     most: usize,
-    good_reads: u32,
+    good_reads: usize,
 }
 
 /// Takes so many octets a write, and so many in all; when it is full it fails, or takes nothing.
@@ -33,24 +33,39 @@ fn failure() -> io::Error {
 
 impl<'a> Source<'a> {
     /// Octets, how many of them a read gives, and how many reads don't fail.
-    pub fn new(rest: &'a [u8], most: &str, good_reads: &str) -> Result<Self> {
-        Ok(Source {
+    pub fn new(rest: &'a [u8], most: usize, good_reads: usize) -> Self {
+        Source {
             rest,
-            most: number_of(most)? as usize,
-            good_reads: number_of(good_reads)?,
-        })
+            most,
+            good_reads,
+        }
+    }
+
+    /// Gives so many octets a time and fails after so many good reads, by words.
+    pub fn of_words(rest: &'a [u8], most: &str, good_reads: &str) -> Result<Self> {
+        let most = number_of(most)? as usize;
+        let good_reads = number_of(good_reads)? as usize;
+        Ok(Source::new(rest, most, good_reads))
     }
 }
 
 impl Sink {
-    /// How many octets a write takes, how many all do, and whether the next write fails (`fails`) or takes nothing.
-    pub fn new(alloc: Global, most: &str, room: &str, end: &str) -> Result<Self> {
-        Ok(Sink {
+    /// How many octets a write takes, how many all do, and whether the next write fails or takes nothing.
+    pub fn new(alloc: Global, most: usize, room: usize, fails_full: bool) -> Self {
+        Sink {
             taken: Vec::new(alloc),
-            most: number_of(most)? as usize,
-            room: number_of(room)? as usize,
-            fails_full: end == "fails",
-        })
+            most,
+            room,
+            fails_full,
+        }
+    }
+
+    /// Takes so many octets a time and has so much room, by words; past the room a write fails by `fails`, and takes nothing by
+    /// any other.
+    pub fn of_words(alloc: Global, most: &str, room: &str, end: &str) -> Result<Self> {
+        let most = number_of(most)? as usize;
+        let room = number_of(room)? as usize;
+        Ok(Sink::new(alloc, most, room, end == "fails"))
     }
 }
 

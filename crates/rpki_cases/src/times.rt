@@ -1,15 +1,16 @@
 //! Questions about moments.
 
-use crate::answers::Answer;
 use crate::octets::number_of;
+use crate::shown::tell_lines;
+use answers::Answer;
 use anyhow::{Result, anyhow};
 use rpki_bundle::Time;
 
 // A moment, or that there is none.
 fn tell(answer: &mut Answer, moment: Option<Time>) {
     match moment {
-        Some(moment) => answer.lines(&moment.generalized()),
-        None => answer.say(&"none"),
+        Some(moment) => tell_lines(answer, &moment.generalized()),
+        None => answer.word("none"),
     }
 }
 
@@ -35,8 +36,7 @@ fn order(answer: &mut Answer, one: &str, other: &str) -> Result<()> {
     let (Some(one), Some(other)) = (one, other) else {
         return Err(anyhow!("no moments"));
     };
-    let order = one.cmp(&other);
-    answer.join(&format_args!("{order:?}"));
+    answer.show(&one.cmp(&other));
     answer.say(&(one == other));
     answer.say(&(one < other));
     Ok(())

@@ -1,15 +1,16 @@
 //! Questions about walks: what a run writes of a bundle by digests that are given, and of one with an octet changed,
 //! cut off, not given or not taken, place by place.
 
-use crate::answers::Answer;
-use crate::octets::octets_of;
+use crate::octets::number_of;
+use crate::shown::tell_lines;
 use crate::streams::{Sink, Source};
+use answers::{Answer, pieces_of};
 use anyhow::{Result, anyhow};
 use rpki_commands::{Counted, Digester, Fips, RunError, run};
 use std::alloc::Global;
 
 // More places than any question has to try.
-const MOST: u32 = 10_000;
+const MOST: usize = 10_000;
 
 /// Digests that are the same for all octets.
 #[derive(Drop)]
@@ -70,11 +71,11 @@ impl Outcomes {
 fn told(alloc: Global, ended: Result<(), RunError>, written: &[u8]) -> Answer {
     let mut outcome = Answer::new(alloc);
     match ended {
-        Ok(()) => outcome.say(&"ok"),
+        Ok(()) => outcome.word("ok"),
         Err(error) => outcome.say(&error),
     }
-    outcome.say(&"");
-    outcome.lines(written);
+    outcome.word("");
+    tell_lines(&mut outcome, written);
     outcome
 }
 
@@ -108,62 +109,109 @@ fn flipped(alloc: Global, octets: &[u8], place: usize) -> Result<Vec<u8>> {
 }
 
 // Each octet in turn with its lowest bit flipped.
-fn flips(alloc: Global, answer: &mut Answer, octets: &[u8], digests: &str) -> Result<()> {
-    let mut outcomes = Outcomes::new(alloc);
+fn flips(
+    alloc: Global,
+    answer: &mut Answer,
+    outcomes: &mut Outcomes,
+    octets: &[u8],
+    digests: &str,
+) -> Result<()> {
     for place in 0..octets.len() {
         let changed = flipped(alloc, octets, place)?;
         outcomes.add(answer, outcome(alloc, changed.as_slice(), digests));
     }
-    outcomes.end(answer);
     Ok(())
 }
 
 // Each proper front of the octets.
-fn cuts(alloc: Global, answer: &mut Answer, octets: &[u8], digests: &str) -> Result<()> {
-    let mut outcomes = Outcomes::new(alloc);
+fn cuts(
+    alloc: Global,
+    answer: &mut Answer,
+    outcomes: &mut Outcomes,
+    octets: &[u8],
+    digests: &str,
+) -> Result<()> {
     let mut front = Vec::new(alloc);
     for octet in octets {
         outcomes.add(answer, outcome(alloc, front.as_slice(), digests));
         front.push(*octet)?;
     }
-    outcomes.end(answer);
     Ok(())
 }
 
-// A writer with room for no octet, for one, and so on, until all is written; it takes one octet a time.
-fn rooms(alloc: Global, answer: &mut Answer, octets: &[u8], end: &str) -> Result<()> {
-    let mut outcomes = Outcomes::new(alloc);
+// A run with a writer that has so much room and takes one octet a time, and whether it ends well.
+fn in_room(alloc: Global, octets: &[u8], room: usize, end: &str) -> (Answer, bool) {
+    let mut reader = Counted::new(octets);
+    let mut writer = Counted::new(Sink::new(alloc, 1, room, end == "fails"));
+    let ended = run(alloc, &mut reader, &mut writer, &Fips);
+    let outcome = told(alloc, ended, writer.inner.taken.as_slice());
+    (outcome, ended.is_ok())
+}
+
+// A writer with room for no octet, for one, and so on, until all is written.
+fn rooms(
+    alloc: Global,
+    answer: &mut Answer,
+    outcomes: &mut Outcomes,
+    octets: &[u8],
+    end: &str,
+) -> Result<()> {
     for room in 0..MOST {
-        let room = room.to_string(alloc)?;
-        let mut reader = Counted::new(octets);
-        let mut writer = Counted::new(Sink::new(alloc, "1", room.as_str(), end)?);
-        let ended = run(alloc, &mut reader, &mut writer, &Fips);
-        let is_done = ended.is_ok();
-        outcomes.add(answer, told(alloc, ended, writer.inner.taken.as_slice()));
+        let (next, is_done) = in_room(alloc, octets, room, end);
+        outcomes.add(answer, next);
         if is_done {
             break;
         }
     }
-    outcomes.end(answer);
     Ok(())
 }
 
-// A reader that fails at its first read, at its second, and so on, until the run ends well; it gives so many octets a time.
-fn reads(alloc: Global, answer: &mut Answer, octets: &[u8], most: &str) -> Result<()> {
-    let mut outcomes = Outcomes::new(alloc);
+// A run with a reader that gives so many octets a time and fails after so many good reads, and whether it ends well.
+fn after_reads(alloc: Global, octets: &[u8], most: usize, good_reads: usize) -> (Answer, bool) {
+    let mut reader = Counted::new(Source::new(octets, most, good_reads));
+    let mut writer = Counted::new(Vec::new(alloc));
+    let ended = run(alloc, &mut reader, &mut writer, &Fips);
+    let outcome = told(alloc, ended, writer.inner.as_slice());
+    (outcome, ended.is_ok())
+}
+
+// A reader that fails at its first read, at its second, and so on, until the run ends well.
+fn reads(
+    alloc: Global,
+    answer: &mut Answer,
+    outcomes: &mut Outcomes,
+    octets: &[u8],
+    most: &str,
+) -> Result<()> {
+    let most = number_of(most)? as usize;
     for good in 0..MOST {
-        let good = good.to_string(alloc)?;
-        let mut reader = Counted::new(Source::new(octets, most, good.as_str())?);
-        let mut writer = Counted::new(Vec::new(alloc));
-        let ended = run(alloc, &mut reader, &mut writer, &Fips);
-        let is_done = ended.is_ok();
-        outcomes.add(answer, told(alloc, ended, writer.inner.as_slice()));
+        let (next, is_done) = after_reads(alloc, octets, most, good);
+        outcomes.add(answer, next);
         if is_done {
             break;
         }
     }
-    outcomes.end(answer);
     Ok(())
+}
+
+// Runs over octets, place by place.
+fn places(
+    alloc: Global,
+    answer: &mut Answer,
+    question: &str,
+    octets: &[u8],
+    how: &str,
+) -> Result<()> {
+    let mut outcomes = Outcomes::new(alloc);
+    let tried = match question {
+        "flips" => flips(alloc, answer, &mut outcomes, octets, how),
+        "cuts" => cuts(alloc, answer, &mut outcomes, octets, how),
+        "rooms" => rooms(alloc, answer, &mut outcomes, octets, how),
+        _ => reads(alloc, answer, &mut outcomes, octets, how),
+    };
+    outcomes.end(answer);
+    drop(outcomes);
+    tried
 }
 
 /// The answer to a question about a walk.
@@ -171,16 +219,14 @@ pub fn answer(alloc: Global, answer: &mut Answer, question: &str, words: &[&str]
     let [how, octets] = words else {
         return Err(anyhow!("other words"));
     };
-    let octets = octets_of(alloc, *octets)?;
-    match question {
+    let octets = pieces_of(alloc, *octets)?;
+    let said = match question {
         "walk" => {
-            answer.say(&outcome(alloc, octets.as_slice(), *how).text());
+            answer.word(outcome(alloc, octets.as_slice(), *how).text());
             Ok(())
         }
-        "flips" => flips(alloc, answer, octets.as_slice(), *how),
-        "cuts" => cuts(alloc, answer, octets.as_slice(), *how),
-        "rooms" => rooms(alloc, answer, octets.as_slice(), *how),
-        "reads" => reads(alloc, answer, octets.as_slice(), *how),
-        _ => Err(anyhow!("other words")),
-    }
+        _ => places(alloc, answer, question, octets.as_slice(), *how),
+    };
+    drop(octets);
+    said
 }

@@ -14,7 +14,9 @@ pub type Table<'a> = TableVerifier<'a, Fips>;
 /// The bundle of digits.
 pub fn bundle_of(alloc: Global, digits: &str) -> Result<Bundle> {
     let octets = hex::decode(alloc, digits)?;
-    Ok(Bundle::decode(alloc, octets.as_slice())?)
+    let bundle = Bundle::decode(alloc, octets.as_slice());
+    drop(octets);
+    Ok(bundle?)
 }
 
 // The certificate at a URI, if one stands there.
@@ -29,31 +31,36 @@ fn cert_at(alloc: Global, bundle: &Bundle, uri: &str) -> Option<Cert> {
     }
 }
 
-// The certificate as a trust anchor, with what it holds, if it is one at the bundle's moment.
-fn anchor_of(cert: Cert, tal: Rc<TalInfo>, bundle: &Bundle) -> Option<ResourceCert> {
+// The certificate as a trust anchor, with what it holds, where it is one at the bundle's moment.
+fn anchor_of(cert: Cert, tal: Rc<TalInfo>, bundle: &Bundle) -> Result<ResourceCert> {
     let mut verifier = Table::new(bundle, &Fips);
-    match cert.validate_ta_at(tal, true, bundle.moment(), &Fips, &mut verifier) {
-        Ok(anchor) => Some(anchor),
+    let validated = cert.validate_ta_at(tal, true, bundle.moment(), &Fips, &mut verifier);
+    drop(verifier);
+    match validated {
+        Ok(anchor) => Ok(anchor),
         Err(refused) => {
             drop(refused);
-            None
+            Err(anyhow!("no authority"))
         }
     }
 }
 
-// The certificate as an authority below the issuer, with what it holds, if it is one at the bundle's moment.
+// The certificate as an authority below the issuer, with what it holds, where it is one at the bundle's moment.
 fn authority_of(
     alloc: Global,
     cert: Cert,
     issuer: &ResourceCert,
     bundle: &Bundle,
-) -> Option<ResourceCert> {
+) -> Result<ResourceCert> {
     let mut verifier = Table::new(bundle, &Fips);
-    match cert.validate_ca_at(alloc, issuer, true, bundle.moment(), &Fips, &mut verifier) {
-        Ok(authority) => Some(authority),
+    let now = bundle.moment();
+    let validated = cert.validate_ca_at(alloc, issuer, true, now, &Fips, &mut verifier);
+    drop(verifier);
+    match validated {
+        Ok(authority) => Ok(authority),
         Err(refused) => {
             drop(refused);
-            None
+            Err(anyhow!("no authority"))
         }
     }
 }
@@ -64,11 +71,11 @@ fn next_of(
     cert: Cert,
     issuer: Option<&ResourceCert>,
     bundle: &Bundle,
-) -> Result<Option<ResourceCert>> {
+) -> Result<ResourceCert> {
     match issuer {
-        Some(issuer) => Ok(authority_of(alloc, cert, issuer, bundle)),
+        Some(issuer) => authority_of(alloc, cert, issuer, bundle),
         None => match tal_of(alloc) {
-            Ok(tal) => Ok(anchor_of(cert, tal, bundle)),
+            Ok(tal) => anchor_of(cert, tal, bundle),
             Err(error) => {
                 drop(cert);
                 Err(error)
@@ -92,17 +99,31 @@ fn lengthen(
     let Some(cert) = cert_at(alloc, bundle, uri) else {
         return Err(anyhow!("no certificate"));
     };
-    match next_of(alloc, cert, chain.last(), bundle)? {
-        Some(authority) => Ok(chain.push(authority)?),
-        None => Err(anyhow!("no authority")),
+    let authority = next_of(alloc, cert, chain.last(), bundle)?;
+    Ok(chain.push(authority)?)
+}
+
+// The authorities at URIs with commas between, below those of a chain.
+fn lengthen_by(
+    alloc: Global,
+    chain: &mut Vec<ResourceCert>,
+    bundle: &Bundle,
+    uris: &str,
+) -> Result<()> {
+    for uri in uris.split(',') {
+        lengthen(alloc, chain, bundle, uri)?;
     }
+    Ok(())
 }
 
 /// The authorities at URIs with commas between, the anchor's first, each with what it holds.
 pub fn chain_of(alloc: Global, bundle: &Bundle, uris: &str) -> Result<Vec<ResourceCert>> {
     let mut chain = Vec::new(alloc);
-    for uri in uris.split(',') {
-        lengthen(alloc, &mut chain, bundle, uri)?;
+    match lengthen_by(alloc, &mut chain, bundle, uris) {
+        Ok(()) => Ok(chain),
+        Err(error) => {
+            drop(chain);
+            Err(error)
+        }
     }
-    Ok(chain)
 }

@@ -1,10 +1,11 @@
 //! Questions about signed objects: whether their content is of a type, whether they are sound, and whether they are accepted
 //! below an authority.
 
-use crate::answers::Answer;
 use crate::asked::{Asked, Test};
 use crate::chains::{Table, bundle_of, chain_of};
+use crate::shown::say_octets;
 use crate::{said, validated};
+use answers::Answer;
 use anyhow::{Result, anyhow};
 use certs_errors::Time;
 use certs_key::Oid;
@@ -32,12 +33,12 @@ fn show_if_type(
 ) {
     match SignedObject::decode_if_type(alloc, octets, &Oid(content_type), strict) {
         Ok(signed) => {
-            answer.octets(signed.content().as_slice().unwrap_or(&[]));
+            say_octets(answer, signed.content().as_slice().unwrap_or(&[]));
             drop(signed);
         }
         Err(error) => {
             drop(error);
-            answer.say(&"refused");
+            answer.word("refused");
         }
     }
 }
@@ -79,7 +80,7 @@ fn test_object(
         }
         Err(error) => {
             drop(error);
-            answer.say(&UNREADABLE);
+            answer.word(UNREADABLE);
         }
     }
 }
@@ -100,7 +101,7 @@ fn test_manifest(
         }
         Err(error) => {
             drop(error);
-            answer.say(&UNREADABLE);
+            answer.word(UNREADABLE);
         }
     }
 }
@@ -121,7 +122,7 @@ fn test_roa(
         }
         Err(error) => {
             drop(error);
-            answer.say(&UNREADABLE);
+            answer.word(UNREADABLE);
         }
     }
 }
@@ -142,7 +143,7 @@ fn test_aspa(
         }
         Err(error) => {
             drop(error);
-            answer.say(&UNREADABLE);
+            answer.word(UNREADABLE);
         }
     }
 }
@@ -164,7 +165,22 @@ fn test_kind(
     }
 }
 
-// Whether an object is sound, by the table of a bundle.
+// Whether an object is sound, by the table of a bundle, and how often that was asked.
+fn sound_by(
+    alloc: Global,
+    answer: &mut Answer,
+    kind: &str,
+    strict: bool,
+    bundle: &Bundle,
+    octets: &[u8],
+) {
+    let mut verifier = Table::new(bundle, &Fips);
+    test_kind(alloc, answer, kind, strict, octets, &mut verifier);
+    count(answer, &verifier);
+    drop(verifier);
+}
+
+// Whether an object is sound, by the table of a bundle of digits.
 fn sound(
     alloc: Global,
     answer: &mut Answer,
@@ -175,16 +191,9 @@ fn sound(
 ) -> Result<()> {
     let octets = hex::decode(alloc, object)?;
     let bundle = bundle_of(alloc, digits)?;
-    let mut verifier = Table::new(&bundle, &Fips);
-    test_kind(
-        alloc,
-        answer,
-        kind,
-        strict,
-        octets.as_slice(),
-        &mut verifier,
-    );
-    count(answer, &verifier);
+    sound_by(alloc, answer, kind, strict, &bundle, octets.as_slice());
+    drop(bundle);
+    drop(octets);
     Ok(())
 }
 
@@ -222,6 +231,7 @@ fn below(
     let mut verifier = Table::new(bundle, &Fips);
     validated::answer(&asked, kind, call, answer, octets, &mut verifier);
     count(answer, &verifier);
+    drop(verifier);
     Ok(())
 }
 

@@ -1,7 +1,8 @@
 //! Questions about publication points: what stands at the point of a chain's last authority.
 
-use crate::answers::Answer;
 use crate::chains::{Table, bundle_of, chain_of};
+use crate::shown::say_octets;
+use answers::Answer;
 use anyhow::{Result, anyhow};
 use certs_verify::ResourceCert;
 use rpki_bundle::Bundle;
@@ -19,7 +20,7 @@ fn shown(answer: &mut Answer, point: &Point) {
     answer.say(&point.manifest_cert.tbs().serial_number());
     for file in &point.files {
         answer.say(&file.uri);
-        answer.octets(file.octets.as_slice());
+        say_octets(answer, file.octets.as_slice());
     }
 }
 
@@ -30,8 +31,8 @@ fn found(answer: &mut Answer, found: Result<Option<Point>, AllocError>) {
             shown(answer, &point);
             drop(point);
         }
-        Ok(None) => answer.say(&"none"),
-        Err(_) => answer.say(&"out of memory"),
+        Ok(None) => answer.word("none"),
+        Err(_) => answer.word("out of memory"),
     }
 }
 
@@ -43,10 +44,12 @@ fn point_of(
     authority: &ResourceCert,
 ) -> Result<Option<Point>, AllocError> {
     let mut verifier = Table::new(bundle, &Fips);
-    match question {
+    let found = match question {
         "point" => point(alloc, bundle, authority, &Fips, &mut verifier),
         _ => point_unheld(alloc, bundle, authority.as_cert(), &Fips, &mut verifier),
-    }
+    };
+    drop(verifier);
+    found
 }
 
 // The answer to a question about a point of a bundle.

@@ -1,6 +1,6 @@
 //! What is said of a validation: what is held and what the content says, or the first test that fails.
 
-use crate::answers::Answer;
+use answers::Answer;
 use objects_covered::{AsProviderAttestation, RouteOriginAttestation};
 use objects_valid::{ResourceCert, ValidationError, VerificationError};
 use resources::IpBlocksForFamily;
@@ -49,8 +49,11 @@ pub fn accepted_with<C: Drop>(
 /// Whether an object is sound.
 pub fn sound(answer: &mut Answer, tested: Result<(), VerificationError>) {
     match tested {
-        Ok(()) => answer.say(&"sound"),
-        Err(error) => answer.say(&format_args!("unsound: {error}")),
+        Ok(()) => answer.word("sound"),
+        Err(error) => {
+            answer.say(&format_args!("unsound: {error}"));
+            drop(error);
+        }
     }
 }
 

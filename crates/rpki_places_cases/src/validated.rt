@@ -1,10 +1,11 @@
 //! Signed objects that are validated below an authority, and what their contents say.
 
-use crate::answers::Answer;
 use crate::asked::Asked;
 use crate::chains::Table;
 use crate::objects::UNREADABLE;
 use crate::said;
+use crate::shown::say_octets;
+use answers::Answer;
 use objects_valid::{Aspa, Manifest, Roa, SignedObject};
 
 // A signed object of any kind: that it is processed, stands apart, or is validated.
@@ -19,7 +20,7 @@ fn object(
         Ok(signed) => of_call(asked, call, answer, signed, verifier),
         Err(error) => {
             drop(error);
-            answer.say(&UNREADABLE);
+            answer.word(UNREADABLE);
         }
     }
 }
@@ -48,7 +49,7 @@ fn processed(
 ) {
     match said::accepted_with(answer, asked.processed(signed, verifier)) {
         Some(content) => {
-            answer.octets(content.as_slice().unwrap_or(&[]));
+            say_octets(answer, content.as_slice().unwrap_or(&[]));
             drop(content);
         }
         None => {}
@@ -67,7 +68,7 @@ fn manifest(asked: &Asked<'_>, answer: &mut Answer, octets: &[u8], verifier: &mu
         },
         Err(error) => {
             drop(error);
-            answer.say(&UNREADABLE);
+            answer.word(UNREADABLE);
         }
     }
 }
@@ -84,7 +85,7 @@ fn roa(asked: &Asked<'_>, answer: &mut Answer, octets: &[u8], verifier: &mut Tab
         },
         Err(error) => {
             drop(error);
-            answer.say(&UNREADABLE);
+            answer.word(UNREADABLE);
         }
     }
 }
@@ -101,7 +102,7 @@ fn aspa(asked: &Asked<'_>, answer: &mut Answer, octets: &[u8], verifier: &mut Ta
         },
         Err(error) => {
             drop(error);
-            answer.say(&UNREADABLE);
+            answer.word(UNREADABLE);
         }
     }
 }

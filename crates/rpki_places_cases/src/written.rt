@@ -1,6 +1,7 @@
 //! Questions about contents that are written again, and about listed files.
 
-use crate::answers::Answer;
+use crate::shown::say_octets;
+use answers::Answer;
 use anyhow::{Result, anyhow};
 use certs_key::Mode;
 use certs_key::encode::Values;
@@ -14,7 +15,7 @@ use std::alloc::Global;
 // What is written in a mode.
 fn in_mode<V: Values>(alloc: Global, answer: &mut Answer, value: &V, mode: Mode) {
     match value.to_captured(alloc, mode) {
-        Ok(octets) => answer.octets(octets.as_slice()),
+        Ok(octets) => say_octets(answer, octets.as_slice()),
         Err(error) => answer.say(&error),
     }
 }
@@ -28,7 +29,7 @@ fn modes<V: Values>(alloc: Global, answer: &mut Answer, value: &V) {
 // Whether it has an address, and what is written in DER, in BER and in CER.
 fn roa(alloc: Global, answer: &mut Answer, content: &RouteOriginAttestation) -> Result<()> {
     answer.say(&has_address(content));
-    answer.octets(content.to_octets(alloc)?.as_slice());
+    say_octets(answer, content.to_octets(alloc)?.as_slice());
     modes(alloc, answer, &content.encode_ref());
     Ok(())
 }
@@ -36,7 +37,7 @@ fn roa(alloc: Global, answer: &mut Answer, content: &RouteOriginAttestation) -> 
 // Whether its files have names of the profile, and what is written in DER, in BER and in CER.
 fn manifest(alloc: Global, answer: &mut Answer, content: &ManifestContent) -> Result<()> {
     answer.say(&has_file_names(content));
-    answer.octets(content.to_octets(alloc)?.as_slice());
+    say_octets(answer, content.to_octets(alloc)?.as_slice());
     modes(alloc, answer, &content.encode_ref());
     Ok(())
 }

@@ -20,20 +20,34 @@
 mod questions;
 mod world;
 
+use answers::Answer;
 use anyhow::Result;
-use std::io::{BufRead, BufReader};
 use world::World;
+
+// Takes what a line gives of the world, or answers what it asks.
+fn take(rt: HostRuntime, world: &mut World, line: &str) -> Result<()> {
+    let words: Vec<&str> = line.split(' ').collect(rt.alloc())?;
+    if world.is_told(rt.alloc(), words.as_slice())? {
+        return Ok(());
+    }
+    let mut answer = Answer::new(rt.alloc());
+    questions::answer(rt.alloc(), &mut answer, world, words.as_slice())?;
+    println!(rt; "{}", answer.text())?;
+    Ok(())
+}
+
+// Takes each line, in the order of the lines.
+fn take_all(rt: HostRuntime, world: &mut World) -> Result<()> {
+    for line in rt.lines(rt.alloc()) {
+        let line = line?;
+        take(rt, world, line.as_str())?;
+    }
+    Ok(())
+}
 
 fn main(rt: HostRuntime) -> Result<()> {
     let mut world = World::new(rt.alloc(), 1);
-    for line in BufReader::new(rt.alloc(), rt.reader())?.lines(rt.alloc()) {
-        let line = line?;
-        let words: Vec<&str> = line.as_str().split(' ').collect(rt.alloc())?;
-        if world.is_told(rt.alloc(), words.as_slice())? {
-            continue;
-        }
-        let answer = questions::answer(rt.alloc(), &world, words.as_slice())?;
-        println!(rt; "{answer}")?;
-    }
-    Ok(())
+    let said = take_all(rt, &mut world);
+    drop(world);
+    said
 }

@@ -1,10 +1,13 @@
 //! What is asked of a world.
 
 use crate::world::{World, text_of};
+use answers::Answer;
 use anyhow::{Result, anyhow};
 use bytes::Bytes;
 use rpki_commands::Fips;
-use rpki_validator::{Path, Reach, TableVerifier, Witness, judge, reach, render, walk};
+use rpki_validator::{
+    Bundle, Path, Reach, Report, TableVerifier, Witness, judge, reach, render, walk,
+};
 use std::alloc::Global;
 use std::rc::Rc;
 
@@ -16,94 +19,128 @@ fn uris_of(alloc: Global, words: &[&str]) -> Result<Vec<Bytes>> {
     Ok(uris)
 }
 
+// The chain of one certificate, an anchor.
+fn anchored(alloc: Global, locator: &str, anchor: &str) -> Result<Path> {
+    let locator = text_of(alloc, locator)?;
+    let anchor = text_of(alloc, anchor)?;
+    Ok(Path::new(alloc, locator, anchor)?)
+}
+
+// The chain with one certificate more.
+fn longer(alloc: Global, path: &Path, uri: &str) -> Result<Path> {
+    let uri = text_of(alloc, uri)?;
+    Ok(path.longer(alloc, &uri)?)
+}
+
 // The chain from an anchor down.
-fn path_of(alloc: Global, locator: &str, chain: &[Bytes]) -> Result<Path> {
+fn path_of(alloc: Global, locator: &str, chain: &[&str]) -> Result<Path> {
     let Some((anchor, below)) = chain.split_first() else {
         return Err(anyhow!("no chain"));
     };
-    let mut path = Path::new(alloc, text_of(alloc, locator)?, anchor.clone()?)?;
+    let mut path = anchored(alloc, locator, *anchor)?;
     for uri in below {
-        path = path.longer(alloc, uri)?;
+        path = longer(alloc, &path, *uri)?;
     }
     Ok(path)
 }
 
 // The witness of that object by that chain.
-fn witness_of(alloc: Global, locator: &str, object: &str, chain: &[Bytes]) -> Result<Witness> {
+fn witness_of(alloc: Global, locator: &str, object: &str, chain: &[&str]) -> Result<Witness> {
+    let object = text_of(alloc, object)?;
     let path = path_of(alloc, locator, chain)?;
-    Ok(Witness::new(Rc::new(alloc, path)?, text_of(alloc, object)?))
+    Ok(Witness::new(Rc::new(alloc, path)?, object))
 }
 
-// Adds a space and the octets of a text.
-fn push_word(text: &mut String, word: &[u8]) -> Result<()> {
-    text.push_str(" ")?;
-    text.push_str(str::from_utf8(word)?)?;
-    Ok(())
-}
-
-// Adds a witness's line.
-fn push_witness(text: &mut String, witness: &Witness) -> Result<()> {
-    text.push_str("witness")?;
-    push_word(text, witness.object().as_slice())?;
-    push_word(text, witness.locator().as_slice())?;
+// A witness's line.
+fn tell_witness(answer: &mut Answer, witness: &Witness) -> Result<()> {
+    answer.join("witness");
+    answer.word(str::from_utf8(witness.object().as_slice())?);
+    answer.word(str::from_utf8(witness.locator().as_slice())?);
     for uri in witness.chain() {
-        push_word(text, uri.as_slice())?;
+        answer.word(str::from_utf8(uri.as_slice())?);
     }
-    text.push_str("\n")?;
+    answer.join("\n");
     Ok(())
 }
 
 // The lines of a report, those of its witnesses, and a dot.
-fn walked(alloc: Global, world: &World) -> Result<String> {
-    let bundle = world.bundle(alloc)?;
-    let mut verifier = TableVerifier::new(&bundle, &Fips);
-    let report = walk(alloc, &bundle, &Fips, &mut verifier)?;
-    let mut text = String::from_utf8(render(alloc, &report)?)?;
+fn tell_report(alloc: Global, answer: &mut Answer, report: &Report) -> Result<()> {
+    let lines = render(alloc, report)?;
+    answer.join(str::from_utf8(lines.as_slice())?);
     for witness in report.witnesses() {
-        push_witness(&mut text, witness)?;
+        tell_witness(answer, witness)?;
     }
-    text.push_str(".")?;
-    Ok(text)
+    answer.join(".");
+    Ok(())
 }
 
-fn judged(alloc: Global, world: &World, witness: &Witness) -> Result<String> {
-    let bundle = world.bundle(alloc)?;
-    let mut verifier = TableVerifier::new(&bundle, &Fips);
-    let judgement = judge(alloc, &bundle, witness, &Fips, &mut verifier)?;
+fn walked(alloc: Global, answer: &mut Answer, bundle: &Bundle) -> Result<()> {
+    let mut verifier = TableVerifier::new(bundle, &Fips);
+    let report = walk(alloc, bundle, &Fips, &mut verifier);
+    drop(verifier);
+    let report = report?;
+    let said = tell_report(alloc, answer, &report);
+    drop(report);
+    said
+}
+
+fn judged(alloc: Global, answer: &mut Answer, bundle: &Bundle, witness: &Witness) -> Result<()> {
+    let mut verifier = TableVerifier::new(bundle, &Fips);
+    let judgement = judge(alloc, bundle, witness, &Fips, &mut verifier);
+    let asked = verifier.asked;
+    drop(verifier);
+    let judgement = judgement?;
     let most = (witness.chain().len() as u64)
         .saturating_mul(4)
         .saturating_add(2);
-    if verifier.asked > most {
-        return Ok("asks too much".to_string(alloc)?);
+    if asked > most {
+        answer.word("asks too much");
+    } else if judgement.yes {
+        answer.say(&format_args!("yes {}", judgement.points));
+    } else {
+        answer.word("no");
     }
-    if judgement.yes {
-        return Ok(format!(in alloc; "yes {}", judgement.points)?);
-    }
-    Ok("no".to_string(alloc)?)
+    Ok(())
 }
 
-fn reached(alloc: Global, world: &World, uris: &[Bytes]) -> Result<String> {
-    let bundle = world.bundle(alloc)?;
-    let mut verifier = TableVerifier::new(&bundle, &Fips);
-    match reach(alloc, &bundle, uris, &Fips, &mut verifier)? {
-        Reach::Locator => Ok("locator".to_string(alloc)?),
-        Reach::Held(set) => Ok(set.to_string(alloc)?),
+fn reached(alloc: Global, answer: &mut Answer, bundle: &Bundle, uris: &[Bytes]) -> Result<()> {
+    let mut verifier = TableVerifier::new(bundle, &Fips);
+    let reached = reach(alloc, bundle, uris, &Fips, &mut verifier);
+    drop(verifier);
+    match reached? {
+        Reach::Locator => answer.word("locator"),
+        Reach::Held(set) => {
+            answer.say(&set);
+            drop(set);
+        }
+    }
+    Ok(())
+}
+
+// The answer to a question about a bundle.
+fn of_bundle(alloc: Global, answer: &mut Answer, bundle: &Bundle, words: &[&str]) -> Result<()> {
+    match words {
+        ["walk"] => walked(alloc, answer, bundle),
+        ["judge", locator, object, chain @ ..] => {
+            let witness = witness_of(alloc, *locator, *object, chain)?;
+            let said = judged(alloc, answer, bundle, &witness);
+            drop(witness);
+            said
+        }
+        ["reach", uris @ ..] => {
+            let uris = uris_of(alloc, uris)?;
+            let said = reached(alloc, answer, bundle, uris.as_slice());
+            drop(uris);
+            said
+        }
+        _ => Err(anyhow!("other words")),
     }
 }
 
 /// The answer to a question.
-pub fn answer(alloc: Global, world: &World, words: &[&str]) -> Result<String> {
-    match words {
-        ["walk"] => walked(alloc, world),
-        ["judge", locator, object, chain @ ..] => {
-            let chain = uris_of(alloc, chain)?;
-            let witness = witness_of(alloc, *locator, *object, chain.as_slice())?;
-            judged(alloc, world, &witness)
-        }
-        ["reach", uris @ ..] => {
-            let uris = uris_of(alloc, uris)?;
-            reached(alloc, world, uris.as_slice())
-        }
-        _ => Err(anyhow!("other words")),
-    }
+pub fn answer(alloc: Global, answer: &mut Answer, world: &World, words: &[&str]) -> Result<()> {
+    let bundle = world.bundle(alloc)?;
+    let said = of_bundle(alloc, answer, &bundle, words);
+    drop(bundle);
+    said
 }

@@ -3,7 +3,7 @@
 use anyhow::{Result, anyhow};
 use bytes::Bytes;
 use hex::FromHex;
-use rpki_validator::{Bundle, Locator, Object, Time, Verdict};
+use rpki_validator::{Bundle, BundleError, Locator, Object, Time, Verdict};
 use std::alloc::Global;
 use std::collections::{BTreeMap, BTreeSet};
 
@@ -25,6 +25,29 @@ pub struct World {
     locators: BTreeMap<Bytes, Bytes>,
     objects: BTreeMap<Bytes, Bytes>,
     verdicts: BTreeSet<Row>,
+}
+
+/// The parts of a bundle, as lists.
+#[derive(Drop)]
+struct Parts {
+    locators: Vec<Locator>,
+    objects: Vec<Object>,
+    verdicts: Vec<Verdict>,
+}
+
+impl Parts {
+    fn new(alloc: Global) -> Self {
+        Parts {
+            locators: Vec::new(alloc),
+            objects: Vec::new(alloc),
+            verdicts: Vec::new(alloc),
+        }
+    }
+
+    // The bundle of them.
+    fn bundle(self, moment: Time, depth: u8) -> Result<Bundle, BundleError> {
+        Bundle::from_parts(moment, depth, self.locators, self.objects, self.verdicts)
+    }
 }
 
 /// The octets of a word of text.
@@ -86,10 +109,17 @@ impl World {
         Ok(())
     }
 
+    // A world with nothing in it, in which chains have at most so many certificates.
+    fn restart(&mut self, alloc: Global, depth: &str) -> Result<()> {
+        let depth = depth.parse::<u8>()?;
+        *self = World::new(alloc, depth);
+        Ok(())
+    }
+
     /// Whether the line gives something of the world, which is then so.
     pub fn is_told(&mut self, alloc: Global, words: &[&str]) -> Result<bool> {
         match words {
-            ["world", depth] => *self = World::new(alloc, depth.parse::<u8>()?),
+            ["world", depth] => self.restart(alloc, *depth)?,
             ["depth", depth] => self.depth = depth.parse::<u8>()?,
             ["locator", name, text] => put(alloc, &mut self.locators, *name, *text)?,
             ["object", uri, octets] => put(alloc, &mut self.objects, *uri, *octets)?,
@@ -105,28 +135,25 @@ impl World {
         Ok(true)
     }
 
-    fn locators(&self, alloc: Global) -> Result<Vec<Locator>> {
-        let mut locators = Vec::new(alloc);
+    fn give_locators(&self, locators: &mut Vec<Locator>) -> Result<()> {
         for (name, text) in self.locators.iter() {
             let name = name.clone()?;
             let text = text.clone()?;
             locators.push(Locator { name, text })?;
         }
-        Ok(locators)
+        Ok(())
     }
 
-    fn objects(&self, alloc: Global) -> Result<Vec<Object>> {
-        let mut objects = Vec::new(alloc);
+    fn give_objects(&self, objects: &mut Vec<Object>) -> Result<()> {
         for (uri, octets) in self.objects.iter() {
             let uri = uri.clone()?;
             let octets = octets.clone()?;
             objects.push(Object { uri, octets })?;
         }
-        Ok(objects)
+        Ok(())
     }
 
-    fn verdicts(&self, alloc: Global) -> Result<Vec<Verdict>> {
-        let mut verdicts = Vec::new(alloc);
+    fn give_verdicts(&self, verdicts: &mut Vec<Verdict>) -> Result<()> {
         for row in self.verdicts.iter() {
             verdicts.push(Verdict {
                 key: row.key,
@@ -134,7 +161,14 @@ impl World {
                 signature: row.signature,
             })?;
         }
-        Ok(verdicts)
+        Ok(())
+    }
+
+    // Adds its parts to those of a bundle.
+    fn give(&self, parts: &mut Parts) -> Result<()> {
+        self.give_locators(&mut parts.locators)?;
+        self.give_objects(&mut parts.objects)?;
+        self.give_verdicts(&mut parts.verdicts)
     }
 
     /// The bundle of these parts.
@@ -142,9 +176,13 @@ impl World {
         let Some(moment) = Time::from_generalized(MOMENT.as_bytes()) else {
             return Err(anyhow!("no moment"));
         };
-        let locators = self.locators(alloc)?;
-        let objects = self.objects(alloc)?;
-        let verdicts = self.verdicts(alloc)?;
-        Ok(Bundle::from_parts(moment, self.depth, locators, objects, verdicts)?)
+        let mut parts = Parts::new(alloc);
+        match self.give(&mut parts) {
+            Ok(()) => Ok(parts.bundle(moment, self.depth)?),
+            Err(error) => {
+                drop(parts);
+                Err(error)
+            }
+        }
     }
 }

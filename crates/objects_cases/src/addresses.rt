@@ -1,8 +1,8 @@
 //! Questions about the addresses of route origin attestations.
 
-use crate::answers::{Answer, unknown};
+use crate::values::say_written;
+use answers::{Answer, pieces_of, unknown};
 use anyhow::Result;
-use bcder::Mode;
 use objects_kinds::Roa;
 use objects_written::EncodeAddresses;
 use std::alloc::Global;
@@ -10,7 +10,7 @@ use std::alloc::Global;
 // What is written of addresses of one family.
 fn written<T: EncodeAddresses>(alloc: Global, answer: &mut Answer, addresses: &T) {
     let value = addresses.encode_ref();
-    answer.say_written(alloc, &value, Mode::Der);
+    say_written(alloc, answer, &value);
     drop(value);
 }
 
@@ -22,11 +22,11 @@ fn both(alloc: Global, answer: &mut Answer, object: &Roa) {
 }
 
 /// The addresses of an attestation that is read, written.
-pub fn addresses(alloc: Global, answer: &mut Answer, words: &[&str]) -> Result<()> {
+pub fn answer(alloc: Global, answer: &mut Answer, words: &[&str]) -> Result<()> {
     let [digits] = words else {
         return unknown();
     };
-    let octets = hex::decode(alloc, *digits)?;
+    let octets = pieces_of(alloc, *digits)?;
     match Roa::decode(alloc, octets.as_slice(), true) {
         Ok(object) => {
             both(alloc, answer, &object);

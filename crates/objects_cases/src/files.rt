@@ -1,11 +1,11 @@
 //! Questions about the files of manifests.
 
-use crate::answers::{Answer, unknown};
+use crate::values::{moment, say_written};
+use answers::{Answer, pieces_of, unknown};
 use anyhow::{Result, anyhow};
-use bcder::Mode;
 use bytes::Bytes;
 use certs_uri::Rsync;
-use certs_x509::{Serial, Time};
+use certs_x509::Serial;
 use objects_again::{ManifestBuilder, ManifestFiles};
 use objects_manifest::ManifestContent;
 use objects_written::EncodeManifest;
@@ -18,15 +18,15 @@ fn listed(alloc: Global, answer: &mut Answer, content: &ManifestContent, base: &
         match item {
             Ok((uri, hash)) => {
                 answer.say(&uri);
-                answer.say_octets(alloc, hash.as_slice());
+                answer.octets(hash.as_slice());
                 drop(uri);
             }
             Err(error) => answer.say(&error),
         }
     }
-    answer.say(&"end");
+    answer.word("end");
     let algorithm = content.file_hash_alg();
-    answer.say_written(alloc, &algorithm.encode(), Mode::Der);
+    say_written(alloc, answer, &algorithm.encode());
 }
 
 /// The files that the content of a manifest lists, by their URIs in a folder.
@@ -37,7 +37,7 @@ pub fn uris(alloc: Global, answer: &mut Answer, words: &[&str]) -> Result<()> {
     let Ok(base) = Rsync::from_slice(alloc, folder.as_bytes()) else {
         return Err(anyhow!("no URI"));
     };
-    let octets = hex::decode(alloc, *digits)?;
+    let octets = pieces_of(alloc, *digits)?;
     match ManifestContent::decode(alloc, octets.as_slice()) {
         Ok(content) => {
             listed(alloc, answer, &content, &base);
@@ -49,17 +49,9 @@ pub fn uris(alloc: Global, answer: &mut Answer, words: &[&str]) -> Result<()> {
     Ok(())
 }
 
-// The moment of a word.
-fn moment(word: &str) -> Result<Time> {
-    match Time::from_generalized(word.as_bytes()) {
-        Some(moment) => Ok(moment),
-        None => Err(anyhow!("no moment")),
-    }
-}
-
 // A hash of 32 octets.
 fn hash(alloc: Global, digits: &str) -> Result<[u8; 32]> {
-    let octets = hex::decode(alloc, digits)?;
+    let octets = pieces_of(alloc, digits)?;
     let mut hash = [0u8; 32];
     if octets.len() != hash.len() {
         return Err(anyhow!("no hash"));
@@ -73,7 +65,7 @@ fn push(alloc: Global, builder: &mut ManifestBuilder, word: &str) -> Result<()> 
     let Some((name, digits)) = word.split_once('=') else {
         return Err(anyhow!("no file"));
     };
-    let name = hex::decode(alloc, name)?;
+    let name = pieces_of(alloc, name)?;
     let digest = hash(alloc, digits)?;
     let name = Bytes::copy_from_slice(alloc, name.as_slice())?;
     builder.push(name, digest)?;
@@ -85,7 +77,7 @@ fn made(alloc: Global, answer: &mut Answer, builder: &ManifestBuilder) {
     match builder.to_content(alloc) {
         Ok(content) => {
             let value = content.encode_ref();
-            answer.say_written(alloc, &value, Mode::Der);
+            say_written(alloc, answer, &value);
             drop(value);
             drop(content);
         }

@@ -1,6 +1,7 @@
 //! Questions about the attributes of objects and about their contents.
 
-use crate::answers::{Answer, unknown};
+use crate::values::{say_unwritten, say_written};
+use answers::{Answer, pieces_of, unknown};
 use anyhow::Result;
 use bcder::Mode;
 use bcder::decode::{Constructed, Decode, DecodeError, SliceSource};
@@ -13,25 +14,25 @@ use std::convert::Infallible;
 fn shown(alloc: Global, answer: &mut Answer, attributes: &SignedAttrs) {
     match attributes.encode_ref(alloc) {
         Ok(value) => {
-            answer.say_written(alloc, &value, Mode::Der);
+            say_written(alloc, answer, &value);
             drop(value);
         }
-        Err(error) => answer.unwritten(error),
+        Err(error) => say_unwritten(answer, error),
     }
     match attributes.encode_verify(alloc) {
         Ok(value) => {
-            answer.say_written(alloc, &value, Mode::Der);
+            say_written(alloc, answer, &value);
             drop(value);
         }
-        Err(error) => answer.unwritten(error),
+        Err(error) => say_unwritten(answer, error),
     }
     match attributes.message_digest(alloc) {
         Ok(digest) => {
-            answer.say_octets(alloc, digest.as_slice());
+            answer.octets(digest.as_slice());
             let value = digest.encode_ref();
-            answer.say_written(alloc, &value, Mode::Der);
+            say_written(alloc, answer, &value);
         }
-        Err(_) => answer.say(&"memory"),
+        Err(_) => answer.word("memory"),
     }
 }
 
@@ -40,7 +41,7 @@ pub fn attributes(alloc: Global, answer: &mut Answer, words: &[&str]) -> Result<
     let [how, digits] = words else {
         return unknown();
     };
-    let octets = hex::decode(alloc, *digits)?;
+    let octets = pieces_of(alloc, *digits)?;
     match SignedObject::decode(alloc, octets.as_slice(), *how == "strict") {
         Ok(object) => {
             shown(alloc, answer, object.signer().attributes());
@@ -64,7 +65,7 @@ pub fn message(alloc: Global, answer: &mut Answer, words: &[&str]) -> Result<()>
     let [digits] = words else {
         return unknown();
     };
-    let octets = hex::decode(alloc, *digits)?;
+    let octets = pieces_of(alloc, *digits)?;
     match Mode::Der.decode(octets.as_slice(), |cons| message_of(alloc, cons)) {
         Ok(attributes) => {
             shown(alloc, answer, &attributes);
@@ -78,11 +79,11 @@ pub fn message(alloc: Global, answer: &mut Answer, words: &[&str]) -> Result<()>
 // The octets of the content's first value, and the algorithm of its digest.
 fn first_value(alloc: Global, answer: &mut Answer, object: &SignedObject) {
     match object.decode_content(alloc, |cons| cons.capture_one(alloc)) {
-        Ok(captured) => answer.say_octets(alloc, captured.as_slice()),
+        Ok(captured) => answer.octets(captured.as_slice()),
         Err(error) => answer.refuse(error),
     }
     let algorithm = object.digest_algorithm();
-    answer.say_written(alloc, &algorithm.encode(), Mode::Der);
+    say_written(alloc, answer, &algorithm.encode());
 }
 
 /// What a closure reads of the content of an object.
@@ -90,7 +91,7 @@ pub fn content(alloc: Global, answer: &mut Answer, words: &[&str]) -> Result<()>
     let [how, digits] = words else {
         return unknown();
     };
-    let octets = hex::decode(alloc, *digits)?;
+    let octets = pieces_of(alloc, *digits)?;
     match SignedObject::decode(alloc, octets.as_slice(), *how == "strict") {
         Ok(object) => {
             first_value(alloc, answer, &object);

@@ -1,6 +1,6 @@
 //! Values that are read from DER one by one, and written.
 
-use crate::answers::{Answer, unknown, word};
+use answers::{Answer, octets_of, unknown, word_at};
 use anyhow::{Result, anyhow};
 use bcder::Mode;
 use bcder::decode::Decode;
@@ -27,9 +27,9 @@ fn asns(answer: &mut Answer, octets: &[u8]) {
     match numbers_in(octets) {
         Some((first, third)) => {
             answer.say(&first);
-            answer.say_some(&third);
+            answer.some(third.as_ref());
         }
-        None => answer.say(&"refused"),
+        None => answer.word("refused"),
     }
 }
 
@@ -46,11 +46,11 @@ fn blocks_in(octets: &[u8]) -> Option<(Option<AsBlock>, bool, Option<AsBlock>)> 
 fn blocks(answer: &mut Answer, octets: &[u8]) {
     match blocks_in(octets) {
         Some((first, second, third)) => {
-            answer.say_some(&first);
+            answer.some(first.as_ref());
             answer.say(&second);
-            answer.say_some(&third);
+            answer.some(third.as_ref());
         }
-        None => answer.say(&"refused"),
+        None => answer.word("refused"),
     }
 }
 
@@ -58,7 +58,7 @@ fn blocks(answer: &mut Answer, octets: &[u8]) {
 fn as_set(alloc: Global, answer: &mut Answer, octets: &[u8]) {
     match Mode::Der.decode(octets, |cons| AsBlocks::take_from(alloc, cons)) {
         Ok(set) => answer.say(&format_args!("[{set}]")),
-        Err(_) => answer.say(&"refused"),
+        Err(error) => answer.refuse(error),
     }
 }
 
@@ -72,9 +72,9 @@ fn family_of(word: &str) -> AddressFamily {
 // A family that has to be there.
 fn family(alloc: Global, answer: &mut Answer, octets: &[u8]) {
     match Mode::Der.decode(octets, |cons| AddressFamily::take_from(alloc, cons)) {
-        Ok(AddressFamily::Ipv4) => answer.say(&"4"),
-        Ok(AddressFamily::Ipv6) => answer.say(&"6"),
-        Err(_) => answer.say(&"refused"),
+        Ok(AddressFamily::Ipv4) => answer.word("4"),
+        Ok(AddressFamily::Ipv6) => answer.word("6"),
+        Err(error) => answer.refuse(error),
     }
 }
 
@@ -88,9 +88,9 @@ fn prefixes(alloc: Global, answer: &mut Answer, family: AddressFamily, octets: &
         Ok((first, second)) => {
             answer.say(&first.addr().to_bits());
             answer.say(&first.addr_len());
-            answer.say_some(&second.map(|prefix| prefix.addr_len()));
+            answer.some(second.map(|prefix| prefix.addr_len()).as_ref());
         }
-        Err(_) => answer.say(&"refused"),
+        Err(error) => answer.refuse(error),
     }
 }
 
@@ -104,9 +104,9 @@ fn ranges(alloc: Global, answer: &mut Answer, family: AddressFamily, octets: &[u
         Ok((first, second)) => {
             answer.say(&first.min().to_bits());
             answer.say(&first.max().to_bits());
-            answer.say_some(&second.map(|range| range.max().to_bits()));
+            answer.some(second.map(|range| range.max().to_bits()).as_ref());
         }
-        Err(_) => answer.say(&"refused"),
+        Err(error) => answer.refuse(error),
     }
 }
 
@@ -118,10 +118,10 @@ fn ip_blocks(alloc: Global, answer: &mut Answer, family: AddressFamily, octets: 
     });
     match read {
         Ok((first, second)) => {
-            answer.say_some(&first.map(|block| block.display_v6()));
-            answer.say_some(&second.map(|block| block.display_v6()));
+            answer.some(first.map(|block| block.display_v6()).as_ref());
+            answer.some(second.map(|block| block.display_v6()).as_ref());
         }
-        Err(_) => answer.say(&"refused"),
+        Err(error) => answer.refuse(error),
     }
 }
 
@@ -129,7 +129,7 @@ fn ip_blocks(alloc: Global, answer: &mut Answer, family: AddressFamily, octets: 
 fn ip_set(alloc: Global, answer: &mut Answer, family: AddressFamily, octets: &[u8]) {
     match Mode::Der.decode(octets, |cons| IpBlocks::take_from(alloc, cons, family)) {
         Ok(set) => answer.say(&format_args!("[{}]", IpBlocksForFamily::v6(&set))),
-        Err(_) => answer.say(&"refused"),
+        Err(error) => answer.refuse(error),
     }
 }
 
@@ -140,7 +140,7 @@ fn ip_resources(alloc: Global, answer: &mut Answer, family: AddressFamily, octet
             answer.say(&resources.is_inherited());
             answer.say(&resources.is_present());
         }
-        Err(_) => answer.say(&"refused"),
+        Err(error) => answer.refuse(error),
     }
 }
 
@@ -156,15 +156,15 @@ fn families(alloc: Global, answer: &mut Answer, octets: &[u8]) -> Result<()> {
 fn length<V: Values>(answer: &mut Answer, values: &V) {
     match values.encoded_len(Mode::Der) {
         Ok(len) => answer.say(&len),
-        Err(_) => answer.say(&"refused"),
+        Err(_) => answer.word("refused"),
     }
 }
 
 // The octets of values in DER, and how many they are.
 fn written<V: Values>(alloc: Global, answer: &mut Answer, values: &V) -> Result<()> {
     let captured = values.to_captured(alloc, Mode::Der)?;
-    let digits = hex::encode(alloc, captured.as_slice())?;
-    answer.say(&digits);
+    answer.word("");
+    answer.join_octets(captured.as_slice());
     length(answer, values);
     Ok(())
 }
@@ -235,8 +235,8 @@ fn write_ip(alloc: Global, answer: &mut Answer, text: &str) -> Result<()> {
 
 // A question about the values of a family.
 fn of_family(alloc: Global, answer: &mut Answer, words: &[&str], octets: &[u8]) -> Result<()> {
-    let family = family_of(word(words, 2));
-    match word(words, 0) {
+    let family = family_of(word_at(words, 2));
+    match word_at(words, 0) {
         "prefix" => prefixes(alloc, answer, family, octets),
         "range" => ranges(alloc, answer, family, octets),
         "block" => ip_blocks(alloc, answer, family, octets),
@@ -249,8 +249,8 @@ fn of_family(alloc: Global, answer: &mut Answer, words: &[&str], octets: &[u8]) 
 
 // A question about octets.
 fn of_octets(alloc: Global, answer: &mut Answer, words: &[&str]) -> Result<()> {
-    let octets = hex::decode(alloc, word(words, 1))?;
-    match word(words, 0) {
+    let octets = octets_of(alloc, word_at(words, 1));
+    match word_at(words, 0) {
         "asn" => asns(answer, octets.as_slice()),
         "as-block" => blocks(answer, octets.as_slice()),
         "as-set" => as_set(alloc, answer, octets.as_slice()),
@@ -263,9 +263,9 @@ fn of_octets(alloc: Global, answer: &mut Answer, words: &[&str]) -> Result<()> {
 
 /// The answer to a question about octets in hexadecimal digits, or about a block that is written.
 pub fn answer(alloc: Global, answer: &mut Answer, words: &[&str]) -> Result<()> {
-    match word(words, 0) {
-        "write-as" => write_as(alloc, answer, word(words, 1)),
-        "write-ip" => write_ip(alloc, answer, word(words, 1)),
+    match word_at(words, 0) {
+        "write-as" => write_as(alloc, answer, word_at(words, 1)),
+        "write-ip" => write_ip(alloc, answer, word_at(words, 1)),
         _ => of_octets(alloc, answer, words),
     }
 }

@@ -2,7 +2,8 @@
 
 use bcder::decode::DecodeError;
 use bytes::Bytes;
-use std::alloc::Global;
+use std::alloc::{AllocError, Global};
+use std::cmp::Ordering;
 use std::fmt::{Debug, Display};
 
 /// The words of an answer, with a space between. A word that finds no memory is left out, and shows by that.
@@ -19,6 +20,13 @@ impl Answer {
         }
     }
 
+    /// No words yet, with room for so many octets of them.
+    pub fn with_capacity(alloc: Global, room: usize) -> Result<Self, AllocError> {
+        Ok(Answer {
+            text: String::with_capacity(alloc, room)?,
+        })
+    }
+
     /// All words.
     pub fn text(&self) -> &str {
         self.text.as_str()
@@ -30,6 +38,16 @@ impl Answer {
             let _ = self.text.push_str(" ");
         }
         let _ = self.text.push_str(word);
+    }
+
+    /// More of the last word.
+    pub fn join(&mut self, more: &str) {
+        let _ = self.text.push_str(more);
+    }
+
+    /// More of the last word, as `Display` prints it.
+    pub fn join_as<T: Display>(&mut self, more: &T) {
+        let _ = write!(self.text, "{more}");
     }
 
     /// One more word, as `Display` prints it.
@@ -44,23 +62,62 @@ impl Answer {
         let _ = write!(self.text, "{word:?}");
     }
 
+    /// One more word, or `-` where there is none.
+    pub fn some<T: Display>(&mut self, word: Option<&T>) {
+        match word {
+            Some(word) => self.say(word),
+            None => self.word("-"),
+        }
+    }
+
+    /// One more word, or why there is none.
+    pub fn say_or<T: Display, E: Display>(&mut self, word: &Result<T, E>) {
+        match word {
+            Ok(word) => self.say(word),
+            Err(error) => self.say(error),
+        }
+    }
+
+    /// How two values stand to each other.
+    pub fn order(&mut self, order: Ordering) {
+        match order {
+            Ordering::Less => self.word("less"),
+            Ordering::Equal => self.word("equal"),
+            Ordering::Greater => self.word("greater"),
+        }
+    }
+
     /// That a question isn't known.
     pub fn unknown(&mut self) {
         self.word("no such question");
     }
 
-    /// Octets in hexadecimal digits, after an `x`.
-    pub fn octets(&mut self, octets: &[u8]) {
-        self.word("x");
+    /// Octets in hexadecimal digits, as more of the last word.
+    pub fn join_octets(&mut self, octets: &[u8]) {
         for octet in octets {
             let _ = write!(self.text, "{octet:02x}");
         }
+    }
+
+    /// Octets in hexadecimal digits, after an `x`.
+    pub fn octets(&mut self, octets: &[u8]) {
+        self.word("x");
+        self.join_octets(octets);
     }
 
     /// How a read is refused: by the octets, by the source, or for lack of memory.
     pub fn refuse<E: Drop>(&mut self, error: DecodeError<E>) {
         match error {
             DecodeError::Content(_, _) => self.word("refused"),
+            DecodeError::Source(_) => self.word("fault"),
+            DecodeError::Memory => self.word("memory"),
+        }
+    }
+
+    /// By which text octets were refused, by their source, or for lack of memory.
+    pub fn refuse_by_text<E: Drop>(&mut self, error: DecodeError<E>) {
+        match error {
+            DecodeError::Content(error, _) => self.say(&error),
             DecodeError::Source(_) => self.word("fault"),
             DecodeError::Memory => self.word("memory"),
         }
@@ -80,13 +137,5 @@ impl Answer {
             Ok(bytes) => self.octets(bytes.as_slice()),
             Err(error) => self.refuse(error),
         }
-    }
-}
-
-/// The octets of hexadecimal digits; none where the word has others.
-pub fn octets_of(alloc: Global, word: &str) -> Vec<u8> {
-    match hex::decode(alloc, word) {
-        Ok(octets) => octets,
-        Err(_) => Vec::new(alloc),
     }
 }

@@ -1,6 +1,7 @@
 //! Questions about objects that are written again: `strict` or `relaxed`, what they have to be, and octets.
 
-use crate::answers::{Answer, unknown};
+use crate::values::say_unwritten;
+use answers::{Answer, pieces_of, unknown};
 use anyhow::Result;
 use bcder::Mode;
 use bcder::encode::Values;
@@ -20,13 +21,13 @@ fn compare(
     match values.to_captured(alloc, mode) {
         Ok(captured) => {
             if captured.as_slice() == octets {
-                answer.say(&"same");
+                answer.word("same");
             } else {
-                answer.say_octets(alloc, captured.as_slice());
+                answer.octets(captured.as_slice());
             }
             drop(captured);
         }
-        Err(error) => answer.unwritten(error),
+        Err(error) => say_unwritten(answer, error),
     }
 }
 
@@ -35,11 +36,11 @@ fn written<T: EncodeObject>(alloc: Global, answer: &mut Answer, object: &T) {
     let octets = match object.to_captured(alloc) {
         Ok(captured) => captured.into_bytes(),
         Err(error) => {
-            answer.unwritten(error);
+            say_unwritten(answer, error);
             Bytes::new()
         }
     };
-    answer.say_octets(alloc, octets.as_slice());
+    answer.octets(octets.as_slice());
     match object.encode_ref(alloc) {
         Ok(values) => {
             compare(alloc, answer, &values, Mode::Der, octets.as_slice());
@@ -47,7 +48,7 @@ fn written<T: EncodeObject>(alloc: Global, answer: &mut Answer, object: &T) {
             compare(alloc, answer, &values, Mode::Cer, octets.as_slice());
             drop(values);
         }
-        Err(error) => answer.unwritten(error),
+        Err(error) => say_unwritten(answer, error),
     }
     drop(octets);
 }
@@ -98,7 +99,7 @@ pub fn answer(alloc: Global, answer: &mut Answer, words: &[&str]) -> Result<()> 
         return unknown();
     };
     let strict = *how == "strict";
-    let octets = hex::decode(alloc, *digits)?;
+    let octets = pieces_of(alloc, *digits)?;
     match *kind {
         "any" => any(alloc, answer, strict, octets.as_slice()),
         "manifest" => manifest(alloc, answer, strict, octets.as_slice()),

@@ -1,6 +1,6 @@
 //! The octets of objects that were built, and what is read of them.
 
-use anyhow::Result;
+use answers::Answer;
 use bcder::Captured;
 use certs_x509::SigningError;
 use objects_kinds::{Aspa, Manifest, Roa, SignedObject};
@@ -43,33 +43,39 @@ fn kind_read(alloc: Global, kind: &[u8], octets: &[u8]) -> &'static str {
 }
 
 // What is read of octets that were built: the type of the content, and whether it is of its kind; or nothing.
-fn again(alloc: Global, octets: &[u8]) -> Result<String> {
+fn say_again(alloc: Global, answer: &mut Answer, octets: &[u8]) {
     match SignedObject::decode(alloc, octets, true) {
         Ok(object) => {
-            let read = kind_read(alloc, object.content_type().as_slice(), octets);
-            let kind = hex::encode(alloc, object.content_type().as_slice());
+            answer.word("again");
+            say_digits(answer, object.content_type().as_slice());
+            answer.word(kind_read(alloc, object.content_type().as_slice(), octets));
             drop(object);
-            Ok(format!(in alloc; "again {} {read}", kind?)?)
         }
-        Err(_) => Ok(String::from_str(alloc, "unread")?),
+        Err(error) => {
+            drop(error);
+            answer.word("unread");
+        }
     }
 }
 
-// The octets of an object, and what is read of them.
-fn shown(alloc: Global, octets: &[u8]) -> Result<String> {
-    let read = again(alloc, octets)?;
-    let digits = hex::encode(alloc, octets)?;
-    Ok(format!(in alloc; "{digits} {read}")?)
+/// Octets in hexadecimal digits, as one more word.
+pub fn say_digits(answer: &mut Answer, octets: &[u8]) {
+    answer.word("");
+    answer.join_octets(octets);
 }
 
-/// What is answered of an object, or why there is none.
-pub fn told(alloc: Global, built: Result<Captured, SigningError<Infallible>>) -> Result<String> {
+/// The octets of an object and what is read of them, or why there is none.
+pub fn say_built(
+    alloc: Global,
+    answer: &mut Answer,
+    built: Result<Captured, SigningError<Infallible>>,
+) {
     match built {
         Ok(octets) => {
-            let text = shown(alloc, octets.as_slice());
+            say_digits(answer, octets.as_slice());
+            say_again(alloc, answer, octets.as_slice());
             drop(octets);
-            text
         }
-        Err(error) => Ok(format!(in alloc; "{error}")?),
+        Err(error) => answer.say(&error),
     }
 }
