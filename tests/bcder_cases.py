@@ -1,9 +1,8 @@
 #!/usr/bin/env python3
 """Writes the questions and answers of the programs of questions about the codec: tests/bcder_cases.py
 
-crates/bcder_cases is asked about sources and headers, crates/bcder_content_cases about contents,
-crates/bcder_values_cases about values and numbers, crates/bcder_strings_cases about identifiers and strings, and
-crates/bcder_written_cases about what is written.
+crates/bcder_cases is asked about sources, headers and contents, crates/bcder_values_cases about values, numbers, identifiers
+and strings, and crates/bcder_written_cases about what is written.
 
 The answers come from Python's own integers and texts, from small readers and writers of this script after X.690, from
 examples of X.690, RFC 3629 and OpenSSL, and from the worked cases `codec-core-cases`, `string-cases` and
@@ -18,10 +17,8 @@ TESTS = pathlib.Path(__file__).resolve().parent
 CRATES = TESTS.parent / "crates"
 # The topics of each program: the first word of a question.
 PROGRAMS = {
-    "bcder_cases": "tag length source",
-    "bcder_content_cases": "content fails dry skip tagged",
-    "bcder_values_cases": "front number integer unsigned",
-    "bcder_strings_cases": "oid bits octets text string",
+    "bcder_cases": "tag length source content fails dry skip tagged",
+    "bcder_values_cases": "front number integer unsigned oid bits octets text string",
     "bcder_written_cases": "write",
 }
 MODES = ("ber", "cer", "der")

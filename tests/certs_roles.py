@@ -1,9 +1,8 @@
 #!/usr/bin/env python3
 """Asks about certificates in their roles, and about certificates that are built.
 
-    certs_roles.py                        writes stdin and stdout of crates/certs_roles and crates/certs_built_cases
-    certs_roles.py --all NAME PROGRAM     asks the built program of that crate all questions, and prints those that it answers
-                                          otherwise
+    certs_roles.py                   writes stdin and stdout of crates/certs_roles
+    certs_roles.py --all PROGRAM     asks the built program all questions, and prints those that it answers otherwise
 
 A certificate is made of named parts (certs_parts.py), of which one or two are then others. What must be told of it is known from
 the parts; which test fails first, from the order of tests that the profile's reader documents: this script reads no certificate.
@@ -26,7 +25,7 @@ from certs_parts import ALL, APART, FAILS, FIRST, HOST, LAST, MOMENT, OTHER_KEY,
 from certs_parts import claims, made, name, places, sets
 from rpki_repositories import NULL, bits, integer, oid, seq, tlv
 
-TOP = pathlib.Path(__file__).resolve().parent.parent
+FOLDER = pathlib.Path(__file__).resolve().parent.parent / "crates" / "certs_roles"
 QUESTIONS, BUILT = [], []
 
 
@@ -602,7 +601,7 @@ def numbers():
 
 
 def all_questions():
-    """Each question to either program once, with its answer and what it is about."""
+    """The questions about roles, and those about built certificates, each with its answer and what it is about."""
     inspections()
     faults()
     lists()
@@ -615,12 +614,12 @@ def all_questions():
     below()
     for words, answer, about in built.validated():
         ask(answer, *words, about=about)
-    BUILT.extend(("\t".join(words), answer, about) for words, answer, about in built.questions())
+    BUILT.extend(("\t".join(["built", *words]), answer, about) for words, answer, about in built.questions())
     for rows in (QUESTIONS, BUILT):
         answers = {}
         for question, answer, _ in rows:
             assert answers.setdefault(question, answer) == answer, question
-    return {"certs_roles": QUESTIONS, "certs_built_cases": BUILT}
+    return QUESTIONS, BUILT
 
 
 def stored(rows):
@@ -648,17 +647,15 @@ def ask_program(program, rows):
 
 
 def main():
-    programs = all_questions()
-    if len(sys.argv) == 4 and sys.argv[1] == "--all" and sys.argv[2] in programs:
-        sys.exit(1 if ask_program(sys.argv[3], programs[sys.argv[2]]) else 0)
+    groups = all_questions()
+    if len(sys.argv) == 3 and sys.argv[1] == "--all":
+        sys.exit(1 if ask_program(sys.argv[2], [row for rows in groups for row in rows]) else 0)
     if len(sys.argv) > 1:
-        sys.exit("usage: certs_roles.py [--all NAME PROGRAM]")
-    for crate, rows in programs.items():
-        kept = stored(rows)
-        folder = TOP / "crates" / crate
-        (folder / "stdin").write_text("".join(f"{question}\n" for question, _ in kept))
-        (folder / "stdout").write_text("".join(f"{answer}\n" for _, answer in kept))
-        print(crate, len(kept), "questions stored, of", len({question for question, _, _ in rows}))
+        sys.exit("usage: certs_roles.py [--all PROGRAM]")
+    kept = [row for rows in groups for row in stored(rows)]
+    (FOLDER / "stdin").write_text("".join(f"{question}\n" for question, _ in kept))
+    (FOLDER / "stdout").write_text("".join(f"{answer}\n" for _, answer in kept))
+    print(len(kept), "questions stored, of", len({question for rows in groups for question, _, _ in rows}))
 
 
 if __name__ == "__main__":

@@ -1,5 +1,5 @@
 #!/usr/bin/env python3
-"""Writes the questions and answers of crates/objects_built_cases: tests/objects_built_cases.py
+"""Signed objects that crates/objects_cases is asked to build, for tests/objects_cases.py.
 
 What is written is spelled here by X.690 8, 10 and 11.6 from the fields, line by line as RFC 5652 3 and 5, RFC 6488 2 and RFC 6487 4
 have them; a signature is the SHA-256 digest of the key's bits and of what is signed.
@@ -7,12 +7,8 @@ have them; a signature is the SHA-256 digest of the key's bits and of what is si
 
 import hashlib
 import ipaddress
-import pathlib
 import random
 
-from objects_cases import answer_of
-
-CRATE = pathlib.Path(__file__).resolve().parent.parent / "crates" / "objects_built_cases"
 rng = random.Random(6488)
 
 
@@ -275,6 +271,9 @@ DUPLICATE, UNFIT = "duplicate provider AS", "key not compatible with the algorit
 
 def again(fields):
     """What is read of the object: its certificate has to have resources, and its content to be of the kind that its type names."""
+    # That script asks these questions, so it imports this one.
+    from objects_cases import answer_of
+
     if not any(fields.get(word) is not None for word in ("v4", "v6", "asn")):
         return "unread"
     kinds = [kind for kind, number in KINDS.items() if number == fields["type"]]
@@ -511,11 +510,7 @@ def questions():
         yield from asked()
 
 
-def main():
-    lines = list(questions())
-    (CRATE / "stdin").write_text("".join("\t".join(asked) + "\n" for asked, _ in lines))
-    (CRATE / "stdout").write_text("".join(answer + "\n" for _, answer in lines))
-
-
-if __name__ == "__main__":
-    main()
+def build(q):
+    """Asks all."""
+    for words, answer in questions():
+        q.ask(answer, "built", *words)

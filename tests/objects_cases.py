@@ -14,6 +14,7 @@ import re
 
 from certs_signed_cases import RSA, SHA256, SHA256_RSA, Refused, bits_of, content_of, need, parts_of, tlv, value
 from objects_again_cases import written
+from objects_built_cases import build
 from objects_locator_cases import locators
 from objects_signed_cases import signed
 
@@ -303,6 +304,7 @@ def main():
     locators(q)
     signed(q, answer_of)
     written(q, answer_of, NAME.fullmatch)
+    build(q)
     (FOLDER / "stdin").write_text("".join(f"{question}\n" for question, _ in q.rows))
     (FOLDER / "stdout").write_text("".join(f"{answer}\n" for _, answer in q.rows))
     print(len(q.rows), "questions")

@@ -16,6 +16,7 @@ import shutil
 import rpki_model
 import rpki_questions
 import rpki_walks
+import rpki_worlds
 from rpki_bundles import bundle, is_date, is_key, is_lawful, lookup_key, read, uri_kind
 from rpki_repositories import MOMENT, tlv
 
@@ -670,8 +671,9 @@ def main():
     for part in (worked_cases, streams, texts, bundles, get_and_parts, times, uris, rpki_walks.walks, rpki_questions.questions, case_folder, kinds_of_entries, made_folders, spelled_lines):
         part(q)
     stored_cases()
-    (FOLDER / "stdin").write_text("".join(f"{question}\n" for question, _ in q.rows))
-    (FOLDER / "stdout").write_text("".join(f"{answer}\n" for _, answer in q.rows))
+    worlds = rpki_worlds.asked_at_the_gate()
+    (FOLDER / "stdin").write_text("".join(f"{line}\n" for line in [*(question for question, _ in q.rows), *worlds.lines]))
+    (FOLDER / "stdout").write_text("".join(f"{line}\n" for line in [*(answer for _, answer in q.rows), *worlds.answers]))
     print(len(q.rows), "questions")
 
 

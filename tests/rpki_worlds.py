@@ -1,9 +1,9 @@
 #!/usr/bin/env python3
-"""Writes the questions and answers of crates/rpki_worlds, or asks the built program about other worlds by chance.
+"""Worlds that crates/rpki_cases is asked about, for tests/rpki_cases.py; or asks the built program about others by chance.
 
-    rpki_worlds.py [PROGRAM [COUNT [SEED]]]
+    rpki_worlds.py PROGRAM [COUNT [SEED]]
 
-With a program so many worlds are made by that seed, and it exits with 1 where the program answers otherwise.
+So many worlds are made by that seed, and it exits with 1 where the program answers otherwise.
 
 Worlds are lists of locators and things (tests/rpki_chains.py), made by hand (tests/rpki_hand_worlds.py) and by chance; their
 octets are tests/rpki_repositories.py's. What is answered of a world by chance comes of trying every list of its certificates as
@@ -19,7 +19,6 @@ the witness stays good. What is judged is good exactly where the walk has it amo
 import argparse
 import hashlib
 import itertools
-import pathlib
 import random
 import subprocess
 import sys
@@ -32,7 +31,6 @@ from rpki_hand_worlds import WORLDS, world_said
 from rpki_repositories import ASPA, FIRST, LAST, MANIFEST, ROA, Authority, World as Signer
 from rpki_repositories import aspa, basic, claims_of, locator_text, manifest, policies, roa, usage
 
-FOLDER = pathlib.Path(__file__).resolve().parent.parent / "crates" / "rpki_worlds"
 COUNT = 40
 WRONG_KEY = 999
 NO_LOCATOR = b"no locator"
@@ -167,36 +165,42 @@ class Asked:
     def world(self, world, chance=None):
         """Tells a world, in an order by chance if one is given."""
         self.octets, self.told = Octets(), set()
-        self.lines.append(f"world {world.depth}")
-        parts = [f"locator {name} {self.octets.locator(locator).hex()}" for name, locator in world.locators.items()]
-        parts += [f"object {uri} {self.octets.of(uri, thing).hex()}" for uri, thing in world.at.items()]
+        self.tell("empty", str(world.depth))
+        parts = [("locator", name, self.octets.locator(locator).hex()) for name, locator in world.locators.items()]
+        parts += [("object", uri, self.octets.of(uri, thing).hex()) for uri, thing in world.at.items()]
         parts += self.verdicts()
         if chance:
             chance.shuffle(parts)
-        self.lines += parts
+        for part in parts:
+            self.tell(*part)
+
+    def tell(self, *words):
+        """A line about the world: what is there, or a question."""
+        self.lines.append("\t".join(["world", *words]))
 
     def verdicts(self):
-        """A line for each good signature that wasn't told."""
+        """The words of each good signature that wasn't told."""
         new = [row for row in self.octets.signer.verdicts if row not in self.told]
         self.told |= set(new)
-        return [" ".join(["verdict", *(digest.hex() for digest in row)]) for row in new]
+        return [("verdict", *(digest.hex() for digest in row)) for row in new]
 
     def put(self, uri, thing):
         octets = self.octets.of(uri, thing)
-        self.lines += [*self.verdicts(), f"object {uri} {octets.hex()}"]
+        for part in (*self.verdicts(), ("object", uri, octets.hex())):
+            self.tell(*part)
 
     def unsay(self, row):
         """Takes a verdict out."""
         self.octets.signer.verdicts.remove(row)
-        self.lines.append(" ".join(["unsaid", *(digest.hex() for digest in row)]))
+        self.tell("unsaid", *(digest.hex() for digest in row))
 
     def clear(self, world, uri):
         """Takes an object out."""
         del world.at[uri]
-        self.lines.append(f"without {uri}")
+        self.tell("without", uri)
 
-    def ask(self, question, *answer):
-        self.lines.append(question)
+    def ask(self, words, *answer):
+        self.tell(*words)
         self.answers += answer
         self.count += 1
 
@@ -217,12 +221,15 @@ class Asked:
         walked = Walked(world) if stated is None else None
         lines = [*stated, *witnesses, "."] if stated is not None else list(walked.lines())
         assert lines == [*rpki_model.lines(found), *witnesses, "."]
-        self.ask("walk", *lines)
+        self.ask(["walk"], *lines)
         return walked
+
+    def judge(self, name, uri, chain, answer):
+        self.ask(["judge", name, ",".join(chain), uri], answer)
 
     def reach(self, world, uris):
         held = reached(world, uris)
-        self.ask(" ".join(["reach", *uris]), reach_text(held))
+        self.ask(["reach", ",".join(uris)], reach_text(held))
         return held
 
 
@@ -443,7 +450,7 @@ def forged(chance, world, uri):
 def ask_depth(chance, asked, world, walked):
     """Asks the world at another depth."""
     depth, world.depth = world.depth, chance.choice([n for n in range(1, 5) if n != world.depth])
-    asked.lines.append(f"depth {world.depth}")
+    asked.tell("depth", str(world.depth))
     other = asked.walk(world)
     assert_kept(*((other, walked) if world.depth < depth else (walked, other)))
     return other
@@ -499,7 +506,7 @@ def ask_cut_down(asked, world, walked):
         for other in [at for at in world.at if at not in named]:
             asked.clear(world, other)
         assert judged(world, name, uri, chain) == f"yes {len(chain)}"
-        asked.ask(" ".join(["judge", name, uri, *chain]), f"yes {len(chain)}")
+        asked.judge(name, uri, chain, f"yes {len(chain)}")
 
 
 def ask_traces(chance, asked, world, walked):
@@ -507,7 +514,7 @@ def ask_traces(chance, asked, world, walked):
     for name, uri, chain in traces(chance, world, walked):
         answer = judged(world, name, uri, chain)
         assert answer == (f"yes {len(chain)}" if (uri, name, chain) in walked.witnesses else "no")
-        asked.ask(" ".join(["judge", name, uri, *chain]), answer)
+        asked.judge(name, uri, chain, answer)
 
 
 def ask_by_chance(asked, count, seed):
@@ -528,21 +535,23 @@ def ask_by_hand(asked):
         world = world_said(lines)
         asked.world(world)
         for question, answer in questions.items():
-            if question == "walk":
+            what, *words = question.split()
+            if what == "walk":
                 asked.walk(world, answer)
+            elif what == "judge":
+                asked.judge(words[0], words[1], words[2:], *answer)
             else:
-                asked.ask(question, *answer)
+                asked.ask([what, ",".join(words)], *answer)
 
 
-def write():
-    """Writes the questions and answers that the gate asks."""
+def asked_at_the_gate():
+    """The lines that the gate asks, and those of the answers."""
     asked = Asked()
     ask_by_hand(asked)
     by_hand = asked.count
     ask_by_chance(asked, COUNT, 9286)
-    FOLDER.joinpath("stdin").write_text("".join(f"{line}\n" for line in asked.lines))
-    FOLDER.joinpath("stdout").write_text("".join(f"{line}\n" for line in asked.answers))
-    print(f"{asked.count} questions, {by_hand} of them about worlds made by hand")
+    print(f"{asked.count} questions about worlds, {by_hand} of them about worlds made by hand")
+    return asked
 
 
 def compare(program, count, seed):
@@ -560,13 +569,11 @@ def compare(program, count, seed):
 
 def main():
     parser = argparse.ArgumentParser(description="Worlds of certificates, their questions and answers.")
-    parser.add_argument("program", nargs="?")
+    parser.add_argument("program", help="crates/rpki_cases/out/rpki_cases")
     parser.add_argument("count", nargs="?", type=int, default=200)
     parser.add_argument("seed", nargs="?", type=int, default=1)
     given = parser.parse_args()
-    if given.program:
-        sys.exit(1 if compare(given.program, given.count, given.seed) else 0)
-    write()
+    sys.exit(1 if compare(given.program, given.count, given.seed) else 0)
 
 
 if __name__ == "__main__":

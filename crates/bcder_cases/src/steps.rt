@@ -1,6 +1,7 @@
 //! Steps, of which the answers stand in a row.
 
 use answers::{Answer, count_of};
+use bcder::Tag;
 use std::alloc::Global;
 
 /// A step: a name, and up to two words for it.
@@ -28,9 +29,28 @@ impl<'a> Step<'a> {
         count_of(self.first)
     }
 
+    /// The tag of the second word, and the word after it.
+    pub fn tag_and_word(self) -> (Tag, &'a str) {
+        let (name, word) = self.second.split_once(' ').unwrap_or((self.second, ""));
+        (named_tag(name), word)
+    }
+
     /// The first word as an octet; 0 where it is none.
     pub fn octet(self) -> u8 {
         self.first.parse::<u8>().unwrap_or(0)
+    }
+}
+
+/// The tag with that name; NULL where none has it.
+pub fn named_tag(name: &str) -> Tag {
+    match name {
+        "BOOLEAN" => Tag::BOOLEAN,
+        "INTEGER" => Tag::INTEGER,
+        "OCTET_STRING" => Tag::OCTET_STRING,
+        "SEQUENCE" => Tag::SEQUENCE,
+        "SET" => Tag::SET,
+        "CTX_0" => Tag::CTX_0,
+        _ => Tag::NULL,
     }
 }
 

@@ -1,4 +1,4 @@
-//! A source that gives what it is asked for, and fails where that is wanted.
+//! A source that gives what it is asked for, and fails or has no memory where that is wanted.
 
 ghost use Rattle.std.specs.Prelude.{◌-◌, ◌^◌, ◌<◌, ◌≤◌, length};
 
@@ -30,6 +30,10 @@ pub struct Trickle<'a> {
     good: usize,
     // How many octets can be given: to ask for more fails, each time.
     most: usize,
+    // How many requests are answered before one that fails.
+    before: usize,
+    // How many requests are made before there is memory for octets that are kept.
+    dry: usize,
     ghost there: { good ≤ length octets.now },
     ghost small: { length octets.now < 2 ^ 63 },
 }
@@ -42,6 +46,8 @@ impl<'a> Trickle<'a> {
             taken: 0,
             good: 0,
             most: usize::MAX,
+            before: usize::MAX,
+            dry: 0,
         }
     }
 
@@ -49,6 +55,20 @@ impl<'a> Trickle<'a> {
     pub fn failing_above(octets: &'a [u8], most: usize) -> Trickle<'a> {
         let mut source = Trickle::new(octets);
         source.most = most;
+        source
+    }
+
+    /// Answers so many requests, and then fails once.
+    pub fn failing_after(octets: &'a [u8], before: usize) -> Trickle<'a> {
+        let mut source = Trickle::new(octets);
+        source.before = before;
+        source
+    }
+
+    /// Has memory from so many requests on.
+    pub fn dry(octets: &'a [u8], dry: usize) -> Trickle<'a> {
+        let mut source = Trickle::new(octets);
+        source.dry = dry;
         source
     }
 }
@@ -70,6 +90,12 @@ impl<'a> Source for Trickle<'a> {
 
     fn request(&mut self, len: usize) -> Result<usize, Fault> {
         let wanted = len.min(self.octets.len());
+        self.dry = self.dry.saturating_sub(1);
+        if self.before == 0 {
+            self.before = usize::MAX;
+            return Err(Fault);
+        }
+        self.before = self.before.saturating_sub(1);
         if wanted > self.most {
             return Err(Fault);
         }
@@ -82,6 +108,9 @@ impl<'a> Source for Trickle<'a> {
     }
 
     fn bytes(&self, alloc: Global, start: usize, end: usize) -> Result<Bytes, AllocError> {
+        if self.dry > 0 {
+            return Err(AllocError);
+        }
         Bytes::copy_from_slice(alloc, &self.octets[start..end])
     }
 
@@ -91,6 +120,8 @@ impl<'a> Source for Trickle<'a> {
             taken: self.taken.saturating_add(len),
             good: self.good - len,
             most: self.most.saturating_sub(len),
+            before: self.before,
+            dry: self.dry,
         };
     }
 }

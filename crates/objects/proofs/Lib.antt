@@ -1,0 +1,13 @@
+pub mod Alone
+pub mod AspaAgain
+pub mod Kept
+pub mod Made
+pub mod ManifestAgain
+pub mod OfFamily
+pub mod RoaAgain
+pub mod SignedAgain
+pub mod Standing
+pub mod Taking
+pub mod Texts
+pub mod Trees
+pub mod Writing

@@ -34,7 +34,10 @@
 //! Each part's page has the rest.
 #![tactic(auto)]
 
+mod again;
 pub mod aspa;
+mod attested;
+mod issued;
 pub mod laws;
 pub mod manifest;
 pub mod roa;

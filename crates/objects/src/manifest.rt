@@ -1,7 +1,7 @@
 //! Manifests (RFC 9286), their files and hashes.
 
-pub use objects_again::{FileUris, ManifestBuilder, ManifestError, ManifestFiles};
-pub use objects_issued::IntoManifest;
+pub use crate::again::{FileUris, ManifestBuilder, ManifestError, ManifestFiles};
+pub use crate::issued::IntoManifest;
 pub use objects_manifest::{
     FileAndHash, FileList, FileListIter, ManifestContent, ManifestHash, ManifestHashMismatch,
 };

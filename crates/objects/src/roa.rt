@@ -1,6 +1,6 @@
 //! Route origin attestations (RFC 9582), their addresses and builders.
 
-pub use objects_issued::{FinalizeRoa, ToIpResources, are_of_family};
+pub use crate::issued::{FinalizeRoa, ToIpResources, are_of_family};
 pub use objects_roa::{
     FriendlyRoaIpAddress, FriendlyRoaIpAddressIter, RoaBuilder, RoaIpAddress, RoaIpAddressIter,
     RoaIpAddresses, RoaIpAddressesBuilder, RouteOriginAttestation, RouteOriginIter,

@@ -1,6 +1,6 @@
 //! Signed objects of any kind (RFC 5652 5; RFC 6488): read, validated, written again and built, and what a signer signs.
 
-pub use objects_again::{
+pub use crate::again::{
     DecodeContent, EncodeAttributes, EncodeObject, MessageDigest, ObjectValues, SignedAttrs,
 };
 pub use objects_built::SignedObjectBuilder;

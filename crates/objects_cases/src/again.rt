@@ -6,7 +6,7 @@ use anyhow::Result;
 use bcder::Mode;
 use bcder::encode::Values;
 use bytes::Bytes;
-use objects_again::{EncodeObject, ObjectValues};
+use objects::sigobj::{EncodeObject, ObjectValues};
 use objects_kinds::{Aspa, Manifest, Roa, SignedObject};
 use std::alloc::Global;
 

@@ -6,7 +6,7 @@ use anyhow::{Result, anyhow};
 use bytes::Bytes;
 use certs_uri::Rsync;
 use certs_x509::Serial;
-use objects_again::{ManifestBuilder, ManifestFiles};
+use objects::manifest::{ManifestBuilder, ManifestFiles};
 use objects_manifest::ManifestContent;
 use objects_written::EncodeManifest;
 use std::alloc::Global;

@@ -1,6 +1,6 @@
-//! Questions about signed objects, what they have in them, what is written of them again, and locators, as data:
-//! each line of standard input asks one, by words with a tab between, and each line of standard
-//! output answers one. The first word names what is asked.
+//! Questions about signed objects, what they have in them, what is written of them again, objects that are built, and
+//! locators, as data: each line of standard input asks one, by words with a tab between, and each line of standard output
+//! answers one. The first word names what is asked.
 //!
 //! `tests/objects_cases.py` writes both, and knows the answers by means of its own.
 #![tactic(auto)]
@@ -8,6 +8,7 @@
 mod addresses;
 mod again;
 mod aspa;
+mod built;
 mod cert;
 mod files;
 mod locator;
@@ -41,6 +42,7 @@ impl Questions for Objects {
             "uris" => files::uris(alloc, answer, rest),
             "make" => files::make(alloc, answer, rest),
             "addresses" => addresses::answer(alloc, answer, rest),
+            "built" => built::answer(alloc, answer, rest),
             _ => unknown(),
         }
     }

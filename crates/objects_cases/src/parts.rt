@@ -5,7 +5,7 @@ use answers::{Answer, pieces_of, unknown};
 use anyhow::Result;
 use bcder::Mode;
 use bcder::decode::{Constructed, Decode, DecodeError, SliceSource};
-use objects_again::{DecodeContent, EncodeAttributes, SignedAttrs};
+use objects::sigobj::{DecodeContent, EncodeAttributes, SignedAttrs};
 use objects_kinds::SignedObject;
 use std::alloc::Global;
 use std::convert::Infallible;

@@ -1,18 +1,13 @@
 //! Questions about bundles: octets that are decoded and written again, and parts that are put together.
 
-use crate::octets::{bundle_of, number_of};
+use crate::octets::{bundle_of, digest_of, number_of, shared};
+use crate::parts::Parts;
 use crate::shown::{tell_lines, tell_octets};
 use answers::{Answer, pieces_of};
 use anyhow::{Result, anyhow};
 use bytes::Bytes;
-use hex::FromHex;
 use rpki_bundle::{Bundle, BundleError, Locator, Object, Time, Verdict};
 use std::alloc::Global;
-
-// The octets of a word, as a bundle shares them.
-fn shared(alloc: Global, word: &str) -> Result<Bytes> {
-    Ok(Bytes::from_vec(pieces_of(alloc, word)?)?)
-}
 
 // Two words with a colon between.
 fn pair(text: &str) -> Result<(&str, &str)> {
@@ -30,20 +25,13 @@ fn shared_pair(alloc: Global, text: &str) -> Result<(Bytes, Bytes)> {
     Ok((one, other))
 }
 
-fn digest(digits: &str) -> Result<[u8; 32]> {
-    match <[u8; 32]>::from_hex(digits.as_bytes()) {
-        Ok(digest) => Ok(digest),
-        Err(_) => Err(anyhow!("no digest")),
-    }
-}
-
 fn verdict(text: &str) -> Result<Verdict> {
     let (key, rest) = pair(text)?;
     let (message, signature) = pair(rest)?;
     Ok(Verdict {
-        key: digest(key)?,
-        message: digest(message)?,
-        signature: digest(signature)?,
+        key: digest_of(key)?,
+        message: digest_of(message)?,
+        signature: digest_of(signature)?,
     })
 }
 
@@ -73,34 +61,12 @@ fn push_verdicts(verdicts: &mut Vec<Verdict>, word: &str) -> Result<()> {
     Ok(())
 }
 
-/// The parts of a bundle beside its moment and its depth.
-#[derive(Drop)]
-struct Parts {
-    locators: Vec<Locator>,
-    objects: Vec<Object>,
-    verdicts: Vec<Verdict>,
-}
-
-impl Parts {
-    fn new(alloc: Global) -> Self {
-        Parts {
-            locators: Vec::new(alloc),
-            objects: Vec::new(alloc),
-            verdicts: Vec::new(alloc),
-        }
-    }
-
-    // Adds those of three words.
-    fn read(&mut self, alloc: Global, names: &str, uris: &str, digests: &str) -> Result<()> {
-        push_locators(&mut self.locators, alloc, names)?;
-        push_objects(&mut self.objects, alloc, uris)?;
-        push_verdicts(&mut self.verdicts, digests)
-    }
-
-    // The bundle of them.
-    fn bundle(self, moment: Time, depth: u8) -> Result<Bundle, BundleError> {
-        Bundle::from_parts(moment, depth, self.locators, self.objects, self.verdicts)
-    }
+// Adds the parts of three words.
+fn read_parts(parts: &mut Parts, alloc: Global, words: [&str; 3]) -> Result<()> {
+    let [names, uris, digests] = words;
+    push_locators(&mut parts.locators, alloc, names)?;
+    push_objects(&mut parts.objects, alloc, uris)?;
+    push_verdicts(&mut parts.verdicts, digests)
 }
 
 // All that the getters of a bundle tell.
@@ -158,7 +124,7 @@ fn make_parts(alloc: Global, answer: &mut Answer, words: [&str; 5]) -> Result<()
     };
     let depth = number_of(depth)?.min(255) as u8;
     let mut parts = Parts::new(alloc);
-    match parts.read(alloc, names, uris, digests) {
+    match read_parts(&mut parts, alloc, [names, uris, digests]) {
         Ok(()) => {
             made(alloc, answer, parts.bundle(moment, depth));
             Ok(())

@@ -1,7 +1,7 @@
 //! Questions about witnesses: which ones a walk lists, what a judge says of one, and what some URIs can reach.
 
 use crate::noting::Noting;
-use crate::octets::bundle_of;
+use crate::octets::{bundle_of, text_of};
 use crate::shown::tell_lines;
 use answers::Answer;
 use anyhow::{Result, anyhow};
@@ -11,11 +11,6 @@ use rpki_commands::{
 };
 use std::alloc::Global;
 use std::rc::Rc;
-
-// The octets of a text.
-fn text_of(alloc: Global, text: &str) -> Result<Bytes> {
-    Ok(Bytes::copy_from_slice(alloc, text.as_bytes())?)
-}
 
 // The URIs of a word, with commas between; of an empty word none.
 fn uris_of(alloc: Global, word: &str) -> Result<Vec<Bytes>> {
@@ -147,8 +142,8 @@ fn reached(alloc: Global, answer: &mut Answer, bundle: &Bundle, uris: &[Bytes]) 
     Ok(())
 }
 
-// The answer to a question about a bundle.
-fn of_bundle(
+/// The answer to a question about a bundle's witnesses.
+pub fn of_bundle(
     alloc: Global,
     answer: &mut Answer,
     question: &str,

@@ -2,6 +2,8 @@
 
 use answers::pieces_of;
 use anyhow::{Result, anyhow};
+use bytes::Bytes;
+use hex::FromHex;
 use rpki_bundle::Bundle;
 use std::alloc::Global;
 
@@ -11,6 +13,24 @@ pub fn bundle_of(alloc: Global, word: &str) -> Result<Bundle> {
     let bundle = Bundle::decode(alloc, octets.as_slice());
     drop(octets);
     Ok(bundle?)
+}
+
+/// The octets of a word, as a bundle shares them.
+pub fn shared(alloc: Global, word: &str) -> Result<Bytes> {
+    Ok(Bytes::from_vec(pieces_of(alloc, word)?)?)
+}
+
+/// The octets of a text.
+pub fn text_of(alloc: Global, text: &str) -> Result<Bytes> {
+    Ok(Bytes::copy_from_slice(alloc, text.as_bytes())?)
+}
+
+/// The digest of hexadecimal digits.
+pub fn digest_of(digits: &str) -> Result<[u8; 32]> {
+    match <[u8; 32]>::from_hex(digits.as_bytes()) {
+        Ok(digest) => Ok(digest),
+        Err(_) => Err(anyhow!("no digest")),
+    }
 }
 
 /// The number of a word.

@@ -1,5 +1,0 @@
-use Rattle.std.proofs.Common.{◌∙◌}
-use Rattle.bcder_strings_cases.proofs.octets.string_and_rest.Goals as goal
-
-pub returns : goal.returns
-returns c = record { reference = c.from_content.ensures.reads.same.reference ∙ c.constructed.ensures.same.reference }

@@ -1,0 +1,61 @@
+//! Fields by those that each certificate has: the serial number, the issuer, the validity, the subject, the key, what it is
+//! for, and the policy.
+
+use crate::built::fields::{key_of, name_of, overclaim_of, serial_of, usage_of, validity_of};
+use answers::word_at;
+use bcder::Mode;
+use certs_cert::{KeyUsage, TbsCert};
+use certs_x509::{Name, PublicKey, Serial, Validity};
+use resources::Overclaim;
+use rpki_digests::Fips;
+use std::alloc::Global;
+
+// The fields that own nothing.
+#[derive(Clone, Copy)]
+struct Plain {
+    serial: Serial,
+    validity: Validity,
+    usage: KeyUsage,
+    overclaim: Overclaim,
+}
+
+// These fields of the words.
+fn plain_of(alloc: Global, words: &[&str]) -> Option<Plain> {
+    Some(Plain {
+        serial: serial_of(alloc, word_at(words, 0))?,
+        validity: validity_of(word_at(words, 2))?,
+        usage: usage_of(word_at(words, 5)),
+        overclaim: overclaim_of(word_at(words, 6)),
+    })
+}
+
+// The fields of a certificate.
+fn fresh(
+    alloc: Global,
+    plain: Plain,
+    issuer: Name,
+    subject: Option<Name>,
+    key: PublicKey,
+) -> Option<TbsCert> {
+    let Plain {
+        serial,
+        validity,
+        usage,
+        overclaim,
+    } = plain;
+    TbsCert::new(
+        alloc, serial, issuer, validity, subject, key, usage, overclaim, &Fips,
+    )
+    .ok()
+}
+
+/// The fields of the first seven words; the subject's name is the key's where the word for it has none.
+pub fn made(alloc: Global, words: &[&str]) -> Option<TbsCert> {
+    let plain = plain_of(alloc, words)?;
+    let key = key_of(alloc, word_at(words, 4))?;
+    let subject = name_of(alloc, Mode::Der, word_at(words, 3));
+    match name_of(alloc, Mode::Der, word_at(words, 1)) {
+        Some(issuer) => fresh(alloc, plain, issuer, subject, key),
+        None => None,
+    }
+}

@@ -1,0 +1,7 @@
+use Rattle.std.proofs.Common.{◌∙◌}
+use Rattle.objects.proofs.Writing.{cert_stop}
+use Rattle.objects.proofs.again.cert.cert_text.Goals as goal
+
+pub returns-clause-refused : goal.returns-clause-refused
+returns-clause-refused c =
+    cert_stop c.args.cert.now c.encode_ref-value.result (c.encode_ref-value.ensures ∙ c.in_ok-signed.ensures.value) c.in_ok-signed.ensures.stands c.to_captured.result c.to_captured.ensures.refused

@@ -1,0 +1,8 @@
+use Rattle.std.proofs.Common.{ap}
+use Rattle.objects.specs.objects_forms.Aspas.{Aspa}
+use Rattle.objects_aspa.proofs.Resources.{lists_alone}
+use Rattle.objects.proofs.attested.builder.AspaBuilder.as_resources.Goals as goal
+
+pub returns : goal.returns
+returns c =
+    lists_alone _ _ _ _ _ _ (ap (λ (a : Aspa). a.customer) c.self.view_is) c.new-builder.ensures c.in_ok-push.ensures.ok c.in_ok-blocks.ensures c.blocks-resources.ensures.choice

@@ -1,0 +1,11 @@
+use Rattle.std.proofs.Common.{IfOk, subst}
+use Rattle.objects.specs.bcder_tree.declared.mode.Mode.TheVariants.{Der}
+use Rattle.objects.specs.objects_forms.Aspas.{Aspa}
+use Rattle.objects.specs.Written.{aspa}
+use Rattle.objects.proofs.AspaAgain.{aspa_told}
+use Rattle.objects.proofs.attested.builder.AspaBuilder.to_octets.Goals as goal
+
+pub returns-clause-again : goal.returns-clause-again
+returns-clause-again c =
+    aspa_told c.args.self.now c.to_captured.result
+    (subst (λ (a : Aspa). IfOk c.to_captured.result (λ k. (aspa a).writes Der k.octets)) c.encode_ref-value.ensures c.to_captured.ensures.captured)

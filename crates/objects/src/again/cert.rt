@@ -1,0 +1,42 @@
+//! Certificates that are carried, in DER.
+
+ghost use Rattle.std.specs.Prelude.{◌≡◌, IfErr, IfOk};
+ghost use Rattle.objects_frame.specs.bcder_tree.declared.mode.Mode.TheVariants.{Der};
+ghost use Rattle.objects_frame.specs.bcder_content.Kept.{SpellsValues};
+ghost use Rattle.objects.specs.Again.{CertRefused, WritesCertAgain, cert_value};
+
+use crate::again::der::in_der;
+use certs_cert::{Cert, SignedData};
+use certs_key::{Captured, Mode, Signature};
+use certs_written::{EncodeError, Values};
+use std::alloc::Global;
+
+// The certificate's signed octets as values in DER, with its signature of whole octets.
+fn signed_again(alloc: Global, cert: &Cert) -> Result<SignedData, EncodeError>
+    ensures value { IfOk result (λ s. s ≡ cert_value cert.now) }
+    ensures stands { IfOk result (λ s. SpellsValues Der cert.now.signed.message) }
+    ensures refused { IfErr result (CertRefused cert.now) }
+{
+    let signed = cert.signed_data();
+    let message = in_der(alloc, signed.data().as_slice())?;
+    let signature = signed.signature();
+    match signature.bits().octet_bytes() {
+        Ok(octets) => Ok(SignedData::new(message, Signature::new(*signature.algorithm(), octets))),
+        Err(_) => {
+            drop(message);
+            Err(EncodeError::Memory)
+        }
+    }
+}
+
+/// The certificate in DER: what was signed as it stood. `CerUnsupported` where that isn't values in DER.
+pub(crate) fn cert_text(alloc: Global, cert: &Cert) -> Result<Captured, EncodeError>
+    ensures written { IfOk result (λ c. WritesCertAgain cert.now c.octets) }
+    ensures mode { IfOk result (λ c. c.mode ≡ Der) }
+    ensures stands { IfOk result (λ c. SpellsValues Der cert.now.signed.message) }
+    ensures refused { IfErr result (CertRefused cert.now) }
+{
+    let signed = signed_again(alloc, cert)?;
+    let value = signed.encode_ref();
+    value.to_captured(alloc, Mode::Der)
+}

@@ -1,0 +1,19 @@
+//! Manifests, written again (RFC 9286 4).
+
+use crate::again::object::{EncodeObject, ObjectValues};
+use certs_key::Captured;
+use certs_written::EncodeError;
+use objects_kinds::Manifest;
+use std::alloc::Global;
+
+impl EncodeObject for Manifest {
+    ghost fields = { λ k. k.signed };
+
+    fn encode_ref(&self, alloc: Global) -> Result<ObjectValues<'_>, EncodeError> {
+        self.signed().encode_ref(alloc)
+    }
+
+    fn to_captured(&self, alloc: Global) -> Result<Captured, EncodeError> {
+        self.signed().to_captured(alloc)
+    }
+}

@@ -1,0 +1,19 @@
+//! Route origin attestations, written again (RFC 9582 3).
+
+use crate::again::object::{EncodeObject, ObjectValues};
+use certs_key::Captured;
+use certs_written::EncodeError;
+use objects_kinds::Roa;
+use std::alloc::Global;
+
+impl EncodeObject for Roa {
+    ghost fields = { λ k. k.signed };
+
+    fn encode_ref(&self, alloc: Global) -> Result<ObjectValues<'_>, EncodeError> {
+        self.signed().encode_ref(alloc)
+    }
+
+    fn to_captured(&self, alloc: Global) -> Result<Captured, EncodeError> {
+        self.signed().to_captured(alloc)
+    }
+}

@@ -1,0 +1,131 @@
+//! Provider attestations that are signed (draft-ietf-sidrops-aspa-profile 2, 4).
+
+ghost use Rattle.std.specs.Prelude.{◌≡◌, IfOk};
+ghost use Rattle.objects.specs.bcder_tree.declared.mode.Mode.TheVariants.{Der};
+ghost use Rattle.objects.specs.certs_key.Digesting.{digests_of};
+ghost use Rattle.objects.specs.resources_chain.declared.choice.ResourcesChoice.TheVariants.{Missing};
+ghost use Rattle.objects_built.specs.Builders.{IsSigned};
+ghost use Rattle.objects.specs.Attested.{AttestsCustomer, IsAspaFor};
+ghost use Rattle.objects.specs.Written.{aspa};
+
+use crate::attested::builder::AspaBuilder;
+use certs_extension::{AsResources, IpResources};
+use certs_key::encode::EncodeError;
+use certs_key::{Captured, Digester, Signer, SigningError};
+use objects_built::SignedObjectBuilder;
+use std::alloc::{AllocError, Global};
+
+// id-ct-ASPA, 1.2.840.113549.1.9.16.1.49 (draft-ietf-sidrops-aspa-profile 2).
+const CONTENT_TYPE: &[u8] = &[42, 134, 72, 134, 247, 13, 1, 9, 16, 1, 49];
+
+// The content of an attestation, in DER.
+fn content_of<E>(alloc: Global, attestation: &AspaBuilder) -> Result<Captured, SigningError<E>>
+    ensures { IfOk result (λ c. (aspa attestation.now).writes Der c.octets) }
+{
+    match attestation.to_octets(alloc) {
+        Ok(octets) => Ok(octets),
+        Err(EncodeError::Memory) => Err(SigningError::Memory),
+        Err(_) => Err(SigningError::TooLong),
+    }
+}
+
+// The builder's fields with these AS numbers, and without addresses.
+fn with_numbers(builder: SignedObjectBuilder, asn: AsResources) -> SignedObjectBuilder
+    ensures { result ≡ record builder { v4 = Missing; v6 = Missing; asn = asn } }
+{
+    let mut builder = builder;
+    builder.set_v4_resources(IpResources::missing());
+    builder.set_v6_resources(IpResources::missing());
+    builder.set_as_resources(asn);
+    builder
+}
+
+// The builder's fields with the customer of an attestation as resources.
+fn attesting(
+    alloc: Global,
+    builder: SignedObjectBuilder,
+    attestation: &AspaBuilder,
+) -> Result<SignedObjectBuilder, AllocError>
+    ensures { IfOk result (AttestsCustomer builder attestation.now) }
+{
+    match attestation.as_resources(alloc) {
+        Ok(asn) => Ok(with_numbers(builder, asn)),
+        Err(error) => {
+            drop(builder);
+            Err(error)
+        }
+    }
+}
+
+// The object of an attestation.
+fn sign<S: Signer, D: Digester>(
+    alloc: Global,
+    attestation: &AspaBuilder,
+    builder: SignedObjectBuilder,
+    signer: &S,
+    issuer_key: &S::KeyId,
+    digester: &D,
+) -> Result<Captured, SigningError<S::Error>>
+    ensures built { IfOk result (λ c. IsAspaFor
+        (digests_of D.sha256_digest D.sha1_digest digester.now) builder attestation.now
+        c.octets) }
+    ensures signed { IfOk result (λ c. (x : IsAspaFor
+        (digests_of D.sha256_digest D.sha1_digest digester.now) builder attestation.now
+        c.octets) × IsSigned (S.has_key signer.now issuer_key.now)
+        (S.signs signer.now issuer_key.now) (S.signs_once signer.now) x.built) }
+    ensures mode { IfOk result (λ c. c.mode ≡ Der) }
+{
+    match content_of(alloc, attestation) {
+        Ok(content) => match attesting(alloc, builder, attestation) {
+            Ok(fields) => {
+                let octets = fields.finalize(
+                    alloc,
+                    CONTENT_TYPE,
+                    content.as_slice(),
+                    signer,
+                    issuer_key,
+                    digester,
+                );
+                drop(content);
+                octets
+            }
+            Err(_) => {
+                drop(content);
+                Err(SigningError::Memory)
+            }
+        },
+        Err(error) => {
+            drop(builder);
+            Err(error)
+        }
+    }
+}
+
+impl AspaBuilder {
+    /// The octets of a signed object with this content, in DER, with the builder's fields, the customer's AS number as
+    /// resources, and no addresses (draft-ietf-sidrops-aspa-profile 4). It is signed by a key that the signer makes for it
+    /// alone, whose certificate the named key of the signer signs. Readers accept it where `has_lawful_providers` says so.
+    ///
+    /// What the signer refuses is refused as it says. It is `TooLong` where a content would have more than 2^32 - 1 octets,
+    /// and where a name is kept in another mode than DER.
+    pub fn finalize<S: Signer, D: Digester>(
+        self,
+        alloc: Global,
+        builder: SignedObjectBuilder,
+        signer: &S,
+        issuer_key: &S::KeyId,
+        digester: &D,
+    ) -> Result<Captured, SigningError<S::Error>>
+        ensures built { IfOk result (λ c. IsAspaFor
+            (digests_of D.sha256_digest D.sha1_digest digester.now) builder self c.octets) }
+        ensures signed { IfOk result (λ c. (x : IsAspaFor
+            (digests_of D.sha256_digest D.sha1_digest digester.now) builder self c.octets)
+            × IsSigned (S.has_key signer.now issuer_key.now)
+            (S.signs signer.now issuer_key.now) (S.signs_once signer.now) x.built) }
+        ensures mode { IfOk result (λ c. c.mode ≡ Der) }
+    {
+        let octets = sign(alloc, &self, builder, signer, issuer_key, digester);
+        drop(self);
+        octets
+    }
+}

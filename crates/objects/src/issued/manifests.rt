@@ -1,0 +1,125 @@
+//! Manifests that are signed (RFC 9286 4, 5.1).
+
+ghost use Rattle.std.specs.Prelude.{◌≡◌, IfOk};
+ghost use Rattle.objects.specs.bcder_tree.declared.mode.Mode.TheVariants.{Der};
+ghost use Rattle.objects.specs.certs_key.Digesting.{digests_of};
+ghost use Rattle.objects.specs.objects_forms.Manifests.{Manifest};
+ghost use Rattle.objects_built.specs.Builders.{IsBuilt, IsSigned};
+ghost use Rattle.objects.specs.Issued.{IsManifestFor, inheriting};
+ghost use Rattle.objects.specs.objects_forms.Identifiers as id;
+ghost use Rattle.objects.specs.objects_written.Manifests.{manifest};
+
+use certs_key::encode::EncodeError;
+use certs_key::{Captured, Digester, Signer, SigningError};
+use objects_built::SignedObjectBuilder;
+use objects_manifest::ManifestContent;
+use objects_written::EncodeManifest;
+use std::alloc::Global;
+
+// id-ct-rpkiManifest, 1.2.840.113549.1.9.16.1.26 (RFC 9286 4.1).
+const CONTENT_TYPE: &[u8] = &[42, 134, 72, 134, 247, 13, 1, 9, 16, 1, 26];
+
+// The content of a manifest, in DER.
+fn content_of<E>(alloc: Global, content: &ManifestContent) -> Result<Captured, SigningError<E>>
+    ensures { IfOk result (λ c. (manifest content.now).writes Der c.octets) }
+{
+    match content.to_octets(alloc) {
+        Ok(octets) => Ok(octets),
+        Err(EncodeError::Memory) => Err(SigningError::Memory),
+        Err(_) => Err(SigningError::TooLong),
+    }
+}
+
+// The builder, with all resources inherited from the issuer.
+fn inherits(builder: SignedObjectBuilder) -> SignedObjectBuilder
+    ensures { result ≡ inheriting builder }
+{
+    let mut builder = builder;
+    builder.set_v4_resources_inherit();
+    builder.set_v6_resources_inherit();
+    builder.set_as_resources_inherit();
+    builder
+}
+
+/// Manifests that are signed.
+pub trait IntoManifest: Sized {
+    // What the manifest says.
+    ghost content: { Self → Manifest };
+
+    /// The octets of a signed object with this content, in DER, with the builder's fields and all resources of the issuer
+    /// (RFC 9286 5.1). It is signed by a key that the signer makes for it alone, whose certificate the named key of the
+    /// signer signs.
+    ///
+    /// What the signer refuses is refused as it says. It is `TooLong` where a content would have more than 2^32 - 1 octets,
+    /// and where a name is kept in another mode than DER.
+    fn into_manifest<S: Signer, D: Digester>(
+        self,
+        alloc: Global,
+        builder: SignedObjectBuilder,
+        signer: &S,
+        issuer_key: &S::KeyId,
+        digester: &D,
+    ) -> Result<Captured, SigningError<S::Error>>
+        ensures built { IfOk result (λ c. IsManifestFor
+            (digests_of D.sha256_digest D.sha1_digest digester.now) builder (content self)
+            c.octets) }
+        ensures signed { IfOk result (λ c. (x : IsManifestFor
+            (digests_of D.sha256_digest D.sha1_digest digester.now) builder (content self)
+            c.octets) × IsSigned (S.has_key signer.now issuer_key.now)
+            (S.signs signer.now issuer_key.now) (S.signs_once signer.now) x.built) }
+        ensures mode { IfOk result (λ c. c.mode ≡ Der) };
+}
+
+impl IntoManifest for ManifestContent {
+    ghost content = { λ m. m };
+
+    fn into_manifest<S: Signer, D: Digester>(
+        self,
+        alloc: Global,
+        builder: SignedObjectBuilder,
+        signer: &S,
+        issuer_key: &S::KeyId,
+        digester: &D,
+    ) -> Result<Captured, SigningError<S::Error>> {
+        let written = content_of(alloc, &self);
+        drop(self);
+        match written {
+            Ok(content) => sign(alloc, content, builder, signer, issuer_key, digester),
+            Err(error) => {
+                drop(builder);
+                Err(error)
+            }
+        }
+    }
+}
+
+// The object of a content in DER.
+fn sign<S: Signer, D: Digester>(
+    alloc: Global,
+    content: Captured,
+    builder: SignedObjectBuilder,
+    signer: &S,
+    issuer_key: &S::KeyId,
+    digester: &D,
+) -> Result<Captured, SigningError<S::Error>>
+    ensures built { IfOk result (λ c. IsBuilt
+        (digests_of D.sha256_digest D.sha1_digest digester.now) (inheriting builder) id.manifest
+        content.octets c.octets) }
+    ensures signed { IfOk result (λ c. (x : IsBuilt
+        (digests_of D.sha256_digest D.sha1_digest digester.now) (inheriting builder) id.manifest
+        content.octets c.octets) × IsSigned (S.has_key signer.now issuer_key.now)
+        (S.signs signer.now issuer_key.now) (S.signs_once signer.now) x) }
+    ensures mode { IfOk result (λ c. c.mode ≡ Der) }
+{
+    let inheriting = inherits(builder);
+    let octets = inheriting.finalize(
+        alloc,
+        CONTENT_TYPE,
+        content.as_slice(),
+        signer,
+        issuer_key,
+        digester,
+    );
+    drop(content);
+    octets
+}

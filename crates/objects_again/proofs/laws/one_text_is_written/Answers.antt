@@ -1,5 +1,0 @@
-use Rattle.objects_again.proofs.Texts.{one_again}
-use Rattle.objects_again.proofs.laws.one_text_is_written.Goals as goal
-
-pub returns : goal.returns
-returns c = one_again

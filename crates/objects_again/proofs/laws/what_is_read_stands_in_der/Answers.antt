@@ -1,5 +1,0 @@
-use Rattle.objects_again.proofs.Standing.{object_stands}
-use Rattle.objects_again.proofs.laws.what_is_read_stands_in_der.Goals as goal
-
-pub returns : goal.returns
-returns c = object_stands

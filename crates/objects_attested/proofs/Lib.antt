@@ -1,3 +1,0 @@
-pub mod Alone
-pub mod AspaAgain
-pub mod SignedAgain

@@ -1,5 +1,0 @@
-use Rattle.objects_attested.proofs.Alone.{no_providers}
-use Rattle.objects_attested.proofs.builder.AspaBuilder.empty.Goals as goal
-
-pub returns : goal.returns
-returns c = no_providers c.args.customer_as.value c.new.result c.new.ensures

@@ -1,5 +1,0 @@
-use Rattle.objects_attested.proofs.AspaAgain.{aspa_text}
-use Rattle.objects_attested.proofs.laws.attestations_are_read_again.Goals as goal
-
-pub returns : goal.returns
-returns c = aspa_text

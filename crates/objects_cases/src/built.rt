@@ -1,0 +1,77 @@
+//! Questions about signed objects that are built of given fields, and about contents that are put together: words name the
+//! fields, and the answer has the octets of the object, and whether they are read as that object, or what was put together.
+
+mod addresses;
+mod attested;
+mod fields;
+mod files;
+mod issued;
+mod signer;
+mod told;
+
+use answers::{Answer, unknown};
+use anyhow::{Result, anyhow};
+use objects_built::SignedObjectBuilder;
+use rpki_digests::Fips;
+use signer::Stub;
+use std::alloc::Global;
+use told::say_built;
+
+// The object that is built, with a content of that type.
+fn built(
+    alloc: Global,
+    answer: &mut Answer,
+    builder: SignedObjectBuilder,
+    kind: &[u8],
+    content: &[u8],
+    signer: &Stub,
+) {
+    let built = builder.finalize(alloc, kind, content, signer, &(), &Fips);
+    say_built(alloc, answer, built);
+}
+
+// The answer to a question about a content and its type.
+fn answered(alloc: Global, answer: &mut Answer, words: &[&str], signer: &Stub) -> Result<()> {
+    let kind = fields::octets(alloc, words, "type")?;
+    let content = fields::octets(alloc, words, "content")?;
+    let builder = fields::builder_of(alloc, words)?;
+    built(
+        alloc,
+        answer,
+        builder,
+        kind.as_slice(),
+        content.as_slice(),
+        signer,
+    );
+    Ok(())
+}
+
+// The answer to a question, or why there is none.
+fn say(alloc: Global, answer: &mut Answer, words: &[&str]) -> Result<()> {
+    let [what, rest @ ..] = words else {
+        return Err(anyhow!("no question"));
+    };
+    match *what {
+        "build" => answered(alloc, answer, rest, &Stub::willing()),
+        "refuse" => answered(alloc, answer, rest, &Stub::refusing()),
+        "roa" => issued::roa(alloc, answer, rest, &Stub::willing()),
+        "refuse-roa" => issued::roa(alloc, answer, rest, &Stub::refusing()),
+        "manifest" => issued::manifest(alloc, answer, rest, &Stub::willing()),
+        "refuse-manifest" => issued::manifest(alloc, answer, rest, &Stub::refusing()),
+        "aspa" => attested::answer(alloc, answer, rest, &Stub::willing()),
+        "refuse-aspa" => attested::answer(alloc, answer, rest, &Stub::refusing()),
+        "providers" => attested::providers(alloc, answer, rest),
+        "addresses" => addresses::answer(alloc, answer, rest),
+        "pair" => files::pair(alloc, answer, rest),
+        "hash" => files::hash(alloc, answer, rest),
+        _ => unknown(),
+    }
+}
+
+/// The answer to a question about a signed object that is built, or a content that is put together.
+pub fn answer(alloc: Global, answer: &mut Answer, words: &[&str]) -> Result<()> {
+    if let Err(error) = say(alloc, answer, words) {
+        answer.say(&format_args!("refused: {error}"));
+    }
+    Ok(())
+}

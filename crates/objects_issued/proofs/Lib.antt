@@ -1,3 +1,0 @@
-pub mod ManifestAgain
-pub mod OfFamily
-pub mod RoaAgain
