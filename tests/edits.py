@@ -219,7 +219,9 @@ def groups(edits, folder):
 def try_group(group, folder, known):
     """The answers to the edits of a group by a check of their functions, None for those that have to be tried alone. Known
     is how each function of the crate as it stands ended."""
-    paths = {path.partition("::")[2] for edit in group for path in functions_of(edit, folder, known)}
+    # A closure is checked with the function that it stands in, and can't be named alone.
+    named = {path for edit in group for path in functions_of(edit, folder, known) if "::fn::" not in path}
+    paths = {path.partition("::")[2] for path in named}
     texts = {}
     for edit in group:
         texts = edit.applied(texts, folder) if texts is not None else None
