@@ -15,3 +15,5 @@ pub use Rattle.bcder.proofs.of_bcder_content.Taking
 pub use Rattle.bcder.proofs.of_bcder_content.Took
 pub use Rattle.bcder.proofs.of_bcder_content.Unique
 pub use Rattle.bcder.proofs.of_bcder_content.Within
+pub use Rattle.bcder.proofs.of_bcder_content.Anything
+pub use Rattle.bcder.proofs.of_bcder_content.Memories

@@ -8,6 +8,7 @@ pub mod Inner
 pub mod Extensions
 pub mod Slots
 pub mod Attributes
+pub mod Nodes
 -- What stands below, for the crates above.
 pub use Rattle.bcder.specs.bcder_bits as bcder_bits
 pub use Rattle.bcder.specs.bcder_content as bcder_content
@@ -17,3 +18,4 @@ pub use Rattle.bcder.specs.bcder_source as bcder_source
 pub use Rattle.bcder.specs.bcder_tree as bcder_tree
 pub use Rattle.bcder.specs.bcder_values as bcder_values
 pub use Rattle.bcder.specs.bcder_written as bcder_written
+pub use Rattle.bcder.specs.bcder_header as bcder_header

@@ -1,7 +1,7 @@
 //! Trees as text.
 
 use answers::Answer;
-use bcder_recursive::Node;
+use bcder_example::recursive::Node;
 
 /// More of the last word: the tag of a value, and after it the octets in hexadecimal digits, or the values in it.
 pub fn join(answer: &mut Answer, node: &Node) {

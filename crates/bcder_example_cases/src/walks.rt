@@ -6,7 +6,7 @@ use answers::{Answer, mode_of, octets_of, unknown};
 use anyhow::Result;
 use bcder::Mode;
 use bcder::decode::{Decode, DecodeError, SliceSource};
-use bcder_recursive::Node;
+use bcder_example::recursive::Node;
 use std::alloc::Global;
 use std::convert::Infallible;
 

@@ -1,7 +1,7 @@
 //! Questions about extensions that name URIs: which, the mode, and octets in hexadecimal digits, at whose front the
 //! value stands.
 
-use answers::{mode_of, octets_of};
+use answers::{Answer, mode_of, octets_of, unknown};
 use anyhow::{Result, anyhow};
 use bcder::decode::{Decode, DecodeError};
 use certs_access::{take_authority_access, take_crl_distribution};
@@ -10,30 +10,33 @@ use std::alloc::Global;
 use std::convert::Infallible;
 
 // What is said of an extension that was read or refused.
-fn told(alloc: Global, read: Result<Rsync, DecodeError<Infallible>>) -> Result<String> {
+fn tell(answer: &mut Answer, read: Result<Rsync, DecodeError<Infallible>>) -> Result<()> {
     match read {
-        Ok(uri) => Ok(format!(in alloc; "{uri}")?),
+        Ok(uri) => {
+            answer.say(&uri);
+            Ok(())
+        }
         Err(DecodeError::Memory) => Err(anyhow!("out of memory")),
         Err(_) => Err(anyhow!("another value")),
     }
 }
 
-/// The answer to a question.
-pub fn answer(alloc: Global, words: &[&str]) -> Result<String> {
+/// Answers a question.
+pub fn answer(alloc: Global, answer: &mut Answer, words: &[&str]) -> Result<()> {
     let [kind, word, digits] = words else {
-        return Err(anyhow!("no such question"));
+        return unknown();
     };
     let octets = octets_of(alloc, *digits);
     let mode = mode_of(*word);
     match *kind {
-        "crl" => told(
-            alloc,
+        "crl" => tell(
+            answer,
             mode.decode(octets.as_slice(), |cons| take_crl_distribution(alloc, cons)),
         ),
-        "authority" => told(
-            alloc,
+        "authority" => tell(
+            answer,
             mode.decode(octets.as_slice(), |cons| take_authority_access(alloc, cons)),
         ),
-        _ => Err(anyhow!("no such extension")),
+        _ => unknown(),
     }
 }

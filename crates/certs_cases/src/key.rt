@@ -1,14 +1,16 @@
-//! Questions about keys and their identifiers: what is asked, the mode, and octets in hexadecimal digits.
+//! Questions about keys: what is asked, the mode, and octets in hexadecimal digits.
 
 ghost use Rattle.sha1.specs.Sha1.{sha1 as sha1_of};
 ghost use Rattle.sha2.specs.Sha256.{sha256 as sha256_of};
 
-use crate::values::{bytes_of, found, written};
-use answers::mode_of;
-use anyhow::{Result, anyhow};
-use bcder::Tag;
-use bcder::decode::{Constructed, Decode, DecodeError, Source};
-use certs_x509::{Digester, KeyIdentifier, PublicKey};
+use crate::identifier;
+use crate::values::{bytes_of, found, tell, write};
+use answers::{Answer, mode_of, unknown};
+use anyhow::Result;
+use bcder::Mode;
+use bcder::decode::Decode;
+use bytes::Bytes;
+use certs_x509::{Digester, PublicKey};
 use sha1::Sha1;
 use sha2::{Digest, Sha256};
 use std::alloc::Global;
@@ -31,105 +33,101 @@ impl Digester for Fips {
 }
 
 // The algorithm, the bits, the encoded octets, and the identifier.
-fn shown(alloc: Global, key: &PublicKey) -> Result<String> {
-    let bits = hex::encode(alloc, key.bits())?;
-    let encoded = hex::encode(alloc, key.encoded())?;
-    let identifier = key.key_identifier(&Fips);
-    let allowed = format!(in alloc; "{} {}", key.allow_rpki_cert(), key.allow_router_cert())?;
-    Ok(format!(in alloc;
-        "{:?} {allowed} {bits} {encoded} {identifier}",
-        key.algorithm()
-    )?)
+fn show(answer: &mut Answer, key: PublicKey) {
+    answer.show(&key.algorithm());
+    answer.say(&key.allow_rpki_cert());
+    answer.say(&key.allow_router_cert());
+    tell(answer, key.bits());
+    tell(answer, key.encoded());
+    answer.say(&key.key_identifier(&Fips));
 }
 
 // A key that is all of the octets.
-fn whole(alloc: Global, word: &str, digits: &str) -> Result<PublicKey> {
-    let read = mode_of(word).decode(bytes_of(alloc, digits)?, |cons| {
-        let key = PublicKey::take_from(alloc, cons)?;
-        Ok(key)
-    });
-    found(read)
+fn whole(alloc: Global, mode: Mode, octets: Bytes) -> Result<PublicKey> {
+    found(mode.decode(octets, |cons| PublicKey::take_from(alloc, cons)))
+}
+
+// A key that octets begin with, in DER.
+fn front(alloc: Global, octets: Bytes) -> Result<PublicKey> {
+    found(PublicKey::decode(alloc, octets))
+}
+
+fn clone(answer: &mut Answer, key: PublicKey) -> Result<()> {
+    show(answer, key.clone()?);
+    Ok(())
+}
+
+// The name that a key's identifier makes.
+fn name(alloc: Global, answer: &mut Answer, key: PublicKey) -> Result<()> {
+    let name = key.to_subject_name(alloc, &Fips)?;
+    tell(answer, name.as_slice());
+    Ok(())
 }
 
 // Whether a content goes on after a refusal that is forgotten.
-fn forgotten(alloc: Global, word: &str, digits: &str) -> Result<String> {
-    let read = mode_of(word).decode(bytes_of(alloc, digits)?, |cons| {
+fn forget(alloc: Global, answer: &mut Answer, mode: Mode, octets: Bytes) -> Result<()> {
+    let read = mode.decode(octets, |cons| {
         let first = PublicKey::take_from(alloc, cons).is_ok();
         let second = PublicKey::take_from(alloc, cons).is_ok();
         Ok((first, second))
     });
     let (first, second) = found(read)?;
-    Ok(format!(in alloc; "{first} {second}")?)
+    answer.say(&first);
+    answer.say(&second);
+    Ok(())
 }
 
-// An identifier with its own tag.
-fn identifier(alloc: Global, word: &str, digits: &str) -> Result<KeyIdentifier> {
-    found(mode_of(word).decode(
-        bytes_of(alloc, digits)?,
-        |cons| KeyIdentifier::take_from(alloc, cons),
-    ))
-}
-
-// An identifier with the tag [0].
-fn tagged<S: Source>(
+// What is asked of octets in a mode.
+fn of_octets(
     alloc: Global,
-    cons: &mut Constructed<S>,
-) -> Result<KeyIdentifier, DecodeError<S::Error>> {
-    cons.take_value_if(
-        Tag::CTX_0,
-        |content| KeyIdentifier::from_content(alloc, content),
-    )
-}
-
-// The answer about identifiers.
-fn of_identifiers(alloc: Global, words: &[&str]) -> Result<String> {
-    match words {
-        ["read", mode, digits] => Ok(format!(in alloc; "{}", identifier(alloc, *mode, *digits)?)?),
-        ["tagged", word, digits] => {
-            let read = mode_of(*word).decode(bytes_of(alloc, *digits)?, |cons| tagged(alloc, cons));
-            Ok(format!(in alloc; "{}", found(read)?)?)
+    answer: &mut Answer,
+    kind: &str,
+    mode: Mode,
+    octets: Bytes,
+) -> Result<()> {
+    match kind {
+        "read" => {
+            show(answer, whole(alloc, mode, octets)?);
+            Ok(())
         }
-        ["slice", digits] => match KeyIdentifier::from_slice(bytes_of(alloc, *digits)?.as_slice()) {
-            Some(identifier) => Ok(hex::encode(alloc, identifier.as_slice())?),
-            None => Err(anyhow!("no identifier")),
-        },
-        ["write", mode, digits] => {
-            let identifier = identifier(alloc, "ber", *digits)?;
-            let own = written(alloc, &identifier.encode_ref(), *mode)?;
-            let other = written(alloc, &identifier.encode_ref_as(Tag::CTX_0), *mode)?;
-            Ok(format!(in alloc; "{own} {other}")?)
-        }
-        ["order", one, other] => {
-            let one = identifier(alloc, "ber", *one)?;
-            let other = identifier(alloc, "ber", *other)?;
-            Ok(format!(in alloc; "{:?} {}", one.cmp(&other), one == other)?)
-        }
-        _ => Err(anyhow!("no such question")),
+        "write" => write(
+            alloc,
+            answer,
+            whole(alloc, Mode::Ber, octets)?.encode_ref(),
+            mode,
+        ),
+        "forgotten" => forget(alloc, answer, mode, octets),
+        _ => unknown(),
     }
 }
 
-/// The answer to the question of a line.
-pub fn answer(alloc: Global, words: &[&str]) -> Result<String> {
+// What is asked of octets in DER, or in BER.
+fn of_key(alloc: Global, answer: &mut Answer, kind: &str, octets: Bytes) -> Result<()> {
+    match kind {
+        "decode" => {
+            show(answer, front(alloc, octets)?);
+            Ok(())
+        }
+        "clone" => clone(answer, whole(alloc, Mode::Ber, octets)?),
+        "name" => name(alloc, answer, whole(alloc, Mode::Ber, octets)?),
+        _ => unknown(),
+    }
+}
+
+/// Answers the question of a line.
+pub fn answer(alloc: Global, answer: &mut Answer, words: &[&str]) -> Result<()> {
     match words {
-        ["identifier", rest @ ..] => of_identifiers(alloc, rest),
-        ["read", mode, digits] => shown(alloc, &whole(alloc, *mode, *digits)?),
-        ["decode", digits] => {
-            let key = found(PublicKey::decode(alloc, bytes_of(alloc, *digits)?))?;
-            shown(alloc, &key)
+        ["identifier", words @ ..] => identifier::answer(alloc, answer, words),
+        [kind, mode, digits] => {
+            of_octets(
+                alloc,
+                answer,
+                *kind,
+                mode_of(*mode),
+                bytes_of(alloc, *digits)?,
+            )
         }
-        ["write", mode, digits] => {
-            let key = whole(alloc, "ber", *digits)?;
-            written(alloc, key.encode_ref(), *mode)
-        }
-        ["clone", digits] => {
-            let key = whole(alloc, "ber", *digits)?;
-            shown(alloc, &key.clone()?)
-        }
-        ["name", digits] => {
-            let name = whole(alloc, "ber", *digits)?.to_subject_name(alloc, &Fips)?;
-            Ok(hex::encode(alloc, name.as_slice())?)
-        }
-        ["forgotten", mode, digits] => forgotten(alloc, *mode, *digits),
-        _ => Err(anyhow!("no such question")),
+        [kind, digits] => of_key(alloc, answer, *kind, bytes_of(alloc, *digits)?),
+        _ => unknown(),
     }
 }

@@ -5,6 +5,7 @@
 #![tactic(auto)]
 
 mod access;
+mod identifier;
 mod key;
 mod name;
 mod serial;
@@ -13,32 +14,34 @@ mod time;
 mod uri;
 mod values;
 
-use answers::{Answer, Questions, answer_lines};
-use anyhow::{Result, anyhow};
+use answers::{Answer, Questions, answer_lines, unknown};
+use anyhow::Result;
 use std::alloc::Global;
 
 // What is asked about the parts of certificates.
 struct Parts;
 
 // What is said of a part.
-fn told(alloc: Global, words: &[&str]) -> Result<String> {
-    match words {
-        ["signed", words @ ..] => signed::answer(alloc, words),
-        ["key", words @ ..] => key::answer(alloc, words),
-        ["name", words @ ..] => name::answer(alloc, words),
-        ["serial", words @ ..] => serial::answer(alloc, words),
-        ["time", words @ ..] => time::answer(alloc, words),
-        ["access", words @ ..] => access::answer(alloc, words),
-        ["uri", words @ ..] => uri::answer(alloc, words),
-        _ => Err(anyhow!("no such topic")),
+fn tell(alloc: Global, answer: &mut Answer, words: &[&str]) -> Result<()> {
+    let [topic, words @ ..] = words else {
+        return unknown();
+    };
+    match *topic {
+        "signed" => signed::answer(alloc, answer, words),
+        "key" => key::answer(alloc, answer, words),
+        "name" => name::answer(alloc, answer, words),
+        "serial" => serial::answer(alloc, answer, words),
+        "time" => time::answer(alloc, answer, words),
+        "access" => access::answer(alloc, answer, words),
+        "uri" => uri::answer(alloc, answer, words),
+        _ => unknown(),
     }
 }
 
 impl Questions for Parts {
     fn answer(&self, alloc: Global, answer: &mut Answer, words: &[&str]) -> Result<()> {
-        match told(alloc, words) {
-            Ok(text) => answer.word(text.as_str()),
-            Err(error) => answer.say(&format_args!("refused: {error}")),
+        if let Err(error) = tell(alloc, answer, words) {
+            answer.say(&format_args!("refused: {error}"));
         }
         Ok(())
     }

@@ -1,7 +1,7 @@
 //! Questions about names: what is asked, the mode, and octets in hexadecimal digits.
 
-use crate::values::{bytes_of, found};
-use answers::mode_of;
+use crate::values::{bytes_of, found, tell};
+use answers::{Answer, mode_of, unknown};
 use anyhow::{Result, anyhow};
 use bcder::Mode;
 use bcder::decode::Decode;
@@ -18,60 +18,46 @@ fn front(alloc: Global, word: &str, digits: &str) -> Result<Name> {
 }
 
 // Whether inspection passes a name: strict and not, and as a router's, strict and not.
-fn inspected(alloc: Global, name: &Name) -> Result<String> {
-    let strict = name.inspect_rpki(true).is_ok();
-    let loose = name.inspect_rpki(false).is_ok();
-    let strict_router = name.inspect_router(true).is_ok();
-    let loose_router = name.inspect_router(false).is_ok();
-    Ok(format!(in alloc; "{strict} {loose} {strict_router} {loose_router}")?)
+fn inspect(answer: &mut Answer, name: Name) {
+    answer.say(&name.inspect_rpki(true).is_ok());
+    answer.say(&name.inspect_rpki(false).is_ok());
+    answer.say(&name.inspect_router(true).is_ok());
+    answer.say(&name.inspect_router(false).is_ok());
 }
 
-// What is written of a value in a mode, or why not.
-fn written<V: Values>(alloc: Global, value: &V, mode: Mode) -> Result<String> {
-    match value.to_captured(alloc, mode) {
-        Ok(captured) => Ok(hex::encode(alloc, captured.as_slice())?),
-        Err(error) => Ok(format!(in alloc; "({error})")?),
+// What is written, in another mode, of the name that octets begin with, or why not.
+fn write(alloc: Global, answer: &mut Answer, word: &str, digits: &str, mode: Mode) -> Result<()> {
+    let name = front(alloc, word, digits)?;
+    match name.encode_ref().to_captured(alloc, mode) {
+        Ok(captured) => tell(answer, captured.as_slice()),
+        Err(error) => answer.say(&format_args!("({error})")),
     }
-}
-
-// What inspection says of the name that octets begin with.
-fn inspect(alloc: Global, word: &str, digits: &str) -> Result<String> {
-    let name = front(alloc, word, digits)?;
-    inspected(alloc, &name)
-}
-
-// What is written, in another mode, of the name that octets begin with.
-fn write(alloc: Global, word: &str, digits: &str, to: &str) -> Result<String> {
-    let name = front(alloc, word, digits)?;
-    written(alloc, name.encode_ref(), mode_of(to))
+    Ok(())
 }
 
 // The octets of a clone.
-fn cloned(alloc: Global, word: &str, digits: &str) -> Result<String> {
-    let name = front(alloc, word, digits)?;
+fn clone(answer: &mut Answer, name: Name) -> Result<()> {
     let copy = name.clone()?;
-    Ok(hex::encode(alloc, copy.as_slice())?)
+    tell(answer, copy.as_slice());
+    Ok(())
 }
 
-// Whether two names are equal, each read in its mode.
-fn equal(alloc: Global, words: &[&str]) -> Result<String> {
-    let [word, digits, other_word, other_digits] = words else {
-        return Err(anyhow!("no such question"));
-    };
-    let one = front(alloc, *word, *digits)?;
-    let other = front(alloc, *other_word, *other_digits)?;
-    Ok(format!(in alloc; "{}", one == other)?)
+// Whether two names are equal.
+fn equal(answer: &mut Answer, one: Name, other: Name) {
+    answer.say(&(one == other));
 }
 
 // Whether a content goes on after a refusal that is forgotten.
-fn forgotten(alloc: Global, word: &str, digits: &str) -> Result<String> {
-    let read = mode_of(word).decode(bytes_of(alloc, digits)?, |cons| {
+fn forget(alloc: Global, answer: &mut Answer, mode: Mode, digits: &str) -> Result<()> {
+    let read = mode.decode(bytes_of(alloc, digits)?, |cons| {
         let first = Name::take_from(alloc, cons).is_ok();
         let second = Name::take_from(alloc, cons).is_ok();
         Ok((first, second))
     });
     let (first, second) = found(read)?;
-    Ok(format!(in alloc; "{first} {second}")?)
+    answer.say(&first);
+    answer.say(&second);
+    Ok(())
 }
 
 // The name that is made from a key's identifier.
@@ -84,25 +70,52 @@ fn of_key(alloc: Global, digits: &str) -> Result<Name> {
 }
 
 // The name of a key, and what inspection says of it.
-fn named(alloc: Global, digits: &str) -> Result<String> {
+fn named(alloc: Global, answer: &mut Answer, digits: &str) -> Result<()> {
     let name = of_key(alloc, digits)?;
-    let text = hex::encode(alloc, name.as_slice())?;
-    let inspected = inspected(alloc, &name)?;
-    Ok(format!(in alloc; "{text} {inspected}")?)
+    tell(answer, name.as_slice());
+    inspect(answer, name);
+    Ok(())
 }
 
-/// The answer to a question about names.
-pub fn answer(alloc: Global, words: &[&str]) -> Result<String> {
-    let [kind, rest @ ..] = words else {
-        return Err(anyhow!("no question"));
-    };
-    match (*kind, rest) {
-        ("inspect", [word, digits]) => inspect(alloc, *word, *digits),
-        ("write", [word, digits, to]) => write(alloc, *word, *digits, *to),
-        ("clone", [word, digits]) => cloned(alloc, *word, *digits),
-        ("equal", words) => equal(alloc, words),
-        ("key", [digits]) => named(alloc, *digits),
-        ("forgotten", [word, digits]) => forgotten(alloc, *word, *digits),
-        _ => Err(anyhow!("no such question")),
+// What is asked of the name that octets begin with.
+fn of_front(
+    alloc: Global,
+    answer: &mut Answer,
+    kind: &str,
+    word: &str,
+    digits: &str,
+) -> Result<()> {
+    let name = front(alloc, word, digits)?;
+    match kind {
+        "inspect" => inspect(answer, name),
+        "clone" => clone(answer, name)?,
+        _ => return unknown(),
+    }
+    Ok(())
+}
+
+// Whether two names are equal, each read in its mode.
+fn of_fronts(alloc: Global, answer: &mut Answer, one: [&str; 2], other: [&str; 2]) -> Result<()> {
+    let [word, digits] = one;
+    let name = front(alloc, word, digits)?;
+    let [word, digits] = other;
+    equal(answer, name, front(alloc, word, digits)?);
+    Ok(())
+}
+
+/// Answers a question about names.
+pub fn answer(alloc: Global, answer: &mut Answer, words: &[&str]) -> Result<()> {
+    match words {
+        ["key", digits] => named(alloc, answer, *digits),
+        ["forgotten", word, digits] => forget(alloc, answer, mode_of(*word), *digits),
+        ["write", word, digits, to] => { write(alloc, answer, *word, *digits, mode_of(*to)) }
+        ["equal", word, digits, other_word, other_digits] => of_fronts(
+            alloc,
+            answer,
+            [*word, *digits],
+            [*other_word, *other_digits],
+        ),
+        [kind, word, digits] => of_front(alloc, answer, *kind, *word, *digits),
+        _ => unknown(),
     }
 }

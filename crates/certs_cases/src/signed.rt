@@ -1,8 +1,8 @@
 //! Questions about algorithms and signed data: what octets begin with, in a mode, and what is written of it.
 
-use crate::values::bytes_of;
-use answers::mode_of;
-use anyhow::{Result, anyhow};
+use crate::values::{bytes_of, tell};
+use answers::{Answer, mode_of, unknown};
+use anyhow::Result;
 use bcder::Mode;
 use bcder::decode::Decode;
 use bcder::encode::Values;
@@ -10,105 +10,118 @@ use bytes::Bytes;
 use certs_x509::{DigestAlgorithm, RpkiSignatureAlgorithm, SignatureAlgorithm, SignedData};
 use std::alloc::Global;
 
-fn refused(alloc: Global) -> Result<String> {
-    Ok(String::from_str(alloc, "refused")?)
-}
-
-// What is written of a value in a mode.
-fn written<V: Values>(alloc: Global, value: &V, mode: Mode) -> Result<String> {
+// What is written of a value in a mode, or why not.
+fn write<V: Values>(alloc: Global, answer: &mut Answer, value: &V, mode: Mode) {
     match value.to_captured(alloc, mode) {
-        Ok(captured) => Ok(hex::encode(alloc, captured.as_slice())?),
-        Err(error) => Ok(format!(in alloc; "{error}")?),
+        Ok(captured) => tell(answer, captured.as_slice()),
+        Err(error) => answer.say(&error),
     }
 }
 
 // Whether NULL stands there, and what is written.
 fn algorithm<V: Values>(
     alloc: Global,
+    answer: &mut Answer,
     algorithm: RpkiSignatureAlgorithm,
     value: &V,
     mode: Mode,
-) -> Result<String> {
-    let is_default = algorithm == RpkiSignatureAlgorithm::default();
-    let text = written(alloc, value, mode)?;
-    Ok(format!(in alloc; "{} {is_default} {text}", algorithm.has_null())?)
+) {
+    answer.say(&algorithm.has_null());
+    answer.say(&(algorithm == RpkiSignatureAlgorithm::default()));
+    write(alloc, answer, value, mode);
 }
 
-fn x509(alloc: Global, mode: Mode, octets: Bytes) -> Result<String> {
+fn x509(alloc: Global, answer: &mut Answer, mode: Mode, octets: Bytes) {
     match mode.decode(octets, |cons| RpkiSignatureAlgorithm::x509_take_from(cons)) {
-        Ok(read) => algorithm(alloc, read, &read.x509_encode(), mode),
-        Err(_) => refused(alloc),
+        Ok(read) => algorithm(alloc, answer, read, &read.x509_encode(), mode),
+        Err(_) => answer.word("refused"),
     }
 }
 
-fn cms(alloc: Global, mode: Mode, octets: Bytes) -> Result<String> {
+fn cms(alloc: Global, answer: &mut Answer, mode: Mode, octets: Bytes) {
     match mode.decode(octets, |cons| RpkiSignatureAlgorithm::cms_take_from(cons)) {
-        Ok(read) => algorithm(alloc, read, &read.cms_encode(), mode),
-        Err(_) => refused(alloc),
+        Ok(read) => algorithm(alloc, answer, read, &read.cms_encode(), mode),
+        Err(_) => answer.word("refused"),
     }
 }
 
-fn digest(alloc: Global, mode: Mode, octets: Bytes) -> Result<String> {
+fn digest(alloc: Global, answer: &mut Answer, mode: Mode, octets: Bytes) {
     match mode.decode(octets, |cons| DigestAlgorithm::take_from(cons)) {
-        Ok(read) => written(alloc, &read.encode(), mode),
-        Err(_) => refused(alloc),
+        Ok(read) => write(alloc, answer, &read.encode(), mode),
+        Err(_) => answer.word("refused"),
     }
 }
 
-fn opt_digest(alloc: Global, mode: Mode, octets: Bytes) -> Result<String> {
+fn opt_digest(answer: &mut Answer, mode: Mode, octets: Bytes) {
     match mode.decode(octets, |cons| DigestAlgorithm::take_opt_from(cons)) {
-        Ok(read) => Ok(format!(in alloc; "{}", read.is_some())?),
-        Err(_) => refused(alloc),
+        Ok(read) => answer.say(&read.is_some()),
+        Err(_) => answer.word("refused"),
     }
 }
 
-fn digests(alloc: Global, mode: Mode, octets: Bytes) -> Result<String> {
+fn digests(alloc: Global, answer: &mut Answer, mode: Mode, octets: Bytes) {
     match mode.decode(octets, |cons| DigestAlgorithm::take_set_from(cons)) {
-        Ok(read) => written(alloc, &read.encode_set(), mode),
-        Err(_) => refused(alloc),
+        Ok(read) => write(alloc, answer, &read.encode_set(), mode),
+        Err(_) => answer.word("refused"),
     }
 }
 
 // The message, whether NULL stands there, the signature, and what is written.
-fn shown(alloc: Global, signed: &SignedData, mode: Mode) -> Result<String> {
-    let message = hex::encode(alloc, signed.data().as_slice())?;
+fn show(alloc: Global, answer: &mut Answer, signed: SignedData, mode: Mode) {
+    tell(answer, signed.data().as_slice());
     let signature = signed.signature();
-    let has_null = signature.algorithm().has_null();
-    let value = hex::encode(alloc, signature.value())?;
-    let unused = signature.bits().unused();
-    let text = written(alloc, &signed.encode_ref(), mode)?;
-    Ok(format!(in alloc; "{message} {has_null} {unused} {value} {text}")?)
+    answer.say(&signature.algorithm().has_null());
+    answer.say(&signature.bits().unused());
+    tell(answer, signature.value());
+    write(alloc, answer, &signed.encode_ref(), mode);
 }
 
-fn signed_data(alloc: Global, mode: Mode, octets: Bytes) -> Result<String> {
+fn signed_data(alloc: Global, answer: &mut Answer, mode: Mode, octets: Bytes) {
     match mode.decode(octets, |cons| SignedData::take_from(alloc, cons)) {
-        Ok(signed) => shown(alloc, &signed, mode),
-        Err(_) => refused(alloc),
+        Ok(signed) => show(alloc, answer, signed, mode),
+        Err(error) => {
+            answer.word("refused");
+            drop(error);
+        }
     }
 }
 
-fn front(alloc: Global, octets: Bytes) -> Result<String> {
+fn front(alloc: Global, answer: &mut Answer, octets: Bytes) {
     match SignedData::decode(alloc, octets) {
-        Ok(signed) => shown(alloc, &signed, Mode::Der),
-        Err(_) => refused(alloc),
+        Ok(signed) => show(alloc, answer, signed, Mode::Der),
+        Err(error) => {
+            answer.word("refused");
+            drop(error);
+        }
     }
 }
 
-/// The answer to a question.
-pub fn answer(alloc: Global, words: &[&str]) -> Result<String> {
-    let [topic, word, digits] = words else {
-        return Err(anyhow!("no such question"));
-    };
-    let mode = mode_of(*word);
-    let octets = bytes_of(alloc, *digits)?;
-    match *topic {
-        "x509" => x509(alloc, mode, octets),
-        "cms" => cms(alloc, mode, octets),
-        "digest" => digest(alloc, mode, octets),
-        "opt-digest" => opt_digest(alloc, mode, octets),
-        "digests" => digests(alloc, mode, octets),
-        "data" => signed_data(alloc, mode, octets),
-        "front" => front(alloc, octets),
-        _ => Err(anyhow!("no such topic")),
+// What is asked of octets in a mode.
+fn of_octets(
+    alloc: Global,
+    answer: &mut Answer,
+    topic: &str,
+    mode: Mode,
+    octets: Bytes,
+) -> Result<()> {
+    match topic {
+        "x509" => x509(alloc, answer, mode, octets),
+        "cms" => cms(alloc, answer, mode, octets),
+        "digest" => digest(alloc, answer, mode, octets),
+        "opt-digest" => opt_digest(answer, mode, octets),
+        "digests" => digests(alloc, answer, mode, octets),
+        "data" => signed_data(alloc, answer, mode, octets),
+        "front" => front(alloc, answer, octets),
+        _ => return unknown(),
     }
+    Ok(())
+}
+
+/// Answers a question.
+pub fn answer(alloc: Global, answer: &mut Answer, words: &[&str]) -> Result<()> {
+    let [topic, word, digits] = words else {
+        return unknown();
+    };
+    let octets = bytes_of(alloc, *digits)?;
+    of_octets(alloc, answer, *topic, mode_of(*word), octets)
 }

@@ -1,8 +1,10 @@
 //! Questions about URIs: the scheme, what is asked, and texts. A text that begins with `hex:` stands for the octets
 //! of the hexadecimal digits after that.
 
-use crate::values::{bytes_of, written};
-use anyhow::{Result, anyhow};
+use crate::values::{bytes_of, tell, write};
+use answers::{Answer, mode_of, unknown};
+use anyhow::Result;
+use bcder::Mode;
 use bytes::Bytes;
 use certs_x509::uri::{Https, Rsync};
 use std::alloc::Global;
@@ -23,88 +25,143 @@ fn https(alloc: Global, word: &str) -> Result<Https> {
     Ok(Https::from_bytes(octets(alloc, word)?)?)
 }
 
+// All that an rsync URI says, and whether a copy and a clone say the same.
+fn tell_rsync(answer: &mut Answer, uri: &Rsync, copied: &Rsync, cloned: &Bytes) {
+    answer.say(copied);
+    answer.word(uri.as_str());
+    tell(answer, uri.as_slice());
+    answer.say(&(*copied == *uri && *uri.as_bytes() == *cloned));
+}
+
+// All that an https URI says, and whether a copy and a clone say the same.
+fn tell_https(answer: &mut Answer, uri: &Https, copied: &Https, cloned: &Bytes) {
+    answer.say(copied);
+    answer.word(uri.as_str());
+    tell(answer, uri.as_slice());
+    answer.say(&(*copied == *uri && *uri.as_bytes() == *cloned));
+}
+
 // The answer about an rsync URI, made in both ways.
-fn read_rsync(alloc: Global, word: &str) -> Result<String> {
-    let copied = Rsync::from_slice(alloc, octets(alloc, word)?.as_slice())?;
-    let uri = rsync(alloc, word)?;
-    let digits = hex::encode(alloc, uri.as_slice())?;
-    let is_same = copied == uri && *uri.as_bytes() == uri.clone()?.into_bytes();
-    Ok(format!(in alloc; "{copied} {} {digits} {is_same}", uri.as_str())?)
+fn read_rsync(alloc: Global, answer: &mut Answer, octets: Bytes) -> Result<()> {
+    let copied = Rsync::from_slice(alloc, octets.as_slice())?;
+    let uri = Rsync::from_bytes(octets)?;
+    let cloned = uri.clone()?.into_bytes();
+    tell_rsync(answer, &uri, &copied, &cloned);
+    Ok(())
 }
 
 // The answer about an https URI, made in both ways.
-fn read_https(alloc: Global, word: &str) -> Result<String> {
-    let copied = Https::from_slice(alloc, octets(alloc, word)?.as_slice())?;
-    let uri = https(alloc, word)?;
-    let digits = hex::encode(alloc, uri.as_slice())?;
-    let is_same = copied == uri && *uri.as_bytes() == uri.clone()?.into_bytes();
-    Ok(format!(in alloc; "{copied} {} {digits} {is_same}", uri.as_str())?)
+fn read_https(alloc: Global, answer: &mut Answer, octets: Bytes) -> Result<()> {
+    let copied = Https::from_slice(alloc, octets.as_slice())?;
+    let uri = Https::from_bytes(octets)?;
+    let cloned = uri.clone()?.into_bytes();
+    tell_https(answer, &uri, &copied, &cloned);
+    Ok(())
 }
 
-fn parent(alloc: Global, word: &str) -> Result<String> {
-    match rsync(alloc, word)?.parent()? {
-        Some(folder) => Ok(format!(in alloc; "{folder}")?),
-        None => Ok(String::from_str(alloc, "none")?),
+fn parent(answer: &mut Answer, uri: Rsync) -> Result<()> {
+    match uri.parent()? {
+        Some(folder) => answer.say(&folder),
+        None => answer.word("none"),
+    }
+    Ok(())
+}
+
+fn rsync_key(alloc: Global, answer: &mut Answer, uri: Rsync) -> Result<()> {
+    answer.say(&uri.lookup_key(alloc)?);
+    Ok(())
+}
+
+fn https_key(alloc: Global, answer: &mut Answer, uri: Https) -> Result<()> {
+    answer.say(&uri.lookup_key(alloc)?);
+    Ok(())
+}
+
+fn join(alloc: Global, answer: &mut Answer, uri: Rsync, name: Bytes) -> Result<()> {
+    answer.say(&uri.join(alloc, name.as_slice())?);
+    Ok(())
+}
+
+fn same(answer: &mut Answer, one: Rsync, other: Rsync) {
+    answer.say(&one.is_identical_to(&other));
+}
+
+fn rsync_order(answer: &mut Answer, one: Rsync, other: Rsync) {
+    answer.show(&one.cmp(&other));
+    answer.say(&(one == other));
+}
+
+fn https_order(answer: &mut Answer, one: Https, other: Https) {
+    answer.show(&one.cmp(&other));
+    answer.say(&(one == other));
+}
+
+// What is asked of one rsync URI.
+fn of_rsync(alloc: Global, answer: &mut Answer, kind: &str, uri: Rsync) -> Result<()> {
+    match kind {
+        "parent" => parent(answer, uri),
+        "key" => rsync_key(alloc, answer, uri),
+        _ => unknown(),
     }
 }
 
-fn join(alloc: Global, word: &str, name: &str) -> Result<String> {
-    let name = octets(alloc, name)?;
-    let joined = rsync(alloc, word)?.join(alloc, name.as_slice())?;
-    Ok(format!(in alloc; "{joined}")?)
+// What is written of an rsync URI as a GeneralName.
+fn rsync_name(alloc: Global, answer: &mut Answer, uri: Rsync, mode: Mode) -> Result<()> {
+    write(alloc, answer, &uri.encode_general_name(), mode)
+}
+
+// What is written of an https URI as a GeneralName.
+fn https_name(alloc: Global, answer: &mut Answer, uri: Https, mode: Mode) -> Result<()> {
+    write(alloc, answer, &uri.encode_general_name(), mode)
+}
+
+// What is asked of two rsync URIs.
+fn of_two(alloc: Global, answer: &mut Answer, kind: &str, one: &str, other: &str) -> Result<()> {
+    let one = rsync(alloc, one)?;
+    let other = rsync(alloc, other)?;
+    match kind {
+        "same" => same(answer, one, other),
+        "order" => rsync_order(answer, one, other),
+        _ => return unknown(),
+    }
+    Ok(())
 }
 
 // The answer about rsync URIs.
-fn of_rsync(alloc: Global, words: &[&str]) -> Result<String> {
+fn about_rsync(alloc: Global, answer: &mut Answer, words: &[&str]) -> Result<()> {
     match words {
-        ["read", text] => read_rsync(alloc, *text),
-        ["parent", text] => parent(alloc, *text),
-        ["join", text, name] => join(alloc, *text, *name),
-        ["same", one, other] => {
-            let is_same = rsync(alloc, *one)?.is_identical_to(&rsync(alloc, *other)?);
-            Ok(format!(in alloc; "{is_same}")?)
+        ["read", text] => read_rsync(alloc, answer, octets(alloc, *text)?),
+        ["name", mode, text] => rsync_name(alloc, answer, rsync(alloc, *text)?, mode_of(*mode)),
+        ["join", text, name] => {
+            let name = octets(alloc, *name)?;
+            join(alloc, answer, rsync(alloc, *text)?, name)
         }
-        ["key", text] => {
-            let key = rsync(alloc, *text)?.lookup_key(alloc)?;
-            Ok(format!(in alloc; "{key}")?)
-        }
-        ["name", mode, text] => {
-            let uri = rsync(alloc, *text)?;
-            written(alloc, &uri.encode_general_name(), *mode)
-        }
-        ["order", one, other] => {
-            let (one, other) = (rsync(alloc, *one)?, rsync(alloc, *other)?);
-            Ok(format!(in alloc; "{:?} {}", one.cmp(&other), one == other)?)
-        }
-        _ => Err(anyhow!("no such question")),
+        [kind, text] => of_rsync(alloc, answer, *kind, rsync(alloc, *text)?),
+        [kind, one, other] => of_two(alloc, answer, *kind, *one, *other),
+        _ => unknown(),
     }
 }
 
 // The answer about https URIs.
-fn of_https(alloc: Global, words: &[&str]) -> Result<String> {
+fn about_https(alloc: Global, answer: &mut Answer, words: &[&str]) -> Result<()> {
     match words {
-        ["read", text] => read_https(alloc, *text),
-        ["key", text] => {
-            let key = https(alloc, *text)?.lookup_key(alloc)?;
-            Ok(format!(in alloc; "{key}")?)
-        }
-        ["name", mode, text] => {
-            let uri = https(alloc, *text)?;
-            written(alloc, &uri.encode_general_name(), *mode)
-        }
+        ["read", text] => read_https(alloc, answer, octets(alloc, *text)?),
+        ["name", mode, text] => https_name(alloc, answer, https(alloc, *text)?, mode_of(*mode)),
         ["order", one, other] => {
-            let (one, other) = (https(alloc, *one)?, https(alloc, *other)?);
-            Ok(format!(in alloc; "{:?} {}", one.cmp(&other), one == other)?)
+            let one = https(alloc, *one)?;
+            https_order(answer, one, https(alloc, *other)?);
+            Ok(())
         }
-        _ => Err(anyhow!("no such question")),
+        ["key", text] => https_key(alloc, answer, https(alloc, *text)?),
+        _ => unknown(),
     }
 }
 
-/// The answer to a question.
-pub fn answer(alloc: Global, words: &[&str]) -> Result<String> {
+/// Answers a question.
+pub fn answer(alloc: Global, answer: &mut Answer, words: &[&str]) -> Result<()> {
     match words {
-        ["rsync", rest @ ..] => of_rsync(alloc, rest),
-        ["https", rest @ ..] => of_https(alloc, rest),
-        _ => Err(anyhow!("no such scheme")),
+        ["rsync", words @ ..] => about_rsync(alloc, answer, words),
+        ["https", words @ ..] => about_https(alloc, answer, words),
+        _ => unknown(),
     }
 }

@@ -1,7 +1,8 @@
 //! What questions about several topics share: the octets of a word, what was read of them, and what is written of a value.
 
-use answers::mode_of;
+use answers::Answer;
 use anyhow::{Result, anyhow};
+use bcder::Mode;
 use bcder::decode::DecodeError;
 use bcder::encode::Values;
 use bytes::Bytes;
@@ -23,8 +24,15 @@ pub fn found<T, E: Drop>(read: Result<T, DecodeError<E>>) -> Result<T> {
     }
 }
 
-/// What is written of a value in the mode of a word, in hexadecimal digits.
-pub fn written<V: Values>(alloc: Global, value: &V, word: &str) -> Result<String> {
-    let captured = value.to_captured(alloc, mode_of(word))?;
-    Ok(hex::encode(alloc, captured.as_slice())?)
+/// Octets, in hexadecimal digits.
+pub fn tell(answer: &mut Answer, octets: &[u8]) {
+    answer.word("");
+    answer.join_octets(octets);
+}
+
+/// What is written of a value in a mode.
+pub fn write<V: Values>(alloc: Global, answer: &mut Answer, value: &V, mode: Mode) -> Result<()> {
+    let captured = value.to_captured(alloc, mode)?;
+    tell(answer, captured.as_slice());
+    Ok(())
 }

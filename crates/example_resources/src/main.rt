@@ -12,39 +12,47 @@ use claims::outside;
 use resources::ResourceSet;
 use std::alloc::Global;
 
+// Holds a set from here on.
+fn hold(alloc: Global, held: &mut ResourceSet, set: ResourceSet) -> Result<String> {
+    *held = set;
+    Ok(format!(in alloc; "held {held}")?)
+}
+
 // The answer to a claim.
-fn claim(alloc: Global, held: &ResourceSet, claimed: &ResourceSet) -> Result<String> {
-    match outside(alloc, held, claimed)? {
+fn claim(alloc: Global, held: &ResourceSet, claimed: ResourceSet) -> Result<String> {
+    match outside(alloc, held, &claimed)? {
         None => Ok("inside".to_string(alloc)?),
         Some(set) => Ok(format!(in alloc; "outside {set}")?),
     }
 }
 
 // The answer to a line, which may change what is held.
-fn answer(alloc: Global, held: &mut ResourceSet, words: &[&str]) -> Result<String> {
-    let [word, asn, ipv4, ipv6] = words else {
+fn answer(alloc: Global, held: &mut ResourceSet, line: &str) -> Result<String> {
+    let words: Vec<&str> = line.split('\t').collect(alloc)?;
+    let [word, asn, ipv4, ipv6] = words.as_slice() else {
         return Err(anyhow!("not a word and three texts"));
     };
     let set = ResourceSet::from_strs(alloc, *asn, *ipv4, *ipv6)?;
     match *word {
-        "hold" => {
-            *held = set;
-            Ok(format!(in alloc; "held {held}")?)
-        }
-        "claim" => claim(alloc, held, &set),
+        "hold" => hold(alloc, held, set),
+        "claim" => claim(alloc, held, set),
         _ => Err(anyhow!("neither 'hold' nor 'claim'")),
     }
+}
+
+// Prints the answer to a line.
+fn print(rt: &HostRuntime, held: &mut ResourceSet, line: &str) -> Result<()> {
+    match answer(rt.alloc(), held, line) {
+        Ok(text) => println!(rt; "{text}")?,
+        Err(error) => println!(rt; "refused: {error}")?,
+    }
+    Ok(())
 }
 
 fn main(rt: HostRuntime) -> Result<()> {
     let mut held = ResourceSet::empty();
     for line in rt.lines(rt.alloc()) {
-        let line = line?;
-        let words: Vec<&str> = line.as_str().split('\t').collect(rt.alloc())?;
-        match answer(rt.alloc(), &mut held, words.as_slice()) {
-            Ok(text) => println!(rt; "{text}")?,
-            Err(error) => println!(rt; "refused: {error}")?,
-        }
+        print(&rt, &mut held, line?.as_str())?;
     }
     Ok(())
 }

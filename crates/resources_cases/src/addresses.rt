@@ -1,6 +1,7 @@
 //! Questions about IP addresses.
 
 use crate::claims::{Question, policy};
+use answers::Answer;
 use anyhow::{Result, anyhow};
 use resources::ipres::{
     AddressRange, IpBlock, IpBlocks, IpBlocksForFamily, IpResources, Ipv4Blocks, Ipv6Blocks,
@@ -27,32 +28,20 @@ fn v6_set(alloc: Global, text: &str) -> Result<IpBlocks> {
     Ok(Ipv6Blocks::from_str(alloc, text)?.into_blocks())
 }
 
-fn v4_refusal(alloc: Global, outside: OverclaimedIpResources) -> Result<String> {
-    let outside = outside.v4();
-    Ok(format!(in alloc; "refused: {outside}")?)
-}
-
-fn v6_refusal(alloc: Global, outside: OverclaimedIpResources) -> Result<String> {
-    let outside = outside.v6();
-    Ok(format!(in alloc; "refused: {outside}")?)
-}
-
-fn v4_prefixes(alloc: Global, text: &str) -> Result<String> {
-    let mut prefixes = String::new(alloc);
+fn v4_prefixes(answer: &mut Answer, text: &str) -> Result<()> {
     for prefix in AddressRange::from_v4_str(text)?.to_v4_prefixes() {
-        let block = IpBlock::Prefix(prefix).display_v4();
-        write!(prefixes, "{block};")?;
+        answer.join_as(&IpBlock::Prefix(prefix).display_v4());
+        answer.join(";");
     }
-    Ok(prefixes)
+    Ok(())
 }
 
-fn v6_prefixes(alloc: Global, text: &str) -> Result<String> {
-    let mut prefixes = String::new(alloc);
+fn v6_prefixes(answer: &mut Answer, text: &str) -> Result<()> {
     for prefix in AddressRange::from_v6_str(text)?.to_v6_prefixes() {
-        let block = IpBlock::Prefix(prefix).display_v6();
-        write!(prefixes, "{block};")?;
+        answer.join_as(&IpBlock::Prefix(prefix).display_v6());
+        answer.join(";");
     }
-    Ok(prefixes)
+    Ok(())
 }
 
 impl Family {
@@ -64,12 +53,11 @@ impl Family {
         }
     }
 
-    fn print(self, alloc: Global, set: &IpBlocks) -> Result<String> {
-        let shown = match self {
-            Family::V4 => IpBlocksForFamily::v4(set),
-            Family::V6 => IpBlocksForFamily::v6(set),
-        };
-        Ok(shown.to_string(alloc)?)
+    fn say(self, answer: &mut Answer, set: &IpBlocks) {
+        match self {
+            Family::V4 => answer.say(&IpBlocksForFamily::v4(set)),
+            Family::V6 => answer.say(&IpBlocksForFamily::v6(set)),
+        }
     }
 
     // Resources that are inherited, missing (`none`) or listed.
@@ -81,20 +69,21 @@ impl Family {
         }
     }
 
-    fn refusal(self, alloc: Global, outside: OverclaimedIpResources) -> Result<String> {
+    fn refuse(self, answer: &mut Answer, outside: OverclaimedIpResources) {
         match self {
-            Family::V4 => v4_refusal(alloc, outside),
-            Family::V6 => v6_refusal(alloc, outside),
+            Family::V4 => answer.say(&format_args!("refused: {}", outside.v4())),
+            Family::V6 => answer.say(&format_args!("refused: {}", outside.v6())),
         }
     }
 
     // What is held, or the addresses outside.
-    fn held(self, alloc: Global, verdict: Verdict) -> Result<String> {
+    fn held(self, answer: &mut Answer, verdict: Verdict) -> Result<()> {
         match verdict {
-            Ok(held) => self.print(alloc, &held),
-            Err(ClaimError::Overclaimed(outside)) => self.refusal(alloc, outside),
-            Err(ClaimError::Memory) => Err(anyhow!("out of memory")),
+            Ok(held) => self.say(answer, &held),
+            Err(ClaimError::Overclaimed(outside)) => self.refuse(answer, outside),
+            Err(ClaimError::Memory) => return Err(anyhow!("out of memory")),
         }
+        Ok(())
     }
 
     // The words of a path, two by two: a policy, and what is claimed under it.
@@ -108,118 +97,138 @@ impl Family {
         Ok(path)
     }
 
-    fn along(self, alloc: Global, root: &IpBlocks, words: &[&str]) -> Result<String> {
+    fn along(
+        self,
+        alloc: Global,
+        answer: &mut Answer,
+        root: &IpBlocks,
+        words: &[&str],
+    ) -> Result<()> {
         let path = self.path(alloc, words)?;
-        self.held(alloc, root.verify_path(alloc, path.as_slice()))
+        self.held(answer, root.verify_path(alloc, path.as_slice()))
     }
 
     // The prefixes of a range.
-    fn prefixes(self, alloc: Global, text: &str) -> Result<String> {
+    fn prefixes(self, answer: &mut Answer, text: &str) -> Result<()> {
         match self {
-            Family::V4 => v4_prefixes(alloc, text),
-            Family::V6 => v6_prefixes(alloc, text),
+            Family::V4 => v4_prefixes(answer, text),
+            Family::V6 => v6_prefixes(answer, text),
         }
     }
 
-    fn listed(self, alloc: Global, text: &str) -> Result<String> {
+    fn listed(self, alloc: Global, answer: &mut Answer, text: &str) -> Result<()> {
         let blocks = self.resources(alloc, text)?.to_blocks()?;
-        self.print(alloc, &blocks)
+        self.say(answer, &blocks);
+        Ok(())
     }
 
     fn issued(
         self,
         alloc: Global,
+        answer: &mut Answer,
         issuer: &IpBlocks,
         policy: Overclaim,
         text: &str,
-    ) -> Result<String> {
+    ) -> Result<()> {
         let claim = self.resources(alloc, text)?;
-        self.held(alloc, issuer.verify_issued(alloc, &claim, policy))
+        self.held(answer, issuer.verify_issued(alloc, &claim, policy))
     }
 
-    fn covered(self, alloc: Global, issuer: &IpBlocks, text: &str) -> Result<String> {
+    fn covered(
+        self,
+        alloc: Global,
+        answer: &mut Answer,
+        issuer: &IpBlocks,
+        text: &str,
+    ) -> Result<()> {
         let claim = self.resources(alloc, text)?;
         match issuer.verify_covered(alloc, &claim) {
-            Ok(()) => self.print(alloc, issuer),
-            Err(error) => self.held(alloc, Err(error)),
+            Ok(()) => {
+                self.say(answer, issuer);
+                Ok(())
+            }
+            Err(error) => self.held(answer, Err(error)),
         }
     }
 
-    fn union(self, alloc: Global, one: &IpBlocks, other: &IpBlocks) -> Result<String> {
-        self.print(alloc, &one.union(alloc, other)?)
-    }
-
-    fn intersection(self, alloc: Global, one: &IpBlocks, other: &IpBlocks) -> Result<String> {
-        self.print(alloc, &one.intersection(alloc, other)?)
-    }
-
-    fn difference(self, alloc: Global, one: &IpBlocks, other: &IpBlocks) -> Result<String> {
-        self.print(alloc, &one.difference(alloc, other)?)
-    }
-
-    fn of_one(self, alloc: Global, question: Question, text: &str) -> Result<String> {
+    // What is asked of one set.
+    fn of_set(
+        self,
+        alloc: Global,
+        answer: &mut Answer,
+        question: Question,
+        set: IpBlocks,
+    ) -> Result<()> {
         match question {
-            Question::Each => return self.prefixes(alloc, text),
-            Question::Resources => return self.listed(alloc, text),
-            _ => {}
+            Question::Read => self.say(answer, &set),
+            Question::Count => answer.say(&set.is_whole_v4()),
+            Question::Path => return self.along(alloc, answer, &set, &[]),
+            _ => return Err(anyhow!("one set is too few")),
         }
-        let set = self.set(alloc, text)?;
-        match question {
-            Question::Read => self.print(alloc, &set),
-            Question::Count => truth(alloc, set.is_whole_v4()),
-            Question::Path => self.along(alloc, &set, &[]),
-            _ => Err(anyhow!("one set is too few")),
-        }
+        Ok(())
     }
 
+    // What is asked of two sets.
     fn of_sets(
         self,
         alloc: Global,
+        answer: &mut Answer,
         question: Question,
         one: &IpBlocks,
-        text: &str,
-    ) -> Result<String> {
-        let other = self.set(alloc, text)?;
+        other: IpBlocks,
+    ) -> Result<()> {
         match question {
-            Question::Within => truth(alloc, other.contains(one)),
-            Question::Union => self.union(alloc, one, &other),
-            Question::Intersection => self.intersection(alloc, one, &other),
-            Question::Difference => self.difference(alloc, one, &other),
-            _ => Err(anyhow!("two sets are too many")),
+            Question::Within => answer.say(&other.contains(one)),
+            Question::Union => self.say(answer, &one.union(alloc, &other)?),
+            Question::Intersection => self.say(answer, &one.intersection(alloc, &other)?),
+            Question::Difference => self.say(answer, &one.difference(alloc, &other)?),
+            _ => return Err(anyhow!("two sets are too many")),
         }
+        Ok(())
     }
 
     fn of_several(
         self,
         alloc: Global,
+        answer: &mut Answer,
         question: Question,
-        root: &str,
+        root: &IpBlocks,
         words: &[&str],
-    ) -> Result<String> {
-        let first = self.set(alloc, root)?;
+    ) -> Result<()> {
         match (question, words) {
-            (Question::Path, _) => self.along(alloc, &first, words),
-            (Question::Issued(policy), [claim]) => self.issued(alloc, &first, policy, *claim),
-            (Question::Covered, [claim]) => self.covered(alloc, &first, *claim),
-            (_, [other]) => self.of_sets(alloc, question, &first, *other),
+            (Question::Path, _) => self.along(alloc, answer, root, words),
+            (Question::Issued(policy), [claim]) => {
+                self.issued(alloc, answer, root, policy, *claim)
+            }
+            (Question::Covered, [claim]) => self.covered(alloc, answer, root, *claim),
+            (_, [other]) => {
+                self.of_sets(alloc, answer, question, root, self.set(alloc, *other)?)
+            }
             _ => Err(anyhow!("too many words")),
         }
     }
 }
 
-fn truth(alloc: Global, is_so: bool) -> Result<String> {
-    Ok(is_so.to_string(alloc)?)
-}
-
-/// The answer to a question about one set, or about a set and what follows; `v4` or `v6` is the family.
-pub fn answer(alloc: Global, kind: &str, question: Question, words: &[&str]) -> Result<String> {
+/// Answers a question about one set, or about a set and what follows; `v4` or `v6` is the family.
+pub fn answer(
+    alloc: Global,
+    answer: &mut Answer,
+    kind: &str,
+    question: Question,
+    words: &[&str],
+) -> Result<()> {
     let family = match kind {
         "v4" => Family::V4,
         _ => Family::V6,
     };
-    match words {
-        [] => Err(anyhow!("no words")),
-        [one] => family.of_one(alloc, question, *one),
-        [root, words @ ..] => family.of_several(alloc, question, *root, words),
+    match (question, words) {
+        (_, []) => Err(anyhow!("no words")),
+        (Question::Each, [range]) => family.prefixes(answer, *range),
+        (Question::Resources, [text]) => family.listed(alloc, answer, *text),
+        (_, [one]) => family.of_set(alloc, answer, question, family.set(alloc, *one)?),
+        (_, [root, words @ ..]) => {
+            let root = family.set(alloc, *root)?;
+            family.of_several(alloc, answer, question, &root, words)
+        }
     }
 }

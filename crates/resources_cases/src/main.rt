@@ -10,33 +10,39 @@ mod families;
 mod numbers;
 mod sets;
 
+use answers::{Answer, Questions, answer_lines};
 use anyhow::{Result, anyhow};
 use claims::Question;
 use std::alloc::Global;
 
-// The answer to the question of a line.
-fn answer(alloc: Global, words: &[&str]) -> Result<String> {
+// What is asked about resources.
+struct Cases;
+
+// Answers the question of a line.
+fn tell(alloc: Global, answer: &mut Answer, words: &[&str]) -> Result<()> {
     let [kind, question, rest @ ..] = words else {
         return Err(anyhow!("no question"));
     };
     match Question::of(*question) {
-        Some(Question::Identifiers) => sets::identifiers(alloc, *kind),
-        Some(question) if *kind == "as" => numbers::answer(alloc, question, rest),
-        Some(question) if *kind == "ip" => families::answer(alloc, question, rest),
-        Some(question) if *kind == "all" => sets::answer(alloc, question, rest),
-        Some(question) => addresses::answer(alloc, *kind, question, rest),
-        None => Err(anyhow!("no such question")),
+        Some(Question::Identifiers) => sets::identifiers(answer, *kind),
+        Some(question) if *kind == "as" => return numbers::answer(alloc, answer, question, rest),
+        Some(question) if *kind == "ip" => return families::answer(alloc, answer, question, rest),
+        Some(question) if *kind == "all" => return sets::answer(alloc, answer, question, rest),
+        Some(question) => return addresses::answer(alloc, answer, *kind, question, rest),
+        None => return Err(anyhow!("no such question")),
+    }
+    Ok(())
+}
+
+impl Questions for Cases {
+    fn answer(&self, alloc: Global, answer: &mut Answer, words: &[&str]) -> Result<()> {
+        if let Err(error) = tell(alloc, answer, words) {
+            answer.say(&format_args!("refused: {error}"));
+        }
+        Ok(())
     }
 }
 
 fn main(rt: HostRuntime) -> Result<()> {
-    for line in rt.lines(rt.alloc()) {
-        let line = line?;
-        let words: Vec<&str> = line.as_str().split('\t').collect(rt.alloc())?;
-        match answer(rt.alloc(), words.as_slice()) {
-            Ok(text) => println!(rt; "{text}")?,
-            Err(error) => println!(rt; "refused: {error}")?,
-        }
-    }
-    Ok(())
+    answer_lines(rt, &Cases)
 }

@@ -1,6 +1,7 @@
 //! Questions about AS numbers.
 
 use crate::claims::{Question, policy};
+use answers::Answer;
 use anyhow::{Result, anyhow};
 use bcder::Mode;
 use bcder::decode::{Decode, DecodeError};
@@ -22,17 +23,14 @@ fn resources(alloc: Global, text: &str) -> Result<AsResources> {
     Ok(AsResources::from_str(alloc, text)?)
 }
 
-fn print(alloc: Global, set: &AsBlocks) -> Result<String> {
-    Ok(set.to_string(alloc)?)
-}
-
 // What is held, or the numbers outside.
-fn held(alloc: Global, verdict: Verdict) -> Result<String> {
+fn held(answer: &mut Answer, verdict: Verdict) -> Result<()> {
     match verdict {
-        Ok(held) => print(alloc, &held),
-        Err(ClaimError::Overclaimed(outside)) => Ok(format!(in alloc; "refused: {outside}")?),
-        Err(ClaimError::Memory) => Err(anyhow!("out of memory")),
+        Ok(held) => answer.say(&held),
+        Err(ClaimError::Overclaimed(outside)) => answer.say(&format_args!("refused: {outside}")),
+        Err(ClaimError::Memory) => return Err(anyhow!("out of memory")),
     }
+    Ok(())
 }
 
 // The words of a path, two by two: a policy, and what is claimed under it.
@@ -46,148 +44,161 @@ fn path(alloc: Global, words: &[&str]) -> Result<Vec<(AsResources, Overclaim)>> 
     Ok(path)
 }
 
-fn along(alloc: Global, root: &AsBlocks, words: &[&str]) -> Result<String> {
+fn along(alloc: Global, answer: &mut Answer, root: &AsBlocks, words: &[&str]) -> Result<()> {
     let path = path(alloc, words)?;
-    held(alloc, root.verify_path(alloc, path.as_slice()))
-}
-
-fn count(alloc: Global, set: &AsBlocks) -> Result<String> {
-    Ok(set.asn_count().to_string(alloc)?)
+    held(answer, root.verify_path(alloc, path.as_slice()))
 }
 
 // The first numbers of a set, one by one.
-fn each(alloc: Global, set: &AsBlocks) -> Result<String> {
-    let mut text = String::new(alloc);
+fn each(answer: &mut Answer, set: &AsBlocks) {
     for asn in set.iter_asns().take(12) {
-        write!(text, "{asn};")?;
+        answer.join_as(&asn);
+        answer.join(";");
     }
-    Ok(text)
 }
 
 // Resources, and the set that they list.
-fn listed(alloc: Global, resources: &AsResources) -> Result<String> {
+fn listed(answer: &mut Answer, resources: AsResources) -> Result<()> {
     let blocks = resources.to_blocks()?;
-    Ok(format!(in alloc; "{resources}: {blocks}")?)
+    answer.say(&format_args!("{resources}: {blocks}"));
+    Ok(())
 }
 
 // The resources in front of octets.
-fn decode(alloc: Global, digits: &str) -> Result<String> {
-    let octets = hex::decode(alloc, digits)?;
-    let read = Mode::Der.decode(
-        octets.as_slice(),
-        |cons| AsResources::take_from(alloc, cons),
-    );
-    match read {
-        Ok(resources) => Ok(format!(in alloc; "{resources}.")?),
-        Err(DecodeError::Memory) => Err(anyhow!("out of memory")),
-        Err(_) => Err(anyhow!("no AS resources")),
+fn decode(alloc: Global, answer: &mut Answer, octets: &[u8]) -> Result<()> {
+    match Mode::Der.decode(octets, |cons| AsResources::take_from(alloc, cons)) {
+        Ok(resources) => answer.say(&format_args!("{resources}.")),
+        Err(DecodeError::Memory) => return Err(anyhow!("out of memory")),
+        Err(_) => return Err(anyhow!("no AS resources")),
     }
+    Ok(())
 }
 
 // A content goes on after a block, but not after a refusal that is forgotten.
-fn forgotten(alloc: Global, digits: &str) -> Result<String> {
-    let octets = hex::decode(alloc, digits)?;
-    let read = Mode::Der.decode(octets.as_slice(), |cons| {
+fn forgotten(answer: &mut Answer, octets: &[u8]) -> Result<()> {
+    let read = Mode::Der.decode(octets, |cons| {
         let _ = AsBlock::take_opt_from(cons);
         Ok(())
     });
     match read {
-        Ok(()) => Ok(format!(in alloc; "goes on")?),
-        Err(_) => Err(anyhow!("the content failed")),
+        Ok(()) => answer.word("goes on"),
+        Err(_) => return Err(anyhow!("the content failed")),
     }
+    Ok(())
 }
 
-// The octets that are written of values.
-fn written<V: Values>(alloc: Global, values: &V) -> Result<String> {
+// The octets that are written of values, as more of the last word.
+fn write<V: Values>(alloc: Global, answer: &mut Answer, values: &V) -> Result<()> {
     let captured = values.to_captured(alloc, Mode::Der)?;
-    Ok(hex::encode(alloc, captured.as_slice())?)
+    answer.join_octets(captured.as_slice());
+    Ok(())
 }
 
 // The octets of resources in DER, and of the blocks that they list, which are bare.
-fn encode(alloc: Global, text: &str) -> Result<String> {
-    let resources = resources(alloc, text)?;
-    let whole = written(alloc, resources.encode_ref())?;
-    let Ok(blocks) = resources.to_blocks() else {
-        return Ok(whole);
-    };
-    let bare = written(alloc, &blocks)?;
-    Ok(format!(in alloc; "{whole} {bare}")?)
+fn encode(alloc: Global, answer: &mut Answer, resources: AsResources) -> Result<()> {
+    write(alloc, answer, resources.encode_ref())?;
+    match resources.to_blocks() {
+        Ok(blocks) => {
+            answer.join(" ");
+            write(alloc, answer, &blocks)
+        }
+        Err(_) => Ok(()),
+    }
 }
 
-fn issued(alloc: Global, issuer: &AsBlocks, policy: Overclaim, text: &str) -> Result<String> {
+fn issued(
+    alloc: Global,
+    answer: &mut Answer,
+    issuer: &AsBlocks,
+    policy: Overclaim,
+    text: &str,
+) -> Result<()> {
     let claim = resources(alloc, text)?;
-    held(alloc, issuer.verify_issued(alloc, &claim, policy))
+    held(answer, issuer.verify_issued(alloc, &claim, policy))
 }
 
-fn covered(alloc: Global, issuer: &AsBlocks, text: &str) -> Result<String> {
+fn covered(alloc: Global, answer: &mut Answer, issuer: &AsBlocks, text: &str) -> Result<()> {
     let claim = resources(alloc, text)?;
     match issuer.verify_covered(alloc, &claim) {
-        Ok(()) => print(alloc, issuer),
-        Err(error) => held(alloc, Err(error)),
+        Ok(()) => {
+            answer.say(issuer);
+            Ok(())
+        }
+        Err(error) => held(answer, Err(error)),
     }
 }
 
-fn union(alloc: Global, one: &AsBlocks, other: &AsBlocks) -> Result<String> {
-    print(alloc, &one.union(alloc, other)?)
-}
-
-fn intersection(alloc: Global, one: &AsBlocks, other: &AsBlocks) -> Result<String> {
-    print(alloc, &one.intersection(alloc, other)?)
-}
-
-fn difference(alloc: Global, one: &AsBlocks, other: &AsBlocks) -> Result<String> {
-    print(alloc, &one.difference(alloc, other)?)
-}
-
-fn within(alloc: Global, one: &AsBlocks, other: &AsBlocks) -> Result<String> {
-    Ok(other.contains(one).to_string(alloc)?)
-}
-
-fn of_one(alloc: Global, question: Question, text: &str) -> Result<String> {
+// What is asked of octets in hexadecimal digits, or of the resources of a text.
+fn of_text(alloc: Global, answer: &mut Answer, question: Question, text: &str) -> Result<()> {
     match question {
-        Question::Resources => return listed(alloc, &resources(alloc, text)?),
-        Question::Decode => return decode(alloc, text),
-        Question::Encode => return encode(alloc, text),
-        Question::Forgotten => return forgotten(alloc, text),
-        _ => {}
-    }
-    let set = set(alloc, text)?;
-    match question {
-        Question::Read => print(alloc, &set),
-        Question::Count => count(alloc, &set),
-        Question::Each => each(alloc, &set),
-        Question::Path => along(alloc, &set, &[]),
-        _ => Err(anyhow!("one set is too few")),
+        Question::Resources => listed(answer, resources(alloc, text)?),
+        Question::Encode => encode(alloc, answer, resources(alloc, text)?),
+        Question::Decode => decode(alloc, answer, hex::decode(alloc, text)?.as_slice()),
+        _ => forgotten(answer, hex::decode(alloc, text)?.as_slice()),
     }
 }
 
-fn of_sets(alloc: Global, question: Question, one: &AsBlocks, text: &str) -> Result<String> {
-    let other = set(alloc, text)?;
+// What is asked of one set.
+fn of_set(alloc: Global, answer: &mut Answer, question: Question, set: AsBlocks) -> Result<()> {
     match question {
-        Question::Within => within(alloc, one, &other),
-        Question::Union => union(alloc, one, &other),
-        Question::Intersection => intersection(alloc, one, &other),
-        Question::Difference => difference(alloc, one, &other),
-        _ => Err(anyhow!("two sets are too many")),
+        Question::Read => answer.say(&set),
+        Question::Count => answer.say(&set.asn_count()),
+        Question::Each => each(answer, &set),
+        Question::Path => return along(alloc, answer, &set, &[]),
+        _ => return Err(anyhow!("one set is too few")),
     }
+    Ok(())
 }
 
-fn of_several(alloc: Global, question: Question, root: &str, words: &[&str]) -> Result<String> {
-    let first = set(alloc, root)?;
+// What is asked of two sets.
+fn of_sets(
+    alloc: Global,
+    answer: &mut Answer,
+    question: Question,
+    one: &AsBlocks,
+    other: AsBlocks,
+) -> Result<()> {
+    match question {
+        Question::Within => answer.say(&other.contains(one)),
+        Question::Union => answer.say(&one.union(alloc, &other)?),
+        Question::Intersection => answer.say(&one.intersection(alloc, &other)?),
+        Question::Difference => answer.say(&one.difference(alloc, &other)?),
+        _ => return Err(anyhow!("two sets are too many")),
+    }
+    Ok(())
+}
+
+fn of_several(
+    alloc: Global,
+    answer: &mut Answer,
+    question: Question,
+    root: &AsBlocks,
+    words: &[&str],
+) -> Result<()> {
     match (question, words) {
-        (Question::Path, _) => along(alloc, &first, words),
-        (Question::Issued(policy), [claim]) => issued(alloc, &first, policy, *claim),
-        (Question::Covered, [claim]) => covered(alloc, &first, *claim),
-        (_, [other]) => of_sets(alloc, question, &first, *other),
+        (Question::Path, _) => along(alloc, answer, root, words),
+        (Question::Issued(policy), [claim]) => issued(alloc, answer, root, policy, *claim),
+        (Question::Covered, [claim]) => covered(alloc, answer, root, *claim),
+        (_, [other]) => of_sets(alloc, answer, question, root, set(alloc, *other)?),
         _ => Err(anyhow!("too many words")),
     }
 }
 
-/// The answer to a question about one set, or about a set and what follows.
-pub fn answer(alloc: Global, question: Question, words: &[&str]) -> Result<String> {
-    match words {
-        [] => Err(anyhow!("no words")),
-        [one] => of_one(alloc, question, *one),
-        [root, words @ ..] => of_several(alloc, question, *root, words),
+/// Answers a question about one set, or about a set and what follows.
+pub fn answer(
+    alloc: Global,
+    answer: &mut Answer,
+    question: Question,
+    words: &[&str],
+) -> Result<()> {
+    match (question, words) {
+        (_, []) => Err(anyhow!("no words")),
+        (Question::Resources | Question::Decode | Question::Encode | Question::Forgotten, [text]) =>
+            of_text(alloc, answer, question, *text),
+        (_, [one]) => of_set(alloc, answer, question, set(alloc, *one)?),
+        (_, [root, words @ ..]) => {
+            let root = set(alloc, *root)?;
+            of_several(alloc, answer, question, &root, words)
+        }
     }
 }

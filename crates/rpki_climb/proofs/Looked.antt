@@ -1,11 +1,11 @@
 -- What is read at a lookup key.
 use Rattle.std.proofs.Common.{ℕ, List, Option, Some, None}
 use Rattle.std.specs.Prelude.{MatchOption}
-use Rattle.rpki_judge.specs.rpki_readings.Certs.{Cert}
-use Rattle.rpki_judge.specs.rpki_rules.Chains.{CertAt}
-use Rattle.rpki_judge.specs.rpki_rules.World.{World}
-use Rattle.rpki_judge.specs.Evidence.{IsReadCert}
-use Rattle.rpki_anchors.specs.Leads.{NoCertAt}
+use Rattle.rpki_rules.specs.Certs.{Cert}
+use Rattle.rpki_rules.specs.Chains.{CertAt}
+use Rattle.rpki_rules.specs.World.{World}
+use Rattle.rpki_walk.specs.Evidence.{IsReadCert}
+use Rattle.rpki_standing.specs.Leads.{NoCertAt}
 
 -- The certificate there, as the judge is given it.
 pub cert_told : (w : World) (uri : List ℕ) (found : Option Cert) → MatchOption found (NoCertAt w uri) (λ c. CertAt w uri c) → IsReadCert (λ c. c) w uri found

@@ -1,10 +1,10 @@
 -- The trust anchor of one locator (RFC 8630 3).
 use Rattle.std.specs.Prelude.{ℕ, List}
-use Rattle.rpki_judge.specs.rpki_readings.Certs.{CertText, Key}
-use Rattle.rpki_judge.specs.rpki_rules.Points.{IsAnchorCert, Link}
-use Rattle.rpki_judge.specs.rpki_rules.World.{World}
-use Rattle.rpki_anchors.specs.rpki_bundle.declared.parts.Locator.{Locator}
-use Rattle.rpki_anchors.specs.Leads.{HoldsAt}
+use Rattle.rpki_rules.specs.Certs.{CertText, Key}
+use Rattle.rpki_rules.specs.Points.{IsAnchorCert, Link}
+use Rattle.rpki_rules.specs.World.{World}
+use Rattle.rpki_standing.specs.rpki_bundle.declared.parts.Locator.{Locator}
+use Rattle.rpki_standing.specs.Leads.{HoldsAt}
 
 -- The locator leads to the object with this lookup key, which reads as this certificate, one of a trust anchor with the
 -- locator's key.

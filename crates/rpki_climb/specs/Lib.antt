@@ -1,3 +1,3 @@
 pub mod Anchored
 -- What stands below, for the crates above.
-pub use Rattle.rpki_judge.specs.rpki_laws as rpki_laws
+pub use Rattle.rpki_rules.specs as rpki_rules

@@ -1,17 +1,18 @@
 //! Trust anchors by the names of their locators (RFC 8630 3).
 
 ghost use Rattle.std.specs.Prelude.{◌≡◌, ◌↔◌, ◌+◌, ◌≤◌, IfNone, IfOk, IfSome, IsTrue};
-ghost use Rattle.rpki_judge.specs.rpki_rules.Chains.{CertAt};
-ghost use Rattle.rpki_judge.specs.rpki_rules.Points.{Anchor, IsAnchorCert};
-ghost use Rattle.rpki_judge.specs.rpki_rules.Words.{Mem};
-ghost use Rattle.rpki_judge.specs.rpki_rules.World.{world_of};
-ghost use Rattle.rpki_anchors.specs.rpki_bundle.declared.parts.Locator.{Locator as LocatorValue};
-ghost use Rattle.rpki_objects.specs.certs_key.Digesting.{digests_of};
+ghost use Rattle.rpki_rules.specs.Chains.{CertAt};
+ghost use Rattle.rpki_rules.specs.Points.{Anchor, IsAnchorCert};
+ghost use Rattle.rpki_rules.specs.Words.{Mem};
+ghost use Rattle.rpki_rules.specs.World.{world_of};
+ghost use Rattle.rpki_standing.specs.rpki_bundle.declared.parts.Locator.{Locator as LocatorValue};
+ghost use Rattle.rpki_standing.specs.certs_key.Digesting.{digests_of};
 ghost use Rattle.rpki_climb.specs.Anchored.{IsAnchorOf};
 
-use rpki_anchors::laws::{no_lead, one_lead};
-use rpki_anchors::{Lead, Locator, Object, follow};
-use rpki_objects::{Cert, Digester, Index, PublicKey, Verifier, is_anchor_cert};
+use rpki_standing::anchors::laws::{no_lead, one_lead};
+use rpki_standing::anchors::{Lead, follow};
+use rpki_standing::table::{Locator, Object};
+use rpki_standing::{Cert, Digester, Index, PublicKey, Verifier, is_anchor_cert};
 use std::alloc::{AllocError, Global};
 
 /// The locator of that name among those. They are gone through, one by one.

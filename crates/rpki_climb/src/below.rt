@@ -1,14 +1,14 @@
 //! Certificates below an authority (RFC 6487 7.2).
 
 ghost use Rattle.std.specs.Prelude.{◌≡◌, ◌↔◌, ◌+◌, ◌≤◌, IfOk, IsTrue};
-ghost use Rattle.rpki_judge.specs.Evidence.{IsBelow};
-ghost use Rattle.rpki_judge.specs.rpki_rules.Chains.{CertAt, IsSound};
-ghost use Rattle.rpki_judge.specs.rpki_rules.Points.{files as files_by};
-ghost use Rattle.rpki_judge.specs.rpki_rules.World.{world_of};
-ghost use Rattle.rpki_objects.specs.certs_key.Digesting.{digests_of};
+ghost use Rattle.rpki_walk.specs.Evidence.{IsBelow};
+ghost use Rattle.rpki_rules.specs.Chains.{CertAt, IsSound};
+ghost use Rattle.rpki_rules.specs.Points.{files as files_by};
+ghost use Rattle.rpki_rules.specs.World.{world_of};
+ghost use Rattle.rpki_standing.specs.certs_key.Digesting.{digests_of};
 
 use crate::files::is_cer_file;
-use rpki_objects::{Cert, Digester, Index, Point, Verifier, is_issued_to_authority, is_unrevoked};
+use rpki_standing::{Cert, Digester, Index, Point, Verifier, is_issued_to_authority, is_unrevoked};
 use std::alloc::{AllocError, Global};
 
 /// Whether the certificate is sound at the authority's point: it has the form of an authority's, it isn't revoked there, and

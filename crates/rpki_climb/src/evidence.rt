@@ -1,16 +1,17 @@
 //! A bundle with a digester and a verifier, as the judge asks it.
 
 ghost use Rattle.std.specs.Prelude.{◌≡◌};
-ghost use Rattle.rpki_objects.specs.certs_key.Digesting.{digests_of};
-ghost use Rattle.rpki_judge.specs.rpki_rules.World.{world_of};
+ghost use Rattle.rpki_standing.specs.certs_key.Digesting.{digests_of};
+ghost use Rattle.rpki_rules.specs.World.{world_of};
 
 use crate::anchors::is_anchor;
 use crate::below::is_below;
 use crate::certs::{claims_of, find_cert, have_one_key};
 use crate::needs::needs_of;
 use crate::points::{read_object, read_point};
-use rpki_judge::{Claims, Evidence, Needed};
-use rpki_objects::{Cert, Digester, Index, Point, Published, Verifier};
+use rpki_standing::attested::Published;
+use rpki_standing::{Cert, Digester, Index, Point, Verifier};
+use rpki_walk::judge::{Claims, Evidence, Needed};
 use std::alloc::{AllocError, Global};
 
 /// A bundle with a digester and a verifier: what the judge asks of its objects.

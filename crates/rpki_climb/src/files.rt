@@ -1,11 +1,11 @@
 //! Files of a publication point.
 
 ghost use Rattle.std.specs.Prelude.{◌↔◌, IsTrue};
-ghost use Rattle.rpki_judge.specs.rpki_rules.Chains.{HasExtension, cer};
-ghost use Rattle.rpki_judge.specs.rpki_rules.Words.{Mem};
+ghost use Rattle.rpki_rules.specs.Chains.{HasExtension, cer};
+ghost use Rattle.rpki_rules.specs.Words.{Mem};
 
 use bytes::Bytes;
-use rpki_objects::{Extension, extension_of};
+use rpki_standing::payloads::{Extension, extension_of};
 
 /// Whether the lookup key is one of those. They are gone through, one by one.
 pub fn is_listed(files: &[Bytes], key: &[u8]) -> bool

@@ -2,22 +2,22 @@
 //! draft-ietf-sidrops-aspa-profile 4).
 
 ghost use Rattle.std.specs.Prelude.{◌≡◌, IfOk, map};
-ghost use Rattle.rpki_judge.specs.resources_chain.Sets.{InRuns, IsRunsOf};
-ghost use Rattle.rpki_judge.specs.resources_ip.Block.{run_of_block};
-ghost use Rattle.rpki_judge.specs.resources_ip_prefix.Prefixes.{prefix_run};
-ghost use Rattle.rpki_objects.specs.objects_roa.Addresses.{roa_address};
-ghost use Rattle.rpki_objects.specs.rpki_payloads.Views.{payload_of};
-ghost use Rattle.rpki_judge.specs.rpki_rules.Attests.{OfAspa, OfRoa};
-ghost use Rattle.rpki_judge.specs.rpki_rules.Judge.{Needs, runs_of};
-ghost use Rattle.rpki_judge.specs.Needed.{IsNeed};
+ghost use Rattle.rpki_walk.specs.resources_chain.Sets.{InRuns, IsRunsOf};
+ghost use Rattle.rpki_walk.specs.resources_ip.Block.{run_of_block};
+ghost use Rattle.rpki_walk.specs.resources_ip_prefix.Prefixes.{prefix_run};
+ghost use Rattle.rpki_standing.specs.objects_roa.Addresses.{roa_address};
+ghost use Rattle.rpki_standing.specs.Views.{payload_of};
+ghost use Rattle.rpki_rules.specs.Attests.{OfAspa, OfRoa};
+ghost use Rattle.rpki_rules.specs.Judge.{Needs, runs_of};
+ghost use Rattle.rpki_walk.specs.Needed.{IsNeed};
 
-use rpki_judge::Needed;
-use rpki_judge::asres::AsBlock;
-use rpki_judge::chain::{Block, OwnedChain, SharedChain};
-use rpki_judge::ipres::IpBlock;
-use rpki_objects::{
+use rpki_standing::payloads::{
     AsProviderAttestation, Payload, RoaIpAddress, RoaIpAddresses, RouteOriginAttestation,
 };
+use rpki_walk::judge::Needed;
+use rpki_walk::judge::asres::AsBlock;
+use rpki_walk::judge::chain::{Block, OwnedChain, SharedChain};
+use rpki_walk::judge::ipres::IpBlock;
 use std::alloc::{AllocError, Global};
 
 // The block of the addresses of one prefix.

@@ -1,13 +1,14 @@
 //! Publication points, and the objects at their files (RFC 9286 6, RFC 6488 3).
 
 ghost use Rattle.std.specs.Prelude.{◌≡◌, ◌+◌, ◌≤◌, IfOk, IfSome};
-ghost use Rattle.rpki_judge.specs.Evidence.{IsReadObject, IsReadPoint};
-ghost use Rattle.rpki_judge.specs.rpki_rules.Points.{files as files_by};
-ghost use Rattle.rpki_judge.specs.rpki_rules.World.{world_of};
-ghost use Rattle.rpki_objects.specs.certs_key.Digesting.{digests_of};
+ghost use Rattle.rpki_walk.specs.Evidence.{IsReadObject, IsReadPoint};
+ghost use Rattle.rpki_rules.specs.Points.{files as files_by};
+ghost use Rattle.rpki_rules.specs.World.{world_of};
+ghost use Rattle.rpki_standing.specs.certs_key.Digesting.{digests_of};
 
 use crate::files::is_listed;
-use rpki_objects::{Cert, Digester, Index, Point, Published, Verifier, find_object, point_unheld};
+use rpki_standing::attested::{Published, find_object};
+use rpki_standing::{Cert, Digester, Index, Point, Verifier, point_unheld};
 use std::alloc::{AllocError, Global};
 
 /// The authority's publication point, what the certificate of its manifest claims apart, if it is one. The verifier is asked

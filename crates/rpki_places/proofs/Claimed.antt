@@ -2,12 +2,12 @@
 use Rattle.std.proofs.Common.{◌≡◌, Bool, subst}
 use Rattle.std.specs.Prelude.{◌↔◌, IsTrue}
 use Rattle.rpki_standing.specs.certs_specs.Verified.{HolderValue, held_by}
-use Rattle.rpki_standing.specs.rpki_readings.Certs.{Cert}
-use Rattle.rpki_standing.specs.rpki_rules.Chains.{Fits}
-use Rattle.rpki_standing.specs.rpki_rules.Kinds.{Ipv4, Ipv6, As}
-use Rattle.rpki_step.specs.Claimed.{ClaimValue}
-use Rattle.rpki_step.specs.resources_set.Resources.{Resources}
-use Rattle.rpki_step.specs.Steps.{FitsAll}
+use Rattle.rpki_rules.specs.Certs.{Cert}
+use Rattle.rpki_rules.specs.Chains.{Fits}
+use Rattle.rpki_rules.specs.Kinds.{Ipv4, Ipv6, As}
+use Rattle.rpki_walk.specs.Claimed.{ClaimValue}
+use Rattle.rpki_walk.specs.resources_set.Resources.{Resources}
+use Rattle.rpki_walk.specs.Steps.{FitsAll}
 use Rattle.rpki_places.specs.Claims.{claims_of, sets_of}
 
 module _ (c : Cert) (h : HolderValue) where

@@ -3,11 +3,11 @@ use Rattle.std.proofs.Common.{◌≡◌, ◌∙◌, ℕ, List, Option, Some, Non
 use Rattle.std.specs.Prelude.{IfOk}
 use Rattle.rpki_standing.specs.objects_kinds.Kinds.{KindValue}
 use Rattle.rpki_standing.specs.rpki_bundle.Bundle.{BundleValue}
-use Rattle.rpki_standing.specs.rpki_points.Crls.{Finds}
-use Rattle.rpki_standing.specs.rpki_readings.Certs.{Cert, Crl, Digests, Verdicts}
-use Rattle.rpki_standing.specs.rpki_readings.Objects.{Manifest}
-use Rattle.rpki_standing.specs.rpki_rules.Points.{HasFiles, IsCrlOf, files}
-use Rattle.rpki_standing.specs.rpki_rules.World.{find_object, world_of}
+use Rattle.rpki_standing.specs.Crls.{Finds}
+use Rattle.rpki_rules.specs.Certs.{Cert, Crl, Digests, Verdicts}
+use Rattle.rpki_rules.specs.Objects.{Manifest}
+use Rattle.rpki_rules.specs.Points.{HasFiles, IsCrlOf, files}
+use Rattle.rpki_rules.specs.World.{find_object, world_of}
 use Rattle.rpki_standing.specs.Standing.{HasNoParts}
 use Rattle.rpki_places.specs.declared.files.File.{File}
 use Rattle.rpki_places.specs.Files.{AreFilesOf, NoFilesOf}

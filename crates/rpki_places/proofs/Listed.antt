@@ -2,7 +2,7 @@
 use Rattle.std.proofs.Common.{◌≡◌, ◌∙◌, ℕ, List, [], ◌∷◌, ◌++◌, Option, Some, None, sym, ap, subst, append_assoc, append-nil}
 use Rattle.rpki_standing.specs.certs_uri.Paths.{join}
 use Rattle.rpki_standing.specs.certs_uri.Uris.{lookup_key}
-use Rattle.rpki_standing.specs.rpki_readings.Objects.{File as Listed}
+use Rattle.rpki_rules.specs.Objects.{File as Listed}
 use Rattle.rpki_places.specs.declared.files.File.{File}
 use Rattle.rpki_places.specs.Files.{AreFilesIn, IsFileIn, NoFilesIn}
 

@@ -2,10 +2,10 @@
 use Rattle.std.proofs.Common.{◌≡◌, ◌∙◌, ℕ, List, [], ◌∷◌, map, Option, Some, refl, sym, ap, subst}
 use Rattle.rpki_standing.specs.certs_uri.Paths.{join}
 use Rattle.rpki_standing.specs.certs_uri.Uris.{lookup_key}
-use Rattle.rpki_standing.specs.rpki_readings.Objects.{File as Listed}
-use Rattle.rpki_standing.specs.rpki_rules.Points.{IsHeld, files, files_in}
-use Rattle.rpki_standing.specs.rpki_rules.Words.{Each}
-use Rattle.rpki_standing.specs.rpki_rules.World.{World}
+use Rattle.rpki_rules.specs.Objects.{File as Listed}
+use Rattle.rpki_rules.specs.Points.{IsHeld, files, files_in}
+use Rattle.rpki_rules.specs.Words.{Each}
+use Rattle.rpki_rules.specs.World.{World}
 use Rattle.rpki_places.specs.declared.files.File.{File}
 use Rattle.rpki_places.specs.Files.{AreFilesIn, FilesAreListed}
 use Rattle.rpki_places.specs.Places.{FilesHaveHashes}

@@ -3,7 +3,7 @@ use Rattle.std.proofs.Common.{◌≡◌, ℕ, List, Option, Some, None, All, ref
 use Rattle.rpki_standing.specs.certs_uri.Paths.{join}
 use Rattle.rpki_standing.specs.certs_uri.Uris.{IsUriOctet, lookup_key}
 use Rattle.rpki_standing.specs.rpki_bundle.Bundle.{BundleText, BundleValue}
-use Rattle.rpki_standing.specs.rpki_rules.World.{find_object}
+use Rattle.rpki_rules.specs.World.{find_object}
 use Rattle.rpki_places.proofs.Plain.{name_is}
 use Rattle.rpki_places.proofs.Spelled.{held_uri}
 

@@ -1,8 +1,8 @@
 -- What is held and what is claimed of each kind of number resources (RFC 6487 7.2, RFC 8360 4.2).
 use Rattle.rpki_standing.specs.certs_specs.Verified.{HolderValue}
-use Rattle.rpki_standing.specs.rpki_readings.Certs.{Cert}
-use Rattle.rpki_step.specs.Claimed.{ClaimValue}
-use Rattle.rpki_step.specs.resources_set.Resources.{Resources}
+use Rattle.rpki_rules.specs.Certs.{Cert}
+use Rattle.rpki_walk.specs.Claimed.{ClaimValue}
+use Rattle.rpki_walk.specs.resources_set.Resources.{Resources}
 
 -- The sets of the numbers that a certificate which was verified holds.
 abbrev pub sets_of : HolderValue → Resources

@@ -2,9 +2,9 @@
 use Rattle.std.specs.Prelude.{◌≡◌, ℕ, List, [], ◌∷◌, map, Option, Some}
 use Rattle.rpki_standing.specs.certs_uri.Paths.{join}
 use Rattle.rpki_standing.specs.certs_uri.Uris.{lookup_key}
-use Rattle.rpki_standing.specs.rpki_readings.Certs.{Cert}
-use Rattle.rpki_standing.specs.rpki_readings.Objects.{File as Listed, Manifest}
-use Rattle.rpki_standing.specs.rpki_rules.Points.{files}
+use Rattle.rpki_rules.specs.Certs.{Cert}
+use Rattle.rpki_rules.specs.Objects.{File as Listed, Manifest}
+use Rattle.rpki_rules.specs.Points.{files}
 use Rattle.rpki_places.specs.declared.files.File.{File}
 
 -- The file of that name in that folder, with the octets that are held there. `object` gives the octets of the object

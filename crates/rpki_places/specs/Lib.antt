@@ -8,5 +8,4 @@ pub use Rattle.rpki_standing.specs.certs_specs as certs_specs
 pub use Rattle.rpki_standing.specs.certs_uri as certs_uri
 pub use Rattle.certs_verify.specs as certs_verify
 pub use Rattle.rpki_bundle.specs as rpki_bundle
-pub use Rattle.rpki_standing.specs.rpki_readings as rpki_readings
-pub use Rattle.rpki_standing.specs.rpki_rules as rpki_rules
+pub use Rattle.rpki_rules.specs as rpki_rules

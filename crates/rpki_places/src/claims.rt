@@ -2,12 +2,12 @@
 
 ghost use Rattle.std.specs.Prelude.{◌≡◌, ◌↔◌, IsTrue};
 ghost use Rattle.rpki_standing.specs.certs_specs.Verified.{held_by};
-ghost use Rattle.rpki_standing.specs.rpki_rules.Chains.{Fits};
+ghost use Rattle.rpki_rules.specs.Chains.{Fits};
 ghost use Rattle.rpki_places.specs.Claims.{claims_of, sets_of};
 
 use certs_verify::ResourceCert;
 use rpki_standing::Cert;
-use rpki_step::{Claim, Holding, claim_fits};
+use rpki_walk::step::{Claim, Holding, claim_fits};
 use std::alloc::Global;
 
 // What the authority holds.

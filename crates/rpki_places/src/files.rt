@@ -3,7 +3,7 @@
 ghost use Rattle.std.specs.Prelude.{◌≡◌, All, IfOk, MatchOption, None};
 ghost use Rattle.rpki_standing.specs.certs_uri.Paths.{join as joined};
 ghost use Rattle.rpki_standing.specs.certs_uri.Uris.{IsUriOctet, lookup_key as key_of};
-ghost use Rattle.rpki_standing.specs.rpki_rules.World.{find_object};
+ghost use Rattle.rpki_rules.specs.World.{find_object};
 ghost use Rattle.rpki_places.specs.Files.{AreFilesIn, AreFilesOf, IsFileIn, NoFilesIn, NoFilesOf};
 
 use bytes::Bytes;

@@ -3,9 +3,9 @@
 ghost use Rattle.std.specs.Prelude.{◌≡◌, ◌+◌, ◌≤◌, IfOk};
 ghost use Rattle.rpki_standing.specs.certs_key.Digesting.{digests_of};
 ghost use Rattle.rpki_standing.specs.certs_specs.Verified.{held_by};
-ghost use Rattle.rpki_standing.specs.rpki_rules.Chains.{StandsIn};
-ghost use Rattle.rpki_standing.specs.rpki_rules.Points.{IsPoint};
-ghost use Rattle.rpki_standing.specs.rpki_rules.World.{world_of};
+ghost use Rattle.rpki_rules.specs.Chains.{StandsIn};
+ghost use Rattle.rpki_rules.specs.Points.{IsPoint};
+ghost use Rattle.rpki_rules.specs.World.{world_of};
 ghost use Rattle.rpki_places.specs.Places.{FindsPoint};
 
 use crate::claims::fits_below;

@@ -4,7 +4,7 @@ use anyhow::{Result, anyhow};
 use certs_verify::{Cert, ResourceCert, TalInfo, Validate};
 use rpki_bundle::Bundle;
 use rpki_digests::Fips;
-use rpki_table::TableVerifier;
+use rpki_standing::table::TableVerifier;
 use std::alloc::Global;
 use std::rc::Rc;
 

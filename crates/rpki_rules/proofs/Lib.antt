@@ -1,6 +1,25 @@
 pub mod Readings
 pub mod Fronts
+pub mod Lists
+mod Verify
+mod LookedUp
+mod Tables
+mod WitnessNames
+mod Climb
+pub mod Judging
+mod Covered
+mod Moved
+mod Simple
+mod Cross
+mod Refusals
+mod Untouched
+mod OneOutput
+mod Outside
+pub mod Orders
+pub mod Sets
+pub mod Groups
+pub mod Pieces
 pub mod of_bcder_tree
+pub mod of_rpki_bundle
 pub mod of_certs_uri
 pub mod of_objects_forms
-pub mod of_rpki_bundle

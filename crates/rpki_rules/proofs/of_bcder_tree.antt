@@ -1,2 +1,2 @@
 -- Lemmas of bcder_tree, for the crates above.
-pub use Rattle.rpki_readings.proofs.of_bcder_tree.Unique
+pub use Rattle.objects_forms.proofs.of_bcder_tree.Unique

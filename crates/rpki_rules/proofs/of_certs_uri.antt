@@ -1,2 +1,2 @@
 -- Lemmas of certs_uri, for the crates above.
-pub use Rattle.rpki_readings.proofs.of_certs_uri.UriTexts
+pub use Rattle.objects_forms.proofs.of_certs_uri.UriTexts

@@ -1,2 +1,2 @@
 -- Lemmas of objects_forms, for the crates above.
-pub use Rattle.rpki_readings.proofs.of_objects_forms.Locators
+pub use Rattle.objects_forms.proofs.Locators

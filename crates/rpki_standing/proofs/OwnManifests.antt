@@ -2,11 +2,11 @@
 use Rattle.std.proofs.Common.{◌≡◌, ◌↔◌, ℕ, Bool, true, false, IsTrue, List, Option, Some, None, Result, Ok, Err, MatchOption, refl, sym, subst}
 use Rattle.std.specs.Prelude.{IfOk}
 use Rattle.objects_kinds.specs.Kinds.{KindValue}
-use Rattle.rpki_points.proofs.Passing.{one_value}
-use Rattle.rpki_standing.specs.rpki_points.Crls.{Finds}
-use Rattle.rpki_standing.specs.rpki_readings.Certs.{Cert}
-use Rattle.rpki_standing.specs.rpki_readings.Objects.{Manifest, ManifestText, one_manifest}
-use Rattle.rpki_standing.specs.rpki_rules.World.{World, at}
+use Rattle.rpki_standing.proofs.Failing.{one_value}
+use Rattle.rpki_standing.specs.Crls.{Finds}
+use Rattle.rpki_rules.specs.Certs.{Cert}
+use Rattle.rpki_rules.specs.Objects.{Manifest, ManifestText, one_manifest}
+use Rattle.rpki_rules.specs.World.{World, at}
 use Rattle.rpki_standing.specs.Manifests.{IsOwnManifest, IsReadAt, IsSoundFor}
 
 -- What the manifest URI reads as is read of the octets that are held there.

@@ -2,11 +2,11 @@
 use Rattle.std.specs.Prelude.{◌≡◌, ◌≤◌, ℕ, true, List, Some}
 use Rattle.objects_kinds.specs.Kinds.{KindValue}
 use Rattle.rpki_standing.specs.certs_specs.declared.Role.TheVariants.{Ee}
-use Rattle.rpki_standing.specs.rpki_readings.Certs.{Cert}
-use Rattle.rpki_standing.specs.rpki_readings.Objects.{Manifest, ManifestText, Sound}
-use Rattle.rpki_standing.specs.rpki_rules.Points.{IsManifestOf}
-use Rattle.rpki_standing.specs.rpki_rules.World.{World, at}
-use Rattle.rpki_signed.specs.Issued.{IsIssued}
+use Rattle.rpki_rules.specs.Certs.{Cert}
+use Rattle.rpki_rules.specs.Objects.{Manifest, ManifestText, Sound}
+use Rattle.rpki_rules.specs.Points.{IsManifestOf}
+use Rattle.rpki_rules.specs.World.{World, at}
+use Rattle.rpki_standing.specs.Issued.{IsIssued}
 
 -- The octets begin with the manifest, in DER.
 abbrev pub IsReadIn : List ℕ → KindValue Manifest → Type 0

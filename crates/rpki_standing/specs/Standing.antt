@@ -1,10 +1,10 @@
 -- What stands at a publication point, with the lookup keys of its files (RFC 9286 6).
 use Rattle.std.specs.Prelude.{◌≡◌, ℕ, List, Option, Some, None}
 use Rattle.objects_kinds.specs.Kinds.{KindValue}
-use Rattle.rpki_standing.specs.rpki_readings.Certs.{Cert, Crl}
-use Rattle.rpki_standing.specs.rpki_readings.Objects.{Manifest}
-use Rattle.rpki_standing.specs.rpki_rules.Points.{Point, HasFiles, IsCrlOf, IsPoint, files}
-use Rattle.rpki_standing.specs.rpki_rules.World.{World}
+use Rattle.rpki_rules.specs.Certs.{Cert, Crl}
+use Rattle.rpki_rules.specs.Objects.{Manifest}
+use Rattle.rpki_rules.specs.Points.{Point, HasFiles, IsCrlOf, IsPoint, files}
+use Rattle.rpki_rules.specs.World.{World}
 
 -- The manifest's files are held as listed, these are their lookup keys, and the revocation list is the one that its
 -- certificate names.

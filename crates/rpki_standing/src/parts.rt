@@ -2,16 +2,17 @@
 
 ghost use Rattle.std.specs.Prelude.{◌≡◌, ◌+◌, ◌≤◌, IfOk, MatchOption};
 ghost use Rattle.rpki_standing.specs.certs_key.Digesting.{digests_of};
-ghost use Rattle.rpki_standing.specs.rpki_points.Crls.{Finds};
-ghost use Rattle.rpki_standing.specs.rpki_readings.Certs.{Digests, Verdicts};
-ghost use Rattle.rpki_standing.specs.rpki_rules.Points.{HasFiles, IsCrlOf, files as files_by};
-ghost use Rattle.rpki_standing.specs.rpki_rules.World.{world_of};
+ghost use Rattle.rpki_standing.specs.Crls.{Finds};
+ghost use Rattle.rpki_rules.specs.Certs.{Digests, Verdicts};
+ghost use Rattle.rpki_rules.specs.Points.{HasFiles, IsCrlOf, files as files_by};
+ghost use Rattle.rpki_rules.specs.World.{world_of};
 ghost use Rattle.rpki_standing.specs.Standing.{AreParts, HasNoParts};
 
+use crate::points::{Crl, files_of, has_files, read_crl};
+use crate::signed::{Cert, Digester, Verifier};
+use crate::table::Index;
 use bytes::Bytes;
 use objects_kinds::{Manifest, ManifestContent};
-use rpki_points::{Crl, files_of, has_files, read_crl};
-use rpki_signed::{Cert, Digester, Index, Verifier};
 use std::alloc::{AllocError, Global};
 
 /// The lookup keys of the files that the manifest lists, if they differ by name and each is there as it is listed.

@@ -2,16 +2,17 @@
 
 ghost use Rattle.std.specs.Prelude.{◌≡◌, ◌+◌, ◌≤◌, IfOk, option_copied};
 ghost use Rattle.rpki_standing.specs.certs_key.Digesting.{digests_of};
-ghost use Rattle.rpki_standing.specs.rpki_rules.World.{world_of};
+ghost use Rattle.rpki_rules.specs.World.{world_of};
 ghost use Rattle.rpki_standing.specs.Standing.{FindsPoint};
 
 use crate::kept::keep_with;
 use crate::manifests::find_manifest;
 use crate::parts::find_parts;
+use crate::points::{Crl, Rsync};
+use crate::signed::{Cert, Digester, Verifier};
+use crate::table::Index;
 use bytes::Bytes;
 use objects_kinds::Manifest;
-use rpki_points::{Crl, Rsync};
-use rpki_signed::{Cert, Digester, Index, Verifier};
 use std::alloc::{AllocError, Global};
 use std::marker::Model;
 

@@ -3,17 +3,17 @@ use Rattle.std.proofs.Common.{◌≡◌, ◌<◌, ℕ, List, [], length, get_or,
 use Rattle.std.proofs.lemmas.List.{get_or_read}
 use Rattle.std.specs.Prelude.{IfOk, String}
 use Rattle.std.specs.declared.alloc.Global.{Global}
-use Rattle.rpki_anchors.specs.Leads.{HoldsAt, HoldsNowhere, IsNoCert}
-use Rattle.rpki_authority.specs.Anchors.{FindsAnchor}
-use Rattle.rpki_authority.specs.Holders.{cert_of, sets_of}
-use Rattle.rpki_authority.specs.certs_verify.Holders.{ResourceCertValue}
-use Rattle.rpki_anchors.specs.rpki_bundle.declared.parts.Locator.{Locator}
-use Rattle.rpki_authority.specs.rpki_readings.Certs.{Cert, CertText, Key, one_cert}
-use Rattle.rpki_authority.specs.rpki_rules.Points.{IsAnchorCert, Link}
-use Rattle.rpki_authority.specs.rpki_rules.World.{World}
-use Rattle.rpki_authority.specs.rpki_walk.Filed.{HasListed, IsLed, LeadsTo, locator_at}
-use Rattle.rpki_authority.specs.rpki_walk.declared.steps.Leads.{Leads}
-use Rattle.rpki_authority.specs.rpki_walk.declared.steps.Leads.TheVariants as To
+use Rattle.rpki_standing.specs.Leads.{HoldsAt, HoldsNowhere, IsNoCert}
+use Rattle.rpki_steps.specs.Anchored.{FindsAnchor}
+use Rattle.rpki_steps.specs.Holders.{cert_of, sets_of}
+use Rattle.rpki_steps.specs.certs_verify.Holders.{ResourceCertValue}
+use Rattle.rpki_standing.specs.rpki_bundle.declared.parts.Locator.{Locator}
+use Rattle.rpki_rules.specs.Certs.{Cert, CertText, Key, one_cert}
+use Rattle.rpki_rules.specs.Points.{IsAnchorCert, Link}
+use Rattle.rpki_rules.specs.World.{World}
+use Rattle.rpki_walk.specs.Filed.{HasListed, IsLed, LeadsTo, locator_at}
+use Rattle.rpki_walk.specs.declared.steps.Leads.{Leads}
+use Rattle.rpki_walk.specs.declared.steps.Leads.TheVariants as To
 use Rattle.rpki_steps.specs.Anchors.{FindsAnchorIn, IsAnchorIn}
 
 module _ (w : World) (key : Key) (octets : List ℕ) where

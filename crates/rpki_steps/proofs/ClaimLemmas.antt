@@ -1,13 +1,13 @@
 -- Claims kind by kind.
 use Rattle.std.proofs.Common.{◌≡◌, Bool, Option, Some, None, Result, Ok, Err, subst}
 use Rattle.std.specs.Prelude.{◌↔◌, IfOk, IsTrue}
-use Rattle.rpki_authority.specs.resources_set.Resources.{Resources}
-use Rattle.rpki_authority.specs.rpki_readings.Certs.{Cert}
-use Rattle.rpki_authority.specs.rpki_rules.Chains.{Fits}
-use Rattle.rpki_authority.specs.rpki_rules.Kinds.{Ipv4, Ipv6, As, InSet}
-use Rattle.rpki_authority.specs.rpki_walk.Filed.{HasKept}
-use Rattle.rpki_step.specs.Claimed.{ClaimValue}
-use Rattle.rpki_step.specs.Steps.{AreKept, FindsHeld, FitsAll}
+use Rattle.rpki_steps.specs.resources_set.Resources.{Resources}
+use Rattle.rpki_rules.specs.Certs.{Cert}
+use Rattle.rpki_rules.specs.Chains.{Fits}
+use Rattle.rpki_rules.specs.Kinds.{Ipv4, Ipv6, As, InSet}
+use Rattle.rpki_walk.specs.Filed.{HasKept}
+use Rattle.rpki_walk.specs.Claimed.{ClaimValue}
+use Rattle.rpki_walk.specs.Steps.{AreKept, FindsHeld, FitsAll}
 use Rattle.rpki_steps.specs.Claims.{FindsSets, claims_of}
 
 module _ (c : Cert) (held : Resources) where

@@ -3,20 +3,20 @@ use Rattle.std.proofs.Common.{◌≡◌, ◌≢◌, ◌∙◌, ◌⊎◌, inl, i
 use Rattle.std.proofs.Math.Bool.{beq}
 use Rattle.std.specs.Option.{option_eq}
 use Rattle.std.specs.Prelude.{◌↔◌, IfOk, IsTrue}
-use Rattle.rpki_authority.specs.certs_verify.Holders.{ResourceCertValue}
-use Rattle.rpki_authority.specs.rpki_readings.Certs.{Cert}
-use Rattle.rpki_authority.specs.rpki_rules.Chains.{CertAt, HasExtension, asa, cer, roa}
-use Rattle.rpki_authority.specs.rpki_rules.Points.{files}
-use Rattle.rpki_authority.specs.rpki_rules.Words.{Mem}
-use Rattle.rpki_authority.specs.rpki_rules.Points.{Point}
-use Rattle.rpki_authority.specs.rpki_rules.World.{World}
-use Rattle.rpki_authority.specs.Holders.{cert_of}
-use Rattle.rpki_authority.specs.rpki_walk.declared.steps.Filed.{Filed}
-use Rattle.rpki_authority.specs.rpki_walk.declared.steps.Filed.TheVariants as Is
-use Rattle.rpki_objects.specs.rpki_payloads.declared.payload.Payload.{Payload}
-use Rattle.rpki_objects.specs.rpki_payloads.Names.{letters}
-use Rattle.rpki_objects.specs.rpki_payloads.declared.names.Extension.{Extension}
-use Rattle.rpki_objects.specs.rpki_payloads.declared.names.Extension.TheVariants as extension
+use Rattle.rpki_steps.specs.certs_verify.Holders.{ResourceCertValue}
+use Rattle.rpki_rules.specs.Certs.{Cert}
+use Rattle.rpki_rules.specs.Chains.{CertAt, HasExtension, asa, cer, roa}
+use Rattle.rpki_rules.specs.Points.{files}
+use Rattle.rpki_rules.specs.Words.{Mem}
+use Rattle.rpki_rules.specs.Points.{Point}
+use Rattle.rpki_rules.specs.World.{World}
+use Rattle.rpki_steps.specs.Holders.{cert_of}
+use Rattle.rpki_walk.specs.declared.steps.Filed.{Filed}
+use Rattle.rpki_walk.specs.declared.steps.Filed.TheVariants as Is
+use Rattle.rpki_standing.specs.declared.payloads.payload.Payload.{Payload}
+use Rattle.rpki_standing.specs.Names.{letters}
+use Rattle.rpki_standing.specs.declared.payloads.names.Extension.{Extension}
+use Rattle.rpki_standing.specs.declared.payloads.names.Extension.TheVariants as extension
 use Rattle.rpki_steps.specs.Files.{IsFile}
 
 -- The extension that a name has.

@@ -6,3 +6,10 @@ pub mod NameLemmas
 pub mod PayloadFiles
 pub mod PointLemmas
 pub mod WholeLemmas
+pub mod Firsts
+pub mod AcceptedClaims
+pub mod FoundBelow
+pub mod FoundAnchor
+pub mod Children
+pub mod Settling
+pub mod of_rpki_rules

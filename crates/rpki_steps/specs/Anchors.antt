@@ -1,11 +1,11 @@
 -- Certificates of trust anchors, by the octets that they are (RFC 8630 3).
 use Rattle.std.specs.Prelude.{ℕ, List, Option, Some, None}
-use Rattle.rpki_authority.specs.Holders.{cert_of, sets_of}
-use Rattle.rpki_authority.specs.certs_verify.Holders.{ResourceCertValue}
-use Rattle.rpki_authority.specs.rpki_readings.Certs.{Cert, CertText, Key}
-use Rattle.rpki_authority.specs.rpki_rules.Points.{IsAnchorCert}
-use Rattle.rpki_authority.specs.rpki_rules.World.{World}
-use Rattle.rpki_authority.specs.rpki_walk.Filed.{HasListed}
+use Rattle.rpki_steps.specs.Holders.{cert_of, sets_of}
+use Rattle.rpki_steps.specs.certs_verify.Holders.{ResourceCertValue}
+use Rattle.rpki_rules.specs.Certs.{Cert, CertText, Key}
+use Rattle.rpki_rules.specs.Points.{IsAnchorCert}
+use Rattle.rpki_rules.specs.World.{World}
+use Rattle.rpki_walk.specs.Filed.{HasListed}
 
 -- The octets are the certificate, it is one of a trust anchor with that key, and it holds what it lists.
 pub record IsAnchorIn (w : World) (key : Key) (octets : List ℕ) (r : ResourceCertValue) : Type 0 where

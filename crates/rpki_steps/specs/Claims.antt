@@ -1,11 +1,11 @@
 -- What a certificate claims, and what it then holds (RFC 6487 7.2, RFC 8360 4.2).
 use Rattle.std.specs.Prelude.{ℕ, Option, Some, None}
-use Rattle.rpki_authority.specs.resources_set.Resources.{Resources}
-use Rattle.rpki_authority.specs.rpki_readings.Certs.{Cert}
-use Rattle.rpki_authority.specs.rpki_rules.Chains.{Fits}
-use Rattle.rpki_authority.specs.rpki_rules.Kinds.{Kind}
-use Rattle.rpki_authority.specs.rpki_walk.Filed.{HasKept}
-use Rattle.rpki_step.specs.Claimed.{ClaimValue}
+use Rattle.rpki_steps.specs.resources_set.Resources.{Resources}
+use Rattle.rpki_rules.specs.Certs.{Cert}
+use Rattle.rpki_rules.specs.Chains.{Fits}
+use Rattle.rpki_rules.specs.Kinds.{Kind}
+use Rattle.rpki_walk.specs.Filed.{HasKept}
+use Rattle.rpki_walk.specs.Claimed.{ClaimValue}
 
 -- What it claims of each kind, and its policy.
 abbrev pub claims_of : Cert → ClaimValue

@@ -1,14 +1,14 @@
 -- What a file of an authority's publication point is, by what the authority holds.
 use Rattle.std.specs.Prelude.{ℕ, List}
-use Rattle.rpki_authority.specs.Holders.{cert_of, sets_of}
-use Rattle.rpki_authority.specs.certs_verify.Holders.{ResourceCertValue}
-use Rattle.rpki_authority.specs.rpki_rules.Kinds.{InSet}
-use Rattle.rpki_authority.specs.rpki_rules.Points.{Point}
-use Rattle.rpki_authority.specs.rpki_rules.World.{World}
-use Rattle.rpki_authority.specs.rpki_walk.Filed.{IsFiled}
-use Rattle.rpki_authority.specs.rpki_walk.declared.steps.Filed.{Filed}
-use Rattle.rpki_objects.specs.rpki_payloads.Views.{payload_of}
-use Rattle.rpki_objects.specs.rpki_payloads.declared.payload.Payload.{Payload}
+use Rattle.rpki_steps.specs.Holders.{cert_of, sets_of}
+use Rattle.rpki_steps.specs.certs_verify.Holders.{ResourceCertValue}
+use Rattle.rpki_rules.specs.Kinds.{InSet}
+use Rattle.rpki_rules.specs.Points.{Point}
+use Rattle.rpki_rules.specs.World.{World}
+use Rattle.rpki_walk.specs.Filed.{IsFiled}
+use Rattle.rpki_walk.specs.declared.steps.Filed.{Filed}
+use Rattle.rpki_standing.specs.Views.{payload_of}
+use Rattle.rpki_standing.specs.declared.payloads.payload.Payload.{Payload}
 
 abbrev pub IsFile : World → ResourceCertValue → Point → List ℕ → Filed ResourceCertValue Payload → Type 0
 IsFile w ca p uri filed = IsFiled cert_of sets_of payload_of w (InSet (sets_of ca)) (cert_of ca) p uri filed

@@ -3,19 +3,22 @@
 ghost use Rattle.std.specs.Prelude.{◌≡◌, IfOk};
 ghost use Rattle.std.specs.Str.Lossy.{utf8_lossy};
 ghost use Rattle.std.specs.String.{string_bytes};
-ghost use Rattle.rpki_authority.specs.Holders.{cert_of, sets_of};
-ghost use Rattle.rpki_authority.specs.certs_key.Digesting.{digests_of};
-ghost use Rattle.rpki_authority.specs.rpki_rules.World.{world_of};
-ghost use Rattle.rpki_authority.specs.rpki_walk.Filed.{IsLed};
-ghost use Rattle.rpki_anchors.specs.Leads.{HoldsAt};
+ghost use Rattle.rpki_steps.specs.Holders.{cert_of, sets_of};
+ghost use Rattle.rpki_steps.specs.certs_key.Digesting.{digests_of};
+ghost use Rattle.rpki_rules.specs.World.{world_of};
+ghost use Rattle.rpki_walk.specs.Filed.{IsLed};
+ghost use Rattle.rpki_standing.specs.Leads.{HoldsAt};
 ghost use Rattle.rpki_steps.specs.Anchors.{FindsAnchorIn};
 
+use crate::accepted::anchor_cert;
 use crate::authority::Authority;
 use crate::whole::addresses_are_whole;
 use bytes::Bytes;
-use rpki_anchors::laws::{no_lead, one_lead};
-use rpki_anchors::{Index, Lead, Locator, Object, Tal, follow, read_cert};
-use rpki_authority::{Digester, Leads, PublicKey, ResourceCert, TalInfo, Verifier, anchor_cert};
+use certs_verify::{Digester, PublicKey, ResourceCert, TalInfo, Verifier};
+use rpki_standing::anchors::laws::{no_lead, one_lead};
+use rpki_standing::anchors::{Lead, Tal, follow, read_cert};
+use rpki_standing::table::{Index, Locator, Object};
+use rpki_walk::Leads;
 use std::alloc::{AllocError, Global};
 use std::rc::Rc;
 

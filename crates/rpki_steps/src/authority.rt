@@ -1,11 +1,11 @@
 //! An authority of the walk.
 
 ghost use Rattle.std.specs.Prelude.{◌≡◌, IfOk};
-ghost use Rattle.rpki_authority.specs.Holders.{sets_of};
-ghost use Rattle.rpki_reach.specs.resources_ip.WholeSets.{AreWhole};
+ghost use Rattle.rpki_steps.specs.Holders.{sets_of};
+ghost use Rattle.rpki_walk.specs.resources_ip.WholeSets.{AreWhole};
 
-use rpki_authority::ResourceCert;
-use rpki_reach::{Ipv4Blocks, Ipv6Blocks, ResourceSet};
+use certs_verify::ResourceCert;
+use rpki_walk::reach::{Ipv4Blocks, Ipv6Blocks, ResourceSet};
 use std::alloc::AllocError;
 use std::marker::Model;
 
@@ -17,8 +17,8 @@ pub struct Authority {
 }
 
 impl Model for Authority {
-    ghost use Rattle.rpki_authority.specs.certs_verify.Holders.{ResourceCertValue};
-    ghost use Rattle.rpki_reach.specs.resources_ip.WholeSets.{AreWhole};
+    ghost use Rattle.rpki_steps.specs.certs_verify.Holders.{ResourceCertValue};
+    ghost use Rattle.rpki_walk.specs.resources_ip.WholeSets.{AreWhole};
 
     ghost Value = { ResourceCertValue };
 

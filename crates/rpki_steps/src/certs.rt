@@ -1,17 +1,21 @@
 //! Files of a publication point that are certificates (RFC 6481 2.2, RFC 6487 7.2).
 
 ghost use Rattle.std.specs.Prelude.{◌≡◌, IfOk, List, Some, true, ℕ};
-ghost use Rattle.rpki_authority.specs.certs_key.Digesting.{digests_of};
-ghost use Rattle.rpki_authority.specs.rpki_readings.Certs.{CertText};
-ghost use Rattle.rpki_authority.specs.rpki_rules.Chains.{CertAt, HasExtension, cer};
-ghost use Rattle.rpki_authority.specs.rpki_rules.World.{world_of};
+ghost use Rattle.rpki_steps.specs.certs_key.Digesting.{digests_of};
+ghost use Rattle.rpki_rules.specs.Certs.{CertText};
+ghost use Rattle.rpki_rules.specs.Chains.{CertAt, HasExtension, cer};
+ghost use Rattle.rpki_rules.specs.World.{world_of};
 ghost use Rattle.rpki_steps.specs.Files.{IsFile};
 
+use crate::accepted::authority_below;
 use crate::authority::Authority;
 use crate::whole::addresses_are_whole;
-use rpki_anchors::{Index, cert_at};
-use rpki_authority::{Cert, Digester, Filed, Verifier, authority_below};
-use rpki_objects::{Payload, Point, is_unrevoked};
+use certs_verify::{Cert, Digester, Verifier};
+use rpki_standing::anchors::cert_at;
+use rpki_standing::payloads::Payload;
+use rpki_standing::table::Index;
+use rpki_standing::{Point, is_unrevoked};
+use rpki_walk::Filed;
 use std::alloc::{AllocError, Global};
 
 // What the file is at which the certificate of some authority stands.

@@ -1,13 +1,13 @@
 //! What a certificate claims of number resources below an authority (RFC 6487 7.2, RFC 8360 4.2).
 
 ghost use Rattle.std.specs.Prelude.{◌≡◌, ◌↔◌, IfOk, IsTrue};
-ghost use Rattle.rpki_authority.specs.Holders.{sets_of};
-ghost use Rattle.rpki_authority.specs.rpki_rules.Chains.{Fits};
-ghost use Rattle.rpki_authority.specs.rpki_rules.Kinds.{InSet};
+ghost use Rattle.rpki_steps.specs.Holders.{sets_of};
+ghost use Rattle.rpki_rules.specs.Chains.{Fits};
+ghost use Rattle.rpki_rules.specs.Kinds.{InSet};
 ghost use Rattle.rpki_steps.specs.Claims.{FindsSets, claims_of};
 
-use rpki_authority::{Cert, ResourceCert};
-use rpki_step::{Claim, Held, Holding, claim_fits, held_below};
+use certs_verify::{Cert, ResourceCert};
+use rpki_walk::step::{Claim, Held, Holding, claim_fits, held_below};
 use std::alloc::{AllocError, Global};
 
 // What the authority holds.

@@ -1,19 +1,21 @@
 //! What a file of a publication point is (RFC 6481 2.2).
 
 ghost use Rattle.std.specs.Prelude.{◌≡◌, IfOk};
-ghost use Rattle.rpki_authority.specs.Holders.{cert_of};
-ghost use Rattle.rpki_authority.specs.certs_key.Digesting.{digests_of};
-ghost use Rattle.rpki_authority.specs.rpki_rules.Points.{files};
-ghost use Rattle.rpki_authority.specs.rpki_rules.Words.{Mem};
-ghost use Rattle.rpki_authority.specs.rpki_rules.World.{world_of};
+ghost use Rattle.rpki_steps.specs.Holders.{cert_of};
+ghost use Rattle.rpki_steps.specs.certs_key.Digesting.{digests_of};
+ghost use Rattle.rpki_rules.specs.Points.{files};
+ghost use Rattle.rpki_rules.specs.Words.{Mem};
+ghost use Rattle.rpki_rules.specs.World.{world_of};
 ghost use Rattle.rpki_steps.specs.Files.{IsFile};
 
 use crate::authority::Authority;
 use crate::certs::read_cert_file;
 use crate::payloads::read_payload_file;
-use rpki_anchors::Index;
-use rpki_authority::{Digester, Filed, Verifier};
-use rpki_objects::{Extension, Payload, Point, extension_of};
+use certs_verify::{Digester, Verifier};
+use rpki_standing::Point;
+use rpki_standing::payloads::{Extension, Payload, extension_of};
+use rpki_standing::table::Index;
+use rpki_walk::Filed;
 use std::alloc::{AllocError, Global};
 
 /// What a file of the authority's point is, by its lookup key; keys and depth of chains apart. The verifier is asked twice,

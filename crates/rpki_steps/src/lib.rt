@@ -2,6 +2,7 @@
 //! authority's publication point (RFC 9286 6), what a file there is (RFC 6481 2.2), and what locators and authorities name.
 #![tactic(auto)]
 
+pub mod accepted;
 pub mod anchors;
 pub mod authority;
 pub mod certs;
@@ -19,6 +20,6 @@ pub use authority::Authority;
 pub use files::read_file;
 pub use names::{locator_keys, named_keys};
 pub use points::read_point;
-pub use rpki_anchors::Index;
-pub use rpki_reach::Reach;
+pub use rpki_standing::Index;
+pub use rpki_walk::reach::Reach;
 pub use steps::BundleSteps;

@@ -1,20 +1,21 @@
 //! What locators and authorities name, by lookup keys (RFC 8630 2.2, RFC 9286 4.2).
 
 ghost use Rattle.std.specs.Prelude.{◌≡◌, ◌↔◌, IfOk, List, map, ℕ};
-ghost use Rattle.rpki_anchors.specs.objects_locator.Uris.{text_of};
-ghost use Rattle.rpki_authority.specs.rpki_readings.Certs.{Digests, Verdicts};
-ghost use Rattle.rpki_authority.specs.rpki_rules.Points.{files};
-ghost use Rattle.rpki_authority.specs.rpki_rules.Reach.{NamesFile};
-ghost use Rattle.rpki_authority.specs.rpki_rules.Words.{Mem};
-ghost use Rattle.rpki_authority.specs.rpki_rules.World.{world_of};
-ghost use Rattle.rpki_objects.specs.certs_uri.Uris.{lookup_key as key_of};
-ghost use Rattle.rpki_reach.specs.Naming.{AreLocatorKeys, AreNamed};
+ghost use Rattle.rpki_standing.specs.objects_locator.Uris.{text_of};
+ghost use Rattle.rpki_rules.specs.Certs.{Digests, Verdicts};
+ghost use Rattle.rpki_rules.specs.Points.{files};
+ghost use Rattle.rpki_rules.specs.Reach.{NamesFile};
+ghost use Rattle.rpki_rules.specs.Words.{Mem};
+ghost use Rattle.rpki_rules.specs.World.{world_of};
+ghost use Rattle.rpki_standing.specs.certs_uri.Uris.{lookup_key as key_of};
+ghost use Rattle.rpki_walk.specs.Naming.{AreLocatorKeys, AreNamed};
 
 use bytes::Bytes;
 use certs_uri::grammar::lookup_key;
-use rpki_anchors::{Index, Locator, TalUri, read_locator_text};
-use rpki_authority::Cert;
-use rpki_objects::{ManifestContent, files_of, manifest_at};
+use certs_verify::Cert;
+use rpki_standing::anchors::{TalUri, read_locator_text};
+use rpki_standing::table::{Index, Locator};
+use rpki_standing::{ManifestContent, files_of, manifest_at};
 use std::alloc::{AllocError, Global};
 
 // The lookup key of a URI.

@@ -4,8 +4,8 @@ use crate::authority::Authority;
 use crate::names::{locator_keys, named_keys};
 use crate::steps::BundleSteps;
 use bytes::Bytes;
-use rpki_authority::{Digester, Verifier};
-use rpki_reach::{Naming, ResourceSet};
+use certs_verify::{Digester, Verifier};
+use rpki_walk::reach::{Naming, ResourceSet};
 use std::alloc::{AllocError, Global};
 
 impl<'a, D: Digester, V: Verifier> Naming for BundleSteps<'a, D, V> {

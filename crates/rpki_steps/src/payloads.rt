@@ -2,24 +2,27 @@
 //! draft-ietf-sidrops-aspa-profile 4).
 
 ghost use Rattle.std.specs.Prelude.{◌≡◌, ◌↔◌, ◌⊎◌, IfOk, IsTrue};
-ghost use Rattle.rpki_authority.specs.Holders.{cert_of, sets_of};
-ghost use Rattle.rpki_authority.specs.certs_key.Digesting.{digests_of};
-ghost use Rattle.rpki_authority.specs.rpki_rules.Attests.{IsCovered};
-ghost use Rattle.rpki_authority.specs.rpki_rules.Chains.{HasExtension, asa, roa};
-ghost use Rattle.rpki_authority.specs.rpki_rules.Kinds.{InSet};
-ghost use Rattle.rpki_authority.specs.rpki_rules.Points.{files};
-ghost use Rattle.rpki_authority.specs.rpki_rules.Words.{Mem};
-ghost use Rattle.rpki_authority.specs.rpki_rules.World.{world_of};
-ghost use Rattle.rpki_objects.specs.rpki_payloads.Views.{payload_of};
+ghost use Rattle.rpki_steps.specs.Holders.{cert_of, sets_of};
+ghost use Rattle.rpki_steps.specs.certs_key.Digesting.{digests_of};
+ghost use Rattle.rpki_rules.specs.Attests.{IsCovered};
+ghost use Rattle.rpki_rules.specs.Chains.{HasExtension, asa, roa};
+ghost use Rattle.rpki_rules.specs.Kinds.{InSet};
+ghost use Rattle.rpki_rules.specs.Points.{files};
+ghost use Rattle.rpki_rules.specs.Words.{Mem};
+ghost use Rattle.rpki_rules.specs.World.{world_of};
+ghost use Rattle.rpki_standing.specs.Views.{payload_of};
 ghost use Rattle.rpki_steps.specs.Files.{IsFile};
 ghost use Rattle.rpki_steps.specs.Objects.{IsWithin};
 
 use crate::authority::Authority;
 use crate::claims::sets_below;
-use rpki_anchors::Index;
-use rpki_authority::{Digester, Filed, ResourceCert, Verifier};
-use rpki_objects::{Payload, Point, Published, covers_aspa, covers_roa, find_object};
-use rpki_step::Held;
+use certs_verify::{Digester, ResourceCert, Verifier};
+use rpki_standing::attested::{Published, find_object};
+use rpki_standing::payloads::Payload;
+use rpki_standing::table::Index;
+use rpki_standing::{Point, covers_aspa, covers_roa};
+use rpki_walk::Filed;
+use rpki_walk::step::Held;
 use std::alloc::{AllocError, Global};
 
 // Whether what is attested is in those sets: of a route origin attestation all prefixes, of a provider attestation the

@@ -1,18 +1,18 @@
 //! What stands at an authority's publication point, by what the authority holds (RFC 9286 6, RFC 6487 7.2).
 
 ghost use Rattle.std.specs.Prelude.{◌≡◌, IfOk, IfSome};
-ghost use Rattle.rpki_authority.specs.Holders.{cert_of, sets_of};
-ghost use Rattle.rpki_authority.specs.certs_key.Digesting.{digests_of};
-ghost use Rattle.rpki_authority.specs.rpki_rules.Kinds.{InSet};
-ghost use Rattle.rpki_authority.specs.rpki_rules.Points.{files};
-ghost use Rattle.rpki_authority.specs.rpki_rules.World.{world_of};
-ghost use Rattle.rpki_authority.specs.rpki_walk.Filed.{IsRead};
+ghost use Rattle.rpki_steps.specs.Holders.{cert_of, sets_of};
+ghost use Rattle.rpki_steps.specs.certs_key.Digesting.{digests_of};
+ghost use Rattle.rpki_rules.specs.Kinds.{InSet};
+ghost use Rattle.rpki_rules.specs.Points.{files};
+ghost use Rattle.rpki_rules.specs.World.{world_of};
+ghost use Rattle.rpki_walk.specs.Filed.{IsRead};
 ghost use Rattle.rpki_steps.specs.Points.{point_of};
 
 use crate::claims::fits_below;
-use rpki_anchors::Index;
-use rpki_authority::{Digester, ResourceCert, Verifier};
-use rpki_objects::{Point, point_unheld};
+use certs_verify::{Digester, ResourceCert, Verifier};
+use rpki_standing::table::Index;
+use rpki_standing::{Point, point_unheld};
 use std::alloc::{AllocError, Global};
 
 /// What stands at the authority's publication point, or nothing where none does: there is none, or what the manifest's

@@ -1,10 +1,10 @@
 //! A bundle, as the walk reads it.
 
 ghost use Rattle.std.specs.Prelude.{◌≡◌};
-ghost use Rattle.rpki_authority.specs.Holders.{cert_of, sets_of};
-ghost use Rattle.rpki_authority.specs.certs_key.Digesting.{digests_of};
-ghost use Rattle.rpki_authority.specs.rpki_rules.World.{world_of};
-ghost use Rattle.rpki_objects.specs.rpki_payloads.Views.{payload_of};
+ghost use Rattle.rpki_steps.specs.Holders.{cert_of, sets_of};
+ghost use Rattle.rpki_steps.specs.certs_key.Digesting.{digests_of};
+ghost use Rattle.rpki_rules.specs.World.{world_of};
+ghost use Rattle.rpki_standing.specs.Views.{payload_of};
 ghost use Rattle.rpki_steps.specs.Points.{point_of};
 
 use crate::anchors::read_locator;
@@ -12,9 +12,11 @@ use crate::authority::Authority;
 use crate::files::read_file;
 use crate::points::read_point;
 use bytes::Bytes;
-use rpki_anchors::Index;
-use rpki_authority::{Digester, Filed, Leads, Steps, Verifier};
-use rpki_objects::{Origin, Payload, Point, Provision};
+use certs_verify::{Digester, Verifier};
+use rpki_standing::Point;
+use rpki_standing::payloads::{Origin, Payload, Provision};
+use rpki_standing::table::Index;
+use rpki_walk::{Filed, Leads, Steps};
 use std::alloc::{AllocError, Global};
 
 /// A bundle with a digester and a verifier: what the walk asks of it is read of its objects.

@@ -3,7 +3,7 @@ use Rattle.std.proofs.Common.{◌≡◌, ℕ, List, refl, ap, inl, inr, subst}
 use Rattle.rpki_validator.specs.rpki_bundle.Bundle.{BundleValue}
 use Rattle.rpki_validator.specs.rpki_bundle.declared.parts.Verdict.{Verdict}
 use Rattle.rpki_validator.specs.resources_set.Resources.{Resources}
-use Rattle.rpki_validator.specs.rpki_readings.Certs.{Digests}
+use Rattle.rpki_validator.specs.rpki_rules.Certs.{Digests}
 use Rattle.rpki_validator.specs.rpki_rules.declared.cause.Cause.{Cause}
 use Rattle.rpki_validator.specs.rpki_rules.declared.cause.Cause.TheVariants as cause
 use Rattle.rpki_validator.specs.rpki_rules.Laws.{LocatorsStay, RefusalsStay, UntouchedOutput}
@@ -12,7 +12,7 @@ use Rattle.rpki_validator.specs.rpki_rules.Points.{Link}
 use Rattle.rpki_validator.specs.rpki_rules.Reach.{AgreeBut, Forged, Held, IsReach}
 use Rattle.rpki_validator.specs.rpki_rules.Refused.{LocatorRefused, AnchorRefused, ChainRefuses, IsRefused}
 use Rattle.rpki_validator.specs.rpki_rules.World.{World, run_world, table}
-use Rattle.rpki_climb.specs.rpki_laws.Outside.{OutsideStays}
+use Rattle.rpki_climb.specs.rpki_rules.Outside.{OutsideStays}
 use Rattle.rpki_validator.specs.Forging.{AgreesBut, ForgingStaysInside, IsOfLocator, LocatorLinesStay, RefusalLinesStay, UntouchedStays}
 
 agree : (d : Digests) (uris : List (List ℕ)) (b b' : BundleValue) → AgreesBut uris b b' → AgreeBut uris (run_world d b) (run_world d b')

@@ -1,6 +1,6 @@
 -- What a judge says of one witness, and what a walk lists.
 use Rattle.std.specs.Prelude.{◌↔◌, ℕ, Bool, IsTrue}
-use Rattle.rpki_validator.specs.rpki_report.Report.{ReportValue, IsReport}
+use Rattle.rpki_validator.specs.rpki_rules.Report.{ReportValue, IsReport}
 use Rattle.rpki_validator.specs.rpki_rules.Attests.{Trace}
 use Rattle.rpki_validator.specs.rpki_rules.Judge.{IsJudged}
 use Rattle.rpki_validator.specs.rpki_rules.Words.{Mem}

@@ -7,7 +7,7 @@ use Rattle.rpki_validator.specs.declared.runs.RunError.TheVariants as errors
 use Rattle.rpki_validator.specs.Streams.{ReadsUpTo, TakesSome}
 use Rattle.rpki_validator.specs.rpki_rules.Output.{IsOutput}
 use Rattle.rpki_validator.specs.rpki_rules.World.{run_world}
-use Rattle.rpki_validator.specs.rpki_readings.Certs.{Digests}
+use Rattle.rpki_validator.specs.rpki_rules.Certs.{Digests}
 
 -- One octet more than any bundle has: where reading stops.
 abbrev pub most_octets : ℕ

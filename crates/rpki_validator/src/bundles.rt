@@ -5,18 +5,18 @@ ghost use Rattle.rpki_validator.specs.certs_key.Digesting.{digests_of};
 ghost use Rattle.rpki_validator.specs.rpki_rules.Judge.{IsJudged, may_ask};
 ghost use Rattle.rpki_validator.specs.rpki_rules.Reach.{IsReach};
 ghost use Rattle.rpki_validator.specs.rpki_rules.World.{world_of};
-ghost use Rattle.rpki_lines.specs.rpki_report.Report.{IsReport};
-ghost use Rattle.rpki_lines.specs.rpki_report.Views.{trace_of};
-ghost use Rattle.rpki_reach.specs.Chained.{AreNamingChains};
-ghost use Rattle.rpki_reach.specs.Naming.{answer_of};
-ghost use Rattle.rpki_reach.specs.rpki_report.Views.{way_of};
+ghost use Rattle.rpki_rules.specs.Report.{IsReport};
+ghost use Rattle.rpki_rules.specs.Views.{trace_of};
+ghost use Rattle.rpki_walk.specs.Chained.{AreNamingChains};
+ghost use Rattle.rpki_walk.specs.Naming.{answer_of};
+ghost use Rattle.rpki_rules.specs.Views.{way_of};
 
 use bytes::Bytes;
 use rpki_bundle::{Bundle, Digester, Verifier};
 use rpki_climb::{BundleEvidence, Judgement};
-use rpki_lines::{Path, Report, Witness};
-use rpki_reach::Reach;
+use rpki_rules::{Path, Report, Witness};
 use rpki_steps::{BundleSteps, Index};
+use rpki_walk::reach::Reach;
 use std::alloc::{AllocError, Global};
 use std::rc::Rc;
 
@@ -34,7 +34,7 @@ pub fn walk<D: Digester, V: Verifier>(
     ensures same { V.says verifier.new ≡ V.says verifier.old }
 {
     let mut steps = BundleSteps::new(Index::new(bundle), digester, verifier);
-    let report = rpki_reach::walk(alloc, &mut steps);
+    let report = rpki_walk::walk(alloc, &mut steps);
     // So the caller's verifier is the one that was asked.
     let BundleSteps {
         verifier: asked,
@@ -115,7 +115,7 @@ pub fn reach<D: Digester, V: Verifier>(
     ensures same { V.says verifier.new ≡ V.says verifier.old }
 {
     let mut steps = BundleSteps::new(Index::new(bundle), digester, verifier);
-    let reached = rpki_reach::whole::reach(alloc, &mut steps, uris);
+    let reached = rpki_walk::reach::whole::reach(alloc, &mut steps, uris);
     // So the caller's verifier is the one that was asked.
     let BundleSteps {
         verifier: asked,
@@ -140,7 +140,7 @@ pub fn naming_chains<D: Digester, V: Verifier>(
     ensures same { V.says verifier.new ≡ V.says verifier.old }
 {
     let mut steps = BundleSteps::new(Index::new(bundle), digester, verifier);
-    let chains = rpki_reach::naming_chains(alloc, &mut steps, uris);
+    let chains = rpki_walk::reach::naming_chains(alloc, &mut steps, uris);
     // So the caller's verifier is the one that was asked.
     let BundleSteps {
         verifier: asked,

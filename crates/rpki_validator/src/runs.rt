@@ -16,7 +16,7 @@ use bytes::Bytes;
 use rpki_bundle::laws::bundle_length;
 use rpki_bundle::{Bundle, BundleError, Digester};
 use rpki_climb::TableVerifier;
-use rpki_lines::render;
+use rpki_rules::lines::render;
 use std::alloc::{AllocError, Global};
 use std::io::{Read, Write};
 use thiserror::Error;

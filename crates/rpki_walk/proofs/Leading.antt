@@ -2,23 +2,23 @@
 use Rattle.std.proofs.Common.{◌≡◌, ℕ, ◌≤◌, ◌⊎◌, ◌↔◌, List, [], ◌∷◌, map, Some, None, refl, sym, ap, subst, ◌∙◌, inl, inr, arith}
 use Rattle.rpki_walk.specs.resources_set.Resources.{Resources}
 use Rattle.rpki_walk.specs.rpki_bundle.declared.parts.Locator.{Locator}
-use Rattle.rpki_walk.specs.rpki_readings.Certs.{Key, Cert, CertText, one_cert}
-use Rattle.rpki_walk.specs.rpki_readings.Locators.{LocatorText, https_first}
+use Rattle.rpki_rules.specs.Certs.{Key, Cert, CertText, one_cert}
+use Rattle.rpki_rules.specs.Locators.{LocatorText, https_first}
 use Rattle.rpki_walk.proofs.of_objects_forms.Locators.{one_locator}
-use Rattle.rpki_walk.specs.rpki_rules.declared.cause.Cause.TheVariants as cause
-use Rattle.rpki_walk.specs.rpki_rules.Words.{Mem, NoRepeat}
-use Rattle.rpki_walk.specs.rpki_rules.Kinds.{Kind, InSet}
-use Rattle.rpki_walk.specs.rpki_rules.World.{World}
-use Rattle.rpki_walk.specs.rpki_rules.Points.{Link, IsFirstHeld, Anchor}
-use Rattle.rpki_walk.specs.rpki_rules.Chains.{Holds, IsFront, Accepted}
-use Rattle.rpki_report.specs.Views.{Way}
-use Rattle.rpki_report.proofs.Lists.{mem_map}
+use Rattle.rpki_rules.specs.declared.cause.Cause.TheVariants as cause
+use Rattle.rpki_rules.specs.Words.{Mem, NoRepeat}
+use Rattle.rpki_rules.specs.Kinds.{Kind, InSet}
+use Rattle.rpki_rules.specs.World.{World}
+use Rattle.rpki_rules.specs.Points.{Link, IsFirstHeld, Anchor}
+use Rattle.rpki_rules.specs.Chains.{Holds, IsFront, Accepted}
+use Rattle.rpki_rules.specs.Views.{Way}
+use Rattle.rpki_rules.proofs.Orders.{mem_map}
 use Rattle.rpki_walk.specs.declared.steps.Leads.{Leads}
 use Rattle.rpki_walk.specs.declared.steps.Leads.TheVariants as To
 use Rattle.rpki_walk.specs.Filed.{LeadsTo, HasListed, IsLed}
 use Rattle.rpki_walk.specs.Facts.{Told, Refuses, Tells, Found, Stand, FromLocator, IsTold, Gains, Walks}
 use Rattle.rpki_walk.proofs.Mems.{gains_same}
-use Rattle.rpki_walk.proofs.of_rpki_rules.Fronts.{accepted_front}
+use Rattle.rpki_rules.proofs.Fronts.{accepted_front}
 
 -- The first that is held is one.
 one_held : (w : World) (us : List (List ℕ)) (u v o p : List ℕ) → IsFirstHeld w us u o → IsFirstHeld w us v p → (u ≡ v) × (o ≡ p)

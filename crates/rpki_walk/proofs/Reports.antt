@@ -1,29 +1,29 @@
 -- What is told is what is attested and refused, and so the findings make the report.
 use Rattle.std.proofs.Common.{◌≡◌, ℕ, ◌+◌, ◌⊎◌, ◌↔◌, List, [], ◌∷◌, ◌++◌, map, Vec, Global, length, refl, sym, ap, subst, ◌∙◌, inl, inr}
-use Rattle.rpki_walk.specs.rpki_rules.declared.cause.Cause.{Cause}
-use Rattle.rpki_walk.specs.rpki_rules.declared.cause.Cause.TheVariants as cause
-use Rattle.rpki_walk.specs.rpki_rules.Words.{Mem}
-use Rattle.rpki_walk.specs.rpki_rules.World.{World}
-use Rattle.rpki_walk.specs.rpki_rules.Points.{Link, Point, files}
-use Rattle.rpki_walk.specs.rpki_rules.Chains.{last_of, places, keys, Holds, Stands, Accepted}
-use Rattle.rpki_walk.specs.rpki_rules.Attests.{Origin, Provision, Payload, origins, provisions, Trace, Good, IsGood, IsWitness, AttestsOrigin, AttestsProvision}
-use Rattle.rpki_walk.specs.rpki_rules.Refused.{LocatorRefused, AnchorRefused, IsFileRefused, ChainRefuses, IsRefused}
-use Rattle.rpki_walk.specs.rpki_rules.Lines.{Customer, Refusal}
-use Rattle.rpki_walk.specs.rpki_rules.Output.{AreCustomers}
-use Rattle.rpki_report.specs.Report.{ReportValue, IsReportOf, IsReport, AreCustomersOf}
-use Rattle.rpki_report.specs.Views.{origin_of, provision_of, refusal_of, trace_of}
-use Rattle.rpki_report.proofs.Lists.{mem_append, each_at, each_of}
-use Rattle.rpki_report.proofs.Groups.{map_push, customers_to}
-use Rattle.rpki_walk.specs.rpki_rules.Output.{IsCustomer}
-use Rattle.rpki_report.specs.Report.{IsCustomerOf}
-use Rattle.rpki_report.specs.declared.refusal.Refusal.{Refusal as CodeRefusal}
-use Rattle.rpki_report.specs.declared.witness.Witness.{Witness as CodeWitness}
-use Rattle.rpki_report.specs.declared.origin.Origin.{Origin as CodeOrigin}
-use Rattle.rpki_report.specs.declared.customer.Provision.{Provision as CodeProvision}
+use Rattle.rpki_rules.specs.declared.cause.Cause.{Cause}
+use Rattle.rpki_rules.specs.declared.cause.Cause.TheVariants as cause
+use Rattle.rpki_rules.specs.Words.{Mem}
+use Rattle.rpki_rules.specs.World.{World}
+use Rattle.rpki_rules.specs.Points.{Link, Point, files}
+use Rattle.rpki_rules.specs.Chains.{last_of, places, keys, Holds, Stands, Accepted}
+use Rattle.rpki_rules.specs.Attests.{Origin, Provision, Payload, origins, provisions, Trace, Good, IsGood, IsWitness, AttestsOrigin, AttestsProvision}
+use Rattle.rpki_rules.specs.Refused.{LocatorRefused, AnchorRefused, IsFileRefused, ChainRefuses, IsRefused}
+use Rattle.rpki_rules.specs.Lines.{Customer, Refusal}
+use Rattle.rpki_rules.specs.Output.{AreCustomers}
+use Rattle.rpki_rules.specs.Report.{ReportValue, IsReportOf, IsReport, AreCustomersOf}
+use Rattle.rpki_rules.specs.Views.{origin_of, provision_of, refusal_of, trace_of}
+use Rattle.rpki_rules.proofs.Orders.{mem_append, each_at, each_of}
+use Rattle.rpki_rules.proofs.Groups.{map_push, customers_to}
+use Rattle.rpki_rules.specs.Output.{IsCustomer}
+use Rattle.rpki_rules.specs.Report.{IsCustomerOf}
+use Rattle.rpki_rules.specs.declared.refusal.Refusal.{Refusal as CodeRefusal}
+use Rattle.rpki_rules.specs.declared.witness.Witness.{Witness as CodeWitness}
+use Rattle.rpki_rules.specs.declared.origin.Origin.{Origin as CodeOrigin}
+use Rattle.rpki_rules.specs.declared.customer.Provision.{Provision as CodeProvision}
 use Rattle.rpki_walk.specs.declared.whole.Findings.{Findings}
 use Rattle.rpki_walk.specs.Facts.{Told, Refuses, Shows, Originates, Provides, Reaches, Chains, ShownBy, IsTold, Gains}
 use Rattle.rpki_walk.specs.Lines.{has_found, IsLine}
-use Rattle.rpki_walk.proofs.of_rpki_rules.Fronts.{keys_count}
+use Rattle.rpki_rules.proofs.Fronts.{keys_count}
 
 -- A good object at the end of an accepted chain that stands.
 good_of : (w : World) (name : List ℕ) (a : Link) (cs : List Link) → Accepted w name a cs → (p : Point) → Stands w a cs p → (uri : List ℕ) (x : Payload) → IsGood w (Holds a cs) (last_of a cs).cert p uri x → Good w (record { locator = name; chain = places a cs; object = uri }) x

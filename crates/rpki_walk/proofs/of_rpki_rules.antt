@@ -1,3 +1,5 @@
 -- Lemmas of rpki_rules, for the crates above.
-pub use Rattle.rpki_report.proofs.of_rpki_rules.Fronts
-pub use Rattle.rpki_report.proofs.of_rpki_rules.Readings
+pub use Rattle.rpki_rules.proofs.Fronts
+pub use Rattle.rpki_rules.proofs.Readings
+pub use Rattle.rpki_rules.proofs.Orders
+pub use Rattle.rpki_rules.proofs.Sets

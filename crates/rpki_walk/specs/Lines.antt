@@ -1,7 +1,7 @@
 -- What the walk's report is made of.
 use Rattle.std.specs.Prelude.{map}
-use Rattle.rpki_walk.specs.rpki_rules.Words.{Mem}
-use Rattle.rpki_report.specs.Views.{origin_of, provision_of, refusal_of, trace_of}
+use Rattle.rpki_rules.specs.Words.{Mem}
+use Rattle.rpki_rules.specs.Views.{origin_of, provision_of, refusal_of, trace_of}
 use Rattle.rpki_walk.specs.declared.whole.Findings.{Findings}
 use Rattle.rpki_walk.specs.Facts.{Told, Refuses, Shows, Originates, Provides, Reaches, Chains}
 

@@ -7,7 +7,7 @@ ghost use Rattle.rpki_walk.specs.Facts.{FromLocator, IsTold, Gains};
 use crate::chains::walk_from;
 use crate::steps::{Leads, Steps};
 use crate::visitor::Visitor;
-use rpki_report::{Cause, Path};
+use rpki_rules::{Cause, Path};
 use std::alloc::{AllocError, Global};
 use std::rc::Rc;
 

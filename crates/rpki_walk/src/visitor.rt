@@ -1,13 +1,13 @@
 //! Who is told what a walk finds.
 
 ghost use Rattle.std.specs.Prelude.{◌≡◌, ℕ, List, OnOk};
-ghost use Rattle.rpki_walk.specs.rpki_rules.Kinds.{InSet};
-ghost use Rattle.rpki_report.specs.Views.{way_of};
+ghost use Rattle.rpki_rules.specs.Kinds.{InSet};
+ghost use Rattle.rpki_rules.specs.Views.{way_of};
 ghost use Rattle.rpki_walk.specs.Facts.{Told, Refuses, ShownBy, ReachedBy, Gains};
 
 use crate::steps::Steps;
 use bytes::Bytes;
-use rpki_report::{Cause, Path};
+use rpki_rules::{Cause, Path};
 use std::alloc::{AllocError, Global};
 use std::rc::Rc;
 

@@ -2,13 +2,13 @@
 
 ghost use Rattle.std.specs.Prelude.{◌≡◌, [], IfOk};
 ghost use Rattle.rpki_walk.specs.Lines.{has_found, IsLine};
-ghost use Rattle.rpki_report.specs.Report.{IsReport};
+ghost use Rattle.rpki_rules.specs.Report.{IsReport};
 
 use crate::anchors::walk_all;
 use crate::steps::Steps;
 use crate::visitor::Visitor;
 use bytes::Bytes;
-use rpki_report::{Cause, Origin, Path, Provision, Refusal, Report, Witness};
+use rpki_rules::{Cause, Origin, Path, Provision, Refusal, Report, Witness};
 use std::alloc::{AllocError, Global};
 use std::rc::Rc;
 

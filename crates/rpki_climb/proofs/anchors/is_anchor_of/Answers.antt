@@ -1,8 +1,8 @@
 use Rattle.std.proofs.Common.{sym, subst}
-use Rattle.rpki_judge.specs.rpki_readings.Certs.{Key}
-use Rattle.rpki_judge.specs.rpki_rules.World.{World, world_of}
-use Rattle.rpki_anchors.specs.Leads.{HoldsAt, IsLead}
-use Rattle.rpki_objects.specs.certs_key.Digesting.{digests_of}
+use Rattle.rpki_rules.specs.Certs.{Key}
+use Rattle.rpki_rules.specs.World.{World, world_of}
+use Rattle.rpki_standing.specs.Leads.{HoldsAt, IsLead}
+use Rattle.rpki_standing.specs.certs_key.Digesting.{digests_of}
 use Rattle.rpki_climb.proofs.Named.{anchor_by, no_anchor}
 use Rattle.rpki_climb.proofs.Passing.{never}
 use Rattle.rpki_climb.proofs.anchors.is_anchor_of.Goals as goal

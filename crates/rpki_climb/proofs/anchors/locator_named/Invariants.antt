@@ -1,6 +1,6 @@
 use Rattle.std.proofs.Common.{◌≡◌, length}
-use Rattle.rpki_judge.specs.rpki_rules.Words.{Mem}
-use Rattle.rpki_anchors.specs.rpki_bundle.declared.parts.Locator.{Locator}
+use Rattle.rpki_rules.specs.Words.{Mem}
+use Rattle.rpki_standing.specs.rpki_bundle.declared.parts.Locator.{Locator}
 use Rattle.rpki_climb.proofs.anchors.locator_named.Given as goal
 
 abbrev pub invariant-loop-first : goal.invariant-loop-first

@@ -1,10 +1,10 @@
 use Rattle.std.proofs.Common.{Option}
 use Rattle.std.specs.Prelude.{MatchOption}
-use Rattle.rpki_judge.specs.Evidence.{IsReadCert}
-use Rattle.rpki_judge.specs.rpki_readings.Certs.{Cert, Digests, Verdicts}
-use Rattle.rpki_judge.specs.rpki_rules.Chains.{CertAt}
-use Rattle.rpki_judge.specs.rpki_rules.World.{world_of}
-use Rattle.rpki_anchors.specs.Leads.{NoCertAt}
+use Rattle.rpki_walk.specs.Evidence.{IsReadCert}
+use Rattle.rpki_rules.specs.Certs.{Cert, Digests, Verdicts}
+use Rattle.rpki_rules.specs.Chains.{CertAt}
+use Rattle.rpki_rules.specs.World.{world_of}
+use Rattle.rpki_standing.specs.Leads.{NoCertAt}
 use Rattle.rpki_climb.proofs.Looked.{cert_told}
 use Rattle.rpki_climb.proofs.Passing.{if_ok}
 use Rattle.rpki_climb.proofs.certs.find_cert.Goals as goal

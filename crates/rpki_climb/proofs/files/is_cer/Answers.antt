@@ -1,5 +1,5 @@
 use Rattle.std.proofs.Common.{rules}
-use Rattle.rpki_objects.specs.rpki_payloads.declared.names.Extension.TheVariants.{Cer}
+use Rattle.rpki_standing.specs.declared.payloads.names.Extension.TheVariants.{Cer}
 use Rattle.rpki_climb.proofs.files.is_cer.Goals as goal
 
 pub returns : goal.returns

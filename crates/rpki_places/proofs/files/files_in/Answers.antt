@@ -1,5 +1,5 @@
 use Rattle.std.proofs.Common.{ℕ, List, subst}
-use Rattle.rpki_standing.specs.rpki_rules.World.{find_object}
+use Rattle.rpki_rules.specs.World.{find_object}
 use Rattle.rpki_places.specs.Files.{IsFileIn}
 use Rattle.rpki_places.proofs.Listed.{all_read, more_read}
 use Rattle.rpki_places.proofs.files.files_in.Goals as goal

@@ -1,4 +1,4 @@
-use Rattle.rpki_standing.specs.rpki_rules.World.{find_object}
+use Rattle.rpki_rules.specs.World.{find_object}
 use Rattle.rpki_places.proofs.Listed.{IsReadTo}
 use Rattle.rpki_places.proofs.files.files_in.Given as goal
 

@@ -1,7 +1,7 @@
 use Rattle.std.proofs.Common.{◌≡◌, Some}
 use Rattle.std.specs.Prelude.{Vec}
 use Rattle.std.specs.declared.alloc.Global.{Global}
-use Rattle.rpki_standing.specs.rpki_rules.World.{find_object}
+use Rattle.rpki_rules.specs.World.{find_object}
 use Rattle.rpki_places.specs.declared.files.File.{File}
 use Rattle.rpki_places.proofs.Repository.{files_told}
 use Rattle.rpki_places.proofs.files.read_files.Goals as goal

@@ -3,13 +3,13 @@ use Rattle.std.specs.Prelude.{Vec}
 use Rattle.std.specs.declared.alloc.Global.{Global}
 use Rattle.rpki_standing.specs.certs_key.Digesting.{digests_of}
 use Rattle.rpki_standing.specs.objects_kinds.Kinds.{KindValue}
-use Rattle.rpki_standing.specs.rpki_points.Crls.{Finds}
-use Rattle.rpki_standing.specs.rpki_readings.Certs.{Verdicts}
-use Rattle.rpki_standing.specs.rpki_readings.Objects.{Manifest}
-use Rattle.rpki_standing.specs.rpki_rules.World.{World, world_of}
+use Rattle.rpki_standing.specs.Crls.{Finds}
+use Rattle.rpki_rules.specs.Certs.{Verdicts}
+use Rattle.rpki_rules.specs.Objects.{Manifest}
+use Rattle.rpki_rules.specs.World.{World, world_of}
 use Rattle.rpki_standing.specs.Manifests.{IsOwnManifest}
 use Rattle.rpki_standing.specs.Standing.{HasNoParts}
-use Rattle.rpki_standing.proofs.Points.{no_manifest, no_point}
+use Rattle.rpki_standing.proofs.Standings.{no_manifest, no_point}
 use Rattle.rpki_places.specs.declared.files.File.{File}
 use Rattle.rpki_places.specs.Parts.{ArePartsOf}
 use Rattle.rpki_places.proofs.Stands.{parts_stand}

@@ -1,7 +1,7 @@
 use Rattle.std.proofs.Common.{subst}
 use Rattle.rpki_standing.specs.certs_key.Digesting.{digests_of}
-use Rattle.rpki_standing.specs.rpki_points.Crls.{Finds}
-use Rattle.rpki_standing.specs.rpki_rules.World.{World, world_of}
+use Rattle.rpki_standing.specs.Crls.{Finds}
+use Rattle.rpki_rules.specs.World.{World, world_of}
 use Rattle.rpki_standing.specs.Manifests.{IsReadAt}
 use Rattle.rpki_standing.proofs.OwnManifests.{none_read, own_told}
 use Rattle.rpki_standing.proofs.manifests.find_manifest.Goals as goal

@@ -1,8 +1,8 @@
 use Rattle.std.proofs.Common.{◌≡◌, ℕ, List, Some, sym, ap, ◌∙◌}
-use Rattle.rpki_points.proofs.Passing.{if_ok}
+use Rattle.rpki_standing.proofs.Failing.{if_ok}
 use Rattle.rpki_standing.specs.certs_uri.Uris.{lookup_key}
-use Rattle.rpki_standing.specs.rpki_points.Crls.{Finds}
-use Rattle.rpki_standing.specs.rpki_rules.World.{find_object, world_of}
+use Rattle.rpki_standing.specs.Crls.{Finds}
+use Rattle.rpki_rules.specs.World.{find_object, world_of}
 use Rattle.rpki_standing.specs.Manifests.{IsReadIn}
 use Rattle.rpki_standing.proofs.OwnManifests.{read_told}
 use Rattle.rpki_standing.proofs.manifests.manifest_at.Goals as goal

@@ -1,8 +1,8 @@
 use Rattle.std.proofs.Common.{sym, ap, ◌∙◌, subst}
 use Rattle.rpki_standing.specs.certs_key.Digesting.{digests_of}
-use Rattle.rpki_standing.specs.rpki_readings.Objects.{Manifest}
-use Rattle.rpki_standing.specs.rpki_rules.Points.{HasFiles, files}
-use Rattle.rpki_standing.specs.rpki_rules.World.{World, world_of}
+use Rattle.rpki_rules.specs.Objects.{Manifest}
+use Rattle.rpki_rules.specs.Points.{HasFiles, files}
+use Rattle.rpki_rules.specs.World.{World, world_of}
 use Rattle.rpki_standing.proofs.parts.find_parts.Goals as goal
 
 pub returns-in_default-clause-found : goal.returns-in_default-clause-found

@@ -1,11 +1,11 @@
 use Rattle.std.proofs.Common.{subst}
 use Rattle.rpki_standing.specs.certs_key.Digesting.{digests_of}
-use Rattle.rpki_standing.specs.rpki_points.Crls.{Finds}
-use Rattle.rpki_standing.specs.rpki_readings.Certs.{Verdicts}
-use Rattle.rpki_standing.specs.rpki_rules.World.{World, world_of}
+use Rattle.rpki_standing.specs.Crls.{Finds}
+use Rattle.rpki_rules.specs.Certs.{Verdicts}
+use Rattle.rpki_rules.specs.World.{World, world_of}
 use Rattle.rpki_standing.specs.Manifests.{IsOwnManifest}
 use Rattle.rpki_standing.specs.Standing.{HasNoParts}
-use Rattle.rpki_standing.proofs.Points.{no_manifest, no_point}
+use Rattle.rpki_standing.proofs.Standings.{no_manifest, no_point}
 use Rattle.rpki_standing.proofs.point.point_unheld.Goals as goal
 
 pub returns-in_default-clause-found : goal.returns-in_default-clause-found

@@ -1,4 +1,4 @@
-use Rattle.rpki_authority.specs.Holders.{sets_of}
+use Rattle.rpki_steps.specs.Holders.{sets_of}
 use Rattle.rpki_steps.proofs.ClaimLemmas.{sets_told}
 use Rattle.rpki_steps.proofs.claims.sets_below.Goals as goal
 

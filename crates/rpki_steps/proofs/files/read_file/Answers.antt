@@ -1,6 +1,6 @@
-use Rattle.rpki_authority.specs.certs_key.Digesting.{digests_of}
-use Rattle.rpki_authority.specs.rpki_rules.World.{world_of}
-use Rattle.rpki_objects.specs.rpki_payloads.declared.names.Extension.TheVariants as extension
+use Rattle.rpki_steps.specs.certs_key.Digesting.{digests_of}
+use Rattle.rpki_rules.specs.World.{world_of}
+use Rattle.rpki_standing.specs.declared.payloads.names.Extension.TheVariants as extension
 use Rattle.rpki_steps.proofs.FileLemmas.{as_cert_file, as_payload_file, has_this, no_extension}
 use Rattle.std.proofs.Common.{inl, inr}
 use Rattle.rpki_steps.proofs.files.read_file.Goals as goal

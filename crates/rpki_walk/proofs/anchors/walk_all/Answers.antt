@@ -1,7 +1,7 @@
 use Rattle.std.proofs.Common.{ℕ, ◌≤◌, ◌<◌, ◌⊎◌, ◌↔◌, List, [], take_all, sym, subst, ◌∙◌}
 use Rattle.rpki_walk.specs.rpki_bundle.declared.parts.Locator.{Locator}
-use Rattle.rpki_walk.specs.rpki_rules.Words.{Mem}
-use Rattle.rpki_walk.specs.rpki_rules.World.{World}
+use Rattle.rpki_rules.specs.Words.{Mem}
+use Rattle.rpki_rules.specs.World.{World}
 use Rattle.rpki_walk.specs.Filed.{locator_at}
 use Rattle.rpki_walk.specs.Facts.{Gains, FromLocator, IsTold}
 use Rattle.rpki_walk.proofs.Mems.{gains_same, gains_next}

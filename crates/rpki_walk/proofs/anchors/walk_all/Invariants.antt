@@ -1,6 +1,6 @@
 use Rattle.std.proofs.Common.{◌≡◌, ◌⊎◌, take}
 use Rattle.rpki_walk.specs.rpki_bundle.declared.parts.Locator.{Locator}
-use Rattle.rpki_walk.specs.rpki_rules.Words.{Mem}
+use Rattle.rpki_rules.specs.Words.{Mem}
 use Rattle.rpki_walk.specs.Facts.{Gains, FromLocator}
 use Rattle.rpki_walk.proofs.anchors.walk_all.Given as goal
 

@@ -1,5 +1,5 @@
 use Rattle.std.proofs.Common.{ℕ, ◌≤◌, ◌∷◌, [], List, sym, ap, subst, ◌∙◌}
-use Rattle.rpki_report.specs.Views.{way_of}
+use Rattle.rpki_rules.specs.Views.{way_of}
 use Rattle.rpki_walk.specs.Filed.{locator_at}
 use Rattle.rpki_walk.proofs.Mems.{mem_get_or}
 use Rattle.rpki_walk.proofs.Leading.{arm_tal, arm_nowhere, arm_anchor}

@@ -1,14 +1,14 @@
 use Rattle.std.proofs.Common.{◌≡◌, ℕ, ◌+◌, ◌⊎◌, List, [], ◌∷◌, ◌++◌, ◌↔◌, take, take_all, get_or, sym, ap, subst, ◌∙◌, inl, inr}
 use Rattle.rpki_walk.specs.resources_set.Resources.{Resources}
-use Rattle.rpki_walk.specs.rpki_readings.Certs.{Cert}
-use Rattle.rpki_walk.specs.rpki_rules.declared.cause.Cause.{Cause}
-use Rattle.rpki_walk.specs.rpki_rules.World.{World}
-use Rattle.rpki_walk.specs.rpki_rules.Attests.{Payload}
-use Rattle.rpki_walk.specs.rpki_rules.Words.{Mem}
-use Rattle.rpki_walk.specs.rpki_rules.Kinds.{InSet}
-use Rattle.rpki_walk.specs.rpki_rules.Points.{files}
-use Rattle.rpki_walk.specs.rpki_rules.Chains.{StandsIn}
-use Rattle.rpki_report.specs.Views.{Way, way_of}
+use Rattle.rpki_rules.specs.Certs.{Cert}
+use Rattle.rpki_rules.specs.declared.cause.Cause.{Cause}
+use Rattle.rpki_rules.specs.World.{World}
+use Rattle.rpki_rules.specs.Attests.{Payload}
+use Rattle.rpki_rules.specs.Words.{Mem}
+use Rattle.rpki_rules.specs.Kinds.{InSet}
+use Rattle.rpki_rules.specs.Points.{files}
+use Rattle.rpki_rules.specs.Chains.{StandsIn}
+use Rattle.rpki_rules.specs.Views.{Way, way_of}
 use Rattle.rpki_walk.specs.Facts.{Told, Refuses, ShownBy, ReachedBy, Gains, FromFile, Found, Walks, Classified}
 use Rattle.rpki_walk.proofs.Mems.{mem_get_or, gains_same, gains_next}
 use Rattle.rpki_walk.proofs.Told.{read_none, read_some, none_here, all_here, arm_nothing, arm_refused, arm_attests, arm_child}

@@ -1,9 +1,9 @@
 use Rattle.std.proofs.Common.{length, ◌≡◌, ◌⊎◌, ℕ, ◌-◌, List, take}
-use Rattle.rpki_walk.specs.rpki_rules.Words.{Mem}
-use Rattle.rpki_walk.specs.rpki_rules.Kinds.{InSet}
-use Rattle.rpki_walk.specs.rpki_rules.Points.{Link, Point}
-use Rattle.rpki_walk.specs.rpki_rules.Chains.{StandsIn, Accepted}
-use Rattle.rpki_report.specs.Views.{way_of}
+use Rattle.rpki_rules.specs.Words.{Mem}
+use Rattle.rpki_rules.specs.Kinds.{InSet}
+use Rattle.rpki_rules.specs.Points.{Link, Point}
+use Rattle.rpki_rules.specs.Chains.{StandsIn, Accepted}
+use Rattle.rpki_rules.specs.Views.{way_of}
 use Rattle.rpki_walk.specs.Facts.{Stand, Gains, ReachedBy, FromFile}
 use Rattle.rpki_walk.proofs.chains.+walk_from.Given as goal
 

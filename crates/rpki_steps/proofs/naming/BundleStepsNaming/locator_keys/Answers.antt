@@ -1,8 +1,8 @@
 use Rattle.std.proofs.Common.{subst}
-use Rattle.rpki_anchors.specs.rpki_bundle.declared.parts.Locator.{Locator}
-use Rattle.rpki_authority.specs.certs_key.Digesting.{digests_of}
-use Rattle.rpki_authority.specs.rpki_rules.World.{world_of}
-use Rattle.rpki_reach.specs.Naming.{AreLocatorKeys}
+use Rattle.rpki_standing.specs.rpki_bundle.declared.parts.Locator.{Locator}
+use Rattle.rpki_steps.specs.certs_key.Digesting.{digests_of}
+use Rattle.rpki_rules.specs.World.{world_of}
+use Rattle.rpki_walk.specs.Naming.{AreLocatorKeys}
 use Rattle.rpki_steps.proofs.AnchorLemmas.{locator_there}
 use Rattle.std.specs.Prelude.{IfOk}
 use Rattle.rpki_steps.proofs.naming.BundleStepsNaming.locator_keys.Goals as goal

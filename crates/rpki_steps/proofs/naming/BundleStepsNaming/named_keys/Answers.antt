@@ -1,5 +1,5 @@
-use Rattle.rpki_authority.specs.Holders.{cert_of}
-use Rattle.rpki_authority.specs.certs_key.Digesting.{digests_of}
+use Rattle.rpki_steps.specs.Holders.{cert_of}
+use Rattle.rpki_steps.specs.certs_key.Digesting.{digests_of}
 use Rattle.rpki_steps.proofs.NameLemmas.{named_told}
 use Rattle.rpki_steps.proofs.naming.BundleStepsNaming.named_keys.Goals as goal
 

@@ -1,3 +1,0 @@
-pub mod CertTexts
-pub mod FirstHeld
-pub mod Following

@@ -1,6 +1,0 @@
-use Rattle.rpki_anchors.proofs.CertTexts.{no_cert}
-use Rattle.rpki_anchors.proofs.certs.read_cert.Goals as goal
-
-pub returns-in-Err-Content : goal.returns-in-Err-Content
-returns-in-Err-Content c =
-    no_cert _ _ _ c.args.octets.now c.in-Err-Content.field-0-is (λ h. h) c.in-Err-Content.ensures c.in_ok-clone.ensures.cases

@@ -1,5 +1,0 @@
-use Rattle.rpki_laws.proofs.Verify.{anchor_is_verified}
-use Rattle.rpki_laws.proofs.laws.anchor_is_verified.Goals as goal
-
-pub returns : goal.returns
-returns c = anchor_is_verified

@@ -1,5 +1,0 @@
-use Rattle.rpki_laws.proofs.Verify.{issued_holds}
-use Rattle.rpki_laws.proofs.laws.issued_holds.Goals as goal
-
-pub returns : goal.returns
-returns c = issued_holds

@@ -1,5 +1,0 @@
-use Rattle.rpki_laws.proofs.Judging.{judging_is_exact}
-use Rattle.rpki_laws.proofs.laws.judging_is_exact.Goals as goal
-
-pub returns : goal.returns
-returns c = judging_is_exact

@@ -1,5 +1,0 @@
-use Rattle.rpki_rules.proofs.Readings.{one_cert_at}
-use Rattle.rpki_laws.proofs.laws.one_cert_at.Goals as goal
-
-pub returns : goal.returns
-returns c = one_cert_at

@@ -1,5 +1,0 @@
-use Rattle.rpki_rules.proofs.Readings.{one_point}
-use Rattle.rpki_laws.proofs.laws.one_point.Goals as goal
-
-pub returns : goal.returns
-returns c = one_point

@@ -1,5 +1,0 @@
-use Rattle.rpki_rules.proofs.Readings.{one_signed}
-use Rattle.rpki_laws.proofs.laws.one_signed.Goals as goal
-
-pub returns : goal.returns
-returns c = one_signed

@@ -1,5 +1,0 @@
-use Rattle.rpki_laws.proofs.Verify.{signed_is_verified}
-use Rattle.rpki_laws.proofs.laws.signed_is_verified.Goals as goal
-
-pub returns : goal.returns
-returns c = signed_is_verified

@@ -1,6 +1,0 @@
-use Rattle.std.proofs.Common.{◌≡◌, ◌++◌, Some}
-use Rattle.rpki_points.specs.rpki_rules.Points.{files_in}
-use Rattle.rpki_points.proofs.files.files_of.Given as goal
-
-abbrev pub invariant-loop-file : goal.invariant-loop-file
-invariant-loop-file l = l.keys.items ++ files_in (Some l.folder) l.left ≡ files_in (Some l.fn.folder) l.fn.manifest.files

@@ -1,7 +1,0 @@
-use Rattle.std.proofs.Common.{map, take}
-use Rattle.rpki_report.specs.Views.{provision_of, customer_of}
-use Rattle.rpki_report.specs.Groups.{Gathers}
-use Rattle.rpki_report.proofs.customer.gather.Given as goal
-
-abbrev pub invariant-loop-pair : goal.invariant-loop-pair
-invariant-loop-pair l = Gathers (map provision_of (take l.pair-index l.pairs)) (map customer_of l.all.items)

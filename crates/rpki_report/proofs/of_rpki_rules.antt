@@ -1,3 +1,0 @@
--- Lemmas of rpki_rules, for the crates above.
-pub use Rattle.rpki_rules.proofs.Fronts
-pub use Rattle.rpki_rules.proofs.Readings

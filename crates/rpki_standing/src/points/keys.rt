@@ -1,0 +1,23 @@
+//! Under which key a file of a manifest is looked up.
+
+ghost use Rattle.std.specs.Prelude.{◌≡◌, IfOk};
+ghost use Rattle.rpki_standing.specs.certs_uri.Paths.{join as joined};
+ghost use Rattle.rpki_standing.specs.certs_uri.Uris.{lookup_key as key_of};
+
+use bytes::Bytes;
+use certs_cert::Rsync;
+use certs_cert::grammar::lookup_key;
+use certs_cert::paths::join;
+use std::alloc::{AllocError, Global};
+
+/// The lookup key of the file with that name in that folder.
+pub fn key_in(alloc: Global, folder: &Rsync, name: &[u8]) -> Result<Bytes, AllocError>
+    ensures { IfOk result (λ key. key ≡ key_of (joined folder.now name.now)) }
+{
+    let uri = join(alloc, folder.as_slice(), name)?;
+    let key = lookup_key(alloc, uri.as_slice())?;
+    match Bytes::from_vec(key) {
+        Ok(octets) => Ok(octets),
+        Err(_) => Err(AllocError),
+    }
+}

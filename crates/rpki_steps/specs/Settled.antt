@@ -1,0 +1,14 @@
+-- What a validation settles.
+use Rattle.std.specs.Prelude.{◌≡◌, ◌≢◌, Option, Some, None, Result, Ok, Err}
+use Rattle.certs_verify.specs.declared.refused.Refused.{Refused}
+use Rattle.certs_verify.specs.Holders.{ResourceCertValue}
+use Rattle.certs_verify.specs.Validated.{cause_of}
+use Rattle.rpki_steps.specs.certs_errors.declared.validation.ValidationError.{ValidationError}
+use Rattle.rpki_steps.specs.certs_specs.Calls.{wants_memory}
+
+-- The certificate was accepted, or refused by a test and not for lack of memory.
+abbrev pub Settles : Result ResourceCertValue (Refused ValidationError) → Option ResourceCertValue → Type 0
+Settles (Ok r) (Some s) = s ≡ r
+Settles (Ok r) None = ⊥
+Settles (Err e) (Some s) = ⊥
+Settles (Err e) None = cause_of e.error ≢ Some wants_memory

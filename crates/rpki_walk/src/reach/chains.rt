@@ -1,0 +1,78 @@
+//! The accepted chains that name one of the URIs.
+
+ghost use Rattle.std.specs.Prelude.{◌≡◌, IfOk, map};
+ghost use Rattle.rpki_walk.specs.Chained.{AreNamingChains, IsChains, has_chained};
+ghost use Rattle.rpki_rules.specs.Views.{way_of};
+
+use crate::reach::keys::{Wanted, names_any};
+use crate::reach::naming::Naming;
+use crate::{Cause, Path, Visitor, sort_once, walk_all};
+use bytes::Bytes;
+use std::alloc::{AllocError, Global};
+use std::rc::Rc;
+
+// The URIs, and the chains that were found to name one of them.
+#[derive(Drop)]
+struct Namer<'a> {
+    wanted: &'a Wanted<'a>,
+    paths: Vec<Rc<Path>>,
+}
+
+impl<'a, S: Naming> Visitor<S> for Namer<'a> {
+    ghost has = { has_chained };
+
+    ghost wants = { IsChains };
+
+    ghost uris = { λ n. n.wanted.now };
+
+    fn visit(
+        &mut self,
+        alloc: Global,
+        steps: &mut S,
+        path: &Rc<Path>,
+        ca: &S::Authority,
+    ) -> Result<(), AllocError> {
+        let keys = steps.named_keys(alloc, ca)?;
+        if names_any(self.wanted, &keys) {
+            self.paths.push(path.clone()?)?;
+        }
+        Ok(())
+    }
+
+    fn refuse(&mut self, _name: &Bytes, _why: Cause) -> Result<(), AllocError> {
+        Ok(())
+    }
+
+    fn show(
+        &mut self,
+        _steps: &S,
+        _path: &Rc<Path>,
+        _object: &Bytes,
+        _payload: S::Payload,
+    ) -> Result<(), AllocError> {
+        Ok(())
+    }
+}
+
+/// The accepted chains whose last certificate names one of the URIs, each once, by locator and then by their lookup keys. URIs
+/// are compared by lookup key, so a text that is no URI names nothing.
+pub fn naming_chains<S: Naming>(
+    alloc: Global,
+    steps: &mut S,
+    uris: &[Bytes],
+) -> Result<Vec<Rc<Path>>, AllocError>
+    ensures chains { IfOk result (λ paths. AreNamingChains uris.now (S.world steps.old)
+        (map (λ p. way_of p.value) paths.items)) }
+    ensures same { S.world steps.new ≡ S.world steps.old }
+    ensures lender { S.lender steps.new ≡ S.lender steps.old }
+{
+    let wanted = Wanted::new(alloc, uris)?;
+    let mut found = Namer {
+        wanted: &wanted,
+        paths: Vec::new(alloc),
+    };
+    walk_all(alloc, steps, &mut found)?;
+    let mut paths = found.paths;
+    sort_once(&mut paths)?;
+    Ok(paths)
+}
