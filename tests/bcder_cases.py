@@ -2,7 +2,7 @@
 """Writes the questions and answers of the programs of questions about the codec: tests/bcder_cases.py
 
 crates/bcder_cases is asked about sources, headers and contents, crates/bcder_values_cases about values, numbers, identifiers
-and strings, and crates/bcder_written_cases about what is written.
+and strings, and crates/bcder_written_cases about what is written, and about the worked readers (`bcder_example_cases.py`).
 
 The answers come from Python's own integers and texts, from small readers and writers of this script after X.690, from
 examples of X.690, RFC 3629 and OpenSSL, and from the worked cases `codec-core-cases`, `string-cases` and
@@ -12,6 +12,10 @@ each program on its `stdin`, and compares what it prints with `stdout`.
 
 import pathlib
 import random
+import sys
+
+sys.dont_write_bytecode = True
+import bcder_example_cases  # noqa: E402
 
 TESTS = pathlib.Path(__file__).resolve().parent
 CRATES = TESTS.parent / "crates"
@@ -19,7 +23,7 @@ CRATES = TESTS.parent / "crates"
 PROGRAMS = {
     "bcder_cases": "tag length source content fails dry skip tagged",
     "bcder_values_cases": "front number integer unsigned oid bits octets text string",
-    "bcder_written_cases": "write",
+    "bcder_written_cases": "write attributes walks",
 }
 MODES = ("ber", "cer", "der")
 rng = random.Random(690)
@@ -1048,6 +1052,7 @@ def main():
         identifiers, octet_strings, texts, strings, writing, lists, refusing_writers, forms,
     ):  # fmt: skip
         topic(q)
+    q.rows += bcder_example_cases.questions()
     for name, topics in PROGRAMS.items():
         rows = [row for row in q.rows if row[0].split("\t")[0] in topics.split()]
         (CRATES / name / "stdin").write_text("".join(f"{question}\n" for question, _ in rows))

@@ -1,21 +1,15 @@
-#!/usr/bin/env python3
-"""Writes the questions and answers of crates/bcder_example_cases: tests/bcder_example_cases.py
+"""Questions about the worked readers of `bcder_example`, for tests/bcder_cases.py, and their answers.
 
 They are about the worked reader of attributes, a SET OF two of them: a name, of kind 1, and a note, of kind 2; and about
 values that are walked through (`bcder_walks.py`). The answers about attributes come from a writer and a reader of this
-script after X.690 8.1, 8.3, 8.7, 8.12, 9 to 11. The gate runs the program on `stdin`, and compares what it prints with
-`stdout`.
+module after X.690 8.1, 8.3, 8.7, 8.12, 9 to 11.
 """
 
 import itertools
-import pathlib
-import sys
 
-sys.dont_write_bytecode = True
-import bcder_walks  # noqa: E402
-from bcder_walks import MODES, Refused  # noqa: E402
+import bcder_walks
+from bcder_walks import MODES, Refused
 
-FOLDER = pathlib.Path(__file__).resolve().parent.parent / "crates" / "bcder_example_cases"
 INTEGER, OCTET_STRING, SEQUENCE, SET = ((0, number) for number in (2, 4, 16, 17))
 NAME, NOTE = 1, 2
 
@@ -194,7 +188,7 @@ def sets(mode):
         yield set_of(mode, bytes.fromhex("3080020102040161") + b"\0\0", name)
 
 
-def questions():
+def attribute_questions():
     for mode in MODES:
         for octets in sets(mode):
             for asked in MODES if len(octets) < 40 else (mode,):
@@ -211,13 +205,6 @@ def questions():
                 yield f"attributes\twrite\t{mode}\t{name.hex()}\t{note.hex()}", octets.hex()
 
 
-def main():
-    rows = list(dict(itertools.chain(questions(), bcder_walks.questions())).items())
-    for name, at in (("stdin", 0), ("stdout", 1)):
-        (FOLDER / name).write_text("".join(row[at] + "\n" for row in rows))
-    known = sum(not answer.startswith(("refused", "end")) for _, answer in rows)
-    print(len(rows), "questions, of which a value is read or written in", known)
-
-
-if __name__ == "__main__":
-    main()
+def questions():
+    """Each question once, with its answer."""
+    return list(dict(itertools.chain(attribute_questions(), bcder_walks.questions())).items())

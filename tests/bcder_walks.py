@@ -1,4 +1,4 @@
-"""Questions about values that are walked through, for tests/bcder_example_cases.py, and their answers.
+"""Questions about values that are walked through, for tests/bcder_cases.py, and their answers.
 
 The answers come from a reader of this module after X.690 8.1, 9.1 and 10.1. The questions are random trees as they are
 spelled in each mode, the same with an octet changed, left out or put in, all short rows of octets that mean something in

@@ -1,7 +1,7 @@
 //! Certificates: their fields, their tests in each role, what they hold, and how they are built.
 
-pub use certs_again::fields_are_lawful;
-pub use certs_built::{BuildCert, TbsCertValues};
+pub use crate::again::fields_are_lawful;
+pub use crate::built::{BuildCert, TbsCertValues};
 pub use certs_cert::{Cert, CertValues, ExtendedKeyUsage, KeyUsage, Role, TbsCert};
 pub use certs_extension::{ExtensionError, Overclaim};
 pub use certs_verify::{Inspect, Refused, ResourceCert, Validate, Verify};

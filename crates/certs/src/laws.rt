@@ -11,10 +11,10 @@
 //! | [`spelled`] | octets are one certificate at most, and one revocation list |
 //! | [`x509`] | names, serial numbers, times, keys, signatures and URIs |
 
-pub use certs_again::laws as built;
-pub use certs_claims::laws as list;
+pub use crate::again::laws as built;
 pub use certs_crl::laws as crl;
+pub use certs_extension::claims::laws as list;
+pub use certs_extension::forms::laws as spelled;
 pub use certs_extension::laws as extension;
 pub use certs_revoked::laws as revoked;
-pub use certs_specs::laws as spelled;
 pub use certs_x509::laws as x509;

@@ -10,6 +10,8 @@
 //! | [`cert`] | certificates: their fields, their tests in each role, what they hold, and how they are built |
 //! | [`crl`] | revocation lists: their entries, the search for a serial number, stores, and how they are built |
 //! | [`x509`] | names, serial numbers, times, keys, signatures, URIs, and the causes of refusals |
+//! | [`built`] | what is written of a certificate's fields, and the certificate that a signer makes of them |
+//! | [`again`] | what is built of a certificate's fields is read again |
 //! | [`laws`] | what follows for certificates and lists, as functions that do nothing |
 //!
 //! A certificate below an issuer is read and validated like this:
@@ -25,12 +27,14 @@
 //!   and never another answer.
 //! - Digests, verdicts on signatures, keys that sign and clocks are handed in.
 //! - Inspection, verification, validation and building are calls of traits ([`cert::Inspect`], [`cert::Verify`],
-//!   [`cert::Validate`], [`cert::BuildCert`]), since each is a crate of its own. A call that consumes a certificate hands it
+//!   [`cert::Validate`], [`cert::BuildCert`]), since they stand apart from the type's own crate. A call that consumes a certificate hands it
 //!   back where it refuses it ([`cert::Refused`]).
 //!
 //! Each part's page has the rest.
 #![tactic(auto)]
 
+pub mod again;
+pub mod built;
 pub mod cert;
 pub mod crl;
 pub mod laws;

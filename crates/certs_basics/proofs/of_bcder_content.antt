@@ -12,6 +12,7 @@ pub use Rattle.bcder.proofs.of_bcder_content.Kept
 pub use Rattle.bcder.proofs.of_bcder_content.KeptOne
 pub use Rattle.bcder.proofs.of_bcder_content.Meaning
 pub use Rattle.bcder.proofs.of_bcder_content.Modes
+pub use Rattle.bcder.proofs.of_bcder_content.Passing
 pub use Rattle.bcder.proofs.of_bcder_content.Simple
 pub use Rattle.bcder.proofs.of_bcder_content.Tagged
 pub use Rattle.bcder.proofs.of_bcder_content.Taking

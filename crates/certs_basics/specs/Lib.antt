@@ -5,6 +5,13 @@ pub mod Basics
 pub mod Names
 pub mod Keys
 pub mod Verdicts
+pub mod Uris
+pub mod Paths
+pub mod Made
+pub mod Times
+pub mod Pairs
+pub mod Forms
+pub mod Periods
 -- What stands below, for the crates above.
 pub use Rattle.bcder.specs as bcder
 pub use Rattle.bcder.specs.bcder_bits as bcder_bits

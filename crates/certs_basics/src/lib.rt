@@ -1,5 +1,9 @@
-//! Definitions of names, keys, algorithms and identifiers, which certificates, revocation lists and signed objects share.
+//! What certificates, revocation lists and signed objects share: definitions of names, keys, algorithms and identifiers, and
+//! their URIs ([`uri`]) and moments ([`time`]).
 #![tactic(auto)]
+
+pub mod time;
+pub mod uri;
 
 /// The format of a public key (RFC 7935 3, RFC 8608 3.1).
 #[derive(Clone, Copy, Debug, PartialEq, Eq)]

@@ -4,7 +4,7 @@
 use answers::{Answer, mode_of, octets_of, unknown};
 use anyhow::{Result, anyhow};
 use bcder::decode::{Decode, DecodeError};
-use certs_access::{take_authority_access, take_crl_distribution};
+use certs_extension::access::{take_authority_access, take_crl_distribution};
 use certs_x509::uri::Rsync;
 use std::alloc::Global;
 use std::convert::Infallible;

@@ -6,7 +6,7 @@ use Rattle.certs_cert.specs.bcder_content.Contents.{Goes, ValuesLeft}
 use Rattle.certs_cert.specs.bcder_content.Exact.{Gives}
 use Rattle.certs_cert.specs.bcder_content.Texts.{Joins, NoOctets, SpellsOf}
 use Rattle.certs_cert.proofs.of_bcder_content.Took.{goes_both, goes_none}
-use Rattle.certs_signed.specs.Took.{TookOctets}
+use Rattle.certs_x509.specs.Took.{TookOctets}
 
 -- Octets of P were read, which mean x.
 abbrev pub Read : {A : Type 0} → (Mode → List ℕ → A → Type 0) → ValuesLeft → A → ValuesLeft → Type 0

@@ -9,16 +9,16 @@ use Rattle.certs_cert.specs.bcder_content.Grammar.{End, Inside, One, Then}
 use Rattle.certs_cert.specs.bcder_content.Words.{Gathers}
 use Rattle.certs_cert.proofs.of_bcder_content.Took.{one_took}
 use Rattle.certs_cert.proofs.of_bcder_content.Unique.{end_one, inside_one, same_trees, same_values, then_one}
-use Rattle.certs_claims.proofs.of_certs_basics.Values.{gathers_one}
-use Rattle.certs_claims.proofs.of_certs_specs.Values.{extension_one}
-use Rattle.certs_claims.specs.certs_specs.Cert.{TbsValue}
-use Rattle.certs_claims.specs.certs_specs.CertText.{Fields, IsTbs, IsTbsBody}
-use Rattle.certs_claims.specs.certs_specs.Extensions.{Extension, IsExtension}
-use Rattle.certs_claims.specs.Finishing.{Finishes, claims_of}
-use Rattle.certs_claims.specs.Slots.{AreSlots}
-use Rattle.certs_claims.specs.declared.finish.Claims.{Claims}
-use Rattle.certs_claims.specs.declared.slots.Slots.{Slots}
-use Rattle.certs_claims.proofs.Whole.{extensions_there, slots_one, slots_there}
+use Rattle.certs_extension.proofs.of_certs_basics.Values.{gathers_one}
+use Rattle.certs_extension.proofs.Values.{extension_one}
+use Rattle.certs_extension.specs.Cert.{TbsValue}
+use Rattle.certs_extension.specs.CertText.{Fields, IsTbs, IsTbsBody}
+use Rattle.certs_extension.specs.Extensions.{Extension, IsExtension}
+use Rattle.certs_extension.specs.Finishing.{Finishes, claims_of}
+use Rattle.certs_extension.specs.Slots.{AreSlots}
+use Rattle.certs_extension.specs.declared.claims.finish.Claims.{Claims}
+use Rattle.certs_extension.specs.declared.claims.slots.Slots.{Slots}
+use Rattle.certs_extension.proofs.Whole.{extensions_there, slots_one, slots_there}
 use Rattle.certs_cert.specs.Reading.{AreSlotted, IsListed, IsListedBody, ListedFields, SaysListed, slots_of}
 
 -- The first value stays, and other values come after it.

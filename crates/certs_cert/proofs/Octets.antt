@@ -8,11 +8,11 @@ use Rattle.certs_cert.specs.bcder_content.Kept.{CapturedValue}
 use Rattle.certs_cert.specs.bcder_content.Texts.{InFront, Joins}
 use Rattle.certs_cert.proofs.of_bcder_content.Keeping.{front_all}
 use Rattle.certs_cert.proofs.of_bcder_tree.Trees.{one_tree}
-use Rattle.certs_signed.specs.Signed.{AreSignedOctets, SignedDataValue, octet_fields}
-use Rattle.certs_signed.specs.Took.{TookOctets}
-use Rattle.certs_claims.specs.certs_specs.Cert.{CertValue, TbsValue}
-use Rattle.certs_claims.specs.certs_specs.CertText.{Fields, SpellsTbs}
-use Rattle.certs_claims.proofs.Whole.{extensions_there}
+use Rattle.certs_x509.specs.Signed.{AreSignedOctets, SignedDataValue, octet_fields}
+use Rattle.certs_x509.specs.Took.{TookOctets}
+use Rattle.certs_extension.specs.Cert.{CertValue, TbsValue}
+use Rattle.certs_extension.specs.CertText.{Fields, SpellsTbs}
+use Rattle.certs_extension.proofs.Whole.{extensions_there}
 use Rattle.certs_cert.specs.Reading.{Listed, ListedFields, SaysListed, SpellsListed, listed_fields, slots_of}
 use Rattle.certs_cert.specs.Whole.{AreCertOctets, signed_of}
 use Rattle.certs_cert.proofs.Listed.{slotted_list}

@@ -11,10 +11,10 @@ use Rattle.certs_cert.specs.bcder_content.Grammar.{Inside}
 use Rattle.certs_cert.specs.bcder_content.Ran.{RanOpt, RanOptCases, Reader}
 use Rattle.certs_cert.specs.bcder_content.Texts.{Wraps}
 use Rattle.certs_cert.proofs.of_bcder_content.Taking.{weaker}
-use Rattle.certs_signed.proofs.Octets.{EachTook, inside_took}
-use Rattle.certs_signed.specs.Took.{TookOctets}
-use Rattle.certs_claims.specs.certs_specs.Cert.{CertValue}
-use Rattle.certs_claims.specs.certs_specs.CertText.{IsCert, SpellsCert}
+use Rattle.certs_x509.proofs.Octets.{EachTook, inside_took}
+use Rattle.certs_x509.specs.Took.{TookOctets}
+use Rattle.certs_extension.specs.Cert.{CertValue}
+use Rattle.certs_extension.specs.CertText.{IsCert, SpellsCert}
 use Rattle.certs_cert.specs.Whole.{AreCert, AreCertOctets}
 use Rattle.certs_cert.proofs.Whole.{cert_sequence, sequence_cert}
 

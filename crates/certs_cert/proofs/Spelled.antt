@@ -8,10 +8,10 @@ use Rattle.certs_cert.specs.bcder_source.declared.error.DecodeError.{DecodeError
 use Rattle.certs_cert.specs.bcder_content.Exact.{DecodesAs}
 use Rattle.certs_cert.specs.bcder_content.Texts.{Joins, NoOctets, Wraps}
 use Rattle.certs_cert.proofs.of_bcder_content.Taking.{weaker}
-use Rattle.certs_claims.specs.certs_specs.Calls.{DecodesCert}
-use Rattle.certs_claims.specs.certs_specs.Cert.{CertValue}
-use Rattle.certs_claims.specs.certs_specs.CertText.{Fields, IsCert, SpellsCert, SpellsFields}
-use Rattle.certs_claims.specs.certs_specs.Spellings.{CertIsSpelled}
+use Rattle.certs_extension.specs.Calls.{DecodesCert}
+use Rattle.certs_extension.specs.Cert.{CertValue}
+use Rattle.certs_extension.specs.CertText.{Fields, IsCert, SpellsCert, SpellsFields}
+use Rattle.certs_extension.specs.Spellings.{CertIsSpelled}
 
 -- The octets spell a tree; they spell trees, one after the other.
 pub record HasTree (m : Mode) (text : List ℕ) : Type 0 where

@@ -12,9 +12,9 @@ use Rattle.certs_cert.proofs.of_bcder_content.Keeping.{front_all}
 use Rattle.certs_cert.proofs.of_bcder_content.Unique.{same_trees}
 use Rattle.certs_cert.proofs.of_bcder_content.Within.{AllWithin, all_gives, all_unfit}
 use Rattle.certs_cert.proofs.of_bcder_tree.Trees.{one_tree}
-use Rattle.certs_signed.specs.Signed.{SignedDataValue, signed_content, signed_fields}
-use Rattle.certs_claims.specs.certs_specs.Cert.{CertValue, TbsValue}
-use Rattle.certs_claims.specs.certs_specs.CertText.{IsCert, IsTbs}
+use Rattle.certs_x509.specs.Signed.{SignedDataValue, signed_content, signed_fields}
+use Rattle.certs_extension.specs.Cert.{CertValue, TbsValue}
+use Rattle.certs_extension.specs.CertText.{IsCert, IsTbs}
 use Rattle.certs_cert.specs.Whole.{AreCert, signed_of}
 
 pub kept_octets : {lent kept : CapturedValue} {octets : List ℕ} → octets ≡ lent.octets → lent ≡ kept → octets ≡ kept.octets

@@ -1,13 +1,13 @@
 -- Lemmas of bcder_content, for the crates above.
-pub use Rattle.certs_signed.proofs.of_bcder_content.Choices
-pub use Rattle.certs_signed.proofs.of_bcder_content.Decoding
-pub use Rattle.certs_signed.proofs.of_bcder_content.Forests
-pub use Rattle.certs_claims.proofs.of_bcder_content.Fronts
-pub use Rattle.certs_signed.proofs.of_bcder_content.InMode
-pub use Rattle.certs_signed.proofs.of_bcder_content.Keeping
-pub use Rattle.certs_claims.proofs.of_bcder_content.Simple
-pub use Rattle.certs_claims.proofs.of_bcder_content.Tagged
-pub use Rattle.certs_signed.proofs.of_bcder_content.Taking
-pub use Rattle.certs_signed.proofs.of_bcder_content.Took
-pub use Rattle.certs_signed.proofs.of_bcder_content.Unique
-pub use Rattle.certs_signed.proofs.of_bcder_content.Within
+pub use Rattle.certs_x509.proofs.of_bcder_content.Choices
+pub use Rattle.certs_x509.proofs.of_bcder_content.Decoding
+pub use Rattle.certs_x509.proofs.of_bcder_content.Forests
+pub use Rattle.certs_extension.proofs.of_bcder_content.Fronts
+pub use Rattle.certs_x509.proofs.of_bcder_content.InMode
+pub use Rattle.certs_x509.proofs.of_bcder_content.Keeping
+pub use Rattle.certs_extension.proofs.of_bcder_content.Simple
+pub use Rattle.certs_extension.proofs.of_bcder_content.Tagged
+pub use Rattle.certs_x509.proofs.of_bcder_content.Taking
+pub use Rattle.certs_x509.proofs.of_bcder_content.Took
+pub use Rattle.certs_x509.proofs.of_bcder_content.Unique
+pub use Rattle.certs_x509.proofs.of_bcder_content.Within

@@ -6,11 +6,11 @@ use Rattle.certs_cert.specs.bcder_content.Kept.{CapturedValue}
 use Rattle.certs_cert.specs.certs_basics.HandedIn.{Digests}
 use Rattle.certs_cert.specs.certs_basics.Keys.{KeyValue, identifier}
 use Rattle.certs_cert.specs.certs_basics.Names.{subject_of}
-use Rattle.certs_cert.specs.certs_time.Periods.{Period}
+use Rattle.certs_cert.specs.certs_basics.Periods.{Period}
 use Rattle.certs_cert.specs.resources_chain.declared.choice.ResourcesChoice.TheVariants.{Missing}
 use Rattle.certs_cert.specs.resources_chain.declared.claims.Overclaim.{Overclaim}
-use Rattle.certs_claims.specs.certs_specs.declared.KeyUsage.{KeyUsage}
-use Rattle.certs_claims.specs.certs_specs.Cert.{TbsValue, no_access}
+use Rattle.certs_extension.specs.declared.forms.KeyUsage.{KeyUsage}
+use Rattle.certs_extension.specs.Cert.{TbsValue, no_access}
 
 -- The name that is made from the key's identifier (this project's choice).
 pub record IsKeyName (d : Digests) (key : KeyValue) (name : CapturedValue) : Type 0 where

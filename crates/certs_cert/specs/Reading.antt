@@ -10,14 +10,14 @@ use Rattle.certs_cert.specs.bcder_content.Words.{Gathers}
 use Rattle.certs_cert.specs.certs_basics.Basics.{IsSerial, IsAlgorithm}
 use Rattle.certs_cert.specs.certs_basics.Keys.{KeyValue, IsKey}
 use Rattle.certs_cert.specs.certs_basics.Names.{IsKeptName, SpellsName}
-use Rattle.certs_cert.specs.certs_time.Forms.{IsValidity}
-use Rattle.certs_cert.specs.certs_time.Periods.{Period, as_fields}
-use Rattle.certs_claims.specs.certs_specs.Cert.{TbsValue}
-use Rattle.certs_claims.specs.certs_specs.CertText.{IsVersion}
-use Rattle.certs_claims.specs.certs_specs.Extensions.{IsExtension}
-use Rattle.certs_claims.specs.Finishing.{Finishes, claims_of}
-use Rattle.certs_claims.specs.Slots.{AreSlots}
-use Rattle.certs_claims.specs.declared.slots.Slots.{Slots}
+use Rattle.certs_cert.specs.certs_basics.Forms.{IsValidity}
+use Rattle.certs_cert.specs.certs_basics.Periods.{Period, as_fields}
+use Rattle.certs_extension.specs.Cert.{TbsValue}
+use Rattle.certs_extension.specs.CertText.{IsVersion}
+use Rattle.certs_extension.specs.Extensions.{IsExtension}
+use Rattle.certs_extension.specs.Finishing.{Finishes, claims_of}
+use Rattle.certs_extension.specs.Slots.{AreSlots}
+use Rattle.certs_extension.specs.declared.claims.slots.Slots.{Slots}
 
 -- A value that stands alone in a content.
 abbrev pub alone : {A : Type 0} → A → A × Unit {0}

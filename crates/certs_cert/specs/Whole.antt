@@ -8,9 +8,9 @@ use Rattle.certs_cert.specs.bcder_content.Words.{Kept}
 use Rattle.certs_cert.specs.bcder_bits.Bits.{BitsValue}
 use Rattle.certs_cert.specs.bcder_bits.Contents.{IsBitString, bit_string_tag}
 use Rattle.certs_cert.specs.certs_basics.Basics.{IsAlgorithm}
-use Rattle.certs_signed.specs.Signed.{SignedDataValue}
-use Rattle.certs_claims.specs.certs_specs.Cert.{CertValue, SignedValue, TbsValue}
-use Rattle.certs_claims.specs.certs_specs.CertText.{IsTbs, SpellsTbs, as_cert}
+use Rattle.certs_x509.specs.Signed.{SignedDataValue}
+use Rattle.certs_extension.specs.Cert.{CertValue, SignedValue, TbsValue}
+use Rattle.certs_extension.specs.CertText.{IsTbs, SpellsTbs, as_cert}
 
 -- The octets that are signed, whether NULL stands in the outer algorithm, and the octets of the signature.
 abbrev pub signed_of : SignedDataValue → SignedValue

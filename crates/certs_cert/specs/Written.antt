@@ -1,10 +1,10 @@
 -- What is written of a certificate, and why nothing is (RFC 5280 4.1.1).
 use Rattle.std.specs.Prelude.{◌≡◌, List, ℕ}
 use Rattle.certs_cert.specs.bcder_tree.declared.mode.Mode.{Mode}
-use Rattle.certs_signed.specs.bcder_values.Gathered.{ExtendRefused}
-use Rattle.certs_signed.specs.bcder_values.bcder_written.declared.error.EncodeError.{EncodeError}
-use Rattle.certs_signed.specs.Signed.{SignedDataValue, signed, signed_fields}
-use Rattle.certs_claims.specs.certs_specs.Cert.{CertValue}
+use Rattle.certs_x509.specs.bcder_values.Gathered.{ExtendRefused}
+use Rattle.certs_extension.specs.bcder_written.declared.error.EncodeError.{EncodeError}
+use Rattle.certs_x509.specs.Signed.{SignedDataValue, signed, signed_fields}
+use Rattle.certs_extension.specs.Cert.{CertValue}
 use Rattle.certs_cert.specs.Whole.{signed_of}
 
 -- Certificate ::= SEQUENCE { tbsCertificate, signatureAlgorithm, signatureValue BIT STRING }: what was signed is written as

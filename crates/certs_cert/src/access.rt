@@ -4,7 +4,7 @@
 ghost use Rattle.std.specs.Prelude.{◌≡◌, option_copied};
 
 use crate::tbs::TbsCert;
-use certs_claims::{Https, Rsync};
+use certs_extension::access::{Https, Rsync};
 
 impl TbsCert {
     /// The URI of the revocation list on which the certificate would be, if there is one (RFC 6487

@@ -8,7 +8,7 @@ ghost use Rattle.certs_cert.specs.resources_chain.Sets.{Run};
 ghost use Rattle.certs_cert.specs.resources_chain.declared.choice.ResourcesChoice.TheVariants.{Blocks};
 
 use crate::tbs::TbsCert;
-use certs_claims::{
+use certs_extension::forms::{
     AsBlock, AsBlocks, AsBlocksBuilder, AsResources, AsResourcesBuilder, Block, IpBlock, IpBlocks,
     IpBlocksBuilder, IpResources, IpResourcesBuilder,
 };

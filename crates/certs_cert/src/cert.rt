@@ -6,10 +6,10 @@ ghost use Rattle.certs_cert.specs.Whole.{signed_of};
 ghost use Rattle.certs_cert.specs.Written.{RefusesCert, WritesCert};
 
 use crate::tbs::TbsCert;
-use certs_claims::beside;
+use certs_extension::claims::beside;
 use certs_key::encode::{EncodeError, Values};
 use certs_key::{Captured, Mode};
-use certs_signed::{SignedData, SignedDataValues};
+use certs_x509::signed::{SignedData, SignedDataValues};
 use std::alloc::{AllocError, Global};
 use std::marker::Model;
 
@@ -22,7 +22,7 @@ pub struct Cert {
 }
 
 impl Model for Cert {
-    ghost use Rattle.certs_claims.specs.certs_specs.Cert.{CertValue};
+    ghost use Rattle.certs_extension.specs.Cert.{CertValue};
     ghost use Rattle.certs_cert.specs.Whole.{signed_of};
 
     ghost Value = { CertValue };

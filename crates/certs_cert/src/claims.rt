@@ -4,7 +4,7 @@ ghost use Rattle.std.specs.Prelude.{◌≡◌, ◌≢◌, ◌↔◌, ◌⊎◌, 
 ghost use Rattle.certs_cert.specs.resources_chain.declared.choice.ResourcesChoice.TheVariants.{Missing, Inherit};
 
 use crate::tbs::TbsCert;
-use certs_claims::{AsResources, IpResources, Overclaim};
+use certs_extension::forms::{AsResources, IpResources, Overclaim};
 
 impl TbsCert {
     /// What becomes of numbers that the issuer doesn't hold (RFC 8360 4.2.1).

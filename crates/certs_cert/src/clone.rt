@@ -3,8 +3,11 @@
 ghost use Rattle.std.specs.Prelude.{◌≡◌, IfOk};
 
 use crate::tbs::TbsCert;
-use certs_claims::{AsResources, ExtendedKeyUsage, Https, IpResources, Rsync, beside};
-use certs_signed::{Name, PublicKey};
+use certs_extension::ExtendedKeyUsage;
+use certs_extension::access::{Https, Rsync};
+use certs_extension::claims::beside;
+use certs_extension::forms::{AsResources, IpResources};
+use certs_x509::signed::{Name, PublicKey};
 use std::alloc::AllocError;
 
 // The issuer's name, the subject's, and the key.

@@ -9,16 +9,16 @@ ghost use Rattle.certs_cert.specs.bcder_content.Here.{here};
 ghost use Rattle.certs_cert.specs.bcder_content.InMode.{ReadsFields};
 ghost use Rattle.certs_cert.specs.bcder_content.Texts.{InFront};
 ghost use Rattle.certs_cert.specs.Whole.{AreCert, AreCertOctets};
-ghost use Rattle.certs_signed.specs.Took.{TookOctets};
-ghost use Rattle.certs_claims.specs.certs_specs.Calls.{DecodesCert};
-ghost use Rattle.certs_claims.specs.certs_specs.CertText.{IsCert, IsTbs, SpellsCert, SpellsTbs};
+ghost use Rattle.certs_x509.specs.Took.{TookOctets};
+ghost use Rattle.certs_extension.specs.Calls.{DecodesCert};
+ghost use Rattle.certs_extension.specs.CertText.{IsCert, IsTbs, SpellsCert, SpellsTbs};
 
 use crate::cert::Cert;
 use crate::tbs::TbsCert;
-use certs_claims::cert_is_spelled;
+use certs_extension::forms::laws::cert_is_spelled;
 use certs_key::Captured;
-use certs_signed::decode::{Constructed, Decode, DecodeError, IntoSource, Source};
-use certs_signed::{Mode, SignedData};
+use certs_x509::signed::decode::{Constructed, Decode, DecodeError, IntoSource, Source};
+use certs_x509::signed::{Mode, SignedData};
 use std::alloc::{AllocError, Global};
 use std::convert::Infallible;
 

@@ -3,8 +3,8 @@
 ghost use Rattle.std.specs.Prelude.{◌≡◌};
 
 use crate::tbs::TbsCert;
-use certs_claims::Validity;
-use certs_signed::{Name, RpkiSignatureAlgorithm, Serial};
+use certs_extension::forms::Validity;
+use certs_x509::signed::{Name, RpkiSignatureAlgorithm, Serial};
 
 impl TbsCert {
     /// The serial number (RFC 5280 4.1.2.2).

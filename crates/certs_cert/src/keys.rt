@@ -5,7 +5,7 @@ ghost use Rattle.certs_cert.specs.certs_key.Digesting.{digests_of};
 ghost use Rattle.certs_cert.specs.certs_basics.Keys.{identifier};
 
 use crate::tbs::TbsCert;
-use certs_signed::{Digester, KeyIdentifier, PublicKey};
+use certs_x509::signed::{Digester, KeyIdentifier, PublicKey};
 
 impl TbsCert {
     /// The key of the subject (RFC 5280 4.1.2.7).

@@ -23,12 +23,13 @@ pub mod tbs;
 pub mod usages;
 
 pub use cert::{Cert, CertValues};
-pub use certs_claims::{
-    AsBlocks, ClaimError, Digester, ExtendedKeyUsage, InheritedAsResources, InheritedIpResources,
-    InspectionError, IpBlocks, KeyIdentifier, KeyUsage, PublicKeyFormat, Role, Rsync, Time,
-    grammar, paths,
+pub use certs_extension::access::{PublicKeyFormat, Rsync, grammar, paths};
+pub use certs_extension::forms::{
+    AsBlocks, ClaimError, InheritedAsResources, InheritedIpResources, InspectionError, IpBlocks,
+    KeyUsage, Role, Time,
 };
-pub use certs_signed::{
+pub use certs_extension::{Digester, ExtendedKeyUsage, KeyIdentifier};
+pub use certs_x509::signed::{
     ConstOid, DigestAlgorithm, Mode, OctetString, Oid, RpkiSignatureAlgorithm, SignedData, Tag,
     Verifier, decode,
 };

@@ -6,18 +6,19 @@ ghost use Rattle.certs_cert.specs.bcder_content.Exact.{ReadsAs};
 ghost use Rattle.certs_cert.specs.bcder_content.Grammar.{Inside};
 ghost use Rattle.certs_cert.specs.bcder_content.Here.{here};
 ghost use Rattle.certs_cert.specs.bcder_content.InMode.{ReadsFields};
-ghost use Rattle.certs_cert.specs.Reading.{AreSlotted, IsListed, IsListedBody, IsNumber, IsNumbered};
-ghost use Rattle.certs_cert.specs.Reading.{IsTail, SaysListed, SpellsListed, SpellsListedBody};
-ghost use Rattle.certs_cert.specs.Reading.{SpellsTail, alone, listed_fields, slots_of, tail_fields};
-ghost use Rattle.certs_claims.specs.Finishing.{Finishes};
-ghost use Rattle.certs_claims.specs.declared.finish.Claims.{Claims as ClaimsValue};
-ghost use Rattle.certs_signed.specs.Took.{TookOctets};
-ghost use Rattle.certs_claims.specs.certs_specs.CertText.{IsTbs, SpellsTbs};
+ghost use Rattle.certs_cert.specs.Reading.{AreSlotted, IsListed, IsListedBody, IsNumber, IsNumbered, IsTail, SaysListed, SpellsListed, SpellsListedBody, SpellsTail, alone, listed_fields, slots_of, tail_fields};
+ghost use Rattle.certs_extension.specs.Finishing.{Finishes};
+ghost use Rattle.certs_extension.specs.declared.claims.finish.Claims.{Claims as ClaimsValue};
+ghost use Rattle.certs_x509.specs.Took.{TookOctets};
+ghost use Rattle.certs_extension.specs.CertText.{IsTbs, SpellsTbs};
 
 use crate::tbs::TbsCert;
-use certs_claims::{ListError, Slots, Validity, take_extensions};
-use certs_signed::decode::{Constructed, ContentError, DecodeError, Source};
-use certs_signed::{Name, PublicKey, RpkiSignatureAlgorithm, Serial, SignatureAlgorithm, Tag};
+use certs_extension::claims::{ListError, Slots, take_extensions};
+use certs_extension::forms::Validity;
+use certs_x509::signed::decode::{Constructed, ContentError, DecodeError, Source};
+use certs_x509::signed::{
+    Name, PublicKey, RpkiSignatureAlgorithm, Serial, SignatureAlgorithm, Tag,
+};
 use std::alloc::Global;
 
 // The number that stands for version 3 (RFC 5280 4.1.2.1).

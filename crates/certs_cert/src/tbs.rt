@@ -5,10 +5,12 @@ ghost use Rattle.certs_cert.specs.certs_key.Digesting.{digests_of};
 ghost use Rattle.certs_cert.specs.certs_basics.Keys.{identifier};
 ghost use Rattle.certs_cert.specs.Fresh.{IsSubjectFor, fresh};
 
-use certs_claims::{
-    AsResources, ExtendedKeyUsage, Https, IpResources, KeyUsage, Overclaim, Rsync, Validity,
+use certs_extension::ExtendedKeyUsage;
+use certs_extension::access::{Https, Rsync};
+use certs_extension::forms::{AsResources, IpResources, KeyUsage, Overclaim, Validity};
+use certs_x509::signed::{
+    Digester, KeyIdentifier, Name, PublicKey, RpkiSignatureAlgorithm, Serial,
 };
-use certs_signed::{Digester, KeyIdentifier, Name, PublicKey, RpkiSignatureAlgorithm, Serial};
 use std::alloc::{AllocError, Global};
 use std::marker::Model;
 
@@ -40,7 +42,7 @@ pub struct TbsCert {
 }
 
 impl Model for TbsCert {
-    ghost use Rattle.certs_claims.specs.certs_specs.Cert.{TbsValue};
+    ghost use Rattle.certs_extension.specs.Cert.{TbsValue};
 
     ghost Value = { TbsValue };
 

@@ -3,7 +3,8 @@
 ghost use Rattle.std.specs.Prelude.{◌≡◌, ◌↔◌, IsTrue, Some, true, option_copied};
 
 use crate::tbs::TbsCert;
-use certs_claims::{ExtendedKeyUsage, KeyUsage};
+use certs_extension::ExtendedKeyUsage;
+use certs_extension::forms::KeyUsage;
 
 impl TbsCert {
     /// Whether basic constraints say that the subject is an authority; none where there are no

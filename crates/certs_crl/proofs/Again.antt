@@ -31,20 +31,20 @@ use Rattle.certs_revoked.specs.bcder_oid.Identifiers.{IsIdentifier}
 use Rattle.certs_crl.specs.certs_basics.Basics.{IsAlgorithm, IsKeyIdentifier, IsSerial, IsTwentyLong}
 use Rattle.certs_crl.specs.certs_basics.Identifiers as id
 use Rattle.certs_crl.specs.certs_basics.Names.{IsKeptName}
-use Rattle.certs_crl.specs.certs_time.Forms.{IsTime}
+use Rattle.certs_crl.specs.certs_basics.Forms.{IsTime}
 use Rattle.certs_crl.specs.certs_basics.Identifiers.{sha256_with_rsa}
-use Rattle.certs_algorithm.specs.Algorithms.{x509_algorithm}
-use Rattle.certs_algorithm.proofs.Written.{algorithm_spelled}
+use Rattle.certs_key.specs.Algorithms.{x509_algorithm}
+use Rattle.certs_key.proofs.Written.{algorithm_spelled}
 use Rattle.certs_revoked.specs.EntryForms.{WritesMoment, moment, serial}
 use Rattle.certs_revoked.specs.Listed.{SpellsEntries}
-use Rattle.certs_revoked.specs.certs_specs.Cert.{SignedValue}
-use Rattle.certs_revoked.specs.certs_specs.CertText.{IsVersion}
-use Rattle.certs_revoked.specs.certs_specs.CrlText.{AreRevoked, CrlText, CrlValue, IsCrl, IsRevoked, IsTbsList, RevokedValue, TbsListValue, entries}
-use Rattle.certs_revoked.specs.certs_specs.Extensions.{Extension, IsAuthorityKeyIdentifier, IsExtension}
-use Rattle.certs_revoked.specs.certs_specs.Spellings.{CrlIsSpelled}
-use Rattle.certs_signed.specs.bcder_bits.Contents.{padded_in}
-use Rattle.certs_signed.specs.Signed.{SignedDataValue, kept_message, signed, signed_fields}
-use Rattle.certs_signed.proofs.Again.{signed_lawful, signed_sound}
+use Rattle.certs_revoked.specs.certs_extension.Cert.{SignedValue}
+use Rattle.certs_revoked.specs.certs_extension.CertText.{IsVersion}
+use Rattle.certs_revoked.specs.certs_extension.CrlText.{AreRevoked, CrlText, CrlValue, IsCrl, IsRevoked, IsTbsList, RevokedValue, TbsListValue, entries}
+use Rattle.certs_revoked.specs.certs_extension.Extensions.{Extension, IsAuthorityKeyIdentifier, IsExtension}
+use Rattle.certs_revoked.specs.certs_extension.Spellings.{CrlIsSpelled}
+use Rattle.certs_x509.specs.bcder_bits.Contents.{padded_in}
+use Rattle.certs_x509.specs.Signed.{SignedDataValue, kept_message, signed, signed_fields}
+use Rattle.certs_x509.proofs.Again.{signed_lawful, signed_sound}
 use Rattle.certs_crl.specs.Reading.{IsPair, IsPaired, IsReadBody, IsTail, Pair, ReadFields, SaysBoth, SaysRead, TailFields, list_of}
 use Rattle.certs_crl.specs.Written.{WritesCrl, WritesCrlNumber, WritesEntries, WritesExtension, WritesKey, WritesListExtensions, WritesName, WritesRevoked, WritesTbsList, padded_again, read_in}
 use Rattle.certs_crl.proofs.Listed.{read_tbs}

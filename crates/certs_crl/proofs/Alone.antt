@@ -18,12 +18,12 @@ use Rattle.certs_revoked.specs.bcder_values.Writable.{Writable}
 use Rattle.bcder.specs.bcder_octets.Segments.{WritesString}
 use Rattle.bcder.specs.bcder_octets.Wrapping.{WritesAround}
 use Rattle.certs_crl.specs.certs_basics.Identifiers as id
-use Rattle.certs_crl.specs.certs_time.Forms.{WritesTime}
-use Rattle.certs_time.proofs.Meanings.{one_written}
-use Rattle.certs_algorithm.specs.Algorithms.{AlgorithmValue, algorithm_of, x509_algorithm}
+use Rattle.certs_crl.specs.certs_basics.Forms.{WritesTime}
+use Rattle.certs_basics.proofs.Meanings.{one_written}
+use Rattle.certs_key.specs.Algorithms.{AlgorithmValue, algorithm_of, x509_algorithm}
 use Rattle.certs_revoked.specs.bcder_number.Integers.{IsNatural}
 use Rattle.certs_revoked.specs.EntryForms.{WritesMoment, same_parts}
-use Rattle.certs_revoked.specs.certs_specs.CrlText.{TbsListValue}
+use Rattle.certs_revoked.specs.certs_extension.CrlText.{TbsListValue}
 use Rattle.certs_crl.specs.Written.{WritesCrlNumber, WritesExtension, WritesKey, WritesListExtensions, WritesName, WritesTbsList}
 use Rattle.certs_crl.proofs.Writing.{around_as, both_as, plain_as, unsigned_as, wrapped_as}
 

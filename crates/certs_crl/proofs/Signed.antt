@@ -7,7 +7,7 @@ use Rattle.certs_revoked.specs.bcder_written.declared.error.EncodeError.{EncodeE
 use Rattle.certs_revoked.specs.bcder_written.declared.error.EncodeError.TheVariants as causes
 use Rattle.certs_key.specs.declared.signer.SigningError.{SigningError}
 use Rattle.certs_key.specs.declared.signer.SigningError.TheVariants as errors
-use Rattle.certs_revoked.specs.certs_specs.CrlText.{TbsListValue}
+use Rattle.certs_revoked.specs.certs_extension.CrlText.{TbsListValue}
 use Rattle.certs_crl.specs.Signing.{CanBeWritten, CannotBeWritten, LacksText, NotWritten, SigningRefused}
 use Rattle.certs_crl.specs.Written.{WritesTbsList}
 

@@ -17,12 +17,12 @@ use Rattle.bcder.specs.bcder_octets.Segments.{WritesString}
 use Rattle.bcder.specs.bcder_octets.Wrapping.{WritesAround}
 use Rattle.certs_crl.specs.certs_basics.Basics.{IsTwentyLong}
 use Rattle.certs_crl.specs.certs_basics.Identifiers as id
-use Rattle.certs_crl.specs.certs_time.Forms.{WritesTime}
-use Rattle.certs_algorithm.specs.Algorithms.{AlgorithmValue, algorithm_of, x509_algorithm}
+use Rattle.certs_crl.specs.certs_basics.Forms.{WritesTime}
+use Rattle.certs_key.specs.Algorithms.{AlgorithmValue, algorithm_of, x509_algorithm}
 use Rattle.certs_name.specs.Named.{IsNamed}
 use Rattle.certs_revoked.specs.bcder_number.Integers.{IsNatural}
 use Rattle.certs_revoked.specs.Listed.{SpellsEntries}
-use Rattle.certs_revoked.specs.certs_specs.CrlText.{RevokedValue, TbsListValue}
+use Rattle.certs_revoked.specs.certs_extension.CrlText.{RevokedValue, TbsListValue}
 use Rattle.certs_crl.specs.Written.{WritesCrlNumber, WritesExtension, WritesKey, WritesListExtensions, WritesRevoked, WritesTbsList}
 
 -- Words: another text for the same parts.

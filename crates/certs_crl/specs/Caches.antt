@@ -3,7 +3,7 @@ use Rattle.std.specs.Prelude.{◌≡◌, ◌<◌, ◌↔◌, ◌⊎◌, ℕ, Lis
 use Rattle.std.specs.List.Sorted.{IsStrictlyIncreasing}
 use Rattle.certs_revoked.specs.Listed.{IsListed}
 use Rattle.certs_revoked.specs.resources_chain.Rows.{Looks}
-use Rattle.certs_revoked.specs.certs_specs.CrlText.{RevokedValue}
+use Rattle.certs_revoked.specs.certs_extension.CrlText.{RevokedValue}
 
 -- The numbers of the list, each once, ascending.
 pub record IsCache (entries : List RevokedValue) (cache : List ℕ) : Type 0 where

@@ -7,8 +7,7 @@ pub mod Signing
 pub mod Invalid
 pub mod Lending
 -- What stands below, for the crates above.
-pub use Rattle.certs_signed.specs.bcder_source as bcder_source
+pub use Rattle.certs_x509.specs.bcder_source as bcder_source
 pub use Rattle.certs_revoked.specs.bcder_content as bcder_content
 pub use Rattle.certs_revoked.specs.bcder_tree as bcder_tree
 pub use Rattle.certs_revoked.specs.certs_basics as certs_basics
-pub use Rattle.certs_revoked.specs.certs_time as certs_time

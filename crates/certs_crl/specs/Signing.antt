@@ -6,7 +6,7 @@ use Rattle.certs_revoked.specs.bcder_written.declared.error.EncodeError.{EncodeE
 use Rattle.certs_revoked.specs.bcder_written.declared.error.EncodeError.TheVariants as causes
 use Rattle.certs_key.specs.declared.signer.SigningError.{SigningError}
 use Rattle.certs_key.specs.Refusing.{NotWrittenIf, SigningRefusedIf}
-use Rattle.certs_revoked.specs.certs_specs.CrlText.{TbsListValue}
+use Rattle.certs_revoked.specs.certs_extension.CrlText.{TbsListValue}
 use Rattle.certs_crl.specs.Written.{WritesTbsList}
 
 -- Why values aren't written: there is no text of P whose octets can be counted. Memory is lacking for such a text alone.

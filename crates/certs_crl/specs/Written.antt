@@ -14,13 +14,13 @@ use Rattle.bcder.specs.bcder_octets.Segments.{WritesString}
 use Rattle.bcder.specs.bcder_octets.Wrapping.{WritesAround}
 use Rattle.certs_crl.specs.certs_basics.Basics.{IsTwentyLong}
 use Rattle.certs_crl.specs.certs_basics.Identifiers as id
-use Rattle.certs_algorithm.specs.Algorithms.{x509_algorithm}
+use Rattle.certs_key.specs.Algorithms.{x509_algorithm}
 use Rattle.certs_name.specs.Named.{IsNamed}
 use Rattle.certs_revoked.specs.EntryForms.{WritesMoment, serial}
 use Rattle.certs_revoked.specs.Listed.{SpellsEntries}
-use Rattle.certs_revoked.specs.certs_specs.CrlText.{CrlValue, RevokedValue, TbsListValue}
-use Rattle.certs_signed.specs.bcder_bits.Contents.{padded_in}
-use Rattle.certs_signed.specs.Signed.{SignedDataValue, signed, signed_fields}
+use Rattle.certs_revoked.specs.certs_extension.CrlText.{CrlValue, RevokedValue, TbsListValue}
+use Rattle.certs_x509.specs.bcder_bits.Contents.{padded_in}
+use Rattle.certs_x509.specs.Signed.{SignedDataValue, signed, signed_fields}
 use Rattle.certs_crl.specs.Whole.{signed_of}
 
 -- Extension ::= SEQUENCE { extnID OBJECT IDENTIFIER, extnValue OCTET STRING }, without `critical`; the string is around the

@@ -10,7 +10,7 @@ use crate::tbs::TbsCertList;
 use bcder::encode::{EncodeError, Values};
 use bcder::{Captured, Mode};
 use certs_key::{Signer, SigningError};
-use certs_signed::SignedData;
+use certs_x509::signed::SignedData;
 use std::alloc::Global;
 
 // What is written of values in DER.

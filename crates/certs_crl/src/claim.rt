@@ -1,11 +1,11 @@
 //! Which issuer a revocation list claims (RFC 6487 5).
 
 ghost use Rattle.std.specs.Prelude.{◌≡◌, ◌↔◌, IfErr, IsOk};
-ghost use Rattle.certs_errors.specs.declared.verification.VerificationError.TheVariants.{AuthorityKeyMismatch};
+ghost use Rattle.certs_x509.specs.declared.errors.verification.VerificationError.TheVariants.{AuthorityKeyMismatch};
 
 use crate::crl::Crl;
 use certs_cert::Cert;
-use certs_errors::VerificationError;
+use certs_x509::errors::VerificationError;
 
 impl Crl {
     /// Whether that issuer is claimed: the list's authority key identifier is the issuer's subject key identifier

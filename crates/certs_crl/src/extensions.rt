@@ -11,17 +11,16 @@ ghost use Rattle.certs_crl.specs.bcder_content.InMode.{ReadsFields};
 ghost use Rattle.certs_crl.specs.certs_basics.Basics.{IsSerial};
 ghost use Rattle.certs_crl.specs.certs_basics.Identifiers as id;
 ghost use Rattle.certs_crl.specs.Invalid.{IsMadeOrFixed, TellsInvalid};
-ghost use Rattle.certs_crl.specs.Reading.{IsListExtension, IsNoMore, IsOfList, IsPair, IsPaired};
-ghost use Rattle.certs_crl.specs.Reading.{ReadsBoth, ReadsFronts, alone, pair_fields};
+ghost use Rattle.certs_crl.specs.Reading.{IsListExtension, IsNoMore, IsOfList, IsPair, IsPaired, ReadsBoth, ReadsFronts, alone, pair_fields};
 ghost use Rattle.certs_extension.specs.Raw.{extension_value};
-ghost use Rattle.certs_revoked.specs.certs_specs.Extensions.{IsAuthority};
+ghost use Rattle.certs_revoked.specs.certs_extension.Extensions.{IsAuthority};
 
 use crate::invalid::InvalidExtension;
 use bcder::decode::{Constructed, ContentError, Decode, DecodeError, Pos, Source};
 use bcder::{ConstOid, Mode, Oid, Tag};
 use certs_extension::{Extension, take_authority_key_identifier};
 use certs_name::Serial;
-use certs_signed::KeyIdentifier;
+use certs_x509::signed::KeyIdentifier;
 use std::alloc::{AllocError, Global};
 use std::convert::Infallible;
 

@@ -4,7 +4,7 @@ ghost use Rattle.std.specs.Prelude.{◌≡◌, ℕ, List};
 ghost use Rattle.certs_crl.specs.bcder_tree.declared.mode.Mode.{Mode as ModeValue};
 ghost use Rattle.certs_crl.specs.bcder_content.Grammar.{End, Then};
 ghost use Rattle.certs_revoked.specs.bcder_values.Returns.{ReadAgain};
-ghost use Rattle.certs_revoked.specs.certs_specs.CrlText.{CrlText, CrlValue, IsTbsList, TbsListValue};
+ghost use Rattle.certs_revoked.specs.certs_extension.CrlText.{CrlText, CrlValue, IsTbsList, TbsListValue};
 ghost use Rattle.certs_crl.specs.Written.{WritesCrl, WritesTbsList, padded_again, read_in};
 ghost use Rattle.certs_crl.specs.bcder_tree.declared.mode.Mode.TheVariants.{Der};
 

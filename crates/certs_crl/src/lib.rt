@@ -25,9 +25,9 @@ pub mod tbs;
 pub mod written;
 
 pub use bcder::decode;
+pub use certs_basics::time::Time;
 pub use certs_key::{Signer, SigningError};
 pub use certs_revoked::{CrlEntry, RevokedCertificates, RevokedCertificatesIter, SerialCache};
-pub use certs_time::Time;
 pub use crl::Crl;
 pub use invalid::InvalidExtension;
 pub use store::CrlStore;

@@ -5,11 +5,11 @@ ghost use Rattle.std.specs.Prelude.{◌≡◌};
 ghost use Rattle.certs_crl.specs.Lending.{LendsRevoked};
 
 use crate::tbs::TbsCertList;
-use certs_algorithm::RpkiSignatureAlgorithm;
+use certs_basics::time::Time;
+use certs_key::algorithm::RpkiSignatureAlgorithm;
 use certs_name::{Name, Serial};
 use certs_revoked::RevokedCertificates;
-use certs_signed::KeyIdentifier;
-use certs_time::Time;
+use certs_x509::signed::KeyIdentifier;
 
 impl TbsCertList {
     /// Sets the algorithm with which the list is signed (RFC 5280 5.1.2.2).

@@ -4,7 +4,7 @@ ghost use Rattle.std.specs.Prelude.{◌≡◌, ◌↔◌, ◌∷◌, ◌++◌, [
 ghost use Rattle.certs_crl.specs.Store.{IsFirstUnder, NoneUnder};
 
 use crate::crl::Crl;
-use certs_uri::Rsync;
+use certs_basics::uri::Rsync;
 use std::alloc::{AllocError, Global};
 use std::marker::Model;
 

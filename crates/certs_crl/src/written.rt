@@ -6,8 +6,7 @@ ghost use Rattle.certs_crl.specs.bcder_tree.declared.mode.Mode.TheVariants.{Der}
 ghost use Rattle.certs_revoked.specs.bcder_values.Writable.{Writable};
 ghost use Rattle.certs_crl.specs.certs_basics.Basics.{IsTwentyLong};
 ghost use Rattle.certs_crl.specs.certs_basics.Identifiers as id;
-ghost use Rattle.certs_crl.specs.Written.{WritesCrlNumber, WritesExtension, WritesKey};
-ghost use Rattle.certs_crl.specs.Written.{WritesListExtensions, WritesTbsList};
+ghost use Rattle.certs_crl.specs.Written.{WritesCrlNumber, WritesExtension, WritesKey, WritesListExtensions, WritesTbsList};
 ghost use Rattle.certs_name.specs.Named.{IsNamed};
 
 use crate::extensions::{CE_AUTHORITY_KEY_IDENTIFIER, CE_CRL_NUMBER};
@@ -15,11 +14,11 @@ use crate::tbs::TbsCertList;
 use bcder::encode::{self, PrimitiveContent, Values};
 use bcder::string::{OctetSliceEncoder, WrappingOctetStringEncoder};
 use bcder::{ConstOid, Mode, Tag};
-use certs_algorithm::{AlgorithmIdentifier, SignatureAlgorithm};
+use certs_basics::time::text::VariedTime;
+use certs_key::algorithm::{AlgorithmIdentifier, SignatureAlgorithm};
 use certs_name::{Name, Serial};
 use certs_revoked::revoked::RevokedValues;
-use certs_signed::KeyIdentifier;
-use certs_time::text::VariedTime;
+use certs_x509::signed::KeyIdentifier;
 
 // The number that stands for version 2 (RFC 5280 5.1.2.1).
 const VERSION: u8 = 1;

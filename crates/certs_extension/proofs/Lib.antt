@@ -1,8 +1,23 @@
-pub mod of_bcder_bits
-pub mod of_bcder_content
-pub mod of_bcder_oid
-pub mod of_bcder_values
+pub mod OneRsync
+pub mod Descriptions
+pub mod Ones
+pub mod Values
+pub mod Certs
+pub mod Roles
+mod Spellings
 pub mod Oids
-pub mod of_certs_specs
-pub mod of_certs_key
+mod AddLaws
+mod Filling
+mod Finished
+mod Lists
+mod SlotLaws
+pub mod Whole
+pub mod of_bcder_strings
 pub mod of_certs_basics
+pub mod of_bcder_tree
+pub mod of_bcder_bits
+pub mod of_bcder_oid
+pub mod of_bcder_content
+pub mod of_bcder_octets
+pub mod of_bcder_values
+pub mod of_certs_key

@@ -1,2 +1,2 @@
 -- Lemmas of bcder_oid, for the crates above.
-pub use Rattle.certs_specs.proofs.of_bcder_oid.Read
+pub use Rattle.certs_basics.proofs.of_bcder_oid.Read

@@ -1,2 +1,5 @@
 -- Lemmas of certs_basics, for the crates above.
-pub use Rattle.certs_key.proofs.of_certs_basics.Values
+pub use Rattle.certs_basics.proofs.Meanings
+pub use Rattle.certs_basics.proofs.Moments
+pub use Rattle.certs_basics.proofs.UriTexts
+pub use Rattle.certs_basics.proofs.Values

@@ -1,24 +1,46 @@
+pub mod Names
+pub mod Grammars
+pub mod Seen
+pub mod Access
+pub mod Found
+pub mod Extensions
+pub mod CertAccess
+pub mod Cert
+pub mod Kinds
+pub mod CertText
+pub mod Profiles
+pub mod Verified
+pub mod CrlText
+pub mod Built
+pub mod Calls
+pub mod Spellings
 pub mod Raw
 pub mod Putting
 pub mod Values
 pub mod Purposes
 pub mod Usages
+pub mod Slots
+pub mod ExtensionKinds
+pub mod Filling
+pub mod Refusals
+pub mod Finishing
+pub mod Needed
 -- What stands below, for the crates above.
+pub use Rattle.certs_basics.specs.bcder_content as bcder_content
+pub use Rattle.certs_basics.specs.bcder_oid as bcder_oid
+pub use Rattle.certs_basics.specs.bcder_strings as bcder_strings
+pub use Rattle.certs_basics.specs.bcder_tree as bcder_tree
+pub use Rattle.certs_basics.specs as certs_basics
+pub use Rattle.certs_basics.specs.bcder_bits as bcder_bits
+pub use Rattle.certs_basics.specs.bcder_number as bcder_number
+pub use Rattle.certs_basics.specs.bcder_primitive as bcder_primitive
+pub use Rattle.certs_basics.specs.bcder_source as bcder_source
+pub use Rattle.resources_as.specs as resources_as
+pub use Rattle.resources_as.specs.resources_asn as resources_asn
+pub use Rattle.resources_chain.specs as resources_chain
+pub use Rattle.resources_ip.specs as resources_ip
+pub use Rattle.resources_ip.specs.resources_ip_prefix as resources_ip_prefix
+pub use Rattle.resources_policy.specs as resources_policy
 pub use Rattle.certs_key.specs.bcder as bcder
-pub use Rattle.certs_specs.specs.bcder_bits as bcder_bits
-pub use Rattle.certs_specs.specs.bcder_content as bcder_content
-pub use Rattle.certs_specs.specs.bcder_oid as bcder_oid
-pub use Rattle.certs_specs.specs.bcder_primitive as bcder_primitive
-pub use Rattle.certs_specs.specs.bcder_source as bcder_source
-pub use Rattle.certs_specs.specs.bcder_tree as bcder_tree
 pub use Rattle.certs_key.specs.bcder_values as bcder_values
 pub use Rattle.certs_key.specs.bcder_written as bcder_written
-pub use Rattle.certs_specs.specs.certs_access as certs_access
-pub use Rattle.certs_specs.specs.certs_basics as certs_basics
-pub use Rattle.certs_specs.specs as certs_specs
-pub use Rattle.certs_specs.specs.certs_time as certs_time
-pub use Rattle.certs_specs.specs.certs_uri as certs_uri
-pub use Rattle.certs_specs.specs.resources_as as resources_as
-pub use Rattle.certs_specs.specs.resources_chain as resources_chain
-pub use Rattle.certs_specs.specs.resources_ip as resources_ip
-pub use Rattle.certs_specs.specs.resources_policy as resources_policy

@@ -10,7 +10,7 @@ use Rattle.certs_extension.specs.bcder.Kinds.{oid}
 use Rattle.certs_extension.specs.bcder_values.Forms.{Form, wrapped}
 use Rattle.certs_extension.specs.bcder_values.ListForms.{items}
 use Rattle.certs_extension.specs.bcder_oid.declared.oid.Oid.{Oid}
-use Rattle.certs_specs.specs.Extensions.{AreSome}
+use Rattle.certs_extension.specs.Extensions.{AreSome}
 
 abbrev pub purpose_octets : Oid (List ℕ) → List ℕ
 purpose_octets o = o.0

@@ -8,7 +8,7 @@ use Rattle.certs_extension.specs.bcder_source.Views.{Reading}
 use Rattle.certs_extension.specs.bcder_content.declared.constructed.Constructed.{Constructed}
 use Rattle.certs_extension.specs.bcder_content.Captures.{rest_of}
 use Rattle.certs_extension.specs.bcder_content.Ran.{Reader, Decoded, fresh}
-use Rattle.certs_specs.specs.Extensions.{Extension, Need, Must, MustNot, May, Meets}
+use Rattle.certs_extension.specs.Extensions.{Extension, Need, Must, MustNot, May, Meets}
 use Rattle.certs_extension.specs.declared.put.Need.{Need as NeedValue}
 use Rattle.certs_extension.specs.declared.put.Need.TheVariants as needs
 use Rattle.certs_extension.specs.declared.error.ExtensionError.{ExtensionError}

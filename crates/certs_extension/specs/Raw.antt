@@ -1,5 +1,5 @@
 -- Extensions by their octets (RFC 5280 4.1).
-use Rattle.certs_specs.specs.Extensions.{Extension, ExtensionFields, as_extension}
+use Rattle.certs_extension.specs.Extensions.{Extension, ExtensionFields, as_extension}
 use Rattle.certs_extension.specs.declared.extension.Extension.{Extension as Raw}
 
 abbrev pub extension_fields : Raw → ExtensionFields

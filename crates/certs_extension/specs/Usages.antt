@@ -4,8 +4,8 @@ use Rattle.certs_extension.specs.bcder_primitive.Values.{AnyOctets}
 use Rattle.certs_extension.specs.bcder_tree.declared.mode.Mode.{Mode}
 use Rattle.certs_extension.specs.bcder_written.Encoded.{WritesPlain}
 use Rattle.certs_extension.specs.bcder_bits.Contents.{bit_string_tag}
-use Rattle.certs_specs.specs.declared.KeyUsage.{KeyUsage}
-use Rattle.certs_specs.specs.declared.KeyUsage.TheVariants.{Ca, Ee}
+use Rattle.certs_extension.specs.declared.forms.KeyUsage.{KeyUsage}
+use Rattle.certs_extension.specs.declared.forms.KeyUsage.TheVariants.{Ca, Ee}
 
 -- The count of unused bits, and then keyCertSign and cRLSign, or digitalSignature alone.
 abbrev pub usage_octets : KeyUsage → List ℕ

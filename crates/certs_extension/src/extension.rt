@@ -5,7 +5,7 @@ ghost use Rattle.certs_extension.specs.bcder_tree.Tags.{sequence_tag};
 ghost use Rattle.certs_extension.specs.bcder_content.Exact.{ReadsOptAs};
 ghost use Rattle.certs_extension.specs.bcder_content.Here.{here};
 ghost use Rattle.certs_extension.specs.bcder_content.InMode.{ReadsFields};
-ghost use Rattle.certs_specs.specs.Extensions.{IsExtension, IsExtensionBody};
+ghost use Rattle.certs_extension.specs.Extensions.{IsExtension, IsExtensionBody};
 ghost use Rattle.certs_extension.specs.Raw.{extension_fields, extension_value};
 
 use certs_key::decode::{Constructed, DecodeError, Source};

@@ -4,7 +4,7 @@ ghost use Rattle.std.specs.Prelude.{ℕ, List};
 ghost use Rattle.certs_extension.specs.bcder_tree.declared.mode.Mode.{Mode as ModeValue};
 ghost use Rattle.certs_extension.specs.bcder_content.Grammar.{End, Then};
 ghost use Rattle.certs_extension.specs.bcder_values.Returns.{ReadAgain};
-ghost use Rattle.certs_specs.specs.declared.KeyUsage.{KeyUsage as Usage};
+ghost use Rattle.certs_extension.specs.declared.forms.KeyUsage.{KeyUsage as Usage};
 ghost use Rattle.certs_extension.specs.Usages.{WritesUsage};
 ghost use Rattle.certs_extension.specs.Values.{IsUsage};
 

@@ -5,9 +5,12 @@
 //! the front of these octets; what comes after the value isn't looked at.
 #![tactic(auto)]
 
+pub mod access;
+pub mod claims;
 pub mod constraints;
 pub mod error;
 pub mod extension;
+pub mod forms;
 pub mod identifiers;
 pub mod laws;
 pub mod policies;
@@ -15,18 +18,21 @@ pub mod purposes;
 pub mod put;
 pub mod usage;
 
-pub use certs_key::{ConstOid, Digester, KeyIdentifier, Oid, decode};
-pub use certs_specs::laws::cert_is_spelled;
-pub use certs_specs::{
-    AsBlock, AsBlocks, AsBlocksBuilder, AsResources, AsResourcesBuilder, Block, ClaimError, Https,
-    InheritedAsResources, InheritedIpResources, InspectionError, IpBlock, IpBlocks,
-    IpBlocksBuilder, IpFamilies, IpResources, IpResourcesBuilder, KeyUsage, Overclaim,
-    OverclaimIds, PublicKeyFormat, Role, Rsync, SubjectAccess, Time, Validity, grammar, paths,
-    take_authority_access, take_crl_distribution, take_subject_access,
+pub use access::{
+    Https, PublicKeyFormat, Rsync, SubjectAccess, grammar, paths, take_authority_access,
+    take_crl_distribution, take_subject_access,
 };
+pub use certs_key::{ConstOid, Digester, KeyIdentifier, Oid, decode};
 pub use constraints::take_basic_constraints;
 pub use error::ExtensionError;
 pub use extension::Extension;
+pub use forms::laws::cert_is_spelled;
+pub use forms::{
+    AsBlock, AsBlocks, AsBlocksBuilder, AsResources, AsResourcesBuilder, Block, ClaimError,
+    InheritedAsResources, InheritedIpResources, InspectionError, IpBlock, IpBlocks,
+    IpBlocksBuilder, IpFamilies, IpResources, IpResourcesBuilder, KeyUsage, Overclaim,
+    OverclaimIds, Role, Time, Validity,
+};
 pub use identifiers::take_authority_key_identifier;
 pub use policies::take_policies;
 pub use purposes::ExtendedKeyUsage;

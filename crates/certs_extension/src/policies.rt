@@ -4,12 +4,12 @@ ghost use Rattle.std.specs.Prelude.{◌≡◌, true, OnErr};
 ghost use Rattle.certs_extension.specs.bcder_content.Exact.{ReadsAs};
 ghost use Rattle.certs_extension.specs.bcder_content.Here.{here};
 ghost use Rattle.certs_extension.specs.bcder_content.InMode.{ReadsFields};
-ghost use Rattle.certs_specs.specs.Extensions.{IsPolicies};
+ghost use Rattle.certs_extension.specs.Extensions.{IsPolicies};
 ghost use Rattle.certs_extension.specs.Values.{ArePoliciesBody, IsPolicy, IsPolicyBody, alone};
 
+use crate::forms::{Overclaim, OverclaimIds};
 use certs_key::Oid;
 use certs_key::decode::{Constructed, ContentError, DecodeError, Source};
-use certs_specs::{Overclaim, OverclaimIds};
 use std::alloc::Global;
 
 // The identifier of a policy, and anything after it.

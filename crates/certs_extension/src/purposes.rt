@@ -7,16 +7,16 @@ ghost use Rattle.certs_extension.specs.bcder_content.Here.{here};
 ghost use Rattle.certs_extension.specs.bcder_content.InMode.{ReadsFields};
 ghost use Rattle.certs_extension.specs.certs_basics.Identifiers.{bgpsec_router};
 ghost use Rattle.certs_extension.specs.certs_basics.Lists.{Mem};
-ghost use Rattle.certs_specs.specs.Extensions.{IsExtendedKeyUsage};
+ghost use Rattle.certs_extension.specs.Extensions.{IsExtendedKeyUsage};
 ghost use Rattle.certs_extension.specs.Purposes.{AreOids, ArePurposes, lends, purpose_octets};
 
+use crate::forms::InspectionError;
 use bytes::Bytes;
 use certs_key::decode::{Constructed, ContentError, DecodeError, Source};
 use certs_key::encode::{
     self, EncodeError, Encodes, Primitive, PrimitiveContent, Values, sequence, slice,
 };
 use certs_key::{ConstOid, Mode, Oid};
-use certs_specs::InspectionError;
 use std::alloc::{AllocError, Global};
 use std::io::Write;
 use std::marker::Model;

@@ -1,7 +1,7 @@
 //! The rule by which the value of an extension is read, once (RFC 5280 4.2).
 
 ghost use Rattle.std.specs.Prelude.{◌≡◌, ◌↔◌, false, true, IsTrue, IfErr, OnErr, OnOk};
-ghost use Rattle.certs_specs.specs.Extensions.{Meets};
+ghost use Rattle.certs_extension.specs.Extensions.{Meets};
 ghost use Rattle.certs_extension.specs.Putting.{CannotPut, PutsOnce, need_of};
 ghost use Rattle.certs_extension.specs.Raw.{extension_value};
 

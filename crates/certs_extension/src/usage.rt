@@ -3,16 +3,16 @@
 ghost use Rattle.std.specs.Prelude.{◌≡◌, ◌↔◌, true, IsTrue, MatchOption, OnErr};
 ghost use Rattle.certs_extension.specs.bcder_content.Exact.{ReadsAs};
 ghost use Rattle.certs_extension.specs.bcder_content.Here.{here};
-ghost use Rattle.certs_specs.specs.declared.KeyUsage.{KeyUsage as Usage};
-ghost use Rattle.certs_specs.specs.Extensions.{UsageBits};
+ghost use Rattle.certs_extension.specs.declared.forms.KeyUsage.{KeyUsage as Usage};
+ghost use Rattle.certs_extension.specs.Extensions.{UsageBits};
 ghost use Rattle.certs_extension.specs.bcder_bits.Contents.{bit_string_tag};
 ghost use Rattle.certs_extension.specs.Usages.{usage_octets};
 ghost use Rattle.certs_extension.specs.Values.{IsUsage};
 
+use crate::forms::KeyUsage;
 use certs_key::decode::{Constructed, ContentError, DecodeError, Source};
 use certs_key::encode::{Octets, Primitive};
 use certs_key::{BitString, Tag};
-use certs_specs::KeyUsage;
 use std::alloc::Global;
 use std::convert::Infallible;
 

@@ -1,3 +1,3 @@
 -- Lemmas of bcder_bits, for the crates above.
-pub use Rattle.certs_algorithm.proofs.of_bcder_bits.Readings
-pub use Rattle.certs_algorithm.proofs.of_bcder_bits.Writings
+pub use Rattle.certs_basics.proofs.of_bcder_bits.Readings
+pub use Rattle.certs_basics.proofs.of_bcder_bits.Writings

@@ -1,2 +1,2 @@
 -- Lemmas of bcder_strings, for the crates above.
-pub use Rattle.certs_algorithm.proofs.of_bcder_strings.Ascii
+pub use Rattle.certs_basics.proofs.of_bcder_strings.Ascii

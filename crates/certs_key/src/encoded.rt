@@ -5,13 +5,13 @@ ghost use Rattle.certs_key.specs.bcder_bits.Bits.{IsBits};
 ghost use Rattle.certs_key.specs.certs_basics.Keys.{HasEncoding, Encodes, kind_of};
 ghost use Rattle.certs_key.specs.Forms.{lends, key_lends, parameters_of, parameters_tag};
 
+use crate::algorithm::encode::{
+    Constructed, EncodeError, Octets, Primitive, PrimitiveContent, Values,
+};
+use crate::algorithm::{BitString, Mode, PublicKeyFormat, Tag};
 use crate::expected::Expected;
 use crate::format::{EC_PUBLIC_KEY, RSA_ENCRYPTION, SECP256R1};
 use bytes::Bytes;
-use certs_algorithm::encode::{
-    Constructed, EncodeError, Octets, Primitive, PrimitiveContent, Values,
-};
-use certs_algorithm::{BitString, Mode, PublicKeyFormat, Tag};
 use std::alloc::{AllocError, Global};
 
 // A primitive value of a constant.

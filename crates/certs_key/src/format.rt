@@ -6,8 +6,8 @@ ghost use Rattle.certs_key.specs.bcder_content.Here.{here};
 ghost use Rattle.certs_key.specs.bcder_content.InMode.{ReadsFields};
 ghost use Rattle.certs_key.specs.certs_basics.Keys.{IsFormat, IsFormatBody};
 
-use certs_algorithm::decode::{Constructed, ContentError, DecodeError, Source};
-use certs_algorithm::{ConstOid, Oid, PublicKeyFormat};
+use crate::algorithm::decode::{Constructed, ContentError, DecodeError, Source};
+use crate::algorithm::{ConstOid, Oid, PublicKeyFormat};
 use std::alloc::Global;
 
 // rsaEncryption, 1.2.840.113549.1.1.1 (RFC 7935 3).

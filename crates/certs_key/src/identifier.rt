@@ -10,9 +10,9 @@ ghost use Rattle.certs_key.specs.bcder_content.Tagged.{ReadsTagged};
 ghost use Rattle.certs_key.specs.certs_basics.Basics.{IsKeyIdentifier, IsTwentyLong};
 ghost use Rattle.certs_key.specs.certs_basics.Names.{hex_text};
 
-use certs_algorithm::decode::{Constructed, Content, ContentError, DecodeError, Source};
-use certs_algorithm::string::OctetSliceEncoder;
-use certs_algorithm::{OctetString, Tag};
+use crate::algorithm::decode::{Constructed, Content, ContentError, DecodeError, Source};
+use crate::algorithm::string::OctetSliceEncoder;
+use crate::algorithm::{OctetString, Tag};
 use std::alloc::Global;
 use std::marker::Model;
 use std::{fmt, str};

@@ -10,14 +10,16 @@ ghost use Rattle.certs_key.specs.certs_basics.Names.{subject_of};
 ghost use Rattle.certs_key.specs.certs_basics.Keys.{Encodes, IsKey, encoded, identifier};
 ghost use Rattle.certs_key.specs.Digesting.{digests_of};
 
+use crate::algorithm::decode::{
+    Constructed, ContentError, Decode, DecodeError, IntoSource, Source,
+};
+use crate::algorithm::encode::{EncodeError, Values};
+use crate::algorithm::{BitString, Mode, PublicKeyFormat};
 use crate::digest::Digester;
 use crate::encoded::{encoded_of, encoder};
 use crate::identifier::KeyIdentifier;
 use crate::taken::take_kept;
 use bytes::Bytes;
-use certs_algorithm::decode::{Constructed, ContentError, Decode, DecodeError, IntoSource, Source};
-use certs_algorithm::encode::{EncodeError, Values};
-use certs_algorithm::{BitString, Mode, PublicKeyFormat};
 use certs_name::Name;
 use std::alloc::{AllocError, Global};
 use std::io::Write;

@@ -1,11 +1,12 @@
 //! Public keys and their identifiers (RFC 5280 4.1.2.7, 4.2.1.2; RFC 7935 3; RFC 8608 3.1), and what is handed in for them:
-//! digests, verdicts on signatures, and keys that sign.
+//! digests, verdicts on signatures, and keys that sign. [`algorithm`] has the algorithms, digests and signatures.
 //!
 //! What differs from the Rust crate: digests and verdicts on signatures are handed in, as a [`Digester`] and a
 //! [`Verifier`]; a key keeps its encoded octets, which `encoded` lends; a key whose encoded octets no length could tell
 //! isn't read; reading takes an allocator, and `clone` answers a `Result`; a [`Signer`] refuses by [`SigningError`] alone.
 #![tactic(auto)]
 
+pub mod algorithm;
 pub mod digest;
 mod encoded;
 mod equal;
@@ -18,7 +19,7 @@ pub mod signer;
 mod taken;
 pub mod verifier;
 
-pub use certs_algorithm::{
+pub use algorithm::{
     AlgorithmIdentifier, BitString, Captured, ConstOid, DigestAlgorithm, Ia5String, Length, Mode,
     OctetString, Oid, PrintableString, PublicKeyFormat, RpkiSignature, RpkiSignatureAlgorithm,
     Signature, SignatureAlgorithm, Tag, decode, encode, string,

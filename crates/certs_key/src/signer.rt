@@ -4,8 +4,8 @@ ghost use Rattle.std.specs.Prelude.{◌≡◌, ◌≢◌, ℕ, List, IfErr, IfOk
 ghost use Rattle.certs_key.specs.certs_basics.Keys.{KeyValue};
 ghost use Rattle.certs_key.specs.declared.signer.SigningError.TheVariants.{TooLong};
 
+use crate::algorithm::{Signature, SignatureAlgorithm};
 use crate::key::PublicKey;
-use certs_algorithm::{Signature, SignatureAlgorithm};
 use std::alloc::Global;
 use std::fmt::Display;
 use thiserror::Error;

@@ -8,9 +8,9 @@ ghost use Rattle.certs_key.specs.bcder_content.InMode.{ReadsFields};
 ghost use Rattle.certs_key.specs.bcder_values.KeptForms.{KeptIn};
 ghost use Rattle.certs_key.specs.Reading.{AreParts, IsParts, kept_parts, parts_fields};
 
+use crate::algorithm::decode::{Constructed, DecodeError, Source};
+use crate::algorithm::{BitString, Captured, PublicKeyFormat};
 use crate::format::take_format;
-use certs_algorithm::decode::{Constructed, DecodeError, Source};
-use certs_algorithm::{BitString, Captured, PublicKeyFormat};
 use std::alloc::{AllocError, Global};
 use std::convert::Infallible;
 

@@ -3,8 +3,8 @@
 ghost use Rattle.std.specs.Prelude.{◌≡◌, ◌+◌, ◌-◌, ◌^◌, ℕ, min};
 ghost use Rattle.certs_key.specs.certs_basics.Verdicts.{Verdicts};
 
+use crate::algorithm::RpkiSignatureAlgorithm;
 use crate::key::PublicKey;
-use certs_algorithm::RpkiSignatureAlgorithm;
 
 /// Which signatures are good: a relation on keys, algorithms, messages and signatures. Nothing else is asked of it.
 ///

@@ -8,8 +8,7 @@ ghost use Rattle.certs_name.specs.bcder_content.Exact.{ReadsAs, ReadsOptAs};
 ghost use Rattle.certs_name.specs.bcder_content.Grammar.{OctetsOf, OneOf};
 ghost use Rattle.certs_name.specs.bcder_content.Here.{here};
 ghost use Rattle.certs_name.specs.bcder_content.InMode.{ReadsFields};
-ghost use Rattle.certs_name.specs.Inspected.{IsKind, IsPrintableValue, IsSeenAttribute, IsSeenBody, IsTextValue};
-ghost use Rattle.certs_name.specs.Inspected.{IsUnicodeValue, seen_fields};
+ghost use Rattle.certs_name.specs.Inspected.{IsKind, IsPrintableValue, IsSeenAttribute, IsSeenBody, IsTextValue, IsUnicodeValue, seen_fields};
 
 use crate::seen::Seen;
 use crate::whole::{skip_text, take_told};

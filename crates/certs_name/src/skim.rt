@@ -6,8 +6,7 @@ ghost use Rattle.certs_name.specs.bcder_content.Exact.{ReadsAs, ReadsOptAs};
 ghost use Rattle.certs_name.specs.bcder_content.Grammar.{Any};
 ghost use Rattle.certs_name.specs.bcder_content.Here.{here};
 ghost use Rattle.certs_name.specs.bcder_content.InMode.{ReadsFields};
-ghost use Rattle.certs_name.specs.AnyNames.{AreAnyAttributes, AreAnyRelativeNames, IsAnyAttribute};
-ghost use Rattle.certs_name.specs.AnyNames.{IsAnyAttributeBody, IsAnyName, IsAnyRelativeName, any_fields};
+ghost use Rattle.certs_name.specs.AnyNames.{AreAnyAttributes, AreAnyRelativeNames, IsAnyAttribute, IsAnyAttributeBody, IsAnyName, IsAnyRelativeName, any_fields};
 
 use certs_basics::Oid;
 use certs_basics::decode::{Constructed, ContentError, DecodeError, Source};

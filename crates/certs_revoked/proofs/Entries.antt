@@ -11,9 +11,9 @@ use Rattle.certs_revoked.specs.bcder_values.Laws.{both_spelled}
 use Rattle.certs_revoked.specs.bcder_values.Plains.{plain_spelled}
 use Rattle.certs_revoked.specs.bcder_values.Wraps.{wrapped_spelled}
 use Rattle.certs_revoked.specs.certs_basics.Basics.{IsSerial}
-use Rattle.certs_revoked.specs.certs_time.Forms.{IsTime, WritesTime}
-use Rattle.certs_specs.specs.CrlText.{IsRevoked, RevokedValue}
-use Rattle.certs_revoked.proofs.of_certs_time.Meanings.{written_time}
+use Rattle.certs_revoked.specs.certs_basics.Forms.{IsTime, WritesTime}
+use Rattle.certs_extension.specs.CrlText.{IsRevoked, RevokedValue}
+use Rattle.certs_revoked.proofs.of_certs_basics.Meanings.{written_time}
 use Rattle.certs_revoked.specs.Entries.{entry_fields}
 use Rattle.certs_revoked.specs.Written.{WritesEntry}
 

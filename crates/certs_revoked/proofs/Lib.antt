@@ -4,10 +4,9 @@ mod Made
 pub mod Searches
 pub mod Serials
 pub mod Splits
-pub mod of_bcder_content
-pub mod of_bcder_source
 pub mod of_bcder_values
 pub mod of_certs_basics
-pub mod of_certs_time
 pub mod of_bcder_tree
-pub mod of_certs_specs
+pub mod of_bcder_source
+pub mod of_certs_extension
+pub mod of_bcder_content

@@ -19,7 +19,7 @@ use Rattle.certs_revoked.proofs.of_bcder_content.Inside.{ReadsEach}
 use Rattle.certs_revoked.proofs.of_bcder_content.Kept.{exact_capture}
 use Rattle.certs_revoked.proofs.of_bcder_content.Took.{ended_none, whole_first, whole_none, whole_others}
 use Rattle.certs_revoked.proofs.of_bcder_content.Unique.{as_tagged, inside_tagged}
-use Rattle.certs_specs.specs.CrlText.{IsRevoked, RevokedValue}
+use Rattle.certs_extension.specs.CrlText.{IsRevoked, RevokedValue}
 use Rattle.certs_revoked.specs.Entries.{AreEntries, whatever}
 use Rattle.certs_revoked.specs.Listed.{EntriesLeft, SpellsEntries}
 use Rattle.certs_revoked.specs.Listing.{Listing, entry_one, one_list, revoked_code}

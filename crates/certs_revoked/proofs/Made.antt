@@ -13,10 +13,10 @@ use Rattle.certs_revoked.specs.bcder_written.Encoded.{AreBoth, IsPlain, IsWrappe
 use Rattle.certs_revoked.specs.bcder_written.declared.error.EncodeError.{EncodeError}
 use Rattle.certs_revoked.specs.bcder_values.Gathered.{ExtendRefused}
 use Rattle.certs_revoked.specs.bcder_values.ListForms.{LawfulAll}
-use Rattle.certs_revoked.specs.certs_time.Forms.{WritesTime}
-use Rattle.certs_revoked.proofs.of_certs_time.Meanings.{one_written}
+use Rattle.certs_revoked.specs.certs_basics.Forms.{WritesTime}
+use Rattle.certs_revoked.proofs.of_certs_basics.Meanings.{one_written}
 use Rattle.certs_name.specs.Serials.{IsSerialContent}
-use Rattle.certs_specs.specs.CrlText.{IsRevoked, RevokedValue}
+use Rattle.certs_extension.specs.CrlText.{IsRevoked, RevokedValue}
 use Rattle.certs_revoked.specs.EntryForms.{AreMoment, WritesMoment, entry, entry_list, same_parts}
 use Rattle.certs_revoked.specs.Listed.{SpellsEntries, captured}
 use Rattle.certs_revoked.proofs.Splits.{same_captured}

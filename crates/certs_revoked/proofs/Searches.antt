@@ -22,7 +22,7 @@ use Rattle.certs_revoked.specs.bcder_content.Kept.{CapturedValue}
 use Rattle.certs_revoked.specs.bcder_content.Memory.{InErr, OnMemory}
 use Rattle.certs_revoked.specs.bcder_content.Ran.{Decoded, DecodedCases, RanIn, Reader, failed_in, fresh, refused_in}
 use Rattle.certs_revoked.specs.certs_basics.Lists.{Mem}
-use Rattle.certs_specs.specs.CrlText.{IsRevoked, RevokedValue}
+use Rattle.certs_extension.specs.CrlText.{IsRevoked, RevokedValue}
 use Rattle.certs_revoked.specs.Listed.{EntriesLeft, IsListed, SpellsEntries, has_serial}
 use Rattle.certs_revoked.specs.Listing.{Listing}
 use Rattle.certs_revoked.proofs.Lists.{left_first, left_lacks, left_none, listing_is, no_entries}

@@ -21,7 +21,7 @@ use Rattle.certs_revoked.specs.bcder_content.Contents.{ValuesLeft, Unlike}
 use Rattle.certs_revoked.specs.bcder_content.Exact.{Gives}
 use Rattle.certs_revoked.specs.bcder_content.Kept.{CapturedValue}
 use Rattle.certs_revoked.specs.certs_basics.Lists.{Mem}
-use Rattle.certs_specs.specs.CrlText.{IsRevoked, RevokedValue}
+use Rattle.certs_extension.specs.CrlText.{IsRevoked, RevokedValue}
 use Rattle.certs_revoked.specs.Listed.{EntriesLeft, IsListed, SpellsEntries, serials_of}
 use Rattle.certs_revoked.specs.Listing.{Listing}
 use Rattle.certs_revoked.proofs.Lists.{left_first, left_none}

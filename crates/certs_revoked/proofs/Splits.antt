@@ -27,7 +27,7 @@ use Rattle.certs_revoked.proofs.of_bcder_content.Kept.{same_text}
 use Rattle.certs_revoked.proofs.of_bcder_content.Took.{ended_none, took_front, took_none, took_one}
 use Rattle.certs_revoked.proofs.of_bcder_source.Moves.{left_moved}
 use Rattle.certs_revoked.proofs.of_bcder_tree.Trees.{one_tree}
-use Rattle.certs_specs.specs.CrlText.{IsRevoked, RevokedValue}
+use Rattle.certs_extension.specs.CrlText.{IsRevoked, RevokedValue}
 use Rattle.certs_revoked.specs.Listed.{SpellsEntries, captured}
 use Rattle.certs_revoked.specs.Listing.{Listing, entry_one, one_listing, revoked_code}
 use Rattle.certs_revoked.proofs.Lists.{left_none, spelled_is}

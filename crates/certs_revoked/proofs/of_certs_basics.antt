@@ -1,2 +1,3 @@
 -- Lemmas of certs_basics, for the crates above.
+pub use Rattle.certs_basics.proofs.Meanings
 pub use Rattle.certs_basics.proofs.Values

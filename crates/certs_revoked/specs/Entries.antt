@@ -5,8 +5,8 @@ use Rattle.certs_revoked.specs.bcder_tree.Tree.{Trees}
 use Rattle.certs_revoked.specs.bcder_content.Grammar.{End, Many, Then}
 use Rattle.certs_revoked.specs.bcder_content.Words.{Gathers}
 use Rattle.certs_revoked.specs.certs_basics.Basics.{IsSerial}
-use Rattle.certs_revoked.specs.certs_time.Forms.{IsTime}
-use Rattle.certs_specs.specs.CrlText.{IsRevoked, RevokedValue}
+use Rattle.certs_revoked.specs.certs_basics.Forms.{IsTime}
+use Rattle.certs_extension.specs.CrlText.{IsRevoked, RevokedValue}
 
 abbrev pub entry_fields : RevokedValue → ℕ × (ℕ × Unit {0})
 entry_fields e = (e.serial, (e.time, tt))

@@ -15,9 +15,9 @@ use Rattle.certs_revoked.specs.bcder_values.Plains.{plain_spelled, plain_one}
 use Rattle.certs_basics.proofs.Values.{serial_one}
 use Rattle.certs_name.specs.Serials.{IsSerialContent}
 use Rattle.certs_revoked.specs.certs_basics.Basics.{IsSerial}
-use Rattle.certs_revoked.specs.certs_time.Forms.{IsTime, WritesTime}
-use Rattle.certs_time.proofs.Meanings.{one_written, time_one, written_time}
-use Rattle.certs_specs.specs.CrlText.{RevokedValue, as_revoked}
+use Rattle.certs_revoked.specs.certs_basics.Forms.{IsTime, WritesTime}
+use Rattle.certs_basics.proofs.Meanings.{one_written, time_one, written_time}
+use Rattle.certs_extension.specs.CrlText.{RevokedValue, as_revoked}
 use Rattle.certs_revoked.specs.Entries.{entry_fields}
 
 -- CertificateSerialNumber ::= INTEGER, from 0 up, below 2^160 (RFC 5280 4.1.2.2)

@@ -11,7 +11,7 @@ use Rattle.certs_revoked.specs.bcder_content.Grammar.{Many}
 use Rattle.certs_revoked.specs.bcder_content.Kept.{CapturedValue}
 use Rattle.certs_revoked.specs.bcder_content.Texts.{InOrder}
 use Rattle.certs_revoked.specs.certs_basics.Lists.{Mem}
-use Rattle.certs_specs.specs.CrlText.{AreRevoked, IsRevoked, RevokedValue, entries}
+use Rattle.certs_extension.specs.CrlText.{AreRevoked, IsRevoked, RevokedValue, entries}
 
 abbrev pub captured : Mode → List ℕ → CapturedValue
 captured mode octets = record { mode = mode; octets = octets }

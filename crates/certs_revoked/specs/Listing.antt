@@ -5,12 +5,12 @@ use Rattle.std.specs.Coded.{Coded, Coded-set, code_by, coded_list, coded×, code
 use Rattle.certs_revoked.specs.bcder_tree.Tree.{Trees}
 use Rattle.certs_revoked.specs.bcder_content.Grammar.{Many, One}
 use Rattle.certs_revoked.specs.bcder_content.Kept.{CapturedValue}
-use Rattle.certs_specs.specs.CrlText.{IsRevoked, RevokedValue}
+use Rattle.certs_extension.specs.CrlText.{IsRevoked, RevokedValue}
 use Rattle.certs_revoked.specs.Listed.{SpellsEntries}
 use Rattle.certs_basics.proofs.of_bcder_content.Unique.{as_one, end_one, inside_one, many_one, then_one}
 use Rattle.certs_basics.proofs.of_bcder_tree.Trees.{one_fields}
 use Rattle.certs_basics.proofs.Values.{serial_one}
-use Rattle.certs_time.proofs.Meanings.{time_one}
+use Rattle.certs_basics.proofs.Meanings.{time_one}
 
 -- A value is one entry at most.
 pub entry_one : One IsRevoked

@@ -5,7 +5,7 @@ use Rattle.certs_revoked.specs.bcder_tree.Tags.{TagValue, integer_tag, sequence_
 use Rattle.certs_revoked.specs.bcder_primitive.Values.{AnyOctets}
 use Rattle.certs_revoked.specs.bcder_number.Integers.{IsNatural}
 use Rattle.certs_revoked.specs.bcder_written.Encoded.{WritesBoth, WritesPlain, WritesWrapped}
-use Rattle.certs_specs.specs.CrlText.{RevokedValue}
+use Rattle.certs_extension.specs.CrlText.{RevokedValue}
 
 -- A SEQUENCE of the serial number, and of a time that has this tag and these octets.
 abbrev pub WritesEntry : RevokedValue → TagValue → List ℕ → Mode → List ℕ → Type 0

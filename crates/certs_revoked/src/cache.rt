@@ -7,8 +7,8 @@ ghost use Rattle.std.specs.List.Sorted.{IsStrictlyIncreasing};
 ghost use Rattle.std.specs.Ordering.{nat_cmp};
 
 use crate::revoked::RevokedCertificates;
+use certs_extension::forms::{Row, halve};
 use certs_name::Serial;
-use certs_specs::{Row, halve};
 use std::alloc::{AllocError, Global};
 use std::cmp::Ordering;
 use std::marker::Model;

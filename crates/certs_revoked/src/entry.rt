@@ -1,21 +1,21 @@
 //! One entry: a serial number, and when it was revoked (RFC 5280 5.1.2.6).
 
 ghost use Rattle.std.specs.Prelude.{◌≡◌, ◌≢◌, true, IfErr, OnErr};
-ghost use Rattle.certs_specs.specs.CrlText.{IsRevoked};
+ghost use Rattle.certs_extension.specs.CrlText.{IsRevoked};
 ghost use Rattle.certs_revoked.specs.bcder_tree.Tags.{integer_tag, sequence_tag};
 ghost use Rattle.certs_revoked.specs.bcder_tree.Tree.{primitive};
 ghost use Rattle.certs_revoked.specs.bcder_source.declared.error.DecodeError.TheVariants.{Memory};
 ghost use Rattle.certs_revoked.specs.bcder_content.Exact.{ReadsAs, ReadsOptAs};
 ghost use Rattle.certs_revoked.specs.bcder_content.Here.{here};
 ghost use Rattle.certs_revoked.specs.bcder_content.InMode.{ReadsFields};
-ghost use Rattle.certs_revoked.specs.certs_time.Forms.{WritesTime};
+ghost use Rattle.certs_revoked.specs.certs_basics.Forms.{WritesTime};
 ghost use Rattle.certs_revoked.specs.Entries.{AreEntryFields, entry_fields};
 
 use bcder::decode::{Constructed, DecodeError, Source};
 use bcder::{Tag, encode};
+use certs_basics::time::Time;
+use certs_basics::time::text::VariedTime;
 use certs_name::Serial;
-use certs_time::Time;
-use certs_time::text::VariedTime;
 use std::marker::Model;
 
 /// A certificate that was revoked: its serial number, and when that was. Contracts see both.
@@ -29,7 +29,7 @@ pub struct CrlEntry {
 }
 
 impl Model for CrlEntry {
-    ghost use Rattle.certs_specs.specs.CrlText.{RevokedValue};
+    ghost use Rattle.certs_extension.specs.CrlText.{RevokedValue};
 
     ghost Value = { RevokedValue };
 

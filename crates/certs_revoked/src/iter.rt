@@ -2,7 +2,7 @@
 
 ghost use Rattle.std.specs.Prelude.{◌≡◌, ◌≢◌, ◌≤◌, ◌∷◌, [], List, drop, length, IfErr, IfNone, IfSome};
 ghost use Rattle.std.specs.Iterator.{YieldsFirst, item_count};
-ghost use Rattle.certs_specs.specs.CrlText.{IsRevoked, RevokedValue};
+ghost use Rattle.certs_extension.specs.CrlText.{IsRevoked, RevokedValue};
 ghost use Rattle.certs_revoked.specs.bcder_tree.Tags.{sequence_tag};
 ghost use Rattle.certs_revoked.specs.bcder_source.declared.error.DecodeError.TheVariants.{Memory};
 ghost use Rattle.certs_revoked.specs.bcder_content.Captures.{rest_of};
@@ -30,7 +30,7 @@ pub struct RevokedCertificatesIter<'a> {
 
 impl<'a> Model for RevokedCertificatesIter<'a> {
     ghost use Rattle.std.specs.Prelude.{List};
-    ghost use Rattle.certs_specs.specs.CrlText.{RevokedValue};
+    ghost use Rattle.certs_extension.specs.CrlText.{RevokedValue};
 
     ghost Value = { List RevokedValue };
 

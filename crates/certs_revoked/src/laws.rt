@@ -1,13 +1,13 @@
 //! Laws of entries: the contracts of functions that do nothing.
 
 ghost use Rattle.std.specs.Prelude.{◌<◌, ◌^◌, ℕ, List};
-ghost use Rattle.certs_specs.specs.CrlText.{IsRevoked, RevokedValue};
+ghost use Rattle.certs_extension.specs.CrlText.{IsRevoked, RevokedValue};
 ghost use Rattle.certs_revoked.specs.bcder_tree.declared.mode.Mode.{Mode as ModeValue};
 ghost use Rattle.certs_revoked.specs.bcder_tree.Tags.{TagValue};
 ghost use Rattle.certs_revoked.specs.bcder_tree.Tree.{primitive};
 ghost use Rattle.certs_revoked.specs.bcder_content.Grammar.{End, One, Then};
 ghost use Rattle.certs_revoked.specs.bcder_values.Returns.{ReadAgain};
-ghost use Rattle.certs_revoked.specs.certs_time.Forms.{WritesTime};
+ghost use Rattle.certs_revoked.specs.certs_basics.Forms.{WritesTime};
 ghost use Rattle.certs_revoked.specs.Written.{WritesEntry};
 
 /// A value is one entry at most.

@@ -13,7 +13,7 @@ mod search;
 mod written;
 
 pub use cache::SerialCache;
-pub use certs_specs::laws::crl_is_spelled;
+pub use certs_extension::forms::laws::crl_is_spelled;
 pub use entry::CrlEntry;
 pub use iter::RevokedCertificatesIter;
 pub use revoked::RevokedCertificates;

@@ -1,7 +1,7 @@
 //! The revoked certificates of a list, as the octets of their entries (RFC 5280 5.1.2.6).
 
 ghost use Rattle.std.specs.Prelude.{◌≡◌, ◌≢◌, ◌↔◌, [], true, IsTrue, IfErr, IfOk, IfNone, IfSome, OnErr};
-ghost use Rattle.certs_specs.specs.CrlText.{AreRevoked};
+ghost use Rattle.certs_extension.specs.CrlText.{AreRevoked};
 ghost use Rattle.certs_revoked.specs.bcder_tree.declared.mode.Mode.TheVariants.{Der};
 ghost use Rattle.certs_revoked.specs.bcder_tree.Tags.{sequence_tag};
 ghost use Rattle.certs_revoked.specs.bcder_source.declared.error.DecodeError.TheVariants.{Memory};
@@ -35,7 +35,7 @@ pub struct RevokedCertificates {
 
 impl Model for RevokedCertificates {
     ghost use Rattle.std.specs.Prelude.{List};
-    ghost use Rattle.certs_specs.specs.CrlText.{RevokedValue};
+    ghost use Rattle.certs_extension.specs.CrlText.{RevokedValue};
 
     ghost Value = { List RevokedValue };
 

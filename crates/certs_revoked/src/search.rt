@@ -1,7 +1,7 @@
 //! Entries that are read one by one, of octets that spell them.
 
 ghost use Rattle.std.specs.Prelude.{◌≡◌, List, false, IfOk, IsOk};
-ghost use Rattle.certs_specs.specs.CrlText.{RevokedValue};
+ghost use Rattle.certs_extension.specs.CrlText.{RevokedValue};
 ghost use Rattle.certs_revoked.specs.bcder_content.Captures.{rest_of};
 ghost use Rattle.certs_revoked.specs.bcder_content.Here.{here};
 ghost use Rattle.certs_revoked.specs.Listed.{EntriesLeft, SpellsEntries, has_serial as tells, serials_of};

@@ -3,7 +3,7 @@
 ghost use Rattle.std.specs.Prelude.{◌≡◌, ◌<◌, ◌^◌};
 ghost use Rattle.certs_revoked.specs.bcder_tree.Tags.{integer_tag, sequence_tag};
 ghost use Rattle.certs_revoked.specs.bcder_tree.Tree.{primitive};
-ghost use Rattle.certs_revoked.specs.certs_time.Forms.{WritesTime};
+ghost use Rattle.certs_revoked.specs.certs_basics.Forms.{WritesTime};
 
 use crate::entry::{CrlEntry, EntryValues};
 use bcder::encode::Encodes;

@@ -10,7 +10,7 @@ mod signer;
 use answers::Answer;
 use bcder::Mode;
 use bcder::encode::Values;
-use certs_built::BuildCert;
+use certs::built::BuildCert;
 use certs_cert::{Cert, TbsCert};
 use signer::Stub;
 use std::alloc::{AllocError, Global};

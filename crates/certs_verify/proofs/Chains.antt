@@ -1,15 +1,11 @@
 -- Tests in their order: what the first of them answer, and what those after them answer.
 use Rattle.std.proofs.Common.{◌≡◌, List, [], ◌∷◌, ◌++◌, Option, Some, None, Result, Ok, Err, refl, sym, ap, ◌∙◌, subst}
 use Rattle.std.specs.Prelude.{IsErr, IsErrAnd}
-use Rattle.certs_x509.specs.certs_errors.declared.verification.VerificationError.{VerificationError}
-use Rattle.certs_inspect.specs.certs_specs.declared.VerificationTest.{VerificationTest}
-use Rattle.certs_inspect.specs.certs_specs.Calls.{Fault, inspected, verified, wants_memory}
+use Rattle.certs_x509.specs.declared.errors.verification.VerificationError.{VerificationError}
+use Rattle.certs_verify.specs.certs_extension.declared.forms.VerificationTest.{VerificationTest}
+use Rattle.certs_verify.specs.certs_extension.Calls.{Fault, inspected, verified, wants_memory}
 use Rattle.certs_verify.specs.certs_basics.Lists.{Each, FirstFailing}
 use Rattle.certs_verify.specs.Answers.{fault_of, Fails, Answers}
-
--- The first test fails, and the error tells it.
-pub fails_at_once : (P : VerificationTest → Type 0) (t : VerificationTest) (ts : List VerificationTest) → (P t → ⊥) → FirstFailing P (t ∷ ts) t
-fails_at_once P t ts n = record { front = []; behind = ts; whole = refl; passed = tt; fails = n }
 
 -- The tests before are passed.
 pub fails_next : (P : VerificationTest → Type 0) (front ts : List VerificationTest) (t : VerificationTest) → Each P front → FirstFailing P ts t → FirstFailing P (front ++ ts) t

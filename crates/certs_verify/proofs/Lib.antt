@@ -1,2 +1,3 @@
+pub mod TestChains
 pub mod Chains
 pub mod Refusals

@@ -1,21 +1,21 @@
 -- What a refusal tells: numbers only where a claim is refused, and the first test that fails.
 use Rattle.std.proofs.Common.{◌≡◌, ℕ, List, [], ◌∷◌, ◌++◌, Option, Some, None, Result, Ok, Err, refl, sym, subst}
 use Rattle.std.specs.Prelude.{◌↔◌, Bool, IsOk, IsErr, IsErrAnd, IfErr}
-use Rattle.certs_x509.specs.certs_errors.declared.verification.Overclaimed.TheVariants as outside
-use Rattle.certs_x509.specs.certs_errors.declared.verification.VerificationError.{VerificationError}
-use Rattle.certs_x509.specs.certs_errors.declared.verification.VerificationError.TheVariants as error
-use Rattle.certs_inspect.specs.certs_specs.declared.VerificationTest.{VerificationTest}
-use Rattle.certs_inspect.specs.certs_specs.declared.VerificationTest.TheVariants as test
-use Rattle.certs_inspect.specs.certs_specs.Calls.{Fault, inspected, verified, wants_memory, VerifiesIssued}
-use Rattle.certs_inspect.specs.certs_specs.Cert.{CertValue}
-use Rattle.certs_inspect.specs.certs_specs.Kinds.{Kind}
-use Rattle.certs_inspect.specs.certs_specs.Verified.{HolderValue, PassesAt, anchor_tests, held_by, issued_tests, issuer_claim, nothing, validity}
+use Rattle.certs_x509.specs.declared.errors.verification.Overclaimed.TheVariants as outside
+use Rattle.certs_x509.specs.declared.errors.verification.VerificationError.{VerificationError}
+use Rattle.certs_x509.specs.declared.errors.verification.VerificationError.TheVariants as error
+use Rattle.certs_verify.specs.certs_extension.declared.forms.VerificationTest.{VerificationTest}
+use Rattle.certs_verify.specs.certs_extension.declared.forms.VerificationTest.TheVariants as test
+use Rattle.certs_verify.specs.certs_extension.Calls.{Fault, inspected, verified, wants_memory, VerifiesIssued}
+use Rattle.certs_verify.specs.certs_extension.Cert.{CertValue}
+use Rattle.certs_verify.specs.certs_extension.Kinds.{Kind}
+use Rattle.certs_verify.specs.certs_extension.Verified.{HolderValue, PassesAt, anchor_tests, held_by, issued_tests, issuer_claim, nothing, validity}
 use Rattle.certs_verify.specs.certs_basics.Lists.{Each, FirstFailing}
 use Rattle.certs_verify.specs.certs_basics.Verdicts.{Verdicts}
 use Rattle.certs_verify.specs.Answers.{fault_of, Fails}
-use Rattle.certs_inspect.specs.certs_specs.declared.InspectionError.{InspectionError}
-use Rattle.certs_inspect.specs.certs_specs.declared.Role.{Role}
-use Rattle.certs_inspect.specs.certs_specs.Profiles.{Profile, FailsFirst}
+use Rattle.certs_verify.specs.certs_extension.declared.forms.InspectionError.{InspectionError}
+use Rattle.certs_verify.specs.certs_extension.declared.forms.Role.{Role}
+use Rattle.certs_verify.specs.certs_extension.Profiles.{Profile, FailsFirst}
 use Rattle.certs_verify.specs.certs_basics.HandedIn.{Digests}
 use Rattle.certs_verify.specs.Validated.{Inspects}
 use Rattle.certs_verify.specs.Words.{RefusedBy, TellsOutside, VerifiesAnchor}

@@ -1,14 +1,14 @@
 -- What verification answers: the first test that fails, by the error that tells it.
 use Rattle.std.specs.Prelude.{◌≡◌, ◌⊎◌, ◌+◌, ◌-◌, ◌^◌, ℕ, min, List, Option, Some, None, Result, Ok, Err}
-use Rattle.certs_x509.specs.certs_errors.declared.verification.ClaimedKind.{ClaimedKind}
-use Rattle.certs_x509.specs.certs_errors.declared.verification.ClaimedKind.TheVariants as claimed
-use Rattle.certs_x509.specs.certs_errors.declared.verification.Overclaimed.{Overclaimed}
-use Rattle.certs_x509.specs.certs_errors.declared.verification.Overclaimed.TheVariants as outside
-use Rattle.certs_x509.specs.certs_errors.declared.verification.VerificationError.{VerificationError}
-use Rattle.certs_x509.specs.certs_errors.declared.verification.VerificationError.TheVariants as error
-use Rattle.certs_inspect.specs.certs_specs.declared.VerificationTest.{VerificationTest}
-use Rattle.certs_inspect.specs.certs_specs.declared.VerificationTest.TheVariants as test
-use Rattle.certs_inspect.specs.certs_specs.Calls.{Fault, inspected, verified, wants_memory}
+use Rattle.certs_x509.specs.declared.errors.verification.ClaimedKind.{ClaimedKind}
+use Rattle.certs_x509.specs.declared.errors.verification.ClaimedKind.TheVariants as claimed
+use Rattle.certs_x509.specs.declared.errors.verification.Overclaimed.{Overclaimed}
+use Rattle.certs_x509.specs.declared.errors.verification.Overclaimed.TheVariants as outside
+use Rattle.certs_x509.specs.declared.errors.verification.VerificationError.{VerificationError}
+use Rattle.certs_x509.specs.declared.errors.verification.VerificationError.TheVariants as error
+use Rattle.certs_verify.specs.certs_extension.declared.forms.VerificationTest.{VerificationTest}
+use Rattle.certs_verify.specs.certs_extension.declared.forms.VerificationTest.TheVariants as test
+use Rattle.certs_verify.specs.certs_extension.Calls.{Fault, inspected, verified, wants_memory}
 use Rattle.certs_verify.specs.certs_basics.Lists.{Each, FirstFailing}
 
 -- The test of a kind that is inherited, and that is claimed and not held.

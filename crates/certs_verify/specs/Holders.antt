@@ -2,8 +2,8 @@
 use Rattle.std.specs.Prelude.{List, String}
 use Rattle.std.specs.declared.alloc.Global.{Global}
 use Rattle.certs_verify.specs.resources_chain.Sets.{Run}
-use Rattle.certs_inspect.specs.certs_specs.Cert.{CertValue}
-use Rattle.certs_inspect.specs.certs_specs.Verified.{HolderValue}
+use Rattle.certs_verify.specs.certs_extension.Cert.{CertValue}
+use Rattle.certs_verify.specs.certs_extension.Verified.{HolderValue}
 
 pub record ResourceCertValue : Type 0 where
   pub holder : HolderValue

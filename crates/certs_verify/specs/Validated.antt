@@ -1,15 +1,15 @@
 -- What validation answers: the inspection of a role, then a verification.
 use Rattle.std.specs.Prelude.{ℕ, Bool, Option, Some, None, Result, Ok, Err}
-use Rattle.certs_x509.specs.certs_errors.declared.validation.ValidationError.{ValidationError}
-use Rattle.certs_x509.specs.certs_errors.declared.validation.ValidationError.TheVariants as error
-use Rattle.certs_inspect.specs.certs_specs.declared.InspectionError.{InspectionError}
-use Rattle.certs_inspect.specs.certs_specs.declared.Role.{Role}
-use Rattle.certs_inspect.specs.certs_specs.declared.Role.TheVariants.{Router}
-use Rattle.certs_inspect.specs.certs_specs.Calls.{Fault, inspected, verified, wants_memory, RefusedValue}
-use Rattle.certs_inspect.specs.certs_specs.Cert.{CertValue}
-use Rattle.certs_inspect.specs.certs_specs.Kinds.{Kind}
-use Rattle.certs_inspect.specs.certs_specs.Profiles.{Profile, FailsFirst}
-use Rattle.certs_inspect.specs.certs_specs.Verified.{HolderValue, PassesAt, held_by, router_tests}
+use Rattle.certs_x509.specs.declared.errors.validation.ValidationError.{ValidationError}
+use Rattle.certs_x509.specs.declared.errors.validation.ValidationError.TheVariants as error
+use Rattle.certs_verify.specs.certs_extension.declared.forms.InspectionError.{InspectionError}
+use Rattle.certs_verify.specs.certs_extension.declared.forms.Role.{Role}
+use Rattle.certs_verify.specs.certs_extension.declared.forms.Role.TheVariants.{Router}
+use Rattle.certs_verify.specs.certs_extension.Calls.{Fault, inspected, verified, wants_memory, RefusedValue}
+use Rattle.certs_verify.specs.certs_extension.Cert.{CertValue}
+use Rattle.certs_verify.specs.certs_extension.Kinds.{Kind}
+use Rattle.certs_verify.specs.certs_extension.Profiles.{Profile, FailsFirst}
+use Rattle.certs_verify.specs.certs_extension.Verified.{HolderValue, PassesAt, held_by, router_tests}
 use Rattle.certs_verify.specs.certs_basics.HandedIn.{Digests}
 use Rattle.certs_verify.specs.certs_basics.Lists.{Each, FirstFailing}
 use Rattle.certs_verify.specs.certs_basics.Verdicts.{Verdicts}

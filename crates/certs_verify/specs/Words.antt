@@ -1,12 +1,12 @@
 -- What the calls answer that take a certificate: the words of their clauses.
 use Rattle.std.specs.Prelude.{◌≡◌, ℕ, Option, Some, None, Result, Ok, Err}
-use Rattle.certs_x509.specs.certs_errors.declared.verification.Overclaimed.TheVariants as outside
-use Rattle.certs_x509.specs.certs_errors.declared.verification.VerificationError.{VerificationError}
-use Rattle.certs_x509.specs.certs_errors.declared.verification.VerificationError.TheVariants as error
-use Rattle.certs_inspect.specs.certs_specs.Calls.{Fault, inspected, verified, wants_memory, RefusedValue}
-use Rattle.certs_inspect.specs.certs_specs.Cert.{CertValue}
-use Rattle.certs_inspect.specs.certs_specs.Kinds.{Kind, Ipv4, Ipv6, As}
-use Rattle.certs_inspect.specs.certs_specs.Verified.{HolderValue, HoldsOwn, IsAnchorAt, PassesAt, anchor_tests, nothing}
+use Rattle.certs_x509.specs.declared.errors.verification.Overclaimed.TheVariants as outside
+use Rattle.certs_x509.specs.declared.errors.verification.VerificationError.{VerificationError}
+use Rattle.certs_x509.specs.declared.errors.verification.VerificationError.TheVariants as error
+use Rattle.certs_verify.specs.certs_extension.Calls.{Fault, inspected, verified, wants_memory, RefusedValue}
+use Rattle.certs_verify.specs.certs_extension.Cert.{CertValue}
+use Rattle.certs_verify.specs.certs_extension.Kinds.{Kind, Ipv4, Ipv6, As}
+use Rattle.certs_verify.specs.certs_extension.Verified.{HolderValue, HoldsOwn, IsAnchorAt, PassesAt, anchor_tests, nothing}
 use Rattle.certs_verify.specs.certs_basics.Lists.{FirstFailing}
 use Rattle.certs_verify.specs.certs_basics.Verdicts.{Verdicts}
 use Rattle.certs_verify.specs.resources_chain.Claims.{Unfit}

@@ -1,17 +1,17 @@
 //! Verification of trust anchors (RFC 8630 2.3).
 
 ghost use Rattle.std.specs.Prelude.{◌≡◌, ◌≢◌, IfErr, IfOk};
-ghost use Rattle.certs_x509.specs.certs_errors.declared.verification.VerificationError.TheVariants.{Memory};
-ghost use Rattle.certs_inspect.specs.certs_specs.Verified.{HoldsOwn, PassesAt, anchor_tests, nothing};
+ghost use Rattle.certs_x509.specs.declared.errors.verification.VerificationError.TheVariants.{Memory};
+ghost use Rattle.certs_verify.specs.certs_extension.Verified.{HoldsOwn, PassesAt, anchor_tests, nothing};
 ghost use Rattle.certs_verify.specs.Answers.{Answers, AsksOnce};
 ghost use Rattle.certs_verify.specs.Holders.{holding};
 ghost use Rattle.certs_verify.specs.Words.{Meets, VerifiesAnchor};
 
 use crate::holder::{Held, ResourceCert};
+use crate::inspect::Cert;
 use crate::refused::Refused;
 use crate::{claims, tests};
-use certs_inspect::Cert;
-use certs_time::Time;
+use certs_basics::time::Time;
 use certs_x509::{TalInfo, VerificationError, Verifier};
 use std::alloc::Global;
 use std::rc::Rc;

@@ -1,20 +1,19 @@
 //! Verification below an issuer (RFC 6487 7.2, RFC 8360 4.2, RFC 8209 3.3).
 
 ghost use Rattle.std.specs.Prelude.{◌≡◌, ◌≢◌, ◌∷◌, ◌++◌, [], IfErr, IfOk};
-ghost use Rattle.certs_x509.specs.certs_errors.declared.verification.VerificationError.TheVariants.{Memory};
-ghost use Rattle.certs_inspect.specs.certs_specs.Calls.{VerifiesIssued};
-ghost use Rattle.certs_inspect.specs.certs_specs.Verified.{HoldsBelow, PassesAt, held_by, nothing};
-ghost use Rattle.certs_inspect.specs.certs_specs.Verified.{issued_tests, issuer_claim, router_tests, validity};
-ghost use Rattle.certs_inspect.specs.certs_specs.declared.VerificationTest.TheVariants as test;
+ghost use Rattle.certs_x509.specs.declared.errors.verification.VerificationError.TheVariants.{Memory};
+ghost use Rattle.certs_verify.specs.certs_extension.Calls.{VerifiesIssued};
+ghost use Rattle.certs_verify.specs.certs_extension.Verified.{HoldsBelow, PassesAt, held_by, nothing, issued_tests, issuer_claim, router_tests, validity};
+ghost use Rattle.certs_verify.specs.certs_extension.declared.forms.VerificationTest.TheVariants as test;
 ghost use Rattle.certs_verify.specs.Answers.{Answers, AsksOnce};
 ghost use Rattle.certs_verify.specs.Holders.{holding};
 ghost use Rattle.certs_verify.specs.Words.{Meets, TellsOutside};
 
 use crate::holder::{Held, ResourceCert};
+use crate::inspect::Cert;
 use crate::refused::Refused;
 use crate::{claims, tests};
-use certs_inspect::Cert;
-use certs_time::Time;
+use certs_basics::time::Time;
 use certs_x509::{VerificationError, Verifier};
 use std::alloc::Global;
 

@@ -1,9 +1,9 @@
 //! What a certificate holds of each kind: below an issuer by the claim rule (RFC 6487 7.2, RFC 8360 4.2), or as an anchor.
 
 ghost use Rattle.std.specs.Prelude.{◌∷◌, [], ℕ, IfErr, IfOk};
-ghost use Rattle.certs_inspect.specs.certs_specs.Cert.{CertValue};
-ghost use Rattle.certs_inspect.specs.certs_specs.Verified.{HoldsBelow, HoldsOwn, PassesAt, held_by, nothing};
-ghost use Rattle.certs_inspect.specs.certs_specs.declared.VerificationTest.TheVariants as test;
+ghost use Rattle.certs_verify.specs.certs_extension.Cert.{CertValue};
+ghost use Rattle.certs_verify.specs.certs_extension.Verified.{HoldsBelow, HoldsOwn, PassesAt, held_by, nothing};
+ghost use Rattle.certs_verify.specs.certs_extension.declared.forms.VerificationTest.TheVariants as test;
 ghost use Rattle.certs_verify.specs.certs_basics.Verdicts.{Verdicts};
 ghost use Rattle.certs_verify.specs.resources_chain.Claims.{Kept, Lists};
 ghost use Rattle.certs_verify.specs.resources_chain.Sets.{InRuns, IsRunsOf};
@@ -12,7 +12,7 @@ ghost use Rattle.certs_verify.specs.Holders.{holding};
 ghost use Rattle.certs_verify.specs.Words.{TellsOutside};
 
 use crate::holder::{Held, ResourceCert};
-use certs_inspect::{
+use crate::inspect::{
     AsBlocks, Cert, ClaimError, InheritedAsResources, InheritedIpResources, IpBlocks,
 };
 use certs_x509::{ClaimedKind, Overclaimed, VerificationError};

@@ -3,7 +3,7 @@
 ghost use Rattle.std.specs.Prelude.{◌≡◌};
 ghost use Rattle.certs_verify.specs.Holders.{holding};
 
-use certs_inspect::{AsBlocks, Cert, IpBlocks};
+use crate::inspect::{AsBlocks, Cert, IpBlocks};
 use certs_x509::TalInfo;
 use std::alloc::{AllocError, Global};
 use std::marker::Model;

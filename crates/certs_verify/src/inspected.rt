@@ -1,20 +1,20 @@
 //! Verification after an inspection.
 
 ghost use Rattle.std.specs.Prelude.{◌≡◌, Bool, IfErr, IfOk};
-ghost use Rattle.certs_x509.specs.certs_errors.declared.validation.ValidationError.TheVariants.{Verification};
-ghost use Rattle.certs_inspect.specs.certs_specs.Calls.{ValidatesAnchor, ValidatesIssued};
-ghost use Rattle.certs_inspect.specs.certs_specs.Verified.{held_by};
-ghost use Rattle.certs_inspect.specs.certs_specs.declared.Role.{Role};
-ghost use Rattle.certs_inspect.specs.certs_specs.declared.Role.TheVariants.{Router, Ta};
+ghost use Rattle.certs_x509.specs.declared.errors.validation.ValidationError.TheVariants.{Verification};
+ghost use Rattle.certs_verify.specs.certs_extension.Calls.{ValidatesAnchor, ValidatesIssued};
+ghost use Rattle.certs_verify.specs.certs_extension.Verified.{held_by};
+ghost use Rattle.certs_verify.specs.certs_extension.declared.forms.Role.{Role};
+ghost use Rattle.certs_verify.specs.certs_extension.declared.forms.Role.TheVariants.{Router, Ta};
 ghost use Rattle.certs_verify.specs.certs_basics.HandedIn.{Digests};
 ghost use Rattle.certs_verify.specs.Answers.{AsksOnce};
 ghost use Rattle.certs_verify.specs.Validated.{Inspects, MeetsValid, TellsNumbers, ValidatesRouter};
 
 use crate::holder::ResourceCert;
+use crate::inspect::Cert;
 use crate::refused::Refused;
 use crate::{anchor, below};
-use certs_inspect::Cert;
-use certs_time::Time;
+use certs_basics::time::Time;
 use certs_x509::{InspectionError, TalInfo, ValidationError, VerificationError, Verifier};
 use std::alloc::Global;
 use std::rc::Rc;

@@ -1,6 +1,6 @@
 //! Certificates that are refused.
 
-use certs_inspect::Cert;
+use crate::inspect::Cert;
 
 /// A certificate that is refused, handed back as it was, and why.
 #[derive(Drop)]

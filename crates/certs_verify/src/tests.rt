@@ -1,15 +1,15 @@
 //! The tests of one certificate, in groups: of its moments, of the claim to its issuer, of its signature.
 
 ghost use Rattle.std.specs.Prelude.{◌≡◌, ◌≢◌, ◌+◌, ◌-◌, ◌^◌, ◌∷◌, [], ℕ, IfErr, min};
-ghost use Rattle.certs_x509.specs.certs_errors.declared.verification.VerificationError.TheVariants.{Memory};
+ghost use Rattle.certs_x509.specs.declared.errors.verification.VerificationError.TheVariants.{Memory};
 ghost use Rattle.certs_verify.specs.certs_basics.Verdicts.{Verdicts};
-ghost use Rattle.certs_inspect.specs.certs_specs.Cert.{CertValue};
-ghost use Rattle.certs_inspect.specs.certs_specs.Verified.{PassesAt, issuer_claim, nothing, validity};
-ghost use Rattle.certs_inspect.specs.certs_specs.declared.VerificationTest.TheVariants as test;
+ghost use Rattle.certs_verify.specs.certs_extension.Cert.{CertValue};
+ghost use Rattle.certs_verify.specs.certs_extension.Verified.{PassesAt, issuer_claim, nothing, validity};
+ghost use Rattle.certs_verify.specs.certs_extension.declared.forms.VerificationTest.TheVariants as test;
 ghost use Rattle.certs_verify.specs.Answers.{Answers};
 
-use certs_inspect::Cert;
-use certs_time::Time;
+use crate::inspect::Cert;
+use certs_basics::time::Time;
 use certs_x509::{ClaimedKind, VerificationError, Verifier};
 
 /// Whether the moment lies in the validity of the certificate, both ends included, and else on which side it lies.

@@ -1,19 +1,19 @@
 //! The calls that validate a certificate: its form, then what is vouched for.
 
 ghost use Rattle.std.specs.Prelude.{◌≡◌, ℕ, IfErr, IfOk};
-ghost use Rattle.certs_inspect.specs.certs_specs.Calls.{ValidatesAnchor, ValidatesIssued};
-ghost use Rattle.certs_inspect.specs.certs_specs.Cert.{CertValue};
-ghost use Rattle.certs_inspect.specs.certs_specs.Verified.{held_by};
-ghost use Rattle.certs_inspect.specs.certs_specs.declared.Role.TheVariants.{Ca, DetachedEe, Ee};
+ghost use Rattle.certs_verify.specs.certs_extension.Calls.{ValidatesAnchor, ValidatesIssued};
+ghost use Rattle.certs_verify.specs.certs_extension.Cert.{CertValue};
+ghost use Rattle.certs_verify.specs.certs_extension.Verified.{held_by};
+ghost use Rattle.certs_verify.specs.certs_extension.declared.forms.Role.TheVariants.{Ca, DetachedEe, Ee};
 ghost use Rattle.certs_verify.specs.certs_key.Digesting.{digests_of};
 ghost use Rattle.certs_verify.specs.Answers.{AsksOnce};
 ghost use Rattle.certs_verify.specs.Validated.{MeetsValid, TellsNumbers, ValidatesRouter};
 
 use crate::holder::ResourceCert;
+use crate::inspect::{Cert, Inspect};
 use crate::inspected;
 use crate::refused::Refused;
-use certs_inspect::{Cert, Inspect};
-use certs_time::{Clock, Time};
+use certs_basics::time::{Clock, Time};
 use certs_x509::{Digester, TalInfo, ValidationError, Verifier};
 use std::alloc::Global;
 use std::rc::Rc;

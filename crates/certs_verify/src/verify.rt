@@ -1,21 +1,20 @@
 //! The calls that verify a certificate.
 
 ghost use Rattle.std.specs.Prelude.{◌≡◌, ◌≢◌, ◌+◌, ◌-◌, ◌^◌, ◌∷◌, [], ℕ, IfErr, IfOk, min};
-ghost use Rattle.certs_x509.specs.certs_errors.declared.verification.VerificationError.TheVariants.{Memory};
-ghost use Rattle.certs_inspect.specs.certs_specs.Calls.{VerifiesIssued};
-ghost use Rattle.certs_inspect.specs.certs_specs.Cert.{CertValue};
-ghost use Rattle.certs_inspect.specs.certs_specs.Verified.{PassesAt, anchor_tests, held_by, issuer_claim};
-ghost use Rattle.certs_inspect.specs.certs_specs.Verified.{nothing, router_tests, validity};
-ghost use Rattle.certs_inspect.specs.certs_specs.declared.VerificationTest.TheVariants as test;
+ghost use Rattle.certs_x509.specs.declared.errors.verification.VerificationError.TheVariants.{Memory};
+ghost use Rattle.certs_verify.specs.certs_extension.Calls.{VerifiesIssued};
+ghost use Rattle.certs_verify.specs.certs_extension.Cert.{CertValue};
+ghost use Rattle.certs_verify.specs.certs_extension.Verified.{PassesAt, anchor_tests, held_by, issuer_claim, nothing, router_tests, validity};
+ghost use Rattle.certs_verify.specs.certs_extension.declared.forms.VerificationTest.TheVariants as test;
 ghost use Rattle.certs_verify.specs.certs_basics.Verdicts.{Verdicts};
 ghost use Rattle.certs_verify.specs.Answers.{Answers, AsksOnce};
 ghost use Rattle.certs_verify.specs.Words.{Meets, TellsOutside, VerifiesAnchor};
 
 use crate::holder::ResourceCert;
+use crate::inspect::Cert;
 use crate::refused::Refused;
 use crate::{anchor, below, tests};
-use certs_inspect::Cert;
-use certs_time::{Clock, Time};
+use certs_basics::time::{Clock, Time};
 use certs_x509::{TalInfo, VerificationError, Verifier};
 use std::alloc::Global;
 use std::rc::Rc;

@@ -1,5 +1,5 @@
 pub mod Same
 mod Said
 mod Times
-pub mod of_certs_algorithm
-pub mod of_certs_time
+pub mod of_certs_basics
+pub mod of_certs_key

@@ -5,8 +5,8 @@ use Rattle.certs_written.specs.bcder_tree.Tree.{Tree, Trees}
 use Rattle.certs_written.specs.bcder_written.declared.error.EncodeError.{EncodeError}
 use Rattle.certs_written.specs.bcder_written.declared.error.EncodeError.TheVariants as errors
 use Rattle.certs_written.specs.bcder_written.Writing.{HasLength, CannotWrite, Wrote, WriteRefused}
-use Rattle.certs_written.specs.certs_time.Forms.{WritesTime}
-use Rattle.certs_time.proofs.Meanings.{one_written}
+use Rattle.certs_written.specs.certs_basics.Forms.{WritesTime}
+use Rattle.certs_basics.proofs.Meanings.{one_written}
 use Rattle.certs_written.specs.Fields.{IsTimeOf, PlainText, PlainTrees, WritesTimeOf}
 
 of_text : {m : Mode} {seconds : ℕ} {t : Tree} {text : List ℕ} → WritesTime seconds t → PlainText m t text → WritesTimeOf m seconds text

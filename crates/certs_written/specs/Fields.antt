@@ -11,11 +11,11 @@ use Rattle.certs_written.specs.bcder_values.Plains.{plain_one, plain_spelled}
 use Rattle.certs_written.specs.bcder_written.Encoded.{IsPlain, SpellsSome, WritesPlain}
 use Rattle.certs_written.specs.bcder_written.Simple.{one_string}
 use Rattle.certs_key.specs.Forms as keys
-use Rattle.certs_key.specs.certs_algorithm.Algorithms.{x509_algorithm}
+use Rattle.certs_key.specs.Algorithms.{x509_algorithm}
 use Rattle.certs_written.specs.certs_basics.Keys.{KeyValue}
-use Rattle.certs_written.specs.certs_time.Forms.{WritesTime}
-use Rattle.certs_written.specs.certs_time.Periods.{Period}
-use Rattle.certs_time.proofs.Meanings.{one_written}
+use Rattle.certs_written.specs.certs_basics.Forms.{WritesTime}
+use Rattle.certs_written.specs.certs_basics.Periods.{Period}
+use Rattle.certs_basics.proofs.Meanings.{one_written}
 use Rattle.certs_written.specs.Outputs.{Output, beside, inside, of}
 
 -- A primitive value by its octets, as it is written.

@@ -12,13 +12,9 @@ pub use Rattle.certs_extension.specs.bcder_primitive as bcder_primitive
 pub use Rattle.certs_extension.specs.bcder_tree as bcder_tree
 pub use Rattle.certs_extension.specs.bcder_values as bcder_values
 pub use Rattle.certs_extension.specs.bcder_written as bcder_written
-pub use Rattle.certs_extension.specs.certs_access as certs_access
-pub use Rattle.certs_extension.specs.certs_basics as certs_basics
 pub use Rattle.certs_extension.specs as certs_extension
+pub use Rattle.certs_extension.specs.certs_basics as certs_basics
 pub use Rattle.certs_key.specs as certs_key
-pub use Rattle.certs_extension.specs.certs_specs as certs_specs
-pub use Rattle.certs_extension.specs.certs_time as certs_time
-pub use Rattle.certs_extension.specs.certs_uri as certs_uri
 pub use Rattle.certs_extension.specs.resources_as as resources_as
 pub use Rattle.certs_extension.specs.resources_chain as resources_chain
 pub use Rattle.certs_extension.specs.resources_ip as resources_ip

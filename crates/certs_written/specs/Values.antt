@@ -15,8 +15,8 @@ use Rattle.certs_key.specs.Forms.{raw}
 use Rattle.certs_written.specs.certs_basics.Identifiers as id
 use Rattle.certs_extension.specs.Purposes as eku
 use Rattle.certs_extension.specs.Usages.{usage_octets}
-use Rattle.certs_written.specs.certs_specs.Access.{AccessValue}
-use Rattle.certs_written.specs.certs_specs.declared.KeyUsage.{KeyUsage}
+use Rattle.certs_written.specs.certs_extension.CertAccess.{AccessValue}
+use Rattle.certs_written.specs.certs_extension.declared.forms.KeyUsage.{KeyUsage}
 use Rattle.certs_written.specs.resources_as.Written as numbers
 use Rattle.certs_written.specs.resources_chain.Claims.{Choice}
 use Rattle.certs_written.specs.resources_chain.declared.claims.Overclaim.{Overclaim}

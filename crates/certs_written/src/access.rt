@@ -205,7 +205,7 @@ pub struct SubjectAccessValue<'a> {
 
 impl<'a> Model for SubjectAccessValue<'a> {
     ghost use Rattle.std.specs.Prelude.{option_copied};
-    ghost use Rattle.certs_written.specs.certs_specs.Access.{AccessValue};
+    ghost use Rattle.certs_written.specs.certs_extension.CertAccess.{AccessValue};
 
     ghost Value = { AccessValue };
 

@@ -3,8 +3,7 @@
 ghost use Rattle.std.specs.Prelude.{◌≡◌};
 ghost use Rattle.certs_written.specs.resources_chain.Claims.{Choice};
 ghost use Rattle.certs_written.specs.resources_ip.WrittenFamilies.{both, is_said as is_said_of, says_any};
-ghost use Rattle.certs_written.specs.Resources.{addresses_extension, asns_extension};
-ghost use Rattle.certs_written.specs.Resources.{said_families, said_numbers};
+ghost use Rattle.certs_written.specs.Resources.{addresses_extension, asns_extension, said_families, said_numbers};
 ghost use Rattle.certs_written.specs.Values.{addresses};
 
 use crate::extension::{ExtensionEncoder, encode_extension};

@@ -76,7 +76,7 @@ pub fn constraints_extension(ca: Option<bool>) -> Option<ExtensionEncoder<Constr
 pub struct UsageValue(KeyUsage);
 
 impl Model for UsageValue {
-    ghost use Rattle.certs_written.specs.certs_specs.declared.KeyUsage.{KeyUsage};
+    ghost use Rattle.certs_written.specs.certs_extension.declared.forms.KeyUsage.{KeyUsage};
 
     ghost Value = { KeyUsage };
 

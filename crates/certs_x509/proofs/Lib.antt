@@ -1,0 +1,10 @@
+pub mod Again
+pub mod Around
+pub mod Octets
+pub mod Messages
+pub mod Wholes
+pub mod of_bcder_values
+pub mod of_bcder_tree
+pub mod of_certs_key
+pub mod of_bcder_source
+pub mod of_bcder_content

@@ -53,12 +53,11 @@ pub mod tal;
 pub mod time;
 pub mod uri;
 
-pub use certs_errors::{ClaimedKind, Overclaimed};
 pub use crypto::{
     DigestAlgorithm, Digester, RpkiSignature, RpkiSignatureAlgorithm, Signature,
     SignatureAlgorithm, Signer, SigningError, Verifier,
 };
-pub use errors::{InspectionError, ValidationError, VerificationError};
+pub use errors::{ClaimedKind, InspectionError, Overclaimed, ValidationError, VerificationError};
 pub use key::{KeyIdentifier, PublicKey, PublicKeyFormat};
 pub use name::Name;
 pub use serial::Serial;

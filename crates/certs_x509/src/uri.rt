@@ -1,3 +1,3 @@
 //! rsync and https URIs.
 
-pub use certs_uri::{Error, Https, Rsync};
+pub use certs_basics::uri::{Error, Https, Rsync};

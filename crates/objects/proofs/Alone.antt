@@ -3,7 +3,7 @@ use Rattle.std.proofs.Common.{◌≡◌, ℕ, ◌↔◌, ◌==◌, IsTrue, List,
 use Rattle.std.specs.Prelude.{length}
 use Rattle.std.proofs.lemmas.Bool.{eqb-true}
 use Rattle.std.proofs.lemmas.Bool.Decides.{eqb_tells}
-use Rattle.objects.specs.objects_forms.Aspas.{Aspa}
+use Rattle.objects.specs.objects_payload.Aspas.{Aspa}
 use Rattle.objects.specs.resources_asn.Listed.{InList, IsListOf}
 use Rattle.objects.specs.Providers.{IsZeroAlone}
 

@@ -9,8 +9,8 @@ use Rattle.objects.specs.bcder_content.Kept.{CapturedValue}
 use Rattle.objects.specs.bcder_content.Texts.{SpellsOf}
 use Rattle.objects.specs.bcder_values.Forms.{Alone}
 use Rattle.objects.specs.bcder_written.Encoded.{joined}
-use Rattle.objects.specs.objects_forms.Aspas.{Aspa, IsAspa, IsLawful}
-use Rattle.objects.specs.objects_forms.Contents.{IsVersion}
+use Rattle.objects.specs.objects_payload.Aspas.{Aspa, IsAspa, IsLawful}
+use Rattle.objects.specs.objects_payload.Contents.{IsVersion}
 use Rattle.objects.specs.resources_asn.Encodings.{IsAsId}
 use Rattle.certs_written.specs.Fields.{version}
 use Rattle.objects.specs.objects_written.Outputs.{each, inside}

@@ -1,12 +1,12 @@
 -- What is written of a manifest that is put together, and why its content isn't made.
 use Rattle.std.proofs.Common.{◌≡◌, ℕ, List, Result, Ok, Err, IfErr, IfOk, sym, subst}
-use Rattle.objects_frame.specs.bcder_tree.declared.mode.Mode.TheVariants.{Der}
-use Rattle.objects_frame.specs.bcder_content.Kept.{CapturedValue}
-use Rattle.objects_frame.specs.bcder_content.Texts.{SpellsOf}
-use Rattle.objects_frame.specs.bcder_values.Gathered.{ExtendRefused}
-use Rattle.objects_frame.specs.bcder_written.declared.error.EncodeError.{EncodeError}
-use Rattle.objects_frame.specs.bcder_written.declared.error.EncodeError.TheVariants as errors
-use Rattle.objects_frame.specs.objects_forms.Manifests.{IsManifest, Manifest}
+use Rattle.objects_written.specs.bcder_tree.declared.mode.Mode.TheVariants.{Der}
+use Rattle.objects_written.specs.bcder_content.Kept.{CapturedValue}
+use Rattle.objects_written.specs.bcder_content.Texts.{SpellsOf}
+use Rattle.objects_written.specs.bcder_values.Gathered.{ExtendRefused}
+use Rattle.objects_written.specs.bcder_written.declared.error.EncodeError.{EncodeError}
+use Rattle.objects_written.specs.bcder_written.declared.error.EncodeError.TheVariants as errors
+use Rattle.objects_written.specs.objects_payload.Manifests.{IsManifest, Manifest}
 use Rattle.objects_written.specs.Manifests.{AreFileNames, IsManifestNumber, ManifestParts, manifest, manifest_parts, written_manifest}
 use Rattle.objects_written.proofs.Told.{manifest_told}
 use Rattle.objects.specs.Making.{IsCause, MakingRefused}

@@ -6,8 +6,8 @@ use Rattle.objects.specs.bcder_content.Texts.{SpellsOf}
 use Rattle.objects.specs.certs_basics.Basics.{IsSmallEnough}
 use Rattle.objects.specs.certs_basics.HandedIn.{Digests}
 use Rattle.objects.specs.certs_basics.Keys.{KeyValue}
-use Rattle.objects.specs.objects_forms.Identifiers as id
-use Rattle.objects.specs.objects_forms.Manifests.{IsManifest, Manifest, ManifestText}
+use Rattle.objects.specs.objects_payload.Identifiers as id
+use Rattle.objects.specs.objects_payload.Manifests.{IsManifest, Manifest, ManifestText}
 use Rattle.objects.specs.objects_written.Manifests.{AreFileNames, IsManifestNumber, manifest}
 use Rattle.objects.specs.resources_chain.Claims.{Choice}
 use Rattle.objects.specs.resources_chain.declared.choice.ResourcesChoice.TheVariants.{Inherit, Missing}

@@ -2,9 +2,9 @@
 use Rattle.std.proofs.Common.{List, [], ◌∷◌}
 use Rattle.std.specs.Prelude.{All}
 use Rattle.std.proofs.lemmas.List.Elements.{All-cons, All-head, All-nil, All-tail}
-use Rattle.objects.specs.objects_forms.Roas.{RoaAddress}
+use Rattle.objects.specs.objects_payload.Roas.{RoaAddress}
 use Rattle.objects.specs.resources_ip_prefix.declared.addr.AddressFamily.{AddressFamily}
-use Rattle.objects_roa.specs.Addresses.{AllOf, IsOf}
+use Rattle.objects_payload.specs.Addresses.{AllOf, IsOf}
 
 pub each_of : (family : AddressFamily) (xs : List RoaAddress) → All (IsOf family) xs → AllOf family xs
 each_of family [] all = tt

@@ -6,8 +6,8 @@ use Rattle.objects.specs.bcder_content.Texts.{SpellsOf}
 use Rattle.objects.specs.certs_basics.Basics.{IsSmallEnough}
 use Rattle.objects.specs.certs_basics.HandedIn.{Digests}
 use Rattle.objects.specs.certs_basics.Keys.{KeyValue}
-use Rattle.objects.specs.objects_forms.Identifiers as id
-use Rattle.objects.specs.objects_forms.Roas.{IsRoa, Roa, RoaAddress, RoaText}
+use Rattle.objects.specs.objects_payload.Identifiers as id
+use Rattle.objects.specs.objects_payload.Roas.{IsRoa, Roa, RoaAddress, RoaText}
 use Rattle.objects.specs.objects_written.Roas.{AreOfFamilies, HasAddress, roa}
 use Rattle.objects.specs.resources_chain.Claims.{Choice}
 use Rattle.objects.specs.resources_chain.Sets.{InRuns, IsRunsOf, Run}
@@ -19,6 +19,7 @@ use Rattle.objects.specs.resources_ip_prefix.declared.prefix.Prefix.{Prefix}
 use Rattle.resources_ip.specs.WholeSets.{ListsWhole}
 use Rattle.objects_built.specs.Builders.{BuilderValue, IsBuilt, IsComplete, IsPadded, IsSigned, KindIsRead, built_object}
 use Rattle.objects.specs.Issued.{AreResourcesOf, AttestsPrefixes, IsRoaFor, runs_of}
+use Rattle.objects.proofs.SignedAgain.{blocks_are_said}
 
 -- One prefix more.
 pub pushed_more : (all blocks new : List Run) (rest left : List RoaAddress) (a : RoaAddress) (p : Prefix) → all ≡ blocks ++ runs_of left → left ≡ a ∷ rest
@@ -42,10 +43,6 @@ none_listed addresses choice none missing = subst (λ (l : List RoaAddress). Are
 pub set_of_some : (addresses : List RoaAddress) (set : List Run) (choice : Choice) → addresses ≢ [] → choice ≡ Blocks set → IsRunsOf (InRuns (runs_of addresses)) set → AreResourcesOf addresses choice
 set_of_some [] set choice some is set_is = absurd (some refl)
 set_of_some (a ∷ others) set choice some is set_is = (set, is, set_is)
-
--- What lists a prefix is there.
-blocks_are_said : (choice : Choice) (set : List Run) → choice ≡ Blocks set → choice ≢ Missing
-blocks_are_said choice set p e = let q : ◌≡◌ {A = Choice} (Blocks set) Missing = sym p ∙ e in cc
 
 said : (addresses : List RoaAddress) (choice : Choice) → AreResourcesOf addresses choice → addresses ≢ [] → choice ≢ Missing
 said [] choice p some = absurd (some refl)

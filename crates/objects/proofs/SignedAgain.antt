@@ -5,8 +5,8 @@ use Rattle.objects.specs.bcder_content.Kept.{CapturedValue}
 use Rattle.objects.specs.certs_basics.Basics.{IsSmallEnough}
 use Rattle.objects.specs.certs_basics.HandedIn.{Digests}
 use Rattle.objects.specs.certs_basics.Keys.{KeyValue}
-use Rattle.objects.specs.objects_forms.Aspas.{Aspa, AspaText, IsAspa, IsLawful}
-use Rattle.objects.specs.objects_forms.Identifiers as id
+use Rattle.objects.specs.objects_payload.Aspas.{Aspa, AspaText, IsAspa, IsLawful}
+use Rattle.objects.specs.objects_payload.Identifiers as id
 use Rattle.objects.specs.resources_chain.Claims.{Choice}
 use Rattle.objects.specs.resources_chain.Sets.{Run}
 use Rattle.objects.specs.resources_chain.declared.choice.ResourcesChoice.TheVariants.{Blocks, Missing}
@@ -17,7 +17,7 @@ use Rattle.objects.specs.Written.{aspa}
 use Rattle.objects.proofs.AspaAgain.{aspa_text}
 
 -- What lists an AS number is there.
-blocks_are_said : (choice : Choice) (set : List Run) → choice ≡ Blocks set → choice ≢ Missing
+pub blocks_are_said : (choice : Choice) (set : List Run) → choice ≡ Blocks set → choice ≢ Missing
 blocks_are_said choice set p e = let q : ◌≡◌ {A = Choice} (Blocks set) Missing = sym p ∙ e in cc
 
 -- Addresses that are missing list nothing.

@@ -1,14 +1,14 @@
 -- What was read strictly of an object are values in DER.
 use Rattle.std.proofs.Common.{ℕ, List, true, sym, ap, ◌∙◌, subst}
-use Rattle.objects_frame.specs.bcder_tree.declared.mode.Mode.TheVariants.{Der}
-use Rattle.objects_frame.specs.bcder_tree.Tags.{TagValue}
-use Rattle.objects_frame.specs.bcder_tree.Tree.{Spells, SpellsAll, Tree, constructed, more, none}
-use Rattle.objects_frame.specs.bcder_content.Kept.{SpellsValues}
-use Rattle.objects_frame.specs.bcder_content.Texts.{Joins, NoOctets, SpellsOf, Wraps}
-use Rattle.objects_frame.specs.bcder_values.Wraps.{one_spelled}
-use Rattle.objects_frame.specs.certs_specs.Cert.{CertValue}
-use Rattle.objects_frame.specs.certs_specs.CertText.{Fields, SpellsCert, SpellsFields}
-use Rattle.objects_frame.specs.objects_forms.ObjectText.{Object, ObjectFields, ObjectText, SpellsContentInfo, object_of}
+use Rattle.objects_written.specs.bcder_tree.declared.mode.Mode.TheVariants.{Der}
+use Rattle.objects_written.specs.bcder_tree.Tags.{TagValue}
+use Rattle.objects_written.specs.bcder_tree.Tree.{Spells, SpellsAll, Tree, constructed, more, none}
+use Rattle.objects_written.specs.bcder_content.Kept.{SpellsValues}
+use Rattle.objects_written.specs.bcder_content.Texts.{Joins, NoOctets, SpellsOf, Wraps}
+use Rattle.objects_written.specs.bcder_values.Wraps.{one_spelled}
+use Rattle.objects_written.specs.certs_extension.Cert.{CertValue}
+use Rattle.objects_written.specs.certs_extension.CertText.{Fields, SpellsCert, SpellsFields}
+use Rattle.objects_written.specs.objects_payload.ObjectText.{Object, ObjectFields, ObjectText, SpellsContentInfo, object_of}
 use Rattle.objects.specs.Again.{StandsInDer}
 
 -- One value, and values one after the other.

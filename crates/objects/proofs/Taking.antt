@@ -1,20 +1,20 @@
 -- All octets of a source, taken as values in DER.
 use Rattle.std.proofs.Common.{◌≡◌, ℕ, true, false, List, [], ◌++◌, length, Option, None, Some, Result, Ok, Err, IfErr, IfOk, refl, sym, ap, ◌∙◌, subst, append-nil}
 use denote.Ref.{MutBor}
-use Rattle.objects_frame.specs.bcder_tree.declared.mode.Mode.TheVariants.{Der}
-use Rattle.objects_frame.specs.bcder_tree.Tree.{SpellsAll}
-use Rattle.objects_frame.specs.bcder_content.Captures.{CapturesAll}
-use Rattle.objects_frame.specs.bcder_content.Contents.{EndsHere, Ended, ValuesLeft, octets}
-use Rattle.objects_frame.specs.bcder_content.Here.{here}
-use Rattle.objects_frame.specs.bcder_content.Kept.{CapturedValue}
-use Rattle.objects_frame.specs.bcder_content.Skips.{NotWhole}
-use Rattle.objects_frame.specs.bcder_content.Ran.{Decoded, DecodedCases, RanIn, Reader, failed_in, fresh, refused_in}
-use Rattle.objects_frame.specs.bcder_content.declared.constructed.Constructed.{Constructed}
+use Rattle.objects_written.specs.bcder_tree.declared.mode.Mode.TheVariants.{Der}
+use Rattle.objects_written.specs.bcder_tree.Tree.{SpellsAll}
+use Rattle.objects_written.specs.bcder_content.Captures.{CapturesAll}
+use Rattle.objects_written.specs.bcder_content.Contents.{EndsHere, Ended, ValuesLeft, octets}
+use Rattle.objects_written.specs.bcder_content.Here.{here}
+use Rattle.objects_written.specs.bcder_content.Kept.{CapturedValue}
+use Rattle.objects_written.specs.bcder_content.Skips.{NotWhole}
+use Rattle.objects_written.specs.bcder_content.Ran.{Decoded, DecodedCases, RanIn, Reader, failed_in, fresh, refused_in}
+use Rattle.objects_written.specs.bcder_content.declared.constructed.Constructed.{Constructed}
 use Rattle.certs_cert.specs.bcder_source.Errors.{OnContent}
 use Rattle.certs_cert.specs.bcder_source.Views.{limited, more_limit}
 use Rattle.certs_cert.specs.bcder_source.declared.error.DecodeError.{DecodeError}
 use Rattle.certs_cert.specs.bcder_source.declared.error.DecodeError.TheVariants.{Content, Source, Memory}
-use Rattle.objects_attributes.proofs.Wholes.{spelled_whole}
+use Rattle.objects_cms.proofs.Wholes.{spelled_whole}
 use Rattle.objects.specs.Taking.{DecodesDer, IsInDer, TakesAll, in_der}
 
 -- Values that are all of a source are spelled by all its octets.

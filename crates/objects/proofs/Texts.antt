@@ -1,36 +1,35 @@
 -- What is written again of an object is read again.
 use Rattle.std.proofs.Common.{◌≡◌, ℕ, Bool, List, [], true, refl, sym, ap, ◌∙◌, subst, append-nil}
-use Rattle.objects_frame.specs.bcder_tree.declared.mode.Mode.TheVariants.{Der}
-use Rattle.objects_frame.specs.bcder_tree.Tags.{TagValue, context, universal}
-use Rattle.objects_frame.specs.bcder_tree.Tree.{Tree, Trees, more, none, primitive}
-use Rattle.objects_frame.specs.bcder_tree.Strings.{IsOctetString}
+use Rattle.objects_written.specs.bcder_tree.declared.mode.Mode.TheVariants.{Der}
+use Rattle.objects_written.specs.bcder_tree.Tags.{TagValue, context, universal}
+use Rattle.objects_written.specs.bcder_tree.Tree.{Tree, Trees, more, none, primitive}
+use Rattle.objects_written.specs.bcder_tree.Strings.{IsOctetString}
 use Rattle.certs_cert.specs.bcder_bits.Bits.{BitsValue}
 use Rattle.certs_cert.specs.bcder_bits.Contents.{IsBitString, bit_string_tag, padded_in}
-use Rattle.objects_frame.specs.bcder_content.Grammar.{End, Inside, OctetsOf, Then}
-use Rattle.objects_frame.specs.bcder_content.Kept.{CapturedValue}
-use Rattle.objects_frame.specs.bcder_content.Texts.{InOrder, Joins, NoOctets, SpellsOf, WithOctets, Wraps}
-use Rattle.objects_frame.specs.bcder_oid.Identifiers.{IsIdentifier, IsOid}
-use Rattle.objects_frame.specs.bcder_values.Captures.{CapturedText}
-use Rattle.objects_frame.specs.bcder_values.Forms.{Alone}
-use Rattle.objects_frame.specs.bcder_written.Encoded.{WritesBoth, WritesWrapped}
-use Rattle.objects_frame.specs.bcder.Kinds.{bits, octets, octets_at, oid}
-use Rattle.certs_key.proofs.of_certs_algorithm.Written.{algorithm_spelled, cms_spelled, digest_spelled, digests_spelled}
-use Rattle.certs_cert.specs.certs_signed.Signed.{SignedDataValue, signed, signed_fields}
-use Rattle.objects_frame.specs.certs_algorithm.Algorithms.{x509_algorithm}
-use Rattle.objects_frame.specs.certs_basics.Basics.{IsAlgorithm, IsTwentyLong}
-use Rattle.objects_frame.specs.certs_basics.Identifiers.{sha256_with_rsa}
-use Rattle.objects_frame.specs.certs_specs.Cert.{CertValue, TbsValue}
-use Rattle.objects_frame.specs.certs_specs.CertText.{SpellsCert, SpellsTbs}
-use Rattle.certs_again.specs.Laws.{ReadIsBuilt, as_read}
-use Rattle.objects_frame.specs.objects_forms.Contents.{ReadsAs}
-use Rattle.objects_frame.specs.objects_forms.Identifiers as id
-use Rattle.objects_frame.specs.objects_forms.ObjectText.{AreDigestAlgorithms, IsContentInfo, IsSid, IsThree, Object, ObjectText, SaysObject, SpellsContentInfo, SpellsObject, SpellsSignedData, SpellsSigner}
-use Rattle.objects_frame.specs.objects_forms.ObjectText.{ObjectFields, SignedFields as Signed, SignerFields as Signs, object_of}
-use Rattle.objects_frame.specs.objects_forms.SignedAttributes.{AreAttributes, AttributesValue}
+use Rattle.objects_written.specs.bcder_content.Grammar.{End, Inside, OctetsOf, Then}
+use Rattle.objects_written.specs.bcder_content.Kept.{CapturedValue}
+use Rattle.objects_written.specs.bcder_content.Texts.{InOrder, Joins, NoOctets, SpellsOf, WithOctets, Wraps}
+use Rattle.objects_written.specs.bcder_oid.Identifiers.{IsIdentifier, IsOid}
+use Rattle.objects_written.specs.bcder_values.Captures.{CapturedText}
+use Rattle.objects_written.specs.bcder_values.Forms.{Alone}
+use Rattle.objects_written.specs.bcder_written.Encoded.{WritesBoth, WritesWrapped}
+use Rattle.objects_written.specs.bcder.Kinds.{bits, octets, octets_at, oid}
+use Rattle.certs_key.proofs.Written.{algorithm_spelled, cms_spelled, digest_spelled, digests_spelled}
+use Rattle.certs_cert.specs.certs_x509.Signed.{SignedDataValue, signed, signed_fields}
+use Rattle.objects_written.specs.certs_key.Algorithms.{x509_algorithm}
+use Rattle.objects_written.specs.certs_basics.Basics.{IsAlgorithm, IsTwentyLong}
+use Rattle.objects_written.specs.certs_basics.Identifiers.{sha256_with_rsa}
+use Rattle.objects_written.specs.certs_extension.Cert.{CertValue, TbsValue}
+use Rattle.objects_written.specs.certs_extension.CertText.{SpellsCert, SpellsTbs}
+use Rattle.certs.specs.Laws.{ReadIsBuilt, as_read}
+use Rattle.objects_written.specs.objects_payload.Contents.{ReadsAs}
+use Rattle.objects_written.specs.objects_payload.Identifiers as id
+use Rattle.objects_written.specs.objects_payload.ObjectText.{AreDigestAlgorithms, IsContentInfo, IsSid, IsThree, Object, ObjectText, SaysObject, SpellsContentInfo, SpellsObject, SpellsSignedData, SpellsSigner, ObjectFields, SignedFields as Signed, SignerFields as Signs, object_of}
+use Rattle.objects_written.specs.objects_payload.SignedAttributes.{AreAttributes, AttributesValue}
 use Rattle.certs_written.specs.Fields.{version}
 use Rattle.certs_written.specs.Outputs.{Output, of}
 use Rattle.objects_written.proofs.Words.{inside_of, last_of, spelled_of, then_of}
-use Rattle.objects_frame.specs.Frames.{ObjectParts, SignerParts, algorithm, content_info, kept, object, rsa, sha256, signed_data, signer}
+use Rattle.objects_written.specs.Frames.{ObjectParts, SignerParts, algorithm, content_info, kept, object, rsa, sha256, signed_data, signer}
 use Rattle.objects.specs.Again.{WritesAgain, WritesCertAgain, cert_value, parts_of, with_null}
 
 -- Words: grammars of octets.

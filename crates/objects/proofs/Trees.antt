@@ -1,19 +1,19 @@
 -- What is written in DER of an object, and of its certificate, are values.
 use Rattle.std.proofs.Common.{◌≡◌, ◌<◌, ℕ, Bool, true, false, List, [], ◌∷◌, inr, refl, arith}
-use Rattle.objects_frame.specs.bcder_tree.declared.mode.Mode.TheVariants.{Cer, Der}
-use Rattle.objects_frame.specs.bcder_tree.Tags.{TagValue, context, universal}
-use Rattle.objects_frame.specs.bcder_tree.Tree.{Trees, constructed, more, none, primitive}
-use Rattle.objects_frame.specs.bcder_content.Kept.{SpellsValues}
-use Rattle.objects_frame.specs.bcder_values.Captures.{CapturedTrees}
-use Rattle.objects_frame.specs.bcder_written.Encoded.{AreBoth, IsWrapped, NoTree, joined}
-use Rattle.objects_frame.specs.bcder.Kinds.{bits, null, octets, octets_at, oid, that_oid}
+use Rattle.objects_written.specs.bcder_tree.declared.mode.Mode.TheVariants.{Cer, Der}
+use Rattle.objects_written.specs.bcder_tree.Tags.{TagValue, context, universal}
+use Rattle.objects_written.specs.bcder_tree.Tree.{Trees, constructed, more, none, primitive}
+use Rattle.objects_written.specs.bcder_content.Kept.{SpellsValues}
+use Rattle.objects_written.specs.bcder_values.Captures.{CapturedTrees}
+use Rattle.objects_written.specs.bcder_written.Encoded.{AreBoth, IsWrapped, NoTree, joined}
+use Rattle.objects_written.specs.bcder.Kinds.{bits, null, octets, octets_at, oid, that_oid}
 use Rattle.certs_key.proofs.of_bcder_bits.Writings.{written}
-use Rattle.objects_frame.specs.certs_algorithm.Algorithms.{algorithm_of}
-use Rattle.certs_cert.specs.certs_signed.Signed.{signed, signed_fields}
-use Rattle.objects_frame.specs.certs_specs.Cert.{CertValue}
-use Rattle.objects_frame.specs.objects_forms.Identifiers as id
+use Rattle.objects_written.specs.certs_key.Algorithms.{algorithm_of}
+use Rattle.certs_cert.specs.certs_x509.Signed.{signed, signed_fields}
+use Rattle.objects_written.specs.certs_extension.Cert.{CertValue}
+use Rattle.objects_written.specs.objects_payload.Identifiers as id
 use Rattle.certs_written.specs.Fields.{version}
-use Rattle.objects_frame.specs.Frames.{ObjectParts, SignerParts, content_info, kept, object, sha256, signed_data, signer}
+use Rattle.objects_written.specs.Frames.{ObjectParts, SignerParts, content_info, kept, object, sha256, signed_data, signer}
 use Rattle.objects.specs.Again.{cert_value}
 use Rattle.objects.specs.Taking.{in_der}
 

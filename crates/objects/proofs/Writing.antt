@@ -1,17 +1,17 @@
 -- Why an object isn't written again.
 use Rattle.std.proofs.Common.{◌≡◌, ◌<◌, ◌^◌, ℕ, Bool, List, length, Result, Ok, Err, IfErr, IfOk, inr, refl, sym, ap, ◌∙◌, subst, arith}
 use Rattle.std.specs.Result.{IsErr, IsErrAnd}
-use Rattle.objects_frame.specs.bcder_tree.declared.mode.Mode.TheVariants.{Der}
-use Rattle.objects_frame.specs.bcder_content.Kept.{CapturedValue, SpellsValues}
-use Rattle.objects_frame.specs.bcder_values.Gathered.{ExtendRefused}
-use Rattle.objects_frame.specs.bcder_written.declared.error.EncodeError.{EncodeError}
-use Rattle.objects_frame.specs.bcder_written.declared.error.EncodeError.TheVariants as errors
-use Rattle.certs_cert.specs.certs_signed.Signed.{SignedDataValue, signed, signed_fields}
-use Rattle.objects_frame.specs.certs_specs.Cert.{CertValue, SignedValue}
-use Rattle.objects_frame.specs.certs_algorithm.Algorithms.{SignatureValue}
+use Rattle.objects_written.specs.bcder_tree.declared.mode.Mode.TheVariants.{Der}
+use Rattle.objects_written.specs.bcder_content.Kept.{CapturedValue, SpellsValues}
+use Rattle.objects_written.specs.bcder_values.Gathered.{ExtendRefused}
+use Rattle.objects_written.specs.bcder_written.declared.error.EncodeError.{EncodeError}
+use Rattle.objects_written.specs.bcder_written.declared.error.EncodeError.TheVariants as errors
+use Rattle.certs_cert.specs.certs_x509.Signed.{SignedDataValue, signed, signed_fields}
+use Rattle.objects_written.specs.certs_extension.Cert.{CertValue, SignedValue}
+use Rattle.objects_written.specs.certs_key.Algorithms.{SignatureValue}
 use Rattle.certs_cert.specs.Whole.{signed_of}
-use Rattle.objects_frame.specs.objects_forms.ObjectText.{Object}
-use Rattle.objects_frame.specs.Frames.{ObjectParts, SignerParts, object}
+use Rattle.objects_written.specs.objects_payload.ObjectText.{Object}
+use Rattle.objects_written.specs.Frames.{ObjectParts, SignerParts, object}
 use Rattle.objects.specs.Again.{AgainRefused, ArePartsOf, CertRefused, DerRefused, PartsRefused, StandsInDer, WritesAgain, WritesCertAgain, cert_value, parts_of, parts_with}
 use Rattle.objects.specs.Taking.{IsInDer, in_der}
 use Rattle.objects.proofs.Trees.{cert_some, object_some}

@@ -1,18 +1,18 @@
 -- Signed objects that were read, as they are written in DER (RFC 5652 3, 5; RFC 6488 2).
 use Rattle.std.specs.Prelude.{◌≡◌, ◌^◌, ◌<◌, ℕ, List, length, true}
-use Rattle.objects_frame.specs.bcder_tree.declared.mode.Mode.{Mode}
-use Rattle.objects_frame.specs.bcder_tree.declared.mode.Mode.TheVariants.{Der}
-use Rattle.objects_frame.specs.bcder_tree.Tags.{set_tag}
-use Rattle.objects_frame.specs.bcder_content.Texts.{Wraps}
-use Rattle.objects_frame.specs.bcder_content.Kept.{CapturedValue, SpellsValues}
-use Rattle.objects_frame.specs.bcder_written.declared.error.EncodeError.{EncodeError}
-use Rattle.objects_frame.specs.bcder_written.declared.error.EncodeError.TheVariants as errors
-use Rattle.objects_frame.specs.certs_specs.Cert.{CertValue}
-use Rattle.objects_frame.specs.objects_forms.ObjectText.{Object}
-use Rattle.certs_cert.specs.certs_signed.Signed.{SignedDataValue, signed, signed_fields}
-use Rattle.objects_frame.specs.objects_forms.SignedAttributes.{AttributesValue}
-use Rattle.objects_signed.specs.Signer.{AreKeptOctets}
-use Rattle.objects_frame.specs.Frames.{ObjectParts, object}
+use Rattle.objects_written.specs.bcder_tree.declared.mode.Mode.{Mode}
+use Rattle.objects_written.specs.bcder_tree.declared.mode.Mode.TheVariants.{Der}
+use Rattle.objects_written.specs.bcder_tree.Tags.{set_tag}
+use Rattle.objects_written.specs.bcder_content.Texts.{Wraps}
+use Rattle.objects_written.specs.bcder_content.Kept.{CapturedValue, SpellsValues}
+use Rattle.objects_written.specs.bcder_written.declared.error.EncodeError.{EncodeError}
+use Rattle.objects_written.specs.bcder_written.declared.error.EncodeError.TheVariants as errors
+use Rattle.objects_written.specs.certs_extension.Cert.{CertValue}
+use Rattle.objects_written.specs.objects_payload.ObjectText.{Object}
+use Rattle.certs_cert.specs.certs_x509.Signed.{SignedDataValue, signed, signed_fields}
+use Rattle.objects_written.specs.objects_payload.SignedAttributes.{AttributesValue}
+use Rattle.objects_cms.specs.Signer.{AreKeptOctets}
+use Rattle.objects_written.specs.Frames.{ObjectParts, object}
 use Rattle.objects.specs.Taking.{in_der}
 
 -- Why octets aren't taken as values in DER: they are none, or there is no memory.

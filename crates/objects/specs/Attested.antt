@@ -2,10 +2,10 @@
 use Rattle.std.specs.Prelude.{◌≡◌, ℕ, List}
 use Rattle.objects.specs.bcder_tree.declared.mode.Mode.TheVariants.{Der}
 use Rattle.objects.specs.certs_basics.HandedIn.{Digests}
-use Rattle.objects.specs.objects_forms.Aspas.{Aspa}
-use Rattle.objects.specs.objects_forms.Identifiers as id
+use Rattle.objects.specs.objects_payload.Aspas.{Aspa}
+use Rattle.objects.specs.objects_payload.Identifiers as id
 use Rattle.objects.specs.resources_chain.declared.choice.ResourcesChoice.TheVariants.{Missing}
-use Rattle.objects_aspa.specs.Resources.{ListsAlone}
+use Rattle.objects_payload.specs.Resources.{ListsAlone}
 use Rattle.objects_built.specs.Builders.{BuilderValue, IsBuilt}
 use Rattle.objects.specs.Written.{aspa}
 

@@ -2,10 +2,10 @@
 use Rattle.std.specs.Prelude.{◌≡◌, ℕ, List, [], ◌∷◌, map}
 use Rattle.objects.specs.bcder_tree.declared.mode.Mode.TheVariants.{Der}
 use Rattle.objects.specs.certs_basics.HandedIn.{Digests}
-use Rattle.objects.specs.objects_forms.Identifiers as id
-use Rattle.objects.specs.objects_forms.Manifests.{Manifest}
+use Rattle.objects.specs.objects_payload.Identifiers as id
+use Rattle.objects.specs.objects_payload.Manifests.{Manifest}
 use Rattle.objects.specs.objects_written.Manifests.{manifest}
-use Rattle.objects.specs.objects_forms.Roas.{Roa, RoaAddress}
+use Rattle.objects.specs.objects_payload.Roas.{Roa, RoaAddress}
 use Rattle.objects.specs.objects_written.Roas.{roa}
 use Rattle.objects.specs.resources_chain.Choices.{IsChoiceOf}
 use Rattle.objects.specs.resources_chain.Claims.{Choice}

@@ -1,12 +1,12 @@
 -- Octets that are taken as values in DER.
 use Rattle.std.specs.Prelude.{◌≡◌, ℕ, List, Result, Ok, Err}
-use Rattle.objects_frame.specs.bcder_tree.declared.mode.Mode.TheVariants.{Der}
+use Rattle.objects_written.specs.bcder_tree.declared.mode.Mode.TheVariants.{Der}
 use Rattle.certs_cert.specs.bcder_source.Errors.{OnContent}
 use Rattle.certs_cert.specs.bcder_source.declared.error.DecodeError.{DecodeError}
-use Rattle.objects_frame.specs.bcder_content.Captures.{CapturesAll}
-use Rattle.objects_frame.specs.bcder_content.Contents.{ValuesLeft}
-use Rattle.objects_frame.specs.bcder_content.Kept.{CapturedValue, SpellsValues}
-use Rattle.objects_frame.specs.bcder_content.Skips.{NotWhole}
+use Rattle.objects_written.specs.bcder_content.Captures.{CapturesAll}
+use Rattle.objects_written.specs.bcder_content.Contents.{ValuesLeft}
+use Rattle.objects_written.specs.bcder_content.Kept.{CapturedValue, SpellsValues}
+use Rattle.objects_written.specs.bcder_content.Skips.{NotWhole}
 
 -- Octets of values that stand in DER.
 abbrev pub in_der : List ℕ → CapturedValue

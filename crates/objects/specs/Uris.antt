@@ -1,10 +1,10 @@
 -- The URIs of files that a manifest lists (RFC 9286 4.2, 6.1).
 use Rattle.std.specs.Prelude.{◌≡◌, ◌∷◌, ℕ, List, [], All, Option, Some, None, Result, Ok, Err}
-use Rattle.certs_uri.specs.Paths.{join}
-use Rattle.certs_uri.specs.Uris.{IsUriOctet}
-use Rattle.certs_uri.specs.declared.error.Error.{Error}
-use Rattle.certs_uri.specs.declared.error.Error.TheVariants.{BadUri, Memory}
-use Rattle.objects_frame.specs.objects_forms.Manifests.{File}
+use Rattle.certs_basics.specs.Paths.{join}
+use Rattle.certs_basics.specs.Uris.{IsUriOctet}
+use Rattle.certs_basics.specs.declared.uri.error.Error.{Error}
+use Rattle.certs_basics.specs.declared.uri.error.Error.TheVariants.{BadUri, Memory}
+use Rattle.objects_written.specs.objects_payload.Manifests.{File}
 
 -- The folder's URI, and the files that are left of a list.
 pub record UrisLeft : Type 0 where

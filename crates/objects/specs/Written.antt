@@ -1,7 +1,7 @@
 -- What is written of provider attestations (draft-ietf-sidrops-aspa-profile 3).
 use Rattle.std.specs.Prelude.{ℕ, List}
 use Rattle.objects.specs.bcder_tree.Tags.{context, sequence_tag}
-use Rattle.objects.specs.objects_forms.Aspas.{Aspa}
+use Rattle.objects.specs.objects_payload.Aspas.{Aspa}
 use Rattle.objects.specs.objects_written.Outputs.{Output, beside, each, inside}
 use Rattle.certs_written.specs.Fields.{version}
 pub use Rattle.objects.specs.objects_written.Roas.{as_id}

@@ -26,5 +26,5 @@ pub use attributes::{EncodeAttributes, MessageDigest};
 pub use content::DecodeContent;
 pub use making::{ManifestBuilder, ManifestError};
 pub use object::{EncodeObject, ObjectValues};
-pub use objects_attributes::SignedAttrs;
+pub use objects_cms::attributes::SignedAttrs;
 pub use uris::{FileUris, ManifestFiles};

@@ -29,7 +29,7 @@
 //! - Digests, verdicts on signatures, keys that sign and clocks are handed in.
 //! - Validation, processing and encoding are calls of traits ([`sigobj::ProcessObject`], [`manifest::ValidateManifest`],
 //!   [`roa::ProcessRoa`], [`aspa::ProcessAspa`], [`sigobj::EncodeObject`], [`roa::EncodeRoa`], [`manifest::EncodeManifest`],
-//!   [`roa::FinalizeRoa`], [`manifest::IntoManifest`] and others), since each is a crate of its own.
+//!   [`roa::FinalizeRoa`], [`manifest::IntoManifest`] and others), since they stand apart from the types' own crates.
 //!
 //! Each part's page has the rest.
 #![tactic(auto)]

@@ -2,7 +2,7 @@
 
 pub use crate::again::{FileUris, ManifestBuilder, ManifestError, ManifestFiles};
 pub use crate::issued::IntoManifest;
-pub use objects_manifest::{
+pub use objects_cms::manifest::{
     FileAndHash, FileList, FileListIter, ManifestContent, ManifestHash, ManifestHashMismatch,
 };
 pub use objects_valid::{Manifest, ValidateManifest};

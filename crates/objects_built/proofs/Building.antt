@@ -5,13 +5,13 @@ use Rattle.objects_built.specs.bcder_content.Kept.{CapturedValue}
 use Rattle.objects_built.specs.certs_basics.Basics.{IsTwentyLong}
 use Rattle.objects_built.specs.certs_basics.HandedIn.{Digests}
 use Rattle.objects_built.specs.certs_basics.Keys.{KeyValue}
-use Rattle.objects_built.specs.certs_specs.Cert.{CertValue, TbsValue}
-use Rattle.certs_again.specs.Laws.{IsLawful}
-use Rattle.certs_built.specs.Tbs.{WritesTbs}
+use Rattle.objects_built.specs.certs_extension.Cert.{CertValue, TbsValue}
+use Rattle.certs.specs.Laws.{IsLawful}
+use Rattle.certs.specs.Tbs.{WritesTbs}
 use Rattle.certs_cert.specs.Written.{WritesCert}
-use Rattle.objects_frame.specs.Attributes.{IsMessage, WritesAttributes, to_sign}
+use Rattle.objects_written.specs.Attributes.{IsMessage, WritesAttributes, to_sign}
 use Rattle.objects_built.specs.Builders.{AreFieldsOf, BuilderValue, IsBuilt, IsSigned, SignsAttributes, WritesObject}
-use Rattle.objects_frame.specs.Frames.{ObjectParts, SignerParts, object}
+use Rattle.objects_written.specs.Frames.{ObjectParts, SignerParts, object}
 
 pub object_told : {E : Type 0} (kind content : List ℕ) (c : CertValue) (attributes k : CapturedValue) (sid octets signature : List ℕ) (s : SignerParts) (o : ObjectParts) → WritesCert c Der k.octets
     → sid ≡ c.tbs.subject_key_identifier → IsTwentyLong sid → octets ≡ sid → s ≡ record { sid = octets; attributes = attributes; signature = signature }

@@ -5,14 +5,14 @@ use Rattle.objects_built.specs.bcder_content.Kept.{CapturedValue}
 use Rattle.objects_built.specs.bcder_oid.Identifiers.{IsIdentifier}
 use Rattle.objects_built.specs.certs_basics.HandedIn.{Digests}
 use Rattle.objects_built.specs.certs_basics.Verdicts.{Verdicts}
-use Rattle.objects_built.specs.certs_specs.Cert.{SignedValue, TbsValue}
-use Rattle.objects_built.specs.certs_specs.CertText.{SpellsCert}
-use Rattle.objects_built.specs.objects_forms.ObjectText.{IsSignedMessage, ObjectText, Sound}
-use Rattle.certs_again.specs.Laws.{BuiltIsSpelled, IsReadable, as_read}
-use Rattle.certs_built.specs.Tbs.{WritesTbs}
-use Rattle.objects_frame.specs.Attributes.{ToSign, WritesAttributes, to_sign}
+use Rattle.objects_built.specs.certs_extension.Cert.{SignedValue, TbsValue}
+use Rattle.objects_built.specs.certs_extension.CertText.{SpellsCert}
+use Rattle.objects_built.specs.objects_payload.ObjectText.{IsSignedMessage, ObjectText, Sound}
+use Rattle.certs.specs.Laws.{BuiltIsSpelled, IsReadable, as_read}
+use Rattle.certs.specs.Tbs.{WritesTbs}
+use Rattle.objects_written.specs.Attributes.{ToSign, WritesAttributes, to_sign}
 use Rattle.objects_built.specs.Builders.{BuilderValue, IsBuilt, IsComplete, IsPadded, built_object}
-use Rattle.objects_frame.proofs.FrameAgain.{parts_again}
+use Rattle.objects_written.proofs.FrameAgain.{parts_again}
 
 -- The certificate's fields are such that they are read again.
 readable : (d : Digests) (b : BuilderValue) (kind content octets : List ℕ) (x : IsBuilt d b kind content octets) → IsComplete b → IsPadded x.key → IsReadable x.cert.tbs

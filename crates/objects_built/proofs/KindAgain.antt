@@ -2,9 +2,9 @@
 use Rattle.std.proofs.Common.{ℕ, List, [], ◌∷◌, refl, sym, ◌∙◌, arith, append-nil}
 use Rattle.objects_built.specs.bcder_tree.Tree.{Tree}
 use Rattle.objects_built.specs.bcder_oid.Identifiers.{IsIdentifier}
-use Rattle.objects_built.specs.objects_forms.Contents.{ReadsAs}
-use Rattle.objects_built.specs.objects_forms.Identifiers as id
-use Rattle.certs_again.specs.Laws.{BuiltIsSpelled}
+use Rattle.objects_built.specs.objects_payload.Contents.{ReadsAs}
+use Rattle.objects_built.specs.objects_payload.Identifiers as id
+use Rattle.certs.specs.Laws.{BuiltIsSpelled}
 use Rattle.objects_built.specs.Builders.{KindIsRead}
 use Rattle.objects_built.proofs.BuiltAgain.{built_again}
 

@@ -3,11 +3,11 @@ use Rattle.std.proofs.Common.{◌≡◌, ℕ, List, Some, Result, Ok, Err, IfOk,
 use Rattle.objects_built.specs.bcder_content.Kept.{CapturedValue}
 use Rattle.objects_built.specs.certs_basics.HandedIn.{Digests}
 use Rattle.objects_built.specs.certs_basics.Keys.{KeyValue, identifier}
-use Rattle.objects_built.specs.certs_specs.Cert.{TbsValue}
-use Rattle.objects_built.specs.certs_specs.declared.KeyUsage.TheVariants.{Ee}
+use Rattle.objects_built.specs.certs_extension.Cert.{TbsValue}
+use Rattle.objects_built.specs.certs_extension.declared.forms.KeyUsage.TheVariants.{Ee}
 use Rattle.objects_built.specs.resources_chain.Claims.{Choice}
 use Rattle.objects_built.specs.resources_chain.declared.claims.Overclaim.TheVariants.{Refuse}
-use Rattle.certs_cert.specs.certs_time.Periods.{Period}
+use Rattle.certs_cert.specs.certs_basics.Periods.{Period}
 use Rattle.certs_cert.specs.Fresh.{IsSubjectFor, fresh}
 use Rattle.objects_built.specs.Builders.{AreFieldsOf, BuilderValue, cert_fields, with_places, with_resources}
 

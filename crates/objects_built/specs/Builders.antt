@@ -12,15 +12,15 @@ use Rattle.objects_built.specs.resources_chain.declared.claims.Overclaim.TheVari
 use Rattle.objects_built.specs.certs_basics.Basics.{IsSmallEnough, IsTwentyLong}
 use Rattle.objects_built.specs.certs_basics.HandedIn.{Digests}
 use Rattle.objects_built.specs.certs_basics.Keys.{KeyValue, identifier}
-use Rattle.objects_built.specs.certs_specs.declared.KeyUsage.TheVariants.{Ee}
-use Rattle.objects_built.specs.certs_specs.Cert.{CertValue, TbsValue}
-use Rattle.certs_again.specs.Laws.{IsLawful, as_read}
+use Rattle.objects_built.specs.certs_extension.declared.forms.KeyUsage.TheVariants.{Ee}
+use Rattle.objects_built.specs.certs_extension.Cert.{CertValue, TbsValue}
+use Rattle.certs.specs.Laws.{IsLawful, as_read}
 use Rattle.certs_cert.specs.Fresh.{IsSubjectFor}
 use Rattle.certs_cert.specs.Written.{WritesCert}
-use Rattle.certs_built.specs.Tbs.{WritesTbs}
-use Rattle.objects_frame.specs.Attributes.{IsMessage, WritesAttributes, to_sign}
-use Rattle.objects_built.specs.objects_forms.ObjectText.{Object}
-use Rattle.objects_frame.specs.Frames.{ObjectParts, object, object_with}
+use Rattle.certs.specs.Tbs.{WritesTbs}
+use Rattle.objects_written.specs.Attributes.{IsMessage, WritesAttributes, to_sign}
+use Rattle.objects_built.specs.objects_payload.ObjectText.{Object}
+use Rattle.objects_written.specs.Frames.{ObjectParts, object, object_with}
 
 -- The fields of its certificate that aren't given by the keys, and the moment of signing.
 pub record BuilderValue : Type 0 where

@@ -4,19 +4,17 @@ ghost use Rattle.std.specs.Prelude.{◌≡◌, IfOk};
 ghost use Rattle.objects_built.specs.bcder_tree.declared.mode.Mode.TheVariants.{Der};
 ghost use Rattle.objects_built.specs.certs_basics.Keys.{identifier};
 ghost use Rattle.objects_built.specs.certs_key.Digesting.{digests_of};
-ghost use Rattle.objects_built.specs.certs_specs.declared.KeyUsage.TheVariants.{Ee};
+ghost use Rattle.objects_built.specs.certs_extension.declared.forms.KeyUsage.TheVariants.{Ee};
 ghost use Rattle.objects_built.specs.resources_chain.declared.claims.Overclaim.TheVariants.{Refuse};
-ghost use Rattle.certs_again.specs.Laws.{IsLawful};
+ghost use Rattle.certs.specs.Laws.{IsLawful};
 ghost use Rattle.certs_cert.specs.Fresh.{IsSubjectFor, fresh};
-ghost use Rattle.certs_built.specs.Tbs.{WritesTbs};
-ghost use Rattle.objects_frame.specs.Attributes.{WritesAttributes, to_sign};
-ghost use Rattle.objects_built.specs.Builders.{AreFieldsOf, IsBuilt, IsSigned};
-ghost use Rattle.objects_built.specs.Builders.{SignsAttributes, WritesObject};
-ghost use Rattle.objects_built.specs.Builders.{with_places, with_resources};
+ghost use Rattle.certs.specs.Tbs.{WritesTbs};
+ghost use Rattle.objects_written.specs.Attributes.{WritesAttributes, to_sign};
+ghost use Rattle.objects_built.specs.Builders.{AreFieldsOf, IsBuilt, IsSigned, SignsAttributes, WritesObject, with_places, with_resources};
 
 use crate::builder::{Holdings, Names, Places, SignedObjectBuilder};
-use certs_again::fields_are_lawful;
-use certs_built::BuildCert;
+use certs::again::fields_are_lawful;
+use certs::built::BuildCert;
 use certs_cert::{Cert, TbsCert};
 use certs_extension::{KeyUsage, Overclaim, Time, Validity};
 use certs_key::{
@@ -24,7 +22,7 @@ use certs_key::{
     Signer, SigningError,
 };
 use certs_written::{Captured, EncodeError, Mode, Values};
-use objects_frame::{ObjectValue, SignerValue, signed_attributes, signed_message};
+use objects_written::frame::{ObjectValue, SignerValue, signed_attributes, signed_message};
 use std::alloc::{AllocError, Global};
 
 // Why nothing was signed, where something can't be written.

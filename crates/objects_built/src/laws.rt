@@ -4,15 +4,14 @@ ghost use Rattle.std.specs.Prelude.{◌≡◌, ◌≤◌, ℕ, List, true};
 ghost use Rattle.objects_built.specs.bcder_oid.Identifiers.{IsIdentifier};
 ghost use Rattle.objects_built.specs.certs_basics.HandedIn.{Digests};
 ghost use Rattle.objects_built.specs.certs_basics.Verdicts.{Verdicts};
-ghost use Rattle.objects_built.specs.objects_forms.Aspas.{AspaText, IsAspa};
-ghost use Rattle.objects_built.specs.objects_forms.Identifiers.{manifest, provider_authorization, route_origin};
-ghost use Rattle.objects_built.specs.objects_forms.Manifests.{IsManifest, ManifestText};
-ghost use Rattle.objects_built.specs.objects_forms.ObjectText.{IsSignedMessage, ObjectText, Sound};
-ghost use Rattle.objects_built.specs.objects_forms.Roas.{IsRoa, RoaText};
-ghost use Rattle.objects_built.specs.Builders.{BuilderValue, IsBuilt, IsComplete, IsPadded};
-ghost use Rattle.objects_built.specs.Builders.{KindIsRead, built_object};
+ghost use Rattle.objects_built.specs.objects_payload.Aspas.{AspaText, IsAspa};
+ghost use Rattle.objects_built.specs.objects_payload.Identifiers.{manifest, provider_authorization, route_origin};
+ghost use Rattle.objects_built.specs.objects_payload.Manifests.{IsManifest, ManifestText};
+ghost use Rattle.objects_built.specs.objects_payload.ObjectText.{IsSignedMessage, ObjectText, Sound};
+ghost use Rattle.objects_built.specs.objects_payload.Roas.{IsRoa, RoaText};
+ghost use Rattle.objects_built.specs.Builders.{BuilderValue, IsBuilt, IsComplete, IsPadded, KindIsRead, built_object};
 
-use certs_again::laws::what_is_built_is_read;
+use certs::again::laws::what_is_built_is_read;
 
 /// A signed object that was built is read again, strictly, as the object that was built: where the type of its content is an
 /// object identifier, its certificate has some kind of resources, IPv4 ones over whole addresses, and the unused bits of the

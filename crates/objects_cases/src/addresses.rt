@@ -3,7 +3,7 @@
 use crate::values::say_written;
 use answers::{Answer, pieces_of, unknown};
 use anyhow::Result;
-use objects_kinds::Roa;
+use objects_valid::kinds::Roa;
 use objects_written::EncodeAddresses;
 use std::alloc::Global;
 

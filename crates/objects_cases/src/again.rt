@@ -7,7 +7,7 @@ use bcder::Mode;
 use bcder::encode::Values;
 use bytes::Bytes;
 use objects::sigobj::{EncodeObject, ObjectValues};
-use objects_kinds::{Aspa, Manifest, Roa, SignedObject};
+use objects_valid::kinds::{Aspa, Manifest, Roa, SignedObject};
 use std::alloc::Global;
 
 // What is written of values in a mode: whether it is the octets that are given, or which else.

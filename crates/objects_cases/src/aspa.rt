@@ -3,7 +3,7 @@
 use crate::values::say_written;
 use answers::{Answer, pieces_of, unknown};
 use anyhow::Result;
-use objects_aspa::AsProviderAttestation;
+use objects_payload::aspa::AsProviderAttestation;
 use std::alloc::Global;
 
 // The customer, how many providers there are, each of them, and how many a set has of them.

@@ -3,8 +3,8 @@
 use crate::values::{moment, say_moment};
 use answers::{Answer, pieces_of, unknown};
 use anyhow::{Result, anyhow};
-use objects_manifest::file::is_file_name;
-use objects_manifest::{FileAndHash, ManifestContent};
+use objects_cms::manifest::file::is_file_name;
+use objects_cms::manifest::{FileAndHash, ManifestContent};
 use std::alloc::Global;
 
 // A file's name, and its hash.

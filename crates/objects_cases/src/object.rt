@@ -7,7 +7,7 @@ use answers::{Answer, pieces_of, unknown};
 use anyhow::Result;
 use bcder::OctetString;
 use certs_cert::Cert;
-use objects_kinds::{Aspa, Manifest, Roa, SignedObject, SignerInfo};
+use objects_valid::kinds::{Aspa, Manifest, Roa, SignedObject, SignerInfo};
 use sha2::{Digest, Sha256};
 use std::alloc::Global;
 use std::str::FromStr;

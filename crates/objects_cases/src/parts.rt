@@ -6,7 +6,7 @@ use anyhow::Result;
 use bcder::Mode;
 use bcder::decode::{Constructed, Decode, DecodeError, SliceSource};
 use objects::sigobj::{DecodeContent, EncodeAttributes, SignedAttrs};
-use objects_kinds::SignedObject;
+use objects_valid::kinds::SignedObject;
 use std::alloc::Global;
 use std::convert::Infallible;
 

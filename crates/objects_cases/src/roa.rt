@@ -2,7 +2,7 @@
 
 use answers::{Answer, pieces_of, unknown};
 use anyhow::Result;
-use objects_roa::{RoaIpAddresses, RouteOriginAttestation};
+use objects_payload::roa::{RoaIpAddresses, RouteOriginAttestation};
 use std::alloc::Global;
 
 // How many addresses a family has, and the greatest length of each, where one stands there.

@@ -1,11 +1,11 @@
 -- No key stands in front.
 use Rattle.std.proofs.Common.{◌≡◌, ◌∙◌, ℕ, List, sym, subst}
-use Rattle.objects_forms.specs.bcder_tree.declared.mode.Mode.TheVariants.{Der}
-use Rattle.objects_forms.specs.bcder_tree.Front.{Front}
-use Rattle.objects_forms.specs.bcder_tree.Tree.{Tree}
-use Rattle.objects_forms.specs.bcder_content.Texts.{ReadsFront}
-use Rattle.objects_forms.specs.certs_basics.Keys.{KeyValue, IsKey}
-use Rattle.objects_forms.proofs.of_bcder_content.Fronts.{front_lacks}
+use Rattle.objects_payload.specs.bcder_tree.declared.mode.Mode.TheVariants.{Der}
+use Rattle.objects_payload.specs.bcder_tree.Front.{Front}
+use Rattle.objects_payload.specs.bcder_tree.Tree.{Tree}
+use Rattle.objects_payload.specs.bcder_content.Texts.{ReadsFront}
+use Rattle.objects_payload.specs.certs_basics.Keys.{KeyValue, IsKey}
+use Rattle.objects_payload.proofs.of_bcder_content.Fronts.{front_lacks}
 use Rattle.certs_key.specs.bcder_source.Errors.{OnContent}
 use Rattle.certs_key.specs.bcder_source.declared.error.DecodeError.{DecodeError}
 use Rattle.objects_locator.specs.Faults.{IsBase64, HasNoKey}

@@ -7,7 +7,7 @@ use Rattle.base64.specs.GeneralPurpose.{encode_of, decode_of, IsBytes, IsStrict,
 use Rattle.base64.specs.declared.decode.DecodeError.{DecodeError}
 use Rattle.base64.specs.declared.decode.DecodeAllocError.{DecodeAllocError}
 use Rattle.base64.specs.declared.decode.DecodeAllocError.TheVariants.{DecodeError as Failed}
-use Rattle.objects_forms.specs.Locators.{base64}
+use Rattle.objects_payload.specs.Locators.{base64}
 use Rattle.std.specs.Prelude.{codes}
 
 abbrev table : List ℕ

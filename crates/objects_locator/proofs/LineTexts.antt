@@ -3,7 +3,7 @@ use Rattle.std.proofs.Common.{◌≡◌, ◌≢◌, ◌⊎◌, inl, inr, ℕ, su
 use Rattle.std.specs.List.{position_or_len}
 use Rattle.std.proofs.lemmas.List.Elements.{All-nil, All-cons, All-append, All-head, All-tail}
 use Rattle.std.proofs.lemmas.Bool.Decides.{nat_tests}
-use Rattle.objects_forms.specs.Locators.{NoReturnAtEnd, EndsLine, AreLines, IsComment}
+use Rattle.objects_payload.specs.Locators.{NoReturnAtEnd, EndsLine, AreLines, IsComment}
 use Rattle.objects_locator.specs.Lines.{IsEndedBy, HasLine, NoLine, HasComment, NoComment, HasComments}
 
 -- No LF.

@@ -1,9 +1,9 @@
 -- URIs on lines.
 use Rattle.std.proofs.Common.{◌≡◌, ◌≢◌, ◌↔◌, inl, inr, ℕ, Bool, true, false, IsTrue, bytes_eq, List, [], ◌∷◌, ◌++◌, map, take, get_or, length, ◌==◌, Result, Ok, Err, IsErr, IsErrAnd, refl, sym, ap, ◌∙◌, subst, append_assoc, arith, codes}
 use Rattle.std.proofs.lemmas.List.Elements.{All-nil, All-cons, All-append, All-head}
-use Rattle.certs_uri.proofs.UriTexts.{HasScheme-from_rsync, HasScheme-from_https}
-use Rattle.objects_forms.specs.certs_uri.Uris.{lower, IsHttps, IsUri}
-use Rattle.objects_forms.specs.Locators.{is_https}
+use Rattle.certs_basics.proofs.UriTexts.{HasScheme-from_rsync, HasScheme-from_https}
+use Rattle.objects_payload.specs.certs_basics.Uris.{lower, IsHttps, IsUri}
+use Rattle.objects_payload.specs.Locators.{is_https}
 use Rattle.objects_locator.specs.Lines.{HasLine}
 use Rattle.std.proofs.lemmas.List.{map-append}
 use Rattle.objects_locator.specs.declared.error.ReadError.{ReadError}

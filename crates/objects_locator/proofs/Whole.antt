@@ -1,9 +1,9 @@
 -- What is read of a locator is what it says, and a fault leaves no locator.
 use Rattle.std.proofs.Common.{◌≡◌, ◌≢◌, ℕ, List, [], ◌∷◌, ◌++◌, refl, sym, ap, ◌∙◌, subst, append_assoc, All, Err}
 use Rattle.std.proofs.lemmas.List.Elements.{All-head, All-tail}
-use Rattle.objects_forms.specs.certs_basics.Keys.{KeyValue}
-use Rattle.objects_forms.specs.certs_uri.Uris.{lower, IsUri}
-use Rattle.objects_forms.specs.Locators.{EndsLine, AreLines, IsComment, LocatorText}
+use Rattle.objects_payload.specs.certs_basics.Keys.{KeyValue}
+use Rattle.objects_payload.specs.certs_basics.Uris.{lower, IsUri}
+use Rattle.objects_payload.specs.Locators.{EndsLine, AreLines, IsComment, LocatorText}
 use Rattle.objects_locator.specs.declared.error.ReadError.{ReadError}
 use Rattle.objects_locator.specs.declared.error.ReadError.TheVariants.{Io, UnexpectedEof, BadUri, BadKeyInfoEncoding, BadKeyInfo, Memory}
 use Rattle.objects_locator.specs.Lines.{HasLine, NoLine, NoComment, Commented}

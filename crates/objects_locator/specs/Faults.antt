@@ -2,11 +2,11 @@
 use Rattle.std.specs.Prelude.{◌≡◌, ◌≢◌, ℕ, ◌<◌, not, List, [], ◌++◌, map, filter, All, Result, Ok, Err, Vec}
 use denote.Ref.{Bor}
 use Rattle.std.specs.declared.alloc.Global.{Global}
-use Rattle.objects_forms.specs.bcder_tree.declared.mode.Mode.TheVariants.{Der}
-use Rattle.objects_forms.specs.bcder_content.Texts.{ReadsFront}
-use Rattle.objects_forms.specs.certs_basics.Keys.{KeyValue, IsKey}
-use Rattle.objects_forms.specs.certs_uri.Uris.{IsUri}
-use Rattle.objects_forms.specs.Locators.{AreLines, base64, is_dropped}
+use Rattle.objects_payload.specs.bcder_tree.declared.mode.Mode.TheVariants.{Der}
+use Rattle.objects_payload.specs.bcder_content.Texts.{ReadsFront}
+use Rattle.objects_payload.specs.certs_basics.Keys.{KeyValue, IsKey}
+use Rattle.objects_payload.specs.certs_basics.Uris.{IsUri}
+use Rattle.objects_payload.specs.Locators.{AreLines, base64, is_dropped}
 use Rattle.objects_locator.specs.declared.error.ReadError.{ReadError}
 use Rattle.objects_locator.specs.declared.error.ReadError.TheVariants.{Io, UnexpectedEof, BadUri, BadKeyInfoEncoding, BadKeyInfo, Memory}
 use Rattle.objects_locator.specs.declared.uri.TalUri.{TalUri}

@@ -1,6 +1,6 @@
 -- Lines in front of a text, and the comments of a locator (RFC 8630 2.2).
 use Rattle.std.specs.Prelude.{◌≡◌, ◌≢◌, ◌⊎◌, ℕ, List, [], ◌∷◌, ◌++◌, All}
-use Rattle.objects_forms.specs.Locators.{NoReturnAtEnd, EndsLine, AreLines, IsComment}
+use Rattle.objects_payload.specs.Locators.{NoReturnAtEnd, EndsLine, AreLines, IsComment}
 
 -- What stands before LF: the line, or the line and CR, which is the line's end then.
 abbrev pub IsEndedBy : List ℕ → List ℕ → Type 0

@@ -2,8 +2,8 @@
 use Rattle.std.specs.Prelude.{◌≡◌, ℕ, ◌^◌, ◌<◌, ◌≤◌, List, length, Option, Result, Ok, Err, String, Vec}
 use Rattle.std.specs.declared.alloc.Global.{Global}
 use Rattle.std.specs.Io.KnownBytes.{Consumes, IsAtEnd}
-use Rattle.objects_forms.specs.certs_basics.Keys.{KeyValue}
-use Rattle.objects_forms.specs.Locators.{LocatorText}
+use Rattle.objects_payload.specs.certs_basics.Keys.{KeyValue}
+use Rattle.objects_payload.specs.Locators.{LocatorText}
 use Rattle.objects_locator.specs.declared.error.ReadError.{ReadError}
 use Rattle.objects_locator.specs.declared.error.ReadError.TheVariants.{Io, UnexpectedEof, BadUri, BadKeyInfoEncoding, BadKeyInfo, Memory}
 use Rattle.objects_locator.specs.Faults.{IsFault}

@@ -1,8 +1,8 @@
 -- URIs of locators.
 use Rattle.std.specs.Prelude.{◌≡◌, ℕ, List, Result, Ok, Err}
-use Rattle.certs_uri.specs.Uris.{IsUri}
-use Rattle.certs_uri.specs.declared.error.Error.{Error}
-use Rattle.certs_uri.specs.declared.error.Error.TheVariants.{BadUri, Memory}
+use Rattle.certs_basics.specs.Uris.{IsUri}
+use Rattle.certs_basics.specs.declared.uri.error.Error.{Error}
+use Rattle.certs_basics.specs.declared.uri.error.Error.TheVariants.{BadUri, Memory}
 use Rattle.objects_locator.specs.declared.uri.TalUri.{TalUri}
 use Rattle.objects_locator.specs.declared.uri.TalUri.TheVariants.{Rsync, Https}
 

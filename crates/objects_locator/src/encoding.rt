@@ -1,7 +1,7 @@
 //! Octets that are written in base 64, with white space between its letters (RFC 4648 4, RFC 8630 2.2).
 
 ghost use Rattle.std.specs.Prelude.{◌≡◌, IfOk, filter, not};
-ghost use Rattle.objects_locator.specs.objects_forms.Locators.{is_dropped as drops};
+ghost use Rattle.objects_locator.specs.objects_payload.Locators.{is_dropped as drops};
 ghost use Rattle.objects_locator.specs.Faults.{Decodes};
 
 use crate::error::ReadError;

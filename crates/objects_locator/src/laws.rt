@@ -2,7 +2,7 @@
 
 ghost use Rattle.std.specs.Prelude.{◌≡◌, ◌≢◌, List, ℕ};
 ghost use Rattle.objects_locator.specs.certs_basics.Keys.{KeyValue};
-ghost use Rattle.objects_locator.specs.objects_forms.Locators.{LocatorText, https_first};
+ghost use Rattle.objects_locator.specs.objects_payload.Locators.{LocatorText, https_first};
 ghost use Rattle.objects_locator.specs.declared.error.ReadError.{ReadError};
 ghost use Rattle.objects_locator.specs.declared.error.ReadError.TheVariants.{Memory};
 ghost use Rattle.objects_locator.specs.Faults.{IsFault};

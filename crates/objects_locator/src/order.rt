@@ -1,7 +1,7 @@
 //! The order in which URIs are tried.
 
 ghost use Rattle.std.specs.Prelude.{◌≡◌, ◌≤◌, ◌++◌, filter, length, map, not};
-ghost use Rattle.objects_locator.specs.objects_forms.Locators.{https_first, is_https as has_https};
+ghost use Rattle.objects_locator.specs.objects_payload.Locators.{https_first, is_https as has_https};
 ghost use Rattle.objects_locator.specs.Uris.{text_of};
 
 use crate::uri::TalUri;

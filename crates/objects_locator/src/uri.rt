@@ -1,14 +1,14 @@
 //! URIs of locators.
 
 ghost use Rattle.std.specs.Prelude.{◌≡◌, ◌≢◌, ◌↔◌, IsTrue, IfErr, Some, string_bytes};
-ghost use Rattle.objects_locator.specs.certs_uri.Uris.{IsRsync, IsHttps, IsUri};
-ghost use Rattle.objects_locator.specs.certs_uri.declared.error.Error.TheVariants.{Memory};
-ghost use Rattle.objects_locator.specs.objects_forms.Locators.{is_https as has_https};
+ghost use Rattle.objects_locator.specs.certs_basics.Uris.{IsRsync, IsHttps, IsUri};
+ghost use Rattle.objects_locator.specs.certs_basics.declared.uri.error.Error.TheVariants.{Memory};
+ghost use Rattle.objects_locator.specs.objects_payload.Locators.{is_https as has_https};
 ghost use Rattle.objects_locator.specs.Uris.{MakesUri, text_of};
 ghost use Rattle.objects_locator.specs.declared.uri.TalUri.TheVariants as kinds;
 
 use bytes::Bytes;
-use certs_uri::{Error, Https, Rsync, grammar};
+use certs_basics::uri::{Error, Https, Rsync, grammar};
 use std::alloc::{AllocError, Global};
 use std::fmt;
 

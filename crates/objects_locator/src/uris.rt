@@ -5,7 +5,7 @@ ghost use Rattle.objects_locator.specs.Faults.{ReadsUri, TakesUris};
 use crate::error::ReadError;
 use crate::lines::split_line;
 use crate::uri::TalUri;
-use certs_uri::Error;
+use certs_basics::uri::Error;
 use std::alloc::Global;
 
 // The URI on a line.

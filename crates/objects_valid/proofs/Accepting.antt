@@ -4,24 +4,24 @@ use Rattle.std.specs.Prelude.{◌↔◌, IfErr, IfOk, IsOk, String}
 use Rattle.std.specs.declared.alloc.Global.{Global}
 use Rattle.certs_verify.specs.certs_basics.HandedIn.{Digests}
 use Rattle.certs_verify.specs.certs_basics.Verdicts.{Verdicts}
-use Rattle.certs_verify.specs.certs_errors.declared.validation.ValidationError.{ValidationError}
-use Rattle.certs_verify.specs.certs_errors.declared.validation.ValidationError.TheVariants.{Verification}
-use Rattle.certs_verify.specs.certs_errors.declared.verification.VerificationError.{VerificationError}
-use Rattle.certs_verify.specs.certs_errors.declared.verification.VerificationError.TheVariants as error
-use Rattle.objects_valid.specs.certs_specs.Calls.{Fault, inspected, verified, wants_memory, VerifiesIssued}
-use Rattle.objects_valid.specs.certs_specs.Cert.{CertValue}
-use Rattle.objects_valid.specs.certs_specs.Kinds.{Kind}
-use Rattle.objects_valid.specs.certs_specs.Profiles.{FailsFirst, Profile}
-use Rattle.objects_valid.specs.certs_specs.Verified.{HolderValue, PassesAt, held_by, issued_tests}
-use Rattle.objects_valid.specs.certs_specs.declared.InspectionError.{InspectionError}
-use Rattle.objects_valid.specs.certs_specs.declared.Role.{Role}
+use Rattle.certs_verify.specs.certs_x509.declared.errors.validation.ValidationError.{ValidationError}
+use Rattle.certs_verify.specs.certs_x509.declared.errors.validation.ValidationError.TheVariants.{Verification}
+use Rattle.certs_verify.specs.certs_x509.declared.errors.verification.VerificationError.{VerificationError}
+use Rattle.certs_verify.specs.certs_x509.declared.errors.verification.VerificationError.TheVariants as error
+use Rattle.objects_valid.specs.certs_extension.Calls.{Fault, inspected, verified, wants_memory, VerifiesIssued}
+use Rattle.objects_valid.specs.certs_extension.Cert.{CertValue}
+use Rattle.objects_valid.specs.certs_extension.Kinds.{Kind}
+use Rattle.objects_valid.specs.certs_extension.Profiles.{FailsFirst, Profile}
+use Rattle.objects_valid.specs.certs_extension.Verified.{HolderValue, PassesAt, held_by, issued_tests}
+use Rattle.objects_valid.specs.certs_extension.declared.forms.InspectionError.{InspectionError}
+use Rattle.objects_valid.specs.certs_extension.declared.forms.Role.{Role}
 use Rattle.certs_verify.specs.Answers.{Fails, fault_of}
 use Rattle.certs_verify.specs.Holders.{ResourceCertValue}
 use Rattle.certs_verify.specs.Validated.{Inspects, TellsNumbers}
 use Rattle.certs_verify.specs.Words.{Meets, RefusedBy, TellsOutside}
 use Rattle.certs_verify.specs.declared.refused.Refused.{Refused}
-use Rattle.objects_kinds.specs.objects_forms.ObjectText.{Object, Sound}
-use Rattle.objects_verify.specs.Content.{FailsContent}
+use Rattle.objects_valid.specs.objects_payload.ObjectText.{Object, Sound}
+use Rattle.objects_cms.specs.Content.{FailsContent}
 use Rattle.objects_valid.specs.Accepted.{FailsBelow, ValidatesContent, ValidatesObject, VerifiesBelow}
 use Rattle.objects_valid.specs.Together.{joined, parted}
 

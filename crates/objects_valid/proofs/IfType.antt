@@ -2,10 +2,10 @@
 use Rattle.std.proofs.Common.{◌≡◌, ◌∙◌, ap, subst, sym, Bool, true, false, IsTrue, ◌↔◌, ℕ, List, Result, Ok, Err}
 use Rattle.std.specs.Prelude.{IsErr, IsErrAnd}
 use Rattle.bcder.proofs.of_bcder_content.Taking.{weaker}
-use Rattle.objects_verify.specs.bcder_source.Errors.{OnContent}
-use Rattle.objects_verify.specs.bcder_source.declared.error.DecodeError.{DecodeError}
-use Rattle.objects_forms.proofs.Objects.{one_object}
-use Rattle.objects_valid.specs.objects_forms.ObjectText.{Object, ObjectText}
+use Rattle.objects_cms.specs.bcder_source.Errors.{OnContent}
+use Rattle.objects_cms.specs.bcder_source.declared.error.DecodeError.{DecodeError}
+use Rattle.objects_payload.proofs.Objects.{one_object}
+use Rattle.objects_valid.specs.objects_payload.ObjectText.{Object, ObjectText}
 use Rattle.objects_valid.specs.IfType.{DecodesIfType, IsOfType}
 
 -- What is said of octets holds of equal ones.

@@ -4,13 +4,13 @@ use Rattle.std.specs.Prelude.{IfErr, IfOk, String}
 use Rattle.std.specs.declared.alloc.Global.{Global}
 use Rattle.certs_verify.specs.certs_basics.HandedIn.{Digests}
 use Rattle.certs_verify.specs.certs_basics.Verdicts.{Verdicts}
-use Rattle.certs_verify.specs.certs_errors.declared.validation.ValidationError.{ValidationError}
-use Rattle.objects_valid.specs.certs_specs.Cert.{CertValue}
-use Rattle.objects_valid.specs.certs_specs.Verified.{HolderValue}
-use Rattle.objects_valid.specs.certs_specs.declared.Role.TheVariants.{Ee}
+use Rattle.certs_verify.specs.certs_x509.declared.errors.validation.ValidationError.{ValidationError}
+use Rattle.objects_valid.specs.certs_extension.Cert.{CertValue}
+use Rattle.objects_valid.specs.certs_extension.Verified.{HolderValue}
+use Rattle.objects_valid.specs.certs_extension.declared.forms.Role.TheVariants.{Ee}
 use Rattle.certs_verify.specs.Holders.{ResourceCertValue}
-use Rattle.objects_kinds.specs.objects_forms.Aspas.{Aspa}
-use Rattle.objects_kinds.specs.objects_forms.ObjectText.{Object}
+use Rattle.objects_valid.specs.objects_payload.Aspas.{Aspa}
+use Rattle.objects_valid.specs.objects_payload.ObjectText.{Object}
 use Rattle.objects_valid.specs.Accepted.{AcceptsObject, FailsObject}
 use Rattle.objects_valid.specs.Processed.{Answers, CoversAspa, Failing, FailsAny, FailsAspa, FailsTest, Passing, PassesAny, PassesAspa, PassesTest, Processes, Test}
 use Rattle.objects_valid.specs.Together.{joined_if}

@@ -2,11 +2,11 @@
 use Rattle.std.proofs.Common.{Bool, Result, Ok, Err}
 use Rattle.certs_verify.specs.certs_basics.HandedIn.{Digests}
 use Rattle.certs_verify.specs.certs_basics.Verdicts.{Verdicts}
-use Rattle.certs_verify.specs.certs_errors.declared.validation.ValidationError.{ValidationError}
-use Rattle.certs_verify.specs.certs_errors.declared.validation.ValidationError.TheVariants.{Inspection, Verification}
-use Rattle.objects_valid.specs.certs_specs.Profiles.{Profile}
-use Rattle.objects_valid.specs.certs_specs.declared.Role.{Role}
-use Rattle.objects_kinds.specs.objects_forms.ObjectText.{Object}
+use Rattle.certs_verify.specs.certs_x509.declared.errors.validation.ValidationError.{ValidationError}
+use Rattle.certs_verify.specs.certs_x509.declared.errors.validation.ValidationError.TheVariants.{Inspection, Verification}
+use Rattle.objects_valid.specs.certs_extension.Profiles.{Profile}
+use Rattle.objects_valid.specs.certs_extension.declared.forms.Role.{Role}
+use Rattle.objects_valid.specs.objects_payload.ObjectText.{Object}
 use Rattle.objects_valid.specs.Accepted.{VerifiesSigned}
 use Rattle.objects_valid.specs.Content.{VerifiesSound}
 

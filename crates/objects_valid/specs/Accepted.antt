@@ -2,16 +2,16 @@
 use Rattle.std.specs.Prelude.{◌≡◌, ◌⊎◌, ℕ, Bool, Result, Ok, Err}
 use Rattle.certs_verify.specs.certs_basics.HandedIn.{Digests}
 use Rattle.certs_verify.specs.certs_basics.Verdicts.{Verdicts}
-use Rattle.certs_verify.specs.certs_errors.declared.validation.ValidationError.{ValidationError}
-use Rattle.certs_verify.specs.certs_errors.declared.validation.ValidationError.TheVariants as error
-use Rattle.objects_valid.specs.certs_specs.Cert.{CertValue}
-use Rattle.objects_valid.specs.certs_specs.Profiles.{FailsFirst, Profile}
-use Rattle.objects_valid.specs.certs_specs.Verified.{HolderValue, HoldsBelow, IsIssuedAt, PassesAt, held_by, issued_tests}
-use Rattle.objects_valid.specs.certs_specs.declared.Role.{Role}
+use Rattle.certs_verify.specs.certs_x509.declared.errors.validation.ValidationError.{ValidationError}
+use Rattle.certs_verify.specs.certs_x509.declared.errors.validation.ValidationError.TheVariants as error
+use Rattle.objects_valid.specs.certs_extension.Cert.{CertValue}
+use Rattle.objects_valid.specs.certs_extension.Profiles.{FailsFirst, Profile}
+use Rattle.objects_valid.specs.certs_extension.Verified.{HolderValue, HoldsBelow, IsIssuedAt, PassesAt, held_by, issued_tests}
+use Rattle.objects_valid.specs.certs_extension.declared.forms.Role.{Role}
 use Rattle.certs_verify.specs.Answers.{Fails, fault_of}
 use Rattle.certs_verify.specs.Holders.{ResourceCertValue}
-use Rattle.objects_kinds.specs.objects_forms.ObjectText.{Object, Sound}
-use Rattle.objects_verify.specs.Content.{FailsContent}
+use Rattle.objects_valid.specs.objects_payload.ObjectText.{Object, Sound}
+use Rattle.objects_cms.specs.Content.{FailsContent}
 
 -- The object's certificate has the form of its role, its signer signed the content, and the issuer issued the certificate,
 -- which is valid at the moment and claims what it may; h is that certificate with what it holds.

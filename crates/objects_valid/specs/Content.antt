@@ -2,10 +2,10 @@
 use Rattle.std.specs.Prelude.{Result, Ok, Err}
 use Rattle.certs_verify.specs.certs_basics.HandedIn.{Digests}
 use Rattle.certs_verify.specs.certs_basics.Verdicts.{Verdicts}
-use Rattle.certs_verify.specs.certs_errors.declared.validation.ValidationError.{ValidationError}
-use Rattle.certs_verify.specs.certs_errors.declared.validation.ValidationError.TheVariants as error
-use Rattle.objects_kinds.specs.objects_forms.ObjectText.{Object, Sound}
-use Rattle.objects_verify.specs.Content.{FailsContent}
+use Rattle.certs_verify.specs.certs_x509.declared.errors.validation.ValidationError.{ValidationError}
+use Rattle.certs_verify.specs.certs_x509.declared.errors.validation.ValidationError.TheVariants as error
+use Rattle.objects_valid.specs.objects_payload.ObjectText.{Object, Sound}
+use Rattle.objects_cms.specs.Content.{FailsContent}
 
 abbrev pub FailsSound : Digests → Verdicts → Object → ValidationError → Type 0
 FailsSound d good o (error.Inspection t) = ⊥

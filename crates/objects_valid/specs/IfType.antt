@@ -1,8 +1,8 @@
 -- What a reader of signed objects answers that is asked for a type of content (RFC 6488 2.1.3.1).
 use Rattle.std.specs.Prelude.{◌≡◌, Bool, ℕ, List, Result, Ok, Err}
-use Rattle.objects_verify.specs.bcder_source.Errors.{OnContent}
-use Rattle.objects_verify.specs.bcder_source.declared.error.DecodeError.{DecodeError}
-use Rattle.objects_valid.specs.objects_forms.ObjectText.{Object, ObjectText}
+use Rattle.objects_cms.specs.bcder_source.Errors.{OnContent}
+use Rattle.objects_cms.specs.bcder_source.declared.error.DecodeError.{DecodeError}
+use Rattle.objects_valid.specs.objects_payload.ObjectText.{Object, ObjectText}
 
 -- The octets are that object, whose content is of that type.
 pub record IsOfType (content_type : List ℕ) (strict : Bool) (octets : List ℕ) (o : Object) : Type 0 where

@@ -3,18 +3,18 @@
 use Rattle.std.specs.Prelude.{◌≡◌, ◌≢◌, ◌⊎◌, ℕ, Bool, List, Result, Ok, Err}
 use Rattle.certs_verify.specs.certs_basics.HandedIn.{Digests}
 use Rattle.certs_verify.specs.certs_basics.Verdicts.{Verdicts}
-use Rattle.certs_verify.specs.certs_errors.declared.validation.ValidationError.{ValidationError}
-use Rattle.certs_verify.specs.certs_errors.declared.validation.ValidationError.TheVariants.{Verification}
-use Rattle.certs_verify.specs.certs_errors.declared.verification.VerificationError.TheVariants.{Memory, Refused, Uncovered}
-use Rattle.objects_valid.specs.certs_specs.Verified.{HolderValue}
-use Rattle.objects_valid.specs.certs_specs.declared.Role.TheVariants.{Ee}
+use Rattle.certs_verify.specs.certs_x509.declared.errors.validation.ValidationError.{ValidationError}
+use Rattle.certs_verify.specs.certs_x509.declared.errors.validation.ValidationError.TheVariants.{Verification}
+use Rattle.certs_verify.specs.certs_x509.declared.errors.verification.VerificationError.TheVariants.{Memory, Refused, Uncovered}
+use Rattle.objects_valid.specs.certs_extension.Verified.{HolderValue}
+use Rattle.objects_valid.specs.certs_extension.declared.forms.Role.TheVariants.{Ee}
 use Rattle.certs_verify.specs.resources_chain.Sets.{InRuns}
 use Rattle.certs_verify.specs.Holders.{ResourceCertValue}
-use Rattle.objects_kinds.specs.Kinds.{KindValue}
-use Rattle.objects_kinds.specs.objects_forms.Aspas.{Aspa}
-use Rattle.objects_kinds.specs.objects_forms.ObjectText.{Object}
-use Rattle.objects_kinds.specs.objects_forms.Roas.{Roa}
-use Rattle.objects_covered.specs.Covered.{IsCoveredAspa, IsCoveredRoa}
+use Rattle.objects_valid.specs.Kinds.{KindValue}
+use Rattle.objects_valid.specs.objects_payload.Aspas.{Aspa}
+use Rattle.objects_valid.specs.objects_payload.ObjectText.{Object}
+use Rattle.objects_valid.specs.objects_payload.Roas.{Roa}
+use Rattle.objects_payload.specs.Covered.{IsCoveredAspa, IsCoveredRoa}
 use Rattle.objects_valid.specs.Accepted.{AcceptsObject, FailsObject}
 
 -- What passes tests after an object's own, and which of them fails first, by what its certificate holds.

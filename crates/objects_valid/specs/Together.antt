@@ -1,6 +1,6 @@
 -- What was validated, together with its content or alone.
 use Rattle.std.specs.Prelude.{Result, Ok, Err}
-use Rattle.certs_verify.specs.certs_errors.declared.validation.ValidationError.{ValidationError}
+use Rattle.certs_verify.specs.certs_x509.declared.errors.validation.ValidationError.{ValidationError}
 use Rattle.certs_verify.specs.Holders.{ResourceCertValue}
 
 -- With a content; else the error.

@@ -2,10 +2,10 @@
 
 ghost use Rattle.std.specs.Prelude.{◌≡◌, ◌↔◌, IfErr, IsTrue};
 ghost use Rattle.std.specs.Fn.{FnOnceReturnsAt};
-ghost use Rattle.objects_valid.specs.certs_specs.Cert.{CertValue};
-ghost use Rattle.objects_valid.specs.certs_specs.Verified.{HolderValue, held_by};
-ghost use Rattle.certs_verify.specs.certs_errors.declared.validation.ValidationError.TheVariants.{Verification};
-ghost use Rattle.certs_verify.specs.certs_errors.declared.verification.VerificationError.TheVariants.{Memory};
+ghost use Rattle.objects_valid.specs.certs_extension.Cert.{CertValue};
+ghost use Rattle.objects_valid.specs.certs_extension.Verified.{HolderValue, held_by};
+ghost use Rattle.certs_verify.specs.certs_x509.declared.errors.validation.ValidationError.TheVariants.{Verification};
+ghost use Rattle.certs_verify.specs.certs_x509.declared.errors.verification.VerificationError.TheVariants.{Memory};
 ghost use Rattle.certs_verify.specs.Validated.{TellsNumbers};
 ghost use Rattle.objects_valid.specs.Processed.{Answers, FailsAny, PassesAny, TellsCause};
 

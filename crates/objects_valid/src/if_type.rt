@@ -1,12 +1,12 @@
 //! Signed objects of a type of content that is asked for (RFC 6488 2.1.3.1).
 
 ghost use Rattle.std.specs.Prelude.{◌≡◌, ◌↔◌, IsTrue};
-ghost use Rattle.objects_valid.specs.objects_forms.ObjectText.{Object};
+ghost use Rattle.objects_valid.specs.objects_payload.ObjectText.{Object};
 ghost use Rattle.objects_valid.specs.IfType.{DecodesIfType};
 
+use crate::kinds::SignedObject;
 use bcder::Oid;
 use bcder::decode::{ContentError, DecodeError, IntoSource, Pos, Source};
-use objects_kinds::SignedObject;
 use std::alloc::Global;
 use std::convert::AsSlice;
 

@@ -1,23 +1,24 @@
 //! What is tested of a signed object after its certificate's form: its content, then its certificate below an issuer.
 
 ghost use Rattle.std.specs.Prelude.{◌≡◌, ◌+◌, ◌≤◌, Bool, IfErr, IfOk};
-ghost use Rattle.objects_valid.specs.certs_specs.Verified.{HolderValue, held_by};
-ghost use Rattle.objects_valid.specs.certs_specs.declared.Role.{Role};
-ghost use Rattle.certs_verify.specs.certs_errors.declared.validation.ValidationError.TheVariants.{Verification};
+ghost use Rattle.objects_valid.specs.certs_extension.Verified.{HolderValue, held_by};
+ghost use Rattle.objects_valid.specs.certs_extension.declared.forms.Role.{Role};
+ghost use Rattle.certs_verify.specs.certs_x509.declared.errors.validation.ValidationError.TheVariants.{Verification};
 ghost use Rattle.certs_verify.specs.certs_key.Digesting.{digests_of};
 ghost use Rattle.certs_verify.specs.Answers.{AsksOnce};
 ghost use Rattle.certs_verify.specs.Validated.{Inspects, TellsNumbers};
-ghost use Rattle.objects_verify.specs.Content.{VerifiesContent};
+ghost use Rattle.objects_cms.specs.Content.{VerifiesContent};
 ghost use Rattle.objects_valid.specs.Accepted.{ValidatesContent, VerifiesBelow, VerifiesSigned};
 ghost use Rattle.objects_valid.specs.Content.{VerifiesSound};
 
+use crate::kinds::{SignedObject, verify_content};
 use crate::together::join;
-use certs_errors::{OctetString, Time};
 use certs_verify::{
     Cert, Digester, InspectionError, Refused, ResourceCert, ValidationError, VerificationError,
     Verifier, Verify,
 };
-use objects_kinds::{SignedObject, verify_content};
+use certs_x509::errors::Time;
+use certs_x509::signed::OctetString;
 use std::alloc::Global;
 
 // Whether the signer signed the object's content; else the first test that fails.

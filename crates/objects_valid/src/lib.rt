@@ -6,7 +6,7 @@
 //! that fails is answered. `process` asks a caller's test of the certificate beside that, which looks it up on a
 //! revocation list, and whether what is attested is within what the certificate holds.
 //!
-//! `decode_if_type` reads an object whose content is of a type that is asked for, and refuses any other.
+//! [`kinds`] has objects with what their contents say. `decode_if_type` reads an object whose content is of a type that is asked for, and refuses any other.
 //!
 //! What differs from the Rust crate: the calls are those of traits, one a type; the verifier, the digester and the clock
 //! are handed in, and each call has a form that is given the moment; what takes memory is given an allocator, and lack of
@@ -18,6 +18,7 @@ pub mod aspa;
 mod caller;
 pub mod if_type;
 mod inspected;
+pub mod kinds;
 pub mod manifest;
 pub mod object;
 pub mod roa;
@@ -28,7 +29,7 @@ pub use certs_verify::{
     Cert, Digester, InspectionError, ResourceCert, ValidationError, VerificationError, Verifier,
 };
 pub use if_type::DecodeIfType;
+pub use kinds::{Aspa, Manifest, ManifestContent, Roa, SignedObject};
 pub use manifest::ValidateManifest;
 pub use object::ProcessObject;
-pub use objects_kinds::{Aspa, Manifest, ManifestContent, Roa, SignedObject};
 pub use roa::ProcessRoa;

@@ -1,19 +1,19 @@
 //! Manifests (RFC 9286 6).
 
 ghost use Rattle.std.specs.Prelude.{◌≡◌, ◌+◌, ◌≤◌, ℕ, IfErr, IfOk};
-ghost use Rattle.objects_valid.specs.certs_specs.Verified.{held_by};
-ghost use Rattle.objects_valid.specs.certs_specs.declared.Role.TheVariants.{Ee};
+ghost use Rattle.objects_valid.specs.certs_extension.Verified.{held_by};
+ghost use Rattle.objects_valid.specs.certs_extension.declared.forms.Role.TheVariants.{Ee};
 ghost use Rattle.certs_verify.specs.certs_key.Digesting.{digests_of};
 ghost use Rattle.certs_verify.specs.Validated.{TellsNumbers};
-ghost use Rattle.objects_kinds.specs.Kinds.{KindValue};
-ghost use Rattle.objects_kinds.specs.objects_forms.Manifests.{Manifest as ManifestValue};
+ghost use Rattle.objects_valid.specs.Kinds.{KindValue};
+ghost use Rattle.objects_valid.specs.objects_payload.Manifests.{Manifest as ManifestValue};
 ghost use Rattle.objects_valid.specs.Accepted.{ValidatesContent};
 
+use crate::kinds::{Manifest, ManifestContent};
 use crate::object::ProcessObject;
 use crate::together::join;
-use certs_errors::{Clock, Time};
 use certs_verify::{Digester, ResourceCert, ValidationError, Verifier};
-use objects_kinds::{Manifest, ManifestContent};
+use certs_x509::errors::{Clock, Time};
 use std::alloc::Global;
 
 /// A manifest that is validated: it is let go where it is refused. A call asks the verifier at most twice: for the content,

@@ -2,18 +2,19 @@
 
 ghost use Rattle.std.specs.Prelude.{◌≡◌, ◌+◌, ◌≤◌, ℕ, IfErr, IfOk};
 ghost use Rattle.std.specs.Fn.{FnOnceReturnsAt};
-ghost use Rattle.objects_valid.specs.certs_specs.Verified.{held_by};
-ghost use Rattle.objects_valid.specs.certs_specs.declared.Role.TheVariants.{DetachedEe, Ee};
+ghost use Rattle.objects_valid.specs.certs_extension.Verified.{held_by};
+ghost use Rattle.objects_valid.specs.certs_extension.declared.forms.Role.TheVariants.{DetachedEe, Ee};
 ghost use Rattle.certs_verify.specs.certs_key.Digesting.{digests_of};
 ghost use Rattle.certs_verify.specs.Validated.{TellsNumbers};
-ghost use Rattle.objects_kinds.specs.objects_forms.ObjectText.{Object};
+ghost use Rattle.objects_valid.specs.objects_payload.ObjectText.{Object};
 ghost use Rattle.objects_valid.specs.Accepted.{ValidatesObject};
 ghost use Rattle.objects_valid.specs.Processed.{ProcessesObject};
 
+use crate::kinds::SignedObject;
 use crate::{caller, inspected, together};
-use certs_errors::{Clock, OctetString, Time};
 use certs_verify::{Cert, Digester, Inspect, ResourceCert, ValidationError, Verifier};
-use objects_kinds::SignedObject;
+use certs_x509::errors::{Clock, Time};
+use certs_x509::signed::OctetString;
 use std::alloc::Global;
 
 /// A signed object that is validated: it is let go where it is refused. A call asks the verifier at most twice: for the

@@ -2,20 +2,20 @@
 
 ghost use Rattle.std.specs.Prelude.{◌≡◌, ◌↔◌, ◌+◌, ◌≤◌, ℕ, IfErr, IfOk, IsTrue};
 ghost use Rattle.std.specs.Fn.{FnOnceReturnsAt};
-ghost use Rattle.objects_valid.specs.certs_specs.Cert.{CertValue};
-ghost use Rattle.objects_valid.specs.certs_specs.Verified.{HolderValue, held_by};
+ghost use Rattle.objects_valid.specs.certs_extension.Cert.{CertValue};
+ghost use Rattle.objects_valid.specs.certs_extension.Verified.{HolderValue, held_by};
 ghost use Rattle.certs_verify.specs.certs_key.Digesting.{digests_of};
 ghost use Rattle.certs_verify.specs.Validated.{TellsNumbers};
-ghost use Rattle.objects_kinds.specs.Kinds.{KindValue};
-ghost use Rattle.objects_kinds.specs.objects_forms.Roas.{Roa as RoaValue};
+ghost use Rattle.objects_valid.specs.Kinds.{KindValue};
+ghost use Rattle.objects_valid.specs.objects_payload.Roas.{Roa as RoaValue};
 ghost use Rattle.objects_valid.specs.Processed.{Answers, CoversRoa, FailsRoa, PassesRoa, ProcessesRoa};
 
+use crate::kinds::{Roa, covers_roa};
 use crate::object::ProcessObject;
 use crate::{caller, together};
-use certs_errors::{Clock, Time};
 use certs_verify::{Cert, Digester, ResourceCert, ValidationError, VerificationError, Verifier};
-use objects_covered::RouteOriginAttestation;
-use objects_kinds::{Roa, covers_roa};
+use certs_x509::errors::{Clock, Time};
+use objects_payload::roa::RouteOriginAttestation;
 use std::alloc::Global;
 
 // Whether all prefixes are held by the certificate.

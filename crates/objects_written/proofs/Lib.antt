@@ -7,3 +7,9 @@ pub mod ManifestAgain
 pub mod Making
 pub mod Told
 pub mod Passed
+pub mod Ordering
+pub mod Sets
+pub mod Again
+pub mod Refusing
+pub mod FrameAgain
+pub mod Messages

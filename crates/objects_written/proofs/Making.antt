@@ -9,9 +9,9 @@ use Rattle.certs_key.proofs.of_bcder_content.Simple.{unit_one}
 use Rattle.certs_key.proofs.of_bcder_content.Unique.{as_one, end_one, inside_one, inside_tagged, many_one, octets_one, opt_one, then_one}
 use Rattle.certs_key.proofs.of_bcder_tree.Fronts.{fields_more, fields_none, others_behind, whole_front}
 use Rattle.certs_key.proofs.of_certs_basics.Values.{serial_one}
-use Rattle.objects_forms.proofs.of_certs_time.Meanings.{moment_one}
-use Rattle.objects_written.specs.objects_forms.Manifests.{IsManifest, Manifest}
-use Rattle.objects_manifest.specs.Listing.{file_one}
+use Rattle.objects_payload.proofs.of_certs_basics.Meanings.{moment_one}
+use Rattle.objects_written.specs.objects_payload.Manifests.{IsManifest, Manifest}
+use Rattle.objects_cms.specs.Listing.{file_one}
 
 -- Octets that spell a tree begin with no other.
 pub same_front : {octets rest : List ℕ} {t u : Tree} → Front Der octets t rest → Spells Der u octets → t ≡ u

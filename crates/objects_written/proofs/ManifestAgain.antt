@@ -19,9 +19,9 @@ use Rattle.certs_key.proofs.of_bcder_content.Unique.{same_trees}
 use Rattle.objects_written.specs.bcder_values.Forms.{Alone}
 use Rattle.objects_written.specs.bcder_written.Encoded.{joined}
 use Rattle.objects_written.specs.certs_basics.Basics.{IsSerial}
-use Rattle.objects_written.specs.objects_forms.Identifiers as id
-use Rattle.objects_written.specs.objects_forms.Manifests.{Fields, File, IsFile, IsFileName, IsManifest, IsMomentString, IsWhole, Manifest}
-use Rattle.objects_manifest.specs.Files.{IsBaseOctet}
+use Rattle.objects_written.specs.objects_payload.Identifiers as id
+use Rattle.objects_written.specs.objects_payload.Manifests.{Fields, File, IsFile, IsFileName, IsManifest, IsMomentString, IsWhole, Manifest}
+use Rattle.objects_cms.specs.Files.{IsBaseOctet}
 use Rattle.objects_written.specs.bcder.Kinds.{oid}
 use Rattle.objects_written.specs.Outputs.{each, number, of}
 use Rattle.objects_written.specs.Manifests.{AreFileNames, IsManifestNumber, file, file_hash, file_name, manifest, moment, whole_octets}

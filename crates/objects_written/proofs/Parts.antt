@@ -9,8 +9,8 @@ use Rattle.objects_written.specs.bcder_written.Encoded.{IsPlain, WritesPlain}
 use Rattle.objects_written.specs.resources_ip_prefix.declared.prefix.Prefix.{Prefix}
 use Rattle.objects_written.specs.resources_ip_prefix.Encodings.{FirstBits, prefix_bits}
 use Rattle.objects_written.specs.resources_ip_prefix.Written.{spelled_bits}
-use Rattle.objects_written.specs.certs_time.Times.{IsMoment}
-use Rattle.objects_forms.proofs.of_certs_time.Moments.{one_text}
+use Rattle.objects_written.specs.certs_basics.Times.{IsMoment}
+use Rattle.objects_payload.proofs.of_certs_basics.Moments.{one_text}
 use Rattle.objects_written.specs.Manifests.{moment}
 use Rattle.objects_written.specs.Roas.{WritesPrefix, prefix, same_bits}
 use Rattle.objects_written.proofs.Turned.{Turns}

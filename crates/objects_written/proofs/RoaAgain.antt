@@ -21,11 +21,11 @@ use Rattle.objects_written.specs.resources_ip_prefix.Family.{max_len_of}
 use Rattle.objects_written.specs.resources_ip_prefix.Prefix.{prefix_len}
 use Rattle.objects_written.specs.resources_ip_prefix.Written.{spelled_bits}
 use Rattle.objects_written.specs.resources_ip_prefix.declared.prefix.Prefix.{Prefix}
-use Rattle.objects_written.specs.objects_forms.Roas.{FamilyAddresses, Fields, IsRoa, Roa, RoaAddress}
-use Rattle.objects_roa.specs.Addresses.{AddressFields, AllOf, AreAddressFields, AreAddresses, IsAddressOf, IsOf}
-use Rattle.objects_roa.specs.Contents.{AreRoa, IsRoaIn}
-use Rattle.objects_roa.specs.Families.{AreFamilies, AreFamilyIn, ArePair, IsFamilyOf}
-use Rattle.objects_roa.proofs.ContentLemmas.{roa_in_der}
+use Rattle.objects_written.specs.objects_payload.Roas.{FamilyAddresses, Fields, IsRoa, Roa, RoaAddress}
+use Rattle.objects_payload.specs.Addresses.{AddressFields, AllOf, AreAddressFields, AreAddresses, IsAddressOf, IsOf}
+use Rattle.objects_payload.specs.RoaContents.{AreRoa, IsRoaIn}
+use Rattle.objects_payload.specs.Families.{AreFamilies, AreFamilyIn, ArePair, IsFamilyOf}
+use Rattle.objects_payload.proofs.ContentLemmas.{roa_in_der}
 use Rattle.objects_written.specs.Outputs.{beside, each, of, perhaps}
 use Rattle.objects_written.specs.Roas.{AreOfFamilies, HasAddress, address, family, family_id, prefix, roa, shown}
 use Rattle.objects_written.proofs.Words.{inside_of, joined_none, last_of, spelled_of, then_of}

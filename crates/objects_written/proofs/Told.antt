@@ -4,8 +4,8 @@ use Rattle.objects_written.specs.bcder_tree.declared.mode.Mode.TheVariants.{Der}
 use Rattle.objects_written.specs.bcder_content.Kept.{CapturedValue}
 use Rattle.objects_written.specs.bcder_content.Texts.{SpellsOf}
 use Rattle.objects_written.specs.resources_ip_prefix.declared.addr.AddressFamily.{AddressFamily}
-use Rattle.objects_written.specs.objects_forms.Manifests.{IsManifest, Manifest}
-use Rattle.objects_written.specs.objects_forms.Roas.{FamilyAddresses, IsRoa, Roa, RoaAddress}
+use Rattle.objects_written.specs.objects_payload.Manifests.{IsManifest, Manifest}
+use Rattle.objects_written.specs.objects_payload.Roas.{FamilyAddresses, IsRoa, Roa, RoaAddress}
 use Rattle.objects_written.specs.Manifests.{AreFileNames, IsManifestNumber, manifest}
 use Rattle.objects_written.specs.Roas.{AreOfFamilies, HasAddress, roa, shown}
 use Rattle.objects_written.proofs.ManifestAgain.{manifest_text}

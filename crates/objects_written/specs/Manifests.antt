@@ -5,10 +5,10 @@ use Rattle.objects_written.specs.bcder_bits.Bits.{BitsValue}
 use Rattle.objects_written.specs.bcder_values.Plains.{plain_one, plain_spelled}
 use Rattle.objects_written.specs.bcder_written.Encoded.{IsPlain, WritesPlain}
 use Rattle.objects_written.specs.bcder.Kinds.{bits, octets_at, oid}
-use Rattle.objects_written.specs.certs_time.Times.{IsMoment}
-use Rattle.objects_forms.proofs.of_certs_time.Moments.{one_text}
-use Rattle.objects_written.specs.objects_forms.Identifiers as id
-use Rattle.objects_written.specs.objects_forms.Manifests.{File, IsFileName, Manifest}
+use Rattle.objects_written.specs.certs_basics.Times.{IsMoment}
+use Rattle.objects_payload.proofs.of_certs_basics.Moments.{one_text}
+use Rattle.objects_written.specs.objects_payload.Identifiers as id
+use Rattle.objects_written.specs.objects_payload.Manifests.{File, IsFileName, Manifest}
 use Rattle.objects_written.specs.Outputs.{Output, beside, each, inside, number, of}
 
 -- A hash in whole octets.

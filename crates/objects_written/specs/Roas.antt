@@ -14,8 +14,8 @@ use Rattle.objects_written.specs.resources_ip_prefix.declared.addr.AddressFamily
 use Rattle.objects_written.specs.resources_ip_prefix.declared.prefix.Prefix.{Prefix}
 use Rattle.objects_written.specs.resources_ip_prefix.Encodings.{FirstBits, family_octets, prefix_bits}
 use Rattle.objects_written.specs.resources_ip_prefix.Written.{octet_count, spelled_bits}
-use Rattle.objects_written.specs.objects_forms.Roas.{FamilyAddresses, Roa, RoaAddress}
-use Rattle.objects_roa.specs.Addresses.{AllOf}
+use Rattle.objects_written.specs.objects_payload.Roas.{FamilyAddresses, Roa, RoaAddress}
+use Rattle.objects_payload.specs.Addresses.{AllOf}
 use Rattle.objects_written.specs.Outputs.{Output, beside, each, inside, of, perhaps}
 
 -- The bits of a prefix with that first address and that length, as many as its length (RFC 3779 2.2.3.8).

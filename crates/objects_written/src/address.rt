@@ -1,14 +1,14 @@
 //! One address of a route origin attestation, written (RFC 9582 4.3.2).
 
 ghost use Rattle.std.specs.Prelude.{◌≡◌, List};
-ghost use Rattle.objects_written.specs.objects_forms.Roas.{RoaAddress};
+ghost use Rattle.objects_written.specs.objects_payload.Roas.{RoaAddress};
 ghost use Rattle.objects_written.specs.Roas.{address, address_parts, max_length, prefix};
 
 use certs_key::encode::{EncodeError, Iter, Primitive, Values, Walk};
 use certs_key::{Mode, Tag};
 use certs_written::Sequence;
-use objects_forms::Prefix;
-use objects_roa::{RoaIpAddress, RoaIpAddressIter, RoaIpAddresses};
+use objects_payload::forms::Prefix;
+use objects_payload::roa::{RoaIpAddress, RoaIpAddressIter, RoaIpAddresses};
 use std::io::Write;
 use std::marker::Model;
 
@@ -104,8 +104,8 @@ fn max_length_of(len: Option<u8>) -> Option<MaxLength>
 pub struct AddressValue(RoaIpAddress);
 
 impl Model for AddressValue {
-    ghost use Rattle.objects_written.specs.objects_forms.Roas.{RoaAddress};
-    ghost use Rattle.objects_roa.specs.Addresses.{roa_address};
+    ghost use Rattle.objects_written.specs.objects_payload.Roas.{RoaAddress};
+    ghost use Rattle.objects_payload.specs.Addresses.{roa_address};
 
     ghost Value = { RoaAddress };
 
@@ -150,7 +150,7 @@ pub struct Addresses<'a>(RoaIpAddressIter<'a>);
 
 impl<'a> Model for Addresses<'a> {
     ghost use Rattle.std.specs.Prelude.{List};
-    ghost use Rattle.objects_written.specs.objects_forms.Roas.{RoaAddress};
+    ghost use Rattle.objects_written.specs.objects_payload.Roas.{RoaAddress};
 
     ghost Value = { List RoaAddress };
 

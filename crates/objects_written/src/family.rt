@@ -7,8 +7,8 @@ use crate::address::Addresses;
 use certs_key::Mode;
 use certs_key::encode::{EncodeError, Iter, Values};
 use certs_written::Sequence;
-use objects_forms::AddressFamily;
-use objects_roa::RoaIpAddresses;
+use objects_payload::forms::AddressFamily;
+use objects_payload::roa::RoaIpAddresses;
 use std::io::Write;
 use std::marker::Model;
 
@@ -45,7 +45,7 @@ pub struct FamilyValue<'a> {
 }
 
 impl<'a> Model for FamilyValue<'a> {
-    ghost use Rattle.objects_written.specs.objects_forms.Roas.{FamilyAddresses};
+    ghost use Rattle.objects_written.specs.objects_payload.Roas.{FamilyAddresses};
 
     ghost Value = { FamilyAddresses };
 

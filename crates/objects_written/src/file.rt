@@ -1,14 +1,14 @@
 //! The files of a manifest, written (RFC 9286 4.2).
 
 ghost use Rattle.std.specs.Prelude.{◌≡◌, ◌+◌, ◌<◌, drop, length};
-ghost use Rattle.objects_written.specs.objects_forms.Manifests.{File};
+ghost use Rattle.objects_written.specs.objects_payload.Manifests.{File};
 ghost use Rattle.objects_written.specs.Manifests.{file, file_hash, file_name, file_parts};
 
 use certs_key::encode::{EncodeError, Primitive, Values, Walk};
 use certs_key::string::{BitSlice, OctetSliceEncoder};
 use certs_key::{Mode, Tag};
 use certs_written::Sequence;
-use objects_manifest::{FileAndHash, FileListIter, ManifestContent};
+use objects_cms::manifest::{FileAndHash, FileListIter, ManifestContent};
 use std::io::Write;
 use std::marker::Model;
 
@@ -86,7 +86,7 @@ pub struct FileValue<'a> {
 }
 
 impl<'a> Model for FileValue<'a> {
-    ghost use Rattle.objects_written.specs.objects_forms.Manifests.{File};
+    ghost use Rattle.objects_written.specs.objects_payload.Manifests.{File};
 
     ghost Value = { File };
 
@@ -160,7 +160,7 @@ pub struct ListedFiles<'a> {
 
 impl<'a> Model for ListedFiles<'a> {
     ghost use Rattle.std.specs.Prelude.{◌≡◌, List, drop};
-    ghost use Rattle.objects_written.specs.objects_forms.Manifests.{File};
+    ghost use Rattle.objects_written.specs.objects_payload.Manifests.{File};
 
     ghost Value = { List File };
 

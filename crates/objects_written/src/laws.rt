@@ -5,9 +5,9 @@ ghost use Rattle.objects_written.specs.bcder_tree.declared.mode.Mode.{Mode as Mo
 ghost use Rattle.objects_written.specs.bcder_tree.declared.mode.Mode.TheVariants.{Der};
 ghost use Rattle.objects_written.specs.bcder_content.Grammar.{One};
 ghost use Rattle.objects_written.specs.bcder_content.Texts.{SpellsOf};
-ghost use Rattle.objects_written.specs.objects_forms.Manifests.{IsManifest, Manifest};
-ghost use Rattle.objects_written.specs.objects_forms.Roas.{IsRoa, Roa};
-ghost use Rattle.objects_roa.specs.Contents.{IsRoaIn};
+ghost use Rattle.objects_written.specs.objects_payload.Manifests.{IsManifest, Manifest};
+ghost use Rattle.objects_written.specs.objects_payload.Roas.{IsRoa, Roa};
+ghost use Rattle.objects_payload.specs.RoaContents.{IsRoaIn};
 ghost use Rattle.objects_written.specs.Manifests.{AreFileNames, IsManifestNumber, manifest};
 ghost use Rattle.objects_written.specs.Roas.{AreOfFamilies, HasAddress, roa};
 

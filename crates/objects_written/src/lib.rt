@@ -1,5 +1,5 @@
 //! What is written of the contents of signed objects: route origin attestations (RFC 9582 4) and manifests
-//! (RFC 9286 4.2).
+//! (RFC 9286 4.2); and, in [`frame`], of the object around a content.
 //!
 //! [`EncodeRoa`], [`EncodeManifest`], [`EncodeAddresses`] and [`EncodeFile`] give contents, addresses and listed files
 //! what the codec writes; the `to_octets` of the first two is the DER that a signed object holds, and is read again as
@@ -12,6 +12,7 @@
 pub mod address;
 pub mod family;
 pub mod file;
+pub mod frame;
 pub mod laws;
 pub mod manifest;
 pub mod roa;

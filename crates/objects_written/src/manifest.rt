@@ -4,17 +4,17 @@ ghost use Rattle.std.specs.Prelude.{◌≡◌, ◌↔◌, IfErr, IfOk, IsTrue};
 ghost use Rattle.objects_written.specs.bcder_tree.declared.mode.Mode.TheVariants.{Der};
 ghost use Rattle.objects_written.specs.bcder_content.Texts.{SpellsOf};
 ghost use Rattle.objects_written.specs.bcder_values.Gathered.{ExtendRefused};
-ghost use Rattle.objects_written.specs.objects_forms.Identifiers as id;
-ghost use Rattle.objects_written.specs.objects_forms.Manifests.{IsManifest, Manifest};
+ghost use Rattle.objects_written.specs.objects_payload.Identifiers as id;
+ghost use Rattle.objects_written.specs.objects_payload.Manifests.{IsManifest, Manifest};
 ghost use Rattle.objects_written.specs.Manifests.{AreFileNames, IsManifestNumber, manifest, manifest_parts, moment};
 
 use crate::file::ListedFiles;
 use certs_key::encode::{EncodeError, Iter, Values};
 use certs_key::{Captured, ConstOid, Mode, Oid, Serial};
 use certs_written::{Identifier, Sequence, SerialValue};
-use objects_forms::Time;
-use objects_manifest::ManifestContent;
-use objects_manifest::file::is_file_name;
+use objects_cms::manifest::ManifestContent;
+use objects_cms::manifest::file::is_file_name;
+use objects_payload::forms::Time;
 use std::alloc::Global;
 use std::io::Write;
 use std::marker::Model;
@@ -84,7 +84,7 @@ pub(crate) fn parts_of<F>(
 pub struct ManifestValue<'a>(&'a ManifestContent);
 
 impl<'a> Model for ManifestValue<'a> {
-    ghost use Rattle.objects_written.specs.objects_forms.Manifests.{Manifest};
+    ghost use Rattle.objects_written.specs.objects_payload.Manifests.{Manifest};
 
     ghost Value = { Manifest };
 

@@ -4,15 +4,15 @@ ghost use Rattle.std.specs.Prelude.{◌≡◌, ◌↔◌, IfErr, IfOk, IsTrue};
 ghost use Rattle.objects_written.specs.bcder_tree.declared.mode.Mode.TheVariants.{Der};
 ghost use Rattle.objects_written.specs.bcder_content.Texts.{SpellsOf};
 ghost use Rattle.objects_written.specs.bcder_values.Gathered.{ExtendRefused};
-ghost use Rattle.objects_written.specs.objects_forms.Roas.{IsRoa, Roa};
+ghost use Rattle.objects_written.specs.objects_payload.Roas.{IsRoa, Roa};
 ghost use Rattle.objects_written.specs.Roas.{AreOfFamilies, HasAddress, as_id, roa, roa_parts};
 
 use crate::family::{FamilyValue, shown};
 use certs_key::encode::{EncodeError, Primitive, Values};
 use certs_key::{Captured, Mode, Tag};
 use certs_written::Sequence;
-use objects_forms::{AddressFamily, Asn};
-use objects_roa::RouteOriginAttestation;
+use objects_payload::forms::{AddressFamily, Asn};
+use objects_payload::roa::RouteOriginAttestation;
 use resources_ip_prefix::laws::a_prefix_is_read_again;
 use std::alloc::Global;
 use std::io::Write;
@@ -54,7 +54,7 @@ impl Values for AsIdValue {
 pub struct RoaValue<'a>(&'a RouteOriginAttestation);
 
 impl<'a> Model for RoaValue<'a> {
-    ghost use Rattle.objects_written.specs.objects_forms.Roas.{Roa};
+    ghost use Rattle.objects_written.specs.objects_payload.Roas.{Roa};
 
     ghost Value = { Roa };
 

@@ -1,7 +1,7 @@
 //! `rpki_ask` answers questions about a bundle on standard input: `judge`, `reach` and `why`.
 #![tactic(auto)]
 
-use rpki_questions::{Counted, FAULT, RunError, USAGE, ask, request_of};
+use rpki_commands::questions::{Counted, FAULT, RunError, USAGE, ask, request_of};
 use std::env;
 use std::io::{self, ErrorKind, Write};
 use std::process::ExitCode;

@@ -6,7 +6,7 @@ use Rattle.rpki_bundle.proofs.of_bcder_tree.Fronts.{sequence_bound}
 use Rattle.rpki_bundle.specs.bcder_content.Grammar.{One}
 use Rattle.rpki_bundle.proofs.of_bcder_content.Fronts.{spells_one}
 use Rattle.rpki_bundle.proofs.of_bcder_content.Unique.{octets_one, unsigned_one, such_one, inside_one, many_one, then_one, end_one, as_one}
-use Rattle.certs_time.proofs.Moments.{one_moment}
+use Rattle.certs_basics.proofs.Moments.{one_moment}
 use Rattle.rpki_bundle.specs.declared.parts.Verdict.{Verdict}
 use Rattle.rpki_bundle.specs.Bundle.{BundleValue, IsVersion, IsMomentString, verdict_row, IsAscendingList, IsBundle, BundleText}
 use Rattle.rpki_bundle.specs.RowLaws.{one_locator, one_object, one_verdict}

@@ -16,7 +16,7 @@ use Rattle.rpki_bundle.specs.bcder_values.Wraps.{wrapped_spelled, wrapped_one}
 use Rattle.rpki_bundle.specs.declared.parts.Locator.{Locator}
 use Rattle.rpki_bundle.specs.declared.parts.Object.{Object}
 use Rattle.rpki_bundle.specs.declared.parts.Verdict.{Verdict}
-use Rattle.certs_time.specs.Times.{IsMoment}
+use Rattle.certs_basics.specs.Times.{IsMoment}
 use Rattle.rpki_bundle.specs.Bundle.{BundleValue, BundleText, IsSpelled}
 use Rattle.rpki_bundle.specs.Lawful.{IsLawful}
 use Rattle.rpki_bundle.specs.Written.{AreBundle, WritesBundle, pair_spelled, triple_spelled, pair_one, triple_one}

@@ -17,9 +17,9 @@ use Rattle.rpki_bundle.specs.bcder_values.Lists.{WritesAll}
 use Rattle.rpki_bundle.specs.declared.parts.Locator.{Locator}
 use Rattle.rpki_bundle.specs.declared.parts.Object.{Object}
 use Rattle.rpki_bundle.specs.declared.parts.Verdict.{Verdict}
-use Rattle.certs_time.specs.Times.{IsMoment}
-use Rattle.certs_time.proofs.Moments.{one_text}
-use Rattle.certs_uri.specs.Uris.{IsUri, IsUriOctet, IsLookupKey}
+use Rattle.certs_basics.specs.Times.{IsMoment}
+use Rattle.certs_basics.proofs.Moments.{one_text}
+use Rattle.certs_basics.specs.Uris.{IsUri, IsUriOctet, IsLookupKey}
 use Rattle.rpki_bundle.specs.bcder_tree.Tree.{Tree}
 use Rattle.rpki_bundle.specs.Bundle.{BundleValue, IsVersion, IsMomentString, IsDepth, IsDigestString, Digests, BundleFields, as_locator, as_object, as_verdict, as_bundle, IsLocator, IsObject, IsVerdict, verdict_row, IsAscendingList, IsBundle}
 use Rattle.rpki_bundle.specs.Lawful.{IsLawfulLocator, IsLawfulObject, IsLawfulVerdict, IsLawfulList, IsLawful}

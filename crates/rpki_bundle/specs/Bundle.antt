@@ -14,8 +14,8 @@ use Rattle.rpki_bundle.specs.bcder_content.Texts.{SpellsOf}
 use Rattle.rpki_bundle.specs.declared.parts.Locator.{Locator}
 use Rattle.rpki_bundle.specs.declared.parts.Object.{Object}
 use Rattle.rpki_bundle.specs.declared.parts.Verdict.{Verdict}
-use Rattle.certs_time.specs.Times.{IsMoment}
-use Rattle.certs_uri.specs.Uris.{IsLookupKey}
+use Rattle.certs_basics.specs.Times.{IsMoment}
+use Rattle.certs_basics.specs.Uris.{IsLookupKey}
 use Rattle.rpki_bundle.specs.Orders.{Ascends}
 
 -- What a bundle tells.

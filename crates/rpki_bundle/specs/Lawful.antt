@@ -6,7 +6,7 @@ use Rattle.rpki_bundle.specs.bcder_strings.Texts.{IsText}
 use Rattle.rpki_bundle.specs.declared.parts.Locator.{Locator}
 use Rattle.rpki_bundle.specs.declared.parts.Object.{Object}
 use Rattle.rpki_bundle.specs.declared.parts.Verdict.{Verdict}
-use Rattle.certs_uri.specs.Uris.{IsLookupKey}
+use Rattle.certs_basics.specs.Uris.{IsLookupKey}
 use Rattle.rpki_bundle.specs.Orders.{Ascends}
 use Rattle.rpki_bundle.specs.Bundle.{BundleValue, IsWord, verdict_row}
 

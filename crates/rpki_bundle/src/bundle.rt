@@ -3,7 +3,7 @@
 ghost use Rattle.std.specs.Prelude.{◌≡◌, ◌↔◌, ℕ, ◌<◌, List, IsTrue, IfSome, IfNone, IfOk, IfErr};
 ghost use Rattle.std.specs.Ordering.{nat_cmp};
 ghost use Rattle.std.specs.Cmp.Lexicographic.{slice_cmp};
-ghost use Rattle.certs_uri.specs.Uris.{IsUri, lookup_key as key_of};
+ghost use Rattle.certs_basics.specs.Uris.{IsUri, lookup_key as key_of};
 ghost use Rattle.rpki_bundle.specs.Orders.{Ascends};
 ghost use Rattle.rpki_bundle.specs.Objects.{IsAt};
 ghost use Rattle.rpki_bundle.specs.declared.error.BundleError.TheVariants.{NotABundle as not_a_bundle};

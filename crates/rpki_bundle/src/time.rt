@@ -1,3 +1,3 @@
-//! Moments, by jiff's calendar: those of `certs_time`.
+//! Moments, by jiff's calendar: those of `certs_basics::time`.
 
-pub use certs_time::Time;
+pub use certs_basics::time::Time;

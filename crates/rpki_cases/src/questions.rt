@@ -5,7 +5,7 @@ use crate::octets::push_texts;
 use answers::{Answer, pieces_of};
 use anyhow::{Result, anyhow};
 use rpki_commands::Counted;
-use rpki_questions::{Request, ask, request_of};
+use rpki_commands::questions::{Request, ask, request_of};
 use std::alloc::Global;
 
 // What is answered to a request, of the bundle of these octets.

@@ -7,7 +7,7 @@ use Rattle.std.specs.List.{AllPass}
 use Rattle.hex.specs.Hex.{decode_of, decode_pairs, decode_sized, digit_or_error, encode_lower, encode_with, hex_digit_value, is_hex_digit, lower_digits, pair_value, value_at}
 use Rattle.hex.proofs.HexLemmas.{decode_of-encode_lower, decode_of-even, decode_of-ok, decode_of-same, decode_sized-ok, decode_sized-twice}
 use Rattle.hex.proofs.Pairs.{cons_byte, decode_pairs-ok_pair}
-use Rattle.rpki_commands.specs.certs_uri.Uris.{lower}
+use Rattle.rpki_commands.specs.certs_basics.Uris.{lower}
 use Rattle.rpki_commands.specs.Verdicts.{IsHex}
 
 -- a value below 16 as a lower-case digit

@@ -8,8 +8,8 @@ use Rattle.rpki_commands.specs.rpki_bundle.declared.parts.Object.{Object}
 use Rattle.rpki_commands.specs.rpki_bundle.declared.parts.Verdict.{Verdict}
 use Rattle.rpki_commands.specs.rpki_bundle.Bundle.{BundleText, BundleValue, verdict_row}
 use Rattle.rpki_commands.specs.rpki_bundle.Orders.{Ascends}
-use Rattle.rpki_commands.specs.certs_time.Times.{IsMoment}
-use Rattle.rpki_commands.proofs.of_certs_time.Moments.{one_moment}
+use Rattle.rpki_commands.specs.certs_basics.Times.{IsMoment}
+use Rattle.rpki_commands.proofs.of_certs_basics.Moments.{one_moment}
 use Rattle.rpki_commands.proofs.of_rpki_bundle.OneBundle.{bundle_fields}
 use Rattle.rpki_commands.specs.declared.folder.parts.Contents.{Contents}
 use Rattle.rpki_commands.specs.declared.folder.parts.Parts.{Parts}

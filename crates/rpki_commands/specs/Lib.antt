@@ -6,7 +6,7 @@ pub mod Lines
 pub mod Verdicts
 pub mod Folders
 pub mod Texts
+pub mod Asking
 -- What stands below, for the crates above.
-pub use Rattle.rpki_validator.specs.certs_time as certs_time
-pub use Rattle.rpki_validator.specs.certs_uri as certs_uri
+pub use Rattle.rpki_validator.specs.certs_basics as certs_basics
 pub use Rattle.rpki_validator.specs.rpki_bundle as rpki_bundle

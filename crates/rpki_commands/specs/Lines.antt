@@ -1,6 +1,6 @@
 -- Texts of one line in a folder: `moment` and `depth`.
 use Rattle.std.specs.Prelude.{◌≡◌, ℕ, ◌+◌, ◌/◌, ◌%◌, ◌≤◌, ◌⊎◌, List, [], ◌∷◌, ◌++◌}
-use Rattle.rpki_commands.specs.certs_time.Times.{IsMoment}
+use Rattle.rpki_commands.specs.certs_basics.Times.{IsMoment}
 
 -- A line feed (10), after a carriage return (13) or not.
 abbrev pub IsLineEnd : List ℕ → Type 0

@@ -1,7 +1,7 @@
 -- The lines of `verdicts`: KEY MESSAGE SIGNATURE, each a digest in hexadecimal digits, with one space between.
 use Rattle.std.specs.Prelude.{◌≡◌, ℕ, ◌⊎◌, List, [], ◌∷◌, ◌++◌, length, map}
 use Rattle.hex.specs.Hex.{encode_lower, IsBytes}
-use Rattle.rpki_commands.specs.certs_uri.Uris.{lower}
+use Rattle.rpki_commands.specs.certs_basics.Uris.{lower}
 use Rattle.rpki_commands.specs.rpki_bundle.declared.parts.Verdict.{Verdict}
 use Rattle.rpki_commands.specs.Lines.{IsLineEnd}
 

@@ -4,8 +4,10 @@ ghost use Rattle.std.specs.Prelude.{◌≡◌};
 
 use crate::chains::Table;
 use anyhow::{Result, anyhow};
-use certs_errors::{Clock, OctetString, Time};
-use objects_covered::{AsProviderAttestation, RouteOriginAttestation};
+use certs_x509::errors::{Clock, Time};
+use certs_x509::signed::OctetString;
+use objects_payload::aspa::AsProviderAttestation;
+use objects_payload::roa::RouteOriginAttestation;
 use objects_valid::{
     Aspa, Cert, Manifest, ManifestContent, ProcessAspa, ProcessObject, ProcessRoa, ResourceCert,
     Roa, SignedObject, ValidateManifest, ValidationError, VerificationError,

@@ -1,7 +1,8 @@
 //! What is said of a validation: what is held and what the content says, or the first test that fails.
 
 use answers::Answer;
-use objects_covered::{AsProviderAttestation, RouteOriginAttestation};
+use objects_payload::aspa::AsProviderAttestation;
+use objects_payload::roa::RouteOriginAttestation;
 use objects_valid::{ResourceCert, ValidationError, VerificationError};
 use resources::IpBlocksForFamily;
 

@@ -10,18 +10,19 @@ use Rattle.rpki_rules.specs.Kinds.{Kind, Ipv4, Ipv6, As, claim}
 use Rattle.rpki_rules.specs.Chains.{Holds}
 use Rattle.rpki_rules.specs.Attests.{Origin, Provision, Payload, OfRoa, OfAspa, run_of, origins, origins_of, max_len_or, provisions, AreHeld, IsCovered, HoldsWith}
 use Rattle.rpki_rules.specs.Laws.{Listing}
-use Rattle.rpki_rules.proofs.Lists.{each_at, mem_append, mem_map, kept_on}
+use Rattle.rpki_rules.proofs.Lists.{kept_on}
+use Rattle.rpki_rules.proofs.Orders.{mem_map, mem_append, each_at}
 
 -- Of one family.
 origin_held : (held : Kind → ℕ → Type 0) (k : Kind) (asn : ℕ) (addresses : List RoaAddress) → AreHeld (held k) addresses → (x : Origin) → Mem (origins_of k asn addresses) x → (n : ℕ) → InRun (run_of x) n → held x.kind n
 origin_held held k asn addresses h x m n i =
-    let g = mem_map (λ (a : RoaAddress). let o : Origin = record { kind = k; addr = a.addr; len = a.len; max_len = max_len_or a.len a.max_len; asn = asn } in o) addresses x m in
+    let g = (mem_map (λ (a : RoaAddress). let o : Origin = record { kind = k; addr = a.addr; len = a.len; max_len = max_len_or a.len a.max_len; asn = asn } in o) addresses x).0 m in
     let a = g.0 in
     subst (λ (y : Origin). (n : ℕ) → InRun (run_of y) n → held y.kind n) g.2 (each_at (λ (b : RoaAddress). (n : ℕ) → InRun (prefix_run b.addr b.len) n → held k n) addresses a h g.1) n i
 
 -- Each address of an origin's prefix is held.
 pub origin_covered : (held : Kind → ℕ → Type 0) (p : Payload) → IsCovered held p → (x : Origin) → Mem (origins p) x → (n : ℕ) → InRun (run_of x) n → held x.kind n
-origin_covered held (OfRoa r) c x m n i = elim (mem_append (origins_of Ipv4 r.asn r.v4) (origins_of Ipv6 r.asn r.v6) x m) [
+origin_covered held (OfRoa r) c x m n i = elim ((mem_append (origins_of Ipv4 r.asn r.v4) (origins_of Ipv6 r.asn r.v6) x).0 m) [
   | inl a ↦ origin_held held Ipv4 r.asn r.v4 c.0 x a n i
   | inr b ↦ origin_held held Ipv6 r.asn r.v6 c.1 x b n i
 ]
@@ -31,7 +32,7 @@ origin_covered held (OfAspa a) c x m n i = absurd m
 pub customer_covered : (held : Kind → ℕ → Type 0) (p : Payload) → IsCovered held p → (x : Provision) → Mem (provisions p) x → held As x.customer
 customer_covered held (OfRoa r) c x m = absurd m
 customer_covered held (OfAspa a) c x m =
-    let g = mem_map (λ (q : ℕ). let y : Provision = record { customer = a.customer; provider = q } in y) a.providers x m in
+    let g = (mem_map (λ (q : ℕ). let y : Provision = record { customer = a.customer; provider = q } in y) a.providers x).0 m in
     subst (λ (y : Provision). held As y.customer) g.2 c
 
 pub listing : Listing

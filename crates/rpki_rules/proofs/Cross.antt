@@ -3,7 +3,7 @@ use Rattle.std.proofs.Common.{◌≡◌, ℕ, ◌⊎◌, Bool, true, false, List
 use Rattle.std.specs.Prelude.{filter, not}
 use Rattle.std.proofs.lemmas.Slice.Eq.{bytes_eq-Decides}
 use Rattle.rpki_rules.specs.resources_set.Resources.{Resources}
-use Rattle.rpki_rules.specs.certs_uri.Uris.{lookup_key}
+use Rattle.rpki_rules.specs.certs_basics.Uris.{lookup_key}
 use Rattle.rpki_rules.specs.Certs.{Cert}
 use Rattle.rpki_rules.specs.Objects.{Manifest, ManifestText, one_manifest}
 use Rattle.rpki_rules.specs.Locators.{https_first, is_https}
@@ -17,7 +17,8 @@ use Rattle.rpki_rules.specs.Refused.{LocatorRefused, AnchorRefused}
 use Rattle.rpki_rules.specs.Reach.{IsOneOf, Names, NamesOne, AgreeBut, SomeLocatorNames, IsOriginInside, IsCustomerInside}
 use Rattle.rpki_rules.specs.Laws.{NonInterference, LocatorsStay}
 use Rattle.rpki_rules.proofs.Fronts.{front_itself, accepted_up}
-use Rattle.rpki_rules.proofs.Lists.{mem_append, holds_front}
+use Rattle.rpki_rules.proofs.Lists.{holds_front}
+use Rattle.rpki_rules.proofs.Orders.{mem_append}
 use Rattle.rpki_rules.proofs.Covered.{origin_covered, customer_covered}
 use Rattle.rpki_rules.proofs.Moved.{turned, SameAt, names_file, anchor_moved, point_moved, issues_moved, good_moved}
 
@@ -63,7 +64,7 @@ filter_mem p [] x m = m
 filter_mem p (y ∷ ys) x m = kept_mem (p y) y ys (filter p ys) x (filter_mem p ys x) m
 
 pub https_first_mem : (us : List (List ℕ)) (u : List ℕ) → Mem (https_first us) u → Mem us u
-https_first_mem us u m = elim (mem_append (filter is_https us) (filter (λ uri. not (is_https uri)) us) u m) [
+https_first_mem us u m = elim ((mem_append (filter is_https us) (filter (λ uri. not (is_https uri)) us) u).0 m) [
   | inl a ↦ filter_mem is_https us u a
   | inr b ↦ filter_mem (λ uri. not (is_https uri)) us u b
 ]

@@ -47,7 +47,7 @@ pub map_push : {X Y : Type 0} (f : X → Y) (xs : List X) (y : X) → map f (xs 
 map_push f [] y = refl
 map_push f (x ∷ xs) y = ap (λ zs. f x ∷ zs) (map_push f xs y)
 
-not_empty : {X : Type 0} (xs : List X) (x : X) → xs ++ x ∷ [] ≢ []
+pub not_empty : {X : Type 0} (xs : List X) (x : X) → xs ++ x ∷ [] ≢ []
 not_empty [] x e = absurd cc
 not_empty (y ∷ xs) x e = absurd cc
 

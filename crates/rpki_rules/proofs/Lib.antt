@@ -21,5 +21,5 @@ pub mod Groups
 pub mod Pieces
 pub mod of_bcder_tree
 pub mod of_rpki_bundle
-pub mod of_certs_uri
-pub mod of_objects_forms
+pub mod of_certs_basics
+pub mod of_objects_payload

@@ -3,26 +3,10 @@ use Rattle.std.proofs.Common.{◌≡◌, ℕ, ◌⊎◌, ◌||◌, Bool, true, f
 use Rattle.std.specs.List.{list_any}
 use Rattle.rpki_rules.specs.resources_chain.Claims.{Choice, Lists, Keeps}
 use Rattle.rpki_rules.specs.resources_chain.declared.choice.ResourcesChoice.TheVariants.{Missing, Inherit, Blocks}
-use Rattle.rpki_rules.specs.Words.{Mem, Each}
+use Rattle.rpki_rules.specs.Words.{Mem}
 use Rattle.rpki_rules.specs.Kinds.{Kind, claim}
 use Rattle.rpki_rules.specs.Points.{Link}
 use Rattle.rpki_rules.specs.Chains.{last_of, IsFront, Holds}
-
-pub each_at : {X : Type 0} (P : X → Type 0) (xs : List X) (x : X) → Each P xs → Mem xs x → P x
-each_at P [] x e m = elim m [ ]
-each_at P (y ∷ ys) x e (inl q) = subst P q e.0
-each_at P (y ∷ ys) x e (inr m) = each_at P ys x e.1 m
-
-pub mem_append : {X : Type 0} (xs ys : List X) (x : X) → Mem (xs ++ ys) x → Mem xs x ⊎ Mem ys x
-mem_append [] ys x m = inr m
-mem_append (z ∷ xs) ys x (inl e) = inl (inl e)
-mem_append (z ∷ xs) ys x (inr m) = elim (mem_append xs ys x m) [ inl a ↦ inl (inr a) | inr b ↦ inr b ]
-
--- A member of a list that is made of another comes from a member.
-pub mem_map : {X Y : Type 0} (f : X → Y) (xs : List X) (y : Y) → Mem (map f xs) y → (x : X) × Mem xs x × (f x ≡ y)
-mem_map f [] y m = absurd m
-mem_map f (x ∷ xs) y (inl e) = (x, inl refl, e)
-mem_map f (x ∷ xs) y (inr m) = let h = mem_map f xs y m in (h.0, inr h.1, h.2)
 
 pub map_mem : {X Y : Type 0} (f : X → Y) (xs : List X) (x : X) → Mem xs x → Mem (map f xs) (f x)
 map_mem f [] x m = absurd m

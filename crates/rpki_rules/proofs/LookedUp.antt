@@ -11,8 +11,8 @@ use Rattle.std.proofs.lemmas.List.Elements.{All-head, All-tail, All-cons, All-ni
 use Rattle.std.proofs.lemmas.Slice.Eq.{bytes_eq-Decides}
 use Rattle.rpki_rules.specs.rpki_bundle.declared.parts.Object.{Object}
 use Rattle.rpki_rules.specs.rpki_bundle.Objects.{IsAt}
-use Rattle.rpki_rules.specs.certs_uri.Uris.{lower, lower_host, lookup_key, IsUriOctet, HasScheme, IsModulePath, IsUri}
-use Rattle.rpki_rules.proofs.of_certs_uri.UriTexts.{segment_len, HasModule-from_path, IsModulePath-from_lens, HasScheme-from_rsync, HasScheme-from_https, IsRsync-from_parts, IsHttps-from_parts}
+use Rattle.rpki_rules.specs.certs_basics.Uris.{lower, lower_host, lookup_key, IsUriOctet, HasScheme, IsModulePath, IsUri}
+use Rattle.rpki_rules.proofs.of_certs_basics.UriTexts.{segment_len, HasModule-from_path, IsModulePath-from_lens, HasScheme-from_rsync, HasScheme-from_https, IsRsync-from_parts, IsHttps-from_parts}
 use Rattle.rpki_rules.specs.World.{find_object}
 use Rattle.rpki_rules.specs.Laws.{OnlyUris, OneObjectAt}
 

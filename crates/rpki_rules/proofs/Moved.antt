@@ -1,9 +1,9 @@
 -- What holds in one world holds in another that has the same objects where it matters, and more good signatures.
 use Rattle.std.proofs.Common.{◌≡◌, ℕ, ◌<◌, List, [], ◌∷◌, ◌++◌, map, length, Option, inl, inr, refl, sym, subst, ◌∙◌}
-use Rattle.rpki_rules.specs.certs_uri.Uris.{lookup_key}
+use Rattle.rpki_rules.specs.certs_basics.Uris.{lookup_key}
 use Rattle.rpki_rules.specs.Certs.{Key, Cert, Verdicts, Within}
 use Rattle.rpki_rules.specs.Objects.{Object, File, Manifest, sound_more}
-use Rattle.rpki_rules.specs.certs_uri.Paths.{join}
+use Rattle.rpki_rules.specs.certs_basics.Paths.{join}
 use Rattle.rpki_rules.specs.Locators.{https_first}
 use Rattle.rpki_rules.specs.Words.{Mem, Each}
 use Rattle.rpki_rules.specs.World.{World}

@@ -14,7 +14,7 @@ use Rattle.rpki_rules.specs.Attests.{Origin, AttestsProvision}
 use Rattle.rpki_rules.specs.Lines.{Customer, Refusal, origin_line, origin_cmp, family_place, customer_line, refusal_line, refusal_cmp, cause_text}
 use Rattle.rpki_rules.specs.Output.{IsCustomer, AreCustomers}
 use Rattle.rpki_rules.specs.Laws.{OneOutput}
-use Rattle.rpki_rules.proofs.Lists.{each_at, mem_map}
+use Rattle.rpki_rules.proofs.Orders.{mem_map, each_at}
 
 -- Each stands before all after it.
 Sorted : {X : Type 0} → (X → X → Type 0) → List X → Type 0
@@ -116,7 +116,7 @@ pub in_other : (w w' : World) (cs ds : List Customer) → AreCustomers w cs → 
 in_other w w' cs ds h k c a m =
     let is = each_at (IsCustomer w) cs c h.each m in
     let p = some_member c.providers is.some in
-    let at = mem_map (λ (d : Customer). d.number) ds c.number (k.complete (record { customer = c.number; provider = p.0 }) ((a p.0).0 ((is.exact p.0).0 p.1))) in
+    let at = (mem_map (λ (d : Customer). d.number) ds c.number).0 (k.complete (record { customer = c.number; provider = p.0 }) ((a p.0).0 ((is.exact p.0).0 p.1))) in
     subst (Mem ds) (sym (same_customer w w' c at.0 (sym at.2) a is (each_at (IsCustomer w') ds at.0 k.each at.1))) at.1
 
 one_customers : (w : World) (cs ds : List Customer) → AreCustomers w cs → AreCustomers w ds → cs ≡ ds

@@ -2,7 +2,7 @@
 use Rattle.std.proofs.Common.{◌≡◌, ℕ, ◌+◌, ◌⊎◌, List, [], ◌∷◌, ◌++◌, map, length, Some, inl, inr, refl, sym, ap, subst, ◌∙◌, arith}
 use Rattle.std.proofs.lemmas.List.{length-map, length-append}
 use Rattle.rpki_rules.proofs.of_bcder_tree.Unique.{by_length}
-use Rattle.rpki_rules.specs.certs_uri.Uris.{lower, lookup_key}
+use Rattle.rpki_rules.specs.certs_basics.Uris.{lower, lookup_key}
 use Rattle.rpki_rules.specs.Certs.{Cert, CertText, one_cert, CrlText, one_crl}
 use Rattle.rpki_rules.specs.Objects.{Object, ManifestText, one_manifest, one_roa, one_aspa}
 use Rattle.rpki_rules.specs.Kinds.{Kind}

@@ -1,7 +1,7 @@
 -- More depth, more good signatures, fewer objects.
 use Rattle.std.proofs.Common.{◌≡◌, ℕ, ◌<◌, ◌≤◌, ◌⊎◌, List, [], ◌∷◌, length, Option, None, inl, inr, refl, sym, subst, ◌∙◌, arith}
 use Rattle.rpki_rules.specs.rpki_bundle.Bundle.{BundleValue}
-use Rattle.rpki_rules.specs.certs_uri.Uris.{lookup_key}
+use Rattle.rpki_rules.specs.certs_basics.Uris.{lookup_key}
 use Rattle.rpki_rules.specs.Certs.{Verdicts, Within}
 use Rattle.rpki_rules.specs.Locators.{https_first}
 use Rattle.rpki_rules.specs.World.{World, table, run_world}

@@ -2,7 +2,7 @@
 use Rattle.std.proofs.Common.{◌≡◌, ◌≢◌, ◌↔◌, ℕ, [], ◌∷◌, Some, None, sym, ◌∙◌}
 use Rattle.rpki_rules.specs.resources_chain.Claims.{Choice, Kept, FitsIn}
 use Rattle.rpki_rules.specs.resources_chain.declared.choice.ResourcesChoice.TheVariants.{Inherit}
-use Rattle.rpki_rules.specs.certs_specs.Verified.{held_by}
+use Rattle.rpki_rules.specs.certs_extension.Verified.{held_by}
 use Rattle.rpki_rules.specs.Certs.{Cert}
 use Rattle.rpki_rules.specs.Kinds.{Kind, Ipv4, Ipv6, As, claim}
 use Rattle.rpki_rules.specs.Chains.{Holds, Fits}

@@ -4,7 +4,7 @@ use Rattle.std.proofs.lemmas.List.Elements.{All-head, All-tail}
 use Rattle.std.proofs.lemmas.Slice.Eq.{bytes_eq-Decides}
 use Rattle.rpki_rules.specs.rpki_bundle.declared.parts.Object.{Object}
 use Rattle.rpki_rules.specs.rpki_bundle.Lawful.{IsLawfulObject}
-use Rattle.rpki_rules.specs.certs_uri.Uris.{IsLookupKey}
+use Rattle.rpki_rules.specs.certs_basics.Uris.{IsLookupKey}
 use Rattle.rpki_rules.specs.Words.{Each}
 use Rattle.rpki_rules.specs.World.{World, find_object}
 use Rattle.rpki_rules.specs.Points.{Link, Anchor}
@@ -14,6 +14,7 @@ use Rattle.rpki_rules.specs.Locators.{https_first}
 use Rattle.rpki_rules.proofs.Readings.{first_held}
 use Rattle.rpki_rules.proofs.of_rpki_bundle.Texts.{text_lawful}
 use Rattle.rpki_rules.proofs.LookedUp.{chosen}
+use Rattle.rpki_rules.proofs.Groups.{not_empty}
 
 -- Something is held at the key.
 abbrev IsKept : World → List ℕ → Type 0
@@ -31,10 +32,6 @@ each_map P Q f (x ∷ xs) e = (f x e.0, each_map P Q f xs e.1)
 places_kept : (w : World) (name : List ℕ) (a : Link) (cs : List Link) → Descends w name a cs → Each (IsKept w) (places a cs)
 places_kept w name a [] h = let q = first_held w (https_first h.uris) a.uri h.octets h.held in ((h.octets, q), tt)
 places_kept w name a (c ∷ cs) h = each_append (IsKept w) (places a cs) c.uri (places_kept w name a cs h.0) (h.3.file.reads.octets, h.3.file.reads.held)
-
-not_empty : (xs : List (List ℕ)) (y : List ℕ) → xs ++ y ∷ [] ≢ []
-not_empty [] y e = absurd cc
-not_empty (x ∷ xs) y e = absurd cc
 
 some_places : (a : Link) (cs : List Link) → places a cs ≢ []
 some_places a [] e = absurd cc

@@ -1,15 +1,15 @@
 -- Keys, certificates and revocation lists, as the rules of the walk name them.
 use Rattle.std.specs.Prelude.{Bool}
-use Rattle.rpki_rules.specs.certs_specs.declared.Role.TheVariants.{Ta, Ca, Ee}
-use Rattle.rpki_rules.specs.certs_specs.Profiles.{Profile}
+use Rattle.rpki_rules.specs.certs_extension.declared.forms.Role.TheVariants.{Ta, Ca, Ee}
+use Rattle.rpki_rules.specs.certs_extension.Profiles.{Profile}
 pub use Rattle.rpki_rules.specs.certs_basics.HandedIn.{Digests}
 pub use Rattle.rpki_rules.specs.certs_basics.Verdicts.{Verdicts, Within}
 pub use Rattle.rpki_rules.specs.certs_basics.Keys.{KeyValue as Key, encoded}
-pub use Rattle.rpki_rules.specs.certs_specs.Cert.{CertValue as Cert}
-pub use Rattle.rpki_rules.specs.certs_specs.CertText.{CertText}
-pub use Rattle.rpki_rules.specs.certs_specs.CrlText.{CrlValue as Crl, CrlText, IsOn}
-pub use Rattle.objects_forms.proofs.of_certs_specs.Certs.{one_cert, one_crl}
-pub use Rattle.objects_forms.proofs.of_certs_specs.Roles.{ca_is_ca}
+pub use Rattle.rpki_rules.specs.certs_extension.Cert.{CertValue as Cert}
+pub use Rattle.rpki_rules.specs.certs_extension.CertText.{CertText}
+pub use Rattle.rpki_rules.specs.certs_extension.CrlText.{CrlValue as Crl, CrlText, IsOn}
+pub use Rattle.objects_payload.proofs.of_certs_extension.Certs.{one_cert, one_crl}
+pub use Rattle.objects_payload.proofs.of_certs_extension.Roles.{ca_is_ca}
 
 -- What inspection asks of a trust anchor's certificate, of another authority's, and of a published object's; strict is
 -- PrintableString alone in names.

@@ -1,13 +1,6 @@
 //! Laws of the rules.
 
-ghost use Rattle.rpki_rules.specs.Laws.{SignedIsVerified, IssuedIsVerified, AnchorIsVerified};
-ghost use Rattle.rpki_rules.specs.Laws.{AnchorHolds, ChainHolds, IssuedHolds};
-ghost use Rattle.rpki_rules.specs.Laws.{OnlyUris, OneObjectAt, TableSays, WitnessNames};
-ghost use Rattle.rpki_rules.specs.Laws.{OneCertAt, OnePoint, OneSigned, OneOutput};
-ghost use Rattle.rpki_rules.specs.Laws.{ClimbingIsExact, JudgingIsExact, Listing};
-ghost use Rattle.rpki_rules.specs.Laws.{DeeperKeeps, VerdictRemoval, CutDownKeeps};
-ghost use Rattle.rpki_rules.specs.Laws.{NonInterference, LocatorsStay, RefusalsStay};
-ghost use Rattle.rpki_rules.specs.Laws.{UntouchedOutput};
+ghost use Rattle.rpki_rules.specs.Laws.{SignedIsVerified, IssuedIsVerified, AnchorIsVerified, AnchorHolds, ChainHolds, IssuedHolds, OnlyUris, OneObjectAt, TableSays, WitnessNames, OneCertAt, OnePoint, OneSigned, OneOutput, ClimbingIsExact, JudgingIsExact, Listing, DeeperKeeps, VerdictRemoval, CutDownKeeps, NonInterference, LocatorsStay, RefusalsStay, UntouchedOutput};
 ghost use Rattle.rpki_rules.specs.Outside.{OutsideStays};
 
 /// What a certificate is asked below an authority, its claim apart, is what the tests of verification ask.

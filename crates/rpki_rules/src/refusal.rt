@@ -3,8 +3,7 @@
 ghost use Rattle.std.specs.Prelude.{◌≡◌, refl};
 ghost use Rattle.rpki_rules.specs.Lines.{cause_text};
 ghost use Rattle.rpki_rules.specs.Views.{refusal_of};
-ghost use Rattle.rpki_rules.specs.Orders.{refusals_cmp, refusals_eq, refusals_total};
-ghost use Rattle.rpki_rules.specs.Orders.{refusals_equiv, refusals_ties};
+ghost use Rattle.rpki_rules.specs.Orders.{refusals_cmp, refusals_eq, refusals_total, refusals_equiv, refusals_ties};
 ghost use Rattle.std.specs.Cmp.{partial_equiv_from_equiv, po};
 ghost use Rattle.std.specs.Ordering.{as_partial_cmp};
 

@@ -1,8 +1,7 @@
 //! The report.
 
 ghost use Rattle.std.specs.Prelude.{◌≡◌, map, IfOk};
-ghost use Rattle.rpki_rules.specs.Views.{origin_of, provision_of, customer_of};
-ghost use Rattle.rpki_rules.specs.Views.{refusal_of, trace_of};
+ghost use Rattle.rpki_rules.specs.Views.{origin_of, provision_of, customer_of, refusal_of, trace_of};
 ghost use Rattle.rpki_rules.specs.Report.{IsReportOf};
 
 use crate::customer::{Customer, Provision, gather};

@@ -1,12 +1,12 @@
 -- What verification tests of a certificate below an issuer, or of an anchor's, in the words of the rules.
 use Rattle.std.proofs.Common.{◌≡◌, ◌↔◌, ℕ, Bool, true, IsTrue, ◌∷◌, [], Some, None, Result, subst}
 use Rattle.std.specs.Prelude.{◌≢◌, IfErr, is_ok}
-use Rattle.certs_verify.specs.certs_errors.declared.verification.VerificationError.{VerificationError}
-use Rattle.certs_verify.specs.certs_errors.declared.verification.VerificationError.TheVariants.{Memory}
+use Rattle.certs_verify.specs.certs_x509.declared.errors.verification.VerificationError.{VerificationError}
+use Rattle.certs_verify.specs.certs_x509.declared.errors.verification.VerificationError.TheVariants.{Memory}
 use Rattle.certs_verify.specs.Answers.{Answers}
 use Rattle.rpki_standing.specs.resources_chain.declared.choice.ResourcesChoice.TheVariants.{Inherit}
-use Rattle.rpki_standing.specs.certs_specs.Verified.{IsAnchorAt, IsSignedBy, PassesAt, anchor_tests, issuer_claim, nothing, validity}
-use Rattle.rpki_standing.specs.certs_specs.declared.VerificationTest.TheVariants as test
+use Rattle.rpki_standing.specs.certs_extension.Verified.{IsAnchorAt, IsSignedBy, PassesAt, anchor_tests, issuer_claim, nothing, validity}
+use Rattle.rpki_standing.specs.certs_extension.declared.forms.VerificationTest.TheVariants as test
 use Rattle.rpki_rules.specs.Certs.{Cert, Key, TaProfile, Verdicts, encoded}
 use Rattle.rpki_rules.specs.Kinds.{Kind, Ipv4, Ipv6, As, claim}
 use Rattle.rpki_rules.specs.Points.{IsAnchorCert, IsValid, Signed}

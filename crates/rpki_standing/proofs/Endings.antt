@@ -4,7 +4,7 @@ use Rattle.std.specs.Char.{to_ascii_lowercase}
 use Rattle.std.proofs.Math.Seq.{drop-append-add}
 use Rattle.std.proofs.lemmas.List.{take-append-drop, length-map, drop_more}
 use Rattle.std.proofs.lemmas.Bool.Decides.{nat_tests}
-use Rattle.rpki_standing.specs.certs_uri.Uris.{lower}
+use Rattle.rpki_standing.specs.certs_basics.Uris.{lower}
 use Rattle.rpki_rules.specs.Chains.{HasExtension}
 use Rattle.rpki_standing.specs.Names.{OneExtension, letters}
 use Rattle.rpki_standing.specs.declared.payloads.names.Extension.{Extension}

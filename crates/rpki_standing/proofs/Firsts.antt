@@ -1,12 +1,12 @@
 -- Where a test fails first, not all are passed; so an answer shows whether all are.
 use Rattle.std.proofs.Common.{◌≡◌, ◌↔◌, Bool, true, IsTrue, List, [], ◌∷◌, ◌++◌, Option, Some, None, Result, Ok, Err, sym, ◌∙◌, subst}
 use Rattle.std.specs.Prelude.{◌≢◌, IfErr, is_ok}
-use Rattle.certs_verify.specs.certs_errors.declared.verification.VerificationError.{VerificationError}
-use Rattle.certs_verify.specs.certs_errors.declared.verification.VerificationError.TheVariants as error
+use Rattle.certs_verify.specs.certs_x509.declared.errors.verification.VerificationError.{VerificationError}
+use Rattle.certs_verify.specs.certs_x509.declared.errors.verification.VerificationError.TheVariants as error
 use Rattle.certs_verify.specs.Answers.{Answers, Fails, fault_of}
 use Rattle.rpki_standing.specs.certs_basics.Lists.{Each, FirstFailing}
-use Rattle.rpki_standing.specs.certs_specs.Calls.{Fault, inspected, verified, wants_memory}
-use Rattle.rpki_standing.specs.certs_specs.declared.VerificationTest.{VerificationTest}
+use Rattle.rpki_standing.specs.certs_extension.Calls.{Fault, inspected, verified, wants_memory}
+use Rattle.rpki_standing.specs.certs_extension.declared.forms.VerificationTest.{VerificationTest}
 
 passed_inside : {X : Type 0} (P : X → Type 0) (front : List X) (x : X) (behind : List X) → Each P (front ++ x ∷ behind) → P x
 passed_inside P [] x behind all = all.0

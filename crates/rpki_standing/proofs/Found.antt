@@ -1,6 +1,6 @@
 -- Which revocation lists are found at a publication point.
 use Rattle.std.proofs.Common.{◌≡◌, ℕ, List, Option, Some, None, sym, ap, ◌∙◌, subst}
-use Rattle.rpki_standing.specs.certs_uri.Uris.{lookup_key}
+use Rattle.rpki_standing.specs.certs_basics.Uris.{lookup_key}
 use Rattle.rpki_rules.specs.Certs.{Cert, Crl, CrlText, IsOn, one_crl}
 use Rattle.rpki_rules.specs.Objects.{Manifest, Object}
 use Rattle.rpki_rules.specs.Points.{IsCrlOf, files}

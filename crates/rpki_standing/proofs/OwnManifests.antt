@@ -1,7 +1,7 @@
 -- An authority has one manifest at most: what its manifest URI reads as, if that is current and its own.
 use Rattle.std.proofs.Common.{◌≡◌, ◌↔◌, ℕ, Bool, true, false, IsTrue, List, Option, Some, None, Result, Ok, Err, MatchOption, refl, sym, subst}
 use Rattle.std.specs.Prelude.{IfOk}
-use Rattle.objects_kinds.specs.Kinds.{KindValue}
+use Rattle.objects_valid.specs.Kinds.{KindValue}
 use Rattle.rpki_standing.proofs.Failing.{one_value}
 use Rattle.rpki_standing.specs.Crls.{Finds}
 use Rattle.rpki_rules.specs.Certs.{Cert}

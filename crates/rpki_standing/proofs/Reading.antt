@@ -14,7 +14,7 @@ use Rattle.rpki_rules.specs.Chains.{HasExtension, roa, asa}
 use Rattle.rpki_rules.specs.World.{World, world_of}
 use Rattle.rpki_standing.specs.Published.{FindsReading, PublishedValue, ReadsAt}
 use Rattle.rpki_standing.specs.Texts.{FindsText, TextOf}
-use Rattle.rpki_standing.proofs.Passing.{one_value}
+use Rattle.rpki_standing.proofs.Failing.{one_value}
 
 -- A name has one extension.
 roa_asa : (uri : List ℕ) → HasExtension roa uri → HasExtension asa uri → ⊥

@@ -7,7 +7,7 @@ use Rattle.std.specs.declared.cmp.Ordering.{Ordering}
 use Rattle.std.specs.declared.cmp.Ordering.TheVariants.{Less, Equal, Greater}
 use Rattle.std.specs.Ordering.{nat_cmp, is_eq}
 use Rattle.std.specs.Cmp.Lexicographic.{slice_cmp, nat_list_cmp_total}
-use Rattle.rpki_standing.specs.certs_uri.Uris.{lookup_key}
+use Rattle.rpki_standing.specs.certs_basics.Uris.{lookup_key}
 use Rattle.rpki_rules.specs.Certs.{Cert, Crl, IsOn}
 use Rattle.rpki_rules.specs.Points.{Point, Unrevoked}
 use Rattle.rpki_standing.proofs.Failing.{one_value}

@@ -1,9 +1,9 @@
 -- What verification of a content says of the object's soundness.
 use Rattle.std.proofs.Common.{◌≡◌, true, false, Result, Ok, Err, refl, sym, subst}
 use Rattle.std.specs.Prelude.{◌↔◌, IsTrue}
-use Rattle.certs_verify.specs.certs_errors.declared.verification.VerificationError.{VerificationError}
-use Rattle.certs_verify.specs.certs_errors.declared.verification.VerificationError.TheVariants as error
-use Rattle.objects_verify.specs.Content.{FailsContent, VerifiesContent}
+use Rattle.certs_verify.specs.certs_x509.declared.errors.verification.VerificationError.{VerificationError}
+use Rattle.certs_verify.specs.certs_x509.declared.errors.verification.VerificationError.TheVariants as error
+use Rattle.objects_cms.specs.Content.{FailsContent, VerifiesContent}
 use Rattle.rpki_rules.specs.Certs.{Digests, Verdicts}
 use Rattle.rpki_rules.specs.Objects.{Object, Sound}
 

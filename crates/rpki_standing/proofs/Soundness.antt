@@ -3,7 +3,7 @@ use Rattle.std.proofs.Common.{◌≡◌, ◌↔◌, ℕ, Bool, true, false, IsTr
 use Rattle.std.specs.Prelude.{IfOk}
 use Rattle.rpki_rules.specs.Certs.{Cert, Crl, Digests, Verdicts}
 use Rattle.rpki_standing.specs.Issued.{IsIssued}
-use Rattle.rpki_standing.specs.certs_specs.declared.Role.TheVariants.{Ee}
+use Rattle.rpki_standing.specs.certs_extension.declared.forms.Role.TheVariants.{Ee}
 use Rattle.rpki_rules.specs.Objects.{Object, Sound}
 use Rattle.rpki_rules.specs.Attests.{Payload, IsSigned}
 use Rattle.rpki_rules.specs.Points.{Point, Unrevoked, files}

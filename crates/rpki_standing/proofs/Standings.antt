@@ -1,6 +1,6 @@
 -- An authority has one point at most: by its manifest, the files that it lists, and the revocation list.
 use Rattle.std.proofs.Common.{◌≡◌, ℕ, List, Option, None, sym, subst}
-use Rattle.objects_kinds.specs.Kinds.{KindValue}
+use Rattle.objects_valid.specs.Kinds.{KindValue}
 use Rattle.rpki_standing.specs.Crls.{Finds}
 use Rattle.rpki_rules.specs.Certs.{Cert, Crl}
 use Rattle.rpki_rules.specs.Objects.{Manifest}

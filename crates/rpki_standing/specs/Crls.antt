@@ -1,6 +1,6 @@
 -- The revocation list of a publication point, by where it stands (RFC 6487 5, RFC 9286 6.2).
 use Rattle.std.specs.Prelude.{◌≡◌, ℕ, true, List, Option, Some, None}
-use Rattle.rpki_standing.specs.certs_uri.Uris.{lookup_key}
+use Rattle.rpki_standing.specs.certs_basics.Uris.{lookup_key}
 use Rattle.rpki_rules.specs.Certs.{Cert, Crl, CrlText}
 use Rattle.rpki_rules.specs.Words.{Mem}
 use Rattle.rpki_rules.specs.World.{World, at}

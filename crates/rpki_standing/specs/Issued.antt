@@ -1,7 +1,7 @@
 -- What an issuer's signature on a certificate says, its claim of resources and revocation apart (RFC 6487 7.2).
 use Rattle.std.specs.Prelude.{◌≡◌, ◌≢◌, true, Some, None}
-use Rattle.rpki_standing.specs.certs_specs.declared.Role.{Role}
-use Rattle.rpki_standing.specs.certs_specs.Profiles.{Profile}
+use Rattle.rpki_standing.specs.certs_extension.declared.forms.Role.{Role}
+use Rattle.rpki_standing.specs.certs_extension.Profiles.{Profile}
 use Rattle.rpki_rules.specs.Certs.{Cert}
 use Rattle.rpki_rules.specs.Points.{Signed}
 use Rattle.rpki_rules.specs.World.{World}

@@ -10,15 +10,14 @@ pub mod Views
 pub mod Published
 pub mod Texts
 -- What stands below, for the crates above.
-pub use Rattle.objects_kinds.specs as objects_kinds
+pub use Rattle.objects_valid.specs as objects_valid
 pub use Rattle.rpki_rules.specs as rpki_rules
 pub use Rattle.rpki_rules.specs.certs_basics as certs_basics
-pub use Rattle.rpki_rules.specs.certs_uri as certs_uri
 pub use Rattle.rpki_rules.specs.resources_chain as resources_chain
 pub use Rattle.rpki_rules.specs.rpki_bundle as rpki_bundle
 pub use Rattle.certs_cert.specs.bcder_source as bcder_source
 pub use Rattle.certs_verify.specs.certs_key as certs_key
 pub use Rattle.certs_verify.specs as certs_verify
-pub use Rattle.rpki_rules.specs.certs_specs as certs_specs
+pub use Rattle.rpki_rules.specs.certs_extension as certs_extension
 pub use Rattle.objects_locator.specs as objects_locator
-pub use Rattle.objects_roa.specs as objects_roa
+pub use Rattle.objects_payload.specs as objects_payload

@@ -1,7 +1,7 @@
 -- The manifest of an authority, by where it stands and by what is asked of it (RFC 9286 6.2, 6.3).
 use Rattle.std.specs.Prelude.{◌≡◌, ◌≤◌, ℕ, true, List, Some}
-use Rattle.objects_kinds.specs.Kinds.{KindValue}
-use Rattle.rpki_standing.specs.certs_specs.declared.Role.TheVariants.{Ee}
+use Rattle.objects_valid.specs.Kinds.{KindValue}
+use Rattle.rpki_standing.specs.certs_extension.declared.forms.Role.TheVariants.{Ee}
 use Rattle.rpki_rules.specs.Certs.{Cert}
 use Rattle.rpki_rules.specs.Objects.{Manifest, ManifestText, Sound}
 use Rattle.rpki_rules.specs.Points.{IsManifestOf}

@@ -1,6 +1,6 @@
 -- What the object at a file of a publication point is, what its certificate claims apart.
 use Rattle.std.specs.Prelude.{◌≡◌, ℕ, List, Option, Some, None}
-use Rattle.rpki_standing.specs.certs_specs.declared.Role.TheVariants.{Ee}
+use Rattle.rpki_standing.specs.certs_extension.declared.forms.Role.TheVariants.{Ee}
 use Rattle.rpki_rules.specs.Certs.{Cert}
 use Rattle.rpki_rules.specs.Objects.{Object, Sound}
 use Rattle.rpki_rules.specs.Attests.{Payload, PayloadText, IsSigned}

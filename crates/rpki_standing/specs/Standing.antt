@@ -1,6 +1,6 @@
 -- What stands at a publication point, with the lookup keys of its files (RFC 9286 6).
 use Rattle.std.specs.Prelude.{◌≡◌, ℕ, List, Option, Some, None}
-use Rattle.objects_kinds.specs.Kinds.{KindValue}
+use Rattle.objects_valid.specs.Kinds.{KindValue}
 use Rattle.rpki_rules.specs.Certs.{Cert, Crl}
 use Rattle.rpki_rules.specs.Objects.{Manifest}
 use Rattle.rpki_rules.specs.Points.{Point, HasFiles, IsCrlOf, IsPoint, files}

@@ -5,15 +5,14 @@ ghost use Rattle.rpki_standing.specs.certs_key.Digesting.{digests_of};
 ghost use Rattle.rpki_standing.specs.Crls.{Finds};
 ghost use Rattle.rpki_rules.specs.Certs.{Digests, Verdicts};
 ghost use Rattle.rpki_rules.specs.World.{world_of};
-ghost use Rattle.rpki_standing.specs.Manifests.{IsCurrent, IsOwnManifest, IsReadAt, IsReadIn};
-ghost use Rattle.rpki_standing.specs.Manifests.{IsSoundFor};
+ghost use Rattle.rpki_standing.specs.Manifests.{IsCurrent, IsOwnManifest, IsReadAt, IsReadIn, IsSoundFor};
 
 use crate::kept::keep_if;
 use crate::points::decode::DecodeError;
 use crate::signed::{Cert, Digester, Verifier, is_issued_to_object, is_sound};
 use crate::table::Index;
 use bytes::Bytes;
-use objects_kinds::Manifest;
+use objects_valid::kinds::Manifest;
 use std::alloc::{AllocError, Global};
 
 // The manifest that those octets begin with, in DER (RFC 9286 4). Nothing of it is verified.

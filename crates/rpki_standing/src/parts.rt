@@ -12,7 +12,7 @@ use crate::points::{Crl, files_of, has_files, read_crl};
 use crate::signed::{Cert, Digester, Verifier};
 use crate::table::Index;
 use bytes::Bytes;
-use objects_kinds::{Manifest, ManifestContent};
+use objects_valid::kinds::{Manifest, ManifestContent};
 use std::alloc::{AllocError, Global};
 
 /// The lookup keys of the files that the manifest lists, if they differ by name and each is there as it is listed.

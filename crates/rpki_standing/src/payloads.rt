@@ -7,8 +7,8 @@ pub mod payload;
 pub mod provisions;
 
 pub use names::{Extension, extension_of};
-pub use objects_aspa::AsProviderAttestation;
-pub use objects_roa::{RoaIpAddress, RoaIpAddresses, RouteOriginAttestation};
+pub use objects_payload::aspa::AsProviderAttestation;
+pub use objects_payload::roa::{RoaIpAddress, RoaIpAddresses, RouteOriginAttestation};
 pub use origins::add_roa_origins;
 pub use payload::Payload;
 pub use provisions::add_aspa_provisions;

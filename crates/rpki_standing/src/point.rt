@@ -12,7 +12,7 @@ use crate::points::{Crl, Rsync};
 use crate::signed::{Cert, Digester, Verifier};
 use crate::table::Index;
 use bytes::Bytes;
-use objects_kinds::Manifest;
+use objects_valid::kinds::Manifest;
 use std::alloc::{AllocError, Global};
 use std::marker::Model;
 

@@ -12,4 +12,4 @@ pub use anchors::is_anchor_cert;
 pub use certs_verify::{Cert, Digester, PublicKey, Verifier};
 pub use issued::{is_issued_to_authority, is_issued_to_object};
 pub use objects::is_sound;
-pub use objects_verify::SignedObject;
+pub use objects_cms::signed::SignedObject;

@@ -4,7 +4,7 @@ use Rattle.certs_verify.specs.Holders.{ResourceCertValue}
 use Rattle.rpki_steps.specs.resources_chain.Claims.{FitsIn, Kept, Lists}
 use Rattle.rpki_steps.specs.resources_chain.Sets.{IsRunsOf}
 use Rattle.rpki_steps.specs.resources_chain.declared.choice.ResourcesChoice.TheVariants.{Inherit}
-use Rattle.rpki_steps.specs.certs_specs.Verified.{IsIssuedAt, IsAnchorAt, HoldsBelow, HoldsOwn, held_by}
+use Rattle.rpki_steps.specs.certs_extension.Verified.{IsIssuedAt, IsAnchorAt, HoldsBelow, HoldsOwn, held_by}
 use Rattle.rpki_rules.specs.Certs.{Cert}
 use Rattle.rpki_rules.specs.Kinds.{Kind, Ipv4, Ipv6, As, claim, of_kind, InSet}
 use Rattle.rpki_rules.specs.World.{World}

@@ -4,7 +4,7 @@ use Rattle.rpki_standing.specs.Leads.{NoCertAt}
 use Rattle.rpki_steps.proofs.Children.{child_below, child_of}
 use Rattle.rpki_steps.specs.Below.{FindsBelow, IsFoundBelow}
 use Rattle.rpki_steps.specs.Holders.{cert_of, sets_of}
-use Rattle.rpki_steps.specs.certs_specs.declared.Role.TheVariants.{Ca}
+use Rattle.rpki_steps.specs.certs_extension.declared.forms.Role.TheVariants.{Ca}
 use Rattle.rpki_steps.specs.certs_verify.Holders.{ResourceCertValue}
 use Rattle.rpki_rules.specs.Certs.{Cert}
 use Rattle.rpki_rules.specs.Chains.{CertAt, HasExtension, IsChild, cer}

@@ -1,6 +1,6 @@
 -- What is below an authority and isn't revoked is a child at its point, and the other way.
 use Rattle.std.proofs.Common.{ℕ}
-use Rattle.rpki_steps.specs.certs_specs.declared.Role.TheVariants.{Ca}
+use Rattle.rpki_steps.specs.certs_extension.declared.forms.Role.TheVariants.{Ca}
 use Rattle.rpki_rules.specs.Certs.{Cert}
 use Rattle.rpki_rules.specs.Kinds.{Kind}
 use Rattle.rpki_rules.specs.World.{World}

@@ -6,9 +6,8 @@ use Rattle.std.specs.Prelude.{◌↔◌, IfOk, IsTrue}
 use Rattle.rpki_steps.specs.certs_verify.Holders.{ResourceCertValue}
 use Rattle.rpki_rules.specs.Certs.{Cert}
 use Rattle.rpki_rules.specs.Chains.{CertAt, HasExtension, asa, cer, roa}
-use Rattle.rpki_rules.specs.Points.{files}
+use Rattle.rpki_rules.specs.Points.{files, Point}
 use Rattle.rpki_rules.specs.Words.{Mem}
-use Rattle.rpki_rules.specs.Points.{Point}
 use Rattle.rpki_rules.specs.World.{World}
 use Rattle.rpki_steps.specs.Holders.{cert_of}
 use Rattle.rpki_walk.specs.declared.steps.Filed.{Filed}

@@ -6,11 +6,11 @@ use Rattle.certs_verify.specs.declared.refused.Refused.{Refused}
 use Rattle.certs_verify.specs.Holders.{ResourceCertValue}
 use Rattle.certs_verify.specs.Validated.{MeetsValid, cause_of}
 use Rattle.certs_verify.specs.Words.{RefusedBy}
-use Rattle.rpki_steps.specs.certs_errors.declared.validation.ValidationError.{ValidationError}
-use Rattle.rpki_steps.specs.certs_specs.declared.Role.TheVariants.{Ta}
-use Rattle.rpki_steps.specs.certs_specs.Calls.{Fault, inspected, verified, wants_memory, FailsAnchor, ValidatesAnchor}
-use Rattle.rpki_steps.specs.certs_specs.Profiles.{Passes, tests}
-use Rattle.rpki_steps.specs.certs_specs.Verified.{AcceptsAnchor, PassesAt, anchor_tests, nothing}
+use Rattle.rpki_steps.specs.certs_x509.declared.errors.validation.ValidationError.{ValidationError}
+use Rattle.rpki_steps.specs.certs_extension.declared.forms.Role.TheVariants.{Ta}
+use Rattle.rpki_steps.specs.certs_extension.Calls.{Fault, inspected, verified, wants_memory, FailsAnchor, ValidatesAnchor}
+use Rattle.rpki_steps.specs.certs_extension.Profiles.{Passes, tests}
+use Rattle.rpki_steps.specs.certs_extension.Verified.{AcceptsAnchor, PassesAt, anchor_tests, nothing}
 use Rattle.rpki_rules.specs.Certs.{Cert, Key, encoded}
 use Rattle.rpki_rules.specs.World.{World}
 use Rattle.rpki_rules.specs.Points.{IsAnchorCert}

@@ -5,11 +5,11 @@ use Rattle.certs_verify.specs.declared.refused.Refused.{Refused}
 use Rattle.certs_verify.specs.Holders.{ResourceCertValue}
 use Rattle.certs_verify.specs.Validated.{MeetsValid, cause_of}
 use Rattle.certs_verify.specs.Words.{RefusedBy}
-use Rattle.rpki_steps.specs.certs_errors.declared.validation.ValidationError.{ValidationError}
-use Rattle.rpki_steps.specs.certs_specs.declared.Role.{Role}
-use Rattle.rpki_steps.specs.certs_specs.Calls.{Fault, inspected, verified, wants_memory, FailsIssued, ValidatesIssued}
-use Rattle.rpki_steps.specs.certs_specs.Profiles.{Passes, tests}
-use Rattle.rpki_steps.specs.certs_specs.Verified.{AcceptsIssued, PassesAt, held_by, issued_tests}
+use Rattle.rpki_steps.specs.certs_x509.declared.errors.validation.ValidationError.{ValidationError}
+use Rattle.rpki_steps.specs.certs_extension.declared.forms.Role.{Role}
+use Rattle.rpki_steps.specs.certs_extension.Calls.{Fault, inspected, verified, wants_memory, FailsIssued, ValidatesIssued}
+use Rattle.rpki_steps.specs.certs_extension.Profiles.{Passes, tests}
+use Rattle.rpki_steps.specs.certs_extension.Verified.{AcceptsIssued, PassesAt, held_by, issued_tests}
 use Rattle.rpki_rules.specs.Certs.{Cert}
 use Rattle.rpki_rules.specs.Kinds.{InSet}
 use Rattle.rpki_rules.specs.World.{World}

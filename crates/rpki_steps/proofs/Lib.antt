@@ -1,3 +1,12 @@
+mod Plain
+mod Spelled
+mod Unheld
+mod Listed
+mod Repository
+mod Found
+mod Stands
+mod Told
+mod Claimed
 pub mod AnchorLemmas
 pub mod CertFiles
 pub mod ClaimLemmas
@@ -12,4 +21,7 @@ pub mod FoundBelow
 pub mod FoundAnchor
 pub mod Children
 pub mod Settling
+mod Passing
+mod Named
+mod Looked
 pub mod of_rpki_rules

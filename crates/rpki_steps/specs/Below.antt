@@ -2,8 +2,8 @@
 use Rattle.std.specs.Prelude.{◌≡◌, ℕ, true, Option, Some, None}
 use Rattle.certs_verify.specs.Holders.{ResourceCertValue}
 use Rattle.rpki_walk.specs.Filed.{HasKept}
-use Rattle.rpki_steps.specs.certs_specs.declared.Role.{Role}
-use Rattle.rpki_steps.specs.certs_specs.Profiles.{Profile}
+use Rattle.rpki_steps.specs.certs_extension.declared.forms.Role.{Role}
+use Rattle.rpki_steps.specs.certs_extension.Profiles.{Profile}
 use Rattle.rpki_rules.specs.Certs.{Cert}
 use Rattle.rpki_rules.specs.Kinds.{Kind, InSet}
 use Rattle.rpki_rules.specs.World.{World}

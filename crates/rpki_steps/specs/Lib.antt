@@ -1,3 +1,7 @@
+pub mod PlaceFiles
+pub mod Parts
+pub mod PlaceClaims
+pub mod Places
 pub mod Anchors
 pub mod Claims
 pub mod Files
@@ -7,13 +11,15 @@ pub mod Holders
 pub mod Below
 pub mod Anchored
 pub mod Settled
+pub mod ClimbAnchors
 -- What stands below, for the crates above.
+pub use Rattle.rpki_standing.specs.certs_key as certs_key
+pub use Rattle.rpki_standing.specs.certs_extension as certs_extension
+pub use Rattle.rpki_standing.specs.certs_basics as certs_basics
+pub use Rattle.certs_verify.specs as certs_verify
+pub use Rattle.rpki_bundle.specs as rpki_bundle
 pub use Rattle.rpki_rules.specs as rpki_rules
-pub use Rattle.certs_verify.specs.certs_basics as certs_basics
-pub use Rattle.certs_verify.specs.certs_key as certs_key
-pub use Rattle.certs_verify.specs.certs_errors as certs_errors
-pub use Rattle.rpki_rules.specs.certs_specs as certs_specs
+pub use Rattle.certs_verify.specs.certs_x509 as certs_x509
 pub use Rattle.rpki_walk.specs.resources_chain as resources_chain
 pub use Rattle.rpki_walk.specs.resources_set as resources_set
-pub use Rattle.certs_verify.specs as certs_verify
 pub use Rattle.rpki_walk.specs as rpki_walk

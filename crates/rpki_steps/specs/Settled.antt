@@ -3,8 +3,8 @@ use Rattle.std.specs.Prelude.{◌≡◌, ◌≢◌, Option, Some, None, Result, 
 use Rattle.certs_verify.specs.declared.refused.Refused.{Refused}
 use Rattle.certs_verify.specs.Holders.{ResourceCertValue}
 use Rattle.certs_verify.specs.Validated.{cause_of}
-use Rattle.rpki_steps.specs.certs_errors.declared.validation.ValidationError.{ValidationError}
-use Rattle.rpki_steps.specs.certs_specs.Calls.{wants_memory}
+use Rattle.rpki_steps.specs.certs_x509.declared.errors.validation.ValidationError.{ValidationError}
+use Rattle.rpki_steps.specs.certs_extension.Calls.{wants_memory}
 
 -- The certificate was accepted, or refused by a test and not for lack of memory.
 abbrev pub Settles : Result ResourceCertValue (Refused ValidationError) → Option ResourceCertValue → Type 0

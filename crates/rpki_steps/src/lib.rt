@@ -1,5 +1,7 @@
 //! What the walk asks of a bundle, answered of its objects: what a locator leads to (RFC 8630 3), what stands at an
 //! authority's publication point (RFC 9286 6), what a file there is (RFC 6481 2.2), and what locators and authorities name.
+//!
+//! [`climb`] answers what the judge asks, and [`places`] has publication points with the octets of their files.
 #![tactic(auto)]
 
 pub mod accepted;
@@ -7,10 +9,12 @@ pub mod anchors;
 pub mod authority;
 pub mod certs;
 pub mod claims;
+pub mod climb;
 pub mod files;
 pub mod names;
 pub mod naming;
 pub mod payloads;
+pub mod places;
 pub mod points;
 pub mod steps;
 pub mod whole;

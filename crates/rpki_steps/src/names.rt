@@ -7,11 +7,11 @@ ghost use Rattle.rpki_rules.specs.Points.{files};
 ghost use Rattle.rpki_rules.specs.Reach.{NamesFile};
 ghost use Rattle.rpki_rules.specs.Words.{Mem};
 ghost use Rattle.rpki_rules.specs.World.{world_of};
-ghost use Rattle.rpki_standing.specs.certs_uri.Uris.{lookup_key as key_of};
+ghost use Rattle.rpki_standing.specs.certs_basics.Uris.{lookup_key as key_of};
 ghost use Rattle.rpki_walk.specs.Naming.{AreLocatorKeys, AreNamed};
 
 use bytes::Bytes;
-use certs_uri::grammar::lookup_key;
+use certs_basics::uri::grammar::lookup_key;
 use certs_verify::Cert;
 use rpki_standing::anchors::{TalUri, read_locator_text};
 use rpki_standing::table::{Index, Locator};

@@ -12,7 +12,7 @@ use Rattle.rpki_validator.specs.rpki_rules.Points.{Link}
 use Rattle.rpki_validator.specs.rpki_rules.Reach.{AgreeBut, Forged, Held, IsReach}
 use Rattle.rpki_validator.specs.rpki_rules.Refused.{LocatorRefused, AnchorRefused, ChainRefuses, IsRefused}
 use Rattle.rpki_validator.specs.rpki_rules.World.{World, run_world, table}
-use Rattle.rpki_climb.specs.rpki_rules.Outside.{OutsideStays}
+use Rattle.rpki_steps.specs.rpki_rules.Outside.{OutsideStays}
 use Rattle.rpki_validator.specs.Forging.{AgreesBut, ForgingStaysInside, IsOfLocator, LocatorLinesStay, RefusalLinesStay, UntouchedStays}
 
 agree : (d : Digests) (uris : List (List ℕ)) (b b' : BundleValue) → AgreesBut uris b b' → AgreeBut uris (run_world d b) (run_world d b')

@@ -3,5 +3,5 @@ pub mod Ends
 mod Forging
 mod Judging
 pub mod of_bcder_tree
-pub mod of_certs_time
+pub mod of_certs_basics
 pub mod of_rpki_bundle

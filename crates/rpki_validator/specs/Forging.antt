@@ -12,7 +12,7 @@ use Rattle.rpki_validator.specs.rpki_rules.Points.{Link}
 use Rattle.rpki_validator.specs.rpki_rules.Reach.{IsOneOf, IsReach, Held, NamesOne, SomeLocatorNames, NoFrontNames}
 use Rattle.rpki_validator.specs.rpki_rules.Refused.{ChainRefuses}
 use Rattle.rpki_validator.specs.rpki_rules.World.{find_object, run_world}
-use Rattle.rpki_climb.specs.rpki_rules.Outside.{AreAlikeOutside}
+use Rattle.rpki_steps.specs.rpki_rules.Outside.{AreAlikeOutside}
 
 -- The second bundle has what the first has, but for the objects at these URIs: there it may have any, or none.
 pub record AgreesBut (uris : List (List ℕ)) (b b' : BundleValue) : Type 0 where

@@ -6,15 +6,14 @@ ghost use Rattle.rpki_validator.specs.rpki_rules.Judge.{IsJudged, may_ask};
 ghost use Rattle.rpki_validator.specs.rpki_rules.Reach.{IsReach};
 ghost use Rattle.rpki_validator.specs.rpki_rules.World.{world_of};
 ghost use Rattle.rpki_rules.specs.Report.{IsReport};
-ghost use Rattle.rpki_rules.specs.Views.{trace_of};
+ghost use Rattle.rpki_rules.specs.Views.{trace_of, way_of};
 ghost use Rattle.rpki_walk.specs.Chained.{AreNamingChains};
 ghost use Rattle.rpki_walk.specs.Naming.{answer_of};
-ghost use Rattle.rpki_rules.specs.Views.{way_of};
 
 use bytes::Bytes;
 use rpki_bundle::{Bundle, Digester, Verifier};
-use rpki_climb::{BundleEvidence, Judgement};
 use rpki_rules::{Path, Report, Witness};
+use rpki_steps::climb::{BundleEvidence, Judgement};
 use rpki_steps::{BundleSteps, Index};
 use rpki_walk::reach::Reach;
 use std::alloc::{AllocError, Global};
@@ -69,7 +68,7 @@ pub fn judge_by<D: Digester, V: Verifier>(
 {
     let locator = witness.locator().as_slice();
     let object = witness.object().as_slice();
-    rpki_climb::judge(alloc, evidence, locator, witness.chain(), object)
+    rpki_steps::climb::judge(alloc, evidence, locator, witness.chain(), object)
 }
 
 /// Whether the witness is one of those that a walk of the bundle lists, by this digester and this verifier. It is read from

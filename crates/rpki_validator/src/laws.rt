@@ -1,14 +1,13 @@
 //! Laws of what runs print: the contracts of functions that do nothing.
 
-ghost use Rattle.rpki_validator.specs.Forging.{ForgingStaysInside, UntouchedStays};
-ghost use Rattle.rpki_validator.specs.Forging.{LocatorLinesStay, RefusalLinesStay};
+ghost use Rattle.rpki_validator.specs.Forging.{ForgingStaysInside, UntouchedStays, LocatorLinesStay, RefusalLinesStay};
 ghost use Rattle.rpki_validator.specs.Judging.{JudgingAgreesWithWalking};
 
 pub use rpki_bundle::laws::bundle_length;
-pub use rpki_climb::laws::{
+pub use rpki_steps::climb::laws::{
     cut_down_keeps, deeper_keeps, verdict_removal, what_is_attested_is_listed,
 };
-use rpki_climb::laws::{locators_stay, outside_stays, refusals_stay, untouched_output};
+use rpki_steps::climb::laws::{locators_stay, outside_stays, refusals_stay, untouched_output};
 
 /// Forging the objects at some URIs changes no line of an origin or a customer outside what these URIs reach, whatever the
 /// forged objects are.

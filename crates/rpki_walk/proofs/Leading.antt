@@ -4,7 +4,7 @@ use Rattle.rpki_walk.specs.resources_set.Resources.{Resources}
 use Rattle.rpki_walk.specs.rpki_bundle.declared.parts.Locator.{Locator}
 use Rattle.rpki_rules.specs.Certs.{Key, Cert, CertText, one_cert}
 use Rattle.rpki_rules.specs.Locators.{LocatorText, https_first}
-use Rattle.rpki_walk.proofs.of_objects_forms.Locators.{one_locator}
+use Rattle.rpki_walk.proofs.of_objects_payload.Locators.{one_locator}
 use Rattle.rpki_rules.specs.declared.cause.Cause.TheVariants as cause
 use Rattle.rpki_rules.specs.Words.{Mem, NoRepeat}
 use Rattle.rpki_rules.specs.Kinds.{Kind, InSet}

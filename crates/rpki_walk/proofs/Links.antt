@@ -11,7 +11,7 @@ use Rattle.rpki_rules.specs.Attests.{Trace, Payload, IsWitness}
 use Rattle.rpki_rules.specs.Judge.{NeedAt, Needs, Climbs, Climbed, IsJudged}
 use Rattle.rpki_rules.specs.Certs.{Cert}
 use Rattle.rpki_rules.specs.Locators.{https_first}
-use Rattle.rpki_rules.proofs.Lists.{mem_append}
+use Rattle.rpki_rules.proofs.Orders.{mem_append}
 use Rattle.rpki_rules.proofs.Readings.{first_held, one_cert_at}
 use Rattle.rpki_rules.proofs.Judging.{judging_is_exact}
 use Rattle.rpki_walk.specs.declared.judge.judging.Judgement.{Judgement}
@@ -75,7 +75,7 @@ climbs_at w name a (c ∷ cs) need h = (h.3.reads, climbs_at w name a cs (NeedAt
 -- A place of a chain is one of its links.
 at_place : (w : World) (ls : List Link) → AreAt w ls → (uri : List ℕ) → Mem (places_of ls) uri → (c : Cert) × CertAt w uri c
 at_place w [] h uri m = absurd m
-at_place w (l ∷ ls) h uri m = elim (mem_append (places_of ls) (l.uri ∷ []) uri m) [
+at_place w (l ∷ ls) h uri m = elim ((mem_append (places_of ls) (l.uri ∷ []) uri).0 m) [
   | inl k ↦ at_place w ls h.1 uri k
   | inr k ↦ (l.cert, at_one k)
 ]

@@ -5,7 +5,7 @@ use Rattle.std.proofs.lemmas.Slice.Eq.{bytes_eq-Decides}
 use Rattle.rpki_walk.specs.rpki_bundle.declared.parts.Locator.{Locator}
 use Rattle.rpki_walk.specs.rpki_bundle.Uris.{lookup_key}
 use Rattle.rpki_rules.specs.Certs.{Cert}
-use Rattle.rpki_walk.proofs.of_objects_forms.Locators.{one_locator}
+use Rattle.rpki_walk.proofs.of_objects_payload.Locators.{one_locator}
 use Rattle.rpki_rules.specs.Words.{Mem}
 use Rattle.rpki_rules.specs.World.{World}
 use Rattle.rpki_rules.specs.Reach.{IsOneOf, NamesOne, SomeLocatorNames}

@@ -9,13 +9,11 @@ use Rattle.rpki_rules.specs.Chains.{last_of, places, keys, Holds, Stands, Accept
 use Rattle.rpki_rules.specs.Attests.{Origin, Provision, Payload, origins, provisions, Trace, Good, IsGood, IsWitness, AttestsOrigin, AttestsProvision}
 use Rattle.rpki_rules.specs.Refused.{LocatorRefused, AnchorRefused, IsFileRefused, ChainRefuses, IsRefused}
 use Rattle.rpki_rules.specs.Lines.{Customer, Refusal}
-use Rattle.rpki_rules.specs.Output.{AreCustomers}
-use Rattle.rpki_rules.specs.Report.{ReportValue, IsReportOf, IsReport, AreCustomersOf}
+use Rattle.rpki_rules.specs.Output.{AreCustomers, IsCustomer}
+use Rattle.rpki_rules.specs.Report.{ReportValue, IsReportOf, IsReport, AreCustomersOf, IsCustomerOf}
 use Rattle.rpki_rules.specs.Views.{origin_of, provision_of, refusal_of, trace_of}
 use Rattle.rpki_rules.proofs.Orders.{mem_append, each_at, each_of}
 use Rattle.rpki_rules.proofs.Groups.{map_push, customers_to}
-use Rattle.rpki_rules.specs.Output.{IsCustomer}
-use Rattle.rpki_rules.specs.Report.{IsCustomerOf}
 use Rattle.rpki_rules.specs.declared.refusal.Refusal.{Refusal as CodeRefusal}
 use Rattle.rpki_rules.specs.declared.witness.Witness.{Witness as CodeWitness}
 use Rattle.rpki_rules.specs.declared.origin.Origin.{Origin as CodeOrigin}
@@ -24,6 +22,7 @@ use Rattle.rpki_walk.specs.declared.whole.Findings.{Findings}
 use Rattle.rpki_walk.specs.Facts.{Told, Refuses, Shows, Originates, Provides, Reaches, Chains, ShownBy, IsTold, Gains}
 use Rattle.rpki_walk.specs.Lines.{has_found, IsLine}
 use Rattle.rpki_rules.proofs.Fronts.{keys_count}
+use Rattle.rpki_walk.proofs.Mems.{mem_push}
 
 -- A good object at the end of an accepted chain that stands.
 good_of : (w : World) (name : List ℕ) (a : Link) (cs : List Link) → Accepted w name a cs → (p : Point) → Stands w a cs p → (uri : List ℕ) (x : Payload) → IsGood w (Holds a cs) (last_of a cs).cert p uri x → Good w (record { locator = name; chain = places a cs; object = uri }) x
@@ -153,12 +152,6 @@ module _ (w : World) where
         refusals_are = record { ascend = h.refusals_are.ascend; exact = λ x. (λ m. (rs x).0 ((h.refusals_are.exact x).0 m), λ m. (h.refusals_are.exact x).1 ((rs x).1 m)) };
         witnesses_are = record { ascend = h.witnesses_are.ascend; exact = λ t. (λ m. (ts t).0 ((h.witnesses_are.exact t).0 m), λ m. (h.witnesses_are.exact t).1 ((ts t).1 m)) };
       }
-
-mem_push : {X : Type 0} (xs : List X) (y x : X) → Mem (xs ++ y ∷ []) x ↔ (Mem xs x ⊎ (y ≡ x))
-mem_push xs y x = let h = mem_append xs (y ∷ []) x in (
-  λ m. elim (h.0 m) [ inl a ↦ inl a | inr b ↦ elim b [ inl e ↦ inr e | inr n ↦ elim n [ ] ] ],
-  λ m. h.1 (elim m [ inl a ↦ inl a | inr e ↦ inr (inl e) ]),
-)
 
 mapped_push : {X Y : Type 0} (f : X → Y) (old new : List X) (z : X) → new ≡ old ++ z ∷ [] → (y : Y) → Mem (map f new) y ↔ (Mem (map f old) y ⊎ (f z ≡ y))
 mapped_push {X = X} f old new z e y = subst (λ (ys : List X). Mem (map f ys) y ↔ (Mem (map f old) y ⊎ (f z ≡ y))) (sym e) (subst (λ ys. Mem ys y ↔ (Mem (map f old) y ⊎ (f z ≡ y))) (sym (map_push f old z)) (mem_push (map f old) (f z) y))

@@ -1,16 +1,16 @@
 //! The attributes that a signer signs, written again and read of what is signed (RFC 5652 5.3, 5.4; RFC 6488 2.1.6.4).
 
 ghost use Rattle.std.specs.Prelude.{◌≡◌, IfErr, IfOk, List, OnErr, true, ℕ};
-ghost use Rattle.objects_frame.specs.bcder_tree.Strings.{octet_string_tag};
-ghost use Rattle.objects_frame.specs.bcder_tree.Tags.{set_tag};
-ghost use Rattle.objects_frame.specs.bcder_content.Exact.{ReadsAs};
-ghost use Rattle.objects_frame.specs.bcder_content.Grammar.{Inside};
-ghost use Rattle.objects_frame.specs.bcder_content.Here.{here};
-ghost use Rattle.objects_frame.specs.bcder_content.InMode.{ReadsFields};
-ghost use Rattle.objects_frame.specs.objects_forms.SignedAttributes.{AttributesValue};
-ghost use Rattle.certs_cert.specs.certs_signed.Took.{TookOctets};
-ghost use Rattle.objects_attributes.specs.Kept.{AreKept};
-ghost use Rattle.objects_signed.specs.Signer.{AreKeptOctets};
+ghost use Rattle.objects_written.specs.bcder_tree.Strings.{octet_string_tag};
+ghost use Rattle.objects_written.specs.bcder_tree.Tags.{set_tag};
+ghost use Rattle.objects_written.specs.bcder_content.Exact.{ReadsAs};
+ghost use Rattle.objects_written.specs.bcder_content.Grammar.{Inside};
+ghost use Rattle.objects_written.specs.bcder_content.Here.{here};
+ghost use Rattle.objects_written.specs.bcder_content.InMode.{ReadsFields};
+ghost use Rattle.objects_written.specs.objects_payload.SignedAttributes.{AttributesValue};
+ghost use Rattle.certs_cert.specs.certs_x509.Took.{TookOctets};
+ghost use Rattle.objects_cms.specs.Kept.{AreKept};
+ghost use Rattle.objects_cms.specs.Signer.{AreKeptOctets};
 ghost use Rattle.objects.specs.Again.{DerRefused, SpellsMessage};
 ghost use Rattle.objects.specs.Taking.{in_der as captured_der};
 
@@ -20,8 +20,8 @@ use certs_key::decode::{Constructed, DecodeError, Source};
 use certs_key::string::OctetSliceEncoder;
 use certs_key::{Captured, OctetString, Tag};
 use certs_written::{Context0, EncodeError};
-use objects_attributes::SignedAttrs;
-use objects_frame::attributes::SetOf;
+use objects_cms::attributes::SignedAttrs;
+use objects_written::frame::attributes::SetOf;
 use std::alloc::{AllocError, Global};
 use std::marker::Model;
 

@@ -1,8 +1,8 @@
 //! Certificates that are carried, in DER.
 
 ghost use Rattle.std.specs.Prelude.{◌≡◌, IfErr, IfOk};
-ghost use Rattle.objects_frame.specs.bcder_tree.declared.mode.Mode.TheVariants.{Der};
-ghost use Rattle.objects_frame.specs.bcder_content.Kept.{SpellsValues};
+ghost use Rattle.objects_written.specs.bcder_tree.declared.mode.Mode.TheVariants.{Der};
+ghost use Rattle.objects_written.specs.bcder_content.Kept.{SpellsValues};
 ghost use Rattle.objects.specs.Again.{CertRefused, WritesCertAgain, cert_value};
 
 use crate::again::der::in_der;

@@ -1,14 +1,14 @@
 //! The content of a signed object, read by a closure (RFC 5652 5.2).
 
 ghost use Rattle.std.specs.Prelude.{List, ℕ};
-ghost use Rattle.objects_frame.specs.bcder_tree.declared.mode.Mode.TheVariants.{Der};
-ghost use Rattle.objects_frame.specs.bcder_content.Captures.{rest_of};
-ghost use Rattle.objects_frame.specs.bcder_content.Ran.{Decoded, fresh};
+ghost use Rattle.objects_written.specs.bcder_tree.declared.mode.Mode.TheVariants.{Der};
+ghost use Rattle.objects_written.specs.bcder_content.Captures.{rest_of};
+ghost use Rattle.objects_written.specs.bcder_content.Ran.{Decoded, fresh};
 
 use certs_key::decode::{Constructed, Decode, DecodeError};
 use certs_key::string::OctetStringSource;
 use certs_key::{DigestAlgorithm, Mode, OctetString};
-use objects_kinds::SignedObject;
+use objects_valid::kinds::SignedObject;
 use std::alloc::Global;
 use std::convert::Infallible;
 

@@ -1,8 +1,8 @@
 //! Octets that were kept, taken as values in DER.
 
 ghost use Rattle.std.specs.Prelude.{IfErr, IfOk};
-ghost use Rattle.objects_frame.specs.bcder_content.Captures.{rest_of};
-ghost use Rattle.objects_frame.specs.bcder_content.Here.{here};
+ghost use Rattle.objects_written.specs.bcder_content.Captures.{rest_of};
+ghost use Rattle.objects_written.specs.bcder_content.Here.{here};
 ghost use Rattle.objects.specs.Again.{DerRefused};
 ghost use Rattle.objects.specs.Taking.{DecodesDer, IsInDer, TakesAll};
 

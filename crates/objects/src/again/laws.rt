@@ -1,18 +1,18 @@
 //! Laws of what is written again: the contracts of functions that do nothing.
 
 ghost use Rattle.std.specs.Prelude.{◌≡◌, ℕ, List, true};
-ghost use Rattle.objects_frame.specs.bcder_tree.declared.mode.Mode.TheVariants.{Der};
-ghost use Rattle.objects_frame.specs.bcder_tree.Tags.{set_tag};
-ghost use Rattle.objects_frame.specs.bcder_values.Captures.{CapturedText};
-ghost use Rattle.objects_frame.specs.bcder_written.Encoded.{WritesWrapped};
-ghost use Rattle.objects_frame.specs.objects_forms.Aspas.{Aspa as AspaValue, AspaText};
-ghost use Rattle.objects_frame.specs.objects_forms.Manifests.{Manifest as ManifestValue, ManifestText};
-ghost use Rattle.objects_frame.specs.objects_forms.ObjectText.{IsSignedMessage, Object, ObjectText, Signer};
-ghost use Rattle.objects_frame.specs.objects_forms.Roas.{Roa as RoaValue, RoaText};
+ghost use Rattle.objects_written.specs.bcder_tree.declared.mode.Mode.TheVariants.{Der};
+ghost use Rattle.objects_written.specs.bcder_tree.Tags.{set_tag};
+ghost use Rattle.objects_written.specs.bcder_values.Captures.{CapturedText};
+ghost use Rattle.objects_written.specs.bcder_written.Encoded.{WritesWrapped};
+ghost use Rattle.objects_written.specs.objects_payload.Aspas.{Aspa as AspaValue, AspaText};
+ghost use Rattle.objects_written.specs.objects_payload.Manifests.{Manifest as ManifestValue, ManifestText};
+ghost use Rattle.objects_written.specs.objects_payload.ObjectText.{IsSignedMessage, Object, ObjectText, Signer};
+ghost use Rattle.objects_written.specs.objects_payload.Roas.{Roa as RoaValue, RoaText};
 ghost use Rattle.objects.specs.Again.{StandsInDer, WritesAgain, with_null};
 ghost use Rattle.objects.specs.Taking.{in_der};
 
-use certs_again::laws::what_is_built_is_read;
+use certs::again::laws::what_is_built_is_read;
 
 /// An object that was read strictly stands in DER, so that it is written but where a content is too long.
 pub fn what_is_read_stands_in_der()

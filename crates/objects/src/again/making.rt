@@ -1,10 +1,10 @@
 //! Contents of manifests that are made (RFC 9286 4.2).
 
 ghost use Rattle.std.specs.Prelude.{◌≡◌, ◌++◌, ◌∷◌, ◌↔◌, [], IfErr, IfOk, IsTrue, OnErr, OnOk};
-ghost use Rattle.objects_frame.specs.bcder_tree.declared.mode.Mode.TheVariants.{Der};
-ghost use Rattle.objects_frame.specs.bcder_content.Texts.{SpellsOf};
-ghost use Rattle.objects_frame.specs.bcder_values.Gathered.{ExtendRefused};
-ghost use Rattle.objects_frame.specs.objects_forms.Manifests.{IsFileName, IsManifest, Manifest as ManifestValue};
+ghost use Rattle.objects_written.specs.bcder_tree.declared.mode.Mode.TheVariants.{Der};
+ghost use Rattle.objects_written.specs.bcder_content.Texts.{SpellsOf};
+ghost use Rattle.objects_written.specs.bcder_values.Gathered.{ExtendRefused};
+ghost use Rattle.objects_written.specs.objects_payload.Manifests.{IsFileName, IsManifest, Manifest as ManifestValue};
 ghost use Rattle.objects_written.specs.Manifests.{AreFileNames, IsManifestNumber, file as written_file};
 ghost use Rattle.objects_written.specs.Manifests.{manifest, manifest_parts, moment};
 ghost use Rattle.objects.specs.Making.{IsCause, MakingRefused, file_of, manifest_of};
@@ -13,8 +13,8 @@ ghost use Rattle.objects.specs.declared.again.making.ManifestError.TheVariants.{
 use bytes::Bytes;
 use certs_key::{Captured, ConstOid, Mode, Oid, Serial};
 use certs_written::{EncodeError, Identifier, Sequence, SerialValue, Time, Values};
-use objects_manifest::file::is_file_name;
-use objects_manifest::{FileAndHash, ManifestContent};
+use objects_cms::manifest::file::is_file_name;
+use objects_cms::manifest::{FileAndHash, ManifestContent};
 use objects_written::EncodeFile;
 use std::alloc::{AllocError, Global};
 use std::io::Write;
@@ -49,7 +49,7 @@ pub struct GivenFile {
 }
 
 impl Model for GivenFile {
-    ghost use Rattle.objects_frame.specs.objects_forms.Manifests.{File};
+    ghost use Rattle.objects_written.specs.objects_payload.Manifests.{File};
 
     ghost Value = { File };
 
@@ -140,7 +140,7 @@ pub struct ManifestBuilder {
 }
 
 impl Model for ManifestBuilder {
-    ghost use Rattle.objects_frame.specs.objects_forms.Manifests.{Manifest};
+    ghost use Rattle.objects_written.specs.objects_payload.Manifests.{Manifest};
 
     ghost Value = { Manifest };
 

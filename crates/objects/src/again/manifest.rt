@@ -3,7 +3,7 @@
 use crate::again::object::{EncodeObject, ObjectValues};
 use certs_key::Captured;
 use certs_written::EncodeError;
-use objects_kinds::Manifest;
+use objects_valid::kinds::Manifest;
 use std::alloc::Global;
 
 impl EncodeObject for Manifest {

@@ -1,19 +1,18 @@
 //! Signed objects, written again (RFC 5652 3, 5; RFC 6488 2).
 
 ghost use Rattle.std.specs.Prelude.{◌≡◌, IfErr, IfOk};
-ghost use Rattle.objects_frame.specs.bcder_tree.declared.mode.Mode.TheVariants.{Der};
-ghost use Rattle.objects_frame.specs.objects_forms.ObjectText.{Object};
-ghost use Rattle.objects_frame.specs.Frames.{object as written_object};
-ghost use Rattle.objects.specs.Again.{AgainRefused, ArePartsOf, DerRefused, PartsRefused};
-ghost use Rattle.objects.specs.Again.{StandsInDer, WritesAgain, parts_with};
+ghost use Rattle.objects_written.specs.bcder_tree.declared.mode.Mode.TheVariants.{Der};
+ghost use Rattle.objects_written.specs.objects_payload.ObjectText.{Object};
+ghost use Rattle.objects_written.specs.Frames.{object as written_object};
+ghost use Rattle.objects.specs.Again.{AgainRefused, ArePartsOf, DerRefused, PartsRefused, StandsInDer, WritesAgain, parts_with};
 ghost use Rattle.objects.specs.Taking.{IsInDer};
 
 use crate::again::cert::cert_text;
 use crate::again::der::in_der;
 use certs_key::{Captured, KeyIdentifier, Mode, OctetString};
 use certs_written::{EncodeError, Values};
-use objects_frame::{ObjectValue, SignerValue};
-use objects_kinds::SignedObject;
+use objects_valid::kinds::SignedObject;
+use objects_written::frame::{ObjectValue, SignerValue};
 use std::alloc::Global;
 use std::io::Write;
 use std::marker::Model;
@@ -31,7 +30,7 @@ pub struct ObjectValues<'a> {
 }
 
 impl<'a> Model for ObjectValues<'a> {
-    ghost use Rattle.objects_frame.specs.Frames.{ObjectParts};
+    ghost use Rattle.objects_written.specs.Frames.{ObjectParts};
 
     ghost Value = { ObjectParts };
 

@@ -2,12 +2,12 @@
 
 ghost use Rattle.std.specs.Prelude.{◌≡◌, List};
 ghost use Rattle.std.specs.Iterator.{item_count};
-ghost use Rattle.objects_frame.specs.objects_forms.Manifests.{File};
+ghost use Rattle.objects_written.specs.objects_payload.Manifests.{File};
 ghost use Rattle.objects.specs.Uris.{IsUriOf, YieldsUris};
 
+use certs_basics::uri::{Error, Rsync};
 use certs_key::DigestAlgorithm;
-use certs_uri::{Error, Rsync};
-use objects_manifest::{FileAndHash, FileListIter, ManifestContent, ManifestHash};
+use objects_cms::manifest::{FileAndHash, FileListIter, ManifestContent, ManifestHash};
 use std::alloc::Global;
 use std::marker::Model;
 

@@ -2,8 +2,8 @@
 
 ghost use Rattle.std.specs.Prelude.{◌≡◌, ◌⊎◌, ◌↔◌, [], IfOk, IsTrue, OnErr, OnOk};
 ghost use Rattle.std.specs.Result.{IsErrAnd};
-ghost use Rattle.objects_aspa.specs.Resources.{ListsAlone};
-ghost use Rattle.objects.specs.objects_forms.Aspas.{IsLawful};
+ghost use Rattle.objects_payload.specs.Resources.{ListsAlone};
+ghost use Rattle.objects.specs.objects_payload.Aspas.{IsLawful};
 ghost use Rattle.objects.specs.resources_asn.Chosen.{values};
 ghost use Rattle.objects.specs.resources_asn.Listed.{AreDistinct, InList, IsAscending, IsListOf};
 ghost use Rattle.objects.specs.Providers.{IsDuplicate, IsZeroAlone};
@@ -26,7 +26,7 @@ pub struct AspaBuilder {
 }
 
 impl Model for AspaBuilder {
-    ghost use Rattle.objects.specs.objects_forms.Aspas.{Aspa};
+    ghost use Rattle.objects.specs.objects_payload.Aspas.{Aspa};
 
     ghost Value = { Aspa };
 

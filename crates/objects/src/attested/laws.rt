@@ -5,7 +5,7 @@ ghost use Rattle.objects.specs.bcder_content.Texts.{SpellsOf};
 ghost use Rattle.objects.specs.bcder_tree.declared.mode.Mode.{Mode as ModeValue};
 ghost use Rattle.objects.specs.certs_basics.Basics.{IsSmallEnough};
 ghost use Rattle.objects.specs.certs_basics.HandedIn.{Digests};
-ghost use Rattle.objects.specs.objects_forms.Aspas.{Aspa, AspaText, IsAspa, IsLawful};
+ghost use Rattle.objects.specs.objects_payload.Aspas.{Aspa, AspaText, IsAspa, IsLawful};
 ghost use Rattle.objects_built.specs.Builders.{BuilderValue, IsPadded, built_object};
 ghost use Rattle.objects.specs.Attested.{IsAspaFor};
 ghost use Rattle.objects.specs.Written.{aspa};

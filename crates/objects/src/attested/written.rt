@@ -4,7 +4,7 @@ ghost use Rattle.std.specs.Prelude.{◌≡◌, IfErr, IfOk};
 ghost use Rattle.objects.specs.bcder_tree.declared.mode.Mode.TheVariants.{Der};
 ghost use Rattle.objects.specs.bcder_content.Texts.{SpellsOf};
 ghost use Rattle.objects.specs.bcder_values.Gathered.{ExtendRefused};
-ghost use Rattle.objects.specs.objects_forms.Aspas.{IsAspa, IsLawful};
+ghost use Rattle.objects.specs.objects_payload.Aspas.{IsAspa, IsLawful};
 ghost use Rattle.objects.specs.Written.{as_id, aspa, aspa_parts};
 
 use crate::attested::builder::AspaBuilder;
@@ -97,7 +97,7 @@ pub struct AspaValue<'a> {
 }
 
 impl<'a> Model for AspaValue<'a> {
-    ghost use Rattle.objects.specs.objects_forms.Aspas.{Aspa};
+    ghost use Rattle.objects.specs.objects_payload.Aspas.{Aspa};
     ghost use Rattle.objects.specs.resources_asn.Chosen.{values};
 
     ghost Value = { Aspa };

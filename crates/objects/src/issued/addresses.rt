@@ -2,13 +2,13 @@
 //! (RFC 9582 4.3.2, 5).
 
 ghost use Rattle.std.specs.Prelude.{◌↔◌, All, IfOk, IsTrue, List};
-ghost use Rattle.objects.specs.objects_forms.Roas.{RoaAddress};
+ghost use Rattle.objects.specs.objects_payload.Roas.{RoaAddress};
 ghost use Rattle.objects.specs.resources_chain.Sets.{InRuns, IsRunsOf};
-ghost use Rattle.objects_roa.specs.Addresses.{AllOf, IsOf, roa_address};
+ghost use Rattle.objects_payload.specs.Addresses.{AllOf, IsOf, roa_address};
 ghost use Rattle.objects.specs.Issued.{AreResourcesOf, runs_of};
 
 use certs_extension::IpResources;
-use objects_roa::{RoaIpAddress, RoaIpAddresses, RoaIpAddressesBuilder};
+use objects_payload::roa::{RoaIpAddress, RoaIpAddresses, RoaIpAddressesBuilder};
 use resources_ip::{AddressFamily, IpBlock, IpBlocks, IpBlocksBuilder};
 use std::alloc::{AllocError, Global};
 

@@ -3,8 +3,8 @@
 ghost use Rattle.std.specs.Prelude.{ℕ, List, true};
 ghost use Rattle.objects.specs.certs_basics.Basics.{IsSmallEnough};
 ghost use Rattle.objects.specs.certs_basics.HandedIn.{Digests};
-ghost use Rattle.objects.specs.objects_forms.Manifests.{Manifest, ManifestText};
-ghost use Rattle.objects.specs.objects_forms.Roas.{Roa, RoaText};
+ghost use Rattle.objects.specs.objects_payload.Manifests.{Manifest, ManifestText};
+ghost use Rattle.objects.specs.objects_payload.Roas.{Roa, RoaText};
 ghost use Rattle.objects.specs.objects_written.Manifests.{AreFileNames, IsManifestNumber};
 ghost use Rattle.objects.specs.objects_written.Roas.{AreOfFamilies, HasAddress};
 ghost use Rattle.resources_ip.specs.WholeSets.{ListsWhole};

@@ -3,16 +3,16 @@
 ghost use Rattle.std.specs.Prelude.{◌≡◌, IfOk};
 ghost use Rattle.objects.specs.bcder_tree.declared.mode.Mode.TheVariants.{Der};
 ghost use Rattle.objects.specs.certs_key.Digesting.{digests_of};
-ghost use Rattle.objects.specs.objects_forms.Manifests.{Manifest};
+ghost use Rattle.objects.specs.objects_payload.Manifests.{Manifest};
 ghost use Rattle.objects_built.specs.Builders.{IsBuilt, IsSigned};
 ghost use Rattle.objects.specs.Issued.{IsManifestFor, inheriting};
-ghost use Rattle.objects.specs.objects_forms.Identifiers as id;
+ghost use Rattle.objects.specs.objects_payload.Identifiers as id;
 ghost use Rattle.objects.specs.objects_written.Manifests.{manifest};
 
 use certs_key::encode::EncodeError;
 use certs_key::{Captured, Digester, Signer, SigningError};
 use objects_built::SignedObjectBuilder;
-use objects_manifest::ManifestContent;
+use objects_cms::manifest::ManifestContent;
 use objects_written::EncodeManifest;
 use std::alloc::Global;
 

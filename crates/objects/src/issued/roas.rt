@@ -3,11 +3,11 @@
 ghost use Rattle.std.specs.Prelude.{◌≡◌, IfOk};
 ghost use Rattle.objects.specs.bcder_tree.declared.mode.Mode.TheVariants.{Der};
 ghost use Rattle.objects.specs.certs_key.Digesting.{digests_of};
-ghost use Rattle.objects.specs.objects_forms.Roas.{Roa};
+ghost use Rattle.objects.specs.objects_payload.Roas.{Roa};
 ghost use Rattle.objects.specs.objects_written.Roas.{roa};
 ghost use Rattle.objects.specs.resources_chain.declared.choice.ResourcesChoice.TheVariants.{Missing};
 ghost use Rattle.objects.specs.resources_ip_prefix.declared.addr.AddressFamily.TheVariants.{Ipv4, Ipv6};
-ghost use Rattle.objects_roa.specs.Addresses.{AllOf};
+ghost use Rattle.objects_payload.specs.Addresses.{AllOf};
 ghost use Rattle.objects_built.specs.Builders.{IsSigned};
 ghost use Rattle.objects.specs.Issued.{AttestsPrefixes, IsRoaFor};
 
@@ -16,7 +16,7 @@ use certs_extension::{AsResources, IpResources};
 use certs_key::encode::EncodeError;
 use certs_key::{Captured, Digester, Signer, SigningError};
 use objects_built::SignedObjectBuilder;
-use objects_roa::{RoaBuilder, RouteOriginAttestation};
+use objects_payload::roa::{RoaBuilder, RouteOriginAttestation};
 use objects_written::EncodeRoa;
 use std::alloc::{AllocError, Global};
 

@@ -5,7 +5,7 @@ ghost use Rattle.std.specs.Prelude.{◌≤◌};
 use answers::Answer;
 use anyhow::{Result, anyhow};
 use objects::roa::{ToIpResources, are_of_family};
-use objects_roa::{RoaIpAddress, RoaIpAddresses, RoaIpAddressesBuilder};
+use objects_payload::roa::{RoaIpAddress, RoaIpAddresses, RoaIpAddressesBuilder};
 use resources::ipres::{Addr, AddressFamily, IpBlocksForFamily, IpResources, Prefix};
 use std::alloc::Global;
 use std::net::IpAddr;

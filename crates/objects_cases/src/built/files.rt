@@ -2,7 +2,7 @@
 
 use answers::Answer;
 use anyhow::{Result, anyhow};
-use objects_manifest::{FileAndHash, ManifestHash};
+use objects_cms::manifest::{FileAndHash, ManifestHash};
 use rpki_digests::Fips;
 use std::alloc::Global;
 

@@ -2,7 +2,7 @@
 
 ghost use Rattle.std.specs.Prelude.{IfOk};
 ghost use Rattle.objects.specs.objects_written.Roas.{AreOfFamilies};
-ghost use Rattle.objects_roa.specs.Addresses.{AllOf};
+ghost use Rattle.objects_payload.specs.Addresses.{AllOf};
 
 use crate::built::addresses::{address_of, addresses_of, say_addresses, text_of};
 use crate::built::fields;
@@ -13,8 +13,8 @@ use anyhow::{Result, anyhow};
 use objects::manifest::IntoManifest;
 use objects::roa::{FinalizeRoa, are_of_family};
 use objects_built::SignedObjectBuilder;
-use objects_manifest::ManifestContent;
-use objects_roa::{RoaBuilder, RoaIpAddresses, RoaIpAddressesBuilder};
+use objects_cms::manifest::ManifestContent;
+use objects_payload::roa::{RoaBuilder, RoaIpAddresses, RoaIpAddressesBuilder};
 use resources::Asn;
 use resources::ipres::AddressFamily;
 use rpki_digests::Fips;

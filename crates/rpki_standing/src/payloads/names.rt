@@ -1,7 +1,7 @@
 //! Names of files at a publication point (RFC 6481 2.2, 7.2).
 
 ghost use Rattle.std.specs.Prelude.{◌≡◌, ◌↔◌, IsTrue, Some, map};
-ghost use Rattle.rpki_standing.specs.certs_uri.Uris.{lower};
+ghost use Rattle.rpki_standing.specs.certs_basics.Uris.{lower};
 ghost use Rattle.rpki_rules.specs.Chains.{HasExtension};
 ghost use Rattle.rpki_standing.specs.Names.{letters};
 

@@ -1,12 +1,12 @@
 //! The origins of route origin attestations (RFC 9582 4).
 
 ghost use Rattle.std.specs.Prelude.{◌≡◌, ◌++◌, OnErr, OnOk, map};
-ghost use Rattle.objects_roa.specs.Addresses.{roa_address};
+ghost use Rattle.objects_payload.specs.Addresses.{roa_address};
 ghost use Rattle.rpki_rules.specs.Views.{kind_of, origin_of};
 ghost use Rattle.rpki_rules.specs.Attests.{OfRoa, origins, origins_of};
 ghost use Rattle.rpki_standing.specs.Views.{Extends, origin_by};
 
-use objects_roa::{RoaIpAddress, RoaIpAddresses, RouteOriginAttestation};
+use objects_payload::roa::{RoaIpAddress, RoaIpAddresses, RouteOriginAttestation};
 use rpki_rules::{AddressFamily, Asn, Origin};
 use std::alloc::AllocError;
 

@@ -7,8 +7,8 @@ ghost use Rattle.rpki_standing.specs.Views.{payload_of};
 
 use crate::payloads::origins::add_roa_origins;
 use crate::payloads::provisions::add_aspa_provisions;
-use objects_aspa::AsProviderAttestation;
-use objects_roa::RouteOriginAttestation;
+use objects_payload::aspa::AsProviderAttestation;
+use objects_payload::roa::RouteOriginAttestation;
 use rpki_rules::{Origin, Provision};
 use std::alloc::AllocError;
 

@@ -5,7 +5,7 @@ ghost use Rattle.rpki_rules.specs.Views.{provision_of};
 ghost use Rattle.rpki_rules.specs.Attests.{OfAspa, provisions};
 ghost use Rattle.rpki_standing.specs.Views.{Extends};
 
-use objects_aspa::AsProviderAttestation;
+use objects_payload::aspa::AsProviderAttestation;
 use rpki_rules::Provision;
 use std::alloc::AllocError;
 

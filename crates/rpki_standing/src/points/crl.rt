@@ -2,7 +2,7 @@
 
 ghost use Rattle.std.specs.Prelude.{◌≡◌, ◌↔◌, ◌+◌, ◌≤◌, IfOk, IsTrue, Some};
 ghost use Rattle.rpki_standing.specs.Crls.{Finds, IsCrlAt, IsListAt, IsListOf};
-ghost use Rattle.rpki_standing.specs.certs_uri.Uris.{lookup_key as key_of};
+ghost use Rattle.rpki_standing.specs.certs_basics.Uris.{lookup_key as key_of};
 ghost use Rattle.rpki_rules.specs.Certs.{CrlText, Digests, Verdicts};
 ghost use Rattle.rpki_rules.specs.Objects.{Manifest, Object};
 ghost use Rattle.rpki_rules.specs.Points.{IsCrlOf, files as files_by};

@@ -13,7 +13,7 @@ use crate::points::names::differ_by_name;
 use crate::table::Index;
 use bytes::Bytes;
 use certs_cert::{Cert, Digester, Rsync};
-use objects_manifest::ManifestContent;
+use objects_cms::manifest::ManifestContent;
 use std::alloc::{AllocError, Global};
 
 /// The lookup keys of the files that a manifest lists, in its order: their names joined to the folder.

@@ -10,7 +10,7 @@ use crate::table::Index;
 use certs_cert::grammar::lookup_key;
 use certs_cert::paths::join;
 use certs_cert::{Digester, Rsync};
-use objects_manifest::{FileAndHash, ManifestHash};
+use objects_cms::manifest::{FileAndHash, ManifestHash};
 use std::alloc::{AllocError, Global};
 
 /// Whether the file is in that folder, with the hash that is listed. One digest is made, at most.

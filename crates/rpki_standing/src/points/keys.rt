@@ -1,8 +1,8 @@
 //! Under which key a file of a manifest is looked up.
 
 ghost use Rattle.std.specs.Prelude.{◌≡◌, IfOk};
-ghost use Rattle.rpki_standing.specs.certs_uri.Paths.{join as joined};
-ghost use Rattle.rpki_standing.specs.certs_uri.Uris.{lookup_key as key_of};
+ghost use Rattle.rpki_standing.specs.certs_basics.Paths.{join as joined};
+ghost use Rattle.rpki_standing.specs.certs_basics.Uris.{lookup_key as key_of};
 
 use bytes::Bytes;
 use certs_cert::Rsync;

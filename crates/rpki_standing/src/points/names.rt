@@ -7,7 +7,7 @@ ghost use Rattle.std.specs.Cmp.Lexicographic.{slice_cmp};
 ghost use Rattle.std.specs.List.Sorted.{IsStrictlySortedBy};
 ghost use Rattle.rpki_rules.specs.Words.{NoRepeat};
 
-use objects_manifest::ManifestContent;
+use objects_cms::manifest::ManifestContent;
 use std::alloc::{AllocError, Global};
 
 // The names of the files that a manifest lists, in its order.

@@ -1,7 +1,7 @@
 //! Whether a certificate is revoked at a publication point (RFC 6487 7.2).
 
 ghost use Rattle.std.specs.Prelude.{◌≡◌, ◌↔◌, IfOk, IsTrue};
-ghost use Rattle.rpki_standing.specs.certs_uri.Uris.{lookup_key as key_of};
+ghost use Rattle.rpki_standing.specs.certs_basics.Uris.{lookup_key as key_of};
 ghost use Rattle.rpki_rules.specs.Points.{Point, Unrevoked};
 
 use certs_cert::grammar::cmp_lookup_key;

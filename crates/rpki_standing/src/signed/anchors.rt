@@ -2,7 +2,7 @@
 
 ghost use Rattle.std.specs.Prelude.{◌≡◌, ◌↔◌, ◌+◌, ◌≤◌, IsTrue};
 ghost use Rattle.rpki_standing.specs.certs_key.Digesting.{digests_of};
-ghost use Rattle.rpki_standing.specs.certs_specs.Verified.{IsAnchorAt};
+ghost use Rattle.rpki_standing.specs.certs_extension.Verified.{IsAnchorAt};
 ghost use Rattle.rpki_rules.specs.Certs.{encoded};
 ghost use Rattle.rpki_rules.specs.Points.{IsAnchorCert};
 ghost use Rattle.rpki_rules.specs.World.{world_of};

@@ -2,8 +2,8 @@
 
 ghost use Rattle.std.specs.Prelude.{◌≡◌, ◌↔◌, ◌+◌, ◌≤◌, IsTrue};
 ghost use Rattle.rpki_standing.specs.certs_key.Digesting.{digests_of};
-ghost use Rattle.rpki_standing.specs.certs_specs.Verified.{IsSignedBy};
-ghost use Rattle.rpki_standing.specs.certs_specs.declared.Role.TheVariants.{Ca, Ee};
+ghost use Rattle.rpki_standing.specs.certs_extension.Verified.{IsSignedBy};
+ghost use Rattle.rpki_standing.specs.certs_extension.declared.forms.Role.TheVariants.{Ca, Ee};
 ghost use Rattle.rpki_rules.specs.Certs.{Digests, Verdicts};
 ghost use Rattle.rpki_rules.specs.Points.{IsValid, Signed};
 ghost use Rattle.rpki_rules.specs.World.{world_of};

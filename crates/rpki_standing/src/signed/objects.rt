@@ -1,12 +1,13 @@
 //! What is asked of any signed object (RFC 6488 3).
 
 ghost use Rattle.std.specs.Prelude.{◌≡◌, ◌↔◌, ◌+◌, ◌≤◌, IfOk, IsTrue};
-ghost use Rattle.certs_verify.specs.certs_errors.declared.verification.VerificationError.TheVariants.{Memory};
+ghost use Rattle.certs_verify.specs.certs_x509.declared.errors.verification.VerificationError.TheVariants.{Memory};
 ghost use Rattle.rpki_standing.specs.certs_key.Digesting.{digests_of};
 ghost use Rattle.rpki_rules.specs.Objects.{Sound};
 
 use certs_verify::{Digester, VerificationError, Verifier};
-use objects_verify::{SignedObject, verify_content};
+use objects_cms::signed::SignedObject;
+use objects_cms::verify::verify_content;
 use std::alloc::{AllocError, Global};
 
 // Whether memory was wanted.

@@ -2,7 +2,7 @@
 
 ghost use Rattle.std.specs.Prelude.{◌≡◌, ◌↔◌, ◌≤◌, IsTrue, IfNone, IfSome, None, Some, length, map};
 ghost use Rattle.rpki_standing.specs.resources_chain.Rows.{Looks};
-ghost use Rattle.rpki_rules.specs.certs_uri.Uris.{lookup_key};
+ghost use Rattle.rpki_rules.specs.certs_basics.Uris.{lookup_key};
 ghost use Rattle.rpki_rules.specs.Words.{Mem, NoRepeat};
 ghost use Rattle.rpki_rules.specs.World.{find_object};
 

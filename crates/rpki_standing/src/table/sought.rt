@@ -3,7 +3,7 @@
 ghost use Rattle.std.specs.Prelude.{◌≡◌};
 ghost use Rattle.std.specs.Ordering.{nat_cmp, ordering_then};
 ghost use Rattle.std.specs.Cmp.Lexicographic.{slice_cmp};
-ghost use Rattle.rpki_rules.specs.certs_uri.Uris.{lookup_key as key_of};
+ghost use Rattle.rpki_rules.specs.certs_basics.Uris.{lookup_key as key_of};
 
 use crate::table::search::Sought;
 use rpki_rules::{Object, Verdict, cmp_lookup_key};

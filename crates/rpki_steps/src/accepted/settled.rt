@@ -2,7 +2,7 @@
 
 ghost use Rattle.std.specs.Prelude.{◌≡◌, ◌↔◌, IfOk, IsTrue, Some};
 ghost use Rattle.certs_verify.specs.Validated.{cause_of};
-ghost use Rattle.rpki_steps.specs.certs_specs.Calls.{wants_memory};
+ghost use Rattle.rpki_steps.specs.certs_extension.Calls.{wants_memory};
 ghost use Rattle.rpki_steps.specs.Settled.{Settles};
 
 use certs_verify::{Refused, ResourceCert, ValidationError, VerificationError};

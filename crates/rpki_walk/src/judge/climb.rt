@@ -5,8 +5,7 @@ ghost use Rattle.rpki_rules.specs.Words.{Mem, NoRepeat};
 ghost use Rattle.rpki_rules.specs.Kinds.{InSet};
 ghost use Rattle.rpki_rules.specs.Chains.{CertAt};
 ghost use Rattle.rpki_rules.specs.Judge.{Climbs};
-ghost use Rattle.rpki_walk.specs.Climbing.{link_of, links_of, identifier_of, AreAt, IsReadChain};
-ghost use Rattle.rpki_walk.specs.Climbing.{IsRaised, IsJudgedUp};
+ghost use Rattle.rpki_walk.specs.Climbing.{link_of, links_of, identifier_of, AreAt, IsReadChain, IsRaised, IsJudgedUp};
 
 use crate::judge::judging::Judgement;
 use crate::judge::{Evidence, Needed};

@@ -5,7 +5,7 @@ ghost use Rattle.rpki_walk.specs.rpki_bundle.Uris.{lookup_key as key_of};
 ghost use Rattle.rpki_walk.specs.Naming.{names_any, names_key};
 
 use bytes::Bytes;
-use certs_uri::grammar::lookup_key;
+use certs_basics::uri::grammar::lookup_key;
 use std::alloc::{AllocError, Global};
 use std::marker::Model;
 

@@ -4,9 +4,9 @@ use Rattle.certs_cert.specs.bcder_content.Captures.{rest_of}
 use Rattle.certs_cert.specs.bcder_content.Exact.{ReadsAs}
 use Rattle.certs_cert.specs.bcder_content.Here.{here}
 use Rattle.certs_cert.proofs.of_bcder_content.Decoding.{exact_decode}
-use Rattle.certs_signed.proofs.Octets.{front_took}
-use Rattle.certs_claims.specs.certs_specs.Cert.{TbsValue}
-use Rattle.certs_claims.specs.certs_specs.CertText.{IsTbs, SpellsTbs}
+use Rattle.certs_x509.proofs.Octets.{front_took}
+use Rattle.certs_extension.specs.Cert.{TbsValue}
+use Rattle.certs_extension.specs.CertText.{IsTbs, SpellsTbs}
 use Rattle.certs_cert.proofs.decoding.tbs_of.Goals as goal
 
 pub returns-clause-reads : goal.returns-clause-reads

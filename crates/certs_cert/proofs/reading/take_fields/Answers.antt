@@ -1,7 +1,7 @@
 use Rattle.std.proofs.Common.{refl}
 use Rattle.certs_cert.specs.certs_basics.Basics.{IsAlgorithm, IsSerial}
 use Rattle.certs_cert.specs.certs_basics.Names.{SpellsName}
-use Rattle.certs_cert.specs.certs_time.Forms.{IsValidity}
+use Rattle.certs_cert.specs.certs_basics.Forms.{IsValidity}
 use Rattle.certs_cert.specs.Reading.{IsNumbered}
 use Rattle.certs_cert.proofs.Joined.{as_read, field, join, kept_as, read_as}
 use Rattle.certs_cert.proofs.of_bcder_content.InMode.{begin, next, stop, stop_all, finish}

@@ -1,5 +1,5 @@
 use Rattle.certs_cert.proofs.of_bcder_content.InMode.{inside}
-use Rattle.certs_signed.proofs.Octets.{inside_took}
+use Rattle.certs_x509.proofs.Octets.{inside_took}
 use Rattle.certs_cert.specs.Reading.{IsListedBody, SpellsListedBody}
 use Rattle.certs_cert.proofs.reading.take_listed.Goals as goal
 

@@ -5,9 +5,9 @@ use Rattle.certs_extension.specs.bcder_tree.declared.mode.Mode.TheVariants.{Ber,
 use Rattle.certs_extension.specs.bcder_bits.Bits.{BitsValue, IsBits}
 use Rattle.certs_extension.specs.bcder_bits.Contents.{IsBitString, IsPadded, IsShortIn}
 use Rattle.certs_extension.specs.bcder_values.Plains.{plain_spelled}
-use Rattle.certs_specs.specs.Extensions.{UsageBits}
-use Rattle.certs_specs.specs.declared.KeyUsage.{KeyUsage}
-use Rattle.certs_specs.specs.declared.KeyUsage.TheVariants.{Ca, Ee}
+use Rattle.certs_extension.specs.Extensions.{UsageBits}
+use Rattle.certs_extension.specs.declared.forms.KeyUsage.{KeyUsage}
+use Rattle.certs_extension.specs.declared.forms.KeyUsage.TheVariants.{Ca, Ee}
 use Rattle.certs_extension.specs.Usages.{usage_octets}
 use Rattle.certs_extension.proofs.of_bcder_values.Returning.{read_again}
 use Rattle.certs_extension.proofs.laws.usage_is_read_again.Goals as goal

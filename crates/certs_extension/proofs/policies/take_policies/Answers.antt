@@ -1,6 +1,6 @@
 use Rattle.certs_extension.proofs.of_bcder_content.Choices.{as_reads}
 use Rattle.certs_extension.proofs.of_bcder_content.InMode.{inside}
-use Rattle.certs_specs.specs.Extensions.{only}
+use Rattle.certs_extension.specs.Names.{only}
 use Rattle.certs_extension.specs.Values.{ArePoliciesBody, alone}
 use Rattle.certs_extension.proofs.policies.take_policies.Goals as goal
 

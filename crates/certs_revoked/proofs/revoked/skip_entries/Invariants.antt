@@ -1,7 +1,7 @@
 use Rattle.std.proofs.Common.{length}
 use Rattle.certs_revoked.specs.bcder_content.Here.{here}
 use Rattle.certs_revoked.proofs.of_bcder_content.Gathering.{Gathered}
-use Rattle.certs_specs.specs.CrlText.{IsRevoked}
+use Rattle.certs_extension.specs.CrlText.{IsRevoked}
 use Rattle.certs_revoked.specs.Entries.{whatever}
 use Rattle.certs_revoked.proofs.revoked.skip_entries.Given as goal
 

@@ -1,6 +1,6 @@
 use Rattle.std.proofs.Common.{◌≡◌, Bool, ◌∙◌}
 use Rattle.std.specs.Prelude.{List}
-use Rattle.certs_specs.specs.CrlText.{RevokedValue}
+use Rattle.certs_extension.specs.CrlText.{RevokedValue}
 use Rattle.certs_revoked.specs.Listed.{has_serial}
 use Rattle.certs_revoked.proofs.Searches.{found_is, no_error, tells}
 use Rattle.certs_revoked.proofs.search.has_serial.Goals as goal

@@ -1,5 +1,5 @@
 use Rattle.std.proofs.Common.{◌≡◌, List}
-use Rattle.certs_specs.specs.CrlText.{RevokedValue}
+use Rattle.certs_extension.specs.CrlText.{RevokedValue}
 use Rattle.certs_revoked.specs.Listed.{serials_of}
 use Rattle.certs_revoked.proofs.Searches.{says_ok}
 use Rattle.certs_revoked.proofs.search.serials_in.Goals as goal

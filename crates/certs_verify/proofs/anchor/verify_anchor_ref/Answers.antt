@@ -1,6 +1,6 @@
 use Rattle.std.proofs.Common.{[], ◌∷◌}
-use Rattle.certs_inspect.specs.certs_specs.Verified.{PassesAt, nothing, validity}
-use Rattle.certs_inspect.specs.certs_specs.declared.VerificationTest.TheVariants as test
+use Rattle.certs_verify.specs.certs_extension.Verified.{PassesAt, nothing, validity}
+use Rattle.certs_verify.specs.certs_extension.declared.forms.VerificationTest.TheVariants as test
 use Rattle.certs_verify.proofs.Chains.{answers_next, handed_on}
 use Rattle.certs_verify.proofs.anchor.verify_anchor_ref.Goals as goal
 

@@ -1,6 +1,6 @@
 use Rattle.std.proofs.Common.{[], ◌∷◌, ◌++◌}
-use Rattle.certs_inspect.specs.certs_specs.Verified.{PassesAt, held_by, nothing, validity, issuer_claim}
-use Rattle.certs_inspect.specs.certs_specs.declared.VerificationTest.TheVariants as test
+use Rattle.certs_verify.specs.certs_extension.Verified.{PassesAt, held_by, nothing, validity, issuer_claim}
+use Rattle.certs_verify.specs.certs_extension.declared.forms.VerificationTest.TheVariants as test
 use Rattle.certs_verify.specs.Answers.{fault_of}
 use Rattle.certs_verify.proofs.Chains.{answers_next, each_alike, fault_alike, handed_on}
 use Rattle.certs_verify.proofs.Refusals.{outside_handed_on, signed_alike, tells_none}

@@ -1,6 +1,6 @@
 use Rattle.std.proofs.Common.{[], ◌∷◌}
-use Rattle.certs_inspect.specs.certs_specs.Verified.{PassesAt, held_by}
-use Rattle.certs_inspect.specs.certs_specs.declared.VerificationTest.TheVariants as test
+use Rattle.certs_verify.specs.certs_extension.Verified.{PassesAt, held_by}
+use Rattle.certs_verify.specs.certs_extension.declared.forms.VerificationTest.TheVariants as test
 use Rattle.certs_verify.proofs.Chains.{handed_on}
 use Rattle.certs_verify.proofs.claims.claim_all.Goals as goal
 

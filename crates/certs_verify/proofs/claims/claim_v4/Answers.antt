@@ -1,7 +1,7 @@
 use Rattle.std.proofs.Common.{rules, []}
-use Rattle.certs_inspect.specs.certs_specs.Verified.{PassesAt, held_by}
-use Rattle.certs_inspect.specs.certs_specs.declared.VerificationTest.TheVariants as test
-use Rattle.certs_verify.proofs.Chains.{fails_at_once}
+use Rattle.certs_verify.specs.certs_extension.Verified.{PassesAt, held_by}
+use Rattle.certs_verify.specs.certs_extension.declared.forms.VerificationTest.TheVariants as test
+use Rattle.certs_verify.proofs.TestChains.{fails_at_once}
 use Rattle.certs_verify.proofs.claims.claim_v4.Goals as goal
 
 pub returns-in-Err-Overclaimed-clause-answers : goal.returns-in-Err-Overclaimed-clause-answers

@@ -1,8 +1,8 @@
 use Rattle.std.proofs.Common.{rules, ◌≡◌, []}
-use Rattle.certs_inspect.specs.certs_specs.Verified.{PassesAt, nothing}
-use Rattle.certs_inspect.specs.certs_specs.declared.VerificationTest.TheVariants as test
+use Rattle.certs_verify.specs.certs_extension.Verified.{PassesAt, nothing}
+use Rattle.certs_verify.specs.certs_extension.declared.forms.VerificationTest.TheVariants as test
 use Rattle.certs_verify.specs.resources_chain.declared.choice.ResourcesChoice.TheVariants.{Inherit}
-use Rattle.certs_verify.proofs.Chains.{fails_at_once}
+use Rattle.certs_verify.proofs.TestChains.{fails_at_once}
 use Rattle.certs_verify.proofs.claims.own_v6.Goals as goal
 
 pub returns-in-Err-Inherited-clause-answers : goal.returns-in-Err-Inherited-clause-answers

@@ -1,7 +1,8 @@
 use Rattle.std.proofs.Common.{rules, ◌≡◌, ◌≢◌, [], ◌∷◌, Some, None}
-use Rattle.certs_inspect.specs.certs_specs.Verified.{PassesAt, nothing}
-use Rattle.certs_inspect.specs.certs_specs.declared.VerificationTest.TheVariants as test
-use Rattle.certs_verify.proofs.Chains.{fails_at_once, fails_next}
+use Rattle.certs_verify.specs.certs_extension.Verified.{PassesAt, nothing}
+use Rattle.certs_verify.specs.certs_extension.declared.forms.VerificationTest.TheVariants as test
+use Rattle.certs_verify.proofs.Chains.{fails_next}
+use Rattle.certs_verify.proofs.TestChains.{fails_at_once}
 use Rattle.certs_verify.proofs.tests.verify_issuer_claim.Goals as goal
 
 pub returns-in_default-clause-answers : goal.returns-in_default-clause-answers

@@ -1,8 +1,7 @@
 use Rattle.std.proofs.Common.{rules}
-use Rattle.certs_inspect.specs.certs_specs.Verified.{PassesAt, nothing}
-use Rattle.certs_inspect.specs.certs_specs.declared.VerificationTest.TheVariants as test
-use Rattle.certs_verify.proofs.Chains.{fails_at_once}
-use Rattle.certs_inspect.specs.certs_specs.Verified.{IsSignedBy}
+use Rattle.certs_verify.specs.certs_extension.Verified.{PassesAt, nothing, IsSignedBy}
+use Rattle.certs_verify.specs.certs_extension.declared.forms.VerificationTest.TheVariants as test
+use Rattle.certs_verify.proofs.TestChains.{fails_at_once}
 use Rattle.certs_verify.proofs.tests.verify_signature.Goals as goal
 
 pub returns-then-is_err-clause-answers : goal.returns-then-is_err-clause-answers

@@ -1,5 +1,5 @@
 use Rattle.std.proofs.Common.{ap, ◌∙◌}
-use Rattle.objects_built.specs.certs_specs.Cert.{TbsValue}
+use Rattle.objects_built.specs.certs_extension.Cert.{TbsValue}
 use Rattle.objects_built.proofs.Building.{object_told}
 use Rattle.objects_built.proofs.build.object_octets.Goals as goal
 

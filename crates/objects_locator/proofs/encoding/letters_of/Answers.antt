@@ -1,7 +1,7 @@
 use Rattle.std.proofs.Common.{not, rules, tests}
 use Rattle.std.proofs.lemmas.Iterator.{items_from_collect, YieldsList-from_slice}
 use Rattle.std.proofs.lemmas.Iterator.Consumers.{YieldsList-at, YieldsList-from_copied, YieldsList-from_filter}
-use Rattle.objects_forms.specs.Locators.{is_dropped}
+use Rattle.objects_payload.specs.Locators.{is_dropped}
 use Rattle.objects_locator.proofs.encoding.letters_of.Goals as goal
 
 pub returns : goal.returns

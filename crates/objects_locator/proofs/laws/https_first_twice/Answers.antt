@@ -1,4 +1,4 @@
-use Rattle.objects_forms.specs.Locators.{is_https}
+use Rattle.objects_payload.specs.Locators.{is_https}
 use Rattle.objects_locator.proofs.Parting.{parted_twice}
 use Rattle.objects_locator.proofs.laws.https_first_twice.Goals as goal
 

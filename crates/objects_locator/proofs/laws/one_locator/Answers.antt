@@ -1,4 +1,4 @@
-use Rattle.objects_forms.proofs.Locators.{one_locator}
+use Rattle.objects_payload.proofs.Locators.{one_locator}
 use Rattle.objects_locator.proofs.laws.one_locator.Goals as goal
 
 pub returns-clause-uris : goal.returns-clause-uris

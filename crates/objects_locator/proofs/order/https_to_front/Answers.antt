@@ -1,5 +1,5 @@
 use Rattle.std.proofs.Common.{◌∙◌, List, map, ap}
-use Rattle.objects_forms.specs.Locators.{is_https}
+use Rattle.objects_payload.specs.Locators.{is_https}
 use Rattle.objects_locator.specs.declared.uri.TalUri.{TalUri}
 use Rattle.objects_locator.specs.Uris.{text_of}
 use Rattle.objects_locator.proofs.Parting.{map_parts}

@@ -1,4 +1,4 @@
-use Rattle.objects_valid.specs.certs_specs.Verified.{held_by}
+use Rattle.objects_valid.specs.certs_extension.Verified.{held_by}
 use Rattle.objects_valid.proofs.Accepting.{outside_below, refused_below}
 use Rattle.objects_valid.proofs.inspected.verify_below.Goals as goal
 

@@ -1,7 +1,7 @@
 use Rattle.std.proofs.Common.{◌≡◌, subst}
 use Rattle.certs_verify.specs.certs_key.Digesting.{digests_of}
-use Rattle.objects_kinds.specs.objects_forms.ObjectText.{Object}
-use Rattle.objects_verify.specs.Content.{VerifiesContent, object_with}
+use Rattle.objects_valid.specs.objects_payload.ObjectText.{Object}
+use Rattle.objects_cms.specs.Content.{VerifiesContent, object_with}
 use Rattle.objects_valid.proofs.inspected.verify_own_content.Goals as goal
 
 pub returns-clause-answers : goal.returns-clause-answers

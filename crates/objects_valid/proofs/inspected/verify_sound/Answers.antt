@@ -1,4 +1,4 @@
-use Rattle.objects_valid.specs.certs_specs.Verified.{held_by}
+use Rattle.objects_valid.specs.certs_extension.Verified.{held_by}
 use Rattle.certs_verify.specs.certs_key.Digesting.{digests_of}
 use Rattle.objects_valid.proofs.Accepting.{content_tells}
 use Rattle.objects_valid.proofs.inspected.verify_sound.Goals as goal

@@ -5,7 +5,7 @@ use Rattle.std.specs.Ordering.{nat_cmp}
 use Rattle.rpki_bundle.specs.declared.parts.Object.{Object}
 use Rattle.std.specs.Cmp.Lexicographic.{slice_cmp}
 use Rattle.std.specs.FinMap.{slice_cmp-IsAntisymmetric, nat_cmp-IsAntisymmetric}
-use Rattle.certs_uri.specs.Uris.{lookup_key}
+use Rattle.certs_basics.specs.Uris.{lookup_key}
 use Rattle.rpki_bundle.specs.Objects.{IsAt}
 use Rattle.rpki_bundle.proofs.Objects.{cmp_at, is_at, none_at, rises}
 use Rattle.rpki_bundle.proofs.bundle.find.Goals as goal

@@ -1,7 +1,7 @@
 use Rattle.std.proofs.Common.{ℕ, List, sym, subst}
 use Rattle.rpki_bundle.proofs.of_bcder_content.Choices.{stop_value}
 use Rattle.rpki_bundle.proofs.of_bcder_content.Taking.{on_content}
-use Rattle.certs_time.specs.Times.{IsMoment}
+use Rattle.certs_basics.specs.Times.{IsMoment}
 use Rattle.rpki_bundle.proofs.Reading.{octets_lack, octets_refused}
 use Rattle.rpki_bundle.proofs.reader.take_moment.Goals as goal
 

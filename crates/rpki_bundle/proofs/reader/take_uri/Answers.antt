@@ -4,7 +4,7 @@ use Rattle.rpki_bundle.specs.bcder_strings.Sets.{IsIa5, alone}
 use Rattle.rpki_bundle.specs.bcder_content.Here.{here}
 use Rattle.rpki_bundle.proofs.of_bcder_content.Choices.{gives_same, such_gives, such_lacks, such_refused, stop_value}
 use Rattle.rpki_bundle.proofs.of_bcder_content.Taking.{on_content}
-use Rattle.certs_uri.specs.Uris.{IsLookupKey}
+use Rattle.certs_basics.specs.Uris.{IsLookupKey}
 use Rattle.rpki_bundle.specs.RowLaws.{text}
 use Rattle.rpki_bundle.proofs.reader.take_uri.Goals as goal
 

@@ -3,8 +3,8 @@ use Rattle.certs_cert.specs.bcder_tree.declared.mode.Mode.{Mode}
 use Rattle.certs_cert.specs.bcder_content.Exact.{ReadsAs}
 use Rattle.certs_cert.specs.bcder_content.Here.{here}
 use Rattle.certs_cert.proofs.of_bcder_content.Decoding.{exact_decode}
-use Rattle.certs_claims.specs.certs_specs.Cert.{CertValue}
-use Rattle.certs_claims.specs.certs_specs.CertText.{IsCert}
+use Rattle.certs_extension.specs.Cert.{CertValue}
+use Rattle.certs_extension.specs.CertText.{IsCert}
 use Rattle.certs_cert.proofs.Spelled.{decodes_cert}
 use Rattle.certs_cert.proofs.cert.Cert.decode.Goals as goal
 

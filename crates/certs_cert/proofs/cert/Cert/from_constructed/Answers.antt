@@ -1,5 +1,5 @@
 use Rattle.std.proofs.Common.{refl}
-use Rattle.certs_signed.specs.Signed.{signed_content}
+use Rattle.certs_x509.specs.Signed.{signed_content}
 use Rattle.certs_cert.specs.Whole.{AreCert}
 use Rattle.certs_cert.proofs.of_bcder_content.Keeping.{same_refusal}
 use Rattle.certs_cert.proofs.of_bcder_content.Taking.{weaker}

@@ -1,4 +1,4 @@
-use Rattle.certs_signed.proofs.Octets.{inside_took}
+use Rattle.certs_x509.proofs.Octets.{inside_took}
 use Rattle.certs_cert.specs.Whole.{AreCert, AreCertOctets}
 use Rattle.certs_cert.proofs.of_bcder_content.InMode.{inside}
 use Rattle.certs_cert.proofs.Sequence.{cert_octets, cert_reads}

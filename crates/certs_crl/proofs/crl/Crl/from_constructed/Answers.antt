@@ -1,6 +1,6 @@
 use Rattle.std.proofs.Common.{refl}
-use Rattle.certs_signed.proofs.of_bcder_content.Within.{all_stop}
-use Rattle.certs_signed.specs.Signed.{signed_content}
+use Rattle.certs_x509.proofs.of_bcder_content.Within.{all_stop}
+use Rattle.certs_x509.specs.Signed.{signed_content}
 use Rattle.certs_crl.proofs.of_bcder_content.Keeping.{same_refusal}
 use Rattle.certs_crl.proofs.of_bcder_content.Taking.{on_content, weaker}
 use Rattle.certs_crl.specs.Whole.{AreCrl}

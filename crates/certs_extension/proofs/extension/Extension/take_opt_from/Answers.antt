@@ -1,6 +1,6 @@
 use Rattle.certs_extension.proofs.of_bcder_content.InMode.{inside_opt}
 use Rattle.certs_extension.proofs.of_bcder_content.Meaning.{opt_meaning}
-use Rattle.certs_specs.specs.Extensions.{as_extension, IsExtensionBody}
+use Rattle.certs_extension.specs.Extensions.{as_extension, IsExtensionBody}
 use Rattle.certs_extension.specs.Raw.{extension_fields}
 use Rattle.certs_extension.proofs.extension.Extension.take_opt_from.Goals as goal
 

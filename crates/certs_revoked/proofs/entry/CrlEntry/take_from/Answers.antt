@@ -1,5 +1,5 @@
 use Rattle.certs_revoked.specs.Entries.{AreEntryFields, entry_fields}
-use Rattle.certs_specs.specs.CrlText.{as_revoked}
+use Rattle.certs_extension.specs.CrlText.{as_revoked}
 use Rattle.certs_revoked.proofs.of_bcder_content.Choices.{as_reads}
 use Rattle.certs_revoked.proofs.of_bcder_content.InMode.{inside}
 use Rattle.certs_revoked.proofs.entry.CrlEntry.take_from.Goals as goal

@@ -1,5 +1,5 @@
 use Rattle.certs_revoked.specs.Entries.{AreEntryFields, entry_fields}
-use Rattle.certs_specs.specs.CrlText.{as_revoked}
+use Rattle.certs_extension.specs.CrlText.{as_revoked}
 use Rattle.certs_revoked.proofs.of_bcder_content.InMode.{inside_opt}
 use Rattle.certs_revoked.proofs.of_bcder_content.Meaning.{opt_meaning}
 use Rattle.certs_revoked.proofs.entry.CrlEntry.take_opt_from.Goals as goal

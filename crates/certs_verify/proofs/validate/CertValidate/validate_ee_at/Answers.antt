@@ -1,4 +1,4 @@
-use Rattle.certs_inspect.specs.certs_specs.declared.Role.TheVariants.{Ee}
+use Rattle.certs_verify.specs.certs_extension.declared.forms.Role.TheVariants.{Ee}
 use Rattle.certs_verify.specs.certs_key.Digesting.{digests_of}
 use Rattle.certs_verify.proofs.Refusals.{inspects_by}
 use Rattle.certs_verify.proofs.validate.CertValidate.validate_ee_at.Goals as goal

@@ -1,6 +1,6 @@
 use Rattle.std.proofs.Common.{◌≢◌, ◌∙◌, ℕ, List, IfErr, map, refl}
-use Rattle.objects_forms.specs.certs_basics.Keys.{KeyValue}
-use Rattle.objects_forms.specs.Locators.{LocatorText}
+use Rattle.objects_payload.specs.certs_basics.Keys.{KeyValue}
+use Rattle.objects_payload.specs.Locators.{LocatorText}
 use Rattle.objects_locator.specs.declared.error.ReadError.TheVariants.{Memory}
 use Rattle.objects_locator.specs.Tals.{ReadsTal}
 use Rattle.objects_locator.specs.Uris.{text_of}

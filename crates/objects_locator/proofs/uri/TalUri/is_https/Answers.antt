@@ -1,5 +1,5 @@
 use Rattle.std.proofs.Common.{subst, rules}
-use Rattle.objects_forms.specs.certs_uri.Uris.{IsUri}
+use Rattle.objects_payload.specs.certs_basics.Uris.{IsUri}
 use Rattle.objects_locator.specs.Uris.{text_of}
 use Rattle.objects_locator.proofs.UriLines.{https_test}
 use Rattle.objects_locator.proofs.uri.TalUri.is_https.Goals as goal

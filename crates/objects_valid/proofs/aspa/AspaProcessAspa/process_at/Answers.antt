@@ -1,13 +1,13 @@
 use Rattle.std.proofs.Common.{◌≡◌, Result, subst, sym}
 use Rattle.std.specs.Prelude.{IfErr, IfOk}
 use Rattle.std.specs.Fn.{FnOnceReturnsAt}
-use Rattle.objects_valid.specs.certs_specs.Verified.{held_by}
-use Rattle.certs_verify.specs.certs_errors.declared.validation.ValidationError.{ValidationError}
+use Rattle.objects_valid.specs.certs_extension.Verified.{held_by}
+use Rattle.certs_verify.specs.certs_x509.declared.errors.validation.ValidationError.{ValidationError}
 use Rattle.certs_verify.specs.certs_key.Digesting.{digests_of}
 use Rattle.certs_verify.specs.Holders.{ResourceCertValue}
 use Rattle.certs_verify.specs.Validated.{TellsNumbers}
-use Rattle.objects_kinds.specs.objects_forms.ObjectText.{Object}
-use Rattle.objects_kinds.specs.objects_forms.Aspas.{Aspa}
+use Rattle.objects_valid.specs.objects_payload.ObjectText.{Object}
+use Rattle.objects_valid.specs.objects_payload.Aspas.{Aspa}
 use Rattle.objects_valid.specs.Processed.{FailsAspa, PassesAspa, ProcessesAspa}
 use Rattle.objects_valid.proofs.Processing.{processed, processed_outside, processed_tal, refused}
 use Rattle.objects_valid.proofs.aspa.AspaProcessAspa.process_at.Goals as goal

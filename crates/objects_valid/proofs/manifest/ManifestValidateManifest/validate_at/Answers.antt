@@ -1,13 +1,13 @@
 use Rattle.std.proofs.Common.{◌≡◌, Result, subst, sym}
 use Rattle.std.specs.Prelude.{IfErr, IfOk}
-use Rattle.objects_valid.specs.certs_specs.Verified.{held_by}
-use Rattle.objects_valid.specs.certs_specs.declared.Role.TheVariants.{Ee}
-use Rattle.certs_verify.specs.certs_errors.declared.validation.ValidationError.{ValidationError}
+use Rattle.objects_valid.specs.certs_extension.Verified.{held_by}
+use Rattle.objects_valid.specs.certs_extension.declared.forms.Role.TheVariants.{Ee}
+use Rattle.certs_verify.specs.certs_x509.declared.errors.validation.ValidationError.{ValidationError}
 use Rattle.certs_verify.specs.certs_key.Digesting.{digests_of}
 use Rattle.certs_verify.specs.Holders.{ResourceCertValue}
 use Rattle.certs_verify.specs.Validated.{TellsNumbers}
-use Rattle.objects_kinds.specs.objects_forms.Manifests.{Manifest}
-use Rattle.objects_kinds.specs.objects_forms.ObjectText.{Object}
+use Rattle.objects_valid.specs.objects_payload.Manifests.{Manifest}
+use Rattle.objects_valid.specs.objects_payload.ObjectText.{Object}
 use Rattle.objects_valid.specs.Accepted.{ValidatesContent, ValidatesObject}
 use Rattle.objects_valid.proofs.Accepting.{joined_outside, joined_tal, with_content}
 use Rattle.objects_valid.proofs.manifest.ManifestValidateManifest.validate_at.Goals as goal

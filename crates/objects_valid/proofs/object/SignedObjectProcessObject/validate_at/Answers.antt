@@ -1,9 +1,9 @@
 use Rattle.std.proofs.Common.{◌≡◌, Result, subst, sym}
 use Rattle.std.specs.Prelude.{IfErr, IfOk}
-use Rattle.objects_valid.specs.certs_specs.Cert.{CertValue}
-use Rattle.objects_valid.specs.certs_specs.Verified.{held_by}
-use Rattle.objects_valid.specs.certs_specs.declared.Role.TheVariants.{Ee}
-use Rattle.certs_verify.specs.certs_errors.declared.validation.ValidationError.{ValidationError}
+use Rattle.objects_valid.specs.certs_extension.Cert.{CertValue}
+use Rattle.objects_valid.specs.certs_extension.Verified.{held_by}
+use Rattle.objects_valid.specs.certs_extension.declared.forms.Role.TheVariants.{Ee}
+use Rattle.certs_verify.specs.certs_x509.declared.errors.validation.ValidationError.{ValidationError}
 use Rattle.certs_verify.specs.certs_key.Digesting.{digests_of}
 use Rattle.certs_verify.specs.Holders.{ResourceCertValue}
 use Rattle.certs_verify.specs.Validated.{Inspects, TellsNumbers}

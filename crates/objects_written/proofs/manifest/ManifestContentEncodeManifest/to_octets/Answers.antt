@@ -1,6 +1,6 @@
 use Rattle.std.proofs.Common.{IfOk, subst}
 use Rattle.objects_written.specs.bcder_tree.declared.mode.Mode.TheVariants.{Der}
-use Rattle.objects_written.specs.objects_forms.Manifests.{Manifest}
+use Rattle.objects_written.specs.objects_payload.Manifests.{Manifest}
 use Rattle.objects_written.specs.Manifests.{manifest}
 use Rattle.objects_written.proofs.Told.{manifest_told}
 use Rattle.objects_written.proofs.manifest.ManifestContentEncodeManifest.to_octets.Goals as goal

@@ -1,6 +1,6 @@
 use Rattle.std.proofs.Common.{IfOk, subst}
 use Rattle.objects_written.specs.bcder_tree.declared.mode.Mode.TheVariants.{Der}
-use Rattle.objects_written.specs.objects_forms.Roas.{Roa}
+use Rattle.objects_written.specs.objects_payload.Roas.{Roa}
 use Rattle.objects_written.specs.Roas.{roa}
 use Rattle.objects_written.proofs.Told.{roa_told}
 use Rattle.objects_written.proofs.roa.RouteOriginAttestationEncodeRoa.to_octets.Goals as goal

@@ -2,7 +2,7 @@ use Rattle.std.proofs.Common.{◌∙◌, ap, sym, subst}
 use Rattle.rpki_bundle.specs.Bundle.{BundleValue}
 use Rattle.rpki_bundle.specs.declared.parts.Object.{Object}
 use Rattle.rpki_bundle.specs.Orders.{Ascends}
-use Rattle.certs_uri.specs.Uris.{IsUri, lookup_key}
+use Rattle.certs_basics.specs.Uris.{IsUri, lookup_key}
 use Rattle.rpki_bundle.proofs.Objects.{none_found}
 use Rattle.rpki_bundle.proofs.Texts.{text_lawful}
 use Rattle.rpki_bundle.proofs.bundle.Bundle.get.Goals as goal

@@ -2,7 +2,7 @@ use Rattle.std.proofs.Common.{Bool, IsTrue, ◌↔◌}
 use Rattle.rpki_standing.specs.certs_key.Digesting.{digests_of}
 use Rattle.rpki_rules.specs.Objects.{Sound}
 use Rattle.rpki_rules.specs.World.{world_of}
-use Rattle.rpki_standing.proofs.Passing.{if_ok}
+use Rattle.rpki_standing.proofs.Failing.{if_ok}
 use Rattle.rpki_standing.proofs.Soundness.{revoked, said_sound, sound_told, unissued}
 use Rattle.rpki_standing.proofs.attested.find.is_sound_at.Goals as goal
 

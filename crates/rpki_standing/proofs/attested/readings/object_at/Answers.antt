@@ -1,6 +1,6 @@
 use Rattle.rpki_rules.specs.World.{world_of}
 use Rattle.rpki_standing.specs.Texts.{FindsText}
-use Rattle.rpki_standing.proofs.Passing.{if_ok}
+use Rattle.rpki_standing.proofs.Failing.{if_ok}
 use Rattle.rpki_standing.proofs.Reading.{no_extension, reading_told}
 use Rattle.rpki_standing.proofs.attested.readings.object_at.Goals as goal
 

@@ -1,7 +1,7 @@
 use Rattle.std.proofs.Common.{◌≡◌, ◌+◌, ◌-◌, length, map, drop, take, sym, ap, ◌∙◌, arith}
 use Rattle.std.specs.Char.{to_ascii_lowercase}
 use Rattle.std.proofs.lemmas.List.{take_rest, length-map}
-use Rattle.rpki_standing.specs.certs_uri.Uris.{lower}
+use Rattle.rpki_standing.specs.certs_basics.Uris.{lower}
 use Rattle.rpki_standing.proofs.Endings.{map_lower, ends_so, end_of}
 use Rattle.rpki_standing.proofs.payloads.names.has_extension.Goals as goal
 

@@ -1,6 +1,6 @@
 use Rattle.std.proofs.Common.{ℕ, List, Some, sym, ap, ◌∙◌}
 use Rattle.rpki_standing.specs.Crls.{Finds}
-use Rattle.rpki_standing.specs.certs_uri.Uris.{lookup_key}
+use Rattle.rpki_standing.specs.certs_basics.Uris.{lookup_key}
 use Rattle.rpki_rules.specs.Certs.{CrlText}
 use Rattle.rpki_rules.specs.World.{find_object, world_of}
 use Rattle.rpki_standing.proofs.Found.{list_told}

@@ -1,5 +1,5 @@
 use Rattle.std.proofs.Common.{ap, ◌∙◌}
-use Rattle.rpki_standing.specs.certs_uri.Uris.{lookup_key}
+use Rattle.rpki_standing.specs.certs_basics.Uris.{lookup_key}
 use Rattle.rpki_standing.proofs.Revoking.{alike_told}
 use Rattle.rpki_standing.proofs.points.revoked.have_one_key.Goals as goal
 

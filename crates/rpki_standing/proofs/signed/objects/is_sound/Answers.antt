@@ -1,6 +1,6 @@
 use Rattle.std.proofs.Common.{◌≡◌}
 use Rattle.rpki_standing.specs.certs_key.Digesting.{digests_of}
-use Rattle.objects_verify.specs.Content.{object_with}
+use Rattle.objects_cms.specs.Content.{object_with}
 use Rattle.rpki_standing.proofs.Sounding.{sound_not, sound_told}
 use Rattle.rpki_standing.proofs.signed.objects.is_sound.Goals as goal
 

@@ -1,5 +1,5 @@
 use Rattle.rpki_steps.specs.certs_key.Digesting.{digests_of}
-use Rattle.rpki_steps.specs.certs_specs.declared.Role.TheVariants.{Ca}
+use Rattle.rpki_steps.specs.certs_extension.declared.forms.Role.TheVariants.{Ca}
 use Rattle.rpki_rules.specs.World.{world_of}
 use Rattle.rpki_steps.proofs.FoundBelow.{found_below}
 use Rattle.rpki_steps.proofs.accepted.below.authority_below.Goals as goal

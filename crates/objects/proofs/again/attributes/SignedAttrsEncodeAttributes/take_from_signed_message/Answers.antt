@@ -1,7 +1,7 @@
-use Rattle.certs_cert.proofs.of_certs_signed.Octets.{inside_took}
-use Rattle.objects_attributes.specs.Kept.{AreKept}
-use Rattle.objects_attributes.proofs.of_bcder_content.InMode.{inside}
-use Rattle.objects_signed.specs.Signer.{AreKeptOctets}
+use Rattle.certs_cert.proofs.of_certs_x509.Octets.{inside_took}
+use Rattle.objects_cms.specs.Kept.{AreKept}
+use Rattle.objects_cms.proofs.of_bcder_content.InMode.{inside}
+use Rattle.objects_cms.specs.Signer.{AreKeptOctets}
 use Rattle.objects.proofs.again.attributes.SignedAttrsEncodeAttributes.take_from_signed_message.Goals as goal
 
 pub returns-clause-reads : goal.returns-clause-reads

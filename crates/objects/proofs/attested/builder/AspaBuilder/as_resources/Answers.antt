@@ -1,6 +1,6 @@
 use Rattle.std.proofs.Common.{ap}
-use Rattle.objects.specs.objects_forms.Aspas.{Aspa}
-use Rattle.objects_aspa.proofs.Resources.{lists_alone}
+use Rattle.objects.specs.objects_payload.Aspas.{Aspa}
+use Rattle.objects_payload.proofs.Resources.{lists_alone}
 use Rattle.objects.proofs.attested.builder.AspaBuilder.as_resources.Goals as goal
 
 pub returns : goal.returns

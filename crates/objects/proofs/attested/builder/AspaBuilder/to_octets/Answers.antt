@@ -1,6 +1,6 @@
 use Rattle.std.proofs.Common.{IfOk, subst}
 use Rattle.objects.specs.bcder_tree.declared.mode.Mode.TheVariants.{Der}
-use Rattle.objects.specs.objects_forms.Aspas.{Aspa}
+use Rattle.objects.specs.objects_payload.Aspas.{Aspa}
 use Rattle.objects.specs.Written.{aspa}
 use Rattle.objects.proofs.AspaAgain.{aspa_told}
 use Rattle.objects.proofs.attested.builder.AspaBuilder.to_octets.Goals as goal

@@ -2,7 +2,7 @@ use Rattle.std.proofs.Common.{ap, ◌∙◌, subst}
 use Rattle.rpki_standing.specs.rpki_bundle.Bundle.{BundleValue}
 use Rattle.rpki_standing.specs.rpki_bundle.Orders.{Ascends}
 use Rattle.rpki_standing.specs.rpki_bundle.declared.parts.Object.{Object}
-use Rattle.rpki_rules.specs.certs_uri.Uris.{lookup_key}
+use Rattle.rpki_rules.specs.certs_basics.Uris.{lookup_key}
 use Rattle.rpki_standing.proofs.Lists.{none_told, place_told}
 use Rattle.rpki_standing.proofs.table.index.Index.object_at.Goals as goal
 

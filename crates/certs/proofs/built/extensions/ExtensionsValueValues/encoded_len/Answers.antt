@@ -1,0 +1,6 @@
+use Rattle.certs.specs.Tbs.{extensions}
+use Rattle.certs.proofs.of_certs_written.Same.{no_len_same}
+use Rattle.certs.proofs.built.extensions.ExtensionsValueValues.encoded_len.Goals as goal
+
+pub returns-clause-refused : goal.returns-clause-refused
+returns-clause-refused c = no_len_same extensions c.args.mode _ c.self.view_is c.encoded_len.ensures.refused

@@ -1,0 +1,6 @@
+use Rattle.certs.specs.Tbs.{extensions}
+use Rattle.certs.proofs.of_certs_written.Same.{refused_same}
+use Rattle.certs.proofs.built.extensions.ExtensionsValueValues.write_encoded.Goals as goal
+
+pub returns-clause-refused : goal.returns-clause-refused
+returns-clause-refused g c = refused_same extensions c.args.mode _ _ _ _ c.self.view_is c.write_encoded.ensures.refused

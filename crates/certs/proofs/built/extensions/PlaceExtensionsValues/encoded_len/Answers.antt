@@ -1,0 +1,9 @@
+use Rattle.certs.specs.Tbs.{written_places}
+use Rattle.certs.proofs.of_certs_written.Same.{len_same, no_len_same}
+use Rattle.certs.proofs.built.extensions.PlaceExtensionsValues.encoded_len.Goals as goal
+
+pub returns-clause-len : goal.returns-clause-len
+returns-clause-len c = len_same written_places c.args.mode _ c.fields-value.ensures c.encoded_len.ensures.len
+
+pub returns-clause-refused : goal.returns-clause-refused
+returns-clause-refused c = no_len_same written_places c.args.mode _ c.fields-value.ensures c.encoded_len.ensures.refused

@@ -1,9 +1,0 @@
-use Rattle.certs_access.specs.bcder_content.Grammar.{End, Then}
-use Rattle.certs_access.proofs.of_bcder_content.Choices.{as_reads}
-use Rattle.certs_access.proofs.of_bcder_content.InMode.{inside}
-use Rattle.certs_access.specs.Names.{only}
-use Rattle.certs_access.specs.Grammars.{IsPoint, one_field}
-use Rattle.certs_access.proofs.crl.take_crl_distribution.Goals as goal
-
-pub returns-clause-reads : goal.returns-clause-reads
-returns-clause-reads g c = as_reads one_field _ only _ _ _ (inside {P = λ m. Then (IsPoint m) End} (record { each = λ p q r h. h }) c.take_sequence.ensures.ran)

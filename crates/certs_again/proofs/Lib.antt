@@ -1,9 +1,0 @@
-mod Access
-mod Certs
-mod Ext
-mod Extensions
-mod Items
-mod Listed
-mod Readable
-mod ValuesRead
-mod Whole

@@ -1,7 +1,0 @@
-use Rattle.certs_algorithm.specs.bcder_content.Grammar.{End, Then}
-use Rattle.certs_algorithm.proofs.of_bcder_content.InMode.{inside}
-use Rattle.certs_algorithm.specs.Algorithms.{IsDigestAlgorithm}
-use Rattle.certs_algorithm.proofs.digest.DigestAlgorithm.take_set_from.Goals as goal
-
-pub returns-clause-reads : goal.returns-clause-reads
-returns-clause-reads g c = inside {P = λ m. Then IsDigestAlgorithm End} (record { each = λ p q r h. h.0 }) c.take_set.ensures.ran

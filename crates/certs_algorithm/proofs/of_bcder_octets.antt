@@ -1,3 +1,0 @@
--- Lemmas of bcder_octets, for the crates above.
-pub use Rattle.certs_basics.proofs.of_bcder_octets.Meaning
-pub use Rattle.certs_basics.proofs.of_bcder_octets.Strings

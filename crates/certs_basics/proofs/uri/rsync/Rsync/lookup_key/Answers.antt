@@ -1,0 +1,9 @@
+-- The lookup key of an rsync URI is one.
+use Rattle.std.proofs.Common.{sym, ap, ◌∙◌, subst}
+use Rattle.certs_basics.specs.Uris.{IsRsync, lookup_key as key_of}
+use Rattle.certs_basics.proofs.UriLaws.{IsRsync-lookup_key}
+use Rattle.certs_basics.proofs.uri.rsync.Rsync.lookup_key.Goals as goal
+
+pub of_uri-requires : goal.of_uri-requires
+of_uri-requires c =
+    subst IsRsync (sym (c.in-Ok.ensures.ok ∙ c.in_ok-key.ensures ∙ ap key_of c.as_slice-2.ensures.text)) (IsRsync-lookup_key c.args.self.now c.as_slice.ensures.uri)

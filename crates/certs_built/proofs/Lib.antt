@@ -1,2 +1,0 @@
-mod Signed
-pub mod of_certs_written

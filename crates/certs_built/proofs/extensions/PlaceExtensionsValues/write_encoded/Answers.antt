@@ -1,9 +1,0 @@
-use Rattle.certs_built.specs.Tbs.{written_places}
-use Rattle.certs_built.proofs.of_certs_written.Same.{refused_same, wrote_same}
-use Rattle.certs_built.proofs.extensions.PlaceExtensionsValues.write_encoded.Goals as goal
-
-pub returns-clause-written : goal.returns-clause-written
-returns-clause-written g c = wrote_same written_places c.args.mode _ _ _ c.fields-value.ensures c.write_encoded.ensures.written
-
-pub returns-clause-refused : goal.returns-clause-refused
-returns-clause-refused g c = refused_same written_places c.args.mode _ _ _ _ c.fields-value.ensures c.write_encoded.ensures.refused

@@ -1,5 +1,0 @@
-use Rattle.certs_claims.proofs.Whole.{slots_one}
-use Rattle.certs_claims.proofs.laws.one_slots.Goals as goal
-
-pub returns : goal.returns
-returns c = λ all s t p q. slots_one all s t p q

@@ -1,2 +1,0 @@
--- Lemmas of certs_specs, for the crates above.
-pub use Rattle.certs_extension.proofs.of_certs_specs.Values

@@ -1,5 +1,0 @@
-use Rattle.certs_claims.proofs.Finished.{no_claims}
-use Rattle.certs_claims.proofs.slots.Slots.finish.Goals as goal
-
-pub returns-in-Err-clause-none : goal.returns-in-Err-clause-none
-returns-in-Err-clause-none c = λ claims f. no_claims c.args.self _ claims c.in-Err.ensures.refused f

@@ -1,6 +1,0 @@
-use Rattle.certs_claims.proofs.of_bcder_content.Choices.{stop_value}
-use Rattle.certs_claims.proofs.Filling.{under_lacks}
-use Rattle.certs_claims.proofs.values.take_asn.Goals as goal
-
-pub returns-in_err-read : goal.returns-in_err-read
-returns-in_err-read g c = stop_value _ _ _ _ c.from_residual.ensures (λ l. under_lacks (λ x. x) l) c.in_err-read.ensures.reads

@@ -1,3 +1,0 @@
-//! Tests of the form of a certificate.
-
-pub use certs_specs::InspectionError;

@@ -1,0 +1,2 @@
+-- Lemmas of certs_extension, for the crates above.
+pub use Rattle.certs_extension.proofs.Values

@@ -1,2 +1,0 @@
--- Lemmas of certs_specs, for the crates above.
-pub use Rattle.certs_specs.proofs.Values

@@ -1,6 +1,0 @@
-use Rattle.certs_signed.specs.Signed.{signed}
-use Rattle.certs_signed.proofs.Again.{signed_sound}
-use Rattle.certs_signed.proofs.laws.one_meaning.Goals as goal
-
-pub returns : goal.returns
-returns c = λ m r. signed.one_meaning signed_sound m ((r, tt), ((tt, tt), tt))

@@ -1,8 +1,0 @@
-use Rattle.certs_signed.proofs.of_bcder_values.Returning.{read_again}
-use Rattle.certs_signed.specs.bcder_values.Forms.{written_again}
-use Rattle.certs_signed.specs.Signed.{signed, signed_fields}
-use Rattle.certs_signed.proofs.Again.{signed_lawful, signed_sound}
-use Rattle.certs_signed.proofs.laws.what_is_written_is_read.Goals as goal
-
-pub returns : goal.returns
-returns c = λ s m text l w. read_again m text (written_again signed signed_sound (signed_fields s) m text (signed_lawful s l) w)

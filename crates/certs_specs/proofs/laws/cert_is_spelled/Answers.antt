@@ -1,5 +1,0 @@
-use Rattle.certs_specs.proofs.Spellings.{cert_is_spelled}
-use Rattle.certs_specs.proofs.laws.cert_is_spelled.Goals as goal
-
-pub returns : goal.returns
-returns c = cert_is_spelled

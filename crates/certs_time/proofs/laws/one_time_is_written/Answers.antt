@@ -1,5 +1,0 @@
-use Rattle.certs_time.proofs.Meanings.{one_written}
-use Rattle.certs_time.proofs.laws.one_time_is_written.Goals as goal
-
-pub returns : goal.returns
-returns c = one_written

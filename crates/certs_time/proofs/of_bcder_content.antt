@@ -1,7 +1,0 @@
--- Lemmas of bcder_content, for the crates above.
-pub use Rattle.bcder.proofs.of_bcder_content.Choices
-pub use Rattle.bcder.proofs.of_bcder_content.Forests
-pub use Rattle.bcder.proofs.of_bcder_content.Inside
-pub use Rattle.bcder.proofs.of_bcder_content.Passing
-pub use Rattle.bcder.proofs.of_bcder_content.Taking
-pub use Rattle.bcder.proofs.of_bcder_content.Unique

@@ -1,9 +1,0 @@
-use Rattle.std.proofs.Common.{◌≡◌, ℕ, ◌<◌, length}
-use Rattle.certs_time.proofs.Moments.{IsPairAt}
-use Rattle.certs_time.proofs.time.pairs.Given as goal
-
-abbrev pub invariant-loop-i : goal.invariant-loop-i
-invariant-loop-i l = record {
-  count : length l.number-items ≡ 7;
-  each : (k : ℕ) → k < l.i → IsPairAt l.text l.number-items k;
-}

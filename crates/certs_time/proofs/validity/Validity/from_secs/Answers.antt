@@ -1,8 +1,0 @@
-use Rattle.std.proofs.Common.{FitsSigned, rules, w64}
-use Rattle.std.proofs.lemmas.Int.{to_z-of_z}
-use Rattle.certs_time.proofs.validity.Validity.from_secs.Goals as goal
-
-pub returns-in_err-then-clause-none : goal.returns-in_err-then-clause-none
-returns-in_err-then-clause-none c =
-    let fits : FitsSigned w64 c.args.seconds = search rules in
-    rw c.from_residual.ensures (simp to_z-of_z at c.in_err-then.ensures.none)

@@ -1,6 +1,0 @@
--- The law is a lemma.
-use Rattle.certs_uri.proofs.UriLaws.{lookup_key-lookup_key}
-use Rattle.certs_uri.proofs.laws.lookup_key_twice.Goals as goal
-
-pub returns : goal.returns
-returns c = lookup_key-lookup_key

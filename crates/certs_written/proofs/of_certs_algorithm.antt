@@ -1,2 +1,0 @@
--- Lemmas of certs_algorithm, for the crates above.
-pub use Rattle.certs_key.proofs.of_certs_algorithm.Written

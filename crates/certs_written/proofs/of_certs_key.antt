@@ -1,0 +1,2 @@
+-- Lemmas of certs_key, for the crates above.
+pub use Rattle.certs_key.proofs.Written

@@ -1,0 +1,3 @@
+-- Lemmas of certs_key, for the crates above.
+pub use Rattle.certs_key.proofs.Meanings
+pub use Rattle.certs_key.proofs.Written

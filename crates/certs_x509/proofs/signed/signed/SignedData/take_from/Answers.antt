@@ -1,0 +1,10 @@
+use Rattle.certs_x509.proofs.of_bcder_content.InMode.{inside}
+use Rattle.certs_x509.specs.Signed.{AreSignedOctets, signed_content}
+use Rattle.certs_x509.proofs.Octets.{inside_took}
+use Rattle.certs_x509.proofs.signed.signed.SignedData.take_from.Goals as goal
+
+pub returns-clause-reads : goal.returns-clause-reads
+returns-clause-reads g c = inside {P = signed_content.reads} (record { each = λ p q r h. h.0 }) c.take_sequence.ensures.ran
+
+pub returns-clause-octets : goal.returns-clause-octets
+returns-clause-octets g c = inside_took {P = AreSignedOctets} (record { each = λ p q x h. h.1 }) c.take_sequence.ensures.ran

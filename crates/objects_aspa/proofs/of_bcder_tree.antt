@@ -1,2 +1,0 @@
--- Lemmas of bcder_tree, for the crates above.
-pub use Rattle.resources_asn.proofs.of_bcder_tree.Trees

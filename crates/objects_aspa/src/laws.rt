@@ -1,9 +1,0 @@
-//! Laws of provider attestations: the contracts of functions that do nothing.
-
-ghost use Rattle.objects_forms.specs.Aspas.{IsAspa};
-ghost use Rattle.objects_aspa.specs.bcder_content.Grammar.{One};
-
-/// A value is one attestation at most.
-pub fn one_attestation()
-    ensures { One IsAspa }
-{}

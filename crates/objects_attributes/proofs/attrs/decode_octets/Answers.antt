@@ -1,5 +1,0 @@
-use Rattle.objects_attributes.proofs.Wholes.{decodes_all}
-use Rattle.objects_attributes.proofs.attrs.decode_octets.Goals as goal
-
-pub returns : goal.returns
-returns c = decodes_all (record { each = λ p q r h. h }) c.decode.ensures.decoded

@@ -1,5 +1,0 @@
-use Rattle.objects_attributes.proofs.Single.{no_kind}
-use Rattle.objects_attributes.proofs.kinds.kind_of.Goals as goal
-
-pub returns : goal.returns
-returns c = no_kind _ (λ e. let t = c.if-equals.ensures.1 e in absurd cc) (λ e. let t = c.if-equals-2.ensures.1 e in absurd cc) (λ e. let t = c.if-equals-3.ensures.1 e in absurd cc) (λ e. let t = c.if-equals-4.ensures.1 e in absurd cc)

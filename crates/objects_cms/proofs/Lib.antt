@@ -1,0 +1,21 @@
+pub mod AttributesTold
+mod Finished
+pub mod AttributeOnes
+pub mod Single
+pub mod SlotLaws
+pub mod Wholes
+pub mod Entries
+pub mod Lists
+pub mod Names
+pub mod Stepping
+mod Joined
+mod NoMemory
+mod Ones
+mod Spelled
+mod Whole
+pub mod Messages
+pub mod of_certs_basics
+pub mod of_bcder_oid
+pub mod of_certs_extension
+pub mod of_bcder_content
+pub mod of_objects_payload

@@ -1,0 +1,3 @@
+-- Lemmas of certs_basics, for the crates above.
+pub use Rattle.objects_payload.proofs.of_certs_basics.Meanings
+pub use Rattle.objects_payload.proofs.of_certs_basics.Values

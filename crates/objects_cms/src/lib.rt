@@ -1,0 +1,8 @@
+//! Signed objects as CMS has them (RFC 5652, RFC 6488): signed attributes ([`attributes`]), the object around a content
+//! ([`signed`]), the tests that make one sound ([`verify`]), and the content of manifests ([`manifest`], RFC 9286 4).
+#![tactic(auto)]
+
+pub mod attributes;
+pub mod manifest;
+pub mod signed;
+pub mod verify;

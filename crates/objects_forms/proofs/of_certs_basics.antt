@@ -1,2 +1,0 @@
--- Lemmas of certs_basics, for the crates above.
-pub use Rattle.certs_specs.proofs.of_certs_basics.Values

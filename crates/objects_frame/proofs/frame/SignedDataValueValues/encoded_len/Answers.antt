@@ -1,9 +1,0 @@
-use Rattle.objects_frame.specs.Frames.{written_signed}
-use Rattle.certs_written.proofs.Same.{len_same, no_len_same}
-use Rattle.objects_frame.proofs.frame.SignedDataValueValues.encoded_len.Goals as goal
-
-pub returns-clause-len : goal.returns-clause-len
-returns-clause-len c = len_same written_signed c.args.mode _ c.fields-value.ensures c.encoded_len.ensures.len
-
-pub returns-clause-refused : goal.returns-clause-refused
-returns-clause-refused c = no_len_same written_signed c.args.mode _ c.fields-value.ensures c.encoded_len.ensures.refused

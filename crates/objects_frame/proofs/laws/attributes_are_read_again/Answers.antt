@@ -1,5 +1,0 @@
-use Rattle.objects_frame.proofs.Again.{attributes_again}
-use Rattle.objects_frame.proofs.laws.attributes_are_read_again.Goals as goal
-
-pub returns : goal.returns
-returns c = attributes_again

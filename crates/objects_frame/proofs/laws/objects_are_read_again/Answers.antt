@@ -1,5 +1,0 @@
-use Rattle.objects_frame.proofs.FrameAgain.{parts_again}
-use Rattle.objects_frame.proofs.laws.objects_are_read_again.Goals as goal
-
-pub returns : goal.returns
-returns c = parts_again

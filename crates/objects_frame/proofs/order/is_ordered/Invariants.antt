@@ -1,9 +1,0 @@
-use Rattle.std.proofs.Common.{◌↔◌, length}
-use Rattle.objects_frame.specs.Orders.{IsOrdered}
-use Rattle.objects_frame.proofs.order.is_ordered.Given as goal
-
-abbrev pub invariant-loop-a : goal.invariant-loop-a
-invariant-loop-a l = IsOrdered l.fn.first l.fn.second ↔ IsOrdered l.left l.right
-
-abbrev pub decreases-loop-a : goal.decreases-loop-a
-decreases-loop-a l = length l.left

@@ -1,5 +1,0 @@
-use Rattle.objects_manifest.proofs.of_bcder_content.Decoding.{exact_decode}
-use Rattle.objects_manifest.proofs.content.ManifestContent.decode.Goals as goal
-
-pub returns : goal.returns
-returns g c = exact_decode (record { each = λ p q r m h. h }) c.decode.ensures.decoded

@@ -1,6 +1,0 @@
-use Rattle.objects_manifest.proofs.of_bcder_content.InMode.{inside_opt}
-use Rattle.objects_manifest.specs.Files.{AreEntryFields}
-use Rattle.objects_manifest.proofs.file.skip_opt_file.Goals as goal
-
-pub returns-clause-reads : goal.returns-clause-reads
-returns-clause-reads g c = inside_opt {P = AreEntryFields} (record { each = λ p q r h. h.0 }) c.take_opt_sequence.ensures.ran

@@ -1,0 +1,9 @@
+//! What signed objects attest: the contents of route origin attestations ([`roa`], RFC 9582 4) and of provider attestations
+//! ([`aspa`], draft-ietf-sidrops-aspa-profile 3), and whether these are within what is held ([`covered`]). [`forms`] passes
+//! on what these contents are made of; the definitions of all signed objects stand here, manifests among them.
+#![tactic(auto)]
+
+pub mod aspa;
+pub mod covered;
+pub mod forms;
+pub mod roa;

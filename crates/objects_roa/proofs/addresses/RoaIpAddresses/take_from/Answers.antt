@@ -1,6 +1,0 @@
-use Rattle.objects_roa.specs.Addresses.{AreAddresses}
-use Rattle.objects_roa.proofs.of_bcder_content.InMode.{inside}
-use Rattle.objects_roa.proofs.addresses.RoaIpAddresses.take_from.Goals as goal
-
-pub returns-clause-reads : goal.returns-clause-reads
-returns-clause-reads g c = inside {P = AreAddresses c.args.family} (record { each = λ p q r h. h }) c.take_sequence.ensures.ran

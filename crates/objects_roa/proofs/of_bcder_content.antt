@@ -1,9 +1,0 @@
--- Lemmas of bcder_content, for the crates above.
-pub use Rattle.resources_asn.proofs.of_bcder_content.Choices
-pub use Rattle.resources_asn.proofs.of_bcder_content.Choosing
-pub use Rattle.resources_asn.proofs.of_bcder_content.Decoding
-pub use Rattle.resources_asn.proofs.of_bcder_content.Forests
-pub use Rattle.resources_asn.proofs.of_bcder_content.InMode
-pub use Rattle.resources_asn.proofs.of_bcder_content.Taking
-pub use Rattle.resources_asn.proofs.of_bcder_content.Unique
-pub use Rattle.resources_asn.proofs.of_bcder_content.Within

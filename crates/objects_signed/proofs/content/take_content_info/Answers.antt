@@ -1,6 +1,0 @@
-use Rattle.objects_signed.proofs.of_bcder_content.InMode.{inside}
-use Rattle.objects_signed.specs.Frame.{AreTyped}
-use Rattle.objects_signed.proofs.content.take_content_info.Goals as goal
-
-pub returns : goal.returns
-returns g c = inside {P = AreTyped} (record { each = λ p q r h. h }) c.take_sequence.ensures.ran

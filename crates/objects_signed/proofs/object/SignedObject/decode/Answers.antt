@@ -1,5 +1,0 @@
-use Rattle.objects_signed.proofs.Whole.{decodes_object}
-use Rattle.objects_signed.proofs.object.SignedObject.decode.Goals as goal
-
-pub returns : goal.returns
-returns g c = decodes_object c.args.strict c.mode_of-rules.ensures (record { each = λ p q r h. h }) c.decode.ensures.decoded

@@ -1,8 +1,0 @@
--- Lemmas of bcder_content, for the crates above.
-pub use Rattle.certs_cert.proofs.of_bcder_content.Fronts
-pub use Rattle.certs_cert.proofs.of_bcder_content.InMode
-pub use Rattle.certs_cert.proofs.of_bcder_content.Simple
-pub use Rattle.certs_cert.proofs.of_bcder_content.Tagged
-pub use Rattle.certs_cert.proofs.of_bcder_content.Taking
-pub use Rattle.certs_cert.proofs.of_bcder_content.Took
-pub use Rattle.certs_cert.proofs.of_bcder_content.Unique

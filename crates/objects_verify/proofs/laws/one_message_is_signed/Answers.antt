@@ -1,5 +1,0 @@
-use Rattle.objects_verify.proofs.Messages.{one_message}
-use Rattle.objects_verify.proofs.laws.one_message_is_signed.Goals as goal
-
-pub returns : goal.returns
-returns c = one_message

@@ -1,9 +1,0 @@
-mod Plain
-mod Spelled
-mod Unheld
-mod Listed
-mod Repository
-mod Found
-mod Stands
-mod Told
-mod Claimed

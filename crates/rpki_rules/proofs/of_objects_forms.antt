@@ -1,2 +1,0 @@
--- Lemmas of objects_forms, for the crates above.
-pub use Rattle.objects_forms.proofs.Locators

@@ -1,0 +1,62 @@
+//! Certificates below an authority (RFC 6487 7.2).
+
+ghost use Rattle.std.specs.Prelude.{◌≡◌, ◌↔◌, ◌+◌, ◌≤◌, IfOk, IsTrue};
+ghost use Rattle.rpki_walk.specs.Evidence.{IsBelow};
+ghost use Rattle.rpki_rules.specs.Chains.{CertAt, IsSound};
+ghost use Rattle.rpki_rules.specs.Points.{files as files_by};
+ghost use Rattle.rpki_rules.specs.World.{world_of};
+ghost use Rattle.rpki_standing.specs.certs_key.Digesting.{digests_of};
+
+use crate::climb::files::is_cer_file;
+use rpki_standing::{Cert, Digester, Index, Point, Verifier, is_issued_to_authority, is_unrevoked};
+use std::alloc::{AllocError, Global};
+
+/// Whether the certificate is sound at the authority's point: it has the form of an authority's, it isn't revoked there, and
+/// the authority signed it. What it claims isn't looked at. The verifier is asked once, at most.
+pub fn is_sound_below<D: Digester, V: Verifier>(
+    alloc: Global,
+    ca: &Cert,
+    point: &Point,
+    cert: &Cert,
+    index: &Index<'_>,
+    digester: &D,
+    verifier: &mut V,
+) -> Result<bool, AllocError>
+    ensures sound { IfOk result (λ yes. IsTrue yes ↔ IsSound (world_of
+        (digests_of D.sha256_digest D.sha1_digest digester.now) (V.says verifier.old) index.now)
+        ca.now point.now.point cert.now) }
+    ensures same { V.says verifier.new ≡ V.says verifier.old }
+    ensures asked { V.count verifier.new ≤ V.count verifier.old + 1 }
+{
+    if !is_unrevoked(alloc, cert, point.manifest_cert(), point.crl())? {
+        return Ok(false);
+    }
+    Ok(is_issued_to_authority(cert, ca, index, digester, verifier))
+}
+
+/// Whether the certificate at the lookup key is at a file of the authority's point, for an authority's certificate, and sound
+/// there. The verifier is asked once, at most.
+pub fn is_below<D: Digester, V: Verifier>(
+    alloc: Global,
+    ca: &Cert,
+    point: &Point,
+    uri: &[u8],
+    cert: &Cert,
+    index: &Index<'_>,
+    digester: &D,
+    verifier: &mut V,
+) -> Result<bool, AllocError>
+    requires at { CertAt (world_of (digests_of D.sha256_digest D.sha1_digest digester.now)
+        (V.says verifier.old) index.now) uri.now cert.now }
+    requires listed { point.now.keys ≡ files_by ca.now point.now.point.manifest }
+    ensures below { IfOk result (λ yes. IsTrue yes ↔ IsBelow (world_of
+        (digests_of D.sha256_digest D.sha1_digest digester.now) (V.says verifier.old) index.now)
+        ca.now point.now.point uri.now cert.now) }
+    ensures same { V.says verifier.new ≡ V.says verifier.old }
+    ensures asked { V.count verifier.new ≤ V.count verifier.old + 1 }
+{
+    if !is_cer_file(point.files(), uri) {
+        return Ok(false);
+    }
+    is_sound_below(alloc, ca, point, cert, index, digester, verifier)
+}
