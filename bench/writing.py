@@ -88,7 +88,7 @@ def bench(ours, theirs):
 
 def deep(folder, theirs):
     """Times the writing of deep values; how many targets were missed or octets differ."""
-    crate = copies.make(folder, "writing_deep", os.path.join(BENCH, "writing_deep.rt.in"), ["bcder_values", "bcder_written"])
+    crate = copies.make(folder, "writing_deep", os.path.join(BENCH, "writing_deep.rt.in"), ["bcder_values", "bcder_primitive"])
     done = subprocess.run(["rt", "try", "--", *map(str, DEPTHS)], cwd=crate, capture_output=True, text=True)
     rows = re.findall(r"^(\d+) (\d+) (\d+)$", done.stdout, re.MULTILINE)
     if [int(row[0]) for row in rows] != list(DEPTHS):

@@ -12,13 +12,15 @@ each one that has no proof. An edit that isn't refused so, since another functio
 function calls was refused, is tried again alone by a check of the whole crate.
 
 A line says of each whether it was refused. tests/edits/TRIED.tsv keeps what was tried at which state of the crate (a
-digest of its sources, specs and proofs and of the edit); --list prints the edits that it doesn't have so. Exits with 1
-where an edit wasn't refused or can't be applied.
+digest of its sources, specs and proofs and of the edit, as far as they aren't comments, say nothing of where a name
+stands and aren't laid out by the formatter); --list prints the edits that it doesn't have so. Exits with 1 where an edit
+wasn't refused or can't be applied.
 """
 
 import argparse
 import datetime
 import fcntl
+import functools
 import glob
 import hashlib
 import os
@@ -38,6 +40,13 @@ sys.path.insert(0, os.path.join(HERE, os.pardir, "bench"))
 import copies  # noqa: E402
 
 
+# What imports names or lists modules, what is only for readers, and a name by a path that begins at a crate.
+RUST_IMPORT = re.compile(r"^[ \t]*(?:pub(?:\([a-z]+\))? )?(?:ghost )?(?:use\b[^;]*|mod \w+);", re.MULTILINE)
+RUST_COMMENT = re.compile(r"^[ \t]*//.*$", re.MULTILINE)
+RUST_PATH = re.compile(r"(?<![\w:.])(?:crate|(?:bcder|resources|certs|objects|rpki)(?:_[a-z]+)*)((?:::\w+)+)")
+TERM_IMPORT = re.compile(r"^(?:(?:pub )?(?:use|mod) .*|--.*)$", re.MULTILINE)
+
+
 def read(path):
     with open(path) as file:
         return file.read()
@@ -46,6 +55,20 @@ def read(path):
 def write(path, text):
     with open(path, "w") as file:
         file.write(text)
+
+
+def rust_meaning(text):
+    """The text without comments and white space, and without the crates and modules of a path."""
+    text = RUST_COMMENT.sub("", text)
+    text = RUST_PATH.sub(lambda path: re.sub(r"^(?:::[a-z_0-9]+)+(?=::)|^", "", path.group(1)).removeprefix("::"), text)
+    return re.sub(r",([)}\]>])", r"\1", re.sub(r"\s+", "", text))
+
+
+def meaning(path, text):
+    """The text of a file as far as it says more than where names stand."""
+    if path.endswith(".rt"):
+        return rust_meaning(RUST_IMPORT.sub("", text))
+    return re.sub(r"\n+", "\n", TERM_IMPORT.sub("", text)).strip()
 
 
 class Edit:
@@ -95,17 +118,27 @@ class Edit:
             found.add(("" if module in ("lib", "main") else module, names[-1]))
         return found
 
+    def meaning(self):
+        """The edit without the folders of its files."""
+        return repr([(os.path.basename(file), rust_meaning(old), rust_meaning(new)) for file, old, new in self.pairs])
+
     def state(self):
         """A digest of the crate as it stands in the repository, and of the edit."""
-        digest = hashlib.sha256(self.text.encode())
-        crate = os.path.join(copies.ROOT, "crates", self.crate)
-        for part in ("src", "specs", "proofs"):
-            for at, folders, files in sorted(os.walk(os.path.join(crate, part))):
-                folders.sort()
-                for name in sorted(files):
-                    path = os.path.join(at, name)
-                    digest.update(os.path.relpath(path, crate).encode() + b"\0" + read(path).encode() + b"\0")
-        return digest.hexdigest()[:16]
+        parts = parts_of(os.path.join(copies.ROOT, "crates", self.crate))
+        return hashlib.sha256("\n".join([self.meaning(), *sorted(parts)]).encode()).hexdigest()[:16]
+
+
+@functools.cache
+def parts_of(crate):
+    """A digest of each file of a crate's sources, specs and proofs that says more than where names stand."""
+    found = []
+    for part in ("src", "specs", "proofs"):
+        for at, _, files in os.walk(os.path.join(crate, part)):
+            for name in files:
+                said = meaning(name, read(os.path.join(at, name)))
+                if said:
+                    found.append(hashlib.sha256(said.encode()).hexdigest())
+    return found
 
 
 def edits_of(crate, names):
@@ -158,7 +191,8 @@ def functions_of(edit, folder, ends):
     stand in another file."""
     found = []
     for module, function in edit.functions(folder) or ():
-        named = [path for path in ends if function in re.split(r"[:/]+", path)]
+        words = {path: re.split(r"[:/]+", path) for path in ends}
+        named = [path for path in ends if words[path][-1] == function or "fn" in words[path] and function in words[path]]
         inside = [path for path in named if module == "" or path.partition("::")[2].startswith(module + "::")]
         found += inside or named
     return found

@@ -1,3 +1,3 @@
 -- Lemmas of bcder_primitive, for the crates above.
-pub use Rattle.bcder_bits.proofs.of_bcder_primitive.Numbers
-pub use Rattle.bcder_bits.proofs.of_bcder_primitive.Primitives
+pub use Rattle.bcder_octets.proofs.of_bcder_primitive.Numbers
+pub use Rattle.bcder_octets.proofs.of_bcder_primitive.Primitives

@@ -1,29 +1,28 @@
 -- The forms of the codec's own types, with a tag that is given (an implicit tag, X.690 8.14), and with their own.
 use Rattle.std.proofs.Common.{◌≡◌, ℕ, Bool, true, false, List, ap, subst, sym, ◌∙◌}
 use Rattle.std.specs.Prelude.{ℤ, pos, unsigned_abs}
-use Rattle.bcder_bits.specs.bcder_tree.declared.mode.Mode.{Mode}
-use Rattle.bcder_bits.specs.bcder_tree.declared.mode.Mode.TheVariants.{Ber, Cer, Der}
-use Rattle.bcder_bits.specs.bcder_tree.Tags.{TagValue, universal, boolean_tag, integer_tag, null_tag, oid_tag}
-use Rattle.bcder_bits.specs.bcder_tree.Strings.{IsString, octet_string_tag}
-use Rattle.bcder_bits.specs.bcder_tree.Tree.{Tree, primitive, constructed}
-use Rattle.bcder_bits.specs.bcder_primitive.Values.{AnyOctets, IsBoolean, IsNull, IsTruth, IsUnsigned}
-use Rattle.bcder_oid.specs.Identifiers.{AreOctets, IsOid, IsIdentifier}
-use Rattle.bcder_oid.proofs.Read.{oid_one}
+use Rattle.bcder_octets.specs.bcder_tree.declared.mode.Mode.{Mode}
+use Rattle.bcder_octets.specs.bcder_tree.declared.mode.Mode.TheVariants.{Ber, Cer, Der}
+use Rattle.bcder_octets.specs.bcder_tree.Tags.{TagValue, universal, boolean_tag, integer_tag, null_tag, oid_tag}
+use Rattle.bcder_octets.specs.bcder_tree.Strings.{IsString, octet_string_tag}
+use Rattle.bcder_octets.specs.bcder_tree.Tree.{Tree, primitive, constructed}
+use Rattle.bcder_octets.specs.bcder_primitive.Values.{AnyOctets, IsBoolean, IsNull, IsTruth, IsUnsigned}
+use Rattle.bcder.specs.Identifiers.{AreOctets, IsOid, IsIdentifier}
 use Rattle.bcder_number.specs.Integers.{IsInteger, IsNatural}
 use Rattle.bcder_number.specs.Contents.{one_integer, one_number}
-use Rattle.bcder_bits.specs.Bits.{BitsValue}
-use Rattle.bcder_bits.specs.Contents.{IsBitString, WritesBits, padded_in}
-use Rattle.bcder_bits.specs.Written.{one_bits}
-use Rattle.bcder_bits.proofs.Readings.{bit_string_one}
-use Rattle.bcder_strings.specs.bcder_octets.Segments.{StringTrees, WritesString, string_spelled, string_one}
-use Rattle.bcder_strings.proofs.of_bcder_octets.Written.{written_string}
-use Rattle.bcder_strings.proofs.of_bcder_octets.Meaning.{one_string as one_octets}
-use Rattle.bcder_bits.specs.bcder_content.Contents.{tag_of}
-use Rattle.bcder_bits.proofs.of_bcder_content.Simple.{boolean_one, unit_one}
-use Rattle.bcder_bits.proofs.of_bcder_content.Unique.{unsigned_one}
-use Rattle.bcder_bits.specs.bcder_values.Forms.{Form, plain}
-use Rattle.bcder_bits.specs.bcder_written.Integers.{WritesUnsigned, one_unsigned}
-use Rattle.bcder_bits.specs.bcder_written.Simple.{one_boolean, one_null, one_string}
+use Rattle.bcder_octets.specs.Bits.{BitsValue}
+use Rattle.bcder_octets.specs.BitContents.{IsBitString, WritesBits, padded_in}
+use Rattle.bcder_octets.specs.BitsWritten.{one_bits}
+use Rattle.bcder_octets.proofs.BitReadings.{bit_string_one}
+use Rattle.bcder.specs.bcder_octets.Segments.{StringTrees, WritesString, string_spelled, string_one}
+use Rattle.bcder_octets.proofs.Written.{written_string}
+use Rattle.bcder_octets.proofs.Meaning.{one_string as one_octets}
+use Rattle.bcder_octets.specs.bcder_content.Contents.{tag_of}
+use Rattle.bcder_octets.proofs.of_bcder_content.Simple.{boolean_one, unit_one}
+use Rattle.bcder_octets.proofs.of_bcder_content.Unique.{unsigned_one}
+use Rattle.bcder_octets.specs.bcder_values.Forms.{Form, plain}
+use Rattle.bcder_octets.specs.bcder_primitive.Integers.{WritesUnsigned, one_unsigned}
+use Rattle.bcder_octets.specs.bcder_primitive.Simple.{one_boolean, one_null, one_string}
 
 -- In each mode the octet that is written of a BOOLEAN is one of it (X.690 8.2, 11.1).
 pub der_truth : (m : Mode) (a : ℕ) (x : Bool) → IsTruth Der a x → IsTruth m a x
@@ -96,7 +95,7 @@ oid_at tag = plain tag (record {
   writes = λ x m content. AnyOctets content x;
   one_content = λ x m. one_string x;
   is_read = λ x m content l v. record { same = v.same; is = subst IsIdentifier (sym v.same) l };
-  one_meaning = λ m. oid_one;
+  one_meaning = λ m. record { one = λ content x y p q. sym p.same ∙ q.same };
 })
 
 -- The one identifier with these octets.

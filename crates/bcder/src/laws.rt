@@ -13,11 +13,12 @@
 //! | [`chars`] | octets tell one list of characters at most, and which octets are texts |
 //! | [`strings`] | what is written of a text is one string in the mode, and a value is one string at most |
 
-pub use bcder_bits::bcder_values::bcder_content::laws as content;
-pub use bcder_bits::bcder_values::bcder_source::laws as source;
-pub use bcder_bits::bcder_values::bcder_tree::laws as tree;
-pub use bcder_bits::bcder_values::laws as values;
-pub use bcder_bits::laws as bits;
+pub use crate::oid::laws as oid;
+pub use crate::string::{chars_laws as chars, laws as strings};
 pub use bcder_number::laws as number;
-pub use bcder_oid::laws as oid;
-pub use bcder_strings::{chars_laws as chars, laws as strings, octets_laws as octets};
+pub use bcder_octets::bits::laws as bits;
+pub use bcder_octets::laws as octets;
+pub use bcder_values::bcder_content::laws as content;
+pub use bcder_values::bcder_source::laws as source;
+pub use bcder_values::bcder_tree::laws as tree;
+pub use bcder_values::laws as values;

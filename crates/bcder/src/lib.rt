@@ -1,7 +1,8 @@
 //! BER, CER and DER (X.690): values read and written, with integers, object identifiers and strings.
 //!
 //! This is the face of the codec: a port of the Rust crate `bcder` 0.7.7 in which each call is proved to meet its
-//! contract. The parts below it are crates of their own, whose `specs/` have the definitions that contracts cite.
+//! contract. Object identifiers and restricted strings stand here. The `specs/` of each crate have the definitions that
+//! its contracts cite.
 //!
 //! | Module | Has |
 //! |---|---|
@@ -41,10 +42,10 @@ pub mod laws;
 pub mod oid;
 pub mod string;
 
-pub use bcder_bits::BitString;
-pub use bcder_bits::bcder_values::CapturedBuilder;
-pub use bcder_bits::bcder_values::bcder_content::Captured;
-pub use bcder_bits::bcder_values::bcder_tree::{Length, Mode, Tag};
 pub use bcder_number::{Integer, Unsigned};
-pub use bcder_oid::{ConstOid, Oid};
-pub use bcder_strings::{Ia5String, NumericString, OctetString, PrintableString, Utf8String};
+pub use bcder_octets::bits::BitString;
+pub use bcder_values::CapturedBuilder;
+pub use bcder_values::bcder_content::Captured;
+pub use bcder_values::bcder_tree::{Length, Mode, Tag};
+pub use oid::{ConstOid, Oid};
+pub use string::{Ia5String, NumericString, OctetString, PrintableString, Utf8String};

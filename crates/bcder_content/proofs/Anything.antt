@@ -6,17 +6,17 @@ use Rattle.bcder_content.specs.bcder_source.declared.error.DecodeError.TheVarian
 use Rattle.bcder_content.specs.bcder_source.Errors.{OnContent}
 use Rattle.bcder_content.specs.bcder_tree.Tags.{TagValue}
 use Rattle.bcder_content.specs.bcder_tree.Tree.{Tree, Trees, primitive, constructed}
-use Rattle.bcder_header.specs.declared.ending.Ending.{Ending}
-use Rattle.bcder_header.specs.declared.ending.Span.{Span}
-use Rattle.bcder_header.specs.declared.ending.Span.TheVariants.{Until, ToEnd}
+use Rattle.bcder_content.specs.declared.ending.Ending.{Ending}
+use Rattle.bcder_content.specs.declared.ending.Span.{Span}
+use Rattle.bcder_content.specs.declared.ending.Span.TheVariants.{Until, ToEnd}
 use Rattle.bcder_content.specs.Contents.{ValuesLeft, octets, Ahead, EndsHere, Ended, tag_of, form_of}
 use Rattle.bcder_primitive.specs.Plain.{LacksOctets}
-use Rattle.bcder_header.specs.Openings.{ending_of}
+use Rattle.bcder_content.specs.Openings.{ending_of}
 use Rattle.bcder_content.specs.Exact.{Gives, Lacks, ReadsAs, ReadsOptAs, ReadsNextAs, LacksAll}
 use Rattle.bcder_content.specs.Stops.{EndsUnread}
 use Rattle.bcder_content.specs.Ran.{Enters, Leaves, EntersOctets, LeavesOctets}
 use Rattle.bcder_content.specs.Either.{in_octets, Meeting, RanAny, AnyRefused, none_wanted, any_refused, any_goes_on, TakesCases, Takes, TakesNextCases, TakesNext, TakesOptCases, TakesOpt, WithTag, ReadsInAs}
-use Rattle.bcder_header.proofs.Opening.{opens_tag}
+use Rattle.bcder_content.proofs.Opening.{opens_tag}
 use Rattle.bcder_content.proofs.Took.{took_front}
 use Rattle.bcder_content.proofs.Inside.{whole_inside, took_inside, whole_octets, took_octets, tagged_lacks}
 

@@ -8,7 +8,7 @@ use Rattle.bcder_content.specs.bcder_source.declared.error.DecodeError.{DecodeEr
 use Rattle.bcder_content.specs.bcder_source.declared.error.DecodeError.TheVariants.{Content, Source, Memory}
 use Rattle.bcder_content.specs.bcder_tree.Tree.{Tree}
 use Rattle.bcder_content.specs.bcder_source.Views.{left}
-use Rattle.bcder_header.specs.declared.ending.Ending.TheVariants.{Unbounded}
+use Rattle.bcder_content.specs.declared.ending.Ending.TheVariants.{Unbounded}
 use Rattle.bcder_content.specs.declared.constructed.Constructed.{Constructed}
 use Rattle.bcder_content.specs.Contents.{ValuesLeft, octets}
 use Rattle.bcder_content.specs.Exact.{ReadsAs, DecodesAs}

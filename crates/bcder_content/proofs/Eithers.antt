@@ -4,13 +4,13 @@ use Rattle.bcder_content.specs.bcder_tree.declared.mode.Mode.{Mode}
 use Rattle.bcder_content.specs.bcder_source.declared.error.DecodeError.{DecodeError}
 use Rattle.bcder_content.specs.bcder_source.Errors.{OnlyContent}
 use Rattle.bcder_content.specs.bcder_tree.Tags.{TagValue}
-use Rattle.bcder_header.specs.declared.ending.Ending.{Ending}
-use Rattle.bcder_header.specs.declared.ending.Span.{Span}
+use Rattle.bcder_content.specs.declared.ending.Ending.{Ending}
+use Rattle.bcder_content.specs.declared.ending.Span.{Span}
 use Rattle.bcder_content.specs.Contents.{ValuesLeft, octets, Ended, form_of}
 use Rattle.bcder_content.specs.Stops.{NoneAhead, EndsUnread, LeftBy}
 use Rattle.bcder_content.specs.Ran.{Enters}
 use Rattle.bcder_content.specs.Either.{Meeting, none_wanted, any_refused, any_goes_on, TakesCases, Takes, TakesNextCases}
-use Rattle.bcder_header.proofs.Opening.{opens_tag}
+use Rattle.bcder_content.proofs.Opening.{opens_tag}
 use Rattle.bcder_content.proofs.Took.{took_front}
 use Rattle.bcder_content.proofs.Taking.{only_on, on_content, none_failed}
 

@@ -9,20 +9,20 @@ use Rattle.bcder_content.specs.bcder_source.Errors.{OnContent}
 use Rattle.bcder_content.specs.bcder_tree.Tags.{TagValue}
 use Rattle.bcder_content.specs.bcder_tree.Tree.{Tree, Trees, primitive, constructed, SpellsAll}
 use Rattle.bcder_content.specs.bcder_source.Views.{Moved}
-use Rattle.bcder_header.specs.declared.ending.Ending.{Ending}
-use Rattle.bcder_header.specs.declared.ending.Span.{Span}
-use Rattle.bcder_header.specs.declared.ending.Span.TheVariants.{Until, ToEnd}
+use Rattle.bcder_content.specs.declared.ending.Ending.{Ending}
+use Rattle.bcder_content.specs.declared.ending.Span.{Span}
+use Rattle.bcder_content.specs.declared.ending.Span.TheVariants.{Until, ToEnd}
 use Rattle.bcder_content.specs.declared.constructed.Constructed.{Constructed}
 use Rattle.bcder_primitive.specs.declared.primitive.Primitive.{Primitive}
 use Rattle.bcder_content.specs.Contents.{OctetsLeft, ValuesLeft, octets, Took, TookAll, Ahead, EndsHere, Ended, Whole, tag_of, form_of}
 use Rattle.bcder_primitive.specs.Plain.{octets_in, WholeOctets, LacksOctets, GivesOctets, Drained, ReadsOctetsAs}
-use Rattle.bcder_header.specs.Openings.{ending_of}
+use Rattle.bcder_content.specs.Openings.{ending_of}
 use Rattle.bcder_content.specs.Exact.{Lacks, ReadsAs, LacksTagged, ReadsOptAs, LacksAll, GivesAll, ReadsAllAs}
 use Rattle.bcder_content.specs.Grammar.{Inside, OctetsOf}
 use Rattle.bcder_content.specs.Here.{here, plain}
 use Rattle.bcder_content.specs.Stops.{EndsUnread}
 use Rattle.bcder_content.specs.Ran.{Enters, Leaves, EntersOctets, LeavesOctets, Comes, Reader, RanRefused, no_value, refused, goes_on, RanCases, Ran, RanOptCases, RanOpt, PlainRefused, no_octets, refused_octets, octets_go_on, PlainRanCases, PlainRan, PlainRanOptCases, PlainRanOpt}
-use Rattle.bcder_header.proofs.Opening.{constructed_closed, primitive_closed, constructed_content, primitive_content, ends_here}
+use Rattle.bcder_content.proofs.Opening.{constructed_closed, primitive_closed, constructed_content, primitive_content, ends_here}
 use Rattle.bcder_content.proofs.Took.{took_front, one_took}
 
 -- Each call of the closure, in that mode, reads the content exactly.

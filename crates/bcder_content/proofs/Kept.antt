@@ -8,8 +8,8 @@ use Rattle.bcder_content.specs.bcder_source.Errors.{OnContent}
 use Rattle.bcder_content.specs.bcder_tree.Tree.{Tree, Trees, none, more, Spells, SpellsAll}
 use Rattle.bcder_content.specs.bcder_source.Views.{Reading, left, limited}
 use Rattle.bcder_content.proofs.of_bcder_source.Moves.{left_moved}
-use Rattle.bcder_header.specs.declared.ending.Ending.{Ending}
-use Rattle.bcder_header.specs.declared.ending.Ending.TheVariants.{Definite, Indefinite, Unbounded}
+use Rattle.bcder_content.specs.declared.ending.Ending.{Ending}
+use Rattle.bcder_content.specs.declared.ending.Ending.TheVariants.{Definite, Indefinite, Unbounded}
 use Rattle.bcder_content.specs.declared.constructed.Constructed.{Constructed}
 use Rattle.bcder_content.specs.Contents.{ValuesLeft, octets, Goes, Took, TookAll, Ahead, EndsHere, Ended, Whole}
 use Rattle.bcder_content.specs.Skips.{SkipsAll, NotWhole}
@@ -22,7 +22,7 @@ use Rattle.bcder_content.specs.Here.{here}
 use Rattle.bcder_content.specs.Kept.{CapturedValue}
 use Rattle.bcder_content.specs.Ran.{Reader, RanIn}
 use Rattle.bcder_content.specs.Captures.{rest_of, cut, Keeps, ReadsSome, was_failed, was_refused, Wants, closure_wants, octets_want, CapturesCases, Captures, CapturesAll}
-use Rattle.bcder_header.proofs.Opening.{front_moves, cancel_more}
+use Rattle.bcder_content.proofs.Opening.{front_moves, cancel_more}
 use Rattle.bcder_content.proofs.Inside.{ReadsEach, each_met}
 use Rattle.bcder_content.proofs.Took.{ended_none, more_splits}
 

@@ -1,3 +1,8 @@
+pub mod Opening
+pub mod Windows
+pub mod SkipMoves
+pub mod SkipLevels
+pub mod SkipSteps
 pub mod Took
 pub mod Taking
 pub mod Inside
@@ -30,7 +35,6 @@ pub mod Keeping
 pub mod Fronts
 pub mod Wholes
 pub mod Wants
-pub mod of_bcder_header
 pub mod of_bcder_primitive
 pub mod of_bcder_source
 pub mod of_bcder_tree

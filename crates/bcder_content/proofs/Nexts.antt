@@ -4,7 +4,7 @@ use Rattle.bcder_content.specs.bcder_tree.Tree.{Tree}
 use Rattle.bcder_content.specs.bcder_tree.Front.{Front}
 use Rattle.bcder_content.specs.bcder_source.Views.{left}
 use Rattle.bcder_content.specs.Contents.{ValuesLeft, octets, Ahead}
-use Rattle.bcder_header.proofs.Opening.{front_moves}
+use Rattle.bcder_content.proofs.Opening.{front_moves}
 
 -- A value in front is next, where no read was refused.
 pub front_next : {v : ValuesLeft} {t : Tree} {rest : List ℕ} → v.failed ≡ false → Front v.mode (left (octets v)) t rest → Ahead v t

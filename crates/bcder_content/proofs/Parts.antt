@@ -5,8 +5,8 @@ use Rattle.std.specs.Fn.{FnOnceReturnsAtMut}
 use Rattle.bcder_content.specs.bcder_tree.declared.mode.Mode.{Mode}
 use Rattle.bcder_content.specs.bcder_tree.Tree.{Trees, none, more, SpellsAll}
 use Rattle.bcder_content.specs.bcder_source.Views.{Reading, left, limited, more_limit}
-use Rattle.bcder_header.specs.declared.ending.Ending.{Ending}
-use Rattle.bcder_header.specs.declared.ending.Ending.TheVariants.{Unbounded}
+use Rattle.bcder_content.specs.declared.ending.Ending.{Ending}
+use Rattle.bcder_content.specs.declared.ending.Ending.TheVariants.{Unbounded}
 use Rattle.bcder_content.specs.declared.constructed.Constructed.{Constructed}
 use Rattle.bcder_content.specs.Contents.{ValuesLeft, octets, Took, TookAll, EndsHere, Whole}
 use Rattle.bcder_content.specs.Here.{here}

@@ -12,7 +12,7 @@ use Rattle.bcder_content.specs.Perhaps.{NoneNext, ReadsIfAs}
 use Rattle.bcder_content.proofs.Choices.{as_lacks, both_lack, choice_lacks, second_lacks, such_lacks, such_refused}
 use Rattle.bcder_content.proofs.Forests.{Listing, many_lacks, unlike_lacks}
 use Rattle.bcder_content.proofs.Taking.{weaker, tree_of_tag}
-use Rattle.bcder_header.proofs.Windows.{one_tag}
+use Rattle.bcder_content.proofs.Windows.{one_tag}
 use Rattle.bcder_content.proofs.Took.{took_none, took_front, ended_none, one_took}
 
 -- What reading a value that may be next says.

@@ -5,7 +5,7 @@ use Rattle.bcder_content.specs.bcder_tree.Tags.{TagValue}
 use Rattle.bcder_content.specs.bcder_tree.Tree.{Tree, primitive}
 use Rattle.bcder_content.specs.bcder_source.declared.error.DecodeError.{DecodeError}
 use Rattle.bcder_content.specs.bcder_source.declared.error.DecodeError.TheVariants.{Content as content_error, Source, Memory}
-use Rattle.bcder_header.proofs.Opening.{opens_tag}
+use Rattle.bcder_content.proofs.Opening.{opens_tag}
 use Rattle.bcder_primitive.specs.Plain.{OctetsLeft, LacksOctets, ReadsOctetsAs, plain}
 use Rattle.bcder_primitive.proofs.Primitives.{weaker_content}
 use Rattle.bcder_content.specs.declared.content.Content.{Content}

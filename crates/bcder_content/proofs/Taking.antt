@@ -12,13 +12,13 @@ use Rattle.bcder_content.specs.bcder_tree.Tree.{Tree}
 use Rattle.bcder_content.specs.bcder_tree.Front.{Front}
 use Rattle.bcder_content.proofs.of_bcder_tree.Parts.{Ends, identifier_goes_on}
 use Rattle.bcder_content.specs.bcder_source.Views.{View, left, Moved}
-use Rattle.bcder_header.specs.declared.ending.Span.{Span}
+use Rattle.bcder_content.specs.declared.ending.Span.{Span}
 use Rattle.bcder_content.specs.Contents.{ValuesLeft, octets, Ended, Unlike, Untold, tag_of, form_of}
-use Rattle.bcder_header.specs.Openings.{Closes, NoValue, OfTag, OfOther}
+use Rattle.bcder_content.specs.Openings.{Closes, NoValue, OfTag, OfOther}
 use Rattle.bcder_content.specs.Ran.{Enters, NoneOf, Comes}
 use Rattle.bcder_content.specs.Stops.{NoneAhead, EndsUnread, NamesTag}
-use Rattle.bcder_header.proofs.Opening.{tree_head, opens_tag, front_moves, here_ends}
-use Rattle.bcder_header.proofs.Windows.{Shown, one_tag, no_end_in, shown_whole}
+use Rattle.bcder_content.proofs.Opening.{tree_head, opens_tag, front_moves, here_ends}
+use Rattle.bcder_content.proofs.Windows.{Shown, one_tag, no_end_in, shown_whole}
 use Rattle.bcder_content.proofs.Took.{took_front, ended_front, ended_none}
 
 -- A fact for another reason.

@@ -9,9 +9,9 @@ use Rattle.bcder_content.proofs.of_bcder_tree.Fronts.{whole_front}
 use Rattle.bcder_content.proofs.of_bcder_tree.Trees.{one_tree, tree_goes_on}
 use Rattle.bcder_content.proofs.of_bcder_tree.Parts.{Ends}
 use Rattle.bcder_content.proofs.of_bcder_source.Moves.{left_moved, moved_none, moved_both, more_more}
-use Rattle.bcder_header.specs.declared.ending.Ending.{Ending}
-use Rattle.bcder_header.specs.declared.ending.Ending.TheVariants.{Definite, Indefinite, Unbounded}
-use Rattle.bcder_header.proofs.Opening.{cancel_more}
+use Rattle.bcder_content.specs.declared.ending.Ending.{Ending}
+use Rattle.bcder_content.specs.declared.ending.Ending.TheVariants.{Definite, Indefinite, Unbounded}
+use Rattle.bcder_content.proofs.Opening.{cancel_more}
 use Rattle.bcder_content.specs.Exact.{ReadsNextAs}
 use Rattle.bcder_content.specs.Contents.{ValuesLeft, octets, Goes, Took, TookAll, Ahead, EndsHere, Ended, Whole}
 

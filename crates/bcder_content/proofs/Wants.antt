@@ -2,15 +2,15 @@
 use Rattle.std.proofs.Common.{◌≡◌, ℕ, Bool, false, true, List, Result, Ok, Err, refl, sym, ap, ◌∙◌, subst}
 use Rattle.std.specs.Prelude.{IfErr}
 use Rattle.std.specs.Result.{IsErr, IsErrAnd}
-use Rattle.bcder_header.specs.bcder_source.Errors.{OnContent, OnlyContent}
+use Rattle.bcder_content.specs.bcder_source.Errors.{OnContent, OnlyContent}
 use denote.Ref.{MutBor}
-use Rattle.bcder_header.specs.bcder_tree.declared.mode.Mode.{Mode}
-use Rattle.bcder_header.specs.bcder_tree.Tags.{TagValue}
-use Rattle.bcder_header.specs.bcder_tree.Tree.{primitive}
-use Rattle.bcder_header.specs.bcder_source.declared.error.DecodeError.{DecodeError}
-use Rattle.bcder_header.specs.bcder_source.declared.error.DecodeError.TheVariants.{Content as content_error, Source, Memory}
-use Rattle.bcder_header.specs.declared.ending.Span.{Span}
-use Rattle.bcder_header.specs.declared.ending.Span.TheVariants.{Until, ToEnd}
+use Rattle.bcder_content.specs.bcder_tree.declared.mode.Mode.{Mode}
+use Rattle.bcder_content.specs.bcder_tree.Tags.{TagValue}
+use Rattle.bcder_content.specs.bcder_tree.Tree.{primitive}
+use Rattle.bcder_content.specs.bcder_source.declared.error.DecodeError.{DecodeError}
+use Rattle.bcder_content.specs.bcder_source.declared.error.DecodeError.TheVariants.{Content as content_error, Source, Memory}
+use Rattle.bcder_content.specs.declared.ending.Span.{Span}
+use Rattle.bcder_content.specs.declared.ending.Span.TheVariants.{Until, ToEnd}
 use Rattle.bcder_primitive.specs.declared.primitive.Primitive.{Primitive}
 use Rattle.bcder_primitive.specs.Plain.{OctetsLeft, plain, WholeOctets}
 use Rattle.bcder_primitive.specs.Sliced.{Reader}

@@ -1,6 +1,6 @@
 -- That something of a grammar is next, read or not: what lack of memory shows.
 use Rattle.std.specs.Prelude.{◌≡◌, ℕ, false, List}
-use Rattle.bcder_header.specs.bcder_tree.Tree.{Tree}
+use Rattle.bcder_content.specs.bcder_tree.Tree.{Tree}
 use Rattle.bcder_primitive.specs.Plain.{OctetsLeft, WholeOctets}
 use Rattle.bcder_content.specs.Contents.{ValuesLeft, Ahead}
 use Rattle.bcder_content.specs.declared.content.Content.{Content}

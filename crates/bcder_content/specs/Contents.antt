@@ -4,9 +4,9 @@ use Rattle.bcder_content.specs.bcder_tree.declared.mode.Mode.{Mode}
 use Rattle.bcder_content.specs.bcder_tree.Tags.{TagValue}
 use Rattle.bcder_content.specs.bcder_tree.Tree.{Tree, Trees, Spells, SpellsAll}
 use Rattle.bcder_content.specs.bcder_source.Views.{View, Moved, left}
-use Rattle.bcder_header.specs.declared.ending.Ending.{Ending}
-use Rattle.bcder_header.specs.Openings.{OfOther, NoTag}
-pub use Rattle.bcder_header.specs.Openings.{EndsHere, tag_of, form_of}
+use Rattle.bcder_content.specs.declared.ending.Ending.{Ending}
+use Rattle.bcder_content.specs.Openings.{OfOther, NoTag}
+pub use Rattle.bcder_content.specs.Openings.{EndsHere, tag_of, form_of}
 pub use Rattle.bcder_primitive.specs.Plain.{OctetsLeft}
 
 -- What is left of a content of values: the same as of octets, and how it ends.

@@ -6,7 +6,7 @@ use Rattle.bcder_content.specs.bcder_tree.Tags.{TagValue}
 use Rattle.bcder_content.specs.bcder_tree.Tree.{Tree, Trees, primitive, constructed}
 use Rattle.bcder_content.specs.bcder_source.Errors.{OnContent, OnlyOctets}
 use Rattle.bcder_content.specs.bcder_source.declared.error.DecodeError.{DecodeError}
-use Rattle.bcder_header.specs.declared.ending.Span.{Span}
+use Rattle.bcder_content.specs.declared.ending.Span.{Span}
 use Rattle.bcder_content.specs.declared.content.Content.{Content}
 use Rattle.bcder_content.specs.declared.constructed.Constructed.{Constructed}
 use Rattle.bcder_primitive.specs.declared.primitive.Primitive.{Primitive}

@@ -7,7 +7,7 @@ use Rattle.bcder_content.specs.bcder_tree.Tree.{Tree, Trees}
 use Rattle.bcder_content.specs.bcder_source.Errors.{OnContent}
 use Rattle.bcder_content.specs.bcder_source.declared.error.DecodeError.{DecodeError}
 use Rattle.bcder_content.specs.bcder_source.Views.{left}
-use Rattle.bcder_header.specs.Openings.{OfOther}
+use Rattle.bcder_content.specs.Openings.{OfOther}
 use Rattle.bcder_content.specs.Contents.{ValuesLeft, octets, Took, TookAll, Ahead, Ended, Whole, Unlike, tag_of}
 
 -- The next value was read, and it is of the grammar.

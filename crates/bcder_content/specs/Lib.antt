@@ -1,8 +1,10 @@
-pub use Rattle.bcder_header.specs.Openings
-pub use Rattle.bcder_header.specs.Nodes
 pub use Rattle.bcder_primitive.specs.Plain
 pub use Rattle.bcder_primitive.specs.Sliced
 pub use Rattle.bcder_primitive.specs.Values
+pub mod Openings
+pub mod Nodes
+pub mod SkipLevels
+pub mod SkipValues
 pub mod Contents
 pub mod Here
 pub mod Ahead
@@ -21,7 +23,6 @@ pub mod InMode
 pub mod Words
 pub mod Texts
 -- What stands below, for the crates above.
-pub use Rattle.bcder_header.specs as bcder_header
 pub use Rattle.bcder_primitive.specs as bcder_primitive
-pub use Rattle.bcder_header.specs.bcder_source as bcder_source
-pub use Rattle.bcder_header.specs.bcder_tree as bcder_tree
+pub use Rattle.bcder_source.specs as bcder_source
+pub use Rattle.bcder_source.specs.bcder_tree as bcder_tree

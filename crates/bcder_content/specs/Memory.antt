@@ -3,7 +3,7 @@ use Rattle.std.specs.Prelude.{ℕ, Bool, List, Err}
 use Rattle.bcder_content.specs.bcder_source.declared.error.DecodeError.{DecodeError}
 pub use Rattle.bcder_content.specs.bcder_source.Errors.{OnMemory}
 use Rattle.bcder_content.specs.bcder_tree.Tags.{TagValue}
-use Rattle.bcder_header.specs.declared.ending.Span.{Span}
+use Rattle.bcder_content.specs.declared.ending.Span.{Span}
 use Rattle.bcder_content.specs.declared.constructed.Constructed.{Constructed}
 use Rattle.bcder_primitive.specs.declared.primitive.Primitive.{Primitive}
 use Rattle.bcder_content.specs.Contents.{OctetsLeft, ValuesLeft}

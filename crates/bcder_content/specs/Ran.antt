@@ -7,13 +7,13 @@ use Rattle.bcder_content.specs.bcder_tree.Tree.{Tree}
 use Rattle.bcder_content.specs.bcder_source.Errors.{OnContent}
 use Rattle.bcder_content.specs.bcder_source.declared.error.DecodeError.{DecodeError}
 use Rattle.bcder_content.specs.bcder_source.Views.{left}
-use Rattle.bcder_header.specs.declared.ending.Ending.TheVariants.{Unbounded}
-use Rattle.bcder_header.specs.declared.ending.Span.{Span}
+use Rattle.bcder_content.specs.declared.ending.Ending.TheVariants.{Unbounded}
+use Rattle.bcder_content.specs.declared.ending.Span.{Span}
 use Rattle.bcder_content.specs.declared.constructed.Constructed.{Constructed}
 use Rattle.bcder_primitive.specs.declared.primitive.Primitive.{Primitive}
 use Rattle.bcder_content.specs.Contents.{OctetsLeft, ValuesLeft, octets, Ahead, Ended, Unlike, tag_of, form_of}
 use Rattle.bcder_primitive.specs.Plain.{octets_in}
-use Rattle.bcder_header.specs.Openings.{Opens, Closes, OfOther, ending_of}
+use Rattle.bcder_content.specs.Openings.{Opens, Closes, OfOther, ending_of}
 use Rattle.bcder_content.specs.Here.{here, plain}
 use Rattle.bcder_content.specs.Stops.{EndsUnread}
 pub use Rattle.bcder_primitive.specs.Sliced.{Reader}

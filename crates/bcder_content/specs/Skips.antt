@@ -3,9 +3,9 @@ use Rattle.std.specs.Prelude.{◌≡◌, Result, Ok, Err, Option, Some, None}
 use Rattle.bcder_content.specs.bcder_source.declared.error.ContentError.{ContentError}
 use Rattle.bcder_content.specs.bcder_source.declared.error.DecodeError.{DecodeError}
 use Rattle.bcder_content.specs.bcder_tree.Tree.{Tree, Trees}
-use Rattle.bcder_header.specs.Nodes.{nodes}
+use Rattle.bcder_content.specs.Nodes.{nodes}
 use Rattle.bcder_content.specs.Contents.{ValuesLeft, Took, TookAll, Ahead, Ended, Whole}
-pub use Rattle.bcder_header.specs.Skips.{Visits, Accepts, Refuses, OnError, Skips, Stops}
+pub use Rattle.bcder_content.specs.SkipValues.{Visits, Accepts, Refuses, OnError, Skips, Stops}
 
 -- The next value was read, and the visitor accepted it and the values in it.
 pub record SkipsNext {F : Type 0} (step : Visits F) (p : F) (old new : ValuesLeft) : Type 0 where

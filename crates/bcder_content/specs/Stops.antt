@@ -8,10 +8,10 @@ use Rattle.bcder_content.specs.bcder_source.declared.error.ContentError.TheVaria
 use Rattle.bcder_content.specs.bcder_source.declared.error.DecodeError.{DecodeError}
 use Rattle.bcder_content.specs.bcder_source.declared.error.DecodeError.TheVariants.{Content}
 use Rattle.bcder_content.specs.bcder_source.Views.{View}
-use Rattle.bcder_header.specs.declared.ending.Ending.{Ending}
-use Rattle.bcder_header.specs.declared.ending.Span.{Span}
+use Rattle.bcder_content.specs.declared.ending.Ending.{Ending}
+use Rattle.bcder_content.specs.declared.ending.Span.{Span}
 use Rattle.bcder_content.specs.Contents.{ValuesLeft, octets, Ahead, EndsHere, tag_of}
-use Rattle.bcder_header.specs.Openings.{Closes, ending_of}
+use Rattle.bcder_content.specs.Openings.{Closes, ending_of}
 
 -- No value is next.
 pub record NoneAhead (v : ValuesLeft) : Type 0 where

@@ -6,7 +6,7 @@ ghost use Rattle.bcder_content.specs.bcder_source.declared.error.DecodeError.The
 ghost use Rattle.bcder_content.specs.Contents.{octets, EndsHere, Unlike, Untold};
 ghost use Rattle.bcder_content.specs.Here.{here, start_of, SameFrame};
 ghost use Rattle.bcder_content.specs.Memory.{OnMemory, RanErr, PlainErr};
-ghost use Rattle.bcder_header.specs.Openings.{OfTag};
+ghost use Rattle.bcder_content.specs.Openings.{OfTag};
 ghost use Rattle.bcder_content.specs.Ran.{Enters, NoneOf, Comes, Ran, RanOpt, PlainRan, PlainRanOpt};
 ghost use Rattle.bcder_content.specs.Stops.{NoneAhead, NamesTag, EndsUnread, LeftBy};
 

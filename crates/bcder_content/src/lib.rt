@@ -1,4 +1,5 @@
-//! Contents that are read: of values, in three modes, without recursion.
+//! Contents that are read: where values begin and end ([`mod@header`]), skipping one ([`mod@skip_value`]), and taking
+//! them, in three modes, without recursion.
 #![tactic(auto)]
 
 pub mod capture;
@@ -7,15 +8,20 @@ pub mod constructed;
 pub mod content;
 pub mod decode;
 pub mod either;
+pub mod ending;
+pub mod header;
 pub mod laws;
 pub mod skip;
+pub mod skip_value;
 pub mod typed;
 pub mod whole;
 
-pub use bcder_header::{Ending, bcder_source, bcder_tree, ending, header};
 pub use bcder_primitive;
 pub use bcder_primitive::{Primitive, primitive};
+pub use bcder_source;
+pub use bcder_source::bcder_tree;
 pub use captured::{Captured, read_front};
 pub use constructed::Constructed;
 pub use content::Content;
 pub use decode::Decode;
+pub use ending::Ending;

@@ -10,7 +10,7 @@ ghost use Rattle.bcder_content.specs.Skips.{OnError, SkipsOpt, SkipsNext, StopsN
 
 use crate::bcder_source::{ContentError, DecodeError, Source, Tag};
 use crate::constructed::Constructed;
-pub use bcder_header::skip::skip_value;
+pub use crate::skip_value::skip_value;
 use std::alloc::Global;
 
 impl<S: Source> Constructed<S> {

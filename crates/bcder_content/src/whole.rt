@@ -1,7 +1,7 @@
 //! All octets of a primitive content, at hand.
 ghost use Rattle.std.specs.Prelude.{◌≡◌, ◌≤◌, List, ℕ, length, take, drop, IfOk, IfErr, OnOk, OnErr, Some, true, false};
-ghost use Rattle.bcder_header.specs.bcder_source.Errors.{OnlyContent};
-ghost use Rattle.bcder_header.specs.bcder_source.declared.error.DecodeError.TheVariants.{Memory};
+ghost use Rattle.bcder_content.specs.bcder_source.Errors.{OnlyContent};
+ghost use Rattle.bcder_content.specs.bcder_source.declared.error.DecodeError.TheVariants.{Memory};
 ghost use Rattle.bcder_primitive.specs.Plain.{plain, WholeOctets};
 
 use crate::bcder_primitive::Primitive;

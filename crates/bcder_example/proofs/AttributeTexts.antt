@@ -17,9 +17,9 @@ use Rattle.bcder_example.specs.bcder_values.Captures.{CapturedText, CapturedTree
 use Rattle.bcder_example.specs.bcder_values.Forms.{Form}
 use Rattle.bcder_example.specs.bcder_values.Gathered.{ExtendRefused}
 use Rattle.bcder_example.specs.bcder_values.Wraps.{wrapped_spelled}
-use Rattle.bcder_example.specs.bcder_written.Encoded.{AreBoth, IsWrapped, SpellsSome, WritesBoth, WritesWrapped, joined, written_as}
-use Rattle.bcder_example.specs.bcder_written.declared.error.EncodeError.{EncodeError}
-use Rattle.bcder_example.specs.bcder_written.declared.error.EncodeError.TheVariants as errors
+use Rattle.bcder_example.specs.bcder_primitive.Encoded.{AreBoth, IsWrapped, SpellsSome, WritesBoth, WritesWrapped, joined, written_as}
+use Rattle.bcder_example.specs.bcder_primitive.declared.written.error.EncodeError.{EncodeError}
+use Rattle.bcder_example.specs.bcder_primitive.declared.written.error.EncodeError.TheVariants as errors
 use Rattle.bcder_example.specs.Attributes.{AreAttributes, AreNameAndNote, AreTheTwo, Ascends, AttributesValue, EachOnce, Fields, InOrder, IsRefused, SetRefused, WritesAttributes, WritesSet, attribute}
 use Rattle.bcder_example.proofs.AttributeLaws.{not_so, same_said}
 

@@ -5,7 +5,7 @@ use Rattle.bcder_example.specs.bcder_tree.Strings.{IsOctetString, octet_string_t
 use Rattle.bcder_example.specs.bcder_content.Grammar.{One, Tagged}
 use Rattle.bcder_example.proofs.of_bcder_content.Simple.{boolean_one}
 use Rattle.bcder_example.proofs.of_bcder_content.Unique.{octets_tagged, inside_tagged, as_tagged, octets_one, inside_one, as_one, end_one, then_one, default_one}
-use Rattle.bcder_example.proofs.of_bcder_oid.Read.{oid_one}
+use Rattle.bcder_example.proofs.of_bcder.Read.{oid_one}
 use Rattle.bcder_example.proofs.of_bcder_octets.Meaning.{one_string}
 use Rattle.bcder_example.specs.Extensions.{IsExtension}
 

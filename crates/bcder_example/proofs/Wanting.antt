@@ -4,9 +4,9 @@ use Rattle.bcder_example.specs.bcder_tree.declared.mode.Mode.{Mode}
 use Rattle.bcder_example.specs.bcder_tree.Tags.{TagValue}
 use Rattle.bcder_example.specs.bcder_source.declared.error.DecodeError.{DecodeError}
 use Rattle.bcder_example.specs.bcder_source.Views.{View, Moved, left, more_limit}
-use Rattle.bcder_example.specs.bcder_header.declared.ending.Span.{Span}
-use Rattle.bcder_example.specs.bcder_header.declared.ending.Span.TheVariants.{Until, ToEnd}
-use Rattle.bcder_example.specs.bcder_header.Openings.{Opens, OfTag}
+use Rattle.bcder_example.specs.bcder_content.declared.ending.Span.{Span}
+use Rattle.bcder_example.specs.bcder_content.declared.ending.Span.TheVariants.{Until, ToEnd}
+use Rattle.bcder_example.specs.bcder_content.Openings.{Opens, OfTag}
 use Rattle.bcder_example.specs.bcder_content.Contents.{ValuesLeft, Ended}
 use Rattle.bcder_example.specs.bcder_content.Either.{Meeting}
 use Rattle.bcder_example.specs.bcder_content.Memory.{OnMemory, AnyErr}

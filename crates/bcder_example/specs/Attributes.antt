@@ -8,9 +8,9 @@ use Rattle.bcder_example.specs.bcder_tree.declared.mode.Mode.TheVariants.{Ber, C
 use Rattle.bcder_example.specs.bcder_tree.Tags.{TagValue, set_tag, integer_tag, octet_string_tag, sequence_tag}
 use Rattle.bcder_example.specs.bcder_tree.Tree.{Trees}
 use Rattle.bcder_example.specs.bcder_content.Kept.{CapturedValue}
-use Rattle.bcder_example.specs.bcder_written.Encoded.{WritesWrapped}
-use Rattle.bcder_example.specs.bcder_written.declared.error.EncodeError.{EncodeError}
-use Rattle.bcder_example.specs.bcder_written.declared.error.EncodeError.TheVariants as errors
+use Rattle.bcder_example.specs.bcder_primitive.Encoded.{WritesWrapped}
+use Rattle.bcder_example.specs.bcder_primitive.declared.written.error.EncodeError.{EncodeError}
+use Rattle.bcder_example.specs.bcder_primitive.declared.written.error.EncodeError.TheVariants as errors
 use Rattle.bcder_example.specs.bcder_values.Forms.{Form, Forms, both, last, wrapped}
 use Rattle.bcder_example.specs.bcder_values.KeptForms.{kept}
 use Rattle.bcder.specs.Kinds.{octets, octets_at, unsigned, unsigned_at}

@@ -6,9 +6,9 @@ use Rattle.bcder_example.specs.bcder_tree.Tree.{Tree, Trees}
 use Rattle.bcder_example.specs.bcder_tree.Strings.{IsOctetString}
 use Rattle.bcder_example.specs.bcder_primitive.Values.{IsBoolean}
 use Rattle.bcder_example.specs.bcder_content.Grammar.{Inside, OctetsOf, As, End, Then, Default, Such}
-use Rattle.bcder_example.specs.bcder_oid.Identifiers.{IsOid}
-use Rattle.bcder_example.specs.bcder_bits.Bits.{BitsValue}
-use Rattle.bcder_example.specs.bcder_bits.Contents.{IsBitString, bit_string_tag}
+use Rattle.bcder_example.specs.bcder.Identifiers.{IsOid}
+use Rattle.bcder_example.specs.bcder_octets.Bits.{BitsValue}
+use Rattle.bcder_example.specs.bcder_octets.BitContents.{IsBitString, bit_string_tag}
 use Rattle.bcder_example.specs.declared.extension.RawExtension.{RawExtension}
 use Rattle.bcder_example.specs.declared.extension_values.KeyUsage.{KeyUsage}
 use Rattle.bcder_example.specs.declared.extension_values.KeyUsage.TheVariants.{Ca, Ee}

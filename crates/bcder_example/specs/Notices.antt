@@ -1,7 +1,7 @@
 -- Notices: SEQUENCE { id OBJECT IDENTIFIER, serial INTEGER (0..MAX), flags BIT STRING, note OCTET STRING }.
 use Rattle.std.specs.Prelude.{ℕ, List}
 use Rattle.bcder_example.specs.bcder_tree.Tags.{TagValue, universal, integer_tag, octet_string_tag, oid_tag, sequence_tag}
-use Rattle.bcder_example.specs.bcder_bits.Bits.{BitsValue}
+use Rattle.bcder_example.specs.bcder_octets.Bits.{BitsValue}
 use Rattle.bcder_example.specs.declared.notice.Notice.{Notice}
 use Rattle.bcder_example.specs.bcder_values.Forms.{Form, Forms, both, last, wrapped}
 use Rattle.bcder.specs.Kinds.{oid, natural, bits, octets, oid_at, natural_at, bits_at, octets_at}

@@ -1,7 +1,7 @@
 -- Signed structures: the octets that are signed are kept as they stand, and read.
 use Rattle.std.specs.Prelude.{ℕ, List}
 use Rattle.bcder_example.specs.bcder_tree.Tags.{TagValue, universal, oid_tag, sequence_tag}
-use Rattle.bcder_example.specs.bcder_bits.Bits.{BitsValue}
+use Rattle.bcder_example.specs.bcder_octets.Bits.{BitsValue}
 use Rattle.bcder_example.specs.bcder_content.Kept.{CapturedValue}
 use Rattle.bcder_example.specs.bcder_values.Forms.{Form, Forms, both, explicit, last, wrapped}
 use Rattle.bcder_example.specs.bcder_values.KeptForms.{kept}

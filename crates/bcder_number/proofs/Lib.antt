@@ -4,4 +4,3 @@ pub mod Slices
 pub mod Writings
 pub mod of_bcder_content
 pub mod of_bcder_primitive
-pub mod of_bcder_written

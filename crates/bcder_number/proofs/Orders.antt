@@ -13,7 +13,7 @@ use Rattle.std.specs.declared.cmp.Ordering.{Ordering}
 use Rattle.std.specs.declared.cmp.Ordering.TheVariants.{Less, Equal, Greater}
 use Rattle.bcder_number.specs.bcder_tree.Integers.{number_behind}
 use Rattle.bcder_number.specs.bcder_primitive.Values.{IsNegative}
-use Rattle.bcder_number.proofs.of_bcder_primitive.Numbers.{number_low, number_high}
+use Rattle.bcder_values.proofs.of_bcder_tree.Digits.{number_low, number_high}
 use Rattle.bcder_number.specs.Integers.{IsInteger}
 use Rattle.bcder_number.specs.Contents.{single, one_integer, one_number, further_away}
 

@@ -4,12 +4,12 @@ use Rattle.std.specs.Prelude.{ℤ, pos, negsuc, Result, Ok, Err, IfErr}
 use Rattle.bcder_number.specs.bcder_tree.declared.mode.Mode.{Mode}
 use Rattle.bcder_number.specs.bcder_tree.declared.mode.Mode.TheVariants.{Cer, Der}
 use Rattle.bcder_number.specs.bcder_primitive.Values.{AnyOctets, IsSigned, IsWithin}
-use Rattle.bcder_number.specs.bcder_written.declared.error.EncodeError.{EncodeError}
-use Rattle.bcder_number.specs.bcder_written.declared.error.EncodeError.TheVariants as errors
-use Rattle.bcder_number.specs.bcder_written.Contents.{NoContent, ContentRefused, BytesRefused}
-use Rattle.bcder_number.specs.bcder_written.Integers.{WritesUnsigned}
+use Rattle.bcder_number.specs.bcder_primitive.declared.written.error.EncodeError.{EncodeError}
+use Rattle.bcder_number.specs.bcder_primitive.declared.written.error.EncodeError.TheVariants as errors
+use Rattle.bcder_number.specs.bcder_primitive.Contents.{NoContent, ContentRefused, BytesRefused}
+use Rattle.bcder_number.specs.bcder_primitive.Integers.{WritesUnsigned}
 use Rattle.bcder_number.specs.Integers.{IsInteger}
-use Rattle.bcder_number.specs.bcder_written.Integers.{steps_of}
+use Rattle.bcder_number.specs.bcder_primitive.Integers.{steps_of}
 use Rattle.bcder_number.specs.Contents.{content, content_is, few_octets, one_integer}
 
 -- Few octets are refused for lack of memory alone.

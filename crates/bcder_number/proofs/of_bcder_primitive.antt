@@ -1,3 +1,4 @@
 -- Lemmas of bcder_primitive, for the crates above.
 pub use Rattle.bcder_values.proofs.of_bcder_primitive.Numbers
 pub use Rattle.bcder_values.proofs.of_bcder_primitive.Primitives
+pub use Rattle.bcder_values.proofs.of_bcder_primitive.WrittenNumbers

@@ -7,8 +7,8 @@ use Rattle.std.proofs.lemmas.List.Elements.{All-nil, All-cons, All-append}
 use Rattle.std.specs.Prelude.{ℤ, pos, negsuc}
 use Rattle.bcder_number.specs.bcder_tree.Integers.{number_behind, number_of, IsShortest, IsPositive}
 use Rattle.bcder_number.specs.bcder_primitive.Values.{IsSigned, IsNegative, IsTwosComplement, IsWithin}
-use Rattle.bcder_values.proofs.of_bcder_primitive.Numbers.{number_high, further}
-use Rattle.bcder_number.specs.bcder_written.Integers.{near, one_signed, steps_of}
+use Rattle.bcder_values.proofs.of_bcder_tree.Digits.{number_high, further}
+use Rattle.bcder_number.specs.bcder_primitive.Integers.{near, one_signed, steps_of}
 use Rattle.bcder_number.specs.Integers.{IsInteger, told}
 
 -- Each number is within some bound,

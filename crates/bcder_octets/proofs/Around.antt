@@ -4,8 +4,8 @@ use Rattle.bcder_octets.specs.bcder_tree.declared.mode.Mode.{Mode}
 use Rattle.bcder_octets.specs.bcder_tree.declared.mode.Mode.TheVariants.{Ber, Cer, Der}
 use Rattle.bcder_octets.specs.bcder_tree.Tags.{TagValue}
 use Rattle.bcder_octets.specs.bcder_tree.Tree.{Trees, primitive}
-use Rattle.bcder_octets.specs.bcder_written.Encoded.{WritesBoth, SpellsSome}
-use Rattle.bcder_octets.specs.bcder_written.Headers.{IsHeaderIn}
+use Rattle.bcder_octets.specs.bcder_primitive.Encoded.{WritesBoth, SpellsSome}
+use Rattle.bcder_octets.specs.bcder_primitive.Headers.{IsHeaderIn}
 use Rattle.bcder_values.proofs.Returning.{read_again}
 use Rattle.bcder_values.proofs.Wrapping.{plain}
 use Rattle.bcder_octets.specs.Wrapping.{IsAround, WritesAround, WrapsAgain}

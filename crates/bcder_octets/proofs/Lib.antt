@@ -1,3 +1,9 @@
+pub mod BitLists
+pub mod Padding
+pub mod BitReadings
+pub mod ContentReadings
+pub mod BitWritings
+pub mod SameBits
 pub mod Cuts
 pub mod Gathering
 pub mod Meaning
@@ -10,7 +16,7 @@ pub mod Around
 pub mod InOnePiece
 pub mod Wanting
 pub mod of_bcder_content
-pub mod of_bcder_header
 pub mod of_bcder_primitive
+pub mod of_bcder_source
 pub mod of_bcder_tree
-pub mod of_bcder_written
+pub mod of_bcder_values

@@ -6,8 +6,8 @@ use Rattle.bcder_octets.specs.bcder_tree.Strings.{octet_string_tag, IsBerString,
 use Rattle.bcder_octets.specs.bcder_source.declared.error.ContentError.{ContentError}
 use Rattle.bcder_octets.specs.bcder_source.declared.error.DecodeError.{DecodeError}
 use Rattle.bcder_octets.specs.bcder_source.declared.error.DecodeError.TheVariants.{Content, Source, Memory}
-use Rattle.bcder_octets.specs.bcder_header.Nodes.{Node, nodes, nodes_all}
-use Rattle.bcder_octets.specs.bcder_header.Skips.{Visits, Accepts, Refuses}
+use Rattle.bcder_octets.specs.bcder_content.Nodes.{Node, nodes, nodes_all}
+use Rattle.bcder_octets.specs.bcder_content.SkipValues.{Visits, Accepts, Refuses}
 use Rattle.bcder_octets.specs.bcder_content.Contents.{ValuesLeft}
 use Rattle.bcder_octets.specs.bcder_content.Exact.{ReadsNextAs}
 use Rattle.bcder_octets.specs.bcder_content.Skips.{SkipsOpt}

@@ -11,8 +11,8 @@ use Rattle.bcder_octets.specs.bcder_tree.Tree.{Tree, Trees, primitive, construct
 use Rattle.bcder_octets.specs.bcder_tree.Front.{Splits}
 use Rattle.bcder_octets.specs.bcder_tree.Strings.{octet_string_tag, IsBerString, AreSegments}
 use Rattle.bcder_octets.proofs.of_bcder_tree.Parts.{Ends, identifier_goes_on}
-use Rattle.bcder_octets.specs.bcder_header.Openings.{Heads, NoHead}
-use Rattle.bcder_octets.proofs.of_bcder_header.Opening.{HeadIn, head_of, one_head, split_head}
+use Rattle.bcder_octets.specs.bcder_content.Openings.{Heads, NoHead}
+use Rattle.bcder_octets.proofs.of_bcder_content.Opening.{HeadIn, head_of, one_head, split_head}
 use Rattle.bcder_octets.specs.Pieces.{IsHeaded, IsAround, Mark, holds, around, Marks, held, Holds, NextPiece, ArePlain}
 
 -- Octets that begin with a header are some, and do not begin with 0.

@@ -10,7 +10,7 @@ use Rattle.bcder_octets.specs.bcder_tree.Tree.{primitive}
 use Rattle.bcder_octets.specs.bcder_tree.Strings.{IsOctetString, octet_string_tag}
 use Rattle.bcder_octets.specs.bcder_source.declared.error.DecodeError.{DecodeError}
 use Rattle.bcder_octets.specs.bcder_source.declared.error.DecodeError.TheVariants.{Content as content_error, Source, Memory}
-use Rattle.bcder_octets.specs.bcder_header.declared.ending.Span.{Span}
+use Rattle.bcder_octets.specs.bcder_content.declared.ending.Span.{Span}
 use Rattle.bcder_octets.specs.bcder_primitive.Values.{AnyOctets}
 use Rattle.bcder_octets.specs.bcder_content.declared.constructed.Constructed.{Constructed}
 use Rattle.bcder_octets.specs.bcder_content.declared.content.Content.{Content}

@@ -8,7 +8,7 @@ use Rattle.bcder_octets.specs.bcder_tree.declared.mode.Mode.TheVariants.{Ber, Ce
 use Rattle.bcder_octets.specs.bcder_tree.Tags.{TagValue}
 use Rattle.bcder_octets.specs.bcder_tree.Tree.{Trees, primitive, constructed, none, more}
 use Rattle.bcder_octets.specs.bcder_tree.Strings.{octet_string_tag, AreCerSegments}
-use Rattle.bcder_octets.specs.bcder_written.Encoded.{joined, AreBoth}
+use Rattle.bcder_octets.specs.bcder_primitive.Encoded.{joined, AreBoth}
 use Rattle.bcder_values.specs.Lists.{AreAll}
 use Rattle.bcder_octets.specs.Segments.{rows, segments, IsSegment, AreSegmentsOf, FormTrees, StringTrees}
 use Rattle.bcder_octets.specs.Written.{WrittenString}

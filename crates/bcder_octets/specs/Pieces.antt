@@ -5,7 +5,7 @@ use Rattle.bcder_octets.specs.bcder_tree.declared.length.Length.{Length}
 use Rattle.bcder_octets.specs.bcder_tree.Tags.{TagValue}
 use Rattle.bcder_octets.specs.bcder_tree.Tree.{Trees, primitive, none, more, IsHeader}
 use Rattle.bcder_octets.specs.bcder_tree.Strings.{octet_string_tag, AreCerSegments}
-use Rattle.bcder_octets.specs.bcder_header.Openings.{IsHead, Heads}
+use Rattle.bcder_octets.specs.bcder_content.Openings.{IsHead, Heads}
 use Rattle.bcder_octets.specs.declared.pieces.Item.{Item}
 use Rattle.bcder_octets.specs.declared.pieces.Item.TheVariants.{Piece, Around, End}
 

@@ -7,10 +7,10 @@ use Rattle.bcder_octets.specs.bcder_tree.Tags.{TagValue}
 use Rattle.bcder_octets.specs.bcder_tree.Tree.{Trees}
 use Rattle.bcder_octets.specs.bcder_tree.Strings.{octet_string_tag}
 use Rattle.bcder_octets.specs.bcder_primitive.Values.{AnyOctets}
-use Rattle.bcder_octets.specs.bcder_written.Encoded.{IsPlain, WritesPlain, IsWrapped, WritesWrapped, SpellsSome}
+use Rattle.bcder_octets.specs.bcder_primitive.Encoded.{IsPlain, WritesPlain, IsWrapped, WritesWrapped, SpellsSome}
 use Rattle.bcder_values.specs.Lists.{AreAll, WritesAll, all_spelled, all_one}
 use Rattle.bcder_values.specs.Plains.{plain_spelled, plain_one}
-use Rattle.bcder_octets.specs.bcder_written.Simple.{one_string}
+use Rattle.bcder_octets.specs.bcder_primitive.Simple.{one_string}
 use Rattle.bcder_values.specs.Wraps.{wrapped_spelled, wrapped_one}
 
 -- The octets in rows of 1000, and a last one of 1 to 1000; at most so many rows.

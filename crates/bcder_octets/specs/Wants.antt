@@ -3,7 +3,7 @@ use Rattle.std.specs.Prelude.{◌≡◌, ℕ, true, List}
 use Rattle.bcder_octets.specs.bcder_tree.declared.mode.Mode.{Mode}
 use Rattle.bcder_octets.specs.bcder_tree.declared.mode.Mode.TheVariants.{Der}
 use Rattle.bcder_octets.specs.bcder_tree.Tags.{TagValue}
-use Rattle.bcder_octets.specs.bcder_header.declared.ending.Span.{Span}
+use Rattle.bcder_octets.specs.bcder_content.declared.ending.Span.{Span}
 use Rattle.bcder_octets.specs.bcder_content.Contents.{ValuesLeft}
 use Rattle.bcder_octets.specs.bcder_content.declared.content.Content.{Content}
 use Rattle.bcder_octets.specs.bcder_content.Either.{form_in, left_of}

@@ -4,7 +4,7 @@ use Rattle.bcder_octets.specs.bcder_tree.declared.mode.Mode.{Mode}
 use Rattle.bcder_octets.specs.bcder_tree.declared.mode.Mode.TheVariants.{Cer}
 use Rattle.bcder_octets.specs.bcder_tree.Tags.{TagValue}
 use Rattle.bcder_octets.specs.bcder_tree.Tree.{Trees}
-use Rattle.bcder_octets.specs.bcder_written.Encoded.{IsPlain, WritesPlain, SpellsSome}
+use Rattle.bcder_octets.specs.bcder_primitive.Encoded.{IsPlain, WritesPlain, SpellsSome}
 use Rattle.bcder_values.specs.Plains.{plain_spelled, plain_one}
 use Rattle.bcder_values.specs.Returns.{ReadAgain}
 use Rattle.bcder_octets.specs.Written.{WrittenString}

@@ -4,7 +4,7 @@ ghost use Rattle.std.specs.Prelude.{◌≡◌, IfOk, IfErr, OnOk};
 ghost use Rattle.bcder_octets.specs.bcder_tree.Tags.{IsTag};
 ghost use Rattle.bcder_octets.specs.bcder_tree.Strings.{octet_string_tag};
 ghost use Rattle.bcder_octets.specs.Segments.{is_cut as is_cut_of, StringTrees, WritesString, string_spelled, string_one};
-ghost use Rattle.bcder_octets.specs.bcder_written.Writing.{HasLength, Wrote, CannotWrite, WriteRefused};
+ghost use Rattle.bcder_octets.specs.bcder_primitive.Writing.{HasLength, Wrote, CannotWrite, WriteRefused};
 
 use crate::bcder_source::{Mode, Tag};
 use crate::pieces::SEGMENT;

@@ -1,4 +1,4 @@
-//! OCTET STRING (X.690 8.7, 9.2, 10.2), read and written in three modes.
+//! OCTET STRING (X.690 8.7, 9.2, 10.2), read and written in three modes; and BIT STRING ([`bits`]).
 //!
 //! In BER a string is primitive, or in segments that are OCTET STRINGs, nested at will; in CER it is primitive to
 //! 1000 octets, else in primitive segments of 1000 and a last one of 1 to 1000; in DER it is primitive. Contracts
@@ -12,6 +12,7 @@
 //! as `CerUnsupported`.
 #![tactic(auto)]
 
+pub mod bits;
 pub mod encode;
 pub mod iter;
 pub mod laws;
@@ -23,6 +24,7 @@ pub mod string;
 pub mod wrapping;
 
 pub use bcder_values::{bcder_content, bcder_source};
+use bcder_values::{bcder_primitive, bcder_tree};
 pub use encode::{OctetSliceEncoder, OctetStringEncoder};
 pub use iter::{OctetStringIter, OctetStringOctets};
 pub use source::OctetStringSource;

@@ -4,7 +4,7 @@ ghost use Rattle.std.specs.Prelude.{[], ◌≡◌, ◌↔◌, IsTrue, ◌<◌, �
 ghost use Rattle.bcder_octets.specs.bcder_tree.Tree.{Trees, SpellsAll};
 ghost use Rattle.bcder_octets.specs.bcder_tree.Strings.{AreSegments};
 ghost use Rattle.bcder_octets.specs.bcder_tree.declared.mode.Mode.TheVariants.{Ber};
-ghost use Rattle.bcder_octets.specs.bcder_header.Openings.{NoHead};
+ghost use Rattle.bcder_octets.specs.bcder_content.Openings.{NoHead};
 ghost use Rattle.bcder_octets.specs.Pieces.{IsHeaded, Holds, StepsTo, IsShorter, NextPiece, ArePlain, MayStand, TellsCut};
 
 use crate::bcder_source::{Length, Mode, Tag};

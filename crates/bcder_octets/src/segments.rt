@@ -2,7 +2,7 @@
 
 ghost use Rattle.std.specs.Prelude.{◌≡◌, ◌<◌, [], ◌∷◌, length, IfOk, IfErr, IfSome, IfNone, OnOk};
 ghost use Rattle.bcder_octets.specs.Segments.{segments, IsSegment, WritesSegment, AreSegmentsOf, WritesSegments, segments_spelled, segments_one};
-ghost use Rattle.bcder_octets.specs.bcder_written.Writing.{HasLength, Wrote, CannotWrite, WriteRefused};
+ghost use Rattle.bcder_octets.specs.bcder_primitive.Writing.{HasLength, Wrote, CannotWrite, WriteRefused};
 
 use crate::bcder_source::{Mode, Tag};
 use crate::pieces::SEGMENT;

@@ -5,8 +5,8 @@ ghost use Rattle.bcder_octets.specs.bcder_tree.declared.mode.Mode.TheVariants.{C
 ghost use Rattle.bcder_octets.specs.bcder_tree.Tags.{IsTag};
 ghost use Rattle.bcder_octets.specs.bcder_tree.Strings.{octet_string_tag};
 ghost use Rattle.bcder_octets.specs.Wrapping.{IsAround, WritesAround, around_spelled, around_one};
-ghost use Rattle.bcder_octets.specs.bcder_written.Writing.{HasLength, Wrote, CannotWrite, WriteRefused};
-ghost use Rattle.bcder_octets.specs.bcder_written.declared.error.EncodeError.TheVariants.{CerUnsupported as cer_unsupported};
+ghost use Rattle.bcder_octets.specs.bcder_primitive.Writing.{HasLength, Wrote, CannotWrite, WriteRefused};
+ghost use Rattle.bcder_octets.specs.bcder_primitive.declared.written.error.EncodeError.TheVariants.{CerUnsupported as cer_unsupported};
 
 use crate::bcder_source::{Mode, Tag};
 use crate::string::OctetString;

@@ -1,10 +1,11 @@
 -- The numbers that octets spell, and how many octets a number takes (X.690 8.3).
-use Rattle.std.proofs.Common.{◌≡◌, ℕ, suc, ◌+◌, ◌-◌, get_or, take, drop, subst, ◌-ℤ◌, ◌*◌, ◌^◌, ◌<◌, ◌≤◌, List, [], ◌∷◌, length, sym, ap, arith, All, add-one, inl, inr, lit<}
-use Rattle.std.proofs.Math.Nat.{pow-succ', pow-le-pow_right, mul-le-mul_right}
+use Rattle.std.proofs.Common.{◌≡◌, ℕ, suc, ◌+◌, ◌-◌, get_or, take, drop, subst, ◌-ℤ◌, ◌*◌, ◌^◌, ◌<◌, ◌≤◌, List, [], ◌∷◌, length, sym, ap, arith, All, add-one, inl, inr}
+use Rattle.std.proofs.Math.Nat.{pow-succ', mul-le-mul_right}
 use Rattle.std.proofs.lemmas.Bool.{cases_lt}
 use Rattle.std.proofs.lemmas.Int.{ints, to_z_pos}
 use mir.Val.{Fits, to_z, of_z}
 use mir.Syntax.{w8, w128}
+use Rattle.bcder_primitive.proofs.of_bcder_tree.Digits.{further, number_high, number_low}
 use Rattle.bcder_primitive.proofs.of_bcder_tree.Slices.{rest_is}
 use Rattle.std.proofs.lemmas.List.Elements.{All-head, All-tail, All-from_get_or}
 use Rattle.std.specs.Prelude.{ℤ, pos, negsuc}
@@ -15,25 +16,9 @@ use Rattle.bcder_primitive.specs.Values.{IsUnsigned, IsSigned, IsNegative}
 pub more_octets : (i : ℕ) → 256 ^ (i + 1) ≡ 256 * 256 ^ i
 more_octets i = rw add-one (pow-succ' 256 i)
 
--- More octets reach further.
-pub further : (i j : ℕ) → i ≤ j → 256 ^ i ≤ 256 ^ j
-further i j h = pow-le-pow_right (lit< tt) h
-
 -- Below so many octets there is room for one more, up to sixteen.
 pub room : (i n : ℕ) → i < 16 → n < 256 ^ i → n * 256 + 255 < 2 ^ 128
 room i n h low = omega (arith, further i 15 (omega arith))
-
--- What is read after a number lies at its place.
-pub number_low : (b : ℕ) (v : List ℕ) → b * 256 ^ length v ≤ number_behind b v
-number_low b [] = omega arith
-number_low b (a ∷ v) = omega (arith, number_low (b * 256 + a) v, ap (λ (z : ℕ). b * z) (pow-succ' 256 (length v)))
-
-pub number_high : (b : ℕ) (v : List ℕ) → All (λ a. a < 256) v → number_behind b v + 1 ≤ (b + 1) * 256 ^ length v
-number_high b [] all = omega arith
-number_high b (a ∷ v) all =
-    let h : a < 256 = All-head (λ a. a < 256) a v all in
-    let p : (a + 1) * 256 ^ length v ≤ 256 * 256 ^ length v = mul-le-mul_right (256 ^ length v) (let k : a + 1 ≤ 256 = omega arith in k) in
-    omega (arith, number_high (b * 256 + a) v (All-tail (λ a. a < 256) a v all), ap (λ (z : ℕ). (b + 1) * z) (pow-succ' 256 (length v)))
 
 -- A first octet that isn't zero has at most fifteen after it, below 2^128.
 small_few : (a : ℕ) (v : List ℕ) → 1 ≤ a → number_of (a ∷ v) < 2 ^ 128 → length v ≤ 15

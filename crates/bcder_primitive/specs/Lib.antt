@@ -1,3 +1,9 @@
+pub mod Writing
+pub mod Headers
+pub mod Encoded
+pub mod Contents
+pub mod Integers
+pub mod Simple
 pub mod Plain
 pub mod Sliced
 pub mod Values

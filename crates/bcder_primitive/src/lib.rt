@@ -1,8 +1,10 @@
-//! Contents of primitive values, with BOOLEAN, NULL and INTEGER by their octets.
+//! Contents of primitive values that are read, with BOOLEAN, NULL and INTEGER by their octets; and what is written in
+//! front of values and in them ([`written`]).
 #![tactic(auto)]
 
 mod integers;
 pub mod primitive;
+pub mod written;
 
 pub use bcder_source::bcder_tree;
 pub use primitive::Primitive;

@@ -5,5 +5,6 @@ pub mod Canonical
 pub mod Modes
 pub mod Fronts
 pub mod Slices
+pub mod Digits
 pub mod Identifiers
 pub mod Lengths

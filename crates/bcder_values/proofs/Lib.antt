@@ -6,8 +6,6 @@ pub mod Known
 pub mod Lent
 pub mod KeptRead
 pub mod of_bcder_content
-pub mod of_bcder_header
 pub mod of_bcder_primitive
-pub mod of_bcder_tree
-pub mod of_bcder_written
 pub mod of_bcder_source
+pub mod of_bcder_tree

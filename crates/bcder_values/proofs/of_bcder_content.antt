@@ -15,6 +15,7 @@ pub use Rattle.bcder_content.proofs.KeptOne
 pub use Rattle.bcder_content.proofs.Meaning
 pub use Rattle.bcder_content.proofs.Memories
 pub use Rattle.bcder_content.proofs.Modes
+pub use Rattle.bcder_content.proofs.Opening
 pub use Rattle.bcder_content.proofs.Passing
 pub use Rattle.bcder_content.proofs.Perhaps
 pub use Rattle.bcder_content.proofs.Simple
@@ -24,4 +25,5 @@ pub use Rattle.bcder_content.proofs.Took
 pub use Rattle.bcder_content.proofs.Unique
 pub use Rattle.bcder_content.proofs.Wants
 pub use Rattle.bcder_content.proofs.Wholes
+pub use Rattle.bcder_content.proofs.Windows
 pub use Rattle.bcder_content.proofs.Within

@@ -5,7 +5,7 @@ use Rattle.bcder_values.specs.bcder_tree.declared.mode.Mode.TheVariants.{Ber}
 use Rattle.bcder_values.specs.bcder_tree.Tree.{Trees, SpellsAll}
 use Rattle.bcder_content.proofs.of_bcder_tree.Modes.{all_to_ber}
 use Rattle.bcder_content.specs.Kept.{CapturedValue, SpellsValues}
-use Rattle.bcder_written.specs.Encoded.{SpellsSome}
+use Rattle.bcder_primitive.specs.Encoded.{SpellsSome}
 
 -- Octets that were captured in one mode stand in it and, as each spelling does, in BER.
 abbrev pub StandsIn : Mode → Mode → Type 0
@@ -22,7 +22,7 @@ pub record CapturedText (c : CapturedValue) (m : Mode) (text : List ℕ) : Type 
   pub values : SpellsValues c.mode c.octets
   pub whole : text ≡ c.octets
 
-stands_spelled : (n m : Mode) (ts : Trees) (text : List ℕ) → StandsIn n m → SpellsAll n ts text → SpellsAll m ts text
+pub stands_spelled : (n m : Mode) (ts : Trees) (text : List ℕ) → StandsIn n m → SpellsAll n ts text → SpellsAll m ts text
 stands_spelled n m ts text (inl e) s = subst (λ (k : Mode). SpellsAll k ts text) (sym e) (all_to_ber n ts text s)
 stands_spelled n m ts text (inr e) s = subst (λ (k : Mode). SpellsAll k ts text) e s
 

@@ -1,16 +1,15 @@
 -- Forms of values whose octets are kept: they are written as they were read.
-use Rattle.std.proofs.Common.{◌≡◌, ◌≢◌, ℕ, List, [], inl, inr, refl, sym, ap, ◌∙◌, subst}
+use Rattle.std.proofs.Common.{◌≡◌, ◌≢◌, ℕ, List, [], refl, sym, ap, ◌∙◌}
 use Rattle.bcder_values.specs.bcder_tree.declared.mode.Mode.{Mode}
 use Rattle.bcder_values.specs.bcder_tree.declared.mode.Mode.TheVariants.{Ber}
 use Rattle.bcder_values.specs.bcder_tree.Tree.{Tree, Trees, none, more, Spells, SpellsAll}
 use Rattle.bcder_values.specs.bcder_tree.Front.{Fields}
 use Rattle.bcder_content.proofs.of_bcder_tree.Canonical.{one_spelling}
-use Rattle.bcder_content.proofs.of_bcder_tree.Modes.{all_to_ber}
 use Rattle.bcder_content.proofs.of_bcder_tree.Trees.{one_trees}
 use Rattle.bcder_content.specs.Grammar.{One}
 use Rattle.bcder_content.specs.Kept.{CapturedValue}
 use Rattle.bcder_content.specs.Words.{Kept}
-use Rattle.bcder_values.specs.Captures.{StandsIn, CapturedTrees, CapturedText, captured_spelled, captured_one}
+use Rattle.bcder_values.specs.Captures.{StandsIn, CapturedTrees, CapturedText, captured_spelled, captured_one, stands_spelled}
 use Rattle.bcder_values.specs.Forms.{Form, Alone}
 use Rattle.bcder_values.specs.Wraps.{one_spelled}
 
@@ -32,10 +31,6 @@ KeepsOne Q x = (m : Mode) → StandsIn x.0.mode m → Spelt Q m x.0.octets x.1
 -- The octets that were kept, in the mode in which they are read again.
 abbrev pub kept_again : {A : Type 0} → Mode → CapturedValue × A → CapturedValue × A
 kept_again m x = (record { mode = m; octets = x.0.octets }, x.1)
-
-stands_spelled : (n m : Mode) (ts : Trees) (text : List ℕ) → StandsIn n m → SpellsAll n ts text → SpellsAll m ts text
-stands_spelled n m ts text (inl e) s = subst (λ (k : Mode). SpellsAll k ts text) (sym e) (all_to_ber n ts text s)
-stands_spelled n m ts text (inr e) s = subst (λ (k : Mode). SpellsAll k ts text) e s
 
 only_one : (m : Mode) {ts : Trees} {t : Tree} (text : List ℕ) → SpellsAll m ts text → Spells m t text → ts ≡ more t none
 only_one m {ts} {t} text p q =

@@ -15,7 +15,7 @@ pub mod walk;
 
 pub use bcder_content;
 pub use bcder_content::{bcder_primitive, bcder_source, bcder_tree};
-pub use bcder_written::{
+pub use bcder_primitive::written::{
     EncodeError, Octets, Primitive, PrimitiveContent, error, header, integers, primitive, simple,
     total_encoded_len, write_header, write_octets,
 };

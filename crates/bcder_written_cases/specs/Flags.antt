@@ -3,7 +3,7 @@ use Rattle.std.specs.Prelude.{◌≡◌, ◌+◌, ◌<◌, Bool}
 use Rattle.std.proofs.Common.{ap, arith, ◌∙◌}
 use Rattle.std.proofs.Math.Bridge.{le_prop}
 use Rattle.bcder_written_cases.specs.bcder_tree.Tags.{IsTag, universal}
-use Rattle.bcder_written_cases.specs.bcder_written.declared.primitive.Primitive.{Primitive}
+use Rattle.bcder_written_cases.specs.bcder_primitive.declared.written.primitive.Primitive.{Primitive}
 
 pub boolean_tag : IsTag (universal 1)
 boolean_tag = (omega arith, omega arith)

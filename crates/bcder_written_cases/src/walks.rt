@@ -3,9 +3,9 @@
 ghost use Rattle.std.specs.Prelude.{◌≡◌, map};
 ghost use Rattle.bcder_written_cases.specs.Flags.{flag as flag_of};
 ghost use Rattle.bcder_written_cases.specs.bcder_tree.Tags.{octet_string_tag};
-ghost use Rattle.bcder_written_cases.specs.bcder_written.Encoded.{IsPlain, WritesPlain};
+ghost use Rattle.bcder_written_cases.specs.bcder_primitive.Encoded.{IsPlain, WritesPlain};
 ghost use Rattle.bcder_written_cases.specs.bcder_values.Plains.{plain_spelled, plain_one};
-ghost use Rattle.bcder_written_cases.specs.bcder_written.Simple.{IsOnePiece, one_piece};
+ghost use Rattle.bcder_written_cases.specs.bcder_primitive.Simple.{IsOnePiece, one_piece};
 
 use crate::to::To;
 use answers::Answer;

@@ -4,17 +4,17 @@ use Rattle.certs.specs.bcder_tree.declared.mode.Mode.TheVariants.{Der}
 use Rattle.certs.specs.bcder_tree.Tags.{sequence_tag}
 use Rattle.certs.specs.bcder_tree.Tree.{Tree, Trees, constructed, none}
 use Rattle.certs.specs.bcder_content.Grammar.{ManyCases}
-use Rattle.certs.specs.bcder_oid.Identifiers.{IsIdentifier}
+use Rattle.certs.specs.bcder.Identifiers.{IsIdentifier}
 use Rattle.certs.specs.bcder.Kinds.{oid}
-use Rattle.certs.specs.bcder_written.Encoded.{AreBoth, joined}
+use Rattle.certs.specs.bcder_primitive.Encoded.{AreBoth, joined}
 use Rattle.certs.specs.certs_extension.Access.{AccessValue, Entry, IsEntry, IsFirst, methods, of_known}
 use Rattle.certs.specs.certs_basics.Identifiers as id
 use Rattle.certs.specs.certs_basics.Lists.{Mem}
 use Rattle.certs.specs.certs_extension.CertAccess.{IsSubjectAccess}
 use Rattle.certs_basics.specs.Uris.{IsHttps, IsRsync, IsUri}
-use Rattle.certs_written.specs.Outputs.{IsReadAs, perhaps}
-use Rattle.certs_written.specs.Values as values
-use Rattle.certs_written.specs.Values.{has_any, located, location, or_some}
+use Rattle.certs.specs.Outputs.{IsReadAs, perhaps}
+use Rattle.certs.specs.Values as values
+use Rattle.certs.specs.Values.{has_any, located, location, or_some}
 use Rattle.certs.specs.Laws.{AreAccessUris}
 use Rattle.certs.proofs.ValuesRead.{name_read}
 

@@ -3,8 +3,8 @@ use Rattle.std.proofs.Common.{◌≡◌, ◌⊎◌, inl, inr, ℕ, List, [], ref
 use Rattle.certs.specs.bcder_tree.declared.mode.Mode.TheVariants.{Ber, Der}
 use Rattle.certs.specs.bcder_tree.Tags.{sequence_tag}
 use Rattle.certs.specs.bcder_tree.Tree.{SpellsAll, Trees, constructed}
-use Rattle.certs.specs.bcder_bits.Bits.{BitsValue}
-use Rattle.certs.specs.bcder_bits.Contents.{IsBitString, bit_string_tag, cleared, padded_in}
+use Rattle.certs.specs.bcder_octets.Bits.{BitsValue}
+use Rattle.certs.specs.bcder_octets.BitContents.{IsBitString, bit_string_tag, cleared, padded_in}
 use Rattle.certs.specs.bcder_content.Grammar.{OctetsOf}
 use Rattle.certs.specs.bcder_content.Kept.{CapturedValue}
 use Rattle.certs.specs.bcder_content.Texts.{SpellsOf}

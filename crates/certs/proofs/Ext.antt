@@ -6,15 +6,15 @@ use Rattle.certs.specs.bcder_tree.Strings.{octet_string_tag}
 use Rattle.certs.specs.bcder_tree.Tags.{TagValue, boolean_tag, sequence_tag}
 use Rattle.certs.specs.bcder_tree.Tree.{Spells, SpellsAll, Tree, Trees, constructed, more, none}
 use Rattle.certs.specs.bcder_content.Texts.{ReadsFront}
-use Rattle.certs.specs.bcder_oid.Identifiers.{IsIdentifier}
+use Rattle.certs.specs.bcder.Identifiers.{IsIdentifier}
 use Rattle.certs.specs.bcder.Kinds.{boolean, octets, oid}
 use Rattle.certs.specs.bcder_octets.Wrapping.{IsAround}
 use Rattle.certs.specs.bcder_octets.Segments.{StringTrees}
 use Rattle.certs.specs.bcder_values.Forms.{Forms, both, last}
 use Rattle.certs.specs.bcder_values.OptionalForms.{Apart, LawfulOption, default}
 use Rattle.certs.specs.certs_extension.Extensions.{Extension, ExtensionFields, IsExtension}
-use Rattle.certs_written.specs.Outputs.{IsReadAs, Output}
-use Rattle.certs_written.specs.Values.{extension, shown}
+use Rattle.certs.specs.Outputs.{IsReadAs, Output}
+use Rattle.certs.specs.Values.{extension, shown}
 
 abbrev pub raw : List ℕ → Bool → List ℕ → Extension
 raw kind critical value = record { kind = kind; critical = critical; octets = value }

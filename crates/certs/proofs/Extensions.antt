@@ -3,7 +3,7 @@ use Rattle.std.proofs.Common.{◌≡◌, ◌≢◌, ◌⊎◌, inl, inr, ℕ, tr
 use Rattle.certs.specs.bcder_tree.declared.mode.Mode.TheVariants.{Der}
 use Rattle.certs.specs.bcder_tree.Tree.{Trees}
 use Rattle.certs.specs.bcder_content.Grammar.{ManyCases}
-use Rattle.certs.specs.bcder_oid.Identifiers.{IsIdentifier}
+use Rattle.certs.specs.bcder.Identifiers.{IsIdentifier}
 use Rattle.certs.specs.certs_basics.Basics.{IsTwentyLong}
 use Rattle.certs.specs.certs_basics.Identifiers as id
 use Rattle.certs.specs.certs_extension.CertAccess.{IsSubjectAccess}
@@ -15,10 +15,10 @@ use Rattle.certs.specs.resources_chain.declared.claims.Overclaim.{Overclaim}
 use Rattle.certs.specs.resources_chain.declared.claims.Overclaim.TheVariants.{Refuse, Trim}
 use Rattle.certs.specs.resources_ip.Encodings.{IsIpAddrBlocks}
 use Rattle.certs.specs.resources_ip.WrittenFamilies.{both, says_any}
-use Rattle.certs.specs.resources_policy.Identifiers.{as_octets, ip_octets}
-use Rattle.certs_written.specs.Resources.{said_families, said_numbers}
-use Rattle.certs_written.specs.Values as values
-use Rattle.certs_written.specs.Values.{some_access}
+use Rattle.certs.specs.resources_as.Identifiers.{as_octets, ip_octets}
+use Rattle.certs.specs.Resources.{said_families, said_numbers}
+use Rattle.certs.specs.Values as values
+use Rattle.certs.specs.Values.{some_access}
 use Rattle.certs_basics.specs.Uris.{IsRsync}
 use Rattle.certs.specs.Laws.{ArePurposes, IsLawful, IsReadable}
 use Rattle.certs.specs.Tbs.{extensions, key_parts, place_parts, resource_parts, written_keys, written_places, written_resources}

@@ -1,3 +1,6 @@
+pub mod Same
+mod Said
+mod Times
 mod Signed
 mod Access
 mod Certs
@@ -8,4 +11,5 @@ mod Listed
 mod Readable
 mod ValuesRead
 mod Whole
-pub mod of_certs_written
+pub mod of_certs_basics
+pub mod of_certs_key

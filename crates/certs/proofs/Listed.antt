@@ -3,7 +3,7 @@ use Rattle.std.proofs.Common.{◌≡◌, ◌≢◌, inl, inr, ℕ, Bool, true, f
 use Rattle.certs.specs.bcder_tree.declared.mode.Mode.TheVariants.{Der}
 use Rattle.certs.specs.bcder_tree.Tree.{Tree, Trees, none}
 use Rattle.certs.specs.bcder_content.Grammar.{ManyCases}
-use Rattle.certs.specs.bcder_oid.Identifiers.{IsIdentifier}
+use Rattle.certs.specs.bcder.Identifiers.{IsIdentifier}
 use Rattle.certs.specs.certs_extension.Access.{AccessValue, no_access}
 use Rattle.certs.specs.certs_basics.Identifiers as id
 use Rattle.certs.specs.certs_basics.Lists.{Each, Mem}
@@ -20,11 +20,11 @@ use Rattle.certs.specs.resources_ip.Encodings.{FamilyChoices, IsIpAddrBlocks}
 use Rattle.certs.specs.resources_ip.Written.{FitsChoice}
 use Rattle.certs.specs.resources_ip.WrittenFamilies.{both, says_any}
 use Rattle.certs.specs.resources_ip_prefix.declared.addr.AddressFamily.TheVariants.{Ipv4, Ipv6}
-use Rattle.certs.specs.resources_policy.Identifiers.{as_octets, ip_octets}
-use Rattle.certs_written.specs.Outputs.{IsReadAs, Output, perhaps}
-use Rattle.certs_written.specs.Resources.{said_families, said_numbers}
-use Rattle.certs_written.specs.Values as values
-use Rattle.certs_written.specs.Values.{extended_if, extension_of, has_any, or_some, some_access}
+use Rattle.certs.specs.resources_as.Identifiers.{as_octets, ip_octets}
+use Rattle.certs.specs.Outputs.{IsReadAs, Output, perhaps}
+use Rattle.certs.specs.Resources.{said_families, said_numbers}
+use Rattle.certs.specs.Values as values
+use Rattle.certs.specs.Values.{extended_if, extension_of, has_any, or_some, some_access}
 use Rattle.certs.specs.Laws.{AreAccessUris}
 use Rattle.certs.proofs.Access.{access_read}
 use Rattle.certs.proofs.Ext.{extension_read}

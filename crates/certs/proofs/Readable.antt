@@ -5,10 +5,10 @@ use Rattle.certs.specs.bcder_tree.declared.mode.Mode.{Mode}
 use Rattle.certs.specs.bcder_tree.declared.mode.Mode.TheVariants.{Der}
 use Rattle.certs.specs.bcder_tree.Tags.{oid_tag}
 use Rattle.certs.specs.bcder_tree.Tree.{Tree, Trees}
-use Rattle.certs.specs.bcder_bits.Bits.{BitsValue}
-use Rattle.certs.specs.bcder_bits.Contents.{IsPadded, cleared, last_octet, padded_in}
+use Rattle.certs.specs.bcder_octets.Bits.{BitsValue}
+use Rattle.certs.specs.bcder_octets.BitContents.{IsPadded, cleared, last_octet, padded_in}
 use Rattle.certs.specs.bcder_content.Grammar.{ManyCases, OctetsOf}
-use Rattle.certs.specs.bcder_oid.Identifiers.{IsIdentifier, IsOid}
+use Rattle.certs.specs.bcder.Identifiers.{IsIdentifier, IsOid}
 use Rattle.certs.specs.bcder_values.ListForms.{LawfulAll}
 use Rattle.certs.specs.certs_basics.Basics.{IsSmallEnough}
 use Rattle.certs.specs.certs_basics.Keys.{KeyValue}

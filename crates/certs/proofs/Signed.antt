@@ -5,10 +5,10 @@ use Rattle.certs.specs.bcder_tree.Octets.{IsHigh, IsIdentifier, IsLength}
 use Rattle.certs.specs.bcder_tree.Tags.{TagValue}
 use Rattle.certs.specs.bcder_tree.Tree.{definite, indefinite}
 use Rattle.certs.specs.bcder_values.Gathered.{ExtendRefused}
-use Rattle.certs.specs.bcder_written.Encoded.{WritesWrapped}
-use Rattle.certs.specs.bcder_written.Writing.{HasLength}
-use Rattle.certs.specs.bcder_written.declared.error.EncodeError.{EncodeError}
-use Rattle.certs.specs.bcder_written.declared.error.EncodeError.TheVariants as causes
+use Rattle.certs.specs.bcder_primitive.Encoded.{WritesWrapped}
+use Rattle.certs.specs.bcder_primitive.Writing.{HasLength}
+use Rattle.certs.specs.bcder_primitive.declared.written.error.EncodeError.{EncodeError}
+use Rattle.certs.specs.bcder_primitive.declared.written.error.EncodeError.TheVariants as causes
 use Rattle.certs.specs.certs_key.declared.signer.SigningError.{SigningError}
 use Rattle.certs.specs.certs_key.declared.signer.SigningError.TheVariants as errors
 use Rattle.certs.specs.certs_extension.Cert.{TbsValue}

@@ -6,15 +6,15 @@ use Rattle.certs.specs.bcder_tree.declared.mode.Mode.TheVariants.{Der}
 use Rattle.certs.specs.bcder_tree.Strings.{IsIa5}
 use Rattle.certs.specs.bcder_tree.Tags.{TagValue, context, boolean_tag, octet_string_tag, sequence_tag}
 use Rattle.certs.specs.bcder_tree.Tree.{Tree, Trees, constructed, none}
-use Rattle.certs.specs.bcder_bits.Bits.{BitsValue}
-use Rattle.certs.specs.bcder_bits.Contents.{IsBitString}
+use Rattle.certs.specs.bcder_octets.Bits.{BitsValue}
+use Rattle.certs.specs.bcder_octets.BitContents.{IsBitString}
 use Rattle.certs.specs.bcder_content.Grammar.{As, End, Inside, Then}
-use Rattle.certs.specs.bcder_oid.Identifiers.{IsIdentifier}
+use Rattle.certs.specs.bcder.Identifiers.{IsIdentifier}
 use Rattle.certs.specs.bcder.Kinds.{boolean, octets_at, oid}
 use Rattle.certs.specs.bcder_values.Forms.{Alone, Form, mapped, wrapped}
 use Rattle.certs.specs.bcder_values.ListForms.{LawfulAll, items}
 use Rattle.certs.specs.bcder_values.OptionalForms.{last_default}
-use Rattle.certs.specs.bcder_written.Encoded.{joined}
+use Rattle.certs.specs.bcder_primitive.Encoded.{joined}
 use Rattle.certs.specs.certs_extension.Grammars.{HaveOneRsync, IsIssuer, IsName}
 use Rattle.certs.specs.certs_basics.Basics.{IsTwentyLong}
 use Rattle.certs.specs.certs_basics.Identifiers as id
@@ -23,7 +23,7 @@ use Rattle.certs.specs.certs_extension.declared.forms.KeyUsage.{KeyUsage}
 use Rattle.certs.specs.certs_extension.declared.forms.KeyUsage.TheVariants.{Ca, Ee}
 use Rattle.certs_basics.specs.Uris.{IsRsync, IsUri, IsUriOctet}
 use Rattle.certs_basics.proofs.PathUris.{IsUri-plain}
-use Rattle.certs_basics.proofs.of_bcder_strings.Ascii.{ascii_text}
+use Rattle.certs_basics.proofs.of_bcder.Ascii.{ascii_text}
 use Rattle.certs_basics.proofs.of_bcder_octets.Written.{written_string}
 use Rattle.certs.specs.resources_as.Encodings.{IsAsResources}
 use Rattle.certs.specs.resources_as.Written.{AreAsResources, HasMaximal, MeansJust}
@@ -35,11 +35,11 @@ use Rattle.certs.specs.resources_ip.Encodings.{IsIpAddrBlocks}
 use Rattle.certs.specs.resources_ip.Written.{FitsChoice}
 use Rattle.certs.specs.resources_ip.WrittenFamilies.{FamiliesTrees, ReadsFamilies, both}
 use Rattle.certs.specs.resources_ip_prefix.declared.addr.AddressFamily.TheVariants.{Ipv4, Ipv6}
-use Rattle.certs.specs.resources_policy.Identifiers.{policy_octets}
+use Rattle.certs.specs.resources_as.Identifiers.{policy_octets}
 use Rattle.certs.specs.certs_extension.Usages.{usage_octets}
-use Rattle.certs_written.specs.Outputs.{IsReadAs, Output, inside}
-use Rattle.certs_written.specs.Values as values
-use Rattle.certs_written.specs.Values.{shown}
+use Rattle.certs.specs.Outputs.{IsReadAs, Output, inside}
+use Rattle.certs.specs.Values as values
+use Rattle.certs.specs.Values.{shown}
 use Rattle.certs.proofs.Ext.{told, shown_lawful}
 
 -- A value alone in a constructed one.

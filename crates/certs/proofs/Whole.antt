@@ -10,7 +10,7 @@ use Rattle.certs.specs.bcder_content.Words.{Gathers}
 use Rattle.certs.specs.bcder.Kinds.{natural, unsigned}
 use Rattle.certs.specs.bcder_values.Forms.{Alone}
 use Rattle.certs.specs.bcder_values.Wraps.{one_spelled}
-use Rattle.certs.specs.bcder_written.Encoded.{joined}
+use Rattle.certs.specs.bcder_primitive.Encoded.{joined}
 use Rattle.certs.specs.certs_key.Algorithms.{x509_algorithm}
 use Rattle.certs.specs.certs_basics.Basics.{IsAlgorithm, IsSerial, IsSmallEnough}
 use Rattle.certs.specs.certs_basics.Keys.{IsKey, KeyValue}
@@ -20,13 +20,13 @@ use Rattle.certs.specs.certs_extension.Cert.{TbsValue}
 use Rattle.certs.specs.certs_extension.CertText.{HasExtensions, IsTbs, IsVersion}
 use Rattle.certs.specs.certs_extension.Extensions.{Extension, IsExtension}
 use Rattle.certs.specs.certs_basics.Forms.{IsTime, IsValidity, WritesTime}
-use Rattle.certs_written.proofs.of_certs_key.Written.{algorithm_sound}
+use Rattle.certs.proofs.of_certs_key.Written.{algorithm_sound}
 use Rattle.certs_cert.proofs.of_bcder_tree.Trees.{one_fields}
-use Rattle.certs_written.proofs.of_certs_basics.Meanings.{written_time}
+use Rattle.certs.proofs.of_certs_basics.Meanings.{written_time}
 use Rattle.certs.specs.certs_basics.Identifiers.{sha256_with_rsa}
-use Rattle.certs_written.specs.Fields as fields
-use Rattle.certs_written.specs.Fields.{PlainTrees}
-use Rattle.certs_written.specs.Outputs.{IsReadAs, inside}
+use Rattle.certs.specs.Fields as fields
+use Rattle.certs.specs.Fields.{PlainTrees}
+use Rattle.certs.specs.Outputs.{IsReadAs, inside}
 use Rattle.certs_name.specs.Named.{IsNamed}
 use Rattle.certs.specs.Laws.{FieldsAreRead, IsLawful, IsReadable}
 use Rattle.certs.specs.Tbs.{extensions, tbs}

@@ -1,9 +1,9 @@
 -- That what is built of a certificate's fields is read again as these fields (RFC 5280 4.1, RFC 6487 4).
 use Rattle.std.specs.Prelude.{◌≡◌, ◌≢◌, ◌⊎◌, ℕ, List, [], IfSome}
 use Rattle.certs.specs.bcder_tree.declared.mode.Mode.TheVariants.{Der}
-use Rattle.certs.specs.bcder_bits.Contents.{padded_in}
+use Rattle.certs.specs.bcder_octets.BitContents.{padded_in}
 use Rattle.certs.specs.bcder_content.Texts.{SpellsOf}
-use Rattle.certs.specs.bcder_oid.Identifiers.{IsIdentifier}
+use Rattle.certs.specs.bcder.Identifiers.{IsIdentifier}
 use Rattle.certs.specs.bcder_values.ListForms.{LawfulAll}
 use Rattle.certs.specs.certs_basics.Basics.{IsSmallEnough, IsTwentyLong}
 use Rattle.certs.specs.certs_basics.Keys.{HasEncoding}

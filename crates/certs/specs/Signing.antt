@@ -1,6 +1,6 @@
 -- What a refusal to write or to sign says of a certificate's fields.
 use Rattle.std.specs.Prelude.{ℕ, List}
-use Rattle.certs.specs.bcder_written.declared.error.EncodeError.{EncodeError}
+use Rattle.certs.specs.bcder_primitive.declared.written.error.EncodeError.{EncodeError}
 use Rattle.certs.specs.certs_key.declared.signer.SigningError.{SigningError}
 use Rattle.certs.specs.certs_key.Refusing.{NotWrittenIf, SigningRefusedIf}
 use Rattle.certs.specs.certs_extension.Cert.{TbsValue}

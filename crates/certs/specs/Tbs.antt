@@ -14,11 +14,11 @@ use Rattle.certs.specs.resources_chain.Claims.{Choice}
 use Rattle.certs.specs.resources_chain.declared.claims.Overclaim.{Overclaim}
 use Rattle.certs.specs.resources_ip.Encodings.{FamilyChoices}
 use Rattle.certs.specs.resources_ip.WrittenFamilies.{both}
-use Rattle.certs_written.specs.Fields.{name, public_key, serial, time, version}
-use Rattle.certs_written.specs.Outputs.{Output, beside, inside, of, perhaps}
-use Rattle.certs_written.specs.Resources.{addresses_extension, asns_extension}
-use Rattle.certs_written.specs.Values as values
-use Rattle.certs_written.specs.Values.{ExtensionOf, extended, extended_if, extension_of, some_access}
+use Rattle.certs.specs.Fields.{name, public_key, serial, time, version}
+use Rattle.certs.specs.Outputs.{Output, beside, inside, of, perhaps}
+use Rattle.certs.specs.Resources.{addresses_extension, asns_extension}
+use Rattle.certs.specs.Values as values
+use Rattle.certs.specs.Values.{ExtensionOf, extended, extended_if, extension_of, some_access}
 
 -- The extensions of what the key is and is for: basicConstraints, subjectKeyIdentifier, authorityKeyIdentifier, keyUsage,
 -- extKeyUsage (RFC 6487 4.8.1 to 4.8.5).

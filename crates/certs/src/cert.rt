@@ -2,7 +2,7 @@
 
 pub use crate::again::fields_are_lawful;
 pub use crate::built::{BuildCert, TbsCertValues};
+pub use crate::written::resources::{EncodeAsExtension, EncodeIpExtension};
 pub use certs_cert::{Cert, CertValues, ExtendedKeyUsage, KeyUsage, Role, TbsCert};
 pub use certs_extension::{ExtensionError, Overclaim};
 pub use certs_verify::{Inspect, Refused, ResourceCert, Validate, Verify};
-pub use certs_written::resources::{EncodeAsExtension, EncodeIpExtension};

@@ -16,5 +16,5 @@ pub use certs_crl::laws as crl;
 pub use certs_extension::claims::laws as list;
 pub use certs_extension::forms::laws as spelled;
 pub use certs_extension::laws as extension;
-pub use certs_revoked::laws as revoked;
 pub use certs_x509::laws as x509;
+pub use certs_x509::revoked::laws as revoked;

@@ -3,7 +3,7 @@
 //! This is a face: a port of `rpki::repository::cert` and `rpki::repository::crl` of the Rust crate `rpki` 0.20.1 in which
 //! each call is proved to meet its contract. A certificate, or a revocation list, is read exactly where octets spell one of
 //! the profile; each test says yes exactly where a written conjunction holds, and else which of its parts is the first that
-//! fails. The parts below are crates of their own, whose `specs/` have the definitions that contracts cite.
+//! fails. The `specs/` of each crate have the definitions that its contracts cite.
 //!
 //! | Module | Has |
 //! |---|---|
@@ -12,6 +12,7 @@
 //! | [`x509`] | names, serial numbers, times, keys, signatures, URIs, and the causes of refusals |
 //! | [`built`] | what is written of a certificate's fields, and the certificate that a signer makes of them |
 //! | [`again`] | what is built of a certificate's fields is read again |
+//! | [`written`] | parts of certificates and lists as they are written: each extension by its value, and the fields that both have |
 //! | [`laws`] | what follows for certificates and lists, as functions that do nothing |
 //!
 //! A certificate below an issuer is read and validated like this:
@@ -38,6 +39,7 @@ pub mod built;
 pub mod cert;
 pub mod crl;
 pub mod laws;
+pub mod written;
 pub mod x509;
 
 pub use cert::{Cert, ResourceCert, TbsCert};

@@ -12,7 +12,7 @@ use Rattle.certs_basics.specs.bcder_content.Grammar.{End, One, OneOctets, OneOf,
 use Rattle.certs_basics.proofs.of_bcder_content.Choices.{second_gives, second_lacks, universal_apart}
 use Rattle.certs_basics.proofs.of_bcder_content.Taking.{weaker}
 use Rattle.certs_basics.proofs.of_bcder_content.Unique.{octets_one, octets_tagged, inside_one, then_one, end_one, one_of_one}
-use Rattle.certs_basics.specs.bcder_written.Encoded.{AreBoth, IsPlain, SpellsSome, WritesBoth, WritesPlain, WritesWrapped, joined}
+use Rattle.certs_basics.specs.bcder_primitive.Encoded.{AreBoth, IsPlain, SpellsSome, WritesBoth, WritesPlain, WritesWrapped, joined}
 use Rattle.certs_basics.specs.bcder_values.Laws.{both_spelled}
 use Rattle.certs_basics.specs.bcder_values.Plains.{plain_spelled}
 use Rattle.certs_basics.specs.bcder_values.Wraps.{wrapped_spelled}

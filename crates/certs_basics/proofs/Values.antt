@@ -12,14 +12,14 @@ use Rattle.certs_basics.proofs.of_bcder_content.Simple.{itself_one, unit_one}
 use Rattle.certs_basics.proofs.of_bcder_octets.Meaning.{one_string}
 use Rattle.certs_basics.specs.bcder_number.Contents.{one_number}
 use Rattle.certs_basics.specs.bcder_number.Integers.{IsNatural}
-use Rattle.certs_basics.specs.bcder_oid.Identifiers.{IsOid}
-use Rattle.certs_basics.proofs.of_bcder_oid.Read.{oid_one}
-use Rattle.certs_basics.proofs.of_bcder_bits.Readings.{bit_string_one}
+use Rattle.certs_basics.specs.bcder.Identifiers.{IsOid}
+use Rattle.certs_basics.proofs.of_bcder.Read.{oid_one}
+use Rattle.certs_basics.proofs.of_bcder_octets.BitReadings.{bit_string_one}
 use Rattle.certs_basics.specs.declared.PublicKeyFormat.{PublicKeyFormat}
 use Rattle.certs_basics.specs.declared.PublicKeyFormat.TheVariants.{Rsa, Ecdsa}
 use Rattle.certs_basics.specs.Basics.{IsSerial, OptNull, IsAlgorithm, IsKeyIdentifier}
-use Rattle.certs_basics.specs.bcder_bits.Bits.{BitsValue}
-use Rattle.certs_basics.specs.bcder_bits.Contents.{IsBitString, bit_string_tag}
+use Rattle.certs_basics.specs.bcder_octets.Bits.{BitsValue}
+use Rattle.certs_basics.specs.bcder_octets.BitContents.{IsBitString, bit_string_tag}
 use Rattle.certs_basics.specs.Keys.{KeyValue, kind_of, IsFormatBody, IsFormat, IsKeyBody, IsKey}
 use Rattle.certs_basics.specs.Names.{IsAttribute, IsName}
 

@@ -7,7 +7,7 @@ use Rattle.certs_basics.specs.bcder_tree.Strings.{IsString}
 use Rattle.certs_basics.specs.bcder_primitive.Values.{IsNull}
 use Rattle.certs_basics.specs.bcder_content.Grammar.{Inside, OctetsOf, Such, As, Then, Opt, End}
 use Rattle.certs_basics.specs.bcder_number.Integers.{IsNatural}
-use Rattle.certs_basics.specs.bcder_oid.Identifiers.{AreOctets}
+use Rattle.certs_basics.specs.bcder.Identifiers.{AreOctets}
 use Rattle.certs_basics.specs.Identifiers.{sha256_with_rsa}
 
 -- CertificateSerialNumber ::= INTEGER, not negative and below 2^160 (RFC 5280 4.1.2.2)

@@ -6,9 +6,9 @@ use Rattle.certs_basics.specs.bcder_tree.Tags.{null_tag, oid_tag, sequence_tag}
 use Rattle.certs_basics.specs.bcder_tree.Tree.{Tree, Trees, primitive, Spells}
 use Rattle.certs_basics.specs.bcder_tree.Sequences.{sequence}
 use Rattle.certs_basics.specs.bcder_content.Grammar.{Inside, OctetsOf, Then, End}
-use Rattle.certs_basics.specs.bcder_bits.Bits.{BitsValue}
-use Rattle.certs_basics.specs.bcder_bits.Contents.{IsBitString, bit_string_tag, cleared}
-use Rattle.certs_basics.specs.bcder_oid.Identifiers.{AreOctets, IsOid}
+use Rattle.certs_basics.specs.bcder_octets.Bits.{BitsValue}
+use Rattle.certs_basics.specs.bcder_octets.BitContents.{IsBitString, bit_string_tag, cleared}
+use Rattle.certs_basics.specs.bcder.Identifiers.{AreOctets, IsOid}
 use Rattle.certs_basics.specs.declared.PublicKeyFormat.{PublicKeyFormat}
 use Rattle.certs_basics.specs.declared.PublicKeyFormat.TheVariants.{Rsa, Ecdsa}
 use Rattle.certs_basics.specs.bcder_content.Words.{ThenBy}

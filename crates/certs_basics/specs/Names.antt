@@ -6,11 +6,11 @@ use Rattle.certs_basics.specs.bcder_tree.Tags.{oid_tag, printable_string_tag, se
 use Rattle.certs_basics.specs.bcder_tree.Tree.{Tree, primitive, constructed, none, more, Spells}
 use Rattle.certs_basics.specs.bcder_tree.Sequences.{sequence}
 use Rattle.certs_basics.specs.bcder_tree.Strings.{IsPrintable}
-use Rattle.certs_basics.specs.bcder_strings.Sets.{alone, IsUnicode}
-use Rattle.certs_basics.specs.bcder_strings.Restricted.{IsRestricted}
+use Rattle.certs_basics.specs.bcder.Sets.{alone, IsUnicode}
+use Rattle.certs_basics.specs.bcder.Restricted.{IsRestricted}
 use Rattle.certs_basics.specs.bcder_content.Grammar.{Inside, OctetsOf, As, Then, End, Many}
 use Rattle.certs_basics.specs.bcder_content.Kept.{CapturedValue}
-use Rattle.certs_basics.specs.bcder_oid.Identifiers.{IsOid}
+use Rattle.certs_basics.specs.bcder.Identifiers.{IsOid}
 use Rattle.certs_basics.specs.bcder_content.Words.{Itself}
 use Rattle.certs_basics.specs.bcder_content.Texts.{SpellsOf}
 use Rattle.certs_basics.specs.Lists.{joined}

@@ -4,7 +4,7 @@ mod Octets
 mod Sequence
 mod Whole
 mod Spelled
-pub mod of_certs_key
-pub mod of_bcder_tree
-pub mod of_certs_x509
 pub mod of_bcder_content
+pub mod of_bcder_tree
+pub mod of_certs_key
+pub mod of_certs_x509

@@ -3,7 +3,7 @@ pub mod Reading
 pub mod Whole
 pub mod Written
 -- What stands below, for the crates above.
-pub use Rattle.certs_extension.specs.bcder_bits as bcder_bits
+pub use Rattle.certs_extension.specs.bcder_octets as bcder_octets
 pub use Rattle.certs_extension.specs.bcder_content as bcder_content
 pub use Rattle.certs_x509.specs.bcder_source as bcder_source
 pub use Rattle.certs_extension.specs.bcder_tree as bcder_tree

@@ -5,8 +5,8 @@ use Rattle.certs_cert.specs.bcder_tree.Tree.{Trees}
 use Rattle.certs_cert.specs.bcder_content.Grammar.{End, OctetsOf, Then}
 use Rattle.certs_cert.specs.bcder_content.Texts.{Joins, NoOctets, SpellsOf, WithOctets}
 use Rattle.certs_cert.specs.bcder_content.Words.{Kept}
-use Rattle.certs_cert.specs.bcder_bits.Bits.{BitsValue}
-use Rattle.certs_cert.specs.bcder_bits.Contents.{IsBitString, bit_string_tag}
+use Rattle.certs_cert.specs.bcder_octets.Bits.{BitsValue}
+use Rattle.certs_cert.specs.bcder_octets.BitContents.{IsBitString, bit_string_tag}
 use Rattle.certs_cert.specs.certs_basics.Basics.{IsAlgorithm}
 use Rattle.certs_x509.specs.Signed.{SignedDataValue}
 use Rattle.certs_extension.specs.Cert.{CertValue, SignedValue, TbsValue}

@@ -2,7 +2,7 @@
 use Rattle.std.specs.Prelude.{◌≡◌, List, ℕ}
 use Rattle.certs_cert.specs.bcder_tree.declared.mode.Mode.{Mode}
 use Rattle.certs_x509.specs.bcder_values.Gathered.{ExtendRefused}
-use Rattle.certs_extension.specs.bcder_written.declared.error.EncodeError.{EncodeError}
+use Rattle.certs_extension.specs.bcder_primitive.declared.written.error.EncodeError.{EncodeError}
 use Rattle.certs_x509.specs.Signed.{SignedDataValue, signed, signed_fields}
 use Rattle.certs_extension.specs.Cert.{CertValue}
 use Rattle.certs_cert.specs.Whole.{signed_of}

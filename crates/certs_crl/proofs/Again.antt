@@ -7,27 +7,27 @@ use Rattle.certs_crl.specs.bcder_tree.Strings.{IsString, octet_string_tag}
 use Rattle.certs_crl.specs.bcder_tree.Tags.{TagValue, context, boolean_tag, integer_tag, oid_tag, sequence_tag}
 use Rattle.certs_crl.specs.bcder_tree.Tree.{Spells, SpellsAll, Tree, Trees, constructed, more, none, primitive}
 use Rattle.certs_name.proofs.of_bcder_tree.Fronts.{front_whole}
-use Rattle.certs_revoked.proofs.of_bcder_tree.Trees.{one_fields, one_tree}
+use Rattle.certs_x509.proofs.of_bcder_tree.Trees.{one_fields, one_tree}
 use Rattle.certs_crl.specs.bcder_content.Contents.{tag_of}
 use Rattle.certs_crl.specs.bcder_content.Grammar.{Any, End, Inside, Many, Then, Without}
 use Rattle.certs_crl.specs.bcder_content.Kept.{CapturedValue}
 use Rattle.certs_crl.specs.bcder_content.Texts.{ReadsFront}
 use Rattle.certs_crl.proofs.of_bcder_content.Fronts.{front_reads}
 use Rattle.certs_crl.proofs.of_bcder_content.Keeping.{front_all}
-use Rattle.certs_revoked.proofs.of_bcder_content.Unique.{same_trees}
-use Rattle.certs_revoked.specs.bcder_written.Encoded.{AreBoth, SpellsSome, WritesBoth, WritesPlain, WritesWrapped, joined}
-use Rattle.certs_revoked.specs.bcder_written.Integers.{WritesUnsigned}
-use Rattle.certs_revoked.specs.bcder_values.Captures.{CapturedText, captured_spelled}
-use Rattle.certs_revoked.specs.bcder_values.Choices.{nothing_spelled}
-use Rattle.certs_revoked.specs.bcder_values.Forms.{Alone, written_again}
-use Rattle.certs_revoked.specs.bcder_values.KeptForms.{KeepsOne}
-use Rattle.certs_revoked.specs.bcder_values.Laws.{both_spelled}
-use Rattle.certs_revoked.specs.bcder_values.Plains.{plain_spelled}
-use Rattle.certs_revoked.specs.bcder_values.Wraps.{one_spelled, wrapped_spelled}
+use Rattle.certs_x509.proofs.of_bcder_content.Unique.{same_trees}
+use Rattle.certs_x509.specs.bcder_primitive.Encoded.{AreBoth, SpellsSome, WritesBoth, WritesPlain, WritesWrapped, joined}
+use Rattle.certs_x509.specs.bcder_primitive.Integers.{WritesUnsigned}
+use Rattle.certs_x509.specs.bcder_values.Captures.{CapturedText, captured_spelled}
+use Rattle.certs_x509.specs.bcder_values.Choices.{nothing_spelled}
+use Rattle.certs_x509.specs.bcder_values.Forms.{Alone, written_again}
+use Rattle.certs_x509.specs.bcder_values.KeptForms.{KeepsOne}
+use Rattle.certs_x509.specs.bcder_values.Laws.{both_spelled}
+use Rattle.certs_x509.specs.bcder_values.Plains.{plain_spelled}
+use Rattle.certs_x509.specs.bcder_values.Wraps.{one_spelled, wrapped_spelled}
 use Rattle.bcder.specs.bcder_octets.Segments.{WritesString}
 use Rattle.bcder.specs.bcder_octets.Wrapping.{around_spelled}
 use Rattle.bcder.specs.Kinds.{octets_at}
-use Rattle.certs_revoked.specs.bcder_oid.Identifiers.{IsIdentifier}
+use Rattle.certs_x509.specs.bcder.Identifiers.{IsIdentifier}
 use Rattle.certs_crl.specs.certs_basics.Basics.{IsAlgorithm, IsKeyIdentifier, IsSerial, IsTwentyLong}
 use Rattle.certs_crl.specs.certs_basics.Identifiers as id
 use Rattle.certs_crl.specs.certs_basics.Names.{IsKeptName}
@@ -35,14 +35,14 @@ use Rattle.certs_crl.specs.certs_basics.Forms.{IsTime}
 use Rattle.certs_crl.specs.certs_basics.Identifiers.{sha256_with_rsa}
 use Rattle.certs_key.specs.Algorithms.{x509_algorithm}
 use Rattle.certs_key.proofs.Written.{algorithm_spelled}
-use Rattle.certs_revoked.specs.EntryForms.{WritesMoment, moment, serial}
-use Rattle.certs_revoked.specs.Listed.{SpellsEntries}
-use Rattle.certs_revoked.specs.certs_extension.Cert.{SignedValue}
-use Rattle.certs_revoked.specs.certs_extension.CertText.{IsVersion}
-use Rattle.certs_revoked.specs.certs_extension.CrlText.{AreRevoked, CrlText, CrlValue, IsCrl, IsRevoked, IsTbsList, RevokedValue, TbsListValue, entries}
-use Rattle.certs_revoked.specs.certs_extension.Extensions.{Extension, IsAuthorityKeyIdentifier, IsExtension}
-use Rattle.certs_revoked.specs.certs_extension.Spellings.{CrlIsSpelled}
-use Rattle.certs_x509.specs.bcder_bits.Contents.{padded_in}
+use Rattle.certs_x509.specs.EntryForms.{WritesMoment, moment, serial}
+use Rattle.certs_x509.specs.Listed.{SpellsEntries}
+use Rattle.certs_x509.specs.certs_extension.Cert.{SignedValue}
+use Rattle.certs_x509.specs.certs_extension.CertText.{IsVersion}
+use Rattle.certs_x509.specs.certs_extension.CrlText.{AreRevoked, CrlText, CrlValue, IsCrl, IsRevoked, IsTbsList, RevokedValue, TbsListValue, entries}
+use Rattle.certs_x509.specs.certs_extension.Extensions.{Extension, IsAuthorityKeyIdentifier, IsExtension}
+use Rattle.certs_x509.specs.certs_extension.Spellings.{CrlIsSpelled}
+use Rattle.certs_x509.specs.bcder_octets.BitContents.{padded_in}
 use Rattle.certs_x509.specs.Signed.{SignedDataValue, kept_message, signed, signed_fields}
 use Rattle.certs_x509.proofs.Again.{signed_lawful, signed_sound}
 use Rattle.certs_crl.specs.Reading.{IsPair, IsPaired, IsReadBody, IsTail, Pair, ReadFields, SaysBoth, SaysRead, TailFields, list_of}

@@ -8,22 +8,22 @@ use Rattle.certs_crl.specs.bcder_tree.Octets.{IsLength}
 use Rattle.certs_crl.specs.bcder_tree.Strings.{octet_string_tag}
 use Rattle.certs_crl.specs.bcder_tree.Tags.{TagValue, context, integer_tag, oid_tag, sequence_tag}
 use Rattle.certs_crl.specs.bcder_tree.Tree.{definite, primitive}
-use Rattle.certs_revoked.specs.bcder_primitive.Values.{AnyOctets}
+use Rattle.certs_x509.specs.bcder_primitive.Values.{AnyOctets}
 use Rattle.certs_crl.specs.bcder_content.Kept.{CapturedValue}
-use Rattle.certs_revoked.specs.bcder_written.Encoded.{NoText, WritesBoth, WritesPlain, WritesWrapped}
-use Rattle.certs_revoked.specs.bcder_written.Integers.{WritesUnsigned}
-use Rattle.certs_revoked.specs.bcder_values.Captures.{CapturedText}
-use Rattle.certs_revoked.specs.bcder_values.Choices.{WritesOptional}
-use Rattle.certs_revoked.specs.bcder_values.Writable.{Writable}
+use Rattle.certs_x509.specs.bcder_primitive.Encoded.{NoText, WritesBoth, WritesPlain, WritesWrapped}
+use Rattle.certs_x509.specs.bcder_primitive.Integers.{WritesUnsigned}
+use Rattle.certs_x509.specs.bcder_values.Captures.{CapturedText}
+use Rattle.certs_x509.specs.bcder_values.Choices.{WritesOptional}
+use Rattle.certs_x509.specs.bcder_values.Writable.{Writable}
 use Rattle.bcder.specs.bcder_octets.Segments.{WritesString}
 use Rattle.bcder.specs.bcder_octets.Wrapping.{WritesAround}
 use Rattle.certs_crl.specs.certs_basics.Identifiers as id
 use Rattle.certs_crl.specs.certs_basics.Forms.{WritesTime}
 use Rattle.certs_basics.proofs.Meanings.{one_written}
 use Rattle.certs_key.specs.Algorithms.{AlgorithmValue, algorithm_of, x509_algorithm}
-use Rattle.certs_revoked.specs.bcder_number.Integers.{IsNatural}
-use Rattle.certs_revoked.specs.EntryForms.{WritesMoment, same_parts}
-use Rattle.certs_revoked.specs.certs_extension.CrlText.{TbsListValue}
+use Rattle.certs_x509.specs.bcder_number.Integers.{IsNatural}
+use Rattle.certs_x509.specs.EntryForms.{WritesMoment, same_parts}
+use Rattle.certs_x509.specs.certs_extension.CrlText.{TbsListValue}
 use Rattle.certs_crl.specs.Written.{WritesCrlNumber, WritesExtension, WritesKey, WritesListExtensions, WritesName, WritesTbsList}
 use Rattle.certs_crl.proofs.Writing.{around_as, both_as, plain_as, unsigned_as, wrapped_as}
 

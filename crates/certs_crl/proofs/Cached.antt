@@ -2,9 +2,9 @@
 use Rattle.std.proofs.Common.{◌≡◌, ◌<◌, ◌↔◌, ℕ, Bool, IsTrue, List, Option, Some, inr, sym, subst, length}
 use Rattle.std.specs.List.Sorted.{IsStrictlyIncreasing}
 use Rattle.std.specs.Prelude.{Contains, MatchOption, slice_index}
-use Rattle.certs_revoked.specs.resources_chain.Rows.{Looks}
-use Rattle.certs_revoked.specs.Listed.{IsListed}
-use Rattle.certs_revoked.specs.certs_extension.CrlText.{CrlValue, IsOn, RevokedValue}
+use Rattle.certs_x509.specs.resources_chain.Rows.{Looks}
+use Rattle.certs_x509.specs.Listed.{IsListed}
+use Rattle.certs_x509.specs.certs_extension.CrlText.{CrlValue, IsOn, RevokedValue}
 use Rattle.certs_crl.specs.Caches.{IsCache, IsCached, IsPositioned}
 
 pub listed_tells : {b : Bool} (c : CrlValue) {entries : List RevokedValue} {n : ℕ} → entries ≡ c.tbs.revoked → (IsTrue b ↔ IsListed entries n) → IsTrue b ↔ IsOn c n

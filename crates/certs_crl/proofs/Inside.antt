@@ -1,6 +1,6 @@
 -- A list's value by the fields of its struct.
 use Rattle.certs_crl.specs.declared.tbs.TbsCertList.TheInside.{Inside}
-use Rattle.certs_revoked.specs.certs_extension.CrlText.{TbsListValue}
+use Rattle.certs_x509.specs.certs_extension.CrlText.{TbsListValue}
 
 abbrev pub list_of : Inside → TbsListValue
 list_of t = record {

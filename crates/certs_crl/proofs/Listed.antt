@@ -14,10 +14,10 @@ use Rattle.certs_crl.proofs.of_bcder_content.Took.{one_took}
 use Rattle.certs_crl.proofs.of_bcder_content.Unique.{end_one, inside_one, inside_tagged, many_one, opt_one, same_trees, same_values, such_one, then_one}
 use Rattle.certs_crl.specs.certs_basics.Basics.{IsAlgorithm}
 use Rattle.certs_basics.proofs.Values.{algorithm_one}
-use Rattle.certs_revoked.proofs.of_certs_extension.Values.{extension_one}
-use Rattle.certs_revoked.specs.Listing.{entry_one}
-use Rattle.certs_revoked.specs.certs_extension.CrlText.{AreRevoked, HasListExtensions, IsTbsList, IsTbsListBody, ListFields, RevokedValue, TbsListValue}
-use Rattle.certs_revoked.specs.certs_extension.Extensions.{Extension, IsExtension}
+use Rattle.certs_x509.proofs.of_certs_extension.Values.{extension_one}
+use Rattle.certs_x509.specs.Listing.{entry_one}
+use Rattle.certs_x509.specs.certs_extension.CrlText.{AreRevoked, HasListExtensions, IsTbsList, IsTbsListBody, ListFields, RevokedValue, TbsListValue}
+use Rattle.certs_x509.specs.certs_extension.Extensions.{Extension, IsExtension}
 use Rattle.certs_crl.specs.Reading.{Finishes, IsOfList, IsPair, IsRead, IsReadBody, IsTail, Pair, ReadFields, SaysBoth, SaysRead, TailFields, list_of, pair_of}
 use Rattle.certs_crl.proofs.Pairs.{both_known}
 

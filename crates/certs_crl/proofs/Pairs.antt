@@ -16,10 +16,10 @@ use Rattle.certs_crl.specs.bcder_tree.declared.mode.Mode.{Mode}
 use Rattle.certs_crl.specs.bcder_tree.declared.mode.Mode.TheVariants.{Der}
 use Rattle.certs_crl.specs.bcder_tree.Front.{Front}
 use Rattle.certs_crl.specs.certs_basics.Basics.{IsSerial}
-use Rattle.certs_revoked.specs.certs_extension.Extensions.{Extension, IsAuthority, IsAuthorityKeyIdentifier, IsExtension, IsOptional, May}
+use Rattle.certs_x509.specs.certs_extension.Extensions.{Extension, IsAuthority, IsAuthorityKeyIdentifier, IsExtension, IsOptional, May}
 use Rattle.certs_crl.specs.Invalid.{TellsInvalid}
 use Rattle.certs_crl.specs.Reading.{AreFronts, IsListExtension, IsOfList, ReadsBoth, ReadsFronts, SaysBoth}
-use Rattle.certs_revoked.proofs.of_certs_extension.Values.{extension_one}
+use Rattle.certs_x509.proofs.of_certs_extension.Values.{extension_one}
 use Rattle.certs_crl.proofs.of_bcder_content.Choices.{such_refused}
 use Rattle.certs_crl.proofs.of_bcder_content.Fronts.{front_lacks, front_reads}
 use Rattle.certs_crl.proofs.of_bcder_content.InMode.{filled_end}

@@ -2,12 +2,12 @@
 use Rattle.std.proofs.Common.{◌≡◌, ◌≢◌, ℕ, List, [], Result, Ok, Err, IfErr, refl}
 use Rattle.std.proofs.Math.Logic.{∥∥₁_elim, ∥∥₁_prop}
 use Rattle.certs_crl.specs.bcder_tree.declared.mode.Mode.TheVariants.{Der}
-use Rattle.certs_revoked.specs.bcder_values.Writable.{Writable}
-use Rattle.certs_revoked.specs.bcder_written.declared.error.EncodeError.{EncodeError}
-use Rattle.certs_revoked.specs.bcder_written.declared.error.EncodeError.TheVariants as causes
+use Rattle.certs_x509.specs.bcder_values.Writable.{Writable}
+use Rattle.certs_x509.specs.bcder_primitive.declared.written.error.EncodeError.{EncodeError}
+use Rattle.certs_x509.specs.bcder_primitive.declared.written.error.EncodeError.TheVariants as causes
 use Rattle.certs_key.specs.declared.signer.SigningError.{SigningError}
 use Rattle.certs_key.specs.declared.signer.SigningError.TheVariants as errors
-use Rattle.certs_revoked.specs.certs_extension.CrlText.{TbsListValue}
+use Rattle.certs_x509.specs.certs_extension.CrlText.{TbsListValue}
 use Rattle.certs_crl.specs.Signing.{CanBeWritten, CannotBeWritten, LacksText, NotWritten, SigningRefused}
 use Rattle.certs_crl.specs.Written.{WritesTbsList}
 

@@ -7,9 +7,9 @@ use Rattle.certs_crl.specs.bcder_source.declared.error.DecodeError.{DecodeError}
 use Rattle.certs_crl.specs.bcder_content.Exact.{DecodesAs}
 use Rattle.certs_crl.specs.bcder_content.Texts.{InOrder, Joins, NoOctets, Wraps}
 use Rattle.certs_crl.proofs.of_bcder_content.Taking.{weaker}
-use Rattle.certs_revoked.specs.certs_extension.Calls.{DecodesCrl}
-use Rattle.certs_revoked.specs.certs_extension.CrlText.{CrlValue, IsCrl, ListFields, SpellsCrl, SpellsListFields}
-use Rattle.certs_revoked.specs.certs_extension.Spellings.{CrlIsSpelled}
+use Rattle.certs_x509.specs.certs_extension.Calls.{DecodesCrl}
+use Rattle.certs_x509.specs.certs_extension.CrlText.{CrlValue, IsCrl, ListFields, SpellsCrl, SpellsListFields}
+use Rattle.certs_x509.specs.certs_extension.Spellings.{CrlIsSpelled}
 
 -- The octets spell a tree; they spell trees, one after the other.
 record HasTree (text : List ℕ) : Type 0 where

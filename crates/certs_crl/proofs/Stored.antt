@@ -1,6 +1,6 @@
 -- Lists are searched for the first under a URI.
 use Rattle.std.proofs.Common.{◌≡◌, ℕ, List, [], ◌∷◌, ◌++◌, refl, sym, ap, ◌∙◌, subst, append-nil, append_assoc, length, arith}
-use Rattle.certs_revoked.specs.certs_extension.CrlText.{CrlValue}
+use Rattle.certs_x509.specs.certs_extension.CrlText.{CrlValue}
 use Rattle.certs_crl.specs.Store.{IsFirstUnder, NoneUnder}
 
 -- Those that were passed over stand under other URIs.

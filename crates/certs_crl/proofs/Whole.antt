@@ -14,10 +14,10 @@ use Rattle.certs_crl.proofs.of_bcder_content.Keeping.{front_all}
 use Rattle.certs_crl.proofs.of_bcder_content.Taking.{weaker}
 use Rattle.certs_crl.proofs.of_bcder_content.Unique.{same_trees}
 use Rattle.certs_x509.proofs.of_bcder_content.Within.{AllWithin, all_gives, all_unfit}
-use Rattle.certs_revoked.proofs.of_bcder_tree.Trees.{one_tree}
+use Rattle.certs_x509.proofs.of_bcder_tree.Trees.{one_tree}
 use Rattle.certs_basics.proofs.Values.{algorithm_one}
 use Rattle.certs_x509.specs.Signed.{SignedDataValue, signed_content, signed_fields}
-use Rattle.certs_revoked.specs.certs_extension.CrlText.{CrlValue, IsCrl, IsTbsList, TbsListValue}
+use Rattle.certs_x509.specs.certs_extension.CrlText.{CrlValue, IsCrl, IsTbsList, TbsListValue}
 use Rattle.certs_crl.specs.Whole.{AreCrl, signed_of}
 use Rattle.certs_crl.proofs.Listed.{same_null}
 

@@ -7,12 +7,12 @@ use Rattle.certs_crl.specs.bcder_tree.declared.mode.Mode.TheVariants.{Der}
 use Rattle.certs_crl.specs.bcder_tree.Strings.{octet_string_tag}
 use Rattle.certs_crl.specs.bcder_tree.Tags.{TagValue, context, integer_tag, oid_tag, sequence_tag}
 use Rattle.certs_crl.specs.bcder_tree.Tree.{primitive}
-use Rattle.certs_revoked.specs.bcder_primitive.Values.{AnyOctets}
+use Rattle.certs_x509.specs.bcder_primitive.Values.{AnyOctets}
 use Rattle.certs_crl.specs.bcder_content.Kept.{CapturedValue}
-use Rattle.certs_revoked.specs.bcder_written.Encoded.{WritesBoth, WritesPlain, WritesWrapped}
-use Rattle.certs_revoked.specs.bcder_written.Integers.{WritesUnsigned}
-use Rattle.certs_revoked.specs.bcder_values.Captures.{CapturedText}
-use Rattle.certs_revoked.specs.bcder_values.Choices.{WritesOptional}
+use Rattle.certs_x509.specs.bcder_primitive.Encoded.{WritesBoth, WritesPlain, WritesWrapped}
+use Rattle.certs_x509.specs.bcder_primitive.Integers.{WritesUnsigned}
+use Rattle.certs_x509.specs.bcder_values.Captures.{CapturedText}
+use Rattle.certs_x509.specs.bcder_values.Choices.{WritesOptional}
 use Rattle.bcder.specs.bcder_octets.Segments.{WritesString}
 use Rattle.bcder.specs.bcder_octets.Wrapping.{WritesAround}
 use Rattle.certs_crl.specs.certs_basics.Basics.{IsTwentyLong}
@@ -20,9 +20,9 @@ use Rattle.certs_crl.specs.certs_basics.Identifiers as id
 use Rattle.certs_crl.specs.certs_basics.Forms.{WritesTime}
 use Rattle.certs_key.specs.Algorithms.{AlgorithmValue, algorithm_of, x509_algorithm}
 use Rattle.certs_name.specs.Named.{IsNamed}
-use Rattle.certs_revoked.specs.bcder_number.Integers.{IsNatural}
-use Rattle.certs_revoked.specs.Listed.{SpellsEntries}
-use Rattle.certs_revoked.specs.certs_extension.CrlText.{RevokedValue, TbsListValue}
+use Rattle.certs_x509.specs.bcder_number.Integers.{IsNatural}
+use Rattle.certs_x509.specs.Listed.{SpellsEntries}
+use Rattle.certs_x509.specs.certs_extension.CrlText.{RevokedValue, TbsListValue}
 use Rattle.certs_crl.specs.Written.{WritesCrlNumber, WritesExtension, WritesKey, WritesListExtensions, WritesRevoked, WritesTbsList}
 
 -- Words: another text for the same parts.

@@ -1,9 +1,9 @@
 -- The serial numbers of a list, kept aside.
 use Rattle.std.specs.Prelude.{◌≡◌, ◌<◌, ◌↔◌, ◌⊎◌, ℕ, List, Option, Some, None, Contains, MatchOption, length, slice_index}
 use Rattle.std.specs.List.Sorted.{IsStrictlyIncreasing}
-use Rattle.certs_revoked.specs.Listed.{IsListed}
-use Rattle.certs_revoked.specs.resources_chain.Rows.{Looks}
-use Rattle.certs_revoked.specs.certs_extension.CrlText.{RevokedValue}
+use Rattle.certs_x509.specs.Listed.{IsListed}
+use Rattle.certs_x509.specs.resources_chain.Rows.{Looks}
+use Rattle.certs_x509.specs.certs_extension.CrlText.{RevokedValue}
 
 -- The numbers of the list, each once, ascending.
 pub record IsCache (entries : List RevokedValue) (cache : List ℕ) : Type 0 where

@@ -4,7 +4,7 @@ use Rattle.certs_crl.specs.bcder_source.declared.error.ContentError.{ContentErro
 use Rattle.certs_crl.specs.bcder_source.declared.error.ContentError.TheVariants.{Static, Owned, ExpectedTag, ExpectedInteger}
 use Rattle.certs_crl.specs.bcder_source.declared.error.DecodeError.{DecodeError}
 use Rattle.certs_crl.specs.bcder_source.declared.error.DecodeError.TheVariants.{Content, Source, Memory}
-use Rattle.certs_revoked.specs.bcder_oid.Printed.{oid_text}
+use Rattle.certs_x509.specs.bcder.Printed.{oid_text}
 
 -- `invalid extension `, and the components of the identifier in decimal digits, with dots between them.
 abbrev pub invalid_text : List ℕ → List ℕ

@@ -8,6 +8,6 @@ pub mod Invalid
 pub mod Lending
 -- What stands below, for the crates above.
 pub use Rattle.certs_x509.specs.bcder_source as bcder_source
-pub use Rattle.certs_revoked.specs.bcder_content as bcder_content
-pub use Rattle.certs_revoked.specs.bcder_tree as bcder_tree
-pub use Rattle.certs_revoked.specs.certs_basics as certs_basics
+pub use Rattle.certs_x509.specs.bcder_content as bcder_content
+pub use Rattle.certs_x509.specs.bcder_tree as bcder_tree
+pub use Rattle.certs_x509.specs.certs_basics as certs_basics

@@ -14,9 +14,9 @@ use Rattle.certs_crl.specs.certs_basics.Names.{IsKeptName}
 use Rattle.certs_crl.specs.certs_basics.Forms.{IsTime}
 use Rattle.certs_extension.specs.Raw.{extension_value}
 use Rattle.certs_extension.specs.declared.extension.Extension.{Extension as Raw}
-use Rattle.certs_revoked.specs.certs_extension.CertText.{IsVersion}
-use Rattle.certs_revoked.specs.certs_extension.CrlText.{AreRevoked, RevokedValue, TbsListValue, entries}
-use Rattle.certs_revoked.specs.certs_extension.Extensions.{Extension, IsAuthorityKeyIdentifier, IsExtension, IsOptional, May, of_kind}
+use Rattle.certs_x509.specs.certs_extension.CertText.{IsVersion}
+use Rattle.certs_x509.specs.certs_extension.CrlText.{AreRevoked, RevokedValue, TbsListValue, entries}
+use Rattle.certs_x509.specs.certs_extension.Extensions.{Extension, IsAuthorityKeyIdentifier, IsExtension, IsOptional, May, of_kind}
 
 -- A value that stands alone in a content.
 abbrev pub alone : {A : Type 0} → A → A × Unit {0}

@@ -1,12 +1,12 @@
 -- What a refusal to write or to sign says of a list.
 use Rattle.std.specs.Prelude.{◌≡◌, ℕ, List, []}
 use Rattle.certs_crl.specs.bcder_tree.declared.mode.Mode.TheVariants.{Der}
-use Rattle.certs_revoked.specs.bcder_values.Writable.{Writable}
-use Rattle.certs_revoked.specs.bcder_written.declared.error.EncodeError.{EncodeError}
-use Rattle.certs_revoked.specs.bcder_written.declared.error.EncodeError.TheVariants as causes
+use Rattle.certs_x509.specs.bcder_values.Writable.{Writable}
+use Rattle.certs_x509.specs.bcder_primitive.declared.written.error.EncodeError.{EncodeError}
+use Rattle.certs_x509.specs.bcder_primitive.declared.written.error.EncodeError.TheVariants as causes
 use Rattle.certs_key.specs.declared.signer.SigningError.{SigningError}
 use Rattle.certs_key.specs.Refusing.{NotWrittenIf, SigningRefusedIf}
-use Rattle.certs_revoked.specs.certs_extension.CrlText.{TbsListValue}
+use Rattle.certs_x509.specs.certs_extension.CrlText.{TbsListValue}
 use Rattle.certs_crl.specs.Written.{WritesTbsList}
 
 -- Why values aren't written: there is no text of P whose octets can be counted. Memory is lacking for such a text alone.

@@ -1,6 +1,6 @@
 -- Revocation lists that are kept by their URIs.
 use Rattle.std.specs.Prelude.{◌≡◌, ℕ, Bool, List, [], ◌∷◌, ◌++◌}
-use Rattle.certs_revoked.specs.certs_extension.CrlText.{CrlValue}
+use Rattle.certs_x509.specs.certs_extension.CrlText.{CrlValue}
 
 -- The lists in the order in which they came, each with its URI, and whether serial numbers are kept aside.
 pub record StoreValue : Type 0 where

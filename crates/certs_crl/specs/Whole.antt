@@ -4,12 +4,12 @@ use Rattle.certs_crl.specs.bcder_tree.declared.mode.Mode.{Mode}
 use Rattle.certs_crl.specs.bcder_tree.Tree.{Trees}
 use Rattle.certs_crl.specs.bcder_content.Grammar.{End, OctetsOf, Then}
 use Rattle.certs_crl.specs.bcder_content.Words.{Kept}
-use Rattle.certs_x509.specs.bcder_bits.Bits.{BitsValue}
-use Rattle.certs_x509.specs.bcder_bits.Contents.{IsBitString, bit_string_tag}
+use Rattle.certs_x509.specs.bcder_octets.Bits.{BitsValue}
+use Rattle.certs_x509.specs.bcder_octets.BitContents.{IsBitString, bit_string_tag}
 use Rattle.certs_crl.specs.certs_basics.Basics.{IsAlgorithm}
 use Rattle.certs_x509.specs.Signed.{SignedDataValue}
-use Rattle.certs_revoked.specs.certs_extension.Cert.{SignedValue}
-use Rattle.certs_revoked.specs.certs_extension.CrlText.{CrlValue, IsTbsList, TbsListValue, as_crl}
+use Rattle.certs_x509.specs.certs_extension.Cert.{SignedValue}
+use Rattle.certs_x509.specs.certs_extension.CrlText.{CrlValue, IsTbsList, TbsListValue, as_crl}
 
 -- The octets that are signed, whether NULL stands in the outer algorithm, and the octets of the signature.
 abbrev pub signed_of : SignedDataValue → SignedValue

@@ -5,21 +5,21 @@ use Rattle.certs_crl.specs.bcder_tree.declared.mode.Mode.{Mode}
 use Rattle.certs_crl.specs.bcder_tree.declared.mode.Mode.TheVariants.{Der}
 use Rattle.certs_crl.specs.bcder_tree.Tags.{context, integer_tag, oid_tag, sequence_tag}
 use Rattle.certs_crl.specs.bcder_tree.Strings.{octet_string_tag}
-use Rattle.certs_revoked.specs.bcder_primitive.Values.{AnyOctets}
+use Rattle.certs_x509.specs.bcder_primitive.Values.{AnyOctets}
 use Rattle.certs_crl.specs.bcder_content.Kept.{CapturedValue}
-use Rattle.certs_revoked.specs.bcder_written.Encoded.{NoText, WritesBoth, WritesPlain, WritesWrapped}
-use Rattle.certs_revoked.specs.bcder_written.Integers.{WritesUnsigned}
-use Rattle.certs_revoked.specs.bcder_values.Captures.{CapturedText}
+use Rattle.certs_x509.specs.bcder_primitive.Encoded.{NoText, WritesBoth, WritesPlain, WritesWrapped}
+use Rattle.certs_x509.specs.bcder_primitive.Integers.{WritesUnsigned}
+use Rattle.certs_x509.specs.bcder_values.Captures.{CapturedText}
 use Rattle.bcder.specs.bcder_octets.Segments.{WritesString}
 use Rattle.bcder.specs.bcder_octets.Wrapping.{WritesAround}
 use Rattle.certs_crl.specs.certs_basics.Basics.{IsTwentyLong}
 use Rattle.certs_crl.specs.certs_basics.Identifiers as id
 use Rattle.certs_key.specs.Algorithms.{x509_algorithm}
 use Rattle.certs_name.specs.Named.{IsNamed}
-use Rattle.certs_revoked.specs.EntryForms.{WritesMoment, serial}
-use Rattle.certs_revoked.specs.Listed.{SpellsEntries}
-use Rattle.certs_revoked.specs.certs_extension.CrlText.{CrlValue, RevokedValue, TbsListValue}
-use Rattle.certs_x509.specs.bcder_bits.Contents.{padded_in}
+use Rattle.certs_x509.specs.EntryForms.{WritesMoment, serial}
+use Rattle.certs_x509.specs.Listed.{SpellsEntries}
+use Rattle.certs_x509.specs.certs_extension.CrlText.{CrlValue, RevokedValue, TbsListValue}
+use Rattle.certs_x509.specs.bcder_octets.BitContents.{padded_in}
 use Rattle.certs_x509.specs.Signed.{SignedDataValue, signed, signed_fields}
 use Rattle.certs_crl.specs.Whole.{signed_of}
 

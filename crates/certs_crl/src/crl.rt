@@ -5,13 +5,13 @@ ghost use Rattle.certs_crl.specs.bcder_tree.declared.mode.Mode.TheVariants.{Der}
 ghost use Rattle.certs_crl.specs.Caches.{IsCache, IsPositioned};
 ghost use Rattle.certs_crl.specs.Whole.{signed_of};
 ghost use Rattle.certs_crl.specs.Written.{WritesCrl};
-ghost use Rattle.certs_revoked.specs.certs_extension.CrlText.{IsOn};
+ghost use Rattle.certs_x509.specs.certs_extension.CrlText.{IsOn};
 
 use crate::tbs::TbsCertList;
 use bcder::encode::{EncodeError, Values};
 use bcder::{Captured, Mode};
 use certs_name::Serial;
-use certs_revoked::SerialCache;
+use certs_x509::revoked::SerialCache;
 use certs_x509::signed::{
     PublicKey, SignatureVerificationError, SignedData, SignedDataValues, Verifier,
 };
@@ -28,7 +28,7 @@ pub struct Crl {
 }
 
 impl Model for Crl {
-    ghost use Rattle.certs_revoked.specs.certs_extension.CrlText.{CrlValue};
+    ghost use Rattle.certs_x509.specs.certs_extension.CrlText.{CrlValue};
     ghost use Rattle.certs_crl.specs.Caches.{IsCached};
     ghost use Rattle.certs_crl.specs.Whole.{signed_of};
 

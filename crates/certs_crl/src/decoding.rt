@@ -8,14 +8,14 @@ ghost use Rattle.certs_crl.specs.bcder_content.Here.{here};
 ghost use Rattle.certs_crl.specs.bcder_content.InMode.{ReadsFields};
 ghost use Rattle.certs_crl.specs.bcder_tree.Tags.{sequence_tag};
 ghost use Rattle.certs_crl.specs.Whole.{AreCrl};
-ghost use Rattle.certs_revoked.specs.certs_extension.Calls.{DecodesCrl};
-ghost use Rattle.certs_revoked.specs.certs_extension.CrlText.{IsCrl, IsTbsList};
+ghost use Rattle.certs_x509.specs.certs_extension.Calls.{DecodesCrl};
+ghost use Rattle.certs_x509.specs.certs_extension.CrlText.{IsCrl, IsTbsList};
 
 use crate::crl::Crl;
 use crate::tbs::TbsCertList;
 use bcder::decode::{Constructed, ContentError, Decode, DecodeError, IntoSource, Source};
 use bcder::{Captured, Mode};
-use certs_revoked::crl_is_spelled;
+use certs_x509::revoked::crl_is_spelled;
 use certs_x509::signed::SignedData;
 use std::alloc::{AllocError, Global};
 use std::convert::Infallible;

@@ -13,7 +13,7 @@ ghost use Rattle.certs_crl.specs.certs_basics.Identifiers as id;
 ghost use Rattle.certs_crl.specs.Invalid.{IsMadeOrFixed, TellsInvalid};
 ghost use Rattle.certs_crl.specs.Reading.{IsListExtension, IsNoMore, IsOfList, IsPair, IsPaired, ReadsBoth, ReadsFronts, alone, pair_fields};
 ghost use Rattle.certs_extension.specs.Raw.{extension_value};
-ghost use Rattle.certs_revoked.specs.certs_extension.Extensions.{IsAuthority};
+ghost use Rattle.certs_x509.specs.certs_extension.Extensions.{IsAuthority};
 
 use crate::invalid::InvalidExtension;
 use bcder::decode::{Constructed, ContentError, Decode, DecodeError, Pos, Source};

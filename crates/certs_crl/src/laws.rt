@@ -3,12 +3,12 @@
 ghost use Rattle.std.specs.Prelude.{◌≡◌, ℕ, List};
 ghost use Rattle.certs_crl.specs.bcder_tree.declared.mode.Mode.{Mode as ModeValue};
 ghost use Rattle.certs_crl.specs.bcder_content.Grammar.{End, Then};
-ghost use Rattle.certs_revoked.specs.bcder_values.Returns.{ReadAgain};
-ghost use Rattle.certs_revoked.specs.certs_extension.CrlText.{CrlText, CrlValue, IsTbsList, TbsListValue};
+ghost use Rattle.certs_x509.specs.bcder_values.Returns.{ReadAgain};
+ghost use Rattle.certs_x509.specs.certs_extension.CrlText.{CrlText, CrlValue, IsTbsList, TbsListValue};
 ghost use Rattle.certs_crl.specs.Written.{WritesCrl, WritesTbsList, padded_again, read_in};
 ghost use Rattle.certs_crl.specs.bcder_tree.declared.mode.Mode.TheVariants.{Der};
 
-use certs_revoked::crl_is_spelled;
+use certs_x509::revoked::crl_is_spelled;
 
 /// What is written of a list's fields is read again as these fields, in each mode; the name's octets stand in that mode.
 pub fn fields_are_read_again()

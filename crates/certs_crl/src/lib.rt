@@ -27,7 +27,9 @@ pub mod written;
 pub use bcder::decode;
 pub use certs_basics::time::Time;
 pub use certs_key::{Signer, SigningError};
-pub use certs_revoked::{CrlEntry, RevokedCertificates, RevokedCertificatesIter, SerialCache};
+pub use certs_x509::revoked::{
+    CrlEntry, RevokedCertificates, RevokedCertificatesIter, SerialCache,
+};
 pub use crl::Crl;
 pub use invalid::InvalidExtension;
 pub use store::CrlStore;

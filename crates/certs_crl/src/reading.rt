@@ -5,7 +5,7 @@ ghost use Rattle.certs_crl.specs.bcder_content.Exact.{ReadsAs};
 ghost use Rattle.certs_crl.specs.bcder_content.Here.{here};
 ghost use Rattle.certs_crl.specs.bcder_content.InMode.{ReadsFields};
 ghost use Rattle.certs_crl.specs.Reading.{Finishes, IsRead, IsReadBody, IsTail, read_fields, tail_fields};
-ghost use Rattle.certs_revoked.specs.certs_extension.CrlText.{IsTbsList, entries};
+ghost use Rattle.certs_x509.specs.certs_extension.CrlText.{IsTbsList, entries};
 
 use crate::extensions::{Pair, said_by, take_extensions};
 use crate::tbs::TbsCertList;
@@ -13,7 +13,7 @@ use bcder::decode::{Constructed, DecodeError, Source};
 use certs_basics::time::Time;
 use certs_key::algorithm::{RpkiSignatureAlgorithm, SignatureAlgorithm};
 use certs_name::Name;
-use certs_revoked::RevokedCertificates;
+use certs_x509::revoked::RevokedCertificates;
 use std::alloc::Global;
 use std::convert::Infallible;
 

@@ -8,7 +8,7 @@ use crate::tbs::TbsCertList;
 use certs_basics::time::Time;
 use certs_key::algorithm::RpkiSignatureAlgorithm;
 use certs_name::{Name, Serial};
-use certs_revoked::RevokedCertificates;
+use certs_x509::revoked::RevokedCertificates;
 use certs_x509::signed::KeyIdentifier;
 
 impl TbsCertList {

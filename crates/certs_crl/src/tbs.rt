@@ -5,7 +5,7 @@ ghost use Rattle.std.specs.Prelude.{◌≡◌, ◌<◌, ◌↔◌, IsTrue};
 use certs_basics::time::Time;
 use certs_key::algorithm::RpkiSignatureAlgorithm;
 use certs_name::{Name, Serial};
-use certs_revoked::RevokedCertificates;
+use certs_x509::revoked::RevokedCertificates;
 use certs_x509::signed::KeyIdentifier;
 use std::alloc::AllocError;
 use std::marker::Model;
@@ -24,7 +24,7 @@ pub struct TbsCertList {
 }
 
 impl Model for TbsCertList {
-    ghost use Rattle.certs_revoked.specs.certs_extension.CrlText.{TbsListValue};
+    ghost use Rattle.certs_x509.specs.certs_extension.CrlText.{TbsListValue};
 
     ghost Value = { TbsListValue };
 

@@ -3,7 +3,7 @@
 ghost use Rattle.std.specs.Prelude.{◌≡◌, ◌<◌, ◌^◌, ℕ, List, []};
 ghost use Rattle.certs_crl.specs.bcder_tree.declared.mode.Mode.{Mode as ModeValue};
 ghost use Rattle.certs_crl.specs.bcder_tree.declared.mode.Mode.TheVariants.{Der};
-ghost use Rattle.certs_revoked.specs.bcder_values.Writable.{Writable};
+ghost use Rattle.certs_x509.specs.bcder_values.Writable.{Writable};
 ghost use Rattle.certs_crl.specs.certs_basics.Basics.{IsTwentyLong};
 ghost use Rattle.certs_crl.specs.certs_basics.Identifiers as id;
 ghost use Rattle.certs_crl.specs.Written.{WritesCrlNumber, WritesExtension, WritesKey, WritesListExtensions, WritesTbsList};
@@ -17,7 +17,7 @@ use bcder::{ConstOid, Mode, Tag};
 use certs_basics::time::text::VariedTime;
 use certs_key::algorithm::{AlgorithmIdentifier, SignatureAlgorithm};
 use certs_name::{Name, Serial};
-use certs_revoked::revoked::RevokedValues;
+use certs_x509::revoked::revoked::RevokedValues;
 use certs_x509::signed::KeyIdentifier;
 
 // The number that stands for version 2 (RFC 5280 5.1.2.1).

@@ -5,10 +5,10 @@ use Rattle.certs_extension.specs.bcder_tree.declared.mode.Mode.TheVariants.{Der}
 use Rattle.certs_extension.specs.bcder_content.Grammar.{One, OneAll}
 use Rattle.certs_extension.specs.bcder_content.Kept.{CapturedValue}
 use Rattle.certs_extension.proofs.of_bcder_content.Unique.{octets_one, inside_one, inside_tagged, then_one, opt_one, many_one, end_one, as_one}
-use Rattle.certs_extension.proofs.of_bcder_bits.Readings.{bit_string_one}
+use Rattle.certs_extension.proofs.of_bcder_octets.BitReadings.{bit_string_one}
 use Rattle.certs_extension.specs.resources_chain.declared.claims.Overclaim.{Overclaim}
 use Rattle.certs_extension.specs.resources_chain.Claims.{Choice}
-use Rattle.certs_extension.specs.resources_policy.Identifiers.{ip_octets, as_octets}
+use Rattle.certs_extension.specs.resources_as.Identifiers.{ip_octets, as_octets}
 use Rattle.certs_extension.specs.resources_ip.Encodings.{IsIpAddrBlocks, FamilyChoices}
 use Rattle.certs_extension.specs.resources_ip.Meanings.{one_of_families}
 use Rattle.certs_extension.specs.resources_as.Meanings.{resources_one}

@@ -8,7 +8,7 @@ use Rattle.certs_extension.specs.bcder_content.Grammar.{One, Tagged}
 use Rattle.certs_extension.specs.bcder_content.Words.{Gathers}
 use Rattle.certs_extension.proofs.of_bcder_content.Unique.{as_one, as_tagged, end_one, inside_one, inside_tagged, many_one, octets_one, then_one}
 use Rattle.certs_basics.proofs.Values.{then_by_one}
-use Rattle.certs_extension.proofs.of_bcder_oid.Read.{oid_one}
+use Rattle.certs_extension.proofs.of_bcder.Read.{oid_one}
 use Rattle.certs_extension.specs.Access.{AccessValue, AreAccess, AreLocation, Entry, IsEntry, IsFirst, of_known, of_other}
 use Rattle.certs_extension.specs.Found.{Adds, AddsEntry, SaysSoFar}
 use Rattle.certs_extension.proofs.OneRsync.{name_one}

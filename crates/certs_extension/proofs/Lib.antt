@@ -12,12 +12,10 @@ mod Finished
 mod Lists
 mod SlotLaws
 pub mod Whole
-pub mod of_bcder_strings
-pub mod of_certs_basics
-pub mod of_bcder_tree
-pub mod of_bcder_bits
-pub mod of_bcder_oid
+pub mod of_bcder
 pub mod of_bcder_content
 pub mod of_bcder_octets
+pub mod of_bcder_tree
 pub mod of_bcder_values
+pub mod of_certs_basics
 pub mod of_certs_key

@@ -4,11 +4,11 @@ use Rattle.certs_extension.specs.bcder_tree.declared.mode.Mode.{Mode}
 use Rattle.certs_extension.specs.bcder_tree.Tags.{TagValue, sequence_tag}
 use Rattle.certs_extension.specs.bcder_tree.Tree.{Trees}
 use Rattle.certs_extension.specs.bcder_values.Lists.{AreAll, WritesAll}
-use Rattle.certs_extension.specs.bcder_written.Encoded.{AreBoth, WritesBoth, IsWrapped, WritesWrapped}
-use Rattle.certs_extension.specs.bcder_written.declared.error.EncodeError.{EncodeError}
-use Rattle.certs_extension.specs.bcder_written.Writing.{HasLength, CannotWrite, Wrote, WriteRefused}
+use Rattle.certs_extension.specs.bcder_primitive.Encoded.{AreBoth, WritesBoth, IsWrapped, WritesWrapped}
+use Rattle.certs_extension.specs.bcder_primitive.declared.written.error.EncodeError.{EncodeError}
+use Rattle.certs_extension.specs.bcder_primitive.Writing.{HasLength, CannotWrite, Wrote, WriteRefused}
 use Rattle.certs_extension.specs.bcder.Kinds.{oid}
-use Rattle.certs_extension.specs.bcder_oid.declared.oid.Oid.{Oid}
+use Rattle.certs_extension.specs.bcder.declared.oid.oid.Oid.{Oid}
 use Rattle.certs_extension.specs.Purposes.{lends, listed, purposes, purpose_octets}
 use Rattle.certs_extension.proofs.of_bcder_values.Lent.{len_lent, len_refused, write_lent, write_refused}
 

@@ -9,7 +9,7 @@ use Rattle.certs_extension.specs.bcder_content.Grammar.{One, Tagged}
 use Rattle.certs_extension.specs.bcder_content.Words.{Gathers}
 use Rattle.certs_extension.proofs.of_bcder_content.Unique.{many_one}
 use Rattle.certs_extension.proofs.of_bcder_octets.Meaning.{one_string}
-use Rattle.certs_extension.proofs.of_bcder_strings.Texts.{text_tagged}
+use Rattle.certs_extension.proofs.of_bcder.Texts.{text_tagged}
 use Rattle.certs_basics.specs.Lists.{Each}
 use Rattle.certs_extension.specs.Names.{HasOneRsync}
 use Rattle.certs_basics.specs.Uris.{IsRsync}

@@ -10,8 +10,8 @@ use Rattle.certs_extension.specs.bcder_content.Grammar.{Inside, OctetsOf, Then, 
 use Rattle.certs_extension.specs.bcder_content.Kept.{CapturedValue}
 use Rattle.certs_extension.specs.bcder_content.Words.{Kept}
 use Rattle.certs_extension.specs.bcder_content.Texts.{SpellsOf, InOrder, WithOctets, Wraps, Joins, NoOctets}
-use Rattle.certs_extension.specs.bcder_bits.Bits.{BitsValue}
-use Rattle.certs_extension.specs.bcder_bits.Contents.{IsBitString, bit_string_tag}
+use Rattle.certs_extension.specs.bcder_octets.Bits.{BitsValue}
+use Rattle.certs_extension.specs.bcder_octets.BitContents.{IsBitString, bit_string_tag}
 use Rattle.certs_extension.specs.certs_basics.Basics.{IsAlgorithm}
 use Rattle.certs_extension.specs.certs_basics.Names.{IsKeptName, SpellsName}
 use Rattle.certs_extension.specs.CertText.{IsTbsBody, IsTbs, SpellsFields, SpellsTbs, SpellsSigned}

@@ -8,12 +8,12 @@ use Rattle.certs_extension.specs.bcder_tree.Strings.{octet_string_tag}
 use Rattle.certs_extension.specs.bcder_content.Grammar.{One, OneOctets}
 use Rattle.certs_extension.proofs.of_bcder_content.Unique.{octets_one, octets_tagged, inside_one, then_one, default_one, end_one, rest_one, as_one, one_of_one}
 use Rattle.certs_extension.proofs.of_bcder_content.Choices.{universal_apart}
-use Rattle.certs_extension.proofs.of_bcder_oid.Read.{oid_one}
-use Rattle.certs_extension.specs.bcder_bits.Bits.{BitsValue}
-use Rattle.certs_extension.proofs.of_bcder_bits.Readings.{bit_string_one}
+use Rattle.certs_extension.proofs.of_bcder.Read.{oid_one}
+use Rattle.certs_extension.specs.bcder_octets.Bits.{BitsValue}
+use Rattle.certs_extension.proofs.of_bcder_octets.BitReadings.{bit_string_one}
 use Rattle.certs_extension.specs.resources_chain.declared.claims.Overclaim.{Overclaim}
 use Rattle.certs_extension.specs.resources_chain.declared.claims.Overclaim.TheVariants.{Refuse, Trim}
-use Rattle.certs_extension.specs.resources_policy.Identifiers.{policy_octets}
+use Rattle.certs_extension.specs.resources_as.Identifiers.{policy_octets}
 use Rattle.certs_basics.specs.Times.{Civil, IsReal, IsMoment, digits, moment_text, seconds_of}
 use Rattle.certs_basics.proofs.Moments.{one_civil, one_moment}
 use Rattle.certs_extension.specs.declared.forms.KeyUsage.{KeyUsage}

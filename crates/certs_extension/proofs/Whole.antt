@@ -15,7 +15,7 @@ use Rattle.certs_extension.specs.resources_ip.Encodings.{FamilyChoices}
 use Rattle.certs_extension.specs.resources_ip.Meanings.{one_of_families}
 use Rattle.certs_extension.specs.resources_ip.Reading.{family_choices}
 use Rattle.certs_extension.specs.resources_ip.declared.resources.IpFamilies.{IpFamilies}
-use Rattle.certs_extension.specs.resources_policy.Identifiers.{as_octets, ip_octets}
+use Rattle.certs_extension.specs.resources_as.Identifiers.{as_octets, ip_octets}
 use Rattle.certs_extension.specs.CertAccess.{AccessValue, IsSubjectAccess}
 use Rattle.certs_extension.specs.Cert.{TbsValue}
 use Rattle.certs_extension.specs.CertText.{AreAsResources, AreIpResources, HasExtensions, IsAccess, other}

@@ -1,2 +1,3 @@
 -- Lemmas of bcder_octets, for the crates above.
+pub use Rattle.certs_basics.proofs.of_bcder_octets.BitReadings
 pub use Rattle.certs_basics.proofs.of_bcder_octets.Meaning

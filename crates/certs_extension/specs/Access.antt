@@ -5,7 +5,7 @@ use Rattle.certs_extension.specs.bcder_tree.Tags.{oid_tag, sequence_tag}
 use Rattle.certs_extension.specs.bcder_tree.Tree.{Tree, Trees}
 use Rattle.certs_extension.specs.bcder_content.Grammar.{Inside, OctetsOf, As, End, Then}
 use Rattle.certs_extension.specs.bcder_content.Words.{ThenBy, Gathers}
-use Rattle.certs_extension.specs.bcder_oid.Identifiers.{IsOid}
+use Rattle.certs_extension.specs.bcder.Identifiers.{IsOid}
 use Rattle.certs_basics.specs.Lists.{Mem}
 use Rattle.certs_basics.specs.Uris.{IsRsync, IsHttps}
 use Rattle.certs_extension.specs.Grammars.{IsName}

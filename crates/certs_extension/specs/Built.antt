@@ -5,10 +5,10 @@ use Rattle.certs_extension.specs.bcder_tree.Tags.{context, boolean_tag, integer_
 use Rattle.certs_extension.specs.bcder_tree.Tree.{Tree, primitive, constructed, none, more, Spells}
 use Rattle.certs_extension.specs.bcder_tree.Sequences.{sequence}
 use Rattle.certs_extension.specs.bcder_tree.Strings.{octet_string_tag}
-use Rattle.certs_extension.specs.bcder_bits.Contents.{bit_string_tag}
+use Rattle.certs_extension.specs.bcder_octets.BitContents.{bit_string_tag}
 use Rattle.certs_extension.specs.bcder_number.Integers.{IsNatural}
 use Rattle.certs_extension.specs.resources_chain.declared.choice.ResourcesChoice.TheVariants.{Missing}
-use Rattle.certs_extension.specs.resources_policy.Identifiers.{policy_octets, ip_octets, as_octets}
+use Rattle.certs_extension.specs.resources_as.Identifiers.{policy_octets, ip_octets, as_octets}
 use Rattle.certs_extension.specs.resources_ip.WrittenFamilies.{both, FamiliesTrees}
 use Rattle.certs_extension.specs.resources_as.Written.{AreAsResources}
 use Rattle.certs_extension.specs.declared.forms.KeyUsage.{KeyUsage}

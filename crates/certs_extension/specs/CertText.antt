@@ -7,13 +7,13 @@ use Rattle.certs_extension.specs.bcder_tree.Tree.{Tree, Trees}
 use Rattle.certs_extension.specs.bcder_primitive.Values.{IsValue, IsUnsigned}
 use Rattle.certs_extension.specs.bcder_content.Grammar.{Inside, OctetsOf, As, Then, End}
 use Rattle.certs_extension.specs.bcder_content.Kept.{CapturedValue}
-use Rattle.certs_extension.specs.bcder_bits.Bits.{BitsValue}
-use Rattle.certs_extension.specs.bcder_bits.Contents.{IsBitString, bit_string_tag}
+use Rattle.certs_extension.specs.bcder_octets.Bits.{BitsValue}
+use Rattle.certs_extension.specs.bcder_octets.BitContents.{IsBitString, bit_string_tag}
 use Rattle.certs_extension.specs.resources_chain.declared.claims.Overclaim.{Overclaim}
 use Rattle.certs_extension.specs.resources_chain.declared.claims.Overclaim.TheVariants.{Refuse, Trim}
 use Rattle.certs_extension.specs.resources_chain.declared.choice.ResourcesChoice.TheVariants.{Missing}
 use Rattle.certs_extension.specs.resources_chain.Claims.{Choice}
-use Rattle.certs_extension.specs.resources_policy.Identifiers.{ip_octets, as_octets}
+use Rattle.certs_extension.specs.resources_as.Identifiers.{ip_octets, as_octets}
 use Rattle.certs_extension.specs.resources_ip.Encodings.{IsIpAddrBlocks}
 use Rattle.certs_extension.specs.resources_as.Encodings.{IsAsResources}
 use Rattle.certs_extension.specs.certs_basics.Lists.{Mem, Each}

@@ -6,8 +6,8 @@ use Rattle.certs_extension.specs.bcder_tree.Tags.{context, sequence_tag}
 use Rattle.certs_extension.specs.bcder_tree.Tree.{Tree, Trees}
 use Rattle.certs_extension.specs.bcder_content.Grammar.{Inside, OctetsOf, As, Then, Opt, End, Many}
 use Rattle.certs_extension.specs.bcder_content.Kept.{CapturedValue}
-use Rattle.certs_extension.specs.bcder_bits.Bits.{BitsValue}
-use Rattle.certs_extension.specs.bcder_bits.Contents.{IsBitString, bit_string_tag}
+use Rattle.certs_extension.specs.bcder_octets.Bits.{BitsValue}
+use Rattle.certs_extension.specs.bcder_octets.BitContents.{IsBitString, bit_string_tag}
 use Rattle.certs_extension.specs.certs_basics.Lists.{Mem}
 use Rattle.certs_extension.specs.bcder_content.Words.{Gathers, Kept}
 use Rattle.certs_extension.specs.bcder_content.Texts.{SpellsOf, InOrder, Wraps, Joins, InFront}

@@ -3,7 +3,7 @@ use Rattle.std.specs.Prelude.{◌≡◌, ℕ, List, [], ◌∷◌, Option, Some,
 use Rattle.certs_extension.specs.certs_basics.Identifiers as id
 use Rattle.certs_extension.specs.certs_basics.Lists.{Mem}
 use Rattle.certs_extension.specs.resources_chain.declared.claims.Overclaim.TheVariants.{Refuse, Trim}
-use Rattle.certs_extension.specs.resources_policy.Identifiers.{as_octets, ip_octets}
+use Rattle.certs_extension.specs.resources_as.Identifiers.{as_octets, ip_octets}
 use Rattle.certs_extension.specs.CertText.{known}
 use Rattle.certs_extension.specs.declared.claims.kinds.Kind.{Kind}
 use Rattle.certs_extension.specs.declared.claims.kinds.Kind.TheVariants.{BasicConstraints, SubjectKeyIdentifier, AuthorityKeyIdentifier, KeyUsage, ExtendedKeyUsage, CrlDistributionPoints, AuthorityInfoAccess, SubjectInfoAccess, CertificatePolicies, IpResources, AsResources, IpResourcesV2, AsResourcesV2, Unknown}

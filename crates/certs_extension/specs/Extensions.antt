@@ -7,11 +7,11 @@ use Rattle.certs_extension.specs.bcder_tree.Tree.{Tree, Trees}
 use Rattle.certs_extension.specs.bcder_tree.Strings.{IsOctetString, octet_string_tag}
 use Rattle.certs_extension.specs.bcder_primitive.Values.{IsBoolean}
 use Rattle.certs_extension.specs.bcder_content.Grammar.{Inside, OctetsOf, As, End, Rest, Then, Default}
-use Rattle.certs_extension.specs.bcder_oid.Identifiers.{IsOid}
-use Rattle.certs_extension.specs.bcder_bits.Bits.{BitsValue}
-use Rattle.certs_extension.specs.bcder_bits.Contents.{IsBitString, bit_string_tag}
+use Rattle.certs_extension.specs.bcder.Identifiers.{IsOid}
+use Rattle.certs_extension.specs.bcder_octets.Bits.{BitsValue}
+use Rattle.certs_extension.specs.bcder_octets.BitContents.{IsBitString, bit_string_tag}
 use Rattle.certs_extension.specs.resources_chain.declared.claims.Overclaim.{Overclaim}
-use Rattle.certs_extension.specs.resources_policy.Identifiers.{policy_octets}
+use Rattle.certs_extension.specs.resources_as.Identifiers.{policy_octets}
 use Rattle.certs_extension.specs.declared.forms.KeyUsage.{KeyUsage}
 use Rattle.certs_extension.specs.declared.forms.KeyUsage.TheVariants.{Ca, Ee}
 use Rattle.certs_extension.specs.bcder_content.Words.{Means, Gathers}

@@ -7,7 +7,7 @@ use Rattle.certs_extension.specs.certs_basics.Identifiers as id
 use Rattle.certs_extension.specs.resources_as.Encodings.{IsAsResources}
 use Rattle.certs_extension.specs.resources_chain.declared.claims.Overclaim.{Overclaim}
 use Rattle.certs_extension.specs.resources_chain.declared.claims.Overclaim.TheVariants.{Refuse, Trim}
-use Rattle.certs_extension.specs.resources_policy.Identifiers.{as_octets, ip_octets}
+use Rattle.certs_extension.specs.resources_as.Identifiers.{as_octets, ip_octets}
 use Rattle.certs_extension.specs.Putting.{IsRead}
 use Rattle.certs_extension.specs.declared.error.ExtensionError.{ExtensionError}
 use Rattle.certs_extension.specs.declared.error.ExtensionError.TheVariants.{Duplicate, Criticality, UnknownCritical, BadValue, Memory}

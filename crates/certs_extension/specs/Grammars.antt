@@ -4,11 +4,11 @@ use Rattle.certs_extension.specs.bcder_tree.declared.mode.Mode.{Mode}
 use Rattle.certs_extension.specs.bcder_tree.Tags.{context, oid_tag, sequence_tag}
 use Rattle.certs_extension.specs.bcder_tree.Tree.{Tree, Trees}
 use Rattle.certs_extension.specs.bcder_tree.Strings.{IsIa5}
-use Rattle.certs_extension.specs.bcder_strings.Sets.{alone}
-use Rattle.certs_extension.specs.bcder_strings.Restricted.{IsRestricted}
+use Rattle.certs_extension.specs.bcder.Sets.{alone}
+use Rattle.certs_extension.specs.bcder.Restricted.{IsRestricted}
 use Rattle.certs_extension.specs.bcder_content.Grammar.{As, End, Inside, OctetsOf, Then}
 use Rattle.certs_extension.specs.bcder_content.Words.{Gathers}
-use Rattle.certs_extension.specs.bcder_oid.Identifiers.{AreOctets}
+use Rattle.certs_extension.specs.bcder.Identifiers.{AreOctets}
 use Rattle.certs_basics.specs.Identifiers.{ca_issuers}
 use Rattle.certs_extension.specs.Names.{HasOneRsync, behind, only}
 

@@ -27,11 +27,10 @@ pub mod Finishing
 pub mod Needed
 -- What stands below, for the crates above.
 pub use Rattle.certs_basics.specs.bcder_content as bcder_content
-pub use Rattle.certs_basics.specs.bcder_oid as bcder_oid
-pub use Rattle.certs_basics.specs.bcder_strings as bcder_strings
+pub use Rattle.certs_basics.specs.bcder as bcder
 pub use Rattle.certs_basics.specs.bcder_tree as bcder_tree
 pub use Rattle.certs_basics.specs as certs_basics
-pub use Rattle.certs_basics.specs.bcder_bits as bcder_bits
+pub use Rattle.certs_basics.specs.bcder_octets as bcder_octets
 pub use Rattle.certs_basics.specs.bcder_number as bcder_number
 pub use Rattle.certs_basics.specs.bcder_primitive as bcder_primitive
 pub use Rattle.certs_basics.specs.bcder_source as bcder_source
@@ -40,7 +39,4 @@ pub use Rattle.resources_as.specs.resources_asn as resources_asn
 pub use Rattle.resources_chain.specs as resources_chain
 pub use Rattle.resources_ip.specs as resources_ip
 pub use Rattle.resources_ip.specs.resources_ip_prefix as resources_ip_prefix
-pub use Rattle.resources_policy.specs as resources_policy
-pub use Rattle.certs_key.specs.bcder as bcder
 pub use Rattle.certs_key.specs.bcder_values as bcder_values
-pub use Rattle.certs_key.specs.bcder_written as bcder_written

@@ -5,11 +5,11 @@ use Rattle.certs_extension.specs.bcder_tree.Tags.{TagValue, oid_tag, sequence_ta
 use Rattle.certs_extension.specs.bcder_tree.Tree.{Trees}
 use Rattle.certs_extension.specs.bcder_content.Grammar.{Many, OctetsOf}
 use Rattle.certs_extension.specs.bcder_content.Words.{Gathers}
-use Rattle.certs_extension.specs.bcder_oid.Identifiers.{IsOid}
+use Rattle.certs_extension.specs.bcder.Identifiers.{IsOid}
 use Rattle.certs_extension.specs.bcder.Kinds.{oid}
 use Rattle.certs_extension.specs.bcder_values.Forms.{Form, wrapped}
 use Rattle.certs_extension.specs.bcder_values.ListForms.{items}
-use Rattle.certs_extension.specs.bcder_oid.declared.oid.Oid.{Oid}
+use Rattle.certs_extension.specs.bcder.declared.oid.oid.Oid.{Oid}
 use Rattle.certs_extension.specs.Extensions.{AreSome}
 
 abbrev pub purpose_octets : Oid (List ℕ) → List ℕ

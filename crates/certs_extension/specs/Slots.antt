@@ -11,7 +11,7 @@ use Rattle.certs_extension.specs.resources_chain.declared.claims.Overclaim.TheVa
 use Rattle.certs_extension.specs.resources_ip.Encodings.{IsIpAddrBlocks}
 use Rattle.certs_extension.specs.resources_ip.Reading.{family_choices}
 use Rattle.certs_extension.specs.resources_ip.declared.resources.IpFamilies.{IpFamilies}
-use Rattle.certs_extension.specs.resources_policy.Identifiers.{as_octets, ip_octets}
+use Rattle.certs_extension.specs.resources_as.Identifiers.{as_octets, ip_octets}
 use Rattle.certs_extension.specs.CertAccess.{IsSubjectAccess}
 use Rattle.certs_extension.specs.CertText.{IsKnownOrSkipped, other}
 use Rattle.certs_extension.specs.Extensions.{Extension, IsAuthorityAccess, IsAuthorityKeyIdentifier, IsBasicConstraints, IsCrlDistribution, IsExtendedKeyUsage, IsKeyUsage, IsOptional, IsPolicies, IsSubjectKeyIdentifier, May, Must, MustNot, of_kind}

@@ -2,8 +2,8 @@
 use Rattle.std.specs.Prelude.{ℕ, List, [], ◌∷◌}
 use Rattle.certs_extension.specs.bcder_primitive.Values.{AnyOctets}
 use Rattle.certs_extension.specs.bcder_tree.declared.mode.Mode.{Mode}
-use Rattle.certs_extension.specs.bcder_written.Encoded.{WritesPlain}
-use Rattle.certs_extension.specs.bcder_bits.Contents.{bit_string_tag}
+use Rattle.certs_extension.specs.bcder_primitive.Encoded.{WritesPlain}
+use Rattle.certs_extension.specs.bcder_octets.BitContents.{bit_string_tag}
 use Rattle.certs_extension.specs.declared.forms.KeyUsage.{KeyUsage}
 use Rattle.certs_extension.specs.declared.forms.KeyUsage.TheVariants.{Ca, Ee}
 

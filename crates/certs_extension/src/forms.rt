@@ -6,6 +6,7 @@ pub use certs_basics::time::{
     Captured, Clock, ConstOid, Mode, OctetString, Oid, Time, TimeText, Validity, ValidityError,
     decode, validity,
 };
+pub use resources_as::policy::OverclaimIds;
 pub use resources_as::{
     AsBlock, AsBlocks, AsBlocksBuilder, AsResources, AsResourcesBuilder, Asn, InheritedAsResources,
     Origin, OverclaimedAsResources,
@@ -15,7 +16,6 @@ pub use resources_ip::{
     Addr, AddressFamily, InheritedIpResources, IpBlock, IpBlocks, IpBlocksBuilder, IpFamilies,
     IpResources, IpResourcesBuilder, OverclaimedIpv4Resources, OverclaimedIpv6Resources, Prefix,
 };
-pub use resources_policy::OverclaimIds;
 
 /// What a certificate's key is for (RFC 6487 4.8.4).
 #[derive(Clone, Copy, Debug, PartialEq, Eq)]

@@ -5,7 +5,7 @@ ghost use Rattle.certs_extension.specs.bcder_content.Exact.{ReadsAs};
 ghost use Rattle.certs_extension.specs.bcder_content.Here.{here};
 ghost use Rattle.certs_extension.specs.declared.forms.KeyUsage.{KeyUsage as Usage};
 ghost use Rattle.certs_extension.specs.Extensions.{UsageBits};
-ghost use Rattle.certs_extension.specs.bcder_bits.Contents.{bit_string_tag};
+ghost use Rattle.certs_extension.specs.bcder_octets.BitContents.{bit_string_tag};
 ghost use Rattle.certs_extension.specs.Usages.{usage_octets};
 ghost use Rattle.certs_extension.specs.Values.{IsUsage};
 

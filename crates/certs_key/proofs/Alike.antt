@@ -6,7 +6,7 @@ use Rattle.certs_key.specs.bcder_tree.declared.mode.Mode.TheVariants.{Der}
 use Rattle.certs_key.specs.bcder_tree.Tree.{Spells}
 use Rattle.certs_key.proofs.of_bcder_tree.Fronts.{whole_front}
 use Rattle.certs_key.proofs.of_bcder_tree.Trees.{one_tree}
-use Rattle.certs_key.specs.bcder_bits.Contents.{cleared}
+use Rattle.certs_key.specs.bcder_octets.BitContents.{cleared}
 use Rattle.certs_key.specs.certs_basics.declared.PublicKeyFormat.{PublicKeyFormat}
 use Rattle.certs_key.specs.certs_basics.declared.PublicKeyFormat.TheVariants.{Rsa, Ecdsa}
 use Rattle.certs_key.specs.certs_basics.Keys.{HasEncoding, KeyValue, encoded, format_tree, key_tree}

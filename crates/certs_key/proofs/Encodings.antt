@@ -7,14 +7,14 @@ use Rattle.certs_key.specs.bcder_tree.Tags.{TagValue, universal, null_tag, oid_t
 use Rattle.certs_key.specs.bcder_tree.Octets.{IsIdentifier, IsLength}
 use Rattle.certs_key.specs.bcder_tree.Tree.{Tree, Trees, primitive, constructed, none, more, IsHeader, IsConstructed, definite, indefinite, Spells, SpellsAll}
 use Rattle.certs_key.proofs.of_bcder_tree.Canonical.{spelled_identifier}
-use Rattle.certs_key.specs.bcder_bits.Bits.{IsBits}
-use Rattle.certs_key.specs.bcder_bits.Contents.{cleared}
-use Rattle.certs_key.proofs.of_bcder_bits.Writings.{written}
+use Rattle.certs_key.specs.bcder_octets.Bits.{IsBits}
+use Rattle.certs_key.specs.bcder_octets.BitContents.{cleared}
+use Rattle.certs_key.proofs.of_bcder_octets.BitWritings.{written}
 use Rattle.certs_key.specs.bcder_primitive.Values.{AnyOctets}
-use Rattle.certs_key.specs.bcder_written.Encoded.{WritesPlain, joined}
-use Rattle.certs_key.specs.bcder_written.Writing.{Wrote}
-use Rattle.certs_key.specs.bcder_written.declared.error.EncodeError.{EncodeError}
-use Rattle.certs_key.specs.bcder_written.declared.error.EncodeError.TheVariants as errors
+use Rattle.certs_key.specs.bcder_primitive.Encoded.{WritesPlain, joined}
+use Rattle.certs_key.specs.bcder_primitive.Writing.{Wrote}
+use Rattle.certs_key.specs.bcder_primitive.declared.written.error.EncodeError.{EncodeError}
+use Rattle.certs_key.specs.bcder_primitive.declared.written.error.EncodeError.TheVariants as errors
 use Rattle.certs_key.specs.bcder_values.Gathered.{ExtendRefused}
 use Rattle.certs_key.specs.certs_basics.declared.PublicKeyFormat.{PublicKeyFormat}
 use Rattle.certs_key.specs.certs_basics.declared.PublicKeyFormat.TheVariants.{Rsa, Ecdsa}

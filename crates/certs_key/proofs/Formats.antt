@@ -13,11 +13,11 @@ use Rattle.certs_key.proofs.of_bcder_content.InMode.{Fields, begin}
 use Rattle.certs_key.proofs.of_bcder_content.Choosing.{next_by, told_by}
 use Rattle.certs_key.proofs.of_bcder_content.Took.{one_took}
 use Rattle.certs_key.proofs.of_bcder_content.Unique.{inside_one, octets_one, then_one, end_one}
-use Rattle.certs_key.specs.bcder_bits.Bits.{BitsValue}
-use Rattle.certs_key.proofs.of_bcder_bits.Readings.{bit_string_one}
+use Rattle.certs_key.specs.bcder_octets.Bits.{BitsValue}
+use Rattle.certs_key.proofs.of_bcder_octets.BitReadings.{bit_string_one}
 use Rattle.certs_key.specs.bcder_values.KeptForms.{KeptIn}
-use Rattle.certs_key.specs.bcder_oid.Identifiers.{AreOctets, IsOid}
-use Rattle.certs_key.proofs.of_bcder_oid.Read.{oid_one}
+use Rattle.certs_key.specs.bcder.Identifiers.{AreOctets, IsOid}
+use Rattle.certs_key.proofs.of_bcder.Read.{oid_one}
 use Rattle.certs_key.specs.certs_basics.declared.PublicKeyFormat.{PublicKeyFormat}
 use Rattle.certs_key.specs.certs_basics.declared.PublicKeyFormat.TheVariants.{Rsa, Ecdsa}
 use Rattle.certs_key.specs.certs_basics.Basics.{OptNull}

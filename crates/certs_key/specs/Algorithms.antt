@@ -3,8 +3,8 @@ use Rattle.std.specs.Prelude.{◌≡◌, ◌⊎◌, ℕ, Bool, true, false, List
 use Rattle.certs_key.specs.bcder_tree.Tags.{TagValue, universal, sequence_tag, set_tag}
 use Rattle.certs_key.specs.bcder_tree.Tree.{Tree, Trees}
 use Rattle.certs_key.specs.bcder_content.Grammar.{Inside, OctetsOf, As, OneOf, Then, End}
-use Rattle.certs_key.specs.bcder_bits.Bits.{BitsValue}
-use Rattle.certs_key.specs.bcder_oid.Identifiers.{AreOctets}
+use Rattle.certs_key.specs.bcder_octets.Bits.{BitsValue}
+use Rattle.certs_key.specs.bcder.Identifiers.{AreOctets}
 use Rattle.certs_key.specs.bcder_values.Forms.{Form, Forms, both, ended, last, mapped, wrapped}
 use Rattle.certs_key.specs.bcder_values.OptionalForms.{last_maybe}
 use Rattle.certs_key.specs.bcder.Kinds.{null, null_at, that_oid, that_oid_at}

@@ -5,7 +5,7 @@ use Rattle.certs_key.specs.bcder_tree.declared.mode.Mode.{Mode}
 use Rattle.certs_key.specs.bcder_tree.declared.mode.Mode.TheVariants.{Ber, Cer, Der}
 use Rattle.certs_key.specs.bcder_tree.Tree.{Tree, primitive, Spells}
 use Rattle.certs_key.specs.bcder_tree.Sequences.{sequence}
-use Rattle.certs_key.specs.bcder_bits.Contents.{bit_string_tag, cleared, padded_in}
+use Rattle.certs_key.specs.bcder_octets.BitContents.{bit_string_tag, cleared, padded_in}
 use Rattle.certs_key.specs.certs_basics.Keys.{KeyValue, format_tree, key_tree, HasEncoding}
 
 cleared_octet : (p a : ℕ) → (a - a % p) - (a - a % p) % p ≡ a - a % p

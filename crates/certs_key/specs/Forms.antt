@@ -6,10 +6,10 @@ use Rattle.certs_key.specs.bcder_tree.Tree.{Trees, primitive, constructed, none,
 use Rattle.certs_key.specs.bcder_primitive.Values.{AnyOctets}
 use Rattle.certs_key.specs.bcder_content.Contents.{tag_of}
 use Rattle.certs_basics.proofs.of_bcder_content.Unique.{any_octets_one}
-use Rattle.certs_key.specs.bcder_oid.Identifiers.{IsIdentifier}
-use Rattle.certs_key.specs.bcder_bits.Bits.{BitsValue}
-use Rattle.certs_key.specs.bcder_written.Encoded.{joined}
-use Rattle.certs_key.specs.bcder_written.Simple.{one_string}
+use Rattle.certs_key.specs.bcder.Identifiers.{IsIdentifier}
+use Rattle.certs_key.specs.bcder_octets.Bits.{BitsValue}
+use Rattle.certs_key.specs.bcder_primitive.Encoded.{joined}
+use Rattle.certs_key.specs.bcder_primitive.Simple.{one_string}
 use Rattle.certs_key.specs.bcder_values.Forms.{Form, Forms, plain, both, last, wrapped}
 use Rattle.certs_key.specs.bcder.Kinds.{bits, bits_at}
 use Rattle.certs_key.specs.certs_basics.declared.PublicKeyFormat.{PublicKeyFormat}

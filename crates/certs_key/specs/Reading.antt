@@ -4,8 +4,8 @@ use Rattle.certs_key.specs.bcder_tree.Tags.{sequence_tag}
 use Rattle.certs_key.specs.bcder_tree.Tree.{Tree, Trees}
 use Rattle.certs_key.specs.bcder_content.Grammar.{Inside, OctetsOf, Then, End}
 use Rattle.certs_key.specs.bcder_content.Kept.{CapturedValue}
-use Rattle.certs_key.specs.bcder_bits.Bits.{BitsValue}
-use Rattle.certs_key.specs.bcder_bits.Contents.{IsBitString, bit_string_tag}
+use Rattle.certs_key.specs.bcder_octets.Bits.{BitsValue}
+use Rattle.certs_key.specs.bcder_octets.BitContents.{IsBitString, bit_string_tag}
 use Rattle.certs_key.specs.certs_basics.declared.PublicKeyFormat.{PublicKeyFormat}
 use Rattle.certs_key.specs.certs_basics.Keys.{IsFormat}
 

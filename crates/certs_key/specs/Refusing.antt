@@ -1,7 +1,7 @@
 -- What a refusal says of what was to be written, and signed, where `can` says that it can be written, and `cannot` that it
 -- can't.
-use Rattle.certs_key.specs.bcder_written.declared.error.EncodeError.{EncodeError}
-use Rattle.certs_key.specs.bcder_written.declared.error.EncodeError.TheVariants as causes
+use Rattle.certs_key.specs.bcder_primitive.declared.written.error.EncodeError.{EncodeError}
+use Rattle.certs_key.specs.bcder_primitive.declared.written.error.EncodeError.TheVariants as causes
 use Rattle.certs_key.specs.declared.signer.SigningError.{SigningError}
 use Rattle.certs_key.specs.declared.signer.SigningError.TheVariants as errors
 

@@ -1,7 +1,7 @@
 //! Keys that are written.
 
 ghost use Rattle.std.specs.Prelude.{◌≡◌, IfOk, IsTrue, MatchOption};
-ghost use Rattle.certs_key.specs.bcder_bits.Bits.{IsBits};
+ghost use Rattle.certs_key.specs.bcder_octets.Bits.{IsBits};
 ghost use Rattle.certs_key.specs.certs_basics.Keys.{HasEncoding, Encodes, kind_of};
 ghost use Rattle.certs_key.specs.Forms.{lends, key_lends, parameters_of, parameters_tag};
 

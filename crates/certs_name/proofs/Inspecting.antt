@@ -9,9 +9,9 @@ use Rattle.certs_name.specs.bcder_tree.Front.{Front}
 use Rattle.certs_name.specs.bcder_tree.Strings.{IsPrintable}
 use Rattle.certs_name.proofs.of_bcder_tree.Fronts.{whole_front}
 use Rattle.certs_name.proofs.of_bcder_tree.Trees.{one_tree}
-use Rattle.certs_name.specs.bcder_strings.Sets.{alone, IsUnicode}
-use Rattle.certs_name.specs.bcder_strings.Restricted.{IsRestricted}
-use Rattle.certs_name.specs.bcder_oid.Identifiers.{IsIdentifier}
+use Rattle.certs_name.specs.bcder.Sets.{alone, IsUnicode}
+use Rattle.certs_name.specs.bcder.Restricted.{IsRestricted}
+use Rattle.certs_name.specs.bcder.Identifiers.{IsIdentifier}
 use Rattle.certs_name.specs.bcder_content.Grammar.{ManyCases}
 use Rattle.certs_name.specs.bcder_content.Kept.{CapturedValue}
 use Rattle.certs_basics.specs.Identifiers.{common_name, serial_number}

@@ -6,7 +6,7 @@ use Rattle.certs_name.specs.bcder_tree.Octets.{form_bit}
 use Rattle.certs_name.specs.bcder_tree.Tags.{universal, oid_tag, printable_string_tag, sequence_tag, set_tag}
 use Rattle.certs_name.specs.bcder_tree.Tree.{Tree, Trees, primitive, constructed, none, more, IsHeader, definite, Spells, SpellsAll}
 use Rattle.certs_name.specs.bcder_values.Wraps.{one_spelled}
-use Rattle.certs_name.specs.bcder_oid.Identifiers.{IsIdentifier}
+use Rattle.certs_name.specs.bcder.Identifiers.{IsIdentifier}
 use Rattle.hex.specs.Hex.{encode_with, lower_digits}
 use Rattle.certs_basics.specs.Identifiers.{common_name}
 use Rattle.certs_basics.specs.Names.{Attribute, IsAttribute, IsName, IsRelativeName, hex_text, subject_of}

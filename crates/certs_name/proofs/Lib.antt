@@ -8,9 +8,9 @@ pub mod Inspecting
 pub mod KeyNames
 pub mod Digits
 pub mod NamesAgain
-pub mod of_bcder_values
-pub mod of_bcder_strings
-pub mod of_bcder_number
-pub mod of_bcder_tree
-pub mod of_bcder_primitive
+pub mod of_bcder
 pub mod of_bcder_content
+pub mod of_bcder_number
+pub mod of_bcder_primitive
+pub mod of_bcder_tree
+pub mod of_bcder_values

@@ -9,9 +9,9 @@ use Rattle.certs_name.specs.bcder_tree.Strings.{IsPrintable}
 use Rattle.certs_name.specs.bcder_tree.Tree.{Tree, Trees, none, more, Spells, SpellsAll}
 use Rattle.certs_name.proofs.of_bcder_tree.Fronts.{front_whole}
 use Rattle.certs_name.proofs.of_bcder_tree.Trees.{one_fields}
-use Rattle.certs_name.specs.bcder_strings.Sets.{alone}
-use Rattle.certs_name.specs.bcder_strings.Texts.{IsText}
-use Rattle.certs_name.proofs.of_bcder_strings.Ascii.{ascii_text}
+use Rattle.certs_name.specs.bcder.Sets.{alone}
+use Rattle.certs_name.specs.bcder.Texts.{IsText}
+use Rattle.certs_name.proofs.of_bcder.Ascii.{ascii_text}
 use Rattle.certs_name.specs.bcder_content.Grammar.{End, Then}
 use Rattle.certs_name.specs.bcder_content.Kept.{CapturedValue}
 use Rattle.certs_name.specs.bcder_values.Captures.{CapturedText, captured_spelled}

@@ -6,9 +6,10 @@ use Rattle.std.specs.Int.{byte_at, bytes_high_first}
 use Rattle.std.specs.Prelude.{ℤ, pos, Result, Ok, Err, IfOk, OnOk}
 use Rattle.certs_name.specs.bcder_tree.Integers.{number_behind, IsShortest}
 use Rattle.certs_name.specs.bcder_primitive.Values.{AnyOctets, IsTwosComplement}
-use Rattle.certs_name.proofs.of_bcder_primitive.Numbers.{all_octets, further}
-use Rattle.certs_name.specs.bcder_written.declared.error.EncodeError.{EncodeError}
-use Rattle.certs_name.specs.bcder_written.Writing.{HasLength, Wrote}
+use Rattle.certs_name.proofs.of_bcder_primitive.Numbers.{all_octets}
+use Rattle.certs_basics.proofs.of_bcder_tree.Digits.{further}
+use Rattle.certs_name.specs.bcder_primitive.declared.written.error.EncodeError.{EncodeError}
+use Rattle.certs_name.specs.bcder_primitive.Writing.{HasLength, Wrote}
 use Rattle.certs_name.specs.bcder_number.Integers.{IsInteger}
 
 -- What is read after a number makes it no smaller.

@@ -5,7 +5,7 @@ use Rattle.certs_name.specs.bcder_tree.Tags.{oid_tag, sequence_tag, set_tag}
 use Rattle.certs_name.specs.bcder_tree.Tree.{Tree, Trees}
 use Rattle.certs_name.specs.bcder_content.Grammar.{Any, End, Inside, OctetsOf, Then}
 use Rattle.certs_name.specs.bcder_content.Words.{Gathers}
-use Rattle.certs_name.specs.bcder_oid.Identifiers.{IsAnyOid}
+use Rattle.certs_name.specs.bcder.Identifiers.{IsAnyOid}
 
 -- AttributeTypeAndValue ::= SEQUENCE { type OBJECT IDENTIFIER, value ANY }
 abbrev pub AnyFields : Type 0

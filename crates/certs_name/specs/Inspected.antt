@@ -4,8 +4,8 @@ use Rattle.certs_name.specs.bcder_tree.declared.mode.Mode.{Mode}
 use Rattle.certs_name.specs.bcder_tree.Tags.{oid_tag, printable_string_tag, sequence_tag, set_tag, utf8_string_tag}
 use Rattle.certs_name.specs.bcder_tree.Tree.{Tree, Trees}
 use Rattle.certs_name.specs.bcder_tree.Strings.{IsPrintable}
-use Rattle.certs_name.specs.bcder_strings.Sets.{alone, IsUnicode}
-use Rattle.certs_name.specs.bcder_strings.Texts.{IsText}
+use Rattle.certs_name.specs.bcder.Sets.{alone, IsUnicode}
+use Rattle.certs_name.specs.bcder.Texts.{IsText}
 use Rattle.certs_name.specs.bcder_content.Grammar.{As, End, Inside, OctetsOf, OneOf, Then}
 use Rattle.certs_name.specs.bcder_content.Words.{Gathers}
 use Rattle.certs_basics.specs.Identifiers.{common_name, serial_number}

@@ -7,10 +7,7 @@ pub mod Inspected
 pub use Rattle.certs_basics.specs.bcder as bcder
 pub use Rattle.certs_basics.specs.bcder_content as bcder_content
 pub use Rattle.certs_basics.specs.bcder_number as bcder_number
-pub use Rattle.certs_basics.specs.bcder_oid as bcder_oid
 pub use Rattle.certs_basics.specs.bcder_primitive as bcder_primitive
 pub use Rattle.certs_basics.specs.bcder_source as bcder_source
-pub use Rattle.certs_basics.specs.bcder_strings as bcder_strings
 pub use Rattle.certs_basics.specs.bcder_tree as bcder_tree
 pub use Rattle.certs_basics.specs.bcder_values as bcder_values
-pub use Rattle.certs_basics.specs.bcder_written as bcder_written

@@ -9,7 +9,7 @@ ghost use Rattle.certs_name.specs.bcder_tree.Tree.{Spells};
 ghost use Rattle.certs_name.specs.bcder_content.Grammar.{End, One, Then};
 ghost use Rattle.certs_name.specs.bcder_content.Kept.{CapturedValue};
 ghost use Rattle.certs_name.specs.bcder_number.Integers.{IsNatural};
-ghost use Rattle.certs_name.specs.bcder_written.Encoded.{WritesPlain};
+ghost use Rattle.certs_name.specs.bcder_primitive.Encoded.{WritesPlain};
 ghost use Rattle.certs_name.specs.bcder_values.Captures.{CapturedText};
 ghost use Rattle.certs_name.specs.bcder_values.Returns.{ReadAgain};
 ghost use Rattle.certs_basics.specs.Basics.{IsSerial};

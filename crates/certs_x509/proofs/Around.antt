@@ -5,9 +5,9 @@ use Rattle.certs_x509.specs.bcder_tree.Tags.{TagValue}
 use Rattle.certs_x509.specs.bcder_tree.Tree.{IsConstructed, IsHeader, definite, indefinite}
 use Rattle.certs_x509.specs.bcder_source.Views.{View, Moved, more_limit}
 use Rattle.certs_x509.proofs.of_bcder_source.Moves.{moved_both}
-use Rattle.certs_x509.specs.bcder_header.declared.ending.Span.{Span}
-use Rattle.certs_x509.specs.bcder_header.declared.ending.Span.TheVariants.{Until, ToEnd}
-use Rattle.certs_x509.specs.bcder_header.Openings.{Closes, Opens}
+use Rattle.certs_x509.specs.bcder_content.declared.ending.Span.{Span}
+use Rattle.certs_x509.specs.bcder_content.declared.ending.Span.TheVariants.{Until, ToEnd}
+use Rattle.certs_x509.specs.bcder_content.Openings.{Closes, Opens}
 
 -- A constructed value was read, around this content.
 pub record ReadAround (m : Mode) (old : View) (t : TagValue) (content : List ℕ) (new : View) : Type 0 where

@@ -14,8 +14,8 @@ use Rattle.certs_x509.specs.bcder_content.Ran.{Reader}
 use Rattle.certs_x509.proofs.of_bcder_content.Kept.{AnyEach, exact_one}
 use Rattle.certs_x509.proofs.of_bcder_content.Taking.{weaker}
 use Rattle.certs_x509.proofs.of_bcder_content.Took.{goes_both, goes_none}
-use Rattle.certs_x509.specs.bcder_bits.Bits.{BitsValue}
-use Rattle.certs_x509.specs.bcder_bits.Contents.{IsBitString, bit_string_tag}
+use Rattle.certs_x509.specs.bcder_octets.Bits.{BitsValue}
+use Rattle.certs_x509.specs.bcder_octets.BitContents.{IsBitString, bit_string_tag}
 use Rattle.certs_x509.specs.bcder_values.KeptForms.{KeptIn}
 use Rattle.certs_x509.proofs.of_bcder_values.KeptRead.{kept_in_lacks}
 use Rattle.certs_x509.specs.certs_basics.Basics.{IsAlgorithm}

@@ -13,8 +13,8 @@ use Rattle.certs_x509.specs.bcder_content.Words.{Kept}
 use Rattle.certs_x509.proofs.of_bcder_content.Keeping.{front_all}
 use Rattle.certs_x509.proofs.of_bcder_content.Took.{one_took}
 use Rattle.certs_x509.proofs.of_bcder_content.Unique.{same_trees, same_values}
-use Rattle.certs_x509.specs.bcder_bits.Bits.{BitsValue}
-use Rattle.certs_x509.specs.bcder_bits.Contents.{IsBitString, bit_string_tag}
+use Rattle.certs_x509.specs.bcder_octets.Bits.{BitsValue}
+use Rattle.certs_x509.specs.bcder_octets.BitContents.{IsBitString, bit_string_tag}
 use Rattle.certs_x509.specs.certs_basics.Basics.{IsAlgorithm}
 use Rattle.certs_x509.specs.Signed.{Fields, SignedDataValue, SpellsSignedData, octet_fields, signed, signed_fields}
 

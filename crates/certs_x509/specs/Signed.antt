@@ -5,8 +5,8 @@ use Rattle.certs_x509.specs.bcder_tree.Tags.{TagValue, sequence_tag}
 use Rattle.certs_x509.specs.bcder_content.Grammar.{Any, OctetsOf}
 use Rattle.certs_x509.specs.bcder_content.Kept.{CapturedValue}
 use Rattle.certs_x509.specs.bcder_content.Texts.{Joins, NoOctets, SpellsOf, WithOctets, Wraps}
-use Rattle.certs_x509.specs.bcder_bits.Bits.{BitsValue}
-use Rattle.certs_x509.specs.bcder_bits.Contents.{IsBitString, bit_string_tag}
+use Rattle.certs_x509.specs.bcder_octets.Bits.{BitsValue}
+use Rattle.certs_x509.specs.bcder_octets.BitContents.{IsBitString, bit_string_tag}
 use Rattle.certs_x509.specs.bcder_values.Forms.{Form, Forms, both, last, wrapped}
 use Rattle.certs_x509.specs.bcder_values.KeptForms.{kept}
 use Rattle.certs_x509.specs.bcder.Kinds.{bits, bits_at}

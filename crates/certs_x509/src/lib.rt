@@ -3,8 +3,8 @@
 //!
 //! This is a face: a port of `rpki::repository::x509`, `rpki::crypto` and `rpki::uri` of the Rust crate `rpki` 0.20.1 in
 //! which each call is proved to meet its contract. What is read is of the standard's grammar and what is of the grammar is
-//! read, in BER, CER and DER; what is written is read again. The parts below are crates of their own, whose `specs/` have
-//! the definitions that contracts cite.
+//! read, in BER, CER and DER; what is written is read again. The `specs/` of each crate
+//! have the definitions that its contracts cite.
 //!
 //! | Module | Has |
 //! |---|---|
@@ -14,6 +14,7 @@
 //! | [`key`] | public keys and their identifiers |
 //! | [`crypto`] | algorithms, signatures, and what is handed in: digests, verdicts on signatures, keys that sign |
 //! | [`signed`] | signed data: the very octets that are signed, and the signature |
+//! | [`revoked`] | the entries of revocation lists, and the search for a serial number |
 //! | [`uri`] | rsync and https URIs, and the keys under which they are looked up |
 //! | [`tal`] | what a trust anchor locator is called |
 //! | [`errors`] | why certificates, revocation lists and signed objects are refused |
@@ -47,6 +48,7 @@ pub mod errors;
 pub mod key;
 pub mod laws;
 pub mod name;
+pub mod revoked;
 pub mod serial;
 pub mod signed;
 pub mod tal;

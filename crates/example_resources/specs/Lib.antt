@@ -1,3 +1,3 @@
 -- What stands below.
 pub use Rattle.resources.specs.resources_chain as resources_chain
-pub use Rattle.resources.specs.resources_set as resources_set
+pub use Rattle.resources.specs as resources

@@ -1,7 +1,7 @@
 //! Claims against what is held.
 
 ghost use Rattle.std.specs.Prelude.{IfOk, IfNone, IfSome};
-ghost use Rattle.example_resources.specs.resources_set.Resources.{AreInside, Combines};
+ghost use Rattle.example_resources.specs.resources.Resources.{AreInside, Combines};
 ghost use Rattle.example_resources.specs.resources_chain.Sets.{InFirstOnly};
 
 use resources::ResourceSet;

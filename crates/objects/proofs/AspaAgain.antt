@@ -8,11 +8,11 @@ use Rattle.objects.specs.bcder_content.Grammar.{End, Inside, Many, ManyCases, Th
 use Rattle.objects.specs.bcder_content.Kept.{CapturedValue}
 use Rattle.objects.specs.bcder_content.Texts.{SpellsOf}
 use Rattle.objects.specs.bcder_values.Forms.{Alone}
-use Rattle.objects.specs.bcder_written.Encoded.{joined}
+use Rattle.objects.specs.bcder_primitive.Encoded.{joined}
 use Rattle.objects.specs.objects_payload.Aspas.{Aspa, IsAspa, IsLawful}
 use Rattle.objects.specs.objects_payload.Contents.{IsVersion}
 use Rattle.objects.specs.resources_asn.Encodings.{IsAsId}
-use Rattle.certs_written.specs.Fields.{version}
+use Rattle.certs.specs.Fields.{version}
 use Rattle.objects.specs.objects_written.Outputs.{each, inside}
 use Rattle.objects_written.proofs.Words.{inside_of, last_of, spelled_of, then_of}
 use Rattle.objects.specs.Written.{as_id, aspa}

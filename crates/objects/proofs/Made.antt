@@ -4,8 +4,8 @@ use Rattle.objects_written.specs.bcder_tree.declared.mode.Mode.TheVariants.{Der}
 use Rattle.objects_written.specs.bcder_content.Kept.{CapturedValue}
 use Rattle.objects_written.specs.bcder_content.Texts.{SpellsOf}
 use Rattle.objects_written.specs.bcder_values.Gathered.{ExtendRefused}
-use Rattle.objects_written.specs.bcder_written.declared.error.EncodeError.{EncodeError}
-use Rattle.objects_written.specs.bcder_written.declared.error.EncodeError.TheVariants as errors
+use Rattle.objects_written.specs.bcder_primitive.declared.written.error.EncodeError.{EncodeError}
+use Rattle.objects_written.specs.bcder_primitive.declared.written.error.EncodeError.TheVariants as errors
 use Rattle.objects_written.specs.objects_payload.Manifests.{IsManifest, Manifest}
 use Rattle.objects_written.specs.Manifests.{AreFileNames, IsManifestNumber, ManifestParts, manifest, manifest_parts, written_manifest}
 use Rattle.objects_written.proofs.Told.{manifest_told}

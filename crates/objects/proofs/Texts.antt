@@ -4,15 +4,15 @@ use Rattle.objects_written.specs.bcder_tree.declared.mode.Mode.TheVariants.{Der}
 use Rattle.objects_written.specs.bcder_tree.Tags.{TagValue, context, universal}
 use Rattle.objects_written.specs.bcder_tree.Tree.{Tree, Trees, more, none, primitive}
 use Rattle.objects_written.specs.bcder_tree.Strings.{IsOctetString}
-use Rattle.certs_cert.specs.bcder_bits.Bits.{BitsValue}
-use Rattle.certs_cert.specs.bcder_bits.Contents.{IsBitString, bit_string_tag, padded_in}
+use Rattle.certs_cert.specs.bcder_octets.Bits.{BitsValue}
+use Rattle.certs_cert.specs.bcder_octets.BitContents.{IsBitString, bit_string_tag, padded_in}
 use Rattle.objects_written.specs.bcder_content.Grammar.{End, Inside, OctetsOf, Then}
 use Rattle.objects_written.specs.bcder_content.Kept.{CapturedValue}
 use Rattle.objects_written.specs.bcder_content.Texts.{InOrder, Joins, NoOctets, SpellsOf, WithOctets, Wraps}
-use Rattle.objects_written.specs.bcder_oid.Identifiers.{IsIdentifier, IsOid}
+use Rattle.objects_written.specs.bcder.Identifiers.{IsIdentifier, IsOid}
 use Rattle.objects_written.specs.bcder_values.Captures.{CapturedText}
 use Rattle.objects_written.specs.bcder_values.Forms.{Alone}
-use Rattle.objects_written.specs.bcder_written.Encoded.{WritesBoth, WritesWrapped}
+use Rattle.objects_written.specs.bcder_primitive.Encoded.{WritesBoth, WritesWrapped}
 use Rattle.objects_written.specs.bcder.Kinds.{bits, octets, octets_at, oid}
 use Rattle.certs_key.proofs.Written.{algorithm_spelled, cms_spelled, digest_spelled, digests_spelled}
 use Rattle.certs_cert.specs.certs_x509.Signed.{SignedDataValue, signed, signed_fields}
@@ -26,8 +26,8 @@ use Rattle.objects_written.specs.objects_payload.Contents.{ReadsAs}
 use Rattle.objects_written.specs.objects_payload.Identifiers as id
 use Rattle.objects_written.specs.objects_payload.ObjectText.{AreDigestAlgorithms, IsContentInfo, IsSid, IsThree, Object, ObjectText, SaysObject, SpellsContentInfo, SpellsObject, SpellsSignedData, SpellsSigner, ObjectFields, SignedFields as Signed, SignerFields as Signs, object_of}
 use Rattle.objects_written.specs.objects_payload.SignedAttributes.{AreAttributes, AttributesValue}
-use Rattle.certs_written.specs.Fields.{version}
-use Rattle.certs_written.specs.Outputs.{Output, of}
+use Rattle.certs.specs.Fields.{version}
+use Rattle.certs.specs.Outputs.{Output, of}
 use Rattle.objects_written.proofs.Words.{inside_of, last_of, spelled_of, then_of}
 use Rattle.objects_written.specs.Frames.{ObjectParts, SignerParts, algorithm, content_info, kept, object, rsa, sha256, signed_data, signer}
 use Rattle.objects.specs.Again.{WritesAgain, WritesCertAgain, cert_value, parts_of, with_null}

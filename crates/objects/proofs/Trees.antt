@@ -5,14 +5,14 @@ use Rattle.objects_written.specs.bcder_tree.Tags.{TagValue, context, universal}
 use Rattle.objects_written.specs.bcder_tree.Tree.{Trees, constructed, more, none, primitive}
 use Rattle.objects_written.specs.bcder_content.Kept.{SpellsValues}
 use Rattle.objects_written.specs.bcder_values.Captures.{CapturedTrees}
-use Rattle.objects_written.specs.bcder_written.Encoded.{AreBoth, IsWrapped, NoTree, joined}
+use Rattle.objects_written.specs.bcder_primitive.Encoded.{AreBoth, IsWrapped, NoTree, joined}
 use Rattle.objects_written.specs.bcder.Kinds.{bits, null, octets, octets_at, oid, that_oid}
-use Rattle.certs_key.proofs.of_bcder_bits.Writings.{written}
+use Rattle.certs_key.proofs.of_bcder_octets.BitWritings.{written}
 use Rattle.objects_written.specs.certs_key.Algorithms.{algorithm_of}
 use Rattle.certs_cert.specs.certs_x509.Signed.{signed, signed_fields}
 use Rattle.objects_written.specs.certs_extension.Cert.{CertValue}
 use Rattle.objects_written.specs.objects_payload.Identifiers as id
-use Rattle.certs_written.specs.Fields.{version}
+use Rattle.certs.specs.Fields.{version}
 use Rattle.objects_written.specs.Frames.{ObjectParts, SignerParts, content_info, kept, object, sha256, signed_data, signer}
 use Rattle.objects.specs.Again.{cert_value}
 use Rattle.objects.specs.Taking.{in_der}

@@ -4,8 +4,8 @@ use Rattle.std.specs.Result.{IsErr, IsErrAnd}
 use Rattle.objects_written.specs.bcder_tree.declared.mode.Mode.TheVariants.{Der}
 use Rattle.objects_written.specs.bcder_content.Kept.{CapturedValue, SpellsValues}
 use Rattle.objects_written.specs.bcder_values.Gathered.{ExtendRefused}
-use Rattle.objects_written.specs.bcder_written.declared.error.EncodeError.{EncodeError}
-use Rattle.objects_written.specs.bcder_written.declared.error.EncodeError.TheVariants as errors
+use Rattle.objects_written.specs.bcder_primitive.declared.written.error.EncodeError.{EncodeError}
+use Rattle.objects_written.specs.bcder_primitive.declared.written.error.EncodeError.TheVariants as errors
 use Rattle.certs_cert.specs.certs_x509.Signed.{SignedDataValue, signed, signed_fields}
 use Rattle.objects_written.specs.certs_extension.Cert.{CertValue, SignedValue}
 use Rattle.objects_written.specs.certs_key.Algorithms.{SignatureValue}

@@ -5,8 +5,8 @@ use Rattle.objects_written.specs.bcder_tree.declared.mode.Mode.TheVariants.{Der}
 use Rattle.objects_written.specs.bcder_tree.Tags.{set_tag}
 use Rattle.objects_written.specs.bcder_content.Texts.{Wraps}
 use Rattle.objects_written.specs.bcder_content.Kept.{CapturedValue, SpellsValues}
-use Rattle.objects_written.specs.bcder_written.declared.error.EncodeError.{EncodeError}
-use Rattle.objects_written.specs.bcder_written.declared.error.EncodeError.TheVariants as errors
+use Rattle.objects_written.specs.bcder_primitive.declared.written.error.EncodeError.{EncodeError}
+use Rattle.objects_written.specs.bcder_primitive.declared.written.error.EncodeError.TheVariants as errors
 use Rattle.objects_written.specs.certs_extension.Cert.{CertValue}
 use Rattle.objects_written.specs.objects_payload.ObjectText.{Object}
 use Rattle.certs_cert.specs.certs_x509.Signed.{SignedDataValue, signed, signed_fields}

@@ -1,8 +1,8 @@
 -- Contents of manifests that are made (RFC 9286 4.2).
 use Rattle.std.specs.Prelude.{◌≡◌, ℕ, ◌^◌, ◌<◌, List, length}
 use Rattle.objects_written.specs.bcder_tree.declared.mode.Mode.TheVariants.{Der}
-use Rattle.objects_written.specs.bcder_written.declared.error.EncodeError.{EncodeError}
-use Rattle.objects_written.specs.bcder_written.declared.error.EncodeError.TheVariants as errors
+use Rattle.objects_written.specs.bcder_primitive.declared.written.error.EncodeError.{EncodeError}
+use Rattle.objects_written.specs.bcder_primitive.declared.written.error.EncodeError.TheVariants as errors
 use Rattle.objects_written.specs.objects_payload.Manifests.{File, Manifest}
 use Rattle.objects_written.specs.Manifests.{AreFileNames, manifest}
 use Rattle.objects.specs.declared.again.making.ManifestError.{ManifestError}

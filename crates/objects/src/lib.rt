@@ -3,8 +3,8 @@
 //!
 //! This is a face: a port of `rpki::repository::sigobj`, `manifest`, `roa`, `aspa` and `tal` of the Rust crate `rpki`
 //! 0.20.1 in which each call is proved to meet its contract. An object is read exactly where octets spell one, in DER where
-//! it is strict and in BER where it isn't; it is accepted exactly where a written conjunction holds. The parts below are
-//! crates of their own, whose `specs/` have the definitions that contracts cite.
+//! it is strict and in BER where it isn't; it is accepted exactly where a written conjunction holds. The `specs/` of
+//! each crate have the definitions that its contracts cite.
 //!
 //! | Module | Has |
 //! |---|---|

@@ -2,7 +2,7 @@
 use Rattle.std.proofs.Common.{◌≡◌, ◌≤◌, ℕ, List, true, sym, ap, subst}
 use Rattle.objects_built.specs.bcder_tree.declared.mode.Mode.TheVariants.{Der}
 use Rattle.objects_built.specs.bcder_content.Kept.{CapturedValue}
-use Rattle.objects_built.specs.bcder_oid.Identifiers.{IsIdentifier}
+use Rattle.objects_built.specs.bcder.Identifiers.{IsIdentifier}
 use Rattle.objects_built.specs.certs_basics.HandedIn.{Digests}
 use Rattle.objects_built.specs.certs_basics.Verdicts.{Verdicts}
 use Rattle.objects_built.specs.certs_extension.Cert.{SignedValue, TbsValue}

@@ -1,7 +1,7 @@
 -- A signed object that is built is read again as one of its kind.
 use Rattle.std.proofs.Common.{ℕ, List, [], ◌∷◌, refl, sym, ◌∙◌, arith, append-nil}
 use Rattle.objects_built.specs.bcder_tree.Tree.{Tree}
-use Rattle.objects_built.specs.bcder_oid.Identifiers.{IsIdentifier}
+use Rattle.objects_built.specs.bcder.Identifiers.{IsIdentifier}
 use Rattle.objects_built.specs.objects_payload.Contents.{ReadsAs}
 use Rattle.objects_built.specs.objects_payload.Identifiers as id
 use Rattle.certs.specs.Laws.{BuiltIsSpelled}

@@ -4,7 +4,7 @@ use Rattle.objects_built.specs.bcder_tree.declared.mode.Mode.TheVariants.{Der}
 use Rattle.objects_built.specs.bcder_tree.Tree.{Tree}
 use Rattle.objects_built.specs.bcder_content.Kept.{CapturedValue}
 use Rattle.objects_built.specs.bcder_content.Texts.{SpellsOf}
-use Rattle.objects_built.specs.bcder_bits.Contents.{padded_in}
+use Rattle.objects_built.specs.bcder_octets.BitContents.{padded_in}
 use Rattle.objects_built.specs.resources_chain.Claims.{Choice}
 use Rattle.objects_built.specs.resources_chain.declared.choice.ResourcesChoice.TheVariants.{Missing}
 use Rattle.resources_ip.specs.WholeSets.{ListsWhole}

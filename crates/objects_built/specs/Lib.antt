@@ -1,8 +1,8 @@
 pub mod Builders
 -- What stands below, for the crates above.
-pub use Rattle.certs.specs.bcder_bits as bcder_bits
+pub use Rattle.certs.specs.bcder_octets as bcder_octets
 pub use Rattle.objects_written.specs.bcder_content as bcder_content
-pub use Rattle.objects_written.specs.bcder_oid as bcder_oid
+pub use Rattle.objects_written.specs.bcder as bcder
 pub use Rattle.objects_written.specs.bcder_tree as bcder_tree
 pub use Rattle.objects_written.specs.certs_basics as certs_basics
 pub use Rattle.certs_cert.specs.certs_key as certs_key

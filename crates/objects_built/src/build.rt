@@ -15,13 +15,13 @@ ghost use Rattle.objects_built.specs.Builders.{AreFieldsOf, IsBuilt, IsSigned, S
 use crate::builder::{Holdings, Names, Places, SignedObjectBuilder};
 use certs::again::fields_are_lawful;
 use certs::built::BuildCert;
+use certs::written::{Captured, EncodeError, Mode, Values};
 use certs_cert::{Cert, TbsCert};
 use certs_extension::{KeyUsage, Overclaim, Time, Validity};
 use certs_key::{
     Digester, KeyIdentifier, Name, PublicKey, RpkiSignature, RpkiSignatureAlgorithm, Serial,
     Signer, SigningError,
 };
-use certs_written::{Captured, EncodeError, Mode, Values};
 use objects_written::frame::{ObjectValue, SignerValue, signed_attributes, signed_message};
 use std::alloc::{AllocError, Global};
 

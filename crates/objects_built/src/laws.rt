@@ -1,7 +1,7 @@
 //! Laws of what is built: the contracts of functions that do nothing.
 
 ghost use Rattle.std.specs.Prelude.{◌≡◌, ◌≤◌, ℕ, List, true};
-ghost use Rattle.objects_built.specs.bcder_oid.Identifiers.{IsIdentifier};
+ghost use Rattle.objects_built.specs.bcder.Identifiers.{IsIdentifier};
 ghost use Rattle.objects_built.specs.certs_basics.HandedIn.{Digests};
 ghost use Rattle.objects_built.specs.certs_basics.Verdicts.{Verdicts};
 ghost use Rattle.objects_built.specs.objects_payload.Aspas.{AspaText, IsAspa};

@@ -3,7 +3,7 @@
 use answers::{Answer, pieces_of, unknown};
 use anyhow::{Result, anyhow};
 use bytes::Bytes;
-use objects_locator::{Tal, TalUri};
+use objects_payload::locator::{Tal, TalUri};
 use std::alloc::Global;
 
 fn uris(answer: &mut Answer, tal: &Tal) {

@@ -4,7 +4,7 @@ use answers::Answer;
 use anyhow::{Result, anyhow};
 use bcder::Mode;
 use bcder::encode::{EncodeError, Values};
-use objects_locator::Time;
+use objects_payload::locator::Time;
 use std::alloc::Global;
 
 /// The moment of a word.

@@ -5,11 +5,11 @@ use Rattle.objects_cms.specs.bcder_tree.Tags.{oid_tag}
 use Rattle.objects_cms.specs.bcder_tree.Strings.{IsOctetString, octet_string_tag}
 use Rattle.objects_cms.specs.bcder_content.Grammar.{OctetsOf, One, OneAll}
 use Rattle.objects_cms.specs.bcder_content.Words.{Gathers, Means}
-use Rattle.objects_cms.specs.bcder_oid.Identifiers.{IsOid}
+use Rattle.objects_cms.specs.bcder.Identifiers.{IsOid}
 use Rattle.objects_cms.specs.certs_basics.Forms.{IsTime}
 use Rattle.objects_cms.proofs.of_bcder_content.Meaning.{means_one}
 use Rattle.objects_cms.proofs.of_bcder_content.Unique.{as_one, end_one, inside_one, octets_one, then_one, unsigned_one}
-use Rattle.objects_cms.proofs.of_bcder_oid.Read.{oid_one}
+use Rattle.objects_cms.proofs.of_bcder.Read.{oid_one}
 use Rattle.objects_cms.proofs.of_certs_basics.Values.{gathers_one, string_one, then_by_one}
 use Rattle.objects_cms.proofs.of_certs_basics.Meanings.{time_one}
 use Rattle.objects_payload.specs.SignedAttributes.{IsBinaryTime}

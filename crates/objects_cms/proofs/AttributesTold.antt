@@ -9,8 +9,8 @@ use Rattle.objects_cms.specs.bcder_tree.Tree.{Tree, Trees}
 use Rattle.objects_cms.specs.bcder_tree.Strings.{IsOctetString}
 use Rattle.objects_cms.specs.bcder_content.Grammar.{ManyCases, OctetsOf, One}
 use Rattle.objects_cms.specs.bcder_content.Words.{Gathers}
-use Rattle.objects_cms.specs.bcder_oid.declared.oid.Oid.{Oid}
-use Rattle.objects_cms.specs.bcder_oid.Identifiers.{IsOid}
+use Rattle.objects_cms.specs.bcder.declared.oid.oid.Oid.{Oid}
+use Rattle.objects_cms.specs.bcder.Identifiers.{IsOid}
 use Rattle.objects_cms.specs.certs_basics.Forms.{IsTime}
 use Rattle.objects_payload.specs.SignedAttributes.{AreAttributes, Attribute, AttributesValue, IsAttribute, IsBinaryTime, IsOnce, kinds as signed_kinds, those_of}
 use Rattle.objects_cms.specs.declared.attributes.kinds.Kind.{Kind}

@@ -7,10 +7,10 @@ use Rattle.objects_cms.specs.bcder_tree.declared.mode.Mode.TheVariants.{Der}
 use Rattle.objects_cms.specs.bcder_tree.Tags.{sequence_tag}
 use Rattle.objects_cms.specs.bcder_tree.Tree.{Tree, Trees}
 use Rattle.objects_cms.specs.bcder_tree.Strings.{IsIa5, IsLetter}
-use Rattle.objects_cms.specs.bcder_bits.Bits.{BitsValue}
-use Rattle.objects_cms.specs.bcder_bits.Contents.{IsBitString, last_octet}
+use Rattle.objects_cms.specs.bcder_octets.Bits.{BitsValue}
+use Rattle.objects_cms.specs.bcder_octets.BitContents.{IsBitString, last_octet}
 use Rattle.objects_cms.specs.bcder_content.Grammar.{Many, ManyCases, One, Tagged}
-use Rattle.certs_key.proofs.of_bcder_strings.Ascii.{ascii_text}
+use Rattle.certs_key.proofs.of_bcder.Ascii.{ascii_text}
 use Rattle.objects_cms.proofs.of_bcder_content.Simple.{unit_one}
 use Rattle.objects_cms.proofs.of_bcder_content.Unique.{end_one, inside_one, inside_tagged, octets_one, then_one}
 use Rattle.objects_payload.specs.Manifests.{File, IsFile, IsFileName}

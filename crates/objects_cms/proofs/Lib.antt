@@ -14,8 +14,8 @@ mod Ones
 mod Spelled
 mod Whole
 pub mod Messages
-pub mod of_certs_basics
-pub mod of_bcder_oid
-pub mod of_certs_extension
+pub mod of_bcder
 pub mod of_bcder_content
+pub mod of_certs_basics
+pub mod of_certs_extension
 pub mod of_objects_payload

@@ -11,7 +11,7 @@ use Rattle.objects_cms.specs.bcder_tree.Tree.{IsHeader, IsPrimitive, Spells, Spe
 use Rattle.objects_cms.specs.bcder_content.Grammar.{Many, ManyCases}
 use Rattle.objects_cms.specs.bcder_content.Kept.{CapturedValue}
 use Rattle.bcder_octets.specs.Pieces.{Holds, Mark, Marks, NextPiece, around, held, holds}
-use Rattle.bcder_octets.proofs.of_bcder_header.Opening.{head_of}
+use Rattle.bcder_octets.proofs.of_bcder_content.Opening.{head_of}
 use Rattle.bcder_octets.proofs.of_bcder_tree.Modes.{ber_header}
 use Rattle.objects_payload.specs.Manifests.{File, IsFile}
 use Rattle.objects_cms.specs.Listing.{Listing, SpellsFiles, file_code}

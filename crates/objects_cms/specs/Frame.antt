@@ -4,8 +4,8 @@ use Rattle.objects_cms.specs.bcder_tree.declared.mode.Mode.{Mode}
 use Rattle.objects_cms.specs.bcder_tree.Tags.{context, oid_tag, sequence_tag, set_tag}
 use Rattle.objects_cms.specs.bcder_tree.Tree.{Tree, Trees}
 use Rattle.objects_cms.specs.bcder_tree.Strings.{IsOctetString}
-use Rattle.objects_cms.specs.bcder_oid.Identifiers.{IsOid}
-use Rattle.objects_cms.specs.bcder_oid.declared.oid.Oid.{Oid}
+use Rattle.objects_cms.specs.bcder.Identifiers.{IsOid}
+use Rattle.objects_cms.specs.bcder.declared.oid.oid.Oid.{Oid}
 use Rattle.objects_cms.specs.bcder_content.Grammar.{End, Inside, OctetsOf, Then}
 use Rattle.objects_cms.specs.bcder_content.Texts.{Joins, NoOctets, SpellsOf, Wraps}
 use Rattle.objects_cms.specs.certs_extension.Cert.{CertValue}

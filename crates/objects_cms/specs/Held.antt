@@ -5,9 +5,9 @@ use Rattle.std.proofs.Math.Seq.{drop-append_seam, take-append_seam}
 use Rattle.std.specs.Coded.{Coded-set, coded_list}
 use Rattle.objects_cms.specs.bcder_tree.declared.mode.Mode.TheVariants.{Ber}
 use Rattle.objects_cms.specs.bcder_tree.declared.length.Length.TheVariants.{Definite as LengthIs}
-use Rattle.objects_cms.specs.bcder_header.Openings.{Heads, NoHead}
+use Rattle.objects_cms.specs.bcder_content.Openings.{Heads, NoHead}
 use Rattle.bcder_octets.specs.Pieces.{Holds, Mark, Marks, around, held, holds}
-use Rattle.bcder_octets.proofs.of_bcder_header.Opening.{head_of}
+use Rattle.bcder_octets.proofs.of_bcder_content.Opening.{head_of}
 use Rattle.bcder_octets.proofs.of_bcder_tree.Parts.{Ends, identifier_goes_on}
 use Rattle.bcder_octets.proofs.Walk.{next_at, none_left, past_closing, past_header, piece_at}
 use Rattle.objects_payload.specs.Manifests.{File}

@@ -12,15 +12,13 @@ pub mod Decoded
 pub mod Content
 -- What stands below, for the crates above.
 pub use Rattle.objects_payload.specs.bcder_content as bcder_content
-pub use Rattle.objects_payload.specs.bcder_oid as bcder_oid
+pub use Rattle.objects_payload.specs.bcder as bcder
 pub use Rattle.objects_payload.specs.bcder_primitive as bcder_primitive
 pub use Rattle.objects_payload.specs.bcder_source as bcder_source
 pub use Rattle.bcder_tree.specs as bcder_tree
 pub use Rattle.objects_payload.specs.certs_basics as certs_basics
 pub use Rattle.objects_payload.specs.certs_extension as certs_extension
 pub use Rattle.objects_payload.specs as objects_payload
-pub use Rattle.certs_key.specs.bcder_bits as bcder_bits
-pub use Rattle.certs_key.specs.bcder_header as bcder_header
-pub use Rattle.certs_key.specs.bcder_strings as bcder_strings
+pub use Rattle.certs_key.specs.bcder_octets as bcder_octets
 pub use Rattle.certs_cert.specs.certs_key as certs_key
 pub use Rattle.certs_x509.specs as certs_x509

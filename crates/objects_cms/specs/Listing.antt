@@ -9,7 +9,7 @@ use Rattle.objects_cms.specs.bcder_content.Grammar.{Many, One}
 use Rattle.objects_cms.specs.bcder_content.Kept.{CapturedValue}
 use Rattle.objects_cms.specs.bcder_content.Texts.{InOrder}
 use Rattle.objects_payload.specs.Manifests.{File, IsFile}
-use Rattle.certs_key.proofs.of_bcder_bits.Readings.{bit_string_one}
+use Rattle.certs_key.proofs.of_bcder_octets.BitReadings.{bit_string_one}
 use Rattle.certs_key.proofs.of_bcder_content.Unique.{as_one, end_one, inside_one, many_one, octets_one, such_one, then_one}
 use Rattle.certs_key.proofs.of_bcder_tree.Trees.{one_fields}
 use Rattle.certs_key.proofs.of_certs_basics.Values.{string_one}

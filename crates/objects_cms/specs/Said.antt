@@ -4,7 +4,7 @@ use Rattle.objects_cms.specs.bcder_tree.declared.mode.Mode.{Mode}
 use Rattle.objects_cms.specs.bcder_tree.Tags.{oid_tag, sequence_tag, set_tag}
 use Rattle.objects_cms.specs.bcder_tree.Tree.{Tree, Trees}
 use Rattle.objects_cms.specs.bcder_tree.Strings.{IsOctetString}
-use Rattle.objects_cms.specs.bcder_oid.Identifiers.{IsOid}
+use Rattle.objects_cms.specs.bcder.Identifiers.{IsOid}
 use Rattle.objects_cms.specs.bcder_content.Grammar.{As, End, Inside, OctetsOf, Then}
 use Rattle.objects_cms.specs.bcder_content.Words.{Means, ThenBy}
 use Rattle.objects_cms.specs.certs_basics.Forms.{IsTime}

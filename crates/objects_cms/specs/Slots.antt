@@ -1,6 +1,6 @@
 -- What a list of attributes says, each kind once at most (RFC 6488 2.1.6.4).
 use Rattle.std.specs.Prelude.{◌≡◌, ℕ, List, [], ◌∷◌, ◌++◌, Option, Some, None, filter_map}
-use Rattle.objects_cms.specs.bcder_oid.declared.oid.Oid.{Oid}
+use Rattle.objects_cms.specs.bcder.declared.oid.oid.Oid.{Oid}
 use Rattle.objects_cms.specs.declared.attributes.said.Said.{Said}
 use Rattle.objects_cms.specs.declared.attributes.said.Said.TheVariants.{ContentType, MessageDigest, SigningTime, BinarySigningTime}
 use Rattle.objects_cms.specs.declared.attributes.slots.Slots.{Slots}

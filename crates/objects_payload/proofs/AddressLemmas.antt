@@ -16,7 +16,7 @@ use Rattle.objects_payload.specs.bcder_content.InMode.{ReadsFields}
 use Rattle.objects_payload.proofs.of_bcder_content.Taking.{on_content, weaker}
 use Rattle.objects_payload.proofs.of_bcder_content.Unique.{as_tagged, end_one, inside_tagged, octets_one, octets_tagged, opt_one, such_tagged, then_one, unsigned_one}
 use Rattle.objects_payload.proofs.of_bcder_content.Within.{AllWithin, all_gives, all_stop, all_unfit}
-use Rattle.objects_payload.specs.resources_addr.Prefixes.{bits_of, family_of}
+use Rattle.objects_payload.specs.resources_ip_prefix.AddrPrefixes.{bits_of, family_of}
 use Rattle.objects_payload.specs.resources_ip_prefix.Prefixes.{first_of}
 use Rattle.objects_payload.specs.resources_ip_prefix.Wide.{widened}
 use Rattle.objects_payload.specs.resources_ip_prefix.declared.addr.AddressFamily.{AddressFamily}

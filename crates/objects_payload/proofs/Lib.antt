@@ -1,3 +1,11 @@
+pub mod LineTexts
+pub mod UriLines
+pub mod Letters
+pub mod Keys
+pub mod Whole
+pub mod Parting
+pub mod Halves
+pub mod Named
 pub mod Objects
 pub mod Locators
 pub mod Orders
@@ -9,10 +17,10 @@ pub mod AddressLemmas
 pub mod FamilyLemmas
 pub mod ContentLemmas
 pub mod Steps
-pub mod of_certs_basics
-pub mod of_bcder_tree
-pub mod of_bcder_bits
-pub mod of_bcder_oid
-pub mod of_certs_extension
+pub mod of_bcder
 pub mod of_bcder_content
+pub mod of_bcder_octets
 pub mod of_bcder_source
+pub mod of_bcder_tree
+pub mod of_certs_basics
+pub mod of_certs_extension

@@ -35,7 +35,7 @@ no_return [] n = n refl
 no_return (c ∷ []) n = n refl
 no_return (c ∷ d ∷ r) n = no_return (d ∷ r) n
 
-same_before : (r s : List ℕ) → r ++ 13 ∷ [] ≡ s ++ 13 ∷ [] → r ≡ s
+pub same_before : (r s : List ℕ) → r ++ 13 ∷ [] ≡ s ++ 13 ∷ [] → r ≡ s
 same_before [] [] e = refl
 same_before [] (d ∷ []) e = absurd cc
 same_before [] (d ∷ f ∷ s) e = absurd cc
@@ -74,17 +74,17 @@ begins : (scheme text uri : List ℕ) (first : ℕ) (others : List ℕ) → uri 
 begins [] text uri first others w e = absurd cc
 begins (c ∷ scheme) text uri first others w e = (c, scheme ++ text, w, cc)
 
-uri_begins : (uri : List ℕ) → IsUri uri → (c : ℕ) × (behind : List ℕ) × (uri ≡ c ∷ behind) × (lower c ≢ 35)
+pub uri_begins : (uri : List ℕ) → IsUri uri → (c : ℕ) × (behind : List ℕ) × (uri ≡ c ∷ behind) × (lower c ≢ 35)
 uri_begins uri (inl r) = let b = begins r.scheme _ uri 114 (codes "sync://") r.whole r.scheme_is in (b.0, b.1, b.2, λ e. omega (arith, b.3, e))
 uri_begins uri (inr r) = let b = begins r.scheme _ uri 104 (codes "ttps://") r.whole r.scheme_is in (b.0, b.1, b.2, λ e. omega (arith, b.3, e))
 
-no_comment : (uri : List ℕ) → IsUri uri → IsComment uri → ⊥
+pub no_comment : (uri : List ℕ) → IsUri uri → IsComment uri → ⊥
 no_comment uri u h =
     let b = uri_begins uri u in
     let k : IsComment (b.0 ∷ b.1) = subst IsComment b.2 h in
     b.3 (ap lower k)
 
-not_empty : IsUri [] → ⊥
+pub not_empty : IsUri [] → ⊥
 not_empty u = let b = uri_begins [] u in let k : [] ≡ b.0 ∷ b.1 = b.2 in absurd cc
 
 -- URIs, the empty line, and what is after.

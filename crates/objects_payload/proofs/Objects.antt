@@ -5,8 +5,8 @@ use Rattle.objects_payload.specs.bcder_tree.declared.mode.Mode.TheVariants.{Der}
 use Rattle.objects_payload.specs.bcder_tree.Tags.{context, ia5_string_tag, oid_tag, sequence_tag}
 use Rattle.objects_payload.specs.bcder_tree.Tree.{Tree, Trees}
 use Rattle.objects_payload.specs.bcder_tree.Strings.{octet_string_tag}
-use Rattle.objects_payload.proofs.of_bcder_oid.Read.{oid_one}
-use Rattle.objects_payload.proofs.of_bcder_bits.Readings.{bit_string_one}
+use Rattle.objects_payload.proofs.of_bcder.Read.{oid_one}
+use Rattle.objects_payload.proofs.of_bcder_octets.BitReadings.{bit_string_one}
 use Rattle.objects_payload.specs.bcder_content.Grammar.{Inside, OctetsOf, Then, Many, End, One, OneAll, OneOctets}
 use Rattle.objects_payload.proofs.of_bcder_content.Unique.{octets_one, octets_tagged, such_one, inside_one, inside_tagged, then_one, opt_one, many_one, end_one, as_one, unsigned_one, same_trees}
 use Rattle.objects_payload.specs.resources_ip_prefix.declared.addr.AddressFamily.{AddressFamily}

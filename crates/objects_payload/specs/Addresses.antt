@@ -7,7 +7,7 @@ use Rattle.objects_payload.specs.bcder_tree.Tags.{integer_tag, sequence_tag}
 use Rattle.objects_payload.specs.bcder_tree.Tree.{Tree, Trees}
 use Rattle.objects_payload.specs.bcder_primitive.Values.{IsUnsigned}
 use Rattle.objects_payload.specs.bcder_content.Grammar.{As, End, Inside, Many, OctetsOf, Opt, Such, Then}
-use Rattle.objects_payload.specs.resources_addr.Prefixes.{bits_of, family_of}
+use Rattle.objects_payload.specs.resources_ip_prefix.AddrPrefixes.{bits_of, family_of}
 use Rattle.objects_payload.specs.resources_ip_prefix.Prefixes.{first_of}
 use Rattle.objects_payload.specs.resources_ip_prefix.Wide.{widened}
 use Rattle.objects_payload.specs.resources_ip_prefix.declared.addr.AddressFamily.{AddressFamily}

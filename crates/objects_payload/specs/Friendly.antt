@@ -1,6 +1,6 @@
 -- Addresses that know their family.
 use Rattle.std.specs.Prelude.{ℕ, ◌/◌, ◌^◌, List, ◌++◌, map}
-use Rattle.objects_payload.specs.resources_addr.MaxLens.{MaxLenValue, resolved}
+use Rattle.objects_payload.specs.resources_ip_prefix.MaxLens.{MaxLenValue, resolved}
 use Rattle.objects_payload.specs.resources_asn.Origins.{OriginValue}
 use Rattle.objects_payload.specs.resources_ip_prefix.declared.addr.AddressFamily.{AddressFamily}
 use Rattle.objects_payload.specs.resources_ip_prefix.declared.addr.AddressFamily.TheVariants as Of

@@ -2,7 +2,7 @@
 use Rattle.std.specs.Prelude.{ℕ, Bool, List, [], ◌∷◌, ◌++◌, Option}
 use Rattle.objects_payload.specs.bcder_tree.Tags.{oid_tag, sequence_tag}
 use Rattle.objects_payload.specs.bcder_tree.Tree.{Tree, Trees}
-use Rattle.objects_payload.specs.bcder_oid.Identifiers.{AreOctets}
+use Rattle.objects_payload.specs.bcder.Identifiers.{AreOctets}
 use Rattle.objects_payload.specs.certs_basics.Identifiers.{rsa_encryption, sha256_with_rsa}
 use Rattle.objects_payload.specs.certs_basics.Basics.{OptNull, is_there}
 use Rattle.objects_payload.specs.bcder_content.Grammar.{OctetsOf, Inside, As, OneOf, Then}

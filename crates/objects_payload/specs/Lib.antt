@@ -1,3 +1,7 @@
+pub mod Lines
+pub mod Uris
+pub mod Faults
+pub mod Tals
 pub mod Identifiers
 pub mod SignedAttributes
 pub mod ObjectText
@@ -19,16 +23,14 @@ pub mod RoaContents
 pub mod Friendly
 pub mod Covered
 -- What stands below, for the crates above.
-pub use Rattle.certs_extension.specs.bcder_bits as bcder_bits
+pub use Rattle.certs_extension.specs.bcder as bcder
 pub use Rattle.certs_extension.specs.bcder_content as bcder_content
-pub use Rattle.certs_extension.specs.bcder_oid as bcder_oid
+pub use Rattle.certs_extension.specs.bcder_octets as bcder_octets
 pub use Rattle.certs_extension.specs.bcder_primitive as bcder_primitive
 pub use Rattle.certs_extension.specs.bcder_source as bcder_source
-pub use Rattle.certs_extension.specs.bcder_strings as bcder_strings
 pub use Rattle.certs_extension.specs.bcder_tree as bcder_tree
 pub use Rattle.certs_extension.specs.certs_basics as certs_basics
 pub use Rattle.certs_extension.specs as certs_extension
 pub use Rattle.resources_asn.specs as resources_asn
 pub use Rattle.certs_extension.specs.resources_chain as resources_chain
 pub use Rattle.resources_ip_prefix.specs as resources_ip_prefix
-pub use Rattle.resources_addr.specs as resources_addr

@@ -4,10 +4,10 @@ use Rattle.objects_payload.specs.bcder_tree.declared.mode.Mode.TheVariants.{Der}
 use Rattle.objects_payload.specs.bcder_tree.Tags.{universal, generalized_time_tag, ia5_string_tag, sequence_tag}
 use Rattle.objects_payload.specs.bcder_tree.Tree.{Tree}
 use Rattle.objects_payload.specs.bcder_tree.Strings.{IsLetter, IsDigit, IsIa5}
-use Rattle.objects_payload.specs.bcder_strings.Sets.{alone}
-use Rattle.objects_payload.specs.bcder_strings.Restricted.{IsRestricted}
-use Rattle.objects_payload.specs.bcder_bits.Bits.{BitsValue}
-use Rattle.objects_payload.specs.bcder_bits.Contents.{IsBitString}
+use Rattle.objects_payload.specs.bcder.Sets.{alone}
+use Rattle.objects_payload.specs.bcder.Restricted.{IsRestricted}
+use Rattle.objects_payload.specs.bcder_octets.Bits.{BitsValue}
+use Rattle.objects_payload.specs.bcder_octets.BitContents.{IsBitString}
 use Rattle.objects_payload.specs.bcder_content.Grammar.{OctetsOf, Inside, As, Such, Then, Many, End}
 use Rattle.objects_payload.specs.certs_basics.Times.{IsMoment}
 use Rattle.objects_payload.specs.certs_basics.Basics.{IsSerial}

@@ -7,7 +7,7 @@ use Rattle.objects_payload.specs.bcder_tree.Octets.{IsLength}
 use Rattle.objects_payload.specs.bcder_tree.Tree.{Tree}
 use Rattle.objects_payload.specs.bcder_tree.Strings.{IsOctetString}
 use Rattle.objects_payload.specs.bcder_primitive.Values.{IsUnsigned, IsValue}
-use Rattle.objects_payload.specs.bcder_oid.Identifiers.{IsOid}
+use Rattle.objects_payload.specs.bcder.Identifiers.{IsOid}
 use Rattle.objects_payload.specs.bcder_content.Grammar.{OctetsOf, Inside, Then, End}
 use Rattle.objects_payload.specs.bcder_content.Texts.{SpellsOf, InOrder, WithOctets, Wraps, Joins, NoOctets, InFront}
 use Rattle.objects_payload.specs.certs_basics.HandedIn.{Digests}

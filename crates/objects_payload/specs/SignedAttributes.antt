@@ -5,7 +5,7 @@ use Rattle.objects_payload.specs.bcder_tree.Tags.{integer_tag, oid_tag, sequence
 use Rattle.objects_payload.specs.bcder_tree.Tree.{Tree, Trees}
 use Rattle.objects_payload.specs.bcder_tree.Strings.{IsOctetString}
 use Rattle.objects_payload.specs.bcder_primitive.Values.{IsUnsigned}
-use Rattle.objects_payload.specs.bcder_oid.Identifiers.{IsOid}
+use Rattle.objects_payload.specs.bcder.Identifiers.{IsOid}
 use Rattle.objects_payload.specs.bcder_content.Grammar.{OctetsOf, Inside, As, Then, End}
 use Rattle.objects_payload.specs.bcder_content.Words.{Itself, Gathers}
 use Rattle.objects_payload.specs.certs_basics.Forms.{IsTime}

@@ -6,4 +6,5 @@
 pub mod aspa;
 pub mod covered;
 pub mod forms;
+pub mod locator;
 pub mod roa;

@@ -6,9 +6,9 @@ use Rattle.objects_written.specs.bcder_tree.Tree.{Tree, Trees, constructed, more
 use Rattle.objects_written.specs.bcder_content.Grammar.{Many}
 use Rattle.objects_written.specs.bcder_content.Kept.{CapturedValue}
 use Rattle.objects_written.specs.bcder_content.Texts.{InOrder, SpellsOf}
-use Rattle.objects_written.specs.bcder_oid.Identifiers.{IsIdentifier}
+use Rattle.objects_written.specs.bcder.Identifiers.{IsIdentifier}
 use Rattle.objects_written.specs.bcder_values.Forms.{Alone}
-use Rattle.objects_written.specs.bcder_written.Encoded.{joined}
+use Rattle.objects_written.specs.bcder_primitive.Encoded.{joined}
 use Rattle.objects_written.specs.bcder.Kinds.{octets, oid}
 use Rattle.objects_payload.proofs.of_certs_basics.Meanings.{written_time}
 use Rattle.objects_written.specs.objects_payload.Identifiers as id
@@ -21,8 +21,8 @@ use Rattle.objects_cms.specs.declared.attributes.kinds.Kind.TheVariants as kinds
 use Rattle.objects_cms.specs.declared.attributes.said.Said.{Said}
 use Rattle.objects_cms.specs.declared.attributes.said.Said.TheVariants.{ContentType, MessageDigest, SigningTime}
 use Rattle.objects_cms.proofs.AttributesTold.{attributes_are}
-use Rattle.certs_written.specs.Fields.{PlainTrees, time}
-use Rattle.certs_written.specs.Outputs.{Output, of}
+use Rattle.certs.specs.Fields.{PlainTrees, time}
+use Rattle.certs.specs.Outputs.{Output, of}
 use Rattle.objects_written.proofs.Words.{inside_of, last_of, spelled_of}
 use Rattle.objects_written.specs.Attributes.{ToSign, WritesAttributes, attribute, attributes_of, content_type, message_digest, signing_time}
 use Rattle.objects_written.specs.Orders.{AreThese, SetText}

@@ -7,9 +7,9 @@ use Rattle.objects_written.specs.bcder_tree.Strings.{IsOctetString}
 use Rattle.objects_written.specs.bcder_content.Grammar.{End, Inside, OctetsOf, Then}
 use Rattle.objects_written.specs.bcder_content.Kept.{CapturedValue}
 use Rattle.objects_written.specs.bcder_content.Texts.{InOrder, Joins, NoOctets, SpellsOf, WithOctets, Wraps}
-use Rattle.objects_written.specs.bcder_oid.Identifiers.{IsIdentifier, IsOid}
+use Rattle.objects_written.specs.bcder.Identifiers.{IsIdentifier, IsOid}
 use Rattle.objects_written.specs.bcder_values.Forms.{Alone}
-use Rattle.objects_written.specs.bcder_written.Encoded.{WritesBoth, WritesWrapped}
+use Rattle.objects_written.specs.bcder_primitive.Encoded.{WritesBoth, WritesWrapped}
 use Rattle.objects_written.specs.bcder.Kinds.{octets, octets_at, oid}
 use Rattle.certs_key.proofs.Written.{cms_spelled, digest_spelled, digests_spelled}
 use Rattle.objects_written.specs.certs_extension.Cert.{CertValue}
@@ -18,8 +18,8 @@ use Rattle.objects_written.specs.certs_basics.Basics.{IsTwentyLong}
 use Rattle.objects_written.specs.objects_payload.Identifiers as id
 use Rattle.objects_written.specs.objects_payload.ObjectText.{AreDigestAlgorithms, IsContentInfo, IsSid, IsThree, ObjectText, SpellsContentInfo, SpellsSignedData, SpellsSigner, SignedFields as Signed, SignerFields as Signs, object_of}
 use Rattle.objects_written.specs.objects_payload.SignedAttributes.{AreAttributes, AttributesValue}
-use Rattle.certs_written.specs.Fields.{version}
-use Rattle.certs_written.specs.Outputs.{Output, of}
+use Rattle.certs.specs.Fields.{version}
+use Rattle.certs.specs.Outputs.{Output, of}
 use Rattle.objects_written.proofs.Words.{inside_of, last_of, spelled_of, then_of}
 use Rattle.objects_written.specs.Attributes.{ToSign, attributes_of}
 use Rattle.objects_written.specs.Frames.{AreParts, ObjectParts, SignerParts, algorithm, content_info, kept, object, object_with, rsa, sha256, signed_data, signer}

@@ -7,17 +7,17 @@ use Rattle.objects_written.specs.bcder_tree.declared.mode.Mode.TheVariants.{Der}
 use Rattle.objects_written.specs.bcder_tree.Tags.{TagValue, context, universal, generalized_time_tag, ia5_string_tag, integer_tag, oid_tag, sequence_tag}
 use Rattle.objects_written.specs.bcder_tree.Tree.{Tree, Trees, constructed, more, none, primitive}
 use Rattle.objects_written.specs.bcder_tree.Strings.{IsIa5, IsLetter}
-use Rattle.objects_written.specs.bcder_bits.Bits.{BitsValue}
-use Rattle.objects_written.specs.bcder_bits.Contents.{IsBitString, cleared}
-use Rattle.objects_written.specs.bcder_strings.Sets.{alone}
-use Rattle.objects_written.specs.bcder_strings.Restricted.{IsRestricted}
+use Rattle.objects_written.specs.bcder_octets.Bits.{BitsValue}
+use Rattle.objects_written.specs.bcder_octets.BitContents.{IsBitString, cleared}
+use Rattle.objects_written.specs.bcder.Sets.{alone}
+use Rattle.objects_written.specs.bcder.Restricted.{IsRestricted}
 use Rattle.objects_written.specs.bcder_content.Contents.{tag_of}
 use Rattle.objects_written.specs.bcder_content.Grammar.{End, Many, ManyCases, OctetsOf, Such, Then, Without}
 use Rattle.objects_written.specs.bcder_content.Texts.{SpellsOf}
-use Rattle.certs_key.proofs.of_bcder_strings.Ascii.{ascii_text}
+use Rattle.certs_key.proofs.of_bcder.Ascii.{ascii_text}
 use Rattle.certs_key.proofs.of_bcder_content.Unique.{same_trees}
 use Rattle.objects_written.specs.bcder_values.Forms.{Alone}
-use Rattle.objects_written.specs.bcder_written.Encoded.{joined}
+use Rattle.objects_written.specs.bcder_primitive.Encoded.{joined}
 use Rattle.objects_written.specs.certs_basics.Basics.{IsSerial}
 use Rattle.objects_written.specs.objects_payload.Identifiers as id
 use Rattle.objects_written.specs.objects_payload.Manifests.{Fields, File, IsFile, IsFileName, IsManifest, IsMomentString, IsWhole, Manifest}

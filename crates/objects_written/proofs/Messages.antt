@@ -4,9 +4,9 @@ use Rattle.objects_written.specs.bcder_tree.declared.mode.Mode.TheVariants.{Der}
 use Rattle.objects_written.specs.bcder_tree.Tags.{set_tag}
 use Rattle.objects_written.specs.bcder_tree.Tree.{constructed, definite, more, none}
 use Rattle.objects_written.specs.bcder_content.Kept.{CapturedValue, SpellsValues}
-use Rattle.objects_written.specs.bcder_written.Encoded.{IsWrapped, WritesWrapped}
-use Rattle.objects_written.specs.bcder_written.declared.error.EncodeError.{EncodeError}
-use Rattle.objects_written.specs.bcder_written.declared.error.EncodeError.TheVariants as errors
+use Rattle.objects_written.specs.bcder_primitive.Encoded.{IsWrapped, WritesWrapped}
+use Rattle.objects_written.specs.bcder_primitive.declared.written.error.EncodeError.{EncodeError}
+use Rattle.objects_written.specs.bcder_primitive.declared.written.error.EncodeError.TheVariants as errors
 use Rattle.certs_key.proofs.of_bcder_tree.Fronts.{length_bound}
 use Rattle.objects_written.specs.bcder_values.Captures.{CapturedText, CapturedTrees}
 use Rattle.objects_written.specs.bcder_values.Gathered.{ExtendRefused}

@@ -2,10 +2,10 @@
 use Rattle.std.proofs.Common.{◌≡◌, ℕ, List, sym, ◌∙◌, subst}
 use Rattle.objects_written.specs.bcder_tree.declared.mode.Mode.{Mode}
 use Rattle.objects_written.specs.bcder_tree.Tags.{TagValue, generalized_time_tag}
-use Rattle.objects_written.specs.bcder_bits.Bits.{BitsValue}
-use Rattle.objects_written.specs.bcder_bits.Contents.{WritesBits, bit_string_tag}
+use Rattle.objects_written.specs.bcder_octets.Bits.{BitsValue}
+use Rattle.objects_written.specs.bcder_octets.BitContents.{WritesBits, bit_string_tag}
 use Rattle.objects_written.specs.bcder_primitive.Values.{AnyOctets}
-use Rattle.objects_written.specs.bcder_written.Encoded.{IsPlain, WritesPlain}
+use Rattle.objects_written.specs.bcder_primitive.Encoded.{IsPlain, WritesPlain}
 use Rattle.objects_written.specs.resources_ip_prefix.declared.prefix.Prefix.{Prefix}
 use Rattle.objects_written.specs.resources_ip_prefix.Encodings.{FirstBits, prefix_bits}
 use Rattle.objects_written.specs.resources_ip_prefix.Written.{spelled_bits}

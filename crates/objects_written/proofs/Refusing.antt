@@ -2,10 +2,10 @@
 use Rattle.std.proofs.Common.{◌≡◌, ◌≤◌, ◌+◌, ℕ, List, length, Result, Ok, Err, IfErr, sym, ◌∙◌, subst, arith}
 use Rattle.std.specs.Result.{IsErr, IsErrAnd}
 use Rattle.objects_written.specs.bcder_tree.declared.mode.Mode.TheVariants.{Der}
-use Rattle.objects_written.specs.bcder_written.declared.error.EncodeError.{EncodeError}
-use Rattle.objects_written.specs.bcder_written.declared.error.EncodeError.TheVariants as errors
+use Rattle.objects_written.specs.bcder_primitive.declared.written.error.EncodeError.{EncodeError}
+use Rattle.objects_written.specs.bcder_primitive.declared.written.error.EncodeError.TheVariants as errors
 use Rattle.objects_written.specs.bcder_values.Gathered.{ExtendRefused}
-use Rattle.certs_written.specs.Outputs.{Output}
+use Rattle.certs.specs.Outputs.{Output}
 use Rattle.objects_written.specs.Attributes.{IsRefused, ToSign, WritesAttributes, content_type, message_digest, signing_time}
 use Rattle.objects_written.specs.Orders.{SetRefused, SetText}
 use Rattle.objects_written.proofs.Sets.{same_long, text_long}

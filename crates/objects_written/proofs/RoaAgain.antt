@@ -4,14 +4,14 @@ use Rattle.objects_written.specs.bcder_tree.declared.mode.Mode.{Mode}
 use Rattle.objects_written.specs.bcder_tree.declared.mode.Mode.TheVariants.{Der}
 use Rattle.objects_written.specs.bcder_tree.Tags.{TagValue, context, integer_tag}
 use Rattle.objects_written.specs.bcder_tree.Tree.{Trees, none, primitive}
-use Rattle.objects_written.specs.bcder_bits.Contents.{WritesBits, bit_string_tag}
+use Rattle.objects_written.specs.bcder_octets.BitContents.{WritesBits, bit_string_tag}
 use Rattle.objects_written.specs.bcder_primitive.Values.{IsUnsigned}
 use Rattle.objects_written.specs.bcder_content.Contents.{tag_of}
 use Rattle.objects_written.specs.bcder_content.Grammar.{End, ManyCases, OctetsOf, Opt, Then, Without}
 use Rattle.objects_written.specs.bcder_content.Texts.{SpellsOf}
 use Rattle.certs_key.proofs.of_bcder_content.Unique.{same_trees}
 use Rattle.objects_written.specs.bcder_values.Forms.{Alone, not_more}
-use Rattle.objects_written.specs.bcder_written.Encoded.{SpellsSome, joined}
+use Rattle.objects_written.specs.bcder_primitive.Encoded.{SpellsSome, joined}
 use Rattle.objects_written.specs.bcder.Kinds.{octets, unsigned}
 use Rattle.objects_written.specs.resources_asn.Encodings.{IsAsId}
 use Rattle.objects_written.specs.resources_ip_prefix.declared.addr.AddressFamily.{AddressFamily}

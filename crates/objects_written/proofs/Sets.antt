@@ -4,9 +4,9 @@ use Rattle.objects_written.specs.bcder_tree.declared.mode.Mode.TheVariants.{Der}
 use Rattle.objects_written.specs.bcder_tree.Tags.{set_tag}
 use Rattle.objects_written.specs.bcder_tree.Tree.{IsConstructed, Trees, definite, indefinite}
 use Rattle.objects_written.specs.bcder_content.Kept.{CapturedValue, SpellsValues}
-use Rattle.objects_written.specs.bcder_written.Encoded.{AreBoth, WritesBoth, WritesWrapped, joined}
-use Rattle.objects_written.specs.bcder_written.declared.error.EncodeError.{EncodeError}
-use Rattle.objects_written.specs.bcder_written.declared.error.EncodeError.TheVariants as errors
+use Rattle.objects_written.specs.bcder_primitive.Encoded.{AreBoth, WritesBoth, WritesWrapped, joined}
+use Rattle.objects_written.specs.bcder_primitive.declared.written.error.EncodeError.{EncodeError}
+use Rattle.objects_written.specs.bcder_primitive.declared.written.error.EncodeError.TheVariants as errors
 use Rattle.certs_key.proofs.of_bcder_tree.Fronts.{one_octet_header}
 use Rattle.objects_written.specs.bcder_values.Captures.{CapturedText, CapturedTrees}
 use Rattle.objects_written.specs.bcder_values.Gathered.{ExtendRefused}

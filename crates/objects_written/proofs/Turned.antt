@@ -1,9 +1,9 @@
 -- What is said of what is written holds of texts and trees that are the same.
 use Rattle.std.proofs.Common.{ℕ, List, Option, Result, Ok, Err, OnOk, IfOk, IfErr}
 use Rattle.objects_written.specs.bcder_tree.Tree.{Trees}
-use Rattle.objects_written.specs.bcder_written.declared.error.EncodeError.{EncodeError}
-use Rattle.objects_written.specs.bcder_written.declared.error.EncodeError.TheVariants as errors
-use Rattle.objects_written.specs.bcder_written.Writing.{CannotWrite, HasLength, WriteRefused, Wrote}
+use Rattle.objects_written.specs.bcder_primitive.declared.written.error.EncodeError.{EncodeError}
+use Rattle.objects_written.specs.bcder_primitive.declared.written.error.EncodeError.TheVariants as errors
+use Rattle.objects_written.specs.bcder_primitive.Writing.{CannotWrite, HasLength, WriteRefused, Wrote}
 
 -- The texts of P are those of Q, and the trees of U are of T.
 pub record Turns (T U : Trees → Type 0) (P Q : List ℕ → Type 0) : Type 0 where

@@ -6,7 +6,7 @@ use Rattle.objects_written.specs.bcder_tree.Tree.{Spells, SpellsAll, Tree, Trees
 use Rattle.objects_written.specs.bcder_content.Grammar.{End, Inside, Then}
 use Rattle.objects_written.specs.bcder_content.Texts.{SpellsOf}
 use Rattle.objects_written.specs.bcder_values.Forms.{Alone}
-use Rattle.objects_written.specs.bcder_written.Encoded.{AreBoth, IsWrapped, SpellsSome, joined}
+use Rattle.objects_written.specs.bcder_primitive.Encoded.{AreBoth, IsWrapped, SpellsSome, joined}
 
 pub joined_none : (ts : Trees) → joined ts none ≡ ts
 joined_none none = refl

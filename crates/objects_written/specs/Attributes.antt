@@ -3,13 +3,13 @@ use Rattle.std.specs.Prelude.{◌≡◌, ℕ, ◌^◌, ◌<◌, List, ◌∷◌,
 use Rattle.objects_written.specs.bcder_tree.declared.mode.Mode.TheVariants.{Der}
 use Rattle.objects_written.specs.bcder_tree.Tags.{sequence_tag, set_tag}
 use Rattle.objects_written.specs.bcder_tree.Octets.{IsLength}
-use Rattle.objects_written.specs.bcder_written.declared.error.EncodeError.{EncodeError}
-use Rattle.objects_written.specs.bcder_written.declared.error.EncodeError.TheVariants as errors
+use Rattle.objects_written.specs.bcder_primitive.declared.written.error.EncodeError.{EncodeError}
+use Rattle.objects_written.specs.bcder_primitive.declared.written.error.EncodeError.TheVariants as errors
 use Rattle.objects_written.specs.bcder.Kinds.{octets, oid}
 use Rattle.objects_written.specs.objects_payload.Identifiers as id
 use Rattle.objects_written.specs.objects_payload.SignedAttributes.{AttributesValue}
-use Rattle.certs_written.specs.Fields.{time}
-use Rattle.certs_written.specs.Outputs.{Output, beside, inside, of}
+use Rattle.certs.specs.Fields.{time}
+use Rattle.certs.specs.Outputs.{Output, beside, inside, of}
 use Rattle.objects_written.specs.Orders.{SetText}
 
 -- What is signed: the type of the content, its digest, and when it is signed.

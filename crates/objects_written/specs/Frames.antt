@@ -5,7 +5,7 @@ use Rattle.objects_written.specs.bcder_tree.Tags.{context, sequence_tag, set_tag
 use Rattle.objects_written.specs.bcder_content.Kept.{CapturedValue}
 use Rattle.objects_written.specs.bcder.Kinds.{octets, octets_at, oid}
 use Rattle.objects_written.specs.certs_key.Algorithms.{AlgorithmValue, algorithm_of}
-use Rattle.objects_written.specs.bcder_oid.Identifiers.{IsIdentifier}
+use Rattle.objects_written.specs.bcder.Identifiers.{IsIdentifier}
 use Rattle.objects_written.specs.certs_basics.Basics.{IsTwentyLong}
 use Rattle.objects_written.specs.certs_basics.Identifiers.{rsa_encryption}
 use Rattle.objects_written.specs.certs_extension.Cert.{CertValue}
@@ -13,8 +13,8 @@ use Rattle.objects_written.specs.certs_extension.CertText.{SpellsCert}
 use Rattle.objects_written.specs.objects_payload.Identifiers as id
 use Rattle.objects_written.specs.objects_payload.ObjectText.{Object}
 use Rattle.objects_written.specs.Attributes.{ToSign, WritesAttributes}
-use Rattle.certs_written.specs.Fields.{name, version}
-use Rattle.certs_written.specs.Outputs.{Output, beside, inside, of}
+use Rattle.certs.specs.Fields.{name, version}
+use Rattle.certs.specs.Outputs.{Output, beside, inside, of}
 
 -- An algorithm, with NULL or without.
 abbrev pub algorithm : AlgorithmValue → Output

@@ -1,9 +1,9 @@
 -- What is written of manifests (RFC 9286 4.2).
 use Rattle.std.specs.Prelude.{◌^◌, ◌<◌, ℕ, List, All}
 use Rattle.objects_written.specs.bcder_tree.Tags.{generalized_time_tag, ia5_string_tag, sequence_tag}
-use Rattle.objects_written.specs.bcder_bits.Bits.{BitsValue}
+use Rattle.objects_written.specs.bcder_octets.Bits.{BitsValue}
 use Rattle.objects_written.specs.bcder_values.Plains.{plain_one, plain_spelled}
-use Rattle.objects_written.specs.bcder_written.Encoded.{IsPlain, WritesPlain}
+use Rattle.objects_written.specs.bcder_primitive.Encoded.{IsPlain, WritesPlain}
 use Rattle.objects_written.specs.bcder.Kinds.{bits, octets_at, oid}
 use Rattle.objects_written.specs.certs_basics.Times.{IsMoment}
 use Rattle.objects_payload.proofs.of_certs_basics.Moments.{one_text}

@@ -1,7 +1,7 @@
 -- The order of the encodings in a SET OF (X.690 11.6).
 use Rattle.std.specs.Prelude.{◌≡◌, ◌^◌, ◌<◌, ◌⊎◌, ◌++◌, ℕ, List, [], ◌∷◌, length}
-use Rattle.objects_written.specs.bcder_written.declared.error.EncodeError.{EncodeError}
-use Rattle.objects_written.specs.bcder_written.declared.error.EncodeError.TheVariants as errors
+use Rattle.objects_written.specs.bcder_primitive.declared.written.error.EncodeError.{EncodeError}
+use Rattle.objects_written.specs.bcder_primitive.declared.written.error.EncodeError.TheVariants as errors
 
 -- The first octet, and those after it; octets that are missing count as 0.
 abbrev pub front : List ℕ → ℕ

@@ -3,11 +3,11 @@ use Rattle.std.proofs.Common.{◌≡◌, ◌≢◌, ◌⊎◌, ℕ, ◌-◌, ◌
 use Rattle.std.specs.Int.{to_be_bytes, w128}
 use Rattle.objects_written.specs.bcder_tree.declared.mode.Mode.{Mode}
 use Rattle.objects_written.specs.bcder_tree.Tags.{sequence_tag}
-use Rattle.objects_written.specs.bcder_bits.Bits.{BitsValue}
-use Rattle.objects_written.specs.bcder_bits.Contents.{WritesBits, bit_string_tag}
-use Rattle.objects_written.specs.bcder_bits.Written.{one_bits}
+use Rattle.objects_written.specs.bcder_octets.Bits.{BitsValue}
+use Rattle.objects_written.specs.bcder_octets.BitContents.{WritesBits, bit_string_tag}
+use Rattle.objects_written.specs.bcder_octets.BitsWritten.{one_bits}
 use Rattle.objects_written.specs.bcder_values.Plains.{plain_one, plain_spelled}
-use Rattle.objects_written.specs.bcder_written.Encoded.{IsPlain, WritesPlain}
+use Rattle.objects_written.specs.bcder_primitive.Encoded.{IsPlain, WritesPlain}
 use Rattle.objects_written.specs.bcder.Kinds.{octets, unsigned}
 use Rattle.objects_written.specs.resources_ip_prefix.declared.addr.AddressFamily.{AddressFamily}
 use Rattle.objects_written.specs.resources_ip_prefix.declared.addr.AddressFamily.TheVariants.{Ipv4, Ipv6}

@@ -4,9 +4,9 @@ ghost use Rattle.std.specs.Prelude.{◌≡◌, List};
 ghost use Rattle.objects_written.specs.objects_payload.Roas.{RoaAddress};
 ghost use Rattle.objects_written.specs.Roas.{address, address_parts, max_length, prefix};
 
+use certs::written::Sequence;
 use certs_key::encode::{EncodeError, Iter, Primitive, Values, Walk};
 use certs_key::{Mode, Tag};
-use certs_written::Sequence;
 use objects_payload::forms::Prefix;
 use objects_payload::roa::{RoaIpAddress, RoaIpAddressIter, RoaIpAddresses};
 use std::io::Write;

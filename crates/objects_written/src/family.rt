@@ -4,9 +4,9 @@ ghost use Rattle.std.specs.Prelude.{◌≡◌};
 ghost use Rattle.objects_written.specs.Roas.{family, family_id, family_parts, shown as shown_of};
 
 use crate::address::Addresses;
+use certs::written::Sequence;
 use certs_key::Mode;
 use certs_key::encode::{EncodeError, Iter, Values};
-use certs_written::Sequence;
 use objects_payload::forms::AddressFamily;
 use objects_payload::roa::RoaIpAddresses;
 use std::io::Write;

@@ -4,10 +4,10 @@ ghost use Rattle.std.specs.Prelude.{◌≡◌, ◌+◌, ◌<◌, drop, length};
 ghost use Rattle.objects_written.specs.objects_payload.Manifests.{File};
 ghost use Rattle.objects_written.specs.Manifests.{file, file_hash, file_name, file_parts};
 
+use certs::written::Sequence;
 use certs_key::encode::{EncodeError, Primitive, Values, Walk};
 use certs_key::string::{BitSlice, OctetSliceEncoder};
 use certs_key::{Mode, Tag};
-use certs_written::Sequence;
 use objects_cms::manifest::{FileAndHash, FileListIter, ManifestContent};
 use std::io::Write;
 use std::marker::Model;

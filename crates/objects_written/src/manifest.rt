@@ -9,9 +9,9 @@ ghost use Rattle.objects_written.specs.objects_payload.Manifests.{IsManifest, Ma
 ghost use Rattle.objects_written.specs.Manifests.{AreFileNames, IsManifestNumber, manifest, manifest_parts, moment};
 
 use crate::file::ListedFiles;
+use certs::written::{Identifier, Sequence, SerialValue};
 use certs_key::encode::{EncodeError, Iter, Values};
 use certs_key::{Captured, ConstOid, Mode, Oid, Serial};
-use certs_written::{Identifier, Sequence, SerialValue};
 use objects_cms::manifest::ManifestContent;
 use objects_cms::manifest::file::is_file_name;
 use objects_payload::forms::Time;

@@ -8,9 +8,9 @@ ghost use Rattle.objects_written.specs.objects_payload.Roas.{IsRoa, Roa};
 ghost use Rattle.objects_written.specs.Roas.{AreOfFamilies, HasAddress, as_id, roa, roa_parts};
 
 use crate::family::{FamilyValue, shown};
+use certs::written::Sequence;
 use certs_key::encode::{EncodeError, Primitive, Values};
 use certs_key::{Captured, Mode, Tag};
-use certs_written::Sequence;
 use objects_payload::forms::{AddressFamily, Asn};
 use objects_payload::roa::RouteOriginAttestation;
 use resources_ip_prefix::laws::a_prefix_is_read_again;

@@ -9,9 +9,9 @@
 //! | [`policy`] | the octets of the identifiers of a policy |
 //! | [`set`] | sets of all three kinds: what changes lead from one to another |
 
-pub use resources_addr::laws as addr;
+pub use crate::set::laws as set;
+pub use resources_as::laws as asres;
+pub use resources_as::policy::laws as policy;
 pub use resources_chain::laws as chain;
-pub use resources_policy::laws as policy;
-pub use resources_set::laws as set;
-pub use resources_set::resources_as::laws as asres;
-pub use resources_set::resources_ip::laws as ipres;
+pub use resources_ip::laws as ipres;
+pub use resources_ip_prefix::ip_addr::laws as addr;

@@ -2,8 +2,8 @@
 //!
 //! This is the face of the resources: a port of `rpki::resources` and `rpki::repository::resources` of the Rust crate
 //! `rpki` 0.20.1 in which each call is proved to meet its contract. A value is a set of whole numbers, and contracts
-//! say of each call which numbers its answer has. The parts below are crates of their own, whose `specs/` have the
-//! definitions that contracts cite.
+//! say of each call which numbers its answer has. The `specs/` of each crate have the definitions that
+//! its contracts cite.
 //!
 //! | Module | Has |
 //! |---|---|
@@ -51,7 +51,7 @@ pub mod laws;
 pub mod overclaim;
 pub mod set;
 
-pub use asn::{Asn, SmallAsnSet};
+pub use asn::{Asn, Origin, SmallAsnSet};
 pub use asres::{
     AsBlock, AsBlockIter, AsBlocks, AsBlocksBuilder, AsRange, AsResources, AsResourcesBuilder,
     InheritedAsResources, OverclaimedAsResources,
@@ -64,5 +64,4 @@ pub use ipres::{
     OverclaimedIpResources, OverclaimedIpv4Resources, OverclaimedIpv6Resources, Prefix,
 };
 pub use overclaim::{ClaimError, Overclaim, OverclaimIds};
-pub use resources_set::Origin;
 pub use set::{InheritError, ResourceDiff, ResourceSet};

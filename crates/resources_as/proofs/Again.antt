@@ -7,11 +7,11 @@ use Rattle.resources_as.specs.bcder_primitive.Values.{IsNull}
 use Rattle.resources_as.specs.bcder_source.declared.error.DecodeError.{DecodeError}
 use Rattle.resources_as.specs.bcder_content.Contents.{ValuesLeft}
 use Rattle.resources_as.specs.bcder_content.Exact.{ReadsAs}
-use Rattle.resources_as.specs.bcder_written.Encoded.{IsPlain, IsWrapped}
+use Rattle.resources_as.specs.bcder_primitive.Encoded.{IsPlain, IsWrapped}
 use Rattle.resources_as.specs.resources_chain.Sets.{Run, AreMaximal}
 use Rattle.resources_as.specs.resources_chain.Claims.{Choice}
 use Rattle.resources_as.specs.resources_chain.declared.choice.ResourcesChoice.TheVariants.{Missing, Inherit, Blocks}
-use Rattle.resources_as_block.proofs.Again.{IsOne, blocks_are}
+use Rattle.resources_asn.proofs.Again.{IsOne, blocks_are}
 use Rattle.resources_as.specs.Encodings.{IsAsSet, IsAsChoice, IsAsResources}
 use Rattle.resources_as.specs.Meanings.{resources_one}
 use Rattle.resources_as.specs.Written.{AreAsBlocks, AreIdentifiers, AreAsResources, HasMaximal, MeansJust, ReadsSet}

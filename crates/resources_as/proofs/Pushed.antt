@@ -2,8 +2,8 @@
 use Rattle.std.proofs.Common.{ℕ, List, [], ◌∷◌, ◌++◌, inl, inr, le_refl}
 use Rattle.resources_as.specs.resources_chain.Sets.{Run, InRuns, IsRunsOf}
 use Rattle.resources_as.proofs.of_resources_chain.SetLemmas.{in_append}
-use Rattle.resources_as_block.specs.declared.block.AsBlock.{AsBlock}
-use Rattle.resources_as_block.specs.Blocks.{as_run, as_run_within}
+use Rattle.resources_asn.specs.declared.as_block.block.AsBlock.{AsBlock}
+use Rattle.resources_asn.specs.Blocks.{as_run, as_run_within}
 
 pub some_pushed : (runs : List Run) (b : AsBlock) → (n : ℕ) × InRuns (runs ++ as_run b ∷ []) n
 some_pushed runs b = ((as_run b).first, (in_append runs (as_run b ∷ []) (as_run b).first).1 (inr (inl (le_refl _, (as_run_within b).0))))

@@ -8,7 +8,7 @@ use Rattle.resources_as.specs.bcder_source.declared.error.DecodeError.{DecodeErr
 use Rattle.resources_as.proofs.of_bcder_content.Taking.{weaker}
 use Rattle.resources_as.specs.bcder_content.Grammar.{Many}
 use Rattle.resources_as.specs.resources_chain.Sets.{Run, InRuns, IsRunsOf}
-use Rattle.resources_as_block.specs.Encodings.{IsAsBlock}
+use Rattle.resources_asn.specs.BlockEncodings.{IsAsBlock}
 use Rattle.resources_as.specs.Encodings.{AreBlocks}
 
 -- Blocks mean their union.

@@ -5,12 +5,12 @@ use Rattle.std.proofs.Common.{Ok, Err}
 use Rattle.resources_as.specs.resources_chain.Sets.{Run, AreMaximal, IsRunsOf}
 use Rattle.resources_as.specs.resources_chain.Lists.{IsListText, HasFault, IsNoListText}
 use Rattle.resources_as.proofs.of_resources_chain.ListTexts.{refuses_list, set_once, set_printed, AllWritten}
-use Rattle.resources_as_block.specs.Blocks.{as_run, as_run_within, run_text}
-use Rattle.resources_as_block.specs.Texts.{IsAsBlockText, IsNoAsBlock, ReadsAsBlock}
-use Rattle.resources_as_block.specs.declared.block.AsBlock.{AsBlock}
-use Rattle.resources_as_block.specs.declared.error.FromStrError.{FromStrError}
-use Rattle.resources_as_block.specs.declared.error.FromStrError.TheVariants.{BadAsn, BadRange, BadBlocks, Memory}
-use Rattle.resources_as_block.proofs.Texts.{no_block, block_once, block_some, run_written}
+use Rattle.resources_asn.specs.Blocks.{as_run, as_run_within, run_text}
+use Rattle.resources_asn.specs.BlockTexts.{IsAsBlockText, IsNoAsBlock, ReadsAsBlock}
+use Rattle.resources_asn.specs.declared.as_block.block.AsBlock.{AsBlock}
+use Rattle.resources_asn.specs.declared.as_block.error.FromStrError.{FromStrError}
+use Rattle.resources_asn.specs.declared.as_block.error.FromStrError.TheVariants.{BadAsn, BadRange, BadBlocks, Memory}
+use Rattle.resources_asn.proofs.BlockTexts.{no_block, block_once, block_some, run_written}
 use Rattle.resources_as.specs.resources_chain.Claims.{Choice}
 use Rattle.resources_as.specs.resources_chain.Choices.{choice_text}
 use Rattle.resources_as.specs.resources_chain.declared.choice.ResourcesChoice.TheVariants.{Missing, Inherit, Blocks}

@@ -2,12 +2,12 @@
 use Rattle.std.proofs.Common.{◌≡◌, ℕ, List, [], ◌∷◌, map, refl, ap, subst}
 use Rattle.resources_as.specs.bcder_tree.declared.mode.Mode.{Mode}
 use Rattle.resources_as.specs.bcder_tree.Tree.{Trees}
-use Rattle.resources_as.specs.bcder_written.Encoded.{AreBoth, WritesBoth}
+use Rattle.resources_as.specs.bcder_primitive.Encoded.{AreBoth, WritesBoth}
 use Rattle.resources_as.specs.bcder_values.Lists.{AreAll, WritesAll}
 use Rattle.resources_as.specs.resources_chain.Sets.{Run}
-use Rattle.resources_as_block.specs.Blocks.{as_run}
-use Rattle.resources_as_block.specs.declared.block.AsBlock.{AsBlock}
-use Rattle.resources_as_block.specs.Written.{AreAsBlock, WritesAsBlock}
+use Rattle.resources_asn.specs.Blocks.{as_run}
+use Rattle.resources_asn.specs.declared.as_block.block.AsBlock.{AsBlock}
+use Rattle.resources_asn.specs.Written.{AreAsBlock, WritesAsBlock}
 use Rattle.resources_as.specs.Written.{AreAsBlocks, WritesAsBlocks}
 
 all_trees : (xs : List AsBlock) → AreAll (λ b. AreAsBlock (as_run b)) xs ≡ AreAsBlocks (map as_run xs)

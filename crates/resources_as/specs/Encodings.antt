@@ -7,7 +7,7 @@ use Rattle.resources_as.specs.bcder_content.Grammar.{Inside, OctetsOf, OneOf, As
 use Rattle.resources_as.specs.resources_chain.Sets.{Run, InRuns, IsRunsOf}
 use Rattle.resources_as.specs.resources_chain.Claims.{Choice}
 use Rattle.resources_as.specs.resources_chain.declared.choice.ResourcesChoice.TheVariants.{Inherit, Blocks}
-use Rattle.resources_as_block.specs.Encodings.{IsAsBlock}
+use Rattle.resources_asn.specs.BlockEncodings.{IsAsBlock}
 
 -- asIdsOrRanges SEQUENCE OF ASIdOrRange (3.2.3.4), in any order: they mean their union.
 pub record AreBlocks (ts : Trees) (set : List Run) : Type 0 where

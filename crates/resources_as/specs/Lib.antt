@@ -1,16 +1,16 @@
+pub mod Identifiers
 pub mod Choices
 pub mod Encodings
 pub mod Meanings
 pub mod Texts
 pub mod Written
 -- What stands below, for the crates above.
-pub use Rattle.resources_as_block.specs.bcder_content as bcder_content
-pub use Rattle.resources_as_block.specs.bcder_primitive as bcder_primitive
-pub use Rattle.resources_as_block.specs.bcder_source as bcder_source
-pub use Rattle.resources_as_block.specs.bcder_tree as bcder_tree
-pub use Rattle.resources_as_block.specs.bcder_values as bcder_values
-pub use Rattle.resources_as_block.specs.bcder_written as bcder_written
-pub use Rattle.resources_as_block.specs.resources_addr as resources_addr
-pub use Rattle.resources_as_block.specs as resources_as_block
-pub use Rattle.resources_as_block.specs.resources_asn as resources_asn
-pub use Rattle.resources_as_block.specs.resources_chain as resources_chain
+pub use Rattle.bcder.specs as bcder
+pub use Rattle.resources_asn.specs.bcder_content as bcder_content
+pub use Rattle.resources_asn.specs.bcder_primitive as bcder_primitive
+pub use Rattle.resources_asn.specs.bcder_source as bcder_source
+pub use Rattle.resources_asn.specs.bcder_tree as bcder_tree
+pub use Rattle.resources_asn.specs.bcder_values as bcder_values
+pub use Rattle.resources_asn.specs as resources_asn
+pub use Rattle.resources_chain.specs as resources_chain
+pub use Rattle.resources_asn.specs.resources_ip_prefix as resources_ip_prefix

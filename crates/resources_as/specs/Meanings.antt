@@ -3,11 +3,11 @@ use Rattle.std.proofs.Common.{◌≡◌, List, refl, sym, subst, arith}
 use Rattle.resources_as.specs.bcder_tree.Tags.{null_tag, sequence_tag}
 use Rattle.resources_as.specs.bcder_primitive.Values.{IsNull}
 use Rattle.resources_as.specs.bcder_content.Grammar.{One, OneAll, OneOctets, Tagged}
-use Rattle.resources_as_block.proofs.of_bcder_content.Choices.{universal_apart}
-use Rattle.resources_as_block.proofs.of_bcder_content.Unique.{as_one, as_tagged, end_one, inside_one, inside_tagged, many_one, octets_one, octets_tagged, one_of_one, then_one}
+use Rattle.resources_asn.proofs.of_bcder_content.Choices.{universal_apart}
+use Rattle.resources_asn.proofs.of_bcder_content.Unique.{as_one, as_tagged, end_one, inside_one, inside_tagged, many_one, octets_one, octets_tagged, one_of_one, then_one}
 use Rattle.resources_as.specs.resources_chain.Sets.{Run, InRuns, IsRunsOf}
-use Rattle.resources_as_block.proofs.of_resources_chain.SetLemmas.{one_list_of}
-use Rattle.resources_as_block.specs.Meanings.{block_one}
+use Rattle.resources_asn.proofs.of_resources_chain.SetLemmas.{one_list_of}
+use Rattle.resources_asn.specs.Meanings.{block_one}
 use Rattle.resources_as.specs.Encodings.{AreBlocks, InheritsAs, IsAsChoice, IsAsResources, IsAsSet, ListsAs}
 
 -- Blocks list one set.

@@ -5,10 +5,10 @@ use Rattle.resources_as.specs.resources_chain.Sets.{Run}
 use Rattle.resources_as.specs.resources_chain.Claims.{Choice}
 use Rattle.resources_as.specs.resources_chain.Lists.{IsListText, IsSetText, IsNoListText}
 use Rattle.resources_as.specs.resources_chain.declared.choice.ResourcesChoice.TheVariants.{Missing, Inherit, Blocks}
-use Rattle.resources_as_block.specs.Blocks.{run_text}
-use Rattle.resources_as_block.specs.Texts.{IsAsBlockText, IsNoAsBlock}
-use Rattle.resources_as_block.specs.declared.error.FromStrError.{FromStrError}
-use Rattle.resources_as_block.specs.declared.error.FromStrError.TheVariants.{BadBlocks, Memory}
+use Rattle.resources_asn.specs.Blocks.{run_text}
+use Rattle.resources_asn.specs.BlockTexts.{IsAsBlockText, IsNoAsBlock}
+use Rattle.resources_asn.specs.declared.as_block.error.FromStrError.{FromStrError}
+use Rattle.resources_asn.specs.declared.as_block.error.FromStrError.TheVariants.{BadBlocks, Memory}
 
 -- Blocks with `,` or `, ` between them, in any order; the set is their union. The empty text is that of the empty set.
 abbrev pub IsAsSetText : List ℕ → List Run → Type 0

@@ -4,18 +4,18 @@ use Rattle.resources_as.specs.bcder_tree.declared.mode.Mode.{Mode}
 use Rattle.resources_as.specs.bcder_tree.Tags.{context, null_tag, sequence_tag}
 use Rattle.resources_as.specs.bcder_tree.Tree.{Tree, Trees, none, more}
 use Rattle.resources_as.specs.bcder_primitive.Values.{IsNull}
-use Rattle.resources_as.specs.bcder_written.Encoded.{NoTree, NoText, IsPlain, WritesPlain, IsWrapped, WritesWrapped, SpellsSome}
+use Rattle.resources_as.specs.bcder_primitive.Encoded.{NoTree, NoText, IsPlain, WritesPlain, IsWrapped, WritesWrapped, SpellsSome}
 use Rattle.resources_as.specs.bcder_values.Choices.{nothing_spelled, nothing_one}
 use Rattle.resources_as.specs.bcder_values.Lists.{AreAll, WritesAll, all_spelled, all_one}
 use Rattle.resources_as.specs.bcder_values.Plains.{plain_spelled, plain_one}
-use Rattle.resources_as.specs.bcder_written.Simple.{one_null}
+use Rattle.resources_as.specs.bcder_primitive.Simple.{one_null}
 use Rattle.resources_as.specs.bcder_values.Wraps.{wrapped_spelled, wrapped_one}
 use Rattle.resources_as.specs.resources_chain.Sets.{Run}
 use Rattle.resources_as.specs.resources_chain.Claims.{Choice}
 pub use Rattle.resources_as.specs.resources_chain.Claims.{HasMaximal}
 use Rattle.resources_as.specs.resources_chain.declared.choice.ResourcesChoice.TheVariants.{Missing, Inherit, Blocks}
 use Rattle.resources_as.specs.Encodings.{IsAsResources, IsAsSet}
-use Rattle.resources_as_block.specs.Written.{AreAsBlock, WritesAsBlock, block_spelled, block_one}
+use Rattle.resources_asn.specs.Written.{AreAsBlock, WritesAsBlock, block_spelled, block_one}
 
 -- A block for each of the maximal runs, ascending.
 abbrev pub AreAsBlocks : List Run → Trees → Type 0

@@ -8,15 +8,15 @@ ghost use Rattle.resources_as.specs.resources_chain.Same.{runs_eq, runs_eq_equiv
 ghost use Rattle.resources_as.specs.resources_chain.declared.choice.ResourcesChoice.TheVariants.{Missing, Inherit};
 ghost use Rattle.resources_as.specs.resources_chain.declared.claims.Overclaim.TheVariants.{Refuse};
 ghost use Rattle.resources_as.specs.resources_chain.Claims.{Lists, FitsIn, Kept, Refuses, HeldAlong, FitsAlong, RefusesAlong};
-ghost use Rattle.resources_as_block.specs.Blocks.{as_run};
-ghost use Rattle.resources_as_block.specs.Counted.{runs_count};
+ghost use Rattle.resources_asn.specs.Blocks.{as_run};
+ghost use Rattle.resources_asn.specs.Counted.{runs_count};
 ghost use Rattle.resources_as.specs.resources_asn.Listed.{IsListOf};
 ghost use Rattle.resources_as.specs.resources_asn.Numbers.{last_number};
 
 use crate::Asn;
 use crate::claims::OverclaimedAsResources;
 use crate::resources::{AsResources, InheritedAsResources};
-use resources_as_block::{AsBlock, AsBlocksIter, AsnIter};
+use resources_asn::as_block::{AsBlock, AsBlocksIter, AsnIter};
 use resources_chain::{ClaimError, Overclaim, OwnedChain, SharedChain};
 use std::alloc::{AllocError, Global};
 use std::marker::Model;
@@ -323,7 +323,7 @@ pub struct AsBlocksBuilder {
 impl Model for AsBlocksBuilder {
     ghost use Rattle.std.specs.Prelude.{List, map};
     ghost use Rattle.resources_as.specs.resources_chain.Sets.{Run};
-    ghost use Rattle.resources_as_block.specs.Blocks.{as_run};
+    ghost use Rattle.resources_asn.specs.Blocks.{as_run};
 
     ghost Value = { List Run };
 

@@ -6,14 +6,14 @@ ghost use Rattle.resources_as.specs.bcder_content.Grammar.{Then, End, Many};
 ghost use Rattle.resources_as.specs.bcder_content.Here.{here};
 ghost use Rattle.resources_as.specs.resources_chain.Claims.{HasMaximal};
 ghost use Rattle.resources_as.specs.resources_chain.Sets.{AreMaximal};
-ghost use Rattle.resources_as_block.specs.Encodings.{IsAsBlock};
+ghost use Rattle.resources_asn.specs.BlockEncodings.{IsAsBlock};
 ghost use Rattle.resources_as.specs.Encodings.{AreAsIdentifiers, AreBlocks, IsAsChoice, IsAsResources, IsAsSet, only_choice};
 
 use crate::blocks::{AsBlocks, AsBlocksBuilder};
 use crate::codec::Tag;
 use crate::codec::decode::{Constructed, DecodeError, Source};
 use crate::resources::AsResources;
-use resources_as_block::AsBlock;
+use resources_asn::as_block::AsBlock;
 use std::alloc::Global;
 
 // All blocks of a content.

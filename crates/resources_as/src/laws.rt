@@ -3,7 +3,7 @@
 ghost use Rattle.std.specs.Prelude.{◌≡◌, ℕ, List};
 ghost use Rattle.resources_as.specs.bcder_tree.Tags.{sequence_tag};
 ghost use Rattle.resources_as.specs.bcder_tree.Tree.{Tree, Trees};
-ghost use Rattle.resources_as.specs.bcder_written.Encoded.{IsWrapped};
+ghost use Rattle.resources_as.specs.bcder_primitive.Encoded.{IsWrapped};
 ghost use Rattle.resources_as.specs.resources_chain.Claims.{Choice};
 ghost use Rattle.resources_as.specs.resources_chain.Sets.{Run, AreMaximal};
 ghost use Rattle.resources_as.specs.resources_chain.declared.choice.ResourcesChoice.TheVariants.{Missing};
@@ -11,7 +11,7 @@ ghost use Rattle.resources_as.specs.Encodings.{IsAsResources, IsAsSet};
 ghost use Rattle.resources_as.specs.Texts.{IsAsSetText};
 ghost use Rattle.resources_as.specs.Written.{AreAsBlocks, AreAsResources, HasMaximal, MeansJust, ReadsSet};
 
-pub use resources_as_block::laws::{
+pub use resources_asn::as_block::laws::{
     one_list_of_a_set, one_meaning as one_block, runs_are_counted, runs_are_listed,
 };
 

@@ -8,7 +8,7 @@ ghost use Rattle.resources_as.specs.resources_chain.Claims.{HasMaximal, Lists};
 ghost use Rattle.resources_as.specs.resources_chain.Choices.{listed, IsChoiceOf};
 
 use crate::blocks::{AsBlocks, AsBlocksBuilder};
-use resources_as_block::AsBlock;
+use resources_asn::as_block::AsBlock;
 use resources_chain::{Claim, InheritedResources, ResourcesChoice, SharedChain};
 use std::alloc::{AllocError, Global};
 use std::fmt;

@@ -2,8 +2,8 @@
 
 ghost use Rattle.std.specs.Prelude.{◌≡◌, IfOk, IfErr, OnOk};
 ghost use Rattle.resources_as.specs.bcder_tree.Tags.{sequence_tag};
-ghost use Rattle.resources_as.specs.bcder_written.Encoded.{IsWrapped, WritesWrapped};
-ghost use Rattle.resources_as.specs.bcder_written.Writing.{HasLength, Wrote, CannotWrite, WriteRefused};
+ghost use Rattle.resources_as.specs.bcder_primitive.Encoded.{IsWrapped, WritesWrapped};
+ghost use Rattle.resources_as.specs.bcder_primitive.Writing.{HasLength, Wrote, CannotWrite, WriteRefused};
 ghost use Rattle.resources_as.specs.resources_chain.Claims.{HasMaximal};
 ghost use Rattle.resources_as.specs.resources_chain.Sets.{AreMaximal};
 ghost use Rattle.resources_as.specs.resources_chain.declared.choice.ResourcesChoice.TheVariants.{Inherit};

@@ -1,3 +1,10 @@
+pub mod CountLemmas
+pub mod IterLemmas
+pub mod LawLemmas
+pub mod Reading
+pub mod Writing
+pub mod Again
+pub mod BlockTexts
 pub mod ListLemmas
 pub mod ChosenLemmas
 pub mod SmallLemmas
@@ -5,7 +12,7 @@ pub mod Sorting
 pub mod Adding
 pub mod TextLemmas
 pub mod of_bcder_content
-pub mod of_resources_chain
 pub mod of_bcder_source
 pub mod of_bcder_tree
-pub mod of_resources_addr
+pub mod of_resources_chain
+pub mod of_resources_ip_prefix

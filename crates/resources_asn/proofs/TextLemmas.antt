@@ -13,8 +13,8 @@ use Rattle.std.proofs.Math.Seq.{take-append_seam, drop-append_seam}
 use Rattle.std.proofs.lemmas.Str.{IsCharBoundary-before_ascii}
 use Rattle.std.proofs.lemmas.Str.Ascii.{lowercase_is}
 use Rattle.std.proofs.lemmas.Str.Parse.{without_leading_plus_none, digit_at}
-use Rattle.resources_addr.specs.Cuts.{LacksByte}
-use Rattle.resources_addr.proofs.Printed.{lacks_both}
+use Rattle.resources_ip_prefix.specs.Cuts.{LacksByte}
+use Rattle.resources_ip_prefix.proofs.Printed.{lacks_both}
 use Rattle.resources_asn.specs.Numbers.{last_number}
 use Rattle.resources_asn.specs.Texts.{IsDigitText, IsLetters, IsAsnText}
 

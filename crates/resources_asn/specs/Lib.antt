@@ -1,3 +1,12 @@
+pub mod Ranges
+pub mod Blocks
+pub mod Counted
+pub mod Left
+pub mod BlockEncodings
+pub mod Meanings
+pub mod BlockTexts
+pub mod Reading
+pub mod Written
 pub mod Numbers
 pub mod Listed
 pub mod Chosen
@@ -10,6 +19,5 @@ pub use Rattle.bcder.specs.bcder_primitive as bcder_primitive
 pub use Rattle.bcder.specs.bcder_source as bcder_source
 pub use Rattle.bcder.specs.bcder_tree as bcder_tree
 pub use Rattle.bcder.specs.bcder_values as bcder_values
-pub use Rattle.bcder.specs.bcder_written as bcder_written
-pub use Rattle.resources_addr.specs as resources_addr
 pub use Rattle.resources_chain.specs as resources_chain
+pub use Rattle.resources_ip_prefix.specs as resources_ip_prefix

@@ -5,9 +5,9 @@ use Rattle.std.specs.Cmp.{IsTotalOrder, then_total, on_total, nat_cmp_total, tie
 use Rattle.std.specs.Ordering.{nat_cmp, ordering_then}
 use Rattle.std.specs.declared.cmp.Ordering.{Ordering}
 use Rattle.std.specs.declared.cmp.Ordering.TheVariants.{Equal}
-use Rattle.resources_addr.specs.Orders.{both_equal, nat_same}
-use Rattle.resources_addr.specs.Prefixes.{PrefixValue}
-use Rattle.resources_addr.specs.Starts.{start_cmp, start_total, start_same}
+use Rattle.resources_ip_prefix.specs.Orders.{both_equal, nat_same}
+use Rattle.resources_ip_prefix.specs.AddrPrefixes.{PrefixValue}
+use Rattle.resources_ip_prefix.specs.Starts.{start_cmp, start_total, start_same}
 use Rattle.resources_asn.specs.declared.origin.Origin.{Origin}
 
 -- A prefix, a greatest length, and an AS number.

@@ -6,7 +6,7 @@ ghost use Rattle.resources_asn.specs.bcder_tree.Tags.{integer_tag};
 ghost use Rattle.resources_asn.specs.bcder_source.declared.error.DecodeError.TheVariants.{Memory};
 ghost use Rattle.resources_asn.specs.bcder_content.Exact.{ReadsAs, ReadsOptAs};
 ghost use Rattle.resources_asn.specs.bcder_content.Here.{here};
-ghost use Rattle.resources_asn.specs.bcder_written.Integers.{WritesUnsigned, one_unsigned};
+ghost use Rattle.resources_asn.specs.bcder_primitive.Integers.{WritesUnsigned, one_unsigned};
 ghost use Rattle.resources_asn.specs.Encodings.{IsAsId, IsAnyAsId};
 
 use crate::asn::Asn;

@@ -1,6 +1,7 @@
-//! AS numbers (RFC 6793), and small sets of them.
+//! AS numbers (RFC 6793), and small sets of them; and blocks of them ([`as_block`]).
 #![tactic(auto)]
 
+pub mod as_block;
 pub mod asn;
 pub mod codec;
 mod der;

@@ -4,7 +4,7 @@ ghost use Rattle.std.specs.Prelude.{◌≡◌};
 ghost use Rattle.resources_asn.specs.Origins.{origin_cmp, origin_value};
 
 use crate::asn::Asn;
-use resources_addr::addr::Prefix;
+use resources_ip_prefix::ip_addr::Prefix;
 use std::cmp::Ordering;
 
 /// A prefix, the greatest length of the prefixes inside it that are meant too, and the AS number that may announce them

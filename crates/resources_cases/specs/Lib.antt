@@ -1,2 +1,2 @@
 -- What stands below, for the crates above.
-pub use Rattle.resources.specs.resources_set as resources_set
+pub use Rattle.resources.specs as resources

@@ -1,7 +1,7 @@
 //! Questions about sets of all three kinds, and about the identifiers of policies.
 
 ghost use Rattle.std.specs.Prelude.{IfOk};
-ghost use Rattle.resources_cases.specs.resources_set.Resources.{ListsWhole};
+ghost use Rattle.resources_cases.specs.resources.Resources.{ListsWhole};
 
 use crate::claims::{Question, policy};
 use answers::Answer;

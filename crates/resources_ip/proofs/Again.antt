@@ -4,7 +4,7 @@ use Rattle.resources_ip.specs.bcder_tree.declared.mode.Mode.{Mode}
 use Rattle.resources_ip.specs.bcder_tree.Tags.{null_tag, sequence_tag}
 use Rattle.resources_ip.specs.bcder_tree.Tree.{Trees, primitive, constructed}
 use Rattle.resources_ip.specs.bcder_content.Grammar.{ManyCases}
-use Rattle.resources_ip.specs.bcder_written.Encoded.{joined}
+use Rattle.resources_ip.specs.bcder_primitive.Encoded.{joined}
 use Rattle.resources_ip.specs.resources_chain.Claims.{Choice}
 use Rattle.resources_ip.specs.resources_chain.Sets.{Run, AreMaximal}
 use Rattle.resources_ip.specs.resources_chain.declared.choice.ResourcesChoice.TheVariants.{Missing, Inherit, Blocks}

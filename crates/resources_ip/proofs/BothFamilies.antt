@@ -7,7 +7,7 @@ use Rattle.resources_ip.specs.bcder_tree.Tree.{Tree, Trees, constructed, none, m
 use Rattle.resources_ip.specs.bcder_content.Grammar.{ManyCases}
 use Rattle.resources_ip.proofs.of_bcder_octets.Written.{written_string}
 use Rattle.resources_ip.specs.bcder_octets.Segments.{StringTrees, WritesString}
-use Rattle.resources_ip.specs.bcder_written.Encoded.{AreBoth, IsWrapped, WritesBoth, WritesWrapped, joined}
+use Rattle.resources_ip.specs.bcder_primitive.Encoded.{AreBoth, IsWrapped, WritesBoth, WritesWrapped, joined}
 use Rattle.resources_ip.specs.resources_chain.Claims.{Choice}
 use Rattle.resources_ip.specs.resources_chain.declared.choice.ResourcesChoice.TheVariants.{Missing, Inherit, Blocks}
 use Rattle.resources_ip.specs.resources_ip_prefix.declared.addr.AddressFamily.{AddressFamily}

@@ -7,7 +7,7 @@ pub mod Writing
 pub mod BothFamilies
 pub mod Fitting
 pub mod WideSets
+pub mod Texts
 pub mod of_bcder_content
 pub mod of_bcder_octets
 pub mod of_resources_chain
-pub mod Texts

@@ -2,7 +2,7 @@
 use Rattle.std.proofs.Common.{◌≡◌, ℕ, List, [], ◌∷◌, map, refl, ap, subst}
 use Rattle.resources_ip.specs.bcder_tree.declared.mode.Mode.{Mode}
 use Rattle.resources_ip.specs.bcder_tree.Tree.{Trees}
-use Rattle.resources_ip.specs.bcder_written.Encoded.{AreBoth, WritesBoth}
+use Rattle.resources_ip.specs.bcder_primitive.Encoded.{AreBoth, WritesBoth}
 use Rattle.resources_ip.specs.bcder_values.Lists.{AreAll, WritesAll}
 use Rattle.resources_ip.specs.resources_chain.Sets.{Run}
 use Rattle.resources_ip_block.specs.declared.block.IpBlock.{IpBlock}

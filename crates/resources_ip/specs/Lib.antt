@@ -25,7 +25,6 @@ pub use Rattle.resources_ip_block.specs.bcder_primitive as bcder_primitive
 pub use Rattle.resources_ip_block.specs.bcder_source as bcder_source
 pub use Rattle.resources_ip_block.specs.bcder_tree as bcder_tree
 pub use Rattle.resources_ip_block.specs.bcder_values as bcder_values
-pub use Rattle.resources_ip_block.specs.bcder_written as bcder_written
 pub use Rattle.resources_ip_block.specs.resources_chain as resources_chain
 pub use Rattle.resources_ip_block.specs as resources_ip_block
 pub use Rattle.resources_ip_block.specs.resources_ip_prefix as resources_ip_prefix

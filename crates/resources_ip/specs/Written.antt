@@ -4,8 +4,8 @@ use Rattle.resources_ip.specs.bcder_tree.declared.mode.Mode.{Mode}
 use Rattle.resources_ip.specs.bcder_tree.Tags.{null_tag, sequence_tag}
 use Rattle.resources_ip.specs.bcder_tree.Tree.{Tree, Trees, none, more}
 use Rattle.resources_ip.specs.bcder_primitive.Values.{IsNull}
-use Rattle.resources_ip.specs.bcder_written.Encoded.{NoTree, NoText, IsPlain, WritesPlain, IsWrapped, WritesWrapped, SpellsSome}
-use Rattle.resources_ip.specs.bcder_written.Simple.{one_null}
+use Rattle.resources_ip.specs.bcder_primitive.Encoded.{NoTree, NoText, IsPlain, WritesPlain, IsWrapped, WritesWrapped, SpellsSome}
+use Rattle.resources_ip.specs.bcder_primitive.Simple.{one_null}
 use Rattle.resources_ip.specs.bcder_values.Choices.{nothing_spelled, nothing_one}
 use Rattle.resources_ip.specs.bcder_values.Lists.{AreAll, WritesAll, all_spelled, all_one}
 use Rattle.resources_ip.specs.bcder_values.Plains.{plain_spelled, plain_one}

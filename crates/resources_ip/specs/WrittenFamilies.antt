@@ -5,7 +5,7 @@ use Rattle.resources_ip.specs.bcder_tree.Strings.{octet_string_tag}
 use Rattle.resources_ip.specs.bcder_tree.Tags.{sequence_tag}
 use Rattle.resources_ip.specs.bcder_tree.Tree.{Tree, Trees, none, more}
 use Rattle.resources_ip.specs.bcder_octets.Segments.{StringTrees, WritesString, string_spelled, string_one}
-use Rattle.resources_ip.specs.bcder_written.Encoded.{NoTree, NoText, AreBoth, WritesBoth, IsWrapped, WritesWrapped, SpellsSome}
+use Rattle.resources_ip.specs.bcder_primitive.Encoded.{NoTree, NoText, AreBoth, WritesBoth, IsWrapped, WritesWrapped, SpellsSome}
 use Rattle.resources_ip.specs.bcder_values.Choices.{nothing_spelled, nothing_one}
 use Rattle.resources_ip.specs.bcder_values.Laws.{both_spelled, both_one}
 use Rattle.resources_ip.specs.bcder_values.Wraps.{wrapped_spelled, wrapped_one}

@@ -3,7 +3,7 @@
 ghost use Rattle.std.specs.Prelude.{◌≡◌, IfOk, IfErr, OnOk};
 ghost use Rattle.resources_ip.specs.bcder_tree.Strings.{octet_string_tag};
 ghost use Rattle.resources_ip.specs.bcder_tree.Tags.{sequence_tag};
-ghost use Rattle.resources_ip.specs.bcder_written.Writing.{HasLength, Wrote, CannotWrite, WriteRefused};
+ghost use Rattle.resources_ip.specs.bcder_primitive.Writing.{HasLength, Wrote, CannotWrite, WriteRefused};
 ghost use Rattle.resources_ip.specs.resources_ip_prefix.declared.addr.AddressFamily.TheVariants.{Ipv4, Ipv6};
 ghost use Rattle.resources_ip.specs.resources_ip_prefix.Encodings.{family_octets};
 ghost use Rattle.resources_ip.specs.Reading.{family_choices};

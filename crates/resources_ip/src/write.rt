@@ -1,7 +1,7 @@
 //! Sets of addresses and IP resources that are written (RFC 3779 2.2.3).
 
 ghost use Rattle.std.specs.Prelude.{◌≡◌, IfOk, IfErr, OnOk};
-ghost use Rattle.resources_ip.specs.bcder_written.Writing.{HasLength, Wrote, CannotWrite, WriteRefused};
+ghost use Rattle.resources_ip.specs.bcder_primitive.Writing.{HasLength, Wrote, CannotWrite, WriteRefused};
 ghost use Rattle.resources_ip.specs.resources_chain.Sets.{AreMaximal};
 ghost use Rattle.resources_ip.specs.resources_chain.declared.choice.ResourcesChoice.TheVariants.{Inherit};
 ghost use Rattle.resources_ip.specs.resources_ip_prefix.declared.addr.AddressFamily.TheVariants.{Ipv4, Ipv6};

@@ -6,11 +6,11 @@ use Rattle.std.proofs.lemmas.Nat.{pow_pos}
 use Rattle.resources_ip_block.specs.bcder_tree.declared.mode.Mode.{Mode}
 use Rattle.resources_ip_block.specs.bcder_tree.Tags.{TagValue, sequence_tag}
 use Rattle.resources_ip_block.specs.bcder_tree.Tree.{Tree, Trees, primitive, constructed, none, more}
-use Rattle.resources_ip_block.specs.bcder_bits.Contents.{bit_string_tag}
+use Rattle.resources_ip_block.specs.bcder_octets.BitContents.{bit_string_tag}
 use Rattle.resources_ip_block.specs.bcder_values.declared.choice.Choice2.{Choice2}
 use Rattle.resources_ip_block.specs.bcder_values.declared.choice.Choice2.TheVariants.{One, Two}
-use Rattle.resources_ip_block.specs.bcder_written.declared.primitive.Primitive.{Primitive}
-use Rattle.resources_ip_block.specs.bcder_written.Encoded.{joined}
+use Rattle.resources_ip_block.specs.bcder_primitive.declared.written.primitive.Primitive.{Primitive}
+use Rattle.resources_ip_block.specs.bcder_primitive.Encoded.{joined}
 use Rattle.resources_ip_block.specs.resources_chain.Sets.{Run}
 use Rattle.resources_ip_block.specs.resources_chain.Same.{run_is}
 use Rattle.resources_ip_prefix.specs.declared.addr.AddressFamily.{AddressFamily}

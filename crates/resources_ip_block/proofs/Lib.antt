@@ -6,8 +6,8 @@ pub mod Blocks
 pub mod Again
 pub mod WholeBlocks
 pub mod Writing
+pub mod ReadLemmas
+pub mod PrintLemmas
 pub mod of_bcder_content
 pub mod of_bcder_octets
 pub mod of_resources_chain
-pub mod ReadLemmas
-pub mod PrintLemmas

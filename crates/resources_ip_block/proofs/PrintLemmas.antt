@@ -10,8 +10,8 @@ use Rattle.std.specs.declared.net.ipv4_addr.Ipv4Addr.{Ipv4Addr}
 use Rattle.std.specs.declared.net.ipv6_addr.Ipv6Addr.{Ipv6Addr}
 use Rattle.std.specs.declared.net.ip_addr.IpAddr.{IpAddr}
 use Rattle.std.specs.declared.net.ip_addr.IpAddr.TheVariants.{V4, V6}
-use Rattle.resources_ip_block.specs.resources_addr.Cuts.{LacksByte}
-use Rattle.resources_ip_block.specs.resources_addr.Prefixes as Of
+use Rattle.resources_ip_block.specs.resources_ip_prefix.Cuts.{LacksByte}
+use Rattle.resources_ip_block.specs.resources_ip_prefix.AddrPrefixes as Of
 use Rattle.resources_ip_block.specs.resources_chain.Sets.{Run}
 use Rattle.resources_ip_block.specs.resources_chain.Same.{run_is}
 use Rattle.resources_ip_block.specs.resources_chain.Lists.{HasNoComma}
@@ -23,7 +23,7 @@ use Rattle.resources_ip_prefix.specs.Prefixes.{span_of, first_of, last_of, prefi
 use Rattle.resources_ip_prefix.specs.Text.{slashed}
 use Rattle.resources_ip_prefix.specs.Whole.{IsWhole}
 use Rattle.resources_ip_prefix.specs.ReadTexts.{IsAddrText}
-use Rattle.resources_ip_prefix.proofs.of_resources_addr.Printed.{address_read, address_plain, plain_lacks, decimal_plain, len_printed, lacks_both}
+use Rattle.resources_ip_prefix.proofs.Printed.{address_read, address_plain, plain_lacks, decimal_plain, len_printed, lacks_both}
 use Rattle.resources_ip_block.specs.BlockText.{dashed, IsBlockText, length_of_run, block_text, address_text}
 use Rattle.resources_ip_block.specs.ReadTexts.{WritesBlock}
 use Rattle.resources_ip_block.proofs.PrefixLemmas.{tried}

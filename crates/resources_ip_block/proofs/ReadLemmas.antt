@@ -1,7 +1,7 @@
 -- Texts of ranges and blocks of addresses that are read.
 use Rattle.std.proofs.Common.{◌≡◌, ◌≢◌, ℕ, ◌<◌, ◌≤◌, ◌⊎◌, ◌↔◌, List, [], ◌∷◌, ◌++◌, inl, inr, sym, subst, ap, ◌∙◌, arith, refl}
 use Rattle.std.specs.Prelude.{Result, Ok, Err, MatchResult, IfOk}
-use Rattle.resources_ip_block.specs.resources_addr.Cuts.{IsCut}
+use Rattle.resources_ip_block.specs.resources_ip_prefix.Cuts.{IsCut}
 use Rattle.resources_ip_block.specs.resources_chain.Sets.{Run}
 use Rattle.resources_ip_block.specs.resources_chain.Same.{run_is}
 use Rattle.resources_ip_prefix.specs.declared.addr.AddressFamily.{AddressFamily}
@@ -12,7 +12,7 @@ use Rattle.resources_ip_prefix.specs.Family.{max_len_of, HasColon}
 use Rattle.resources_ip_prefix.specs.Prefixes.{first_of, last_of, prefix_run}
 use Rattle.resources_ip_prefix.specs.Whole.{IsWhole}
 use Rattle.resources_ip_prefix.specs.ReadTexts.{IsAddrText, WritesPrefix, Shows}
-use Rattle.resources_ip_prefix.proofs.of_resources_addr.Texts.{cut_once, cut_lacks}
+use Rattle.resources_ip_prefix.proofs.AddrTexts.{cut_once, cut_lacks}
 use Rattle.resources_ip_prefix.proofs.ReadLemmas.{addr_once, addr_at, addr_shows, prefix_once, prefix_refused, prefix_shows, between_shows, shown_by}
 use Rattle.resources_ip_prefix.proofs.Spans.{own_first}
 use Rattle.resources_ip_prefix.proofs.WholePrefix.{whole_prefix}

@@ -4,10 +4,10 @@ use Rattle.std.specs.Prelude.{IfOk, IfErr, OnOk}
 use Rattle.resources_ip_block.specs.bcder_tree.declared.mode.Mode.{Mode}
 use Rattle.resources_ip_block.specs.bcder_tree.Tree.{Trees}
 use Rattle.resources_ip_block.specs.bcder_values.declared.choice.Choice2.{Choice2}
-use Rattle.resources_ip_block.specs.bcder_written.declared.error.EncodeError.{EncodeError}
-use Rattle.resources_ip_block.specs.bcder_written.declared.error.EncodeError.TheVariants as errors
-use Rattle.resources_ip_block.specs.bcder_written.declared.primitive.Primitive.{Primitive}
-use Rattle.resources_ip_block.specs.bcder_written.Writing.{HasLength, Wrote, CannotWrite, WriteRefused}
+use Rattle.resources_ip_block.specs.bcder_primitive.declared.written.error.EncodeError.{EncodeError}
+use Rattle.resources_ip_block.specs.bcder_primitive.declared.written.error.EncodeError.TheVariants as errors
+use Rattle.resources_ip_block.specs.bcder_primitive.declared.written.primitive.Primitive.{Primitive}
+use Rattle.resources_ip_block.specs.bcder_primitive.Writing.{HasLength, Wrote, CannotWrite, WriteRefused}
 use Rattle.resources_ip_block.specs.resources_chain.Sets.{Run}
 use Rattle.resources_ip_prefix.specs.declared.prefix.Prefix.{Prefix}
 use Rattle.resources_ip_block.specs.Written.{BlockTrees, EncodesBlock, RangeValue}

@@ -17,14 +17,11 @@ pub use Rattle.resources_ip_prefix.specs.Text
 pub use Rattle.resources_ip_prefix.specs.Whole
 pub use Rattle.resources_ip_prefix.specs.Wide
 -- What stands below, for the crates above.
-pub use Rattle.resources_ip_prefix.specs.bcder_bits as bcder_bits
-pub use Rattle.resources_ip_prefix.specs.bcder_content as bcder_content
 pub use Rattle.resources_ip_prefix.specs.bcder_octets as bcder_octets
+pub use Rattle.resources_ip_prefix.specs.bcder_content as bcder_content
 pub use Rattle.resources_ip_prefix.specs.bcder_primitive as bcder_primitive
 pub use Rattle.resources_ip_prefix.specs.bcder_source as bcder_source
 pub use Rattle.resources_ip_prefix.specs.bcder_tree as bcder_tree
 pub use Rattle.resources_ip_prefix.specs.bcder_values as bcder_values
-pub use Rattle.resources_ip_prefix.specs.bcder_written as bcder_written
-pub use Rattle.resources_ip_prefix.specs.resources_addr as resources_addr
-pub use Rattle.resources_ip_prefix.specs.resources_chain as resources_chain
 pub use Rattle.resources_ip_prefix.specs as resources_ip_prefix
+pub use Rattle.resources_ip_prefix.specs.resources_chain as resources_chain

@@ -1,6 +1,6 @@
 -- Texts of ranges and blocks of addresses, as they are read.
 use Rattle.std.specs.Prelude.{◌≡◌, ℕ, ◌<◌, ◌≤◌, ◌⊎◌, Result, MatchResult, List}
-use Rattle.resources_ip_block.specs.resources_addr.Cuts.{LacksByte, IsCut}
+use Rattle.resources_ip_block.specs.resources_ip_prefix.Cuts.{LacksByte, IsCut}
 use Rattle.resources_ip_block.specs.resources_chain.Sets.{Run}
 use Rattle.resources_ip_prefix.specs.declared.addr.AddressFamily.{AddressFamily}
 use Rattle.resources_ip_prefix.specs.declared.addr.AddressFamily.TheVariants.{Ipv4, Ipv6}

@@ -3,13 +3,13 @@ use Rattle.std.specs.Prelude.{◌≡◌, ℕ, ◌≤◌}
 use Rattle.resources_ip_block.specs.bcder_tree.declared.mode.Mode.{Mode}
 use Rattle.resources_ip_block.specs.bcder_tree.Tags.{sequence_tag}
 use Rattle.resources_ip_block.specs.bcder_tree.Tree.{Tree, Trees, none, more}
-use Rattle.resources_ip_block.specs.bcder_bits.Contents.{WritesBits, bit_string_tag}
+use Rattle.resources_ip_block.specs.bcder_octets.BitContents.{WritesBits, bit_string_tag}
 use Rattle.resources_ip_block.specs.bcder_values.declared.choice.Choice2.{Choice2}
 use Rattle.resources_ip_block.specs.bcder_values.declared.choice.Choice2.TheVariants.{One, Two}
 use Rattle.resources_ip_block.specs.bcder_values.declared.constructed.Constructed.{Constructed}
-use Rattle.resources_ip_block.specs.bcder_written.declared.primitive.Primitive.{Primitive}
+use Rattle.resources_ip_block.specs.bcder_primitive.declared.written.primitive.Primitive.{Primitive}
 use Rattle.resources_ip_block.specs.bcder_values.Choices.{AreEither}
-use Rattle.resources_ip_block.specs.bcder_written.Encoded.{AreBoth, IsPlain, IsWrapped}
+use Rattle.resources_ip_block.specs.bcder_primitive.Encoded.{AreBoth, IsPlain, IsWrapped}
 use Rattle.resources_ip_block.specs.resources_chain.Sets.{Run}
 use Rattle.resources_ip_prefix.specs.declared.addr.AddressFamily.{AddressFamily}
 use Rattle.resources_ip_prefix.specs.declared.addr.AddressFamily.TheVariants.{Ipv4, Ipv6}

@@ -7,11 +7,11 @@ use Rattle.std.specs.Int.{to_be_bytes, w128}
 use Rattle.resources_ip_block.specs.bcder_tree.declared.mode.Mode.{Mode}
 use Rattle.resources_ip_block.specs.bcder_tree.Tags.{TagValue}
 use Rattle.resources_ip_block.specs.bcder_tree.Tree.{Trees, constructed, none, more}
-use Rattle.resources_ip_block.specs.bcder_bits.Bits.{BitsValue}
-use Rattle.resources_ip_block.specs.bcder_bits.Contents.{WritesBits}
-use Rattle.resources_ip_block.specs.bcder_bits.Written.{one_bits}
-use Rattle.resources_ip_block.specs.bcder_written.declared.primitive.Primitive.{Primitive}
-use Rattle.resources_ip_block.specs.bcder_written.Encoded.{IsPlain, WritesPlain, WritesWrapped, WritesBoth, SpellsSome}
+use Rattle.resources_ip_block.specs.bcder_octets.Bits.{BitsValue}
+use Rattle.resources_ip_block.specs.bcder_octets.BitContents.{WritesBits}
+use Rattle.resources_ip_block.specs.bcder_octets.BitsWritten.{one_bits}
+use Rattle.resources_ip_block.specs.bcder_primitive.declared.written.primitive.Primitive.{Primitive}
+use Rattle.resources_ip_block.specs.bcder_primitive.Encoded.{IsPlain, WritesPlain, WritesWrapped, WritesBoth, SpellsSome}
 use Rattle.resources_ip_block.specs.bcder_values.declared.choice.Choice2.{Choice2}
 use Rattle.resources_ip_block.specs.bcder_values.declared.choice.Choice2.TheVariants.{One, Two}
 use Rattle.resources_ip_block.specs.bcder_values.Choices.{WritesEither}

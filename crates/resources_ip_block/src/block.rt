@@ -73,7 +73,7 @@ impl IpBlock {
 
     /// The block of the addresses of a prefix that knows its family: those of IPv4 are the first 32 of 128 bits
     /// (RFC 3779 2.1.1).
-    pub fn from_addr_prefix(prefix: resources_addr::addr::Prefix) -> Self
+    pub fn from_addr_prefix(prefix: resources_ip_prefix::ip_addr::Prefix) -> Self
         ensures run { run_of_block result ≡ wide_run prefix }
         ensures form { HasOneForm result }
     {

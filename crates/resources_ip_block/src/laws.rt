@@ -4,7 +4,7 @@ ghost use Rattle.std.specs.Prelude.{◌≡◌, ◌≤◌, ℕ};
 ghost use Rattle.resources_ip_block.specs.bcder_tree.declared.mode.Mode.{Mode as ModeValue};
 ghost use Rattle.resources_ip_block.specs.bcder_tree.Tree.{Tree, Trees};
 ghost use Rattle.resources_ip_block.specs.bcder_values.declared.choice.Choice2.{Choice2 as EitherValue};
-ghost use Rattle.resources_ip_block.specs.bcder_written.declared.primitive.Primitive.{Primitive as PrimitiveValue};
+ghost use Rattle.resources_ip_block.specs.bcder_primitive.declared.written.primitive.Primitive.{Primitive as PrimitiveValue};
 ghost use Rattle.resources_ip_block.specs.resources_chain.Sets.{Run};
 ghost use Rattle.resources_ip_prefix.specs.declared.addr.AddressFamily.{AddressFamily as FamilyValue};
 ghost use Rattle.resources_ip_prefix.specs.declared.addr.AddressFamily.TheVariants.{Ipv4};

@@ -2,8 +2,8 @@
 use Rattle.std.proofs.Common.{◌≡◌, ℕ, zero, suc, ◌+◌, ◌-◌, ◌*◌, ◌/◌, ◌^◌, ◌<◌, ◌≤◌, List, [], ◌∷◌, All, length, refl, sym, ap, ◌∙◌, arith, le_refl}
 use Rattle.std.proofs.Math.Nat.{pow-suc, mul_assoc}
 use Rattle.std.proofs.lemmas.Nat.{mul-le}
-use Rattle.resources_ip_prefix.specs.bcder_bits.Bits.{BitsValue, IsBits, bits}
-use Rattle.resources_ip_prefix.proofs.of_bcder_bits.BitLists.{length-bits}
+use Rattle.resources_ip_prefix.specs.bcder_octets.Bits.{BitsValue, IsBits, bits}
+use Rattle.resources_ip_prefix.proofs.of_bcder_octets.BitLists.{length-bits}
 use Rattle.resources_ip_prefix.specs.declared.addr.AddressFamily.{AddressFamily}
 use Rattle.resources_ip_prefix.specs.declared.addr.AddressFamily.TheVariants.{Ipv4, Ipv6}
 use Rattle.resources_ip_prefix.specs.Encodings.{FitsFamily, filled}

@@ -1,3 +1,9 @@
+pub mod AddrSpans
+pub mod AddrTexts
+pub mod MaxLenTexts
+pub mod Numbers
+pub mod Printed
+pub mod PrefixLaws
 pub mod Masks
 pub mod TextLemmas
 pub mod WholePrefix
@@ -8,10 +14,8 @@ pub mod Stated
 pub mod Spelled
 pub mod Told
 pub mod WideLemmas
-pub mod of_bcder_bits
+pub mod ReadLemmas
 pub mod of_bcder_content
 pub mod of_bcder_octets
 pub mod of_bcder_primitive
 pub mod of_resources_chain
-pub mod ReadLemmas
-pub mod of_resources_addr

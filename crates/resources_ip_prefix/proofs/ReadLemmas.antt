@@ -12,8 +12,8 @@ use Rattle.std.proofs.NetLemmas.Alphabet.{IsDigitOrDot, All-ipv4_text}
 use Rattle.std.proofs.lemmas.Bool.{eqb-true}
 use Rattle.std.proofs.lemmas.List.Elements.{All-get_or}
 use Rattle.std.proofs.lemmas.Str.Parse.{digit_at}
-use Rattle.resources_addr.specs.Cuts.{IsCut, IsLenText}
-use Rattle.resources_addr.proofs.Texts.{cut_once, cut_lacks, len_once}
+use Rattle.resources_ip_prefix.specs.Cuts.{IsCut, IsLenText}
+use Rattle.resources_ip_prefix.proofs.AddrTexts.{cut_once, cut_lacks, len_once}
 use Rattle.resources_ip_prefix.specs.declared.addr.AddressFamily.{AddressFamily}
 use Rattle.resources_ip_prefix.specs.declared.addr.AddressFamily.TheVariants.{Ipv4, Ipv6}
 use Rattle.resources_ip_prefix.specs.declared.prefix.Prefix.{Prefix}

@@ -2,7 +2,7 @@
 use Rattle.std.proofs.Common.{◌≡◌, ℕ, zero, suc, ◌-◌, ◌*◌, ◌<◌, ◌≤◌, List, [], length, take, refl, ap, ◌∙◌, arith}
 use Rattle.std.specs.Int.{bytes_high_first, to_be_bytes, w128}
 use Rattle.std.proofs.lemmas.List.{length-take-le}
-use Rattle.resources_ip_prefix.specs.bcder_bits.Bits.{BitsValue, IsBits}
+use Rattle.resources_ip_prefix.specs.bcder_octets.Bits.{BitsValue, IsBits}
 use Rattle.resources_ip_prefix.specs.declared.prefix.Prefix.{Prefix}
 use Rattle.resources_ip_prefix.specs.Address.{bits_of}
 use Rattle.resources_ip_prefix.specs.Prefix.{prefix_addr, prefix_len, len_within}

@@ -6,7 +6,7 @@ use Rattle.resources_ip_prefix.specs.bcder_tree.Tree.{Tree}
 use Rattle.resources_ip_prefix.specs.bcder_source.declared.error.DecodeError.{DecodeError}
 use Rattle.resources_ip_prefix.specs.bcder_primitive.Plain.{LacksOctets, OctetsLeft, WholeOctets}
 use Rattle.resources_ip_prefix.proofs.of_bcder_primitive.Primitives.{lacks_whole}
-use Rattle.resources_ip_prefix.specs.bcder_bits.Contents.{bit_string_tag}
+use Rattle.resources_ip_prefix.specs.bcder_octets.BitContents.{bit_string_tag}
 use Rattle.resources_ip_prefix.specs.bcder_content.Contents.{ValuesLeft}
 use Rattle.resources_ip_prefix.specs.bcder_content.Exact.{Lacks, ReadsAs, ReadsOptAs}
 use Rattle.resources_ip_prefix.specs.bcder_content.Grammar.{OctetsOf}

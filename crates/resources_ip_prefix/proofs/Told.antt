@@ -7,9 +7,9 @@ use Rattle.std.proofs.lemmas.Nat.{pow-add, div-mul-add, shl-shr}
 use Rattle.resources_ip_prefix.specs.bcder_tree.declared.mode.Mode.{Mode}
 use Rattle.resources_ip_prefix.specs.bcder_tree.declared.mode.Mode.TheVariants.{Ber, Cer, Der}
 use Rattle.resources_ip_prefix.specs.bcder_tree.Tree.{primitive}
-use Rattle.resources_ip_prefix.specs.bcder_bits.Bits.{bits}
-use Rattle.resources_ip_prefix.specs.bcder_bits.Contents.{IsBitString, WritesBits, bit_string_tag, cleared, last_octet, padded_in}
-use Rattle.resources_ip_prefix.proofs.of_bcder_bits.BitLists.{length-bits}
+use Rattle.resources_ip_prefix.specs.bcder_octets.Bits.{bits}
+use Rattle.resources_ip_prefix.specs.bcder_octets.BitContents.{IsBitString, WritesBits, bit_string_tag, cleared, last_octet, padded_in}
+use Rattle.resources_ip_prefix.proofs.of_bcder_octets.BitLists.{length-bits}
 use Rattle.resources_ip_prefix.specs.declared.addr.AddressFamily.{AddressFamily}
 use Rattle.resources_ip_prefix.specs.declared.prefix.Prefix.{Prefix}
 use Rattle.resources_ip_prefix.specs.Address.{bits_of, bits_within}

@@ -7,12 +7,12 @@ use Rattle.std.specs.declared.net.ip_addr.IpAddr.{IpAddr}
 use Rattle.std.specs.declared.net.ip_addr.IpAddr.TheVariants.{V4, V6}
 use Rattle.std.specs.declared.net.ipv4_addr.Ipv4Addr.{Ipv4Addr}
 use Rattle.std.specs.declared.net.ipv6_addr.Ipv6Addr.{Ipv6Addr}
-use Rattle.resources_addr.specs.declared.addr.error.PrefixError.{PrefixError}
-use Rattle.resources_addr.specs.declared.addr.error.PrefixError.TheVariants.{LenOverflow, NonZeroHost}
-use Rattle.resources_addr.specs.Refusals.{IsTooLong}
-use Rattle.resources_addr.proofs.Numbers.{ipv4_is, ipv6_is}
+use Rattle.resources_ip_prefix.specs.declared.ip_addr.error.PrefixError.{PrefixError}
+use Rattle.resources_ip_prefix.specs.declared.ip_addr.error.PrefixError.TheVariants.{LenOverflow, NonZeroHost}
+use Rattle.resources_ip_prefix.specs.Refusals.{IsTooLong}
+use Rattle.resources_ip_prefix.proofs.Numbers.{ipv4_is, ipv6_is}
 use Rattle.resources_chain.specs.Sets.{InRun}
-use Rattle.resources_addr.specs.Prefixes.{Family, Ipv4, Ipv6, PrefixValue, IsPrefix, width, span, Has, family_of, bits_of as addr_bits, prefix_around}
+use Rattle.resources_ip_prefix.specs.AddrPrefixes.{Family, Ipv4, Ipv6, PrefixValue, IsPrefix, width, span, Has, family_of, bits_of as addr_bits, prefix_around}
 use Rattle.resources_ip_prefix.specs.Prefixes.{span_of, first_of, prefix_run}
 use Rattle.resources_ip_prefix.specs.Whole.{IsWhole}
 use Rattle.resources_ip_prefix.specs.Wide.{widened, wide_run, IsOfFamily}

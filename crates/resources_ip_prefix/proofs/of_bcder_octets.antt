@@ -1,4 +1,5 @@
 -- Lemmas of bcder_octets, for the crates above.
+pub use Rattle.bcder.proofs.of_bcder_octets.BitLists
 pub use Rattle.bcder.proofs.of_bcder_octets.Cuts
 pub use Rattle.bcder.proofs.of_bcder_octets.Meaning
 pub use Rattle.bcder.proofs.of_bcder_octets.Strings

@@ -4,8 +4,8 @@ use Rattle.resources_ip_prefix.specs.bcder_tree.declared.mode.Mode.{Mode}
 use Rattle.resources_ip_prefix.specs.bcder_tree.Tags.{TagValue}
 use Rattle.resources_ip_prefix.specs.bcder_tree.Strings.{IsString, octet_string_tag}
 use Rattle.resources_ip_prefix.specs.bcder_tree.Tree.{Tree}
-use Rattle.resources_ip_prefix.specs.bcder_bits.Bits.{BitsValue, IsBits, bits}
-use Rattle.resources_ip_prefix.specs.bcder_bits.Contents.{IsBitString, IsPadded, bit_string_tag}
+use Rattle.resources_ip_prefix.specs.bcder_octets.Bits.{BitsValue, IsBits, bits}
+use Rattle.resources_ip_prefix.specs.bcder_octets.BitContents.{IsBitString, IsPadded, bit_string_tag}
 use Rattle.resources_ip_prefix.specs.bcder_content.Grammar.{As, OctetsOf, Such}
 use Rattle.resources_ip_prefix.specs.declared.addr.AddressFamily.{AddressFamily}
 use Rattle.resources_ip_prefix.specs.declared.addr.AddressFamily.TheVariants.{Ipv4, Ipv6}

@@ -3,7 +3,7 @@ use Rattle.std.proofs.Common.{◌≡◌, refl}
 use Rattle.resources_ip_prefix.specs.bcder_tree.declared.mode.Mode.{Mode}
 use Rattle.resources_ip_prefix.specs.bcder_tree.Strings.{octet_string_tag}
 use Rattle.resources_ip_prefix.specs.bcder_content.Grammar.{One}
-use Rattle.bcder.proofs.of_bcder_bits.Readings.{bit_string_one}
+use Rattle.bcder.proofs.of_bcder_octets.BitReadings.{bit_string_one}
 use Rattle.bcder.proofs.of_bcder_content.Unique.{as_one, octets_one, such_one}
 use Rattle.bcder.proofs.of_bcder_octets.Meaning.{one_string}
 use Rattle.resources_ip_prefix.specs.declared.addr.AddressFamily.{AddressFamily}

@@ -1,7 +1,7 @@
 -- Prefixes of either family as runs of numbers of 128 bits.
 use Rattle.std.specs.Prelude.{◌≡◌, ℕ, ◌*◌, ◌^◌}
 use Rattle.resources_chain.specs.Sets.{Run}
-use Rattle.resources_addr.specs.Prefixes.{Family, Ipv4, Ipv6, PrefixValue, IsPrefix}
+use Rattle.resources_ip_prefix.specs.AddrPrefixes.{Family, Ipv4, Ipv6, PrefixValue, IsPrefix}
 use Rattle.resources_ip_prefix.specs.declared.addr.AddressFamily.{AddressFamily}
 use Rattle.resources_ip_prefix.specs.declared.addr.AddressFamily.TheVariants as Of
 use Rattle.resources_ip_prefix.specs.Prefixes.{prefix_run}

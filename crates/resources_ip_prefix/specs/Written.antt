@@ -1,7 +1,7 @@
 -- What is written of prefixes (RFC 3779 2.2.3.8).
 use Rattle.std.specs.Prelude.{ℕ, ◌+◌, ◌-◌, ◌*◌, ◌/◌, take}
 use Rattle.std.specs.Int.{to_be_bytes, w128}
-use Rattle.resources_ip_prefix.specs.bcder_bits.Bits.{BitsValue}
+use Rattle.resources_ip_prefix.specs.bcder_octets.Bits.{BitsValue}
 use Rattle.resources_ip_prefix.specs.declared.prefix.Prefix.{Prefix}
 use Rattle.resources_ip_prefix.specs.Address.{bits_of}
 use Rattle.resources_ip_prefix.specs.Prefix.{prefix_addr, prefix_len}

@@ -1,15 +1,15 @@
 //! Prefixes of 128 bits and those that know their family, made of each other.
 
 ghost use Rattle.std.specs.Prelude.{◌≡◌, ◌<◌, MatchOption};
-ghost use Rattle.resources_addr.specs.Prefixes.{Ipv4, Ipv6};
+ghost use Rattle.resources_ip_prefix.specs.AddrPrefixes.{Ipv4, Ipv6};
 ghost use Rattle.resources_ip_prefix.specs.Address.{bits_of};
 ghost use Rattle.resources_ip_prefix.specs.Family.{max_len_of};
 ghost use Rattle.resources_ip_prefix.specs.Prefix.{prefix_addr, prefix_len, run_of_prefix};
 ghost use Rattle.resources_ip_prefix.specs.Wide.{widened, wide_run, family_in, IsOfFamily};
 
 use crate::addr::{Addr, AddressFamily};
+use crate::ip_addr::Prefix as FamilyPrefix;
 use crate::prefix::Prefix;
-use resources_addr::addr::Prefix as FamilyPrefix;
 
 impl Prefix {
     /// The prefix of the same addresses: those of IPv4 are the first 32 of 128 bits (RFC 3779 2.1.1).

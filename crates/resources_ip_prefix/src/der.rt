@@ -2,7 +2,7 @@
 
 ghost use Rattle.std.specs.Prelude.{◌≡◌, ◌↔◌, ◌%◌, ◌^◌, ◌<◌, ◌≤◌, true, length, IfNone, IfSome, IsTrue, OnErr};
 ghost use Rattle.resources_ip_prefix.specs.bcder_tree.Strings.{octet_string_tag};
-ghost use Rattle.resources_ip_prefix.specs.bcder_bits.Contents.{bit_string_tag, last_octet};
+ghost use Rattle.resources_ip_prefix.specs.bcder_octets.BitContents.{bit_string_tag, last_octet};
 ghost use Rattle.resources_ip_prefix.specs.bcder_primitive.Plain.{plain, ReadsOctetsAs};
 ghost use Rattle.resources_ip_prefix.specs.bcder_content.Exact.{ReadsAs, ReadsOptAs};
 ghost use Rattle.resources_ip_prefix.specs.bcder_content.Here.{here};

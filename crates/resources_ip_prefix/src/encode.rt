@@ -3,8 +3,8 @@
 ghost use Rattle.std.proofs.Common.{rules};
 ghost use Rattle.std.specs.Prelude.{◌≡◌, ◌+◌, ◌/◌, ◌≤◌};
 ghost use Rattle.resources_ip_prefix.specs.bcder_tree.Strings.{octet_string_tag};
-ghost use Rattle.resources_ip_prefix.specs.bcder_bits.Contents.{WritesBits, bit_string_tag};
-ghost use Rattle.resources_ip_prefix.specs.bcder_bits.Written.{one_bits};
+ghost use Rattle.resources_ip_prefix.specs.bcder_octets.BitContents.{WritesBits, bit_string_tag};
+ghost use Rattle.resources_ip_prefix.specs.bcder_octets.BitsWritten.{one_bits};
 ghost use Rattle.resources_ip_prefix.specs.Encodings.{family_octets};
 ghost use Rattle.resources_ip_prefix.specs.Written.{octet_count, spelled_bits};
 

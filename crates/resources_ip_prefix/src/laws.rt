@@ -1,7 +1,7 @@
 //! Laws of prefixes: the contracts of functions that do nothing.
 
 ghost use Rattle.std.specs.Prelude.{◌≡◌, ◌≤◌, ◌↔◌, ℕ, List};
-ghost use Rattle.resources_addr.specs.Prefixes.{PrefixValue, IsPrefix, Has, Ipv4};
+ghost use Rattle.resources_ip_prefix.specs.AddrPrefixes.{PrefixValue, IsPrefix, Has, Ipv4};
 ghost use Rattle.resources_chain.specs.Sets.{InRun};
 ghost use Rattle.resources_ip_prefix.specs.Encodings.{FirstBits, IsAddress, IsFamily, prefix_bits};
 ghost use Rattle.resources_ip_prefix.specs.Family.{max_len_of};
@@ -10,7 +10,7 @@ ghost use Rattle.resources_ip_prefix.specs.Prefixes.{first_of, prefix_run};
 ghost use Rattle.resources_ip_prefix.specs.Whole.{IsWhole};
 ghost use Rattle.resources_ip_prefix.specs.Wide.{widened, wide_run};
 ghost use Rattle.resources_ip_prefix.specs.Written.{spelled_bits};
-ghost use Rattle.resources_ip_prefix.specs.bcder_bits.Contents.{WritesBits, bit_string_tag};
+ghost use Rattle.resources_ip_prefix.specs.bcder_octets.BitContents.{WritesBits, bit_string_tag};
 ghost use Rattle.resources_ip_prefix.specs.bcder_tree.Tree.{Tree, primitive};
 ghost use Rattle.resources_ip_prefix.specs.bcder_tree.declared.mode.Mode.{Mode as ModeValue};
 ghost use Rattle.resources_ip_prefix.specs.declared.addr.AddressFamily.{AddressFamily as FamilyValue};

@@ -1,4 +1,5 @@
-//! IP addresses of both families, and prefixes, as numbers of 128 bits (RFC 3779 section 2).
+//! IP addresses of both families, and prefixes, as numbers of 128 bits (RFC 3779 section 2); and strict prefixes, as
+//! texts and route origin attestations have them ([`ip_addr`]).
 #![tactic(auto)]
 
 pub mod addr;
@@ -7,6 +8,7 @@ mod convert;
 mod der;
 mod encode;
 pub mod error;
+pub mod ip_addr;
 pub mod laws;
 pub mod prefix;
 mod text;

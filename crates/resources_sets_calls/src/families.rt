@@ -3,7 +3,7 @@
 use answers::{Answer, unknown, word_at};
 use anyhow::Result;
 use resources::ipres::{IpBlock, IpBlocks, IpResources, Ipv4Block, Ipv6Block};
-use resources_set::{Family, FamilyBlock, FamilyBlocks, V4, V6};
+use resources::set::{Family, FamilyBlock, FamilyBlocks, V4, V6};
 use std::alloc::Global;
 use std::iter::once;
 

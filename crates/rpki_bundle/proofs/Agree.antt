@@ -9,7 +9,7 @@ use Rattle.rpki_bundle.proofs.of_bcder_tree.Fronts.{length_bound}
 use Rattle.rpki_bundle.specs.bcder_primitive.Values.{AnyOctets}
 use Rattle.rpki_bundle.specs.bcder_content.Grammar.{Inside, OctetsOf, Such, As, End, Then, ManyCases, Many}
 use Rattle.rpki_bundle.specs.bcder_content.Texts.{SpellsOf, InOrder}
-use Rattle.rpki_bundle.specs.bcder_written.Encoded.{WritesPlain, WritesWrapped, WritesBoth}
+use Rattle.rpki_bundle.specs.bcder_primitive.Encoded.{WritesPlain, WritesWrapped, WritesBoth}
 use Rattle.rpki_bundle.specs.bcder_values.Lists.{WritesAll}
 
 -- Octets spell the value x of Q where they are written by W and the law holds of x.

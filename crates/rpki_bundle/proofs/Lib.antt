@@ -7,12 +7,12 @@ pub mod OneBundle
 pub mod Texts
 pub mod Orders
 pub mod Objects
-pub mod of_bcder_strings
-pub mod of_bcder_content
-pub mod of_bcder_tree
-pub mod of_bcder_values
-pub mod of_certs_basics
 pub use Rattle.certs_basics.proofs.UriLaws
 pub use Rattle.certs_basics.proofs.UriTexts
 pub use Rattle.certs_basics.proofs.Calendar
 pub use Rattle.certs_basics.proofs.Moments
+pub mod of_bcder
+pub mod of_bcder_content
+pub mod of_bcder_tree
+pub mod of_bcder_values
+pub mod of_certs_basics

@@ -3,12 +3,12 @@ use Rattle.std.proofs.Common.{◌≡◌, ℕ, true, List, Some, ◌++◌, [], re
 use Rattle.std.specs.Prelude.{IfOk, IfErr, is_ok}
 use Rattle.rpki_bundle.specs.bcder_tree.declared.mode.Mode.TheVariants.{Der}
 use Rattle.rpki_bundle.specs.bcder_tree.Tags.{ia5_string_tag, printable_string_tag}
-use Rattle.rpki_bundle.specs.bcder_written.Encoded.{SpellsSome}
-use Rattle.rpki_bundle.specs.bcder_written.Integers.{one_unsigned}
-use Rattle.rpki_bundle.specs.bcder_written.Simple.{one_string}
-use Rattle.rpki_bundle.specs.bcder_written.Writing.{HasLength, Wrote, CannotWrite}
-use Rattle.rpki_bundle.specs.bcder_written.declared.error.EncodeError.{EncodeError}
-use Rattle.rpki_bundle.specs.bcder_written.declared.error.EncodeError.TheVariants.{CerUnsupported, TooLong, Write, Memory}
+use Rattle.rpki_bundle.specs.bcder_primitive.Encoded.{SpellsSome}
+use Rattle.rpki_bundle.specs.bcder_primitive.Integers.{one_unsigned}
+use Rattle.rpki_bundle.specs.bcder_primitive.Simple.{one_string}
+use Rattle.rpki_bundle.specs.bcder_primitive.Writing.{HasLength, Wrote, CannotWrite}
+use Rattle.rpki_bundle.specs.bcder_primitive.declared.written.error.EncodeError.{EncodeError}
+use Rattle.rpki_bundle.specs.bcder_primitive.declared.written.error.EncodeError.TheVariants.{CerUnsupported, TooLong, Write, Memory}
 use Rattle.rpki_bundle.specs.bcder_values.Laws.{both_spelled, both_one}
 use Rattle.rpki_bundle.specs.bcder_values.Lists.{all_spelled, all_one}
 use Rattle.rpki_bundle.specs.bcder_values.Plains.{plain_spelled, plain_one}

@@ -7,12 +7,12 @@ use Rattle.rpki_bundle.specs.bcder_tree.Tags.{generalized_time_tag, ia5_string_t
 use Rattle.rpki_bundle.specs.bcder_tree.Integers.{number_behind, IsShortest}
 use Rattle.rpki_bundle.specs.bcder_tree.Strings.{IsIa5, octet_string_tag}
 use Rattle.rpki_bundle.specs.bcder_primitive.Values.{AnyOctets, IsUnsigned}
-use Rattle.rpki_bundle.specs.bcder_strings.Sets.{alone}
-use Rattle.rpki_bundle.specs.bcder_strings.Texts.{IsText as IsTextOf}
-use Rattle.rpki_bundle.proofs.of_bcder_strings.Ascii.{ascii_text}
+use Rattle.rpki_bundle.specs.bcder.Sets.{alone}
+use Rattle.rpki_bundle.specs.bcder.Texts.{IsText as IsTextOf}
+use Rattle.rpki_bundle.proofs.of_bcder.Ascii.{ascii_text}
 use Rattle.rpki_bundle.specs.bcder_content.Grammar.{OctetsOf}
-use Rattle.rpki_bundle.specs.bcder_written.Encoded.{WritesWrapped}
-use Rattle.rpki_bundle.specs.bcder_written.Integers.{WritesUnsigned}
+use Rattle.rpki_bundle.specs.bcder_primitive.Encoded.{WritesWrapped}
+use Rattle.rpki_bundle.specs.bcder_primitive.Integers.{WritesUnsigned}
 use Rattle.rpki_bundle.specs.bcder_values.Lists.{WritesAll}
 use Rattle.rpki_bundle.specs.declared.parts.Locator.{Locator}
 use Rattle.rpki_bundle.specs.declared.parts.Object.{Object}

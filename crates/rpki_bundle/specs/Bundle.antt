@@ -7,8 +7,8 @@ use Rattle.rpki_bundle.specs.bcder_tree.Tree.{Tree, Trees}
 use Rattle.rpki_bundle.specs.bcder_tree.Sequences.{sequence_tag}
 use Rattle.rpki_bundle.specs.bcder_tree.Strings.{IsPrintable, IsIa5, IsOctetString, octet_string_tag}
 use Rattle.rpki_bundle.specs.bcder_primitive.Values.{IsUnsigned, IsValue}
-use Rattle.rpki_bundle.specs.bcder_strings.Sets.{alone}
-use Rattle.rpki_bundle.specs.bcder_strings.Restricted.{IsRestricted}
+use Rattle.rpki_bundle.specs.bcder.Sets.{alone}
+use Rattle.rpki_bundle.specs.bcder.Restricted.{IsRestricted}
 use Rattle.rpki_bundle.specs.bcder_content.Grammar.{Inside, OctetsOf, Such, As, End, Then, Many}
 use Rattle.rpki_bundle.specs.bcder_content.Texts.{SpellsOf}
 use Rattle.rpki_bundle.specs.declared.parts.Locator.{Locator}

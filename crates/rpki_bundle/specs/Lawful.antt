@@ -1,8 +1,8 @@
 -- What holds of the parts of each bundle.
 use Rattle.std.specs.Prelude.{◌≡◌, ℕ, ◌≤◌, List, length, All}
 use Rattle.rpki_bundle.specs.bcder_tree.Strings.{IsPrintable}
-use Rattle.rpki_bundle.specs.bcder_strings.Sets.{alone}
-use Rattle.rpki_bundle.specs.bcder_strings.Texts.{IsText}
+use Rattle.rpki_bundle.specs.bcder.Sets.{alone}
+use Rattle.rpki_bundle.specs.bcder.Texts.{IsText}
 use Rattle.rpki_bundle.specs.declared.parts.Locator.{Locator}
 use Rattle.rpki_bundle.specs.declared.parts.Object.{Object}
 use Rattle.rpki_bundle.specs.declared.parts.Verdict.{Verdict}

@@ -4,11 +4,11 @@ use Rattle.rpki_bundle.specs.bcder_tree.declared.mode.Mode.{Mode}
 use Rattle.rpki_bundle.specs.bcder_tree.Tags.{TagValue, ia5_string_tag, printable_string_tag}
 use Rattle.rpki_bundle.specs.bcder_tree.Sequences.{sequence_tag}
 use Rattle.rpki_bundle.specs.bcder_tree.Strings.{IsString, IsPrintable, IsIa5, IsOctetString, octet_string_tag}
-use Rattle.rpki_bundle.specs.bcder_strings.Sets.{alone}
+use Rattle.rpki_bundle.specs.bcder.Sets.{alone}
 use Rattle.rpki_bundle.specs.bcder_content.Grammar.{One, Tagged}
 use Rattle.certs_key.proofs.of_bcder_content.Unique.{octets_one, such_one, inside_one, then_one, end_one, as_one, as_tagged, inside_tagged}
 use Rattle.certs_key.proofs.of_bcder_octets.Meaning.{one_string}
-use Rattle.rpki_bundle.specs.bcder_strings.Restricted.{IsRestricted}
+use Rattle.rpki_bundle.specs.bcder.Restricted.{IsRestricted}
 use Rattle.rpki_bundle.specs.Bundle.{IsNameString, IsUriString, IsDigestString, IsLocator, IsObject, IsVerdict}
 
 string : (m : Mode) (tag : TagValue) → One (IsString m tag)

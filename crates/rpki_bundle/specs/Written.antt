@@ -4,13 +4,13 @@ use Rattle.rpki_bundle.specs.bcder_tree.declared.mode.Mode.{Mode}
 use Rattle.rpki_bundle.specs.bcder_tree.Tags.{TagValue, generalized_time_tag, ia5_string_tag, integer_tag, octet_string_tag, printable_string_tag, sequence_tag}
 use Rattle.rpki_bundle.specs.bcder_tree.Tree.{Trees}
 use Rattle.rpki_bundle.specs.bcder_primitive.Values.{AnyOctets}
-use Rattle.rpki_bundle.specs.bcder_written.Encoded.{IsPlain, WritesPlain, IsWrapped, WritesWrapped, AreBoth, WritesBoth, SpellsSome}
-use Rattle.rpki_bundle.specs.bcder_written.Integers.{WritesUnsigned}
+use Rattle.rpki_bundle.specs.bcder_primitive.Encoded.{IsPlain, WritesPlain, IsWrapped, WritesWrapped, AreBoth, WritesBoth, SpellsSome}
+use Rattle.rpki_bundle.specs.bcder_primitive.Integers.{WritesUnsigned}
 use Rattle.rpki_bundle.specs.bcder_octets.Segments.{StringTrees, WritesString, string_spelled, string_one}
 use Rattle.rpki_bundle.specs.bcder_values.Laws.{both_spelled, both_one}
 use Rattle.rpki_bundle.specs.bcder_values.Lists.{AreAll, WritesAll}
 use Rattle.rpki_bundle.specs.bcder_values.Plains.{plain_spelled, plain_one}
-use Rattle.rpki_bundle.specs.bcder_written.Simple.{one_string}
+use Rattle.rpki_bundle.specs.bcder_primitive.Simple.{one_string}
 use Rattle.rpki_bundle.specs.bcder_values.Wraps.{wrapped_spelled, wrapped_one}
 use Rattle.std.proofs.Common.{◌≡◌}
 use Rattle.rpki_bundle.specs.declared.parts.Locator.{Locator}

@@ -8,5 +8,5 @@ pub mod Ranks
 pub mod OneFolder
 pub mod Words
 pub mod of_bcder_tree
-pub mod of_rpki_bundle
 pub mod of_certs_basics
+pub mod of_rpki_bundle

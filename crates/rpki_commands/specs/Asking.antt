@@ -1,6 +1,7 @@
 -- What asking does to its reader and its writer, as far as their octets are known.
 use Rattle.std.specs.Prelude.{ℕ, List, Option, Err}
 use Rattle.std.specs.Io.KnownBytes.{Appends, Keeps}
+use Rattle.rpki_commands.specs.Checks.{Counts}
 use Rattle.rpki_validator.specs.Bundle.{BundleValue}
 use Rattle.rpki_validator.specs.Run.{CountsReads, CountsWrites, ReadsBundle, ReadsNoBundle, ReadsSome}
 use Rattle.rpki_validator.specs.Streams.{TakesSome}
@@ -27,11 +28,6 @@ AskFails errors.Read r r' w w' = ReadsSome r r' × Keeps w w'
 AskFails errors.NotABundle r r' w w' = ReadsNoBundle r r' × Keeps w w'
 AskFails errors.Write r r' w w' = StopsAnswering r r' w w'
 AskFails errors.Memory r r' w w' = ReadsSome r r' × Keeps w w'
-
--- Counts of failures, before and after.
-pub record Counts : Type 0 where
-  pub before : ℕ
-  pub after : ℕ
 
 -- Asking ended with an error, and each count says whether it was that one's.
 pub record EndsInFault (read_before read_after written_before written_after : Option (List ℕ)) (reads writes : Counts) : Type 0 where

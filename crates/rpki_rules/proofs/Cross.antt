@@ -2,7 +2,7 @@
 use Rattle.std.proofs.Common.{◌≡◌, ℕ, ◌⊎◌, Bool, true, false, List, [], ◌∷◌, Option, Some, None, bytes_eq, if◌then◌else◌, inl, inr, refl, sym, ap, subst, ◌∙◌}
 use Rattle.std.specs.Prelude.{filter, not}
 use Rattle.std.proofs.lemmas.Slice.Eq.{bytes_eq-Decides}
-use Rattle.rpki_rules.specs.resources_set.Resources.{Resources}
+use Rattle.rpki_rules.specs.resources.Resources.{Resources}
 use Rattle.rpki_rules.specs.certs_basics.Uris.{lookup_key}
 use Rattle.rpki_rules.specs.Certs.{Cert}
 use Rattle.rpki_rules.specs.Objects.{Manifest, ManifestText, one_manifest}

@@ -20,6 +20,6 @@ pub mod Sets
 pub mod Groups
 pub mod Pieces
 pub mod of_bcder_tree
-pub mod of_rpki_bundle
 pub mod of_certs_basics
 pub mod of_objects_payload
+pub mod of_rpki_bundle

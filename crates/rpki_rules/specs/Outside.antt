@@ -1,6 +1,6 @@
 -- What is printed of origins and customers outside what is reached.
 use Rattle.std.specs.Prelude.{◌↔◌, ℕ, List}
-use Rattle.rpki_rules.specs.resources_set.Resources.{Resources}
+use Rattle.rpki_rules.specs.resources.Resources.{Resources}
 use Rattle.rpki_rules.specs.Words.{Mem}
 use Rattle.rpki_rules.specs.World.{World}
 use Rattle.rpki_rules.specs.Attests.{Origin}

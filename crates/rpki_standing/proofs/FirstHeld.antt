@@ -1,8 +1,8 @@
 -- The first of the URIs at which there is an object, as far as they were tried.
 use Rattle.std.proofs.Common.{◌≡◌, ℕ, ◌+◌, ◌<◌, ◌≤◌, List, [], ◌∷◌, length, drop, map, get_or, Some, None, inl, inr, sym, ap, subst, ◌∙◌}
 use Rattle.std.proofs.lemmas.List.{at_drop_more, drop_all}
-use Rattle.objects_locator.specs.declared.uri.TalUri.{TalUri}
-use Rattle.objects_locator.specs.Uris.{text_of}
+use Rattle.objects_payload.specs.declared.locator.uri.TalUri.{TalUri}
+use Rattle.objects_payload.specs.Uris.{text_of}
 use Rattle.rpki_standing.specs.certs_basics.Uris.{lookup_key}
 use Rattle.rpki_rules.specs.World.{World, at}
 use Rattle.rpki_rules.specs.Points.{IsFirstHeld}

@@ -1,9 +1,9 @@
 -- What a locator leads to.
 use Rattle.std.proofs.Common.{◌≡◌, ℕ, List, [], ◌∷◌, Some, None, inl, inr, sym, ap, subst, ◌∙◌}
-use Rattle.objects_locator.specs.declared.error.ReadError.{ReadError}
-use Rattle.objects_locator.specs.declared.error.ReadError.TheVariants.{Memory}
-use Rattle.objects_locator.specs.Faults.{BehindComments, IsFault, StartsWithUri}
-use Rattle.objects_locator.specs.Tals.{TalValue}
+use Rattle.objects_payload.specs.declared.locator.error.ReadError.{ReadError}
+use Rattle.objects_payload.specs.declared.locator.error.ReadError.TheVariants.{Memory}
+use Rattle.objects_payload.specs.Faults.{BehindComments, IsFault, StartsWithUri}
+use Rattle.objects_payload.specs.Tals.{TalValue}
 use Rattle.rpki_standing.specs.rpki_bundle.declared.parts.Locator.{Locator}
 use Rattle.rpki_rules.specs.Locators.{LocatorText, https_first}
 use Rattle.rpki_rules.specs.World.{World}

@@ -19,5 +19,4 @@ pub use Rattle.certs_cert.specs.bcder_source as bcder_source
 pub use Rattle.certs_verify.specs.certs_key as certs_key
 pub use Rattle.certs_verify.specs as certs_verify
 pub use Rattle.rpki_rules.specs.certs_extension as certs_extension
-pub use Rattle.objects_locator.specs as objects_locator
 pub use Rattle.objects_payload.specs as objects_payload

@@ -10,5 +10,5 @@ pub mod texts;
 pub use certs::{cert_at, read_cert};
 pub use held::first_held;
 pub use leads::{Lead, follow};
-pub use objects_locator::{Tal, TalUri};
+pub use objects_payload::locator::{Tal, TalUri};
 pub use texts::read_locator_text;

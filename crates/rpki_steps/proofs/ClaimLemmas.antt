@@ -1,7 +1,7 @@
 -- Claims kind by kind.
 use Rattle.std.proofs.Common.{◌≡◌, Bool, Option, Some, None, Result, Ok, Err, subst}
 use Rattle.std.specs.Prelude.{◌↔◌, IfOk, IsTrue}
-use Rattle.rpki_steps.specs.resources_set.Resources.{Resources}
+use Rattle.rpki_steps.specs.resources.Resources.{Resources}
 use Rattle.rpki_rules.specs.Certs.{Cert}
 use Rattle.rpki_rules.specs.Chains.{Fits}
 use Rattle.rpki_rules.specs.Kinds.{Ipv4, Ipv6, As, InSet}

@@ -6,7 +6,7 @@ use Rattle.rpki_rules.specs.Certs.{Cert}
 use Rattle.rpki_rules.specs.Chains.{Fits}
 use Rattle.rpki_rules.specs.Kinds.{Ipv4, Ipv6, As}
 use Rattle.rpki_walk.specs.Claimed.{ClaimValue}
-use Rattle.rpki_walk.specs.resources_set.Resources.{Resources}
+use Rattle.rpki_walk.specs.resources.Resources.{Resources}
 use Rattle.rpki_walk.specs.Steps.{FitsAll}
 use Rattle.rpki_steps.specs.PlaceClaims.{sets_of}
 use Rattle.rpki_steps.specs.Claims.{claims_of}

@@ -3,7 +3,7 @@ use Rattle.std.proofs.Common.{◌≡◌, ◌⊎◌, inr, ℕ, Bool, List, [], �
 use Rattle.std.specs.Prelude.{◌↔◌, IsTrue}
 use Rattle.rpki_steps.specs.Holders.{cert_of, sets_of}
 use Rattle.rpki_steps.specs.certs_verify.Holders.{ResourceCertValue}
-use Rattle.rpki_steps.specs.resources_set.Resources.{Resources}
+use Rattle.rpki_steps.specs.resources.Resources.{Resources}
 use Rattle.rpki_rules.specs.Certs.{Cert}
 use Rattle.rpki_rules.specs.Objects.{Object, RoaAddress}
 use Rattle.rpki_rules.specs.Attests.{AreHeld, HoldsWith, IsCovered, IsGood, IsSigned, OfAspa, OfRoa, Payload}

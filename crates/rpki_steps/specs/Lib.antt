@@ -21,5 +21,5 @@ pub use Rattle.rpki_bundle.specs as rpki_bundle
 pub use Rattle.rpki_rules.specs as rpki_rules
 pub use Rattle.certs_verify.specs.certs_x509 as certs_x509
 pub use Rattle.rpki_walk.specs.resources_chain as resources_chain
-pub use Rattle.rpki_walk.specs.resources_set as resources_set
+pub use Rattle.rpki_walk.specs.resources as resources
 pub use Rattle.rpki_walk.specs as rpki_walk

@@ -1,7 +1,7 @@
 //! What locators and authorities name, by lookup keys (RFC 8630 2.2, RFC 9286 4.2).
 
 ghost use Rattle.std.specs.Prelude.{◌≡◌, ◌↔◌, IfOk, List, map, ℕ};
-ghost use Rattle.rpki_standing.specs.objects_locator.Uris.{text_of};
+ghost use Rattle.rpki_standing.specs.objects_payload.Uris.{text_of};
 ghost use Rattle.rpki_rules.specs.Certs.{Digests, Verdicts};
 ghost use Rattle.rpki_rules.specs.Points.{files};
 ghost use Rattle.rpki_rules.specs.Reach.{NamesFile};

@@ -2,7 +2,7 @@
 use Rattle.std.proofs.Common.{◌≡◌, ℕ, List, refl, ap, inl, inr, subst}
 use Rattle.rpki_validator.specs.rpki_bundle.Bundle.{BundleValue}
 use Rattle.rpki_validator.specs.rpki_bundle.declared.parts.Verdict.{Verdict}
-use Rattle.rpki_validator.specs.resources_set.Resources.{Resources}
+use Rattle.rpki_validator.specs.resources.Resources.{Resources}
 use Rattle.rpki_validator.specs.rpki_rules.Certs.{Digests}
 use Rattle.rpki_validator.specs.rpki_rules.declared.cause.Cause.{Cause}
 use Rattle.rpki_validator.specs.rpki_rules.declared.cause.Cause.TheVariants as cause

@@ -1,7 +1,7 @@
 -- What forging the objects at some URIs can change of what a run prints.
 use Rattle.std.specs.Prelude.{◌≡◌, ◌↔◌, ◌⊎◌, ℕ, List}
 use Rattle.rpki_validator.specs.rpki_bundle.Bundle.{BundleValue}
-use Rattle.rpki_validator.specs.resources_set.Resources.{Resources}
+use Rattle.rpki_validator.specs.resources.Resources.{Resources}
 use Rattle.rpki_validator.specs.rpki_rules.Certs.{Digests}
 use Rattle.rpki_validator.specs.rpki_rules.declared.cause.Cause.TheVariants as cause
 use Rattle.rpki_validator.specs.rpki_rules.Words.{Mem}

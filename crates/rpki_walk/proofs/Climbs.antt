@@ -5,7 +5,7 @@ use Rattle.rpki_walk.specs.resources_chain.Claims.{Choice}
 use Rattle.rpki_walk.specs.resources_chain.declared.choice.ResourcesChoice.TheVariants.{Missing, Inherit, Blocks}
 use Rattle.rpki_walk.specs.resources_chain.declared.claims.Overclaim.{Overclaim}
 use Rattle.rpki_walk.specs.resources_chain.declared.claims.Overclaim.TheVariants.{Refuse, Trim}
-use Rattle.rpki_walk.specs.resources_set.Resources.{Resources}
+use Rattle.rpki_walk.specs.resources.Resources.{Resources}
 use Rattle.rpki_rules.specs.Objects.{Object}
 use Rattle.rpki_rules.specs.Kinds.{Kind, claim, InSet}
 use Rattle.rpki_rules.specs.World.{World}

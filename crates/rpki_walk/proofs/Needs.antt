@@ -3,7 +3,7 @@ use Rattle.std.proofs.Common.{◌≡◌, ℕ, sym, subst}
 use Rattle.rpki_walk.specs.resources_chain.Sets.{IsRunsOf}
 use Rattle.rpki_walk.specs.resources_chain.Claims.{Choice, Lists, Keeps}
 use Rattle.rpki_walk.specs.resources_chain.declared.claims.Overclaim.{Overclaim}
-use Rattle.rpki_walk.specs.resources_set.Resources.{Resources}
+use Rattle.rpki_walk.specs.resources.Resources.{Resources}
 use Rattle.rpki_rules.specs.Certs.{Cert}
 use Rattle.rpki_rules.specs.Kinds.{Kind, Ipv4, Ipv6, As, claim, of_kind, InSet}
 use Rattle.rpki_rules.specs.Judge.{NeedAbove, NeedWith, KeepsNeed}

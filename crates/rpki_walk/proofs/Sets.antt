@@ -1,7 +1,7 @@
 -- Unions of sets.
 use Rattle.std.proofs.Common.{◌≡◌, ℕ, ◌↔◌, List, [], ◌∷◌, ◌++◌, refl, sym, subst, inl, inr}
 use Rattle.rpki_walk.specs.resources_chain.Sets.{Run, IsRunsOf, InEither}
-use Rattle.rpki_walk.specs.resources_set.Resources.{Resources, Combines, HasNone, IsNone}
+use Rattle.rpki_walk.specs.resources.Resources.{Resources, Combines, HasNone, IsNone}
 use Rattle.rpki_rules.specs.Words.{Mem}
 use Rattle.rpki_rules.specs.Kinds.{Kind, Ipv4, Ipv6, As, of_kind, InSet}
 use Rattle.rpki_rules.proofs.Orders.{mem_append}

@@ -1,6 +1,6 @@
 -- What the steps of climbing answer.
 use Rattle.std.specs.Prelude.{◌≡◌, ℕ, ◌+◌, ◌-◌, ◌≤◌, ◌↔◌, Bool, true, false, IsTrue, List, [], ◌∷◌, ◌++◌, map, length, Option, Some, None}
-use Rattle.rpki_walk.specs.resources_set.Resources.{Resources}
+use Rattle.rpki_walk.specs.resources.Resources.{Resources}
 use Rattle.rpki_rules.specs.Certs.{Cert}
 use Rattle.rpki_rules.specs.Objects.{Object}
 use Rattle.rpki_rules.specs.Words.{Mem, Each}

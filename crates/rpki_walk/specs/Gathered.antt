@@ -1,7 +1,7 @@
 -- Sets that were found, and their union.
 use Rattle.std.specs.Prelude.{ℕ, List}
 use Rattle.rpki_walk.specs.resources_chain.Sets.{IsRunsOf}
-use Rattle.rpki_walk.specs.resources_set.Resources.{Resources}
+use Rattle.rpki_walk.specs.resources.Resources.{Resources}
 use Rattle.rpki_rules.specs.Words.{Mem}
 use Rattle.rpki_rules.specs.Kinds.{Kind, of_kind, InSet}
 use Rattle.rpki_walk.specs.Facts.{Told, Refuses, Shows, Originates, Provides, Reaches, Chains}

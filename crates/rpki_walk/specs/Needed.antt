@@ -2,7 +2,7 @@
 use Rattle.std.specs.Prelude.{◌≡◌, ℕ}
 use Rattle.rpki_walk.specs.resources_chain.Sets.{InRuns, IsRunsOf}
 use Rattle.rpki_walk.specs.resources_chain.Claims.{Choice, Lists, Keeps}
-use Rattle.rpki_walk.specs.resources_set.Resources.{Resources}
+use Rattle.rpki_walk.specs.resources.Resources.{Resources}
 use Rattle.rpki_rules.specs.Certs.{Cert}
 use Rattle.rpki_rules.specs.Kinds.{Kind, Ipv4, Ipv6, As, of_kind, InSet}
 use Rattle.rpki_rules.specs.Judge.{NeedAbove, NeedWith}

@@ -3,7 +3,7 @@ use Rattle.std.specs.Prelude.{List, Option, Some, None}
 use Rattle.rpki_walk.specs.resources_chain.Sets.{Run, InRuns, IsRunsOf}
 use Rattle.rpki_walk.specs.resources_chain.Claims.{Choice, Kept, FitsIn}
 use Rattle.rpki_walk.specs.resources_chain.declared.claims.Overclaim.{Overclaim}
-use Rattle.rpki_walk.specs.resources_set.Resources.{Resources}
+use Rattle.rpki_walk.specs.resources.Resources.{Resources}
 use Rattle.rpki_walk.specs.Claimed.{ClaimValue}
 
 -- Of one kind, what is held below by its maximal runs, or nothing where the claim doesn't fit.

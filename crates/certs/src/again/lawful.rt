@@ -11,9 +11,9 @@ ghost use Rattle.certs_name.specs.Named.{IsNamed};
 ghost use Rattle.certs_basics.specs.Uris.{IsHttps, IsRsync};
 ghost use Rattle.resources_ip.specs.WholeSets.{ListsWhole};
 
+use crate::written::{KeyIdentifier, Name};
 use certs_basics::uri::{Https, Rsync};
 use certs_cert::TbsCert;
-use certs_written::{KeyIdentifier, Name};
 
 // A name is one.
 fn name_is(name: &Name)

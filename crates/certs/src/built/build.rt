@@ -7,8 +7,8 @@ ghost use Rattle.certs.specs.Signing.{NotWritten, SigningRefused};
 ghost use Rattle.certs.specs.Tbs.{WritesTbs};
 
 use crate::built::values::TbsCertValues;
+use crate::written::{Captured, EncodeError, Mode, Signer, SigningError, Values};
 use certs_cert::{Cert, SignedData, TbsCert};
-use certs_written::{Captured, EncodeError, Mode, Signer, SigningError, Values};
 use std::alloc::Global;
 
 // What is signed of a certificate with these fields: what is written of them in DER.

@@ -4,8 +4,7 @@ ghost use Rattle.std.specs.Prelude.{◌≡◌};
 ghost use Rattle.certs.specs.Tbs.{extensions, key_parts, place_parts, resource_parts};
 ghost use Rattle.certs.specs.Tbs.{written_keys, written_places, written_resources};
 
-use certs_cert::TbsCert;
-use certs_written::{
+use crate::written::{
     AsValue, AuthorityKeyValue, ConstraintsValue, CrlValue, EncodeAsExtension, EncodeError,
     EncodeIpExtension, ExtensionEncoder, IpResources, IpValue, IssuerAccessValue, Mode,
     PolicyValue, PurposesValue, SubjectAccessValue, SubjectKeyValue, UsageValue, Values,
@@ -13,6 +12,7 @@ use certs_written::{
     policy_extension, purposes_extension, subject_access_value, subject_extension,
     subject_key_extension, usage_extension,
 };
+use certs_cert::TbsCert;
 use std::io::Write;
 use std::marker::Model;
 

@@ -4,11 +4,11 @@ ghost use Rattle.std.specs.Prelude.{◌≡◌};
 ghost use Rattle.certs.specs.Tbs.{tbs, tbs_parts};
 
 use crate::built::extensions::ExtensionsValue;
-use certs_cert::TbsCert;
-use certs_written::{
+use crate::written::{
     AlgorithmIdentifier, Context0, Context3, EncodeError, Mode, Name, PublicKey, Sequence,
     SerialValue, SignatureAlgorithm, TimeValue, Values, Version,
 };
+use certs_cert::TbsCert;
 use std::io::Write;
 use std::marker::Model;
 

@@ -7,7 +7,7 @@ ghost use Rattle.certs_basics.specs.bcder_tree.Tags.{TagValue, sequence_tag};
 ghost use Rattle.certs_basics.specs.bcder_tree.Tree.{Tree, primitive};
 ghost use Rattle.certs_basics.specs.bcder_primitive.Values.{AnyOctets};
 ghost use Rattle.certs_basics.specs.bcder_content.Grammar.{End, One, Then};
-ghost use Rattle.certs_basics.specs.bcder_written.Encoded.{WritesBoth, WritesPlain, WritesWrapped};
+ghost use Rattle.certs_basics.specs.bcder_primitive.Encoded.{WritesBoth, WritesPlain, WritesWrapped};
 ghost use Rattle.certs_basics.specs.bcder_values.Returns.{ReadAgain};
 ghost use Rattle.certs_basics.specs.Forms.{IsTime, IsValidity, WritesTime};
 

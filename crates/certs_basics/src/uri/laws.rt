@@ -6,9 +6,9 @@ ghost use Rattle.certs_basics.specs.bcder_tree.declared.mode.Mode.{Mode};
 ghost use Rattle.certs_basics.specs.bcder_tree.Strings.{IsIa5};
 ghost use Rattle.certs_basics.specs.bcder_tree.Tags.{context};
 ghost use Rattle.certs_basics.specs.bcder_tree.Tree.{Trees};
-ghost use Rattle.certs_basics.specs.bcder_strings.Sets.{alone};
+ghost use Rattle.certs_basics.specs.bcder.Sets.{alone};
 ghost use Rattle.certs_basics.specs.bcder_octets.Segments.{StringTrees};
-ghost use Rattle.certs_basics.specs.bcder_strings.Restricted.{WrittenText};
+ghost use Rattle.certs_basics.specs.bcder.Restricted.{WrittenText};
 ghost use Rattle.certs_basics.specs.Uris.{IsUri, IsLookupKey, lookup_key as key_of};
 
 use crate::uri::https::Https;

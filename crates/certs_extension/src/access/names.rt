@@ -2,12 +2,12 @@
 
 ghost use Rattle.certs_extension.specs.bcder_tree.Strings.{IsIa5};
 ghost use Rattle.certs_extension.specs.bcder_tree.Tags.{context};
-ghost use Rattle.certs_extension.specs.bcder_strings.Sets.{alone};
+ghost use Rattle.certs_extension.specs.bcder.Sets.{alone};
 ghost use Rattle.certs_extension.specs.bcder_content.Exact.{ReadsAs, ReadsOptAs};
 ghost use Rattle.certs_extension.specs.bcder_content.Here.{here};
 ghost use Rattle.certs_extension.specs.bcder_content.InMode.{ReadsFields};
 ghost use Rattle.certs_extension.specs.bcder_content.Words.{Gathers};
-ghost use Rattle.certs_extension.specs.bcder_strings.Restricted.{IsRestricted};
+ghost use Rattle.certs_extension.specs.bcder.Restricted.{IsRestricted};
 ghost use Rattle.certs_extension.specs.bcder_content.Tagged.{ReadsTagged};
 ghost use Rattle.certs_extension.specs.Grammars.{HaveOneRsync, IsName};
 ghost use Rattle.certs_extension.specs.Seen.{NameSays, Seen};

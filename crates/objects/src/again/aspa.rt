@@ -1,8 +1,8 @@
 //! Provider attestations, written again (draft-ietf-sidrops-aspa-profile 3).
 
 use crate::again::object::{EncodeObject, ObjectValues};
+use certs::written::EncodeError;
 use certs_key::Captured;
-use certs_written::EncodeError;
 use objects_valid::kinds::Aspa;
 use std::alloc::Global;
 

@@ -16,10 +16,10 @@ ghost use Rattle.objects.specs.Taking.{in_der as captured_der};
 
 use crate::again::der::in_der;
 use bytes::Bytes;
+use certs::written::{Context0, EncodeError};
 use certs_key::decode::{Constructed, DecodeError, Source};
 use certs_key::string::OctetSliceEncoder;
 use certs_key::{Captured, OctetString, Tag};
-use certs_written::{Context0, EncodeError};
 use objects_cms::attributes::SignedAttrs;
 use objects_written::frame::attributes::SetOf;
 use std::alloc::{AllocError, Global};

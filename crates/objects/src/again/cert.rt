@@ -6,9 +6,9 @@ ghost use Rattle.objects_written.specs.bcder_content.Kept.{SpellsValues};
 ghost use Rattle.objects.specs.Again.{CertRefused, WritesCertAgain, cert_value};
 
 use crate::again::der::in_der;
+use certs::written::{EncodeError, Values};
 use certs_cert::{Cert, SignedData};
 use certs_key::{Captured, Mode, Signature};
-use certs_written::{EncodeError, Values};
 use std::alloc::Global;
 
 // The certificate's signed octets as values in DER, with its signature of whole octets.

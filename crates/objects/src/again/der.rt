@@ -6,9 +6,9 @@ ghost use Rattle.objects_written.specs.bcder_content.Here.{here};
 ghost use Rattle.objects.specs.Again.{DerRefused};
 ghost use Rattle.objects.specs.Taking.{DecodesDer, IsInDer, TakesAll};
 
+use certs::written::EncodeError;
 use certs_key::decode::{Constructed, Decode, DecodeError, Source};
 use certs_key::{Captured, Mode};
-use certs_written::EncodeError;
 use std::alloc::Global;
 use std::convert::Infallible;
 

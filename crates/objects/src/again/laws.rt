@@ -4,7 +4,7 @@ ghost use Rattle.std.specs.Prelude.{◌≡◌, ℕ, List, true};
 ghost use Rattle.objects_written.specs.bcder_tree.declared.mode.Mode.TheVariants.{Der};
 ghost use Rattle.objects_written.specs.bcder_tree.Tags.{set_tag};
 ghost use Rattle.objects_written.specs.bcder_values.Captures.{CapturedText};
-ghost use Rattle.objects_written.specs.bcder_written.Encoded.{WritesWrapped};
+ghost use Rattle.objects_written.specs.bcder_primitive.Encoded.{WritesWrapped};
 ghost use Rattle.objects_written.specs.objects_payload.Aspas.{Aspa as AspaValue, AspaText};
 ghost use Rattle.objects_written.specs.objects_payload.Manifests.{Manifest as ManifestValue, ManifestText};
 ghost use Rattle.objects_written.specs.objects_payload.ObjectText.{IsSignedMessage, Object, ObjectText, Signer};

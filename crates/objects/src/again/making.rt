@@ -11,8 +11,8 @@ ghost use Rattle.objects.specs.Making.{IsCause, MakingRefused, file_of, manifest
 ghost use Rattle.objects.specs.declared.again.making.ManifestError.TheVariants.{Memory as NoMemory};
 
 use bytes::Bytes;
+use certs::written::{EncodeError, Identifier, Sequence, SerialValue, Time, Values};
 use certs_key::{Captured, ConstOid, Mode, Oid, Serial};
-use certs_written::{EncodeError, Identifier, Sequence, SerialValue, Time, Values};
 use objects_cms::manifest::file::is_file_name;
 use objects_cms::manifest::{FileAndHash, ManifestContent};
 use objects_written::EncodeFile;

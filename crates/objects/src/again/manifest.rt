@@ -1,8 +1,8 @@
 //! Manifests, written again (RFC 9286 4).
 
 use crate::again::object::{EncodeObject, ObjectValues};
+use certs::written::EncodeError;
 use certs_key::Captured;
-use certs_written::EncodeError;
 use objects_valid::kinds::Manifest;
 use std::alloc::Global;
 

@@ -9,8 +9,8 @@ ghost use Rattle.objects.specs.Taking.{IsInDer};
 
 use crate::again::cert::cert_text;
 use crate::again::der::in_der;
+use certs::written::{EncodeError, Values};
 use certs_key::{Captured, KeyIdentifier, Mode, OctetString};
-use certs_written::{EncodeError, Values};
 use objects_valid::kinds::SignedObject;
 use objects_written::frame::{ObjectValue, SignerValue};
 use std::alloc::Global;

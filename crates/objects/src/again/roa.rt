@@ -1,8 +1,8 @@
 //! Route origin attestations, written again (RFC 9582 3).
 
 use crate::again::object::{EncodeObject, ObjectValues};
+use certs::written::EncodeError;
 use certs_key::Captured;
-use certs_written::EncodeError;
 use objects_valid::kinds::Roa;
 use std::alloc::Global;
 

@@ -8,9 +8,9 @@ ghost use Rattle.objects.specs.objects_payload.Aspas.{IsAspa, IsLawful};
 ghost use Rattle.objects.specs.Written.{as_id, aspa, aspa_parts};
 
 use crate::attested::builder::AspaBuilder;
+use certs::written::{Context0, Sequence, Version};
 use certs_key::encode::{EncodeError, Iter, Primitive, Values, Walk};
 use certs_key::{Captured, Mode, Tag};
-use certs_written::{Context0, Sequence, Version};
 use resources_asn::Asn;
 use std::alloc::Global;
 use std::io::Write;

@@ -2,7 +2,7 @@
 
 ghost use Rattle.std.specs.Prelude.{[], ◌≡◌, ◌<◌, ◌≤◌, ℕ, List, length, IfSome, IfNone};
 ghost use Rattle.objects_cms.specs.bcder_tree.declared.mode.Mode.TheVariants.{Ber};
-ghost use Rattle.objects_cms.specs.bcder_header.Openings.{NoHead};
+ghost use Rattle.objects_cms.specs.bcder_content.Openings.{NoHead};
 ghost use Rattle.bcder_octets.specs.Pieces.{Holds, IsHeaded, NextPiece};
 ghost use Rattle.objects_cms.specs.Steps.{IsShorter, StepsTo};
 

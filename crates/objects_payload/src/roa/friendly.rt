@@ -2,15 +2,15 @@
 
 ghost use Rattle.std.specs.Prelude.{◌≡◌, ◌↔◌, IsTrue, MatchOption};
 ghost use Rattle.std.specs.Iterator.{YieldsFirst, item_count};
-ghost use Rattle.objects_payload.specs.resources_addr.MaxLens.{resolved};
-ghost use Rattle.objects_payload.specs.resources_addr.Prefixes.{Ipv4, bits_of, family_of};
+ghost use Rattle.objects_payload.specs.resources_ip_prefix.MaxLens.{resolved};
+ghost use Rattle.objects_payload.specs.resources_ip_prefix.AddrPrefixes.{Ipv4, bits_of, family_of};
 ghost use Rattle.objects_payload.specs.Addresses.{IsOf, roa_address};
 ghost use Rattle.objects_payload.specs.Friendly.{friendly, friends};
 
 use crate::roa::address::RoaIpAddress;
 use crate::roa::attestation::RouteOriginAttestation;
-use resources_addr::addr::{MaxLenPrefix, Prefix};
 use resources_ip_prefix::AddressFamily;
+use resources_ip_prefix::ip_addr::{MaxLenPrefix, Prefix};
 use std::marker::Model;
 use std::net::IpAddr;
 
@@ -22,7 +22,7 @@ pub struct FriendlyRoaIpAddress {
 }
 
 impl Model for FriendlyRoaIpAddress {
-    ghost use Rattle.objects_payload.specs.resources_addr.MaxLens.{MaxLenValue};
+    ghost use Rattle.objects_payload.specs.resources_ip_prefix.MaxLens.{MaxLenValue};
 
     ghost Value = { MaxLenValue };
 
@@ -90,7 +90,7 @@ pub struct FriendlyRoaIpAddressIter<'a> {
 
 impl<'a> Model for FriendlyRoaIpAddressIter<'a> {
     ghost use Rattle.std.specs.Prelude.{List, map};
-    ghost use Rattle.objects_payload.specs.resources_addr.MaxLens.{MaxLenValue};
+    ghost use Rattle.objects_payload.specs.resources_ip_prefix.MaxLens.{MaxLenValue};
     ghost use Rattle.objects_payload.specs.resources_ip_prefix.declared.addr.AddressFamily.TheVariants as Of;
     ghost use Rattle.objects_payload.specs.Addresses.{AllOf, roa_address};
     ghost use Rattle.objects_payload.specs.Friendly.{friends};

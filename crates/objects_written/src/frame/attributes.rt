@@ -4,21 +4,21 @@ ghost use Rattle.std.specs.Prelude.{◌≡◌, IfErr, IfOk};
 ghost use Rattle.objects_written.specs.bcder_tree.declared.mode.Mode.TheVariants.{Der};
 ghost use Rattle.objects_written.specs.bcder_tree.Tags.{set_tag};
 ghost use Rattle.objects_written.specs.bcder_content.Texts.{InOrder};
-ghost use Rattle.objects_written.specs.bcder_oid.Identifiers.{IsIdentifier};
+ghost use Rattle.objects_written.specs.bcder.Identifiers.{IsIdentifier};
 ghost use Rattle.objects_written.specs.bcder_values.Gathered.{ExtendRefused};
 ghost use Rattle.objects_written.specs.bcder_content.Kept.{SpellsValues};
 ghost use Rattle.objects_written.specs.bcder_values.Wraps.{wrapped_one, wrapped_spelled};
-ghost use Rattle.objects_written.specs.bcder_written.Encoded.{IsWrapped, WritesWrapped};
+ghost use Rattle.objects_written.specs.bcder_primitive.Encoded.{IsWrapped, WritesWrapped};
 ghost use Rattle.objects_written.specs.bcder.Kinds.{octets as string, oid};
 ghost use Rattle.objects_written.specs.objects_payload.SignedAttributes.{AreAttributes};
 ghost use Rattle.objects_written.specs.Attributes.{IsMessage, IsRefused, MessageRefused, WritesAttributes, attributes_of, content_type as type_of, message_digest as digest_of, signing_time as time_of, to_sign};
 ghost use Rattle.objects_written.specs.Orders.{SetRefused, SetText};
 
 use crate::frame::order::in_order;
+use certs::written::{Captured, EncodeError, Identifier, Mode, Sequence, Time, TimeValue, Values};
 use certs_key::encode::{Constructed, Octets, Primitive};
 use certs_key::string::OctetSliceEncoder;
 use certs_key::{ConstOid, Oid, Tag};
-use certs_written::{Captured, EncodeError, Identifier, Mode, Sequence, Time, TimeValue, Values};
 use std::alloc::Global;
 use std::io::Write;
 

@@ -6,9 +6,11 @@ ghost use Rattle.objects_written.specs.bcder.Kinds.{octets_at};
 ghost use Rattle.objects_written.specs.Frames.{object, signed_data, signed_fields, signer, signer_fields};
 
 use crate::frame::attributes::{OidValue, SetOf, StringValue};
+use certs::written::{
+    Captured, Context0, EncodeError, Identifier, Mode, Sequence, Values, Version,
+};
 use certs_key::string::OctetSliceEncoder;
 use certs_key::{AlgorithmIdentifier, ConstOid, DigestAlgorithm, Oid, RpkiSignatureAlgorithm, Tag};
-use certs_written::{Captured, Context0, EncodeError, Identifier, Mode, Sequence, Values, Version};
 use std::io::Write;
 use std::marker::Model;
 

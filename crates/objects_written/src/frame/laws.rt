@@ -3,7 +3,7 @@
 ghost use Rattle.std.specs.Prelude.{ℕ, List, true};
 ghost use Rattle.objects_written.specs.bcder_tree.declared.mode.Mode.TheVariants.{Der};
 ghost use Rattle.objects_written.specs.bcder_content.Texts.{InOrder};
-ghost use Rattle.objects_written.specs.bcder_oid.Identifiers.{IsIdentifier};
+ghost use Rattle.objects_written.specs.bcder.Identifiers.{IsIdentifier};
 ghost use Rattle.objects_written.specs.certs_extension.Cert.{CertValue};
 ghost use Rattle.objects_written.specs.objects_payload.ObjectText.{ObjectText};
 ghost use Rattle.objects_written.specs.objects_payload.SignedAttributes.{AreAttributes};

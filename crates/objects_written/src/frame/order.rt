@@ -3,7 +3,7 @@
 ghost use Rattle.std.specs.Prelude.{◌≡◌, ◌↔◌, IsTrue, MatchBool};
 ghost use Rattle.objects_written.specs.Orders.{AreThese, IsOrdered, behind, front};
 
-use certs_written::Captured;
+use certs::written::Captured;
 
 // The first octet, 0 where there is none, and those after it.
 fn split(octets: &[u8]) -> (u8, &[u8])

@@ -9,7 +9,7 @@ ghost use Rattle.rpki_standing.specs.Leads.{IsNoCert, NoCertAt};
 use crate::table::Index;
 use bytes::Bytes;
 use certs_cert::Cert;
-use objects_locator::decode::DecodeError;
+use objects_payload::locator::decode::DecodeError;
 use std::alloc::{AllocError, Global};
 
 /// The certificate that stands in front of the octets in DER, or none where none stands there (RFC 5280 4.1, RFC 6487

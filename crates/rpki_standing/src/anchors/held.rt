@@ -1,14 +1,14 @@
 //! The first of a locator's URIs at which there is an object.
 
 ghost use Rattle.std.specs.Prelude.{MatchOption, map};
-ghost use Rattle.objects_locator.specs.Uris.{text_of};
+ghost use Rattle.objects_payload.specs.Uris.{text_of};
 ghost use Rattle.rpki_rules.specs.Certs.{Digests, Verdicts};
 ghost use Rattle.rpki_rules.specs.Points.{IsFirstHeld};
 ghost use Rattle.rpki_rules.specs.World.{world_of};
 ghost use Rattle.rpki_standing.specs.Leads.{NoneHeld};
 
 use crate::table::{Index, Object};
-use objects_locator::TalUri;
+use objects_payload::locator::TalUri;
 
 /// The object at the first of the URIs at which there is one; none where there is none at any. Its own URI is the
 /// lookup key under which it was found.

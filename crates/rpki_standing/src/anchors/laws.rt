@@ -8,7 +8,7 @@ ghost use Rattle.rpki_rules.specs.Words.{Mem};
 ghost use Rattle.rpki_rules.specs.World.{World};
 ghost use Rattle.rpki_standing.specs.Leads.{HoldsAt, HoldsNowhere, IsNoLocator};
 
-use objects_locator::laws::one_locator;
+use objects_payload::locator::laws::one_locator;
 
 /// A locator leads to one object at most.
 pub fn one_lead()

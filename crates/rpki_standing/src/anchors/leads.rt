@@ -1,7 +1,7 @@
 //! What a locator leads to, up to the anchor's certificate.
 
 ghost use Rattle.std.specs.Prelude.{IfOk, OnErr};
-ghost use Rattle.objects_locator.specs.Faults.{BehindComments, StartsWithUri};
+ghost use Rattle.objects_payload.specs.Faults.{BehindComments, StartsWithUri};
 ghost use Rattle.rpki_rules.specs.Certs.{Digests, Verdicts};
 ghost use Rattle.rpki_rules.specs.World.{world_of};
 ghost use Rattle.rpki_standing.specs.Leads.{IsLead};
@@ -9,7 +9,7 @@ ghost use Rattle.rpki_standing.specs.Leads.{IsLead};
 use crate::anchors::held::first_held;
 use crate::anchors::texts::read_locator_text;
 use crate::table::{Index, Locator, Object};
-use objects_locator::Tal;
+use objects_payload::locator::Tal;
 use std::alloc::{AllocError, Global};
 
 /// What a locator leads to, whatever the octets there are.

@@ -1,12 +1,12 @@
 //! The text of a locator in a bundle.
 
 ghost use Rattle.std.specs.Prelude.{IfOk, MatchOption, OnErr};
-ghost use Rattle.objects_locator.specs.Faults.{BehindComments, StartsWithUri};
+ghost use Rattle.objects_payload.specs.Faults.{BehindComments, StartsWithUri};
 ghost use Rattle.rpki_rules.specs.Locators.{LocatorText};
 ghost use Rattle.rpki_standing.specs.Leads.{IsNoLocator};
 
 use crate::table::Locator;
-use objects_locator::{ReadError, Tal};
+use objects_payload::locator::{ReadError, Tal};
 use std::alloc::{AllocError, Global};
 
 /// The trust anchor locator that the text is, or none where it is none (RFC 8630 2.2). Memory is asked for only where a

@@ -23,7 +23,7 @@ pub struct Needed {
 }
 
 impl Model for Needed {
-    ghost use Rattle.rpki_walk.specs.resources_set.Resources.{Resources};
+    ghost use Rattle.rpki_walk.specs.resources.Resources.{Resources};
 
     ghost Value = { Resources };
 

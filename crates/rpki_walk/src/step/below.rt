@@ -17,7 +17,7 @@ pub struct Held {
 }
 
 impl Model for Held {
-    ghost use Rattle.rpki_walk.specs.resources_set.Resources.{Resources};
+    ghost use Rattle.rpki_walk.specs.resources.Resources.{Resources};
 
     ghost Value = { Resources };
 

@@ -15,7 +15,7 @@ pub struct Holding<'a> {
 }
 
 impl<'a> Model for Holding<'a> {
-    ghost use Rattle.rpki_walk.specs.resources_set.Resources.{Resources};
+    ghost use Rattle.rpki_walk.specs.resources.Resources.{Resources};
 
     ghost Value = { Resources };
 

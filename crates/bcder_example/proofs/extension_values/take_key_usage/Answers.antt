@@ -1,7 +1,7 @@
 use Rattle.bcder_example.proofs.of_bcder_content.Choices.{stop_value}
 use Rattle.bcder_example.proofs.of_bcder_content.Taking.{on_content}
 use Rattle.bcder_example.proofs.of_bcder_content.Unique.{octets_one}
-use Rattle.bcder_example.proofs.of_bcder_bits.Readings.{bit_string_one}
+use Rattle.bcder_example.proofs.of_bcder_octets.BitReadings.{bit_string_one}
 use Rattle.bcder_example.proofs.of_bcder_content.Meaning.{means_lacks, means_refused}
 use Rattle.bcder_example.proofs.extension_values.take_key_usage.Goals as goal
 

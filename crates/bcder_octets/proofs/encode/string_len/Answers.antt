@@ -1,5 +1,5 @@
 use Rattle.std.proofs.Common.{Bool, IfErr, sym, ◌∙◌, subst}
-use Rattle.bcder_octets.specs.bcder_written.Writing.{CannotWrite}
+use Rattle.bcder_octets.specs.bcder_primitive.Writing.{CannotWrite}
 use Rattle.bcder_octets.specs.Segments.{FormTrees, FormTexts}
 use Rattle.bcder_octets.proofs.encode.string_len.Goals as goal
 

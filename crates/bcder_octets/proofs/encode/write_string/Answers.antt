@@ -1,5 +1,5 @@
 use Rattle.std.proofs.Common.{◌≡◌, Bool, IfErr, sym, ◌∙◌, subst}
-use Rattle.bcder_octets.specs.bcder_written.Writing.{WriteRefused}
+use Rattle.bcder_octets.specs.bcder_primitive.Writing.{WriteRefused}
 use Rattle.bcder_octets.specs.Segments.{FormTrees, FormTexts}
 use Rattle.bcder_octets.proofs.encode.write_string.Goals as goal
 

@@ -1,11 +1,11 @@
 use Rattle.std.proofs.Common.{◌≡◌, ◌+◌, ◌++◌, ◌∷◌, [], ◌∙◌, sym, ap, append_assoc, append-nil, subst, arith}
 use Rattle.std.proofs.lemmas.Grind.{common_steps}
 use Rattle.bcder_values.proofs.Lists.{has_one_more, one_cannot, front_too_many}
-use Rattle.bcder_octets.proofs.of_bcder_written.Pieces.{stopped}
+use Rattle.bcder_octets.proofs.of_bcder_primitive.Pieces.{stopped}
 use Rattle.bcder_values.specs.Lists.{all_one}
 use Rattle.bcder_values.specs.Plains.{plain_one}
-use Rattle.bcder_octets.specs.bcder_written.Simple.{one_string}
-use Rattle.bcder_octets.specs.bcder_written.Writing.{HasLength}
+use Rattle.bcder_octets.specs.bcder_primitive.Simple.{one_string}
+use Rattle.bcder_octets.specs.bcder_primitive.Writing.{HasLength}
 use Rattle.bcder_octets.specs.Segments.{segments, IsSegment, WritesSegment}
 use Rattle.bcder_octets.proofs.segments.segments_len.Goals as goal
 

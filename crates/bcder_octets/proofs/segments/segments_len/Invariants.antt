@@ -1,6 +1,6 @@
 use Rattle.std.proofs.Common.{◌≡◌, ℕ, List, ◌++◌, length}
 use Rattle.bcder_values.specs.Lists.{WritesAll}
-use Rattle.bcder_octets.specs.bcder_written.Writing.{HasLength}
+use Rattle.bcder_octets.specs.bcder_primitive.Writing.{HasLength}
 use Rattle.bcder_octets.specs.Segments.{segments, WritesSegment}
 use Rattle.bcder_octets.proofs.segments.segments_len.Given as goal
 

@@ -1,11 +1,11 @@
 use Rattle.std.proofs.Common.{ℕ, List, ◌++◌, ◌∷◌, [], ◌∙◌, sym, ap, append_assoc, append-nil, subst, arith}
-use Rattle.bcder_octets.proofs.of_bcder_written.Compose.{first_length, second_length, written_refused, writer_refused}
+use Rattle.bcder_octets.proofs.of_bcder_primitive.Compose.{first_length, second_length, written_refused, writer_refused}
 use Rattle.bcder_values.proofs.Lists.{all_split, all_joined, wrote_one_more}
-use Rattle.bcder_octets.proofs.of_bcder_written.Pieces.{stopped, front_as, front_first, front_second}
+use Rattle.bcder_octets.proofs.of_bcder_primitive.Pieces.{stopped, front_as, front_first, front_second}
 use Rattle.bcder_values.proofs.Wrapping.{has_as}
 use Rattle.bcder_values.specs.Lists.{WritesAll}
 use Rattle.bcder_values.specs.Plains.{plain_spelled}
-use Rattle.bcder_octets.specs.bcder_written.Writing.{HasLength}
+use Rattle.bcder_octets.specs.bcder_primitive.Writing.{HasLength}
 use Rattle.bcder_octets.specs.Segments.{segments, WritesSegment}
 use Rattle.bcder_octets.proofs.segments.write_segments.Goals as goal
 

@@ -4,7 +4,7 @@ use Rattle.certs_crl.specs.bcder_content.Captures.{rest_of}
 use Rattle.certs_crl.specs.bcder_content.Exact.{ReadsAs}
 use Rattle.certs_crl.specs.bcder_content.Here.{here}
 use Rattle.certs_crl.proofs.of_bcder_content.Decoding.{exact_decode}
-use Rattle.certs_revoked.specs.certs_extension.CrlText.{IsTbsList, TbsListValue}
+use Rattle.certs_x509.specs.certs_extension.CrlText.{IsTbsList, TbsListValue}
 use Rattle.certs_crl.proofs.decoding.tbs_of.Goals as goal
 
 pub returns : goal.returns

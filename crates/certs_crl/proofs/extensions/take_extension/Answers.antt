@@ -4,7 +4,7 @@ use Rattle.certs_crl.proofs.of_bcder_content.Choices.{such_lacks}
 use Rattle.certs_crl.proofs.of_bcder_content.Forests.{absent, there, unlike_lacks}
 use Rattle.certs_crl.proofs.of_bcder_content.Taking.{on_content, weaker}
 use Rattle.certs_extension.specs.Raw.{extension_value}
-use Rattle.certs_revoked.specs.certs_extension.Extensions.{IsExtension}
+use Rattle.certs_x509.specs.certs_extension.Extensions.{IsExtension}
 use Rattle.certs_crl.proofs.Pairs.{extension_tagged, told_refused, unknown_lacks}
 use Rattle.certs_crl.proofs.extensions.take_extension.Goals as goal
 

@@ -1,6 +1,6 @@
 use Rattle.std.proofs.Common.{refl, rules}
 use Rattle.certs_crl.specs.bcder_tree.Tags.{context, sequence_tag}
-use Rattle.certs_revoked.specs.bcder_written.Encoded.{WritesWrapped}
+use Rattle.certs_x509.specs.bcder_primitive.Encoded.{WritesWrapped}
 use Rattle.bcder.specs.bcder_octets.Segments.{WritesString}
 use Rattle.certs_crl.proofs.Alone.{extension_back, key_back}
 use Rattle.certs_crl.proofs.Writing.{extension_as, key_as}

@@ -1,6 +1,6 @@
 use Rattle.std.proofs.Common.{refl, rules, ◌∙◌}
-use Rattle.certs_revoked.specs.bcder_number.Integers.{IsNatural}
-use Rattle.certs_revoked.specs.bcder_written.Encoded.{WritesPlain}
+use Rattle.certs_x509.specs.bcder_number.Integers.{IsNatural}
+use Rattle.certs_x509.specs.bcder_primitive.Encoded.{WritesPlain}
 use Rattle.certs_crl.proofs.Alone.{extension_back, number_back}
 use Rattle.certs_crl.proofs.Writing.{extension_as, number_as}
 use Rattle.certs_crl.proofs.written.number_extension.Goals as goal

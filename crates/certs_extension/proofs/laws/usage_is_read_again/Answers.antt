@@ -2,8 +2,8 @@
 use Rattle.std.proofs.Common.{◌≡◌, ◌∷◌, [], refl, sym, subst, arith}
 use Rattle.certs_extension.specs.bcder_tree.declared.mode.Mode.{Mode}
 use Rattle.certs_extension.specs.bcder_tree.declared.mode.Mode.TheVariants.{Ber, Cer, Der}
-use Rattle.certs_extension.specs.bcder_bits.Bits.{BitsValue, IsBits}
-use Rattle.certs_extension.specs.bcder_bits.Contents.{IsBitString, IsPadded, IsShortIn}
+use Rattle.certs_extension.specs.bcder_octets.Bits.{BitsValue, IsBits}
+use Rattle.certs_extension.specs.bcder_octets.BitContents.{IsBitString, IsPadded, IsShortIn}
 use Rattle.certs_extension.specs.bcder_values.Plains.{plain_spelled}
 use Rattle.certs_extension.specs.Extensions.{UsageBits}
 use Rattle.certs_extension.specs.declared.forms.KeyUsage.{KeyUsage}

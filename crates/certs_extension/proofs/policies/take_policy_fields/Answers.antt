@@ -3,7 +3,7 @@ use Rattle.certs_extension.proofs.of_bcder_content.Forests.{rest_gives, rest_lac
 use Rattle.certs_extension.proofs.of_bcder_content.InMode.{begin, next_means, stop_means, unfit_means, finish, stop_all}
 use Rattle.certs_extension.proofs.of_bcder_content.Taking.{weaker}
 use Rattle.certs_extension.proofs.of_bcder_content.Unique.{octets_one}
-use Rattle.certs_extension.proofs.of_bcder_oid.Read.{oid_one}
+use Rattle.certs_extension.proofs.of_bcder.Read.{oid_one}
 use Rattle.certs_extension.proofs.policies.take_policy_fields.Goals as goal
 
 pub returns-in_err-oid : goal.returns-in_err-oid

@@ -2,7 +2,7 @@ use Rattle.std.proofs.Common.{length, map}
 use Rattle.certs_extension.specs.bcder_tree.Tags.{oid_tag}
 use Rattle.certs_extension.specs.bcder_content.Grammar.{OctetsOf}
 use Rattle.certs_extension.specs.bcder_content.Here.{here}
-use Rattle.certs_extension.specs.bcder_oid.Identifiers.{IsOid}
+use Rattle.certs_extension.specs.bcder.Identifiers.{IsOid}
 use Rattle.certs_extension.proofs.of_bcder_content.InMode.{Items}
 use Rattle.certs_extension.specs.Purposes.{AreOids, purpose_octets}
 use Rattle.certs_extension.proofs.purposes.take_oids.Given as goal

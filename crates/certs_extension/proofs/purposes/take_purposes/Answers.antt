@@ -4,11 +4,11 @@ use Rattle.certs_extension.specs.bcder_tree.Tags.{oid_tag}
 use Rattle.certs_extension.specs.bcder_tree.Tree.{Trees}
 use Rattle.certs_extension.specs.bcder_content.Grammar.{Many, OctetsOf}
 use Rattle.certs_extension.specs.bcder_content.Words.{Gathers}
-use Rattle.certs_extension.specs.bcder_oid.Identifiers.{IsOid}
+use Rattle.certs_extension.specs.bcder.Identifiers.{IsOid}
 use Rattle.certs_extension.specs.Extensions.{AreSome}
 use Rattle.certs_extension.proofs.of_bcder_content.Taking.{on_content}
 use Rattle.certs_extension.proofs.of_bcder_content.Unique.{many_one, octets_one}
-use Rattle.certs_extension.proofs.of_bcder_oid.Read.{oid_one}
+use Rattle.certs_extension.proofs.of_bcder.Read.{oid_one}
 use Rattle.certs_extension.proofs.of_bcder_content.Within.{all_gives, all_stop, all_unfit}
 use Rattle.certs_extension.specs.Purposes.{purpose_octets}
 use Rattle.certs_extension.proofs.purposes.take_purposes.Goals as goal

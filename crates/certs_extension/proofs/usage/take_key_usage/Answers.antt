@@ -1,7 +1,7 @@
 use Rattle.certs_extension.proofs.of_bcder_content.Choices.{stop_value}
 use Rattle.certs_extension.proofs.of_bcder_content.Taking.{on_content}
 use Rattle.certs_extension.proofs.of_bcder_content.Unique.{octets_one}
-use Rattle.certs_extension.proofs.of_bcder_bits.Readings.{bit_string_one}
+use Rattle.certs_extension.proofs.of_bcder_octets.BitReadings.{bit_string_one}
 use Rattle.certs_extension.proofs.of_bcder_content.Meaning.{means_lacks, means_refused}
 use Rattle.certs_extension.proofs.usage.take_key_usage.Goals as goal
 

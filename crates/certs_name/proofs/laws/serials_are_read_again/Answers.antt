@@ -3,7 +3,7 @@ use Rattle.certs_name.specs.bcder_tree.declared.mode.Mode.{Mode}
 use Rattle.certs_name.specs.bcder_tree.Tags.{integer_tag}
 use Rattle.certs_name.specs.bcder_content.Grammar.{End, Then}
 use Rattle.certs_name.specs.bcder_number.Integers.{IsNatural}
-use Rattle.certs_name.specs.bcder_written.Encoded.{SpellsSome, WritesPlain}
+use Rattle.certs_name.specs.bcder_primitive.Encoded.{SpellsSome, WritesPlain}
 use Rattle.certs_name.specs.bcder_values.Forms.{written_again}
 use Rattle.certs_name.proofs.of_bcder_values.Returning.{read_again}
 use Rattle.certs_name.specs.bcder.Kinds.{natural}

@@ -1,5 +1,5 @@
 use Rattle.std.proofs.Common.{arith}
-use Rattle.resources_as_block.proofs.CountLemmas.{count_bound, count_more}
+use Rattle.resources_asn.proofs.CountLemmas.{count_bound, count_more}
 use Rattle.resources_as.proofs.blocks.count_of.Goals as goal
 
 pub overflow_add-count : goal.overflow_add-count

@@ -1,6 +1,6 @@
 use Rattle.std.proofs.Common.{◌≡◌, ◌+◌, map, length}
-use Rattle.resources_as_block.specs.Blocks.{as_run}
-use Rattle.resources_as_block.specs.Counted.{runs_count}
+use Rattle.resources_asn.specs.Blocks.{as_run}
+use Rattle.resources_asn.specs.Counted.{runs_count}
 use Rattle.resources_as.proofs.blocks.count_of.Given as goal
 
 abbrev pub invariant-loop-block : goal.invariant-loop-block

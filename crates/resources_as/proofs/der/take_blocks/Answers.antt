@@ -1,6 +1,6 @@
 use Rattle.resources_as.proofs.of_bcder_content.Forests.{list_next, list_stop_next}
 use Rattle.resources_as.proofs.of_bcder_content.Perhaps.{there_if, absent_if, list_done}
-use Rattle.resources_as_block.specs.Blocks.{as_run}
+use Rattle.resources_asn.specs.Blocks.{as_run}
 use Rattle.resources_as.proofs.der.take_blocks.Goals as goal
 
 pub returns-in_err-block : goal.returns-in_err-block

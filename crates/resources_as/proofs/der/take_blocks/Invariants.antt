@@ -2,7 +2,7 @@ use Rattle.std.proofs.Common.{length}
 use Rattle.resources_as.specs.bcder_content.Grammar.{Many}
 use Rattle.resources_as.specs.bcder_content.Here.{here}
 use Rattle.resources_as.proofs.of_bcder_content.Forests.{Listing}
-use Rattle.resources_as_block.specs.Encodings.{IsAsBlock}
+use Rattle.resources_asn.specs.BlockEncodings.{IsAsBlock}
 use Rattle.resources_as.proofs.der.take_blocks.Given as goal
 
 abbrev pub invariant-loop-blocks : goal.invariant-loop-blocks

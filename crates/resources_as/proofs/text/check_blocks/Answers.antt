@@ -2,8 +2,8 @@ use Rattle.std.proofs.Common.{◌++◌, ◌∷◌, [], inl, inr, refl, rules}
 use Rattle.std.proofs.lemmas.Result.{err_from_is_err_and}
 use denote.Shadow.{shadow}
 use denote.Text.{Utf8}
-use Rattle.resources_as_block.specs.Blocks.{as_run}
-use Rattle.resources_as_block.specs.Texts.{IsAsBlockText}
+use Rattle.resources_asn.specs.Blocks.{as_run}
+use Rattle.resources_asn.specs.BlockTexts.{IsAsBlockText}
 use Rattle.resources_as.proofs.of_resources_chain.ListTexts.{leaves_more, leaves_last}
 use Rattle.resources_as.proofs.text.check_blocks.Goals as goal
 

@@ -3,7 +3,7 @@ use denote.Shadow.{shadow}
 use denote.Text.{Utf8}
 use Rattle.resources_as.specs.resources_chain.Sets.{Run}
 use Rattle.resources_as.specs.resources_chain.Lists.{Leaves}
-use Rattle.resources_as_block.specs.Texts.{IsAsBlockText}
+use Rattle.resources_asn.specs.BlockTexts.{IsAsBlockText}
 use Rattle.resources_as.proofs.text.check_blocks.Given as goal
 
 abbrev pub invariant-loop-piece : goal.invariant-loop-piece

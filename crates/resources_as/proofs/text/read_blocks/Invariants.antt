@@ -2,7 +2,7 @@ use Rattle.std.proofs.Common.{length}
 use denote.Shadow.{shadow}
 use denote.Text.{Utf8}
 use Rattle.resources_as.specs.resources_chain.Lists.{Leaves}
-use Rattle.resources_as_block.specs.Texts.{IsAsBlockText}
+use Rattle.resources_asn.specs.BlockTexts.{IsAsBlockText}
 use Rattle.resources_as.proofs.text.read_blocks.Given as goal
 
 abbrev pub invariant-loop-piece : goal.invariant-loop-piece

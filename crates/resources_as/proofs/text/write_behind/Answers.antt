@@ -2,7 +2,7 @@ use Rattle.std.proofs.Common.{List, ℕ, ◌++◌, rules}
 use Rattle.std.specs.Prelude.{codes}
 use Rattle.std.specs.Fmt.{HasWritten}
 use Rattle.std.proofs.Output.{has_written_append}
-use Rattle.resources_as_block.specs.Blocks.{as_run, run_text}
+use Rattle.resources_asn.specs.Blocks.{as_run, run_text}
 use Rattle.resources_as.proofs.of_resources_chain.ListTexts.{piece_printed}
 use Rattle.resources_as.proofs.text.write_behind.Goals as goal
 

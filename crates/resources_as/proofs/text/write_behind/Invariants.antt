@@ -2,7 +2,7 @@ use Rattle.std.proofs.Common.{◌≡◌, ℕ, List, ◌++◌}
 use Rattle.std.specs.Prelude.{codes}
 use Rattle.std.specs.List.{flat_map}
 use Rattle.std.specs.Fmt.{HasWritten, IsPlainFormatter}
-use Rattle.resources_as_block.specs.Blocks.{run_text}
+use Rattle.resources_asn.specs.Blocks.{run_text}
 use Rattle.resources_as.proofs.text.write_behind.Given as goal
 
 abbrev pub invariant-loop-block : goal.invariant-loop-block

@@ -1,5 +1,5 @@
 use Rattle.std.proofs.Common.{IfOk, IfErr, sym, ◌∙◌}
-use Rattle.resources_ip.specs.bcder_written.Writing.{HasLength, CannotWrite}
+use Rattle.resources_ip.specs.bcder_primitive.Writing.{HasLength, CannotWrite}
 use Rattle.resources_ip.proofs.BothFamilies.{of_fields}
 use Rattle.resources_ip.proofs.families.family_len.Goals as goal
 

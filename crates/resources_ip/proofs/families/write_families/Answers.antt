@@ -1,5 +1,5 @@
 use Rattle.std.proofs.Common.{◌≡◌, OnOk, IfErr, sym, ◌∙◌}
-use Rattle.resources_ip.specs.bcder_written.Writing.{Wrote, WriteRefused}
+use Rattle.resources_ip.specs.bcder_primitive.Writing.{Wrote, WriteRefused}
 use Rattle.resources_ip.proofs.BothFamilies.{of_parts}
 use Rattle.resources_ip.proofs.families.write_families.Goals as goal
 

@@ -1,6 +1,6 @@
 use Rattle.std.proofs.Common.{refl, sym, subst}
 use Rattle.rpki_bundle.specs.bcder_tree.Tags.{ia5_string_tag}
-use Rattle.rpki_bundle.specs.bcder_strings.Sets.{IsIa5, alone}
+use Rattle.rpki_bundle.specs.bcder.Sets.{IsIa5, alone}
 use Rattle.rpki_bundle.specs.bcder_content.Here.{here}
 use Rattle.rpki_bundle.proofs.of_bcder_content.Choices.{gives_same, such_gives, such_lacks, such_refused, stop_value}
 use Rattle.rpki_bundle.proofs.of_bcder_content.Taking.{on_content}

@@ -1,5 +1,5 @@
 use Rattle.std.proofs.Common.{◌≡◌, map, take}
-use Rattle.rpki_standing.specs.objects_locator.Uris.{text_of}
+use Rattle.rpki_standing.specs.objects_payload.Uris.{text_of}
 use Rattle.rpki_standing.specs.certs_basics.Uris.{lookup_key}
 use Rattle.rpki_steps.proofs.names.keys_of.Given as goal
 

@@ -1,5 +1,5 @@
 use Rattle.std.proofs.Common.{◌≡◌, ℕ, ◌+◌, ◌⊎◌, List, [], ◌∷◌, ◌++◌, ◌↔◌, take, take_all, get_or, sym, ap, subst, ◌∙◌, inl, inr}
-use Rattle.rpki_walk.specs.resources_set.Resources.{Resources}
+use Rattle.rpki_walk.specs.resources.Resources.{Resources}
 use Rattle.rpki_rules.specs.Certs.{Cert}
 use Rattle.rpki_rules.specs.declared.cause.Cause.{Cause}
 use Rattle.rpki_rules.specs.World.{World}

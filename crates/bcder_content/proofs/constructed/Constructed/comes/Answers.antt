@@ -1,7 +1,7 @@
 use Rattle.std.proofs.Common.{IfSome, subst}
 use Rattle.bcder_content.specs.bcder_source.Views.{left}
-use Rattle.bcder_header.specs.Openings.{OfTag}
-use Rattle.bcder_header.proofs.Windows.{tags_equal, tags_differ}
+use Rattle.bcder_content.specs.Openings.{OfTag}
+use Rattle.bcder_content.proofs.Windows.{tags_equal, tags_differ}
 use Rattle.bcder_content.specs.Contents.{octets, EndsHere}
 use Rattle.bcder_content.specs.Here.{here}
 use Rattle.bcder_content.proofs.Taking.{comes_of, unlike_other, unlike_ended}

@@ -1,7 +1,7 @@
 use Rattle.std.proofs.Common.{◌↔◌, IsTrue, subst, sym}
 use Rattle.bcder_content.specs.Contents.{octets, EndsHere}
 use Rattle.bcder_content.specs.Here.{here}
-use Rattle.bcder_header.proofs.Windows.{shown}
+use Rattle.bcder_content.proofs.Windows.{shown}
 use Rattle.bcder_content.proofs.Taking.{end_told}
 use Rattle.bcder_content.proofs.constructed.Constructed.is_ended.Goals as goal
 

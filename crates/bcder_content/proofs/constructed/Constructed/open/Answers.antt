@@ -1,7 +1,7 @@
 use Rattle.std.proofs.Common.{IfNone, subst}
 use Rattle.bcder_content.specs.Contents.{octets}
 use Rattle.bcder_content.specs.Here.{here}
-use Rattle.bcder_header.specs.Openings.{NoValue}
+use Rattle.bcder_content.specs.Openings.{NoValue}
 use Rattle.bcder_content.proofs.Taking.{none_ahead, refused_by}
 use Rattle.bcder_content.proofs.constructed.Constructed.open.Goals as goal
 

@@ -1,4 +1,4 @@
-use Rattle.bcder_header.proofs.Windows.{tags_unequal, bools_differ, tags_same}
+use Rattle.bcder_content.proofs.Windows.{tags_unequal, bools_differ, tags_same}
 use Rattle.bcder_content.proofs.Taking.{only_weaker, none_of, other_tag, other_form, refused_by, none_named, tag_named_as, on_content}
 use Rattle.bcder_content.specs.Here.{here}
 use Rattle.bcder_content.proofs.constructed.Constructed.open_if.Goals as goal

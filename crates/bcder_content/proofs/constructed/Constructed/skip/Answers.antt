@@ -1,5 +1,5 @@
 use Rattle.bcder_content.specs.Here.{here}
-use Rattle.bcder_header.proofs.SkipSteps.{error_is}
+use Rattle.bcder_content.proofs.SkipSteps.{error_is}
 use Rattle.bcder_content.proofs.SkipContents.{ended_stops}
 use Rattle.bcder_content.proofs.constructed.Constructed.skip.Goals as goal
 

@@ -1,6 +1,6 @@
 use Rattle.std.proofs.Common.{refl}
 use Rattle.bcder_content.specs.Here.{here}
-use Rattle.bcder_header.proofs.SkipSteps.{content_weaker}
+use Rattle.bcder_content.proofs.SkipSteps.{content_weaker}
 use Rattle.bcder_content.proofs.SkipContents.{all_first, all_next, all_done, all_refused, all_unended}
 use Rattle.bcder_content.proofs.Memories.{memory_weaker}
 use Rattle.bcder_content.proofs.Lending.{same_on}

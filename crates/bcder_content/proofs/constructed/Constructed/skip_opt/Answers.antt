@@ -1,6 +1,6 @@
 use Rattle.std.proofs.Common.{◌≡◌, true, false, sym, ◌∙◌}
 use Rattle.bcder_content.specs.Here.{here}
-use Rattle.bcder_header.proofs.SkipSteps.{error_map}
+use Rattle.bcder_content.proofs.SkipSteps.{error_map}
 use Rattle.bcder_content.proofs.Memories.{wanted}
 use Rattle.bcder_content.proofs.SkipContents.{stops_next}
 use Rattle.bcder_content.proofs.constructed.Constructed.skip_opt.Goals as goal

@@ -1,7 +1,7 @@
 use Rattle.std.proofs.Common.{Bool, true, refl, sym, subst, Ok, Err}
 use Rattle.bcder_content.specs.Either.{ByValues, OfForm}
 use Rattle.bcder_content.specs.Here.{here}
-use Rattle.bcder_header.proofs.Windows.{not_true}
+use Rattle.bcder_content.proofs.Windows.{not_true}
 use Rattle.bcder_content.proofs.Eithers.{takes_none, takes_other, takes_refused, takes_unread, takes_value}
 use Rattle.bcder_content.proofs.Memories.{no_want, any_wanted}
 use Rattle.bcder_content.proofs.constructed.Constructed.take_constructed.Goals as goal

@@ -1,7 +1,7 @@
 use Rattle.std.proofs.Common.{Bool, subst, Ok, Err}
 use Rattle.bcder_content.specs.Either.{ByContentAlone, WithTag}
 use Rattle.bcder_content.specs.Here.{here}
-use Rattle.bcder_header.proofs.Windows.{tags_unequal, tags_same}
+use Rattle.bcder_content.proofs.Windows.{tags_unequal, tags_same}
 use Rattle.bcder_content.proofs.Eithers.{takes_none, takes_other, takes_refused, takes_unread, takes_value}
 use Rattle.bcder_content.proofs.Taking.{none_named, tag_named_as, on_content}
 use Rattle.bcder_content.proofs.Memories.{no_want, tagged_wanted}

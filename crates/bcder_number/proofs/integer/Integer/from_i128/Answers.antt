@@ -1,6 +1,6 @@
 use mir.Syntax.{w128}
 use Rattle.std.proofs.Math.Facts.{to_z-of_z}
-use Rattle.bcder_number.proofs.of_bcder_written.Numbers.{within_type}
+use Rattle.bcder_number.proofs.of_bcder_primitive.WrittenNumbers.{within_type}
 use Rattle.bcder_number.proofs.Writings.{signed_memory}
 use Rattle.bcder_number.proofs.integer.Integer.from_i128.Goals as goal
 

@@ -1,7 +1,7 @@
 use Rattle.std.proofs.Common.{◌^◌, arith}
 use Rattle.std.specs.Prelude.{pos}
 use Rattle.std.proofs.lemmas.Result.{IfOk-at_ok}
-use Rattle.bcder_number.specs.bcder_written.Integers.{WritesUnsigned}
+use Rattle.bcder_number.specs.bcder_primitive.Integers.{WritesUnsigned}
 use Rattle.bcder_number.proofs.Writings.{unsigned_memory, unsigned_integer}
 use Rattle.bcder_number.proofs.integer.Integer.from_u128.Goals as goal
 

@@ -1,7 +1,7 @@
 use Rattle.bcder_octets.proofs.Around.{around}
 use Rattle.bcder_octets.proofs.wrapping.WrappingOctetStringEncoderValues.encoded_len.Goals as goal
 use Rattle.bcder_values.proofs.Wrapping.{all_long, has_as}
-use Rattle.bcder_octets.proofs.of_bcder_written.Compose.{has_both}
+use Rattle.bcder_octets.proofs.of_bcder_primitive.Compose.{has_both}
 
 pub returns-clause-len : goal.returns-clause-len
 returns-clause-len g c =

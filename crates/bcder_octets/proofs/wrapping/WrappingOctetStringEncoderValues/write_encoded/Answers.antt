@@ -1,8 +1,8 @@
 use Rattle.bcder_octets.proofs.Around.{around}
 use Rattle.bcder_octets.proofs.wrapping.WrappingOctetStringEncoderValues.write_encoded.Goals as goal
 use Rattle.bcder_values.proofs.Wrapping.{all_long}
-use Rattle.bcder_octets.proofs.of_bcder_written.Compose.{written_refused, writer_refused}
-use Rattle.bcder_octets.proofs.of_bcder_written.Pieces.{stopped, wrote_as, wrote_both, front_as, front_first, front_second}
+use Rattle.bcder_octets.proofs.of_bcder_primitive.Compose.{written_refused, writer_refused}
+use Rattle.bcder_octets.proofs.of_bcder_primitive.Pieces.{stopped, wrote_as, wrote_both, front_as, front_first, front_second}
 use Rattle.std.proofs.Common.{arith}
 use Rattle.std.proofs.lemmas.Result.{IfErr-weaker, on_ok_weaker}
 

@@ -2,7 +2,7 @@
 use Rattle.std.proofs.Common.{arith}
 use Rattle.certs_basics.specs.bcder_tree.Strings.{IsIa5}
 use Rattle.certs_basics.specs.bcder_tree.Tags.{context}
-use Rattle.certs_basics.proofs.of_bcder_strings.Ascii.{ascii_text}
+use Rattle.certs_basics.proofs.of_bcder.Ascii.{ascii_text}
 use Rattle.certs_basics.proofs.of_bcder_octets.Written.{written_string}
 use Rattle.std.proofs.lemmas.List.Elements.{All-weaker}
 use Rattle.certs_basics.specs.Uris.{IsUriOctet}

@@ -1,5 +1,5 @@
 use Rattle.std.proofs.Common.{ap}
-use Rattle.certs_revoked.specs.certs_extension.CrlText.{CrlValue}
+use Rattle.certs_x509.specs.certs_extension.CrlText.{CrlValue}
 use Rattle.certs_crl.proofs.Cached.{looked_up}
 use Rattle.certs_crl.proofs.crl.Crl.cached_position.Goals as goal
 

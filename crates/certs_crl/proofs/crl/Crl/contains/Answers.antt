@@ -1,5 +1,5 @@
 use Rattle.std.proofs.Common.{ap, ◌∙◌}
-use Rattle.certs_revoked.specs.certs_extension.CrlText.{CrlValue}
+use Rattle.certs_x509.specs.certs_extension.CrlText.{CrlValue}
 use Rattle.certs_crl.proofs.Cached.{cached_tells, listed_tells}
 use Rattle.certs_crl.proofs.crl.Crl.contains.Goals as goal
 

@@ -3,7 +3,7 @@ use Rattle.certs_crl.specs.bcder_tree.declared.mode.Mode.{Mode}
 use Rattle.certs_crl.specs.bcder_content.Exact.{ReadsAs}
 use Rattle.certs_crl.specs.bcder_content.Here.{here}
 use Rattle.certs_crl.proofs.of_bcder_content.Decoding.{exact_decode}
-use Rattle.certs_revoked.specs.certs_extension.CrlText.{CrlValue, IsCrl}
+use Rattle.certs_x509.specs.certs_extension.CrlText.{CrlValue, IsCrl}
 use Rattle.certs_crl.proofs.Spelled.{decodes_crl}
 use Rattle.certs_crl.proofs.crl.Crl.decode.Goals as goal
 

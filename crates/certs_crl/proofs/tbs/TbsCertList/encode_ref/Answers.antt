@@ -1,8 +1,8 @@
 use Rattle.std.proofs.Common.{◌≡◌, [], refl, subst, sym}
 use Rattle.certs_crl.specs.bcder_tree.declared.mode.Mode.TheVariants.{Der}
-use Rattle.certs_revoked.specs.bcder_written.Encoded.{WritesWrapped}
-use Rattle.certs_revoked.specs.bcder_values.Captures.{CapturedText}
-use Rattle.certs_revoked.specs.certs_extension.CrlText.{TbsListValue}
+use Rattle.certs_x509.specs.bcder_primitive.Encoded.{WritesWrapped}
+use Rattle.certs_x509.specs.bcder_values.Captures.{CapturedText}
+use Rattle.certs_x509.specs.certs_extension.CrlText.{TbsListValue}
 use Rattle.certs_crl.specs.Written.{WritesTbsList}
 use Rattle.certs_crl.proofs.Alone.{alone_written, none_back}
 use Rattle.certs_crl.proofs.Inside.{list_of}

@@ -1,5 +1,5 @@
 use Rattle.certs_extension.proofs.of_bcder_content.Tagged.{exact_tagged_opt}
-use Rattle.certs_extension.proofs.of_bcder_strings.Texts.{text_tagged}
+use Rattle.certs_extension.proofs.of_bcder.Texts.{text_tagged}
 use Rattle.certs_extension.proofs.access.names.take_opt_name.Goals as goal
 
 pub returns : goal.returns

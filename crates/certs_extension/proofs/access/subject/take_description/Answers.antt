@@ -9,7 +9,7 @@ use Rattle.certs_extension.proofs.of_bcder_content.Forests.{rest_gives, rest_lac
 use Rattle.certs_extension.proofs.of_bcder_content.InMode.{begin, finish, stop_all}
 use Rattle.certs_extension.proofs.of_bcder_content.Taking.{weaker}
 use Rattle.certs_extension.proofs.of_bcder_content.Unique.{octets_one}
-use Rattle.certs_extension.proofs.of_bcder_oid.Read.{oid_one}
+use Rattle.certs_extension.proofs.of_bcder.Read.{oid_one}
 use Rattle.certs_extension.specs.Access.{AreLocation, methods, of_known, of_other}
 use Rattle.certs_extension.specs.Grammars.{IsName}
 use Rattle.certs_extension.proofs.access.subject.take_description.Goals as goal

@@ -1,9 +1,9 @@
 use Rattle.std.proofs.Common.{◌≡◌, List, ℕ, Option, Result, Ok, Err, IfErr, rules, sym, subst}
 use Rattle.certs_name.specs.bcder_tree.declared.mode.Mode.{Mode}
 use Rattle.certs_name.specs.bcder_content.Kept.{CapturedValue, SpellsValues}
-use Rattle.certs_name.specs.bcder_written.Writing.{TookFront, WriteRefused}
-use Rattle.certs_name.specs.bcder_written.declared.error.EncodeError.{EncodeError}
-use Rattle.certs_name.specs.bcder_written.declared.error.EncodeError.TheVariants as errors
+use Rattle.certs_name.specs.bcder_primitive.Writing.{TookFront, WriteRefused}
+use Rattle.certs_name.specs.bcder_primitive.declared.written.error.EncodeError.{EncodeError}
+use Rattle.certs_name.specs.bcder_primitive.declared.written.error.EncodeError.TheVariants as errors
 use Rattle.certs_name.specs.bcder_values.Captures.{CapturedText, CapturedTrees, StandsIn}
 use Rattle.certs_name.proofs.name_der.NameValues.write_encoded.Goals as goal
 

@@ -1,4 +1,4 @@
-use Rattle.bcder_octets.proofs.of_bcder_header.Windows.{no_identifier, no_size, heads_found}
+use Rattle.bcder_octets.proofs.of_bcder_content.Windows.{no_identifier, no_size, heads_found}
 use Rattle.objects_cms.proofs.manifest.pieces.heading.Goals as goal
 
 pub returns-in_default-clause-none : goal.returns-in_default-clause-none

@@ -1,6 +1,6 @@
 use Rattle.std.proofs.Common.{ap, ◌∙◌}
-use Rattle.resources_as_block.specs.Counted.{runs_numbers}
-use Rattle.resources_as_block.proofs.CountLemmas.{listed_at}
+use Rattle.resources_asn.specs.Counted.{runs_numbers}
+use Rattle.resources_asn.proofs.CountLemmas.{listed_at}
 use Rattle.resources_as.proofs.blocks.AsBlocks.iter_asns.Goals as goal
 
 pub returns : goal.returns

@@ -1,7 +1,7 @@
 use Rattle.std.proofs.Common.{rules, sym, ◌∙◌}
 use Rattle.std.specs.Fmt.{HasWritten}
 use Rattle.std.proofs.Output.{has_written_append, has_written_of_eq}
-use Rattle.resources_as_block.specs.Blocks.{as_run, run_text}
+use Rattle.resources_asn.specs.Blocks.{as_run, run_text}
 use Rattle.resources_as.proofs.of_resources_chain.ListTexts.{pieces_printed}
 use Rattle.resources_as.proofs.text.AsBlocksDisplay.fmt.Goals as goal
 

@@ -1,5 +1,5 @@
 use Rattle.std.specs.Prelude.{IfOk, IfErr}
-use Rattle.resources_as.specs.bcder_written.Writing.{HasLength, CannotWrite}
+use Rattle.resources_as.specs.bcder_primitive.Writing.{HasLength, CannotWrite}
 use Rattle.resources_as.proofs.Writing.{of_runs}
 use Rattle.resources_as.proofs.write.AsBlocksValues.encoded_len.Goals as goal
 

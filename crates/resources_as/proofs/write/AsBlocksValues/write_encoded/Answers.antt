@@ -1,6 +1,6 @@
 use Rattle.std.proofs.Common.{◌≡◌}
 use Rattle.std.specs.Prelude.{IfErr, OnOk}
-use Rattle.resources_as.specs.bcder_written.Writing.{Wrote, WriteRefused}
+use Rattle.resources_as.specs.bcder_primitive.Writing.{Wrote, WriteRefused}
 use Rattle.resources_as.proofs.Writing.{of_runs}
 use Rattle.resources_as.proofs.write.AsBlocksValues.write_encoded.Goals as goal
 

@@ -1,6 +1,6 @@
 use Rattle.std.proofs.Common.{sym, subst, ◌∙◌}
 use Rattle.std.specs.Prelude.{IfErr}
-use Rattle.resources_as.specs.bcder_written.Writing.{CannotWrite}
+use Rattle.resources_as.specs.bcder_primitive.Writing.{CannotWrite}
 use Rattle.resources_as.specs.resources_chain.Claims.{Choice}
 use Rattle.resources_as.specs.Written.{AreAsResources, WritesAsResources}
 use Rattle.resources_as.proofs.write.AsResourcesValues.encoded_len.Goals as goal

@@ -1,7 +1,7 @@
 use Rattle.std.specs.Prelude.{IfOk, IfErr}
 use Rattle.resources_ip.specs.bcder_tree.Tags.{sequence_tag}
-use Rattle.resources_ip.specs.bcder_written.Encoded.{IsWrapped, WritesWrapped}
-use Rattle.resources_ip.specs.bcder_written.Writing.{HasLength, CannotWrite}
+use Rattle.resources_ip.specs.bcder_primitive.Encoded.{IsWrapped, WritesWrapped}
+use Rattle.resources_ip.specs.bcder_primitive.Writing.{HasLength, CannotWrite}
 use Rattle.resources_ip.proofs.Writing.{of_runs}
 use Rattle.resources_ip.proofs.write.IpBlocksValues.encoded_len.Goals as goal
 

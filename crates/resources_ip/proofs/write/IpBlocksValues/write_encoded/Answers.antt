@@ -1,8 +1,8 @@
 use Rattle.std.proofs.Common.{◌≡◌}
 use Rattle.std.specs.Prelude.{IfErr, OnOk}
 use Rattle.resources_ip.specs.bcder_tree.Tags.{sequence_tag}
-use Rattle.resources_ip.specs.bcder_written.Encoded.{IsWrapped, WritesWrapped}
-use Rattle.resources_ip.specs.bcder_written.Writing.{Wrote, WriteRefused}
+use Rattle.resources_ip.specs.bcder_primitive.Encoded.{IsWrapped, WritesWrapped}
+use Rattle.resources_ip.specs.bcder_primitive.Writing.{Wrote, WriteRefused}
 use Rattle.resources_ip.proofs.Writing.{of_runs}
 use Rattle.resources_ip.proofs.write.IpBlocksValues.write_encoded.Goals as goal
 

@@ -1,6 +1,6 @@
 use Rattle.std.proofs.Common.{◌≡◌, sym, subst, ◌∙◌}
 use Rattle.std.specs.Prelude.{IfErr}
-use Rattle.resources_ip.specs.bcder_written.Writing.{WriteRefused}
+use Rattle.resources_ip.specs.bcder_primitive.Writing.{WriteRefused}
 use Rattle.resources_ip.specs.resources_chain.Claims.{Choice}
 use Rattle.resources_ip.specs.Written.{AreIpResources, WritesIpResources}
 use Rattle.resources_ip.proofs.write.IpResourcesValues.write_encoded.Goals as goal

@@ -1,15 +1,15 @@
 use Rattle.std.proofs.Common.{ap, ◌≡◌, ◌∙◌, ℕ, List, arith, subst, take}
 use Rattle.std.specs.Int.{to_be_bytes, w128}
 use Rattle.std.specs.Result.{IfErr, OnOk}
-use Rattle.resources_ip_prefix.specs.bcder_bits.Bits.{BitsValue}
-use Rattle.resources_ip_prefix.specs.bcder_bits.Contents.{WritesBits}
+use Rattle.resources_ip_prefix.specs.bcder_octets.Bits.{BitsValue}
+use Rattle.resources_ip_prefix.specs.bcder_octets.BitContents.{WritesBits}
 use Rattle.resources_ip_prefix.specs.declared.addr.Addr.{Addr}
 use Rattle.resources_ip_prefix.specs.Address.{bits_of}
 use Rattle.resources_ip_prefix.specs.Prefix.{prefix_len}
 use Rattle.resources_ip_prefix.specs.Written.{octet_count}
 use Rattle.resources_ip_prefix.proofs.Spelled.{same_spelled}
-use Rattle.resources_ip_prefix.specs.bcder_written.Contents.{ContentRefused}
-use Rattle.resources_ip_prefix.specs.bcder_written.Writing.{Wrote}
+use Rattle.resources_ip_prefix.specs.bcder_primitive.Contents.{ContentRefused}
+use Rattle.resources_ip_prefix.specs.bcder_primitive.Writing.{Wrote}
 use Rattle.resources_ip_prefix.proofs.encode.PrefixPrimitiveContent.write_encoded.Goals as goal
 
 pub returns-clause-written : goal.returns-clause-written

@@ -1,5 +1,5 @@
 use Rattle.std.proofs.Common.{◌≡◌, ℕ, List, sym, ap, ◌∙◌}
-use Rattle.objects_locator.specs.Uris.{text_of}
+use Rattle.objects_payload.specs.Uris.{text_of}
 use Rattle.rpki_standing.specs.certs_basics.Uris.{lookup_key}
 use Rattle.rpki_rules.specs.World.{world_of, find_object}
 use Rattle.rpki_standing.proofs.FirstHeld.{passes_one, found_here, found_none}

@@ -1,5 +1,5 @@
 use Rattle.std.proofs.Common.{drop, map}
-use Rattle.objects_locator.specs.Uris.{text_of}
+use Rattle.objects_payload.specs.Uris.{text_of}
 use Rattle.rpki_rules.specs.Certs.{Digests, Verdicts}
 use Rattle.rpki_rules.specs.World.{world_of}
 use Rattle.rpki_standing.proofs.FirstHeld.{Passes}

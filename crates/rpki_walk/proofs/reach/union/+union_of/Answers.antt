@@ -1,7 +1,7 @@
 use Rattle.std.proofs.Common.{◌≡◌, List, ◌++◌, arith}
 use Rattle.std.proofs.lemmas.Grind.{common_steps}
 use Rattle.std.proofs.lemmas.Result.{IfOk-weaker}
-use Rattle.rpki_walk.specs.resources_set.Resources.{Resources}
+use Rattle.rpki_walk.specs.resources.Resources.{Resources}
 use Rattle.rpki_walk.proofs.Sets.{union_both}
 use Rattle.rpki_walk.proofs.reach.union.+union_of.Goals as goal
 

@@ -1,5 +1,5 @@
 use Rattle.std.proofs.Common.{◌≡◌, ℕ, false, true, List, sym, subst, ◌∙◌}
-use Rattle.rpki_walk.specs.resources_set.Resources.{Resources}
+use Rattle.rpki_walk.specs.resources.Resources.{Resources}
 use Rattle.rpki_rules.specs.Reach.{IsReach, Held}
 use Rattle.rpki_walk.specs.Facts.{Reaches}
 use Rattle.rpki_walk.specs.Gathered.{AreUnionOf}

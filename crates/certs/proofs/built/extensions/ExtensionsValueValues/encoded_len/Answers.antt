@@ -1,5 +1,5 @@
 use Rattle.certs.specs.Tbs.{extensions}
-use Rattle.certs.proofs.of_certs_written.Same.{no_len_same}
+use Rattle.certs.proofs.Same.{no_len_same}
 use Rattle.certs.proofs.built.extensions.ExtensionsValueValues.encoded_len.Goals as goal
 
 pub returns-clause-refused : goal.returns-clause-refused

@@ -1,5 +1,5 @@
 use Rattle.certs.specs.Tbs.{extensions}
-use Rattle.certs.proofs.of_certs_written.Same.{refused_same}
+use Rattle.certs.proofs.Same.{refused_same}
 use Rattle.certs.proofs.built.extensions.ExtensionsValueValues.write_encoded.Goals as goal
 
 pub returns-clause-refused : goal.returns-clause-refused

@@ -1,5 +1,5 @@
 use Rattle.certs.specs.Tbs.{written_resources}
-use Rattle.certs.proofs.of_certs_written.Same.{refused_same, wrote_same}
+use Rattle.certs.proofs.Same.{refused_same, wrote_same}
 use Rattle.certs.proofs.built.extensions.ResourceExtensionsValues.write_encoded.Goals as goal
 
 pub returns-clause-written : goal.returns-clause-written

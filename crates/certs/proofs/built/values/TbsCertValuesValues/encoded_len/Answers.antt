@@ -1,5 +1,5 @@
 use Rattle.certs.specs.Tbs.{written_tbs}
-use Rattle.certs.proofs.of_certs_written.Same.{len_same, no_len_same}
+use Rattle.certs.proofs.Same.{len_same, no_len_same}
 use Rattle.certs.proofs.built.values.TbsCertValuesValues.encoded_len.Goals as goal
 
 pub returns-clause-len : goal.returns-clause-len

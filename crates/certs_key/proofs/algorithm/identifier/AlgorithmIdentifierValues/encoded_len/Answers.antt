@@ -1,5 +1,5 @@
 use Rattle.std.proofs.Common.{Bool, sym, ◌∙◌, subst, IfOk, IfErr}
-use Rattle.certs_key.specs.bcder_written.Writing.{HasLength, CannotWrite}
+use Rattle.certs_key.specs.bcder_primitive.Writing.{HasLength, CannotWrite}
 use Rattle.certs_key.proofs.of_bcder_values.Lent.{len_lent, len_refused}
 use Rattle.certs_key.specs.Algorithms.{algorithm_of, bare_lent, null_lent}
 use Rattle.certs_key.proofs.algorithm.identifier.AlgorithmIdentifierValues.encoded_len.Goals as goal

@@ -1,5 +1,5 @@
 use Rattle.std.proofs.Common.{Bool, sym, ◌∙◌, subst, OnOk, IfErr, ◌≡◌}
-use Rattle.certs_key.specs.bcder_written.Writing.{Wrote, WriteRefused}
+use Rattle.certs_key.specs.bcder_primitive.Writing.{Wrote, WriteRefused}
 use Rattle.certs_key.proofs.of_bcder_values.Lent.{write_lent, write_refused}
 use Rattle.certs_key.specs.Algorithms.{algorithm_of, bare_lent, null_lent}
 use Rattle.certs_key.proofs.algorithm.identifier.AlgorithmIdentifierValues.write_encoded.Goals as goal

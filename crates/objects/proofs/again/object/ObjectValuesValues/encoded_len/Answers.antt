@@ -1,5 +1,5 @@
 use Rattle.objects_written.specs.Frames.{object}
-use Rattle.certs_written.proofs.Same.{len_same, no_len_same}
+use Rattle.certs.proofs.Same.{len_same, no_len_same}
 use Rattle.objects.proofs.Writing.{with_signer}
 use Rattle.objects.proofs.again.object.ObjectValuesValues.encoded_len.Goals as goal
 

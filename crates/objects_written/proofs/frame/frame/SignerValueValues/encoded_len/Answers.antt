@@ -1,5 +1,5 @@
 use Rattle.objects_written.specs.Frames.{written_signer}
-use Rattle.certs_written.proofs.Same.{len_same, no_len_same}
+use Rattle.certs.proofs.Same.{len_same, no_len_same}
 use Rattle.objects_written.proofs.frame.frame.SignerValueValues.encoded_len.Goals as goal
 
 pub returns-clause-len : goal.returns-clause-len

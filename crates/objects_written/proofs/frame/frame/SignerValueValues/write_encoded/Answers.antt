@@ -1,5 +1,5 @@
 use Rattle.objects_written.specs.Frames.{written_signer}
-use Rattle.certs_written.proofs.Same.{refused_same, wrote_same}
+use Rattle.certs.proofs.Same.{refused_same, wrote_same}
 use Rattle.objects_written.proofs.frame.frame.SignerValueValues.write_encoded.Goals as goal
 
 pub returns-clause-written : goal.returns-clause-written

@@ -1,8 +1,0 @@
-use Rattle.std.proofs.Common.{rules, ◌≡◌, ◌-◌, ◌*◌, length, sym, ◌∙◌}
-use Rattle.bcder_bits.proofs.BitLists.{length-bits}
-use Rattle.bcder_bits.proofs.bit_string.BitString.count.Goals as goal
-
-pub returns-clause-bits : goal.returns-clause-bits
-returns-clause-bits c =
-    let octets : c.len.result * 8 - c.from.result ≡ 8 * length c.args.self.now.octets - c.args.self.now.unused = search rules in
-    octets ∙ sym (length-bits c.args.self.now)

@@ -1,0 +1,37 @@
+use Rattle.std.proofs.Common.{rules, ◌≡◌, true, IfErr, OnErr, subst}
+use Rattle.bcder_octets.specs.bcder_tree.declared.mode.Mode.{Mode}
+use Rattle.bcder_octets.specs.bcder_content.Here.{plain}
+use Rattle.bcder_octets.proofs.of_bcder_content.Failing.{octets_fail}
+use Rattle.bcder_octets.specs.bcder_primitive.Plain.{ReadsOctetsAs}
+use Rattle.bcder_octets.specs.Bits.{BitsValue}
+use Rattle.bcder_octets.specs.BitContents.{IsBitString}
+use Rattle.bcder_octets.proofs.ContentReadings.{content_reads}
+use Rattle.bcder_octets.specs.bcder_source.declared.error.DecodeError.{DecodeError}
+use Rattle.bcder_octets.specs.bcder_content.Memory.{OnMemory}
+use Rattle.bcder_values.specs.bcder_content.Ahead.{HasOctets}
+use Rattle.bcder_values.proofs.of_bcder_content.Wants.{content_wants}
+use Rattle.bcder_octets.proofs.bits.bit_string.BitString.from_content.Goals as goal
+
+pub returns-clause-reads : goal.returns-clause-reads
+returns-clause-reads g c = record {
+  same = c.primitive.ensures.same;
+  reads = λ tag. content_reads (λ v. v) (IsBitString c.args.content.now.values.now.octets.mode) tag _ _ _ (record {
+    each = λ p q r mode m.
+        let h : ReadsOctetsAs (λ (v : BitsValue). v) (IsBitString (plain g.S.Source.rest p.now).mode) (plain g.S.Source.rest p.now) r (plain g.S.Source.rest q.now) = search rules in
+        subst (λ (z : Mode). ReadsOctetsAs (λ (v : BitsValue). v) (IsBitString z) (plain g.S.Source.rest p.now) r (plain g.S.Source.rest q.now)) mode h;
+  }) c.primitive.ensures.ran;
+}
+
+pub returns-clause-failed : goal.returns-clause-failed
+returns-clause-failed g c = octets_fail _ (record {
+  each = λ p q r m.
+      let h : OnErr r ((plain g.S.Source.rest q.now).failed ≡ true) = search rules in
+      h;
+}) c.primitive.ensures.ran
+
+pub returns-clause-memory : goal.returns-clause-memory
+returns-clause-memory g c = content_wants _ _ _ (record {
+  each = λ p q r mode m.
+      let h : IfErr r (λ (e : DecodeError _). OnMemory e (HasOctets (IsBitString (plain g.S.Source.rest p.now).mode) (plain g.S.Source.rest p.now))) = search rules in
+      subst (λ (z : Mode). IfErr r (λ (e : DecodeError _). OnMemory e (HasOctets (IsBitString z) (plain g.S.Source.rest p.now)))) mode h;
+}) c.primitive.ensures.ran

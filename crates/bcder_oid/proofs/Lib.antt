@@ -1,9 +1,0 @@
-pub mod Numbers
-pub mod Parts
-pub mod Numerals
-pub mod Dots
-pub mod Written
-pub mod Lines
-pub mod Read
-pub mod of_bcder_content
-pub mod of_bcder_primitive

@@ -1,4 +1,0 @@
-use Rattle.bcder_oid.proofs.text.+push_high.Given as goal
-
-abbrev pub decreases-push_high : goal.decreases-push_high
-decreases-push_high l = l.number

@@ -1,6 +1,0 @@
-use Rattle.std.proofs.Common.{◌∷◌, take}
-use Rattle.bcder_oid.specs.Subidentifiers.{IsShortest, InTurn}
-use Rattle.bcder_oid.proofs.text.write_numbers.Given as goal
-
-abbrev pub invariant-loop-number : goal.invariant-loop-number
-invariant-loop-number l = InTurn IsShortest l.octets.items (l.root ∷ take l.number-index l.others)

@@ -1,6 +1,0 @@
-use Rattle.bcder_strings.specs.Sets.{IsNumeric, IsPrintable, IsIa5}
-use Rattle.bcder_strings.proofs.Ascii.{ascii_text}
-use Rattle.bcder_strings.proofs.chars_laws.ascii_texts.Goals as goal
-
-pub returns : goal.returns
-returns c = record { numeric = ascii_text IsNumeric; printable = ascii_text IsPrintable; ia5 = ascii_text IsIa5 }

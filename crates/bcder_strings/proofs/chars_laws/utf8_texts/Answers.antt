@@ -1,5 +1,0 @@
-use Rattle.bcder_strings.proofs.Unicode.{utf8_text}
-use Rattle.bcder_strings.proofs.chars_laws.utf8_texts.Goals as goal
-
-pub returns : goal.returns
-returns c = utf8_text

@@ -1,7 +1,0 @@
-use Rattle.bcder_written.proofs.integers.U16PrimitiveContent.write_encoded.Goals as goal
-use Rattle.std.proofs.Common.{◌^◌, ◌<◌, rules}
-
-pub returns-clause-refused : goal.returns-clause-refused
-returns-clause-refused g c =
-    let low : c.args.self.now < 2 ^ 16 = search rules in
-    rw c.from.ensures at (c.put_unsigned.ensures.refused (2 ^ 16) c.args._mode) low

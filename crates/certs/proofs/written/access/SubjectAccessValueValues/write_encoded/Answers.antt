@@ -1,0 +1,9 @@
+use Rattle.certs.specs.Values.{all_locations}
+use Rattle.certs.proofs.Same.{refused_same, wrote_same}
+use Rattle.certs.proofs.written.access.SubjectAccessValueValues.write_encoded.Goals as goal
+
+pub returns-clause-written : goal.returns-clause-written
+returns-clause-written g c = wrote_same all_locations c.args.mode _ _ _ c.fields-value.ensures c.write_encoded.ensures.written
+
+pub returns-clause-refused : goal.returns-clause-refused
+returns-clause-refused g c = refused_same all_locations c.args.mode _ _ _ _ c.fields-value.ensures c.write_encoded.ensures.refused

@@ -1,0 +1,6 @@
+use Rattle.certs.specs.Values.{basic_constraints}
+use Rattle.certs.proofs.Same.{refused_same}
+use Rattle.certs.proofs.written.usages.ConstraintsValueValues.write_encoded.Goals as goal
+
+pub returns-clause-refused : goal.returns-clause-refused
+returns-clause-refused g c = refused_same basic_constraints c.args.mode _ _ _ _ c.self.view_is c.write_encoded.ensures.refused

@@ -1,2 +1,0 @@
--- Lemmas of bcder_values, for the crates above.
-pub use Rattle.certs_basics.proofs.of_bcder_values.Returning

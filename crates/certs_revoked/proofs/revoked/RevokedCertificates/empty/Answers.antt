@@ -1,7 +1,0 @@
-use Rattle.std.proofs.Common.{rules, [], ap}
-use Rattle.certs_revoked.specs.bcder_content.Kept.{CapturedValue}
-use Rattle.certs_revoked.proofs.Lists.{spelled_is, no_entries}
-use Rattle.certs_revoked.proofs.revoked.RevokedCertificates.empty.Goals as goal
-
-pub returns : goal.returns
-returns c = spelled_is c.empty.result _ [] (search rules) (no_entries c.empty.result (ap (λ (v : CapturedValue). v.octets) c.empty.ensures))

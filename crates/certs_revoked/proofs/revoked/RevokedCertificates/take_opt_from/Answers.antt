@@ -1,6 +1,0 @@
-use Rattle.certs_revoked.proofs.of_bcder_content.InMode.{inside_opt}
-use Rattle.certs_revoked.specs.Entries.{AreEntries}
-use Rattle.certs_revoked.proofs.revoked.RevokedCertificates.take_opt_from.Goals as goal
-
-pub returns-clause-reads : goal.returns-clause-reads
-returns-clause-reads g c = inside_opt {P = AreEntries} (record { each = λ p q r h. h }) c.take_opt_sequence.ensures.ran

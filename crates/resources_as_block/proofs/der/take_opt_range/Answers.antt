@@ -1,5 +1,0 @@
-use Rattle.resources_as_block.proofs.of_bcder_content.Inside.{exact_opt}
-use Rattle.resources_as_block.proofs.der.take_opt_range.Goals as goal
-
-pub returns-clause-reads : goal.returns-clause-reads
-returns-clause-reads g c = exact_opt (record { each = λ p q r m h. h.0 }) c.take_opt_sequence.ensures.ran

@@ -1,3 +1,0 @@
--- Lemmas of resources_addr, for the crates above.
-pub use Rattle.resources_addr.proofs.Printed
-pub use Rattle.resources_addr.proofs.Texts

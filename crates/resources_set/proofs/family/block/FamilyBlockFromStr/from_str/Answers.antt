@@ -1,4 +1,0 @@
-use Rattle.resources_set.proofs.family.block.FamilyBlockFromStr.from_str.Goals as goal
-
-pub returns : goal.returns
-returns g c = rw c.of_block.ensures (rw c.family.ensures at c.in_ok-block.ensures.reads)

@@ -1,8 +1,0 @@
-use Rattle.std.proofs.Common.{◌≡◌}
-use Rattle.std.specs.Prelude.{map}
-use Rattle.resources_set.specs.resources_ip_block.Block.{run_of_block}
-use Rattle.resources_set.specs.Families.{FitsBlocks}
-use Rattle.resources_set.proofs.family.blocks.FamilyBlocks.from_iter.Given as goal
-
-abbrev pub invariant-loop-block : goal.invariant-loop-block
-invariant-loop-block g l = (l.listed ≡ map run_of_block l.yielded) × FitsBlocks g.F.Family.family l.listed

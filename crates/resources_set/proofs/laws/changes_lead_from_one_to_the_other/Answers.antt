@@ -1,5 +1,0 @@
-use Rattle.resources_set.proofs.Changing.{leads}
-use Rattle.resources_set.proofs.laws.changes_lead_from_one_to_the_other.Goals as goal
-
-pub returns : goal.returns
-returns c = leads
