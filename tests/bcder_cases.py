@@ -1,8 +1,9 @@
 #!/usr/bin/env python3
 """Writes the questions and answers of the programs of questions about the codec: tests/bcder_cases.py
 
-crates/bcder_cases is asked about sources, headers and contents, crates/bcder_values_cases about values, numbers, identifiers
-and strings, and crates/bcder_written_cases about what is written, and about the worked readers (`bcder_example_cases.py`).
+crates/bcder_cases is asked about sources, headers and contents, about numbers and bit strings in contents, and about the
+worked readers (`bcder_example_cases.py`); crates/bcder_values_cases about values, numbers of any size, identifiers and strings,
+and about what is written.
 
 The answers come from Python's own integers and texts, from small readers and writers of this script after X.690, from
 examples of X.690, RFC 3629 and OpenSSL, and from the worked cases `codec-core-cases`, `string-cases` and
@@ -21,9 +22,8 @@ TESTS = pathlib.Path(__file__).resolve().parent
 CRATES = TESTS.parent / "crates"
 # The topics of each program: the first word of a question.
 PROGRAMS = {
-    "bcder_cases": "tag length source content fails dry skip tagged",
-    "bcder_values_cases": "front number integer unsigned oid bits octets text string",
-    "bcder_written_cases": "write attributes walks",
+    "bcder_cases": "tag length source content fails dry skip tagged number bits attributes walks",
+    "bcder_values_cases": "front integer unsigned oid octets text string write",
 }
 MODES = ("ber", "cer", "der")
 rng = random.Random(690)

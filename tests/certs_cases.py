@@ -2,7 +2,9 @@
 """Writes the questions and answers of crates/certs_cases: tests/certs_cases.py
 
 Each topic has a function of its own here and a module there. The answers come from the rules as this script has them in
-its own words, and from examples. The gate runs the program on `stdin`, and compares what it prints with `stdout`.
+its own words, and from examples. Revocation lists are read by the grammar in Python's words, over the reader of X.690 in
+certs_signed_cases.py, and put together octet by octet; the worked cases have their answers by hand. The gate runs the program
+on `stdin`, and compares what it prints with `stdout`.
 """
 
 import hashlib
@@ -14,6 +16,9 @@ import re
 from certs_name_cases import names, serials
 from certs_signed_cases import signed
 from certs_time_cases import moments, validities
+from crls_entries_cases import entries
+from crls_lists_cases import lists
+from crls_made_cases import made
 
 FOLDER = pathlib.Path(__file__).resolve().parent.parent / "crates" / "certs_cases"
 rng = random.Random(5781)
@@ -526,6 +531,9 @@ def main():
     serials(q)
     moments(q)
     validities(q)
+    lists(q)
+    entries(q)
+    made(q)
     (FOLDER / "stdin").write_text("".join(f"{question}\n" for question, _ in q.rows))
     (FOLDER / "stdout").write_text("".join(f"{answer}\n" for _, answer in q.rows))
     print(len(q.rows), "questions")

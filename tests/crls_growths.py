@@ -1,13 +1,13 @@
 #!/usr/bin/env python3
 """Shows how the calls of revocation lists answer where growths of memory are refused.
 
-    crls_growths.py PROGRAM      (PROGRAM is crates/crls_cases/out/crls_cases)
+    crls_growths.py PROGRAM      (PROGRAM is crates/certs_cases/out/certs_cases)
 
-Some questions of each kind are asked of the built program, one a run, with each growth refused in turn, alone and with all that
-come after it, by `refuse_growth.c` (`growths.py` has the way). The answer has to be the right one, or a front of its words and
-then that memory is lacking; or the program ends with a fault. A list with an unknown extension may be refused by the fixed
-text in place of the one with the identifier, and is where the growth for that text is refused. Octets that an answer shows
-after an `x` are left out where the growth for their own text is refused.
+Some questions of each kind about lists are asked of the built program, one a run, with each growth refused in turn, alone and
+with all that come after it, by `refuse_growth.c` (`growths.py` has the way). The answer has to be the right one, or a front of
+its words and then that memory is lacking; or the program ends with a fault. A list with an unknown extension may be refused by
+the fixed text in place of the one with the identifier, and is where the growth for that text is refused. Octets that an answer
+shows after an `x` are left out where the growth for their own text is refused.
 
 Prints `N passed, M failed`, a run being one test; exits with 1 where one failed.
 """
@@ -27,7 +27,8 @@ EACH = 3
 LONGEST = 3000
 FIXED = "invalid extension"
 OCTETS = re.compile(r"\bx[0-9a-f]+")
-FOLDER = os.path.join(HERE, "..", "crates", "crls_cases")
+TOPICS = ("crl", "entry", "listed", "made", "store", "within")
+FOLDER = os.path.join(HERE, "..", "crates", "certs_cases")
 
 
 def questions():
@@ -36,8 +37,8 @@ def questions():
         pairs = [(one[:-1], other[:-1]) for one, other in zip(asked, answered, strict=True)]
     kinds = collections.defaultdict(dict)
     for question, answer in pairs:
-        if len(question) <= LONGEST:
-            topic, kind, *_ = question.split("\t") + [""]
+        topic, kind, *_ = question.split("\t") + [""]
+        if topic in TOPICS and len(question) <= LONGEST:
             kinds[topic, "" if topic == "store" else kind].setdefault(answer, question)
     for found in kinds.values():
         longest = sorted(found, key=len, reverse=True)

@@ -1,4 +1,4 @@
-"""Questions about revocation lists and stores of them, for tests/crls_cases.py (RFC 5280 5.1, RFC 6487 5)."""
+"""Questions about revocation lists and stores of them, for tests/certs_cases.py (RFC 5280 5.1, RFC 6487 5)."""
 
 import calendar
 import random

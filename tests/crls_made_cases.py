@@ -1,4 +1,4 @@
-"""Questions about revocation lists that are built, cloned, read from within others or refused, for tests/crls_cases.py.
+"""Questions about revocation lists that are built, cloned, read from within others or refused, for tests/certs_cases.py.
 
 Lists are put together here from DER by hand, field by field (RFC 5280 5.1, RFC 6487 5). Where Python's `cryptography` is
 there, it reads each list that is built, and has to find the same fields.

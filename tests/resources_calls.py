@@ -1,8 +1,9 @@
 #!/usr/bin/env python3
-"""Writes the questions and answers of the programs of calls of the resources' crates: tests/resources_calls.py
+"""Writes the questions and answers of the programs of questions about resources: tests/resources_calls.py
 
-crates/resources_calls is asked about addresses, prefixes and numbers, crates/resources_chains_calls about chains and
-blocks of AS numbers, and crates/resources_sets_calls about sets and resources, and what is read and written of them.
+crates/resources_calls is asked about addresses, prefixes and numbers, chains and blocks of AS numbers;
+crates/resources_cases what tests/resources_cases.py asks, and about sets and resources, and what is read and written
+of them.
 
 The answers come from Python's own integers and sets, `ipaddress`, and X.690 and RFC 3779 for octets. The gate runs each
 program on its `stdin`, and compares what it prints with `stdout`. A tab stands between the words of a question.
@@ -11,6 +12,7 @@ program on its `stdin`, and compares what it prints with `stdout`. A tab stands 
 import ipaddress
 import pathlib
 
+import resources_cases
 from resources_calls_values import (
     ADDRESSES, as_bits, as_text, asn, block_texts, both_texts, is_in, LAST, length_of, listed, neighbours,
     order, overlaps, parsed, printed, Questions, read_block, rng, shown_set, some_addresses, some_blocks,
@@ -19,11 +21,10 @@ from resources_calls_values import (
 from resources_cases import as_block, bits, difference, integer, intersection, maximal, shortest, tlv, union
 
 CRATES = pathlib.Path(__file__).resolve().parent.parent / "crates"
-# The topics of each program: the first word of a question.
+# What each program is asked of these questions: their topics, which are their first words.
 PROGRAMS = {
-    "resources_calls": "prefix max asn addr range block",
-    "resources_chains_calls": "as chain list",
-    "resources_sets_calls": "resources family set der",
+    "resources_calls": "prefix max asn addr range block as chain list",
+    "resources_cases": "resources family set der",
 }
 
 
@@ -739,7 +740,8 @@ def main():
     for part in (prefixes, greatest_lengths, asns, as_blocks, chains, addresses, blocks, resources, families, octets, all_kinds, looked_up):
         part(q)
     for name, topics in PROGRAMS.items():
-        rows = [row for row in q.rows if row[0].split("\t")[0] in topics.split()]
+        rows = resources_cases.questions() if name == "resources_cases" else []
+        rows += [row for row in q.rows if row[0].split("\t")[0] in topics.split()]
         (CRATES / name / "stdin").write_text("".join(f"{question}\n" for question, _ in rows))
         (CRATES / name / "stdout").write_text("".join(f"{answer}\n" for _, answer in rows))
         print(len(rows), "questions of", name)

@@ -1,15 +1,13 @@
-#!/usr/bin/env python3
-"""Writes the questions and answers of crates/resources_cases: tests/resources_cases.py
+"""Questions about sets of AS numbers and addresses, and their answers, which tests/resources_calls.py writes to
+crates/resources_cases.
 
 The answers come from Python's own integers, sets of ranges and `ipaddress`, and from the worked case
-`resource-cases`. The gate runs the program on `stdin`, and compares what it prints with `stdout`.
+`resource-cases`.
 """
 
 import ipaddress
-import pathlib
 import random
 
-FOLDER = pathlib.Path(__file__).resolve().parent.parent / "crates" / "resources_cases"
 rng = random.Random(3779)
 
 
@@ -534,7 +532,8 @@ def of_all(q):
     q.ask("1.3.6.1.5.5.7.14.3 1.3.6.1.5.5.7.1.28 1.3.6.1.5.5.7.1.29 true", "trim", "identifiers")
 
 
-def main():
+def questions():
+    """Each question and its answer."""
     q = Questions()
     sets(q, Numbers(), 400, 25)
     sets(q, Addresses(4), 300, 25)
@@ -548,10 +547,4 @@ def main():
     written(q)
     of_all(q)
     written_families(q)
-    (FOLDER / "stdin").write_text("".join(f"{question}\n" for question, _ in q.rows))
-    (FOLDER / "stdout").write_text("".join(f"{answer}\n" for _, answer in q.rows))
-    print(len(q.rows), "questions")
-
-
-if __name__ == "__main__":
-    main()
+    return q.rows

@@ -14,6 +14,7 @@ import re
 import shutil
 
 import rpki_model
+import rpki_places
 import rpki_questions
 import rpki_walks
 import rpki_worlds
@@ -668,7 +669,8 @@ def stored_cases():
 def main():
     q = Questions()
     shutil.rmtree(DATA, ignore_errors=True)
-    for part in (worked_cases, streams, texts, bundles, get_and_parts, times, uris, rpki_walks.walks, rpki_questions.questions, case_folder, kinds_of_entries, made_folders, spelled_lines):
+    parts = (worked_cases, streams, texts, bundles, get_and_parts, times, uris, rpki_walks.walks, rpki_questions.questions)
+    for part in (*parts, case_folder, kinds_of_entries, made_folders, spelled_lines, rpki_places.questions):
         part(q)
     stored_cases()
     worlds = rpki_worlds.asked_at_the_gate()

@@ -13,26 +13,18 @@ fn said<E: std::fmt::Display + Drop>(answer: &mut Answer, error: E) {
     answer.join(";");
 }
 
-// Octets that are refused at a position that is a sum.
-fn unexpected() -> DecodeError<Infallible> {
-    let error = ContentError::from_static("unexpected");
-    DecodeError::content(error, Pos::from(3) + Pos::from(4))
-}
-
-// An error with a text of its own.
-fn owned(alloc: Global, answer: &mut Answer) {
-    if let Ok(text) = "mine".to_string(alloc) {
-        said(answer, ContentError::from(text));
-    }
-}
-
-/// The errors of contents, as they print themselves.
+/// The errors of contents, as they print themselves: octets that are refused at a position that is a sum, other values
+/// than those expected, a text of the error's own, and the source's failure.
 pub fn of_contents(alloc: Global, answer: &mut Answer) {
-    let refused: DecodeError<Fault> = unexpected().convert();
+    let error = ContentError::from_static("unexpected");
+    let refused: DecodeError<Infallible> = DecodeError::content(error, Pos::from(3) + Pos::from(4));
+    let refused: DecodeError<Fault> = refused.convert();
     said(answer, refused);
     said(answer, ContentError::ExpectedTag(Tag::SEQUENCE));
     said(answer, ContentError::ExpectedInteger(1));
-    owned(alloc, answer);
+    if let Ok(text) = "mine".to_string(alloc) {
+        said(answer, ContentError::from(text));
+    }
     let fault: DecodeError<Fault> = DecodeError::Source(Fault);
     answer.say(&fault);
 }

@@ -79,21 +79,6 @@ fn captured(answer: &mut Answer, how: &str, captured: Captured) {
     }
 }
 
-// Captures a value.
-fn capture_one(alloc: Global, cons: &mut Values<'_>) -> Result<Captured, Refusal> {
-    cons.capture_one(alloc)
-}
-
-// Captures all values.
-fn capture_all(alloc: Global, cons: &mut Values<'_>) -> Result<Captured, Refusal> {
-    cons.capture_all(alloc)
-}
-
-// Captures what a closure goes past.
-fn capture_skipped(alloc: Global, cons: &mut Values<'_>) -> Result<Captured, Refusal> {
-    cons.capture(alloc, |cons| cons.skip_all(alloc))
-}
-
 // The mode of a content over any source.
 fn mode_of<S: Source>(cons: &mut Constructed<S>) -> Mode {
     cons.mode()
@@ -102,10 +87,10 @@ fn mode_of<S: Source>(cons: &mut Constructed<S>) -> Mode {
 // Captures a value, all values, or what a closure reads or goes past.
 fn captured_by(alloc: Global, cons: &mut Values<'_>, kind: &str) -> Result<Captured, Refusal> {
     match kind {
-        "one" => capture_one(alloc, cons),
-        "all" => capture_all(alloc, cons),
+        "one" => cons.capture_one(alloc),
+        "all" => cons.capture_all(alloc),
         "null" => capture_null(alloc, cons),
-        _ => capture_skipped(alloc, cons),
+        _ => cons.capture(alloc, |cons| cons.skip_all(alloc)),
     }
 }
 

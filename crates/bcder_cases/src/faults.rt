@@ -11,17 +11,12 @@ use std::alloc::Global;
 /// The most requests and retries.
 const MOST: usize = 64;
 
-// A step taken twice.
-fn twice(alloc: Global, answer: &mut Answer, cons: &mut Values<'_>, step: Step<'_>) {
-    cons.step(alloc, answer, step);
-    cons.step(alloc, answer, step);
-}
-
 // The answers of a step that is taken twice, of a source that fails once, after so many requests.
 fn after(alloc: Global, octets: &[u8], before: usize, step: Step<'_>) -> Answer {
     let mut answer = Answer::new(alloc);
     let _ = Mode::Ber.decode(Trickle::failing_after(octets, before), |cons| {
-        twice(alloc, &mut answer, cons, step);
+        cons.step(alloc, &mut answer, step);
+        cons.step(alloc, &mut answer, step);
         Ok(())
     });
     answer

@@ -11,15 +11,11 @@ use bcder::Tag;
 use bcder::decode::{Content, Primitive};
 use std::alloc::Global;
 
-// A NULL, as 0.
-fn null_of(prim: &mut Primitive<Trickle<'_>>) -> Result<u8, Refusal> {
-    prim.to_null().map(|()| 0)
-}
-
 // The number of an INTEGER, or 0 for a NULL.
 fn octets_of(tag: Tag, prim: &mut Primitive<Trickle<'_>>) -> Result<u8, Refusal> {
     if tag == Tag::NULL {
-        null_of(prim)
+        prim.to_null()?;
+        Ok(0)
     } else {
         prim.to_u8()
     }

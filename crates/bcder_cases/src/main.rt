@@ -1,13 +1,17 @@
-//! Questions about the codec's sources, headers and contents, as data: a line of words with tabs between is a question,
-//! and a line of output its answer. `tests/bcder_cases.py` writes both, by its own means.
+//! Questions about the codec's sources, headers and contents, about numbers and bit strings in contents, and about the
+//! worked readers, as data: a line of words with tabs between is a question, and a line of output its answer.
+//! `tests/bcder_cases.py` writes both, by its own means.
 #![tactic(auto)]
 
+mod bits;
 mod contents;
 mod errors;
 mod extents;
 mod faults;
 mod fields;
 mod forms;
+mod numbers;
+mod readers;
 mod scalars;
 mod skips;
 mod sources;
@@ -15,24 +19,31 @@ mod steps;
 mod tags;
 mod trickle;
 
-use answers::{Answer, Questions, answer_lines};
+use answers::{Answer, Questions, answer_lines, unknown};
 use anyhow::Result;
 use std::alloc::Global;
 
-// What is asked about sources, headers and contents.
+// What is asked about sources, headers and contents, and about the worked readers.
 struct Codec;
 
 impl Questions for Codec {
     fn answer(&self, alloc: Global, answer: &mut Answer, words: &[&str]) -> Result<()> {
-        match words {
-            ["tag", words @ ..] => tags::answer(alloc, answer, words),
-            ["length", words @ ..] => tags::length(alloc, answer, words),
-            ["source", words @ ..] => sources::answer(alloc, answer, words),
-            ["content", words @ ..] => contents::answer(alloc, answer, words),
-            ["fails", words @ ..] => faults::fails(alloc, answer, words),
-            ["dry", words @ ..] => faults::dry(alloc, answer, words),
-            ["skip", words @ ..] => skips::answer(alloc, answer, words),
-            ["tagged", words @ ..] => forms::answer(alloc, answer, words),
+        let [topic, words @ ..] = words else {
+            return unknown();
+        };
+        match *topic {
+            "tag" => tags::answer(alloc, answer, words),
+            "length" => tags::length(alloc, answer, words),
+            "source" => sources::answer(alloc, answer, words),
+            "content" => contents::answer(alloc, answer, words),
+            "fails" => faults::fails(alloc, answer, words),
+            "dry" => faults::dry(alloc, answer, words),
+            "skip" => skips::answer(alloc, answer, words),
+            "tagged" => forms::answer(alloc, answer, words),
+            "number" => numbers::answer(alloc, answer, words),
+            "bits" => bits::answer(alloc, answer, words),
+            "attributes" => readers::attributes::answer(alloc, answer, words),
+            "walks" => readers::walks::answer(alloc, answer, words),
             _ => answer.unknown(),
         }
         Ok(())

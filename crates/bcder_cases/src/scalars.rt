@@ -31,7 +31,10 @@ pub fn take_opt(answer: &mut Answer, cons: &mut Values<'_>, kind: &str) {
 /// is refused, and ends or reads on.
 pub fn inner(cons: &mut Values<'_>, word: &str) -> Result<u8, Refusal> {
     match word {
-        "null" => cons.take_null().map(|()| 0),
+        "null" => {
+            cons.take_null()?;
+            Ok(0)
+        }
         "nothing" => Ok(1),
         "over" => {
             let _ = cons.take_bool();

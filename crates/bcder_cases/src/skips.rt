@@ -1,6 +1,6 @@
 //! Values that a closure sees while they are skipped, and values deep in each other.
 
-use answers::{Answer, count_of, mode_of, octets_of};
+use answers::{Answer, count_of, mode_of, octets_of, word_at};
 use bcder::decode::{ContentError, Decode};
 use bcder::{Mode, Tag};
 use std::alloc::{AllocError, Global};
@@ -110,23 +110,15 @@ fn deep(alloc: Global, answer: &mut Answer, mode: Mode, form: &str, levels: &str
     }
 }
 
-// What skipping the values in octets answers.
-fn of_octets(alloc: Global, answer: &mut Answer, kind: &str, mode: Mode, octets: &[u8]) {
-    match kind {
-        "visits" => visits(alloc, answer, mode, octets),
-        "refused" => refused(alloc, answer, mode, octets),
-        _ => answer.unknown(),
-    }
-}
-
-/// What a closure sees of values that are skipped, or how deep they lie in each other.
+/// What a closure sees of values that are skipped, how they are refused, or how deep they lie in each other.
 pub fn answer(alloc: Global, answer: &mut Answer, words: &[&str]) {
-    match words {
-        ["deep", mode, form, levels] => deep(alloc, answer, mode_of(*mode), *form, *levels),
-        [kind, mode, digits] => {
-            let octets = octets_of(alloc, *digits);
-            of_octets(alloc, answer, *kind, mode_of(*mode), octets.as_slice());
-        }
-        _ => answer.unknown(),
+    let [kind, mode, word, others @ ..] = words else {
+        return answer.unknown();
+    };
+    let mode = mode_of(*mode);
+    match *kind {
+        "deep" => deep(alloc, answer, mode, *word, word_at(others, 0)),
+        "visits" => visits(alloc, answer, mode, octets_of(alloc, *word).as_slice()),
+        _ => refused(alloc, answer, mode, octets_of(alloc, *word).as_slice()),
     }
 }

@@ -118,26 +118,16 @@ impl<S: Source> Steps for Primitive<S> {
             "is" => answer.outcome(self.skip_u8_if(step.octet())),
             "skip-all" => answer.outcome(self.skip_all()),
             "take-all" => answer.taken(self.take_all(alloc)),
-            "refuse-all" => refused_content(answer, self),
-            _ => whole(alloc, answer, self, step),
+            "refuse-all" => {
+                answer.say(&(*self).content_err(ContentError::ExpectedTag(Tag::INTEGER)));
+            }
+            "to-u16" => answer.outcome(self.to_u16()),
+            "to-u32" => answer.outcome(self.to_u32()),
+            "bool" => answer.outcome(self.to_bool()),
+            "null" => answer.outcome(self.to_null()),
+            _ => any(alloc, answer, self, step),
         }
     }
-}
-
-// What a whole content is.
-fn whole<S: Source>(alloc: Global, answer: &mut Answer, prim: &mut Primitive<S>, step: Step<'_>) {
-    match step.name {
-        "to-u16" => answer.outcome(prim.to_u16()),
-        "to-u32" => answer.outcome(prim.to_u32()),
-        "bool" => answer.outcome(prim.to_bool()),
-        "null" => answer.outcome(prim.to_null()),
-        _ => any(alloc, answer, prim, step),
-    }
-}
-
-// The refusal of a content, from its beginning.
-fn refused_content<S: Source>(answer: &mut Answer, prim: &Primitive<S>) {
-    answer.say(&prim.content_err(ContentError::ExpectedTag(Tag::INTEGER)));
 }
 
 // A primitive content of four octets of a source, in BER.
@@ -151,6 +141,11 @@ fn four<S: Source>(source: S) -> Primitive<S> {
         failed: false,
         start: Pos::from(0),
     }
+}
+
+// The steps of a source by its calls alone.
+fn alone<S: Source>(alloc: Global, answer: &mut Answer, source: S, words: &[&str]) {
+    run(alloc, answer, &mut Plain(source), words);
 }
 
 // The steps within a capture, and what is next after it.
@@ -168,47 +163,6 @@ fn limited(alloc: Global, answer: &mut Answer, octets: &[u8], words: &[&str]) {
     run(alloc, answer, &mut source, words);
     let left = source.unwrap();
     answer.show(&(left.len(), left.is_empty()));
-}
-
-fn of_bytes(alloc: Global, answer: &mut Answer, octets: &[u8], words: &[&str]) {
-    if let Ok(bytes) = Bytes::copy_from_slice(alloc, octets) {
-        run(alloc, answer, &mut Plain(bytes.into_source()), words);
-    }
-}
-
-fn of_string(alloc: Global, answer: &mut Answer, octets: &[u8], words: &[&str]) {
-    if let Ok(bytes) = Bytes::copy_from_slice(alloc, octets) {
-        let string = OctetString::new(bytes);
-        run(alloc, answer, &mut Plain(string.into_source()), words);
-    }
-}
-
-fn of_slice(alloc: Global, answer: &mut Answer, octets: &[u8], words: &[&str]) {
-    run(alloc, answer, &mut Plain(octets.into_source()), words);
-}
-
-fn trickling(alloc: Global, answer: &mut Answer, octets: &[u8], words: &[&str]) {
-    let source = Trickle::new(octets).into_source();
-    run(alloc, answer, &mut Plain(source), words);
-}
-
-fn lent(alloc: Global, answer: &mut Answer, octets: &[u8], words: &[&str]) {
-    let mut source = Trickle::new(octets);
-    run(alloc, answer, &mut Plain(&mut source), words);
-}
-
-fn faulty(alloc: Global, answer: &mut Answer, octets: &[u8], words: &[&str]) {
-    let mut source = LimitedSource::new(Trickle::failing_above(octets, 2));
-    run(alloc, answer, &mut source, words);
-}
-
-fn of_four(alloc: Global, answer: &mut Answer, octets: &[u8], words: &[&str]) {
-    run(alloc, answer, &mut four(SliceSource::new(octets)), words);
-}
-
-fn of_faulty_four(alloc: Global, answer: &mut Answer, octets: &[u8], words: &[&str]) {
-    let mut content = four(Trickle::failing_above(octets, 2));
-    run(alloc, answer, &mut content, words);
 }
 
 // Two octets cut from the front of a slice, and how many are left of it.
@@ -236,24 +190,29 @@ fn cut_shared(alloc: Global, answer: &mut Answer, mut shared: BytesSource, words
     run(alloc, answer, &mut Plain(shared), words);
 }
 
-// Two octets cut from the front of shared ones that begin at position 10, and the steps after them.
-fn cut(alloc: Global, answer: &mut Answer, octets: &[u8], words: &[&str]) {
-    if let Ok(octets) = Bytes::copy_from_slice(alloc, octets) {
-        let shared = BytesSource::with_offset(octets, Pos::from(10));
-        cut_shared(alloc, answer, shared, words);
+// The answers of octets that are shared, of an octet string, and of shared octets that begin at position 10.
+fn of_shared(alloc: Global, answer: &mut Answer, kind: &str, octets: &[u8], words: &[&str]) {
+    let Ok(bytes) = Bytes::copy_from_slice(alloc, octets) else {
+        return answer.word("memory");
+    };
+    match kind {
+        "bytes" => alone(alloc, answer, bytes.into_source(), words),
+        "string" => alone(alloc, answer, OctetString::new(bytes).into_source(), words),
+        _ => {
+            let shared = BytesSource::with_offset(bytes, Pos::from(10));
+            cut_shared(alloc, answer, shared, words);
+        }
     }
 }
 
 // The answers of sources that can't fail.
 fn of_kind(alloc: Global, answer: &mut Answer, kind: &str, octets: &[u8], words: &[&str]) {
     match kind {
-        "slice" => of_slice(alloc, answer, octets, words),
-        "bytes" => of_bytes(alloc, answer, octets, words),
-        "string" => of_string(alloc, answer, octets, words),
+        "slice" => alone(alloc, answer, octets.into_source(), words),
+        "bytes" | "string" | "cut" => of_shared(alloc, answer, kind, octets, words),
         "limited" => limited(alloc, answer, octets, words),
-        "four" => of_four(alloc, answer, octets, words),
+        "four" => run(alloc, answer, &mut four(SliceSource::new(octets)), words),
         "cut-slice" => cut_slice(answer, octets),
-        "cut" => cut(alloc, answer, octets, words),
         _ => of_trickle(alloc, answer, kind, octets, words),
     }
 }
@@ -261,11 +220,17 @@ fn of_kind(alloc: Global, answer: &mut Answer, kind: &str, octets: &[u8], words:
 // The answers of sources that may fail.
 fn of_trickle(alloc: Global, answer: &mut Answer, kind: &str, octets: &[u8], words: &[&str]) {
     match kind {
-        "trickle" => trickling(alloc, answer, octets, words),
-        "lent" => lent(alloc, answer, octets, words),
-        "faulty" => faulty(alloc, answer, octets, words),
+        "trickle" => alone(alloc, answer, Trickle::new(octets).into_source(), words),
+        "lent" => alone(alloc, answer, &mut Trickle::new(octets), words),
+        "faulty" => {
+            let mut source = LimitedSource::new(Trickle::failing_above(octets, 2));
+            run(alloc, answer, &mut source, words);
+        }
         "capture" => captured(alloc, answer, octets, words),
-        "four-faulty" => of_faulty_four(alloc, answer, octets, words),
+        "four-faulty" => {
+            let mut content = four(Trickle::failing_above(octets, 2));
+            run(alloc, answer, &mut content, words);
+        }
         "errors" => errors::of_contents(alloc, answer),
         "memory" => errors::of_memory(answer),
         _ => answer.unknown(),

@@ -1,6 +1,6 @@
 //! Tags and lengths, and the octets of both.
 
-use answers::{Answer, mode_of, octets_of};
+use answers::{Answer, mode_of, octets_of, word_at};
 use bcder::{Length, Tag};
 use std::alloc::Global;
 
@@ -117,32 +117,22 @@ fn tag(class: &str, number: &str) -> Option<Tag> {
     }
 }
 
-// Of which class a tag is.
-fn classes(answer: &mut Answer, tag: Tag) {
+// All that is known of a tag: its texts, number and class, and the identifier octets of either form.
+fn known(alloc: Global, answer: &mut Answer, tag: Tag) {
+    answer.say(&tag);
+    answer.show(&tag);
+    answer.say(&tag.number());
     answer.show(&[
         tag.is_universal(),
         tag.is_application(),
         tag.is_context_specific(),
         tag.is_private(),
     ]);
-}
-
-// The identifier octets of either form.
-fn written(alloc: Global, answer: &mut Answer, tag: Tag) {
+    answer.say(&tag.encoded_len());
     let mut octets: Vec<u8> = Vec::new(alloc);
     let _ = tag.write_encoded(false, &mut octets);
     let _ = tag.write_encoded(true, &mut octets);
     answer.octets(octets.as_slice());
-}
-
-// All that is known of a tag.
-fn known(alloc: Global, answer: &mut Answer, tag: Tag) {
-    answer.say(&tag);
-    answer.show(&tag);
-    answer.say(&tag.number());
-    classes(answer, tag);
-    answer.say(&tag.encoded_len());
-    written(alloc, answer, tag);
 }
 
 // What is known of the tag of a class and a number.
@@ -153,63 +143,48 @@ fn of_class(alloc: Global, answer: &mut Answer, class: &str, number: &str) {
     }
 }
 
-fn read(alloc: Global, answer: &mut Answer, digits: &str) {
-    answer.show(&Tag::read(octets_of(alloc, digits).as_slice()));
-}
-
-fn is_end(alloc: Global, answer: &mut Answer, digits: &str) {
-    answer.show(&Tag::is_end(octets_of(alloc, digits).as_slice()));
-}
-
 /// What is known of a tag that has a name, or a class and a number; which one is in front of octets, and whether
 /// end-of-contents octets are.
 pub fn answer(alloc: Global, answer: &mut Answer, words: &[&str]) {
-    match words {
-        ["named", name] => known(alloc, answer, named_tag(*name)),
-        ["of", class, number] => of_class(alloc, answer, *class, *number),
-        ["read", digits] => read(alloc, answer, *digits),
-        ["is-end", digits] => is_end(alloc, answer, *digits),
-        ["same", one, other] => answer.say(&(named_tag(*one) == named_tag(*other))),
-        _ => answer.unknown(),
+    let [call, word, others @ ..] = words else {
+        return answer.unknown();
+    };
+    match *call {
+        "named" => known(alloc, answer, named_tag(*word)),
+        "of" => of_class(alloc, answer, *word, word_at(others, 0)),
+        "read" => answer.show(&Tag::read(octets_of(alloc, *word).as_slice())),
+        "is-end" => answer.show(&Tag::is_end(octets_of(alloc, *word).as_slice())),
+        _ => answer.say(&(named_tag(*word) == named_tag(word_at(others, 0)))),
     }
 }
 
-// How many octets a length is, whether it is zero, and its octets.
-fn length_written(alloc: Global, answer: &mut Answer, length: u32) {
-    let length = Length::Definite(length as usize);
-    let mut octets: Vec<u8> = Vec::new(alloc);
-    let _ = length.write_encoded(&mut octets);
-    answer.say(&length.encoded_len());
-    answer.say(&length.is_zero());
-    answer.octets(octets.as_slice());
-}
-
-// How many octets an indefinite length is, whether it is zero, and its octets.
-fn indefinite_written(alloc: Global, answer: &mut Answer) {
-    let mut octets: Vec<u8> = Vec::new(alloc);
-    let _ = Length::Indefinite.write_encoded(&mut octets);
-    answer.say(&Length::Indefinite.encoded_len());
-    answer.say(&Length::Indefinite.is_zero());
-    answer.octets(octets.as_slice());
-}
-
-// The octets of the length of a word.
+// How many octets the length of a word is, whether it is zero, and its octets; it is indefinite where the word is no
+// number.
 fn length_of(alloc: Global, answer: &mut Answer, word: &str) {
+    let mut octets: Vec<u8> = Vec::new(alloc);
     match word.parse::<u32>() {
-        Ok(length) => length_written(alloc, answer, length),
-        Err(_) => indefinite_written(alloc, answer),
+        Ok(length) => {
+            let length = Length::Definite(length as usize);
+            let _ = length.write_encoded(&mut octets);
+            answer.say(&length.encoded_len());
+            answer.say(&length.is_zero());
+        }
+        Err(_) => {
+            let _ = Length::Indefinite.write_encoded(&mut octets);
+            answer.say(&Length::Indefinite.encoded_len());
+            answer.say(&Length::Indefinite.is_zero());
+        }
     }
-}
-
-fn read_length(alloc: Global, answer: &mut Answer, mode: &str, digits: &str) {
-    let octets = octets_of(alloc, digits);
-    answer.show(&Length::read(mode_of(mode), octets.as_slice()));
+    answer.octets(octets.as_slice());
 }
 
 /// Which length is in front of octets in a mode, and the octets of a length.
 pub fn length(alloc: Global, answer: &mut Answer, words: &[&str]) {
     match words {
-        ["read", mode, digits] => read_length(alloc, answer, *mode, *digits),
+        ["read", mode, digits] => {
+            let octets = octets_of(alloc, *digits);
+            answer.show(&Length::read(mode_of(*mode), octets.as_slice()));
+        }
         ["of", length] => length_of(alloc, answer, *length),
         _ => answer.unknown(),
     }

@@ -3,23 +3,19 @@
 //! `tests/bcder_answers.py` asks these of the Rust crate, too.
 
 use answers::{Answer, mode_of, octets_of};
-use bcder::decode::{Constructed, Decode, DecodeError, Primitive, SliceSource};
+use bcder::decode::{Constructed, Decode, DecodeError, SliceSource, Source};
 use bcder::string::{
     CharSet, Ia5CharSet, NumericCharSet, PrintableCharSet, RestrictedString, Utf8CharSet,
 };
-use bcder::{BitString, Integer, Mode, OctetString, Oid, Tag, Unsigned};
+use bcder::{BitString, Integer, OctetString, Oid, Tag, Unsigned};
 use std::alloc::Global;
-use std::convert::Infallible;
 use std::fmt::Display;
 
-/// Values of octets, of which those after what is read stay where they are.
-type Values<'a, 'b> = Constructed<&'a mut SliceSource<'b>>;
-
-/// How reading a value is refused.
-type Refusal = DecodeError<Infallible>;
-
 // Says a value that was read, as it prints itself.
-fn said<T: Display + Drop>(answer: &mut Answer, read: Result<T, Refusal>) -> Result<(), Refusal> {
+fn said<T: Display + Drop, E: Drop>(
+    answer: &mut Answer,
+    read: Result<T, DecodeError<E>>,
+) -> Result<(), DecodeError<E>> {
     match read {
         Ok(value) => {
             answer.say(&value);
@@ -30,36 +26,49 @@ fn said<T: Display + Drop>(answer: &mut Answer, read: Result<T, Refusal>) -> Res
 }
 
 // A number of one of Rust's types.
-fn number(answer: &mut Answer, kind: &str, cons: &mut Values<'_, '_>) -> Result<(), Refusal> {
+fn number<S: Source>(
+    answer: &mut Answer,
+    kind: &str,
+    cons: &mut Constructed<S>,
+) -> Result<(), DecodeError<S::Error>> {
     let tag = Tag::INTEGER;
     match kind {
-        "i8" => said(answer, cons.take_primitive_if(tag, Primitive::to_i8)),
-        "i64" => said(answer, cons.take_primitive_if(tag, Primitive::to_i64)),
-        "u8" => said(answer, cons.take_primitive_if(tag, Primitive::to_u8)),
-        "u64" => said(answer, cons.take_primitive_if(tag, Primitive::to_u64)),
-        _ => said(answer, cons.take_primitive_if(tag, Primitive::to_u128)),
+        "i8" => said(answer, cons.take_primitive_if(tag, |prim| prim.to_i8())),
+        "i64" => said(answer, cons.take_primitive_if(tag, |prim| prim.to_i64())),
+        "u8" => said(answer, cons.take_u8()),
+        "u64" => said(answer, cons.take_u64()),
+        _ => said(answer, cons.take_primitive_if(tag, |prim| prim.to_u128())),
     }
 }
 
-fn integer(alloc: Global, answer: &mut Answer, cons: &mut Values<'_, '_>) -> Result<(), Refusal> {
+// An INTEGER of any size: its octets.
+fn integer<S: Source>(
+    alloc: Global,
+    answer: &mut Answer,
+    cons: &mut Constructed<S>,
+) -> Result<(), DecodeError<S::Error>> {
     let number = Integer::take_from(alloc, cons)?;
     answer.octets(number.as_slice());
     Ok(())
 }
 
-fn natural(alloc: Global, answer: &mut Answer, cons: &mut Values<'_, '_>) -> Result<(), Refusal> {
+// An INTEGER from 0 up, of any size: its octets.
+fn natural<S: Source>(
+    alloc: Global,
+    answer: &mut Answer,
+    cons: &mut Constructed<S>,
+) -> Result<(), DecodeError<S::Error>> {
     let number = Unsigned::take_from(alloc, cons)?;
     answer.octets(number.as_slice());
     Ok(())
 }
 
-fn null(answer: &mut Answer, cons: &mut Values<'_, '_>) -> Result<(), Refusal> {
-    cons.take_null()?;
-    answer.word("null");
-    Ok(())
-}
-
-fn bits(alloc: Global, answer: &mut Answer, cons: &mut Values<'_, '_>) -> Result<(), Refusal> {
+// A bit string: how many bits are unused, and its octets where they are in one piece.
+fn bits<S: Source>(
+    alloc: Global,
+    answer: &mut Answer,
+    cons: &mut Constructed<S>,
+) -> Result<(), DecodeError<S::Error>> {
     let bits = BitString::take_from(alloc, cons)?;
     answer.say(&bits.unused());
     answer.join("/x");
@@ -67,23 +76,34 @@ fn bits(alloc: Global, answer: &mut Answer, cons: &mut Values<'_, '_>) -> Result
     Ok(())
 }
 
-fn octets(alloc: Global, answer: &mut Answer, cons: &mut Values<'_, '_>) -> Result<(), Refusal> {
+// An octet string: its octets where they are in one piece.
+fn octets<S: Source>(
+    alloc: Global,
+    answer: &mut Answer,
+    cons: &mut Constructed<S>,
+) -> Result<(), DecodeError<S::Error>> {
     let string = OctetString::take_from(alloc, cons)?;
     answer.octets(string.as_slice().unwrap_or(&[]));
     Ok(())
 }
 
-fn text<L: CharSet>(
+// A text of one character set: its octets where they are in one piece.
+fn text<L: CharSet, S: Source>(
     alloc: Global,
     answer: &mut Answer,
-    cons: &mut Values<'_, '_>,
-) -> Result<(), Refusal> {
+    cons: &mut Constructed<S>,
+) -> Result<(), DecodeError<S::Error>> {
     let string = RestrictedString::<L>::take_from(alloc, cons)?;
     answer.octets(string.as_slice().unwrap_or(&[]));
     Ok(())
 }
 
-fn skip(alloc: Global, answer: &mut Answer, cons: &mut Values<'_, '_>) -> Result<(), Refusal> {
+// A value that is skipped, or none.
+fn skip<S: Source>(
+    alloc: Global,
+    answer: &mut Answer,
+    cons: &mut Constructed<S>,
+) -> Result<(), DecodeError<S::Error>> {
     match cons.skip_one(alloc)? {
         Some(()) => answer.word("value"),
         None => answer.word("none"),
@@ -91,40 +111,49 @@ fn skip(alloc: Global, answer: &mut Answer, cons: &mut Values<'_, '_>) -> Result
     Ok(())
 }
 
-fn capture(alloc: Global, answer: &mut Answer, cons: &mut Values<'_, '_>) -> Result<(), Refusal> {
+// A value that is captured: its octets.
+fn capture<S: Source>(
+    alloc: Global,
+    answer: &mut Answer,
+    cons: &mut Constructed<S>,
+) -> Result<(), DecodeError<S::Error>> {
     let captured = cons.capture_one(alloc)?;
     answer.octets(captured.as_slice());
     Ok(())
 }
 
-// A text of a character set.
-fn string(
+// A text of a character set, or a number of one of Rust's types.
+fn string<S: Source>(
     alloc: Global,
     answer: &mut Answer,
     kind: &str,
-    cons: &mut Values<'_, '_>,
-) -> Result<(), Refusal> {
+    cons: &mut Constructed<S>,
+) -> Result<(), DecodeError<S::Error>> {
     match kind {
-        "utf8" => text::<Utf8CharSet>(alloc, answer, cons),
-        "numeric" => text::<NumericCharSet>(alloc, answer, cons),
-        "printable" => text::<PrintableCharSet>(alloc, answer, cons),
-        _ => text::<Ia5CharSet>(alloc, answer, cons),
+        "utf8" => text::<Utf8CharSet, S>(alloc, answer, cons),
+        "numeric" => text::<NumericCharSet, S>(alloc, answer, cons),
+        "printable" => text::<PrintableCharSet, S>(alloc, answer, cons),
+        "ia5" => text::<Ia5CharSet, S>(alloc, answer, cons),
+        _ => number(answer, kind, cons),
     }
 }
 
 // Says the value of a kind that is next.
-fn value(
+fn value<S: Source>(
     alloc: Global,
     answer: &mut Answer,
     kind: &str,
-    cons: &mut Values<'_, '_>,
-) -> Result<(), Refusal> {
+    cons: &mut Constructed<S>,
+) -> Result<(), DecodeError<S::Error>> {
     match kind {
-        "i8" | "i64" | "u8" | "u64" | "u128" => number(answer, kind, cons),
         "integer" => integer(alloc, answer, cons),
         "unsigned" => natural(alloc, answer, cons),
         "boolean" => said(answer, cons.take_bool()),
-        "null" => null(answer, cons),
+        "null" => {
+            cons.take_null()?;
+            answer.word("null");
+            Ok(())
+        }
         "oid" => said(answer, Oid::take_from(alloc, cons)),
         "bits" => bits(alloc, answer, cons),
         "octets" => octets(alloc, answer, cons),
@@ -134,27 +163,20 @@ fn value(
     }
 }
 
-// Says what is read of octets.
-fn read(alloc: Global, answer: &mut Answer, mode: Mode, kind: &str, octets: &[u8]) {
-    let mut source = SliceSource::new(octets);
+/// The value of a kind that stands in front of octets in a mode.
+pub fn answer(alloc: Global, answer: &mut Answer, words: &[&str]) {
+    let [mode, kind, digits] = words else {
+        return answer.unknown();
+    };
+    let octets = octets_of(alloc, *digits);
+    let mut source = SliceSource::new(octets.as_slice());
     let mut text = Answer::new(alloc);
-    match mode.decode(&mut source, |cons| value(alloc, &mut text, kind, cons)) {
+    match mode_of(*mode).decode(&mut source, |cons| value(alloc, &mut text, *kind, cons)) {
         Ok(()) => {
             answer.word("ok");
             answer.word(text.text());
             answer.say(&source.len());
         }
         Err(error) => answer.refuse(error),
-    }
-}
-
-/// The value of a kind that stands in front of octets in a mode.
-pub fn answer(alloc: Global, answer: &mut Answer, words: &[&str]) {
-    match words {
-        [mode, kind, digits] => {
-            let octets = octets_of(alloc, *digits);
-            read(alloc, answer, mode_of(*mode), *kind, octets.as_slice());
-        }
-        _ => answer.unknown(),
     }
 }

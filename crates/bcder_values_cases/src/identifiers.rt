@@ -1,18 +1,11 @@
 //! Object identifiers.
 
 use crate::orders::hashed;
-use answers::{Answer, mode_of, octets_of};
-use bcder::decode::{Constructed, Decode, DecodeError, Primitive, SliceSource};
+use answers::{Answer, mode_of, octets_of, word_at};
+use bcder::decode::{Decode, Primitive};
 use bcder::oid::ParseOidError;
 use bcder::{ConstOid, Mode, Oid};
 use std::alloc::Global;
-use std::convert::Infallible;
-
-type Values<'a> = Constructed<SliceSource<'a>>;
-
-type Content<'a> = Primitive<SliceSource<'a>>;
-
-type Refusal = DecodeError<Infallible>;
 
 // 2.5.4.3 (X.520).
 const COMMON_NAME: ConstOid = Oid(&[0x55, 4, 3]);
@@ -60,31 +53,19 @@ fn same(answer: &mut Answer, octets: &[u8]) {
     ]);
 }
 
-// Whether the identifier that is next is that of a common name.
-fn take(alloc: Global, cons: &mut Values<'_>) -> Result<bool, Refusal> {
-    let oid = Oid::take_from(alloc, cons)?;
-    Ok(COMMON_NAME.equals(&oid))
-}
-
-// Whether a content is the identifier of a common name.
-fn take_content(alloc: Global, prim: &mut Content<'_>) -> Result<bool, Refusal> {
-    let oid = Oid::from_primitive(alloc, prim)?;
-    Ok(COMMON_NAME.equals(&oid))
-}
-
-// Whether an identifier was next that is skipped, and whether another was after it.
-fn opt(alloc: Global, cons: &mut Values<'_>) -> Result<(Option<()>, bool), Refusal> {
-    let skipped = Oid::skip_opt_in(cons)?;
-    let taken = Oid::take_opt_from(alloc, cons)?;
-    Ok((skipped, taken.is_some()))
-}
-
 // How reading an identifier is answered in one way.
 fn read(alloc: Global, answer: &mut Answer, mode: Mode, octets: &[u8], call: &str) {
     match call {
-        "take" => answer.outcome(mode.decode(octets, |cons| take(alloc, cons))),
+        "take" => answer.outcome(mode.decode(octets, |cons| {
+            let oid = Oid::take_from(alloc, cons)?;
+            Ok(COMMON_NAME.equals(&oid))
+        })),
         "skip" => answer.outcome(mode.decode(octets, Oid::skip_in)),
-        "opt" => answer.outcome(mode.decode(octets, |cons| opt(alloc, cons))),
+        "opt" => answer.outcome(mode.decode(octets, |cons| {
+            let skipped = Oid::skip_opt_in(cons)?;
+            let taken = Oid::take_opt_from(alloc, cons)?;
+            Ok((skipped, taken.is_some()))
+        })),
         "name" => answer.outcome(mode.decode(octets, |cons| COMMON_NAME.skip_if(cons))),
         _ => read_content(alloc, answer, mode, octets, call),
     }
@@ -93,46 +74,42 @@ fn read(alloc: Global, answer: &mut Answer, mode: Mode, octets: &[u8], call: &st
 // How reading a content is answered in one way.
 fn read_content(alloc: Global, answer: &mut Answer, mode: Mode, octets: &[u8], call: &str) {
     match call {
-        "content" => {
-            answer.outcome(Primitive::decode_slice(octets, mode, |prim| take_content(alloc, prim)))
-        }
+        "content" => answer.outcome(Primitive::decode_slice(octets, mode, |prim| {
+            let oid = Oid::from_primitive(alloc, prim)?;
+            Ok(COMMON_NAME.equals(&oid))
+        })),
         _ => answer.outcome(Primitive::decode_slice(octets, mode, Oid::skip_primitive)),
     }
 }
 
 // The errors of texts, printed.
 fn errors(answer: &mut Answer) {
-    for error in [
-        ParseOidError::TooFew,
-        ParseOidError::Component,
-        ParseOidError::First,
-        ParseOidError::Second,
-    ] {
-        answer.say(&error);
-        answer.join(";");
-    }
+    answer.say(&ParseOidError::TooFew);
+    answer.join(";");
+    answer.say(&ParseOidError::Component);
+    answer.join(";");
+    answer.say(&ParseOidError::First);
+    answer.join(";");
+    answer.say(&ParseOidError::Second);
+    answer.join(";");
     answer.say(&ParseOidError::Memory);
-}
-
-// What octets are as an identifier.
-fn of_octets(answer: &mut Answer, call: &str, octets: &[u8]) {
-    match call {
-        "print" => printed(answer, octets),
-        "repeated" => repeated(answer, octets),
-        _ => same(answer, octets),
-    }
 }
 
 /// The octets of a text, what is printed of octets, and how octets are read.
 pub fn answer(alloc: Global, answer: &mut Answer, words: &[&str]) {
-    match words {
-        ["parse", text] => parsed(alloc, answer, *text),
-        ["errors"] => errors(answer),
-        [call, digits] => of_octets(answer, *call, octets_of(alloc, *digits).as_slice()),
-        [call, mode, digits] => {
-            let octets = octets_of(alloc, *digits);
-            read(alloc, answer, mode_of(*mode), octets.as_slice(), *call);
+    let [call, words @ ..] = words else {
+        return answer.unknown();
+    };
+    let word = word_at(words, 0);
+    match *call {
+        "parse" => parsed(alloc, answer, word),
+        "errors" => errors(answer),
+        "print" => printed(answer, octets_of(alloc, word).as_slice()),
+        "repeated" => repeated(answer, octets_of(alloc, word).as_slice()),
+        "same" => same(answer, octets_of(alloc, word).as_slice()),
+        _ => {
+            let octets = octets_of(alloc, word_at(words, 1));
+            read(alloc, answer, mode_of(word), octets.as_slice(), *call);
         }
-        _ => answer.unknown(),
     }
 }

@@ -1,8 +1,7 @@
 //! INTEGERs of any size.
 
-use crate::numbers::{KINDS, Kind};
 use crate::orders::sign;
-use answers::{Answer, octets_of};
+use answers::{Answer, octets_of, word_at};
 use bcder::decode::{DecodeError, Primitive};
 use bcder::int::{InvalidInteger, OverflowError};
 use bcder::{Integer, Mode, Unsigned};
@@ -23,36 +22,20 @@ fn number_of(alloc: Global, word: &str) -> Result<Integer, DecodeError<Infallibl
     number(alloc, octets_of(alloc, word).as_slice())
 }
 
-// The number as one of Rust's types.
-fn converted(answer: &mut Answer, number: &Integer, kind: Kind) {
-    match kind {
-        Kind::U8 => answer.show(&number.to_u8().ok()),
-        Kind::U16 => answer.show(&number.to_u16().ok()),
-        Kind::U32 => answer.show(&number.to_u32().ok()),
-        Kind::U64 => answer.show(&number.to_u64().ok()),
-        Kind::U128 => answer.show(&number.to_u128().ok()),
-        Kind::I8 => answer.show(&number.to_i8().ok()),
-        Kind::I16 => answer.show(&number.to_i16().ok()),
-        Kind::I32 => answer.show(&number.to_i32().ok()),
-        Kind::I64 => answer.show(&number.to_i64().ok()),
-        _ => answer.show(&number.to_i128().ok()),
-    }
-}
-
-// The octets of a number, its sign, and what it is as each type.
+// The octets of a number, its sign, and what it is as each of Rust's types.
 fn known(answer: &mut Answer, number: &Integer) {
     answer.octets(number.as_bytes().as_slice());
     answer.show(&[number.is_negative(), number.is_zero(), number.is_positive()]);
-    for kind in &KINDS {
-        converted(answer, number, *kind);
-    }
-}
-
-fn read(alloc: Global, answer: &mut Answer, word: &str) {
-    match number_of(alloc, word) {
-        Ok(number) => known(answer, &number),
-        Err(error) => answer.refuse(error),
-    }
+    answer.show(&number.to_u8().ok());
+    answer.show(&number.to_u16().ok());
+    answer.show(&number.to_u32().ok());
+    answer.show(&number.to_u64().ok());
+    answer.show(&number.to_u128().ok());
+    answer.show(&number.to_i8().ok());
+    answer.show(&number.to_i16().ok());
+    answer.show(&number.to_i32().ok());
+    answer.show(&number.to_i64().ok());
+    answer.show(&number.to_i128().ok());
 }
 
 // The number of a text, as one of Rust's types; 0 where the text is none.
@@ -67,6 +50,7 @@ fn made(alloc: Global, kind: &str, number: &str) -> Result<Integer, AllocError> 
     }
 }
 
+// The number of a text, as one of Rust's signed types; 0 where the text is none.
 fn made_signed(alloc: Global, kind: &str, number: &str) -> Result<Integer, AllocError> {
     match kind {
         "i8" => Integer::from_i8(alloc, number.parse::<i8>().unwrap_or(0)),
@@ -77,6 +61,7 @@ fn made_signed(alloc: Global, kind: &str, number: &str) -> Result<Integer, Alloc
     }
 }
 
+// What is known of the number of a text.
 fn from(alloc: Global, answer: &mut Answer, kind: &str, number: &str) {
     match made(alloc, kind, number) {
         Ok(number) => known(answer, &number),
@@ -95,54 +80,44 @@ fn numbers(alloc: Global, words: &[&str]) -> Vec<Integer> {
     numbers
 }
 
-// How a number stands to each of some.
-fn order_of(answer: &mut Answer, one: &Integer, numbers: &[Integer]) {
-    for other in numbers {
-        answer.join(sign(one, other));
-    }
-}
-
 // How each of some numbers stands to each.
 fn order(answer: &mut Answer, numbers: &[Integer]) {
     for one in numbers {
-        order_of(answer, one, numbers);
+        for other in numbers {
+            answer.join(sign(one, other));
+        }
     }
 }
 
 // The octets of a copy of a number, and how it stands to the number.
-fn copy_of(answer: &mut Answer, number: &Integer, copy: Integer) {
-    let order = copy.partial_cmp(number);
-    answer.octets(copy.into_bytes().as_slice());
-    answer.show(&order);
-}
-
 fn copied(answer: &mut Answer, number: &Integer) {
     match number.clone() {
-        Ok(copy) => copy_of(answer, number, copy),
+        Ok(copy) => {
+            let order = copy.partial_cmp(number);
+            answer.octets(copy.into_bytes().as_slice());
+            answer.show(&order);
+        }
         Err(_) => answer.word("memory"),
     }
 }
 
-fn read_copied(alloc: Global, answer: &mut Answer, word: &str) {
+// What is known of the number with octets, or of its copy.
+fn read(alloc: Global, answer: &mut Answer, call: &str, word: &str) {
     match number_of(alloc, word) {
+        Ok(number) if call == "read" => known(answer, &number),
         Ok(number) => copied(answer, &number),
         Err(error) => answer.refuse(error),
     }
 }
 
-// Whether a number is one from 0 up.
-fn equals_number(answer: &mut Answer, one: &Integer, other: &Unsigned) {
-    answer.say(&one.equals_unsigned(other));
-}
-
+// Whether a number is another one, which is from 0 up.
 fn equals(alloc: Global, answer: &mut Answer, one: &str, other: &str) {
-    let other = octets_of(alloc, other);
-    match (
-        number_of(alloc, one),
-        Unsigned::from_slice(alloc, other.as_slice()),
-    ) {
-        (Ok(one), Ok(other)) => equals_number(answer, &one, &other),
-        _ => answer.word("refused"),
+    let Ok(one) = number_of(alloc, one) else {
+        return answer.word("refused");
+    };
+    match Unsigned::from_slice(alloc, octets_of(alloc, other).as_slice()) {
+        Ok(other) => answer.say(&one.equals_unsigned(&other)),
+        Err(_) => answer.word("refused"),
     }
 }
 
@@ -157,13 +132,16 @@ fn errors(answer: &mut Answer) {
 
 /// What is known of the number with octets, or of Rust's types; how numbers stand to each other.
 pub fn answer(alloc: Global, answer: &mut Answer, words: &[&str]) {
-    match words {
-        ["read", digits] => read(alloc, answer, *digits),
-        ["copied", digits] => read_copied(alloc, answer, *digits),
-        ["from", kind, number] => from(alloc, answer, *kind, *number),
-        ["equals", one, other] => equals(alloc, answer, *one, *other),
-        ["order", others @ ..] => order(answer, numbers(alloc, others).as_slice()),
-        ["errors"] => errors(answer),
+    let [call, words @ ..] = words else {
+        return answer.unknown();
+    };
+    let (word, other) = (word_at(words, 0), word_at(words, 1));
+    match *call {
+        "read" | "copied" => read(alloc, answer, *call, word),
+        "from" => from(alloc, answer, word, other),
+        "equals" => equals(alloc, answer, word, other),
+        "order" => order(answer, numbers(alloc, words).as_slice()),
+        "errors" => errors(answer),
         _ => answer.unknown(),
     }
 }

@@ -1,37 +1,43 @@
-//! Questions about values, numbers, identifiers and strings, as data: a line of words with tabs between is a question,
-//! and a line of output its answer. `tests/bcder_cases.py` writes both, by its own means.
+//! Questions about values, numbers of any size, identifiers and strings, and about what the codec writes, as data: a
+//! line of words with tabs between is a question, and a line of output its answer. `tests/bcder_cases.py` writes both,
+//! by its own means.
 #![tactic(auto)]
 
-mod bits;
+mod encoders;
 mod front;
 mod identifiers;
 mod integers;
+mod lists;
 mod naturals;
-mod numbers;
 mod octets;
 mod orders;
 mod strings;
 mod texts;
+mod to;
+mod walks;
+mod writing;
 
-use answers::{Answer, Questions, answer_lines};
+use answers::{Answer, Questions, answer_lines, unknown};
 use anyhow::Result;
 use std::alloc::Global;
 
-// What is asked about values.
+// What is asked about values, and about what is written.
 struct CodecValues;
 
 impl Questions for CodecValues {
     fn answer(&self, alloc: Global, answer: &mut Answer, words: &[&str]) -> Result<()> {
-        match words {
-            ["front", words @ ..] => front::answer(alloc, answer, words),
-            ["number", words @ ..] => numbers::answer(alloc, answer, words),
-            ["integer", words @ ..] => integers::answer(alloc, answer, words),
-            ["unsigned", words @ ..] => naturals::answer(alloc, answer, words),
-            ["oid", words @ ..] => identifiers::answer(alloc, answer, words),
-            ["bits", words @ ..] => bits::answer(alloc, answer, words),
-            ["octets", words @ ..] => octets::answer(alloc, answer, words),
-            ["text", words @ ..] => texts::answer(alloc, answer, words),
-            ["string", words @ ..] => strings::answer(alloc, answer, words),
+        let [topic, words @ ..] = words else {
+            return unknown();
+        };
+        match *topic {
+            "front" => front::answer(alloc, answer, words),
+            "integer" => integers::answer(alloc, answer, words),
+            "unsigned" => naturals::answer(alloc, answer, words),
+            "oid" => identifiers::answer(alloc, answer, words),
+            "octets" => octets::answer(alloc, answer, words),
+            "text" => texts::answer(alloc, answer, words),
+            "string" => strings::answer(alloc, answer, words),
+            "write" => writing::answer(alloc, answer, words),
             _ => answer.unknown(),
         }
         Ok(())

@@ -1,36 +1,27 @@
 //! INTEGERs from 0 up, of any size.
 
 use crate::integers::number;
-use crate::numbers::{KINDS, Kind};
-use crate::orders::sign;
-use answers::{Answer, octets_of};
+use crate::orders::order;
+use answers::{Answer, octets_of, word_at};
 use bcder::decode::Primitive;
 use bcder::{Integer, Mode, Unsigned};
 use bytes::Bytes;
 use std::alloc::{AllocError, Global};
 use std::fmt::Debug;
 
-// The number as one of Rust's types.
-fn converted(answer: &mut Answer, number: &Unsigned, kind: Kind) {
-    match kind {
-        Kind::U8 => answer.show(&number.to_u8().ok()),
-        Kind::U16 => answer.show(&number.to_u16().ok()),
-        Kind::U32 => answer.show(&number.to_u32().ok()),
-        Kind::U64 => answer.show(&number.to_u64().ok()),
-        Kind::U128 => answer.show(&number.to_u128().ok()),
-        _ => answer.show(&()),
-    }
-}
-
-// The octets of a number, whether it is 0, and what it is as each type.
+// The octets of a number, whether it is 0, and what it is as each of Rust's types; it is asked for none that is signed.
 fn known(answer: &mut Answer, number: &Unsigned) {
     answer.octets(number.as_slice());
     answer.say(&number.is_zero());
-    for kind in &KINDS {
-        converted(answer, number, *kind);
-    }
+    answer.show(&number.to_u8().ok());
+    answer.show(&number.to_u16().ok());
+    answer.show(&number.to_u32().ok());
+    answer.show(&number.to_u64().ok());
+    answer.show(&number.to_u128().ok());
+    answer.word("() () () () ()");
 }
 
+// What is known of the number that is read of octets.
 fn read(alloc: Global, answer: &mut Answer, octets: &[u8]) {
     let read = Primitive::decode_slice(
         octets,
@@ -62,26 +53,11 @@ fn made(alloc: Global, kind: &str, number: &str) -> Result<Unsigned, AllocError>
     }
 }
 
+// What is known of the number of a text.
 fn from(alloc: Global, answer: &mut Answer, kind: &str, number: &str) {
     match made(alloc, kind, number) {
         Ok(number) => known(answer, &number),
         Err(_) => answer.word("memory"),
-    }
-}
-
-// How two numbers stand to each other.
-fn compared(answer: &mut Answer, one: &Unsigned, other: &Unsigned) {
-    answer.word(sign(one, other));
-    answer.show(&one.partial_cmp(other));
-}
-
-fn order(alloc: Global, answer: &mut Answer, one: &[u8], other: &[u8]) {
-    match (
-        Unsigned::from_slice(alloc, one),
-        Unsigned::from_slice(alloc, other),
-    ) {
-        (Ok(one), Ok(other)) => compared(answer, &one, &other),
-        _ => answer.word("refused"),
     }
 }
 
@@ -109,6 +85,7 @@ fn copied(answer: &mut Answer, number: Unsigned) {
     }
 }
 
+// What copies of the number with octets are.
 fn read_copied(alloc: Global, answer: &mut Answer, octets: &[u8]) {
     match Unsigned::from_slice(alloc, octets) {
         Ok(number) => copied(answer, number),
@@ -132,30 +109,24 @@ fn of_integer(alloc: Global, answer: &mut Answer, octets: &[u8]) {
     }
 }
 
-// What a call makes of octets.
-fn of_octets(alloc: Global, answer: &mut Answer, call: &str, octets: &[u8]) {
-    match call {
+/// What is known of the number with octets, or of one of Rust's types; how two stand to each other.
+pub fn answer(alloc: Global, answer: &mut Answer, words: &[&str]) {
+    let [call, word, others @ ..] = words else {
+        return answer.unknown();
+    };
+    let octets = octets_of(alloc, *word);
+    let octets = octets.as_slice();
+    match *call {
         "read" => read(alloc, answer, octets),
         "slice" => taken(answer, Unsigned::from_slice(alloc, octets)),
         "bytes" => of_bytes(alloc, answer, octets),
         "copied" => read_copied(alloc, answer, octets),
         "integer" => of_integer(alloc, answer, octets),
-        _ => answer.unknown(),
-    }
-}
-
-/// What is known of the number with octets, or of one of Rust's types; how two stand to each other.
-pub fn answer(alloc: Global, answer: &mut Answer, words: &[&str]) {
-    match words {
-        ["from", kind, number] => from(alloc, answer, *kind, *number),
-        ["order", one, other] => {
-            let (one, other) = (octets_of(alloc, *one), octets_of(alloc, *other));
-            order(alloc, answer, one.as_slice(), other.as_slice());
+        "order" => {
+            let others = octets_of(alloc, word_at(others, 0));
+            let other = Unsigned::from_slice(alloc, others.as_slice());
+            order(answer, Unsigned::from_slice(alloc, octets), other);
         }
-        [call, digits] => {
-            let octets = octets_of(alloc, *digits);
-            of_octets(alloc, answer, *call, octets.as_slice());
-        }
-        _ => answer.unknown(),
+        _ => from(alloc, answer, *word, word_at(others, 0)),
     }
 }

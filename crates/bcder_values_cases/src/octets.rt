@@ -7,86 +7,49 @@ use answers::{Answer, mode_of, octets_of};
 use bcder::decode::{Constructed, Content, Decode, DecodeError, SliceSource};
 use bcder::{Mode, OctetString, Tag};
 use bytes::Bytes;
-use std::alloc::{AllocError, Global};
+use std::alloc::Global;
 use std::convert::Infallible;
 
 type Values<'a> = Constructed<SliceSource<'a>>;
 
 type Refusal = DecodeError<Infallible>;
 
-/// The string of these octets.
-pub fn string(alloc: Global, octets: &[u8]) -> Result<OctetString, AllocError> {
-    Ok(OctetString::new(Bytes::copy_from_slice(alloc, octets)?))
+/// The string of these octets; an empty one where there is no memory.
+pub fn string(alloc: Global, octets: &[u8]) -> OctetString {
+    OctetString::new(Bytes::copy_from_slice(alloc, octets).unwrap_or(Bytes::new()))
 }
 
-// The string that is next, or an empty one where none is.
-fn take_opt(alloc: Global, cons: &mut Values<'_>) -> Result<OctetString, Refusal> {
-    Ok(OctetString::take_opt_from(alloc, cons)?.unwrap_or(OctetString::default()))
-}
-
-// The string with the tag [0] in place of its own.
-fn implicit(alloc: Global, cons: &mut Values<'_>) -> Result<OctetString, Refusal> {
-    cons.take_value_if(
-        Tag::CTX_0,
-        |content|
-            ensures { SameContent content.old content.new }
-        { OctetString::from_content(alloc, content) },
-    )
-}
-
-// The string that is next, or where it may be missing, or with another tag.
+// The string that is next, with the tag [0] in place of its own, or where it may be missing: an empty one then.
 fn take(alloc: Global, cons: &mut Values<'_>, call: &str) -> Result<OctetString, Refusal> {
     match call {
-        "opt" => take_opt(alloc, cons),
-        "implicit" => implicit(alloc, cons),
+        "opt" => Ok(OctetString::take_opt_from(alloc, cons)?.unwrap_or(OctetString::default())),
+        "implicit" => cons.take_value_if(
+            Tag::CTX_0,
+            |content|
+                ensures { SameContent content.old content.new }
+            { OctetString::from_content(alloc, content) },
+        ),
         _ => OctetString::take_from(alloc, cons),
     }
 }
 
-// The pieces of a string, joined.
-fn joined(answer: &mut Answer, string: &OctetString) {
-    answer.word("x");
-    for piece in string.iter() {
-        answer.join_octets(piece);
-    }
-}
-
-// Whether a string is the octets that it gives one by one.
-fn one_by_one(alloc: Global, answer: &mut Answer, string: &OctetString) {
-    let octets: Result<Vec<u8>, AllocError> = string.octets().collect(alloc);
-    match octets {
-        Ok(octets) => answer.say(&string.is_slice(octets.as_slice())),
-        Err(_) => answer.word("memory"),
-    }
-}
-
-// The octets of a string, shared.
-fn shared(alloc: Global, answer: &mut Answer, string: &OctetString) {
-    match string.to_bytes(alloc) {
-        Ok(bytes) => answer.octets(bytes.as_slice()),
-        Err(_) => answer.word("memory"),
-    }
-}
-
-// The octets of a copy of a string.
-fn kept(answer: &mut Answer, string: &OctetString) {
-    match string.clone() {
-        Ok(copy) => answer.octets(copy.into_bytes().as_slice()),
-        Err(_) => answer.word("memory"),
-    }
-}
-
-// What is known of a string.
+// What is known of a string: its size, and its octets at once, piece by piece, one by one, shared, and of a copy.
 fn known(alloc: Global, answer: &mut Answer, string: &OctetString) {
     answer.say(&string.len());
     answer.say(&string.is_empty());
     answer.octets(string.as_slice().unwrap_or(&[]));
-    joined(answer, string);
-    one_by_one(alloc, answer, string);
-    shared(alloc, answer, string);
-    kept(answer, string);
+    answer.word("x");
+    for piece in string.iter() {
+        answer.join_octets(piece);
+    }
+    let octets: Vec<u8> = string.octets().collect(alloc).unwrap_or(Vec::new(alloc));
+    answer.say(&string.is_slice(octets.as_slice()));
+    answer.octets(string.to_bytes(alloc).unwrap_or(Bytes::new()).as_slice());
+    let copy = string.clone().unwrap_or(OctetString::default());
+    answer.octets(copy.into_bytes().as_slice());
 }
 
+// What is known of a string that is read of octets by a call.
 fn read(alloc: Global, answer: &mut Answer, mode: Mode, octets: &[u8], call: &str) {
     match mode.decode(octets, |cons| take(alloc, cons, call)) {
         Ok(string) => known(alloc, answer, &string),
@@ -112,34 +75,19 @@ fn next_and_rest(alloc: Global, cons: &mut Values<'_>) -> Result<(), Refusal> {
     )
 }
 
-// Whether what is left of a content is read after a string.
-fn goes_on(alloc: Global, answer: &mut Answer, mode: Mode, octets: &[u8]) {
-    answer.outcome(mode.decode(octets, |cons| next_and_rest(alloc, cons)));
-}
-
-// How two strings stand to each other.
-fn order(alloc: Global, answer: &mut Answer, one: &[u8], other: &[u8]) {
-    match (string(alloc, one), string(alloc, other)) {
-        (Ok(one), Ok(other)) => answer.word(sign(&one, &other)),
-        _ => answer.word("memory"),
-    }
-}
-
 /// What is known of an octet string in front of octets, and how two stand to each other.
 pub fn answer(alloc: Global, answer: &mut Answer, words: &[&str]) {
-    match words {
-        ["order", one, other] => {
-            let (one, other) = (octets_of(alloc, *one), octets_of(alloc, *other));
-            order(alloc, answer, one.as_slice(), other.as_slice());
+    let [call, word, digits] = words else {
+        return answer.unknown();
+    };
+    let octets = octets_of(alloc, *digits);
+    let (octets, mode) = (octets.as_slice(), mode_of(*word));
+    match *call {
+        "order" => {
+            let one = string(alloc, octets_of(alloc, *word).as_slice());
+            answer.word(sign(&one, &string(alloc, octets)));
         }
-        ["goes-on", mode, digits] => {
-            let octets = octets_of(alloc, *digits);
-            goes_on(alloc, answer, mode_of(*mode), octets.as_slice());
-        }
-        [call, mode, digits] => {
-            let octets = octets_of(alloc, *digits);
-            read(alloc, answer, mode_of(*mode), octets.as_slice(), *call);
-        }
-        _ => answer.unknown(),
+        "goes-on" => answer.outcome(mode.decode(octets, |cons| next_and_rest(alloc, cons))),
+        _ => read(alloc, answer, mode, octets, *call),
     }
 }

@@ -1,5 +1,6 @@
 //! How two values of a type stand to each other.
 
+use answers::Answer;
 use std::cmp::Ordering;
 use std::hash::{DefaultHasher, Hash, Hasher};
 
@@ -18,5 +19,20 @@ pub fn sign<T: Ord + Hash>(one: &T, other: &T) -> &'static str {
         (Ordering::Greater, false, false) => ">",
         (Ordering::Equal, true, true) => "=",
         _ => "?",
+    }
+}
+
+/// How two values that were made stand to each other, or that one wasn't made.
+pub fn order<T: Ord + Hash + Drop, E: Drop>(
+    answer: &mut Answer,
+    one: Result<T, E>,
+    other: Result<T, E>,
+) {
+    match (one, other) {
+        (Ok(one), Ok(other)) => {
+            answer.word(sign(&one, &other));
+            answer.show(&one.partial_cmp(&other));
+        }
+        _ => answer.word("refused"),
     }
 }

@@ -6,8 +6,8 @@ use bcder::string::{
 };
 use std::alloc::Global;
 
-// The characters in front of octets, and whether there is a next one that is refused.
-fn front<C: CharSet>(alloc: Global, answer: &mut Answer, octets: &[u8]) {
+// The characters in front of octets, whether there is a next one that is refused, and whether the octets are a text.
+fn chars<C: CharSet>(alloc: Global, answer: &mut Answer, octets: &[u8]) {
     let mut chars = Vec::new(alloc);
     let mut rest = octets;
     for _ in 0..octets.len() {
@@ -19,11 +19,6 @@ fn front<C: CharSet>(alloc: Global, answer: &mut Answer, octets: &[u8]) {
     }
     answer.show(&chars);
     answer.say(&C::next_char(rest).is_err());
-}
-
-// The characters of octets, and whether they are a text.
-fn chars<C: CharSet>(alloc: Global, answer: &mut Answer, octets: &[u8]) {
-    front::<C>(alloc, answer, octets);
     answer.say(&C::check(octets).is_ok());
 }
 
@@ -35,28 +30,27 @@ fn spelled<C: CharSet>(answer: &mut Answer, text: &str) {
     }
 }
 
-// The tag of a set's strings, and the text of its refusals.
-fn texts<C: CharSet>(answer: &mut Answer) {
-    answer.say(&C::tag());
-    answer.say(&CharSetError);
-}
-
-// The answer of a set.
+// The answer of a set: about octets or a text, or the tag of its strings and the text of its refusals.
 fn of_set<C: CharSet>(alloc: Global, answer: &mut Answer, call: &str, word: &str) {
     match call {
         "chars" => chars::<C>(alloc, answer, octets_of(alloc, word).as_slice()),
         "spelled" => spelled::<C>(answer, word),
-        _ => texts::<C>(answer),
+        _ => {
+            answer.say(&C::tag());
+            answer.say(&CharSetError);
+        }
     }
 }
 
 /// What octets and texts are to a character set.
 pub fn answer(alloc: Global, answer: &mut Answer, words: &[&str]) {
-    match words {
-        ["utf8", call, word] => of_set::<Utf8CharSet>(alloc, answer, *call, *word),
-        ["numeric", call, word] => of_set::<NumericCharSet>(alloc, answer, *call, *word),
-        ["printable", call, word] => of_set::<PrintableCharSet>(alloc, answer, *call, *word),
-        ["ia5", call, word] => of_set::<Ia5CharSet>(alloc, answer, *call, *word),
-        _ => answer.unknown(),
+    let [set, call, word] = words else {
+        return answer.unknown();
+    };
+    match *set {
+        "utf8" => of_set::<Utf8CharSet>(alloc, answer, *call, *word),
+        "numeric" => of_set::<NumericCharSet>(alloc, answer, *call, *word),
+        "printable" => of_set::<PrintableCharSet>(alloc, answer, *call, *word),
+        _ => of_set::<Ia5CharSet>(alloc, answer, *call, *word),
     }
 }

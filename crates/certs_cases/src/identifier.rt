@@ -1,22 +1,19 @@
 //! Questions about keys' identifiers: what is asked, the mode, and octets in hexadecimal digits.
 
-use crate::values::{bytes_of, found, tell, write};
-use answers::{Answer, mode_of, unknown};
+use crate::values::{bytes_of, found, order, tell, write};
+use answers::{Answer, mode_of, unknown, word_at};
 use anyhow::{Result, anyhow};
 use bcder::decode::{Constructed, Decode, DecodeError, Source};
 use bcder::{Mode, Tag};
-use bytes::Bytes;
 use certs_x509::KeyIdentifier;
 use std::alloc::Global;
 
 // An identifier with its own tag.
-fn own(alloc: Global, mode: Mode, octets: Bytes) -> Result<KeyIdentifier> {
-    found(mode.decode(octets, |cons| KeyIdentifier::take_from(alloc, cons)))
-}
-
-// The value of a word's octets, in BER.
-fn of_word(alloc: Global, digits: &str) -> Result<KeyIdentifier> {
-    own(alloc, Mode::Ber, bytes_of(alloc, digits)?)
+fn own(alloc: Global, mode: Mode, digits: &str) -> Result<KeyIdentifier> {
+    found(mode.decode(
+        bytes_of(alloc, digits)?,
+        |cons| KeyIdentifier::take_from(alloc, cons),
+    ))
 }
 
 // An identifier with the tag [0].
@@ -30,49 +27,51 @@ fn take_tagged<S: Source>(
     )
 }
 
-fn tagged(alloc: Global, mode: Mode, octets: Bytes) -> Result<KeyIdentifier> {
-    found(mode.decode(octets, |cons| take_tagged(alloc, cons)))
-}
-
-fn of_slice(answer: &mut Answer, octets: &[u8]) -> Result<()> {
+/// The identifier that octets are.
+pub fn identifier_of(octets: &[u8]) -> Result<KeyIdentifier> {
     match KeyIdentifier::from_slice(octets) {
-        Some(identifier) => {
-            tell(answer, identifier.as_slice());
-            Ok(())
-        }
+        Some(identifier) => Ok(identifier),
         None => Err(anyhow!("no identifier")),
     }
 }
 
-// What is written of an identifier, with its own tag and with another.
-fn written(alloc: Global, answer: &mut Answer, mode: Mode, digits: &str) -> Result<()> {
-    let identifier = of_word(alloc, digits)?;
-    write(alloc, answer, &identifier.encode_ref(), mode)?;
-    write(alloc, answer, &identifier.encode_ref_as(Tag::CTX_0), mode)
-}
-
-fn order(alloc: Global, answer: &mut Answer, one: &str, other: &str) -> Result<()> {
-    let one = of_word(alloc, one)?;
-    let other = of_word(alloc, other)?;
-    answer.show(&one.cmp(&other));
-    answer.say(&(one == other));
+// What is asked of the identifiers of words, in a mode or in BER.
+fn of_words(alloc: Global, answer: &mut Answer, kind: &str, one: &str, other: &str) -> Result<()> {
+    match kind {
+        "read" => answer.say(&own(alloc, mode_of(one), other)?),
+        "write" => {
+            let identifier = own(alloc, Mode::Ber, other)?;
+            write(alloc, answer, &identifier.encode_ref(), mode_of(one))?;
+            write(
+                alloc,
+                answer,
+                &identifier.encode_ref_as(Tag::CTX_0),
+                mode_of(one),
+            )?;
+        }
+        "order" => order(
+            answer,
+            &own(alloc, Mode::Ber, one)?,
+            &own(alloc, Mode::Ber, other)?,
+        ),
+        _ => return unknown(),
+    }
     Ok(())
 }
 
 /// Answers a question about identifiers.
 pub fn answer(alloc: Global, answer: &mut Answer, words: &[&str]) -> Result<()> {
-    match words {
-        ["read", mode, digits] => {
-            answer.say(&own(alloc, mode_of(*mode), bytes_of(alloc, *digits)?)?);
-            Ok(())
+    let (one, other) = (word_at(words, 1), word_at(words, 2));
+    match word_at(words, 0) {
+        "tagged" => {
+            let octets = bytes_of(alloc, other)?;
+            answer.say(&found(mode_of(one).decode(octets, |cons| take_tagged(alloc, cons)))?);
         }
-        ["tagged", mode, digits] => {
-            answer.say(&tagged(alloc, mode_of(*mode), bytes_of(alloc, *digits)?)?);
-            Ok(())
-        }
-        ["slice", digits] => of_slice(answer, bytes_of(alloc, *digits)?.as_slice()),
-        ["write", mode, digits] => written(alloc, answer, mode_of(*mode), *digits),
-        ["order", one, other] => order(alloc, answer, *one, *other),
-        _ => unknown(),
+        "slice" => tell(
+            answer,
+            identifier_of(bytes_of(alloc, one)?.as_slice())?.as_slice(),
+        ),
+        kind => return of_words(alloc, answer, kind, one, other),
     }
+    Ok(())
 }

@@ -1,5 +1,5 @@
-//! Questions about the parts of certificates, as data: each line of standard input asks one, by words with a tab
-//! between, and each line of standard output answers one. The first word names the module that answers.
+//! Questions about the parts of certificates and about revocation lists, as data: each line of standard input asks one, by words
+//! with a tab between, and each line of standard output answers one. The first word names the module that answers.
 //!
 //! `tests/certs_cases.py` writes both, and knows the answers by means of its own.
 #![tactic(auto)]
@@ -7,6 +7,7 @@
 mod access;
 mod identifier;
 mod key;
+mod lists;
 mod name;
 mod serial;
 mod signed;
@@ -18,29 +19,25 @@ use answers::{Answer, Questions, answer_lines, unknown};
 use anyhow::Result;
 use std::alloc::Global;
 
-// What is asked about the parts of certificates.
+// What is asked about the parts of certificates and about revocation lists.
 struct Parts;
-
-// What is said of a part.
-fn tell(alloc: Global, answer: &mut Answer, words: &[&str]) -> Result<()> {
-    let [topic, words @ ..] = words else {
-        return unknown();
-    };
-    match *topic {
-        "signed" => signed::answer(alloc, answer, words),
-        "key" => key::answer(alloc, answer, words),
-        "name" => name::answer(alloc, answer, words),
-        "serial" => serial::answer(alloc, answer, words),
-        "time" => time::answer(alloc, answer, words),
-        "access" => access::answer(alloc, answer, words),
-        "uri" => uri::answer(alloc, answer, words),
-        _ => unknown(),
-    }
-}
 
 impl Questions for Parts {
     fn answer(&self, alloc: Global, answer: &mut Answer, words: &[&str]) -> Result<()> {
-        if let Err(error) = tell(alloc, answer, words) {
+        let [topic, words @ ..] = words else {
+            return unknown();
+        };
+        let told = match *topic {
+            "signed" => signed::answer(alloc, answer, words),
+            "key" => key::answer(alloc, answer, words),
+            "name" => name::answer(alloc, answer, words),
+            "serial" => serial::answer(alloc, answer, words),
+            "time" => time::answer(alloc, answer, words),
+            "access" => access::answer(alloc, answer, words),
+            "uri" => uri::answer(alloc, answer, words),
+            topic => return lists::answer(alloc, answer, topic, words),
+        };
+        if let Err(error) = told {
             answer.say(&format_args!("refused: {error}"));
         }
         Ok(())

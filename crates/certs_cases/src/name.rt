@@ -1,7 +1,7 @@
 //! Questions about names: what is asked, the mode, and octets in hexadecimal digits.
 
-use crate::values::{bytes_of, found, tell};
-use answers::{Answer, mode_of, unknown};
+use crate::values::{both, bytes_of, found, tell};
+use answers::{Answer, mode_of, unknown, word_at};
 use anyhow::{Result, anyhow};
 use bcder::Mode;
 use bcder::decode::Decode;
@@ -25,97 +25,64 @@ fn inspect(answer: &mut Answer, name: Name) {
     answer.say(&name.inspect_router(false).is_ok());
 }
 
-// What is written, in another mode, of the name that octets begin with, or why not.
-fn write(alloc: Global, answer: &mut Answer, word: &str, digits: &str, mode: Mode) -> Result<()> {
-    let name = front(alloc, word, digits)?;
+// What is written of a name in a mode, or why not.
+fn write(alloc: Global, answer: &mut Answer, name: Name, mode: Mode) {
     match name.encode_ref().to_captured(alloc, mode) {
         Ok(captured) => tell(answer, captured.as_slice()),
         Err(error) => answer.say(&format_args!("({error})")),
     }
-    Ok(())
 }
 
-// The octets of a clone.
-fn clone(answer: &mut Answer, name: Name) -> Result<()> {
-    let copy = name.clone()?;
-    tell(answer, copy.as_slice());
-    Ok(())
-}
-
-// Whether two names are equal.
-fn equal(answer: &mut Answer, one: Name, other: Name) {
-    answer.say(&(one == other));
-}
-
-// Whether a content goes on after a refusal that is forgotten.
-fn forget(alloc: Global, answer: &mut Answer, mode: Mode, digits: &str) -> Result<()> {
-    let read = mode.decode(bytes_of(alloc, digits)?, |cons| {
-        let first = Name::take_from(alloc, cons).is_ok();
-        let second = Name::take_from(alloc, cons).is_ok();
-        Ok((first, second))
-    });
-    let (first, second) = found(read)?;
-    answer.say(&first);
-    answer.say(&second);
-    Ok(())
-}
-
-// The name that is made from a key's identifier.
-fn of_key(alloc: Global, digits: &str) -> Result<Name> {
+// The name that is made from a key's identifier, and what inspection says of it.
+fn of_key(alloc: Global, answer: &mut Answer, digits: &str) -> Result<()> {
     let identifier = bytes_of(alloc, digits)?;
     match <[u8; 20]>::try_from(identifier.as_slice()) {
-        Ok(identifier) => Ok(Name::from_key_identifier(alloc, &identifier)?),
+        Ok(identifier) => {
+            let name = Name::from_key_identifier(alloc, &identifier)?;
+            tell(answer, name.as_slice());
+            inspect(answer, name);
+            Ok(())
+        }
         Err(_) => Err(anyhow!("no identifier")),
     }
 }
 
-// The name of a key, and what inspection says of it.
-fn named(alloc: Global, answer: &mut Answer, digits: &str) -> Result<()> {
-    let name = of_key(alloc, digits)?;
-    tell(answer, name.as_slice());
-    inspect(answer, name);
+// Whether two names are equal, each read in its mode.
+fn equal(alloc: Global, answer: &mut Answer, words: &[&str]) -> Result<()> {
+    let one = front(alloc, word_at(words, 0), word_at(words, 1))?;
+    let other = front(alloc, word_at(words, 2), word_at(words, 3))?;
+    answer.say(&(one == other));
     Ok(())
 }
 
-// What is asked of the name that octets begin with.
-fn of_front(
-    alloc: Global,
-    answer: &mut Answer,
-    kind: &str,
-    word: &str,
-    digits: &str,
-) -> Result<()> {
-    let name = front(alloc, word, digits)?;
+// What is asked of the name that octets begin with; what is written of it, in another mode.
+fn of_front(alloc: Global, answer: &mut Answer, kind: &str, words: &[&str]) -> Result<()> {
+    let name = front(alloc, word_at(words, 0), word_at(words, 1))?;
     match kind {
         "inspect" => inspect(answer, name),
-        "clone" => clone(answer, name)?,
+        "write" => write(alloc, answer, name, mode_of(word_at(words, 2))),
+        "clone" => tell(answer, name.clone()?.as_slice()),
         _ => return unknown(),
     }
     Ok(())
 }
 
-// Whether two names are equal, each read in its mode.
-fn of_fronts(alloc: Global, answer: &mut Answer, one: [&str; 2], other: [&str; 2]) -> Result<()> {
-    let [word, digits] = one;
-    let name = front(alloc, word, digits)?;
-    let [word, digits] = other;
-    equal(answer, name, front(alloc, word, digits)?);
-    Ok(())
-}
-
 /// Answers a question about names.
 pub fn answer(alloc: Global, answer: &mut Answer, words: &[&str]) -> Result<()> {
-    match words {
-        ["key", digits] => named(alloc, answer, *digits),
-        ["forgotten", word, digits] => forget(alloc, answer, mode_of(*word), *digits),
-        ["write", word, digits, to] => { write(alloc, answer, *word, *digits, mode_of(*to)) }
-        ["equal", word, digits, other_word, other_digits] => of_fronts(
-            alloc,
+    let [kind, words @ ..] = words else {
+        return unknown();
+    };
+    match *kind {
+        "key" => of_key(alloc, answer, word_at(words, 0)),
+        "forgotten" => both(
             answer,
-            [*word, *digits],
-            [*other_word, *other_digits],
+            mode_of(word_at(words, 0)).decode(bytes_of(alloc, word_at(words, 1))?, |cons| {
+                let first = Name::take_from(alloc, cons).is_ok();
+                let second = Name::take_from(alloc, cons).is_ok();
+                Ok((first, second))
+            }),
         ),
-        [kind, word, digits] => of_front(alloc, answer, *kind, *word, *digits),
-        _ => unknown(),
+        "equal" => equal(alloc, answer, words),
+        kind => of_front(alloc, answer, kind, words),
     }
 }

@@ -1,69 +1,24 @@
 //! Questions about algorithms and signed data: what octets begin with, in a mode, and what is written of it.
 
-use crate::values::{bytes_of, tell};
+use crate::values::{bytes_of, found, say_written, tell};
 use answers::{Answer, mode_of, unknown};
 use anyhow::Result;
-use bcder::Mode;
 use bcder::decode::Decode;
-use bcder::encode::Values;
+use bcder::encode::{EncodeError, Values};
+use bcder::{Captured, Mode};
 use bytes::Bytes;
 use certs_x509::{DigestAlgorithm, RpkiSignatureAlgorithm, SignatureAlgorithm, SignedData};
 use std::alloc::Global;
 
-// What is written of a value in a mode, or why not.
-fn write<V: Values>(alloc: Global, answer: &mut Answer, value: &V, mode: Mode) {
-    match value.to_captured(alloc, mode) {
-        Ok(captured) => tell(answer, captured.as_slice()),
-        Err(error) => answer.say(&error),
-    }
-}
-
 // Whether NULL stands there, and what is written.
-fn algorithm<V: Values>(
-    alloc: Global,
+fn algorithm(
     answer: &mut Answer,
     algorithm: RpkiSignatureAlgorithm,
-    value: &V,
-    mode: Mode,
+    written: Result<Captured, EncodeError>,
 ) {
     answer.say(&algorithm.has_null());
     answer.say(&(algorithm == RpkiSignatureAlgorithm::default()));
-    write(alloc, answer, value, mode);
-}
-
-fn x509(alloc: Global, answer: &mut Answer, mode: Mode, octets: Bytes) {
-    match mode.decode(octets, |cons| RpkiSignatureAlgorithm::x509_take_from(cons)) {
-        Ok(read) => algorithm(alloc, answer, read, &read.x509_encode(), mode),
-        Err(_) => answer.word("refused"),
-    }
-}
-
-fn cms(alloc: Global, answer: &mut Answer, mode: Mode, octets: Bytes) {
-    match mode.decode(octets, |cons| RpkiSignatureAlgorithm::cms_take_from(cons)) {
-        Ok(read) => algorithm(alloc, answer, read, &read.cms_encode(), mode),
-        Err(_) => answer.word("refused"),
-    }
-}
-
-fn digest(alloc: Global, answer: &mut Answer, mode: Mode, octets: Bytes) {
-    match mode.decode(octets, |cons| DigestAlgorithm::take_from(cons)) {
-        Ok(read) => write(alloc, answer, &read.encode(), mode),
-        Err(_) => answer.word("refused"),
-    }
-}
-
-fn opt_digest(answer: &mut Answer, mode: Mode, octets: Bytes) {
-    match mode.decode(octets, |cons| DigestAlgorithm::take_opt_from(cons)) {
-        Ok(read) => answer.say(&read.is_some()),
-        Err(_) => answer.word("refused"),
-    }
-}
-
-fn digests(alloc: Global, answer: &mut Answer, mode: Mode, octets: Bytes) {
-    match mode.decode(octets, |cons| DigestAlgorithm::take_set_from(cons)) {
-        Ok(read) => write(alloc, answer, &read.encode_set(), mode),
-        Err(_) => answer.word("refused"),
-    }
+    say_written(answer, "", written);
 }
 
 // The message, whether NULL stands there, the signature, and what is written.
@@ -73,55 +28,68 @@ fn show(alloc: Global, answer: &mut Answer, signed: SignedData, mode: Mode) {
     answer.say(&signature.algorithm().has_null());
     answer.say(&signature.bits().unused());
     tell(answer, signature.value());
-    write(alloc, answer, &signed.encode_ref(), mode);
+    say_written(answer, "", signed.encode_ref().to_captured(alloc, mode));
 }
 
-fn signed_data(alloc: Global, answer: &mut Answer, mode: Mode, octets: Bytes) {
-    match mode.decode(octets, |cons| SignedData::take_from(alloc, cons)) {
-        Ok(signed) => show(alloc, answer, signed, mode),
-        Err(error) => {
-            answer.word("refused");
-            drop(error);
+// The digest algorithm that octets begin with, whether there is one, or a set of one.
+fn digest(alloc: Global, answer: &mut Answer, kind: &str, mode: Mode, octets: Bytes) -> Result<()> {
+    match kind {
+        "opt-digest" => {
+            let read = found(mode.decode(octets, |cons| DigestAlgorithm::take_opt_from(cons)))?;
+            answer.say(&read.is_some());
         }
-    }
-}
-
-fn front(alloc: Global, answer: &mut Answer, octets: Bytes) {
-    match SignedData::decode(alloc, octets) {
-        Ok(signed) => show(alloc, answer, signed, Mode::Der),
-        Err(error) => {
-            answer.word("refused");
-            drop(error);
+        "digests" => {
+            let read = found(mode.decode(octets, |cons| DigestAlgorithm::take_set_from(cons)))?;
+            say_written(answer, "", read.encode_set().to_captured(alloc, mode));
         }
-    }
-}
-
-// What is asked of octets in a mode.
-fn of_octets(
-    alloc: Global,
-    answer: &mut Answer,
-    topic: &str,
-    mode: Mode,
-    octets: Bytes,
-) -> Result<()> {
-    match topic {
-        "x509" => x509(alloc, answer, mode, octets),
-        "cms" => cms(alloc, answer, mode, octets),
-        "digest" => digest(alloc, answer, mode, octets),
-        "opt-digest" => opt_digest(answer, mode, octets),
-        "digests" => digests(alloc, answer, mode, octets),
-        "data" => signed_data(alloc, answer, mode, octets),
-        "front" => front(alloc, answer, octets),
-        _ => return unknown(),
+        _ => {
+            let read = found(mode.decode(octets, |cons| DigestAlgorithm::take_from(cons)))?;
+            say_written(answer, "", read.encode().to_captured(alloc, mode));
+        }
     }
     Ok(())
 }
 
-/// Answers a question.
+// What is asked of octets in a mode.
+fn told(alloc: Global, answer: &mut Answer, kind: &str, mode: Mode, octets: Bytes) -> Result<()> {
+    match kind {
+        "x509" => {
+            let read = found(mode.decode(
+                octets,
+                |cons| RpkiSignatureAlgorithm::x509_take_from(cons),
+            ))?;
+            algorithm(answer, read, read.x509_encode().to_captured(alloc, mode));
+        }
+        "cms" => {
+            let read = found(mode.decode(
+                octets,
+                |cons| RpkiSignatureAlgorithm::cms_take_from(cons),
+            ))?;
+            algorithm(answer, read, read.cms_encode().to_captured(alloc, mode));
+        }
+        "data" => {
+            let read = found(mode.decode(octets, |cons| SignedData::take_from(alloc, cons)))?;
+            show(alloc, answer, read, mode);
+        }
+        "front" => show(
+            alloc,
+            answer,
+            found(SignedData::decode(alloc, octets))?,
+            Mode::Der,
+        ),
+        _ => return digest(alloc, answer, kind, mode, octets),
+    }
+    Ok(())
+}
+
+/// Answers a question; of a refusal, no more than that.
 pub fn answer(alloc: Global, answer: &mut Answer, words: &[&str]) -> Result<()> {
-    let [topic, word, digits] = words else {
+    let [kind, word, digits] = words else {
         return unknown();
     };
     let octets = bytes_of(alloc, *digits)?;
-    of_octets(alloc, answer, *topic, mode_of(*word), octets)
+    if told(alloc, answer, *kind, mode_of(*word), octets).is_err() {
+        answer.word("refused");
+    }
+    Ok(())
 }

@@ -1,6 +1,6 @@
 //! Questions about moments and validity: what is asked, the mode, and octets in hexadecimal digits or a moment's text.
 
-use crate::values::write;
+use crate::values::{found, write};
 use answers::{Answer, mode_of, octets_of, unknown};
 use anyhow::{Result, anyhow};
 use bcder::Mode;
@@ -8,8 +8,8 @@ use bcder::decode::Decode;
 use certs_x509::{Time, Validity};
 use std::alloc::Global;
 
-// The text of a moment.
-fn show(answer: &mut Answer, moment: Time) {
+/// The text of a moment.
+pub fn show(answer: &mut Answer, moment: Time) {
     let text = moment.generalized();
     match str::from_utf8(text.as_slice()) {
         Ok(text) => answer.word(text),
@@ -17,59 +17,35 @@ fn show(answer: &mut Answer, moment: Time) {
     }
 }
 
-// The moment that octets begin with, and what is written of it: in the form of its year, and as GeneralizedTime.
-fn read(alloc: Global, answer: &mut Answer, mode: Mode, octets: &[u8]) -> Result<()> {
-    match mode.decode(octets, |cons| Time::take_from(cons)) {
-        Ok(moment) => {
+// What octets of a mode begin with: a moment, and what is written of it in the form of its year and as GeneralizedTime; a moment
+// that has to be a GeneralizedTime; or a validity, and what is written of it.
+fn read(alloc: Global, answer: &mut Answer, kind: &str, mode: Mode, octets: &[u8]) -> Result<()> {
+    match kind {
+        "read" => {
+            let moment = found(mode.decode(octets, |cons| Time::take_from(cons)))?;
             show(answer, moment);
             write(alloc, answer, &moment.encode_varied(), mode)?;
             write(alloc, answer, &moment.encode_generalized_time(), mode)
         }
-        Err(_) => Err(anyhow!("content")),
-    }
-}
-
-// The moment that octets begin with, which has to be a GeneralizedTime.
-fn general(answer: &mut Answer, mode: Mode, octets: &[u8]) -> Result<()> {
-    match mode.decode(octets, |cons| Time::take_generalized_from(cons)) {
-        Ok(moment) => {
-            show(answer, moment);
+        "general" => {
+            show(
+                answer,
+                found(mode.decode(octets, |cons| Time::take_generalized_from(cons)))?,
+            );
             Ok(())
         }
-        Err(_) => Err(anyhow!("content")),
-    }
-}
-
-// The validity that octets begin with, and what is written of it.
-fn validity(alloc: Global, answer: &mut Answer, mode: Mode, octets: &[u8]) -> Result<()> {
-    match mode.decode(octets, |cons| Validity::take_from(cons)) {
-        Ok(period) => {
+        "validity" => {
+            let period = found(mode.decode(octets, |cons| Validity::take_from(cons)))?;
             show(answer, period.not_before());
             show(answer, period.not_after());
             write(alloc, answer, &period.encode(), mode)
         }
-        Err(_) => Err(anyhow!("content")),
-    }
-}
-
-// What octets of a mode begin with.
-fn of_octets(
-    alloc: Global,
-    answer: &mut Answer,
-    kind: &str,
-    mode: Mode,
-    octets: &[u8],
-) -> Result<()> {
-    match kind {
-        "read" => read(alloc, answer, mode, octets),
-        "general" => general(answer, mode, octets),
-        "validity" => validity(alloc, answer, mode, octets),
         _ => unknown(),
     }
 }
 
-// The moment of a text.
-fn moment(text: &str) -> Result<Time> {
+/// The moment of a text.
+pub fn moment_of(text: &str) -> Result<Time> {
     match Time::from_generalized(text.as_bytes()) {
         Some(moment) => Ok(moment),
         None => Err(anyhow!("no moment")),
@@ -78,8 +54,8 @@ fn moment(text: &str) -> Result<Time> {
 
 // What is said of a moment against a validity.
 fn verify(answer: &mut Answer, first: &str, last: &str, now: &str) -> Result<()> {
-    let period = Validity::new(moment(first)?, moment(last)?);
-    match period.verify_at(moment(now)?) {
+    let period = Validity::new(moment_of(first)?, moment_of(last)?);
+    match period.verify_at(moment_of(now)?) {
         Ok(()) => answer.word("valid"),
         Err(error) => answer.show(&error),
     }
@@ -89,10 +65,10 @@ fn verify(answer: &mut Answer, first: &str, last: &str, now: &str) -> Result<()>
 /// Answers a question about moments.
 pub fn answer(alloc: Global, answer: &mut Answer, words: &[&str]) -> Result<()> {
     match words {
-        ["verify", first, last, now] => verify(answer, *first, *last, *now),
+        [_, first, last, now] => verify(answer, *first, *last, *now),
         [kind, word, digits] => {
             let octets = octets_of(alloc, *digits);
-            of_octets(alloc, answer, *kind, mode_of(*word), octets.as_slice())
+            read(alloc, answer, *kind, mode_of(*word), octets.as_slice())
         }
         _ => unknown(),
     }

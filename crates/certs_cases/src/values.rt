@@ -2,9 +2,9 @@
 
 use answers::Answer;
 use anyhow::{Result, anyhow};
-use bcder::Mode;
 use bcder::decode::DecodeError;
-use bcder::encode::Values;
+use bcder::encode::{EncodeError, Values};
+use bcder::{Captured, Mode};
 use bytes::Bytes;
 use std::alloc::Global;
 
@@ -24,6 +24,17 @@ pub fn found<T, E: Drop>(read: Result<T, DecodeError<E>>) -> Result<T> {
     }
 }
 
+/// Whether a content goes on after a refusal that is forgotten: whether a first read was good, and a second one.
+pub fn both<E: Drop>(
+    answer: &mut Answer,
+    read: Result<(bool, bool), DecodeError<E>>,
+) -> Result<()> {
+    let (first, second) = found(read)?;
+    answer.say(&first);
+    answer.say(&second);
+    Ok(())
+}
+
 /// Octets, in hexadecimal digits.
 pub fn tell(answer: &mut Answer, octets: &[u8]) {
     answer.word("");
@@ -35,4 +46,21 @@ pub fn write<V: Values>(alloc: Global, answer: &mut Answer, value: &V, mode: Mod
     let captured = value.to_captured(alloc, mode)?;
     tell(answer, captured.as_slice());
     Ok(())
+}
+
+/// What was written, in hexadecimal digits after that text, or why nothing was.
+pub fn say_written(answer: &mut Answer, front: &str, written: Result<Captured, EncodeError>) {
+    match written {
+        Ok(captured) => {
+            answer.word(front);
+            answer.join_octets(captured.as_slice());
+        }
+        Err(error) => answer.say(&error),
+    }
+}
+
+/// How two values compare, and whether they are equal.
+pub fn order<T: Ord>(answer: &mut Answer, one: &T, other: &T) {
+    answer.show(&one.cmp(other));
+    answer.say(&(one == other));
 }

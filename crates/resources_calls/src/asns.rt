@@ -8,6 +8,7 @@ use anyhow::Result;
 use resources::asn::{Asn, SmallAsnSet};
 use std::alloc::Global;
 
+// An AS number as text, numbers and octets.
 fn tell(answer: &mut Answer, asn: Asn) {
     answer.say(&asn);
     answer.say(&asn.into_u32());
@@ -19,13 +20,16 @@ fn tell(answer: &mut Answer, asn: Asn) {
     answer.say(&Asn::from(asn.into_u32()));
 }
 
-fn pair(answer: &mut Answer, one: Asn, other: Asn) {
+// How the numbers of two texts stand, and their sum where there is one.
+fn pair(answer: &mut Answer, one: &str, other: &str) -> Result<()> {
+    let (one, other) = (one.parse::<Asn>()?, other.parse::<Asn>()?);
     answer.order(one.cmp(&other));
     answer.say(&(one == other));
     answer.say(&(hash_of(&one) == hash_of(&other)));
     if other.into_u32() <= u32::MAX - one.into_u32() {
         answer.say(&(one + other.into_u32()));
     }
+    Ok(())
 }
 
 // The AS numbers of a text, with commas between.
@@ -45,6 +49,7 @@ fn set(alloc: Global, text: &str) -> Result<SmallAsnSet> {
     Ok(SmallAsnSet::from_iter(alloc, asns.into_iter())?)
 }
 
+// AS numbers one by one, and a mark after them.
 fn each<I: Iterator<Item = Asn>>(answer: &mut Answer, asns: I)
     requires can { I.can_next asns }
     requires ends { IsFinite (I.remaining asns) }
@@ -68,8 +73,7 @@ fn members(answer: &mut Answer, one: &SmallAsnSet, other: &SmallAsnSet) -> Resul
     answer.say(&one.len());
     answer.say(&one.is_empty());
     each(answer, one.iter());
-    let copy = one.clone()?;
-    each(answer, (&copy).into_iter());
+    each(answer, (&one.clone()?).into_iter());
     for asn in other.iter() {
         answer.say(&one.contains(asn));
     }
@@ -107,29 +111,11 @@ fn added(alloc: Global, answer: &mut Answer, one: &str, other: &str) -> Result<(
     Ok(())
 }
 
-// The number of a text.
-fn read(answer: &mut Answer, text: &str) -> Result<()> {
-    tell(answer, text.parse::<Asn>()?);
-    Ok(())
-}
-
-// How the numbers of two texts stand.
-fn read_pair(answer: &mut Answer, one: &str, other: &str) -> Result<()> {
-    pair(answer, one.parse::<Asn>()?, other.parse::<Asn>()?);
-    Ok(())
-}
-
-// The first and the last of all numbers.
-fn ends(answer: &mut Answer) -> Result<()> {
-    tell(answer, Asn::MIN);
-    tell(answer, Asn::MAX);
-    Ok(())
-}
-
 // A question about the sets of two texts.
-fn of_sets(alloc: Global, answer: &mut Answer, is_members: bool, words: &[&str]) -> Result<()> {
-    let one = set(alloc, word_at(words, 1))?;
-    let other = set(alloc, word_at(words, 2))?;
+fn of_sets(alloc: Global, answer: &mut Answer, is_members: bool, words: [&str; 2]) -> Result<()> {
+    let [one, other] = words;
+    let one = set(alloc, one)?;
+    let other = set(alloc, other)?;
     if is_members {
         return members(answer, &one, &other);
     }
@@ -139,14 +125,19 @@ fn of_sets(alloc: Global, answer: &mut Answer, is_members: bool, words: &[&str])
 
 /// The answer to a question about AS numbers.
 pub fn answer(alloc: Global, answer: &mut Answer, words: &[&str]) -> Result<()> {
+    let (one, other) = (word_at(words, 1), word_at(words, 2));
     match word_at(words, 0) {
-        "read" => read(answer, word_at(words, 1)),
-        "pair" => read_pair(answer, word_at(words, 1), word_at(words, 2)),
-        "ends" => ends(answer),
-        "sets" => of_sets(alloc, answer, false, words),
-        "members" => of_sets(alloc, answer, true, words),
-        "added" => added(alloc, answer, word_at(words, 1), word_at(words, 2)),
-        "sorted" => sorted_already(alloc, answer),
-        _ => unknown(),
+        "read" => tell(answer, one.parse::<Asn>()?),
+        "pair" => return pair(answer, one, other),
+        "ends" => {
+            tell(answer, Asn::MIN);
+            tell(answer, Asn::MAX);
+        }
+        "sets" => return of_sets(alloc, answer, false, [one, other]),
+        "members" => return of_sets(alloc, answer, true, [one, other]),
+        "added" => return added(alloc, answer, one, other),
+        "sorted" => return sorted_already(alloc, answer),
+        _ => return unknown(),
     }
+    Ok(())
 }

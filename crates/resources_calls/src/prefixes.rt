@@ -2,7 +2,7 @@
 
 use crate::hashes::hash_of;
 use answers::{Answer, unknown, word_at};
-use anyhow::{Result, anyhow};
+use anyhow::Result;
 use resources::addr::{MaxLenError, MaxLenPrefix, Prefix, PrefixError};
 use std::net::IpAddr;
 
@@ -27,7 +27,8 @@ fn tell(answer: &mut Answer, made: Result<Prefix, PrefixError>) {
 }
 
 // The prefix of an address and a length, strict and around the address, of any family and of its own.
-fn made(answer: &mut Answer, addr: IpAddr, len: u8) {
+fn made(answer: &mut Answer, addr: &str, len: &str) -> Result<()> {
+    let (addr, len) = (addr.parse::<IpAddr>()?, len.parse::<u8>()?);
     tell(answer, Prefix::new(addr, len));
     tell(answer, Prefix::new_relaxed(addr, len));
     match addr {
@@ -40,67 +41,51 @@ fn made(answer: &mut Answer, addr: IpAddr, len: u8) {
             tell(answer, Prefix::new_v6_relaxed(addr, len));
         }
     }
+    Ok(())
 }
 
-fn address(text: &str) -> Result<IpAddr> {
-    match text.parse::<IpAddr>() {
-        Ok(addr) => Ok(addr),
-        Err(_) => Err(anyhow!("no address")),
-    }
-}
-
-fn number(text: &str) -> Result<u8> {
-    match text.parse::<u8>() {
-        Ok(number) => Ok(number),
-        Err(_) => Err(anyhow!("no number")),
-    }
-}
-
-// How two prefixes stand, and what the first covers.
-fn pair(answer: &mut Answer, one: Prefix, other: Prefix) {
+// How the prefixes of two texts stand, and what the first covers.
+fn pair(answer: &mut Answer, one: &str, other: &str) -> Result<()> {
+    let (one, other) = (one.parse::<Prefix>()?, other.parse::<Prefix>()?);
     answer.order(one.cmp(&other));
     answer.say(&(one.partial_cmp(&other) == Some(one.cmp(&other))));
     answer.say(&(one == other));
     answer.say(&one.covers(other));
     answer.say(&(hash_of(&one) == hash_of(&other)));
+    Ok(())
 }
 
-fn tell_max(answer: &mut Answer, prefix: MaxLenPrefix) {
-    answer.say(&prefix);
-    answer.say(&prefix.prefix());
-    answer.say(&prefix.addr());
-    answer.say(&prefix.prefix_len());
-    answer.some(prefix.max_len().as_ref());
-    answer.say(&prefix.resolved_max_len());
-}
-
-// A prefix with a greatest length that has to fit, and with the nearest that fits.
-fn made_max(answer: &mut Answer, prefix: Prefix, max_len: Option<u8>) {
-    match MaxLenPrefix::new(prefix, max_len) {
-        Ok(made) => tell_max(answer, made),
-        Err(error) => tell_max_error(answer, error),
+/// The answer to a question about prefixes.
+pub fn answer(answer: &mut Answer, words: &[&str]) -> Result<()> {
+    let (one, other) = (word_at(words, 1), word_at(words, 2));
+    match word_at(words, 0) {
+        "read" => {
+            answer.say_or(&one.parse::<Prefix>());
+            answer.say_or(&Prefix::from_str_relaxed(one));
+            Ok(())
+        }
+        "made" => made(answer, one, other),
+        "pair" => pair(answer, one, other),
+        _ => unknown(),
     }
-    tell_max(answer, MaxLenPrefix::saturating_new(prefix, max_len));
-    tell_max(answer, MaxLenPrefix::from(prefix));
 }
 
-fn tell_max_error(answer: &mut Answer, error: MaxLenError) {
-    answer.say(&error);
-    answer.say(&error.static_description());
-    answer.say(&<&'static str>::from(error));
-}
-
-fn pair_max(answer: &mut Answer, one: MaxLenPrefix, other: MaxLenPrefix) {
-    answer.order(one.cmp(&other));
-    answer.say(&(one.partial_cmp(&other) == Some(one.cmp(&other))));
-    answer.say(&(one == other));
-    answer.say(&(hash_of(&one) == hash_of(&other)));
-}
-
-fn read_max(answer: &mut Answer, text: &str) {
-    match text.parse::<MaxLenPrefix>() {
-        Ok(prefix) => tell_max(answer, prefix),
-        Err(error) => answer.say(&error),
+// All that a prefix with a greatest length answers, or all that its refusal does.
+fn tell_max(answer: &mut Answer, made: Result<MaxLenPrefix, MaxLenError>) {
+    match made {
+        Ok(prefix) => {
+            answer.say(&prefix);
+            answer.say(&prefix.prefix());
+            answer.say(&prefix.addr());
+            answer.say(&prefix.prefix_len());
+            answer.some(prefix.max_len().as_ref());
+            answer.say(&prefix.resolved_max_len());
+        }
+        Err(error) => {
+            answer.say(&error);
+            answer.say(&error.static_description());
+            answer.say(&<&'static str>::from(error));
+        }
     }
 }
 
@@ -109,57 +94,38 @@ fn length(word: &str) -> Result<Option<u8>> {
     if word == "-" {
         return Ok(None);
     }
-    Ok(Some(number(word)?))
+    Ok(Some(word.parse::<u8>()?))
 }
 
-fn read_made_max(answer: &mut Answer, prefix: &str, len: &str) -> Result<()> {
-    made_max(answer, prefix.parse::<Prefix>()?, length(len)?);
+// A prefix with a greatest length that has to fit, with the nearest that fits, and with none.
+fn made_max(answer: &mut Answer, prefix: &str, len: &str) -> Result<()> {
+    let (prefix, len) = (prefix.parse::<Prefix>()?, length(len)?);
+    tell_max(answer, MaxLenPrefix::new(prefix, len));
+    tell_max(answer, Ok(MaxLenPrefix::saturating_new(prefix, len)));
+    tell_max(answer, Ok(MaxLenPrefix::from(prefix)));
     Ok(())
 }
 
-fn read_pair_max(answer: &mut Answer, one: &str, other: &str) -> Result<()> {
-    pair_max(
-        answer,
-        one.parse::<MaxLenPrefix>()?,
-        other.parse::<MaxLenPrefix>()?,
-    );
+// How the prefixes of two texts with greatest lengths stand.
+fn pair_max(answer: &mut Answer, one: &str, other: &str) -> Result<()> {
+    let (one, other) = (one.parse::<MaxLenPrefix>()?, other.parse::<MaxLenPrefix>()?);
+    answer.order(one.cmp(&other));
+    answer.say(&(one.partial_cmp(&other) == Some(one.cmp(&other))));
+    answer.say(&(one == other));
+    answer.say(&(hash_of(&one) == hash_of(&other)));
     Ok(())
 }
 
 /// The answer to a question about prefixes with a greatest length.
 pub fn max(answer: &mut Answer, words: &[&str]) -> Result<()> {
+    let (one, other) = (word_at(words, 1), word_at(words, 2));
     match word_at(words, 0) {
-        "read" => read_max(answer, word_at(words, 1)),
-        "made" => return read_made_max(answer, word_at(words, 1), word_at(words, 2)),
-        "pair" => return read_pair_max(answer, word_at(words, 1), word_at(words, 2)),
-        _ => return unknown(),
+        "read" => {
+            tell_max(answer, Ok(one.parse::<MaxLenPrefix>()?));
+            Ok(())
+        }
+        "made" => made_max(answer, one, other),
+        "pair" => pair_max(answer, one, other),
+        _ => unknown(),
     }
-    Ok(())
-}
-
-// The prefix of a text, strict and around its address.
-fn read(answer: &mut Answer, text: &str) {
-    answer.say_or(&text.parse::<Prefix>());
-    answer.say_or(&Prefix::from_str_relaxed(text));
-}
-
-fn read_made(answer: &mut Answer, addr: &str, len: &str) -> Result<()> {
-    made(answer, address(addr)?, number(len)?);
-    Ok(())
-}
-
-fn read_pair(answer: &mut Answer, one: &str, other: &str) -> Result<()> {
-    pair(answer, one.parse::<Prefix>()?, other.parse::<Prefix>()?);
-    Ok(())
-}
-
-/// The answer to a question about prefixes.
-pub fn answer(answer: &mut Answer, words: &[&str]) -> Result<()> {
-    match word_at(words, 0) {
-        "read" => read(answer, word_at(words, 1)),
-        "made" => return read_made(answer, word_at(words, 1), word_at(words, 2)),
-        "pair" => return read_pair(answer, word_at(words, 1), word_at(words, 2)),
-        _ => return unknown(),
-    }
-    Ok(())
 }

@@ -1,8 +1,11 @@
-//! Questions about IP addresses.
+//! Questions about IP addresses of one family.
 
-use crate::claims::{Question, policy};
-use answers::Answer;
-use anyhow::{Result, anyhow};
+ghost use Rattle.std.specs.Prelude.{IfOk};
+ghost use Rattle.resources_cases.specs.resources.Resources.{ListsWhole};
+
+use crate::policy;
+use answers::{Answer, unknown, word_at};
+use anyhow::Result;
 use resources::ipres::{
     AddressRange, IpBlock, IpBlocks, IpBlocksForFamily, IpResources, Ipv4Blocks, Ipv6Blocks,
     OverclaimedIpResources,
@@ -10,84 +13,98 @@ use resources::ipres::{
 use resources::overclaim::{ClaimError, Overclaim};
 use std::alloc::Global;
 
-/// What a claim comes to.
-type Verdict = std::result::Result<IpBlocks, ClaimError<OverclaimedIpResources>>;
-
 /// One of the two families.
-#[derive(Clone, Copy, Debug, PartialEq, Eq)]
-enum Family {
+#[derive(Clone, Copy)]
+pub enum Family {
     V4,
     V6,
 }
 
-fn v4_set(alloc: Global, text: &str) -> Result<IpBlocks> {
-    Ok(Ipv4Blocks::from_str(alloc, text)?.into_blocks())
+/// IPv4 resources that are inherited, missing (`none`) or listed.
+pub fn v4_resources(alloc: Global, text: &str) -> Result<IpResources>
+    ensures { IfOk result (λ resources. ListsWhole resources) }
+{
+    match text {
+        "inherit" => Ok(IpResources::inherit()),
+        "none" => Ok(IpResources::missing()),
+        _ => Ok(IpResources::blocks(Ipv4Blocks::from_str(alloc, text)?.into_blocks())),
+    }
 }
 
-fn v6_set(alloc: Global, text: &str) -> Result<IpBlocks> {
-    Ok(Ipv6Blocks::from_str(alloc, text)?.into_blocks())
+/// IPv6 resources that are inherited, missing (`none`) or listed.
+pub fn v6_resources(alloc: Global, text: &str) -> Result<IpResources> {
+    match text {
+        "inherit" => Ok(IpResources::inherit()),
+        "none" => Ok(IpResources::missing()),
+        _ => Ok(IpResources::blocks(Ipv6Blocks::from_str(alloc, text)?.into_blocks())),
+    }
 }
 
-fn v4_prefixes(answer: &mut Answer, text: &str) -> Result<()> {
-    for prefix in AddressRange::from_v4_str(text)?.to_v4_prefixes() {
+// The prefixes of a range of IPv4 addresses.
+fn v4_prefixes(answer: &mut Answer, range: AddressRange) {
+    for prefix in range.to_v4_prefixes() {
         answer.join_as(&IpBlock::Prefix(prefix).display_v4());
         answer.join(";");
     }
-    Ok(())
 }
 
-fn v6_prefixes(answer: &mut Answer, text: &str) -> Result<()> {
-    for prefix in AddressRange::from_v6_str(text)?.to_v6_prefixes() {
+// The prefixes of a range of IPv6 addresses.
+fn v6_prefixes(answer: &mut Answer, range: AddressRange) {
+    for prefix in range.to_v6_prefixes() {
         answer.join_as(&IpBlock::Prefix(prefix).display_v6());
         answer.join(";");
     }
-    Ok(())
 }
 
 impl Family {
     // The set of a text.
     fn set(self, alloc: Global, text: &str) -> Result<IpBlocks> {
         match self {
-            Family::V4 => v4_set(alloc, text),
-            Family::V6 => v6_set(alloc, text),
+            Family::V4 => Ok(Ipv4Blocks::from_str(alloc, text)?.into_blocks()),
+            Family::V6 => Ok(Ipv6Blocks::from_str(alloc, text)?.into_blocks()),
         }
     }
 
-    fn say(self, answer: &mut Answer, set: &IpBlocks) {
-        match self {
-            Family::V4 => answer.say(&IpBlocksForFamily::v4(set)),
-            Family::V6 => answer.say(&IpBlocksForFamily::v6(set)),
-        }
-    }
-
-    // Resources that are inherited, missing (`none`) or listed.
+    // The resources of a text.
     fn resources(self, alloc: Global, text: &str) -> Result<IpResources> {
-        match text {
-            "inherit" => Ok(IpResources::inherit()),
-            "none" => Ok(IpResources::missing()),
-            _ => Ok(IpResources::blocks(self.set(alloc, text)?)),
+        match self {
+            Family::V4 => v4_resources(alloc, text),
+            Family::V6 => v6_resources(alloc, text),
         }
     }
 
-    fn refuse(self, answer: &mut Answer, outside: OverclaimedIpResources) {
+    /// A set, as more of the last word.
+    pub fn join(self, answer: &mut Answer, set: &IpBlocks) {
         match self {
-            Family::V4 => answer.say(&format_args!("refused: {}", outside.v4())),
-            Family::V6 => answer.say(&format_args!("refused: {}", outside.v6())),
+            Family::V4 => answer.join_as(&IpBlocksForFamily::v4(set)),
+            Family::V6 => answer.join_as(&IpBlocksForFamily::v6(set)),
+        }
+    }
+
+    // The addresses outside of an issuer's set.
+    fn refuse(self, answer: &mut Answer, outside: OverclaimedIpResources) {
+        answer.word("refused: ");
+        match self {
+            Family::V4 => answer.join_as(&outside.v4()),
+            Family::V6 => answer.join_as(&outside.v6()),
         }
     }
 
     // What is held, or the addresses outside.
-    fn held(self, answer: &mut Answer, verdict: Verdict) -> Result<()> {
+    fn held(
+        self,
+        answer: &mut Answer,
+        verdict: Result<IpBlocks, ClaimError<OverclaimedIpResources>>,
+    ) {
         match verdict {
-            Ok(held) => self.say(answer, &held),
+            Ok(held) => self.join(answer, &held),
             Err(ClaimError::Overclaimed(outside)) => self.refuse(answer, outside),
-            Err(ClaimError::Memory) => return Err(anyhow!("out of memory")),
+            Err(ClaimError::Memory) => answer.word("out of memory"),
         }
-        Ok(())
     }
 
-    // The words of a path, two by two: a policy, and what is claimed under it.
-    fn path(self, alloc: Global, words: &[&str]) -> Result<Vec<(IpResources, Overclaim)>> {
+    // The claims of a path, two words each: a policy, and what is claimed under it.
+    fn path_of(self, alloc: Global, words: &[&str]) -> Result<Vec<(IpResources, Overclaim)>> {
         let mut path = Vec::new(alloc);
         for claim in words.chunks_exact(2) {
             if let [word, text] = claim {
@@ -97,138 +114,99 @@ impl Family {
         Ok(path)
     }
 
-    fn along(
-        self,
-        alloc: Global,
-        answer: &mut Answer,
-        root: &IpBlocks,
-        words: &[&str],
-    ) -> Result<()> {
-        let path = self.path(alloc, words)?;
-        self.held(answer, root.verify_path(alloc, path.as_slice()))
-    }
-
-    // The prefixes of a range.
-    fn prefixes(self, answer: &mut Answer, text: &str) -> Result<()> {
-        match self {
-            Family::V4 => v4_prefixes(answer, text),
-            Family::V6 => v6_prefixes(answer, text),
-        }
-    }
-
-    fn listed(self, alloc: Global, answer: &mut Answer, text: &str) -> Result<()> {
-        let blocks = self.resources(alloc, text)?.to_blocks()?;
-        self.say(answer, &blocks);
+    // What the claims of a path hold below a root.
+    fn path(self, alloc: Global, answer: &mut Answer, words: &[&str]) -> Result<()> {
+        let [_, root, claims @ ..] = words else {
+            return unknown();
+        };
+        let root = self.set(alloc, *root)?;
+        let path = self.path_of(alloc, claims)?;
+        self.held(answer, root.verify_path(alloc, path.as_slice()));
         Ok(())
     }
 
-    fn issued(
+    // What a claim comes to below an issuer.
+    fn of_claim(
         self,
         alloc: Global,
         answer: &mut Answer,
+        question: &str,
         issuer: &IpBlocks,
-        policy: Overclaim,
-        text: &str,
-    ) -> Result<()> {
-        let claim = self.resources(alloc, text)?;
-        self.held(answer, issuer.verify_issued(alloc, &claim, policy))
-    }
-
-    fn covered(
-        self,
-        alloc: Global,
-        answer: &mut Answer,
-        issuer: &IpBlocks,
-        text: &str,
-    ) -> Result<()> {
-        let claim = self.resources(alloc, text)?;
-        match issuer.verify_covered(alloc, &claim) {
-            Ok(()) => {
-                self.say(answer, issuer);
-                Ok(())
-            }
+        claim: &IpResources,
+    ) {
+        if question != "covered" {
+            return self.held(answer, issuer.verify_issued(alloc, claim, policy(question)));
+        }
+        match issuer.verify_covered(alloc, claim) {
+            Ok(()) => self.join(answer, issuer),
             Err(error) => self.held(answer, Err(error)),
         }
     }
 
-    // What is asked of one set.
-    fn of_set(
-        self,
-        alloc: Global,
-        answer: &mut Answer,
-        question: Question,
-        set: IpBlocks,
-    ) -> Result<()> {
-        match question {
-            Question::Read => self.say(answer, &set),
-            Question::Count => answer.say(&set.is_whole_v4()),
-            Question::Path => return self.along(alloc, answer, &set, &[]),
-            _ => return Err(anyhow!("one set is too few")),
-        }
-        Ok(())
-    }
-
-    // What is asked of two sets.
+    // What two sets come to.
     fn of_sets(
         self,
         alloc: Global,
         answer: &mut Answer,
-        question: Question,
+        question: &str,
         one: &IpBlocks,
-        other: IpBlocks,
+        other: &IpBlocks,
     ) -> Result<()> {
         match question {
-            Question::Within => answer.say(&other.contains(one)),
-            Question::Union => self.say(answer, &one.union(alloc, &other)?),
-            Question::Intersection => self.say(answer, &one.intersection(alloc, &other)?),
-            Question::Difference => self.say(answer, &one.difference(alloc, &other)?),
-            _ => return Err(anyhow!("two sets are too many")),
+            "within" => answer.say(&other.contains(one)),
+            "union" => self.join(answer, &one.union(alloc, other)?),
+            "intersection" => self.join(answer, &one.intersection(alloc, other)?),
+            "difference" => self.join(answer, &one.difference(alloc, other)?),
+            _ => return unknown(),
         }
         Ok(())
     }
 
-    fn of_several(
+    // What a set comes to with what follows: a claim, or another set.
+    fn of_two(
         self,
         alloc: Global,
         answer: &mut Answer,
-        question: Question,
-        root: &IpBlocks,
-        words: &[&str],
+        question: &str,
+        words: [&str; 2],
     ) -> Result<()> {
-        match (question, words) {
-            (Question::Path, _) => self.along(alloc, answer, root, words),
-            (Question::Issued(policy), [claim]) => {
-                self.issued(alloc, answer, root, policy, *claim)
+        let [one, other] = words;
+        let one = self.set(alloc, one)?;
+        match question {
+            "refuse" | "trim" | "covered" => {
+                self.of_claim(
+                    alloc,
+                    answer,
+                    question,
+                    &one,
+                    &self.resources(alloc, other)?,
+                );
+                Ok(())
             }
-            (Question::Covered, [claim]) => self.covered(alloc, answer, root, *claim),
-            (_, [other]) => {
-                self.of_sets(alloc, answer, question, root, self.set(alloc, *other)?)
-            }
-            _ => Err(anyhow!("too many words")),
+            _ => self.of_sets(alloc, answer, question, &one, &self.set(alloc, other)?),
         }
+    }
+
+    // The prefixes of the range of a text.
+    fn prefixes(self, answer: &mut Answer, text: &str) -> Result<()> {
+        match self {
+            Family::V4 => v4_prefixes(answer, AddressRange::from_v4_str(text)?),
+            Family::V6 => v6_prefixes(answer, AddressRange::from_v6_str(text)?),
+        }
+        Ok(())
     }
 }
 
-/// Answers a question about one set, or about a set and what follows; `v4` or `v6` is the family.
-pub fn answer(
-    alloc: Global,
-    answer: &mut Answer,
-    kind: &str,
-    question: Question,
-    words: &[&str],
-) -> Result<()> {
-    let family = match kind {
-        "v4" => Family::V4,
-        _ => Family::V6,
-    };
-    match (question, words) {
-        (_, []) => Err(anyhow!("no words")),
-        (Question::Each, [range]) => family.prefixes(answer, *range),
-        (Question::Resources, [text]) => family.listed(alloc, answer, *text),
-        (_, [one]) => family.of_set(alloc, answer, question, family.set(alloc, *one)?),
-        (_, [root, words @ ..]) => {
-            let root = family.set(alloc, *root)?;
-            family.of_several(alloc, answer, question, &root, words)
-        }
+/// Answers a question about one set, or about a set and what follows; about resources, or about a range.
+pub fn answer(alloc: Global, answer: &mut Answer, family: Family, words: &[&str]) -> Result<()> {
+    let (question, one, other) = (word_at(words, 0), word_at(words, 1), word_at(words, 2));
+    match question {
+        "read" => family.join(answer, &family.set(alloc, one)?),
+        "count" => answer.say(&family.set(alloc, one)?.is_whole_v4()),
+        "each" => return family.prefixes(answer, one),
+        "resources" => family.join(answer, &family.resources(alloc, one)?.to_blocks()?),
+        "path" => return family.path(alloc, answer, words),
+        _ => return family.of_two(alloc, answer, question, [one, other]),
     }
+    Ok(())
 }

@@ -1,141 +1,103 @@
-//! Questions about IP resources of both families, as an encoding has them.
+//! Blocks and sets of one family.
 
-use crate::claims::Question;
-use answers::{Answer, mode_of};
-use anyhow::{Result, anyhow};
-use bcder::Mode;
-use bcder::decode::{Decode, DecodeError};
-use bcder::encode::Values;
-use resources::ipres::{AddressFamily, IpBlocks, IpBlocksForFamily, IpResources};
+use answers::{Answer, unknown, word_at};
+use anyhow::Result;
+use resources::ipres::{IpBlock, IpBlocks, IpResources, Ipv4Block, Ipv6Block};
+use resources::set::{Family, FamilyBlock, FamilyBlocks, V4, V6};
 use std::alloc::Global;
+use std::iter::once;
 
-// The blocks of a family.
-fn show(answer: &mut Answer, set: IpBlocks, is_v4: bool) {
-    let listed = if is_v4 {
-        IpBlocksForFamily::v4(&set)
-    } else {
-        IpBlocksForFamily::v6(&set)
-    };
-    answer.say(&format_args!("[{listed}]"));
+// What a block says of itself.
+fn block<F: Family>(answer: &mut Answer, block: FamilyBlock<F>) {
+    answer.say(&block);
+    answer.say(&block.min().to_bits());
+    answer.say(&block.max().to_bits());
+    answer.say(&block.is_slash_zero());
 }
 
-// What is said of a family.
-fn say(answer: &mut Answer, resources: IpResources, is_v4: bool) -> Result<()> {
-    if resources.is_missing() {
-        answer.word("missing");
-    } else if resources.is_inherited() {
-        answer.word("inherit");
-    } else {
-        show(answer, resources.to_blocks()?, is_v4);
-    }
+// What a block says of itself, and what it is as one of IPv4.
+fn v4_block(answer: &mut Answer, v4: Ipv4Block) {
+    block(answer, v4);
+    answer.say(&IpBlock::from(v4).display_v4());
+}
+
+// What a block says of itself, and what it is as one of IPv6.
+fn v6_block(answer: &mut Answer, v6: Ipv6Block) {
+    block(answer, v6);
+    answer.say(&IpBlock::from(v6).display_v6());
+}
+
+// The set of two blocks.
+fn joined<F: Family>(alloc: Global, one: &str, other: &str) -> Result<FamilyBlocks<F>> {
+    let one = one.parse::<FamilyBlock<F>>()?;
+    let other = other.parse::<FamilyBlock<F>>()?;
+    Ok(FamilyBlocks::from_iter(alloc, once(one).chain(once(other)))?)
+}
+
+// A set, the set of two blocks, and whether the first one is equal to that, to none or to all.
+fn compare<F: Family>(
+    alloc: Global,
+    answer: &mut Answer,
+    set: &FamilyBlocks<F>,
+    joined: &FamilyBlocks<F>,
+) -> Result<()> {
+    answer.word("[");
+    answer.join_as(set);
+    answer.join("]");
+    answer.say(joined);
+    answer.say(&(*set == *joined));
+    answer.say(&(*set == FamilyBlocks::empty()));
+    answer.say(&(*set == FamilyBlocks::all(alloc)?));
     Ok(())
 }
 
-// The resources in front of octets.
-fn decode(alloc: Global, answer: &mut Answer, mode: Mode, octets: &[u8]) -> Result<()> {
-    match mode.decode(octets, |cons| IpResources::take_families_from(alloc, cons)) {
-        Ok(families) => {
-            say(answer, families.v4, true)?;
-            say(answer, families.v6, false)
-        }
-        Err(DecodeError::Memory) => Err(anyhow!("out of memory")),
-        Err(_) => Err(anyhow!("no IP resources")),
-    }
-}
-
-// The octets that are written of values, as more of the last word.
-fn write<V: Values>(alloc: Global, answer: &mut Answer, values: &V, mode: Mode) -> Result<()> {
-    let captured = values.to_captured(alloc, mode)?;
-    answer.join_octets(captured.as_slice());
+// Whether the blocks of the set are those of the text, as they are and as resources, and make the set again.
+fn others<F: Family>(
+    alloc: Global,
+    answer: &mut Answer,
+    text: &str,
+    set: &FamilyBlocks<F>,
+) -> Result<()> {
+    let blocks = IpBlocks::from_str(alloc, text)?;
+    answer.say(&(*set.as_blocks() == blocks));
+    let resources = IpResources::blocks(blocks);
+    answer.say(&(set.to_ip_resources()? == resources));
+    answer.say(&(FamilyBlocks::from_blocks(set.clone()?.into_blocks()) == *set));
     Ok(())
 }
 
-// The family of a text of blocks, and the blocks of its set.
-fn encode(alloc: Global, answer: &mut Answer, listed: &str) -> Result<()> {
-    let set = IpBlocks::from_str(alloc, listed)?;
-    let family = AddressFamily::of_text(listed);
-    write(alloc, answer, &family.encode(), Mode::Der)?;
-    for block in set.iter() {
-        write(alloc, answer, &block.encode(), Mode::Der)?;
-    }
+// The set of a text, beside that of two blocks and as other types have it.
+fn of_family<F: Family>(alloc: Global, answer: &mut Answer, words: &[&str]) -> Result<()> {
+    let set = FamilyBlocks::<F>::from_str(alloc, word_at(words, 1))?;
+    compare(
+        alloc,
+        answer,
+        &set,
+        &joined(alloc, word_at(words, 2), word_at(words, 3))?,
+    )?;
+    others(alloc, answer, word_at(words, 1), &set)
+}
+
+// All of each family, and none.
+fn ends(alloc: Global, answer: &mut Answer) -> Result<()> {
+    v4_block(answer, Ipv4Block::all());
+    v6_block(answer, Ipv6Block::all());
+    answer.say(&FamilyBlocks::<V4>::all(alloc)?);
+    answer.say(&FamilyBlocks::<V6>::all(alloc)?);
+    answer.say(&FamilyBlocks::<V4>::empty().as_blocks().is_empty());
+    answer.say(&FamilyBlocks::<V6>::empty().as_blocks().is_empty());
     Ok(())
 }
 
-// The resources of a word, or of a text of blocks.
-fn resources(alloc: Global, word: &str) -> Result<IpResources> {
-    match word {
-        "missing" => Ok(IpResources::missing()),
-        "inherit" => Ok(IpResources::inherit()),
-        listed => Ok(IpResources::blocks(IpBlocks::from_str(alloc, listed)?)),
+/// The answer to a question about one family.
+pub fn answer(alloc: Global, answer: &mut Answer, words: &[&str]) -> Result<()> {
+    match word_at(words, 0) {
+        "ends" => return ends(alloc, answer),
+        "v4-block" => v4_block(answer, word_at(words, 1).parse::<Ipv4Block>()?),
+        "v6-block" => v6_block(answer, word_at(words, 1).parse::<Ipv6Block>()?),
+        "v4-sets" => return of_family::<V4>(alloc, answer, words),
+        "v6-sets" => return of_family::<V6>(alloc, answer, words),
+        _ => return unknown(),
     }
-}
-
-// Both families as one value.
-fn encode_families(
-    alloc: Global,
-    answer: &mut Answer,
-    mode: Mode,
-    v4: &str,
-    v6: &str,
-) -> Result<()> {
-    let v4 = resources(alloc, v4)?;
-    let v6 = resources(alloc, v6)?;
-    write(alloc, answer, &IpResources::encode_families(&v4, &v6), mode)
-}
-
-// The family in front of octets, gone past, and a second one after it.
-fn family(alloc: Global, answer: &mut Answer, octets: &[u8]) -> Result<()> {
-    let read = Mode::Der.decode(octets, |cons| {
-        let first = AddressFamily::skip_opt_in(alloc, cons)?;
-        let second = AddressFamily::take_opt_from(alloc, cons)?;
-        Ok((first, second))
-    });
-    match read {
-        Ok((first, second)) => {
-            answer.show(&first);
-            answer.show(&second);
-            Ok(())
-        }
-        Err(DecodeError::Memory) => Err(anyhow!("out of memory")),
-        Err(_) => Err(anyhow!("no family")),
-    }
-}
-
-// What is asked of octets in hexadecimal digits.
-fn of_octets(
-    alloc: Global,
-    answer: &mut Answer,
-    question: Question,
-    mode: Mode,
-    digits: &str,
-) -> Result<()> {
-    let octets = hex::decode(alloc, digits)?;
-    match question {
-        Question::Decode => decode(alloc, answer, mode, octets.as_slice()),
-        _ => family(alloc, answer, octets.as_slice()),
-    }
-}
-
-/// Answers a question about octets in hexadecimal digits, in DER, or in the mode that a word names; or about
-/// blocks, or resources of both families, that are written.
-pub fn answer(
-    alloc: Global,
-    answer: &mut Answer,
-    question: Question,
-    words: &[&str],
-) -> Result<()> {
-    match (question, words) {
-        (Question::Decode | Question::Family, [digits]) => {
-            of_octets(alloc, answer, question, Mode::Der, *digits)
-        }
-        (Question::Decode, [digits, mode]) => {
-            of_octets(alloc, answer, question, mode_of(*mode), *digits)
-        }
-        (Question::Encode, [listed]) => encode(alloc, answer, *listed),
-        (Question::Encode, [v4, v6]) => encode_families(alloc, answer, Mode::Der, *v4, *v6),
-        (Question::Encode, [v4, v6, mode]) => {
-            encode_families(alloc, answer, mode_of(*mode), *v4, *v6)
-        }
-        _ => Err(anyhow!("octets alone are asked about")),
-    }
+    Ok(())
 }

@@ -1,43 +1,68 @@
-//! Worked cases of AS and IP resources, as data: each line of standard input asks a question, by words with a tab
-//! between, and each line of standard output answers one.
+//! Worked cases of AS and IP resources, and the calls of sets and resources, and those that read and write them, as
+//! data: each line of standard input asks a question, by words with a tab between, and each line of standard output
+//! answers one. What numbers, addresses and chains come to, `resources_calls` asks.
 //!
-//! `tests/resources_cases.py` writes both, and knows the answers by means of its own.
+//! The first word names the module that answers, and the second one what it is asked. `tests/resources_calls.py`
+//! writes both, with the questions of `tests/resources_cases.py`, and knows the answers by means of its own.
 #![tactic(auto)]
 
 mod addresses;
-mod claims;
+mod builders;
+mod decoded;
+mod encodings;
 mod families;
+mod kinds;
 mod numbers;
 mod sets;
+mod written;
 
-use answers::{Answer, Questions, answer_lines};
-use anyhow::{Result, anyhow};
-use claims::Question;
+use addresses::Family;
+use answers::{Answer, Questions, answer_lines, unknown};
+use anyhow::Result;
+use resources::overclaim::Overclaim;
 use std::alloc::Global;
 
-// What is asked about resources.
+/// What is asked about resources.
 struct Cases;
 
-// Answers the question of a line.
-fn tell(alloc: Global, answer: &mut Answer, words: &[&str]) -> Result<()> {
-    let [kind, question, rest @ ..] = words else {
-        return Err(anyhow!("no question"));
-    };
-    match Question::of(*question) {
-        Some(Question::Identifiers) => sets::identifiers(answer, *kind),
-        Some(question) if *kind == "as" => return numbers::answer(alloc, answer, question, rest),
-        Some(question) if *kind == "ip" => return families::answer(alloc, answer, question, rest),
-        Some(question) if *kind == "all" => return sets::answer(alloc, answer, question, rest),
-        Some(question) => return addresses::answer(alloc, answer, *kind, question, rest),
-        None => return Err(anyhow!("no such question")),
+// The policy of a word.
+fn policy(word: &str) -> Overclaim {
+    if word == "trim" {
+        return Overclaim::Trim;
     }
-    Ok(())
+    Overclaim::Refuse
+}
+
+// The answer to a question about a kind of resources, about all three, or about the identifiers of a policy.
+fn of_kind(alloc: Global, answer: &mut Answer, kind: &str, words: &[&str]) -> Result<()> {
+    match kind {
+        "as" => numbers::answer(alloc, answer, words),
+        "ip" => encodings::answer(alloc, answer, words),
+        "v4" => addresses::answer(alloc, answer, Family::V4, words),
+        "v6" => addresses::answer(alloc, answer, Family::V6, words),
+        "all" => sets::answer(alloc, answer, words),
+        _ => {
+            kinds::identifiers(answer, policy(kind));
+            Ok(())
+        }
+    }
 }
 
 impl Questions for Cases {
     fn answer(&self, alloc: Global, answer: &mut Answer, words: &[&str]) -> Result<()> {
-        if let Err(error) = tell(alloc, answer, words) {
-            answer.say(&format_args!("refused: {error}"));
+        let [topic, words @ ..] = words else {
+            return unknown();
+        };
+        match *topic {
+            "resources" => return builders::answer(alloc, answer, words),
+            "family" => return families::answer(alloc, answer, words),
+            "set" => return kinds::answer(alloc, answer, words),
+            "der" => return decoded::answer(alloc, answer, words),
+            _ => {}
+        }
+        if let Err(error) = of_kind(alloc, answer, *topic, words) {
+            answer.word("refused: ");
+            answer.join_as(&error);
         }
         Ok(())
     }

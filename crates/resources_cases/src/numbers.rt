@@ -1,17 +1,14 @@
 //! Questions about AS numbers.
 
-use crate::claims::{Question, policy};
-use answers::Answer;
+use crate::encodings::write;
+use crate::policy;
+use answers::{Answer, octets_of, unknown, word_at};
 use anyhow::{Result, anyhow};
 use bcder::Mode;
-use bcder::decode::{Decode, DecodeError};
-use bcder::encode::Values;
+use bcder::decode::Decode;
 use resources::asres::{AsBlock, AsBlocks, AsResources, OverclaimedAsResources};
 use resources::overclaim::{ClaimError, Overclaim};
 use std::alloc::Global;
-
-/// What a claim comes to.
-type Verdict = std::result::Result<AsBlocks, ClaimError<OverclaimedAsResources>>;
 
 // The set of a text.
 fn set(alloc: Global, text: &str) -> Result<AsBlocks> {
@@ -24,17 +21,19 @@ fn resources(alloc: Global, text: &str) -> Result<AsResources> {
 }
 
 // What is held, or the numbers outside.
-fn held(answer: &mut Answer, verdict: Verdict) -> Result<()> {
+fn held(answer: &mut Answer, verdict: Result<AsBlocks, ClaimError<OverclaimedAsResources>>) {
     match verdict {
         Ok(held) => answer.say(&held),
-        Err(ClaimError::Overclaimed(outside)) => answer.say(&format_args!("refused: {outside}")),
-        Err(ClaimError::Memory) => return Err(anyhow!("out of memory")),
+        Err(ClaimError::Overclaimed(outside)) => {
+            answer.word("refused: ");
+            answer.join_as(&outside);
+        }
+        Err(ClaimError::Memory) => answer.word("out of memory"),
     }
-    Ok(())
 }
 
-// The words of a path, two by two: a policy, and what is claimed under it.
-fn path(alloc: Global, words: &[&str]) -> Result<Vec<(AsResources, Overclaim)>> {
+// The claims of a path, two words each: a policy, and what is claimed under it.
+fn path_of(alloc: Global, words: &[&str]) -> Result<Vec<(AsResources, Overclaim)>> {
     let mut path = Vec::new(alloc);
     for claim in words.chunks_exact(2) {
         if let [word, text] = claim {
@@ -44,9 +43,15 @@ fn path(alloc: Global, words: &[&str]) -> Result<Vec<(AsResources, Overclaim)>> 
     Ok(path)
 }
 
-fn along(alloc: Global, answer: &mut Answer, root: &AsBlocks, words: &[&str]) -> Result<()> {
-    let path = path(alloc, words)?;
-    held(answer, root.verify_path(alloc, path.as_slice()))
+// What the claims of a path hold below a root.
+fn path(alloc: Global, answer: &mut Answer, words: &[&str]) -> Result<()> {
+    let [_, root, claims @ ..] = words else {
+        return unknown();
+    };
+    let root = set(alloc, *root)?;
+    let path = path_of(alloc, claims)?;
+    held(answer, root.verify_path(alloc, path.as_slice()));
+    Ok(())
 }
 
 // The first numbers of a set, one by one.
@@ -58,20 +63,24 @@ fn each(answer: &mut Answer, set: &AsBlocks) {
 }
 
 // Resources, and the set that they list.
-fn listed(answer: &mut Answer, resources: AsResources) -> Result<()> {
+fn listed(answer: &mut Answer, resources: &AsResources) -> Result<()> {
     let blocks = resources.to_blocks()?;
-    answer.say(&format_args!("{resources}: {blocks}"));
+    answer.say(resources);
+    answer.join(": ");
+    answer.join_as(&blocks);
     Ok(())
 }
 
 // The resources in front of octets.
 fn decode(alloc: Global, answer: &mut Answer, octets: &[u8]) -> Result<()> {
     match Mode::Der.decode(octets, |cons| AsResources::take_from(alloc, cons)) {
-        Ok(resources) => answer.say(&format_args!("{resources}.")),
-        Err(DecodeError::Memory) => return Err(anyhow!("out of memory")),
-        Err(_) => return Err(anyhow!("no AS resources")),
+        Ok(resources) => {
+            answer.say(&resources);
+            answer.join(".");
+            Ok(())
+        }
+        Err(_) => Err(anyhow!("no AS resources")),
     }
-    Ok(())
 }
 
 // A content goes on after a block, but not after a refusal that is forgotten.
@@ -81,124 +90,88 @@ fn forgotten(answer: &mut Answer, octets: &[u8]) -> Result<()> {
         Ok(())
     });
     match read {
-        Ok(()) => answer.word("goes on"),
-        Err(_) => return Err(anyhow!("the content failed")),
+        Ok(()) => {
+            answer.word("goes on");
+            Ok(())
+        }
+        Err(_) => Err(anyhow!("the content failed")),
     }
-    Ok(())
-}
-
-// The octets that are written of values, as more of the last word.
-fn write<V: Values>(alloc: Global, answer: &mut Answer, values: &V) -> Result<()> {
-    let captured = values.to_captured(alloc, Mode::Der)?;
-    answer.join_octets(captured.as_slice());
-    Ok(())
 }
 
 // The octets of resources in DER, and of the blocks that they list, which are bare.
-fn encode(alloc: Global, answer: &mut Answer, resources: AsResources) -> Result<()> {
-    write(alloc, answer, resources.encode_ref())?;
+fn encode(alloc: Global, answer: &mut Answer, resources: &AsResources) -> Result<()> {
+    write(alloc, answer, resources.encode_ref(), Mode::Der)?;
     match resources.to_blocks() {
         Ok(blocks) => {
             answer.join(" ");
-            write(alloc, answer, &blocks)
+            write(alloc, answer, &blocks, Mode::Der)
         }
         Err(_) => Ok(()),
     }
 }
 
-fn issued(
+// What a claim comes to below an issuer.
+fn of_claim(
     alloc: Global,
     answer: &mut Answer,
+    question: &str,
     issuer: &AsBlocks,
-    policy: Overclaim,
-    text: &str,
-) -> Result<()> {
-    let claim = resources(alloc, text)?;
-    held(answer, issuer.verify_issued(alloc, &claim, policy))
-}
-
-fn covered(alloc: Global, answer: &mut Answer, issuer: &AsBlocks, text: &str) -> Result<()> {
-    let claim = resources(alloc, text)?;
-    match issuer.verify_covered(alloc, &claim) {
-        Ok(()) => {
-            answer.say(issuer);
-            Ok(())
-        }
+    claim: &AsResources,
+) {
+    if question != "covered" {
+        return held(answer, issuer.verify_issued(alloc, claim, policy(question)));
+    }
+    match issuer.verify_covered(alloc, claim) {
+        Ok(()) => answer.say(issuer),
         Err(error) => held(answer, Err(error)),
     }
 }
 
-// What is asked of octets in hexadecimal digits, or of the resources of a text.
-fn of_text(alloc: Global, answer: &mut Answer, question: Question, text: &str) -> Result<()> {
-    match question {
-        Question::Resources => listed(answer, resources(alloc, text)?),
-        Question::Encode => encode(alloc, answer, resources(alloc, text)?),
-        Question::Decode => decode(alloc, answer, hex::decode(alloc, text)?.as_slice()),
-        _ => forgotten(answer, hex::decode(alloc, text)?.as_slice()),
-    }
-}
-
-// What is asked of one set.
-fn of_set(alloc: Global, answer: &mut Answer, question: Question, set: AsBlocks) -> Result<()> {
-    match question {
-        Question::Read => answer.say(&set),
-        Question::Count => answer.say(&set.asn_count()),
-        Question::Each => each(answer, &set),
-        Question::Path => return along(alloc, answer, &set, &[]),
-        _ => return Err(anyhow!("one set is too few")),
-    }
-    Ok(())
-}
-
-// What is asked of two sets.
+// What two sets come to.
 fn of_sets(
     alloc: Global,
     answer: &mut Answer,
-    question: Question,
+    question: &str,
     one: &AsBlocks,
-    other: AsBlocks,
+    other: &AsBlocks,
 ) -> Result<()> {
     match question {
-        Question::Within => answer.say(&other.contains(one)),
-        Question::Union => answer.say(&one.union(alloc, &other)?),
-        Question::Intersection => answer.say(&one.intersection(alloc, &other)?),
-        Question::Difference => answer.say(&one.difference(alloc, &other)?),
-        _ => return Err(anyhow!("two sets are too many")),
+        "within" => answer.say(&other.contains(one)),
+        "union" => answer.say(&one.union(alloc, other)?),
+        "intersection" => answer.say(&one.intersection(alloc, other)?),
+        "difference" => answer.say(&one.difference(alloc, other)?),
+        _ => return unknown(),
     }
     Ok(())
 }
 
-fn of_several(
-    alloc: Global,
-    answer: &mut Answer,
-    question: Question,
-    root: &AsBlocks,
-    words: &[&str],
-) -> Result<()> {
-    match (question, words) {
-        (Question::Path, _) => along(alloc, answer, root, words),
-        (Question::Issued(policy), [claim]) => issued(alloc, answer, root, policy, *claim),
-        (Question::Covered, [claim]) => covered(alloc, answer, root, *claim),
-        (_, [other]) => of_sets(alloc, answer, question, root, set(alloc, *other)?),
-        _ => Err(anyhow!("too many words")),
+// What a set comes to with what follows: a claim, or another set.
+fn of_two(alloc: Global, answer: &mut Answer, question: &str, words: [&str; 2]) -> Result<()> {
+    let [one, other] = words;
+    let one = set(alloc, one)?;
+    match question {
+        "refuse" | "trim" | "covered" => {
+            of_claim(alloc, answer, question, &one, &resources(alloc, other)?);
+            Ok(())
+        }
+        _ => of_sets(alloc, answer, question, &one, &set(alloc, other)?),
     }
 }
 
-/// Answers a question about one set, or about a set and what follows.
-pub fn answer(
-    alloc: Global,
-    answer: &mut Answer,
-    question: Question,
-    words: &[&str],
-) -> Result<()> {
-    match (question, words) {
-        (_, []) => Err(anyhow!("no words")),
-        (Question::Resources | Question::Decode | Question::Encode | Question::Forgotten, [text]) =>
-            of_text(alloc, answer, question, *text),
-        (_, [one]) => of_set(alloc, answer, question, set(alloc, *one)?),
-        (_, [root, words @ ..]) => {
-            let root = set(alloc, *root)?;
-            of_several(alloc, answer, question, &root, words)
-        }
+/// Answers a question about one set, or about a set and what follows; about resources, or about octets in
+/// hexadecimal digits.
+pub fn answer(alloc: Global, answer: &mut Answer, words: &[&str]) -> Result<()> {
+    let (question, one, other) = (word_at(words, 0), word_at(words, 1), word_at(words, 2));
+    match question {
+        "read" => answer.say(&set(alloc, one)?),
+        "count" => answer.say(&set(alloc, one)?.asn_count()),
+        "each" => each(answer, &set(alloc, one)?),
+        "resources" => return listed(answer, &resources(alloc, one)?),
+        "encode" => return encode(alloc, answer, &resources(alloc, one)?),
+        "decode" => return decode(alloc, answer, octets_of(alloc, one).as_slice()),
+        "forgotten" => return forgotten(answer, octets_of(alloc, one).as_slice()),
+        "path" => return path(alloc, answer, words),
+        _ => return of_two(alloc, answer, question, [one, other]),
     }
+    Ok(())
 }

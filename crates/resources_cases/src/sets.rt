@@ -1,14 +1,9 @@
-//! Questions about sets of all three kinds, and about the identifiers of policies.
+//! Questions about what sets of all three kinds come to.
 
-ghost use Rattle.std.specs.Prelude.{IfOk};
-ghost use Rattle.resources_cases.specs.resources.Resources.{ListsWhole};
-
-use crate::claims::{Question, policy};
-use answers::Answer;
-use anyhow::{Result, anyhow};
+use crate::addresses::{v4_resources, v6_resources};
+use answers::{Answer, unknown, word_at};
+use anyhow::Result;
 use resources::asres::AsResources;
-use resources::ipres::{IpResources, Ipv4Blocks, Ipv6Blocks};
-use resources::overclaim::{Overclaim, OverclaimIds};
 use resources::set::ResourceSet;
 use std::alloc::{AllocError, Global};
 
@@ -16,26 +11,6 @@ use std::alloc::{AllocError, Global};
 fn set(alloc: Global, words: [&str; 3]) -> Result<ResourceSet> {
     let [asn, ipv4, ipv6] = words;
     Ok(ResourceSet::from_strs(alloc, asn, ipv4, ipv6)?)
-}
-
-// IPv4 resources that are inherited, missing (`none`) or listed.
-fn v4_resources(alloc: Global, text: &str) -> Result<IpResources>
-    ensures { IfOk result (λ resources. ListsWhole resources) }
-{
-    match text {
-        "inherit" => Ok(IpResources::inherit()),
-        "none" => Ok(IpResources::missing()),
-        _ => Ok(IpResources::blocks(Ipv4Blocks::from_str(alloc, text)?.into_blocks())),
-    }
-}
-
-// IPv6 resources that are inherited, missing (`none`) or listed.
-fn v6_resources(alloc: Global, text: &str) -> Result<IpResources> {
-    match text {
-        "inherit" => Ok(IpResources::inherit()),
-        "none" => Ok(IpResources::missing()),
-        _ => Ok(IpResources::blocks(Ipv6Blocks::from_str(alloc, text)?.into_blocks())),
-    }
 }
 
 // The set that three resources list.
@@ -57,15 +32,19 @@ fn copied(set: &ResourceSet) -> Result<ResourceSet, AllocError> {
 }
 
 // A copy of a set, whether it is equal and whether it is none, and its AS numbers as resources.
-fn each(answer: &mut Answer, set: ResourceSet) -> Result<()> {
-    let copy = copied(&set)?;
-    answer.say(&format_args!("{copy};"));
-    answer.say(&format_args!("{};", copy == set));
-    answer.say(&format_args!("{};", copy == ResourceSet::default()));
-    answer.say(&copy.to_as_resources()?);
+fn each(answer: &mut Answer, set: &ResourceSet) -> Result<()> {
+    let copy = copied(set)?;
+    answer.say(&copy);
+    answer.join("; ");
+    answer.join_as(&(copy == *set));
+    answer.join("; ");
+    answer.join_as(&(copy == ResourceSet::default()));
+    answer.join("; ");
+    answer.join_as(&copy.to_as_resources()?);
     Ok(())
 }
 
+// How one set changes into another.
 fn difference(
     alloc: Global,
     answer: &mut Answer,
@@ -73,69 +52,48 @@ fn difference(
     other: &ResourceSet,
 ) -> Result<()> {
     let changes = one.difference(alloc, other)?;
-    answer.say(&format_args!("{changes};"));
-    answer.say(&format_args!("{};", changes.added()));
-    answer.say(changes.removed());
+    answer.say(&changes);
+    answer.join("; ");
+    answer.join_as(changes.added());
+    answer.join("; ");
+    answer.join_as(changes.removed());
     Ok(())
 }
 
-fn of_one(alloc: Global, answer: &mut Answer, question: Question, words: [&str; 3]) -> Result<()> {
-    match question {
-        Question::Resources => answer.say(&listed(alloc, words)?),
-        Question::Read => answer.say(&set(alloc, words)?),
-        Question::Each => return each(answer, set(alloc, words)?),
-        Question::Count => answer.say(&set(alloc, words)?.is_empty()),
-        _ => return Err(anyhow!("one set is too few")),
-    }
-    Ok(())
-}
-
+// What two sets come to.
 fn of_two(
     alloc: Global,
     answer: &mut Answer,
-    question: Question,
+    question: &str,
     one: &ResourceSet,
     other: &ResourceSet,
 ) -> Result<()> {
     match question {
-        Question::Within => answer.say(&other.contains(one)),
-        Question::Union => answer.say(&one.union(alloc, other)?),
-        Question::Intersection => answer.say(&one.intersection(alloc, other)?),
-        Question::Difference => return difference(alloc, answer, one, other),
-        _ => return Err(anyhow!("two sets are too many")),
+        "within" => answer.say(&other.contains(one)),
+        "union" => answer.say(&one.union(alloc, other)?),
+        "intersection" => answer.say(&one.intersection(alloc, other)?),
+        "difference" => return difference(alloc, answer, one, other),
+        _ => return unknown(),
     }
     Ok(())
 }
 
 /// Answers a question about one set, or about two.
-pub fn answer(
-    alloc: Global,
-    answer: &mut Answer,
-    question: Question,
-    words: &[&str],
-) -> Result<()> {
-    match words {
-        [asn, v4, v6] => of_one(alloc, answer, question, [*asn, *v4, *v6]),
-        [asn, v4, v6, asns, v4s, v6s] => {
-            let one = set(alloc, [*asn, *v4, *v6])?;
-            let other = set(alloc, [*asns, *v4s, *v6s])?;
-            of_two(alloc, answer, question, &one, &other)
+pub fn answer(alloc: Global, answer: &mut Answer, words: &[&str]) -> Result<()> {
+    let one = [word_at(words, 1), word_at(words, 2), word_at(words, 3)];
+    match word_at(words, 0) {
+        "resources" => answer.say(&listed(alloc, one)?),
+        "read" => answer.say(&set(alloc, one)?),
+        "each" => return each(answer, &set(alloc, one)?),
+        "count" => answer.say(&set(alloc, one)?.is_empty()),
+        question => {
+            let one = set(alloc, one)?;
+            let other = set(
+                alloc,
+                [word_at(words, 4), word_at(words, 5), word_at(words, 6)],
+            )?;
+            return of_two(alloc, answer, question, &one, &other);
         }
-        _ => Err(anyhow!("not one set, nor two")),
     }
-}
-
-/// The identifiers of a policy, and whether each is reported again.
-pub fn identifiers(answer: &mut Answer, word: &str) {
-    let mode = policy(word);
-    let (policy, ip, asn) = (mode.policy_id(), mode.ip_res_id(), mode.as_res_id());
-    answer.say(&policy);
-    answer.say(&ip);
-    answer.say(&asn);
-    answer.say(
-        &(Overclaim::from_policy(&policy) == Some(mode)
-            && Overclaim::from_ip_res(&ip) == Some(mode)
-            && Overclaim::from_as_res(&asn) == Some(mode)
-            && Overclaim::from_policy(&ip).is_none()),
-    );
+    Ok(())
 }

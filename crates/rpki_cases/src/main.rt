@@ -1,5 +1,6 @@
-//! Worked cases of bundles, of the validator and of the program's commands, as data: each line of standard input asks
-//! a question, by words with a tab between, and each line of standard output answers one.
+//! Worked cases of bundles, of the validator and of the program's commands, of publication points, validated objects and
+//! written contents, as data: each line of standard input asks a question, by words with a tab between, and each line of
+//! standard output answers one. The first word names the topic.
 //!
 //! Worlds are told line by line. A line of these gives one thing, and has no answer, or asks one question:
 //!
@@ -19,58 +20,45 @@
 //! `tests/rpki_cases.py` writes both, and the folders of `data/`, and knows the answers by means of its own.
 #![tactic(auto)]
 
+mod asked;
 mod bundles;
+mod chains;
 mod commands;
 mod files;
 mod judges;
 mod noting;
+mod objects;
 mod octets;
 mod parts;
+mod points;
 mod questions;
+mod reports;
+mod said;
 mod shown;
 mod streams;
 mod times;
+mod topics;
 mod uris;
+mod validated;
 mod walks;
 mod world;
-mod worlds;
+mod written;
 
 use answers::Answer;
 use anyhow::Result;
 use world::World;
 
-// The answer to a question, which may make or read files.
-fn asked(rt: HostRuntime, answer: &mut Answer, world: &World, words: &[&str]) -> Result<()> {
-    let Some((question, rest)) = words.split_first() else {
-        return Ok(());
-    };
-    match *question {
-        "decode" | "again" | "get" | "parts" => {
-            bundles::answer(rt.alloc(), answer, *question, rest)
-        }
-        "utc" | "moment" | "order" => times::answer(answer, *question, rest),
-        "uri" | "compare" => uris::answer(rt.alloc(), answer, *question, rest),
-        "put" | "folder" | "link" | "mode" => files::answer(&rt, answer, *question, rest),
-        "witnesses" | "judge" | "asks" | "reach" => {
-            judges::answer(rt.alloc(), answer, *question, rest)
-        }
-        "ask" => questions::answer(rt.alloc(), answer, rest),
-        "walk" | "flips" | "cuts" | "rooms" | "reads" => {
-            walks::answer(rt.alloc(), answer, *question, rest)
-        }
-        "world" => worlds::answer(rt.alloc(), answer, world, rest),
-        _ => commands::answer(&rt, answer, *question, rest),
-    }
-}
-
 // Takes what a line gives of the world, or answers what it asks. An error's text is the last word of the answer.
 fn take(rt: HostRuntime, world: &mut World, line: &str) -> Result<()> {
     let words: Vec<&str> = line.split('\t').collect(rt.alloc())?;
-    if world.is_told(rt.alloc(), words.as_slice())? {
+    let Some((topic, rest)) = words.as_slice().split_first() else {
+        return Ok(());
+    };
+    if *topic == "world" && world.take(rt.alloc(), rest)? {
         return Ok(());
     }
     let mut answer = Answer::new(rt.alloc());
-    if let Err(error) = asked(rt, &mut answer, world, words.as_slice()) {
+    if let Err(error) = topics::answer(&rt, &mut answer, world, *topic, rest) {
         answer.say(&error);
     }
     println!(rt; "{}", answer.text())?;

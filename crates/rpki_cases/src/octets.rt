@@ -1,11 +1,14 @@
 //! Octets, texts and bundles as the words of a question have them.
 
 use answers::pieces_of;
-use anyhow::{Result, anyhow};
+use anyhow::Result;
 use bytes::Bytes;
 use hex::FromHex;
 use rpki_bundle::Bundle;
 use std::alloc::Global;
+
+/// The digests of a good signature, in the order in which a bundle's table has them: its key's, its message's, its own.
+pub type Row = [[u8; 32]; 3];
 
 /// The bundle of a word's octets.
 pub fn bundle_of(alloc: Global, word: &str) -> Result<Bundle> {
@@ -25,20 +28,13 @@ pub fn text_of(alloc: Global, text: &str) -> Result<Bytes> {
     Ok(Bytes::copy_from_slice(alloc, text.as_bytes())?)
 }
 
-/// The digest of hexadecimal digits.
-pub fn digest_of(digits: &str) -> Result<[u8; 32]> {
-    match <[u8; 32]>::from_hex(digits.as_bytes()) {
-        Ok(digest) => Ok(digest),
-        Err(_) => Err(anyhow!("no digest")),
-    }
-}
-
-/// The number of a word.
-pub fn number_of(word: &str) -> Result<u32> {
-    match word.parse::<u32>() {
-        Ok(number) => Ok(number),
-        Err(_) => Err(anyhow!("no number")),
-    }
+/// The digests of hexadecimal digits.
+pub fn row_of(key: &str, message: &str, signature: &str) -> Result<Row> {
+    Ok([
+        <[u8; 32]>::from_hex(key.as_bytes())?,
+        <[u8; 32]>::from_hex(message.as_bytes())?,
+        <[u8; 32]>::from_hex(signature.as_bytes())?,
+    ])
 }
 
 /// Appends the words, each as a text of its own.

@@ -5,27 +5,23 @@ use crate::octets::push_texts;
 use answers::{Answer, pieces_of};
 use anyhow::{Result, anyhow};
 use rpki_commands::Counted;
-use rpki_commands::questions::{Request, ask, request_of};
+use rpki_commands::questions::{ask, request_of};
 use std::alloc::Global;
 
-// What is answered to a request, of the bundle of these octets.
-fn asked(alloc: Global, answer: &mut Answer, request: Request<'_>, octets: &[u8]) {
+// What is answered to these words, of the bundle of these octets.
+fn of_octets(alloc: Global, answer: &mut Answer, words: &[&str], octets: &[u8]) -> Result<()> {
+    let mut arguments = Vec::new(alloc);
+    arguments.push("rpki_ask".to_string(alloc)?)?;
+    push_texts(&mut arguments, alloc, words)?;
+    let Some(request) = request_of(arguments.as_slice()) else {
+        answer.word("usage");
+        return Ok(());
+    };
     let mut reader = Counted::new(octets);
     let mut writer = Counted::new(Vec::new(alloc));
     let mut faults = Vec::new(alloc);
     let status = ask(alloc, request, &mut reader, &mut writer, &mut faults);
     end(answer, status, writer.inner.as_slice(), faults.as_slice());
-}
-
-// What is answered to these words, of the bundle of these octets.
-fn of_octets(alloc: Global, answer: &mut Answer, words: &[&str], octets: &[u8]) -> Result<()> {
-    let mut arguments = Vec::new(alloc);
-    push_texts(&mut arguments, alloc, &["rpki_ask"])?;
-    push_texts(&mut arguments, alloc, words)?;
-    match request_of(arguments.as_slice()) {
-        Some(request) => asked(alloc, answer, request, octets),
-        None => answer.word("usage"),
-    }
     Ok(())
 }
 

@@ -1,113 +1,72 @@
 //! Readers and writers over memory that give and take little, and fail.
 
-use crate::octets::number_of;
-use anyhow::Result;
+use answers::count_of;
 use std::alloc::Global;
 use std::io::{self, ErrorKind, Read, Write};
 
-/// Gives so many octets a read, and fails once its good reads are over.
+/// A reader that gives so many octets a call, and fails once its good calls are over; or a writer that takes so many octets a
+/// call, and so many in all: when it is full it fails, or takes nothing. One that fails and takes none at all can't be flushed.
 #[derive(Drop)]
-pub struct Source<'a> {
+pub struct Stream<'a> {
     rest: &'a [u8],
-    most: usize,
-    good_reads: usize,
-}
-
-/// Takes so many octets a write, and so many in all; when it is full it fails, or takes nothing.
-#[derive(Drop)]
-pub struct Sink {
     /// What it took.
     pub taken: Vec<u8>,
     most: usize,
-    room: usize,
-    fails_full: bool,
+    left: usize,
+    fails: bool,
 }
 
-/// Fails at every call.
-#[derive(Drop)]
-pub struct Broken;
-
-fn failure() -> io::Error {
-    io::Error::from(ErrorKind::Interrupted)
-}
-
-impl<'a> Source<'a> {
-    /// Octets, how many of them a read gives, and how many reads don't fail.
-    pub fn new(rest: &'a [u8], most: usize, good_reads: usize) -> Self {
-        Source {
+impl<'a> Stream<'a> {
+    /// What it gives; how many octets it gives or takes a call; how many calls are good, or how many octets have room; and
+    /// whether it fails when it is full.
+    pub fn new(alloc: Global, rest: &'a [u8], most: usize, left: usize, fails: bool) -> Self {
+        Stream {
             rest,
-            most,
-            good_reads,
-        }
-    }
-
-    /// Gives so many octets a time and fails after so many good reads, by words.
-    pub fn of_words(rest: &'a [u8], most: &str, good_reads: &str) -> Result<Self> {
-        let most = number_of(most)? as usize;
-        let good_reads = number_of(good_reads)? as usize;
-        Ok(Source::new(rest, most, good_reads))
-    }
-}
-
-impl Sink {
-    /// How many octets a write takes, how many all do, and whether the next write fails or takes nothing.
-    pub fn new(alloc: Global, most: usize, room: usize, fails_full: bool) -> Self {
-        Sink {
             taken: Vec::new(alloc),
             most,
-            room,
-            fails_full,
+            left,
+            fails,
         }
     }
 
-    /// Takes so many octets a time and has so much room, by words; past the room a write fails by `fails`, and takes nothing by
-    /// any other.
-    pub fn of_words(alloc: Global, most: &str, room: &str, end: &str) -> Result<Self> {
-        let most = number_of(most)? as usize;
-        let room = number_of(room)? as usize;
-        Ok(Sink::new(alloc, most, room, end == "fails"))
+    /// Gives or takes all that there is.
+    pub fn whole(alloc: Global, rest: &'a [u8]) -> Self {
+        Stream::new(alloc, rest, usize::MAX, usize::MAX, false)
+    }
+
+    /// By words: how many octets a call, how much is left, and `fails` where it fails when it is full.
+    pub fn of_words(alloc: Global, rest: &'a [u8], words: [&str; 3]) -> Self {
+        let [most, left, end] = words;
+        Stream::new(alloc, rest, count_of(most), count_of(left), end == "fails")
     }
 }
 
-impl Read for Source<'_> {
+impl Read for Stream<'_> {
     fn read(&mut self, buf: &mut [u8]) -> io::Result<usize> {
-        if self.good_reads == 0 {
-            return Err(failure());
+        if self.left == 0 {
+            return Err(io::Error::from(ErrorKind::Interrupted));
         }
-        self.good_reads -= 1;
+        self.left -= 1;
         let most = buf.len().min(self.most);
         self.rest.read(&mut buf[..most])
     }
 }
 
-impl Write for Sink {
+impl Write for Stream<'_> {
     fn write(&mut self, buf: &[u8]) -> io::Result<usize> {
-        if self.room == 0 && self.fails_full {
-            return Err(failure());
+        if self.left == 0 && self.fails {
+            return Err(io::Error::from(ErrorKind::Interrupted));
         }
-        let count = buf.len().min(self.most).min(self.room);
+        let count = buf.len().min(self.most).min(self.left);
         self.taken.extend_from_slice(&buf[..count])?;
-        self.room -= count;
+        self.left -= count;
         Ok(count)
     }
 
     fn flush(&mut self) -> io::Result<()> {
+        if self.most == 0 && self.fails {
+            return Err(io::Error::from(ErrorKind::Interrupted));
+        }
         Ok(())
-    }
-}
-
-impl Read for Broken {
-    fn read(&mut self, _buf: &mut [u8]) -> io::Result<usize> {
-        Err(failure())
-    }
-}
-
-impl Write for Broken {
-    fn write(&mut self, _buf: &[u8]) -> io::Result<usize> {
-        Err(failure())
-    }
-
-    fn flush(&mut self) -> io::Result<()> {
-        Err(failure())
     }
 }

@@ -1,58 +1,41 @@
 //! Questions about moments.
 
-use crate::octets::number_of;
 use crate::shown::tell_lines;
-use answers::Answer;
-use anyhow::{Result, anyhow};
+use answers::{Answer, count_of, word_at};
 use rpki_bundle::Time;
 
-// A moment, or that there is none.
-fn tell(answer: &mut Answer, moment: Option<Time>) {
+// A part of a date or a time of day; a number past 255 is as wrong as 255.
+fn part(words: &[&str], place: usize) -> u8 {
+    count_of(word_at(words, place)).min(255) as u8
+}
+
+/// The moment of a date and a time of day, or of a text, or that there is none.
+pub fn tell(answer: &mut Answer, topic: &str, words: &[&str]) {
+    let first = word_at(words, 0);
+    let moment = match topic {
+        "utc" => {
+            let year = count_of(first).min(65_535) as u16;
+            let (month, day, hour) = (part(words, 1), part(words, 2), part(words, 3));
+            Time::utc(year, month, day, hour, part(words, 4), part(words, 5))
+        }
+        _ => Time::from_generalized(first.as_bytes()),
+    };
     match moment {
         Some(moment) => tell_lines(answer, &moment.generalized()),
         None => answer.word("none"),
     }
 }
 
-// A part of a date or a time of day; a number past 255 is as wrong as 255.
-fn part(word: &str) -> Result<u8> {
-    Ok(number_of(word)?.min(255) as u8)
-}
-
-// The moment of a date and a time of day.
-fn utc(answer: &mut Answer, year: &str, words: [&str; 5]) -> Result<()> {
-    let year = number_of(year)?.min(65_535) as u16;
-    let [month, day, hour, minute, second] = words;
-    let (month, day) = (part(month)?, part(day)?);
-    let (hour, minute, second) = (part(hour)?, part(minute)?, part(second)?);
-    tell(answer, Time::utc(year, month, day, hour, minute, second));
-    Ok(())
-}
-
-// How two moments stand.
-fn order(answer: &mut Answer, one: &str, other: &str) -> Result<()> {
-    let one = Time::from_generalized(one.as_bytes());
-    let other = Time::from_generalized(other.as_bytes());
-    let (Some(one), Some(other)) = (one, other) else {
-        return Err(anyhow!("no moments"));
-    };
-    answer.show(&one.cmp(&other));
-    answer.say(&(one == other));
-    answer.say(&(one < other));
-    Ok(())
-}
-
-/// The answer to a question about moments.
-pub fn answer(answer: &mut Answer, question: &str, words: &[&str]) -> Result<()> {
-    match (question, words) {
-        ("utc", [year, month, day, hour, minute, second]) => {
-            utc(answer, *year, [*month, *day, *hour, *minute, *second])
+/// How two moments stand.
+pub fn order(answer: &mut Answer, words: &[&str]) {
+    let one = Time::from_generalized(word_at(words, 0).as_bytes());
+    let other = Time::from_generalized(word_at(words, 1).as_bytes());
+    match (one, other) {
+        (Some(one), Some(other)) => {
+            answer.show(&one.cmp(&other));
+            answer.say(&(one == other));
+            answer.say(&(one < other));
         }
-        ("moment", [text]) => {
-            tell(answer, Time::from_generalized(text.as_bytes()));
-            Ok(())
-        }
-        ("order", [one, other]) => order(answer, *one, *other),
-        _ => Err(anyhow!("other words")),
+        _ => answer.word("no moments"),
     }
 }

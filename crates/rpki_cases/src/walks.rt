@@ -1,12 +1,13 @@
 //! Questions about walks: what a run writes of a bundle by digests that are given, and of one with an octet changed,
 //! cut off, not given or not taken, place by place.
 
-use crate::octets::number_of;
+ghost use Rattle.std.specs.Prelude.{◌<◌, ◌-◌, ◌^◌};
+
 use crate::shown::tell_lines;
-use crate::streams::{Sink, Source};
-use answers::{Answer, pieces_of};
-use anyhow::{Result, anyhow};
-use rpki_commands::{Counted, Digester, Fips, RunError, run};
+use crate::streams::Stream;
+use answers::{Answer, count_of, pieces_of, word_at};
+use anyhow::Result;
+use rpki_commands::{Counted, Digester, Fips, run};
 use std::alloc::Global;
 
 // More places than any question has to try.
@@ -41,13 +42,6 @@ struct Outcomes {
 }
 
 impl Outcomes {
-    fn new(alloc: Global) -> Self {
-        Outcomes {
-            last: Answer::new(alloc),
-            count: 0,
-        }
-    }
-
     // One more, which ends the row before it if it differs.
     fn add(&mut self, answer: &mut Answer, next: Answer) {
         if self.count > 0 && self.last.text() == next.text() {
@@ -67,166 +61,119 @@ impl Outcomes {
     }
 }
 
-// How a run ended, and what it wrote.
-fn told(alloc: Global, ended: Result<(), RunError>, written: &[u8]) -> Answer {
-    let mut outcome = Answer::new(alloc);
+/// How a run over a reader and a writer ends, and what it writes; and whether it ends well.
+pub fn tell_run<D: Digester>(
+    alloc: Global,
+    answer: &mut Answer,
+    reader: &mut Counted<Stream<'_>>,
+    writer: &mut Counted<Stream<'_>>,
+    digests: &D,
+) -> bool
+    requires few_reads { reader.old.failures < 2 ^ 64 - 1 }
+    requires few_writes { writer.old.failures < 2 ^ 64 - 1 }
+{
+    let ended = run(alloc, reader, writer, digests);
     match ended {
-        Ok(()) => outcome.word("ok"),
-        Err(error) => outcome.say(&error),
+        Ok(()) => answer.word("ok"),
+        Err(error) => answer.say(&error),
     }
-    outcome.word("");
-    tell_lines(&mut outcome, written);
-    outcome
-}
-
-// A run over octets, by these digests.
-fn outcome_by<D: Digester>(alloc: Global, octets: &[u8], digests: &D) -> Answer {
-    let mut reader = Counted::new(octets);
-    let mut writer = Counted::new(Vec::new(alloc));
-    let ended = run(alloc, &mut reader, &mut writer, digests);
-    told(alloc, ended, writer.inner.as_slice())
+    answer.word("");
+    tell_lines(answer, writer.inner.taken.as_slice());
+    ended.is_ok()
 }
 
 // A run over octets, by the digests of FIPS 180-4, or by constant ones.
-fn outcome(alloc: Global, octets: &[u8], digests: &str) -> Answer {
+fn tell_whole(alloc: Global, answer: &mut Answer, octets: &[u8], digests: &str) {
+    let mut reader = Counted::new(Stream::whole(alloc, octets));
+    let mut writer = Counted::new(Stream::whole(alloc, &[]));
     if digests == "constant" {
         let constant = Constant {
             sha256: [81; 32],
             sha1: [82; 20],
         };
-        return outcome_by(alloc, octets, &constant);
+        let _ = tell_run(alloc, answer, &mut reader, &mut writer, &constant);
+    } else {
+        let _ = tell_run(alloc, answer, &mut reader, &mut writer, &Fips);
     }
-    outcome_by(alloc, octets, &Fips)
 }
 
-// The octets with the lowest bit of one of them flipped.
-fn flipped(alloc: Global, octets: &[u8], place: usize) -> Result<Vec<u8>> {
-    let mut changed = Vec::new(alloc);
-    for (at, octet) in octets.iter().enumerate() {
-        changed.push(if at == place { *octet ^ 1 } else { *octet })?;
-    }
-    Ok(changed)
-}
-
-// Each octet in turn with its lowest bit flipped.
-fn flips(
+// A run over octets with the lowest bit of the one at that place flipped, or over those before it.
+fn tell_changed(
     alloc: Global,
     answer: &mut Answer,
-    outcomes: &mut Outcomes,
-    octets: &[u8],
-    digests: &str,
-) -> Result<()> {
-    for place in 0..octets.len() {
-        let changed = flipped(alloc, octets, place)?;
-        outcomes.add(answer, outcome(alloc, changed.as_slice(), digests));
-    }
-    Ok(())
-}
-
-// Each proper front of the octets.
-fn cuts(
-    alloc: Global,
-    answer: &mut Answer,
-    outcomes: &mut Outcomes,
-    octets: &[u8],
-    digests: &str,
-) -> Result<()> {
-    let mut front = Vec::new(alloc);
-    for octet in octets {
-        outcomes.add(answer, outcome(alloc, front.as_slice(), digests));
-        front.push(*octet)?;
-    }
-    Ok(())
-}
-
-// A run with a writer that has so much room and takes one octet a time, and whether it ends well.
-fn in_room(alloc: Global, octets: &[u8], room: usize, end: &str) -> (Answer, bool) {
-    let mut reader = Counted::new(octets);
-    let mut writer = Counted::new(Sink::new(alloc, 1, room, end == "fails"));
-    let ended = run(alloc, &mut reader, &mut writer, &Fips);
-    let outcome = told(alloc, ended, writer.inner.taken.as_slice());
-    (outcome, ended.is_ok())
-}
-
-// A writer with room for no octet, for one, and so on, until all is written.
-fn rooms(
-    alloc: Global,
-    answer: &mut Answer,
-    outcomes: &mut Outcomes,
-    octets: &[u8],
-    end: &str,
-) -> Result<()> {
-    for room in 0..MOST {
-        let (next, is_done) = in_room(alloc, octets, room, end);
-        outcomes.add(answer, next);
-        if is_done {
-            break;
-        }
-    }
-    Ok(())
-}
-
-// A run with a reader that gives so many octets a time and fails after so many good reads, and whether it ends well.
-fn after_reads(alloc: Global, octets: &[u8], most: usize, good_reads: usize) -> (Answer, bool) {
-    let mut reader = Counted::new(Source::new(octets, most, good_reads));
-    let mut writer = Counted::new(Vec::new(alloc));
-    let ended = run(alloc, &mut reader, &mut writer, &Fips);
-    let outcome = told(alloc, ended, writer.inner.as_slice());
-    (outcome, ended.is_ok())
-}
-
-// A reader that fails at its first read, at its second, and so on, until the run ends well.
-fn reads(
-    alloc: Global,
-    answer: &mut Answer,
-    outcomes: &mut Outcomes,
-    octets: &[u8],
-    most: &str,
-) -> Result<()> {
-    let most = number_of(most)? as usize;
-    for good in 0..MOST {
-        let (next, is_done) = after_reads(alloc, octets, most, good);
-        outcomes.add(answer, next);
-        if is_done {
-            break;
-        }
-    }
-    Ok(())
-}
-
-// Runs over octets, place by place.
-fn places(
-    alloc: Global,
-    answer: &mut Answer,
-    question: &str,
-    octets: &[u8],
+    topic: &str,
     how: &str,
-) -> Result<()> {
-    let mut outcomes = Outcomes::new(alloc);
-    let tried = match question {
-        "flips" => flips(alloc, answer, &mut outcomes, octets, how),
-        "cuts" => cuts(alloc, answer, &mut outcomes, octets, how),
-        "rooms" => rooms(alloc, answer, &mut outcomes, octets, how),
-        _ => reads(alloc, answer, &mut outcomes, octets, how),
+    octets: &mut [u8],
+    place: usize,
+) {
+    if topic == "cuts" {
+        let count = place.min(octets.len());
+        tell_whole(alloc, answer, &octets[..count], how);
+        return;
+    }
+    if let Some(octet) = octets.get_mut(place) {
+        *octet ^= 1;
+    }
+    tell_whole(alloc, answer, octets, how);
+    if let Some(octet) = octets.get_mut(place) {
+        *octet ^= 1;
+    }
+}
+
+// A run with a writer that has so much room and takes one octet a time, or with a reader that fails after so many good reads;
+// and whether it ends well.
+fn tell_limited(
+    alloc: Global,
+    answer: &mut Answer,
+    topic: &str,
+    how: &str,
+    octets: &[u8],
+    count: usize,
+) -> bool {
+    if topic == "rooms" {
+        let mut reader = Counted::new(Stream::whole(alloc, octets));
+        let mut writer = Counted::new(Stream::new(alloc, &[], 1, count, how == "fails"));
+        tell_run(alloc, answer, &mut reader, &mut writer, &Fips)
+    } else {
+        let mut reader = Counted::new(Stream::new(alloc, octets, count_of(how), count, true));
+        let mut writer = Counted::new(Stream::whole(alloc, &[]));
+        tell_run(alloc, answer, &mut reader, &mut writer, &Fips)
+    }
+}
+
+// Runs over octets: each octet flipped, each proper front; or each room, each number of good reads, until one ends well.
+fn tell_all(alloc: Global, answer: &mut Answer, topic: &str, how: &str, octets: &mut [u8]) {
+    let mut outcomes = Outcomes {
+        last: Answer::new(alloc),
+        count: 0,
     };
+    let is_changed = topic == "flips" || topic == "cuts";
+    let most = if is_changed { octets.len() } else { MOST };
+    for place in 0..most {
+        let mut next = Answer::new(alloc);
+        let is_done = if is_changed {
+            tell_changed(alloc, &mut next, topic, how, octets, place);
+            false
+        } else {
+            tell_limited(alloc, &mut next, topic, how, octets, place)
+        };
+        outcomes.add(answer, next);
+        if is_done {
+            break;
+        }
+    }
     outcomes.end(answer);
     drop(outcomes);
-    tried
 }
 
 /// The answer to a question about a walk.
-pub fn answer(alloc: Global, answer: &mut Answer, question: &str, words: &[&str]) -> Result<()> {
-    let [how, octets] = words else {
-        return Err(anyhow!("other words"));
-    };
-    let octets = pieces_of(alloc, *octets)?;
-    let said = match question {
-        "walk" => {
-            answer.word(outcome(alloc, octets.as_slice(), *how).text());
-            Ok(())
-        }
-        _ => places(alloc, answer, question, octets.as_slice(), *how),
-    };
-    drop(octets);
-    said
+pub fn answer(alloc: Global, answer: &mut Answer, topic: &str, words: &[&str]) -> Result<()> {
+    let how = word_at(words, 0);
+    let mut octets = pieces_of(alloc, word_at(words, 1))?;
+    if topic == "walk" {
+        tell_whole(alloc, answer, octets.as_slice(), how);
+    } else {
+        tell_all(alloc, answer, topic, how, octets.as_mut_slice());
+    }
+    Ok(())
 }

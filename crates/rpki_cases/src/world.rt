@@ -1,23 +1,16 @@
 //! A world, given part by part in any order.
 
-use crate::octets::{digest_of, shared, text_of};
+use crate::octets::{Row, row_of, shared, text_of};
 use crate::parts::Parts;
-use anyhow::{Result, anyhow};
+use answers::{count_of, word_at};
+use anyhow::Result;
 use bytes::Bytes;
-use rpki_bundle::{Bundle, Locator, Object, Time, Verdict};
+use rpki_bundle::{Bundle, Locator, Object, Verdict};
 use std::alloc::Global;
 use std::collections::{BTreeMap, BTreeSet};
 
 // The moment at which validity is judged, in all worlds.
 const MOMENT: &str = "20250101000000Z";
-
-/// The digests of a good signature, ordered as a bundle's table is.
-#[derive(Clone, Copy, PartialEq, Eq, PartialOrd, Ord)]
-struct Row {
-    key: [u8; 32],
-    message: [u8; 32],
-    signature: [u8; 32],
-}
 
 /// The parts of a bundle: locators by name, objects by URI, and the digests of good signatures.
 #[derive(Drop)]
@@ -26,14 +19,6 @@ pub struct World {
     locators: BTreeMap<Bytes, Bytes>,
     objects: BTreeMap<Bytes, Bytes>,
     verdicts: BTreeSet<Row>,
-}
-
-fn row_of(key: &str, message: &str, signature: &str) -> Result<Row> {
-    Ok(Row {
-        key: digest_of(key)?,
-        message: digest_of(message)?,
-        signature: digest_of(signature)?,
-    })
 }
 
 // Puts octets at a key, in place of what was there.
@@ -54,8 +39,9 @@ impl World {
         }
     }
 
-    // That signature is good, or isn't.
-    fn say(&mut self, is_good: bool, row: Row) -> Result<()> {
+    // The signature of these digests is good, or isn't.
+    fn say(&mut self, is_good: bool, words: &[&str]) -> Result<()> {
+        let row = row_of(word_at(words, 1), word_at(words, 2), word_at(words, 3))?;
         if is_good {
             let _ = self.verdicts.insert(row)?;
         } else {
@@ -64,90 +50,52 @@ impl World {
         Ok(())
     }
 
-    // Nothing stands at that URI.
-    fn clear(&mut self, alloc: Global, uri: &str) -> Result<()> {
-        let _ = self.objects.remove(&text_of(alloc, uri)?);
-        Ok(())
-    }
-
-    // A world with nothing in it, in which chains have at most so many certificates.
-    fn restart(&mut self, alloc: Global, depth: &str) -> Result<()> {
-        let depth = depth.parse::<u8>()?;
-        *self = World::new(alloc, depth);
-        Ok(())
-    }
-
-    // Whether the words give something of the world, which is then so.
-    fn take(&mut self, alloc: Global, words: &[&str]) -> Result<bool> {
-        match words {
-            ["empty", depth] => self.restart(alloc, *depth)?,
-            ["depth", depth] => self.depth = depth.parse::<u8>()?,
-            ["locator", name, text] => put(alloc, &mut self.locators, *name, *text)?,
-            ["object", uri, octets] => put(alloc, &mut self.objects, *uri, *octets)?,
-            ["without", uri] => self.clear(alloc, *uri)?,
-            ["verdict", key, message, signature] => {
-                self.say(true, row_of(*key, *message, *signature)?)?;
+    /// Whether the words give something of the world, which is then so.
+    pub fn take(&mut self, alloc: Global, words: &[&str]) -> Result<bool> {
+        let (one, other) = (word_at(words, 1), word_at(words, 2));
+        match word_at(words, 0) {
+            "empty" => *self = World::new(alloc, count_of(one).min(255) as u8),
+            "depth" => self.depth = count_of(one).min(255) as u8,
+            "locator" => put(alloc, &mut self.locators, one, other)?,
+            "object" => put(alloc, &mut self.objects, one, other)?,
+            "without" => {
+                let _ = self.objects.remove(&text_of(alloc, one)?);
             }
-            ["unsaid", key, message, signature] => {
-                self.say(false, row_of(*key, *message, *signature)?)?;
-            }
+            "verdict" => self.say(true, words)?,
+            "unsaid" => self.say(false, words)?,
             _ => return Ok(false),
         }
         Ok(true)
     }
 
-    /// Whether the words of a line give something of the world, which is then so.
-    pub fn is_told(&mut self, alloc: Global, words: &[&str]) -> Result<bool> {
-        match words {
-            ["world", rest @ ..] => self.take(alloc, rest),
-            _ => Ok(false),
-        }
-    }
-
-    fn give_locators(&self, locators: &mut Vec<Locator>) -> Result<()> {
+    // Adds its parts to those of a bundle.
+    fn give(&self, parts: &mut Parts) -> Result<()> {
         for (name, text) in self.locators.iter() {
             let name = name.clone()?;
             let text = text.clone()?;
-            locators.push(Locator { name, text })?;
+            parts.locators.push(Locator { name, text })?;
         }
-        Ok(())
-    }
-
-    fn give_objects(&self, objects: &mut Vec<Object>) -> Result<()> {
         for (uri, octets) in self.objects.iter() {
             let uri = uri.clone()?;
             let octets = octets.clone()?;
-            objects.push(Object { uri, octets })?;
+            parts.objects.push(Object { uri, octets })?;
         }
-        Ok(())
-    }
-
-    fn give_verdicts(&self, verdicts: &mut Vec<Verdict>) -> Result<()> {
         for row in self.verdicts.iter() {
-            verdicts.push(Verdict {
-                key: row.key,
-                message: row.message,
-                signature: row.signature,
+            let [key, message, signature] = *row;
+            parts.verdicts.push(Verdict {
+                key,
+                message,
+                signature,
             })?;
         }
         Ok(())
     }
 
-    // Adds its parts to those of a bundle.
-    fn give(&self, parts: &mut Parts) -> Result<()> {
-        self.give_locators(&mut parts.locators)?;
-        self.give_objects(&mut parts.objects)?;
-        self.give_verdicts(&mut parts.verdicts)
-    }
-
     /// The bundle of these parts.
     pub fn bundle(&self, alloc: Global) -> Result<Bundle> {
-        let Some(moment) = Time::from_generalized(MOMENT.as_bytes()) else {
-            return Err(anyhow!("no moment"));
-        };
         let mut parts = Parts::new(alloc);
         match self.give(&mut parts) {
-            Ok(()) => Ok(parts.bundle(moment, self.depth)?),
+            Ok(()) => parts.bundle(MOMENT, self.depth),
             Err(error) => {
                 drop(parts);
                 Err(error)

@@ -1,0 +1,83 @@
+//! Values that are walked through in three ways: by `skip_one`, by `capture_one`, and by a reader that calls itself for
+//! each value in a value.
+
+use crate::readers::tree;
+use answers::{Answer, mode_of, octets_of};
+use bcder::Mode;
+use bcder::decode::{Decode, DecodeError, SliceSource};
+use bcder_example::recursive::Node;
+use std::alloc::Global;
+use std::convert::Infallible;
+
+// How many constructed values may be within one another, for the reader that calls itself.
+const MOST_DEPTH: usize = 24;
+
+// How a read is refused that has no source that fails.
+fn refused(answer: &mut Answer, error: DecodeError<Infallible>) {
+    match error {
+        DecodeError::Memory => answer.join("memory"),
+        _ => answer.join("refused"),
+    }
+}
+
+// What skipping takes.
+fn skipped(alloc: Global, answer: &mut Answer, mode: Mode, octets: &[u8]) {
+    let mut source = SliceSource::new(octets);
+    match mode.decode(&mut source, |cons| cons.skip_one(alloc)) {
+        Ok(Some(())) => answer.join_as(&octets.len().saturating_sub(source.len())),
+        Ok(None) => answer.join("end"),
+        Err(error) => refused(answer, error),
+    }
+}
+
+// What capturing takes, where that is what it keeps.
+fn captured(alloc: Global, answer: &mut Answer, mode: Mode, octets: &[u8]) {
+    let mut source = SliceSource::new(octets);
+    match mode.decode(&mut source, |cons| cons.capture_one(alloc)) {
+        Ok(captured) => {
+            let taken = octets.len().saturating_sub(source.len());
+            if &octets[..taken] == captured.as_slice() {
+                answer.join_as(&taken);
+            } else {
+                answer.join("others");
+            }
+            drop(captured);
+        }
+        Err(error) => refused(answer, error),
+    }
+}
+
+// What the reader takes that calls itself, and the tree.
+fn walked(alloc: Global, answer: &mut Answer, mode: Mode, octets: &[u8]) {
+    let mut source = SliceSource::new(octets);
+    let read = mode.decode(&mut source, |cons| {
+        Node::take_opt_from(alloc, cons, MOST_DEPTH)
+    });
+    match read {
+        Ok(Some(node)) => {
+            answer.join_as(&octets.len().saturating_sub(source.len()));
+            answer.join("\t");
+            tree::join(answer, &node);
+            drop(node);
+        }
+        Ok(None) => answer.join("end\t-"),
+        Err(error) => {
+            refused(answer, error);
+            answer.join("\t-");
+        }
+    }
+}
+
+/// How many octets each way takes, and the tree that was read.
+pub fn answer(alloc: Global, answer: &mut Answer, words: &[&str]) {
+    let [mode, digits] = words else {
+        return answer.unknown();
+    };
+    let octets = octets_of(alloc, *digits);
+    let (octets, mode) = (octets.as_slice(), mode_of(*mode));
+    skipped(alloc, answer, mode, octets);
+    answer.join("\t");
+    captured(alloc, answer, mode, octets);
+    answer.join("\t");
+    walked(alloc, answer, mode, octets);
+}
