@@ -206,16 +206,46 @@ fn of_sets(alloc: Global, answer: &mut Answer, words: &[&str]) -> Result<()> {
     }
 }
 
+// What is known of AS resources, which are let go then.
+fn told_as(answer: &mut Answer, resources: AsResources) -> Result<()> {
+    let said = tell_as(answer, &resources);
+    drop(resources);
+    said
+}
+
+// What is known of IP resources, which are let go then.
+fn told_ip(answer: &mut Answer, resources: IpResources) -> Result<()> {
+    let said = tell_ip(answer, &resources);
+    drop(resources);
+    said
+}
+
+// What of the AS resources that a text lists is outside those of another.
+fn outside_listed_as(alloc: Global, answer: &mut Answer, one: &str, other: &str) -> Result<()> {
+    let listed = asns_in(alloc, other)?;
+    let said = outside_as(alloc, answer, one, &listed);
+    drop(listed);
+    said
+}
+
+// What of the IP resources that a text lists is outside those of another.
+fn outside_listed_ip(alloc: Global, answer: &mut Answer, one: &str, other: &str) -> Result<()> {
+    let listed = resources(alloc, other)?;
+    let said = outside(alloc, answer, one, &listed);
+    drop(listed);
+    said
+}
+
 /// The answer to a question about resources and sets of addresses.
 pub fn answer(alloc: Global, answer: &mut Answer, words: &[&str]) -> Result<()> {
     let (one, other) = (word_at(words, 1), word_at(words, 2));
     match word_at(words, 0) {
-        "build-as" => tell_as(answer, &build_as(alloc, words)?),
-        "build-ip" => tell_ip(answer, &build_ip(alloc, words)?),
-        "listed-as" => tell_as(answer, &asns_in(alloc, one)?),
-        "listed-ip" => tell_ip(answer, &resources(alloc, one)?),
-        "outside-as" => outside_as(alloc, answer, one, &asns_in(alloc, other)?),
-        "outside-ip" => outside(alloc, answer, one, &resources(alloc, other)?),
+        "build-as" => told_as(answer, build_as(alloc, words)?),
+        "build-ip" => told_ip(answer, build_ip(alloc, words)?),
+        "listed-as" => told_as(answer, asns_in(alloc, one)?),
+        "listed-ip" => told_ip(answer, resources(alloc, one)?),
+        "outside-as" => outside_listed_as(alloc, answer, one, other),
+        "outside-ip" => outside_listed_ip(alloc, answer, one, other),
         _ => of_sets(alloc, answer, words),
     }
 }
