@@ -3,7 +3,7 @@
 
 BCDER is the folder that `dpkg -x` made of Debian's packages librust-bcder-dev, librust-bytes-dev and
 librust-smallvec-dev. In FOLDER, or a temporary one, bcder_answers.rs.in is built with them by cargo; the other
-program is crates/bcder_values_cases, which `rt run` proves and builds.
+program is crates/bcder_cases, which `rt run` proves and builds.
 
 Both answer the same questions, in each mode: of each kind of value on 10,000 octet strings, half of them made of
 values, a third of these changed in one place, half of them chance; on all octet strings of up to two octets; on all of
@@ -28,7 +28,7 @@ import tempfile
 import typing
 
 ROOT = pathlib.Path(__file__).resolve().parent.parent
-CRATE = ROOT / "crates" / "bcder_values_cases"
+CRATE = ROOT / "crates" / "bcder_cases"
 RECORD = ROOT / "tests" / "bcder_answers.txt"
 MODES = ("ber", "cer", "der")
 INTEGERS = ("i8", "u8", "i64", "u64", "u128", "integer", "unsigned")
@@ -488,7 +488,7 @@ def build_rust(folder, packages):
 def build():
     """Proves and builds the program of the crate; its path."""
     run(["rt", "run"], CRATE)
-    return str(CRATE / "out" / "bcder_values_cases")
+    return str(CRATE / "out" / "bcder_cases")
 
 
 def words(question):
@@ -498,7 +498,7 @@ def words(question):
 
 def line(program, question):
     """The question as a program is asked it."""
-    if pathlib.Path(program).name == "bcder_values_cases":
+    if pathlib.Path(program).name == "bcder_cases":
         return "front\t" + words(question).replace(" ", "\t") + "\n"
     return words(question) + "\n"
 

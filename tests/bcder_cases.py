@@ -1,14 +1,14 @@
 #!/usr/bin/env python3
-"""Writes the questions and answers of the programs of questions about the codec: tests/bcder_cases.py
+"""Writes the questions and answers of the program of questions about the codec: tests/bcder_cases.py
 
-crates/bcder_cases is asked about sources, headers and contents, about numbers and bit strings in contents, and about the
-worked readers (`bcder_example_cases.py`); crates/bcder_values_cases about values, numbers of any size, identifiers and strings,
-and about what is written.
+crates/bcder_cases answers those about sources, headers and contents, about numbers and bit strings in contents, and about the
+worked readers (`bcder_example_cases.py`) itself; crates/bcder_values_cases those about values, numbers of any size, identifiers
+and strings, and about what is written.
 
 The answers come from Python's own integers and texts, from small readers and writers of this script after X.690, from
 examples of X.690, RFC 3629 and OpenSSL, and from the worked cases `codec-core-cases`, `string-cases` and
 `codec-values`. The questions and answers that `bcder_answers.py` recorded of the Rust crate come first. The gate runs
-each program on its `stdin`, and compares what it prints with `stdout`.
+the program on its `stdin`, and compares what it prints with `stdout`.
 """
 
 import pathlib
@@ -19,12 +19,7 @@ sys.dont_write_bytecode = True
 import bcder_example_cases  # noqa: E402
 
 TESTS = pathlib.Path(__file__).resolve().parent
-CRATES = TESTS.parent / "crates"
-# The topics of each program: the first word of a question.
-PROGRAMS = {
-    "bcder_cases": "tag length source content fails dry skip tagged number bits attributes walks",
-    "bcder_values_cases": "front integer unsigned oid octets text string write",
-}
+FOLDER = TESTS.parent / "crates" / "bcder_cases"
 MODES = ("ber", "cer", "der")
 rng = random.Random(690)
 
@@ -982,8 +977,10 @@ def lists(q):
         write(q, whole(constructed(mode, 0x30, strings)), mode, "list", "three")
         write(q, whole(constructed(mode, 0x31, b"")), mode, "list", "none")
         write(q, whole(constructed(mode, 0xA1, twelve)), mode, "list", "twelve")
-        counted = [b"".join(tlv(2, bytes([number])) for number in range(1, count + 1)) for count in range(1, 12)]
-        write(q, whole(b"".join(constructed(mode, 0x30, few) for few in counted)), mode, "list", "tuples")
+        for kind, counts in (("tuples", range(1, 7)), ("long-tuples", range(7, 12))):
+            parts = [unhex("02 01 01"), unhex("02 01 02"), unhex("01 01 FF")] * 4
+            each = (whole(constructed(mode, 0x30, b"".join(parts[:count]))) for count in counts)
+            write(q, " ".join(each), mode, "list", kind)
         write(q, whole(unhex("02 01 01 02 01 01 01 01 FF")), mode, "list", "choices")
         inside = constructed(mode, 0xA2, constructed(mode, 0xA0, b"\1\1\xff"))
         others = unhex("81 02 01 2C 81 02 07 FF")
@@ -1053,11 +1050,9 @@ def main():
     ):  # fmt: skip
         topic(q)
     q.rows += bcder_example_cases.questions()
-    for name, topics in PROGRAMS.items():
-        rows = [row for row in q.rows if row[0].split("\t")[0] in topics.split()]
-        (CRATES / name / "stdin").write_text("".join(f"{question}\n" for question, _ in rows))
-        (CRATES / name / "stdout").write_text("".join(f"{answer}\n" for _, answer in rows))
-        print(len(rows), "questions of", name)
+    (FOLDER / "stdin").write_text("".join(f"{question}\n" for question, _ in q.rows))
+    (FOLDER / "stdout").write_text("".join(f"{answer}\n" for _, answer in q.rows))
+    print(len(q.rows), "questions")
 
 
 if __name__ == "__main__":

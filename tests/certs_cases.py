@@ -3,7 +3,8 @@
 
 Each topic has a function of its own here and a module there. The answers come from the rules as this script has them in
 its own words, and from examples. Revocation lists are read by the grammar in Python's words, over the reader of X.690 in
-certs_signed_cases.py, and put together octet by octet; the worked cases have their answers by hand. The gate runs the program
+certs_signed_cases.py, and put together octet by octet; the worked cases have their answers by hand. Certificates as a whole are
+asked behind the word `cert` (certs_roles.py), and answered by crates/certs_roles. The gate runs the program
 on `stdin`, and compares what it prints with `stdout`.
 """
 
@@ -14,6 +15,7 @@ import random
 import re
 
 from certs_name_cases import names, serials
+from certs_roles import roles
 from certs_signed_cases import signed
 from certs_time_cases import moments, validities
 from crls_entries_cases import entries
@@ -534,6 +536,7 @@ def main():
     lists(q)
     entries(q)
     made(q)
+    roles(q)
     (FOLDER / "stdin").write_text("".join(f"{question}\n" for question, _ in q.rows))
     (FOLDER / "stdout").write_text("".join(f"{answer}\n" for _, answer in q.rows))
     print(len(q.rows), "questions")

@@ -1,8 +1,9 @@
 #!/usr/bin/env python3
 """Asks about certificates in their roles, and about certificates that are built.
 
-    certs_roles.py                   writes stdin and stdout of crates/certs_roles
     certs_roles.py --all PROGRAM     asks the built program all questions, and prints those that it answers otherwise
+
+certs_cases.py has those that are stored, behind the word `cert`, which crates/certs_roles answers.
 
 A certificate is made of named parts (certs_parts.py), of which one or two are then others. What must be told of it is known from
 the parts; which test fails first, from the order of tests that the profile's reader documents: this script reads no certificate.
@@ -15,7 +16,6 @@ asked; many are about nothing of their own.
 
 import datetime
 import itertools
-import pathlib
 import subprocess
 import sys
 
@@ -25,7 +25,6 @@ from certs_parts import ALL, APART, FAILS, FIRST, HOST, LAST, MOMENT, OTHER_KEY,
 from certs_parts import claims, made, name, places, sets
 from rpki_repositories import NULL, bits, integer, oid, seq, tlv
 
-FOLDER = pathlib.Path(__file__).resolve().parent.parent / "crates" / "certs_roles"
 QUESTIONS, BUILT = [], []
 
 
@@ -635,7 +634,7 @@ def stored(rows):
 
 def ask_program(program, rows):
     """Prints each question that the program answers otherwise; how many."""
-    rows = list(dict.fromkeys((question, answer) for question, answer, _ in rows))
+    rows = list(dict.fromkeys((f"cert\t{question}", answer) for question, answer, _ in rows))
     asked = "".join(f"{question}\n" for question, _ in rows)
     said = subprocess.run([program], input=asked, capture_output=True, text=True, check=True).stdout.splitlines()
     assert len(said) == len(rows), (len(said), len(rows))
@@ -646,16 +645,17 @@ def ask_program(program, rows):
     return len(others)
 
 
+def roles(q):
+    """Asks those that are stored."""
+    for rows in all_questions():
+        for question, answer in stored(rows):
+            q.ask(answer, "cert", question)
+
+
 def main():
-    groups = all_questions()
-    if len(sys.argv) == 3 and sys.argv[1] == "--all":
-        sys.exit(1 if ask_program(sys.argv[2], [row for rows in groups for row in rows]) else 0)
-    if len(sys.argv) > 1:
-        sys.exit("usage: certs_roles.py [--all PROGRAM]")
-    kept = [row for rows in groups for row in stored(rows)]
-    (FOLDER / "stdin").write_text("".join(f"{question}\n" for question, _ in kept))
-    (FOLDER / "stdout").write_text("".join(f"{answer}\n" for _, answer in kept))
-    print(len(kept), "questions stored, of", len({question for rows in groups for question, _, _ in rows}))
+    if len(sys.argv) != 3 or sys.argv[1] != "--all":
+        sys.exit("usage: certs_roles.py --all PROGRAM")
+    sys.exit(1 if ask_program(sys.argv[2], [row for rows in all_questions() for row in rows]) else 0)
 
 
 if __name__ == "__main__":

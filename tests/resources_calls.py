@@ -1,11 +1,11 @@
 #!/usr/bin/env python3
-"""Writes the questions and answers of the programs of questions about resources: tests/resources_calls.py
+"""Writes the questions and answers of the program of questions about resources: tests/resources_calls.py
 
-crates/resources_calls is asked about addresses, prefixes and numbers, chains and blocks of AS numbers;
-crates/resources_cases what tests/resources_cases.py asks, and about sets and resources, and what is read and written
-of them.
+crates/resources_cases is asked what tests/resources_cases.py asks, and about sets and resources, and what is read and written
+of them; and behind the word `call` about addresses, prefixes and numbers, chains and blocks of AS numbers, which
+crates/resources_calls answers.
 
-The answers come from Python's own integers and sets, `ipaddress`, and X.690 and RFC 3779 for octets. The gate runs each
+The answers come from Python's own integers and sets, `ipaddress`, and X.690 and RFC 3779 for octets. The gate runs the
 program on its `stdin`, and compares what it prints with `stdout`. A tab stands between the words of a question.
 """
 
@@ -20,12 +20,9 @@ from resources_calls_values import (
 )
 from resources_cases import as_block, bits, difference, integer, intersection, maximal, shortest, tlv, union
 
-CRATES = pathlib.Path(__file__).resolve().parent.parent / "crates"
-# What each program is asked of these questions: their topics, which are their first words.
-PROGRAMS = {
-    "resources_calls": "prefix max asn addr range block as chain list",
-    "resources_cases": "resources family set der",
-}
+FOLDER = pathlib.Path(__file__).resolve().parent.parent / "crates" / "resources_cases"
+# The topics, which are first words, of the questions about single calls.
+CALLS = "prefix max asn addr range block as chain list".split()
 
 
 # Strict prefixes.
@@ -739,12 +736,13 @@ def main():
     q = Questions()
     for part in (prefixes, greatest_lengths, asns, as_blocks, chains, addresses, blocks, resources, families, octets, all_kinds, looked_up):
         part(q)
-    for name, topics in PROGRAMS.items():
-        rows = resources_cases.questions() if name == "resources_cases" else []
-        rows += [row for row in q.rows if row[0].split("\t")[0] in topics.split()]
-        (CRATES / name / "stdin").write_text("".join(f"{question}\n" for question, _ in rows))
-        (CRATES / name / "stdout").write_text("".join(f"{answer}\n" for _, answer in rows))
-        print(len(rows), "questions of", name)
+    rows = resources_cases.questions()
+    for question, answer in q.rows:
+        is_call = question.split("\t")[0] in CALLS
+        rows.append((f"call\t{question}" if is_call else question, answer))
+    (FOLDER / "stdin").write_text("".join(f"{question}\n" for question, _ in rows))
+    (FOLDER / "stdout").write_text("".join(f"{answer}\n" for _, answer in rows))
+    print(len(rows), "questions")
 
 
 if __name__ == "__main__":

@@ -1,6 +1,7 @@
-//! Questions about the codec's sources, headers and contents, about numbers and bit strings in contents, and about the
-//! worked readers, as data: a line of words with tabs between is a question, and a line of output its answer.
-//! `tests/bcder_cases.py` writes both, by its own means.
+//! Questions about the codec, as data: a line of words with tabs between is a question, and a line of output its answer.
+//! Those about sources, headers and contents, about numbers and bit strings in contents, and about the worked readers are
+//! answered here, those about values and about what is written by `bcder_values_cases`. `tests/bcder_cases.py` writes
+//! both questions and answers, by its own means.
 #![tactic(auto)]
 
 mod bits;
@@ -23,7 +24,7 @@ use answers::{Answer, Questions, answer_lines, unknown};
 use anyhow::Result;
 use std::alloc::Global;
 
-// What is asked about sources, headers and contents, and about the worked readers.
+// What is asked about the codec.
 struct Codec;
 
 impl Questions for Codec {
@@ -44,7 +45,7 @@ impl Questions for Codec {
             "bits" => bits::answer(alloc, answer, words),
             "attributes" => readers::attributes::answer(alloc, answer, words),
             "walks" => readers::walks::answer(alloc, answer, words),
-            _ => answer.unknown(),
+            topic => bcder_values_cases::answer(alloc, answer, topic, words),
         }
         Ok(())
     }

@@ -67,8 +67,27 @@ fn pair(to: To, answer: &mut Answer) {
     to.values(answer, &sequence(pair.as_slice()));
 }
 
-// A tuple of twelve strings of two, with values that are missing.
-fn twelve(to: To, answer: &mut Answer, a: &Primitive<Octets<Bytes>>, b: &Primitive<Octets<Bytes>>) {
+// No value in a SET.
+fn none(to: To, answer: &mut Answer) {
+    let none: &[Primitive<bool>] = &[];
+    to.values(answer, &set(none));
+}
+
+// A tuple of twelve of two strings, with values that are missing.
+fn twelve(to: To, answer: &mut Answer) {
+    let (a, b) = (string(to.alloc, &[1]), string(to.alloc, &[2]));
+    twelve_of(to, answer, &a, &b);
+    drop(a);
+    drop(b);
+}
+
+// The tuple of these two strings.
+fn twelve_of(
+    to: To,
+    answer: &mut Answer,
+    a: &Primitive<Octets<Bytes>>,
+    b: &Primitive<Octets<Bytes>>,
+) {
     let none: Option<Primitive<bool>> = None;
     let first: Choice2<&Primitive<Octets<Bytes>>, Nothing> = Choice2::One(a);
     let third: Choice3<Nothing, Nothing, &Primitive<Octets<Bytes>>> = Choice3::Three(b);
@@ -76,27 +95,89 @@ fn twelve(to: To, answer: &mut Answer, a: &Primitive<Octets<Bytes>>, b: &Primiti
     to.values(answer, &sequence_as(Tag::CTX_1, values));
 }
 
-// Tuples of one to eleven, each in a SEQUENCE, of numbers that are their places.
+// A value of a tuple.
+fn one() -> Primitive<u8> {
+    1_u8.encode()
+}
+
+// Another value of a tuple.
+fn two() -> Primitive<u8> {
+    2_u8.encode()
+}
+
+// A third value of a tuple.
+fn yes() -> Primitive<bool> {
+    true.encode()
+}
+
+// Tuples of one to six, each in a SEQUENCE. They own their values: a check of tuples that lend them takes four times as long.
 fn tuples(to: To, answer: &mut Answer) {
-    let (a, b, c, d) = (1_u8.encode(), 2_u8.encode(), 3_u8.encode(), 4_u8.encode());
-    let (e, f, g, h) = (5_u8.encode(), 6_u8.encode(), 7_u8.encode(), 8_u8.encode());
-    let (i, j, k) = (9_u8.encode(), 10_u8.encode(), 11_u8.encode());
-    let few = (
-        sequence((&a,)),
-        sequence((&a, &b)),
-        sequence((&a, &b, &c)),
-        sequence((&a, &b, &c, &d)),
-        sequence((&a, &b, &c, &d, &e)),
-        sequence((&a, &b, &c, &d, &e, &f)),
+    to.values(answer, &sequence((one(),)));
+    to.values(answer, &sequence((one(), two())));
+    to.values(answer, &sequence((one(), two(), yes())));
+    to.values(answer, &sequence((one(), two(), yes(), one())));
+    to.values(answer, &sequence((one(), two(), yes(), one(), two())));
+    to.values(
+        answer,
+        &sequence((one(), two(), yes(), one(), two(), yes())),
     );
-    let many = (
-        sequence((&a, &b, &c, &d, &e, &f, &g)),
-        sequence((&a, &b, &c, &d, &e, &f, &g, &h)),
-        sequence((&a, &b, &c, &d, &e, &f, &g, &h, &i)),
-        sequence((&a, &b, &c, &d, &e, &f, &g, &h, &i, &j)),
-        sequence((&a, &b, &c, &d, &e, &f, &g, &h, &i, &j, &k)),
+}
+
+// Tuples of seven to eleven, each in a SEQUENCE.
+fn long_tuples(to: To, answer: &mut Answer) {
+    to.values(
+        answer,
+        &sequence((one(), two(), yes(), one(), two(), yes(), one())),
     );
-    to.values(answer, &(few, many));
+    to.values(
+        answer,
+        &sequence((one(), two(), yes(), one(), two(), yes(), one(), two())),
+    );
+    to.values(
+        answer,
+        &sequence((
+            one(),
+            two(),
+            yes(),
+            one(),
+            two(),
+            yes(),
+            one(),
+            two(),
+            yes(),
+        )),
+    );
+    to.values(
+        answer,
+        &sequence((
+            one(),
+            two(),
+            yes(),
+            one(),
+            two(),
+            yes(),
+            one(),
+            two(),
+            yes(),
+            one(),
+        )),
+    );
+    to.values(
+        answer,
+        &sequence((
+            one(),
+            two(),
+            yes(),
+            one(),
+            two(),
+            yes(),
+            one(),
+            two(),
+            yes(),
+            one(),
+            two(),
+        )),
+    );
 }
 
 // The other choices.
@@ -200,12 +281,10 @@ pub fn answer(to: To, answer: &mut Answer, name: &str) {
     match name {
         "three" => three(to, answer),
         "pair" => pair(to, answer),
-        "none" => {
-            let none: &[Primitive<bool>] = &[];
-            to.values(answer, &set(none));
-        }
-        "twelve" => twelve(to, answer, &string(to.alloc, &[1]), &string(to.alloc, &[2])),
+        "none" => none(to, answer),
+        "twelve" => twelve(to, answer),
         "tuples" => tuples(to, answer),
+        "long-tuples" => long_tuples(to, answer),
         "choices" => choices(to, answer),
         "tags" => tags(to, answer),
         "huge" => too_long(to, answer),

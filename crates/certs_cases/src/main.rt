@@ -1,5 +1,6 @@
-//! Questions about the parts of certificates and about revocation lists, as data: each line of standard input asks one, by words
-//! with a tab between, and each line of standard output answers one. The first word names the module that answers.
+//! Questions about certificates, their parts and revocation lists, as data: each line of standard input asks one, by words
+//! with a tab between, and each line of standard output answers one. The first word names the module that answers; behind the
+//! word `cert` the question is about certificates as a whole, and answered by `certs_roles`.
 //!
 //! `tests/certs_cases.py` writes both, and knows the answers by means of its own.
 #![tactic(auto)]
@@ -35,6 +36,7 @@ impl Questions for Parts {
             "time" => time::answer(alloc, answer, words),
             "access" => access::answer(alloc, answer, words),
             "uri" => uri::answer(alloc, answer, words),
+            "cert" => certs_roles::answer(alloc, answer, words),
             topic => return lists::answer(alloc, answer, topic, words),
         };
         if let Err(error) = told {

@@ -1,5 +1,6 @@
 pub mod OneRsync
 pub mod Descriptions
+mod Adding
 pub mod Ones
 pub mod Values
 pub mod Certs

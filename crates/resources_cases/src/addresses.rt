@@ -5,13 +5,13 @@ ghost use Rattle.resources_cases.specs.resources.Resources.{ListsWhole};
 
 use crate::policy;
 use answers::{Answer, unknown, word_at};
-use anyhow::Result;
+use anyhow::{Error, Result};
 use resources::ipres::{
     AddressRange, IpBlock, IpBlocks, IpBlocksForFamily, IpResources, Ipv4Blocks, Ipv6Blocks,
     OverclaimedIpResources,
 };
 use resources::overclaim::{ClaimError, Overclaim};
-use std::alloc::Global;
+use std::alloc::{AllocError, Global};
 
 /// One of the two families.
 #[derive(Clone, Copy)]
@@ -78,6 +78,42 @@ impl Family {
         match self {
             Family::V4 => answer.join_as(&IpBlocksForFamily::v4(set)),
             Family::V6 => answer.join_as(&IpBlocksForFamily::v6(set)),
+        }
+    }
+
+    // The set of a text, as more of the last word.
+    fn join_set(self, alloc: Global, answer: &mut Answer, text: &str) -> Result<()> {
+        match self.set(alloc, text) {
+            Ok(set) => {
+                self.join(answer, &set);
+                drop(set);
+                Ok(())
+            }
+            Err(error) => Err(error),
+        }
+    }
+
+    // A set that grew, as more of the last word, unless it found no memory.
+    fn join_grown(self, answer: &mut Answer, grown: Result<IpBlocks, AllocError>) -> Result<()> {
+        match grown {
+            Ok(set) => {
+                self.join(answer, &set);
+                drop(set);
+                Ok(())
+            }
+            Err(error) => Err(Error::from(error)),
+        }
+    }
+
+    // The set that the resources of a text list, as more of the last word.
+    fn join_listed(self, alloc: Global, answer: &mut Answer, text: &str) -> Result<()> {
+        match self.resources(alloc, text)?.to_blocks() {
+            Ok(set) => {
+                self.join(answer, &set);
+                drop(set);
+                Ok(())
+            }
+            Err(error) => Err(Error::from(error)),
         }
     }
 
@@ -154,16 +190,73 @@ impl Family {
     ) -> Result<()> {
         match question {
             "within" => answer.say(&other.contains(one)),
-            "union" => self.join(answer, &one.union(alloc, other)?),
-            "intersection" => self.join(answer, &one.intersection(alloc, other)?),
-            "difference" => self.join(answer, &one.difference(alloc, other)?),
+            "union" => return self.join_grown(answer, one.union(alloc, other)),
+            "intersection" => return self.join_grown(answer, one.intersection(alloc, other)),
+            "difference" => return self.join_grown(answer, one.difference(alloc, other)),
             _ => return unknown(),
         }
         Ok(())
     }
 
-    // What a set comes to with what follows: a claim, or another set.
-    fn of_two(
+    // What a set comes to with the one of a text.
+    fn beside(
+        self,
+        alloc: Global,
+        answer: &mut Answer,
+        question: &str,
+        one: &IpBlocks,
+        other: &str,
+    ) -> Result<()> {
+        match self.set(alloc, other) {
+            Ok(other) => {
+                let said = self.of_sets(alloc, answer, question, one, &other);
+                drop(other);
+                said
+            }
+            Err(error) => Err(error),
+        }
+    }
+
+    // What the claim of a text comes to below an issuer.
+    fn below(
+        self,
+        alloc: Global,
+        answer: &mut Answer,
+        question: &str,
+        issuer: &IpBlocks,
+        claim: &str,
+    ) -> Result<()> {
+        match self.resources(alloc, claim) {
+            Ok(claim) => {
+                self.of_claim(alloc, answer, question, issuer, &claim);
+                drop(claim);
+                Ok(())
+            }
+            Err(error) => Err(error),
+        }
+    }
+
+    // What is known of a set, or what it comes to with what follows: a claim, or another set.
+    fn told(
+        self,
+        alloc: Global,
+        answer: &mut Answer,
+        question: &str,
+        one: &IpBlocks,
+        other: &str,
+    ) -> Result<()> {
+        match question {
+            "count" => {
+                answer.say(&one.is_whole_v4());
+                Ok(())
+            }
+            "refuse" | "trim" | "covered" => self.below(alloc, answer, question, one, other),
+            _ => self.beside(alloc, answer, question, one, other),
+        }
+    }
+
+    // What is known of the set of a text, or what it comes to with what follows.
+    fn of_set(
         self,
         alloc: Global,
         answer: &mut Answer,
@@ -171,19 +264,13 @@ impl Family {
         words: [&str; 2],
     ) -> Result<()> {
         let [one, other] = words;
-        let one = self.set(alloc, one)?;
-        match question {
-            "refuse" | "trim" | "covered" => {
-                self.of_claim(
-                    alloc,
-                    answer,
-                    question,
-                    &one,
-                    &self.resources(alloc, other)?,
-                );
-                Ok(())
+        match self.set(alloc, one) {
+            Ok(one) => {
+                let said = self.told(alloc, answer, question, &one, other);
+                drop(one);
+                said
             }
-            _ => self.of_sets(alloc, answer, question, &one, &self.set(alloc, other)?),
+            Err(error) => Err(error),
         }
     }
 
@@ -201,12 +288,10 @@ impl Family {
 pub fn answer(alloc: Global, answer: &mut Answer, family: Family, words: &[&str]) -> Result<()> {
     let (question, one, other) = (word_at(words, 0), word_at(words, 1), word_at(words, 2));
     match question {
-        "read" => family.join(answer, &family.set(alloc, one)?),
-        "count" => answer.say(&family.set(alloc, one)?.is_whole_v4()),
-        "each" => return family.prefixes(answer, one),
-        "resources" => family.join(answer, &family.resources(alloc, one)?.to_blocks()?),
-        "path" => return family.path(alloc, answer, words),
-        _ => return family.of_two(alloc, answer, question, [one, other]),
+        "read" => family.join_set(alloc, answer, one),
+        "each" => family.prefixes(answer, one),
+        "resources" => family.join_listed(alloc, answer, one),
+        "path" => family.path(alloc, answer, words),
+        _ => family.of_set(alloc, answer, question, [one, other]),
     }
-    Ok(())
 }

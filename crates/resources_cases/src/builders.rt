@@ -130,14 +130,35 @@ fn tell_set(answer: &mut Answer, set: &IpBlocks) {
     }
 }
 
+// A set beside the one that a builder makes of two blocks, and that of the blocks of it.
+fn beside_built(
+    alloc: Global,
+    answer: &mut Answer,
+    set: &IpBlocks,
+    one: IpBlock,
+    other: IpBlock,
+) -> Result<()> {
+    match built(alloc, one, other) {
+        Ok(built) => {
+            let said = again(alloc, answer, set, &built);
+            drop(built);
+            said
+        }
+        Err(error) => Err(error),
+    }
+}
+
 // The set of the blocks of two texts by an iterator and by a builder, and that of the blocks of it.
 fn set(alloc: Global, answer: &mut Answer, one: &str, other: &str) -> Result<()> {
     let (one, other) = (one.parse::<IpBlock>()?, other.parse::<IpBlock>()?);
     let gathered = IpBlocks::from_iter(alloc, once(other).chain(once(one)))?;
     print(answer, &gathered);
-    again(alloc, answer, &gathered, &built(alloc, one, other)?)?;
-    tell_set(answer, &gathered);
-    Ok(())
+    let said = beside_built(alloc, answer, &gathered, one, other);
+    if said.is_ok() {
+        tell_set(answer, &gathered);
+    }
+    drop(gathered);
+    said
 }
 
 // What the sets of two texts have in common, in place of the first.

@@ -1,7 +1,7 @@
 //! Blocks and sets of one family.
 
 use answers::{Answer, unknown, word_at};
-use anyhow::Result;
+use anyhow::{Error, Result};
 use resources::ipres::{IpBlock, IpBlocks, IpResources, Ipv4Block, Ipv6Block};
 use resources::set::{Family, FamilyBlock, FamilyBlocks, V4, V6};
 use std::alloc::Global;
@@ -51,6 +51,35 @@ fn compare<F: Family>(
     Ok(())
 }
 
+// Whether a set is that of resources.
+fn as_resources<F: Family>(
+    answer: &mut Answer,
+    set: &FamilyBlocks<F>,
+    resources: &IpResources,
+) -> Result<()> {
+    match set.to_ip_resources() {
+        Ok(own) => {
+            answer.say(&(own == *resources));
+            drop(own);
+            Ok(())
+        }
+        Err(error) => Err(Error::from(error)),
+    }
+}
+
+// Whether the blocks of a copy of a set make it again.
+fn again<F: Family>(answer: &mut Answer, set: &FamilyBlocks<F>) -> Result<()> {
+    match set.clone() {
+        Ok(copy) => {
+            let again = FamilyBlocks::from_blocks(copy.into_blocks());
+            answer.say(&(again == *set));
+            drop(again);
+            Ok(())
+        }
+        Err(error) => Err(Error::from(error)),
+    }
+}
+
 // Whether the blocks of the set are those of the text, as they are and as resources, and make the set again.
 fn others<F: Family>(
     alloc: Global,
@@ -61,21 +90,51 @@ fn others<F: Family>(
     let blocks = IpBlocks::from_str(alloc, text)?;
     answer.say(&(*set.as_blocks() == blocks));
     let resources = IpResources::blocks(blocks);
-    answer.say(&(set.to_ip_resources()? == resources));
-    answer.say(&(FamilyBlocks::from_blocks(set.clone()?.into_blocks()) == *set));
-    Ok(())
+    let said = as_resources(answer, set, &resources);
+    drop(resources);
+    said?;
+    again(answer, set)
+}
+
+// A set beside that of two blocks.
+fn beside<F: Family>(
+    alloc: Global,
+    answer: &mut Answer,
+    set: &FamilyBlocks<F>,
+    one: &str,
+    other: &str,
+) -> Result<()> {
+    match joined(alloc, one, other) {
+        Ok(joined) => {
+            let said = compare(alloc, answer, set, &joined);
+            drop(joined);
+            said
+        }
+        Err(error) => Err(error),
+    }
+}
+
+// What is known of a set.
+fn known<F: Family>(
+    alloc: Global,
+    answer: &mut Answer,
+    set: &FamilyBlocks<F>,
+    words: &[&str],
+) -> Result<()> {
+    beside(alloc, answer, set, word_at(words, 2), word_at(words, 3))?;
+    others(alloc, answer, word_at(words, 1), set)
 }
 
 // The set of a text, beside that of two blocks and as other types have it.
 fn of_family<F: Family>(alloc: Global, answer: &mut Answer, words: &[&str]) -> Result<()> {
-    let set = FamilyBlocks::<F>::from_str(alloc, word_at(words, 1))?;
-    compare(
-        alloc,
-        answer,
-        &set,
-        &joined(alloc, word_at(words, 2), word_at(words, 3))?,
-    )?;
-    others(alloc, answer, word_at(words, 1), &set)
+    match FamilyBlocks::<F>::from_str(alloc, word_at(words, 1)) {
+        Ok(set) => {
+            let said = known(alloc, answer, &set, words);
+            drop(set);
+            said
+        }
+        Err(error) => Err(Error::from(error)),
+    }
 }
 
 // All of each family, and none.

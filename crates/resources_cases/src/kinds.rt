@@ -1,7 +1,7 @@
 //! Sets of all three kinds by their other calls, and the identifiers of policies.
 
 use answers::{Answer, unknown, word_at};
-use anyhow::Result;
+use anyhow::{Error, Result};
 use bcder::ConstOid;
 use resources::asres::AsBlocks;
 use resources::ipres::{IpResources, Ipv4Blocks, Ipv6Blocks};
@@ -54,12 +54,23 @@ fn resources(answer: &mut Answer, set: &ResourceSet) -> Result<()> {
     resources_v6(answer, set)
 }
 
+// A set, and what is known of it.
+fn known(alloc: Global, answer: &mut Answer, set: &ResourceSet, words: [&str; 3]) -> Result<()> {
+    answer.say(set);
+    same(alloc, answer, set, words)?;
+    resources(answer, set)
+}
+
 // The set of the three sets of texts, and what is known of it.
 fn made(alloc: Global, answer: &mut Answer, words: [&str; 3]) -> Result<()> {
-    let set = new(alloc, words)?;
-    answer.say(&set);
-    same(alloc, answer, &set, words)?;
-    resources(answer, &set)
+    match new(alloc, words) {
+        Ok(set) => {
+            let said = known(alloc, answer, &set, words);
+            drop(set);
+            said
+        }
+        Err(error) => Err(error),
+    }
 }
 
 // How one set changes into another.
@@ -77,14 +88,19 @@ fn change(
     Ok(())
 }
 
+// A set, and whether it is none.
+fn alone(answer: &mut Answer, set: &ResourceSet) {
+    answer.say(set);
+    answer.say(&set.is_empty());
+    let none = ResourceSet::default();
+    answer.say(&(*set == none));
+    drop(none);
+}
+
 // Two sets, how they contain each other, and how they change into each other.
 fn pair(alloc: Global, answer: &mut Answer, one: &ResourceSet, other: &ResourceSet) -> Result<()> {
-    answer.say(one);
-    answer.say(&one.is_empty());
-    answer.say(&(*one == ResourceSet::default()));
-    answer.say(other);
-    answer.say(&other.is_empty());
-    answer.say(&(*other == ResourceSet::default()));
+    alone(answer, one);
+    alone(answer, other);
     answer.say(&one.contains(other));
     answer.say(&other.contains(one));
     change(alloc, answer, one, one)?;
@@ -152,36 +168,58 @@ pub fn identifiers(answer: &mut Answer, mode: Overclaim) {
     );
 }
 
+// The set of all numbers, and that of none.
+fn ends(alloc: Global, answer: &mut Answer) -> Result<()> {
+    match ResourceSet::all(alloc) {
+        Ok(all) => {
+            let none = ResourceSet::empty();
+            let said = pair(alloc, answer, &all, &none);
+            drop(none);
+            drop(all);
+            said
+        }
+        Err(error) => Err(Error::from(error)),
+    }
+}
+
+// The texts of refusals.
+fn texts(answer: &mut Answer) {
+    answer.say(&FromStrError::Memory);
+    answer.join("; ");
+    answer.join_as(&InheritError::Inherited);
+    answer.join("; ");
+    answer.join_as(&InheritError::Memory);
+    answer.join(";");
+}
+
+// The set of three texts, or what is wrong with one.
+fn read(alloc: Global, answer: &mut Answer, texts: [&str; 3]) {
+    let [asn, ipv4, ipv6] = texts;
+    let read = ResourceSet::from_strs(alloc, asn, ipv4, ipv6);
+    answer.say_or(&read);
+    drop(read);
+}
+
+// What is wrong with each of three texts.
+fn check(answer: &mut Answer, texts: [&str; 3]) {
+    let [asn, ipv4, ipv6] = texts;
+    tell_good(answer, &AsBlocks::check_str(asn));
+    tell_good(answer, &Ipv4Blocks::check_str(ipv4));
+    tell_good(answer, &Ipv6Blocks::check_str(ipv6));
+}
+
 /// The answer to a question about sets of all three kinds.
 pub fn answer(alloc: Global, answer: &mut Answer, words: &[&str]) -> Result<()> {
-    let (asn, ipv4, ipv6) = (word_at(words, 1), word_at(words, 2), word_at(words, 3));
+    let three = [word_at(words, 1), word_at(words, 2), word_at(words, 3)];
     match word_at(words, 0) {
-        "ends" => {
-            return pair(
-                alloc,
-                answer,
-                &ResourceSet::all(alloc)?,
-                &ResourceSet::empty(),
-            );
-        }
-        "texts" => {
-            answer.say(&FromStrError::Memory);
-            answer.join("; ");
-            answer.join_as(&InheritError::Inherited);
-            answer.join("; ");
-            answer.join_as(&InheritError::Memory);
-            answer.join(";");
-        }
+        "ends" => return ends(alloc, answer),
+        "texts" => texts(answer),
         "refuse" => tables(answer, Overclaim::Refuse),
         "trim" => tables(answer, Overclaim::Trim),
-        "read" => answer.say_or(&ResourceSet::from_strs(alloc, asn, ipv4, ipv6)),
-        "check" => {
-            tell_good(answer, &AsBlocks::check_str(asn));
-            tell_good(answer, &Ipv4Blocks::check_str(ipv4));
-            tell_good(answer, &Ipv6Blocks::check_str(ipv6));
-        }
-        "again" => return again(alloc, answer, [asn, ipv4, ipv6]),
-        "made" => return made(alloc, answer, [asn, ipv4, ipv6]),
+        "read" => read(alloc, answer, three),
+        "check" => check(answer, three),
+        "again" => return again(alloc, answer, three),
+        "made" => return made(alloc, answer, three),
         _ => return unknown(),
     }
     Ok(())

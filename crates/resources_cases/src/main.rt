@@ -1,9 +1,11 @@
-//! Worked cases of AS and IP resources, and the calls of sets and resources, and those that read and write them, as
-//! data: each line of standard input asks a question, by words with a tab between, and each line of standard output
-//! answers one. What numbers, addresses and chains come to, `resources_calls` asks.
+//! Worked cases of AS and IP resources, and the calls of the resources, as data: each line of standard input asks a
+//! question, by words with a tab between, and each line of standard output answers one. What sets and resources come to,
+//! and those that are read and written, is answered here; what numbers, addresses and chains come to, by
+//! `resources_calls`.
 //!
-//! The first word names the module that answers, and the second one what it is asked. `tests/resources_calls.py`
-//! writes both, with the questions of `tests/resources_cases.py`, and knows the answers by means of its own.
+//! The first word names the module that answers, and the second one what it is asked; behind the word `call` the question is
+//! one of `resources_calls`. `tests/resources_calls.py` writes both questions and answers, with the questions of
+//! `tests/resources_cases.py`, and knows the answers by means of its own.
 #![tactic(auto)]
 
 mod addresses;
@@ -12,6 +14,7 @@ mod decoded;
 mod encodings;
 mod families;
 mod kinds;
+mod made;
 mod numbers;
 mod sets;
 mod written;
@@ -58,6 +61,7 @@ impl Questions for Cases {
             "family" => return families::answer(alloc, answer, words),
             "set" => return kinds::answer(alloc, answer, words),
             "der" => return decoded::answer(alloc, answer, words),
+            "call" => return resources_calls::answer(alloc, answer, words),
             _ => {}
         }
         if let Err(error) = of_kind(alloc, answer, *topic, words) {

@@ -1,6 +1,7 @@
 //! Questions about AS numbers.
 
 use crate::encodings::write;
+use crate::made::{say_grown, say_made};
 use crate::policy;
 use answers::{Answer, octets_of, unknown, word_at};
 use anyhow::{Result, anyhow};
@@ -72,8 +73,12 @@ fn listed(answer: &mut Answer, resources: &AsResources) -> Result<()> {
 }
 
 // The resources in front of octets.
-fn decode(alloc: Global, answer: &mut Answer, octets: &[u8]) -> Result<()> {
-    match Mode::Der.decode(octets, |cons| AsResources::take_from(alloc, cons)) {
+fn decode(alloc: Global, answer: &mut Answer, digits: &str) -> Result<()> {
+    let octets = octets_of(alloc, digits);
+    match Mode::Der.decode(
+        octets.as_slice(),
+        |cons| AsResources::take_from(alloc, cons),
+    ) {
         Ok(resources) => {
             answer.say(&resources);
             answer.join(".");
@@ -84,8 +89,9 @@ fn decode(alloc: Global, answer: &mut Answer, octets: &[u8]) -> Result<()> {
 }
 
 // A content goes on after a block, but not after a refusal that is forgotten.
-fn forgotten(answer: &mut Answer, octets: &[u8]) -> Result<()> {
-    let read = Mode::Der.decode(octets, |cons| {
+fn forgotten(alloc: Global, answer: &mut Answer, digits: &str) -> Result<()> {
+    let octets = octets_of(alloc, digits);
+    let read = Mode::Der.decode(octets.as_slice(), |cons| {
         let _ = AsBlock::take_opt_from(cons);
         Ok(())
     });
@@ -137,24 +143,98 @@ fn of_sets(
 ) -> Result<()> {
     match question {
         "within" => answer.say(&other.contains(one)),
-        "union" => answer.say(&one.union(alloc, other)?),
-        "intersection" => answer.say(&one.intersection(alloc, other)?),
-        "difference" => answer.say(&one.difference(alloc, other)?),
+        "union" => return say_grown(answer, one.union(alloc, other)),
+        "intersection" => return say_grown(answer, one.intersection(alloc, other)),
+        "difference" => return say_grown(answer, one.difference(alloc, other)),
         _ => return unknown(),
     }
     Ok(())
 }
 
-// What a set comes to with what follows: a claim, or another set.
-fn of_two(alloc: Global, answer: &mut Answer, question: &str, words: [&str; 2]) -> Result<()> {
-    let [one, other] = words;
-    let one = set(alloc, one)?;
-    match question {
-        "refuse" | "trim" | "covered" => {
-            of_claim(alloc, answer, question, &one, &resources(alloc, other)?);
+// What a set comes to with the one of a text.
+fn beside(
+    alloc: Global,
+    answer: &mut Answer,
+    question: &str,
+    one: &AsBlocks,
+    other: &str,
+) -> Result<()> {
+    match set(alloc, other) {
+        Ok(other) => {
+            let said = of_sets(alloc, answer, question, one, &other);
+            drop(other);
+            said
+        }
+        Err(error) => Err(error),
+    }
+}
+
+// What the claim of a text comes to below an issuer.
+fn below(
+    alloc: Global,
+    answer: &mut Answer,
+    question: &str,
+    issuer: &AsBlocks,
+    claim: &str,
+) -> Result<()> {
+    match resources(alloc, claim) {
+        Ok(claim) => {
+            of_claim(alloc, answer, question, issuer, &claim);
+            drop(claim);
             Ok(())
         }
-        _ => of_sets(alloc, answer, question, &one, &set(alloc, other)?),
+        Err(error) => Err(error),
+    }
+}
+
+// What is known of a set, or what it comes to with what follows: a claim, or another set.
+fn told(
+    alloc: Global,
+    answer: &mut Answer,
+    question: &str,
+    one: &AsBlocks,
+    other: &str,
+) -> Result<()> {
+    match question {
+        "count" => answer.say(&one.asn_count()),
+        "each" => each(answer, one),
+        "refuse" | "trim" | "covered" => return below(alloc, answer, question, one, other),
+        _ => return beside(alloc, answer, question, one, other),
+    }
+    Ok(())
+}
+
+// What is known of the resources of a text: their set, or their octets.
+fn of_resources(alloc: Global, answer: &mut Answer, is_encoded: bool, text: &str) -> Result<()> {
+    match resources(alloc, text) {
+        Ok(resources) => {
+            let said = if is_encoded {
+                encode(alloc, answer, &resources)
+            } else {
+                listed(answer, &resources)
+            };
+            drop(resources);
+            said
+        }
+        Err(error) => Err(error),
+    }
+}
+
+// What is known of the set of a text, or what it comes to with what follows.
+fn of_set(
+    alloc: Global,
+    answer: &mut Answer,
+    question: &str,
+    one: &str,
+    other: &str,
+) -> Result<()> {
+    match set(alloc, one) {
+        Ok(one) => {
+            let said = told(alloc, answer, question, &one, other);
+            drop(one);
+            said
+        }
+        Err(error) => Err(error),
     }
 }
 
@@ -163,15 +243,12 @@ fn of_two(alloc: Global, answer: &mut Answer, question: &str, words: [&str; 2]) 
 pub fn answer(alloc: Global, answer: &mut Answer, words: &[&str]) -> Result<()> {
     let (question, one, other) = (word_at(words, 0), word_at(words, 1), word_at(words, 2));
     match question {
-        "read" => answer.say(&set(alloc, one)?),
-        "count" => answer.say(&set(alloc, one)?.asn_count()),
-        "each" => each(answer, &set(alloc, one)?),
-        "resources" => return listed(answer, &resources(alloc, one)?),
-        "encode" => return encode(alloc, answer, &resources(alloc, one)?),
-        "decode" => return decode(alloc, answer, octets_of(alloc, one).as_slice()),
-        "forgotten" => return forgotten(answer, octets_of(alloc, one).as_slice()),
-        "path" => return path(alloc, answer, words),
-        _ => return of_two(alloc, answer, question, [one, other]),
+        "read" => say_made(answer, set(alloc, one)),
+        "resources" => of_resources(alloc, answer, false, one),
+        "encode" => of_resources(alloc, answer, true, one),
+        "decode" => decode(alloc, answer, one),
+        "forgotten" => forgotten(alloc, answer, one),
+        "path" => path(alloc, answer, words),
+        _ => of_set(alloc, answer, question, one, other),
     }
-    Ok(())
 }

@@ -1,8 +1,9 @@
 //! Questions about what sets of all three kinds come to.
 
 use crate::addresses::{v4_resources, v6_resources};
+use crate::made::{say_grown, say_made};
 use answers::{Answer, unknown, word_at};
-use anyhow::Result;
+use anyhow::{Error, Result};
 use resources::asres::AsResources;
 use resources::set::ResourceSet;
 use std::alloc::{AllocError, Global};
@@ -22,26 +23,51 @@ fn listed(alloc: Global, words: [&str; 3]) -> Result<ResourceSet> {
     Ok(ResourceSet::from_resources(&asn, &ipv4, &ipv6)?)
 }
 
-// A set that is made anew from what another is lent by.
-fn copied(set: &ResourceSet) -> Result<ResourceSet, AllocError> {
-    let mut copy = ResourceSet::empty();
+// Sets in a copy what a set has of each kind.
+fn fill(copy: &mut ResourceSet, set: &ResourceSet) -> Result<(), AllocError> {
     copy.set_asn(set.asn().clone()?);
     copy.set_ipv4(set.ipv4().clone()?);
     copy.set_ipv6(set.ipv6().clone()?);
-    Ok(copy)
+    Ok(())
+}
+
+// Whether a set is none.
+fn is_none(answer: &mut Answer, set: &ResourceSet) {
+    let none = ResourceSet::default();
+    answer.join_as(&(*set == none));
+    drop(none);
+}
+
+// The AS numbers of a set, as resources.
+fn numbers(answer: &mut Answer, set: &ResourceSet) -> Result<()> {
+    match set.to_as_resources() {
+        Ok(numbers) => {
+            answer.join_as(&numbers);
+            drop(numbers);
+            Ok(())
+        }
+        Err(error) => Err(Error::from(error)),
+    }
 }
 
 // A copy of a set, whether it is equal and whether it is none, and its AS numbers as resources.
+fn copied(answer: &mut Answer, set: &ResourceSet, copy: &mut ResourceSet) -> Result<()> {
+    fill(copy, set)?;
+    answer.say(copy);
+    answer.join("; ");
+    answer.join_as(&(*copy == *set));
+    answer.join("; ");
+    is_none(answer, copy);
+    answer.join("; ");
+    numbers(answer, copy)
+}
+
+// What is known of a copy of a set.
 fn each(answer: &mut Answer, set: &ResourceSet) -> Result<()> {
-    let copy = copied(set)?;
-    answer.say(&copy);
-    answer.join("; ");
-    answer.join_as(&(copy == *set));
-    answer.join("; ");
-    answer.join_as(&(copy == ResourceSet::default()));
-    answer.join("; ");
-    answer.join_as(&copy.to_as_resources()?);
-    Ok(())
+    let mut copy = ResourceSet::empty();
+    let said = copied(answer, set, &mut copy);
+    drop(copy);
+    said
 }
 
 // How one set changes into another.
@@ -51,13 +77,18 @@ fn difference(
     one: &ResourceSet,
     other: &ResourceSet,
 ) -> Result<()> {
-    let changes = one.difference(alloc, other)?;
-    answer.say(&changes);
-    answer.join("; ");
-    answer.join_as(changes.added());
-    answer.join("; ");
-    answer.join_as(changes.removed());
-    Ok(())
+    match one.difference(alloc, other) {
+        Ok(changes) => {
+            answer.say(&changes);
+            answer.join("; ");
+            answer.join_as(changes.added());
+            answer.join("; ");
+            answer.join_as(changes.removed());
+            drop(changes);
+            Ok(())
+        }
+        Err(error) => Err(Error::from(error)),
+    }
 }
 
 // What two sets come to.
@@ -69,31 +100,69 @@ fn of_two(
     other: &ResourceSet,
 ) -> Result<()> {
     match question {
-        "within" => answer.say(&other.contains(one)),
-        "union" => answer.say(&one.union(alloc, other)?),
-        "intersection" => answer.say(&one.intersection(alloc, other)?),
-        "difference" => return difference(alloc, answer, one, other),
-        _ => return unknown(),
+        "within" => {
+            answer.say(&other.contains(one));
+            Ok(())
+        }
+        "union" => say_grown(answer, one.union(alloc, other)),
+        "intersection" => say_grown(answer, one.intersection(alloc, other)),
+        "difference" => difference(alloc, answer, one, other),
+        _ => unknown(),
     }
-    Ok(())
+}
+
+// What a set comes to with the one of three texts.
+fn beside(
+    alloc: Global,
+    answer: &mut Answer,
+    question: &str,
+    one: &ResourceSet,
+    words: [&str; 3],
+) -> Result<()> {
+    match set(alloc, words) {
+        Ok(other) => {
+            let said = of_two(alloc, answer, question, one, &other);
+            drop(other);
+            said
+        }
+        Err(error) => Err(error),
+    }
+}
+
+// What is known of a set, or what it comes to with another.
+fn told(
+    alloc: Global,
+    answer: &mut Answer,
+    question: &str,
+    set: &ResourceSet,
+    words: &[&str],
+) -> Result<()> {
+    match question {
+        "each" => each(answer, set),
+        "count" => {
+            answer.say(&set.is_empty());
+            Ok(())
+        }
+        _ => {
+            let other = [word_at(words, 4), word_at(words, 5), word_at(words, 6)];
+            beside(alloc, answer, question, set, other)
+        }
+    }
 }
 
 /// Answers a question about one set, or about two.
 pub fn answer(alloc: Global, answer: &mut Answer, words: &[&str]) -> Result<()> {
-    let one = [word_at(words, 1), word_at(words, 2), word_at(words, 3)];
+    let texts = [word_at(words, 1), word_at(words, 2), word_at(words, 3)];
     match word_at(words, 0) {
-        "resources" => answer.say(&listed(alloc, one)?),
-        "read" => answer.say(&set(alloc, one)?),
-        "each" => return each(answer, &set(alloc, one)?),
-        "count" => answer.say(&set(alloc, one)?.is_empty()),
-        question => {
-            let one = set(alloc, one)?;
-            let other = set(
-                alloc,
-                [word_at(words, 4), word_at(words, 5), word_at(words, 6)],
-            )?;
-            return of_two(alloc, answer, question, &one, &other);
-        }
+        "resources" => say_made(answer, listed(alloc, texts)),
+        "read" => say_made(answer, set(alloc, texts)),
+        question => match set(alloc, texts) {
+            Ok(one) => {
+                let said = told(alloc, answer, question, &one, words);
+                drop(one);
+                said
+            }
+            Err(error) => Err(error),
+        },
     }
-    Ok(())
 }

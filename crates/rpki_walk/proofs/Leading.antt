@@ -1,5 +1,5 @@
 -- What locators tell.
-use Rattle.std.proofs.Common.{◌≡◌, ℕ, ◌≤◌, ◌⊎◌, ◌↔◌, List, [], ◌∷◌, map, Some, None, refl, sym, ap, subst, ◌∙◌, inl, inr, arith}
+use Rattle.std.proofs.Common.{◌≡◌, ℕ, ◌≤◌, ◌⊎◌, ◌↔◌, List, [], ◌∷◌, map, Some, None, Result, Ok, Err, OnOk, refl, sym, ap, subst, ◌∙◌, inl, inr, arith}
 use Rattle.rpki_walk.specs.resources.Resources.{Resources}
 use Rattle.rpki_walk.specs.rpki_bundle.declared.parts.Locator.{Locator}
 use Rattle.rpki_rules.specs.Certs.{Key, Cert, CertText, one_cert}
@@ -107,6 +107,11 @@ module _ (wants : Told → Type 0) (uris : List (List ℕ)) (w : World) (l : Loc
         λ f. elim f [ inl t ↦ absurd (t.1 h.uris h.key h.reads) | inr q ↦ elim q [ inl t ↦ absurd (t.4 a h) | inr t ↦ subst (λ (b : Link). Found uris w l.name b [] x) (one_lead w l t.0 a t.1 h) t.2 ] ],
       ))
 
+-- What a good end tells follows from what it told.
+pub on_ok : {T E P Q : Type 0} (r : Result T E) → (P → Q) → OnOk r P → OnOk r Q
+on_ok (Ok x) f h = f h
+on_ok (Err e) f h = tt
+
 -- What the code reads of a locator, and what the walk gains by it.
 module _ {A : Type 0} (cert : A → Cert) (sets : A → Resources) (wants : Told → Type 0) (uris : List (List ℕ)) (w : World) (l : Locator) (o : Leads A) (led : IsLed cert sets w l o) where
   led_at : (p : Leads A) → o ≡ p → IsLed cert sets w l p
@@ -118,7 +123,9 @@ module _ {A : Type 0} (cert : A → Cert) (sets : A → Resources) (wants : Told
   pub arm_nowhere : o ≡ To.Nowhere → (name : List ℕ) → name ≡ l.name → (old new : Told → Type 0) → Gains wants old (λ x. Refuses name cause.Anchor ≡ x) new → Gains wants old (FromLocator uris w l) new
   arm_nowhere e name n old new g = gains_nowhere wants uris w l old new (led_at To.Nowhere e) (subst (λ (m : List ℕ). Gains wants old (λ x. Refuses m cause.Anchor ≡ x) new) n g)
 
-  pub arm_anchor : (uri : List ℕ) (c : A) → o ≡ To.Anchor uri c → Mem w.locators l → 1 ≤ w.depth → (way : Way) (on : List (List ℕ)) → way ≡ record { locator = l.name; chain = uri ∷ [] } → on ≡ (cert c).tbs.subject_key_identifier ∷ [] → (v : World) → v ≡ w → (old new : Told → Type 0) → Walks wants uris v way on uri (cert c) (sets c) old new → Gains wants old (FromLocator uris w l) new
-  arm_anchor uri c e m deep way on we oe v ev old new walked =
+  pub arm_anchor : (uri : List ℕ) (c : A) → o ≡ To.Anchor uri c → Mem w.locators l → 1 ≤ w.depth → (name : List ℕ) → name ≡ l.name → (v : World) → v ≡ w → (old new : Told → Type 0) → Walks wants uris v (record { locator = name; chain = uri ∷ [] }) ((cert c).tbs.subject_key_identifier ∷ []) uri (cert c) (sets c) old new → Gains wants old (FromLocator uris w l) new
+  arm_anchor uri c e m deep name n v ev old new walked =
       let q = led_at (To.Anchor uri c) e in
-      gains_anchor wants uris w l uri (cert c) (sets c) m deep q.0 q.1 way on we oe old new (subst (λ (z : World). Walks wants uris z way on uri (cert c) (sets c) old new) ev walked)
+      let way : Way = record { locator = name; chain = uri ∷ [] } in
+      let on = (cert c).tbs.subject_key_identifier ∷ [] in
+      gains_anchor wants uris w l uri (cert c) (sets c) m deep q.0 q.1 way on (λ i. record { locator = n i; chain = uri ∷ [] }) refl old new (subst (λ (z : World). Walks wants uris z way on uri (cert c) (sets c) old new) ev walked)
