@@ -46,26 +46,51 @@ fn answered(alloc: Global, answer: &mut Answer, words: &[&str], signer: &Stub) -
     Ok(())
 }
 
-// The answer to a question, or why there is none.
+// The answer to a question about a content alone.
+fn of_content(alloc: Global, answer: &mut Answer, what: &str, words: &[&str]) -> Result<()> {
+    match what {
+        "providers" => attested::providers(alloc, answer, words),
+        "addresses" => addresses::answer(alloc, answer, words),
+        "pair" => files::pair(alloc, answer, words),
+        "hash" => files::hash(alloc, answer, words),
+        _ => unknown(),
+    }
+}
+
+// The answer to a question about an object that a signer signs, or about a content alone.
+fn of_object(
+    alloc: Global,
+    answer: &mut Answer,
+    what: &str,
+    words: &[&str],
+    signer: &Stub,
+) -> Result<()> {
+    match what {
+        "build" | "refuse" => answered(alloc, answer, words, signer),
+        "roa" => issued::roa(alloc, answer, words, signer),
+        "manifest" => issued::manifest(alloc, answer, words, signer),
+        "aspa" => attested::answer(alloc, answer, words, signer),
+        _ => of_content(alloc, answer, what, words),
+    }
+}
+
+// The answer to a question, or why there is none. The signer refuses where the first word says so: `refuse`, alone or with
+// a kind of object behind a dash.
 fn say(alloc: Global, answer: &mut Answer, words: &[&str]) -> Result<()> {
     let [what, rest @ ..] = words else {
         return Err(anyhow!("no question"));
     };
-    match *what {
-        "build" => answered(alloc, answer, rest, &Stub::willing()),
-        "refuse" => answered(alloc, answer, rest, &Stub::refusing()),
-        "roa" => issued::roa(alloc, answer, rest, &Stub::willing()),
-        "refuse-roa" => issued::roa(alloc, answer, rest, &Stub::refusing()),
-        "manifest" => issued::manifest(alloc, answer, rest, &Stub::willing()),
-        "refuse-manifest" => issued::manifest(alloc, answer, rest, &Stub::refusing()),
-        "aspa" => attested::answer(alloc, answer, rest, &Stub::willing()),
-        "refuse-aspa" => attested::answer(alloc, answer, rest, &Stub::refusing()),
-        "providers" => attested::providers(alloc, answer, rest),
-        "addresses" => addresses::answer(alloc, answer, rest),
-        "pair" => files::pair(alloc, answer, rest),
-        "hash" => files::hash(alloc, answer, rest),
-        _ => unknown(),
-    }
+    let signer = if what.starts_with("refuse") {
+        Stub::refusing()
+    } else {
+        Stub::willing()
+    };
+    let said = match what.strip_prefix("refuse-") {
+        Some(what) => of_object(alloc, answer, what, rest, &signer),
+        None => of_object(alloc, answer, *what, rest, &signer),
+    };
+    drop(signer);
+    said
 }
 
 /// The answer to a question about a signed object that is built, or a content that is put together.

@@ -197,35 +197,65 @@ fn cuts(alloc: Global, row: &mut Row, strict: bool, kind: &str, octets: &[u8]) -
     Ok(())
 }
 
+// What is read of octets with some bits of each octet in turn flipped.
+fn of_flips(
+    alloc: Global,
+    answer: &mut Answer,
+    strict: bool,
+    kind: &str,
+    bits: u8,
+    digits: &str,
+) -> Result<()> {
+    let octets = pieces_of(alloc, digits)?;
+    let mut row = Row::new(alloc);
+    let said = flips(alloc, &mut row, strict, kind, bits, octets.as_slice());
+    if said.is_ok() {
+        row.end(answer);
+    }
+    drop(row);
+    said
+}
+
+// What is read of each proper front of octets.
+fn of_cuts(
+    alloc: Global,
+    answer: &mut Answer,
+    strict: bool,
+    kind: &str,
+    digits: &str,
+) -> Result<()> {
+    let octets = pieces_of(alloc, digits)?;
+    let mut row = Row::new(alloc);
+    let said = cuts(alloc, &mut row, strict, kind, octets.as_slice());
+    if said.is_ok() {
+        row.end(answer);
+    }
+    drop(row);
+    said
+}
+
+// What is read of octets.
+fn of_octets(
+    alloc: Global,
+    answer: &mut Answer,
+    strict: bool,
+    kind: &str,
+    digits: &str,
+) -> Result<()> {
+    let octets = pieces_of(alloc, digits)?;
+    read(alloc, answer, strict, kind, octets.as_slice())
+}
+
 /// What is read of the octets; or of them with some bits of each octet in turn flipped; or of each
 /// proper front.
 pub fn answer(alloc: Global, answer: &mut Answer, words: &[&str]) -> Result<()> {
     match words {
         ["flips", bits, how, kind, digits] => {
-            let octets = pieces_of(alloc, *digits)?;
-            let mut row = Row::new(alloc);
-            flips(
-                alloc,
-                &mut row,
-                *how == "strict",
-                *kind,
-                u8::from_str(*bits)?,
-                octets.as_slice(),
-            )?;
-            row.end(answer);
-            Ok(())
+            let bits = u8::from_str(*bits)?;
+            of_flips(alloc, answer, *how == "strict", *kind, bits, *digits)
         }
-        ["cuts", how, kind, digits] => {
-            let octets = pieces_of(alloc, *digits)?;
-            let mut row = Row::new(alloc);
-            cuts(alloc, &mut row, *how == "strict", *kind, octets.as_slice())?;
-            row.end(answer);
-            Ok(())
-        }
-        [how, kind, digits] => {
-            let octets = pieces_of(alloc, *digits)?;
-            read(alloc, answer, *how == "strict", *kind, octets.as_slice())
-        }
+        ["cuts", how, kind, digits] => of_cuts(alloc, answer, *how == "strict", *kind, *digits),
+        [how, kind, digits] => of_octets(alloc, answer, *how == "strict", *kind, *digits),
         _ => unknown(),
     }
 }

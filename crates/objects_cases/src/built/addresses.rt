@@ -3,7 +3,7 @@
 ghost use Rattle.std.specs.Prelude.{◌≤◌};
 
 use answers::Answer;
-use anyhow::{Result, anyhow};
+use anyhow::{Error, Result, anyhow};
 use objects::roa::{ToIpResources, are_of_family};
 use objects_payload::roa::{RoaIpAddress, RoaIpAddresses, RoaIpAddressesBuilder};
 use resources::ipres::{Addr, AddressFamily, IpBlocksForFamily, IpResources, Prefix};
@@ -125,6 +125,53 @@ pub fn builder_of(alloc: Global, calls: &[&str]) -> Result<RoaIpAddressesBuilder
     Ok(builder)
 }
 
+// Resources, and whether they are those of addresses.
+fn compare(
+    alloc: Global,
+    answer: &mut Answer,
+    addresses: &RoaIpAddresses,
+    resources: &IpResources,
+    family: &str,
+) -> Result<()> {
+    say_resources(answer, resources, family)?;
+    match addresses.to_resources(alloc) {
+        Ok(own) => {
+            answer.say(&(own == *resources));
+            drop(own);
+            Ok(())
+        }
+        Err(error) => Err(Error::from(error)),
+    }
+}
+
+// What addresses that are put together are as resources, beside those of the addresses themselves.
+fn beside(
+    alloc: Global,
+    answer: &mut Answer,
+    builder: &RoaIpAddressesBuilder,
+    addresses: &RoaIpAddresses,
+    family: &str,
+) -> Result<()> {
+    match builder.to_resources(alloc) {
+        Ok(resources) => {
+            let said = compare(alloc, answer, addresses, &resources, family);
+            drop(resources);
+            said
+        }
+        Err(error) => Err(Error::from(error)),
+    }
+}
+
+// Whether there are addresses, of which families they are, and each of them.
+fn say_families(answer: &mut Answer, addresses: &RoaIpAddresses) {
+    let (v4, v6) = (
+        are_of_family(addresses, AddressFamily::Ipv4),
+        are_of_family(addresses, AddressFamily::Ipv6),
+    );
+    answer.say(&format_args!("{} {v4} {v6}", addresses.is_empty()));
+    say_addresses(answer, addresses);
+}
+
 // The addresses, of which families they are, and what they are as resources.
 fn say_all(
     alloc: Global,
@@ -132,18 +179,15 @@ fn say_all(
     builder: &RoaIpAddressesBuilder,
     family: &str,
 ) -> Result<()> {
-    let addresses = builder.to_addresses(alloc)?;
-    let (v4, v6) = (
-        are_of_family(&addresses, AddressFamily::Ipv4),
-        are_of_family(&addresses, AddressFamily::Ipv6),
-    );
-    answer.say(&format_args!("{} {v4} {v6}", addresses.is_empty()));
-    say_addresses(answer, &addresses);
-    let resources = builder.to_resources(alloc)?;
-    say_resources(answer, &resources, family)?;
-    let same = addresses.to_resources(alloc)? == resources;
-    answer.say(&same);
-    Ok(())
+    match builder.to_addresses(alloc) {
+        Ok(addresses) => {
+            say_families(answer, &addresses);
+            let said = beside(alloc, answer, builder, &addresses, family);
+            drop(addresses);
+            said
+        }
+        Err(error) => Err(Error::from(error)),
+    }
 }
 
 /// The answer to a question about the addresses of a family.

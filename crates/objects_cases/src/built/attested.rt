@@ -62,6 +62,17 @@ fn say(alloc: Global, answer: &mut Answer, builder: &AspaBuilder) -> Result<()> 
     Ok(())
 }
 
+// What is said of a customer once others are added.
+fn added(
+    alloc: Global,
+    answer: &mut Answer,
+    builder: &mut AspaBuilder,
+    others: &str,
+) -> Result<()> {
+    add(alloc, answer, builder, others)?;
+    say(alloc, answer, builder)
+}
+
 /// The answer to a question about providers: a customer, providers that are there at first, and others that are added.
 pub fn providers(alloc: Global, answer: &mut Answer, words: &[&str]) -> Result<()> {
     let [customer, first, others] = words else {
@@ -70,12 +81,15 @@ pub fn providers(alloc: Global, answer: &mut Answer, words: &[&str]) -> Result<(
     match begun(alloc, Asn::from_u32(customer.parse::<u32>()?), *first)? {
         Ok(builder) => {
             let mut builder = builder;
-            add(alloc, answer, &mut builder, *others)?;
-            say(alloc, answer, &builder)?;
+            let said = added(alloc, answer, &mut builder, *others);
+            drop(builder);
+            said
         }
-        Err(error) => answer.say(&error),
+        Err(error) => {
+            answer.say(&error);
+            Ok(())
+        }
     }
-    Ok(())
 }
 
 // An attestation of a customer and providers.

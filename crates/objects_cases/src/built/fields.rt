@@ -75,15 +75,33 @@ fn rsync_of(alloc: Global, words: &[&str], name: &str) -> Result<Rsync> {
     Ok(Rsync::from_slice(alloc, wanted(words, name)?.as_bytes())?)
 }
 
+// Where the issuer's certificate and the object stand.
+fn issuer_and_object(alloc: Global, words: &[&str]) -> Result<(Rsync, Rsync)> {
+    let issuer = rsync_of(alloc, words, "aia")?;
+    match rsync_of(alloc, words, "object") {
+        Ok(object) => Ok((issuer, object)),
+        Err(error) => {
+            drop(issuer);
+            Err(error)
+        }
+    }
+}
+
 // The fields that each object has.
 fn first_of(alloc: Global, words: &[&str]) -> Result<SignedObjectBuilder> {
     let serial = serial_of(alloc, words)?;
     let validity = Validity::new(time_of(words, "from")?, time_of(words, "to")?);
     let signed = time_of(words, "signed")?;
     let crl = rsync_of(alloc, words, "crl")?;
-    let issuer = rsync_of(alloc, words, "aia")?;
-    let object = rsync_of(alloc, words, "object")?;
-    Ok(SignedObjectBuilder::new(serial, validity, crl, issuer, object, signed))
+    match issuer_and_object(alloc, words) {
+        Ok((issuer, object)) => {
+            Ok(SignedObjectBuilder::new(serial, validity, crl, issuer, object, signed))
+        }
+        Err(error) => {
+            drop(crl);
+            Err(error)
+        }
+    }
 }
 
 // Sets the IPv4 resources.

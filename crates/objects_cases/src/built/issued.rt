@@ -76,18 +76,29 @@ fn joined(alloc: Global, asn: Asn, words: &str) -> Result<RoaBuilder> {
     Ok(RoaBuilder::with_addresses(asn, v4, v6))
 }
 
-// What the calls of a text put together: calls with a semicolon between, an equals sign before their words.
-fn roa_of(alloc: Global, asn: &str, calls: &str) -> Result<RoaBuilder> {
-    let asn = asn_of(asn)?;
-    let mut builder = RoaBuilder::new(alloc, asn);
+// The calls of a text: calls with a semicolon between, an equals sign before their words.
+fn steps(alloc: Global, builder: &mut RoaBuilder, asn: Asn, calls: &str) -> Result<()> {
     for one in calls.split(';') {
         match one.split_once('=') {
-            Some(("with", words)) => builder = joined(alloc, asn, words)?,
-            Some((call, words)) => step(alloc, &mut builder, call, words)?,
+            Some(("with", words)) => *builder = joined(alloc, asn, words)?,
+            Some((call, words)) => step(alloc, builder, call, words)?,
             None => {}
         }
     }
-    Ok(builder)
+    Ok(())
+}
+
+// What the calls of a text put together.
+fn roa_of(alloc: Global, asn: &str, calls: &str) -> Result<RoaBuilder> {
+    let asn = asn_of(asn)?;
+    let mut builder = RoaBuilder::new(alloc, asn);
+    match steps(alloc, &mut builder, asn, calls) {
+        Ok(()) => Ok(builder),
+        Err(error) => {
+            drop(builder);
+            Err(error)
+        }
+    }
 }
 
 // Refuses addresses of which one isn't of the family.
