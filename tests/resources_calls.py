@@ -2,8 +2,8 @@
 """Writes the questions and answers of the program of questions about resources: tests/resources_calls.py
 
 crates/resources_cases is asked what tests/resources_cases.py asks, and about sets and resources, and what is read and written
-of them; and behind the word `call` about addresses, prefixes and numbers, chains and blocks of AS numbers, which
-crates/resources_calls answers.
+of them; and behind the word `call` about addresses, prefixes and numbers, chains, blocks of AS numbers and sets of one family,
+which crates/resources_calls answers.
 
 The answers come from Python's own integers and sets, `ipaddress`, and X.690 and RFC 3779 for octets. The gate runs the
 program on its `stdin`, and compares what it prints with `stdout`. A tab stands between the words of a question.
@@ -22,7 +22,7 @@ from resources_cases import as_block, bits, difference, integer, intersection, m
 
 FOLDER = pathlib.Path(__file__).resolve().parent.parent / "crates" / "resources_cases"
 # The topics, which are first words, of the questions about single calls.
-CALLS = "prefix max asn addr range block as chain list".split()
+CALLS = "prefix max asn addr range block as chain list family".split()
 
 
 # Strict prefixes.

@@ -1,4 +1,4 @@
-//! Questions about the calls of addresses, prefixes, numbers, chains and blocks of AS numbers. The program
+//! Questions about the calls of addresses, prefixes, numbers, chains, blocks of AS numbers and sets of one family. The program
 //! `resources_cases` reads them line by line, behind the word `call`, and `tests/resources_calls.py` knows the answers by
 //! means of its own.
 //!
@@ -11,6 +11,7 @@ mod asns;
 mod chains;
 mod claims;
 mod families;
+mod family_sets;
 mod hashes;
 mod lookups;
 mod prefixes;
@@ -20,7 +21,7 @@ use answers::{Answer, unknown};
 use anyhow::Result;
 use std::alloc::Global;
 
-/// The answer to a question about addresses, prefixes, numbers or chains.
+/// The answer to a question about addresses, prefixes, numbers, chains or sets of one family.
 pub fn answer(alloc: Global, answer: &mut Answer, words: &[&str]) -> Result<()> {
     let [topic, words @ ..] = words else {
         return unknown();
@@ -35,6 +36,7 @@ pub fn answer(alloc: Global, answer: &mut Answer, words: &[&str]) -> Result<()> 
         "as" => as_blocks::answer(alloc, answer, words),
         "chain" => chains::answer(alloc, answer, words),
         "list" => lookups::answer(alloc, answer, words),
+        "family" => family_sets::answer(alloc, answer, words),
         _ => unknown(),
     }
 }

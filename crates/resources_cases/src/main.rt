@@ -12,7 +12,6 @@ mod addresses;
 mod builders;
 mod decoded;
 mod encodings;
-mod families;
 mod kinds;
 mod made;
 mod numbers;
@@ -58,7 +57,6 @@ impl Questions for Cases {
         };
         match *topic {
             "resources" => return builders::answer(alloc, answer, words),
-            "family" => return families::answer(alloc, answer, words),
             "set" => return kinds::answer(alloc, answer, words),
             "der" => return decoded::answer(alloc, answer, words),
             "call" => return resources_calls::answer(alloc, answer, words),
