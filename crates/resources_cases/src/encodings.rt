@@ -5,8 +5,8 @@ use answers::{Answer, mode_of, octets_of, unknown, word_at};
 use anyhow::{Result, anyhow};
 use bcder::Mode;
 use bcder::decode::Decode;
-use bcder::encode::Values;
 use resources::ipres::{AddressFamily, IpBlocks, IpResources};
+use resources_values_cases::{resources, write};
 use std::alloc::Global;
 
 // What is said of a family.
@@ -34,12 +34,6 @@ fn decode(alloc: Global, answer: &mut Answer, mode: Mode, octets: &[u8]) -> Resu
     }
 }
 
-/// The octets that are written of values, as more of the last word.
-pub fn write<V: Values>(alloc: Global, answer: &mut Answer, values: &V, mode: Mode) -> Result<()> {
-    answer.join_octets(values.to_captured(alloc, mode)?.as_slice());
-    Ok(())
-}
-
 // The family of a text of blocks, and the blocks of its set.
 fn encode(alloc: Global, answer: &mut Answer, listed: &str) -> Result<()> {
     write(
@@ -53,15 +47,6 @@ fn encode(alloc: Global, answer: &mut Answer, listed: &str) -> Result<()> {
         write(alloc, answer, &block.encode(), Mode::Der)?;
     }
     Ok(())
-}
-
-/// The resources of a word, or those that a text of blocks lists.
-pub fn resources(alloc: Global, word: &str) -> Result<IpResources> {
-    match word {
-        "missing" => Ok(IpResources::missing()),
-        "inherit" => Ok(IpResources::inherit()),
-        listed => Ok(IpResources::blocks(IpBlocks::from_str(alloc, listed)?)),
-    }
 }
 
 // Both families as one value.

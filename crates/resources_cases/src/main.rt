@@ -1,7 +1,7 @@
 //! Worked cases of AS and IP resources, and the calls of the resources, as data: each line of standard input asks a
-//! question, by words with a tab between, and each line of standard output answers one. What sets and resources come to,
-//! and those that are read and written, is answered here; what numbers, addresses and chains come to, by
-//! `resources_calls`.
+//! question, by words with a tab between, and each line of standard output answers one. What sets and resources of texts
+//! come to is answered here; what is built, read and written, and what sets of all three kinds come to by their other
+//! calls, by `resources_values_cases`; and what numbers, addresses and chains come to, by `resources_calls`.
 //!
 //! The first word names the module that answers, and the second one what it is asked; behind the word `call` the question is
 //! one of `resources_calls`. `tests/resources_calls.py` writes both questions and answers, with the questions of
@@ -9,14 +9,10 @@
 #![tactic(auto)]
 
 mod addresses;
-mod builders;
-mod decoded;
 mod encodings;
-mod kinds;
 mod made;
 mod numbers;
 mod sets;
-mod written;
 
 use addresses::Family;
 use answers::{Answer, Questions, answer_lines, unknown};
@@ -44,7 +40,7 @@ fn of_kind(alloc: Global, answer: &mut Answer, kind: &str, words: &[&str]) -> Re
         "v6" => addresses::answer(alloc, answer, Family::V6, words),
         "all" => sets::answer(alloc, answer, words),
         _ => {
-            kinds::identifiers(answer, policy(kind));
+            resources_values_cases::identifiers(answer, policy(kind));
             Ok(())
         }
     }
@@ -56,9 +52,9 @@ impl Questions for Cases {
             return unknown();
         };
         match *topic {
-            "resources" => return builders::answer(alloc, answer, words),
-            "set" => return kinds::answer(alloc, answer, words),
-            "der" => return decoded::answer(alloc, answer, words),
+            "resources" | "set" | "der" => {
+                return resources_values_cases::answer(alloc, answer, *topic, words);
+            }
             "call" => return resources_calls::answer(alloc, answer, words),
             _ => {}
         }

@@ -1,6 +1,5 @@
 //! Questions about AS numbers.
 
-use crate::encodings::write;
 use crate::made::{say_grown, say_made};
 use crate::policy;
 use answers::{Answer, octets_of, unknown, word_at};
@@ -9,6 +8,7 @@ use bcder::Mode;
 use bcder::decode::Decode;
 use resources::asres::{AsBlock, AsBlocks, AsResources, OverclaimedAsResources};
 use resources::overclaim::{ClaimError, Overclaim};
+use resources_values_cases::write;
 use std::alloc::Global;
 
 // The set of a text.

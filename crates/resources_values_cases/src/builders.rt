@@ -1,6 +1,6 @@
 //! Resources that are missing, inherited or listed, their builders, and sets of addresses.
 
-use crate::encodings::resources;
+use crate::encoded::resources;
 use answers::{Answer, unknown, word_at};
 use anyhow::Result;
 use resources::asres::{AsBlock, AsBlocks, AsResources, AsResourcesBuilder};

@@ -1,6 +1,6 @@
 //! Values that are written in DER one by one.
 
-use crate::encodings::write;
+use crate::encoded::write;
 use answers::{Answer, unknown};
 use anyhow::Result;
 use bcder::Mode;
