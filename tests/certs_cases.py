@@ -1,16 +1,13 @@
-#!/usr/bin/env python3
-"""Writes the questions and answers of crates/certs_cases: tests/certs_cases.py
+"""Questions about certificates, their parts and revocation lists, for tests/objects_cases.py.
 
-Each topic has a function of its own here and a module there. The answers come from the rules as this script has them in
-its own words, and from examples. Revocation lists are read by the grammar in Python's words, over the reader of X.690 in
+Each topic has a function of its own here and a module in crates/certs_cases. The answers come from the rules as this script has
+them in its own words, and from examples. Revocation lists are read by the grammar in Python's words, over the reader of X.690 in
 certs_signed_cases.py, and put together octet by octet; the worked cases have their answers by hand. Certificates as a whole are
-asked behind the word `cert` (certs_roles.py), and answered by crates/certs_roles. The gate runs the program
-on `stdin`, and compares what it prints with `stdout`.
+asked behind the word `cert` (certs_roles.py), and answered by crates/certs_roles.
 """
 
 import hashlib
 import itertools
-import pathlib
 import random
 import re
 
@@ -22,16 +19,7 @@ from crls_entries_cases import entries
 from crls_lists_cases import lists
 from crls_made_cases import made
 
-FOLDER = pathlib.Path(__file__).resolve().parent.parent / "crates" / "certs_cases"
 rng = random.Random(5781)
-
-
-class Questions:
-    def __init__(self):
-        self.rows = []
-
-    def ask(self, answer, *words):
-        self.rows.append(("\t".join(words), answer))
 
 
 def tlv(tag, content):
@@ -523,8 +511,8 @@ def accesses(q):
         q.ask(uri.decode(), "access", kind, "ber", (b"\x30\x81" + octets[1:]).hex())
 
 
-def main():
-    q = Questions()
+def certificates(q):
+    """All of them."""
     uris(q)
     signed(q)
     keys(q)
@@ -537,10 +525,3 @@ def main():
     entries(q)
     made(q)
     roles(q)
-    (FOLDER / "stdin").write_text("".join(f"{question}\n" for question, _ in q.rows))
-    (FOLDER / "stdout").write_text("".join(f"{answer}\n" for _, answer in q.rows))
-    print(len(q.rows), "questions")
-
-
-if __name__ == "__main__":
-    main()

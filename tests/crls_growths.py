@@ -1,7 +1,7 @@
 #!/usr/bin/env python3
 """Shows how the calls of revocation lists answer where growths of memory are refused.
 
-    crls_growths.py PROGRAM      (PROGRAM is crates/certs_cases/out/certs_cases)
+    crls_growths.py PROGRAM      (PROGRAM is crates/objects_cases/out/objects_cases)
 
 Some questions of each kind about lists are asked of the built program, one a run, with each growth refused in turn, alone and
 with all that come after it, by `refuse_growth.c` (`growths.py` has the way). The answer has to be the right one, or a front of
@@ -28,7 +28,7 @@ LONGEST = 3000
 FIXED = "invalid extension"
 OCTETS = re.compile(r"\bx[0-9a-f]+")
 TOPICS = ("crl", "entry", "listed", "made", "store", "within")
-FOLDER = os.path.join(HERE, "..", "crates", "certs_cases")
+FOLDER = os.path.join(HERE, "..", "crates", "objects_cases")
 
 
 def questions():

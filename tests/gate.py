@@ -151,7 +151,7 @@ def page(status, wall, sums, log):
         "tries each wrong body in `crates/*/must-fail`, which the prover has to refuse, and runs each program as two "
         "compilers build it. `tests/gate.py` runs it and writes this page.",
         "",
-        f"{datetime.date.today()}, commit {commit.strip()}, {version}, {os.cpu_count()} processors: "
+        f"{datetime.date.today()}, commit {commit.strip()}, {version}, {len(os.sched_getaffinity(0))} processors: "
         f"**{wall / 60:.0f} minutes**, {sum(total.values()):,.0f} processor seconds in all, status {status}, "
         f"last line `{lines[-1]}`.",
         "",

@@ -2,8 +2,9 @@
 """Writes the questions and answers of crates/objects_cases: tests/objects_cases.py
 
 What signed objects have in them, and locators, are read here by the grammars in this script's own words, over
-the reader of X.690 in certs_signed_cases.py; the worked cases have their answers by hand. The gate runs the program on
-`stdin`, and compares what it prints with `stdout`.
+the reader of X.690 in certs_signed_cases.py; the worked cases have their answers by hand. Questions about certificates, their
+parts and revocation lists are those of certs_cases.py. The gate runs the program on `stdin`, and compares what it prints
+with `stdout`.
 """
 
 import calendar
@@ -12,6 +13,7 @@ import pathlib
 import random
 import re
 
+from certs_cases import certificates
 from certs_signed_cases import RSA, SHA256, SHA256_RSA, Refused, bits_of, content_of, need, parts_of, tlv, value
 from objects_again_cases import written
 from objects_built_cases import build
@@ -305,6 +307,7 @@ def main():
     signed(q, answer_of)
     written(q, answer_of, NAME.fullmatch)
     build(q)
+    certificates(q)
     (FOLDER / "stdin").write_text("".join(f"{question}\n" for question, _ in q.rows))
     (FOLDER / "stdout").write_text("".join(f"{answer}\n" for _, answer in q.rows))
     print(len(q.rows), "questions")

@@ -4,10 +4,10 @@ ghost use Rattle.std.specs.Prelude.{IfOk};
 ghost use Rattle.objects.specs.objects_written.Roas.{AreOfFamilies};
 ghost use Rattle.objects_payload.specs.Addresses.{AllOf};
 
-use crate::built::addresses::{address_of, addresses_of, say_addresses, text_of};
-use crate::built::fields;
-use crate::built::signer::Stub;
-use crate::built::told::say_built;
+use crate::addresses::{address_of, addresses_of, say_addresses, text_of};
+use crate::fields;
+use crate::signer::Stub;
+use crate::told::say_built;
 use answers::Answer;
 use anyhow::{Result, anyhow};
 use objects::manifest::IntoManifest;

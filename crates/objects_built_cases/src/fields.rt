@@ -1,6 +1,5 @@
 //! The fields of a signed object, of words.
 
-use crate::values::moment;
 use anyhow::{Result, anyhow};
 use bcder::Mode;
 use bcder::decode::Decode;
@@ -58,7 +57,10 @@ fn name_of(alloc: Global, words: &[&str], name: &str) -> Result<Option<Name>> {
 
 // The moment of a name.
 fn time_of(words: &[&str], name: &str) -> Result<Time> {
-    moment(wanted(words, name)?)
+    let Some(moment) = Time::from_generalized(wanted(words, name)?.as_bytes()) else {
+        return Err(anyhow!("no moment"));
+    };
+    Ok(moment)
 }
 
 // The serial number.

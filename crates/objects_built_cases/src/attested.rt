@@ -1,8 +1,8 @@
 //! Provider attestations that are put together and signed, of words.
 
-use crate::built::fields;
-use crate::built::signer::Stub;
-use crate::built::told::{say_built, say_digits};
+use crate::fields;
+use crate::signer::Stub;
+use crate::told::{say_built, say_digits};
 use answers::Answer;
 use anyhow::{Result, anyhow};
 use objects::aspa::{AspaBuilder, DuplicateProviderAs};
