@@ -1,5 +1,5 @@
 #!/usr/bin/env python3
-"""Signed objects that crates/objects_cases is asked to build, for tests/objects_cases.py.
+"""Signed objects that crates/objects_built_cases is asked to build, for tests/objects_cases.py.
 
 What is written is spelled here by X.690 8, 10 and 11.6 from the fields, line by line as RFC 5652 3 and 5, RFC 6488 2 and RFC 6487 4
 have them; a signature is the SHA-256 digest of the key's bits and of what is signed.
