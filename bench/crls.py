@@ -11,7 +11,7 @@ for 1,000 numbers among these, of which some are there. Each size is run fifteen
 each tells is compared with the right answer, and the most looks for one number with the binary digits of their count.
 
 Target: twice the entries take at most 2.5 times the time, a number is found by at most as many looks as the count of entries
-has binary digits, 17 of 100,000, and a search takes no memory (which needs a C compiler, as tests/growths.py does). Exits with 1
+has binary digits, 17 of 100,000, and a search takes no memory (which needs a C compiler, as tests/outside/growths.py does). Exits with 1
 where one is missed or an answer is wrong.
 """
 
@@ -21,10 +21,10 @@ import sys
 import tempfile
 
 sys.dont_write_bytecode = True
-sys.path.insert(0, os.path.join(os.path.dirname(os.path.abspath(__file__)), os.pardir, "tests"))
+sys.path.insert(0, os.path.join(os.path.dirname(os.path.abspath(__file__)), os.pardir, "tests", "lib"))
 import copies  # noqa: E402
 import growth  # noqa: E402
-import growths  # noqa: E402
+import refusals  # noqa: E402
 
 SIZES = (50_000, 100_000, 200_000)
 RUNS = 15
@@ -99,7 +99,7 @@ def measure(program, count):
 def search_growths(program):
     """How many growths of memory a search through all entries takes: each tells of itself by a `+` before the next line."""
     with tempfile.TemporaryDirectory() as folder:
-        environment = {"LD_PRELOAD": growths.compiled(folder), "GROWTHS_FD": "1"}
+        environment = {"LD_PRELOAD": refusals.compiled(folder), "GROWTHS_FD": "1"}
         done = subprocess.run([program, str(SIZES[0])], capture_output=True, text=True, check=True, env=environment)
     (line,) = [line for line in done.stdout.splitlines() if line.lstrip("+").startswith("search")]
     return len(line) - len(line.lstrip("+"))

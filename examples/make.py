@@ -4,7 +4,7 @@ certificate was revoked.
 
     python3 examples/make.py
 
-The signer is the one of tests/rpki_repositories.py, whose keys and signatures are no real ones: `verdicts` says that they are
+The signer is the one of tests/lib/rpki_repositories.py, whose keys and signatures are no real ones: `verdicts` says that they are
 good. The lines are stated here.
 """
 
@@ -14,7 +14,7 @@ import sys
 
 HERE = pathlib.Path(__file__).resolve().parent
 sys.dont_write_bytecode = True
-sys.path.insert(0, str(HERE.parent / "tests"))
+sys.path.insert(0, str(HERE.parent / "tests" / "lib"))
 
 import rpki_model  # noqa: E402
 from rpki_repositories import Authority, World, aspa, roa  # noqa: E402

@@ -10,7 +10,6 @@ look like is written in bench/repository.py, which needs Python's `cryptography`
 """
 
 import ipaddress
-import json
 import pathlib
 import shutil
 import sys
@@ -32,15 +31,36 @@ refused rsync://rpki.example/repository/operator/changed.roa object
 refused rsync://rpki.example/repository/operator/others.roa object
 refused rsync://rpki.example/repository/operator/revoked.roa object
 """
-ROUTES = {
-    "metadata": {"roas": 3, "aspas": 1},
-    "roas": [
-        {"asn": 64496, "prefix": "192.0.2.0/24", "maxLength": 24, "ta": NAME},
-        {"asn": 64497, "prefix": "198.51.100.0/24", "maxLength": 26, "ta": NAME},
-        {"asn": 64496, "prefix": "2001:db8::/32", "maxLength": 48, "ta": NAME},
+ROUTES = """\
+{
+  "metadata": {
+    "tool": "rpki_check",
+    "buildtime": "2025-01-01T00:00:00Z",
+    "generated": 1735689600,
+    "vrps": 3,
+    "uniquevrps": 3,
+    "vaps": 1,
+    "uniquevaps": 1,
+    "refused": {"object": 3}
+  },
+  "roas": [
+    { "asn": 64496, "prefix": "192.0.2.0/24", "maxLength": 24, "ta": "example", "expires": 1735776000 },
+    { "asn": 64497, "prefix": "198.51.100.0/24", "maxLength": 26, "ta": "example", "expires": 1735776000 },
+    { "asn": 64496, "prefix": "2001:db8::/32", "maxLength": 48, "ta": "example", "expires": 1735776000 }
+  ],
+  "aspas": [
+    { "customer_asid": 64496, "expires": 1735776000, "providers": [64497, 64498] }
+  ],
+  "provider_authorizations": {
+    "ipv4": [
+      { "customer_asid": 64496, "expires": 1735776000, "providers": [64497, 64498] }
     ],
-    "aspas": [{"customer_asid": 64496, "providers": [64497, 64498]}],
+    "ipv6": [
+      { "customer_asid": 64496, "expires": 1735776000, "providers": [64497, 64498] }
+    ]
+  }
 }
+"""
 
 
 def key():
@@ -108,7 +128,7 @@ def main():
         write(place(uri), octets)
     write(CACHE / "tals" / f"{NAME}.tal", locator.encode())
     write(HERE / "cache.lines", LINES.encode())
-    write(HERE / "cache.json", (json.dumps(ROUTES, indent=2) + "\n").encode())
+    write(HERE / "cache.json", ROUTES.encode())
 
 
 if __name__ == "__main__":

@@ -43,3 +43,17 @@ pub fn answer(alloc: Global, answer: &mut Answer, words: &[&str]) {
     });
     answer.outcome(whole);
 }
+
+/// The answers of a content to steps, read by the content's own call in place of the mode's.
+pub fn constructed(alloc: Global, answer: &mut Answer, words: &[&str]) {
+    let [mode, digits, words @ ..] = words else {
+        return answer.unknown();
+    };
+    let octets = octets_of(alloc, *digits);
+    let source = Trickle::new(octets.as_slice());
+    let whole = Constructed::decode(source, mode_of(*mode), |cons| {
+        run(alloc, answer, cons, words);
+        Ok(())
+    });
+    answer.outcome(whole);
+}

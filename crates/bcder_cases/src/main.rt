@@ -1,7 +1,7 @@
 //! Questions about the codec, as data: a line of words with tabs between is a question, and a line of output its answer.
 //! Those about sources, headers and contents, about numbers and bit strings in contents, and about the worked readers are
-//! answered here, those about values and about what is written by `bcder_values_cases`. `tests/bcder_cases.py` writes
-//! both questions and answers, by its own means.
+//! answered here, those about values and about what is written by `bcder_values_cases`. `tests/questions/bcder_cases.py`
+//! writes both questions and answers, by its own means.
 #![tactic(auto)]
 
 mod bits;
@@ -37,6 +37,7 @@ impl Questions for Codec {
             "length" => tags::length(alloc, answer, words),
             "source" => sources::answer(alloc, answer, words),
             "content" => contents::answer(alloc, answer, words),
+            "constructed" => contents::constructed(alloc, answer, words),
             "fails" => faults::fails(alloc, answer, words),
             "dry" => faults::dry(alloc, answer, words),
             "skip" => skips::answer(alloc, answer, words),

@@ -1,7 +1,8 @@
 //! Tags and lengths, and the octets of both.
 
 use answers::{Answer, mode_of, octets_of, word_at};
-use bcder::{Length, Tag};
+use bcder::{Mode, Tag};
+use bcder_tree::Length;
 use std::alloc::Global;
 
 /// The names of tags up to that of SET, by their numbers (X.680 8.4).
@@ -153,9 +154,17 @@ pub fn answer(alloc: Global, answer: &mut Answer, words: &[&str]) {
         "named" => known(alloc, answer, named_tag(*word)),
         "of" => of_class(alloc, answer, *word, word_at(others, 0)),
         "read" => answer.show(&Tag::read(octets_of(alloc, *word).as_slice())),
+        "rules" => rules(answer, mode_of(*word)),
         "is-end" => answer.show(&Tag::is_end(octets_of(alloc, *word).as_slice())),
         _ => answer.say(&(named_tag(*word) == named_tag(word_at(others, 0)))),
     }
+}
+
+// Whether a mode is BER, CER and DER.
+fn rules(answer: &mut Answer, mode: Mode) {
+    answer.say(&mode.is_ber());
+    answer.say(&mode.is_cer());
+    answer.say(&mode.is_der());
 }
 
 // How many octets the length of a word is, whether it is zero, and its octets; it is indefinite where the word is no

@@ -1,6 +1,6 @@
 //! The value that stands in front of octets, and how many octets are after it; or that it is refused.
 //!
-//! `tests/bcder_answers.py` asks these of the Rust crate, too.
+//! `tests/outside/bcder_answers.py` asks these of the Rust crate, too.
 
 use answers::{Answer, mode_of, octets_of};
 use bcder::decode::{Constructed, Decode, DecodeError, SliceSource, Source};

@@ -1,5 +1,5 @@
 //! Questions about values, numbers of any size, identifiers and strings, and about what the codec writes. The program
-//! `bcder_cases` reads them line by line, and `tests/bcder_cases.py` knows the answers by its own means.
+//! `bcder_cases` reads them line by line, and `tests/questions/bcder_cases.py` knows the answers by its own means.
 #![tactic(auto)]
 
 mod encoders;

@@ -15,6 +15,6 @@ pub enum PublicKeyFormat {
 }
 
 pub use bcder::{
-    BitString, Captured, ConstOid, Ia5String, Length, Mode, OctetString, Oid, PrintableString, Tag,
-    decode, encode, int, string,
+    BitString, Captured, ConstOid, Ia5String, Mode, OctetString, Oid, PrintableString, Tag, decode,
+    encode, int, string,
 };

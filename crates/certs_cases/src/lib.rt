@@ -1,6 +1,7 @@
 //! Questions about certificates, their parts and revocation lists, as data: words ask, of which the first names the module
 //! that answers; behind the word `cert` the question is about certificates as a whole, and answered by `certs_roles`. The
-//! program `objects_cases` reads them line by line, and `tests/certs_cases.py` knows the answers by means of its own.
+//! program `objects_cases` reads them line by line, and `tests/questions/certs_cases.py` knows the answers by means of its
+//! own.
 #![tactic(auto)]
 
 mod access;

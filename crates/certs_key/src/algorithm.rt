@@ -16,7 +16,7 @@ pub mod signature;
 
 pub use algorithm::{RpkiSignatureAlgorithm, SignatureAlgorithm};
 pub use certs_basics::{
-    BitString, Captured, ConstOid, Ia5String, Length, Mode, OctetString, Oid, PrintableString,
+    BitString, Captured, ConstOid, Ia5String, Mode, OctetString, Oid, PrintableString,
     PublicKeyFormat, Tag, decode, encode, string,
 };
 pub use digest::DigestAlgorithm;

@@ -20,7 +20,7 @@ mod taken;
 pub mod verifier;
 
 pub use algorithm::{
-    AlgorithmIdentifier, BitString, Captured, ConstOid, DigestAlgorithm, Ia5String, Length, Mode,
+    AlgorithmIdentifier, BitString, Captured, ConstOid, DigestAlgorithm, Ia5String, Mode,
     OctetString, Oid, PrintableString, PublicKeyFormat, RpkiSignature, RpkiSignatureAlgorithm,
     Signature, SignatureAlgorithm, Tag, decode, encode, string,
 };

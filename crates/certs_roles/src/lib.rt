@@ -1,7 +1,7 @@
 //! Questions about certificates as a whole: what is read of one, of a copy, whether its form is that of a role, whether it is
 //! vouched for, and what it then holds; or what is written of fields, and of the certificate that a signer makes of them. The
-//! library `certs_cases` hands them on, behind the word `cert`, and `tests/certs_roles.py` knows the answers by means
-//! of its own.
+//! library `certs_cases` hands them on, behind the word `cert`, and `tests/questions/certs_roles.py` knows the answers by
+//! means of its own.
 //!
 //! Certificates and fields are let go by `drop`, since the check of a function takes ten times as long where the end of a block
 //! does that.

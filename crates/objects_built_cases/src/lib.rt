@@ -1,7 +1,7 @@
 //! Questions about signed objects that are built of given fields, and about contents that are put together: words name the
 //! fields, and the answer has the octets of the object, and whether they are read as that object, or what was put together.
-//! The program `objects_cases` reads them line by line, behind the word `built`, and `tests/objects_built_cases.py` knows the
-//! answers by means of its own.
+//! The program `objects_cases` reads them line by line, behind the word `built`, and
+//! `tests/questions/objects_built_cases.py` knows the answers by means of its own.
 #![tactic(auto)]
 
 mod addresses;

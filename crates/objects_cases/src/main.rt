@@ -3,7 +3,7 @@
 //! them, what is written of them again, and locators; behind `built`, objects that are built, which `objects_built_cases`
 //! answers; any other word is asked of `certs_cases`, about certificates, their parts and revocation lists.
 //!
-//! `tests/objects_cases.py` writes both, and knows the answers by means of its own.
+//! `tests/questions/objects_cases.py` writes both, and knows the answers by means of its own.
 #![tactic(auto)]
 
 mod addresses;

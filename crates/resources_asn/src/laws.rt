@@ -1,13 +1,14 @@
 //! Laws of sets of AS numbers as lists, and of origins: the contracts of functions that do nothing.
 
-ghost use Rattle.std.specs.Prelude.{◌≡◌, ◌↔◌, ℕ, List};
+ghost use Rattle.std.specs.Prelude.{◌≡◌, ◌↔◌, ℕ, List, IsTrue};
 ghost use Rattle.std.specs.Cmp.{IsTotalOrder};
 ghost use Rattle.std.specs.declared.cmp.Ordering.TheVariants.{Equal};
-ghost use Rattle.resources_asn.specs.Numbers.{last_number};
+ghost use Rattle.resources_asn.specs.Numbers.{Number, last_number};
 ghost use Rattle.resources_asn.specs.Listed.{InList, IsAscending};
 ghost use Rattle.resources_asn.specs.Origins.{OriginValue, origin_cmp};
 
 use crate::asn::Asn;
+use std::hash::Hash;
 
 /// The smallest AS number and the largest, `Asn::MIN` and `Asn::MAX`: of 32 bits (RFC 6793 section 3).
 pub fn least_and_greatest() -> (Asn, Asn)
@@ -16,6 +17,13 @@ pub fn least_and_greatest() -> (Asn, Asn)
 {
     (Asn::MIN, Asn::MAX)
 }
+
+/// The order of AS numbers agrees with their equality, and so do hashes.
+pub fn order_and_hash_agree_with_equality()
+    ensures order { (a b : Number) → (⟦<Asn as Ord>⟧.cmp a b ≡ Equal) ↔ (a ≡ b) }
+    ensures hash { (a b : Number) → IsTrue (⟦<Asn as PartialEq>⟧.eq a b)
+        → ⟦<Asn as Hash>⟧.hash_input a ≡ ⟦<Asn as Hash>⟧.hash_input b }
+{}
 
 /// A set has one list.
 pub fn one_list_of_a_set()

@@ -1,6 +1,6 @@
 //! Questions about the calls of addresses, prefixes, numbers, chains, blocks of AS numbers and sets of one family. The program
-//! `resources_cases` reads them line by line, behind the word `call`, and `tests/resources_calls.py` knows the answers by
-//! means of its own.
+//! `resources_cases` reads them line by line, behind the word `call`, and `tests/questions/resources_calls.py` knows the
+//! answers by means of its own.
 //!
 //! The first word names the module that answers, and the second one what it is asked.
 #![tactic(auto)]

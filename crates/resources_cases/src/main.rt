@@ -4,8 +4,8 @@
 //! calls, by `resources_values_cases`; and what numbers, addresses and chains come to, by `resources_calls`.
 //!
 //! The first word names the module that answers, and the second one what it is asked; behind the word `call` the question is
-//! one of `resources_calls`. `tests/resources_calls.py` writes both questions and answers, with the questions of
-//! `tests/resources_cases.py`, and knows the answers by means of its own.
+//! one of `resources_calls`. `tests/questions/resources_calls.py` writes both questions and answers, with the questions of
+//! `tests/questions/resources_cases.py`, and knows the answers by means of its own.
 #![tactic(auto)]
 
 mod addresses;

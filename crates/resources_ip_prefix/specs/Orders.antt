@@ -1,5 +1,5 @@
 -- Equality tests of prefixes, and that they and the orders fit, for `==`, `cmp` and `hash`.
-use Rattle.std.specs.Prelude.{◌≡◌, ℕ, ◌==◌, ◌&&◌, Bool, true, false, Option, Some, None, List, ◌++◌, refl}
+use Rattle.std.specs.Prelude.{◌≡◌, ◌↔◌, ℕ, ◌==◌, ◌&&◌, Bool, true, false, Option, Some, None, List, ◌++◌, refl}
 use Rattle.std.proofs.Common.{arith, sym, ap, ◌∙◌, eq-eqb, subst}
 use Rattle.std.proofs.lemmas.Bool.{eqb-true}
 use Rattle.std.specs.Bool.{Decides, one_answer}
@@ -106,6 +106,10 @@ prefix_ties p q =
       λ e. ap is_eq (subst (λ (r : PrefixValue). prefix_cmp p r ≡ Equal) e (tied_itself prefix_total p)),
     )
 
+-- The order ties just equal prefixes.
+pub prefix_tied : (p q : PrefixValue) → (prefix_cmp p q ≡ Equal) ↔ (p ≡ q)
+prefix_tied p q = (prefix_same p q, λ e. subst (λ (r : PrefixValue). prefix_cmp p r ≡ Equal) e (tied_itself prefix_total p))
+
 -- What a hasher is fed.
 abbrev pub family_fed : Family → List (List ℕ)
 family_fed Ipv4 = fed.u8 4
@@ -165,6 +169,10 @@ max_len_same : (m n : MaxLenValue) → max_len_cmp m n ≡ Equal → m ≡ n
 max_len_same m n e =
     let parts = both_equal (prefix_cmp m.prefix n.prefix) (option_cmp nat_cmp m.max_len n.max_len) e in
     max_len_is (prefix_same m.prefix n.prefix parts.0) (option_same m.max_len n.max_len parts.1)
+
+-- The order ties just equal values.
+pub max_len_tied : (m n : MaxLenValue) → (max_len_cmp m n ≡ Equal) ↔ (m ≡ n)
+max_len_tied m n = (max_len_same m n, λ e. subst (λ (o : MaxLenValue). max_len_cmp m o ≡ Equal) e (tied_itself max_len_total m))
 
 -- Equal values are those that the order doesn't tell apart.
 pub max_len_ties : (m n : MaxLenValue) → max_len_eq m n ≡ eq_by_cmp max_len_cmp m n

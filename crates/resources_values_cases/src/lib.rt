@@ -1,6 +1,6 @@
 //! Questions about resources and sets that are built, about values that are read from DER and written one by one, about sets of
 //! all three kinds by their other calls, and about the identifiers of policies. The program `resources_cases` reads them line by
-//! line, and `tests/resources_calls.py` knows the answers by means of its own.
+//! line, and `tests/questions/resources_calls.py` knows the answers by means of its own.
 //!
 //! The first word names the module that answers, and the second one what it is asked.
 #![tactic(auto)]

@@ -17,7 +17,7 @@
 //!
 //! Their texts, octets and digests are in hexadecimal digits; commas stand between the URIs of a chain, and those of `reach`.
 //!
-//! `tests/rpki_cases.py` writes both, and the folders of `data/`, and knows the answers by means of its own.
+//! `tests/questions/rpki_cases.py` writes both, and the folders of `data/`, and knows the answers by means of its own.
 #![tactic(auto)]
 
 mod asked;

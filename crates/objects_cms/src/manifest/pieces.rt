@@ -6,7 +6,7 @@ ghost use Rattle.objects_cms.specs.bcder_content.Openings.{NoHead};
 ghost use Rattle.bcder_octets.specs.Pieces.{Holds, IsHeaded, NextPiece};
 ghost use Rattle.objects_cms.specs.Steps.{IsShorter, StepsTo};
 
-use certs_key::{Length, Mode, Tag};
+use bcder_tree::{Length, Mode, Tag};
 
 // What stands in front of octets of values.
 enum Item<'a> {

@@ -11,6 +11,10 @@ ghost use Rattle.resources_ip_prefix.specs.Starts.{start_cmp};
 ghost use Rattle.resources_ip_prefix.specs.PrefixTexts.{IsPrefixText, prefix_text};
 ghost use Rattle.resources_ip_prefix.specs.MaxLenTexts.{IsMaxLenText, max_len_text};
 
+use super::max_len::MaxLenPrefix;
+use super::prefix::Prefix;
+use std::hash::Hash;
+
 /// A prefix has the addresses whose first bits, as many as its length, are those of its first address.
 pub fn addresses_share_bits()
     ensures { (p : PrefixValue) (n : ℕ) → IsPrefix p →
@@ -44,6 +48,17 @@ pub fn start_order_is_total()
 pub fn equality_is_tested()
     ensures prefixes { (p q : PrefixValue) → IsTrue (prefix_eq p q) ↔ (p ≡ q) }
     ensures max_lens { (m n : MaxLenValue) → IsTrue (max_len_eq m n) ↔ (m ≡ n) }
+{}
+
+/// The orders of prefixes, and of prefixes with a greatest length, agree with their equality, and so do hashes.
+pub fn order_and_hash_agree_with_equality()
+    ensures prefix_order { (p q : PrefixValue) → (⟦<Prefix as Ord>⟧.cmp p q ≡ Equal) ↔ (p ≡ q) }
+    ensures max_len_order { (m n : MaxLenValue)
+        → (⟦<MaxLenPrefix as Ord>⟧.cmp m n ≡ Equal) ↔ (m ≡ n) }
+    ensures prefix_hash { (p q : PrefixValue) → IsTrue (⟦<Prefix as PartialEq>⟧.eq p q)
+        → ⟦<Prefix as Hash>⟧.hash_input p ≡ ⟦<Prefix as Hash>⟧.hash_input q }
+    ensures max_len_hash { (m n : MaxLenValue) → IsTrue (⟦<MaxLenPrefix as PartialEq>⟧.eq m n)
+        → ⟦<MaxLenPrefix as Hash>⟧.hash_input m ≡ ⟦<MaxLenPrefix as Hash>⟧.hash_input n }
 {}
 
 /// A text writes one prefix at most, and one prefix with a greatest length at most.

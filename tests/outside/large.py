@@ -1,0 +1,184 @@
+#!/usr/bin/env python3
+"""Asks the built programs about long chains, many URIs and large bundles.
+
+    large.py RPKI_CHECK RPKI_ASK [--huge]
+
+Chains of 1, 2, 31, 32 and 33 certificates stand below a locator, each authority with an origin of its own, in bundles of depth 1, 31
+and 32: printed is what the first ones attest, as many as the depth allows, and that the next certificate is refused. Each good
+object is judged by its chain, and the one below the longest chain by a chain that is longer than the depth. 70 URIs of 70
+authorities are asked what they reach, together; and once 69 that nobody names, with one that is named. Bundles have some octets in
+large files that manifests list: 17 MB, and with --huge 64 and 200 MB. All answers are stated here.
+
+Prints a line for each answer that isn't right, and `N passed, M failed`; exits with 1 where one failed.
+"""
+
+import argparse
+import hashlib
+import os
+import subprocess
+import sys
+import time
+
+sys.dont_write_bytecode = True
+sys.path.insert(0, os.path.join(os.path.dirname(os.path.abspath(__file__)), os.pardir, "lib"))
+
+from rpki_repositories import HOST, World, roa  # noqa: E402
+
+SECONDS = 300
+MEGABYTE = 1_000_000
+FIRST_AS = 64496
+MANY = 70
+
+
+class Tests:
+    def __init__(self):
+        self.passed = self.failed = 0
+
+    def same(self, name, got, wanted):
+        self.passed, self.failed = self.passed + (got == wanted), self.failed + (got != wanted)
+        if got != wanted:
+            print(f"{name}: {str(got)[:600]}, and {str(wanted)[:600]} is right", flush=True)
+
+    def gives(self, name, words, octets, status, text):
+        done = subprocess.run(words, input=octets, capture_output=True, timeout=SECONDS)
+        self.same(name, (done.returncode, done.stdout.decode(), done.stderr), (status, text, b""))
+
+
+def text_of(lines):
+    return "".join(f"{line}\n" for line in lines)
+
+
+# Chains.
+
+
+def chain(length):
+    """A world in which each of so many authorities is the parent of the next, and the URIs of their certificates, the anchor's
+    first. The one at place n has the origin AS 64496+n of 10.n.0.0/16, and holds all numbers that it was given."""
+    world = World()
+    above = world.anchor(1, {"ipv4": ["10.0.0.0/8"]})
+    uris = [above.at]
+    for at in range(length):
+        above.add_roa(b"o.roa", roa(FIRST_AS + at, f"10.{at}.0.0/16"), {"ipv4": [f"10.{at}.0.0/16"]})
+        if at + 1 < length:
+            name = b"n%d" % (at + 1)
+            below = world.authority(at + 2, HOST + name + b"/", name, above.folder + name + b".cer")
+            above.certify(name + b".cer", below, {"ipv4": "inherit"} if at % 2 else {"ipv4": ["10.0.0.0/8"]}, trims=at % 3 == 0)
+            uris.append(below.at)
+        above.publish()
+        if at + 1 < length:
+            above = below
+    return world, uris
+
+
+def origin(uris, at):
+    """Where the origin of the authority at that place stands."""
+    return (HOST + (b"ta/" if at == 0 else b"n%d/" % at) + b"o.roa").decode()
+
+
+def chains(tests, check, ask):
+    for length in (1, 2, 31, 32, 33):
+        world, uris = chain(length)
+        for depth in (1, 31, 32):
+            world.depth = depth
+            octets = world.bundle()
+            most = min(length, depth)
+            lines = [f"roa AS{FIRST_AS + at} 10.{at}.0.0/16 16" for at in range(most)]
+            # (lines of origins are sorted by their addresses, which ascend here)
+            if most < length:
+                lines.append(f"refused {uris[most].decode()} depth")
+            tests.gives(f"{length} certificates, depth {depth}", [check, "check"], octets, 0, text_of(lines))
+            for at in {0, most // 2, most - 1}:
+                words = [ask, "judge", "t", origin(uris, at), *(uri.decode() for uri in uris[: at + 1])]
+                tests.gives(f"judge by {at + 1} certificates, depth {depth}", words, octets, 0, f"yes\npoints {at + 1}\n")
+            if most < length:
+                words = [ask, "judge", "t", origin(uris, most), *(uri.decode() for uri in uris[: most + 1])]
+                done = subprocess.run(words, input=octets, capture_output=True, timeout=SECONDS)
+                told = done.stdout.decode().split()
+                is_no = done.returncode == 1 and told[:2] == ["no", "points"] and int(told[2]) <= most + 1
+                tests.same(f"judge by {most + 1} certificates, depth {depth}", is_no or done, True)
+
+
+# URIs.
+
+
+def siblings():
+    """An anchor with 70 authorities below it, each with 10.n.0.0/16 and an origin, and the URIs of the origins."""
+    world = World()
+    anchor = world.anchor(1, {"ipv4": ["10.0.0.0/8"]})
+    uris = []
+    for at in range(MANY):
+        name = b"s%d" % at
+        authority = world.authority(at + 2, HOST + name + b"/", name)
+        # (of neighbours the sets would be joined)
+        place = f"10.{2 * at}.0.0/16"
+        anchor.certify(name + b".cer", authority, {"ipv4": [place]})
+        authority.add_roa(b"o.roa", roa(FIRST_AS + at, place), {"ipv4": "inherit"})
+        authority.publish()
+        uris.append((authority.folder + b"o.roa").decode())
+    anchor.publish()
+    return world, uris
+
+
+def reached(places):
+    return "as \nipv4 " + ", ".join(places) + "\nipv6 \n"
+
+
+def many(tests, ask):
+    world, uris = siblings()
+    octets = world.bundle()
+    places = [f"10.{2 * at}.0.0/16" for at in range(MANY)]
+    tests.gives(f"{MANY} URIs", [ask, "reach", *uris], octets, 0, reached(places))
+    tests.gives(f"{MANY} URIs, the last first", [ask, "reach", *reversed(uris)], octets, 0, reached(places))
+    for at in (0, MANY // 2, MANY - 1):
+        others = [f"{HOST.decode()}none{number}" for number in range(MANY)]
+        others[at] = uris[at]
+        tests.gives(f"{MANY} URIs, of which one is named", [ask, "reach", *others], octets, 0, reached([places[at]]))
+    locators = [f"{HOST.decode()}none{number}" for number in range(MANY - 1)] + [(HOST + b"ta.cer").decode()]
+    tests.gives(f"{MANY} URIs, the last a locator's", [ask, "reach", *locators], octets, 0, "locator\n")
+
+
+# Octets.
+
+
+def heavy(megabytes):
+    """A bundle of so many megabytes: an anchor with an origin, and listed files of a megabyte each."""
+    world = World()
+    anchor = world.anchor(1, {"ipv4": ["10.0.0.0/8"]})
+    anchor.add_roa(b"a.roa", roa(FIRST_AS, "10.0.0.0/16"), {"ipv4": "inherit"})
+    block = hashlib.shake_256(b"octets").digest(MEGABYTE)
+    for at in range(megabytes):
+        anchor.files[b"f%04d.gbr" % at] = at.to_bytes(8, "big") + block
+    anchor.publish()
+    return world
+
+
+def bundles(tests, check, sizes):
+    for megabytes in sizes:
+        octets = heavy(megabytes).bundle()
+        began = time.monotonic()
+        lines = [f"roa AS{FIRST_AS} 10.0.0.0/16 16"]
+        tests.gives(f"{megabytes} MB", [check, "check"], octets, 0, text_of(lines))
+        print(f"{len(octets)} octets: {time.monotonic() - began:.1f} s", flush=True)
+        # An octet of the last file is another than its manifest says.
+        at = octets.rindex((megabytes - 1).to_bytes(8, "big")) + MEGABYTE // 2
+        changed = octets[:at] + bytes([octets[at] ^ 1]) + octets[at + 1 :]
+        lines = [f"refused {HOST.decode()}ta.cer point"]
+        tests.gives(f"{megabytes} MB, an octet changed", [check, "check"], changed, 0, text_of(lines))
+
+
+def main():
+    parser = argparse.ArgumentParser(description=__doc__, formatter_class=argparse.RawDescriptionHelpFormatter)
+    parser.add_argument("check")
+    parser.add_argument("ask")
+    parser.add_argument("--huge", action="store_true")
+    given = parser.parse_args()
+    check, ask, tests = os.path.abspath(given.check), os.path.abspath(given.ask), Tests()
+    chains(tests, check, ask)
+    many(tests, ask)
+    bundles(tests, check, (17, 64, 200) if given.huge else (17,))
+    print(f"{tests.passed} passed, {tests.failed} failed")
+    sys.exit(1 if tests.failed else 0)
+
+
+if __name__ == "__main__":
+    main()

@@ -1,0 +1,200 @@
+#!/usr/bin/env python3
+"""Asks the readers of certificates and signed objects about values that are cut off, and about 10,000 values in each other.
+
+    octets.py PROGRAM [--most N]      (PROGRAM is crates/objects_cases/out/objects_cases)
+
+A row of the table below names a reader and the questions that ask it. Of the stored questions that it answers with a value some are
+taken, of all lengths, and each proper front of their octets has to be refused; a locator's has to be where a second reading
+(`rpki_readers.py`) refuses it. Values in each other are asked of the readers as a whole, and where a reader takes any value.
+
+Prints a line for each answer that isn't right, and `N passed, M failed`; exits with 1 where one failed.
+"""
+
+import argparse
+import os
+import subprocess
+import sys
+
+sys.dont_write_bytecode = True
+sys.path.insert(0, os.path.join(os.path.dirname(os.path.abspath(__file__)), os.pardir, "lib"))
+
+from outcomes import TOP  # noqa: E402
+from rpki_readers import Locator, Refused  # noqa: E402
+from rpki_repositories import ALGORITHM, NULL, bits, integer, oid, seq, tlv  # noqa: E402
+
+SECONDS = 900
+DEPTH = 10_000
+LONGEST = 8000  # digits of a value that is cut off
+LOCATORS = "locator name"
+# The first words of questions whose last word is a value's octets, and the calls that they ask.
+READERS = {
+    "cert read told": "Cert::decode",
+    "key decode": "PublicKey::decode",
+    "key read": "PublicKey::take_from",
+    "signed data": "SignedData::decode",
+    "signed x509": "X.509's signature algorithms: take_from",
+    "signed cms": "CMS's signature algorithms: take_from",
+    "signed digest": "DigestAlgorithm::take_from",
+    "signed digests": "DigestAlgorithm::take_set_from",
+    "name inspect": "Name::take_from",
+    "time read": "Time::take_from",
+    "time validity": "Validity::take_from",
+    "crl read": "Crl::decode",
+    "within fields": "TbsCertList::take_from",
+    "object strict": "SignedObject::decode",
+    "object relaxed": "SignedObject::decode, in BER",
+    "manifest read": "ManifestContent::take_from",
+    "roa": "RouteOriginAttestation::take_from",
+    "aspa": "AsProviderAttestation::take_from",
+    "message": "SignedAttrs::take_from",
+    LOCATORS: "Tal::read_named",
+}
+
+
+def stored():
+    """The stored questions, as words, with their answers."""
+    folder = os.path.join(TOP, "crates", "objects_cases")
+    with open(os.path.join(folder, "stdin")) as asked, open(os.path.join(folder, "stdout")) as answered:
+        return [(question[:-1].split("\t"), answer[:-1]) for question, answer in zip(asked, answered, strict=True)]
+
+
+def is_octets(word):
+    try:
+        return len(bytes.fromhex(word)) > 0 and word == word.lower()
+    except ValueError:
+        return False
+
+
+def end_of(octets):
+    """Where the first value ends (X.690 8.1), or None where it goes on behind the octets."""
+    at = unended = 0
+    try:
+        while True:
+            tag, at = octets[at], at + 1
+            if tag & 31 == 31:
+                while octets[at] & 128:
+                    at += 1
+                at += 1
+            length, at = octets[at], at + 1
+            if length == 128:
+                unended += 1
+                continue
+            if length > 128:
+                size = length & 127
+                length, at = int.from_bytes(octets[at : at + size], "big"), at + size
+            unended -= tag == 0 and length == 0
+            at += length
+            if unended == 0:
+                return at if at <= len(octets) else None
+    except IndexError:
+        return None
+
+
+def is_whole(reader, octets):
+    """Whether the octets are one value: where others follow it, a front of all may have it, too."""
+    return reader == LOCATORS or end_of(octets) == len(octets)
+
+
+def spread(found, most):
+    """So many of them, of all lengths, the longest among them."""
+    found = sorted(found, key=lambda words: len(words[-1]), reverse=True)
+    return [found[at] for at in sorted({at * len(found) // most for at in range(most)})] if found else []
+
+
+def reads(octets):
+    """Whether octets are a locator's, by the second reading."""
+    try:
+        Locator(octets)
+    except Refused:
+        return False
+    return True
+
+
+def is_read(reader, answer):
+    return answer.startswith("name ") if reader == LOCATORS else not answer.startswith("refused")
+
+
+def is_right(reader, octets, answer):
+    """Whether a front of a value is answered as it has to be."""
+    return is_read(reader, answer) == (reader == LOCATORS and reads(octets))
+
+
+def fronts(rows, most):
+    """Each proper front of some good values of each reader: the reader, the question, what the octets are."""
+    for reader in READERS:
+        head = reader.split()
+        good = [words for words, answer in rows if words[: len(head)] == head and is_octets(words[-1]) and is_read(reader, answer)]
+        good = [words for words in good if len(words[-1]) <= LONGEST and is_whole(reader, bytes.fromhex(words[-1]))]
+        assert good, reader
+        for words in spread(good, most):
+            octets = bytes.fromhex(words[-1])
+            for size in range(len(octets)):
+                yield reader, [*words[:-1], octets[:size].hex()], octets[:size]
+
+
+def nested(tag=0x30):
+    octets = b""
+    for _ in range(DEPTH):
+        octets = tlv(tag, octets)
+    return octets
+
+
+def deep():
+    """Questions about values in each other: the words, and the right answer, or None where the octets have to be refused."""
+    sequences, tagged = nested(), nested(0xA0)
+    endless, ended = b"\x30\x80" * DEPTH, b"\x30\x80" * DEPTH + b"\0\0" * DEPTH
+    rsa = seq(oid("1.2.840.113549.1.1.1"), NULL)
+    signature = (ALGORITHM, bits(b""))
+    for octets in (sequences, tagged, endless, ended):
+        yield ["cert", "read", "told", octets.hex()], None
+        yield ["cert", "read", "told", seq(octets, *signature).hex()], None
+        yield ["cert", "read", "told", seq(seq(tlv(0xA0, integer(2)), integer(1), ALGORITHM, octets), *signature).hex()], None
+        yield ["key", "decode", octets.hex()], None
+        yield ["key", "decode", seq(octets, bits(b"")).hex()], None
+        yield ["key", "decode", seq(seq(oid("1.2.840.113549.1.1.1"), octets), bits(b"")).hex()], None
+        yield ["key", "decode", seq(rsa, octets).hex()], None
+        for mode in ("ber", "cer", "der"):
+            yield ["key", "read", mode, octets.hex()], None
+            yield ["signed", "data", mode, octets.hex()], None
+            yield ["signed", "data", mode, seq(octets, octets, bits(b"")).hex()], None
+            yield ["signed", "data", mode, seq(NULL, seq(oid("1.2.840.113549.1.1.11"), octets), bits(b"")).hex()], None
+        yield ["crl", "read", octets.hex()], None
+        yield ["crl", "read", seq(octets, *signature).hex()], None
+        for how in ("strict", "relaxed"):
+            yield ["object", how, "any", octets.hex()], None
+    # What is signed may be any value.
+    for octets in (sequences, tagged):
+        for mode in ("ber", "der"):
+            whole = seq(octets, *signature).hex()
+            yield ["signed", "data", mode, whole], f"{octets.hex()} true 0  {whole}"
+    whole = seq(ended, *signature).hex()
+    yield ["signed", "data", "ber", whole], f"{ended.hex()} true 0  {whole}"
+    yield ["signed", "data", "der", whole], None
+
+
+def main():
+    parser = argparse.ArgumentParser(description=__doc__, formatter_class=argparse.RawDescriptionHelpFormatter)
+    parser.add_argument("program")
+    parser.add_argument("--most", type=int, default=3, help="how many values of each reader are cut off")
+    given = parser.parse_args()
+    cut, values = list(fronts(stored(), given.most)), list(deep())
+    lines = "".join("\t".join(words) + "\n" for words in [*(words for _, words, _ in cut), *(words for words, _ in values)])
+    done = subprocess.run([os.path.abspath(given.program)], input=lines, capture_output=True, text=True, timeout=SECONDS)
+    said = done.stdout.splitlines()
+    wrong = []
+    if done.returncode or len(said) != len(cut) + len(values):
+        wrong.append(f"status {done.returncode}, {len(said)} answers to {len(cut) + len(values)} questions: {done.stderr[-500:]}")
+    for (reader, words, octets), answer in zip(cut, said):
+        if not is_right(reader, octets, answer):
+            wrong.append(f"{reader}: {words[-1][:200]}, {len(octets)} octets: {answer[:200]}")
+    for (words, right), answer in zip(values, said[len(cut) :]):
+        if answer != right if right is not None else not answer.startswith("refused"):
+            wrong.append(f"{' '.join(words)[:120]}: {answer[:200]}, and {str(right)[:200]} is right")
+    print("\n".join(wrong[:50]))
+    print(f"{len(cut)} fronts, {len(values)} questions about {DEPTH} values in each other")
+    print(f"{len(cut) + len(values) - len(wrong)} passed, {len(wrong)} failed")
+    sys.exit(1 if wrong else 0)
+
+
+if __name__ == "__main__":
+    main()

@@ -1,0 +1,87 @@
+#!/usr/bin/env python3
+"""Writes the questions and answers of the examples that are programs: `stdin` and `stdout` of `crates/example_codec` and
+`crates/example_resources`. Tallies are written by an encoder of its own; what isn't held was thought out by hand."""
+
+import pathlib
+
+CRATES = pathlib.Path(__file__).resolve().parents[2] / "crates"
+
+
+def value(tag, content):
+    """A value of fewer than 128 octets in DER (X.690 8.1)."""
+    return bytes([tag, len(content)]) + content
+
+
+def integer(number):
+    """X.690 8.3: two's complement in the fewest octets."""
+    return value(0x02, number.to_bytes(number.bit_length() // 8 + 1, "big"))
+
+
+def tally(station, count, closed):
+    """X.690 8.9 and 11.1: a SEQUENCE of two INTEGERs and a BOOLEAN."""
+    truth = value(0x01, b"\xff" if closed else b"\0")
+    return value(0x30, integer(station) + integer(count) + truth)
+
+
+TALLIES = [
+    (7, 1000, False),
+    (0, 0, True),
+    (127, 128, False),
+    (128, 127, True),
+    (255, 256, False),
+    (32768, 2**63, False),
+    (65535, 2**64 - 1, True),
+]
+
+# What is no tally, and where the value is that is missing or isn't whole.
+NO_TALLIES = [
+    ("", "no value (at position 0)"),
+    ("3009020107020203e80101", "no value (at position 9)"),
+    ("3007020107020203e8", "no value (at position 9)"),
+]
+
+
+def codec():
+    for station, count, closed in TALLIES:
+        word = "closed" if closed else "open"
+        digits, text = tally(station, count, closed).hex(), f"station {station}: {count}, {word}"
+        yield f"write {station} {count} {word}", digits
+        yield f"read {digits}", text
+        # What stands after a tally isn't read.
+        yield f"read {digits}00ff", text
+    for digits, text in NO_TALLIES:
+        yield f"read {digits}", f"refused: {text}"
+
+
+def resources():
+    yield "claim\t\t\t", "inside"
+    yield "claim\tAS1\t\t", "outside asn: 'AS1', ipv4: '', ipv6: ''"
+    yield (
+        "hold\tAS64496-AS64500,AS64501\t192.0.2.0/25,192.0.2.128/25\t2001:db8::/33,2001:db8:8000::/33",
+        "held asn: 'AS64496-AS64501', ipv4: '192.0.2.0/24', ipv6: '2001:db8::/32'",
+    )
+    yield "claim\tAS64496,AS64501\t192.0.2.7-192.0.2.9\t2001:db8:1::/48", "inside"
+    yield "claim\tAS64496-AS64501\t192.0.2.0/24\t2001:db8::/32", "inside"
+    yield "claim\t\t\t", "inside"
+    yield "claim\tAS64495-AS64497\t\t", "outside asn: 'AS64495', ipv4: '', ipv6: ''"
+    yield "claim\tAS64490-AS64510\t\t", "outside asn: 'AS64490-AS64495, AS64502-AS64510', ipv4: '', ipv6: ''"
+    yield (
+        "claim\tAS64499\t192.0.1.255-192.0.3.0\t2001:db8::/31",
+        "outside asn: '', ipv4: '192.0.1.255/32, 192.0.3.0/32', ipv6: '2001:db9::/32'",
+    )
+    yield "claim\t\t0.0.0.0/0\t", "outside asn: '', ipv4: '0.0.0.0-192.0.1.255, 192.0.3.0-255.255.255.255', ipv6: ''"
+    yield "claim\tAS64500-AS64499\t\t", "refused: cannot parse ASN resources: invalid AS range"
+    yield "claim\t\t192.0.2.0/33\t", "refused: cannot parse IPv4 resources: invalid prefix length"
+    yield "hold\t\t\t", "held asn: '', ipv4: '', ipv6: ''"
+    yield "claim\t\t\t::/0", "outside asn: '', ipv4: '', ipv6: '::/0'"
+    yield "keep\t\t\t", "refused: neither 'hold' nor 'claim'"
+    yield "claim", "refused: not a word and three texts"
+
+
+def main():
+    for name, rows in (("example_codec", list(codec())), ("example_resources", list(resources()))):
+        for file, at in (("stdin", 0), ("stdout", 1)):
+            (CRATES / name / file).write_text("".join(row[at] + "\n" for row in rows))
+
+
+main()

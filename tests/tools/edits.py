@@ -1,0 +1,314 @@
+#!/usr/bin/env python3
+"""Tries wrong bodies of crates, at the gate and beside it: the check must refuse each.
+
+    edits.py [--in FOLDER] [--stale] CRATE[/NAME]..
+    edits.py --list
+
+Of each crate the edits of crates/CRATE/must-fail and tests/edits/CRATE are tried, or the named one; with --stale only
+those that weren't tried at the present state of the crate. In FOLDER, or in a temporary folder, copies of the crate and
+of those below it are made, with their out/. The crate has to be proved as it stands. Then edits of different functions
+are applied together, a few at a time, and these functions alone are checked, with those that they call; the check names
+each one that has no proof. An edit that isn't refused so, since another function refuses it, or since one that its own
+function calls was refused, is tried again alone by a check of the whole crate.
+
+A line says of each whether it was refused. tests/edits/TRIED.tsv keeps what was tried at which state of the crate (a
+digest of its sources, specs and proofs and of the edit, as far as they aren't comments, say nothing of where a name
+stands and aren't laid out by the formatter); --list prints the edits that it doesn't have so. Exits with 1 where an edit
+wasn't refused or can't be applied.
+"""
+
+import argparse
+import datetime
+import fcntl
+import functools
+import glob
+import hashlib
+import os
+import re
+import subprocess
+import sys
+import tempfile
+
+HERE = os.path.dirname(os.path.abspath(__file__))
+EDITS = os.path.join(HERE, os.pardir, "edits")
+TRIED = os.path.join(EDITS, "TRIED.tsv")
+REFUSED = "refused"
+# So many edits stand in one copy at most: where the check stops before it has a verdict, each is tried alone.
+MOST_TOGETHER = 8
+sys.dont_write_bytecode = True
+sys.path.insert(0, os.path.join(HERE, os.pardir, os.pardir, "bench"))
+
+import copies  # noqa: E402
+
+
+# What imports names or lists modules, what is only for readers, and a name by a path that begins at a crate.
+RUST_IMPORT = re.compile(r"^[ \t]*(?:pub(?:\([a-z]+\))? )?(?:ghost )?(?:use\b[^;]*|mod \w+);", re.MULTILINE)
+RUST_COMMENT = re.compile(r"^[ \t]*//.*$", re.MULTILINE)
+RUST_PATH = re.compile(r"(?<![\w:.])(?:crate|(?:bcder|resources|certs|objects|rpki)(?:_[a-z]+)*)((?:::\w+)+)")
+TERM_IMPORT = re.compile(r"^(?:(?:pub )?(?:use|mod) .*|--.*)$", re.MULTILINE)
+
+
+def read(path):
+    with open(path) as file:
+        return file.read()
+
+
+def write(path, text):
+    with open(path, "w") as file:
+        file.write(text)
+
+
+def rust_meaning(text):
+    """The text without comments and white space, and without the crates and modules of a path."""
+    text = RUST_COMMENT.sub("", text)
+    text = RUST_PATH.sub(lambda path: re.sub(r"^(?:::[a-z_0-9]+)+(?=::)|^", "", path.group(1)).removeprefix("::"), text)
+    return re.sub(r",([)}\]>])", r"\1", re.sub(r"\s+", "", text))
+
+
+def meaning(path, text):
+    """The text of a file as far as it says more than where names stand."""
+    if path.endswith(".rt"):
+        return rust_meaning(RUST_IMPORT.sub("", text))
+    return re.sub(r"\n+", "\n", TERM_IMPORT.sub("", text)).strip()
+
+
+class Edit:
+    """A wrong body: its crate, its name, and the pairs of old and new text by file."""
+
+    def __init__(self, path):
+        self.crate = os.path.basename(os.path.dirname(path))
+        if self.crate == "must-fail":
+            self.crate = os.path.basename(os.path.dirname(os.path.dirname(path)))
+        self.name = os.path.basename(path).removesuffix(".edit")
+        self.text = read(path)
+        self.pairs = []
+        file = old = None
+        for line in self.text.split("\n"):
+            kind, _, text = line.partition(" ")
+            if kind == "file:":
+                file = text.strip()
+            elif kind == "old:":
+                old = text
+            elif kind == "new:":
+                self.pairs.append((file, old, text))
+
+    def applied(self, texts, folder):
+        """The texts by file with the edit applied to them, None where it can't be."""
+        made = dict(texts)
+        for file, old, new in self.pairs:
+            path = os.path.join(folder, file)
+            if file not in made:
+                made[file] = read(path) if os.path.exists(path) else ""
+            if made[file].count(old) != 1:
+                return None
+            made[file] = made[file].replace(old, new)
+        return made
+
+    def functions(self, folder):
+        """The modules and functions in which the edit stands, None where a text stands in no function."""
+        found = set()
+        for file, old, _ in self.pairs:
+            path = os.path.join(folder, file)
+            text = read(path) if os.path.exists(path) else ""
+            if not file.startswith("src/") or text.count(old) != 1:
+                return None
+            names = re.findall(r"\bfn (\w+)", text[: text.index(old) + len(old)])
+            if not names:
+                return None
+            module = re.sub(r"(/mod)?\.rt$", "", file.removeprefix("src/")).replace("/", "::")
+            found.add(("" if module in ("lib", "main") else module, names[-1]))
+        return found
+
+    def meaning(self):
+        """The edit without the folders of its files."""
+        return repr([(os.path.basename(file), rust_meaning(old), rust_meaning(new)) for file, old, new in self.pairs])
+
+    def state(self):
+        """A digest of the crate as it stands in the repository, and of the edit."""
+        parts = parts_of(os.path.join(copies.ROOT, "crates", self.crate))
+        return hashlib.sha256("\n".join([self.meaning(), *sorted(parts)]).encode()).hexdigest()[:16]
+
+
+@functools.cache
+def parts_of(crate):
+    """A digest of each file of a crate's sources, specs and proofs that says more than where names stand."""
+    found = []
+    for part in ("src", "specs", "proofs"):
+        for at, _, files in os.walk(os.path.join(crate, part)):
+            for name in files:
+                said = meaning(name, read(os.path.join(at, name)))
+                if said:
+                    found.append(hashlib.sha256(said.encode()).hexdigest())
+    return found
+
+
+def edits_of(crate, names):
+    """The edits of a crate, those of the names alone where there are some."""
+    folders = (os.path.join(copies.ROOT, "crates", crate, "must-fail"), os.path.join(EDITS, crate))
+    found = [Edit(path) for folder in folders for path in sorted(glob.glob(os.path.join(folder, "*.edit")))]
+    return [edit for edit in found if not names or edit.name in names]
+
+
+def tried():
+    """What was tried: of each crate and name the state, the day and the answer."""
+    rows = read(TRIED).splitlines() if os.path.exists(TRIED) else []
+    return {tuple(row.split("\t")[:2]): row.split("\t")[2:] for row in rows}
+
+
+def is_stale(edit, rows):
+    row = rows.get((edit.crate, edit.name))
+    return row is None or row[0] != edit.state() or not row[2].startswith(REFUSED)
+
+
+def record(edit, answer):
+    """Writes an answer down, while no other run of this script does."""
+    with open(TRIED, "a") as held:
+        fcntl.flock(held, fcntl.LOCK_EX)
+        rows = tried()
+        rows[edit.crate, edit.name] = [edit.state(), str(datetime.date.today()), answer]
+        write(TRIED, "".join("\t".join([*key, *row]) + "\n" for key, row in sorted(rows.items())))
+
+
+def check(folder, paths=()):
+    """Whether the crate is proved, None where the prover wasn't reached or functions of these paths alone were checked; of
+    each function how it ended; what was said."""
+    words = [word for path in paths for word in ("--only", path)]
+    done = subprocess.run(["rt", "check", *words], cwd=folder, capture_output=True, text=True)
+    said = done.stdout + done.stderr
+    verdicts = re.findall(r"^logic=(\S+)", said, re.MULTILINE)
+    ends = dict(re.findall(r"^(?:fn|impl|trait|struct|enum|const) (\S+): (.*)$", said, re.MULTILINE))
+    return (verdicts[-1] == "proved" if verdicts else None), ends, said
+
+
+def is_refused(end):
+    """Whether a function has no proof by itself, and not because it waits for another's."""
+    if end.startswith("no proof"):
+        return not end.startswith("no proof: it calls ")
+    return end.startswith("not proved") and "waits for" not in end
+
+
+def functions_of(edit, folder, ends):
+    """The functions of the edit, by their paths, among those that a check named. A method has the path of its type, which may
+    stand in another file."""
+    found = []
+    for module, function in edit.functions(folder) or ():
+        words = {path: re.split(r"[:/]+", path) for path in ends}
+        named = [path for path in ends if words[path][-1] == function or "fn" in words[path] and function in words[path]]
+        inside = [path for path in named if module == "" or path.partition("::")[2].startswith(module + "::")]
+        found += inside or named
+    return found
+
+
+def refused_at(edit, folder, ends):
+    """The functions of the edit that were refused by themselves."""
+    return [path for path in functions_of(edit, folder, ends) if is_refused(ends[path])]
+
+
+def with_texts(folder, texts, call):
+    """What the call answers while the files have these texts; they are put back."""
+    before = {file: read(os.path.join(folder, file)) for file in texts}
+    for file, text in texts.items():
+        write(os.path.join(folder, file), text)
+    try:
+        return call()
+    finally:
+        for file, text in before.items():
+            write(os.path.join(folder, file), text)
+
+
+def try_alone(edit, folder):
+    texts = edit.applied({}, folder)
+    if not texts:
+        return "CAN'T BE APPLIED"
+    proved, ends, said = with_texts(folder, texts, lambda: check(folder))
+    if proved:
+        return "NOT REFUSED"
+    where = refused_at(edit, folder, ends) or [path for path, end in ends.items() if is_refused(end)]
+    if proved is None or not where:
+        errors = [line for line in said.split("\n") if "error" in line][:1]
+        return f"DIDN'T REACH THE PROVER: {' '.join(errors)[:160]}"
+    return f"{REFUSED}: {' '.join(sorted(where))[:160]}"
+
+
+def groups(edits, folder):
+    """The edits in groups that can stand in one copy together: no two in functions of one name, each text there once, and
+    not too many."""
+    left = list(edits)
+    while left:
+        group, texts, used, others = [], {}, set(), []
+        for edit in left:
+            functions = {name for _, name in edit.functions(folder) or ()}
+            has_room = functions and len(group) < MOST_TOGETHER and not used & functions
+            made = edit.applied(texts, folder) if has_room else None
+            if made is None:
+                others.append(edit)
+            else:
+                group, texts, used = [*group, edit], made, used | functions
+        if not group:
+            yield from ([edit] for edit in others)
+            return
+        yield group
+        left = others
+
+
+def try_group(group, folder, known):
+    """The answers to the edits of a group by a check of their functions, None for those that have to be tried alone. Known
+    is how each function of the crate as it stands ended."""
+    # A closure is checked with the function that it stands in, and can't be named alone.
+    named = {path for edit in group for path in functions_of(edit, folder, known) if "::fn::" not in path}
+    paths = {path.partition("::")[2] for path in named}
+    texts = {}
+    for edit in group:
+        texts = edit.applied(texts, folder) if texts is not None else None
+    if not paths or not texts:
+        return [None for _ in group]
+    _, ends, _ = with_texts(folder, texts, lambda: check(folder, sorted(paths)))
+    where = [refused_at(edit, folder, ends) for edit in group]
+    return [f"{REFUSED}: {' '.join(sorted(paths))[:160]}" if paths else None for paths in where]
+
+
+def try_crate(folder, crate, edits):
+    """Tries the edits of a crate; how many were not refused."""
+    copies.copy(folder, [crate])
+    crate_folder = os.path.join(folder, "crates", crate)
+    proved, known, _ = check(crate_folder)
+    if proved is not True:
+        sys.exit(f"{crate} isn't proved as it stands")
+    failures = 0
+    for group in groups(edits, crate_folder):
+        for edit, answer in zip(group, try_group(group, crate_folder, known)):
+            answer = answer or try_alone(edit, crate_folder)
+            failures += not answer.startswith(REFUSED)
+            record(edit, answer)
+            print(f"{crate}/{edit.name}: {answer}", flush=True)
+    return failures
+
+
+def main():
+    parser = argparse.ArgumentParser(description="Tries wrong bodies, which the check must refuse.")
+    parser.add_argument("--in", dest="folder", help="the folder for the copies")
+    parser.add_argument("--stale", action="store_true", help="only those that weren't tried at the present state")
+    parser.add_argument("--list", action="store_true", help="print those that weren't tried at the present state")
+    parser.add_argument("words", nargs="*", metavar="CRATE[/NAME]")
+    given = parser.parse_args()
+    wanted = {}
+    for word in given.words or (sorted(copies.stands_on()) if given.list else []):
+        crate, _, name = word.partition("/")
+        wanted.setdefault(crate, []).extend([name] if name else [])
+    if not wanted:
+        parser.error("no crate is named")
+    rows = tried()
+    edits = {crate: edits_of(crate, names) for crate, names in wanted.items()}
+    if given.list or given.stale:
+        edits = {crate: [edit for edit in found if is_stale(edit, rows)] for crate, found in edits.items()}
+    if given.list:
+        print("\n".join(f"{edit.crate}/{edit.name}" for found in edits.values() for edit in found))
+        return
+    with tempfile.TemporaryDirectory() as made:
+        folder = given.folder or made
+        failures = sum(try_crate(folder, crate, found) for crate, found in edits.items() if found)
+    sys.exit(1 if failures else 0)
+
+
+if __name__ == "__main__":
+    main()
