@@ -1,7 +1,7 @@
 //! Sources of octets, contents that closures read, and errors.
 
-pub use bcder_values::bcder_content::{Constructed, Content, Decode, Primitive, read_front, whole};
-pub use bcder_values::bcder_source::{
+pub use bcder_octets::bcder_content::{Constructed, Content, Decode, Primitive, read_front, whole};
+pub use bcder_octets::bcder_source::{
     BytesSource, CaptureSource, ContentError, DecodeError, FixedText, IntoSource, LimitedSource,
     Pos, SliceSource, Source,
 };

@@ -16,9 +16,8 @@
 pub use crate::oid::laws as oid;
 pub use crate::string::{chars_laws as chars, laws as strings};
 pub use bcder_number::laws as number;
+pub use bcder_octets::bcder_content::laws as content;
+pub use bcder_octets::bcder_source::laws as source;
+pub use bcder_octets::bcder_tree::laws as tree;
 pub use bcder_octets::bits::laws as bits;
-pub use bcder_octets::laws as octets;
-pub use bcder_values::bcder_content::laws as content;
-pub use bcder_values::bcder_source::laws as source;
-pub use bcder_values::bcder_tree::laws as tree;
-pub use bcder_values::laws as values;
+pub use bcder_octets::{laws as octets, values_laws as values};

@@ -43,9 +43,9 @@ pub mod oid;
 pub mod string;
 
 pub use bcder_number::{Integer, Unsigned};
+pub use bcder_octets::CapturedBuilder;
+pub use bcder_octets::bcder_content::Captured;
+pub use bcder_octets::bcder_tree::{Mode, Tag};
 pub use bcder_octets::bits::BitString;
-pub use bcder_values::CapturedBuilder;
-pub use bcder_values::bcder_content::Captured;
-pub use bcder_values::bcder_tree::{Mode, Tag};
 pub use oid::{ConstOid, Oid};
 pub use string::{Ia5String, NumericString, OctetString, PrintableString, Utf8String};

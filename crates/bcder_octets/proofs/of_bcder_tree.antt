@@ -6,3 +6,4 @@ pub use Rattle.bcder_values.proofs.of_bcder_tree.Parts
 pub use Rattle.bcder_values.proofs.of_bcder_tree.Slices
 pub use Rattle.bcder_values.proofs.of_bcder_tree.Trees
 pub use Rattle.bcder_values.proofs.of_bcder_tree.Unique
+pub use Rattle.bcder_values.proofs.of_bcder_tree.Digits

@@ -23,8 +23,13 @@ pub mod source;
 pub mod string;
 pub mod wrapping;
 
-pub use bcder_values::{bcder_content, bcder_source};
-use bcder_values::{bcder_primitive, bcder_tree};
+use bcder_values::bcder_primitive;
+pub use bcder_values::{
+    CapturedBuilder, Choice2, Choice3, Constructed, EncodeError, Encodes, Iter, Itself, Nothing,
+    Octets, Primitive, PrimitiveContent, Slice, Values, Walk as ValuesWalk, bcder_content,
+    bcder_source, bcder_tree, iter as values_iter, laws as values_laws, sequence, sequence_as, set,
+    set_as, slice, total_encoded_len, write_header, write_octets,
+};
 pub use encode::{OctetSliceEncoder, OctetStringEncoder};
 pub use iter::{OctetStringIter, OctetStringOctets};
 pub use source::OctetStringSource;

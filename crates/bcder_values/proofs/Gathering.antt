@@ -4,11 +4,11 @@ use Rattle.std.proofs.lemmas.List.{length-append}
 use Rattle.bcder_values.specs.bcder_tree.declared.mode.Mode.{Mode}
 use Rattle.bcder_values.specs.bcder_tree.Tree.{Trees, none, SpellsAll}
 use Rattle.bcder_content.specs.Kept.{SpellsValues}
-use Rattle.bcder_primitive.specs.Encoded.{joined, SpellsSome}
+use Rattle.bcder_values.specs.bcder_primitive.Encoded.{joined, SpellsSome}
 use Rattle.bcder_values.specs.Laws.{joined_spelled}
-use Rattle.bcder_primitive.specs.Writing.{HasLength, Wrote, TookFront, WriteRefused, FillRefused}
-use Rattle.bcder_primitive.specs.declared.written.error.EncodeError.{EncodeError}
-use Rattle.bcder_primitive.specs.declared.written.error.EncodeError.TheVariants as errors
+use Rattle.bcder_values.specs.bcder_primitive.Writing.{HasLength, Wrote, TookFront, WriteRefused, FillRefused}
+use Rattle.bcder_values.specs.bcder_primitive.declared.written.error.EncodeError.{EncodeError}
+use Rattle.bcder_values.specs.bcder_primitive.declared.written.error.EncodeError.TheVariants as errors
 
 pub no_values : (m : Mode) (octets : List ℕ) → octets ≡ [] → SpellsValues m octets
 no_values m octets e = record { trees = none; spelled = e }

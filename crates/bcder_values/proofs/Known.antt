@@ -2,11 +2,11 @@
 use Rattle.std.proofs.Common.{ℕ, ◌≡◌, ◌^◌, ◌<◌, List, length, refl, Option, arith}
 use Rattle.bcder_values.specs.bcder_tree.declared.mode.Mode.{Mode}
 use Rattle.bcder_values.specs.bcder_tree.Tree.{Trees}
-use Rattle.bcder_primitive.specs.declared.written.error.EncodeError.{EncodeError}
-use Rattle.bcder_primitive.specs.declared.written.error.EncodeError.TheVariants as errors
-use Rattle.bcder_primitive.specs.Encoded.{WritesBoth, SpellsSome}
-use Rattle.bcder_primitive.specs.Writing.{HasLength, TookFront, WriteRefused}
-use Rattle.bcder_primitive.proofs.Compose.{both_length, written_refused}
+use Rattle.bcder_values.specs.bcder_primitive.declared.written.error.EncodeError.{EncodeError}
+use Rattle.bcder_values.specs.bcder_primitive.declared.written.error.EncodeError.TheVariants as errors
+use Rattle.bcder_values.specs.bcder_primitive.Encoded.{WritesBoth, SpellsSome}
+use Rattle.bcder_values.specs.bcder_primitive.Writing.{HasLength, TookFront, WriteRefused}
+use Rattle.bcder_values.proofs.of_bcder_primitive.Compose.{both_length, written_refused}
 use Rattle.bcder_values.specs.Writable.{Writable}
 
 -- A length that can be counted was answered.

@@ -1,8 +1,8 @@
 -- What is said of encoders is said of the value whose fields they lend.
 use Rattle.std.proofs.Common.{◌≡◌, ℕ, List, Option, Result, OnOk, IfOk, IfErr, subst}
 use Rattle.bcder_values.specs.bcder_tree.declared.mode.Mode.{Mode}
-use Rattle.bcder_primitive.specs.declared.written.error.EncodeError.{EncodeError}
-use Rattle.bcder_primitive.specs.Writing.{HasLength, CannotWrite, Wrote, WriteRefused}
+use Rattle.bcder_values.specs.bcder_primitive.declared.written.error.EncodeError.{EncodeError}
+use Rattle.bcder_values.specs.bcder_primitive.Writing.{HasLength, CannotWrite, Wrote, WriteRefused}
 use Rattle.bcder_values.specs.Forms.{Form}
 
 pub len_lent : {T A : Type 0} (f : T × A → Form A) {l k : T × A} (m : Mode) (r : Result ℕ EncodeError) → l ≡ k

@@ -2,15 +2,15 @@
 use Rattle.std.proofs.Common.{◌≡◌, ℕ, ◌^◌, ◌<◌, ◌≤◌, ◌+◌, List, [], ◌∷◌, ◌++◌, length, refl, sym, ap, ◌∙◌, append_assoc, append-nil, subst, arith}
 use Rattle.std.specs.Prelude.{Option}
 use Rattle.bcder_values.specs.bcder_tree.Tree.{Trees}
-use Rattle.bcder_primitive.specs.declared.written.error.EncodeError.{EncodeError}
-use Rattle.bcder_primitive.specs.declared.written.error.EncodeError.TheVariants as errors
-use Rattle.bcder_primitive.specs.Encoded.{WritesBoth}
+use Rattle.bcder_values.specs.bcder_primitive.declared.written.error.EncodeError.{EncodeError}
+use Rattle.bcder_values.specs.bcder_primitive.declared.written.error.EncodeError.TheVariants as errors
+use Rattle.bcder_values.specs.bcder_primitive.Encoded.{WritesBoth}
 use Rattle.bcder_values.specs.Choices.{nothing_one}
 use Rattle.bcder_values.specs.Laws.{both_one}
 use Rattle.bcder_values.specs.Lists.{AreAll, WritesAll}
-use Rattle.bcder_primitive.specs.Writing.{HasLength, Wrote, CannotWrite}
-use Rattle.bcder_primitive.proofs.Compose.{has_both, too_many, both_length}
-use Rattle.bcder_primitive.proofs.Pieces.{wrote_as, wrote_both}
+use Rattle.bcder_values.specs.bcder_primitive.Writing.{HasLength, Wrote, CannotWrite}
+use Rattle.bcder_values.proofs.of_bcder_primitive.Compose.{has_both, too_many, both_length}
+use Rattle.bcder_values.proofs.of_bcder_primitive.Pieces.{wrote_as, wrote_both}
 use Rattle.bcder_values.proofs.Wrapping.{has_as}
 
 -- A list is written as its front, and then what follows.

@@ -5,10 +5,10 @@ use Rattle.bcder_values.specs.bcder_tree.declared.mode.Mode.TheVariants.{Ber, Ce
 use Rattle.bcder_values.specs.bcder_tree.Tags.{TagValue, IsTag}
 use Rattle.bcder_values.specs.bcder_tree.Octets.{IsIdentifier}
 use Rattle.bcder_values.specs.bcder_tree.Tree.{IsHeader, IsConstructed, definite, indefinite}
-use Rattle.bcder_primitive.specs.Headers.{IsHeaderIn}
+use Rattle.bcder_values.specs.bcder_primitive.Headers.{IsHeaderIn}
 use Rattle.bcder_values.specs.Frames.{IsOpen, IsOpening, IsClosing}
-use Rattle.bcder_primitive.specs.Writing.{HasLength}
-use Rattle.bcder_primitive.specs.Encoded.{written_as, WritesBoth, WritesPlain, WritesWrapped}
+use Rattle.bcder_values.specs.bcder_primitive.Writing.{HasLength}
+use Rattle.bcder_values.specs.bcder_primitive.Encoded.{written_as, WritesBoth, WritesPlain, WritesWrapped}
 
 pub open_of : {t : TagValue} (i : List ℕ) → IsTag t → IsIdentifier i true t → (text : List ℕ) → WritesBoth (λ x. x ≡ i) (λ x. x ≡ 128 ∷ []) text → IsOpen t text
 open_of i tag is text w = record {

@@ -5,7 +5,7 @@ use Rattle.bcder_values.specs.bcder_tree.declared.mode.Mode.TheVariants.{Ber}
 use Rattle.bcder_values.specs.bcder_tree.Tree.{Trees, SpellsAll}
 use Rattle.bcder_content.proofs.of_bcder_tree.Modes.{all_to_ber}
 use Rattle.bcder_content.specs.Kept.{CapturedValue, SpellsValues}
-use Rattle.bcder_primitive.specs.Encoded.{SpellsSome}
+use Rattle.bcder_values.specs.bcder_primitive.Encoded.{SpellsSome}
 
 -- Octets that were captured in one mode stand in it and, as each spelling does, in BER.
 abbrev pub StandsIn : Mode → Mode → Type 0

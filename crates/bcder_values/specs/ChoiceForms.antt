@@ -5,7 +5,7 @@ use Rattle.bcder_values.specs.bcder_tree.Tags.{TagValue}
 use Rattle.bcder_values.specs.bcder_tree.Tree.{Tree, Trees}
 use Rattle.bcder_content.specs.Contents.{tag_of}
 use Rattle.bcder_content.specs.Grammar.{OneOf, As, One}
-use Rattle.bcder_primitive.specs.Encoded.{SpellsSome}
+use Rattle.bcder_values.specs.bcder_primitive.Encoded.{SpellsSome}
 use Rattle.bcder_values.specs.Forms.{Form, Alone}
 
 module _ {A B : Type 0} (f : Form A) (g : Form B) where

@@ -6,7 +6,7 @@ use Rattle.bcder_values.specs.declared.choice.Choice2.{Choice2}
 use Rattle.bcder_values.specs.declared.choice.Choice2.TheVariants as two
 use Rattle.bcder_values.specs.declared.choice.Choice3.{Choice3}
 use Rattle.bcder_values.specs.declared.choice.Choice3.TheVariants as three
-use Rattle.bcder_primitive.specs.Encoded.{NoTree, NoText, SpellsSome}
+use Rattle.bcder_values.specs.bcder_primitive.Encoded.{NoTree, NoText, SpellsSome}
 
 -- What is there, or nothing.
 abbrev pub AreOptional : {V : Type 0} → (V → Trees → Type 0) → Option V → Trees → Type 0

@@ -7,7 +7,7 @@ use Rattle.bcder_values.specs.bcder_tree.Tree.{Tree, Trees, primitive, construct
 use Rattle.bcder_content.specs.Contents.{tag_of}
 use Rattle.bcder_content.specs.Grammar.{Inside, OctetsOf, As, End, Then, One, OneAll, OneOctets}
 use Rattle.bcder_content.proofs.Unique.{octets_one, inside_one, as_one, then_one, end_one, same_trees}
-use Rattle.bcder_primitive.specs.Encoded.{NoTree, NoText, AreBoth, WritesBoth, IsPlain, WritesPlain, IsWrapped, WritesWrapped, SpellsSome, joined}
+use Rattle.bcder_values.specs.bcder_primitive.Encoded.{NoTree, NoText, AreBoth, WritesBoth, IsPlain, WritesPlain, IsWrapped, WritesWrapped, SpellsSome, joined}
 use Rattle.bcder_values.specs.Choices.{nothing_spelled, nothing_one}
 use Rattle.bcder_values.specs.Laws.{both_spelled, both_one}
 use Rattle.bcder_values.specs.Plains.{plain_spelled, plain_one}

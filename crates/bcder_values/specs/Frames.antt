@@ -4,7 +4,7 @@ use Rattle.bcder_values.specs.bcder_tree.declared.mode.Mode.{Mode}
 use Rattle.bcder_values.specs.bcder_tree.declared.mode.Mode.TheVariants.{Ber, Cer, Der}
 use Rattle.bcder_values.specs.bcder_tree.Tags.{TagValue, IsTag}
 use Rattle.bcder_values.specs.bcder_tree.Octets.{IsIdentifier}
-use Rattle.bcder_primitive.specs.Headers.{IsHeaderIn}
+use Rattle.bcder_values.specs.bcder_primitive.Headers.{IsHeaderIn}
 
 -- Identifier octets and `80`, for an indefinite length.
 pub record IsOpen (t : TagValue) (text : List ℕ) : Type 0 where

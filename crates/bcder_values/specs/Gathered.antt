@@ -2,9 +2,9 @@
 use Rattle.std.specs.Prelude.{◌≡◌, ℕ, List, ◌++◌}
 use Rattle.bcder_values.specs.bcder_tree.Tree.{Trees}
 use Rattle.bcder_content.specs.Kept.{CapturedValue}
-use Rattle.bcder_primitive.specs.declared.written.error.EncodeError.{EncodeError}
-use Rattle.bcder_primitive.specs.declared.written.error.EncodeError.TheVariants as errors
-use Rattle.bcder_primitive.specs.Writing.{CannotWrite}
+use Rattle.bcder_values.specs.bcder_primitive.declared.written.error.EncodeError.{EncodeError}
+use Rattle.bcder_values.specs.bcder_primitive.declared.written.error.EncodeError.TheVariants as errors
+use Rattle.bcder_values.specs.bcder_primitive.Writing.{CannotWrite}
 
 -- A text of P comes after what was there.
 pub record Extended (P : List ℕ → Type 0) (old new : CapturedValue) : Type 0 where

@@ -2,7 +2,7 @@
 use Rattle.std.proofs.Common.{◌≡◌, ℕ, List, ◌++◌, refl, sym, ap, ◌∙◌, append_assoc, subst}
 use Rattle.bcder_values.specs.bcder_tree.declared.mode.Mode.{Mode}
 use Rattle.bcder_values.specs.bcder_tree.Tree.{Trees, none, more, SpellsAll}
-use Rattle.bcder_primitive.specs.Encoded.{joined, AreBoth, WritesBoth, SpellsSome}
+use Rattle.bcder_values.specs.bcder_primitive.Encoded.{joined, AreBoth, WritesBoth, SpellsSome}
 
 pub joined_spelled : (m : Mode) (ts us : Trees) (a b : List ℕ) → SpellsAll m ts a → SpellsAll m us b → SpellsAll m (joined ts us) (a ++ b)
 joined_spelled m none us a b s t = subst (SpellsAll m us) (sym (ap (λ l. l ++ b) s)) t

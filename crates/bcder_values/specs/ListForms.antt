@@ -6,7 +6,7 @@ use Rattle.bcder_values.specs.bcder_tree.Tree.{Tree, Trees, none, more}
 use Rattle.bcder_content.specs.Contents.{tag_of}
 use Rattle.bcder_content.specs.Grammar.{Many, ManyCases}
 use Rattle.bcder_content.proofs.Unique.{many_one, same_trees}
-use Rattle.bcder_primitive.specs.Encoded.{joined}
+use Rattle.bcder_values.specs.bcder_primitive.Encoded.{joined}
 use Rattle.bcder_values.specs.Forms.{Form, Forms, wrapped}
 use Rattle.bcder_values.specs.Lists.{AreAll, WritesAll, all_spelled, all_one}
 

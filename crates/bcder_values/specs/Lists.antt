@@ -2,7 +2,7 @@
 use Rattle.std.proofs.Common.{◌≡◌, ℕ, List, [], ◌∷◌}
 use Rattle.bcder_values.specs.bcder_tree.declared.mode.Mode.{Mode}
 use Rattle.bcder_values.specs.bcder_tree.Tree.{Trees}
-use Rattle.bcder_primitive.specs.Encoded.{NoTree, NoText, AreBoth, WritesBoth, SpellsSome}
+use Rattle.bcder_values.specs.bcder_primitive.Encoded.{NoTree, NoText, AreBoth, WritesBoth, SpellsSome}
 use Rattle.bcder_values.specs.Choices.{nothing_spelled, nothing_one}
 use Rattle.bcder_values.specs.Laws.{both_spelled, both_one}
 

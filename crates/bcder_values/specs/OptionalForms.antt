@@ -7,7 +7,7 @@ use Rattle.bcder_values.specs.bcder_tree.Tree.{Tree, Trees, none, more}
 use Rattle.bcder_content.specs.Contents.{tag_of}
 use Rattle.bcder_content.specs.Grammar.{End, Then, Without, OptCases, Opt, Default, Tagged}
 use Rattle.bcder_content.proofs.Unique.{end_one, opt_one, default_one, same_trees}
-use Rattle.bcder_primitive.specs.Encoded.{NoTree, AreBoth, WritesBoth, joined}
+use Rattle.bcder_values.specs.bcder_primitive.Encoded.{NoTree, AreBoth, WritesBoth, joined}
 use Rattle.bcder_values.specs.Choices.{AreOptional, WritesOptional, optional_spelled, optional_one}
 use Rattle.bcder_values.specs.Forms.{Form, Forms, ended}
 use Rattle.bcder_values.specs.Laws.{both_spelled, both_one}

@@ -6,7 +6,7 @@ use Rattle.bcder_values.specs.bcder_tree.Tags.{TagValue}
 use Rattle.bcder_values.specs.bcder_tree.Tree.{primitive, none, more, IsPrimitive}
 use Rattle.bcder_content.proofs.of_bcder_tree.Modes.{ber_header}
 use Rattle.bcder_content.proofs.of_bcder_tree.Canonical.{spelled_header}
-use Rattle.bcder_primitive.specs.Encoded.{written_as, IsPlain, WritesPlain, SpellsSome}
+use Rattle.bcder_values.specs.bcder_primitive.Encoded.{written_as, IsPlain, WritesPlain, SpellsSome}
 use Rattle.bcder_values.specs.Wraps.{one_spelled}
 
 -- The form that is written stands in the mode.

@@ -6,7 +6,7 @@ use Rattle.bcder_values.specs.bcder_tree.Tags.{TagValue}
 use Rattle.bcder_values.specs.bcder_tree.Tree.{Tree, Trees, constructed, none, more, IsHeader, IsConstructed, definite, indefinite, Spells, SpellsAll}
 use Rattle.bcder_content.proofs.of_bcder_tree.Modes.{ber_header}
 use Rattle.bcder_content.proofs.of_bcder_tree.Canonical.{spelled_header, spelled_identifier}
-use Rattle.bcder_primitive.specs.Encoded.{written_as, IsWrapped, WritesWrapped, SpellsSome}
+use Rattle.bcder_values.specs.bcder_primitive.Encoded.{written_as, IsWrapped, WritesWrapped, SpellsSome}
 
 -- One value is all of them.
 pub one_spelled : (m : Mode) (t : Tree) (text : List ℕ) → Spells m t text → SpellsAll m (more t none) text

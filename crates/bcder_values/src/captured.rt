@@ -3,14 +3,14 @@
 ghost use Rattle.std.specs.Prelude.{◌≡◌, ◌≤◌, ℕ, [], length, IfOk, IfErr, OnOk, OnErr};
 ghost use Rattle.bcder_values.specs.Gathered.{Extended, ExtendRefused};
 ghost use Rattle.bcder_values.specs.Captures.{StandsIn, CapturedTrees, CapturedText, captured_spelled, captured_one};
-ghost use Rattle.bcder_primitive.specs.Writing.{HasLength};
-ghost use Rattle.bcder_primitive.specs.declared.written.error.EncodeError.TheVariants.{Memory as memory_refused};
+ghost use Rattle.bcder_values.specs.bcder_primitive.Writing.{HasLength};
+ghost use Rattle.bcder_values.specs.bcder_primitive.declared.written.error.EncodeError.TheVariants.{Memory as memory_refused};
 ghost use Rattle.std.specs.Prelude.{◌↔◌, IsTrue};
 
 use crate::Values;
 use crate::bcder_tree::Mode;
 use bcder_content::Captured;
-use bcder_primitive::written::{EncodeError, write_octets};
+use bcder_content::bcder_primitive::written::{EncodeError, write_octets};
 use bytes::Bytes;
 use std::alloc::{AllocError, Global};
 use std::io::Write;

@@ -2,7 +2,7 @@
 
 ghost use Rattle.bcder_values.specs.Choices.{AreOptional, WritesOptional, AreEither, WritesEither, AreOneOf, WritesOneOf};
 ghost use Rattle.bcder_values.specs.Choices.{optional_spelled, optional_one, either_spelled, either_one, one_of_spelled, one_of_one, nothing_spelled, nothing_one};
-ghost use Rattle.bcder_primitive.specs.Encoded.{NoTree, NoText};
+ghost use Rattle.bcder_values.specs.bcder_primitive.Encoded.{NoTree, NoText};
 
 use crate::bcder_tree::Mode;
 use crate::{EncodeError, Values};

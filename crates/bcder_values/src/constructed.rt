@@ -3,15 +3,15 @@
 ghost use Rattle.bcder_values.specs.bcder_tree.Tags.{IsTag};
 ghost use Rattle.bcder_values.specs.bcder_tree.Sequences.{sequence_tag};
 ghost use Rattle.bcder_values.specs.bcder_tree.Tags.{set_tag};
-ghost use Rattle.bcder_primitive.specs.Encoded.{IsWrapped, WritesWrapped};
+ghost use Rattle.bcder_values.specs.bcder_primitive.Encoded.{IsWrapped, WritesWrapped};
 ghost use Rattle.bcder_values.specs.Wraps.{wrapped_spelled, wrapped_one};
 ghost use Rattle.std.specs.Prelude.{◌≡◌};
 
 use crate::Values;
 use crate::bcder_tree::{Mode, Tag};
 use crate::frame::{closing_len, opening_len, put_closing, put_opening};
-use bcder_primitive::written::EncodeError;
-use bcder_primitive::written::header::MAX_LEN;
+use bcder_content::bcder_primitive::written::EncodeError;
+use bcder_content::bcder_primitive::written::header::MAX_LEN;
 use std::io::Write;
 
 /// A constructed value (X.690 8.1.2.5) around values: in BER and DER of definite length, in CER of indefinite.

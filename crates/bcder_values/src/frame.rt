@@ -3,12 +3,12 @@
 ghost use Rattle.std.specs.Prelude.{◌≡◌, ◌^◌, ◌<◌, ◌≤◌, IfErr, OnOk};
 ghost use Rattle.bcder_values.specs.bcder_tree.Tags.{IsTag};
 ghost use Rattle.bcder_values.specs.Frames.{IsOpen, IsOpening, IsClosing};
-ghost use Rattle.bcder_primitive.specs.Writing.{HasLength, Wrote, TookFront};
-ghost use Rattle.bcder_primitive.specs.declared.written.error.EncodeError.TheVariants.{Write as refusal};
+ghost use Rattle.bcder_values.specs.bcder_primitive.Writing.{HasLength, Wrote, TookFront};
+ghost use Rattle.bcder_values.specs.bcder_primitive.declared.written.error.EncodeError.TheVariants.{Write as refusal};
 
 use crate::bcder_tree::{Mode, Tag};
-use bcder_primitive::written::header::{header_len, put_header};
-use bcder_primitive::written::{EncodeError, write_octets};
+use bcder_content::bcder_primitive::written::header::{header_len, put_header};
+use bcder_content::bcder_primitive::written::{EncodeError, write_octets};
 use std::io::Write;
 
 // How many octets open a value of indefinite length.

@@ -3,11 +3,11 @@
 ghost use Rattle.std.specs.Prelude.{◌≡◌, ◌↔◌, ℕ, List, IfOk, IfErr, OnOk};
 ghost use Rattle.bcder_values.specs.bcder_tree.declared.mode.Mode.{Mode as ModeValue};
 ghost use Rattle.bcder_values.specs.bcder_tree.Tree.{Trees};
-ghost use Rattle.bcder_primitive.specs.Encoded.{SpellsSome};
+ghost use Rattle.bcder_values.specs.bcder_primitive.Encoded.{SpellsSome};
 ghost use Rattle.bcder_values.specs.Lists.{AreAll, WritesAll, all_spelled, all_one};
 ghost use Rattle.bcder_values.specs.Writable.{Writable};
-ghost use Rattle.bcder_primitive.specs.Writing.{HasLength, Wrote, TookFront, CannotWrite, WriteRefused};
-ghost use Rattle.bcder_primitive.specs.declared.written.error.EncodeError.TheVariants.{Write as refusal};
+ghost use Rattle.bcder_values.specs.bcder_primitive.Writing.{HasLength, Wrote, TookFront, CannotWrite, WriteRefused};
+ghost use Rattle.bcder_values.specs.bcder_primitive.declared.written.error.EncodeError.TheVariants.{Write as refusal};
 
 use crate::bcder_tree::Mode;
 use crate::{EncodeError, Values};

@@ -4,8 +4,8 @@ ghost use Rattle.std.specs.Prelude.{◌≢◌, List, ℕ};
 ghost use Rattle.bcder_values.specs.bcder_tree.declared.mode.Mode.{Mode as ModeValue};
 ghost use Rattle.bcder_values.specs.bcder_tree.declared.mode.Mode.TheVariants.{Ber};
 ghost use Rattle.bcder_values.specs.bcder_tree.Tree.{Trees};
-ghost use Rattle.bcder_primitive.specs.Writing.{CannotWrite};
-ghost use Rattle.bcder_primitive.specs.declared.written.error.EncodeError.TheVariants.{CerUnsupported as cer_unsupported};
+ghost use Rattle.bcder_values.specs.bcder_primitive.Writing.{CannotWrite};
+ghost use Rattle.bcder_values.specs.bcder_primitive.declared.written.error.EncodeError.TheVariants.{CerUnsupported as cer_unsupported};
 ghost use Rattle.bcder_values.specs.Returns.{ReadAgain, WrittenAlone};
 
 use crate::Values;

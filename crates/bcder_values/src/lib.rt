@@ -14,11 +14,11 @@ pub mod values;
 pub mod walk;
 
 pub use bcder_content;
-pub use bcder_content::{bcder_primitive, bcder_source, bcder_tree};
-pub use bcder_primitive::written::{
+pub use bcder_content::bcder_primitive::written::{
     EncodeError, Octets, Primitive, PrimitiveContent, error, header, integers, primitive, simple,
     total_encoded_len, write_header, write_octets,
 };
+pub use bcder_content::{bcder_primitive, bcder_source, bcder_tree};
 pub use captured::CapturedBuilder;
 pub use choice::{Choice2, Choice3, Nothing};
 pub use constructed::{Constructed, sequence, sequence_as, set, set_as};

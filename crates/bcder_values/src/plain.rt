@@ -1,16 +1,16 @@
 //! Primitive values, written.
 
-ghost use Rattle.bcder_primitive.specs.Encoded.{IsPlain, WritesPlain};
+ghost use Rattle.bcder_values.specs.bcder_primitive.Encoded.{IsPlain, WritesPlain};
 ghost use Rattle.bcder_values.specs.Plains.{plain_spelled, plain_one};
-ghost use Rattle.bcder_primitive.specs.Writing.{HasLength, Wrote, CannotWrite, WriteRefused};
-ghost use Rattle.bcder_primitive.specs.declared.written.error.EncodeError.TheVariants.{CerUnsupported as cer_unsupported};
+ghost use Rattle.bcder_values.specs.bcder_primitive.Writing.{HasLength, Wrote, CannotWrite, WriteRefused};
+ghost use Rattle.bcder_values.specs.bcder_primitive.declared.written.error.EncodeError.TheVariants.{CerUnsupported as cer_unsupported};
 ghost use Rattle.bcder_values.specs.bcder_tree.declared.mode.Mode.TheVariants.{Cer};
 ghost use Rattle.std.specs.Prelude.{◌≡◌, IfOk, IfErr, OnOk};
 
 use crate::Values;
 use crate::bcder_tree::Mode;
-use bcder_primitive::written::header::{header_len, put_header};
-use bcder_primitive::written::{EncodeError, Primitive, PrimitiveContent};
+use bcder_content::bcder_primitive::written::header::{header_len, put_header};
+use bcder_content::bcder_primitive::written::{EncodeError, Primitive, PrimitiveContent};
 use std::io::Write;
 
 /// A primitive value is refused as `CerUnsupported` in CER alone.

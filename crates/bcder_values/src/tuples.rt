@@ -1,6 +1,6 @@
 //! Values one after the other.
 
-ghost use Rattle.bcder_primitive.specs.Encoded.{AreBoth, WritesBoth};
+ghost use Rattle.bcder_values.specs.bcder_primitive.Encoded.{AreBoth, WritesBoth};
 ghost use Rattle.bcder_values.specs.Laws.{both_spelled, both_one};
 
 use crate::bcder_tree::Mode;

@@ -3,8 +3,8 @@
 ghost use Rattle.std.specs.Prelude.{◌≡◌, [], ◌∷◌, List, MatchOption, IfOk, IfErr, OnOk};
 ghost use Rattle.bcder_values.specs.Lists.{AreAll, WritesAll, all_spelled, all_one};
 ghost use Rattle.bcder_values.specs.Writable.{Writable};
-ghost use Rattle.bcder_primitive.specs.Writing.{HasLength, Wrote, TookFront, CannotWrite, WriteRefused};
-ghost use Rattle.bcder_primitive.specs.declared.written.error.EncodeError.TheVariants.{Write as refusal};
+ghost use Rattle.bcder_values.specs.bcder_primitive.Writing.{HasLength, Wrote, TookFront, CannotWrite, WriteRefused};
+ghost use Rattle.bcder_values.specs.bcder_primitive.declared.written.error.EncodeError.TheVariants.{Write as refusal};
 
 use crate::bcder_tree::Mode;
 use crate::{EncodeError, Values};

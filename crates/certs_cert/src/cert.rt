@@ -7,8 +7,8 @@ ghost use Rattle.certs_cert.specs.Written.{RefusesCert, WritesCert};
 
 use crate::tbs::TbsCert;
 use certs_extension::claims::beside;
-use certs_key::encode::{EncodeError, Values};
-use certs_key::{Captured, Mode};
+use certs_extension::encode::{EncodeError, Values};
+use certs_extension::{Captured, Mode};
 use certs_x509::signed::{SignedData, SignedDataValues};
 use std::alloc::{AllocError, Global};
 use std::marker::Model;

@@ -15,8 +15,8 @@ ghost use Rattle.certs_extension.specs.CertText.{IsCert, IsTbs, SpellsCert, Spel
 
 use crate::cert::Cert;
 use crate::tbs::TbsCert;
+use certs_extension::Captured;
 use certs_extension::forms::laws::cert_is_spelled;
-use certs_key::Captured;
 use certs_x509::signed::decode::{Constructed, Decode, DecodeError, IntoSource, Source};
 use certs_x509::signed::{Mode, SignedData};
 use std::alloc::{AllocError, Global};

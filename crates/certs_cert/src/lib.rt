@@ -24,13 +24,17 @@ pub mod usages;
 
 pub use cert::{Cert, CertValues};
 pub use certs_extension::access::{PublicKeyFormat, Rsync, grammar, paths};
+pub use certs_extension::claims::beside;
 pub use certs_extension::forms::{
     AsBlocks, ClaimError, InheritedAsResources, InheritedIpResources, InspectionError, IpBlocks,
     KeyUsage, Role, Time,
 };
-pub use certs_extension::{Digester, ExtendedKeyUsage, KeyIdentifier};
+pub use certs_extension::{
+    Digester, ExtendedKeyUsage, Extension, KeyIdentifier, take_authority_key_identifier,
+};
 pub use certs_x509::signed::{
     ConstOid, DigestAlgorithm, Mode, OctetString, Oid, RpkiSignatureAlgorithm, SignedData, Tag,
     Verifier, decode,
 };
+pub use certs_x509::{errors, signed};
 pub use tbs::TbsCert;

@@ -11,3 +11,4 @@ pub use Rattle.certs_x509.specs.bcder_source as bcder_source
 pub use Rattle.certs_x509.specs.bcder_content as bcder_content
 pub use Rattle.certs_x509.specs.bcder_tree as bcder_tree
 pub use Rattle.certs_x509.specs.certs_basics as certs_basics
+pub use Rattle.certs_cert.specs.certs_extension as certs_extension

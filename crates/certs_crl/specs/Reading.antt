@@ -12,8 +12,8 @@ use Rattle.certs_crl.specs.certs_basics.Basics.{IsSerial, IsAlgorithm}
 use Rattle.certs_crl.specs.certs_basics.Identifiers as id
 use Rattle.certs_crl.specs.certs_basics.Names.{IsKeptName}
 use Rattle.certs_crl.specs.certs_basics.Forms.{IsTime}
-use Rattle.certs_extension.specs.Raw.{extension_value}
-use Rattle.certs_extension.specs.declared.extension.Extension.{Extension as Raw}
+use Rattle.certs_crl.specs.certs_extension.Raw.{extension_value}
+use Rattle.certs_crl.specs.certs_extension.declared.extension.Extension.{Extension as Raw}
 use Rattle.certs_x509.specs.certs_extension.CertText.{IsVersion}
 use Rattle.certs_x509.specs.certs_extension.CrlText.{AreRevoked, RevokedValue, TbsListValue, entries}
 use Rattle.certs_x509.specs.certs_extension.Extensions.{Extension, IsAuthorityKeyIdentifier, IsExtension, IsOptional, May, of_kind}

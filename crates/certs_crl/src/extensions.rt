@@ -12,13 +12,13 @@ ghost use Rattle.certs_crl.specs.certs_basics.Basics.{IsSerial};
 ghost use Rattle.certs_crl.specs.certs_basics.Identifiers as id;
 ghost use Rattle.certs_crl.specs.Invalid.{IsMadeOrFixed, TellsInvalid};
 ghost use Rattle.certs_crl.specs.Reading.{IsListExtension, IsNoMore, IsOfList, IsPair, IsPaired, ReadsBoth, ReadsFronts, alone, pair_fields};
-ghost use Rattle.certs_extension.specs.Raw.{extension_value};
+ghost use Rattle.certs_crl.specs.certs_extension.Raw.{extension_value};
 ghost use Rattle.certs_x509.specs.certs_extension.Extensions.{IsAuthority};
 
 use crate::invalid::InvalidExtension;
 use bcder::decode::{Constructed, ContentError, Decode, DecodeError, Pos, Source};
 use bcder::{ConstOid, Mode, Oid, Tag};
-use certs_extension::{Extension, take_authority_key_identifier};
+use certs_cert::{Extension, take_authority_key_identifier};
 use certs_name::Serial;
 use certs_x509::signed::KeyIdentifier;
 use std::alloc::{AllocError, Global};

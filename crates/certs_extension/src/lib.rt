@@ -22,7 +22,7 @@ pub use access::{
     Https, PublicKeyFormat, Rsync, SubjectAccess, grammar, paths, take_authority_access,
     take_crl_distribution, take_subject_access,
 };
-pub use certs_key::{ConstOid, Digester, KeyIdentifier, Oid, decode};
+pub use certs_key::{Captured, ConstOid, Digester, KeyIdentifier, Mode, Oid, decode, encode};
 pub use constraints::take_basic_constraints;
 pub use error::ExtensionError;
 pub use extension::Extension;

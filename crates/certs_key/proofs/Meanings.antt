@@ -13,9 +13,9 @@ use Rattle.certs_key.proofs.of_bcder_content.Choices.{as_gives, as_lacks, gives_
 use Rattle.certs_key.proofs.of_bcder_content.Simple.{unit_one}
 use Rattle.certs_key.proofs.of_bcder_content.Taking.{weaker}
 use Rattle.certs_key.proofs.of_bcder_content.Unique.{as_one, end_one, inside_one, octets_one, then_one}
-use Rattle.certs_basics.specs.Basics.{has_null}
-use Rattle.certs_basics.specs.Identifiers.{rsa_encryption, sha256_with_rsa}
-use Rattle.certs_basics.proofs.Values.{opt_null_one}
+use Rattle.certs_key.specs.certs_basics.Basics.{has_null}
+use Rattle.certs_key.specs.certs_basics.Identifiers.{rsa_encryption, sha256_with_rsa}
+use Rattle.certs_key.proofs.of_certs_basics.Values.{opt_null_one}
 use Rattle.certs_key.specs.Algorithms.{AreCmsFields, AreDigestAlgorithms, AreFields, Fields, IsAlgorithmOf, IsCmsAlgorithm, IsDigestAlgorithm, NamesSignature, fields_of}
 
 -- Whether NULL is there decides the fields.

@@ -4,7 +4,7 @@ use Rattle.certs_key.specs.bcder_tree.declared.mode.Mode.{Mode}
 use Rattle.certs_key.specs.bcder_content.Grammar.{End, Then}
 use Rattle.certs_key.specs.bcder_values.Forms.{written_again}
 use Rattle.certs_key.specs.bcder_primitive.Encoded.{SpellsSome}
-use Rattle.certs_basics.specs.Identifiers.{rsa_encryption}
+use Rattle.certs_key.specs.certs_basics.Identifiers.{rsa_encryption}
 use Rattle.certs_key.specs.Algorithms.{AreDigestAlgorithms, IsAlgorithmOf, IsCmsAlgorithm, IsDigestAlgorithm, algorithm_of, digest_algorithm, digest_algorithms, sha256}
 
 -- NULL stands after an identifier, and nothing after NULL.

@@ -1,2 +1,2 @@
 -- Lemmas of bcder_primitive, for the crates above.
-pub use Rattle.certs_basics.proofs.of_bcder_primitive.Primitives
+pub use Rattle.certs_name.proofs.of_bcder_primitive.Primitives

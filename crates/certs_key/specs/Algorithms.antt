@@ -8,8 +8,8 @@ use Rattle.certs_key.specs.bcder.Identifiers.{AreOctets}
 use Rattle.certs_key.specs.bcder_values.Forms.{Form, Forms, both, ended, last, mapped, wrapped}
 use Rattle.certs_key.specs.bcder_values.OptionalForms.{last_maybe}
 use Rattle.certs_key.specs.bcder.Kinds.{null, null_at, that_oid, that_oid_at}
-use Rattle.certs_basics.specs.Basics.{OptNull, has_null}
-use Rattle.certs_basics.specs.Identifiers.{rsa_encryption, sha256_with_rsa}
+use Rattle.certs_key.specs.certs_basics.Basics.{OptNull, has_null}
+use Rattle.certs_key.specs.certs_basics.Identifiers.{rsa_encryption, sha256_with_rsa}
 
 -- id-sha256, 2.16.840.1.101.3.4.2.1 (RFC 5754 2.2)
 abbrev pub sha256 : List ℕ

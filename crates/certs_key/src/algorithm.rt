@@ -15,7 +15,7 @@ pub mod oid;
 pub mod signature;
 
 pub use algorithm::{RpkiSignatureAlgorithm, SignatureAlgorithm};
-pub use certs_basics::{
+pub use certs_name::{
     BitString, Captured, ConstOid, Ia5String, Mode, OctetString, Oid, PrintableString,
     PublicKeyFormat, Tag, decode, encode, string,
 };

@@ -11,6 +11,10 @@ ghost use Rattle.certs_key.specs.Forms.{key};
 
 use crate::identifier::KeyIdentifier;
 use crate::key::PublicKey;
+pub use certs_name::laws::{
+    key_names_pass_inspection, name_equality, names_are_read_again, one_serial,
+    order_and_hash_agree_with_equality, serials_are_read_again,
+};
 use std::hash::Hash;
 
 /// Identifiers are equal where their octets are; order and hash agree with that.

@@ -14,3 +14,6 @@ pub mod of_bcder_number
 pub mod of_bcder_primitive
 pub mod of_bcder_tree
 pub mod of_bcder_values
+pub mod of_bcder_octets
+pub mod of_bcder_source
+pub mod of_certs_basics

@@ -1,2 +1,3 @@
 -- Lemmas of bcder, for the crates above.
 pub use Rattle.certs_basics.proofs.of_bcder.Ascii
+pub use Rattle.certs_basics.proofs.of_bcder.Read

@@ -11,3 +11,10 @@ pub use Rattle.certs_basics.proofs.of_bcder_content.Simple
 pub use Rattle.certs_basics.proofs.of_bcder_content.Taking
 pub use Rattle.certs_basics.proofs.of_bcder_content.Took
 pub use Rattle.certs_basics.proofs.of_bcder_content.Unique
+pub use Rattle.certs_basics.proofs.of_bcder_content.Choosing
+pub use Rattle.certs_basics.proofs.of_bcder_content.Fronts
+pub use Rattle.certs_basics.proofs.of_bcder_content.Keeping
+pub use Rattle.certs_basics.proofs.of_bcder_content.Kept
+pub use Rattle.certs_basics.proofs.of_bcder_content.Modes
+pub use Rattle.certs_basics.proofs.of_bcder_content.Tagged
+pub use Rattle.certs_basics.proofs.of_bcder_content.Within

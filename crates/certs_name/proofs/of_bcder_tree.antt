@@ -1,3 +1,5 @@
 -- Lemmas of bcder_tree, for the crates above.
 pub use Rattle.certs_basics.proofs.of_bcder_tree.Fronts
 pub use Rattle.certs_basics.proofs.of_bcder_tree.Trees
+pub use Rattle.certs_basics.proofs.of_bcder_tree.Canonical
+pub use Rattle.certs_basics.proofs.of_bcder_tree.Unique

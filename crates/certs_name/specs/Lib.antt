@@ -11,3 +11,5 @@ pub use Rattle.certs_basics.specs.bcder_primitive as bcder_primitive
 pub use Rattle.certs_basics.specs.bcder_source as bcder_source
 pub use Rattle.certs_basics.specs.bcder_tree as bcder_tree
 pub use Rattle.certs_basics.specs.bcder_values as bcder_values
+pub use Rattle.certs_basics.specs.bcder_octets as bcder_octets
+pub use Rattle.certs_basics.specs as certs_basics

@@ -21,6 +21,10 @@ mod serial_text;
 mod skim;
 mod whole;
 
+pub use certs_basics::{
+    BitString, Captured, ConstOid, Ia5String, Mode, OctetString, Oid, PrintableString,
+    PublicKeyFormat, Tag, decode, encode, string,
+};
 pub use error::InvalidName;
 pub use name::Name;
 pub use serial::Serial;

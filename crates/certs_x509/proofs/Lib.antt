@@ -16,3 +16,5 @@ pub mod of_bcder_values
 pub mod of_certs_basics
 pub mod of_certs_extension
 pub mod of_certs_key
+pub mod of_bcder
+pub mod of_bcder_octets

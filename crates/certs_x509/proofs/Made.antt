@@ -15,7 +15,7 @@ use Rattle.certs_x509.specs.bcder_values.Gathered.{ExtendRefused}
 use Rattle.certs_x509.specs.bcder_values.ListForms.{LawfulAll}
 use Rattle.certs_x509.specs.certs_basics.Forms.{WritesTime}
 use Rattle.certs_x509.proofs.of_certs_basics.Meanings.{one_written}
-use Rattle.certs_name.specs.Serials.{IsSerialContent}
+use Rattle.certs_x509.specs.certs_name.Serials.{IsSerialContent}
 use Rattle.certs_extension.specs.CrlText.{IsRevoked, RevokedValue}
 use Rattle.certs_x509.specs.EntryForms.{AreMoment, WritesMoment, entry, entry_list, same_parts}
 use Rattle.certs_x509.specs.Listed.{SpellsEntries, captured}

@@ -16,3 +16,5 @@ pub use Rattle.certs_basics.proofs.of_bcder_content.Taking
 pub use Rattle.certs_basics.proofs.of_bcder_content.Took
 pub use Rattle.certs_basics.proofs.of_bcder_content.Unique
 pub use Rattle.certs_key.proofs.of_bcder_content.Within
+pub use Rattle.bcder.proofs.of_bcder_content.Choosing
+pub use Rattle.bcder.proofs.of_bcder_content.Simple

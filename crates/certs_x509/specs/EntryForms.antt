@@ -13,7 +13,7 @@ use Rattle.certs_x509.specs.bcder_values.Forms.{Form, Forms, both, last, mapped,
 use Rattle.certs_x509.specs.bcder_values.ListForms.{items}
 use Rattle.certs_x509.specs.bcder_values.Plains.{plain_spelled, plain_one}
 use Rattle.certs_basics.proofs.Values.{serial_one}
-use Rattle.certs_name.specs.Serials.{IsSerialContent}
+use Rattle.certs_x509.specs.certs_name.Serials.{IsSerialContent}
 use Rattle.certs_x509.specs.certs_basics.Basics.{IsSerial}
 use Rattle.certs_x509.specs.certs_basics.Forms.{IsTime, WritesTime}
 use Rattle.certs_basics.proofs.Meanings.{one_written, time_one, written_time}

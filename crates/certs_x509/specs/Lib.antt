@@ -12,11 +12,11 @@ pub use Rattle.certs_extension.specs.bcder_content as bcder_content
 pub use Rattle.certs_extension.specs.bcder_number as bcder_number
 pub use Rattle.certs_extension.specs.bcder_octets as bcder_octets
 pub use Rattle.certs_extension.specs.bcder_primitive as bcder_primitive
-pub use Rattle.certs_name.specs.bcder_source as bcder_source
+pub use Rattle.certs_key.specs.bcder_source as bcder_source
 pub use Rattle.certs_extension.specs.bcder_tree as bcder_tree
-pub use Rattle.certs_name.specs.bcder_values as bcder_values
+pub use Rattle.certs_key.specs.bcder_values as bcder_values
 pub use Rattle.certs_extension.specs.certs_basics as certs_basics
 pub use Rattle.certs_extension.specs as certs_extension
 pub use Rattle.certs_key.specs as certs_key
-pub use Rattle.certs_name.specs as certs_name
+pub use Rattle.certs_key.specs.certs_name as certs_name
 pub use Rattle.certs_extension.specs.resources_chain as resources_chain

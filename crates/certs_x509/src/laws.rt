@@ -13,10 +13,8 @@ pub use certs_basics::uri::laws::{
     general_names_are_read, https_equality, lookup_key_of_uri, lookup_key_twice, rsync_equality,
 };
 pub use certs_key::laws::{
-    encoded_is_der, identifier_equality, key_equality, one_meaning as one_key,
-    what_is_written_is_read as keys_are_read_again,
-};
-pub use certs_name::laws::{
-    key_names_pass_inspection, name_equality, names_are_read_again, one_serial,
+    encoded_is_der, identifier_equality, key_equality, key_names_pass_inspection, name_equality,
+    names_are_read_again, one_meaning as one_key, one_serial,
     order_and_hash_agree_with_equality as serial_equality, serials_are_read_again,
+    what_is_written_is_read as keys_are_read_again,
 };

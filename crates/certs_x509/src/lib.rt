@@ -55,6 +55,7 @@ pub mod tal;
 pub mod time;
 pub mod uri;
 
+pub use certs_extension::forms;
 pub use crypto::{
     DigestAlgorithm, Digester, RpkiSignature, RpkiSignatureAlgorithm, Signature,
     SignatureAlgorithm, Signer, SigningError, Verifier,

@@ -1,3 +1,3 @@
 //! Names of issuers and subjects.
 
-pub use certs_name::{InvalidName, Name};
+pub use certs_key::{InvalidName, Name};

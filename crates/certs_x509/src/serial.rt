@@ -1,3 +1,3 @@
 //! Serial numbers of certificates, and the numbers of manifests and revocation lists.
 
-pub use certs_name::Serial;
+pub use certs_key::Serial;

@@ -46,6 +46,7 @@ pub mod tal;
 
 pub use aspa::Aspa;
 pub use manifest::Manifest;
+pub use objects_valid::kinds;
 pub use roa::Roa;
 pub use sigobj::SignedObject;
 pub use tal::Tal;

@@ -6,8 +6,8 @@ use Rattle.objects_built.specs.certs_basics.Basics.{IsTwentyLong}
 use Rattle.objects_built.specs.certs_basics.HandedIn.{Digests}
 use Rattle.objects_built.specs.certs_basics.Keys.{KeyValue}
 use Rattle.objects_built.specs.certs_extension.Cert.{CertValue, TbsValue}
-use Rattle.certs.specs.Laws.{IsLawful}
-use Rattle.certs.specs.Tbs.{WritesTbs}
+use Rattle.objects_built.specs.certs.Laws.{IsLawful}
+use Rattle.objects_built.specs.certs.Tbs.{WritesTbs}
 use Rattle.certs_cert.specs.Written.{WritesCert}
 use Rattle.objects_written.specs.Attributes.{IsMessage, WritesAttributes, to_sign}
 use Rattle.objects_built.specs.Builders.{AreFieldsOf, BuilderValue, IsBuilt, IsSigned, SignsAttributes, WritesObject}

@@ -8,8 +8,8 @@ use Rattle.objects_built.specs.certs_basics.Verdicts.{Verdicts}
 use Rattle.objects_built.specs.certs_extension.Cert.{SignedValue, TbsValue}
 use Rattle.objects_built.specs.certs_extension.CertText.{SpellsCert}
 use Rattle.objects_built.specs.objects_payload.ObjectText.{IsSignedMessage, ObjectText, Sound}
-use Rattle.certs.specs.Laws.{BuiltIsSpelled, IsReadable, as_read}
-use Rattle.certs.specs.Tbs.{WritesTbs}
+use Rattle.objects_built.specs.certs.Laws.{BuiltIsSpelled, IsReadable, as_read}
+use Rattle.objects_built.specs.certs.Tbs.{WritesTbs}
 use Rattle.objects_written.specs.Attributes.{ToSign, WritesAttributes, to_sign}
 use Rattle.objects_built.specs.Builders.{BuilderValue, IsBuilt, IsComplete, IsPadded, built_object}
 use Rattle.objects_written.proofs.FrameAgain.{parts_again}

@@ -4,7 +4,7 @@ use Rattle.objects_built.specs.bcder_tree.Tree.{Tree}
 use Rattle.objects_built.specs.bcder.Identifiers.{IsIdentifier}
 use Rattle.objects_built.specs.objects_payload.Contents.{ReadsAs}
 use Rattle.objects_built.specs.objects_payload.Identifiers as id
-use Rattle.certs.specs.Laws.{BuiltIsSpelled}
+use Rattle.objects_built.specs.certs.Laws.{BuiltIsSpelled}
 use Rattle.objects_built.specs.Builders.{KindIsRead}
 use Rattle.objects_built.proofs.BuiltAgain.{built_again}
 

@@ -14,10 +14,10 @@ use Rattle.objects_built.specs.certs_basics.HandedIn.{Digests}
 use Rattle.objects_built.specs.certs_basics.Keys.{KeyValue, identifier}
 use Rattle.objects_built.specs.certs_extension.declared.forms.KeyUsage.TheVariants.{Ee}
 use Rattle.objects_built.specs.certs_extension.Cert.{CertValue, TbsValue}
-use Rattle.certs.specs.Laws.{IsLawful, as_read}
+use Rattle.objects_built.specs.certs.Laws.{IsLawful, as_read}
 use Rattle.certs_cert.specs.Fresh.{IsSubjectFor}
 use Rattle.certs_cert.specs.Written.{WritesCert}
-use Rattle.certs.specs.Tbs.{WritesTbs}
+use Rattle.objects_built.specs.certs.Tbs.{WritesTbs}
 use Rattle.objects_written.specs.Attributes.{IsMessage, WritesAttributes, to_sign}
 use Rattle.objects_built.specs.objects_payload.ObjectText.{Object}
 use Rattle.objects_written.specs.Frames.{ObjectParts, object, object_with}

@@ -6,23 +6,23 @@ ghost use Rattle.objects_built.specs.certs_basics.Keys.{identifier};
 ghost use Rattle.objects_built.specs.certs_key.Digesting.{digests_of};
 ghost use Rattle.objects_built.specs.certs_extension.declared.forms.KeyUsage.TheVariants.{Ee};
 ghost use Rattle.objects_built.specs.resources_chain.declared.claims.Overclaim.TheVariants.{Refuse};
-ghost use Rattle.certs.specs.Laws.{IsLawful};
+ghost use Rattle.objects_built.specs.certs.Laws.{IsLawful};
 ghost use Rattle.certs_cert.specs.Fresh.{IsSubjectFor, fresh};
-ghost use Rattle.certs.specs.Tbs.{WritesTbs};
+ghost use Rattle.objects_built.specs.certs.Tbs.{WritesTbs};
 ghost use Rattle.objects_written.specs.Attributes.{WritesAttributes, to_sign};
 ghost use Rattle.objects_built.specs.Builders.{AreFieldsOf, IsBuilt, IsSigned, SignsAttributes, WritesObject, with_places, with_resources};
 
 use crate::builder::{Holdings, Names, Places, SignedObjectBuilder};
-use certs::again::fields_are_lawful;
-use certs::built::BuildCert;
-use certs::written::{Captured, EncodeError, Mode, Values};
 use certs_cert::{Cert, TbsCert};
 use certs_extension::{KeyUsage, Overclaim, Time, Validity};
 use certs_key::{
     Digester, KeyIdentifier, Name, PublicKey, RpkiSignature, RpkiSignatureAlgorithm, Serial,
     Signer, SigningError,
 };
+use objects_written::again::fields_are_lawful;
+use objects_written::built::BuildCert;
 use objects_written::frame::{ObjectValue, SignerValue, signed_attributes, signed_message};
+use objects_written::written::{Captured, EncodeError, Mode, Values};
 use std::alloc::{AllocError, Global};
 
 // Why nothing was signed, where something can't be written.

@@ -4,7 +4,7 @@ use Rattle.std.specs.Prelude.{IfErr, OnOk}
 use Rattle.bcder_tree.specs.declared.mode.Mode.TheVariants.{Ber, Der}
 use Rattle.bcder_tree.proofs.Canonical.{spelled_length}
 use Rattle.bcder_tree.proofs.Fronts.{length_bound}
-use Rattle.certs_x509.specs.declared.errors.verification.VerificationError.{VerificationError}
+use Rattle.objects_cms.specs.certs_x509.declared.errors.verification.VerificationError.{VerificationError}
 use Rattle.objects_cms.specs.certs_basics.HandedIn.{Digests}
 use Rattle.objects_cms.specs.certs_basics.Verdicts.{Verdicts}
 use Rattle.objects_cms.specs.certs_extension.Cert.{CertValue}

@@ -1,7 +1,7 @@
 -- What a signed object's signature says of its content, test by test, in their order (RFC 5652 5.4, 5.6; RFC 6488 3).
 use Rattle.std.specs.Prelude.{◌≡◌, ◌⊎◌, ◌+◌, ◌-◌, ◌^◌, ℕ, min, true, List, Result, Ok, Err}
-use Rattle.certs_x509.specs.declared.errors.verification.VerificationError.{VerificationError}
-use Rattle.certs_x509.specs.declared.errors.verification.VerificationError.TheVariants as error
+use Rattle.objects_cms.specs.certs_x509.declared.errors.verification.VerificationError.{VerificationError}
+use Rattle.objects_cms.specs.certs_x509.declared.errors.verification.VerificationError.TheVariants as error
 use Rattle.objects_cms.specs.certs_extension.Cert.{CertValue}
 use Rattle.objects_cms.specs.certs_basics.HandedIn.{Digests}
 use Rattle.objects_cms.specs.certs_basics.Verdicts.{Verdicts}

@@ -21,4 +21,4 @@ pub use Rattle.objects_payload.specs.certs_extension as certs_extension
 pub use Rattle.objects_payload.specs as objects_payload
 pub use Rattle.certs_key.specs.bcder_octets as bcder_octets
 pub use Rattle.certs_cert.specs.certs_key as certs_key
-pub use Rattle.certs_x509.specs as certs_x509
+pub use Rattle.certs_cert.specs.certs_x509 as certs_x509

@@ -12,6 +12,6 @@ mod content;
 pub mod laws;
 mod message;
 
-pub use certs_x509::errors::VerificationError;
+pub use certs_cert::errors::VerificationError;
 pub use content::verify_content;
 pub use message::signed_message;

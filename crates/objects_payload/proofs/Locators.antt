@@ -9,7 +9,7 @@ use Rattle.objects_payload.specs.bcder_tree.declared.mode.Mode.TheVariants.{Der}
 use Rattle.objects_payload.specs.certs_basics.Keys.{KeyValue, IsKey}
 use Rattle.objects_payload.specs.bcder_content.Texts.{ReadsFront}
 use Rattle.objects_payload.proofs.of_certs_basics.Values.{key_one}
-use Rattle.certs_extension.proofs.Values.{reads_one}
+use Rattle.objects_payload.proofs.of_certs_extension.Values.{reads_one}
 use Rattle.objects_payload.specs.Locators.{NoReturnAtEnd, EndsLine, AreLines, IsComment, letter, base64, is_dropped, LocatorText}
 
 -- Lines.

@@ -22,8 +22,8 @@ use Rattle.objects_payload.specs.certs_basics.Verdicts.{Verdicts, Within}
 use Rattle.objects_payload.proofs.of_bcder_content.Fronts.{OneFront, spells_one, order_one, none_one, octets_too_before, joins_one, wraps_one, in_front_one}
 use Rattle.objects_payload.proofs.of_bcder_content.Simple.{itself_one, unit_one}
 use Rattle.objects_payload.proofs.of_certs_basics.Values.{gathers_one, serial_one, opt_null_one, key_identifier_one, string_one}
-use Rattle.certs_extension.proofs.Values.{time_one, reads_one, same_some}
-use Rattle.certs_extension.proofs.Certs.{spelled_cert_one}
+use Rattle.objects_payload.proofs.of_certs_extension.Values.{time_one, reads_one, same_some}
+use Rattle.objects_payload.proofs.of_certs_extension.Certs.{spelled_cert_one}
 use Rattle.objects_payload.specs.Identifiers as id
 use Rattle.objects_payload.specs.SignedAttributes.{Attribute, AttributesValue, IsAttribute, IsOnce, those_of, AreSigned, AreAttributes}
 use Rattle.objects_payload.specs.ObjectText.{Object, SpellsSigner, SpellsSignedData, SpellsContentInfo, SpellsObject, ObjectFields, object_of, ObjectText, Sound}

@@ -4,7 +4,7 @@ use Rattle.objects_payload.specs.bcder_tree.Tags.{context}
 use Rattle.objects_payload.specs.bcder_tree.Tree.{Tree, Trees}
 use Rattle.objects_payload.specs.bcder_content.Grammar.{Inside, Then, Opt, End}
 use Rattle.objects_payload.specs.bcder_content.Texts.{ReadsFront}
-use Rattle.certs_extension.specs.CertText.{IsVersion as IsInteger}
+use Rattle.objects_payload.specs.certs_extension.CertText.{IsVersion as IsInteger}
 use Rattle.objects_payload.specs.ObjectText.{Object, ObjectText}
 
 -- [0] EXPLICIT INTEGER of that value

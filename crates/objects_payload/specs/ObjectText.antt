@@ -13,8 +13,8 @@ use Rattle.objects_payload.specs.bcder_content.Texts.{SpellsOf, InOrder, WithOct
 use Rattle.objects_payload.specs.certs_basics.HandedIn.{Digests}
 use Rattle.objects_payload.specs.certs_basics.Verdicts.{Verdicts}
 use Rattle.objects_payload.specs.certs_basics.Basics.{IsKeyIdentifier}
-use Rattle.certs_extension.specs.Cert.{CertValue}
-use Rattle.certs_extension.specs.CertText.{SpellsCert}
+use Rattle.objects_payload.specs.certs_extension.Cert.{CertValue}
+use Rattle.objects_payload.specs.certs_extension.CertText.{SpellsCert}
 use Rattle.objects_payload.specs.SignedAttributes.{AttributesValue, AreAttributes}
 use Rattle.objects_payload.specs.Identifiers as id
 

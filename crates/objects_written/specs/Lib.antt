@@ -19,3 +19,4 @@ pub use Rattle.objects_payload.specs.resources_asn as resources_asn
 pub use Rattle.objects_payload.specs.resources_ip_prefix as resources_ip_prefix
 pub use Rattle.certs.specs.certs_key as certs_key
 pub use Rattle.objects_payload.specs.certs_extension as certs_extension
+pub use Rattle.certs.specs as certs

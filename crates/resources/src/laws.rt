@@ -13,5 +13,5 @@ pub use crate::set::laws as set;
 pub use resources_as::laws as asres;
 pub use resources_as::policy::laws as policy;
 pub use resources_chain::laws as chain;
+pub use resources_ip::ip_addr::laws as addr;
 pub use resources_ip::laws as ipres;
-pub use resources_ip_prefix::ip_addr::laws as addr;

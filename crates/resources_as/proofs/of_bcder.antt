@@ -1,2 +1,2 @@
 -- Lemmas of bcder, for the crates above.
-pub use Rattle.bcder.proofs.Written
+pub use Rattle.resources_asn.proofs.of_bcder.Written

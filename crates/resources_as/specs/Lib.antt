@@ -5,7 +5,7 @@ pub mod Meanings
 pub mod Texts
 pub mod Written
 -- What stands below, for the crates above.
-pub use Rattle.bcder.specs as bcder
+pub use Rattle.resources_asn.specs.bcder as bcder
 pub use Rattle.resources_asn.specs.bcder_content as bcder_content
 pub use Rattle.resources_asn.specs.bcder_primitive as bcder_primitive
 pub use Rattle.resources_asn.specs.bcder_source as bcder_source

@@ -16,3 +16,4 @@ pub mod of_bcder_source
 pub mod of_bcder_tree
 pub mod of_resources_chain
 pub mod of_resources_ip_prefix
+pub mod of_bcder

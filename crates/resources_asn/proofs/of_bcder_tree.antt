@@ -1,2 +1,2 @@
 -- Lemmas of bcder_tree, for the crates above.
-pub use Rattle.bcder.proofs.of_bcder_tree.Trees
+pub use Rattle.resources_ip_prefix.proofs.of_bcder_tree.Trees

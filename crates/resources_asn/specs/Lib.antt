@@ -14,10 +14,11 @@ pub mod Texts
 pub mod Encodings
 pub mod Origins
 -- What stands below, for the crates above.
-pub use Rattle.bcder.specs.bcder_content as bcder_content
-pub use Rattle.bcder.specs.bcder_primitive as bcder_primitive
-pub use Rattle.bcder.specs.bcder_source as bcder_source
-pub use Rattle.bcder.specs.bcder_tree as bcder_tree
-pub use Rattle.bcder.specs.bcder_values as bcder_values
+pub use Rattle.resources_ip_prefix.specs.bcder_content as bcder_content
+pub use Rattle.resources_ip_prefix.specs.bcder_primitive as bcder_primitive
+pub use Rattle.resources_ip_prefix.specs.bcder_source as bcder_source
+pub use Rattle.resources_ip_prefix.specs.bcder_tree as bcder_tree
+pub use Rattle.resources_ip_prefix.specs.bcder_values as bcder_values
 pub use Rattle.resources_chain.specs as resources_chain
 pub use Rattle.resources_ip_prefix.specs as resources_ip_prefix
+pub use Rattle.resources_ip_prefix.specs.bcder as bcder

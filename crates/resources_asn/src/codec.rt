@@ -1,2 +1,2 @@
 //! What the codec has for readers and writers of resources, by the codec's own names.
-pub use bcder::{Mode, Tag, decode, encode};
+pub use resources_ip_prefix::codec::{Mode, Tag, decode, encode};

@@ -10,9 +10,9 @@ ghost use Rattle.resources_asn.specs.bcder_primitive.Integers.{WritesUnsigned, o
 ghost use Rattle.resources_asn.specs.Encodings.{IsAsId, IsAnyAsId};
 
 use crate::asn::Asn;
-use bcder::decode::{Constructed, DecodeError, Source};
-use bcder::encode::{EncodeError, PrimitiveContent};
-use bcder::{Mode, Tag};
+use crate::codec::decode::{Constructed, DecodeError, Source};
+use crate::codec::encode::{EncodeError, PrimitiveContent};
+use crate::codec::{Mode, Tag};
 use std::io::Write;
 
 /// Reading. A number over 32 bits is refused.

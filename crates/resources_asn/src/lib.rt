@@ -11,8 +11,9 @@ mod selection;
 pub mod small_set;
 
 pub use asn::{Asn, ParseAsnError};
-pub use bcder::{Captured, Mode, Tag, decode, encode};
 pub use origin::Origin;
+pub use resources_ip_prefix::codec::{Mode, Tag, decode, encode};
+pub use resources_ip_prefix::{Captured, ConstOid, Oid};
 pub use small_set::{
     SmallAsnSet, SmallSetDifference, SmallSetIntersection, SmallSetIter,
     SmallSetSymmetricDifference, SmallSetUnion,

@@ -135,7 +135,7 @@ impl IpBlocks {
     }
 
     /// Whether all addresses of the prefix are in the set, which is one of the prefix's family.
-    pub fn contains_addr_prefix(&self, prefix: resources_ip_prefix::ip_addr::Prefix) -> bool
+    pub fn contains_addr_prefix(&self, prefix: resources_ip_block::ip_addr::Prefix) -> bool
         ensures { IsTrue result ↔ ((n : ℕ) → InRun (wide_run prefix) n → InRuns self.now n) }
     {
         self.contains_block(&IpBlock::from_addr_prefix(prefix))

@@ -17,6 +17,6 @@ pub use listed::IpBlocksForFamily;
 pub use resources::{InheritedIpResources, IpFamilies, IpResources, IpResourcesBuilder};
 pub use resources_ip_block::{
     Addr, AddressFamily, AddressRange, DisplayV4Block, DisplayV6Block, FromStrError, IpBlock,
-    IpBlockEncoder, Prefix, RangeEncoder, RangePrefixes, addr, block, codec, cover, error, prefix,
-    range,
+    IpBlockEncoder, Prefix, RangeEncoder, RangePrefixes, addr, block, codec, cover, error, ip_addr,
+    prefix, range,
 };

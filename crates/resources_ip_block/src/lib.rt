@@ -14,6 +14,6 @@ pub use cover::RangePrefixes;
 pub use encode::{IpBlockEncoder, RangeEncoder};
 pub use range::AddressRange;
 pub use resources_ip_prefix::{
-    Addr, AddressFamily, FromStrError, Prefix, addr, codec, error, prefix,
+    Addr, AddressFamily, FromStrError, Prefix, addr, codec, error, ip_addr, prefix,
 };
 pub use text::{DisplayV4Block, DisplayV6Block};

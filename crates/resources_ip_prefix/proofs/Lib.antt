@@ -19,3 +19,6 @@ pub mod of_bcder_content
 pub mod of_bcder_octets
 pub mod of_bcder_primitive
 pub mod of_resources_chain
+pub mod of_bcder
+pub mod of_bcder_source
+pub mod of_bcder_tree

@@ -9,3 +9,9 @@ pub use Rattle.bcder.proofs.of_bcder_content.Taking
 pub use Rattle.bcder.proofs.of_bcder_content.Took
 pub use Rattle.bcder.proofs.of_bcder_content.Unique
 pub use Rattle.bcder.proofs.of_bcder_content.Within
+pub use Rattle.bcder.proofs.of_bcder_content.Choosing
+pub use Rattle.bcder.proofs.of_bcder_content.Decoding
+pub use Rattle.bcder.proofs.of_bcder_content.Gathering
+pub use Rattle.bcder.proofs.of_bcder_content.InMode
+pub use Rattle.bcder.proofs.of_bcder_content.Kept
+pub use Rattle.bcder.proofs.of_bcder_content.Simple

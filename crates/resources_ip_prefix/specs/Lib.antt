@@ -28,3 +28,4 @@ pub use Rattle.bcder.specs.bcder_source as bcder_source
 pub use Rattle.bcder.specs.bcder_tree as bcder_tree
 pub use Rattle.bcder.specs.bcder_values as bcder_values
 pub use Rattle.resources_chain.specs as resources_chain
+pub use Rattle.bcder.specs as bcder

@@ -14,5 +14,6 @@ pub mod prefix;
 mod text;
 
 pub use addr::{Addr, AddressFamily};
+pub use bcder::{Captured, ConstOid, Oid};
 pub use error::FromStrError;
 pub use prefix::Prefix;

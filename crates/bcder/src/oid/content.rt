@@ -8,13 +8,13 @@ ghost use Rattle.bcder.specs.bcder_content.Exact.{ReadsAs, ReadsOptAs};
 ghost use Rattle.bcder.specs.bcder_content.Grammar.{OctetsOf};
 ghost use Rattle.bcder.specs.bcder_content.Here.{here};
 ghost use Rattle.bcder.specs.bcder_content.Memory.{OnMemory};
-ghost use Rattle.bcder_values.specs.bcder_content.Ahead.{HasOctets, HasNext};
+ghost use Rattle.bcder.specs.bcder_content.Ahead.{HasOctets, HasNext};
 ghost use Rattle.bcder.specs.Identifiers.{IsIdentifier, IsOid, IsAnyOid, AreOctets};
 
 use crate::oid::oid::Oid;
-use bcder_values::bcder_content::whole::{front, pass, refuse, request_all, take_front};
-use bcder_values::bcder_content::{Constructed, Primitive};
-use bcder_values::bcder_source::{DecodeError, Source, Tag};
+use bcder_octets::bcder_content::whole::{front, pass, refuse, request_all, take_front};
+use bcder_octets::bcder_content::{Constructed, Primitive};
+use bcder_octets::bcder_source::{DecodeError, Source, Tag};
 use bytes::Bytes;
 use std::alloc::Global;
 use std::convert::AsSlice;

@@ -6,8 +6,8 @@ ghost use Rattle.bcder.specs.bcder_primitive.Values.{AnyOctets};
 ghost use Rattle.bcder.specs.bcder_primitive.Simple.{one_string};
 
 use crate::oid::oid::Oid;
-use bcder_values::bcder_tree::{Mode, Tag};
-use bcder_values::{EncodeError, Octets, PrimitiveContent};
+use bcder_octets::bcder_tree::{Mode, Tag};
+use bcder_octets::{EncodeError, Octets, PrimitiveContent};
 use std::convert::AsSlice;
 use std::io::Write;
 

@@ -4,7 +4,7 @@ ghost use Rattle.bcder.specs.bcder_tree.Tags.{TagValue, IsTag};
 ghost use Rattle.bcder.specs.Texts.{Tells, IsText, Starts, NoStart, HasOneStart};
 
 use crate::string::CharSetError;
-use bcder_values::bcder_source::Tag;
+use bcder_octets::bcder_source::Tag;
 
 /// A set of characters, and how octets spell them (X.680 clause 41, X.690 8.23).
 ///

@@ -5,8 +5,8 @@ ghost use Rattle.bcder.specs.bcder_tree.Tags.{IsTag};
 
 use crate::string::CharSet;
 use crate::string::string::RestrictedString;
+use bcder_octets::bcder_source::Tag;
 use bcder_octets::{OctetSliceEncoder, OctetString, OctetStringEncoder};
-use bcder_values::bcder_source::Tag;
 
 /// Strings that are written, as octet strings are with another tag (X.690 8.23).
 impl<L: CharSet> RestrictedString<L> {

@@ -16,10 +16,10 @@ ghost use Rattle.bcder.specs.Restricted.{IsRestricted, IsWholeText, WantsText, W
 use crate::string::CharSet;
 use crate::string::string::{RestrictedString, octets_of};
 use bcder_octets::OctetString;
-use bcder_values::bcder_content::content::Content;
-use bcder_values::bcder_content::whole::{front, refuse, request_all, take_front};
-use bcder_values::bcder_content::{Constructed, Primitive};
-use bcder_values::bcder_source::{ContentError, DecodeError, Source};
+use bcder_octets::bcder_content::content::Content;
+use bcder_octets::bcder_content::whole::{front, refuse, request_all, take_front};
+use bcder_octets::bcder_content::{Constructed, Primitive};
+use bcder_octets::bcder_source::{ContentError, DecodeError, Source};
 use std::alloc::Global;
 
 // Whether octets are a text of the set.

@@ -8,7 +8,7 @@ ghost use Rattle.bcder.specs.Sets.{IsUnicode, IsNumeric, IsPrintable, IsIa5, alo
 use crate::string::octet_set::{OctetSet, next_of, text_of};
 use crate::string::utf8::first_char;
 use crate::string::{CharSet, CharSetError};
-use bcder_values::bcder_source::Tag;
+use bcder_octets::bcder_source::Tag;
 
 /// The characters of a UTF8String, in UTF-8 (X.680 41.16, X.690 8.23.10, RFC 3629).
 #[derive(Clone, Copy, Debug, PartialEq, Eq)]

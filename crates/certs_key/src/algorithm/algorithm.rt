@@ -10,13 +10,13 @@ ghost use Rattle.certs_key.specs.bcder_content.Exact.{ReadsAs};
 ghost use Rattle.certs_key.specs.bcder_content.Here.{here};
 ghost use Rattle.certs_key.specs.bcder_content.InMode.{ReadsFields};
 ghost use Rattle.certs_key.specs.Algorithms.{AlgorithmValue, AreCmsFields, AreFields, IsCmsAlgorithm, NamesSignature, fields_of};
-ghost use Rattle.certs_basics.specs.Basics.{IsAlgorithm};
-ghost use Rattle.certs_basics.specs.Identifiers.{rsa_encryption, sha256_with_rsa};
+ghost use Rattle.certs_key.specs.certs_basics.Basics.{IsAlgorithm};
+ghost use Rattle.certs_key.specs.certs_basics.Identifiers.{rsa_encryption, sha256_with_rsa};
 
 use crate::algorithm::identifier::AlgorithmIdentifier;
 use crate::algorithm::oid::{RSA_ENCRYPTION, SHA256_WITH_RSA_ENCRYPTION};
-use certs_basics::decode::{Constructed, ContentError, DecodeError, Primitive, Source};
-use certs_basics::{ConstOid, Tag};
+use certs_name::decode::{Constructed, ContentError, DecodeError, Primitive, Source};
+use certs_name::{ConstOid, Tag};
 use std::marker::Model;
 
 /// An algorithm by which certificates and lists are signed.

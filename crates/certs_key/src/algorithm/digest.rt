@@ -11,8 +11,8 @@ ghost use Rattle.certs_key.specs.Algorithms.{AreDigestAlgorithms, AreFields, IsD
 
 use crate::algorithm::identifier::AlgorithmIdentifier;
 use crate::algorithm::oid::SHA256;
-use certs_basics::decode::{Constructed, DecodeError, Source};
-use certs_basics::{Tag, encode};
+use certs_name::decode::{Constructed, DecodeError, Source};
+use certs_name::{Tag, encode};
 
 /// The algorithm of digests in RPKI, which is SHA-256.
 #[derive(Clone, Copy, Debug, Default, PartialEq, Eq, Hash)]

@@ -4,8 +4,8 @@ ghost use Rattle.std.specs.Prelude.{◌≡◌};
 ghost use Rattle.certs_key.specs.bcder_tree.Tags.{null_tag, oid_tag, sequence_tag};
 ghost use Rattle.certs_key.specs.Algorithms.{lends_bare, lends_null};
 
-use certs_basics::encode::{self, EncodeError, PrimitiveContent, Values};
-use certs_basics::{ConstOid, Mode, Tag};
+use certs_name::encode::{self, EncodeError, PrimitiveContent, Values};
+use certs_name::{ConstOid, Mode, Tag};
 use std::io::Write;
 use std::marker::Model;
 

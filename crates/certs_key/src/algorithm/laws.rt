@@ -4,8 +4,8 @@ ghost use Rattle.std.specs.Prelude.{ℕ, Bool, List, true};
 ghost use Rattle.certs_key.specs.bcder_tree.declared.mode.Mode.{Mode as ModeValue};
 ghost use Rattle.certs_key.specs.bcder_content.Grammar.{End, One, Then};
 ghost use Rattle.certs_key.specs.bcder_values.Returns.{ReadAgain};
-ghost use Rattle.certs_basics.specs.Basics.{IsAlgorithm};
-ghost use Rattle.certs_basics.specs.Identifiers.{rsa_encryption};
+ghost use Rattle.certs_key.specs.certs_basics.Basics.{IsAlgorithm};
+ghost use Rattle.certs_key.specs.certs_basics.Identifiers.{rsa_encryption};
 ghost use Rattle.certs_key.specs.Algorithms.{IsCmsAlgorithm, IsDigestAlgorithm, AreDigestAlgorithms, algorithm_of, digest_algorithm, digest_algorithms, x509_algorithm};
 
 /// A value names one algorithm at most.

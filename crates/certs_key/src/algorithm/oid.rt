@@ -1,6 +1,6 @@
 //! The object identifiers of algorithms.
 
-use certs_basics::{ConstOid, Oid};
+use certs_name::{ConstOid, Oid};
 
 /// rsaEncryption, 1.2.840.113549.1.1.1 (RFC 8017 A.1).
 pub const RSA_ENCRYPTION: ConstOid = Oid(&[42, 134, 72, 134, 247, 13, 1, 1, 1]);

@@ -4,7 +4,7 @@ ghost use Rattle.std.specs.Prelude.{◌≡◌, IfOk};
 
 use crate::algorithm::algorithm::RpkiSignatureAlgorithm;
 use bytes::Bytes;
-use certs_basics::BitString;
+use certs_name::BitString;
 use std::alloc::AllocError;
 use std::marker::Model;
 

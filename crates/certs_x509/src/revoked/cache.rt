@@ -8,7 +8,7 @@ ghost use Rattle.std.specs.Ordering.{nat_cmp};
 
 use crate::revoked::revoked::RevokedCertificates;
 use certs_extension::forms::{Row, halve};
-use certs_name::Serial;
+use certs_key::Serial;
 use std::alloc::{AllocError, Global};
 use std::cmp::Ordering;
 use std::marker::Model;

@@ -15,7 +15,7 @@ use bcder::decode::{Constructed, DecodeError, Source};
 use bcder::{Tag, encode};
 use certs_basics::time::Time;
 use certs_basics::time::text::VariedTime;
-use certs_name::Serial;
+use certs_key::Serial;
 use std::marker::Model;
 
 /// A certificate that was revoked: its serial number, and when that was. Contracts see both.

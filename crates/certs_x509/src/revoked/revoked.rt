@@ -22,7 +22,7 @@ use crate::revoked::written::AsEntries;
 use bcder::decode::{Constructed, Decode, DecodeError, Source};
 use bcder::encode::{EncodeError, Values, slice};
 use bcder::{Captured, Mode, Tag, encode};
-use certs_name::Serial;
+use certs_key::Serial;
 use std::alloc::{AllocError, Global};
 use std::marker::Model;
 

@@ -9,7 +9,7 @@ ghost use Rattle.certs_x509.specs.Listed.{EntriesLeft, SpellsEntries, has_serial
 use crate::revoked::entry::CrlEntry;
 use bcder::Mode;
 use bcder::decode::{Constructed, Decode, DecodeError, SliceSource};
-use certs_name::Serial;
+use certs_key::Serial;
 use std::alloc::{AllocError, Global};
 use std::convert::Infallible;
 

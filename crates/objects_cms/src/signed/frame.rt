@@ -15,8 +15,7 @@ use crate::signed::content::{Typed, take_content_info};
 use crate::signed::kept::KeptCert;
 use crate::signed::signer::SignerInfo;
 use certs_cert::decode::{Constructed, DecodeError, Source};
-use certs_cert::{ConstOid, DigestAlgorithm, Oid, Tag};
-use certs_extension::claims::beside;
+use certs_cert::{ConstOid, DigestAlgorithm, Oid, Tag, beside};
 use std::alloc::Global;
 
 // id-signedData, 1.2.840.113549.1.7.2 (RFC 5652 5.1).

@@ -15,8 +15,9 @@ ghost use Rattle.objects_cms.specs.Signer.{AreKeptOctets, AreSigner, AreSignerOc
 
 use crate::attributes::SignedAttrs;
 use certs_cert::decode::{Constructed, DecodeError, Source};
-use certs_cert::{DigestAlgorithm, KeyIdentifier, OctetString, RpkiSignatureAlgorithm, Tag};
-use certs_extension::claims::beside;
+use certs_cert::{
+    DigestAlgorithm, KeyIdentifier, OctetString, RpkiSignatureAlgorithm, Tag, beside,
+};
 use std::alloc::Global;
 use std::marker::Model;
 

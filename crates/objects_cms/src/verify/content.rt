@@ -2,14 +2,14 @@
 
 ghost use Rattle.std.specs.Prelude.{◌≡◌, ◌≢◌, ◌↔◌, ℕ, List, IfErr, IsTrue, OnOk};
 ghost use Rattle.objects_cms.specs.certs_key.Digesting.{digests_of};
-ghost use Rattle.certs_x509.specs.declared.errors.verification.VerificationError.TheVariants.{BadSignature};
+ghost use Rattle.objects_cms.specs.certs_x509.declared.errors.verification.VerificationError.TheVariants.{BadSignature};
 ghost use Rattle.objects_cms.specs.objects_payload.ObjectText.{IsNotAfter};
 ghost use Rattle.objects_cms.specs.Content.{AsksOnce, FailsSignature, IsSigned, VerifiesContent, object_with};
 
 use crate::signed::{Cert, Digester, SignerInfo, Verifier};
 use crate::verify::message::signed_message;
-use certs_x509::errors::{Time, VerificationError};
-use certs_x509::signed::OctetString;
+use certs_cert::errors::{Time, VerificationError};
+use certs_cert::signed::OctetString;
 use std::alloc::Global;
 
 // Whether a digest is the SHA-256 digest of a content.

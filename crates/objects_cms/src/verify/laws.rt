@@ -1,8 +1,8 @@
 //! Laws of sound objects: the contracts of functions that do nothing.
 
 ghost use Rattle.std.specs.Prelude.{◌≡◌, ◌≢◌, ℕ, List};
-ghost use Rattle.certs_x509.specs.declared.errors.verification.VerificationError.{VerificationError as Error};
-ghost use Rattle.certs_x509.specs.declared.errors.verification.VerificationError.TheVariants.{Memory};
+ghost use Rattle.objects_cms.specs.certs_x509.declared.errors.verification.VerificationError.{VerificationError as Error};
+ghost use Rattle.objects_cms.specs.certs_x509.declared.errors.verification.VerificationError.TheVariants.{Memory};
 ghost use Rattle.objects_cms.specs.certs_basics.HandedIn.{Digests};
 ghost use Rattle.objects_cms.specs.certs_basics.Verdicts.{Verdicts};
 ghost use Rattle.objects_cms.specs.objects_payload.ObjectText.{IsSignedMessage, Object, Signer as SignerValue, Sound};

@@ -4,7 +4,7 @@ ghost use Rattle.std.specs.Prelude.{◌≡◌, MatchOption};
 ghost use Rattle.resources_chain.specs.declared.claims.Overclaim.{Overclaim as Policy};
 ghost use Rattle.resources_as.specs.Identifiers.{policy_octets, ip_octets, as_octets};
 
-use bcder::{ConstOid, Oid};
+use resources_asn::{ConstOid, Oid};
 use resources_chain::Overclaim;
 use std::convert::AsSlice;
 

@@ -1,5 +1,5 @@
 use Rattle.bcder_values.proofs.Wrapping.{open_of}
-use Rattle.bcder_primitive.proofs.Pieces.{refused_as, stopped, wrote_as, wrote_both, wrote_that, front_as, front_first, front_second}
+use Rattle.bcder_values.proofs.of_bcder_primitive.Pieces.{refused_as, stopped, wrote_as, wrote_both, wrote_that, front_as, front_first, front_second}
 use Rattle.bcder_values.proofs.frame.put_open.Goals as goal
 use Rattle.std.proofs.Common.{◌∷◌, [], refl}
 use Rattle.std.proofs.lemmas.Result.{on_ok_weaker}

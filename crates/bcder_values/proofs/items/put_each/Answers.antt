@@ -1,6 +1,6 @@
 use Rattle.bcder_values.proofs.Known.{known_as, known_first, known_second}
 use Rattle.bcder_values.proofs.Lists.{all_split, all_joined, wrote_one_more}
-use Rattle.bcder_primitive.proofs.Pieces.{stopped, front_as, front_first, front_second}
+use Rattle.bcder_values.proofs.of_bcder_primitive.Pieces.{stopped, front_as, front_first, front_second}
 use Rattle.bcder_values.specs.Lists.{WritesAll}
 use Rattle.bcder_values.specs.Writable.{Writable}
 use Rattle.bcder_values.proofs.items.put_each.Goals as goal

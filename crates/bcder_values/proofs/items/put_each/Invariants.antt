@@ -1,5 +1,5 @@
 use Rattle.bcder_values.specs.Lists.{WritesAll}
-use Rattle.bcder_primitive.specs.Writing.{Wrote}
+use Rattle.bcder_values.specs.bcder_primitive.Writing.{Wrote}
 use Rattle.bcder_values.proofs.items.put_each.Given as goal
 use Rattle.std.proofs.Common.{◌≡◌, List, ◌++◌, length}
 

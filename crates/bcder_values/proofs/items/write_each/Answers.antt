@@ -1,4 +1,4 @@
-use Rattle.bcder_primitive.proofs.Compose.{writer_refused}
+use Rattle.bcder_values.proofs.of_bcder_primitive.Compose.{writer_refused}
 use Rattle.bcder_values.proofs.Known.{known}
 use Rattle.bcder_values.proofs.items.write_each.Goals as goal
 use Rattle.std.proofs.Common.{refl, arith}

@@ -1,7 +1,7 @@
 use Rattle.bcder_values.proofs.Lists.{has_one_more, one_cannot, front_too_many}
-use Rattle.bcder_primitive.proofs.Pieces.{stopped}
+use Rattle.bcder_values.proofs.of_bcder_primitive.Pieces.{stopped}
 use Rattle.bcder_values.specs.Lists.{all_one}
-use Rattle.bcder_primitive.specs.Writing.{HasLength}
+use Rattle.bcder_values.specs.bcder_primitive.Writing.{HasLength}
 use Rattle.bcder_values.proofs.walk.len_of_walk.Goals as goal
 use Rattle.std.proofs.Common.{◌≡◌, ◌+◌, ◌++◌, ◌∷◌, [], ◌∙◌, refl, sym, ap, append_assoc, subst, arith}
 use Rattle.std.proofs.lemmas.Grind.{common_steps}

@@ -1,5 +1,5 @@
 use Rattle.bcder_values.specs.Lists.{WritesAll}
-use Rattle.bcder_primitive.specs.Writing.{HasLength}
+use Rattle.bcder_values.specs.bcder_primitive.Writing.{HasLength}
 use Rattle.bcder_values.proofs.walk.len_of_walk.Given as goal
 use Rattle.std.proofs.Common.{◌≡◌, List, ◌++◌, length}
 

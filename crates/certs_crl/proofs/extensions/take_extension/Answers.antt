@@ -3,7 +3,7 @@ use Rattle.certs_crl.specs.bcder_content.Exact.{LacksTagged}
 use Rattle.certs_crl.proofs.of_bcder_content.Choices.{such_lacks}
 use Rattle.certs_crl.proofs.of_bcder_content.Forests.{absent, there, unlike_lacks}
 use Rattle.certs_crl.proofs.of_bcder_content.Taking.{on_content, weaker}
-use Rattle.certs_extension.specs.Raw.{extension_value}
+use Rattle.certs_crl.specs.certs_extension.Raw.{extension_value}
 use Rattle.certs_x509.specs.certs_extension.Extensions.{IsExtension}
 use Rattle.certs_crl.proofs.Pairs.{extension_tagged, told_refused, unknown_lacks}
 use Rattle.certs_crl.proofs.extensions.take_extension.Goals as goal

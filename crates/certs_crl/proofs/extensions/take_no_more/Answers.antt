@@ -2,7 +2,7 @@ use Rattle.certs_crl.specs.bcder_tree.Tags.{sequence_tag}
 use Rattle.certs_crl.specs.bcder_content.Exact.{LacksTagged}
 use Rattle.certs_crl.proofs.of_bcder_content.Forests.{absent, there}
 use Rattle.certs_crl.proofs.of_bcder_content.Taking.{on_content, weaker}
-use Rattle.certs_extension.specs.Raw.{extension_value}
+use Rattle.certs_crl.specs.certs_extension.Raw.{extension_value}
 use Rattle.certs_x509.specs.certs_extension.Extensions.{IsExtension}
 use Rattle.certs_crl.proofs.Pairs.{goes_on, no_more, some_more, told_refused}
 use Rattle.certs_crl.proofs.extensions.take_no_more.Goals as goal

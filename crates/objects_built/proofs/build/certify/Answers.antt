@@ -1,5 +1,5 @@
 use Rattle.objects_built.specs.certs_extension.Cert.{TbsValue}
-use Rattle.certs.specs.Laws.{IsLawful}
+use Rattle.objects_built.specs.certs.Laws.{IsLawful}
 use Rattle.objects_built.specs.Builders.{AreFieldsOf}
 use Rattle.objects_built.proofs.Building.{cert_algorithm, cert_has, cert_message}
 use Rattle.objects_built.proofs.build.certify.Goals as goal

@@ -1,5 +1,5 @@
 use Rattle.std.proofs.Common.{Bool}
-use Rattle.certs.specs.certs_key.Algorithms.{SignatureValue}
+use Rattle.certs_key.specs.Algorithms.{SignatureValue}
 use Rattle.objects_built.specs.certs_basics.Keys.{KeyValue}
 use Rattle.objects_built.proofs.Building.{once_told}
 use Rattle.objects_built.proofs.build.sign.Goals as goal

@@ -2,7 +2,7 @@ use Rattle.std.proofs.Common.{◌≡◌, true, false, sym, ◌∙◌}
 use Rattle.bcder.specs.bcder_primitive.Plain.{plain}
 use Rattle.bcder.proofs.of_bcder_primitive.Primitives.{through, weaker, refused_whole}
 use Rattle.bcder.specs.Identifiers.{AreOctets}
-use Rattle.bcder_values.proofs.of_bcder_content.Wholes.{gives_front, lacks_any}
+use Rattle.bcder.proofs.of_bcder_content.Wholes.{gives_front, lacks_any}
 use Rattle.bcder.proofs.oid.content.skip_octets.Goals as goal
 
 pub returns-in_err-count-clause-reads : goal.returns-in_err-count-clause-reads

@@ -1,6 +1,6 @@
 use Rattle.std.proofs.Common.{ℕ, ◌≤◌, subst}
 use Rattle.bcder_content.specs.Kept.{CapturedValue}
-use Rattle.bcder_primitive.specs.Writing.{HasLength}
+use Rattle.bcder_values.specs.bcder_primitive.Writing.{HasLength}
 use Rattle.bcder_values.proofs.Gathering.{more_values, fill_wants}
 use Rattle.bcder_values.proofs.captured.CapturedBuilder.extend.Goals as goal
 

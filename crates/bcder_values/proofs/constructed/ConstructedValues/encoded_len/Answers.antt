@@ -1,5 +1,5 @@
-use Rattle.bcder_primitive.specs.Writing.{HasLength}
-use Rattle.bcder_primitive.proofs.Compose.{has_both}
+use Rattle.bcder_values.specs.bcder_primitive.Writing.{HasLength}
+use Rattle.bcder_values.proofs.of_bcder_primitive.Compose.{has_both}
 use Rattle.bcder_values.proofs.Wrapping.{wrapped, all_long, has_as}
 use Rattle.bcder_values.proofs.constructed.ConstructedValues.encoded_len.Goals as goal
 use Rattle.std.proofs.Common.{◌≡◌, ◌+◌, arith, sym, subst}

@@ -1,6 +1,6 @@
-use Rattle.bcder_primitive.proofs.Compose.{writer_refused, has_both}
+use Rattle.bcder_values.proofs.of_bcder_primitive.Compose.{writer_refused, has_both}
 use Rattle.bcder_values.proofs.Known.{known}
-use Rattle.bcder_primitive.proofs.Pieces.{stopped, wrote_as, wrote_both, front_as, front_first, front_second}
+use Rattle.bcder_values.proofs.of_bcder_primitive.Pieces.{stopped, wrote_as, wrote_both, front_as, front_first, front_second}
 use Rattle.bcder_values.proofs.Wrapping.{wrapped, all_long, closing_of}
 use Rattle.bcder_values.proofs.constructed.ConstructedValues.write_encoded.Goals as goal
 use Rattle.std.proofs.Common.{arith}

@@ -1,4 +1,4 @@
-use Rattle.bcder_primitive.proofs.Compose.{has_both}
+use Rattle.bcder_values.proofs.of_bcder_primitive.Compose.{has_both}
 use Rattle.bcder_values.proofs.Wrapping.{plain, all_long, has_as}
 use Rattle.bcder_values.proofs.plain.PrimitiveValues.encoded_len.Goals as goal
 

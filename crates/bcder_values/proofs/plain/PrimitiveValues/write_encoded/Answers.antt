@@ -1,5 +1,5 @@
-use Rattle.bcder_primitive.proofs.Compose.{content_refused, writer_refused}
-use Rattle.bcder_primitive.proofs.Pieces.{stopped, wrote_as, wrote_both, front_as, front_first, front_second}
+use Rattle.bcder_values.proofs.of_bcder_primitive.Compose.{content_refused, writer_refused}
+use Rattle.bcder_values.proofs.of_bcder_primitive.Pieces.{stopped, wrote_as, wrote_both, front_as, front_first, front_second}
 use Rattle.bcder_values.proofs.Wrapping.{plain, all_long}
 use Rattle.bcder_values.proofs.plain.PrimitiveValues.write_encoded.Goals as goal
 use Rattle.std.proofs.lemmas.Result.{IfErr-weaker, on_ok_weaker}

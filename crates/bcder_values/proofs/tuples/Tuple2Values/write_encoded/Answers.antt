@@ -1,4 +1,4 @@
-use Rattle.bcder_primitive.proofs.Compose.{writer_refused}
+use Rattle.bcder_values.proofs.of_bcder_primitive.Compose.{writer_refused}
 use Rattle.bcder_values.proofs.Known.{known}
 use Rattle.bcder_values.proofs.tuples.Tuple2Values.write_encoded.Goals as goal
 use Rattle.std.proofs.Common.{arith}

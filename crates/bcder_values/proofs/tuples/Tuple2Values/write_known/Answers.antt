@@ -1,4 +1,4 @@
-use Rattle.bcder_primitive.proofs.Pieces.{refused_as, stopped, front_first, front_second}
+use Rattle.bcder_values.proofs.of_bcder_primitive.Pieces.{refused_as, stopped, front_first, front_second}
 use Rattle.bcder_values.proofs.Known.{known_first, known_second}
 use Rattle.bcder_values.proofs.tuples.Tuple2Values.write_known.Goals as goal
 

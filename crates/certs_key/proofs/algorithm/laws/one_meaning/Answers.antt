@@ -1,4 +1,4 @@
-use Rattle.certs_basics.proofs.Values.{algorithm_one}
+use Rattle.certs_key.proofs.of_certs_basics.Values.{algorithm_one}
 use Rattle.certs_key.proofs.Meanings.{cms_one, digest_one, digests_one}
 use Rattle.certs_key.proofs.algorithm.laws.one_meaning.Goals as goal
 

@@ -5,8 +5,8 @@ use Rattle.bcder.specs.bcder_primitive.Plain.{plain}
 use Rattle.bcder.proofs.of_bcder_primitive.Primitives.{through, weaker}
 use Rattle.bcder.specs.Identifiers.{IsOid}
 use Rattle.bcder.proofs.of_bcder_content.Memories.{wanted}
-use Rattle.bcder_values.proofs.of_bcder_content.Wholes.{lacks_any, has_whole}
-use Rattle.bcder_values.proofs.of_bcder_content.Wants.{no_want_through}
+use Rattle.bcder.proofs.of_bcder_content.Wholes.{lacks_any, has_whole}
+use Rattle.bcder.proofs.of_bcder_content.Wants.{no_want_through}
 use Rattle.bcder.proofs.oid.content.Oid+Bytes.from_primitive.Goals as goal
 
 pub returns-in_err-count-clause-reads : goal.returns-in_err-count-clause-reads

@@ -1,7 +1,7 @@
 use Rattle.bcder.specs.bcder_primitive.Plain.{plain}
 use Rattle.bcder.proofs.of_bcder_primitive.Primitives.{through, weaker}
 use Rattle.bcder.specs.Identifiers.{IsAnyOid}
-use Rattle.bcder_values.proofs.of_bcder_content.Wholes.{lacks_any}
+use Rattle.bcder.proofs.of_bcder_content.Wholes.{lacks_any}
 use Rattle.bcder.proofs.oid.content.Oid+Bytes.skip_primitive.Goals as goal
 
 pub returns-in_err-count-clause-reads : goal.returns-in_err-count-clause-reads

@@ -1,6 +1,6 @@
 use Rattle.std.proofs.Common.{rules}
 use Rattle.bcder.proofs.of_bcder_content.Inside.{exact_octets}
-use Rattle.bcder_values.proofs.of_bcder_content.Wants.{octets_want}
+use Rattle.bcder.proofs.of_bcder_content.Wants.{octets_want}
 use Rattle.bcder.proofs.oid.content.Oid+Bytes.take_from.Goals as goal
 
 pub returns-clause-reads : goal.returns-clause-reads

@@ -1,5 +1,5 @@
 use Rattle.certs_key.proofs.of_bcder_content.InMode.{inside}
-use Rattle.certs_basics.specs.Identifiers.{sha256_with_rsa}
+use Rattle.certs_key.specs.certs_basics.Identifiers.{sha256_with_rsa}
 use Rattle.certs_key.specs.Algorithms.{AreFields}
 use Rattle.certs_key.proofs.Meanings.{algorithm_reads}
 use Rattle.certs_key.proofs.algorithm.algorithm.RpkiSignatureAlgorithmSignatureAlgorithm.x509_take_from.Goals as goal

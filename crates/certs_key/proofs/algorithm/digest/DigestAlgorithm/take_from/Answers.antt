@@ -1,6 +1,6 @@
 use Rattle.certs_key.proofs.of_bcder_content.Choices.{as_gives, as_lacks, stop_value}
 use Rattle.certs_key.proofs.of_bcder_content.InMode.{inside}
-use Rattle.certs_basics.specs.Basics.{has_null}
+use Rattle.certs_key.specs.certs_basics.Basics.{has_null}
 use Rattle.certs_key.specs.Algorithms.{AreFields, sha256, whatever}
 use Rattle.certs_key.proofs.algorithm.digest.DigestAlgorithm.take_from.Goals as goal
 

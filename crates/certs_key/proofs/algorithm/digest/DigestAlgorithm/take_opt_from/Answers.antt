@@ -1,7 +1,7 @@
 use Rattle.certs_key.proofs.of_bcder_content.Choices.{as_gives, as_lacks_tagged}
 use Rattle.certs_key.proofs.of_bcder_content.Forests.{there}
 use Rattle.certs_key.proofs.of_bcder_content.InMode.{inside_opt}
-use Rattle.certs_basics.specs.Basics.{has_null}
+use Rattle.certs_key.specs.certs_basics.Basics.{has_null}
 use Rattle.certs_key.specs.Algorithms.{AreFields, sha256, whatever}
 use Rattle.certs_key.proofs.Meanings.{stop_opt_value}
 use Rattle.certs_key.proofs.algorithm.digest.DigestAlgorithm.take_opt_from.Goals as goal

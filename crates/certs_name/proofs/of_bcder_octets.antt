@@ -1,0 +1,5 @@
+-- Lemmas of bcder_octets, for the crates above.
+pub use Rattle.certs_basics.proofs.of_bcder_octets.BitReadings
+pub use Rattle.certs_basics.proofs.of_bcder_octets.BitWritings
+pub use Rattle.certs_basics.proofs.of_bcder_octets.Meaning
+pub use Rattle.certs_basics.proofs.of_bcder_octets.Strings

@@ -1,0 +1,2 @@
+-- Lemmas of certs_basics, for the crates above.
+pub use Rattle.certs_basics.proofs.Values
