@@ -63,6 +63,8 @@ TESTS = (
     Test("written objects", "outside/written.py objects_cases.py objects_cases", 400),
     Test("written resources", "outside/written.py resources_calls.py resources_cases", 180),
     Test("written rpki", "outside/written.py rpki_cases.py rpki_cases cases", 400),
+    # What documents say of the sources.
+    Test("promise", "tools/promise.py", 60),
     Test("definitions", "tools/definitions.py --check", 0, 60),
     # Stored questions.
     *(Test(f"stored {name}", f"outside/stored.py {name} {{{name}}}", 200) for name in STORED),
