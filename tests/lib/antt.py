@@ -30,10 +30,19 @@ class Word:
         return self.module, self.name
 
 
+@functools.lru_cache(None)
 def crates():
-    """The crates, bottom up."""
+    """The crates, each behind those that it lists."""
+    lists = {}
     with open(os.path.join(TOP, "crates.txt")) as file:
-        return [line.split(":")[0].split()[0] for line in file if ":" in line and not line.startswith("#")]
+        for line in file:
+            if ":" in line and not line.startswith("#"):
+                name, _, below = line.partition(":")
+                lists[name.split()[0]] = below.split()
+    order = []
+    while len(order) < len(lists):
+        order.append(next(it for it in lists if it not in order and all(low in order or low not in lists for low in lists[it])))
+    return order
 
 
 def path_of(module):
