@@ -4,6 +4,7 @@ import dataclasses
 import functools
 import os
 import re
+import textwrap
 
 from antt import TOP
 
@@ -15,7 +16,8 @@ BLOCK = re.compile(r"^(?:pub(?:\([a-z ]+\))? )?(impl|trait)\b(.*)$")
 
 @dataclasses.dataclass(frozen=True)
 class Call:
-    """A function: the type or trait that it belongs to, the head of its block, what its comment says, and its text."""
+    """A function: the type or trait that it belongs to, the head of its block, what its comment says, its signature and clauses in a
+    line each, and both as they stand in the file."""
 
     owner: str
     block: str
@@ -24,6 +26,7 @@ class Call:
     comment: str
     signature: str
     clauses: tuple
+    text: str
 
 
 def is_at(folder, *names):
@@ -73,42 +76,45 @@ def joined(lines):
     return re.sub(r",\s*([)>\]])", r"\1", re.sub(r"([(<\[])\s+", r"\1", text)).strip()
 
 
-def clauses_of(lines):
-    """The clauses of a function, each in one line."""
-    found = []
-    for line in lines:
-        text = line.strip()
-        if CLAUSE.match(text):
-            found.append([text])
-        elif found and text and not text.startswith("//"):
-            found[-1].append(text)
-    return tuple(" ".join(it) for it in found)
-
-
 def head_of(lines, at):
-    """A function's signature and clauses, from its first line on: both, and the line where the body begins."""
-    indent = re.match(r"\s*", lines[at])[0]
-    head, end = [], at
-    for end in range(at, len(lines)):
-        line = lines[end]
-        if line in (indent + "{", indent + "{}") or end > at and line.startswith(indent + "}"):
+    """A function's signature and clauses, from its first line on, each in one line, and both as they stand there."""
+    head, first = [], at
+    while at < len(lines) and not CLAUSE.match(lines[at].strip()):
+        head.append(lines[at])
+        at += 1
+        if head[-1].endswith(("{", ";", "{}")) and not is_open(head):
             break
-        head.append(line)
-        if line.endswith(("{", ";", "{}")) and not (head and any(CLAUSE.match(it.strip()) for it in head) and not line.endswith(";")):
-            if not re.match(r"\s*(requires|ensures)", line) and not is_within(head):
+    clauses = []
+    while at < len(lines) and not head[-1].endswith((";", "{", "{}")):
+        text = lines[at].strip()
+        if CLAUSE.match(text):
+            taken = [lines[at]]
+            while is_open(taken):
+                at += 1
+                taken.append(lines[at])
+            clauses.append(" ".join(line.strip() for line in taken if not line.strip().startswith("//")))
+            if clauses[-1].endswith(";"):
+                clauses[-1] = clauses[-1].removesuffix(";")
+                at += 1
                 break
-    first = next((i for i, line in enumerate(head) if CLAUSE.match(line.strip())), len(head))
-    signature = re.sub(r"\s*(\{\}?|;)$", "", joined(head[:first]))
-    clauses = list(clauses_of(head[first:]))
-    if clauses:
-        clauses[-1] = clauses[-1].removesuffix(";")
-    return signature, tuple(clauses)
+        elif text and not text.startswith("//"):
+            break
+        at += 1
+    text = "\n".join(line for line in lines[first:at] if line.strip() and not line.strip().startswith("//"))
+    return joined([bare(joined(head))]), tuple(clauses), bare(textwrap.dedent(text))
 
 
-def is_within(head):
-    """Whether the last of these lines stands within brackets that an earlier one opened."""
-    text = "\n".join(head)
-    return text.count("(") > text.count(")")
+def bare(text):
+    """A text without the sign at its end by which a body begins, or an item ends."""
+    return re.sub(r"\s*(\{\}?|;)$", "", text)
+
+
+def is_open(lines):
+    """Whether brackets are open after these lines; the brace of a body that ends them isn't one."""
+    text = "\n".join(lines)
+    if not CLAUSE.match(lines[0].strip()):
+        return text.count("(") > text.count(")")
+    return text.count("{") > text.count("}")
 
 
 def name_of(block):
@@ -117,7 +123,8 @@ def name_of(block):
     text = skip_parameters(text).strip()
     if " for " in text and block.startswith("impl"):
         return None
-    return re.match(r"[\w:]+", text)[0].split("::")[-1] if re.match(r"[\w:]+", text) else None
+    found = re.match(r"\w+(?:::\w+)*", text)
+    return found[0].split("::")[-1] if found else None
 
 
 def skip_parameters(text):
@@ -151,9 +158,10 @@ def calls_of(path):
             block, owner, public = "", None, False
         got = CALL.match(line)
         if got and len(got[1]) in (0, 4):
-            signature, clauses = head_of(lines, at)
+            signature, clauses, text = head_of(lines, at)
             is_public = got[2] == "pub " or public and bool(block)
-            found.append(Call(owner if got[1] else "", block if got[1] else "", got[3], is_public, comment_above(lines, at), signature, clauses))
+            inside = bool(got[1])
+            found.append(Call(owner if inside else "", block if inside else "", got[3], is_public, comment_above(lines, at), signature, clauses, text))
         at += 1
     return found
 

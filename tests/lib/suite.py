@@ -66,6 +66,7 @@ TESTS = (
     # What documents say of the sources.
     Test("promise", "tools/promise.py", 60),
     Test("definitions", "tools/definitions.py --check", 0, 60),
+    Test("calling", "tools/calling.py --check", 0, 60),
     # Stored questions.
     *(Test(f"stored {name}", f"outside/stored.py {name} {{{name}}}", 200) for name in STORED),
     # The built program, from outside.
