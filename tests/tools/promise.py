@@ -4,9 +4,10 @@
     promise.py [--list]
 
 It begins with the names in the clauses of `run`, and follows them through lines of `use` and what crates pass on, down to
-the toolchain's library: to definitions, Rust types that these name, and ghost members of traits. Each has to stand in
-signs of code in a section whose heading names its file, as `rpki_rules/specs/Chains`. What the page quotes of definitions
-has to stand in them. With --list all are printed, by file, lowest first.
+the toolchain's library: to definitions, Rust types that these name, ghost members of traits, and words of that library.
+Each definition has to stand in signs of code in a section whose heading names its file, as `rpki_rules/specs/Chains`, all
+else somewhere. What the page quotes of definitions has to stand in them. With --list the definitions are printed, by file,
+lowest first.
 """
 
 import os
@@ -41,6 +42,8 @@ class Promise:
         self.words, rust = antt.closure(keys)
         rust += [what for kind, what in filter(None, first) if kind == "rust"]
         self.types = sorted({plain(names) for names in rust})
+        met = [*filter(None, first), *(it for key in self.words for it in antt.names_in(antt.word_at(key)))]
+        self.library = sorted({what.split(".")[-1] for kind, what in met if kind == "outside" and what.startswith("Rattle.")})
 
     def located(self, token):
         """What a name of a clause means, by the file's lines `ghost use`."""
@@ -100,6 +103,7 @@ def missing(promise, text):
     everywhere = set().union(*(words for _, words in parts))
     found = [f"{'/'.join(module)}: {name}" for module, name in promise.words if not is_named(module, name, parts)]
     found += [f"{crate}: the Rust type {name}" for crate, name in promise.types if name not in everywhere]
+    found += [f"the library: {name}" for name in promise.library if name not in everywhere and name[0].isalpha()]
     return found + [f"{path}: the ghost member {name}" for name, path in promise.ghosts.items() if name not in everywhere]
 
 
@@ -129,7 +133,8 @@ def main():
     lacking, old = missing(promise, text), stale(promise, text)
     for line in lacking + old:
         print(line)
-    print(f"{len(promise.words)} definitions, {len(promise.types)} Rust types, {len(promise.ghosts)} ghost members")
+    counts = f"{len(promise.words)} definitions, {len(promise.types)} Rust types, {len(promise.ghosts)} ghost members"
+    print(f"{counts}, {len(promise.library)} words of the library")
     if lacking or old:
         sys.exit(f"docs/PROMISE.md doesn't name {len(lacking)} of them, and {len(old)} of its lines are old")
 
