@@ -257,6 +257,6 @@ module _ (w : World) (name : List ℕ) where
   pub no_need : (last : Link) (rest : List Link) (uri : List ℕ) (p : Point) → IsPoint w last.cert p → NoneIsKept w last.cert p uri → IsJudgedAt w name (last ∷ rest) uri (record { yes = false; points = 1 })
   no_need last rest uri p ip none =
       at_none last rest uri 1 (omega arith) (λ a cs u k.
-          let pe = one_point w last.cert k.point p (subst (λ (l : Link). IsPoint w l.cert k.point) (sym u) k.is_point) ip in
-          none k.object k.payload (subst (λ (q : Point). IsSigned w last.cert q uri k.object k.payload) pe (subst (λ (l : Link). IsSigned w l.cert k.point uri k.object k.payload) (sym u) k.is_signed)) k.kept)
+      let pe = one_point w last.cert k.point p (subst (λ (l : Link). IsPoint w l.cert k.point) (sym u) k.is_point) ip in
+      none k.object k.payload (subst (λ (q : Point). IsSigned w last.cert q uri k.object k.payload) pe (subst (λ (l : Link). IsSigned w l.cert k.point uri k.object k.payload) (sym u) k.is_signed)) k.kept)
       (λ a cs u. inr (p, subst (λ (l : Link). IsPoint w l.cert p) u ip, inl (refl, subst (λ (l : Link). NoneIsKept w l.cert p uri) u none)))

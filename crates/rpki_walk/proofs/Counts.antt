@@ -55,8 +55,8 @@ one_from w a cs uri m n (inr h) (inr k) = same h.2 (subst (λ (p : Point). Read 
     same (inr x) (inr y) =
         let e = one_signed w (last_of a cs).cert h.0 uri y.0 x.0 y.1 x.1 y.2 x.2 in
         let r : ReadsAbove w a cs (NeedAt x.0.cert h.0 (Needs x.1)) y.4 =
-            subst (λ (z : Payload). ReadsAbove w a cs (NeedAt x.0.cert h.0 (Needs z)) y.4) e.1
-            (subst (λ (o : Object). ReadsAbove w a cs (NeedAt o.cert h.0 (Needs y.1)) y.4) e.0 y.6) in
+        subst (λ (z : Payload). ReadsAbove w a cs (NeedAt x.0.cert h.0 (Needs z)) y.4) e.1
+        (subst (λ (o : Object). ReadsAbove w a cs (NeedAt o.cert h.0 (Needs y.1)) y.4) e.0 y.6) in
         x.5 ∙ (ap (λ (i : ℕ). i + 1) (one_above w a cs (NeedAt x.0.cert h.0 (Needs x.1)) x.4 y.4 x.6 r) ∙ sym y.5)
 
 pub one_count : OneCount
