@@ -3,7 +3,6 @@ pub mod Versions
 pub mod Settings
 pub mod Logs
 pub mod Signed
-pub mod Limits
 -- What stands below, for the crates above.
 pub use Rattle.bcder.specs.bcder_octets as bcder_octets
 pub use Rattle.bcder.specs.bcder_content as bcder_content

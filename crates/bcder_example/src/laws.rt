@@ -6,7 +6,6 @@ ghost use Rattle.bcder_example.specs.bcder_tree.Tags.{sequence_tag};
 ghost use Rattle.bcder_example.specs.bcder_content.Grammar.{End, Inside, One, Then};
 ghost use Rattle.bcder_example.specs.bcder_values.Returns.{ReadAgain};
 ghost use Rattle.bcder_example.specs.declared.notice.Notice.{Notice};
-ghost use Rattle.bcder_example.specs.Limits.{limits};
 ghost use Rattle.bcder_example.specs.Logs.{IsEntry, IsLogBody};
 ghost use Rattle.bcder_example.specs.Notices.{notice, notice_fields};
 ghost use Rattle.bcder_example.specs.Settings.{IsSettingsBody};
@@ -21,7 +20,6 @@ pub fn one_meaning()
     ensures entry { One IsEntry }
     ensures log { (m : ModeValue) → One (Inside sequence_tag (IsLogBody m)) }
     ensures settings { (m : ModeValue) → One (Inside sequence_tag (IsSettingsBody m)) }
-    ensures limits { (m : ModeValue) → One (limits.reads m) }
 {}
 
 /// A notice that is written, whose identifier is one, is read again: it is the only value in front of what was written,
