@@ -5,11 +5,11 @@ use Rattle.rpki_steps.specs.resources_chain.Claims.{FitsIn, Kept, Lists}
 use Rattle.rpki_steps.specs.resources_chain.Sets.{IsRunsOf}
 use Rattle.rpki_steps.specs.resources_chain.declared.choice.ResourcesChoice.TheVariants.{Inherit}
 use Rattle.rpki_steps.specs.certs_extension.Verified.{IsIssuedAt, IsAnchorAt, HoldsBelow, HoldsOwn, held_by}
-use Rattle.rpki_steps.specs.rpki_rules.Certs.{Cert}
-use Rattle.rpki_steps.specs.rpki_rules.Kinds.{Kind, Ipv4, Ipv6, As, claim, of_kind, InSet}
-use Rattle.rpki_steps.specs.rpki_rules.World.{World}
-use Rattle.rpki_steps.specs.rpki_rules.Points.{Signed, IsValid}
-use Rattle.rpki_steps.specs.rpki_rules.Chains.{Fits}
+use Rattle.rpki_rules.specs.Certs.{Cert}
+use Rattle.rpki_rules.specs.Kinds.{Kind, Ipv4, Ipv6, As, claim, of_kind, InSet}
+use Rattle.rpki_rules.specs.World.{World}
+use Rattle.rpki_rules.specs.Points.{Signed, IsValid}
+use Rattle.rpki_rules.specs.Chains.{Fits}
 use Rattle.rpki_steps.specs.Holders.{sets_of}
 
 -- What is issued is signed by the issuer, and its claim fits.

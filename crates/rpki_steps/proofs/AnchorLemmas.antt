@@ -8,9 +8,9 @@ use Rattle.rpki_steps.specs.Anchored.{FindsAnchor}
 use Rattle.rpki_steps.specs.Holders.{cert_of, sets_of}
 use Rattle.rpki_steps.specs.certs_verify.Holders.{ResourceCertValue}
 use Rattle.rpki_standing.specs.rpki_bundle.declared.parts.Locator.{Locator}
-use Rattle.rpki_steps.specs.rpki_rules.Certs.{Cert, CertText, Key, one_cert}
-use Rattle.rpki_steps.specs.rpki_rules.Points.{IsAnchorCert, Link}
-use Rattle.rpki_steps.specs.rpki_rules.World.{World}
+use Rattle.rpki_rules.specs.Certs.{Cert, CertText, Key, one_cert}
+use Rattle.rpki_rules.specs.Points.{IsAnchorCert, Link}
+use Rattle.rpki_rules.specs.World.{World}
 use Rattle.rpki_walk.specs.Filed.{HasListed, IsLed, LeadsTo, locator_at}
 use Rattle.rpki_walk.specs.declared.steps.Leads.{Leads}
 use Rattle.rpki_walk.specs.declared.steps.Leads.TheVariants as To

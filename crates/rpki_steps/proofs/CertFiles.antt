@@ -6,15 +6,15 @@ use Rattle.rpki_steps.specs.Below.{FindsBelow, IsFoundBelow}
 use Rattle.rpki_steps.specs.Holders.{cert_of, sets_of}
 use Rattle.rpki_steps.specs.certs_extension.declared.forms.Role.TheVariants.{Ca}
 use Rattle.rpki_steps.specs.certs_verify.Holders.{ResourceCertValue}
-use Rattle.rpki_steps.specs.rpki_rules.Certs.{Cert}
-use Rattle.rpki_steps.specs.rpki_rules.Chains.{CertAt, HasExtension, IsChild, cer}
-use Rattle.rpki_steps.specs.rpki_rules.Kinds.{InSet}
-use Rattle.rpki_steps.specs.rpki_rules.Points.{Point, Unrevoked}
-use Rattle.rpki_steps.specs.rpki_rules.Refused.{IsIssued}
-use Rattle.rpki_steps.specs.rpki_rules.World.{World}
+use Rattle.rpki_rules.specs.Certs.{Cert}
+use Rattle.rpki_rules.specs.Chains.{CertAt, HasExtension, IsChild, cer}
+use Rattle.rpki_rules.specs.Kinds.{InSet}
+use Rattle.rpki_rules.specs.Points.{Point, Unrevoked}
+use Rattle.rpki_rules.specs.Refused.{IsIssued}
+use Rattle.rpki_rules.specs.World.{World}
 use Rattle.rpki_walk.specs.Filed.{HasKept}
 use Rattle.rpki_walk.specs.declared.steps.Filed.TheVariants as Is
-use Rattle.rpki_steps.proofs.of_rpki_rules.Readings.{no_cer_payload}
+use Rattle.rpki_rules.proofs.Readings.{no_cer_payload}
 use Rattle.rpki_steps.specs.Files.{IsFile}
 
 module _ (w : World) (ca : ResourceCertValue) (p : Point) (uri : List ℕ) where

@@ -1,11 +1,11 @@
 -- What is below an authority and isn't revoked is a child at its point, and the other way.
 use Rattle.std.proofs.Common.{ℕ}
 use Rattle.rpki_steps.specs.certs_extension.declared.forms.Role.TheVariants.{Ca}
-use Rattle.rpki_steps.specs.rpki_rules.Certs.{Cert}
-use Rattle.rpki_steps.specs.rpki_rules.Kinds.{Kind}
-use Rattle.rpki_steps.specs.rpki_rules.World.{World}
-use Rattle.rpki_steps.specs.rpki_rules.Points.{Point, Unrevoked}
-use Rattle.rpki_steps.specs.rpki_rules.Chains.{IsChild}
+use Rattle.rpki_rules.specs.Certs.{Cert}
+use Rattle.rpki_rules.specs.Kinds.{Kind}
+use Rattle.rpki_rules.specs.World.{World}
+use Rattle.rpki_rules.specs.Points.{Point, Unrevoked}
+use Rattle.rpki_rules.specs.Chains.{IsChild}
 use Rattle.rpki_steps.specs.Below.{IsBelow}
 
 pub child_of : (w : World) (held : Kind → ℕ → Type 0) (ca : Cert) (p : Point) (c : Cert) → IsBelow w Ca held ca c → Unrevoked p c → IsChild w held ca p c

@@ -2,9 +2,9 @@
 use Rattle.std.proofs.Common.{◌≡◌, Bool, Option, Some, None, Result, Ok, Err, subst}
 use Rattle.std.specs.Prelude.{◌↔◌, IfOk, IsTrue}
 use Rattle.rpki_steps.specs.resources.Resources.{Resources}
-use Rattle.rpki_steps.specs.rpki_rules.Certs.{Cert}
-use Rattle.rpki_steps.specs.rpki_rules.Chains.{Fits}
-use Rattle.rpki_steps.specs.rpki_rules.Kinds.{Ipv4, Ipv6, As, InSet}
+use Rattle.rpki_rules.specs.Certs.{Cert}
+use Rattle.rpki_rules.specs.Chains.{Fits}
+use Rattle.rpki_rules.specs.Kinds.{Ipv4, Ipv6, As, InSet}
 use Rattle.rpki_walk.specs.Filed.{HasKept}
 use Rattle.rpki_walk.specs.Claimed.{ClaimValue}
 use Rattle.rpki_walk.specs.Steps.{AreKept, FindsHeld, FitsAll}

@@ -2,9 +2,9 @@
 use Rattle.std.proofs.Common.{◌≡◌, Bool, subst}
 use Rattle.std.specs.Prelude.{◌↔◌, IsTrue}
 use Rattle.rpki_standing.specs.certs_extension.Verified.{HolderValue, held_by}
-use Rattle.rpki_steps.specs.rpki_rules.Certs.{Cert}
-use Rattle.rpki_steps.specs.rpki_rules.Chains.{Fits}
-use Rattle.rpki_steps.specs.rpki_rules.Kinds.{Ipv4, Ipv6, As}
+use Rattle.rpki_rules.specs.Certs.{Cert}
+use Rattle.rpki_rules.specs.Chains.{Fits}
+use Rattle.rpki_rules.specs.Kinds.{Ipv4, Ipv6, As}
 use Rattle.rpki_walk.specs.Claimed.{ClaimValue}
 use Rattle.rpki_walk.specs.resources.Resources.{Resources}
 use Rattle.rpki_walk.specs.Steps.{FitsAll}

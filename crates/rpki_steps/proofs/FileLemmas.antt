@@ -4,11 +4,11 @@ use Rattle.std.proofs.Math.Bool.{beq}
 use Rattle.std.specs.Option.{option_eq}
 use Rattle.std.specs.Prelude.{◌↔◌, IfOk, IsTrue}
 use Rattle.rpki_steps.specs.certs_verify.Holders.{ResourceCertValue}
-use Rattle.rpki_steps.specs.rpki_rules.Certs.{Cert}
-use Rattle.rpki_steps.specs.rpki_rules.Chains.{CertAt, HasExtension, asa, cer, roa}
-use Rattle.rpki_steps.specs.rpki_rules.Points.{files, Point}
-use Rattle.rpki_steps.specs.rpki_rules.Words.{Mem}
-use Rattle.rpki_steps.specs.rpki_rules.World.{World}
+use Rattle.rpki_rules.specs.Certs.{Cert}
+use Rattle.rpki_rules.specs.Chains.{CertAt, HasExtension, asa, cer, roa}
+use Rattle.rpki_rules.specs.Points.{files, Point}
+use Rattle.rpki_rules.specs.Words.{Mem}
+use Rattle.rpki_rules.specs.World.{World}
 use Rattle.rpki_steps.specs.Holders.{cert_of}
 use Rattle.rpki_walk.specs.declared.steps.Filed.{Filed}
 use Rattle.rpki_walk.specs.declared.steps.Filed.TheVariants as Is

@@ -4,10 +4,10 @@ use Rattle.std.specs.Prelude.{IfOk}
 use Rattle.rpki_standing.specs.objects_valid.Kinds.{KindValue}
 use Rattle.rpki_standing.specs.rpki_bundle.Bundle.{BundleValue}
 use Rattle.rpki_standing.specs.Crls.{Finds}
-use Rattle.rpki_steps.specs.rpki_rules.Certs.{Cert, Crl, Digests, Verdicts}
-use Rattle.rpki_steps.specs.rpki_rules.Objects.{Manifest}
-use Rattle.rpki_steps.specs.rpki_rules.Points.{HasFiles, IsCrlOf, files}
-use Rattle.rpki_steps.specs.rpki_rules.World.{find_object, world_of}
+use Rattle.rpki_rules.specs.Certs.{Cert, Crl, Digests, Verdicts}
+use Rattle.rpki_rules.specs.Objects.{Manifest}
+use Rattle.rpki_rules.specs.Points.{HasFiles, IsCrlOf, files}
+use Rattle.rpki_rules.specs.World.{find_object, world_of}
 use Rattle.rpki_standing.specs.Standing.{HasNoParts}
 use Rattle.rpki_steps.specs.declared.places.files.File.{File}
 use Rattle.rpki_steps.specs.PlaceFiles.{AreFilesOf, NoFilesOf}

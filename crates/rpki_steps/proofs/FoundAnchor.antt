@@ -11,9 +11,9 @@ use Rattle.rpki_steps.specs.certs_extension.declared.forms.Role.TheVariants.{Ta}
 use Rattle.rpki_steps.specs.certs_extension.Calls.{Fault, inspected, verified, wants_memory, FailsAnchor, ValidatesAnchor}
 use Rattle.rpki_steps.specs.certs_extension.Profiles.{Passes, tests}
 use Rattle.rpki_steps.specs.certs_extension.Verified.{AcceptsAnchor, PassesAt, anchor_tests, nothing}
-use Rattle.rpki_steps.specs.rpki_rules.Certs.{Cert, Key, encoded}
-use Rattle.rpki_steps.specs.rpki_rules.World.{World}
-use Rattle.rpki_steps.specs.rpki_rules.Points.{IsAnchorCert}
+use Rattle.rpki_rules.specs.Certs.{Cert, Key, encoded}
+use Rattle.rpki_rules.specs.World.{World}
+use Rattle.rpki_rules.specs.Points.{IsAnchorCert}
 use Rattle.rpki_steps.specs.Anchored.{IsFoundAnchor, FindsAnchor}
 use Rattle.rpki_steps.specs.Settled.{Settles}
 use Rattle.rpki_steps.proofs.AcceptedClaims.{anchor_own, own_anchor, own_lists}

@@ -10,9 +10,9 @@ use Rattle.rpki_steps.specs.certs_extension.declared.forms.Role.{Role}
 use Rattle.rpki_steps.specs.certs_extension.Calls.{Fault, inspected, verified, wants_memory, FailsIssued, ValidatesIssued}
 use Rattle.rpki_steps.specs.certs_extension.Profiles.{Passes, tests}
 use Rattle.rpki_steps.specs.certs_extension.Verified.{AcceptsIssued, PassesAt, held_by, issued_tests}
-use Rattle.rpki_steps.specs.rpki_rules.Certs.{Cert}
-use Rattle.rpki_steps.specs.rpki_rules.Kinds.{InSet}
-use Rattle.rpki_steps.specs.rpki_rules.World.{World}
+use Rattle.rpki_rules.specs.Certs.{Cert}
+use Rattle.rpki_rules.specs.Kinds.{InSet}
+use Rattle.rpki_rules.specs.World.{World}
 use Rattle.rpki_steps.specs.Below.{IsBelow, IsFoundBelow, FindsBelow}
 use Rattle.rpki_steps.specs.Holders.{cert_of, sets_of}
 use Rattle.rpki_steps.specs.Settled.{Settles}

@@ -2,7 +2,7 @@
 use Rattle.std.proofs.Common.{◌≡◌, ◌∙◌, ℕ, List, [], ◌∷◌, ◌++◌, Option, Some, None, sym, ap, subst, append_assoc, append-nil}
 use Rattle.rpki_standing.specs.certs_basics.Paths.{join}
 use Rattle.rpki_standing.specs.certs_basics.Uris.{lookup_key}
-use Rattle.rpki_steps.specs.rpki_rules.Objects.{File as Listed}
+use Rattle.rpki_rules.specs.Objects.{File as Listed}
 use Rattle.rpki_steps.specs.declared.places.files.File.{File}
 use Rattle.rpki_steps.specs.PlaceFiles.{AreFilesIn, IsFileIn, NoFilesIn}
 

@@ -1,9 +1,9 @@
 -- What is read at a lookup key.
 use Rattle.std.proofs.Common.{ℕ, List, Option, Some, None}
 use Rattle.std.specs.Prelude.{MatchOption}
-use Rattle.rpki_steps.specs.rpki_rules.Certs.{Cert}
-use Rattle.rpki_steps.specs.rpki_rules.Chains.{CertAt}
-use Rattle.rpki_steps.specs.rpki_rules.World.{World}
+use Rattle.rpki_rules.specs.Certs.{Cert}
+use Rattle.rpki_rules.specs.Chains.{CertAt}
+use Rattle.rpki_rules.specs.World.{World}
 use Rattle.rpki_walk.specs.Evidence.{IsReadCert}
 use Rattle.rpki_standing.specs.Leads.{NoCertAt}
 

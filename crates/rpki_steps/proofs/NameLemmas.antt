@@ -2,13 +2,13 @@
 use Rattle.std.proofs.Common.{◌≡◌, ◌⊎◌, inl, inr, ℕ, List, [], ◌∷◌, ◌++◌, Vec, Global, Some, None, Result, Ok, Err, sym, ap, subst, ◌∙◌}
 use Rattle.std.specs.Prelude.{◌↔◌, IfOk}
 use Rattle.rpki_standing.specs.objects_valid.Kinds.{KindValue}
-use Rattle.rpki_steps.specs.rpki_rules.Certs.{Cert, Digests, Verdicts}
+use Rattle.rpki_rules.specs.Certs.{Cert, Digests, Verdicts}
 use Rattle.rpki_standing.specs.rpki_bundle.Bundle.{BundleValue}
-use Rattle.rpki_steps.specs.rpki_rules.Objects.{Manifest, ManifestText, one_manifest}
-use Rattle.rpki_steps.specs.rpki_rules.Points.{files}
-use Rattle.rpki_steps.specs.rpki_rules.Reach.{NamesFile}
-use Rattle.rpki_steps.specs.rpki_rules.Words.{Mem}
-use Rattle.rpki_steps.specs.rpki_rules.World.{World, at, world_of}
+use Rattle.rpki_rules.specs.Objects.{Manifest, ManifestText, one_manifest}
+use Rattle.rpki_rules.specs.Points.{files}
+use Rattle.rpki_rules.specs.Reach.{NamesFile}
+use Rattle.rpki_rules.specs.Words.{Mem}
+use Rattle.rpki_rules.specs.World.{World, at, world_of}
 use Rattle.rpki_standing.specs.certs_basics.Uris.{lookup_key}
 use Rattle.rpki_walk.specs.Naming.{AreNamed}
 use Rattle.rpki_standing.specs.Manifests.{IsReadAt}

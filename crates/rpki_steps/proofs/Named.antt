@@ -1,12 +1,12 @@
 -- The trust anchors of locators, and of their names.
 use Rattle.std.proofs.Common.{◌≡◌, ◌↔◌, ◌∙◌, ℕ, List, [], ◌∷◌, Bool, Bor, Some, map, inl, inr, refl, sym, ap, subst}
 use Rattle.std.specs.Prelude.{IsTrue}
-use Rattle.rpki_steps.specs.rpki_rules.Certs.{Cert, CertText, Key}
-use Rattle.rpki_steps.specs.rpki_rules.Locators.{https_first}
-use Rattle.rpki_steps.specs.rpki_rules.Chains.{CertAt}
-use Rattle.rpki_steps.specs.rpki_rules.Points.{Anchor, IsAnchorCert, IsFirstHeld, Link}
-use Rattle.rpki_steps.specs.rpki_rules.Words.{Mem, NoRepeat}
-use Rattle.rpki_steps.specs.rpki_rules.World.{World}
+use Rattle.rpki_rules.specs.Certs.{Cert, CertText, Key}
+use Rattle.rpki_rules.specs.Locators.{https_first}
+use Rattle.rpki_rules.specs.Chains.{CertAt}
+use Rattle.rpki_rules.specs.Points.{Anchor, IsAnchorCert, IsFirstHeld, Link}
+use Rattle.rpki_rules.specs.Words.{Mem, NoRepeat}
+use Rattle.rpki_rules.specs.World.{World}
 use Rattle.rpki_standing.specs.rpki_bundle.declared.parts.Locator.{Locator}
 use Rattle.rpki_standing.specs.rpki_bundle.declared.parts.Object.{Object}
 use Rattle.rpki_standing.specs.declared.anchors.leads.Lead.{Lead}

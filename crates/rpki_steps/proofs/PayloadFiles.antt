@@ -4,18 +4,18 @@ use Rattle.std.specs.Prelude.{◌↔◌, IsTrue}
 use Rattle.rpki_steps.specs.Holders.{cert_of, sets_of}
 use Rattle.rpki_steps.specs.certs_verify.Holders.{ResourceCertValue}
 use Rattle.rpki_steps.specs.resources.Resources.{Resources}
-use Rattle.rpki_steps.specs.rpki_rules.Certs.{Cert}
-use Rattle.rpki_steps.specs.rpki_rules.Objects.{Object, RoaAddress}
-use Rattle.rpki_steps.specs.rpki_rules.Attests.{AreHeld, HoldsWith, IsCovered, IsGood, IsSigned, OfAspa, OfRoa, Payload}
-use Rattle.rpki_steps.specs.rpki_rules.Chains.{Fits, HasExtension, asa, roa}
-use Rattle.rpki_steps.specs.rpki_rules.Kinds.{As, InSet, Ipv4, Ipv6, Kind}
-use Rattle.rpki_steps.specs.rpki_rules.Points.{Point}
-use Rattle.rpki_steps.specs.rpki_rules.World.{World}
+use Rattle.rpki_rules.specs.Certs.{Cert}
+use Rattle.rpki_rules.specs.Objects.{Object, RoaAddress}
+use Rattle.rpki_rules.specs.Attests.{AreHeld, HoldsWith, IsCovered, IsGood, IsSigned, OfAspa, OfRoa, Payload}
+use Rattle.rpki_rules.specs.Chains.{Fits, HasExtension, asa, roa}
+use Rattle.rpki_rules.specs.Kinds.{As, InSet, Ipv4, Ipv6, Kind}
+use Rattle.rpki_rules.specs.Points.{Point}
+use Rattle.rpki_rules.specs.World.{World}
 use Rattle.rpki_walk.specs.declared.steps.Filed.TheVariants as Is
 use Rattle.rpki_standing.specs.Published.{FindsObject, PublishedValue}
 use Rattle.rpki_standing.specs.Views.{payload_of}
 use Rattle.rpki_standing.specs.declared.payloads.payload.Payload.{Payload as CodePayload}
-use Rattle.rpki_steps.proofs.of_rpki_rules.Readings.{one_signed}
+use Rattle.rpki_rules.proofs.Readings.{one_signed}
 use Rattle.rpki_steps.specs.Claims.{FindsSets}
 use Rattle.rpki_steps.specs.Files.{IsFile}
 use Rattle.rpki_steps.specs.Objects.{IsWithin}

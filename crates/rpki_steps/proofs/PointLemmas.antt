@@ -1,13 +1,13 @@
 -- What stands at a publication point, by what is held.
 use Rattle.std.proofs.Common.{ℕ, None, Some, subst}
-use Rattle.rpki_steps.specs.rpki_rules.Certs.{Cert}
-use Rattle.rpki_steps.specs.rpki_rules.Chains.{Fits}
-use Rattle.rpki_steps.specs.rpki_rules.Kinds.{Kind}
-use Rattle.rpki_steps.specs.rpki_rules.Points.{IsPoint, Point}
-use Rattle.rpki_steps.specs.rpki_rules.World.{World}
+use Rattle.rpki_rules.specs.Certs.{Cert}
+use Rattle.rpki_rules.specs.Chains.{Fits}
+use Rattle.rpki_rules.specs.Kinds.{Kind}
+use Rattle.rpki_rules.specs.Points.{IsPoint, Point}
+use Rattle.rpki_rules.specs.World.{World}
 use Rattle.rpki_walk.specs.Filed.{IsRead}
 use Rattle.rpki_standing.specs.Standing.{IsStanding, StandingValue}
-use Rattle.rpki_steps.proofs.of_rpki_rules.Readings.{one_point}
+use Rattle.rpki_rules.proofs.Readings.{one_point}
 use Rattle.rpki_steps.specs.Points.{point_of}
 
 module _ (w : World) (held : Kind → ℕ → Type 0) (ca : Cert) where

@@ -2,11 +2,11 @@
 use Rattle.std.proofs.Common.{◌≡◌, ◌∙◌, ℕ, List, [], ◌∷◌, Option, Some, None, Result, Ok, Err, MatchOption, refl, sym, subst}
 use Rattle.std.specs.Prelude.{IfOk}
 use Rattle.rpki_standing.specs.certs_basics.Paths.{join}
-use Rattle.rpki_steps.specs.rpki_rules.Certs.{Cert}
-use Rattle.rpki_steps.specs.rpki_rules.Objects.{File as Listed, Manifest}
-use Rattle.rpki_steps.specs.rpki_rules.Points.{HasFiles, IsHeld}
-use Rattle.rpki_steps.specs.rpki_rules.Words.{Each}
-use Rattle.rpki_steps.specs.rpki_rules.World.{World}
+use Rattle.rpki_rules.specs.Certs.{Cert}
+use Rattle.rpki_rules.specs.Objects.{File as Listed, Manifest}
+use Rattle.rpki_rules.specs.Points.{HasFiles, IsHeld}
+use Rattle.rpki_rules.specs.Words.{Each}
+use Rattle.rpki_rules.specs.World.{World}
 use Rattle.rpki_steps.specs.declared.places.files.File.{File}
 use Rattle.rpki_steps.specs.PlaceFiles.{AreFilesIn, AreFilesOf, NoFilesIn, NoFilesOf}
 

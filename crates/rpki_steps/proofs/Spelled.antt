@@ -7,7 +7,7 @@ use Rattle.rpki_bundle.specs.Bundle.{BundleText, BundleValue}
 use Rattle.rpki_bundle.specs.Lawful.{IsLawfulObject}
 use Rattle.rpki_bundle.proofs.Texts.{text_lawful}
 use Rattle.rpki_standing.specs.certs_basics.Uris.{IsUri}
-use Rattle.rpki_steps.specs.rpki_rules.World.{find_object}
+use Rattle.rpki_rules.specs.World.{find_object}
 
 -- The value of a choice is one of both.
 chosen : {X : Type 0} (b : Bool) (x y r : X) → (if b then x else y) ≡ r → ((b ≡ true) × (x ≡ r)) ⊎ ((b ≡ false) × (y ≡ r))

@@ -2,12 +2,12 @@
 use Rattle.std.proofs.Common.{◌≡◌, ◌∙◌, ◌↔◌, ℕ, Bool, true, false, IsTrue, List, Option, Some, None, refl, sym, ap, subst}
 use Rattle.std.specs.Bool.{then_some}
 use Rattle.rpki_standing.specs.objects_valid.Kinds.{KindValue}
-use Rattle.rpki_steps.specs.rpki_rules.Certs.{Cert, Crl}
-use Rattle.rpki_steps.specs.rpki_rules.Objects.{Manifest}
-use Rattle.rpki_steps.specs.rpki_rules.Chains.{Fits, StandsIn}
-use Rattle.rpki_steps.specs.rpki_rules.Kinds.{Kind}
-use Rattle.rpki_steps.specs.rpki_rules.Points.{IsPoint, Point}
-use Rattle.rpki_steps.specs.rpki_rules.World.{World}
+use Rattle.rpki_rules.specs.Certs.{Cert, Crl}
+use Rattle.rpki_rules.specs.Objects.{Manifest}
+use Rattle.rpki_rules.specs.Chains.{Fits, StandsIn}
+use Rattle.rpki_rules.specs.Kinds.{Kind}
+use Rattle.rpki_rules.specs.Points.{IsPoint, Point}
+use Rattle.rpki_rules.specs.World.{World}
 use Rattle.rpki_standing.specs.Manifests.{IsOwnManifest}
 use Rattle.rpki_standing.proofs.OwnManifests.{one_read, own_read}
 use Rattle.rpki_steps.specs.declared.places.files.File.{File}

@@ -2,10 +2,10 @@
 use Rattle.std.proofs.Common.{◌≡◌, ◌∙◌, ℕ, List, [], ◌∷◌, map, Option, Some, refl, sym, ap, subst}
 use Rattle.rpki_standing.specs.certs_basics.Paths.{join}
 use Rattle.rpki_standing.specs.certs_basics.Uris.{lookup_key}
-use Rattle.rpki_steps.specs.rpki_rules.Objects.{File as Listed}
-use Rattle.rpki_steps.specs.rpki_rules.Points.{IsHeld, files, files_in}
-use Rattle.rpki_steps.specs.rpki_rules.Words.{Each}
-use Rattle.rpki_steps.specs.rpki_rules.World.{World}
+use Rattle.rpki_rules.specs.Objects.{File as Listed}
+use Rattle.rpki_rules.specs.Points.{IsHeld, files, files_in}
+use Rattle.rpki_rules.specs.Words.{Each}
+use Rattle.rpki_rules.specs.World.{World}
 use Rattle.rpki_steps.specs.declared.places.files.File.{File}
 use Rattle.rpki_steps.specs.PlaceFiles.{AreFilesIn, FilesAreListed}
 use Rattle.rpki_steps.specs.Places.{FilesHaveHashes}

@@ -3,7 +3,7 @@ use Rattle.std.proofs.Common.{◌≡◌, ℕ, List, Option, Some, None, All, ref
 use Rattle.rpki_standing.specs.certs_basics.Paths.{join}
 use Rattle.rpki_standing.specs.certs_basics.Uris.{IsUriOctet, lookup_key}
 use Rattle.rpki_standing.specs.rpki_bundle.Bundle.{BundleText, BundleValue}
-use Rattle.rpki_steps.specs.rpki_rules.World.{find_object}
+use Rattle.rpki_rules.specs.World.{find_object}
 use Rattle.rpki_steps.proofs.Plain.{name_is}
 use Rattle.rpki_steps.proofs.Spelled.{held_uri}
 

@@ -3,15 +3,15 @@ use Rattle.std.proofs.Common.{◌≡◌, ℕ, List, [], ◌∷◌, sym, subst}
 use Rattle.rpki_walk.specs.resources_ip.Encodings.{FamilyChoices, IsIpAddrBlocks}
 use Rattle.rpki_walk.specs.resources_ip.WholeSets.{AreWhole, ListsWhole}
 use Rattle.rpki_walk.specs.resources_ip.Written.{FitsChoice}
-use Rattle.rpki_steps.specs.bcder_tree.declared.mode.Mode.{Mode}
-use Rattle.rpki_steps.specs.bcder_tree.Tree.{Tree}
+use Rattle.rpki_rules.specs.bcder_tree.declared.mode.Mode.{Mode}
+use Rattle.rpki_rules.specs.bcder_tree.Tree.{Tree}
 use Rattle.rpki_walk.specs.resources_ip_prefix.declared.addr.AddressFamily.TheVariants.{Ipv4}
 use Rattle.rpki_steps.specs.certs_extension.CertText.{AreIpResources}
 use Rattle.rpki_steps.specs.certs_extension.Extensions.{Extension}
 use Rattle.rpki_steps.specs.resources_chain.Claims.{Choice, Lists}
 use Rattle.rpki_steps.specs.resources_chain.Sets.{IsRunsOf, Run}
 use Rattle.rpki_steps.specs.resources_chain.declared.choice.ResourcesChoice.TheVariants.{Missing}
-use Rattle.rpki_steps.specs.rpki_rules.Certs.{Cert, CertText}
+use Rattle.rpki_rules.specs.Certs.{Cert, CertText}
 
 -- Nothing that is missing is listed.
 none_whole : (choice : Choice) → choice ≡ Missing → ListsWhole choice

@@ -3,9 +3,9 @@ use Rattle.std.specs.Prelude.{◌≡◌, Option, Some, None, String}
 use Rattle.std.specs.declared.alloc.Global.{Global}
 use Rattle.certs_verify.specs.Holders.{ResourceCertValue}
 use Rattle.rpki_walk.specs.Filed.{HasListed}
-use Rattle.rpki_steps.specs.rpki_rules.Certs.{Key, Cert}
-use Rattle.rpki_steps.specs.rpki_rules.World.{World}
-use Rattle.rpki_steps.specs.rpki_rules.Points.{IsAnchorCert}
+use Rattle.rpki_rules.specs.Certs.{Key, Cert}
+use Rattle.rpki_rules.specs.World.{World}
+use Rattle.rpki_rules.specs.Points.{IsAnchorCert}
 use Rattle.rpki_steps.specs.Holders.{cert_of, sets_of}
 
 -- The certificate is one of a trust anchor with that key, and was verified: with what it lists, by the locator of that name.

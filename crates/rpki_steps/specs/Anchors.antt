@@ -2,9 +2,9 @@
 use Rattle.std.specs.Prelude.{ℕ, List, Option, Some, None}
 use Rattle.rpki_steps.specs.Holders.{cert_of, sets_of}
 use Rattle.rpki_steps.specs.certs_verify.Holders.{ResourceCertValue}
-use Rattle.rpki_steps.specs.rpki_rules.Certs.{Cert, CertText, Key}
-use Rattle.rpki_steps.specs.rpki_rules.Points.{IsAnchorCert}
-use Rattle.rpki_steps.specs.rpki_rules.World.{World}
+use Rattle.rpki_rules.specs.Certs.{Cert, CertText, Key}
+use Rattle.rpki_rules.specs.Points.{IsAnchorCert}
+use Rattle.rpki_rules.specs.World.{World}
 use Rattle.rpki_walk.specs.Filed.{HasListed}
 
 -- The octets are the certificate, it is one of a trust anchor with that key, and it holds what it lists.

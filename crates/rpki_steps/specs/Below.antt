@@ -4,11 +4,11 @@ use Rattle.certs_verify.specs.Holders.{ResourceCertValue}
 use Rattle.rpki_walk.specs.Filed.{HasKept}
 use Rattle.rpki_steps.specs.certs_extension.declared.forms.Role.{Role}
 use Rattle.rpki_steps.specs.certs_extension.Profiles.{Profile}
-use Rattle.rpki_steps.specs.rpki_rules.Certs.{Cert}
-use Rattle.rpki_steps.specs.rpki_rules.Kinds.{Kind, InSet}
-use Rattle.rpki_steps.specs.rpki_rules.World.{World}
-use Rattle.rpki_steps.specs.rpki_rules.Points.{Signed}
-use Rattle.rpki_steps.specs.rpki_rules.Chains.{Fits}
+use Rattle.rpki_rules.specs.Certs.{Cert}
+use Rattle.rpki_rules.specs.Kinds.{Kind, InSet}
+use Rattle.rpki_rules.specs.World.{World}
+use Rattle.rpki_rules.specs.Points.{Signed}
+use Rattle.rpki_rules.specs.Chains.{Fits}
 use Rattle.rpki_steps.specs.Holders.{cert_of, sets_of}
 
 -- It has the form of its role, another authority's (`Ca`) or a published object's (`Ee`), the authority signed it, and its

@@ -1,9 +1,9 @@
 -- What a certificate claims, and what it then holds (RFC 6487 7.2, RFC 8360 4.2).
 use Rattle.std.specs.Prelude.{ℕ, Option, Some, None}
 use Rattle.rpki_steps.specs.resources.Resources.{Resources}
-use Rattle.rpki_steps.specs.rpki_rules.Certs.{Cert}
-use Rattle.rpki_steps.specs.rpki_rules.Chains.{Fits}
-use Rattle.rpki_steps.specs.rpki_rules.Kinds.{Kind}
+use Rattle.rpki_rules.specs.Certs.{Cert}
+use Rattle.rpki_rules.specs.Chains.{Fits}
+use Rattle.rpki_rules.specs.Kinds.{Kind}
 use Rattle.rpki_walk.specs.Filed.{HasKept}
 use Rattle.rpki_walk.specs.Claimed.{ClaimValue}
 

@@ -1,8 +1,8 @@
 -- The trust anchor of one locator (RFC 8630 3).
 use Rattle.std.specs.Prelude.{ℕ, List}
-use Rattle.rpki_steps.specs.rpki_rules.Certs.{CertText, Key}
-use Rattle.rpki_steps.specs.rpki_rules.Points.{IsAnchorCert, Link}
-use Rattle.rpki_steps.specs.rpki_rules.World.{World}
+use Rattle.rpki_rules.specs.Certs.{CertText, Key}
+use Rattle.rpki_rules.specs.Points.{IsAnchorCert, Link}
+use Rattle.rpki_rules.specs.World.{World}
 use Rattle.rpki_standing.specs.rpki_bundle.declared.parts.Locator.{Locator}
 use Rattle.rpki_standing.specs.Leads.{HoldsAt}
 

@@ -2,9 +2,9 @@
 use Rattle.std.specs.Prelude.{ℕ, List}
 use Rattle.rpki_steps.specs.Holders.{cert_of, sets_of}
 use Rattle.rpki_steps.specs.certs_verify.Holders.{ResourceCertValue}
-use Rattle.rpki_steps.specs.rpki_rules.Kinds.{InSet}
-use Rattle.rpki_steps.specs.rpki_rules.Points.{Point}
-use Rattle.rpki_steps.specs.rpki_rules.World.{World}
+use Rattle.rpki_rules.specs.Kinds.{InSet}
+use Rattle.rpki_rules.specs.Points.{Point}
+use Rattle.rpki_rules.specs.World.{World}
 use Rattle.rpki_walk.specs.Filed.{IsFiled}
 use Rattle.rpki_walk.specs.declared.steps.Filed.{Filed}
 use Rattle.rpki_standing.specs.Views.{payload_of}

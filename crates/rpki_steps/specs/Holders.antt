@@ -1,7 +1,7 @@
 -- A certificate that was verified, as the rules see it: the certificate, and the sets of the numbers that it holds.
 use Rattle.certs_verify.specs.Holders.{ResourceCertValue}
 use Rattle.rpki_steps.specs.resources.Resources.{Resources}
-use Rattle.rpki_steps.specs.rpki_rules.Certs.{Cert}
+use Rattle.rpki_rules.specs.Certs.{Cert}
 
 abbrev pub cert_of : ResourceCertValue → Cert
 cert_of r = r.holder.cert

@@ -18,9 +18,8 @@ pub use Rattle.rpki_standing.specs.certs_extension as certs_extension
 pub use Rattle.rpki_standing.specs.certs_basics as certs_basics
 pub use Rattle.certs_verify.specs as certs_verify
 pub use Rattle.rpki_bundle.specs as rpki_bundle
-pub use Rattle.rpki_walk.specs.rpki_rules as rpki_rules
+pub use Rattle.rpki_rules.specs as rpki_rules
 pub use Rattle.certs_verify.specs.certs_x509 as certs_x509
 pub use Rattle.rpki_walk.specs.resources_chain as resources_chain
 pub use Rattle.rpki_walk.specs.resources as resources
 pub use Rattle.rpki_walk.specs as rpki_walk
-pub use Rattle.rpki_walk.specs.bcder_tree as bcder_tree

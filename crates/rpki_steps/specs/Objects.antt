@@ -1,8 +1,8 @@
 -- What objects attest, by what is held (RFC 9582 5, draft-ietf-sidrops-aspa-profile 4).
 use Rattle.std.specs.Prelude.{ℕ}
-use Rattle.rpki_steps.specs.rpki_rules.Attests.{HoldsWith, IsCovered}
-use Rattle.rpki_steps.specs.rpki_rules.Chains.{Fits}
-use Rattle.rpki_steps.specs.rpki_rules.Kinds.{Kind}
+use Rattle.rpki_rules.specs.Attests.{HoldsWith, IsCovered}
+use Rattle.rpki_rules.specs.Chains.{Fits}
+use Rattle.rpki_rules.specs.Kinds.{Kind}
 use Rattle.rpki_standing.specs.Published.{PublishedValue}
 
 -- The claim of the object's certificate fits, and what it attests is held with that certificate. `held` says what is

@@ -1,10 +1,10 @@
 -- What a publication point has beside its manifest: its files and its revocation list (RFC 9286 6.2, 6.4, 6.5).
 use Rattle.std.specs.Prelude.{◌≡◌, ℕ, List, Some}
 use Rattle.rpki_standing.specs.objects_valid.Kinds.{KindValue}
-use Rattle.rpki_steps.specs.rpki_rules.Certs.{Cert, Crl}
-use Rattle.rpki_steps.specs.rpki_rules.Objects.{Manifest}
-use Rattle.rpki_steps.specs.rpki_rules.Points.{HasFiles, IsCrlOf, files}
-use Rattle.rpki_steps.specs.rpki_rules.World.{World}
+use Rattle.rpki_rules.specs.Certs.{Cert, Crl}
+use Rattle.rpki_rules.specs.Objects.{Manifest}
+use Rattle.rpki_rules.specs.Points.{HasFiles, IsCrlOf, files}
+use Rattle.rpki_rules.specs.World.{World}
 use Rattle.rpki_steps.specs.declared.places.files.File.{File}
 use Rattle.rpki_steps.specs.PlaceFiles.{AreFilesOf}
 

@@ -2,9 +2,9 @@
 use Rattle.std.specs.Prelude.{◌≡◌, ℕ, List, [], ◌∷◌, map, Option, Some}
 use Rattle.rpki_standing.specs.certs_basics.Paths.{join}
 use Rattle.rpki_standing.specs.certs_basics.Uris.{lookup_key}
-use Rattle.rpki_steps.specs.rpki_rules.Certs.{Cert}
-use Rattle.rpki_steps.specs.rpki_rules.Objects.{File as Listed, Manifest}
-use Rattle.rpki_steps.specs.rpki_rules.Points.{files}
+use Rattle.rpki_rules.specs.Certs.{Cert}
+use Rattle.rpki_rules.specs.Objects.{File as Listed, Manifest}
+use Rattle.rpki_rules.specs.Points.{files}
 use Rattle.rpki_steps.specs.declared.places.files.File.{File}
 
 -- The file of that name in that folder, with the octets that are held there. `object` gives the octets of the object

@@ -1,9 +1,9 @@
 -- What stands at an authority's publication point, with the octets of its files (RFC 9286 6, RFC 6487 5).
 use Rattle.std.specs.Prelude.{◌≡◌, map, Option, Some, None}
-use Rattle.rpki_steps.specs.rpki_rules.Certs.{Cert}
-use Rattle.rpki_steps.specs.rpki_rules.Objects.{File as Listed}
-use Rattle.rpki_steps.specs.rpki_rules.Points.{IsPoint, Point}
-use Rattle.rpki_steps.specs.rpki_rules.World.{World}
+use Rattle.rpki_rules.specs.Certs.{Cert}
+use Rattle.rpki_rules.specs.Objects.{File as Listed}
+use Rattle.rpki_rules.specs.Points.{IsPoint, Point}
+use Rattle.rpki_rules.specs.World.{World}
 use Rattle.rpki_steps.specs.declared.places.files.File.{File}
 use Rattle.rpki_steps.specs.declared.places.standing.Point.{Point as Place}
 use Rattle.rpki_steps.specs.PlaceFiles.{AreFilesOf}

@@ -1,5 +1,5 @@
 -- Publication points, as the rules see them.
-use Rattle.rpki_steps.specs.rpki_rules.Points.{Point}
+use Rattle.rpki_rules.specs.Points.{Point}
 use Rattle.rpki_standing.specs.Standing.{StandingValue}
 
 abbrev pub point_of : StandingValue → Point

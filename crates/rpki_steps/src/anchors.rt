@@ -5,7 +5,7 @@ ghost use Rattle.std.specs.Str.Lossy.{utf8_lossy};
 ghost use Rattle.std.specs.String.{string_bytes};
 ghost use Rattle.rpki_steps.specs.Holders.{cert_of, sets_of};
 ghost use Rattle.rpki_steps.specs.certs_key.Digesting.{digests_of};
-ghost use Rattle.rpki_steps.specs.rpki_rules.World.{world_of};
+ghost use Rattle.rpki_rules.specs.World.{world_of};
 ghost use Rattle.rpki_walk.specs.Filed.{IsLed};
 ghost use Rattle.rpki_standing.specs.Leads.{HoldsAt};
 ghost use Rattle.rpki_steps.specs.Anchors.{FindsAnchorIn};

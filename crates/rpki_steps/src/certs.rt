@@ -2,9 +2,9 @@
 
 ghost use Rattle.std.specs.Prelude.{◌≡◌, IfOk, List, Some, true, ℕ};
 ghost use Rattle.rpki_steps.specs.certs_key.Digesting.{digests_of};
-ghost use Rattle.rpki_steps.specs.rpki_rules.Certs.{CertText};
-ghost use Rattle.rpki_steps.specs.rpki_rules.Chains.{CertAt, HasExtension, cer};
-ghost use Rattle.rpki_steps.specs.rpki_rules.World.{world_of};
+ghost use Rattle.rpki_rules.specs.Certs.{CertText};
+ghost use Rattle.rpki_rules.specs.Chains.{CertAt, HasExtension, cer};
+ghost use Rattle.rpki_rules.specs.World.{world_of};
 ghost use Rattle.rpki_steps.specs.Files.{IsFile};
 
 use crate::accepted::authority_below;

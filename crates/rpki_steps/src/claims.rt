@@ -2,8 +2,8 @@
 
 ghost use Rattle.std.specs.Prelude.{◌≡◌, ◌↔◌, IfOk, IsTrue};
 ghost use Rattle.rpki_steps.specs.Holders.{sets_of};
-ghost use Rattle.rpki_steps.specs.rpki_rules.Chains.{Fits};
-ghost use Rattle.rpki_steps.specs.rpki_rules.Kinds.{InSet};
+ghost use Rattle.rpki_rules.specs.Chains.{Fits};
+ghost use Rattle.rpki_rules.specs.Kinds.{InSet};
 ghost use Rattle.rpki_steps.specs.Claims.{FindsSets, claims_of};
 
 use certs_verify::{Cert, ResourceCert};

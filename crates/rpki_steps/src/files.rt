@@ -3,9 +3,9 @@
 ghost use Rattle.std.specs.Prelude.{◌≡◌, IfOk};
 ghost use Rattle.rpki_steps.specs.Holders.{cert_of};
 ghost use Rattle.rpki_steps.specs.certs_key.Digesting.{digests_of};
-ghost use Rattle.rpki_steps.specs.rpki_rules.Points.{files};
-ghost use Rattle.rpki_steps.specs.rpki_rules.Words.{Mem};
-ghost use Rattle.rpki_steps.specs.rpki_rules.World.{world_of};
+ghost use Rattle.rpki_rules.specs.Points.{files};
+ghost use Rattle.rpki_rules.specs.Words.{Mem};
+ghost use Rattle.rpki_rules.specs.World.{world_of};
 ghost use Rattle.rpki_steps.specs.Files.{IsFile};
 
 use crate::authority::Authority;

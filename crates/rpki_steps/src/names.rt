@@ -2,11 +2,11 @@
 
 ghost use Rattle.std.specs.Prelude.{◌≡◌, ◌↔◌, IfOk, List, map, ℕ};
 ghost use Rattle.rpki_standing.specs.objects_payload.Uris.{text_of};
-ghost use Rattle.rpki_steps.specs.rpki_rules.Certs.{Digests, Verdicts};
-ghost use Rattle.rpki_steps.specs.rpki_rules.Points.{files};
-ghost use Rattle.rpki_steps.specs.rpki_rules.Reach.{NamesFile};
-ghost use Rattle.rpki_steps.specs.rpki_rules.Words.{Mem};
-ghost use Rattle.rpki_steps.specs.rpki_rules.World.{world_of};
+ghost use Rattle.rpki_rules.specs.Certs.{Digests, Verdicts};
+ghost use Rattle.rpki_rules.specs.Points.{files};
+ghost use Rattle.rpki_rules.specs.Reach.{NamesFile};
+ghost use Rattle.rpki_rules.specs.Words.{Mem};
+ghost use Rattle.rpki_rules.specs.World.{world_of};
 ghost use Rattle.rpki_standing.specs.certs_basics.Uris.{lookup_key as key_of};
 ghost use Rattle.rpki_walk.specs.Naming.{AreLocatorKeys, AreNamed};
 

@@ -4,12 +4,12 @@
 ghost use Rattle.std.specs.Prelude.{◌≡◌, ◌↔◌, ◌⊎◌, IfOk, IsTrue};
 ghost use Rattle.rpki_steps.specs.Holders.{cert_of, sets_of};
 ghost use Rattle.rpki_steps.specs.certs_key.Digesting.{digests_of};
-ghost use Rattle.rpki_steps.specs.rpki_rules.Attests.{IsCovered};
-ghost use Rattle.rpki_steps.specs.rpki_rules.Chains.{HasExtension, asa, roa};
-ghost use Rattle.rpki_steps.specs.rpki_rules.Kinds.{InSet};
-ghost use Rattle.rpki_steps.specs.rpki_rules.Points.{files};
-ghost use Rattle.rpki_steps.specs.rpki_rules.Words.{Mem};
-ghost use Rattle.rpki_steps.specs.rpki_rules.World.{world_of};
+ghost use Rattle.rpki_rules.specs.Attests.{IsCovered};
+ghost use Rattle.rpki_rules.specs.Chains.{HasExtension, asa, roa};
+ghost use Rattle.rpki_rules.specs.Kinds.{InSet};
+ghost use Rattle.rpki_rules.specs.Points.{files};
+ghost use Rattle.rpki_rules.specs.Words.{Mem};
+ghost use Rattle.rpki_rules.specs.World.{world_of};
 ghost use Rattle.rpki_standing.specs.Views.{payload_of};
 ghost use Rattle.rpki_steps.specs.Files.{IsFile};
 ghost use Rattle.rpki_steps.specs.Objects.{IsWithin};

@@ -3,9 +3,9 @@
 ghost use Rattle.std.specs.Prelude.{◌≡◌, IfOk, IfSome};
 ghost use Rattle.rpki_steps.specs.Holders.{cert_of, sets_of};
 ghost use Rattle.rpki_steps.specs.certs_key.Digesting.{digests_of};
-ghost use Rattle.rpki_steps.specs.rpki_rules.Kinds.{InSet};
-ghost use Rattle.rpki_steps.specs.rpki_rules.Points.{files};
-ghost use Rattle.rpki_steps.specs.rpki_rules.World.{world_of};
+ghost use Rattle.rpki_rules.specs.Kinds.{InSet};
+ghost use Rattle.rpki_rules.specs.Points.{files};
+ghost use Rattle.rpki_rules.specs.World.{world_of};
 ghost use Rattle.rpki_walk.specs.Filed.{IsRead};
 ghost use Rattle.rpki_steps.specs.Points.{point_of};
 

@@ -3,7 +3,7 @@
 ghost use Rattle.std.specs.Prelude.{◌≡◌};
 ghost use Rattle.rpki_steps.specs.Holders.{cert_of, sets_of};
 ghost use Rattle.rpki_steps.specs.certs_key.Digesting.{digests_of};
-ghost use Rattle.rpki_steps.specs.rpki_rules.World.{world_of};
+ghost use Rattle.rpki_rules.specs.World.{world_of};
 ghost use Rattle.rpki_standing.specs.Views.{payload_of};
 ghost use Rattle.rpki_steps.specs.Points.{point_of};
 

@@ -4,7 +4,7 @@ ghost use Rattle.std.specs.Prelude.{List, ℕ};
 ghost use Rattle.rpki_walk.specs.resources_ip.WholeSets.{AreWhole, ListsWhole};
 ghost use Rattle.rpki_steps.specs.resources_chain.Claims.{Choice, Kept, Lists};
 ghost use Rattle.rpki_steps.specs.resources_chain.Sets.{InRuns, IsRunsOf, Run};
-ghost use Rattle.rpki_steps.specs.rpki_rules.Certs.{Cert, CertText};
+ghost use Rattle.rpki_rules.specs.Certs.{Cert, CertText};
 
 use rpki_walk::reach::laws::ipres::{
     choices_that_are_read_fit, families_that_are_read_fit, what_is_kept_is_whole,

@@ -3,8 +3,8 @@
 ghost use Rattle.std.specs.Prelude.{◌≡◌, ◌↔◌, IfOk, IsTrue};
 ghost use Rattle.certs_verify.specs.Answers.{AsksOnce};
 ghost use Rattle.rpki_steps.specs.certs_key.Digesting.{digests_of};
-ghost use Rattle.rpki_steps.specs.rpki_rules.Certs.{encoded};
-ghost use Rattle.rpki_steps.specs.rpki_rules.World.{world_of};
+ghost use Rattle.rpki_rules.specs.Certs.{encoded};
+ghost use Rattle.rpki_rules.specs.World.{world_of};
 ghost use Rattle.rpki_steps.specs.Anchored.{FindsAnchor};
 
 use crate::accepted::settled::settle;

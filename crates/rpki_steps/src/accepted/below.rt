@@ -4,7 +4,7 @@ ghost use Rattle.std.specs.Prelude.{◌≡◌, IfOk};
 ghost use Rattle.certs_verify.specs.Answers.{AsksOnce};
 ghost use Rattle.rpki_steps.specs.certs_key.Digesting.{digests_of};
 ghost use Rattle.rpki_steps.specs.certs_extension.declared.forms.Role.TheVariants.{Ca};
-ghost use Rattle.rpki_steps.specs.rpki_rules.World.{world_of};
+ghost use Rattle.rpki_rules.specs.World.{world_of};
 ghost use Rattle.rpki_steps.specs.Below.{FindsBelow};
 
 use crate::accepted::settled::settle;

@@ -1,10 +1,10 @@
 //! Trust anchors by the names of their locators (RFC 8630 3).
 
 ghost use Rattle.std.specs.Prelude.{◌≡◌, ◌↔◌, ◌+◌, ◌≤◌, IfNone, IfOk, IfSome, IsTrue};
-ghost use Rattle.rpki_steps.specs.rpki_rules.Chains.{CertAt};
-ghost use Rattle.rpki_steps.specs.rpki_rules.Points.{Anchor, IsAnchorCert};
-ghost use Rattle.rpki_steps.specs.rpki_rules.Words.{Mem};
-ghost use Rattle.rpki_steps.specs.rpki_rules.World.{world_of};
+ghost use Rattle.rpki_rules.specs.Chains.{CertAt};
+ghost use Rattle.rpki_rules.specs.Points.{Anchor, IsAnchorCert};
+ghost use Rattle.rpki_rules.specs.Words.{Mem};
+ghost use Rattle.rpki_rules.specs.World.{world_of};
 ghost use Rattle.rpki_standing.specs.rpki_bundle.declared.parts.Locator.{Locator as LocatorValue};
 ghost use Rattle.rpki_standing.specs.certs_key.Digesting.{digests_of};
 ghost use Rattle.rpki_steps.specs.ClimbAnchors.{IsAnchorOf};

@@ -2,9 +2,9 @@
 
 ghost use Rattle.std.specs.Prelude.{◌≡◌, ◌↔◌, ◌+◌, ◌≤◌, IfOk, IsTrue};
 ghost use Rattle.rpki_walk.specs.Evidence.{IsBelow};
-ghost use Rattle.rpki_steps.specs.rpki_rules.Chains.{CertAt, IsSound};
-ghost use Rattle.rpki_steps.specs.rpki_rules.Points.{files as files_by};
-ghost use Rattle.rpki_steps.specs.rpki_rules.World.{world_of};
+ghost use Rattle.rpki_rules.specs.Chains.{CertAt, IsSound};
+ghost use Rattle.rpki_rules.specs.Points.{files as files_by};
+ghost use Rattle.rpki_rules.specs.World.{world_of};
 ghost use Rattle.rpki_standing.specs.certs_key.Digesting.{digests_of};
 
 use crate::climb::files::is_cer_file;

@@ -3,8 +3,8 @@
 ghost use Rattle.std.specs.Prelude.{◌≡◌, ◌↔◌, IfOk, IsTrue};
 ghost use Rattle.rpki_walk.specs.Evidence.{IsReadCert};
 ghost use Rattle.rpki_walk.specs.Needed.{AreClaims};
-ghost use Rattle.rpki_steps.specs.rpki_rules.Certs.{Digests, Verdicts};
-ghost use Rattle.rpki_steps.specs.rpki_rules.World.{world_of};
+ghost use Rattle.rpki_rules.specs.Certs.{Digests, Verdicts};
+ghost use Rattle.rpki_rules.specs.World.{world_of};
 
 use rpki_standing::anchors::cert_at;
 use rpki_standing::{Cert, Index};

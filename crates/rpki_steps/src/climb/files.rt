@@ -1,8 +1,8 @@
 //! Files of a publication point.
 
 ghost use Rattle.std.specs.Prelude.{◌↔◌, IsTrue};
-ghost use Rattle.rpki_steps.specs.rpki_rules.Chains.{HasExtension, cer};
-ghost use Rattle.rpki_steps.specs.rpki_rules.Words.{Mem};
+ghost use Rattle.rpki_rules.specs.Chains.{HasExtension, cer};
+ghost use Rattle.rpki_rules.specs.Words.{Mem};
 
 use bytes::Bytes;
 use rpki_standing::payloads::{Extension, extension_of};

@@ -7,8 +7,8 @@ ghost use Rattle.rpki_walk.specs.resources_ip.Block.{run_of_block};
 ghost use Rattle.rpki_walk.specs.resources_ip_prefix.Prefixes.{prefix_run};
 ghost use Rattle.rpki_standing.specs.objects_payload.Addresses.{roa_address};
 ghost use Rattle.rpki_standing.specs.Views.{payload_of};
-ghost use Rattle.rpki_steps.specs.rpki_rules.Attests.{OfAspa, OfRoa};
-ghost use Rattle.rpki_steps.specs.rpki_rules.Judge.{Needs, runs_of};
+ghost use Rattle.rpki_rules.specs.Attests.{OfAspa, OfRoa};
+ghost use Rattle.rpki_rules.specs.Judge.{Needs, runs_of};
 ghost use Rattle.rpki_walk.specs.Needed.{IsNeed};
 
 use rpki_standing::payloads::{

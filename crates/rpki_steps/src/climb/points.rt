@@ -2,8 +2,8 @@
 
 ghost use Rattle.std.specs.Prelude.{◌≡◌, ◌+◌, ◌≤◌, IfOk, IfSome};
 ghost use Rattle.rpki_walk.specs.Evidence.{IsReadObject, IsReadPoint};
-ghost use Rattle.rpki_steps.specs.rpki_rules.Points.{files as files_by};
-ghost use Rattle.rpki_steps.specs.rpki_rules.World.{world_of};
+ghost use Rattle.rpki_rules.specs.Points.{files as files_by};
+ghost use Rattle.rpki_rules.specs.World.{world_of};
 ghost use Rattle.rpki_standing.specs.certs_key.Digesting.{digests_of};
 
 use crate::climb::files::is_listed;

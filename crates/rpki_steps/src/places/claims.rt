@@ -2,7 +2,7 @@
 
 ghost use Rattle.std.specs.Prelude.{◌≡◌, ◌↔◌, IsTrue};
 ghost use Rattle.rpki_standing.specs.certs_extension.Verified.{held_by};
-ghost use Rattle.rpki_steps.specs.rpki_rules.Chains.{Fits};
+ghost use Rattle.rpki_rules.specs.Chains.{Fits};
 ghost use Rattle.rpki_steps.specs.PlaceClaims.{sets_of};
 ghost use Rattle.rpki_steps.specs.Claims.{claims_of};
 

@@ -3,7 +3,7 @@
 ghost use Rattle.std.specs.Prelude.{◌≡◌, All, IfOk, MatchOption, None};
 ghost use Rattle.rpki_standing.specs.certs_basics.Paths.{join as joined};
 ghost use Rattle.rpki_standing.specs.certs_basics.Uris.{IsUriOctet, lookup_key as key_of};
-ghost use Rattle.rpki_steps.specs.rpki_rules.World.{find_object};
+ghost use Rattle.rpki_rules.specs.World.{find_object};
 ghost use Rattle.rpki_steps.specs.PlaceFiles.{AreFilesIn, AreFilesOf, IsFileIn, NoFilesIn, NoFilesOf};
 
 use bytes::Bytes;

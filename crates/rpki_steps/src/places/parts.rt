@@ -2,9 +2,9 @@
 
 ghost use Rattle.std.specs.Prelude.{◌≡◌, ◌+◌, ◌≤◌, IfOk, MatchOption};
 ghost use Rattle.rpki_standing.specs.certs_key.Digesting.{digests_of};
-ghost use Rattle.rpki_steps.specs.rpki_rules.Certs.{Digests, Verdicts};
-ghost use Rattle.rpki_steps.specs.rpki_rules.Points.{HasFiles, files as files_by};
-ghost use Rattle.rpki_steps.specs.rpki_rules.World.{world_of};
+ghost use Rattle.rpki_rules.specs.Certs.{Digests, Verdicts};
+ghost use Rattle.rpki_rules.specs.Points.{HasFiles, files as files_by};
+ghost use Rattle.rpki_rules.specs.World.{world_of};
 ghost use Rattle.rpki_standing.specs.Standing.{HasNoParts};
 ghost use Rattle.rpki_steps.specs.Parts.{AreHeld, ArePartsOf, HasNoList, IsNamedList};
 

@@ -3,9 +3,9 @@
 ghost use Rattle.std.specs.Prelude.{◌≡◌, ◌+◌, ◌≤◌, IfOk};
 ghost use Rattle.rpki_standing.specs.certs_key.Digesting.{digests_of};
 ghost use Rattle.rpki_standing.specs.certs_extension.Verified.{held_by};
-ghost use Rattle.rpki_steps.specs.rpki_rules.Chains.{StandsIn};
-ghost use Rattle.rpki_steps.specs.rpki_rules.Points.{IsPoint};
-ghost use Rattle.rpki_steps.specs.rpki_rules.World.{world_of};
+ghost use Rattle.rpki_rules.specs.Chains.{StandsIn};
+ghost use Rattle.rpki_rules.specs.Points.{IsPoint};
+ghost use Rattle.rpki_rules.specs.World.{world_of};
 ghost use Rattle.rpki_steps.specs.Places.{FindsPoint};
 
 use crate::places::claims::fits_below;

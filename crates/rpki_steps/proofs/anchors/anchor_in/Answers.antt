@@ -1,5 +1,5 @@
 use Rattle.rpki_steps.specs.certs_key.Digesting.{digests_of}
-use Rattle.rpki_steps.specs.rpki_rules.World.{world_of}
+use Rattle.rpki_rules.specs.World.{world_of}
 use Rattle.rpki_steps.proofs.AnchorLemmas.{anchor_told, none_read}
 use Rattle.rpki_steps.proofs.anchors.anchor_in.Goals as goal
 

@@ -1,6 +1,6 @@
 use Rattle.rpki_steps.specs.certs_key.Digesting.{digests_of}
-use Rattle.rpki_steps.specs.rpki_rules.World.{world_of}
-use Rattle.rpki_steps.specs.rpki_rules.Kinds.{Ipv4}
+use Rattle.rpki_rules.specs.World.{world_of}
+use Rattle.rpki_rules.specs.Kinds.{Ipv4}
 use Rattle.rpki_steps.proofs.AnchorLemmas.{is_anchor, no_anchor}
 use Rattle.rpki_steps.proofs.anchors.lead_to.Goals as goal
 

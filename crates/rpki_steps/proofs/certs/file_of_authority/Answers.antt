@@ -1,7 +1,7 @@
 use Rattle.std.proofs.Common.{sym}
 use Rattle.rpki_steps.specs.certs_key.Digesting.{digests_of}
-use Rattle.rpki_steps.specs.rpki_rules.World.{world_of}
-use Rattle.rpki_steps.specs.rpki_rules.Kinds.{Ipv4}
+use Rattle.rpki_rules.specs.World.{world_of}
+use Rattle.rpki_rules.specs.Kinds.{Ipv4}
 use Rattle.rpki_steps.proofs.CertFiles.{below, not_below, revoked}
 use Rattle.rpki_steps.proofs.FileLemmas.{is_not}
 use Rattle.rpki_steps.proofs.certs.file_of_authority.Goals as goal

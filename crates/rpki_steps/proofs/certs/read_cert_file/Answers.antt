@@ -1,5 +1,5 @@
 use Rattle.rpki_steps.specs.certs_key.Digesting.{digests_of}
-use Rattle.rpki_steps.specs.rpki_rules.World.{world_of}
+use Rattle.rpki_rules.specs.World.{world_of}
 use Rattle.rpki_steps.proofs.CertFiles.{no_authority, no_cert}
 use Rattle.rpki_steps.proofs.FileLemmas.{is_true, isnt_true, told_at}
 use Rattle.rpki_steps.proofs.certs.read_cert_file.Goals as goal

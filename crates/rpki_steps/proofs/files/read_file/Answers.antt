@@ -1,5 +1,5 @@
 use Rattle.rpki_steps.specs.certs_key.Digesting.{digests_of}
-use Rattle.rpki_steps.specs.rpki_rules.World.{world_of}
+use Rattle.rpki_rules.specs.World.{world_of}
 use Rattle.rpki_standing.specs.declared.payloads.names.Extension.TheVariants as extension
 use Rattle.rpki_steps.proofs.FileLemmas.{as_cert_file, as_payload_file, has_this, no_extension}
 use Rattle.std.proofs.Common.{inl, inr}

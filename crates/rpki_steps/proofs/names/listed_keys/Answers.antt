@@ -1,5 +1,5 @@
 use Rattle.std.proofs.Common.{◌≡◌, [], rules}
-use Rattle.rpki_steps.specs.rpki_rules.World.{world_of}
+use Rattle.rpki_rules.specs.World.{world_of}
 use Rattle.rpki_steps.proofs.NameLemmas.{listed_none, listed_told}
 use Rattle.rpki_steps.proofs.names.listed_keys.Goals as goal
 

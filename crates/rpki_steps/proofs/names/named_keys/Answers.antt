@@ -1,6 +1,6 @@
 use Rattle.std.proofs.Common.{◌≡◌, ◌∙◌, None, Some, ap, sym}
 use Rattle.rpki_standing.specs.certs_basics.Uris.{lookup_key}
-use Rattle.rpki_steps.specs.rpki_rules.World.{world_of}
+use Rattle.rpki_rules.specs.World.{world_of}
 use Rattle.rpki_steps.proofs.NameLemmas.{named_more, named_none}
 use Rattle.rpki_steps.proofs.names.named_keys.Goals as goal
 

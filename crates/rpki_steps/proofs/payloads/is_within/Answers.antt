@@ -1,5 +1,5 @@
 use Rattle.rpki_steps.specs.Holders.{sets_of}
-use Rattle.rpki_steps.specs.rpki_rules.Kinds.{InSet}
+use Rattle.rpki_rules.specs.Kinds.{InSet}
 use Rattle.rpki_standing.specs.Views.{payload_of}
 use Rattle.rpki_steps.proofs.PayloadFiles.{within_told}
 use Rattle.rpki_steps.proofs.payloads.is_within.Goals as goal

@@ -1,10 +1,10 @@
 use Rattle.std.proofs.Common.{◌≡◌, ◌∙◌, ap, subst, sym}
 use Rattle.rpki_steps.specs.Holders.{cert_of}
 use Rattle.rpki_steps.specs.certs_key.Digesting.{digests_of}
-use Rattle.rpki_steps.specs.rpki_rules.Certs.{Cert}
-use Rattle.rpki_steps.specs.rpki_rules.Points.{files}
-use Rattle.rpki_steps.specs.rpki_rules.Words.{Mem}
-use Rattle.rpki_steps.specs.rpki_rules.World.{world_of}
+use Rattle.rpki_rules.specs.Certs.{Cert}
+use Rattle.rpki_rules.specs.Points.{files}
+use Rattle.rpki_rules.specs.Words.{Mem}
+use Rattle.rpki_rules.specs.World.{world_of}
 use Rattle.rpki_standing.specs.Published.{FindsObject}
 use Rattle.rpki_steps.proofs.FileLemmas.{is_not}
 use Rattle.rpki_steps.proofs.PayloadFiles.{good, no_object, not_within}

@@ -1,7 +1,7 @@
 use Rattle.rpki_steps.specs.certs_key.Digesting.{digests_of}
 use Rattle.rpki_steps.specs.Holders.{cert_of, sets_of}
-use Rattle.rpki_steps.specs.rpki_rules.Kinds.{InSet}
-use Rattle.rpki_steps.specs.rpki_rules.World.{world_of}
+use Rattle.rpki_rules.specs.Kinds.{InSet}
+use Rattle.rpki_rules.specs.World.{world_of}
 use Rattle.rpki_steps.proofs.FileLemmas.{is_not}
 use Rattle.rpki_steps.proofs.PointLemmas.{fit, no_fit, no_point}
 use Rattle.rpki_steps.proofs.points.read_point.Goals as goal

@@ -1,6 +1,6 @@
 use Rattle.rpki_steps.specs.certs_key.Digesting.{digests_of}
 use Rattle.rpki_steps.specs.certs_extension.declared.forms.Role.TheVariants.{Ca}
-use Rattle.rpki_steps.specs.rpki_rules.World.{world_of}
+use Rattle.rpki_rules.specs.World.{world_of}
 use Rattle.rpki_steps.proofs.FoundBelow.{found_below}
 use Rattle.rpki_steps.proofs.accepted.below.authority_below.Goals as goal
 

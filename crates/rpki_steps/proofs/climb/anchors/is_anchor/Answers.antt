@@ -1,8 +1,8 @@
 use Rattle.std.proofs.Common.{Bool, subst}
 use Rattle.std.specs.Prelude.{◌↔◌, IsTrue, List}
-use Rattle.rpki_steps.specs.rpki_rules.Points.{Anchor, Link}
-use Rattle.rpki_steps.specs.rpki_rules.Words.{Mem}
-use Rattle.rpki_steps.specs.rpki_rules.World.{World, world_of}
+use Rattle.rpki_rules.specs.Points.{Anchor, Link}
+use Rattle.rpki_rules.specs.Words.{Mem}
+use Rattle.rpki_rules.specs.World.{World, world_of}
 use Rattle.rpki_standing.specs.rpki_bundle.declared.parts.Locator.{Locator}
 use Rattle.rpki_standing.specs.certs_key.Digesting.{digests_of}
 use Rattle.rpki_steps.specs.ClimbAnchors.{IsAnchorOf}

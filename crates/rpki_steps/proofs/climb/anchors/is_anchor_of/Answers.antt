@@ -1,6 +1,6 @@
 use Rattle.std.proofs.Common.{sym, subst}
-use Rattle.rpki_steps.specs.rpki_rules.Certs.{Key}
-use Rattle.rpki_steps.specs.rpki_rules.World.{World, world_of}
+use Rattle.rpki_rules.specs.Certs.{Key}
+use Rattle.rpki_rules.specs.World.{World, world_of}
 use Rattle.rpki_standing.specs.Leads.{HoldsAt, IsLead}
 use Rattle.rpki_standing.specs.certs_key.Digesting.{digests_of}
 use Rattle.rpki_steps.proofs.Named.{anchor_by, no_anchor}

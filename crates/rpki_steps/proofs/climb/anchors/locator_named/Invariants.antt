@@ -1,5 +1,5 @@
 use Rattle.std.proofs.Common.{◌≡◌, length}
-use Rattle.rpki_steps.specs.rpki_rules.Words.{Mem}
+use Rattle.rpki_rules.specs.Words.{Mem}
 use Rattle.rpki_standing.specs.rpki_bundle.declared.parts.Locator.{Locator}
 use Rattle.rpki_steps.proofs.climb.anchors.locator_named.Given as goal
 

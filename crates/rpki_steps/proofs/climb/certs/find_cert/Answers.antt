@@ -1,9 +1,9 @@
 use Rattle.std.proofs.Common.{Option}
 use Rattle.std.specs.Prelude.{MatchOption}
 use Rattle.rpki_walk.specs.Evidence.{IsReadCert}
-use Rattle.rpki_steps.specs.rpki_rules.Certs.{Cert, Digests, Verdicts}
-use Rattle.rpki_steps.specs.rpki_rules.Chains.{CertAt}
-use Rattle.rpki_steps.specs.rpki_rules.World.{world_of}
+use Rattle.rpki_rules.specs.Certs.{Cert, Digests, Verdicts}
+use Rattle.rpki_rules.specs.Chains.{CertAt}
+use Rattle.rpki_rules.specs.World.{world_of}
 use Rattle.rpki_standing.specs.Leads.{NoCertAt}
 use Rattle.rpki_steps.proofs.Looked.{cert_told}
 use Rattle.rpki_steps.proofs.Passing.{if_ok}

@@ -1,6 +1,6 @@
 use Rattle.std.proofs.Common.{length}
 use Rattle.std.specs.Prelude.{◌↔◌}
-use Rattle.rpki_steps.specs.rpki_rules.Words.{Mem}
+use Rattle.rpki_rules.specs.Words.{Mem}
 use Rattle.rpki_steps.proofs.climb.files.is_listed.Given as goal
 
 abbrev pub invariant-loop-file : goal.invariant-loop-file

@@ -1,7 +1,7 @@
 use Rattle.std.proofs.Common.{subst}
 use Rattle.rpki_standing.specs.rpki_bundle.declared.parts.Locator.{Locator}
 use Rattle.rpki_steps.specs.certs_key.Digesting.{digests_of}
-use Rattle.rpki_steps.specs.rpki_rules.World.{world_of}
+use Rattle.rpki_rules.specs.World.{world_of}
 use Rattle.rpki_walk.specs.Naming.{AreLocatorKeys}
 use Rattle.rpki_steps.proofs.AnchorLemmas.{locator_there}
 use Rattle.std.specs.Prelude.{IfOk}

@@ -1,5 +1,5 @@
 use Rattle.std.proofs.Common.{ℕ, List, subst}
-use Rattle.rpki_steps.specs.rpki_rules.World.{find_object}
+use Rattle.rpki_rules.specs.World.{find_object}
 use Rattle.rpki_steps.specs.PlaceFiles.{IsFileIn}
 use Rattle.rpki_steps.proofs.Listed.{all_read, more_read}
 use Rattle.rpki_steps.proofs.places.files.files_in.Goals as goal

@@ -1,4 +1,4 @@
-use Rattle.rpki_steps.specs.rpki_rules.World.{find_object}
+use Rattle.rpki_rules.specs.World.{find_object}
 use Rattle.rpki_steps.proofs.Listed.{IsReadTo}
 use Rattle.rpki_steps.proofs.places.files.files_in.Given as goal
 

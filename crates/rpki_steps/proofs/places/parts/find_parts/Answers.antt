@@ -2,9 +2,9 @@ use Rattle.std.proofs.Common.{◌∙◌, sym, ap, subst}
 use Rattle.std.specs.Prelude.{Vec}
 use Rattle.std.specs.declared.alloc.Global.{Global}
 use Rattle.rpki_standing.specs.certs_key.Digesting.{digests_of}
-use Rattle.rpki_steps.specs.rpki_rules.Objects.{Manifest}
-use Rattle.rpki_steps.specs.rpki_rules.Points.{HasFiles, files}
-use Rattle.rpki_steps.specs.rpki_rules.World.{find_object, world_of}
+use Rattle.rpki_rules.specs.Objects.{Manifest}
+use Rattle.rpki_rules.specs.Points.{HasFiles, files}
+use Rattle.rpki_rules.specs.World.{find_object, world_of}
 use Rattle.rpki_steps.specs.declared.places.files.File.{File}
 use Rattle.rpki_steps.specs.PlaceFiles.{AreFilesOf}
 use Rattle.rpki_steps.proofs.Found.{parts_told}

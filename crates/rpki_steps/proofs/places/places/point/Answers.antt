@@ -1,6 +1,6 @@
 use Rattle.rpki_standing.specs.certs_key.Digesting.{digests_of}
 use Rattle.rpki_standing.specs.certs_extension.Verified.{held_by}
-use Rattle.rpki_steps.specs.rpki_rules.World.{world_of}
+use Rattle.rpki_rules.specs.World.{world_of}
 use Rattle.rpki_steps.proofs.Stands.{claim_told, none_stands}
 use Rattle.rpki_steps.proofs.places.places.point.Goals as goal
 

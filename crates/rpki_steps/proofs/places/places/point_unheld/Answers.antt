@@ -4,9 +4,9 @@ use Rattle.std.specs.declared.alloc.Global.{Global}
 use Rattle.rpki_standing.specs.certs_key.Digesting.{digests_of}
 use Rattle.rpki_standing.specs.objects_valid.Kinds.{KindValue}
 use Rattle.rpki_standing.specs.Crls.{Finds}
-use Rattle.rpki_steps.specs.rpki_rules.Certs.{Verdicts}
-use Rattle.rpki_steps.specs.rpki_rules.Objects.{Manifest}
-use Rattle.rpki_steps.specs.rpki_rules.World.{World, world_of}
+use Rattle.rpki_rules.specs.Certs.{Verdicts}
+use Rattle.rpki_rules.specs.Objects.{Manifest}
+use Rattle.rpki_rules.specs.World.{World, world_of}
 use Rattle.rpki_standing.specs.Manifests.{IsOwnManifest}
 use Rattle.rpki_standing.specs.Standing.{HasNoParts}
 use Rattle.rpki_standing.proofs.Standings.{no_manifest, no_point}

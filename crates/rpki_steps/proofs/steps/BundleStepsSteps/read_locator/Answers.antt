@@ -1,5 +1,5 @@
 use Rattle.rpki_steps.specs.certs_key.Digesting.{digests_of}
-use Rattle.rpki_steps.specs.rpki_rules.World.{world_of}
+use Rattle.rpki_rules.specs.World.{world_of}
 use Rattle.rpki_steps.proofs.AnchorLemmas.{place_led}
 use Rattle.rpki_steps.proofs.steps.BundleStepsSteps.read_locator.Goals as goal
 
