@@ -3,7 +3,7 @@
 use answers::Answer;
 use bcder::Captured;
 use certs_x509::SigningError;
-use objects::kinds::{Aspa, Manifest, Roa, SignedObject};
+use objects_valid::kinds::{Aspa, Manifest, Roa, SignedObject};
 use std::alloc::Global;
 use std::convert::Infallible;
 
