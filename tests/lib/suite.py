@@ -63,7 +63,12 @@ TESTS = (
     Test("written objects", "outside/written.py objects_cases.py objects_cases", 400),
     Test("written resources", "outside/written.py resources_calls.py resources_cases", 180),
     Test("written rpki", "outside/written.py rpki_cases.py rpki_cases cases", 400),
+    # What documents say of the sources.
+    Test("promise", "tools/promise.py", 60),
     Test("definitions", "tools/definitions.py --check", 0, 60),
+    Test("calling", "tools/calling.py --check", 0, 60),
+    # Errors of which no clause says anything have a reason.
+    Test("error sides", "tools/error_sides.py", 300),
     # Stored questions.
     *(Test(f"stored {name}", f"outside/stored.py {name} {{{name}}}", 200) for name in STORED),
     # The built program, from outside.

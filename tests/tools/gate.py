@@ -1,5 +1,6 @@
 #!/usr/bin/env python3
-"""Runs the gate and writes docs/GATE.md: what each crate costs in processor seconds. Sections behind the table are kept.
+"""Runs the gate and writes docs/GATE.md: what each crate costs in processor seconds. Sections behind the table are kept,
+and the figures that stood there go to the end of bench/HISTORY-gate.md.
 
     gate.py [--log FILE]
 
@@ -23,6 +24,7 @@ import time
 
 ROOT = os.path.realpath(os.path.join(os.path.dirname(os.path.abspath(__file__)), os.pardir, os.pardir))
 PAGE = os.path.join(ROOT, "docs", "GATE.md")
+HISTORY = os.path.join(ROOT, "bench", "HISTORY-gate.md")
 TICKS = os.sysconf("SC_CLK_TCK")
 # The toolchain's folder, in which its checker, both compilers and the linker stand.
 KIT = os.path.dirname(os.path.dirname(os.path.realpath(shutil.which("rt") or "/opt/rattle/bin/rt"))) + os.sep
@@ -160,13 +162,34 @@ def page(status, wall, sums, log):
         f"Two processors of this kind would take {minutes_on(2, needs, sums):.0f} minutes for these seconds. "
         f"The longest chain of proofs, {seconds:,.0f} seconds: {', '.join(f'`{name}`' for name in reversed(names))}.",
         "",
-        f"| Crate | {' | '.join(f'{KINDS[kind]}, s' for kind in shown)} | Wrong bodies |",
-        f"|---|{'---:|' * (len(shown) + 1)}",
+        f"| Member | {' | '.join(f'{KINDS[kind]}, s' for kind in shown)} | Wrong bodies | Proof and compilers of each crate, s |",
+        f"|---|{'---:|' * (len(shown) + 1)}---|",
     ]
-    for crate in needs:
-        parts = " | ".join(f"{sums[crate, kind]:.0f}" for kind in shown)
-        rows.append(f"| `{crate}` | {parts} | {edits[crate]} |")
+    for member, crates in members().items():
+        parts = " | ".join(f"{sum(sums[crate, kind] for crate in crates):,.0f}" for kind in shown)
+        each = ", ".join(f"`{crate}` {proved_and_built(sums, crate):.0f}" for crate in crates)
+        rows.append(f"| {member} | {parts} | {sum(edits[crate] for crate in crates)} | {each} |")
     return "\n".join(rows) + "\n"
+
+
+def members():
+    """The crates of each member, by the headings of crates.txt."""
+    found = {}
+    with open(os.path.join(ROOT, "crates.txt")) as file:
+        for line in file:
+            if ":" not in line and line.startswith("# "):
+                member = line.removeprefix("# ").strip()
+            elif ":" in line and not line.startswith("#"):
+                found.setdefault(member, []).append(line.split(":")[0].split()[0])
+    return found
+
+
+def remember():
+    """Puts the figures that the page has so far to the end of the history."""
+    with open(PAGE) as file:
+        figures = file.read().partition("\n## ")[0].split("\n\n")[2:]
+    with open(HISTORY, "a") as file:
+        file.write(f"\n## The run of {figures[0].partition(',')[0]}\n\n" + "\n\n".join(figures).rstrip() + "\n")
 
 
 def sections():
@@ -183,6 +206,7 @@ def main():
     log = os.path.abspath(given.log) if given.log else os.path.join(tempfile.mkdtemp(), "gate.log")
     status, wall, sums = watched(["bash", ".ci/run"], log)
     text = page(status, wall, sums, log) + sections()
+    remember()
     with open(PAGE, "w") as file:
         file.write(text)
     print(f"status {status}, {wall:.0f} s; {log}")

@@ -19,8 +19,8 @@ use certs_key::{
     Digester, KeyIdentifier, Name, PublicKey, RpkiSignature, RpkiSignatureAlgorithm, Serial,
     Signer, SigningError,
 };
-use objects_written::again::fields_are_lawful;
 use objects_written::built::BuildCert;
+use objects_written::certs_again::fields_are_lawful;
 use objects_written::frame::{ObjectValue, SignerValue, signed_attributes, signed_message};
 use objects_written::written::{Captured, EncodeError, Mode, Values};
 use std::alloc::{AllocError, Global};

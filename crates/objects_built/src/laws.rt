@@ -11,7 +11,7 @@ ghost use Rattle.objects_built.specs.objects_payload.ObjectText.{IsSignedMessage
 ghost use Rattle.objects_built.specs.objects_payload.Roas.{IsRoa, RoaText};
 ghost use Rattle.objects_built.specs.Builders.{BuilderValue, IsBuilt, IsComplete, IsPadded, KindIsRead, built_object};
 
-use objects_written::again::laws::what_is_built_is_read;
+use objects_written::certs_again::laws::what_is_built_is_read;
 
 /// A signed object that was built is read again, strictly, as the object that was built: where the type of its content is an
 /// object identifier, its certificate has some kind of resources, IPv4 ones over whole addresses, and the unused bits of the

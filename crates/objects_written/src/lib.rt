@@ -18,7 +18,7 @@ pub mod manifest;
 pub mod roa;
 
 pub use address::{AddressValue, Addresses, EncodeAddresses};
-pub use certs::{again, built, written};
+pub use certs::{again as certs_again, built, written};
 pub use family::FamilyValue;
 pub use file::{EncodeFile, FileValue};
 pub use manifest::{EncodeManifest, ManifestValue, has_file_names};
