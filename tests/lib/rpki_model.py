@@ -38,6 +38,22 @@ def fits(held, cert):
     )
 
 
+def keeps(needed, cert):
+    """Whether the certificate lists what is needed of each kind, or inherits the kind."""
+    return all(cert.claims[kind] is INHERIT or lies_in(needed[kind], cert.claims[kind] or []) for kind in KINDS)
+
+
+def claimed(cert):
+    """What its issuer has to hold by the certificate's own lists: nothing where it is trimmed."""
+    return {kind: runs for kind, runs in cert.claims.items() if cert.policy != "trim" and runs not in (NONE, INHERIT)}
+
+
+def prefix_runs(item):
+    """Of each prefix of a ROA the family and the first and last address."""
+    for kind, first, length, _ in item.prefixes:
+        yield kind, (first, first | (1 << KINDS[kind].bit_length() - length) - 1)
+
+
 # The walk.
 
 
@@ -54,10 +70,10 @@ class Fips:
 
 
 class Point:
-    """The files of a publication point that stands, in the manifest's order, and its revocation list."""
+    """A publication point: the manifest's certificate, the files in the manifest's order, and the revocation list."""
 
-    def __init__(self, files, crl_key, crl):
-        self.files, self.crl_key, self.crl = files, crl_key, crl
+    def __init__(self, cert, files, crl_key, crl):
+        self.cert, self.files, self.crl_key, self.crl = cert, files, crl_key, crl
 
     def is_unrevoked(self, cert):
         return cert.crl_uri is not None and lookup_key(cert.crl_uri) == self.crl_key and cert.serial not in self.crl.serials
@@ -166,11 +182,18 @@ class Walk:
 
     def point(self, issuer, held):
         """What the authority publishes, if its manifest stands (RFC 9286 6)."""
+        point = self.unheld(issuer)
+        need(fits(held, point.cert))
+        return point
+
+    def unheld(self, issuer):
+        """The same, the claim of the manifest's certificate apart."""
+        need(issuer.place("manifest") and issuer.place("repository"))
         at = lookup_key(issuer.place("manifest"))
         need(at in self.held)
         manifest = Manifest(self.held[at])
         cert = manifest.cert
-        need(self.is_published(cert) and self.is_sound(manifest) and self.is_signed(cert, issuer) and fits(held, cert))
+        need(self.is_published(cert) and self.is_sound(manifest) and self.is_signed(cert, issuer))
         need(manifest.this <= self.bundle.moment <= manifest.next)
         names = [file for file, _ in manifest.files]
         need(len(set(names)) == len(names))
@@ -184,7 +207,7 @@ class Walk:
         crl = Crl(front(dict(files)[crl_key]))
         need(crl.authority_key == issuer.subject_key and self.is_good(issuer.key, crl.message, crl.signature))
         need(crl.this <= self.bundle.moment <= crl.next and cert.serial not in crl.serials)
-        return Point(files, crl_key, crl)
+        return Point(cert, files, crl_key, crl)
 
     def authority(self, named, chain, held, point, file, octets):
         issuer = chain[-1][1]
@@ -194,8 +217,7 @@ class Walk:
             return self.refuse(file, b"object")
         if not cert.is_ca:
             return None
-        profile = self.is_authority(cert) and cert.crl_uri is not None
-        if not (profile and point.is_unrevoked(cert) and self.is_signed(cert, issuer) and fits(held, cert)):
+        if not (self.is_below(point, issuer, cert) and fits(held, cert)):
             return self.refuse(file, b"object")
         if any(cert.subject_key == other.subject_key for _, other in chain):
             return self.refuse(file, b"loop")
@@ -203,21 +225,69 @@ class Walk:
             return self.refuse(file, b"depth")
         return self.below(named, [*chain, (file, cert)], kept(held, cert.claims))
 
-    def attested(self, point, issuer, held, extension, octets):
+    def is_below(self, point, issuer, cert):
+        """Whether the certificate is an authority's below the issuer, the claim apart."""
+        profile = self.is_authority(cert) and cert.crl_uri is not None
+        return profile and point.is_unrevoked(cert) and self.is_signed(cert, issuer)
+
+    def signed(self, point, issuer, extension, octets):
+        """The sound object, the claim of its certificate apart."""
         item = Roa(octets) if extension == b".roa" else Aspa(octets)
         cert = item.cert
         need(self.is_published(cert) and point.is_unrevoked(cert) and self.is_signed(cert, issuer))
-        need(fits(held, cert) and self.is_sound(item))
+        need(self.is_sound(item))
+        return item
+
+    def attested(self, point, issuer, held, extension, octets):
+        item = self.signed(point, issuer, extension, octets)
+        cert = item.cert
+        need(fits(held, cert))
         holds = kept(held, cert.claims)
         if extension == b".asa":
             need(lies_in([(item.customer, item.customer)], holds["as"]))
             self.customers.setdefault(item.customer, set()).update(item.providers)
             return
-        for kind, first, length, _ in item.prefixes:
-            last = first | (1 << KINDS[kind].bit_length() - length) - 1
-            need(lies_in([(first, last)], holds[kind]))
+        for kind, run in prefix_runs(item):
+            need(lies_in([run], holds[kind]))
         self.origins |= {(kind, first, length, most, item.asn) for kind, first, length, most in item.prefixes}
 
+    # How far a judge reads.
+
+    def points_read(self, chain, file):
+        """How many publication points are read of a chain and its object, from the object's up to the first refusal: at a
+        point that is read what stands below it has to be sound there, and the authority has to keep what is then needed."""
+        count = 0
+        try:
+            need(0 < len(chain) <= self.bundle.depth and all(uri in self.held for uri in chain))
+            certs = [Cert(front(self.held[uri])) for uri in chain]
+            need(len({cert.subject_key for cert in certs}) == len(certs))
+            for at in reversed(range(len(chain))):
+                point = self.unheld(certs[at])
+                count += 1
+                if at + 1 == len(chain):
+                    lower, needed = self.needing(point, certs[at], file)
+                else:
+                    lower = certs[at + 1]
+                    need(chain[at + 1] in dict(point.files) and chain[at + 1][-4:].lower() == b".cer")
+                    need(self.is_below(point, certs[at], lower))
+                lists, more = claimed(lower), claimed(point.cert)
+                needed = {kind: joined([*lists.get(kind, needed[kind]), *more.get(kind, ())]) for kind in KINDS}
+                need(keeps(needed, certs[at]))
+        except Refused:
+            pass
+        return count
+
+    def needing(self, point, issuer, file):
+        """The certificate of the sound object at a file of the point, and what is attested there, which it has to keep."""
+        extension = file[-4:].lower()
+        need(file in dict(point.files) and extension in (b".roa", b".asa"))
+        item = self.signed(point, issuer, extension, self.held[file])
+        if extension == b".asa":
+            needed = {**dict.fromkeys(KINDS, ()), "as": [(item.customer, item.customer)]}
+        else:
+            needed = {kind: joined(run for family, run in prefix_runs(item) if family == kind) for kind in KINDS}
+        need(keeps(needed, item.cert))
+        return item.cert, needed
 
     # What some URIs can reach.
 

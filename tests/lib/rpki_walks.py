@@ -47,6 +47,26 @@ def trimmed(trims=True, lists=None, depth=32):
     return world
 
 
+def refused_authorities():
+    """An authority below the anchor, with a ROA: its certificate is revoked, or not listed, or its signature isn't known."""
+    for way in ("revoked", "unlisted", "unsigned"):
+        world = World()
+        ta = world.anchor(1, {"ipv4": ["10.0.0.0/8"]})
+        ca = world.authority(2, HOST + b"ca/", b"ca")
+        known = set(world.verdicts)
+        ta.certify(b"ca.cer", ca, {"ipv4": ["10.0.0.0/8"]}, serial=77)
+        if way == "revoked":
+            ta.revoked = [77]
+        elif way == "unlisted":
+            world.objects[HOST + b"ta/ca.cer"] = ta.files.pop(b"ca.cer")
+        else:
+            world.verdicts = type(world.verdicts)(known)
+        ta.publish()
+        ca.add_roa(b"x.roa", roa(64496, "10.1.0.0/16"), {"ipv4": ["10.1.0.0/16"]})
+        ca.publish()
+        yield world
+
+
 def parents(by=("a", "b")):
     """The case two-parents; or what the chains by these parents name, and the anchor."""
     world = World()
@@ -542,7 +562,10 @@ def judges(q, world, locator, chain, file, stated=None):
     """Asks of a chain of files below HOST, and a file there."""
     octets = world.bundle()
     chain, file = [HOST + uri for uri in chain], HOST + file
-    said = f"yes {len(chain)}" if (locator, tuple(chain), file) in rpki_model.walk(octets).witnesses else "no"
+    found = rpki_model.walk(octets)
+    word = "yes" if (locator, tuple(chain), file) in found.witnesses else "no"
+    said = f"{word} {found.points_read(chain, file)}"
+    assert word == "no" or said == f"yes {len(chain)}", (chain, file, said)
     assert stated is None or said == stated, (chain, file, said)
     q.ask(said, "judge", locator.decode(), b",".join(chain).decode(), file.decode(), octets.hex())
 
@@ -563,17 +586,22 @@ def judge_and_reach(q):
     """The cases judge-and-reach, judge-trim and judge-asks; of manifest-overclaim and laws what is judged."""
     (world, _), a, ta = single(), b"ta/a.roa", [b"ta.cer"]
     judges(q, world, b"t", ta, a, "yes 1")
-    for locator, chain, file in ((b"u", ta, a), (b"t", ta * 2, a), (b"t", [b"TA.cer"], a), (b"t", ta, b"ta/ta.crl"), (b"t", ta, b"ta/none.roa"), (b"t", [b"ta/a.roa"], a)):
-        judges(q, world, locator, chain, file, "no")
+    for locator, chain, file, points in (
+        (b"u", ta, a, 1), (b"t", ta * 2, a, 0), (b"t", [b"TA.cer"], a, 0), (b"t", ta, b"ta/ta.crl", 1), (b"t", ta, b"ta/none.roa", 1), (b"t", [b"ta/a.roa"], a, 0)
+    ):
+        judges(q, world, locator, chain, file, f"no {points}")
     for at in range(6):
-        judges(q, without(single()[0], at), b"t", ta, a, "no")
-    judges(q, overclaiming(), b"t", ta, a, "no")
+        judges(q, without(single()[0], at), b"t", ta, a)
+    judges(q, overclaiming(), b"t", ta, a, "no 1")
     judges(q, siblings(), b"t", ta, a, "yes 1")
     judges(q, trimmed(), b"t", [b"ta.cer", b"ta/ca.cer"], b"ca/x.roa", "yes 2")
-    judges(q, trimmed(), b"t", [b"ta.cer", b"ta/ca.cer"], b"ca/y.roa", "no")
-    judges(q, trimmed(False, {"ipv4": ["10.0.0.0/8"], "as": [64500]}), b"t", [b"ta.cer", b"ta/ca.cer"], b"ca/x.roa", "no")
+    judges(q, trimmed(), b"t", [b"ta.cer", b"ta/ca.cer"], b"ca/y.roa", "no 2")
+    judges(q, trimmed(False, {"ipv4": ["10.0.0.0/8"], "as": [64500]}), b"t", [b"ta.cer", b"ta/ca.cer"], b"ca/x.roa", "no 2")
+    # The authority's certificate isn't sound at the anchor's point, which is read: it is revoked, not listed, or not signed.
+    for refused in refused_authorities():
+        judges(q, refused, b"t", [b"ta.cer", b"ta/ca.cer"], b"ca/x.roa", "no 2")
     judges(q, parents(), b"t", [b"ta.cer", b"ta/b.cer", b"b/c.cer"], b"c/c.roa", "yes 3")
-    judges(q, parents(), b"t", [b"ta.cer", b"ta/a.cer", b"a/c.cer"], b"c/c.roa", "no")
+    judges(q, parents(), b"t", [b"ta.cer", b"ta/a.cer", b"a/c.cer"], b"c/c.roa", "no 2")
     judges(q, parents("b"), b"t", [b"ta.cer", b"ta/b.cer", b"b/c.cer"], b"c/c.roa", "yes 3")
     judges(q, customers(), b"t", ta, b"ta/b.asa", "yes 1")
     # The judge climbs: C's key (4) is asked of before B's (3), and that before the anchor's (1).

@@ -67,8 +67,7 @@ ROWS = (
     Row("bcder_cases", "text", "character sets: next_char", 2),
     Row("bcder_cases", "write", "Values: write_encoded, to_captured, CapturedBuilder::extend, with_capacity", 8),
     Row("bcder_cases", "tagged", "values under another tag", 4),
-    Row("bcder_cases", "attributes", "the worked reader of attributes: read, write", 4),
-    Row("bcder_cases", "walks", "skip_one, capture_one, the worked recursive reader", 4),
+    Row("bcder_cases", "walks", "skip_one, capture_one", 4),
     Row("bcder_cases", "skip", "skip_all, skip_opt", 3),
     Row("bcder_cases", "source", "Source: request, bytes, advance of each source", 3),
     # Sets of numbers.

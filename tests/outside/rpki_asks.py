@@ -11,7 +11,6 @@ is 1 where there was one. The last line is `N passed, M failed`, by bundles.
 import argparse
 import pathlib
 import random
-import re
 import subprocess
 import sys
 
@@ -51,14 +50,10 @@ def reach(found, uris):
     return int(not any(reached.values())), "".join(f"{row}\n" for row in rows), ""
 
 
-def is_judged(said, found, witness):
-    """Whether the answer is right: a no may have read any number of points, up to the chain's length."""
-    count = len(witness[1])
-    if witness in found.witnesses:
-        return said == (0, f"yes\npoints {count}\n", "")
-    status, text, faults = said
-    no = re.fullmatch(r"no\npoints ([0-9]+)\n", text)
-    return status == 1 and faults == "" and no is not None and int(no[1]) <= count
+def judged(found, witness):
+    good, count = witness in found.witnesses, found.points_read(*witness[1:])
+    assert not good or count == len(witness[1]), witness
+    return int(not good), f"{'yes' if good else 'no'}\npoints {count}\n", ""
 
 
 def witnesses(rng, found):
@@ -96,8 +91,8 @@ def differences(program, rng, octets):
     for witness in witnesses(rng, found):
         locator, chain, file = witness
         said = ask(program, octets, "judge", locator.decode(), file.decode(), *(uri.decode() for uri in chain))
-        if not is_judged(said, found, witness):
-            yield f"judge {witness}", said, witness in found.witnesses
+        if said != judged(found, witness):
+            yield f"judge {witness}", said, judged(found, witness)
     for _ in range(3):
         uris = rng.sample(keys, min(len(keys), rng.randrange(1, 4))) or [b"x"]
         said = ask(program, octets, "reach", *(uri.decode() for uri in uris))

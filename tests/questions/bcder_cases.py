@@ -1,9 +1,9 @@
 #!/usr/bin/env python3
 """Writes the questions and answers of the program of questions about the codec: tests/questions/bcder_cases.py
 
-crates/bcder_cases answers those about sources, headers and contents, about numbers and bit strings in contents, and about the
-worked readers (`bcder_example_cases.py`) itself; crates/bcder_values_cases those about values, numbers of any size, identifiers
-and strings, and about what is written.
+crates/bcder_cases answers those about sources, headers and contents, about numbers and bit strings in contents, and about values
+that are gone past (`bcder_walks.py`) itself; crates/bcder_values_cases those about values, numbers of any size, identifiers and
+strings, and about what is written.
 
 The answers come from Python's own integers and texts, from small readers and writers of this script after X.690, from
 examples of X.690, RFC 3629 and OpenSSL, and from the worked cases `codec-core-cases`, `string-cases` and
@@ -16,7 +16,7 @@ import random
 import sys
 
 sys.dont_write_bytecode = True
-import bcder_example_cases  # noqa: E402
+import bcder_walks  # noqa: E402
 
 HERE = pathlib.Path(__file__).resolve().parent
 FOLDER = HERE.parents[1] / "crates" / "bcder_cases"
@@ -1055,7 +1055,7 @@ def main():
         identifiers, octet_strings, texts, strings, writing, lists, refusing_writers, forms,
     ):  # fmt: skip
         topic(q)
-    q.rows += bcder_example_cases.questions()
+    q.rows += bcder_walks.questions()
     (FOLDER / "stdin").write_text("".join(f"{question}\n" for question, _ in q.rows))
     (FOLDER / "stdout").write_text("".join(f"{answer}\n" for _, answer in q.rows))
     print(len(q.rows), "questions")

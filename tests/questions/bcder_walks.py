@@ -1,4 +1,4 @@
-"""Questions about values that are walked through, for tests/questions/bcder_cases.py, and their answers.
+"""Questions about values that are gone past, for tests/questions/bcder_cases.py, and their answers.
 
 The answers come from a reader of this module after X.690 8.1, 9.1 and 10.1. The questions are random trees as they are
 spelled in each mode, the same with an octet changed, left out or put in, all short rows of octets that mean something in
@@ -9,9 +9,8 @@ import itertools
 import random
 
 MODES = ("ber", "cer", "der")
-# How many constructed values may be within one another, for the reader that calls itself.
-MOST_DEPTH = 24
-CLASSES = ("UNIVERSAL ", "APPLICATION ", "", "PRIVATE ")
+# How many values in each other are gone past without memory.
+MOST_DEPTH = 8
 # Octets that mean something in a header: identifiers of both forms and of long tags, lengths of each form, and zero.
 MARKS = (0x00, 0x01, 0x02, 0x1F, 0x24, 0x30, 0x3F, 0x80, 0x81, 0x82)
 rng = random.Random(8825)
@@ -34,7 +33,7 @@ class Reader:
         return self.octets[self.at - 1]
 
     def identifier(self, end):
-        """The class, the form and the number (8.1.2)."""
+        """Whether the value is constructed (8.1.2)."""
         first = self.octet(end)
         kind, is_constructed, number = first >> 6, bool(first & 0x20), first & 0x1F
         if number == 31:
@@ -52,7 +51,7 @@ class Reader:
                 raise Refused("a small number in the long form (8.1.2.2)")
         if (kind, number) == (0, 0):
             raise Refused("the tag of end-of-contents octets (8.1.5)")
-        return kind, is_constructed, number
+        return is_constructed
 
     def length(self, end):
         """The length, None where it is indefinite (8.1.3)."""
@@ -70,44 +69,38 @@ class Reader:
         return size
 
     def value(self, end):
-        """The next value, as a tag with its octets or the list of its values, and how deep it is nested."""
-        kind, is_constructed, number = self.identifier(end)
+        """The next value, with all that is in it."""
+        is_constructed = self.identifier(end)
         size = self.length(end)
-        tag = f"[{CLASSES[kind]}{number}]"
         if size is not None and self.at + size > end:
             raise Refused("a content that goes on behind what is around it")
         if not is_constructed:
             if size is None:
                 raise Refused("a primitive value of indefinite length (8.1.3.2)")
             self.at += size
-            return tag + self.octets[self.at - size : self.at].hex(), 0
+            return
         if (size is None) if self.mode == "der" else (size is not None and self.mode == "cer"):
             raise Refused("another form of length (9.1, 10.1)")
-        values = []
         if size is None:
             while self.octets[self.at : min(self.at + 2, end)] != b"\0\0":
-                values.append(self.value(end))
+                self.value(end)
             self.at += 2
         else:
             behind = self.at + size
             while self.at < behind:
-                values.append(self.value(behind))
-        inner = "".join(text for text, _ in values)
-        return f"{tag}({inner})", 1 + max((depth for _, depth in values), default=0)
+                self.value(behind)
 
 
 def answer(mode, octets):
     """What the program has to answer."""
     if not octets:
-        return "end\trefused\tend\t-"
+        return "end\trefused"
     reader = Reader(mode, octets)
     try:
-        tree, depth = reader.value(len(octets))
+        reader.value(len(octets))
     except Refused:
-        return "refused\trefused\trefused\t-"
-    if depth > MOST_DEPTH:
-        return f"{reader.at}\t{reader.at}\trefused\t-"
-    return f"{reader.at}\t{reader.at}\t{reader.at}\t{tree}"
+        return "refused\trefused"
+    return f"{reader.at}\t{reader.at}"
 
 
 def spelled_identifier(kind, is_constructed, number):
@@ -214,6 +207,7 @@ def spellings():
 
 
 def questions():
+    """Each question once, with its answer."""
     for octets in dict.fromkeys(spellings()):
         for mode in MODES:
             yield f"walks\t{mode}\t{octets.hex()}", answer(mode, octets)

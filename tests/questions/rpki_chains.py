@@ -98,16 +98,16 @@ def set_text(asn, v4, v6):
 
 
 def with_claim(held, claim):
-    """What is held below a claim: of an anchor's, where nothing is held yet, what it lists."""
-    if held is None:
-        return frozenset() if isinstance(claim, str) else claim
+    """What is held below a claim: of the first, above which nothing says what is held, all that it lists or inherits."""
     if claim == "none":
         return frozenset()
-    return held if claim == "inherit" else held & claim
+    if claim == "inherit":
+        return frozenset(range(UNITS)) if held is None else held
+    return claim if held is None else held & claim
 
 
 def holds(world, chain, kind):
-    """What a chain holds: the anchor lists it, and each later certificate lists it or inherits the kind."""
+    """What a chain holds: the first lists it, and each later certificate lists it or inherits the kind. (No anchor inherits.)"""
     held = None
     for uri in chain:
         held = with_claim(held, world.at[uri].claims[kind])
@@ -139,12 +139,18 @@ def anchor(world, name):
 
 
 def point(world, chain):
-    """The point of the last certificate, where it stands: its manifest, each file as it lists it, and the list."""
-    last = world.at[chain[-1]]
-    if not is_a(world, last.manifest, "point"):
+    """The point of the last certificate, where it stands."""
+    found = unheld(world, chain[-1])
+    return found if found is not None and fits(world, chain, found) else None
+
+
+def unheld(world, uri):
+    """The point of the certificate there, if it has one: its manifest, each file as it lists it, and the list. (A router has none.)"""
+    last = world.at[uri]
+    if last.kind == "router" or not is_a(world, last.manifest, "point"):
         return None
     found = world.at[last.manifest]
-    if found.kind != "good" or found.key != last.key or not fits(world, chain, found):
+    if found.kind != "good" or found.key != last.key:
         return None
     if any(world.at.get(uri) is not listed for uri, listed in found.files.items()):
         return None
@@ -173,8 +179,18 @@ def is_issued(world, chain, uri):
 def is_accepted(world, name, chain):
     if anchor(world, name) != chain[0] or len(chain) > world.depth:
         return False
+    return differ(world, chain) and descends(world, chain)
+
+
+def differ(world, chain):
+    """Whether no key occurs twice."""
     keys = [world.at[uri].key for uri in chain]
-    return len(set(keys)) == len(keys) and all(is_issued(world, chain[:n], chain[n]) for n in range(1, len(chain)))
+    return len(set(keys)) == len(keys)
+
+
+def descends(world, chain):
+    """Whether each next certificate is issued by those in front of it."""
+    return all(is_issued(world, chain[:n], chain[n]) for n in range(1, len(chain)))
 
 
 def accepted(world):
@@ -271,7 +287,19 @@ def judged(world, name, uri, chain):
         and is_accepted(world, name, chain)
         and is_good(world, chain, uri)
     )
-    return f"yes {len(chain)}" if right else "no"
+    return f"{'yes' if right else 'no'} {points_read(world, uri, chain)}"
+
+
+def points_read(world, uri, chain):
+    """How many points are read, from the object's up: of the certificates that each are one, with keys that differ, the last's,
+    and each further one below which all is good by itself, where the first of it holds all that it lists or inherits."""
+    if len(chain) > world.depth or not all(is_a(world, one, "cer") for one in chain) or not differ(world, chain):
+        return 0
+    for at in reversed(range(len(chain))):
+        lower = chain[at + 1 :]
+        if (lower and not (descends(world, lower) and is_good(world, lower, uri))) or unheld(world, chain[at]) is None:
+            return len(lower)
+    return len(chain)
 
 
 # What some URIs can reach.

@@ -156,15 +156,15 @@ WORLDS = {
         single(),
         {
             f"judge t {M}/ta/a.roa {TA}": ["yes 1"],
-            f"judge u {M}/ta/a.roa {TA}": ["no"],
-            f"judge t {M}/ta/a.roa {TA} {TA}": ["no"],
+            f"judge u {M}/ta/a.roa {TA}": ["no 1"],
+            f"judge t {M}/ta/a.roa {TA} {TA}": ["no 0"],
             f"reach {M}/ta/a.roa": [set_of("192.0.2.0/24")],
             f"reach {TA}": ["locator"],
         },
     ),
     "manifest-overclaim": (
         single("AS64500 inherit inherit"),
-        {"walk": [f"refused {TA} point"], f"judge t {M}/ta/a.roa {TA}": ["no"]},
+        {"walk": [f"refused {TA} point"], f"judge t {M}/ta/a.roa {TA}": ["no 1"]},
     ),
     "two-aspas": (
         anchor_lines("AS0-AS4294967295 none none", f"{M}/ta/a.asa {M}/ta/b.asa")
@@ -177,7 +177,7 @@ WORLDS = {
         {
             "walk": ["roa AS64496 10.200.0.0/16 16", f"refused {M}/c/c.roa object"],
             f"judge t {M}/c/c.roa {TA} {M}/ta/b.cer {M}/b/c.cer": ["yes 3"],
-            f"judge t {M}/c/c.roa {TA} {M}/ta/a.cer {M}/a/c.cer": ["no"],
+            f"judge t {M}/c/c.roa {TA} {M}/ta/a.cer {M}/a/c.cer": ["no 2"],
             f"reach {M}/c/c.roa": [set_of("10.0.0.0/8")],
             f"reach {M}/none": [set_of()],
             "reach x": [set_of()],
@@ -212,18 +212,18 @@ WORLDS = {
         {
             "walk": ["roa AS64496 10.1.0.0/16 16", f"refused {M}/ca/y.roa object"],
             f"judge t {M}/ca/x.roa {TA} {M}/ta/ca.cer": ["yes 2"],
-            f"judge t {M}/ca/y.roa {TA} {M}/ta/ca.cer": ["no"],
+            f"judge t {M}/ca/y.roa {TA} {M}/ta/ca.cer": ["no 2"],
             f"reach {M}/ca/x.roa": [set_of("10.0.0.0/8")],
             f"reach {M}/ta/ca.cer": [set_of("10.0.0.0/8")],
         },
     ),
     "trimmed-ca: refuse": (
         trimmed("refuse", f"none {BOTH} none"),
-        {"walk": [f"refused {M}/ta/ca.cer object"], f"judge t {M}/ca/x.roa {TA} {M}/ta/ca.cer": ["no"]},
+        {"walk": [f"refused {M}/ta/ca.cer object"], f"judge t {M}/ca/x.roa {TA} {M}/ta/ca.cer": ["no 2"]},
     ),
     "judge-trim": (
         trimmed("refuse", "AS64500 10.0.0.0/8 none"),
-        {"walk": [f"refused {M}/ta/ca.cer object"], f"judge t {M}/ca/x.roa {TA} {M}/ta/ca.cer": ["no"]},
+        {"walk": [f"refused {M}/ta/ca.cer object"], f"judge t {M}/ca/x.roa {TA} {M}/ta/ca.cer": ["no 2"]},
     ),
     "depth-one: depth": (trimmed("trim", f"none {BOTH} none", 1), {"walk": [f"refused {M}/ta/ca.cer depth"]}),
     "depth-one: loop": (loop(2, "a.cer", "a"), {"walk": [f"refused {M}/b/a.cer loop"]}),

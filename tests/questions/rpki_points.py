@@ -21,10 +21,10 @@ def shown(octets):
 
 
 def place_of(error):
-    """Where the second reading of a point ended, in the function `point` or in a reader that it called."""
+    """Where the second reading of a point ended, in the functions `point` and `unheld` or in a reader that they called."""
     trace, place = error.__traceback__, None
     while trace is not None:
-        if trace.tb_frame.f_code.co_name in ("point", "join", "front"):
+        if trace.tb_frame.f_code.co_name in ("point", "unheld", "join", "front"):
             place = trace.tb_lineno
         trace = trace.tb_next
     return place

@@ -7,7 +7,7 @@ says, what is reached, and wrong words.
 import rpki_model
 from rpki_facts import fact_object, fact_rows
 from rpki_repositories import HOST
-from rpki_walks import OTHER, cycle, overclaiming, parents, second, single, text, trimmed
+from rpki_walks import OTHER, cycle, overclaiming, parents, refused_authorities, second, single, text, trimmed
 
 
 def asks(q, world, status, said, *words):
@@ -59,6 +59,8 @@ def others(q):
     asks(q, world, 0, "yes|points 1|", "judge", "t", a, ta)
     asks(q, world, 0, '{"good":true,"points":1}|', "--json", "judge", "t", a, ta)
     asks(q, overclaiming(), 1, "no|points 1|", "judge", "t", a, ta)
+    for refused in refused_authorities():
+        asks(q, refused, 1, "no|points 2|", "judge", "t", (HOST + b"ca/x.roa").decode(), ta, (HOST + b"ta/ca.cer").decode())
     asks(q, world, 1, '{"good":false,"points":0}|', "--json", "judge", "t", a, none)
     asks(q, world, 0, "as |ipv4 192.0.2.0/24|ipv6 |", "reach", a)
     asks(q, world, 0, '{"locator":false,"as":"","ipv4":"192.0.2.0/24","ipv6":""}|', "--json", "reach", "x", a)

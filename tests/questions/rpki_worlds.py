@@ -228,7 +228,10 @@ class Asked:
         self.ask(["walk"], *lines)
         return walked
 
-    def judge(self, name, uri, chain, answer):
+    def judge(self, world, name, uri, chain, answer):
+        """Asks the judge; the second reading has to count as many points."""
+        count = self.read(world).points_read([one.encode() for one in chain], uri.encode())
+        assert answer.split()[1:] == [str(count)], (name, uri, chain, answer, count)
         self.ask(["judge", name, ",".join(chain), uri], answer)
 
     def reach(self, world, uris):
@@ -510,15 +513,16 @@ def ask_cut_down(asked, world, walked):
         for other in [at for at in world.at if at not in named]:
             asked.clear(world, other)
         assert judged(world, name, uri, chain) == f"yes {len(chain)}"
-        asked.judge(name, uri, chain, f"yes {len(chain)}")
+        asked.judge(world, name, uri, chain, f"yes {len(chain)}")
 
 
 def ask_traces(chance, asked, world, walked):
-    """Asks the judge of traces: yes exactly to witnesses of the walk."""
+    """Asks the judge of traces: yes exactly to witnesses of the walk, of which all points are read."""
     for name, uri, chain in traces(chance, world, walked):
         answer = judged(world, name, uri, chain)
-        assert answer == (f"yes {len(chain)}" if (uri, name, chain) in walked.witnesses else "no")
-        asked.judge(name, uri, chain, answer)
+        good = (uri, name, chain) in walked.witnesses
+        assert answer == f"yes {len(chain)}" if good else answer.startswith("no ")
+        asked.judge(world, name, uri, chain, answer)
 
 
 def ask_by_chance(asked, count, seed):
@@ -543,7 +547,7 @@ def ask_by_hand(asked):
             if what == "walk":
                 asked.walk(world, answer)
             elif what == "judge":
-                asked.judge(words[0], words[1], words[2:], *answer)
+                asked.judge(world, words[0], words[1], words[2:], *answer)
             else:
                 asked.ask([what, ",".join(words)], *answer)
 

@@ -194,24 +194,26 @@ def lines_of(key):
     """A type that is another's name, or a constant, as it stands in its file."""
     crate, names, name = key
     text = "\n".join(contracts.lines_of(source(crate, names).path))
-    return re.sub(r"\s+", " ", re.search(rf"^pub (?:type|const) {name}\b[^;]*;", text, re.M)[0]).removeprefix("pub ")
+    return re.sub(r"\s+", " ", re.search(rf"^pub (?:type|const) {name}\b(?:\[[^\]]*\]|[^;\[])*;", text, re.M)[0]).removeprefix("pub ")
 
 
-def item_text(key):
-    """An item's calls as they stand in their files, those of one block together; what it has beside them."""
+def item_text(key, given):
+    """An item's calls as they stand in their files, those of one block together; what it has beside them. The face may have
+    given it another name."""
     crate, names, name = key
     kind, parts, last = source(crate, names).items[name], [], None
     if kind in ("type", "const"):
         return f"- `{lines_of(key)}` (`{crate}`)"
     traits = ", ".join(f"`{it}`" for it in implemented(key)) if kind in ("struct", "enum") else ""
+    place = f"`{given}` (`{crate}`" + (f", there `{name}`)" if given != name else ")")
     for call in calls_of(key):
         if call.block and call.block != last:
             parts.append("\n".join([call.block, *(ghosts(key) if kind == "trait" else [])]))
             last = call.block
         parts.append(call.text.removeprefix("pub "))
     if not parts:
-        return f"- `{name}` (`{crate}`)" + (f": {traits}" if traits else "")
-    head = "" if kind == "fn" else f"`{name}` (`{crate}`)" + (f", also {traits}" if traits else "") + ":\n\n"
+        return f"- {place}" + (f": {traits}" if traits else "")
+    head = "" if kind == "fn" else place + (f", also {traits}" if traits else "") + ":\n\n"
     return f"{head}```text\n" + "\n\n".join(parts) + "\n```"
 
 
@@ -227,10 +229,10 @@ def page(face):
     parts.append(CONTRACTS)
     groups = {}
     for key, place in public_items(face).items():
-        groups.setdefault(place[:-1], []).append(key)
+        groups.setdefault(place[:-1], []).append((key, place[-1]))
     for under in sorted(groups, key=lambda it: ("laws" in it, it)):
         parts.append(f"\n### {'`' + '::'.join(under) + '`' if under else 'At the root'}\n")
-        texts = [item_text(key) for key in sorted(groups[under], key=lambda it: (source(*it[:2]).items[it[2]] == "fn", it[2]))]
+        texts = [item_text(*it) for it in sorted(groups[under], key=lambda it: (source(*it[0][:2]).items[it[0][2]] == "fn", it[0][2]))]
         parts += [f"\n{text}\n" for text in texts if not text.startswith("- ")]
         without = [text for text in texts if text.startswith("- ")]
         parts += ["\nWithout calls of their own:\n\n" + "\n".join(without) + "\n"] if without else []

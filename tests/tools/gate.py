@@ -149,8 +149,8 @@ def page(status, wall, sums, log):
     rows = [
         "# The gate",
         "",
-        "`.ci/run` is the gate: `rt ci` at the top of the repository, and `tests/run quick` over the programs that it built. "
-        "`rt ci` proves every function of every crate from nothing, tries each wrong body in `crates/*/must-fail`, which the "
+        "`.ci/run` is the gate: `rt ci` at the top of the repository. "
+        "It proves every function of every crate from nothing, tries each wrong body in `crates/*/must-fail`, which the "
         "prover has to refuse, and runs each program as two compilers build it. `tests/tools/gate.py` runs the gate and writes "
         "this page.",
         "",

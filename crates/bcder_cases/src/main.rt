@@ -1,7 +1,7 @@
 //! Questions about the codec, as data: a line of words with tabs between is a question, and a line of output its answer.
-//! Those about sources, headers and contents, about numbers and bit strings in contents, and about the worked readers are
-//! answered here, those about values and about what is written by `bcder_values_cases`. `tests/questions/bcder_cases.py`
-//! writes both questions and answers, by its own means.
+//! Those about sources, headers and contents, and about numbers and bit strings in contents are answered here, those about
+//! values and about what is written by `bcder_values_cases`. `tests/questions/bcder_cases.py` writes both questions and
+//! answers, by its own means.
 #![tactic(auto)]
 
 mod bits;
@@ -12,13 +12,13 @@ mod faults;
 mod fields;
 mod forms;
 mod numbers;
-mod readers;
 mod scalars;
 mod skips;
 mod sources;
 mod steps;
 mod tags;
 mod trickle;
+mod walks;
 
 use answers::{Answer, Questions, answer_lines, unknown};
 use anyhow::Result;
@@ -44,8 +44,7 @@ impl Questions for Codec {
             "tagged" => forms::answer(alloc, answer, words),
             "number" => numbers::answer(alloc, answer, words),
             "bits" => bits::answer(alloc, answer, words),
-            "attributes" => readers::attributes::answer(alloc, answer, words),
-            "walks" => readers::walks::answer(alloc, answer, words),
+            "walks" => walks::answer(alloc, answer, words),
             topic => bcder_values_cases::answer(alloc, answer, topic, words),
         }
         Ok(())

@@ -1,14 +1,9 @@
 pub mod Notices
 pub mod Versions
+pub mod Settings
 pub mod Logs
-pub mod Sealed
 pub mod Signed
 pub mod Limits
-pub mod Inner
-pub mod Extensions
-pub mod Slots
-pub mod Attributes
-pub mod Nodes
 -- What stands below, for the crates above.
 pub use Rattle.bcder.specs.bcder_octets as bcder_octets
 pub use Rattle.bcder.specs.bcder_content as bcder_content

@@ -1,10 +1,6 @@
 -- Limits, with fields that may be missing.
 use Rattle.std.proofs.Common.{ℕ, zero, suc, ◌^◌, Bool, true, false, Option, Some, None}
-use Rattle.bcder_example.specs.bcder_tree.declared.mode.Mode.{Mode}
 use Rattle.bcder_example.specs.bcder_tree.Tags.{context, boolean_tag, sequence_tag}
-use Rattle.bcder_example.specs.bcder_tree.Tree.{Tree}
-use Rattle.bcder_example.specs.bcder_content.Grammar.{OctetsOf}
-use Rattle.bcder_example.specs.bcder_primitive.Values.{IsUnsigned}
 use Rattle.bcder_example.specs.bcder_values.Forms.{Form, Forms, explicit, last, wrapped}
 use Rattle.bcder_example.specs.bcder_values.OptionalForms.{default, last_default, maybe}
 use Rattle.bcder.specs.Kinds.{boolean, unsigned, unsigned_at}
@@ -19,10 +15,6 @@ number_content = last (unsigned (2 ^ 8))
 -- [0] EXPLICIT INTEGER (0..255)
 abbrev pub number : Form ℕ
 number = explicit (context 0) (unsigned (2 ^ 8))
-
--- [1] IMPLICIT INTEGER (0..255)
-abbrev pub IsMost : Mode → Tree → ℕ → Type 0
-IsMost m = OctetsOf (context 1) (IsUnsigned (2 ^ 8))
 
 -- What is written of a version, which is 1 where none is given; and of a BOOLEAN that is false where none is given.
 abbrev pub shown_version : ℕ → Option ℕ

@@ -1,10 +1,9 @@
--- Grammars of logs, and of strings in pieces.
+-- The grammar of logs.
 use Rattle.std.specs.Prelude.{ℕ, List, Option, map}
 use Rattle.bcder_example.specs.bcder_tree.declared.mode.Mode.{Mode}
-use Rattle.bcder_example.specs.bcder_tree.Tags.{integer_tag, octet_string_tag, sequence_tag}
+use Rattle.bcder_example.specs.bcder_tree.Tags.{integer_tag, sequence_tag}
 use Rattle.bcder_example.specs.bcder_tree.Tree.{Tree, Trees}
-use Rattle.bcder_example.specs.bcder_content.Grammar.{Inside, OctetsOf, End, Then, Opt, Many}
-use Rattle.bcder_example.specs.bcder_primitive.Values.{AnyOctets}
+use Rattle.bcder_example.specs.bcder_content.Grammar.{Inside, End, Then, Opt, Many}
 use Rattle.bcder_example.specs.declared.lists.Entry.{Entry}
 use Rattle.bcder_example.specs.declared.lists.Log.{Log}
 use Rattle.bcder_example.specs.Versions.{IsSmall, Numbers}
@@ -32,10 +31,3 @@ log_fields l = (l.most, (map entry_fields l.entries.items, tt))
 
 abbrev pub IsLogBody : Mode → Trees → LogFields → Type 0
 IsLogBody m = Opt integer_tag IsSmall (Then (Inside sequence_tag (AreEntries m)) End)
-
--- A piece of an OCTET STRING (X.690 8.7.3.2), by its octets.
-abbrev pub IsPiece : Tree → List ℕ → Type 0
-IsPiece = OctetsOf octet_string_tag AnyOctets
-
-abbrev pub ArePieces : Mode → Trees → List (List ℕ) → Type 0
-ArePieces m = Many IsPiece

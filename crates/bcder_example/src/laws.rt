@@ -1,19 +1,27 @@
-//! Laws of the types that are written: the contracts of functions that do nothing.
+//! Laws of the types that are read and written: the contracts of functions that do nothing.
 
 ghost use Rattle.std.specs.Prelude.{ℕ, List};
 ghost use Rattle.bcder_example.specs.bcder_tree.declared.mode.Mode.{Mode as ModeValue};
-ghost use Rattle.bcder_example.specs.bcder_tree.Tags.{set_tag};
+ghost use Rattle.bcder_example.specs.bcder_tree.Tags.{sequence_tag};
 ghost use Rattle.bcder_example.specs.bcder_content.Grammar.{End, Inside, One, Then};
 ghost use Rattle.bcder_example.specs.bcder_values.Returns.{ReadAgain};
 ghost use Rattle.bcder_example.specs.declared.notice.Notice.{Notice};
+ghost use Rattle.bcder_example.specs.Limits.{limits};
+ghost use Rattle.bcder_example.specs.Logs.{IsEntry, IsLogBody};
 ghost use Rattle.bcder_example.specs.Notices.{notice, notice_fields};
-ghost use Rattle.bcder_example.specs.Attributes.{AreAttributes, AttributesValue, WritesAttributes};
+ghost use Rattle.bcder_example.specs.Settings.{IsSettingsBody};
 ghost use Rattle.bcder_example.specs.Signed.{signed, signed_fields};
+ghost use Rattle.bcder_example.specs.Versions.{IsVersion};
 ghost use Rattle.bcder_example.specs.declared.signed.Signed.{Signed};
 
-/// A value is one notice at most.
+/// A value has one meaning at most.
 pub fn one_meaning()
-    ensures { (m : ModeValue) → One (notice.reads m) }
+    ensures version { One IsVersion }
+    ensures notice { (m : ModeValue) → One (notice.reads m) }
+    ensures entry { One IsEntry }
+    ensures log { (m : ModeValue) → One (Inside sequence_tag (IsLogBody m)) }
+    ensures settings { (m : ModeValue) → One (Inside sequence_tag (IsSettingsBody m)) }
+    ensures limits { (m : ModeValue) → One (limits.reads m) }
 {}
 
 /// A notice that is written, whose identifier is one, is read again: it is the only value in front of what was written,
@@ -32,15 +40,4 @@ pub fn what_is_signed_is_read()
         → signed.writes (signed_fields s) m text
         → ReadAgain m (λ ts. Then (signed.reads m) End ts (signed.again m (signed_fields s), tt))
         text }
-{}
-
-/// A value is one set of attributes at most, whatever their order.
-pub fn attributes_one_meaning()
-    ensures { (m : ModeValue) → One (Inside set_tag (AreAttributes m)) }
-{}
-
-/// What is written of a name and a note is read again as these, in each mode.
-pub fn attributes_are_read_again()
-    ensures { (a : AttributesValue) (m : ModeValue) (text : List ℕ) → WritesAttributes a m text
-        → ReadAgain m (λ ts. Then (Inside set_tag (AreAttributes m)) End ts (a, tt)) text }
 {}

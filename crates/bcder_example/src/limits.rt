@@ -3,13 +3,11 @@
 ghost use Rattle.std.specs.Prelude.{◌≡◌, ◌^◌, OnErr, true};
 ghost use Rattle.bcder_example.specs.bcder_tree.Tags.{context};
 ghost use Rattle.bcder_example.specs.bcder_content.Exact.{ReadsAs, ReadsOptAs};
-ghost use Rattle.bcder_example.specs.bcder_content.Grammar.{One};
 ghost use Rattle.bcder_example.specs.bcder_content.Here.{here, plain};
 ghost use Rattle.bcder_example.specs.bcder_content.InMode.{ReadsFields};
 ghost use Rattle.bcder_example.specs.bcder_primitive.Plain.{ReadsOctetsAs};
 ghost use Rattle.bcder_example.specs.bcder_primitive.Values.{IsUnsigned};
-ghost use Rattle.bcder_example.specs.bcder_tree.declared.mode.Mode.{Mode as ModeValue};
-ghost use Rattle.bcder_example.specs.Limits.{IsMost, limits, limits_content, limits_fields};
+ghost use Rattle.bcder_example.specs.Limits.{limits, limits_content, limits_fields};
 ghost use Rattle.bcder_example.specs.Limits.{number, number_content, only};
 
 use bcder::Tag;
@@ -27,15 +25,6 @@ pub struct Limits {
     pub strict: bool,
 }
 
-// The number within an explicit tag.
-fn take_number<S: Source>(cons: &mut Constructed<S>) -> Result<u8, DecodeError<S::Error>>
-    ensures { ReadsFields only number_content.reads (here S.rest cons.old) result
-        (here S.rest cons.new) }
-{
-    let number = cons.take_u8()?;
-    Ok(number)
-}
-
 // The version, if it is given.
 fn take_opt_version<S: Source>(
     cons: &mut Constructed<S>,
@@ -48,21 +37,10 @@ fn take_opt_version<S: Source>(
         |cons|
             ensures { ReadsFields only number_content.reads
                 (here S.rest cons.old) result (here S.rest cons.new) }
-        { take_number(cons) },
-    )
-}
-
-// The bound, if there is one.
-fn take_opt_most<S: Source>(cons: &mut Constructed<S>) -> Result<Option<u8>, DecodeError<S::Error>>
-    ensures { ReadsOptAs (λ n. n) (context 1) (IsMost (here S.rest cons.old).mode)
-        (here S.rest cons.old) result (here S.rest cons.new) }
-{
-    cons.take_opt_primitive_if(
-        Tag::CTX_1,
-        |prim|
-            ensures { ReadsOctetsAs (λ n. n) (IsUnsigned (2 ^ 8))
-                (plain S.rest prim.old) result (plain S.rest prim.new) }
-        { prim.to_u8() },
+        {
+            let number = cons.take_u8()?;
+            Ok(number)
+        },
     )
 }
 
@@ -72,7 +50,13 @@ fn take_limits_fields<S: Source>(cons: &mut Constructed<S>) -> Result<Limits, De
         (here S.rest cons.old) result (here S.rest cons.new) }
 {
     let version = take_opt_version(cons)?.unwrap_or(1);
-    let most = take_opt_most(cons)?;
+    let most = cons.take_opt_primitive_if(
+        Tag::CTX_1,
+        |prim|
+            ensures { ReadsOctetsAs (λ n. n) (IsUnsigned (2 ^ 8))
+                (plain S.rest prim.old) result (plain S.rest prim.new) }
+        { prim.to_u8() },
+    )?;
     let strict = cons.take_opt_bool()?.unwrap_or(false);
     Ok(Limits {
         version,
@@ -96,8 +80,3 @@ impl Limits {
         )
     }
 }
-
-/// A value has one meaning as limits.
-pub fn one_meaning()
-    ensures { (m : ModeValue) → One (limits.reads m) }
-{}

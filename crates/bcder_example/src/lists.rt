@@ -1,20 +1,15 @@
-//! An optional field, and as many values as there are; the pieces of a string.
+//! An optional field, and as many values as there are.
 
 ghost use Rattle.std.specs.Prelude.{◌≡◌, OnErr, map, true};
-ghost use Rattle.bcder_example.specs.bcder_tree.declared.mode.Mode.{Mode as ModeValue};
-ghost use Rattle.bcder_example.specs.bcder_tree.Tags.{octet_string_tag, sequence_tag};
+ghost use Rattle.bcder_example.specs.bcder_tree.Tags.{sequence_tag};
 ghost use Rattle.bcder_example.specs.bcder_content.Exact.{ReadsAs, ReadsOptAs};
-ghost use Rattle.bcder_example.specs.bcder_content.Grammar.{Inside, Many, One};
-ghost use Rattle.bcder_example.specs.bcder_content.Here.{here, plain};
+ghost use Rattle.bcder_example.specs.bcder_content.Grammar.{Inside};
+ghost use Rattle.bcder_example.specs.bcder_content.Here.{here};
 ghost use Rattle.bcder_example.specs.bcder_content.InMode.{ReadsFields};
-ghost use Rattle.bcder_example.specs.Logs.{AreEntries, ArePieces, IsEntry, IsEntryBody, IsLogBody, IsPiece};
+ghost use Rattle.bcder_example.specs.Logs.{AreEntries, IsEntry, IsEntryBody, IsLogBody};
 ghost use Rattle.bcder_example.specs.Logs.{entry_fields, log_fields};
-ghost use Rattle.bcder_example.specs.bcder_primitive.Plain.{ReadsOctetsAs};
-ghost use Rattle.bcder_example.specs.bcder_primitive.Values.{AnyOctets};
 
-use bcder::Tag;
 use bcder::decode::{Constructed, DecodeError, Source};
-use bytes::Bytes;
 use std::alloc::Global;
 
 /// `Entry ::= SEQUENCE { kind INTEGER, size INTEGER }`
@@ -110,62 +105,3 @@ pub fn take_log<S: Source>(
         { take_log_fields(alloc, cons) },
     )
 }
-
-// The next piece of a string, if there is one.
-fn take_opt_piece<S: Source>(
-    alloc: Global,
-    cons: &mut Constructed<S>,
-) -> Result<Option<Bytes>, DecodeError<S::Error>>
-    ensures { ReadsOptAs (λ octets. octets) octet_string_tag IsPiece
-        (here S.rest cons.old) result (here S.rest cons.new) }
-{
-    cons.take_opt_primitive_if(
-        Tag::OCTET_STRING,
-        |prim|
-            ensures { ReadsOctetsAs (λ octets. octets) AnyOctets
-                (plain S.rest prim.old) result (plain S.rest prim.new) }
-        { prim.take_all(alloc) },
-    )
-}
-
-// All pieces of a string.
-fn take_all_pieces<S: Source>(
-    alloc: Global,
-    cons: &mut Constructed<S>,
-) -> Result<Vec<Bytes>, DecodeError<S::Error>>
-    ensures { ReadsFields (λ v. v.items) ArePieces (here S.rest cons.old) result
-        (here S.rest cons.new) }
-{
-    let mut pieces = Vec::new(alloc);
-    while let Some(piece) = take_opt_piece(alloc, cons)? {
-        pieces.push(piece)?;
-    }
-    Ok(pieces)
-}
-
-/// The pieces of an OCTET STRING that is written in pieces, as BER and CER have it (X.690 8.7.3), with
-/// a length of either form.
-pub fn take_pieces<S: Source>(
-    alloc: Global,
-    cons: &mut Constructed<S>,
-) -> Result<Vec<Bytes>, DecodeError<S::Error>>
-    ensures reads { ReadsAs (λ v. v.items)
-        (Inside octet_string_tag (ArePieces (here S.rest cons.old).mode))
-        (here S.rest cons.old) result (here S.rest cons.new) }
-    ensures failed { OnErr result ((here S.rest cons.new).failed ≡ true) }
-{
-    cons.take_constructed_if(
-        Tag::OCTET_STRING,
-        |cons|
-            ensures { ReadsFields (λ v. v.items) ArePieces
-                (here S.rest cons.old) result (here S.rest cons.new) }
-        { take_all_pieces(alloc, cons) },
-    )
-}
-
-/// A value of these grammars has one meaning.
-pub fn one_meaning()
-    ensures entry { One IsEntry }
-    ensures log { (m : ModeValue) → One (Inside sequence_tag (IsLogBody m)) }
-    ensures pieces { One (Inside octet_string_tag (Many IsPiece)) }
-{}

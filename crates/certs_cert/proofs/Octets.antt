@@ -4,7 +4,6 @@ use Rattle.certs_cert.specs.bcder_tree.declared.mode.Mode.{Mode}
 use Rattle.certs_cert.specs.bcder_tree.Tree.{Tree}
 use Rattle.certs_cert.specs.bcder_tree.Front.{Front}
 use Rattle.certs_cert.specs.bcder_content.Contents.{ValuesLeft}
-use Rattle.certs_cert.specs.bcder_content.Kept.{CapturedValue}
 use Rattle.certs_cert.specs.bcder_content.Texts.{InFront, Joins}
 use Rattle.certs_cert.proofs.of_bcder_content.Keeping.{front_all}
 use Rattle.certs_cert.proofs.of_bcder_tree.Trees.{one_tree}
@@ -17,7 +16,6 @@ use Rattle.certs_cert.specs.Reading.{Listed, ListedFields, SaysListed, SpellsLis
 use Rattle.certs_cert.specs.Whole.{AreCertOctets, signed_of}
 use Rattle.certs_cert.proofs.Listed.{slotted_list}
 use Rattle.certs_cert.proofs.Spelled.{fields_tree}
-use Rattle.certs_cert.proofs.Whole.{kept_octets}
 
 -- The first octets stay, and others come after them.
 rejoin : {A B C : Type 0} {P : List ℕ → A → Type 0} {R : List ℕ → B → Type 0} {S : List ℕ → C → Type 0} {text : List ℕ} {x : A × B} {y : C}
@@ -75,14 +73,13 @@ all_of {m} {octets} {c} f p =
     subst (λ (o : List ℕ). SpellsTbs m o c) (sym whole) p.is
 
 -- Signed data was read of these octets, and what is signed of the octets that were kept.
-pub cert_took : {now new : ValuesLeft} {m : Mode} {s : SignedDataValue} {lent : CapturedValue} {octets : List ℕ} {tbs : TbsValue} {c : CertValue}
-    → m ≡ now.mode → octets ≡ lent.octets → lent ≡ s.message → c ≡ record { signed = signed_of s; tbs = tbs }
-    → TookOctets octet_fields AreSignedOctets now s new → InFront (SpellsTbs m) octets tbs → TookOctets (λ (x : CertValue). x) AreCertOctets now c new
-cert_took {now} {m = m} {s} {octets = octets} {tbs} em eo ed ec t p =
+pub cert_took : {now new : ValuesLeft} {m : Mode} {s : SignedDataValue} {tbs : TbsValue} {c : CertValue}
+    → m ≡ now.mode → c ≡ record { signed = signed_of s; tbs = tbs }
+    → TookOctets octet_fields AreSignedOctets now s new → InFront (SpellsTbs m) s.message.octets tbs → TookOctets (λ (x : CertValue). x) AreCertOctets now c new
+cert_took {now} {s = s} {tbs} em ec t p =
     let message = t.is in
-    let front = subst (λ (z : Mode). InFront (SpellsTbs z) octets tbs) em p in
-    let same : octets ≡ message.first = kept_octets eo ed ∙ message.is.same in
-    let whole = all_of (front_all message.is.is.spelled) (subst (λ (z : List ℕ). InFront (SpellsTbs now.mode) z tbs) same front) in
+    let front = subst (λ (z : Mode). InFront (SpellsTbs z) s.message.octets tbs) em p in
+    let whole = all_of (front_all message.is.is.spelled) (subst (λ (z : List ℕ). InFront (SpellsTbs now.mode) z tbs) message.is.same front) in
     record {
       text = t.text;
       goes = t.goes;

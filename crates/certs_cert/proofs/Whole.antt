@@ -57,26 +57,24 @@ message_cert {m} {s} {tbs} d ec ts i =
       says = ec;
     }
 
-pub cert_gives : {now new : ValuesLeft} {m : Mode} {s : SignedDataValue} {lent : CapturedValue} {octets : List ℕ} {tbs : TbsValue} {c : CertValue}
-    → m ≡ now.mode → octets ≡ lent.octets → lent ≡ s.message → c ≡ record { signed = signed_of s; tbs = tbs }
+pub cert_gives : {now new : ValuesLeft} {m : Mode} {s : SignedDataValue} {tbs : TbsValue} {c : CertValue}
+    → m ≡ now.mode → c ≡ record { signed = signed_of s; tbs = tbs }
     → GivesAll (signed_content.reads now.mode) now (signed_fields s) new
-    → (t : Tree) × (rest : List ℕ) × Front m octets t rest × IsTbs m t tbs → GivesAll (AreCert now.mode) now c new
-cert_gives {now} {m = m} {s} {octets = octets} {tbs} em eo ed ec g d =
-    let o = kept_octets eo ed in
-    let front = subst (λ (z : List ℕ). Front now.mode z d.0 d.1) o (subst (λ (z : Mode). Front z octets d.0 d.1) em d.2) in
+    → (t : Tree) × (rest : List ℕ) × Front m s.message.octets t rest × IsTbs m t tbs → GivesAll (AreCert now.mode) now c new
+cert_gives {now} {s = s} {tbs} em ec g d =
+    let front = subst (λ (z : Mode). Front z s.message.octets d.0 d.1) em d.2 in
     let message : Message now.mode s tbs = record { tree = d.0; rest = d.1; front = front; is = subst (λ (z : Mode). IsTbs z d.0 tbs) em d.3 } in
     all_gives (AreCert now.mode) (signed_content.reads now.mode) (message_cert message ec) cert_within g
 
-pub cert_refused : {now new : ValuesLeft} {m : Mode} {s : SignedDataValue} {lent : CapturedValue} {octets : List ℕ}
-    → m ≡ now.mode → octets ≡ lent.octets → lent ≡ s.message → GivesAll (signed_content.reads now.mode) now (signed_fields s) new
-    → ((t : Tree) (x : TbsValue) (rest : List ℕ) → IsTbs m t x → Front m octets t rest → ⊥) → LacksAll (AreCert now.mode) now
-cert_refused {now} {m = m} {s} {octets = octets} em eo ed g refuses =
-    let o = kept_octets eo ed in
+pub cert_refused : {now new : ValuesLeft} {m : Mode} {s : SignedDataValue}
+    → m ≡ now.mode → GivesAll (signed_content.reads now.mode) now (signed_fields s) new
+    → ((t : Tree) (x : TbsValue) (rest : List ℕ) → IsTbs m t x → Front m s.message.octets t rest → ⊥) → LacksAll (AreCert now.mode) now
+cert_refused {now} {s = s} em g refuses =
     all_unfit (AreCert now.mode) (signed_content.reads now.mode) (λ ts z p q.
     let first = (same_trees (sym q.whole ∙ p.are.whole)).0 in
     let text : Spells now.mode p.are.first s.message.octets = subst (λ (u : Tree). Spells now.mode u s.message.octets) first q.is.kept.spelled in
     refuses p.are.first p.fields.0.1 [] (subst (λ (z : Mode). IsTbs z p.are.first p.fields.0.1) (sym em) p.are.is.is)
-    (subst (λ (z : Mode). Front z octets p.are.first []) (sym em) (subst (λ (z : List ℕ). Front now.mode z p.are.first []) (sym o) (front_all text)))) cert_within g
+    (subst (λ (z : Mode). Front z s.message.octets p.are.first []) (sym em) (front_all text))) cert_within g
 
 -- A SEQUENCE of the fields is a certificate, and a certificate is one.
 pub sequence_cert : {m : Mode} (t : Tree) (c : CertValue) → Inside sequence_tag (AreCert m) t c → IsCert m t c

@@ -30,10 +30,15 @@ fn message_of(signed: &SignedData) -> Result<Captured, AllocError>
 }
 
 // What is signed, read of the octets that it begins with, and sharing them.
-fn tbs_of(alloc: Global, message: Captured, mode: Mode) -> Result<TbsCert, DecodeError<Infallible>>
-    ensures reads { DecodesAs (λ t. t) mode (IsTbs mode) message.octets result }
-    ensures octets { IfOk result (InFront (SpellsTbs mode) message.octets) }
+fn tbs_of(
+    alloc: Global,
+    signed: &SignedData,
+    mode: Mode,
+) -> Result<TbsCert, DecodeError<Infallible>>
+    ensures reads { DecodesAs (λ t. t) mode (IsTbs mode) signed.now.message.octets result }
+    ensures octets { IfOk result (InFront (SpellsTbs mode) signed.now.message.octets) }
 {
+    let message = message_of(signed)?;
     mode.decode(
         message.into_bytes(),
         |cons|
@@ -56,11 +61,11 @@ impl Cert {
             (here S.rest cons.old) result (here S.rest cons.new) }
         ensures octets { IfOk result (λ c. TookOctets (λ c. c) AreCertOctets
             (here S.rest cons.old) c (here S.rest cons.new)) }
+        ensures failed { OnErr result ((here S.rest cons.new).failed ≡ true) }
     {
         let mode = cons.mode();
         let signed = SignedData::from_constructed(alloc, cons)?;
-        let message = message_of(&signed)?;
-        let tbs = match tbs_of(alloc, message, mode) {
+        let tbs = match tbs_of(alloc, &signed, mode) {
             Ok(tbs) => tbs,
             Err(error) => {
                 cons.fail();

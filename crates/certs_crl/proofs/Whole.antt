@@ -21,7 +21,7 @@ use Rattle.certs_x509.specs.certs_extension.CrlText.{CrlValue, IsCrl, IsTbsList,
 use Rattle.certs_crl.specs.Whole.{AreCrl, signed_of}
 use Rattle.certs_crl.proofs.Listed.{same_null}
 
-kept_octets : {lent kept : CapturedValue} {octets : List ℕ} → octets ≡ lent.octets → lent ≡ kept → octets ≡ kept.octets
+pub kept_octets : {lent kept : CapturedValue} {octets : List ℕ} → octets ≡ lent.octets → lent ≡ kept → octets ≡ kept.octets
 kept_octets e d = e ∙ ap (λ (c : CapturedValue). c.octets) d
 
 -- A list's fields are those of signed data.
@@ -45,10 +45,10 @@ pub record WasRead (m : Mode) (s : SignedDataValue) (tbs : TbsListValue) : Type 
   pub front : Front m s.message.octets tree rest
   pub is : IsTbsList m tree tbs
 
-pub was_read : {k m : Mode} {s : SignedDataValue} {lent : CapturedValue} {octets : List ℕ} {tbs : TbsListValue}
-    → m ≡ k → octets ≡ lent.octets → lent ≡ s.message → (t : Tree) × (rest : List ℕ) × Front m octets t rest × IsTbsList m t tbs → WasRead k s tbs
-was_read {k} {m} {s} {octets = octets} {tbs} em eo ed d =
-    let front = subst (λ (z : List ℕ). Front k z d.0 d.1) (kept_octets eo ed) (subst (λ (z : Mode). Front z octets d.0 d.1) em d.2) in
+pub was_read : {k m : Mode} {s : SignedDataValue} {tbs : TbsListValue}
+    → m ≡ k → (t : Tree) × (rest : List ℕ) × Front m s.message.octets t rest × IsTbsList m t tbs → WasRead k s tbs
+was_read {s = s} {tbs} em d =
+    let front = subst (λ (z : Mode). Front z s.message.octets d.0 d.1) em d.2 in
     record { tree = d.0; rest = d.1; front = front; is = subst (λ (z : Mode). IsTbsList z d.0 tbs) em d.3 }
 
 -- The message is that value.
@@ -73,16 +73,15 @@ pub crl_gives : {now new : ValuesLeft} {s : SignedDataValue} {tbs : TbsListValue
     → GivesAll (AreCrl now.mode) now c new
 crl_gives {now} d ec agree g = all_gives (AreCrl now.mode) (signed_content.reads now.mode) (message_crl d ec agree) crl_within g
 
-pub crl_refused : {now new : ValuesLeft} {m : Mode} {s : SignedDataValue} {lent : CapturedValue} {octets : List ℕ}
-    → m ≡ now.mode → octets ≡ lent.octets → lent ≡ s.message → GivesAll (signed_content.reads now.mode) now (signed_fields s) new
-    → ((t : Tree) (x : TbsListValue) (rest : List ℕ) → IsTbsList m t x → Front m octets t rest → ⊥) → LacksAll (AreCrl now.mode) now
-crl_refused {now} {m = m} {s} {octets = octets} em eo ed g refuses =
-    let o = kept_octets eo ed in
+pub crl_refused : {now new : ValuesLeft} {m : Mode} {s : SignedDataValue}
+    → m ≡ now.mode → GivesAll (signed_content.reads now.mode) now (signed_fields s) new
+    → ((t : Tree) (x : TbsListValue) (rest : List ℕ) → IsTbsList m t x → Front m s.message.octets t rest → ⊥) → LacksAll (AreCrl now.mode) now
+crl_refused {now} {s = s} em g refuses =
     all_unfit (AreCrl now.mode) (signed_content.reads now.mode) (λ ts z p q.
     let first = (same_trees (sym q.whole ∙ p.are.whole)).0 in
     let text : Spells now.mode p.are.first s.message.octets = subst (λ (u : Tree). Spells now.mode u s.message.octets) first q.is.kept.spelled in
     refuses p.are.first p.fields.0.1 [] (subst (λ (z : Mode). IsTbsList z p.are.first p.fields.0.1) (sym em) p.are.is.is)
-    (subst (λ (z : Mode). Front z octets p.are.first []) (sym em) (subst (λ (z : List ℕ). Front now.mode z p.are.first []) (sym o) (front_all text)))) crl_within g
+    (subst (λ (z : Mode). Front z s.message.octets p.are.first []) (sym em) (front_all text))) crl_within g
 
 -- The two algorithms differ.
 pub crl_disagrees : {now new : ValuesLeft} {s : SignedDataValue} {tbs : TbsListValue} → WasRead now.mode s tbs → GivesAll (signed_content.reads now.mode) now (signed_fields s) new

@@ -30,11 +30,12 @@ fn message_of(signed: &SignedData) -> Result<Captured, AllocError>
 // What is signed, read of the octets that it begins with, and sharing them.
 fn tbs_of(
     alloc: Global,
-    message: Captured,
+    signed: &SignedData,
     mode: Mode,
 ) -> Result<TbsCertList, DecodeError<Infallible>>
-    ensures { DecodesAs (λ t. t) mode (IsTbsList mode) message.octets result }
+    ensures { DecodesAs (λ t. t) mode (IsTbsList mode) signed.now.message.octets result }
 {
+    let message = message_of(signed)?;
     mode.decode(
         message.into_bytes(),
         |cons|
@@ -58,13 +59,13 @@ impl Crl {
         alloc: Global,
         cons: &mut Constructed<S>,
     ) -> Result<Crl, DecodeError<S::Error>>
-        ensures { ReadsFields (λ c. c) AreCrl
+        ensures reads { ReadsFields (λ c. c) AreCrl
             (here S.rest cons.old) result (here S.rest cons.new) }
+        ensures failed { OnErr result ((here S.rest cons.new).failed ≡ true) }
     {
         let mode = cons.mode();
         let signed = SignedData::from_constructed(alloc, cons)?;
-        let message = message_of(&signed)?;
-        let tbs = match tbs_of(alloc, message, mode) {
+        let tbs = match tbs_of(alloc, &signed, mode) {
             Ok(tbs) => tbs,
             Err(error) => {
                 cons.fail();

@@ -5,7 +5,7 @@ use Rattle.certs_key.specs.bcder_tree.Tags.{TagValue, universal, null_tag, oid_t
 use Rattle.certs_key.specs.bcder_tree.Tree.{Trees, primitive, constructed, none, more}
 use Rattle.certs_key.specs.bcder_primitive.Values.{AnyOctets}
 use Rattle.certs_key.specs.bcder_content.Contents.{tag_of}
-use Rattle.certs_key.proofs.of_bcder_content.Unique.{any_octets_one}
+use Rattle.certs_name.proofs.of_bcder_content.Unique.{any_octets_one}
 use Rattle.certs_key.specs.bcder.Identifiers.{IsIdentifier}
 use Rattle.certs_key.specs.bcder_octets.Bits.{BitsValue}
 use Rattle.certs_key.specs.bcder_primitive.Encoded.{joined}
@@ -16,7 +16,7 @@ use Rattle.certs_key.specs.certs_basics.declared.PublicKeyFormat.{PublicKeyForma
 use Rattle.certs_key.specs.certs_basics.declared.PublicKeyFormat.TheVariants.{Rsa, Ecdsa}
 use Rattle.certs_key.specs.certs_basics.Identifiers.{rsa_encryption, ec_public_key, secp256r1}
 use Rattle.certs_key.specs.certs_basics.Keys.{KeyValue, kind_of, of_rsa, of_ecdsa, IsFormat, HasEncoding, IsKey, format_tree}
-use Rattle.certs_key.proofs.of_certs_basics.Values.{format_one, key_one}
+use Rattle.certs_name.proofs.of_certs_basics.Values.{format_one, key_one}
 use Rattle.certs_key.specs.Cleared.{key_again, again_has}
 
 -- A primitive value of that tag with these octets, as they are.

@@ -6,4 +6,4 @@ pub use objects_cms::manifest::{
     FileAndHash, FileList, FileListIter, ManifestContent, ManifestHash, ManifestHashMismatch,
 };
 pub use objects_valid::{Manifest, ValidateManifest};
-pub use objects_written::{EncodeFile, EncodeManifest, ManifestValue, has_file_names};
+pub use objects_written::{EncodeFile, EncodeManifest, FileValue, ManifestValue, has_file_names};

@@ -6,4 +6,4 @@ pub use objects_payload::roa::{
     RoaIpAddresses, RoaIpAddressesBuilder, RouteOriginAttestation, RouteOriginIter,
 };
 pub use objects_valid::{ProcessRoa, Roa};
-pub use objects_written::{EncodeAddresses, EncodeRoa, RoaValue, has_address};
+pub use objects_written::{Addresses, EncodeAddresses, EncodeRoa, RoaValue, has_address};

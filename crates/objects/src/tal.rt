@@ -1,3 +1,4 @@
-//! Trust anchor locators (RFC 8630): URIs of an anchor's certificate, and its key.
+//! Trust anchor locators (RFC 8630): URIs of an anchor's certificate, and its key; what a locator is called.
 
+pub use certs::x509::TalInfo;
 pub use objects_payload::locator::{ReadError, Tal, TalUri};

@@ -2,8 +2,8 @@
 use Rattle.std.proofs.Common.{arith}
 use Rattle.resources_asn.specs.bcder_tree.Tags.{integer_tag, sequence_tag}
 use Rattle.resources_asn.specs.bcder_content.Grammar.{As, One, OneAll, Tagged}
-use Rattle.resources_asn.proofs.of_bcder_content.Choices.{universal_apart}
-use Rattle.resources_asn.proofs.of_bcder_content.Unique.{as_one, as_tagged, end_one, inside_one, inside_tagged, octets_one, octets_tagged, one_of_one, then_one, unsigned_one}
+use Rattle.resources_ip_prefix.proofs.of_bcder_content.Choices.{universal_apart}
+use Rattle.resources_ip_prefix.proofs.of_bcder_content.Unique.{as_one, as_tagged, end_one, inside_one, inside_tagged, octets_one, octets_tagged, one_of_one, then_one, unsigned_one}
 use Rattle.resources_asn.specs.Encodings.{IsAsId}
 use Rattle.resources_asn.specs.BlockEncodings.{AreEnds, AreOrdered, IsAsBlock, IsAsRange, alone, from_to}
 

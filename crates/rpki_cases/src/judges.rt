@@ -54,26 +54,29 @@ fn small_keys(answer: &mut Answer, keys: &[u8]) {
     }
 }
 
-// Whether the witness is good. Of `judge` the number of points that were read, and whether more was asked than may be; of
-// `asks` the small keys of which was asked, in their order.
+// How often a verifier may be asked: four times for each certificate or point, and some more.
+fn may_ask(count: usize, more: u64) -> u64 {
+    (count as u64).saturating_mul(4).saturating_add(more)
+}
+
+// Whether the witness is good. Of `judge` the number of points that were read, and whether more was asked than may be, by the
+// chain's length and by that number; of `asks` the small keys of which was asked, in their order.
 fn tell(alloc: Global, answer: &mut Answer, topic: &str, witness: &Witness, bundle: &Bundle) {
     let mut verifier = Noting::new(alloc, TableVerifier::new(bundle, &Fips));
+    let mut most = may_ask(witness.chain().len(), 2);
     match judge(alloc, bundle, witness, &Fips, &mut verifier) {
         Ok(judgement) => {
             if topic == "asks" {
                 answer.say(&judgement.yes);
                 small_keys(answer, verifier.keys.as_slice());
-            } else if judgement.yes {
-                answer.say(&format_args!("yes {}", judgement.points));
             } else {
-                answer.word("no");
+                answer.word(if judgement.yes { "yes" } else { "no" });
+                answer.say(&judgement.points);
             }
+            most = most.min(may_ask(judgement.points, 4));
         }
         Err(error) => answer.say(&error),
     }
-    let most = (witness.chain().len() as u64)
-        .saturating_mul(4)
-        .saturating_add(2);
     if topic == "judge" && verifier.asked() > most {
         answer.word("asks much");
     }

@@ -12,7 +12,7 @@
 //!     world verdict KEY MESSAGE SIGNATURE    the SHA-256 digests of a signature that is good
 //!     world unsaid KEY MESSAGE SIGNATURE     that signature isn't good
 //!     world walk                             what is printed, a line for each witness, and a dot
-//!     world judge LOCATOR CHAIN OBJECT       `yes` with the number of points that were read, or `no`
+//!     world judge LOCATOR CHAIN OBJECT       `yes` or `no`, with the number of points that were read
 //!     world reach URIS                       `locator`, or the numbers
 //!
 //! Their texts, octets and digests are in hexadecimal digits; commas stand between the URIs of a chain, and those of `reach`.

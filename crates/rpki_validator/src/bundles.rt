@@ -8,6 +8,7 @@ ghost use Rattle.rpki_validator.specs.rpki_rules.World.{world_of};
 ghost use Rattle.rpki_rules.specs.Report.{IsReport};
 ghost use Rattle.rpki_rules.specs.Views.{trace_of, way_of};
 ghost use Rattle.rpki_walk.specs.Chained.{AreNamingChains};
+ghost use Rattle.rpki_walk.specs.Counted.{ReadsPoints, may_ask_reading};
 ghost use Rattle.rpki_walk.specs.Naming.{answer_of};
 
 use bytes::Bytes;
@@ -45,7 +46,8 @@ pub fn walk<D: Digester, V: Verifier>(
 
 /// Whether the witness is one of those that a walk of the bundle lists. It is read from its object upward, so that the
 /// verifier is asked for a few signatures a certificate, however much the bundle has: at most 4 times the chain's length
-/// and 2 more, whatever the answer. Refused for lack of memory alone.
+/// and 2 more, whatever the answer, and at most 4 times the number of points that were read and 4 more. Refused for lack of
+/// memory alone.
 pub fn judge_by<D: Digester, V: Verifier>(
     alloc: Global,
     evidence: &mut BundleEvidence<'_, D, V>,
@@ -55,8 +57,14 @@ pub fn judge_by<D: Digester, V: Verifier>(
         (digests_of D.sha256_digest D.sha1_digest evidence.old.digester.now)
         (V.says evidence.old.verifier.now) evidence.old.index) (trace_of witness.now) j.yes
         j.points) }
+    ensures read { IfOk result (λ j. ReadsPoints (world_of
+        (digests_of D.sha256_digest D.sha1_digest evidence.old.digester.now)
+        (V.says evidence.old.verifier.now) evidence.old.index) (trace_of witness.now)
+        j.points) }
     ensures asked { V.count evidence.new.verifier.now ≤ V.count evidence.old.verifier.now
         + may_ask (length (trace_of witness.now).chain) }
+    ensures asked_read { IfOk result (λ j. V.count evidence.new.verifier.now
+        ≤ V.count evidence.old.verifier.now + may_ask_reading j.points) }
     ensures same { V.says evidence.new.verifier.now ≡ V.says evidence.old.verifier.now }
     ensures same_world { world_of
         (digests_of D.sha256_digest D.sha1_digest evidence.new.digester.now)
@@ -73,7 +81,8 @@ pub fn judge_by<D: Digester, V: Verifier>(
 
 /// Whether the witness is one of those that a walk of the bundle lists, by this digester and this verifier. It is read from
 /// its object upward, so that the verifier is asked for a few signatures a certificate, however much the bundle has: at most
-/// 4 times the chain's length and 2 more, whatever the answer. Refused for lack of memory alone.
+/// 4 times the chain's length and 2 more, whatever the answer, and at most 4 times the number of points that were read and 4
+/// more. Refused for lack of memory alone.
 pub fn judge<D: Digester, V: Verifier>(
     alloc: Global,
     bundle: &Bundle,
@@ -84,9 +93,14 @@ pub fn judge<D: Digester, V: Verifier>(
     ensures judged { IfOk result (λ j. IsJudged (world_of
         (digests_of D.sha256_digest D.sha1_digest digester.now) (V.says verifier.old) bundle.now)
         (trace_of witness.now) j.yes j.points) }
+    ensures read { IfOk result (λ j. ReadsPoints (world_of
+        (digests_of D.sha256_digest D.sha1_digest digester.now) (V.says verifier.old) bundle.now)
+        (trace_of witness.now) j.points) }
     ensures same { V.says verifier.new ≡ V.says verifier.old }
     ensures asked { V.count verifier.new ≤ V.count verifier.old
         + may_ask (length (trace_of witness.now).chain) }
+    ensures asked_read { IfOk result (λ j. V.count verifier.new
+        ≤ V.count verifier.old + may_ask_reading j.points) }
 {
     let mut evidence = BundleEvidence::new(Index::new(bundle), digester, verifier);
     let judged = judge_by(alloc, &mut evidence, witness);

@@ -1,5 +1,5 @@
 //! The validator: what a walk reports of a bundle, what a judge says of one witness, what some URIs can reach and by which
-//! chains, and what a run prints.
+//! chains, what stands at a publication point ([`point`], [`point_unheld`]), and what a run prints.
 #![tactic(auto)]
 
 pub mod bundles;
@@ -16,6 +16,7 @@ pub use rpki_rules::lines::render;
 pub use rpki_rules::refusal::word_of;
 pub use rpki_rules::{Cause, Customer, Origin, Path, Refusal, Report, Witness};
 pub use rpki_steps::climb::{BundleEvidence, Index, Judgement, TableVerifier};
+pub use rpki_steps::places::{File, Point, point, point_unheld};
 pub use rpki_walk::reach::Reach;
 pub use runs::{RunError, read_bundle, run};
 pub use streams::{WriteFault, write_all};

@@ -1,5 +1,5 @@
 -- From what the parts answer to what a step answers.
-use Rattle.std.proofs.Common.{◌≡◌, ℕ, ◌+◌, ◌≤◌, ◌↔◌, Bool, true, false, List, [], ◌∷◌, ◌++◌, map, length, Option, Some, None, Result, Ok, Err, inl, inr, refl, sym, ap, subst, ◌∙◌, append_assoc, arith}
+use Rattle.std.proofs.Common.{◌≡◌, ℕ, ◌+◌, ◌*◌, ◌≤◌, ◌<◌, ◌↔◌, Bool, true, false, List, [], ◌∷◌, ◌++◌, map, length, Option, Some, None, Result, Ok, Err, inl, inr, refl, sym, ap, subst, ◌∙◌, append_assoc, arith}
 use Rattle.std.proofs.lemmas.List.{length-map}
 use Rattle.std.specs.Prelude.{IsTrue, IfOk, slice_get}
 use Rattle.rpki_walk.specs.resources_chain.Claims.{Lists}
@@ -10,19 +10,20 @@ use Rattle.rpki_rules.specs.Words.{Mem, NoRepeat}
 use Rattle.rpki_rules.specs.Kinds.{Kind, claim, InSet}
 use Rattle.rpki_rules.specs.World.{World}
 use Rattle.rpki_rules.specs.Points.{Link, Anchor, Point, IsPoint}
-use Rattle.rpki_rules.specs.Chains.{CertAt, IsCerFile, IsSound}
+use Rattle.rpki_rules.specs.Chains.{CertAt}
 use Rattle.rpki_rules.specs.Attests.{Payload, Trace, IsSigned}
-use Rattle.rpki_rules.specs.Judge.{KeepsNeed, NeedAbove, NeedAt, Needs, Climbs, Climbed, IsJudged, may_ask}
-use Rattle.rpki_rules.proofs.Readings.{one_point, one_signed}
+use Rattle.rpki_rules.specs.Judge.{KeepsNeed, NeedAt, Needs, Climbs, Climbed, IsJudged, may_ask}
+use Rattle.rpki_rules.proofs.Readings.{one_signed}
 use Rattle.rpki_walk.specs.declared.judge.claims.Claims.{Claims}
 use Rattle.rpki_walk.specs.declared.judge.climb.Link.{Link as Code}
 use Rattle.rpki_walk.specs.declared.judge.judging.Judgement.{Judgement}
 use Rattle.rpki_walk.specs.Needed.{AreClaims, KeepsAll, IsNeed, IsNeedAt}
 use Rattle.rpki_walk.specs.Evidence.{IsReadCert, IsReadPoint, IsReadObject, IsBelow}
+use Rattle.rpki_walk.specs.Counted.{HasNoPoint, ReadsPoints, may_ask_reading}
 use Rattle.rpki_walk.specs.Climbing.{link_of, links_of, identifier_of, AreAt, places_of, IsReadChain, IsRaised, IsNeedOfFile, IsJudgedUp, IsJudgedAt}
 use Rattle.rpki_walk.proofs.Needs.{kept_to, kept_from, need_is}
-use Rattle.rpki_walk.proofs.Climbs.{above_less, with_less, up_anchor, up_some, up_none, at_some, at_none, no_point, no_need}
-use Rattle.rpki_walk.proofs.Links.{length_places, judged_no, no_cert, no_repeat, judged_all}
+use Rattle.rpki_walk.proofs.Climbs.{at_less, up_anchor, up_some, up_none, up_one, at_some, no_point, no_need}
+use Rattle.rpki_walk.proofs.Links.{length_places, judged_no, no_cert, no_repeat, judged_all, long_chain, lacking_chain, repeating_chain, reads_all}
 
 -- No, where yes would mean a test that failed.
 pub no_either : {A : Type 0} {b : Bool} → (A → IsTrue b) → b ≡ false → IsTrue false ↔ A
@@ -81,35 +82,55 @@ point_read {P} point w ca p f e h = subst (λ (o : Option P). IsReadPoint point 
 pub point_missing : {P : Type 0} (point : P → Point) (w : World) (ca : Cert) (f : Option P) → f ≡ None → IsReadPoint point w ca f → (p : Point) → ¬ (IsPoint w ca p)
 point_missing {P} point w ca f e h = subst (λ (o : Option P). IsReadPoint point w ca o) e h
 
-pub not_below : (b : Bool) (w v : World) (ca : Cert) (q : Point) (uri : List ℕ) (c : Cert) → v ≡ w → IsPoint w ca q → IsTrue b ↔ IsBelow v ca q uri c → b ≡ false → (p : Point) → IsPoint w ca p → IsCerFile w ca p uri c → ¬ (IsSound w ca p c)
-not_below b w v ca q uri c e at h n p is file sound =
-    let s = one_point w ca p q is at in
-    let f : IsBelow w ca p uri c = record { file = file; sound = sound } in
-    let y : b ≡ true = h.1 (subst (λ (x : World). IsBelow x ca q uri c) (sym e) (subst (λ (x : Point). IsBelow w ca x uri c) s f)) in
-    absurd cc
-
-pub raised_some : (w v : World) (ca c : Cert) (uri : List ℕ) (q : Point) (m : Cert) (claims manifest : Claims) (need higher : Resources) → v ≡ w → KeepsNeed c (InSet need) → IsPoint w ca q → IsBelow v ca q uri c → AreClaims c claims → AreClaims m manifest → m ≡ q.object.cert → IsNeedAt claims manifest need higher → IsRaised w ca (record { uri = uri; cert = c }) need (Some higher)
-raised_some w v ca c uri q m claims manifest need higher e kept at below are other me h =
-    let f : IsBelow w ca q uri c = subst (λ (x : World). IsBelow x ca q uri c) e below in
-    (kept, q, at, f.file, f.sound, need_is c claims are q.object.cert manifest (subst (λ (x : Cert). AreClaims x manifest) me other) need higher h)
+pub raised_some : (w : World) (ca c : Cert) (uri : List ℕ) (q : Point) (m : Cert) (claims manifest : Claims) (need higher : Resources) → IsBelow w ca q uri c → AreClaims c claims → AreClaims m manifest → m ≡ q.object.cert → IsNeedAt claims manifest need higher → IsRaised w ca q (record { uri = uri; cert = c }) need (Some higher)
+raised_some w ca c uri q m claims manifest need higher below are other me h =
+    (below, need_is c claims are q.object.cert manifest (subst (λ (x : Cert). AreClaims x manifest) me other) need higher h)
 
 -- Up to the anchor.
 pub anchor_judged : {C : Type 0} (cert : C → Cert) (w : World) (name : List ℕ) (links : List (Code C)) (l : Code C) (rest : List (Code C)) (need : Resources) (says : Bool) → links ≡ l ∷ rest → rest ≡ [] → IsTrue says ↔ Climbs w name (link_of cert l) [] (InSet need) → IsJudgedUp w name (links_of cert links) need (record { yes = says; points = 0 })
 anchor_judged {C} cert w name links l rest need says e f h =
     subst (λ (xs : List (Code C)). IsJudgedUp w name (links_of cert xs) need (record { yes = says; points = 0 })) (sym (e ∙ ap (λ (ys : List (Code C)). l ∷ ys) f)) (up_anchor w name (link_of cert l) need says h)
 
-pub none_raised : {C : Type 0} (cert : C → Cert) (w : World) (name : List ℕ) (links : List (Code C)) (l u : Code C) (rest more : List (Code C)) (need : Resources) (f : Option Resources) (j : Judgement) → links ≡ l ∷ rest → rest ≡ u ∷ more → f ≡ None → j ≡ record { yes = false; points = 0 } → IsRaised w (cert u.cert) (link_of cert l) need f → IsJudgedUp w name (links_of cert links) need j
-none_raised {C} cert w name links l u rest more need f j e d n z h =
+-- Nothing is read above: what is needed isn't kept, or there is no point.
+pub none_read : {C : Type 0} (cert : C → Cert) (w : World) (name : List ℕ) (links : List (Code C)) (l u : Code C) (rest more : List (Code C)) (need : Resources) (j : Judgement) → links ≡ l ∷ rest → rest ≡ u ∷ more → j ≡ record { yes = false; points = 0 } → (KeepsNeed (cert l.cert) (InSet need) → HasNoPoint w (cert u.cert)) → IsJudgedUp w name (links_of cert links) need j
+none_read {C} cert w name links l u rest more need j e d z none =
     subst (λ (k : Judgement). IsJudgedUp w name (links_of cert links) need k) (sym z)
     (subst (λ (xs : List (Code C)). IsJudgedUp w name (links_of cert xs) need (record { yes = false; points = 0 })) (sym (e ∙ ap (λ (ys : List (Code C)). l ∷ ys) d))
-    (up_none w name (link_of cert l) (link_of cert u) (links_of cert more) need (subst (λ (o : Option Resources). IsRaised w (cert u.cert) (link_of cert l) need o) n h)))
+    (up_none w name (link_of cert l) (link_of cert u) (links_of cert more) need none))
 
-pub raised_judged : {C : Type 0} (cert : C → Cert) (w v : World) (name : List ℕ) (links : List (Code C)) (l u : Code C) (rest more : List (Code C)) (need higher : Resources) (f : Option Resources) (j r : Judgement) → links ≡ l ∷ rest → rest ≡ u ∷ more → f ≡ Some higher → r ≡ record { yes = j.yes; points = j.points + 1 } → v ≡ w → IsRaised w (cert u.cert) (link_of cert l) need f → IsJudgedUp v name (links_of cert rest) higher j → IsJudgedUp w name (links_of cert links) need r
-raised_judged {C} cert w v name links l u rest more need higher f j r e d n z ve h k =
+-- Where the certificate keeps the need, and the point is the authority's above.
+pub record IsOver {C : Type 0} (cert : C → Cert) (w : World) (links : List (Code C)) (l u : Code C) (rest more : List (Code C)) (p : Point) (need : Resources) : Type 0 where
+  pub links_are : links ≡ l ∷ rest
+  pub rest_is : rest ≡ u ∷ more
+  pub kept : KeepsNeed (cert l.cert) (InSet need)
+  pub is_point : IsPoint w (cert u.cert) p
+
+pub none_raised : {C : Type 0} (cert : C → Cert) (w v : World) (name : List ℕ) (links : List (Code C)) (l u : Code C) (rest more : List (Code C)) (p : Point) (need : Resources) (f : Option Resources) (j : Judgement) → IsOver cert w links l u rest more p need → f ≡ None → j ≡ record { yes = false; points = 1 } → v ≡ w → IsRaised v (cert u.cert) p (link_of cert l) need f → IsJudgedUp w name (links_of cert links) need j
+none_raised {C} cert w v name links l u rest more p need f j o n z ve h =
+    subst (λ (k : Judgement). IsJudgedUp w name (links_of cert links) need k) (sym z)
+    (subst (λ (xs : List (Code C)). IsJudgedUp w name (links_of cert xs) need (record { yes = false; points = 1 })) (sym (o.links_are ∙ ap (λ (ys : List (Code C)). l ∷ ys) o.rest_is))
+    (up_one w name (link_of cert l) (link_of cert u) (links_of cert more) p need o.kept o.is_point
+    (subst (λ (i : Option Resources). IsRaised w (cert u.cert) p (link_of cert l) need i) n (subst (λ (x : World). IsRaised x (cert u.cert) p (link_of cert l) need f) ve h))))
+
+pub raised_judged : {C : Type 0} (cert : C → Cert) (w v t : World) (name : List ℕ) (links : List (Code C)) (l u : Code C) (rest more : List (Code C)) (p : Point) (need higher : Resources) (f : Option Resources) (j r : Judgement) → IsOver cert w links l u rest more p need → f ≡ Some higher → r ≡ record { yes = j.yes; points = j.points + 1 } → v ≡ w → t ≡ w → IsRaised v (cert u.cert) p (link_of cert l) need f → IsJudgedUp t name (links_of cert rest) higher j → IsJudgedUp w name (links_of cert links) need r
+raised_judged {C} cert w v t name links l u rest more p need higher f j r o n z ve te h k =
+    let g : IsRaised w (cert u.cert) p (link_of cert l) need (Some higher) = subst (λ (i : Option Resources). IsRaised w (cert u.cert) p (link_of cert l) need i) n (subst (λ (x : World). IsRaised x (cert u.cert) p (link_of cert l) need f) ve h) in
     subst (λ (i : Judgement). IsJudgedUp w name (links_of cert links) need i) (sym z)
-    (subst (λ (xs : List (Code C)). IsJudgedUp w name (links_of cert xs) need (record { yes = j.yes; points = j.points + 1 })) (sym (e ∙ ap (λ (ys : List (Code C)). l ∷ ys) d))
-    (up_some w name (link_of cert l) (link_of cert u) (links_of cert more) need higher (subst (λ (o : Option Resources). IsRaised w (cert u.cert) (link_of cert l) need o) n h) j
-    (subst (λ (xs : List (Code C)). IsJudgedUp w name (links_of cert xs) higher j) d (subst (λ (x : World). IsJudgedUp x name (links_of cert rest) higher j) ve k))))
+    (subst (λ (xs : List (Code C)). IsJudgedUp w name (links_of cert xs) need (record { yes = j.yes; points = j.points + 1 })) (sym (o.links_are ∙ ap (λ (ys : List (Code C)). l ∷ ys) o.rest_is))
+    (up_some w name (link_of cert l) (link_of cert u) (links_of cert more) p need higher o.kept o.is_point g.0 g.1 j
+    (subst (λ (xs : List (Code C)). IsJudgedUp w name (links_of cert xs) higher j) o.rest_is (subst (λ (x : World). IsJudgedUp x name (links_of cert rest) higher j) te k))))
+
+-- One point was read, and what is below it was asked about.
+pub asks_one : (r : Judgement) (most below first second third : ℕ) → r ≡ record { yes = false; points = 1 } → below ≤ most + 1 → second ≤ first + 3 → third ≤ second + below → third ≤ first + (4 * r.points + most)
+asks_one r most below first second third z l a b =
+    let n : r.points ≡ 1 = ap (λ (i : Judgement). i.points) z in
+    omega (arith, n, l, a, b)
+
+-- What may be asked grows by four with a point.
+pub asks_more : (j r : Judgement) (most first second third fourth : ℕ) → r ≡ record { yes = j.yes; points = j.points + 1 } → second ≤ first + 3 → third ≤ second + 1 → fourth ≤ third + (4 * j.points + most) → fourth ≤ first + (4 * r.points + most)
+asks_more j r most first second third fourth z a b c =
+    let n : r.points ≡ j.points + 1 = ap (λ (i : Judgement). i.points) z in
+    omega (arith, n, a, b, c)
 
 -- What an object needs.
 pub object_missing : {O : Type 0} (object : O → Object) (payload : O → Payload) (w : World) (ca : Cert) (p : Point) (uri : List ℕ) (f : Option O) → f ≡ None → IsReadObject object payload w ca p uri f → (o : Object) (x : Payload) → ¬ (IsSigned w ca p uri o x)
@@ -125,12 +146,6 @@ not_kept w ca p uri o x c claims need b is ce are sets h n o' x' is' k =
     let g : KeepsNeed o.cert (Needs x) = subst (λ (y : Payload). KeepsNeed o.cert (Needs y)) s.1 (subst (λ (y : Object). KeepsNeed y.cert (Needs x')) s.0 k) in
     let q : KeepsNeed c (Needs x) = subst (λ (y : Cert). KeepsNeed y (Needs x)) (sym ce) g in
     refused (λ (z : KeepsNeed c (InSet need)). h.1 (kept_from c claims are need z)) n (λ k' m i. q k' m (((sets k').same m).0 i))
-
--- More is handed up where more is needed.
-at_less : (c : Cert) (p : Point) (need less : Kind → ℕ → Type 0) (k : Kind) → ((n : ℕ) → less k n → need k n) → (n : ℕ) → NeedAt c p less k n → NeedAt c p need k n
-at_less c p need less k f =
-    let m = p.object.cert in
-    with_less m.tbs.overclaim (claim m k) (NeedAbove c.tbs.overclaim (claim c k) (need k)) (NeedAbove c.tbs.overclaim (claim c k) (less k)) (above_less c.tbs.overclaim (claim c k) (need k) (less k) f)
 
 need_swapped : (c : Cert) (p : Point) (one two : Kind → ℕ → Type 0) (higher : Resources) → ((k : Kind) (n : ℕ) → one k n ↔ two k n) → IsNeed (NeedAt c p one) higher → IsNeed (NeedAt c p two) higher
 need_swapped c p one two higher f h k =
@@ -153,22 +168,28 @@ pub no_point_judged : {C P : Type 0} (cert : C → Cert) (point : P → Point) (
 no_point_judged {C} cert point w name links l rest uri f j e n z h =
     subst (λ (i : Judgement). IsJudgedAt w name (links_of cert links) uri i) (sym z)
     (subst (λ (xs : List (Code C)). IsJudgedAt w name (links_of cert xs) uri (record { yes = false; points = 0 })) (sym e)
-    (at_none w name (link_of cert l) (links_of cert rest) uri 0 (omega arith) (no_point w name (link_of cert l) uri (point_missing point w (cert l.cert) f n h))))
+    (no_point w name (link_of cert l) (links_of cert rest) uri (point_missing point w (cert l.cert) f n h)))
 
 pub no_need_judged : {C : Type 0} (cert : C → Cert) (w v : World) (name : List ℕ) (links : List (Code C)) (l : Code C) (rest : List (Code C)) (uri : List ℕ) (p : Point) (f : Option Resources) (j : Judgement) → links ≡ l ∷ rest → f ≡ None → j ≡ record { yes = false; points = 1 } → v ≡ w → IsPoint w (cert l.cert) p → IsNeedOfFile v (cert l.cert) p uri f → IsJudgedAt w name (links_of cert links) uri j
 no_need_judged {C} cert w v name links l rest uri p f j e n z ve at h =
     subst (λ (i : Judgement). IsJudgedAt w name (links_of cert links) uri i) (sym z)
     (subst (λ (xs : List (Code C)). IsJudgedAt w name (links_of cert xs) uri (record { yes = false; points = 1 })) (sym e)
-    (at_none w name (link_of cert l) (links_of cert rest) uri 1 (omega arith) (no_need w name (link_of cert l) uri p at
-    (subst (λ (o : Option Resources). IsNeedOfFile w (cert l.cert) p uri o) n (subst (λ (x : World). IsNeedOfFile x (cert l.cert) p uri f) ve h)))))
+    (no_need w name (link_of cert l) (links_of cert rest) uri p at
+    (subst (λ (o : Option Resources). IsNeedOfFile w (cert l.cert) p uri o) n (subst (λ (x : World). IsNeedOfFile x (cert l.cert) p uri f) ve h))))
 
 pub judged_on : {C : Type 0} (cert : C → Cert) (w v u : World) (name : List ℕ) (links : List (Code C)) (l : Code C) (rest : List (Code C)) (uri : List ℕ) (p : Point) (need : Resources) (f : Option Resources) (j r : Judgement) → links ≡ l ∷ rest → f ≡ Some need → r ≡ record { yes = j.yes; points = j.points + 1 } → v ≡ w → u ≡ w → IsPoint w (cert l.cert) p → IsNeedOfFile v (cert l.cert) p uri f → IsJudgedUp u name (links_of cert links) need j → IsJudgedAt w name (links_of cert links) uri r
 judged_on {C} cert w v u name links l rest uri p need f j r e n z ve ue at h k =
+    let g : IsNeedOfFile w (cert l.cert) p uri (Some need) = subst (λ (o : Option Resources). IsNeedOfFile w (cert l.cert) p uri o) n (subst (λ (x : World). IsNeedOfFile x (cert l.cert) p uri f) ve h) in
     subst (λ (i : Judgement). IsJudgedAt w name (links_of cert links) uri i) (sym z)
     (subst (λ (xs : List (Code C)). IsJudgedAt w name (links_of cert xs) uri (record { yes = j.yes; points = j.points + 1 })) (sym e)
-    (at_some w name (link_of cert l) (links_of cert rest) uri p need at
-    (subst (λ (o : Option Resources). IsNeedOfFile w (cert l.cert) p uri o) n (subst (λ (x : World). IsNeedOfFile x (cert l.cert) p uri f) ve h)) j
+    (at_some w name (link_of cert l) (links_of cert rest) uri p g.0 g.1 need at g.2 g.3 g.4 j
     (subst (λ (xs : List (Code C)). IsJudgedUp w name (links_of cert xs) need j) e (subst (λ (x : World). IsJudgedUp x name (links_of cert links) need j) ue k))))
+
+-- At the object's point it is asked twice for the object.
+pub asks_first : (j r : Judgement) (first second third fourth : ℕ) → r ≡ record { yes = j.yes; points = j.points + 1 } → second ≤ first + 3 → third ≤ second + 2 → fourth ≤ third + (4 * j.points + 3) → fourth ≤ first + may_ask_reading r.points
+asks_first j r first second third fourth z a b c =
+    let n : r.points ≡ j.points + 1 = ap (λ (i : Judgement). i.points) z in
+    omega (arith, n, a, b, c)
 
 -- The first of a list, as reading it answers.
 pub none_first : {X : Type 0} (xs : List X) → None ≡ slice_get xs 0 → xs ≡ []
@@ -201,6 +222,28 @@ all_read {C} cert w chain old new links b z l y h =
 
 pub repeat_judged : (w : World) (t : Trace) (ls : List Link) (b : Bool) (j : Judgement) → AreOf w t.chain ls → b ≡ false → IsTrue b ↔ NoRepeat (map identifier_of ls) → j ≡ record { yes = false; points = 0 } → IsJudged w t j.yes j.points
 repeat_judged w t ls b j are n h z = no_judged w t j z (no_repeat w t ls are.places are.at (refused h.1 n))
+
+-- How many points are read.
+pub long_reads : (w : World) (t : Trace) (j : Judgement) → j ≡ record { yes = false; points = 0 } → w.depth < length t.chain → ReadsPoints w t j.points
+long_reads w t j z l = subst (λ (i : Judgement). ReadsPoints w t i.points) (sym z) (inl (refl, λ a cs h. long_chain w t.chain a cs l h))
+
+pub missing_reads : (w : World) (t : Trace) (old new : List Link) (b : Bool) (j : Judgement) → b ≡ false → j ≡ record { yes = false; points = 0 } → IsReadChain w t.chain old new b → ReadsPoints w t j.points
+missing_reads w t old new b j n z h =
+    let k : IsReadChain w t.chain old new false = subst (λ (x : Bool). IsReadChain w t.chain old new x) n h in
+    subst (λ (i : Judgement). ReadsPoints w t i.points) (sym z) (inl (refl, λ a cs g. lacking_chain w t.chain a cs k.0 k.1 k.2 g))
+
+pub repeat_reads : (w : World) (t : Trace) (ls : List Link) (b : Bool) (j : Judgement) → AreOf w t.chain ls → b ≡ false → IsTrue b ↔ NoRepeat (map identifier_of ls) → j ≡ record { yes = false; points = 0 } → ReadsPoints w t j.points
+repeat_reads w t ls b j are n h z =
+    subst (λ (i : Judgement). ReadsPoints w t i.points) (sym z) (inl (refl, λ a cs g. repeating_chain w t.chain ls a cs are.places are.at (refused h.1 n) g))
+
+pub all_reads : {E : Type 0} (w v : World) (t : Trace) (ls ms : List Link) (r : Result Judgement E) → ls ≡ ms → AreOf w t.chain ls → NoRepeat (map identifier_of ls) → length t.chain ≤ w.depth → v ≡ w → IfOk r (IsJudgedAt v t.locator ms t.object) → IfOk r (λ j. ReadsPoints w t j.points)
+all_reads w v t ls ms (Ok j) e are once short ve h =
+    reads_all w t ls are.places are.at once short j (subst (λ (xs : List Link). IsJudgedAt w t.locator xs t.object j) (sym e) (subst (λ (x : World). IsJudgedAt x t.locator ms t.object j) ve h))
+all_reads w v t ls ms (Err x) e are once short ve h = h
+
+pub asks_after : {E : Type 0} (r : Result Judgement E) (first second third : ℕ) → second ≤ first → IfOk r (λ j. third ≤ second + may_ask_reading j.points) → IfOk r (λ j. third ≤ first + may_ask_reading j.points)
+asks_after (Ok j) first second third a h = omega (arith, a, h)
+asks_after (Err x) first second third a h = h
 
 pub all_judged : {E : Type 0} (w v : World) (t : Trace) (ls ms : List Link) (r : Result Judgement E) → ls ≡ ms → AreOf w t.chain ls → NoRepeat (map identifier_of ls) → length t.chain ≤ w.depth → v ≡ w → IfOk r (IsJudgedAt v t.locator ms t.object) → IfOk r (λ j. IsJudged w t j.yes j.points)
 all_judged w v t ls ms (Ok j) e are once short ve h =

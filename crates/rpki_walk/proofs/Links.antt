@@ -15,6 +15,7 @@ use Rattle.rpki_rules.proofs.Orders.{mem_append}
 use Rattle.rpki_rules.proofs.Readings.{first_held, one_cert_at}
 use Rattle.rpki_rules.proofs.Judging.{judging_is_exact}
 use Rattle.rpki_walk.specs.declared.judge.judging.Judgement.{Judgement}
+use Rattle.rpki_walk.specs.Counted.{HasChain, ReadsPoints}
 use Rattle.rpki_walk.specs.Climbing.{identifier_of, AreAt, places_of, IsJudgedAt}
 
 -- Lists with one more at their ends that are one.
@@ -22,7 +23,7 @@ pub record SameEnds {X : Type 0} (xs ys : List X) (x y : X) : Type 0 where
   pub front : xs ≡ ys
   pub last : x ≡ y
 
-same_ends : {X : Type 0} (xs ys : List X) (x y : X) → xs ++ x ∷ [] ≡ ys ++ y ∷ [] → SameEnds xs ys x y
+pub same_ends : {X : Type 0} (xs ys : List X) (x y : X) → xs ++ x ∷ [] ≡ ys ++ y ∷ [] → SameEnds xs ys x y
 same_ends [] [] x y e = record { front = refl; last = cc }
 same_ends [] (z ∷ ys) x y e = let n : length (x ∷ []) ≡ length ((z ∷ ys) ++ y ∷ []) = ap length e in absurd (omega (arith, n, length-append ys (y ∷ [])))
 same_ends (z ∷ xs) [] x y e = let n : length ((z ∷ xs) ++ x ∷ []) ≡ length (y ∷ []) = ap length e in absurd (omega (arith, n, length-append xs (x ∷ [])))
@@ -152,3 +153,43 @@ module _ (w : World) (t : Trace) where
       no x g =
           (h.right g.anchor g.below (same_links ls e at x g)).1
           (record { payload = x; point = g.point; is_point = g.is_point; object = g.object; is_signed = g.is_signed; kept = g.kept; climbs = g.climbs })
+
+-- Chains of which certificates are read.
+module _ (w : World) (chain : List (List ℕ)) where
+  pub long_chain : (a : Link) (cs : List Link) → w.depth < length chain → HasChain w chain a cs → ⊥
+  long_chain a cs l h =
+      let e : length chain ≡ length (cs ++ a ∷ []) = ap length (h.places_are ∙ sym (places_are a cs)) ∙ length_places (cs ++ a ∷ []) in
+      let s = h.short in
+      absurd (omega (arith, l, e, s, length-append cs (a ∷ [])))
+
+  pub lacking_chain : (a : Link) (cs : List Link) (uri : List ℕ) → Mem chain uri → ((c : Cert) → ¬ (CertAt w uri c)) → HasChain w chain a cs → ⊥
+  lacking_chain a cs uri m none h =
+      let k = at_place w (cs ++ a ∷ []) h.at uri (subst (λ (us : List (List ℕ)). Mem us uri) (h.places_are ∙ sym (places_are a cs)) m) in
+      none k.0 k.1
+
+  pub repeating_chain : (ls : List Link) (a : Link) (cs : List Link) → places_of ls ≡ chain → AreAt w ls → ¬ (NoRepeat (map identifier_of ls)) → HasChain w chain a cs → ⊥
+  repeating_chain ls a cs e at n h =
+      let q : ls ≡ cs ++ a ∷ [] = one_way w ls (cs ++ a ∷ []) (e ∙ (h.places_are ∙ sym (places_are a cs))) at h.at in
+      n (subst (λ (ks : List (List ℕ)). NoRepeat ks) (sym (ap (map identifier_of) q ∙ identifiers_are a cs)) h.once)
+
+  no_places : (a : Link) (cs : List Link) → [] ≡ places a cs → ⊥
+  no_places a cs e = let n : 0 ≡ length (cs ++ a ∷ []) = ap length (e ∙ sym (places_are a cs)) ∙ length_places (cs ++ a ∷ []) in absurd (omega (arith, n, length-append cs (a ∷ [])))
+
+  pub has_chain : (a : Link) (cs ls : List Link) → ls ≡ cs ++ a ∷ [] → places_of ls ≡ chain → AreAt w ls → NoRepeat (map identifier_of ls) → length chain ≤ w.depth → HasChain w chain a cs
+  has_chain a cs ls whole e at once short =
+      let l : length chain ≡ length (cs ++ a ∷ []) = ap length (sym e ∙ ap places_of whole) ∙ length_places (cs ++ a ∷ []) in
+      record {
+        places_are = sym e ∙ (ap places_of whole ∙ places_are a cs);
+        at = subst (λ (xs : List Link). AreAt w xs) whole at;
+        once = subst (λ (ks : List (List ℕ)). NoRepeat ks) (ap (map identifier_of) whole ∙ identifiers_are a cs) once;
+        short = omega (arith, l, short, length-append cs (a ∷ []));
+      }
+
+pub reads_all : (w : World) (t : Trace) (ls : List Link) → places_of ls ≡ t.chain → AreAt w ls → NoRepeat (map identifier_of ls) → length t.chain ≤ w.depth → (j : Judgement) → IsJudgedAt w t.locator ls t.object j → ReadsPoints w t j.points
+reads_all w t [] e at once short j h =
+    let b : j.points ≤ 0 = h.bounded in
+    let z : j.points ≡ 0 = omega (arith, b) in
+    inl (z, λ a cs g. no_places w t.chain a cs (e ∙ g.places_are))
+reads_all w t (l ∷ ls) e at once short j h =
+    let s = split_links l ls in
+    inr (s.anchor, s.below, has_chain w t.chain s.anchor s.below (l ∷ ls) s.whole e at once short, h.reads s.anchor s.below s.whole)

@@ -6,6 +6,7 @@
 
 pub mod claims;
 pub mod climb;
+pub mod counts;
 pub mod evidence;
 pub mod judging;
 pub mod needed;

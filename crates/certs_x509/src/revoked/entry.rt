@@ -72,6 +72,7 @@ impl CrlEntry {
     ) -> Result<Self, DecodeError<S::Error>>
         ensures reads { ReadsFields entry_fields AreEntryFields
             (here S.rest cons.old) result (here S.rest cons.new) }
+        ensures failed { OnErr result ((here S.rest cons.new).failed ≡ true) }
         ensures no_memory { IfErr result (λ e. e ≢ Memory) }
     {
         let user_certificate = Serial::take_from(cons)?;

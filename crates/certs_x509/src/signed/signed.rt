@@ -44,8 +44,9 @@ fn take_message<S: Source>(
         (here S.rest cons.old) result (here S.rest cons.new) }
     ensures octets { IfOk result
         (λ c. Goes (here S.rest cons.old) c.octets (here S.rest cons.new)) }
+    ensures failed { OnErr result ((here S.rest cons.new).failed ≡ true) }
 {
-    cons.capture(
+    let captured = cons.capture(
         alloc,
         |cons|
             ensures { ReadsAs (λ x. x) Any (here rest_of cons.old) result (here rest_of cons.new) }
@@ -58,7 +59,14 @@ fn take_message<S: Source>(
                 Err(error) => Err(error),
             }
         },
-    )
+    );
+    match captured {
+        Ok(message) => Ok(message),
+        Err(error) => {
+            cons.fail();
+            Err(error)
+        }
+    }
 }
 
 impl SignedData {
@@ -96,6 +104,7 @@ impl SignedData {
             (here S.rest cons.old) result (here S.rest cons.new) }
         ensures octets { IfOk result (λ s. TookOctets octet_fields AreSignedOctets
             (here S.rest cons.old) s (here S.rest cons.new)) }
+        ensures failed { OnErr result ((here S.rest cons.new).failed ≡ true) }
     {
         let message = take_message(alloc, cons)?;
         let algorithm = RpkiSignatureAlgorithm::x509_take_from(cons)?;

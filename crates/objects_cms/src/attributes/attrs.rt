@@ -1,6 +1,6 @@
 //! The signed attributes, with their octets (RFC 5652 5.3, RFC 6488 2.1.6.4).
 
-ghost use Rattle.std.specs.Prelude.{◌≡◌, ◌≢◌, IfNone, IfOk, IfSome};
+ghost use Rattle.std.specs.Prelude.{◌≡◌, ◌≢◌, IfNone, IfOk, IfSome, OnErr, true};
 ghost use Rattle.objects_cms.specs.bcder_content.Captures.{rest_of};
 ghost use Rattle.objects_cms.specs.bcder_content.Contents.{Goes};
 ghost use Rattle.objects_cms.specs.bcder_content.Here.{here};
@@ -119,12 +119,22 @@ impl SignedAttrs {
             (λ a. Goes (here S.rest cons.old) a.0 (here S.rest cons.new)) }
         ensures spelled { IfOk result (λ a. InOrder (here S.rest cons.old).mode
             (AreAttributes (here S.rest cons.old).mode) a.0 a.1) }
+        ensures failed { OnErr result ((here S.rest cons.new).failed ≡ true) }
     {
         let mode = cons.mode();
-        let octets = cons.capture_all(alloc)?;
+        let octets = match cons.capture_all(alloc) {
+            Ok(octets) => octets,
+            Err(error) => {
+                cons.fail();
+                return Err(error);
+            }
+        };
         match decode_octets(alloc, octets.as_slice(), mode) {
             Ok(attributes) => Ok(SignedAttrs { octets, attributes }),
-            Err(error) => Err(error.convert()),
+            Err(error) => {
+                cons.fail();
+                Err(error.convert())
+            }
         }
     }
 

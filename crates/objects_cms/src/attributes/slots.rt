@@ -1,6 +1,6 @@
 //! What attributes say, each kind once at most (RFC 6488 2.1.6.4).
 
-ghost use Rattle.std.specs.Prelude.{◌≡◌, ◌≢◌, [], None, Some, OnErr, OnOk};
+ghost use Rattle.std.specs.Prelude.{◌≡◌, ◌≢◌, [], None, Some, OnErr, OnOk, true};
 ghost use Rattle.objects_cms.specs.bcder_content.Here.{here};
 ghost use Rattle.objects_cms.specs.bcder_content.InMode.{ReadsFields};
 ghost use Rattle.objects_cms.specs.bcder_content.Words.{Gathers};
@@ -75,12 +75,14 @@ impl Slots {
         alloc: Global,
         cons: &mut Constructed<S>,
     ) -> Result<Slots, DecodeError<S::Error>>
-        ensures { ReadsFields (λ s. s) (λ m. Gathers (IsSaid m) AreSlots)
+        ensures reads { ReadsFields (λ s. s) (λ m. Gathers (IsSaid m) AreSlots)
             (here S.rest cons.old) result (here S.rest cons.new) }
+        ensures failed { OnErr result ((here S.rest cons.new).failed ≡ true) }
     {
         let mut slots = Slots::new();
         while let Some(said) = Said::take_opt_from(alloc, cons)? {
             if let Err(_duplicate) = slots.put(said) {
+                cons.fail();
                 return Err((*cons).content_err(ContentError::from_static("duplicate attribute")));
             }
         }

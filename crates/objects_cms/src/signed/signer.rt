@@ -53,8 +53,9 @@ fn take_sid<S: Source>(
     alloc: Global,
     cons: &mut Constructed<S>,
 ) -> Result<KeyIdentifier, DecodeError<S::Error>>
-    ensures { ReadsAs (λ v. v) (IsSid (here S.rest cons.old).mode)
+    ensures reads { ReadsAs (λ v. v) (IsSid (here S.rest cons.old).mode)
         (here S.rest cons.old) result (here S.rest cons.new) }
+    ensures failed { OnErr result ((here S.rest cons.new).failed ≡ true) }
 {
     cons.take_value_if(
         Tag::CTX_0,
@@ -73,6 +74,7 @@ fn take_attributes<S: Source>(
         (here S.rest cons.old) result (here S.rest cons.new) }
     ensures octets { IfOk result (λ a. TookOctets (λ x. x) SpellsKept
         (here S.rest cons.old) a (here S.rest cons.new)) }
+    ensures failed { OnErr result ((here S.rest cons.new).failed ≡ true) }
 {
     cons.take_constructed_if(
         Tag::CTX_0,
@@ -95,6 +97,7 @@ impl SignerInfo {
             (here S.rest cons.old) result (here S.rest cons.new) }
         ensures octets { IfOk result (λ s. TookOctets signer_fields AreSignerOctets
             (here S.rest cons.old) s (here S.rest cons.new)) }
+        ensures failed { OnErr result ((here S.rest cons.new).failed ≡ true) }
     {
         let version = cons.skip_u8_if(VERSION)?;
         let sid = take_sid(alloc, cons)?;

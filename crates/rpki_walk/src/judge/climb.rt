@@ -3,6 +3,7 @@
 ghost use Rattle.std.specs.Prelude.{◌≡◌, ◌+◌, ◌*◌, ◌-◌, ◌≤◌, ◌↔◌, [], IsTrue, IfOk, length, map};
 ghost use Rattle.rpki_rules.specs.Words.{Mem, NoRepeat};
 ghost use Rattle.rpki_rules.specs.Kinds.{InSet};
+ghost use Rattle.rpki_rules.specs.Points.{files};
 ghost use Rattle.rpki_rules.specs.Chains.{CertAt};
 ghost use Rattle.rpki_rules.specs.Judge.{Climbs};
 ghost use Rattle.rpki_walk.specs.Climbing.{link_of, links_of, identifier_of, AreAt, IsReadChain, IsRaised, IsJudgedUp};
@@ -72,31 +73,27 @@ pub fn are_distinct<E: Evidence>(evidence: &E, links: &[Link<E::Cert>]) -> bool
     are_distinct(evidence, rest)
 }
 
-// What is needed of the certificate above, where the lower one is below it and keeps what is needed of it.
+// What is needed of the certificate above, where at its point the lower one is sound.
 fn raised<E: Evidence>(
     alloc: Global,
     evidence: &mut E,
     upper: &E::Cert,
+    point: &E::Point,
     lower: &Link<E::Cert>,
     needed: &Needed,
 ) -> Result<Option<Needed>, AllocError>
-    requires { CertAt (E.world evidence.old) lower.now.uri.now (E.cert lower.now.cert) }
+    requires at { CertAt (E.world evidence.old) lower.now.uri.now (E.cert lower.now.cert) }
+    requires listed { E.listed point.now ≡ files (E.cert upper.now) (E.point point.now).manifest }
     ensures raised { IfOk result (IsRaised (E.world evidence.old) (E.cert upper.now)
-        (link_of E.cert lower.now) needed.now) }
+        (E.point point.now) (link_of E.cert lower.now) needed.now) }
     ensures same { E.world evidence.new ≡ E.world evidence.old }
     ensures lender { E.lender evidence.new ≡ E.lender evidence.old }
-    ensures asks { E.asked evidence.new ≤ E.asked evidence.old + 4 }
+    ensures asks { E.asked evidence.new ≤ E.asked evidence.old + 1 }
 {
-    if !needed.are_kept(evidence.claims(&lower.cert)) {
+    if !evidence.is_below(alloc, upper, point, lower.uri, &lower.cert)? {
         return Ok(None);
     }
-    let Some(point) = evidence.read_point(alloc, upper)? else {
-        return Ok(None);
-    };
-    if !evidence.is_below(alloc, upper, &point, lower.uri, &lower.cert)? {
-        return Ok(None);
-    }
-    let manifest = evidence.claims(evidence.manifest_cert(&point));
+    let manifest = evidence.claims(evidence.manifest_cert(point));
     let higher = needed.above(alloc, evidence.claims(&lower.cert), manifest)?;
     Ok(Some(higher))
 }
@@ -122,7 +119,8 @@ fn at_anchor<E: Evidence>(
     evidence.is_anchor(alloc, locator, anchor.uri, &anchor.cert)
 }
 
-/// Whether these certificates, the last first, lead up to the locator's anchor, and each bears what is needed of it.
+/// Whether these certificates, the last first, lead up to the locator's anchor, and each bears what is needed of it. A point
+/// that is read is counted, also where the certificate below it isn't sound there.
 pub fn climb<E: Evidence>(
     alloc: Global,
     evidence: &mut E,
@@ -136,6 +134,8 @@ pub fn climb<E: Evidence>(
     ensures same { E.world evidence.new ≡ E.world evidence.old }
     ensures lender { E.lender evidence.new ≡ E.lender evidence.old }
     ensures asks { E.asked evidence.new ≤ E.asked evidence.old + (4 * length links.now - 3) }
+    ensures asks_read { IfOk result (λ j. E.asked evidence.new
+        ≤ E.asked evidence.old + (4 * j.points + 3)) }
 {
     let Some((lower, rest)) = links.split_first() else {
         return Ok(Judgement::no(0));
@@ -144,9 +144,16 @@ pub fn climb<E: Evidence>(
         let yes = at_anchor(alloc, evidence, locator, lower, needed)?;
         return Ok(Judgement { yes, points: 0 });
     };
-    let Some(higher) = raised(alloc, evidence, &upper.cert, lower, needed)? else {
+    if !needed.are_kept(evidence.claims(&lower.cert)) {
+        return Ok(Judgement::no(0));
+    }
+    let Some(point) = evidence.read_point(alloc, &upper.cert)? else {
         return Ok(Judgement::no(0));
     };
+    let Some(higher) = raised(alloc, evidence, &upper.cert, &point, lower, needed)? else {
+        return Ok(Judgement::no(1));
+    };
+    drop(point);
     let judged = climb(alloc, evidence, locator, rest, &higher)?;
     Ok(judged.with_point())
 }

@@ -4,6 +4,7 @@ ghost use Rattle.std.specs.Prelude.{◌≡◌, ◌+◌, ◌≤◌, ◌<◌, IfOk
 ghost use Rattle.rpki_rules.specs.Judge.{IsJudged, may_ask};
 ghost use Rattle.rpki_rules.specs.Points.{files};
 ghost use Rattle.rpki_walk.specs.Climbing.{links_of, AreAt, IsJudgedAt, IsNeedOfFile};
+ghost use Rattle.rpki_walk.specs.Counted.{ReadsPoints, may_ask_reading};
 
 use crate::judge::climb::{Link, are_distinct, climb, read_chain};
 use crate::judge::{Evidence, Needed};
@@ -15,7 +16,8 @@ use std::alloc::{AllocError, Global};
 pub struct Judgement {
     /// Whether it is a good witness.
     pub yes: bool,
-    /// How many publication points were read: at most the chain's length, and all on yes.
+    /// How many publication points were read, from the object's up to the first refusal: at most as many as the chain has
+    /// certificates, and just as many on yes.
     pub points: usize,
 }
 
@@ -81,6 +83,8 @@ fn judge_links<E: Evidence>(
     ensures same { E.world evidence.new ≡ E.world evidence.old }
     ensures lender { E.lender evidence.new ≡ E.lender evidence.old }
     ensures asks { E.asked evidence.new ≤ E.asked evidence.old + may_ask (length links.now) }
+    ensures asks_read { IfOk result (λ j. E.asked evidence.new
+        ≤ E.asked evidence.old + may_ask_reading j.points) }
 {
     let Some(last) = links.first() else {
         return Ok(Judgement::no(0));
@@ -97,7 +101,8 @@ fn judge_links<E: Evidence>(
 
 /// Whether a locator's name, the lookup keys of a chain from the anchor down and that of an object are a good witness.
 ///
-/// The object's point is read first, then those above it one by one. Lack of memory is an error and never a no.
+/// The object's point is read first, then those above it one by one, up to the first refusal; `points` says how many were
+/// read. Lack of memory is an error and never a no.
 pub fn judge<E: Evidence>(
     alloc: Global,
     evidence: &mut E,
@@ -107,9 +112,13 @@ pub fn judge<E: Evidence>(
 ) -> Result<Judgement, AllocError>
     ensures judged { IfOk result (λ j. IsJudged (E.world evidence.old)
         (record { locator = locator.now; chain = chain.now; object = object.now }) j.yes j.points) }
+    ensures read { IfOk result (λ j. ReadsPoints (E.world evidence.old)
+        (record { locator = locator.now; chain = chain.now; object = object.now }) j.points) }
     ensures same { E.world evidence.new ≡ E.world evidence.old }
     ensures lender { E.lender evidence.new ≡ E.lender evidence.old }
     ensures asks { E.asked evidence.new ≤ E.asked evidence.old + may_ask (length chain.now) }
+    ensures asks_read { IfOk result (λ j. E.asked evidence.new
+        ≤ E.asked evidence.old + may_ask_reading j.points) }
 {
     if chain.len() > evidence.depth() {
         return Ok(Judgement::no(0));

@@ -7,10 +7,11 @@ use Rattle.certs_cert.proofs.of_bcder_content.Decoding.{exact_decode}
 use Rattle.certs_x509.proofs.Octets.{front_took}
 use Rattle.certs_extension.specs.Cert.{TbsValue}
 use Rattle.certs_extension.specs.CertText.{IsTbs, SpellsTbs}
+use Rattle.certs_cert.proofs.Whole.{kept_octets}
 use Rattle.certs_cert.proofs.decoding.tbs_of.Goals as goal
 
 pub returns-clause-reads : goal.returns-clause-reads
-returns-clause-reads c = exact_decode (record { each = λ p q r m h. subst (λ (z : Mode). ReadsAs (λ (t : TbsValue). t) (IsTbs z) (here rest_of p.now) r (here rest_of q.now)) m h.0 }) (rw c.into_bytes.ensures.octets at c.decode.ensures.decoded)
+returns-clause-reads c = exact_decode (record { each = λ p q r m h. subst (λ (z : Mode). ReadsAs (λ (t : TbsValue). t) (IsTbs z) (here rest_of p.now) r (here rest_of q.now)) m h.0 }) (rw (kept_octets c.into_bytes.ensures.octets c.in_ok-message.ensures) at c.decode.ensures.decoded)
 
 pub returns-clause-octets : goal.returns-clause-octets
-returns-clause-octets c = front_took {P = SpellsTbs} (record { each = λ p q x h. h.1 }) (rw c.into_bytes.ensures.octets at c.decode.ensures.decoded)
+returns-clause-octets c = front_took {P = SpellsTbs} (record { each = λ p q x h. h.1 }) (rw (kept_octets c.into_bytes.ensures.octets c.in_ok-message.ensures) at c.decode.ensures.decoded)

@@ -1,4 +1,3 @@
-use Rattle.std.proofs.Common.{refl}
 use Rattle.certs_x509.specs.Signed.{signed_content}
 use Rattle.certs_cert.specs.Whole.{AreCert}
 use Rattle.certs_cert.proofs.of_bcder_content.Keeping.{same_refusal}
@@ -14,13 +13,13 @@ returns-in_err-signed-clause-reads g c = record { reads = all_stop _ (AreCert _)
 pub returns-in-Err-clause-reads : goal.returns-in-Err-clause-reads
 returns-in-Err-clause-reads g c = record {
   reads = same_refusal _ _ _ c.convert.ensures
-      (weaker _ (λ none. cert_refused c.mode-mode.ensures refl c.in_ok-message.ensures c.in_ok-signed.ensures.reads.reads none) c.in-Err.ensures.reads);
+      (weaker _ (λ none. cert_refused c.mode-mode.ensures c.in_ok-signed.ensures.reads.reads none) c.in-Err.ensures.reads);
 }
 
 pub returns-clause-reads : goal.returns-clause-reads
 returns-clause-reads g c = record {
-  reads = cert_gives c.mode-mode.ensures refl c.in_ok-message.ensures c.from_parts.ensures c.in_ok-signed.ensures.reads.reads c.in-Ok.ensures.reads;
+  reads = cert_gives c.mode-mode.ensures c.from_parts.ensures c.in_ok-signed.ensures.reads.reads c.in-Ok.ensures.reads;
 }
 
 pub returns-clause-octets : goal.returns-clause-octets
-returns-clause-octets g c = cert_took c.mode-mode.ensures refl c.in_ok-message.ensures c.from_parts.ensures c.in_ok-signed.ensures.octets c.in-Ok.ensures.octets
+returns-clause-octets g c = cert_took c.mode-mode.ensures c.from_parts.ensures c.in_ok-signed.ensures.octets c.in-Ok.ensures.octets

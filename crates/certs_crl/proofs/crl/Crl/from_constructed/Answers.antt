@@ -1,4 +1,3 @@
-use Rattle.std.proofs.Common.{refl}
 use Rattle.certs_x509.proofs.of_bcder_content.Within.{all_stop}
 use Rattle.certs_x509.specs.Signed.{signed_content}
 use Rattle.certs_crl.proofs.of_bcder_content.Keeping.{same_refusal}
@@ -7,21 +6,21 @@ use Rattle.certs_crl.specs.Whole.{AreCrl}
 use Rattle.certs_crl.proofs.Whole.{crl_disagrees, crl_gives, crl_refused, crl_within, was_read}
 use Rattle.certs_crl.proofs.crl.Crl.from_constructed.Goals as goal
 
-pub returns-in_err-signed : goal.returns-in_err-signed
-returns-in_err-signed g c = record { reads = all_stop _ (AreCrl _) (signed_content.reads _) _ _ _ _ c.from_residual.ensures crl_within c.in_err-signed.ensures.reads.reads }
+pub returns-in_err-signed-clause-reads : goal.returns-in_err-signed-clause-reads
+returns-in_err-signed-clause-reads g c = record { reads = all_stop _ (AreCrl _) (signed_content.reads _) _ _ _ _ c.from_residual.ensures crl_within c.in_err-signed.ensures.reads.reads }
 
-pub returns-in-Err : goal.returns-in-Err
-returns-in-Err g c = record {
+pub returns-in-Err-clause-reads : goal.returns-in-Err-clause-reads
+returns-in-Err-clause-reads g c = record {
   reads = same_refusal _ _ _ c.convert.ensures
-      (weaker _ (λ none. crl_refused c.mode-mode.ensures refl c.in_ok-message.ensures c.in_ok-signed.ensures.reads.reads none) c.in-Err.ensures);
+      (weaker _ (λ none. crl_refused c.mode-mode.ensures c.in_ok-signed.ensures.reads.reads none) c.in-Err.ensures);
 }
 
-pub returns-then-not-agree : goal.returns-then-not-agree
-returns-then-not-agree g c =
-    let read = was_read c.mode-mode.ensures refl c.in_ok-message.ensures c.in-Ok.ensures in
+pub returns-then-not-agree-clause-reads : goal.returns-then-not-agree-clause-reads
+returns-then-not-agree-clause-reads g c =
+    let read = was_read c.mode-mode.ensures c.in-Ok.ensures in
     record { reads = on_content _ (crl_disagrees read c.in_ok-signed.ensures.reads.reads (λ p. let yes = c.agree.ensures.1 p in let no = c.if-not-agree.true in absurd cc)) }
 
-pub returns : goal.returns
-returns g c =
-    let read = was_read c.mode-mode.ensures refl c.in_ok-message.ensures c.in-Ok.ensures in
+pub returns-clause-reads : goal.returns-clause-reads
+returns-clause-reads g c =
+    let read = was_read c.mode-mode.ensures c.in-Ok.ensures in
     record { reads = crl_gives read c.from_parts.ensures (c.agree.ensures.0 c.if-not-agree.false) c.in_ok-signed.ensures.reads.reads }

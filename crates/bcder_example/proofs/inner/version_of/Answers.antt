@@ -1,5 +1,0 @@
-use Rattle.bcder_example.proofs.of_bcder_content.Decoding.{exact_decode}
-use Rattle.bcder_example.proofs.inner.version_of.Goals as goal
-
-pub returns : goal.returns
-returns c = exact_decode (record { each = λ p q r m h. h }) c.decode.ensures.decoded

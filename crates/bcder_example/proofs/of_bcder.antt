@@ -1,2 +1,0 @@
--- Lemmas of bcder, for the crates above.
-pub use Rattle.bcder.proofs.Read
