@@ -1,1 +1,3 @@
 pub mod Checking
+pub mod Reading
+pub mod Processing

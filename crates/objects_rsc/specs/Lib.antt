@@ -1,6 +1,8 @@
 pub mod Checklists
 pub mod Entries
 pub mod Lent
+pub mod Processed
+pub mod Typed
 -- What stands below, for the crates above.
 pub use Rattle.objects_payload.specs.bcder as bcder
 pub use Rattle.objects_payload.specs.bcder_content as bcder_content
@@ -8,3 +10,4 @@ pub use Rattle.objects_payload.specs.bcder_source as bcder_source
 pub use Rattle.objects_payload.specs.bcder_tree as bcder_tree
 pub use Rattle.objects_payload.specs as objects_payload
 pub use Rattle.objects_stated.specs as objects_stated
+pub use Rattle.objects_valid.specs as objects_valid

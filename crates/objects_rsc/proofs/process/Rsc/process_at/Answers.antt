@@ -1,0 +1,59 @@
+use Rattle.std.proofs.Common.{◌≡◌, Result, subst, sym}
+use Rattle.std.specs.Prelude.{IfErr, IfOk}
+use Rattle.std.specs.Fn.{FnOnceReturnsAt}
+use Rattle.certs_verify.specs.certs_key.Digesting.{digests_of}
+use Rattle.certs_verify.specs.certs_x509.declared.errors.validation.ValidationError.{ValidationError}
+use Rattle.certs_verify.specs.Holders.{ResourceCertValue}
+use Rattle.certs_verify.specs.Validated.{TellsNumbers}
+use Rattle.objects_valid.proofs.Processing.{processed_outside, processed_tal}
+use Rattle.objects_valid.specs.certs_extension.Verified.{held_by}
+use Rattle.objects_valid.specs.certs_extension.declared.forms.Role.TheVariants.{DetachedEe}
+use Rattle.objects_valid.specs.objects_payload.ObjectText.{Object}
+use Rattle.objects_rsc.specs.Checklists.{Checklist}
+use Rattle.objects_rsc.specs.Processed.{FailsChecklist, PassesChecklist, ProcessesChecklist}
+use Rattle.objects_rsc.proofs.Processing.{processed, refused}
+use Rattle.objects_rsc.proofs.process.Rsc.process_at.Goals as goal
+
+-- What is answered.
+abbrev Answer : Type 0
+Answer = Result (ResourceCertValue × Checklist) ValidationError
+
+pub returns-in-Err-clause-processes : goal.returns-in-Err-clause-processes
+returns-in-Err-clause-processes g c =
+    let d = digests_of g.D.Digester.sha256_digest g.D.Digester.sha1_digest c.args.digester.now in
+    let v = g.V.Verifier.says c.args.verifier.now in
+    let k = c.args.self in
+    let says = FnOnceReturnsAt g.F.FnOnce c.args.check_crl in
+    let issuer = c.args.issuer.now.holder in
+    let s = c.into_parts-signed.result.0 in
+    refused DetachedEe (PassesChecklist (says k.signed.cert) k.content) (FailsChecklist (says k.signed.cert) k.content) d v c.args.strict c.args.now issuer k.signed s k.content c.in-Err.error c.into_parts-signed.ensures.signed c.in-Err.ensures.validates
+
+pub returns-in-Err-clause-outside : goal.returns-in-Err-clause-outside
+returns-in-Err-clause-outside g c =
+    let held = held_by c.args.issuer.now.holder in
+    subst (λ (o : Object). TellsNumbers o.cert held c.in-Err.error) c.into_parts-signed.ensures.signed c.in-Err.ensures.outside
+
+pub returns-in-Ok-clause-processes : goal.returns-in-Ok-clause-processes
+returns-in-Ok-clause-processes g c =
+    let d = digests_of g.D.Digester.sha256_digest g.D.Digester.sha1_digest c.args.digester.now in
+    let v = g.V.Verifier.says c.args.verifier.now in
+    let k = c.args.self in
+    let says = FnOnceReturnsAt g.F.FnOnce c.args.check_crl in
+    let issuer = c.args.issuer.now.holder in
+    let s = c.into_parts-signed.result.0 in
+    let holder = c.in-Ok.holder in
+    subst (ProcessesChecklist (says k.signed.cert) d v c.args.strict c.args.now issuer k) (sym c.join_if.ensures)
+    (processed DetachedEe (λ x content. PassesChecklist (says x) content) (λ x content. FailsChecklist (says x) content) d v c.args.strict c.args.now issuer k.signed s k.content c.into_parts-signed.result.1 holder c.test-tested.result
+    c.into_parts-signed.ensures.signed c.into_parts-signed.ensures.content c.in-Ok.ensures.validates c.test-tested.ensures.answers)
+
+pub returns-in-Ok-clause-tal : goal.returns-in-Ok-clause-tal
+returns-in-Ok-clause-tal g c =
+    subst (λ (r : Answer). IfOk r (λ p. p.0.tal ≡ c.args.issuer.now.tal)) (sym c.join_if.ensures)
+    (processed_tal c.into_parts-signed.result.1 c.args.issuer.now.tal c.in-Ok.holder c.test-tested.result c.in-Ok.ensures.tal)
+
+pub returns-in-Ok-clause-outside : goal.returns-in-Ok-clause-outside
+returns-in-Ok-clause-outside g c =
+    let held = held_by c.args.issuer.now.holder in
+    let P = TellsNumbers c.args.self.signed.cert held in
+    subst (λ (r : Answer). IfErr r P) (sym c.join_if.ensures)
+    (processed_outside c.into_parts-signed.result.1 P c.in-Ok.holder c.test-tested.result (c.test-tested.ensures.outside c.args.self.signed.cert c.args.issuer.now.holder))
