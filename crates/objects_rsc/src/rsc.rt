@@ -70,6 +70,24 @@ fn decode_signed<I: IntoSource>(
     }
 }
 
+// Whether the object is sound, and else the first test that fails, by its own signer, content and certificate.
+fn verify_signed<D: Digester, V: Verifier>(
+    alloc: Global,
+    signed: &SignedObject,
+    digester: &D,
+    verifier: &mut V,
+) -> Result<(), VerificationError>
+    ensures answers { VerifiesContent (digests_of D.sha256_digest D.sha1_digest digester.now)
+        (V.says verifier.old) signed.now result }
+    ensures same { V.says verifier.new ≡ V.says verifier.old }
+    ensures asked { AsksOnce (V.count verifier.old) (V.count verifier.new) }
+    ensures spared { IfErr result
+        (λ e. e ≢ BadSignature → V.count verifier.new ≡ V.count verifier.old) }
+{
+    let (signer, content, cert) = (signed.signer(), signed.content(), signed.cert());
+    verify_content(alloc, signer, content, cert, digester, verifier)
+}
+
 impl Rsc {
     /// The checklist that a source begins with, in DER, or where not `strict` in BER; octets after it stay unread. Its
     /// content is DER in both (RFC 9323 3, 4). Its octets are shared where they stand in one piece.
@@ -146,8 +164,6 @@ impl Rsc {
         ensures spared { IfErr result
             (λ e. e ≢ BadSignature → V.count verifier.new ≡ V.count verifier.old) }
     {
-        let signed = &self.signed;
-        let (signer, content, cert) = (signed.signer(), signed.content(), signed.cert());
-        verify_content(alloc, signer, content, cert, digester, verifier)
+        verify_signed(alloc, &self.signed, digester, verifier)
     }
 }
