@@ -59,6 +59,7 @@ fn held(answer: &mut Answer, holder: &ResourceCert, checklist: &ResourceSignedCh
 }
 
 // How a checklist is processed.
+#[derive(Drop)]
 struct Asked<'a> {
     issuer: &'a ResourceCert,
     strict: bool,
