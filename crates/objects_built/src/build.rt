@@ -2,6 +2,7 @@
 
 ghost use Rattle.std.specs.Prelude.{◌≡◌, IfOk};
 ghost use Rattle.objects_built.specs.bcder_tree.declared.mode.Mode.TheVariants.{Der};
+ghost use Rattle.objects_built.specs.bcder_octets.BitContents.{IsPadded};
 ghost use Rattle.objects_built.specs.certs_basics.Keys.{identifier};
 ghost use Rattle.objects_built.specs.certs_key.Digesting.{digests_of};
 ghost use Rattle.objects_built.specs.certs_extension.declared.forms.KeyUsage.TheVariants.{Ee};
@@ -64,8 +65,9 @@ fn sign<S: Signer>(
     signer: &S,
 ) -> Result<(RpkiSignature, PublicKey), SigningError<S::Error>>
     requires { attributes.now.mode ≡ Der }
-    ensures { IfOk result (λ made. SignsAttributes (S.signs_once signer.now)
+    ensures signed { IfOk result (λ made. SignsAttributes (S.signs_once signer.now)
         attributes.now.octets made.1 made.0.bits.octets) }
+    ensures padded { IfOk result (λ made. IsPadded Der made.1.bits) }
 {
     match signed_message(alloc, attributes) {
         Ok(message) => {
@@ -91,6 +93,7 @@ fn sign_content<S: Signer, D: Digester>(
     ensures mode { IfOk result (λ s. s.attributes.mode ≡ Der) }
     ensures signed { IfOk result (λ s. SignsAttributes (S.signs_once signer.now)
         s.attributes.octets s.key s.signature.bits.octets) }
+    ensures padded { IfOk result (λ s. IsPadded Der s.key.bits) }
 {
     match attributes_of(alloc, content_type, content, time, digester) {
         Ok(attributes) => match sign(alloc, &attributes, signer) {
@@ -305,8 +308,9 @@ fn with_cert<S: Signer, D: Digester>(
     issuer_key: &S::KeyId,
     digester: &D,
 ) -> Result<Captured, SigningError<S::Error>>
-    requires { WritesAttributes (to_sign content_type.now
+    requires attributes { WritesAttributes (to_sign content_type.now
         (D.sha256_digest digester.now content.now) builder.signing_time) signed.attributes.octets }
+    requires padded { IsPadded Der signed.key.bits }
     ensures built { IfOk result (λ c. IsBuilt
         (digests_of D.sha256_digest D.sha1_digest digester.now) builder content_type.now
         content.now c.octets) }

@@ -7,9 +7,10 @@ ghost use Rattle.objects.specs.objects_payload.Manifests.{Manifest};
 ghost use Rattle.objects_built.specs.Builders.{IsBuilt, IsSigned};
 ghost use Rattle.objects.specs.Issued.{IsManifestFor, inheriting};
 ghost use Rattle.objects.specs.objects_payload.Identifiers as id;
-ghost use Rattle.objects.specs.objects_written.Manifests.{manifest};
+ghost use Rattle.objects.specs.objects_written.Manifests.{IsManifestNumber, manifest};
 
 use certs_key::encode::EncodeError;
+use certs_key::laws::serials_are_small;
 use certs_key::{Captured, Digester, Signer, SigningError};
 use objects_built::SignedObjectBuilder;
 use objects_cms::manifest::ManifestContent;
@@ -19,10 +20,12 @@ use std::alloc::Global;
 // id-ct-rpkiManifest, 1.2.840.113549.1.9.16.1.26 (RFC 9286 4.1).
 const CONTENT_TYPE: &[u8] = &[42, 134, 72, 134, 247, 13, 1, 9, 16, 1, 26];
 
-// The content of a manifest, in DER.
+// The content of a manifest, in DER; its number is one that a manifest may have.
 fn content_of<E>(alloc: Global, content: &ManifestContent) -> Result<Captured, SigningError<E>>
-    ensures { IfOk result (λ c. (manifest content.now).writes Der c.octets) }
+    ensures number { IsManifestNumber content.now.number }
+    ensures written { IfOk result (λ c. (manifest content.now).writes Der c.octets) }
 {
+    serials_are_small(content.manifest_number());
     match content.to_octets(alloc) {
         Ok(octets) => Ok(octets),
         Err(EncodeError::Memory) => Err(SigningError::Memory),

@@ -6,11 +6,11 @@ use Rattle.objects_built.proofs.build.with_cert.Goals as goal
 pub returns-in-Ok-clause-built : goal.returns-in-Ok-clause-built
 returns-in-Ok-clause-built g c =
     let made = c.in-Ok.ensures in
-    built_told _ _ _ _ _ _ _ _ _ made.fields made.lawful made.message made.algorithm c.requires c.write_object-octets.result c.write_object-octets.ensures.written
+    built_told _ _ _ _ _ _ _ _ _ c.requires.padded made.fields made.lawful made.message made.algorithm c.requires.attributes c.write_object-octets.result c.write_object-octets.ensures.written
 
 pub returns-in-Ok-clause-signed : goal.returns-in-Ok-clause-signed
 returns-in-Ok-clause-signed g c = λ has once.
     let made = c.in-Ok.ensures in
     let signs_once = g.S.Signer.signs_once c.args.signer.now in
     let told = subst (λ (o : List ℕ). SignsAttributes signs_once c.args.signed.attributes.octets c.args.signed.key o) (sym c.value-value.ensures) once in
-    signed_told _ _ _ _ _ _ _ _ _ made.fields made.lawful made.message made.algorithm c.requires _ _ signs_once c.write_object-octets.result has made.signed told c.write_object-octets.ensures.written
+    signed_told _ _ _ _ _ _ _ _ _ c.requires.padded made.fields made.lawful made.message made.algorithm c.requires.attributes _ _ signs_once c.write_object-octets.result has made.signed told c.write_object-octets.ensures.written
