@@ -5,11 +5,11 @@ use Rattle.objects.proofs.issued.roas.sign.Goals as goal
 pub returns-in-Ok-attesting-clause-built : goal.returns-in-Ok-attesting-clause-built
 returns-in-Ok-attesting-clause-built g c =
     let d = digests_of g.D.Digester.sha256_digest g.D.Digester.sha1_digest c.args.digester.now in
-    roa_built d c.args.builder c.args.attestation.now c.in-Ok-attesting.fields c.in-Ok.content.octets c.as_slice.result.now c.in-Ok-attesting.ensures c.in-Ok.ensures c.as_slice.ensures.octets c.finalize-octets.result
+    roa_built d c.args.builder c.args.attestation.now c.in-Ok-attesting.fields c.in-Ok.content.octets c.as_slice.result.now c.in-Ok-attesting.ensures c.in-Ok.ensures.written c.as_slice.ensures.octets c.finalize-octets.result
     c.finalize-octets.ensures.built
 
 pub returns-in-Ok-attesting-clause-signed : goal.returns-in-Ok-attesting-clause-signed
 returns-in-Ok-attesting-clause-signed g c =
     let d = digests_of g.D.Digester.sha256_digest g.D.Digester.sha1_digest c.args.digester.now in
-    roa_signed _ _ _ d c.args.builder c.args.attestation.now c.in-Ok-attesting.fields c.in-Ok.content.octets c.as_slice.result.now c.in-Ok-attesting.ensures c.in-Ok.ensures c.as_slice.ensures.octets c.finalize-octets.result
+    roa_signed _ _ _ d c.args.builder c.args.attestation.now c.in-Ok-attesting.fields c.in-Ok.content.octets c.as_slice.result.now c.in-Ok-attesting.ensures c.in-Ok.ensures.written c.as_slice.ensures.octets c.finalize-octets.result
     c.finalize-octets.ensures.signed
