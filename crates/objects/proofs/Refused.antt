@@ -64,3 +64,19 @@ module _ {E : Type 0} {refuses : SigningError E → Type 0} (d : Digests) (HasKe
 
   pub any_memory : (can : CanWrite P) → BuildRefused refuses (CanWrite P) (CannotSignContent d HasKey SignsOnce kind P Fields) errors.Memory
   any_memory can = inr can
+
+-- Of what can be written nothing is said.
+forgotten : {E : Type 0} {refuses : SigningError E → Type 0} {can cannot : Type 0} (e : SigningError E) → BuildRefused refuses can cannot e → BuildRefused refuses (Unit {0}) cannot e
+forgotten errors.KeyNotFound r = r
+forgotten errors.IncompatibleKey r = r
+forgotten (errors.Signer e) r = r
+forgotten errors.TooLong r = r
+forgotten errors.Memory r = elim r [
+  | inl m ↦ inl m
+  | inr c ↦ inr tt
+]
+
+pub forget : {A E : Type 0} {refuses : SigningError E → Type 0} {can cannot : Type 0} (r : Result A (SigningError E)) → IfErr r (BuildRefused refuses can cannot)
+    → IfErr r (BuildRefused refuses (Unit {0}) cannot)
+forget (Ok x) h = tt
+forget (Err e) h = forgotten e h

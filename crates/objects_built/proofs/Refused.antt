@@ -33,7 +33,7 @@ weaker f g errors.Memory r = elim r [
 ]
 
 -- The signer's own refusal.
-by_signer : {E : Type 0} {refuses : SigningError E → Type 0} {can cannot : Type 0} (e : SigningError E) → e ≢ errors.TooLong → refuses e → BuildRefused refuses can cannot e
+pub by_signer : {E : Type 0} {refuses : SigningError E → Type 0} {can cannot : Type 0} (e : SigningError E) → e ≢ errors.TooLong → refuses e → BuildRefused refuses can cannot e
 by_signer errors.KeyNotFound n r = r
 by_signer errors.IncompatibleKey n r = r
 by_signer (errors.Signer e) n r = r

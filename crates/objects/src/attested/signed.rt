@@ -26,7 +26,8 @@ const CONTENT_TYPE: &[u8] = &[42, 134, 72, 134, 247, 13, 1, 9, 16, 1, 49];
 fn content_of<E>(alloc: Global, attestation: &AspaBuilder) -> Result<Captured, SigningError<E>>
     ensures written { IfOk result (λ c. (aspa attestation.now).writes Der c.octets) }
     ensures refused { IfErr result (BuildRefused (λ _. ⊥)
-        (CanWrite ((aspa attestation.now).writes Der)) (Writable ((aspa attestation.now).writes Der) → ⊥)) }
+        (CanWrite ((aspa attestation.now).writes Der))
+        (Writable ((aspa attestation.now).writes Der) → ⊥)) }
 {
     match attestation.to_octets(alloc) {
         Ok(octets) => Ok(octets),

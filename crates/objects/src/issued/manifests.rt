@@ -28,7 +28,8 @@ fn content_of<E>(alloc: Global, content: &ManifestContent) -> Result<Captured, S
     ensures number { IsManifestNumber content.now.number }
     ensures written { IfOk result (λ c. (manifest content.now).writes Der c.octets) }
     ensures refused { IfErr result (BuildRefused (λ _. ⊥)
-        (CanWrite ((manifest content.now).writes Der)) (Writable ((manifest content.now).writes Der) → ⊥)) }
+        (CanWrite ((manifest content.now).writes Der))
+        (Writable ((manifest content.now).writes Der) → ⊥)) }
 {
     serials_are_small(content.manifest_number());
     match content.to_octets(alloc) {

@@ -34,7 +34,8 @@ fn content_of<E>(
 ) -> Result<Captured, SigningError<E>>
     ensures written { IfOk result (λ c. (roa content.now).writes Der c.octets) }
     ensures refused { IfErr result (BuildRefused (λ _. ⊥)
-        (CanWrite ((roa content.now).writes Der)) (Writable ((roa content.now).writes Der) → ⊥)) }
+        (CanWrite ((roa content.now).writes Der))
+        (Writable ((roa content.now).writes Der) → ⊥)) }
 {
     match content.to_octets(alloc) {
         Ok(octets) => Ok(octets),
