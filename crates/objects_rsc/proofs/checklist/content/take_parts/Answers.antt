@@ -1,4 +1,4 @@
-use Rattle.std.proofs.Common.{refl}
+use Rattle.std.proofs.Common.{Err, refl}
 use Rattle.objects_payload.proofs.of_bcder_content.InMode.{begin, next, next_opt_as, stop, stop_opt, stop_all, finish}
 use Rattle.objects_payload.proofs.of_bcder_content.Unique.{inside_tagged}
 use Rattle.objects_payload.specs.Fields.{alone}
@@ -20,4 +20,4 @@ returns-in-Ok g c =
 pub returns-in-Err : goal.returns-in-Err
 returns-in-Err g c =
     let s = next_opt_as alone _ begin (λ m. inside_tagged _ _) c.in_ok-version.ensures in
-    stop_all _ (next s c.in_ok-resources.ensures.reads) (tt, refl) c.in-Err.ensures.reads
+    stop_all {r = Err c.in-Err.error} _ (next s c.in_ok-resources.ensures.reads) (tt, refl) c.in-Err.ensures.reads
