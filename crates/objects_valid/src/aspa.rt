@@ -48,7 +48,8 @@ fn test<F: FnOnce(&Cert) -> Result<(), ValidationError> + Drop>(
 
 /// A provider attestation that is validated: it is let go where it is refused. A call asks the verifier at most twice: for
 /// the content, then for the certificate. `strict` refuses UTF8Strings in names. `Memory` comes only where a growth of
-/// memory was refused, here or in `check_crl`; nothing follows from it for the object.
+/// memory was refused, here or in `check_crl`, and only after the tests before the one that takes memory: the content's
+/// signature, what the certificate claims of resources, or `check_crl`.
 pub trait ProcessAspa {
     // The object, with what its content says.
     ghost aspa: { Self → KindValue AspaValue };

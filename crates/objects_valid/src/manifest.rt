@@ -18,8 +18,8 @@ use std::alloc::Global;
 
 /// A manifest that is validated: it is let go where it is refused. A call asks the verifier at most twice: for the content,
 /// then for the certificate. `strict` refuses UTF8Strings in names. `Memory` comes only where a growth of memory was
-/// refused; nothing follows from it for the manifest. Neither its updates nor the files that it lists are looked at, and no
-/// revocation list.
+/// refused, and only after the tests before the one that takes memory: the content's signature, or what the certificate
+/// claims of resources. Neither its updates nor the files that it lists are looked at, and no revocation list.
 pub trait ValidateManifest {
     // The manifest, with what its content says.
     ghost manifest: { Self → KindValue ManifestValue };

@@ -19,7 +19,8 @@ use std::alloc::Global;
 
 /// A signed object that is validated: it is let go where it is refused. A call asks the verifier at most twice: for the
 /// content, then for the certificate. `strict` refuses UTF8Strings in names. `Memory` comes only where a growth of memory
-/// was refused; nothing follows from it for the object.
+/// was refused, and only after the tests before the one that takes memory: the content's signature, or what the certificate
+/// claims of resources.
 pub trait ProcessObject {
     // The object.
     ghost processed: { Self → Object };

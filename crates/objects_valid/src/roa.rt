@@ -53,7 +53,8 @@ fn test<F: FnOnce(&Cert) -> Result<(), ValidationError>>(
 
 /// A route origin attestation that is validated: it is let go where it is refused. A call asks the verifier at most twice:
 /// for the content, then for the certificate. `strict` refuses UTF8Strings in names. `Memory` comes only where a growth of
-/// memory was refused, here or in `check_crl`; nothing follows from it for the object.
+/// memory was refused, here or in `check_crl`, and only after the tests before the one that takes memory: the content's
+/// signature, what the certificate claims of resources, or `check_crl`.
 pub trait ProcessRoa {
     // The object, with what its content says.
     ghost roa: { Self → KindValue RoaValue };
