@@ -8,6 +8,7 @@ pub mod Steps
 pub mod ManifestFields
 pub mod Signer
 pub mod Frame
+pub mod Begun
 pub mod Decoded
 pub mod Content
 -- What stands below, for the crates above.
