@@ -4,6 +4,7 @@ use Rattle.certs_verify.specs.certs_basics.HandedIn.{Digests}
 use Rattle.certs_verify.specs.certs_basics.Verdicts.{Verdicts}
 use Rattle.certs_verify.specs.certs_x509.declared.errors.validation.ValidationError.{ValidationError}
 use Rattle.certs_verify.specs.certs_x509.declared.errors.validation.ValidationError.TheVariants as error
+use Rattle.certs_verify.specs.certs_x509.declared.errors.verification.VerificationError.TheVariants.{Memory}
 use Rattle.objects_valid.specs.certs_extension.Cert.{CertValue}
 use Rattle.objects_valid.specs.certs_extension.Profiles.{FailsFirst, Profile}
 use Rattle.objects_valid.specs.certs_extension.Verified.{HolderValue, HoldsBelow, IsIssuedAt, IsSignedAt, PassesAt, held_by, issued_tests}
@@ -37,6 +38,11 @@ abbrev pub FailsObject : Digests → Verdicts → Bool → Role → ℕ → Hold
 FailsObject d good strict role now issuer o e =
     FailsSigned d good strict role o e
     ⊎ (Profile d strict role o.cert × (Sound d good o × FailsBelow good now issuer o.cert e))
+
+-- Lack of memory is told before the verifier is asked, or only where that holds: what is tested of the certificate before
+-- its resources take memory. Before and after are the counts of what the verifier was asked.
+abbrev pub SparesMemory : ℕ → ℕ → Type 0 → ValidationError → Type 0
+SparesMemory before after passed e = e ≡ error.Verification Memory → (after ≡ before) ⊎ passed
 
 -- Accepted, with what its certificate holds, or the first test that fails.
 abbrev pub ValidatesObject : Digests → Verdicts → Bool → Role → ℕ → HolderValue → Object → Result ResourceCertValue ValidationError → Type 0

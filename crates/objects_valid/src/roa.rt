@@ -1,14 +1,15 @@
 //! Route origin attestations (RFC 9582 5).
 
 ghost use Rattle.std.specs.Prelude.{◌≡◌, ◌↔◌, ◌+◌, ◌≤◌, ℕ, IfErr, IfOk, IsTrue};
-ghost use Rattle.std.specs.Fn.{FnOnceReturnsAt};
+ghost use Rattle.std.specs.Fn.{FnOnceReturnsAt, FnOnceTakesAt};
 ghost use Rattle.objects_valid.specs.certs_extension.Cert.{CertValue};
-ghost use Rattle.objects_valid.specs.certs_extension.Verified.{HolderValue, held_by};
+ghost use Rattle.objects_valid.specs.certs_extension.Verified.{HolderValue, IsSignedAt, held_by};
 ghost use Rattle.certs_verify.specs.certs_key.Digesting.{digests_of};
 ghost use Rattle.certs_verify.specs.Validated.{TellsNumbers};
 ghost use Rattle.objects_valid.specs.Kinds.{KindValue};
 ghost use Rattle.objects_valid.specs.objects_payload.Roas.{Roa as RoaValue};
-ghost use Rattle.objects_valid.specs.Processed.{Answers, CoversRoa, FailsRoa, PassesRoa, ProcessesRoa};
+ghost use Rattle.objects_valid.specs.Accepted.{SparesMemory};
+ghost use Rattle.objects_valid.specs.Processed.{Answers, CallableIfAccepted, CoversRoa, FailsRoa, PassesRoa, ProcessesRoa};
 
 use crate::kinds::{Roa, covers_roa};
 use crate::object::ProcessObject;
@@ -31,7 +32,7 @@ fn test<F: FnOnce(&Cert) -> Result<(), ValidationError>>(
     content: &RouteOriginAttestation,
     check_crl: F,
 ) -> Result<(), ValidationError>
-    requires { F.IsAlwaysCallable check_crl }
+    requires { FnOnceTakesAt F.FnOnce check_crl holder.now.holder.cert }
     ensures answers { Answers
         (PassesRoa (FnOnceReturnsAt F.FnOnce check_crl holder.now.holder.cert) content.now)
         (FailsRoa (FnOnceReturnsAt F.FnOnce check_crl holder.now.holder.cert) content.now)
@@ -61,7 +62,8 @@ pub trait ProcessRoa {
 
     /// The certificate with what it holds at a moment below the issuer, and what is attested, where the object is accepted,
     /// `check_crl` doesn't refuse its certificate, and all prefixes are held by that (RFC 9582 5); else the first test that
-    /// fails, in this order. `check_crl` is called once where the object is accepted, and else not at all.
+    /// fails, in this order. `check_crl` is called once where the object is accepted, of its
+    /// certificate, and else not at all; so it need be callable only then.
     fn process_at<D: Digester, V: Verifier, F: FnOnce(&Cert) -> Result<(), ValidationError> + Drop>(
         self,
         alloc: Global,
@@ -72,7 +74,10 @@ pub trait ProcessRoa {
         verifier: &mut V,
         check_crl: F,
     ) -> Result<(ResourceCert, RouteOriginAttestation), ValidationError>
-        requires { F.IsAlwaysCallable check_crl }
+        requires { CallableIfAccepted
+            (FnOnceTakesAt F.FnOnce check_crl (roa self).signed.cert)
+            (digests_of D.sha256_digest D.sha1_digest digester.now) (V.says verifier.old)
+            strict now issuer.now.holder (roa self).signed }
         ensures processes { ProcessesRoa
             (FnOnceReturnsAt F.FnOnce check_crl (roa self).signed.cert)
             (digests_of D.sha256_digest D.sha1_digest digester.now) (V.says verifier.old)
@@ -80,6 +85,9 @@ pub trait ProcessRoa {
         ensures tal { IfOk result (λ p. p.0.tal ≡ issuer.now.tal) }
         ensures outside { IfErr result
             (TellsNumbers (roa self).signed.cert (held_by issuer.now.holder)) }
+        ensures memory { IfErr result (SparesMemory
+            (V.count verifier.old) (V.count verifier.new) (IsSignedAt (V.says verifier.old) now
+            issuer.now.holder.cert (roa self).signed.cert)) }
         ensures same { V.says verifier.new ≡ V.says verifier.old }
         ensures asked { V.count verifier.new ≤ V.count verifier.old + 2 };
 
@@ -99,11 +107,17 @@ pub trait ProcessRoa {
         verifier: &mut V,
         check_crl: F,
     ) -> Result<(ResourceCert, RouteOriginAttestation), ValidationError>
-        requires { F.IsAlwaysCallable check_crl }
+        requires { (moment : ℕ) → C.tells clock.now moment → CallableIfAccepted
+            (FnOnceTakesAt F.FnOnce check_crl (roa self).signed.cert)
+            (digests_of D.sha256_digest D.sha1_digest digester.now) (V.says verifier.old)
+            strict moment issuer.now.holder (roa self).signed }
         ensures processes { (moment : ℕ) × C.tells clock.now moment × ProcessesRoa
             (FnOnceReturnsAt F.FnOnce check_crl (roa self).signed.cert)
             (digests_of D.sha256_digest D.sha1_digest digester.now) (V.says verifier.old)
-            strict moment issuer.now.holder (roa self) result }
+            strict moment issuer.now.holder (roa self) result
+            × IfErr result (SparesMemory (V.count verifier.old) (V.count verifier.new)
+            (IsSignedAt (V.says verifier.old) moment
+            issuer.now.holder.cert (roa self).signed.cert)) }
         ensures tal { IfOk result (λ p. p.0.tal ≡ issuer.now.tal) }
         ensures outside { IfErr result
             (TellsNumbers (roa self).signed.cert (held_by issuer.now.holder)) }
