@@ -3,15 +3,18 @@ use Rattle.std.proofs.Common.{◌≡◌, ◌≢◌, ℕ, List, Result, Ok, Err, 
 use denote.Ref.{MutBor}
 use Rattle.std.specs.Prelude.{IfErr}
 use Rattle.std.specs.Result.{IsErr, IsErrAnd}
-use Rattle.objects_cms.specs.bcder_tree.Tags.{TagValue}
+use Rattle.objects_cms.specs.bcder_tree.Tags.{TagValue, context}
 use Rattle.objects_cms.specs.bcder_source.declared.error.DecodeError.{DecodeError}
 use Rattle.objects_cms.specs.bcder_source.declared.error.DecodeError.TheVariants.{Content, Source, Memory}
 use Rattle.objects_cms.specs.bcder_content.declared.constructed.Constructed.{Constructed}
 use Rattle.objects_cms.specs.bcder_content.Contents.{ValuesLeft}
+use Rattle.objects_cms.specs.bcder_content.Exact.{Gives}
 use Rattle.objects_cms.specs.bcder_content.Here.{here}
 use Rattle.objects_cms.specs.bcder_content.Memory.{InErr, OnMemory, RanErr}
 use Rattle.objects_cms.specs.bcder_content.Ran.{Reader}
-use Rattle.objects_cms.specs.Begun.{Opens}
+use Rattle.objects_cms.specs.objects_payload.Identifiers as id
+use Rattle.objects_cms.specs.objects_payload.ObjectText.{AreDigestAlgorithms, IsThree}
+use Rattle.objects_cms.specs.Begun.{BeginsData, BeginsInfo, BeginsSigned, Opens}
 
 -- An error that isn't lack of memory, handed on.
 pub none_wanted : {A E : Type 0} (P : Type 0) (r : Result A (DecodeError E)) (e : DecodeError E) → IsErr r × IsErrAnd r (λ x. x ≡ e) → e ≢ Memory → IfErr r (λ (x : DecodeError E). OnMemory x P)
@@ -21,11 +24,11 @@ none_wanted P (Err (Source x)) e a n = tt
 none_wanted P (Err Memory) e a n = absurd (n (sym a.1))
 
 -- A call that takes no memory.
-pub never_wanted : {A E P : Type 0} (r : Result A (DecodeError E)) → IfErr r (λ (e : DecodeError E). e ≢ Memory) → IfErr r (λ (e : DecodeError E). OnMemory e P)
-never_wanted (Ok x) n = tt
-never_wanted (Err (Content x pos)) n = tt
-never_wanted (Err (Source x)) n = tt
-never_wanted (Err Memory) n = absurd (n refl)
+pub never_wanted : {A E : Type 0} (P : Type 0) (r : Result A (DecodeError E)) → IfErr r (λ (e : DecodeError E). e ≢ Memory) → IfErr r (λ (e : DecodeError E). OnMemory e P)
+never_wanted P (Ok x) n = tt
+never_wanted P (Err (Content x pos)) n = tt
+never_wanted P (Err (Source x)) n = tt
+never_wanted P (Err Memory) n = absurd (n refl)
 
 -- What was in front stays so, whatever error is handed on.
 pub wanted : {A E P : Type 0} (r : Result A (DecodeError E)) → P → IfErr r (λ (e : DecodeError E). OnMemory e P)
@@ -49,12 +52,12 @@ pub record EachBegins {F S T E : Type 0} (rest : S → List ℕ) (g : Reader F (
   pub each : (p q : MutBor (Constructed S)) (r : Result T (DecodeError E)) → g.post op (p, tt) (r, (q, tt)) → IfErr r (λ (e : DecodeError E). OnMemory e (P (here rest p.now)))
 
 -- So the value in front was opened, and its content begins so.
-pub opened : {F S T E : Type 0} {rest : S → List ℕ} {g : Reader F (Constructed S) T E} {op : F} {P : ValuesLeft → Type 0} {old : ValuesLeft} {tag : TagValue} (r : Result T (DecodeError E))
+pub opened : {F S T E : Type 0} {rest : S → List ℕ} {g : Reader F (Constructed S) T E} {op : F} {P : ValuesLeft → Type 0} (old : ValuesLeft) (tag : TagValue) (r : Result T (DecodeError E))
     → EachBegins rest g op P → IfErr r (λ (e : DecodeError E). OnMemory e (RanErr rest g op old tag e)) → IfErr r (λ (e : DecodeError E). OnMemory e (Opens tag P old))
-opened (Ok x) each h = tt
-opened (Err (Content x pos)) each h = tt
-opened (Err (Source x)) each h = tt
-opened {S = S} {rest = rest} {P = P} (Err Memory) each h =
+opened old tag (Ok x) each h = tt
+opened old tag (Err (Content x pos)) each h = tt
+opened old tag (Err (Source x)) each h = tt
+opened {S = S} {rest = rest} {P = P} old tag (Err Memory) each h =
     let met = h.ran.met in
     record {
       span = h.span;
@@ -64,11 +67,18 @@ opened {S = S} {rest = rest} {P = P} (Err Memory) each h =
     }
 
 -- The same of a source that is read from its beginning.
-pub begun : {F S T E : Type 0} {rest : S → List ℕ} {g : Reader F (Constructed S) T E} {op : F} {P : ValuesLeft → Type 0} {v : ValuesLeft} (r : Result T (DecodeError E))
+pub begun : {F S T E : Type 0} {rest : S → List ℕ} {g : Reader F (Constructed S) T E} {op : F} {P : ValuesLeft → Type 0} (v : ValuesLeft) (r : Result T (DecodeError E))
     → EachBegins rest g op P → IfErr r (λ (e : DecodeError E). OnMemory e (InErr rest g op v e)) → IfErr r (λ (e : DecodeError E). OnMemory e (P v))
-begun (Ok x) each h = tt
-begun (Err (Content x pos)) each h = tt
-begun (Err (Source x)) each h = tt
-begun {S = S} {rest = rest} {P = P} (Err Memory) each h =
+begun v (Ok x) each h = tt
+begun v (Err (Content x pos)) each h = tt
+begun v (Err (Source x)) each h = tt
+begun {S = S} {rest = rest} {P = P} v (Err Memory) each h =
     let met = h.ran.met in
     subst P h.ran.starts (subst (λ (w : Constructed S). P (here rest w)) met.shows (each.each met.shown met.left (Err Memory) met.met))
+
+-- What is in front, field by field.
+pub begins_signed : {v w u : ValuesLeft} → Gives IsThree v tt w → Gives AreDigestAlgorithms w (tt, tt) u → BeginsSigned v
+begins_signed {v} {w} {u} a b = record { versioned = w; behind = u; version = a; algorithms = b }
+
+pub begins_info : {v w : ValuesLeft} → Gives (id.TheOid id.signed_data) v tt w → Opens (context 0) BeginsData w → BeginsInfo v
+begins_info {v} {w} a b = record { behind = w; identifier = a; signed = b }

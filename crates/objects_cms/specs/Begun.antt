@@ -31,7 +31,7 @@ BeginsData = Opens sequence_tag BeginsSigned
 pub record BeginsInfo (v : ValuesLeft) : Type 0 where
   pub behind : ValuesLeft
   pub identifier : Gives (id.TheOid id.signed_data) v tt behind
-  pub data : Opens (context 0) BeginsData behind
+  pub signed : Opens (context 0) BeginsData behind
 
 -- A signed object begins here, up to its content.
 abbrev pub BeginsObject : ValuesLeft → Type 0

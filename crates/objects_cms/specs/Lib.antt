@@ -1,4 +1,5 @@
 pub mod Said
+pub mod Invalid
 pub mod Slots
 pub mod Kept
 pub mod Files

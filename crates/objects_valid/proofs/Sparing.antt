@@ -1,6 +1,6 @@
 -- Where lack of memory is told of an object: before the verifier is asked, or after the tests of its certificate that take
 -- none.
-use Rattle.std.proofs.Common.{◌≡◌, ◌≢◌, ℕ, Result, Ok, Err, inr, sym, ◌∙◌, subst}
+use Rattle.std.proofs.Common.{◌≡◌, ℕ, Result, Ok, Err, inr, sym, subst}
 use Rattle.std.specs.Prelude.{IfErr}
 use Rattle.certs_verify.specs.certs_basics.Verdicts.{Verdicts}
 use Rattle.certs_verify.specs.certs_x509.declared.errors.validation.ValidationError.{ValidationError}
@@ -18,13 +18,8 @@ use Rattle.objects_valid.specs.Together.{joined, joined_if, parted}
 pub told_inside : (e f : VerificationError) → Verification e ≡ Verification f → e ≡ f
 told_inside e f m = cc
 
-not_signature : Memory ≡ BadSignature → ⊥
+pub not_signature : Memory ≡ BadSignature → ⊥
 not_signature m = absurd cc
-
--- A verification that isn't refused by the signature asks nothing of the verifier, so lack of memory doesn't.
-pub spared_memory : {A : Type 0} (P : Type 0) (r : Result A VerificationError) → IfErr r (λ e. e ≢ BadSignature → P) → IfErr r (λ e. e ≡ Memory → P)
-spared_memory P (Ok x) h = tt
-spared_memory P (Err e) h = λ m. h (λ b. not_signature (sym m ∙ b))
 
 -- A certificate that is issued is signed, whatever it claims.
 pub issued_signed : (good : Verdicts) (now : ℕ) (issuer : CertValue) (held : Kind → ℕ → Type 0) (c : CertValue) → IsIssuedAt good now issuer held c → IsSignedAt good now issuer c

@@ -8,11 +8,10 @@ ghost use Rattle.certs_verify.specs.certs_x509.declared.errors.verification.Veri
 ghost use Rattle.certs_verify.specs.certs_key.Digesting.{digests_of};
 ghost use Rattle.certs_verify.specs.Answers.{AsksOnce};
 ghost use Rattle.certs_verify.specs.Validated.{Inspects, TellsNumbers};
-ghost use Rattle.objects_cms.specs.Content.{VerifiesContent};
 ghost use Rattle.objects_valid.specs.Accepted.{SparesMemory, ValidatesContent, VerifiesBelow, VerifiesSigned};
 ghost use Rattle.objects_valid.specs.Content.{VerifiesSound};
 
-use crate::kinds::{SignedObject, verify_content};
+use crate::kinds::SignedObject;
 use crate::together::join;
 use certs_verify::{
     Cert, Digester, InspectionError, Refused, ResourceCert, ValidationError, VerificationError,
@@ -21,31 +20,6 @@ use certs_verify::{
 use certs_x509::errors::Time;
 use certs_x509::signed::OctetString;
 use std::alloc::Global;
-
-// Whether the signer signed the object's content; else the first test that fails.
-fn verify_own_content<D: Digester, V: Verifier>(
-    alloc: Global,
-    signed: &SignedObject,
-    digester: &D,
-    verifier: &mut V,
-) -> Result<(), VerificationError>
-    ensures answers { VerifiesContent
-        (digests_of D.sha256_digest D.sha1_digest digester.now) (V.says verifier.old)
-        signed.now result }
-    ensures spared { IfErr result
-        (λ e. e ≡ Memory → V.count verifier.new ≡ V.count verifier.old) }
-    ensures same { V.says verifier.new ≡ V.says verifier.old }
-    ensures asked { AsksOnce (V.count verifier.old) (V.count verifier.new) }
-{
-    verify_content(
-        alloc,
-        signed.signer(),
-        signed.content(),
-        signed.cert(),
-        digester,
-        verifier,
-    )
-}
 
 // Whether the signer signed the object's content, as a validation answers it.
 fn verify_sound<D: Digester, V: Verifier>(
@@ -64,7 +38,7 @@ fn verify_sound<D: Digester, V: Verifier>(
     ensures same { V.says verifier.new ≡ V.says verifier.old }
     ensures asked { AsksOnce (V.count verifier.old) (V.count verifier.new) }
 {
-    match verify_own_content(alloc, signed, digester, verifier) {
+    match signed.verify_content(alloc, digester, verifier) {
         Ok(()) => Ok(()),
         Err(error) => Err(ValidationError::Verification(error)),
     }

@@ -1,6 +1,6 @@
 //! Route origin attestations (RFC 9582 5).
 
-ghost use Rattle.std.specs.Prelude.{◌≡◌, ◌↔◌, ◌+◌, ◌≤◌, ℕ, IfErr, IfOk, IsTrue};
+ghost use Rattle.std.specs.Prelude.{◌≡◌, ◌↔◌, ◌+◌, ◌≤◌, ℕ, IfErr, IfOk, IsTrue, Some, codes};
 ghost use Rattle.std.specs.Fn.{FnOnceReturnsAt, FnOnceTakesAt};
 ghost use Rattle.objects_valid.specs.certs_extension.Cert.{CertValue};
 ghost use Rattle.objects_valid.specs.certs_extension.Verified.{HolderValue, IsSignedAt, held_by};
@@ -18,6 +18,32 @@ use certs_verify::{Cert, Digester, ResourceCert, ValidationError, VerificationEr
 use certs_x509::errors::{Clock, Time};
 use objects_payload::roa::RouteOriginAttestation;
 use std::alloc::Global;
+use std::error::Error;
+use std::fmt;
+
+/// A prefix that is attested isn't held by the certificate (RFC 9582 5).
+#[derive(Clone, Copy, Debug, PartialEq, Eq, Hash)]
+pub struct UncoveredPrefix;
+
+impl fmt::Display for UncoveredPrefix {
+    ghost output = { λ _. Some (codes "prefix not covered by certificate") };
+
+    fn fmt<W: fmt::Write>(&self, f: &mut fmt::Formatter<W>) -> fmt::Result {
+        write!(f, "prefix not covered by certificate")
+    }
+}
+
+impl Error for UncoveredPrefix {}
+
+impl From<UncoveredPrefix> for VerificationError {
+    ghost use Rattle.certs_verify.specs.certs_x509.declared.errors.verification.VerificationError.TheVariants.{Uncovered};
+
+    ghost from_gives = { λ cause e. e ≡ Uncovered };
+
+    fn from(_: UncoveredPrefix) -> Self {
+        VerificationError::Uncovered
+    }
+}
 
 // Whether all prefixes are held by the certificate.
 fn covers(holder: &ResourceCert, content: &RouteOriginAttestation) -> bool
@@ -45,7 +71,8 @@ fn test<F: FnOnce(&Cert) -> Result<(), ValidationError>>(
             if covers(holder, content) {
                 Ok(())
             } else {
-                Err(ValidationError::Verification(VerificationError::Uncovered))
+                let error = VerificationError::from(UncoveredPrefix);
+                Err(ValidationError::Verification(error))
             }
         }
         Err(error) => Err(error),

@@ -8,14 +8,18 @@ ghost use Rattle.objects_cms.specs.bcder_content.Ran.{fresh};
 ghost use Rattle.objects_cms.specs.objects_payload.ObjectText.{SpellsObject, mode, object_of, signer_of};
 ghost use Rattle.objects_cms.specs.Signer.{signer_fields};
 ghost use Rattle.objects_cms.specs.Begun.{BeginsObject};
+ghost use Rattle.objects_cms.specs.Content.{AsksOnce, VerifiesContent};
+ghost use Rattle.objects_cms.specs.certs_key.Digesting.{digests_of};
+ghost use Rattle.objects_cms.specs.certs_x509.declared.errors.verification.VerificationError.TheVariants.{BadSignature};
 ghost use Rattle.objects_cms.specs.Frame.{signed_fields};
 ghost use Rattle.objects_cms.specs.Decoded.{Agrees, DecodesObject, ReadsOctets};
 
 use crate::signed::frame::{Parts, take_frame};
 use crate::signed::kept::KeptCert;
 use crate::signed::signer::SignerInfo;
+use crate::verify::{VerificationError, verify_content};
 use certs_cert::decode::{Constructed, ContentError, Decode, DecodeError, IntoSource, Source};
-use certs_cert::{Cert, Mode, OctetString, Oid, Time};
+use certs_cert::{Cert, Digester, Mode, OctetString, Oid, Time, Verifier};
 use std::alloc::Global;
 use std::marker::Model;
 
@@ -192,6 +196,28 @@ impl SignedObject {
         ensures { result ≡ self.now.signer.binary_signing_time }
     {
         self.signer.attributes().attributes().binary_signing_time
+    }
+
+    /// Whether the object is sound, and else the first test that fails, in this order: the digest that is signed is the
+    /// content's (`MessageDigest`), the signing time isn't after the certificate's validity (`SigningTime`), and the
+    /// signature is good by the certificate's key over the attributes (`BadSignature`) (RFC 6488 3, RFC 5652 5.4). Who
+    /// issued the certificate and what it claims isn't looked at. The verifier is asked at most once.
+    pub fn verify_content<D: Digester, V: Verifier>(
+        &self,
+        alloc: Global,
+        digester: &D,
+        verifier: &mut V,
+    ) -> Result<(), VerificationError>
+        ensures answers { VerifiesContent
+            (digests_of D.sha256_digest D.sha1_digest digester.now) (V.says verifier.old)
+            self.now result }
+        ensures same { V.says verifier.new ≡ V.says verifier.old }
+        ensures asked { AsksOnce (V.count verifier.old) (V.count verifier.new) }
+        ensures spared { IfErr result
+            (λ e. e ≢ BadSignature → V.count verifier.new ≡ V.count verifier.old) }
+    {
+        let (signer, content, cert) = (self.signer(), self.content(), self.cert());
+        verify_content(alloc, signer, content, cert, digester, verifier)
     }
 
     /// The type of the content, the content, the certificate and the signer, handed over.

@@ -1,8 +1,9 @@
+use Rattle.std.proofs.Common.{sym, ◌∙◌}
 use Rattle.objects_valid.specs.certs_extension.Verified.{held_by}
 use Rattle.certs_verify.specs.certs_key.Digesting.{digests_of}
 use Rattle.objects_valid.proofs.Accepting.{content_tells}
 use Rattle.certs_verify.specs.certs_x509.declared.errors.verification.VerificationError.TheVariants.{Memory}
-use Rattle.objects_valid.proofs.Sparing.{told_inside}
+use Rattle.objects_valid.proofs.Sparing.{not_signature, told_inside}
 use Rattle.objects_valid.proofs.inspected.verify_sound.Goals as goal
 
 pub returns-in-Err-clause-outside : goal.returns-in-Err-clause-outside
@@ -12,4 +13,4 @@ returns-in-Err-clause-outside g c issuer =
     content_tells d v c.args.signed.now c.args.signed.now.cert (held_by issuer) c.in-Err.error c.in-Err.ensures.answers
 
 pub returns-in-Err-clause-spared : goal.returns-in-Err-clause-spared
-returns-in-Err-clause-spared g c m = c.in-Err.ensures.spared (told_inside c.in-Err.error Memory m)
+returns-in-Err-clause-spared g c m = c.in-Err.ensures.spared (λ b. not_signature (sym (told_inside c.in-Err.error Memory m) ∙ b))

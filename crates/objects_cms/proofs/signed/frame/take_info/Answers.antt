@@ -2,7 +2,7 @@ use Rattle.std.proofs.Common.{refl}
 use Rattle.objects_cms.specs.objects_payload.Identifiers as id
 use Rattle.certs_cert.proofs.Joined.{as_read, ended, field, join, read_as}
 use Rattle.objects_cms.proofs.of_bcder_content.InMode.{begin, done, next, stop}
-use Rattle.objects_cms.proofs.Beginning.{none_wanted, wants_on}
+use Rattle.objects_cms.proofs.Beginning.{begins_info, none_wanted, wants_on}
 use Rattle.objects_cms.proofs.signed.frame.take_info.Goals as goal
 
 pub returns-in_err-oid-clause-reads : goal.returns-in_err-oid-clause-reads
@@ -27,4 +27,4 @@ returns-in_err-oid-clause-memory g c = none_wanted _ _ _ c.from_residual.ensures
 
 pub returns-in_err-parts-clause-memory : goal.returns-in_err-parts-clause-memory
 returns-in_err-parts-clause-memory g c =
-    wants_on _ _ c.from_residual-in_err-parts.ensures (λ data. record { behind = _; identifier = c.in_ok-oid.ensures.reads; data = data }) c.in_err-parts.ensures.memory
+    wants_on _ _ c.from_residual-in_err-parts.ensures (λ s. begins_info c.in_ok-oid.ensures.reads s) c.in_err-parts.ensures.memory

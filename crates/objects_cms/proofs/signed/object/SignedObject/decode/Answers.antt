@@ -13,4 +13,4 @@ returns-clause-decodes g c = decodes_object c.args.strict c.mode_of-rules.ensure
 pub returns-clause-memory : goal.returns-clause-memory
 returns-clause-memory g c =
     subst (λ (m : Mode). IfErr c.decode.result (λ e. OnMemory e (BeginsObject (fresh m (g.I.IntoSource.octets c.args.source))))) c.mode_of-rules.ensures
-    (begun {P = BeginsObject} c.decode.result (record { each = λ p q r h. h.1 }) c.decode.ensures.memory)
+    (begun {P = BeginsObject} _ c.decode.result (record { each = λ p q r h. h.1 }) c.decode.ensures.memory)

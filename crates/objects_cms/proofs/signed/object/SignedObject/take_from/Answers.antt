@@ -12,4 +12,4 @@ pub returns-clause-reads : goal.returns-clause-reads
 returns-clause-reads g c = object_agreed c.agreed.result c.in_ok-parts.ensures.octets c.agreed.ensures.gives c.agreed.ensures.same c.agreed.ensures.refused
 
 pub returns-clause-memory : goal.returns-clause-memory
-returns-clause-memory g c = never_wanted c.agreed.result c.agreed.ensures.no_memory
+returns-clause-memory g c = never_wanted _ c.agreed.result c.agreed.ensures.no_memory
