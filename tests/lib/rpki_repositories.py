@@ -205,6 +205,8 @@ class World:
         self.depth, self.moment, self.digests = depth, moment, digests
         self.locators, self.objects, self.verdicts = {}, {}, []
         self.count = 0
+        # whether a bundle of version 1 is relaxed; None is one of version 0
+        self.relaxed = None
 
     def number(self):
         """A serial number, or a key, that wasn't given before."""
@@ -276,7 +278,9 @@ class World:
         rows = lambda tag, pairs: seq(*(seq(tlv(tag, a), tlv(4, b)) for a, b in sorted(pairs.items())))
         verdicts = seq(*(seq(*(tlv(4, digest) for digest in row)) for row in sorted(self.verdicts)))
         moment, depth = tlv(0x18, self.moment), integer(self.depth)
-        return seq(integer(0), moment, depth, rows(0x13, self.locators), rows(0x16, self.objects), verdicts)
+        version = integer(0 if self.relaxed is None else 1)
+        flag = b"" if self.relaxed is None else tlv(1, b"\xff" if self.relaxed else b"\0")
+        return seq(version, moment, depth, flag, rows(0x13, self.locators), rows(0x16, self.objects), verdicts)
 
 
 def locator_text(uris, key, end=b"\n"):
