@@ -20,7 +20,6 @@ use crate::whole::{Entries, Parts, read_whole};
 use crate::writer::{members_len, write_members};
 use crate::{BundleError, Locator, Object, Time, Verdict, Version};
 use bytes::Bytes;
-use certs_key::Mode;
 use certs_key::decode::DecodeError;
 use std::alloc::{AllocError, Global};
 use std::cmp::Ordering;
@@ -281,8 +280,14 @@ impl Bundle {
               verdicts = verdicts.items;
             }) → ⊥)) }
     {
-        let version = Version::One { relaxed };
-        of_parts(version, moment, depth, locators, objects, verdicts)
+        of_parts(
+            Version::One { relaxed },
+            moment,
+            depth,
+            locators,
+            objects,
+            verdicts,
+        )
     }
 
     /// The bundle of version 1 with the same parts, of a bundle of any version. Where `relaxed` is true, its manifests, ROAs
@@ -379,14 +384,12 @@ impl Bundle {
         let objects = self.objects.as_slice();
         let verdicts = self.verdicts.as_slice();
         let (version, depth) = (self.version, self.depth);
-        let mode = Mode::Der;
-        let size = match members_len(mode, version, &text, depth, locators, objects, verdicts) {
+        let size = match members_len(version, &text, depth, locators, objects, verdicts) {
             Ok(size) => size,
             Err(_) => unreachable!(),
         };
         let mut octets = Vec::with_capacity(alloc, size)?;
         match write_members(
-            mode,
             version,
             &text,
             depth,

@@ -4,6 +4,7 @@
 //! and a fact of its own by value, as `sequence` of borrowed strings would be.
 
 ghost use Rattle.std.specs.Prelude.{◌≡◌, IfOk, IfErr, OnOk};
+ghost use Rattle.rpki_bundle.specs.bcder_tree.declared.mode.Mode.TheVariants.{Der};
 ghost use Rattle.rpki_bundle.specs.bcder_tree.Tags.{IsTag};
 ghost use Rattle.rpki_bundle.specs.bcder_primitive.Writing.{HasLength, Wrote, CannotWrite, WriteRefused};
 ghost use Rattle.rpki_bundle.specs.Written.{AreMembers, IsPair, IsTriple, WritesMembers, WritesPair, WritesTriple};
@@ -139,9 +140,8 @@ pub fn write_triple<T: AsSlice<u8> + Drop, W: Write>(
     values.write_encoded(mode, target)
 }
 
-/// How many octets a bundle has.
+/// How many octets a bundle has, in DER.
 pub fn members_len<T: AsSlice<u8> + Drop, A: Values + Drop, B: Values + Drop, C: Values + Drop>(
-    mode: Mode,
     version: Version,
     text: T,
     depth: u8,
@@ -151,14 +151,14 @@ pub fn members_len<T: AsSlice<u8> + Drop, A: Values + Drop, B: Values + Drop, C:
 ) -> Result<usize, EncodeError>
     ensures len { IfOk result
         (HasLength
-        (WritesMembers mode version (T.items text) depth (A.writes locators mode) (B.writes objects mode)
-        (C.writes verdicts mode))) }
+        (WritesMembers Der version (T.items text) depth (A.writes locators Der) (B.writes objects Der)
+        (C.writes verdicts Der))) }
     ensures refused { IfErr result
         (CannotWrite
-        (AreMembers version (T.items text) depth (A.trees locators mode) (B.trees objects mode)
-        (C.trees verdicts mode))
-        (WritesMembers mode version (T.items text) depth (A.writes locators mode) (B.writes objects mode)
-        (C.writes verdicts mode))) }
+        (AreMembers version (T.items text) depth (A.trees locators Der) (B.trees objects Der)
+        (C.trees verdicts Der))
+        (WritesMembers Der version (T.items text) depth (A.writes locators Der) (B.writes objects Der)
+        (C.writes verdicts Der))) }
 {
     let tag = Tag::INTEGER;
     let flag = Flag { version };
@@ -191,10 +191,10 @@ pub fn members_len<T: AsSlice<u8> + Drop, A: Values + Drop, B: Values + Drop, C:
         tag,
         inner: (number, moment, depth, flag, locators, objects, verdicts),
     };
-    values.encoded_len(mode)
+    values.encoded_len(Mode::Der)
 }
 
-/// Writes a bundle.
+/// Writes a bundle, in DER.
 pub fn write_members<
     T: AsSlice<u8> + Drop,
     A: Values + Drop,
@@ -202,7 +202,6 @@ pub fn write_members<
     C: Values + Drop,
     W: Write,
 >(
-    mode: Mode,
     version: Version,
     text: T,
     depth: u8,
@@ -213,14 +212,14 @@ pub fn write_members<
 ) -> Result<(), EncodeError>
     ensures written { OnOk result
         (Wrote
-        (WritesMembers mode version (T.items text) depth (A.writes locators mode) (B.writes objects mode)
-        (C.writes verdicts mode)) (W.contents target.old) (W.contents target.new)) }
+        (WritesMembers Der version (T.items text) depth (A.writes locators Der) (B.writes objects Der)
+        (C.writes verdicts Der)) (W.contents target.old) (W.contents target.new)) }
     ensures refused { IfErr result
         (WriteRefused
-        (AreMembers version (T.items text) depth (A.trees locators mode) (B.trees objects mode)
-        (C.trees verdicts mode))
-        (WritesMembers mode version (T.items text) depth (A.writes locators mode) (B.writes objects mode)
-        (C.writes verdicts mode)) (target.new ≡ target.old) (W.contents target.old)
+        (AreMembers version (T.items text) depth (A.trees locators Der) (B.trees objects Der)
+        (C.trees verdicts Der))
+        (WritesMembers Der version (T.items text) depth (A.writes locators Der) (B.writes objects Der)
+        (C.writes verdicts Der)) (target.new ≡ target.old) (W.contents target.old)
         (W.contents target.new)) }
 {
     let tag = Tag::INTEGER;
@@ -254,5 +253,5 @@ pub fn write_members<
         tag,
         inner: (number, moment, depth, flag, locators, objects, verdicts),
     };
-    values.write_encoded(mode, target)
+    values.write_encoded(Mode::Der, target)
 }
