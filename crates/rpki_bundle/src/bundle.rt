@@ -329,15 +329,10 @@ impl Bundle {
     fn has_text_as(&self, version: Version) -> bool
         ensures { IsTrue result ↔ IsSpelled (record self.now { version = version }) }
     {
-        let text = self.moment.generalized();
-        let locators = self.locators.as_slice();
-        let objects = self.objects.as_slice();
-        let verdicts = self.verdicts.as_slice();
-        let mode = Mode::Der;
-        members_len(
-            mode, version, &text, self.depth, locators, objects, verdicts,
-        )
-        .is_ok()
+        let moment = self.moment.generalized();
+        let (names, uris) = (self.locators.as_slice(), self.objects.as_slice());
+        let digests = self.verdicts.as_slice();
+        members_len(version, &moment, self.depth, names, uris, digests).is_ok()
     }
 
     /// Reads a bundle, in DER.
