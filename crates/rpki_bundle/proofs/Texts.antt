@@ -87,6 +87,10 @@ pub counted_spelled : (text : List ℕ) (b : BundleValue) (r : Result ℕ Encode
 counted_spelled text b (Ok n) m l h e = (h.text, written_text text m l h.is)
 counted_spelled text b (Err x) m l h e = absurd cc
 
+-- What is lawful in one version is so in the other.
+pub lawful_as_version : {b : BundleValue} (v : Version) → IsLawful b → IsLawful (record b { version = v })
+lawful_as_version v l = record { lowest = l.lowest; greatest = l.greatest; locators = l.locators; objects = l.objects; verdicts = l.verdicts }
+
 -- A bundle whose lists are these.
 abbrev pub with_lists : Version → ℕ → ℕ → List Locator → List Object → List Verdict → BundleValue
 with_lists t m d ls os vs = record { version = t; moment = m; depth = d; locators = ls; objects = os; verdicts = vs }

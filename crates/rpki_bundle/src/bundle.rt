@@ -135,16 +135,7 @@ fn is_lawful(
         return false;
     }
     let text = moment.generalized();
-    members_len(
-        Mode::Der,
-        version,
-        &text,
-        depth,
-        locators,
-        objects,
-        verdicts,
-    )
-    .is_ok()
+    members_len(version, &text, depth, locators, objects, verdicts).is_ok()
 }
 
 // A bundle with these parts, if there is one.

@@ -42,6 +42,7 @@ impl Version {
 }
 
 /// What is written of a version behind the depth.
+#[derive(Clone, Copy)]
 pub(crate) struct Flag {
     pub version: Version,
 }

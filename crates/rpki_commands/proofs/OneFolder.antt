@@ -8,15 +8,14 @@ use Rattle.rpki_commands.proofs.of_bcder_tree.Unique.{by_length}
 use Rattle.rpki_commands.specs.rpki_bundle.declared.parts.Locator.{Locator}
 use Rattle.rpki_commands.specs.rpki_bundle.declared.parts.Object.{Object}
 use Rattle.rpki_commands.specs.rpki_bundle.declared.parts.Verdict.{Verdict}
-use Rattle.rpki_commands.specs.rpki_bundle.bcder_tree.declared.mode.Mode.TheVariants.{Der}
-use Rattle.rpki_commands.specs.rpki_bundle.bcder_tree.Tree.{Trees}
 use Rattle.rpki_commands.specs.rpki_bundle.declared.version.Version.{Version}
-use Rattle.rpki_commands.specs.rpki_bundle.declared.version.Version.TheVariants.{Zero, One}
-use Rattle.rpki_commands.specs.rpki_bundle.Bundle.{AreLists, BundleText, BundleValue, FlagCases, Lists, verdict_row}
+use Rattle.rpki_commands.specs.rpki_bundle.declared.version.Version.TheVariants.{One}
+use Rattle.rpki_commands.specs.rpki_bundle.Bundle.{BundleText, BundleValue, verdict_row}
 use Rattle.rpki_commands.specs.rpki_bundle.Orders.{Ascends}
 use Rattle.rpki_commands.specs.certs_basics.Times.{IsMoment}
 use Rattle.rpki_commands.proofs.of_certs_basics.Moments.{one_moment}
 use Rattle.rpki_commands.proofs.of_rpki_bundle.OneBundle.{bundle_fields}
+use Rattle.rpki_commands.proofs.of_rpki_bundle.Texts.{text_lawful}
 use Rattle.rpki_commands.specs.declared.folder.parts.Contents.{Contents}
 use Rattle.rpki_commands.specs.declared.folder.parts.Parts.{Parts}
 use Rattle.rpki_commands.specs.Lines.{IsEnd, TellsMoment, TellsDepth, TellsFlag, flag_word}
@@ -93,18 +92,8 @@ one_sorted row read ys zs p q s a = sym (one_order row ys zs (IsPermutation-tran
 abbrev AllAscend : BundleValue → Type 0
 AllAscend b = Ascends (λ (l : Locator). l.name) b.locators × Ascends (λ (o : Object). o.uri) b.objects × Ascends verdict_row b.verdicts
 
--- Its lists stand behind its flag, if it has one.
-lists_of : {number : ℕ} {ts : Trees} {x : Lists} (v : Version) → FlagCases Der number (AreLists Der) ts v x → (us : Trees) × AreLists Der us x
-lists_of {ts = ts} Zero c = (ts, c.1)
-lists_of (One relaxed) c = (c.1.others, c.1.rest)
-
 all_ascend : {text : List ℕ} {b : BundleValue} → BundleText text b → AllAscend b
-all_ascend {text} {b} t =
-    let p = t.spelled.is in
-    let behind = lists_of p.x.1.1.1.0 p.is.is.rest.rest.rest.cases in
-    let objects = behind.1.rest in
-    let verdicts = objects.rest in
-    subst AllAscend (sym p.means) (behind.1.is.meets, objects.is.meets, verdicts.is.meets)
+all_ascend t = let l = text_lawful t in (l.locators.ascend, l.objects.ascend, l.verdicts.ascend)
 
 -- The bundle of a folder has the parts that the folder gives, sorted.
 pub one_told : {c : Contents} {p : Parts} {text : List ℕ} → TellsParts c p → (t : TellsText c text) → t.bundle ≡ value_of p
