@@ -88,6 +88,28 @@ def spelled_object(octets, ways, whole=None):
     return spelled(octets, ways, whole, ((*CERT, 0), *((*ATTRIBUTES, at) for at in range(9))))
 
 
+def way_by_chance(rng, value):
+    """A way to spell a value, mostly one that is BER."""
+    if value.constructed:
+        return rng.choice([indefinite] * 6 + [long(rng.randrange(1, 5))] * 3 + [shorter(indefinite), tlv])
+    around = rng.choice([tlv, indefinite])
+    sizes = [rng.randrange(1, 30) for _ in range(rng.randrange(3))]
+    if value.tag in ((0, 4), (2, 0)):
+        return rng.choice([segments(*sizes, around=around)] * 5 + [nested(rng.randrange(1, 9), around), long(rng.randrange(1, 4)), no_segments(around)])
+    return long(rng.randrange(1, 5))
+
+
+def spelled_by_chance(rng, octets, rate, places=None):
+    """The value in front, some of its values spelled in ways by chance, by their places where these are given."""
+    ways, left = {}, [((), front(octets))]
+    while left:
+        place, value = left.pop()
+        if (places is None or place in places) and rng.random() < rate:
+            ways[place] = way_by_chance(rng, value)
+        left += (((*place, at), one) for at, one in enumerate(value.members))
+    return spelled(octets, ways)
+
+
 # Bundles.
 
 FIRST_CUT = segments(10, around=indefinite)

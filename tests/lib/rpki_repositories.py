@@ -232,6 +232,10 @@ class World:
         """The octets of a value that is about to be signed; a world by chance changes some."""
         return octets
 
+    def spelled(self, octets):
+        """The octets of a signed object that is about to be published; a world by chance spells some in BER."""
+        return octets
+
     def cert(self, key, issuer, extensions, serial=None, validity=(FIRST, LAST), signer=None):
         tbs = self.altered(
             seq(
@@ -340,7 +344,7 @@ class Authority:
         signer = seq(integer(3), sid, SHA256, b"\xa0" + message[1:], RSA, tlv(4, signature))
         parts = (seq(oid(kind), tlv(0xA0, tlv(4, content))), tlv(0xA0, cert), tlv(0x31, signer))
         data = seq(integer(3), tlv(0x31, SHA256), *parts)
-        return seq(oid("1.2.840.113549.1.7.2"), tlv(0xA0, data))
+        return self.world.spelled(seq(oid("1.2.840.113549.1.7.2"), tlv(0xA0, data)))
 
     def add_roa(self, file, content, claims, **how):
         self.files[file] = self.signed(ROA, content, file, claims, **how)
