@@ -43,7 +43,7 @@ joins {A} {B} {Q} {R} {x} {y} {V} {W} {l} {k} a b = record {
 
 -- The same where the first says what comes after it.
 pub joins_by : {A B : Type 0} {Q : Tree → A → Type 0} {R : A → Trees → B → Type 0} {x : A} {y : B} {V W : List ℕ → Type 0} {l k : Type 0} → Agree Q x V l → AgreeAll (R x) y W k → AgreeAll (ThenBy Q R) (x, y) (WritesBoth V W) (l × k)
-joins_by {x = x} {y} a b = record {
+joins_by a b = record {
   to = λ text s.
       let h = subst (λ (ts : Trees). SpellsAll Der ts text) s.is.whole s.spelled in
       let f = a.to h.0 (record { tree = s.is.first; is = s.is.is; spelled = h.2 }) in

@@ -18,9 +18,9 @@ abbrev of_zero : Lists → Version × Lists
 of_zero x = (version.Zero, x)
 
 zero_from : {n : ℕ} → n ≡ 0 → (m : Mode) (ts : Trees) (b : Version × Lists) → Flag m n (AreLists m) ts b → (c : Lists) × AreLists m ts c
-zero_from e m ts b p = at b.0 b.1 p.cases
+zero_from {n} e m ts b p = at b.0 b.1 p.cases
   where
-    at : (v : Version) (x : Lists) → FlagCases m _ (AreLists m) ts v x → (c : Lists) × AreLists m ts c
+    at : (v : Version) (x : Lists) → FlagCases m n (AreLists m) ts v x → (c : Lists) × AreLists m ts c
     at version.Zero x c = (x, c.1)
     at (version.One relaxed) x c = let k : 0 ≡ 1 = sym e ∙ c.0 in cc
 
@@ -32,19 +32,22 @@ abbrev AreFlagged : Mode → Trees → Bool × Lists → Type 0
 AreFlagged m = Then (IsFlag m) (AreLists m)
 
 one_from : {n : ℕ} → n ≡ 1 → (m : Mode) (ts : Trees) (b : Version × Lists) → Flag m n (AreLists m) ts b → (c : Bool × Lists) × AreFlagged m ts c
-one_from e m ts b p = at b.0 b.1 p.cases
+one_from {n} e m ts b p = at b.0 b.1 p.cases
   where
-    at : (v : Version) (x : Lists) → FlagCases m _ (AreLists m) ts v x → (c : Bool × Lists) × AreFlagged m ts c
+    at : (v : Version) (x : Lists) → FlagCases m n (AreLists m) ts v x → (c : Bool × Lists) × AreFlagged m ts c
     at version.Zero x c = let k : 1 ≡ 0 = sym e ∙ c.0 in cc
     at (version.One relaxed) x c = ((relaxed, x), c.1)
 
 -- and by another number nothing can.
 none_from : {n : ℕ} → (n ≡ 0 → ⊥) → (n ≡ 1 → ⊥) → (m : Mode) (ts : Trees) (b : Version × Lists) → Flag m n (AreLists m) ts b → ⊥
-none_from none no m ts b p = at b.0 b.1 p.cases
+none_from {n} none no m ts b p = at b.0 b.1 p.cases
   where
-    at : (v : Version) (x : Lists) → FlagCases m _ (AreLists m) ts v x → ⊥
+    at : (v : Version) (x : Lists) → FlagCases m n (AreLists m) ts v x → ⊥
     at version.Zero x c = none c.0
     at (version.One relaxed) x c = no c.0
+
+same_number : {n k : ℕ} (b : ℕ × (ℕ × (Version × Lists))) → n ≡ k → ◌≡◌ {A = BundleFields} (k, b) (n, b)
+same_number b e = ap (λ (z : ℕ). (z, b)) (sym e)
 
 -- Up to the depth.
 up_to_depth : {start one two three : ValuesLeft} {n moment depth : ℕ} → Gives IsNumber start n one → Gives IsMomentString one moment two → Gives IsDepthNumber two depth three
@@ -70,7 +73,7 @@ pub returns-then-number-eq0 : goal.returns-then-number-eq0
 returns-then-number-eq0 g c =
     let s = up_to_depth c.in_ok-number.ensures.reads c.in_ok-moment.ensures.reads c.in_ok-depth.ensures.reads in
     let t = told_by {T = AreLists} of_zero s (λ m ts x p. record { cases = (c.if-number-eq0.true, p) }) (zero_from c.if-number-eq0.true) in
-    finish t c.in_ok-entries.ensures.reads (ap (λ (n : ℕ). (n, _)) (sym c.if-number-eq0.true))
+    finish t c.in_ok-entries.ensures.reads (same_number _ c.if-number-eq0.true)
 
 pub returns-then-number-ne1 : goal.returns-then-number-ne1
 returns-then-number-ne1 g c =
@@ -93,4 +96,4 @@ pub returns : goal.returns
 returns g c =
     let s = up_to_depth c.in_ok-number.ensures.reads c.in_ok-moment.ensures.reads c.in_ok-depth.ensures.reads in
     let t = told_by {T = AreFlagged} of_one s (λ m ts x p. record { cases = (c.if-number-ne1.false, p) }) (one_from c.if-number-ne1.false) in
-    finish (next t c.in_ok-relaxed.ensures.reads) c.in_ok-entries-2.ensures.reads (ap (λ (n : ℕ). (n, _)) (sym c.if-number-ne1.false))
+    finish (next t c.in_ok-relaxed.ensures.reads) c.in_ok-entries-2.ensures.reads (same_number _ c.if-number-ne1.false)
