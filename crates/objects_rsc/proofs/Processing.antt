@@ -1,5 +1,5 @@
 -- What tests after an object's own answer, put together with it, for any role of its certificate.
-use Rattle.std.proofs.Common.{◌≡◌, ℕ, Bool, Result, Ok, Err, inl, inr, subst}
+use Rattle.std.proofs.Common.{◌≡◌, ℕ, Bool, Result, Ok, Err, inl, inr, subst, sym}
 use Rattle.certs_verify.specs.certs_basics.HandedIn.{Digests}
 use Rattle.certs_verify.specs.certs_basics.Verdicts.{Verdicts}
 use Rattle.certs_verify.specs.certs_x509.declared.errors.validation.ValidationError.{ValidationError}
@@ -11,7 +11,7 @@ use Rattle.objects_valid.specs.objects_payload.ObjectText.{Object}
 use Rattle.objects_valid.specs.Accepted.{AcceptsObject, FailsObject}
 use Rattle.objects_valid.specs.Processed.{Answers, Failing, Passing}
 use Rattle.objects_valid.specs.Together.{joined_if}
-use Rattle.objects_rsc.specs.Processed.{ProcessesAs}
+use Rattle.objects_rsc.specs.Processed.{CallableAs, ProcessesAs}
 
 -- The tests were asked of the holder's certificate, which is the object's.
 pub processed : {A : Type 0} (role : Role) (passes : CertValue → A → Passing) (fails : CertValue → A → Failing) (d : Digests) (good : Verdicts) (strict : Bool) (now : ℕ) (issuer : HolderValue) (o s : Object) (content x : A) (r : ResourceCertValue) (tested : Result (Unit {0}) ValidationError)
@@ -28,6 +28,13 @@ processed {A} role passes fails d good strict now issuer o s content x r tested 
         → ProcessesAs role (passes o.cert content) (fails o.cert content) d good strict now issuer o content (joined_if r x tested)
     closed (Ok u) a t = (a, (t, is))
     closed (Err e) a t = inr (r.holder, a, t)
+
+-- The caller's test may be asked of the holder's certificate, which is the accepted object's.
+pub callable_here : (role : Role) (takes : CertValue → Type 0) (d : Digests) (good : Verdicts) (strict : Bool) (now : ℕ) (issuer : HolderValue) (o s : Object) (h : HolderValue)
+    → s ≡ o → AcceptsObject d good strict role now issuer s h → CallableAs role (takes o.cert) d good strict now issuer o → takes h.cert
+callable_here role takes d good strict now issuer o s h same accepted callable =
+    let a = subst (λ (p : Object). AcceptsObject d good strict role now issuer p h) same accepted in
+    subst takes (sym a.holds.cert) (callable h a)
 
 -- The object failed a test of its own.
 pub refused : {A : Type 0} (role : Role) (passes : Passing) (fails : Failing) (d : Digests) (good : Verdicts) (strict : Bool) (now : ℕ) (issuer : HolderValue) (o s : Object) (content : A) (e : ValidationError)

@@ -24,6 +24,10 @@ abbrev pub ProcessesAs : {A : Type 0} → Role → Passing → Failing → Diges
 ProcessesAs role passes fails d good strict now issuer o content (Ok p) = AcceptsObject d good strict role now issuer o p.0.holder × (passes p.0.holder × (p.1 ≡ content))
 ProcessesAs role passes fails d good strict now issuer o content (Err e) = FailsObject d good strict role now issuer o e ⊎ ((h : HolderValue) × AcceptsObject d good strict role now issuer o h × fails h e)
 
+-- The caller's test may be asked where the object is accepted, and that is all that is required of it.
+abbrev pub CallableAs : Role → Type 0 → Digests → Verdicts → Bool → ℕ → HolderValue → Object → Type 0
+CallableAs role callable d good strict now issuer o = (h : HolderValue) → AcceptsObject d good strict role now issuer o h → callable
+
 -- All that is stated is held by the certificate.
 abbrev pub CoversChecklist : Checklist → HolderValue → Type 0
 CoversChecklist x h = IsCovered (InRuns h.asn) (InRuns h.v4) (InRuns h.v6) x.resources

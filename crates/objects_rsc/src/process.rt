@@ -5,14 +5,16 @@
 //! refuses with is reported as one error, but for lack of memory.
 
 ghost use Rattle.std.specs.Prelude.{◌≡◌, ◌↔◌, ◌+◌, ◌≤◌, ℕ, IfErr, IfOk, IsTrue};
-ghost use Rattle.std.specs.Fn.{FnOnceReturnsAt};
+ghost use Rattle.std.specs.Fn.{FnOnceReturnsAt, FnOnceTakesAt};
 ghost use Rattle.certs_verify.specs.certs_key.Digesting.{digests_of};
 ghost use Rattle.certs_verify.specs.Validated.{TellsNumbers};
 ghost use Rattle.objects_valid.specs.certs_extension.Cert.{CertValue};
-ghost use Rattle.objects_valid.specs.certs_extension.Verified.{HolderValue, held_by};
+ghost use Rattle.objects_valid.specs.certs_extension.Verified.{HolderValue, IsSignedAt, held_by};
+ghost use Rattle.objects_valid.specs.certs_extension.declared.forms.Role.TheVariants.{DetachedEe};
+ghost use Rattle.objects_valid.specs.Accepted.{SparesMemory};
 ghost use Rattle.objects_valid.specs.Processed.{Answers};
 ghost use Rattle.objects_valid.specs.Together.{joined_if};
-ghost use Rattle.objects_rsc.specs.Processed.{CoversChecklist, FailsChecklist, PassesChecklist, ProcessesChecklist};
+ghost use Rattle.objects_rsc.specs.Processed.{CallableAs, CoversChecklist, FailsChecklist, PassesChecklist, ProcessesChecklist};
 
 use crate::caller;
 use crate::checklist::ResourceSignedChecklist;
@@ -41,7 +43,7 @@ fn test<F: FnOnce(&Cert) -> Result<(), ValidationError>>(
     content: &ResourceSignedChecklist,
     check_crl: F,
 ) -> Result<(), ValidationError>
-    requires { F.IsAlwaysCallable check_crl }
+    requires { FnOnceTakesAt F.FnOnce check_crl holder.now.holder.cert }
     ensures answers { Answers
         (PassesChecklist (FnOnceReturnsAt F.FnOnce check_crl holder.now.holder.cert) content.now)
         (FailsChecklist (FnOnceReturnsAt F.FnOnce check_crl holder.now.holder.cert) content.now)
@@ -85,8 +87,9 @@ impl Rsc {
     /// The certificate with what it holds at a moment below the issuer, and what the checklist says, where the checklist is
     /// accepted as an object that stands apart from a repository, `check_crl` doesn't refuse its certificate, and all that is
     /// stated is held by that (RFC 9323 5); else the first test that fails, in this order. `check_crl` is called once where
-    /// the object is accepted, and else not at all. `Memory` comes only where a growth of memory was refused, here or in
-    /// `check_crl`; nothing follows from it for the checklist.
+    /// the object is accepted, of its certificate, and else not at all; so it need be callable only then. `Memory` comes only
+    /// where a growth of memory was refused, here or in `check_crl`, and only after the tests before the one that takes
+    /// memory: the content's signature, what the certificate claims of resources, or `check_crl`.
     pub fn process_at<
         D: Digester,
         V: Verifier,
@@ -101,7 +104,10 @@ impl Rsc {
         verifier: &mut V,
         check_crl: F,
     ) -> Result<(ResourceCert, ResourceSignedChecklist), ValidationError>
-        requires { F.IsAlwaysCallable check_crl }
+        requires { CallableAs DetachedEe
+            (FnOnceTakesAt F.FnOnce check_crl self.signed.cert)
+            (digests_of D.sha256_digest D.sha1_digest digester.now) (V.says verifier.old)
+            strict now issuer.now.holder self.signed }
         ensures processes { ProcessesChecklist
             (FnOnceReturnsAt F.FnOnce check_crl self.signed.cert)
             (digests_of D.sha256_digest D.sha1_digest digester.now) (V.says verifier.old)
@@ -109,6 +115,9 @@ impl Rsc {
         ensures tal { IfOk result (λ p. p.0.tal ≡ issuer.now.tal) }
         ensures outside { IfErr result
             (TellsNumbers self.signed.cert (held_by issuer.now.holder)) }
+        ensures memory { IfErr result (SparesMemory
+            (V.count verifier.old) (V.count verifier.new) (IsSignedAt (V.says verifier.old) now
+            issuer.now.holder.cert self.signed.cert)) }
         ensures same { V.says verifier.new ≡ V.says verifier.old }
         ensures asked { V.count verifier.new ≤ V.count verifier.old + 2 }
     {
@@ -141,11 +150,16 @@ impl Rsc {
         verifier: &mut V,
         check_crl: F,
     ) -> Result<(ResourceCert, ResourceSignedChecklist), ValidationError>
-        requires { F.IsAlwaysCallable check_crl }
+        requires { (moment : ℕ) → C.tells clock.now moment → CallableAs DetachedEe
+            (FnOnceTakesAt F.FnOnce check_crl self.signed.cert)
+            (digests_of D.sha256_digest D.sha1_digest digester.now) (V.says verifier.old)
+            strict moment issuer.now.holder self.signed }
         ensures processes { (moment : ℕ) × C.tells clock.now moment × ProcessesChecklist
             (FnOnceReturnsAt F.FnOnce check_crl self.signed.cert)
             (digests_of D.sha256_digest D.sha1_digest digester.now) (V.says verifier.old)
-            strict moment issuer.now.holder self result }
+            strict moment issuer.now.holder self result
+            × IfErr result (SparesMemory (V.count verifier.old) (V.count verifier.new)
+            (IsSignedAt (V.says verifier.old) moment issuer.now.holder.cert self.signed.cert)) }
         ensures tal { IfOk result (λ p. p.0.tal ≡ issuer.now.tal) }
         ensures outside { IfErr result
             (TellsNumbers self.signed.cert (held_by issuer.now.holder)) }

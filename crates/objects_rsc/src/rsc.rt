@@ -16,7 +16,7 @@ use crate::checklist::ResourceSignedChecklist;
 use bcder::decode::{ContentError, DecodeError, IntoSource, Pos, Source};
 use bytes::Bytes;
 use objects_cms::signed::{Cert, Digester, SignedObject, Verifier};
-use objects_cms::verify::{VerificationError, verify_content};
+use objects_cms::verify::VerificationError;
 use std::alloc::Global;
 use std::marker::Model;
 
@@ -68,24 +68,6 @@ fn decode_signed<I: IntoSource>(
             Err(DecodeError::Memory)
         }
     }
-}
-
-// Whether the object is sound, and else the first test that fails, by its own signer, content and certificate.
-fn verify_signed<D: Digester, V: Verifier>(
-    alloc: Global,
-    signed: &SignedObject,
-    digester: &D,
-    verifier: &mut V,
-) -> Result<(), VerificationError>
-    ensures answers { VerifiesContent (digests_of D.sha256_digest D.sha1_digest digester.now)
-        (V.says verifier.old) signed.now result }
-    ensures same { V.says verifier.new ≡ V.says verifier.old }
-    ensures asked { AsksOnce (V.count verifier.old) (V.count verifier.new) }
-    ensures spared { IfErr result
-        (λ e. e ≢ BadSignature → V.count verifier.new ≡ V.count verifier.old) }
-{
-    let (signer, content, cert) = (signed.signer(), signed.content(), signed.cert());
-    verify_content(alloc, signer, content, cert, digester, verifier)
 }
 
 impl Rsc {
@@ -164,6 +146,6 @@ impl Rsc {
         ensures spared { IfErr result
             (λ e. e ≢ BadSignature → V.count verifier.new ≡ V.count verifier.old) }
     {
-        verify_signed(alloc, &self.signed, digester, verifier)
+        self.signed.verify_content(alloc, digester, verifier)
     }
 }

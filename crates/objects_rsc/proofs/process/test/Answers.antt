@@ -1,5 +1,5 @@
-use Rattle.std.proofs.Common.{inl, inr, refl}
-use Rattle.std.specs.Fn.{FnOnceReturnsAt}
+use Rattle.std.proofs.Common.{inl, inr, refl, subst, sym}
+use Rattle.std.specs.Fn.{FnOnceReturnsAt, FnOnceTakesAt}
 use Rattle.objects_valid.proofs.Processing.{asked_err, asked_ok}
 use Rattle.objects_rsc.proofs.process.test.Goals as goal
 
@@ -20,3 +20,6 @@ returns-in-Err-clause-answers g c =
 
 pub returns-in-Err-clause-outside : goal.returns-in-Err-clause-outside
 returns-in-Err-clause-outside g c x issuer = c.in-Err.ensures.outside x issuer
+
+pub ask-requires : goal.ask-requires
+ask-requires g c = subst (FnOnceTakesAt g.F.FnOnce c.args.check_crl) (sym c.as_cert.ensures) c.requires
