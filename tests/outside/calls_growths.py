@@ -126,6 +126,11 @@ ROWS = (
     Row("objects_cases", "built aspa", "AspaBuilder: new, add_provider, finalize", 3),
     Row("objects_cases", "built providers", "ProviderAsSet, AspaBuilder: add_provider, from_iter", 3),
     # Bundles, points, validated objects.
+    Row("objects_rsc_cases", "content", "ResourceSignedChecklist: decode", 4),
+    Row("objects_rsc_cases", "object", "Rsc: decode", 3),
+    Row("objects_rsc_cases", "process", "Rsc: process_at", 3),
+    Row("objects_rsc_cases", "process-clock", "Rsc: process", 1),
+    Row("objects_rsc_cases", "sound", "Rsc: verify_content", 1),
     Row("rpki_cases", "decode", "Bundle: decode", 3),
     Row("rpki_cases", "again", "Bundle: decode, encode", 3),
     Row("rpki_cases", "parts", "Bundle: new, push_..", 3),
