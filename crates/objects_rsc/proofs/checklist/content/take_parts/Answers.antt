@@ -20,4 +20,4 @@ returns-in-Ok g c =
 pub returns-in-Err : goal.returns-in-Err
 returns-in-Err g c =
     let s = next_opt_as alone _ begin (λ m. inside_tagged _ _) c.in_ok-version.ensures in
-    stop_all {r = Err c.in-Err.error} _ (next s c.in_ok-resources.ensures.reads) (tt, refl) c.in-Err.ensures.reads
+    stop_all {r = Err c.in-Err.error} _ (next s c.in_ok-resources.ensures.reads) (refl, refl) c.in-Err.ensures.reads

@@ -10,4 +10,4 @@ pub returns-in-Ok : goal.returns-in-Ok
 returns-in-Ok g c = done (next (next_opt _ begin name_tagged c.in_ok-name.ensures.reads) c.in-Ok.ensures.reads) refl
 
 pub returns-in-Err : goal.returns-in-Err
-returns-in-Err g c = stop {r = Err c.in-Err.error} _ (next_opt _ begin name_tagged c.in_ok-name.ensures.reads) (tt, refl) c.in-Err.ensures.reads
+returns-in-Err g c = stop {r = Err c.in-Err.error} _ (next_opt _ begin name_tagged c.in_ok-name.ensures.reads) (refl, refl) c.in-Err.ensures.reads
