@@ -78,8 +78,8 @@ fn take_opt_version<S: Source>(
 }
 
 // Whether there is an entry.
-fn has_some(files: &[Entry]) -> bool
-    ensures { IsTrue result ↔ AreSome (map checked files.now) }
+fn has_some(files: &Vec<Entry>) -> bool
+    ensures { IsTrue result ↔ AreSome (map checked files.now.items) }
 {
     !files.is_empty()
 }
@@ -223,10 +223,17 @@ impl ResourceSignedChecklist {
         self.files.is_empty()
     }
 
+    // The entries, in their order.
+    fn entries(&self) -> &[Entry]
+        ensures { map checked result.now ≡ self.now.files }
+    {
+        self.files.as_slice()
+    }
+
     /// The files that are listed, in their order.
     pub fn iter(&self) -> CheckListIter<'_>
         ensures { result ≡ self.now.files }
     {
-        CheckListIter::new(&self.files)
+        CheckListIter::new(self.entries())
     }
 }

@@ -28,7 +28,7 @@ impl<'a> Model for FileNameAndHash<'a> {
 impl<'a> FileNameAndHash<'a> {
     /// The file of that name, if one is given, with that digest.
     pub fn new(file_name: Option<&'a [u8]>, hash: &'a [u8]) -> Self
-        ensures { result ≡ record { name = lent_octets file_name; hash = hash.now } }
+        ensures { result ≡ record { name = lent_octets file_name.entry; hash = hash.now } }
     {
         FileNameAndHash { file_name, hash }
     }
