@@ -3,14 +3,14 @@ use Rattle.std.proofs.Common.{◌≡◌, ℕ, ◌+◌, ◌*◌, ◌^◌, ◌<◌
 use Rattle.std.proofs.lemmas.Bool.{cases_lt}
 use Rattle.std.proofs.lemmas.List.Elements.{All-cons, All-nil}
 use Rattle.rpki_bundle.specs.bcder_tree.declared.mode.Mode.TheVariants.{Der}
-use Rattle.rpki_bundle.specs.bcder_tree.Tags.{boolean_tag, generalized_time_tag, ia5_string_tag, integer_tag, printable_string_tag, sequence_tag}
+use Rattle.rpki_bundle.specs.bcder_tree.Tags.{boolean_tag, generalized_time_tag, ia5_string_tag, printable_string_tag, sequence_tag}
 use Rattle.rpki_bundle.specs.bcder_tree.Integers.{number_behind, IsShortest}
 use Rattle.rpki_bundle.specs.bcder_tree.Strings.{IsIa5, octet_string_tag}
 use Rattle.rpki_bundle.specs.bcder_primitive.Values.{AnyOctets, IsBoolean, IsUnsigned}
 use Rattle.rpki_bundle.specs.bcder.Sets.{alone}
 use Rattle.rpki_bundle.specs.bcder.Texts.{IsText as IsTextOf}
 use Rattle.rpki_bundle.proofs.of_bcder.Ascii.{ascii_text}
-use Rattle.rpki_bundle.specs.bcder_content.Grammar.{OctetsOf, Inside}
+use Rattle.rpki_bundle.specs.bcder_content.Grammar.{Inside}
 use Rattle.rpki_bundle.specs.bcder_primitive.Encoded.{WritesPlain, WritesWrapped, WritesBoth}
 use Rattle.rpki_bundle.specs.bcder_primitive.Integers.{WritesUnsigned}
 use Rattle.rpki_bundle.specs.bcder_values.Lists.{WritesAll}

@@ -1,5 +1,5 @@
 -- The number of the version says whether a flag stands behind the depth.
-use Rattle.std.proofs.Common.{◌≡◌, ℕ, Bool, true, refl, sym, ap, ◌∙◌}
+use Rattle.std.proofs.Common.{◌≡◌, ℕ, Bool, true, sym, ap, ◌∙◌}
 use Rattle.rpki_bundle.specs.bcder_tree.declared.mode.Mode.{Mode}
 use Rattle.rpki_bundle.specs.bcder_tree.Tree.{Trees}
 use Rattle.rpki_bundle.specs.bcder_content.Contents.{ValuesLeft}
