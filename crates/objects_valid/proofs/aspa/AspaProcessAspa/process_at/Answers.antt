@@ -68,7 +68,7 @@ test-tested-requires g c covers =
 
 pub returns-in-Err-clause-memory : goal.returns-in-Err-clause-memory
 returns-in-Err-clause-memory g c =
-    spared_same (g.V.Verifier.says c.args.verifier.now) c.args.now c.args.issuer.now.holder.cert c.into_parts-signed.result.0 c.args.self.signed c.in-Err.error c.into_parts-signed.ensures.signed c.in-Err.ensures.memory
+    spared_same _ _ (g.V.Verifier.says c.args.verifier.now) c.args.now c.args.issuer.now.holder.cert c.into_parts-signed.result.0 c.args.self.signed c.in-Err.error c.into_parts-signed.ensures.signed c.in-Err.ensures.memory
 
 pub returns-in-Ok-clause-memory : goal.returns-in-Ok-clause-memory
 returns-in-Ok-clause-memory g c =
@@ -77,5 +77,5 @@ returns-in-Ok-clause-memory g c =
     let k = c.args.self in
     let issuer = c.args.issuer.now.holder in
     let accepted = subst (λ (o : Object). AcceptsObject d v c.args.strict Ee c.args.now issuer o c.in-Ok.holder.holder) c.into_parts-signed.ensures.signed c.in-Ok.ensures.validates in
-    spared_accepted _ c.into_parts-signed.result.1 c.in-Ok.holder c.test-tested.result _ c.join_if.ensures
+    spared_accepted _ _ _ c.into_parts-signed.result.1 c.in-Ok.holder c.test-tested.result _ c.join_if.ensures
     (issued_signed v c.args.now issuer.cert (held_by issuer) k.signed.cert accepted.issued)
