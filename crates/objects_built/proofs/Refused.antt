@@ -114,14 +114,14 @@ object_unwritten kind content c attributes k sid octets signature s o cert own s
       nothing (object o) e h n,
     )
 
-not_enclosed : {E : Type 0} (cannot : Type 0) (e : EncodeError) → (e ≢ causes.Memory → cannot) → BuildRefused {E = E} (λ x. ⊥) (Unit {0}) cannot (told_as e)
-not_enclosed cannot causes.CerUnsupported r = r (λ same. let q : ◌≡◌ {A = EncodeError} causes.CerUnsupported causes.Memory = same in cc)
-not_enclosed cannot causes.TooLong r = r (λ same. let q : ◌≡◌ {A = EncodeError} causes.TooLong causes.Memory = same in cc)
-not_enclosed cannot causes.Write r = r (λ same. let q : ◌≡◌ {A = EncodeError} causes.Write causes.Memory = same in cc)
-not_enclosed cannot causes.Memory r = inr tt
+not_enclosed : (E : Type 0) (cannot : Type 0) (e : EncodeError) → (e ≢ causes.Memory → cannot) → BuildRefused {E = E} (λ x. ⊥) (Unit {0}) cannot (told_as e)
+not_enclosed E cannot causes.CerUnsupported r = r (λ same. let q : ◌≡◌ {A = EncodeError} causes.CerUnsupported causes.Memory = same in cc)
+not_enclosed E cannot causes.TooLong r = r (λ same. let q : ◌≡◌ {A = EncodeError} causes.TooLong causes.Memory = same in cc)
+not_enclosed E cannot causes.Write r = r (λ same. let q : ◌≡◌ {A = EncodeError} causes.Write causes.Memory = same in cc)
+not_enclosed E cannot causes.Memory r = inr tt
 
 pub enclosed_refused : {E : Type 0} (cannot : Type 0) (e : EncodeError) (x : SigningError E) → x ≡ told_as e → (e ≢ causes.Memory → cannot) → BuildRefused {E = E} (λ y. ⊥) (Unit {0}) cannot x
-enclosed_refused {E} cannot e x same r = subst (BuildRefused {E = E} (λ y. ⊥) (Unit {0}) cannot) (sym same) (not_enclosed {E = E} cannot e r)
+enclosed_refused {E} cannot e x same r = subst (BuildRefused {E = E} (λ y. ⊥) (Unit {0}) cannot) (sym same) (not_enclosed E cannot e r)
 
 -- Whoever asks no signer refuses as one who asks.
 unasked : {E : Type 0} (refuses : SigningError E → Type 0) (can cannot less : Type 0) → (cannot → less) → (e : SigningError E) → BuildRefused {E = E} (λ y. ⊥) can cannot e → BuildRefused refuses can less e
