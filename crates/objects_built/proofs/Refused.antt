@@ -1,5 +1,5 @@
 -- Why no object is built, from one call to the next.
-use Rattle.std.proofs.Common.{◌≡◌, ◌≢◌, ◌⊎◌, inl, inr, ℕ, ◌^◌, ◌<◌, List, length, Result, Ok, Err, IfErr, refl, sym, ap, ◌∙◌, subst}
+use Rattle.std.proofs.Common.{◌≡◌, ◌≢◌, inl, inr, ℕ, List, Result, Ok, Err, IfErr, refl, sym, ap, ◌∙◌, subst}
 use Rattle.objects_built.specs.bcder_tree.declared.mode.Mode.TheVariants.{Der}
 use Rattle.objects_built.specs.bcder_content.Kept.{CapturedValue}
 use Rattle.objects_written.specs.bcder_primitive.declared.written.error.EncodeError.{EncodeError}
@@ -11,14 +11,13 @@ use Rattle.objects_built.specs.certs_basics.Keys.{KeyValue}
 use Rattle.objects_built.specs.certs_extension.Cert.{CertValue, TbsValue}
 use Rattle.objects_built.specs.certs_key.declared.signer.SigningError.{SigningError}
 use Rattle.objects_built.specs.certs_key.declared.signer.SigningError.TheVariants as errors
-use Rattle.objects_built.specs.certs_key.Refusing.{SigningRefusedIf}
 use Rattle.objects_built.specs.certs.Outputs.{Output}
-use Rattle.objects_built.specs.certs.Signing.{CanBeWritten, SigningRefused}
+use Rattle.objects_built.specs.certs.Signing.{SigningRefused}
 use Rattle.certs_cert.specs.Written.{RefusesCert, WritesCert}
-use Rattle.objects_written.specs.Attributes.{IsMessage, IsRefused, MessageRefused, ToSign, WritesAttributes, to_sign}
+use Rattle.objects_written.specs.Attributes.{IsMessage, IsRefused, MessageRefused, ToSign}
 use Rattle.objects_written.specs.Frames.{ObjectParts, SignerParts, object}
-use Rattle.objects_built.specs.Builders.{AreFieldsOf, BuilderValue, SignsAttributes}
-use Rattle.objects_built.specs.Refusing.{ArePartsOf, BuildRefused, CannotBuild, CannotCertify, CannotEnclose, CannotSign, CannotWrap, IsTooLong, told_as}
+use Rattle.objects_built.specs.Builders.{AreFieldsOf, BuilderValue}
+use Rattle.objects_built.specs.Refusing.{BuildRefused, CannotCertify, CannotEnclose, CannotSign, told_as}
 
 -- What a refusal says, by what it said before.
 pub weaker : {E : Type 0} (refuses : SigningError E → Type 0) (can could cannot less : Type 0) → (can → could) → (cannot → less) → (e : SigningError E) → BuildRefused refuses can cannot e

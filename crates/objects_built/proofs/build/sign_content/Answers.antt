@@ -1,5 +1,4 @@
-use Rattle.std.proofs.Common.{inl, inr}
-use Rattle.objects_built.specs.bcder_content.Kept.{CapturedValue}
+use Rattle.std.proofs.Common.{inr}
 use Rattle.objects_written.specs.Attributes.{IsMessage, to_sign}
 use Rattle.objects_written.specs.bcder_values.Writable.{Writable}
 use Rattle.objects_built.specs.Refusing.{CanTell, CannotSign}
