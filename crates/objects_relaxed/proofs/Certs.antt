@@ -2,9 +2,8 @@
 use Rattle.std.proofs.Common.{ap, ℕ, Bool, List}
 use Rattle.objects_payload.specs.bcder_tree.declared.mode.Mode.TheVariants.{Ber, Der}
 use Rattle.objects_payload.specs.bcder_octets.Bits.{BitsValue}
-use Rattle.objects_payload.specs.certs_basics.Names.{SpellsName}
 use Rattle.objects_payload.specs.certs_extension.Cert.{TbsValue}
-use Rattle.objects_payload.specs.certs_extension.CertText.{Fields, SaysTbs, SpellsCert, SpellsFields, SpellsSigned, SpellsTbs}
+use Rattle.objects_payload.specs.certs_extension.CertText.{Fields, SaysTbs, SpellsFields, SpellsSigned, SpellsTbs}
 use Rattle.objects_relaxed.specs.Forms.{Carries}
 use Rattle.objects_relaxed.specs.Relaxed.{relaxed_cert, relaxed_name, relaxed_tbs}
 use Rattle.objects_relaxed.specs.Laws.{CertsStay, NamesStay}

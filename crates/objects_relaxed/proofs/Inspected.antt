@@ -1,10 +1,10 @@
 -- Names, certificates and objects that were read in DER are tested alike when they are read in BER.
-use Rattle.std.proofs.Common.{◌≡◌, ℕ, Bool, true, List, [], ◌∷◌, refl, sym, ap, ◌∙◌, subst}
+use Rattle.std.proofs.Common.{◌≡◌, ℕ, Bool, true, List, [], ◌∷◌, sym, ap, ◌∙◌, subst}
 use Rattle.bcder_tree.proofs.Fronts.{whole_front}
 use Rattle.bcder_tree.proofs.Modes.{to_ber}
 use Rattle.bcder_tree.proofs.Trees.{one_tree}
 use Rattle.objects_payload.specs.bcder_tree.declared.mode.Mode.{Mode}
-use Rattle.objects_payload.specs.bcder_tree.declared.mode.Mode.TheVariants.{Ber, Der}
+use Rattle.objects_payload.specs.bcder_tree.declared.mode.Mode.TheVariants.{Der}
 use Rattle.objects_payload.specs.bcder_tree.Tree.{Tree, Spells}
 use Rattle.objects_payload.specs.bcder_content.Kept.{CapturedValue}
 use Rattle.objects_payload.specs.certs_basics.HandedIn.{Digests}

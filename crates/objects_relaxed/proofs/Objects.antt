@@ -1,10 +1,10 @@
 -- Signed objects by their octets: what is one in DER is the same in BER, and no other.
-use Rattle.std.proofs.Common.{◌≡◌, ap, ℕ, Bool, List, false}
+use Rattle.std.proofs.Common.{ap, ℕ, List, false}
 use Rattle.objects_payload.specs.bcder_tree.declared.mode.Mode.TheVariants.{Ber, Der}
 use Rattle.objects_payload.specs.bcder_tree.Tags.{context}
 use Rattle.objects_payload.specs.bcder_tree.Tree.{Tree}
 use Rattle.objects_payload.specs.bcder_tree.Strings.{octet_string_tag}
-use Rattle.objects_payload.specs.ObjectText.{Object, ObjectFields, SignedFields, SpellsContentInfo, SpellsObject, SpellsSignedData, SpellsSigner}
+use Rattle.objects_payload.specs.ObjectText.{ObjectFields, SignedFields, SpellsContentInfo, SpellsObject, SpellsSignedData, SpellsSigner}
 use Rattle.objects_payload.specs.Contents.{ReadsAs}
 use Rattle.objects_payload.specs.Manifests.{ManifestText}
 use Rattle.objects_payload.specs.Roas.{RoaText}

@@ -1,5 +1,5 @@
 -- Simple values, keys, extensions and attributes: what they mean in DER they mean in BER.
-use Rattle.std.proofs.Common.{◌≡◌, ℕ, Bool, true, false, List, [], ◌∷◌, Option, Some, None, refl, sym, subst, arith}
+use Rattle.std.proofs.Common.{ℕ, Bool, true, false, List, [], ◌∷◌, Option, Some, None, refl, sym, subst, arith}
 use Rattle.objects_payload.specs.bcder_tree.declared.mode.Mode.{Mode}
 use Rattle.objects_payload.specs.bcder_tree.declared.mode.Mode.TheVariants.{Ber, Der}
 use Rattle.objects_payload.specs.bcder_tree.Tags.{TagValue}
@@ -13,7 +13,7 @@ use Rattle.objects_payload.specs.certs_basics.declared.PublicKeyFormat.{PublicKe
 use Rattle.objects_payload.specs.certs_basics.Keys.{IsFormat, IsKey}
 use Rattle.objects_payload.specs.certs_extension.Extensions.{IsExtension}
 use Rattle.objects_payload.specs.Identifiers as id
-use Rattle.objects_payload.specs.SignedAttributes.{AreAttributes, AreSigned, Attribute, IsOnce, those_of}
+use Rattle.objects_payload.specs.SignedAttributes.{AreAttributes, Attribute, IsOnce, those_of}
 use Rattle.objects_relaxed.specs.Forms.{KeepsInBer, Within}
 use Rattle.objects_relaxed.proofs.Forms.{same, as_within, default_within, gathers_within, inside_within, octets_within, then_within}
 
