@@ -68,7 +68,7 @@ test-tested-requires g c =
 
 pub returns-in-Err-clause-memory : goal.returns-in-Err-clause-memory
 returns-in-Err-clause-memory g c =
-    spared_same _ _ (g.V.Verifier.says c.args.verifier.now) c.args.now c.args.issuer.now.holder.cert c.into_parts-signed.result.0 c.args.self.signed c.in-Err.error c.into_parts-signed.ensures.signed c.in-Err.ensures.memory
+    spared_same (g.V.Verifier.says c.args.verifier.now) c.args.now c.args.issuer.now.holder.cert c.into_parts-signed.result.0 c.args.self.signed c.in-Err.error c.into_parts-signed.ensures.signed c.in-Err.ensures.memory
 
 pub returns-in-Ok-clause-memory : goal.returns-in-Ok-clause-memory
 returns-in-Ok-clause-memory g c =
