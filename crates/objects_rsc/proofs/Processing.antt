@@ -5,10 +5,10 @@ use Rattle.certs_verify.specs.certs_basics.Verdicts.{Verdicts}
 use Rattle.certs_verify.specs.certs_x509.declared.errors.validation.ValidationError.{ValidationError}
 use Rattle.certs_verify.specs.Holders.{ResourceCertValue}
 use Rattle.objects_valid.specs.certs_extension.Cert.{CertValue}
-use Rattle.objects_valid.specs.certs_extension.Verified.{HolderValue}
+use Rattle.objects_valid.specs.certs_extension.Verified.{HolderValue, IsSignedAt}
 use Rattle.objects_valid.specs.certs_extension.declared.forms.Role.{Role}
 use Rattle.objects_valid.specs.objects_payload.ObjectText.{Object}
-use Rattle.objects_valid.specs.Accepted.{AcceptsObject, FailsObject}
+use Rattle.objects_valid.specs.Accepted.{AcceptsObject, FailsObject, SparesMemory}
 use Rattle.objects_valid.specs.Processed.{Answers, Failing, Passing}
 use Rattle.objects_valid.specs.Together.{joined_if}
 use Rattle.objects_rsc.specs.Processed.{CallableAs, ProcessesAs}
@@ -40,3 +40,8 @@ callable_here role takes d good strict now issuer o s h same accepted callable =
 pub refused : {A : Type 0} (role : Role) (passes : Passing) (fails : Failing) (d : Digests) (good : Verdicts) (strict : Bool) (now : ℕ) (issuer : HolderValue) (o s : Object) (content : A) (e : ValidationError)
     → s ≡ o → FailsObject d good strict role now issuer s e → ProcessesAs role passes fails d good strict now issuer o content (Err e)
 refused role passes fails d good strict now issuer o s content e same f = inl (subst (λ (p : Object). FailsObject d good strict role now issuer p e) same f)
+
+-- Where lack of memory is told, for the object that was handed on.
+pub spared_here : (before after : ℕ) (good : Verdicts) (now : ℕ) (issuer : CertValue) (s o : Object) (e : ValidationError)
+    → s ≡ o → SparesMemory before after (IsSignedAt good now issuer s.cert) e → SparesMemory before after (IsSignedAt good now issuer o.cert) e
+spared_here before after good now issuer s o e same h = subst (λ (p : Object). SparesMemory before after (IsSignedAt good now issuer p.cert) e) same h

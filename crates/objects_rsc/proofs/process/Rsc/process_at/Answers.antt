@@ -6,14 +6,14 @@ use Rattle.certs_verify.specs.certs_x509.declared.errors.validation.ValidationEr
 use Rattle.certs_verify.specs.Holders.{ResourceCertValue}
 use Rattle.certs_verify.specs.Validated.{TellsNumbers}
 use Rattle.objects_valid.proofs.Processing.{processed_outside, processed_tal}
-use Rattle.objects_valid.proofs.Sparing.{issued_signed, spared_accepted, spared_same}
+use Rattle.objects_valid.proofs.Sparing.{issued_signed, spared_accepted}
 use Rattle.objects_valid.specs.Accepted.{AcceptsObject}
 use Rattle.objects_valid.specs.certs_extension.Verified.{held_by}
 use Rattle.objects_valid.specs.certs_extension.declared.forms.Role.TheVariants.{DetachedEe}
 use Rattle.objects_valid.specs.objects_payload.ObjectText.{Object}
 use Rattle.objects_rsc.specs.Checklists.{Checklist}
 use Rattle.objects_rsc.specs.Processed.{FailsChecklist, PassesChecklist, ProcessesChecklist}
-use Rattle.objects_rsc.proofs.Processing.{callable_here, processed, refused}
+use Rattle.objects_rsc.proofs.Processing.{callable_here, processed, refused, spared_here}
 use Rattle.objects_rsc.proofs.process.Rsc.process_at.Goals as goal
 
 -- What is answered.
@@ -69,7 +69,7 @@ test-tested-requires g c =
 
 pub returns-in-Err-clause-memory : goal.returns-in-Err-clause-memory
 returns-in-Err-clause-memory g c =
-    spared_same _ _ (g.V.Verifier.says c.args.verifier.now) c.args.now c.args.issuer.now.holder.cert c.into_parts-signed.result.0 c.args.self.signed c.in-Err.error c.into_parts-signed.ensures.signed c.in-Err.ensures.memory
+    spared_here _ _ (g.V.Verifier.says c.args.verifier.now) c.args.now c.args.issuer.now.holder.cert c.into_parts-signed.result.0 c.args.self.signed c.in-Err.error c.into_parts-signed.ensures.signed c.in-Err.ensures.memory
 
 pub returns-in-Ok-clause-memory : goal.returns-in-Ok-clause-memory
 returns-in-Ok-clause-memory g c =
