@@ -14,7 +14,7 @@ use Rattle.objects_valid.specs.objects_payload.ObjectText.{Object}
 use Rattle.objects_rsc.specs.Checklists.{Checklist}
 use Rattle.objects_rsc.specs.Processed.{FailsChecklist, PassesChecklist, ProcessesChecklist}
 use Rattle.objects_rsc.proofs.Processing.{callable_here, processed, refused, spared_here}
-use Rattle.objects_rsc.proofs.process.Rsc.process_at.Goals as goal
+use Rattle.objects_rsc.proofs.rsc.Rsc.process_at.Goals as goal
 
 -- What is answered.
 abbrev Answer : Type 0

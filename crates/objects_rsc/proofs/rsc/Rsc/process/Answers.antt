@@ -1,4 +1,4 @@
-use Rattle.objects_rsc.proofs.process.Rsc.process.Goals as goal
+use Rattle.objects_rsc.proofs.rsc.Rsc.process.Goals as goal
 
 pub returns-clause-processes : goal.returns-clause-processes
 returns-clause-processes g c = (c.now-now.result, c.now-now.ensures, c.process_at.ensures.processes, c.process_at.ensures.memory)
