@@ -1,14 +1,15 @@
 """What `tests/run` runs: the table of tests, each with its time limit, and the way of running them side by side."""
 
 import concurrent.futures
+import contextlib
 import dataclasses
-import importlib.util
+import functools
 import os
 import re
-import shutil
 import signal
 import subprocess
 import sys
+import tempfile
 import time
 
 from programs import KEPT, TOP, is_newer, proved, unproved
@@ -17,13 +18,13 @@ from programs import KEPT, TOP, is_newer, proved, unproved
 SLOWER = 6
 COUNTS = re.compile(r"(\d+) passed, (\d+) failed\b.*")
 PROGRAM = re.compile(r"\{([\w.-]+)\}")
-# The C compiler of the toolchain has no headers, so it is no substitute.
+# Commands that end well where what a test needs is on this machine. (The C compiler of the toolchain has no headers.)
 FOUND = {
-    "cc": lambda: shutil.which(os.environ.get("CC", "cc")) is not None,
-    "cryptography": lambda: importlib.util.find_spec("cryptography") is not None,
+    "cc": ([os.environ.get("CC", "cc"), "-fsyntax-only", "-x", "c", "-"], b"#include <stdlib.h>\n"),
+    "cryptography": ([sys.executable, "-c", "import cryptography.hazmat.primitives.asymmetric.rsa, cryptography.x509"], b""),
 }
 LACKS = {
-    "cc": "there is no C compiler (`cc`, or $CC)",
+    "cc": "there is no C compiler with its headers (`cc`, or $CC)",
     "cryptography": "Python has no `cryptography`",
     "plain": "it takes a program that is built with its proof, without the checks of AddressSanitizer",
     "second": "Rattle's own compiler built none",
@@ -105,6 +106,17 @@ def programs_of(test):
     return PROGRAM.findall(test.words)
 
 
+@functools.cache
+def is_found(need):
+    """Whether something that tests need is on this machine."""
+    words, given = FOUND[need]
+    try:
+        how = {"stdout": subprocess.DEVNULL, "stderr": subprocess.DEVNULL, "timeout": 60}
+        return subprocess.run(words, input=given, **how).returncode == 0
+    except (OSError, subprocess.TimeoutExpired):
+        return False
+
+
 class Run:
     """One run of the table."""
 
@@ -148,8 +160,8 @@ class Run:
 
     def why_skipped(self, test):
         """Why a test is left out: something that isn't on this machine, or a program that isn't built as it needs it."""
-        here = {"plain": self.is_plain(test), "second": True, **{need: is_found() for need, is_found in FOUND.items()}}
-        return next((LACKS[need] for need in test.needs if not here[need]), None)
+        is_here = {"plain": lambda: self.is_plain(test), "second": lambda: True}
+        return next((LACKS[need] for need in test.needs if not is_here.get(need, lambda: is_found(need))()), None)
 
     def take(self, test):
         """Runs a test: how many passed and failed, and what is said of it."""
@@ -167,15 +179,20 @@ class Run:
 
     def call(self, words, limit):
         began = time.monotonic()
-        how = {"cwd": TOP / "tests", "stdin": subprocess.DEVNULL, "stdout": subprocess.PIPE, "stderr": subprocess.STDOUT}
-        run = subprocess.Popen(words, text=True, errors="replace", start_new_session=True, **how)
-        late = ""
-        try:
-            output, _ = run.communicate(timeout=limit)
-        except subprocess.TimeoutExpired:
-            os.killpg(run.pid, signal.SIGKILL)
-            output, _ = run.communicate()
-            late = f", and hadn't ended after {limit} s"
+        # (a pipe could be kept open by whoever outlives the test)
+        with tempfile.TemporaryFile("w+", errors="replace") as told:
+            how = {"cwd": TOP / "tests", "stdin": subprocess.DEVNULL, "stdout": told, "stderr": subprocess.STDOUT}
+            run = subprocess.Popen(words, start_new_session=True, **how)
+            late = ""
+            try:
+                run.wait(limit)
+            except subprocess.TimeoutExpired:
+                late = f", and hadn't ended after {limit} s"
+            with contextlib.suppress(ProcessLookupError):
+                os.killpg(run.pid, signal.SIGKILL)
+            run.wait()
+            told.seek(0)
+            output = told.read()
         counts = [COUNTS.fullmatch(line) for line in output.splitlines() if COUNTS.fullmatch(line)]
         passed, failed = map(int, counts[-1].groups()) if counts else (int(run.returncode == 0), 0)
         failed = failed or int(run.returncode != 0)
@@ -192,16 +209,15 @@ class Run:
                 self.skipped += said.startswith("skipped")
                 self.say(running[done].name, said, output)
 
-    def add_gate(self, line, status):
-        """Adds the counts that the last line of `rt ci` has; one that has none, or a status that tells more, is a failure."""
+    def add_gate(self, line):
+        """Adds the counts that the last line of `rt ci` has; one that has none is a failure."""
         counts = COUNTS.fullmatch(line)
         passed, failed = map(int, counts.groups()) if counts else (0, 1)
-        failed = failed or int(status != 0)
         self.passed, self.failed = self.passed + passed, self.failed + failed
         print(f"rt ci: {passed} passed, {failed} failed", flush=True)
 
 
-def run(level, only, built, gate=None, gate_status=0):
+def run(level, only, built, gate=None):
     """Runs the tests of a level; the exit status."""
     lanes = len(os.sched_getaffinity(0))
     began = time.monotonic()
@@ -209,7 +225,7 @@ def run(level, only, built, gate=None, gate_status=0):
     table.find_all(lanes)
     table.run_all(lanes)
     if gate is not None:
-        table.add_gate(gate, gate_status)
+        table.add_gate(gate)
     skipped = f"; {table.skipped} tests were skipped" if table.skipped else ""
     print(f"tests/run {level}: {time.monotonic() - began:.0f} s on {lanes} processors{skipped}", flush=True)
     print(f"{table.passed} passed, {table.failed} failed", flush=True)
