@@ -34,7 +34,8 @@ LACKS = {
 @dataclasses.dataclass(frozen=True)
 class Test:
     """A command with the programs that it takes in braces, and the seconds that it may take at each level; none: not asked there.
-    `more` are words that stand behind the others at `all`, and `less` at `quick`."""
+    `more` are words that stand behind the others at `all`, `less` at `quick`, and `least`, where there are some, at `quick` of programs
+    that are built without their proof."""
 
     name: str
     words: str
@@ -43,12 +44,14 @@ class Test:
     needs: tuple = ()
     less: str = ""
     more: str = ""
+    least: str = ""
 
     def limit(self, level):
         return self.quick if level == "quick" else self.all or self.quick
 
-    def command(self, level):
-        return f"{self.words} {self.less if level == 'quick' else self.more}".split()
+    def command(self, level, is_plain=True):
+        words = self.more if level != "quick" else self.less if is_plain else self.least or self.less
+        return f"{self.words} {words}".split()
 
 
 # Programs of questions and examples, whose answers are stored beside them.
@@ -81,17 +84,17 @@ TESTS = (
     Test("hostile", "outside/hostile.py {rpki_check}", 0, 1200),
     Test("readme", "outside/readme.py {rpki_check}", 120, needs=("cryptography",)),
     Test("cache", "outside/cache.py {rpki_check}", 200, needs=("cryptography",)),
-    Test("large", "outside/large.py {rpki_check} {rpki_ask}", 300, 1800, more="--huge"),
-    Test("octets", "outside/octets.py {objects_cases}", 200, 900, less="--most 2", more="--most 12"),
+    Test("large", "outside/large.py {rpki_check} {rpki_ask}", 300, 1800, more="--huge", least="--small"),
+    Test("octets", "outside/octets.py {objects_cases}", 200, 900, less="--most 2", more="--most 12", least="--most 1"),
     # The build by Rattle's own compiler, from outside.
     Test("cases, second compiler", "outside/cases.sh {rpki_check.by-rattle} cases", 60, needs=("second",)),
     Test("faults, second compiler", "outside/faults.py {rpki_check.by-rattle}", 120, needs=("second", "plain")),
     # A second reading of the rules.
     Test("second reading", "lib/rpki_model.py --cases cases", 60),
-    Test("chance", "outside/rpki_random.py {rpki_check}", 400, 7200, less="--count 2000", more="--count 50000"),
-    Test("long chances", "outside/rpki_random.py {rpki_check} --long", 500, 7200, less="--count 2000", more="--count 50000"),
-    Test("chance asks", "outside/rpki_asks.py {rpki_ask}", 300, 2400, less="--count 60", more="--count 1000"),
-    Test("chance worlds", "questions/rpki_worlds.py {rpki_cases}", 300, 2400, less="60", more="1000"),
+    Test("chance", "outside/rpki_random.py {rpki_check}", 400, 7200, less="--count 2000", more="--count 50000", least="--count 300"),
+    Test("long chances", "outside/rpki_random.py {rpki_check} --long", 500, 7200, less="--count 2000", more="--count 50000", least="--count 100"),
+    Test("chance asks", "outside/rpki_asks.py {rpki_ask}", 300, 2400, less="--count 60", more="--count 1000", least="--count 10"),
+    Test("chance worlds", "questions/rpki_worlds.py {rpki_cases}", 300, 2400, less="60", more="1000", least="20"),
     Test("roles", "questions/certs_roles.py --all {objects_cases}", 200),
     # Growths refused in turn.
     Test("growths", "outside/growths.py {rpki_check}", 300, needs=("cc", "plain")),
@@ -124,7 +127,17 @@ class Run:
         self.level, self.built = level, built
         self.tests = [test for test in TESTS if test.limit(level) and only in test.name]
         self.passed = self.failed = self.skipped = 0
-        self.programs = {}
+        self.programs, self.running, self.is_ended = {}, set(), False
+        for number in (signal.SIGTERM, signal.SIGINT, signal.SIGHUP):
+            signal.signal(number, self.end)
+
+    def end(self, number, _):
+        """Ends the tests that run, each with the processes of its group."""
+        self.is_ended = True
+        for run in list(self.running):
+            with contextlib.suppress(ProcessLookupError):
+                os.killpg(run.pid, signal.SIGKILL)
+        sys.exit(128 + number)
 
     def say(self, name, text, output=""):
         print(f"{name}: {text}", flush=True)
@@ -165,24 +178,30 @@ class Run:
 
     def take(self, test):
         """Runs a test: how many passed and failed, and what is said of it."""
+        if self.is_ended:
+            return 0, 1, "not run", ""
         lacking = [why for _, why in (self.programs[name] for name in programs_of(test)) if why]
         if lacking and "second" not in test.needs:
             return 0, 1, lacking[0], ""
         why = lacking[0] if lacking else self.why_skipped(test)
         if why:
             return 0, 0, f"skipped: {why}", ""
-        words = [PROGRAM.sub(lambda found: str(self.programs[found[1]][0]), word) for word in test.command(self.level)]
+        is_plain = self.is_plain(test)
+        words = [PROGRAM.sub(lambda found: str(self.programs[found[1]][0]), word) for word in test.command(self.level, is_plain)]
         words[0] = str(TOP / "tests" / words[0])
         if words[0].endswith(".py"):
             words = [sys.executable, "-B", *words]
-        return self.call(words, test.limit(self.level) * (1 if self.is_plain(test) else SLOWER))
+        return self.call(words, test.limit(self.level), 1 if is_plain else SLOWER)
 
-    def call(self, words, limit):
+    def call(self, words, limit, slower):
+        limit *= slower
         began = time.monotonic()
         # (a pipe could be kept open by whoever outlives the test)
         with tempfile.TemporaryFile("w+", errors="replace") as told:
             how = {"cwd": TOP / "tests", "stdin": subprocess.DEVNULL, "stdout": told, "stderr": subprocess.STDOUT}
+            how["env"] = {**os.environ, "TESTS_SLOWER": str(slower)}
             run = subprocess.Popen(words, start_new_session=True, **how)
+            self.running.add(run)
             late = ""
             try:
                 run.wait(limit)
@@ -191,6 +210,7 @@ class Run:
             with contextlib.suppress(ProcessLookupError):
                 os.killpg(run.pid, signal.SIGKILL)
             run.wait()
+            self.running.discard(run)
             told.seek(0)
             output = told.read()
         counts = [COUNTS.fullmatch(line) for line in output.splitlines() if COUNTS.fullmatch(line)]
