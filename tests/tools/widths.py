@@ -1,13 +1,13 @@
 #!/usr/bin/env python3
 """Compares the definitions and clauses that are wider than 100 columns with those that may be.
 
-    widths.py [--prune]
+    widths.py [--prune | --take]
 
 A definition is what a file of specs/ declares, its type and its text; a clause is what stands in a file of src/ for the prover: what
 a call requires and ensures, and what a type or trait says by ghosts. Comments, imports and hints to the prover don't count. Those that
 were wider when this was first asked stand in `widths.tsv`, each with its widest line. Exits with 1 where one is wider than that, or
 than 100 columns where it doesn't stand there. With --prune the list loses those that are narrow now, and takes in which are narrower;
-it never adds one.
+it never adds one. With --take the list is made anew: for a merge of work that was begun before the list was.
 """
 
 import argparse
@@ -74,10 +74,11 @@ def listed():
 def main():
     parser = argparse.ArgumentParser(description=__doc__, formatter_class=argparse.RawDescriptionHelpFormatter)
     parser.add_argument("--prune", action="store_true")
+    parser.add_argument("--take", action="store_true")
     given = parser.parse_args()
     found, kept = wide(), listed()
-    if given.prune:
-        kept = {key: min(width, found[key]) for key, width in kept.items() if key in found}
+    if given.prune or given.take:
+        kept = found if given.take else {key: min(width, found[key]) for key, width in kept.items() if key in found}
         LIST.write_text(HEAD + "".join(f"{path}\t{name}\t{width}\n" for (path, name), width in sorted(kept.items())))
     wrong = {key: width for key, width in found.items() if width > kept.get(key, MOST)}
     for (path, name), width in sorted(wrong.items()):
