@@ -41,9 +41,9 @@ OCTETS = re.compile(r"\bx[0-9a-f]+")
 DIGITS = re.compile(r"([0-9a-f]{2})+")
 MORE = 4  # growths of a word whose first sign alone, or nothing, is told
 WORD = re.compile(r"[^][(),]+")  # (what stands in brackets is no word of an answer by itself)
-MEMORY = re.compile(r"(.*?)\W*(?:out of |no )?memory", re.IGNORECASE)
+MEMORY = re.compile(r"(.*?)\W*(?:refused)?\W*(?:out of |no )?memory", re.IGNORECASE)
 # What programs of questions answer where something that they need first can't be read, whatever the error.
-UNTOLD = re.compile(r"no (certificate|chain|form|issuer|text)|unreadable( asked 0)?")
+UNTOLD = re.compile(r"no (certificate|chain|form|issuer|text)|unreadable( asked 0)?|refused: no (AS resources|IP resources|family)")
 
 
 class Row(typing.NamedTuple):
@@ -165,6 +165,8 @@ ROWS = (
         "resources +",
         "AsResourcesBuilder, IpResourcesBuilder: blocks, finalize; AsBlocks, IpBlocks: all, from_iter, from_resources, "
         "intersection_assign; IpBlocksBuilder: new, push, finalize",
+        # (what is outside is told where the claim is refused for it alone)
+        others="false",
     ),
     Row(
         "resources_cases",
@@ -367,7 +369,7 @@ def is_right(outcome, answer, others):
     if UNTOLD.fullmatch(line) or (others and re.fullmatch(others, line)):
         return True
     front = MEMORY.match(line)
-    return front is not None and (front[1] == "refused" or answer.startswith(front[1]))
+    return front is not None and answer.startswith(front[1])
 
 
 def is_short(outcome, answer):
