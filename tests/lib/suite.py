@@ -73,6 +73,8 @@ TESTS = (
     Test("calling", "tools/calling.py --check", 0, 60),
     # Definitions and clauses that are wider than 100 columns are listed.
     Test("widths", "tools/widths.py", 60),
+    # Calls that can lack memory are asked with their growths refused.
+    Test("growing", "tools/growing.py", 60),
     # Errors of which no clause says anything have a reason.
     Test("error sides", "tools/error_sides.py", 300),
     # Stored questions.
