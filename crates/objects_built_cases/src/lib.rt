@@ -37,11 +37,7 @@ fn built(
 fn answered(alloc: Global, answer: &mut Answer, words: &[&str], signer: &Stub) -> Result<()> {
     let kind = fields::octets(alloc, words, "type")?;
     let content = fields::octets(alloc, words, "content")?;
-    let mut builder = fields::builder_of(alloc, words)?;
-    if let Err(error) = fields::turn(answer, &mut builder, words) {
-        drop(builder);
-        return Err(error);
-    }
+    let builder = fields::builder_of(alloc, words)?;
     built(
         alloc,
         answer,
