@@ -43,7 +43,7 @@ MORE = 4  # growths of a word whose first sign alone, or nothing, is told
 WORD = re.compile(r"[^][(),]+")  # (what stands in brackets is no word of an answer by itself)
 MEMORY = re.compile(r"(.*?)\W*(?:refused)?\W*(?:out of |no )?memory", re.IGNORECASE)
 # What programs of questions answer where something that they need first can't be read, whatever the error.
-UNTOLD = re.compile(r"no (certificate|chain|form|issuer|text)|unreadable( asked 0)?|refused: no (AS resources|IP resources|family)")
+UNTOLD = re.compile(r"no (anchor|authority|certificate|chain|form|issuer|text)|unreadable( asked 0)?|refused: no (AS resources|IP resources|family)")
 
 
 class Row(typing.NamedTuple):
