@@ -137,7 +137,7 @@ class Run:
         """Ends the tests that run, each with the processes of its group."""
         self.is_ended = True
         for run in list(self.running):
-            with contextlib.suppress(ProcessLookupError):
+            with contextlib.suppress(ProcessLookupError, PermissionError):
                 os.killpg(run.pid, signal.SIGKILL)
         sys.exit(128 + number)
 
@@ -199,7 +199,7 @@ class Run:
         limit *= slower
         began = time.monotonic()
         # (a pipe could be kept open by whoever outlives the test)
-        with tempfile.TemporaryFile("w+", errors="replace") as told:
+        with tempfile.TemporaryFile("w+", encoding="utf-8", errors="replace") as told:
             how = {"cwd": TOP / "tests", "stdin": subprocess.DEVNULL, "stdout": told, "stderr": subprocess.STDOUT}
             how["env"] = {**os.environ, "TESTS_SLOWER": str(slower)}
             run = subprocess.Popen(words, start_new_session=True, **how)
@@ -209,7 +209,7 @@ class Run:
                 run.wait(limit)
             except subprocess.TimeoutExpired:
                 late = f", and hadn't ended after {limit} s"
-            with contextlib.suppress(ProcessLookupError):
+            with contextlib.suppress(ProcessLookupError, PermissionError):
                 os.killpg(run.pid, signal.SIGKILL)
             run.wait()
             self.running.discard(run)
