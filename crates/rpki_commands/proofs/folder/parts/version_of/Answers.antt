@@ -1,7 +1,6 @@
-use Rattle.std.proofs.Common.{◌≡◌, ℕ, List, Option, None, Some, refl, sym, subst}
+use Rattle.std.proofs.Common.{ℕ, List, Option, refl, sym, subst}
 use Rattle.std.specs.Prelude.{Vec}
 use Rattle.std.specs.declared.alloc.Global.{Global}
-use Rattle.rpki_commands.specs.rpki_bundle.declared.version.Version.{Version}
 use Rattle.rpki_commands.specs.rpki_bundle.declared.version.Version.TheVariants.{Zero, One}
 use Rattle.rpki_commands.specs.Lines.{TellsFlag}
 use Rattle.rpki_commands.specs.Folders.{TellsVersion}
