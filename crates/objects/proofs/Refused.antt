@@ -1,5 +1,5 @@
 -- Why nothing is signed of a content, from one call to the next.
-use Rattle.std.proofs.Common.{◌≡◌, inl, inr, ℕ, List, Result, Ok, Err, IfErr, refl, sym, subst}
+use Rattle.std.proofs.Common.{◌≡◌, ◌≤◌, inl, inr, ℕ, List, Result, Ok, Err, IfErr, refl, sym, subst}
 use Rattle.objects.specs.bcder_tree.declared.mode.Mode.TheVariants.{Der}
 use Rattle.objects.specs.bcder_primitive.declared.written.error.EncodeError.{EncodeError}
 use Rattle.objects.specs.bcder_primitive.declared.written.error.EncodeError.TheVariants as causes

@@ -16,7 +16,6 @@ mod Untouched
 mod OneOutput
 mod Outside
 mod Versions
-mod Relaxing
 pub mod Orders
 pub mod Sets
 pub mod Groups

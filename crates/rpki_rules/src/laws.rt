@@ -2,7 +2,7 @@
 
 ghost use Rattle.rpki_rules.specs.Laws.{SignedIsVerified, IssuedIsVerified, AnchorIsVerified, AnchorHolds, ChainHolds, IssuedHolds, OnlyUris, OneObjectAt, TableSays, WitnessNames, OneCertAt, OnePoint, OneSigned, OneOutput, ClimbingIsExact, JudgingIsExact, Listing, DeeperKeeps, VerdictRemoval, CutDownKeeps, NonInterference, LocatorsStay, RefusalsStay, UntouchedOutput};
 ghost use Rattle.rpki_rules.specs.Outside.{OutsideStays};
-ghost use Rattle.rpki_rules.specs.Versions.{RelaxedKeeps, UpgradeStays};
+ghost use Rattle.rpki_rules.specs.Versions.{UpgradeStays};
 
 /// What a certificate is asked below an authority, its claim apart, is what the tests of verification ask.
 pub fn signed_is_verified()
@@ -132,9 +132,4 @@ pub fn outside_stays()
 /// The output of a bundle of version 0 is that of its upgrade that isn't relaxed.
 pub fn upgrade_stays()
     ensures { UpgradeStays }
-{}
-
-/// Relaxed, a bundle of version 1 attests all that it attests not relaxed.
-pub fn relaxed_keeps()
-    ensures { RelaxedKeeps }
 {}

@@ -1,5 +1,5 @@
 -- A world in which signed objects are read relaxed attests all that it attests where they are read strictly.
-use Rattle.std.proofs.Common.{◌≡◌, ℕ, true, false, List, [], ◌∷◌, inl, inr}
+use Rattle.std.proofs.Common.{ℕ, true, false, List, [], ◌∷◌, inl, inr}
 use Rattle.objects_relaxed.specs.Relaxed.{relaxed, relaxed_cert}
 use Rattle.objects_relaxed.proofs.Objects.{aspas_stay, manifests_stay, roas_stay}
 use Rattle.objects_relaxed.proofs.Inspected.{passes_relaxed, sound_relaxed}
@@ -10,9 +10,9 @@ use Rattle.rpki_rules.specs.Locators.{https_first}
 use Rattle.rpki_rules.specs.Words.{Each}
 use Rattle.rpki_rules.specs.World.{World}
 use Rattle.rpki_rules.specs.Kinds.{Kind}
-use Rattle.rpki_rules.specs.Points.{Anchor, IsAnchorCert, IsFirstHeld, IsHeld, IsManifestOf, IsPoint, Link, Point, Signed, Unrevoked}
+use Rattle.rpki_rules.specs.Points.{Anchor, IsFirstHeld, IsHeld, IsManifestOf, IsPoint, Link, Point, Signed, Unrevoked}
 use Rattle.rpki_rules.specs.Chains.{Descends, Fits, Holds, Issues, Stands, last_of}
-use Rattle.rpki_rules.specs.Attests.{Good, HoldsWith, IsCovered, IsGood, OfAspa, OfRoa, Payload, PayloadText, Trace}
+use Rattle.rpki_rules.specs.Attests.{Good, IsGood, OfAspa, OfRoa, Payload, PayloadText, Trace}
 use Rattle.rpki_rules.specs.Laws.{KeepsAll}
 
 module _ (w : World) where
