@@ -5,7 +5,6 @@ use Rattle.objects_payload.proofs.Objects.{one_object}
 use Rattle.objects_payload.proofs.of_bcder_content.Keeping.{same_refusal}
 use Rattle.objects_payload.proofs.of_bcder_content.Taking.{weaker}
 use Rattle.objects_payload.specs.bcder_content.Texts.{ReadsFront}
-use Rattle.objects_payload.specs.Contents.{ReadsAs}
 use Rattle.objects_payload.specs.ObjectText.{Object, ObjectText}
 use Rattle.objects_valid.specs.Kinds.{DecodesKind, KindValue}
 use Rattle.objects_rsc.specs.bcder_source.Errors.{OnContent, SameCause}

@@ -28,7 +28,10 @@ abbrev pub EntryFields : Type 0
 EntryFields = Option (List ℕ) × (List ℕ × Unit {0})
 
 abbrev pub AreEntryFields : Mode → Trees → EntryFields → Type 0
-AreEntryFields m = Opt ia5_string_tag (IsRestricted IsIa5 alone m ia5_string_tag) (Then (IsOctetString m) End)
+AreEntryFields m =
+    Opt ia5_string_tag (IsRestricted IsIa5 alone m ia5_string_tag)
+    (Then (IsOctetString m)
+    End)
 
 abbrev pub file_of : EntryFields → CheckedFile
 file_of f = record { name = f.0; hash = f.1.0 }
@@ -52,7 +55,9 @@ abbrev pub Fields : Type 0
 Fields = Option (Unit {0} × Unit {0}) × (Stated × (Unit {0} × (List CheckedFile × Unit {0})))
 
 abbrev pub AreFields : Mode → Trees → Fields → Type 0
-AreFields m = VersionZero (Then (IsStated Identifiers m) (Then IsDigestAlgorithm (Then (AreCheckedFiles m) End)))
+AreFields m =
+    VersionZero (Then (IsStated Identifiers m)
+    (Then IsDigestAlgorithm (Then (AreCheckedFiles m) End)))
 
 abbrev pub checklist_of : Fields → Checklist
 checklist_of f = record { resources = f.1.0; files = f.1.1.1.0 }

@@ -1,12 +1,11 @@
 -- Checklists, by what is read of them.
-use Rattle.std.specs.Prelude.{ℕ, List, Option, map}
+use Rattle.std.specs.Prelude.{List, map}
 use Rattle.std.specs.Option.{option_map}
 use Rattle.objects_payload.specs.bcder_content.Grammar.{End, Many, Then}
 use Rattle.objects_payload.specs.bcder_tree.declared.mode.Mode.{Mode}
 use Rattle.objects_payload.specs.bcder_tree.Tree.{Trees}
 use Rattle.objects_payload.specs.Fields.{alone}
 use Rattle.objects_payload.specs.Identifiers.{IsDigestAlgorithm}
-use Rattle.objects_stated.specs.Stated.{Stated}
 use Rattle.objects_rsc.specs.declared.checklist.entry.Entry.{Entry}
 use Rattle.objects_rsc.specs.declared.checklist.content.Parts.{Parts}
 use Rattle.objects_rsc.specs.Checklists.{AreCheckedFiles, CheckedFile, EntryFields, Fields, IsCheckedFile, file_of}
@@ -34,4 +33,5 @@ behind_fields files = (tt, (files, tt))
 
 -- All that is read.
 abbrev pub parts_fields : Parts → Fields
-parts_fields p = (option_map alone p.version, (p.resources, behind_fields (map checked p.files.items)))
+parts_fields p =
+    (option_map alone p.version, (p.resources, behind_fields (map checked p.files.items)))

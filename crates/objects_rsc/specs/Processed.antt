@@ -26,7 +26,8 @@ ProcessesAs role passes fails d good strict now issuer o content (Err e) = Fails
 
 -- The caller's test may be asked where the object is accepted, and that is all that is required of it.
 abbrev pub CallableAs : Role → Type 0 → Digests → Verdicts → Bool → ℕ → HolderValue → Object → Type 0
-CallableAs role callable d good strict now issuer o = (h : HolderValue) → AcceptsObject d good strict role now issuer o h → callable
+CallableAs role callable d good strict now issuer o =
+    (h : HolderValue) → AcceptsObject d good strict role now issuer o h → callable
 
 -- All that is stated is held by the certificate.
 abbrev pub CoversChecklist : Checklist → HolderValue → Type 0
@@ -37,7 +38,9 @@ abbrev pub PassesChecklist : Test → Checklist → Passing
 PassesChecklist says x h = PassesTest says × CoversChecklist x h
 
 abbrev pub FailsChecklist : Test → Checklist → Failing
-FailsChecklist says x h e = FailsTest says e ⊎ (PassesTest says × ((e ≡ Verification Uncovered) × (CoversChecklist x h → ⊥)))
+FailsChecklist says x h e =
+    FailsTest says e
+    ⊎ (PassesTest says × ((e ≡ Verification Uncovered) × (CoversChecklist x h → ⊥)))
 
 -- By the role of a certificate that names no place of its own (RFC 9323 2).
 abbrev pub ProcessesChecklist : Test → Digests → Verdicts → Bool → ℕ → HolderValue → KindValue Checklist → Result (ResourceCertValue × Checklist) ValidationError → Type 0

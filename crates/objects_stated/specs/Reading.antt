@@ -1,5 +1,5 @@
 -- Stated resources, by what is read of them.
-use Rattle.std.specs.Prelude.{List, Option}
+use Rattle.std.specs.Prelude.{List}
 use Rattle.std.specs.Option.{option_map}
 use Rattle.bcder_content.specs.Grammar.{End, Then}
 use Rattle.resources_ip.specs.bcder_tree.declared.mode.Mode.{Mode}

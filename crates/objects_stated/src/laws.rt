@@ -4,7 +4,6 @@ ghost use Rattle.std.specs.Prelude.{◌≢◌};
 ghost use Rattle.objects_stated.specs.bcder_tree.declared.mode.Mode.{Mode as ModeValue};
 ghost use Rattle.objects_stated.specs.bcder_tree.Tree.{Tree};
 ghost use Rattle.objects_stated.specs.bcder_content.Grammar.{One};
-ghost use Rattle.objects_stated.specs.resources_chain.Claims.{HasMaximal};
 ghost use Rattle.objects_stated.specs.resources_chain.declared.choice.ResourcesChoice.TheVariants.{Inherit};
 ghost use Rattle.objects_stated.specs.declared.stated.AsForm.{AsForm as AsFormValue};
 ghost use Rattle.objects_stated.specs.Stated.{IsStated, Stated};

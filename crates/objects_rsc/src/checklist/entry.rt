@@ -1,6 +1,6 @@
 //! Entries of a checklist, as they are read (RFC 9323 4.4).
 
-ghost use Rattle.std.specs.Prelude.{◌≡◌, map};
+ghost use Rattle.std.specs.Prelude.{map};
 ghost use Rattle.objects_payload.specs.bcder_content.Exact.{ReadsAs, ReadsOptAs};
 ghost use Rattle.objects_payload.specs.bcder_content.Grammar.{Inside};
 ghost use Rattle.objects_payload.specs.bcder_content.Here.{here};
