@@ -52,10 +52,12 @@ pub fn upgrade(alloc: Global, answer: &mut Answer, word: &str, bundle: Bundle) -
     match bundle.upgrade(word == "relaxed") {
         Ok(bundle) => {
             answer.word(mode_word(bundle.relaxed()));
+            answer.join(" ");
             encode(alloc, answer, &bundle)
         }
         Err((bundle, error)) => {
             answer.say(&error);
+            answer.join(" ");
             encode(alloc, answer, &bundle)
         }
     }
