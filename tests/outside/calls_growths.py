@@ -262,6 +262,11 @@ ROWS = (
         4,
     ),
     # Bundles, points, validated objects.
+    Row("objects_rsc_cases", "content", "ResourceSignedChecklist: decode", 4),
+    Row("objects_rsc_cases", "object", "Rsc: decode", 3),
+    Row("objects_rsc_cases", "process", "Rsc: process_at", 3),
+    Row("objects_rsc_cases", "process-clock", "Rsc: process", 1),
+    Row("objects_rsc_cases", "sound", "Rsc: verify_content", 1),
     Row("rpki_cases", "decode", "Bundle: decode, decode_shared", 3),
     Row("rpki_cases", "again", "Bundle: decode, encode", 3),
     Row("rpki_cases", "parts", "Bundle: from_parts, from_parts_v1", 4),
