@@ -1,6 +1,5 @@
 -- The fields of a certificate that is read can be written and read again.
 use Rattle.std.proofs.Common.{◌≡◌, ◌≢◌, ◌⊎◌, inl, inr, ℕ, ◌-◌, ◌%◌, ◌^◌, List, [], ◌∷◌, Option, Some, None, IfSome, refl, sym, ap, ◌∙◌, subst, arith}
-use Rattle.std.proofs.Math.Nat.{mod-one}
 use Rattle.certs.specs.bcder_tree.declared.mode.Mode.{Mode}
 use Rattle.certs.specs.bcder_tree.declared.mode.Mode.TheVariants.{Der}
 use Rattle.certs.specs.bcder_tree.Tags.{oid_tag}
@@ -31,11 +30,7 @@ not_cleared unused [] p = refl
 not_cleared unused (a ∷ []) p = let same : a - a % 2 ^ unused ≡ a = omega (arith, p) in ap (λ n. n ∷ []) same
 not_cleared unused (a ∷ b ∷ octets) p = ap (λ (l : List ℕ). a ∷ l) (not_cleared unused (b ∷ octets) p)
 
--- Nor have octets of which all bits are used.
-pub all_used : (octets : List ℕ) → cleared 0 octets ≡ octets
-all_used octets = let rest : last_octet octets % 2 ^ 0 ≡ 0 = mod-one (last_octet octets) in not_cleared 0 octets rest
-
-padded_same : (v : BitsValue) → IsPadded Der v → padded_in Der v ≡ v
+pub padded_same : (v : BitsValue) → IsPadded Der v → padded_in Der v ≡ v
 padded_same v p = ap (λ (o : List ℕ). (let bits : BitsValue = record { unused = v.unused; octets = o } in bits)) (not_cleared v.unused v.octets p)
 
 -- Purposes.

@@ -1,7 +1,7 @@
 -- That what is built of a certificate's fields is read again as these fields (RFC 5280 4.1, RFC 6487 4).
 use Rattle.std.specs.Prelude.{◌≡◌, ◌≢◌, ◌⊎◌, ℕ, List, [], IfSome}
 use Rattle.certs.specs.bcder_tree.declared.mode.Mode.TheVariants.{Der}
-use Rattle.certs.specs.bcder_octets.BitContents.{padded_in}
+use Rattle.certs.specs.bcder_octets.BitContents.{IsPadded, padded_in}
 use Rattle.certs.specs.bcder_content.Texts.{SpellsOf}
 use Rattle.certs.specs.bcder.Identifiers.{IsIdentifier}
 use Rattle.certs.specs.bcder_values.ListForms.{LawfulAll}
@@ -66,14 +66,16 @@ pub record IsBuilt (s : SignedDataValue) (c : TbsValue) (text : List ℕ) : Type
   pub message : WritesTbs c s.message.octets
   pub written : signed.writes (signed_fields s) Der text
 
--- The certificate with these fields, the same signed octets and algorithm, and the same signature, whose unused bits, if it has
--- some, are zero, as DER has them (X.690 11.2.1).
+-- The certificate with these fields, the same signed octets, which stand in DER, and algorithm, and the same signature, whose
+-- unused bits, if it has some, are zero, as DER has them (X.690 11.2.1).
 abbrev pub as_read : SignedDataValue → TbsValue → CertValue
 as_read s c = record {
   signed = record {
     message = s.message.octets;
     has_null = s.signature.algorithm;
     signature = (padded_in Der s.signature.bits).octets;
+    unused = s.signature.bits.unused;
+    mode = Der;
   };
   tbs = c;
 }
@@ -86,9 +88,10 @@ BuiltIsRead = (s : SignedDataValue) (c : TbsValue) (text : List ℕ) → IsLawfu
 abbrev pub BuiltIsSpelled : Type 0
 BuiltIsSpelled = (s : SignedDataValue) (c : TbsValue) (text : List ℕ) → IsLawful c → IsReadable c → IsBuilt s c text → SpellsCert Der text (as_read s c)
 
--- It is the certificate that was built, where all bits of the signature are used, as of each that is made of octets.
+-- It is the certificate that was built, where what was signed stands in DER, and the unused bits of the signature are zero, as
+-- where there are none (X.690 11.2.1).
 abbrev pub ReadIsBuilt : Type 0
-ReadIsBuilt = (s : SignedDataValue) (c : TbsValue) → s.signature.bits.unused ≡ 0 → as_read s c ≡ record { signed = signed_of s; tbs = c }
+ReadIsBuilt = (s : SignedDataValue) (c : TbsValue) → s.message.mode ≡ Der → IsPadded Der s.signature.bits → as_read s c ≡ record { signed = signed_of s; tbs = c }
 
 -- The fields of a certificate that is read are such, so that they are read again once they are written.
 abbrev pub ReadIsReadable : Type 0

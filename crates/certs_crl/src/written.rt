@@ -6,7 +6,7 @@ ghost use Rattle.certs_crl.specs.bcder_tree.declared.mode.Mode.TheVariants.{Der}
 ghost use Rattle.certs_x509.specs.bcder_values.Writable.{Writable};
 ghost use Rattle.certs_crl.specs.certs_basics.Basics.{IsTwentyLong};
 ghost use Rattle.certs_crl.specs.certs_basics.Identifiers as id;
-ghost use Rattle.certs_crl.specs.Written.{WritesCrlNumber, WritesExtension, WritesKey, WritesListExtensions, WritesTbsList};
+ghost use Rattle.certs_crl.specs.Written.{WritesCrlNumber, WritesExtension, WritesFields, WritesInDer, WritesKey, WritesListExtensions, WritesTbsList};
 ghost use Rattle.certs_name.specs.Named.{IsNamed};
 
 use crate::extensions::{CE_AUTHORITY_KEY_IDENTIFIER, CE_CRL_NUMBER};
@@ -17,7 +17,7 @@ use bcder::{ConstOid, Mode, Tag};
 use certs_basics::time::text::VariedTime;
 use certs_key::algorithm::{AlgorithmIdentifier, SignatureAlgorithm};
 use certs_name::{Name, Serial};
-use certs_x509::revoked::revoked::RevokedValues;
+use certs_x509::revoked::revoked::{EntriesValues, RevokedValues};
 use certs_x509::signed::KeyIdentifier;
 
 // The number that stands for version 2 (RFC 5280 5.1.2.1).
@@ -39,18 +39,24 @@ pub type ListExtensionValues<'a> = encode::Constructed<
     encode::Constructed<(KeyValues<'a>, NumberValues)>,
 >;
 
-/// What is written of what is signed of a list: a SEQUENCE of its fields.
-pub type TbsCertListValues<'a> = encode::Constructed<
+/// A SEQUENCE of a list's fields, with that for the entries.
+type FieldValues<'a, R> = encode::Constructed<
     (
         encode::Primitive<u8>,
         AlgorithmIdentifier,
         &'a Name,
         VariedTime,
         VariedTime,
-        RevokedValues<'a>,
+        R,
         ListExtensionValues<'a>,
     ),
 >;
+
+/// What is written of what is signed of a list: a SEQUENCE of its fields.
+pub type TbsCertListValues<'a> = FieldValues<'a, RevokedValues<'a>>;
+
+/// The same with the entries by what they say.
+pub(crate) type DerValues<'a> = FieldValues<'a, EntriesValues<'a>>;
 
 // The identifier of the issuer's key (RFC 5280 5.2.1).
 fn key_extension<'a>(key: &'a KeyIdentifier) -> KeyValues<'a>
@@ -146,24 +152,19 @@ fn name_of(name: &Name) -> &Name
 }
 
 impl TbsCertList {
-    /// What is written of it: its fields in their order, and its two extensions, the issuer's key first, not critical
-    /// (RFC 5280 5.1.2, RFC 6487 5). The name and the entries are written as they are kept.
-    ///
-    /// `CerUnsupported` in CER, and where the name or the entries stand in another mode; `TooLong` where a content has more
-    /// than 2^32 - 1 octets. Contracts don't see in which mode entries stand.
-    pub fn encode_ref<'a>(&'a self) -> TbsCertListValues<'a>
+    // Its fields in their order, with that for the entries.
+    fn with_entries<'a, R: Values>(&'a self, revoked: R) -> FieldValues<'a, R>
         ensures writes { (m : ModeValue) (text : List ℕ)
-            → ⟦<TbsCertListValues<'a> as Values>⟧.writes result m text
-            → ∥ WritesTbsList self.now m text ∥₁ }
-        ensures alone { self.now.revoked ≡ [] → (text : List ℕ) → WritesTbsList self.now Der text
-            → Writable (⟦<TbsCertListValues<'a> as Values>⟧.writes result Der) }
+            → ⟦<FieldValues<'a, R> as Values>⟧.writes result m text
+            → WritesFields (R.writes revoked m) self.now m text }
+        ensures whole { (text : List ℕ) → WritesFields (R.writes revoked Der) self.now Der text
+            → ⟦<FieldValues<'a, R> as Values>⟧.writes result Der text }
     {
         let version = VERSION.encode();
         let signature = self.signature.x509_encode();
         let issuer = name_of(&self.issuer);
         let this_update = self.this_update.encode_varied();
         let next_update = self.next_update.encode_varied();
-        let revoked = self.revoked_certs.encode_ref();
         let extensions = extensions(&self.authority_key_id, self.crl_number);
         encode::Constructed {
             tag: Tag::SEQUENCE,
@@ -177,5 +178,32 @@ impl TbsCertList {
                 extensions,
             ),
         }
+    }
+
+    /// What is written of it: its fields in their order, and its two extensions, the issuer's key first, not critical
+    /// (RFC 5280 5.1.2, RFC 6487 5). The name and the entries are written as they are kept.
+    ///
+    /// `CerUnsupported` in CER, and where the name or the entries stand in another mode; `TooLong` where a content has more
+    /// than 2^32 - 1 octets. Contracts don't see in which mode entries stand.
+    pub fn encode_ref<'a>(&'a self) -> TbsCertListValues<'a>
+        ensures writes { (m : ModeValue) (text : List ℕ)
+            → ⟦<TbsCertListValues<'a> as Values>⟧.writes result m text
+            → ∥ WritesTbsList self.now m text ∥₁ }
+        ensures alone { self.now.revoked ≡ [] → (text : List ℕ) → WritesTbsList self.now Der text
+            → Writable (⟦<TbsCertListValues<'a> as Values>⟧.writes result Der) }
+    {
+        let revoked = self.revoked_certs.encode_ref();
+        self.with_entries(revoked)
+    }
+
+    // What is written of it in DER, with the entries by what they say.
+    pub(crate) fn encode_in_der<'a>(&'a self) -> DerValues<'a>
+        ensures writes { (text : List ℕ)
+            → ⟦<DerValues<'a> as Values>⟧.writes result Der text → WritesInDer self.now text }
+        ensures whole { (text : List ℕ)
+            → WritesInDer self.now text → ⟦<DerValues<'a> as Values>⟧.writes result Der text }
+    {
+        let revoked = self.revoked_certs.encode_entries();
+        self.with_entries(revoked)
     }
 }

@@ -56,18 +56,6 @@ algorithm_some kind false =
     (more (primitive (universal 6) kind) none, record { content = kind; is = record { same = refl }; whole = refl })
     (none, refl))
 
--- A certificate.
-pub cert_some : (c : CertValue) → SpellsValues Der c.signed.message → Some (signed.trees (signed_fields (cert_value c)) Der)
-cert_some c s =
-    wrapped_some (both_some (kept_some c.signed.message s) (both_some (algorithm_some _ c.signed.has_null) bits_some))
-  where
-    bits_some : Some (bits.trees (cert_value c).signature.bits Der)
-    bits_some =
-        let v = (cert_value c).signature.bits in
-        let few : 0 < 8 = omega arith in
-        let is = written Der v (record { few = few; none = λ e. refl }) (λ e. let d : Der ≡ Cer = e in absurd cc) in
-        (more (primitive (universal 3) _) none, record { content = _; is = is; whole = refl })
-
 -- A signer, and the object.
 signer_some : (s : SignerParts) → Some ((kept s.attributes).trees Der) → Some ((signer s).trees Der)
 signer_some s p =

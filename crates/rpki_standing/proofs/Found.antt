@@ -7,7 +7,7 @@ use Rattle.rpki_rules.specs.Points.{IsCrlOf, files}
 use Rattle.rpki_rules.specs.Words.{Mem}
 use Rattle.rpki_rules.specs.World.{World, at}
 use Rattle.rpki_standing.proofs.Failing.{one_value}
-use Rattle.rpki_standing.specs.Crls.{Finds, IsCrlAt, IsListAt, IsListOf}
+use Rattle.rpki_standing.specs.Crls.{Finds, IsCrlAt, IsListAt, IsListOf, as_read}
 
 -- What is found in the octets is found at the URI that has them.
 pub list_told : (w : World) (uri octets : List ℕ) (found : Option Crl) → at w uri ≡ Some octets → Finds (CrlText octets) found → Finds (IsListAt w uri) found
@@ -59,3 +59,7 @@ pub found_told : (w : World) (uri : List ℕ) (keys : List (List ℕ)) (ca ee : 
     → Finds (IsCrlAt w uri keys ca ee) found → Finds (IsCrlOf w ca o m) found
 found_told w uri keys ca ee o m None e f g h = λ crl s. h crl (crl_at w uri keys ca ee o m crl e f g s)
 found_told w uri keys ca ee o m (Some crl) e f g h = crl_of w uri keys ca ee o m crl e f g h
+
+-- Of a list that is read no serial numbers are kept aside.
+pub read_uncached : {octets : List ℕ} {crl : Crl} → CrlText octets crl → as_read crl ≡ crl
+read_uncached p = ap as_read p.is.says ∙ sym p.is.says

@@ -1,10 +1,14 @@
 -- The revocation list of a publication point, by where it stands (RFC 6487 5, RFC 9286 6.2).
-use Rattle.std.specs.Prelude.{◌≡◌, ℕ, true, List, Option, Some, None}
+use Rattle.std.specs.Prelude.{◌≡◌, ℕ, false, true, List, Option, Some, None}
 use Rattle.rpki_standing.specs.certs_basics.Uris.{lookup_key}
 use Rattle.rpki_rules.specs.Certs.{Cert, Crl, CrlText}
 use Rattle.rpki_rules.specs.Words.{Mem}
 use Rattle.rpki_rules.specs.World.{World, at}
 use Rattle.rpki_standing.specs.Lists.{Suits}
+
+-- The list as it was read, where its serial numbers are kept aside.
+abbrev pub as_read : Crl → Crl
+as_read crl = record crl { caches = false }
 
 -- The octets that are held at the URI begin with the list.
 pub record IsListAt (w : World) (uri : List ℕ) (crl : Crl) : Type 0 where

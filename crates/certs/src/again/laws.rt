@@ -11,7 +11,7 @@ use resources_ip::laws::{
 /// What is written of a certificate's fields is read again as these fields, and what is written of the certificate that
 /// is built of them as one that has them: where some kind of resources is there, and IPv4 resources are over whole
 /// addresses (RFC 6487 4.8.10, 4.8.11; RFC 3779 2.2.3). The signature is the same but for its unused bits, which are zero
-/// in DER (X.690 11.2.1); where it has none, so is the certificate.
+/// in DER (X.690 11.2.1); where they were, and what was signed stands in DER, so is the certificate.
 pub fn what_is_built_is_read()
     ensures fields { FieldsAreRead }
     ensures cert { BuiltIsRead }
