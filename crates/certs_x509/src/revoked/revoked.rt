@@ -183,13 +183,12 @@ impl RevokedCertificates {
         ensures tag { IfSome result (λ v. v.tag ≡ sequence_tag) }
         ensures entries { IfSome result (λ v. v.inner.0 ≡ self.now) }
     {
-        if self.octets.as_slice().is_empty() {
+        let octets = self.octets.as_slice();
+        if octets.is_empty() {
             return None;
         }
-        Some(encode::Constructed {
-            tag: Tag::SEQUENCE,
-            inner: encode::iter(EntryWalk::new(self.iter())),
-        })
+        let entries = EntryWalk::new(self.iter());
+        Some(encode::sequence(encode::iter(entries)))
     }
 }
 

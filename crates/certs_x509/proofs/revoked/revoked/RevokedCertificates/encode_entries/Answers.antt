@@ -6,12 +6,12 @@ use Rattle.certs_x509.proofs.revoked.revoked.RevokedCertificates.encode_entries.
 pub returns-then-is_empty-clause-none : goal.returns-then-is_empty-clause-none
 returns-then-is_empty-clause-none c =
     none_of c.self.inside.octets c.self.inside.listing c.args.self.now c.self.view_is
-    (sym c.as_slice.ensures.octets ∙ no_length c.as_slice.result.now ((unsigned_Decides (length c.as_slice.result.now) 0).0 (sym c.is_empty.ensures ∙ c.if-is_empty.true)))
+    (sym c.as_slice-octets.ensures.octets ∙ no_length c.as_slice-octets.result.now ((unsigned_Decides (length c.as_slice-octets.result.now) 0).0 (sym c.is_empty.ensures ∙ c.if-is_empty.true)))
 
 pub returns-clause-some : goal.returns-clause-some
 returns-clause-some c =
     some_of c.self.inside.octets c.self.inside.listing c.args.self.now c.self.view_is
     (λ e.
-    let none : length c.as_slice.result.now ≡ 0 = ap length (c.as_slice.ensures.octets ∙ e) in
-    let wrong : true ≡ false = sym ((unsigned_Decides (length c.as_slice.result.now) 0).1 none) ∙ sym c.is_empty.ensures ∙ c.if-is_empty.false in
+    let none : length c.as_slice-octets.result.now ≡ 0 = ap length (c.as_slice-octets.ensures.octets ∙ e) in
+    let wrong : true ≡ false = sym ((unsigned_Decides (length c.as_slice-octets.result.now) 0).1 none) ∙ sym c.is_empty.ensures ∙ c.if-is_empty.false in
     absurd cc)
