@@ -1,7 +1,5 @@
 //! Entries that are written of what they say, whatever octets they were read of (RFC 5280 5.1.2.6).
 
-ghost use Rattle.std.specs.Prelude.{◌≡◌};
-
 use crate::revoked::entry::CrlEntry;
 use crate::revoked::iter::RevokedCertificatesIter;
 use crate::revoked::written::AsEntries;
@@ -47,7 +45,7 @@ impl Values for EntryValue {
 /// Entries that are still to come, in their order. Contracts see them.
 #[derive(Drop)]
 pub struct EntryWalk<'a> {
-    rest: RevokedCertificatesIter<'a>,
+    pub(crate) rest: RevokedCertificatesIter<'a>,
 }
 
 impl<'a> Model for EntryWalk<'a> {
@@ -57,15 +55,6 @@ impl<'a> Model for EntryWalk<'a> {
     ghost Value = { List RevokedValue };
 
     ghost view = { λ w. w.rest };
-}
-
-impl<'a> EntryWalk<'a> {
-    // The entries that are left.
-    pub(crate) fn new(rest: RevokedCertificatesIter<'a>) -> EntryWalk<'a>
-        ensures { result ≡ rest }
-    {
-        EntryWalk { rest }
-    }
 }
 
 impl<'a> Walk for EntryWalk<'a> {
@@ -79,6 +68,8 @@ impl<'a> Walk for EntryWalk<'a> {
     }
 
     fn again(&self) -> EntryWalk<'a> {
-        EntryWalk::new(self.rest.again())
+        EntryWalk {
+            rest: self.rest.again(),
+        }
     }
 }

@@ -187,8 +187,11 @@ impl RevokedCertificates {
         if octets.is_empty() {
             return None;
         }
-        let entries = EntryWalk::new(self.iter());
-        Some(encode::sequence(encode::iter(entries)))
+        let tag = Tag::SEQUENCE;
+        Some(encode::Constructed {
+            tag,
+            inner: encode::Iter(EntryWalk { rest: self.iter() }),
+        })
     }
 }
 

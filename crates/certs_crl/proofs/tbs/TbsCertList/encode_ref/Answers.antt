@@ -1,25 +1,28 @@
-use Rattle.std.proofs.Common.{◌≡◌, [], sym, subst, ap, ◌∙◌}
+use Rattle.std.proofs.Common.{◌≡◌, [], ap, refl}
 use Rattle.certs_crl.specs.bcder_tree.declared.mode.Mode.TheVariants.{Der}
 use Rattle.certs_x509.specs.bcder_primitive.Encoded.{WritesWrapped}
 use Rattle.certs_x509.specs.bcder_values.Captures.{CapturedText}
 use Rattle.certs_x509.specs.certs_extension.CrlText.{TbsListValue}
-use Rattle.certs_crl.proofs.Alone.{alone_written, none_back}
-use Rattle.certs_crl.proofs.Inside.{list_of}
-use Rattle.certs_crl.proofs.Writing.{list_as, revoked_as}
+use Rattle.certs_crl.proofs.Alone.{alone_written, list_back, none_back}
+use Rattle.certs_crl.proofs.Writing.{list_as, list_by, revoked_as}
 use Rattle.certs_crl.proofs.tbs.TbsCertList.encode_ref.Goals as goal
 
 pub returns-clause-writes : goal.returns-clause-writes
 returns-clause-writes c = λ m text w.
-    let list = list_of c.self.inside in
+    let list = c.args.self.now in
+    let p = c.parts.ensures in
     let same = ap (λ (z : TbsListValue). z.revoked) c.self.view_is in
-    list_as c.args.self.now m text
-    (λ part h. revoked_as (λ v. v.tag) (λ v. v.inner.now) c.args.self.now.revoked m part c.encode_ref-revoked.result (rw same at c.encode_ref-revoked.ensures.none) c.encode_ref-revoked.ensures.tag
+    let o = c.encode_ref-revoked.result in
+    list_as list m text
+    (λ part h. revoked_as (λ v. v.tag) (λ v. v.inner.now) list.revoked m part o (rw same at c.encode_ref-revoked.ensures.none) c.encode_ref-revoked.ensures.tag
     (rw same at c.encode_ref-revoked.ensures.octets) h)
-    (c.with_entries.ensures.writes m text w)
+    (list_by list m text p.long p.named refl p.version_tag p.version p.signature p.issuer p.this_update p.next_update (λ part h. p.writes m part h) w)
 
 pub returns-clause-alone : goal.returns-clause-alone
 returns-clause-alone c = λ none text w.
+    let list = c.args.self.now in
+    let p = c.parts.ensures in
     let same = ap (λ (z : TbsListValue). z.revoked) c.self.view_is in
-    alone_written c.args.self.now
-    (none_back (λ v. WritesWrapped Der v.tag (CapturedText v.inner.now Der)) c.encode_ref-revoked.result (rw same at c.encode_ref-revoked.ensures.some) none)
-    (λ o h. c.with_entries.ensures.whole o h) text w
+    let o = c.encode_ref-revoked.result in
+    alone_written list (none_back (λ v. WritesWrapped Der v.tag (CapturedText v.inner.now Der)) o (rw same at c.encode_ref-revoked.ensures.some) none)
+    (λ octets h. list_back list refl p.version_tag p.version p.signature p.issuer p.this_update p.next_update (λ part k. p.whole Der part k) octets h) text w
