@@ -1,6 +1,6 @@
 //! Signed data, written.
 
-ghost use Rattle.std.specs.Prelude.{◌≡◌, IfErr, IfOk};
+ghost use Rattle.std.specs.Prelude.{◌≡◌, ◌↔◌, IfErr, IfOk, IsTrue};
 ghost use Rattle.certs_x509.specs.bcder_tree.declared.mode.Mode.TheVariants.{Der};
 ghost use Rattle.certs_x509.specs.Captured.{RefusesSigned, WritesSigned, signed_of};
 ghost use Rattle.certs_x509.specs.Signed.{lends, signed_lends};
@@ -45,6 +45,13 @@ impl SignedData {
 }
 
 impl<'a> SignedDataValues<'a> {
+    // Whether what was signed stands in DER.
+    fn is_der(&self) -> bool
+        ensures { IsTrue result ↔ (self.now.message.mode ≡ Der) }
+    {
+        self.signed.data().mode().is_der()
+    }
+
     /// What is written in DER. `CerUnsupported` where the octets that were signed stand in another mode; `TooLong` where
     /// they stand in DER, and a content would have more than 2^32 - 1 octets; `Memory` only where something can be written.
     pub fn in_der(&self, alloc: Global) -> Result<Captured, EncodeError>
@@ -52,13 +59,15 @@ impl<'a> SignedDataValues<'a> {
         ensures mode { IfOk result (λ c. c.mode ≡ Der) }
         ensures refused { IfErr result (RefusesSigned (signed_of self.now)) }
     {
-        if !self.signed.data().mode().is_der() {
+        if !self.is_der() {
             return Err(EncodeError::CerUnsupported);
         }
         match self.to_captured(alloc, Mode::Der) {
             Ok(captured) => Ok(captured),
-            Err(EncodeError::Memory) => Err(EncodeError::Memory),
-            Err(_) => Err(EncodeError::TooLong),
+            Err(error) => match error {
+                EncodeError::Memory => Err(EncodeError::Memory),
+                _ => Err(EncodeError::TooLong),
+            },
         }
     }
 
