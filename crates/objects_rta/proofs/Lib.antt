@@ -1,0 +1,6 @@
+pub mod Repeated
+mod Ones
+mod Spelled
+mod Lists
+mod Whole
+mod Texts
