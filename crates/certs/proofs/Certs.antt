@@ -4,7 +4,7 @@ use Rattle.certs.specs.bcder_tree.declared.mode.Mode.TheVariants.{Ber, Der}
 use Rattle.certs.specs.bcder_tree.Tags.{sequence_tag}
 use Rattle.certs.specs.bcder_tree.Tree.{SpellsAll, Trees, constructed}
 use Rattle.certs.specs.bcder_octets.Bits.{BitsValue}
-use Rattle.certs.specs.bcder_octets.BitContents.{IsBitString, bit_string_tag, cleared, padded_in}
+use Rattle.certs.specs.bcder_octets.BitContents.{IsBitString, IsPadded, bit_string_tag, cleared, padded_in}
 use Rattle.certs.specs.bcder_content.Grammar.{OctetsOf}
 use Rattle.certs.specs.bcder_content.Kept.{CapturedValue}
 use Rattle.certs.specs.bcder_content.Texts.{SpellsOf}
@@ -12,13 +12,15 @@ use Rattle.certs.specs.bcder_content.Words.{Kept}
 use Rattle.certs.specs.bcder.Kinds.{bits}
 use Rattle.certs.specs.bcder_values.Captures.{CapturedTrees}
 use Rattle.certs.specs.bcder_values.Forms.{Alone}
+use Rattle.certs.specs.certs_basics.Keys.{KeyValue}
+use Rattle.certs.specs.certs_key.Cleared.{key_again}
 use Rattle.certs.specs.certs_x509.Signed.{SignedDataValue, signed, signed_fields}
 use Rattle.certs.specs.certs_extension.Cert.{CertValue, TbsValue}
 use Rattle.certs.specs.certs_extension.CertText.{IsCert, IsTbs}
 use Rattle.certs.specs.certs_extension.Spellings.{CertIsSpelled}
-use Rattle.certs.specs.Laws.{BuiltIsRead, BuiltIsSpelled, ReadIsBuilt, as_read}
+use Rattle.certs.specs.Laws.{BuiltIsRead, BuiltIsSpelled, FieldsStay, ReadIsBuilt, as_read, fields_again}
 use Rattle.certs.proofs.Ext.{one_of_all}
-use Rattle.certs.proofs.Readable.{all_used}
+use Rattle.certs.proofs.of_certs_key.Padded.{all_used}
 use Rattle.certs.proofs.ValuesRead.{ResourcesAreRead}
 use Rattle.certs.proofs.Whole.{algorithm_read, fields_are_read, last_read, only_tree, then_read}
 
@@ -65,9 +67,9 @@ pub built_is_spelled : ResourcesAreRead → CertIsSpelled → BuiltIsSpelled
 built_is_spelled reads spelled s c text lawful readable built =
     let w = signed.spelled (signed_fields s) Der text built.written in
     let fields = fields_are_read reads c s.message.octets lawful readable built.message in
-    let a = cert_read s c fields w.trees w.is in
+    let a = cert_read s (fields_again c) fields w.trees w.is in
     let one = one_of_all text a.alone w.spelled in
-    (spelled a.tree text (as_read s c) one).0 a.is
+    (spelled a.tree text (as_read s (fields_again c)) one).0 a.is
 
 pub built_is_read : ResourcesAreRead → CertIsSpelled → BuiltIsRead
 built_is_read reads spelled s c text lawful readable built =
@@ -79,3 +81,7 @@ read_is_built s c used =
     let v = s.signature.bits in
     let same : cleared v.unused v.octets ≡ v.octets = ap (λ n. cleared n v.octets) used ∙ all_used v.octets in
     ap (λ (o : List ℕ). (let made : CertValue = record { signed = record { message = s.message.octets; has_null = s.signature.algorithm; signature = o }; tbs = c } in made)) same
+
+-- The fields are the same, where the key is the same again.
+pub fields_stay : ((k : KeyValue) → IsPadded Der k.bits → key_again Der k ≡ k) → FieldsStay
+fields_stay stays c p = ap (λ (k : KeyValue). record c { key = k }) (stays c.key p)

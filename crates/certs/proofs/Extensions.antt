@@ -10,6 +10,7 @@ use Rattle.certs.specs.certs_extension.CertAccess.{IsSubjectAccess}
 use Rattle.certs.specs.certs_extension.Cert.{TbsValue}
 use Rattle.certs.specs.certs_extension.CertText.{AreAsResources, AreIpResources, HasExtensions}
 use Rattle.certs.specs.certs_extension.Extensions.{Extension, IsAuthorityAccess, IsAuthorityKeyIdentifier, IsBasicConstraints, IsCrlDistribution, IsExtendedKeyUsage, IsExtension, IsKeyUsage, IsOptional, IsPolicies, IsSubjectKeyIdentifier, May, Must, MustNot, of_kind}
+use Rattle.certs.specs.certs_extension.Purposes.{AreKeyPurposes}
 use Rattle.certs.specs.resources_as.Encodings.{IsAsResources}
 use Rattle.certs.specs.resources_chain.declared.claims.Overclaim.{Overclaim}
 use Rattle.certs.specs.resources_chain.declared.claims.Overclaim.TheVariants.{Refuse, Trim}
@@ -20,7 +21,7 @@ use Rattle.certs.specs.Resources.{said_families, said_numbers}
 use Rattle.certs.specs.Values as values
 use Rattle.certs.specs.Values.{some_access}
 use Rattle.certs_basics.specs.Uris.{IsRsync}
-use Rattle.certs.specs.Laws.{ArePurposes, IsLawful, IsReadable}
+use Rattle.certs.specs.Laws.{IsLawful, IsReadable}
 use Rattle.certs.specs.Tbs.{extensions, key_parts, place_parts, resource_parts, written_keys, written_places, written_resources}
 use Rattle.certs.proofs.Access.{many_both, many_end}
 use Rattle.certs.proofs.Items.{all_known, flat, flat_append, item, of_none, of_only, there}
@@ -78,8 +79,8 @@ record ReadsKeys (c : TbsValue) (ts : Trees) : Type 0 where
       (there id.basic_constraints true basic ++ (there id.subject_key_identifier false subject ++ (there id.authority_key_identifier false authority
       ++ (there id.key_usage true usage ++ (there id.extended_key_usage false purposes ++ [])))))
 
-keys_read : (c : TbsValue) → IsLawful c → IsReadable c → (ts : Trees) → (written_keys (key_parts c)).trees Der ts → ReadsKeys c ts
-keys_read c lawful readable ts p =
+keys_read : (c : TbsValue) → IsLawful c → (ts : Trees) → (written_keys (key_parts c)).trees Der ts → ReadsKeys c ts
+keys_read c lawful ts p =
     let q = p.is_second in
     let r = q.is_second in
     let s = r.is_second in
@@ -90,7 +91,7 @@ keys_read c lawful readable ts p =
     (λ x e. authority_key_read x (listed.some_is IsTwentyLong lawful.authority_key e)) r.first r.is_first in
     let usage = listed.one_read id.key_usage true Must values.key_usage (Some c.key_usage) refl usage_identifies (λ x e. usage_read x) s.first s.is_first in
     let purposes = listed.one_read id.extended_key_usage false MustNot values.purposes c.extended_key_usage refl purposes_identifies
-    (λ x e. let are = listed.some_is ArePurposes readable.purposes e in purposes_read x are.some are.identify) s.second s.is_second in
+    (λ x e. let are = listed.some_is AreKeyPurposes lawful.purposes e in purposes_read x are.some are.identify) s.second s.is_second in
     let of_purposes : List Extension = there id.extended_key_usage false purposes.found ++ [] in
     let of_usage : List Extension = there id.key_usage true usage.found ++ of_purposes in
     let of_authority : List Extension = there id.authority_key_identifier false authority.found ++ of_usage in
@@ -197,7 +198,7 @@ some_there c ips asns readable p q = elim readable.some [
 pub extensions_read : ResourcesAreRead → (c : TbsValue) → IsLawful c → IsReadable c → (ts : Trees) → (extensions c).trees Der ts → ReadsAllOf c ts
 extensions_read reads c lawful readable ts p =
     let v = c.overclaim in
-    let k = keys_read c lawful readable p.first p.is_first in
+    let k = keys_read c lawful p.first p.is_first in
     let q = p.is_second in
     let n = places_read c lawful q.first q.is_first in
     let r = resources_read reads c lawful readable q.second q.is_second in

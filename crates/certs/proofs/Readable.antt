@@ -1,20 +1,13 @@
 -- The fields of a certificate that is read can be written and read again.
-use Rattle.std.proofs.Common.{◌≡◌, ◌≢◌, ◌⊎◌, inl, inr, ℕ, ◌-◌, ◌%◌, ◌^◌, List, [], ◌∷◌, Option, Some, None, IfSome, refl, sym, ap, ◌∙◌, subst, arith}
-use Rattle.std.proofs.Math.Nat.{mod-one}
+use Rattle.std.proofs.Common.{◌≡◌, ◌≢◌, ◌⊎◌, inl, inr, ℕ, List, [], ◌∷◌, refl, sym, ◌∙◌, subst}
 use Rattle.certs.specs.bcder_tree.declared.mode.Mode.{Mode}
 use Rattle.certs.specs.bcder_tree.declared.mode.Mode.TheVariants.{Der}
-use Rattle.certs.specs.bcder_tree.Tags.{oid_tag}
-use Rattle.certs.specs.bcder_tree.Tree.{Tree, Trees}
-use Rattle.certs.specs.bcder_octets.Bits.{BitsValue}
-use Rattle.certs.specs.bcder_octets.BitContents.{IsPadded, cleared, last_octet, padded_in}
-use Rattle.certs.specs.bcder_content.Grammar.{ManyCases, OctetsOf}
-use Rattle.certs.specs.bcder.Identifiers.{IsIdentifier, IsOid}
-use Rattle.certs.specs.bcder_values.ListForms.{LawfulAll}
-use Rattle.certs.specs.certs_basics.Basics.{IsSmallEnough}
+use Rattle.certs.specs.bcder_tree.Tree.{Tree}
+use Rattle.certs.specs.bcder_octets.BitContents.{IsPadded}
 use Rattle.certs.specs.certs_basics.Keys.{KeyValue}
 use Rattle.certs.specs.certs_extension.Cert.{CertValue, TbsValue}
 use Rattle.certs.specs.certs_extension.CertText.{AreAsResources, AreIpResources, SpellsTbs}
-use Rattle.certs.specs.certs_extension.Extensions.{Extension, IsExtendedKeyUsage, IsOptional, MustNot}
+use Rattle.certs.specs.certs_extension.Extensions.{Extension}
 use Rattle.certs.specs.resources_as.Encodings.{IsAsResources}
 use Rattle.certs.specs.resources_chain.Claims.{Choice}
 use Rattle.certs.specs.resources_chain.Sets.{Run}
@@ -23,39 +16,7 @@ use Rattle.certs.specs.resources_ip.Encodings.{FamilyChoices, IsIpAddrBlocks}
 use Rattle.certs.specs.resources_ip.Written.{FitsChoice}
 use Rattle.certs.specs.resources_ip_prefix.declared.addr.AddressFamily.TheVariants.{Ipv4}
 use Rattle.resources_ip.specs.WholeSets.{ListsWhole}
-use Rattle.certs.specs.Laws.{ArePurposes, IsReadable, ReadIsReadable}
-
--- Octets whose last one has no unused bits that are set have none to clear.
-not_cleared : (unused : ℕ) (octets : List ℕ) → last_octet octets % 2 ^ unused ≡ 0 → cleared unused octets ≡ octets
-not_cleared unused [] p = refl
-not_cleared unused (a ∷ []) p = let same : a - a % 2 ^ unused ≡ a = omega (arith, p) in ap (λ n. n ∷ []) same
-not_cleared unused (a ∷ b ∷ octets) p = ap (λ (l : List ℕ). a ∷ l) (not_cleared unused (b ∷ octets) p)
-
--- Nor have octets of which all bits are used.
-pub all_used : (octets : List ℕ) → cleared 0 octets ≡ octets
-all_used octets = let rest : last_octet octets % 2 ^ 0 ≡ 0 = mod-one (last_octet octets) in not_cleared 0 octets rest
-
-padded_same : (v : BitsValue) → IsPadded Der v → padded_in Der v ≡ v
-padded_same v p = ap (λ (o : List ℕ). (let bits : BitsValue = record { unused = v.unused; octets = o } in bits)) (not_cleared v.unused v.octets p)
-
--- Purposes.
-identified : (ts : Trees) (xs : List (List ℕ)) → ManyCases (OctetsOf oid_tag IsOid) ts xs → LawfulAll IsIdentifier xs
-identified ts [] p = tt
-identified ts (x ∷ xs) p = (subst (λ (o : List ℕ). IsIdentifier o) p.3.is.same p.3.is.is, identified p.1 xs p.4)
-
-purposes_are : (t : Tree) (xs : List (List ℕ)) → IsExtendedKeyUsage t xs → ArePurposes xs
-purposes_are t xs p = record {
-  some = p.is.says.1;
-  identify = subst (λ (ys : List (List ℕ)). LawfulAll IsIdentifier ys) p.is.says.0 (identified p.values p.is.xs p.is.are.cases);
-}
-
-told_purposes : (es : List Extension) (o : Option (List (List ℕ))) → IsOptional MustNot IsExtendedKeyUsage es o → IfSome o ArePurposes
-told_purposes [] None p = tt
-told_purposes [] (Some xs) p = absurd p
-told_purposes (e ∷ []) None p = tt
-told_purposes (e ∷ []) (Some xs) p = purposes_are p.1.is.tree xs p.1.is.is
-told_purposes (e ∷ f ∷ es) None p = tt
-told_purposes (e ∷ f ∷ es) (Some xs) p = absurd p
+use Rattle.certs.specs.Laws.{IsReadable, ReadIsReadable}
 
 -- AS resources.
 inherit_is_said : (choice : Choice) → choice ≡ Inherit → choice ≢ Missing
@@ -110,20 +71,22 @@ module _ (fit : (m : Mode) (t : Tree) (x : FamilyChoices) → IsIpAddrBlocks m t
   -- What is signed of a certificate.
   tbs_readable : (c : TbsValue) (text : List ℕ) → SpellsTbs Der text c → IsReadable c
   tbs_readable c text p =
-      let extensions = p.says.extensions in
-      let resources = extensions.resources in
-      let serial = p.is.is.rest in
-      let key = serial.rest.rest.rest.rest.rest in
-      let bits = key.is.is.is.are.rest.is.is in
+      let resources = p.says.extensions.resources in
       record {
-        serial = subst (λ n. IsSmallEnough n) (sym p.says.serial) serial.is.is.meets;
         some = some_said _ _ c.v4 c.v6 c.asn resources.ip resources.asn resources.some;
         whole = ip_whole _ c.v4 c.v6 resources.ip;
-        purposes = told_purposes _ c.extended_key_usage extensions.extended_key_usage;
-        padded = subst (λ (k : KeyValue). padded_in Der k.bits ≡ k.bits) (sym p.says.key) (padded_same _ bits.padded);
       }
+
+  -- Its key has zeros for unused bits.
+  tbs_padded : (c : TbsValue) (text : List ℕ) → SpellsTbs Der text c → IsPadded Der c.key.bits
+  tbs_padded c text p =
+      let key = p.is.is.rest.rest.rest.rest.rest.rest in
+      let bits = key.is.is.is.are.rest.is.is in
+      subst (λ (k : KeyValue). IsPadded Der k.bits) (sym p.says.key) bits.padded
 
   pub read_is_readable : ReadIsReadable
   read_is_readable octets c p =
       let cert = p.is in
-      subst (λ (k : CertValue). IsReadable k.tbs) (sym cert.says) (tbs_readable cert.fields.0.1 _ cert.is.is.is.is)
+      let tbs = cert.is.is.is.is in
+      subst (λ (k : CertValue). IsReadable k.tbs × IsPadded Der k.tbs.key.bits) (sym cert.says)
+      (tbs_readable cert.fields.0.1 _ tbs, tbs_padded cert.fields.0.1 _ tbs)

@@ -65,9 +65,9 @@ pub not_written : {A : Type 0} {v c : TbsValue} (r : Result A EncodeError) → v
 not_written {v = v} r same p m = subst (λ (z : TbsValue). IfErr r (NotWritten z)) same (none_written v r p m)
 
 -- Whatever the signer answers, the fields can be written.
-pub any_refused : {E : Type 0} (c : TbsValue) (e : SigningError E) → e ≢ errors.TooLong → CanBeWritten c → SigningRefused c e
-any_refused c errors.KeyNotFound n w = w
-any_refused c errors.IncompatibleKey n w = w
-any_refused c (errors.Signer e) n w = w
-any_refused c errors.TooLong n w = absurd (n refl)
-any_refused c errors.Memory n w = w
+pub any_refused : {E : Type 0} (refuses : SigningError E → Type 0) (c : TbsValue) (e : SigningError E) → e ≢ errors.TooLong → refuses e → CanBeWritten c → SigningRefused refuses c e
+any_refused refuses c errors.KeyNotFound n r w = (w, r)
+any_refused refuses c errors.IncompatibleKey n r w = (w, r)
+any_refused refuses c (errors.Signer e) n r w = (w, r)
+any_refused refuses c errors.TooLong n r w = absurd (n refl)
+any_refused refuses c errors.Memory n r w = w

@@ -13,8 +13,9 @@ use Rattle.certs.specs.bcder_values.Wraps.{one_spelled}
 use Rattle.certs.specs.bcder_primitive.Encoded.{joined}
 use Rattle.certs.specs.certs_key.Algorithms.{x509_algorithm}
 use Rattle.certs.specs.certs_basics.Basics.{IsAlgorithm, IsSerial, IsSmallEnough}
-use Rattle.certs.specs.certs_basics.Keys.{IsKey, KeyValue}
+use Rattle.certs.specs.certs_basics.Keys.{IsKey}
 use Rattle.certs.specs.certs_basics.Names.{IsKeptName}
+use Rattle.certs.specs.certs_key.Cleared.{key_again}
 use Rattle.certs.specs.certs_key.Forms as keys
 use Rattle.certs.specs.certs_extension.Cert.{TbsValue}
 use Rattle.certs.specs.certs_extension.CertText.{HasExtensions, IsTbs, IsVersion}
@@ -28,7 +29,7 @@ use Rattle.certs.specs.Fields as fields
 use Rattle.certs.specs.Fields.{PlainTrees}
 use Rattle.certs.specs.Outputs.{IsReadAs, inside}
 use Rattle.certs_name.specs.Named.{IsNamed}
-use Rattle.certs.specs.Laws.{FieldsAreRead, IsLawful, IsReadable}
+use Rattle.certs.specs.Laws.{FieldsAreRead, IsLawful, IsReadable, fields_again}
 use Rattle.certs.specs.Tbs.{extensions, tbs}
 use Rattle.certs.proofs.Ext.{one_of_all}
 use Rattle.certs.proofs.Extensions.{extensions_read}
@@ -119,11 +120,8 @@ validity_read a b ts p =
       is = record { values = p.values; whole = refl; is = then_read p.is.second first (last_read second) p.is.whole };
     }
 
-key_read : (c : TbsValue) → IsLawful c → IsReadable c → IsReadAs (IsKey Der) c.key (fields.public_key c.key)
-key_read c lawful readable ts p =
-    let a = keys.key.is_read tt c.key Der ts lawful.key p in
-    let same : keys.key.again Der c.key ≡ c.key = ap (λ b. (let k : KeyValue = record { format = c.key.format; bits = b } in k)) readable.padded in
-    record { tree = a.tree; alone = a.alone; is = subst (λ (k : KeyValue). IsKey Der a.tree k) same a.is }
+key_read : (c : TbsValue) → IsLawful c → IsReadAs (IsKey Der) (key_again Der c.key) (fields.public_key c.key)
+key_read c lawful ts p = keys.key.is_read tt c.key Der ts lawful.key p
 
 -- The list of extensions, in its tags.
 abbrev the_list : List Extension → List Extension → Type 0
@@ -160,7 +158,29 @@ list_read reads c lawful readable ts p =
       has = r.has;
     }
 
-tbs_read : ResourcesAreRead → (c : TbsValue) → IsLawful c → IsReadable c → IsReadAs (IsTbs Der) c (tbs c)
+-- The extensions don't tell of the key.
+has_again : (all : List Extension) (c : TbsValue) → HasExtensions all c → HasExtensions all (fields_again c)
+has_again all c h = record {
+  skipped = h.skipped;
+  basic_constraints = h.basic_constraints;
+  subject_key_identifier = h.subject_key_identifier;
+  authority_key_identifier = h.authority_key_identifier;
+  key_usage = h.key_usage;
+  extended_key_usage = h.extended_key_usage;
+  crl_distribution = h.crl_distribution;
+  authority_access = h.authority_access;
+  subject_access = h.subject_access;
+  policies = h.policies;
+  resources = record {
+    ip = h.resources.ip;
+    asn = h.resources.asn;
+    no_other_ip = h.resources.no_other_ip;
+    no_other_asn = h.resources.no_other_asn;
+    some = h.resources.some;
+  };
+}
+
+tbs_read : ResourcesAreRead → (c : TbsValue) → IsLawful c → IsReadable c → IsReadAs (IsTbs Der) (fields_again c) (tbs c)
 tbs_read reads c lawful readable ts p =
     let version = p.is in
     let serial = version.is_second in
@@ -172,21 +192,21 @@ tbs_read reads c lawful readable ts p =
     let list = list_read reads c lawful readable key.second key.is_second in
     let body =
     then_read version.second (version_read version.first version.is_first)
-    (then_read serial.second (serial_read c.serial readable.serial serial.first serial.is_first)
+    (then_read serial.second (serial_read c.serial lawful.serial serial.first serial.is_first)
     (then_read algorithm.second (algorithm_read c.has_null algorithm.first algorithm.is_first)
     (then_read issuer.second (name_read c.issuer lawful.issuer issuer.first issuer.is_first)
     (then_read validity.second (validity_read c.not_before c.not_after validity.first validity.is_first)
     (then_read subject.second (name_read c.subject lawful.subject subject.first subject.is_first)
-    (then_read key.second (key_read c lawful readable key.first key.is_first)
+    (then_read key.second (key_read c lawful key.first key.is_first)
     (last_read list.read)
     key.whole) subject.whole) validity.whole) issuer.whole) algorithm.whole) serial.whole) version.whole in
     record {
       tree = constructed sequence_tag p.values;
       alone = p.whole;
       is = record {
-        fields = ((tt, tt), (c.serial, (c.has_null, (c.issuer, ((c.not_before, (c.not_after, tt)), (c.subject, (c.key, ((list.all, tt), tt))))))));
+        fields = ((tt, tt), (c.serial, (c.has_null, (c.issuer, ((c.not_before, (c.not_after, tt)), (c.subject, (key_again Der c.key, ((list.all, tt), tt))))))));
         is = record { values = p.values; whole = refl; is = body };
-        says = record { serial = refl; has_null = refl; issuer = refl; not_before = refl; not_after = refl; subject = refl; key = refl; extensions = list.has };
+        says = record { serial = refl; has_null = refl; issuer = refl; not_before = refl; not_after = refl; subject = refl; key = refl; extensions = has_again list.all c list.has };
       };
     }
 

@@ -32,9 +32,9 @@ module _ (c : TbsListValue) (P : List ℕ → Type 0) (sound : (text : List ℕ)
   not_written (Err e) h = why e h
 
 -- Whatever the signer answers, the list can be written.
-pub any_refused : {E : Type 0} {c : TbsListValue} (e : SigningError E) → e ≢ errors.TooLong → CanBeWritten c → SigningRefused c e
-any_refused errors.KeyNotFound n w = w
-any_refused errors.IncompatibleKey n w = w
-any_refused (errors.Signer e) n w = w
-any_refused errors.TooLong n w = absurd (n refl)
-any_refused errors.Memory n w = w
+pub any_refused : {E : Type 0} (refuses : SigningError E → Type 0) {c : TbsListValue} (e : SigningError E) → e ≢ errors.TooLong → refuses e → CanBeWritten c → SigningRefused refuses c e
+any_refused refuses errors.KeyNotFound n r w = (w, r)
+any_refused refuses errors.IncompatibleKey n r w = (w, r)
+any_refused refuses (errors.Signer e) n r w = (w, r)
+any_refused refuses errors.TooLong n r w = absurd (n refl)
+any_refused refuses errors.Memory n r w = w

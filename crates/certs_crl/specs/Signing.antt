@@ -31,5 +31,6 @@ abbrev pub NotWritten : TbsListValue → EncodeError → Type 0
 NotWritten c = NotWrittenIf (CanBeWritten c) (CannotBeWritten c)
 
 -- The list can be written, but for `TooLong`, which no signer answers: the signer is asked after that, and memory too.
-abbrev pub SigningRefused : {E : Type 0} → TbsListValue → SigningError E → Type 0
-SigningRefused c = SigningRefusedIf (CanBeWritten c) (CannotBeWritten c)
+-- `refuses` says by which errors the signer refuses.
+abbrev pub SigningRefused : {E : Type 0} → (refuses : SigningError E → Type 0) → TbsListValue → SigningError E → Type 0
+SigningRefused refuses c = SigningRefusedIf refuses (CanBeWritten c) (CannotBeWritten c)

@@ -44,7 +44,7 @@ fn signed_by<S: Signer>(
     ensures algorithm { IfOk result (λ signed. signed.signature.algorithm ≡ tbs.now.has_null) }
     ensures signed { IfOk result (λ signed. S.signs signer.now key.now
         signed.message.octets signed.signature.bits.octets) }
-    ensures refused { IfErr result (SigningRefused tbs.now) }
+    ensures refused { IfErr result (SigningRefused (S.refuses signer.now) tbs.now) }
 {
     let message = match message_of(alloc, tbs) {
         Ok(message) => message,
@@ -73,7 +73,7 @@ impl TbsCertList {
         ensures message { IfOk result (λ crl. ∥ WritesTbsList self Der crl.signed.message ∥₁) }
         ensures signed { IfOk result (λ crl. S.signs signer.now key.now
             crl.signed.message crl.signed.signature) }
-        ensures refused { IfErr result (SigningRefused self) }
+        ensures refused { IfErr result (SigningRefused (S.refuses signer.now) self) }
     {
         match signed_by(alloc, &self, signer, key) {
             Ok(signed) => Ok(Crl::from_parts(signed, self)),

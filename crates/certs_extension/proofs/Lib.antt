@@ -11,6 +11,7 @@ mod AddLaws
 mod Filling
 mod Finished
 mod Lists
+mod Purposes
 mod SlotLaws
 pub mod Whole
 pub mod of_bcder

@@ -8,7 +8,7 @@ ghost use Rattle.certs_extension.specs.bcder_content.InMode.{ReadsFields};
 ghost use Rattle.certs_extension.specs.certs_basics.Identifiers.{bgpsec_router};
 ghost use Rattle.certs_extension.specs.certs_basics.Lists.{Mem};
 ghost use Rattle.certs_extension.specs.Extensions.{IsExtendedKeyUsage};
-ghost use Rattle.certs_extension.specs.Purposes.{AreOids, ArePurposes, lends, purpose_octets};
+ghost use Rattle.certs_extension.specs.Purposes.{AreKeyPurposes, AreOids, ArePurposes, lends, purpose_octets};
 
 use crate::forms::InspectionError;
 use bytes::Bytes;
@@ -33,11 +33,13 @@ pub struct ExtendedKeyUsage {
 
 impl Model for ExtendedKeyUsage {
     ghost use Rattle.std.specs.Prelude.{List, ℕ, map};
-    ghost use Rattle.certs_extension.specs.Purposes.{purpose_octets};
+    ghost use Rattle.certs_extension.specs.Purposes.{AreKeyPurposes, purpose_octets};
 
     ghost Value = { List (List ℕ) };
 
     ghost view = { λ u. map purpose_octets u.purposes.items };
+
+    ghost invariant = { λ u. AreKeyPurposes (map purpose_octets u.purposes.items) };
 }
 
 // Each purpose as an OBJECT IDENTIFIER, by the octets that it has.
@@ -141,8 +143,9 @@ impl ExtendedKeyUsage {
     }
 
     /// Whether a router's key may have these purposes: `NotRouterUsage` exactly where id-kp-bgpsec-router isn't among
-    /// them (RFC 8209 3.1.3.2).
+    /// them (RFC 8209 3.1.3.2). There is one purpose at least, and each is an identifier.
     pub fn inspect_router(&self) -> Result<(), InspectionError>
+        ensures lawful { AreKeyPurposes self.now }
         ensures ok { OnOk result (Mem self.now bgpsec_router) }
         ensures refused { OnErr result (¬ (Mem self.now bgpsec_router)) }
         ensures error { IfErr result (λ e. e ≡ InspectionError.NotRouterUsage) }

@@ -4,6 +4,7 @@ pub mod Encodings
 pub mod Identifying
 pub mod Alike
 pub mod Formats
+pub mod Padded
 pub mod of_bcder
 pub mod of_bcder_content
 pub mod of_bcder_octets

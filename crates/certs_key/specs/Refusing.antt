@@ -12,11 +12,11 @@ NotWrittenIf can cannot causes.TooLong = cannot
 NotWrittenIf can cannot causes.Write = ⊥
 NotWrittenIf can cannot causes.Memory = can
 
--- A refusal to sign: nothing can be written (`TooLong`, which no signer answers), or the signer refused what can be, or
--- memory was lacking for it.
-abbrev pub SigningRefusedIf : {E : Type 0} → (can cannot : Type 0) → SigningError E → Type 0
-SigningRefusedIf can cannot errors.KeyNotFound = can
-SigningRefusedIf can cannot errors.IncompatibleKey = can
-SigningRefusedIf can cannot (errors.Signer e) = can
-SigningRefusedIf can cannot errors.TooLong = cannot
-SigningRefusedIf can cannot errors.Memory = can
+-- A refusal to sign: nothing can be written (`TooLong`, which no signer answers), or the signer refused what can be, by an
+-- error of its own, or memory was lacking for it, to the signer or here. `refuses` says by which errors the signer refuses.
+abbrev pub SigningRefusedIf : {E : Type 0} → (refuses : SigningError E → Type 0) → (can cannot : Type 0) → SigningError E → Type 0
+SigningRefusedIf refuses can cannot errors.KeyNotFound = can × refuses errors.KeyNotFound
+SigningRefusedIf refuses can cannot errors.IncompatibleKey = can × refuses errors.IncompatibleKey
+SigningRefusedIf refuses can cannot (errors.Signer e) = can × refuses (errors.Signer e)
+SigningRefusedIf refuses can cannot errors.TooLong = cannot
+SigningRefusedIf refuses can cannot errors.Memory = can

@@ -3,6 +3,7 @@
 ghost use Rattle.std.specs.Prelude.{◌≡◌, ◌↔◌, IfOk, IsTrue, OnErr, true};
 ghost use Rattle.certs_key.specs.bcder_tree.declared.mode.Mode.TheVariants.{Der};
 ghost use Rattle.certs_key.specs.bcder_tree.Tree.{Spells};
+ghost use Rattle.certs_key.specs.bcder_octets.BitContents.{IsPadded};
 ghost use Rattle.certs_key.specs.bcder_content.Exact.{DecodesAs, ReadsAs};
 ghost use Rattle.certs_key.specs.bcder_content.Here.{here};
 ghost use Rattle.certs_key.specs.certs_basics.declared.PublicKeyFormat.TheVariants.{Rsa, Ecdsa};
@@ -115,12 +116,13 @@ impl PublicKey {
 
 /// Keys that are read.
 impl PublicKey {
-    /// The key in front of a source, in DER; octets after it stay unread.
+    /// The key in front of a source, in DER, so that its unused bits are zero; octets after it stay unread.
     pub fn decode<I: IntoSource>(
         alloc: Global,
         source: I,
     ) -> Result<PublicKey, DecodeError<<I::Source as Source>::Error>>
-        ensures { DecodesAs (λ k. k) Der (IsKey Der) (I.octets source) result }
+        ensures decodes { DecodesAs (λ k. k) Der (IsKey Der) (I.octets source) result }
+        ensures padded { IfOk result (λ k. IsPadded Der k.bits) }
     {
         Mode::Der.decode(
             source,

@@ -5,6 +5,7 @@ ghost use Rattle.std.specs.declared.cmp.Ordering.TheVariants.{Equal};
 ghost use Rattle.certs_key.specs.bcder_tree.declared.mode.Mode.{Mode as ModeValue};
 ghost use Rattle.certs_key.specs.bcder_tree.declared.mode.Mode.TheVariants.{Der};
 ghost use Rattle.certs_key.specs.bcder_content.Grammar.{End, One, Then};
+ghost use Rattle.certs_key.specs.bcder_octets.BitContents.{IsPadded};
 ghost use Rattle.certs_key.specs.bcder_values.Returns.{ReadAgain};
 ghost use Rattle.certs_key.specs.certs_basics.Keys.{Encodes, HasEncoding, IsKey, KeyValue, encoded};
 ghost use Rattle.certs_key.specs.Forms.{key};
@@ -13,7 +14,7 @@ use crate::identifier::KeyIdentifier;
 use crate::key::PublicKey;
 pub use certs_name::laws::{
     key_names_pass_inspection, name_equality, names_are_read_again, one_serial,
-    order_and_hash_agree_with_equality, serials_are_read_again,
+    order_and_hash_agree_with_equality, serials_are_read_again, serials_are_small,
 };
 use std::hash::Hash;
 
@@ -35,6 +36,11 @@ pub fn what_is_written_is_read()
     ensures { (k : KeyValue) (m : ModeValue) (text : List ℕ) → HasEncoding k
         → key.writes k m text
         → ReadAgain m (λ ts. Then (IsKey m) End ts (key.again m k, tt)) text }
+{}
+
+/// A key whose unused bits are zero is read again in DER as this key.
+pub fn padded_keys_stay()
+    ensures { (k : KeyValue) → IsPadded Der k.bits → key.again Der k ≡ k }
 {}
 
 /// The encoded octets are the DER of the key, and no others are; they are what is written of the key in DER.

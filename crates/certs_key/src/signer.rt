@@ -2,6 +2,9 @@
 
 ghost use Rattle.std.specs.Prelude.{◌≡◌, ◌≢◌, ℕ, List, IfErr, IfOk};
 ghost use Rattle.certs_key.specs.certs_basics.Keys.{KeyValue};
+ghost use Rattle.certs_key.specs.bcder_tree.declared.mode.Mode.TheVariants.{Der};
+ghost use Rattle.certs_key.specs.bcder_octets.BitContents.{IsPadded};
+ghost use Rattle.certs_key.specs.declared.signer.SigningError.{SigningError as Refusal};
 ghost use Rattle.certs_key.specs.declared.signer.SigningError.TheVariants.{TooLong};
 
 use crate::algorithm::{Signature, SignatureAlgorithm};
@@ -33,8 +36,10 @@ pub enum SigningError<E> {
 
 /// Keys that sign, by names of the signer's own.
 ///
-/// `has_key` and `signs` are relations, so a signer may sign one message in more than one way. No signer answers
-/// `TooLong`, which is told of what is to be signed, before the signer is asked.
+/// `has_key` and `signs` are relations, so a signer may sign one message in more than one way. `refuses` tells by which
+/// errors it may refuse, so that an error which is handed on is known to come from it. No signer answers `TooLong`, which is
+/// told of what is to be signed, before the signer is asked. The unused bits of the keys that it tells are zero, as DER has
+/// them (X.690 11.2.1).
 pub trait Signer {
     /// By what a key is named.
     type KeyId;
@@ -51,6 +56,9 @@ pub trait Signer {
     // Which octets may be a signature of a message by a key that is made for it alone.
     ghost signs_once: { Self → KeyValue → List ℕ → List ℕ → Type 0 };
 
+    // By which errors it may refuse.
+    ghost refuses: { Self → Refusal Self.Error → Type 0 };
+
     /// The public part of that key.
     fn get_key_info(
         &self,
@@ -58,7 +66,9 @@ pub trait Signer {
         key: &Self::KeyId,
     ) -> Result<PublicKey, SigningError<Self::Error>>
         ensures key { IfOk result (λ public. has_key self.now key.now public) }
-        ensures told { IfErr result (λ e. e ≢ TooLong) };
+        ensures padded { IfOk result (λ public. IsPadded Der public.bits) }
+        ensures told { IfErr result (λ e. e ≢ TooLong) }
+        ensures refused { IfErr result (λ e. refuses self.now e) };
 
     /// A signature of the message by that key and algorithm.
     fn sign<A: SignatureAlgorithm + Drop>(
@@ -71,7 +81,8 @@ pub trait Signer {
         ensures algorithm { IfOk result (λ signature. signature.algorithm ≡ algorithm) }
         ensures signed { IfOk result
             (λ signature. signs self.now key.now message.now signature.bits.octets) }
-        ensures told { IfErr result (λ e. e ≢ TooLong) };
+        ensures told { IfErr result (λ e. e ≢ TooLong) }
+        ensures refused { IfErr result (λ e. refuses self.now e) };
 
     /// A signature of the message by a key that is made for it alone, and that key.
     fn sign_one_off<A: SignatureAlgorithm + Drop>(
@@ -83,5 +94,7 @@ pub trait Signer {
         ensures algorithm { IfOk result (λ made. made.0.algorithm ≡ algorithm) }
         ensures signed { IfOk result
             (λ made. signs_once self.now made.1 message.now made.0.bits.octets) }
-        ensures told { IfErr result (λ e. e ≢ TooLong) };
+        ensures padded { IfOk result (λ made. IsPadded Der made.1.bits) }
+        ensures told { IfErr result (λ e. e ≢ TooLong) }
+        ensures refused { IfErr result (λ e. refuses self.now e) };
 }

@@ -12,7 +12,7 @@ ghost use Rattle.certs_name.specs.bcder_number.Integers.{IsNatural};
 ghost use Rattle.certs_name.specs.bcder_primitive.Encoded.{WritesPlain};
 ghost use Rattle.certs_name.specs.bcder_values.Captures.{CapturedText};
 ghost use Rattle.certs_name.specs.bcder_values.Returns.{ReadAgain};
-ghost use Rattle.certs_basics.specs.Basics.{IsSerial};
+ghost use Rattle.certs_basics.specs.Basics.{IsSerial, IsSmallEnough};
 ghost use Rattle.certs_basics.specs.Names.{Attribute, IsKeptName, IsRpkiName, NameSays, subject_of};
 ghost use Rattle.certs_name.specs.Named.{IsNamed};
 
@@ -31,6 +31,13 @@ pub fn order_and_hash_agree_with_equality()
 pub fn one_serial()
     ensures { One IsSerial }
 {}
+
+/// A serial number is below 2^160, however it was made (RFC 5280 4.1.2.2).
+pub fn serials_are_small(serial: Serial)
+    ensures { IsSmallEnough serial }
+{
+    let _halves = serial.halves();
+}
 
 /// What is written of a serial number is read again as that number, in each mode.
 pub fn serials_are_read_again()

@@ -3,7 +3,6 @@ use Rattle.std.proofs.Common.{◌≡◌, ◌≢◌, ◌⊎◌, ℕ, List, [], �
 use Rattle.objects.specs.bcder_tree.declared.mode.Mode.TheVariants.{Der}
 use Rattle.objects.specs.bcder_content.Kept.{CapturedValue}
 use Rattle.objects.specs.bcder_content.Texts.{SpellsOf}
-use Rattle.objects.specs.certs_basics.Basics.{IsSmallEnough}
 use Rattle.objects.specs.certs_basics.HandedIn.{Digests}
 use Rattle.objects.specs.certs_basics.Keys.{KeyValue}
 use Rattle.objects.specs.objects_payload.Identifiers as id
@@ -17,7 +16,7 @@ use Rattle.objects.specs.resources_ip_prefix.Prefix.{run_of_prefix}
 use Rattle.objects.specs.resources_ip_prefix.Prefixes.{prefix_run}
 use Rattle.objects.specs.resources_ip_prefix.declared.prefix.Prefix.{Prefix}
 use Rattle.resources_ip.specs.WholeSets.{ListsWhole}
-use Rattle.objects_built.specs.Builders.{BuilderValue, IsBuilt, IsComplete, IsPadded, IsSigned, KindIsRead, built_object}
+use Rattle.objects_built.specs.Builders.{BuilderValue, IsBuilt, IsComplete, IsSigned, KindIsRead, built_object}
 use Rattle.objects.specs.Issued.{AreResourcesOf, AttestsPrefixes, IsRoaFor, runs_of}
 use Rattle.objects.proofs.SignedAgain.{blocks_are_said}
 
@@ -52,9 +51,8 @@ some_said : (b : BuilderValue) (r : Roa) (made : BuilderValue) → AttestsPrefix
 some_said b r made p (inl some) = inl (said r.v4 made.v4 p.v4 some)
 some_said b r made p (inr some) = inr (inl (said r.v6 made.v6 p.v6 some))
 
-complete : (b : BuilderValue) (r : Roa) (made : BuilderValue) → AttestsPrefixes b r made → HasAddress r → IsSmallEnough b.serial → ListsWhole made.v4 → IsComplete made
-complete b r made p some small whole = record {
-  serial = subst IsSmallEnough (sym (ap (λ (x : BuilderValue). x.serial) p.others)) small;
+complete : (b : BuilderValue) (r : Roa) (made : BuilderValue) → AttestsPrefixes b r made → HasAddress r → ListsWhole made.v4 → IsComplete made
+complete b r made p some whole = record {
   some = some_said b r made p some;
   whole = whole;
 }
@@ -63,10 +61,10 @@ complete b r made p some small whole = record {
 abbrev pub ContentIsRead : Type 0
 ContentIsRead = (r : Roa) (text : List ℕ) → HasAddress r → AreOfFamilies r → (roa r).writes Der text → SpellsOf Der IsRoa text r
 
-pub roa_again : KindIsRead id.route_origin IsRoa RoaText → ContentIsRead → (d : Digests) (b : BuilderValue) (r : Roa) (octets : List ℕ) (x : IsRoaFor d b r octets) → HasAddress r → AreOfFamilies r → IsSmallEnough b.serial
-    → ListsWhole x.fields.v4 → IsPadded x.built.key → RoaText true octets (built_object x.built) r
-roa_again kinds contents d b r octets x some all small whole padded =
-    kinds d x.fields x.content octets x.built r (contents r x.content some all x.content_is) (complete b r x.fields x.attests some small whole) padded
+pub roa_again : KindIsRead id.route_origin IsRoa RoaText → ContentIsRead → (d : Digests) (b : BuilderValue) (r : Roa) (octets : List ℕ) (x : IsRoaFor d b r octets) → HasAddress r → AreOfFamilies r
+    → ListsWhole x.fields.v4 → RoaText true octets (built_object x.built) r
+roa_again kinds contents d b r octets x some all whole =
+    kinds d x.fields x.content octets x.built r (contents r x.content some all x.content_is) (complete b r x.fields x.attests some whole)
 
 pub roa_built : {E : Type 0} (d : Digests) (b : BuilderValue) (r : Roa) (fields : BuilderValue) (content octets : List ℕ) → AttestsPrefixes b r fields → (roa r).writes Der content → octets ≡ content
     → (x : Result CapturedValue E) → IfOk x (λ c. IsBuilt d fields id.route_origin octets c.octets) → IfOk x (λ c. IsRoaFor d b r c.octets)

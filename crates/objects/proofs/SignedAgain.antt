@@ -2,7 +2,6 @@
 use Rattle.std.proofs.Common.{◌≡◌, ◌≢◌, ℕ, List, Result, Ok, Err, IfOk, true, inr, sym, ap, ◌∙◌, subst}
 use Rattle.objects.specs.bcder_tree.declared.mode.Mode.TheVariants.{Der}
 use Rattle.objects.specs.bcder_content.Kept.{CapturedValue}
-use Rattle.objects.specs.certs_basics.Basics.{IsSmallEnough}
 use Rattle.objects.specs.certs_basics.HandedIn.{Digests}
 use Rattle.objects.specs.certs_basics.Keys.{KeyValue}
 use Rattle.objects.specs.objects_payload.Aspas.{Aspa, AspaText, IsAspa, IsLawful}
@@ -11,7 +10,7 @@ use Rattle.objects.specs.resources_chain.Claims.{Choice}
 use Rattle.objects.specs.resources_chain.Sets.{Run}
 use Rattle.objects.specs.resources_chain.declared.choice.ResourcesChoice.TheVariants.{Blocks, Missing}
 use Rattle.resources_ip.specs.WholeSets.{ListsWhole}
-use Rattle.objects_built.specs.Builders.{BuilderValue, IsBuilt, IsComplete, IsPadded, IsSigned, KindIsRead, built_object}
+use Rattle.objects_built.specs.Builders.{BuilderValue, IsBuilt, IsComplete, IsSigned, KindIsRead, built_object}
 use Rattle.objects.specs.Attested.{AttestsCustomer, IsAspaFor}
 use Rattle.objects.specs.Written.{aspa}
 use Rattle.objects.proofs.AspaAgain.{aspa_text}
@@ -24,17 +23,16 @@ blocks_are_said choice set p e = let q : ◌≡◌ {A = Choice} (Blocks set) Mis
 none_listed : ListsWhole Missing
 none_listed = λ n m e h. absurd h
 
-complete : (b : BuilderValue) (a : Aspa) (made : BuilderValue) → AttestsCustomer b a made → IsSmallEnough b.serial → IsComplete made
-complete b a made p small = record {
-  serial = subst IsSmallEnough (sym (ap (λ (x : BuilderValue). x.serial) p.others)) small;
+complete : (b : BuilderValue) (a : Aspa) (made : BuilderValue) → AttestsCustomer b a made → IsComplete made
+complete b a made p = record {
   some = inr (inr (blocks_are_said made.asn p.asn.0 p.asn.1));
   whole = subst ListsWhole (sym (ap (λ (x : BuilderValue). x.v4) p.others)) none_listed;
 }
 
-pub signed_again : KindIsRead id.provider_authorization IsAspa AspaText → (d : Digests) (b : BuilderValue) (a : Aspa) (octets : List ℕ) (x : IsAspaFor d b a octets) → IsLawful a → IsSmallEnough b.serial
-    → IsPadded x.built.key → AspaText true octets (built_object x.built) a
-signed_again kinds d b a octets x lawful small padded =
-    kinds d x.fields x.content octets x.built a (aspa_text Der a x.content lawful x.content_is) (complete b a x.fields x.attests small) padded
+pub signed_again : KindIsRead id.provider_authorization IsAspa AspaText → (d : Digests) (b : BuilderValue) (a : Aspa) (octets : List ℕ) (x : IsAspaFor d b a octets) → IsLawful a
+    → AspaText true octets (built_object x.built) a
+signed_again kinds d b a octets x lawful =
+    kinds d x.fields x.content octets x.built a (aspa_text Der a x.content lawful x.content_is) (complete b a x.fields x.attests)
 
 pub signed_built : {E : Type 0} (d : Digests) (b : BuilderValue) (a : Aspa) (fields : BuilderValue) (content octets : List ℕ) → AttestsCustomer b a fields → (aspa a).writes Der content → octets ≡ content
     → (x : Result CapturedValue E) → IfOk x (λ c. IsBuilt d fields id.provider_authorization octets c.octets) → IfOk x (λ c. IsAspaFor d b a c.octets)

@@ -4,7 +4,7 @@ use Rattle.objects.specs.bcder_tree.declared.mode.Mode.TheVariants.{Der}
 use Rattle.objects.specs.certs_basics.HandedIn.{Digests}
 use Rattle.objects.specs.objects_payload.Identifiers as id
 use Rattle.objects.specs.objects_payload.Manifests.{Manifest}
-use Rattle.objects.specs.objects_written.Manifests.{manifest}
+use Rattle.objects.specs.objects_written.Manifests.{IsManifestNumber, manifest}
 use Rattle.objects.specs.objects_payload.Roas.{Roa, RoaAddress}
 use Rattle.objects.specs.objects_written.Roas.{roa}
 use Rattle.objects.specs.resources_chain.Choices.{IsChoiceOf}
@@ -18,8 +18,10 @@ use Rattle.objects_built.specs.Builders.{BuilderValue, IsBuilt}
 abbrev pub inheriting : BuilderValue → BuilderValue
 inheriting b = record b { v4 = Inherit; v6 = Inherit; asn = Inherit }
 
--- The object of a manifest's content in DER, whose certificate has the builder's fields and all resources of the issuer.
+-- The object of a manifest's content in DER, whose certificate has the builder's fields and all resources of the issuer. Its
+-- number is below 2^160, as each `Serial` is.
 pub record IsManifestFor (d : Digests) (b : BuilderValue) (m : Manifest) (octets : List ℕ) : Type 0 where
+  pub number_is : IsManifestNumber m.number
   pub content : List ℕ
   pub content_is : (manifest m).writes Der content
   pub built : IsBuilt d (inheriting b) id.manifest content octets

@@ -3,6 +3,7 @@ pub mod Attested
 pub mod Issued
 pub mod Making
 pub mod Providers
+pub mod Refusing
 pub mod Taking
 pub mod Uris
 pub mod Written

@@ -10,6 +10,7 @@
 pub mod addresses;
 pub mod laws;
 pub mod manifests;
+pub mod refusing;
 pub mod roas;
 
 pub use addresses::{ToIpResources, are_of_family};

@@ -1,6 +1,7 @@
 -- What is written of an object's parts, put together.
 use Rattle.std.proofs.Common.{◌≡◌, ℕ, List, Result, Ok, Err, IfOk, sym, ap, ◌∙◌, subst}
 use Rattle.objects_built.specs.bcder_tree.declared.mode.Mode.TheVariants.{Der}
+use Rattle.objects_built.specs.bcder_octets.BitContents.{IsPadded}
 use Rattle.objects_built.specs.bcder_content.Kept.{CapturedValue}
 use Rattle.objects_built.specs.certs_basics.Basics.{IsTwentyLong}
 use Rattle.objects_built.specs.certs_basics.HandedIn.{Digests}
@@ -33,13 +34,14 @@ object_told kind content c attributes k sid octets signature s o cert own long s
 object_told kind content c attributes k sid octets signature s o cert own long same signer parts (Err e) h = tt
 
 -- An object that is built of these, and who signed it.
-module _ (d : Digests) (b : BuilderValue) (kind content : List ℕ) (issuer_key key : KeyValue) (c : CertValue) (attributes : CapturedValue) (signature : List ℕ) (fields : AreFieldsOf d b issuer_key key c.tbs)
+module _ (d : Digests) (b : BuilderValue) (kind content : List ℕ) (issuer_key key : KeyValue) (c : CertValue) (attributes : CapturedValue) (signature : List ℕ) (padded : IsPadded Der key.bits) (fields : AreFieldsOf d b issuer_key key c.tbs)
     (lawful : IsLawful c.tbs) (message : WritesTbs c.tbs c.signed.message) (algorithm : c.signed.has_null ≡ c.tbs.has_null)
     (are : WritesAttributes (to_sign kind (d.sha256 content) b.signing_time) attributes.octets) where
   whole : (octets : List ℕ) → WritesObject kind content c attributes signature octets → IsBuilt d b kind content octets
   whole octets h = record {
     issuer_key = issuer_key;
     key = key;
+    padded = padded;
     cert = c;
     fields = fields;
     lawful = lawful;

@@ -4,7 +4,7 @@ use Rattle.objects_built.specs.bcder_tree.Tree.{Tree}
 use Rattle.objects_built.specs.bcder.Identifiers.{IsIdentifier}
 use Rattle.objects_built.specs.objects_payload.Contents.{ReadsAs}
 use Rattle.objects_built.specs.objects_payload.Identifiers as id
-use Rattle.objects_built.specs.certs.Laws.{BuiltIsSpelled}
+use Rattle.objects_built.specs.certs.Laws.{BuiltIsSpelled, FieldsStay}
 use Rattle.objects_built.specs.Builders.{KindIsRead}
 use Rattle.objects_built.proofs.BuiltAgain.{built_again}
 
@@ -17,9 +17,9 @@ manifest_known = record { front = 42 ∷ 134 ∷ 72 ∷ 134 ∷ 247 ∷ 13 ∷ 1
 pub provider_known : IsIdentifier id.provider_authorization
 provider_known = record { front = 42 ∷ 134 ∷ 72 ∷ 134 ∷ 247 ∷ 13 ∷ 1 ∷ 9 ∷ 16 ∷ 1 ∷ []; last = 49; whole = refl; ends = omega arith }
 
-pub kind_again : {A : Type 0} {kind : List ℕ} {Q : Tree → A → Type 0} → BuiltIsSpelled → IsIdentifier kind → KindIsRead kind Q (ReadsAs kind Q)
-kind_again {kind = kind} {Q = Q} again known d b content octets x said is complete padded = record {
-  object = built_again again d b kind content octets x known complete padded;
+pub kind_again : {A : Type 0} {kind : List ℕ} {Q : Tree → A → Type 0} → BuiltIsSpelled → FieldsStay → IsIdentifier kind → KindIsRead kind Q (ReadsAs kind Q)
+kind_again {kind = kind} {Q = Q} again stay known d b content octets x said is complete = record {
+  object = built_again again stay d b kind content octets x known complete;
   type_is = x.written.type_is;
   content_is = record {
     text = content;

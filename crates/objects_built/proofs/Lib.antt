@@ -1,4 +1,5 @@
 pub mod BuiltAgain
 pub mod Building
 pub mod KindAgain
+pub mod Refused
 pub mod Setting

@@ -4,12 +4,12 @@ use Rattle.objects_built.specs.bcder_tree.declared.mode.Mode.TheVariants.{Der}
 use Rattle.objects_built.specs.bcder_tree.Tree.{Tree}
 use Rattle.objects_built.specs.bcder_content.Kept.{CapturedValue}
 use Rattle.objects_built.specs.bcder_content.Texts.{SpellsOf}
-use Rattle.objects_built.specs.bcder_octets.BitContents.{padded_in}
+use Rattle.objects_built.specs.bcder_octets.BitContents.{IsPadded}
 use Rattle.objects_built.specs.resources_chain.Claims.{Choice}
 use Rattle.objects_built.specs.resources_chain.declared.choice.ResourcesChoice.TheVariants.{Missing}
 use Rattle.resources_ip.specs.WholeSets.{ListsWhole}
 use Rattle.objects_built.specs.resources_chain.declared.claims.Overclaim.TheVariants.{Refuse}
-use Rattle.objects_built.specs.certs_basics.Basics.{IsSmallEnough, IsTwentyLong}
+use Rattle.objects_built.specs.certs_basics.Basics.{IsTwentyLong}
 use Rattle.objects_built.specs.certs_basics.HandedIn.{Digests}
 use Rattle.objects_built.specs.certs_basics.Keys.{KeyValue, identifier}
 use Rattle.objects_built.specs.certs_extension.declared.forms.KeyUsage.TheVariants.{Ee}
@@ -82,11 +82,12 @@ pub record WritesObject (content_type content : List ℕ) (cert : CertValue) (at
   pub written : (object parts).writes Der octets
 
 -- A signed object that is built: its certificate has the builder's fields, and what is written of them was signed by the
--- algorithm that they name; its signer is the certificate's subject, and its attributes tell the content's type, its digest
--- and the moment of signing (RFC 6488 2.1).
+-- algorithm that they name; its signer is the certificate's subject, whose key has no unused bits that are set, and its
+-- attributes tell the content's type, its digest and the moment of signing (RFC 6488 2.1).
 pub record IsBuilt (d : Digests) (b : BuilderValue) (content_type content octets : List ℕ) : Type 0 where
   pub issuer_key : KeyValue
   pub key : KeyValue
+  pub padded : IsPadded Der key.bits
   pub cert : CertValue
   pub fields : AreFieldsOf d b issuer_key key cert.tbs
   pub lawful : IsLawful cert.tbs
@@ -113,15 +114,10 @@ pub record IsSigned {d : Digests} {b : BuilderValue} {content_type content octet
   pub attributes : SignsAttributes SignsOnce x.attributes.octets x.key x.signature
 
 -- The certificate can be read again: some kind of resources is there, IPv4 ones over whole addresses (RFC 6487 4.8.10, 4.8.11;
--- RFC 3779 2.2.3), and the serial number is below 2^160, as each `Serial` is.
+-- RFC 3779 2.2.3).
 pub record IsComplete (b : BuilderValue) : Type 0 where
-  pub serial : IsSmallEnough b.serial
   pub some : (b.v4 ≢ Missing) ⊎ ((b.v6 ≢ Missing) ⊎ (b.asn ≢ Missing))
   pub whole : ListsWhole b.v4
-
--- The unused bits of a key are zero, as DER has them (X.690 11.2.1).
-abbrev pub IsPadded : KeyValue → Type 0
-IsPadded key = padded_in Der key.bits ≡ key.bits
 
 -- Fields that are set: the issuer's key and where things are found; the resources.
 abbrev pub with_places : TbsValue → List ℕ → List ℕ → List ℕ → List ℕ → TbsValue
@@ -142,5 +138,5 @@ built_object {d} {b} {content_type} {content} x =
 
 -- An object that is built of a content is read again, strictly, as the object of that kind, with what the content says.
 abbrev pub KindIsRead : {A : Type 0} → List ℕ → (Tree → A → Type 0) → (Bool → List ℕ → Object → A → Type 0) → Type 0
-KindIsRead {A} kind Q P = (d : Digests) (b : BuilderValue) (content octets : List ℕ) (x : IsBuilt d b kind content octets) (said : A) → SpellsOf Der Q content said → IsComplete b → IsPadded x.key
+KindIsRead {A} kind Q P = (d : Digests) (b : BuilderValue) (content octets : List ℕ) (x : IsBuilt d b kind content octets) (said : A) → SpellsOf Der Q content said → IsComplete b
     → P true octets (built_object x) said

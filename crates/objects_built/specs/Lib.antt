@@ -1,4 +1,5 @@
 pub mod Builders
+pub mod Refusing
 -- What stands below, for the crates above.
 pub use Rattle.objects_written.specs.bcder_octets as bcder_octets
 pub use Rattle.objects_written.specs.bcder_content as bcder_content

@@ -1,16 +1,20 @@
 //! Signed objects that are built and signed (RFC 5652 5.4, RFC 6488 2.1).
 
-ghost use Rattle.std.specs.Prelude.{◌≡◌, IfOk};
+ghost use Rattle.std.specs.Prelude.{◌≡◌, ◌≢◌, ◌⊎◌, IfErr, IfOk};
 ghost use Rattle.objects_built.specs.bcder_tree.declared.mode.Mode.TheVariants.{Der};
+ghost use Rattle.objects_built.specs.bcder_octets.BitContents.{IsPadded};
 ghost use Rattle.objects_built.specs.certs_basics.Keys.{identifier};
 ghost use Rattle.objects_built.specs.certs_key.Digesting.{digests_of};
 ghost use Rattle.objects_built.specs.certs_extension.declared.forms.KeyUsage.TheVariants.{Ee};
 ghost use Rattle.objects_built.specs.resources_chain.declared.claims.Overclaim.TheVariants.{Refuse};
+ghost use Rattle.objects_written.specs.bcder_primitive.declared.written.error.EncodeError.TheVariants.{Memory as memory_lacks};
 ghost use Rattle.objects_built.specs.certs.Laws.{IsLawful};
 ghost use Rattle.certs_cert.specs.Fresh.{IsSubjectFor, fresh};
 ghost use Rattle.objects_built.specs.certs.Tbs.{WritesTbs};
-ghost use Rattle.objects_written.specs.Attributes.{WritesAttributes, to_sign};
+ghost use Rattle.objects_written.specs.Attributes.{IsMessage, IsRefused, WritesAttributes, to_sign};
+ghost use Rattle.objects_written.specs.bcder_values.Writable.{Writable};
 ghost use Rattle.objects_built.specs.Builders.{AreFieldsOf, IsBuilt, IsSigned, SignsAttributes, WritesObject, with_places, with_resources};
+ghost use Rattle.objects_built.specs.Refusing.{BuildRefused, CanTell, CannotBuild, CannotCertify, CannotEnclose, CannotSign, CannotWrap, IsTooLong, told_as};
 
 use crate::builder::{Holdings, Names, Places, SignedObjectBuilder};
 use certs_cert::{Cert, TbsCert};
@@ -26,7 +30,9 @@ use objects_written::written::{Captured, EncodeError, Mode, Values};
 use std::alloc::{AllocError, Global};
 
 // Why nothing was signed, where something can't be written.
-fn refused<E>(error: EncodeError) -> SigningError<E> {
+fn refused<E>(error: EncodeError) -> SigningError<E>
+    ensures { result ≡ told_as error }
+{
     match error {
         EncodeError::Memory => SigningError::Memory,
         _ => SigningError::TooLong,
@@ -52,6 +58,9 @@ fn attributes_of<D: Digester>(
     ensures written { IfOk result (λ c. WritesAttributes
         (to_sign content_type.now (D.sha256_digest digester.now content.now) time) c.octets) }
     ensures mode { IfOk result (λ c. c.mode ≡ Der) }
+    ensures refused { IfErr result (IsRefused
+        (to_sign content_type.now (D.sha256_digest digester.now content.now) time)) }
+    ensures memory { IfErr result (λ e. e ≡ memory_lacks → CanTell content_type.now) }
 {
     let digest = digester.sha256(content);
     signed_attributes(alloc, content_type, &digest, time)
@@ -64,8 +73,11 @@ fn sign<S: Signer>(
     signer: &S,
 ) -> Result<(RpkiSignature, PublicKey), SigningError<S::Error>>
     requires { attributes.now.mode ≡ Der }
-    ensures { IfOk result (λ made. SignsAttributes (S.signs_once signer.now)
+    ensures signed { IfOk result (λ made. SignsAttributes (S.signs_once signer.now)
         attributes.now.octets made.1 made.0.bits.octets) }
+    ensures padded { IfOk result (λ made. IsPadded Der made.1.bits) }
+    ensures refused { IfErr result (BuildRefused (S.refuses signer.now) (Unit {0})
+        (Writable (IsMessage attributes.now.octets) → ⊥)) }
 {
     match signed_message(alloc, attributes) {
         Ok(message) => {
@@ -91,6 +103,9 @@ fn sign_content<S: Signer, D: Digester>(
     ensures mode { IfOk result (λ s. s.attributes.mode ≡ Der) }
     ensures signed { IfOk result (λ s. SignsAttributes (S.signs_once signer.now)
         s.attributes.octets s.key s.signature.bits.octets) }
+    ensures padded { IfOk result (λ s. IsPadded Der s.key.bits) }
+    ensures refused { IfErr result (BuildRefused (S.refuses signer.now) (CanTell content_type.now)
+        (CannotSign (to_sign content_type.now (D.sha256_digest digester.now content.now) time))) }
 {
     match attributes_of(alloc, content_type, content, time, digester) {
         Ok(attributes) => match sign(alloc, &attributes, signer) {
@@ -244,6 +259,9 @@ fn certify<S: Signer, D: Digester>(
     ensures algorithm { IfOk result (λ c. c.signed.has_null ≡ c.tbs.has_null) }
     ensures signed { IfOk result (λ c. S.signs signer.now issuer_key.now
         c.signed.message c.signed.signature) }
+    ensures refused { IfErr result (BuildRefused (S.refuses signer.now) (Unit {0})
+        (CannotCertify (digests_of D.sha256_digest D.sha1_digest digester.now)
+        builder issuer_public.now key)) }
 {
     match fields_for(alloc, builder, issuer_public, key, digester) {
         Ok(fields) => {
@@ -266,6 +284,8 @@ fn object_octets(
     ensures written { IfOk result (λ c. WritesObject content_type.now content.now cert.now
         attributes.now signature.now c.octets) }
     ensures mode { IfOk result (λ c. c.mode ≡ Der) }
+    ensures refused { IfErr result (λ e. e ≢ memory_lacks → CannotEnclose content_type.now
+        content.now cert.now attributes.now signature.now) }
 {
     let carried = cert.to_captured(alloc)?;
     let sid = cert.tbs().subject_key_identifier();
@@ -286,6 +306,8 @@ fn write_object<E>(
     ensures written { IfOk result (λ c. WritesObject content_type.now content.now cert.now
         attributes.now signature.now c.octets) }
     ensures mode { IfOk result (λ c. c.mode ≡ Der) }
+    ensures refused { IfErr result (BuildRefused (λ _. ⊥) (Unit {0}) (CannotEnclose
+        content_type.now content.now cert.now attributes.now signature.now)) }
 {
     match object_octets(alloc, content_type, content, cert, attributes, signature) {
         Ok(octets) => Ok(octets),
@@ -305,8 +327,9 @@ fn with_cert<S: Signer, D: Digester>(
     issuer_key: &S::KeyId,
     digester: &D,
 ) -> Result<Captured, SigningError<S::Error>>
-    requires { WritesAttributes (to_sign content_type.now
+    requires attributes { WritesAttributes (to_sign content_type.now
         (D.sha256_digest digester.now content.now) builder.signing_time) signed.attributes.octets }
+    requires padded { IsPadded Der signed.key.bits }
     ensures built { IfOk result (λ c. IsBuilt
         (digests_of D.sha256_digest D.sha1_digest digester.now) builder content_type.now
         content.now c.octets) }
@@ -318,6 +341,9 @@ fn with_cert<S: Signer, D: Digester>(
         content.now c.octets) × IsSigned (S.has_key signer.now issuer_key.now)
         (S.signs signer.now issuer_key.now) (S.signs_once signer.now) x) }
     ensures mode { IfOk result (λ c. c.mode ≡ Der) }
+    ensures refused { IfErr result (BuildRefused (S.refuses signer.now) (Unit {0}) (CannotWrap
+        (digests_of D.sha256_digest D.sha1_digest digester.now) builder content_type.now
+        content.now issuer_public.now signed.key signed.attributes signed.signature.bits.octets)) }
 {
     let Signed {
         attributes,
@@ -370,6 +396,11 @@ fn build<S: Signer, D: Digester>(
         content.now c.octets) × IsSigned (S.has_key signer.now issuer_key.now)
         (S.signs signer.now issuer_key.now) (S.signs_once signer.now) x) }
     ensures mode { IfOk result (λ c. c.mode ≡ Der) }
+    ensures refused { IfErr result (BuildRefused (S.refuses signer.now) (CanTell content_type.now)
+        (CannotSign (to_sign content_type.now
+        (D.sha256_digest digester.now content.now) builder.signing_time) ⊎ CannotBuild
+        (digests_of D.sha256_digest D.sha1_digest digester.now) builder content_type.now
+        content.now (S.signs_once signer.now) issuer_public.now)) }
 {
     let time = builder.signing_time();
     match sign_content(alloc, content_type, content, time, signer, digester) {
@@ -397,7 +428,7 @@ impl SignedObjectBuilder {
     /// given by the content octets of its object identifier.
     ///
     /// What the signer refuses is refused as it says. It is `TooLong` where a content would have more than 2^32 - 1 octets,
-    /// and where a name is kept in another mode than DER.
+    /// and where a name is kept in another mode than DER. It is `Memory` where the signer or this lacks some.
     pub fn finalize<S: Signer, D: Digester>(
         self,
         alloc: Global,
@@ -415,6 +446,10 @@ impl SignedObjectBuilder {
             content.now c.octets) × IsSigned (S.has_key signer.now issuer_key.now)
             (S.signs signer.now issuer_key.now) (S.signs_once signer.now) x) }
         ensures mode { IfOk result (λ c. c.mode ≡ Der) }
+        ensures refused { IfErr result (BuildRefused (S.refuses signer.now)
+            (CanTell content_type.now) (IsTooLong
+            (digests_of D.sha256_digest D.sha1_digest digester.now) self content_type.now
+            content.now (S.has_key signer.now issuer_key.now) (S.signs_once signer.now))) }
     {
         match signer.get_key_info(alloc, issuer_key) {
             Ok(public) => {

@@ -9,16 +9,15 @@ ghost use Rattle.objects_built.specs.objects_payload.Identifiers.{manifest, prov
 ghost use Rattle.objects_built.specs.objects_payload.Manifests.{IsManifest, ManifestText};
 ghost use Rattle.objects_built.specs.objects_payload.ObjectText.{IsSignedMessage, ObjectText, Sound};
 ghost use Rattle.objects_built.specs.objects_payload.Roas.{IsRoa, RoaText};
-ghost use Rattle.objects_built.specs.Builders.{BuilderValue, IsBuilt, IsComplete, IsPadded, KindIsRead, built_object};
+ghost use Rattle.objects_built.specs.Builders.{BuilderValue, IsBuilt, IsComplete, KindIsRead, built_object};
 
 use objects_written::certs_again::laws::what_is_built_is_read;
 
 /// A signed object that was built is read again, strictly, as the object that was built: where the type of its content is an
-/// object identifier, its certificate has some kind of resources, IPv4 ones over whole addresses, and the unused bits of the
-/// key that the signer made are zero.
+/// object identifier, and its certificate has some kind of resources, IPv4 ones over whole addresses.
 pub fn built_objects_are_read_again()
     ensures { (d : Digests) (b : BuilderValue) (kind content octets : List ℕ)
-        (x : IsBuilt d b kind content octets) → IsIdentifier kind → IsComplete b → IsPadded x.key
+        (x : IsBuilt d b kind content octets) → IsIdentifier kind → IsComplete b
         → ObjectText true octets (built_object x) }
 {
     what_is_built_is_read();

@@ -1,6 +1,8 @@
 //! A signer whose signatures are digests of its key's bits and of the message.
 
 ghost use Rattle.std.specs.Prelude.{◌≡◌, ◌≢◌, ◌∷◌, ◌++◌, IfErr, IfOk};
+ghost use Rattle.objects_built.specs.bcder_tree.declared.mode.Mode.TheVariants.{Der};
+ghost use Rattle.objects_built.specs.bcder_octets.BitContents.{IsPadded};
 ghost use Rattle.objects_built.specs.certs_key.declared.signer.SigningError.TheVariants.{TooLong};
 ghost use Rattle.sha2.specs.Sha256.{sha256 as sha256_of};
 
@@ -38,7 +40,8 @@ fn digest_of(alloc: Global, bits: &[u8], message: &[u8]) -> Result<Bytes, AllocE
 
 // A key of its encoded octets.
 fn key_of(alloc: Global, octets: &[u8]) -> Result<PublicKey, SigningError<Infallible>>
-    ensures { IfErr result (λ e. e ≢ TooLong) }
+    ensures padded { IfOk result (λ key. IsPadded Der key.bits) }
+    ensures refused { IfErr result (λ e. e ≢ TooLong) }
 {
     match PublicKey::decode(alloc, octets) {
         Ok(key) => Ok(key),
@@ -69,6 +72,9 @@ impl Signer for Stub {
     ghost signs = { λ _ _ message signature. signature ≡ sha256_of (0 ∷ 1 ∷ message) };
 
     ghost signs_once = { λ _ _ message signature. signature ≡ sha256_of (0 ∷ 2 ∷ message) };
+
+    // By any but that.
+    ghost refuses = { λ _ e. e ≢ TooLong };
 
     fn get_key_info(
         &self,

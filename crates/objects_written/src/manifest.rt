@@ -1,8 +1,9 @@
 //! The content of manifests, written (RFC 9286 4.2).
 
-ghost use Rattle.std.specs.Prelude.{◌≡◌, ◌↔◌, IfErr, IfOk, IsTrue};
+ghost use Rattle.std.specs.Prelude.{◌≡◌, ◌↔◌, IfErr, IfOk, IsTrue, ℕ, List};
 ghost use Rattle.objects_written.specs.bcder_tree.declared.mode.Mode.TheVariants.{Der};
 ghost use Rattle.objects_written.specs.bcder_content.Texts.{SpellsOf};
+ghost use Rattle.objects_written.specs.bcder_primitive.declared.written.error.EncodeError.TheVariants.{Memory as memory_lacks};
 ghost use Rattle.objects_written.specs.bcder_values.Gathered.{ExtendRefused};
 ghost use Rattle.objects_written.specs.objects_payload.Identifiers as id;
 ghost use Rattle.objects_written.specs.objects_payload.Manifests.{IsManifest, Manifest};
@@ -157,7 +158,9 @@ pub trait EncodeManifest {
         ensures again { IfOk result (λ c. AreFileNames (content self.now).files
             → SpellsOf Der IsManifest c.octets (content self.now)) }
         ensures refused { IfErr result (ExtendRefused ((manifest (content self.now)).trees Der)
-            ((manifest (content self.now)).writes Der)) };
+            ((manifest (content self.now)).writes Der)) }
+        ensures memory { IfErr result (λ e. e ≡ memory_lacks
+            → (text : List ℕ) × (manifest (content self.now)).writes Der text) };
 }
 
 // What is written of a content, whose number is below 2^160.

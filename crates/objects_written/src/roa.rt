@@ -1,8 +1,9 @@
 //! Route origin attestations, written (RFC 9582 4).
 
-ghost use Rattle.std.specs.Prelude.{◌≡◌, ◌↔◌, IfErr, IfOk, IsTrue};
+ghost use Rattle.std.specs.Prelude.{◌≡◌, ◌↔◌, IfErr, IfOk, IsTrue, ℕ, List};
 ghost use Rattle.objects_written.specs.bcder_tree.declared.mode.Mode.TheVariants.{Der};
 ghost use Rattle.objects_written.specs.bcder_content.Texts.{SpellsOf};
+ghost use Rattle.objects_written.specs.bcder_primitive.declared.written.error.EncodeError.TheVariants.{Memory as memory_lacks};
 ghost use Rattle.objects_written.specs.bcder_values.Gathered.{ExtendRefused};
 ghost use Rattle.objects_written.specs.objects_payload.Roas.{IsRoa, Roa};
 ghost use Rattle.objects_written.specs.Roas.{AreOfFamilies, HasAddress, as_id, roa, roa_parts};
@@ -123,7 +124,9 @@ pub trait EncodeRoa {
         ensures again { IfOk result (λ c. HasAddress (content self.now)
             → SpellsOf Der IsRoa c.octets (content self.now)) }
         ensures refused { IfErr result (ExtendRefused ((roa (content self.now)).trees Der)
-            ((roa (content self.now)).writes Der)) };
+            ((roa (content self.now)).writes Der)) }
+        ensures memory { IfErr result (λ e. e ≡ memory_lacks
+            → (text : List ℕ) × (roa (content self.now)).writes Der text) };
 }
 
 // What is written of an attestation, each of whose addresses is one of its family.

@@ -1,8 +1,9 @@
 //! What the types of a certificate's fields promise of them: functions that do nothing.
 
 ghost use Rattle.std.specs.Prelude.{IfSome, option_copied};
-ghost use Rattle.certs.specs.certs_basics.Basics.{IsTwentyLong};
+ghost use Rattle.certs.specs.certs_basics.Basics.{IsSmallEnough, IsTwentyLong};
 ghost use Rattle.certs.specs.certs_basics.Keys.{HasEncoding};
+ghost use Rattle.certs.specs.certs_extension.Purposes.{AreKeyPurposes};
 ghost use Rattle.certs.specs.resources_as.Written.{HasMaximal};
 ghost use Rattle.certs.specs.resources_ip.Written.{FitsChoice};
 ghost use Rattle.certs.specs.resources_ip_prefix.declared.addr.AddressFamily.TheVariants.{Ipv4, Ipv6};
@@ -14,6 +15,8 @@ ghost use Rattle.resources_ip.specs.WholeSets.{ListsWhole};
 use crate::written::{KeyIdentifier, Name};
 use certs_basics::uri::{Https, Rsync};
 use certs_cert::TbsCert;
+use certs_extension::ExtendedKeyUsage;
+use certs_key::laws::serials_are_small;
 
 // A name is one.
 fn name_is(name: &Name)
@@ -47,6 +50,22 @@ fn identifier_is(identifier: Option<KeyIdentifier>)
     if let Some(identifier) = identifier {
         let _octets = identifier.as_slice();
     }
+}
+
+// Purposes are some, each by an identifier.
+fn purposes_are_some(usage: Option<&ExtendedKeyUsage>)
+    ensures { IfSome (option_copied usage.entry) AreKeyPurposes }
+{
+    if let Some(usage) = usage {
+        let _purpose = usage.inspect_router();
+    }
+}
+
+// The serial number is below 2^160.
+fn serial_is(tbs: &TbsCert)
+    ensures { IsSmallEnough tbs.now.serial }
+{
+    serials_are_small(tbs.serial_number());
 }
 
 // The name of the issuer is one.
@@ -83,6 +102,13 @@ fn authority_key_is(tbs: &TbsCert)
     ensures { IfSome tbs.now.authority_key_identifier IsTwentyLong }
 {
     identifier_is(tbs.authority_key_identifier());
+}
+
+// What else the key is for, if it is there, is some purpose, each by an identifier.
+fn purposes_are(tbs: &TbsCert)
+    ensures { IfSome tbs.now.extended_key_usage AreKeyPurposes }
+{
+    purposes_are_some(tbs.extended_key_usage());
 }
 
 // The URI of the revocation list, if it is there, is an rsync URI.
@@ -162,11 +188,13 @@ fn asn_is(tbs: &TbsCert)
 pub fn fields_are_lawful(tbs: &TbsCert)
     ensures { IsLawful tbs.now }
 {
+    serial_is(tbs);
     issuer_is(tbs);
     subject_is(tbs);
     key_is(tbs);
     subject_key_is(tbs);
     authority_key_is(tbs);
+    purposes_are(tbs);
     crl_is(tbs);
     ca_issuer_is(tbs);
     access_is(tbs);

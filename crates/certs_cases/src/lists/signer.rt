@@ -13,7 +13,8 @@ pub struct Echo {
 }
 
 impl Signer for Echo {
-    ghost use Rattle.std.specs.Prelude.{◌≡◌};
+    ghost use Rattle.std.specs.Prelude.{◌≡◌, ◌≢◌};
+    ghost use Rattle.certs_key.specs.declared.signer.SigningError.TheVariants.{TooLong};
 
     type KeyId = u8;
 
@@ -24,6 +25,9 @@ impl Signer for Echo {
     ghost signs = { λ _ _ message signature. signature ≡ message };
 
     ghost signs_once = { λ _ _ _ _. ⊥ };
+
+    // By any but that.
+    ghost refuses = { λ _ e. e ≢ TooLong };
 
     fn get_key_info(
         &self,

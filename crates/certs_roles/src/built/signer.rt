@@ -1,6 +1,7 @@
 //! A signer whose signatures are digests.
 
-ghost use Rattle.std.specs.Prelude.{◌≡◌};
+ghost use Rattle.std.specs.Prelude.{◌≡◌, ◌⊎◌};
+ghost use Rattle.certs.specs.certs_key.declared.signer.SigningError.TheVariants.{KeyNotFound, Memory};
 
 use bytes::Bytes;
 use certs_x509::{Digester, PublicKey, Signature, SignatureAlgorithm, Signer, SigningError};
@@ -26,6 +27,8 @@ impl Signer for Stub {
         ≡ ⟦<Fips as Digester>⟧.sha256_digest (record {}) message };
 
     ghost signs_once = { λ _ _ _ _. ⊥ };
+
+    ghost refuses = { λ _ e. (e ≡ KeyNotFound) ⊎ (e ≡ Memory) };
 
     fn get_key_info(
         &self,

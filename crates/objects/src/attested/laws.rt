@@ -3,10 +3,9 @@
 ghost use Rattle.std.specs.Prelude.{ℕ, List, true};
 ghost use Rattle.objects.specs.bcder_content.Texts.{SpellsOf};
 ghost use Rattle.objects.specs.bcder_tree.declared.mode.Mode.{Mode as ModeValue};
-ghost use Rattle.objects.specs.certs_basics.Basics.{IsSmallEnough};
 ghost use Rattle.objects.specs.certs_basics.HandedIn.{Digests};
 ghost use Rattle.objects.specs.objects_payload.Aspas.{Aspa, AspaText, IsAspa, IsLawful};
-ghost use Rattle.objects_built.specs.Builders.{BuilderValue, IsPadded, built_object};
+ghost use Rattle.objects_built.specs.Builders.{BuilderValue, built_object};
 ghost use Rattle.objects.specs.Attested.{IsAspaFor};
 ghost use Rattle.objects.specs.Written.{aspa};
 
@@ -18,11 +17,10 @@ pub fn attestations_are_read_again()
         → SpellsOf m IsAspa text a }
 {}
 
-/// A provider attestation that is signed is read again, strictly, as the same attestation: where its providers are lawful, and
-/// the unused bits of the key that the signer made are zero. Serial numbers are below 2^160, as each `Serial` is.
+/// A provider attestation that is signed is read again, strictly, as the same attestation, where its providers are lawful.
 pub fn signed_aspas_are_read_again()
     ensures { (d : Digests) (b : BuilderValue) (a : Aspa) (octets : List ℕ)
-        (x : IsAspaFor d b a octets) → IsLawful a → IsSmallEnough b.serial → IsPadded x.built.key
+        (x : IsAspaFor d b a octets) → IsLawful a
         → AspaText true octets (built_object x.built) a }
 {
     built_kinds_are_read_again();

@@ -1,16 +1,20 @@
 //! Provider attestations that are signed (draft-ietf-sidrops-aspa-profile 2, 4).
 
-ghost use Rattle.std.specs.Prelude.{◌≡◌, IfOk};
+ghost use Rattle.std.specs.Prelude.{◌≡◌, IfErr, IfOk};
 ghost use Rattle.objects.specs.bcder_tree.declared.mode.Mode.TheVariants.{Der};
 ghost use Rattle.objects.specs.certs_key.Digesting.{digests_of};
 ghost use Rattle.objects.specs.resources_chain.declared.choice.ResourcesChoice.TheVariants.{Missing};
 ghost use Rattle.objects_built.specs.Builders.{IsSigned};
+ghost use Rattle.objects_built.specs.Refusing.{BuildRefused};
+ghost use Rattle.objects.specs.bcder_values.Writable.{Writable};
+ghost use Rattle.objects.specs.Refusing.{CanWrite, CannotSignContent};
+ghost use Rattle.objects.specs.objects_payload.Identifiers as id;
 ghost use Rattle.objects.specs.Attested.{AttestsCustomer, IsAspaFor};
 ghost use Rattle.objects.specs.Written.{aspa};
 
 use crate::attested::builder::AspaBuilder;
+use crate::issued::refusing::unwritten;
 use certs_extension::{AsResources, IpResources};
-use certs_key::encode::EncodeError;
 use certs_key::{Captured, Digester, Signer, SigningError};
 use objects_built::SignedObjectBuilder;
 use std::alloc::{AllocError, Global};
@@ -20,12 +24,14 @@ const CONTENT_TYPE: &[u8] = &[42, 134, 72, 134, 247, 13, 1, 9, 16, 1, 49];
 
 // The content of an attestation, in DER.
 fn content_of<E>(alloc: Global, attestation: &AspaBuilder) -> Result<Captured, SigningError<E>>
-    ensures { IfOk result (λ c. (aspa attestation.now).writes Der c.octets) }
+    ensures written { IfOk result (λ c. (aspa attestation.now).writes Der c.octets) }
+    ensures refused { IfErr result (BuildRefused (λ _. ⊥)
+        (CanWrite ((aspa attestation.now).writes Der))
+        (Writable ((aspa attestation.now).writes Der) → ⊥)) }
 {
     match attestation.to_octets(alloc) {
         Ok(octets) => Ok(octets),
-        Err(EncodeError::Memory) => Err(SigningError::Memory),
-        Err(_) => Err(SigningError::TooLong),
+        Err(error) => Err(unwritten(error)),
     }
 }
 
@@ -74,6 +80,11 @@ fn sign<S: Signer, D: Digester>(
         c.octets) × IsSigned (S.has_key signer.now issuer_key.now)
         (S.signs signer.now issuer_key.now) (S.signs_once signer.now) x.built) }
     ensures mode { IfOk result (λ c. c.mode ≡ Der) }
+    ensures refused { IfErr result (BuildRefused (S.refuses signer.now)
+        (CanWrite ((aspa attestation.now).writes Der)) (CannotSignContent
+        (digests_of D.sha256_digest D.sha1_digest digester.now)
+        (S.has_key signer.now issuer_key.now) (S.signs_once signer.now)
+        id.provider_authorization ((aspa attestation.now).writes Der) (AttestsCustomer builder attestation.now))) }
 {
     match content_of(alloc, attestation) {
         Ok(content) => match attesting(alloc, builder, attestation) {
@@ -123,6 +134,11 @@ impl AspaBuilder {
             × IsSigned (S.has_key signer.now issuer_key.now)
             (S.signs signer.now issuer_key.now) (S.signs_once signer.now) x.built) }
         ensures mode { IfOk result (λ c. c.mode ≡ Der) }
+        ensures refused { IfErr result (BuildRefused (S.refuses signer.now)
+            (CanWrite ((aspa self).writes Der)) (CannotSignContent
+            (digests_of D.sha256_digest D.sha1_digest digester.now)
+            (S.has_key signer.now issuer_key.now) (S.signs_once signer.now)
+            id.provider_authorization ((aspa self).writes Der) (AttestsCustomer builder self))) }
     {
         let octets = sign(alloc, &self, builder, signer, issuer_key, digester);
         drop(self);

@@ -1,8 +1,9 @@
 //! The content of a provider attestation, written (draft-ietf-sidrops-aspa-profile 3).
 
-ghost use Rattle.std.specs.Prelude.{◌≡◌, IfErr, IfOk};
+ghost use Rattle.std.specs.Prelude.{◌≡◌, ℕ, IfErr, IfOk, List};
 ghost use Rattle.objects.specs.bcder_tree.declared.mode.Mode.TheVariants.{Der};
 ghost use Rattle.objects.specs.bcder_content.Texts.{SpellsOf};
+ghost use Rattle.objects.specs.bcder_primitive.declared.written.error.EncodeError.TheVariants.{Memory as memory_lacks};
 ghost use Rattle.objects.specs.bcder_values.Gathered.{ExtendRefused};
 ghost use Rattle.objects.specs.objects_payload.Aspas.{IsAspa, IsLawful};
 ghost use Rattle.objects.specs.Written.{as_id, aspa, aspa_parts};
@@ -169,6 +170,8 @@ impl AspaBuilder {
             → SpellsOf Der IsAspa c.octets self.now) }
         ensures refused { IfErr result (ExtendRefused ((aspa self.now).trees Der)
             ((aspa self.now).writes Der)) }
+        ensures memory { IfErr result (λ e. e ≡ memory_lacks
+            → (text : List ℕ) × (aspa self.now).writes Der text) }
     {
         let value = self.encode_ref();
         value.to_captured(alloc, Mode::Der)

@@ -1,25 +1,22 @@
 //! Laws of what is signed: the contracts of functions that do nothing.
 
 ghost use Rattle.std.specs.Prelude.{ℕ, List, true};
-ghost use Rattle.objects.specs.certs_basics.Basics.{IsSmallEnough};
 ghost use Rattle.objects.specs.certs_basics.HandedIn.{Digests};
 ghost use Rattle.objects.specs.objects_payload.Manifests.{Manifest, ManifestText};
 ghost use Rattle.objects.specs.objects_payload.Roas.{Roa, RoaText};
-ghost use Rattle.objects.specs.objects_written.Manifests.{AreFileNames, IsManifestNumber};
+ghost use Rattle.objects.specs.objects_written.Manifests.{AreFileNames};
 ghost use Rattle.objects.specs.objects_written.Roas.{AreOfFamilies, HasAddress};
 ghost use Rattle.resources_ip.specs.WholeSets.{ListsWhole};
-ghost use Rattle.objects_built.specs.Builders.{BuilderValue, IsPadded, built_object};
+ghost use Rattle.objects_built.specs.Builders.{BuilderValue, built_object};
 ghost use Rattle.objects.specs.Issued.{IsManifestFor, IsRoaFor};
 
 use objects_built::laws::built_kinds_are_read_again;
 use objects_written::laws::{attestations_are_read_again, manifests_are_read_again};
 
-/// A manifest that is signed is read again, strictly, as the same manifest: where its files have names of the profile, and
-/// the unused bits of the key that the signer made are zero. Numbers are below 2^160, as each `Serial` is.
+/// A manifest that is signed is read again, strictly, as the same manifest, where its files have names of the profile.
 pub fn signed_manifests_are_read_again()
     ensures { (d : Digests) (b : BuilderValue) (m : Manifest) (octets : List ℕ)
-        (x : IsManifestFor d b m octets) → AreFileNames m.files → IsManifestNumber m.number
-        → IsSmallEnough b.serial → IsPadded x.built.key
+        (x : IsManifestFor d b m octets) → AreFileNames m.files
         → ManifestText true octets (built_object x.built) m }
 {
     built_kinds_are_read_again();
@@ -27,11 +24,11 @@ pub fn signed_manifests_are_read_again()
 }
 
 /// A route origin attestation that is signed is read again, strictly, as the same attestation: where it has an address, each
-/// is one of its family, the IPv4 ones are whole addresses, and the unused bits of the key that the signer made are zero.
+/// is one of its family, and the IPv4 ones are whole addresses.
 pub fn signed_roas_are_read_again()
     ensures { (d : Digests) (b : BuilderValue) (r : Roa) (octets : List ℕ)
-        (x : IsRoaFor d b r octets) → HasAddress r → AreOfFamilies r → IsSmallEnough b.serial
-        → ListsWhole x.fields.v4 → IsPadded x.built.key
+        (x : IsRoaFor d b r octets) → HasAddress r → AreOfFamilies r
+        → ListsWhole x.fields.v4
         → RoaText true octets (built_object x.built) r }
 {
     built_kinds_are_read_again();

@@ -1,15 +1,19 @@
 //! Manifests that are signed (RFC 9286 4, 5.1).
 
-ghost use Rattle.std.specs.Prelude.{◌≡◌, IfOk};
+ghost use Rattle.std.specs.Prelude.{◌≡◌, IfErr, IfOk};
 ghost use Rattle.objects.specs.bcder_tree.declared.mode.Mode.TheVariants.{Der};
 ghost use Rattle.objects.specs.certs_key.Digesting.{digests_of};
 ghost use Rattle.objects.specs.objects_payload.Manifests.{Manifest};
 ghost use Rattle.objects_built.specs.Builders.{IsBuilt, IsSigned};
+ghost use Rattle.objects_built.specs.Refusing.{BuildRefused, IsTooLong};
+ghost use Rattle.objects.specs.bcder_values.Writable.{Writable};
+ghost use Rattle.objects.specs.Refusing.{CanWrite, CannotSignContent};
 ghost use Rattle.objects.specs.Issued.{IsManifestFor, inheriting};
 ghost use Rattle.objects.specs.objects_payload.Identifiers as id;
-ghost use Rattle.objects.specs.objects_written.Manifests.{manifest};
+ghost use Rattle.objects.specs.objects_written.Manifests.{IsManifestNumber, manifest};
 
-use certs_key::encode::EncodeError;
+use crate::issued::refusing::unwritten;
+use certs_key::laws::serials_are_small;
 use certs_key::{Captured, Digester, Signer, SigningError};
 use objects_built::SignedObjectBuilder;
 use objects_cms::manifest::ManifestContent;
@@ -19,14 +23,18 @@ use std::alloc::Global;
 // id-ct-rpkiManifest, 1.2.840.113549.1.9.16.1.26 (RFC 9286 4.1).
 const CONTENT_TYPE: &[u8] = &[42, 134, 72, 134, 247, 13, 1, 9, 16, 1, 26];
 
-// The content of a manifest, in DER.
+// The content of a manifest, in DER; its number is one that a manifest may have.
 fn content_of<E>(alloc: Global, content: &ManifestContent) -> Result<Captured, SigningError<E>>
-    ensures { IfOk result (λ c. (manifest content.now).writes Der c.octets) }
+    ensures number { IsManifestNumber content.now.number }
+    ensures written { IfOk result (λ c. (manifest content.now).writes Der c.octets) }
+    ensures refused { IfErr result (BuildRefused (λ _. ⊥)
+        (CanWrite ((manifest content.now).writes Der))
+        (Writable ((manifest content.now).writes Der) → ⊥)) }
 {
+    serials_are_small(content.manifest_number());
     match content.to_octets(alloc) {
         Ok(octets) => Ok(octets),
-        Err(EncodeError::Memory) => Err(SigningError::Memory),
-        Err(_) => Err(SigningError::TooLong),
+        Err(error) => Err(unwritten(error)),
     }
 }
 
@@ -67,7 +75,12 @@ pub trait IntoManifest: Sized {
             (digests_of D.sha256_digest D.sha1_digest digester.now) builder (content self)
             c.octets) × IsSigned (S.has_key signer.now issuer_key.now)
             (S.signs signer.now issuer_key.now) (S.signs_once signer.now) x.built) }
-        ensures mode { IfOk result (λ c. c.mode ≡ Der) };
+        ensures mode { IfOk result (λ c. c.mode ≡ Der) }
+        ensures refused { IfErr result (BuildRefused (S.refuses signer.now)
+            (CanWrite ((manifest (content self)).writes Der)) (CannotSignContent
+            (digests_of D.sha256_digest D.sha1_digest digester.now)
+            (S.has_key signer.now issuer_key.now) (S.signs_once signer.now)
+            id.manifest ((manifest (content self)).writes Der) (λ fields. fields ≡ inheriting builder))) };
 }
 
 impl IntoManifest for ManifestContent {
@@ -110,6 +123,11 @@ fn sign<S: Signer, D: Digester>(
         content.octets c.octets) × IsSigned (S.has_key signer.now issuer_key.now)
         (S.signs signer.now issuer_key.now) (S.signs_once signer.now) x) }
     ensures mode { IfOk result (λ c. c.mode ≡ Der) }
+    ensures refused { (m : Manifest) → (manifest m).writes Der content.octets → IfErr result
+        (BuildRefused (S.refuses signer.now) (CanWrite ((manifest m).writes Der))
+        (CannotSignContent (digests_of D.sha256_digest D.sha1_digest digester.now)
+        (S.has_key signer.now issuer_key.now) (S.signs_once signer.now)
+        id.manifest ((manifest m).writes Der) (λ fields. fields ≡ inheriting builder))) }
 {
     let inheriting = inherits(builder);
     let octets = inheriting.finalize(

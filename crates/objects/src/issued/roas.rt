@@ -1,6 +1,6 @@
 //! Route origin attestations that are signed (RFC 9582 3, 5).
 
-ghost use Rattle.std.specs.Prelude.{◌≡◌, IfOk};
+ghost use Rattle.std.specs.Prelude.{◌≡◌, IfErr, IfOk};
 ghost use Rattle.objects.specs.bcder_tree.declared.mode.Mode.TheVariants.{Der};
 ghost use Rattle.objects.specs.certs_key.Digesting.{digests_of};
 ghost use Rattle.objects.specs.objects_payload.Roas.{Roa};
@@ -9,11 +9,15 @@ ghost use Rattle.objects.specs.resources_chain.declared.choice.ResourcesChoice.T
 ghost use Rattle.objects.specs.resources_ip_prefix.declared.addr.AddressFamily.TheVariants.{Ipv4, Ipv6};
 ghost use Rattle.objects_payload.specs.Addresses.{AllOf};
 ghost use Rattle.objects_built.specs.Builders.{IsSigned};
+ghost use Rattle.objects_built.specs.Refusing.{BuildRefused};
+ghost use Rattle.objects.specs.bcder_values.Writable.{Writable};
+ghost use Rattle.objects.specs.Refusing.{CanWrite, CannotSignContent};
+ghost use Rattle.objects.specs.objects_payload.Identifiers as id;
 ghost use Rattle.objects.specs.Issued.{AttestsPrefixes, IsRoaFor};
 
 use crate::issued::addresses::resources_of;
+use crate::issued::refusing::unwritten;
 use certs_extension::{AsResources, IpResources};
-use certs_key::encode::EncodeError;
 use certs_key::{Captured, Digester, Signer, SigningError};
 use objects_built::SignedObjectBuilder;
 use objects_payload::roa::{RoaBuilder, RouteOriginAttestation};
@@ -28,12 +32,14 @@ fn content_of<E>(
     alloc: Global,
     content: &RouteOriginAttestation,
 ) -> Result<Captured, SigningError<E>>
-    ensures { IfOk result (λ c. (roa content.now).writes Der c.octets) }
+    ensures written { IfOk result (λ c. (roa content.now).writes Der c.octets) }
+    ensures refused { IfErr result (BuildRefused (λ _. ⊥)
+        (CanWrite ((roa content.now).writes Der))
+        (Writable ((roa content.now).writes Der) → ⊥)) }
 {
     match content.to_octets(alloc) {
         Ok(octets) => Ok(octets),
-        Err(EncodeError::Memory) => Err(SigningError::Memory),
-        Err(_) => Err(SigningError::TooLong),
+        Err(error) => Err(unwritten(error)),
     }
 }
 
@@ -93,6 +99,11 @@ fn sign<S: Signer, D: Digester>(
         c.octets) × IsSigned (S.has_key signer.now issuer_key.now)
         (S.signs signer.now issuer_key.now) (S.signs_once signer.now) x.built) }
     ensures mode { IfOk result (λ c. c.mode ≡ Der) }
+    ensures refused { IfErr result (BuildRefused (S.refuses signer.now)
+        (CanWrite ((roa attestation.now).writes Der)) (CannotSignContent
+        (digests_of D.sha256_digest D.sha1_digest digester.now)
+        (S.has_key signer.now issuer_key.now) (S.signs_once signer.now)
+        id.route_origin ((roa attestation.now).writes Der) (AttestsPrefixes builder attestation.now))) }
 {
     match content_of(alloc, attestation) {
         Ok(content) => match attesting(alloc, builder, attestation) {
@@ -148,7 +159,12 @@ pub trait FinalizeRoa: Sized {
             (digests_of D.sha256_digest D.sha1_digest digester.now) builder (content self)
             c.octets) × IsSigned (S.has_key signer.now issuer_key.now)
             (S.signs signer.now issuer_key.now) (S.signs_once signer.now) x.built) }
-        ensures mode { IfOk result (λ c. c.mode ≡ Der) };
+        ensures mode { IfOk result (λ c. c.mode ≡ Der) }
+        ensures refused { IfErr result (BuildRefused (S.refuses signer.now)
+            (Unit {0}) (CannotSignContent
+            (digests_of D.sha256_digest D.sha1_digest digester.now)
+            (S.has_key signer.now issuer_key.now) (S.signs_once signer.now)
+            id.route_origin ((roa (content self)).writes Der) (AttestsPrefixes builder (content self)))) };
 }
 
 impl FinalizeRoa for RoaBuilder {

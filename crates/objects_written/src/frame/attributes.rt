@@ -1,6 +1,6 @@
 //! The attributes that a signer signs, written (RFC 5652 5.3, 5.4, 11; RFC 6488 2.1.6.4).
 
-ghost use Rattle.std.specs.Prelude.{◌≡◌, IfErr, IfOk};
+ghost use Rattle.std.specs.Prelude.{◌≡◌, ℕ, IfErr, IfOk, List};
 ghost use Rattle.objects_written.specs.bcder_tree.declared.mode.Mode.TheVariants.{Der};
 ghost use Rattle.objects_written.specs.bcder_tree.Tags.{set_tag};
 ghost use Rattle.objects_written.specs.bcder_content.Texts.{InOrder};
@@ -9,6 +9,7 @@ ghost use Rattle.objects_written.specs.bcder_values.Gathered.{ExtendRefused};
 ghost use Rattle.objects_written.specs.bcder_content.Kept.{SpellsValues};
 ghost use Rattle.objects_written.specs.bcder_values.Wraps.{wrapped_one, wrapped_spelled};
 ghost use Rattle.objects_written.specs.bcder_primitive.Encoded.{IsWrapped, WritesWrapped};
+ghost use Rattle.objects_written.specs.bcder_primitive.declared.written.error.EncodeError.TheVariants.{Memory as memory_lacks};
 ghost use Rattle.objects_written.specs.bcder.Kinds.{octets as string, oid};
 ghost use Rattle.objects_written.specs.objects_payload.SignedAttributes.{AreAttributes};
 ghost use Rattle.objects_written.specs.Attributes.{IsMessage, IsRefused, MessageRefused, WritesAttributes, attributes_of, content_type as type_of, message_digest as digest_of, signing_time as time_of, to_sign};
@@ -127,6 +128,8 @@ fn type_text(alloc: Global, content_type: &[u8]) -> Result<Captured, EncodeError
     ensures mode { IfOk result (λ c. c.mode ≡ Der) }
     ensures refused { IfErr result (ExtendRefused ((type_of content_type.now).trees Der)
         ((type_of content_type.now).writes Der)) }
+    ensures memory { IfErr result (λ e. e ≡ memory_lacks
+        → (text : List ℕ) × (type_of content_type.now).writes Der text) }
 {
     let value = Sequence((Identifier(CONTENT_TYPE), SetOf(OidValue(content_type))));
     value.to_captured(alloc, Mode::Der)
@@ -187,7 +190,7 @@ fn set_text(
 /// ascending by their octets, as DER has a SET OF (X.690 11.6). They are read again as these three, where the type is an
 /// object identifier.
 ///
-/// `TooLong` where a content has more than 2^32 - 1 octets.
+/// `TooLong` where a content has more than 2^32 - 1 octets; `Memory` only where the content's type can be written.
 pub fn signed_attributes(
     alloc: Global,
     content_type: &[u8],
@@ -201,6 +204,8 @@ pub fn signed_attributes(
         → InOrder Der (AreAttributes Der) c.octets
         (attributes_of (to_sign content_type.now digest.now time))) }
     ensures refused { IfErr result (IsRefused (to_sign content_type.now digest.now time)) }
+    ensures memory { IfErr result (λ e. e ≡ memory_lacks
+        → (text : List ℕ) × (type_of content_type.now).writes Der text) }
 {
     let first = type_text(alloc, content_type)?;
     let second = digest_text(alloc, digest)?;

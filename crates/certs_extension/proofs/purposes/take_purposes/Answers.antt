@@ -1,5 +1,6 @@
 -- One purpose at least: what was read of all of them, with a test.
 use Rattle.std.proofs.Common.{◌≡◌, ◌≢◌, ℕ, List, [], map, refl, sym, ap, ◌∙◌}
+use Rattle.certs_extension.proofs.Purposes.{purposes_of}
 use Rattle.certs_extension.specs.bcder_tree.Tags.{oid_tag}
 use Rattle.certs_extension.specs.bcder_tree.Tree.{Trees}
 use Rattle.certs_extension.specs.bcder_content.Grammar.{Many, OctetsOf}
@@ -31,6 +32,11 @@ returns-then-is_none g c =
 
 some_says : (xs : List (List ℕ)) (ts : Trees) → xs ≢ [] → Many (OctetsOf oid_tag IsOid) ts xs → Gathers (OctetsOf oid_tag IsOid) AreSome ts xs
 some_says xs ts h q = record { xs = xs; are = q; says = (refl, h) }
+
+pub invariant_of-result : goal.invariant_of-result
+invariant_of-result g c =
+    let some : map purpose_octets c.in_ok-purposes.purposes.items ≢ [] = λ none. let t = c.if-is_none.ensures.1 (ap (map purpose_octets) c.as_slice.ensures.value ∙ none) in absurd cc in
+    purposes_of _ _ some c.in_ok-purposes.ensures.reads.is
 
 pub returns : goal.returns
 returns g c =

@@ -2,6 +2,7 @@ use Rattle.objects_built.specs.certs_extension.Cert.{TbsValue}
 use Rattle.objects_built.specs.certs.Laws.{IsLawful}
 use Rattle.objects_built.specs.Builders.{AreFieldsOf}
 use Rattle.objects_built.proofs.Building.{cert_algorithm, cert_has, cert_message}
+use Rattle.objects_built.proofs.Refused.{cert_refused}
 use Rattle.objects_built.proofs.build.certify.Goals as goal
 
 pub returns-in-Ok-clause-fields : goal.returns-in-Ok-clause-fields
@@ -15,3 +16,6 @@ returns-in-Ok-clause-message g c = cert_message _ c.into_cert.result c.into_cert
 
 pub returns-in-Ok-clause-algorithm : goal.returns-in-Ok-clause-algorithm
 returns-in-Ok-clause-algorithm g c = cert_algorithm _ c.into_cert.result c.into_cert.ensures.fields c.into_cert.ensures.algorithm
+
+pub returns-in-Ok-clause-refused : goal.returns-in-Ok-clause-refused
+returns-in-Ok-clause-refused g c = cert_refused _ _ _ _ _ c.in-Ok.ensures c.into_cert.result c.into_cert.ensures.refused

@@ -2,10 +2,10 @@ use Rattle.objects_built.proofs.KindAgain.{kind_again, manifest_known, provider_
 use Rattle.objects_built.proofs.laws.built_kinds_are_read_again.Goals as goal
 
 pub returns-clause-roas : goal.returns-clause-roas
-returns-clause-roas c = kind_again c.what_is_built_is_read.ensures.spelled route_known
+returns-clause-roas c = kind_again c.what_is_built_is_read.ensures.spelled c.what_is_built_is_read.ensures.stay route_known
 
 pub returns-clause-manifests : goal.returns-clause-manifests
-returns-clause-manifests c = kind_again c.what_is_built_is_read.ensures.spelled manifest_known
+returns-clause-manifests c = kind_again c.what_is_built_is_read.ensures.spelled c.what_is_built_is_read.ensures.stay manifest_known
 
 pub returns-clause-aspas : goal.returns-clause-aspas
-returns-clause-aspas c = kind_again c.what_is_built_is_read.ensures.spelled provider_known
+returns-clause-aspas c = kind_again c.what_is_built_is_read.ensures.spelled c.what_is_built_is_read.ensures.stay provider_known

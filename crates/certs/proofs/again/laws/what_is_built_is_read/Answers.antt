@@ -1,4 +1,4 @@
-use Rattle.certs.proofs.Certs.{built_is_read, built_is_spelled, read_is_built}
+use Rattle.certs.proofs.Certs.{built_is_read, built_is_spelled, fields_stay, read_is_built}
 use Rattle.certs.proofs.Whole.{fields_are_read}
 use Rattle.certs.proofs.again.laws.what_is_built_is_read.Goals as goal
 
@@ -13,3 +13,6 @@ returns-clause-spelled c = built_is_spelled (record { families = c.families_are_
 
 pub returns-clause-same : goal.returns-clause-same
 returns-clause-same c = read_is_built
+
+pub returns-clause-stay : goal.returns-clause-stay
+returns-clause-stay c = fields_stay c.padded_keys_stay.ensures

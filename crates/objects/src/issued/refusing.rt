@@ -1,0 +1,17 @@
+//! Why a content isn't signed, where it can't be written.
+
+ghost use Rattle.std.specs.Prelude.{◌≡◌};
+ghost use Rattle.objects_built.specs.Refusing.{told_as};
+
+use certs_key::SigningError;
+use certs_key::encode::EncodeError;
+
+/// What a refusal to write is to whoever signs.
+pub(crate) fn unwritten<E>(error: EncodeError) -> SigningError<E>
+    ensures { result ≡ told_as error }
+{
+    match error {
+        EncodeError::Memory => SigningError::Memory,
+        _ => SigningError::TooLong,
+    }
+}
