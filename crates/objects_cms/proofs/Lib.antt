@@ -9,10 +9,10 @@ pub mod Lists
 pub mod Names
 pub mod Stepping
 mod Joined
-pub mod NoMemory
-pub mod Ones
-pub mod Spelled
-pub mod Whole
+mod NoMemory
+mod Ones
+mod Spelled
+mod Whole
 pub mod Messages
 pub mod of_bcder
 pub mod of_bcder_content

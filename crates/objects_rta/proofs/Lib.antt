@@ -1,6 +1,5 @@
-pub mod Repeated
 mod Ones
 mod Spelled
-mod Lists
 mod Whole
 mod Texts
+mod Meanings

@@ -21,8 +21,9 @@ use Rattle.certs_extension.proofs.Spellings.{crl_is_spelled}
 use Rattle.objects_cms.specs.certs_extension.CertText.{SpellsCert}
 use Rattle.objects_cms.specs.certs_extension.CrlText.{CrlValue, IsCrl}
 use Rattle.objects_cms.specs.objects_payload.ObjectText.{SpellsSigner}
-use Rattle.objects_rta.specs.Several.{Perhaps, PerhapsCases, Repeats, RepeatsCases, Several}
-use Rattle.objects_rta.specs.Frame.{AnyOctets, SpellsKeptData, SpellsKeptFrame}
+use Rattle.objects_carried.specs.Several.{Perhaps, PerhapsCases, Repeats, RepeatsCases, Several}
+use Rattle.objects_carried.specs.Carried.{AnyOctets}
+use Rattle.objects_rta.specs.Frame.{SpellsKeptData, SpellsKeptFrame}
 
 -- A constructed value in front, of definite or of indefinite length.
 splits : {m : Mode} {t : TagValue} (a h c u : List ℕ) → IsHeader m h true t (length c) → a ≡ h ++ c → Splits m (a ++ u) true t c u

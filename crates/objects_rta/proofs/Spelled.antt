@@ -8,9 +8,10 @@ use Rattle.bcder_content.specs.Grammar.{Inside, Many, ManyCases, Opt, Tagged, Th
 use Rattle.bcder_content.specs.Texts.{InOrder, Joins, SpellsOf}
 use Rattle.bcder_content.proofs.Unique.{inside_tagged, same_trees}
 use Rattle.objects_cms.proofs.Spelled.{cert_of, joins, nothing, signer_tree, wraps}
-use Rattle.objects_rta.specs.Several.{Perhaps, PerhapsCases, Repeats, RepeatsCases, Several, SomeOf}
+use Rattle.objects_carried.specs.Several.{Perhaps, PerhapsCases, Repeats, RepeatsCases, Several, SomeOf}
 use Rattle.objects_rta.specs.Multi.{DataFields, FrameFields}
-use Rattle.objects_rta.specs.Frame.{AnyOctets, AreValues, IsData, IsFrame, SpellsAny, SpellsKeptData, SpellsKeptFrame}
+use Rattle.objects_carried.specs.Carried.{AreValues, SpellsAny}
+use Rattle.objects_rta.specs.Frame.{IsData, IsFrame, SpellsKeptData, SpellsKeptFrame}
 
 -- Several values.
 repeats_at : {A : Type 0} {m : Mode} {P : List ℕ → A → Type 0} {Q : Tree → A → Type 0} → ((text : List ℕ) (x : A) → P text x → SpellsOf m Q text x)

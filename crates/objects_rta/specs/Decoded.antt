@@ -1,50 +1,46 @@
 -- What the readers of objects with several signers answer, by octets.
-use Rattle.std.specs.Prelude.{◌≡◌, ℕ, Bool, List, [], All, Option, Some, None, Result, Ok, Err}
-use Rattle.objects_cms.specs.bcder_tree.declared.mode.Mode.TheVariants.{Der}
-use Rattle.objects_cms.specs.bcder_tree.Tree.{Trees}
+use Rattle.std.specs.Prelude.{◌≡◌, ℕ, Bool, List, ◌++◌, All, Result, Ok, Err}
+use Rattle.objects_cms.specs.bcder_tree.declared.mode.Mode.{Mode}
+use Rattle.objects_cms.specs.bcder_tree.Tree.{Spells, Tree}
 use Rattle.objects_cms.specs.bcder_source.Errors.{OnContent}
 use Rattle.objects_cms.specs.bcder_source.declared.error.DecodeError.{DecodeError}
-use Rattle.objects_cms.specs.bcder_content.Contents.{Ended, TookAll, ValuesLeft}
-use Rattle.objects_cms.specs.bcder_content.Exact.{LacksAll}
-use Rattle.objects_cms.specs.bcder_content.Grammar.{Many}
-use Rattle.objects_cms.specs.bcder_content.Texts.{InOrder, SpellsOf}
-use Rattle.objects_cms.specs.certs_extension.CrlText.{CrlValue, IsCrl}
+use Rattle.objects_cms.specs.bcder_content.Kept.{CapturedValue}
+use Rattle.objects_cms.specs.bcder_content.Texts.{InFront}
 use Rattle.objects_cms.specs.Signer.{SignerValue}
-use Rattle.objects_rta.specs.Several.{Repeats}
-use Rattle.objects_rta.specs.Multi.{HasType, Multi, MultiText, lists_of}
-use Rattle.objects_rta.specs.Frame.{Parts, fields_of_all}
-
--- Revocation lists, one after the other, as values.
-abbrev pub AreCrls : Trees → List CrlValue → Type 0
-AreCrls = Many (IsCrl Der)
-
--- Lists were read, which are all that was left of a content.
-pub record AreWhole (old : ValuesLeft) (crls : List CrlValue) (new : ValuesLeft) : Type 0 where
-  pub trees : Trees
-  pub took : TookAll old trees new
-  pub ended : Ended new
-  pub is : Many (IsCrl old.mode) trees crls
-
--- A reader of such a content, its end included, by what its answer means.
-abbrev pub ReadsWhole : {A E : Type 0} → (A → List CrlValue) → ValuesLeft → Result A (DecodeError E) → ValuesLeft → Type 0
-ReadsWhole f old (Ok x) new = AreWhole old (f x) new
-ReadsWhole f old (Err e) new = OnContent e (LacksAll (Many (IsCrl old.mode)) old)
-
--- All of the octets are these lists in DER; where there are no octets, there are no lists.
-abbrev pub AreListsIn : Option (List ℕ) → List CrlValue → Type 0
-AreListsIn None crls = crls ≡ []
-AreListsIn (Some octets) crls = InOrder Der AreCrls octets crls
-
--- The lists of these octets, or they are none.
-abbrev pub DecodesLists : {A E : Type 0} → (A → List CrlValue) → Option (List ℕ) → Result A (DecodeError E) → Type 0
-DecodesLists f octets (Ok x) = AreListsIn octets (f x)
-DecodesLists f octets (Err e) = OnContent e ((crls : List CrlValue) → AreListsIn octets crls → ⊥)
+use Rattle.objects_cms.specs.objects_payload.ObjectText.{mode}
+use Rattle.objects_rta.specs.Multi.{HasType, KeptMulti, Multi, MultiText, SpellsMulti}
+use Rattle.objects_rta.specs.Frame.{fields_of_all}
 
 -- Each signer's attribute for the content's type has that type (RFC 5652 11.1).
 abbrev pub HaveType : List ℕ → List SignerValue → Type 0
 HaveType type signers = All (HasType type) (fields_of_all signers)
 
+-- The object in front of the octets in that mode, or there is none.
+abbrev pub DecodesIn : {E : Type 0} → Mode → List ℕ → Result Multi (DecodeError E) → Type 0
+DecodesIn m octets (Ok o) = InFront (SpellsMulti m) octets o
+DecodesIn m octets (Err e) = OnContent e ((o : Multi) → InFront (SpellsMulti m) octets o → ⊥)
+
+-- The octets spell one value, and nothing after it.
+pub record IsOneValue (c : CapturedValue) : Type 0 where
+  pub tree : Tree
+  pub spelled : Spells c.mode tree c.octets
+
+-- The object that captured octets spell, with these, or there is none in front of them.
+abbrev pub ReadsCaptured : {E : Type 0} → CapturedValue → Result KeptMulti (DecodeError E) → Type 0
+ReadsCaptured c (Ok k) = (k.text ≡ c) × SpellsMulti c.mode c.octets k.object
+ReadsCaptured c (Err e) = OnContent e ((o : Multi) → InFront (SpellsMulti c.mode) c.octets o → ⊥)
+
+abbrev pub object_of : KeptMulti → Multi
+object_of k = k.object
+
+-- The object is in front of the octets, and these of them spell it.
+pub record IsKept (strict : Bool) (octets : List ℕ) (k : KeptMulti) : Type 0 where
+  pub mode_is : k.text.mode ≡ mode strict
+  pub rest : List ℕ
+  pub whole : octets ≡ k.text.octets ++ rest
+  pub is : MultiText strict octets k.object
+
 -- The object in front of the octets, or there is none.
-abbrev pub DecodesMulti : {E : Type 0} → Bool → List ℕ → Result Multi (DecodeError E) → Type 0
-DecodesMulti strict octets (Ok o) = MultiText strict octets o
+abbrev pub DecodesMulti : {E : Type 0} → Bool → List ℕ → Result KeptMulti (DecodeError E) → Type 0
+DecodesMulti strict octets (Ok k) = IsKept strict octets k
 DecodesMulti strict octets (Err e) = OnContent e ((o : Multi) → MultiText strict octets o → ⊥)

@@ -1,36 +1,22 @@
 -- What stands around the content of an object with several signers, by values and by octets (RFC 5652 3, 5.1). The lists'
 -- octets are kept first, and read afterwards.
-use Rattle.std.specs.Prelude.{◌≡◌, ℕ, List, [], map, Option, Some, None}
+use Rattle.std.specs.Prelude.{ℕ, List, map, Option}
 use Rattle.std.specs.Option.{option_map}
 use Rattle.objects_cms.specs.bcder_tree.declared.mode.Mode.{Mode}
 use Rattle.objects_cms.specs.bcder_tree.Tags.{context, sequence_tag, set_tag}
-use Rattle.objects_cms.specs.bcder_tree.Tree.{SpellsAll, Tree, Trees}
-use Rattle.objects_cms.specs.bcder_content.Grammar.{End, ExactlyAll, Inside, Many, Opt, Rest, Then}
+use Rattle.objects_cms.specs.bcder_tree.Tree.{Tree, Trees}
+use Rattle.objects_cms.specs.bcder_content.Grammar.{End, Inside, Many, Opt, Then}
 use Rattle.objects_cms.specs.bcder_content.Kept.{CapturedValue}
 use Rattle.objects_cms.specs.bcder_content.Texts.{Joins, NoOctets, SpellsOf, Wraps}
 use Rattle.objects_cms.specs.certs_extension.Cert.{CertValue}
-use Rattle.objects_cms.specs.certs_extension.CertText.{IsCert, SpellsCert}
-use Rattle.objects_cms.specs.certs_extension.CrlText.{CrlValue}
 use Rattle.objects_cms.specs.objects_payload.Identifiers as id
 use Rattle.objects_cms.specs.objects_payload.ObjectText.{AreDigestAlgorithms, IsContentInfo, IsThree, SignerFields, SpellsSigner}
 use Rattle.objects_cms.specs.Frame.{Typed, typed_fields}
 use Rattle.objects_cms.specs.Said.{alone}
 use Rattle.objects_cms.specs.Signer.{IsSigner, SignerValue, signer_fields}
-use Rattle.objects_rta.specs.Several.{Perhaps, Repeats, Several, SomeOf}
-use Rattle.objects_rta.specs.Multi.{DataFields, FrameFields, HasType, AreLists, SpellsCerts, SpellsData, SpellsSigners}
-
--- Certificates: any number, and one or more.
-abbrev pub AreAnyCerts : Mode → Trees → List CertValue → Type 0
-AreAnyCerts m = Many (IsCert m)
-
-abbrev pub AreCerts : Mode → Trees → List CertValue → Type 0
-AreCerts m = SomeOf (IsCert m)
-
-abbrev pub AnyCertOctets : Mode → List ℕ → List CertValue → Type 0
-AnyCertOctets m = Repeats (SpellsCert m)
-
-abbrev pub CertOctets : Mode → List ℕ → List CertValue → Type 0
-CertOctets m = Several (SpellsCert m)
+use Rattle.objects_carried.specs.Carried.{AnyOctets, AreCerts, AreValues, SpellsAny, SpellsCerts, octets_of}
+use Rattle.objects_carried.specs.Several.{Perhaps, Repeats, Several, SomeOf}
+use Rattle.objects_rta.specs.Multi.{DataFields, FrameFields, SpellsData, SpellsSigners}
 
 -- Signers: any number, and one or more.
 abbrev pub AreAnySigners : Mode → Trees → List SignerFields → Type 0
@@ -48,24 +34,9 @@ SignerOctets m = Several (SpellsSigner m)
 abbrev pub fields_of_all : List SignerValue → List SignerFields
 fields_of_all = map signer_fields
 
--- The octets of any values.
-abbrev pub AreValues : Mode → Trees → List ℕ → Type 0
-AreValues m = ExactlyAll m Rest
-
-pub record AnyOctets (m : Mode) (text octets : List ℕ) : Type 0 where
-  pub same : octets ≡ text
-  pub trees : Trees
-  pub spelled : SpellsAll m trees text
-
-abbrev pub SpellsAny : Mode → List ℕ → List ℕ → Type 0
-SpellsAny m = Wraps m (context 1) (AnyOctets m)
-
 -- The content with its type, the certificates, the octets of the lists, if any, and the signers.
 abbrev pub Parts : Type 0
 Parts = Typed × List CertValue × Option CapturedValue × List SignerValue
-
-abbrev pub octets_of : CapturedValue → List ℕ
-octets_of c = c.octets
 
 -- SignedData (RFC 5652 5.1)
 abbrev pub data_fields : Parts → DataFields (List ℕ)

@@ -1,4 +1,3 @@
-pub mod Several
 pub mod Multi
 pub mod Attestations
 pub mod Frame
@@ -9,4 +8,5 @@ pub use Rattle.objects_cms.specs as objects_cms
 pub use Rattle.objects_cms.specs.bcder_tree as bcder_tree
 pub use Rattle.objects_cms.specs.bcder_content as bcder_content
 pub use Rattle.objects_cms.specs.bcder_source as bcder_source
+pub use Rattle.objects_carried.specs as objects_carried
 pub use Rattle.objects_stated.specs as objects_stated

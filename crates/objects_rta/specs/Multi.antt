@@ -2,16 +2,15 @@
 -- profile of resource tagged attestations).
 use Rattle.std.specs.Prelude.{◌≡◌, ℕ, Bool, List, [], map, All, Option, Some, None}
 use Rattle.objects_cms.specs.bcder_tree.declared.mode.Mode.{Mode}
-use Rattle.objects_cms.specs.bcder_tree.declared.mode.Mode.TheVariants.{Der}
 use Rattle.objects_cms.specs.bcder_tree.Tags.{context, sequence_tag, set_tag}
-use Rattle.objects_cms.specs.bcder_tree.Tree.{SpellsAll, Trees}
+use Rattle.objects_cms.specs.bcder_content.Kept.{CapturedValue}
 use Rattle.objects_cms.specs.bcder_content.Texts.{InFront, Joins, NoOctets, SpellsOf, Wraps}
 use Rattle.objects_cms.specs.certs_extension.Cert.{CertValue}
-use Rattle.objects_cms.specs.certs_extension.CertText.{SpellsCert}
-use Rattle.objects_cms.specs.certs_extension.CrlText.{CrlValue, IsCrl}
+use Rattle.objects_cms.specs.certs_extension.CrlText.{CrlValue}
 use Rattle.objects_cms.specs.objects_payload.Identifiers as id
 use Rattle.objects_cms.specs.objects_payload.ObjectText.{AreDigestAlgorithms, IsContentInfo, IsThree, Signer, SignerFields, SpellsSigner, mode, signer_of}
-use Rattle.objects_rta.specs.Several.{Perhaps, Repeats, Several}
+use Rattle.objects_carried.specs.Carried.{AreLists, SpellsCerts}
+use Rattle.objects_carried.specs.Several.{Perhaps, Several}
 
 -- What such an object carries.
 pub record Multi : Type 0 where
@@ -20,17 +19,6 @@ pub record Multi : Type 0 where
   pub certs : List CertValue
   pub crls : List CrlValue
   pub signers : List Signer
-
--- certificates [0] IMPLICIT SET OF Certificate: one or more, each by its octets (RFC 5652 5.1)
-abbrev pub SpellsCerts : Mode → List ℕ → List CertValue → Type 0
-SpellsCerts m = Wraps m (context 0) (Several (SpellsCert m))
-
--- CertificateList, any number, each in DER also where the object is in BER, since what is signed of a list isn't BER
--- (RFC 6487 5). They are values of the object's mode, too: what is DER is BER, and in CER no list is both.
-pub record AreLists (m : Mode) (text : List ℕ) (crls : List CrlValue) : Type 0 where
-  pub are : Repeats (SpellsOf Der (IsCrl Der)) text crls
-  pub trees : Trees
-  pub spelled : SpellsAll m trees text
 
 -- signerInfos SET OF SignerInfo: one or more (RFC 5652 5.1)
 abbrev pub SpellsSigners : Mode → List ℕ → List SignerFields → Type 0
@@ -93,6 +81,11 @@ pub record SpellsMulti (m : Mode) (text : List ℕ) (o : Multi) : Type 0 where
   pub fields : FrameFields (List CrlValue)
   pub is : SpellsFrame m (AreLists m) text fields
   pub says : SaysMulti fields.1.0.0 o
+
+-- An object that was read, with the octets that spell it.
+pub record KeptMulti : Type 0 where
+  pub text : CapturedValue
+  pub object : Multi
 
 -- Such an object stands in front of the octets, in DER, or where not strict in BER.
 abbrev pub MultiText : Bool → List ℕ → Multi → Type 0

@@ -9,6 +9,7 @@
 #![tactic(auto)]
 
 pub mod attestation;
+pub mod laws;
 pub mod multi;
 pub mod rta;
 

@@ -3,9 +3,8 @@
 //! They are read by octets: in BER a value doesn't tell the octets that are signed. Each revocation list is read in DER, also
 //! where the object is in BER.
 
-mod certificates;
+mod fields;
 mod frame;
-mod lists;
 pub mod object;
 pub mod signers;
 

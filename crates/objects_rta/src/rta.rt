@@ -1,13 +1,15 @@
 //! Signed objects that are resource tagged attestations (this project's profile).
 
-ghost use Rattle.std.specs.Prelude.{◌≡◌, ◌↔◌, IsTrue};
-ghost use Rattle.objects_rta.specs.Fields.{DecodesRta, DecodesTyped};
+ghost use Rattle.std.specs.Prelude.{◌≡◌, ◌↔◌, IfOk, IsTrue};
+ghost use Rattle.objects_rta.specs.Fields.{DecodesRta, DecodesTyped, kept_in};
+ghost use Rattle.objects_rta.specs.Multi.{SpellsMulti};
 
 use crate::attestation::ResourceTaggedAttestation;
 use crate::multi::MultiSignedObject;
+use bcder::Captured;
 use bcder::decode::{ContentError, DecodeError, IntoSource, Pos, Source};
 use bytes::Bytes;
-use std::alloc::Global;
+use std::alloc::{AllocError, Global};
 use std::marker::Model;
 
 // id-ct-resourceTaggedAttestation, 1.2.840.113549.1.9.16.1.36.
@@ -25,12 +27,16 @@ impl Model for Rta {
 
     ghost Value = { RtaValue };
 
-    ghost view = { λ r. record { signed = r.signed; content = r.content } };
+    ghost view = { λ r. record {
+      text = r.signed.text;
+      signed = r.signed.object;
+      content = r.content;
+    } };
 }
 
 // Whether its content is of that type.
 fn has_type(signed: &MultiSignedObject, content_type: &[u8]) -> bool
-    ensures { IsTrue result ↔ (signed.now.content_type ≡ content_type.now) }
+    ensures { IsTrue result ↔ (signed.now.object.content_type ≡ content_type.now) }
 {
     signed.content_type().as_slice() == content_type
 }
@@ -82,7 +88,7 @@ impl Rta {
 
     /// The signed object, with its certificates, revocation lists and signers.
     pub fn signed(&self) -> &MultiSignedObject
-        ensures { result.now ≡ self.now.signed }
+        ensures { result.now ≡ kept_in self.now }
     {
         &self.signed
     }
@@ -94,9 +100,26 @@ impl Rta {
         &self.content
     }
 
+    /// What is written of the attestation: the octets that spell it, as they stood. They are written in the mode in which
+    /// they were read, and in BER; in another mode they are refused as `CerUnsupported`.
+    pub fn encode_ref(&self) -> &Captured
+        ensures octets { result.now ≡ self.now.text }
+        ensures spelled { SpellsMulti self.now.text.mode self.now.text.octets self.now.signed }
+    {
+        self.signed.encode_ref()
+    }
+
+    /// The octets that spell the attestation, as they stood, which are shared. `Rta::decode` reads them again.
+    pub fn to_captured(&self) -> Result<Captured, AllocError>
+        ensures octets { IfOk result (λ c. c ≡ self.now.text) }
+        ensures spelled { SpellsMulti self.now.text.mode self.now.text.octets self.now.signed }
+    {
+        self.signed.to_captured()
+    }
+
     /// The signed object and what its content attests, handed over.
     pub fn into_parts(self) -> (MultiSignedObject, ResourceTaggedAttestation)
-        ensures signed { result.0 ≡ self.signed }
+        ensures signed { result.0 ≡ kept_in self }
         ensures content { result.1 ≡ self.content }
     {
         (self.signed, self.content)

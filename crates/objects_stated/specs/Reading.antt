@@ -7,6 +7,7 @@ use Rattle.resources_ip.specs.bcder_tree.Tree.{Trees}
 use Rattle.resources_ip.specs.resources_chain.Sets.{Run}
 use Rattle.resources_ip.specs.Encodings.{FamilyChoices}
 use Rattle.resources_ip.specs.Reading.{family_choices}
+use Rattle.resources_ip.specs.declared.resources.IpFamilies.{IpFamilies}
 use Rattle.resources_as.specs.Encodings.{IsAsSet}
 use Rattle.objects_stated.specs.declared.stated.AsForm.{AsForm}
 use Rattle.objects_stated.specs.declared.stated.Read.{Read}
@@ -33,5 +34,8 @@ abbrev pub IsFamiliesContent : Mode → Trees → FamilyChoices × Unit {0} → 
 IsFamiliesContent m = Then (AreStatedFamilies m) End
 
 -- What is read, as the grammar names it.
+abbrev pub families_alone : IpFamilies → FamilyChoices × Unit {0}
+families_alone x = alone (family_choices x)
+
 abbrev pub parts_of : Read → Parts
-parts_of r = (option_map alone r.asn, (option_map alone (option_map family_choices r.families), tt))
+parts_of r = (option_map alone r.asn, (option_map families_alone r.families, tt))

@@ -4,4 +4,6 @@
 pub mod laws;
 pub mod stated;
 
+pub use resources_as::AsResources;
+pub use resources_ip::IpResources;
 pub use stated::{AsForm, StatedResources};

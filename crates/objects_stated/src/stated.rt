@@ -9,7 +9,7 @@ ghost use Rattle.bcder_content.specs.InMode.{ReadsFields};
 ghost use Rattle.objects_stated.specs.bcder_tree.Tags.{context};
 ghost use Rattle.objects_stated.specs.resources_chain.Sets.{InRuns};
 ghost use Rattle.objects_stated.specs.resources_ip.Reading.{family_choices};
-ghost use Rattle.objects_stated.specs.Reading.{IsAsContent, IsAsnumContent, IsBlocksContent, IsFamiliesContent, alone, alone_twice, parts_of};
+ghost use Rattle.objects_stated.specs.Reading.{IsAsContent, IsAsnumContent, IsBlocksContent, IsFamiliesContent, alone, alone_twice, families_alone, parts_of};
 ghost use Rattle.objects_stated.specs.Stated.{AreHeld, AreListed, AreParts, AreStated, IsAsIdentifiers, IsAsPart, IsCovered, IsStated, SaysSome, asn_of, families_of, stated_of};
 
 use resources_as::codec::Tag;
@@ -156,7 +156,7 @@ fn take_families<S: Source>(
     alloc: Global,
     cons: &mut Constructed<S>,
 ) -> Result<IpFamilies, DecodeError<S::Error>>
-    ensures { ReadsFields (λ x. alone (family_choices x)) IsFamiliesContent
+    ensures { ReadsFields families_alone IsFamiliesContent
         (here S.rest cons.old) result (here S.rest cons.new) }
 {
     let families = IpResources::take_families_from(alloc, cons)?;
@@ -172,14 +172,14 @@ fn take_opt_families<S: Source>(
     alloc: Global,
     cons: &mut Constructed<S>,
 ) -> Result<Option<IpFamilies>, DecodeError<S::Error>>
-    ensures { ReadsOptAs (λ x. alone (family_choices x)) (context 1)
+    ensures { ReadsOptAs families_alone (context 1)
         (Inside (context 1) (IsFamiliesContent (here S.rest cons.old).mode))
         (here S.rest cons.old) result (here S.rest cons.new) }
 {
     cons.take_opt_constructed_if(
         Tag::CTX_1,
         |cons|
-            ensures { ReadsFields (λ x. alone (family_choices x)) IsFamiliesContent
+            ensures { ReadsFields families_alone IsFamiliesContent
                 (here S.rest cons.old) result (here S.rest cons.new) }
         { take_families(alloc, cons) },
     )
@@ -217,7 +217,7 @@ fn asn_listed(asn: Option<AsBlocks>) -> AsResources
 // What is stated of addresses.
 fn families_listed(families: Option<IpFamilies>) -> IpFamilies
     ensures { family_choices result
-        ≡ families_of (option_map alone (option_map family_choices families)) }
+        ≡ families_of (option_map families_alone families) }
 {
     match families {
         Some(families) => families,

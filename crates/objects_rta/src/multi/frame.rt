@@ -9,12 +9,11 @@ ghost use Rattle.objects_cms.specs.bcder_content.InMode.{ReadsFields};
 ghost use Rattle.certs_cert.specs.certs_x509.Took.{TookOctets};
 ghost use Rattle.objects_rta.specs.Frame.{AreData, AreFrame, DataOctets, FrameOctets, IsData, IsFrame, IsOneData, OneDataOctets, SpellsInner, SpellsKeptData, SpellsKeptFrame, data_fields, frame_fields, one_data};
 
-use crate::multi::certificates::take_certificates;
-use crate::multi::lists::take_opt_lists;
 use crate::multi::signers::take_signers;
 use bcder::Captured;
 use certs_cert::decode::{Constructed, DecodeError, Source};
 use certs_cert::{Cert, ConstOid, DigestAlgorithm, Oid, Tag, beside};
+use objects_carried::{take_certificates, take_opt_lists};
 use objects_cms::signed::SignerInfo;
 use objects_cms::signed::content::{Typed, take_content_info};
 use std::alloc::Global;

@@ -1,50 +1,42 @@
-//! Signed objects with several signers, read (RFC 5652 3, 5).
+//! Signed objects with several signers, read, with the octets that spell them (RFC 5652 3, 5).
 
-ghost use Rattle.std.specs.Prelude.{◌≡◌, ◌↔◌, IsTrue, OnErr, map, true};
-ghost use Rattle.objects_cms.specs.bcder_content.Here.{here};
+ghost use Rattle.std.specs.Prelude.{◌≡◌, IfOk, OnErr, map, true};
+ghost use Rattle.objects_rta.specs.bcder_content.Captures.{rest_of};
+ghost use Rattle.objects_rta.specs.bcder_content.Contents.{Goes};
+ghost use Rattle.objects_rta.specs.bcder_content.Here.{here};
 ghost use Rattle.objects_cms.specs.objects_payload.ObjectText.{mode, signer_of};
 ghost use Rattle.objects_cms.specs.Decoded.{ReadsOctets};
-ghost use Rattle.objects_cms.specs.Signer.{signer_fields};
 ghost use Rattle.objects_rta.specs.Multi.{SpellsMulti};
 ghost use Rattle.objects_rta.specs.Frame.{fields_of_all};
-ghost use Rattle.objects_rta.specs.Decoded.{DecodesMulti, HaveType};
+ghost use Rattle.objects_rta.specs.Decoded.{DecodesIn, DecodesMulti, IsOneValue, ReadsCaptured, object_of};
 
-use crate::multi::frame::{Parts, take_frame};
-use crate::multi::lists::decode_lists;
-use certs_cert::decode::{Constructed, ContentError, Decode, DecodeError, IntoSource, Source};
+use crate::multi::fields::MultiFields;
+use bcder::Captured;
+use certs_cert::decode::{Constructed, Decode, DecodeError, IntoSource, Source};
 use certs_cert::{Cert, Mode, OctetString, Oid};
 use certs_crl::Crl;
 use objects_cms::signed::SignerInfo;
-use objects_cms::signed::content::Typed;
-use std::alloc::Global;
+use std::alloc::{AllocError, Global};
+use std::convert::Infallible;
 use std::marker::Model;
 
 /// A signed object with several signers: a content of some type, one or more certificates, any number of revocation lists,
-/// and one or more signers (RFC 5652 5.1). Contracts see the standard's fields. No signature is verified by reading it.
+/// and one or more signers (RFC 5652 5.1), and the octets that spell it. Contracts see the standard's fields, and the octets
+/// with their mode. No signature is verified by reading it.
 #[derive(Drop)]
 pub struct MultiSignedObject {
-    content_type: Oid,
-    content: OctetString,
-    certs: Vec<Cert>,
-    crls: Vec<Crl>,
-    signers: Vec<SignerInfo>,
+    text: Captured,
+    fields: MultiFields,
 }
 
 impl Model for MultiSignedObject {
-    ghost use Rattle.std.specs.Prelude.{map};
-    ghost use Rattle.objects_cms.specs.objects_payload.ObjectText.{signer_of};
-    ghost use Rattle.objects_rta.specs.Multi.{Multi};
-    ghost use Rattle.objects_rta.specs.Frame.{fields_of_all};
+    ghost use Rattle.objects_rta.specs.Multi.{KeptMulti, SpellsMulti};
 
-    ghost Value = { Multi };
+    ghost Value = { KeptMulti };
 
-    ghost view = { λ o. record {
-      content_type = o.content_type.0;
-      content = o.content;
-      certs = o.certs.items;
-      crls = o.crls.items;
-      signers = map signer_of (fields_of_all o.signers.items);
-    } };
+    ghost view = { λ o. record { text = o.text; object = o.fields } };
+
+    ghost invariant = { λ o. SpellsMulti o.text.mode o.text.octets o.fields };
 }
 
 // Strict is DER, else BER.
@@ -54,68 +46,65 @@ fn mode_of(strict: bool) -> Mode
     if strict { Mode::Der } else { Mode::Ber }
 }
 
-// Whether each signer's attribute for the content's type has that type (RFC 5652 11.1).
-fn have_type(signers: &[SignerInfo], content_type: &Oid) -> bool
-    ensures { IsTrue result ↔ HaveType content_type.now.0 signers.now }
+// What the object in front of captured octets carries, in their mode; the octets are shared.
+fn fields_of(
+    alloc: Global,
+    text: &Captured,
+) -> Result<MultiFields, DecodeError<Infallible>>
+    ensures { DecodesIn text.now.mode text.now.octets result }
 {
-    for signer in signers {
-        if !signer.attributes().attributes().content_type.equals(content_type) {
-            return false;
-        }
-    }
-    true
+    let rules = text.mode();
+    let copy = text.clone()?;
+    rules.decode(
+        copy.into_bytes(),
+        |cons|
+            ensures { ReadsOctets (λ o. o) SpellsMulti
+                (here rest_of cons.old) result (here rest_of cons.new) }
+        { MultiFields::take_from(alloc, cons) },
+    )
 }
 
 impl MultiSignedObject {
-    // The object of what was read of it.
-    fn from_parts(
-        typed: Typed,
-        certs: Vec<Cert>,
-        crls: Vec<Crl>,
-        signers: Vec<SignerInfo>,
-    ) -> MultiSignedObject
-        ensures { result ≡ record {
-          content_type = typed.0.0;
-          content = typed.1;
-          certs = certs.items;
-          crls = crls.items;
-          signers = map signer_of (fields_of_all signers.items);
-        } }
+    // The object that a captured value is.
+    fn from_captured(
+        alloc: Global,
+        text: Captured,
+    ) -> Result<MultiSignedObject, DecodeError<Infallible>>
+        requires { IsOneValue text }
+        ensures { ReadsCaptured text result }
     {
-        let (content_type, content) = typed;
-        MultiSignedObject {
-            content_type,
-            content,
-            certs,
-            crls,
-            signers,
+        match fields_of(alloc, &text) {
+            Ok(fields) => Ok(MultiSignedObject { text, fields }),
+            Err(error) => {
+                drop(text);
+                Err(error)
+            }
         }
     }
 
-    /// The object that is next, in the mode of the content: by the very octets that stood there, of which those that are
-    /// signed are kept; revocation lists are read in DER.
+    /// The object that is next, in the mode of the content: by the very octets that stood there, which are kept; revocation
+    /// lists are read in DER.
     pub fn take_from<S: Source>(
         alloc: Global,
         cons: &mut Constructed<S>,
     ) -> Result<MultiSignedObject, DecodeError<S::Error>>
-        ensures reads { ReadsOctets (λ o. o) SpellsMulti
+        ensures reads { ReadsOctets object_of SpellsMulti
             (here S.rest cons.old) result (here S.rest cons.new) }
+        ensures goes { IfOk result
+            (λ o. Goes (here S.rest cons.old) o.text.octets (here S.rest cons.new)) }
+        ensures mode { IfOk result (λ o. o.text.mode ≡ (here S.rest cons.old).mode) }
         ensures failed { OnErr result ((here S.rest cons.new).failed ≡ true) }
     {
-        let parts = take_frame(alloc, cons)?;
-        if !have_type(parts.3.as_slice(), &parts.0.0) {
-            drop(parts);
-            cons.fail();
-            return Err((*cons).content_err(ContentError::from_static("another type")));
-        }
-        match decode_lists(alloc, &parts.2) {
-            Ok(crls) => {
-                let (typed, certs, lists, signers) = parts;
-                drop(lists);
-                Ok(MultiSignedObject::from_parts(typed, certs, crls, signers))
-            }
+        let text = match cons.capture_one(alloc) {
+            Ok(text) => text,
             Err(error) => {
-                drop(parts);
+                cons.fail();
+                return Err(error);
+            }
+        };
+        match MultiSignedObject::from_captured(alloc, text) {
+            Ok(object) => Ok(object),
+            Err(error) => {
                 cons.fail();
                 Err(error.convert())
             }
@@ -135,44 +124,67 @@ impl MultiSignedObject {
         rules.decode(
             source,
             |cons|
-                ensures { ReadsOctets (λ o. o) SpellsMulti
+                ensures reads { ReadsOctets object_of SpellsMulti
                     (here I.Source.rest cons.old) result (here I.Source.rest cons.new) }
+                ensures goes { IfOk result (λ o.
+                    Goes (here I.Source.rest cons.old) o.text.octets
+                        (here I.Source.rest cons.new)) }
+                ensures mode { IfOk result
+                    (λ o. o.text.mode ≡ (here I.Source.rest cons.old).mode) }
             { MultiSignedObject::take_from(alloc, cons) },
         )
     }
 
     /// The type of the content (RFC 5652 5.2).
     pub fn content_type(&self) -> &Oid
-        ensures { result.now.0 ≡ self.now.content_type }
+        ensures { result.now.0 ≡ self.now.object.content_type }
     {
-        &self.content_type
+        self.fields.content_type()
     }
 
     /// The content (RFC 5652 5.2).
     pub fn content(&self) -> &OctetString
-        ensures { result.now ≡ self.now.content }
+        ensures { result.now ≡ self.now.object.content }
     {
-        &self.content
+        self.fields.content()
     }
 
     /// The certificates, in their order: one or more (RFC 5652 5.1).
     pub fn certs(&self) -> &[Cert]
-        ensures { result.now ≡ self.now.certs }
+        ensures { result.now ≡ self.now.object.certs }
     {
-        self.certs.as_slice()
+        self.fields.certs()
     }
 
     /// The revocation lists, in their order (RFC 5652 5.1).
     pub fn crls(&self) -> &[Crl]
-        ensures { result.now ≡ self.now.crls }
+        ensures { result.now ≡ self.now.object.crls }
     {
-        self.crls.as_slice()
+        self.fields.crls()
     }
 
     /// The signers, in their order: one or more (RFC 5652 5.3).
     pub fn signers(&self) -> &[SignerInfo]
-        ensures { map signer_of (fields_of_all result.now) ≡ self.now.signers }
+        ensures { map signer_of (fields_of_all result.now) ≡ self.now.object.signers }
     {
-        self.signers.as_slice()
+        self.fields.signers()
+    }
+
+    /// What is written of the object: the octets that spell it, as they stood. They are written in the mode in which they
+    /// were read, and in BER; in another mode they are refused as `CerUnsupported`, since what is signed can't be written
+    /// otherwise (RFC 5652 5.4).
+    pub fn encode_ref(&self) -> &Captured
+        ensures octets { result.now ≡ self.now.text }
+        ensures spelled { SpellsMulti self.now.text.mode self.now.text.octets self.now.object }
+    {
+        &self.text
+    }
+
+    /// The octets that spell the object, as they stood, which are shared. `MultiSignedObject::decode` reads them again.
+    pub fn to_captured(&self) -> Result<Captured, AllocError>
+        ensures octets { IfOk result (λ c. c ≡ self.now.text) }
+        ensures spelled { SpellsMulti self.now.text.mode self.now.text.octets self.now.object }
+    {
+        self.text.clone()
     }
 }

@@ -1,8 +1,7 @@
 use Rattle.std.proofs.Common.{refl}
 use Rattle.bcder_content.proofs.InMode.{begin, next_opt_as, stop_opt, done}
 use Rattle.bcder_content.proofs.Unique.{inside_tagged}
-use Rattle.objects_stated.specs.resources_ip.Reading.{family_choices}
-use Rattle.objects_stated.specs.Reading.{alone}
+use Rattle.objects_stated.specs.Reading.{alone, families_alone}
 use Rattle.objects_stated.proofs.stated.take_parts.Goals as goal
 
 pub returns-in_err-asn : goal.returns-in_err-asn
@@ -11,9 +10,9 @@ returns-in_err-asn g c = stop_opt _ begin c.from_residual.ensures c.in_err-asn.e
 pub returns-in-Ok : goal.returns-in-Ok
 returns-in-Ok g c =
     let s = next_opt_as alone _ begin (λ m. inside_tagged _ _) c.in_ok-asn.ensures in
-    done (next_opt_as (λ x. alone (family_choices x)) _ s (λ m. inside_tagged _ _) c.in-Ok.ensures) ?
+    done (next_opt_as families_alone _ s (λ m. inside_tagged _ _) c.in-Ok.ensures) refl
 
 pub returns-in-Err : goal.returns-in-Err
 returns-in-Err g c =
     let s = next_opt_as alone _ begin (λ m. inside_tagged _ _) c.in_ok-asn.ensures in
-    ?
+    stop_opt _ s (tt, refl) c.in-Err.ensures

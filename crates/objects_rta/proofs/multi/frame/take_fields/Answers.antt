@@ -2,8 +2,9 @@ use Rattle.std.proofs.Common.{ap, ◌∙◌}
 use Rattle.bcder_content.specs.bcder_tree.Tags.{context}
 use Rattle.objects_cms.specs.objects_payload.ObjectText.{AreDigestAlgorithms, IsContentInfo, IsThree}
 use Rattle.certs_cert.proofs.Joined.{as_read, ended, field, join, read_as}
-use Rattle.objects_rta.specs.Frame.{data_fields, octets_of}
-use Rattle.objects_rta.proofs.Repeated.{perhaps_read}
+use Rattle.objects_carried.specs.Carried.{octets_of}
+use Rattle.objects_rta.specs.Frame.{data_fields}
+use Rattle.objects_carried.proofs.Repeated.{perhaps_read}
 use Rattle.bcder_content.proofs.InMode.{begin, done, next, next_opt_as, stop, stop_opt}
 use Rattle.bcder_content.proofs.Unique.{inside_tagged}
 use Rattle.objects_rta.proofs.multi.frame.take_fields.Goals as goal

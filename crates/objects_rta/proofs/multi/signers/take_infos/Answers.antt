@@ -3,7 +3,7 @@ use Rattle.bcder_content.proofs.Forests.{absent, there}
 use Rattle.bcder_content.proofs.InMode.{items_end, items_stop}
 use Rattle.bcder_content.proofs.Unique.{inside_tagged}
 use Rattle.objects_cms.specs.Signer.{signer_fields}
-use Rattle.objects_rta.proofs.Repeated.{repeated_begin, repeated_end, repeated_next_as, took_there}
+use Rattle.objects_carried.proofs.Repeated.{repeated_begin, repeated_end, repeated_next_as, took_there}
 use Rattle.objects_rta.proofs.multi.signers.take_infos.Goals as goal
 
 pub loop-signers-init : goal.loop-signers-init

@@ -3,7 +3,7 @@ use Rattle.bcder_content.specs.Here.{here}
 use Rattle.objects_cms.specs.objects_payload.ObjectText.{SpellsSigner}
 use Rattle.objects_cms.specs.Signer.{IsSigner}
 use Rattle.objects_rta.specs.Frame.{fields_of_all}
-use Rattle.objects_rta.proofs.Repeated.{Repeated}
+use Rattle.objects_carried.proofs.Repeated.{Repeated}
 use Rattle.objects_rta.proofs.multi.signers.take_infos.Given as goal
 
 abbrev pub invariant-loop-signers : goal.invariant-loop-signers

@@ -1,6 +1,6 @@
 use Rattle.bcder_content.proofs.InMode.{inside_opt}
 use Rattle.objects_cms.specs.Signer.{AreSigner, AreSignerOctets}
-use Rattle.objects_rta.proofs.Repeated.{opt_took}
+use Rattle.objects_carried.proofs.Repeated.{opt_took}
 use Rattle.objects_rta.proofs.multi.signers.take_opt_signer.Goals as goal
 
 pub returns-clause-reads : goal.returns-clause-reads

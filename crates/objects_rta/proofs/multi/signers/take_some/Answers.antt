@@ -1,6 +1,6 @@
 use Rattle.std.proofs.Common.{refl}
 use Rattle.bcder_content.proofs.Taking.{on_content}
-use Rattle.objects_rta.proofs.Repeated.{none_lacks, some_gives, some_stop, some_took}
+use Rattle.objects_carried.proofs.Repeated.{none_lacks, some_gives, some_stop, some_took}
 use Rattle.objects_rta.proofs.multi.signers.take_some.Goals as goal
 
 pub returns-in_err-signers-clause-reads : goal.returns-in_err-signers-clause-reads

@@ -1,15 +1,15 @@
-use Rattle.bcder_content.proofs.Taking.{on_content}
-use Rattle.objects_rta.proofs.Whole.{lists_refused, multi_gives, multi_refused, multi_stop, said_no}
+use Rattle.bcder_content.proofs.Taking.{weaker}
+use Rattle.objects_rta.proofs.Whole.{captured_refused, kept_took, none_captured}
 use Rattle.objects_rta.proofs.multi.object.MultiSignedObject.take_from.Goals as goal
 
-pub returns-in_err-parts-clause-reads : goal.returns-in_err-parts-clause-reads
-returns-in_err-parts-clause-reads g c = multi_stop _ _ _ _ c.from_residual.ensures c.in_err-parts.ensures.reads
-
-pub returns-then-not-have_type-clause-reads : goal.returns-then-not-have_type-clause-reads
-returns-then-not-have_type-clause-reads g c = on_content _ (multi_refused c.in_ok-parts.ensures.octets (λ crls t l. said_no ? ? t))
-
-pub returns-in-Ok-clause-reads : goal.returns-in-Ok-clause-reads
-returns-in-Ok-clause-reads g c = multi_gives c.in_ok-parts.ensures.octets ? c.in-Ok.ensures c.from_parts.ensures
-
 pub returns-in-Err-clause-reads : goal.returns-in-Err-clause-reads
-returns-in-Err-clause-reads g c = lists_refused _ _ c.in_ok-parts.ensures.octets c.convert.ensures c.in-Err.ensures
+returns-in-Err-clause-reads g c = weaker _ none_captured c.in-Err.ensures.captured
+
+pub from_captured-requires : goal.from_captured-requires
+from_captured-requires g c = ?
+
+pub returns-in-Ok-from_captured-clause-reads : goal.returns-in-Ok-from_captured-clause-reads
+returns-in-Ok-from_captured-clause-reads g c = kept_took c.in-Ok.ensures.goes c.in-Ok.ensures.mode c.in-Ok-from_captured.ensures
+
+pub returns-in-Err-from_captured-clause-reads : goal.returns-in-Err-from_captured-clause-reads
+returns-in-Err-from_captured-clause-reads g c = captured_refused _ _ c.in-Ok.ensures.captured c.in-Ok.ensures.goes c.in-Ok.ensures.mode c.convert.ensures c.in-Err-from_captured.ensures
