@@ -26,8 +26,8 @@ A signature is checked with one key at most: that of the certificate whose key's
 signed with, a trust anchor's with its own, an object's content with that of the object's certificate. With --known
 FOLDER, the OUT of an earlier run that is as much to be trusted as this one, a signature whose three digests stand in
 FOLDER/verdicts isn't computed again. What isn't DER of one of the profiles stays an object of the bundle, without a
-verdict: `rpki_check` refuses it by its own rules. With --relaxed signed objects may be in BER, and OUT says so: that is
-for bundles of version 1, which `rpki_check` doesn't answer yet.
+verdict: `rpki_check` refuses it by its own rules. With --relaxed signed objects may be in BER, and OUT says so: it
+makes a bundle of version 1.
 
 OUT is written beside its place and put there whole; with --replace it may be there already. A run that ends before
 leaves it as it was.
@@ -249,7 +249,7 @@ def arguments():
     parser.add_argument("--layout", choices=caches.LAYOUTS)
     parser.add_argument("--moment", metavar="YYYYMMDDHHMMSSZ", help="the moment to validate at (default: now)")
     parser.add_argument("--depth", type=int, default=32, help="the most certificates of a chain (default: 32)")
-    parser.add_argument("--relaxed", action="store_true", help="signed objects may be in BER: a bundle of version 1, not answered yet")
+    parser.add_argument("--relaxed", action="store_true", help="signed objects may be in BER: a bundle of version 1")
     parser.add_argument("--replace", action="store_true", help="replace what an earlier run wrote to OUT")
     parser.add_argument("--known", metavar="FOLDER", help="what an earlier run wrote, whose verdicts are taken")
     parser.add_argument("--jobs", type=int, default=len(os.sched_getaffinity(0)), help="processes (default: processors)")

@@ -8,12 +8,15 @@ from rpki_repositories import MOMENT, tlv
 # Bundles, written.
 
 
-def bundle(locators=(), objects=(), verdicts=(), moment=MOMENT, depth=32):
-    """The octets of these parts, in this order, whether or not they are those of a bundle."""
+def bundle(locators=(), objects=(), verdicts=(), moment=MOMENT, depth=32, relaxed=None):
+    """The octets of these parts, in this order, whether or not they are those of a bundle: of version 1 where it is said whether
+    it is relaxed, else of version 0."""
     pairs = lambda tag, rows: tlv(0x30, b"".join(tlv(0x30, tlv(tag, a) + tlv(4, b)) for a, b in rows))
     rows = b"".join(tlv(0x30, b"".join(tlv(4, digest) for digest in row)) for row in verdicts)
     number = depth.to_bytes(depth.bit_length() // 8 + 1, "big", signed=True)
-    members = tlv(2, b"\0") + tlv(24, moment) + tlv(2, number) + pairs(19, locators) + pairs(22, objects) + tlv(0x30, rows)
+    version = tlv(2, b"\0" if relaxed is None else b"\1")
+    flag = b"" if relaxed is None else tlv(1, b"\xff" if relaxed else b"\0")
+    members = version + tlv(24, moment) + tlv(2, number) + flag + pairs(19, locators) + pairs(22, objects) + tlv(0x30, rows)
     return tlv(0x30, members)
 
 
@@ -113,14 +116,25 @@ def entries(octets, *tags):
     return rows
 
 
+def flag_of(version, flags):
+    """Whether the bundle is relaxed, which version 1 says and version 0 doesn't."""
+    if version == b"\0" and not flags:
+        return None
+    if version == b"\1" and flags in ([b"\0"], [b"\xff"]):
+        return flags == [b"\xff"]
+    raise ValueError
+
+
 def read(octets):
     """The parts of the bundle that the octets are, or None."""
     try:
         (whole,) = members(octets, 0x30)
-        version, moment, depth, locators, objects, verdicts = members(whole, 2, 24, 2, 0x30, 0x30, 0x30)
+        kinds = (2, 24, 2, 1, 0x30, 0x30, 0x30) if take(whole, 2)[0] == b"\1" else (2, 24, 2, 0x30, 0x30, 0x30)
+        version, moment, depth, *flags, locators, objects, verdicts = members(whole, *kinds)
+        relaxed = flag_of(version, flags)
         parts = entries(locators, 19, 4), entries(objects, 22, 4), entries(verdicts, 4, 4, 4), moment
     except ValueError:
         return None
-    if version != b"\0" or len(depth) != 1 or not is_lawful(*parts, depth[0]):
+    if len(depth) != 1 or not is_lawful(*parts, depth[0]):
         return None
-    return (*parts, depth[0])
+    return (*parts, depth[0], relaxed)

@@ -5,6 +5,9 @@ manifests of others, claims that fit or don't under each policy, lists that revo
 missing, changed or listed twice, and locators of many spellings. Values are changed before they are signed (members taken
 out, put in and exchanged, other tags, contents and lengths), objects after that, and bundles as a whole.
 
+Others are of version 1, mostly relaxed, and their objects are mostly spelled in BER, now and then what is signed, too
+(`relaxed_bundle`).
+
 Others have long chains (`long_bundle`): up to 33 certificates, several locators, loops, second parents, each policy, and nothing in
 them is changed, so that much of them stands.
 """
@@ -14,6 +17,7 @@ import hashlib
 import random
 
 from rpki_readers import Refused, front
+from rpki_relaxed import spelled_by_chance
 from rpki_repositories import ASPA, FIRST, HOST, LAST, MOMENT, ROA, Authority, World
 from rpki_repositories import aspa, basic, claims_of, locator_text, policies, roa, usage
 
@@ -138,6 +142,37 @@ class Chance(World):
         return change(self.rng, octets) if self.rng.random() < self.rate else octets
 
 
+class RelaxedChance(Chance):
+    """The same of version 1, with objects in BER."""
+
+    def __init__(self, rng):
+        super().__init__(rng)
+        self.relaxed = rng.choice([True] * 6 + [False, None])
+        self.rate /= 4
+        self.spells = rng.choice([0.02, 0.05, 0.2])
+
+    def altered(self, octets):
+        octets = super().altered(octets)
+        if self.rng.random() < 0.95:
+            return octets
+        try:
+            return spelled_by_chance(self.rng, octets, 0.1)
+        except Refused:
+            return octets
+
+    def spelled(self, octets):
+        """Spells what stands around what is signed, and seldom what is signed."""
+        try:
+            return spelled_by_chance(self.rng, octets, self.spells, AROUND if self.rng.random() < 0.97 else None)
+        except Refused:
+            return octets
+
+
+# The places in a signed object around what is signed, and of its strings.
+AROUND = [(), (1,), (1, 0), (1, 0, 1), (1, 0, 1, 0), (1, 0, 2), (1, 0, 2, 1), (1, 0, 2, 1, 0), (1, 0, 3), (1, 0, 3, 0), (1, 0, 3, 0, 1), (1, 0, 3, 0, 2)]
+AROUND += [(1, 0, 4), (1, 0, 4, 0), *((1, 0, 4, 0, at) for at in range(6))]
+
+
 def some(rng, rows, most=3):
     return rng.sample(rows, rng.randrange(min(most, len(rows)) + 1))
 
@@ -240,8 +275,8 @@ def locators(rng, world, at, key):
         world.objects[b"https://r.example/ta.cer"] = rng.choice([b"\0", *(octets for uri, octets in sorted(world.objects.items()) if uri == at)])
 
 
-def world_by_chance(rng):
-    world = Chance(rng)
+def world_by_chance(rng, kind=Chance):
+    world = kind(rng)
     count = rng.choice([1, 1, 2, 2, 3, 4, 5])
     tops = rng.choice([1, 1, 1, 2])
     authorities = []
@@ -269,10 +304,15 @@ def world_by_chance(rng):
     return world
 
 
-def bundle_by_chance(seed):
+def relaxed_bundle(seed):
+    """The bundle of a seed, of version 1 mostly, with objects in BER."""
+    return bundle_by_chance(seed, RelaxedChance)
+
+
+def bundle_by_chance(seed, kind=Chance):
     """The bundle of a seed."""
     rng = random.Random(seed)
-    world = world_by_chance(rng)
+    world = world_by_chance(rng, kind)
     if rng.random() < 0.05 and world.verdicts:
         del world.verdicts[rng.randrange(len(world.verdicts))]
     octets = world.bundle()

@@ -1,5 +1,5 @@
 #!/usr/bin/env python3
-"""A second reading of the rules: what `rpki_check check` prints of a bundle of version 0, in Python.
+"""A second reading of the rules: what `rpki_check check` prints of a bundle, in Python.
 
     rpki_model.py < BUNDLE          prints the lines, or `not a bundle` with status 1
     rpki_model.py --cases FOLDER    compares with FOLDER/NAME.stdout for each NAME.stdin and NAME.args of `check`
@@ -191,7 +191,7 @@ class Walk:
         need(issuer.place("manifest") and issuer.place("repository"))
         at = lookup_key(issuer.place("manifest"))
         need(at in self.held)
-        manifest = Manifest(self.held[at])
+        manifest = Manifest(self.held[at], self.bundle.strict)
         cert = manifest.cert
         need(self.is_published(cert) and self.is_sound(manifest) and self.is_signed(cert, issuer))
         need(manifest.this <= self.bundle.moment <= manifest.next)
@@ -232,7 +232,7 @@ class Walk:
 
     def signed(self, point, issuer, extension, octets):
         """The sound object, the claim of its certificate apart."""
-        item = Roa(octets) if extension == b".roa" else Aspa(octets)
+        item = (Roa if extension == b".roa" else Aspa)(octets, self.bundle.strict)
         cert = item.cert
         need(self.is_published(cert) and point.is_unrevoked(cert) and self.is_signed(cert, issuer))
         need(self.is_sound(item))
@@ -297,7 +297,7 @@ class Walk:
         if at in keys:
             return True
         try:
-            listed = Manifest(self.held[at]).files
+            listed = Manifest(self.held[at], self.bundle.strict).files
         except (KeyError, Refused):
             return False
         return any(lookup_key(join(issuer.place("repository"), file)) in keys for file, _ in listed)

@@ -1,6 +1,6 @@
-"""Readers of what a bundle of version 0 holds, for tests/lib/rpki_model.py, in Python alone.
+"""Readers of what a bundle holds, for tests/lib/rpki_model.py, in Python alone.
 
-Octets are read by a reader after X.690 clauses 8 and 10, certificates and revocation lists by RFC 5280, RFC 6487 and
+Octets are read by a reader after X.690 clause 8, and in DER clause 10, certificates and revocation lists by RFC 5280, RFC 6487 and
 RFC 3779, signed objects by RFC 5652 and RFC 6488, their contents by RFC 9286, RFC 9582 and the ASPA draft, locators by
 RFC 8630. A reader makes a value of octets, or raises `Refused`.
 """
@@ -20,27 +20,30 @@ def need(condition):
         raise Refused
 
 
-# Values in DER (X.690 8.1, 10.1).
+# Values (X.690 8.1), strictly in DER (10.1), or in BER.
 
 
 class Value:
-    """A value: its tag, its content octets if it is primitive, its members if it isn't, and all octets that spell it."""
+    """A value: its tag, its content octets if it is primitive, its members if it isn't, and all octets that spell it.
 
-    __slots__ = ("tag", "constructed", "members", "source", "start", "content_start", "end")
+    Where its length is indefinite, two zeros stand between the end of its content and its own."""
 
-    def __init__(self, source, start, tag, constructed, content_start, end):
+    __slots__ = ("tag", "constructed", "members", "source", "start", "content_start", "content_end", "end", "strict")
+
+    def __init__(self, source, start, tag, constructed, content_start, end, strict=True):
         self.source, self.start, self.content_start, self.end = source, start, content_start, end
         self.tag, self.constructed, self.members = tag, constructed, []
+        self.content_end, self.strict = end, strict
 
     def octets(self):
         return self.source[self.start : self.end]
 
     def inner(self):
-        return self.source[self.content_start : self.end]
+        return self.source[self.content_start : self.content_end]
 
 
-def header(source, at, end):
-    """The value that begins there, whose content isn't looked at yet."""
+def header(source, at, end, strict):
+    """The value that begins there, whose content isn't looked at yet; it has no end where its length is indefinite."""
     need(at < end)
     first, start = source[at], at
     number, at = first & 31, at + 1
@@ -56,29 +59,39 @@ def header(source, at, end):
         need(number >= 31)
     need(at < end and (first >> 6, number) != (0, 0))
     size, at = source[at], at + 1
+    if size == 128 and not strict:
+        need(first & 32)
+        return Value(source, start, (first >> 6, number), True, at, None, strict)
     if size >= 128:
         count = size - 128
         need(1 <= count <= 4 and at + count <= end)
         size = int.from_bytes(source[at : at + count], "big")
         at += count
-        need(size >= 128 and size >= 1 << 8 * (count - 1))
+        need(not strict or size >= 128 and size >= 1 << 8 * (count - 1))
     need(at + size <= end)
-    return Value(source, start, (first >> 6, number), bool(first & 32), at, at + size)
+    return Value(source, start, (first >> 6, number), bool(first & 32), at, at + size, strict)
 
 
-def front(source):
-    """The value in front; what is behind it isn't looked at."""
-    top = header(source, 0, len(source))
-    open_values, at = ([top] if top.constructed else []), top.content_start
+def front(source, strict=True):
+    """The value in front, strictly in DER or else in BER; what is behind it isn't looked at."""
+    top = header(source, 0, len(source), strict)
+    # each with the place that its octets can't pass
+    open_values, at = ([(top, len(source))] if top.constructed else []), top.content_start
     while open_values:
-        last = open_values[-1]
+        last, most = open_values[-1]
         if at == last.end:
             open_values.pop()
             continue
-        value = header(source, at, last.end)
+        if last.end is None and at + 2 <= most and source[at : at + 2] == b"\0\0":
+            last.content_end, last.end = at, at + 2
+            at = last.end
+            open_values.pop()
+            continue
+        within = most if last.end is None else last.end
+        value = header(source, at, within, strict)
         last.members.append(value)
         if value.constructed:
-            open_values.append(value)
+            open_values.append((value, within))
             at = value.content_start
         else:
             at = value.end
@@ -118,8 +131,8 @@ def is_tagged(value, number, kind=UNIVERSAL):
 
 def boolean(value):
     octets = content(value, 1)
-    need(octets in (b"\0", b"\xff"))
-    return octets == b"\xff"
+    need(len(octets) == 1 and (not value.strict or octets in (b"\0", b"\xff")))
+    return octets != b"\0"
 
 
 def integer(value, least, most):
@@ -140,12 +153,22 @@ def bits(value):
     need(octets and octets[0] <= 7)
     unused = octets[0]
     need(len(octets) > 1 or unused == 0)
-    need(len(octets) == 1 or octets[-1] & (1 << unused) - 1 == 0)
+    need(not value.strict or len(octets) == 1 or octets[-1] & (1 << unused) - 1 == 0)
     return octets[1:], unused
 
 
-def octet_string(value):
-    return content(value, 4)
+def octet_string(value, number=4, kind=UNIVERSAL):
+    """The octets of an OCTET STRING with this tag; in BER it may stand in segments, which may do so too (8.7.3)."""
+    if value.strict or not value.constructed:
+        return content(value, number, kind)
+    octets, parts = [], list(reversed(members(value, number, kind)))
+    while parts:
+        part = parts.pop()
+        if part.constructed:
+            parts += reversed(members(part, 4))
+        else:
+            octets.append(content(part, 4))
+    return b"".join(octets)
 
 
 def oid(value):
@@ -291,9 +314,10 @@ class Key:
             algorithm(kind, RSA)
         else:
             need(len(parts) == 2 and oid(parts[0]) == EC_KEY and oid(parts[1]) == P256)
-        self.bits, _ = bits(octets)
-        # an RSA key is written with NULL behind its algorithm
-        self.encoded = tlv(0x30, RSA_WITH_NULL + octets.octets()) if self.is_rsa else value.octets()
+        self.bits, unused = bits(octets)
+        # in DER an RSA key has NULL behind its algorithm, and unused bits are zeros
+        cleared = self.bits[:-1] + bytes(octet >> unused << unused for octet in self.bits[-1:])
+        self.encoded = tlv(0x30, (RSA_WITH_NULL if self.is_rsa else EC_P256) + tlv(3, bytes([unused]) + cleared))
 
 
 def tlv(tag, octets):
@@ -302,7 +326,7 @@ def tlv(tag, octets):
     return bytes([tag, size] if size < 128 else [tag, 128 + len(length), *length]) + octets
 
 
-RSA_WITH_NULL = tlv(0x30, tlv(6, RSA) + b"\x05\0")
+RSA_WITH_NULL, EC_P256 = tlv(0x30, tlv(6, RSA) + b"\x05\0"), tlv(0x30, tlv(6, EC_KEY) + tlv(6, P256))
 
 
 def name(value):
@@ -542,8 +566,8 @@ def digest_algorithm(value):
 class Object:
     """A signed object in front of octets: its certificate, its content, and what its signer signed."""
 
-    def __init__(self, octets, kind):
-        wrapped = counted(front(octets), 2)
+    def __init__(self, octets, kind, strict):
+        wrapped = counted(front(octets, strict), 2)
         need(oid(wrapped[0]) == SIGNED_DATA)
         version, digests, encapsulated, carried, signers = counted(only(wrapped[1], 0, CONTEXT), 5)
         integer(version, 3, 3)
@@ -557,7 +581,7 @@ class Object:
     def read_signer(self, value, kind):
         version, key, digest, attributes, signing, signature = counted(value, 6)
         integer(version, 3, 3)
-        need(content(key, 0, CONTEXT) == self.cert.subject_key)
+        need(octet_string(key, 0, CONTEXT) == self.cert.subject_key)
         digest_algorithm(digest)
         algorithm(signing, RSA, SHA256_RSA)
         self.signature = octet_string(signature)
@@ -589,8 +613,8 @@ FILE_NAME = re.compile(rb"[A-Za-z0-9_-]+\.[A-Za-z]{3}")
 
 
 class Manifest(Object):
-    def __init__(self, octets):
-        super().__init__(octets, MANIFEST)
+    def __init__(self, octets, strict=True):
+        super().__init__(octets, MANIFEST, strict)
         fields = after_version(members(front(self.content), 16), 0)
         need(len(fields) == 5 and oid(fields[3]) == SHA256)
         serial(fields[0])
@@ -604,8 +628,8 @@ class Manifest(Object):
 
 
 class Roa(Object):
-    def __init__(self, octets):
-        super().__init__(octets, ROA)
+    def __init__(self, octets, strict=True):
+        super().__init__(octets, ROA, strict)
         fields = after_version(members(front(self.content), 16), 0)
         need(len(fields) == 2)
         self.asn = integer(fields[0], 0, 2**32 - 1)
@@ -630,8 +654,8 @@ class Roa(Object):
 
 
 class Aspa(Object):
-    def __init__(self, octets):
-        super().__init__(octets, ASPA)
+    def __init__(self, octets, strict=True):
+        super().__init__(octets, ASPA, strict)
         fields = after_version(members(front(self.content), 16), 1)
         need(len(fields) == 2)
         self.customer = integer(fields[0], 0, 2**32 - 1)
@@ -684,8 +708,10 @@ class Bundle:
     def __init__(self, octets):
         top = front(octets)
         need(top.end == len(octets))
-        version, at, depth, locators, objects, verdicts = counted(top, 6)
-        integer(version, 0, 0)
+        version, at, depth, *flag, locators, objects, verdicts = counted(top, 6, 7)
+        # version 1 has a flag, and version 0 has none
+        integer(version, len(flag), len(flag))
+        self.strict = not any(map(boolean, flag))
         self.moment, self.depth = generalized(at), integer(depth, 1, 32)
         self.locators = [(printable(a), octet_string(b)) for a, b in self.rows(locators, 2)]
         need(all(text and b" " not in text for text, _ in self.locators))

@@ -205,6 +205,8 @@ class World:
         self.depth, self.moment, self.digests = depth, moment, digests
         self.locators, self.objects, self.verdicts = {}, {}, []
         self.count = 0
+        # whether a bundle of version 1 is relaxed; None is one of version 0
+        self.relaxed = None
 
     def number(self):
         """A serial number, or a key, that wasn't given before."""
@@ -228,6 +230,10 @@ class World:
 
     def altered(self, octets):
         """The octets of a value that is about to be signed; a world by chance changes some."""
+        return octets
+
+    def spelled(self, octets):
+        """The octets of a signed object that is about to be published; a world by chance spells some in BER."""
         return octets
 
     def cert(self, key, issuer, extensions, serial=None, validity=(FIRST, LAST), signer=None):
@@ -276,7 +282,9 @@ class World:
         rows = lambda tag, pairs: seq(*(seq(tlv(tag, a), tlv(4, b)) for a, b in sorted(pairs.items())))
         verdicts = seq(*(seq(*(tlv(4, digest) for digest in row)) for row in sorted(self.verdicts)))
         moment, depth = tlv(0x18, self.moment), integer(self.depth)
-        return seq(integer(0), moment, depth, rows(0x13, self.locators), rows(0x16, self.objects), verdicts)
+        version = integer(0 if self.relaxed is None else 1)
+        flag = b"" if self.relaxed is None else tlv(1, b"\xff" if self.relaxed else b"\0")
+        return seq(version, moment, depth, flag, rows(0x13, self.locators), rows(0x16, self.objects), verdicts)
 
 
 def locator_text(uris, key, end=b"\n"):
@@ -336,7 +344,7 @@ class Authority:
         signer = seq(integer(3), sid, SHA256, b"\xa0" + message[1:], RSA, tlv(4, signature))
         parts = (seq(oid(kind), tlv(0xA0, tlv(4, content))), tlv(0xA0, cert), tlv(0x31, signer))
         data = seq(integer(3), tlv(0x31, SHA256), *parts)
-        return seq(oid("1.2.840.113549.1.7.2"), tlv(0xA0, data))
+        return self.world.spelled(seq(oid("1.2.840.113549.1.7.2"), tlv(0xA0, data)))
 
     def add_roa(self, file, content, claims, **how):
         self.files[file] = self.signed(ROA, content, file, claims, **how)

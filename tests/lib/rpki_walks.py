@@ -7,6 +7,7 @@ tests/lib/rpki_model.py's; of each worked case the model has to say the stated l
 import base64
 
 import rpki_model
+import rpki_relaxed
 from rpki_repositories import FIRST, HOST, LAST, MOMENT, PKIX, Authority, Constant, Fips, World
 from rpki_repositories import access, aspa, basic, bits, claims_of, crl_point, extension, integer, issuer_at, locator_text
 from rpki_repositories import oid, policies, roa, seq, tlv, uri_name, usage
@@ -219,6 +220,9 @@ def worked_cases():
     yield "router-cer", router(), SINGLE
     yield "router-cer, unreadable", router(b"\0"), [*SINGLE, refused_file("ta/r.cer", "object")]
     yield "second-locator", second(), [*SINGLE, "refused rsync://u.example/m/ta/b.cer point"]
+    for word, relaxed in (("true", True), ("false", False), ("version-0", None)):
+        yield f"ber-roa--{word}", rpki_relaxed.ber_roa(relaxed), SINGLE if relaxed else NO_ROA
+        yield f"ber-manifest--{word}", rpki_relaxed.ber_manifest(relaxed), SINGLE if relaxed else NO_POINT
     yield from forged()
     yield from laws()
 
@@ -621,11 +625,24 @@ def judge_and_reach(q):
     reaches(q, second(), [*places, HOST + a])
     reaches(q, second(), [OTHER + b"ta.cer"], "locator")
     reaches(q, customers(), [HOST + b"ta/b.asa"], "asn: 'AS0-AS4294967295', ipv4: '', ipv6: ''")
-    for world in (single()[0], customers(), parents(), trimmed(), second(), cycle(3)):
+    relaxed_ones(q)
+    for world in (single()[0], customers(), parents(), trimmed(), second(), cycle(3), rpki_relaxed.ber_manifest(True)):
         octets = world.bundle()
         rows = sorted((file, locator, chain) for locator, chain, file in rpki_model.walk(octets).witnesses)
         said = " ".join(" ".join(part.decode() for part in (b"good", file, locator, *chain)) for file, locator, chain in rows)
         q.ask(said, "witnesses", octets.hex())
+
+
+def relaxed_ones(q):
+    """What is judged and reached where objects are in BER: a manifest that doesn't read names nothing."""
+    a, ta = b"ta/a.roa", [b"ta.cer"]
+    for relaxed in (True, False, None):
+        said = "yes 1" if relaxed else None
+        judges(q, rpki_relaxed.ber_roa(relaxed), b"t", ta, a, said or "no 1")
+        judges(q, rpki_relaxed.ber_manifest(relaxed), b"t", ta, a, said or "no 0")
+        reaches(q, rpki_relaxed.ber_roa(relaxed), [HOST + a], "192.0.2.0/24")
+        reaches(q, rpki_relaxed.ber_manifest(relaxed), [HOST + a], "192.0.2.0/24" if relaxed else "")
+        reaches(q, rpki_relaxed.ber_manifest(relaxed), [HOST + b"ta/ta.mft"], "192.0.2.0/24")
 
 
 def faults(q, world):
@@ -655,9 +672,12 @@ def walks(q):
         found = rpki_model.answer(world.bundle())
         assert found is not None, name
         q.check(world.bundle(), wanted=(0, text(found), ""))
-    for world in (single()[0], customers(), parents(), trimmed()):
+    for name, world in rpki_relaxed.worlds():
+        q.check(world.bundle())
+    for world in (single()[0], customers(), parents(), trimmed(), rpki_relaxed.ber_roa(True)):
         q.is_bundle(world.bundle())
         faults(q, world)
+    flips(q, rpki_relaxed.ber_roa(True).bundle(), "fips", Fips)
     octets = single()[0].bundle()
     said = [outcome(octets[:at] + bytes([octets[at] ^ 1]) + octets[at + 1 :]) for at in range(len(octets))]
     assert all(one == "ok " + text(SINGLE) or "roa" not in one.replace("a.roa", "") for one in said)

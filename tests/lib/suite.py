@@ -87,6 +87,7 @@ TESTS = (
     Test("second reading", "lib/rpki_model.py --cases cases", 60),
     Test("chance", "outside/rpki_random.py {rpki_check}", 400, 7200, less="--count 2000", more="--count 50000"),
     Test("long chances", "outside/rpki_random.py {rpki_check} --long", 500, 7200, less="--count 2000", more="--count 50000"),
+    Test("relaxed chances", "outside/rpki_random.py {rpki_check} --relaxed", 400, 7200, less="--count 1000", more="--count 20000"),
     Test("chance asks", "outside/rpki_asks.py {rpki_ask}", 300, 2400, less="--count 60", more="--count 1000"),
     Test("chance worlds", "questions/rpki_worlds.py {rpki_cases}", 300, 2400, less="60", more="1000"),
     Test("roles", "questions/certs_roles.py --all {objects_cases}", 200),

@@ -125,11 +125,19 @@ def plain():
         f.path += "/"
         f.gives(WITH_OBJECT)
     with Folder("other entries are left alone") as f:
-        f.put("relaxed")
+        f.put("relax")
         f.put("other/x")
         os.mkfifo(f.at("pipe"))
         put(f.path, b"\xff", b"")
         f.gives(EMPTY)
+    for text, flag in ((b"true", b"\1\1\xff"), (b"false\r\n", b"\1\1\0")):
+        with Folder("version 1") as f:
+            put(f.path, b"relaxed", text)
+            f.gives(EMPTY[:1] + bytes([EMPTY[1] + 3]) + EMPTY[2:].replace(b"\2\1\0", b"\2\1\1", 1)[:-6] + flag + EMPTY[-6:])
+    for text in (b"", b"True", b"true\n\n"):
+        with Folder("a flag that is none") as f:
+            put(f.path, b"relaxed", text)
+            f.fails(b"not a bundle\n")
     with Folder("empty folders") as f:
         for name in ("tals", "rsync", "https", "rsync/a"):
             os.mkdir(f.at(name))

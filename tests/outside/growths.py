@@ -21,6 +21,7 @@ sys.path.insert(0, os.path.join(os.path.dirname(os.path.abspath(__file__)), os.p
 from outcomes import NOT_A_BUNDLE, OUT_OF_MEMORY, TOP  # noqa: E402, before make_bundle
 from make_bundle import bundle, locator, made_objects, made_verdicts, object_at  # noqa: E402
 from refusals import compiled, refusals, run  # noqa: E402
+from rpki_relaxed import ber_roa  # noqa: E402
 from rpki_walks import customers, parents, single, trimmed, worked_cases  # noqa: E402
 
 # Version 0, moment 20250101000000Z, depth 32.
@@ -43,6 +44,7 @@ def walks():
     """Worked cases of walks: certificates, lists, manifests and objects, over several chains."""
     lines = {name: stated for name, _, stated in worked_cases()}
     worlds = {"single-roa": single()[0], "two-aspas": customers(), "two-parents": parents(), "trimmed-ca": trimmed()}
+    worlds["ber-roa--true"] = ber_roa(True)
     for name, world in worlds.items():
         yield name, (world.bundle(), prints("".join(f"{line}\n" for line in lines[name]).encode()))
 

@@ -5,7 +5,7 @@
     rpki_random.py --kinds [--count N] [--seed N]    without a program: how many bundles have which lines
     rpki_random.py --write N FILE                    the bundle of one seed
 
-With --long the bundles have long chains, to 33 certificates. Prints each bundle that the two answer in different ways, by its seed,
+With --long the bundles have long chains, to 33 certificates; with --relaxed they are of version 1, mostly, with objects in BER. Prints each bundle that the two answer in different ways, by its seed,
 and `N passed, M failed`. The status is 1 where one failed.
 """
 
@@ -19,7 +19,7 @@ sys.dont_write_bytecode = True
 sys.path.insert(0, str(pathlib.Path(__file__).resolve().parents[1] / "lib"))
 
 import rpki_model  # noqa: E402
-from rpki_chance import bundle_by_chance, long_bundle  # noqa: E402
+from rpki_chance import bundle_by_chance, long_bundle, relaxed_bundle  # noqa: E402
 
 
 def wanted(octets):
@@ -57,9 +57,10 @@ def main():
     parser.add_argument("--seed", type=int, default=1)
     parser.add_argument("--kinds", action="store_true")
     parser.add_argument("--long", action="store_true")
+    parser.add_argument("--relaxed", action="store_true")
     parser.add_argument("--write", nargs=2, metavar=("SEED", "FILE"))
     given = parser.parse_args()
-    bundle_of = long_bundle if given.long else bundle_by_chance
+    bundle_of = long_bundle if given.long else relaxed_bundle if given.relaxed else bundle_by_chance
     seeds = range(given.seed, given.seed + given.count)
     if given.write:
         with open(given.write[1], "wb") as file:

@@ -46,8 +46,8 @@ def told(octets):
     parts = read(octets)
     if parts is None:
         return NO_BUNDLE
-    locators, objects, verdicts, moment, depth = parts
-    text = f"{moment.decode()} {depth}"
+    locators, objects, verdicts, moment, depth, relaxed = parts
+    text = f"{moment.decode()} {depth}" + {None: "", True: " relaxed", False: " strict"}[relaxed]
     for word, rows in (("locator", locators), ("object", objects), ("verdict", verdicts)):
         text += "".join(f" {word} " + ":".join(shown(part) for part in row) for row in rows)
     return text
@@ -76,7 +76,13 @@ class Questions:
         assert read(octets) is not None
         self.ask(told(octets), "decode", octets.hex())
         self.ask(shown(octets), "again", octets.hex())
+        self.upgrade(octets)
         self.check(octets)
+
+    def upgrade(self, octets):
+        """What a bundle becomes by the two flags."""
+        for word, relaxed in (("relaxed", True), ("strict", False)):
+            self.ask(f"{word} {shown(bundle(*read(octets)[:5], relaxed))}", "upgrade", word, octets.hex())
 
     def is_none(self, octets):
         assert read(octets) is None
@@ -101,6 +107,9 @@ EMPTY = words("30 1D H 02 01 20 30 00 30 00 30 00")
 EMPTY_LOCATOR = words("30 24 H 02 01 20 30 07 30 05 13 01 78 04 00 30 00 30 00")
 SORTED = words("30 2B H 02 01 20 30 0E 30 05 13 01 61 04 00 30 05 13 01 62 04 00 30 00 30 00")
 ONE_OBJECT = words("30 30 H 02 01 20 30 00 30 13 30 11 16 0D 72 73 79 6E 63 3A 2F 2F 61 2F 6D 2F 78 04 00 30 00")
+VERSION_1 = {
+    relaxed: words("30 20" + HEAD.replace("02 01 00", "02 01 01", 1) + f"02 01 20 01 01 {relaxed} 30 00 30 00 30 00") for relaxed in ("FF", "00")
+}
 NOT_YET = words("30 25 H 02 01 20 30 08 30 06 13 01 78 04 01 41 30 00 30 00")
 
 
@@ -144,6 +153,13 @@ def worked_cases(q):
             words("30 1D 02 01 00 18 0F 32 30 32 35 30 32 32 39 30 30 30 30 30 30 5A 02 01 20 30 00 30 00 30 00"),
             (1, "", "not a bundle|"),
         ),
+        # version-1-empty: the flag in BER; version 0 with a flag, and without one version 1; version 2
+        (VERSION_1["FF"], (0, "", "")),
+        (VERSION_1["00"], (0, "", "")),
+        (VERSION_1["FF"].replace(b"\1\1\xff", b"\1\1\1"), (1, "", "not a bundle|")),
+        (VERSION_1["FF"].replace(b"\2\1\1", b"\2\1\0", 1), (1, "", "not a bundle|")),
+        (VERSION_1["FF"].replace(b"\2\1\1", b"\2\1\2", 1), (1, "", "not a bundle|")),
+        (EMPTY.replace(b"\2\1\0", b"\2\1\1", 1), (1, "", "not a bundle|")),
         # not-yet
         (NOT_YET, (0, "refused x tal|", "")),
     )
@@ -222,6 +238,8 @@ def bundles(q):
         bundle(objects=[(b"https://a", b"")]),
         bundle(objects=[(b"rsync://a/m/x", b"\0" * 256)]),
         bundle(verdicts=[ONE]),
+        bundle(verdicts=[ONE], relaxed=False),
+        bundle([(b"x", b"")], [(b"rsync://a/m", b"1")], [ONE, TWO], depth=3, relaxed=True),
         bundle(verdicts=[ONE, TWO]),
         bundle([(b"a", b""), (b"b", b"A")]),
         bundle([(b"A", b""), (b"Z", b""), (b"a", b""), (b"aa", b""), (b"b", b"")]),
@@ -255,8 +273,7 @@ def bundles(q):
         bundle(verdicts=[(b"A" * 33, digest(0x42), digest(0x43))]),
         bundle(verdicts=[ONE, ONE]),
         bundle(verdicts=[TWO, ONE]),
-        # The version that is told by an INTEGER 1 and a BOOLEAN isn't read.
-        words("30 20 02 01 01 18 0F 32 30 32 35 30 31 30 31 30 30 30 30 30 30 5A 02 01 20 01 01 FF 30 00 30 00 30 00"),
+        *other_versions(),
     ):
         q.is_none(octets)
     for octets in (EMPTY_LOCATOR, ONE_OBJECT):
@@ -269,10 +286,32 @@ def bundles(q):
     nested(q)
 
 
+def other_versions():
+    """Version 1 with a flag in BER, twice, elsewhere, of another type, in pieces or with another length; each other version, with a
+    flag and without one, and in more octets than it needs."""
+    first, flagged = EMPTY[2:], VERSION_1["00"][2:]
+    flag, true = b"\1\1\0", b"\1\1\xff"
+    for other in (b"\1\1\x01", b"\1\1\x80", b"\1\1\xfe", b"\1\0", b"\1\2\0\0", b"\1\2\xff\xff", b"\1\x81\1\0", b"\x21\3\1\1\0", b"\x81\1\0", b"\2\1\0", b"\2\1\1", b"\5\0", flag * 2, true * 2, flag + true):
+        yield tlv(0x30, flagged.replace(flag, other))
+    at = flagged.index(flag)
+    without = flagged.replace(flag, b"")
+    for place in (0, 3, at - 3, at + 2, len(without)):
+        yield tlv(0x30, without[:place] + true + without[place:])
+    for number in (2, 3, 16, 127, 128, 255, 256, 2**16, 2**31, -1, -128):
+        version = tlv(2, number.to_bytes(number.bit_length() // 8 + 1, "big", signed=True))
+        yield tlv(0x30, version + first[3:])
+        yield tlv(0x30, version + flagged[3:])
+    for version in (b"\2\2\0\0", b"\2\2\0\1", b"\2\0", b"\2\x81\1\1", b"\1\1\1", b"\x0a\1\1", b"\x22\3\2\1\1"):
+        yield tlv(0x30, version + flagged[3:])
+    yield tlv(0x30, b"\2\1\0" + flagged[3:])
+
+
 def changed(q):
     """Bundles with an octet changed, dropped or put in, judged by the reader above."""
-    whole = bundle([(b"a", b""), (b"b", b"")], [(b"https://h", b"1"), (b"rsync://a/m/x", b"")], [ONE], depth=7)
+    parts = [(b"a", b""), (b"b", b"")], [(b"https://h", b"1"), (b"rsync://a/m/x", b"")], [ONE]
+    wholes = [bundle(*parts, depth=7, relaxed=relaxed) for relaxed in (None, True, False)]
     for _ in range(150):
+        whole = rng.choice(wholes)
         at = rng.randrange(len(whole))
         new = rng.choice([[whole[at] ^ 1 << rng.randrange(8)], [whole[at] ^ 1], [rng.randrange(256)], [], [0, whole[at]]])
         q.judge(whole[:at] + bytes(new) + whole[at + 1 :])
@@ -348,8 +387,9 @@ def get_and_parts(q):
         locators, objects = [(name, name * 2) for name in n], [(uri, uri[:3]) for uri in u]
         word = lambda rows: ",".join(":".join(part.hex() for part in row) for row in rows)
         lawful = is_lawful(locators, objects, v, MOMENT, depth)
-        answer = shown(bundle(locators, objects, v, depth=depth)) if lawful else NO_BUNDLE
-        q.ask(answer, "parts", MOMENT.decode(), str(depth), word(locators), word(objects), word(v))
+        for relaxed, said in ((None, ()), (True, ("relaxed",)), (False, ("strict",))):
+            answer = shown(bundle(locators, objects, v, depth=depth, relaxed=relaxed)) if lawful else NO_BUNDLE
+            q.ask(answer, "parts", MOMENT.decode(), str(depth), word(locators), word(objects), word(v), *said)
 
 
 def times(q):
@@ -428,6 +468,7 @@ def case_folder(q):
         ("empty", {}, EMPTY),
         ("locator", {"tals/x.tal": b""}, EMPTY_LOCATOR),
         ("object", {"rsync/a/m/x": b""}, ONE_OBJECT),
+        ("version-1", {"relaxed": b"true"}, VERSION_1["FF"]),
         ("depth-032", {"depth": b"032"}, NO_BUNDLE),
         ("depth-0", {"depth": b"0"}, NO_BUNDLE),
         ("depth-33", {"depth": b"33"}, NO_BUNDLE),
@@ -452,7 +493,7 @@ def kinds_of_entries(q):
     whole = bundle(sorted((n, n * 3) for n in names), sorted((u, u + b"!\0") for u in uris), rows(*LINES))
     assert read(whole) is not None
     deep = "/".join(["f"] * 63)
-    other = {"relaxed": b"true", "other/x": b"x", "tals/x.tal": b"text", "tals/x.TALX": b"y", "tals/readme": b"y", "tals/tal": b"y", "tals/folder.tal/deeper.tal": b"y", "tals/tal.folder/x.tal": b"y"}
+    other = {"relax": b"true", "relaxed.txt": b"true", "other/x": b"x", "tals/x.tal": b"text", "tals/x.TALX": b"y", "tals/readme": b"y", "tals/tal": b"y", "tals/folder.tal/deeper.tal": b"y", "tals/tal.folder/x.tal": b"y"}
     for name, more, answer in (
         ("all", files, whole),
         ("others", other, bundle([(b"x", b"text")])),
@@ -465,6 +506,7 @@ def kinds_of_entries(q):
         ("moment-a-folder", {"moment": None, "moment/x": MOMENT}, "read fault"),
         ("depth-a-folder", {"depth": None, "depth/x": b"32"}, "read fault"),
         ("verdicts-a-folder", {"verdicts/x": b""}, "read fault"),
+        ("relaxed-a-folder", {"relaxed/x": b"true"}, "read fault"),
         ("no-depth", {"depth": None}, "read fault"),
         ("no-moment-bad-depth", {"moment": None, "depth": b"0"}, "read fault"),
         ("levels-64", {f"rsync/{deep}/x": b"deep"}, bundle(objects=[(f"rsync://{deep}/x".encode(), b"deep")])),
@@ -545,7 +587,7 @@ def links(q):
         f.do("folder", path.rsplit("/", 1)[0])
         f.do("link", path, target)
         f.gives("read fault")
-    for name in ("moment", "depth", "verdicts", "tals", "rsync", "https"):
+    for name in ("moment", "depth", "verdicts", "relaxed", "tals", "rsync", "https"):
         f = Made(q, f"broken-{name}", **{name: None} if name in PLAIN else {})
         f.do("link", name, "nothing")
         f.gives("read fault")
@@ -559,7 +601,7 @@ def links(q):
 
 def special_entries(q):
     """What is neither file nor folder: a device."""
-    for path in ("rsync/a", "https/a/b/c", "tals/x.tal", "tals/other", "moment", "depth", "verdicts", "tals", "rsync"):
+    for path in ("rsync/a", "https/a/b/c", "tals/x.tal", "tals/other", "moment", "depth", "verdicts", "relaxed", "tals", "rsync"):
         f = Made(q, f"device-{path.replace('/', '-')}", **{path: None} if path in PLAIN else {})
         if "/" in path:
             f.do("folder", path.rsplit("/", 1)[0])
@@ -579,7 +621,7 @@ def special_entries(q):
 
 
 def unreadable(q):
-    for path in ("rsync/a/m/x", "moment", "tals/x.tal", "verdicts", "depth"):
+    for path in ("rsync/a/m/x", "moment", "tals/x.tal", "verdicts", "relaxed", "depth"):
         f = Made(q, f"unreadable-{path.replace('/', '-')}")
         f.put(path, MOMENT if path == "moment" else b"32" if path == "depth" else b"")
         f.mode(path, "none")
@@ -598,7 +640,7 @@ def unreadable(q):
 
 
 def spelled_lines(q):
-    """`moment`, `depth` and `verdicts`, well and badly spelt, one behind the other in one folder."""
+    """`moment`, `depth`, `relaxed` and `verdicts`, well and badly spelt, one behind the other in one folder."""
     f = Made(q, "lines")
     ends = (b"", b"\n", b"\r\n")
     for end in ends:
@@ -623,7 +665,23 @@ def spelled_lines(q):
             f.gives(NO_BUNDLE)
         f.put(name, good)
         f.gives(EMPTY)
+    spelled_flags(q)
     spelled_verdicts(q)
+
+
+def spelled_flags(q):
+    f = Made(q, "flags")
+    for end in (b"", b"\n", b"\r\n"):
+        f.put("relaxed", b"true" + end)
+        f.gives(VERSION_1["FF"])
+        f.put("relaxed", b"false" + end)
+        f.gives(VERSION_1["00"])
+    for text in (b"", b"\n", b"True", b"TRUE", b"true\r", b"true\n\n", b"true ", b" true", b"truetrue", b"tru", b"falsee", b"fals", b"true\0", b"1", b"0", b"yes", b"\xef\xbb\xbftrue", b"true\nfalse"):
+        f.put("relaxed", text)
+        f.gives(NO_BUNDLE)
+    for more in ("0a*60", "0d0a+00*49", "20*65535"):
+        q.ask("done", "put", f"{f.name}/relaxed", f"{b'true'.hex()}+{more}")
+        f.gives(NO_BUNDLE)
 
 
 def spelled_verdicts(q):

@@ -43,7 +43,7 @@ def stands(walk, issuer, held):
         point = walk.point(issuer, held)
     except Refused as error:
         return "none", place_of(error)
-    manifest = Manifest(walk.held[lookup_key(issuer.place("manifest"))])
+    manifest = Manifest(walk.held[lookup_key(issuer.place("manifest"))], walk.bundle.strict)
     listed = serials(dict(point.files)[point.crl_key])
     words = [manifest.cert.crl_uri.decode(), *map(str, listed), str(manifest.cert.serial)]
     for (name, _), (_, octets) in zip(manifest.files, point.files, strict=True):

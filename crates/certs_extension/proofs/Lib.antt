@@ -11,7 +11,7 @@ mod AddLaws
 mod Filling
 mod Finished
 mod Lists
-mod Purposes
+mod Several
 mod SlotLaws
 pub mod Whole
 pub mod of_bcder

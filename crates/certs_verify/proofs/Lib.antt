@@ -1,3 +1,4 @@
 pub mod TestChains
 pub mod Chains
+pub mod Memories
 pub mod Refusals

@@ -39,7 +39,7 @@ fault_of error.Uncovered = None
 fault_of error.Refused = None
 fault_of error.Memory = Some wants_memory
 
--- The fault is the first test of the list that isn't passed, or lack of memory, of which nothing follows.
+-- The fault is the first test of the list that isn't passed, or lack of memory, of which `MemoryAfter` says more.
 abbrev pub Fails : (VerificationTest → Type 0) → List VerificationTest → Option Fault → Type 0
 Fails P tests None = ⊥
 Fails P tests (Some (inspected t)) = ⊥
@@ -50,6 +50,10 @@ Fails P tests (Some wants_memory) = Unit {0}
 abbrev pub Answers : {A : Type 0} → (VerificationTest → Type 0) → List VerificationTest → Result A VerificationError → Type 0
 Answers P tests (Ok x) = Each P tests
 Answers P tests (Err e) = Fails P tests (fault_of e)
+
+-- Lack of memory is told only where that holds: what is tested before memory is first wanted.
+abbrev pub MemoryAfter : Type 0 → VerificationError → Type 0
+MemoryAfter passed e = e ≡ error.Memory → passed
 
 -- A verifier was asked once or not at all.
 abbrev pub AsksOnce : ℕ → ℕ → Type 0

@@ -14,7 +14,7 @@ use Rattle.certs_verify.specs.certs_basics.HandedIn.{Digests}
 use Rattle.certs_verify.specs.certs_basics.Lists.{Each, FirstFailing}
 use Rattle.certs_verify.specs.certs_basics.Verdicts.{Verdicts}
 use Rattle.certs_verify.specs.declared.refused.Refused.{Refused}
-use Rattle.certs_verify.specs.Answers.{fault_of}
+use Rattle.certs_verify.specs.Answers.{MemoryAfter, fault_of}
 use Rattle.certs_verify.specs.Holders.{ResourceCertValue}
 use Rattle.certs_verify.specs.Words.{RefusedBy, TellsOutside}
 
@@ -27,6 +27,12 @@ Inspects d strict role c (Err t) = FailsFirst d strict role c t
 abbrev pub cause_of : ValidationError → Option Fault
 cause_of (error.Inspection t) = Some (inspected t)
 cause_of (error.Verification e) = fault_of e
+
+-- Lack of memory is told only of a certificate that has the form of its role, and where that holds: what is tested then
+-- before memory is first wanted.
+abbrev pub MemoryAfterForm : Digests → Bool → Role → CertValue → Type 0 → ValidationError → Type 0
+MemoryAfterForm d strict role c passed (error.Inspection t) = Unit {0}
+MemoryAfterForm d strict role c passed (error.Verification e) = MemoryAfter (Profile d strict role c × passed) e
 
 -- The answer is as P says, with the fault that the error tells.
 abbrev pub MeetsValid : (Result HolderValue RefusedValue → Type 0) → Result ResourceCertValue (Refused ValidationError) → Type 0

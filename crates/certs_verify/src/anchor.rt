@@ -2,8 +2,8 @@
 
 ghost use Rattle.std.specs.Prelude.{◌≡◌, ◌≢◌, IfErr, IfOk};
 ghost use Rattle.certs_x509.specs.declared.errors.verification.VerificationError.TheVariants.{Memory};
-ghost use Rattle.certs_verify.specs.certs_extension.Verified.{HoldsOwn, PassesAt, anchor_tests, nothing};
-ghost use Rattle.certs_verify.specs.Answers.{Answers, AsksOnce};
+ghost use Rattle.certs_verify.specs.certs_extension.Verified.{HoldsOwn, IsAnchorAt, PassesAt, anchor_tests, nothing};
+ghost use Rattle.certs_verify.specs.Answers.{Answers, AsksOnce, MemoryAfter};
 ghost use Rattle.certs_verify.specs.Holders.{holding};
 ghost use Rattle.certs_verify.specs.Words.{Meets, VerifiesAnchor};
 
@@ -33,7 +33,7 @@ pub(crate) fn verify_anchor_ref<V: Verifier>(
     tests::verify_signature(cert, cert, verifier)
 }
 
-// Whether the certificate is one of an anchor, and what it then holds.
+// Whether the certificate is one of an anchor, and what it then holds: looked at after all tests, which take no memory.
 fn verify_own<V: Verifier>(
     cert: &Cert,
     now: Time,
@@ -42,13 +42,12 @@ fn verify_own<V: Verifier>(
     ensures answers { Answers (PassesAt (V.says verifier.old) now cert.now nothing cert.now)
         anchor_tests result }
     ensures holds { IfOk result (λ held. HoldsOwn cert.now (holding cert.now held)) }
+    ensures memory { IfErr result (MemoryAfter (IsAnchorAt (V.says verifier.old) now cert.now)) }
     ensures same { V.says verifier.new ≡ V.says verifier.old }
     ensures asked { AsksOnce (V.count verifier.old) (V.count verifier.new) }
 {
-    let valid = tests::verify_validity(cert, now)?;
-    let held = claims::own_all(cert)?;
-    let signed = tests::verify_signature(cert, cert, verifier)?;
-    Ok(held)
+    let passed = verify_anchor_ref(cert, now, verifier)?;
+    claims::own_all(cert)
 }
 
 /// The certificate with what it holds as an anchor, or the certificate and the first test that it fails.
@@ -60,6 +59,8 @@ pub(crate) fn verify_anchor<V: Verifier>(
 ) -> Result<ResourceCert, Refused<VerificationError>>
     ensures verifies { Meets (VerifiesAnchor (V.says verifier.old) now cert) result }
     ensures tal { IfOk result (λ r. r.tal ≡ tal.value) }
+    ensures memory { IfErr result (λ r. MemoryAfter
+        (IsAnchorAt (V.says verifier.old) now cert) r.error) }
     ensures same { V.says verifier.new ≡ V.says verifier.old }
     ensures asked { AsksOnce (V.count verifier.old) (V.count verifier.new) }
 {

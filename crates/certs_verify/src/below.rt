@@ -3,9 +3,9 @@
 ghost use Rattle.std.specs.Prelude.{◌≡◌, ◌≢◌, ◌∷◌, ◌++◌, [], IfErr, IfOk};
 ghost use Rattle.certs_x509.specs.declared.errors.verification.VerificationError.TheVariants.{Memory};
 ghost use Rattle.certs_verify.specs.certs_extension.Calls.{VerifiesIssued};
-ghost use Rattle.certs_verify.specs.certs_extension.Verified.{HoldsBelow, PassesAt, held_by, nothing, issued_tests, issuer_claim, router_tests, validity};
+ghost use Rattle.certs_verify.specs.certs_extension.Verified.{HoldsBelow, IsSignedAt, PassesAt, held_by, nothing, issued_tests, issuer_claim, router_tests, validity};
 ghost use Rattle.certs_verify.specs.certs_extension.declared.forms.VerificationTest.TheVariants as test;
-ghost use Rattle.certs_verify.specs.Answers.{Answers, AsksOnce};
+ghost use Rattle.certs_verify.specs.Answers.{Answers, AsksOnce, MemoryAfter};
 ghost use Rattle.certs_verify.specs.Holders.{holding};
 ghost use Rattle.certs_verify.specs.Words.{Meets, TellsOutside};
 
@@ -49,6 +49,10 @@ fn verify_below<V: Verifier>(
     ensures holds { IfOk result (λ held.
         HoldsBelow (held_by issuer.now.holder) cert.now (holding cert.now held)) }
     ensures outside { IfErr result (TellsOutside cert.now (held_by issuer.now.holder)) }
+    ensures signed { IfOk result (λ held.
+        IsSignedAt (V.says verifier.old) now issuer.now.holder.cert cert.now) }
+    ensures memory { IfErr result (MemoryAfter
+        (IsSignedAt (V.says verifier.old) now issuer.now.holder.cert cert.now)) }
     ensures same { V.says verifier.new ≡ V.says verifier.old }
     ensures asked { AsksOnce (V.count verifier.old) (V.count verifier.new) }
 {
@@ -68,6 +72,8 @@ pub(crate) fn verify_issued<V: Verifier>(
         (VerifiesIssued (V.says verifier.old) now issuer.now.holder cert) result }
     ensures tal { IfOk result (λ r. r.tal ≡ issuer.now.tal) }
     ensures outside { IfErr result (λ r. TellsOutside cert (held_by issuer.now.holder) r.error) }
+    ensures memory { IfErr result (λ r. MemoryAfter
+        (IsSignedAt (V.says verifier.old) now issuer.now.holder.cert cert) r.error) }
     ensures same { V.says verifier.new ≡ V.says verifier.old }
     ensures asked { AsksOnce (V.count verifier.old) (V.count verifier.new) }
 {
@@ -95,6 +101,8 @@ pub(crate) fn verify_router<V: Verifier>(
     ensures answers { Answers (PassesAt (V.says verifier.old) now issuer.now.holder.cert
         (held_by issuer.now.holder) cert.now) router_tests result }
     ensures outside { IfErr result (TellsOutside cert.now (held_by issuer.now.holder)) }
+    ensures memory { IfErr result (MemoryAfter
+        (IsSignedAt (V.says verifier.old) now issuer.now.holder.cert cert.now)) }
     ensures same { V.says verifier.new ≡ V.says verifier.old }
     ensures asked { AsksOnce (V.count verifier.old) (V.count verifier.new) }
 {

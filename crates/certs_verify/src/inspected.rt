@@ -3,12 +3,12 @@
 ghost use Rattle.std.specs.Prelude.{◌≡◌, Bool, IfErr, IfOk};
 ghost use Rattle.certs_x509.specs.declared.errors.validation.ValidationError.TheVariants.{Verification};
 ghost use Rattle.certs_verify.specs.certs_extension.Calls.{ValidatesAnchor, ValidatesIssued};
-ghost use Rattle.certs_verify.specs.certs_extension.Verified.{held_by};
+ghost use Rattle.certs_verify.specs.certs_extension.Verified.{IsAnchorAt, IsSignedAt, held_by};
 ghost use Rattle.certs_verify.specs.certs_extension.declared.forms.Role.{Role};
 ghost use Rattle.certs_verify.specs.certs_extension.declared.forms.Role.TheVariants.{Router, Ta};
 ghost use Rattle.certs_verify.specs.certs_basics.HandedIn.{Digests};
 ghost use Rattle.certs_verify.specs.Answers.{AsksOnce};
-ghost use Rattle.certs_verify.specs.Validated.{Inspects, MeetsValid, TellsNumbers, ValidatesRouter};
+ghost use Rattle.certs_verify.specs.Validated.{Inspects, MemoryAfterForm, MeetsValid, TellsNumbers, ValidatesRouter};
 
 use crate::holder::ResourceCert;
 use crate::inspect::Cert;
@@ -40,6 +40,9 @@ pub(crate) fn validate_anchor<V: Verifier>(
     ensures validates { (d : Digests) (strict : Bool) → Inspects d strict Ta cert inspected
         → MeetsValid (ValidatesAnchor d (V.says verifier.old) strict now cert) result }
     ensures tal { IfOk result (λ r. r.tal ≡ tal.value) }
+    ensures memory { (d : Digests) (strict : Bool) → Inspects d strict Ta cert inspected
+        → IfErr result (λ r. MemoryAfterForm d strict Ta cert
+        (IsAnchorAt (V.says verifier.old) now cert) r.error) }
     ensures same { V.says verifier.new ≡ V.says verifier.old }
     ensures asked { AsksOnce (V.count verifier.old) (V.count verifier.new) }
 {
@@ -68,6 +71,10 @@ pub(crate) fn validate_issued<V: Verifier>(
     ensures tal { IfOk result (λ r. r.tal ≡ issuer.now.tal) }
     ensures outside { IfErr result (λ r.
         TellsNumbers cert (held_by issuer.now.holder) r.error) }
+    ensures memory { (d : Digests) (strict : Bool) (role : Role)
+        → Inspects d strict role cert inspected → IfErr result (λ r.
+        MemoryAfterForm d strict role cert
+        (IsSignedAt (V.says verifier.old) now issuer.now.holder.cert cert) r.error) }
     ensures same { V.says verifier.new ≡ V.says verifier.old }
     ensures asked { AsksOnce (V.count verifier.old) (V.count verifier.new) }
 {
@@ -93,6 +100,9 @@ pub(crate) fn validate_router<V: Verifier>(
     ensures validates { (d : Digests) (strict : Bool) → Inspects d strict Router cert.now inspected
         → ValidatesRouter d (V.says verifier.old) strict now issuer.now.holder cert.now result }
     ensures outside { IfErr result (TellsNumbers cert.now (held_by issuer.now.holder)) }
+    ensures memory { (d : Digests) (strict : Bool) → Inspects d strict Router cert.now inspected
+        → IfErr result (MemoryAfterForm d strict Router cert.now
+        (IsSignedAt (V.says verifier.old) now issuer.now.holder.cert cert.now)) }
     ensures same { V.says verifier.new ≡ V.says verifier.old }
     ensures asked { AsksOnce (V.count verifier.old) (V.count verifier.new) }
 {

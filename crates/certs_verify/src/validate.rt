@@ -3,11 +3,11 @@
 ghost use Rattle.std.specs.Prelude.{◌≡◌, ℕ, IfErr, IfOk};
 ghost use Rattle.certs_verify.specs.certs_extension.Calls.{ValidatesAnchor, ValidatesIssued};
 ghost use Rattle.certs_verify.specs.certs_extension.Cert.{CertValue};
-ghost use Rattle.certs_verify.specs.certs_extension.Verified.{held_by};
-ghost use Rattle.certs_verify.specs.certs_extension.declared.forms.Role.TheVariants.{Ca, DetachedEe, Ee};
+ghost use Rattle.certs_verify.specs.certs_extension.Verified.{IsAnchorAt, IsSignedAt, held_by};
+ghost use Rattle.certs_verify.specs.certs_extension.declared.forms.Role.TheVariants.{Ca, DetachedEe, Ee, Router, Ta};
 ghost use Rattle.certs_verify.specs.certs_key.Digesting.{digests_of};
 ghost use Rattle.certs_verify.specs.Answers.{AsksOnce};
-ghost use Rattle.certs_verify.specs.Validated.{MeetsValid, TellsNumbers, ValidatesRouter};
+ghost use Rattle.certs_verify.specs.Validated.{MeetsValid, MemoryAfterForm, TellsNumbers, ValidatesRouter};
 
 use crate::holder::ResourceCert;
 use crate::inspect::{Cert, Inspect};
@@ -20,7 +20,8 @@ use std::rc::Rc;
 
 /// What is validated: inspected as one of its role, then verified as one of its kind. No revocation list is looked at. A
 /// call asks the verifier once or not at all. `Memory` comes only where a growth of memory was refused, or a count of
-/// copies is full; nothing follows from it for the certificate.
+/// copies is full, and only after the tests that take none: those of the form, then of an anchor all, and below an issuer
+/// those of the moment, of the claim to the issuer and of the signature.
 ///
 /// A call that takes the certificate hands it back where it refuses. `strict` refuses UTF8Strings in names, but for the
 /// subject of a router's certificate.
@@ -41,6 +42,9 @@ pub trait Validate {
         ensures validates { MeetsValid (ValidatesAnchor
             (digests_of D.sha256_digest D.sha1_digest digester.now) (V.says verifier.old)
             strict now (validated self)) result }
+        ensures memory { IfErr result (λ r. MemoryAfterForm
+            (digests_of D.sha256_digest D.sha1_digest digester.now) strict Ta (validated self)
+            (IsAnchorAt (V.says verifier.old) now (validated self)) r.error) }
         ensures tal { IfOk result (λ r. r.tal ≡ tal.value) }
         ensures same { V.says verifier.new ≡ V.says verifier.old }
         ensures asked { AsksOnce (V.count verifier.old) (V.count verifier.new) };
@@ -59,6 +63,10 @@ pub trait Validate {
         ensures validates { MeetsValid (ValidatesIssued
             (digests_of D.sha256_digest D.sha1_digest digester.now) (V.says verifier.old)
             strict Ca now issuer.now.holder (validated self)) result }
+        ensures memory { IfErr result (λ r. MemoryAfterForm
+            (digests_of D.sha256_digest D.sha1_digest digester.now) strict Ca (validated self)
+            (IsSignedAt (V.says verifier.old) now issuer.now.holder.cert (validated self))
+            r.error) }
         ensures tal { IfOk result (λ r. r.tal ≡ issuer.now.tal) }
         ensures outside { IfErr result (λ r.
             TellsNumbers (validated self) (held_by issuer.now.holder) r.error) }
@@ -78,6 +86,10 @@ pub trait Validate {
         ensures validates { MeetsValid (ValidatesIssued
             (digests_of D.sha256_digest D.sha1_digest digester.now) (V.says verifier.old)
             strict Ee now issuer.now.holder (validated self)) result }
+        ensures memory { IfErr result (λ r. MemoryAfterForm
+            (digests_of D.sha256_digest D.sha1_digest digester.now) strict Ee (validated self)
+            (IsSignedAt (V.says verifier.old) now issuer.now.holder.cert (validated self))
+            r.error) }
         ensures tal { IfOk result (λ r. r.tal ≡ issuer.now.tal) }
         ensures outside { IfErr result (λ r.
             TellsNumbers (validated self) (held_by issuer.now.holder) r.error) }
@@ -98,6 +110,11 @@ pub trait Validate {
         ensures validates { MeetsValid (ValidatesIssued
             (digests_of D.sha256_digest D.sha1_digest digester.now) (V.says verifier.old)
             strict DetachedEe now issuer.now.holder (validated self)) result }
+        ensures memory { IfErr result (λ r. MemoryAfterForm
+            (digests_of D.sha256_digest D.sha1_digest digester.now) strict DetachedEe
+            (validated self)
+            (IsSignedAt (V.says verifier.old) now issuer.now.holder.cert (validated self))
+            r.error) }
         ensures tal { IfOk result (λ r. r.tal ≡ issuer.now.tal) }
         ensures outside { IfErr result (λ r.
             TellsNumbers (validated self) (held_by issuer.now.holder) r.error) }
@@ -118,6 +135,10 @@ pub trait Validate {
         ensures validates { ValidatesRouter
             (digests_of D.sha256_digest D.sha1_digest digester.now) (V.says verifier.old)
             strict now issuer.now.holder (validated self.now) result }
+        ensures memory { IfErr result (MemoryAfterForm
+            (digests_of D.sha256_digest D.sha1_digest digester.now) strict Router
+            (validated self.now)
+            (IsSignedAt (V.says verifier.old) now issuer.now.holder.cert (validated self.now))) }
         ensures outside { IfErr result
             (TellsNumbers (validated self.now) (held_by issuer.now.holder)) }
         ensures same { V.says verifier.new ≡ V.says verifier.old }
@@ -134,7 +155,10 @@ pub trait Validate {
     ) -> Result<ResourceCert, Refused<ValidationError>>
         ensures validates { (moment : ℕ) × C.tells clock.now moment × MeetsValid (ValidatesAnchor
             (digests_of D.sha256_digest D.sha1_digest digester.now) (V.says verifier.old)
-            strict moment (validated self)) result }
+            strict moment (validated self)) result
+            × IfErr result (λ r. MemoryAfterForm
+            (digests_of D.sha256_digest D.sha1_digest digester.now) strict Ta (validated self)
+            (IsAnchorAt (V.says verifier.old) moment (validated self)) r.error) }
         ensures tal { IfOk result (λ r. r.tal ≡ tal.value) }
         ensures same { V.says verifier.new ≡ V.says verifier.old }
         ensures asked { AsksOnce (V.count verifier.old) (V.count verifier.new) };
@@ -151,7 +175,11 @@ pub trait Validate {
     ) -> Result<ResourceCert, Refused<ValidationError>>
         ensures validates { (moment : ℕ) × C.tells clock.now moment × MeetsValid (ValidatesIssued
             (digests_of D.sha256_digest D.sha1_digest digester.now) (V.says verifier.old)
-            strict Ca moment issuer.now.holder (validated self)) result }
+            strict Ca moment issuer.now.holder (validated self)) result
+            × IfErr result (λ r. MemoryAfterForm
+            (digests_of D.sha256_digest D.sha1_digest digester.now) strict Ca (validated self)
+            (IsSignedAt (V.says verifier.old) moment issuer.now.holder.cert (validated self))
+            r.error) }
         ensures tal { IfOk result (λ r. r.tal ≡ issuer.now.tal) }
         ensures outside { IfErr result (λ r.
             TellsNumbers (validated self) (held_by issuer.now.holder) r.error) }
@@ -170,7 +198,11 @@ pub trait Validate {
     ) -> Result<ResourceCert, Refused<ValidationError>>
         ensures validates { (moment : ℕ) × C.tells clock.now moment × MeetsValid (ValidatesIssued
             (digests_of D.sha256_digest D.sha1_digest digester.now) (V.says verifier.old)
-            strict Ee moment issuer.now.holder (validated self)) result }
+            strict Ee moment issuer.now.holder (validated self)) result
+            × IfErr result (λ r. MemoryAfterForm
+            (digests_of D.sha256_digest D.sha1_digest digester.now) strict Ee (validated self)
+            (IsSignedAt (V.says verifier.old) moment issuer.now.holder.cert (validated self))
+            r.error) }
         ensures tal { IfOk result (λ r. r.tal ≡ issuer.now.tal) }
         ensures outside { IfErr result (λ r.
             TellsNumbers (validated self) (held_by issuer.now.holder) r.error) }
@@ -189,7 +221,12 @@ pub trait Validate {
     ) -> Result<ResourceCert, Refused<ValidationError>>
         ensures validates { (moment : ℕ) × C.tells clock.now moment × MeetsValid (ValidatesIssued
             (digests_of D.sha256_digest D.sha1_digest digester.now) (V.says verifier.old)
-            strict DetachedEe moment issuer.now.holder (validated self)) result }
+            strict DetachedEe moment issuer.now.holder (validated self)) result
+            × IfErr result (λ r. MemoryAfterForm
+            (digests_of D.sha256_digest D.sha1_digest digester.now) strict DetachedEe
+            (validated self)
+            (IsSignedAt (V.says verifier.old) moment issuer.now.holder.cert (validated self))
+            r.error) }
         ensures tal { IfOk result (λ r. r.tal ≡ issuer.now.tal) }
         ensures outside { IfErr result (λ r.
             TellsNumbers (validated self) (held_by issuer.now.holder) r.error) }
@@ -208,7 +245,12 @@ pub trait Validate {
     ) -> Result<(), ValidationError>
         ensures validates { (moment : ℕ) × C.tells clock.now moment × ValidatesRouter
             (digests_of D.sha256_digest D.sha1_digest digester.now) (V.says verifier.old)
-            strict moment issuer.now.holder (validated self.now) result }
+            strict moment issuer.now.holder (validated self.now) result
+            × IfErr result (MemoryAfterForm
+            (digests_of D.sha256_digest D.sha1_digest digester.now) strict Router
+            (validated self.now)
+            (IsSignedAt (V.says verifier.old) moment issuer.now.holder.cert
+            (validated self.now))) }
         ensures outside { IfErr result
             (TellsNumbers (validated self.now) (held_by issuer.now.holder)) }
         ensures same { V.says verifier.new ≡ V.says verifier.old }

@@ -4,10 +4,10 @@ ghost use Rattle.std.specs.Prelude.{◌≡◌, ◌≢◌, ◌+◌, ◌-◌, ◌^
 ghost use Rattle.certs_x509.specs.declared.errors.verification.VerificationError.TheVariants.{Memory};
 ghost use Rattle.certs_verify.specs.certs_extension.Calls.{VerifiesIssued};
 ghost use Rattle.certs_verify.specs.certs_extension.Cert.{CertValue};
-ghost use Rattle.certs_verify.specs.certs_extension.Verified.{PassesAt, anchor_tests, held_by, issuer_claim, nothing, router_tests, validity};
+ghost use Rattle.certs_verify.specs.certs_extension.Verified.{IsAnchorAt, IsSignedAt, PassesAt, anchor_tests, held_by, issuer_claim, nothing, router_tests, validity};
 ghost use Rattle.certs_verify.specs.certs_extension.declared.forms.VerificationTest.TheVariants as test;
 ghost use Rattle.certs_verify.specs.certs_basics.Verdicts.{Verdicts};
-ghost use Rattle.certs_verify.specs.Answers.{Answers, AsksOnce};
+ghost use Rattle.certs_verify.specs.Answers.{Answers, AsksOnce, MemoryAfter};
 ghost use Rattle.certs_verify.specs.Words.{Meets, TellsOutside, VerifiesAnchor};
 
 use crate::holder::ResourceCert;
@@ -20,7 +20,8 @@ use std::alloc::Global;
 use std::rc::Rc;
 
 /// What is verified. A call asks the verifier once or not at all. `Memory` comes only where a growth of memory was
-/// refused, or a count of copies is full; nothing follows from it for the certificate.
+/// refused, or a count of copies is full, and only after the tests that take none: of an anchor all, and below an issuer
+/// those of the moment, of the claim to the issuer and of the signature.
 ///
 /// A call that takes the certificate hands it back where it refuses. `strict` is of inspection, and changes nothing here.
 pub trait Verify {
@@ -65,6 +66,8 @@ pub trait Verify {
         verifier: &mut V,
     ) -> Result<ResourceCert, Refused<VerificationError>>
         ensures verifies { Meets (VerifiesAnchor (V.says verifier.old) now (verified self)) result }
+        ensures memory { IfErr result (λ r. MemoryAfter
+            (IsAnchorAt (V.says verifier.old) now (verified self)) r.error) }
         ensures tal { IfOk result (λ r. r.tal ≡ tal.value) }
         ensures same { V.says verifier.new ≡ V.says verifier.old }
         ensures asked { AsksOnce (V.count verifier.old) (V.count verifier.new) };
@@ -96,6 +99,8 @@ pub trait Verify {
     ) -> Result<ResourceCert, Refused<VerificationError>>
         ensures verifies { Meets
             (VerifiesIssued (V.says verifier.old) now issuer.now.holder (verified self)) result }
+        ensures memory { IfErr result (λ r. MemoryAfter (IsSignedAt (V.says verifier.old) now
+            issuer.now.holder.cert (verified self)) r.error) }
         ensures tal { IfOk result (λ r. r.tal ≡ issuer.now.tal) }
         ensures outside { IfErr result (λ r.
             TellsOutside (verified self) (held_by issuer.now.holder) r.error) }
@@ -113,6 +118,8 @@ pub trait Verify {
     ) -> Result<ResourceCert, Refused<VerificationError>>
         ensures verifies { Meets
             (VerifiesIssued (V.says verifier.old) now issuer.now.holder (verified self)) result }
+        ensures memory { IfErr result (λ r. MemoryAfter (IsSignedAt (V.says verifier.old) now
+            issuer.now.holder.cert (verified self)) r.error) }
         ensures tal { IfOk result (λ r. r.tal ≡ issuer.now.tal) }
         ensures outside { IfErr result (λ r.
             TellsOutside (verified self) (held_by issuer.now.holder) r.error) }
@@ -131,6 +138,8 @@ pub trait Verify {
     ) -> Result<(), VerificationError>
         ensures answers { Answers (PassesAt (V.says verifier.old) now issuer.now.holder.cert
             (held_by issuer.now.holder) (verified self.now)) router_tests result }
+        ensures memory { IfErr result (MemoryAfter
+            (IsSignedAt (V.says verifier.old) now issuer.now.holder.cert (verified self.now))) }
         ensures outside { IfErr result
             (TellsOutside (verified self.now) (held_by issuer.now.holder)) }
         ensures same { V.says verifier.new ≡ V.says verifier.old }
@@ -144,8 +153,10 @@ pub trait Verify {
         clock: &C,
         verifier: &mut V,
     ) -> Result<ResourceCert, Refused<VerificationError>>
-        ensures verifies { (moment : ℕ) × C.tells clock.now moment × Meets
-            (VerifiesAnchor (V.says verifier.old) moment (verified self)) result }
+        ensures verifies { (moment : ℕ) × C.tells clock.now moment
+            × Meets (VerifiesAnchor (V.says verifier.old) moment (verified self)) result
+            × IfErr result (λ r. MemoryAfter
+            (IsAnchorAt (V.says verifier.old) moment (verified self)) r.error) }
         ensures tal { IfOk result (λ r. r.tal ≡ tal.value) }
         ensures same { V.says verifier.new ≡ V.says verifier.old }
         ensures asked { AsksOnce (V.count verifier.old) (V.count verifier.new) };
@@ -174,7 +185,9 @@ pub trait Verify {
         verifier: &mut V,
     ) -> Result<ResourceCert, Refused<VerificationError>>
         ensures verifies { (moment : ℕ) × C.tells clock.now moment × Meets
-            (VerifiesIssued (V.says verifier.old) moment issuer.now.holder (verified self)) result }
+            (VerifiesIssued (V.says verifier.old) moment issuer.now.holder (verified self)) result
+            × IfErr result (λ r. MemoryAfter (IsSignedAt (V.says verifier.old) moment
+            issuer.now.holder.cert (verified self)) r.error) }
         ensures tal { IfOk result (λ r. r.tal ≡ issuer.now.tal) }
         ensures outside { IfErr result (λ r.
             TellsOutside (verified self) (held_by issuer.now.holder) r.error) }
@@ -191,7 +204,9 @@ pub trait Verify {
         verifier: &mut V,
     ) -> Result<ResourceCert, Refused<VerificationError>>
         ensures verifies { (moment : ℕ) × C.tells clock.now moment × Meets
-            (VerifiesIssued (V.says verifier.old) moment issuer.now.holder (verified self)) result }
+            (VerifiesIssued (V.says verifier.old) moment issuer.now.holder (verified self)) result
+            × IfErr result (λ r. MemoryAfter (IsSignedAt (V.says verifier.old) moment
+            issuer.now.holder.cert (verified self)) r.error) }
         ensures tal { IfOk result (λ r. r.tal ≡ issuer.now.tal) }
         ensures outside { IfErr result (λ r.
             TellsOutside (verified self) (held_by issuer.now.holder) r.error) }
@@ -209,7 +224,9 @@ pub trait Verify {
     ) -> Result<(), VerificationError>
         ensures answers { (moment : ℕ) × C.tells clock.now moment × Answers
             (PassesAt (V.says verifier.old) moment issuer.now.holder.cert
-            (held_by issuer.now.holder) (verified self.now)) router_tests result }
+            (held_by issuer.now.holder) (verified self.now)) router_tests result
+            × IfErr result (MemoryAfter (IsSignedAt (V.says verifier.old) moment
+            issuer.now.holder.cert (verified self.now))) }
         ensures outside { IfErr result
             (TellsOutside (verified self.now) (held_by issuer.now.holder)) }
         ensures same { V.says verifier.new ≡ V.says verifier.old }

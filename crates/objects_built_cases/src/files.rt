@@ -2,6 +2,7 @@
 
 use answers::Answer;
 use anyhow::{Result, anyhow};
+use certs_x509::DigestAlgorithm;
 use objects_cms::manifest::{FileAndHash, ManifestHash};
 use rpki_digests::Fips;
 use std::alloc::Global;
@@ -25,7 +26,7 @@ pub fn hash(alloc: Global, answer: &mut Answer, words: &[&str]) -> Result<()> {
         return Err(anyhow!("no hash"));
     };
     let (hash, octets) = (hex::decode(alloc, *hash)?, hex::decode(alloc, *octets)?);
-    let listed = ManifestHash::new(hash.as_slice());
+    let listed = ManifestHash::new(hash.as_slice(), DigestAlgorithm::default());
     answer.join_octets(listed.as_slice());
     answer.join(" ");
     match listed.verify(&Fips, octets.as_slice()) {

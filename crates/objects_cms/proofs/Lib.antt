@@ -9,6 +9,7 @@ pub mod Lists
 pub mod Names
 pub mod Stepping
 mod Joined
+mod Beginning
 mod NoMemory
 mod Ones
 mod Spelled

@@ -2,7 +2,7 @@
 use Rattle.std.proofs.Common.{◌≡◌, ℕ, Bool, true, false, List, ◌++◌, Result, Ok, Err, ap, ◌∙◌, refl, subst, sym, IsTrue, ◌↔◌}
 use denote.Ref.{MutBor}
 use Rattle.std.specs.Fn.{FnOnceReturnsAtMut}
-use Rattle.std.specs.Prelude.{IsErr, IsErrAnd, IsTrue}
+use Rattle.std.specs.Prelude.{IfOk, IsErr, IsErrAnd, IsTrue, OnErr, OnOk}
 use Rattle.objects_cms.specs.bcder_tree.declared.mode.Mode.{Mode}
 use Rattle.objects_cms.specs.bcder_source.Errors.{OnContent}
 use Rattle.objects_cms.specs.bcder_source.declared.error.DecodeError.{DecodeError}
@@ -12,7 +12,7 @@ use Rattle.objects_cms.specs.bcder_content.Contents.{Goes, ValuesLeft}
 use Rattle.objects_cms.specs.bcder_content.Exact.{Lacks}
 use Rattle.objects_cms.specs.bcder_content.Here.{here}
 use Rattle.objects_cms.specs.bcder_content.Ran.{Decoded, DecodedCases, RanIn, Reader, failed_in, fresh, refused_in}
-use Rattle.objects_cms.proofs.of_bcder_content.Taking.{weaker}
+use Rattle.objects_cms.proofs.of_bcder_content.Taking.{on_content, weaker}
 use Rattle.certs_cert.specs.certs_x509.Took.{TookOctets}
 use Rattle.objects_cms.specs.objects_payload.ObjectText.{Object, ObjectFields, SpellsContentInfo, SpellsObject, mode, object_of}
 use Rattle.objects_cms.specs.Frame.{IsFrame, Parts, object_fields, signed_fields}
@@ -69,6 +69,12 @@ object_disagrees {now} {new} {p} g differ = record {
       let key_is = ap (λ (z : Object). z.cert.tbs.subject_key_identifier) s.fields in
       differ (record { same_type = kind ∙ s.same_type ∙ type_is ∙ sym type; own = sid ∙ sym sid_is ∙ s.own ∙ key_is ∙ sym key });
 }
+
+-- The object of a frame's parts, where they agree.
+pub object_agreed : {E : Type 0} {now mid new : ValuesLeft} {p : Parts} (r : Result Object (DecodeError E)) → TookOctets object_fields SpellsContentInfo now p mid
+    → IfOk r (λ o. Agrees p × (o ≡ object_of (signed_fields p))) → OnOk r (new ≡ mid) → OnErr r (Agrees p → ⊥) → ReadsOctets (λ (z : Object). z) SpellsObject now r new
+object_agreed {now = now} (Ok o) g a same n = subst (λ (v : ValuesLeft). TookOctets (λ (z : Object). z) SpellsObject now o v) (sym same) (object_gives g a.0 a.1)
+object_agreed (Err e) g a same n = on_content e (object_disagrees g n)
 
 -- Each call of the closure reads octets exactly.
 pub record EachOctets {F S T B E : Type 0} (rest : S → List ℕ) (g : Reader F (Constructed S) T E) (op : F) (f : T → B)

@@ -1,4 +1,5 @@
 pub mod Said
+pub mod Invalid
 pub mod Slots
 pub mod Kept
 pub mod Files
@@ -8,6 +9,7 @@ pub mod Steps
 pub mod ManifestFields
 pub mod Signer
 pub mod Frame
+pub mod Begun
 pub mod Decoded
 pub mod Content
 -- What stands below, for the crates above.

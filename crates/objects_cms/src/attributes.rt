@@ -2,9 +2,11 @@
 //! the very octets of all of them, over which the signature is.
 
 pub mod attrs;
+pub mod invalid;
 pub mod kinds;
 pub mod laws;
 pub mod said;
 pub mod slots;
 
 pub use attrs::SignedAttrs;
+pub use invalid::InvalidSignedAttr;

@@ -12,10 +12,10 @@ use Rattle.objects_valid.specs.certs_extension.Calls.{Fault, inspected, verified
 use Rattle.objects_valid.specs.certs_extension.Cert.{CertValue}
 use Rattle.objects_valid.specs.certs_extension.Kinds.{Kind}
 use Rattle.objects_valid.specs.certs_extension.Profiles.{FailsFirst, Profile}
-use Rattle.objects_valid.specs.certs_extension.Verified.{HolderValue, PassesAt, held_by, issued_tests}
+use Rattle.objects_valid.specs.certs_extension.Verified.{HolderValue, IsSignedAt, PassesAt, held_by, issued_tests}
 use Rattle.objects_valid.specs.certs_extension.declared.forms.InspectionError.{InspectionError}
 use Rattle.objects_valid.specs.certs_extension.declared.forms.Role.{Role}
-use Rattle.certs_verify.specs.Answers.{Fails, fault_of}
+use Rattle.certs_verify.specs.Answers.{Fails, MemoryAfter, fault_of}
 use Rattle.certs_verify.specs.Holders.{ResourceCertValue}
 use Rattle.certs_verify.specs.Validated.{Inspects, TellsNumbers}
 use Rattle.certs_verify.specs.Words.{Meets, RefusedBy, TellsOutside}
@@ -43,9 +43,9 @@ abbrev Refusal : Type 0
 Refusal = Refused VerificationError
 
 pub refused_below : (good : Verdicts) (now : ℕ) (issuer : HolderValue) (c : CertValue) (x : Refusal) (told : ValidationError)
-    → told ≡ Verification x.error → Meets (VerifiesIssued good now issuer c) (Err x) → FailsBelow good now issuer c told
-refused_below good now issuer c x told tells m =
-    subst (FailsBelow good now issuer c) (sym tells) (failed_below good now issuer c x.cert (fault_of x.error) m)
+    → told ≡ Verification x.error → Meets (VerifiesIssued good now issuer c) (Err x) → MemoryAfter (IsSignedAt good now issuer.cert c) x.error → FailsBelow good now issuer c told
+refused_below good now issuer c x told tells m after =
+    subst (FailsBelow good now issuer c) (sym tells) (failed_below good now issuer c x.cert (fault_of x.error) m, after)
 
 pub outside_below : (c : CertValue) (held : Kind → ℕ → Type 0) (x : Refusal) (told : ValidationError) → told ≡ Verification x.error → TellsOutside c held x.error → TellsNumbers c held told
 outside_below c held x told tells t = subst (TellsNumbers c held) (sym tells) t

@@ -3,3 +3,4 @@ pub mod Accepting
 pub mod IfType
 pub mod Processing
 pub mod Signing
+pub mod Sparing

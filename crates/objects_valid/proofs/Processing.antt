@@ -1,5 +1,5 @@
 -- What tests after an object's own answer, put together with it.
-use Rattle.std.proofs.Common.{◌≡◌, ℕ, Bool, Result, Ok, Err, inl, inr, subst}
+use Rattle.std.proofs.Common.{◌≡◌, ℕ, Bool, Result, Ok, Err, inl, inr, subst, sym}
 use Rattle.std.specs.Prelude.{IfErr, IfOk, String}
 use Rattle.std.specs.declared.alloc.Global.{Global}
 use Rattle.certs_verify.specs.certs_basics.HandedIn.{Digests}
@@ -9,10 +9,11 @@ use Rattle.objects_valid.specs.certs_extension.Cert.{CertValue}
 use Rattle.objects_valid.specs.certs_extension.Verified.{HolderValue}
 use Rattle.objects_valid.specs.certs_extension.declared.forms.Role.TheVariants.{Ee}
 use Rattle.certs_verify.specs.Holders.{ResourceCertValue}
+use Rattle.objects_valid.specs.Kinds.{KindValue}
 use Rattle.objects_valid.specs.objects_payload.Aspas.{Aspa}
 use Rattle.objects_valid.specs.objects_payload.ObjectText.{Object}
 use Rattle.objects_valid.specs.Accepted.{AcceptsObject, FailsObject}
-use Rattle.objects_valid.specs.Processed.{Answers, CoversAspa, Failing, FailsAny, FailsAspa, FailsTest, Passing, PassesAny, PassesAspa, PassesTest, Processes, Test}
+use Rattle.objects_valid.specs.Processed.{Answers, CallableIfAccepted, CallableIfCovered, CoversAspa, Failing, FailsAny, FailsAspa, FailsTest, Passing, PassesAny, PassesAspa, PassesTest, Processes, Test}
 use Rattle.objects_valid.specs.Together.{joined_if}
 
 -- The tests were asked of the holder's certificate, which is the object's.
@@ -59,3 +60,16 @@ asked_err says given h e same a = subst (λ (c : CertValue). FailsTest (says c) 
 pub asked_last : (says : CertValue → Test) (given : CertValue) (x : Aspa) (h : HolderValue) (r : Result (Unit {0}) ValidationError) → given ≡ h.cert → CoversAspa x h → Answered says given r → Answers (PassesAspa (says h.cert) x) (FailsAspa (says h.cert) x) h r
 asked_last says given x h (Ok u) same covers a = (covers, subst (λ (c : CertValue). PassesTest (says c)) same (a h))
 asked_last says given x h (Err e) same covers a = inr (covers, subst (λ (c : CertValue). FailsTest (says c) e) same (a h))
+
+-- The caller's test may be asked of the holder's certificate, which is the accepted object's.
+pub callable_here : (takes : CertValue → Type 0) (d : Digests) (good : Verdicts) (strict : Bool) (now : ℕ) (issuer : HolderValue) (o s : Object) (h : HolderValue)
+    → s ≡ o → AcceptsObject d good strict Ee now issuer s h → CallableIfAccepted (takes o.cert) d good strict now issuer o → takes h.cert
+callable_here takes d good strict now issuer o s h same accepted callable =
+    let a = subst (λ (p : Object). AcceptsObject d good strict Ee now issuer p h) same accepted in
+    subst takes (sym a.holds.cert) (callable h a)
+
+pub callable_covered : (takes : CertValue → Type 0) (d : Digests) (good : Verdicts) (strict : Bool) (now : ℕ) (issuer : HolderValue) (k : KindValue Aspa) (s : Object) (x : Aspa) (h : HolderValue)
+    → s ≡ k.signed → x ≡ k.content → AcceptsObject d good strict Ee now issuer s h → CallableIfCovered (takes k.signed.cert) d good strict now issuer k → CoversAspa x h → takes h.cert
+callable_covered takes d good strict now issuer k s x h same is accepted callable covers =
+    let a = subst (λ (p : Object). AcceptsObject d good strict Ee now issuer p h) same accepted in
+    subst takes (sym a.holds.cert) (callable h a (subst (λ (y : Aspa). CoversAspa y h) is covers))

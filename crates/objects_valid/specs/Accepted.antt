@@ -4,11 +4,12 @@ use Rattle.certs_verify.specs.certs_basics.HandedIn.{Digests}
 use Rattle.certs_verify.specs.certs_basics.Verdicts.{Verdicts}
 use Rattle.certs_verify.specs.certs_x509.declared.errors.validation.ValidationError.{ValidationError}
 use Rattle.certs_verify.specs.certs_x509.declared.errors.validation.ValidationError.TheVariants as error
+use Rattle.certs_verify.specs.certs_x509.declared.errors.verification.VerificationError.TheVariants.{Memory}
 use Rattle.objects_valid.specs.certs_extension.Cert.{CertValue}
 use Rattle.objects_valid.specs.certs_extension.Profiles.{FailsFirst, Profile}
-use Rattle.objects_valid.specs.certs_extension.Verified.{HolderValue, HoldsBelow, IsIssuedAt, PassesAt, held_by, issued_tests}
+use Rattle.objects_valid.specs.certs_extension.Verified.{HolderValue, HoldsBelow, IsIssuedAt, IsSignedAt, PassesAt, held_by, issued_tests}
 use Rattle.objects_valid.specs.certs_extension.declared.forms.Role.{Role}
-use Rattle.certs_verify.specs.Answers.{Fails, fault_of}
+use Rattle.certs_verify.specs.Answers.{Fails, MemoryAfter, fault_of}
 use Rattle.certs_verify.specs.Holders.{ResourceCertValue}
 use Rattle.objects_valid.specs.objects_payload.ObjectText.{Object, Sound}
 use Rattle.objects_cms.specs.Content.{FailsContent}
@@ -26,16 +27,22 @@ abbrev pub FailsSigned : Digests → Verdicts → Bool → Role → Object → V
 FailsSigned d good strict role o (error.Inspection t) = FailsFirst d strict role o.cert t
 FailsSigned d good strict role o (error.Verification e) = Profile d strict role o.cert × FailsContent d good o e
 
--- The first test that the certificate fails below the issuer; from lack of memory nothing follows.
+-- The first test that the certificate fails below the issuer; lack of memory is told only after all tests but those of its
+-- resources, which alone take memory.
 abbrev pub FailsBelow : Verdicts → ℕ → HolderValue → CertValue → ValidationError → Type 0
 FailsBelow good now issuer c (error.Inspection t) = ⊥
-FailsBelow good now issuer c (error.Verification e) = Fails (PassesAt good now issuer.cert (held_by issuer) c) issued_tests (fault_of e)
+FailsBelow good now issuer c (error.Verification e) = Fails (PassesAt good now issuer.cert (held_by issuer) c) issued_tests (fault_of e) × MemoryAfter (IsSignedAt good now issuer.cert c) e
 
 -- The first test that the object fails: those of the form, of the content, and of the certificate, in this order.
 abbrev pub FailsObject : Digests → Verdicts → Bool → Role → ℕ → HolderValue → Object → ValidationError → Type 0
 FailsObject d good strict role now issuer o e =
     FailsSigned d good strict role o e
     ⊎ (Profile d strict role o.cert × (Sound d good o × FailsBelow good now issuer o.cert e))
+
+-- Lack of memory is told before the verifier is asked, or only where that holds: what is tested of the certificate before
+-- its resources take memory. Before and after are the counts of what the verifier was asked.
+abbrev pub SparesMemory : ℕ → ℕ → Type 0 → ValidationError → Type 0
+SparesMemory before after passed e = e ≡ error.Verification Memory → (after ≡ before) ⊎ passed
 
 -- Accepted, with what its certificate holds, or the first test that fails.
 abbrev pub ValidatesObject : Digests → Verdicts → Bool → Role → ℕ → HolderValue → Object → Result ResourceCertValue ValidationError → Type 0

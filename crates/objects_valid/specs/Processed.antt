@@ -34,6 +34,10 @@ abbrev pub Processes : {A : Type 0} → Passing → Failing → Digests → Verd
 Processes passes fails d good strict now issuer o content (Ok p) = AcceptsObject d good strict Ee now issuer o p.0.holder × (passes p.0.holder × (p.1 ≡ content))
 Processes passes fails d good strict now issuer o content (Err e) = FailsObject d good strict Ee now issuer o e ⊎ ((h : HolderValue) × AcceptsObject d good strict Ee now issuer o h × fails h e)
 
+-- The caller's test may be asked where the object is accepted, and that is all that is required of it.
+abbrev pub CallableIfAccepted : Type 0 → Digests → Verdicts → Bool → ℕ → HolderValue → Object → Type 0
+CallableIfAccepted callable d good strict now issuer o = (h : HolderValue) → AcceptsObject d good strict Ee now issuer o h → callable
+
 -- What a caller's test of a certificate may answer.
 abbrev pub Test : Type 1
 Test = Result (Unit {0}) ValidationError → Type 0
@@ -80,6 +84,10 @@ PassesAspa says x h = CoversAspa x h × PassesTest says
 
 abbrev pub FailsAspa : Test → Aspa → Failing
 FailsAspa says x h e = ((e ≡ Verification Uncovered) × (CoversAspa x h → ⊥)) ⊎ (CoversAspa x h × FailsTest says e)
+
+-- The caller's test may be asked where the object is accepted and its customer is held.
+abbrev pub CallableIfCovered : Type 0 → Digests → Verdicts → Bool → ℕ → HolderValue → KindValue Aspa → Type 0
+CallableIfCovered callable d good strict now issuer k = (h : HolderValue) → AcceptsObject d good strict Ee now issuer k.signed h → CoversAspa k.content h → callable
 
 abbrev pub ProcessesAspa : Test → Digests → Verdicts → Bool → ℕ → HolderValue → KindValue Aspa → Result (ResourceCertValue × Aspa) ValidationError → Type 0
 ProcessesAspa says d good strict now issuer k = Processes (PassesAspa says k.content) (FailsAspa says k.content) d good strict now issuer k.signed k.content

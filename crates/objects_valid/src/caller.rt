@@ -1,7 +1,7 @@
 //! What a caller's test says of a certificate.
 
 ghost use Rattle.std.specs.Prelude.{◌≡◌, ◌↔◌, IfErr, IsTrue};
-ghost use Rattle.std.specs.Fn.{FnOnceReturnsAt};
+ghost use Rattle.std.specs.Fn.{FnOnceReturnsAt, FnOnceTakesAt};
 ghost use Rattle.objects_valid.specs.certs_extension.Cert.{CertValue};
 ghost use Rattle.objects_valid.specs.certs_extension.Verified.{HolderValue, held_by};
 ghost use Rattle.certs_verify.specs.certs_x509.declared.errors.validation.ValidationError.TheVariants.{Verification};
@@ -42,7 +42,7 @@ pub(crate) fn ask<F: FnOnce(&Cert) -> Result<(), ValidationError>>(
     test: F,
     cert: &Cert,
 ) -> Result<(), ValidationError>
-    requires { F.IsAlwaysCallable test }
+    requires { FnOnceTakesAt F.FnOnce test cert.now }
     ensures answers { (h : HolderValue) → Answers
         (PassesAny (FnOnceReturnsAt F.FnOnce test cert.now))
         (FailsAny (FnOnceReturnsAt F.FnOnce test cert.now)) h result }

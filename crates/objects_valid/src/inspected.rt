@@ -1,17 +1,17 @@
 //! What is tested of a signed object after its certificate's form: its content, then its certificate below an issuer.
 
 ghost use Rattle.std.specs.Prelude.{◌≡◌, ◌+◌, ◌≤◌, Bool, IfErr, IfOk};
-ghost use Rattle.objects_valid.specs.certs_extension.Verified.{HolderValue, held_by};
+ghost use Rattle.objects_valid.specs.certs_extension.Verified.{HolderValue, IsSignedAt, held_by};
 ghost use Rattle.objects_valid.specs.certs_extension.declared.forms.Role.{Role};
 ghost use Rattle.certs_verify.specs.certs_x509.declared.errors.validation.ValidationError.TheVariants.{Verification};
+ghost use Rattle.certs_verify.specs.certs_x509.declared.errors.verification.VerificationError.TheVariants.{Memory};
 ghost use Rattle.certs_verify.specs.certs_key.Digesting.{digests_of};
 ghost use Rattle.certs_verify.specs.Answers.{AsksOnce};
 ghost use Rattle.certs_verify.specs.Validated.{Inspects, TellsNumbers};
-ghost use Rattle.objects_cms.specs.Content.{VerifiesContent};
-ghost use Rattle.objects_valid.specs.Accepted.{ValidatesContent, VerifiesBelow, VerifiesSigned};
+ghost use Rattle.objects_valid.specs.Accepted.{SparesMemory, ValidatesContent, VerifiesBelow, VerifiesSigned};
 ghost use Rattle.objects_valid.specs.Content.{VerifiesSound};
 
-use crate::kinds::{SignedObject, verify_content};
+use crate::kinds::SignedObject;
 use crate::together::join;
 use certs_verify::{
     Cert, Digester, InspectionError, Refused, ResourceCert, ValidationError, VerificationError,
@@ -20,29 +20,6 @@ use certs_verify::{
 use certs_x509::errors::Time;
 use certs_x509::signed::OctetString;
 use std::alloc::Global;
-
-// Whether the signer signed the object's content; else the first test that fails.
-fn verify_own_content<D: Digester, V: Verifier>(
-    alloc: Global,
-    signed: &SignedObject,
-    digester: &D,
-    verifier: &mut V,
-) -> Result<(), VerificationError>
-    ensures answers { VerifiesContent
-        (digests_of D.sha256_digest D.sha1_digest digester.now) (V.says verifier.old)
-        signed.now result }
-    ensures same { V.says verifier.new ≡ V.says verifier.old }
-    ensures asked { AsksOnce (V.count verifier.old) (V.count verifier.new) }
-{
-    verify_content(
-        alloc,
-        signed.signer(),
-        signed.content(),
-        signed.cert(),
-        digester,
-        verifier,
-    )
-}
 
 // Whether the signer signed the object's content, as a validation answers it.
 fn verify_sound<D: Digester, V: Verifier>(
@@ -56,10 +33,12 @@ fn verify_sound<D: Digester, V: Verifier>(
         signed.now result }
     ensures outside { (issuer : HolderValue)
         → IfErr result (TellsNumbers signed.now.cert (held_by issuer)) }
+    ensures spared { IfErr result
+        (λ e. e ≡ Verification Memory → V.count verifier.new ≡ V.count verifier.old) }
     ensures same { V.says verifier.new ≡ V.says verifier.old }
     ensures asked { AsksOnce (V.count verifier.old) (V.count verifier.new) }
 {
-    match verify_own_content(alloc, signed, digester, verifier) {
+    match signed.verify_content(alloc, digester, verifier) {
         Ok(()) => Ok(()),
         Err(error) => Err(ValidationError::Verification(error)),
     }
@@ -81,6 +60,8 @@ fn verify_signed<D: Digester, V: Verifier>(
         (V.says verifier.old) strict role signed.now result }
     ensures outside { (issuer : HolderValue)
         → IfErr result (TellsNumbers signed.now.cert (held_by issuer)) }
+    ensures spared { IfErr result
+        (λ e. e ≡ Verification Memory → V.count verifier.new ≡ V.count verifier.old) }
     ensures same { V.says verifier.new ≡ V.says verifier.old }
     ensures asked { AsksOnce (V.count verifier.old) (V.count verifier.new) }
 {
@@ -150,6 +131,9 @@ pub(crate) fn validate<D: Digester, V: Verifier>(
         (V.says verifier.old) strict role now issuer.now.holder signed signed.content result }
     ensures tal { IfOk result (λ p. p.0.tal ≡ issuer.now.tal) }
     ensures outside { IfErr result (TellsNumbers signed.cert (held_by issuer.now.holder)) }
+    ensures memory { IfErr result (SparesMemory
+        (V.count verifier.old) (V.count verifier.new)
+        (IsSignedAt (V.says verifier.old) now issuer.now.holder.cert signed.cert)) }
     ensures same { V.says verifier.new ≡ V.says verifier.old }
     ensures asked { V.count verifier.new ≤ V.count verifier.old + 2 }
 {

@@ -32,4 +32,4 @@ pub use if_type::DecodeIfType;
 pub use kinds::{Aspa, Manifest, ManifestContent, Roa, SignedObject};
 pub use manifest::ValidateManifest;
 pub use object::ProcessObject;
-pub use roa::ProcessRoa;
+pub use roa::{ProcessRoa, UncoveredPrefix};

@@ -1,13 +1,13 @@
 //! Manifests (RFC 9286 6).
 
 ghost use Rattle.std.specs.Prelude.{◌≡◌, ◌+◌, ◌≤◌, ℕ, IfErr, IfOk};
-ghost use Rattle.objects_valid.specs.certs_extension.Verified.{held_by};
+ghost use Rattle.objects_valid.specs.certs_extension.Verified.{IsSignedAt, held_by};
 ghost use Rattle.objects_valid.specs.certs_extension.declared.forms.Role.TheVariants.{Ee};
 ghost use Rattle.certs_verify.specs.certs_key.Digesting.{digests_of};
 ghost use Rattle.certs_verify.specs.Validated.{TellsNumbers};
 ghost use Rattle.objects_valid.specs.Kinds.{KindValue};
 ghost use Rattle.objects_valid.specs.objects_payload.Manifests.{Manifest as ManifestValue};
-ghost use Rattle.objects_valid.specs.Accepted.{ValidatesContent};
+ghost use Rattle.objects_valid.specs.Accepted.{SparesMemory, ValidatesContent};
 
 use crate::kinds::{Manifest, ManifestContent};
 use crate::object::ProcessObject;
@@ -18,8 +18,8 @@ use std::alloc::Global;
 
 /// A manifest that is validated: it is let go where it is refused. A call asks the verifier at most twice: for the content,
 /// then for the certificate. `strict` refuses UTF8Strings in names. `Memory` comes only where a growth of memory was
-/// refused; nothing follows from it for the manifest. Neither its updates nor the files that it lists are looked at, and no
-/// revocation list.
+/// refused, and only after the tests before the one that takes memory: the content's signature, or what the certificate
+/// claims of resources. Neither its updates nor the files that it lists are looked at, and no revocation list.
 pub trait ValidateManifest {
     // The manifest, with what its content says.
     ghost manifest: { Self → KindValue ManifestValue };
@@ -41,6 +41,9 @@ pub trait ValidateManifest {
         ensures tal { IfOk result (λ p. p.0.tal ≡ issuer.now.tal) }
         ensures outside { IfErr result
             (TellsNumbers (manifest self).signed.cert (held_by issuer.now.holder)) }
+        ensures memory { IfErr result (SparesMemory
+            (V.count verifier.old) (V.count verifier.new) (IsSignedAt (V.says verifier.old) now
+            issuer.now.holder.cert (manifest self).signed.cert)) }
         ensures same { V.says verifier.new ≡ V.says verifier.old }
         ensures asked { V.count verifier.new ≤ V.count verifier.old + 2 };
 
@@ -57,7 +60,10 @@ pub trait ValidateManifest {
         ensures validates { (moment : ℕ) × C.tells clock.now moment × ValidatesContent
             (digests_of D.sha256_digest D.sha1_digest digester.now) (V.says verifier.old)
             strict Ee moment issuer.now.holder
-            (manifest self).signed (manifest self).content result }
+            (manifest self).signed (manifest self).content result
+            × IfErr result (SparesMemory (V.count verifier.old) (V.count verifier.new)
+            (IsSignedAt (V.says verifier.old) moment
+            issuer.now.holder.cert (manifest self).signed.cert)) }
         ensures tal { IfOk result (λ p. p.0.tal ≡ issuer.now.tal) }
         ensures outside { IfErr result
             (TellsNumbers (manifest self).signed.cert (held_by issuer.now.holder)) }

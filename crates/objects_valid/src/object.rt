@@ -1,14 +1,14 @@
 //! Signed objects of any kind (RFC 6488 3).
 
 ghost use Rattle.std.specs.Prelude.{◌≡◌, ◌+◌, ◌≤◌, ℕ, IfErr, IfOk};
-ghost use Rattle.std.specs.Fn.{FnOnceReturnsAt};
-ghost use Rattle.objects_valid.specs.certs_extension.Verified.{held_by};
+ghost use Rattle.std.specs.Fn.{FnOnceReturnsAt, FnOnceTakesAt};
+ghost use Rattle.objects_valid.specs.certs_extension.Verified.{IsSignedAt, held_by};
 ghost use Rattle.objects_valid.specs.certs_extension.declared.forms.Role.TheVariants.{DetachedEe, Ee};
 ghost use Rattle.certs_verify.specs.certs_key.Digesting.{digests_of};
 ghost use Rattle.certs_verify.specs.Validated.{TellsNumbers};
 ghost use Rattle.objects_valid.specs.objects_payload.ObjectText.{Object};
-ghost use Rattle.objects_valid.specs.Accepted.{ValidatesObject};
-ghost use Rattle.objects_valid.specs.Processed.{ProcessesObject};
+ghost use Rattle.objects_valid.specs.Accepted.{SparesMemory, ValidatesObject};
+ghost use Rattle.objects_valid.specs.Processed.{CallableIfAccepted, ProcessesObject};
 
 use crate::kinds::SignedObject;
 use crate::{caller, inspected, together};
@@ -19,7 +19,8 @@ use std::alloc::Global;
 
 /// A signed object that is validated: it is let go where it is refused. A call asks the verifier at most twice: for the
 /// content, then for the certificate. `strict` refuses UTF8Strings in names. `Memory` comes only where a growth of memory
-/// was refused; nothing follows from it for the object.
+/// was refused, and only after the tests before the one that takes memory: the content's signature, or what the certificate
+/// claims of resources.
 pub trait ProcessObject {
     // The object.
     ghost processed: { Self → Object };
@@ -42,6 +43,9 @@ pub trait ProcessObject {
         ensures tal { IfOk result (λ r. r.tal ≡ issuer.now.tal) }
         ensures outside { IfErr result
             (TellsNumbers (processed self).cert (held_by issuer.now.holder)) }
+        ensures memory { IfErr result (SparesMemory
+            (V.count verifier.old) (V.count verifier.new) (IsSignedAt (V.says verifier.old) now
+            issuer.now.holder.cert (processed self).cert)) }
         ensures same { V.says verifier.new ≡ V.says verifier.old }
         ensures asked { V.count verifier.new ≤ V.count verifier.old + 2 };
 
@@ -61,12 +65,15 @@ pub trait ProcessObject {
         ensures tal { IfOk result (λ r. r.tal ≡ issuer.now.tal) }
         ensures outside { IfErr result
             (TellsNumbers (processed self).cert (held_by issuer.now.holder)) }
+        ensures memory { IfErr result (SparesMemory
+            (V.count verifier.old) (V.count verifier.new) (IsSignedAt (V.says verifier.old) now
+            issuer.now.holder.cert (processed self).cert)) }
         ensures same { V.says verifier.new ≡ V.says verifier.old }
         ensures asked { V.count verifier.new ≤ V.count verifier.old + 2 };
 
     /// The object's certificate with what it holds, and the content, where the object is accepted as by `validate_at` and
     /// `check_crl` doesn't refuse its certificate; else the first test that fails. `check_crl` is called once where the
-    /// object is accepted, and else not at all.
+    /// object is accepted, of its certificate, and else not at all; so it need be callable only then.
     fn process_at<D: Digester, V: Verifier, F: FnOnce(&Cert) -> Result<(), ValidationError> + Drop>(
         self,
         alloc: Global,
@@ -77,7 +84,10 @@ pub trait ProcessObject {
         verifier: &mut V,
         check_crl: F,
     ) -> Result<(ResourceCert, OctetString), ValidationError>
-        requires { F.IsAlwaysCallable check_crl }
+        requires { CallableIfAccepted
+            (FnOnceTakesAt F.FnOnce check_crl (processed self).cert)
+            (digests_of D.sha256_digest D.sha1_digest digester.now) (V.says verifier.old)
+            strict now issuer.now.holder (processed self) }
         ensures processes { ProcessesObject
             (FnOnceReturnsAt F.FnOnce check_crl (processed self).cert)
             (digests_of D.sha256_digest D.sha1_digest digester.now) (V.says verifier.old)
@@ -85,6 +95,9 @@ pub trait ProcessObject {
         ensures tal { IfOk result (λ p. p.0.tal ≡ issuer.now.tal) }
         ensures outside { IfErr result
             (TellsNumbers (processed self).cert (held_by issuer.now.holder)) }
+        ensures memory { IfErr result (SparesMemory
+            (V.count verifier.old) (V.count verifier.new) (IsSignedAt (V.says verifier.old) now
+            issuer.now.holder.cert (processed self).cert)) }
         ensures same { V.says verifier.new ≡ V.says verifier.old }
         ensures asked { V.count verifier.new ≤ V.count verifier.old + 2 };
 
@@ -100,7 +113,10 @@ pub trait ProcessObject {
     ) -> Result<ResourceCert, ValidationError>
         ensures validates { (moment : ℕ) × C.tells clock.now moment × ValidatesObject
             (digests_of D.sha256_digest D.sha1_digest digester.now) (V.says verifier.old)
-            strict Ee moment issuer.now.holder (processed self) result }
+            strict Ee moment issuer.now.holder (processed self) result
+            × IfErr result (SparesMemory (V.count verifier.old) (V.count verifier.new)
+            (IsSignedAt (V.says verifier.old) moment
+            issuer.now.holder.cert (processed self).cert)) }
         ensures tal { IfOk result (λ r. r.tal ≡ issuer.now.tal) }
         ensures outside { IfErr result
             (TellsNumbers (processed self).cert (held_by issuer.now.holder)) }
@@ -119,7 +135,10 @@ pub trait ProcessObject {
     ) -> Result<ResourceCert, ValidationError>
         ensures validates { (moment : ℕ) × C.tells clock.now moment × ValidatesObject
             (digests_of D.sha256_digest D.sha1_digest digester.now) (V.says verifier.old)
-            strict DetachedEe moment issuer.now.holder (processed self) result }
+            strict DetachedEe moment issuer.now.holder (processed self) result
+            × IfErr result (SparesMemory (V.count verifier.old) (V.count verifier.new)
+            (IsSignedAt (V.says verifier.old) moment
+            issuer.now.holder.cert (processed self).cert)) }
         ensures tal { IfOk result (λ r. r.tal ≡ issuer.now.tal) }
         ensures outside { IfErr result
             (TellsNumbers (processed self).cert (held_by issuer.now.holder)) }
@@ -142,11 +161,17 @@ pub trait ProcessObject {
         verifier: &mut V,
         check_crl: F,
     ) -> Result<(ResourceCert, OctetString), ValidationError>
-        requires { F.IsAlwaysCallable check_crl }
+        requires { (moment : ℕ) → C.tells clock.now moment → CallableIfAccepted
+            (FnOnceTakesAt F.FnOnce check_crl (processed self).cert)
+            (digests_of D.sha256_digest D.sha1_digest digester.now) (V.says verifier.old)
+            strict moment issuer.now.holder (processed self) }
         ensures processes { (moment : ℕ) × C.tells clock.now moment × ProcessesObject
             (FnOnceReturnsAt F.FnOnce check_crl (processed self).cert)
             (digests_of D.sha256_digest D.sha1_digest digester.now) (V.says verifier.old)
-            strict moment issuer.now.holder (processed self) result }
+            strict moment issuer.now.holder (processed self) result
+            × IfErr result (SparesMemory (V.count verifier.old) (V.count verifier.new)
+            (IsSignedAt (V.says verifier.old) moment
+            issuer.now.holder.cert (processed self).cert)) }
         ensures tal { IfOk result (λ p. p.0.tal ≡ issuer.now.tal) }
         ensures outside { IfErr result
             (TellsNumbers (processed self).cert (held_by issuer.now.holder)) }

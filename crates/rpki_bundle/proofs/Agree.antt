@@ -8,6 +8,7 @@ use Rattle.rpki_bundle.specs.bcder_tree.Strings.{IsString}
 use Rattle.rpki_bundle.proofs.of_bcder_tree.Fronts.{length_bound}
 use Rattle.rpki_bundle.specs.bcder_primitive.Values.{AnyOctets}
 use Rattle.rpki_bundle.specs.bcder_content.Grammar.{Inside, OctetsOf, Such, As, End, Then, ManyCases, Many}
+use Rattle.rpki_bundle.specs.bcder_content.Words.{ThenBy}
 use Rattle.rpki_bundle.specs.bcder_content.Texts.{SpellsOf, InOrder}
 use Rattle.rpki_bundle.specs.bcder_primitive.Encoded.{WritesPlain, WritesWrapped, WritesBoth}
 use Rattle.rpki_bundle.specs.bcder_values.Lists.{WritesAll}
@@ -25,6 +26,24 @@ pub record AgreeAll {A : Type 0} (P : Trees → A → Type 0) (x : A) (W : List 
 -- Values, one after the other, and the last of them.
 pub joins : {A B : Type 0} {Q : Tree → A → Type 0} {R : Trees → B → Type 0} {x : A} {y : B} {V W : List ℕ → Type 0} {l k : Type 0} → Agree Q x V l → AgreeAll R y W k → AgreeAll (Then Q R) (x, y) (WritesBoth V W) (l × k)
 joins {A} {B} {Q} {R} {x} {y} {V} {W} {l} {k} a b = record {
+  to = λ text s.
+      let h = subst (λ (ts : Trees). SpellsAll Der ts text) s.is.whole s.spelled in
+      let f = a.to h.0 (record { tree = s.is.first; is = s.is.is; spelled = h.2 }) in
+      let r = b.to h.1 (record { trees = s.is.others; is = s.is.rest; spelled = h.3 }) in
+      (record { first = h.0; second = h.1; is_first = f.0; is_second = r.0; whole = h.4 }, (f.1, r.1));
+  back = λ text w law.
+      let f = a.back w.first w.is_first law.0 in
+      let r = b.back w.second w.is_second law.1 in
+      record {
+        trees = more f.tree r.trees;
+        is = record { first = f.tree; others = r.trees; whole = refl; is = f.is; rest = r.is };
+        spelled = (w.first, w.second, f.spelled, r.spelled, w.whole);
+      };
+}
+
+-- The same where the first says what comes after it.
+pub joins_by : {A B : Type 0} {Q : Tree → A → Type 0} {R : A → Trees → B → Type 0} {x : A} {y : B} {V W : List ℕ → Type 0} {l k : Type 0} → Agree Q x V l → AgreeAll (R x) y W k → AgreeAll (ThenBy Q R) (x, y) (WritesBoth V W) (l × k)
+joins_by a b = record {
   to = λ text s.
       let h = subst (λ (ts : Trees). SpellsAll Der ts text) s.is.whole s.spelled in
       let f = a.to h.0 (record { tree = s.is.first; is = s.is.is; spelled = h.2 }) in
@@ -106,6 +125,13 @@ such a = record {
 pub means : {A B : Type 0} {Q : Tree → A → Type 0} (f : A → B) (g : B → A) {y : B} {W : List ℕ → Type 0} {l : Type 0} → ((x : A) → g (f x) ≡ x) → f (g y) ≡ y → Agree Q (g y) W l → Agree (As Q f) y W l
 means {A} {B} {Q} f g {y} there back a = record {
   to = λ text s. a.to text (record { tree = s.tree; is = subst (λ (x : A). Q s.tree x) (sym (there s.is.x) ∙ ap g (sym s.is.means)) s.is.is; spelled = s.spelled });
+  back = λ text w law. let r = a.back text w law in record { tree = r.tree; is = record { x = g y; is = r.is; means = sym back }; spelled = r.spelled };
+}
+
+-- The same where g finds only what a value of Q tells.
+pub means_of : {A B : Type 0} {Q : Tree → A → Type 0} (f : A → B) (g : B → A) {y : B} {W : List ℕ → Type 0} {l : Type 0} → ((t : Tree) (x : A) → Q t x → g (f x) ≡ x) → f (g y) ≡ y → Agree Q (g y) W l → Agree (As Q f) y W l
+means_of {A} {B} {Q} f g {y} there back a = record {
+  to = λ text s. a.to text (record { tree = s.tree; is = subst (λ (x : A). Q s.tree x) (sym (there s.tree s.is.x s.is.is) ∙ ap g (sym s.is.means)) s.is.is; spelled = s.spelled });
   back = λ text w law. let r = a.back text w law in record { tree = r.tree; is = record { x = g y; is = r.is; means = sym back }; spelled = r.spelled };
 }
 

@@ -1,34 +1,61 @@
--- Bundles: all that one run is told, in one DER value (this project's own form, version 0). Beside each line stands its ASN.1.
-use Rattle.std.specs.Prelude.{◌≡◌, ◌≢◌, ℕ, ◌^◌, ◌≤◌, List, [], ◌++◌, length, All}
+-- Bundles: all that one run is told, in one DER value (this project's own form, versions 0 and 1). Beside each line
+-- stands its ASN.1.
+use Rattle.std.specs.Prelude.{◌≡◌, ◌≢◌, ℕ, ◌^◌, ◌≤◌, Bool, true, false, List, [], ◌++◌, length, All}
 use Rattle.rpki_bundle.specs.bcder_tree.declared.mode.Mode.{Mode}
 use Rattle.rpki_bundle.specs.bcder_tree.declared.mode.Mode.TheVariants.{Der}
-use Rattle.rpki_bundle.specs.bcder_tree.Tags.{generalized_time_tag, ia5_string_tag, integer_tag, printable_string_tag}
+use Rattle.rpki_bundle.specs.bcder_tree.Tags.{boolean_tag, generalized_time_tag, ia5_string_tag, integer_tag, printable_string_tag}
 use Rattle.rpki_bundle.specs.bcder_tree.Tree.{Tree, Trees}
 use Rattle.rpki_bundle.specs.bcder_tree.Sequences.{sequence_tag}
 use Rattle.rpki_bundle.specs.bcder_tree.Strings.{IsPrintable, IsIa5, IsOctetString, octet_string_tag}
-use Rattle.rpki_bundle.specs.bcder_primitive.Values.{IsUnsigned, IsValue}
+use Rattle.rpki_bundle.specs.bcder_primitive.Values.{IsBoolean, IsUnsigned}
 use Rattle.rpki_bundle.specs.bcder.Sets.{alone}
 use Rattle.rpki_bundle.specs.bcder.Restricted.{IsRestricted}
 use Rattle.rpki_bundle.specs.bcder_content.Grammar.{Inside, OctetsOf, Such, As, End, Then, Many}
+use Rattle.rpki_bundle.specs.bcder_content.Words.{ThenBy}
 use Rattle.rpki_bundle.specs.bcder_content.Texts.{SpellsOf}
 use Rattle.rpki_bundle.specs.declared.parts.Locator.{Locator}
 use Rattle.rpki_bundle.specs.declared.parts.Object.{Object}
 use Rattle.rpki_bundle.specs.declared.parts.Verdict.{Verdict}
+use Rattle.rpki_bundle.specs.declared.version.Version.{Version}
+use Rattle.rpki_bundle.specs.declared.version.Version.TheVariants.{Zero, One}
 use Rattle.certs_basics.specs.Times.{IsMoment}
 use Rattle.certs_basics.specs.Uris.{IsLookupKey}
 use Rattle.rpki_bundle.specs.Orders.{Ascends}
 
 -- What a bundle tells.
 pub record BundleValue : Type 0 where
+  pub version : Version
   pub moment : ℕ
   pub depth : ℕ
   pub locators : List Locator
   pub objects : List Object
   pub verdicts : List Verdict
 
--- INTEGER (0)
-abbrev pub IsVersion : Tree → Unit {0} → Type 0
-IsVersion = OctetsOf integer_tag (IsValue (IsUnsigned (2 ^ 8)) 0)
+-- Whether signed objects are read in BER: as version 1 says, and in version 0 never.
+abbrev pub is_relaxed : Version → Bool
+is_relaxed Zero = false
+is_relaxed (One relaxed) = relaxed
+
+-- The number that names it.
+abbrev pub number_of : Version → ℕ
+number_of Zero = 0
+number_of (One relaxed) = 1
+
+-- INTEGER
+abbrev pub IsNumber : Tree → ℕ → Type 0
+IsNumber = OctetsOf integer_tag (IsUnsigned (2 ^ 8))
+
+-- BOOLEAN
+abbrev pub IsFlag : Mode → Tree → Bool → Type 0
+IsFlag m = OctetsOf boolean_tag (IsBoolean m)
+
+-- Version 0 has no flag, version 1 has one, and no bundle has another version. R comes after that.
+abbrev pub FlagCases : {A : Type 0} → Mode → ℕ → (Trees → A → Type 0) → Trees → Version → A → Type 0
+FlagCases m number R ts Zero x = (number ≡ 0) × R ts x
+FlagCases m number R ts (One relaxed) x = (number ≡ 1) × Then (IsFlag m) R ts (relaxed, x)
+
+pub record Flag {A : Type 0} (m : Mode) (number : ℕ) (R : Trees → A → Type 0) (ts : Trees) (x : Version × A) : Type 0 where
+  pub cases : FlagCases m number R ts x.0 x.1
 
 -- GeneralizedTime: YYYYMMDDHHMMSSZ (RFC 5280 4.1.2.5.2)
 abbrev pub IsMomentString : Tree → ℕ → Type 0
@@ -39,7 +66,7 @@ abbrev pub IsDepth : ℕ → Type 0
 IsDepth n = (1 ≤ n) × (n ≤ 32)
 
 abbrev pub IsDepthNumber : Tree → ℕ → Type 0
-IsDepthNumber = Such (OctetsOf integer_tag (IsUnsigned (2 ^ 8))) IsDepth
+IsDepthNumber = Such IsNumber IsDepth
 
 -- PrintableString: a name, not empty, and without a space (32)
 abbrev pub IsWord : List ℕ → Type 0
@@ -114,22 +141,37 @@ verdict_row v = v.key ++ (v.message ++ v.signature)
 abbrev pub IsAscendingList : {A : Type 0} → (Tree → A → Type 0) → (A → List ℕ) → Tree → List A → Type 0
 IsAscendingList Q row = Such (Inside sequence_tag (Many Q)) (Ascends row)
 
--- Bundle ::= SEQUENCE { version, moment, depth, locators, objects, verdicts }
+-- Bundle ::= SEQUENCE { version, moment, depth, relaxed, locators, objects, verdicts }
+abbrev pub Lists : Type 0
+Lists = List Locator × (List Object × (List Verdict × Unit {0}))
+
 abbrev pub BundleFields : Type 0
-BundleFields = Unit {0} × (ℕ × (ℕ × (List Locator × (List Object × (List Verdict × Unit {0})))))
+BundleFields = ℕ × (ℕ × (ℕ × (Version × Lists)))
 
 abbrev pub as_bundle : BundleFields → BundleValue
-as_bundle f = record { moment = f.1.0; depth = f.1.1.0; locators = f.1.1.1.0; objects = f.1.1.1.1.0; verdicts = f.1.1.1.1.1.0 }
+as_bundle f = record {
+  version = f.1.1.1.0;
+  moment = f.1.0;
+  depth = f.1.1.0;
+  locators = f.1.1.1.1.0;
+  objects = f.1.1.1.1.1.0;
+  verdicts = f.1.1.1.1.1.1.0;
+}
+
+abbrev pub AreLists : Mode → Trees → Lists → Type 0
+AreLists m =
+    Then (IsAscendingList (IsLocator m) (λ l. l.name))  -- locators SEQUENCE OF Locator, by their names
+    (Then (IsAscendingList (IsObject m) (λ o. o.uri))  -- objects SEQUENCE OF Object, by their URIs
+    (Then (IsAscendingList IsVerdict verdict_row)  -- verdicts SEQUENCE OF Verdict, by all their octets
+    End))
 
 abbrev pub AreBundleFields : Mode → Trees → BundleFields → Type 0
 AreBundleFields m =
-    Then IsVersion  -- version INTEGER (0)
-    (Then IsMomentString  -- moment GeneralizedTime
+    ThenBy IsNumber (λ number.  -- version INTEGER (0..1)
+    Then IsMomentString  -- moment GeneralizedTime
     (Then IsDepthNumber  -- depth INTEGER (1..32)
-    (Then (IsAscendingList (IsLocator m) (λ l. l.name))  -- locators SEQUENCE OF Locator, by their names
-    (Then (IsAscendingList (IsObject m) (λ o. o.uri))  -- objects SEQUENCE OF Object, by their URIs
-    (Then (IsAscendingList IsVerdict verdict_row)  -- verdicts SEQUENCE OF Verdict, by all their octets
-    End)))))
+    (Flag m number  -- relaxed BOOLEAN, in version 1 alone, and always there
+    (AreLists m))))
 
 abbrev pub IsBundle : Mode → Tree → BundleValue → Type 0
 IsBundle m = As (Inside sequence_tag (AreBundleFields m)) as_bundle

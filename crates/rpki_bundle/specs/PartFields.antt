@@ -7,8 +7,9 @@ use Rattle.rpki_bundle.specs.bcder_source.declared.error.DecodeError.{DecodeErro
 use Rattle.rpki_bundle.specs.bcder_content.Grammar.{End, Then}
 use Rattle.rpki_bundle.specs.declared.parts.Locator.{Locator}
 use Rattle.rpki_bundle.specs.declared.parts.Object.{Object}
+use Rattle.rpki_bundle.specs.declared.whole.Entries.{Entries}
 use Rattle.rpki_bundle.specs.declared.whole.Parts.{Parts}
-use Rattle.rpki_bundle.specs.Bundle.{BundleValue, Strings, BundleFields, as_bundle, IsBundle, BundleText}
+use Rattle.rpki_bundle.specs.Bundle.{BundleValue, Strings, Lists, BundleFields, number_of, as_bundle, IsBundle, BundleText}
 
 -- The fields of a locator and of an object.
 abbrev pub locator_fields : Locator → Strings
@@ -17,9 +18,12 @@ locator_fields l = (l.name, (l.text, tt))
 abbrev pub object_fields : Object → Strings
 object_fields o = (o.uri, (o.octets, tt))
 
--- Those of a bundle.
+-- Those of a bundle's lists, and of a bundle.
+abbrev pub entries_fields : Entries → Lists
+entries_fields e = (e.locators.items, (e.objects.items, (e.verdicts.items, tt)))
+
 abbrev pub parts_fields : Parts → BundleFields
-parts_fields p = (tt, (p.moment, (p.depth, (p.locators.items, (p.objects.items, (p.verdicts.items, tt))))))
+parts_fields p = (number_of p.version, (p.moment, (p.depth, (p.version, entries_fields p.entries))))
 
 abbrev pub parts_value : Parts → BundleValue
 parts_value p = as_bundle (parts_fields p)

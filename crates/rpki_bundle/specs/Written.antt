@@ -1,22 +1,26 @@
 -- What is written of bundles and of their entries: the codec's encoders, by the words of its specification.
 use Rattle.std.specs.Prelude.{ℕ, ◌^◌, List}
 use Rattle.rpki_bundle.specs.bcder_tree.declared.mode.Mode.{Mode}
-use Rattle.rpki_bundle.specs.bcder_tree.Tags.{TagValue, generalized_time_tag, ia5_string_tag, integer_tag, octet_string_tag, printable_string_tag, sequence_tag}
+use Rattle.rpki_bundle.specs.bcder_tree.declared.mode.Mode.TheVariants.{Der}
+use Rattle.rpki_bundle.specs.bcder_tree.Tags.{TagValue, boolean_tag, generalized_time_tag, ia5_string_tag, integer_tag, octet_string_tag, printable_string_tag, sequence_tag}
 use Rattle.rpki_bundle.specs.bcder_tree.Tree.{Trees}
-use Rattle.rpki_bundle.specs.bcder_primitive.Values.{AnyOctets}
-use Rattle.rpki_bundle.specs.bcder_primitive.Encoded.{IsPlain, WritesPlain, IsWrapped, WritesWrapped, AreBoth, WritesBoth, SpellsSome}
+use Rattle.rpki_bundle.specs.bcder_primitive.Values.{AnyOctets, IsBoolean}
+use Rattle.rpki_bundle.specs.bcder_primitive.Encoded.{NoTree, NoText, IsPlain, WritesPlain, IsWrapped, WritesWrapped, AreBoth, WritesBoth, SpellsSome}
 use Rattle.rpki_bundle.specs.bcder_primitive.Integers.{WritesUnsigned}
 use Rattle.rpki_bundle.specs.bcder_octets.Segments.{StringTrees, WritesString, string_spelled, string_one}
+use Rattle.rpki_bundle.specs.bcder_values.Choices.{nothing_spelled, nothing_one}
 use Rattle.rpki_bundle.specs.bcder_values.Laws.{both_spelled, both_one}
 use Rattle.rpki_bundle.specs.bcder_values.Lists.{AreAll, WritesAll}
 use Rattle.rpki_bundle.specs.bcder_values.Plains.{plain_spelled, plain_one}
-use Rattle.rpki_bundle.specs.bcder_primitive.Simple.{one_string}
+use Rattle.rpki_bundle.specs.bcder_primitive.Simple.{one_boolean, one_string}
 use Rattle.rpki_bundle.specs.bcder_values.Wraps.{wrapped_spelled, wrapped_one}
 use Rattle.std.proofs.Common.{◌≡◌}
 use Rattle.rpki_bundle.specs.declared.parts.Locator.{Locator}
 use Rattle.rpki_bundle.specs.declared.parts.Object.{Object}
 use Rattle.rpki_bundle.specs.declared.parts.Verdict.{Verdict}
-use Rattle.rpki_bundle.specs.Bundle.{BundleValue}
+use Rattle.rpki_bundle.specs.declared.version.Version.{Version}
+use Rattle.rpki_bundle.specs.declared.version.Version.TheVariants.{Zero, One}
+use Rattle.rpki_bundle.specs.Bundle.{BundleValue, number_of}
 
 -- One primitive value of that tag.
 abbrev pub IsText : TagValue → List ℕ → Trees → Type 0
@@ -64,23 +68,32 @@ AreVerdict v m = IsTriple v.key v.message v.signature
 abbrev pub WritesVerdict : Verdict → Mode → List ℕ → Type 0
 WritesVerdict v m = WritesTriple m v.key v.message v.signature
 
--- The members of a bundle of version 0, by what is written of its lists.
-abbrev pub AreMembers : List ℕ → ℕ → (Trees → Type 0) → (Trees → Type 0) → (Trees → Type 0) → Trees → Type 0
-AreMembers text depth P Q R =
-    IsWrapped sequence_tag (AreBoth (IsInteger 0) (AreBoth (IsText generalized_time_tag text) (AreBoth (IsInteger depth)
-    (AreBoth (IsWrapped sequence_tag P) (AreBoth (IsWrapped sequence_tag Q) (IsWrapped sequence_tag R))))))
+-- What is written behind the depth: in version 1 a BOOLEAN, in version 0 nothing.
+abbrev pub IsFlag : Version → Trees → Type 0
+IsFlag Zero = NoTree
+IsFlag (One relaxed) = IsPlain boolean_tag (λ c. IsBoolean Der c relaxed)
 
-abbrev pub WritesMembers : Mode → List ℕ → ℕ → (List ℕ → Type 0) → (List ℕ → Type 0) → (List ℕ → Type 0) → List ℕ → Type 0
-WritesMembers m text depth P Q R =
-    WritesWrapped m sequence_tag (WritesBoth (WritesInteger m 0) (WritesBoth (WritesText m generalized_time_tag text) (WritesBoth (WritesInteger m depth)
-    (WritesBoth (WritesWrapped m sequence_tag P) (WritesBoth (WritesWrapped m sequence_tag Q) (WritesWrapped m sequence_tag R))))))
+abbrev pub WritesFlag : Mode → Version → List ℕ → Type 0
+WritesFlag m Zero = NoText
+WritesFlag m (One relaxed) = WritesPlain m boolean_tag (λ c. IsBoolean Der c relaxed)
+
+-- The members of a bundle, by what is written of its lists.
+abbrev pub AreMembers : Version → List ℕ → ℕ → (Trees → Type 0) → (Trees → Type 0) → (Trees → Type 0) → Trees → Type 0
+AreMembers version text depth P Q R =
+    IsWrapped sequence_tag (AreBoth (IsInteger (number_of version)) (AreBoth (IsText generalized_time_tag text) (AreBoth (IsInteger depth) (AreBoth (IsFlag version)
+    (AreBoth (IsWrapped sequence_tag P) (AreBoth (IsWrapped sequence_tag Q) (IsWrapped sequence_tag R)))))))
+
+abbrev pub WritesMembers : Mode → Version → List ℕ → ℕ → (List ℕ → Type 0) → (List ℕ → Type 0) → (List ℕ → Type 0) → List ℕ → Type 0
+WritesMembers m version text depth P Q R =
+    WritesWrapped m sequence_tag (WritesBoth (WritesInteger m (number_of version)) (WritesBoth (WritesText m generalized_time_tag text) (WritesBoth (WritesInteger m depth) (WritesBoth (WritesFlag m version)
+    (WritesBoth (WritesWrapped m sequence_tag P) (WritesBoth (WritesWrapped m sequence_tag Q) (WritesWrapped m sequence_tag R)))))))
 
 -- A bundle, the moment being given by that text.
 abbrev pub AreBundle : List ℕ → BundleValue → Mode → Trees → Type 0
-AreBundle text b m = AreMembers text b.depth (AreAll (λ l. AreLocator l m) b.locators) (AreAll (λ o. AreObject o m) b.objects) (AreAll (λ v. AreVerdict v m) b.verdicts)
+AreBundle text b m = AreMembers b.version text b.depth (AreAll (λ l. AreLocator l m) b.locators) (AreAll (λ o. AreObject o m) b.objects) (AreAll (λ v. AreVerdict v m) b.verdicts)
 
 abbrev pub WritesBundle : List ℕ → BundleValue → Mode → List ℕ → Type 0
-WritesBundle text b m = WritesMembers m text b.depth (WritesAll (λ l. WritesLocator l m) b.locators) (WritesAll (λ o. WritesObject o m) b.objects) (WritesAll (λ v. WritesVerdict v m) b.verdicts)
+WritesBundle text b m = WritesMembers m b.version text b.depth (WritesAll (λ l. WritesLocator l m) b.locators) (WritesAll (λ o. WritesObject o m) b.objects) (WritesAll (λ v. WritesVerdict v m) b.verdicts)
 
 -- What is written of entries spells their values, and is always the same.
 pub pair_spelled : (m : Mode) (tag : TagValue) (a b : List ℕ) (text : List ℕ) → WritesPair m tag a b text → SpellsSome m (IsPair m tag a b) text
@@ -94,3 +107,11 @@ pair_one m tag a b = wrapped_one m (both_one (string_one m tag a) (string_one m 
 
 pub triple_one : (m : Mode) {a b c : List ℕ} (s t : List ℕ) → WritesTriple m a b c s → WritesTriple m a b c t → s ≡ t
 triple_one m {a} {b} {c} = wrapped_one m (both_one (plain_one m (one_string a)) (both_one (plain_one m (one_string b)) (plain_one m (one_string c))))
+
+pub flag_spelled : (m : Mode) (v : Version) (text : List ℕ) → WritesFlag m v text → SpellsSome m (IsFlag v) text
+flag_spelled m Zero = nothing_spelled m
+flag_spelled m (One relaxed) = plain_spelled m
+
+pub flag_one : (m : Mode) (v : Version) (s t : List ℕ) → WritesFlag m v s → WritesFlag m v t → s ≡ t
+flag_one m Zero = nothing_one
+flag_one m (One relaxed) = plain_one m (one_boolean relaxed)

@@ -1,4 +1,4 @@
-//! Bundles of version 0, made of parts, read and written.
+//! Bundles, made of parts, read and written.
 
 ghost use Rattle.std.specs.Prelude.{◌≡◌, ◌↔◌, ℕ, ◌<◌, List, IsTrue, IfSome, IfNone, IfOk, IfErr};
 ghost use Rattle.std.specs.Ordering.{nat_cmp};
@@ -10,16 +10,16 @@ ghost use Rattle.rpki_bundle.specs.declared.error.BundleError.TheVariants.{NotAB
 ghost use Rattle.rpki_bundle.specs.Ends.{Refuses};
 ghost use Rattle.rpki_bundle.specs.Errors.{OnNotABundle};
 ghost use Rattle.rpki_bundle.specs.PartFields.{parts_value};
-ghost use Rattle.rpki_bundle.specs.Bundle.{IsSpelled};
+ghost use Rattle.rpki_bundle.specs.Bundle.{BundleText, IsSpelled};
+ghost use Rattle.rpki_bundle.specs.declared.version.Version.TheVariants.{Zero as version_0, One as version_1};
 
 use crate::entries::is_lawful_list;
 use crate::reader::is_depth;
 use crate::uri::{cmp_lookup_key, is_uri};
-use crate::whole::{Parts, read_whole};
+use crate::whole::{Entries, Parts, read_whole};
 use crate::writer::{members_len, write_members};
-use crate::{BundleError, Locator, Object, Time, Verdict};
+use crate::{BundleError, Locator, Object, Time, Verdict, Version};
 use bytes::Bytes;
-use certs_key::Mode;
 use certs_key::decode::DecodeError;
 use std::alloc::{AllocError, Global};
 use std::cmp::Ordering;
@@ -30,6 +30,7 @@ use std::marker::Model;
 /// published objects, and the signatures that are good.
 #[derive(Debug, Drop)]
 pub struct Bundle {
+    version: Version,
     moment: Time,
     depth: u8,
     locators: Vec<Locator>,
@@ -45,6 +46,7 @@ impl Model for Bundle {
     ghost use Rattle.rpki_bundle.specs.Bundle.{IsSpelled};
 
     ghost view = { λ b. record {
+      version = b.version;
       moment = b.moment;
       depth = b.depth;
       locators = b.locators.items;
@@ -54,6 +56,7 @@ impl Model for Bundle {
 
     ghost invariant = { λ b. IsSpelled
         (record {
+          version = b.version;
           moment = b.moment;
           depth = b.depth;
           locators = b.locators.items;
@@ -68,13 +71,18 @@ fn bundle_of(parts: Parts) -> Bundle
     ensures { result ≡ parts_value parts }
 {
     let Parts {
+        version,
         moment,
         depth,
+        entries,
+    } = parts;
+    let Entries {
         locators,
         objects,
         verdicts,
-    } = parts;
+    } = entries;
     Bundle {
+        version,
         moment,
         depth,
         locators,
@@ -96,6 +104,7 @@ fn refusal(error: DecodeError<Infallible>) -> BundleError
 
 // Whether a bundle may have these parts.
 fn is_lawful(
+    version: Version,
     moment: Time,
     depth: u8,
     locators: &[Locator],
@@ -105,6 +114,7 @@ fn is_lawful(
     ensures { IsTrue result
         ↔ IsSpelled
         (record {
+          version = version;
           moment = moment;
           depth = depth;
           locators = locators.now;
@@ -125,7 +135,52 @@ fn is_lawful(
         return false;
     }
     let text = moment.generalized();
-    members_len(Mode::Der, &text, depth, locators, objects, verdicts).is_ok()
+    members_len(version, &text, depth, locators, objects, verdicts).is_ok()
+}
+
+// A bundle with these parts, if there is one.
+fn of_parts(
+    version: Version,
+    moment: Time,
+    depth: u8,
+    locators: Vec<Locator>,
+    objects: Vec<Object>,
+    verdicts: Vec<Verdict>,
+) -> Result<Bundle, BundleError>
+    ensures ok { IfOk result (λ b. b
+        ≡ record {
+          version = version;
+          moment = moment;
+          depth = depth;
+          locators = locators.items;
+          objects = objects.items;
+          verdicts = verdicts.items;
+        }) }
+    ensures spelled { IfOk result (λ b. (octets : List ℕ) × BundleText octets b) }
+    ensures refused { IfErr result (λ e. (e ≡ not_a_bundle)
+        × ((octets : List ℕ)
+        → BundleText octets
+        (record {
+          version = version;
+          moment = moment;
+          depth = depth;
+          locators = locators.items;
+          objects = objects.items;
+          verdicts = verdicts.items;
+        }) → ⊥)) }
+{
+    let (names, uris, digests) = (locators.as_slice(), objects.as_slice(), verdicts.as_slice());
+    if !is_lawful(version, moment, depth, names, uris, digests) {
+        return Err(BundleError::NotABundle);
+    }
+    Ok(Bundle {
+        version,
+        moment,
+        depth,
+        locators,
+        objects,
+        verdicts,
+    })
 }
 
 // The octets of the object at the lookup key of a URI, among objects that ascend.
@@ -147,11 +202,11 @@ fn find<'a>(objects: &'a [Object], uri: &[u8]) -> Option<&'a [u8]>
 }
 
 impl Bundle {
-    ghost use Rattle.rpki_bundle.specs.Bundle.{BundleValue, BundleText};
+    ghost use Rattle.rpki_bundle.specs.Bundle.{BundleValue, is_relaxed};
 
-    /// A bundle with these parts, which have to be those of some bundle: a depth of 1 to 32, names that are printable,
-    /// not empty and without a space, URIs that are their own lookup keys, each list strictly ascending, and no more
-    /// octets than a length can say. Nothing is sorted, and refused parts are dropped.
+    /// A bundle of version 0 with these parts, which have to be those of some bundle: a depth of 1 to 32, names that are
+    /// printable, not empty and without a space, URIs that are their own lookup keys, each list strictly ascending, and no
+    /// more octets than a length can say. Nothing is sorted, and refused parts are dropped.
     pub fn from_parts(
         moment: Time,
         depth: u8,
@@ -161,6 +216,7 @@ impl Bundle {
     ) -> Result<Bundle, BundleError>
         ensures ok { IfOk result (λ b. b
             ≡ record {
+              version = version_0;
               moment = moment;
               depth = depth;
               locators = locators.items;
@@ -172,6 +228,7 @@ impl Bundle {
             × ((octets : List ℕ)
             → BundleText octets
             (record {
+              version = version_0;
               moment = moment;
               depth = depth;
               locators = locators.items;
@@ -179,11 +236,78 @@ impl Bundle {
               verdicts = verdicts.items;
             }) → ⊥)) }
     {
-        let (names, uris, digests) = (locators.as_slice(), objects.as_slice(), verdicts.as_slice());
-        if !is_lawful(moment, depth, names, uris, digests) {
-            return Err(BundleError::NotABundle);
+        of_parts(Version::Zero, moment, depth, locators, objects, verdicts)
+    }
+
+    /// A bundle of version 1 with these parts, as [`Bundle::from_parts`] makes one of version 0. Where `relaxed` is true,
+    /// its manifests, ROAs and ASPAs are read in BER.
+    pub fn from_parts_v1(
+        relaxed: bool,
+        moment: Time,
+        depth: u8,
+        locators: Vec<Locator>,
+        objects: Vec<Object>,
+        verdicts: Vec<Verdict>,
+    ) -> Result<Bundle, BundleError>
+        ensures ok { IfOk result (λ b. b
+            ≡ record {
+              version = version_1 relaxed;
+              moment = moment;
+              depth = depth;
+              locators = locators.items;
+              objects = objects.items;
+              verdicts = verdicts.items;
+            }) }
+        ensures spelled { IfOk result (λ b. (octets : List ℕ) × BundleText octets b) }
+        ensures refused { IfErr result (λ e. (e ≡ not_a_bundle)
+            × ((octets : List ℕ)
+            → BundleText octets
+            (record {
+              version = version_1 relaxed;
+              moment = moment;
+              depth = depth;
+              locators = locators.items;
+              objects = objects.items;
+              verdicts = verdicts.items;
+            }) → ⊥)) }
+    {
+        of_parts(
+            Version::One { relaxed },
+            moment,
+            depth,
+            locators,
+            objects,
+            verdicts,
+        )
+    }
+
+    /// The bundle of version 1 with the same parts, of a bundle of any version. Where `relaxed` is true, its manifests, ROAs
+    /// and ASPAs are read in BER. Its parts are moved, and no memory is taken.
+    ///
+    /// `NotABundle` where there is no such bundle: its octets would be more than a length can say, since what else a bundle
+    /// asks of its parts holds of them already. Then the bundle is handed back as it was.
+    pub fn upgrade(self, relaxed: bool) -> Result<Bundle, (Bundle, BundleError)>
+        ensures ok { IfOk result (λ b. b ≡ record self { version = version_1 relaxed }) }
+        ensures spelled { IfOk result (λ b. (octets : List ℕ) × BundleText octets b) }
+        ensures handed_back { IfErr result (λ e. e.0 ≡ self) }
+        ensures refused { IfErr result (λ e. (e.1 ≡ not_a_bundle)
+            × ((octets : List ℕ)
+            → BundleText octets (record self { version = version_1 relaxed }) → ⊥)) }
+    {
+        let version = Version::One { relaxed };
+        if !self.has_text_as(version) {
+            return Err((self, BundleError::NotABundle));
         }
+        let Bundle {
+            version: _,
+            moment,
+            depth,
+            locators,
+            objects,
+            verdicts,
+        } = self;
         Ok(Bundle {
+            version,
             moment,
             depth,
             locators,
@@ -192,7 +316,17 @@ impl Bundle {
         })
     }
 
-    /// Reads a bundle of version 0, in DER.
+    // Whether octets spell the bundle with that version in place of its own.
+    fn has_text_as(&self, version: Version) -> bool
+        ensures { IsTrue result ↔ IsSpelled (record self.now { version = version }) }
+    {
+        let moment = self.moment.generalized();
+        let (names, uris) = (self.locators.as_slice(), self.objects.as_slice());
+        let digests = self.verdicts.as_slice();
+        members_len(version, &moment, self.depth, names, uris, digests).is_ok()
+    }
+
+    /// Reads a bundle, in DER.
     ///
     /// `NotABundle` where the octets, all of them, are none: octets after the value are refused. `Memory` where a
     /// growth was refused.
@@ -235,14 +369,21 @@ impl Bundle {
         let locators = self.locators.as_slice();
         let objects = self.objects.as_slice();
         let verdicts = self.verdicts.as_slice();
-        let depth = self.depth;
-        let size = match members_len(Mode::Der, &text, depth, locators, objects, verdicts) {
+        let (version, depth) = (self.version, self.depth);
+        let size = match members_len(version, &text, depth, locators, objects, verdicts) {
             Ok(size) => size,
             Err(_) => unreachable!(),
         };
         let mut octets = Vec::with_capacity(alloc, size)?;
-        let mode = Mode::Der;
-        match write_members(mode, &text, depth, locators, objects, verdicts, &mut octets) {
+        match write_members(
+            version,
+            &text,
+            depth,
+            locators,
+            objects,
+            verdicts,
+            &mut octets,
+        ) {
             Ok(()) => Ok(octets),
             Err(_) => Err(AllocError),
         }
@@ -260,6 +401,20 @@ impl Bundle {
             return None;
         }
         find(self.objects.as_slice(), uri)
+    }
+
+    /// The version.
+    pub fn version(&self) -> Version
+        ensures { result ≡ self.now.version }
+    {
+        self.version
+    }
+
+    /// Whether manifests, ROAs and ASPAs are read in BER; those of a bundle of version 0 never are.
+    pub fn relaxed(&self) -> bool
+        ensures { result ≡ is_relaxed self.now.version }
+    {
+        self.version.is_relaxed()
     }
 
     /// The moment at which validity is judged.

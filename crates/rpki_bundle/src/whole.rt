@@ -5,23 +5,19 @@ ghost use Rattle.rpki_bundle.specs.bcder_content.Exact.{ReadsAs};
 ghost use Rattle.rpki_bundle.specs.bcder_content.Here.{here};
 ghost use Rattle.rpki_bundle.specs.bcder_content.InMode.{ReadsFields};
 ghost use Rattle.rpki_bundle.specs.Ends.{ReadsToEndAs};
-ghost use Rattle.rpki_bundle.specs.Bundle.{AreBundleFields, IsBundle};
-ghost use Rattle.rpki_bundle.specs.PartFields.{IsBundleAlone, TellsBundle, parts_alone, parts_fields, parts_value};
+ghost use Rattle.rpki_bundle.specs.Bundle.{AreBundleFields, AreLists, IsBundle};
+ghost use Rattle.rpki_bundle.specs.PartFields.{IsBundleAlone, TellsBundle, entries_fields, parts_alone, parts_fields, parts_value};
 
 use crate::entries::take_list;
 use crate::reader::{take_depth, take_moment};
-use crate::{Locator, Object, Time, Verdict};
+use crate::{Locator, Object, Time, Verdict, Version};
 use certs_key::Mode;
 use certs_key::decode::{Constructed, ContentError, Decode, DecodeError, IntoSource, Source};
 use std::alloc::Global;
 
-/// What was read of a bundle.
+/// What was read of a bundle's lists.
 #[derive(Drop)]
-pub struct Parts {
-    /// The moment at which validity is judged.
-    pub moment: Time,
-    /// The greatest length of chains.
-    pub depth: u8,
+pub struct Entries {
     /// The trust anchor locators.
     pub locators: Vec<Locator>,
     /// The objects.
@@ -30,7 +26,38 @@ pub struct Parts {
     pub verdicts: Vec<Verdict>,
 }
 
-// The fields of a bundle of version 0, up to the end of their content.
+/// What was read of a bundle.
+#[derive(Drop)]
+pub struct Parts {
+    /// The version.
+    pub version: Version,
+    /// The moment at which validity is judged.
+    pub moment: Time,
+    /// The greatest length of chains.
+    pub depth: u8,
+    /// The lists.
+    pub entries: Entries,
+}
+
+// The lists of a bundle, up to the end of their content.
+fn take_entries<S: Source>(
+    alloc: Global,
+    cons: &mut Constructed<S>,
+) -> Result<Entries, DecodeError<S::Error>>
+    ensures { ReadsFields entries_fields AreLists (here S.rest cons.old) result
+        (here S.rest cons.new) }
+{
+    let locators = take_list::<Locator, S>(alloc, cons)?;
+    let objects = take_list::<Object, S>(alloc, cons)?;
+    let verdicts = take_list::<Verdict, S>(alloc, cons)?;
+    Ok(Entries {
+        locators,
+        objects,
+        verdicts,
+    })
+}
+
+// The fields of a bundle, up to the end of their content. In version 1 a flag stands in front of the lists.
 fn take_parts<S: Source>(
     alloc: Global,
     cons: &mut Constructed<S>,
@@ -38,22 +65,33 @@ fn take_parts<S: Source>(
     ensures { ReadsFields parts_fields AreBundleFields (here S.rest cons.old) result
         (here S.rest cons.new) }
 {
-    cons.skip_u8_if(0)?;
+    let number = cons.take_u8()?;
     let moment = take_moment(alloc, cons)?;
     let depth = take_depth(cons)?;
-    let locators = take_list::<Locator, S>(alloc, cons)?;
-    let objects = take_list::<Object, S>(alloc, cons)?;
-    let verdicts = take_list::<Verdict, S>(alloc, cons)?;
+    if number == 0 {
+        let entries = take_entries(alloc, cons)?;
+        return Ok(Parts {
+            version: Version::Zero,
+            moment,
+            depth,
+            entries,
+        });
+    }
+    if number != 1 {
+        cons.fail();
+        return Err(cons.content_err(ContentError::from_static("the version isn't 0 or 1")));
+    }
+    let relaxed = cons.take_bool()?;
+    let entries = take_entries(alloc, cons)?;
     Ok(Parts {
+        version: Version::One { relaxed },
         moment,
         depth,
-        locators,
-        objects,
-        verdicts,
+        entries,
     })
 }
 
-// A bundle of version 0.
+// A bundle.
 fn take_bundle<S: Source>(
     alloc: Global,
     cons: &mut Constructed<S>,

@@ -4,10 +4,13 @@
 //! and a fact of its own by value, as `sequence` of borrowed strings would be.
 
 ghost use Rattle.std.specs.Prelude.{◌≡◌, IfOk, IfErr, OnOk};
+ghost use Rattle.rpki_bundle.specs.bcder_tree.declared.mode.Mode.TheVariants.{Der};
 ghost use Rattle.rpki_bundle.specs.bcder_tree.Tags.{IsTag};
 ghost use Rattle.rpki_bundle.specs.bcder_primitive.Writing.{HasLength, Wrote, CannotWrite, WriteRefused};
 ghost use Rattle.rpki_bundle.specs.Written.{AreMembers, IsPair, IsTriple, WritesMembers, WritesPair, WritesTriple};
 
+use crate::Version;
+use crate::version::Flag;
 use certs_key::encode::{Constructed, EncodeError, Octets, Primitive, Values};
 use certs_key::string::OctetSliceEncoder;
 use certs_key::{Mode, Tag};
@@ -137,9 +140,9 @@ pub fn write_triple<T: AsSlice<u8> + Drop, W: Write>(
     values.write_encoded(mode, target)
 }
 
-/// How many octets a bundle has.
+/// How many octets a bundle has, in DER.
 pub fn members_len<T: AsSlice<u8> + Drop, A: Values + Drop, B: Values + Drop, C: Values + Drop>(
-    mode: Mode,
+    version: Version,
     text: T,
     depth: u8,
     locators: A,
@@ -148,17 +151,21 @@ pub fn members_len<T: AsSlice<u8> + Drop, A: Values + Drop, B: Values + Drop, C:
 ) -> Result<usize, EncodeError>
     ensures len { IfOk result
         (HasLength
-        (WritesMembers mode (T.items text) depth (A.writes locators mode) (B.writes objects mode)
-        (C.writes verdicts mode))) }
+        (WritesMembers Der version (T.items text) depth (A.writes locators Der) (B.writes objects Der)
+        (C.writes verdicts Der))) }
     ensures refused { IfErr result
         (CannotWrite
-        (AreMembers (T.items text) depth (A.trees locators mode) (B.trees objects mode)
-        (C.trees verdicts mode))
-        (WritesMembers mode (T.items text) depth (A.writes locators mode) (B.writes objects mode)
-        (C.writes verdicts mode))) }
+        (AreMembers version (T.items text) depth (A.trees locators Der) (B.trees objects Der)
+        (C.trees verdicts Der))
+        (WritesMembers Der version (T.items text) depth (A.writes locators Der) (B.writes objects Der)
+        (C.writes verdicts Der))) }
 {
     let tag = Tag::INTEGER;
-    let version = Primitive { tag, content: 0u8 };
+    let flag = Flag { version };
+    let number = Primitive {
+        tag,
+        content: version.number(),
+    };
     let moment = Primitive {
         tag: Tag::GENERALIZED_TIME,
         content: Octets(text),
@@ -182,12 +189,12 @@ pub fn members_len<T: AsSlice<u8> + Drop, A: Values + Drop, B: Values + Drop, C:
     };
     let values = Constructed {
         tag,
-        inner: (version, moment, depth, locators, objects, verdicts),
+        inner: (number, moment, depth, flag, locators, objects, verdicts),
     };
-    values.encoded_len(mode)
+    values.encoded_len(Mode::Der)
 }
 
-/// Writes a bundle.
+/// Writes a bundle, in DER.
 pub fn write_members<
     T: AsSlice<u8> + Drop,
     A: Values + Drop,
@@ -195,7 +202,7 @@ pub fn write_members<
     C: Values + Drop,
     W: Write,
 >(
-    mode: Mode,
+    version: Version,
     text: T,
     depth: u8,
     locators: A,
@@ -205,18 +212,22 @@ pub fn write_members<
 ) -> Result<(), EncodeError>
     ensures written { OnOk result
         (Wrote
-        (WritesMembers mode (T.items text) depth (A.writes locators mode) (B.writes objects mode)
-        (C.writes verdicts mode)) (W.contents target.old) (W.contents target.new)) }
+        (WritesMembers Der version (T.items text) depth (A.writes locators Der) (B.writes objects Der)
+        (C.writes verdicts Der)) (W.contents target.old) (W.contents target.new)) }
     ensures refused { IfErr result
         (WriteRefused
-        (AreMembers (T.items text) depth (A.trees locators mode) (B.trees objects mode)
-        (C.trees verdicts mode))
-        (WritesMembers mode (T.items text) depth (A.writes locators mode) (B.writes objects mode)
-        (C.writes verdicts mode)) (target.new ≡ target.old) (W.contents target.old)
+        (AreMembers version (T.items text) depth (A.trees locators Der) (B.trees objects Der)
+        (C.trees verdicts Der))
+        (WritesMembers Der version (T.items text) depth (A.writes locators Der) (B.writes objects Der)
+        (C.writes verdicts Der)) (target.new ≡ target.old) (W.contents target.old)
         (W.contents target.new)) }
 {
     let tag = Tag::INTEGER;
-    let version = Primitive { tag, content: 0u8 };
+    let flag = Flag { version };
+    let number = Primitive {
+        tag,
+        content: version.number(),
+    };
     let moment = Primitive {
         tag: Tag::GENERALIZED_TIME,
         content: Octets(text),
@@ -240,7 +251,7 @@ pub fn write_members<
     };
     let values = Constructed {
         tag,
-        inner: (version, moment, depth, locators, objects, verdicts),
+        inner: (number, moment, depth, flag, locators, objects, verdicts),
     };
-    values.write_encoded(mode, target)
+    values.write_encoded(Mode::Der, target)
 }

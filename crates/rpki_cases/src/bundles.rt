@@ -3,13 +3,21 @@
 use crate::shown::{tell_lines, tell_octets};
 use answers::{Answer, pieces_of};
 use anyhow::Result;
-use rpki_bundle::Bundle;
+use rpki_bundle::{Bundle, Version};
 use std::alloc::Global;
+
+// How the signed objects of a bundle of version 1 are read.
+fn mode_word(relaxed: bool) -> &'static str {
+    if relaxed { "relaxed" } else { "strict" }
+}
 
 /// All that the getters of a bundle tell.
 pub fn tell(answer: &mut Answer, bundle: &Bundle) {
     tell_lines(answer, &bundle.moment().generalized());
     answer.say(&bundle.depth());
+    if let Version::One { relaxed } = bundle.version() {
+        answer.word(mode_word(relaxed));
+    }
     for locator in bundle.locators() {
         answer.word("locator ");
         tell_octets(answer, locator.name.as_slice());
@@ -36,6 +44,21 @@ pub fn tell(answer: &mut Answer, bundle: &Bundle) {
 pub fn encode(alloc: Global, answer: &mut Answer, bundle: &Bundle) -> Result<()> {
     tell_octets(answer, bundle.encode(alloc)?.as_slice());
     Ok(())
+}
+
+/// The octets of the bundle of version 1 with the parts of a bundle, relaxed or not; or those of the bundle that was handed
+/// back.
+pub fn upgrade(alloc: Global, answer: &mut Answer, word: &str, bundle: Bundle) -> Result<()> {
+    match bundle.upgrade(word == "relaxed") {
+        Ok(bundle) => {
+            answer.word(mode_word(bundle.relaxed()));
+            encode(alloc, answer, &bundle)
+        }
+        Err((bundle, error)) => {
+            answer.say(&error);
+            encode(alloc, answer, &bundle)
+        }
+    }
 }
 
 /// The object of a bundle at a text.

@@ -63,8 +63,8 @@ impl Parts {
         Ok(())
     }
 
-    /// The bundle of them, of a moment and a depth.
-    pub fn bundle(self, moment: &str, depth: u8) -> Result<Bundle> {
+    /// The bundle of them, of a moment and a depth: of version 1 where it is said whether it is relaxed, else of version 0.
+    pub fn bundle(self, moment: &str, depth: u8, relaxed: Option<bool>) -> Result<Bundle> {
         let Some(moment) = Time::from_generalized(moment.as_bytes()) else {
             return Err(anyhow!("no moment"));
         };
@@ -73,11 +73,27 @@ impl Parts {
             objects,
             verdicts,
         } = self;
-        Ok(Bundle::from_parts(moment, depth, locators, objects, verdicts)?)
+        let made = match relaxed {
+            Some(relaxed) => {
+                Bundle::from_parts_v1(relaxed, moment, depth, locators, objects, verdicts)
+            }
+            None => Bundle::from_parts(moment, depth, locators, objects, verdicts),
+        };
+        Ok(made?)
     }
 }
 
-/// The bundle of words: its moment, its depth, its locators, its objects and its verdicts.
+// Whether a bundle of version 1 is relaxed, by a word; none of version 0.
+fn flag_of(word: &str) -> Option<bool> {
+    match word {
+        "relaxed" => Some(true),
+        "strict" => Some(false),
+        _ => None,
+    }
+}
+
+/// The bundle of words: its moment, its depth, its locators, its objects and its verdicts, and in version 1 `relaxed` or
+/// `strict`.
 pub fn bundle_of(alloc: Global, words: &[&str]) -> Result<Bundle> {
     let mut parts = Parts::new(alloc);
     let lists = [word_at(words, 2), word_at(words, 3), word_at(words, 4)];
@@ -85,6 +101,7 @@ pub fn bundle_of(alloc: Global, words: &[&str]) -> Result<Bundle> {
         Ok(()) => parts.bundle(
             word_at(words, 0),
             count_of(word_at(words, 1)).min(255) as u8,
+            flag_of(word_at(words, 5)),
         ),
         Err(error) => {
             drop(parts);

@@ -45,12 +45,15 @@ fn of_bundle(
 fn of_octets(alloc: Global, answer: &mut Answer, topic: &str, words: &[&str]) -> Result<()> {
     let place = match topic {
         "decode" | "again" | "get" | "witnesses" => 0,
-        "reach" | "point" | "unheld" | "sound" => 1,
+        "reach" | "point" | "unheld" | "sound" | "upgrade" => 1,
         "judge" | "asks" => 3,
         "object" | "manifest" | "roa" | "aspa" => 5,
         _ => return unknown(),
     };
     let bundle = bundle_of(alloc, word_at(words, place))?;
+    if topic == "upgrade" {
+        return bundles::upgrade(alloc, answer, word_at(words, 0), bundle);
+    }
     of_bundle(alloc, answer, topic, words, bundle)
 }
 

@@ -95,7 +95,7 @@ impl World {
     pub fn bundle(&self, alloc: Global) -> Result<Bundle> {
         let mut parts = Parts::new(alloc);
         match self.give(&mut parts) {
-            Ok(()) => parts.bundle(MOMENT, self.depth),
+            Ok(()) => parts.bundle(MOMENT, self.depth, None),
             Err(error) => {
                 drop(parts);
                 Err(error)

@@ -4,7 +4,7 @@ use crate::shown::say_octets;
 use answers::{Answer, octets_of, word_at};
 use anyhow::{Result, anyhow};
 use certs_key::encode::{EncodeError, Values};
-use certs_key::{Captured, Mode};
+use certs_key::{Captured, DigestAlgorithm, Mode};
 use objects_cms::manifest::{FileAndHash, ManifestHash};
 use objects_payload::roa::RouteOriginAttestation;
 use objects_valid::ManifestContent;
@@ -65,6 +65,7 @@ pub fn file(alloc: Global, answer: &mut Answer, words: &[&str]) {
     tell(answer, value.to_captured(alloc, Mode::Der));
     tell(answer, value.to_captured(alloc, Mode::Ber));
     tell(answer, value.to_captured(alloc, Mode::Cer));
-    let verified = ManifestHash::new(file.hash()).verify(&Fips, octets.as_slice());
+    let listed = ManifestHash::new(file.hash(), DigestAlgorithm::default());
+    let verified = listed.verify(&Fips, octets.as_slice());
     answer.say(&verified.is_ok());
 }

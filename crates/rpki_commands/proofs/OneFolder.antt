@@ -1,21 +1,26 @@
 -- A folder gives one bundle.
-use Rattle.std.proofs.Common.{◌≡◌, ℕ, ◌+◌, ◌/◌, ◌%◌, ◌≤◌, ◌⊎◌, inl, inr, List, [], ◌∷◌, ◌++◌, length, get_or, refl, sym, ap, ◌∙◌, subst, arith}
+use Rattle.std.specs.declared.alloc.Global.{Global}
+use Rattle.std.specs.Prelude.{Vec}
+use Rattle.std.proofs.Common.{◌≡◌, ℕ, ◌+◌, ◌/◌, ◌%◌, ◌≤◌, ◌⊎◌, inl, inr, Bool, true, false, Option, Some, None, List, [], ◌∷◌, ◌++◌, length, get_or, refl, sym, ap, ◌∙◌, subst, arith}
 use Rattle.std.proofs.lemmas.List.Sorted.{IsPermutation-sym, IsPermutation-trans}
 use Rattle.std.specs.List.Sorted.{IsPermutation}
 use Rattle.rpki_commands.proofs.of_bcder_tree.Unique.{by_length}
 use Rattle.rpki_commands.specs.rpki_bundle.declared.parts.Locator.{Locator}
 use Rattle.rpki_commands.specs.rpki_bundle.declared.parts.Object.{Object}
 use Rattle.rpki_commands.specs.rpki_bundle.declared.parts.Verdict.{Verdict}
+use Rattle.rpki_commands.specs.rpki_bundle.declared.version.Version.{Version}
+use Rattle.rpki_commands.specs.rpki_bundle.declared.version.Version.TheVariants.{One}
 use Rattle.rpki_commands.specs.rpki_bundle.Bundle.{BundleText, BundleValue, verdict_row}
 use Rattle.rpki_commands.specs.rpki_bundle.Orders.{Ascends}
 use Rattle.rpki_commands.specs.certs_basics.Times.{IsMoment}
 use Rattle.rpki_commands.proofs.of_certs_basics.Moments.{one_moment}
 use Rattle.rpki_commands.proofs.of_rpki_bundle.OneBundle.{bundle_fields}
+use Rattle.rpki_commands.proofs.of_rpki_bundle.Texts.{text_lawful}
 use Rattle.rpki_commands.specs.declared.folder.parts.Contents.{Contents}
 use Rattle.rpki_commands.specs.declared.folder.parts.Parts.{Parts}
-use Rattle.rpki_commands.specs.Lines.{IsEnd, TellsMoment, TellsDepth}
+use Rattle.rpki_commands.specs.Lines.{IsEnd, TellsMoment, TellsDepth, TellsFlag, flag_word}
 use Rattle.rpki_commands.specs.Verdicts.{TellsVerdicts}
-use Rattle.rpki_commands.specs.Folders.{IsSortedOn, TellsParts, value_of}
+use Rattle.rpki_commands.specs.Folders.{IsSortedOn, TellsParts, TellsVersion, value_of}
 use Rattle.rpki_commands.specs.Texts.{TellsText}
 use Rattle.rpki_commands.proofs.Moments.{moment_length}
 use Rattle.rpki_commands.proofs.Ranks.{one_order}
@@ -26,6 +31,17 @@ one_moment_told {t} {m} {n} a b =
     let size : length a.line ≡ length b.line = moment_length a.line m a.line_is ∙ sym (moment_length b.line n b.line_is) in
     let same = by_length a.line b.line a.end b.end size (sym a.whole ∙ b.whole) in
     one_moment a.line m n a.line_is (subst (λ (s : List ℕ). IsMoment s n) (sym same.front) b.line_is)
+
+-- a flag by the first octet of its text
+one_flag_told : {t : List ℕ} (a b : Bool) → TellsFlag t a → TellsFlag t b → a ≡ b
+one_flag_told true true p q = refl
+one_flag_told false false p q = refl
+one_flag_told {t} true false p q = let e : get_or (flag_word true ++ p.end) 0 0 ≡ get_or (flag_word false ++ q.end) 0 0 = ap (λ (s : List ℕ). get_or s 0 0) (sym p.whole ∙ q.whole) in absurd (omega arith)
+one_flag_told {t} false true p q = let e : get_or (flag_word true ++ q.end) 0 0 ≡ get_or (flag_word false ++ p.end) 0 0 = ap (λ (s : List ℕ). get_or s 0 0) (sym q.whole ∙ p.whole) in absurd (omega arith)
+
+one_version_told : (t : Option (Vec ℕ Global)) (v w : Version) → TellsVersion t v → TellsVersion t w → v ≡ w
+one_version_told None v w p q = p ∙ sym q
+one_version_told (Some t) v w p q = p.2 ∙ ap (λ (r : Bool). One r) (one_flag_told p.0 q.0 p.1 q.1) ∙ sym q.2
 
 -- a depth by the first two octets of its text
 abbrev Shape : List ℕ → ℕ → Type 0
@@ -77,12 +93,7 @@ abbrev AllAscend : BundleValue → Type 0
 AllAscend b = Ascends (λ (l : Locator). l.name) b.locators × Ascends (λ (o : Object). o.uri) b.objects × Ascends verdict_row b.verdicts
 
 all_ascend : {text : List ℕ} {b : BundleValue} → BundleText text b → AllAscend b
-all_ascend {text} {b} t =
-    let p = t.spelled.is in
-    let locators = p.is.is.rest.rest.rest in
-    let objects = locators.rest in
-    let verdicts = objects.rest in
-    subst AllAscend (sym p.means) (locators.is.meets, objects.is.meets, verdicts.is.meets)
+all_ascend t = let l = text_lawful t in (l.locators.ascend, l.objects.ascend, l.verdicts.ascend)
 
 -- The bundle of a folder has the parts that the folder gives, sorted.
 pub one_told : {c : Contents} {p : Parts} {text : List ℕ} → TellsParts c p → (t : TellsText c text) → t.bundle ≡ value_of p
@@ -92,6 +103,7 @@ one_told {c} {p} {text} a t =
     let same = one_list_told c.verdicts.items told.verdicts a.told.verdicts told.verdicts_are a.told.verdicts_are in
     let again : IsPermutation a.told.verdicts t.bundle.verdicts = subst (λ (vs : List Verdict). IsPermutation vs t.bundle.verdicts) same told.same_verdicts in
     bundle_fields t.bundle (value_of p)
+    (one_version_told c.relaxed t.bundle.version p.version told.version_is a.told.version_is)
     (one_moment_told told.moment_is a.told.moment_is)
     (one_depth_told told.depth_is a.told.depth_is)
     (one_sorted (λ l. l.name) c.locators.items p.locators.items t.bundle.locators a.told.same_locators told.same_locators a.locators_sorted ascend.0)

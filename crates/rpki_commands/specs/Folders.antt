@@ -1,11 +1,15 @@
 -- What the contents of a folder tell.
-use Rattle.std.specs.Prelude.{ℕ, ◌^◌, ◌<◌, List, length}
+use Rattle.std.specs.Prelude.{◌≡◌, ℕ, ◌^◌, ◌<◌, Bool, List, Option, Some, None, length}
+use Rattle.std.specs.Prelude.{Vec}
+use Rattle.std.specs.declared.alloc.Global.{Global}
 use Rattle.std.specs.Ordering.{nat_cmp}
 use Rattle.std.specs.Cmp.Lexicographic.{slice_cmp}
 use Rattle.std.specs.List.Sorted.{IsPermutation, IsSortedByKey}
 use Rattle.rpki_commands.specs.rpki_bundle.declared.parts.Verdict.{Verdict}
+use Rattle.rpki_commands.specs.rpki_bundle.declared.version.Version.{Version}
+use Rattle.rpki_commands.specs.rpki_bundle.declared.version.Version.TheVariants.{Zero, One}
 use Rattle.rpki_commands.specs.rpki_bundle.Bundle.{BundleValue, verdict_row}
-use Rattle.rpki_commands.specs.Lines.{TellsMoment, TellsDepth}
+use Rattle.rpki_commands.specs.Lines.{TellsMoment, TellsDepth, TellsFlag}
 use Rattle.rpki_commands.specs.Verdicts.{TellsVerdicts}
 use Rattle.rpki_commands.specs.declared.folder.parts.Contents.{Contents}
 use Rattle.rpki_commands.specs.declared.folder.parts.Parts.{Parts}
@@ -14,9 +18,15 @@ use Rattle.rpki_commands.specs.declared.folder.parts.Parts.{Parts}
 abbrev pub IsSortedOn : {X : Type 0} → (X → List ℕ) → List X → Type 0
 IsSortedOn row xs = IsSortedByKey row (slice_cmp nat_cmp) xs
 
+-- The version: 1 where a text says whether signed objects are relaxed, and 0 where there is none.
+abbrev pub TellsVersion : Option (Vec ℕ Global) → Version → Type 0
+TellsVersion None version = version ≡ Zero
+TellsVersion (Some text) version = (relaxed : Bool) × TellsFlag text.items relaxed × (version ≡ One relaxed)
+
 -- The parts, with all that was read and nothing else, the lists in any order.
 pub record Tells (c : Contents) (b : BundleValue) : Type 0 where
   pub verdicts : List Verdict
+  pub version_is : TellsVersion c.relaxed b.version
   pub moment_is : TellsMoment c.moment.items b.moment
   pub depth_is : TellsDepth c.depth.items b.depth
   pub short : length c.verdicts.items < 2 ^ 32
@@ -28,6 +38,7 @@ pub record Tells (c : Contents) (b : BundleValue) : Type 0 where
 -- What parts are in a bundle.
 abbrev pub value_of : Parts → BundleValue
 value_of p = record {
+  version = p.version;
   moment = p.moment;
   depth = p.depth;
   locators = p.locators.items;

@@ -1,5 +1,5 @@
--- Texts of one line in a folder: `moment` and `depth`.
-use Rattle.std.specs.Prelude.{◌≡◌, ℕ, ◌+◌, ◌/◌, ◌%◌, ◌≤◌, ◌⊎◌, List, [], ◌∷◌, ◌++◌}
+-- Texts of one line in a folder: `moment`, `depth` and `relaxed`.
+use Rattle.std.specs.Prelude.{◌≡◌, ℕ, ◌+◌, ◌/◌, ◌%◌, ◌≤◌, ◌⊎◌, Bool, true, false, List, [], ◌∷◌, ◌++◌, codes}
 use Rattle.rpki_commands.specs.certs_basics.Times.{IsMoment}
 
 -- A line feed (10), after a carriage return (13) or not.
@@ -30,4 +30,15 @@ pub record TellsDepth (text : List ℕ) (depth : ℕ) : Type 0 where
   pub end : List ℕ
   pub whole : text ≡ line ++ end
   pub line_is : IsDepth line depth
+  pub end_is : IsEnd end
+
+-- Whether signed objects are relaxed, in a word,
+abbrev pub flag_word : Bool → List ℕ
+flag_word true = codes "true"
+flag_word false = codes "false"
+
+-- and then a line end or nothing.
+pub record TellsFlag (text : List ℕ) (relaxed : Bool) : Type 0 where
+  pub end : List ℕ
+  pub whole : text ≡ flag_word relaxed ++ end
   pub end_is : IsEnd end

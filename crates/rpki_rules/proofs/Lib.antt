@@ -15,6 +15,7 @@ mod Refusals
 mod Untouched
 mod OneOutput
 mod Outside
+mod Versions
 pub mod Orders
 pub mod Sets
 pub mod Groups

@@ -1,23 +1,20 @@
--- Bundles of version 1, which say whether their signed objects may be in BER: their worlds, and what two laws of them say.
-use Rattle.std.specs.Prelude.{ℕ, ◌↔◌, Bool, true, false, not, List}
+-- The versions of bundles: what laws say of a bundle and of one of version 1 with its parts.
+use Rattle.std.specs.Prelude.{◌≡◌, ℕ, ◌↔◌, Bool, true, false, List}
 use Rattle.rpki_rules.specs.rpki_bundle.Bundle.{BundleValue}
+use Rattle.rpki_rules.specs.rpki_bundle.declared.version.Version.TheVariants.{Zero, One}
 use Rattle.rpki_rules.specs.Certs.{Digests}
-use Rattle.rpki_rules.specs.World.{World, run_world}
+use Rattle.rpki_rules.specs.World.{run_world}
 use Rattle.rpki_rules.specs.Output.{IsOutput}
 use Rattle.rpki_rules.specs.Laws.{KeepsAll}
 
--- What one run of a bundle of version 1 goes by: all as in version 0, but signed objects are read in DER alone only where
--- the bundle isn't relaxed. Certificates in `cer` files, anchors, revocation lists and names are strict in both.
-abbrev pub with_strict : Bool → World → World
-with_strict strict w = record w { strict = strict }
+-- The bundle of version 1 with these parts, relaxed or not.
+abbrev pub upgraded : Bool → BundleValue → BundleValue
+upgraded relaxed b = record b { version = One relaxed }
 
-abbrev pub run_world_1 : Digests → Bool → BundleValue → World
-run_world_1 d relaxed b = with_strict (not relaxed) (run_world d b)
-
--- A bundle of version 0 has the output of version 1 with its parts, not relaxed.
-abbrev pub Upgrade : Type 0
-Upgrade = (d : Digests) (b : BundleValue) (text : List ℕ) → IsOutput (run_world d b) text ↔ IsOutput (run_world_1 d false b) text
+-- The output of a bundle of version 0 is that of its upgrade that isn't relaxed.
+abbrev pub UpgradeStays : Type 0
+UpgradeStays = (d : Digests) (b : BundleValue) → b.version ≡ Zero → (text : List ℕ) → IsOutput (run_world d b) text ↔ IsOutput (run_world d (upgraded false b)) text
 
 -- Relaxed, a bundle of version 1 attests each origin and each provider that it attests not relaxed.
-abbrev pub Relaxed : Type 0
-Relaxed = (d : Digests) (b : BundleValue) → KeepsAll (run_world_1 d false b) (run_world_1 d true b)
+abbrev pub RelaxedKeeps : Type 0
+RelaxedKeeps = (d : Digests) (b : BundleValue) → KeepsAll (run_world d (upgraded false b)) (run_world d (upgraded true b))

@@ -2,6 +2,7 @@
 
 ghost use Rattle.rpki_rules.specs.Laws.{SignedIsVerified, IssuedIsVerified, AnchorIsVerified, AnchorHolds, ChainHolds, IssuedHolds, OnlyUris, OneObjectAt, TableSays, WitnessNames, OneCertAt, OnePoint, OneSigned, OneOutput, ClimbingIsExact, JudgingIsExact, Listing, DeeperKeeps, VerdictRemoval, CutDownKeeps, NonInterference, LocatorsStay, RefusalsStay, UntouchedOutput};
 ghost use Rattle.rpki_rules.specs.Outside.{OutsideStays};
+ghost use Rattle.rpki_rules.specs.Versions.{UpgradeStays};
 
 /// What a certificate is asked below an authority, its claim apart, is what the tests of verification ask.
 pub fn signed_is_verified()
@@ -126,4 +127,9 @@ pub fn untouched_output()
 /// Forging changes no line of an origin or a customer outside what is reached.
 pub fn outside_stays()
     ensures { OutsideStays }
+{}
+
+/// The output of a bundle of version 0 is that of its upgrade that isn't relaxed.
+pub fn upgrade_stays()
+    ensures { UpgradeStays }
 {}

@@ -1,5 +1,5 @@
 -- The manifest of an authority, by where it stands and by what is asked of it (RFC 9286 6.2, 6.3).
-use Rattle.std.specs.Prelude.{◌≡◌, ◌≤◌, ℕ, true, List, Some}
+use Rattle.std.specs.Prelude.{◌≡◌, ◌≤◌, ℕ, Bool, List, Some}
 use Rattle.objects_valid.specs.Kinds.{KindValue}
 use Rattle.rpki_standing.specs.certs_extension.declared.forms.Role.TheVariants.{Ee}
 use Rattle.rpki_rules.specs.Certs.{Cert}
@@ -8,9 +8,9 @@ use Rattle.rpki_rules.specs.Points.{IsManifestOf}
 use Rattle.rpki_rules.specs.World.{World, at}
 use Rattle.rpki_standing.specs.Issued.{IsIssued}
 
--- The octets begin with the manifest, in DER.
-abbrev pub IsReadIn : List ℕ → KindValue Manifest → Type 0
-IsReadIn octets k = ManifestText true octets k.signed k.content
+-- The octets begin with the manifest, where strict in DER, and else in BER.
+abbrev pub IsReadIn : Bool → List ℕ → KindValue Manifest → Type 0
+IsReadIn strict octets k = ManifestText strict octets k.signed k.content
 
 -- The object at the authority's manifest URI reads as the manifest.
 pub record IsReadAt (w : World) (ca : Cert) (k : KindValue Manifest) : Type 0 where

@@ -15,11 +15,11 @@ use bytes::Bytes;
 use objects_valid::kinds::Manifest;
 use std::alloc::{AllocError, Global};
 
-// The manifest that those octets begin with, in DER (RFC 9286 4). Nothing of it is verified.
-fn manifest_in(alloc: Global, octets: &Bytes) -> Result<Option<Manifest>, AllocError>
-    ensures { IfOk result (Finds (IsReadIn octets.now)) }
+// The manifest that those octets begin with (RFC 9286 4), where strict in DER, and else in BER. Nothing of it is verified.
+fn manifest_in(alloc: Global, octets: &Bytes, strict: bool) -> Result<Option<Manifest>, AllocError>
+    ensures { IfOk result (Finds (IsReadIn strict octets.now)) }
 {
-    match Manifest::decode(alloc, octets.clone()?, true) {
+    match Manifest::decode(alloc, octets.clone()?, strict) {
         Ok(manifest) => Ok(Some(manifest)),
         Err(DecodeError::Content(_, _)) => Ok(None),
         Err(DecodeError::Source(never)) => match never {},
@@ -27,8 +27,8 @@ fn manifest_in(alloc: Global, octets: &Bytes) -> Result<Option<Manifest>, AllocE
     }
 }
 
-/// The manifest that the object at the authority's manifest URI reads as, in DER, whosever it is; nothing where the
-/// authority names no such URI, no object is there, or it reads as no manifest. Nothing of it is verified.
+/// The manifest that the object at the authority's manifest URI reads as, as strictly as the bundle asks, whosever it is;
+/// nothing where the authority names no such URI, no object is there, or it reads as no manifest. Nothing of it is verified.
 pub fn manifest_at(
     alloc: Global,
     ca: &Cert,
@@ -43,7 +43,7 @@ pub fn manifest_at(
     let Some(object) = index.object_at(uri.as_slice()) else {
         return Ok(None);
     };
-    manifest_in(alloc, &object.octets)
+    manifest_in(alloc, &object.octets, index.strict())
 }
 
 // Whether the bundle's moment lies between both updates, which are both included.

@@ -1,5 +1,6 @@
 -- Bundles that agree but at some URIs are such worlds.
 use Rattle.std.proofs.Common.{◌≡◌, ℕ, List, refl, ap, inl, inr, subst}
+use Rattle.std.specs.Prelude.{not}
 use Rattle.rpki_validator.specs.rpki_bundle.Bundle.{BundleValue}
 use Rattle.rpki_validator.specs.rpki_bundle.declared.parts.Verdict.{Verdict}
 use Rattle.rpki_validator.specs.resources.Resources.{Resources}
@@ -19,7 +20,7 @@ agree : (d : Digests) (uris : List (List ℕ)) (b b' : BundleValue) → AgreesBu
 agree d uris b b' a = record {
   moment = a.moment;
   depth = a.depth;
-  strict = refl;
+  strict = ap not a.relaxed;
   locators = a.locators;
   digests = refl;
   good = ap (λ (vs : List Verdict). table d vs) a.verdicts;

@@ -1,6 +1,6 @@
 -- What forging the objects at some URIs can change of what a run prints.
 use Rattle.std.specs.Prelude.{◌≡◌, ◌↔◌, ◌⊎◌, ℕ, List}
-use Rattle.rpki_validator.specs.rpki_bundle.Bundle.{BundleValue}
+use Rattle.rpki_validator.specs.rpki_bundle.Bundle.{BundleValue, is_relaxed}
 use Rattle.rpki_validator.specs.resources.Resources.{Resources}
 use Rattle.rpki_validator.specs.rpki_rules.Certs.{Digests}
 use Rattle.rpki_validator.specs.rpki_rules.declared.cause.Cause.TheVariants as cause
@@ -18,6 +18,7 @@ use Rattle.rpki_steps.specs.rpki_rules.Outside.{AreAlikeOutside}
 pub record AgreesBut (uris : List (List ℕ)) (b b' : BundleValue) : Type 0 where
   pub moment : b'.moment ≡ b.moment
   pub depth : b'.depth ≡ b.depth
+  pub relaxed : is_relaxed b'.version ≡ is_relaxed b.version
   pub locators : b'.locators ≡ b.locators
   pub verdicts : b'.verdicts ≡ b.verdicts
   pub objects : (key : List ℕ) → ¬ (IsOneOf uris key) → find_object b'.objects key ≡ find_object b.objects key

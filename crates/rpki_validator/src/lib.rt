@@ -11,7 +11,7 @@ pub mod streams;
 pub use bundles::{judge, judge_by, naming_chains, reach, walk};
 pub use counted::Counted;
 pub use rpki_bundle::uri::lookup_key;
-pub use rpki_bundle::{Bundle, BundleError, Digester, Locator, Object, Time, Verdict};
+pub use rpki_bundle::{Bundle, BundleError, Digester, Locator, Object, Time, Verdict, Version};
 pub use rpki_rules::lines::render;
 pub use rpki_rules::refusal::word_of;
 pub use rpki_rules::{Cause, Customer, Origin, Path, Refusal, Report, Witness};

@@ -40,7 +40,10 @@ fn uri_of<'a>(
     ensures { IsUriOf base.now file.now result }
 {
     match base.join(alloc, file.file()) {
-        Ok(uri) => Ok((uri, ManifestHash::new(file.hash()))),
+        Ok(uri) => Ok((
+            uri,
+            ManifestHash::new(file.hash(), DigestAlgorithm::default()),
+        )),
         Err(error) => Err(error),
     }
 }

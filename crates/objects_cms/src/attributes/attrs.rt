@@ -9,6 +9,7 @@ ghost use Rattle.objects_cms.specs.bcder_content.Texts.{InOrder};
 ghost use Rattle.objects_payload.specs.SignedAttributes.{AreAttributes, AttributesValue};
 ghost use Rattle.objects_cms.specs.Kept.{AreKept, AreWhole, DecodesAll, attributes_of, slots_of};
 
+use crate::attributes::invalid::InvalidSignedAttr;
 use crate::attributes::slots::Slots;
 use objects_payload::forms::decode::{Constructed, ContentError, Decode, DecodeError, Source};
 use objects_payload::forms::{Captured, Mode, OctetString, Oid, Time};
@@ -70,7 +71,7 @@ fn take_attributes<S: Source>(
     let slots = Slots::take_from(alloc, cons)?;
     match finished(slots) {
         Some(attributes) => Ok(attributes),
-        None => Err((*cons).content_err(ContentError::from_static("a missing attribute"))),
+        None => Err((*cons).content_err(InvalidSignedAttr::Missing.into())),
     }
 }
 

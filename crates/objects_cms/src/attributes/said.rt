@@ -8,8 +8,9 @@ ghost use Rattle.objects_cms.specs.bcder_content.Here.{here};
 ghost use Rattle.objects_cms.specs.bcder_content.InMode.{ReadsFields};
 ghost use Rattle.objects_cms.specs.Said.{AreOneValue, AreSaid, IsSaid, IsValueOf, alone, said_fields};
 
+use crate::attributes::invalid::InvalidSignedAttr;
 use crate::attributes::kinds::{Kind, kind_of};
-use objects_payload::forms::decode::{Constructed, ContentError, DecodeError, Source};
+use objects_payload::forms::decode::{Constructed, DecodeError, Source};
 use objects_payload::forms::{OctetString, Oid, Time};
 use std::alloc::Global;
 
@@ -96,7 +97,7 @@ fn take_fields<S: Source>(
     let oid = Oid::take_from(alloc, cons)?;
     let found = kind_of(&oid);
     let Some(kind) = found else {
-        return Err((*cons).content_err(ContentError::from_static("another attribute")));
+        return Err((*cons).content_err(InvalidSignedAttr::Unknown.into()));
     };
     let said = take_values(alloc, cons, kind)?;
     Ok(said)

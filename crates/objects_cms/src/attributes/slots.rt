@@ -1,14 +1,16 @@
 //! What attributes say, each kind once at most (RFC 6488 2.1.6.4).
 
-ghost use Rattle.std.specs.Prelude.{◌≡◌, ◌≢◌, [], None, Some, OnErr, OnOk, true};
+ghost use Rattle.std.specs.Prelude.{◌≡◌, ◌≢◌, [], None, Some, IfErr, OnErr, OnOk, true};
+ghost use Rattle.objects_cms.specs.declared.attributes.invalid.InvalidSignedAttr.TheVariants.{Duplicate};
 ghost use Rattle.objects_cms.specs.bcder_content.Here.{here};
 ghost use Rattle.objects_cms.specs.bcder_content.InMode.{ReadsFields};
 ghost use Rattle.objects_cms.specs.bcder_content.Words.{Gathers};
 ghost use Rattle.objects_cms.specs.Said.{IsSaid};
 ghost use Rattle.objects_cms.specs.Slots.{Adds, AreSlots, Refuses};
 
+use crate::attributes::invalid::InvalidSignedAttr;
 use crate::attributes::said::Said;
-use objects_payload::forms::decode::{Constructed, ContentError, DecodeError, Source};
+use objects_payload::forms::decode::{Constructed, DecodeError, Source};
 use objects_payload::forms::{OctetString, Oid, Time};
 use std::alloc::Global;
 
@@ -25,19 +27,16 @@ pub struct Slots {
     pub binary_signing_time: Option<u64>,
 }
 
-/// An attribute of that kind was there before.
-#[derive(Clone, Copy, Debug, PartialEq, Eq)]
-pub struct Duplicate;
-
 // Fills a slot, which has to be empty.
-fn fill<T: Drop>(slot: &mut Option<T>, value: T) -> Result<(), Duplicate>
+fn fill<T: Drop>(slot: &mut Option<T>, value: T) -> Result<(), InvalidSignedAttr>
     ensures empty { OnOk result (slot.old ≡ None) }
     ensures filled { OnOk result (slot.new ≡ Some value) }
     ensures refused { OnErr result (slot.old ≢ None) }
+    ensures told { IfErr result (λ e. e ≡ Duplicate) }
     ensures same { OnErr result (slot.new ≡ slot.old) }
 {
     if slot.is_some() {
-        return Err(Duplicate);
+        return Err(InvalidSignedAttr::Duplicate);
     }
     *slot = Some(value);
     Ok(())
@@ -57,9 +56,10 @@ impl Slots {
     }
 
     /// One more attribute; a second one of a kind is refused, and the slots are as they were.
-    pub fn put(&mut self, said: Said) -> Result<(), Duplicate>
+    pub fn put(&mut self, said: Said) -> Result<(), InvalidSignedAttr>
         ensures ok { OnOk result (Adds said self.old self.new) }
         ensures refused { OnErr result (Refuses said self.old) }
+        ensures told { IfErr result (λ e. e ≡ Duplicate) }
         ensures same { OnErr result (self.new ≡ self.old) }
     {
         match said {
@@ -81,9 +81,9 @@ impl Slots {
     {
         let mut slots = Slots::new();
         while let Some(said) = Said::take_opt_from(alloc, cons)? {
-            if let Err(_duplicate) = slots.put(said) {
+            if let Err(invalid) = slots.put(said) {
                 cons.fail();
-                return Err((*cons).content_err(ContentError::from_static("duplicate attribute")));
+                return Err((*cons).content_err(invalid.into()));
             }
         }
         Ok(slots)

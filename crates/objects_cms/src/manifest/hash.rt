@@ -2,14 +2,17 @@
 
 ghost use Rattle.std.specs.Prelude.{◌≡◌, ◌↔◌, IsOk};
 
+use certs_cert::DigestAlgorithm;
+use certs_cert::errors::VerificationError;
 use certs_key::Digester;
 use std::marker::Model;
 use thiserror::Error as ThisError;
 
-/// The hash of a file that a manifest lists, by SHA-256. Contracts see its octets.
+/// The hash of a file that a manifest lists, by SHA-256, which is the only algorithm. Contracts see its octets.
 #[derive(Debug, Drop)]
 pub struct ManifestHash<'a> {
     hash: &'a [u8],
+    algorithm: DigestAlgorithm,
 }
 
 impl<'a> Model for ManifestHash<'a> {
@@ -28,12 +31,27 @@ pub enum ManifestHashMismatch {
     Mismatch,
 }
 
+impl From<ManifestHashMismatch> for VerificationError {
+    ghost use Rattle.objects_cms.specs.certs_x509.declared.errors.verification.VerificationError.TheVariants.{HashMismatch};
+
+    ghost from_gives = { λ cause e. e ≡ HashMismatch };
+
+    fn from(_: ManifestHashMismatch) -> Self {
+        VerificationError::HashMismatch
+    }
+}
+
 impl<'a> ManifestHash<'a> {
-    /// The hash with these octets.
-    pub fn new(hash: &'a [u8]) -> Self
+    /// The hash with these octets, by that algorithm.
+    pub fn new(hash: &'a [u8], algorithm: DigestAlgorithm) -> Self
         ensures { result ≡ hash.now }
     {
-        ManifestHash { hash }
+        ManifestHash { hash, algorithm }
+    }
+
+    /// The algorithm by which octets are digested, which is SHA-256 (RFC 9286 4.2.1, RFC 7935 2).
+    pub fn algorithm(&self) -> DigestAlgorithm {
+        self.algorithm
     }
 
     /// The octets of the hash.

@@ -1,13 +1,15 @@
 //! What stands around the content of a signed object (RFC 5652 3, 5.1; RFC 6488 2.1).
 
-ghost use Rattle.std.specs.Prelude.{◌≡◌, IfOk, OnErr, true};
+ghost use Rattle.std.specs.Prelude.{◌≡◌, IfErr, IfOk, OnErr, true};
 ghost use Rattle.objects_cms.specs.bcder_tree.Tags.{context};
 ghost use Rattle.objects_cms.specs.bcder_content.Exact.{ReadsAs};
 ghost use Rattle.objects_cms.specs.bcder_content.Grammar.{Inside};
 ghost use Rattle.objects_cms.specs.bcder_content.Here.{here};
 ghost use Rattle.objects_cms.specs.bcder_content.InMode.{ReadsFields};
+ghost use Rattle.objects_cms.specs.bcder_content.Memory.{OnMemory};
 ghost use Rattle.certs_cert.specs.certs_x509.Took.{TookOctets};
 ghost use Rattle.objects_cms.specs.objects_payload.ObjectText.{SpellsContentInfo, SpellsSignedData};
+ghost use Rattle.objects_cms.specs.Begun.{BeginsData, BeginsInfo, BeginsObject, BeginsSigned, Opens};
 ghost use Rattle.objects_cms.specs.Frame.{AreFrame, AreFrameOctets, AreSigned, AreSignedOctets, IsFrame, IsOneSigned, IsSigned, SpellsInner, SpellsOneSigned, object_fields, one_signed, signed_fields};
 
 use crate::signed::carried::{take_certificates, take_signers};
@@ -36,6 +38,7 @@ fn take_fields<S: Source>(
         (here S.rest cons.old) result (here S.rest cons.new) }
     ensures octets { IfOk result (λ p. TookOctets signed_fields AreSignedOctets
         (here S.rest cons.old) p (here S.rest cons.new)) }
+    ensures memory { IfErr result (λ e. OnMemory e (BeginsSigned (here S.rest cons.old))) }
 {
     let version = cons.skip_u8_if(VERSION)?;
     let digest = DigestAlgorithm::take_set_from(cons)?;
@@ -54,6 +57,7 @@ fn take_signed_data<S: Source>(
         (here S.rest cons.old) result (here S.rest cons.new) }
     ensures octets { IfOk result (λ p. TookOctets signed_fields SpellsSignedData
         (here S.rest cons.old) p (here S.rest cons.new)) }
+    ensures memory { IfErr result (λ e. OnMemory e (BeginsData (here S.rest cons.old))) }
 {
     cons.take_sequence(
         |cons|
@@ -61,6 +65,7 @@ fn take_signed_data<S: Source>(
                 (here S.rest cons.old) result (here S.rest cons.new) }
             ensures octets { IfOk result (λ p. TookOctets signed_fields AreSignedOctets
                 (here S.rest cons.old) p (here S.rest cons.new)) }
+            ensures memory { IfErr result (λ e. OnMemory e (BeginsSigned (here S.rest cons.old))) }
         { take_fields(alloc, cons) },
     )
 }
@@ -74,6 +79,7 @@ fn take_only<S: Source>(
         (here S.rest cons.old) result (here S.rest cons.new) }
     ensures octets { IfOk result (λ p. TookOctets one_signed SpellsOneSigned
         (here S.rest cons.old) p (here S.rest cons.new)) }
+    ensures memory { IfErr result (λ e. OnMemory e (BeginsData (here S.rest cons.old))) }
 {
     let parts = take_signed_data(alloc, cons)?;
     Ok(parts)
@@ -89,6 +95,8 @@ fn take_explicit<S: Source>(
         (here S.rest cons.old) result (here S.rest cons.new) }
     ensures octets { IfOk result (λ p. TookOctets one_signed SpellsInner
         (here S.rest cons.old) p (here S.rest cons.new)) }
+    ensures memory { IfErr result (λ e. OnMemory e
+        (Opens (context 0) BeginsData (here S.rest cons.old))) }
 {
     cons.take_constructed_if(
         Tag::CTX_0,
@@ -97,6 +105,7 @@ fn take_explicit<S: Source>(
                 (here S.rest cons.old) result (here S.rest cons.new) }
             ensures octets { IfOk result (λ p. TookOctets one_signed SpellsOneSigned
                 (here S.rest cons.old) p (here S.rest cons.new)) }
+            ensures memory { IfErr result (λ e. OnMemory e (BeginsData (here S.rest cons.old))) }
         { take_only(alloc, cons) },
     )
 }
@@ -110,6 +119,7 @@ fn take_info<S: Source>(
         (here S.rest cons.old) result (here S.rest cons.new) }
     ensures octets { IfOk result (λ p. TookOctets object_fields AreFrameOctets
         (here S.rest cons.old) p (here S.rest cons.new)) }
+    ensures memory { IfErr result (λ e. OnMemory e (BeginsInfo (here S.rest cons.old))) }
 {
     let oid = SIGNED_DATA.skip_if(cons)?;
     let parts = take_explicit(alloc, cons)?;
@@ -126,6 +136,7 @@ pub(crate) fn take_frame<S: Source>(
     ensures octets { IfOk result (λ p. TookOctets object_fields SpellsContentInfo
         (here S.rest cons.old) p (here S.rest cons.new)) }
     ensures failed { OnErr result ((here S.rest cons.new).failed ≡ true) }
+    ensures memory { IfErr result (λ e. OnMemory e (BeginsObject (here S.rest cons.old))) }
 {
     cons.take_sequence(
         |cons|
@@ -133,6 +144,7 @@ pub(crate) fn take_frame<S: Source>(
                 (here S.rest cons.old) result (here S.rest cons.new) }
             ensures octets { IfOk result (λ p. TookOctets object_fields AreFrameOctets
                 (here S.rest cons.old) p (here S.rest cons.new)) }
+            ensures memory { IfErr result (λ e. OnMemory e (BeginsInfo (here S.rest cons.old))) }
         { take_info(alloc, cons) },
     )
 }

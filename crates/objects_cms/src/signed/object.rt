@@ -1,17 +1,25 @@
 //! Signed objects, read (RFC 5652, RFC 6488).
 
-ghost use Rattle.std.specs.Prelude.{◌≡◌, ◌↔◌, IsTrue, OnErr, true};
+ghost use Rattle.std.specs.Prelude.{◌≡◌, ◌≢◌, ◌↔◌, IfErr, IfOk, IsTrue, OnErr, OnOk, true};
+ghost use Rattle.objects_cms.specs.bcder_source.declared.error.DecodeError.TheVariants.{Memory};
 ghost use Rattle.objects_cms.specs.bcder_content.Here.{here};
+ghost use Rattle.objects_cms.specs.bcder_content.Memory.{OnMemory};
+ghost use Rattle.objects_cms.specs.bcder_content.Ran.{fresh};
 ghost use Rattle.objects_cms.specs.objects_payload.ObjectText.{SpellsObject, mode, object_of, signer_of};
 ghost use Rattle.objects_cms.specs.Signer.{signer_fields};
+ghost use Rattle.objects_cms.specs.Begun.{BeginsObject};
+ghost use Rattle.objects_cms.specs.Content.{AsksOnce, VerifiesContent};
+ghost use Rattle.objects_cms.specs.certs_key.Digesting.{digests_of};
+ghost use Rattle.objects_cms.specs.certs_x509.declared.errors.verification.VerificationError.TheVariants.{BadSignature};
 ghost use Rattle.objects_cms.specs.Frame.{signed_fields};
 ghost use Rattle.objects_cms.specs.Decoded.{Agrees, DecodesObject, ReadsOctets};
 
 use crate::signed::frame::{Parts, take_frame};
 use crate::signed::kept::KeptCert;
 use crate::signed::signer::SignerInfo;
+use crate::verify::{VerificationError, verify_content};
 use certs_cert::decode::{Constructed, ContentError, Decode, DecodeError, IntoSource, Source};
-use certs_cert::{Cert, Mode, OctetString, Oid, Time};
+use certs_cert::{Cert, Digester, Mode, OctetString, Oid, Time, Verifier};
 use std::alloc::Global;
 use std::marker::Model;
 
@@ -75,17 +83,18 @@ impl SignedObject {
         }
     }
 
-    /// The signed object that is next, in the mode of the content: by the very octets that stood there, of which those that
-    /// are signed are kept (RFC 5652 3, 5; RFC 6488 2).
-    pub fn take_from<S: Source>(
-        alloc: Global,
+    // The object of the parts, where they agree; else the content is failed. That takes no memory.
+    fn agreed<S: Source>(
+        parts: Parts,
         cons: &mut Constructed<S>,
     ) -> Result<SignedObject, DecodeError<S::Error>>
-        ensures reads { ReadsOctets (λ o. o) SpellsObject
-            (here S.rest cons.old) result (here S.rest cons.new) }
+        ensures gives { IfOk result
+            (λ o. Agrees parts × (o ≡ object_of (signed_fields parts))) }
+        ensures same { OnOk result (here S.rest cons.new ≡ here S.rest cons.old) }
+        ensures refused { OnErr result (Agrees parts → ⊥) }
         ensures failed { OnErr result ((here S.rest cons.new).failed ≡ true) }
+        ensures no_memory { IfErr result (λ e. e ≢ Memory) }
     {
-        let parts = take_frame(alloc, cons)?;
         if !agrees(&parts) {
             drop(parts);
             cons.fail();
@@ -94,20 +103,39 @@ impl SignedObject {
         Ok(SignedObject::from_parts(parts))
     }
 
+    /// The signed object that is next, in the mode of the content: by the very octets that stood there, of which those that
+    /// are signed are kept (RFC 5652 3, 5; RFC 6488 2). Memory is wanted only where an object begins, up to its content.
+    pub fn take_from<S: Source>(
+        alloc: Global,
+        cons: &mut Constructed<S>,
+    ) -> Result<SignedObject, DecodeError<S::Error>>
+        ensures reads { ReadsOctets (λ o. o) SpellsObject
+            (here S.rest cons.old) result (here S.rest cons.new) }
+        ensures failed { OnErr result ((here S.rest cons.new).failed ≡ true) }
+        ensures memory { IfErr result (λ e. OnMemory e (BeginsObject (here S.rest cons.old))) }
+    {
+        let parts = take_frame(alloc, cons)?;
+        SignedObject::agreed(parts, cons)
+    }
+
     /// The signed object that a source begins with: in DER, or where not `strict` in BER; octets after it stay unread.
     pub fn decode<I: IntoSource>(
         alloc: Global,
         source: I,
         strict: bool,
     ) -> Result<SignedObject, DecodeError<<I::Source as Source>::Error>>
-        ensures { DecodesObject strict (I.octets source) result }
+        ensures decodes { DecodesObject strict (I.octets source) result }
+        ensures memory { IfErr result (λ e. OnMemory e
+            (BeginsObject (fresh (mode strict) (I.octets source)))) }
     {
         let rules = mode_of(strict);
         rules.decode(
             source,
             |cons|
-                ensures { ReadsOctets (λ o. o) SpellsObject
+                ensures reads { ReadsOctets (λ o. o) SpellsObject
                     (here I.Source.rest cons.old) result (here I.Source.rest cons.new) }
+                ensures memory { IfErr result (λ e. OnMemory e
+                    (BeginsObject (here I.Source.rest cons.old))) }
             { SignedObject::take_from(alloc, cons) },
         )
     }
@@ -168,6 +196,28 @@ impl SignedObject {
         ensures { result ≡ self.now.signer.binary_signing_time }
     {
         self.signer.attributes().attributes().binary_signing_time
+    }
+
+    /// Whether the object is sound, and else the first test that fails, in this order: the digest that is signed is the
+    /// content's (`MessageDigest`), the signing time isn't after the certificate's validity (`SigningTime`), and the
+    /// signature is good by the certificate's key over the attributes (`BadSignature`) (RFC 6488 3, RFC 5652 5.4). Who
+    /// issued the certificate and what it claims isn't looked at. The verifier is asked at most once.
+    pub fn verify_content<D: Digester, V: Verifier>(
+        &self,
+        alloc: Global,
+        digester: &D,
+        verifier: &mut V,
+    ) -> Result<(), VerificationError>
+        ensures answers { VerifiesContent
+            (digests_of D.sha256_digest D.sha1_digest digester.now) (V.says verifier.old)
+            self.now result }
+        ensures same { V.says verifier.new ≡ V.says verifier.old }
+        ensures asked { AsksOnce (V.count verifier.old) (V.count verifier.new) }
+        ensures spared { IfErr result
+            (λ e. e ≢ BadSignature → V.count verifier.new ≡ V.count verifier.old) }
+    {
+        let (signer, content, cert) = (self.signer(), self.content(), self.cert());
+        verify_content(alloc, signer, content, cert, digester, verifier)
     }
 
     /// The type of the content, the content, the certificate and the signer, handed over.

@@ -7,7 +7,7 @@ ghost use Rattle.objects_cms.specs.certs_key.Digesting.{digests_of};
 ghost use Rattle.objects_cms.specs.objects_payload.Manifests.{ManifestText};
 ghost use Rattle.objects_valid.specs.Kinds.{DecodesKind};
 
-use crate::kinds::typed::{decode_typed, verify_signed};
+use crate::kinds::typed::decode_typed;
 use bcder::decode::{DecodeError, IntoSource, Source};
 use objects_cms::manifest::ManifestContent;
 use objects_cms::signed::{Cert, Digester, SignedObject, Verifier};
@@ -93,7 +93,7 @@ impl Manifest {
         ensures spared { IfErr result
             (λ e. e ≢ BadSignature → V.count verifier.new ≡ V.count verifier.old) }
     {
-        verify_signed(alloc, &self.signed, digester, verifier)
+        self.signed.verify_content(alloc, digester, verifier)
     }
 
     /// The signed object and what its content says, handed over.

@@ -1,15 +1,11 @@
 //! Signed objects whose content is of a given type.
 
-ghost use Rattle.std.specs.Prelude.{◌≡◌, ◌≢◌, ◌↔◌, IfErr, IsTrue};
-ghost use Rattle.objects_cms.specs.certs_x509.declared.errors.verification.VerificationError.TheVariants.{BadSignature};
-ghost use Rattle.objects_cms.specs.Content.{AsksOnce, VerifiesContent};
-ghost use Rattle.objects_cms.specs.certs_key.Digesting.{digests_of};
+ghost use Rattle.std.specs.Prelude.{◌≡◌, ◌↔◌, IsTrue};
 ghost use Rattle.objects_valid.specs.Kinds.{DecodesTyped};
 
 use bcder::decode::{ContentError, DecodeError, IntoSource, Pos, Source};
 use bytes::Bytes;
-use objects_cms::signed::{Digester, SignedObject, Verifier};
-use objects_cms::verify::{VerificationError, verify_content};
+use objects_cms::signed::SignedObject;
 use std::alloc::Global;
 
 // Whether its content is of that type.
@@ -42,22 +38,4 @@ pub(crate) fn decode_typed<I: IntoSource>(
             Err(DecodeError::Memory)
         }
     }
-}
-
-/// Whether the object is sound, and else the first test that fails, by its own signer, content and certificate.
-pub(crate) fn verify_signed<D: Digester, V: Verifier>(
-    alloc: Global,
-    signed: &SignedObject,
-    digester: &D,
-    verifier: &mut V,
-) -> Result<(), VerificationError>
-    ensures answers { VerifiesContent (digests_of D.sha256_digest D.sha1_digest digester.now)
-        (V.says verifier.old) signed.now result }
-    ensures same { V.says verifier.new ≡ V.says verifier.old }
-    ensures asked { AsksOnce (V.count verifier.old) (V.count verifier.new) }
-    ensures spared { IfErr result
-        (λ e. e ≢ BadSignature → V.count verifier.new ≡ V.count verifier.old) }
-{
-    let (signer, content, cert) = (signed.signer(), signed.content(), signed.cert());
-    verify_content(alloc, signer, content, cert, digester, verifier)
 }

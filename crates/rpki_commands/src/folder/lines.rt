@@ -1,7 +1,7 @@
-//! Files of one line: the moment and the depth.
+//! Files of one line: the moment, the depth, and whether signed objects are relaxed.
 
-ghost use Rattle.std.specs.Prelude.{ℕ, ◌↔◌, IsTrue, IfSome, IfNone};
-ghost use Rattle.rpki_commands.specs.Lines.{IsEnd, TellsMoment, TellsDepth};
+ghost use Rattle.std.specs.Prelude.{ℕ, ◌↔◌, Bool, IsTrue, IfSome, IfNone};
+ghost use Rattle.rpki_commands.specs.Lines.{IsEnd, TellsMoment, TellsDepth, TellsFlag};
 
 use rpki_validator::Time;
 
@@ -48,6 +48,18 @@ pub(crate) fn depth_of(text: &[u8]) -> Option<u8>
         Some((ones, end)) if ones.is_ascii_digit() && is_end(end) => Some(
             tens * 10 + (*ones - b'0'),
         ),
+        _ => None,
+    }
+}
+
+/// Whether a text of one line says that signed objects are relaxed, or that they aren't.
+pub(crate) fn flag_of(text: &[u8]) -> Option<bool>
+    ensures found { IfSome result (λ relaxed. TellsFlag text.now relaxed) }
+    ensures none { IfNone result ((relaxed : Bool) → TellsFlag text.now relaxed → ⊥) }
+{
+    match text {
+        [b't', b'r', b'u', b'e', end @ ..] if is_end(end) => Some(true),
+        [b'f', b'a', b'l', b's', b'e', end @ ..] if is_end(end) => Some(false),
         _ => None,
     }
 }

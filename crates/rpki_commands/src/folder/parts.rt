@@ -1,16 +1,17 @@
 //! From what was read of a folder to the parts of a bundle.
 
-ghost use Rattle.std.specs.Prelude.{◌≡◌, IfOk, IfErr};
+ghost use Rattle.std.specs.Prelude.{◌≡◌, IfOk, IfErr, IfNone, IfSome};
 ghost use Rattle.std.specs.Ordering.{nat_cmp};
 ghost use Rattle.std.specs.Cmp.Lexicographic.{slice_cmp};
 ghost use Rattle.std.specs.List.Sorted.{IsPermutation};
 ghost use Rattle.rpki_commands.specs.rpki_bundle.Bundle.{BundleValue, verdict_row};
+ghost use Rattle.rpki_commands.specs.rpki_bundle.declared.version.Version.{Version as VersionValue};
 ghost use Rattle.rpki_commands.specs.rpki_bundle.Errors.{OnNotABundle};
-ghost use Rattle.rpki_commands.specs.Folders.{IsSortedOn, Tells, TellsParts};
+ghost use Rattle.rpki_commands.specs.Folders.{IsSortedOn, Tells, TellsParts, TellsVersion};
 
-use crate::folder::lines::{depth_of, moment_of};
+use crate::folder::lines::{depth_of, flag_of, moment_of};
 use crate::folder::verdicts::verdicts_of;
-use rpki_validator::{BundleError, Locator, Object, Time, Verdict};
+use rpki_validator::{BundleError, Locator, Object, Time, Verdict, Version};
 use std::alloc::Global;
 use std::cmp::Ordering;
 
@@ -24,6 +25,8 @@ pub struct Contents {
     pub moment: Vec<u8>,
     /// The octets of `depth`.
     pub depth: Vec<u8>,
+    /// The octets of `relaxed`, if it is there.
+    pub relaxed: Option<Vec<u8>>,
     /// The octets of `verdicts`; none where it is absent.
     pub verdicts: Vec<u8>,
     /// The files of `tals`, each under its name without `.tal`, in any order.
@@ -35,6 +38,8 @@ pub struct Contents {
 /// Parts of a bundle, sorted as a bundle has them.
 #[derive(Debug, Drop)]
 pub struct Parts {
+    /// The version.
+    pub version: Version,
     /// The moment at which validity is judged.
     pub moment: Time,
     /// The greatest number of certificates in a chain.
@@ -84,12 +89,30 @@ fn sorted_verdicts(mut verdicts: Vec<Verdict>) -> Vec<Verdict>
     verdicts
 }
 
+// The version that a folder's file `relaxed` gives, if it says whether signed objects are.
+fn version_of(relaxed: &Option<Vec<u8>>) -> Option<Version>
+    ensures found { IfSome result (λ version. TellsVersion relaxed.now version) }
+    ensures none { IfNone result
+        ((version : VersionValue) → TellsVersion relaxed.now version → ⊥) }
+{
+    let Some(text) = relaxed else {
+        return Some(Version::Zero);
+    };
+    match flag_of(text.as_slice()) {
+        Some(relaxed) => Some(Version::One { relaxed }),
+        None => None,
+    }
+}
+
 /// The parts that the contents of a folder give. Lists keep what was read, entries that occur twice included.
 pub fn parts_of(alloc: Global, contents: Contents) -> Result<Parts, BundleError>
     ensures ok { IfOk result (λ parts. TellsParts contents parts) }
     ensures refused { IfErr result
         (λ e. OnNotABundle e ((b : BundleValue) → Tells contents b → ⊥)) }
 {
+    let Some(version) = version_of(&contents.relaxed) else {
+        return Err(BundleError::NotABundle);
+    };
     let Some(moment) = moment_of(contents.moment.as_slice()) else {
         return Err(BundleError::NotABundle);
     };
@@ -104,6 +127,7 @@ pub fn parts_of(alloc: Global, contents: Contents) -> Result<Parts, BundleError>
         Err(error) => return Err(error),
     };
     Ok(Parts {
+        version,
         moment,
         depth,
         locators: sorted_locators(contents.locators),

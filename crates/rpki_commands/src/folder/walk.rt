@@ -20,7 +20,7 @@ const MOST_ENTRIES: u32 = 1_000_000;
 // All files of a bundle have fewer octets together.
 const MOST_KEPT: usize = 4_294_967_296;
 
-// So many octets of `moment` and of `depth` are kept. Both have fewer; a longer text is none, cut or not.
+// So many octets of `moment`, of `depth` and of `relaxed` are kept. Each has fewer; a longer text is none, cut or not.
 const MOST_LINE: usize = 64;
 
 // So many octets of a file are read at once.
@@ -48,11 +48,12 @@ struct Walk {
     buffer: Vec<u8>,
 }
 
-// What was read of `moment`, `depth` and `verdicts`.
+// What was read of `moment`, `depth`, `relaxed` and `verdicts`.
 #[derive(Drop)]
 struct Lines {
     moment: Vec<u8>,
     depth: Vec<u8>,
+    relaxed: Option<Vec<u8>>,
     verdicts: Vec<u8>,
 }
 
@@ -309,6 +310,8 @@ fn read_lines<R: Files>(
     let moment = read_line(rt, alloc, moment.as_str(), buffer)?;
     let depth = joined(alloc, folder, "depth")?;
     let depth = read_line(rt, alloc, depth.as_str(), buffer)?;
+    let relaxed = joined(alloc, folder, "relaxed")?;
+    let relaxed = read_if_there(rt, alloc, relaxed.as_str(), MOST_LINE, buffer)?;
     let verdicts = joined(alloc, folder, "verdicts")?;
     let verdicts = match read_if_there(rt, alloc, verdicts.as_str(), MOST_OCTETS, buffer)? {
         Some(octets) => octets,
@@ -317,6 +320,7 @@ fn read_lines<R: Files>(
     Ok(Lines {
         moment,
         depth,
+        relaxed,
         verdicts,
     })
 }
@@ -340,6 +344,7 @@ pub fn read_folder<R: Files + AllocGlobal + Clone + Drop>(
     Ok(Some(Contents {
         moment: lines.moment,
         depth: lines.depth,
+        relaxed: lines.relaxed,
         verdicts: lines.verdicts,
         locators: walk.locators,
         objects: walk.objects,

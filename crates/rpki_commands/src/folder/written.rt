@@ -1,16 +1,41 @@
 //! The bundle that a folder gives, written.
 
-ghost use Rattle.std.specs.Prelude.{◌≡◌, ◌<◌, ◌-◌, ◌^◌, IfOk, IfErr, OnOk, MatchResult};
+ghost use Rattle.std.specs.Prelude.{◌≡◌, ◌<◌, ◌-◌, ◌^◌, IfOk, IfErr, OnOk, MatchResult, List, ℕ};
+ghost use Rattle.rpki_commands.specs.rpki_bundle.Bundle.{BundleText};
 ghost use Rattle.rpki_commands.specs.rpki_bundle.Errors.{OnNotABundle};
+ghost use Rattle.rpki_commands.specs.rpki_bundle.declared.error.BundleError.TheVariants.{NotABundle as not_a_bundle};
+ghost use Rattle.rpki_commands.specs.Folders.{value_of};
 ghost use Rattle.rpki_commands.specs.Texts.{TellsText, TellsNoText, WritesContents, ContentsFail, WritesBundle, BundleFails, CountsFault};
 
-use crate::folder::parts::{Contents, parts_of};
+use crate::folder::parts::{Contents, Parts, parts_of};
 use crate::folder::walk::read_folder;
 use crate::folder::{Fault, ReadFault};
-use rpki_validator::{Bundle, BundleError, Counted, write_all};
+use rpki_validator::{Bundle, BundleError, Counted, Version, write_all};
 use std::alloc::Global;
 use std::io::Write;
 use std::rt::Files;
+
+// The bundle of its version that has these parts.
+fn bundle_of(parts: Parts) -> Result<Bundle, BundleError>
+    ensures ok { IfOk result (λ b. b ≡ value_of parts) }
+    ensures refused { IfErr result (λ e. (e ≡ not_a_bundle)
+        × ((octets : List ℕ) → BundleText octets (value_of parts) → ⊥)) }
+{
+    let Parts {
+        version,
+        moment,
+        depth,
+        locators,
+        objects,
+        verdicts,
+    } = parts;
+    match version {
+        Version::Zero => Bundle::from_parts(moment, depth, locators, objects, verdicts),
+        Version::One { relaxed } => {
+            Bundle::from_parts_v1(relaxed, moment, depth, locators, objects, verdicts)
+        }
+    }
+}
 
 /// The octets of the bundle that the contents of a folder give.
 pub fn text_of(alloc: Global, contents: Contents) -> Result<Vec<u8>, BundleError>
@@ -21,13 +46,7 @@ pub fn text_of(alloc: Global, contents: Contents) -> Result<Vec<u8>, BundleError
         Ok(parts) => parts,
         Err(error) => return Err(error),
     };
-    let bundle = match Bundle::from_parts(
-        parts.moment,
-        parts.depth,
-        parts.locators,
-        parts.objects,
-        parts.verdicts,
-    ) {
+    let bundle = match bundle_of(parts) {
         Ok(bundle) => bundle,
         Err(error) => return Err(error),
     };

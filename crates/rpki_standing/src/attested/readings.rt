@@ -13,11 +13,11 @@ use crate::{Aspa, Index, Roa};
 use bytes::Bytes;
 use std::alloc::{AllocError, Global};
 
-// The route origin attestation that those octets begin with, in DER.
-fn roa_in(alloc: Global, octets: &Bytes) -> Result<Option<Published>, AllocError>
-    ensures { IfOk result (FindsText Extension.Roa octets.now) }
+// The route origin attestation that those octets begin with, where strict in DER, and else in BER.
+fn roa_in(alloc: Global, octets: &Bytes, strict: bool) -> Result<Option<Published>, AllocError>
+    ensures { IfOk result (FindsText strict Extension.Roa octets.now) }
 {
-    match Roa::decode(alloc, octets.clone()?, true) {
+    match Roa::decode(alloc, octets.clone()?, strict) {
         Ok(roa) => Ok(Some(Published::from_roa(roa))),
         Err(DecodeError::Content(_, _)) => Ok(None),
         Err(DecodeError::Source(never)) => match never {},
@@ -25,11 +25,11 @@ fn roa_in(alloc: Global, octets: &Bytes) -> Result<Option<Published>, AllocError
     }
 }
 
-// The provider attestation that those octets begin with, in DER.
-fn aspa_in(alloc: Global, octets: &Bytes) -> Result<Option<Published>, AllocError>
-    ensures { IfOk result (FindsText Extension.Asa octets.now) }
+// The provider attestation that those octets begin with, where strict in DER, and else in BER.
+fn aspa_in(alloc: Global, octets: &Bytes, strict: bool) -> Result<Option<Published>, AllocError>
+    ensures { IfOk result (FindsText strict Extension.Asa octets.now) }
 {
-    match Aspa::decode(alloc, octets.clone()?, true) {
+    match Aspa::decode(alloc, octets.clone()?, strict) {
         Ok(aspa) => Ok(Some(Published::from_aspa(aspa))),
         Err(DecodeError::Content(_, _)) => Ok(None),
         Err(DecodeError::Source(never)) => match never {},
@@ -42,17 +42,18 @@ fn payload_in(
     alloc: Global,
     extension: Extension,
     octets: &Bytes,
+    strict: bool,
 ) -> Result<Option<Published>, AllocError>
-    ensures { IfOk result (FindsText extension octets.now) }
+    ensures { IfOk result (FindsText strict extension octets.now) }
 {
     match extension {
         Extension::Cer => Ok(None),
-        Extension::Roa => roa_in(alloc, octets),
-        Extension::Asa => aspa_in(alloc, octets),
+        Extension::Roa => roa_in(alloc, octets, strict),
+        Extension::Asa => aspa_in(alloc, octets, strict),
     }
 }
 
-/// What the object with that lookup key reads as: a route origin attestation where the key ends with `roa`, a provider
+/// What the object with that lookup key reads as, as strictly as the bundle asks: a route origin attestation where the key ends with `roa`, a provider
 /// attestation where it ends with `asa`; nothing where it reads as none, or has another extension, or isn't there. Nothing
 /// is verified.
 pub fn object_at(
@@ -69,5 +70,5 @@ pub fn object_at(
     let Some(object) = index.object(key) else {
         return Ok(None);
     };
-    payload_in(alloc, extension, &object.octets)
+    payload_in(alloc, extension, &object.octets, index.strict())
 }

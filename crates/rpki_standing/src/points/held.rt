@@ -9,7 +9,7 @@ ghost use Rattle.rpki_rules.specs.World.{world_of};
 use crate::table::Index;
 use certs_cert::grammar::lookup_key;
 use certs_cert::paths::join;
-use certs_cert::{Digester, Rsync};
+use certs_cert::{DigestAlgorithm, Digester, Rsync};
 use objects_cms::manifest::{FileAndHash, ManifestHash};
 use std::alloc::{AllocError, Global};
 
@@ -30,6 +30,6 @@ pub fn is_held<D: Digester>(
     let Some(object) = index.object(key.as_slice()) else {
         return Ok(false);
     };
-    let hash = ManifestHash::new(file.hash());
+    let hash = ManifestHash::new(file.hash(), DigestAlgorithm::default());
     Ok(hash.verify(digester, object.octets.as_slice()).is_ok())
 }

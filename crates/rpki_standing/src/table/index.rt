@@ -4,7 +4,7 @@ ghost use Rattle.std.specs.Prelude.{◌≡◌, ◌↔◌, ◌≤◌, IsTrue, IfN
 ghost use Rattle.rpki_standing.specs.resources_chain.Rows.{Looks};
 ghost use Rattle.rpki_rules.specs.certs_basics.Uris.{lookup_key};
 ghost use Rattle.rpki_rules.specs.Words.{Mem, NoRepeat};
-ghost use Rattle.rpki_rules.specs.World.{find_object};
+ghost use Rattle.rpki_rules.specs.World.{find_object, is_strict};
 
 use crate::table::search::search;
 use crate::table::sought::{ByKey, ByUri};
@@ -44,6 +44,13 @@ impl<'a> Index<'a> {
         ensures { result ≡ self.now.moment }
     {
         self.bundle.moment()
+    }
+
+    /// Whether manifests, ROAs and ASPAs are read in DER alone.
+    pub fn strict(&self) -> bool
+        ensures { result ≡ is_strict self.now }
+    {
+        !self.bundle.relaxed()
     }
 
     /// The greatest number of certificates in a chain, 1 to 32.

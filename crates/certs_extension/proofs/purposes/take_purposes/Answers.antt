@@ -1,6 +1,6 @@
 -- One purpose at least: what was read of all of them, with a test.
 use Rattle.std.proofs.Common.{◌≡◌, ◌≢◌, ℕ, List, [], map, refl, sym, ap, ◌∙◌}
-use Rattle.certs_extension.proofs.Purposes.{purposes_of}
+use Rattle.certs_extension.proofs.Several.{purposes_of}
 use Rattle.certs_extension.specs.bcder_tree.Tags.{oid_tag}
 use Rattle.certs_extension.specs.bcder_tree.Tree.{Trees}
 use Rattle.certs_extension.specs.bcder_content.Grammar.{Many, OctetsOf}

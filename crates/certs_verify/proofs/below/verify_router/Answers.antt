@@ -1,8 +1,9 @@
 use Rattle.std.proofs.Common.{[], ◌∷◌, ◌++◌}
-use Rattle.certs_verify.specs.certs_extension.Verified.{PassesAt, held_by, nothing, validity, issuer_claim}
+use Rattle.certs_verify.specs.certs_extension.Verified.{IsSignedAt, PassesAt, held_by, nothing, validity, issuer_claim}
 use Rattle.certs_verify.specs.certs_extension.declared.forms.VerificationTest.TheVariants as test
 use Rattle.certs_verify.specs.Answers.{fault_of}
 use Rattle.certs_verify.proofs.Chains.{each_alike, each_next, fault_alike, handed_on}
+use Rattle.certs_verify.proofs.Memories.{memory_where, other_handed_on, signed_below}
 use Rattle.certs_verify.proofs.Refusals.{outside_handed_on, signed_alike, tells_none}
 use Rattle.certs_verify.proofs.below.verify_router.Goals as goal
 
@@ -26,6 +27,18 @@ returns-in_err-signed-clause-outside g c =
     let tests = validity ++ issuer_claim ++ test.BadSignature ∷ [] in
     outside_handed_on c.args.cert.now (held_by issuer) c.in_err-signed.field-0.0 _ c.from_residual.ensures
     (tells_none P tests c.args.cert.now (held_by issuer) c.in_err-signed.field-0.0 (tt, (tt, (tt, (tt, (tt, (tt, tt)))))) c.in_err-signed.ensures.answers)
+
+pub returns-in_err-signed-clause-memory : goal.returns-in_err-signed-clause-memory
+returns-in_err-signed-clause-memory g c =
+    other_handed_on (IsSignedAt (g.V.Verifier.says c.args.verifier.now) c.args.now c.args.issuer.now.holder.cert c.args.cert.now)
+    c.in_err-signed.field-0.0 _ c.from_residual.ensures c.in_err-signed.ensures.no_memory
+
+pub returns-in_err-held-clause-memory : goal.returns-in_err-held-clause-memory
+returns-in_err-held-clause-memory g c =
+    let good = g.V.Verifier.says c.args.verifier.now in
+    let issuer = c.args.issuer.now.holder.cert in
+    memory_where (IsSignedAt good c.args.now issuer c.args.cert.now) c.from_residual-in_err-held.result
+    (signed_below good c.args.now c.as_cert.result.now issuer c.args.cert.now c.as_cert.ensures c.in_ok-signed.ensures.answers)
 
 pub returns-in_err-held-clause-answers : goal.returns-in_err-held-clause-answers
 returns-in_err-held-clause-answers g c =

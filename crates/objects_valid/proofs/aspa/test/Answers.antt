@@ -1,5 +1,5 @@
-use Rattle.std.proofs.Common.{inl, refl}
-use Rattle.std.specs.Fn.{FnOnceReturnsAt}
+use Rattle.std.proofs.Common.{inl, refl, subst, sym}
+use Rattle.std.specs.Fn.{FnOnceReturnsAt, FnOnceTakesAt}
 use Rattle.objects_valid.proofs.Processing.{asked_last}
 use Rattle.objects_valid.proofs.aspa.test.Goals as goal
 
@@ -11,3 +11,6 @@ returns-then-covers-clause-answers g c =
 pub returns-else-covers-clause-answers : goal.returns-else-covers-clause-answers
 returns-else-covers-clause-answers g c =
     inl (refl, λ k. let t = c.covers.ensures.1 k in let f = c.if-covers.false in absurd cc)
+
+pub ask-requires : goal.ask-requires
+ask-requires g c = subst (FnOnceTakesAt g.F.FnOnce c.args.check_crl) (sym c.as_cert.ensures) (c.requires (c.covers.ensures.0 c.if-covers.true))

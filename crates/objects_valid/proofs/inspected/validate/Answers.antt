@@ -8,6 +8,7 @@ use Rattle.certs_verify.specs.Validated.{TellsNumbers}
 use Rattle.certs_verify.specs.certs_key.Digesting.{digests_of}
 use Rattle.objects_valid.specs.Accepted.{ValidatesContent}
 use Rattle.objects_valid.proofs.Accepting.{behind, joined_outside, joined_tal, with_content}
+use Rattle.objects_valid.proofs.Sparing.{spared_below, spared_joined}
 use Rattle.objects_valid.proofs.inspected.validate.Goals as goal
 
 -- What is answered.
@@ -43,3 +44,14 @@ returns-in-Ok-clause-outside g c =
 
 pub returns-in-Err-clause-outside : goal.returns-in-Err-clause-outside
 returns-in-Err-clause-outside g c = c.in-Err.ensures.outside c.args.issuer.now.holder
+
+pub returns-in-Err-clause-memory : goal.returns-in-Err-clause-memory
+returns-in-Err-clause-memory g c m = inl (c.in-Err.ensures.spared m)
+
+pub returns-in-Ok-clause-memory : goal.returns-in-Ok-clause-memory
+returns-in-Ok-clause-memory g c =
+    let v = g.V.Verifier.says c.args.verifier.now in
+    let o = c.args.signed in
+    let r = c.verify_below-validated.result in
+    spared_joined _ c.split-cert.result.1 r _ c.join.ensures
+    (spared_below v _ c.args.now c.args.issuer.now.holder o.cert c.split-cert.result.0 r c.in-Ok.ensures.same c.split-cert.ensures.cert c.verify_below-validated.ensures.verifies)

@@ -1,5 +1,6 @@
-use Rattle.std.proofs.Common.{inl, inr, refl}
-use Rattle.std.specs.Fn.{FnOnceReturnsAt}
+use Rattle.std.proofs.Common.{ap, inl, inr, subst, sym}
+use Rattle.certs_verify.specs.certs_x509.declared.errors.validation.ValidationError.TheVariants.{Verification}
+use Rattle.std.specs.Fn.{FnOnceReturnsAt, FnOnceTakesAt}
 use Rattle.objects_valid.proofs.Processing.{asked_err, asked_ok}
 use Rattle.objects_valid.proofs.roa.test.Goals as goal
 
@@ -11,7 +12,7 @@ returns-then-covers-clause-answers g c =
 pub returns-else-covers-clause-answers : goal.returns-else-covers-clause-answers
 returns-else-covers-clause-answers g c =
     let says = FnOnceReturnsAt g.F.FnOnce c.args.check_crl in
-    inr (asked_ok says _ c.args.holder.now.holder c.as_cert.ensures c.in-Ok.ensures.answers, (refl, λ k. let t = c.covers.ensures.1 k in let f = c.if-covers.false in absurd cc))
+    inr (asked_ok says _ c.args.holder.now.holder c.as_cert.ensures c.in-Ok.ensures.answers, (ap Verification c.from-error.ensures, λ k. let t = c.covers.ensures.1 k in let f = c.if-covers.false in absurd cc))
 
 pub returns-in-Err-clause-answers : goal.returns-in-Err-clause-answers
 returns-in-Err-clause-answers g c =
@@ -20,3 +21,6 @@ returns-in-Err-clause-answers g c =
 
 pub returns-in-Err-clause-outside : goal.returns-in-Err-clause-outside
 returns-in-Err-clause-outside g c x issuer = c.in-Err.ensures.outside x issuer
+
+pub ask-requires : goal.ask-requires
+ask-requires g c = subst (FnOnceTakesAt g.F.FnOnce c.args.check_crl) (sym c.as_cert.ensures) c.requires

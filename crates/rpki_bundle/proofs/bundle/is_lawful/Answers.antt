@@ -18,7 +18,7 @@ returns-then-not-is_lawful_list-3 c = (λ t. absurd cc, λ s. let t = c.if-not-i
 pub returns : goal.returns
 returns c =
     let a = c.args in
-    let b = with_lists a.moment a.depth a.locators.now a.objects.now a.verdicts.now in
+    let b = with_lists a.version a.moment a.depth a.locators.now a.objects.now a.verdicts.now in
     let text = c.generalized-text.result in
     let m = c.generalized-text.ensures in
     let depth : IsDepth a.depth = c.if-not-is_depth.ensures.0 refl in (

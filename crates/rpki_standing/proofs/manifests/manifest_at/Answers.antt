@@ -1,4 +1,4 @@
-use Rattle.std.proofs.Common.{◌≡◌, ℕ, List, Some, sym, ap, ◌∙◌}
+use Rattle.std.proofs.Common.{◌≡◌, ℕ, Bool, List, Some, sym, ap, ◌∙◌, subst}
 use Rattle.rpki_standing.proofs.Failing.{if_ok}
 use Rattle.rpki_standing.specs.certs_basics.Uris.{lookup_key}
 use Rattle.rpki_standing.specs.Crls.{Finds}
@@ -13,4 +13,5 @@ returns c =
     let octets = c.in-Some-object_at.object.now.octets in
     let named : c.args.ca.now.tbs.access.manifest ≡ Some uri = cc in
     let held = ap (λ (u : List ℕ). find_object c.args.index.now.objects (lookup_key u)) (sym c.as_slice.ensures.text) ∙ c.in-Some-object_at.ensures.found in
-    if_ok (Finds (IsReadIn octets)) _ _ (λ found f d v. read_told (world_of d v c.args.index.now) c.args.ca.now uri octets found named held f) c.manifest_in.ensures
+    if_ok (Finds (IsReadIn c.strict.result octets)) _ _ (λ found f d v.
+    read_told (world_of d v c.args.index.now) c.args.ca.now uri octets found named held (subst (λ (strict : Bool). Finds (IsReadIn strict octets) found) c.strict.ensures f)) c.manifest_in.ensures

@@ -8,3 +8,9 @@ returns-clause-validates g c =
     let d = digests_of g.D.Digester.sha256_digest g.D.Digester.sha1_digest c.args.digester.now in
     c.validate_issued.ensures.validates d c.args.strict DetachedEe
     (inspects_by d c.args.strict DetachedEe c.args.self _ c.inspect_detached_ee-form.ensures.passed c.inspect_detached_ee-form.ensures.refused)
+
+pub returns-clause-memory : goal.returns-clause-memory
+returns-clause-memory g c =
+    let d = digests_of g.D.Digester.sha256_digest g.D.Digester.sha1_digest c.args.digester.now in
+    c.validate_issued.ensures.memory d c.args.strict DetachedEe
+    (inspects_by d c.args.strict DetachedEe c.args.self _ c.inspect_detached_ee-form.ensures.passed c.inspect_detached_ee-form.ensures.refused)

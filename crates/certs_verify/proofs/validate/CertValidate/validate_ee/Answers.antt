@@ -1,4 +1,4 @@
 use Rattle.certs_verify.proofs.validate.CertValidate.validate_ee.Goals as goal
 
 pub returns-clause-validates : goal.returns-clause-validates
-returns-clause-validates g c = (c.now-now.result, c.now-now.ensures, c.validate_ee_at.ensures.validates)
+returns-clause-validates g c = (c.now-now.result, c.now-now.ensures, c.validate_ee_at.ensures.validates, c.validate_ee_at.ensures.memory)

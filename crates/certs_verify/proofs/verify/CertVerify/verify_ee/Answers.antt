@@ -1,4 +1,4 @@
 use Rattle.certs_verify.proofs.verify.CertVerify.verify_ee.Goals as goal
 
 pub returns-clause-verifies : goal.returns-clause-verifies
-returns-clause-verifies g c = (c.now-now.result, c.now-now.ensures, c.verify_issued.ensures.verifies)
+returns-clause-verifies g c = (c.now-now.result, c.now-now.ensures, c.verify_issued.ensures.verifies, c.verify_issued.ensures.memory)

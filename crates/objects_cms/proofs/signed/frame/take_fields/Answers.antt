@@ -3,6 +3,7 @@ use Rattle.objects_cms.specs.objects_payload.ObjectText.{AreDigestAlgorithms, Is
 use Rattle.certs_cert.proofs.Joined.{as_read, ended, field, join, read_as}
 use Rattle.objects_cms.specs.Frame.{signed_fields}
 use Rattle.objects_cms.proofs.of_bcder_content.InMode.{begin, done, next, stop}
+use Rattle.objects_cms.proofs.Beginning.{begins_signed, none_wanted, wanted}
 use Rattle.objects_cms.proofs.signed.frame.take_fields.Goals as goal
 
 pub returns-in_err-version-clause-reads : goal.returns-in_err-version-clause-reads
@@ -49,3 +50,21 @@ returns-clause-octets g c =
     (join (read_as cert)
     (join last
     (ended last.goes.behind))))))
+
+pub returns-in_err-version-clause-memory : goal.returns-in_err-version-clause-memory
+returns-in_err-version-clause-memory g c = none_wanted _ _ _ c.from_residual.ensures c.in_err-version.ensures.no_memory
+
+pub returns-in_err-digest-clause-memory : goal.returns-in_err-digest-clause-memory
+returns-in_err-digest-clause-memory g c = none_wanted _ _ _ c.from_residual-in_err-digest.ensures c.in_err-digest.ensures.no_memory
+
+pub returns-in_err-typed-clause-memory : goal.returns-in_err-typed-clause-memory
+returns-in_err-typed-clause-memory g c =
+    wanted _ (begins_signed c.in_ok-version.ensures.reads c.in_ok-digest.ensures.reads)
+
+pub returns-in_err-typed-2-clause-memory : goal.returns-in_err-typed-2-clause-memory
+returns-in_err-typed-2-clause-memory g c =
+    wanted _ (begins_signed c.in_ok-version.ensures.reads c.in_ok-digest.ensures.reads)
+
+pub returns-in_err-both-clause-memory : goal.returns-in_err-both-clause-memory
+returns-in_err-both-clause-memory g c =
+    wanted _ (begins_signed c.in_ok-version.ensures.reads c.in_ok-digest.ensures.reads)

@@ -2,6 +2,7 @@ use Rattle.std.proofs.Common.{refl}
 use Rattle.objects_cms.specs.objects_payload.Identifiers as id
 use Rattle.certs_cert.proofs.Joined.{as_read, ended, field, join, read_as}
 use Rattle.objects_cms.proofs.of_bcder_content.InMode.{begin, done, next, stop}
+use Rattle.objects_cms.proofs.Beginning.{begins_info, none_wanted, wants_on}
 use Rattle.objects_cms.proofs.signed.frame.take_info.Goals as goal
 
 pub returns-in_err-oid-clause-reads : goal.returns-in_err-oid-clause-reads
@@ -20,3 +21,10 @@ returns-clause-octets g c =
     (join (field (λ m. id.TheOid id.signed_data) c.in_ok-oid.ensures.reads)
     (join last
     (ended last.goes.behind)))
+
+pub returns-in_err-oid-clause-memory : goal.returns-in_err-oid-clause-memory
+returns-in_err-oid-clause-memory g c = none_wanted _ _ _ c.from_residual.ensures c.in_err-oid.ensures.no_memory
+
+pub returns-in_err-parts-clause-memory : goal.returns-in_err-parts-clause-memory
+returns-in_err-parts-clause-memory g c =
+    wants_on _ _ c.from_residual-in_err-parts.ensures (λ s. begins_info c.in_ok-oid.ensures.reads s) c.in_err-parts.ensures.memory

@@ -1,6 +1,7 @@
 use Rattle.std.proofs.Common.{refl}
 use Rattle.certs_cert.proofs.Joined.{as_read, ended, join, read_as}
 use Rattle.objects_cms.proofs.of_bcder_content.InMode.{begin, done, next, stop}
+use Rattle.objects_cms.proofs.Beginning.{wants_on}
 use Rattle.objects_cms.proofs.signed.frame.take_only.Goals as goal
 
 pub returns-in_err-parts-clause-reads : goal.returns-in_err-parts-clause-reads
@@ -13,3 +14,6 @@ pub returns-clause-octets : goal.returns-clause-octets
 returns-clause-octets g c =
     let last = read_as c.in_ok-parts.ensures.octets in
     as_read refl (join last (ended last.goes.behind))
+
+pub returns-in_err-parts-clause-memory : goal.returns-in_err-parts-clause-memory
+returns-in_err-parts-clause-memory g c = wants_on _ _ c.from_residual.ensures (λ b. b) c.in_err-parts.ensures.memory

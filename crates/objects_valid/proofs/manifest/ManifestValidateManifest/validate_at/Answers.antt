@@ -10,6 +10,7 @@ use Rattle.objects_valid.specs.objects_payload.Manifests.{Manifest}
 use Rattle.objects_valid.specs.objects_payload.ObjectText.{Object}
 use Rattle.objects_valid.specs.Accepted.{ValidatesContent, ValidatesObject}
 use Rattle.objects_valid.proofs.Accepting.{joined_outside, joined_tal, with_content}
+use Rattle.objects_valid.proofs.Sparing.{spared_alike, spared_joined}
 use Rattle.objects_valid.proofs.manifest.ManifestValidateManifest.validate_at.Goals as goal
 
 -- What is answered.
@@ -38,3 +39,10 @@ returns-clause-outside g c =
     let P = TellsNumbers c.args.self.signed.cert held in
     let told = subst (λ (o : Object). IfErr r (TellsNumbers o.cert held)) c.into_parts-signed.ensures.signed c.validate_at-validated.ensures.outside in
     subst (λ (k : Answer). IfErr k P) (sym c.join.ensures) (joined_outside c.into_parts-signed.result.1 P r told)
+
+pub returns-clause-memory : goal.returns-clause-memory
+returns-clause-memory g c =
+    let k = c.args.self in
+    let r = c.validate_at-validated.result in
+    spared_joined _ c.into_parts-signed.result.1 r _ c.join.ensures
+    (spared_alike (g.V.Verifier.says c.args.verifier.now) c.args.now c.args.issuer.now.holder.cert c.into_parts-signed.result.0 k.signed r c.into_parts-signed.ensures.signed c.validate_at-validated.ensures.memory)

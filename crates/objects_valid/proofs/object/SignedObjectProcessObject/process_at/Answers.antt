@@ -1,6 +1,6 @@
 use Rattle.std.proofs.Common.{◌≡◌, ℕ, List, Result, inl, refl, subst, sym}
 use Rattle.std.specs.Prelude.{IfErr, IfOk}
-use Rattle.std.specs.Fn.{FnOnceReturnsAt}
+use Rattle.std.specs.Fn.{FnOnceReturnsAt, FnOnceTakesAt}
 use Rattle.objects_valid.specs.certs_extension.Cert.{CertValue}
 use Rattle.objects_valid.specs.certs_extension.Verified.{held_by}
 use Rattle.objects_valid.specs.certs_extension.declared.forms.Role.TheVariants.{Ee}
@@ -10,7 +10,8 @@ use Rattle.certs_verify.specs.Holders.{ResourceCertValue}
 use Rattle.certs_verify.specs.Validated.{Inspects, TellsNumbers}
 use Rattle.objects_valid.specs.Processed.{Answers, FailsAny, PassesAny, ProcessesObject}
 use Rattle.objects_valid.proofs.Accepting.{inspects_by}
-use Rattle.objects_valid.proofs.Processing.{processed, processed_outside, processed_tal}
+use Rattle.objects_valid.proofs.Processing.{callable_here, processed, processed_outside, processed_tal}
+use Rattle.objects_valid.proofs.Sparing.{issued_signed, spared_accepted}
 use Rattle.objects_valid.proofs.object.SignedObjectProcessObject.process_at.Goals as goal
 
 pub returns-in-Err-clause-processes : goal.returns-in-Err-clause-processes
@@ -44,3 +45,22 @@ returns-in-Ok-clause-outside g c =
     let P = TellsNumbers c.args.self.cert (held_by c.args.issuer.now.holder) in
     subst (λ (r : Result (ResourceCertValue × List ℕ) ValidationError). IfErr r P) (sym c.join_if.ensures)
     (processed_outside c.in-Ok.content P c.in-Ok.holder c.ask-tested.result (c.ask-tested.ensures.outside c.args.self.cert c.args.issuer.now.holder))
+
+-- The certificate of which the caller's test is asked is the accepted object's.
+pub ask-tested-requires : goal.ask-tested-requires
+ask-tested-requires g c =
+    let d = digests_of g.D.Digester.sha256_digest g.D.Digester.sha1_digest c.args.digester.now in
+    let o = c.args.self in
+    let form = subst (λ (x : CertValue). Inspects d c.args.strict Ee x c.inspect_ee-form.result) c.cert.ensures (inspects_by d c.args.strict Ee c.cert.result.now c.inspect_ee-form.result c.inspect_ee-form.ensures.passed c.inspect_ee-form.ensures.refused) in
+    let takes = FnOnceTakesAt g.F.FnOnce c.args.check_crl in
+    subst takes (sym c.as_cert.ensures)
+    (callable_here takes d (g.V.Verifier.says c.args.verifier.now) c.args.strict c.args.now c.args.issuer.now.holder o o c.in-Ok.holder.holder refl (c.in-Ok.ensures.validates Ee form).0 c.requires)
+
+pub returns-in-Ok-clause-memory : goal.returns-in-Ok-clause-memory
+returns-in-Ok-clause-memory g c =
+    let d = digests_of g.D.Digester.sha256_digest g.D.Digester.sha1_digest c.args.digester.now in
+    let o = c.args.self in
+    let issuer = c.args.issuer.now.holder in
+    let form = subst (λ (x : CertValue). Inspects d c.args.strict Ee x c.inspect_ee-form.result) c.cert.ensures (inspects_by d c.args.strict Ee c.cert.result.now c.inspect_ee-form.result c.inspect_ee-form.ensures.passed c.inspect_ee-form.ensures.refused) in
+    spared_accepted _ c.in-Ok.content c.in-Ok.holder c.ask-tested.result _ c.join_if.ensures
+    (issued_signed (g.V.Verifier.says c.args.verifier.now) c.args.now issuer.cert (held_by issuer) o.cert (c.in-Ok.ensures.validates Ee form).0.issued)

@@ -9,6 +9,7 @@ use Rattle.certs_verify.specs.Holders.{ResourceCertValue}
 use Rattle.certs_verify.specs.Validated.{Inspects, TellsNumbers}
 use Rattle.objects_valid.specs.Accepted.{ValidatesObject}
 use Rattle.objects_valid.proofs.Accepting.{inspects_by, parted_outside, parted_tal, without_content}
+use Rattle.objects_valid.proofs.Sparing.{spared_parted}
 use Rattle.objects_valid.proofs.object.SignedObjectProcessObject.validate_at.Goals as goal
 
 pub returns-clause-validates : goal.returns-clause-validates
@@ -28,3 +29,6 @@ pub returns-clause-outside : goal.returns-clause-outside
 returns-clause-outside g c =
     let P = TellsNumbers c.args.self.cert (held_by c.args.issuer.now.holder) in
     subst (λ (r : Result ResourceCertValue ValidationError). IfErr r P) (sym c.part.ensures) (parted_outside P c.validate-validated.result c.validate-validated.ensures.outside)
+
+pub returns-clause-memory : goal.returns-clause-memory
+returns-clause-memory g c = spared_parted _ c.validate-validated.result _ c.part.ensures c.validate-validated.ensures.memory

@@ -4,8 +4,11 @@ use Rattle.rpki_commands.specs.Verdicts.{TellsVerdicts}
 use Rattle.rpki_commands.proofs.folder.parts.parts_of.Goals as goal
 
 pub returns-in_default-clause-refused : goal.returns-in_default-clause-refused
-returns-in_default-clause-refused c = λ b t.
-    c.in_default.ensures.none b.moment (subst (λ s. TellsMoment s b.moment) (sym c.as_slice.ensures.value) t.moment_is)
+returns-in_default-clause-refused c = λ b t. c.in_default.ensures.none b.version t.version_is
+
+pub returns-in_default-moment_of-clause-refused : goal.returns-in_default-moment_of-clause-refused
+returns-in_default-moment_of-clause-refused c = λ b t.
+    c.in_default-moment_of.ensures.none b.moment (subst (λ s. TellsMoment s b.moment) (sym c.as_slice.ensures.value) t.moment_is)
 
 pub returns-in_default-depth_of-clause-refused : goal.returns-in_default-depth_of-clause-refused
 returns-in_default-depth_of-clause-refused c = λ b t.
@@ -15,7 +18,8 @@ pub returns-clause-ok : goal.returns-clause-ok
 returns-clause-ok c = record {
   told = record {
     verdicts = c.in-Ok.verdicts.items;
-    moment_is = subst (λ s. TellsMoment s c.in-Some.moment) c.as_slice.ensures.value c.in-Some.ensures.found;
+    version_is = c.in-Some.ensures.found;
+    moment_is = subst (λ s. TellsMoment s c.in-Some-moment_of.moment) c.as_slice.ensures.value c.in-Some-moment_of.ensures.found;
     depth_is = subst (λ s. TellsDepth s c.in-Some-depth_of.depth) c.as_slice-2.ensures.value c.in-Some-depth_of.ensures.found;
     short = omega arith;
     verdicts_are = subst (λ s. TellsVerdicts s c.in-Ok.verdicts.items) c.as_slice-3.ensures.value c.in-Ok.ensures.ok;

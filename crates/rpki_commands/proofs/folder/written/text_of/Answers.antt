@@ -14,7 +14,7 @@ weaker Memory p f = p
 pub returns-in-Err-clause-refused : goal.returns-in-Err-clause-refused
 returns-in-Err-clause-refused c = weaker c.in-Err.error c.in-Err.ensures.refused (λ none text t. none t.bundle t.told)
 
-pub returns-in-Err-from_parts-clause-refused : goal.returns-in-Err-from_parts-clause-refused
-returns-in-Err-from_parts-clause-refused c =
-    subst (λ e. OnNotABundle e (TellsNoText c.args.contents)) (sym c.in-Err-from_parts.ensures.refused.0) (λ text t.
-    c.in-Err-from_parts.ensures.refused.1 text (subst (BundleText text) (one_told c.in-Ok.ensures.ok t) t.text_is))
+pub returns-in-Err-bundle_of-clause-refused : goal.returns-in-Err-bundle_of-clause-refused
+returns-in-Err-bundle_of-clause-refused c =
+    subst (λ e. OnNotABundle e (TellsNoText c.args.contents)) (sym c.in-Err-bundle_of.ensures.refused.0) (λ text t.
+    c.in-Err-bundle_of.ensures.refused.1 text (subst (BundleText text) (one_told c.in-Ok.ensures.ok t) t.text_is))

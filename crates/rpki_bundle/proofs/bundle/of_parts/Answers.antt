@@ -1,7 +1,7 @@
 use Rattle.std.proofs.Common.{refl, subst, sym}
 use Rattle.rpki_bundle.specs.Bundle.{IsSpelled}
 use Rattle.rpki_bundle.proofs.Texts.{same_lists}
-use Rattle.rpki_bundle.proofs.bundle.Bundle.from_parts.Goals as goal
+use Rattle.rpki_bundle.proofs.bundle.of_parts.Goals as goal
 
 pub returns-then-not-is_lawful-clause-refused : goal.returns-then-not-is_lawful-clause-refused
 returns-then-not-is_lawful-clause-refused c = (
