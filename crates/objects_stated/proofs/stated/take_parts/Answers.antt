@@ -1,4 +1,4 @@
-use Rattle.std.proofs.Common.{refl}
+use Rattle.std.proofs.Common.{Err, refl}
 use Rattle.bcder_content.proofs.InMode.{begin, next_opt_as, stop_opt, done}
 use Rattle.bcder_content.proofs.Unique.{inside_tagged}
 use Rattle.objects_stated.specs.Reading.{alone, families_alone}
@@ -15,4 +15,4 @@ returns-in-Ok g c =
 pub returns-in-Err : goal.returns-in-Err
 returns-in-Err g c =
     let s = next_opt_as alone _ begin (λ m. inside_tagged _ _) c.in_ok-asn.ensures in
-    stop_opt _ s (tt, refl) c.in-Err.ensures
+    stop_opt {r = Err c.in-Err.error} _ s (tt, refl) c.in-Err.ensures
