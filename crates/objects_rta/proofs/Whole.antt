@@ -83,16 +83,16 @@ relist o w move =
     (rejoin digests
     (rejoin content
     (rejoin certs
-    (alter certs.rest (record { cases = move }))))))))))) 
+    (alter certs.rest (record { cases = move })))))))))))
 
 -- Lists in DER have octets, which spell them and no others.
 octets_at : {m : Mode} (text : List ℕ) (x : Option (List CrlValue)) → PerhapsCases (Wraps m (context 1) (AreLists m)) text x
     → (o : Option (List ℕ)) × PerhapsCases (Wraps m (context 1) (AnyOctets m)) text o × AreListsIn o (lists_of x)
 octets_at text None p = (None, p, refl)
 octets_at {m} text (Some crls) p = (
-    Some p.content,
-    record { content = p.content; around = p.around; is = record { same = refl; trees = p.is.trees; spelled = p.is.spelled } },
-    repeats_tree (λ t x s. s) p.is.are,
+  Some p.content,
+  record { content = p.content; around = p.around; is = record { same = refl; trees = p.is.trees; spelled = p.is.spelled } },
+  repeats_tree (λ t x s. s) p.is.are,
 )
 
 -- And octets that spell lists are those of lists.

@@ -52,7 +52,12 @@ fn have_type(signers: &[SignerInfo], content_type: &Oid) -> bool
     ensures { IsTrue result ↔ HaveType content_type.now.0 signers.now }
 {
     for signer in signers {
-        if !signer.attributes().attributes().content_type.equals(content_type) {
+        if !signer
+            .attributes()
+            .attributes()
+            .content_type
+            .equals(content_type)
+        {
             return false;
         }
     }

@@ -47,10 +47,7 @@ fn mode_of(strict: bool) -> Mode
 }
 
 // What the object in front of captured octets carries, in their mode; the octets are shared.
-fn fields_of(
-    alloc: Global,
-    text: &Captured,
-) -> Result<MultiFields, DecodeError<Infallible>>
+fn fields_of(alloc: Global, text: &Captured) -> Result<MultiFields, DecodeError<Infallible>>
     ensures { DecodesIn text.now.mode text.now.octets result }
 {
     let rules = text.mode();
@@ -128,7 +125,7 @@ impl MultiSignedObject {
                     (here I.Source.rest cons.old) result (here I.Source.rest cons.new) }
                 ensures goes { IfOk result (λ o.
                     Goes (here I.Source.rest cons.old) o.text.octets
-                        (here I.Source.rest cons.new)) }
+                    (here I.Source.rest cons.new)) }
                 ensures mode { IfOk result
                     (λ o. o.text.mode ≡ (here I.Source.rest cons.old).mode) }
             { MultiSignedObject::take_from(alloc, cons) },

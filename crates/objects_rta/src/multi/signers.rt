@@ -7,11 +7,12 @@ ghost use Rattle.objects_cms.specs.bcder_content.Grammar.{Inside};
 ghost use Rattle.objects_cms.specs.bcder_content.Here.{here};
 ghost use Rattle.objects_cms.specs.bcder_content.InMode.{ReadsFields};
 ghost use Rattle.certs_cert.specs.certs_x509.Took.{TookOctets};
-ghost use Rattle.objects_cms.specs.objects_payload.ObjectText.{SpellsSigner};
+ghost use Rattle.objects_cms.specs.objects_payload.ObjectText.{SpellsSigner, signer_of};
 ghost use Rattle.objects_cms.specs.Signer.{AreSigner, AreSignerOctets, IsSigner, signer_fields};
 ghost use Rattle.objects_rta.specs.Frame.{AnySignerOctets, AreAnySigners, AreSigners, SignerOctets, fields_of_all};
 ghost use Rattle.objects_rta.specs.Multi.{SpellsSigners};
 
+use certs_cert::Time;
 use certs_cert::decode::{Constructed, ContentError, DecodeError, Source};
 use objects_cms::signed::SignerInfo;
 use std::alloc::Global;
@@ -35,6 +36,13 @@ pub fn take_opt_signer<S: Source>(
                 (here S.rest cons.old) s (here S.rest cons.new)) }
         { SignerInfo::from_constructed(alloc, cons) },
     )
+}
+
+/// When the signer signed, if that is said as a text (RFC 5652 11.3).
+pub fn signing_time(signer: &SignerInfo) -> Option<Time>
+    ensures { result ≡ (signer_of (signer_fields signer.now)).signing_time }
+{
+    signer.attributes().attributes().signing_time
 }
 
 // The signers that are left of a content.
