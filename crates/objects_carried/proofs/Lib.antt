@@ -1,2 +1,2 @@
 pub mod Repeated
-mod Lists
+mod ListTexts

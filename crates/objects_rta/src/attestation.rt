@@ -131,7 +131,7 @@ fn take_parts<S: Source>(
     alloc: Global,
     cons: &mut Constructed<S>,
 ) -> Result<Parts, DecodeError<S::Error>>
-    ensures { ReadsFields read_fields AreAttestation
+    ensures { ReadsFields (λ p. read_fields (p.0, p.1.items, p.2, p.3)) AreAttestation
         (here S.rest cons.old) result (here S.rest cons.new) }
 {
     let version = take_opt_version(cons)?;
@@ -147,14 +147,14 @@ fn take_body<S: Source>(
     alloc: Global,
     cons: &mut Constructed<S>,
 ) -> Result<Parts, DecodeError<S::Error>>
-    ensures reads { ReadsAs read_fields
+    ensures reads { ReadsAs (λ p. read_fields (p.0, p.1.items, p.2, p.3))
         (Inside sequence_tag (AreAttestation (here S.rest cons.old).mode))
         (here S.rest cons.old) result (here S.rest cons.new) }
     ensures failed { OnErr result ((here S.rest cons.new).failed ≡ true) }
 {
     cons.take_sequence(
         |cons|
-            ensures { ReadsFields read_fields AreAttestation
+            ensures { ReadsFields (λ p. read_fields (p.0, p.1.items, p.2, p.3)) AreAttestation
                 (here S.rest cons.old) result (here S.rest cons.new) }
         { take_parts(alloc, cons) },
     )
@@ -163,7 +163,8 @@ fn take_body<S: Source>(
 impl ResourceTaggedAttestation {
     // The attestation of what was read of it.
     fn from_parts(parts: Parts) -> Self
-        ensures { result ≡ attestation_of (read_fields parts) }
+        ensures { result ≡ attestation_of (read_fields
+            (parts.0, parts.1.items, parts.2, parts.3)) }
     {
         let (_version, keys, resources, digest) = parts;
         ResourceTaggedAttestation {

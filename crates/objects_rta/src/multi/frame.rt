@@ -32,9 +32,9 @@ fn take_fields<S: Source>(
     alloc: Global,
     cons: &mut Constructed<S>,
 ) -> Result<Parts, DecodeError<S::Error>>
-    ensures reads { ReadsFields data_fields AreData
+    ensures reads { ReadsFields (λ p. data_fields (p.0, p.1.items, p.2, p.3.items)) AreData
         (here S.rest cons.old) result (here S.rest cons.new) }
-    ensures octets { IfOk result (λ p. TookOctets data_fields DataOctets
+    ensures octets { IfOk result (λ p. TookOctets (λ p. data_fields (p.0, p.1.items, p.2, p.3.items)) DataOctets
         (here S.rest cons.old) p (here S.rest cons.new)) }
 {
     let version = cons.skip_u8_if(VERSION)?;
@@ -51,16 +51,16 @@ fn take_data<S: Source>(
     alloc: Global,
     cons: &mut Constructed<S>,
 ) -> Result<Parts, DecodeError<S::Error>>
-    ensures reads { ReadsAs data_fields (IsData (here S.rest cons.old).mode)
+    ensures reads { ReadsAs (λ p. data_fields (p.0, p.1.items, p.2, p.3.items)) (IsData (here S.rest cons.old).mode)
         (here S.rest cons.old) result (here S.rest cons.new) }
-    ensures octets { IfOk result (λ p. TookOctets data_fields SpellsKeptData
+    ensures octets { IfOk result (λ p. TookOctets (λ p. data_fields (p.0, p.1.items, p.2, p.3.items)) SpellsKeptData
         (here S.rest cons.old) p (here S.rest cons.new)) }
 {
     cons.take_sequence(
         |cons|
-            ensures reads { ReadsFields data_fields AreData
+            ensures reads { ReadsFields (λ p. data_fields (p.0, p.1.items, p.2, p.3.items)) AreData
                 (here S.rest cons.old) result (here S.rest cons.new) }
-            ensures octets { IfOk result (λ p. TookOctets data_fields DataOctets
+            ensures octets { IfOk result (λ p. TookOctets (λ p. data_fields (p.0, p.1.items, p.2, p.3.items)) DataOctets
                 (here S.rest cons.old) p (here S.rest cons.new)) }
         { take_fields(alloc, cons) },
     )
@@ -71,9 +71,9 @@ fn take_only<S: Source>(
     alloc: Global,
     cons: &mut Constructed<S>,
 ) -> Result<Parts, DecodeError<S::Error>>
-    ensures reads { ReadsFields one_data IsOneData
+    ensures reads { ReadsFields (λ p. one_data (p.0, p.1.items, p.2, p.3.items)) IsOneData
         (here S.rest cons.old) result (here S.rest cons.new) }
-    ensures octets { IfOk result (λ p. TookOctets one_data OneDataOctets
+    ensures octets { IfOk result (λ p. TookOctets (λ p. one_data (p.0, p.1.items, p.2, p.3.items)) OneDataOctets
         (here S.rest cons.old) p (here S.rest cons.new)) }
 {
     let parts = take_data(alloc, cons)?;
@@ -85,18 +85,18 @@ fn take_explicit<S: Source>(
     alloc: Global,
     cons: &mut Constructed<S>,
 ) -> Result<Parts, DecodeError<S::Error>>
-    ensures reads { ReadsAs one_data
+    ensures reads { ReadsAs (λ p. one_data (p.0, p.1.items, p.2, p.3.items))
         (Inside (context 0) (IsOneData (here S.rest cons.old).mode))
         (here S.rest cons.old) result (here S.rest cons.new) }
-    ensures octets { IfOk result (λ p. TookOctets one_data SpellsInner
+    ensures octets { IfOk result (λ p. TookOctets (λ p. one_data (p.0, p.1.items, p.2, p.3.items)) SpellsInner
         (here S.rest cons.old) p (here S.rest cons.new)) }
 {
     cons.take_constructed_if(
         Tag::CTX_0,
         |cons|
-            ensures reads { ReadsFields one_data IsOneData
+            ensures reads { ReadsFields (λ p. one_data (p.0, p.1.items, p.2, p.3.items)) IsOneData
                 (here S.rest cons.old) result (here S.rest cons.new) }
-            ensures octets { IfOk result (λ p. TookOctets one_data OneDataOctets
+            ensures octets { IfOk result (λ p. TookOctets (λ p. one_data (p.0, p.1.items, p.2, p.3.items)) OneDataOctets
                 (here S.rest cons.old) p (here S.rest cons.new)) }
         { take_only(alloc, cons) },
     )
@@ -107,9 +107,9 @@ fn take_info<S: Source>(
     alloc: Global,
     cons: &mut Constructed<S>,
 ) -> Result<Parts, DecodeError<S::Error>>
-    ensures reads { ReadsFields frame_fields AreFrame
+    ensures reads { ReadsFields (λ p. frame_fields (p.0, p.1.items, p.2, p.3.items)) AreFrame
         (here S.rest cons.old) result (here S.rest cons.new) }
-    ensures octets { IfOk result (λ p. TookOctets frame_fields FrameOctets
+    ensures octets { IfOk result (λ p. TookOctets (λ p. frame_fields (p.0, p.1.items, p.2, p.3.items)) FrameOctets
         (here S.rest cons.old) p (here S.rest cons.new)) }
 {
     let oid = SIGNED_DATA.skip_if(cons)?;
@@ -122,17 +122,17 @@ pub(crate) fn take_frame<S: Source>(
     alloc: Global,
     cons: &mut Constructed<S>,
 ) -> Result<Parts, DecodeError<S::Error>>
-    ensures reads { ReadsAs frame_fields (IsFrame (here S.rest cons.old).mode)
+    ensures reads { ReadsAs (λ p. frame_fields (p.0, p.1.items, p.2, p.3.items)) (IsFrame (here S.rest cons.old).mode)
         (here S.rest cons.old) result (here S.rest cons.new) }
-    ensures octets { IfOk result (λ p. TookOctets frame_fields SpellsKeptFrame
+    ensures octets { IfOk result (λ p. TookOctets (λ p. frame_fields (p.0, p.1.items, p.2, p.3.items)) SpellsKeptFrame
         (here S.rest cons.old) p (here S.rest cons.new)) }
     ensures failed { OnErr result ((here S.rest cons.new).failed ≡ true) }
 {
     cons.take_sequence(
         |cons|
-            ensures reads { ReadsFields frame_fields AreFrame
+            ensures reads { ReadsFields (λ p. frame_fields (p.0, p.1.items, p.2, p.3.items)) AreFrame
                 (here S.rest cons.old) result (here S.rest cons.new) }
-            ensures octets { IfOk result (λ p. TookOctets frame_fields FrameOctets
+            ensures octets { IfOk result (λ p. TookOctets (λ p. frame_fields (p.0, p.1.items, p.2, p.3.items)) FrameOctets
                 (here S.rest cons.old) p (here S.rest cons.new)) }
         { take_info(alloc, cons) },
     )

@@ -1,4 +1,4 @@
-use Rattle.objects_carried.proofs.Lists.{decodes_lists}
+use Rattle.objects_carried.proofs.ListTexts.{decodes_lists}
 use Rattle.objects_carried.proofs.lists.decode_octets.Goals as goal
 
 pub returns : goal.returns

@@ -1,7 +1,7 @@
 use Rattle.std.proofs.Common.{refl}
 use Rattle.bcder_content.proofs.Forests.{absent, there}
 use Rattle.bcder_content.proofs.InMode.{items_end, items_next, items_stop}
-use Rattle.objects_carried.proofs.Lists.{crl_tagged}
+use Rattle.objects_carried.proofs.ListTexts.{crl_tagged}
 use Rattle.objects_carried.proofs.lists.take_crls.Goals as goal
 
 pub returns-in_err-crl : goal.returns-in_err-crl

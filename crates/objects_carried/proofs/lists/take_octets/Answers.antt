@@ -1,5 +1,5 @@
 use Rattle.bcder_content.proofs.Taking.{weaker}
-use Rattle.objects_carried.proofs.Lists.{kept_octets, kept_values, no_values}
+use Rattle.objects_carried.proofs.ListTexts.{kept_octets, kept_values, no_values}
 use Rattle.objects_carried.proofs.lists.take_octets.Goals as goal
 
 pub returns-in-Ok-clause-reads : goal.returns-in-Ok-clause-reads

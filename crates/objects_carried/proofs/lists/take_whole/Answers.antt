@@ -2,7 +2,7 @@ use Rattle.bcder_content.specs.Grammar.{Any}
 use Rattle.bcder_content.proofs.Forests.{absent_next, there_next}
 use Rattle.bcder_content.proofs.Taking.{on_content, weaker}
 use Rattle.bcder_content.proofs.Took.{ended_none}
-use Rattle.objects_carried.proofs.Lists.{whole_ends, whole_stop}
+use Rattle.objects_carried.proofs.ListTexts.{whole_ends, whole_stop}
 use Rattle.objects_carried.proofs.lists.take_whole.Goals as goal
 
 pub returns-in_err-crls : goal.returns-in_err-crls
