@@ -72,10 +72,10 @@ pub no_values : {v : ValuesLeft} → NotWhole v → LacksAll (AreValues v.mode) 
 no_values n = record { none = λ ts x p w. n.none ts w }
 
 -- A refusal, which `?` passes on.
-pub whole_stop : {A E : Type 0} {f : A → List CrlValue} (v new : ValuesLeft) (r : Result A (DecodeError E)) (e : DecodeError E) → IsErr r × IsErrAnd r (λ x. x ≡ e)
+pub whole_stop : {A E : Type 0} (f : A → List CrlValue) (v new : ValuesLeft) (r : Result A (DecodeError E)) (e : DecodeError E) → IsErr r × IsErrAnd r (λ x. x ≡ e)
     → OnContent e (LacksAll (Many (IsCrl v.mode)) v) → ReadsWhole f v r new
-whole_stop v new (Ok x) e a l = absurd a.1
-whole_stop {E = E} v new (Err x) e a l = subst (λ (z : DecodeError E). OnContent z (LacksAll (Many (IsCrl v.mode)) v)) (sym a.1) l
+whole_stop f v new (Ok x) e a l = absurd a.1
+whole_stop {E = E} f v new (Err x) e a l = subst (λ (z : DecodeError E). OnContent z (LacksAll (Many (IsCrl v.mode)) v)) (sym a.1) l
 
 -- Lists were read, and then no value was left.
 pub whole_ends : {v mid new : ValuesLeft} {crls : List CrlValue} → GivesAll (Many (IsCrl v.mode)) v crls mid → new ≡ mid → Ended mid → AreWhole v crls new

@@ -1,5 +1,5 @@
 -- Octets that occur several times, read in a loop: by values, and by the octets that stood there.
-use Rattle.std.proofs.Common.{◌≡◌, ◌≢◌, ℕ, false, List, [], ◌∷◌, ◌++◌, map, Option, Some, None, Result, Ok, Err, IfOk, refl, sym, ap, ◌∙◌, subst, append_assoc, append-nil}
+use Rattle.std.proofs.Common.{◌≡◌, ◌≢◌, ℕ, false, List, [], ◌∷◌, ◌++◌, length, map, Option, Some, None, Result, Ok, Err, IfOk, refl, sym, ap, ◌∙◌, subst, append_assoc, append-nil, arith}
 use Rattle.std.proofs.lemmas.List.{map-append}
 use Rattle.std.specs.Prelude.{IfSome}
 use Rattle.std.specs.Option.{option_map}
@@ -38,11 +38,20 @@ pub record Repeated {A : Type 0} (Q : Mode → Tree → A → Type 0) (P : Mode 
   pub items : Items (λ m. Many (Q m)) Q (λ ys. ys) xs start now
   pub octets : now.failed ≡ false → Read (λ m. Repeats (P m)) start xs now
 
-pub repeated_begin : {A : Type 0} {Q : Mode → Tree → A → Type 0} {P : Mode → List ℕ → A → Type 0} {v : ValuesLeft} → Repeated Q P [] v v
+repeated_begin : {A : Type 0} {Q : Mode → Tree → A → Type 0} {P : Mode → List ℕ → A → Type 0} {v : ValuesLeft} → Repeated Q P [] v v
 repeated_begin = record {
   items = items_begin begin;
   octets = λ sound. record { text = []; goes = goes_none sound; is = record { cases = refl } };
 }
+
+-- No value was read.
+pub repeated_start : {A : Type 0} {Q : Mode → Tree → A → Type 0} {P : Mode → List ℕ → A → Type 0} {xs : List A} {v : ValuesLeft} → xs ≡ [] → Repeated Q P xs v v
+repeated_start {Q = Q} {P} {v = v} e = subst (λ ys. Repeated Q P ys v v) (sym e) repeated_begin
+
+-- No items, and some.
+pub none_of : {A : Type 0} (xs : List A) → length xs ≡ 0 → xs ≡ []
+none_of [] e = refl
+none_of (x ∷ xs) e = absurd (omega (arith, e))
 
 both_read : {A : Type 0} {P : Mode → List ℕ → A → Type 0} {xs ys : List A} {x : A} {start now new : ValuesLeft}
     → Read (λ m. Repeats (P m)) start xs now → Read P now x new → ys ≡ xs ++ (x ∷ []) → Read (λ m. Repeats (P m)) start ys new

@@ -3,3 +3,4 @@ mod Spelled
 mod Whole
 mod Texts
 mod Meanings
+mod SignerFields

@@ -1,5 +1,5 @@
 -- An object with several signers is a frame whose lists are DER and whose signers name its type; readers of it by octets.
-use Rattle.std.proofs.Common.{◌≡◌, ℕ, Bool, true, false, List, [], ◌++◌, map, All, Option, Some, None, Result, Ok, Err, ap, ◌∙◌, refl, subst, sym, append-nil, IsTrue, ◌↔◌}
+use Rattle.std.proofs.Common.{◌≡◌, ℕ, Bool, true, false, List, [], ◌++◌, map, Option, Some, None, Result, Ok, Err, ap, ◌∙◌, refl, subst, sym, append-nil, IsTrue, ◌↔◌}
 use denote.Ref.{MutBor}
 use Rattle.std.specs.Prelude.{IsErr, IsErrAnd}
 use Rattle.std.specs.Option.{option_map}
@@ -24,6 +24,7 @@ use Rattle.bcder_content.proofs.Taking.{weaker}
 use Rattle.bcder_content.proofs.Took.{one_took}
 use Rattle.bcder_content.proofs.of_bcder_tree.Trees.{one_tree}
 use Rattle.certs_cert.specs.certs_x509.Took.{TookOctets}
+use Rattle.objects_cms.specs.certs_basics.Lists.{Each}
 use Rattle.objects_cms.specs.certs_extension.CrlText.{CrlValue, IsCrl}
 use Rattle.objects_cms.specs.objects_payload.ObjectText.{SignerFields, mode, signer_of}
 use Rattle.objects_cms.specs.Decoded.{LacksOctets, ReadsOctets}
@@ -127,7 +128,7 @@ object_in f crls =
 pub record IsOf (f : FrameFields (List ℕ)) (o : Multi) : Type 0 where
   pub is : o ≡ object_in f o.crls
   pub lists : AreListsIn f.1.0.0.1.1.1.1.0 o.crls
-  pub types : All (HasType o.content_type) f.1.0.0.1.1.1.1.1.0
+  pub types : Each (HasType o.content_type) f.1.0.0.1.1.1.1.1.0
 
 kept_frame : {m : Mode} {text : List ℕ} {o : Multi} → SpellsMulti m text o → (f : FrameFields (List ℕ)) × SpellsKeptFrame m text f × IsOf f o
 kept_frame p =
@@ -171,7 +172,7 @@ multi_gives {now} {p = p} {crls} g t l e =
         is = relist (opt_lists lists crls) g.is (lists_at now.mode _ lists crls l (lists_in g.is).is.cases);
         says = record {
           fields = e ∙ ap (λ (c : List CrlValue). parts_with p c) (sym (same_lists lists crls l));
-          same_types = subst (λ (kind : List ℕ). All (HasType kind) (fields_of_all p.3)) (sym (ap (λ (z : Multi). z.content_type) e)) t;
+          same_types = subst (λ (kind : List ℕ). Each (HasType kind) (fields_of_all p.3)) (sym (ap (λ (z : Multi). z.content_type) e)) t;
         };
       };
     }
@@ -183,9 +184,9 @@ multi_refused {now} {new} {p} g refuses = record {
   none = λ text o behind goes q.
       let k = kept_frame q in
       let same = (frame_one.one g.text text new.rest behind.rest (frame_fields p) k.0 g.is k.1 (sym g.goes.moved.rest ∙ goes.moved.rest)).1 in
-      let types = subst (λ (kind : List ℕ). All (HasType kind) k.0.1.0.0.1.1.1.1.1.0) (ap (λ (z : Multi). z.content_type) k.2.is) k.2.types in
+      let types = subst (λ (kind : List ℕ). Each (HasType kind) k.0.1.0.0.1.1.1.1.1.0) (ap (λ (z : Multi). z.content_type) k.2.is) k.2.types in
       refuses o.crls
-      (subst (λ (f : FrameFields (List ℕ)). All (HasType f.1.0.0.1.1.0.0) f.1.0.0.1.1.1.1.1.0) (sym same) types)
+      (subst (λ (f : FrameFields (List ℕ)). Each (HasType f.1.0.0.1.1.0.0) f.1.0.0.1.1.1.1.1.0) (sym same) types)
       (subst (λ (f : FrameFields (List ℕ)). AreListsIn f.1.0.0.1.1.1.1.0 o.crls) (sym same) k.2.lists);
 }
 
@@ -193,6 +194,11 @@ multi_refused {now} {new} {p} g refuses = record {
 pub lists_refused : {D E : Type 0} {now new : ValuesLeft} {p : Parts} (e : DecodeError D) (told : DecodeError E) → TookOctets frame_fields SpellsKeptFrame now p new
     → SameCause e told → OnContent e ((crls : List CrlValue) → AreListsIn (option_map octets_of p.2) crls → ⊥) → OnContent told (LacksOctets SpellsMulti now)
 lists_refused e told g same none = same_refusal _ e told same (weaker e (λ n. multi_refused g (λ crls t l. n crls l)) none)
+
+-- What was read of a frame, by its parts.
+pub of_parts : {A : Type 0} {f : A → FrameFields (List ℕ)} {now new : ValuesLeft} {x : A} (p : Parts) → f x ≡ frame_fields p → TookOctets f SpellsKeptFrame now x new
+    → TookOctets frame_fields SpellsKeptFrame now p new
+of_parts {now = now} p e t = record { text = t.text; goes = t.goes; is = subst (λ (z : FrameFields (List ℕ)). SpellsKeptFrame now.mode t.text z) e t.is }
 
 -- What a test decides isn't so where it says no.
 pub said_no : {b : Bool} {P : Type 0} → (IsTrue b ↔ P) → b ≡ false → P → ⊥

@@ -1,5 +1,5 @@
 -- What the readers of objects with several signers answer, by octets.
-use Rattle.std.specs.Prelude.{◌≡◌, ℕ, Bool, List, ◌++◌, All, Result, Ok, Err}
+use Rattle.std.specs.Prelude.{◌≡◌, ℕ, Bool, List, ◌++◌, Result, Ok, Err}
 use Rattle.objects_cms.specs.bcder_tree.declared.mode.Mode.{Mode}
 use Rattle.objects_cms.specs.bcder_tree.Tree.{Spells, Tree}
 use Rattle.objects_cms.specs.bcder_source.Errors.{OnContent}
@@ -7,13 +7,14 @@ use Rattle.objects_cms.specs.bcder_source.declared.error.DecodeError.{DecodeErro
 use Rattle.objects_cms.specs.bcder_content.Kept.{CapturedValue}
 use Rattle.objects_cms.specs.bcder_content.Texts.{InFront}
 use Rattle.objects_cms.specs.Signer.{SignerValue}
+use Rattle.objects_cms.specs.certs_basics.Lists.{Each}
 use Rattle.objects_cms.specs.objects_payload.ObjectText.{mode}
 use Rattle.objects_rta.specs.Multi.{HasType, KeptMulti, Multi, MultiText, SpellsMulti}
 use Rattle.objects_rta.specs.Frame.{fields_of_all}
 
 -- Each signer's attribute for the content's type has that type (RFC 5652 11.1).
 abbrev pub HaveType : List ℕ → List SignerValue → Type 0
-HaveType type signers = All (HasType type) (fields_of_all signers)
+HaveType type signers = Each (HasType type) (fields_of_all signers)
 
 -- The object in front of the octets in that mode, or there is none.
 abbrev pub DecodesIn : {E : Type 0} → Mode → List ℕ → Result Multi (DecodeError E) → Type 0

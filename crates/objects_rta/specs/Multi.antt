@@ -1,10 +1,11 @@
 -- Which octets are a signed object with several certificates, revocation lists and signers (RFC 5652 3, 5; this project's
 -- profile of resource tagged attestations).
-use Rattle.std.specs.Prelude.{◌≡◌, ℕ, Bool, List, [], map, All, Option, Some, None}
+use Rattle.std.specs.Prelude.{◌≡◌, ℕ, Bool, List, [], map, Option, Some, None}
 use Rattle.objects_cms.specs.bcder_tree.declared.mode.Mode.{Mode}
 use Rattle.objects_cms.specs.bcder_tree.Tags.{context, sequence_tag, set_tag}
 use Rattle.objects_cms.specs.bcder_content.Kept.{CapturedValue}
 use Rattle.objects_cms.specs.bcder_content.Texts.{InFront, Joins, NoOctets, SpellsOf, Wraps}
+use Rattle.objects_cms.specs.certs_basics.Lists.{Each}
 use Rattle.objects_cms.specs.certs_extension.Cert.{CertValue}
 use Rattle.objects_cms.specs.certs_extension.CrlText.{CrlValue}
 use Rattle.objects_cms.specs.objects_payload.Identifiers as id
@@ -75,7 +76,7 @@ HasType type f = f.1.1.1.0.1.content_type ≡ type
 
 pub record SaysMulti (f : DataFields (List CrlValue)) (o : Multi) : Type 0 where
   pub fields : o ≡ multi_of f
-  pub same_types : All (HasType o.content_type) f.1.1.1.1.1.0
+  pub same_types : Each (HasType o.content_type) f.1.1.1.1.1.0
 
 pub record SpellsMulti (m : Mode) (text : List ℕ) (o : Multi) : Type 0 where
   pub fields : FrameFields (List CrlValue)

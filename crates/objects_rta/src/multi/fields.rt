@@ -5,7 +5,7 @@ ghost use Rattle.objects_cms.specs.bcder_content.Here.{here};
 ghost use Rattle.objects_cms.specs.objects_payload.ObjectText.{signer_of};
 ghost use Rattle.objects_cms.specs.Decoded.{ReadsOctets};
 ghost use Rattle.objects_cms.specs.Signer.{signer_fields};
-ghost use Rattle.objects_rta.specs.Multi.{SpellsMulti};
+ghost use Rattle.objects_rta.specs.Multi.{HasType, SpellsMulti};
 ghost use Rattle.objects_rta.specs.Frame.{fields_of_all};
 ghost use Rattle.objects_rta.specs.Decoded.{HaveType};
 
@@ -47,19 +47,27 @@ impl Model for MultiFields {
     } };
 }
 
-// Whether each signer's attribute for the content's type has that type (RFC 5652 11.1).
+// Whether the signer's attribute for the content's type has that type (RFC 5652 11.1).
+fn has_type(signer: &SignerInfo, content_type: &Oid) -> bool
+    ensures { IsTrue result ↔ HasType content_type.now.0 (signer_fields signer.now) }
+{
+    signer
+        .attributes()
+        .attributes()
+        .content_type
+        .equals(content_type)
+}
+
+// Whether that of each signer has.
 fn have_type(signers: &[SignerInfo], content_type: &Oid) -> bool
     ensures { IsTrue result ↔ HaveType content_type.now.0 signers.now }
 {
-    for signer in signers {
-        if !signer
-            .attributes()
-            .attributes()
-            .content_type
-            .equals(content_type)
-        {
+    let mut rest = signers;
+    while let Some((signer, others)) = rest.split_first() {
+        if !has_type(signer, content_type) {
             return false;
         }
+        rest = others;
     }
     true
 }

@@ -1,12 +1,12 @@
-use Rattle.std.proofs.Common.{refl}
+use Rattle.std.proofs.Common.{rules, refl}
 use Rattle.bcder_content.proofs.Forests.{absent, there}
 use Rattle.bcder_content.proofs.InMode.{items_end, items_stop}
 use Rattle.bcder_content.proofs.Unique.{inside_tagged}
-use Rattle.objects_carried.proofs.Repeated.{cert_tagged, repeated_begin, repeated_end, repeated_next, took_there}
+use Rattle.objects_carried.proofs.Repeated.{cert_tagged, repeated_start, repeated_end, repeated_next, took_there}
 use Rattle.objects_carried.proofs.certificates.take_certs.Goals as goal
 
 pub loop-certs-init : goal.loop-certs-init
-loop-certs-init g c = repeated_begin
+loop-certs-init g c = repeated_start (search rules)
 
 pub returns-in_err-cert-clause-reads : goal.returns-in_err-cert-clause-reads
 returns-in_err-cert-clause-reads g c = items_stop _ _ c.loop-certs.invariant.items c.from_residual.ensures c.in_err-cert.ensures.reads

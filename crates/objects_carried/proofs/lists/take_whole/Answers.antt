@@ -6,7 +6,7 @@ use Rattle.objects_carried.proofs.ListTexts.{whole_ends, whole_stop}
 use Rattle.objects_carried.proofs.lists.take_whole.Goals as goal
 
 pub returns-in_err-crls : goal.returns-in_err-crls
-returns-in_err-crls g c = whole_stop _ _ _ _ c.from_residual.ensures c.in_err-crls.ensures.reads
+returns-in_err-crls g c = whole_stop (λ v. v.items) _ _ _ _ c.from_residual.ensures c.in_err-crls.ensures.reads
 
 pub returns-in-Ok-None : goal.returns-in-Ok-None
 returns-in-Ok-None g c =

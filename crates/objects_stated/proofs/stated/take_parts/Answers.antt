@@ -15,4 +15,4 @@ returns-in-Ok g c =
 pub returns-in-Err : goal.returns-in-Err
 returns-in-Err g c =
     let s = next_opt_as alone _ begin (λ m. inside_tagged _ _) c.in_ok-asn.ensures in
-    stop_opt {r = Err c.in-Err.error} _ s (tt, refl) c.in-Err.ensures
+    stop_opt {r = Err c.in-Err.error} _ s (refl, refl) c.in-Err.ensures

@@ -47,7 +47,8 @@ returns-clause-reads g c =
     let certs = rw c.in_ok-typed-2.ensures.ok.1 at c.take_certificates.ensures.reads in
     let lists = rw c.in_ok-front.ensures.ok.1 at c.take_opt_lists.ensures.reads in
     let signers = rw c.in_ok-front-2.ensures.ok.1 at c.take_signers.ensures.reads in
-    done (next (next_opt_as octets_of _ (next (next s c.in_ok-typed.ensures) certs) (λ m. inside_tagged _ _) lists) signers) ?
+    done (next (next_opt_as octets_of _ (next (next s c.in_ok-typed.ensures) certs) (λ m. inside_tagged _ _) lists) signers)
+    (ap (λ f. data_fields (f.0, f.1.items, f.2, c.in_ok-front-2.signers.items)) (c.in_ok-front-2.ensures.ok.0 ∙ ap (λ h. (h.0, h.1, c.in_ok-front.lists)) (c.in_ok-front.ensures.ok.0 ∙ ap (λ t. (t, c.in_ok-typed-2.certs)) c.in_ok-typed-2.ensures.ok.0)))
 
 pub returns-clause-octets : goal.returns-clause-octets
 returns-clause-octets g c =
@@ -56,7 +57,7 @@ returns-clause-octets g c =
     let lists = rw c.in_ok-front.ensures.ok.1 at c.take_opt_lists.ensures.octets in
     let signers = rw c.in_ok-front-2.ensures.ok.1 at c.take_signers.ensures.octets in
     let last = read_as signers in
-    as_read ?
+    as_read (ap (λ f. data_fields (f.0, f.1.items, f.2, c.in_ok-front-2.signers.items)) (c.in_ok-front-2.ensures.ok.0 ∙ ap (λ h. (h.0, h.1, c.in_ok-front.lists)) (c.in_ok-front.ensures.ok.0 ∙ ap (λ t. (t, c.in_ok-typed-2.certs)) c.in_ok-typed-2.ensures.ok.0)))
     (join (field (λ m. IsThree) c.in_ok-version.ensures.reads)
     (join (field (λ m. AreDigestAlgorithms) c.in_ok-digest.ensures.reads)
     (join (field IsContentInfo c.in_ok-typed.ensures)

@@ -1,13 +1,13 @@
-use Rattle.std.proofs.Common.{refl}
+use Rattle.std.proofs.Common.{rules, refl}
 use Rattle.bcder_content.proofs.Forests.{absent, there}
 use Rattle.bcder_content.proofs.InMode.{items_end, items_stop}
 use Rattle.bcder_content.proofs.Unique.{inside_tagged}
 use Rattle.objects_cms.specs.Signer.{signer_fields}
-use Rattle.objects_carried.proofs.Repeated.{repeated_begin, repeated_end, repeated_next_as, took_there}
+use Rattle.objects_carried.proofs.Repeated.{repeated_start, repeated_end, repeated_next_as, took_there}
 use Rattle.objects_rta.proofs.multi.signers.take_infos.Goals as goal
 
 pub loop-signers-init : goal.loop-signers-init
-loop-signers-init g c = repeated_begin
+loop-signers-init g c = repeated_start (search rules)
 
 pub returns-in_err-signer-clause-reads : goal.returns-in_err-signer-clause-reads
 returns-in_err-signer-clause-reads g c = items_stop _ _ c.loop-signers.invariant.items c.from_residual.ensures c.in_err-signer.ensures.reads
