@@ -71,10 +71,10 @@ object_disagrees {now} {new} {p} g differ = record {
 }
 
 -- The object of a frame's parts, where they agree.
-pub object_agreed : {E : Type 0} {now mid new : ValuesLeft} {p : Parts} (r : Result Object (DecodeError E)) → TookOctets object_fields SpellsContentInfo now p mid
+pub object_agreed : {E : Type 0} {now mid : ValuesLeft} {p : Parts} (new : ValuesLeft) (r : Result Object (DecodeError E)) → TookOctets object_fields SpellsContentInfo now p mid
     → IfOk r (λ o. Agrees p × (o ≡ object_of (signed_fields p))) → OnOk r (new ≡ mid) → OnErr r (Agrees p → ⊥) → ReadsOctets (λ (z : Object). z) SpellsObject now r new
-object_agreed {now = now} (Ok o) g a same n = subst (λ (v : ValuesLeft). TookOctets (λ (z : Object). z) SpellsObject now o v) (sym same) (object_gives g a.0 a.1)
-object_agreed (Err e) g a same n = on_content e (object_disagrees g n)
+object_agreed {now = now} new (Ok o) g a same n = subst (λ (v : ValuesLeft). TookOctets (λ (z : Object). z) SpellsObject now o v) (sym same) (object_gives g a.0 a.1)
+object_agreed new (Err e) g a same n = on_content e (object_disagrees g n)
 
 -- Each call of the closure reads octets exactly.
 pub record EachOctets {F S T B E : Type 0} (rest : S → List ℕ) (g : Reader F (Constructed S) T E) (op : F) (f : T → B)

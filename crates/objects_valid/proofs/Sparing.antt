@@ -26,11 +26,11 @@ pub issued_signed : (good : Verdicts) (now : ℕ) (issuer : CertValue) (held : K
 issued_signed good now issuer held c a = (a.0, (a.1.0, (a.1.1.0, (a.1.1.1.0, (a.1.1.1.1.0, (a.1.1.1.1.1.0, tt))))))
 
 -- The certificate is verified last, by a verifier that says the same.
-pub spared_below : {before after : ℕ} (good given : Verdicts) (now : ℕ) (issuer : HolderValue) (own c : CertValue) (r : Result ResourceCertValue ValidationError)
+pub spared_below : (before after : ℕ) (good given : Verdicts) (now : ℕ) (issuer : HolderValue) (own c : CertValue) (r : Result ResourceCertValue ValidationError)
     → given ≡ good → c ≡ own → VerifiesBelow given now issuer c r → IfErr r (SparesMemory before after (IsSignedAt good now issuer.cert own))
-spared_below good given now issuer own c (Ok r) e f b = tt
-spared_below good given now issuer own c (Err (Inspection t)) e f b = absurd b
-spared_below good given now issuer own c (Err (Verification x)) e f b = λ m.
+spared_below before after good given now issuer own c (Ok r) e f b = tt
+spared_below before after good given now issuer own c (Err (Inspection t)) e f b = absurd b
+spared_below before after good given now issuer own c (Err (Verification x)) e f b = λ m.
     inr (subst (λ (v : Verdicts). IsSignedAt v now issuer.cert own) e (subst (λ (y : CertValue). IsSignedAt given now issuer.cert y) f (b.1 (told_inside x Memory m))))
 
 -- The object is the one that was handed on.
@@ -38,9 +38,9 @@ pub spared_same : {before after : ℕ} (good : Verdicts) (now : ℕ) (issuer : C
     → s ≡ o → SparesMemory before after (IsSignedAt good now issuer s.cert) e → SparesMemory before after (IsSignedAt good now issuer o.cert) e
 spared_same {before} {after} good now issuer s o e same h = subst (λ (p : Object). SparesMemory before after (IsSignedAt good now issuer p.cert) e) same h
 
-pub spared_alike : {A : Type 0} {before after : ℕ} (good : Verdicts) (now : ℕ) (issuer : CertValue) (s o : Object) (r : Result A ValidationError)
+pub spared_alike : {A : Type 0} (before after : ℕ) (good : Verdicts) (now : ℕ) (issuer : CertValue) (s o : Object) (r : Result A ValidationError)
     → s ≡ o → IfErr r (SparesMemory before after (IsSignedAt good now issuer s.cert)) → IfErr r (SparesMemory before after (IsSignedAt good now issuer o.cert))
-spared_alike {A} {before} {after} good now issuer s o r same h = subst (λ (p : Object). IfErr r (SparesMemory before after (IsSignedAt good now issuer p.cert))) same h
+spared_alike {A} before after good now issuer s o r same h = subst (λ (p : Object). IfErr r (SparesMemory before after (IsSignedAt good now issuer p.cert))) same h
 
 -- It holds of what is put together with a content, or parted from it, too.
 pub spared_joined : {A : Type 0} (P : ValidationError → Type 0) (x : A) (r : Result ResourceCertValue ValidationError) (s : Result (ResourceCertValue × A) ValidationError)
@@ -60,9 +60,9 @@ spared_parted {A} P r s e h = subst (λ (k : Result ResourceCertValue Validation
     told (Err f) h = h
 
 -- And of tests after an object that is accepted, whatever they tell.
-pub spared_accepted : {A : Type 0} {before after : ℕ} (passed : Type 0) (x : A) (h : ResourceCertValue) (tested : Result (Unit {0}) ValidationError) (s : Result (ResourceCertValue × A) ValidationError)
+pub spared_accepted : {A : Type 0} (before after : ℕ) (passed : Type 0) (x : A) (h : ResourceCertValue) (tested : Result (Unit {0}) ValidationError) (s : Result (ResourceCertValue × A) ValidationError)
     → s ≡ joined_if h x tested → passed → IfErr s (SparesMemory before after passed)
-spared_accepted {A} {before} {after} passed x h tested s e p = subst (λ (k : Result (ResourceCertValue × A) ValidationError). IfErr k (SparesMemory before after passed)) (sym e) (told tested)
+spared_accepted {A} before after passed x h tested s e p = subst (λ (k : Result (ResourceCertValue × A) ValidationError). IfErr k (SparesMemory before after passed)) (sym e) (told tested)
   where
     told : (tested : Result (Unit {0}) ValidationError) → IfErr (joined_if h x tested) (SparesMemory before after passed)
     told (Ok u) = tt

@@ -2,6 +2,7 @@ pub mod Reading
 pub mod Digests
 pub mod DigestWords
 mod Agree
+pub mod Numbered
 mod Written
 pub mod OneBundle
 pub mod Texts

@@ -3,14 +3,14 @@ use Rattle.std.proofs.Common.{◌≡◌, ℕ, ◌+◌, ◌*◌, ◌^◌, ◌<◌
 use Rattle.std.proofs.lemmas.Bool.{cases_lt}
 use Rattle.std.proofs.lemmas.List.Elements.{All-cons, All-nil}
 use Rattle.rpki_bundle.specs.bcder_tree.declared.mode.Mode.TheVariants.{Der}
-use Rattle.rpki_bundle.specs.bcder_tree.Tags.{boolean_tag, generalized_time_tag, ia5_string_tag, integer_tag, printable_string_tag, sequence_tag}
+use Rattle.rpki_bundle.specs.bcder_tree.Tags.{boolean_tag, generalized_time_tag, ia5_string_tag, printable_string_tag, sequence_tag}
 use Rattle.rpki_bundle.specs.bcder_tree.Integers.{number_behind, IsShortest}
 use Rattle.rpki_bundle.specs.bcder_tree.Strings.{IsIa5, octet_string_tag}
 use Rattle.rpki_bundle.specs.bcder_primitive.Values.{AnyOctets, IsBoolean, IsUnsigned}
 use Rattle.rpki_bundle.specs.bcder.Sets.{alone}
 use Rattle.rpki_bundle.specs.bcder.Texts.{IsText as IsTextOf}
 use Rattle.rpki_bundle.proofs.of_bcder.Ascii.{ascii_text}
-use Rattle.rpki_bundle.specs.bcder_content.Grammar.{OctetsOf, Inside}
+use Rattle.rpki_bundle.specs.bcder_content.Grammar.{Inside}
 use Rattle.rpki_bundle.specs.bcder_primitive.Encoded.{WritesPlain, WritesWrapped, WritesBoth}
 use Rattle.rpki_bundle.specs.bcder_primitive.Integers.{WritesUnsigned}
 use Rattle.rpki_bundle.specs.bcder_values.Lists.{WritesAll}
@@ -23,7 +23,7 @@ use Rattle.certs_basics.specs.Times.{IsMoment}
 use Rattle.certs_basics.proofs.Moments.{one_text}
 use Rattle.certs_basics.specs.Uris.{IsUri, IsUriOctet, IsLookupKey}
 use Rattle.rpki_bundle.specs.bcder_tree.Tree.{Tree, Trees, SpellsAll}
-use Rattle.rpki_bundle.specs.Bundle.{BundleValue, number_of, IsNumber, IsFlag, FlagCases, Flag, IsMomentString, IsDepth, IsDigestString, Digests, BundleFields, AreBundleFields, as_locator, as_object, as_verdict, as_bundle, IsLocator, IsObject, IsVerdict, verdict_row, IsAscendingList, IsBundle}
+use Rattle.rpki_bundle.specs.Bundle.{BundleValue, number_of, IsNumber, IsFlag, FlagCases, Flag, IsMomentString, IsDepth, IsDigestString, Digests, BundleFields, AreLists, AreBundleFields, as_locator, as_object, as_verdict, as_bundle, IsLocator, IsObject, IsVerdict, verdict_row, IsAscendingList, IsBundle}
 use Rattle.rpki_bundle.specs.Lawful.{IsLawfulLocator, IsLawfulObject, IsLawfulVerdict, IsLawfulList, IsLawful}
 use Rattle.rpki_bundle.specs.PartFields.{locator_fields, object_fields}
 use Rattle.rpki_bundle.specs.Written.{WritesText, WritesInteger, WritesFlag, WritesLocator, WritesObject, WritesVerdict, WritesBundle}
@@ -122,12 +122,12 @@ flag (One relaxed) a =
 abbrev fields_of : BundleValue → BundleFields
 fields_of b = (number_of b.version, (b.moment, (b.depth, (b.version, (b.locators, (b.objects, (b.verdicts, tt)))))))
 
-number_is : {A : Type 0} {n : ℕ} {R : Trees → A → Type 0} {ts : Trees} {x : A} (v : Version) → FlagCases Der n R ts v x → n ≡ number_of v
-number_is Zero c = c.0
-number_is (One relaxed) c = c.0
+number_is : {A : Type 0} (n : ℕ) (R : Trees → A → Type 0) (ts : Trees) (x : A) (v : Version) → FlagCases Der n R ts v x → n ≡ number_of v
+number_is n R ts x Zero c = c.0
+number_is n R ts x (One relaxed) c = c.0
 
 fields_told : (t : Tree) (f : BundleFields) → Inside sequence_tag (AreBundleFields Der) t f → fields_of (as_bundle f) ≡ f
-fields_told t f p = ap (λ (n : ℕ). (n, f.1)) (sym (number_is f.1.1.1.0 p.is.rest.rest.rest.cases))
+fields_told t f p = ap (λ (n : ℕ). (n, f.1)) (sym (number_is f.0 (AreLists Der) p.is.rest.rest.others f.1.1.1.1 f.1.1.1.0 p.is.rest.rest.rest.cases))
 
 -- A bundle, whose moment has that text.
 pub bundle : (text : List ℕ) (b : BundleValue) → IsMoment text b.moment → Agree (IsBundle Der) b (WritesBundle text b Der) (IsLawful b)

@@ -1,6 +1,6 @@
 -- Bundles: all that one run is told, in one DER value (this project's own form, versions 0 and 1). Beside each line
 -- stands its ASN.1.
-use Rattle.std.specs.Prelude.{◌≡◌, ◌≢◌, ℕ, ◌^◌, ◌≤◌, Bool, true, false, List, [], ◌++◌, length, All}
+use Rattle.std.specs.Prelude.{◌≡◌, ◌≢◌, ℕ, ◌^◌, ◌≤◌, Bool, false, List, [], ◌++◌, length, All}
 use Rattle.rpki_bundle.specs.bcder_tree.declared.mode.Mode.{Mode}
 use Rattle.rpki_bundle.specs.bcder_tree.declared.mode.Mode.TheVariants.{Der}
 use Rattle.rpki_bundle.specs.bcder_tree.Tags.{boolean_tag, generalized_time_tag, ia5_string_tag, integer_tag, printable_string_tag}

@@ -77,23 +77,23 @@ abbrev pub WritesFlag : Mode → Version → List ℕ → Type 0
 WritesFlag m Zero = NoText
 WritesFlag m (One relaxed) = WritesPlain m boolean_tag (λ c. IsBoolean Der c relaxed)
 
--- The members of a bundle, by what is written of its lists.
-abbrev pub AreMembers : Version → List ℕ → ℕ → (Trees → Type 0) → (Trees → Type 0) → (Trees → Type 0) → Trees → Type 0
-AreMembers version text depth P Q R =
-    IsWrapped sequence_tag (AreBoth (IsInteger (number_of version)) (AreBoth (IsText generalized_time_tag text) (AreBoth (IsInteger depth) (AreBoth (IsFlag version)
+-- The members of a bundle, by the number of its version and by what is written of its lists.
+abbrev pub AreMembers : ℕ → Version → List ℕ → ℕ → (Trees → Type 0) → (Trees → Type 0) → (Trees → Type 0) → Trees → Type 0
+AreMembers number version text depth P Q R =
+    IsWrapped sequence_tag (AreBoth (IsInteger number) (AreBoth (IsText generalized_time_tag text) (AreBoth (IsInteger depth) (AreBoth (IsFlag version)
     (AreBoth (IsWrapped sequence_tag P) (AreBoth (IsWrapped sequence_tag Q) (IsWrapped sequence_tag R)))))))
 
-abbrev pub WritesMembers : Mode → Version → List ℕ → ℕ → (List ℕ → Type 0) → (List ℕ → Type 0) → (List ℕ → Type 0) → List ℕ → Type 0
-WritesMembers m version text depth P Q R =
-    WritesWrapped m sequence_tag (WritesBoth (WritesInteger m (number_of version)) (WritesBoth (WritesText m generalized_time_tag text) (WritesBoth (WritesInteger m depth) (WritesBoth (WritesFlag m version)
+abbrev pub WritesMembers : Mode → ℕ → Version → List ℕ → ℕ → (List ℕ → Type 0) → (List ℕ → Type 0) → (List ℕ → Type 0) → List ℕ → Type 0
+WritesMembers m number version text depth P Q R =
+    WritesWrapped m sequence_tag (WritesBoth (WritesInteger m number) (WritesBoth (WritesText m generalized_time_tag text) (WritesBoth (WritesInteger m depth) (WritesBoth (WritesFlag m version)
     (WritesBoth (WritesWrapped m sequence_tag P) (WritesBoth (WritesWrapped m sequence_tag Q) (WritesWrapped m sequence_tag R)))))))
 
 -- A bundle, the moment being given by that text.
 abbrev pub AreBundle : List ℕ → BundleValue → Mode → Trees → Type 0
-AreBundle text b m = AreMembers b.version text b.depth (AreAll (λ l. AreLocator l m) b.locators) (AreAll (λ o. AreObject o m) b.objects) (AreAll (λ v. AreVerdict v m) b.verdicts)
+AreBundle text b m = AreMembers (number_of b.version) b.version text b.depth (AreAll (λ l. AreLocator l m) b.locators) (AreAll (λ o. AreObject o m) b.objects) (AreAll (λ v. AreVerdict v m) b.verdicts)
 
 abbrev pub WritesBundle : List ℕ → BundleValue → Mode → List ℕ → Type 0
-WritesBundle text b m = WritesMembers m b.version text b.depth (WritesAll (λ l. WritesLocator l m) b.locators) (WritesAll (λ o. WritesObject o m) b.objects) (WritesAll (λ v. WritesVerdict v m) b.verdicts)
+WritesBundle text b m = WritesMembers m (number_of b.version) b.version text b.depth (WritesAll (λ l. WritesLocator l m) b.locators) (WritesAll (λ o. WritesObject o m) b.objects) (WritesAll (λ v. WritesVerdict v m) b.verdicts)
 
 -- What is written of entries spells their values, and is always the same.
 pub pair_spelled : (m : Mode) (tag : TagValue) (a b : List ℕ) (text : List ℕ) → WritesPair m tag a b text → SpellsSome m (IsPair m tag a b) text

@@ -7,6 +7,7 @@ ghost use Rattle.std.specs.Prelude.{◌≡◌, IfOk, IfErr, OnOk};
 ghost use Rattle.rpki_bundle.specs.bcder_tree.declared.mode.Mode.TheVariants.{Der};
 ghost use Rattle.rpki_bundle.specs.bcder_tree.Tags.{IsTag};
 ghost use Rattle.rpki_bundle.specs.bcder_primitive.Writing.{HasLength, Wrote, CannotWrite, WriteRefused};
+ghost use Rattle.rpki_bundle.specs.Bundle.{number_of};
 ghost use Rattle.rpki_bundle.specs.Written.{AreMembers, IsPair, IsTriple, WritesMembers, WritesPair, WritesTriple};
 
 use crate::Version;
@@ -151,13 +152,13 @@ pub fn members_len<T: AsSlice<u8> + Drop, A: Values + Drop, B: Values + Drop, C:
 ) -> Result<usize, EncodeError>
     ensures len { IfOk result
         (HasLength
-        (WritesMembers Der version (T.items text) depth (A.writes locators Der) (B.writes objects Der)
+        (WritesMembers Der (number_of version) version (T.items text) depth (A.writes locators Der) (B.writes objects Der)
         (C.writes verdicts Der))) }
     ensures refused { IfErr result
         (CannotWrite
-        (AreMembers version (T.items text) depth (A.trees locators Der) (B.trees objects Der)
+        (AreMembers (number_of version) version (T.items text) depth (A.trees locators Der) (B.trees objects Der)
         (C.trees verdicts Der))
-        (WritesMembers Der version (T.items text) depth (A.writes locators Der) (B.writes objects Der)
+        (WritesMembers Der (number_of version) version (T.items text) depth (A.writes locators Der) (B.writes objects Der)
         (C.writes verdicts Der))) }
 {
     let tag = Tag::INTEGER;
@@ -212,13 +213,13 @@ pub fn write_members<
 ) -> Result<(), EncodeError>
     ensures written { OnOk result
         (Wrote
-        (WritesMembers Der version (T.items text) depth (A.writes locators Der) (B.writes objects Der)
+        (WritesMembers Der (number_of version) version (T.items text) depth (A.writes locators Der) (B.writes objects Der)
         (C.writes verdicts Der)) (W.contents target.old) (W.contents target.new)) }
     ensures refused { IfErr result
         (WriteRefused
-        (AreMembers version (T.items text) depth (A.trees locators Der) (B.trees objects Der)
+        (AreMembers (number_of version) version (T.items text) depth (A.trees locators Der) (B.trees objects Der)
         (C.trees verdicts Der))
-        (WritesMembers Der version (T.items text) depth (A.writes locators Der) (B.writes objects Der)
+        (WritesMembers Der (number_of version) version (T.items text) depth (A.writes locators Der) (B.writes objects Der)
         (C.writes verdicts Der)) (target.new ≡ target.old) (W.contents target.old)
         (W.contents target.new)) }
 {

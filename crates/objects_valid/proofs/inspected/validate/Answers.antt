@@ -54,4 +54,4 @@ returns-in-Ok-clause-memory g c =
     let o = c.args.signed in
     let r = c.verify_below-validated.result in
     spared_joined _ c.split-cert.result.1 r _ c.join.ensures
-    (spared_below v _ c.args.now c.args.issuer.now.holder o.cert c.split-cert.result.0 r c.in-Ok.ensures.same c.split-cert.ensures.cert c.verify_below-validated.ensures.verifies)
+    (spared_below _ _ v _ c.args.now c.args.issuer.now.holder o.cert c.split-cert.result.0 r c.in-Ok.ensures.same c.split-cert.ensures.cert c.verify_below-validated.ensures.verifies)

@@ -1,5 +1,5 @@
 -- The number of the version says whether a flag stands behind the depth.
-use Rattle.std.proofs.Common.{◌≡◌, ℕ, Bool, refl, sym, ap, ◌∙◌}
+use Rattle.std.proofs.Common.{◌≡◌, ℕ, Bool, true, sym, ap, ◌∙◌}
 use Rattle.rpki_bundle.specs.bcder_tree.declared.mode.Mode.{Mode}
 use Rattle.rpki_bundle.specs.bcder_tree.Tree.{Trees}
 use Rattle.rpki_bundle.specs.bcder_content.Contents.{ValuesLeft}
@@ -40,11 +40,11 @@ one_from {n} e m ts b p = at b.0 b.1 p.cases
 
 -- and by another number nothing can.
 none_from : {n : ℕ} → (n ≡ 0 → ⊥) → (n ≡ 1 → ⊥) → (m : Mode) (ts : Trees) (b : Version × Lists) → Flag m n (AreLists m) ts b → ⊥
-none_from {n} none no m ts b p = at b.0 b.1 p.cases
+none_from {n} apart other m ts b p = at b.0 b.1 p.cases
   where
     at : (v : Version) (x : Lists) → FlagCases m n (AreLists m) ts v x → ⊥
-    at version.Zero x c = none c.0
-    at (version.One relaxed) x c = no c.0
+    at version.Zero x c = apart c.0
+    at (version.One relaxed) x c = other c.0
 
 same_number : {n k : ℕ} (b : ℕ × (ℕ × (Version × Lists))) → n ≡ k → ◌≡◌ {A = BundleFields} (k, b) (n, b)
 same_number b e = ap (λ (z : ℕ). (z, b)) (sym e)

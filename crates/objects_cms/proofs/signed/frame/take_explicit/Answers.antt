@@ -9,7 +9,7 @@ pub returns-clause-reads : goal.returns-clause-reads
 returns-clause-reads g c = inside {P = IsOneSigned} (record { each = λ p q r h. h.0 }) c.take_constructed_if.ensures.ran
 
 pub returns-clause-octets : goal.returns-clause-octets
-returns-clause-octets g c = inside_took {P = SpellsOneSigned} (record { each = λ p q x h. h.1 }) c.take_constructed_if.ensures.ran
+returns-clause-octets g c = inside_took {P = SpellsOneSigned} (record { each = λ p q x h. h.1.0 }) c.take_constructed_if.ensures.ran
 
 pub returns-clause-memory : goal.returns-clause-memory
-returns-clause-memory g c = opened {P = BeginsData} _ _ c.take_constructed_if.result (record { each = λ p q r h. h.2 }) c.take_constructed_if.ensures.memory
+returns-clause-memory g c = opened {P = BeginsData} _ _ c.take_constructed_if.result (record { each = λ p q r h. h.1.1 }) c.take_constructed_if.ensures.memory

@@ -9,7 +9,7 @@ pub returns-clause-reads : goal.returns-clause-reads
 returns-clause-reads g c = inside {P = AreSigned} (record { each = λ p q r h. h.0 }) c.take_sequence.ensures.ran
 
 pub returns-clause-octets : goal.returns-clause-octets
-returns-clause-octets g c = inside_took {P = AreSignedOctets} (record { each = λ p q x h. h.1 }) c.take_sequence.ensures.ran
+returns-clause-octets g c = inside_took {P = AreSignedOctets} (record { each = λ p q x h. h.1.0 }) c.take_sequence.ensures.ran
 
 pub returns-clause-memory : goal.returns-clause-memory
-returns-clause-memory g c = opened {P = BeginsSigned} _ _ c.take_sequence.result (record { each = λ p q r h. h.2 }) c.take_sequence.ensures.memory
+returns-clause-memory g c = opened {P = BeginsSigned} _ _ c.take_sequence.result (record { each = λ p q r h. h.1.1 }) c.take_sequence.ensures.memory

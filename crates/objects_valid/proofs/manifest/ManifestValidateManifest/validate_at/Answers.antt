@@ -45,4 +45,4 @@ returns-clause-memory g c =
     let k = c.args.self in
     let r = c.validate_at-validated.result in
     spared_joined _ c.into_parts-signed.result.1 r _ c.join.ensures
-    (spared_alike (g.V.Verifier.says c.args.verifier.now) c.args.now c.args.issuer.now.holder.cert c.into_parts-signed.result.0 k.signed r c.into_parts-signed.ensures.signed c.validate_at-validated.ensures.memory)
+    (spared_alike _ _ (g.V.Verifier.says c.args.verifier.now) c.args.now c.args.issuer.now.holder.cert c.into_parts-signed.result.0 k.signed r c.into_parts-signed.ensures.signed c.validate_at-validated.ensures.memory)

@@ -62,5 +62,5 @@ returns-in-Ok-clause-memory g c =
     let o = c.args.self in
     let issuer = c.args.issuer.now.holder in
     let form = subst (λ (x : CertValue). Inspects d c.args.strict Ee x c.inspect_ee-form.result) c.cert.ensures (inspects_by d c.args.strict Ee c.cert.result.now c.inspect_ee-form.result c.inspect_ee-form.ensures.passed c.inspect_ee-form.ensures.refused) in
-    spared_accepted _ c.in-Ok.content c.in-Ok.holder c.ask-tested.result _ c.join_if.ensures
+    spared_accepted _ _ _ c.in-Ok.content c.in-Ok.holder c.ask-tested.result _ c.join_if.ensures
     (issued_signed (g.V.Verifier.says c.args.verifier.now) c.args.now issuer.cert (held_by issuer) o.cert (c.in-Ok.ensures.validates Ee form).0.issued)

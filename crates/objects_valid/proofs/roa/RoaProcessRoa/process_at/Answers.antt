@@ -77,5 +77,5 @@ returns-in-Ok-clause-memory g c =
     let k = c.args.self in
     let issuer = c.args.issuer.now.holder in
     let accepted = subst (λ (o : Object). AcceptsObject d v c.args.strict Ee c.args.now issuer o c.in-Ok.holder.holder) c.into_parts-signed.ensures.signed c.in-Ok.ensures.validates in
-    spared_accepted _ c.into_parts-signed.result.1 c.in-Ok.holder c.test-tested.result _ c.join_if.ensures
+    spared_accepted _ _ _ c.into_parts-signed.result.1 c.in-Ok.holder c.test-tested.result _ c.join_if.ensures
     (issued_signed v c.args.now issuer.cert (held_by issuer) k.signed.cert accepted.issued)

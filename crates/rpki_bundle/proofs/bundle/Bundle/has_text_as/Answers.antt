@@ -11,8 +11,8 @@ returns c =
     let b = with_lists v c.self.inside.moment c.self.inside.depth c.as_slice-names.result.now c.as_slice-uris.result.now c.as_slice-digests.result.now in
     let view = parts ∙ ap (λ (x : BundleValue). record x { version = v }) c.self.view_is in
     let lawful : IsLawful b = subst IsLawful (sym parts) (lawful_as_version v (text_lawful c.self.invariant.1)) in
-    let text = c.generalized.result in
-    let m = c.generalized.ensures in (
+    let text = c.generalized-moment.result in
+    let m = c.generalized-moment.ensures in (
       λ t. subst IsSpelled view (counted_spelled text b c.members_len.result m lawful c.members_len.ensures.len (sym c.is_ok.ensures.value ∙ t)),
       λ s. c.is_ok.ensures.value ∙ spelled_counted text b c.members_len.result m c.members_len.ensures.refused (subst IsSpelled (sym view) s),
     )

@@ -9,7 +9,7 @@ pub returns-in_err-parts-clause-memory : goal.returns-in_err-parts-clause-memory
 returns-in_err-parts-clause-memory g c = wants_on _ _ c.from_residual.ensures (λ b. b) c.in_err-parts.ensures.memory
 
 pub returns-clause-reads : goal.returns-clause-reads
-returns-clause-reads g c = object_agreed c.agreed.result c.in_ok-parts.ensures.octets c.agreed.ensures.gives c.agreed.ensures.same c.agreed.ensures.refused
+returns-clause-reads g c = object_agreed _ c.agreed.result c.in_ok-parts.ensures.octets c.agreed.ensures.gives c.agreed.ensures.same c.agreed.ensures.refused
 
 pub returns-clause-memory : goal.returns-clause-memory
 returns-clause-memory g c = never_wanted _ c.agreed.result c.agreed.ensures.no_memory
