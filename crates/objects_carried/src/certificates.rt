@@ -1,6 +1,6 @@
 //! The certificates that an object carries: one or more (RFC 5652 5.1).
 
-ghost use Rattle.std.specs.Prelude.{IfOk};
+ghost use Rattle.std.specs.Prelude.{◌≡◌, IfOk, OnErr, true};
 ghost use Rattle.bcder_content.specs.bcder_tree.Tags.{context};
 ghost use Rattle.bcder_content.specs.Exact.{ReadsAs};
 ghost use Rattle.bcder_content.specs.Grammar.{Inside};
@@ -57,6 +57,7 @@ pub fn take_certificates<S: Source>(
         (here S.rest cons.old) result (here S.rest cons.new) }
     ensures octets { IfOk result (λ v. TookOctets (λ v. v.items) SpellsCerts
         (here S.rest cons.old) v (here S.rest cons.new)) }
+    ensures failed { OnErr result ((here S.rest cons.new).failed ≡ true) }
 {
     cons.take_constructed_if(
         Tag::CTX_0,

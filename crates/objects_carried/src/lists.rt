@@ -1,6 +1,6 @@
 //! The revocation lists that an object carries: any number, or none (RFC 5652 5.1).
 
-ghost use Rattle.std.specs.Prelude.{IfOk, IfSome, Some};
+ghost use Rattle.std.specs.Prelude.{◌≡◌, IfOk, IfSome, OnErr, Some, true};
 ghost use Rattle.std.specs.Option.{option_map};
 ghost use Rattle.bcder_content.specs.bcder_tree.Tags.{context};
 ghost use Rattle.bcder_content.specs.Exact.{ReadsAs, ReadsOptAs};
@@ -28,6 +28,7 @@ fn take_octets<S: Source>(
         (here S.rest cons.old) result (here S.rest cons.new) }
     ensures octets { IfOk result (λ c. TookOctets octets_of AnyOctets
         (here S.rest cons.old) c (here S.rest cons.new)) }
+    ensures failed { OnErr result ((here S.rest cons.new).failed ≡ true) }
 {
     match cons.capture_all(alloc) {
         Ok(octets) => Ok(octets),
@@ -48,6 +49,7 @@ pub fn take_opt_lists<S: Source>(
         (here S.rest cons.old) result (here S.rest cons.new) }
     ensures octets { IfOk result (λ o. IfSome o (λ c. TookOctets octets_of SpellsAny
         (here S.rest cons.old) c (here S.rest cons.new))) }
+    ensures failed { OnErr result ((here S.rest cons.new).failed ≡ true) }
 {
     cons.take_opt_constructed_if(
         Tag::CTX_1,

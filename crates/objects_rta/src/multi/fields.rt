@@ -59,10 +59,10 @@ fn has_type(signer: &SignerInfo, content_type: &Oid) -> bool
 }
 
 // Whether that of each signer has.
-fn have_type(signers: &[SignerInfo], content_type: &Oid) -> bool
-    ensures { IsTrue result ↔ HaveType content_type.now.0 signers.now }
+fn have_type(signers: &Vec<SignerInfo>, content_type: &Oid) -> bool
+    ensures { IsTrue result ↔ HaveType content_type.now.0 signers.now.items }
 {
-    let mut rest = signers;
+    let mut rest = signers.as_slice();
     while let Some((signer, others)) = rest.split_first() {
         if !has_type(signer, content_type) {
             return false;
@@ -109,7 +109,7 @@ impl MultiFields {
         ensures failed { OnErr result ((here S.rest cons.new).failed ≡ true) }
     {
         let parts = take_frame(alloc, cons)?;
-        if !have_type(parts.3.as_slice(), &parts.0.0) {
+        if !have_type(&parts.3, &parts.0.0) {
             drop(parts);
             cons.fail();
             return Err((*cons).content_err(ContentError::from_static("another type")));

@@ -10,13 +10,13 @@ pub returns-then-not-have_type-clause-reads : goal.returns-then-not-have_type-cl
 returns-then-not-have_type-clause-reads g c =
     let p = c.in_ok-parts.parts in
     let t = of_parts (p.0, p.1.items, p.2, p.3.items) refl c.in_ok-parts.ensures.octets in
-    on_content _ (multi_refused t (λ crls kinds lists. said_no ? ? kinds))
+    on_content _ (multi_refused t (λ crls kinds lists. said_no c.have_type.ensures c.if-not-have_type.true kinds))
 
 pub returns-in-Ok-clause-reads : goal.returns-in-Ok-clause-reads
 returns-in-Ok-clause-reads g c =
     let p = c.in_ok-parts.parts in
     let t = of_parts (p.0, p.1.items, p.2, p.3.items) refl c.in_ok-parts.ensures.octets in
-    multi_gives t ? c.in-Ok.ensures c.from_parts.ensures
+    multi_gives t (c.have_type.ensures.0 c.if-not-have_type.false) c.in-Ok.ensures c.from_parts.ensures
 
 pub returns-in-Err-clause-reads : goal.returns-in-Err-clause-reads
 returns-in-Err-clause-reads g c =
