@@ -5,7 +5,7 @@ ghost use Rattle.objects.specs.bcder_tree.declared.mode.Mode.TheVariants.{Der};
 ghost use Rattle.objects.specs.certs_key.Digesting.{digests_of};
 ghost use Rattle.objects.specs.objects_payload.Manifests.{Manifest};
 ghost use Rattle.objects_built.specs.Builders.{IsBuilt, IsSigned};
-ghost use Rattle.objects_built.specs.Refusing.{BuildRefused, IsTooLong};
+ghost use Rattle.objects_built.specs.Refusing.{BuildRefused};
 ghost use Rattle.objects.specs.bcder_values.Writable.{Writable};
 ghost use Rattle.objects.specs.Refusing.{CanWrite, CannotSignContent};
 ghost use Rattle.objects.specs.Issued.{IsManifestFor, inheriting};

@@ -1,0 +1,7 @@
+use Rattle.objects.specs.objects_written.Roas.{roa}
+use Rattle.objects.proofs.Refused.{content_refused}
+use Rattle.objects.proofs.issued.roas.content_of.Goals as goal
+
+pub returns-in-Err-clause-refused : goal.returns-in-Err-clause-refused
+returns-in-Err-clause-refused g c =
+    content_refused _ (roa c.args.content.now) c.in-Err.error c.unwritten.result c.unwritten.ensures c.in-Err.ensures.memory c.in-Err.ensures.refused
