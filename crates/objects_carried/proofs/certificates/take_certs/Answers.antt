@@ -1,7 +1,6 @@
 use Rattle.std.proofs.Common.{rules, refl}
 use Rattle.bcder_content.proofs.Forests.{absent, there}
 use Rattle.bcder_content.proofs.InMode.{items_end, items_stop}
-use Rattle.bcder_content.proofs.Unique.{inside_tagged}
 use Rattle.objects_carried.proofs.Repeated.{cert_tagged, repeated_start, repeated_end, repeated_next, took_there}
 use Rattle.objects_carried.proofs.certificates.take_certs.Goals as goal
 
