@@ -1,5 +1,5 @@
 //! What a signed object with several signers carries beside its content (RFC 5652 5.1): certificates, one or more, and
-//! revocation lists, any number, each with the very octets that are signed. `objects_rta` reads the object around them.
+//! revocation lists, any number, each with the very octets that are signed.
 #![tactic(auto)]
 
 mod certificates;

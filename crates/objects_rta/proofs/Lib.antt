@@ -1,6 +1,0 @@
-mod Ones
-mod Spelled
-mod Whole
-mod Texts
-mod Meanings
-mod SignerFields
