@@ -8,7 +8,9 @@ import sys
 TOP = os.path.join(os.path.dirname(os.path.abspath(__file__)), os.pardir, os.pardir)
 sys.path.insert(0, os.path.join(TOP, "bench"))
 
-SECONDS = 60  # more than any run takes, on a machine with other work too
+# How many times as slow the programs are as proved ones; `tests/run` says so of those that are built without a proof.
+SLOWER = int(os.environ.get("TESTS_SLOWER", "1"))
+SECONDS = 60 * SLOWER  # more than any run takes, on a machine with other work too
 
 # Status, standard output and standard error.
 NOT_A_BUNDLE = (1, b"", b"not a bundle\n")

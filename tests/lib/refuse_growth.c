@@ -9,7 +9,8 @@
  * the program ends.
  *
  * SPARE is the right answer of a program that makes its answer word by word and leaves out a word that finds no memory. A
- * realloc of octets that begin as SPARE does grows that answer: it is given, isn't counted, and writes nothing.
+ * realloc of octets that begin as a part of SPARE does grows that answer: it is given, isn't counted, and writes nothing.
+ * SPARE_SIZES are numbers with commas between. The first malloc of each of these sizes is spared, too: it holds octets of the question.
  *
  * A growth is a call of malloc, calloc, realloc, memalign, aligned_alloc or posix_memalign. The C library's own
  * names for them (glibc) do the work.
@@ -49,21 +50,53 @@ static int is_refused(void)
     return refused;
 }
 
-void *malloc(size_t size)
-{
-    return is_refused() ? NULL : __libc_malloc(size);
-}
 
 void *calloc(size_t count, size_t size)
 {
     return is_refused() ? NULL : __libc_calloc(count, size);
 }
 
-/* Whether the octets there are the front of the answer: four of them, or all, where the answer has fewer. */
+/* How many octets of what grows are compared with the answer. */
+enum { TOLD = 4 };
+
+/* Whether the octets there are a part of the answer: four of them, or, where the answer has fewer, all. */
 static int is_answer(const void *old)
 {
     const char *spare = getenv("SPARE");
-    return old != NULL && spare != NULL && *spare != '\0' && strncmp(old, spare, 4) == 0;
+    if (old == NULL || spare == NULL || *spare == '\0')
+        return 0;
+    size_t size = strlen(spare), told = size < TOLD ? size : TOLD;
+    for (size_t at = 0; at + told <= size; at++)
+        if (memcmp(old, spare + at, told) == 0)
+            return 1;
+    return 0;
+}
+
+/* The sizes whose first malloc is still to be spared. */
+static size_t sizes[64];
+static size_t count = (size_t)-1;
+
+static int is_question(size_t size)
+{
+    if (count == (size_t)-1) {
+        const char *text = getenv("SPARE_SIZES");
+        for (count = 0; text != NULL && *text != '\0' && count < 64; count++) {
+            char *end;
+            sizes[count] = strtoul(text, &end, 10);
+            text = *end == ',' ? end + 1 : end;
+        }
+    }
+    for (size_t at = 0; at < count; at++)
+        if (sizes[at] == size) {
+            sizes[at] = 0;
+            return size != 0;
+        }
+    return 0;
+}
+
+void *malloc(size_t size)
+{
+    return !is_question(size) && is_refused() ? NULL : __libc_malloc(size);
 }
 
 void *realloc(void *old, size_t size)

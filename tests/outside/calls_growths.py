@@ -5,13 +5,14 @@
 
 Each PROGRAM is crates/NAME/out/NAME of a program of questions. A row of the table below names calls, and the stored questions that
 ask them; of `rpki_cases` walks, judges, reaches and points of four worked cases are asked, too, whose answers are those of the second
-reading (`rpki_model.py`). Some questions of each row are asked, one a run, with each growth of memory refused in turn, alone and with
-all that come after it (with --few, fewer questions, and each growth alone), by `refuse_growth.c`, which is preloaded.
+reading (`rpki_model.py`). Some questions of each kind of each row are asked, one a run, with each growth of memory refused in turn, alone
+and with all that come after it (with --few, one question of each kind, and each growth alone), by `refuse_growth.c`, which is preloaded.
 
 The answer has to be the right one, or a front of its words and then that memory is lacking, or that something is refused for lack of
-memory; or the program ends with that fault and no answer. A word of an answer that finds no memory is left out. So growths of the
-answer itself are spared, but for the first, which can't be told from others: where that one is refused, the first word goes, or the
-start of it. Where a program of questions tells less (it answers `unreadable`, whatever the error), that is taken for an answer.
+memory; or the program ends with that fault and no answer. A word of an answer that finds no memory is left out, and octets of a
+question that find none are taken for none. So growths of the answer itself and those that hold a question's octets are spared, but for
+the first of the answer's, and of its parts', which can't be told from others: where one of these is refused, a word goes, or its first
+sign. Where a program of questions tells less (it answers `unreadable`, whatever the error), that is taken for an answer.
 
 Prints the runs of each row, a line for each run that wasn't right, and `N passed, M failed`, a run being one test.
 """
@@ -34,113 +35,253 @@ from outcomes import TOP  # noqa: E402
 from refusals import compiled, refusals, run  # noqa: E402
 
 LONGEST = 9000  # octets of a question
-SPARED = 16  # octets of the answer that tell its own growth
+SPARED = 30_000  # octets of the answer that tell its own growth, at most
 FIXED = "invalid extension"
 OCTETS = re.compile(r"\bx[0-9a-f]+")
-MEMORY = re.compile(r"(.*?)\W*(?:out of |no )?memory", re.IGNORECASE)
+DIGITS = re.compile(r"([0-9a-f]{2})+")
+MORE = 4  # growths of a word whose first sign alone, or nothing, is told
+WORD = re.compile(r"[^][(),]+")  # (what stands in brackets is no word of an answer by itself)
+MEMORY = re.compile(r"(.*?)\W*(?:refused)?\W*(?:out of |no )?memory", re.IGNORECASE)
 # What programs of questions answer where something that they need first can't be read, whatever the error.
-UNTOLD = re.compile(r"no (certificate|chain|form|issuer|text)|unreadable( asked 0)?")
+UNTOLD = re.compile(r"no (anchor|authority|certificate|chain|form|issuer|text)|unreadable( asked 0)?|refused: no (AS resources|IP resources|family)")
 
 
 class Row(typing.NamedTuple):
     """A program, the first words of questions, the calls that they ask, how many questions are asked, and what else the program answers
-    where a growth is refused, as a pattern: how it says lack of memory, or that its own writer is full."""
+    where a growth is refused, as a pattern: how it says lack of memory, or that its own writer is full.
+
+    Of the words `*` is any, and `+` is any, too, and says what is asked: so many questions are asked of each. The calls are types with
+    their calls behind them, and functions, as `tests/tools/growing.py` reads them; what is named otherwise it passes over."""
 
     program: str
     words: str
     calls: str
-    most: int = 3
+    most: int = 2
     others: str = ""
+
+    def kind(self, words):
+        """What a question of these words asks, by the words at each `+`; none where it isn't of the row."""
+        pattern = self.words.split()
+        if len(words) < len(pattern) or any(want not in ("*", "+", word) for want, word in zip(pattern, words)):
+            return None
+        return tuple(word for want, word in zip(pattern, words) if want == "+")
 
 
 ROWS = (
-    # Integers, identifiers, strings, captured values.
-    Row("bcder_cases", "front", "Integer, Unsigned, u8 .. i128, bool, Null, Oid, BitString, OctetString, RestrictedString: take_from", 8),
-    Row("bcder_cases", "content", "Content, Constructed: take_.., skip_.., capture_..", 8),
-    Row("bcder_cases", "number", "Integer, Unsigned: take_from, encode"),
-    Row("bcder_cases", "integer", "Integer: from_slice, arithmetic of signs, print", 4),
-    Row("bcder_cases", "unsigned", "Unsigned: from_slice, TryFrom", 4),
-    Row("bcder_cases", "oid", "Oid, ConstOid: FromStr, Display, take_from", 4),
-    Row("bcder_cases", "bits", "BitString: new, take_from, skip, encode", 4),
-    Row("bcder_cases", "octets", "OctetString: take_from, into_bytes, iter, encode", 4),
-    Row("bcder_cases", "string", "RestrictedString: from_string, new, chars", 4),
-    Row("bcder_cases", "text", "character sets: next_char", 2),
-    Row("bcder_cases", "write", "Values: write_encoded, to_captured, CapturedBuilder::extend, with_capacity", 8),
-    Row("bcder_cases", "tagged", "values under another tag", 4),
-    Row("bcder_cases", "walks", "skip_one, capture_one", 4),
-    Row("bcder_cases", "skip", "skip_all, skip_opt", 3),
-    Row("bcder_cases", "source", "Source: request, bytes, advance of each source", 3),
+    # Values that are read, gone past, captured and written.
+    Row(
+        "bcder_cases",
+        "front * +",
+        "Constructed: take_primitive_if, take_bool, take_null, take_u8, take_u64, skip_one, capture_one; Primitive: to_i8, "
+        "to_i64, to_u128; Integer, Unsigned, Oid, BitString, OctetString, RestrictedString: take_from; Decode: decode",
+    ),
+    Row(
+        "bcder_cases",
+        "content * * +",
+        "Constructed: take_.., skip_.., capture_.., capture; Content: primitive, constructed; Primitive: to_u8, to_null, "
+        "skip_all, take_all; Captured: decode, decode_partial; read_front, request_all, take_front",
+    ),
+    Row("bcder_cases", "constructed +", "Constructed: decode", 1),
+    Row("bcder_cases", "walks +", "Constructed: skip_one, capture_one"),
+    Row("bcder_cases", "skip visits", "Constructed: skip", 2, r"\[.*\] true"),
+    Row("bcder_cases", "skip refused", "Constructed: skip"),
+    Row("bcder_cases", "tagged +", "Constructed: take_value, take_value_if; Content: to_.., skip_u8_if"),
+    Row(
+        "bcder_cases",
+        "source +",
+        "Source: request, bytes, skip, take_u8, take_opt_u8; LimitedSource: skip_all, take_all, exhausted; CaptureSource: "
+        "into_bytes; BytesSource: split_to; Primitive: to_bool, to_null, to_u16, to_u32, skip_u8_if, skip_all, take_all",
+        others="3  1",
+    ),
+    Row(
+        "bcder_cases",
+        "write * * +",
+        "Values, PrimitiveContent: encoded_len, write_encoded, write_known; CapturedBuilder: new, with_capacity, from_captured, "
+        "extend, freeze; total_encoded_len, write_header, write_octets",
+        others=r"(.* )?Err\(Write\) .*|Ok\(2\) Ok\(\(\)\) x(0400|8100)",
+    ),
+    # Integers, identifiers, strings.
+    Row(
+        "bcder_cases",
+        "number + *",
+        "Primitive: to_..; Integer: i8_from_primitive, i16_from_primitive, i32_from_primitive, i64_from_primitive, "
+        "i128_from_primitive, u8_from_primitive, u16_from_primitive, u32_from_primitive, u64_from_primitive, "
+        "u128_from_primitive; Unsigned: u8_from_primitive, u16_from_primitive, u32_from_primitive, u64_from_primitive, "
+        "u128_from_primitive",
+        4,
+    ),
+    Row("bcder_cases", "integer +", "Integer: from_primitive, from_..; Primitive: decode_slice", 3),
+    Row("bcder_cases", "integer from +", "Integer: from_.., each type"),
+    Row("bcder_cases", "unsigned +", "Unsigned: from_primitive, from_slice, from_bytes, from_..", 3),
+    Row("bcder_cases", "unsigned from +", "Unsigned: from_.., each type"),
+    Row(
+        "bcder_cases",
+        "oid +",
+        "Oid: take_from, take_opt_from, skip_in, skip_opt_in, skip_if, skip_primitive, from_primitive, from_str",
+        3,
+    ),
+    Row("bcder_cases", "bits +", "BitString: take_from, skip_in, from_content, octet_bytes", 3),
+    Row("bcder_cases", "octets +", "OctetString: take_from, take_opt_from, from_content, to_bytes", 3),
+    Row("bcder_cases", "string * +", "RestrictedString: take_from, take_opt_from, from_content, from_str, from_string, to_bytes"),
     # Sets of numbers.
-    Row("resources_cases", "as", "AsBlocks, AsResources: FromStr, union, intersection, difference, trim, verify_covered, decode, encode", 10),
-    Row("resources_cases", "v4", "IpBlocks, IPv4: the same", 10),
-    Row("resources_cases", "v6", "IpBlocks, IPv6: the same", 10),
-    Row("resources_cases", "ip", "IpResources: take_families_from, encode_families", 4),
-    Row("resources_cases", "all", "ResourceSet: FromStr, union, difference, serde of texts", 6),
-    Row("resources_cases", "call chain", "Chain, OwnedChain, SharedChain: new, from_iter, trim, union, difference", 8),
-    Row("resources_cases", "call as", "AsBlocks, SmallAsnSet: FromIterator, builders", 4),
-    Row("resources_cases", "call block", "IpBlock: FromStr, from_v4_str, from_v6_str", 3),
-    Row("resources_cases", "call range", "AddressRange: to_prefixes", 3),
-    Row("resources_cases", "call list", "lists of prefixes and origins", 3),
-    Row("resources_cases", "resources", "AsResourcesBuilder, IpResourcesBuilder: push, finalize", 6),
-    Row("resources_cases", "set", "ResourceSet, ResourceDiff: changes, texts", 6),
-    Row("resources_cases", "der", "values in DER one by one", 4),
+    Row(
+        "resources_cases",
+        "as +",
+        "AsBlocks: from_str, from_resources, union, intersection, difference, verify_issued, verify_covered, verify_path, "
+        "take_from, clone; AsResources: take_from, to_blocks, from_str; AsBlock, Asn: take_opt_from, skip_opt_in, skip_in; "
+        "Chain: trim",
+    ),
+    Row(
+        "resources_cases",
+        "v4 +",
+        "IpBlocks, of IPv4: from_str, from_resources, union, intersection, difference, verify_issued, verify_covered, "
+        "verify_path, clone; IpResources: to_blocks",
+    ),
+    Row("resources_cases", "v6 +", "IpBlocks, of IPv6: the same"),
+    Row(
+        "resources_cases",
+        "ip +",
+        "IpResources: take_families_from, take_from; IpBlocks: take_from; IpBlock, AddressRange, Prefix, AddressFamily: "
+        "take_from, take_opt_from, skip_opt_in",
+    ),
+    Row("resources_cases", "all +", "ResourceSet: from_strs, from_resources, to_as_resources, union, intersection, difference"),
+    Row("resources_cases", "call prefix +", "Prefix: from_v4_str, from_v6_str, from_family_str"),
+    Row("resources_cases", "call max +", "prefixes with a greatest length: from_str"),
+    Row("resources_cases", "call addr +", "Addr, Prefix: from_family_str, from_v4_str, from_v6_str"),
+    Row("resources_cases", "call range +", "AddressRange: from_v4_str, from_v6_str, from_family_str"),
+    Row("resources_cases", "call block +", "IpBlock: from_v4_str, from_v6_str, from_family_str"),
+    Row("resources_cases", "call asn +", "SmallAsnSet: new, from_iter, insert; OwnedChain: from_vec"),
+    Row("resources_cases", "call as +", "AsBlocks: all, from_iter, intersection_assign; AsBlocksBuilder: new, push, finalize"),
+    Row(
+        "resources_cases",
+        "call chain +",
+        "Chain: trim, difference, intersection, union; OwnedChain: empty, from_vec, from_iter; SharedChain: from_owned, "
+        "from_iter, verify_issued, verify_covered, verify_path, clone; ResourcesChoice: to_blocks",
+    ),
+    Row("resources_cases", "call family +", "FamilyBlocks: all, from_iter, from_str, to_ip_resources; IpBlocks: all"),
+    Row("resources_cases", "call list +", "orders of lists, places in chains"),
+    Row(
+        "resources_cases",
+        "resources +",
+        "AsResourcesBuilder, IpResourcesBuilder: blocks, finalize; AsBlocks, IpBlocks: all, from_iter, from_resources, "
+        "intersection_assign; IpBlocksBuilder: new, push, finalize",
+        # (what is outside is told where the claim is refused for it alone)
+        others="false",
+    ),
+    Row(
+        "resources_cases",
+        "set +",
+        "ResourceSet: all, to_as_resources, to_ip_resources_v4, to_ip_resources_v6, from_strs; AsBlocks, FamilyBlocks: "
+        "check_str",
+    ),
+    Row(
+        "resources_cases",
+        "der +",
+        "Asn: take_from, take_opt_from, skip_in; AsBlock: take_opt_from, skip_opt_in; AsBlocks, AsResources, IpBlocks, "
+        "IpResources: take_from; IpResources: take_families_from; AddressFamily: take_from, take_opt_from, skip_opt_in; "
+        "AddressRange, Prefix: take_from, take_opt_from; IpBlock: take_opt_from",
+    ),
     # Names, keys, moments, algorithms.
-    Row("objects_cases", "uri", "Rsync, Https: from_bytes, from_str, join, parent, path_into_dir", 6),
-    Row("objects_cases", "access", "Sia, CrlUris: URIs of each general name", 4),
-    Row("objects_cases", "name", "Name: take_from, encode, from_pub_key", 6),
-    Row("objects_cases", "serial", "Serial: take_from, from_slice, FromStr", 4),
-    Row("objects_cases", "time", "Time, Validity: take_from, encode", 4),
-    Row("objects_cases", "key", "PublicKey, KeyIdentifier: decode, take_from, encode_ref, clone", 8),
-    Row("objects_cases", "signed", "SignedData: decode, take_from; signature and digest algorithms", 6),
+    Row(
+        "objects_cases",
+        "uri + +",
+        "Rsync: from_bytes, from_slice, join, parent, lookup_key; Https: from_bytes, from_slice, lookup_key; lookup_key",
+    ),
+    Row("objects_cases", "access +", "the URIs of each general name", 3),
+    Row("objects_cases", "name +", "Name: take_from, from_key_identifier", 3),
+    Row("objects_cases", "serial +", "Serial: take_from, from_primitive, from_slice", 3),
+    Row("objects_cases", "time +", "Time: take_from, take_generalized_from; Validity: take_from; Verify: verify_validity", 3),
+    Row("objects_cases", "key +", "PublicKey: decode, take_from, to_subject_name, clone; KeyIdentifier: take_from, from_content", 4),
+    Row(
+        "objects_cases",
+        "signed +",
+        "SignedData: decode, take_from, from_constructed; SignatureAlgorithm: x509_take_from; RpkiSignatureAlgorithm: "
+        "cms_take_from; DigestAlgorithm: take_from, take_opt_from, take_set_from; Signature: into_value",
+        3,
+    ),
     # Certificates.
-    Row("objects_cases", "cert read", "Cert: decode, take_from, clone, encode", 4),
-    Row("objects_cases", "cert within", "Cert: take_from among other values", 2),
-    Row("objects_cases", "cert inspect", "Cert: inspect_ta, inspect_ca, inspect_ee, inspect_detached_ee, inspect_router", 5),
-    Row("objects_cases", "cert anchor", "Cert: validate_ta, verify_ta", 3),
-    Row("objects_cases", "cert issued", "Cert: validate_ca, validate_ee, validate_detached_ee, validate_router, verify_..", 6),
-    Row("objects_cases", "cert built", "TbsCert: new, build_v4_resource_blocks, build_v6_.., build_as_.., set_.., into_cert", 12),
+    Row("objects_cases", "cert read +", "Cert: decode, to_captured, clone", 4),
+    Row("objects_cases", "cert within +", "Cert: take_from, take_opt_from, from_constructed; TbsCert: from_constructed"),
+    Row("objects_cases", "cert inspect +", "each inspect_.."),
+    Row("objects_cases", "cert anchor +", "Validate: validate_ta_at, validate_ta; Verify: verify_ta_at, verify_ta; TalInfo: into_rc"),
+    Row(
+        "objects_cases",
+        "cert issued * +",
+        "Validate: validate_ca_at, validate_ca, validate_ee_at, validate_ee, validate_detached_ee_at, validate_detached_ee, "
+        "validate_router_at, validate_router; Verify: verify_..",
+    ),
+    Row(
+        "objects_cases",
+        "cert built +",
+        "TbsCert: new, build_.., v4_resources_from_iter, v6_resources_from_iter, as_resources_from_iter, clone; "
+        "ExtendedKeyUsage: create_router, take_from; BuildCert: into_cert; Signer: get_key_info, sign, sign_one_off",
+        8,
+    ),
     # Revocation lists.
-    Row("objects_cases", "crl", "Crl: decode, take_from, cache_serials, contains, validate, clone", 8),
-    Row("objects_cases", "store", "CrlStore: push, get, clone, enable_serial_caching", 4),
-    Row("objects_cases", "entry", "CrlEntry: take_from, take_opt_from, encode", 3),
-    Row("objects_cases", "listed", "RevokedCertificates: take_from, from_iter, iter, contains, clone", 5),
-    Row("objects_cases", "made", "TbsCertList: new, set_.., into_crl, encode", 8),
-    Row("objects_cases", "within", "Crl, TbsCertList: take_from among other values, clone", 5),
+    Row(
+        "objects_cases",
+        "crl +",
+        "Crl: decode, cache_serials, verify_issuer_claim, to_captured, clone; SerialCache: new; RevokedCertificates: serials; "
+        "InvalidExtension: to_content_error",
+        4,
+    ),
+    Row("objects_cases", "store +", "CrlStore: new, push, clone"),
+    Row("objects_cases", "entry +", "CrlEntry: take_from, take_opt_from, from_constructed", 3),
+    Row("objects_cases", "listed +", "RevokedCertificates: take_from, take_opt_from, from_entries, clone", 3),
+    Row("objects_cases", "made +", "TbsCertList: into_crl, clone; RevokedCertificates: from_entries; Signer: sign", 3),
+    Row("objects_cases", "made set +", "TbsCertList: each set_..", 1),
+    Row("objects_cases", "within +", "Crl: take_from, take_opt_from, from_constructed, clone; TbsCertList: take_from", 3),
     # Signed objects, contents, locators.
-    Row("objects_cases", "object strict", "SignedObject: decode", 3),
-    Row("objects_cases", "object relaxed", "SignedObject: decode, BER", 3),
-    Row("objects_cases", "again", "SignedObject: to_captured, encode_ref", 4),
-    Row("objects_cases", "attributes", "SignedAttrs: encode_verify, digest", 2),
-    Row("objects_cases", "message", "SignedAttrs: take_from", 1),
-    Row("objects_cases", "content", "SignedObject: decode_content", 2),
-    Row("objects_cases", "manifest", "ManifestContent: take_from", 4),
-    Row("objects_cases", "roa", "RouteOriginAttestation: take_from", 3),
-    Row("objects_cases", "aspa", "AsProviderAttestation: take_from", 3),
-    Row("objects_cases", "uris", "ManifestContent: iter_uris", 3),
-    Row("objects_cases", "make", "ManifestContent: new, encode_ref", 3),
-    Row("objects_cases", "addresses", "RoaIpAddresses: encode_ref", 2),
-    Row("objects_cases", "locator", "Tal: read, read_named", 5),
-    Row("objects_cases", "built build", "SignedObjectBuilder: new, build_v4_resource_blocks, build_v6_.., build_as_.., finalize", 4),
-    Row("objects_cases", "built roa", "RoaBuilder: push_v4, push_v6, push_addr, finalize; RoaIpAddressesBuilder", 4),
-    Row("objects_cases", "built manifest", "ManifestContent: into_manifest", 2),
-    Row("objects_cases", "built aspa", "AspaBuilder: new, add_provider, finalize", 3),
-    Row("objects_cases", "built providers", "ProviderAsSet, AspaBuilder: add_provider, from_iter", 3),
+    Row(
+        "objects_cases",
+        "object strict +",
+        "SignedObject: decode, take_from; SignerInfo, SignedAttrs: take_from, from_constructed; EncodeAttributes: "
+        "message_digest",
+    ),
+    Row("objects_cases", "object relaxed +", "the same, in BER"),
+    Row("objects_cases", "again strict +", "EncodeObject: to_captured, encode_ref"),
+    Row("objects_cases", "again relaxed +", "the same, in BER"),
+    Row("objects_cases", "attributes +", "EncodeAttributes: encode_ref, encode_verify, message_digest"),
+    Row("objects_cases", "message", "EncodeAttributes: take_from_signed_message; SignedAttrs: take_from"),
+    Row("objects_cases", "content +", "DecodeContent: decode_content"),
+    Row("objects_cases", "manifest +", "ManifestContent: take_from, decode; FileList: take_from", 4),
+    Row("objects_cases", "roa", "RouteOriginAttestation: take_from, decode; RoaIpAddresses: take_from; RoaIpAddress: take_opt_from", 4),
+    Row("objects_cases", "aspa", "AsProviderAttestation: take_from, decode, as_resources; ProviderAsSet: take_from, to_set", 4),
+    Row("objects_cases", "uris", "ManifestFiles: iter_uris", 3),
+    Row("objects_cases", "make", "ManifestBuilder: new, push, to_content", 3),
+    Row("objects_cases", "addresses", "RoaIpAddresses: encode_ref", 3),
+    Row("objects_cases", "locator +", "Tal: read_named, from_text; TalUri: from_bytes, from_string, from_slice", 4),
+    # Objects that are built.
+    Row(
+        "objects_cases",
+        "built +",
+        "SignedObjectBuilder: finalize, build_..; RoaBuilder: new, push_.., extend_v4_from_slice, extend_v6_from_slice, "
+        "to_attestation; RoaIpAddresses: empty; RoaIpAddressesBuilder: new, push, push_addr, extend_from_slice, to_addresses; "
+        "ToIpResources: to_resources; FinalizeRoa: finalize; IntoManifest: into_manifest; AspaBuilder: empty, add_provider, "
+        "as_resources, finalize, to_octets; Signer: get_key_info, sign_one_off; signed_attributes, signed_message",
+        4,
+    ),
     # Bundles, points, validated objects.
-    Row("rpki_cases", "decode", "Bundle: decode", 3),
+    Row("rpki_cases", "decode", "Bundle: decode, decode_shared", 3),
     Row("rpki_cases", "again", "Bundle: decode, encode", 3),
-    Row("rpki_cases", "parts", "Bundle: new, push_..", 3),
-    Row("rpki_cases", "manifest", "Manifest: validate, process", 2),
-    Row("rpki_cases", "roa", "Roa: process", 2),
-    Row("rpki_cases", "aspa", "Aspa: process", 2),
-    Row("rpki_cases", "object", "SignedObject: validate, process", 2),
-    Row("rpki_cases", "written", "contents written again in each mode", 3),
-    Row("rpki_cases", "ask", "rpki_ask: ask", 3, r"2 \[\] \[(out of memory|write fault)\|\]"),
+    Row("rpki_cases", "parts", "Bundle: from_parts, from_parts_v1", 4),
+    Row("rpki_cases", "upgrade +", "Bundle: upgrade"),
+    Row("rpki_cases", "uri", "lookup_key", 2),
+    Row("rpki_cases", "manifest +", "ValidateManifest: validate_at, validate; Manifest: decode, verify_content"),
+    Row("rpki_cases", "roa +", "ProcessRoa: process_at, process; Roa: decode, verify_content"),
+    Row("rpki_cases", "aspa +", "ProcessAspa: process_at, process; Aspa: decode, verify_content"),
+    Row("rpki_cases", "object +", "ProcessObject: validate_at, validate_detached_at, process_at, validate, validate_detached, process"),
+    Row("rpki_cases", "sound +", "verify_content; SignedObject: verify_content"),
+    Row("rpki_cases", "typed +", "DecodeIfType: decode_if_type"),
+    Row("rpki_cases", "written +", "EncodeManifest, EncodeRoa: to_octets", 3),
+    Row("rpki_cases", "ask +", "judge, reach, naming_chains, point, through rpki_ask", 2, r"2 \[\] \[(out of memory|write fault)\|\]"),
     # (what asks these is made below)
-    Row("rpki_cases", "walk", "walk", 1, "write fault "),
-    Row("rpki_cases", "witnesses", "walk", 1),
-    Row("rpki_cases", "judge", "judge", 1),
-    Row("rpki_cases", "reach", "reach", 1),
-    Row("rpki_cases", "point", "point", 1),
+    Row("rpki_cases", "walk", "walk, run, read_bundle, render; Report, Path: new, longer", 4, "write fault "),
+    Row("rpki_cases", "witnesses", "walk; Report: new", 4),
+    Row("rpki_cases", "judge", "judge, judge_by", 4),
+    Row("rpki_cases", "reach", "reach", 4),
+    Row("rpki_cases", "point", "point", 4),
+    Row("rpki_cases", "unheld", "point_unheld", 4),
 )
 
 CASES = {
@@ -155,7 +296,8 @@ CASES = {
 
 
 def of_cases(few):
-    """Walks, witnesses, judges of each witness, reaches of each object, or of a few, and points of each chain, of the worked cases."""
+    """Walks, witnesses, judges of each witness, reaches of each object, or of a few, and points of each chain, by what it holds and
+    whatever that is, of the worked cases."""
     import rpki_points
 
     for make in CASES.values():
@@ -171,8 +313,8 @@ def of_cases(few):
         for uri in sorted(found.held)[:: 4 if few else 1]:
             yield "reach", ("reach", uri.decode(), octets.hex()), rpki_walks.reach_text(found.reach([uri]))
         for words, answer, (topic, _) in rpki_points.asked(octets):
-            if topic == "point":
-                yield "point", tuple(word.decode() if isinstance(word, bytes) else word for word in words), answer
+            if topic in ("point", "unheld"):
+                yield topic, tuple(word.decode() if isinstance(word, bytes) else word for word in words), answer
 
 
 def stored(name):
@@ -199,13 +341,14 @@ def spread(found, most):
 def questions(name, few):
     """By row the questions that are asked, with their answers."""
     rows = [row for row in ROWS if row.program == name]
-    found = collections.defaultdict(dict)
+    found = {row: collections.defaultdict(dict) for row in rows}
     for question, answer in stored(name):
-        words = question.replace("\t", " ") + " "
+        words = question.split("\t")
         for row in rows:
-            if words.startswith(row.words + " "):
-                found[row].setdefault(answer, question)
-    asked = {row: spread(found[row], max(1, row.most // 2) if few else row.most) for row in rows}
+            kind = row.kind(words)
+            if kind is not None:
+                found[row][kind].setdefault(answer, question)
+    asked = {row: [it for kind in found[row].values() for it in spread(kind, 1 if few else row.most)] for row in rows}
     if name == "rpki_cases":
         for topic, words, answer in of_cases(few):
             row = next(row for row in rows if row.words == topic)
@@ -227,22 +370,28 @@ def is_right(outcome, answer, others):
     if UNTOLD.fullmatch(line) or (others and re.fullmatch(others, line)):
         return True
     front = MEMORY.match(line)
-    return front is not None and (front[1] == "refused" or answer.startswith(front[1]))
+    return front is not None and answer.startswith(front[1])
 
 
-def is_rear(outcome, answer):
-    """Whether the first word alone is left out, or the start of it."""
+def is_short(outcome, answer):
+    """Whether a word of the answer is left out, or its first sign, or the start of the first word."""
     status, told, _ = outcome
-    return status == 0 and answer.endswith(told.decode(errors="replace").strip())
+    line = told.decode(errors="replace").removesuffix("\n")
+    if status != 0:
+        return False
+    words = answer.split(" ")
+    fewer = (" ".join(words[:at] + lost + words[at + 1 :]) for at, word in enumerate(words) for lost in ([], [""], [word[1:]]) if WORD.fullmatch(word))
+    return answer.endswith(line.strip()) or line in fewer
 
 
 def try_question(program, shim, question, answer, others, few):
     """How many runs there were, and the ones that weren't right."""
-    octets, spare = f"{question}\n".encode(), {"SPARE": answer[:SPARED]}
+    sizes = ",".join(str(len(word) // 2) for word in question.split("\t") if DIGITS.fullmatch(word))
+    octets, spare = f"{question}\n".encode(), {"SPARE": answer[:SPARED], "SPARE_SIZES": sizes}
     outcome, growths = run(program, shim, [], octets, spare)
     if outcome != (0, f"{answer}\n".encode(), b""):
         return 1, [("nothing refused", outcome)]
-    runs, wrong, rears = 1, [], collections.Counter()
+    runs, wrong, shorts = 1, [], collections.Counter()
     for refusal, _ in refusals(len(growths)):
         way = next(iter(refusal))
         if few and way != "REFUSE_AT":
@@ -250,9 +399,9 @@ def try_question(program, shim, question, answer, others, few):
         runs += 1
         outcome, _ = run(program, shim, [], octets, {**spare, **refusal})
         if not is_right(outcome, answer, others):
-            rears[way] += is_rear(outcome, answer)
+            shorts[way] += is_short(outcome, answer)
             # (after that growth all that come later may be refused, too)
-            if not is_rear(outcome, answer) or (way == "REFUSE_AT" and rears[way] > 1):
+            if not is_short(outcome, answer) or (way == "REFUSE_AT" and shorts[way] > len(answer.split(" ")) + MORE):
                 wrong.append((refusal, outcome))
     return runs, wrong
 

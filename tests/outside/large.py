@@ -1,13 +1,13 @@
 #!/usr/bin/env python3
 """Asks the built programs about long chains, many URIs and large bundles.
 
-    large.py RPKI_CHECK RPKI_ASK [--huge]
+    large.py RPKI_CHECK RPKI_ASK [--small | --huge]
 
 Chains of 1, 2, 31, 32 and 33 certificates stand below a locator, each authority with an origin of its own, in bundles of depth 1, 31
 and 32: printed is what the first ones attest, as many as the depth allows, and that the next certificate is refused. Each good
 object is judged by its chain, and the one below the longest chain by a chain that is longer than the depth. 70 URIs of 70
 authorities are asked what they reach, together; and once 69 that nobody names, with one that is named. Bundles have some octets in
-large files that manifests list: 17 MB, and with --huge 64 and 200 MB. All answers are stated here.
+large files that manifests list: 17 MB, with --huge 64 and 200 MB, too, and with --small 2 MB. All answers are stated here.
 
 Prints a line for each answer that isn't right, and `N passed, M failed`; exits with 1 where one failed.
 """
@@ -22,9 +22,10 @@ import time
 sys.dont_write_bytecode = True
 sys.path.insert(0, os.path.join(os.path.dirname(os.path.abspath(__file__)), os.pardir, "lib"))
 
+from outcomes import SLOWER  # noqa: E402
 from rpki_repositories import HOST, World, roa  # noqa: E402
 
-SECONDS = 300
+SECONDS = 120 * SLOWER
 MEGABYTE = 1_000_000
 FIRST_AS = 64496
 MANY = 70
@@ -167,12 +168,13 @@ def main():
     parser = argparse.ArgumentParser(description=__doc__, formatter_class=argparse.RawDescriptionHelpFormatter)
     parser.add_argument("check")
     parser.add_argument("ask")
-    parser.add_argument("--huge", action="store_true")
+    parser.add_argument("--huge", action="store_const", dest="sizes", const=(17, 64, 200), default=(17,))
+    parser.add_argument("--small", action="store_const", dest="sizes", const=(2,))
     given = parser.parse_args()
     check, ask, tests = os.path.abspath(given.check), os.path.abspath(given.ask), Tests()
     chains(tests, check, ask)
     many(tests, ask)
-    bundles(tests, check, (17, 64, 200) if given.huge else (17,))
+    bundles(tests, check, given.sizes)
     print(f"{tests.passed} passed, {tests.failed} failed")
     sys.exit(1 if tests.failed else 0)
 

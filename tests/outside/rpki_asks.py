@@ -18,6 +18,7 @@ sys.dont_write_bytecode = True
 sys.path.insert(0, str(pathlib.Path(__file__).resolve().parents[1] / "lib"))
 
 import rpki_model  # noqa: E402
+from outcomes import SECONDS  # noqa: E402
 from rpki_chance import bundle_by_chance, long_bundle  # noqa: E402
 from rpki_facts import fact_object, fact_rows  # noqa: E402
 from rpki_walks import run_text, worked_cases  # noqa: E402
@@ -27,7 +28,7 @@ LONG = 4  # of so many seeds one has a bundle with long chains, too
 
 
 def ask(program, octets, *words):
-    done = subprocess.run([program, *words], input=octets, capture_output=True, timeout=60)
+    done = subprocess.run([program, *words], input=octets, capture_output=True, timeout=SECONDS)
     return done.returncode, done.stdout.decode(), done.stderr.decode()
 
 

@@ -19,6 +19,7 @@ sys.dont_write_bytecode = True
 sys.path.insert(0, str(pathlib.Path(__file__).resolve().parents[1] / "lib"))
 
 import rpki_model  # noqa: E402
+from outcomes import SECONDS  # noqa: E402
 from rpki_chance import bundle_by_chance, long_bundle, relaxed_bundle  # noqa: E402
 
 
@@ -33,11 +34,19 @@ def compare(program, seeds, bundle_of):
     """The seeds whose bundles are answered in different ways."""
     for seed in seeds:
         octets = bundle_of(seed)
-        done = subprocess.run([program, "check"], input=octets, capture_output=True, timeout=60)
-        said, right = (done.returncode, done.stdout, done.stderr), wanted(octets)
+        said, right = answer(program, octets), wanted(octets)
         if said != right:
-            print(f"seed {seed}: {said}\n  in place of {right}")
+            print(f"seed {seed}: {said}\n  in place of {right}", flush=True)
             yield seed
+
+
+def answer(program, octets):
+    """What a run on a bundle comes to."""
+    try:
+        done = subprocess.run([program, "check"], input=octets, capture_output=True, timeout=SECONDS)
+    except subprocess.TimeoutExpired:
+        return None, b"", f"it hadn't ended after {SECONDS} seconds".encode()
+    return done.returncode, done.stdout, done.stderr
 
 
 def kinds(seeds, bundle_of):

@@ -348,7 +348,7 @@ def roas(q):
     for width, kind in ((32, 1), (128, 2)):
         for size in range(width + 9):
             octets = ((2**size - 1) << -size % 8).to_bytes((size + 7) // 8, "big")
-            for greatest in {None, size, size - 1, width, width + 1}:
+            for greatest in dict.fromkeys((None, size - 1, size, width, width + 1)):
                 if greatest is None or greatest >= 0:
                     ask(q, "roa", roa(1, family(kind, address(octets, -size % 8, greatest))))
     for octets, unused in ((b"\xc0\0\3", 1), (b"\xff", 7), (b"\xff", 8), (b"", 1), (b"", 0), (b"\0", 0), (b"\x80", 7), (b"\xff", 0)):

@@ -722,6 +722,7 @@ def looked_up(q):
             is_had = any(is_in(wide_run(text), run) for run in runs)
             q.ask([is_had] * 3, "list", "within", set_, text)
     thousand(q)
+    halved(q)
 
 
 def thousand(q):
@@ -730,6 +731,19 @@ def thousand(q):
     for number in (0, 1, 2, 998, 999, 1000, 1001, 1996, 1997, 1998, 1999, LAST):
         is_even = number < 2000 and number % 2 == 0
         q.ask([number // 2 if is_even else None, True, is_even], "list", "chain", chain, asn(number))
+
+
+def halved(q):
+    """Rows of 2^n - 1 multiples of three. The first look is at the one in the middle, with 2^(n - 1) - 1 on each side; so the one in
+    place k takes as many looks fewer than n as k + 1 is divisible by 2, and any other number takes n."""
+    for digits in (0, 1, 2, 3, 4, 16, 32):
+        size = 2**digits - 1
+        places = set(range(min(size, 15))) | {place for place in (size // 2, size - 2, size - 1) if 0 <= place < size}
+        for place in sorted(places):
+            q.ask([place, digits - ((place + 1) & -(place + 1)).bit_length() + 1], "list", "row", str(size), str(3 * place))
+            q.ask([None, digits], "list", "row", str(size), str(3 * place + 1 + place % 2))
+        for number in (3 * size, 2**64 - 1):
+            q.ask([None, digits], "list", "row", str(size), str(number))
 
 
 def main():

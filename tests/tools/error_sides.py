@@ -3,7 +3,7 @@
 
     error_sides.py [--list] [--prune] [--follow WORD]
 
-Calls are those of the libraries that answer a `Result`, and errors are told apart by the variants that their type's declaration
+Calls are those of the libraries that answer a `Result` and that other crates can name, and errors are told apart by the variants that their type's declaration
 has; where a variant holds an error type of these libraries, by that type's. A clause counts where it still says something once
 such an error stands in place of `result` and the definitions that it cites are followed (`tests/lib/clauses.py`). So what holds
 in any case doesn't count, and neither does what tells of an argument alone what is left of it: that a content is failed, or
@@ -18,20 +18,22 @@ in their name are printed, and what is left of each clause.
 import argparse
 import collections
 import fnmatch
+import functools
 import pathlib
 import re
 import sys
 
 TOP = pathlib.Path(__file__).resolve().parents[2]
-sys.path.insert(0, str(TOP / "tests/lib"))
+sys.path[:0] = [str(TOP / "tests/lib"), str(TOP / "tests/tools")]
 
+import calling
 from calls import GROWTHS, calls_of, errors_of, split_list
 from clauses import FALSE, SAYS, Any, Con, Definitions, Fields, Follower, Module, read_definitions, read_imports
 from terms import parse
 
 REASONS = pathlib.Path(__file__).with_suffix(".tsv")
 # The words with which a reason begins.
-WORDS = ("handed in", "told otherwise", "open")
+WORDS = ("handed in", "told otherwise", "tested", "open")
 # Programs of questions, examples, and what they share.
 OTHERS = re.compile(r"\w+_cases|\w+_calls|certs_roles|answers|example_\w+|\w+_example|rpki_ask|rpki_check")
 
@@ -49,13 +51,20 @@ class Libraries:
         traits = set(re.findall(r"\bpub trait (\w+)", every))
         self.texts = texts
         self.of_crate = {name: [(path, text) for path, text in texts.items() if self.crate_of(path) == name] for name in self.crates}
-        self.calls = [it for path, text in texts.items() for it in calls_of(self.crate_of(path), path, text, traits)]
+        calls = (it for path, text in texts.items() for it in calls_of(self.crate_of(path), path, text, traits))
+        self.calls = [it for it in calls if (it.owner or it.name) not in self.hidden(it.crate)]
         self.errors = collections.defaultdict(list)
         for path, text in texts.items():
             for it in errors_of(self.crate_of(path), path, text):
                 self.errors[it.name].append(it)
         everywhere = [it.name for it in (TOP / "crates").iterdir()]
         self.follower = Follower(Definitions(list(self.definitions()), everywhere))
+
+    @functools.cache
+    def hidden(self, crate):
+        """What a crate declares and no path from its root names: other crates can't call it."""
+        declared = {name for module in calling.modules_of(crate) for name in module.items}
+        return declared - {key[2] for key in calling.public_items(crate) if key[0] == crate}
 
     def crate_of(self, path):
         return path.relative_to(TOP / "crates").parts[0]

@@ -16,6 +16,7 @@ mod hashes;
 mod lookups;
 mod prefixes;
 mod ranges;
+mod rows;
 
 use answers::{Answer, unknown};
 use anyhow::Result;

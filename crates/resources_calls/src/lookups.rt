@@ -1,6 +1,7 @@
 //! Orders of lists, prefixes that know their family, and what sets have.
 
 use crate::chains::owned;
+use crate::rows;
 use answers::{Answer, unknown, word_at};
 use anyhow::Result;
 use resources::addr::Prefix;
@@ -76,6 +77,10 @@ pub fn answer(alloc: Global, answer: &mut Answer, words: &[&str]) -> Result<()> 
         "chain" => in_chain(alloc, answer, one, other),
         "widened" => widened(answer, one),
         "within" => within(alloc, answer, one, other),
+        "row" => {
+            rows::find(answer, one.parse::<u32>()?, other.parse::<u64>()?);
+            Ok(())
+        }
         _ => unknown(),
     }
 }

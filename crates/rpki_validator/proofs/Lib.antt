@@ -2,6 +2,7 @@ mod Pieces
 pub mod Ends
 mod Forging
 mod Judging
+mod Relaxing
 pub mod of_bcder_tree
 pub mod of_certs_basics
 pub mod of_rpki_bundle

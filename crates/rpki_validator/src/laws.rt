@@ -2,8 +2,10 @@
 
 ghost use Rattle.rpki_validator.specs.Forging.{ForgingStaysInside, UntouchedStays, LocatorLinesStay, RefusalLinesStay};
 ghost use Rattle.rpki_validator.specs.Judging.{JudgingAgreesWithWalking};
+ghost use Rattle.rpki_rules.specs.Versions.{RelaxedKeeps};
 
 pub use rpki_bundle::laws::bundle_length;
+pub use rpki_rules::laws::upgrade_stays;
 pub use rpki_steps::climb::laws::{
     cut_down_keeps, deeper_keeps, verdict_removal, what_is_attested_is_listed,
 };
@@ -42,4 +44,9 @@ pub fn refusal_lines_stay()
 /// A judge says yes exactly to the witnesses that a walk lists.
 pub fn judging_agrees_with_walking()
     ensures { JudgingAgreesWithWalking }
+{}
+
+/// Relaxed, a bundle of version 1 attests all that it attests not relaxed.
+pub fn relaxed_keeps()
+    ensures { RelaxedKeeps }
 {}
