@@ -12,6 +12,7 @@ pub use Rattle.objects_built.specs as objects_built
 pub use Rattle.objects_payload.specs as objects_payload
 pub use Rattle.objects_written.specs as objects_written
 pub use Rattle.objects_cms.specs as objects_cms
+pub use Rattle.objects_rsc.specs as objects_rsc
 pub use Rattle.objects_valid.specs as objects_valid
 pub use Rattle.objects_built.specs.bcder_tree as bcder_tree
 pub use Rattle.objects_built.specs.bcder_content as bcder_content

@@ -1,6 +1,6 @@
 //! Signed objects that were read, written again (RFC 5652, RFC 6488), and what else is asked of them and of manifests.
 //!
-//! [`EncodeObject`] writes a signed object, a manifest, a route origin attestation or a provider attestation in DER, as the
+//! [`EncodeObject`] writes a signed object, a manifest, an attestation or a checklist in DER, as the
 //! parts that were read of it. What is signed of it is written as it stood: so an object that was read in BER is written only
 //! where its attributes and what was signed of its certificate are values in DER. [`EncodeAttributes`] writes the attributes
 //! alone, and reads them of the message that is signed; [`DecodeContent`] reads a content by a closure; [`ManifestFiles`] goes over
@@ -13,6 +13,7 @@
 mod aspa;
 pub mod attributes;
 mod cert;
+mod checklist;
 pub mod content;
 mod der;
 pub mod laws;
