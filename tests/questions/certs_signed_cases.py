@@ -149,6 +149,8 @@ def answer_of(topic, mode, data):
         need(len(algorithms) == 1)
         has_null(algorithms[0], [SHA256])
         return around(0x31, algorithm(SHA256, False, mode), mode).hex()
+    if topic == "new":
+        return made_of(item.octets, mode)
     fields = parts_of(item, 16)
     need(len(fields) == 3)
     message = fields[0].octets
@@ -156,6 +158,12 @@ def answer_of(topic, mode, data):
     bits = bits_of(fields[2], mode)
     written = around(0x30, message + algorithm(SHA256_RSA, null, mode) + tlv(3, bits), mode)
     return told(message.hex(), null, str(bits[0]), bits[1:].hex(), written.hex())
+
+
+def made_of(message, mode):
+    """Signed data that is put together: a value, the algorithm with NULL, and the value's octets as signature."""
+    written = around(0x30, message + algorithm(SHA256_RSA, True, mode) + tlv(3, b"\0" + message), mode)
+    return told(message.hex(), True, "0", message.hex(), written.hex())
 
 
 def signed(q):
@@ -230,3 +238,6 @@ def signed(q):
     for behind in (b"", b"\0", b"\xff\xff", whole):
         ask("front", "der", whole + behind)
     ask("front", "ber", tlv(0x30, long_message + algorithm(SHA256_RSA, True, "der") + tlv(3, b"\0")))
+    for message in [*messages, long_message, whole, b"", b"\5\0\5", tlv(4, bytes(995)), b"\x30\x81\x02\5\0", around(0x30, tlv(5, b""), "cer")]:
+        for mode in ("ber", "cer", "der"):
+            ask("new", mode, message)

@@ -209,7 +209,11 @@ def addresses(q):
         blocks = [seq(tlv(4, kind), some) for kind, texts, some in zip(world.FAMILIES.values(), families, lists) if texts is not None]
         content = seq(integer(64496), seq(*blocks))
         good = q.answer_of("roa", content) != "refused"
-        answer = " ".join(f"x{some.hex()}" for some in lists) if good else "refused"
+        told = [f"x{some.hex()}" for some in lists]
+        for some in families:
+            nets = [ipaddress.ip_network(text.partition("-")[0]) for text in some or []]
+            told += [f"{'true' if net.version == 4 else 'false'} {net}" for net in nets]
+        answer = " ".join(told) if good else "refused"
         digest = signed.attribute("4", tlv(4, world.Fips.sha256(content)))
         q.ask(answer, "addresses", made("roa", content=tlv(4, content), digest=digest).hex())
 

@@ -20,6 +20,10 @@ impl<'a> Steps for Values<'a> {
             "opt" => scalars::take_opt(answer, self, step.first),
             "is" => answer.outcome(self.skip_u8_if(step.octet())),
             "opt-is" => answer.outcome(self.skip_opt_u8_if(step.octet())),
+            "mode" => {
+                self.set_mode(mode_of(step.first));
+                answer.show(&(*self).mode());
+            }
             "primitive" => fields::primitive(alloc, answer, self, step),
             "constructed" => fields::constructed(alloc, answer, self, step),
             "value" => fields::value(answer, self, step),

@@ -2,6 +2,7 @@
 
 use crate::contents::{Refusal, Values};
 use answers::Answer;
+use bcder::Mode;
 
 /// The value of a type that is next.
 pub fn take(answer: &mut Answer, cons: &mut Values<'_>, kind: &str) {
@@ -27,13 +28,18 @@ pub fn take_opt(answer: &mut Answer, cons: &mut Values<'_>, kind: &str) {
     }
 }
 
-/// What a closure reads of the values in a value: a number, or 0 for a NULL; or nothing; or it passes over a read that
-/// is refused, and ends or reads on.
+/// What a closure reads of the values in a value: a number, or 0 for a NULL; or a truth by the Basic Encoding Rules, as 1 or 0;
+/// or nothing; or it passes over a read that is refused, and ends or reads on.
 pub fn inner(cons: &mut Values<'_>, word: &str) -> Result<u8, Refusal> {
     match word {
         "null" => {
             cons.take_null()?;
             Ok(0)
+        }
+        "ber" => {
+            cons.set_mode(Mode::Ber);
+            let truth = cons.take_bool()?;
+            Ok(if truth { 1 } else { 0 })
         }
         "nothing" => Ok(1),
         "over" => {

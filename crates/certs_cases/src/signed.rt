@@ -1,4 +1,5 @@
-//! Questions about algorithms and signed data: what octets begin with, in a mode, and what is written of it.
+//! Questions about algorithms and signed data: what octets begin with, in a mode, and what is written of it; or signed data
+//! that is put together of it.
 
 use crate::values::{bytes_of, found, say_written, tell};
 use answers::{Answer, mode_of, unknown};
@@ -7,7 +8,9 @@ use bcder::decode::Decode;
 use bcder::encode::{EncodeError, Values};
 use bcder::{Captured, Mode};
 use bytes::Bytes;
-use certs_x509::{DigestAlgorithm, RpkiSignatureAlgorithm, SignatureAlgorithm, SignedData};
+use certs_x509::{
+    DigestAlgorithm, RpkiSignatureAlgorithm, Signature, SignatureAlgorithm, SignedData,
+};
 use std::alloc::Global;
 
 // Whether NULL stands there, and what is written.
@@ -70,6 +73,12 @@ fn told(alloc: Global, answer: &mut Answer, kind: &str, mode: Mode, octets: Byte
         "data" => {
             let read = found(mode.decode(octets, |cons| SignedData::take_from(alloc, cons)))?;
             show(alloc, answer, read, mode);
+        }
+        "new" => {
+            let message = found(mode.decode(octets, |cons| cons.capture_one(alloc)))?;
+            let value = Bytes::copy_from_slice(alloc, message.as_slice())?;
+            let signature = Signature::new(RpkiSignatureAlgorithm::default(), value);
+            show(alloc, answer, SignedData::new(message, signature), mode);
         }
         "front" => show(
             alloc,

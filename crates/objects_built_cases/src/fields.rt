@@ -1,5 +1,6 @@
 //! The fields of a signed object, of words.
 
+use answers::Answer;
 use anyhow::{Result, anyhow};
 use bcder::Mode;
 use bcder::decode::Decode;
@@ -7,7 +8,7 @@ use bytes::Bytes;
 use certs_x509::uri::Rsync;
 use certs_x509::{Name, Serial, Time, Validity};
 use objects_built::SignedObjectBuilder;
-use resources::{AsBlocks, AsResources, IpResources, Ipv4Blocks, Ipv6Blocks};
+use resources::{AsBlock, AsBlocks, AsResources, IpBlock, IpResources, Ipv4Blocks, Ipv6Blocks};
 use std::alloc::Global;
 
 // The value of the name, if it is the word's.
@@ -110,6 +111,7 @@ fn first_of(alloc: Global, words: &[&str]) -> Result<SignedObjectBuilder> {
 fn set_v4(alloc: Global, builder: &mut SignedObjectBuilder, words: &[&str]) -> Result<()> {
     match found(words, "v4") {
         Some("inherit") => builder.set_v4_resources_inherit(),
+        Some("all") => builder.build_v4_resource_blocks(alloc, |built| built.push(IpBlock::all()))?,
         Some(text) => {
             let blocks = Ipv4Blocks::from_str(alloc, text)?;
             builder.set_v4_resources(IpResources::blocks(blocks.into_blocks()));
@@ -123,6 +125,7 @@ fn set_v4(alloc: Global, builder: &mut SignedObjectBuilder, words: &[&str]) -> R
 fn set_v6(alloc: Global, builder: &mut SignedObjectBuilder, words: &[&str]) -> Result<()> {
     match found(words, "v6") {
         Some("inherit") => builder.set_v6_resources_inherit(),
+        Some("all") => builder.build_v6_resource_blocks(alloc, |built| built.push(IpBlock::all()))?,
         Some(text) => {
             let blocks = Ipv6Blocks::from_str(alloc, text)?;
             builder.set_v6_resources(IpResources::blocks(blocks.into_blocks()));
@@ -136,6 +139,7 @@ fn set_v6(alloc: Global, builder: &mut SignedObjectBuilder, words: &[&str]) -> R
 fn set_asn(alloc: Global, builder: &mut SignedObjectBuilder, words: &[&str]) -> Result<()> {
     match found(words, "asn") {
         Some("inherit") => builder.set_as_resources_inherit(),
+        Some("all") => builder.build_as_resource_blocks(alloc, |built| built.push(AsBlock::all()))?,
         Some(text) => {
             let blocks = AsBlocks::from_str(alloc, text)?;
             builder.set_as_resources(AsResources::blocks(blocks));
@@ -164,4 +168,32 @@ pub fn builder_of(alloc: Global, words: &[&str]) -> Result<SignedObjectBuilder> 
             Err(error)
         }
     }
+}
+
+/// Where the words say so, tells what the getters lend, and sets by each setter what another getter lends: the places each
+/// to the next one's, when the object is signed to the beginning of the certificate, and the other way round.
+pub fn turn(answer: &mut Answer, builder: &mut SignedObjectBuilder, words: &[&str]) -> Result<()> {
+    if found(words, "turned").is_none() {
+        return Ok(());
+    }
+    answer.say(&builder.serial_number());
+    answer.say(&builder.issuer().is_some());
+    answer.say(&builder.subject().is_some());
+    answer.say(&builder.v4_resources().is_missing());
+    answer.say(&builder.v6_resources().is_missing());
+    answer.say(&builder.as_resources().is_missing());
+    answer.say(&builder.has_ip_resources());
+    let algorithm = builder.digest_algorithm();
+    builder.set_digest_algorithm(algorithm);
+    builder.set_serial_number(Serial::from(7u64));
+    let (period, signed) = (builder.validity(), builder.signing_time());
+    builder.set_validity(Validity::new(signed, period.not_after()));
+    builder.set_signing_time(period.not_before());
+    let issuer = builder.ca_issuer().clone()?;
+    builder.set_crl_uri(issuer);
+    let object = builder.signed_object().clone()?;
+    builder.set_ca_issuer(object);
+    let crl = builder.crl_uri().clone()?;
+    builder.set_signed_object(crl);
+    Ok(())
 }

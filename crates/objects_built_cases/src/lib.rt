@@ -37,7 +37,11 @@ fn built(
 fn answered(alloc: Global, answer: &mut Answer, words: &[&str], signer: &Stub) -> Result<()> {
     let kind = fields::octets(alloc, words, "type")?;
     let content = fields::octets(alloc, words, "content")?;
-    let builder = fields::builder_of(alloc, words)?;
+    let mut builder = fields::builder_of(alloc, words)?;
+    if let Err(error) = fields::turn(answer, &mut builder, words) {
+        drop(builder);
+        return Err(error);
+    }
     built(
         alloc,
         answer,
