@@ -149,7 +149,7 @@ def page(status, wall, sums, log):
     rows = [
         "# The gate",
         "",
-        "`.ci/run` is the gate: `rt ci` at the top of the repository. "
+        "`.ci/run` is the gate: `rt ci` at the top of the repository, and then `tests/run quick` over the programs that it built. "
         "It proves every function of every crate from nothing, tries each wrong body in `crates/*/must-fail`, which the "
         "prover has to refuse, and runs each program as two compilers build it. `tests/tools/gate.py` runs the gate and writes "
         "this page.",
