@@ -14,7 +14,7 @@ ghost use Rattle.rpki_commands.specs.declared.folder.ReadFault.TheVariants.{Memo
 use std::alloc::{AllocError, AllocFailed};
 use std::io::{self, ErrorKind};
 use thiserror::Error;
-pub use written::{write_bundle, write_contents};
+pub use written::{write_bundle, write_contents, write_reading};
 
 /// Why a folder became no bundle.
 #[derive(Clone, Copy, Debug, PartialEq, Eq, Hash, Error)]

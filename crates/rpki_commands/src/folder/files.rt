@@ -1,6 +1,6 @@
 //! Single files and folders: what stands at a path, and a file's octets.
 
-ghost use Rattle.std.specs.Prelude.{◌≤◌, length, IfOk};
+ghost use Rattle.std.specs.Prelude.{◌≤◌, length, IfOk, IfSome};
 ghost use Rattle.rpki_commands.specs.Faults.{Finds, FindsNoLink, IsLackOf};
 
 use crate::folder::ReadFault;
@@ -70,7 +70,9 @@ pub(crate) fn read_if_there<R: Files>(
     path: &str,
     most: usize,
     buffer: &mut [u8],
-) -> Result<Option<Vec<u8>>, ReadFault> {
+) -> Result<Option<Vec<u8>>, ReadFault>
+    ensures { IfOk result (λ found. IfSome found (λ octets. length octets.items ≤ most)) }
+{
     match kind_of(rt, path)? {
         Kind::Absent => Ok(None),
         Kind::File(size) => Ok(Some(read_file(rt, alloc, path, size, most, buffer)?)),
