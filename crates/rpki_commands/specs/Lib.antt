@@ -9,6 +9,8 @@ pub mod Folders
 pub mod Limits
 pub mod Texts
 pub mod Programs
+pub mod Requests
+pub mod Answers
 pub mod Asking
 -- What stands below, for the crates above.
 pub use Rattle.rpki_validator.specs.certs_basics as certs_basics
