@@ -22,13 +22,13 @@ def with_those_below(names, needs):
     return found
 
 
-def copy(folder, libraries):
-    """Copies the crates among the libraries and all that they stand on, with their out/ where they have one, or brings
-    the copies that are there up to date; of each the libraries that it stands on."""
+def copy(folder, libraries, parts=PARTS):
+    """Copies the crates among the libraries and all that they stand on, with their out/ where they have one and it is among the
+    parts, or brings the copies that are there up to date; of each the libraries that it stands on."""
     needs = stands_on()
     copied = {name: needs[name] for name in sorted(with_those_below(libraries, needs))}
     for name in copied:
-        for part in PARTS:
+        for part in parts:
             there = os.path.join(ROOT, "crates", name, part)
             if os.path.isdir(there):
                 shutil.copytree(there, os.path.join(folder, "crates", name, part), dirs_exist_ok=True)

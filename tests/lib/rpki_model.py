@@ -302,9 +302,9 @@ class Walk:
             return False
         return any(lookup_key(join(issuer.place("repository"), file)) in keys for file, _ in listed)
 
-    def naming(self, uri):
-        """The accepted chains whose last certificate names the URI, each a locator's name and lookup keys, in order."""
-        keys = {lookup_key(uri)} if uri_kind(uri) else set()
+    def naming(self, uris):
+        """The accepted chains whose last certificate names one of the URIs, each a locator's name and lookup keys, in order."""
+        keys = {lookup_key(uri) for uri in uris if uri_kind(uri)}
         return sorted({(named, chain) for named, chain, issuer, _ in self.accepted if self.names(issuer, keys)})
 
     def why(self, name):
@@ -312,7 +312,7 @@ class Walk:
         that have it or have it on their chain, by object, locator and chain; the accepted chains that name it."""
         refusals = sorted(row for row in self.refusals if row[0] in (name, lookup_key(name)))
         goods = sorted((file, named, *chain) for named, chain, file in self.witnesses if lookup_key(name) in (file, *chain))
-        return refusals, goods, [(named, *chain) for named, chain in self.naming(name)]
+        return refusals, goods, [(named, *chain) for named, chain in self.naming([name])]
 
     def reach(self, uris):
         """None where a readable locator names one of the URIs, else by kind the numbers of the chains that name one."""

@@ -555,11 +555,18 @@ def reach_text(reached):
     return f"asn: '{asn}', ipv4: '{ipv4}', ipv6: '{ipv6}'"
 
 
+def naming_text(found, uris):
+    return " ".join(" ".join(part.decode() for part in (b"chain", locator, *chain)) for locator, chain in found.naming(uris))
+
+
 def reaches(q, world, uris, stated=None):
+    """Asks what URIs reach, and which chains name one of them."""
     octets = world.bundle()
-    said = reach_text(rpki_model.walk(octets).reach(uris))
+    found = rpki_model.walk(octets)
+    said = reach_text(found.reach(uris))
     assert stated is None or said == f"asn: '', ipv4: '{stated}', ipv6: ''" or said == stated, (uris, said)
-    q.ask(said, "reach", b",".join(uris).decode(), octets.hex())
+    for topic, text in (("reach", said), ("naming", naming_text(found, uris))):
+        q.ask(text, topic, b",".join(uris).decode(), octets.hex())
 
 
 def judges(q, world, locator, chain, file, stated=None):

@@ -4,6 +4,7 @@ import concurrent.futures
 import contextlib
 import dataclasses
 import functools
+import math
 import os
 import re
 import signal
@@ -35,7 +36,7 @@ LACKS = {
 class Test:
     """A command with the programs that it takes in braces, and the seconds that it may take at each level; none: not asked there.
     `more` are words that stand behind the others at `all`, `less` at `quick`, and `least`, where there are some, at `quick` of programs
-    that are built without their proof."""
+    that are built without their proof. What `rt ci` asks itself is left out behind it (`is_gates`)."""
 
     name: str
     words: str
@@ -45,6 +46,7 @@ class Test:
     less: str = ""
     more: str = ""
     least: str = ""
+    is_gates: bool = False
 
     def limit(self, level):
         return self.quick if level == "quick" else self.all or self.quick
@@ -55,17 +57,16 @@ class Test:
 
 
 # Programs of questions and examples, whose answers are stored beside them.
-STORED = ("bcder_cases", "example_codec", "example_resources", "objects_cases", "objects_rsc_cases", "resources_cases", "rpki_ask", "rpki_cases", "rpki_check")
+STORED = ("bcder_cases", "example_codec", "example_resources", "objects_cases", "resources_cases", "rpki_ask", "rpki_cases", "rpki_check")
 
 # Programs of questions that are asked with each growth refused, and how long that may take at `quick`.
-ASKED = {"rpki_cases": 400, "bcder_cases": 0, "objects_cases": 0, "objects_rsc_cases": 0, "resources_cases": 0}
+ASKED = {"rpki_cases": 400, "bcder_cases": 0, "objects_cases": 0, "resources_cases": 0}
 
 TESTS = (
     # What is stored is what the scripts write.
     Test("written bcder", "outside/written.py bcder_cases.py bcder_cases", 180),
     Test("written examples", "outside/written.py examples.py example_codec example_resources", 60),
     Test("written objects", "outside/written.py objects_cases.py objects_cases", 400),
-    Test("written checklists", "outside/written.py objects_rsc_cases.py objects_rsc_cases", 60),
     Test("written resources", "outside/written.py resources_calls.py resources_cases", 180),
     Test("written rpki", "outside/written.py rpki_cases.py rpki_cases cases", 400),
     # What documents say of the sources.
@@ -79,7 +80,7 @@ TESTS = (
     # Errors of which no clause says anything have a reason.
     Test("error sides", "tools/error_sides.py", 300),
     # Stored questions.
-    *(Test(f"stored {name}", f"outside/stored.py {name} {{{name}}}", 200) for name in STORED),
+    *(Test(f"stored {name}", f"outside/stored.py {name} {{{name}}}", 200, is_gates=True) for name in STORED),
     # The built program, from outside.
     Test("cases", "outside/cases.sh {rpki_check} cases", 60),
     Test("faults", "outside/faults.py {rpki_check}", 120, needs=("plain",)),
@@ -87,13 +88,19 @@ TESTS = (
     Test("hostile", "outside/hostile.py {rpki_check}", 0, 1200),
     Test("readme", "outside/readme.py {rpki_check}", 120, needs=("cryptography",)),
     Test("cache", "outside/cache.py {rpki_check}", 200, needs=("cryptography",)),
-    Test("large", "outside/large.py {rpki_check} {rpki_ask}", 300, 1800, more="--huge", least="--small"),
+    Test("odd caches", "outside/odd_caches.py {rpki_check}", 0, 600, needs=("cryptography",)),
+    Test("odd signatures", "outside/odd_signatures.py", 0, 600, needs=("cryptography",)),
+    Test("interrupted", "outside/interrupted.py", 0, 1800, needs=("cryptography",)),
+    Test("validating", "outside/validating.py {rpki_check}", 0, 900, needs=("cryptography",)),
+    Test("routers", "outside/routers.py {rpki_check} {rpki_ask}", 0, 900, needs=("cryptography",)),
+    Test("large", "outside/large.py {rpki_check} {rpki_ask} {rpki_cases}", 300, 1800, more="--huge", least="--small"),
     Test("octets", "outside/octets.py {objects_cases}", 200, 900, less="--most 2", more="--most 12", least="--most 1"),
     # The build by Rattle's own compiler, from outside.
     Test("cases, second compiler", "outside/cases.sh {rpki_check.by-rattle} cases", 60, needs=("second",)),
     Test("faults, second compiler", "outside/faults.py {rpki_check.by-rattle}", 120, needs=("second", "plain")),
     # A second reading of the rules.
     Test("second reading", "lib/rpki_model.py --cases cases", 60),
+    Test("reasons", "lib/rpki_reasons.py --test", 60, 600, less="40", more="2000", least="10"),
     Test("chance", "outside/rpki_random.py {rpki_check}", 400, 7200, less="--count 2000", more="--count 50000", least="--count 300"),
     Test("long chances", "outside/rpki_random.py {rpki_check} --long", 500, 7200, less="--count 2000", more="--count 50000", least="--count 100"),
     Test("relaxed chances", "outside/rpki_random.py {rpki_check} --relaxed", 400, 7200, less="--count 1000", more="--count 20000", least="--count 100"),
@@ -104,6 +111,8 @@ TESTS = (
     Test("growths", "outside/growths.py {rpki_check}", 300, needs=("cc", "plain")),
     *(Test(f"growths {name}", f"outside/calls_growths.py {{{name}}}", at, 3600, needs=("cc", "plain"), less="--few") for name, at in ASKED.items()),
     Test("content growths", "outside/content_growths.py", 0, 3600),
+    # Bodies that always tell lack of memory.
+    Test("always memory", "outside/always_memory.py", 0, 3600),
     # Callers in C and in Rust.
     Test("example c", "outside/example_c.py", 0, 1200, needs=("cc",)),
 )
@@ -127,10 +136,11 @@ def is_found(need):
 class Run:
     """One run of the table."""
 
-    def __init__(self, level, only, built):
+    def __init__(self, level, only, built, seconds=None, behind_gate=False):
         self.level, self.built = level, built
-        self.tests = [test for test in TESTS if test.limit(level) and only in test.name]
-        self.passed = self.failed = self.skipped = 0
+        self.until = math.inf if seconds is None else time.monotonic() + seconds
+        self.tests = [test for test in TESTS if test.limit(level) and only in test.name and not (behind_gate and test.is_gates)]
+        self.passed = self.failed = self.skipped = self.unended = 0
         self.programs, self.running, self.is_ended = {}, set(), False
         for number in (signal.SIGTERM, signal.SIGINT, signal.SIGHUP):
             signal.signal(number, self.end)
@@ -184,6 +194,8 @@ class Run:
         """Runs a test: how many passed and failed, and what is said of it."""
         if self.is_ended:
             return 0, 1, "not run", ""
+        if time.monotonic() >= self.until:
+            return 0, 0, "not begun: the time is up", ""
         lacking = [why for _, why in (self.programs[name] for name in programs_of(test)) if why]
         if lacking and "second" not in test.needs:
             return 0, 1, lacking[0], ""
@@ -198,8 +210,8 @@ class Run:
         return self.call(words, test.limit(self.level), 1 if is_plain else SLOWER)
 
     def call(self, words, limit, slower):
-        limit *= slower
         began = time.monotonic()
+        limit, left = limit * slower, max(self.until - began, 0)
         # (a pipe could be kept open by whoever outlives the test)
         with tempfile.TemporaryFile("w+", encoding="utf-8", errors="replace") as told:
             how = {"cwd": TOP / "tests", "stdin": subprocess.DEVNULL, "stdout": told, "stderr": subprocess.STDOUT}
@@ -208,7 +220,7 @@ class Run:
             self.running.add(run)
             late = ""
             try:
-                run.wait(limit)
+                run.wait(min(limit, left))
             except subprocess.TimeoutExpired:
                 late = f", and hadn't ended after {limit} s"
             with contextlib.suppress(ProcessLookupError, PermissionError):
@@ -217,6 +229,8 @@ class Run:
             self.running.discard(run)
             told.seek(0)
             output = told.read()
+        if late and left < limit:
+            return 0, 0, f"not ended: the time is up ({left:.0f} s)", ""
         counts = [COUNTS.fullmatch(line) for line in output.splitlines() if COUNTS.fullmatch(line)]
         passed, failed = map(int, counts[-1].groups()) if counts else (int(run.returncode == 0), 0)
         failed = failed or int(run.returncode != 0)
@@ -231,6 +245,7 @@ class Run:
                 passed, failed, said, output = done.result()
                 self.passed, self.failed = self.passed + passed, self.failed + failed
                 self.skipped += said.startswith("skipped")
+                self.unended += said.startswith(("not begun", "not ended"))
                 self.say(running[done].name, said, output)
 
     def add_gate(self, line):
@@ -241,17 +256,19 @@ class Run:
         print(f"rt ci: {passed} passed, {failed} failed", flush=True)
 
 
-def run(level, only, built, gate=None):
-    """Runs the tests of a level; the exit status."""
+def run(level, only, built, seconds=None, gate=None):
+    """Runs the tests of a level; the exit status. After so many seconds none is begun, and those that run are ended: these are told,
+    and are neither passed nor failed."""
     lanes = len(os.sched_getaffinity(0))
     began = time.monotonic()
-    table = Run(level, only, built)
+    table = Run(level, only, built, seconds, gate is not None)
     table.find_all(lanes)
     table.run_all(lanes)
     if gate is not None:
         table.add_gate(gate)
     skipped = f"; {table.skipped} tests were skipped" if table.skipped else ""
-    print(f"tests/run {level}: {time.monotonic() - began:.0f} s on {lanes} processors{skipped}", flush=True)
+    unended = f"; {table.unended} tests were not asked to their end, as the time was up" if table.unended else ""
+    print(f"tests/run {level}: {time.monotonic() - began:.0f} s on {lanes} processors{skipped}{unended}", flush=True)
     print(f"{table.passed} passed, {table.failed} failed", flush=True)
     return 1 if table.failed or not table.passed else 0
 

@@ -4,9 +4,10 @@
     calls_growths.py PROGRAM.. [--few] [--only WORD]
 
 Each PROGRAM is crates/NAME/out/NAME of a program of questions. A row of the table below names calls, and the stored questions that
-ask them; of `rpki_cases` walks, judges, reaches and points of four worked cases are asked, too, whose answers are those of the second
-reading (`rpki_model.py`). Some questions of each kind of each row are asked, one a run, with each growth of memory refused in turn, alone
-and with all that come after it (with --few, one question of each kind, and each growth alone), by `refuse_growth.c`, which is preloaded.
+ask them; of `rpki_cases` walks, judges, reaches, chains and points of five worked cases are asked, too, whose answers are those of
+the second reading (`rpki_model.py`). Some questions of each kind of each row are asked, and one for each setting, one a run, with each
+growth of memory refused in turn, alone and with all that come after it (with --few, one question of each kind, and each growth alone),
+by `refuse_growth.c`, which is preloaded.
 
 The answer has to be the right one, or a front of its words and then that memory is lacking, or that something is refused for lack of
 memory; or the program ends with that fault and no answer. A word of an answer that finds no memory is left out, and octets of a
@@ -30,6 +31,7 @@ sys.dont_write_bytecode = True
 sys.path.insert(0, os.path.join(os.path.dirname(os.path.abspath(__file__)), os.pardir, "lib"))
 
 import rpki_model  # noqa: E402
+import rpki_relaxed  # noqa: E402
 import rpki_walks  # noqa: E402
 from outcomes import TOP  # noqa: E402
 from refusals import compiled, refusals, run  # noqa: E402
@@ -39,16 +41,18 @@ SPARED = 30_000  # octets of the answer that tell its own growth, at most
 FIXED = "invalid extension"
 OCTETS = re.compile(r"\bx[0-9a-f]+")
 DIGITS = re.compile(r"([0-9a-f]{2})+")
+SETTING = re.compile(r"(?<![^ ;\t])[a-z]\w*=[a-z]*")
 MORE = 4  # growths of a word whose first sign alone, or nothing, is told
 WORD = re.compile(r"[^][(),]+")  # (what stands in brackets is no word of an answer by itself)
 MEMORY = re.compile(r"(.*?)\W*(?:refused)?\W*(?:out of |no )?memory", re.IGNORECASE)
 # What programs of questions answer where something that they need first can't be read, whatever the error.
-UNTOLD = re.compile(r"no (anchor|authority|certificate|chain|form|issuer|text)|unreadable( asked 0)?|refused: no (AS resources|IP resources|family)")
+UNTOLD = re.compile(r"no (anchor|authority|certificate|chain|form|issuer|text)|unreadable( asked 0)?|refused: no (AS resources|IP resources|family|manifest|name)")
 
 
 class Row(typing.NamedTuple):
     """A program, the first words of questions, the calls that they ask, how many questions are asked, and what else the program answers
-    where a growth is refused, as a pattern: how it says lack of memory, or that its own writer is full.
+    where a growth is refused, as a pattern: how it says lack of memory, or that its own writer is full. Where words such as `v4=listed`
+    set something by calls of their own, one question more is asked of each that no other one sets.
 
     Of the words `*` is any, and `+` is any, too, and says what is asked: so many questions are asked of each. The calls are types with
     their calls behind them, and functions, as `tests/tools/growing.py` reads them; what is named otherwise it passes over."""
@@ -58,6 +62,7 @@ class Row(typing.NamedTuple):
     calls: str
     most: int = 2
     others: str = ""
+    is_set: bool = False
 
     def kind(self, words):
         """What a question of these words asks, by the words at each `+`; none where it isn't of the row."""
@@ -216,13 +221,14 @@ ROWS = (
         "TbsCert: new, build_.., v4_resources_from_iter, v6_resources_from_iter, as_resources_from_iter, clone; "
         "ExtendedKeyUsage: create_router, take_from; BuildCert: into_cert; Signer: get_key_info, sign, sign_one_off",
         8,
+        is_set=True,
     ),
     # Revocation lists.
     Row(
         "objects_cases",
         "crl +",
-        "Crl: decode, cache_serials, verify_issuer_claim, to_captured, clone; SerialCache: new; RevokedCertificates: serials; "
-        "InvalidExtension: to_content_error",
+        "Crl: decode, cache_serials, verify_issuer_claim, verify_signature, to_captured, clone; SignedData: verify_signature; "
+        "SignedDataValues: in_der; SerialCache: new; RevokedCertificates: serials; InvalidExtension: to_content_error",
         4,
     ),
     Row("objects_cases", "store +", "CrlStore: new, push, clone"),
@@ -260,13 +266,15 @@ ROWS = (
         "ToIpResources: to_resources; FinalizeRoa: finalize; IntoManifest: into_manifest; AspaBuilder: empty, add_provider, "
         "as_resources, finalize, to_octets; Signer: get_key_info, sign_one_off; signed_attributes, signed_message",
         4,
+        is_set=True,
     ),
+    # Signed checklists.
+    Row("objects_cases", "rsc content", "ResourceSignedChecklist: take_from, decode", 4),
+    Row("objects_cases", "rsc object", "Rsc: decode", 3),
+    Row("objects_cases", "rsc process", "Rsc: process_at", 3),
+    Row("objects_cases", "rsc process-clock", "Rsc: process", 1),
+    Row("objects_cases", "rsc sound", "Rsc: verify_content", 1),
     # Bundles, points, validated objects.
-    Row("objects_rsc_cases", "content", "ResourceSignedChecklist: decode", 4),
-    Row("objects_rsc_cases", "object", "Rsc: decode", 3),
-    Row("objects_rsc_cases", "process", "Rsc: process_at", 3),
-    Row("objects_rsc_cases", "process-clock", "Rsc: process", 1),
-    Row("objects_rsc_cases", "sound", "Rsc: verify_content", 1),
     Row("rpki_cases", "decode", "Bundle: decode, decode_shared", 3),
     Row("rpki_cases", "again", "Bundle: decode, encode", 3),
     Row("rpki_cases", "parts", "Bundle: from_parts, from_parts_v1", 4),
@@ -281,10 +289,11 @@ ROWS = (
     Row("rpki_cases", "written +", "EncodeManifest, EncodeRoa: to_octets", 3),
     Row("rpki_cases", "ask +", "judge, reach, naming_chains, point, through rpki_ask", 2, r"2 \[\] \[(out of memory|write fault)\|\]"),
     # (what asks these is made below)
-    Row("rpki_cases", "walk", "walk, run, read_bundle, render; Report, Path: new, longer", 4, "write fault "),
+    Row("rpki_cases", "walk", "walk, walk_lines, run, read_bundle, render; Report, Path: new, longer", 4, "write fault "),
     Row("rpki_cases", "witnesses", "walk; Report: new", 4),
     Row("rpki_cases", "judge", "judge, judge_by", 4),
     Row("rpki_cases", "reach", "reach", 4),
+    Row("rpki_cases", "naming", "naming_chains", 4),
     Row("rpki_cases", "point", "point", 4),
     Row("rpki_cases", "unheld", "point_unheld", 4),
 )
@@ -294,6 +303,7 @@ CASES = {
     "two-aspas": rpki_walks.customers,
     "two-parents": rpki_walks.parents,
     "trimmed-ca": rpki_walks.trimmed,
+    "ber-roa": lambda: rpki_relaxed.ber_roa(True),
 }
 
 
@@ -301,8 +311,8 @@ CASES = {
 
 
 def of_cases(few):
-    """Walks, witnesses, judges of each witness, reaches of each object, or of a few, and points of each chain, by what it holds and
-    whatever that is, of the worked cases."""
+    """Walks, witnesses, judges of each witness, reaches of each object, or of a few, the chains that name it, and points of each chain,
+    by what it holds and whatever that is, of the worked cases."""
     import rpki_points
 
     for make in CASES.values():
@@ -317,6 +327,7 @@ def of_cases(few):
             yield "judge", ("judge", *words), f"yes {len(chain)}"
         for uri in sorted(found.held)[:: 4 if few else 1]:
             yield "reach", ("reach", uri.decode(), octets.hex()), rpki_walks.reach_text(found.reach([uri]))
+            yield "naming", ("naming", uri.decode(), octets.hex()), rpki_walks.naming_text(found, [uri])
         for words, answer, (topic, _) in rpki_points.asked(octets):
             if topic in ("point", "unheld"):
                 yield topic, tuple(word.decode() if isinstance(word, bytes) else word for word in words), answer
@@ -343,17 +354,30 @@ def spread(found, most):
     return [(found[answers[at]], answers[at]) for at in sorted(places)]
 
 
+def settings_left(shortest, asked):
+    """For each setting that no question has which is asked, the shortest question that has it. (Two ways to set the same have the
+    same answer.)"""
+    has = {setting for question, _ in asked for setting in SETTING.findall(question)}
+    return dict.fromkeys(one for setting, one in shortest.items() if setting not in has)
+
+
 def questions(name, few):
     """By row the questions that are asked, with their answers."""
     rows = [row for row in ROWS if row.program == name]
     found = {row: collections.defaultdict(dict) for row in rows}
+    shortest = {row: {} for row in rows if row.is_set}
     for question, answer in stored(name):
         words = question.split("\t")
         for row in rows:
             kind = row.kind(words)
             if kind is not None:
                 found[row][kind].setdefault(answer, question)
+                for setting in SETTING.findall(question) if row.is_set else ():
+                    one = question, answer
+                    shortest[row][setting] = min(shortest[row].get(setting, one), one, key=lambda pair: len(pair[0]))
     asked = {row: [it for kind in found[row].values() for it in spread(kind, 1 if few else row.most)] for row in rows}
+    for row in shortest:
+        asked[row] += settings_left(shortest[row], asked[row])
     if name == "rpki_cases":
         for topic, words, answer in of_cases(few):
             row = next(row for row in rows if row.words == topic)

@@ -1,13 +1,16 @@
 #!/usr/bin/env python3
 """Asks the built programs about long chains, many URIs and large bundles.
 
-    large.py RPKI_CHECK RPKI_ASK [--small | --huge]
+    large.py RPKI_CHECK RPKI_ASK RPKI_CASES [--small | --huge]
 
 Chains of 1, 2, 31, 32 and 33 certificates stand below a locator, each authority with an origin of its own, in bundles of depth 1, 31
 and 32: printed is what the first ones attest, as many as the depth allows, and that the next certificate is refused. Each good
-object is judged by its chain, and the one below the longest chain by a chain that is longer than the depth. 70 URIs of 70
-authorities are asked what they reach, together; and once 69 that nobody names, with one that is named. Bundles have some octets in
-large files that manifests list: 17 MB, with --huge 64 and 200 MB, too, and with --small 2 MB. All answers are stated here.
+object is judged by its chain, and the one below the longest chain by a chain that is longer than the depth. In lattices each
+authority of a row certifies all of the next row, so that many chains end alike: 2^3, 8^8 and 3^30. 70 URIs of 70
+authorities are asked what they reach, together, and which chains name them; and once 69 that nobody names, with one that is
+named. Bundles have some octets in large files that manifests list: 17 MB, with --huge 64 and 200 MB, too, and with --small
+2 MB. All answers are stated here, but of small lattices in which a key is certified again below: these are those of the second
+reading (`rpki_model`).
 
 Prints a line for each answer that isn't right, and `N passed, M failed`; exits with 1 where one failed.
 """
@@ -22,6 +25,7 @@ import time
 sys.dont_write_bytecode = True
 sys.path.insert(0, os.path.join(os.path.dirname(os.path.abspath(__file__)), os.pardir, "lib"))
 
+import rpki_model  # noqa: E402
 from outcomes import SLOWER  # noqa: E402
 from rpki_repositories import HOST, World, roa  # noqa: E402
 
@@ -96,14 +100,77 @@ def chains(tests, check, ask):
                 tests.gives(f"judge by {most + 1} certificates, depth {depth}", words, octets, 1, "no\npoints 0\n")
 
 
+# Lattices.
+
+
+def name_at(row, place):
+    return b"r%dp%d" % (row, place)
+
+
+def lattice(width, height, listed=None, again=None):
+    """A world of so many rows of authorities, each of which certifies all of the next row, and the anchor those of the first. Each
+    of the last row has the origin AS 64496+p of 10.p.0.0/16. Those of the first row claim what `listed` says of their place, or
+    inherit, as all others do. With `again` the first of the last row certifies the first of that row once more."""
+    world = World()
+    anchor = world.anchor(1, {"ipv4": ["10.0.0.0/8"]})
+    above = [anchor]
+    rows = []
+    for row in range(height):
+        rows.append([])
+        for place in range(width):
+            name = name_at(row, place)
+            at = above[0].folder + name + b".cer"
+            rows[-1].append(world.authority(2 + row * width + place, HOST + name + b"/", name, at))
+        for parent in above:
+            for place, child in enumerate(rows[-1]):
+                claims = listed(place) if listed and row == 0 else "inherit"
+                parent.certify(child.name + b".cer", child, {"ipv4": claims})
+        above = rows[-1]
+    for place, authority in enumerate(above):
+        authority.add_roa(b"o.roa", roa(FIRST_AS + place, f"10.{place}.0.0/16"), {"ipv4": [f"10.{place}.0.0/16"]})
+    if again is not None:
+        above[0].certify(b"again.cer", rows[again][0], {"ipv4": "inherit"})
+    for authority in [anchor, *(it for row in rows for it in row)]:
+        authority.publish()
+    return world
+
+
+def lattices(tests, check):
+    for width, height in ((2, 3), (8, 8), (3, 30)):
+        octets = lattice(width, height).bundle()
+        lines = [f"roa AS{FIRST_AS + place} 10.{place}.0.0/16 16" for place in range(width)]
+        began = time.monotonic()
+        tests.gives(f"a lattice of {width} by {height}", [check, "check"], octets, 0, text_of(lines))
+        print(f"{width}^{height} chains: {time.monotonic() - began:.1f} s", flush=True)
+        # By each of the first row one origin is held, and the others are not.
+        octets = lattice(width, height, lambda place: [f"10.{place}.0.0/16"]).bundle()
+        refused = [f"refused {HOST.decode()}{name_at(height - 1, place).decode()}/o.roa object" for place in range(width)]
+        tests.gives(f"sets apart, {width} by {height}", [check, "check"], octets, 0, text_of(lines + refused))
+    world = lattice(4, 6)
+    world.depth = 4
+    # The anchor and three rows: no certificate that these issue may follow.
+    files = sorted(
+        f"refused {HOST.decode()}{name_at(2, parent).decode()}/{name_at(3, child).decode()}.cer depth"
+        for parent in range(4)
+        for child in range(4)
+    )
+    tests.gives("a lattice of depth 4", [check, "check"], world.bundle(), 0, text_of(files))
+    # Where a key of an upper row is met below, chains with it and without it differ; what is right the second reading knows.
+    for again in range(3):
+        octets = lattice(2, 3, again=again).bundle()
+        right = text_of(rpki_model.answer(octets))
+        tests.gives(f"row {again} is certified again below", [check, "check"], octets, 0, right)
+
+
 # URIs.
 
 
 def siblings():
-    """An anchor with 70 authorities below it, each with 10.n.0.0/16 and an origin, and the URIs of the origins."""
+    """An anchor with 70 authorities below it, each with 10.n.0.0/16 and an origin; the URIs of the origins, and the chains of
+    certificates above them, as they are told."""
     world = World()
     anchor = world.anchor(1, {"ipv4": ["10.0.0.0/8"]})
-    uris = []
+    uris, ways = [], []
     for at in range(MANY):
         name = b"s%d" % at
         authority = world.authority(at + 2, HOST + name + b"/", name)
@@ -113,24 +180,28 @@ def siblings():
         authority.add_roa(b"o.roa", roa(FIRST_AS + at, place), {"ipv4": "inherit"})
         authority.publish()
         uris.append((authority.folder + b"o.roa").decode())
+        ways.append(b" ".join([b"chain t", anchor.at, authority.at]).decode())
     anchor.publish()
-    return world, uris
+    return world, uris, ways
 
 
 def reached(places):
     return "as \nipv4 " + ", ".join(places) + "\nipv6 \n"
 
 
-def many(tests, ask):
-    world, uris = siblings()
+def many(tests, ask, cases):
+    world, uris, ways = siblings()
     octets = world.bundle()
+    named = lambda uris: "\t".join(["naming", ",".join(uris), octets.hex()]).encode() + b"\n"
     places = [f"10.{2 * at}.0.0/16" for at in range(MANY)]
     tests.gives(f"{MANY} URIs", [ask, "reach", *uris], octets, 0, reached(places))
     tests.gives(f"{MANY} URIs, the last first", [ask, "reach", *reversed(uris)], octets, 0, reached(places))
+    tests.gives(f"{MANY} URIs, by name", [cases], named(uris), 0, " ".join(sorted(ways)) + "\n")
     for at in (0, MANY // 2, MANY - 1):
         others = [f"{HOST.decode()}none{number}" for number in range(MANY)]
         others[at] = uris[at]
         tests.gives(f"{MANY} URIs, of which one is named", [ask, "reach", *others], octets, 0, reached([places[at]]))
+        tests.gives(f"{MANY} URIs, by name, of which one is named", [cases], named(others), 0, ways[at] + "\n")
     locators = [f"{HOST.decode()}none{number}" for number in range(MANY - 1)] + [(HOST + b"ta.cer").decode()]
     tests.gives(f"{MANY} URIs, the last a locator's", [ask, "reach", *locators], octets, 0, "locator\n")
 
@@ -168,12 +239,15 @@ def main():
     parser = argparse.ArgumentParser(description=__doc__, formatter_class=argparse.RawDescriptionHelpFormatter)
     parser.add_argument("check")
     parser.add_argument("ask")
+    parser.add_argument("cases")
     parser.add_argument("--huge", action="store_const", dest="sizes", const=(17, 64, 200), default=(17,))
     parser.add_argument("--small", action="store_const", dest="sizes", const=(2,))
     given = parser.parse_args()
-    check, ask, tests = os.path.abspath(given.check), os.path.abspath(given.ask), Tests()
+    check, ask, cases = map(os.path.abspath, (given.check, given.ask, given.cases))
+    tests = Tests()
     chains(tests, check, ask)
-    many(tests, ask)
+    lattices(tests, check)
+    many(tests, ask, cases)
     bundles(tests, check, given.sizes)
     print(f"{tests.passed} passed, {tests.failed} failed")
     sys.exit(1 if tests.failed else 0)

@@ -34,7 +34,8 @@ READERS = {
     "key read": "PublicKey::take_from",
     "key identifier read": "KeyIdentifier::take_from",
     "serial read": "Serial::take_from",
-    "signed data": "SignedData::decode",
+    "signed data": "SignedData::take_from",
+    "signed front": "SignedData::decode",
     "signed x509": "X.509's signature algorithms: take_from",
     "signed cms": "CMS's signature algorithms: take_from",
     "signed digest": "DigestAlgorithm::take_from",
@@ -59,6 +60,9 @@ READERS = {
     "roa": "RouteOriginAttestation::decode",
     "aspa": "AsProviderAttestation::decode",
     "message": "SignedAttrs::take_from",
+    "rsc content": "ResourceSignedChecklist::decode",
+    "rsc object strict": "Rsc::decode",
+    "rsc object relaxed": "Rsc::decode, in BER",
     LOCATORS: "Tal::read_named",
 }
 
@@ -165,6 +169,8 @@ def deep():
         yield ["key", "decode", seq(octets, bits(b"")).hex()], None
         yield ["key", "decode", seq(seq(oid("1.2.840.113549.1.1.1"), octets), bits(b"")).hex()], None
         yield ["key", "decode", seq(rsa, octets).hex()], None
+        for whole in (octets, seq(octets, octets, bits(b"")), seq(NULL, seq(oid("1.2.840.113549.1.1.11"), octets), bits(b""))):
+            yield ["signed", "front", "der", whole.hex()], None
         for mode in ("ber", "cer", "der"):
             yield ["key", "read", mode, octets.hex()], None
             yield ["signed", "data", mode, octets.hex()], None
@@ -179,6 +185,7 @@ def deep():
         for mode in ("ber", "der"):
             whole = seq(octets, *signature).hex()
             yield ["signed", "data", mode, whole], f"{octets.hex()} true 0  {whole}"
+        yield ["signed", "front", "der", whole], f"{octets.hex()} true 0  {whole}"
     whole = seq(ended, *signature).hex()
     yield ["signed", "data", "ber", whole], f"{ended.hex()} true 0  {whole}"
     yield ["signed", "data", "der", whole], None

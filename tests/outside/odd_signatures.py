@@ -74,9 +74,9 @@ def names(room):
     summary = room.told(cache)
     same("other extensions", (summary["verdicts"], summary["good"]), (SIGNATURES, {"other": SIGNATURES}))
     shutil.rmtree(cache)
-    # (how many bits of a signature are unused isn't signed, and rpki_check doesn't ask)
-    at = next(uri for uri, octets in room.made.objects.items() if uri.endswith(".cer") and not octets[-1] & 1)
-    octets = room.made.objects[at]
+    # (how many bits of a signature are unused isn't signed, and rpki_check doesn't ask; those have to be zero)
+    at = room.made.anchor.at
+    octets = next(octets for octets in iter(room.made.anchor.own_cert, None) if not octets[-1] & 1)
     lay(cache, room.made.objects | {at: octets[:-257] + b"\x01" + octets[-256:]})
     same("unused bits", room.told(cache)["verdicts"], SIGNATURES)
     shutil.rmtree(cache)

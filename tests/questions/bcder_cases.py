@@ -399,12 +399,26 @@ def taking(q):
     content(q, "refused refused", "der", tlv(0x30, NUMBER).hex(), "named sequence again")
     content(q, "refused refused", "der", VALUE.hex(), "take bool")
     content(q, "refused refused refused", "der", NUMBER.hex(), "take bool", "take u8")
+    # A truth of 1 is one by the Basic Encoding Rules alone (X.690 8.2.2, 11.1): by which rules a content is read may be
+    # changed, up to the content's end.
+    truth = "01 01 01"
+    content(q, "Ber true Der refused refused", "der", truth * 2, "mode ber", "take bool", "mode der", "take bool")
+    content(q, "true Cer refused refused", "ber", truth * 2, "take bool", "mode cer", "take bool")
+    content(q, "Der false ()", "ber", "01 01 00", "mode der", "take bool")
+    inside = tlv(0x30, unhex(truth)).hex()
+    content(q, "1 refused refused", "der", inside + truth, "named sequence ber", "take bool")
+    content(q, "1 true ()", "ber", inside + truth, "named sequence ber", "take bool")
+    content(q, "refused refused", "der", inside, "named sequence over")
 
 
 def captures(q):
     content(q, f"{told(NUMBER)} {told(NULL_IN_0 + STRING)} x ()", "der", INSIDE, "capture one", "capture all", "capture all")
     content(q, "Der 5 [] ()", "der", NUMBER.hex(), "capture one number")
     content(q, "Ber ()", "ber", "", "capture mode")
+    # Captured octets, taken up again as octets that spell values: of a NULL and an OCTET STRING the NULL can be read.
+    content(q, "() x04026162 refused x04026162 x04026162 ()", "der", "05 00 04 02 61 62", "capture all again")
+    content(q, "() x refused x x ()", "cer", "05 00", "capture one again")
+    content(q, "refused x refused x x ()", "ber", "", "capture all again")
     content(q, "refused x ()", "ber", "", "capture one", "capture all")
     # A NULL, and the OCTET STRING ab: read in part, twice.
     content(q, "() x04026162 refused x04026162 x04026162 ()", "der", "05 00 04 02 61 62", "capture all parts")

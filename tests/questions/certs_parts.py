@@ -176,6 +176,35 @@ FAILS = {
     "IpResourcesPresent": claims(ipv4=["10.0.0.0/8"]),
     "AsResourcesInherited": claims(**{"as": "inherit"}),
 }
+# What the Rust crate prints of a failing test; where it has several texts for one, docs/DIFFERENCES.md says which is this.
+TEXTS = {
+    "AlgorithmMismatch": "signature algorithm mismatch in certificate",
+    "BadIssuer": "invalid issuer",
+    "BadSubject": "invalid subject",
+    "KeyAlgorithm": "public key algorithm not allowed for RPKI certificates",
+    "KeyIdMismatch": "Subject Key Identifier extension doesn't match public key",
+    "ExtendedKeyUsagePresent": "Extended Key Usage extension not allowed in RPKI certificates",
+    "ExtendedKeyUsageMissing": "missing Extended Key Usage extension in router certificate",
+    "NotRouterUsage": "Extended Key Usage extension is missing id-kp-bgpsec-router usage in router certificate",
+    "BasicConstraintsMissing": "missing Basic Constraints extension in CA certificate",
+    "BasicConstraintsPresent": "Basic Constraints extension not allowed in end entity certificate",
+    "NotCa": "cA flag in Basic Constraints extension set to false",
+    "WrongKeyUsage": "invalid Key Usage extension in certificate",
+    "RepositoryMissing": "missing id-ad-caRepository SIA instance in CA certificate",
+    "RepositoryPresent": "id-ad-caRepository SIA instance not allowed in end entity certificate",
+    "ManifestMissing": "missing id-ad-rpkiManifest SIA instance in CA certificate",
+    "ManifestPresent": "id-ad-rpkiManifest SIA instance not allowed in end entity certificate",
+    "ManifestNotChild": "id-ad-rpkiManifest is not a child of id-ad-caRepository",
+    "SignedObjectMissing": "missing id-ad-signedObject SIA instance in signed object end entity certificate",
+    "SignedObjectPresent": "id-ad-signedObject SIA instance not allowed in CA certificate",
+    "AuthorityKeyMismatch": "Authority Key Identifier doesn't match Subject Key Identifier",
+    "CrlMissing": "missing CRL Distribution Points extension in certificate",
+    "CrlPresent": "CRL Distribution Points extension not allowed in trust anchor certificate",
+    "AiaPresent": "Authority Information Access extension not allowed in trust anchor certificate",
+    "SiaPresent": "Subject Information Access extension not allowed in router certificate",
+    "IpResourcesPresent": "IP Resources extension not allowed in router certificate",
+    "AsResourcesInherited": "inherited AS Resources in router certificate",
+}
 BASICS = ["AlgorithmMismatch", "BadIssuer", "BadSubject", "KeyAlgorithm", "KeyIdMismatch", "ExtendedKeyUsagePresent"]
 AUTHORITY = ["BasicConstraintsMissing", "NotCa", "WrongKeyUsage", "RepositoryMissing", "ManifestMissing", "ManifestNotChild", "SignedObjectPresent"]
 DETACHED = ["CrlMissing", "BasicConstraintsPresent", "WrongKeyUsage", "RepositoryPresent", "ManifestPresent"]

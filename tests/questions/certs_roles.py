@@ -25,7 +25,7 @@ sys.path.insert(0, str(pathlib.Path(__file__).resolve().parents[1] / "lib"))
 
 import certs_built_cases as built  # noqa: E402
 import rpki_repositories as world  # noqa: E402
-from certs_parts import ALL, APART, FAILS, FIRST, HOST, LAST, MOMENT, OTHER_KEY, ROUTER, RSA, SIGN_BARE, TESTS  # noqa: E402
+from certs_parts import ALL, APART, FAILS, FIRST, HOST, LAST, MOMENT, OTHER_KEY, ROUTER, RSA, SIGN_BARE, TESTS, TEXTS  # noqa: E402
 from certs_parts import claims, made, name, places, sets  # noqa: E402
 from rpki_repositories import NULL, bits, integer, oid, seq, tlv  # noqa: E402
 
@@ -50,6 +50,7 @@ def inspections():
         for test in tests:
             ask(test, "inspect", role, "strict", made(role, FAILS[test]).octets(), about=("row", role, test))
             ask(test, "inspect", role, "relaxed", made(role, FAILS[test]).octets())
+            ask(TEXTS[test], "inspect", role, "strict", made(role, FAILS[test]).octets(), "text", about=("text", test))
         pairs = [pair for pair in itertools.combinations(tests, 2) if set(pair) not in APART]
         following = dict(reversed(pairs))
         for one, other in pairs:

@@ -149,6 +149,8 @@ def answer_of(topic, mode, data):
         need(len(algorithms) == 1)
         has_null(algorithms[0], [SHA256])
         return around(0x31, algorithm(SHA256, False, mode), mode).hex()
+    if topic == "new":
+        return made_of(item.octets, mode)
     fields = parts_of(item, 16)
     need(len(fields) == 3)
     message = fields[0].octets
@@ -158,6 +160,12 @@ def answer_of(topic, mode, data):
     return told(message.hex(), null, str(bits[0]), bits[1:].hex(), written.hex())
 
 
+def made_of(message, mode):
+    """Signed data that is put together: a value, the algorithm with NULL, and the value's octets as signature."""
+    written = around(0x30, message + algorithm(SHA256_RSA, True, mode) + tlv(3, b"\0" + message), mode)
+    return told(message.hex(), True, "0", message.hex(), written.hex())
+
+
 def signed(q):
     """Asks all questions: of each kind of algorithm and of signed data, in each mode."""
 
@@ -165,7 +173,7 @@ def signed(q):
         try:
             answer = answer_of(topic, mode, data)
         except Refused:
-            answer = "refused"
+            answer = "refused: content"
         q.ask(answer, "signed", topic, mode, data.hex())
 
     def cut_and_changed(topic, mode, data):
@@ -230,3 +238,8 @@ def signed(q):
     for behind in (b"", b"\0", b"\xff\xff", whole):
         ask("front", "der", whole + behind)
     ask("front", "ber", tlv(0x30, long_message + algorithm(SHA256_RSA, True, "der") + tlv(3, b"\0")))
+    for message in [*messages, long_message, whole, b"", b"\5\0\5", tlv(4, bytes(995)), b"\x30\x81\x02\5\0", around(0x30, tlv(5, b""), "cer")]:
+        for mode in ("ber", "cer", "der"):
+            ask("new", mode, message)
+    for octets in (b"", b"\0", b"\xff" * 256, whole):
+        q.ask(octets.hex(), "signed", "kept", "der", octets.hex())

@@ -5,6 +5,7 @@ A moment is a UTCTime (X.680 47) `YYMMDDHHMMSSZ` of the years 1950 to 2049, or a
 4.1.2.5). What is written is a UTCTime from 1950 through 2049, else a GeneralizedTime.
 """
 
+import datetime
 import itertools
 import random
 
@@ -119,3 +120,37 @@ def validities(q):
     for first, last, now in itertools.product(days, repeat=3):
         answer = "NotYetValid" if now < first else "Expired" if now > last else "valid"
         q.ask(answer, "time", "verify", first, last, now)
+    lasting(q)
+
+
+# The days of 400 years, after which dates come again; and those before the year 400, in Python's count.
+CYCLE, BEFORE = 146097, datetime.date(400, 1, 1).toordinal()
+
+
+def number_of(text):
+    """The seconds of a moment since the year 0."""
+    year, month, day, hour, minute, second = (int(text[a:b]) for a, b in ((0, 4), (4, 6), (6, 8), (8, 10), (10, 12), (12, 14)))
+    days = datetime.date(400 + year % 400, month, day).toordinal() - BEFORE + year // 400 * CYCLE
+    return ((days * 24 + hour) * 60 + minute) * 60 + second
+
+
+def text_of(number):
+    """The moment of so many seconds since the year 0, or None outside the years 0 to 9999."""
+    days, rest = divmod(number, 86400)
+    cycles, days = divmod(days, CYCLE)
+    if not 0 <= cycles < 25:
+        return None
+    date = datetime.date.fromordinal(BEFORE + days)
+    return f"{date.year - 400 + 400 * cycles:04}{date:%m%d}{rest // 3600:02}{rest // 60 % 60:02}{rest % 60:02}Z"
+
+
+def lasting(q):
+    """Validities of so many seconds, from a moment on or up to it."""
+    first, last = 0, number_of("99991231235959Z")
+    for moment in MOMENTS:
+        now = number_of(moment)
+        steps = [0, 1, 59, 3600, 86399, 86400, 28 * 86400, 366 * 86400, CYCLE * 86400, 2**36 + 12345, last, last + 1, 2**63 - 1]
+        steps += [-step for step in steps[1:]] + [-(2**63), last - now, last - now + 1, first - now, first - now - 1]
+        for step in steps:
+            then = text_of(now + step)
+            q.ask("none" if then is None else " ".join(sorted((moment, then))), "time", "seconds", moment, str(step))

@@ -29,6 +29,11 @@ def are_pieces(attributes):
     return not any(node.constructed and node.tag == (0, 4) for node in signed.nodes(front(tlv(0xA0, attributes), False)))
 
 
+def with_zeros(octets, unused):
+    """A BIT STRING in DER, where the bits that aren't used are 0 (X.690 11.2.1)."""
+    return bits(octets[:-1] + bytes([octets[-1] >> unused << unused]) if octets else octets, unused)
+
+
 class Parts:
     """The parts of an object that is read, as they stand."""
 
@@ -40,7 +45,7 @@ class Parts:
         self.kind, self.content, self.ber = self.read.kind, self.read.content, ber
         self.tbs, outer, said = der.counted(self.cert, 3)
         self.algorithm = world.ALGORITHM if der.algorithm(outer, der.SHA256_RSA) else seq(oid("1.2.840.113549.1.1.11"))
-        self.cert_signature, _ = signed.bit_string(said, ber)
+        self.cert_signature = signed.bit_string(said, ber)
         _, sid, _, attributes, _, signature = der.counted(self.signer, 6)
         self.sid, self.signature = signed.string(sid, ber, (2, 0)), signed.string(signature, ber)
         self.attributes = attributes.inner()
@@ -50,7 +55,7 @@ class Parts:
         """The octets in DER, or None where what was signed doesn't stand in DER."""
         if not (are_der(self.attributes) and are_der(self.tbs.octets())):
             return None
-        cert = seq(self.tbs.octets(), self.algorithm, bits(self.cert_signature))
+        cert = seq(self.tbs.octets(), self.algorithm, with_zeros(*self.cert_signature))
         signer = seq(integer(3), tlv(0x80, self.sid), SHA256, tlv(0xA0, self.attributes), RSA, tlv(4, self.signature))
         info = seq(tlv(6, self.kind), tlv(0xA0, tlv(4, self.content)))
         data = seq(integer(3), tlv(0x31, SHA256), info, tlv(0xA0, cert), tlv(0x31, signer))
@@ -209,7 +214,11 @@ def addresses(q):
         blocks = [seq(tlv(4, kind), some) for kind, texts, some in zip(world.FAMILIES.values(), families, lists) if texts is not None]
         content = seq(integer(64496), seq(*blocks))
         good = q.answer_of("roa", content) != "refused"
-        answer = " ".join(f"x{some.hex()}" for some in lists) if good else "refused"
+        told = [f"x{some.hex()}" for some in lists]
+        for some in families:
+            nets = [ipaddress.ip_network(text.partition("-")[0]) for text in some or []]
+            told += [f"{'true' if net.version == 4 else 'false'} {net}" for net in nets]
+        answer = " ".join(told) if good else "refused"
         digest = signed.attribute("4", tlv(4, world.Fips.sha256(content)))
         q.ask(answer, "addresses", made("roa", content=tlv(4, content), digest=digest).hex())
 

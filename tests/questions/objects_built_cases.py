@@ -1,5 +1,5 @@
 #!/usr/bin/env python3
-"""Signed objects that crates/objects_built_cases is asked to build, for tests/questions/objects_cases.py.
+"""Signed objects that crates/objects_cases is asked to build, for tests/questions/objects_cases.py.
 
 What is written is spelled here by X.690 8, 10 and 11.6 from the fields, line by line as RFC 5652 3 and 5, RFC 6488 2 and RFC 6487 4
 have them; a signature is the SHA-256 digest of the key's bits and of what is signed.
@@ -117,6 +117,8 @@ def family(number, prefixes):
         return b""
     if prefixes == "inherit":
         said = NULL
+    elif prefixes == "all":
+        said = seq(tlv(3, b"\0"))
     else:
         nets = [ipaddress.ip_network(text) for text in prefixes]
         said = seq(*(block(*run, nets[0].max_prefixlen) for run in ranges(nets)))
@@ -124,6 +126,8 @@ def family(number, prefixes):
 
 
 def asns(numbers):
+    if numbers == "all":
+        return seq(tlv(0xA0, seq(seq(integer(0), integer(2**32 - 1)))))
     return seq(tlv(0xA0, NULL if numbers == "inherit" else seq(*(integer(number) for number in numbers))))
 
 
@@ -189,7 +193,7 @@ def built(fields):
 
 
 def text_of(value, kind):
-    if value == "inherit":
+    if value in ("inherit", "all"):
         return value
     return ", ".join(f"AS{number}" for number in value) if kind == "asn" else ", ".join(value)
 
@@ -502,11 +506,30 @@ def files():
             yield ["hash", said.hex(), octets.hex()], f"{said.hex()} {'fits' if said == digest else 'manifest hash mismatch'}"
 
 
+def turned(fields):
+    """What the fields are told as, and those that they are turned to."""
+    facts = [fields.get(word) is not None for word in ("issuer", "subject")] + [fields.get(word) is None for word in ("v4", "v6", "asn")]
+    facts.append(fields.get("v4") is not None or fields.get("v6") is not None)
+    made = dict(fields, serial=7, signed=fields["from"], crl=fields["aia"], aia=fields["object"], object=fields["aia"])
+    made["from"] = fields["signed"]
+    return f"{fields['serial']} " + " ".join(str(fact).lower() for fact in facts), made
+
+
+def lent_and_set():
+    everything = {"v4": "all", "v6": "all", "asn": "all"}
+    for some in ({}, {"v4": "all"}, {"v6": "all"}, {"asn": "all"}, everything):
+        fields = {word: value for word, value in ROA.items() if word != "v4"} | some
+        yield ["build", *words(fields)], f"{built(fields).hex()} {again(fields)}"
+        for more in ({}, {"issuer": "A"}, {"subject": "S"}, {"issuer": "I", "subject": "S", "signed": (1999, 12, 31, 23, 59, 59)}, {"serial": 2**160 - 1}):
+            told, made = turned(fields | more)
+            yield ["build", *words(fields | more), "turned="], f"{told} {built(made).hex()} {again(made)}"
+
+
 def questions():
     for fields in cases():
         yield ["build", *words(fields)], f"{built(fields).hex()} {again(fields)}"
     yield ["refuse", *words(ROA)], UNFIT
-    for asked in (roas, address_lists, aspas, manifests, files):
+    for asked in (roas, address_lists, aspas, manifests, files, lent_and_set):
         yield from asked()
 
 

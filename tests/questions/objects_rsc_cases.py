@@ -1,5 +1,5 @@
 #!/usr/bin/env python3
-"""Writes the questions and answers of crates/objects_rsc_cases: tests/questions/objects_rsc_cases.py [--all]
+"""Signed checklists that crates/objects_cases is asked about, for tests/questions/objects_cases.py.
 
 Contents of signed checklists are read here by RFC 9323 4 and RFC 3779 in this script's own words, over the reader of X.690 in
 certs_signed_cases.py; what is said of checklists that are processed follows from their defects by the order of the tests
@@ -21,17 +21,18 @@ import rpki_repositories as world  # noqa: E402
 from certs_signed_cases import SHA256, Refused, bits_of, content_of, has_null, need, parts_of, value  # noqa: E402
 from rpki_repositories import bits, integer, oid, seq, tlv  # noqa: E402
 
-FOLDER = pathlib.Path(__file__).resolve().parents[2] / "crates" / "objects_rsc_cases"
 CHECKLIST = "1.2.840.113549.1.9.16.1.48"
 rng = random.Random(9323)
 
 
-class Questions:
-    def __init__(self):
-        self.rows = []
+class Behind:
+    """Asks each question behind a word."""
+
+    def __init__(self, q, word):
+        self.q, self.word = q, word
 
     def ask(self, answer, *words):
-        self.rows.append(("\t".join(words), answer))
+        self.q.ask(answer, self.word, *words)
 
 
 # The reader (RFC 9323 4).
@@ -634,20 +635,12 @@ def files(q):
             q.ask(f"{words} {words}", "file", "-" if name is None else name.hex(), digest.hex())
 
 
-def questions(whole=False):
-    q = Questions()
+def checklists(q, whole=False):
+    """Asks all."""
+    q = Behind(q, "rsc")
     contents(q)
     files(q)
     signed = Signed(q, whole)
     signed.ask()
     signed.read()
     signed.sound()
-    return q.rows
-
-
-if __name__ == "__main__":
-    rows = questions("--all" in sys.argv)
-    FOLDER.mkdir(exist_ok=True)
-    (FOLDER / "stdin").write_text("".join(f"{question}\n" for question, _ in rows))
-    (FOLDER / "stdout").write_text("".join(f"{answer}\n" for _, answer in rows))
-    print(len(rows), "questions")

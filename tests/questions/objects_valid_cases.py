@@ -9,6 +9,7 @@ import hashlib
 import itertools
 
 import rpki_repositories as world
+from certs_parts import TEXTS
 from rpki_repositories import RSA, SHA256, bits, integer, oid, seq, tlv
 
 EARLY, LATE = b"20231231235959Z", b"20260101000001Z"
@@ -44,16 +45,16 @@ CONTENTS = {
     "object": (OTHER, b"any content", {"ipv6": ["2001:db8::/48"]}),
 }
 FORM = [
-    Defect("AlgorithmMismatch", 0, outer=seq(oid("1.2.840.113549.1.1.11"))),
-    Defect("BadIssuer", 0, issuer=name(COMMON_NAME, 0x16, b"a")),
-    Defect("BadSubject", 0, subject=name("2.5.4.10", 0x13, b"a")),
-    Defect("KeyIdMismatch", 0, identifier=bytes(20)),
-    Defect("ExtendedKeyUsagePresent", 0, purposes=world.extension("2.5.29.37", seq(oid("1.3.6.1.5.5.7.3.30")))),
-    Defect("CrlMissing", 0, crl=b""),
-    Defect("BasicConstraintsPresent", 0, basic=world.basic(False)),
-    Defect("WrongKeyUsage", 0, usage=world.usage(True)),
+    Defect(TEXTS["AlgorithmMismatch"], 0, outer=seq(oid("1.2.840.113549.1.1.11"))),
+    Defect(TEXTS["BadIssuer"], 0, issuer=name(COMMON_NAME, 0x16, b"a")),
+    Defect(TEXTS["BadSubject"], 0, subject=name("2.5.4.10", 0x13, b"a")),
+    Defect(TEXTS["KeyIdMismatch"], 0, identifier=bytes(20)),
+    Defect(TEXTS["ExtendedKeyUsagePresent"], 0, purposes=world.extension("2.5.29.37", seq(oid("1.3.6.1.5.5.7.3.30")))),
+    Defect(TEXTS["CrlMissing"], 0, crl=b""),
+    Defect(TEXTS["BasicConstraintsPresent"], 0, basic=world.basic(False)),
+    Defect(TEXTS["WrongKeyUsage"], 0, usage=world.usage(True)),
 ]
-PLACE = [Defect("SignedObjectMissing", 0, place=b"")]
+PLACE = [Defect(TEXTS["SignedObjectMissing"], 0, place=b"")]
 SOUND = [
     Defect("message digest of another content", 0, digest=hashlib.sha256(b"other").digest()),
     Defect("signed after the certificate expired", 0, signing_time=LATE),

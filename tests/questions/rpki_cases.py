@@ -714,6 +714,16 @@ def spelled_verdicts(q):
         f.gives(NO_BUNDLE)
 
 
+def locators(q):
+    """Locators whose text a reader gives, which fails, or gives none in the end."""
+    (_, text), *_ = read(rpki_walks.single()[0].bundle())[0]
+    uris = len(text.split(b"\n\n")[0].splitlines())
+    for most, wanted in ((MANY, 2), ("1", len(text) + 1)):
+        for calls in (0, 1, wanted - 1, wanted):
+            said = str(uris) if calls == wanted else "the text can't be read to its end"
+            q.ask(said, "locator", text.hex(), most, str(calls))
+
+
 # Cases for the built program.
 
 
@@ -732,7 +742,7 @@ def main():
     q = Questions()
     shutil.rmtree(DATA, ignore_errors=True)
     parts = (worked_cases, streams, texts, bundles, get_and_parts, times, uris, rpki_walks.walks, rpki_questions.questions)
-    for part in (*parts, case_folder, kinds_of_entries, made_folders, spelled_lines, rpki_places.questions):
+    for part in (*parts, case_folder, kinds_of_entries, made_folders, spelled_lines, rpki_places.questions, locators):
         part(q)
     stored_cases()
     worlds = rpki_worlds.asked_at_the_gate()

@@ -5,8 +5,9 @@
 
 Such a call is given an allocator, or answers an error that can be lack of memory. A row of the table names calls: types with their
 calls behind a colon, or functions alone, and semicolons between; of a name that ends with two dots each call is meant that begins
-so. Prints each call that no row names, and exits with 1 where there is one. With --list each call is printed with the first words
-of the questions that ask it.
+so. What the row's program asks has to be called in its sources, or in those of the libraries of questions below it, by its name,
+or by that of the call that asks it, which stands in the table below. Prints each call that no row names, and each that isn't
+called, and exits with 1 where there is one. With --list each call is printed with the first words of the questions that ask it.
 """
 
 import argparse
@@ -23,10 +24,37 @@ sys.path[:0] = [str(TOP / "tests" / part) for part in ("lib", "tools", "outside"
 import calling  # noqa: E402
 import calls  # noqa: E402
 import calls_growths  # noqa: E402
+import programs  # noqa: E402
 
 FACES = (*calling.FACES, "rpki_bundle")
 GROWTHS = ("AllocError", "AllocFailed", "Memory")
 NAME = re.compile(r"\w+(?:\.\.)?")
+# Calls that programs ask by others alone, which call them.
+WITHIN = {
+    "Values::write_known": "write_encoded",
+    "write_octets": "write_header",
+    "read_front": "decode_partial",
+    "request_all": "from_primitive",
+    "take_front": "from_primitive",
+    "Addr::from_family_str": "from_v4_str",
+    "AddressRange::from_family_str": "from_v4_str",
+    "IpBlock::from_family_str": "from_v4_str",
+    "Prefix::from_family_str": "from_v4_str",
+    "Signer::sign": "into_cert",
+    "Signer::sign_one_off": "finalize",
+    "SignedDataValues::in_der": "to_captured",
+    "Serial::from_primitive": "take_from",
+    "InvalidExtension::to_content_error": "decode",
+    "signed_attributes": "finalize",
+    "signed_message": "finalize",
+    "Tal::from_text": "read_named",
+    "ResourceSignedChecklist::take_from": "decode",
+    "RoaBuilder::to_attestation": "finalize",
+    "read_bundle": "run",
+    "walk_lines": "run",
+    "judge_by": "judge",
+    "Bundle::decode_shared": "run",
+}
 
 
 @functools.cache
@@ -75,11 +103,25 @@ def words_of(names, call):
     return next((words for name, words in names.items() if name == call or (name.endswith("..") and call.startswith(name[:-2]))), None)
 
 
+@functools.cache
+def questions(program):
+    """The sources of a program of questions, and of the libraries of questions that it stands on."""
+    below = programs.libraries()
+    crates = [program, *(name for name in below[program] if "answers" in below[name])]
+    paths = (path for name in crates for path in (programs.CRATES / name / "src").rglob("*.rt"))
+    return "\n".join(calls.COMMENT.sub("", path.read_text()) for path in paths)
+
+
+def is_called(program, name):
+    """Whether a program's sources have a call of that name."""
+    return re.search(rf"\b{name}\s*(?:::<[^()]*>)?\(|::{name}\b", questions(program)) is not None
+
+
 def main():
     parser = argparse.ArgumentParser(description=__doc__, formatter_class=argparse.RawDescriptionHelpFormatter)
     parser.add_argument("--list", action="store_true")
     given = parser.parse_args()
-    rows, lacking, count = asked(), [], 0
+    rows, lacking, count = asked(), {}, 0
     for face in FACES:
         for key, place in calling.public_items(face).items():
             is_call = calling.source(*key[:2]).items[key[2]] == "fn"
@@ -87,13 +129,16 @@ def main():
                 count += 1
                 words = words_of(rows["" if is_call else key[2]], call.name) or words_of(rows["" if is_call else place[-1]], call.name)
                 name = "::".join([face, *place] + ([] if is_call else [call.name]))
+                label = call.name if is_call else f"{key[2]}::{call.name}"
                 if given.list:
                     print(f"{name}: {words}")
                 elif words is None:
-                    lacking.append(name)
-    for name in dict.fromkeys(lacking):
-        print(f"{name} can lack memory, and no row of tests/outside/calls_growths.py names it")
-    print(f"{count - len(lacking)} calls that can lack memory are named, {len(lacking)} are not")
+                    lacking[name] = "no row of tests/outside/calls_growths.py names it"
+                elif not is_called(words.split()[0], WITHIN.get(label, call.name)):
+                    lacking[name] = f"the questions `{words}` don't call it"
+    for name, why in lacking.items():
+        print(f"{name} can lack memory, and {why}")
+    print(f"{count - len(lacking)} calls that can lack memory are asked, {len(lacking)} are not")
     sys.exit(1 if lacking else 0)
 
 

@@ -4,7 +4,8 @@
     promise.py [--list]
 
 It begins with the names in the clauses of `run`, and follows them through lines of `use` and what crates pass on, down to
-the toolchain's library: to definitions, Rust types that these name, ghost members of traits, and words of that library.
+the toolchain's library: to definitions, Rust types and constants that these name, ghost members of traits, and words of that
+library.
 Each definition has to stand in signs of code in a section whose heading names its file, as `rpki_rules/specs/Chains`, all
 else somewhere. What the page quotes of definitions has to stand in them. With --list the definitions are printed, by file,
 lowest first.
@@ -52,7 +53,7 @@ class Promise:
 
 
 def plain(names):
-    """A Rust type by its crate and its name: without its module and its variants."""
+    """A Rust type or constant by its crate and its name: without its module and its variants."""
     names = names[: names.index("TheVariants")] if "TheVariants" in names else names
     return names[0], names[-1]
 
@@ -102,7 +103,7 @@ def missing(promise, text):
     parts = sections(text)
     everywhere = set().union(*(words for _, words in parts))
     found = [f"{'/'.join(module)}: {name}" for module, name in promise.words if not is_named(module, name, parts)]
-    found += [f"{crate}: the Rust type {name}" for crate, name in promise.types if name not in everywhere]
+    found += [f"{crate}: the Rust type or constant {name}" for crate, name in promise.types if name not in everywhere]
     found += [f"the library: {name}" for name in promise.library if name not in everywhere and name[0].isalpha()]
     return found + [f"{path}: the ghost member {name}" for name, path in promise.ghosts.items() if name not in everywhere]
 
@@ -133,7 +134,7 @@ def main():
     lacking, old = missing(promise, text), stale(promise, text)
     for line in lacking + old:
         print(line)
-    counts = f"{len(promise.words)} definitions, {len(promise.types)} Rust types, {len(promise.ghosts)} ghost members"
+    counts = f"{len(promise.words)} definitions, {len(promise.types)} Rust types and constants, {len(promise.ghosts)} ghost members"
     print(f"{counts}, {len(promise.library)} words of the library")
     if lacking or old:
         sys.exit(f"docs/PROMISE.md doesn't name {len(lacking)} of them, and {len(old)} of its lines are old")

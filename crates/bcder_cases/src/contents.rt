@@ -20,6 +20,7 @@ impl<'a> Steps for Values<'a> {
             "opt" => scalars::take_opt(answer, self, step.first),
             "is" => answer.outcome(self.skip_u8_if(step.octet())),
             "opt-is" => answer.outcome(self.skip_opt_u8_if(step.octet())),
+            "mode" => scalars::mode(answer, self, step.first),
             "primitive" => fields::primitive(alloc, answer, self, step),
             "constructed" => fields::constructed(alloc, answer, self, step),
             "value" => fields::value(answer, self, step),

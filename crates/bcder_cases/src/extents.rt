@@ -70,17 +70,24 @@ fn number(answer: &mut Answer, captured: Captured) {
     answer.show(&Captured::empty(mode).as_slice());
 }
 
+// Octets that were captured, taken up again as octets that spell values.
+fn spelled(captured: Captured) -> Captured {
+    let mode = captured.mode();
+    Captured::from_spelled(captured.into_bytes(), mode)
+}
+
 // What was captured.
 fn captured(answer: &mut Answer, how: &str, captured: Captured) {
     match how {
         "parts" => parts(answer, captured),
         "number" => number(answer, captured),
+        "again" => parts(answer, spelled(captured)),
         _ => answer.octets(captured.as_slice()),
     }
 }
 
-// The mode of a content over any source.
-fn mode_of<S: Source>(cons: &mut Constructed<S>) -> Mode {
+/// The mode of a content over any source.
+pub fn mode_of<S: Source>(cons: &mut Constructed<S>) -> Mode {
     cons.mode()
 }
 

@@ -1,7 +1,15 @@
 //! Truths, NULLs and numbers of contents.
 
 use crate::contents::{Refusal, Values};
-use answers::Answer;
+use crate::extents;
+use answers::{Answer, mode_of};
+use bcder::Mode;
+
+/// From now on values are read by the rules of that name; which those are.
+pub fn mode(answer: &mut Answer, cons: &mut Values<'_>, word: &str) {
+    cons.set_mode(mode_of(word));
+    answer.show(&extents::mode_of(cons));
+}
 
 /// The value of a type that is next.
 pub fn take(answer: &mut Answer, cons: &mut Values<'_>, kind: &str) {
@@ -27,13 +35,18 @@ pub fn take_opt(answer: &mut Answer, cons: &mut Values<'_>, kind: &str) {
     }
 }
 
-/// What a closure reads of the values in a value: a number, or 0 for a NULL; or nothing; or it passes over a read that
-/// is refused, and ends or reads on.
+/// What a closure reads of the values in a value: a number, or 0 for a NULL; or a truth by the Basic Encoding Rules, as 1 or 0;
+/// or nothing; or it passes over a read that is refused, and ends or reads on.
 pub fn inner(cons: &mut Values<'_>, word: &str) -> Result<u8, Refusal> {
     match word {
         "null" => {
             cons.take_null()?;
             Ok(0)
+        }
+        "ber" => {
+            cons.set_mode(Mode::Ber);
+            let truth = cons.take_bool()?;
+            Ok(if truth { 1 } else { 0 })
         }
         "nothing" => Ok(1),
         "over" => {

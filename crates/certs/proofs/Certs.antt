@@ -1,10 +1,10 @@
 -- What is written of a certificate that is built is read again as this certificate (RFC 5280 4.1.1).
-use Rattle.std.proofs.Common.{◌≡◌, ◌⊎◌, inl, inr, ℕ, List, [], refl, sym, ap, ◌∙◌, subst, append-nil}
+use Rattle.std.proofs.Common.{◌≡◌, ◌⊎◌, inl, inr, [], refl, sym, ap, subst, append-nil}
 use Rattle.certs.specs.bcder_tree.declared.mode.Mode.TheVariants.{Ber, Der}
 use Rattle.certs.specs.bcder_tree.Tags.{sequence_tag}
 use Rattle.certs.specs.bcder_tree.Tree.{SpellsAll, Trees, constructed}
 use Rattle.certs.specs.bcder_octets.Bits.{BitsValue}
-use Rattle.certs.specs.bcder_octets.BitContents.{IsBitString, IsPadded, bit_string_tag, cleared, padded_in}
+use Rattle.certs.specs.bcder_octets.BitContents.{IsBitString, IsPadded, bit_string_tag, padded_in}
 use Rattle.certs.specs.bcder_content.Grammar.{OctetsOf}
 use Rattle.certs.specs.bcder_content.Kept.{CapturedValue}
 use Rattle.certs.specs.bcder_content.Texts.{SpellsOf}
@@ -15,12 +15,12 @@ use Rattle.certs.specs.bcder_values.Forms.{Alone}
 use Rattle.certs.specs.certs_basics.Keys.{KeyValue}
 use Rattle.certs.specs.certs_key.Cleared.{key_again}
 use Rattle.certs.specs.certs_x509.Signed.{SignedDataValue, signed, signed_fields}
-use Rattle.certs.specs.certs_extension.Cert.{CertValue, TbsValue}
+use Rattle.certs.specs.certs_extension.Cert.{TbsValue}
 use Rattle.certs.specs.certs_extension.CertText.{IsCert, IsTbs}
 use Rattle.certs.specs.certs_extension.Spellings.{CertIsSpelled}
 use Rattle.certs.specs.Laws.{BuiltIsRead, BuiltIsSpelled, FieldsStay, ReadIsBuilt, as_read, fields_again}
 use Rattle.certs.proofs.Ext.{one_of_all}
-use Rattle.certs.proofs.of_certs_key.Padded.{all_used}
+use Rattle.certs.proofs.of_certs_key.Padded.{padded_same}
 use Rattle.certs.proofs.ValuesRead.{ResourcesAreRead}
 use Rattle.certs.proofs.Whole.{algorithm_read, fields_are_read, last_read, only_tree, then_read}
 
@@ -75,12 +75,15 @@ pub built_is_read : ResourcesAreRead → CertIsSpelled → BuiltIsRead
 built_is_read reads spelled s c text lawful readable built =
     record { text = text; rest = []; whole = sym (append-nil text); is = built_is_spelled reads spelled s c text lawful readable built }
 
--- It is the certificate that was built, where all bits of the signature are used.
+-- It is the certificate that was built, where the unused bits of the signature are zero.
 pub read_is_built : ReadIsBuilt
-read_is_built s c used =
+read_is_built s c mode padded =
     let v = s.signature.bits in
-    let same : cleared v.unused v.octets ≡ v.octets = ap (λ n. cleared n v.octets) used ∙ all_used v.octets in
-    ap (λ (o : List ℕ). (let made : CertValue = record { signed = record { message = s.message.octets; has_null = s.signature.algorithm; signature = o }; tbs = c } in made)) same
+    let same : (padded_in Der v).octets ≡ v.octets = ap (λ (b : BitsValue). b.octets) (padded_same v padded) in
+    λ i. record {
+      signed = record { message = s.message.octets; has_null = s.signature.algorithm; signature = same i; unused = v.unused; mode = sym mode i };
+      tbs = c;
+    }
 
 -- The fields are the same, where the key is the same again.
 pub fields_stay : ((k : KeyValue) → IsPadded Der k.bits → key_again Der k ≡ k) → FieldsStay

@@ -67,14 +67,16 @@ pub record IsBuilt (s : SignedDataValue) (c : TbsValue) (text : List ℕ) : Type
   pub message : WritesTbs c s.message.octets
   pub written : signed.writes (signed_fields s) Der text
 
--- The certificate with these fields, the same signed octets and algorithm, and the same signature, whose unused bits, if it has
--- some, are zero, as DER has them (X.690 11.2.1).
+-- The certificate with these fields, the same signed octets, which stand in DER, and algorithm, and the same signature, whose
+-- unused bits, if it has some, are zero, as DER has them (X.690 11.2.1).
 abbrev pub as_read : SignedDataValue → TbsValue → CertValue
 as_read s c = record {
   signed = record {
     message = s.message.octets;
     has_null = s.signature.algorithm;
     signature = (padded_in Der s.signature.bits).octets;
+    unused = s.signature.bits.unused;
+    mode = Der;
   };
   tbs = c;
 }
@@ -87,9 +89,10 @@ BuiltIsRead = (s : SignedDataValue) (c : TbsValue) (text : List ℕ) → IsLawfu
 abbrev pub BuiltIsSpelled : Type 0
 BuiltIsSpelled = (s : SignedDataValue) (c : TbsValue) (text : List ℕ) → IsLawful c → IsReadable c → IsBuilt s c text → SpellsCert Der text (as_read s (fields_again c))
 
--- It is the certificate that was built, where all bits of the signature are used, as of each that is made of octets.
+-- It is the certificate that was built, where what was signed stands in DER, and the unused bits of the signature are zero, as
+-- where there are none (X.690 11.2.1).
 abbrev pub ReadIsBuilt : Type 0
-ReadIsBuilt = (s : SignedDataValue) (c : TbsValue) → s.signature.bits.unused ≡ 0 → as_read s c ≡ record { signed = signed_of s; tbs = c }
+ReadIsBuilt = (s : SignedDataValue) (c : TbsValue) → s.message.mode ≡ Der → IsPadded Der s.signature.bits → as_read s c ≡ record { signed = signed_of s; tbs = c }
 
 -- The fields of a certificate that is read are such, and the unused bits of its key are zero, so that they are read again as
 -- they are, once they are written.

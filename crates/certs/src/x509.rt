@@ -11,6 +11,6 @@ pub use certs_x509::time::{GeneralizedTime, TimeText, ValidityError, ValidityVal
 pub use certs_x509::uri::{Error as UriError, Https, Rsync};
 pub use certs_x509::{
     ClaimedKind, Clock, InspectionError, KeyIdentifier, Name, Overclaimed, PublicKey,
-    PublicKeyFormat, Serial, SignatureVerificationError, SignedData, TalInfo, Time,
-    ValidationError, Validity, VerificationError,
+    PublicKeyFormat, Serial, SignedData, TalInfo, Time, ValidationError, Validity,
+    VerificationError,
 };

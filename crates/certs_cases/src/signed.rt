@@ -1,4 +1,5 @@
-//! Questions about algorithms and signed data: what octets begin with, in a mode, and what is written of it.
+//! Questions about algorithms and signed data: what octets begin with, in a mode, and what is written of it; or signed data
+//! that is put together of it; or what a signature of octets has.
 
 use crate::values::{bytes_of, found, say_written, tell};
 use answers::{Answer, mode_of, unknown};
@@ -7,7 +8,9 @@ use bcder::decode::Decode;
 use bcder::encode::{EncodeError, Values};
 use bcder::{Captured, Mode};
 use bytes::Bytes;
-use certs_x509::{DigestAlgorithm, RpkiSignatureAlgorithm, SignatureAlgorithm, SignedData};
+use certs_x509::{
+    DigestAlgorithm, RpkiSignatureAlgorithm, Signature, SignatureAlgorithm, SignedData,
+};
 use std::alloc::Global;
 
 // Whether NULL stands there, and what is written.
@@ -31,7 +34,7 @@ fn show(alloc: Global, answer: &mut Answer, signed: SignedData, mode: Mode) {
     say_written(answer, "", signed.encode_ref().to_captured(alloc, mode));
 }
 
-// The digest algorithm that octets begin with, whether there is one, or a set of one.
+// The digest algorithm that octets begin with, whether there is one, or a set of one; or the octets of a signature of octets.
 fn digest(alloc: Global, answer: &mut Answer, kind: &str, mode: Mode, octets: Bytes) -> Result<()> {
     match kind {
         "opt-digest" => {
@@ -41,6 +44,11 @@ fn digest(alloc: Global, answer: &mut Answer, kind: &str, mode: Mode, octets: By
         "digests" => {
             let read = found(mode.decode(octets, |cons| DigestAlgorithm::take_set_from(cons)))?;
             say_written(answer, "", read.encode_set().to_captured(alloc, mode));
+        }
+        "kept" => {
+            let signature = Signature::new(RpkiSignatureAlgorithm::default(), octets);
+            let kept = signature.into_value()?;
+            tell(answer, kept.as_slice());
         }
         _ => {
             let read = found(mode.decode(octets, |cons| DigestAlgorithm::take_from(cons)))?;
@@ -71,6 +79,12 @@ fn told(alloc: Global, answer: &mut Answer, kind: &str, mode: Mode, octets: Byte
             let read = found(mode.decode(octets, |cons| SignedData::take_from(alloc, cons)))?;
             show(alloc, answer, read, mode);
         }
+        "new" => {
+            let message = found(mode.decode(octets, |cons| cons.capture_one(alloc)))?;
+            let value = Bytes::copy_from_slice(alloc, message.as_slice())?;
+            let signature = Signature::new(RpkiSignatureAlgorithm::default(), value);
+            show(alloc, answer, SignedData::new(message, signature), mode);
+        }
         "front" => show(
             alloc,
             answer,
@@ -82,14 +96,11 @@ fn told(alloc: Global, answer: &mut Answer, kind: &str, mode: Mode, octets: Byte
     Ok(())
 }
 
-/// Answers a question; of a refusal, no more than that.
+/// Answers a question.
 pub fn answer(alloc: Global, answer: &mut Answer, words: &[&str]) -> Result<()> {
     let [kind, word, digits] = words else {
         return unknown();
     };
     let octets = bytes_of(alloc, *digits)?;
-    if told(alloc, answer, *kind, mode_of(*word), octets).is_err() {
-        answer.word("refused");
-    }
-    Ok(())
+    told(alloc, answer, *kind, mode_of(*word), octets)
 }

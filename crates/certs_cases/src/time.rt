@@ -1,4 +1,5 @@
-//! Questions about moments and validity: what is asked, the mode, and octets in hexadecimal digits or a moment's text.
+//! Questions about moments and validity: what is asked, the mode, and octets in hexadecimal digits or a moment's text; or a
+//! moment and a number of seconds.
 
 use crate::values::{found, write};
 use answers::{Answer, mode_of, octets_of, unknown};
@@ -62,10 +63,23 @@ fn verify(answer: &mut Answer, first: &str, last: &str, now: &str) -> Result<()>
     Ok(())
 }
 
+// The validity from a moment on that lasts so many seconds, or up to it where there are fewer than none.
+fn lasting(answer: &mut Answer, now: &str, seconds: &str) -> Result<()> {
+    match Validity::from_secs(moment_of(now)?, seconds.parse::<i64>()?) {
+        Some(period) => {
+            show(answer, period.not_before());
+            show(answer, period.not_after());
+        }
+        None => answer.word("none"),
+    }
+    Ok(())
+}
+
 /// Answers a question about moments.
 pub fn answer(alloc: Global, answer: &mut Answer, words: &[&str]) -> Result<()> {
     match words {
         [_, first, last, now] => verify(answer, *first, *last, *now),
+        ["seconds", now, seconds] => lasting(answer, *now, *seconds),
         [kind, word, digits] => {
             let octets = octets_of(alloc, *digits);
             read(alloc, answer, *kind, mode_of(*word), octets.as_slice())

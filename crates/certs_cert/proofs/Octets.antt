@@ -4,10 +4,11 @@ use Rattle.certs_cert.specs.bcder_tree.declared.mode.Mode.{Mode}
 use Rattle.certs_cert.specs.bcder_tree.Tree.{Tree}
 use Rattle.certs_cert.specs.bcder_tree.Front.{Front}
 use Rattle.certs_cert.specs.bcder_content.Contents.{ValuesLeft}
+use Rattle.certs_cert.specs.bcder_content.Exact.{GivesAll}
 use Rattle.certs_cert.specs.bcder_content.Texts.{InFront, Joins}
 use Rattle.certs_cert.proofs.of_bcder_content.Keeping.{front_all}
 use Rattle.certs_cert.proofs.of_bcder_tree.Trees.{one_tree}
-use Rattle.certs_x509.specs.Signed.{AreSignedOctets, SignedDataValue, octet_fields}
+use Rattle.certs_x509.specs.Signed.{AreSignedOctets, SignedDataValue, octet_fields, signed_content, signed_fields}
 use Rattle.certs_x509.specs.Took.{TookOctets}
 use Rattle.certs_extension.specs.Cert.{CertValue, TbsValue}
 use Rattle.certs_extension.specs.CertText.{Fields, SpellsTbs}
@@ -16,6 +17,7 @@ use Rattle.certs_cert.specs.Reading.{Listed, ListedFields, SaysListed, SpellsLis
 use Rattle.certs_cert.specs.Whole.{AreCertOctets, signed_of}
 use Rattle.certs_cert.proofs.Listed.{slotted_list}
 use Rattle.certs_cert.proofs.Spelled.{fields_tree}
+use Rattle.certs_cert.proofs.Whole.{in_mode}
 
 -- The first octets stay, and others come after them.
 rejoin : {A B C : Type 0} {P : List ℕ → A → Type 0} {R : List ℕ → B → Type 0} {S : List ℕ → C → Type 0} {text : List ℕ} {x : A × B} {y : C}
@@ -74,9 +76,9 @@ all_of {m} {octets} {c} f p =
 
 -- Signed data was read of these octets, and what is signed of the octets that were kept.
 pub cert_took : {now new : ValuesLeft} {m : Mode} {s : SignedDataValue} {tbs : TbsValue} {c : CertValue}
-    → m ≡ now.mode → c ≡ record { signed = signed_of s; tbs = tbs }
+    → m ≡ now.mode → c ≡ record { signed = signed_of s; tbs = tbs } → GivesAll (signed_content.reads now.mode) now (signed_fields s) new
     → TookOctets octet_fields AreSignedOctets now s new → InFront (SpellsTbs m) s.message.octets tbs → TookOctets (λ (x : CertValue). x) AreCertOctets now c new
-cert_took {now} {s = s} {tbs} em ec t p =
+cert_took {now} {s = s} {tbs} em ec g t p =
     let message = t.is in
     let front = subst (λ (z : Mode). InFront (SpellsTbs z) s.message.octets tbs) em p in
     let whole = all_of (front_all message.is.is.spelled) (subst (λ (z : List ℕ). InFront (SpellsTbs now.mode) z tbs) message.is.same front) in
@@ -92,6 +94,6 @@ cert_took {now} {s = s} {tbs} em ec t p =
           is = record { same = message.is.same; is = whole };
           rest = message.rest;
         };
-        says = ec;
+        says = ec ∙ ap (in_mode s tbs) g.is.is.mode;
       };
     }

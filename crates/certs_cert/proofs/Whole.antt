@@ -41,6 +41,10 @@ record Message (m : Mode) (s : SignedDataValue) (tbs : TbsValue) : Type 0 where
   front : Front m s.message.octets tree rest
   is : IsTbs m tree tbs
 
+-- The certificate of signed data in that mode.
+abbrev pub in_mode : SignedDataValue → TbsValue → Mode → CertValue
+in_mode s tbs m = record { signed = record (signed_of s) { mode = m }; tbs = tbs }
+
 message_cert : {m : Mode} {s : SignedDataValue} {tbs : TbsValue} {c : CertValue} → Message m s tbs → c ≡ record { signed = signed_of s; tbs = tbs }
     → (ts : Trees) → signed_content.reads m ts (signed_fields s) → AreCert m ts c
 message_cert {m} {s} {tbs} d ec ts i =
@@ -54,7 +58,7 @@ message_cert {m} {s} {tbs} d ec ts i =
         is = record { spelled = i.is.kept.spelled; is = subst (λ (t : Tree). IsTbs m t tbs) same d.is };
         rest = i.rest;
       };
-      says = ec;
+      says = ec ∙ ap (in_mode s tbs) i.is.mode;
     }
 
 pub cert_gives : {now new : ValuesLeft} {m : Mode} {s : SignedDataValue} {tbs : TbsValue} {c : CertValue}

@@ -8,13 +8,9 @@ use Rattle.certs_cert.specs.bcder_content.Words.{Kept}
 use Rattle.certs_cert.specs.bcder_octets.Bits.{BitsValue}
 use Rattle.certs_cert.specs.bcder_octets.BitContents.{IsBitString, bit_string_tag}
 use Rattle.certs_cert.specs.certs_basics.Basics.{IsAlgorithm}
-use Rattle.certs_x509.specs.Signed.{SignedDataValue}
-use Rattle.certs_extension.specs.Cert.{CertValue, SignedValue, TbsValue}
+pub use Rattle.certs_x509.specs.Captured.{signed_of}
+use Rattle.certs_extension.specs.Cert.{CertValue, TbsValue}
 use Rattle.certs_extension.specs.CertText.{IsTbs, SpellsTbs, as_cert}
-
--- The octets that are signed, whether NULL stands in the outer algorithm, and the octets of the signature.
-abbrev pub signed_of : SignedDataValue → SignedValue
-signed_of s = record { message = s.message.octets; has_null = s.signature.algorithm; signature = s.signature.bits.octets }
 
 -- What is signed, with its octets, the algorithm, and the signature.
 abbrev pub CertFields : Type 0
@@ -24,10 +20,10 @@ CertFields = (List ℕ × TbsValue) × (Bool × (BitsValue × Unit {0}))
 pub record AreCert (m : Mode) (ts : Trees) (c : CertValue) : Type 0 where
   pub fields : CertFields
   pub are : Then (Kept m (IsTbs m)) (Then IsAlgorithm (Then (OctetsOf bit_string_tag (IsBitString m)) End)) ts fields
-  pub says : c ≡ as_cert fields
+  pub says : c ≡ as_cert m fields
 
 -- The fields by their octets.
 pub record AreCertOctets (m : Mode) (text : List ℕ) (c : CertValue) : Type 0 where
   pub fields : CertFields
   pub are : Joins (WithOctets (SpellsTbs m)) (Joins (SpellsOf m IsAlgorithm) (Joins (SpellsOf m (OctetsOf bit_string_tag (IsBitString m))) NoOctets)) text fields
-  pub says : c ≡ as_cert fields
+  pub says : c ≡ as_cert m fields

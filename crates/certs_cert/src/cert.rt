@@ -6,9 +6,9 @@ ghost use Rattle.certs_cert.specs.Whole.{signed_of};
 ghost use Rattle.certs_cert.specs.Written.{RefusesCert, WritesCert};
 
 use crate::tbs::TbsCert;
+use certs_extension::Captured;
 use certs_extension::claims::beside;
-use certs_extension::encode::{EncodeError, Values};
-use certs_extension::{Captured, Mode};
+use certs_extension::encode::EncodeError;
 use certs_x509::signed::{SignedData, SignedDataValues};
 use std::alloc::{AllocError, Global};
 use std::marker::Model;
@@ -65,13 +65,14 @@ impl Cert {
     }
 
     /// What is written of the certificate in DER. `CerUnsupported` where the octets that were signed
-    /// stand in another mode; `TooLong` where a content has more than 2^32 - 1 octets.
+    /// stand in another mode; `TooLong` where they stand in DER, and a content would have more than
+    /// 2^32 - 1 octets; `Memory` only where something can be written.
     pub fn to_captured(&self, alloc: Global) -> Result<Captured, EncodeError>
         ensures captured { IfOk result (λ c. WritesCert self.now Der c.octets) }
         ensures mode { IfOk result (λ c. c.mode ≡ Der) }
-        ensures refused { IfErr result (RefusesCert self.now Der) }
+        ensures refused { IfErr result (RefusesCert self.now) }
     {
-        self.encode_ref().to_captured(alloc, Mode::Der)
+        self.encode_ref().in_der(alloc)
     }
 }
 

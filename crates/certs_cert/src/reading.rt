@@ -13,7 +13,8 @@ ghost use Rattle.certs_x509.specs.Took.{TookOctets};
 ghost use Rattle.certs_extension.specs.CertText.{IsTbs, SpellsTbs};
 
 use crate::tbs::TbsCert;
-use certs_extension::claims::{ListError, Slots, take_extensions};
+use certs_extension::ExtensionError;
+use certs_extension::claims::{Slots, take_extensions};
 use certs_extension::forms::Validity;
 use certs_x509::signed::decode::{Constructed, ContentError, DecodeError, Source};
 use certs_x509::signed::{
@@ -136,7 +137,7 @@ fn take_listed<S: Source>(
 }
 
 // The certificate's fields, if the slots of the extensions mean something.
-fn finished(listed: Listed) -> Result<TbsCert, ListError>
+fn finished(listed: Listed) -> Result<TbsCert, ExtensionError>
     ensures ok { IfOk result (λ tbs. SaysListed (listed_fields listed) tbs) }
     ensures none { OnErr result ((c : ClaimsValue)
         → ¬ (Finishes (slots_of (listed_fields listed)) c)) }
@@ -169,18 +170,6 @@ fn finished(listed: Listed) -> Result<TbsCert, ListError>
     })
 }
 
-// What is said of a list of extensions that is refused as a whole.
-fn text_of(fault: ListError) -> &'static str {
-    match fault {
-        ListError::MissingResources => "no resources",
-        ListError::MissingPolicy => "no certificate policy",
-        ListError::WrongIpResources => "IP resources under another policy",
-        ListError::WrongAsResources => "AS resources under another policy",
-        ListError::MissingSubjectKeyIdentifier => "no subject key identifier",
-        ListError::MissingKeyUsage => "no key usage",
-    }
-}
-
 impl TbsCert {
     /// What is signed of a certificate, where it is next: its fields in their order, and its
     /// extensions in any order (RFC 5280 4.1.2, RFC 6487 4). Extensions that don't fit together, or
@@ -200,7 +189,7 @@ impl TbsCert {
             Ok(tbs) => Ok(tbs),
             Err(fault) => {
                 cons.fail();
-                Err(cons.content_err(ContentError::from_static(text_of(fault))))
+                Err(cons.content_err(ContentError::from(fault)))
             }
         }
     }

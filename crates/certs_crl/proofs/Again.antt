@@ -414,6 +414,7 @@ built_again law c text fields agree w =
     let s = w.value in
     let octets : s.message.octets ≡ c.signed.message = ap (λ (z : SignedValue). z.message) w.same in
     let null : s.signature.algorithm ≡ c.signed.has_null = ap (λ (z : SignedValue). z.has_null) w.same in
+    let unused : s.signature.bits.unused ≡ c.signed.unused = ap (λ (z : SignedValue). z.unused) w.same in
     let message = message_whole c.tbs s.message.octets (subst (λ (o : List ℕ). WritesTbsList c.tbs Der o) (sym octets) fields) in
     let tbs : IsTbsList Der message.0 c.tbs = subst (λ (z : TbsListValue). IsTbsList Der message.0 z) (in_der c.tbs c.signed.message fields) message.2 in
     let stands = w.text_is.is.is_first.stands in
@@ -421,6 +422,7 @@ built_again law c text fields agree w =
       | inl ber ↦ let wrong : Der ≡ Ber = ber in absurd cc
       | inr same ↦ same
     ] in
+    let der : c.signed.mode ≡ Der = sym (ap (λ (z : SignedValue). z.mode) w.same) ∙ mode in
     let again = written_again signed signed_sound (signed_fields s) Der text (signed_lawful s (any_kept s message.0 message.1 mode)) w.text_is in
     let value = again.is.is in
     let i = value.is in
@@ -446,7 +448,17 @@ built_again law c text fields agree w =
             };
           };
         };
-        means = λ k. record { signed = record { message = sym octets k; has_null = sym null k; signature = (padded_in Der s.signature.bits).octets }; tbs = c.tbs };
+        means = λ k. record {
+          signed = record {
+            message = sym octets k;
+            has_null = sym null k;
+            signature = (padded_in Der s.signature.bits).octets;
+            unused = sym unused k;
+            mode = der k;
+          };
+          tbs = c.tbs;
+          caches = false;
+        };
       };
       agree = agree;
     } in

@@ -24,7 +24,7 @@ use Rattle.certs_key.specs.Algorithms.{AlgorithmValue, algorithm_of, x509_algori
 use Rattle.certs_x509.specs.bcder_number.Integers.{IsNatural}
 use Rattle.certs_x509.specs.EntryForms.{WritesMoment, same_parts}
 use Rattle.certs_x509.specs.certs_extension.CrlText.{TbsListValue}
-use Rattle.certs_crl.specs.Written.{WritesCrlNumber, WritesExtension, WritesKey, WritesListExtensions, WritesName, WritesTbsList}
+use Rattle.certs_crl.specs.Written.{WritesCrlNumber, WritesExtension, WritesFields, WritesKey, WritesListExtensions, WritesName, WritesTbsList}
 use Rattle.certs_crl.proofs.Writing.{around_as, both_as, plain_as, unsigned_as, wrapped_as}
 
 -- Extensions, as their encoders write them.
@@ -73,20 +73,19 @@ record NoLonger (P : List ℕ → Type 0) (text : List ℕ) : Type 0 where
   is : P again
   shorter : length again ≤ length text
 
-both_shorter : {P V Q W : List ℕ → Type 0} → ((part : List ℕ) → P part → V part) → ((part : List ℕ) → Q part → NoLonger W part) → (text : List ℕ) → WritesBoth P Q text
-    → NoLonger (WritesBoth V W) text
-both_shorter f g text w =
+both_shorter : {P Q W : List ℕ → Type 0} → ((part : List ℕ) → Q part → NoLonger W part) → (text : List ℕ) → WritesBoth P Q text → NoLonger (WritesBoth P W) text
+both_shorter g text w =
     let s = g w.second w.is_second in
     record {
       again = w.first ++ s.again;
-      is = record { first = w.first; second = s.again; is_first = f w.first w.is_first; is_second = s.is; whole = refl };
+      is = record { first = w.first; second = s.again; is_first = w.is_first; is_second = s.is; whole = refl };
       shorter = omega (arith, length-append w.first s.again, length-append w.first w.second, ap length w.whole, s.shorter);
     }
 
-last_alone : {P R E W : List ℕ → Type 0} → ((part : List ℕ) → NoText part → R part) → ((part : List ℕ) → E part → W part) → (text : List ℕ) → WritesBoth P E text → NoLonger (WritesBoth R W) text
-last_alone none f text w = record {
+last_alone : {P R E : List ℕ → Type 0} → ((part : List ℕ) → NoText part → R part) → (text : List ℕ) → WritesBoth P E text → NoLonger (WritesBoth R E) text
+last_alone none text w = record {
   again = w.second;
-  is = record { first = []; second = w.second; is_first = none [] refl; is_second = f w.second w.is_second; whole = refl };
+  is = record { first = []; second = w.second; is_first = none [] refl; is_second = w.is_second; whole = refl };
   shorter = omega (arith, length-append w.first w.second, ap length w.whole);
 }
 
@@ -121,25 +120,30 @@ in_sequence {t} {P} content is_tag is few =
       counted = omega (arith, length-append (48 ∷ s.0) content, s.2, few);
     })
 
--- All fields.
+-- All fields: what can be written of a list without entries is written without octets for them.
+pub alone_written : {R : List ℕ → Type 0} {P : List ℕ → Type 0} (c : TbsListValue) → ((part : List ℕ) → NoText part → R part) → ((text : List ℕ) → WritesFields R c Der text → P text)
+    → (text : List ℕ) → WritesTbsList c Der text → Writable P
+alone_written c none write text w =
+    let l = both_shorter (both_shorter (both_shorter (both_shorter (both_shorter (last_alone none))))) w.fields.content w.fields.is in
+    let s = in_sequence l.again refl l.is (omega (arith, l.shorter, w.fields.few)) in
+    record { text = s.text; is = write s.text (record { long = w.long; fields = s.is }); counted = s.counted }
 
+-- What is written of all fields is written by their encoders.
 module _ {t version b d : TagValue} {n : ℕ} {a : AlgorithmValue} {name : CapturedValue} {x y : List ℕ} {R E : List ℕ → Type 0} (c : TbsListValue) where
-  pub alone_written : t ≡ sequence_tag → version ≡ integer_tag → n ≡ 1
+  pub list_back : t ≡ sequence_tag → version ≡ integer_tag → n ≡ 1
       → a ≡ record { kind = id.sha256_with_rsa; has_null = c.has_null } → name ≡ c.issuer → WritesTime c.this_update (primitive b x) → WritesTime c.next_update (primitive d y)
-      → ((part : List ℕ) → NoText part → R part) → ((part : List ℕ) → WritesListExtensions c.authority_key_identifier c.number Der part → E part)
-      → (text : List ℕ) → WritesTbsList c Der text
-      → Writable (WritesWrapped Der t
+      → ((part : List ℕ) → WritesListExtensions c.authority_key_identifier c.number Der part → E part) → (text : List ℕ) → WritesFields R c Der text
+      → WritesWrapped Der t
       (WritesBoth (WritesPlain Der version (WritesUnsigned (2 ^ 8) n))
       (WritesBoth ((algorithm_of a.kind).writes a.has_null Der)
       (WritesBoth (CapturedText name Der)
       (WritesBoth (WritesPlain Der b (λ octets. AnyOctets octets x))
       (WritesBoth (WritesPlain Der d (λ octets. AnyOctets octets y))
-      (WritesBoth R E)))))))
-  alone_written is_tag is_version one algorithm issuer this_update next_update none extensions text w =
-      let l = both_shorter (version_back is_version one)
-      (both_shorter (algorithm_back c algorithm)
-      (both_shorter (name_back c issuer)
-      (both_shorter (moment_back this_update)
-      (both_shorter (moment_back next_update)
-      (last_alone none extensions))))) w.fields.content w.fields.is in
-      in_sequence l.again is_tag l.is (omega (arith, l.shorter, w.fields.few))
+      (WritesBoth R E)))))) text
+  list_back is_tag is_version one algorithm issuer this_update next_update extensions text w =
+      wrapped_as (sym is_tag) (λ o. both_as (version_back is_version one)
+      (λ o. both_as (algorithm_back c algorithm)
+      (λ o. both_as (name_back c issuer)
+      (λ o. both_as (moment_back this_update)
+      (λ o. both_as (moment_back next_update)
+      (λ o. both_as (λ part h. h) extensions)))))) w.fields

@@ -1,5 +1,4 @@
 mod Cached
-mod Inside
 mod Pairs
 mod Listed
 mod Whole

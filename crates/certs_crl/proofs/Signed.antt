@@ -1,31 +1,25 @@
 -- Where a list wasn't written, or not signed.
-use Rattle.std.proofs.Common.{◌≡◌, ◌≢◌, ℕ, List, [], Result, Ok, Err, IfErr, refl}
-use Rattle.std.proofs.Math.Logic.{∥∥₁_elim, ∥∥₁_prop}
-use Rattle.certs_crl.specs.bcder_tree.declared.mode.Mode.TheVariants.{Der}
+use Rattle.std.proofs.Common.{◌≢◌, ℕ, List, Result, Ok, Err, IfErr, refl}
 use Rattle.certs_x509.specs.bcder_values.Writable.{Writable}
 use Rattle.certs_x509.specs.bcder_primitive.declared.written.error.EncodeError.{EncodeError}
 use Rattle.certs_x509.specs.bcder_primitive.declared.written.error.EncodeError.TheVariants as causes
 use Rattle.certs_key.specs.declared.signer.SigningError.{SigningError}
 use Rattle.certs_key.specs.declared.signer.SigningError.TheVariants as errors
 use Rattle.certs_x509.specs.certs_extension.CrlText.{TbsListValue}
-use Rattle.certs_crl.specs.Signing.{CanBeWritten, CannotBeWritten, LacksText, NotWritten, SigningRefused}
-use Rattle.certs_crl.specs.Written.{WritesTbsList}
-
--- What was written can be written.
-pub can_be_written : {c : TbsListValue} {text : List ℕ} → ∥ WritesTbsList c Der text ∥₁ → CanBeWritten c
-can_be_written {c} {text} w = ∥∥₁_elim w ∥∥₁_prop (λ h. ∣ (text, h) ∣₁)
+use Rattle.certs_x509.proofs.Few.{few_octets}
+use Rattle.certs_crl.specs.Signing.{CanBeWritten, LacksText, NotWritten, SigningRefused}
+use Rattle.certs_crl.specs.Written.{WritesInDer}
 
 -- Why nothing was written, where the encoders write octets of P.
-module _ (c : TbsListValue) (P : List ℕ → Type 0) (sound : (text : List ℕ) → P text → ∥ WritesTbsList c Der text ∥₁)
-    (alone : c.revoked ≡ [] → (text : List ℕ) → WritesTbsList c Der text → Writable P) where
-  cannot : (Writable P → ⊥) → CannotBeWritten c
-  cannot r none w = ∥∥₁_elim w (λ a b. absurd a) (λ h. r (alone none h.0 h.1))
+module _ (c : TbsListValue) (P : List ℕ → Type 0) (sound : (text : List ℕ) → P text → WritesInDer c text) (whole : (text : List ℕ) → WritesInDer c text → P text) where
+  cannot : (Writable P → ⊥) → CanBeWritten c → ⊥
+  cannot r w = r (record { text = w.0; is = whole w.0 w.1; counted = few_octets w.1.fields })
 
   why : (e : EncodeError) → LacksText P e → NotWritten c e
   why causes.CerUnsupported r = cannot r
   why causes.TooLong r = cannot r
   why causes.Write r = r
-  why causes.Memory r = can_be_written (sound r.0 r.1)
+  why causes.Memory r = (r.0, sound r.0 r.1)
 
   pub not_written : {A : Type 0} (r : Result A EncodeError) → IfErr r (LacksText P) → IfErr r (NotWritten c)
   not_written (Ok x) h = tt

@@ -1,5 +1,5 @@
 -- The fields of a revocation list are those of signed data whose message is of the fields' grammar, with the same algorithm twice.
-use Rattle.std.proofs.Common.{◌≡◌, ℕ, List, [], Result, Ok, Err, Option, Some, None, ap, ◌∙◌, refl, subst, sym}
+use Rattle.std.proofs.Common.{◌≡◌, ℕ, false, List, [], Result, Ok, Err, Option, Some, None, ap, ◌∙◌, refl, subst, sym}
 use Rattle.certs_crl.specs.bcder_tree.declared.mode.Mode.{Mode}
 use Rattle.certs_crl.specs.bcder_tree.Front.{Front}
 use Rattle.certs_crl.specs.bcder_tree.Tags.{sequence_tag}
@@ -57,19 +57,23 @@ message_is {m} {s} {tbs} d {t} text =
     let same = (one_tree d.tree t d.front (front_all text)).0 in
     subst (λ (u : Tree). IsTbsList m u tbs) same d.is
 
-message_crl : {m : Mode} {s : SignedDataValue} {tbs : TbsListValue} {c : CrlValue} → WasRead m s tbs → c ≡ record { signed = signed_of s; tbs = tbs } → tbs.has_null ≡ s.signature.algorithm
+-- The list of signed data in that mode.
+abbrev in_mode : SignedDataValue → TbsListValue → Mode → CrlValue
+in_mode s tbs m = record { signed = record (signed_of s) { mode = m }; tbs = tbs; caches = false }
+
+message_crl : {m : Mode} {s : SignedDataValue} {tbs : TbsListValue} {c : CrlValue} → WasRead m s tbs → c ≡ record { signed = signed_of s; tbs = tbs; caches = false } → tbs.has_null ≡ s.signature.algorithm
     → (ts : Trees) → signed_content.reads m ts (signed_fields s) → AreCrl m ts c
 message_crl {m} {s} {tbs} d ec agree ts i =
-    let is : AreCrl m ts (record { signed = signed_of s; tbs = tbs }) = record {
+    let is : AreCrl m ts (record { signed = signed_of s; tbs = tbs; caches = false }) = record {
       fields = ((s.message.octets, tbs), (s.signature.algorithm, (s.signature.bits, tt)));
       are = record { first = i.first; others = i.others; whole = i.whole; is = record { spelled = i.is.kept.spelled; is = message_is d i.is.kept.spelled }; rest = i.rest };
-      says = refl;
+      says = ap (in_mode s tbs) i.is.mode;
       agree = agree;
     } in
     subst (λ (z : CrlValue). AreCrl m ts z) (sym ec) is
 
 pub crl_gives : {now new : ValuesLeft} {s : SignedDataValue} {tbs : TbsListValue} {c : CrlValue} → WasRead now.mode s tbs
-    → c ≡ record { signed = signed_of s; tbs = tbs } → tbs.has_null ≡ s.signature.algorithm → GivesAll (signed_content.reads now.mode) now (signed_fields s) new
+    → c ≡ record { signed = signed_of s; tbs = tbs; caches = false } → tbs.has_null ≡ s.signature.algorithm → GivesAll (signed_content.reads now.mode) now (signed_fields s) new
     → GivesAll (AreCrl now.mode) now c new
 crl_gives {now} d ec agree g = all_gives (AreCrl now.mode) (signed_content.reads now.mode) (message_crl d ec agree) crl_within g
 

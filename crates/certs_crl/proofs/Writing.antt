@@ -1,5 +1,5 @@
 -- What is written of a revocation list's encoders is what is written of its fields.
-use Rattle.std.proofs.Common.{◌≡◌, ℕ, ◌<◌, ◌^◌, Bool, List, [], Option, Some, None, Result, Ok, Err, IfOk, inl, inr, ◌∙◌, subst}
+use Rattle.std.proofs.Common.{◌≡◌, ◌≢◌, ℕ, ◌<◌, ◌^◌, Bool, List, [], Option, Some, None, Result, Ok, Err, IfOk, inl, inr, refl, sym, ◌∙◌, subst}
 use Rattle.std.specs.Prelude.{IfNone, IfSome}
 use Rattle.std.proofs.Math.Logic.{∥∥₁_elim, ∥∥₁_prop}
 use Rattle.certs_crl.specs.bcder_tree.declared.mode.Mode.{Mode}
@@ -21,9 +21,11 @@ use Rattle.certs_crl.specs.certs_basics.Forms.{WritesTime}
 use Rattle.certs_key.specs.Algorithms.{AlgorithmValue, algorithm_of, x509_algorithm}
 use Rattle.certs_name.specs.Named.{IsNamed}
 use Rattle.certs_x509.specs.bcder_number.Integers.{IsNatural}
-use Rattle.certs_x509.specs.Listed.{SpellsEntries}
+use Rattle.certs_x509.proofs.Made.{written_entries}
+use Rattle.certs_x509.specs.EntryForms.{entry_list}
+use Rattle.certs_x509.specs.Listed.{SpellsEntries, captured}
 use Rattle.certs_x509.specs.certs_extension.CrlText.{RevokedValue, TbsListValue}
-use Rattle.certs_crl.specs.Written.{WritesCrlNumber, WritesExtension, WritesKey, WritesListExtensions, WritesRevoked, WritesTbsList}
+use Rattle.certs_crl.specs.Written.{WritesCrlNumber, WritesExtension, WritesFields, WritesInDer, WritesKey, WritesListExtensions, WritesListed, WritesRevoked, WritesTbsList}
 
 -- Words: another text for the same parts.
 
@@ -72,6 +74,41 @@ revoked_as tag octets all m text None none_there is_tag spells w = ∣ inl (none
 revoked_as tag octets all m text (Some v) none_there is_tag spells w =
     ∥∥₁_elim spells ∥∥₁_prop (λ s. ∣ inr (record { octets = octets v; spelled = s; kept = wrapped_as is_tag (λ o p. p) w }) ∣₁)
 
+-- Entries by what they say.
+
+-- What is lent of entries that are gone through, if there are some.
+abbrev pub LentListed : {V : Type 0} (tag : V → TagValue) (items : V → List RevokedValue) → V → List ℕ → Type 0
+LentListed tag items v = WritesWrapped Der (tag v) (entry_list.writes (items v) Der)
+
+module _ {V : Type 0} (tag : V → TagValue) (items : V → List RevokedValue) (all : List RevokedValue) (text : List ℕ) where
+  pub listed_as : (o : Option V) → IfNone o (all ≡ []) → IfSome o (λ v. all ≢ []) → IfSome o (λ v. tag v ≡ sequence_tag) → IfSome o (λ v. items v ≡ all)
+      → WritesOptional (LentListed tag items) o text → WritesListed all text
+  listed_as None none some is_tag same w = inl (none, w)
+  listed_as (Some v) none some is_tag same w = inr (some, wrapped_as is_tag (λ o p. subst (λ (l : List RevokedValue). entry_list.writes l Der o) same p) w)
+
+  pub listed_back : (o : Option V) → IfNone o (all ≡ []) → IfSome o (λ v. all ≢ []) → IfSome o (λ v. tag v ≡ sequence_tag) → IfSome o (λ v. items v ≡ all)
+      → WritesListed all text → WritesOptional (LentListed tag items) o text
+  listed_back None none some is_tag same (inl w) = w.1
+  listed_back None none some is_tag same (inr w) = absurd (w.0 none)
+  listed_back (Some v) none some is_tag same (inl w) = absurd (some w.0)
+  listed_back (Some v) none some is_tag same (inr w) = wrapped_as (sym is_tag) (λ o p. subst (λ (l : List RevokedValue). entry_list.writes l Der o) (sym same) p) w.1
+
+-- They spell the entries.
+pub listed_stand : (all : List RevokedValue) (text : List ℕ) → WritesListed all text → WritesRevoked all Der text
+listed_stand all text (inl w) = inl w
+listed_stand all text (inr w) =
+    let spelled = written_entries all w.1.content w.1.is in
+    inr (record {
+      octets = captured Der w.1.content;
+      spelled = spelled;
+      kept = record {
+        content = w.1.content;
+        is = record { stands = inr refl; values = record { trees = spelled.trees; spelled = spelled.spelled }; whole = refl };
+        few = w.1.few;
+        spelled = w.1.spelled;
+      };
+    })
+
 -- All fields.
 
 pub unsigned_as : {n k : ℕ} {content : List ℕ} → n ≡ k → WritesUnsigned (2 ^ 8) n content → WritesUnsigned (2 ^ 8) k content
@@ -82,9 +119,9 @@ algorithm_as : {a : AlgorithmValue} {b : Bool} {m : Mode} {text : List ℕ} → 
 algorithm_as {m = m} {text} e w = subst (λ (z : AlgorithmValue). (algorithm_of z.kind).writes z.has_null m text) e w
 
 module _ {t version b d : TagValue} {n : ℕ} {a : AlgorithmValue} {name : CapturedValue} {x y : List ℕ} {R E : List ℕ → Type 0} (c : TbsListValue) (m : Mode) where
-  pub list_as : (text : List ℕ) → IsTwentyLong c.authority_key_identifier → IsNamed c.issuer → t ≡ sequence_tag → version ≡ integer_tag → n ≡ 1
+  pub list_by : (text : List ℕ) → IsTwentyLong c.authority_key_identifier → IsNamed c.issuer → t ≡ sequence_tag → version ≡ integer_tag → n ≡ 1
       → a ≡ record { kind = id.sha256_with_rsa; has_null = c.has_null } → name ≡ c.issuer → WritesTime c.this_update (primitive b x) → WritesTime c.next_update (primitive d y)
-      → ((part : List ℕ) → R part → ∥ WritesRevoked c.revoked m part ∥₁) → ((part : List ℕ) → E part → WritesListExtensions c.authority_key_identifier c.number m part)
+      → ((part : List ℕ) → E part → WritesListExtensions c.authority_key_identifier c.number m part)
       → WritesWrapped m t
       (WritesBoth (WritesPlain m version (WritesUnsigned (2 ^ 8) n))
       (WritesBoth ((algorithm_of a.kind).writes a.has_null m)
@@ -92,53 +129,55 @@ module _ {t version b d : TagValue} {n : ℕ} {a : AlgorithmValue} {name : Captu
       (WritesBoth (WritesPlain m b (λ octets. AnyOctets octets x))
       (WritesBoth (WritesPlain m d (λ octets. AnyOctets octets y))
       (WritesBoth R E)))))) text
-      → ∥ WritesTbsList c m text ∥₁
-  list_as text long named is_tag is_version one algorithm issuer this_update next_update revoked extensions w =
-      let l1 = w.is in
-      let l2 = l1.is_second in
-      let l3 = l2.is_second in
-      let l4 = l3.is_second in
-      let l5 = l4.is_second in
-      let l6 = l5.is_second in
-      ∥∥₁_elim (revoked l6.first l6.is_first) ∥∥₁_prop (λ r. ∣ record {
-        long = long;
-        fields = wrapped_as is_tag (λ o p. p) (record {
-          content = w.content;
-          is = record {
-            first = l1.first;
-            second = l1.second;
-            is_first = plain_as is_version (λ o p. unsigned_as one p) l1.is_first;
-            is_second = record {
-              first = l2.first;
-              second = l2.second;
-              is_first = algorithm_as algorithm l2.is_first;
-              is_second = record {
-                first = l3.first;
-                second = l3.second;
-                is_first = record { named = named; kept = subst (λ (z : CapturedValue). CapturedText z m l3.first) issuer l3.is_first };
-                is_second = record {
-                  first = l4.first;
-                  second = l4.second;
-                  is_first = record { tag = b; content = x; is = this_update; plain = l4.is_first };
-                  is_second = record {
-                    first = l5.first;
-                    second = l5.second;
-                    is_first = record { tag = d; content = y; is = next_update; plain = l5.is_first };
-                    is_second = record { first = l6.first; second = l6.second; is_first = r; is_second = extensions l6.second l6.is_second; whole = l6.whole };
-                    whole = l5.whole;
-                  };
-                  whole = l4.whole;
-                };
-                whole = l3.whole;
-              };
-              whole = l2.whole;
-            };
-            whole = l1.whole;
-          };
-          few = w.few;
-          spelled = w.spelled;
-        });
-      } ∣₁)
+      → WritesFields R c m text
+  list_by text long named is_tag is_version one algorithm issuer this_update next_update extensions w = record {
+    long = long;
+    fields = wrapped_as is_tag (λ o. both_as (λ p h. plain_as is_version (λ q k. unsigned_as one k) h)
+        (λ o. both_as (λ p h. algorithm_as algorithm h)
+        (λ o. both_as (λ p h. record { named = named; kept = subst (λ (z : CapturedValue). CapturedText z m p) issuer h })
+        (λ o. both_as (λ p h. record { tag = b; content = x; is = this_update; plain = h })
+        (λ o. both_as (λ p h. record { tag = d; content = y; is = next_update; plain = h })
+        (λ o. both_as (λ p h. h) extensions)))))) w;
+  }
+
+-- Another text for the entries.
+
+-- The same octets, of V and W.
+both_at : {P Q V W : List ℕ → Type 0} {text : List ℕ} → (w : WritesBoth P Q text) → V w.first → W w.second → WritesBoth V W text
+both_at w p q = record { first = w.first; second = w.second; is_first = p; is_second = q; whole = w.whole }
+
+-- What stands there of the entries.
+abbrev entries_in : {R : List ℕ → Type 0} {c : TbsListValue} {m : Mode} {text : List ℕ} → WritesFields R c m text → List ℕ
+entries_in w = w.fields.is.is_second.is_second.is_second.is_second.is_second.first
+
+fields_at : {R V : List ℕ → Type 0} {c : TbsListValue} {m : Mode} {text : List ℕ} → (w : WritesFields R c m text) → V (entries_in w) → WritesFields V c m text
+fields_at w r =
+    let l1 = w.fields.is in
+    let l2 = l1.is_second in
+    let l3 = l2.is_second in
+    let l4 = l3.is_second in
+    let l5 = l4.is_second in
+    let l6 = l5.is_second in
+    record {
+      long = w.long;
+      fields = record {
+        content = w.fields.content;
+        is = both_at l1 l1.is_first (both_at l2 l2.is_first (both_at l3 l3.is_first (both_at l4 l4.is_first (both_at l5 l5.is_first (both_at l6 r l6.is_second)))));
+        few = w.fields.few;
+        spelled = w.fields.spelled;
+      };
+    }
+
+pub fields_as : {R V : List ℕ → Type 0} {c : TbsListValue} {m : Mode} {text : List ℕ} → ((part : List ℕ) → R part → V part) → WritesFields R c m text → WritesFields V c m text
+fields_as f w = fields_at w (f (entries_in w) w.fields.is.is_second.is_second.is_second.is_second.is_second.is_first)
+
+pub list_as : {R : List ℕ → Type 0} (c : TbsListValue) (m : Mode) (text : List ℕ) → ((part : List ℕ) → R part → ∥ WritesRevoked c.revoked m part ∥₁) → WritesFields R c m text
+    → ∥ WritesTbsList c m text ∥₁
+list_as c m text f w =
+    ∥∥₁_elim (f (entries_in w) w.fields.is.is_second.is_second.is_second.is_second.is_second.is_first) ∥∥₁_prop (λ r. ∣ fields_at w r ∣₁)
+
+pub list_stands : (c : TbsListValue) (text : List ℕ) → WritesInDer c text → WritesTbsList c Der text
+list_stands c text w = fields_as (listed_stand c.revoked) w
 
 -- What an answer's value is, by what it was.
 pub ok_map : {A E : Type 0} {P Q : A → Type 0} (r : Result A E) → ((x : A) → P x → Q x) → IfOk r P → IfOk r Q

@@ -1,8 +1,8 @@
 -- The serial numbers of a list, kept aside.
-use Rattle.std.specs.Prelude.{◌≡◌, ◌<◌, ◌↔◌, ◌⊎◌, ℕ, List, Option, Some, None, Contains, MatchOption, length, slice_index}
+use Rattle.std.specs.Prelude.{◌≡◌, ◌<◌, ◌↔◌, ℕ, List, Option, Some, None, Contains, MatchOption, length, slice_index}
 use Rattle.std.specs.List.Sorted.{IsStrictlyIncreasing}
 use Rattle.certs_x509.specs.Listed.{IsListed}
-use Rattle.certs_x509.specs.resources_chain.Rows.{Looks}
+use Rattle.certs_x509.specs.resources_chain.Rows.{Looks as ProbesAtMost}
 use Rattle.certs_x509.specs.certs_extension.CrlText.{RevokedValue}
 
 -- The numbers of the list, each once, ascending.
@@ -15,13 +15,13 @@ abbrev pub IsCached : List RevokedValue → Option (List ℕ) → Type 0
 IsCached entries None = Unit {0}
 IsCached entries (Some cache) = IsCache entries cache
 
--- The number was looked for among those that are kept.
+-- The number was looked for among those that are kept: none is answered just where it isn't on the list, and else its place.
 pub record IsLookedUp (entries : List RevokedValue) (n old new : ℕ) (place : Option ℕ) : Type 0 where
   pub cache : List ℕ
   pub kept : IsCache entries cache
-  pub looks : Looks (length cache) old new
-  pub place_is : MatchOption place (Contains cache n → ⊥) (λ k. (k < length cache) × (slice_index cache k ≡ n))
+  pub looks : ProbesAtMost (length cache) old new
+  pub place_is : MatchOption place (IsListed entries n → ⊥) (λ k. (k < length cache) × (slice_index cache k ≡ n))
 
--- It was looked for, or none are kept.
-abbrev pub IsPositioned : List RevokedValue → ℕ → ℕ → ℕ → Option ℕ → Type 0
-IsPositioned entries n old new place = ((place ≡ None) × (new ≡ old)) ⊎ IsLookedUp entries n old new place
+-- Nothing was looked for, nor found.
+abbrev pub IsLeft : ℕ → ℕ → Option ℕ → Type 0
+IsLeft old new place = (place ≡ None) × (new ≡ old)

@@ -1,13 +1,12 @@
 -- What a refusal to write or to sign says of a list.
-use Rattle.std.specs.Prelude.{◌≡◌, ℕ, List, []}
-use Rattle.certs_crl.specs.bcder_tree.declared.mode.Mode.TheVariants.{Der}
+use Rattle.std.specs.Prelude.{ℕ, List}
 use Rattle.certs_x509.specs.bcder_values.Writable.{Writable}
 use Rattle.certs_x509.specs.bcder_primitive.declared.written.error.EncodeError.{EncodeError}
 use Rattle.certs_x509.specs.bcder_primitive.declared.written.error.EncodeError.TheVariants as causes
 use Rattle.certs_key.specs.declared.signer.SigningError.{SigningError}
 use Rattle.certs_key.specs.Refusing.{NotWrittenIf, SigningRefusedIf}
 use Rattle.certs_x509.specs.certs_extension.CrlText.{TbsListValue}
-use Rattle.certs_crl.specs.Written.{WritesTbsList}
+use Rattle.certs_crl.specs.Written.{WritesInDer}
 
 -- Why values aren't written: there is no text of P whose octets can be counted. Memory is lacking for such a text alone.
 abbrev pub LacksText : (List ℕ → Type 0) → EncodeError → Type 0
@@ -18,19 +17,13 @@ LacksText P causes.Memory = (text : List ℕ) × P text
 
 -- Something can be written of the list's fields in DER (RFC 5280 5.1).
 abbrev pub CanBeWritten : TbsListValue → Type 0
-CanBeWritten c = ∥ ((text : List ℕ) × WritesTbsList c Der text) ∥₁
+CanBeWritten c = (text : List ℕ) × WritesInDer c text
 
--- Nothing can be written of a list's fields, where it has no entries. Entries may be kept in another mode, which contracts
--- don't see; they aren't written then, though octets in DER spell the same, so that of a list with entries this says nothing.
-abbrev pub CannotBeWritten : TbsListValue → Type 0
-CannotBeWritten c = c.revoked ≡ [] → CanBeWritten c → ⊥
-
--- Why nothing is written of a list's fields: nothing can be, where the list has no entries, or there was no memory for what
--- can.
+-- Why nothing is written of a list's fields: nothing can be, or there was no memory for what can.
 abbrev pub NotWritten : TbsListValue → EncodeError → Type 0
-NotWritten c = NotWrittenIf (CanBeWritten c) (CannotBeWritten c)
+NotWritten c = NotWrittenIf (CanBeWritten c) (CanBeWritten c → ⊥)
 
 -- The list can be written, but for `TooLong`, which no signer answers: the signer is asked after that, and memory too.
 -- `refuses` says by which errors the signer refuses.
 abbrev pub SigningRefused : {E : Type 0} → (refuses : SigningError E → Type 0) → TbsListValue → SigningError E → Type 0
-SigningRefused refuses c = SigningRefusedIf refuses (CanBeWritten c) (CannotBeWritten c)
+SigningRefused refuses c = SigningRefusedIf refuses (CanBeWritten c) (CanBeWritten c → ⊥)

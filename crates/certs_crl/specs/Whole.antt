@@ -7,13 +7,8 @@ use Rattle.certs_crl.specs.bcder_content.Words.{Kept}
 use Rattle.certs_x509.specs.bcder_octets.Bits.{BitsValue}
 use Rattle.certs_x509.specs.bcder_octets.BitContents.{IsBitString, bit_string_tag}
 use Rattle.certs_crl.specs.certs_basics.Basics.{IsAlgorithm}
-use Rattle.certs_x509.specs.Signed.{SignedDataValue}
-use Rattle.certs_x509.specs.certs_extension.Cert.{SignedValue}
+pub use Rattle.certs_x509.specs.Captured.{signed_of}
 use Rattle.certs_x509.specs.certs_extension.CrlText.{CrlValue, IsTbsList, TbsListValue, as_crl}
-
--- The octets that are signed, whether NULL stands in the outer algorithm, and the octets of the signature.
-abbrev pub signed_of : SignedDataValue → SignedValue
-signed_of s = record { message = s.message.octets; has_null = s.signature.algorithm; signature = s.signature.bits.octets }
 
 -- What is signed, with its octets, the algorithm, and the signature.
 abbrev pub CrlFields : Type 0
@@ -23,5 +18,5 @@ CrlFields = (List ℕ × TbsListValue) × (Bool × (BitsValue × Unit {0}))
 pub record AreCrl (m : Mode) (ts : Trees) (c : CrlValue) : Type 0 where
   pub fields : CrlFields
   pub are : Then (Kept m (IsTbsList m)) (Then IsAlgorithm (Then (OctetsOf bit_string_tag (IsBitString m)) End)) ts fields
-  pub says : c ≡ as_crl fields
+  pub says : c ≡ as_crl m fields
   pub agree : c.tbs.has_null ≡ c.signed.has_null

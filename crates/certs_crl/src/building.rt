@@ -1,9 +1,9 @@
 //! Revocation lists that are built: what is signed of a list, and a signature over it (RFC 5280 5.1.1).
 
-ghost use Rattle.std.specs.Prelude.{◌≡◌, IfErr, IfOk};
+ghost use Rattle.std.specs.Prelude.{◌≡◌, false, IfErr, IfOk};
 ghost use Rattle.certs_crl.specs.bcder_tree.declared.mode.Mode.TheVariants.{Der};
 ghost use Rattle.certs_crl.specs.Signing.{LacksText, NotWritten, SigningRefused};
-ghost use Rattle.certs_crl.specs.Written.{WritesTbsList};
+ghost use Rattle.certs_crl.specs.Written.{WritesInDer, WritesTbsList};
 
 use crate::crl::Crl;
 use crate::tbs::TbsCertList;
@@ -25,10 +25,10 @@ fn in_der<V: Values>(alloc: Global, values: &V) -> Result<Captured, EncodeError>
 // The octets that are signed.
 fn message_of(alloc: Global, tbs: &TbsCertList) -> Result<Captured, EncodeError>
     ensures mode { IfOk result (λ c. c.mode ≡ Der) }
-    ensures written { IfOk result (λ c. ∥ WritesTbsList tbs.now Der c.octets ∥₁) }
+    ensures written { IfOk result (λ c. WritesInDer tbs.now c.octets) }
     ensures refused { IfErr result (NotWritten tbs.now) }
 {
-    let values = tbs.encode_ref();
+    let values = tbs.encode_in_der();
     in_der(alloc, &values)
 }
 
@@ -39,7 +39,7 @@ fn signed_by<S: Signer>(
     signer: &S,
     key: &S::KeyId,
 ) -> Result<SignedData, SigningError<S::Error>>
-    ensures message { IfOk result (λ signed. ∥ WritesTbsList tbs.now Der signed.message.octets ∥₁) }
+    ensures message { IfOk result (λ signed. WritesInDer tbs.now signed.message.octets) }
     ensures mode { IfOk result (λ signed. signed.message.mode ≡ Der) }
     ensures algorithm { IfOk result (λ signed. signed.signature.algorithm ≡ tbs.now.has_null) }
     ensures signed { IfOk result (λ signed. S.signs signer.now key.now
@@ -59,9 +59,10 @@ impl TbsCertList {
     /// The list with these fields, and with a signature over what is written of them in DER, by that key of the signer,
     /// which is asked just once and by the algorithm that the fields name.
     ///
-    /// What the signer refuses is refused as it says. Before it is asked, lack of memory is refused as `Memory`, and
-    /// fields are refused as `TooLong` of which nothing can be written in DER: where a content would have more than
-    /// 2^32 - 1 octets, and where the name or the entries are kept in another mode.
+    /// The entries are written by what they say, in whichever mode they are kept. What the signer refuses is refused as it
+    /// says. Before it is asked, lack of memory is refused as `Memory`, and fields are refused as `TooLong` of which
+    /// nothing can be written in DER: where a content would have more than 2^32 - 1 octets, and where the name is kept in
+    /// another mode. Of the list that is built no serial numbers are kept aside.
     pub fn into_crl<S: Signer>(
         self,
         alloc: Global,
@@ -71,6 +72,9 @@ impl TbsCertList {
         ensures fields { IfOk result (λ crl. crl.tbs ≡ self) }
         ensures algorithm { IfOk result (λ crl. crl.signed.has_null ≡ self.has_null) }
         ensures message { IfOk result (λ crl. ∥ WritesTbsList self Der crl.signed.message ∥₁) }
+        ensures entries { IfOk result (λ crl. WritesInDer self crl.signed.message) }
+        ensures mode { IfOk result (λ crl. crl.signed.mode ≡ Der) }
+        ensures uncached { IfOk result (λ crl. crl.caches ≡ false) }
         ensures signed { IfOk result (λ crl. S.signs signer.now key.now
             crl.signed.message crl.signed.signature) }
         ensures refused { IfErr result (SigningRefused (S.refuses signer.now) self) }

@@ -1,25 +1,25 @@
 //! Revocation lists.
 
-ghost use Rattle.std.specs.Prelude.{◌≡◌, ◌↔◌, ◌≤◌, ◌+◌, ◌-◌, ◌^◌, min, true, IfOk, IfSome, IsOk, IsTrue};
+ghost use Rattle.std.specs.Prelude.{◌≡◌, ◌↔◌, ◌≤◌, ◌+◌, ◌-◌, ◌^◌, min, false, true, IfErr, IfOk, IfSome, IsOk, IsSome, IsTrue, OnErr, OnOk};
 ghost use Rattle.certs_crl.specs.bcder_tree.declared.mode.Mode.TheVariants.{Der};
-ghost use Rattle.certs_crl.specs.Caches.{IsCache, IsPositioned};
+ghost use Rattle.certs_crl.specs.Caches.{IsCache, IsLeft, IsLookedUp};
 ghost use Rattle.certs_crl.specs.Whole.{signed_of};
-ghost use Rattle.certs_crl.specs.Written.{WritesCrl};
+ghost use Rattle.certs_crl.specs.Written.{RefusesCrl, WritesCrl};
+ghost use Rattle.certs_x509.specs.declared.errors.verification.VerificationError.TheVariants.{BadSignature};
 ghost use Rattle.certs_x509.specs.certs_extension.CrlText.{IsOn};
 
 use crate::tbs::TbsCertList;
-use bcder::encode::{EncodeError, Values};
-use bcder::{Captured, Mode};
+use bcder::Captured;
+use bcder::encode::EncodeError;
 use certs_name::Serial;
+use certs_x509::errors::VerificationError;
 use certs_x509::revoked::SerialCache;
-use certs_x509::signed::{
-    PublicKey, SignatureVerificationError, SignedData, SignedDataValues, Verifier,
-};
+use certs_x509::signed::{PublicKey, SignedData, SignedDataValues, Verifier};
 use std::alloc::{AllocError, Global};
 use std::marker::Model;
 
 /// A revocation list: signed octets with their signature, and the fields that the octets spell (RFC 5280 5.1.1). Contracts
-/// see both.
+/// see both, and whether serial numbers are kept aside.
 #[derive(Debug, Drop)]
 pub struct Crl {
     signed: SignedData,
@@ -28,13 +28,18 @@ pub struct Crl {
 }
 
 impl Model for Crl {
+    ghost use Rattle.std.specs.Prelude.{is_some};
     ghost use Rattle.certs_x509.specs.certs_extension.CrlText.{CrlValue};
     ghost use Rattle.certs_crl.specs.Caches.{IsCached};
     ghost use Rattle.certs_crl.specs.Whole.{signed_of};
 
     ghost Value = { CrlValue };
 
-    ghost view = { λ c. record { signed = signed_of c.signed; tbs = c.tbs } };
+    ghost view = { λ c. record {
+      signed = signed_of c.signed;
+      tbs = c.tbs;
+      caches = is_some c.serials;
+    } };
 
     ghost invariant = { λ c. IsCached c.tbs.revoked c.serials };
 }
@@ -43,9 +48,9 @@ impl Model for Crl {
 pub type CrlValues<'a> = SignedDataValues<'a>;
 
 impl Crl {
-    // The list of signed octets, and of the fields that were read of them.
+    // The list of signed octets, and of the fields that were read of them. No serial numbers are kept aside.
     pub(crate) fn from_parts(signed: SignedData, tbs: TbsCertList) -> Crl
-        ensures { result ≡ record { signed = signed_of signed; tbs = tbs } }
+        ensures { result ≡ record { signed = signed_of signed; tbs = tbs; caches = false } }
     {
         Crl {
             signed,
@@ -68,10 +73,11 @@ impl Crl {
         &self.tbs
     }
 
-    /// Keeps the serial numbers aside, sorted, so that one is found by halving. The list is what it was, also where memory
-    /// is refused.
+    /// Keeps the serial numbers aside, sorted, so that one is found by halving. Nothing else of the list changes, and
+    /// nothing at all where memory is refused.
     pub fn cache_serials(&mut self, alloc: Global) -> Result<(), AllocError>
-        ensures { self.new ≡ self.old }
+        ensures kept { OnOk result (self.new ≡ record self.old { caches = true }) }
+        ensures same { OnErr result (self.new ≡ self.old) }
     {
         let cache = SerialCache::new(alloc, self.tbs.revoked_certs())?;
         self.serials = Some(cache);
@@ -89,19 +95,22 @@ impl Crl {
         }
     }
 
-    /// The serial numbers that are kept aside, if any: those of the entries, each once, ascending.
+    /// The serial numbers, where they are kept aside: those of the entries, each once, ascending.
     pub fn cached_serials(&self) -> Option<&SerialCache>
-        ensures { IfSome result (λ cache. IsCache self.now.tbs.revoked cache.now) }
+        ensures there { IsSome result ↔ (self.now.caches ≡ true) }
+        ensures cache { IfSome result (λ cache. IsCache self.now.tbs.revoked cache.now) }
     {
         self.serials.as_ref()
     }
 
-    /// The place of the serial number among those that are kept aside, each once, ascending; none where none are kept. The
-    /// looks at serial numbers that it takes are added to `probes`: at most as many as the count of those that are kept
-    /// has binary digits.
+    /// The place of the serial number among those that are kept aside, each once, ascending; none where it isn't on the
+    /// list, and where none are kept. The looks at serial numbers that it takes are added to `probes`: at most as many as
+    /// the count of those that are kept has binary digits.
     pub fn cached_position(&self, serial: Serial, probes: &mut u64) -> Option<usize>
         requires { probes.old ≤ 18446744073709551551 }
-        ensures { IsPositioned self.now.tbs.revoked serial probes.old probes.new result }
+        ensures cached { self.now.caches ≡ true
+            → IsLookedUp self.now.tbs.revoked serial probes.old probes.new result }
+        ensures uncached { self.now.caches ≡ false → IsLeft probes.old probes.new result }
     {
         match &self.serials {
             Some(cache) => cache.position(serial, probes),
@@ -109,15 +118,16 @@ impl Crl {
         }
     }
 
-    /// Whether the signature is one of that key, over the very octets that stood there. The verifier is asked just once:
-    /// with the key, the algorithm, these octets, and those of the signature.
+    /// Whether the signature is one of that key, over the very octets that stood there; else `BadSignature`. The verifier
+    /// is asked just once: with the key, the algorithm, these octets, and those of the signature.
     pub fn verify_signature<V: Verifier>(
         &self,
         key: &PublicKey,
         verifier: &mut V,
-    ) -> Result<(), SignatureVerificationError>
+    ) -> Result<(), VerificationError>
         ensures answer { IsOk result ↔ (V.says verifier.old key.now self.now.signed.has_null
             self.now.signed.message self.now.signed.signature ≡ true) }
+        ensures refused { IfErr result (λ e. e ≡ BadSignature) }
         ensures same { V.says verifier.new ≡ V.says verifier.old }
         ensures counted { V.count verifier.new ≡ min (V.count verifier.old + 1) (2 ^ 64 - 1) }
     {
@@ -132,11 +142,14 @@ impl Crl {
     }
 
     /// What is written of the list in DER. `CerUnsupported` where the octets that were signed stand in another mode;
-    /// `TooLong` where a content has more than 2^32 - 1 octets.
+    /// `TooLong` where they stand in DER, and a content would have more than 2^32 - 1 octets; `Memory` only where
+    /// something can be written.
     pub fn to_captured(&self, alloc: Global) -> Result<Captured, EncodeError>
-        ensures { IfOk result (λ c. WritesCrl self.now Der c.octets) }
+        ensures captured { IfOk result (λ c. WritesCrl self.now Der c.octets) }
+        ensures mode { IfOk result (λ c. c.mode ≡ Der) }
+        ensures refused { IfErr result (RefusesCrl self.now) }
     {
-        self.encode_ref().to_captured(alloc, Mode::Der)
+        self.encode_ref().in_der(alloc)
     }
 }
 

@@ -1,7 +1,7 @@
 //! Revocation lists that are kept by their URIs.
 
 ghost use Rattle.std.specs.Prelude.{◌≡◌, ◌↔◌, ◌∷◌, ◌++◌, [], false, true, IfErr, IsTrue, MatchOption, OnErr, OnOk};
-ghost use Rattle.certs_crl.specs.Store.{IsFirstUnder, NoneUnder};
+ghost use Rattle.certs_crl.specs.Store.{IsFirstUnder, NoneUnder, as_stored};
 
 use crate::crl::Crl;
 use certs_basics::uri::Rsync;
@@ -46,6 +46,17 @@ fn first_under<'a>(crls: &'a [(Rsync, Crl)], uri: &Rsync) -> Option<&'a Crl>
     None
 }
 
+// Keeps the serial numbers of a list aside, where that is wanted of it.
+fn keep_serials(alloc: Global, crl: &mut Crl, wanted: bool) -> Result<(), AllocError>
+    ensures kept { OnOk result (crl.new ≡ as_stored wanted crl.old) }
+    ensures same { OnErr result (crl.new ≡ crl.old) }
+{
+    if !wanted {
+        return Ok(());
+    }
+    crl.cache_serials(alloc)
+}
+
 impl CrlStore {
     /// No lists. Serial numbers aren't kept aside.
     pub fn new(alloc: Global) -> CrlStore
@@ -64,10 +75,13 @@ impl CrlStore {
         self.cache_serials = true;
     }
 
-    /// Puts a list after the others. Where memory is refused the store is as it was, and the pair comes back.
+    /// Puts a list after the others, with its serial numbers kept aside where the store does so. Where memory is refused
+    /// the store is as it was, and the pair comes back as it was.
     pub fn push(&mut self, alloc: Global, uri: Rsync, crl: Crl) -> Result<(), (Rsync, Crl)>
-        ensures ok { OnOk result (self.new
-            ≡ record { crls = self.old.crls ++ (uri, crl) ∷ []; caches = self.old.caches }) }
+        ensures ok { OnOk result (self.new ≡ record {
+          crls = self.old.crls ++ (uri, as_stored self.old.caches crl) ∷ [];
+          caches = self.old.caches;
+        }) }
         ensures refused { IfErr result (λ pair. pair ≡ (uri, crl)) }
         ensures same { OnErr result (self.new ≡ self.old) }
     {
@@ -75,13 +89,11 @@ impl CrlStore {
         if self.crls.reserve(1).is_err() {
             return Err((uri, crl));
         }
-        if self.cache_serials && crl.cache_serials(alloc).is_err() {
+        if keep_serials(alloc, &mut crl, self.cache_serials).is_err() {
             return Err((uri, crl));
         }
-        match self.crls.push((uri, crl)) {
-            Ok(()) => Ok(()),
-            Err(failed) => Err(failed.value),
-        }
+        self.crls.push((uri, crl)).unwrap();
+        Ok(())
     }
 
     /// The list that came first under the URI, if any.

@@ -136,7 +136,7 @@ spelled_cert_one {m} = record { one = at }
     at : (a b u v : List ℕ) (x y : CertValue) → SpellsCert m a x → SpellsCert m b y → a ++ u ≡ b ++ v → (a ≡ b) × (x ≡ y)
     at a b u v x y p q e =
         let f = (signed_one tbs_one).one a b u v p.fields q.fields p.is q.is e in
-        (f.0, p.says ∙ ap as_cert f.1 ∙ sym q.says)
+        (f.0, p.says ∙ ap (as_cert m) f.1 ∙ sym q.says)
 
 -- Octets are one certificate at most.
 pub one_cert : (octets : List ℕ) (c c' : CertValue) → CertText octets c → CertText octets c' → c ≡ c'
@@ -197,7 +197,7 @@ spelled_crl_one {m} = record { one = at }
     at : (a b u v : List ℕ) (x y : CrlValue) → SpellsCrl m a x → SpellsCrl m b y → a ++ u ≡ b ++ v → (a ≡ b) × (x ≡ y)
     at a b u v x y p q e =
         let f = (signed_one tbs_list_one).one a b u v p.fields q.fields p.is q.is e in
-        (f.0, p.says ∙ ap as_crl f.1 ∙ sym q.says)
+        (f.0, p.says ∙ ap (as_crl m) f.1 ∙ sym q.says)
 
 -- Octets are one revocation list at most.
 pub one_crl : (octets : List ℕ) (c c' : CrlValue) → CrlText octets c → CrlText octets c' → c ≡ c'

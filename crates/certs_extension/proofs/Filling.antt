@@ -17,7 +17,7 @@ use Rattle.certs_extension.proofs.of_bcder_content.Decoding.{ValueEach, exact_de
 use Rattle.certs_extension.proofs.of_bcder_content.Fronts.{front_lacks, front_reads}
 use Rattle.certs_extension.specs.Putting.{CannotPut, PutsOnce}
 use Rattle.certs_extension.specs.declared.error.ExtensionError.{ExtensionError}
-use Rattle.certs_extension.specs.declared.error.ExtensionError.TheVariants.{Duplicate, Criticality, UnknownCritical, BadValue, Memory}
+use Rattle.certs_extension.specs.declared.error.ExtensionError.TheVariants.{Duplicate, Criticality, UnknownCritical, BadValue, MissingResources, MissingPolicy, WrongIpResources, WrongAsResources, MissingSubjectKeyIdentifier, MissingKeyUsage, Memory}
 use Rattle.certs_extension.specs.Extensions.{Extension, Need}
 use Rattle.certs_extension.specs.Filling.{CannotFill, Fills, Under}
 
@@ -43,6 +43,12 @@ module _ {F A D : Type 0} {g : Reader F (Constructed Reading) A D} {op : F} wher
     cannot_fill exact Criticality h = h
     cannot_fill exact UnknownCritical h = h
     cannot_fill exact BadValue h = (h.0, front_lacks (exact_decode exact h.3))
+    cannot_fill exact MissingResources h = h
+    cannot_fill exact MissingPolicy h = h
+    cannot_fill exact WrongIpResources h = h
+    cannot_fill exact WrongAsResources h = h
+    cannot_fill exact MissingSubjectKeyIdentifier h = h
+    cannot_fill exact MissingKeyUsage h = h
     cannot_fill exact Memory h = h.0
 
 -- No value under a policy where none is.

@@ -7,7 +7,7 @@ use Rattle.certs_extension.specs.certs_basics.Lists.{Mem}
 use Rattle.certs_extension.specs.resources_chain.declared.claims.Overclaim.{Overclaim}
 use Rattle.certs_extension.specs.resources_chain.declared.claims.Overclaim.TheVariants.{Refuse, Trim}
 use Rattle.certs_extension.specs.declared.error.ExtensionError.{ExtensionError}
-use Rattle.certs_extension.specs.declared.error.ExtensionError.TheVariants.{Duplicate, Criticality, UnknownCritical, BadValue, Memory}
+use Rattle.certs_extension.specs.declared.error.ExtensionError.TheVariants.{Duplicate, Criticality, UnknownCritical, BadValue, MissingResources, MissingPolicy, WrongIpResources, WrongAsResources, MissingSubjectKeyIdentifier, MissingKeyUsage, Memory}
 use Rattle.certs_extension.specs.CertText.{known, other}
 use Rattle.certs_extension.specs.Extensions.{Extension, IsOptional, May, Need, of_kind}
 use Rattle.certs_extension.specs.ExtensionKinds.{IsNamed}
@@ -83,6 +83,12 @@ module _ {A : Type 0} (need : Need) (Q : Tree → A → Type 0) (e : Extension) 
   ruled_out Criticality old x h m p q = h.1 q.0
   ruled_out UnknownCritical old x h m p q = h
   ruled_out BadValue old x h m p q = h.1 x q.1
+  ruled_out MissingResources old x h m p q = h
+  ruled_out MissingPolicy old x h m p q = h
+  ruled_out WrongIpResources old x h m p q = h
+  ruled_out WrongAsResources old x h m p q = h
+  ruled_out MissingSubjectKeyIdentifier old x h m p q = h
+  ruled_out MissingKeyUsage old x h m p q = h
   ruled_out Memory old x h m p q = m refl
 
   none_joined : (fault : ExtensionError) (before behind : List Extension) (old v : Option A) → CannotFill need Q e old fault → fault ≢ Memory → IsOptional need Q before old → IsOptional need Q (before ++ (e ∷ behind)) v → ⊥
@@ -185,6 +191,12 @@ module _ {A : Type 0} (octets : Overclaim → List ℕ) (differ : octets Refuse 
       by_fault Criticality before x c l z is none none_other r = c.1 tt
       by_fault UnknownCritical before x c l z is none none_other r = c
       by_fault BadValue before x c l z is none none_other r = c.1 x (reads_under v e.octets x is r)
+      by_fault MissingResources before x c l z is none none_other r = c
+      by_fault MissingPolicy before x c l z is none none_other r = c
+      by_fault WrongIpResources before x c l z is none none_other r = c
+      by_fault WrongAsResources before x c l z is none none_other r = c
+      by_fault MissingSubjectKeyIdentifier before x c l z is none none_other r = c
+      by_fault MissingKeyUsage before x c l z is none none_other r = c
       by_fault Memory before x c l z is none none_other r = l refl
 
       twice : (u : Overclaim) → other (other u) ≡ u

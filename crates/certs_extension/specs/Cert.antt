@@ -1,5 +1,6 @@
 -- What a certificate has, as its getters tell it.
 use Rattle.std.specs.Prelude.{ℕ, Bool, List, Option}
+use Rattle.certs_extension.specs.bcder_tree.declared.mode.Mode.{Mode}
 use Rattle.certs_extension.specs.bcder_content.Kept.{CapturedValue}
 use Rattle.certs_extension.specs.resources_chain.declared.claims.Overclaim.{Overclaim}
 use Rattle.certs_extension.specs.resources_chain.Claims.{Choice}
@@ -38,6 +39,10 @@ pub record SignedValue : Type 0 where
   pub has_null : Bool
   -- the octets of the signature
   pub signature : List ℕ
+  -- how many bits of its last octet are unused
+  pub unused : ℕ
+  -- the mode in which what is signed stands
+  pub mode : Mode
 
 pub record CertValue : Type 0 where
   pub signed : SignedValue

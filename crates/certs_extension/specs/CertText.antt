@@ -118,16 +118,24 @@ pub record IsTbs (m : Mode) (t : Tree) (c : TbsValue) : Type 0 where
   pub is : Inside sequence_tag (IsTbsBody m) t fields
   pub says : SaysTbs fields c
 
--- What is signed, with its octets, the algorithm, and the signature (RFC 5280 4.1.1). The count of unused bits isn't kept.
-abbrev pub as_signed : {A : Type 0} → (List ℕ × A) × (Bool × (BitsValue × Unit {0})) → SignedValue
-as_signed x = record { message = x.0.0; has_null = x.1.0; signature = x.1.1.0.octets }
+-- What is signed, with its octets, the algorithm, and the signature, in that mode (RFC 5280 4.1.1).
+abbrev pub as_signed : {A : Type 0} → Mode
+    → (List ℕ × A) × (Bool × (BitsValue × Unit {0})) → SignedValue
+as_signed m x = record {
+  message = x.0.0;
+  has_null = x.1.0;
+  signature = x.1.1.0.octets;
+  unused = x.1.1.0.unused;
+  mode = m;
+}
 
-abbrev pub as_cert : (List ℕ × TbsValue) × (Bool × (BitsValue × Unit {0})) → CertValue
-as_cert x = record { signed = as_signed x; tbs = x.0.1 }
+abbrev pub as_cert : Mode → (List ℕ × TbsValue) × (Bool × (BitsValue × Unit {0})) → CertValue
+as_cert m x = record { signed = as_signed m x; tbs = x.0.1 }
 
 -- Certificate ::= SEQUENCE { tbsCertificate, signatureAlgorithm AlgorithmIdentifier, signatureValue BIT STRING }, as a value.
 abbrev pub IsCert : Mode → Tree → CertValue → Type 0
-IsCert m = As (Inside sequence_tag (Then (Kept m (IsTbs m)) (Then IsAlgorithm (Then (OctetsOf bit_string_tag (IsBitString m)) End)))) as_cert
+IsCert m =
+    As (Inside sequence_tag (Then (Kept m (IsTbs m)) (Then IsAlgorithm (Then (OctetsOf bit_string_tag (IsBitString m)) End)))) (as_cert m)
 
 -- A certificate's fields by their octets, from the outermost value down to what is kept: names and message are the very
 -- octets that stand there, which in BER a value doesn't tell.
@@ -156,7 +164,7 @@ SpellsSigned m P = Wraps m sequence_tag (Joins (WithOctets P) (Joins (SpellsOf m
 pub record SpellsCert (m : Mode) (text : List ℕ) (c : CertValue) : Type 0 where
   pub fields : (List ℕ × TbsValue) × (Bool × (BitsValue × Unit {0}))
   pub is : SpellsSigned m (SpellsTbs m) text fields
-  pub says : c ≡ as_cert fields
+  pub says : c ≡ as_cert m fields
 
 -- A certificate in DER stands in front of the octets.
 abbrev pub CertText : List ℕ → CertValue → Type 0

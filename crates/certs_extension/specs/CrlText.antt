@@ -1,5 +1,5 @@
 -- Which octets are a certificate revocation list (RFC 5280 5, RFC 6487 5).
-use Rattle.std.specs.Prelude.{◌≡◌, ℕ, ◌<◌, Bool, List, [], Option, Some, None, length}
+use Rattle.std.specs.Prelude.{◌≡◌, ℕ, ◌<◌, Bool, false, List, [], Option, Some, None, length}
 use Rattle.certs_extension.specs.bcder_tree.declared.mode.Mode.{Mode}
 use Rattle.certs_extension.specs.bcder_tree.declared.mode.Mode.TheVariants.{Der}
 use Rattle.certs_extension.specs.bcder_tree.Tags.{context, sequence_tag}
@@ -34,9 +34,11 @@ pub record TbsListValue : Type 0 where
   pub authority_key_identifier : List ℕ
   pub number : ℕ
 
+-- A list, and whether its serial numbers are kept aside, sorted, of which octets say nothing.
 pub record CrlValue : Type 0 where
   pub signed : SignedValue
   pub tbs : TbsListValue
+  pub caches : Bool
 
 -- SEQUENCE { userCertificate CertificateSerialNumber, revocationDate Time } (RFC 5280 5.1.2.6)
 abbrev pub as_revoked : ℕ × (ℕ × Unit {0}) → RevokedValue
@@ -88,12 +90,14 @@ pub record IsTbsList (m : Mode) (t : Tree) (c : TbsListValue) : Type 0 where
   pub is : Inside sequence_tag (IsTbsListBody m) t fields
   pub says : SaysList fields c
 
--- CertificateList ::= SEQUENCE { tbsCertList, signatureAlgorithm, signatureValue BIT STRING }; both algorithms agree, NULL included (RFC 5280 5.1.1)
-abbrev pub as_crl : (List ℕ × TbsListValue) × (Bool × (BitsValue × Unit {0})) → CrlValue
-as_crl x = record { signed = as_signed x; tbs = x.0.1 }
+-- CertificateList ::= SEQUENCE { tbsCertList, signatureAlgorithm, signatureValue BIT STRING }; both algorithms agree, NULL
+-- included (RFC 5280 5.1.1). No serial numbers are kept aside of a list that is read.
+abbrev pub as_crl : Mode → (List ℕ × TbsListValue) × (Bool × (BitsValue × Unit {0})) → CrlValue
+as_crl m x = record { signed = as_signed m x; tbs = x.0.1; caches = false }
 
 pub record IsCrl (m : Mode) (t : Tree) (c : CrlValue) : Type 0 where
-  pub is : As (Inside sequence_tag (Then (Kept m (IsTbsList m)) (Then IsAlgorithm (Then (OctetsOf bit_string_tag (IsBitString m)) End)))) as_crl t c
+  pub is : As (Inside sequence_tag (Then (Kept m (IsTbsList m)) (Then IsAlgorithm (Then (OctetsOf bit_string_tag (IsBitString m)) End))))
+      (as_crl m) t c
   pub agree : c.tbs.has_null ≡ c.signed.has_null
 
 -- A list's fields by their octets: the issuer's name and the message are the very octets that stand there.
@@ -118,7 +122,7 @@ pub record SpellsTbsList (m : Mode) (text : List ℕ) (c : TbsListValue) : Type 
 pub record SpellsCrl (m : Mode) (text : List ℕ) (c : CrlValue) : Type 0 where
   pub fields : (List ℕ × TbsListValue) × (Bool × (BitsValue × Unit {0}))
   pub is : SpellsSigned m (SpellsTbsList m) text fields
-  pub says : c ≡ as_crl fields
+  pub says : c ≡ as_crl m fields
   pub agree : c.tbs.has_null ≡ c.signed.has_null
 
 -- A list in DER stands in front of the octets.

@@ -10,7 +10,7 @@ use Rattle.certs_extension.specs.resources_chain.declared.claims.Overclaim.TheVa
 use Rattle.certs_extension.specs.resources_as.Identifiers.{as_octets, ip_octets}
 use Rattle.certs_extension.specs.Putting.{IsRead}
 use Rattle.certs_extension.specs.declared.error.ExtensionError.{ExtensionError}
-use Rattle.certs_extension.specs.declared.error.ExtensionError.TheVariants.{Duplicate, Criticality, UnknownCritical, BadValue, Memory}
+use Rattle.certs_extension.specs.declared.error.ExtensionError.TheVariants.{Duplicate, Criticality, UnknownCritical, BadValue, MissingResources, MissingPolicy, WrongIpResources, WrongAsResources, MissingSubjectKeyIdentifier, MissingKeyUsage, Memory}
 use Rattle.certs_extension.specs.CertAccess.{IsSubjectAccess}
 use Rattle.certs_extension.specs.Extensions.{Extension, IsAuthorityAccess, IsAuthorityKeyIdentifier, IsBasicConstraints, IsCrlDistribution, IsExtendedKeyUsage, IsKeyUsage, IsPolicies, IsSubjectKeyIdentifier, May, Meets, Must, MustNot, Need}
 use Rattle.certs_extension.specs.declared.claims.kinds.Kind.{Kind}
@@ -27,12 +27,18 @@ pub record Fills {A : Type 0} (need : Need) (Q : Tree → A → Type 0) (e : Ext
   pub put : new ≡ Some value
   pub reads : ReadsFront Q e.octets value
 
--- Why it wasn't filled: the first test that failed.
+-- Why it wasn't filled: the first test that failed, never one after the list.
 abbrev pub CannotFill : {A : Type 0} → Need → (Tree → A → Type 0) → Extension → Option A → ExtensionError → Type 0
 CannotFill need Q e old Duplicate = old ≡ None → ⊥
 CannotFill need Q e old Criticality = (old ≡ None) × (Meets need e.critical → ⊥)
 CannotFill need Q e old UnknownCritical = ⊥
 CannotFill {A} need Q e old BadValue = IsRead need e old × ((x : A) → ReadsFront Q e.octets x → ⊥)
+CannotFill need Q e old MissingResources = ⊥
+CannotFill need Q e old MissingPolicy = ⊥
+CannotFill need Q e old WrongIpResources = ⊥
+CannotFill need Q e old WrongAsResources = ⊥
+CannotFill need Q e old MissingSubjectKeyIdentifier = ⊥
+CannotFill need Q e old MissingKeyUsage = ⊥
 CannotFill need Q e old Memory = IsRead need e old
 
 -- A value under that policy.

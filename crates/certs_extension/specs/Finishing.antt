@@ -6,9 +6,9 @@ use Rattle.certs_extension.specs.resources_ip.declared.resources.IpFamilies.{IpF
 use Rattle.certs_extension.specs.CertAccess.{AccessValue, no_access}
 use Rattle.certs_extension.specs.Cert.{TbsValue}
 use Rattle.certs_extension.specs.declared.claims.finish.Claims.{Claims}
-use Rattle.certs_extension.specs.declared.claims.finish.ListError.{ListError}
-use Rattle.certs_extension.specs.declared.claims.finish.ListError.TheVariants.{MissingResources, MissingPolicy, WrongIpResources, WrongAsResources, MissingSubjectKeyIdentifier, MissingKeyUsage}
 use Rattle.certs_extension.specs.declared.claims.slots.Slots.{Slots}
+use Rattle.certs_extension.specs.declared.error.ExtensionError.{ExtensionError}
+use Rattle.certs_extension.specs.declared.error.ExtensionError.TheVariants.{Duplicate, Criticality, UnknownCritical, BadValue, MissingResources, MissingPolicy, WrongIpResources, WrongAsResources, MissingSubjectKeyIdentifier, MissingKeyUsage, Memory}
 
 -- No resources of a kind mean that they are missing.
 abbrev pub no_families : IpFamilies
@@ -76,11 +76,16 @@ pub record HasClaims (s : Slots) (policy : Overclaim) : Type 0 where
   pub ip : Stands policy s.ip
   pub asn : Stands policy s.asn
 
--- Which test is the first that fails.
-abbrev pub IsListFault : Slots → ListError → Type 0
+-- Which test after the list is the first that fails, never one of a single extension.
+abbrev pub IsListFault : Slots → ExtensionError → Type 0
+IsListFault s Duplicate = ⊥
+IsListFault s Criticality = ⊥
+IsListFault s UnknownCritical = ⊥
+IsListFault s BadValue = ⊥
 IsListFault s MissingResources = (s.ip ≡ None) × (s.asn ≡ None)
 IsListFault s MissingPolicy = HasSome s × (s.policy ≡ None)
 IsListFault s WrongIpResources = (policy : Overclaim) × HasPolicy s policy × (Stands policy s.ip → ⊥)
 IsListFault s WrongAsResources = (policy : Overclaim) × HasPolicy s policy × Stands policy s.ip × (Stands policy s.asn → ⊥)
 IsListFault s MissingSubjectKeyIdentifier = (policy : Overclaim) × HasClaims s policy × (s.subject_key_identifier ≡ None)
 IsListFault s MissingKeyUsage = (policy : Overclaim) × HasClaims s policy × (s.subject_key_identifier ≢ None) × (s.key_usage ≡ None)
+IsListFault s Memory = ⊥

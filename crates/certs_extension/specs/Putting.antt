@@ -12,7 +12,7 @@ use Rattle.certs_extension.specs.Extensions.{Extension, Need, Must, MustNot, May
 use Rattle.certs_extension.specs.declared.put.Need.{Need as NeedValue}
 use Rattle.certs_extension.specs.declared.put.Need.TheVariants as needs
 use Rattle.certs_extension.specs.declared.error.ExtensionError.{ExtensionError}
-use Rattle.certs_extension.specs.declared.error.ExtensionError.TheVariants.{Duplicate, Criticality, UnknownCritical, BadValue, Memory}
+use Rattle.certs_extension.specs.declared.error.ExtensionError.TheVariants.{Duplicate, Criticality, UnknownCritical, BadValue, MissingResources, MissingPolicy, WrongIpResources, WrongAsResources, MissingSubjectKeyIdentifier, MissingKeyUsage, Memory}
 
 abbrev pub need_of : NeedValue → Need
 need_of needs.Must = Must
@@ -33,10 +33,16 @@ pub record IsRead (need : Need) (e : Extension) {T : Type 0} (old : Option T) : 
   pub empty : old ≡ None
   pub met : Meets need e.critical
 
--- Why none was put: the first test that failed.
+-- Why none was put: the first test that failed, never one after the list.
 abbrev pub CannotPut : {F T D : Type 0} → Reader F (Constructed Reading) T D → F → Need → Extension → Option T → ExtensionError → Type 0
 CannotPut g op need e old Duplicate = old ≡ None → ⊥
 CannotPut g op need e old Criticality = (old ≡ None) × (Meets need e.critical → ⊥)
 CannotPut g op need e old UnknownCritical = ⊥
 CannotPut g op need e old BadValue = IsRead need e old × (x : ContentError) × (pos : Pos) × Decoded rest_of g op (fresh Der e.octets) (Err (Content x pos))
+CannotPut g op need e old MissingResources = ⊥
+CannotPut g op need e old MissingPolicy = ⊥
+CannotPut g op need e old WrongIpResources = ⊥
+CannotPut g op need e old WrongAsResources = ⊥
+CannotPut g op need e old MissingSubjectKeyIdentifier = ⊥
+CannotPut g op need e old MissingKeyUsage = ⊥
 CannotPut g op need e old Memory = IsRead need e old × Decoded rest_of g op (fresh Der e.octets) (Err want)

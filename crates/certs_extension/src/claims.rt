@@ -9,7 +9,7 @@ pub mod list;
 pub mod slots;
 mod values;
 
-pub use finish::{Claims, ListError};
+pub use finish::Claims;
 pub use holding::beside;
 pub use list::take_extensions;
 pub use slots::Slots;

@@ -1,8 +1,13 @@
-//! Why an extension is refused.
+//! Why extensions are refused.
 
+ghost use Rattle.std.specs.Prelude.{◌≡◌, ◌↔◌, ◌≤◌, IsTrue, length};
+ghost use Rattle.certs_extension.specs.Refusals.{fault_text};
+
+use crate::decode::ContentError;
 use thiserror::Error;
 
-/// Why an extension is refused: the first test in this order that fails.
+/// Why extensions are refused: the first test that fails, of those of one extension, each in its
+/// turn, and then of those of the list as a whole.
 #[derive(Clone, Copy, Debug, PartialEq, Eq, Error, Drop)]
 pub enum ExtensionError {
     /// It is there twice.
@@ -17,7 +22,64 @@ pub enum ExtensionError {
     /// Its octets don't begin with a value of its type.
     #[error("invalid value of an extension")]
     BadValue,
+    /// There are no resources (RFC 6487 4.8.10, 4.8.11).
+    #[error("no resources")]
+    MissingResources,
+    /// There is no policy (4.8.9).
+    #[error("no certificate policy")]
+    MissingPolicy,
+    /// IP resources stand under another policy (RFC 8360 4.2).
+    #[error("IP resources under another policy")]
+    WrongIpResources,
+    /// AS resources stand under another policy (RFC 8360 4.2).
+    #[error("AS resources under another policy")]
+    WrongAsResources,
+    /// There is no subject key identifier (RFC 6487 4.8.2).
+    #[error("no subject key identifier")]
+    MissingSubjectKeyIdentifier,
+    /// There is no key usage (4.8.4).
+    #[error("no key usage")]
+    MissingKeyUsage,
     /// No memory is left.
     #[error("out of memory")]
     Memory,
+}
+
+impl ExtensionError {
+    // Whether memory was wanted.
+    pub(crate) fn is_memory(self) -> bool
+        ensures { IsTrue result ↔ (self ≡ ExtensionError.Memory) }
+    {
+        matches!(self, ExtensionError::Memory)
+    }
+
+    // The error's text.
+    fn text(self) -> &'static str
+        ensures text { result.now ≡ fault_text self }
+        ensures short { length result.now ≤ 64 }
+    {
+        match self {
+            ExtensionError::Duplicate => "duplicate extension",
+            ExtensionError::Criticality => "criticality of an extension",
+            ExtensionError::UnknownCritical => "unknown critical extension",
+            ExtensionError::BadValue => "invalid value of an extension",
+            ExtensionError::MissingResources => "no resources",
+            ExtensionError::MissingPolicy => "no certificate policy",
+            ExtensionError::WrongIpResources => "IP resources under another policy",
+            ExtensionError::WrongAsResources => "AS resources under another policy",
+            ExtensionError::MissingSubjectKeyIdentifier => "no subject key identifier",
+            ExtensionError::MissingKeyUsage => "no key usage",
+            ExtensionError::Memory => "out of memory",
+        }
+    }
+}
+
+impl From<ExtensionError> for ContentError {
+    ghost use Rattle.certs_extension.specs.bcder_source.declared.error.ContentError.TheVariants.{Static};
+
+    ghost from_gives = { λ cause e. e ≡ Static (fault_text cause) };
+
+    fn from(cause: ExtensionError) -> Self {
+        ContentError::from_static(cause.text())
+    }
 }

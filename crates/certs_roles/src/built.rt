@@ -9,17 +9,18 @@ mod signer;
 
 use answers::Answer;
 use bcder::Mode;
+use bcder::decode::DecodeError;
 use bcder::encode::Values;
 use certs::built::BuildCert;
 use certs_cert::{Cert, TbsCert};
 use signer::Stub;
 use std::alloc::{AllocError, Global};
 
-// Whether what is written of the certificate's fields is what was signed.
-fn is_message(alloc: Global, cert: &Cert) -> bool {
+// Whether what is written of the certificate's fields is what was signed, or why nothing is written.
+fn message(alloc: Global, answer: &mut Answer, cert: &Cert) {
     match cert.tbs().encode_ref().to_captured(alloc, Mode::Der) {
-        Ok(captured) => captured.as_slice() == cert.signed_data().data().as_slice(),
-        Err(_) => false,
+        Ok(captured) => answer.say(&(captured.as_slice() == cert.signed_data().data().as_slice())),
+        Err(error) => answer.say(&error),
     }
 }
 
@@ -27,9 +28,10 @@ fn is_message(alloc: Global, cert: &Cert) -> bool {
 fn again(alloc: Global, answer: &mut Answer, octets: &[u8]) {
     match Cert::decode(alloc, octets) {
         Ok(cert) => {
-            answer.say(&is_message(alloc, &cert));
+            message(alloc, answer, &cert);
             drop(cert);
         }
+        Err(DecodeError::Memory) => answer.word("memory"),
         Err(error) => {
             drop(error);
             answer.word("unread");
@@ -114,7 +116,7 @@ pub fn answer(alloc: Global, answer: &mut Answer, words: &[&str]) {
     let Some((what, fields)) = first.split_first() else {
         return answer.word("no question");
     };
-    match made::made(alloc, fields) {
+    match made::made(alloc, answer, fields) {
         Some(tbs) => of_fields(alloc, answer, *what, tbs, others),
         None => answer.word("no fields"),
     }

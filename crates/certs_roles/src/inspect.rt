@@ -1,4 +1,5 @@
-//! Questions about a certificate's form: the role, whether names are strict, and octets.
+//! Questions about a certificate's form: the role, whether names are strict, octets, and whether the text of a failing
+//! test is asked for in place of its name.
 
 use crate::read::cert_of;
 use answers::{Answer, word_at};
@@ -17,10 +18,11 @@ fn inspected(cert: &Cert, role: &str, strict: bool) -> Result<(), InspectionErro
     }
 }
 
-// `ok`, or the first test that fails.
-fn told(answer: &mut Answer, cert: &Cert, role: &str, strict: bool) {
-    match inspected(cert, role, strict) {
+// `ok`, or the first test that fails, by its text or its name.
+fn told(answer: &mut Answer, inspected: Result<(), InspectionError>, by_text: bool) {
+    match inspected {
         Ok(()) => answer.word("ok"),
+        Err(test) if by_text => answer.say(&format_args!("{test}")),
         Err(test) => answer.say(&format_args!("{test:?}")),
     }
 }
@@ -30,8 +32,9 @@ pub fn answer(alloc: Global, answer: &mut Answer, words: &[&str]) {
     let strict = word_at(words, 1) == "strict";
     match cert_of(alloc, word_at(words, 2)) {
         Some(cert) => {
-            told(answer, &cert, word_at(words, 0), strict);
+            let found = inspected(&cert, word_at(words, 0), strict);
             drop(cert);
+            told(answer, found, word_at(words, 3) == "text");
         }
         None => answer.word("no certificate"),
     }

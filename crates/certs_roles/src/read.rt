@@ -36,6 +36,7 @@ fn tested(alloc: Global, answer: &mut Answer, octets: &[u8]) {
             drop(cert);
             answer.word("true");
         }
+        Err(DecodeError::Memory) => answer.word("memory"),
         Err(error) => {
             drop(error);
             answer.word("false");

@@ -8,17 +8,11 @@ use certs_cert::{Cert, TbsCert};
 use std::alloc::Global;
 use std::convert::Infallible;
 
-// That octets are refused. By which text isn't answered: that of a value's form is the codec's.
-fn refused(answer: &mut Answer, error: DecodeError<Infallible>) {
-    drop(error);
-    answer.word("refused");
-}
-
 // All that is answered of a certificate that was read.
 fn told(answer: &mut Answer, read: Result<Cert, DecodeError<Infallible>>) {
     match read {
         Ok(cert) => last_shown(answer, cert),
-        Err(error) => refused(answer, error),
+        Err(error) => answer.refuse(error),
     }
 }
 
@@ -35,7 +29,7 @@ fn next(alloc: Global, answer: &mut Answer, mode: Mode, octets: &[u8]) {
     match mode.decode(octets, |cons| Cert::take_opt_from(alloc, cons)) {
         Ok(Some(cert)) => last_shown(answer, cert),
         Ok(None) => answer.word("none"),
-        Err(error) => refused(answer, error),
+        Err(error) => answer.refuse(error),
     }
 }
 
@@ -59,7 +53,7 @@ fn signed(alloc: Global, answer: &mut Answer, mode: Mode, octets: &[u8]) {
             fields(answer, &tbs);
             drop(tbs);
         }
-        Err(error) => refused(answer, error),
+        Err(error) => answer.refuse(error),
     }
 }
 

@@ -1,6 +1,6 @@
 pub mod Entries
 pub mod Lists
-mod Made
+pub mod Made
 pub mod Searches
 pub mod Serials
 pub mod Splits
@@ -9,6 +9,9 @@ pub mod Around
 pub mod Octets
 pub mod Messages
 pub mod Wholes
+pub mod Few
+pub mod Refused
+mod Turned
 pub mod of_bcder_content
 pub mod of_bcder_source
 pub mod of_bcder_tree

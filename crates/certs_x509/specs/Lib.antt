@@ -4,6 +4,7 @@ pub mod Listed
 pub mod Listing
 pub mod EntryForms
 pub mod Signed
+pub mod Captured
 pub mod Took
 pub mod Causes
 -- What stands below, for the crates above.

@@ -64,6 +64,6 @@ pub use errors::{ClaimedKind, InspectionError, Overclaimed, ValidationError, Ver
 pub use key::{KeyIdentifier, PublicKey, PublicKeyFormat};
 pub use name::Name;
 pub use serial::Serial;
-pub use signed::{SignatureVerificationError, SignedData};
+pub use signed::SignedData;
 pub use tal::TalInfo;
 pub use time::{Clock, Time, Validity};

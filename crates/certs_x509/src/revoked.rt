@@ -3,6 +3,7 @@
 //! What differs from the Rust crate: an entry isn't read from a text; a list is made of a slice of entries, and of no
 //! iterator; what takes memory is given an allocator and answers a `Result`.
 
+pub mod anew;
 pub mod cache;
 pub mod entry;
 pub mod iter;

@@ -8,7 +8,7 @@
 
 pub mod laws;
 pub mod signed;
-pub mod verify;
+mod verify;
 pub mod written;
 
 pub use certs_key::{
@@ -16,5 +16,4 @@ pub use certs_key::{
     RpkiSignatureAlgorithm, Serial, SignatureAlgorithm, Tag, Verifier, decode,
 };
 pub use signed::SignedData;
-pub use verify::SignatureVerificationError;
 pub use written::SignedDataValues;

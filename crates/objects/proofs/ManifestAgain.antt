@@ -10,7 +10,7 @@ use Rattle.objects.specs.objects_payload.Manifests.{IsManifest, Manifest, Manife
 use Rattle.objects.specs.objects_written.Manifests.{AreFileNames, IsManifestNumber, manifest}
 use Rattle.objects.specs.resources_chain.Claims.{Choice}
 use Rattle.objects.specs.resources_chain.declared.choice.ResourcesChoice.TheVariants.{Inherit, Missing}
-use Rattle.objects_built.specs.Builders.{BuilderValue, IsBuilt, IsComplete, IsSigned, KindIsRead, built_object}
+use Rattle.objects_written.specs.Builders.{BuilderValue, IsBuilt, IsComplete, IsSigned, KindIsRead, built_object}
 use Rattle.objects.specs.Issued.{IsManifestFor, inheriting}
 
 -- What is inherited is there, and lists nothing.

@@ -11,8 +11,8 @@ use Rattle.objects.specs.certs_basics.Keys.{KeyValue}
 use Rattle.objects.specs.certs_key.declared.signer.SigningError.{SigningError}
 use Rattle.objects.specs.certs_key.declared.signer.SigningError.TheVariants as errors
 use Rattle.objects.specs.certs.Outputs.{Output}
-use Rattle.objects_built.specs.Builders.{BuilderValue}
-use Rattle.objects_built.specs.Refusing.{BuildRefused, IsTooLong, told_as}
+use Rattle.objects_written.specs.Builders.{BuilderValue}
+use Rattle.objects_written.specs.Refusing.{BuildRefused, IsTooLong, told_as}
 use Rattle.objects.specs.Refusing.{CanWrite, CannotSignContent}
 
 -- There is the text that memory was lacking for.

@@ -16,7 +16,7 @@ use Rattle.objects.specs.resources_ip_prefix.Prefix.{run_of_prefix}
 use Rattle.objects.specs.resources_ip_prefix.Prefixes.{prefix_run}
 use Rattle.objects.specs.resources_ip_prefix.declared.prefix.Prefix.{Prefix}
 use Rattle.resources_ip.specs.WholeSets.{ListsWhole}
-use Rattle.objects_built.specs.Builders.{BuilderValue, IsBuilt, IsComplete, IsSigned, KindIsRead, built_object}
+use Rattle.objects_written.specs.Builders.{BuilderValue, IsBuilt, IsComplete, IsSigned, KindIsRead, built_object}
 use Rattle.objects.specs.Issued.{AreResourcesOf, AttestsPrefixes, IsRoaFor, runs_of}
 use Rattle.objects.proofs.SignedAgain.{blocks_are_said}
 

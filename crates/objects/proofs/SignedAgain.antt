@@ -10,7 +10,7 @@ use Rattle.objects.specs.resources_chain.Claims.{Choice}
 use Rattle.objects.specs.resources_chain.Sets.{Run}
 use Rattle.objects.specs.resources_chain.declared.choice.ResourcesChoice.TheVariants.{Blocks, Missing}
 use Rattle.resources_ip.specs.WholeSets.{ListsWhole}
-use Rattle.objects_built.specs.Builders.{BuilderValue, IsBuilt, IsComplete, IsSigned, KindIsRead, built_object}
+use Rattle.objects_written.specs.Builders.{BuilderValue, IsBuilt, IsComplete, IsSigned, KindIsRead, built_object}
 use Rattle.objects.specs.Attested.{AttestsCustomer, IsAspaFor}
 use Rattle.objects.specs.Written.{aspa}
 use Rattle.objects.proofs.AspaAgain.{aspa_text}

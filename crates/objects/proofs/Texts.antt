@@ -5,7 +5,7 @@ use Rattle.objects_written.specs.bcder_tree.Tags.{TagValue, context, universal}
 use Rattle.objects_written.specs.bcder_tree.Tree.{Tree, Trees, more, none, primitive}
 use Rattle.objects_written.specs.bcder_tree.Strings.{IsOctetString}
 use Rattle.certs_cert.specs.bcder_octets.Bits.{BitsValue}
-use Rattle.certs_cert.specs.bcder_octets.BitContents.{IsBitString, bit_string_tag, padded_in}
+use Rattle.certs_cert.specs.bcder_octets.BitContents.{IsBitString, IsPadded, bit_string_tag, padded_in}
 use Rattle.objects_written.specs.bcder_content.Grammar.{End, Inside, OctetsOf, Then}
 use Rattle.objects_written.specs.bcder_content.Kept.{CapturedValue}
 use Rattle.objects_written.specs.bcder_content.Texts.{InOrder, Joins, NoOctets, SpellsOf, WithOctets, Wraps}
@@ -74,9 +74,15 @@ tbs_stands {octets} {c} p =
     let m = p.is.is.is in
     subst (λ (k : CertValue). SpellsTbs Der k.signed.message k.tbs) (sym p.says) (subst (λ (o : List ℕ). SpellsTbs Der o p.fields.0.1) (sym m.same) m.is)
 
+-- The signature's unused bits are zero in DER.
+bits_padded : {octets : List ℕ} {c : CertValue} → SpellsCert Der octets c → IsPadded Der (cert_value c).signature.bits
+bits_padded p = subst (λ (k : CertValue). IsPadded Der (cert_value k).signature.bits) (sym p.says) p.is.is.rest.rest.is.is.is.padded
+
 pub cert_again : ReadIsBuilt → (c : CertValue) (octets text : List ℕ) → SpellsCert Der octets c → WritesCertAgain c text → SpellsCert Der text c
 cert_again built c old text p w =
-    subst (SpellsCert Der text) (built (cert_value c) c.tbs refl) (signed_is (cert_value c) c.tbs (tbs_stands p) text w)
+    let mode : c.signed.mode ≡ Der = ap (λ (k : CertValue). k.signed.mode) p.says in
+    let same : as_read (cert_value c) c.tbs ≡ c = built (cert_value c) c.tbs refl (bits_padded p) ∙ (λ i. record { signed = record c.signed { mode = sym mode i }; tbs = c.tbs }) in
+    subst (SpellsCert Der text) same (signed_is (cert_value c) c.tbs (tbs_stands p) text w)
 
 -- The constants.
 

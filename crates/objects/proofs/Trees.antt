@@ -1,20 +1,16 @@
 -- What is written in DER of an object, and of its certificate, are values.
-use Rattle.std.proofs.Common.{◌≡◌, ◌<◌, ℕ, Bool, true, false, List, [], ◌∷◌, inr, refl, arith}
-use Rattle.objects_written.specs.bcder_tree.declared.mode.Mode.TheVariants.{Cer, Der}
+use Rattle.std.proofs.Common.{ℕ, Bool, true, false, List, [], ◌∷◌, inr, refl, arith}
+use Rattle.objects_written.specs.bcder_tree.declared.mode.Mode.TheVariants.{Der}
 use Rattle.objects_written.specs.bcder_tree.Tags.{TagValue, context, universal}
 use Rattle.objects_written.specs.bcder_tree.Tree.{Trees, constructed, more, none, primitive}
 use Rattle.objects_written.specs.bcder_content.Kept.{SpellsValues}
 use Rattle.objects_written.specs.bcder_values.Captures.{CapturedTrees}
 use Rattle.objects_written.specs.bcder_primitive.Encoded.{AreBoth, IsWrapped, NoTree, joined}
-use Rattle.objects_written.specs.bcder.Kinds.{bits, null, octets, octets_at, oid, that_oid}
-use Rattle.certs_key.proofs.of_bcder_octets.BitWritings.{written}
+use Rattle.objects_written.specs.bcder.Kinds.{null, octets, octets_at, oid, that_oid}
 use Rattle.objects_written.specs.certs_key.Algorithms.{algorithm_of}
-use Rattle.certs_cert.specs.certs_x509.Signed.{signed, signed_fields}
-use Rattle.objects_written.specs.certs_extension.Cert.{CertValue}
 use Rattle.objects_written.specs.objects_payload.Identifiers as id
 use Rattle.certs.specs.Fields.{version}
 use Rattle.objects_written.specs.Frames.{ObjectParts, SignerParts, content_info, kept, object, sha256, signed_data, signer}
-use Rattle.objects.specs.Again.{cert_value}
 use Rattle.objects.specs.Taking.{in_der}
 
 -- Some values.
@@ -55,18 +51,6 @@ algorithm_some kind false =
     wrapped_some (both_some {T = (that_oid kind).trees tt Der} {U = NoTree}
     (more (primitive (universal 6) kind) none, record { content = kind; is = record { same = refl }; whole = refl })
     (none, refl))
-
--- A certificate.
-pub cert_some : (c : CertValue) → SpellsValues Der c.signed.message → Some (signed.trees (signed_fields (cert_value c)) Der)
-cert_some c s =
-    wrapped_some (both_some (kept_some c.signed.message s) (both_some (algorithm_some _ c.signed.has_null) bits_some))
-  where
-    bits_some : Some (bits.trees (cert_value c).signature.bits Der)
-    bits_some =
-        let v = (cert_value c).signature.bits in
-        let few : 0 < 8 = omega arith in
-        let is = written Der v (record { few = few; none = λ e. refl }) (λ e. let d : Der ≡ Cer = e in absurd cc) in
-        (more (primitive (universal 3) _) none, record { content = _; is = is; whole = refl })
 
 -- A signer, and the object.
 signer_some : (s : SignerParts) → Some ((kept s.attributes).trees Der) → Some ((signer s).trees Der)

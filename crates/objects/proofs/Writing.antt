@@ -1,5 +1,5 @@
 -- Why an object isn't written again.
-use Rattle.std.proofs.Common.{◌≡◌, ◌<◌, ◌^◌, ℕ, Bool, List, length, Result, Ok, Err, IfErr, IfOk, inr, refl, sym, ap, ◌∙◌, subst, arith}
+use Rattle.std.proofs.Common.{◌≡◌, ◌<◌, ◌^◌, ℕ, List, length, Result, Ok, Err, IfErr, IfOk, inr, refl, sym, ap, ◌∙◌, subst, arith}
 use Rattle.std.specs.Result.{IsErr, IsErrAnd}
 use Rattle.objects_written.specs.bcder_tree.declared.mode.Mode.TheVariants.{Der}
 use Rattle.objects_written.specs.bcder_content.Kept.{CapturedValue, SpellsValues}
@@ -8,13 +8,14 @@ use Rattle.objects_written.specs.bcder_primitive.declared.written.error.EncodeEr
 use Rattle.objects_written.specs.bcder_primitive.declared.written.error.EncodeError.TheVariants as errors
 use Rattle.certs_cert.specs.certs_x509.Signed.{SignedDataValue, signed, signed_fields}
 use Rattle.objects_written.specs.certs_extension.Cert.{CertValue, SignedValue}
-use Rattle.objects_written.specs.certs_key.Algorithms.{SignatureValue}
 use Rattle.certs_cert.specs.Whole.{signed_of}
 use Rattle.objects_written.specs.objects_payload.ObjectText.{Object}
 use Rattle.objects_written.specs.Frames.{ObjectParts, SignerParts, object}
 use Rattle.objects.specs.Again.{AgainRefused, ArePartsOf, CertRefused, DerRefused, PartsRefused, StandsInDer, WritesAgain, WritesCertAgain, cert_value, parts_of, parts_with}
 use Rattle.objects.specs.Taking.{IsInDer, in_der}
-use Rattle.objects.proofs.Trees.{cert_some, object_some}
+use Rattle.objects.proofs.Trees.{object_some}
+use Rattle.certs_x509.specs.Captured.{RefusesSigned, WritesSigned}
+use Rattle.certs_x509.proofs.Refused.{own_text}
 
 -- What a reader of octets refused, `?` passes on.
 pub passed : {A : Type 0} (F G : EncodeError → Type 0) (r : Result A EncodeError) (e : EncodeError) → IsErr r × IsErrAnd r (λ x. x ≡ e) → F e → ((e : EncodeError) → F e → G e) → IfErr r G
@@ -29,20 +30,19 @@ der_cert c errors.TooLong h = absurd h
 der_cert c errors.Write h = h
 der_cert c errors.Memory h = tt
 
-cert_error : (c : CertValue) → SpellsValues Der c.signed.message → (e : EncodeError) → ExtendRefused (signed.trees (signed_fields (cert_value c)) Der) (WritesCertAgain c) e → CertRefused c e
-cert_error c s errors.CerUnsupported h = let p = cert_some c s in absurd (h p.0 p.1)
-cert_error c s errors.TooLong h = (s, h)
+cert_error : (c : CertValue) → SpellsValues Der c.signed.message → (e : EncodeError) → RefusesSigned (signed_of (cert_value c)) e → CertRefused c e
+cert_error c s errors.CerUnsupported h = absurd (h refl)
+cert_error c s errors.TooLong h = (s, λ text w few. h.1 (text, record { value = cert_value c; same = refl; text_is = w }))
 cert_error c s errors.Write h = h
 cert_error c s errors.Memory h = tt
 
-pub cert_stop : {A : Type 0} (c : CertValue) (v : SignedDataValue) → v ≡ cert_value c → SpellsValues Der c.signed.message → (r : Result A EncodeError)
-    → IfErr r (ExtendRefused (signed.trees (signed_fields v) Der) (signed.writes (signed_fields v) Der)) → IfErr r (CertRefused c)
+pub cert_stop : {A : Type 0} (c : CertValue) (v : SignedDataValue) → v ≡ cert_value c → SpellsValues Der c.signed.message → (r : Result A EncodeError) → IfErr r (RefusesSigned (signed_of v))
+    → IfErr r (CertRefused c)
 cert_stop c v same s (Ok x) h = tt
-cert_stop c v same s (Err e) h =
-    cert_error c s e (subst (λ (z : SignedDataValue). ExtendRefused (signed.trees (signed_fields z) Der) (signed.writes (signed_fields z) Der) e) same h)
+cert_stop c v same s (Err e) h = cert_error c s e (subst (λ (z : SignedDataValue). RefusesSigned (signed_of z) e) same h)
 
-pub cert_told : {E : Type 0} (c : CertValue) (v : SignedDataValue) → v ≡ cert_value c → (r : Result CapturedValue E) → IfOk r (λ k. signed.writes (signed_fields v) Der k.octets) → IfOk r (λ k. WritesCertAgain c k.octets)
-cert_told c v same (Ok k) h = subst (λ (z : SignedDataValue). signed.writes (signed_fields z) Der k.octets) same h
+pub cert_told : {E : Type 0} (c : CertValue) (v : SignedDataValue) → v ≡ cert_value c → (r : Result CapturedValue E) → IfOk r (λ k. WritesSigned (signed_of v) Der k.octets) → IfOk r (λ k. WritesCertAgain c k.octets)
+cert_told c v same (Ok k) h = subst (λ (z : SignedDataValue). signed.writes (signed_fields z) Der k.octets) same (own_text v k.octets h)
 cert_told c v same (Err e) h = tt
 
 -- The parts.
@@ -114,14 +114,6 @@ object_stop o p s are (Err e) h = object_error o p s are e h
 pub object_told : {E : Type 0} (o : Object) (p : ObjectParts) → ArePartsOf o p → (r : Result CapturedValue E) → IfOk r (λ c. (object p).writes Der c.octets) → IfOk r (λ c. WritesAgain o c.octets)
 object_told o p are (Ok c) h = record { parts = p; are = are; written = h }
 object_told o p are (Err e) h = tt
-
--- The certificate's value, by what was made of it.
-pub value_is : (c : CertValue) (k : CapturedValue) (v : SignatureValue Bool) (r : SignedDataValue) → r ≡ record { message = k; signature = v } → k ≡ in_der c.signed.message → v.algorithm ≡ c.signed.has_null
-    → v.bits.unused ≡ 0 → v.bits.octets ≡ c.signed.signature → r ≡ cert_value c
-value_is c k v r whole message algorithm unused octets =
-    let made : SignedDataValue = record { message = k; signature = v } in
-    let same : made ≡ cert_value c = λ i. record { message = message i; signature = record { algorithm = algorithm i; bits = record { unused = unused i; octets = octets i } } } in
-    whole ∙ same
 
 -- What is read of the parts of signed data is of the certificate's.
 pub message_of : (c : CertValue) (s : SignedDataValue) (k : CapturedValue) (o : List ℕ) → o ≡ k.octets → k ≡ s.message → signed_of s ≡ c.signed → o ≡ c.signed.message

@@ -32,11 +32,14 @@ pub record StandsInDer (o : Object) : Type 0 where
 abbrev pub IsTooLong : (List ℕ → Type 0) → Type 0
 IsTooLong P = (text : List ℕ) → P text → length text < 2 ^ 64 → ⊥
 
--- A certificate: what was signed as it stands, the algorithm, and a signature of whole octets (RFC 5280 4.1.1).
+-- A certificate: what was signed as it stands, the algorithm, and the bits of the signature (RFC 5280 4.1.1).
 abbrev pub cert_value : CertValue → SignedDataValue
 cert_value c = record {
   message = in_der c.signed.message;
-  signature = record { algorithm = c.signed.has_null; bits = record { unused = 0; octets = c.signed.signature } };
+  signature = record {
+    algorithm = c.signed.has_null;
+    bits = record { unused = c.signed.unused; octets = c.signed.signature };
+  };
 }
 
 abbrev pub WritesCertAgain : CertValue → List ℕ → Type 0

@@ -6,7 +6,7 @@ use Rattle.objects.specs.objects_payload.Aspas.{Aspa}
 use Rattle.objects.specs.objects_payload.Identifiers as id
 use Rattle.objects.specs.resources_chain.declared.choice.ResourcesChoice.TheVariants.{Missing}
 use Rattle.objects_payload.specs.Resources.{ListsAlone}
-use Rattle.objects_built.specs.Builders.{BuilderValue, IsBuilt}
+use Rattle.objects_written.specs.Builders.{BuilderValue, IsBuilt}
 use Rattle.objects.specs.Written.{aspa}
 
 -- The first fields with an attestation's customer as resources, and no addresses (4).

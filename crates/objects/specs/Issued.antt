@@ -12,7 +12,7 @@ use Rattle.objects.specs.resources_chain.Claims.{Choice}
 use Rattle.objects.specs.resources_chain.Sets.{Run}
 use Rattle.objects.specs.resources_chain.declared.choice.ResourcesChoice.TheVariants.{Blocks, Inherit, Missing}
 use Rattle.objects.specs.resources_ip_prefix.Prefixes.{prefix_run}
-use Rattle.objects_built.specs.Builders.{BuilderValue, IsBuilt}
+use Rattle.objects_written.specs.Builders.{BuilderValue, IsBuilt}
 
 -- All resources are the issuer's (RFC 9286 5.1).
 abbrev pub inheriting : BuilderValue → BuilderValue

@@ -3,8 +3,8 @@ use Rattle.std.specs.Prelude.{◌⊎◌, ℕ, List}
 use Rattle.objects.specs.bcder_values.Writable.{Writable}
 use Rattle.objects.specs.certs_basics.HandedIn.{Digests}
 use Rattle.objects.specs.certs_basics.Keys.{KeyValue}
-use Rattle.objects_built.specs.Builders.{BuilderValue}
-use Rattle.objects_built.specs.Refusing.{IsTooLong}
+use Rattle.objects_written.specs.Builders.{BuilderValue}
+use Rattle.objects_written.specs.Refusing.{IsTooLong}
 
 -- Something can be written of a content, whose text P says.
 abbrev pub CanWrite : (List ℕ → Type 0) → Type 0

@@ -1,18 +1,19 @@
 //! Signed objects that were read, written again (RFC 5652, RFC 6488), and what else is asked of them and of manifests.
 //!
-//! [`EncodeObject`] writes a signed object, a manifest, a route origin attestation or a provider attestation in DER, as the
+//! [`EncodeObject`] writes a signed object, a manifest, an attestation or a checklist in DER, as the
 //! parts that were read of it. What is signed of it is written as it stood: so an object that was read in BER is written only
 //! where its attributes and what was signed of its certificate are values in DER. [`EncodeAttributes`] writes the attributes
 //! alone, and reads them of the message that is signed; [`DecodeContent`] reads a content by a closure; [`ManifestFiles`] goes over
 //! the URIs of the files that a manifest lists, and [`ManifestBuilder`] makes the content of a manifest.
 //!
 //! What differs from the Rust crate: the calls are those of traits, one a kind, and are given an allocator; what is written of
-//! an object owns the octets of its certificate and its attributes; the count of unused bits of a certificate's signature is
-//! 0, as there, but an object that can't be written is refused as `CerUnsupported`.
+//! an object owns the octets of its certificate and its attributes; the signature of a certificate is written with its count
+//! of unused bits, which there is 0; and an object that can't be written is refused as `CerUnsupported`.
 
 mod aspa;
 pub mod attributes;
 mod cert;
+mod checklist;
 pub mod content;
 mod der;
 pub mod laws;

@@ -15,9 +15,9 @@
 pub use crate::again::laws as again;
 pub use crate::attested::laws as attested;
 pub use crate::issued::laws as issued;
-pub use objects_built::laws as built;
 pub use objects_cms::verify::laws as sound;
 pub use objects_payload::aspa::laws as aspa;
 pub use objects_payload::locator::laws as tal;
+pub use objects_written::build::laws as built;
 pub use objects_written::frame::laws as frame;
 pub use objects_written::laws as written;

@@ -1,7 +1,7 @@
 //! Signed objects of the RPKI (RFC 6488): manifests (RFC 9286), route origin attestations (RFC 9582), provider
-//! attestations, and trust anchor locators (RFC 8630).
+//! attestations, signed checklists (RFC 9323), and trust anchor locators (RFC 8630).
 //!
-//! This is a face: a port of `rpki::repository::sigobj`, `manifest`, `roa`, `aspa` and `tal` of the Rust crate `rpki`
+//! This is a face: a port of `rpki::repository::sigobj`, `manifest`, `roa`, `aspa`, `rsc` and `tal` of the Rust crate `rpki`
 //! 0.20.1 in which each call is proved to meet its contract. An object is read exactly where octets spell one, in DER where
 //! it is strict and in BER where it isn't; it is accepted exactly where a written conjunction holds. The `specs/` of
 //! each crate have the definitions that its contracts cite.
@@ -12,6 +12,7 @@
 //! | [`manifest`] | manifests, their files and hashes |
 //! | [`roa`] | route origin attestations, their addresses and builders |
 //! | [`aspa`] | provider attestations, and their builder |
+//! | [`rsc`] | signed checklists |
 //! | [`tal`] | trust anchor locators |
 //! | [`laws`] | what follows for objects and contents, as functions that do nothing |
 //!
@@ -41,6 +42,7 @@ mod issued;
 pub mod laws;
 pub mod manifest;
 pub mod roa;
+pub mod rsc;
 pub mod sigobj;
 pub mod tal;
 
@@ -48,5 +50,6 @@ pub use aspa::Aspa;
 pub use manifest::Manifest;
 pub use objects_valid::kinds;
 pub use roa::Roa;
+pub use rsc::Rsc;
 pub use sigobj::SignedObject;
 pub use tal::Tal;

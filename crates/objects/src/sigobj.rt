@@ -3,10 +3,10 @@
 pub use crate::again::{
     DecodeContent, EncodeAttributes, EncodeObject, MessageDigest, ObjectValues, SignedAttrs,
 };
-pub use objects_built::SignedObjectBuilder;
 pub use objects_cms::attributes::InvalidSignedAttr;
 pub use objects_cms::signed::SignerInfo;
 pub use objects_cms::verify::verify_content;
 pub use objects_valid::{DecodeIfType, ProcessObject, SignedObject};
+pub use objects_written::SignedObjectBuilder;
 pub use objects_written::frame::attributes::SetOf;
 pub use objects_written::frame::{ObjectValue, SignerValue, signed_attributes, signed_message};

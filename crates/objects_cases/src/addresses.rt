@@ -14,11 +14,16 @@ fn written<T: EncodeAddresses>(alloc: Global, answer: &mut Answer, addresses: &T
     drop(value);
 }
 
-// What is written of the addresses of IPv4, and of those of IPv6.
+// What is written of the addresses of IPv4, and of those of IPv6; then each: whether it is one of IPv4, its first address,
+// and its length.
 fn both(alloc: Global, answer: &mut Answer, object: &Roa) {
     let content = object.content();
     written(alloc, answer, content.v4_addrs());
     written(alloc, answer, content.v6_addrs());
+    for address in content.iter() {
+        let (first, length) = (address.address(), address.address_length());
+        answer.say(&format_args!("{} {first}/{length}", address.is_v4()));
+    }
 }
 
 /// The addresses of an attestation that is read, written.

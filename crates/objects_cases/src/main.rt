@@ -1,7 +1,7 @@
 //! Questions about certificates and signed objects, as data: each line of standard input asks one, by words with a tab
 //! between, and each line of standard output answers one. The first word names what is asked: what signed objects have in
-//! them, what is written of them again, and locators; behind `built`, objects that are built, which `objects_built_cases`
-//! answers; any other word is asked of `certs_cases`, about certificates, their parts and revocation lists.
+//! them, what is written of them again, and locators; behind `built`, objects that are built, and behind `rsc`, signed
+//! checklists; any other word is asked of `certs_cases`, about certificates, their parts and revocation lists.
 //!
 //! `tests/questions/objects_cases.py` writes both, and knows the answers by means of its own.
 #![tactic(auto)]
@@ -9,6 +9,7 @@
 mod addresses;
 mod again;
 mod aspa;
+mod built;
 mod cert;
 mod files;
 mod locator;
@@ -16,6 +17,7 @@ mod manifest;
 mod object;
 mod parts;
 mod roa;
+mod rsc;
 mod values;
 
 use answers::{Answer, Questions, answer_lines, unknown};
@@ -42,7 +44,8 @@ impl Questions for Objects {
             "uris" => files::uris(alloc, answer, rest),
             "make" => files::make(alloc, answer, rest),
             "addresses" => addresses::answer(alloc, answer, rest),
-            "built" => objects_built_cases::answer(alloc, answer, rest),
+            "built" => built::answer(alloc, answer, rest),
+            "rsc" => rsc::answer(alloc, answer, rest),
             _ => certs_cases::answer(alloc, answer, words),
         }
     }

@@ -32,7 +32,7 @@ fn signer(alloc: Global, answer: &mut Answer, signer: &SignerInfo) {
 }
 
 // The content's type, the content, both times, who signed, and the certificate.
-fn shown(alloc: Global, answer: &mut Answer, signed: &SignedObject) {
+fn shown(alloc: Global, answer: &mut Answer, signed: &SignedObject, cert: &Cert) {
     answer.octets(signed.content_type().as_slice());
     string(alloc, answer, signed.content());
     match signed.signing_time() {
@@ -41,13 +41,13 @@ fn shown(alloc: Global, answer: &mut Answer, signed: &SignedObject) {
     }
     answer.some(signed.binary_signing_time().as_ref());
     signer(alloc, answer, signed.signer());
-    cert::shown(answer, signed.cert());
+    cert::shown(answer, cert);
 }
 
 fn any(alloc: Global, answer: &mut Answer, strict: bool, octets: &[u8]) {
     match SignedObject::decode(alloc, octets, strict) {
         Ok(signed) => {
-            shown(alloc, answer, &signed);
+            shown(alloc, answer, &signed, signed.cert());
             drop(signed);
         }
         Err(error) => answer.refuse(error),
@@ -88,7 +88,7 @@ fn parts(alloc: Global, answer: &mut Answer, strict: bool, octets: &[u8]) {
 fn manifest_of(alloc: Global, answer: &mut Answer, strict: bool, octets: &[u8]) {
     match Manifest::decode(alloc, octets, strict) {
         Ok(object) => {
-            shown(alloc, answer, object.signed());
+            shown(alloc, answer, object.signed(), object.cert());
             manifest::shown(answer, object.content());
             drop(object);
         }
@@ -99,7 +99,7 @@ fn manifest_of(alloc: Global, answer: &mut Answer, strict: bool, octets: &[u8]) 
 fn roa_of(alloc: Global, answer: &mut Answer, strict: bool, octets: &[u8]) {
     match Roa::decode(alloc, octets, strict) {
         Ok(object) => {
-            shown(alloc, answer, object.signed());
+            shown(alloc, answer, object.signed(), object.cert());
             roa::shown(answer, object.content());
             drop(object);
         }
@@ -110,7 +110,7 @@ fn roa_of(alloc: Global, answer: &mut Answer, strict: bool, octets: &[u8]) {
 fn aspa_of(alloc: Global, answer: &mut Answer, strict: bool, octets: &[u8]) {
     match Aspa::decode(alloc, octets, strict) {
         Ok(object) => {
-            shown(alloc, answer, object.signed());
+            shown(alloc, answer, object.signed(), object.cert());
             aspa::shown(alloc, answer, object.content());
             drop(object);
         }

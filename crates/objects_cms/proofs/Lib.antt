@@ -11,9 +11,9 @@ pub mod Stepping
 mod Joined
 mod Beginning
 mod NoMemory
-mod Ones
-mod Spelled
-mod Whole
+pub mod Ones
+pub mod Spelled
+pub mod Whole
 pub mod Messages
 pub mod of_bcder
 pub mod of_bcder_content

@@ -41,7 +41,7 @@ attributes_one {m} = record { one = at }
     at : (ts : Trees) (x y : AttributesValue) → AreAttributes m ts x → AreAttributes m ts y → x ≡ y
     at ts x y p q = same x y ((slots_one m).one ts (slots_of x) (slots_of y) (attributes_by_slots p) (attributes_by_slots q))
 
-signer_one : {m : Mode} → OneFront (SpellsSigner m)
+pub signer_one : {m : Mode} → OneFront (SpellsSigner m)
 signer_one {m} =
     wraps_one
     (joins_one (spells_one (octets_one unit_one))

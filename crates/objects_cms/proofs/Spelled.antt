@@ -16,11 +16,11 @@ use Rattle.objects_cms.specs.Kept.{AreKept}
 use Rattle.objects_cms.specs.Signer.{IsSigner}
 use Rattle.objects_cms.specs.Frame.{IsFrame, IsSigned}
 
-wraps : {A : Type 0} {m : Mode} {tag : TagValue} {R : Trees → A → Type 0} {P : List ℕ → A → Type 0} {text : List ℕ} {x : A}
+pub wraps : {A : Type 0} {m : Mode} {tag : TagValue} {R : Trees → A → Type 0} {P : List ℕ → A → Type 0} {text : List ℕ} {x : A}
     → (p : Wraps m tag P text x) → InOrder m R p.content x → SpellsOf m (Inside tag R) text x
 wraps {tag = tag} p q = record { tree = constructed tag q.trees; is = record { values = q.trees; whole = refl; is = q.is }; spelled = (p.content, p.around, q.spelled) }
 
-joins : {A B : Type 0} {m : Mode} {Q : Tree → A → Type 0} {R : Trees → B → Type 0} {P : List ℕ → A → Type 0} {S : List ℕ → B → Type 0}
+pub joins : {A B : Type 0} {m : Mode} {Q : Tree → A → Type 0} {R : Trees → B → Type 0} {P : List ℕ → A → Type 0} {S : List ℕ → B → Type 0}
     {text : List ℕ} {x : A × B} → (p : Joins P S text x) → SpellsOf m Q p.first x.0 → InOrder m R p.others x.1 → InOrder m (Then Q R) text x
 joins p q r = record {
   trees = more q.tree r.trees;
@@ -28,7 +28,7 @@ joins p q r = record {
   spelled = (p.first, p.others, q.spelled, r.spelled, p.whole);
 }
 
-nothing : {m : Mode} {text : List ℕ} {x : Unit {0}} → NoOctets text x → InOrder m End text x
+pub nothing : {m : Mode} {text : List ℕ} {x : Unit {0}} → NoOctets text x → InOrder m End text x
 nothing p = record { trees = none; is = record { ended = refl }; spelled = p.none }
 
 keeps : {A : Type 0} {m : Mode} {Q : Tree → A → Type 0} {P : List ℕ → A → Type 0} {text : List ℕ} {x : List ℕ × A}
@@ -73,7 +73,7 @@ fields_of w =
     (joins extensions extensions.is
     (nothing extensions.rest)))))))))
 
-cert_of : {m : Mode} {text : List ℕ} {c : CertValue} → SpellsCert m text c → SpellsOf m (IsCert m) text c
+pub cert_of : {m : Mode} {text : List ℕ} {c : CertValue} → SpellsCert m text c → SpellsOf m (IsCert m) text c
 cert_of {m} p =
     let message = p.is.is in
     let algorithm = message.rest in
@@ -92,7 +92,7 @@ kept_of {m} p = record {
   spelled = p.is.spelled;
 }
 
-signer_tree : {m : Mode} {text : List ℕ} {f : SignerFields} → SpellsSigner m text f → SpellsOf m (IsSigner m) text f
+pub signer_tree : {m : Mode} {text : List ℕ} {f : SignerFields} → SpellsSigner m text f → SpellsOf m (IsSigner m) text f
 signer_tree w =
     let version = w.is in
     let sid = version.rest in

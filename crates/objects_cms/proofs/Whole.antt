@@ -89,7 +89,7 @@ octets_met {S = S} {rest = rest} {f = f} {P} each given stop r met =
     (subst (λ (w : Constructed S). ReadsOctets f P (here rest met.shown.now) r (here rest w)) met.leaves
     (each.each met.shown met.left r met.met))
 
-octets_fresh : {F S T B E : Type 0} {m : Mode} {rest : S → List ℕ} {g : Reader F (Constructed S) T E} {op : F} {f : T → B} {P : Mode → List ℕ → B → Type 0}
+pub octets_fresh : {F S T B E : Type 0} {m : Mode} {rest : S → List ℕ} {g : Reader F (Constructed S) T E} {op : F} {f : T → B} {P : Mode → List ℕ → B → Type 0}
     {o : List ℕ} {r : Result T (DecodeError E)} {end : ValuesLeft} → EachOctets rest g op f P → RanIn rest g op (fresh m o) r end
     → ReadsOctets f P (fresh m o) r end
 octets_fresh {m = m} {rest} {f = f} {P} {o} {r} {end} each on =
@@ -98,7 +98,7 @@ octets_fresh {m = m} {rest} {f = f} {P} {o} {r} {end} each on =
     (octets_met each on.given on.left r on.met))
 
 -- Octets in front of a source are next in it.
-front_goes : {m : Mode} {o text behind : List ℕ} → o ≡ text ++ behind → Goes (fresh m o) text (fresh m behind)
+pub front_goes : {m : Mode} {o text behind : List ℕ} → o ≡ text ++ behind → Goes (fresh m o) text (fresh m behind)
 front_goes e = record { moved = record { rest = e; limit = refl }; mode = refl; end = refl; before = refl; behind = refl }
 
 decoded_cases : {F S E : Type 0} {rest : S → List ℕ} {g : Reader F (Constructed S) Object E} {op : F} (strict : Bool) (o : List ℕ)

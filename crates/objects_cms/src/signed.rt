@@ -2,7 +2,7 @@
 //! attributes, and by which algorithm.
 
 mod carried;
-mod content;
+pub mod content;
 mod frame;
 mod kept;
 pub mod object;

@@ -12,8 +12,8 @@ use Rattle.objects_payload.specs.bcder_tree.declared.mode.Mode.{Mode}
 use Rattle.objects_payload.specs.bcder_tree.Strings.{IsIa5, octet_string_tag}
 use Rattle.objects_payload.specs.bcder_tree.Tags.{ia5_string_tag, sequence_tag}
 use Rattle.objects_payload.specs.Identifiers.{IsDigestAlgorithm}
-use Rattle.objects_stated.proofs.Parts.{stated_one}
-use Rattle.objects_stated.specs.declared.stated.AsForm.TheVariants.{Identifiers}
+use Rattle.objects_valid.proofs.Parts.{stated_one}
+use Rattle.objects_valid.specs.declared.stated.AsForm.TheVariants.{Identifiers}
 use Rattle.objects_rsc.specs.Checklists.{IsCheckedFile, IsChecklist}
 
 -- What a test decides isn't so where it says no.

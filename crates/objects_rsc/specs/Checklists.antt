@@ -11,8 +11,8 @@ use Rattle.objects_payload.specs.bcder_tree.Tree.{Tree, Trees}
 use Rattle.objects_payload.specs.Contents.{ReadsAs, VersionZero}
 use Rattle.objects_payload.specs.Identifiers.{IsDigestAlgorithm, rsadsi}
 use Rattle.objects_payload.specs.ObjectText.{Object}
-use Rattle.objects_stated.specs.Stated.{IsStated, Stated}
-use Rattle.objects_stated.specs.declared.stated.AsForm.TheVariants.{Identifiers}
+use Rattle.objects_valid.specs.Stated.{IsStated, Stated}
+use Rattle.objects_valid.specs.declared.stated.AsForm.TheVariants.{Identifiers}
 
 -- id-ct-signedChecklist, 1.2.840.113549.1.9.16.1.48 (RFC 9323 3)
 abbrev pub signed_checklist : List ℕ

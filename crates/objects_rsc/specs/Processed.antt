@@ -15,7 +15,7 @@ use Rattle.objects_valid.specs.objects_payload.ObjectText.{Object}
 use Rattle.objects_valid.specs.Accepted.{AcceptsObject, FailsObject}
 use Rattle.objects_valid.specs.Kinds.{KindValue}
 use Rattle.objects_valid.specs.Processed.{Failing, FailsTest, Passing, PassesTest, Test}
-use Rattle.objects_stated.specs.Stated.{IsCovered}
+use Rattle.objects_valid.specs.Stated.{IsCovered}
 use Rattle.objects_rsc.specs.Checklists.{Checklist}
 
 -- The object, whose certificate has that role, is accepted and passes the tests after, and its content is answered with what

@@ -4,3 +4,4 @@ pub mod IfType
 pub mod Processing
 pub mod Signing
 pub mod Sparing
+pub mod Parts

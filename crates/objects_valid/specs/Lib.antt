@@ -4,6 +4,8 @@ pub mod Content
 pub mod IfType
 pub mod Processed
 pub mod Together
+pub mod Stated
+pub mod Reading
 -- What stands below, for the crates above.
 pub use Rattle.objects_cms.specs as objects_cms
 pub use Rattle.objects_cms.specs.objects_payload as objects_payload

@@ -6,7 +6,7 @@
 //! that fails is answered. `process` asks a caller's test of the certificate beside that, which looks it up on a
 //! revocation list, and whether what is attested is within what the certificate holds.
 //!
-//! [`kinds`] has objects with what their contents say. `decode_if_type` reads an object whose content is of a type that is asked for, and refuses any other.
+//! [`kinds`] has objects with what their contents say, [`stated`] the resources that a content states (RFC 9323 4.1). `decode_if_type` reads an object whose content is of a type that is asked for, and refuses any other.
 //!
 //! What differs from the Rust crate: the calls are those of traits, one a type; the verifier, the digester and the clock
 //! are handed in, and each call has a form that is given the moment; what takes memory is given an allocator, and lack of
@@ -22,6 +22,7 @@ pub mod kinds;
 pub mod manifest;
 pub mod object;
 pub mod roa;
+pub mod stated;
 mod together;
 
 pub use aspa::ProcessAspa;
@@ -32,4 +33,7 @@ pub use if_type::DecodeIfType;
 pub use kinds::{Aspa, Manifest, ManifestContent, Roa, SignedObject};
 pub use manifest::ValidateManifest;
 pub use object::ProcessObject;
+pub use resources_as::AsResources;
+pub use resources_ip::IpResources;
 pub use roa::{ProcessRoa, UncoveredPrefix};
+pub use stated::{AsForm, StatedResources};

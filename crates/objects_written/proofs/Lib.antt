@@ -13,3 +13,8 @@ pub mod Again
 pub mod Refusing
 pub mod FrameAgain
 pub mod Messages
+pub mod BuiltAgain
+pub mod Building
+pub mod KindAgain
+pub mod Refused
+pub mod Setting

@@ -1,12 +1,12 @@
 //! Questions about IP resources of both families, as an encoding has them.
 
 use crate::addresses::Family;
+use crate::values::{resources, write};
 use answers::{Answer, mode_of, octets_of, unknown, word_at};
 use anyhow::{Result, anyhow};
 use bcder::Mode;
 use bcder::decode::Decode;
 use resources::ipres::{AddressFamily, IpBlocks, IpResources};
-use resources_values_cases::{resources, write};
 use std::alloc::Global;
 
 // What is said of a family.

@@ -1,7 +1,7 @@
 //! Worked cases of AS and IP resources, and the calls of the resources, as data: each line of standard input asks a
 //! question, by words with a tab between, and each line of standard output answers one. What sets and resources of texts
-//! come to is answered here; what is built, read and written, and what sets of all three kinds come to by their other
-//! calls, by `resources_values_cases`; and what numbers, addresses and chains come to, by `resources_calls`.
+//! come to is answered here, what is built, read and written, and what sets of all three kinds come to by their other calls;
+//! what numbers, addresses and chains come to, by `resources_calls`.
 //!
 //! The first word names the module that answers, and the second one what it is asked; behind the word `call` the question is
 //! one of `resources_calls`. `tests/questions/resources_calls.py` writes both questions and answers, with the questions of
@@ -13,6 +13,7 @@ mod encodings;
 mod made;
 mod numbers;
 mod sets;
+mod values;
 
 use addresses::Family;
 use answers::{Answer, Questions, answer_lines, unknown};
@@ -40,7 +41,7 @@ fn of_kind(alloc: Global, answer: &mut Answer, kind: &str, words: &[&str]) -> Re
         "v6" => addresses::answer(alloc, answer, Family::V6, words),
         "all" => sets::answer(alloc, answer, words),
         _ => {
-            resources_values_cases::identifiers(answer, policy(kind));
+            values::identifiers(answer, policy(kind));
             Ok(())
         }
     }
@@ -53,7 +54,7 @@ impl Questions for Cases {
         };
         match *topic {
             "resources" | "set" | "der" => {
-                return resources_values_cases::answer(alloc, answer, *topic, words);
+                return values::answer(alloc, answer, *topic, words);
             }
             "call" => return resources_calls::answer(alloc, answer, words),
             _ => {}

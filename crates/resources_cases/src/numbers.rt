@@ -2,13 +2,13 @@
 
 use crate::made::{say_grown, say_made};
 use crate::policy;
+use crate::values::write;
 use answers::{Answer, octets_of, unknown, word_at};
 use anyhow::{Result, anyhow};
 use bcder::Mode;
 use bcder::decode::Decode;
 use resources::asres::{AsBlock, AsBlocks, AsResources, OverclaimedAsResources};
 use resources::overclaim::{ClaimError, Overclaim};
-use resources_values_cases::write;
 use std::alloc::Global;
 
 // The set of a text.

@@ -13,6 +13,7 @@ use Rattle.rpki_bundle.specs.bcder.Restricted.{IsRestricted}
 use Rattle.rpki_bundle.specs.bcder_content.Grammar.{Inside, OctetsOf, Such, As, End, Then, Many}
 use Rattle.rpki_bundle.specs.bcder_content.Words.{ThenBy}
 use Rattle.rpki_bundle.specs.bcder_content.Texts.{SpellsOf}
+use Rattle.rpki_bundle.specs.declared.limits.TheConstants.{MIN_DEPTH, MAX_DEPTH}
 use Rattle.rpki_bundle.specs.declared.parts.Locator.{Locator}
 use Rattle.rpki_bundle.specs.declared.parts.Object.{Object}
 use Rattle.rpki_bundle.specs.declared.parts.Verdict.{Verdict}
@@ -63,7 +64,7 @@ IsMomentString = OctetsOf generalized_time_tag IsMoment
 
 -- INTEGER (1..32)
 abbrev pub IsDepth : ℕ → Type 0
-IsDepth n = (1 ≤ n) × (n ≤ 32)
+IsDepth n = (MIN_DEPTH ≤ n) × (n ≤ MAX_DEPTH)
 
 abbrev pub IsDepthNumber : Tree → ℕ → Type 0
 IsDepthNumber = Such IsNumber IsDepth

@@ -3,6 +3,7 @@ use Rattle.std.specs.Prelude.{◌≡◌, ℕ, ◌≤◌, List, length, All}
 use Rattle.rpki_bundle.specs.bcder_tree.Strings.{IsPrintable}
 use Rattle.rpki_bundle.specs.bcder.Sets.{alone}
 use Rattle.rpki_bundle.specs.bcder.Texts.{IsText}
+use Rattle.rpki_bundle.specs.declared.limits.TheConstants.{MIN_DEPTH, MAX_DEPTH}
 use Rattle.rpki_bundle.specs.declared.parts.Locator.{Locator}
 use Rattle.rpki_bundle.specs.declared.parts.Object.{Object}
 use Rattle.rpki_bundle.specs.declared.parts.Verdict.{Verdict}
@@ -30,10 +31,10 @@ pub record IsLawfulList {A : Type 0} (lawful : A → Type 0) (row : A → List �
   pub each : All lawful xs
   pub ascend : Ascends row xs
 
--- A depth of 1 to 32, and lawful lists.
+-- A depth as a bundle may have, and lawful lists.
 pub record IsLawful (b : BundleValue) : Type 0 where
-  pub lowest : 1 ≤ b.depth
-  pub greatest : b.depth ≤ 32
+  pub lowest : MIN_DEPTH ≤ b.depth
+  pub greatest : b.depth ≤ MAX_DEPTH
   pub locators : IsLawfulList IsLawfulLocator (λ l. l.name) b.locators
   pub objects : IsLawfulList IsLawfulObject (λ o. o.uri) b.objects
   pub verdicts : IsLawfulList IsLawfulVerdict verdict_row b.verdicts

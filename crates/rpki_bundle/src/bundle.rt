@@ -204,9 +204,9 @@ fn find<'a>(objects: &'a [Object], uri: &[u8]) -> Option<&'a [u8]>
 impl Bundle {
     ghost use Rattle.rpki_bundle.specs.Bundle.{BundleValue, is_relaxed};
 
-    /// A bundle of version 0 with these parts, which have to be those of some bundle: a depth of 1 to 32, names that are
-    /// printable, not empty and without a space, URIs that are their own lookup keys, each list strictly ascending, and no
-    /// more octets than a length can say. Nothing is sorted, and refused parts are dropped.
+    /// A bundle of version 0 with these parts, which have to be those of some bundle: a depth from `MIN_DEPTH` to
+    /// `MAX_DEPTH`, names that are printable, not empty and without a space, URIs that are their own lookup keys, each list
+    /// strictly ascending, and no more octets than a length can say. Nothing is sorted, and refused parts are dropped.
     pub fn from_parts(
         moment: Time,
         depth: u8,
@@ -424,7 +424,7 @@ impl Bundle {
         self.moment
     }
 
-    /// The greatest number of certificates in a chain, 1 to 32.
+    /// The greatest number of certificates in a chain, from `MIN_DEPTH` to `MAX_DEPTH`.
     pub fn depth(&self) -> u8
         ensures { result ≡ self.now.depth }
     {

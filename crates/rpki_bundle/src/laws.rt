@@ -22,8 +22,14 @@ pub fn bundle_length()
         → length octets ≤ 2 ^ 32 + 5 }
 {}
 
-/// Each bundle has a depth of 1 to 32, names that are printable, not empty and without a space, URIs that are their own
-/// lookup keys, digests of 32 octets, and lists that ascend strictly.
+/// Each bundle has a depth from `MIN_DEPTH` to `MAX_DEPTH`, names that are printable, not empty and without a space, URIs
+/// that are their own lookup keys, digests of 32 octets, and lists that ascend strictly.
 pub fn lawful_parts()
     ensures { (octets : List ℕ) (b : BundleValue) → BundleText octets b → IsLawful b }
+{}
+
+/// A bundle has a depth from 1 to 32.
+pub fn depths()
+    ensures least { (octets : List ℕ) (b : BundleValue) → BundleText octets b → 1 ≤ b.depth }
+    ensures greatest { (octets : List ℕ) (b : BundleValue) → BundleText octets b → b.depth ≤ 32 }
 {}

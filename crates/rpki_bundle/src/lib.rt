@@ -7,6 +7,7 @@ mod entries;
 pub mod error;
 mod forms;
 pub mod laws;
+pub mod limits;
 pub mod parts;
 mod reader;
 pub mod time;

@@ -13,6 +13,7 @@ ghost use Rattle.rpki_bundle.specs.Lawful.{IsName};
 ghost use Rattle.rpki_bundle.specs.Words.{octets_of};
 
 use crate::Time;
+use crate::limits::{MAX_DEPTH, MIN_DEPTH};
 use crate::uri::is_lookup_key;
 use crate::words::DigestWords;
 use bytes::Bytes;
@@ -40,9 +41,9 @@ pub fn is_name(text: &[u8]) -> bool
 
 /// Whether a bundle may have the depth.
 pub fn is_depth(depth: u8) -> bool
-    ensures { IsTrue result ↔ ((1 ≤ depth) × (depth ≤ 32)) }
+    ensures { IsTrue result ↔ ((MIN_DEPTH ≤ depth) × (depth ≤ MAX_DEPTH)) }
 {
-    (1..=32).contains(&depth)
+    (MIN_DEPTH..=MAX_DEPTH).contains(&depth)
 }
 
 /// The octets of an OCTET STRING.
@@ -172,7 +173,7 @@ pub fn take_moment<S: Source>(
     }
 }
 
-/// A depth of 1 to 32.
+/// A depth, from `MIN_DEPTH` to `MAX_DEPTH`.
 pub fn take_depth<S: Source>(cons: &mut Constructed<S>) -> Result<u8, DecodeError<S::Error>>
     ensures reads { ReadsAs (λ depth. depth) IsDepthNumber (here S.rest cons.old) result
         (here S.rest cons.new) }

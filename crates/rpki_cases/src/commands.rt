@@ -6,6 +6,7 @@ use crate::streams::Stream;
 use crate::walks::tell_run;
 use answers::{Answer, count_of, pieces_of, word_at};
 use anyhow::Result;
+use objects_payload::locator::Tal;
 use rpki_bundle::{BundleError, Digester};
 use rpki_commands::folder::Fault;
 use rpki_commands::{
@@ -46,6 +47,18 @@ fn tell_streams(alloc: Global, answer: &mut Answer, topic: &str, words: &[&str],
         writer.inner.taken.as_slice(),
         faults.taken.as_slice(),
     );
+}
+
+/// How many URIs a locator has whose text a reader gives, which fails once its good calls are over; or why there is none.
+pub fn locator(alloc: Global, answer: &mut Answer, words: &[&str]) -> Result<()> {
+    let octets = pieces_of(alloc, word_at(words, 0))?;
+    let ends = [word_at(words, 1), word_at(words, 2), ""];
+    let mut reader = Stream::of_words(alloc, octets.as_slice(), ends);
+    match Tal::read_named(alloc, String::new(alloc), &mut reader) {
+        Ok(tal) => answer.say(&tal.uris().len()),
+        Err(error) => answer.say(&error),
+    }
+    Ok(())
 }
 
 // A text that is written whole or in part.

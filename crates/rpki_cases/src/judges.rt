@@ -1,12 +1,14 @@
-//! Questions about witnesses: what a judge says of one, and what some URIs can reach.
+//! Questions about witnesses: what a judge says of one; what some URIs can reach, and which accepted chains name one of them.
 
 use crate::noting::Noting;
 use crate::octets::text_of;
+use crate::shown::tell_lines;
 use answers::{Answer, word_at};
 use anyhow::{Result, anyhow};
 use bytes::Bytes;
 use certs_key::Verifier;
 use rpki_commands::{Bundle, Fips, Path, Reach, TableVerifier, Witness, judge, reach};
+use rpki_validator::naming_chains;
 use std::alloc::Global;
 use std::rc::Rc;
 
@@ -112,5 +114,30 @@ pub fn reached(alloc: Global, answer: &mut Answer, uris: &str, bundle: &Bundle) 
             drop(set);
         }
     }
+    Ok(())
+}
+
+// The locator's name, and the URIs of a chain's certificates.
+fn tell_chain(answer: &mut Answer, path: &Path) {
+    answer.word("chain ");
+    tell_lines(answer, path.locator().as_slice());
+    for uri in path.chain() {
+        answer.word("");
+        tell_lines(answer, uri.as_slice());
+    }
+}
+
+/// The accepted chains whose last certificate names one of the URIs, with commas between.
+pub fn naming(alloc: Global, answer: &mut Answer, uris: &str, bundle: &Bundle) -> Result<()> {
+    let uris = uris_of(alloc, uris)?;
+    let mut verifier = TableVerifier::new(bundle, &Fips);
+    let chains = naming_chains(alloc, bundle, uris.as_slice(), &Fips, &mut verifier);
+    drop(verifier);
+    drop(uris);
+    let chains = chains?;
+    for path in &chains {
+        tell_chain(answer, path.as_ref());
+    }
+    drop(chains);
     Ok(())
 }

@@ -27,10 +27,7 @@ pub fn typed(alloc: Global, answer: &mut Answer, words: &[&str]) {
             say_octets(answer, signed.content().as_slice().unwrap_or(&[]));
             drop(signed);
         }
-        Err(error) => {
-            drop(error);
-            answer.word("refused");
-        }
+        Err(error) => answer.refuse(error),
     }
 }
 

@@ -14,7 +14,7 @@ use std::alloc::{AllocError, Global};
 // octets.
 fn shown(answer: &mut Answer, point: &Point) {
     answer.say(&point.crl_uri);
-    for entry in point.crl.as_cert_list().revoked_certs().iter() {
+    for entry in point.crl.as_list().as_cert_list().revoked_certs().iter() {
         answer.say(&entry.user_certificate());
     }
     answer.say(&point.manifest_cert.tbs().serial_number());

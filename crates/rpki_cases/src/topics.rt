@@ -29,6 +29,7 @@ fn of_bundle(
         "witnesses" => reports::witnesses(alloc, answer, &bundle),
         "walk" => reports::walked(alloc, answer, &bundle),
         "reach" => judges::reached(alloc, answer, word_at(words, 0), &bundle),
+        "naming" => judges::naming(alloc, answer, word_at(words, 0), &bundle),
         "judge" | "asks" => judges::judged(alloc, answer, topic, words, &bundle),
         "point" | "unheld" => points::answer(alloc, answer, topic, words, &bundle),
         "sound" => {
@@ -45,7 +46,7 @@ fn of_bundle(
 fn of_octets(alloc: Global, answer: &mut Answer, topic: &str, words: &[&str]) -> Result<()> {
     let place = match topic {
         "decode" | "again" | "get" | "witnesses" => 0,
-        "reach" | "point" | "unheld" | "sound" | "upgrade" => 1,
+        "reach" | "naming" | "point" | "unheld" | "sound" | "upgrade" => 1,
         "judge" | "asks" => 3,
         "object" | "manifest" | "roa" | "aspa" => 5,
         _ => return unknown(),
@@ -70,6 +71,7 @@ fn of_words(alloc: Global, answer: &mut Answer, topic: &str, words: &[&str]) -> 
         "compare" => return uris::compare(alloc, answer, words),
         "ask" => return questions::answer(alloc, answer, words),
         "command" => return commands::command(alloc, answer, words),
+        "locator" => return commands::locator(alloc, answer, words),
         "run" | "check" | "write" | "digests" => {
             return commands::of_octets(alloc, answer, topic, words);
         }

@@ -12,7 +12,7 @@ use Rattle.rpki_rules.specs.Kinds.{Kind, As, InSet}
 use Rattle.rpki_rules.specs.World.{World}
 use Rattle.rpki_rules.specs.Points.{Link, IsFirstHeld, Anchor, Point, files, IsPoint}
 use Rattle.rpki_rules.specs.Chains.{last_of, IsFront, Holds, Accepted}
-use Rattle.rpki_rules.specs.Attests.{Origin, Provision, Payload, Trace, Good, HoldsWith, AttestsOrigin, AttestsProvision}
+use Rattle.rpki_rules.specs.Attests.{Origin, Provision, Payload, WitnessValue, Good, HoldsWith, AttestsOrigin, AttestsProvision}
 use Rattle.rpki_rules.specs.Refused.{LocatorRefused, AnchorRefused}
 use Rattle.rpki_rules.specs.Reach.{IsOneOf, Names, NamesOne, AgreeBut, SomeLocatorNames, IsOriginInside, IsCustomerInside}
 use Rattle.rpki_rules.specs.Laws.{NonInterference, LocatorsStay}
@@ -168,7 +168,7 @@ module _ (uris : List (List ℕ)) (w : World) (f g : List ℕ → Option (List �
   ]
 
   -- A good object goes over, or some front of its chain meets.
-  pub good_over : Apart → (t : Trace) (x : Payload) (h : Good (having w f) t x) → Good (having w g) t x ⊎ Meets t.locator h.anchor h.below
+  pub good_over : Apart → (t : WitnessValue) (x : Payload) (h : Good (having w f) t x) → Good (having w g) t x ⊎ Meets t.locator h.anchor h.below
   good_over apart t x h =
       let a = h.anchor in let cs = h.below in let ca = (last_of a cs).cert in
       elim (crosses apart t.locator a cs h.accepted) [
@@ -193,18 +193,18 @@ module _ (uris : List (List ℕ)) (w : World) (f g : List ℕ → Option (List �
 
   pub origin_over : Apart → (r : Resources) → MeetsInside r → (x : Origin) → ¬ (IsOriginInside r x) → AttestsOrigin (having w f) x → AttestsOrigin (having w g) x
   origin_over apart r bound x out h =
-      let t = h.trace in let b = h.good in let e = b.good.object.cert in
+      let t = h.witness in let b = h.good in let e = b.good.object.cert in
       elim (good_over apart t h.payload b) [
-        | inl k ↦ record { trace = t; payload = h.payload; good = k; one = h.one }
+        | inl k ↦ record { witness = t; payload = h.payload; good = k; one = h.one }
         | inr m ↦ absurd (out (λ n i. bound t.locator b.anchor b.below m x.kind n
             (holds_front b.anchor b.below m.front x.kind n m.is_front (origin_covered (HoldsWith (Holds b.anchor b.below) e) h.payload b.good.covered x h.one n i).1)))
       ]
 
   pub provision_over : Apart → (r : Resources) → MeetsInside r → (x : Provision) → ¬ (IsCustomerInside r x.customer) → AttestsProvision (having w f) x → AttestsProvision (having w g) x
   provision_over apart r bound x out h =
-      let t = h.trace in let b = h.good in let e = b.good.object.cert in
+      let t = h.witness in let b = h.good in let e = b.good.object.cert in
       elim (good_over apart t h.payload b) [
-        | inl k ↦ record { trace = t; payload = h.payload; good = k; one = h.one }
+        | inl k ↦ record { witness = t; payload = h.payload; good = k; one = h.one }
         | inr m ↦ absurd (out (bound t.locator b.anchor b.below m As x.customer
             (holds_front b.anchor b.below m.front As x.customer m.is_front (customer_covered (HoldsWith (Holds b.anchor b.below) e) h.payload b.good.covered x h.one).1)))
       ]

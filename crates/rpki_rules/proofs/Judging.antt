@@ -1,4 +1,4 @@
--- A trace is good where reading it from its object up finds all that is needed.
+-- A witness is good where reading it from its object up finds all that is needed.
 use Rattle.std.proofs.Common.{ℕ, List, [], ◌∷◌, inl, inr, refl, sym, subst}
 use Rattle.rpki_rules.specs.resources_chain.Sets.{InRuns}
 use Rattle.rpki_rules.specs.resources_chain.Claims.{FitsIn}

@@ -16,10 +16,22 @@ mod Untouched
 mod OneOutput
 mod Outside
 mod Versions
+mod Firsts
+mod ReasonTests
+mod TextFaults
+mod LocatorReasons
+mod NamesAlone
+mod PointReasons
+mod FileReasons
 pub mod Orders
 pub mod Sets
 pub mod Groups
 pub mod Pieces
+mod RelaxedForms
+mod RelaxedValues
+mod RelaxedCerts
+pub mod RelaxedObjects
+pub mod RelaxedInspected
 pub mod of_bcder_tree
 pub mod of_certs_basics
 pub mod of_objects_payload

@@ -9,7 +9,7 @@ use Rattle.rpki_rules.specs.Words.{Mem, Each}
 use Rattle.rpki_rules.specs.World.{World}
 use Rattle.rpki_rules.specs.Points.{Link, Signed, IsFirstHeld, IsAnchorCert, Anchor, Point, files, files_in, IsHeld, IsManifestOf, HasFiles, IsPoint}
 use Rattle.rpki_rules.specs.Chains.{last_of, Holds, CertAt, Issues, Descends}
-use Rattle.rpki_rules.specs.Attests.{Payload, OfRoa, OfAspa, PayloadText, IsGood, Trace, Good}
+use Rattle.rpki_rules.specs.Attests.{Payload, OfRoa, OfAspa, PayloadText, IsGood, WitnessValue, Good}
 use Rattle.rpki_rules.specs.Reach.{Names}
 use Rattle.rpki_rules.proofs.Lists.{last_in}
 
@@ -96,7 +96,7 @@ module _ (w : World) (f : List ℕ → Option (List ℕ)) (depth : ℕ) (v : Ver
       let s : SameAt (last_of a cs).cert = same (last_of a cs) (inr (last_in a cs)) in
       (descends_moved name a cs to (λ d m. same d (inr m)) h.0, h.1, record { point = point_moved (last_of a cs).cert h.1 s h.2.point; fits = h.2.fits }, issues_moved (Holds a cs) (last_of a cs).cert h.1 c s h.2.point h.3)
 
-  pub witness_moved : (t : Trace) (x : Payload) (g : Good w t x) → length g.below < depth → (Anchor w t.locator g.anchor → Anchor other t.locator g.anchor) → ((c : Link) → Mem (g.below ++ g.anchor ∷ []) c → SameAt c.cert) → Good other t x
+  pub witness_moved : (t : WitnessValue) (x : Payload) (g : Good w t x) → length g.below < depth → (Anchor w t.locator g.anchor → Anchor other t.locator g.anchor) → ((c : Link) → Mem (g.below ++ g.anchor ∷ []) c → SameAt c.cert) → Good other t x
   witness_moved t x g short to same =
       let ca = (last_of g.anchor g.below).cert in
       let s : SameAt ca = same (last_of g.anchor g.below) (last_in g.anchor g.below) in

@@ -82,7 +82,7 @@ no_cer_payload uri p (inl q) = no_cer_roa uri p q
 no_cer_payload uri p (inr q) = no_cer_asa uri p q
 
 -- Octets are one object and one payload at most.
-one_payload : (w : World) (uri octets : List ℕ) (o o' : Object) (x x' : Payload) → PayloadText w uri octets o x → PayloadText w uri octets o' x' → (o ≡ o') × (x ≡ x')
+pub one_payload : (w : World) (uri octets : List ℕ) (o o' : Object) (x x' : Payload) → PayloadText w uri octets o x → PayloadText w uri octets o' x' → (o ≡ o') × (x ≡ x')
 one_payload w uri octets o o' (OfRoa r) (OfRoa s) h k = let e = one_roa w.strict octets o o' r s h.1 k.1 in (e.0, ap OfRoa e.1)
 one_payload w uri octets o o' (OfRoa r) (OfAspa b) h k = absurd (no_roa_asa uri h.0 k.0)
 one_payload w uri octets o o' (OfAspa a) (OfRoa s) h k = absurd (no_roa_asa uri k.0 h.0)

@@ -10,12 +10,12 @@ use Rattle.rpki_rules.specs.declared.cause.Cause.{Cause}
 use Rattle.rpki_rules.specs.declared.cause.Cause.TheVariants as cause
 use Rattle.rpki_rules.specs.Words.{Mem}
 use Rattle.rpki_rules.specs.Kinds.{Kind, Ipv4, Ipv6, As}
-use Rattle.rpki_rules.specs.Attests.{Origin, Provision, Trace}
+use Rattle.rpki_rules.specs.Attests.{Origin, Provision, WitnessValue}
 use Rattle.rpki_rules.specs.Lines.{Refusal, family_place, origin_cmp, cause_text, refusal_cmp}
 use Rattle.rpki_rules.specs.resources_ip_prefix.declared.addr.AddressFamily.{AddressFamily}
 use Rattle.rpki_rules.specs.resources_ip_prefix.declared.addr.AddressFamily.TheVariants as family
 use Rattle.rpki_rules.specs.declared.origin.Origin.{Origin as CodeOrigin}
-use Rattle.rpki_rules.specs.Views.{origin_of, provision_cmp, trace_cmp}
+use Rattle.rpki_rules.specs.Views.{origin_of, provision_cmp, witness_cmp}
 use Rattle.rpki_rules.specs.Report.{IsSetOf}
 use Rattle.rpki_rules.proofs.Orders.{mem_map, sorted_map}
 
@@ -118,8 +118,8 @@ one_refusal r s e =
     let p = octets_equal r.name s.name a.0 in let q = one_cause r.cause s.cause (octets_equal (cause_text r.cause) (cause_text s.cause) a.1) in
     λ i. record { name = p i; cause = q i }
 
-pub one_trace : (s t : Trace) → trace_cmp s t ≡ Equal → s ≡ t
-one_trace s t e =
+pub one_witness : (s t : WitnessValue) → witness_cmp s t ≡ Equal → s ≡ t
+one_witness s t e =
     let a = then_equal _ _ e in let b = then_equal _ _ a.1 in
     let o = octets_equal s.object t.object a.0 in let l = octets_equal s.locator t.locator b.0 in let c = list_equal (slice_cmp nat_cmp) octets_equal s.chain t.chain b.1 in
     λ i. record { locator = l i; chain = c i; object = o i }

@@ -6,7 +6,7 @@ use Rattle.rpki_rules.specs.Certs.{Verdicts, Within}
 use Rattle.rpki_rules.specs.Locators.{https_first}
 use Rattle.rpki_rules.specs.World.{World, table, run_world}
 use Rattle.rpki_rules.specs.Points.{IsFirstHeld}
-use Rattle.rpki_rules.specs.Attests.{Payload, Trace, Good}
+use Rattle.rpki_rules.specs.Attests.{Payload, WitnessValue, Good}
 use Rattle.rpki_rules.specs.Laws.{KeepsAll, DeeperKeeps, VerdictRemoval, CutDownKeeps}
 use Rattle.rpki_rules.proofs.Lists.{any_mem, mem_any}
 use Rattle.rpki_rules.proofs.Moved.{turned, anchor_moved, witness_moved}
@@ -15,12 +15,12 @@ use Rattle.rpki_rules.proofs.Moved.{turned, anchor_moved, witness_moved}
 keeps_all : (w : World) (depth : ℕ) (v : Verdicts) → Within w.good v → w.depth ≤ depth → KeepsAll w (turned w w.object depth v)
 keeps_all w depth v more deeper =
     let first : (us : List (List ℕ)) (uri octets : List ℕ) → IsFirstHeld w us uri octets → IsFirstHeld (turned w w.object depth v) us uri octets = first_same in
-    let to : (t : Trace) (x : Payload) → Good w t x → Good (turned w w.object depth v) t x = λ t x g.
+    let to : (t : WitnessValue) (x : Payload) → Good w t x → Good (turned w w.object depth v) t x = λ t x g.
     witness_moved w w.object depth v more t x g (let s : length g.below < w.depth = g.accepted.short in omega arith)
     (λ h. anchor_moved w w.object depth v more t.locator g.anchor h (first (https_first h.uris) g.anchor.uri h.octets h.held)) (λ c m key n. refl) in
     record {
-      origins_kept = λ x h. record { trace = h.trace; payload = h.payload; good = to h.trace h.payload h.good; one = h.one };
-      provisions_kept = λ x h. record { trace = h.trace; payload = h.payload; good = to h.trace h.payload h.good; one = h.one };
+      origins_kept = λ x h. record { witness = h.witness; payload = h.payload; good = to h.witness h.payload h.good; one = h.one };
+      provisions_kept = λ x h. record { witness = h.witness; payload = h.payload; good = to h.witness h.payload h.good; one = h.one };
     }
   where
     first_same : (us : List (List ℕ)) (uri octets : List ℕ) → IsFirstHeld w us uri octets → IsFirstHeld (turned w w.object depth v) us uri octets

@@ -5,7 +5,7 @@ use Rattle.rpki_rules.specs.Words.{Each}
 use Rattle.rpki_rules.specs.World.{World}
 use Rattle.rpki_rules.specs.Points.{Link}
 use Rattle.rpki_rules.specs.Chains.{last_of, Accepted}
-use Rattle.rpki_rules.specs.Attests.{Origin, Provision, Payload, Trace, Good, AttestsOrigin, AttestsProvision}
+use Rattle.rpki_rules.specs.Attests.{Origin, Provision, Payload, WitnessValue, Good, AttestsOrigin, AttestsProvision}
 use Rattle.rpki_rules.specs.Refused.{ChainRefuses, IsRefused}
 use Rattle.rpki_rules.specs.Lines.{Customer}
 use Rattle.rpki_rules.specs.Output.{IsCustomer, IsOutput}
@@ -51,17 +51,17 @@ module _ (uris : List (List ℕ)) (w : World) (f g : List ℕ → Option (List �
     | inr m ↦ idle name a m.front m.there m.names_there
   ]
 
-  good_there : (t : Trace) (x : Payload) → Good (having w f) t x → Good (having w g) t x
+  good_there : (t : WitnessValue) (x : Payload) → Good (having w f) t x → Good (having w g) t x
   good_there t x h = elim (good_over uris w f g same apart t x h) [
     | inl k ↦ k
     | inr m ↦ absurd (idle t.locator h.anchor m.front m.here m.names_here)
   ]
 
   origin_there : (x : Origin) → AttestsOrigin (having w f) x → AttestsOrigin (having w g) x
-  origin_there x h = record { trace = h.trace; payload = h.payload; good = good_there h.trace h.payload h.good; one = h.one }
+  origin_there x h = record { witness = h.witness; payload = h.payload; good = good_there h.witness h.payload h.good; one = h.one }
 
   provision_there : (x : Provision) → AttestsProvision (having w f) x → AttestsProvision (having w g) x
-  provision_there x h = record { trace = h.trace; payload = h.payload; good = good_there h.trace h.payload h.good; one = h.one }
+  provision_there x h = record { witness = h.witness; payload = h.payload; good = good_there h.witness h.payload h.good; one = h.one }
 
   none_names : (name : List ℕ) (a : Link) (cs : List Link) → Accepted (having w f) name a cs → NoFrontNames uris (having w f) a cs
   none_names name a cs h front is = idle name a front (accepted_front (having w f) name a front cs is h)

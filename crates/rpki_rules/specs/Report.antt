@@ -4,16 +4,16 @@ use Rattle.std.specs.declared.cmp.Ordering.{Ordering}
 use Rattle.std.specs.List.Sorted.{IsStrictlySortedBy}
 use Rattle.rpki_rules.specs.Words.{Mem, Each, Ascending}
 use Rattle.rpki_rules.specs.World.{World}
-use Rattle.rpki_rules.specs.Attests.{Origin, Provision, Trace, IsWitness}
+use Rattle.rpki_rules.specs.Attests.{Origin, Provision, WitnessValue, IsWitness}
 use Rattle.rpki_rules.specs.Lines.{Customer, Refusal, origin_cmp, refusal_cmp}
 use Rattle.rpki_rules.specs.Output.{AreOrigins, AreCustomers, AreRefusals}
-use Rattle.rpki_rules.specs.Views.{trace_cmp}
+use Rattle.rpki_rules.specs.Views.{witness_cmp}
 
 pub record ReportValue : Type 0 where
   pub origins : List Origin
   pub customers : List Customer
   pub refusals : List Refusal
-  pub witnesses : List Trace
+  pub witnesses : List WitnessValue
 
 -- The members of a list, each once, in order.
 pub record IsSetOf {X : Type 0} (cmp : X → X → Ordering) (xs ys : List X) : Type 0 where
@@ -33,16 +33,17 @@ pub record AreCustomersOf (P : Provision → Type 0) (cs : List Customer) : Type
   pub complete : (x : Provision) → P x → Mem (map (λ c. c.number) cs) x.customer
 
 -- The report of what was found, in any order and any number of times.
-pub record IsReportOf (origins : List Origin) (provisions : List Provision) (refusals : List Refusal) (traces : List Trace) (r : ReportValue) : Type 0 where
+pub record IsReportOf (origins : List Origin) (provisions : List Provision)
+    (refusals : List Refusal) (witnesses : List WitnessValue) (r : ReportValue) : Type 0 where
   pub origins_are : IsSetOf origin_cmp origins r.origins
   pub customers_are : AreCustomersOf (Mem provisions) r.customers
   pub refusals_are : IsSetOf refusal_cmp refusals r.refusals
-  pub witnesses_are : IsSetOf trace_cmp traces r.witnesses
+  pub witnesses_are : IsSetOf witness_cmp witnesses r.witnesses
 
 -- Exactly the good witnesses, each once, in order.
-pub record AreWitnesses (w : World) (ts : List Trace) : Type 0 where
-  pub ascend : IsStrictlySortedBy trace_cmp ts
-  pub exact : (t : Trace) → Mem ts t ↔ IsWitness w t
+pub record AreWitnesses (w : World) (ts : List WitnessValue) : Type 0 where
+  pub ascend : IsStrictlySortedBy witness_cmp ts
+  pub exact : (t : WitnessValue) → Mem ts t ↔ IsWitness w t
 
 -- The report of a world: all that is attested and refused in it.
 pub record IsReport (w : World) (r : ReportValue) : Type 0 where

@@ -7,7 +7,7 @@ use Rattle.rpki_rules.specs.resources_ip_prefix.declared.addr.AddressFamily.{Add
 use Rattle.rpki_rules.specs.resources_ip_prefix.declared.addr.AddressFamily.TheVariants as family
 use Rattle.rpki_rules.specs.resources_ip_prefix.Address.{bits_of}
 use Rattle.rpki_rules.specs.Kinds.{Kind, Ipv4, Ipv6}
-use Rattle.rpki_rules.specs.Attests.{Origin as OriginValue, Provision as ProvisionValue, Trace}
+use Rattle.rpki_rules.specs.Attests.{Origin as OriginValue, Provision as ProvisionValue, WitnessValue}
 use Rattle.rpki_rules.specs.Lines.{Customer as CustomerValue, Refusal as RefusalValue}
 use Rattle.rpki_rules.specs.declared.origin.Origin.{Origin}
 use Rattle.rpki_rules.specs.declared.customer.Provision.{Provision}
@@ -33,20 +33,27 @@ abbrev pub refusal_of : Refusal → RefusalValue
 refusal_of r = record { name = r.name; cause = r.cause }
 
 -- A locator's name, and the lookup keys of a chain.
-pub record Way : Type 0 where
+pub record PathValue : Type 0 where
   pub locator : List ℕ
   pub chain : List (List ℕ)
 
-abbrev pub way_of : Path → Way
-way_of p = record { locator = p.locator; chain = p.chain.items }
+abbrev pub path_of : Path → PathValue
+path_of p = record { locator = p.locator; chain = p.chain.items }
 
-abbrev pub trace_of : Witness → Trace
-trace_of x = record { locator = x.path.value.locator; chain = x.path.value.chain.items; object = x.object }
+abbrev pub witness_of : Witness → WitnessValue
+witness_of x = record {
+  locator = x.path.value.locator;
+  chain = x.path.value.chain.items;
+  object = x.object;
+}
 
 -- By customer, then by provider.
 abbrev pub provision_cmp : ProvisionValue → ProvisionValue → Ordering
 provision_cmp x y = ordering_then (nat_cmp x.customer y.customer) (nat_cmp x.provider y.provider)
 
 -- By object, then by locator and chain, as octets.
-abbrev pub trace_cmp : Trace → Trace → Ordering
-trace_cmp s t = ordering_then (slice_cmp nat_cmp s.object t.object) (ordering_then (slice_cmp nat_cmp s.locator t.locator) (slice_cmp (slice_cmp nat_cmp) s.chain t.chain))
+abbrev pub witness_cmp : WitnessValue → WitnessValue → Ordering
+witness_cmp s t =
+    ordering_then (slice_cmp nat_cmp s.object t.object)
+    (ordering_then (slice_cmp nat_cmp s.locator t.locator)
+    (slice_cmp (slice_cmp nat_cmp) s.chain t.chain))

@@ -3,6 +3,7 @@
 ghost use Rattle.rpki_rules.specs.Laws.{SignedIsVerified, IssuedIsVerified, AnchorIsVerified, AnchorHolds, ChainHolds, IssuedHolds, OnlyUris, OneObjectAt, TableSays, WitnessNames, OneCertAt, OnePoint, OneSigned, OneOutput, ClimbingIsExact, JudgingIsExact, Listing, DeeperKeeps, VerdictRemoval, CutDownKeeps, NonInterference, LocatorsStay, RefusalsStay, UntouchedOutput};
 ghost use Rattle.rpki_rules.specs.Outside.{OutsideStays};
 ghost use Rattle.rpki_rules.specs.Versions.{UpgradeStays};
+ghost use Rattle.rpki_rules.specs.ReasonLaws.{NamesAreAlone, LocatorsHaveReasons, PointsHaveReasons, FilesHaveReasons, OneUnheld};
 
 /// What a certificate is asked below an authority, its claim apart, is what the tests of verification ask.
 pub fn signed_is_verified()
@@ -79,7 +80,7 @@ pub fn climbing_is_exact()
     ensures { ClimbingIsExact }
 {}
 
-/// A trace that was read from its object up is a good one, and a good one is read so.
+/// A witness that was read from its object up is a good one, and a good one is read so.
 pub fn judging_is_exact()
     ensures { JudgingIsExact }
 {}
@@ -132,4 +133,31 @@ pub fn outside_stays()
 /// The output of a bundle of version 0 is that of its upgrade that isn't relaxed.
 pub fn upgrade_stays()
     ensures { UpgradeStays }
+{}
+
+/// A locator that is refused, and whose name no other has, has a reason, and one: the first condition
+/// that isn't met.
+pub fn locators_have_reasons()
+    ensures { LocatorsHaveReasons }
+{}
+
+/// The point of an accepted chain that doesn't stand has a reason, and one.
+pub fn points_have_reasons()
+    ensures { PointsHaveReasons }
+{}
+
+/// A file that is refused at the point of an accepted chain has a reason, and one.
+pub fn files_have_reasons()
+    ensures { FilesHaveReasons }
+{}
+
+/// In a bundle each locator's name is its own.
+pub fn names_are_alone()
+    ensures { NamesAreAlone }
+{}
+
+/// The numbers of a kind that a certificate claims and a chain doesn't hold are one list, and where there
+/// are some the kind doesn't fit.
+pub fn one_unheld()
+    ensures { OneUnheld }
 {}

@@ -1,7 +1,7 @@
 //! The report.
 
 ghost use Rattle.std.specs.Prelude.{◌≡◌, map, IfOk};
-ghost use Rattle.rpki_rules.specs.Views.{origin_of, provision_of, customer_of, refusal_of, trace_of};
+ghost use Rattle.rpki_rules.specs.Views.{origin_of, provision_of, customer_of, refusal_of, witness_of};
 ghost use Rattle.rpki_rules.specs.Report.{IsReportOf};
 
 use crate::customer::{Customer, Provision, gather};
@@ -23,7 +23,7 @@ pub struct Report {
 
 impl Model for Report {
     ghost use Rattle.std.specs.Prelude.{map};
-    ghost use Rattle.rpki_rules.specs.Views.{origin_of, customer_of, refusal_of, trace_of};
+    ghost use Rattle.rpki_rules.specs.Views.{origin_of, customer_of, refusal_of, witness_of};
     ghost use Rattle.rpki_rules.specs.Report.{ReportValue};
 
     ghost Value = { ReportValue };
@@ -32,7 +32,7 @@ impl Model for Report {
       origins = map origin_of r.origins.items;
       customers = map customer_of r.customers.items;
       refusals = map refusal_of r.refusals.items;
-      witnesses = map trace_of r.witnesses.items;
+      witnesses = map witness_of r.witnesses.items;
     } };
 }
 
@@ -47,7 +47,7 @@ impl Report {
     ) -> Result<Self, AllocError>
         ensures { IfOk result (IsReportOf
             (map origin_of origins.items) (map provision_of provisions.items)
-            (map refusal_of refusals.items) (map trace_of witnesses.items)) }
+            (map refusal_of refusals.items) (map witness_of witnesses.items)) }
     {
         sort_once(&mut origins)?;
         sort_once(&mut provisions)?;
@@ -85,7 +85,7 @@ impl Report {
 
     /// By which chains objects attest something.
     pub fn witnesses(&self) -> &[Witness]
-        ensures { map trace_of result.now ≡ self.now.witnesses }
+        ensures { map witness_of result.now ≡ self.now.witnesses }
     {
         &self.witnesses
     }

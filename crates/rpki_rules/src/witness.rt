@@ -1,7 +1,7 @@
 //! Witnesses: by which chain of certificates an object attests something.
 
 ghost use Rattle.std.specs.Prelude.{◌≡◌, ◌++◌, ◌∷◌, [], IfOk};
-ghost use Rattle.rpki_rules.specs.Views.{way_of, trace_of};
+ghost use Rattle.rpki_rules.specs.Views.{path_of, witness_of};
 
 use bytes::Bytes;
 use std::alloc::{AllocError, Global};
@@ -17,7 +17,7 @@ pub struct Path {
 impl Path {
     /// The chain of the anchor alone.
     pub fn new(alloc: Global, locator: Bytes, anchor: Bytes) -> Result<Self, AllocError>
-        ensures { IfOk result (λ p. way_of p ≡ record { locator = locator; chain = anchor ∷ [] }) }
+        ensures { IfOk result (λ p. path_of p ≡ record { locator = locator; chain = anchor ∷ [] }) }
     {
         let mut chain = Vec::new(alloc);
         chain.push(anchor)?;
@@ -26,9 +26,9 @@ impl Path {
 
     /// The chain with one more certificate.
     pub fn longer(&self, alloc: Global, last: &Bytes) -> Result<Self, AllocError>
-        ensures { IfOk result (λ p. way_of p ≡ record {
-          locator = (way_of self.now).locator;
-          chain = (way_of self.now).chain ++ last.now ∷ [];
+        ensures { IfOk result (λ p. path_of p ≡ record {
+          locator = (path_of self.now).locator;
+          chain = (path_of self.now).chain ++ last.now ∷ [];
         }) }
     {
         let mut chain = Vec::with_capacity(alloc, self.chain.len())?;
@@ -44,14 +44,14 @@ impl Path {
 
     /// The locator's name.
     pub fn locator(&self) -> &Bytes
-        ensures { result.now ≡ (way_of self.now).locator }
+        ensures { result.now ≡ (path_of self.now).locator }
     {
         &self.locator
     }
 
     /// The lookup keys, the anchor's first.
     pub fn chain(&self) -> &[Bytes]
-        ensures { result.now ≡ (way_of self.now).chain }
+        ensures { result.now ≡ (path_of self.now).chain }
     {
         &self.chain
     }
@@ -69,9 +69,9 @@ pub struct Witness {
 impl Witness {
     /// The object with this lookup key is good by this chain.
     pub fn new(path: Rc<Path>, object: Bytes) -> Self
-        ensures { trace_of result ≡ record {
-          locator = (way_of path.value).locator;
-          chain = (way_of path.value).chain;
+        ensures { witness_of result ≡ record {
+          locator = (path_of path.value).locator;
+          chain = (path_of path.value).chain;
           object = object;
         } }
     {
@@ -80,21 +80,21 @@ impl Witness {
 
     /// The locator's name.
     pub fn locator(&self) -> &Bytes
-        ensures { result.now ≡ (trace_of self.now).locator }
+        ensures { result.now ≡ (witness_of self.now).locator }
     {
         self.path.as_ref().locator()
     }
 
     /// The lookup keys of the chain's certificates, the anchor's first.
     pub fn chain(&self) -> &[Bytes]
-        ensures { result.now ≡ (trace_of self.now).chain }
+        ensures { result.now ≡ (witness_of self.now).chain }
     {
         self.path.as_ref().chain()
     }
 
     /// The lookup key of the object.
     pub fn object(&self) -> &Bytes
-        ensures { result.now ≡ (trace_of self.now).object }
+        ensures { result.now ≡ (witness_of self.now).object }
     {
         &self.object
     }

@@ -7,7 +7,7 @@ use Rattle.rpki_standing.specs.rpki_bundle.Bundle.{BundleValue}
 use Rattle.rpki_rules.specs.Certs.{Cert, CertText, Digests, Verdicts}
 use Rattle.rpki_rules.specs.World.{World, find_object, world_of}
 use Rattle.rpki_rules.specs.Chains.{CertAt}
-use Rattle.rpki_standing.specs.Leads.{IsNoCert, NoCertAt}
+use Rattle.rpki_standing.specs.Lookups.{IsNoCert, NoCertAt}
 
 -- The octets that were seen were refused.
 pub no_cert : {E : Type 0} (e f : DecodeError E) (seen octets : List ℕ) → e ≡ f → (OnContent f (IsNoCert seen) → IsNoCert seen) → OnContent e (IsNoCert seen) → seen ≡ octets → IsNoCert octets

@@ -6,7 +6,7 @@ use Rattle.objects_payload.specs.Uris.{text_of}
 use Rattle.rpki_standing.specs.certs_basics.Uris.{lookup_key}
 use Rattle.rpki_rules.specs.World.{World, at}
 use Rattle.rpki_rules.specs.Points.{IsFirstHeld}
-use Rattle.rpki_standing.specs.Leads.{NoneHeld}
+use Rattle.rpki_standing.specs.Lookups.{NoneHeld}
 
 -- The first of the others at which there is an object is the first of all.
 pub record Passes (w : World) (others all : List (List ℕ)) : Type 0 where

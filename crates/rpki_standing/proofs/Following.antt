@@ -8,7 +8,7 @@ use Rattle.rpki_standing.specs.rpki_bundle.declared.parts.Locator.{Locator}
 use Rattle.rpki_rules.specs.Locators.{LocatorText, https_first}
 use Rattle.rpki_rules.specs.World.{World}
 use Rattle.rpki_rules.specs.Points.{Anchor, IsFirstHeld, Link}
-use Rattle.rpki_standing.specs.Leads.{HoldsAt, HoldsNowhere, IsNoLocator, NoneHeld}
+use Rattle.rpki_standing.specs.Lookups.{HoldsAt, HoldsNowhere, IsNoLocator, NoneHeld}
 
 -- The first at which there is an object is one.
 one_held : (w : World) (us : List (List ℕ)) (u v o p : List ℕ) → IsFirstHeld w us u o → IsFirstHeld w us v p → (u ≡ v) × (o ≡ p)

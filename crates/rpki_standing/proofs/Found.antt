@@ -7,7 +7,7 @@ use Rattle.rpki_rules.specs.Points.{IsCrlOf, files}
 use Rattle.rpki_rules.specs.Words.{Mem}
 use Rattle.rpki_rules.specs.World.{World, at}
 use Rattle.rpki_standing.proofs.Failing.{one_value}
-use Rattle.rpki_standing.specs.Crls.{Finds, IsCrlAt, IsListAt, IsListOf}
+use Rattle.rpki_standing.specs.Crls.{Finds, IsCrlAt, IsListAt, IsListOf, as_read}
 
 -- What is found in the octets is found at the URI that has them.
 pub list_told : (w : World) (uri octets : List ℕ) (found : Option Crl) → at w uri ≡ Some octets → Finds (CrlText octets) found → Finds (IsListAt w uri) found
@@ -36,10 +36,10 @@ crl_of w uri keys ca ee o m crl e f g s = record {
   octets = s.stands.octets;
   held = s.stands.held;
   reads = s.stands.reads;
-  authority = s.is_list.suits.authority;
+  authority = s.is_list.acceptable.authority;
   good = s.is_list.good;
-  current = s.is_list.suits.current;
-  not_revoked = subst (λ (c : Cert). ¬ (IsOn crl c.tbs.serial)) (sym e) s.is_list.suits.not_revoked;
+  current = s.is_list.acceptable.current;
+  not_revoked = subst (λ (c : Cert). ¬ (IsOn crl c.tbs.serial)) (sym e) s.is_list.acceptable.not_revoked;
 }
 
 pub crl_at : (w : World) (uri : List ℕ) (keys : List (List ℕ)) (ca ee : Cert) (o : Object) (m : Manifest) (crl : Crl) → o.cert ≡ ee → ee.tbs.crl_uri ≡ Some uri → files ca m ≡ keys → IsCrlOf w ca o m crl → IsCrlAt w uri keys ca ee crl
@@ -50,7 +50,7 @@ crl_at w uri keys ca ee o m crl e f g s =
       listed = subst (λ (u : List ℕ). Mem keys (lookup_key u)) same (subst (λ (fs : List (List ℕ)). Mem fs (lookup_key s.uri)) g s.listed);
       stands = record { octets = s.octets; held = subst (λ (u : List ℕ). at w u ≡ Some s.octets) same s.held; reads = s.reads };
       is_list = record {
-        suits = record { authority = s.authority; current = s.current; not_revoked = subst (λ (c : Cert). ¬ (IsOn crl c.tbs.serial)) e s.not_revoked };
+        acceptable = record { authority = s.authority; current = s.current; not_revoked = subst (λ (c : Cert). ¬ (IsOn crl c.tbs.serial)) e s.not_revoked };
         good = s.good;
       };
     }
@@ -59,3 +59,7 @@ pub found_told : (w : World) (uri : List ℕ) (keys : List (List ℕ)) (ca ee : 
     → Finds (IsCrlAt w uri keys ca ee) found → Finds (IsCrlOf w ca o m) found
 found_told w uri keys ca ee o m None e f g h = λ crl s. h crl (crl_at w uri keys ca ee o m crl e f g s)
 found_told w uri keys ca ee o m (Some crl) e f g h = crl_of w uri keys ca ee o m crl e f g h
+
+-- Of a list that is read no serial numbers are kept aside.
+pub read_uncached : {octets : List ℕ} {crl : Crl} → CrlText octets crl → as_read crl ≡ crl
+read_uncached p = ap as_read p.is.says ∙ sym p.is.says

@@ -10,6 +10,7 @@ use Rattle.std.specs.Cmp.Lexicographic.{slice_cmp, nat_list_cmp_total}
 use Rattle.rpki_standing.specs.certs_basics.Uris.{lookup_key}
 use Rattle.rpki_rules.specs.Certs.{Cert, Crl, IsOn}
 use Rattle.rpki_rules.specs.Points.{Point, Unrevoked}
+use Rattle.rpki_standing.specs.Crls.{as_read}
 use Rattle.rpki_standing.proofs.Failing.{one_value}
 
 -- A certificate that names no list.
@@ -40,6 +41,13 @@ unrevoked_alike p c ee uri point_uri e h k u =
 
 pub unrevoked_not_on : (p : Point) (c : Cert) (crl : Crl) → p.crl ≡ crl → Unrevoked p c → IsOn crl c.tbs.serial → ⊥
 unrevoked_not_on p c crl f u on = u.not_revoked (subst (λ (l : Crl). IsOn l c.tbs.serial) (sym f) on)
+
+-- A list that keeps its serial numbers aside has the same certificates on it.
+pub on_read : {b : Bool} (crl list : Crl) {serial : ℕ} → as_read list ≡ crl → (IsTrue b ↔ IsOn list serial) → IsTrue b ↔ IsOn crl serial
+on_read {b} crl list {serial} e told = subst (λ (l : Crl). IsTrue b ↔ IsOn l serial) e (
+  λ t. let o = told.0 t in record { entry = o.entry; listed = o.listed; same = o.same },
+  λ o. told.1 (record { entry = o.entry; listed = o.listed; same = o.same }),
+)
 
 untrue : (b : Bool) → IsTrue (not b) → IsTrue b → ⊥
 untrue true t u = let wrong : false ≡ true = t in absurd cc

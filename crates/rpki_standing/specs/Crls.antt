@@ -1,10 +1,14 @@
 -- The revocation list of a publication point, by where it stands (RFC 6487 5, RFC 9286 6.2).
-use Rattle.std.specs.Prelude.{◌≡◌, ℕ, true, List, Option, Some, None}
+use Rattle.std.specs.Prelude.{◌≡◌, ℕ, false, true, List, Option, Some, None}
 use Rattle.rpki_standing.specs.certs_basics.Uris.{lookup_key}
 use Rattle.rpki_rules.specs.Certs.{Cert, Crl, CrlText}
 use Rattle.rpki_rules.specs.Words.{Mem}
 use Rattle.rpki_rules.specs.World.{World, at}
-use Rattle.rpki_standing.specs.Lists.{Suits}
+use Rattle.rpki_standing.specs.Lists.{IsAcceptableCrl}
+
+-- The list as it was read, where its serial numbers are kept aside.
+abbrev pub as_read : Crl → Crl
+as_read crl = record crl { caches = false }
 
 -- The octets that are held at the URI begin with the list.
 pub record IsListAt (w : World) (uri : List ℕ) (crl : Crl) : Type 0 where
@@ -14,7 +18,7 @@ pub record IsListAt (w : World) (uri : List ℕ) (crl : Crl) : Type 0 where
 
 -- The list may be the authority's, by what it says, and its signature is good by the authority's key (RFC 6487 5).
 pub record IsListOf (w : World) (ca ee : Cert) (crl : Crl) : Type 0 where
-  pub suits : Suits w.moment ca ee crl
+  pub acceptable : IsAcceptableCrl w.moment ca ee crl
   pub good : w.good ca.tbs.key crl.signed.has_null crl.signed.message crl.signed.signature ≡ true
 
 -- The list stands at the URI, which is one of the files, and is the authority's (RFC 9286 6.2).

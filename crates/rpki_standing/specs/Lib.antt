@@ -4,7 +4,7 @@ pub mod Places
 pub mod Lists
 pub mod Crls
 pub mod Issued
-pub mod Leads
+pub mod Lookups
 pub mod Names
 pub mod Views
 pub mod Published

@@ -4,11 +4,11 @@
 pub mod certs;
 pub mod held;
 pub mod laws;
-pub mod leads;
+pub mod lookup;
 pub mod texts;
 
 pub use certs::{cert_at, read_cert};
 pub use held::first_held;
-pub use leads::{Lead, follow};
+pub use lookup::{LocatorLookup, follow};
 pub use objects_payload::locator::{Tal, TalUri};
 pub use texts::read_locator_text;

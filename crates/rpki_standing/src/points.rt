@@ -5,17 +5,18 @@
 pub mod crl;
 pub mod files;
 pub mod held;
+pub mod kept;
 pub mod keys;
 pub mod list;
 pub mod names;
 pub mod revoked;
 
 pub use certs_cert::{Rsync, decode};
-pub use certs_crl::Crl;
 pub use crl::{find_crl, read_crl};
 pub use files::{files_of, has_files};
 pub use held::is_held;
+pub use kept::Crl;
 pub use keys::key_in;
-pub use list::suits;
+pub use list::is_acceptable_crl;
 pub use names::differ_by_name;
 pub use revoked::is_unrevoked;

@@ -9,4 +9,5 @@ pub mod verifier;
 
 pub use index::Index;
 pub use rpki_rules::{Locator, Object};
+pub use search::MAX_PROBES;
 pub use verifier::TableVerifier;

@@ -3,7 +3,7 @@ use Rattle.std.proofs.Common.{◌≡◌, ◌<◌, ℕ, List, [], length, get_or,
 use Rattle.std.proofs.lemmas.List.{get_or_read}
 use Rattle.std.specs.Prelude.{IfOk, String}
 use Rattle.std.specs.declared.alloc.Global.{Global}
-use Rattle.rpki_standing.specs.Leads.{HoldsAt, HoldsNowhere, IsNoCert}
+use Rattle.rpki_standing.specs.Lookups.{HoldsAt, HoldsNowhere, IsNoCert}
 use Rattle.rpki_steps.specs.Anchored.{FindsAnchor}
 use Rattle.rpki_steps.specs.Holders.{cert_of, sets_of}
 use Rattle.rpki_steps.specs.certs_verify.Holders.{ResourceCertValue}
@@ -11,9 +11,9 @@ use Rattle.rpki_standing.specs.rpki_bundle.declared.parts.Locator.{Locator}
 use Rattle.rpki_rules.specs.Certs.{Cert, CertText, Key, one_cert}
 use Rattle.rpki_rules.specs.Points.{IsAnchorCert, Link}
 use Rattle.rpki_rules.specs.World.{World}
-use Rattle.rpki_walk.specs.Filed.{HasListed, IsLed, LeadsTo, locator_at}
-use Rattle.rpki_walk.specs.declared.steps.Leads.{Leads}
-use Rattle.rpki_walk.specs.declared.steps.Leads.TheVariants as To
+use Rattle.rpki_walk.specs.Repository.{HasListed, IsAnchorLookup, LeadsTo, locator_at}
+use Rattle.rpki_walk.specs.declared.repository.AnchorLookup.{AnchorLookup}
+use Rattle.rpki_walk.specs.declared.repository.AnchorLookup.TheVariants as To
 use Rattle.rpki_steps.specs.Anchors.{FindsAnchorIn, IsAnchorIn}
 
 module _ (w : World) (key : Key) (octets : List ℕ) where
@@ -40,13 +40,13 @@ lead_held w l a h = record { uris = h.uris; reads = h.reads; held = h.held }
 
 module _ (w : World) (l : Locator) where
   -- There is no object at any of its URIs.
-  pub nowhere : ((k : Key) (u o : List ℕ) → HoldsNowhere w l → ¬ (HoldsAt w l k u o)) → HoldsNowhere w l → IsLed cert_of sets_of w l To.Nowhere
+  pub nowhere : ((k : Key) (u o : List ℕ) → HoldsNowhere w l → ¬ (HoldsAt w l k u o)) → HoldsNowhere w l → IsAnchorLookup cert_of sets_of w l To.Nowhere
   nowhere none n = ((n.uris, n.key, n.reads), λ a h. none h.key a.uri h.octets n (lead_held w l a h))
 
   module _ (k : Key) (u o : List ℕ) where
     -- The object is no trust anchor's certificate.
     pub no_anchor : ((j : Key) (v p : List ℕ) → HoldsAt w l j v p → HoldsAt w l k u o → j ≡ k) → ((j : Key) (v p : List ℕ) → HoldsAt w l j v p → HoldsAt w l k u o → p ≡ o)
-        → HoldsAt w l k u o → FindsAnchorIn w k o None → IsLed cert_of sets_of w l To.Nowhere
+        → HoldsAt w l k u o → FindsAnchorIn w k o None → IsAnchorLookup cert_of sets_of w l To.Nowhere
     no_anchor keys octets h n = (
       (h.uris, k, h.reads),
       λ a b.
@@ -55,12 +55,12 @@ module _ (w : World) (l : Locator) where
     )
 
     -- The object is one.
-    pub is_anchor : (uri : List ℕ) (r s : ResourceCertValue) → uri ≡ u → s ≡ r → HoldsAt w l k u o → IsAnchorIn w k o r → IsLed cert_of sets_of w l (To.Anchor uri s)
-    is_anchor uri r s e same h a = subst (λ (v : List ℕ). IsLed cert_of sets_of w l (To.Anchor v s)) (sym e) (subst (λ (x : ResourceCertValue). IsLed cert_of sets_of w l (To.Anchor u x)) (sym same)
+    pub is_anchor : (uri : List ℕ) (r s : ResourceCertValue) → uri ≡ u → s ≡ r → HoldsAt w l k u o → IsAnchorIn w k o r → IsAnchorLookup cert_of sets_of w l (To.Anchor uri s)
+    is_anchor uri r s e same h a = subst (λ (v : List ℕ). IsAnchorLookup cert_of sets_of w l (To.Anchor v s)) (sym e) (subst (λ (x : ResourceCertValue). IsAnchorLookup cert_of sets_of w l (To.Anchor u x)) (sym same)
         (record { uris = h.uris; key = k; reads = h.reads; octets = o; held = h.held; cert = a.reads; is_anchor = a.anchor }, a.holds))
 
     -- It leads to the object.
-    pub held_led : {E : Type 0} (r : Result (Leads ResourceCertValue) E) → HoldsAt w l k u o → IfOk r (λ led. HoldsAt w l k u o → IsLed cert_of sets_of w l led) → IfOk r (IsLed cert_of sets_of w l)
+    pub held_led : {E : Type 0} (r : Result (AnchorLookup ResourceCertValue) E) → HoldsAt w l k u o → IfOk r (λ led. HoldsAt w l k u o → IsAnchorLookup cert_of sets_of w l led) → IfOk r (IsAnchorLookup cert_of sets_of w l)
     held_led (Ok led) h f = f h
     held_led (Err e) h f = tt
 
@@ -71,6 +71,6 @@ locator_there w at ls l same inside is =
     let here : l ≡ get_or w.locators at l = subst (λ (xs : List Locator). l ≡ get_or xs at l) same is in
     get_or_read w.locators at l inside here none
 
-pub place_led : {E : Type 0} (w : World) (at : ℕ) (ls : List Locator) (l : Locator) (r : Result (Leads ResourceCertValue) E) → ls ≡ w.locators → at < length w.locators → l ≡ get_or ls at l
-    → IfOk r (IsLed cert_of sets_of w l) → IfOk r (IsLed cert_of sets_of w (locator_at w at))
-place_led w at ls l r same inside is h = subst (λ (x : Locator). IfOk r (IsLed cert_of sets_of w x)) (locator_there w at ls l same inside is) h
+pub place_led : {E : Type 0} (w : World) (at : ℕ) (ls : List Locator) (l : Locator) (r : Result (AnchorLookup ResourceCertValue) E) → ls ≡ w.locators → at < length w.locators → l ≡ get_or ls at l
+    → IfOk r (IsAnchorLookup cert_of sets_of w l) → IfOk r (IsAnchorLookup cert_of sets_of w (locator_at w at))
+place_led w at ls l r same inside is h = subst (λ (x : Locator). IfOk r (IsAnchorLookup cert_of sets_of w x)) (locator_there w at ls l same inside is) h

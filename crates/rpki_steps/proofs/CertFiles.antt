@@ -1,6 +1,6 @@
 -- Files of a publication point that are certificates.
 use Rattle.std.proofs.Common.{◌≡◌, ◌≢◌, inl, inr, ℕ, true, List, Some, None, sym, subst}
-use Rattle.rpki_standing.specs.Leads.{NoCertAt}
+use Rattle.rpki_standing.specs.Lookups.{NoCertAt}
 use Rattle.rpki_steps.proofs.Children.{child_below, child_of}
 use Rattle.rpki_steps.specs.Below.{FindsBelow, IsFoundBelow}
 use Rattle.rpki_steps.specs.Holders.{cert_of, sets_of}
@@ -12,8 +12,8 @@ use Rattle.rpki_rules.specs.Kinds.{InSet}
 use Rattle.rpki_rules.specs.Points.{Point, Unrevoked}
 use Rattle.rpki_rules.specs.Refused.{IsIssued}
 use Rattle.rpki_rules.specs.World.{World}
-use Rattle.rpki_walk.specs.Filed.{HasKept}
-use Rattle.rpki_walk.specs.declared.steps.Filed.TheVariants as Is
+use Rattle.rpki_walk.specs.Repository.{HasKept}
+use Rattle.rpki_walk.specs.declared.repository.FileKind.TheVariants as Is
 use Rattle.rpki_rules.proofs.Readings.{no_cer_payload}
 use Rattle.rpki_steps.specs.Files.{IsFile}
 

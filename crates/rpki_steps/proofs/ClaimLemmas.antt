@@ -5,7 +5,7 @@ use Rattle.rpki_steps.specs.resources.Resources.{Resources}
 use Rattle.rpki_rules.specs.Certs.{Cert}
 use Rattle.rpki_rules.specs.Chains.{Fits}
 use Rattle.rpki_rules.specs.Kinds.{Ipv4, Ipv6, As, InSet}
-use Rattle.rpki_walk.specs.Filed.{HasKept}
+use Rattle.rpki_walk.specs.Repository.{HasKept}
 use Rattle.rpki_walk.specs.Claimed.{ClaimValue}
 use Rattle.rpki_walk.specs.Steps.{AreKept, FindsHeld, FitsAll}
 use Rattle.rpki_steps.specs.Claims.{FindsSets, claims_of}

@@ -10,8 +10,8 @@ use Rattle.rpki_rules.specs.Points.{files, Point}
 use Rattle.rpki_rules.specs.Words.{Mem}
 use Rattle.rpki_rules.specs.World.{World}
 use Rattle.rpki_steps.specs.Holders.{cert_of}
-use Rattle.rpki_walk.specs.declared.steps.Filed.{Filed}
-use Rattle.rpki_walk.specs.declared.steps.Filed.TheVariants as Is
+use Rattle.rpki_walk.specs.declared.repository.FileKind.{FileKind}
+use Rattle.rpki_walk.specs.declared.repository.FileKind.TheVariants as Is
 use Rattle.rpki_standing.specs.declared.payloads.payload.Payload.{Payload}
 use Rattle.rpki_standing.specs.Names.{letters}
 use Rattle.rpki_standing.specs.declared.payloads.names.Extension.{Extension}
@@ -57,16 +57,16 @@ module _ (b : Bool) (o : Option Bool) (is : b ≡ not (option_eq beq o (Some tru
 
 -- What is said of a file under its condition.
 module _ {E : Type 0} (w : World) (ca : ResourceCertValue) (p : Point) (uri : List ℕ) where
-  pub told_at : (c : Cert) (r : Result (Filed ResourceCertValue Payload) E) → c.tbs.basic_ca ≡ Some true → CertAt w uri c
+  pub told_at : (c : Cert) (r : Result (FileKind ResourceCertValue Payload) E) → c.tbs.basic_ca ≡ Some true → CertAt w uri c
       → IfOk r (λ filed. c.tbs.basic_ca ≡ Some true → (u : List ℕ) → HasExtension cer u → CertAt w u c → IsFile w ca p u filed) → IfOk r (λ filed. HasExtension cer uri → IsFile w ca p uri filed)
   told_at c (Ok filed) b t h = λ x. h b uri x t
   told_at c (Err e) b t h = tt
 
-  pub as_cert_file : (r : Result (Filed ResourceCertValue Payload) E) → HasExtension cer uri → IfOk r (λ filed. HasExtension cer uri → IsFile w ca p uri filed) → IfOk r (λ filed. Mem (files (cert_of ca) p.manifest) uri → IsFile w ca p uri filed)
+  pub as_cert_file : (r : Result (FileKind ResourceCertValue Payload) E) → HasExtension cer uri → IfOk r (λ filed. HasExtension cer uri → IsFile w ca p uri filed) → IfOk r (λ filed. Mem (files (cert_of ca) p.manifest) uri → IsFile w ca p uri filed)
   as_cert_file (Ok filed) x h = λ l. h x
   as_cert_file (Err e) x h = tt
 
-  pub as_payload_file : (r : Result (Filed ResourceCertValue Payload) E) → HasExtension roa uri ⊎ HasExtension asa uri
+  pub as_payload_file : (r : Result (FileKind ResourceCertValue Payload) E) → HasExtension roa uri ⊎ HasExtension asa uri
       → IfOk r (λ filed. HasExtension roa uri ⊎ HasExtension asa uri → Mem (files (cert_of ca) p.manifest) uri → IsFile w ca p uri filed) → IfOk r (λ filed. Mem (files (cert_of ca) p.manifest) uri → IsFile w ca p uri filed)
   as_payload_file (Ok filed) x h = h x
   as_payload_file (Err e) x h = tt

@@ -15,7 +15,7 @@ use Rattle.rpki_rules.specs.Certs.{Cert, Key, encoded}
 use Rattle.rpki_rules.specs.World.{World}
 use Rattle.rpki_rules.specs.Points.{IsAnchorCert}
 use Rattle.rpki_steps.specs.Anchored.{IsFoundAnchor, FindsAnchor}
-use Rattle.rpki_steps.specs.Settled.{Settles}
+use Rattle.rpki_steps.specs.AcceptedOrNone.{IsAcceptedOrNone}
 use Rattle.rpki_steps.proofs.AcceptedClaims.{anchor_own, own_anchor, own_lists}
 use Rattle.rpki_steps.proofs.Firsts.{none_fails}
 
@@ -48,7 +48,7 @@ refused w key c given None n m = absurd m
 refused w key c given (Some fault) n m = failed w key c fault (λ e. n (ap (λ (x : Fault). Some x) e)) m.1
 
 settled : (w : World) (key : Key) (tal : String Global) (c : Cert) (v : Result ResourceCertValue (Refused ValidationError)) (o : Option ResourceCertValue)
-    → encoded c.tbs.key ≡ encoded key → MeetsValid (ValidatesAnchor w.digests w.good true w.moment c) v → IfOk v (λ r. r.tal ≡ tal) → Settles v o → FindsAnchor w key tal c o
+    → encoded c.tbs.key ≡ encoded key → MeetsValid (ValidatesAnchor w.digests w.good true w.moment c) v → IfOk v (λ r. r.tal ≡ tal) → IsAcceptedOrNone v o → FindsAnchor w key tal c o
 settled w key tal c (Ok r) (Some s) k m t e = subst (λ (x : ResourceCertValue). IsFoundAnchor w key tal c x) (sym e) (is_anchor w key tal c r k m t)
 settled w key tal c (Ok r) None k m t e = absurd e
 settled w key tal c (Err x) (Some s) k m t e = absurd e
@@ -58,7 +58,7 @@ settled w key tal c (Err x) None k m t n = refused w key c x.cert (cause_of x.er
 pub found_anchor : {E : Type 0} (w : World) (key : Key) (tal : String Global) (c : Cert) (now : ℕ)
     (v : Result ResourceCertValue (Refused ValidationError)) (r : Result (Option ResourceCertValue) E)
     → now ≡ w.moment → encoded c.tbs.key ≡ encoded key → MeetsValid (ValidatesAnchor w.digests w.good true now c) v → IfOk v (λ r. r.tal ≡ tal)
-    → IfOk r (Settles v) → IfOk r (FindsAnchor w key tal c)
+    → IfOk r (IsAcceptedOrNone v) → IfOk r (FindsAnchor w key tal c)
 found_anchor w key tal c now v (Ok o) e k m t s =
     settled w key tal c v o k (subst (λ (n : ℕ). MeetsValid (ValidatesAnchor w.digests w.good true n c) v) e m) t s
 found_anchor w key tal c now v (Err x) e k m t s = tt

@@ -15,7 +15,7 @@ use Rattle.rpki_rules.specs.Kinds.{InSet}
 use Rattle.rpki_rules.specs.World.{World}
 use Rattle.rpki_steps.specs.Below.{IsBelow, IsFoundBelow, FindsBelow}
 use Rattle.rpki_steps.specs.Holders.{cert_of, sets_of}
-use Rattle.rpki_steps.specs.Settled.{Settles}
+use Rattle.rpki_steps.specs.AcceptedOrNone.{IsAcceptedOrNone}
 use Rattle.rpki_steps.proofs.AcceptedClaims.{issued_signed, issued_fits, signed_issued, below_keeps}
 use Rattle.rpki_steps.proofs.Firsts.{none_fails}
 
@@ -48,7 +48,7 @@ refused w role issuer c given None n m = absurd m
 refused w role issuer c given (Some fault) n m = failed w role issuer c fault (λ e. n (ap (λ (x : Fault). Some x) e)) m.1
 
 settled : (w : World) (role : Role) (issuer : ResourceCertValue) (c : Cert) (v : Result ResourceCertValue (Refused ValidationError)) (o : Option ResourceCertValue)
-    → MeetsValid (ValidatesIssued w.digests w.good true role w.moment issuer.holder c) v → IfOk v (λ r. r.tal ≡ issuer.tal) → Settles v o → FindsBelow w role issuer c o
+    → MeetsValid (ValidatesIssued w.digests w.good true role w.moment issuer.holder c) v → IfOk v (λ r. r.tal ≡ issuer.tal) → IsAcceptedOrNone v o → FindsBelow w role issuer c o
 settled w role issuer c (Ok r) (Some s) m t e = subst (λ (x : ResourceCertValue). IsFoundBelow w role issuer c x) (sym e) (is_below w role issuer c r m t)
 settled w role issuer c (Ok r) None m t e = absurd e
 settled w role issuer c (Err x) (Some s) m t e = absurd e
@@ -58,7 +58,7 @@ settled w role issuer c (Err x) None m t n = refused w role issuer c x.cert (cau
 pub found_below : {E : Type 0} (w : World) (role : Role) (issuer : ResourceCertValue) (c : Cert) (now : ℕ)
     (v : Result ResourceCertValue (Refused ValidationError)) (r : Result (Option ResourceCertValue) E)
     → now ≡ w.moment → MeetsValid (ValidatesIssued w.digests w.good true role now issuer.holder c) v → IfOk v (λ r. r.tal ≡ issuer.tal)
-    → IfOk r (Settles v) → IfOk r (FindsBelow w role issuer c)
+    → IfOk r (IsAcceptedOrNone v) → IfOk r (FindsBelow w role issuer c)
 found_below w role issuer c now v (Ok o) e m t s =
     settled w role issuer c v o (subst (λ (n : ℕ). MeetsValid (ValidatesIssued w.digests w.good true role n issuer.holder c) v) e m) t s
 found_below w role issuer c now v (Err x) e m t s = tt

@@ -20,7 +20,7 @@ pub mod AcceptedClaims
 pub mod FoundBelow
 pub mod FoundAnchor
 pub mod Children
-pub mod Settling
+pub mod AcceptedOrNone
 mod Passing
 mod Named
 mod Looked

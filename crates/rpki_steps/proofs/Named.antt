@@ -9,9 +9,9 @@ use Rattle.rpki_rules.specs.Words.{Mem, NoRepeat}
 use Rattle.rpki_rules.specs.World.{World}
 use Rattle.rpki_standing.specs.rpki_bundle.declared.parts.Locator.{Locator}
 use Rattle.rpki_standing.specs.rpki_bundle.declared.parts.Object.{Object}
-use Rattle.rpki_standing.specs.declared.anchors.leads.Lead.{Lead}
-use Rattle.rpki_standing.specs.declared.anchors.leads.Lead.TheVariants as To
-use Rattle.rpki_standing.specs.Leads.{HoldsAt, HoldsNowhere, IsLead, IsNoLocator}
+use Rattle.rpki_standing.specs.declared.anchors.lookup.LocatorLookup.{LocatorLookup}
+use Rattle.rpki_standing.specs.declared.anchors.lookup.LocatorLookup.TheVariants as To
+use Rattle.rpki_standing.specs.Lookups.{HoldsAt, HoldsNowhere, IsLocatorLookup, IsNoLocator}
 use Rattle.rpki_steps.specs.ClimbAnchors.{IsAnchorOf}
 
 -- The first that is held is held.
@@ -41,7 +41,7 @@ anchor_by w l key there octets uri c b leads at one_key one_uri h = (
 )
 
 -- A locator that leads to no object has no anchor.
-pub no_anchor : (w : World) (l : Locator) (lead : Lead) → ((object : Bor Object) (tal : _) → lead ≡ To.Held object tal → ⊥) → IsLead w l lead
+pub no_anchor : (w : World) (l : Locator) (lead : LocatorLookup) → ((object : Bor Object) (tal : _) → lead ≡ To.Held object tal → ⊥) → IsLocatorLookup w l lead
     → ((k : Key) (u o : List ℕ) → IsNoLocator l.text → ¬ (HoldsAt w l k u o)) → ((k : Key) (u o : List ℕ) → HoldsNowhere w l → ¬ (HoldsAt w l k u o)) → (a : Link) → ¬ (IsAnchorOf w l a)
 no_anchor w l To.Unreadable other lead unreadable nowhere a h = unreadable h.key a.uri h.octets lead h.leads
 no_anchor w l To.Nowhere other lead unreadable nowhere a h = nowhere h.key a.uri h.octets lead h.leads

@@ -11,7 +11,7 @@ use Rattle.rpki_rules.specs.Chains.{Fits, HasExtension, asa, roa}
 use Rattle.rpki_rules.specs.Kinds.{As, InSet, Ipv4, Ipv6, Kind}
 use Rattle.rpki_rules.specs.Points.{Point}
 use Rattle.rpki_rules.specs.World.{World}
-use Rattle.rpki_walk.specs.declared.steps.Filed.TheVariants as Is
+use Rattle.rpki_walk.specs.declared.repository.FileKind.TheVariants as Is
 use Rattle.rpki_standing.specs.Published.{FindsObject, PublishedValue}
 use Rattle.rpki_standing.specs.Views.{payload_of}
 use Rattle.rpki_standing.specs.declared.payloads.payload.Payload.{Payload as CodePayload}

@@ -5,7 +5,7 @@ use Rattle.rpki_rules.specs.Chains.{Fits}
 use Rattle.rpki_rules.specs.Kinds.{Kind}
 use Rattle.rpki_rules.specs.Points.{IsPoint, Point}
 use Rattle.rpki_rules.specs.World.{World}
-use Rattle.rpki_walk.specs.Filed.{IsRead}
+use Rattle.rpki_walk.specs.Repository.{IsRead}
 use Rattle.rpki_standing.specs.Standing.{IsStanding, StandingValue}
 use Rattle.rpki_rules.proofs.Readings.{one_point}
 use Rattle.rpki_steps.specs.Points.{point_of}

@@ -2,7 +2,7 @@
 use Rattle.std.specs.Prelude.{◌≡◌, Option, Some, None, String}
 use Rattle.std.specs.declared.alloc.Global.{Global}
 use Rattle.certs_verify.specs.Holders.{ResourceCertValue}
-use Rattle.rpki_walk.specs.Filed.{HasListed}
+use Rattle.rpki_walk.specs.Repository.{HasListed}
 use Rattle.rpki_rules.specs.Certs.{Key, Cert}
 use Rattle.rpki_rules.specs.World.{World}
 use Rattle.rpki_rules.specs.Points.{IsAnchorCert}

@@ -5,7 +5,7 @@ use Rattle.rpki_steps.specs.certs_verify.Holders.{ResourceCertValue}
 use Rattle.rpki_rules.specs.Certs.{Cert, CertText, Key}
 use Rattle.rpki_rules.specs.Points.{IsAnchorCert}
 use Rattle.rpki_rules.specs.World.{World}
-use Rattle.rpki_walk.specs.Filed.{HasListed}
+use Rattle.rpki_walk.specs.Repository.{HasListed}
 
 -- The octets are the certificate, it is one of a trust anchor with that key, and it holds what it lists.
 pub record IsAnchorIn (w : World) (key : Key) (octets : List ℕ) (r : ResourceCertValue) : Type 0 where

@@ -1,7 +1,7 @@
 -- What an authority asks of a certificate below it, revocation apart (RFC 6487 7.2, RFC 8360 4.2).
 use Rattle.std.specs.Prelude.{◌≡◌, ℕ, true, Option, Some, None}
 use Rattle.certs_verify.specs.Holders.{ResourceCertValue}
-use Rattle.rpki_walk.specs.Filed.{HasKept}
+use Rattle.rpki_walk.specs.Repository.{HasKept}
 use Rattle.rpki_steps.specs.certs_extension.declared.forms.Role.{Role}
 use Rattle.rpki_steps.specs.certs_extension.Profiles.{Profile}
 use Rattle.rpki_rules.specs.Certs.{Cert}

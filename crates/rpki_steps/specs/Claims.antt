@@ -4,7 +4,7 @@ use Rattle.rpki_steps.specs.resources.Resources.{Resources}
 use Rattle.rpki_rules.specs.Certs.{Cert}
 use Rattle.rpki_rules.specs.Chains.{Fits}
 use Rattle.rpki_rules.specs.Kinds.{Kind}
-use Rattle.rpki_walk.specs.Filed.{HasKept}
+use Rattle.rpki_walk.specs.Repository.{HasKept}
 use Rattle.rpki_walk.specs.Claimed.{ClaimValue}
 
 -- What it claims of each kind, and its policy.

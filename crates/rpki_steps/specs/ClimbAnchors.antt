@@ -4,7 +4,7 @@ use Rattle.rpki_rules.specs.Certs.{CertText, Key}
 use Rattle.rpki_rules.specs.Points.{IsAnchorCert, Link}
 use Rattle.rpki_rules.specs.World.{World}
 use Rattle.rpki_standing.specs.rpki_bundle.declared.parts.Locator.{Locator}
-use Rattle.rpki_standing.specs.Leads.{HoldsAt}
+use Rattle.rpki_standing.specs.Lookups.{HoldsAt}
 
 -- The locator leads to the object with this lookup key, which reads as this certificate, one of a trust anchor with the
 -- locator's key.

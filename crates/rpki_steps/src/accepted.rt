@@ -6,7 +6,7 @@
 
 mod anchors;
 mod below;
-mod settled;
+mod validated;
 
 pub use anchors::anchor_cert;
 pub use below::authority_below;

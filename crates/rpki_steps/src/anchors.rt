@@ -6,8 +6,8 @@ ghost use Rattle.std.specs.String.{string_bytes};
 ghost use Rattle.rpki_steps.specs.Holders.{cert_of, sets_of};
 ghost use Rattle.rpki_steps.specs.certs_key.Digesting.{digests_of};
 ghost use Rattle.rpki_rules.specs.World.{world_of};
-ghost use Rattle.rpki_walk.specs.Filed.{IsLed};
-ghost use Rattle.rpki_standing.specs.Leads.{HoldsAt};
+ghost use Rattle.rpki_walk.specs.Repository.{IsAnchorLookup};
+ghost use Rattle.rpki_standing.specs.Lookups.{HoldsAt};
 ghost use Rattle.rpki_steps.specs.Anchors.{FindsAnchorIn};
 
 use crate::accepted::anchor_cert;
@@ -16,9 +16,9 @@ use crate::whole::addresses_are_whole;
 use bytes::Bytes;
 use certs_verify::{Digester, PublicKey, ResourceCert, TalInfo, Verifier};
 use rpki_standing::anchors::laws::{no_lead, one_lead};
-use rpki_standing::anchors::{Lead, Tal, follow, read_cert};
+use rpki_standing::anchors::{LocatorLookup, Tal, follow, read_cert};
 use rpki_standing::table::{Index, Locator, Object};
-use rpki_walk::Leads;
+use rpki_walk::AnchorLookup;
 use std::alloc::{AllocError, Global};
 use std::rc::Rc;
 
@@ -60,11 +60,11 @@ fn lead_to<D: Digester, V: Verifier>(
     index: &Index<'_>,
     digester: &D,
     verifier: &mut V,
-) -> Result<Leads<Authority>, AllocError>
+) -> Result<AnchorLookup<Authority>, AllocError>
     ensures led { IfOk result (λ led. HoldsAt (world_of
         (digests_of D.sha256_digest D.sha1_digest digester.now) (V.says verifier.old) index.now)
         locator.now tal.now.key object.now.uri object.now.octets
-        → IsLed cert_of sets_of (world_of
+        → IsAnchorLookup cert_of sets_of (world_of
         (digests_of D.sha256_digest D.sha1_digest digester.now) (V.says verifier.old) index.now)
         locator.now led) }
     ensures same { V.says verifier.new ≡ V.says verifier.old }
@@ -75,8 +75,8 @@ fn lead_to<D: Digester, V: Verifier>(
     let uri = object.uri.clone()?;
     let key = tal.key_info();
     match anchor_in(alloc, &object.octets, key, name, index, digester, verifier)? {
-        Some(anchor) => Ok(Leads::Anchor(uri, Authority::new(anchor))),
-        None => Ok(Leads::Nowhere),
+        Some(anchor) => Ok(AnchorLookup::Anchor(uri, Authority::new(anchor))),
+        None => Ok(AnchorLookup::Nowhere),
     }
 }
 
@@ -88,17 +88,17 @@ pub fn read_locator<D: Digester, V: Verifier>(
     index: &Index<'_>,
     digester: &D,
     verifier: &mut V,
-) -> Result<Leads<Authority>, AllocError>
-    ensures led { IfOk result (IsLed cert_of sets_of (world_of
+) -> Result<AnchorLookup<Authority>, AllocError>
+    ensures led { IfOk result (IsAnchorLookup cert_of sets_of (world_of
         (digests_of D.sha256_digest D.sha1_digest digester.now) (V.says verifier.old) index.now)
         locator.now) }
     ensures same { V.says verifier.new ≡ V.says verifier.old }
 {
     no_lead();
     match follow(alloc, locator, index)? {
-        Lead::Unreadable => Ok(Leads::Unreadable),
-        Lead::Nowhere => Ok(Leads::Nowhere),
-        Lead::Held(object, tal) => {
+        LocatorLookup::Unreadable => Ok(AnchorLookup::Unreadable),
+        LocatorLookup::Nowhere => Ok(AnchorLookup::Nowhere),
+        LocatorLookup::Held(object, tal) => {
             lead_to(alloc, locator, object, &tal, index, digester, verifier)
         }
     }

@@ -15,7 +15,7 @@ use rpki_standing::anchors::cert_at;
 use rpki_standing::payloads::Payload;
 use rpki_standing::table::Index;
 use rpki_standing::{Point, is_unrevoked};
-use rpki_walk::Filed;
+use rpki_walk::FileKind;
 use std::alloc::{AllocError, Global};
 
 // What the file is at which the certificate of some authority stands.
@@ -27,7 +27,7 @@ fn file_of_authority<D: Digester, V: Verifier>(
     index: &Index<'_>,
     digester: &D,
     verifier: &mut V,
-) -> Result<Filed<Authority, Payload>, AllocError>
+) -> Result<FileKind<Authority, Payload>, AllocError>
     requires { (octets : List ℕ) × CertText octets cert }
     ensures filed { IfOk result (λ filed. cert.tbs.basic_ca ≡ Some true → (uri : List ℕ)
         → HasExtension cer uri → CertAt (world_of
@@ -39,12 +39,12 @@ fn file_of_authority<D: Digester, V: Verifier>(
 {
     if !is_unrevoked(alloc, &cert, point.manifest_cert(), point.crl())? {
         drop(cert);
-        return Ok(Filed::Bad);
+        return Ok(FileKind::Bad);
     }
     addresses_are_whole();
     match authority_below(alloc, cert, ca.verified(), index, digester, verifier)? {
-        Some(child) => Ok(Filed::Child(Authority::new(child))),
-        None => Ok(Filed::Bad),
+        Some(child) => Ok(FileKind::Child(Authority::new(child))),
+        None => Ok(FileKind::Bad),
     }
 }
 
@@ -58,7 +58,7 @@ pub fn read_cert_file<D: Digester, V: Verifier>(
     index: &Index<'_>,
     digester: &D,
     verifier: &mut V,
-) -> Result<Filed<Authority, Payload>, AllocError>
+) -> Result<FileKind<Authority, Payload>, AllocError>
     ensures filed { IfOk result (λ filed. HasExtension cer uri.now
         → IsFile (world_of
         (digests_of D.sha256_digest D.sha1_digest digester.now) (V.says verifier.old) index.now)
@@ -66,11 +66,11 @@ pub fn read_cert_file<D: Digester, V: Verifier>(
     ensures same { V.says verifier.new ≡ V.says verifier.old }
 {
     let Some(cert) = cert_at(alloc, uri, index)? else {
-        return Ok(Filed::Bad);
+        return Ok(FileKind::Bad);
     };
     if cert.tbs().basic_ca() != Some(true) {
         drop(cert);
-        return Ok(Filed::Nothing);
+        return Ok(FileKind::Nothing);
     }
     file_of_authority(alloc, cert, ca, point, index, digester, verifier)
 }

@@ -15,7 +15,7 @@ use certs_verify::{Digester, Verifier};
 use rpki_standing::Point;
 use rpki_standing::payloads::{Extension, Payload, extension_of};
 use rpki_standing::table::Index;
-use rpki_walk::Filed;
+use rpki_walk::FileKind;
 use std::alloc::{AllocError, Global};
 
 /// What a file of the authority's point is, by its lookup key; keys and depth of chains apart. The verifier is asked twice,
@@ -28,7 +28,7 @@ pub fn read_file<D: Digester, V: Verifier>(
     index: &Index<'_>,
     digester: &D,
     verifier: &mut V,
-) -> Result<Filed<Authority, Payload>, AllocError>
+) -> Result<FileKind<Authority, Payload>, AllocError>
     ensures filed { IfOk result (λ filed.
         Mem (files (cert_of ca.now) point.now.point.manifest) uri.now
         → IsFile (world_of
@@ -44,6 +44,6 @@ pub fn read_file<D: Digester, V: Verifier>(
         Some(Extension::Asa) => {
             read_payload_file(alloc, ca, point, uri, index, digester, verifier)
         }
-        None => Ok(Filed::Nothing),
+        None => Ok(FileKind::Nothing),
     }
 }

@@ -26,4 +26,4 @@ pub use names::{locator_keys, named_keys};
 pub use points::read_point;
 pub use rpki_standing::Index;
 pub use rpki_walk::reach::Reach;
-pub use steps::BundleSteps;
+pub use steps::BundleRepository;

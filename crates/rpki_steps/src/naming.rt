@@ -2,13 +2,13 @@
 
 use crate::authority::Authority;
 use crate::names::{locator_keys, named_keys};
-use crate::steps::BundleSteps;
+use crate::steps::BundleRepository;
 use bytes::Bytes;
 use certs_verify::{Digester, Verifier};
 use rpki_walk::reach::{Naming, ResourceSet};
 use std::alloc::{AllocError, Global};
 
-impl<'a, D: Digester, V: Verifier> Naming for BundleSteps<'a, D, V> {
+impl<'a, D: Digester, V: Verifier> Naming for BundleRepository<'a, D, V> {
     fn locator_keys(&self, alloc: Global, at: usize) -> Result<Option<Vec<Bytes>>, AllocError> {
         let locator = &self.index.locators()[at];
         locator_keys(alloc, locator)

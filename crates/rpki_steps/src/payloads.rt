@@ -21,7 +21,7 @@ use rpki_standing::attested::{Published, find_object};
 use rpki_standing::payloads::Payload;
 use rpki_standing::table::Index;
 use rpki_standing::{Point, covers_aspa, covers_roa};
-use rpki_walk::Filed;
+use rpki_walk::FileKind;
 use rpki_walk::step::Held;
 use std::alloc::{AllocError, Global};
 
@@ -56,7 +56,7 @@ pub fn read_payload_file<D: Digester, V: Verifier>(
     index: &Index<'_>,
     digester: &D,
     verifier: &mut V,
-) -> Result<Filed<Authority, Payload>, AllocError>
+) -> Result<FileKind<Authority, Payload>, AllocError>
     ensures filed { IfOk result (λ filed. HasExtension roa uri.now ⊎ HasExtension asa uri.now
         → Mem (files (cert_of ca.now) point.now.point.manifest) uri.now
         → IsFile (world_of
@@ -67,12 +67,12 @@ pub fn read_payload_file<D: Digester, V: Verifier>(
     let ca = ca.verified();
     let (cert, ee, crl) = (ca.as_cert(), point.manifest_cert(), point.crl());
     let Some(object) = find_object(alloc, cert, ee, crl, uri, index, digester, verifier)? else {
-        return Ok(Filed::Bad);
+        return Ok(FileKind::Bad);
     };
     if is_within(alloc, &object, ca)? {
-        Ok(Filed::Attests(object.into_payload()))
+        Ok(FileKind::Attests(object.into_payload()))
     } else {
         drop(object);
-        Ok(Filed::Bad)
+        Ok(FileKind::Bad)
     }
 }

@@ -6,7 +6,7 @@ ghost use Rattle.rpki_steps.specs.certs_key.Digesting.{digests_of};
 ghost use Rattle.rpki_rules.specs.Kinds.{InSet};
 ghost use Rattle.rpki_rules.specs.Points.{files};
 ghost use Rattle.rpki_rules.specs.World.{world_of};
-ghost use Rattle.rpki_walk.specs.Filed.{IsRead};
+ghost use Rattle.rpki_walk.specs.Repository.{IsRead};
 ghost use Rattle.rpki_steps.specs.Points.{point_of};
 
 use crate::claims::fits_below;

@@ -16,12 +16,12 @@ use certs_verify::{Digester, Verifier};
 use rpki_standing::Point;
 use rpki_standing::payloads::{Origin, Payload, Provision};
 use rpki_standing::table::Index;
-use rpki_walk::{Filed, Leads, Steps};
+use rpki_walk::{AnchorLookup, FileKind, Repository};
 use std::alloc::{AllocError, Global};
 
 /// A bundle with a digester and a verifier: what the walk asks of it is read of its objects.
 #[derive(Drop)]
-pub struct BundleSteps<'a, D: Digester, V: Verifier> {
+pub struct BundleRepository<'a, D: Digester, V: Verifier> {
     /// The bundle.
     pub index: Index<'a>,
     /// What digests are made by.
@@ -30,7 +30,7 @@ pub struct BundleSteps<'a, D: Digester, V: Verifier> {
     pub verifier: &'a mut V,
 }
 
-impl<'a, D: Digester, V: Verifier> BundleSteps<'a, D, V> {
+impl<'a, D: Digester, V: Verifier> BundleRepository<'a, D, V> {
     /// The bundle, with that digester and that verifier.
     pub fn new(index: Index<'a>, digester: &'a D, verifier: &'a mut V) -> Self
         ensures index { result.index ≡ index.entry }
@@ -38,7 +38,7 @@ impl<'a, D: Digester, V: Verifier> BundleSteps<'a, D, V> {
         ensures verifier { result.verifier.now ≡ verifier.old }
         ensures same_reference { result.verifier.ghost_name ≡ verifier.entry.ghost_name }
     {
-        BundleSteps {
+        BundleRepository {
             index,
             digester,
             verifier,
@@ -46,7 +46,7 @@ impl<'a, D: Digester, V: Verifier> BundleSteps<'a, D, V> {
     }
 }
 
-impl<'a, D: Digester, V: Verifier> Steps for BundleSteps<'a, D, V> {
+impl<'a, D: Digester, V: Verifier> Repository for BundleRepository<'a, D, V> {
     type Authority = Authority;
 
     type Point = Point;
@@ -82,7 +82,11 @@ impl<'a, D: Digester, V: Verifier> Steps for BundleSteps<'a, D, V> {
         self.index.locators()[at].name.clone()
     }
 
-    fn read_locator(&mut self, alloc: Global, at: usize) -> Result<Leads<Authority>, AllocError> {
+    fn read_locator(
+        &mut self,
+        alloc: Global,
+        at: usize,
+    ) -> Result<AnchorLookup<Authority>, AllocError> {
         let locator = &self.index.locators()[at];
         read_locator(alloc, locator, &self.index, self.digester, self.verifier)
     }
@@ -112,7 +116,7 @@ impl<'a, D: Digester, V: Verifier> Steps for BundleSteps<'a, D, V> {
         ca: &Authority,
         p: &Point,
         uri: &[u8],
-    ) -> Result<Filed<Authority, Payload>, AllocError> {
+    ) -> Result<FileKind<Authority, Payload>, AllocError> {
         read_file(alloc, ca, p, uri, &self.index, self.digester, self.verifier)
     }
 

@@ -2,6 +2,8 @@ mod Pieces
 pub mod Ends
 mod Forging
 mod Judging
+mod Printing
+mod Reading
 mod Relaxing
 pub mod of_bcder_tree
 pub mod of_certs_basics

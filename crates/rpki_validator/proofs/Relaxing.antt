@@ -1,8 +1,8 @@
 -- A world in which signed objects are read relaxed attests all that it attests where they are read strictly.
 use Rattle.std.proofs.Common.{ℕ, true, false, List, [], ◌∷◌, inl, inr}
-use Rattle.objects_relaxed.specs.Relaxed.{relaxed, relaxed_cert}
-use Rattle.objects_relaxed.proofs.Objects.{aspas_stay, manifests_stay, roas_stay}
-use Rattle.objects_relaxed.proofs.Inspected.{passes_relaxed, sound_relaxed}
+use Rattle.rpki_rules.specs.Relaxed.{relaxed, relaxed_cert}
+use Rattle.rpki_rules.proofs.RelaxedObjects.{aspas_stay, manifests_stay, roas_stay}
+use Rattle.rpki_rules.proofs.RelaxedInspected.{passes_relaxed, sound_relaxed}
 use Rattle.rpki_rules.specs.certs_extension.declared.forms.Role.TheVariants.{Ee}
 use Rattle.rpki_rules.specs.Certs.{Cert}
 use Rattle.rpki_rules.specs.Objects.{File, Manifest, Object}
@@ -12,7 +12,7 @@ use Rattle.rpki_rules.specs.World.{World}
 use Rattle.rpki_rules.specs.Kinds.{Kind}
 use Rattle.rpki_rules.specs.Points.{Anchor, IsFirstHeld, IsHeld, IsManifestOf, IsPoint, Link, Point, Signed, Unrevoked}
 use Rattle.rpki_rules.specs.Chains.{Descends, Fits, Holds, Issues, Stands, last_of}
-use Rattle.rpki_rules.specs.Attests.{Good, IsGood, OfAspa, OfRoa, Payload, PayloadText, Trace}
+use Rattle.rpki_rules.specs.Attests.{Good, IsGood, OfAspa, OfRoa, Payload, PayloadText, WitnessValue}
 use Rattle.rpki_rules.specs.Laws.{KeepsAll}
 
 module _ (w : World) where
@@ -22,7 +22,7 @@ module _ (w : World) where
   abbrev loosely : World
   loosely = record w { strict = false }
 
-  -- Certificates in files of their own are DER in both worlds; those of objects have their names in BER.
+  -- Certificates in files of their own are DER in both worlds; those of objects are in BER.
   signed_file : (c issuer : Cert) → Signed strictly c issuer → Signed loosely c issuer
   signed_file c issuer s = record { authority = s.authority; issuer_uri = s.issuer_uri; good = s.good; valid = s.valid }
 
@@ -131,7 +131,7 @@ module _ (w : World) where
         covered = g.covered;
       }
 
-  good_kept : (t : Trace) (x : Payload) → Good strictly t x → Good loosely t x
+  good_kept : (t : WitnessValue) (x : Payload) → Good strictly t x → Good loosely t x
   good_kept t x g = record {
     anchor = g.anchor;
     below = g.below;
@@ -144,6 +144,6 @@ module _ (w : World) where
 
 pub relaxed_keeps : (w : World) → KeepsAll (record w { strict = true }) (record w { strict = false })
 relaxed_keeps w = record {
-  origins_kept = λ x h. record { trace = h.trace; payload = h.payload; good = good_kept w h.trace h.payload h.good; one = h.one };
-  provisions_kept = λ x h. record { trace = h.trace; payload = h.payload; good = good_kept w h.trace h.payload h.good; one = h.one };
+  origins_kept = λ x h. record { witness = h.witness; payload = h.payload; good = good_kept w h.witness h.payload h.good; one = h.one };
+  provisions_kept = λ x h. record { witness = h.witness; payload = h.payload; good = good_kept w h.witness h.payload h.good; one = h.one };
 }

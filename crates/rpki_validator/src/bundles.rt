@@ -6,15 +6,17 @@ ghost use Rattle.rpki_validator.specs.rpki_rules.Judge.{IsJudged, may_ask};
 ghost use Rattle.rpki_validator.specs.rpki_rules.Reach.{IsReach};
 ghost use Rattle.rpki_validator.specs.rpki_rules.World.{world_of};
 ghost use Rattle.rpki_rules.specs.Report.{IsReport};
-ghost use Rattle.rpki_rules.specs.Views.{trace_of, way_of};
+ghost use Rattle.rpki_rules.specs.Views.{witness_of, path_of};
 ghost use Rattle.rpki_walk.specs.Chained.{AreNamingChains};
+ghost use Rattle.rpki_walk.specs.Counted.{ReadsPoints, may_ask_reading};
 ghost use Rattle.rpki_walk.specs.Naming.{answer_of};
+ghost use Rattle.rpki_walk.specs.Printed.{AreLines};
 
 use bytes::Bytes;
 use rpki_bundle::{Bundle, Digester, Verifier};
 use rpki_rules::{Path, Report, Witness};
 use rpki_steps::climb::{BundleEvidence, Judgement};
-use rpki_steps::{BundleSteps, Index};
+use rpki_steps::{BundleRepository, Index};
 use rpki_walk::reach::Reach;
 use std::alloc::{AllocError, Global};
 use std::rc::Rc;
@@ -32,20 +34,46 @@ pub fn walk<D: Digester, V: Verifier>(
         bundle.now)) }
     ensures same { V.says verifier.new ≡ V.says verifier.old }
 {
-    let mut steps = BundleSteps::new(Index::new(bundle), digester, verifier);
-    let report = rpki_walk::walk(alloc, &mut steps);
+    let mut repository = BundleRepository::new(Index::new(bundle), digester, verifier);
+    let report = rpki_walk::walk(alloc, &mut repository);
     // So the caller's verifier is the one that was asked.
-    let BundleSteps {
+    let BundleRepository {
         verifier: asked,
         ..
-    } = steps;
+    } = repository;
+    let _asked = asked;
+    report
+}
+
+/// The lines of a bundle: all that accepted chains attest, and all that the rules refuse, by these digests and this
+/// verifier, without the witnesses, which tell by which chains. Chains that end alike are walked once, so this takes less
+/// than `walk` where many authorities certify the same ones. Refused for lack of memory alone.
+pub fn walk_lines<D: Digester, V: Verifier>(
+    alloc: Global,
+    bundle: &Bundle,
+    digester: &D,
+    verifier: &mut V,
+) -> Result<Report, AllocError>
+    ensures report { IfOk result (AreLines (world_of
+        (digests_of D.sha256_digest D.sha1_digest digester.now) (V.says verifier.old)
+        bundle.now)) }
+    ensures same { V.says verifier.new ≡ V.says verifier.old }
+{
+    let mut repository = BundleRepository::new(Index::new(bundle), digester, verifier);
+    let report = rpki_walk::walk_lines(alloc, &mut repository);
+    // So the caller's verifier is the one that was asked.
+    let BundleRepository {
+        verifier: asked,
+        ..
+    } = repository;
     let _asked = asked;
     report
 }
 
 /// Whether the witness is one of those that a walk of the bundle lists. It is read from its object upward, so that the
 /// verifier is asked for a few signatures a certificate, however much the bundle has: at most 4 times the chain's length
-/// and 2 more, whatever the answer. Refused for lack of memory alone.
+/// and 2 more, whatever the answer, and at most 4 times the publication points that were read and 4 more. Refused for lack
+/// of memory alone.
 pub fn judge_by<D: Digester, V: Verifier>(
     alloc: Global,
     evidence: &mut BundleEvidence<'_, D, V>,
@@ -53,10 +81,15 @@ pub fn judge_by<D: Digester, V: Verifier>(
 ) -> Result<Judgement, AllocError>
     ensures judged { IfOk result (λ j. IsJudged (world_of
         (digests_of D.sha256_digest D.sha1_digest evidence.old.digester.now)
-        (V.says evidence.old.verifier.now) evidence.old.index) (trace_of witness.now) j.yes
+        (V.says evidence.old.verifier.now) evidence.old.index) (witness_of witness.now) j.yes
         j.points) }
+    ensures read { IfOk result (λ j. ReadsPoints (world_of
+        (digests_of D.sha256_digest D.sha1_digest evidence.old.digester.now)
+        (V.says evidence.old.verifier.now) evidence.old.index) (witness_of witness.now) j.points) }
     ensures asked { V.count evidence.new.verifier.now ≤ V.count evidence.old.verifier.now
-        + may_ask (length (trace_of witness.now).chain) }
+        + may_ask (length (witness_of witness.now).chain) }
+    ensures asked_reading { IfOk result (λ j. V.count evidence.new.verifier.now
+        ≤ V.count evidence.old.verifier.now + may_ask_reading j.points) }
     ensures same { V.says evidence.new.verifier.now ≡ V.says evidence.old.verifier.now }
     ensures same_world { world_of
         (digests_of D.sha256_digest D.sha1_digest evidence.new.digester.now)
@@ -73,7 +106,8 @@ pub fn judge_by<D: Digester, V: Verifier>(
 
 /// Whether the witness is one of those that a walk of the bundle lists, by this digester and this verifier. It is read from
 /// its object upward, so that the verifier is asked for a few signatures a certificate, however much the bundle has: at most
-/// 4 times the chain's length and 2 more, whatever the answer. Refused for lack of memory alone.
+/// 4 times the chain's length and 2 more, whatever the answer, and at most 4 times the publication points that were read and
+/// 4 more. Refused for lack of memory alone.
 pub fn judge<D: Digester, V: Verifier>(
     alloc: Global,
     bundle: &Bundle,
@@ -83,10 +117,15 @@ pub fn judge<D: Digester, V: Verifier>(
 ) -> Result<Judgement, AllocError>
     ensures judged { IfOk result (λ j. IsJudged (world_of
         (digests_of D.sha256_digest D.sha1_digest digester.now) (V.says verifier.old) bundle.now)
-        (trace_of witness.now) j.yes j.points) }
+        (witness_of witness.now) j.yes j.points) }
+    ensures read { IfOk result (λ j. ReadsPoints (world_of
+        (digests_of D.sha256_digest D.sha1_digest digester.now) (V.says verifier.old) bundle.now)
+        (witness_of witness.now) j.points) }
     ensures same { V.says verifier.new ≡ V.says verifier.old }
     ensures asked { V.count verifier.new ≤ V.count verifier.old
-        + may_ask (length (trace_of witness.now).chain) }
+        + may_ask (length (witness_of witness.now).chain) }
+    ensures asked_reading { IfOk result (λ j. V.count verifier.new
+        ≤ V.count verifier.old + may_ask_reading j.points) }
 {
     let mut evidence = BundleEvidence::new(Index::new(bundle), digester, verifier);
     let judged = judge_by(alloc, &mut evidence, witness);
@@ -113,13 +152,13 @@ pub fn reach<D: Digester, V: Verifier>(
         (answer_of r)) }
     ensures same { V.says verifier.new ≡ V.says verifier.old }
 {
-    let mut steps = BundleSteps::new(Index::new(bundle), digester, verifier);
-    let reached = rpki_walk::reach::whole::reach(alloc, &mut steps, uris);
+    let mut repository = BundleRepository::new(Index::new(bundle), digester, verifier);
+    let reached = rpki_walk::reach::whole::reach(alloc, &mut repository, uris);
     // So the caller's verifier is the one that was asked.
-    let BundleSteps {
+    let BundleRepository {
         verifier: asked,
         ..
-    } = steps;
+    } = repository;
     let _asked = asked;
     reached
 }
@@ -135,16 +174,16 @@ pub fn naming_chains<D: Digester, V: Verifier>(
 ) -> Result<Vec<Rc<Path>>, AllocError>
     ensures chains { IfOk result (λ paths. AreNamingChains uris.now (world_of
         (digests_of D.sha256_digest D.sha1_digest digester.now) (V.says verifier.old) bundle.now)
-        (map (λ p. way_of p.value) paths.items)) }
+        (map (λ p. path_of p.value) paths.items)) }
     ensures same { V.says verifier.new ≡ V.says verifier.old }
 {
-    let mut steps = BundleSteps::new(Index::new(bundle), digester, verifier);
-    let chains = rpki_walk::reach::naming_chains(alloc, &mut steps, uris);
+    let mut repository = BundleRepository::new(Index::new(bundle), digester, verifier);
+    let chains = rpki_walk::reach::naming_chains(alloc, &mut repository, uris);
     // So the caller's verifier is the one that was asked.
-    let BundleSteps {
+    let BundleRepository {
         verifier: asked,
         ..
-    } = steps;
+    } = repository;
     let _asked = asked;
     chains
 }

@@ -4,16 +4,18 @@ ghost use Rattle.std.specs.Prelude.{◌≡◌, ◌<◌, ◌-◌, ◌^◌, IfOk, 
 ghost use Rattle.rpki_validator.specs.certs_key.Digesting.{digests_of};
 ghost use Rattle.rpki_validator.specs.rpki_bundle.Bundle.{BundleText};
 ghost use Rattle.rpki_validator.specs.rpki_rules.Output.{IsOutput};
-ghost use Rattle.rpki_validator.specs.rpki_rules.World.{run_world};
+ghost use Rattle.rpki_validator.specs.rpki_rules.World.{World, run_world};
+ghost use Rattle.rpki_validator.specs.rpki_walk.Printed.{AreLines};
 ghost use Rattle.rpki_validator.specs.Run.{BundleFails, IsNoBundle, ReadsBundle, CountsReads, CountsWrites, Prints, RunFails};
 ghost use Rattle.rpki_validator.specs.declared.runs.RunError.TheVariants.{Memory as memory_error};
 
-use crate::bundles::walk;
+use crate::bundles::walk_lines;
 use crate::counted::Counted;
 use crate::streams::{ReadFault, read_all, write_all};
 use bytes::Bytes;
 use rpki_bundle::laws::bundle_length;
 use rpki_bundle::{Bundle, BundleError, Digester};
+use rpki_rules::Report;
 use rpki_rules::lines::render;
 use rpki_steps::climb::TableVerifier;
 use std::alloc::{AllocError, Global};
@@ -45,6 +47,14 @@ impl From<AllocError> for RunError {
     }
 }
 
+// The lines of a report that a walk for lines made.
+fn lines_of(alloc: Global, report: &Report) -> Result<Vec<u8>, AllocError>
+    ensures { IfOk result (λ text.
+        (w : World) → AreLines w report.now → IsOutput w text.items) }
+{
+    render(alloc, report)
+}
+
 // The output of a bundle: good are the signatures that its own table has.
 fn output_of<D: Digester>(
     alloc: Global,
@@ -55,8 +65,8 @@ fn output_of<D: Digester>(
         (digests_of D.sha256_digest D.sha1_digest digester.now) bundle.now) text.items) }
 {
     let mut verifier = TableVerifier::new(bundle, digester);
-    let report = walk(alloc, bundle, digester, &mut verifier)?;
-    render(alloc, &report)
+    let report = walk_lines(alloc, bundle, digester, &mut verifier)?;
+    lines_of(alloc, &report)
 }
 
 // One octet more than any bundle has.

@@ -11,7 +11,7 @@ use Rattle.rpki_rules.specs.Kinds.{Kind, claim, InSet}
 use Rattle.rpki_rules.specs.World.{World}
 use Rattle.rpki_rules.specs.Points.{Link, Anchor, Point, IsPoint}
 use Rattle.rpki_rules.specs.Chains.{CertAt}
-use Rattle.rpki_rules.specs.Attests.{Payload, Trace, IsSigned}
+use Rattle.rpki_rules.specs.Attests.{Payload, WitnessValue, IsSigned}
 use Rattle.rpki_rules.specs.Judge.{KeepsNeed, NeedAt, Needs, Climbs, Climbed, IsJudged, may_ask}
 use Rattle.rpki_rules.proofs.Readings.{one_signed}
 use Rattle.rpki_walk.specs.declared.judge.claims.Claims.{Claims}
@@ -201,10 +201,10 @@ some_first [] x e = absurd cc
 some_first {X} (y ∷ ys) x e = let h : y ≡ x = cc in (ys, ap (λ (z : X). z ∷ ys) h)
 
 -- The whole.
-pub no_judged : (w : World) (t : Trace) (j : Judgement) → j ≡ record { yes = false; points = 0 } → ((x : Payload) → Climbed w t x → ⊥) → IsJudged w t j.yes j.points
+pub no_judged : (w : World) (t : WitnessValue) (j : Judgement) → j ≡ record { yes = false; points = 0 } → ((x : Payload) → Climbed w t x → ⊥) → IsJudged w t j.yes j.points
 no_judged w t j z none = subst (λ (i : Judgement). IsJudged w t i.yes i.points) (sym z) (judged_no w t 0 refl none)
 
-pub missing_judged : (w : World) (t : Trace) (old new : List Link) (b : Bool) (j : Judgement) → b ≡ false → j ≡ record { yes = false; points = 0 } → IsReadChain w t.chain old new b → IsJudged w t j.yes j.points
+pub missing_judged : (w : World) (t : WitnessValue) (old new : List Link) (b : Bool) (j : Judgement) → b ≡ false → j ≡ record { yes = false; points = 0 } → IsReadChain w t.chain old new b → IsJudged w t j.yes j.points
 missing_judged w t old new b j n z h =
     let k : IsReadChain w t.chain old new false = subst (λ (x : Bool). IsReadChain w t.chain old new x) n h in
     no_judged w t j z (no_cert w t k.0 k.1 k.2)
@@ -220,23 +220,23 @@ all_read {C} cert w chain old new links b z l y h =
     let e : k.0 ≡ links_of cert links = sym k.1 ∙ ap (λ (xs : List (Code C)). links_of cert xs) (sym l) in
     record { places = ap places_of (sym e) ∙ k.2; at = subst (λ (xs : List Link). AreAt w xs) e k.3 }
 
-pub repeat_judged : (w : World) (t : Trace) (ls : List Link) (b : Bool) (j : Judgement) → AreOf w t.chain ls → b ≡ false → IsTrue b ↔ NoRepeat (map identifier_of ls) → j ≡ record { yes = false; points = 0 } → IsJudged w t j.yes j.points
+pub repeat_judged : (w : World) (t : WitnessValue) (ls : List Link) (b : Bool) (j : Judgement) → AreOf w t.chain ls → b ≡ false → IsTrue b ↔ NoRepeat (map identifier_of ls) → j ≡ record { yes = false; points = 0 } → IsJudged w t j.yes j.points
 repeat_judged w t ls b j are n h z = no_judged w t j z (no_repeat w t ls are.places are.at (refused h.1 n))
 
 -- How many points are read.
-pub long_reads : (w : World) (t : Trace) (j : Judgement) → j ≡ record { yes = false; points = 0 } → w.depth < length t.chain → ReadsPoints w t j.points
+pub long_reads : (w : World) (t : WitnessValue) (j : Judgement) → j ≡ record { yes = false; points = 0 } → w.depth < length t.chain → ReadsPoints w t j.points
 long_reads w t j z l = subst (λ (i : Judgement). ReadsPoints w t i.points) (sym z) (inl (refl, λ a cs h. long_chain w t.chain a cs l h))
 
-pub missing_reads : (w : World) (t : Trace) (old new : List Link) (b : Bool) (j : Judgement) → b ≡ false → j ≡ record { yes = false; points = 0 } → IsReadChain w t.chain old new b → ReadsPoints w t j.points
+pub missing_reads : (w : World) (t : WitnessValue) (old new : List Link) (b : Bool) (j : Judgement) → b ≡ false → j ≡ record { yes = false; points = 0 } → IsReadChain w t.chain old new b → ReadsPoints w t j.points
 missing_reads w t old new b j n z h =
     let k : IsReadChain w t.chain old new false = subst (λ (x : Bool). IsReadChain w t.chain old new x) n h in
     subst (λ (i : Judgement). ReadsPoints w t i.points) (sym z) (inl (refl, λ a cs g. lacking_chain w t.chain a cs k.0 k.1 k.2 g))
 
-pub repeat_reads : (w : World) (t : Trace) (ls : List Link) (b : Bool) (j : Judgement) → AreOf w t.chain ls → b ≡ false → IsTrue b ↔ NoRepeat (map identifier_of ls) → j ≡ record { yes = false; points = 0 } → ReadsPoints w t j.points
+pub repeat_reads : (w : World) (t : WitnessValue) (ls : List Link) (b : Bool) (j : Judgement) → AreOf w t.chain ls → b ≡ false → IsTrue b ↔ NoRepeat (map identifier_of ls) → j ≡ record { yes = false; points = 0 } → ReadsPoints w t j.points
 repeat_reads w t ls b j are n h z =
     subst (λ (i : Judgement). ReadsPoints w t i.points) (sym z) (inl (refl, λ a cs g. repeating_chain w t.chain ls a cs are.places are.at (refused h.1 n) g))
 
-pub all_reads : {E : Type 0} (w v : World) (t : Trace) (ls ms : List Link) (r : Result Judgement E) → ls ≡ ms → AreOf w t.chain ls → NoRepeat (map identifier_of ls) → length t.chain ≤ w.depth → v ≡ w → IfOk r (IsJudgedAt v t.locator ms t.object) → IfOk r (λ j. ReadsPoints w t j.points)
+pub all_reads : {E : Type 0} (w v : World) (t : WitnessValue) (ls ms : List Link) (r : Result Judgement E) → ls ≡ ms → AreOf w t.chain ls → NoRepeat (map identifier_of ls) → length t.chain ≤ w.depth → v ≡ w → IfOk r (IsJudgedAt v t.locator ms t.object) → IfOk r (λ j. ReadsPoints w t j.points)
 all_reads w v t ls ms (Ok j) e are once short ve h =
     reads_all w t ls are.places are.at once short j (subst (λ (xs : List Link). IsJudgedAt w t.locator xs t.object j) (sym e) (subst (λ (x : World). IsJudgedAt x t.locator ms t.object j) ve h))
 all_reads w v t ls ms (Err x) e are once short ve h = h
@@ -245,7 +245,7 @@ pub asks_after : {E : Type 0} (r : Result Judgement E) (first second third : ℕ
 asks_after (Ok j) first second third a h = omega (arith, a, h)
 asks_after (Err x) first second third a h = h
 
-pub all_judged : {E : Type 0} (w v : World) (t : Trace) (ls ms : List Link) (r : Result Judgement E) → ls ≡ ms → AreOf w t.chain ls → NoRepeat (map identifier_of ls) → length t.chain ≤ w.depth → v ≡ w → IfOk r (IsJudgedAt v t.locator ms t.object) → IfOk r (λ j. IsJudged w t j.yes j.points)
+pub all_judged : {E : Type 0} (w v : World) (t : WitnessValue) (ls ms : List Link) (r : Result Judgement E) → ls ≡ ms → AreOf w t.chain ls → NoRepeat (map identifier_of ls) → length t.chain ≤ w.depth → v ≡ w → IfOk r (IsJudgedAt v t.locator ms t.object) → IfOk r (λ j. IsJudged w t j.yes j.points)
 all_judged w v t ls ms (Ok j) e are once short ve h =
     judged_all w t ls are.places are.at once short j (subst (λ (xs : List Link). IsJudgedAt w t.locator xs t.object j) (sym e) (subst (λ (x : World). IsJudgedAt x t.locator ms t.object j) ve h))
 all_judged w v t ls ms (Err x) e are once short ve h = h

@@ -1,15 +1,15 @@
--- A trace has one number of points that are read.
+-- A witness has one number of points that are read.
 use Rattle.std.proofs.Common.{◌≡◌, ℕ, ◌+◌, ◌⊎◌, List, [], ◌∷◌, ◌++◌, inl, inr, sym, ap, subst, ◌∙◌}
 use Rattle.rpki_rules.specs.Objects.{Object}
 use Rattle.rpki_rules.specs.Kinds.{Kind}
 use Rattle.rpki_rules.specs.World.{World}
-use Rattle.rpki_rules.specs.Points.{Link, Point, IsPoint}
+use Rattle.rpki_rules.specs.Points.{Link, Point}
 use Rattle.rpki_rules.specs.Chains.{last_of}
-use Rattle.rpki_rules.specs.Attests.{Payload, Trace, IsSigned}
+use Rattle.rpki_rules.specs.Attests.{Payload, IsSigned}
 use Rattle.rpki_rules.specs.Judge.{KeepsNeed, NeedAt, Needs}
 use Rattle.rpki_rules.proofs.Readings.{one_point, one_signed}
 use Rattle.rpki_walk.specs.Evidence.{IsBelow}
-use Rattle.rpki_walk.specs.Counted.{NoneIsKept, ReadsAbove, ReadsFrom, HasChain, ReadsPoints, OneCount}
+use Rattle.rpki_walk.specs.Counted.{NoneIsKept, ReadsAbove, ReadsFrom, OneCount}
 use Rattle.rpki_walk.proofs.Links.{one_way, same_ends, places_are}
 
 -- Above the last certificate.

@@ -6,11 +6,11 @@ use Rattle.rpki_rules.specs.declared.cause.Cause.{Cause}
 use Rattle.rpki_rules.specs.Words.{Mem}
 use Rattle.rpki_rules.specs.Kinds.{Kind, of_kind, InSet}
 use Rattle.rpki_rules.specs.World.{World}
-use Rattle.rpki_rules.specs.Attests.{Payload, Trace}
+use Rattle.rpki_rules.specs.Attests.{Payload, WitnessValue}
 use Rattle.rpki_rules.specs.Reach.{NamesOne, IsReached, SomeLocatorNames, IsReach, Held}
 use Rattle.rpki_rules.proofs.Orders.{mem_append}
-use Rattle.rpki_rules.specs.Views.{Way}
-use Rattle.rpki_walk.specs.Facts.{Refuses, Shows, Originates, Provides, Reaches, Chains, ShownBy, ReachedBy, Gains, IsTold}
+use Rattle.rpki_rules.specs.Views.{PathValue}
+use Rattle.rpki_walk.specs.Facts.{Refuses, Shows, Originates, Provides, Reaches, Chains, ShownBy, ReachedBy, Gains, IsFinding}
 use Rattle.rpki_walk.specs.Gathered.{InSome, AreUnionOf, has_gathered, IsReaches}
 use Rattle.rpki_walk.specs.declared.reach.gather.Gatherer.{Gatherer}
 use Rattle.rpki_walk.proofs.Sets.{runs_same}
@@ -23,7 +23,7 @@ refuse_gains g name why (Provides s) t = absurd t
 refuse_gains g name why (Reaches k n) t = (λ m. inl m, λ m. elim m [ inl a ↦ a | inr e ↦ absurd (let p = e in cc) ])
 refuse_gains g name why (Chains v) t = absurd t
 
-pub show_gains : (g : Gatherer) (t : Trace) (x : Payload) → Gains IsReaches (has_gathered g) (ShownBy t x) (has_gathered g)
+pub show_gains : (g : Gatherer) (t : WitnessValue) (x : Payload) → Gains IsReaches (has_gathered g) (ShownBy t x) (has_gathered g)
 show_gains g t x (Refuses n y) q = absurd q
 show_gains g t x (Shows s) q = absurd q
 show_gains g t x (Originates s) q = absurd q
@@ -32,13 +32,13 @@ show_gains g t x (Reaches k n) q = (λ m. inl m, λ m. elim m [ inl a ↦ a | in
 show_gains g t x (Chains v) q = absurd q
 
 -- An authority that names none, and one that names one.
-pub none_gains : (g : Gatherer) (uris : List (List ℕ)) (w : World) (sets : Resources) (way : Way) (ca : Cert) → ¬ (NamesOne uris w ca) → Gains IsReaches (has_gathered g) (ReachedBy uris w (InSet sets) way ca) (has_gathered g)
-none_gains g uris w sets way ca lacks (Refuses n y) q = absurd q
-none_gains g uris w sets way ca lacks (Shows s) q = absurd q
-none_gains g uris w sets way ca lacks (Originates s) q = absurd q
-none_gains g uris w sets way ca lacks (Provides s) q = absurd q
-none_gains g uris w sets way ca lacks (Reaches k n) q = (λ m. inl m, λ m. elim m [ inl a ↦ a | inr e ↦ absurd (lacks e.0) ])
-none_gains g uris w sets way ca lacks (Chains v) q = absurd q
+pub none_gains : (g : Gatherer) (uris : List (List ℕ)) (w : World) (sets : Resources) (path : PathValue) (ca : Cert) → ¬ (NamesOne uris w ca) → Gains IsReaches (has_gathered g) (ReachedBy uris w (InSet sets) path ca) (has_gathered g)
+none_gains g uris w sets path ca lacks (Refuses n y) q = absurd q
+none_gains g uris w sets path ca lacks (Shows s) q = absurd q
+none_gains g uris w sets path ca lacks (Originates s) q = absurd q
+none_gains g uris w sets path ca lacks (Provides s) q = absurd q
+none_gains g uris w sets path ca lacks (Reaches k n) q = (λ m. inl m, λ m. elim m [ inl a ↦ a | inr e ↦ absurd (lacks e.0) ])
+none_gains g uris w sets path ca lacks (Chains v) q = absurd q
 
 some_more : (old new : List Resources) (s sets : Resources) → new ≡ old ++ s ∷ [] → s ≡ sets → (k : Kind) (n : ℕ) → InSome new k n ↔ (InSome old k n ⊎ InSet sets k n)
 some_more old new s sets e f k n = (
@@ -52,19 +52,19 @@ some_more old new s sets e f k n = (
   ],
 )
 
-pub one_gains : (f g : Gatherer) (uris : List (List ℕ)) (w : World) (s sets : Resources) (way : Way) (ca : Cert) → NamesOne uris w ca → g.sets.items ≡ f.sets.items ++ s ∷ [] → s ≡ sets → Gains IsReaches (has_gathered f) (ReachedBy uris w (InSet sets) way ca) (has_gathered g)
-one_gains f g uris w s sets way ca names e h (Refuses n y) q = absurd q
-one_gains f g uris w s sets way ca names e h (Shows t) q = absurd q
-one_gains f g uris w s sets way ca names e h (Originates t) q = absurd q
-one_gains f g uris w s sets way ca names e h (Provides t) q = absurd q
-one_gains f g uris w s sets way ca names e h (Reaches k n) q = let m = some_more f.sets.items g.sets.items s sets e h k n in (
+pub one_gains : (f g : Gatherer) (uris : List (List ℕ)) (w : World) (s sets : Resources) (path : PathValue) (ca : Cert) → NamesOne uris w ca → g.sets.items ≡ f.sets.items ++ s ∷ [] → s ≡ sets → Gains IsReaches (has_gathered f) (ReachedBy uris w (InSet sets) path ca) (has_gathered g)
+one_gains f g uris w s sets path ca names e h (Refuses n y) q = absurd q
+one_gains f g uris w s sets path ca names e h (Shows t) q = absurd q
+one_gains f g uris w s sets path ca names e h (Originates t) q = absurd q
+one_gains f g uris w s sets path ca names e h (Provides t) q = absurd q
+one_gains f g uris w s sets path ca names e h (Reaches k n) q = let m = some_more f.sets.items g.sets.items s sets e h k n in (
   λ a. elim (m.0 a) [ inl b ↦ inl b | inr b ↦ inr (names, b) ],
   λ a. m.1 (elim a [ inl b ↦ inl b | inr b ↦ inr b.1 ]),
 )
-one_gains f g uris w s sets way ca names e h (Chains v) q = absurd q
+one_gains f g uris w s sets path ca names e h (Chains v) q = absurd q
 
 -- What a walk tells as reached is what is reached.
-told_reached : (uris : List (List ℕ)) (w : World) (k : Kind) (n : ℕ) → IsTold uris w (Reaches k n) ↔ IsReached uris w k n
+told_reached : (uris : List (List ℕ)) (w : World) (k : Kind) (n : ℕ) → IsFinding uris w (Reaches k n) ↔ IsReached uris w k n
 told_reached uris w k n = (
   λ t. elim t [
     | inl a ↦ absurd (let p = a.1 in cc)
@@ -83,7 +83,7 @@ told_reached uris w k n = (
 )
 
 pub held_is : (uris : List (List ℕ)) (w : World) (old new : List Resources) (r : Resources) → ¬ (SomeLocatorNames uris w) → old ≡ []
-    → ((k : Kind) (n : ℕ) → InSome new k n ↔ (InSome old k n ⊎ IsTold uris w (Reaches k n))) → AreUnionOf new r → IsReach uris w (Held r)
+    → ((k : Kind) (n : ℕ) → InSome new k n ↔ (InSome old k n ⊎ IsFinding uris w (Reaches k n))) → AreUnionOf new r → IsReach uris w (Held r)
 held_is uris w old new r none e gained union = (
   none,
   λ k. runs_same (of_kind r k) (union k) (λ n. let t = told_reached uris w k n in let h = gained k n in (

@@ -11,12 +11,12 @@ use Rattle.rpki_rules.specs.Kinds.{Kind, InSet}
 use Rattle.rpki_rules.specs.World.{World}
 use Rattle.rpki_rules.specs.Points.{Link, IsFirstHeld, Anchor}
 use Rattle.rpki_rules.specs.Chains.{Holds, IsFront, Accepted}
-use Rattle.rpki_rules.specs.Views.{Way}
+use Rattle.rpki_rules.specs.Views.{PathValue}
 use Rattle.rpki_rules.proofs.Orders.{mem_map}
-use Rattle.rpki_walk.specs.declared.steps.Leads.{Leads}
-use Rattle.rpki_walk.specs.declared.steps.Leads.TheVariants as To
-use Rattle.rpki_walk.specs.Filed.{LeadsTo, HasListed, IsLed}
-use Rattle.rpki_walk.specs.Facts.{Told, Refuses, Tells, Found, Stand, FromLocator, IsTold, Gains, Walks}
+use Rattle.rpki_walk.specs.declared.repository.AnchorLookup.{AnchorLookup}
+use Rattle.rpki_walk.specs.declared.repository.AnchorLookup.TheVariants as To
+use Rattle.rpki_walk.specs.Repository.{LeadsTo, HasListed, IsAnchorLookup}
+use Rattle.rpki_walk.specs.Facts.{Finding, Refuses, Tells, Found, Stand, FromLocator, IsFinding, Gains, Walks}
 use Rattle.rpki_walk.proofs.Mems.{gains_same}
 use Rattle.rpki_rules.proofs.Fronts.{accepted_front}
 
@@ -37,7 +37,7 @@ one_lead w l a b h k =
     let p = o.0 in
     λ i. record { uri = p i; cert = c i }
 
-anchor_of : (w : World) (l : Locator) (a : Link) → Mem w.locators l → LeadsTo w l a → Anchor w l.name a
+pub anchor_of : (w : World) (l : Locator) (a : Link) → Mem w.locators l → LeadsTo w l a → Anchor w l.name a
 anchor_of w l a m h = record { locator = l; in_list = m; named = refl; uris = h.uris; key = h.key; reads = h.reads; octets = h.octets; held = h.held; cert = h.cert; is_anchor = h.is_anchor }
 
 lead_of : (w : World) (name : List ℕ) (a : Link) (h : Anchor w name a) → LeadsTo w h.locator a
@@ -59,7 +59,7 @@ anchor_on_top : (w : World) (name : List ℕ) (a : Link) (cs : List Link) → Ac
 anchor_on_top w name a cs acc = (accepted_front w name a [] cs (front_of_all cs) acc).descends
 
 -- What some locator tells is what is told.
-pub told_is : (uris : List (List ℕ)) (w : World) → NoRepeat (map (λ (l : Locator). l.name) w.locators) → (x : Told) → (⊥ ⊎ ((l : Locator) × Mem w.locators l × FromLocator uris w l x)) ↔ IsTold uris w x
+pub told_is : (uris : List (List ℕ)) (w : World) → NoRepeat (map (λ (l : Locator). l.name) w.locators) → (x : Finding) → (⊥ ⊎ ((l : Locator) × Mem w.locators l × FromLocator uris w l x)) ↔ IsFinding uris w x
 told_is uris w apart x = (
   λ g. elim g [
     | inl n ↦ absurd n
@@ -81,26 +81,26 @@ told_is uris w apart x = (
   ],
 )
 
-module _ (wants : Told → Type 0) (uris : List (List ℕ)) (w : World) (l : Locator) where
+module _ (wants : Finding → Type 0) (uris : List (List ℕ)) (w : World) (l : Locator) where
   -- It is no locator, or leads nowhere.
-  pub gains_tal : (old new : Told → Type 0) → ((us : List (List ℕ)) (key : Key) → ¬ (LocatorText l.text us key)) → Gains wants old (λ x. Refuses l.name cause.Tal ≡ x) new → Gains wants old (FromLocator uris w l) new
+  pub gains_tal : (old new : Finding → Type 0) → ((us : List (List ℕ)) (key : Key) → ¬ (LocatorText l.text us key)) → Gains wants old (λ x. Refuses l.name cause.Tal ≡ x) new → Gains wants old (FromLocator uris w l) new
   gains_tal old new n g = gains_same wants old new (λ x. Refuses l.name cause.Tal ≡ x) (FromLocator uris w l) g (λ x. (
     λ e. inl (e, n),
     λ f. elim f [ inl t ↦ t.0 | inr q ↦ elim q [ inl t ↦ absurd (n t.1 t.2 t.3) | inr t ↦ let h = t.1 in absurd (n h.uris h.key h.reads) ] ],
   ))
 
-  pub gains_nowhere : (old new : Told → Type 0) → (((us : List (List ℕ)) × (key : Key) × LocatorText l.text us key) × ((a : Link) → ¬ (LeadsTo w l a))) → Gains wants old (λ x. Refuses l.name cause.Anchor ≡ x) new → Gains wants old (FromLocator uris w l) new
+  pub gains_nowhere : (old new : Finding → Type 0) → (((us : List (List ℕ)) × (key : Key) × LocatorText l.text us key) × ((a : Link) → ¬ (LeadsTo w l a))) → Gains wants old (λ x. Refuses l.name cause.Anchor ≡ x) new → Gains wants old (FromLocator uris w l) new
   gains_nowhere old new n g = let r = n.0 in gains_same wants old new (λ x. Refuses l.name cause.Anchor ≡ x) (FromLocator uris w l) g (λ x. (
     λ e. inr (inl (e, r.0, r.1, r.2, n.1)),
     λ f. elim f [ inl t ↦ absurd (t.1 r.0 r.1 r.2) | inr q ↦ elim q [ inl t ↦ t.0 | inr t ↦ absurd (n.1 t.0 t.1) ] ],
   ))
 
   -- It leads to an anchor, from which the walk goes on.
-  pub gains_anchor : (uri : List ℕ) (c : Cert) (sets : Resources) → Mem w.locators l → 1 ≤ w.depth → LeadsTo w l (record { uri = uri; cert = c }) → HasListed c sets → (way : Way) (on : List (List ℕ)) → way ≡ record { locator = l.name; chain = uri ∷ [] } → on ≡ c.tbs.subject_key_identifier ∷ [] → (old new : Told → Type 0) → Walks wants uris w way on uri c sets old new → Gains wants old (FromLocator uris w l) new
-  gains_anchor uri c sets m deep h listed way on we oe old new walked =
+  pub gains_anchor : (uri : List ℕ) (c : Cert) (sets : Resources) → Mem w.locators l → 1 ≤ w.depth → LeadsTo w l (record { uri = uri; cert = c }) → HasListed c sets → (path : PathValue) (on : List (List ℕ)) → path ≡ record { locator = l.name; chain = uri ∷ [] } → on ≡ c.tbs.subject_key_identifier ∷ [] → (old new : Finding → Type 0) → Walks wants uris w path on uri c sets old new → Gains wants old (FromLocator uris w l) new
+  gains_anchor uri c sets m deep h listed path on we oe old new walked =
       let a : Link = record { uri = uri; cert = c } in
       let held : (k : Kind) (n : ℕ) → InSet sets k n ↔ Holds a [] k n = λ k n. (listed k).same n in
-      let st : Stand l.name a [] way on uri c sets = record { name_is = ap (λ (v : Way). v.locator) we; way_is = ap (λ (v : Way). v.chain) we; on_is = oe; uri_is = refl; ca_is = refl; holds = held } in
+      let st : Stand l.name a [] path on uri c sets = record { name_is = ap (λ (v : PathValue). v.locator) we; path_is = ap (λ (v : PathValue). v.chain) we; on_is = oe; uri_is = refl; ca_is = refl; holds = held } in
       let acc : Accepted w l.name a [] = record { descends = anchor_of w l a m h; once = ((λ (q : Mem {X = List ℕ} [] c.tbs.subject_key_identifier). absurd q), tt); short = omega arith } in
       gains_same wants old new (Found uris w l.name a []) (FromLocator uris w l) (walked l.name a [] st acc) (λ x. (
         λ f. inr (inr (a, h, f)),
@@ -113,19 +113,19 @@ on_ok (Ok x) f h = f h
 on_ok (Err e) f h = tt
 
 -- What the code reads of a locator, and what the walk gains by it.
-module _ {A : Type 0} (cert : A → Cert) (sets : A → Resources) (wants : Told → Type 0) (uris : List (List ℕ)) (w : World) (l : Locator) (o : Leads A) (led : IsLed cert sets w l o) where
-  led_at : (p : Leads A) → o ≡ p → IsLed cert sets w l p
-  led_at p e = subst (λ (q : Leads A). IsLed cert sets w l q) e led
+module _ {A : Type 0} (cert : A → Cert) (sets : A → Resources) (wants : Finding → Type 0) (uris : List (List ℕ)) (w : World) (l : Locator) (o : AnchorLookup A) (led : IsAnchorLookup cert sets w l o) where
+  led_at : (p : AnchorLookup A) → o ≡ p → IsAnchorLookup cert sets w l p
+  led_at p e = subst (λ (q : AnchorLookup A). IsAnchorLookup cert sets w l q) e led
 
-  pub arm_tal : o ≡ To.Unreadable → (name : List ℕ) → name ≡ l.name → (old new : Told → Type 0) → Gains wants old (λ x. Refuses name cause.Tal ≡ x) new → Gains wants old (FromLocator uris w l) new
+  pub arm_tal : o ≡ To.Unreadable → (name : List ℕ) → name ≡ l.name → (old new : Finding → Type 0) → Gains wants old (λ x. Refuses name cause.Tal ≡ x) new → Gains wants old (FromLocator uris w l) new
   arm_tal e name n old new g = gains_tal wants uris w l old new (led_at To.Unreadable e) (subst (λ (m : List ℕ). Gains wants old (λ x. Refuses m cause.Tal ≡ x) new) n g)
 
-  pub arm_nowhere : o ≡ To.Nowhere → (name : List ℕ) → name ≡ l.name → (old new : Told → Type 0) → Gains wants old (λ x. Refuses name cause.Anchor ≡ x) new → Gains wants old (FromLocator uris w l) new
+  pub arm_nowhere : o ≡ To.Nowhere → (name : List ℕ) → name ≡ l.name → (old new : Finding → Type 0) → Gains wants old (λ x. Refuses name cause.Anchor ≡ x) new → Gains wants old (FromLocator uris w l) new
   arm_nowhere e name n old new g = gains_nowhere wants uris w l old new (led_at To.Nowhere e) (subst (λ (m : List ℕ). Gains wants old (λ x. Refuses m cause.Anchor ≡ x) new) n g)
 
-  pub arm_anchor : (uri : List ℕ) (c : A) → o ≡ To.Anchor uri c → Mem w.locators l → 1 ≤ w.depth → (name : List ℕ) → name ≡ l.name → (v : World) → v ≡ w → (old new : Told → Type 0) → Walks wants uris v (record { locator = name; chain = uri ∷ [] }) ((cert c).tbs.subject_key_identifier ∷ []) uri (cert c) (sets c) old new → Gains wants old (FromLocator uris w l) new
+  pub arm_anchor : (uri : List ℕ) (c : A) → o ≡ To.Anchor uri c → Mem w.locators l → 1 ≤ w.depth → (name : List ℕ) → name ≡ l.name → (v : World) → v ≡ w → (old new : Finding → Type 0) → Walks wants uris v (record { locator = name; chain = uri ∷ [] }) ((cert c).tbs.subject_key_identifier ∷ []) uri (cert c) (sets c) old new → Gains wants old (FromLocator uris w l) new
   arm_anchor uri c e m deep name n v ev old new walked =
       let q = led_at (To.Anchor uri c) e in
-      let way : Way = record { locator = name; chain = uri ∷ [] } in
+      let path : PathValue = record { locator = name; chain = uri ∷ [] } in
       let on = (cert c).tbs.subject_key_identifier ∷ [] in
-      gains_anchor wants uris w l uri (cert c) (sets c) m deep q.0 q.1 way on (λ i. record { locator = n i; chain = uri ∷ [] }) refl old new (subst (λ (z : World). Walks wants uris z way on uri (cert c) (sets c) old new) ev walked)
+      gains_anchor wants uris w l uri (cert c) (sets c) m deep q.0 q.1 path on (λ i. record { locator = n i; chain = uri ∷ [] }) refl old new (subst (λ (z : World). Walks wants uris z path on uri (cert c) (sets c) old new) ev walked)

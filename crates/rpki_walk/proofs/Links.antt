@@ -7,7 +7,7 @@ use Rattle.rpki_rules.specs.Kinds.{Kind}
 use Rattle.rpki_rules.specs.World.{World}
 use Rattle.rpki_rules.specs.Points.{Link}
 use Rattle.rpki_rules.specs.Chains.{places, keys, CertAt}
-use Rattle.rpki_rules.specs.Attests.{Trace, Payload, IsWitness}
+use Rattle.rpki_rules.specs.Attests.{WitnessValue, Payload, IsWitness}
 use Rattle.rpki_rules.specs.Judge.{NeedAt, Needs, Climbs, Climbed, IsJudged}
 use Rattle.rpki_rules.specs.Certs.{Cert}
 use Rattle.rpki_rules.specs.Locators.{https_first}
@@ -85,7 +85,7 @@ at_place w (l ∷ ls) h uri m = elim ((mem_append (places_of ls) (l.uri ∷ []) 
     at_one (inl e) = subst (λ (u : List ℕ). CertAt w u l.cert) e h.0
     at_one (inr k) = absurd k
 
-module _ (w : World) (t : Trace) where
+module _ (w : World) (t : WitnessValue) where
   -- No, where a witness can't be so.
   pub judged_no : (points : ℕ) → points ≡ 0 → ((x : Payload) → Climbed w t x → ⊥) → IsJudged w t false points
   judged_no points z none = record {
@@ -185,7 +185,7 @@ module _ (w : World) (chain : List (List ℕ)) where
         short = omega (arith, l, short, length-append cs (a ∷ []));
       }
 
-pub reads_all : (w : World) (t : Trace) (ls : List Link) → places_of ls ≡ t.chain → AreAt w ls → NoRepeat (map identifier_of ls) → length t.chain ≤ w.depth → (j : Judgement) → IsJudgedAt w t.locator ls t.object j → ReadsPoints w t j.points
+pub reads_all : (w : World) (t : WitnessValue) (ls : List Link) → places_of ls ≡ t.chain → AreAt w ls → NoRepeat (map identifier_of ls) → length t.chain ≤ w.depth → (j : Judgement) → IsJudgedAt w t.locator ls t.object j → ReadsPoints w t j.points
 reads_all w t [] e at once short j h =
     let b : j.points ≤ 0 = h.bounded in
     let z : j.points ≡ 0 = omega (arith, b) in

@@ -10,7 +10,7 @@ use Rattle.rpki_rules.specs.Words.{Mem}
 use Rattle.rpki_rules.specs.World.{World}
 use Rattle.rpki_rules.specs.Reach.{IsOneOf, NamesOne, SomeLocatorNames}
 use Rattle.rpki_rules.proofs.Orders.{mem_map}
-use Rattle.rpki_walk.specs.Filed.{locator_at}
+use Rattle.rpki_walk.specs.Repository.{locator_at}
 use Rattle.rpki_walk.proofs.Mems.{mem_get_or}
 use Rattle.rpki_walk.specs.Naming.{AreLocatorKeys, AreNamed, names_key, names_any, NamesOneOf, LocatorNames}
 

@@ -6,12 +6,12 @@ use Rattle.rpki_rules.specs.Words.{Mem}
 use Rattle.rpki_rules.specs.World.{World}
 use Rattle.rpki_rules.specs.Points.{Link, Point, files}
 use Rattle.rpki_rules.specs.Chains.{last_of, places, keys, Holds, Stands, Accepted}
-use Rattle.rpki_rules.specs.Attests.{Origin, Provision, Payload, origins, provisions, Trace, Good, IsGood, IsWitness, AttestsOrigin, AttestsProvision}
+use Rattle.rpki_rules.specs.Attests.{Origin, Provision, Payload, origins, provisions, WitnessValue, Good, IsGood, IsWitness, AttestsOrigin, AttestsProvision}
 use Rattle.rpki_rules.specs.Refused.{LocatorRefused, AnchorRefused, IsFileRefused, ChainRefuses, IsRefused}
 use Rattle.rpki_rules.specs.Lines.{Customer, Refusal}
 use Rattle.rpki_rules.specs.Output.{AreCustomers, IsCustomer}
 use Rattle.rpki_rules.specs.Report.{ReportValue, IsReportOf, IsReport, AreCustomersOf, IsCustomerOf}
-use Rattle.rpki_rules.specs.Views.{origin_of, provision_of, refusal_of, trace_of}
+use Rattle.rpki_rules.specs.Views.{origin_of, provision_of, refusal_of, witness_of}
 use Rattle.rpki_rules.proofs.Orders.{mem_append, each_at, each_of}
 use Rattle.rpki_rules.proofs.Groups.{map_push, customers_to}
 use Rattle.rpki_rules.specs.declared.refusal.Refusal.{Refusal as CodeRefusal}
@@ -19,7 +19,7 @@ use Rattle.rpki_rules.specs.declared.witness.Witness.{Witness as CodeWitness}
 use Rattle.rpki_rules.specs.declared.origin.Origin.{Origin as CodeOrigin}
 use Rattle.rpki_rules.specs.declared.customer.Provision.{Provision as CodeProvision}
 use Rattle.rpki_walk.specs.declared.whole.Findings.{Findings}
-use Rattle.rpki_walk.specs.Facts.{Told, Refuses, Shows, Originates, Provides, Reaches, Chains, ShownBy, IsTold, Gains}
+use Rattle.rpki_walk.specs.Facts.{Finding, Refuses, Shows, Originates, Provides, Reaches, Chains, ShownBy, IsFinding, Gains}
 use Rattle.rpki_walk.specs.Lines.{has_found, IsLine}
 use Rattle.rpki_rules.proofs.Fronts.{keys_count}
 use Rattle.rpki_walk.proofs.Mems.{mem_push}
@@ -29,16 +29,16 @@ good_of : (w : World) (name : List ℕ) (a : Link) (cs : List Link) → Accepted
 good_of w name a cs acc p s uri x g = record { anchor = a; below = cs; places_are = refl; accepted = acc; point = p; stands = s; good = g }
 
 -- What a good object tells, its chain tells.
-told_by : (w : World) (t : Trace) (x : Payload) (g : Good w t x) (y : Told) → ShownBy t x y → IsTold [] w y
+told_by : (w : World) (t : WitnessValue) (x : Payload) (g : Good w t x) (y : Finding) → ShownBy t x y → IsFinding [] w y
 told_by w t x g y s =
     let e : t ≡ record { locator = t.locator; chain = places g.anchor g.below; object = t.object } = λ i. record { locator = t.locator; chain = g.places_are i; object = t.object } in
-    inr (inr (t.locator, g.anchor, g.below, g.accepted, inr (inr (g.point, g.stands, t.object, g.good.is_signed.listed, inr (x, g.good, subst (λ (u : Trace). ShownBy u x y) e s)))))
+    inr (inr (t.locator, g.anchor, g.below, g.accepted, inr (inr (g.point, g.stands, t.object, g.good.is_signed.listed, inr (x, g.good, subst (λ (u : WitnessValue). ShownBy u x y) e s)))))
 
 module _ (w : World) where
-  told_origin : (o : Origin) → IsTold [] w (Originates o) ↔ AttestsOrigin w o
-  told_origin o = (to, λ h. told_by w h.trace h.payload h.good (Originates o) h.one)
+  pub told_origin : (o : Origin) → IsFinding [] w (Originates o) ↔ AttestsOrigin w o
+  told_origin o = (to, λ h. told_by w h.witness h.payload h.good (Originates o) h.one)
     where
-      to : IsTold [] w (Originates o) → AttestsOrigin w o
+      to : IsFinding [] w (Originates o) → AttestsOrigin w o
       to (inl t) = absurd (let e = t.1 in cc)
       to (inr (inl t)) = absurd (let e = t.1 in cc)
       to (inr (inr t)) = elim t.4 [
@@ -47,15 +47,15 @@ module _ (w : World) where
           | inl n ↦ absurd (let e = n.0 in cc)
           | inr q ↦ elim q.4 [
             | inl r ↦ absurd r
-            | inr y ↦ record { trace = record { locator = t.0; chain = places t.1 t.2; object = q.2 }; payload = y.0; good = good_of w t.0 t.1 t.2 t.3 q.0 q.1 q.2 y.0 y.1; one = y.2 }
+            | inr y ↦ record { witness = record { locator = t.0; chain = places t.1 t.2; object = q.2 }; payload = y.0; good = good_of w t.0 t.1 t.2 t.3 q.0 q.1 q.2 y.0 y.1; one = y.2 }
           ]
         ]
       ]
 
-  told_provision : (o : Provision) → IsTold [] w (Provides o) ↔ AttestsProvision w o
-  told_provision o = (to, λ h. told_by w h.trace h.payload h.good (Provides o) h.one)
+  pub told_provision : (o : Provision) → IsFinding [] w (Provides o) ↔ AttestsProvision w o
+  told_provision o = (to, λ h. told_by w h.witness h.payload h.good (Provides o) h.one)
     where
-      to : IsTold [] w (Provides o) → AttestsProvision w o
+      to : IsFinding [] w (Provides o) → AttestsProvision w o
       to (inl t) = absurd (let e = t.1 in cc)
       to (inr (inl t)) = absurd (let e = t.1 in cc)
       to (inr (inr t)) = elim t.4 [
@@ -64,15 +64,15 @@ module _ (w : World) where
           | inl n ↦ absurd (let e = n.0 in cc)
           | inr q ↦ elim q.4 [
             | inl r ↦ absurd r
-            | inr y ↦ record { trace = record { locator = t.0; chain = places t.1 t.2; object = q.2 }; payload = y.0; good = good_of w t.0 t.1 t.2 t.3 q.0 q.1 q.2 y.0 y.1; one = y.2 }
+            | inr y ↦ record { witness = record { locator = t.0; chain = places t.1 t.2; object = q.2 }; payload = y.0; good = good_of w t.0 t.1 t.2 t.3 q.0 q.1 q.2 y.0 y.1; one = y.2 }
           ]
         ]
       ]
 
-  told_trace : (s : Trace) → IsTold [] w (Shows s) ↔ IsWitness w s
+  told_trace : (s : WitnessValue) → IsFinding [] w (Shows s) ↔ IsWitness w s
   told_trace s = (to, λ h. told_by w s h.0 h.1 (Shows s) refl)
     where
-      to : IsTold [] w (Shows s) → IsWitness w s
+      to : IsFinding [] w (Shows s) → IsWitness w s
       to (inl t) = absurd (let e = t.1 in cc)
       to (inr (inl t)) = absurd (let e = t.1 in cc)
       to (inr (inr t)) = elim t.4 [
@@ -81,15 +81,15 @@ module _ (w : World) where
           | inl n ↦ absurd (let e = n.0 in cc)
           | inr q ↦ elim q.4 [
             | inl r ↦ absurd r
-            | inr y ↦ subst (λ (v : Trace). IsWitness w v) y.2 (y.0, good_of w t.0 t.1 t.2 t.3 q.0 q.1 q.2 y.0 y.1)
+            | inr y ↦ subst (λ (v : WitnessValue). IsWitness w v) y.2 (y.0, good_of w t.0 t.1 t.2 t.3 q.0 q.1 q.2 y.0 y.1)
           ]
         ]
       ]
 
-  told_refusal : (name : List ℕ) (why : Cause) → IsTold [] w (Refuses name why) ↔ IsRefused w name why
+  pub told_refusal : (name : List ℕ) (why : Cause) → IsFinding [] w (Refuses name why) ↔ IsRefused w name why
   told_refusal name why = (to, from)
     where
-      to : IsTold [] w (Refuses name why) → IsRefused w name why
+      to : IsFinding [] w (Refuses name why) → IsRefused w name why
       to (inl t) = let e = t.1 in let n : t.0 ≡ name = cc in let y : cause.Tal ≡ why = cc in inl (sym y, subst (λ (m : List ℕ). LocatorRefused w m) n t.2)
       to (inr (inl t)) = let e = t.1 in let n : t.0 ≡ name = cc in let y : cause.Anchor ≡ why = cc in inr (inl (sym y, subst (λ (m : List ℕ). AnchorRefused w m) n t.2))
       to (inr (inr t)) = elim t.4 [
@@ -114,7 +114,7 @@ module _ (w : World) where
         ]
       ]
 
-      from_chain : (l : List ℕ) (a : Link) (cs : List Link) → ChainRefuses w l a cs name why → IsTold [] w (Refuses name why)
+      from_chain : (l : List ℕ) (a : Link) (cs : List Link) → ChainRefuses w l a cs name why → IsFinding [] w (Refuses name why)
       from_chain l a cs (inl h) = let r = h.1 in
           let e : Refuses (last_of a cs).uri cause.Point ≡ Refuses name why = λ i. Refuses (r.place i) (sym h.0 i) in
           inr (inr (l, a, cs, r.accepted, inr (inl (e, r.none))))
@@ -122,13 +122,13 @@ module _ (w : World) where
           let f = subst (λ (n : ℕ). IsFileRefused w (Holds a cs) (keys a cs) n (last_of a cs).cert r.point name why) (sym (keys_count a cs)) r.refused in
           inr (inr (l, a, cs, r.accepted, inr (inr (r.point, r.stands, name, r.listed, inl (refl, f)))))
 
-      from : IsRefused w name why → IsTold [] w (Refuses name why)
+      from : IsRefused w name why → IsFinding [] w (Refuses name why)
       from (inl h) = inl (name, ap (λ (y : Cause). Refuses name y) (sym h.0), h.1)
       from (inr (inl h)) = inr (inl (name, ap (λ (y : Cause). Refuses name y) (sym h.0), h.1))
       from (inr (inr h)) = from_chain h.0 h.1 h.2 h.3
 
   -- Customers by what is attested.
-  customers_of : (cs : List Customer) → AreCustomersOf (AttestsProvision w) cs → AreCustomers w cs
+  pub customers_of : (cs : List Customer) → AreCustomersOf (AttestsProvision w) cs → AreCustomers w cs
   customers_of cs h = record {
     ascending = h.ascending;
     each = each_of (IsCustomer w) cs (λ c m. let k = each_at (IsCustomerOf (AttestsProvision w)) cs c h.each m in record { ascending = k.ascending; some = k.some; exact = k.exact });
@@ -139,12 +139,12 @@ module _ (w : World) where
   none {X = X} v xs y e m = subst (λ (zs : List X). Mem (map v zs) y) e m
 
   -- From nothing, all that is told.
-  pub report_is : (f g : Findings) → f.origins.items ≡ [] → f.provisions.items ≡ [] → f.refusals.items ≡ [] → f.witnesses.items ≡ [] → Gains IsLine (has_found f) (IsTold [] w) (has_found g) → (r : ReportValue) → IsReportOf (map origin_of g.origins.items) (map provision_of g.provisions.items) (map refusal_of g.refusals.items) (map trace_of g.witnesses.items) r → IsReport w r
+  pub report_is : (f g : Findings) → f.origins.items ≡ [] → f.provisions.items ≡ [] → f.refusals.items ≡ [] → f.witnesses.items ≡ [] → Gains IsLine (has_found f) (IsFinding [] w) (has_found g) → (r : ReportValue) → IsReportOf (map origin_of g.origins.items) (map provision_of g.provisions.items) (map refusal_of g.refusals.items) (map witness_of g.witnesses.items) r → IsReport w r
   report_is f g eo ep er ew gained r h =
-      let at : (x : Told) → IsLine x → ¬ (has_found f x) → has_found g x ↔ IsTold [] w x = λ x l n. let k = gained x l in (λ m. elim (k.0 m) [ inl o ↦ absurd (n o) | inr t ↦ t ], λ t. k.1 (inr t)) in
+      let at : (x : Finding) → IsLine x → ¬ (has_found f x) → has_found g x ↔ IsFinding [] w x = λ x l n. let k = gained x l in (λ m. elim (k.0 m) [ inl o ↦ absurd (n o) | inr t ↦ t ], λ t. k.1 (inr t)) in
       let os : (o : Origin) → Mem (map origin_of g.origins.items) o ↔ AttestsOrigin w o = λ o. let a = at (Originates o) tt (none origin_of f.origins.items o eo) in let b = told_origin o in (λ m. b.0 (a.0 m), λ m. a.1 (b.1 m)) in
       let ps : (o : Provision) → Mem (map provision_of g.provisions.items) o ↔ AttestsProvision w o = λ o. let a = at (Provides o) tt (none provision_of f.provisions.items o ep) in let b = told_provision o in (λ m. b.0 (a.0 m), λ m. a.1 (b.1 m)) in
-      let ts : (t : Trace) → Mem (map trace_of g.witnesses.items) t ↔ IsWitness w t = λ t. let a = at (Shows t) tt (none trace_of f.witnesses.items t ew) in let b = told_trace t in (λ m. b.0 (a.0 m), λ m. a.1 (b.1 m)) in
+      let ts : (t : WitnessValue) → Mem (map witness_of g.witnesses.items) t ↔ IsWitness w t = λ t. let a = at (Shows t) tt (none witness_of f.witnesses.items t ew) in let b = told_trace t in (λ m. b.0 (a.0 m), λ m. a.1 (b.1 m)) in
       let rs : (x : Refusal) → Mem (map refusal_of g.refusals.items) x ↔ IsRefused w x.name x.cause = λ x. let a = at (Refuses x.name x.cause) tt (none refusal_of f.refusals.items x er) in let b = told_refusal x.name x.cause in (λ m. b.0 (a.0 m), λ m. a.1 (b.1 m)) in
       record {
         origins_are = record { ascend = h.origins_are.ascend; exact = λ o. (λ m. (os o).0 ((h.origins_are.exact o).0 m), λ m. (h.origins_are.exact o).1 ((os o).1 m)) };
@@ -165,16 +165,16 @@ refuse_gains f g name why r er eo ep ew e (Refuses n y) t = let h = mapped_push 
   λ m. elim (h.0 m) [ inl a ↦ inl a | inr q ↦ let k : record { name = name; cause = why } ≡ refusal_of r = sym er in let p = k ∙ q in inr (λ i. Refuses (p i).name (p i).cause) ],
   λ m. h.1 (elim m [ inl a ↦ inl a | inr q ↦ let a : name ≡ n = cc in let b : why ≡ y = cc in inr (er ∙ λ i. record { name = a i; cause = b i }) ]),
 )
-refuse_gains f g name why r er eo ep ew e (Shows s) t = (λ m. inl (subst (λ (v : Vec CodeWitness Global). Mem (map trace_of v.items) s) ew m), λ m. elim m [ inl a ↦ subst (λ (v : Vec CodeWitness Global). Mem (map trace_of v.items) s) (sym ew) a | inr q ↦ absurd (let p = q in cc) ])
+refuse_gains f g name why r er eo ep ew e (Shows s) t = (λ m. inl (subst (λ (v : Vec CodeWitness Global). Mem (map witness_of v.items) s) ew m), λ m. elim m [ inl a ↦ subst (λ (v : Vec CodeWitness Global). Mem (map witness_of v.items) s) (sym ew) a | inr q ↦ absurd (let p = q in cc) ])
 refuse_gains f g name why r er eo ep ew e (Originates s) t = (λ m. inl (subst (λ (v : Vec CodeOrigin Global). Mem (map origin_of v.items) s) eo m), λ m. elim m [ inl a ↦ subst (λ (v : Vec CodeOrigin Global). Mem (map origin_of v.items) s) (sym eo) a | inr q ↦ absurd (let p = q in cc) ])
 refuse_gains f g name why r er eo ep ew e (Provides s) t = (λ m. inl (subst (λ (v : Vec CodeProvision Global). Mem (map provision_of v.items) s) ep m), λ m. elim m [ inl a ↦ subst (λ (v : Vec CodeProvision Global). Mem (map provision_of v.items) s) (sym ep) a | inr q ↦ absurd (let p = q in cc) ])
 refuse_gains f g name why r er eo ep ew e (Reaches k n) t = absurd t
 refuse_gains f g name why r er eo ep ew e (Chains v) t = absurd t
 
 -- One good object more.
-pub show_gains : (f g : Findings) (t : Trace) (x : Payload) (z : CodeWitness) → trace_of z ≡ t → g.refusals ≡ f.refusals → map origin_of g.origins.items ≡ map origin_of f.origins.items ++ origins x → map provision_of g.provisions.items ≡ map provision_of f.provisions.items ++ provisions x → g.witnesses.items ≡ f.witnesses.items ++ z ∷ [] → Gains IsLine (has_found f) (ShownBy t x) (has_found g)
+pub show_gains : (f g : Findings) (t : WitnessValue) (x : Payload) (z : CodeWitness) → witness_of z ≡ t → g.refusals ≡ f.refusals → map origin_of g.origins.items ≡ map origin_of f.origins.items ++ origins x → map provision_of g.provisions.items ≡ map provision_of f.provisions.items ++ provisions x → g.witnesses.items ≡ f.witnesses.items ++ z ∷ [] → Gains IsLine (has_found f) (ShownBy t x) (has_found g)
 show_gains f g t x z et er eo ep ew (Refuses n y) k = (λ m. inl (subst (λ (v : Vec CodeRefusal Global). Mem (map refusal_of v.items) (record { name = n; cause = y })) er m), λ m. elim m [ inl a ↦ subst (λ (v : Vec CodeRefusal Global). Mem (map refusal_of v.items) (record { name = n; cause = y })) (sym er) a | inr q ↦ absurd q ])
-show_gains f g t x z et er eo ep ew (Shows s) k = let h = mapped_push trace_of f.witnesses.items g.witnesses.items z ew s in (
+show_gains f g t x z et er eo ep ew (Shows s) k = let h = mapped_push witness_of f.witnesses.items g.witnesses.items z ew s in (
   λ m. elim (h.0 m) [ inl a ↦ inl a | inr q ↦ inr (sym et ∙ q) ],
   λ m. h.1 (elim m [ inl a ↦ inl a | inr q ↦ inr (et ∙ q) ]),
 )

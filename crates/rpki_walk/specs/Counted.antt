@@ -1,4 +1,4 @@
--- How many publication points are read of one trace, from its object's up to the first refusal.
+-- How many publication points are read of one witness, from its object's up to the first refusal.
 use Rattle.std.specs.Prelude.{◌≡◌, ℕ, ◌+◌, ◌*◌, ◌<◌, ◌⊎◌, List, [], ◌∷◌, ◌++◌, length}
 use Rattle.rpki_rules.specs.Certs.{Cert}
 use Rattle.rpki_rules.specs.Objects.{Object}
@@ -7,7 +7,7 @@ use Rattle.rpki_rules.specs.Kinds.{Kind}
 use Rattle.rpki_rules.specs.World.{World}
 use Rattle.rpki_rules.specs.Points.{Link, Point, IsPoint}
 use Rattle.rpki_rules.specs.Chains.{last_of, places, keys, CertAt}
-use Rattle.rpki_rules.specs.Attests.{Payload, Trace, IsSigned}
+use Rattle.rpki_rules.specs.Attests.{Payload, WitnessValue, IsSigned}
 use Rattle.rpki_rules.specs.Judge.{KeepsNeed, NeedAt, Needs}
 use Rattle.rpki_walk.specs.Evidence.{IsBelow}
 
@@ -48,8 +48,8 @@ pub record HasChain (w : World) (chain : List (List ℕ)) (a : Link) (cs : List 
   pub once : NoRepeat (keys a cs)
   pub short : length cs < w.depth
 
--- Of a trace so many points are read: none where its chain has no such certificates.
-abbrev pub ReadsPoints : World → Trace → ℕ → Type 0
+-- Of a witness so many points are read: none where its chain has no such certificates.
+abbrev pub ReadsPoints : World → WitnessValue → ℕ → Type 0
 ReadsPoints w t count =
     ((count ≡ 0) × ((a : Link) (cs : List Link) → ¬ (HasChain w t.chain a cs)))
     ⊎ ((a : Link) × (cs : List Link) × HasChain w t.chain a cs × ReadsFrom w a cs t.object count)
@@ -59,6 +59,6 @@ ReadsPoints w t count =
 abbrev pub may_ask_reading : ℕ → ℕ
 may_ask_reading points = 4 * points + 4
 
--- Of a trace so many points are read, and no other number.
+-- Of a witness so many points are read, and no other number.
 abbrev pub OneCount : Type 0
-OneCount = (w : World) (t : Trace) (m n : ℕ) → ReadsPoints w t m → ReadsPoints w t n → m ≡ n
+OneCount = (w : World) (t : WitnessValue) (m n : ℕ) → ReadsPoints w t m → ReadsPoints w t n → m ≡ n

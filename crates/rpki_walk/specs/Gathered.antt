@@ -4,7 +4,7 @@ use Rattle.rpki_walk.specs.resources_chain.Sets.{IsRunsOf}
 use Rattle.rpki_walk.specs.resources.Resources.{Resources}
 use Rattle.rpki_rules.specs.Words.{Mem}
 use Rattle.rpki_rules.specs.Kinds.{Kind, of_kind, InSet}
-use Rattle.rpki_walk.specs.Facts.{Told, Refuses, Shows, Originates, Provides, Reaches, Chains}
+use Rattle.rpki_walk.specs.Facts.{Finding, Refuses, Shows, Originates, Provides, Reaches, Chains}
 use Rattle.rpki_walk.specs.declared.reach.gather.Gatherer.{Gatherer}
 
 -- The number is in one of the sets.
@@ -16,7 +16,7 @@ abbrev pub AreUnionOf : List Resources → Resources → Type 0
 AreUnionOf sets union = (k : Kind) → IsRunsOf (InSome sets k) (of_kind union k)
 
 -- What was gathered has this.
-abbrev pub has_gathered : Gatherer → Told → Type 0
+abbrev pub has_gathered : Gatherer → Finding → Type 0
 has_gathered g (Refuses name why) = ⊥
 has_gathered g (Shows t) = ⊥
 has_gathered g (Originates o) = ⊥
@@ -25,7 +25,7 @@ has_gathered g (Reaches k n) = InSome g.sets.items k n
 has_gathered g (Chains v) = ⊥
 
 -- What is reached, and nothing else.
-abbrev pub IsReaches : Told → Type 0
+abbrev pub IsReaches : Finding → Type 0
 IsReaches (Refuses name why) = ⊥
 IsReaches (Shows t) = ⊥
 IsReaches (Originates o) = ⊥

@@ -1,11 +1,11 @@
 //! The walk from all locators.
 
 ghost use Rattle.std.specs.Prelude.{◌≡◌, ◌<◌, ◌≤◌, ◌∷◌, [], length, OnOk};
-ghost use Rattle.rpki_walk.specs.Filed.{locator_at};
-ghost use Rattle.rpki_walk.specs.Facts.{FromLocator, IsTold, Gains, Walks};
+ghost use Rattle.rpki_walk.specs.Repository.{locator_at};
+ghost use Rattle.rpki_walk.specs.Facts.{FromLocator, IsFinding, Gains, Walks};
 
 use crate::chains::walk_from;
-use crate::steps::{Leads, Steps};
+use crate::repository::{AnchorLookup, Repository};
 use crate::visitor::Visitor;
 use bytes::Bytes;
 use rpki_rules::{Cause, Path};
@@ -13,66 +13,69 @@ use std::alloc::{AllocError, Global};
 use std::rc::Rc;
 
 // Tells what a trust anchor of the locator of that name tells, and all chains from it on.
-fn walk_anchor<S: Steps, V: Visitor<S>>(
+fn walk_anchor<S: Repository, V: Visitor<S>>(
     alloc: Global,
-    steps: &mut S,
+    repository: &mut S,
     visitor: &mut V,
     name: Bytes,
     uri: &Bytes,
     anchor: &S::Authority,
 ) -> Result<(), AllocError>
-    requires { 1 ≤ (S.world steps.old).depth }
-    ensures facts { OnOk result (Walks V.wants (V.uris visitor.old) (S.world steps.old)
+    requires { 1 ≤ (S.world repository.old).depth }
+    ensures facts { OnOk result (Walks V.wants (V.uris visitor.old) (S.world repository.old)
         (record { locator = name; chain = uri.now ∷ [] })
         ((S.cert anchor.now).tbs.subject_key_identifier ∷ []) uri.now (S.cert anchor.now)
         (S.sets anchor.now) (V.has visitor.old) (V.has visitor.new)) }
     ensures kept { V.uris visitor.new ≡ V.uris visitor.old }
-    ensures same { S.world steps.new ≡ S.world steps.old }
-    ensures lender { S.lender steps.new ≡ S.lender steps.old }
+    ensures same { S.world repository.new ≡ S.world repository.old }
+    ensures lender { S.lender repository.new ≡ S.lender repository.old }
 {
-    let keys = [steps.key_identifier(alloc, anchor)?];
+    let keys = [repository.key_identifier(alloc, anchor)?];
     let path = Rc::new(alloc, Path::new(alloc, name, uri.clone()?)?)?;
-    walk_from(alloc, steps, visitor, &path, &keys, uri, anchor)
+    walk_from(alloc, repository, visitor, &path, &keys, uri, anchor)
 }
 
 // Tells what the locator at that place tells.
-fn walk_locator<S: Steps, V: Visitor<S>>(
+fn walk_locator<S: Repository, V: Visitor<S>>(
     alloc: Global,
-    steps: &mut S,
+    repository: &mut S,
     visitor: &mut V,
     at: usize,
 ) -> Result<(), AllocError>
-    requires within { at < length (S.world steps.old).locators }
-    requires deep { 1 ≤ (S.world steps.old).depth }
+    requires within { at < length (S.world repository.old).locators }
+    requires deep { 1 ≤ (S.world repository.old).depth }
     ensures gained { OnOk result (Gains V.wants (V.has visitor.old)
-        (FromLocator (V.uris visitor.old) (S.world steps.old) (locator_at (S.world steps.old) at))
+        (FromLocator (V.uris visitor.old) (S.world repository.old)
+        (locator_at (S.world repository.old) at))
         (V.has visitor.new)) }
     ensures kept { V.uris visitor.new ≡ V.uris visitor.old }
-    ensures same { S.world steps.new ≡ S.world steps.old }
-    ensures lender { S.lender steps.new ≡ S.lender steps.old }
+    ensures same { S.world repository.new ≡ S.world repository.old }
+    ensures lender { S.lender repository.new ≡ S.lender repository.old }
 {
-    let name = steps.locator_name(at)?;
-    match steps.read_locator(alloc, at)? {
-        Leads::Unreadable => visitor.refuse(&name, Cause::Tal),
-        Leads::Nowhere => visitor.refuse(&name, Cause::Anchor),
-        Leads::Anchor(uri, anchor) => walk_anchor(alloc, steps, visitor, name, &uri, &anchor),
+    let name = repository.locator_name(at)?;
+    match repository.read_locator(alloc, at)? {
+        AnchorLookup::Unreadable => visitor.refuse(&name, Cause::Tal),
+        AnchorLookup::Nowhere => visitor.refuse(&name, Cause::Anchor),
+        AnchorLookup::Anchor(uri, anchor) => walk_anchor(
+            alloc, repository, visitor, name, &uri, &anchor,
+        ),
     }
 }
 
 /// Tells all that locators and accepted chains tell.
-pub fn walk_all<S: Steps, V: Visitor<S>>(
+pub fn walk_all<S: Repository, V: Visitor<S>>(
     alloc: Global,
-    steps: &mut S,
+    repository: &mut S,
     visitor: &mut V,
 ) -> Result<(), AllocError>
     ensures gained { OnOk result (Gains V.wants (V.has visitor.old)
-        (IsTold (V.uris visitor.old) (S.world steps.old)) (V.has visitor.new)) }
+        (IsFinding (V.uris visitor.old) (S.world repository.old)) (V.has visitor.new)) }
     ensures kept { V.uris visitor.new ≡ V.uris visitor.old }
-    ensures same { S.world steps.new ≡ S.world steps.old }
-    ensures lender { S.lender steps.new ≡ S.lender steps.old }
+    ensures same { S.world repository.new ≡ S.world repository.old }
+    ensures lender { S.lender repository.new ≡ S.lender repository.old }
 {
-    for at in 0..steps.locator_count() {
-        walk_locator(alloc, steps, visitor, at)?;
+    for at in 0..repository.locator_count() {
+        walk_locator(alloc, repository, visitor, at)?;
     }
     Ok(())
 }

@@ -1,7 +1,7 @@
-//! The judge: whether one trace is a good witness, by climbing from its object to its locator.
+//! The judge: whether one witness is good, by climbing from its object to its locator.
 //!
 //! A walk goes down from the anchors and computes what each chain holds. The judge goes the other way: it reads the one
-//! object and the one chain that a trace names, and carries upward the numbers that are needed of each certificate. So
+//! object and the one chain that a witness names, and carries upward the numbers that are needed of each certificate. So
 //! it asks for a few signatures a certificate, however much is published.
 
 pub mod claims;

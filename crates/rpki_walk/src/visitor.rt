@@ -2,21 +2,21 @@
 
 ghost use Rattle.std.specs.Prelude.{◌≡◌, ℕ, List, OnOk};
 ghost use Rattle.rpki_rules.specs.Kinds.{InSet};
-ghost use Rattle.rpki_rules.specs.Views.{way_of};
-ghost use Rattle.rpki_walk.specs.Facts.{Told, Refuses, ShownBy, ReachedBy, Gains};
+ghost use Rattle.rpki_rules.specs.Views.{path_of};
+ghost use Rattle.rpki_walk.specs.Facts.{Finding, Refuses, ShownBy, ReachedBy, Gains};
 
-use crate::steps::Steps;
+use crate::repository::Repository;
 use bytes::Bytes;
 use rpki_rules::{Cause, Path};
 use std::alloc::{AllocError, Global};
 use std::rc::Rc;
 
 /// What is done with what a walk finds: each call tells one thing.
-pub trait Visitor<S: Steps> {
+pub trait Visitor<S: Repository> {
     // What it was told; it keeps no more than what it wants.
-    ghost has: { Self → Told → Type 0 };
+    ghost has: { Self → Finding → Type 0 };
 
-    ghost wants: { Told → Type 0 };
+    ghost wants: { Finding → Type 0 };
 
     // The URIs that it looks for in what authorities name.
     ghost uris: { Self → List (List ℕ) };
@@ -25,16 +25,16 @@ pub trait Visitor<S: Steps> {
     fn visit(
         &mut self,
         alloc: Global,
-        steps: &mut S,
+        repository: &mut S,
         path: &Rc<Path>,
         ca: &S::Authority,
     ) -> Result<(), AllocError>
         ensures gained { OnOk result (Gains wants (has self.old)
-            (ReachedBy (uris self.old) (S.world steps.old) (InSet (S.sets ca.now))
-            (way_of path.now.value) (S.cert ca.now)) (has self.new)) }
+            (ReachedBy (uris self.old) (S.world repository.old) (InSet (S.sets ca.now))
+            (path_of path.now.value) (S.cert ca.now)) (has self.new)) }
         ensures kept { uris self.new ≡ uris self.old }
-        ensures same { S.world steps.new ≡ S.world steps.old }
-        ensures lender { S.lender steps.new ≡ S.lender steps.old };
+        ensures same { S.world repository.new ≡ S.world repository.old }
+        ensures lender { S.lender repository.new ≡ S.lender repository.old };
 
     /// What has this name is refused.
     fn refuse(&mut self, name: &Bytes, why: Cause) -> Result<(), AllocError>
@@ -45,14 +45,14 @@ pub trait Visitor<S: Steps> {
     /// The object with this lookup key is good by this chain.
     fn show(
         &mut self,
-        steps: &S,
+        repository: &S,
         path: &Rc<Path>,
         object: &Bytes,
         payload: S::Payload,
     ) -> Result<(), AllocError>
         ensures gained { OnOk result (Gains wants (has self.old) (ShownBy (record {
-          locator = (way_of path.now.value).locator;
-          chain = (way_of path.now.value).chain;
+          locator = (path_of path.now.value).locator;
+          chain = (path_of path.now.value).chain;
           object = object.now;
         }) (S.payload payload)) (has self.new)) }
         ensures kept { uris self.new ≡ uris self.old };

@@ -5,7 +5,7 @@ ghost use Rattle.rpki_walk.specs.Lines.{has_found, IsLine};
 ghost use Rattle.rpki_rules.specs.Report.{IsReport};
 
 use crate::anchors::walk_all;
-use crate::steps::Steps;
+use crate::repository::Repository;
 use crate::visitor::Visitor;
 use bytes::Bytes;
 use rpki_rules::{Cause, Origin, Path, Provision, Refusal, Report, Witness};
@@ -21,7 +21,7 @@ struct Findings {
     witnesses: Vec<Witness>,
 }
 
-impl<S: Steps> Visitor<S> for Findings {
+impl<S: Repository> Visitor<S> for Findings {
     ghost has = { has_found };
 
     ghost wants = { IsLine };
@@ -31,7 +31,7 @@ impl<S: Steps> Visitor<S> for Findings {
     fn visit(
         &mut self,
         _alloc: Global,
-        _steps: &mut S,
+        _repository: &mut S,
         _path: &Rc<Path>,
         _ca: &S::Authority,
     ) -> Result<(), AllocError> {
@@ -45,13 +45,13 @@ impl<S: Steps> Visitor<S> for Findings {
 
     fn show(
         &mut self,
-        steps: &S,
+        repository: &S,
         path: &Rc<Path>,
         object: &Bytes,
         payload: S::Payload,
     ) -> Result<(), AllocError> {
-        steps.add_origins(&payload, &mut self.origins)?;
-        steps.add_provisions(&payload, &mut self.provisions)?;
+        repository.add_origins(&payload, &mut self.origins)?;
+        repository.add_provisions(&payload, &mut self.provisions)?;
         self.witnesses
             .push(Witness::new(path.clone()?, object.clone()?))?;
         Ok(())
@@ -59,10 +59,10 @@ impl<S: Steps> Visitor<S> for Findings {
 }
 
 /// The report of a bundle: all that accepted chains attest, and all that the rules refuse.
-pub fn walk<S: Steps>(alloc: Global, steps: &mut S) -> Result<Report, AllocError>
-    ensures report { IfOk result (IsReport (S.world steps.old)) }
-    ensures same { S.world steps.new ≡ S.world steps.old }
-    ensures lender { S.lender steps.new ≡ S.lender steps.old }
+pub fn walk<S: Repository>(alloc: Global, repository: &mut S) -> Result<Report, AllocError>
+    ensures report { IfOk result (IsReport (S.world repository.old)) }
+    ensures same { S.world repository.new ≡ S.world repository.old }
+    ensures lender { S.lender repository.new ≡ S.lender repository.old }
 {
     let mut found = Findings {
         origins: Vec::new(alloc),
@@ -70,7 +70,7 @@ pub fn walk<S: Steps>(alloc: Global, steps: &mut S) -> Result<Report, AllocError
         refusals: Vec::new(alloc),
         witnesses: Vec::new(alloc),
     };
-    walk_all(alloc, steps, &mut found)?;
+    walk_all(alloc, repository, &mut found)?;
     let report = Report::new(
         alloc,
         found.origins,

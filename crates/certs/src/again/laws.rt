@@ -13,7 +13,7 @@ use resources_ip::laws::{
 /// is built of them as one that has them: where some kind of resources is there, and IPv4 resources are over whole
 /// addresses (RFC 6487 4.8.10, 4.8.11; RFC 3779 2.2.3). Key and signature are the same but for their unused bits, which
 /// are zero in DER (X.690 11.2.1): where the key's are, as those of a signer's keys and of each key that is read in DER,
-/// all fields are the same, and where the signature has none, so is the certificate.
+/// all fields are the same, and where the signature's are, and what was signed stands in DER, so is the certificate.
 pub fn what_is_built_is_read()
     ensures fields { FieldsAreRead }
     ensures cert { BuiltIsRead }

@@ -9,31 +9,7 @@ ghost use Rattle.certs_extension.specs.declared.claims.finish.Claims.{Claims as 
 use crate::access::{Rsync, SubjectAccess};
 use crate::claims::slots::Slots;
 use crate::forms::{AsResources, IpFamilies, IpResources, KeyUsage, Overclaim};
-use crate::{ExtendedKeyUsage, KeyIdentifier};
-use thiserror::Error;
-
-/// Why a list of extensions is refused as a whole: the first test in this order that fails.
-#[derive(Clone, Copy, Debug, PartialEq, Eq, Error, Drop)]
-pub enum ListError {
-    /// There are no resources (RFC 6487 4.8.10, 4.8.11).
-    #[error("no resources")]
-    MissingResources,
-    /// There is no policy (4.8.9).
-    #[error("no certificate policy")]
-    MissingPolicy,
-    /// IP resources stand under another policy (RFC 8360 4.2).
-    #[error("IP resources under another policy")]
-    WrongIpResources,
-    /// AS resources stand under another policy (RFC 8360 4.2).
-    #[error("AS resources under another policy")]
-    WrongAsResources,
-    /// There is no subject key identifier (RFC 6487 4.8.2).
-    #[error("no subject key identifier")]
-    MissingSubjectKeyIdentifier,
-    /// There is no key usage (4.8.4).
-    #[error("no key usage")]
-    MissingKeyUsage,
-}
+use crate::{ExtendedKeyUsage, ExtensionError, KeyIdentifier};
 
 /// What the extensions of a certificate claim.
 #[derive(Drop)]
@@ -129,37 +105,37 @@ fn access_in(access: Option<SubjectAccess>) -> SubjectAccess
 
 impl Slots {
     // The policy under which all resources stand, and the first test of resources that fails.
-    fn policy_of(&self) -> Result<Overclaim, ListError>
+    fn policy_of(&self) -> Result<Overclaim, ExtensionError>
         ensures ok { IfOk result (HasClaims self.now) }
         ensures refused { IfErr result (IsListFault self.now) }
     {
         if !has_some(self) {
-            return Err(ListError::MissingResources);
+            return Err(ExtensionError::MissingResources);
         }
         let Some(policy) = self.policy else {
-            return Err(ListError::MissingPolicy);
+            return Err(ExtensionError::MissingPolicy);
         };
         if !ip_stands(policy, &self.ip) {
-            return Err(ListError::WrongIpResources);
+            return Err(ExtensionError::WrongIpResources);
         }
         if !asn_stands(policy, &self.asn) {
-            return Err(ListError::WrongAsResources);
+            return Err(ExtensionError::WrongAsResources);
         }
         Ok(policy)
     }
 
     // The policy under which all resources stand, the identifier of the subject's key and its usage,
     // and else the first test of the slots that fails.
-    fn needed(&self) -> Result<Needed, ListError>
+    fn needed(&self) -> Result<Needed, ExtensionError>
         ensures ok { IfOk result (HasNeeded self.now) }
         ensures refused { IfErr result (IsListFault self.now) }
     {
         let overclaim = self.policy_of()?;
         let Some(subject_key_identifier) = self.subject_key_identifier else {
-            return Err(ListError::MissingSubjectKeyIdentifier);
+            return Err(ExtensionError::MissingSubjectKeyIdentifier);
         };
         let Some(key_usage) = self.key_usage else {
-            return Err(ListError::MissingKeyUsage);
+            return Err(ExtensionError::MissingKeyUsage);
         };
         Ok((overclaim, subject_key_identifier, key_usage))
     }
@@ -190,8 +166,9 @@ impl Slots {
     /// What the extensions claim, where the identifier of the subject's key, its key usage and a
     /// policy are there, and resources, which all stand under this policy (RFC 6487 4.8, RFC 8360 4.2).
     ///
-    /// Refuses with the first failing test, in the order of [`ListError`].
-    pub fn finish(self) -> Result<Claims, ListError>
+    /// Refuses with the first failing test, in this order: `MissingResources`, `MissingPolicy`,
+    /// `WrongIpResources`, `WrongAsResources`, `MissingSubjectKeyIdentifier`, `MissingKeyUsage`.
+    pub fn finish(self) -> Result<Claims, ExtensionError>
         ensures ok { IfOk result (Finishes self) }
         ensures refused { IfErr result (IsListFault self) }
         ensures none { OnErr result ((c : ClaimsValue) → ¬ (Finishes self c)) }

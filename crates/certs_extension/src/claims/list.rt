@@ -20,14 +20,10 @@ use std::alloc::Global;
 fn refusal<S: Source>(cons: &Constructed<S>, fault: ExtensionError) -> DecodeError<S::Error>
     ensures { Told fault result }
 {
-    let text = match fault {
-        ExtensionError::Duplicate => "duplicate extension",
-        ExtensionError::Criticality => "criticality of an extension",
-        ExtensionError::UnknownCritical => "unknown critical extension",
-        ExtensionError::BadValue => "invalid value of an extension",
-        ExtensionError::Memory => return DecodeError::Memory,
-    };
-    cons.content_err(ContentError::from_static(text))
+    if fault.is_memory() {
+        return DecodeError::Memory;
+    }
+    cons.content_err(ContentError::from(fault))
 }
 
 // All extensions of a list.

@@ -1,13 +1,40 @@
-//! The values of fields, each of a word. A word that has no such value has none.
+//! The values of fields, each of a word. A word that has no such value has none; that memory ran out is told.
 
-use answers::octets_of;
+use answers::{Answer, octets_of};
 use bcder::Mode;
-use bcder::decode::Decode;
+use bcder::decode::{Decode, DecodeError};
 use certs_cert::{ExtendedKeyUsage, KeyUsage};
-use certs_x509::uri::{Https, Rsync};
+use certs_x509::uri::{Error, Https, Rsync};
 use certs_x509::{KeyIdentifier, Name, PublicKey, Serial, Time, Validity};
 use resources::Overclaim;
 use std::alloc::Global;
+
+// What was read, if it was.
+fn found<T, E: Drop>(answer: &mut Answer, read: Result<T, DecodeError<E>>) -> Option<T> {
+    match read {
+        Ok(value) => Some(value),
+        Err(DecodeError::Memory) => {
+            answer.word("memory");
+            None
+        }
+        Err(error) => {
+            drop(error);
+            None
+        }
+    }
+}
+
+// The URI, if there is one.
+fn uri_of<T>(answer: &mut Answer, made: Result<T, Error>) -> Option<T> {
+    match made {
+        Ok(uri) => Some(uri),
+        Err(Error::Memory) => {
+            answer.word("memory");
+            None
+        }
+        Err(Error::BadUri) => None,
+    }
+}
 
 /// A serial number, in base 256.
 pub fn serial_of(alloc: Global, digits: &str) -> Option<Serial> {
@@ -15,10 +42,10 @@ pub fn serial_of(alloc: Global, digits: &str) -> Option<Serial> {
 }
 
 /// A name, which is kept in the mode.
-pub fn name_of(alloc: Global, mode: Mode, digits: &str) -> Option<Name> {
+pub fn name_of(alloc: Global, answer: &mut Answer, mode: Mode, digits: &str) -> Option<Name> {
     let octets = octets_of(alloc, digits);
-    mode.decode(octets.as_slice(), |cons| Name::take_from(alloc, cons))
-        .ok()
+    let read = mode.decode(octets.as_slice(), |cons| Name::take_from(alloc, cons));
+    found(answer, read)
 }
 
 /// Two moments with a space between.
@@ -30,8 +57,9 @@ pub fn validity_of(word: &str) -> Option<Validity> {
 }
 
 /// A key.
-pub fn key_of(alloc: Global, digits: &str) -> Option<PublicKey> {
-    PublicKey::decode(alloc, octets_of(alloc, digits).as_slice()).ok()
+pub fn key_of(alloc: Global, answer: &mut Answer, digits: &str) -> Option<PublicKey> {
+    let octets = octets_of(alloc, digits);
+    found(answer, PublicKey::decode(alloc, octets.as_slice()))
 }
 
 /// What a key is for.
@@ -65,19 +93,25 @@ pub fn identifier_of(alloc: Global, digits: &str) -> Option<KeyIdentifier> {
 }
 
 /// The purposes of a router's key.
-pub fn purposes_of(alloc: Global, word: &str) -> Option<ExtendedKeyUsage> {
-    match word {
-        "router" => ExtendedKeyUsage::create_router(alloc).ok(),
-        _ => None,
+pub fn purposes_of(alloc: Global, answer: &mut Answer, word: &str) -> Option<ExtendedKeyUsage> {
+    if word != "router" {
+        return None;
+    }
+    match ExtendedKeyUsage::create_router(alloc) {
+        Ok(usage) => Some(usage),
+        Err(_) => {
+            answer.word("memory");
+            None
+        }
     }
 }
 
 /// An rsync URI.
-pub fn rsync_of(alloc: Global, word: &str) -> Option<Rsync> {
-    Rsync::from_slice(alloc, word.as_bytes()).ok()
+pub fn rsync_of(alloc: Global, answer: &mut Answer, word: &str) -> Option<Rsync> {
+    uri_of(answer, Rsync::from_slice(alloc, word.as_bytes()))
 }
 
 /// An https URI.
-pub fn https_of(alloc: Global, word: &str) -> Option<Https> {
-    Https::from_slice(alloc, word.as_bytes()).ok()
+pub fn https_of(alloc: Global, answer: &mut Answer, word: &str) -> Option<Https> {
+    uri_of(answer, Https::from_slice(alloc, word.as_bytes()))
 }

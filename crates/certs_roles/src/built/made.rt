@@ -2,7 +2,7 @@
 //! for, and the policy.
 
 use crate::built::fields::{key_of, name_of, overclaim_of, serial_of, usage_of, validity_of};
-use answers::word_at;
+use answers::{Answer, word_at};
 use bcder::Mode;
 use certs_cert::{KeyUsage, TbsCert};
 use certs_x509::{Name, PublicKey, Serial, Validity};
@@ -29,9 +29,10 @@ fn plain_of(alloc: Global, words: &[&str]) -> Option<Plain> {
     })
 }
 
-// The fields of a certificate.
+// The fields of a certificate; none where memory ran out.
 fn fresh(
     alloc: Global,
+    answer: &mut Answer,
     plain: Plain,
     issuer: Name,
     subject: Option<Name>,
@@ -43,19 +44,24 @@ fn fresh(
         usage,
         overclaim,
     } = plain;
-    TbsCert::new(
+    match TbsCert::new(
         alloc, serial, issuer, validity, subject, key, usage, overclaim, &Fips,
-    )
-    .ok()
+    ) {
+        Ok(tbs) => Some(tbs),
+        Err(_) => {
+            answer.word("memory");
+            None
+        }
+    }
 }
 
 /// The fields of the first seven words; the subject's name is the key's where the word for it has none.
-pub fn made(alloc: Global, words: &[&str]) -> Option<TbsCert> {
+pub fn made(alloc: Global, answer: &mut Answer, words: &[&str]) -> Option<TbsCert> {
     let plain = plain_of(alloc, words)?;
-    let key = key_of(alloc, word_at(words, 4))?;
-    let subject = name_of(alloc, Mode::Der, word_at(words, 3));
-    match name_of(alloc, Mode::Der, word_at(words, 1)) {
-        Some(issuer) => fresh(alloc, plain, issuer, subject, key),
+    let key = key_of(alloc, answer, word_at(words, 4))?;
+    let subject = name_of(alloc, answer, Mode::Der, word_at(words, 3));
+    match name_of(alloc, answer, Mode::Der, word_at(words, 1)) {
+        Some(issuer) => fresh(alloc, answer, plain, issuer, subject, key),
         None => None,
     }
 }

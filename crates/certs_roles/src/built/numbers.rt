@@ -1,34 +1,46 @@
 //! The numbers that a certificate claims: `-` for none, `inherit`, or a list, after the word by which it is set: as a `set`,
-//! or its blocks `pushed` or `listed`.
+//! or its blocks `pushed` or `listed`. That memory ran out is told.
 
 use answers::Answer;
 use certs_cert::TbsCert;
 use resources::{
     AsBlocks, AsBlocksBuilder, AsResources, IpBlocks, IpBlocksBuilder, IpResources, Ipv4Blocks,
-    Ipv6Blocks,
+    Ipv6Blocks, asres, ipres,
 };
 use std::alloc::{AllocError, Global};
 
 // The IPv4 addresses of a list; none of another text.
-fn v4_of(alloc: Global, text: &str) -> IpBlocks {
+fn v4_of(alloc: Global, answer: &mut Answer, text: &str) -> IpBlocks {
     match Ipv4Blocks::from_str(alloc, text) {
         Ok(blocks) => blocks.into_blocks(),
+        Err(ipres::FromStrError::Memory) => {
+            answer.word("memory");
+            IpBlocks::empty()
+        }
         Err(_) => IpBlocks::empty(),
     }
 }
 
 // The IPv6 addresses of a list; none of another text.
-fn v6_of(alloc: Global, text: &str) -> IpBlocks {
+fn v6_of(alloc: Global, answer: &mut Answer, text: &str) -> IpBlocks {
     match Ipv6Blocks::from_str(alloc, text) {
         Ok(blocks) => blocks.into_blocks(),
+        Err(ipres::FromStrError::Memory) => {
+            answer.word("memory");
+            IpBlocks::empty()
+        }
         Err(_) => IpBlocks::empty(),
     }
 }
 
 // The AS numbers of a list; none of another text.
-fn asn_of(alloc: Global, text: &str) -> AsBlocks {
+fn asn_of(alloc: Global, answer: &mut Answer, text: &str) -> AsBlocks {
     match AsBlocks::from_str(alloc, text) {
         Ok(blocks) => blocks,
+        Err(asres::FromStrError::Memory) => {
+            answer.word("memory");
+            AsBlocks::empty()
+        }
         Err(_) => AsBlocks::empty(),
     }
 }
@@ -95,7 +107,10 @@ fn asn_list(alloc: Global, answer: &mut Answer, tbs: &mut TbsCert, way: &str, bl
 /// Sets the IPv4 resources.
 pub fn v4(alloc: Global, answer: &mut Answer, tbs: &mut TbsCert, value: &str) {
     match value.split_once(' ') {
-        Some((way, text)) => v4_list(alloc, answer, tbs, way, v4_of(alloc, text)),
+        Some((way, text)) => {
+            let blocks = v4_of(alloc, answer, text);
+            v4_list(alloc, answer, tbs, way, blocks);
+        }
         None if value == "inherit" => tbs.set_v4_resources_inherit(),
         None => tbs.set_v4_resources(IpResources::missing()),
     }
@@ -104,7 +119,10 @@ pub fn v4(alloc: Global, answer: &mut Answer, tbs: &mut TbsCert, value: &str) {
 /// Sets the IPv6 resources.
 pub fn v6(alloc: Global, answer: &mut Answer, tbs: &mut TbsCert, value: &str) {
     match value.split_once(' ') {
-        Some((way, text)) => v6_list(alloc, answer, tbs, way, v6_of(alloc, text)),
+        Some((way, text)) => {
+            let blocks = v6_of(alloc, answer, text);
+            v6_list(alloc, answer, tbs, way, blocks);
+        }
         None if value == "inherit" => tbs.set_v6_resources_inherit(),
         None => tbs.set_v6_resources(IpResources::missing()),
     }
@@ -113,7 +131,10 @@ pub fn v6(alloc: Global, answer: &mut Answer, tbs: &mut TbsCert, value: &str) {
 /// Sets the AS resources.
 pub fn asn(alloc: Global, answer: &mut Answer, tbs: &mut TbsCert, value: &str) {
     match value.split_once(' ') {
-        Some((way, text)) => asn_list(alloc, answer, tbs, way, asn_of(alloc, text)),
+        Some((way, text)) => {
+            let blocks = asn_of(alloc, answer, text);
+            asn_list(alloc, answer, tbs, way, blocks);
+        }
         None if value == "inherit" => tbs.set_as_resources_inherit(),
         None => tbs.set_as_resources(AsResources::missing()),
     }

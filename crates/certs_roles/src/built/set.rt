@@ -19,7 +19,7 @@ fn serial(alloc: Global, answer: &mut Answer, tbs: &mut TbsCert, value: &str) {
 }
 
 fn issuer(alloc: Global, answer: &mut Answer, tbs: &mut TbsCert, mode: Mode, value: &str) {
-    match name_of(alloc, mode, value) {
+    match name_of(alloc, answer, mode, value) {
         Some(name) => tbs.set_issuer(name),
         None => answer.word("no name"),
     }
@@ -33,14 +33,14 @@ fn validity(answer: &mut Answer, tbs: &mut TbsCert, value: &str) {
 }
 
 fn subject(alloc: Global, answer: &mut Answer, tbs: &mut TbsCert, value: &str) {
-    match name_of(alloc, Mode::Der, value) {
+    match name_of(alloc, answer, Mode::Der, value) {
         Some(name) => tbs.set_subject(name),
         None => answer.word("no name"),
     }
 }
 
 fn key(alloc: Global, answer: &mut Answer, tbs: &mut TbsCert, value: &str) {
-    match key_of(alloc, value) {
+    match key_of(alloc, answer, value) {
         Some(key) => tbs.set_subject_public_key(key, &Fips),
         None => answer.word("no key"),
     }
@@ -66,7 +66,7 @@ fn usages(alloc: Global, answer: &mut Answer, tbs: &mut TbsCert, name: &str, val
         "overclaim" => tbs.set_overclaim(overclaim_of(value)),
         "ca" => tbs.set_basic_ca(truth_of(value)),
         "authority" => tbs.set_authority_key_identifier(identifier_of(alloc, value)),
-        "purposes" => tbs.set_extended_key_usage(purposes_of(alloc, value)),
+        "purposes" => tbs.set_extended_key_usage(purposes_of(alloc, answer, value)),
         _ => identity(alloc, answer, tbs, name, value),
     }
 }
@@ -74,12 +74,12 @@ fn usages(alloc: Global, answer: &mut Answer, tbs: &mut TbsCert, name: &str, val
 // Where things lie.
 fn places(alloc: Global, answer: &mut Answer, tbs: &mut TbsCert, name: &str, value: &str) {
     match name {
-        "crl" => tbs.set_crl_uri(rsync_of(alloc, value)),
-        "aia" => tbs.set_ca_issuer(rsync_of(alloc, value)),
-        "repository" => tbs.set_ca_repository(rsync_of(alloc, value)),
-        "manifest" => tbs.set_rpki_manifest(rsync_of(alloc, value)),
-        "object" => tbs.set_signed_object(rsync_of(alloc, value)),
-        "notify" => tbs.set_rpki_notify(https_of(alloc, value)),
+        "crl" => tbs.set_crl_uri(rsync_of(alloc, answer, value)),
+        "aia" => tbs.set_ca_issuer(rsync_of(alloc, answer, value)),
+        "repository" => tbs.set_ca_repository(rsync_of(alloc, answer, value)),
+        "manifest" => tbs.set_rpki_manifest(rsync_of(alloc, answer, value)),
+        "object" => tbs.set_signed_object(rsync_of(alloc, answer, value)),
+        "notify" => tbs.set_rpki_notify(https_of(alloc, answer, value)),
         _ => usages(alloc, answer, tbs, name, value),
     }
 }

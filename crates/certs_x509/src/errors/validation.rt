@@ -9,7 +9,7 @@ use thiserror::Error;
 #[derive(Debug, Drop, Error)]
 pub enum ValidationError {
     /// Its form isn't that of its role.
-    #[error("{0:?}")]
+    #[error("{0}")]
     Inspection(InspectionError),
     /// It isn't vouched for.
     #[error("{0}")]

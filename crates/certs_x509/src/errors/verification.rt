@@ -2,7 +2,6 @@
 
 ghost use Rattle.std.specs.Prelude.{◌≡◌};
 
-use crate::signed::SignatureVerificationError;
 use certs_extension::forms::{
     OverclaimedAsResources, OverclaimedIpv4Resources, OverclaimedIpv6Resources, ValidityError,
 };
@@ -93,15 +92,5 @@ impl From<ValidityError> for VerificationError {
             ValidityError::NotYetValid => VerificationError::NotYetValid,
             ValidityError::Expired => VerificationError::Expired,
         }
-    }
-}
-
-impl From<SignatureVerificationError> for VerificationError {
-    ghost use Rattle.certs_x509.specs.declared.errors.verification.VerificationError.TheVariants.{BadSignature};
-
-    ghost from_gives = { λ cause e. e ≡ BadSignature };
-
-    fn from(_: SignatureVerificationError) -> Self {
-        VerificationError::BadSignature
     }
 }

@@ -1,7 +1,7 @@
 //! The serial numbers of a list, sorted, so that one is found by halving.
 
 ghost use Rattle.std.specs.Prelude.{◌≡◌, ◌<◌, ◌≤◌, ◌↔◌, ℕ, Contains, IfOk, IsTrue, MatchOption, length, slice_index};
-ghost use Rattle.certs_x509.specs.resources_chain.Rows.{Looks};
+ghost use Rattle.certs_x509.specs.resources_chain.Rows.{Looks as ProbesAtMost};
 ghost use Rattle.certs_x509.specs.Listed.{IsListed};
 ghost use Rattle.std.specs.List.Sorted.{IsStrictlyIncreasing};
 ghost use Rattle.std.specs.Ordering.{nat_cmp};
@@ -86,7 +86,7 @@ impl SerialCache {
         requires { probes.old ≤ 18446744073709551551 }
         ensures place { MatchOption result (Contains self.now serial → ⊥)
             (λ k. (k < length self.now) × (slice_index self.now k ≡ serial)) }
-        ensures probes { Looks (length self.now) probes.old probes.new }
+        ensures probes { ProbesAtMost (length self.now) probes.old probes.new }
     {
         let mut row = Around {
             serials: self.serials.as_slice(),

@@ -62,6 +62,18 @@ fn first_entry(octets: &[u8], mode: Mode) -> Option<(CrlEntry, usize)>
     }
 }
 
+impl<'a> RevokedCertificatesIter<'a> {
+    // Another one over the entries that are left; no octet is copied.
+    pub(crate) fn again(&self) -> RevokedCertificatesIter<'a>
+        ensures { result ≡ self.now }
+    {
+        RevokedCertificatesIter {
+            mode: self.mode,
+            octets: self.octets,
+        }
+    }
+}
+
 impl<'a> Iterator for RevokedCertificatesIter<'a> {
     type Item = CrlEntry;
 
@@ -82,9 +94,6 @@ impl<'a> Clone for RevokedCertificatesIter<'a> {
     ghost is_clone = { λ iter copy. copy ≡ iter };
 
     fn clone(&self) -> Result<Self, AllocError> {
-        Ok(RevokedCertificatesIter {
-            mode: self.mode,
-            octets: self.octets,
-        })
+        Ok(self.again())
     }
 }

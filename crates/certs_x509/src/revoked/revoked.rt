@@ -15,6 +15,7 @@ ghost use Rattle.certs_x509.specs.EntryForms.{entry_list};
 ghost use Rattle.certs_x509.specs.Listed.{IsListed, ReadsList, SpellsEntries, serials_of};
 ghost use Rattle.certs_x509.specs.Listing.{Listing, one_listing};
 
+use crate::revoked::anew::EntryWalk;
 use crate::revoked::entry::CrlEntry;
 use crate::revoked::iter::RevokedCertificatesIter;
 use crate::revoked::search::{has_serial, serials_in};
@@ -44,6 +45,9 @@ impl Model for RevokedCertificates {
 
 /// What is written of the revoked certificates: a SEQUENCE of their entries, as these stood; nothing of none.
 pub type RevokedValues<'a> = Option<encode::Constructed<&'a Captured>>;
+
+/// What is written of the revoked certificates by what their entries say: a SEQUENCE of these; nothing of none.
+pub type EntriesValues<'a> = Option<encode::Constructed<encode::Iter<EntryWalk<'a>>>>;
 
 // Passes over entries, up to the end of their content.
 fn skip_entries<S: Source>(cons: &mut Constructed<S>) -> Result<(), DecodeError<S::Error>>
@@ -156,7 +160,7 @@ impl RevokedCertificates {
         }
     }
 
-    /// What is written of them: nothing where there are none.
+    /// What is written of them as they stood: nothing where there are none.
     pub fn encode_ref(&self) -> RevokedValues<'_>
         ensures none { IfNone result (self.now ≡ []) }
         ensures some { IfSome result (λ v. self.now ≢ []) }
@@ -169,6 +173,24 @@ impl RevokedCertificates {
         Some(encode::Constructed {
             tag: Tag::SEQUENCE,
             inner: &self.octets,
+        })
+    }
+
+    /// What is written of them by what the entries say, in whichever mode they are kept: nothing where there are none.
+    pub fn encode_entries(&self) -> EntriesValues<'_>
+        ensures none { IfNone result (self.now ≡ []) }
+        ensures some { IfSome result (λ v. self.now ≢ []) }
+        ensures tag { IfSome result (λ v. v.tag ≡ sequence_tag) }
+        ensures entries { IfSome result (λ v. v.inner.0 ≡ self.now) }
+    {
+        let octets = self.octets.as_slice();
+        if octets.is_empty() {
+            return None;
+        }
+        let tag = Tag::SEQUENCE;
+        Some(encode::Constructed {
+            tag,
+            inner: encode::Iter(EntryWalk { rest: self.iter() }),
         })
     }
 }

@@ -1,11 +1,14 @@
 //! Signed data, written.
 
-ghost use Rattle.std.specs.Prelude.{◌≡◌};
+ghost use Rattle.std.specs.Prelude.{◌≡◌, ◌↔◌, IfErr, IfOk, IsTrue};
+ghost use Rattle.certs_x509.specs.bcder_tree.declared.mode.Mode.TheVariants.{Der};
+ghost use Rattle.certs_x509.specs.Captured.{RefusesSigned, WritesSigned, signed_of};
 ghost use Rattle.certs_x509.specs.Signed.{lends, signed_lends};
 
 use crate::signed::signed::SignedData;
 use certs_key::encode::{self, EncodeError, PrimitiveContent, Values};
 use certs_key::{AlgorithmIdentifier, BitString, Captured, Mode, SignatureAlgorithm, Tag};
+use std::alloc::Global;
 use std::io::Write;
 use std::marker::Model;
 
@@ -42,6 +45,32 @@ impl SignedData {
 }
 
 impl<'a> SignedDataValues<'a> {
+    // Whether what was signed stands in DER.
+    fn is_der(&self) -> bool
+        ensures { IsTrue result ↔ (self.now.message.mode ≡ Der) }
+    {
+        self.signed.data().mode().is_der()
+    }
+
+    /// What is written in DER. `CerUnsupported` where the octets that were signed stand in another mode; `TooLong` where
+    /// they stand in DER, and a content would have more than 2^32 - 1 octets; `Memory` only where something can be written.
+    pub fn in_der(&self, alloc: Global) -> Result<Captured, EncodeError>
+        ensures captured { IfOk result (λ c. WritesSigned (signed_of self.now) Der c.octets) }
+        ensures mode { IfOk result (λ c. c.mode ≡ Der) }
+        ensures refused { IfErr result (RefusesSigned (signed_of self.now)) }
+    {
+        if !self.is_der() {
+            return Err(EncodeError::CerUnsupported);
+        }
+        match self.to_captured(alloc, Mode::Der) {
+            Ok(captured) => Ok(captured),
+            Err(error) => match error {
+                EncodeError::Memory => Err(EncodeError::Memory),
+                _ => Err(EncodeError::TooLong),
+            },
+        }
+    }
+
     // The encoders of the fields, in a SEQUENCE.
     fn fields(&self) -> Encoder<'_>
         ensures { lends result.tag result.inner.0.now

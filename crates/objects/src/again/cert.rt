@@ -11,7 +11,7 @@ use certs_cert::{Cert, SignedData};
 use certs_key::{Captured, Mode, Signature};
 use std::alloc::Global;
 
-// The certificate's signed octets as values in DER, with its signature of whole octets.
+// The certificate's signed octets as values in DER, with its signature.
 fn signed_again(alloc: Global, cert: &Cert) -> Result<SignedData, EncodeError>
     ensures value { IfOk result (λ s. s ≡ cert_value cert.now) }
     ensures stands { IfOk result (λ s. SpellsValues Der cert.now.signed.message) }
@@ -20,8 +20,11 @@ fn signed_again(alloc: Global, cert: &Cert) -> Result<SignedData, EncodeError>
     let signed = cert.signed_data();
     let message = in_der(alloc, signed.data().as_slice())?;
     let signature = signed.signature();
-    match signature.bits().octet_bytes() {
-        Ok(octets) => Ok(SignedData::new(message, Signature::new(*signature.algorithm(), octets))),
+    match signature.bits().clone() {
+        Ok(bits) => Ok(SignedData::new(
+            message,
+            Signature::from_bits(*signature.algorithm(), bits),
+        )),
         Err(_) => {
             drop(message);
             Err(EncodeError::Memory)
@@ -38,5 +41,5 @@ pub(crate) fn cert_text(alloc: Global, cert: &Cert) -> Result<Captured, EncodeEr
 {
     let signed = signed_again(alloc, cert)?;
     let value = signed.encode_ref();
-    value.to_captured(alloc, Mode::Der)
+    value.in_der(alloc)
 }

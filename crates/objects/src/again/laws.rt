@@ -9,6 +9,7 @@ ghost use Rattle.objects_written.specs.objects_payload.Aspas.{Aspa as AspaValue,
 ghost use Rattle.objects_written.specs.objects_payload.Manifests.{Manifest as ManifestValue, ManifestText};
 ghost use Rattle.objects_written.specs.objects_payload.ObjectText.{IsSignedMessage, Object, ObjectText, Signer};
 ghost use Rattle.objects_written.specs.objects_payload.Roas.{Roa as RoaValue, RoaText};
+ghost use Rattle.objects_rsc.specs.Checklists.{Checklist as ChecklistValue, ChecklistText};
 ghost use Rattle.objects.specs.Again.{StandsInDer, WritesAgain, with_null};
 ghost use Rattle.objects.specs.Taking.{in_der};
 
@@ -28,8 +29,8 @@ pub fn objects_are_read_again()
     what_is_built_is_read();
 }
 
-/// What is written of a manifest, a route origin attestation or a provider attestation that was read strictly is read again,
-/// strictly, as one of that kind with the same content.
+/// What is written of a manifest, a route origin attestation, a provider attestation or a checklist that was read strictly is
+/// read again, strictly, as one of that kind with the same content.
 pub fn kinds_are_read_again()
     ensures manifests { (octets text : List ℕ) (o : Object) (x : ManifestValue)
         → ManifestText true octets o x → WritesAgain o text
@@ -38,6 +39,9 @@ pub fn kinds_are_read_again()
         → RoaText true octets o x → WritesAgain o text → RoaText true text (with_null o) x }
     ensures aspas { (octets text : List ℕ) (o : Object) (x : AspaValue)
         → AspaText true octets o x → WritesAgain o text → AspaText true text (with_null o) x }
+    ensures checklists { (octets text : List ℕ) (o : Object) (x : ChecklistValue)
+        → ChecklistText true octets o x → WritesAgain o text
+        → ChecklistText true text (with_null o) x }
 {
     objects_are_read_again();
 }

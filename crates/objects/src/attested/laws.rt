@@ -5,11 +5,11 @@ ghost use Rattle.objects.specs.bcder_content.Texts.{SpellsOf};
 ghost use Rattle.objects.specs.bcder_tree.declared.mode.Mode.{Mode as ModeValue};
 ghost use Rattle.objects.specs.certs_basics.HandedIn.{Digests};
 ghost use Rattle.objects.specs.objects_payload.Aspas.{Aspa, AspaText, IsAspa, IsLawful};
-ghost use Rattle.objects_built.specs.Builders.{BuilderValue, built_object};
+ghost use Rattle.objects_written.specs.Builders.{BuilderValue, built_object};
 ghost use Rattle.objects.specs.Attested.{IsAspaFor};
 ghost use Rattle.objects.specs.Written.{aspa};
 
-use objects_built::laws::built_kinds_are_read_again;
+use objects_written::build::laws::built_kinds_are_read_again;
 
 /// What is written of an attestation whose providers are lawful is read again as the same attestation, in each mode.
 pub fn attestations_are_read_again()

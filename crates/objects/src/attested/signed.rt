@@ -4,8 +4,8 @@ ghost use Rattle.std.specs.Prelude.{◌≡◌, IfErr, IfOk};
 ghost use Rattle.objects.specs.bcder_tree.declared.mode.Mode.TheVariants.{Der};
 ghost use Rattle.objects.specs.certs_key.Digesting.{digests_of};
 ghost use Rattle.objects.specs.resources_chain.declared.choice.ResourcesChoice.TheVariants.{Missing};
-ghost use Rattle.objects_built.specs.Builders.{IsSigned};
-ghost use Rattle.objects_built.specs.Refusing.{BuildRefused};
+ghost use Rattle.objects_written.specs.Builders.{IsSigned};
+ghost use Rattle.objects_written.specs.Refusing.{BuildRefused};
 ghost use Rattle.objects.specs.bcder_values.Writable.{Writable};
 ghost use Rattle.objects.specs.Refusing.{CanWrite, CannotSignContent};
 ghost use Rattle.objects.specs.objects_payload.Identifiers as id;
@@ -16,7 +16,7 @@ use crate::attested::builder::AspaBuilder;
 use crate::issued::refusing::unwritten;
 use certs_extension::{AsResources, IpResources};
 use certs_key::{Captured, Digester, Signer, SigningError};
-use objects_built::SignedObjectBuilder;
+use objects_written::SignedObjectBuilder;
 use std::alloc::{AllocError, Global};
 
 // id-ct-ASPA, 1.2.840.113549.1.9.16.1.49 (draft-ietf-sidrops-aspa-profile 2).

@@ -4,8 +4,8 @@ ghost use Rattle.std.specs.Prelude.{◌≡◌, IfErr, IfOk};
 ghost use Rattle.objects.specs.bcder_tree.declared.mode.Mode.TheVariants.{Der};
 ghost use Rattle.objects.specs.certs_key.Digesting.{digests_of};
 ghost use Rattle.objects.specs.objects_payload.Manifests.{Manifest};
-ghost use Rattle.objects_built.specs.Builders.{IsBuilt, IsSigned};
-ghost use Rattle.objects_built.specs.Refusing.{BuildRefused};
+ghost use Rattle.objects_written.specs.Builders.{IsBuilt, IsSigned};
+ghost use Rattle.objects_written.specs.Refusing.{BuildRefused};
 ghost use Rattle.objects.specs.bcder_values.Writable.{Writable};
 ghost use Rattle.objects.specs.Refusing.{CanWrite, CannotSignContent};
 ghost use Rattle.objects.specs.Issued.{IsManifestFor, inheriting};
@@ -15,9 +15,8 @@ ghost use Rattle.objects.specs.objects_written.Manifests.{IsManifestNumber, mani
 use crate::issued::refusing::unwritten;
 use certs_key::laws::serials_are_small;
 use certs_key::{Captured, Digester, Signer, SigningError};
-use objects_built::SignedObjectBuilder;
 use objects_cms::manifest::ManifestContent;
-use objects_written::EncodeManifest;
+use objects_written::{EncodeManifest, SignedObjectBuilder};
 use std::alloc::Global;
 
 // id-ct-rpkiManifest, 1.2.840.113549.1.9.16.1.26 (RFC 9286 4.1).

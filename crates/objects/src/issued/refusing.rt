@@ -1,7 +1,7 @@
 //! Why a content isn't signed, where it can't be written.
 
 ghost use Rattle.std.specs.Prelude.{◌≡◌};
-ghost use Rattle.objects_built.specs.Refusing.{told_as};
+ghost use Rattle.objects_written.specs.Refusing.{told_as};
 
 use certs_key::SigningError;
 use certs_key::encode::EncodeError;

@@ -8,8 +8,8 @@ ghost use Rattle.objects.specs.objects_written.Roas.{roa};
 ghost use Rattle.objects.specs.resources_chain.declared.choice.ResourcesChoice.TheVariants.{Missing};
 ghost use Rattle.objects.specs.resources_ip_prefix.declared.addr.AddressFamily.TheVariants.{Ipv4, Ipv6};
 ghost use Rattle.objects_payload.specs.Addresses.{AllOf};
-ghost use Rattle.objects_built.specs.Builders.{IsSigned};
-ghost use Rattle.objects_built.specs.Refusing.{BuildRefused};
+ghost use Rattle.objects_written.specs.Builders.{IsSigned};
+ghost use Rattle.objects_written.specs.Refusing.{BuildRefused};
 ghost use Rattle.objects.specs.bcder_values.Writable.{Writable};
 ghost use Rattle.objects.specs.Refusing.{CanWrite, CannotSignContent};
 ghost use Rattle.objects.specs.objects_payload.Identifiers as id;
@@ -19,9 +19,8 @@ use crate::issued::addresses::resources_of;
 use crate::issued::refusing::unwritten;
 use certs_extension::{AsResources, IpResources};
 use certs_key::{Captured, Digester, Signer, SigningError};
-use objects_built::SignedObjectBuilder;
 use objects_payload::roa::{RoaBuilder, RouteOriginAttestation};
-use objects_written::EncodeRoa;
+use objects_written::{EncodeRoa, SignedObjectBuilder};
 use std::alloc::{AllocError, Global};
 
 // id-ct-routeOriginAuthz, 1.2.840.113549.1.9.16.1.24 (RFC 9582 3).

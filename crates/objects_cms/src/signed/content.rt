@@ -13,8 +13,8 @@ use certs_cert::decode::{Constructed, DecodeError, Source};
 use certs_cert::{OctetString, Oid, Tag};
 use std::alloc::Global;
 
-// The content's type, and the content.
-pub(crate) type Typed = (Oid, OctetString);
+/// The content's type, and the content.
+pub type Typed = (Oid, OctetString);
 
 // The string that is all of its content.
 fn take_string<S: Source>(
@@ -57,8 +57,8 @@ fn take_fields<S: Source>(
     Ok((oid, octets))
 }
 
-// `EncapsulatedContentInfo` (RFC 5652 5.2).
-pub(crate) fn take_content_info<S: Source>(
+/// The content that is next, and its type: `EncapsulatedContentInfo` (RFC 5652 5.2).
+pub fn take_content_info<S: Source>(
     alloc: Global,
     cons: &mut Constructed<S>,
 ) -> Result<Typed, DecodeError<S::Error>>

@@ -17,7 +17,7 @@ use crate::checklist::file::CheckListIter;
 use bcder::decode::{Constructed, ContentError, Decode, DecodeError, IntoSource, Source};
 use bcder::{Mode, Tag};
 use certs_x509::DigestAlgorithm;
-use objects_stated::{AsForm, AsResources, IpResources, StatedResources};
+use objects_valid::{AsForm, AsResources, IpResources, StatedResources};
 use std::alloc::Global;
 use std::marker::Model;
 

@@ -215,12 +215,14 @@ pub fn signed_attributes(
 
 /// What is signed of attributes: their content octets as a SET, with the shortest length (RFC 5652 5.4).
 ///
-/// `TooLong` where they are more than 2^32 - 1 octets.
+/// `TooLong` where they are more than 2^32 - 1 octets; `Memory` only where they can be signed.
 pub fn signed_message(alloc: Global, attributes: &Captured) -> Result<Captured, EncodeError>
     requires { attributes.now.mode ≡ Der }
     ensures message { IfOk result (λ c. IsMessage attributes.now.octets c.octets) }
     ensures mode { IfOk result (λ c. c.mode ≡ Der) }
     ensures refused { IfErr result (MessageRefused attributes.now.octets) }
+    ensures memory { IfErr result (λ e. e ≡ memory_lacks
+        → (message : List ℕ) × IsMessage attributes.now.octets message) }
 {
     are_spelled(attributes);
     let value = SetOf(attributes);

@@ -90,7 +90,7 @@ fn push_refusal(text: &mut Vec<u8>, refusal: &Refusal) -> Result<(), AllocError>
 }
 
 // LOCATOR URI .., and the end of the line
-fn push_way(text: &mut Vec<u8>, locator: &Bytes, chain: &[Bytes]) -> Result<(), AllocError> {
+fn push_path(text: &mut Vec<u8>, locator: &Bytes, chain: &[Bytes]) -> Result<(), AllocError> {
     text.extend_from_slice(locator.as_slice())?;
     for uri in chain {
         text.push(b' ')?;
@@ -105,13 +105,13 @@ fn push_witness(text: &mut Vec<u8>, witness: &Witness) -> Result<(), AllocError>
     text.extend_from_slice(b"good ")?;
     text.extend_from_slice(witness.object().as_slice())?;
     text.push(b' ')?;
-    push_way(text, witness.locator(), witness.chain())
+    push_path(text, witness.locator(), witness.chain())
 }
 
 // chain LOCATOR URI ..
 fn push_chain(text: &mut Vec<u8>, path: &Path) -> Result<(), AllocError> {
     text.extend_from_slice(b"chain ")?;
-    push_way(text, path.locator(), path.chain())
+    push_path(text, path.locator(), path.chain())
 }
 
 // {"name":..,"cause":..}

@@ -4,7 +4,7 @@ ghost use Rattle.std.specs.Prelude.{◌≡◌, IfOk, List, MatchOption, OnErr, S
 ghost use Rattle.rpki_rules.specs.Certs.{CertText, Digests, Verdicts};
 ghost use Rattle.rpki_rules.specs.Chains.{CertAt};
 ghost use Rattle.rpki_rules.specs.World.{find_object, world_of};
-ghost use Rattle.rpki_standing.specs.Leads.{IsNoCert, NoCertAt};
+ghost use Rattle.rpki_standing.specs.Lookups.{IsNoCert, NoCertAt};
 
 use crate::table::Index;
 use bytes::Bytes;

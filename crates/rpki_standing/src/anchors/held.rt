@@ -5,7 +5,7 @@ ghost use Rattle.objects_payload.specs.Uris.{text_of};
 ghost use Rattle.rpki_rules.specs.Certs.{Digests, Verdicts};
 ghost use Rattle.rpki_rules.specs.Points.{IsFirstHeld};
 ghost use Rattle.rpki_rules.specs.World.{world_of};
-ghost use Rattle.rpki_standing.specs.Leads.{NoneHeld};
+ghost use Rattle.rpki_standing.specs.Lookups.{NoneHeld};
 
 use crate::table::{Index, Object};
 use objects_payload::locator::TalUri;

@@ -1,4 +1,4 @@
-//! Laws of leads: the contracts of functions that do nothing.
+//! Laws of what locators lead to: the contracts of functions that do nothing.
 
 ghost use Rattle.std.specs.Prelude.{◌≡◌, List, ℕ};
 ghost use Rattle.rpki_standing.specs.rpki_bundle.declared.parts.Locator.{Locator};
@@ -6,7 +6,7 @@ ghost use Rattle.rpki_rules.specs.Certs.{Cert, CertText, Key};
 ghost use Rattle.rpki_rules.specs.Points.{Anchor, IsAnchorCert, Link};
 ghost use Rattle.rpki_rules.specs.Words.{Mem};
 ghost use Rattle.rpki_rules.specs.World.{World};
-ghost use Rattle.rpki_standing.specs.Leads.{HoldsAt, HoldsNowhere, IsNoLocator};
+ghost use Rattle.rpki_standing.specs.Lookups.{HoldsAt, HoldsNowhere, IsNoLocator};
 
 use objects_payload::locator::laws::one_locator;
 

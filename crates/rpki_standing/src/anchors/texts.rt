@@ -3,7 +3,7 @@
 ghost use Rattle.std.specs.Prelude.{IfOk, MatchOption, OnErr};
 ghost use Rattle.objects_payload.specs.Faults.{BehindComments, StartsWithUri};
 ghost use Rattle.rpki_rules.specs.Locators.{LocatorText};
-ghost use Rattle.rpki_standing.specs.Leads.{IsNoLocator};
+ghost use Rattle.rpki_standing.specs.Lookups.{IsNoLocator};
 
 use crate::table::Locator;
 use objects_payload::locator::{ReadError, Tal};

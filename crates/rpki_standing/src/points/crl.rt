@@ -9,11 +9,12 @@ ghost use Rattle.rpki_rules.specs.Points.{IsCrlOf, files as files_by};
 ghost use Rattle.rpki_rules.specs.Words.{Mem};
 ghost use Rattle.rpki_rules.specs.World.{world_of};
 
-use crate::points::list::suits;
+use crate::points::kept::Crl;
+use crate::points::list::is_acceptable_crl;
 use crate::table::Index;
 use bytes::Bytes;
 use certs_cert::{Cert, Rsync, Verifier};
-use certs_crl::Crl;
+use certs_crl::Crl as List;
 use certs_crl::decode::DecodeError;
 use std::alloc::{AllocError, Global};
 
@@ -40,10 +41,10 @@ fn is_file(alloc: Global, uri: &Rsync, files: &[Bytes]) -> Result<bool, AllocErr
 }
 
 // The list that those octets begin with.
-fn crl_in(alloc: Global, octets: &[u8]) -> Result<Option<Crl>, AllocError>
+fn crl_in(alloc: Global, octets: &[u8]) -> Result<Option<List>, AllocError>
     ensures { IfOk result (Finds (CrlText octets.now)) }
 {
-    match Crl::decode(alloc, octets) {
+    match List::decode(alloc, octets) {
         Ok(crl) => Ok(Some(crl)),
         Err(DecodeError::Content(_, _)) => Ok(None),
         Err(_) => Err(AllocError),
@@ -51,7 +52,7 @@ fn crl_in(alloc: Global, octets: &[u8]) -> Result<Option<Crl>, AllocError>
 }
 
 // The list at that URI, whosever it is.
-fn list_at(alloc: Global, uri: &Rsync, index: &Index<'_>) -> Result<Option<Crl>, AllocError>
+fn list_at(alloc: Global, uri: &Rsync, index: &Index<'_>) -> Result<Option<List>, AllocError>
     ensures { IfOk result (λ found. (d : Digests) (v : Verdicts)
         → Finds (IsListAt (world_of d v index.now) uri.now) found) }
 {
@@ -64,7 +65,7 @@ fn list_at(alloc: Global, uri: &Rsync, index: &Index<'_>) -> Result<Option<Crl>,
 // Whether the list is the authority's: by what it says, and by its signature, for which the verifier is asked once, at
 // most. The manifest's certificate mustn't be on it.
 fn is_list_of<V: Verifier>(
-    crl: &Crl,
+    crl: &List,
     ca: &Cert,
     ee: &Cert,
     index: &Index<'_>,
@@ -75,7 +76,7 @@ fn is_list_of<V: Verifier>(
     ensures same { V.says verifier.new ≡ V.says verifier.old }
     ensures asked { V.count verifier.new ≤ V.count verifier.old + 1 }
 {
-    suits(crl, ca, ee, index.moment())
+    is_acceptable_crl(crl, ca, ee, index.moment())
         && crl
             .verify_signature(ca.tbs().subject_public_key_info(), verifier)
             .is_ok()
@@ -101,18 +102,15 @@ pub fn find_crl<V: Verifier>(
     if !is_file(alloc, uri, files)? {
         return Ok(None);
     }
-    let Some(mut crl) = list_at(alloc, uri, index)? else {
+    let Some(crl) = list_at(alloc, uri, index)? else {
         return Ok(None);
     };
     if !is_list_of(&crl, ca, ee, index, verifier) {
         drop(crl);
         return Ok(None);
     }
-    if crl.cache_serials(alloc).is_err() {
-        drop(crl);
-        return Err(AllocError);
-    }
-    Ok(Some(crl))
+    let kept = Crl::keep(alloc, crl)?;
+    Ok(Some(kept))
 }
 
 /// The revocation list of a point: of the authority, by the certificate of its manifest, which names the list's URI, and by

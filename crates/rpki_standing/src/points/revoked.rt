@@ -4,9 +4,9 @@ ghost use Rattle.std.specs.Prelude.{◌≡◌, ◌↔◌, IfOk, IsTrue};
 ghost use Rattle.rpki_standing.specs.certs_basics.Uris.{lookup_key as key_of};
 ghost use Rattle.rpki_rules.specs.Points.{Point, Unrevoked};
 
+use crate::points::kept::Crl;
 use certs_cert::grammar::cmp_lookup_key;
 use certs_cert::{Cert, Rsync};
-use certs_crl::Crl;
 use std::alloc::{AllocError, Global};
 
 // Whether both URIs are looked up alike.

@@ -1,12 +1,12 @@
 //! The lists of a bundle, looked up.
 
 ghost use Rattle.std.specs.Prelude.{◌≡◌, ◌↔◌, ◌≤◌, IsTrue, IfNone, IfSome, None, Some, length, map};
-ghost use Rattle.rpki_standing.specs.resources_chain.Rows.{Looks};
+ghost use Rattle.rpki_standing.specs.resources_chain.Rows.{Looks as ProbesAtMost};
 ghost use Rattle.rpki_rules.specs.certs_basics.Uris.{lookup_key};
 ghost use Rattle.rpki_rules.specs.Words.{Mem, NoRepeat};
 ghost use Rattle.rpki_rules.specs.World.{find_object, is_strict};
 
-use crate::table::search::search;
+use crate::table::search::{MAX_PROBES, search};
 use crate::table::sought::{ByKey, ByUri};
 use rpki_rules::{Bundle, Locator, Object, Time, Verdict};
 use std::marker::Model;
@@ -53,7 +53,7 @@ impl<'a> Index<'a> {
         !self.bundle.relaxed()
     }
 
-    /// The greatest number of certificates in a chain, 1 to 32.
+    /// The greatest number of certificates in a chain, from `MIN_DEPTH` to `MAX_DEPTH` of `rpki_bundle`.
     pub fn depth(&self) -> u8
         ensures depth { result ≡ self.now.depth }
         ensures deep { 1 ≤ self.now.depth }
@@ -73,11 +73,11 @@ impl<'a> Index<'a> {
 /// What is looked up.
 impl<'a> Index<'a> {
     /// Whether the table has the verdict. The looks at verdicts that it takes are added to `probes`: at most as many as
-    /// their number has binary digits.
+    /// their number has binary digits. `MAX_PROBES` is 64 less than the greatest `u64`.
     pub fn has_verdict(&self, sought: Verdict, probes: &mut u64) -> bool
-        requires { probes.old ≤ 18446744073709551551 }
+        requires { probes.old ≤ MAX_PROBES }
         ensures answer { IsTrue result ↔ Mem self.now.verdicts sought }
-        ensures probes { Looks (length self.now.verdicts) probes.old probes.new }
+        ensures probes { ProbesAtMost (length self.now.verdicts) probes.old probes.new }
     {
         search(self.bundle.verdicts(), &sought, probes).is_some()
     }

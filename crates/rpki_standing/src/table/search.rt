@@ -3,12 +3,15 @@
 ghost use Rattle.std.specs.Prelude.{◌≡◌, ◌<◌, ◌≤◌, ℕ, List, MatchOption, length};
 ghost use Rattle.std.specs.Ordering.{nat_cmp};
 ghost use Rattle.std.specs.Cmp.Lexicographic.{slice_cmp};
-ghost use Rattle.rpki_standing.specs.resources_chain.Rows.{Looks};
+ghost use Rattle.rpki_standing.specs.resources_chain.Rows.{Looks as ProbesAtMost};
 ghost use Rattle.rpki_standing.specs.rpki_bundle.Orders.{Ascends};
 ghost use Rattle.rpki_standing.specs.Places.{IsPlace, stands_at};
 
 use resources_chain::{Row, halve};
 use std::cmp::Ordering;
+
+/// The greatest count of looks to which a search may add its own, which are 64 at most.
+pub const MAX_PROBES: u64 = u64::MAX - 64;
 
 /// What is sought in a list of entries, each of which has a row of octets.
 pub trait Sought {
@@ -60,11 +63,11 @@ impl<'a, S: Sought> Row for Around<'a, S> {
 /// most as many as their number has binary digits.
 pub fn search<S: Sought>(entries: &[S::Entry], sought: &S, probes: &mut u64) -> Option<usize>
     requires order { Ascends S.sort_key entries.now }
-    requires room { probes.old ≤ 18446744073709551551 }
+    requires room { probes.old ≤ MAX_PROBES }
     ensures place { MatchOption result
         ((k : ℕ) → IsPlace S.sort_key entries.now (S.key sought.now) k → ⊥)
         (IsPlace S.sort_key entries.now (S.key sought.now)) }
-    ensures probes { Looks (length entries.now) probes.old probes.new }
+    ensures probes { ProbesAtMost (length entries.now) probes.old probes.new }
 {
     let mut around = Around {
         entries,

@@ -1,7 +1,7 @@
 //! The verifier that a bundle's table is.
 
 ghost use Rattle.std.specs.Prelude.{◌≡◌, ◌+◌, ◌-◌, ◌^◌, length, min};
-ghost use Rattle.rpki_standing.specs.resources_chain.Rows.{Looks};
+ghost use Rattle.rpki_standing.specs.resources_chain.Rows.{Looks as ProbesAtMost};
 ghost use Rattle.rpki_rules.specs.certs_key.Digesting.{digests_of};
 ghost use Rattle.rpki_standing.specs.certs_basics.Keys.{encoded};
 ghost use Rattle.rpki_rules.specs.World.{table};
@@ -82,7 +82,7 @@ impl<'a, D: Digester> Verifier for TableVerifier<'a, D> {
             ≡ table (digests_of D.sha256_digest D.sha1_digest self.old.digests)
             self.old.index.verdicts }
         ensures counted { self.new.asked ≡ min (self.old.asked + 1) (2 ^ 64 - 1) }
-        ensures looks { Looks (length self.old.index.verdicts) 0 self.new.looks }
+        ensures looks { ProbesAtMost (length self.old.index.verdicts) 0 self.new.looks }
     {
         self.asked = self.asked.saturating_add(1);
         self.looks = 0;

@@ -7,7 +7,7 @@ ghost use Rattle.rpki_rules.specs.Certs.{encoded};
 ghost use Rattle.rpki_rules.specs.World.{world_of};
 ghost use Rattle.rpki_steps.specs.Anchored.{FindsAnchor};
 
-use crate::accepted::settled::settle;
+use crate::accepted::validated::accepted_or_none;
 use certs_verify::{Cert, Digester, PublicKey, ResourceCert, TalInfo, Validate, Verifier};
 use rpki_standing::table::Index;
 use std::alloc::AllocError;
@@ -44,5 +44,5 @@ pub fn anchor_cert<D: Digester, V: Verifier>(
     }
     let now = index.moment();
     let validated = cert.validate_ta_at(tal, true, now, digester, verifier);
-    settle(validated)
+    accepted_or_none(validated)
 }

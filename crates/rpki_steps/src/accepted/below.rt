@@ -7,7 +7,7 @@ ghost use Rattle.rpki_steps.specs.certs_extension.declared.forms.Role.TheVariant
 ghost use Rattle.rpki_rules.specs.World.{world_of};
 ghost use Rattle.rpki_steps.specs.Below.{FindsBelow};
 
-use crate::accepted::settled::settle;
+use crate::accepted::validated::accepted_or_none;
 use certs_verify::{Cert, Digester, ResourceCert, Validate, Verifier};
 use rpki_standing::table::Index;
 use std::alloc::{AllocError, Global};
@@ -30,5 +30,5 @@ pub fn authority_below<D: Digester, V: Verifier>(
 {
     let now = index.moment();
     let validated = cert.validate_ca_at(alloc, issuer, true, now, digester, verifier);
-    settle(validated)
+    accepted_or_none(validated)
 }

@@ -10,7 +10,7 @@ ghost use Rattle.rpki_standing.specs.certs_key.Digesting.{digests_of};
 ghost use Rattle.rpki_steps.specs.ClimbAnchors.{IsAnchorOf};
 
 use rpki_standing::anchors::laws::{no_lead, one_lead};
-use rpki_standing::anchors::{Lead, follow};
+use rpki_standing::anchors::{LocatorLookup, follow};
 use rpki_standing::table::{Locator, Object};
 use rpki_standing::{Cert, Digester, Index, PublicKey, Verifier, is_anchor_cert};
 use std::alloc::{AllocError, Global};
@@ -72,7 +72,7 @@ pub fn is_anchor_of<D: Digester, V: Verifier>(
 {
     one_lead();
     no_lead();
-    let Lead::Held(object, tal) = follow(alloc, locator, index)? else {
+    let LocatorLookup::Held(object, tal) = follow(alloc, locator, index)? else {
         return Ok(false);
     };
     Ok(is_anchor_there(object, tal.key_info(), uri, cert, index, digester, verifier))

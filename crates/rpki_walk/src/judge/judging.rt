@@ -1,4 +1,4 @@
-//! What is judged of a trace.
+//! What is judged of a witness.
 
 ghost use Rattle.std.specs.Prelude.{◌≡◌, ◌+◌, ◌≤◌, ◌<◌, IfOk, length, false};
 ghost use Rattle.rpki_rules.specs.Judge.{IsJudged, may_ask};
@@ -11,7 +11,7 @@ use crate::judge::{Evidence, Needed};
 use bytes::Bytes;
 use std::alloc::{AllocError, Global};
 
-/// What is judged of a trace.
+/// What is judged of a witness.
 #[derive(Clone, Copy, Debug, PartialEq, Eq)]
 pub struct Judgement {
     /// Whether it is a good witness.

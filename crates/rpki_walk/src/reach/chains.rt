@@ -2,7 +2,7 @@
 
 ghost use Rattle.std.specs.Prelude.{◌≡◌, IfOk, map};
 ghost use Rattle.rpki_walk.specs.Chained.{AreNamingChains, IsChains, has_chained};
-ghost use Rattle.rpki_rules.specs.Views.{way_of};
+ghost use Rattle.rpki_rules.specs.Views.{path_of};
 
 use crate::reach::keys::{Wanted, names_any};
 use crate::reach::naming::Naming;
@@ -28,11 +28,11 @@ impl<'a, S: Naming> Visitor<S> for Namer<'a> {
     fn visit(
         &mut self,
         alloc: Global,
-        steps: &mut S,
+        repository: &mut S,
         path: &Rc<Path>,
         ca: &S::Authority,
     ) -> Result<(), AllocError> {
-        let keys = steps.named_keys(alloc, ca)?;
+        let keys = repository.named_keys(alloc, ca)?;
         if names_any(self.wanted, &keys) {
             self.paths.push(path.clone()?)?;
         }
@@ -45,7 +45,7 @@ impl<'a, S: Naming> Visitor<S> for Namer<'a> {
 
     fn show(
         &mut self,
-        _steps: &S,
+        _repository: &S,
         _path: &Rc<Path>,
         _object: &Bytes,
         _payload: S::Payload,
@@ -58,20 +58,20 @@ impl<'a, S: Naming> Visitor<S> for Namer<'a> {
 /// are compared by lookup key, so a text that is no URI names nothing.
 pub fn naming_chains<S: Naming>(
     alloc: Global,
-    steps: &mut S,
+    repository: &mut S,
     uris: &[Bytes],
 ) -> Result<Vec<Rc<Path>>, AllocError>
-    ensures chains { IfOk result (λ paths. AreNamingChains uris.now (S.world steps.old)
-        (map (λ p. way_of p.value) paths.items)) }
-    ensures same { S.world steps.new ≡ S.world steps.old }
-    ensures lender { S.lender steps.new ≡ S.lender steps.old }
+    ensures chains { IfOk result (λ paths. AreNamingChains uris.now (S.world repository.old)
+        (map (λ p. path_of p.value) paths.items)) }
+    ensures same { S.world repository.new ≡ S.world repository.old }
+    ensures lender { S.lender repository.new ≡ S.lender repository.old }
 {
     let wanted = Wanted::new(alloc, uris)?;
     let mut found = Namer {
         wanted: &wanted,
         paths: Vec::new(alloc),
     };
-    walk_all(alloc, steps, &mut found)?;
+    walk_all(alloc, repository, &mut found)?;
     let mut paths = found.paths;
     sort_once(&mut paths)?;
     Ok(paths)

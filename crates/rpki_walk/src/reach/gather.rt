@@ -27,13 +27,13 @@ impl<'a, S: Naming> Visitor<S> for Gatherer<'a> {
     fn visit(
         &mut self,
         alloc: Global,
-        steps: &mut S,
+        repository: &mut S,
         _path: &Rc<Path>,
         ca: &S::Authority,
     ) -> Result<(), AllocError> {
-        let keys = steps.named_keys(alloc, ca)?;
+        let keys = repository.named_keys(alloc, ca)?;
         if names_any(self.wanted, &keys) {
-            self.sets.push(steps.held(ca)?)?;
+            self.sets.push(repository.held(ca)?)?;
         }
         Ok(())
     }
@@ -44,7 +44,7 @@ impl<'a, S: Naming> Visitor<S> for Gatherer<'a> {
 
     fn show(
         &mut self,
-        _steps: &S,
+        _repository: &S,
         _path: &Rc<Path>,
         _object: &Bytes,
         _payload: S::Payload,

@@ -2,7 +2,7 @@
 
 ghost use Rattle.std.specs.Prelude.{◌↔◌, ◌<◌, IsTrue, IfOk, length};
 ghost use Rattle.rpki_rules.specs.Reach.{SomeLocatorNames};
-ghost use Rattle.rpki_walk.specs.Filed.{locator_at};
+ghost use Rattle.rpki_walk.specs.Repository.{locator_at};
 ghost use Rattle.rpki_walk.specs.Naming.{LocatorNames};
 
 use crate::reach::keys::{Wanted, names_any};
@@ -12,15 +12,15 @@ use std::alloc::{AllocError, Global};
 // Whether the locator at that place reads and names one of the URIs.
 fn locator_names<S: Naming>(
     alloc: Global,
-    steps: &S,
+    repository: &S,
     wanted: &Wanted<'_>,
     at: usize,
 ) -> Result<bool, AllocError>
-    requires { at < length (S.world steps.now).locators }
+    requires { at < length (S.world repository.now).locators }
     ensures { IfOk result
-        (λ b. IsTrue b ↔ LocatorNames wanted.now (locator_at (S.world steps.now) at)) }
+        (λ b. IsTrue b ↔ LocatorNames wanted.now (locator_at (S.world repository.now) at)) }
 {
-    match steps.locator_keys(alloc, at)? {
+    match repository.locator_keys(alloc, at)? {
         Some(keys) => Ok(names_any(wanted, &keys)),
         None => Ok(false),
     }
@@ -29,13 +29,13 @@ fn locator_names<S: Naming>(
 /// Whether a locator that reads names one of the URIs.
 pub(crate) fn some_locator_names<S: Naming>(
     alloc: Global,
-    steps: &S,
+    repository: &S,
     wanted: &Wanted<'_>,
 ) -> Result<bool, AllocError>
-    ensures { IfOk result (λ b. IsTrue b ↔ SomeLocatorNames wanted.now (S.world steps.now)) }
+    ensures { IfOk result (λ b. IsTrue b ↔ SomeLocatorNames wanted.now (S.world repository.now)) }
 {
-    for at in 0..steps.locator_count() {
-        if locator_names(alloc, steps, wanted, at)? {
+    for at in 0..repository.locator_count() {
+        if locator_names(alloc, repository, wanted, at)? {
             return Ok(true);
         }
     }

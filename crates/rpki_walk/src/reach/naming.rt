@@ -1,16 +1,16 @@
 //! What locators and authorities name.
 
 ghost use Rattle.std.specs.Prelude.{◌≡◌, ◌<◌, length, IfOk};
-ghost use Rattle.rpki_walk.specs.Filed.{locator_at};
+ghost use Rattle.rpki_walk.specs.Repository.{locator_at};
 ghost use Rattle.rpki_walk.specs.Naming.{AreLocatorKeys, AreNamed};
 
-use crate::Steps;
+use crate::Repository;
 use bytes::Bytes;
 use resources::set::ResourceSet;
 use std::alloc::{AllocError, Global};
 
 /// A bundle of which one also asks what its locators and authorities name, and what an authority holds.
-pub trait Naming: Steps {
+pub trait Naming: Repository {
     /// The lookup keys of the URIs that the locator at that place names, where its text is a locator's (RFC 8630 2.2).
     fn locator_keys(&self, alloc: Global, at: usize) -> Result<Option<Vec<Bytes>>, AllocError>
         requires { at < length (Self.world self.now).locators }

@@ -2,15 +2,15 @@ use Rattle.std.proofs.Common.{ℕ, ◌≤◌, ◌<◌, ◌⊎◌, ◌↔◌, Lis
 use Rattle.rpki_walk.specs.rpki_bundle.declared.parts.Locator.{Locator}
 use Rattle.rpki_rules.specs.Words.{Mem}
 use Rattle.rpki_rules.specs.World.{World}
-use Rattle.rpki_walk.specs.Filed.{locator_at}
-use Rattle.rpki_walk.specs.Facts.{Gains, FromLocator, IsTold}
+use Rattle.rpki_walk.specs.Repository.{locator_at}
+use Rattle.rpki_walk.specs.Facts.{Gains, FromLocator, IsFinding}
 use Rattle.rpki_walk.proofs.Mems.{gains_same, gains_next}
 use Rattle.rpki_walk.proofs.Leading.{told_is}
 use Rattle.rpki_walk.proofs.anchors.walk_all.Goals as goal
 
 pub loop-at-preserved : goal.loop-at-preserved
 loop-at-preserved g c =
-    let w = g.S.Steps.world c.args.steps.now in
+    let w = g.S.Repository.world c.args.repository.now in
     let uris = g.V.Visitor.uris c.args.visitor.now in
     let inv = c.loop-at.invariant in
     let at = c.loop-at.at in
@@ -27,9 +27,9 @@ loop-at-preserved g c =
 
 pub returns-clause-gained : goal.returns-clause-gained
 returns-clause-gained g c =
-    let w = g.S.Steps.world c.args.steps.now in
+    let w = g.S.Repository.world c.args.repository.now in
     let uris = g.V.Visitor.uris c.args.visitor.now in
     gains_same g.V.Visitor.wants _ _ _ _ c.loop-at.invariant.gained (λ x.
-    subst (λ (ls : List Locator). (⊥ ⊎ ((u : Locator) × Mem ls u × FromLocator uris w u x)) ↔ IsTold uris w x)
+    subst (λ (ls : List Locator). (⊥ ⊎ ((u : Locator) × Mem ls u × FromLocator uris w u x)) ↔ IsFinding uris w x)
     (sym (take_all c.loop-at.at w.locators (subst (λ (n : ℕ). n ≤ c.loop-at.at) c.locator_count-at-end.ensures.count c.loop-at-test.false)))
     (told_is uris w c.locator_count-at-end.ensures.apart x))

@@ -3,17 +3,17 @@ use Rattle.rpki_rules.specs.Words.{Mem}
 use Rattle.rpki_rules.specs.Kinds.{InSet}
 use Rattle.rpki_rules.specs.Points.{Link, Point}
 use Rattle.rpki_rules.specs.Chains.{StandsIn, Accepted}
-use Rattle.rpki_rules.specs.Views.{way_of}
+use Rattle.rpki_rules.specs.Views.{path_of}
 use Rattle.rpki_walk.specs.Facts.{Stand, Gains, ReachedBy, FromFile}
 use Rattle.rpki_walk.proofs.chains.+walk_from.Given as goal
 
 abbrev pub decreases-walk_from : goal.decreases-walk_from
-decreases-walk_from g l = (g.S.Steps.world l.steps.now).depth - length l.keys.now
+decreases-walk_from g l = (g.S.Repository.world l.repository.now).depth - length l.keys.now
 
 abbrev pub invariant-loop-file : goal.invariant-loop-file
 invariant-loop-file g l = record {
-  same : g.S.Steps.world l.steps ≡ g.S.Steps.world l.fn.steps;
-  lender : g.S.Steps.lender l.steps ≡ g.S.Steps.lender l.fn.steps;
+  same : g.S.Repository.world l.repository ≡ g.S.Repository.world l.fn.repository;
+  lender : g.S.Repository.lender l.repository ≡ g.S.Repository.lender l.fn.repository;
   kept : g.V.Visitor.uris l.visitor ≡ g.V.Visitor.uris l.fn.visitor;
-  gained : (name : List ℕ) (a : Link) (cs : List Link) (p : Point) → Stand name a cs (way_of l.path.value) l.keys l.uri (g.S.Steps.cert l.ca) (g.S.Steps.sets l.ca) → Accepted (g.S.Steps.world l.fn.steps) name a cs → StandsIn (g.S.Steps.world l.fn.steps) (InSet (g.S.Steps.sets l.ca)) (g.S.Steps.cert l.ca) p → Gains g.V.Visitor.wants (g.V.Visitor.has l.fn.visitor) (λ x. ReachedBy (g.V.Visitor.uris l.fn.visitor) (g.S.Steps.world l.fn.steps) (InSet (g.S.Steps.sets l.ca)) (way_of l.path.value) (g.S.Steps.cert l.ca) x ⊎ ((u : List ℕ) × Mem (take l.file-index l.file-items) u × FromFile (g.V.Visitor.uris l.fn.visitor) (g.S.Steps.world l.fn.steps) name a cs p u x)) (g.V.Visitor.has l.visitor);
+  gained : (name : List ℕ) (a : Link) (cs : List Link) (p : Point) → Stand name a cs (path_of l.path.value) l.keys l.uri (g.S.Repository.cert l.ca) (g.S.Repository.sets l.ca) → Accepted (g.S.Repository.world l.fn.repository) name a cs → StandsIn (g.S.Repository.world l.fn.repository) (InSet (g.S.Repository.sets l.ca)) (g.S.Repository.cert l.ca) p → Gains g.V.Visitor.wants (g.V.Visitor.has l.fn.visitor) (λ x. ReachedBy (g.V.Visitor.uris l.fn.visitor) (g.S.Repository.world l.fn.repository) (InSet (g.S.Repository.sets l.ca)) (path_of l.path.value) (g.S.Repository.cert l.ca) x ⊎ ((u : List ℕ) × Mem (take l.file-index l.file-items) u × FromFile (g.V.Visitor.uris l.fn.visitor) (g.S.Repository.world l.fn.repository) name a cs p u x)) (g.V.Visitor.has l.visitor);
 }

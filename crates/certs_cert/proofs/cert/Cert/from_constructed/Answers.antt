@@ -22,4 +22,4 @@ returns-clause-reads g c = record {
 }
 
 pub returns-clause-octets : goal.returns-clause-octets
-returns-clause-octets g c = cert_took c.mode-mode.ensures c.from_parts.ensures c.in_ok-signed.ensures.octets c.in-Ok.ensures.octets
+returns-clause-octets g c = cert_took c.mode-mode.ensures c.from_parts.ensures c.in_ok-signed.ensures.reads.reads c.in_ok-signed.ensures.octets c.in-Ok.ensures.octets

@@ -9,3 +9,6 @@ returns-clause-roas c = kind_again c.objects_are_read_again.ensures
 
 pub returns-clause-aspas : goal.returns-clause-aspas
 returns-clause-aspas c = kind_again c.objects_are_read_again.ensures
+
+pub returns-clause-checklists : goal.returns-clause-checklists
+returns-clause-checklists c = kind_again c.objects_are_read_again.ensures

@@ -18,4 +18,4 @@ returns-clause-found g c =
     let w = world_of d (g.V.Verifier.says c.args.verifier.now) c.args.index.now in
     let same : encoded c.args.cert.tbs.key ≡ encoded c.args.key.now = c.has_key.ensures.0 c.if-not-has_key.false in
     found_anchor w c.args.key.now c.args.tal.value c.args.cert c.moment-now.result c.validate_ta_at-validated.result _ c.moment-now.ensures same
-    c.validate_ta_at-validated.ensures.validates c.validate_ta_at-validated.ensures.tal c.settle.ensures
+    c.validate_ta_at-validated.ensures.validates c.validate_ta_at-validated.ensures.tal c.accepted_or_none.ensures

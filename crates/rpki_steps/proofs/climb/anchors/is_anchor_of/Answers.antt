@@ -1,7 +1,7 @@
 use Rattle.std.proofs.Common.{sym, subst}
 use Rattle.rpki_rules.specs.Certs.{Key}
 use Rattle.rpki_rules.specs.World.{World, world_of}
-use Rattle.rpki_standing.specs.Leads.{HoldsAt, IsLead}
+use Rattle.rpki_standing.specs.Lookups.{HoldsAt, IsLocatorLookup}
 use Rattle.rpki_standing.specs.certs_key.Digesting.{digests_of}
 use Rattle.rpki_steps.proofs.Named.{anchor_by, no_anchor}
 use Rattle.rpki_steps.proofs.Passing.{never}
@@ -18,5 +18,5 @@ returns-clause-anchor g c =
     let w : World = world_of (digests_of g.D.Digester.sha256_digest g.D.Digester.sha1_digest c.args.digester.now) (g.V.Verifier.says c.args.verifier.now) c.args.index.now in
     let l = c.args.locator.now in
     let o = c.in-Held.object.now in
-    let leads : HoldsAt w l c.key_info.result.now o.uri o.octets = subst (λ (k : Key). HoldsAt w l k o.uri o.octets) (sym c.key_info.ensures) (subst (IsLead w l) c.in-Held.is (c.in_ok-object.ensures.lead w.digests w.good)) in
+    let leads : HoldsAt w l c.key_info.result.now o.uri o.octets = subst (λ (k : Key). HoldsAt w l k o.uri o.octets) (sym c.key_info.ensures) (subst (IsLocatorLookup w l) c.in-Held.is (c.in_ok-object.ensures.lead w.digests w.good)) in
     anchor_by w l c.key_info.result.now o.uri o.octets c.args.uri.now c.args.cert.now c.is_anchor_there.result leads c.requires (c.one_lead.ensures.key w l) (c.one_lead.ensures.uri w l) c.is_anchor_there.ensures.anchor

@@ -4,7 +4,7 @@ use Rattle.rpki_walk.specs.Evidence.{IsReadCert}
 use Rattle.rpki_rules.specs.Certs.{Cert, Digests, Verdicts}
 use Rattle.rpki_rules.specs.Chains.{CertAt}
 use Rattle.rpki_rules.specs.World.{world_of}
-use Rattle.rpki_standing.specs.Leads.{NoCertAt}
+use Rattle.rpki_standing.specs.Lookups.{NoCertAt}
 use Rattle.rpki_steps.proofs.Looked.{cert_told}
 use Rattle.rpki_steps.proofs.Passing.{if_ok}
 use Rattle.rpki_steps.proofs.climb.certs.find_cert.Goals as goal

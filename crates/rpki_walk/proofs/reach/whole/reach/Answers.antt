@@ -8,7 +8,7 @@ use Rattle.rpki_walk.proofs.reach.whole.reach.Goals as goal
 
 pub returns-clause-reach : goal.returns-clause-reach
 returns-clause-reach g c =
-    let w = g.S.Steps.world c.args.steps.now in
+    let w = g.S.Repository.world c.args.repository.now in
     let reached = held_is c.in_ok-wanted.wanted w c.new-2.result.items c.walk_all.new.visitor.sets.items c.in_ok-union.union
     (λ s. let f : false ≡ true = sym c.if-branch.false ∙ c.in_ok-some_locator_names.ensures.1 s in cc)
     c.new-2.ensures.items (λ k n. c.in_ok-walk_all.ensures.gained (Reaches k n) tt)

@@ -4,7 +4,7 @@ use Rattle.std.specs.Prelude.{◌≡◌}
 use Rattle.objects.specs.bcder_tree.declared.mode.Mode.TheVariants.{Der}
 use Rattle.objects.specs.objects_payload.Identifiers as id
 use Rattle.objects.specs.objects_written.Manifests.{manifest}
-use Rattle.objects_built.specs.Builders.{BuilderValue}
+use Rattle.objects_written.specs.Builders.{BuilderValue}
 use Rattle.objects.specs.Issued.{inheriting}
 use Rattle.objects.proofs.Refused.{content_stop}
 use Rattle.objects.proofs.issued.manifests.ManifestContentIntoManifest.into_manifest.Goals as goal

@@ -5,7 +5,7 @@ use Rattle.objects.specs.bcder_tree.declared.mode.Mode.TheVariants.{Der}
 use Rattle.objects.specs.objects_payload.Identifiers as id
 use Rattle.objects.specs.objects_payload.Roas.{Roa}
 use Rattle.objects.specs.objects_written.Roas.{roa}
-use Rattle.objects_built.specs.Refusing.{BuildRefused}
+use Rattle.objects_written.specs.Refusing.{BuildRefused}
 use Rattle.objects.specs.Issued.{AttestsPrefixes}
 use Rattle.objects.specs.Refusing.{CanWrite, CannotSignContent}
 use Rattle.objects.proofs.Refused.{forget}

@@ -1,5 +1,5 @@
 use Rattle.std.proofs.Common.{◌≡◌, ℕ, false, true, List, ap, sym, subst, ◌∙◌}
-use Rattle.rpki_rules.specs.Views.{way_of}
+use Rattle.rpki_rules.specs.Views.{path_of}
 use Rattle.rpki_rules.specs.Kinds.{InSet}
 use Rattle.rpki_walk.specs.Facts.{Gains, ReachedBy}
 use Rattle.rpki_walk.specs.Chained.{has_chained, IsChains}
@@ -12,16 +12,16 @@ use Rattle.rpki_walk.proofs.reach.chains.NamerVisitor.visit.Goals.{then-names_an
 pub returns-clause-gained : goal.returns-clause-gained
 returns-clause-gained g c =
     let uris = c.args.self.now.wanted.now in
-    let w = g.S.Steps.world c.args.steps.now in
-    let held = InSet (g.S.Steps.sets c.args.ca.now) in
-    let ca = g.S.Steps.cert c.args.ca.now in
-    let way = way_of c.args.path.now.value in
+    let w = g.S.Repository.world c.args.repository.now in
+    let held = InSet (g.S.Repository.sets c.args.ca.now) in
+    let ca = g.S.Repository.cert c.args.ca.now in
+    let path = path_of c.args.path.now.value in
     let tells = authority_names uris c.in_ok-keys.keys.items w ca c.in_ok-keys.ensures.named in
     let e : c.names_any.result ≡ names_any uris c.in_ok-keys.keys.items = c.names_any.ensures ∙ ap (λ (ks : List (List ℕ)). names_any uris ks) c.deref.ensures.value in
     elim c.if-names_any.branch [
-      | then-names_any+in_ok-clone+in_ok-push v ↦ subst (λ q. Gains IsChains (has_chained c.args.self.now) (ReachedBy uris w held way ca) (has_chained q)) (sym v.self-is)
-          (one_gains uris w held way ca c.args.self.now (record { wanted = c.args.self.now.wanted; paths = v.push.new.self }) (tells.0 (sym e ∙ v.if-names_any.true)) _
-          (seen_more (λ p. way_of p.value) c.args.self.now.paths.items v.push.new.self.items _ v.in_ok-push.ensures.items) (ap way_of v.in_ok-clone.ensures.cases))
-      | else-names_any v ↦ subst (λ q. Gains IsChains (has_chained c.args.self.now) (ReachedBy uris w held way ca) (has_chained q)) (sym v.self-is)
-          (none_gains uris w held way ca c.args.self.now (λ n. let f : false ≡ true = sym v.if-names_any.false ∙ (e ∙ tells.1 n) in cc))
+      | then-names_any+in_ok-clone+in_ok-push v ↦ subst (λ q. Gains IsChains (has_chained c.args.self.now) (ReachedBy uris w held path ca) (has_chained q)) (sym v.self-is)
+          (one_gains uris w held path ca c.args.self.now (record { wanted = c.args.self.now.wanted; paths = v.push.new.self }) (tells.0 (sym e ∙ v.if-names_any.true)) _
+          (seen_more (λ p. path_of p.value) c.args.self.now.paths.items v.push.new.self.items _ v.in_ok-push.ensures.items) (ap path_of v.in_ok-clone.ensures.cases))
+      | else-names_any v ↦ subst (λ q. Gains IsChains (has_chained c.args.self.now) (ReachedBy uris w held path ca) (has_chained q)) (sym v.self-is)
+          (none_gains uris w held path ca c.args.self.now (λ n. let f : false ≡ true = sym v.if-names_any.false ∙ (e ∙ tells.1 n) in cc))
     ]

@@ -1,6 +1,6 @@
 use Rattle.std.proofs.Common.{◌≡◌, ℕ, false, true, List, ap, sym, subst, ◌∙◌}
 use Rattle.rpki_rules.specs.Kinds.{InSet}
-use Rattle.rpki_rules.specs.Views.{way_of}
+use Rattle.rpki_rules.specs.Views.{path_of}
 use Rattle.rpki_walk.specs.Facts.{ReachedBy, Gains}
 use Rattle.rpki_walk.specs.Gathered.{has_gathered, IsReaches}
 use Rattle.rpki_walk.specs.Naming.{names_any}
@@ -12,15 +12,15 @@ use Rattle.rpki_walk.proofs.reach.gather.GathererVisitor.visit.Goals.{then-names
 pub returns-clause-gained : goal.returns-clause-gained
 returns-clause-gained g c =
     let uris = c.args.self.now.wanted.now in
-    let w = g.S.Steps.world c.args.steps.now in
-    let sets = g.S.Steps.sets c.args.ca.now in
-    let ca = g.S.Steps.cert c.args.ca.now in
-    let way = way_of c.args._path.now.value in
+    let w = g.S.Repository.world c.args.repository.now in
+    let sets = g.S.Repository.sets c.args.ca.now in
+    let ca = g.S.Repository.cert c.args.ca.now in
+    let path = path_of c.args._path.now.value in
     let tells = authority_names uris c.in_ok-keys.keys.items w ca c.in_ok-keys.ensures.named in
     let e : c.names_any.result ≡ names_any uris c.in_ok-keys.keys.items = c.names_any.ensures ∙ ap (λ (ks : List (List ℕ)). names_any uris ks) c.deref.ensures.value in
     elim c.if-names_any.branch [
-      | then-names_any+in_ok-held+in_ok-push v ↦ subst (λ q. Gains IsReaches (has_gathered c.args.self.now) (ReachedBy uris w (InSet sets) way ca) (has_gathered q)) (sym v.self-is)
-          (one_gains c.args.self.now (record { wanted = c.args.self.now.wanted; sets = v.push.new.self }) uris w _ sets way ca (tells.0 (sym e ∙ v.if-names_any.true)) v.in_ok-push.ensures.items v.in_ok-held.ensures)
-      | else-names_any v ↦ subst (λ q. Gains IsReaches (has_gathered c.args.self.now) (ReachedBy uris w (InSet sets) way ca) (has_gathered q)) (sym v.self-is)
-          (none_gains c.args.self.now uris w sets way ca (λ n. let f : false ≡ true = sym v.if-names_any.false ∙ (e ∙ tells.1 n) in cc))
+      | then-names_any+in_ok-held+in_ok-push v ↦ subst (λ q. Gains IsReaches (has_gathered c.args.self.now) (ReachedBy uris w (InSet sets) path ca) (has_gathered q)) (sym v.self-is)
+          (one_gains c.args.self.now (record { wanted = c.args.self.now.wanted; sets = v.push.new.self }) uris w _ sets path ca (tells.0 (sym e ∙ v.if-names_any.true)) v.in_ok-push.ensures.items v.in_ok-held.ensures)
+      | else-names_any v ↦ subst (λ q. Gains IsReaches (has_gathered c.args.self.now) (ReachedBy uris w (InSet sets) path ca) (has_gathered q)) (sym v.self-is)
+          (none_gains c.args.self.now uris w sets path ca (λ n. let f : false ≡ true = sym v.if-names_any.false ∙ (e ∙ tells.1 n) in cc))
     ]

@@ -1,0 +1,19 @@
+//! Signed checklists, written again (RFC 9323 3).
+
+use crate::again::object::{EncodeObject, ObjectValues};
+use certs::written::EncodeError;
+use certs_key::Captured;
+use objects_rsc::Rsc;
+use std::alloc::Global;
+
+impl EncodeObject for Rsc {
+    ghost fields = { λ k. k.signed };
+
+    fn encode_ref(&self, alloc: Global) -> Result<ObjectValues<'_>, EncodeError> {
+        self.signed().encode_ref(alloc)
+    }
+
+    fn to_captured(&self, alloc: Global) -> Result<Captured, EncodeError> {
+        self.signed().to_captured(alloc)
+    }
+}

@@ -1,0 +1,159 @@
+//! Whether checklists are sound, and accepted below a trust anchor.
+
+use crate::rsc::stub::{Standing, Stub};
+use crate::rsc::told::shown;
+use answers::{Answer, octets_of, unknown};
+use anyhow::{Result, anyhow};
+use certs_verify::{Cert, ResourceCert, TalInfo, Validate, ValidationError, VerificationError};
+use certs_x509::errors::Time;
+use objects::rsc::{ResourceSignedChecklist, Rsc};
+use resources::IpBlocksForFamily;
+use rpki_digests::Fips;
+use std::alloc::Global;
+
+// When the trust anchors are valid.
+const AT: &[u8] = b"20250101000000Z";
+
+// What the caller's test of a certificate says, by its word.
+fn verdict(word: &str) -> Result<(), ValidationError> {
+    let cause = match word {
+        "refuses" => VerificationError::HashMismatch,
+        "memory" => VerificationError::Memory,
+        _ => return Ok(()),
+    };
+    Err(ValidationError::Verification(cause))
+}
+
+// The moment of a text.
+fn moment_of(text: &[u8]) -> Result<Time> {
+    match Time::from_generalized(text) {
+        Some(moment) => Ok(moment),
+        None => Err(anyhow!("no moment")),
+    }
+}
+
+// The trust anchor of octets, with what it holds.
+fn anchor_of(alloc: Global, digits: &str) -> Result<ResourceCert> {
+    let tal = TalInfo::from_name(String::from_str(alloc, "t")?).into_rc(alloc)?;
+    let octets = octets_of(alloc, digits);
+    let Ok(cert) = Cert::decode(alloc, octets.as_slice()) else {
+        return Err(anyhow!("no certificate"));
+    };
+    let mut stub = Stub { asked: 0 };
+    match cert.validate_ta_at(tal, true, moment_of(AT)?, &Fips, &mut stub) {
+        Ok(anchor) => Ok(anchor),
+        Err(refused) => {
+            drop(refused);
+            Err(anyhow!("no anchor"))
+        }
+    }
+}
+
+// What is held, by which locator, and what the checklist says.
+fn held(answer: &mut Answer, holder: &ResourceCert, checklist: &ResourceSignedChecklist) {
+    let v4 = IpBlocksForFamily::v4(holder.v4_resources());
+    let v6 = IpBlocksForFamily::v6(holder.v6_resources());
+    answer.say(&format_args!("holds [{v4}] [{v6}] [{}]", holder.as_resources()));
+    answer.say(&format_args!("by {}", holder.tal().name()));
+    shown(answer, checklist);
+}
+
+// How a checklist is processed.
+#[derive(Drop)]
+struct Asked<'a> {
+    issuer: &'a ResourceCert,
+    strict: bool,
+    now: Time,
+    by_clock: bool,
+    test: &'a str,
+}
+
+// The checklist, processed at the moment, or by a clock that stands there.
+fn process(
+    alloc: Global,
+    asked: &Asked<'_>,
+    rsc: Rsc,
+    stub: &mut Stub,
+) -> Result<(ResourceCert, ResourceSignedChecklist), ValidationError> {
+    let (issuer, strict, now, test) = (asked.issuer, asked.strict, asked.now, asked.test);
+    let check_crl = move |_: &Cert| verdict(test);
+    if asked.by_clock {
+        rsc.process(
+            alloc,
+            issuer,
+            strict,
+            &Standing(now),
+            &Fips,
+            stub,
+            check_crl,
+        )
+    } else {
+        rsc.process_at(alloc, issuer, strict, now, &Fips, stub, check_crl)
+    }
+}
+
+// What is answered of a checklist that is processed.
+fn accepted(alloc: Global, answer: &mut Answer, asked: &Asked<'_>, rsc: Rsc, stub: &mut Stub) {
+    match process(alloc, asked, rsc, stub) {
+        Ok((holder, checklist)) => {
+            held(answer, &holder, &checklist);
+            drop(holder);
+            drop(checklist);
+        }
+        Err(error) => {
+            answer.say(&format_args!("refused: {error}"));
+            drop(error);
+        }
+    }
+}
+
+// What is answered of octets.
+fn answered(alloc: Global, answer: &mut Answer, asked: &Asked<'_>, digits: &str) {
+    let octets = octets_of(alloc, digits);
+    let mut stub = Stub { asked: 0 };
+    match Rsc::decode(alloc, octets.as_slice(), asked.strict) {
+        Ok(rsc) => accepted(alloc, answer, asked, rsc, &mut stub),
+        Err(error) => {
+            drop(error);
+            answer.word("unreadable");
+        }
+    }
+    answer.say(&format_args!("asked {}", stub.asked));
+}
+
+/// Whether a checklist is accepted: strict or not, at a moment, with a caller's test, below a trust anchor; and how often
+/// the verifier was asked.
+pub fn processed(alloc: Global, answer: &mut Answer, by_clock: bool, words: &[&str]) -> Result<()> {
+    let [how, moment, test, anchor, digits] = words else {
+        return unknown();
+    };
+    let now = moment_of((*moment).as_bytes())?;
+    let issuer = anchor_of(alloc, *anchor)?;
+    let asked = Asked {
+        issuer: &issuer,
+        strict: *how == "strict",
+        now,
+        by_clock,
+        test: *test,
+    };
+    answered(alloc, answer, &asked, *digits);
+    drop(issuer);
+    Ok(())
+}
+
+/// Whether a checklist is sound, whatever its certificate is, and how often the verifier was asked.
+pub fn sound(alloc: Global, answer: &mut Answer, strict: bool, digits: &str) -> Result<()> {
+    let octets = octets_of(alloc, digits);
+    let mut stub = Stub { asked: 0 };
+    let Ok(rsc) = Rsc::decode(alloc, octets.as_slice(), strict) else {
+        return Err(anyhow!("unreadable"));
+    };
+    let tested = rsc.verify_content(alloc, &Fips, &mut stub);
+    drop(rsc);
+    match tested {
+        Ok(()) => answer.word("sound"),
+        Err(error) => answer.say(&format_args!("unsound: {error}")),
+    }
+    answer.say(&format_args!("asked {}", stub.asked));
+    Ok(())
+}

@@ -1,5 +1,0 @@
-use Rattle.objects_relaxed.proofs.Objects.{manifests_stay, manifests_stay_alone}
-use Rattle.objects_relaxed.proofs.laws.manifests_stay.Goals as goal
-
-pub returns : goal.returns
-returns c = record { stay = manifests_stay; alone = manifests_stay_alone }

@@ -1,6 +1,0 @@
-use Rattle.bcder_content.proofs.InMode.{inside}
-use Rattle.objects_stated.specs.Stated.{AreStated}
-use Rattle.objects_stated.proofs.stated.StatedResources.take_from.Goals as goal
-
-pub returns-clause-reads : goal.returns-clause-reads
-returns-clause-reads g c = inside {P = AreStated c.args.form} (record { each = λ p q r h. h }) c.take_sequence.ensures.ran

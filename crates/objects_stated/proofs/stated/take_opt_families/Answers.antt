@@ -1,6 +1,0 @@
-use Rattle.bcder_content.proofs.InMode.{inside_opt}
-use Rattle.objects_stated.specs.Reading.{IsFamiliesContent}
-use Rattle.objects_stated.proofs.stated.take_opt_families.Goals as goal
-
-pub returns : goal.returns
-returns g c = inside_opt {P = IsFamiliesContent} (record { each = λ p q r h. h }) c.take_opt_constructed_if.ensures.ran

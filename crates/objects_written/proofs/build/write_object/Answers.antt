@@ -1,0 +1,7 @@
+use Rattle.objects_written.proofs.Refused.{enclosed_refused}
+use Rattle.objects_written.specs.Refusing.{CannotEnclose}
+use Rattle.objects_written.proofs.build.write_object.Goals as goal
+
+pub returns-in-Err-clause-refused : goal.returns-in-Err-clause-refused
+returns-in-Err-clause-refused g c =
+    enclosed_refused (CannotEnclose c.args.content_type.now c.args.content.now c.args.cert.now c.args.attributes.now c.args.signature.now) c.in-Err.error c.refused.result c.refused.ensures c.in-Err.ensures.refused
