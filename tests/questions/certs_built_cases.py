@@ -8,6 +8,8 @@ import hashlib
 import ipaddress
 import random
 
+from certs_parts import TEXTS
+
 rng = random.Random(6487)
 
 
@@ -305,11 +307,11 @@ def validated():
         (ANCHOR, "20260108000000Z", everything),
         (ANCHOR, "20251231235959Z", "not yet valid 12 0"),
         (ANCHOR, "20260108000001Z", "expired 12 0"),
-        (inside, "20260101000000Z", "ManifestNotChild 12 0"),
-        (beside, "20260101000000Z", "ManifestNotChild 12 0"),
-        (changed(ANCHOR, "ca", "false"), "20260101000000Z", "NotCa 12 0"),
+        (inside, "20260101000000Z", f"{TEXTS['ManifestNotChild']} 12 0"),
+        (beside, "20260101000000Z", f"{TEXTS['ManifestNotChild']} 12 0"),
+        (changed(ANCHOR, "ca", "false"), "20260101000000Z", f"{TEXTS['NotCa']} 12 0"),
         (changed(ANCHOR, "authority", hashlib.sha1(ANCHOR["bits"]).digest()), "20260101000000Z", everything),
-        (changed(ANCHOR, "authority", bytes(20)), "20260101000000Z", "AuthorityKeyMismatch 12 0"),
+        (changed(ANCHOR, "authority", bytes(20)), "20260101000000Z", f"{TEXTS['AuthorityKeyMismatch']} 12 0"),
         (changed(ANCHOR, "v4", "inherit"), "20260101000000Z", "inherited IPv4 addresses 12 0"),
     ]
     for number, (fields, moment, answer) in enumerate(rows):

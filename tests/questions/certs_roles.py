@@ -441,17 +441,17 @@ def anchors():
             ask(f"{'ok' if said.startswith('holds') else said} {count}", "issued", "lent", call, *words, about=(call, *about))
     for test in TESTS["ta"]:
         parts = made("ta", FAILS[test])
-        as_anchor(f"{test} 0", parts, later(LAST, 1), about=("form before moment", test))
+        as_anchor(f"{TEXTS[test]} 0", parts, later(LAST, 1), about=("form before moment", test))
         # Whose form isn't asked for, that one is accepted.
-        as_anchor(f"{test} 0", parts, call="validate_ta", about=("form", test) if test in ("NotCa", "AiaPresent") else None)
+        as_anchor(f"{TEXTS[test]} 0", parts, call="validate_ta", about=("form", test) if test in ("NotCa", "AiaPresent") else None)
         for call in ANCHOR_CALLS[2:]:
             as_anchor(f"{parts.held()} 1", parts, call=call, about=("form", test) if test in ("NotCa", "AiaPresent") else None)
     as_anchor(f"{good.held()} 1", made("ta", sets(issuer=name(b"one", 0x0C))), strict="relaxed", about=["relaxed"])
-    as_anchor("BadIssuer 0", made("ta", sets(issuer=name(b"one", 0x0C))), about=["strict"])
+    as_anchor(f"{TEXTS['BadIssuer']} 0", made("ta", sets(issuer=name(b"one", 0x0C))), about=["strict"])
     # No authority key identifier, a repository with a slash at its end, other cases.
     as_anchor(f"{good.held()} 1", made("ta", sets(authority_key=None)), about=["no authority key"])
     for repository, is_good in ((HOST + "/", True), (HOST.replace("e", "E", 1), True), (HOST[:-1] + "P", False), (HOST + "//", False)):
-        answer = f"{good.held()} 1" if is_good else "ManifestNotChild 0"
+        answer = f"{good.held()} 1" if is_good else f"{TEXTS['ManifestNotChild']} 0"
         as_anchor(answer, made("ta", places(repository=repository)), about=("repository", repository))
 
 
@@ -471,8 +471,8 @@ def anchor_cert():
         say(f"{good().held()} 1", good(), moment.decode())
     say("not yet valid 0", good(), later(FIRST, -1))
     say("expired 0", good(), later(LAST, 1))
-    say("ManifestNotChild 0", good(FAILS["ManifestNotChild"]), MOMENT.decode())
-    say("AlgorithmMismatch 0", good(FAILS["AlgorithmMismatch"]), MOMENT.decode())
+    say(f"{TEXTS['ManifestNotChild']} 0", good(FAILS["ManifestNotChild"]), MOMENT.decode())
+    say(f"{TEXTS['AlgorithmMismatch']} 0", good(FAILS["AlgorithmMismatch"]), MOMENT.decode())
     read(good(swaps(lambda listed: [row for row in listed if row[0] != "policy"])), "no certificate policy")
     others = dict(made("ta").extensions())
     read(good(swaps(at("addresses", lambda octets: [octets, others["addresses"]]))), "duplicate extension")
@@ -542,7 +542,7 @@ def below():
             for call in calls:
                 inspects = call[1].startswith("validate")
                 about = ("form before moment", test) if call == calls[0] or test in ("AlgorithmMismatch", TESTS[role][-1]) else None
-                under(f"{test} 0" if inspects else "expired 0", role, parts, about=about, call=call)
+                under(f"{TEXTS[test]} 0" if inspects else "expired 0", role, parts, about=about, call=call)
     single_tests()
     numbers()
 
