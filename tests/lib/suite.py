@@ -242,7 +242,8 @@ class Run:
             ordered = sorted(self.tests, key=lambda test: -test.limit(self.level))
             running = {pool.submit(self.take, test): test for test in ordered}
             for done in concurrent.futures.as_completed(running):
-                passed, failed, said, output = done.result()
+                why = done.exception()
+                passed, failed, said, output = (0, 1, f"not run: {why}", "") if why else done.result()
                 self.passed, self.failed = self.passed + passed, self.failed + failed
                 self.skipped += said.startswith("skipped")
                 self.unended += said.startswith(("not begun", "not ended"))
