@@ -1,0 +1,8 @@
+pub mod Several
+pub mod Carried
+-- What stands below, for the crates above.
+pub use Rattle.objects_cms.specs.bcder_content as bcder_content
+pub use Rattle.objects_cms.specs.bcder_tree as bcder_tree
+pub use Rattle.objects_cms.specs.objects_payload as objects_payload
+pub use Rattle.objects_cms.specs as objects_cms
+pub use Rattle.objects_valid.specs as objects_valid
