@@ -24,6 +24,7 @@ use Rattle.objects_cms.specs.certs_x509.Took.{TookOctets}
 use Rattle.certs_cert.proofs.Joined.{Read, as_read, read_as}
 use Rattle.certs_cert.proofs.of_certs_x509.Octets.{EachTook, inside_took}
 use Rattle.objects_cms.specs.certs_extension.CertText.{IsCert}
+use Rattle.objects_cms.specs.Signer.{IsSigner}
 use Rattle.objects_rta.specs.Several.{Perhaps, Repeats, RepeatsCases, Several, SomeOf}
 
 -- One more, after the others.
@@ -48,10 +49,22 @@ repeated_begin = record {
 pub repeated_start : {A : Type 0} {Q : Mode → Tree → A → Type 0} {P : Mode → List ℕ → A → Type 0} {xs : List A} {v : ValuesLeft} → xs ≡ [] → Repeated Q P xs v v
 repeated_start {Q = Q} {P} {v = v} e = subst (λ ys. Repeated Q P ys v v) (sym e) repeated_begin
 
--- No items, and some.
+-- No value was read, of the values that the loop's mean.
+pub repeated_start_as : {A D : Type 0} {Q : Mode → Tree → A → Type 0} {P : Mode → List ℕ → A → Type 0} (f : D → A) (xs : List D) {v : ValuesLeft} → xs ≡ [] → Repeated Q P (map f xs) v v
+repeated_start_as f xs e = repeated_start (ap (map f) e)
+
+-- No items, and some; and of what they mean.
 pub none_of : {A : Type 0} (xs : List A) → length xs ≡ 0 → xs ≡ []
 none_of [] e = refl
 none_of (x ∷ xs) e = absurd (omega (arith, e))
+
+pub none_mapped : {A D : Type 0} (f : D → A) (xs : List D) → length xs ≡ 0 → map f xs ≡ []
+none_mapped f [] e = refl
+none_mapped f (x ∷ xs) e = absurd (omega (arith, e))
+
+pub some_mapped : {A D : Type 0} (f : D → A) (xs : List D) → (length xs ≡ 0 → ⊥) → map f xs ≢ []
+some_mapped f [] some e = some refl
+some_mapped f (x ∷ xs) some e = absurd cc
 
 both_read : {A : Type 0} {P : Mode → List ℕ → A → Type 0} {xs ys : List A} {x : A} {start now new : ValuesLeft}
     → Read (λ m. Repeats (P m)) start xs now → Read P now x new → ys ≡ xs ++ (x ∷ []) → Read (λ m. Repeats (P m)) start ys new
@@ -135,6 +148,10 @@ perhaps_read f tag Q {old = old} {new} None h t = record {
   is = record { cases = refl };
 }
 perhaps_read f tag Q (Some x) h t = record { text = t.text; goes = t.goes; is = record { cases = t.is } }
+
+-- A signer is a SEQUENCE.
+pub signer_tagged : (m : Mode) → Tagged sequence_tag (IsSigner m)
+signer_tagged m = record { tagged = λ t x p. ap tag_of p.whole }
 
 -- A certificate is a SEQUENCE.
 pub cert_tagged : (m : Mode) → Tagged sequence_tag (IsCert m)

@@ -1,5 +1,9 @@
 pub mod Several
 pub mod Carried
+pub mod MultiText
+pub mod MultiFrame
+pub mod Attestations
+pub mod AttestationParts
 -- What stands below, for the crates above.
 pub use Rattle.objects_cms.specs.bcder_content as bcder_content
 pub use Rattle.objects_cms.specs.bcder_tree as bcder_tree
