@@ -37,14 +37,14 @@ several_tree s {text} {xs} p =
     record { trees = r.trees; is = record { are = r.is; some = p.some }; spelled = r.spelled }
 
 -- Whether there is no value.
-no_trees : Trees → Bool
+abbrev no_trees : Trees → Bool
 no_trees none = true
 no_trees (more t ts) = false
 
 record IsNone (ts : Trees) (b : Bool) : Type 0 where
   same : b ≡ no_trees ts
 
-no_items : {A : Type 0} → List A → Bool
+abbrev no_items : {A : Type 0} → List A → Bool
 no_items [] = true
 no_items (x ∷ xs) = false
 

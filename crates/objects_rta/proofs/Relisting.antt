@@ -31,7 +31,7 @@ pub record ListsAt {A : Type 0} (m : Mode) (L : List ℕ → A → Type 0) (f : 
   pub text : List ℕ
   pub is : Perhaps (Wraps m (context 1) L) text f.1.0.0.1.1.1.1.0
 
-pub lists_at : {A : Type 0} {m : Mode} {L : List ℕ → A → Type 0} {text : List ℕ} {f : InfoFields A} → SpellsMultiInfo m L text f → ListsAt m L f
+abbrev pub lists_at : {A : Type 0} {m : Mode} {L : List ℕ → A → Type 0} {text : List ℕ} {f : InfoFields A} → SpellsMultiInfo m L text f → ListsAt m L f
 lists_at w =
     let lists = w.is.rest.is.is.is.is.rest.rest.rest.rest in
     record { text = lists.first; is = lists.is }
@@ -41,13 +41,13 @@ pub relists : {A B : Type 0} {m : Mode} {L : List ℕ → A → Type 0} {K : Lis
 relists l w p =
     let inner = w.is.rest in
     let only = inner.is.is in
-    let data = only.is in
-    let version = data.is in
+    let signed = only.is in
+    let version = signed.is in
     let digests = version.rest in
     let content = digests.rest in
     let certs = content.rest in
     let lists = certs.rest in
-    rewrap w (rejoin w.is (rejoin_first inner (rewrap inner.is (rejoin_first only (rewrap data
+    rewrap w (rejoin w.is (rejoin_first inner (rewrap inner.is (rejoin_first only (rewrap signed
     (rejoin version (rejoin digests (rejoin content (rejoin certs (rejoin_first lists p))))))))))
 
 -- Octets that are lists, as lists.

@@ -51,11 +51,15 @@ pub record IsTyped (strict : Bool) (octets : List ℕ) (o : Multi) (content : Li
   pub type_is : o.content_type ≡ tagged_attestation
   pub content_is : content ≡ o.content
 
-abbrev pub DecodesTyped : {E : Type 0} → Bool → List ℕ → Result (Multi × List ℕ) (DecodeError E) → Type 0
+abbrev pub DecodesTyped : {E : Type 0} → Bool → List ℕ
+    → Result (Multi × List ℕ) (DecodeError E) → Type 0
 DecodesTyped strict octets (Ok p) = IsTyped strict octets p.0 p.1
-DecodesTyped strict octets (Err e) = OnContent e ((o : Multi) → MultiText strict octets o → o.content_type ≡ tagged_attestation → ⊥)
+DecodesTyped strict octets (Err e) =
+    OnContent e ((o : Multi) → MultiText strict octets o → o.content_type ≡ tagged_attestation → ⊥)
 
 -- The attestation in front of the octets, or there is none.
-abbrev pub DecodesAttestation : {E : Type 0} → Bool → List ℕ → Result RtaValue (DecodeError E) → Type 0
+abbrev pub DecodesAttestation : {E : Type 0} → Bool → List ℕ
+    → Result RtaValue (DecodeError E) → Type 0
 DecodesAttestation strict octets (Ok r) = AttestationText strict octets r.signed r.content
-DecodesAttestation strict octets (Err e) = OnContent e ((o : Multi) (x : Attestation) → AttestationText strict octets o x → ⊥)
+DecodesAttestation strict octets (Err e) =
+    OnContent e ((o : Multi) (x : Attestation) → AttestationText strict octets o x → ⊥)

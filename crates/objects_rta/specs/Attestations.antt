@@ -33,7 +33,8 @@ abbrev pub AreSubjectKeys : Mode → Trees → List (List ℕ) → Type 0
 AreSubjectKeys m = Many (IsSubjectKey m)
 
 abbrev pub Fields : Type 0
-Fields = Option (Unit {0} × Unit {0}) × (List (List ℕ) × (Stated × (Unit {0} × (List ℕ × Unit {0}))))
+Fields =
+    Option (Unit {0} × Unit {0}) × (List (List ℕ) × (Stated × (Unit {0} × (List ℕ × Unit {0}))))
 
 abbrev pub AreFields : Mode → Trees → Fields → Type 0
 AreFields m =
@@ -53,7 +54,8 @@ abbrev pub IsAttestation : Mode → Tree → Attestation → Type 0
 IsAttestation m = As (Inside sequence_tag (AreFields m)) attestation_of
 
 -- A signed object that is an attestation; its content is DER in both modes (RFC 6488 2.1.3.2).
-pub record AttestationText (strict : Bool) (octets : List ℕ) (o : Multi) (x : Attestation) : Type 0 where
+pub record AttestationText (strict : Bool) (octets : List ℕ) (o : Multi) (x : Attestation)
+    : Type 0 where
   pub object : MultiText strict octets o
   pub type_is : o.content_type ≡ tagged_attestation
   pub content_is : ReadsFront (IsAttestation Der) o.content x

@@ -64,7 +64,8 @@ pub record AreWhole (old : ValuesLeft) (crls : List CrlValue) (new : ValuesLeft)
   pub is : Many (IsCrl old.mode) trees crls
 
 -- A reader of such a content, its end included, by what its answer means.
-abbrev pub ReadsWhole : {A E : Type 0} → (A → List CrlValue) → ValuesLeft → Result A (DecodeError E) → ValuesLeft → Type 0
+abbrev pub ReadsWhole : {A E : Type 0} → (A → List CrlValue) → ValuesLeft
+    → Result A (DecodeError E) → ValuesLeft → Type 0
 ReadsWhole f old (Ok x) new = AreWhole old (f x) new
 ReadsWhole f old (Err e) new = OnContent e (LacksAll (Many (IsCrl old.mode)) old)
 
@@ -74,6 +75,7 @@ AreListsIn None crls = crls ≡ []
 AreListsIn (Some octets) crls = InOrder Der (Many (IsCrl Der)) octets crls
 
 -- The lists of these octets, or they are none.
-abbrev pub DecodesLists : {A E : Type 0} → (A → List CrlValue) → Option (List ℕ) → Result A (DecodeError E) → Type 0
+abbrev pub DecodesLists : {A E : Type 0} → (A → List CrlValue) → Option (List ℕ)
+    → Result A (DecodeError E) → Type 0
 DecodesLists f octets (Ok x) = AreListsIn octets (f x)
 DecodesLists f octets (Err e) = OnContent e ((crls : List CrlValue) → AreListsIn octets crls → ⊥)

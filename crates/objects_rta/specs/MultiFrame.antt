@@ -34,7 +34,8 @@ SignerOctets m = Several (SpellsSigner m)
 
 -- What stands behind the content.
 abbrev pub carried_fields : Carried → CarriedFields (List ℕ)
-carried_fields c = (c.certs.items, (option_map octets_of c.lists, (map signer_fields c.signers.items, tt)))
+carried_fields c =
+    (c.certs.items, (option_map octets_of c.lists, (map signer_fields c.signers.items, tt)))
 
 abbrev pub AreCarried : Mode → Trees → CarriedFields (List ℕ) → Type 0
 AreCarried m =

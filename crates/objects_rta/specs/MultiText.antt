@@ -29,7 +29,8 @@ SpellsSigners m = Wraps m set_tag (Several (SpellsSigner m))
 abbrev pub CarriedFields : Type 0 → Type 0
 CarriedFields A = List CertValue × (Option A × (List SignerFields × Unit {0}))
 
-abbrev pub SpellsCarried : {A : Type 0} → Mode → (List ℕ → A → Type 0) → List ℕ → CarriedFields A → Type 0
+abbrev pub SpellsCarried : {A : Type 0} → Mode → (List ℕ → A → Type 0) → List ℕ
+    → CarriedFields A → Type 0
 SpellsCarried m L =
     Joins (SpellsCerts m)
     (Joins (Perhaps (Wraps m (context 1) L))
@@ -41,7 +42,8 @@ SpellsCarried m L =
 abbrev pub MultiFields : Type 0 → Type 0
 MultiFields A = Unit {0} × ((Unit {0} × Unit {0}) × (TypedFields × CarriedFields A))
 
-abbrev pub SpellsMultiData : {A : Type 0} → Mode → (List ℕ → A → Type 0) → List ℕ → MultiFields A → Type 0
+abbrev pub SpellsMultiData : {A : Type 0} → Mode → (List ℕ → A → Type 0) → List ℕ
+    → MultiFields A → Type 0
 SpellsMultiData m L =
     Wraps m sequence_tag
     (Joins (SpellsOf m IsThree)
@@ -53,7 +55,8 @@ SpellsMultiData m L =
 abbrev pub InfoFields : Type 0 → Type 0
 InfoFields A = Unit {0} × ((MultiFields A × Unit {0}) × Unit {0})
 
-abbrev pub SpellsMultiInfo : {A : Type 0} → Mode → (List ℕ → A → Type 0) → List ℕ → InfoFields A → Type 0
+abbrev pub SpellsMultiInfo : {A : Type 0} → Mode → (List ℕ → A → Type 0) → List ℕ
+    → InfoFields A → Type 0
 SpellsMultiInfo m L =
     Wraps m sequence_tag
     (Joins (SpellsOf m (id.TheOid id.signed_data))

@@ -39,7 +39,11 @@ impl Model for ResourceTaggedAttestation {
 
     ghost Value = { Attestation };
 
-    ghost view = { λ a. record { keys = a.keys.items; resources = a.resources; digest = a.digest } };
+    ghost view = { λ a. record {
+      keys = a.keys.items;
+      resources = a.resources;
+      digest = a.digest;
+    } };
 }
 
 // What stands behind the keys.

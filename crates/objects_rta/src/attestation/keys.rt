@@ -1,6 +1,5 @@
 //! The identifiers of the keys that sign an attestation.
 
-
 ghost use Rattle.objects_cms.specs.bcder_tree.Strings.{octet_string_tag};
 ghost use Rattle.objects_cms.specs.bcder_tree.Tags.{set_tag};
 ghost use Rattle.objects_cms.specs.bcder_content.Exact.{ReadsAs, ReadsOptAs};
