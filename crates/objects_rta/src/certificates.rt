@@ -48,7 +48,7 @@ fn take_some<S: Source>(
 }
 
 /// The certificates: `[0] IMPLICIT SET` of one or more.
-pub fn take_certificates<S: Source>(
+pub(crate) fn take_certificates<S: Source>(
     alloc: Global,
     cons: &mut Constructed<S>,
 ) -> Result<Vec<Cert>, DecodeError<S::Error>>

@@ -40,7 +40,7 @@ fn take_octets<S: Source>(
 }
 
 /// The octets of the lists, if `[1]` is next.
-pub fn take_opt_lists<S: Source>(
+pub(crate) fn take_opt_lists<S: Source>(
     alloc: Global,
     cons: &mut Constructed<S>,
 ) -> Result<Option<Captured>, DecodeError<S::Error>>
@@ -106,7 +106,7 @@ fn decode_octets(alloc: Global, octets: &[u8]) -> Result<Vec<Crl>, DecodeError<I
 }
 
 /// The lists in DER that are all of the octets; none where there are no octets.
-pub fn decode_lists(
+pub(crate) fn decode_lists(
     alloc: Global,
     octets: &Option<Captured>,
 ) -> Result<Vec<Crl>, DecodeError<Infallible>>

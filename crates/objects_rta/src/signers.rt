@@ -73,7 +73,7 @@ fn take_some<S: Source>(
 }
 
 /// The signers: a SET of one or more.
-pub fn take_signers<S: Source>(
+pub(crate) fn take_signers<S: Source>(
     alloc: Global,
     cons: &mut Constructed<S>,
 ) -> Result<Vec<SignerInfo>, DecodeError<S::Error>>
