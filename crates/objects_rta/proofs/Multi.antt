@@ -1,6 +1,6 @@
 -- A signed object with several signers is a frame whose parts agree, and whose lists are lists.
-use Rattle.std.proofs.Common.{◌≡◌, ℕ, Bool, true, false, List, [], ◌∷◌, ◌++◌, Result, Ok, Err, map, ap, ◌∙◌, subst, sym}
-use Rattle.std.proofs.lemmas.List.Elements.{All-map}
+use Rattle.std.proofs.Common.{◌≡◌, ℕ, Bool, true, false, List, [], ◌∷◌, ◌++◌, Result, Ok, Err, map, suc, ap, ◌∙◌, subst, sym, arith}
+use Rattle.std.proofs.lemmas.List.Elements.{All-cons, All-map, All-nil}
 use Rattle.std.specs.Prelude.{All, IsErr, IsErrAnd, OnOk}
 use Rattle.objects_cms.specs.bcder_tree.declared.mode.Mode.{Mode}
 use Rattle.objects_cms.specs.bcder_source.Errors.{OnContent}
@@ -25,8 +25,8 @@ use Rattle.objects_rta.proofs.Relisting.{listed, lists_at, relisted, relists, un
 
 -- What holds of each meaning holds of what means it.
 all_unmapped : {X Y : Type 0} (P : X → Type 0) (f : Y → X) (ys : List Y) → All P (map f ys) → All (λ y. P (f y)) ys
-all_unmapped P f [] p = p
-all_unmapped P f (y ∷ ys) p = (p.0, all_unmapped P f ys p.1)
+all_unmapped P f [] h = All-nil (λ y. P (f y))
+all_unmapped P f (y ∷ ys) h = All-cons (λ z. P (f z)) y ys (h 0 (f y) (omega arith)) (all_unmapped P f ys (λ k d lt. h (suc k) d (omega arith)))
 
 -- No frame is next, so no object is.
 multi_lacks : {now : ValuesLeft} → Lacks (IsInfo now.mode) now → LacksOctets SpellsMulti now
@@ -113,9 +113,9 @@ decodes_multi {rest = rest} {g} {op} {o} {r} strict e each h =
     decoded_cases strict o r each d.cases
 
 -- Octets have one content at most, of one type.
-fields_content : {m : Mode} {a b u v : List ℕ} {x y : Multi} (p : SpellsMulti m a x) (q : SpellsMulti m b y) → a ++ u ≡ b ++ v
+fields_content : {m : Mode} {a b : List ℕ} (u v : List ℕ) {x y : Multi} (p : SpellsMulti m a x) (q : SpellsMulti m b y) → a ++ u ≡ b ++ v
     → (x.content_type ≡ y.content_type) × (x.content ≡ y.content)
-fields_content {m} {a} {b} {u} {v} {x} {y} p q e =
+fields_content {a = a} {b} u v {x} {y} p q e =
     let k = unlisted (lists_at p.is).is in
     let l = unlisted (lists_at q.is).is in
     let same = (raw_one.one a b u v (relisted p.fields k.octets) (relisted q.fields l.octets) (relists k.octets p.is k.is) (relists l.octets q.is l.is) e).1 in
@@ -127,4 +127,4 @@ fields_content {m} {a} {b} {u} {v} {x} {y} p q e =
 
 pub one_content : (strict : Bool) (octets : List ℕ) (o o' : Multi) → MultiText strict octets o → MultiText strict octets o'
     → (o.content_type ≡ o'.content_type) × (o.content ≡ o'.content)
-one_content strict octets o o' p q = fields_content p.is q.is (sym p.whole ∙ q.whole)
+one_content strict octets o o' p q = fields_content p.rest q.rest p.is q.is (sym p.whole ∙ q.whole)

@@ -1,5 +1,5 @@
 -- Octets that spell what stands around a content are those of a tree of the same values; and they are read in one way.
-use Rattle.std.proofs.Common.{◌≡◌, ℕ, List, ◌++◌, Option, Some, None, refl, sym, ap, ◌∙◌, subst}
+use Rattle.std.proofs.Common.{◌≡◌, ℕ, List, ◌++◌, Option, Some, None, refl, sym, ap, ◌∙◌, subst, arith}
 use Rattle.objects_cms.specs.bcder_tree.declared.mode.Mode.{Mode}
 use Rattle.objects_cms.specs.bcder_tree.Tags.{TagValue, context, set_tag}
 use Rattle.objects_cms.specs.bcder_tree.Tree.{Tree, Trees, more}
@@ -33,6 +33,10 @@ signer_shows = record { shows = λ text x p. signer_tree p }
 signers_of : {m : Mode} {text : List ℕ} {x : List SignerFields} → SpellsSigners m text x → SpellsOf m (Inside set_tag (AreSigners m)) text x
 signers_of w = wraps w (several_tree signer_shows w.is)
 
+-- The tags of lists and of signers are apart.
+apart : context 1 ≡ set_tag → ⊥
+apart e = let class : 2 ≡ 0 = ap (λ (t : TagValue). t.class) e in absurd (omega (arith, class))
+
 -- Behind the certificates: lists that may be missing, and signers.
 abbrev AreBehind : Mode → Trees → List SignerFields × Unit {0} → Type 0
 AreBehind m = Then (Inside set_tag (AreSigners m)) End
@@ -41,8 +45,7 @@ without_lists : {m : Mode} {ts : Trees} {x : List SignerFields × Unit {0}} → 
 without_lists {m} {ts} p = record {
   unlike = λ t us e tag.
       let first = (same_trees (sym p.whole ∙ e)).0 in
-      let other : set_tag ≡ context 1 = sym (ap tag_of p.is.whole) ∙ ap tag_of first ∙ tag in
-      absurd cc;
+      apart (sym tag ∙ sym (ap tag_of first) ∙ ap tag_of p.is.whole);
 }
 
 lists_tree : {m : Mode} (text first others : List ℕ) (o : Option (List ℕ)) (x : List SignerFields × Unit {0}) → text ≡ first ++ others
@@ -89,9 +92,6 @@ info_tree w =
     (nothing inner.rest)))
 
 -- One way.
-apart : context 1 ≡ set_tag → ⊥
-apart e = absurd cc
-
 carried_one : {m : Mode} → OneBefore (AreCarriedOctets m)
 carried_one {m} =
     joins_one (wraps_one (several_one spelled_cert_one cert_shows))
