@@ -287,7 +287,7 @@ ROWS = (
     Row("rpki_cases", "sound +", "verify_content; SignedObject: verify_content"),
     Row("rpki_cases", "typed +", "DecodeIfType: decode_if_type"),
     Row("rpki_cases", "written +", "EncodeManifest, EncodeRoa: to_octets", 3),
-    Row("rpki_cases", "ask +", "judge, reach, naming_chains, point, through rpki_ask", 2, r"2 \[\] \[(out of memory|write fault)\|\]"),
+    Row("rpki_cases", "ask +", "judge, reach, naming_chains, cost, point, through rpki_ask", 2, r"2 \[\] \[(out of memory|write fault)\|\]"),
     # (what asks these is made below)
     Row("rpki_cases", "walk", "walk, walk_lines, run, read_bundle, render; Report, Path: new, longer", 4, "write fault "),
     Row("rpki_cases", "witnesses", "walk; Report: new", 4),

@@ -6,7 +6,8 @@
 Chains of 1, 2, 31, 32 and 33 certificates stand below a locator, each authority with an origin of its own, in bundles of depth 1, 31
 and 32: printed is what the first ones attest, as many as the depth allows, and that the next certificate is refused. Each good
 object is judged by its chain, and the one below the longest chain by a chain that is longer than the depth. In lattices each
-authority of a row certifies all of the next row, so that many chains end alike: 2^3, 8^8 and 3^30. 70 URIs of 70
+authority of a row certifies all of the next row, so that many chains end alike: 2^3, 8^8 and 3^30. How many chains go on below
+each certificate is asked of small ones, and of 2^32 with a limit. 70 URIs of 70
 authorities are asked what they reach, together, and which chains name them; and once 69 that nobody names, with one that is
 named. Bundles have some octets in large files that manifests list: 17 MB, with --huge 64 and 200 MB, too, and with --small
 2 MB. All answers are stated here, but of small lattices in which a key is certified again below: these are those of the second
@@ -162,6 +163,42 @@ def lattices(tests, check):
         tests.gives(f"row {again} is certified again below", [check, "check"], octets, 0, right)
 
 
+def chains_below(width, height):
+    """What `cost` says of a lattice: to a certificate of a row as many chains lead as to the one that issued it, and below it
+    go on as many as the rows below have."""
+    rows = [(sum(width**row for row in range(1, height + 1)), "ta.cer")]
+    for row in range(height - 1):
+        ways, more = width ** max(row - 1, 0), sum(width**below for below in range(1, height - row))
+        folders = [name_at(row - 1, place).decode() for place in range(width)] if row else ["ta"]
+        rows += [(ways * more, f"{folder}/{name_at(row, place).decode()}.cer") for folder in folders for place in range(width)]
+    rows = sorted(((number, HOST.decode() + file) for number, file in rows), key=lambda row: (-row[0], row[1]))
+    return [f"{number} {uri}" for number, uri in rows]
+
+
+def costs(tests, ask):
+    for width, height in ((2, 3), (3, 3), (2, 7)):
+        octets = lattice(width, height).bundle()
+        lines = chains_below(width, height)
+        number = 1 + int(lines[0].split()[0])
+        for words in ([], [str(number)]):
+            tests.gives(f"cost of {width} by {height}", [ask, "cost", *words], octets, 0, text_of(["exactly", *lines]))
+        found = rpki_model.walk(octets).chains_below()
+        tests.same(f"cost of {width} by {height}, read again", [f"{count} {uri.decode()}" for count, uri in found], lines)
+        # One chain is left out, and it isn't the anchor's.
+        done = subprocess.run([ask, "cost", str(number - 1)], input=octets, capture_output=True, timeout=SECONDS)
+        said = done.stdout.decode().splitlines()[:2]
+        right = ["at least", f"{number - 2} {HOST.decode()}ta.cer"]
+        tests.same(f"cost of {width} by {height}, one less", (done.returncode, said, done.stderr), (1, right, b""))
+    octets = lattice(2, 32).bundle()
+    for limit in (1000, 20_000):
+        began = time.monotonic()
+        done = subprocess.run([ask, "cost", str(limit)], input=octets, capture_output=True, timeout=SECONDS)
+        said = done.stdout.decode().splitlines()[:2]
+        right = ["at least", f"{limit - 1} {HOST.decode()}ta.cer"]
+        tests.same(f"cost of 2 by 32, limit {limit}", (done.returncode, said, done.stderr), (1, right, b""))
+        print(f"{limit} chains counted: {time.monotonic() - began:.1f} s", flush=True)
+
+
 # URIs.
 
 
@@ -247,6 +284,7 @@ def main():
     tests = Tests()
     chains(tests, check, ask)
     lattices(tests, check)
+    costs(tests, ask)
     many(tests, ask, cases)
     bundles(tests, check, given.sizes)
     print(f"{tests.passed} passed, {tests.failed} failed")

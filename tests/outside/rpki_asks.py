@@ -4,11 +4,12 @@
     rpki_asks.py PROGRAM [--count N] [--seed N]
 
 Of each bundle it is asked why each name and URI is attested or refused, what the judge says of each witness and of ones
-that are none, and what some URIs can reach. Prints each answer that differs, with the bundle's seed or name. The status
+that are none, what some URIs can reach, and how many chains go on below each authority. Prints each answer that differs, with the bundle's seed or name. The status
 is 1 where there was one. The last line is `N passed, M failed`, by bundles.
 """
 
 import argparse
+import json
 import pathlib
 import random
 import subprocess
@@ -57,6 +58,46 @@ def judged(found, witness):
     return int(not good), f"{'yes' if good else 'no'}\npoints {count}\n", ""
 
 
+def cost_lines(word, rows):
+    return f"{word}\n" + "".join(f"{number} {uri.decode()}\n" for number, uri in rows)
+
+
+def cost_object(rows):
+    below = [{"chains": number, "authority": uri.decode()} for number, uri in rows]
+    return json.dumps({"exact": True, "below": below}, separators=(",", ":")) + "\n"
+
+
+def is_part(said, found, limit):
+    """Whether that is said where fewer chains are counted than there are: no number is more than the second reading's, the
+    rows are in order, and all are of so many chains."""
+    status, text, faults = said
+    first, *lines = text.splitlines()
+    rows = [(int(number), uri.encode()) for number, uri in (line.split(" ") for line in lines)]
+    whole = {uri: number for number, uri in found.chains_below()}
+    fits = all(0 < number <= whole.get(uri, 0) for number, uri in rows)
+    longest = max((len(chain) for _, chain, _, _ in found.accepted), default=0)
+    few = max((number for number, _ in rows), default=0) <= limit and sum(number for number, _ in rows) <= limit * longest
+    ordered = rows == sorted(rows, key=lambda row: (-row[0], row[1])) and len({uri for _, uri in rows}) == len(rows)
+    return (status, first, faults) == (1, "at least", "") and fits and few and ordered
+
+
+def costs(program, rng, octets, found):
+    """What was asked of the cost and answered wrongly: with no limit, with just enough, and with less."""
+    rows, number = found.chains_below(), len(found.accepted)
+    exact = 0, cost_lines("exactly", rows), ""
+    for words in (["cost"], ["cost", str(number)], ["cost", str(number + 1)]):
+        said = ask(program, octets, *words)
+        if said != exact:
+            yield " ".join(words), said, exact
+    said = ask(program, octets, "--json", "cost")
+    if said != (0, cost_object(rows), ""):
+        yield "--json cost", said, cost_object(rows)
+    for limit in {0, number - 1, rng.randrange(number)} if number else ():
+        said = ask(program, octets, "cost", str(limit))
+        if not is_part(said, found, limit):
+            yield f"cost {limit}", said, "at least some of " + repr(rows)
+
+
 def witnesses(rng, found):
     """Those of the walk, and changed ones."""
     rows = sorted(found.witnesses)
@@ -99,6 +140,7 @@ def differences(program, rng, octets):
         said = ask(program, octets, "reach", *(uri.decode() for uri in uris))
         if said != reach(found, uris):
             yield f"reach {uris}", said, reach(found, uris)
+    yield from costs(program, rng, octets, found)
 
 
 def bundles(given):

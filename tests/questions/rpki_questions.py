@@ -1,5 +1,5 @@
 """Questions to the program of questions, as rows of crates/rpki_cases: why something is attested or refused, what a judge
-says, what is reached, and wrong words.
+says, what is reached, what a walk costs, and wrong words.
 
 `tests/questions/rpki_cases.py` calls `questions`; what is right is stated here or comes of tests/lib/rpki_model.py.
 """
@@ -72,7 +72,27 @@ def others(q):
     q.ask("2 [] [not a bundle|]", "ask", "why", "x", "3000")
 
 
+def costs(q):
+    """How many chains go on below each authority: of no chain, of two parents with one child, and of a cycle."""
+    (world, _), ta = single(), (HOST + b"ta.cer").decode()
+    asks(q, world, 0, "exactly|", "cost")
+    asks(q, world, 0, '{"exact":true,"below":[]}|', "--json", "cost", "1")
+    asks(q, world, 1, "at least|", "cost", "0")
+    asks(q, world, 1, '{"exact":false,"below":[]}|', "--json", "cost", "0")
+    rows = [(4, ta), *((1, (HOST + b"ta/" + by + b".cer").decode()) for by in (b"a", b"b"))]
+    said = "exactly|" + text(f"{number} {uri}" for number, uri in rows)
+    for words in ((), ("5",), ("18446744073709551615",)):
+        asks(q, parents(), 0, said, "cost", *words)
+    below = ",".join(f'{{"chains":{number},"authority":"{uri}"}}' for number, uri in rows)
+    asks(q, parents(), 0, f'{{"exact":true,"below":[{below}]}}|', "--json", "cost")
+    found = rpki_model.walk(cycle(3).bundle()).chains_below()
+    asks(q, cycle(3), 0, "exactly|" + text(f"{number} {uri.decode()}" for number, uri in found), "cost")
+    for words in (["x"], ["-1"], [""], ["1", "2"], ["18446744073709551616"]):
+        q.ask("usage", "ask", "cost", *words, world.bundle().hex())
+
+
 def questions(q):
     """Asks all questions."""
     reasons(q)
     others(q)
+    costs(q)

@@ -54,6 +54,7 @@ WITHIN = {
     "walk_lines": "run",
     "judge_by": "judge",
     "Bundle::decode_shared": "run",
+    "cost": "ask",
 }
 
 

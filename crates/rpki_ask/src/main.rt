@@ -1,4 +1,4 @@
-//! `rpki_ask` answers questions about a bundle on standard input: `judge`, `reach` and `why`.
+//! `rpki_ask` answers questions about a bundle on standard input: `judge`, `reach`, `why` and `cost`.
 #![tactic(auto)]
 
 use rpki_commands::questions::{Counted, FAULT, RunError, USAGE, ask, request_of};

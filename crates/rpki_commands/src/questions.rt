@@ -1,10 +1,11 @@
 //! Questions about a bundle, for people and for tools: whether an object is good by a chain, what whoever may change the
-//! objects at some URIs can reach, and why something is attested or refused.
+//! objects at some URIs can reach, why something is attested or refused, and what a walk costs.
 //!
 //! Each answer is a text, a fact a line or one JSON object, and a yes or a no.
 
 mod answers;
 pub mod asking;
+mod costs;
 pub mod requests;
 mod texts;
 

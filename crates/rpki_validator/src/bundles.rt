@@ -8,6 +8,7 @@ ghost use Rattle.rpki_validator.specs.rpki_rules.World.{world_of};
 ghost use Rattle.rpki_rules.specs.Report.{IsReport};
 ghost use Rattle.rpki_rules.specs.Views.{witness_of, path_of};
 ghost use Rattle.rpki_walk.specs.Chained.{AreNamingChains};
+ghost use Rattle.rpki_walk.specs.Cost.{IsCost};
 ghost use Rattle.rpki_walk.specs.Counted.{ReadsPoints, may_ask_reading};
 ghost use Rattle.rpki_walk.specs.Naming.{answer_of};
 ghost use Rattle.rpki_walk.specs.Printed.{AreLines};
@@ -17,6 +18,7 @@ use rpki_bundle::{Bundle, Digester, Verifier};
 use rpki_rules::{Path, Report, Witness};
 use rpki_steps::climb::{BundleEvidence, Judgement};
 use rpki_steps::{BundleRepository, Index};
+use rpki_walk::cost::Cost;
 use rpki_walk::reach::Reach;
 use std::alloc::{AllocError, Global};
 use std::rc::Rc;
@@ -186,4 +188,29 @@ pub fn naming_chains<D: Digester, V: Verifier>(
     } = repository;
     let _asked = asked;
     chains
+}
+
+/// How many accepted chains go on below each authority, the most first, by the lookup keys of their certificates: all of
+/// them, or of as many chains as the budget has where more are accepted. Refused for lack of memory alone.
+pub fn cost<D: Digester, V: Verifier>(
+    alloc: Global,
+    bundle: &Bundle,
+    budget: u64,
+    digester: &D,
+    verifier: &mut V,
+) -> Result<Cost, AllocError>
+    ensures cost { IfOk result (IsCost (world_of
+        (digests_of D.sha256_digest D.sha1_digest digester.now) (V.says verifier.old) bundle.now)
+        budget) }
+    ensures same { V.says verifier.new ≡ V.says verifier.old }
+{
+    let mut repository = BundleRepository::new(Index::new(bundle), digester, verifier);
+    let counted = rpki_walk::cost::cost(alloc, &mut repository, budget);
+    // So the caller's verifier is the one that was asked.
+    let BundleRepository {
+        verifier: asked,
+        ..
+    } = repository;
+    let _asked = asked;
+    counted
 }

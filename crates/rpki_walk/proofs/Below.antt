@@ -131,21 +131,20 @@ module _ {A P : Type 0} (cert : A → Cert) (sets : A → Resources) (payload : 
       issued_to (InSet csets) (Holds a cs) (λ k n. (st.holds k n).0) w (last_of a cs).cert p file c i3
 
   -- Where no chain goes on.
-  ended : (met : List (List ℕ)) → MeetsFile w' (InSet csets) ca p0 file met → ((c : Cert) → IsIssued w' (InSet csets) ca p0 file c → Mem on c.tbs.subject_key_identifier ⊎ (w'.depth ≤ length on)) → Below w name a cs p file met
-  ended met keyed ends c i =
-      let j = issued_there c i in (
-        keyed c j,
-        λ acc. absurd (elim (ends c j) [
-          | inl m ↦ acc.once.0 (subst (λ (xs : List (List ℕ)). Mem xs c.tbs.subject_key_identifier) st.on_is m)
-          | inr l ↦ deep acc.short l
-        ]),
-      )
+  pub no_longer : ((c : Cert) → IsIssued w' (InSet csets) ca p0 file c → Mem on c.tbs.subject_key_identifier ⊎ (w'.depth ≤ length on)) → (c : Cert) → IsIssued w (Holds a cs) (last_of a cs).cert p file c → ¬ (Accepted w name a (record { uri = file; cert = c } ∷ cs))
+  no_longer ends c i acc = elim (ends c (issued_there c i)) [
+    | inl m ↦ acc.once.0 (subst (λ (xs : List (List ℕ)). Mem xs c.tbs.subject_key_identifier) st.on_is m)
+    | inr l ↦ deep acc.short l
+  ]
     where
       deep : suc (length cs) < w.depth → w'.depth ≤ length on → ⊥
       deep short l =
           let d : w'.depth ≡ w.depth = ap (λ (v : World). v.depth) same in
           let o : length on ≡ length (keys a cs) = ap length st.on_is in
           let k = keys_count a cs in omega arith
+
+  ended : (met : List (List ℕ)) → MeetsFile w' (InSet csets) ca p0 file met → ((c : Cert) → IsIssued w' (InSet csets) ca p0 file c → Mem on c.tbs.subject_key_identifier ⊎ (w'.depth ≤ length on)) → Below w name a cs p file met
+  ended met keyed ends c i = (keyed c (issued_there c i), λ acc. absurd (no_longer ends c i acc))
 
   pub below_nothing : (met : List (List ℕ)) (o : Outcome A P) → o ≡ Does.Nothing → Classified cert sets payload w' (InSet csets) ca p0 on file o → MeetsFile w' (InSet csets) ca p0 file met → Below w name a cs p file met
   below_nothing met o e cl keyed =
@@ -162,12 +161,12 @@ module _ {A P : Type 0} (cert : A → Cert) (sets : A → Resources) (payload : 
       let k = subst (λ (q : Outcome A P). Classified cert sets payload w' (InSet csets) ca p0 on file q) e cl in
       ended met keyed (λ c i. absurd (good_issued w' (InSet csets) ca p0 file (payload x) k c i))
 
-  -- Where a chain goes on, by what was walked below it.
-  module _ (acc : Accepted w name a cs) (o : Outcome A P) (child : A) (key : List ℕ) (e : o ≡ Does.Child child key) (cl : Classified cert sets payload w' (InSet csets) ca p0 on file o) (listed : Mem (files ca p0.manifest) file) (more : List (List ℕ)) (em : more ≡ key ∷ on) (v : World) (ev : v ≡ w) (mid new : LinesWalk) (since : ℕ) (walked : WalksLines v more file (cert child) (sets child) mid new since) (all : AreWalked w mid) where
-    abbrev link : Link
+  -- Where a chain goes on.
+  module _ (acc : Accepted w name a cs) (o : Outcome A P) (child : A) (key : List ℕ) (e : o ≡ Does.Child child key) (cl : Classified cert sets payload w' (InSet csets) ca p0 on file o) (listed : Mem (files ca p0.manifest) file) (more : List (List ℕ)) (em : more ≡ key ∷ on) where
+    abbrev pub link : Link
     link = record { uri = file; cert = cert child }
 
-    is_child : Classified cert sets payload w' (InSet csets) ca p0 on file (Does.Child child key)
+    pub is_child : Classified cert sets payload w' (InSet csets) ca p0 on file (Does.Child child key)
     is_child = subst (λ (q : Outcome A P). Classified cert sets payload w' (InSet csets) ca p0 on file q) e cl
 
     issued : IsIssued w (Holds a cs) (last_of a cs).cert p file (cert child)
@@ -182,13 +181,13 @@ module _ {A P : Type 0} (cert : A → Cert) (sets : A → Resources) (payload : 
         let d : w'.depth ≡ w.depth = ap (λ (u : World). u.depth) same in
         let k : length on ≡ length (keys a cs) = ap length st.on_is in omega arith
 
-    goes_on : Accepted w name a (link ∷ cs)
+    pub goes_on : Accepted w name a (link ∷ cs)
     goes_on =
         let m = subst (λ (l : Cert). Mem (files l p.manifest) file) st.ca_is (subst (λ (q : Point). Mem (files ca q.manifest) file) p_is listed) in
         let h = stands_to (InSet csets) (Holds a cs) (λ k n. (st.holds k n).0) w (last_of a cs).cert p (subst (λ (l : Cert). StandsIn w (InSet csets) l p) st.ca_is s) in
         accepted_on [] w name a cs p file (cert child) acc h m issued apart short
 
-    stand : Stand name a (link ∷ cs) (record { locator = name; chain = places a (link ∷ cs) }) more file (cert child) (sets child)
+    pub stand : Stand name a (link ∷ cs) (record { locator = name; chain = places a (link ∷ cs) }) more file (cert child) (sets child)
     stand = record {
       name_is = refl;
       path_is = refl;
@@ -201,33 +200,35 @@ module _ {A P : Type 0} (cert : A → Cert) (sets : A → Resources) (payload : 
       );
     }
 
-    tells : TellsBelow w mid new name a (link ∷ cs) since
-    tells = let t : WalksLines w more file (cert child) (sets child) mid new since = subst (λ (u : World). WalksLines u more file (cert child) (sets child) mid new since) ev walked in t name a (link ∷ cs) stand goes_on all
+    -- By what was walked below it.
+    module _ (v : World) (ev : v ≡ w) (mid new : LinesWalk) (since : ℕ) (walked : WalksLines v more file (cert child) (sets child) mid new since) (all : AreWalked w mid) where
+      tells : TellsBelow w mid new name a (link ∷ cs) since
+      tells = let t : WalksLines w more file (cert child) (sets child) mid new since = subst (λ (u : World). WalksLines u more file (cert child) (sets child) mid new since) ev walked in t name a (link ∷ cs) stand goes_on all
 
-    child_gains : Gains IsPrinted (has_lines mid.lines) (FromFile [] w name a cs p file) (has_lines new.lines)
-    child_gains = gains_printed (has_lines mid.lines) (has_lines new.lines) (Found [] w name a (link ∷ cs)) (FromFile [] w name a cs p file) tells.gained (λ x i. from_child [] w name a cs p file (cert child) x issued apart short)
+      child_gains : Gains IsPrinted (has_lines mid.lines) (FromFile [] w name a cs p file) (has_lines new.lines)
+      child_gains = gains_printed (has_lines mid.lines) (has_lines new.lines) (Found [] w name a (link ∷ cs)) (FromFile [] w name a cs p file) tells.gained (λ x i. from_child [] w name a cs p file (cert child) x issued apart short)
 
-    child_below : (met : List (List ℕ)) → MeetsFile w' (InSet csets) ca p0 file met → ((k : List ℕ) → Mem (drop since new.met.items) k → Mem met k) → Below w name a cs p file met
-    child_below met keyed sub c i =
-        let j = issued_there c i in
-        let o : cert child ≡ c = one_cert_at w' file (cert child) c is_child.0.reads j.reads in (
-          keyed c j,
-          λ h. subst (λ (d : Cert). Meets w name a (record { uri = file; cert = d } ∷ cs) met) o (meets_more w name a (link ∷ cs) (drop since new.met.items) met sub tells.meets),
-        )
+      child_below : (met : List (List ℕ)) → MeetsFile w' (InSet csets) ca p0 file met → ((k : List ℕ) → Mem (drop since new.met.items) k → Mem met k) → Below w name a cs p file met
+      child_below met keyed sub c i =
+          let j = issued_there c i in
+          let o : cert child ≡ c = one_cert_at w' file (cert child) c is_child.0.reads j.reads in (
+            keyed c j,
+            λ h. subst (λ (d : Cert). Meets w name a (record { uri = file; cert = d } ∷ cs) met) o (meets_more w name a (link ∷ cs) (drop since new.met.items) met sub tells.meets),
+          )
 
-    -- One file more is told.
-    pub child_step : (old first : LinesWalk) (fs : List (List ℕ)) (i : ℕ) (d : List ℕ) (from next : ℕ) → get_or fs i d ≡ file → i < length fs → mid.lines ≡ first.lines → Continues first.met.items mid.met.items → MeetsFile w' (InSet csets) ca p0 file (drop (length first.met.items) mid.met.items) → TellsUpTo w old first name a cs p (take i fs) from → next ≡ min from since → TellsUpTo w old new name a cs p (take (i + 1) fs) next
-    child_step old first fs i d from next ef l el gm keyed t e =
-        up_child w old first new name a cs p fs i d from l t gained (continues_on first.met.items mid.met.items new.met.items gm tells.grown) since next e below tells.walked
-      where
-        gained : Gains IsPrinted (has_lines first.lines) (FromFile [] w name a cs p (get_or fs i d)) (has_lines new.lines)
-        gained = subst (λ ls. Gains IsPrinted (has_lines ls) (FromFile [] w name a cs p (get_or fs i d)) (has_lines new.lines)) el (subst (λ (u : List ℕ). Gains IsPrinted (has_lines mid.lines) (FromFile [] w name a cs p u) (has_lines new.lines)) (sym ef) child_gains)
+      -- One file more is told.
+      pub child_step : (old first : LinesWalk) (fs : List (List ℕ)) (i : ℕ) (d : List ℕ) (from next : ℕ) → get_or fs i d ≡ file → i < length fs → mid.lines ≡ first.lines → Continues first.met.items mid.met.items → MeetsFile w' (InSet csets) ca p0 file (drop (length first.met.items) mid.met.items) → TellsUpTo w old first name a cs p (take i fs) from → next ≡ min from since → TellsUpTo w old new name a cs p (take (i + 1) fs) next
+      child_step old first fs i d from next ef l el gm keyed t e =
+          up_child w old first new name a cs p fs i d from l t gained (continues_on first.met.items mid.met.items new.met.items gm tells.grown) since next e below tells.walked
+        where
+          gained : Gains IsPrinted (has_lines first.lines) (FromFile [] w name a cs p (get_or fs i d)) (has_lines new.lines)
+          gained = subst (λ ls. Gains IsPrinted (has_lines ls) (FromFile [] w name a cs p (get_or fs i d)) (has_lines new.lines)) el (subst (λ (u : List ℕ). Gains IsPrinted (has_lines mid.lines) (FromFile [] w name a cs p u) (has_lines new.lines)) (sym ef) child_gains)
 
-        keys_met : MeetsFile w' (InSet csets) ca p0 file (drop next new.met.items)
-        keys_met c j = mem_since (length first.met.items) next mid.met.items new.met.items (let h = t.within in omega (arith, e, h)) tells.grown c.tbs.subject_key_identifier (keyed c j)
+          keys_met : MeetsFile w' (InSet csets) ca p0 file (drop next new.met.items)
+          keys_met c j = mem_since (length first.met.items) next mid.met.items new.met.items (let h = t.within in omega (arith, e, h)) tells.grown c.tbs.subject_key_identifier (keyed c j)
 
-        below : Below w name a cs p (get_or fs i d) (drop next new.met.items)
-        below = subst (λ (u : List ℕ). Below w name a cs p u (drop next new.met.items)) (sym ef) (child_below (drop next new.met.items) keys_met (λ k m. mem_since since next new.met.items new.met.items (omega (arith, e)) (continues_itself new.met.items) k m))
+          below : Below w name a cs p (get_or fs i d) (drop next new.met.items)
+          below = subst (λ (u : List ℕ). Below w name a cs p u (drop next new.met.items)) (sym ef) (child_below (drop next new.met.items) keys_met (λ k m. mem_since since next new.met.items new.met.items (omega (arith, e)) (continues_itself new.met.items) k m))
 
 -- The walk's variables, as the chain that they stand for.
 module _ (w : World) (old : LinesWalk) (name : List ℕ) (a : Link) (cs : List Link) (on : List (List ℕ)) (uri : List ℕ) (ca : Cert) (sets : Resources) (st : Stand name a cs (record { locator = name; chain = places a cs }) on uri ca sets) (acc : Accepted w name a cs) where

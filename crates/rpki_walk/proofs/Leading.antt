@@ -29,7 +29,7 @@ one_held w (x ∷ us) u v o p (inr h) (inl k) = let e : Some p ≡ None = sym k.
 one_held w (x ∷ us) u v o p (inr h) (inr k) = one_held w us u v o p h.1 k.1
 
 -- A locator leads to one anchor.
-one_lead : (w : World) (l : Locator) (a b : Link) → LeadsTo w l a → LeadsTo w l b → a ≡ b
+pub one_lead : (w : World) (l : Locator) (a b : Link) → LeadsTo w l a → LeadsTo w l b → a ≡ b
 one_lead w l a b h k =
     let r = one_locator l.text h.uris k.uris h.key k.key h.reads k.reads in
     let o = one_held w (https_first k.uris) a.uri b.uri h.octets k.octets (subst (λ (us : List (List ℕ)). IsFirstHeld w (https_first us) a.uri h.octets) r.0 h.held) k.held in
@@ -40,7 +40,7 @@ one_lead w l a b h k =
 pub anchor_of : (w : World) (l : Locator) (a : Link) → Mem w.locators l → LeadsTo w l a → Anchor w l.name a
 anchor_of w l a m h = record { locator = l; in_list = m; named = refl; uris = h.uris; key = h.key; reads = h.reads; octets = h.octets; held = h.held; cert = h.cert; is_anchor = h.is_anchor }
 
-lead_of : (w : World) (name : List ℕ) (a : Link) (h : Anchor w name a) → LeadsTo w h.locator a
+pub lead_of : (w : World) (name : List ℕ) (a : Link) (h : Anchor w name a) → LeadsTo w h.locator a
 lead_of w name a h = record { uris = h.uris; key = h.key; reads = h.reads; octets = h.octets; held = h.held; cert = h.cert; is_anchor = h.is_anchor }
 
 -- Locators that differ by name are told apart by it.
@@ -51,11 +51,11 @@ one_name (x ∷ ls) l m n (inl a) (inr b) e = absurd (n.0 ((mem_map (λ (x : Loc
 one_name (x ∷ ls) l m n (inr a) (inl b) e = absurd (n.0 ((mem_map (λ (x : Locator). x.name) ls x.name).1 (l, a, e ∙ ap (λ (x : Locator). x.name) (sym b))))
 one_name (x ∷ ls) l m n (inr a) (inr b) e = one_name ls l m n.1 a b e
 
-front_of_all : (cs : List Link) → IsFront [] cs
+pub front_of_all : (cs : List Link) → IsFront [] cs
 front_of_all [] = refl
 front_of_all (c ∷ cs) = inr (front_of_all cs)
 
-anchor_on_top : (w : World) (name : List ℕ) (a : Link) (cs : List Link) → Accepted w name a cs → Anchor w name a
+pub anchor_on_top : (w : World) (name : List ℕ) (a : Link) (cs : List Link) → Accepted w name a cs → Anchor w name a
 anchor_on_top w name a cs acc = (accepted_front w name a [] cs (front_of_all cs) acc).descends
 
 -- What some locator tells is what is told.

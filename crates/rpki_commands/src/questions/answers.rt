@@ -1,5 +1,6 @@
 //! Answers of a bundle.
 
+use crate::questions::costs::costed;
 use crate::questions::requests::{Question, Request};
 use crate::questions::texts::{self, Facts};
 use bytes::Bytes;
@@ -16,7 +17,7 @@ use std::rc::Rc;
 pub(crate) struct Answer {
     /// What is printed.
     pub(crate) text: Vec<u8>,
-    /// Whether the object is good, anything can be reached, or there is any fact.
+    /// Whether the object is good, anything can be reached, there is any fact, or all chains were counted.
     pub(crate) yes: bool,
 }
 
@@ -149,5 +150,6 @@ pub(crate) fn answer_to(
         },
         Question::Reach { uris } => reached(alloc, bundle, uris, request.json),
         Question::Why { uri } => told(alloc, bundle, uri, request.json),
+        Question::Cost { limit } => costed(alloc, bundle, limit, request.json),
     }
 }

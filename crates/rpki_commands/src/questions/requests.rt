@@ -1,5 +1,7 @@
 //! What a program's arguments ask.
 
+use crate::questions::costs::LIMIT;
+
 /// A question about a bundle. URIs are taken by their lookup keys.
 #[derive(Clone, Copy, Debug)]
 pub enum Question<'a> {
@@ -24,6 +26,11 @@ pub enum Question<'a> {
         /// The URI, or the name.
         uri: &'a str,
     },
+    /// `cost [LIMIT]`: how many accepted chains go on below each authority.
+    Cost {
+        /// The most chains that are counted.
+        limit: u64,
+    },
 }
 
 /// What the arguments ask, and whether the answer is wanted as JSON.
@@ -37,7 +44,7 @@ pub struct Request<'a> {
 
 /// What is said of arguments that ask nothing.
 pub const USAGE: &str = "usage: rpki_ask [--json] judge LOCATOR OBJECT CHAIN.. | \
-rpki_ask [--json] reach URI.. | rpki_ask [--json] why URI\n";
+rpki_ask [--json] reach URI.. | rpki_ask [--json] why URI | rpki_ask [--json] cost [LIMIT]\n";
 
 // The question that these words ask.
 fn question_of(words: &[String]) -> Option<Question<'_>> {
@@ -49,6 +56,10 @@ fn question_of(words: &[String]) -> Option<Question<'_>> {
         }),
         [verb, _, ..] if verb.as_str() == "reach" => Some(Question::Reach { uris: &words[1..] }),
         [verb, uri] if verb.as_str() == "why" => Some(Question::Why { uri: uri.as_str() }),
+        [verb] if verb.as_str() == "cost" => Some(Question::Cost { limit: LIMIT }),
+        [verb, limit] if verb.as_str() == "cost" => Some(Question::Cost {
+            limit: limit.as_str().parse::<u64>().ok()?,
+        }),
         _ => None,
     }
 }

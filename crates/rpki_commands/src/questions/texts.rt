@@ -17,7 +17,7 @@ pub(crate) struct Facts<'a> {
 }
 
 // Appends a JSON string of printable octets.
-fn push_string(text: &mut Vec<u8>, octets: &[u8]) -> Result<(), AllocError> {
+pub(crate) fn push_string(text: &mut Vec<u8>, octets: &[u8]) -> Result<(), AllocError> {
     text.push(b'"')?;
     for octet in octets {
         if matches!(*octet, b'"' | b'\\') {
