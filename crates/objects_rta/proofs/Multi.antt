@@ -14,7 +14,7 @@ use Rattle.objects_cms.specs.certs_extension.CrlText.{CrlValue}
 use Rattle.objects_cms.specs.certs_x509.Took.{TookOctets}
 use Rattle.objects_cms.specs.objects_payload.ObjectText.{SignerFields, mode}
 use Rattle.objects_cms.specs.Decoded.{LacksOctets, ReadsOctets}
-use Rattle.objects_cms.specs.Signer.{SignerValue, signer_fields}
+use Rattle.objects_cms.specs.Signer.{signer_fields}
 use Rattle.objects_cms.proofs.Whole.{EachOctets, front_goes, octets_fresh}
 use Rattle.objects_cms.proofs.of_bcder_content.Taking.{weaker}
 use Rattle.objects_rta.specs.Carried.{AreListsIn}

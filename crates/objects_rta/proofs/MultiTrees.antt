@@ -2,11 +2,10 @@
 use Rattle.std.proofs.Common.{◌≡◌, ℕ, List, ◌++◌, Option, Some, None, refl, sym, ap, ◌∙◌, subst, arith}
 use Rattle.objects_cms.specs.bcder_tree.declared.mode.Mode.{Mode}
 use Rattle.objects_cms.specs.bcder_tree.Tags.{TagValue, context, set_tag}
-use Rattle.objects_cms.specs.bcder_tree.Tree.{Tree, Trees, more}
+use Rattle.objects_cms.specs.bcder_tree.Tree.{Trees, more}
 use Rattle.objects_cms.specs.bcder_content.Contents.{tag_of}
 use Rattle.objects_cms.specs.bcder_content.Grammar.{End, Inside, Opt, Then, Without}
 use Rattle.objects_cms.specs.bcder_content.Texts.{InOrder, SpellsOf}
-use Rattle.objects_cms.specs.certs_extension.Cert.{CertValue}
 use Rattle.objects_cms.specs.certs_extension.CertText.{IsCert, SpellsCert}
 use Rattle.objects_cms.specs.objects_payload.ObjectText.{SignerFields, SpellsSigner}
 use Rattle.objects_cms.specs.Signer.{IsSigner}
@@ -18,11 +17,11 @@ use Rattle.objects_cms.proofs.of_bcder_content.Simple.{unit_one}
 use Rattle.objects_cms.proofs.of_bcder_content.Unique.{end_one, inside_one, octets_one, same_trees, then_one}
 use Rattle.objects_cms.proofs.of_certs_extension.Certs.{spelled_cert_one}
 use Rattle.certs_cert.proofs.of_certs_key.Meanings.{digests_one}
-use Rattle.objects_rta.specs.Several.{PerhapsCases, SomeOf}
+use Rattle.objects_rta.specs.Several.{PerhapsCases}
 use Rattle.objects_rta.specs.Carried.{AreValues, SpellsAny}
 use Rattle.objects_rta.specs.MultiText.{CarriedFields, InfoFields, MultiFields, SpellsSigners}
 use Rattle.objects_rta.specs.MultiFrame.{AreCarried, AreCarriedOctets, AreSigners, IsInfo, IsMulti, SpellsRaw, SpellsRawData}
-use Rattle.objects_rta.proofs.Ones.{Shows, ShowsTag, any_one, any_tree, perhaps_one, several_one, several_tree, wraps_show}
+use Rattle.objects_rta.proofs.Ones.{Shows, any_one, any_tree, perhaps_one, several_one, several_tree, wraps_show}
 
 cert_shows : {m : Mode} → Shows m (SpellsCert m) (IsCert m)
 cert_shows = record { shows = λ text x p. cert_of p }

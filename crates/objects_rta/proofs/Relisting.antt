@@ -1,5 +1,5 @@
 -- Octets of an object, with lists by their octets, and with lists as they are read.
-use Rattle.std.proofs.Common.{◌≡◌, ℕ, List, [], Option, Some, None, refl, sym, subst}
+use Rattle.std.proofs.Common.{◌≡◌, ℕ, List, Option, Some, None, refl, subst}
 use Rattle.objects_cms.specs.bcder_tree.declared.mode.Mode.{Mode}
 use Rattle.objects_cms.specs.bcder_tree.declared.mode.Mode.TheVariants.{Der}
 use Rattle.objects_cms.specs.bcder_tree.Tags.{TagValue, context}

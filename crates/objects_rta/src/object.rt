@@ -5,7 +5,10 @@
 //! signer has isn't looked at.
 
 ghost use Rattle.std.specs.Prelude.{◌≡◌, ◌↔◌, All, IsTrue, OnErr, OnOk, map, true};
+ghost use Rattle.objects_cms.specs.bcder_content.Captures.{rest_of};
 ghost use Rattle.objects_cms.specs.bcder_content.Here.{here};
+ghost use Rattle.objects_cms.specs.bcder_content.Ran.{Decoded, fresh};
+ghost use Rattle.objects_cms.specs.bcder_tree.declared.mode.Mode.TheVariants.{Der};
 ghost use Rattle.objects_cms.specs.objects_payload.ObjectText.{mode, signer_of};
 ghost use Rattle.objects_cms.specs.Decoded.{ReadsOctets};
 ghost use Rattle.objects_cms.specs.Signer.{signer_fields};
@@ -14,11 +17,13 @@ ghost use Rattle.objects_rta.specs.MultiText.{SignsType, SpellsMulti};
 
 use crate::frame::{Carried, Parts, take_frame};
 use crate::lists::decode_lists;
+use bcder::string::OctetStringSource;
 use certs_cert::decode::{Constructed, ContentError, Decode, DecodeError, IntoSource, Source};
 use certs_cert::{Cert, Mode, OctetString, Oid};
 use certs_crl::Crl;
 use objects_cms::signed::SignerInfo;
 use std::alloc::Global;
+use std::convert::Infallible;
 use std::marker::Model;
 
 /// A signed object with several signers: its content and the type of that, the certificates and revocation lists that it
@@ -176,6 +181,22 @@ impl MultiSignedObject {
         ensures { result.now ≡ self.now.content }
     {
         &self.content
+    }
+
+    /// What a closure reads from the beginning of the content, in DER, in which each content stands in the RPKI (RFC 6488
+    /// 2.1.3.2). Octets after what it reads stay unread. The octets of the content are shared; `Memory` comes of the count of
+    /// their owners, and of the closure.
+    pub fn decode_content<
+        T: Drop,
+        F: FnOnce(&mut Constructed<OctetStringSource>) -> Result<T, DecodeError<Infallible>>,
+    >(&self, alloc: Global, op: F) -> Result<T, DecodeError<Infallible>>
+        requires { F.IsAlwaysCallable op }
+        ensures { Decoded rest_of F.FnOnce op (fresh Der self.now.content) result }
+    {
+        match self.content().to_bytes(alloc) {
+            Ok(octets) => Mode::Der.decode(OctetString::new(octets), op),
+            Err(_) => Err(DecodeError::Memory),
+        }
     }
 
     /// The certificates that are carried, in their order.
