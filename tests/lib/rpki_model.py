@@ -9,6 +9,7 @@ numbers are lists of runs, and the walk goes over all chains of certificates, fr
 """
 
 import argparse
+import collections
 import hashlib
 import pathlib
 import sys
@@ -288,6 +289,11 @@ class Walk:
             needed = {kind: joined(run for family, run in prefix_runs(item) if family == kind) for kind in KINDS}
         need(keeps(needed, item.cert))
         return item.cert, needed
+
+    def chains_below(self):
+        """Each authority, by the lookup key of its certificate, below which accepted chains go on, and how many, the most first."""
+        counts = collections.Counter(uri for _, chain, _, _ in self.accepted for uri in chain[:-1])
+        return sorted(counts.items(), key=lambda row: (-row[1], row[0]))
 
     # What some URIs can reach.
 

@@ -1,0 +1,238 @@
+"""Which authority keeps a bundle's lines from coming out in time, and the bundle without what it publishes.
+
+The rules go over chains of certificates, and chains multiply where authorities certify each other's keys: a few hundred
+objects can have more chains than can be walked. `rpki_ask cost` says of each authority how many accepted chains go on below
+it. The authority at the top of what is walked so often isn't the one with the most chains, since all that are above it have
+as many; and where `cost` ends early, most below it have as many, too. So of those that `cost` lists the one is taken below
+which each object is read most often, by the certificates and manifests that the bundle has: how many files stand on the
+paths below it, for each file that does. In a tree that is one everywhere, however large the tree is.
+
+What an authority publishes is left out by its manifest alone, the one that its certificate names: without it nothing of the
+publication point counts (RFC 9286 6), and no other authority has that manifest. What lies in the same folder stays, since
+the folder that a certificate names may have others' folders in it.
+"""
+
+import collections
+import itertools
+
+import relaxed
+from bundles import BOOLEAN, OID, Bundle, Der, Malformed, lookup_key
+from relaxed import Values
+from signed import INTEGER, OCTET_STRING, SEQUENCE, SET, TAG_0, TAG_3
+from signed import Malformed as Unsigned
+
+IA5_STRING, GENERALIZED_TIME = 0x16, 0x18
+SUBJECT_KEY = bytes.fromhex("551d0e")
+# Access to what the subject publishes (RFC 6487 4.8.8): its repository and its manifest.
+SUBJECT_ACCESS = bytes.fromhex("2b0601050507010b")
+REPOSITORY, MANIFEST = bytes.fromhex("2b06010505073005"), bytes.fromhex("2b0601050507300a")
+URI_NAME = 0x86
+# So many authorities that `cost` lists, the costliest first, are looked at.
+MOST_LOOKED_AT = 100
+# Where each object is read no more often than this on average, the bundle is large, and nobody makes its chains many.
+MOST_READ = 2
+# So many octets are copied at a time.
+PIECE = 1 << 20
+
+# An authority's certificate: its key's identifier, and the lookup keys of what it names.
+Authority = collections.namedtuple("Authority", "key repository manifest")
+
+# Who is to be left out: the lookup key of its certificate, how many chains go on below it, whether there may be more, and
+# the lookup keys of its manifests.
+Found = collections.namedtuple("Found", "authority chains is_least manifests")
+
+
+def listed(text):
+    """The authorities with their numbers of chains, as `rpki_ask cost` lists them: each line that has a URI and a number."""
+    rows = []
+    for words in map(str.split, text.splitlines()):
+        uris = [word for word in words if "://" in word]
+        numbers = [word for word in words if word.isdecimal()]
+        if len(uris) == len(numbers) == 1:
+            rows.append((lookup_key(uris[0]), int(numbers[0])))
+    return rows
+
+
+def authority_of(cert):
+    """The authority whose certificate it is (RFC 6487 4.8.2 and 4.8.8)."""
+    fields, found = cert.of(SEQUENCE).of(SEQUENCE), {}
+    while fields.tag() not in (None, TAG_3):
+        fields.next()
+    for _, extension in fields.of(TAG_3).of(SEQUENCE).each():
+        kind = extension.of(OID).rest()
+        if extension.tag() == BOOLEAN:
+            extension.next()
+        value = extension.of(OCTET_STRING)
+        if kind == SUBJECT_KEY:
+            found[kind] = value.of(OCTET_STRING).rest()
+        elif kind == SUBJECT_ACCESS:
+            for _, access in value.of(SEQUENCE).each():
+                method = access.of(OID).rest()
+                if access.tag() == URI_NAME and method not in found:
+                    found[method] = lookup_key(access.of(URI_NAME).rest().decode("ascii", "replace"))
+    try:
+        return Authority(found[SUBJECT_KEY], found[REPOSITORY], found[MANIFEST])
+    except KeyError:
+        raise Malformed("not an authority's certificate") from None
+
+
+def files_of(octets):
+    """The names that a manifest lists (RFC 9286 4.2), which may be in BER, as relaxed bundles have them."""
+    info = Values(octets, 0, len(octets), {}).inside(SEQUENCE, "the signed object")
+    info.skip((OID, "the object's type"))
+    data = info.inside(TAG_0, "the signed data").inside(SEQUENCE, "the signed data")
+    data.skip((INTEGER, "the version"), (SET, "the digest algorithms"))
+    content = data.inside(SEQUENCE, "the content")
+    content.skip((OID, "the content's type"))
+    value = content.inside(TAG_0, "the content").string(OCTET_STRING, "the content")
+    fields = Values(value, 0, len(value), {}).inside(SEQUENCE, "the manifest")
+    if fields.tag() == TAG_0:
+        fields.skip((TAG_0, "the version"))
+    fields.skip((INTEGER, "the number"), (GENERALIZED_TIME, "a time"), (GENERALIZED_TIME, "a time"), (OID, "the algorithm"))
+    rows = fields.inside(SEQUENCE, "the files")
+    names = []
+    while not rows.is_at_end():
+        row = rows.inside(SEQUENCE, "a file")
+        names.append(b"".join(row.pieces(IA5_STRING, OCTET_STRING, "a file's name")).decode("ascii", "replace"))
+    return names
+
+
+class Authorities:
+    """The authorities of a bundle, each with the files that its manifest lists, by what the objects say of themselves."""
+
+    def __init__(self, bundle):
+        self.bundle, self.known, self.listed, self.issued = bundle, {}, {}, {}
+
+    def at(self, uri):
+        """The authority whose certificate stands there, or None."""
+        if uri not in self.known:
+            try:
+                self.known[uri] = authority_of(self.bundle.object(uri))
+            except (Malformed, KeyError):
+                self.known[uri] = None
+        return self.known[uri]
+
+    def files(self, uri):
+        """The lookup keys of the files that the authority's manifest lists."""
+        if uri not in self.listed:
+            authority = self.at(uri)
+            self.listed[uri] = self.files_at(authority) if authority else []
+        return self.listed[uri]
+
+    def files_at(self, authority):
+        try:
+            names = files_of(self.bundle.object(authority.manifest).rest())
+        except (Unsigned, KeyError):
+            return []
+        folder = authority.repository.rstrip("/") + "/"
+        return [folder + name for name in names]
+
+    def children(self, uri):
+        """The certificates of authorities at its publication point."""
+        if uri not in self.issued:
+            self.issued[uri] = [file for file in self.files(uri) if file[-4:].lower() == ".cer" and self.at(file)]
+        return self.issued[uri]
+
+    def all_below(self, uri):
+        """The authorities that paths lead to from there, itself among them."""
+        seen, left = {uri}, [uri]
+        while left:
+            more = set(self.children(left.pop())) - seen
+            seen |= more
+            left += more
+        return seen
+
+    def levels(self, anchors):
+        """Of each authority that paths lead to, the number of certificates of the shortest, the trust anchor's among them."""
+        found, row = {}, list(anchors)
+        for level in itertools.count(1):
+            row = [uri for uri in dict.fromkeys(row) if uri not in found]
+            if not row:
+                return found
+            found |= dict.fromkeys(row, level)
+            row = [child for uri in row for child in self.children(uri)]
+
+    def reads(self, rooms):
+        """How many files stand on the paths below an authority, of as many certificates as there is room for there; for each
+        of these, by its room."""
+        below = set().union(*map(self.all_below, rooms))
+        found, reads = dict.fromkeys(below, 0), {}
+        for room in range(max(rooms.values()) + 1):
+            found = {uri: len(self.files(uri)) + sum(found[child] for child in self.children(uri)) for uri in below}
+            reads |= {uri: found[uri] for uri in rooms if rooms[uri] == room}
+        return reads
+
+    def density(self, uris, anchors, depth):
+        """How often each file below an authority is read, on average; for each of the authorities, in their order."""
+        levels = self.levels(anchors)
+        reads = self.reads({uri: max(depth - levels.get(uri, 1), 0) for uri in uris})
+        for uri in uris:
+            files = {file for one in self.all_below(uri) for file in self.files(one)}
+            yield reads[uri] / max(len(files), 1)
+
+
+def find(path, text, is_least):
+    """Whom to leave out of the bundle at that path, by what `rpki_ask cost` has printed: None where there is nobody."""
+    bundle = Bundle(path)
+    authorities, anchors = Authorities(bundle), set(bundle.anchors())
+    rows = [(uri, chains) for uri, chains in listed(text) if uri not in anchors and authorities.at(uri)][:MOST_LOOKED_AT]
+    often = list(authorities.density([uri for uri, _ in rows], anchors, bundle.depth)) if rows else [0]
+    if max(often) <= MOST_READ:
+        return None
+    uri, chains = rows[often.index(max(often))]
+    key = authorities.at(uri).key
+    # (a key with several certificates may have several manifests)
+    same = [authorities.at(one) for one, _ in rows if authorities.at(one).key == key]
+    manifests = sorted({one.manifest for one in same} & bundle.places.keys())
+    return Found(uri, chains, is_least, manifests) if manifests else None
+
+
+def write_without(path, made, uris):
+    """Writes the bundle without the objects at these URIs."""
+    octets = Bundle(path).octets
+    whole = Der(octets).of(SEQUENCE)
+    front = whole.at
+    # (version, moment, depth and, of version 1, a flag; locators)
+    while whole.tag() != SEQUENCE:
+        whole.next()
+    whole.next()
+    middle = whole.at
+    objects = whole.of(SEQUENCE)
+    kept = list(spans_without(objects, uris))
+    size = sum(end - start for start, end in kept)
+    head = header(SEQUENCE, size)
+    rest = (whole.at, whole.end)
+    with open(made, "xb") as file:
+        file.write(header(SEQUENCE, middle - front + len(head) + size + rest[1] - rest[0]))
+        copy(octets, front, middle, file)
+        file.write(head)
+        for start, end in kept:
+            copy(octets, start, end, file)
+        copy(octets, *rest, file)
+
+
+def spans_without(objects, uris):
+    """Where the rows of the objects stand whose URI is none of these; rows that follow each other are one."""
+    start = objects.at
+    while objects.tag() is not None:
+        at = objects.at
+        row = objects.of(SEQUENCE)
+        if row.of(IA5_STRING).rest().decode("ascii", "replace") in uris:
+            if start < at:
+                yield start, at
+            start = objects.at
+    if start < objects.at:
+        yield start, objects.at
+
+
+def header(tag, size):
+    """A tag and a length in DER."""
+    if size < 0x80:
+        return bytes((tag, size))
+    length = size.to_bytes((size.bit_length() + 7) // 8, "big")
+    return bytes((tag, 0x80 + len(length))) + length
+
+
+def copy(octets, start, end, file):
+    for at in range(start, end, PIECE):
+        file.write(octets[at : min(at + PIECE, end)])
