@@ -14,10 +14,10 @@ the folder that a certificate names may have others' folders in it.
 
 import collections
 import itertools
+import re
 
-import relaxed
 from bundles import BOOLEAN, OID, Bundle, Der, Malformed, lookup_key
-from relaxed import Values
+from relaxed import CONSTRUCTED, Values
 from signed import INTEGER, OCTET_STRING, SEQUENCE, SET, TAG_0, TAG_3
 from signed import Malformed as Unsigned
 
@@ -27,6 +27,7 @@ SUBJECT_KEY = bytes.fromhex("551d0e")
 SUBJECT_ACCESS = bytes.fromhex("2b0601050507010b")
 REPOSITORY, MANIFEST = bytes.fromhex("2b06010505073005"), bytes.fromhex("2b0601050507300a")
 URI_NAME = 0x86
+RSYNC = re.compile(rb"(?i)rsync://[!-.0-~]+/[!-.0-~][!-~]*\Z")
 # So many authorities that `cost` lists, the costliest first, are looked at.
 MOST_LOOKED_AT = 100
 # Where each object is read no more often than this on average, the bundle is large, and nobody makes its chains many.
@@ -68,8 +69,9 @@ def authority_of(cert):
         elif kind == SUBJECT_ACCESS:
             for _, access in value.of(SEQUENCE).each():
                 method = access.of(OID).rest()
-                if access.tag() == URI_NAME and method not in found:
-                    found[method] = lookup_key(access.of(URI_NAME).rest().decode("ascii", "replace"))
+                # (the first one that is a URI for rsync counts)
+                if access.tag() == URI_NAME and RSYNC.match(uri := access.of(URI_NAME).rest()):
+                    found.setdefault(method, lookup_key(uri.decode("ascii")))
     try:
         return Authority(found[SUBJECT_KEY], found[REPOSITORY], found[MANIFEST])
     except KeyError:
@@ -84,7 +86,7 @@ def files_of(octets):
     data.skip((INTEGER, "the version"), (SET, "the digest algorithms"))
     content = data.inside(SEQUENCE, "the content")
     content.skip((OID, "the content's type"))
-    value = content.inside(TAG_0, "the content").string(OCTET_STRING, "the content")
+    value = string_of(content.inside(TAG_0, "the content"), OCTET_STRING, "the content")
     fields = Values(value, 0, len(value), {}).inside(SEQUENCE, "the manifest")
     if fields.tag() == TAG_0:
         fields.skip((TAG_0, "the version"))
@@ -93,8 +95,26 @@ def files_of(octets):
     names = []
     while not rows.is_at_end():
         row = rows.inside(SEQUENCE, "a file")
-        names.append(b"".join(row.pieces(IA5_STRING, OCTET_STRING, "a file's name")).decode("ascii", "replace"))
+        names.append(string_of(row, IA5_STRING, "a file's name").decode("ascii", "replace"))
     return names
+
+
+def string_of(values, tag, what):
+    """The octets of the string with that tag, however deep its pieces stand in each other (X.690 8.7 and 8.21)."""
+    if values.tag() != tag | CONSTRUCTED:
+        start, stop = values.next(tag, what)
+        return values.octets[start:stop]
+    pieces, left = [], [values.inside(tag | CONSTRUCTED, what)]
+    while left:
+        row = left[-1]
+        if row.is_at_end():
+            left.pop()
+        elif row.tag() == OCTET_STRING | CONSTRUCTED:
+            left.append(row.inside(OCTET_STRING | CONSTRUCTED, what))
+        else:
+            start, stop = row.next(OCTET_STRING, what)
+            pieces.append(row.octets[start:stop])
+    return b"".join(pieces)
 
 
 class Authorities:
@@ -124,8 +144,8 @@ class Authorities:
             names = files_of(self.bundle.object(authority.manifest).rest())
         except (Unsigned, KeyError):
             return []
-        folder = authority.repository.rstrip("/") + "/"
-        return [folder + name for name in names]
+        folder = authority.repository
+        return [f"{folder}{'' if folder.endswith('/') else '/'}{name}" for name in names]
 
     def children(self, uri):
         """The certificates of authorities at its publication point."""

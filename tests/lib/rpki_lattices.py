@@ -2,7 +2,7 @@
 
 import hashlib
 
-from rpki_repositories import HOST, World, encoded, key_bits, roa
+from rpki_repositories import HOST, World, access, encoded, key_bits, roa
 
 FIRST_AS = 64496
 
@@ -42,6 +42,37 @@ def lattice(width, height, listed=None, again=None):
     for authority in [anchor, *(it for row in rows for it in row)]:
         authority.publish()
     return world
+
+
+def crowded(width=2, height=5, named=None):
+    """A world with a provider below the anchor, and three authorities below that: the first two are each above a lattice whose
+    last row certifies the first again, the third is above nobody. Each of the three has an origin. Also these three. With `named`
+    the first has that folder, and its certificate these methods with their URIs."""
+    world = World()
+    anchor = world.anchor(1, {"ipv4": ["10.0.0.0/8"]})
+    provider = world.authority(2, HOST + b"isp/", b"isp")
+    anchor.certify(b"isp.cer", provider, {"ipv4": ["10.0.0.0/8"]})
+    holders, all_below = [], []
+    for at, name in enumerate((b"a", b"b", b"c"), 1):
+        folder = named[0] if named and name == b"a" else HOST + name + b"/"
+        holder = world.authority(10 + at, folder, name, provider.folder + name + b".cer")
+        if named and name == b"a":
+            holder.access = lambda: access(*named[1])
+        provider.certify(name + b".cer", holder, {"ipv4": [f"10.{at}.0.0/16"]})
+        holder.add_roa(b"o.roa", roa(FIRST_AS + at, f"10.{at}.0.0/16"), {"ipv4": [f"10.{at}.0.0/16"]})
+        if name != b"c":
+            rows = rows_below(world, [holder], width, height, 100 * at, prefix=name)
+            rows[-1][0].certify(b"again.cer", rows[0][0], {"ipv4": "inherit"})
+            all_below += [authority for row in rows for authority in row]
+        holders.append(holder)
+    for authority in (anchor, provider, *holders, *all_below):
+        authority.publish()
+    return world, holders
+
+
+def counted(rows):
+    """What `rpki_ask cost` prints of authorities, by the lookup keys of their certificates, with their numbers of chains."""
+    return "".join(f"{count} {uri.decode()}\n" for uri, count in rows)
 
 
 def siblings(count):

@@ -92,6 +92,7 @@ TESTS = (
     Test("odd signatures", "outside/odd_signatures.py", 0, 600, needs=("cryptography",)),
     Test("interrupted", "outside/interrupted.py", 0, 1800, needs=("cryptography",)),
     Test("validating", "outside/validating.py {rpki_check}", 0, 900, needs=("cryptography",)),
+    Test("crowded", "outside/crowded.py", 120, needs=("cryptography",)),
     Test("routers", "outside/routers.py {rpki_check} {rpki_ask}", 0, 900, needs=("cryptography",)),
     Test("large", "outside/large.py {rpki_check} {rpki_ask} {rpki_cases}", 300, 1800, more="--huge", least="--small"),
     Test("lattices", "outside/lattices.py {rpki_check}", 300, needs=("cc", "plain")),

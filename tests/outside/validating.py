@@ -27,14 +27,16 @@ HERE = os.path.dirname(os.path.abspath(__file__))
 sys.path.insert(0, os.path.join(HERE, os.pardir, "lib"))
 
 import rpki_model  # noqa: E402
-from rpki_lattices import rows_below  # noqa: E402
-from rpki_repositories import HOST, World, roa  # noqa: E402
+from outcomes import SLOWER  # noqa: E402
+from rpki_lattices import counted, crowded  # noqa: E402
 
 TOP = os.path.join(HERE, os.pardir, os.pardir)
 TOOLS = os.path.join(TOP, "tools")
 EXAMPLES = os.path.join(TOP, "examples")
 SECONDS = 300
 OLD = "what was there before\n"
+# So long a stand-in that hangs is waited for; all others have to start and end meanwhile.
+TIME_LIMIT = str(5 * SLOWER)
 LINES = "roa AS64496 192.0.2.0/24 24\naspa AS64496 AS64497\nrefused example anchor\nrefused rsync://rpki.example/x object\n"
 # What stands in the place of both programs: the word in FAKE is a step and what it does there. With BUNDLE, a file, that is the
 # bundle; then `check` hangs, or lacks memory, while an object stands at one of the URIs in AT, and `cost` prints what COST has.
@@ -48,7 +50,7 @@ text = open(bundle, "rb").read() if bundle and asked == "bundle" else told[asked
 if bundle and asked == "check":
     octets = sys.stdin.buffer.read()
     is_there = any(bytes((22, len(uri))) + uri.encode() in octets for uri in os.environ["AT"].split())
-    step, deed = is_there and "check", deed if step == "check" else "hangs 30"
+    step, deed = is_there and "check", deed if step == "check" else "hangs 600"
 if asked == step:
     if deed == "lacks":
         sys.stderr.write("out of memory\\n")
@@ -321,33 +323,6 @@ def fallback(room):
 # Who is left out.
 
 
-def crowded(width=2, height=5):
-    """A world with a provider below the anchor, and three authorities below that: the first two are each above a lattice whose
-    last row certifies the first again, the third is above nobody. Each of the three has an origin. Also these three."""
-    world = World()
-    anchor = world.anchor(1, {"ipv4": ["10.0.0.0/8"]})
-    provider = world.authority(2, HOST + b"isp/", b"isp")
-    anchor.certify(b"isp.cer", provider, {"ipv4": ["10.0.0.0/8"]})
-    holders, all_below = [], []
-    for at, name in enumerate((b"a", b"b", b"c"), 1):
-        holder = world.authority(10 + at, HOST + name + b"/", name, provider.folder + name + b".cer")
-        provider.certify(name + b".cer", holder, {"ipv4": [f"10.{at}.0.0/16"]})
-        holder.add_roa(b"o.roa", roa(64496 + at, f"10.{at}.0.0/16"), {"ipv4": [f"10.{at}.0.0/16"]})
-        if name != b"c":
-            rows = rows_below(world, [holder], width, height, 100 * at, prefix=name)
-            rows[-1][0].certify(b"again.cer", rows[0][0], {"ipv4": "inherit"})
-            all_below += [authority for row in rows for authority in row]
-        holders.append(holder)
-    for authority in (anchor, provider, *holders, *all_below):
-        authority.publish()
-    return world, holders
-
-
-def counted(octets):
-    """What `rpki_ask cost` prints of a bundle."""
-    return "".join(f"{count} {uri.decode()}\n" for uri, count in rpki_model.walk(octets).chains_below())
-
-
 class Crowd:
     """A room in which `check` hangs as long as the bundle has the manifests of some of the holders."""
 
@@ -358,9 +333,8 @@ class Crowd:
         self.path = room.path("crowded")
         with open(self.path, "wb") as file:
             file.write(self.octets)
-        rows = rpki_model.walk(self.octets).chains_below()
-        self.cost = "".join(f"{count} {uri.decode()}\n" for uri, count in rows)
-        self.counts = {uri: count for uri, count in rows}
+        self.counts = dict(rpki_model.walk(self.octets).chains_below())
+        self.cost = counted(self.counts.items())
 
     def environment(self, *names, **more):
         manifests = [it.manifest.decode() for it in self.holders if it.name.decode() in names]
@@ -379,7 +353,7 @@ class Crowd:
         """A run that leaves these out, whose file and evidence say so; what is told of each."""
         room = self.room
         room.reset()
-        done = room.run("--time-limit", "1", "--keep", room.kept, *others, fake=fake, **self.environment(*names, **more))
+        done = room.run("--time-limit", TIME_LIMIT, "--keep", room.kept, *others, fake=fake, **self.environment(*names, **more))
         uris = [f"rsync://r.example/m/isp/{name}.cer" for name in names]
         made = json.loads(read(room.out)) if done.returncode == 3 else {"metadata": {}}
         same(what, (done.returncode, made["metadata"].get("quarantined"), room.left()), (3, uris, []))
@@ -394,7 +368,7 @@ class Crowd:
     def leaves_none_out(self, what, names, *others, fake="", **more):
         """A run that ends without a new file."""
         self.room.reset()
-        done = self.room.run("--time-limit", "1", *others, fake=fake, **self.environment(*names, **more))
+        done = self.room.run("--time-limit", TIME_LIMIT, *others, fake=fake, **self.environment(*names, **more))
         same(what, (done.returncode, "Traceback" in done.stderr), (5, False))
         self.room.is_old(what)
 
@@ -414,8 +388,8 @@ def quarantine(room):
     crowd.leaves_out("both, of two at most", "ab", "--quarantine", "2")
     crowd.leaves_out("memory", "ab", fake="check lacks")
     crowd.leaves_out("killed", "a", fake="check dies")
-    crowd.leaves_out("counted by a smaller budget", "a", fake="cost hangs 30")
-    (row,) = crowd.leaves_out("no numbers", "a", fake="reach hangs 30")
+    crowd.leaves_out("counted by a smaller budget", "a", fake="cost hangs 600")
+    (row,) = crowd.leaves_out("no numbers", "a", fake="reach hangs 600")
     same("no numbers are told", row["reach"], None)
     crowd.leaves_none_out("both, of one at most", "ab", "--quarantine", "1")
     crowd.leaves_none_out("none at most", "a", "--quarantine", "0")
@@ -431,9 +405,9 @@ def quarantine(room):
 def meanwhile(crowd):
     """The old file stands while `check` and `cost` run, and after signals in them."""
     room = crowd.room
-    for fake in ("", "cost hangs 30"):
+    for fake in ("", "cost hangs 600"):
         room.reset()
-        run = room.start("--time-limit", "20" if not fake else "1", fake=fake, **crowd.environment("a"))
+        run = room.start("--time-limit", TIME_LIMIT if fake else str(SECONDS), fake=fake, **crowd.environment("a"))
         last = time.monotonic() + SECONDS
         for _ in range(2 if fake else 1):
             while not os.path.exists(room.ready) and time.monotonic() < last:
