@@ -32,6 +32,8 @@ RSYNC = re.compile(rb"(?i)rsync://[!-.0-~]+/[!-.0-~][!-~]*\Z")
 MOST_LOOKED_AT = 100
 # Where each object is read no more often than this on average, the bundle is large, and nobody makes its chains many.
 MOST_READ = 2
+# `cost` counts so many chains at least.
+LEAST_BUDGET = 10_000
 # So many octets are copied at a time.
 PIECE = 1 << 20
 
@@ -52,6 +54,13 @@ def listed(text):
         if len(uris) == len(numbers) == 1:
             rows.append((lookup_key(uris[0]), int(numbers[0])))
     return rows
+
+
+def least_budget(path):
+    """How many chains `cost` has to count of the bundle at that path to go past all that is a tree, in whatever order it goes
+    over authorities, and to list what multiplies."""
+    certs = sum(uri[-4:].lower() == ".cer" for uri in Bundle(path).places)
+    return max(2 * certs, LEAST_BUDGET)
 
 
 def authority_of(cert):

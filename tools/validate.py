@@ -50,6 +50,7 @@ import argparse
 import hashlib
 import json
 import os
+import re
 import resource
 import shutil
 import signal
@@ -78,7 +79,7 @@ PIECE = 1 << 20
 # So long `check` may take, in seconds, and so many authorities are left out at most.
 TIME_LIMIT, MOST_LEFT_OUT = 120, 3
 # So many chains `rpki_ask cost` counts at most; fewer, where that takes too long.
-BUDGETS = (1_000_000, 100_000, 10_000)
+BUDGET = 1_000_000
 OUT_OF_MEMORY = b"out of memory\n"
 
 
@@ -250,7 +251,7 @@ def cost_of(given, steps, work, why):
     """What `rpki_ask cost` prints of the bundle, and whether there are more chains than it has counted."""
     if not os.access(given.asker, os.X_OK):
         raise Failed(CHECK, f"rpki_check check {why}, and {given.asker}, which would say whom to leave out, is no program")
-    for budget in BUDGETS:
+    for budget in (BUDGET, quarantine.least_budget(work.path("bundle"))):
         status, text = asked(given, steps, work, "cost", str(budget))
         if status in (0, 1):
             return text, status == 1
@@ -338,6 +339,12 @@ def validate(given, steps, work, evidence):
     return summary, lines
 
 
+def number(text):
+    if not re.fullmatch(r"[0-9]{1,4}", text):
+        raise argparse.ArgumentTypeError("a number of at most four digits is wanted")
+    return int(text)
+
+
 def arguments():
     parser = argparse.ArgumentParser(description=__doc__, formatter_class=argparse.RawDescriptionHelpFormatter)
     parser.add_argument("cache", metavar="CACHE", help="the validator's cache")
@@ -347,10 +354,10 @@ def arguments():
     lines_to.add_arguments(parser)
     parser.add_argument("--checker", metavar="PATH", default=CHECKER, help="the program rpki_check")
     parser.add_argument("--asker", metavar="PATH", default=ASKER, help="the program rpki_ask")
-    most = {"type": lines_to.seconds, "default": TIME_LIMIT}
-    parser.add_argument("--time-limit", metavar="SECONDS", help="for rpki_check check, 120 unless given; 0: none", **most)
-    most = {"type": lines_to.seconds, "default": MOST_LEFT_OUT}
-    parser.add_argument("--quarantine", metavar="N", help="leave so many authorities out at most, 3 unless given", **most)
+    how = {"type": lines_to.seconds, "default": TIME_LIMIT, "metavar": "SECONDS"}
+    parser.add_argument("--time-limit", help="for rpki_check check, 120 unless it is given; 0: none", **how)
+    how = {"type": number, "default": MOST_LEFT_OUT, "metavar": "N"}
+    parser.add_argument("--quarantine", help="leave so many authorities out at most, 3 unless it is given", **how)
     parser.add_argument("--keep", metavar="FOLDER", help="keep the bundle and what came of it")
     parser.add_argument("--known", metavar="FOLDER", help="the verdicts of an earlier run")
     parser.add_argument("--work", metavar="FOLDER", help="where the work folder stands (default: beside FILE)")

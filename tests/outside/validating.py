@@ -179,7 +179,7 @@ def statuses(room):
         same(f"lines {lines[-20:]!a}", room.run(lines=lines.replace("\0", "\n")).returncode, 5)
         room.is_old("other lines")
     for words in (["--moment", "20250230000000Z"], ["--form", "other"], ["--depth", "0"], ["--layout", "other"],
-                  ["--jobs", "x"]):
+                  ["--jobs", "x"], ["--time-limit", "-1"], ["--quarantine", "x"]):
         same(f"{words}", room.run(*words).returncode, 2)
         room.is_old(f"{words}")
     for words in (["--checker", room.path("none")], ["--checker", room.folder], ["--checker", room.out],
