@@ -70,9 +70,9 @@ def crowded(width=2, height=5, named=None):
     return world, holders
 
 
-def counted(rows):
-    """What `rpki_ask cost` prints of authorities, by the lookup keys of their certificates, with their numbers of chains."""
-    return "".join(f"{count} {uri.decode()}\n" for uri, count in rows)
+def counted(rows, is_least=False):
+    """What `rpki_ask cost` prints of so many chains below each authority, by the lookup keys of their certificates."""
+    return "".join([f"{'at least' if is_least else 'exactly'}\n", *(f"{chains} {uri.decode()}\n" for chains, uri in rows)])
 
 
 def siblings(count):

@@ -290,11 +290,6 @@ class Walk:
         need(keeps(needed, item.cert))
         return item.cert, needed
 
-    def chains_below(self):
-        """Each authority, by the lookup key of its certificate, below which accepted chains go on, and how many, the most first."""
-        counts = collections.Counter(uri for _, chain, _, _ in self.accepted for uri in chain[:-1])
-        return sorted(counts.items(), key=lambda row: (-row[1], row[0]))
-
     # What some URIs can reach.
 
     def names(self, issuer, keys):
@@ -331,6 +326,13 @@ class Walk:
                 pass
         reached = [held for _, _, issuer, held in self.accepted if self.names(issuer, keys)]
         return {kind: joined(run for held in reached for run in held[kind]) for kind in KINDS}
+
+    # What a walk costs.
+
+    def chains_below(self):
+        """How many accepted chains go on below each authority, as rows of number and lookup key, the most first."""
+        counts = collections.Counter(uri for _, chain, _, _ in self.accepted for uri in chain[:-1])
+        return sorted(((number, uri) for uri, number in counts.items()), key=lambda row: (-row[0], row[1]))
 
 
 # Lines.

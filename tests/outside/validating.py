@@ -333,8 +333,8 @@ class Crowd:
         self.path = room.path("crowded")
         with open(self.path, "wb") as file:
             file.write(self.octets)
-        self.counts = dict(rpki_model.walk(self.octets).chains_below())
-        self.cost = counted(self.counts.items())
+        rows = rpki_model.walk(self.octets).chains_below()
+        self.counts, self.cost = {uri: chains for chains, uri in rows}, counted(rows, True)
 
     def environment(self, *names, **more):
         manifests = [it.manifest.decode() for it in self.holders if it.name.decode() in names]
@@ -376,7 +376,7 @@ class Crowd:
 def quarantine(room):
     """Where `check` doesn't end, those are left out who make it so, and everybody else's lines come out."""
     crowd = Crowd(room)
-    same("the provider is above all three", crowd.cost.splitlines()[1].endswith("/isp.cer"), True)
+    same("the provider is above all three", crowd.cost.splitlines()[2].endswith("/isp.cer"), True)
     (row,) = crowd.leaves_out("the first", "a")
     found = (row["chains"], row["is_least"], row["manifests"], row["reach"])
     uri = crowd.holders[0].at
