@@ -5,7 +5,7 @@ objects can have more chains than can be walked. `rpki_ask cost` says of each au
 it. The authority at the top of what is walked so often isn't the one with the most chains, since all that are above it have
 as many; and where `cost` ends early, most below it have as many, too. So of those that `cost` lists the one is taken below
 which each object is read most often, by the certificates and manifests that the bundle has: how many files stand on the
-paths below it, for each file that does. In a tree that is one everywhere, however large the tree is.
+paths below it, for each file that is there. In a tree that is one everywhere, however large the tree is.
 
 What an authority publishes is left out by its manifest alone, the one that its certificate names: without it nothing of the
 publication point counts (RFC 9286 6), and no other authority has that manifest. What lies in the same folder stays, since
@@ -13,7 +13,6 @@ the folder that a certificate names may have others' folders in it.
 """
 
 import collections
-import itertools
 import re
 
 from bundles import BOOLEAN, OID, Bundle, Der, Malformed, lookup_key
@@ -29,7 +28,7 @@ REPOSITORY, MANIFEST = bytes.fromhex("2b06010505073005"), bytes.fromhex("2b06010
 URI_NAME = 0x86
 RSYNC = re.compile(rb"(?i)rsync://[!-.0-~]+/[!-.0-~][!-~]*\Z")
 # So many authorities that `cost` lists, the costliest first, are looked at.
-MOST_LOOKED_AT = 100
+MOST_LOOKED_AT = 40
 # Where each object is read no more often than this on average, the bundle is large, and nobody makes its chains many.
 MOST_READ = 2
 # `cost` counts so many chains at least.
@@ -162,42 +161,54 @@ class Authorities:
             self.issued[uri] = [file for file in self.files(uri) if file[-4:].lower() == ".cer" and self.at(file)]
         return self.issued[uri]
 
-    def all_below(self, uri):
-        """The authorities that paths lead to from there, itself among them."""
+    def ways(self, anchors):
+        """Of each authority that paths lead to, the certificates of a shortest one, from the trust anchor's on."""
+        found, row = {}, [(uri,) for uri in sorted(anchors)]
+        while row:
+            found |= {way[-1]: way for way in reversed(row) if way[-1] not in found}
+            row = [(*way, child) for way in row if found[way[-1]] == way for child in self.children(way[-1]) if child not in found]
+        return found
+
+    def all_below(self, uri, keys):
+        """The authorities that paths lead to from there, itself among them, that have none of these keys."""
         seen, left = {uri}, [uri]
         while left:
-            more = set(self.children(left.pop())) - seen
+            more = {child for child in self.children(left.pop()) if self.at(child).key not in keys} - seen
             seen |= more
             left += more
         return seen
 
-    def levels(self, anchors):
-        """Of each authority that paths lead to, the number of certificates of the shortest, the trust anchor's among them."""
-        found, row = {}, list(anchors)
-        for level in itertools.count(1):
-            row = [uri for uri in dict.fromkeys(row) if uri not in found]
-            if not row:
-                return found
-            found |= dict.fromkeys(row, level)
-            row = [child for uri in row for child in self.children(uri)]
-
-    def reads(self, rooms):
-        """How many files stand on the paths below an authority, of as many certificates as there is room for there; for each
-        of these, by its room."""
-        below = set().union(*map(self.all_below, rooms))
-        found, reads = dict.fromkeys(below, 0), {}
-        for room in range(max(rooms.values()) + 1):
-            found = {uri: len(self.files(uri)) + sum(found[child] for child in self.children(uri)) for uri in below}
-            reads |= {uri: found[uri] for uri in rooms if rooms[uri] == room}
-        return reads
+    def reads(self, below, uri, room):
+        """How many files stand on the paths from an authority to others of these, of so many more certificates at most."""
+        found = dict.fromkeys(below, 0)
+        for _ in range(room + 1):
+            last, found = found, {
+                one: len(self.files(one)) + sum(found.get(child, 0) for child in self.children(one)) for one in below
+            }
+            if last == found:
+                break
+        return found[uri]
 
     def density(self, uris, anchors, depth):
-        """How often each file below an authority is read, on average; for each of the authorities, in their order."""
-        levels = self.levels(anchors)
-        reads = self.reads({uri: max(depth - levels.get(uri, 1), 0) for uri in uris})
+        """How often files below an authority are read, on average; for each of the authorities, in their order.
+
+        No chain has a key twice, so paths don't lead back to the keys above. Files at points that other authorities stand as
+        near above aren't counted among those that are there, so that it doesn't help to certify others that have many.
+        """
+        ways, levels = self.ways(anchors), {}
+        for one, way in ways.items():
+            manifest = self.at(one).manifest if self.at(one) else None
+            levels[manifest] = min(len(way), levels.get(manifest, len(way)))
         for uri in uris:
-            files = {file for one in self.all_below(uri) for file in self.files(one)}
-            yield reads[uri] / max(len(files), 1)
+            way = ways.get(uri, (uri,))
+            below = self.all_below(uri, {self.at(one).key for one in way if self.at(one)})
+            reads = self.reads(below, uri, max(depth - len(way), 0))
+            files = {file for one in below for file in self.files(one)}
+            if reads <= MOST_READ * len(files):
+                yield 0
+                continue
+            farther = [one for one in below if one == uri or levels.get(self.at(one).manifest, depth) > len(way)]
+            yield reads / max(len({file for one in farther for file in self.files(one)}), 1)
 
 
 def find(path, text, is_least):
@@ -205,8 +216,8 @@ def find(path, text, is_least):
     bundle = Bundle(path)
     authorities, anchors = Authorities(bundle), set(bundle.anchors())
     rows = [(uri, chains) for uri, chains in listed(text) if uri not in anchors and authorities.at(uri)][:MOST_LOOKED_AT]
-    often = list(authorities.density([uri for uri, _ in rows], anchors, bundle.depth)) if rows else [0]
-    if max(often) <= MOST_READ:
+    often = list(authorities.density([uri for uri, _ in rows], anchors, bundle.depth))
+    if not any(often):
         return None
     uri, chains = rows[often.index(max(often))]
     key = authorities.at(uri).key

@@ -44,10 +44,11 @@ def lattice(width, height, listed=None, again=None):
     return world
 
 
-def crowded(width=2, height=5, named=None):
+def crowded(width=2, height=5, named=None, before=None):
     """A world with a provider below the anchor, and three authorities below that: the first two are each above a lattice whose
     last row certifies the first again, the third is above nobody. Each of the three has an origin. Also these three. With `named`
-    the first has that folder, and its certificate these methods with their URIs."""
+    the first has that folder, and its certificate these methods with their URIs. What is to be done before all publish is handed
+    the anchor, the provider and the first of the three."""
     world = World()
     anchor = world.anchor(1, {"ipv4": ["10.0.0.0/8"]})
     provider = world.authority(2, HOST + b"isp/", b"isp")
@@ -65,6 +66,8 @@ def crowded(width=2, height=5, named=None):
             rows[-1][0].certify(b"again.cer", rows[0][0], {"ipv4": "inherit"})
             all_below += [authority for row in rows for authority in row]
         holders.append(holder)
+    if before:
+        before(anchor, provider, holders[0])
     for authority in (anchor, provider, *holders, *all_below):
         authority.publish()
     return world, holders

@@ -146,6 +146,29 @@ def names(tests):
     tests.leaves_out("a folder around others'", world, first)
 
 
+def others(tests):
+    """Who certifies the keys of those above it, or of others that have many files, is left out, and not these."""
+
+    def upward(_, provider, first):
+        first.certify(b"up.cer", provider, {"ipv4": "inherit"})
+
+    def sideways(anchor, _, first):
+        big = anchor.world.authority(900, HOST + b"big/", b"big")
+        anchor.certify(b"big.cer", big, {"ipv4": ["10.0.0.0/8"]})
+        for at in range(60):
+            big.add_roa(b"o%d.roa" % at, roa(FIRST_AS + at, f"10.{at}.0.0/16"), {"ipv4": [f"10.{at}.0.0/16"]})
+        big.publish()
+        first.certify(b"big.cer", big, {"ipv4": "inherit"})
+
+    for name, before in (("above it", upward), ("beside it", sideways)):
+        world, (first, second, _) = crowded(before=before)
+        # (the second, who does nothing else, is left out before)
+        tests.leaves_out(f"keys {name}, the second", world, second)
+        rest = without(world, {second.manifest})
+        tests.leaves_out(f"keys {name}", rest, first)
+        tests.leaves_out(f"keys {name}, then nobody", without(rest, {first.manifest}), None)
+
+
 def spellings(tests):
     """Manifests in BER, whose strings have pieces in each other."""
     for name, ways in (("no lengths", {(): indefinite, CONTENT: indefinite}), ("pieces", {CONTENT: nested(200)})):
@@ -187,7 +210,7 @@ def rewritten(tests):
 def main():
     with tempfile.TemporaryDirectory() as folder:
         tests = Tests(folder)
-        for ask in (lattices, depths, one_key, trees, names, spellings, oddities, rewritten):
+        for ask in (lattices, depths, one_key, trees, names, others, spellings, oddities, rewritten):
             ask(tests)
     print(f"{tests.passed} passed, {tests.failed} failed")
     sys.exit(1 if tests.failed else 0)
