@@ -200,15 +200,17 @@ class Authorities:
             manifest = self.at(one).manifest if self.at(one) else None
             levels[manifest] = min(len(way), levels.get(manifest, len(way)))
         for uri in uris:
-            way = ways.get(uri, (uri,))
+            way = ways.get(uri, ())
             below = self.all_below(uri, {self.at(one).key for one in way if self.at(one)})
-            reads = self.reads(below, uri, max(depth - len(way), 0))
-            files = {file for one in below for file in self.files(one)}
-            if reads <= MOST_READ * len(files):
+            reads = self.reads(below, uri, depth - len(way)) if way else 0
+            if reads <= MOST_READ * len(self.all_files(below)):
                 yield 0
                 continue
-            farther = [one for one in below if one == uri or levels.get(self.at(one).manifest, depth) > len(way)]
-            yield reads / max(len({file for one in farther for file in self.files(one)}), 1)
+            farther = [one for one in below if one == uri or levels[self.at(one).manifest] > len(way)]
+            yield reads / len(self.all_files(farther))
+
+    def all_files(self, uris):
+        return {file for uri in uris for file in self.files(uri)}
 
 
 def find(path, text, is_least):
