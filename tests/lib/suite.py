@@ -60,57 +60,57 @@ class Test:
 STORED = ("bcder_cases", "example_codec", "example_resources", "objects_cases", "resources_cases", "rpki_ask", "rpki_cases", "rpki_check")
 
 # Programs of questions that are asked with each growth refused, and how long that may take at `quick`.
-ASKED = {"rpki_cases": 400, "bcder_cases": 0, "objects_cases": 0, "resources_cases": 0}
+ASKED = {"rpki_cases": 600, "bcder_cases": 0, "objects_cases": 0, "resources_cases": 0}
 
 TESTS = (
     # What is stored is what the scripts write.
-    Test("written bcder", "outside/written.py bcder_cases.py bcder_cases", 180),
-    Test("written examples", "outside/written.py examples.py example_codec example_resources", 60),
+    Test("written bcder", "outside/written.py bcder_cases.py bcder_cases", 300),
+    Test("written examples", "outside/written.py examples.py example_codec example_resources", 300),
     Test("written objects", "outside/written.py objects_cases.py objects_cases", 400),
-    Test("written resources", "outside/written.py resources_calls.py resources_cases", 180),
-    Test("written rpki", "outside/written.py rpki_cases.py rpki_cases cases", 400),
+    Test("written resources", "outside/written.py resources_calls.py resources_cases", 300),
+    Test("written rpki", "outside/written.py rpki_cases.py rpki_cases cases", 500),
     # What documents say of the sources.
-    Test("promise", "tools/promise.py", 60),
+    Test("promise", "tools/promise.py", 300),
     Test("definitions", "tools/definitions.py --check", 0, 60),
     Test("calling", "tools/calling.py --check", 0, 60),
     # Definitions and clauses that are wider than 100 columns are listed.
-    Test("widths", "tools/widths.py", 60),
+    Test("widths", "tools/widths.py", 300),
     # Calls that can lack memory are asked with their growths refused.
-    Test("growing", "tools/growing.py", 60),
+    Test("growing", "tools/growing.py", 300),
     # Errors of which no clause says anything have a reason.
     Test("error sides", "tools/error_sides.py", 300),
     # Stored questions.
-    *(Test(f"stored {name}", f"outside/stored.py {name} {{{name}}}", 200, is_gates=True) for name in STORED),
+    *(Test(f"stored {name}", f"outside/stored.py {name} {{{name}}}", 300, is_gates=True) for name in STORED),
     # The built program, from outside.
-    Test("cases", "outside/cases.sh {rpki_check} cases", 60),
-    Test("faults", "outside/faults.py {rpki_check}", 120, needs=("plain",)),
+    Test("cases", "outside/cases.sh {rpki_check} cases", 300),
+    Test("faults", "outside/faults.py {rpki_check}", 300, needs=("plain",)),
     Test("folders", "outside/folders.py {rpki_check}", 300, 1200, less="--few"),
     Test("hostile", "outside/hostile.py {rpki_check}", 0, 1200),
-    Test("readme", "outside/readme.py {rpki_check}", 120, needs=("cryptography",)),
-    Test("cache", "outside/cache.py {rpki_check}", 200, needs=("cryptography",)),
+    Test("readme", "outside/readme.py {rpki_check}", 300, needs=("cryptography",)),
+    Test("cache", "outside/cache.py {rpki_check}", 300, needs=("cryptography",)),
     Test("odd caches", "outside/odd_caches.py {rpki_check}", 0, 600, needs=("cryptography",)),
     Test("odd signatures", "outside/odd_signatures.py", 0, 600, needs=("cryptography",)),
     Test("interrupted", "outside/interrupted.py", 0, 1800, needs=("cryptography",)),
     Test("validating", "outside/validating.py {rpki_check}", 0, 900, needs=("cryptography",)),
-    Test("crowded", "outside/crowded.py", 120, needs=("cryptography",)),
+    Test("crowded", "outside/crowded.py", 400, needs=("cryptography",)),
     Test("routers", "outside/routers.py {rpki_check} {rpki_ask}", 0, 900, needs=("cryptography",)),
-    Test("large", "outside/large.py {rpki_check} {rpki_ask} {rpki_cases}", 300, 1800, more="--huge", least="--small"),
-    Test("lattices", "outside/lattices.py {rpki_check}", 300, needs=("cc", "plain")),
-    Test("octets", "outside/octets.py {objects_cases}", 200, 900, less="--most 2", more="--most 12", least="--most 1"),
+    Test("large", "outside/large.py {rpki_check} {rpki_ask} {rpki_cases}", 500, 1800, more="--huge", least="--small"),
+    Test("lattices", "outside/lattices.py {rpki_check}", 500, needs=("cc", "plain")),
+    Test("octets", "outside/octets.py {objects_cases}", 400, 900, less="--most 2", more="--most 12", least="--most 1"),
     # The build by Rattle's own compiler, from outside.
-    Test("cases, second compiler", "outside/cases.sh {rpki_check.by-rattle} cases", 60, needs=("second",)),
-    Test("faults, second compiler", "outside/faults.py {rpki_check.by-rattle}", 120, needs=("second", "plain")),
+    Test("cases, second compiler", "outside/cases.sh {rpki_check.by-rattle} cases", 300, needs=("second",)),
+    Test("faults, second compiler", "outside/faults.py {rpki_check.by-rattle}", 300, needs=("second", "plain")),
     # A second reading of the rules.
-    Test("second reading", "lib/rpki_model.py --cases cases", 60),
-    Test("reasons", "lib/rpki_reasons.py --test", 60, 600, less="40", more="2000", least="10"),
-    Test("chance", "outside/rpki_random.py {rpki_check}", 400, 7200, less="--count 2000", more="--count 50000", least="--count 300"),
-    Test("long chances", "outside/rpki_random.py {rpki_check} --long", 500, 7200, less="--count 2000", more="--count 50000", least="--count 100"),
-    Test("relaxed chances", "outside/rpki_random.py {rpki_check} --relaxed", 400, 7200, less="--count 1000", more="--count 20000", least="--count 100"),
-    Test("chance asks", "outside/rpki_asks.py {rpki_ask}", 300, 2400, less="--count 60", more="--count 1000", least="--count 10"),
-    Test("chance worlds", "questions/rpki_worlds.py {rpki_cases}", 300, 2400, less="60", more="1000", least="20"),
-    Test("roles", "questions/certs_roles.py --all {objects_cases}", 200),
+    Test("second reading", "lib/rpki_model.py --cases cases", 300),
+    Test("reasons", "lib/rpki_reasons.py --test", 300, 600, less="40", more="2000", least="10"),
+    Test("chance", "outside/rpki_random.py {rpki_check}", 500, 7200, less="--count 2000", more="--count 50000", least="--count 300"),
+    Test("long chances", "outside/rpki_random.py {rpki_check} --long", 600, 7200, less="--count 2000", more="--count 50000", least="--count 100"),
+    Test("relaxed chances", "outside/rpki_random.py {rpki_check} --relaxed", 500, 7200, less="--count 1000", more="--count 20000", least="--count 100"),
+    Test("chance asks", "outside/rpki_asks.py {rpki_ask}", 400, 2400, less="--count 60", more="--count 1000", least="--count 10"),
+    Test("chance worlds", "questions/rpki_worlds.py {rpki_cases}", 400, 2400, less="60", more="1000", least="20"),
+    Test("roles", "questions/certs_roles.py --all {objects_cases}", 300),
     # Growths refused in turn.
-    Test("growths", "outside/growths.py {rpki_check}", 300, needs=("cc", "plain")),
+    Test("growths", "outside/growths.py {rpki_check}", 500, needs=("cc", "plain")),
     *(Test(f"growths {name}", f"outside/calls_growths.py {{{name}}}", at, 3600, needs=("cc", "plain"), less="--few") for name, at in ASKED.items()),
     Test("content growths", "outside/content_growths.py", 0, 3600),
     # Bodies that always tell lack of memory.
@@ -244,7 +244,8 @@ class Run:
             ordered = sorted(self.tests, key=lambda test: -test.limit(self.level))
             running = {pool.submit(self.take, test): test for test in ordered}
             for done in concurrent.futures.as_completed(running):
-                passed, failed, said, output = done.result()
+                why = done.exception()
+                passed, failed, said, output = (0, 1, f"not run: {why}", "") if why else done.result()
                 self.passed, self.failed = self.passed + passed, self.failed + failed
                 self.skipped += said.startswith("skipped")
                 self.unended += said.startswith(("not begun", "not ended"))

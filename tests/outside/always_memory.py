@@ -75,7 +75,7 @@ def main():
     asked = list(stored())
     with tempfile.TemporaryDirectory() as folder:
         how = {"input": "".join(question for _, question, _ in asked), "capture_output": True, "text": True}
-        done = subprocess.run(["rt", "try"], cwd=lay(folder), **how)
+        done = subprocess.run(["rt", "try", "--seconds", "900"], cwd=lay(folder), **how)
     said = done.stdout.splitlines()
     wrong = [] if len(said) == len(asked) else [f"{len(said)} answers to {len(asked)} questions: {done.stderr[-1500:]}"]
     for (topic, question, answer), told in zip(asked, said):

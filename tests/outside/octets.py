@@ -3,9 +3,10 @@
 
     octets.py PROGRAM [--most N]      (PROGRAM is crates/objects_cases/out/objects_cases)
 
-A row of the table below names a reader and the questions that ask it. Of the stored questions that it answers with a value some are
-taken, of all lengths, and each proper front of their octets has to be refused; a locator's has to be where a second reading
-(`rpki_readers.py`) refuses it. Values in each other are asked of the readers as a whole, and where a reader takes any value.
+A row of the table below names a reader and the questions that ask it; each public `decode` of these crates has a row. Of the stored
+questions that a reader answers with a value some are taken, of all lengths, and each proper front of their octets has to be refused;
+a locator's has to be where a second reading (`rpki_readers.py`) refuses it. Values in each other are asked of the readers as a
+whole, and where a reader takes any value.
 
 Prints a line for each answer that isn't right, and `N passed, M failed`; exits with 1 where one failed.
 """
@@ -18,7 +19,9 @@ import sys
 sys.dont_write_bytecode = True
 sys.path.insert(0, os.path.join(os.path.dirname(os.path.abspath(__file__)), os.pardir, "lib"))
 
+import calls  # noqa: E402
 from outcomes import TOP  # noqa: E402
+from programs import CRATES, libraries  # noqa: E402
 from rpki_readers import Locator, Refused  # noqa: E402
 from rpki_repositories import ALGORITHM, NULL, bits, integer, oid, seq, tlv  # noqa: E402
 
@@ -65,6 +68,17 @@ READERS = {
     "rsc object relaxed": "Rsc::decode, in BER",
     LOCATORS: "Tal::read_named",
 }
+
+
+def without_row():
+    """The public calls `decode` of the crates of certificates and objects that no row names."""
+    named = {call.partition(",")[0] for call in READERS.values()}
+    for crate in sorted(libraries()):
+        if crate.startswith(("certs", "objects")) and "answers" not in libraries()[crate]:
+            for path in sorted((CRATES / crate / "src").rglob("*.rt")):
+                for call in calls.calls_of(crate, path, path.read_text(), ()):
+                    if call.name == "decode" and f"{call.owner}::decode" not in named:
+                        yield f"{crate}: {call.owner}::decode"
 
 
 def stored():
@@ -200,7 +214,7 @@ def main():
     lines = "".join("\t".join(words) + "\n" for words in [*(words for _, words, _ in cut), *(words for words, _ in values)])
     done = subprocess.run([os.path.abspath(given.program)], input=lines, capture_output=True, text=True, timeout=SECONDS)
     said = done.stdout.splitlines()
-    wrong = []
+    wrong = [f"{call} has no row in tests/outside/octets.py" for call in without_row()]
     if done.returncode or len(said) != len(cut) + len(values):
         wrong.append(f"status {done.returncode}, {len(said)} answers to {len(cut) + len(values)} questions: {done.stderr[-500:]}")
     for (reader, words, octets), answer in zip(cut, said):

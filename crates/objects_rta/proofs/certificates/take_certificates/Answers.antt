@@ -1,0 +1,10 @@
+use Rattle.objects_cms.proofs.of_bcder_content.InMode.{inside}
+use Rattle.certs_cert.proofs.of_certs_x509.Octets.{inside_took}
+use Rattle.objects_rta.specs.Carried.{AreCerts, CertOctets}
+use Rattle.objects_rta.proofs.certificates.take_certificates.Goals as goal
+
+pub returns-clause-reads : goal.returns-clause-reads
+returns-clause-reads g c = inside {P = AreCerts} (record { each = λ p q r h. h.0 }) c.take_constructed_if.ensures.ran
+
+pub returns-clause-octets : goal.returns-clause-octets
+returns-clause-octets g c = inside_took {P = CertOctets} (record { each = λ p q x h. h.1 }) c.take_constructed_if.ensures.ran

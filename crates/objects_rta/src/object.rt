@@ -1,0 +1,201 @@
+//! Signed objects with several signers (RFC 5652, this project's profile of resource tagged attestations).
+//!
+//! One is read of a source in DER, or where not strict in BER: a content of some type, the certificates that it carries, one
+//! or more, revocation lists, any number, and signers, one or more. Reading it verifies nothing, and whose certificate a
+//! signer has isn't looked at.
+
+ghost use Rattle.std.specs.Prelude.{◌≡◌, ◌↔◌, All, IsTrue, OnErr, OnOk, map, true};
+ghost use Rattle.objects_cms.specs.bcder_content.Here.{here};
+ghost use Rattle.objects_cms.specs.objects_payload.ObjectText.{mode, signer_of};
+ghost use Rattle.objects_cms.specs.Decoded.{ReadsOctets};
+ghost use Rattle.objects_cms.specs.Signer.{signer_fields};
+ghost use Rattle.objects_rta.specs.MultiFrame.{DecodesMulti, MakesMulti, SignsAll, multi_with};
+ghost use Rattle.objects_rta.specs.MultiText.{SignsType, SpellsMulti};
+
+use crate::frame::{Carried, Parts, take_frame};
+use crate::lists::decode_lists;
+use certs_cert::decode::{Constructed, ContentError, Decode, DecodeError, IntoSource, Source};
+use certs_cert::{Cert, Mode, OctetString, Oid};
+use certs_crl::Crl;
+use objects_cms::signed::SignerInfo;
+use std::alloc::Global;
+use std::marker::Model;
+
+/// A signed object with several signers: its content and the type of that, the certificates and revocation lists that it
+/// carries, and its signers. Contracts see all of it.
+#[derive(Drop)]
+pub struct MultiSignedObject {
+    content_type: Oid,
+    content: OctetString,
+    certs: Vec<Cert>,
+    crls: Vec<Crl>,
+    signers: Vec<SignerInfo>,
+}
+
+impl Model for MultiSignedObject {
+    ghost use Rattle.std.specs.Prelude.{map};
+    ghost use Rattle.objects_cms.specs.objects_payload.ObjectText.{signer_of};
+    ghost use Rattle.objects_cms.specs.Signer.{signer_fields};
+    ghost use Rattle.objects_rta.specs.MultiText.{Multi};
+
+    ghost Value = { Multi };
+
+    ghost view = { λ o. record {
+      content_type = o.content_type.0;
+      content = o.content;
+      certs = o.certs.items;
+      crls = o.crls.items;
+      signers = map signer_of (map signer_fields o.signers.items);
+    } };
+}
+
+// Strict is DER, else BER.
+fn mode_of(strict: bool) -> Mode
+    ensures { result ≡ mode strict }
+{
+    if strict { Mode::Der } else { Mode::Ber }
+}
+
+// Whether the signer's attribute for the content's type has that type (RFC 6488 2.1.6.4.1).
+fn signs_type(signer: &SignerInfo, content_type: &Oid) -> bool
+    ensures { IsTrue result ↔ SignsType content_type.now.0 (signer_fields signer.now) }
+{
+    signer
+        .attributes()
+        .attributes()
+        .content_type
+        .equals(content_type)
+}
+
+// Whether each signer signs that type.
+fn all_sign(signers: &[SignerInfo], content_type: &Oid) -> bool
+    ensures { IsTrue result
+        ↔ All (λ s. SignsType content_type.now.0 (signer_fields s)) signers.now }
+{
+    signers
+        .iter()
+        .all(|signer| signs_type(signer, content_type))
+}
+
+// Whether each signer signs the type of the content.
+fn agree(parts: &Parts) -> bool
+    ensures { IsTrue result ↔ SignsAll parts.now }
+{
+    all_sign(parts.1.signers.as_slice(), &parts.0.0)
+}
+
+impl MultiSignedObject {
+    // The object of what was read of it, and of the lists.
+    fn from_parts(parts: Parts, crls: Vec<Crl>) -> MultiSignedObject
+        ensures { result ≡ multi_with parts crls.items }
+    {
+        let (typed, carried) = parts;
+        let (content_type, content) = typed;
+        let Carried {
+            certs,
+            lists,
+            signers,
+        } = carried;
+        drop(lists);
+        MultiSignedObject {
+            content_type,
+            content,
+            certs,
+            crls,
+            signers,
+        }
+    }
+
+    // The object of the parts, where they agree; else the content is failed.
+    fn agreed<S: Source>(
+        alloc: Global,
+        parts: Parts,
+        cons: &mut Constructed<S>,
+    ) -> Result<MultiSignedObject, DecodeError<S::Error>>
+        ensures makes { MakesMulti parts result }
+        ensures same { OnOk result (here S.rest cons.new ≡ here S.rest cons.old) }
+        ensures failed { OnErr result ((here S.rest cons.new).failed ≡ true) }
+    {
+        if !agree(&parts) {
+            drop(parts);
+            cons.fail();
+            return Err((*cons).content_err(ContentError::from_static("another type of content")));
+        }
+        match decode_lists(alloc, &parts.1.lists) {
+            Ok(crls) => Ok(MultiSignedObject::from_parts(parts, crls)),
+            Err(error) => {
+                drop(parts);
+                cons.fail();
+                Err(error.convert())
+            }
+        }
+    }
+
+    /// The signed object that is next, in the mode of the content: by the very octets that stood there, of which those that
+    /// are signed are kept (RFC 5652 3, 5). Each signer's attribute for the content's type has that type. Revocation lists
+    /// are DER in each mode.
+    pub fn take_from<S: Source>(
+        alloc: Global,
+        cons: &mut Constructed<S>,
+    ) -> Result<MultiSignedObject, DecodeError<S::Error>>
+        ensures reads { ReadsOctets (λ o. o) SpellsMulti
+            (here S.rest cons.old) result (here S.rest cons.new) }
+        ensures failed { OnErr result ((here S.rest cons.new).failed ≡ true) }
+    {
+        let parts = take_frame(alloc, cons)?;
+        MultiSignedObject::agreed(alloc, parts, cons)
+    }
+
+    /// The signed object that a source begins with: in DER, or where not `strict` in BER; octets after it stay unread.
+    pub fn decode<I: IntoSource>(
+        alloc: Global,
+        source: I,
+        strict: bool,
+    ) -> Result<MultiSignedObject, DecodeError<<I::Source as Source>::Error>>
+        ensures { DecodesMulti strict (I.octets source) result }
+    {
+        let rules = mode_of(strict);
+        rules.decode(
+            source,
+            |cons|
+                ensures { ReadsOctets (λ o. o) SpellsMulti
+                    (here I.Source.rest cons.old) result (here I.Source.rest cons.new) }
+            { MultiSignedObject::take_from(alloc, cons) },
+        )
+    }
+
+    /// The type of the content (RFC 5652 5.2).
+    pub fn content_type(&self) -> &Oid
+        ensures { result.now.0 ≡ self.now.content_type }
+    {
+        &self.content_type
+    }
+
+    /// The content (RFC 5652 5.2).
+    pub fn content(&self) -> &OctetString
+        ensures { result.now ≡ self.now.content }
+    {
+        &self.content
+    }
+
+    /// The certificates that are carried, in their order.
+    pub fn certificates(&self) -> &[Cert]
+        ensures { result.now ≡ self.now.certs }
+    {
+        self.certs.as_slice()
+    }
+
+    /// The revocation lists that are carried, in their order.
+    pub fn crls(&self) -> &[Crl]
+        ensures { result.now ≡ self.now.crls }
+    {
+        self.crls.as_slice()
+    }
+
+    /// The signers, in their order.
+    pub fn signer_infos(&self) -> &[SignerInfo]
+        ensures { map signer_of (map signer_fields result.now) ≡ self.now.signers }
+    {
+        self.signers.as_slice()
+    }
+}

@@ -1,0 +1,107 @@
+//! Resource tagged attestations, as signed objects.
+//!
+//! One is read of a source in DER, or where not strict in BER; its content is DER in both. Reading it verifies nothing.
+
+ghost use Rattle.std.specs.Prelude.{◌≡◌, ◌↔◌, IsTrue};
+ghost use Rattle.objects_rta.specs.AttestationParts.{DecodesAttestation, DecodesTyped};
+ghost use Rattle.objects_rta.specs.Attestations.{tagged_attestation};
+
+use crate::attestation::ResourceTaggedAttestation;
+use crate::object::MultiSignedObject;
+use bcder::decode::{ContentError, DecodeError, IntoSource, Pos, Source};
+use bytes::Bytes;
+use std::alloc::Global;
+use std::marker::Model;
+
+// id-ct-resourceTaggedAttest, 1.2.840.113549.1.9.16.1.36.
+const CONTENT_TYPE: &[u8] = &[42, 134, 72, 134, 247, 13, 1, 9, 16, 1, 36];
+
+/// A resource tagged attestation: a signed object with several signers, and what its content says. Contracts see both.
+#[derive(Drop)]
+pub struct Rta {
+    signed: MultiSignedObject,
+    content: ResourceTaggedAttestation,
+}
+
+impl Model for Rta {
+    ghost use Rattle.objects_rta.specs.AttestationParts.{RtaValue};
+
+    ghost Value = { RtaValue };
+
+    ghost view = { λ r. record { signed = r.signed; content = r.content } };
+}
+
+// Whether its content is an attestation by its type.
+fn is_attestation(signed: &MultiSignedObject) -> bool
+    ensures { IsTrue result ↔ (signed.now.content_type ≡ tagged_attestation) }
+{
+    signed.content_type().as_slice() == CONTENT_TYPE
+}
+
+// The signed object that a source begins with, and the octets of its content, shared; an object with a content of another
+// type is refused (RFC 6488 2.1.3.1).
+fn decode_signed<I: IntoSource>(
+    alloc: Global,
+    source: I,
+    strict: bool,
+) -> Result<(MultiSignedObject, Bytes), DecodeError<<I::Source as Source>::Error>>
+    ensures { DecodesTyped strict (I.octets source) result }
+{
+    let signed = MultiSignedObject::decode(alloc, source, strict)?;
+    if !is_attestation(&signed) {
+        drop(signed);
+        let error = ContentError::from_static("another type of content");
+        return Err(DecodeError::content(error, Pos::from(0)));
+    }
+    match signed.content().to_bytes(alloc) {
+        Ok(octets) => Ok((signed, octets)),
+        Err(_) => {
+            drop(signed);
+            Err(DecodeError::Memory)
+        }
+    }
+}
+
+impl Rta {
+    /// The attestation that a source begins with, in DER, or where not `strict` in BER; octets after it stay unread. Its
+    /// content and the revocation lists that it carries are DER in both. Its octets are shared where they stand in one
+    /// piece.
+    pub fn decode<I: IntoSource>(
+        alloc: Global,
+        source: I,
+        strict: bool,
+    ) -> Result<Self, DecodeError<<I::Source as Source>::Error>>
+        ensures { DecodesAttestation strict (I.octets source) result }
+    {
+        let (signed, octets) = decode_signed(alloc, source, strict)?;
+        match ResourceTaggedAttestation::decode(alloc, octets) {
+            Ok(content) => Ok(Rta { signed, content }),
+            Err(error) => {
+                drop(signed);
+                Err(error.convert())
+            }
+        }
+    }
+
+    /// The signed object, with its signers, certificates and revocation lists, and the octets of its content.
+    pub fn signed(&self) -> &MultiSignedObject
+        ensures { result.now ≡ self.now.signed }
+    {
+        &self.signed
+    }
+
+    /// What the content says.
+    pub fn content(&self) -> &ResourceTaggedAttestation
+        ensures { result.now ≡ self.now.content }
+    {
+        &self.content
+    }
+
+    /// The signed object and what its content says, handed over.
+    pub fn into_parts(self) -> (MultiSignedObject, ResourceTaggedAttestation)
+        ensures signed { result.0 ≡ self.signed }
+        ensures content { result.1 ≡ self.content }
+    {
+        (self.signed, self.content)
+    }
+}
