@@ -1,4 +1,4 @@
-"""Reads what tools/compare.py asks about from a bundle: its objects, and what ROAs and ASPAs list.
+"""Reads what tools/compare.py and tools/quarantine.py ask about from a bundle: its objects, and what ROAs and ASPAs list.
 
 Nothing is judged here: what an object lists counts only where `rpki_check` says that it is good. Objects in BER aren't read.
 """
@@ -83,7 +83,7 @@ class Bundle:
         whole = Der(self.octets).of(SEQUENCE)
         whole.of(INTEGER)
         self.moment = whole.of(GENERALIZED_TIME).rest().decode("ascii", "replace")
-        whole.of(INTEGER)
+        self.depth = whole.number()
         if whole.tag() == BOOLEAN:
             whole.next()
         self.locators = dict(self.locator(row) for _, row in whole.of(SEQUENCE).each())

@@ -3,7 +3,8 @@
 
     validate.py CACHE --tals FOLDER --out FILE [--form json|openbgpd|csv] [--lifetime SECONDS] [--name NAME] [--no-aspa]
         [--checker PATH] [--keep FOLDER] [--known FOLDER] [--work FOLDER] [--moment YYYYMMDDHHMMSSZ]
-        [--layout NAME] [--depth N] [--jobs N] [--max-file-size OCTETS] [--relaxed] [--progress]
+        [--layout NAME] [--depth N] [--jobs N] [--max-file-size OCTETS] [--relaxed] [--progress] [--asker PATH]
+        [--time-limit SECONDS] [--quarantine N]
 
 Four steps, one after another:
 
@@ -11,6 +12,12 @@ Four steps, one after another:
   bundle    `rpki_check bundle` makes one bundle of what it wrote
   check     `rpki_check check` prints the bundle's lines
   FORM      tools/lines_to.py turns the lines into FILE, which is to be used for --lifetime (a day unless it is given)
+
+Where `check` hasn't ended after --time-limit (120 seconds; 0 for none), or memory didn't suffice for it, `rpki_ask cost`
+says below which authorities the most chains of certificates go on. What the one publishes that makes them so many is left
+out of the bundle (`quarantine.py`), and `check` is tried again, so often as --quarantine says (3 times). Nothing outside
+what that authority can reach changes by it, which `rpki_ask reach` tells for the summary. FILE is new then, with all others'
+lines, and the exit status is 3; standard error, the summary and the JSON's `metadata` say who was left out.
 
 FILE is replaced in one rename, once everything else went well and its octets are on the disk. So whoever reads it finds
 the old file or the new one, never a part; where a step fails, or the run is ended at any point, FILE is as it was.
@@ -29,12 +36,13 @@ Exit status:
   0   FILE is new
   1   a file or folder that the operator gave can't be read or written, or a program doesn't start
   2   other arguments
-  3   verdicts.py failed
+  3   FILE is new, without what some authority publishes, which kept `rpki_check check` from ending in time
   4   `rpki_check bundle` failed
-  5   `rpki_check check` failed, or what it printed aren't its lines
+  5   `rpki_check check` failed or didn't end in time, or what it printed aren't its lines
+  6   verdicts.py failed
   75  another run for FILE is under way
 
-With all but 0 FILE is as it was. SIGTERM, SIGINT and SIGHUP end the step that runs; the work folder is removed, and the
+With all but 0 and 3 FILE is as it was. SIGTERM, SIGINT and SIGHUP end the step that runs; the work folder is removed, and the
 process ends by that signal. Standard error has the steps' own words, how far they are, and a summary.
 """
 
@@ -42,6 +50,7 @@ import argparse
 import hashlib
 import json
 import os
+import re
 import resource
 import shutil
 import signal
@@ -52,11 +61,13 @@ import time
 sys.dont_write_bytecode = True
 
 import lines_to  # noqa: E402
+import quarantine  # noqa: E402
+from bundles import Malformed  # noqa: E402
 from places import Busy, Evidence, Work, publish  # noqa: E402
 
 HERE = os.path.dirname(os.path.abspath(__file__))
-CHECKER = os.path.join(HERE, os.pardir, "crates", "rpki_check", "out", "rpki_check")
-FAULT, USAGE, VERDICTS, BUNDLE, CHECK, BUSY = 1, 2, 3, 4, 5, 75
+CHECKER, ASKER = (os.path.join(HERE, os.pardir, "crates", name, "out", name) for name in ("rpki_check", "rpki_ask"))
+FAULT, USAGE, QUARANTINED, BUNDLE, CHECK, VERDICTS, BUSY = 1, 2, 3, 4, 5, 6, 75
 ENDING = (signal.SIGTERM, signal.SIGINT, signal.SIGHUP)
 # What is handed to verdicts.py as it was given.
 HANDED = ("layout", "depth", "jobs", "max_file_size", "known")
@@ -65,6 +76,11 @@ FLAGS = ("relaxed", "progress")
 TOLD = ("tal", "anchor")
 # How many octets are read at a time.
 PIECE = 1 << 20
+# So long `check` may take, in seconds, and so many authorities are left out at most.
+TIME_LIMIT, MOST_LEFT_OUT = 120, 3
+# So many chains `rpki_ask cost` counts at most; fewer, where that takes too long.
+BUDGET = 1_000_000
+OUT_OF_MEMORY = b"out of memory\n"
 
 
 class Failed(Exception):
@@ -97,8 +113,9 @@ class Steps:
         if self.signal is not None:
             raise Stopped
 
-    def run(self, name, words, **streams):
-        """The exit status of a program, which holds the work folder's lock for as long as it lives."""
+    def run(self, name, words, limit=None, **streams):
+        """The exit status of a program, which holds the work folder's lock for as long as it lives; None where it was ended
+        after so many seconds."""
         self.go_on()
         tell(f"{name}: {words[0]} {words[1]}")
         began, used = time.monotonic(), children_seconds()
@@ -108,15 +125,21 @@ class Steps:
             raise Failed(FAULT, f"{words[0]} doesn't start: {why.strerror}") from None
         if self.signal is not None:
             self.child.terminate()
-        status = self.child.wait()
+        try:
+            status = self.child.wait(limit)
+        except subprocess.TimeoutExpired:
+            self.child.kill()
+            self.child.wait()
+            status = None
         self.child = None
         self.note(name, began, children_seconds() - used)
         self.go_on()
         return status
 
     def note(self, name, began, processor):
-        self.seconds[name] = round(time.monotonic() - began, 3)
-        self.processor_seconds[name] = round(processor, 3)
+        """Adds to the times of a step, which may run again."""
+        self.seconds[name] = round(self.seconds.get(name, 0) + time.monotonic() - began, 3)
+        self.processor_seconds[name] = round(self.processor_seconds.get(name, 0) + processor, 3)
 
 
 def children_seconds():
@@ -167,20 +190,92 @@ def make_bundle(given, steps, work):
 
 
 def make_lines(given, steps, work):
-    """The third step: the lines that the bundle means."""
-    with open(work.path("bundle"), "rb") as bundle, open(work.path("lines"), "xb") as lines:
-        status = steps.run("check", [given.checker, "check"], stdin=bundle, stdout=lines)
-    if status:
-        raise Failed(CHECK, ended("rpki_check check", status))
+    """The third step: the lines that the bundle means, and who was left out of it so that they came out in time."""
+    left_out = []
+    while why := what_lacked(given, steps, work):
+        if len(left_out) >= given.quarantine:
+            others = f", with {len(left_out)} authorities left out" if left_out else ""
+            raise Failed(CHECK, f"rpki_check check {why}{others}")
+        tell(f"rpki_check check {why}")
+        left_out.append(leave_out(given, steps, work, why))
     with open(work.path("lines"), "rb") as file:
         octets = file.read()
     try:
-        return lines_to.read(octets.decode("ascii"))
+        return lines_to.read(octets.decode("ascii")), left_out
     except (lines_to.BadLine, UnicodeDecodeError) as why:
         raise Failed(CHECK, f"not lines of rpki_check: {why}") from None
 
 
-def summary_of(given, steps, work, lines, digests):
+def what_lacked(given, steps, work):
+    """Why `check` came to no end, time or memory; None where it has printed its lines."""
+    paths = [work.path(name) for name in ("bundle", "lines", "faults")]
+    with open(paths[0], "rb") as bundle, open(paths[1], "wb") as lines, open(paths[2], "w+b") as said:
+        streams = {"stdin": bundle, "stdout": lines, "stderr": said}
+        status = steps.run("check", [given.checker, "check"], given.time_limit or None, **streams)
+        said.seek(0)
+        faults = said.read()
+    sys.stderr.buffer.write(faults)
+    sys.stderr.buffer.flush()
+    if status is None:
+        return f"hadn't ended after {given.time_limit} seconds"
+    if status == FAULT and faults == OUT_OF_MEMORY:
+        return "was out of memory"
+    if status == -signal.SIGKILL:
+        return "was killed, as it is where memory is short"
+    if status:
+        raise Failed(CHECK, ended("rpki_check check", status))
+    return None
+
+
+def leave_out(given, steps, work, why):
+    """Takes what the authority publishes that makes most chains out of the bundle, and tells who it is."""
+    try:
+        found = quarantine.find(work.path("bundle"), *cost_of(given, steps, work, why))
+        if found is None:
+            raise Failed(CHECK, f"rpki_check check {why}, and there is no authority below which objects are read again and "
+                         "again: where the bundle is large, --time-limit says how long it may take")
+        tell(f"QUARANTINE of {found.authority}: {chains_of(found)}; left out: {', '.join(found.manifests)}")
+        quarantine.write_without(work.path("bundle"), work.path("cut"), found.manifests)
+    except Malformed as fault:
+        raise Failed(CHECK, f"rpki_check check {why}, and its bundle can't be read here: {fault}") from None
+    os.replace(work.path("cut"), work.path("bundle"))
+    return found
+
+
+def chains_of(found):
+    least = "at least " if found.is_least else ""
+    return f"{least}{found.chains:,} chains go on below it"
+
+
+def cost_of(given, steps, work, why):
+    """What `rpki_ask cost` prints of the bundle, and whether there are more chains than it has counted."""
+    if not os.access(given.asker, os.X_OK):
+        raise Failed(CHECK, f"rpki_check check {why}, and {given.asker}, which would say whom to leave out, is no program")
+    for budget in (BUDGET, quarantine.least_budget(work.path("bundle"))):
+        status, text = asked(given, steps, work, "cost", str(budget))
+        if status in (0, 1):
+            return text, status == 1
+        if status is not None:
+            raise Failed(CHECK, f"rpki_check check {why}, and {ended('rpki_ask cost', status)}")
+    raise Failed(CHECK, f"rpki_check check {why}, and rpki_ask cost hadn't ended either")
+
+
+def asked(given, steps, work, *words):
+    """The exit status of a question about the bundle, None where it has no answer in time, and what it prints."""
+    with open(work.path("bundle"), "rb") as bundle, open(work.path("answer"), "w+b") as answer:
+        status = steps.run(words[0], [given.asker, *words], given.time_limit or None, stdin=bundle, stdout=answer)
+        answer.seek(0)
+        return status, answer.read().decode("ascii", "replace")
+
+
+def reached(given, steps, work, found):
+    """The numbers that whoever was left out can reach, by kind; None where they aren't known."""
+    status, text = asked(given, steps, work, "reach", *found.manifests)
+    rows = dict(line.partition(" ")[::2] for line in text.splitlines())
+    return rows if status in (0, 1) else None
+
+
+def summary_of(given, steps, work, lines, left_out, digests):
     """What became of the run, for those who look after it."""
     with open(work.path("verdicts.json")) as file:
         verdicts = json.load(file)
@@ -191,6 +286,7 @@ def summary_of(given, steps, work, lines, digests):
         "origins": len(lines.origins),
         "customers": len(lines.customers),
         "refused": lines.causes(),
+        "quarantined": left_out,
         "sha256": digests,
         "seconds": steps.seconds,
         "processor_seconds": steps.processor_seconds,
@@ -207,26 +303,46 @@ def text_of(summary, lines):
     used = summary["processor_seconds"]
     times = (f"{name} {seconds:.1f} (processor {used[name]:.1f})" for name, seconds in summary["seconds"].items())
     yield f"seconds: {', '.join(times)}"
-    yield f"{summary['out']} is new"
+    for row in summary["quarantined"]:
+        yield f"QUARANTINED: {row['authority']} and what is below it, {reach_text(row['reach'])}"
+    yield f"{summary['out']} is new{', without what was left out' if summary['quarantined'] else ''}"
+
+
+def reach_text(reach):
+    """Which lines may have changed by what was left out."""
+    if reach is None:
+        return "by which it isn't known what changes"
+    if "locator" in reach:
+        return "by which anything may change"
+    numbers = ", ".join(f"{kind} {runs}" for kind, runs in reach.items() if runs)
+    return f"by which nothing changes outside {numbers}" if numbers else "by which nothing more changes"
 
 
 def validate(given, steps, work, evidence):
-    """All steps: the summary's lines, once the file is in place."""
+    """All steps: the summary, once the file is in place, and the lines that it was made of."""
     make_verdicts(given, steps, work)
     make_bundle(given, steps, work)
-    lines = make_lines(given, steps, work)
+    lines, left_out = make_lines(given, steps, work)
+    left_out = [{**one._asdict(), "reach": reached(given, steps, work, one)} for one in left_out]
     began, used = time.monotonic(), time.process_time()
     digests = {name: digest_of(work.path(name)) for name in ("bundle", "lines", "verdicts") if given.keep}
     more = {"bundle": digests["bundle"]} if given.keep else {}
+    more |= {"quarantined": [one["authority"] for one in left_out]} if left_out else {}
     how = lines_to.How(given.name, given.moment, given.lifetime, not given.no_aspa, more)
     octets = lines_to.FORMS[given.form](lines, how).encode("ascii")
     digests["out"] = hashlib.sha256(octets).hexdigest()
     steps.note(given.form, began, time.process_time() - used)
     for text in lines_to.unsaid(given.form, lines, how):
         tell(text)
-    summary = summary_of(given, steps, work, lines, digests)
+    summary = summary_of(given, steps, work, lines, left_out, digests)
     publish(given.out, octets, steps.go_on, lambda: evidence.keep(work, summary))
-    return list(text_of(summary, lines))
+    return summary, lines
+
+
+def number(text):
+    if not re.fullmatch(r"[0-9]{1,4}", text):
+        raise argparse.ArgumentTypeError("a number of at most four digits is wanted")
+    return int(text)
 
 
 def arguments():
@@ -237,6 +353,11 @@ def arguments():
     parser.add_argument("--form", choices=lines_to.FORMS, default="json", help="its form (default: json)")
     lines_to.add_arguments(parser)
     parser.add_argument("--checker", metavar="PATH", default=CHECKER, help="the program rpki_check")
+    parser.add_argument("--asker", metavar="PATH", default=ASKER, help="the program rpki_ask")
+    how = {"type": lines_to.seconds, "default": TIME_LIMIT, "metavar": "SECONDS"}
+    parser.add_argument("--time-limit", help="for rpki_check check, 120 unless it is given; 0: none", **how)
+    how = {"type": number, "default": MOST_LEFT_OUT, "metavar": "N"}
+    parser.add_argument("--quarantine", help="leave so many authorities out at most, 3 unless it is given", **how)
     parser.add_argument("--keep", metavar="FOLDER", help="keep the bundle and what came of it")
     parser.add_argument("--known", metavar="FOLDER", help="the verdicts of an earlier run")
     parser.add_argument("--work", metavar="FOLDER", help="where the work folder stands (default: beside FILE)")
@@ -247,7 +368,8 @@ def arguments():
     given = parser.parse_args()
     given.moment = given.moment or time.strftime("%Y%m%d%H%M%SZ", time.gmtime())
     # (where FILE is a link, what it points at is replaced)
-    given.out, given.checker = os.path.realpath(given.out), os.path.abspath(given.checker)
+    given.out = os.path.realpath(given.out)
+    given.checker, given.asker = os.path.abspath(given.checker), os.path.abspath(given.asker)
     return given
 
 
@@ -269,9 +391,10 @@ def run(given):
             steps = Steps(work.lock)
             evidence = Evidence(given.keep, work)
             work.clear()
-            for text in validate(given, steps, work, evidence):
+            summary, lines = validate(given, steps, work, evidence)
+            for text in text_of(summary, lines):
                 tell(text)
-        return 0
+        return QUARANTINED if summary["quarantined"] else 0
     except Stopped:
         tell(f"ended by signal {steps.signal}; {given.out} is as it was")
         return -steps.signal

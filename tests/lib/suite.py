@@ -92,8 +92,10 @@ TESTS = (
     Test("odd signatures", "outside/odd_signatures.py", 0, 600, needs=("cryptography",)),
     Test("interrupted", "outside/interrupted.py", 0, 1800, needs=("cryptography",)),
     Test("validating", "outside/validating.py {rpki_check}", 0, 900, needs=("cryptography",)),
+    Test("crowded", "outside/crowded.py", 400, needs=("cryptography",)),
     Test("routers", "outside/routers.py {rpki_check} {rpki_ask}", 0, 900, needs=("cryptography",)),
     Test("large", "outside/large.py {rpki_check} {rpki_ask} {rpki_cases}", 500, 1800, more="--huge", least="--small"),
+    Test("lattices", "outside/lattices.py {rpki_check}", 500, needs=("cc", "plain")),
     Test("octets", "outside/octets.py {objects_cases}", 400, 900, less="--most 2", more="--most 12", least="--most 1"),
     # The build by Rattle's own compiler, from outside.
     Test("cases, second compiler", "outside/cases.sh {rpki_check.by-rattle} cases", 300, needs=("second",)),

@@ -28,11 +28,11 @@ sys.path.insert(0, os.path.join(os.path.dirname(os.path.abspath(__file__)), os.p
 
 import rpki_model  # noqa: E402
 from outcomes import SLOWER  # noqa: E402
+from rpki_lattices import FIRST_AS, lattice, name_at  # noqa: E402
 from rpki_repositories import HOST, World, roa  # noqa: E402
 
 SECONDS = 120 * SLOWER
 MEGABYTE = 1_000_000
-FIRST_AS = 64496
 MANY = 70
 
 
@@ -102,38 +102,6 @@ def chains(tests, check, ask):
 
 
 # Lattices.
-
-
-def name_at(row, place):
-    return b"r%dp%d" % (row, place)
-
-
-def lattice(width, height, listed=None, again=None):
-    """A world of so many rows of authorities, each of which certifies all of the next row, and the anchor those of the first. Each
-    of the last row has the origin AS 64496+p of 10.p.0.0/16. Those of the first row claim what `listed` says of their place, or
-    inherit, as all others do. With `again` the first of the last row certifies the first of that row once more."""
-    world = World()
-    anchor = world.anchor(1, {"ipv4": ["10.0.0.0/8"]})
-    above = [anchor]
-    rows = []
-    for row in range(height):
-        rows.append([])
-        for place in range(width):
-            name = name_at(row, place)
-            at = above[0].folder + name + b".cer"
-            rows[-1].append(world.authority(2 + row * width + place, HOST + name + b"/", name, at))
-        for parent in above:
-            for place, child in enumerate(rows[-1]):
-                claims = listed(place) if listed and row == 0 else "inherit"
-                parent.certify(child.name + b".cer", child, {"ipv4": claims})
-        above = rows[-1]
-    for place, authority in enumerate(above):
-        authority.add_roa(b"o.roa", roa(FIRST_AS + place, f"10.{place}.0.0/16"), {"ipv4": [f"10.{place}.0.0/16"]})
-    if again is not None:
-        above[0].certify(b"again.cer", rows[again][0], {"ipv4": "inherit"})
-    for authority in [anchor, *(it for row in rows for it in row)]:
-        authority.publish()
-    return world
 
 
 def lattices(tests, check):

@@ -5,8 +5,10 @@
 
 A stand-in for `rpki_check` fails, hangs or prints other things at each step; runs are ended by signals in each, and killed
 before and after each wait for the disk and each rename. The file has to stand as it was until it is new as a whole, and
-nothing may be left beside it after the next run. With PROGRAM, a built `rpki_check`, the example cache becomes what
-`examples/cache.json` has. Exits with 1 at the first answer that differs.
+nothing may be left beside it after the next run. Where the stand-in hangs, or lacks memory, as long as its bundle has what
+some authorities publish, these are left out, by what a stand-in for `rpki_ask` counts below each authority; the bundle's
+lines are then everybody else's, by a second reading of the rules. With PROGRAM, a built `rpki_check`, the example cache
+becomes what `examples/cache.json` has. Exits with 1 at the first answer that differs.
 """
 
 import contextlib
@@ -20,28 +22,50 @@ import sys
 import tempfile
 import time
 
+sys.dont_write_bytecode = True
 HERE = os.path.dirname(os.path.abspath(__file__))
+sys.path.insert(0, os.path.join(HERE, os.pardir, "lib"))
+
+import rpki_model  # noqa: E402
+from outcomes import SLOWER  # noqa: E402
+from rpki_lattices import counted, crowded  # noqa: E402
+
 TOP = os.path.join(HERE, os.pardir, os.pardir)
 TOOLS = os.path.join(TOP, "tools")
 EXAMPLES = os.path.join(TOP, "examples")
 SECONDS = 300
 OLD = "what was there before\n"
+# So long a stand-in that hangs is waited for; all others have to start and end meanwhile.
+TIME_LIMIT = str(5 * SLOWER)
 LINES = "roa AS64496 192.0.2.0/24 24\naspa AS64496 AS64497\nrefused example anchor\nrefused rsync://rpki.example/x object\n"
-# What stands in the place of rpki_check: the word in FAKE is a step and what it does there.
+# What stands in the place of both programs: the word in FAKE is a step and what it does there. With BUNDLE, a file, that is the
+# bundle; then `check` hangs, or lacks memory, while an object stands at one of the URIs in AT, and `cost` prints what COST has.
 STAND_IN = f"""#!{sys.executable}
 import os, sys, time
 step, _, deed = os.environ.get("FAKE", "").partition(" ")
-text = "bundle\\n" if sys.argv[1] == "bundle" else os.environ["LINES"]
-if sys.argv[1] == step:
-    if deed == "fails":
-        sys.stdout.write(text[:20])
+asked, bundle = sys.argv[1], os.environ.get("BUNDLE")
+told = {{"bundle": "bundle\\n", "check": os.environ["LINES"], "cost": os.environ.get("COST"),
+        "reach": "as \\nipv4 10.1.0.0/16\\nipv6 \\n"}}
+text = open(bundle, "rb").read() if bundle and asked == "bundle" else told[asked].encode()
+if bundle and asked == "check":
+    octets = sys.stdin.buffer.read()
+    is_there = any(bytes((22, len(uri))) + uri.encode() in octets for uri in os.environ["AT"].split())
+    step, deed = is_there and "check", deed if step == "check" else "hangs 600"
+if asked == step:
+    if deed == "lacks":
+        sys.stderr.write("out of memory\\n")
         sys.exit(1)
+    if deed == "fails":
+        sys.stdout.buffer.write(text[:20])
+        sys.exit(2 if asked == "cost" else 1)
     if deed == "dies":
         os.kill(os.getpid(), 9)
-    if deed.startswith("hangs"):
+    if deed.startswith("hangs") and sys.argv[2:] != ["10000"]:
         open(os.environ["READY"], "w").close()
         time.sleep(float(deed.split(" ")[1]))
-sys.stdout.write(text)
+sys.stdout.buffer.write(text)
+sys.stdout.flush()
+sys.exit(asked == "cost")
 """
 # Kills the run at the N-th call of a function of os, before or after what it does.
 KILLED = """
@@ -105,8 +129,8 @@ class Room:
 
     def words(self, *others, cache=None):
         cache = cache or self.cache
-        return [cache, "--tals", os.path.join(self.cache, "tals"), "--out", self.out, "--checker", self.fake, "--jobs", "1",
-                *others]
+        programs = ["--checker", self.fake, "--asker", self.fake]
+        return [cache, "--tals", os.path.join(self.cache, "tals"), "--out", self.out, *programs, "--jobs", "1", *others]
 
     def environment(self, fake, lines):
         return {**os.environ, "FAKE": fake, "LINES": lines, "READY": self.ready}
@@ -116,11 +140,12 @@ class Room:
         environment = {**self.environment(fake, lines), **more}
         return subprocess.run(words, env=environment, capture_output=True, text=True, timeout=SECONDS)
 
-    def start(self, *others, fake="", lines=LINES):
+    def start(self, *others, fake="", lines=LINES, **more):
         with contextlib.suppress(FileNotFoundError):
             os.remove(self.ready)
         words = [sys.executable, os.path.join(TOOLS, "validate.py"), *self.words(*others)]
-        return subprocess.Popen(words, env=self.environment(fake, lines), stderr=subprocess.PIPE, text=True)
+        environment = {**self.environment(fake, lines), **more}
+        return subprocess.Popen(words, env=environment, stderr=subprocess.PIPE, text=True)
 
     def reset(self):
         write(self.out, OLD)
@@ -143,7 +168,7 @@ def statuses(room):
     room.reset()
     empty = room.path("empty")
     os.mkdir(empty)
-    same("an empty cache", room.run(cache=empty).returncode, 3)
+    same("an empty cache", room.run(cache=empty).returncode, 6)
     room.is_old("an empty cache")
     cases = (("bundle fails", 4), ("bundle dies", 4), ("check fails", 5), ("check dies", 5))
     for fake, status in cases:
@@ -154,7 +179,7 @@ def statuses(room):
         same(f"lines {lines[-20:]!a}", room.run(lines=lines.replace("\0", "\n")).returncode, 5)
         room.is_old("other lines")
     for words in (["--moment", "20250230000000Z"], ["--form", "other"], ["--depth", "0"], ["--layout", "other"],
-                  ["--jobs", "x"]):
+                  ["--jobs", "x"], ["--time-limit", "-1"], ["--quarantine", "x"]):
         same(f"{words}", room.run(*words).returncode, 2)
         room.is_old(f"{words}")
     for words in (["--checker", room.path("none")], ["--checker", room.folder], ["--checker", room.out],
@@ -295,6 +320,107 @@ def fallback(room):
     same("it was gone between two renames", absent, 2)
 
 
+# Who is left out.
+
+
+class Crowd:
+    """A room in which `check` hangs as long as the bundle has the manifests of some of the holders."""
+
+    def __init__(self, room):
+        self.room = room
+        self.world, self.holders = crowded()
+        self.octets = self.world.bundle()
+        self.path = room.path("crowded")
+        with open(self.path, "wb") as file:
+            file.write(self.octets)
+        rows = rpki_model.walk(self.octets).chains_below()
+        self.counts, self.cost = {uri: chains for chains, uri in rows}, counted(rows, True)
+
+    def environment(self, *names, **more):
+        manifests = [it.manifest.decode() for it in self.holders if it.name.decode() in names]
+        return {"BUNDLE": self.path, "COST": self.cost, "AT": " ".join(manifests), **more}
+
+    def without(self, *names):
+        """The bundle without the manifests of these."""
+        gone = {it.manifest for it in self.holders if it.name.decode() in names}
+        objects = self.world.objects
+        self.world.objects = {uri: octets for uri, octets in objects.items() if uri not in gone}
+        octets = self.world.bundle()
+        self.world.objects = objects
+        return octets
+
+    def leaves_out(self, what, names, *others, fake="", **more):
+        """A run that leaves these out, whose file and evidence say so; what is told of each."""
+        room = self.room
+        room.reset()
+        done = room.run("--time-limit", TIME_LIMIT, "--keep", room.kept, *others, fake=fake, **self.environment(*names, **more))
+        uris = [f"rsync://r.example/m/isp/{name}.cer" for name in names]
+        made = json.loads(read(room.out)) if done.returncode == 3 else {"metadata": {}}
+        same(what, (done.returncode, made["metadata"].get("quarantined"), room.left()), (3, uris, []))
+        told = json.loads(read(os.path.join(room.kept, "summary.json")))["quarantined"]
+        same(f"{what}: the summary", [one["authority"] for one in told], uris)
+        texts = [f"QUARANTINE of {uri}: at least " for uri in uris] + [f"QUARANTINED: {uri} " for uri in uris]
+        same(f"{what}: standard error", [text for text in texts if text not in done.stderr], [])
+        with open(os.path.join(room.kept, "bundle"), "rb") as file:
+            same(f"{what}: the bundle", file.read() == self.without(*names), True)
+        return told
+
+    def leaves_none_out(self, what, names, *others, fake="", **more):
+        """A run that ends without a new file."""
+        self.room.reset()
+        done = self.room.run("--time-limit", TIME_LIMIT, *others, fake=fake, **self.environment(*names, **more))
+        same(what, (done.returncode, "Traceback" in done.stderr), (5, False))
+        self.room.is_old(what)
+
+
+def quarantine(room):
+    """Where `check` doesn't end, those are left out who make it so, and everybody else's lines come out."""
+    crowd = Crowd(room)
+    same("the provider is above all three", crowd.cost.splitlines()[2].endswith("/isp.cer"), True)
+    (row,) = crowd.leaves_out("the first", "a")
+    found = (row["chains"], row["is_least"], row["manifests"], row["reach"])
+    uri = crowd.holders[0].at
+    wanted = (crowd.counts[uri], True, ["rsync://r.example/m/a/a.mft"], {"as": "", "ipv4": "10.1.0.0/16", "ipv6": ""})
+    same("what is told of it", found, wanted)
+    origins = [line for line in rpki_model.answer(crowd.without("a")) if line.startswith("roa ")]
+    same("everybody else's origins", origins, ["roa AS64498 10.2.0.0/16 16", "roa AS64499 10.3.0.0/16 16"])
+    crowd.leaves_out("both", "ab")
+    crowd.leaves_out("both, of two at most", "ab", "--quarantine", "2")
+    crowd.leaves_out("memory", "ab", fake="check lacks")
+    crowd.leaves_out("killed", "a", fake="check dies")
+    crowd.leaves_out("counted by a smaller budget", "a", fake="cost hangs 600")
+    (row,) = crowd.leaves_out("no numbers", "a", fake="reach hangs 600")
+    same("no numbers are told", row["reach"], None)
+    crowd.leaves_none_out("both, of one at most", "ab", "--quarantine", "1")
+    crowd.leaves_none_out("none at most", "a", "--quarantine", "0")
+    crowd.leaves_none_out("a count that fails", "a", fake="cost fails")
+    crowd.leaves_none_out("nobody is counted", "a", COST="")
+    crowd.leaves_none_out("the anchor alone is counted", "a", COST="9 rsync://r.example/m/ta.cer\n")
+    crowd.leaves_none_out("one that nothing is below", "a", COST="9 rsync://r.example/m/isp/c.cer\n")
+    crowd.leaves_none_out("no such program", "a", "--asker", room.path("none"))
+    crowd.leaves_none_out("another fault", "a", fake="check fails")
+    meanwhile(crowd)
+
+
+def meanwhile(crowd):
+    """The old file stands while `check` and `cost` run, and after signals in them."""
+    room = crowd.room
+    for fake in ("", "cost hangs 600"):
+        room.reset()
+        run = room.start("--time-limit", TIME_LIMIT if fake else str(SECONDS), fake=fake, **crowd.environment("a"))
+        last = time.monotonic() + SECONDS
+        for _ in range(2 if fake else 1):
+            while not os.path.exists(room.ready) and time.monotonic() < last:
+                time.sleep(0.02)
+            same(f"{fake or 'check hangs'}: meanwhile", read(room.out), OLD)
+            with contextlib.suppress(FileNotFoundError):
+                os.remove(room.ready)
+        run.send_signal(signal.SIGTERM)
+        run.communicate(timeout=SECONDS)
+        same(f"{fake or 'check hangs'}: a signal", run.returncode, -signal.SIGTERM)
+        room.is_old("a signal while it is found out who")
+
+
 def real(room, program):
     """The example cache by the program itself."""
     done = room.run("--checker", program, "--moment", "20250101000000Z", "--name", "example")
@@ -310,6 +436,7 @@ def main():
         evidence(room)
         ended(room)
         one_at_a_time(room)
+        quarantine(room)
         killed(room)
         fallback(room)
         if sys.argv[1:]:
