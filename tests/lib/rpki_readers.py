@@ -552,7 +552,7 @@ class Crl:
         need(found.keys() == {AUTHORITY_KEY, CRL_NUMBER} and len(only(extended, 0, CONTEXT).members) == 2)
         self.authority_key = content(only(front(found[AUTHORITY_KEY]), 16), 0, CONTEXT)
         need(len(self.authority_key) == 20)
-        serial(front(found[CRL_NUMBER]))
+        self.number = serial(front(found[CRL_NUMBER]))
         self.message, (self.signature, _) = tbs.octets(), bits(signature)
 
 
@@ -561,6 +561,33 @@ class Crl:
 
 def digest_algorithm(value):
     algorithm(value, SHA256)
+
+
+class Signer:
+    """Who signs content of a kind, by the identifier of a key, and what is signed."""
+
+    def __init__(self, value, kind):
+        version, key, digest, attributes, signing, signature = counted(value, 6)
+        integer(version, 3, 3)
+        self.key = octet_string(key, 0, CONTEXT)
+        need(len(self.key) == 20)
+        digest_algorithm(digest)
+        self.has_null = algorithm(signing, RSA, SHA256_RSA)
+        self.signature = octet_string(signature)
+        found = {}
+        for attribute in members(attributes, 0, CONTEXT):
+            named, values = counted(attribute, 2)
+            need(oid(named) not in found)
+            found[oid(named)] = only(values, 17)
+        need({CONTENT_TYPE, MESSAGE_DIGEST} <= found.keys() <= {CONTENT_TYPE, MESSAGE_DIGEST, SIGNING_TIME, BINARY_TIME})
+        need(oid(found[CONTENT_TYPE]) == kind)
+        self.digest = octet_string(found[MESSAGE_DIGEST])
+        self.signing_time = time(found[SIGNING_TIME]) if SIGNING_TIME in found else None
+        if BINARY_TIME in found:
+            integer(found[BINARY_TIME], 0, 2**64 - 1)
+        # the attributes are signed as a SET (RFC 5652 5.4)
+        self.attributes = attributes.inner()
+        self.message = tlv(0x31, self.attributes)
 
 
 class Object:
@@ -576,28 +603,10 @@ class Object:
         need(oid(said) == kind)
         self.content = octet_string(only(wrapped, 0, CONTEXT))
         self.cert = Cert(only(carried, 0, CONTEXT))
-        self.read_signer(only(signers, 17), kind)
-
-    def read_signer(self, value, kind):
-        version, key, digest, attributes, signing, signature = counted(value, 6)
-        integer(version, 3, 3)
-        need(octet_string(key, 0, CONTEXT) == self.cert.subject_key)
-        digest_algorithm(digest)
-        algorithm(signing, RSA, SHA256_RSA)
-        self.signature = octet_string(signature)
-        found = {}
-        for attribute in members(attributes, 0, CONTEXT):
-            named, values = counted(attribute, 2)
-            need(oid(named) not in found)
-            found[oid(named)] = only(values, 17)
-        need({CONTENT_TYPE, MESSAGE_DIGEST} <= found.keys() <= {CONTENT_TYPE, MESSAGE_DIGEST, SIGNING_TIME, BINARY_TIME})
-        need(oid(found[CONTENT_TYPE]) == kind)
-        self.digest = octet_string(found[MESSAGE_DIGEST])
-        self.signing_time = time(found[SIGNING_TIME]) if SIGNING_TIME in found else None
-        if BINARY_TIME in found:
-            integer(found[BINARY_TIME], 0, 2**64 - 1)
-        # the attributes are signed as a SET (RFC 5652 5.4)
-        self.message = tlv(0x31, attributes.inner())
+        signer = Signer(only(signers, 17), kind)
+        need(signer.key == self.cert.subject_key)
+        self.digest, self.signing_time = signer.digest, signer.signing_time
+        self.message, self.signature = signer.message, signer.signature
 
 
 def after_version(parts, number):
