@@ -3,10 +3,10 @@
 
     octets.py PROGRAM [--most N]      (PROGRAM is crates/objects_cases/out/objects_cases)
 
-A row of the table below names a reader and the questions that ask it; each public `decode` of these crates has a row. Of the stored
-questions that a reader answers with a value some are taken, of all lengths, and each proper front of their octets has to be refused;
-a locator's has to be where a second reading (`rpki_readers.py`) refuses it. Values in each other are asked of the readers as a
-whole, and where a reader takes any value.
+A row of the table below names a reader and the questions that ask it; each public `decode` of the crates below the program has a
+row. Of the stored questions that a reader answers with a value some are taken, of all lengths, and each proper front of their octets
+has to be refused; a locator's has to be where a second reading (`rpki_readers.py`) refuses it. Values in each other are asked of the
+readers as a whole, and where a reader takes any value.
 
 Prints a line for each answer that isn't right, and `N passed, M failed`; exits with 1 where one failed.
 """
@@ -71,9 +71,9 @@ READERS = {
 
 
 def without_row():
-    """The public calls `decode` of the crates of certificates and objects that no row names."""
+    """The public calls `decode` of the crates of certificates and objects below the program that no row names."""
     named = {call.partition(",")[0] for call in READERS.values()}
-    for crate in sorted(libraries()):
+    for crate in sorted(libraries()["objects_cases"]):
         if crate.startswith(("certs", "objects")) and "answers" not in libraries()[crate]:
             for path in sorted((CRATES / crate / "src").rglob("*.rt")):
                 for call in calls.calls_of(crate, path, path.read_text(), ()):
