@@ -2,9 +2,11 @@ pub use Rattle.rpki_validator.specs.rpki_bundle.Bundle
 pub mod Arguments
 pub use Rattle.rpki_digests.specs.Fips
 pub mod Checks
+pub mod Faults
 pub mod Lines
 pub mod Verdicts
 pub mod Folders
+pub mod Limits
 pub mod Texts
 pub mod Asking
 -- What stands below, for the crates above.
