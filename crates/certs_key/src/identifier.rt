@@ -1,12 +1,16 @@
 //! Identifiers of keys.
 
-ghost use Rattle.std.specs.Prelude.{◌≡◌, Some, SomeIff, OnErr, true};
+ghost use Rattle.std.specs.Prelude.{◌≡◌, Some, SomeIff, IfErr, OnErr, true};
 ghost use Rattle.certs_key.specs.bcder_tree.Strings.{octet_string_tag};
 ghost use Rattle.certs_key.specs.bcder_tree.Tags.{IsTag};
+ghost use Rattle.certs_key.specs.bcder_source.Errors.{OnlyContent};
 ghost use Rattle.certs_key.specs.bcder_content.Either.{SameContent, left_of};
 ghost use Rattle.certs_key.specs.bcder_content.Exact.{ReadsAs};
 ghost use Rattle.certs_key.specs.bcder_content.Here.{here};
+ghost use Rattle.certs_key.specs.bcder_content.Memory.{OnMemory};
 ghost use Rattle.certs_key.specs.bcder_content.Tagged.{ReadsTagged};
+ghost use Rattle.certs_key.specs.bcder_octets.Parts.{IsWhole};
+ghost use Rattle.certs_key.specs.bcder_octets.Wants.{WantsNext, WantsString};
 ghost use Rattle.certs_key.specs.certs_basics.Basics.{IsKeyIdentifier, IsTwentyLong};
 ghost use Rattle.certs_key.specs.certs_basics.Names.{hex_text};
 
@@ -78,6 +82,7 @@ fn octets_of(string: &OctetString) -> &[u8]
 fn no_identifier<S: Source>(content: &mut Content<'_, S>) -> DecodeError<S::Error>
     ensures same { SameContent content.old content.new }
     ensures failed { (left_of S.rest content.new).failed ≡ true }
+    ensures error { OnlyContent result (Unit {0}) }
 {
     content.fail();
     (*content).content_err(ContentError::from_static("no key identifier"))
@@ -85,7 +90,8 @@ fn no_identifier<S: Source>(content: &mut Content<'_, S>) -> DecodeError<S::Erro
 
 /// Identifiers that are read.
 impl KeyIdentifier {
-    /// The next value, an OCTET STRING of 20 octets (RFC 6487 4.8.2); any other is refused.
+    /// The next value, an OCTET STRING of 20 octets (RFC 6487 4.8.2); any other is refused. Memory is wanted only as by
+    /// `OctetString::take_from`, where one is next.
     pub fn take_from<S: Source>(
         alloc: Global,
         cons: &mut Constructed<S>,
@@ -94,24 +100,30 @@ impl KeyIdentifier {
             (IsKeyIdentifier (here S.rest cons.old).mode octet_string_tag) (here S.rest cons.old)
             result (here S.rest cons.new) }
         ensures failed { OnErr result ((here S.rest cons.new).failed ≡ true) }
+        ensures memory { IfErr result
+            (λ e. OnMemory e (WantsNext IsWhole octet_string_tag (here S.rest cons.old))) }
     {
         cons.take_value_if(
             Tag::OCTET_STRING,
             |content|
-                ensures { ReadsTagged S.rest (λ v. v) IsKeyIdentifier
+                ensures reads { ReadsTagged S.rest (λ v. v) IsKeyIdentifier
                     content.old result content.new }
+                ensures memory { IfErr result
+                    (λ e. OnMemory e (WantsString IsWhole S.rest content.old)) }
             { KeyIdentifier::from_content(alloc, content) },
         )
     }
 
     /// The identifier whose content that is, whatever its tag: for implicit tags (X.690 8.14), as in an authority key
-    /// identifier (RFC 6487 4.8.3). Where it is refused, the content is failed.
+    /// identifier (RFC 6487 4.8.3). Where it is refused, the content is failed. Memory is wanted only as by
+    /// `OctetString::from_content`, where it is one's content.
     pub fn from_content<S: Source>(
         alloc: Global,
         content: &mut Content<'_, S>,
     ) -> Result<KeyIdentifier, DecodeError<S::Error>>
         ensures reads { ReadsTagged S.rest (λ v. v) IsKeyIdentifier content.old result content.new }
         ensures failed { OnErr result ((left_of S.rest content.new).failed ≡ true) }
+        ensures memory { IfErr result (λ e. OnMemory e (WantsString IsWhole S.rest content.old)) }
     {
         let octets = OctetString::from_content(alloc, content)?;
         match KeyIdentifier::from_slice(octets_of(&octets)) {

@@ -3,3 +3,4 @@ pub use Rattle.certs_basics.proofs.of_bcder_octets.BitReadings
 pub use Rattle.certs_basics.proofs.of_bcder_octets.BitWritings
 pub use Rattle.certs_basics.proofs.of_bcder_octets.Meaning
 pub use Rattle.certs_basics.proofs.of_bcder_octets.Strings
+pub use Rattle.certs_basics.proofs.of_bcder_octets.Wanting

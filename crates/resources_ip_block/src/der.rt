@@ -1,6 +1,7 @@
 //! Ranges and blocks that are read from an encoding (RFC 3779 2.2.3.7, 2.2.3.9).
 
-ghost use Rattle.std.specs.Prelude.{◌≡◌, true, OnErr};
+ghost use Rattle.std.specs.Prelude.{◌≡◌, ◌≢◌, true, IfErr, OnErr};
+ghost use Rattle.resources_ip_block.specs.bcder_source.declared.error.DecodeError.TheVariants.{Memory};
 ghost use Rattle.resources_ip_block.specs.bcder_tree.Tags.{sequence_tag};
 ghost use Rattle.resources_ip_block.specs.bcder_content.Exact.{ReadsAllAs, ReadsAs, ReadsOptAs};
 ghost use Rattle.resources_ip_block.specs.bcder_content.Here.{here};
@@ -28,8 +29,9 @@ fn bounds_in<S: Source>(
     cons: &mut Constructed<S>,
     family: AddressFamily,
 ) -> Result<Bounds, DecodeError<S::Error>>
-    ensures { ReadsAllAs bounds_ends (AreEnds (here S.rest cons.old).mode family)
+    ensures reads { ReadsAllAs bounds_ends (AreEnds (here S.rest cons.old).mode family)
         (here S.rest cons.old) result (here S.rest cons.new) }
+    ensures no_memory { IfErr result (λ e. e ≢ Memory) }
 {
     let min = Prefix::take_from(alloc, cons, family)?;
     let max = Prefix::take_from(alloc, cons, family)?;
@@ -42,8 +44,9 @@ fn range_in<S: Source>(
     cons: &mut Constructed<S>,
     family: AddressFamily,
 ) -> Result<AddressRange, DecodeError<S::Error>>
-    ensures { ReadsAllAs run_of_range (AreOrdered (here S.rest cons.old).mode family)
+    ensures reads { ReadsAllAs run_of_range (AreOrdered (here S.rest cons.old).mode family)
         (here S.rest cons.old) result (here S.rest cons.new) }
+    ensures no_memory { IfErr result (λ e. e ≢ Memory) }
 {
     let bounds = bounds_in(alloc, cons, family)?;
     let min = bounds.min.min();
@@ -58,7 +61,8 @@ fn range_in<S: Source>(
 
 impl AddressRange {
     /// The next value, a SEQUENCE of two bit strings (RFC 3779 2.2.3.9): the addresses of the family from the first,
-    /// filled with zeros, to the second, filled with ones. A first that is above the second is refused.
+    /// filled with zeros, to the second, filled with ones. A first that is above the second is refused. No memory
+    /// is taken.
     pub fn take_from<S: Source>(
         alloc: Global,
         cons: &mut Constructed<S>,
@@ -67,16 +71,18 @@ impl AddressRange {
         ensures reads { ReadsAs run_of_range (IsRange (here S.rest cons.old).mode family)
             (here S.rest cons.old) result (here S.rest cons.new) }
         ensures failed { OnErr result ((here S.rest cons.new).failed ≡ true) }
+        ensures no_memory { IfErr result (λ e. e ≢ Memory) }
     {
         cons.take_sequence(
             |cons|
-                ensures { ReadsAllAs run_of_range (AreOrdered (here S.rest cons.old).mode family)
+                ensures reads { ReadsAllAs run_of_range (AreOrdered (here S.rest cons.old).mode family)
                     (here S.rest cons.old) result (here S.rest cons.new) }
+                ensures no_memory { IfErr result (λ e. e ≢ Memory) }
             { range_in(alloc, cons, family) },
         )
     }
 
-    /// Reads a range where a SEQUENCE is next; else nothing is read.
+    /// Reads a range where a SEQUENCE is next; else nothing is read. No memory is taken.
     pub fn take_opt_from<S: Source>(
         alloc: Global,
         cons: &mut Constructed<S>,
@@ -86,11 +92,13 @@ impl AddressRange {
             (IsRange (here S.rest cons.old).mode family) (here S.rest cons.old) result
             (here S.rest cons.new) }
         ensures failed { OnErr result ((here S.rest cons.new).failed ≡ true) }
+        ensures no_memory { IfErr result (λ e. e ≢ Memory) }
     {
         cons.take_opt_sequence(
             |cons|
-                ensures { ReadsAllAs run_of_range (AreOrdered (here S.rest cons.old).mode family)
+                ensures reads { ReadsAllAs run_of_range (AreOrdered (here S.rest cons.old).mode family)
                     (here S.rest cons.old) result (here S.rest cons.new) }
+                ensures no_memory { IfErr result (λ e. e ≢ Memory) }
             { range_in(alloc, cons, family) },
         )
     }
@@ -98,7 +106,7 @@ impl AddressRange {
 
 impl IpBlock {
     /// A prefix or a range of the family, where a BIT STRING or a SEQUENCE is next (RFC 3779 2.2.3.7); else nothing is
-    /// read.
+    /// read. No memory is taken.
     pub fn take_opt_from<S: Source>(
         alloc: Global,
         cons: &mut Constructed<S>,
@@ -107,6 +115,7 @@ impl IpBlock {
         ensures reads { ReadsIfAs run_of_block (IsBlock (here S.rest cons.old).mode family)
             (here S.rest cons.old) result (here S.rest cons.new) }
         ensures failed { OnErr result ((here S.rest cons.new).failed ≡ true) }
+        ensures no_memory { IfErr result (λ e. e ≢ Memory) }
     {
         let prefix = Prefix::take_opt_from(alloc, cons, family)?;
         if let Some(prefix) = prefix {

@@ -3,4 +3,5 @@ pub use Rattle.bcder.proofs.of_bcder_octets.BitLists
 pub use Rattle.bcder.proofs.of_bcder_octets.Cuts
 pub use Rattle.bcder.proofs.of_bcder_octets.Meaning
 pub use Rattle.bcder.proofs.of_bcder_octets.Strings
+pub use Rattle.bcder.proofs.of_bcder_octets.Wanting
 pub use Rattle.bcder.proofs.of_bcder_octets.Written

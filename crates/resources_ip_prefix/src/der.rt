@@ -1,11 +1,16 @@
 //! Families and prefixes that are read from an encoding (RFC 3779 2.2.3.3, 2.2.3.8).
 
-ghost use Rattle.std.specs.Prelude.{◌≡◌, ◌↔◌, ◌%◌, ◌^◌, ◌<◌, ◌≤◌, true, length, IfNone, IfSome, IsTrue, OnErr};
+ghost use Rattle.std.specs.Prelude.{◌≡◌, ◌≢◌, ◌↔◌, ◌%◌, ◌^◌, ◌<◌, ◌≤◌, true, length, IfErr, IfNone, IfSome, IsTrue, OnErr};
 ghost use Rattle.resources_ip_prefix.specs.bcder_tree.Strings.{octet_string_tag};
+ghost use Rattle.resources_ip_prefix.specs.bcder_source.Errors.{OnlyContent};
+ghost use Rattle.resources_ip_prefix.specs.bcder_source.declared.error.DecodeError.TheVariants.{Memory};
 ghost use Rattle.resources_ip_prefix.specs.bcder_octets.BitContents.{bit_string_tag, last_octet};
+ghost use Rattle.resources_ip_prefix.specs.bcder_octets.Parts.{IsWhole};
+ghost use Rattle.resources_ip_prefix.specs.bcder_octets.Wants.{WantsNext, WantsString};
 ghost use Rattle.resources_ip_prefix.specs.bcder_primitive.Plain.{plain, ReadsOctetsAs};
 ghost use Rattle.resources_ip_prefix.specs.bcder_content.Exact.{ReadsAs, ReadsOptAs};
 ghost use Rattle.resources_ip_prefix.specs.bcder_content.Here.{here};
+ghost use Rattle.resources_ip_prefix.specs.bcder_content.Memory.{OnMemory};
 ghost use Rattle.resources_ip_prefix.specs.bcder_content.Tagged.{ReadsTagged};
 ghost use Rattle.resources_ip_prefix.specs.Encodings.{AreAddressOctets, AreUnused, FirstBits, IsAddress, IsAnyFamily, IsFamily, IsFamilyIn, filled, prefix_bits};
 
@@ -16,12 +21,13 @@ use bcder::decode::{Constructed, Content, ContentError, DecodeError, Primitive, 
 use bcder::{Mode, OctetString, Tag};
 use std::alloc::Global;
 
-// The family of the content of an OCTET STRING.
+// The family of the content of an OCTET STRING. Memory is wanted only where it is one.
 fn family_in<S: Source>(
     alloc: Global,
     content: &mut Content<'_, S>,
 ) -> Result<AddressFamily, DecodeError<S::Error>>
-    ensures { ReadsTagged S.rest (λ f. f) IsFamilyIn content.old result content.new }
+    ensures reads { ReadsTagged S.rest (λ f. f) IsFamilyIn content.old result content.new }
+    ensures memory { IfErr result (λ e. OnMemory e (WantsString IsWhole S.rest content.old)) }
 {
     let octets = OctetString::from_content(alloc, content)?;
     if octets.is_slice(&[0, 1]) {
@@ -34,13 +40,16 @@ fn family_in<S: Source>(
 }
 
 // The refusal of octets that are no family's.
-fn unknown_family<S: Source>(content: &Content<'_, S>) -> DecodeError<S::Error> {
+fn unknown_family<S: Source>(content: &Content<'_, S>) -> DecodeError<S::Error>
+    ensures { OnlyContent result (Unit {0}) }
+{
     content.content_err(ContentError::from_static("unknown address family"))
 }
 
 impl AddressFamily {
     /// The next value, the number of a family in two octets (RFC 3779 2.2.3.3): `00 01` or `00 02`. Any other is
-    /// refused, one with a third octet, too.
+    /// refused, one with a third octet, too. Memory is wanted only as by `OctetString::take_from`, where one is
+    /// next.
     pub fn take_from<S: Source>(
         alloc: Global,
         cons: &mut Constructed<S>,
@@ -48,16 +57,21 @@ impl AddressFamily {
         ensures reads { ReadsAs (λ f. f) (IsFamily (here S.rest cons.old).mode)
             (here S.rest cons.old) result (here S.rest cons.new) }
         ensures failed { OnErr result ((here S.rest cons.new).failed ≡ true) }
+        ensures memory { IfErr result
+            (λ e. OnMemory e (WantsNext IsWhole octet_string_tag (here S.rest cons.old))) }
     {
         cons.take_value_if(
             Tag::OCTET_STRING,
             |content|
-                ensures { ReadsTagged S.rest (λ f. f) IsFamilyIn content.old result content.new }
+                ensures reads { ReadsTagged S.rest (λ f. f) IsFamilyIn
+                    content.old result content.new }
+                ensures memory { IfErr result
+                    (λ e. OnMemory e (WantsString IsWhole S.rest content.old)) }
             { family_in(alloc, content) },
         )
     }
 
-    /// Reads a family where an OCTET STRING is next; else nothing is read.
+    /// Reads a family where an OCTET STRING is next; else nothing is read. Memory is wanted as by `take_from`.
     pub fn take_opt_from<S: Source>(
         alloc: Global,
         cons: &mut Constructed<S>,
@@ -65,16 +79,22 @@ impl AddressFamily {
         ensures reads { ReadsOptAs (λ f. f) octet_string_tag (IsFamily (here S.rest cons.old).mode)
             (here S.rest cons.old) result (here S.rest cons.new) }
         ensures failed { OnErr result ((here S.rest cons.new).failed ≡ true) }
+        ensures memory { IfErr result
+            (λ e. OnMemory e (WantsNext IsWhole octet_string_tag (here S.rest cons.old))) }
     {
         cons.take_opt_value_if(
             Tag::OCTET_STRING,
             |content|
-                ensures { ReadsTagged S.rest (λ f. f) IsFamilyIn content.old result content.new }
+                ensures reads { ReadsTagged S.rest (λ f. f) IsFamilyIn
+                    content.old result content.new }
+                ensures memory { IfErr result
+                    (λ e. OnMemory e (WantsString IsWhole S.rest content.old)) }
             { family_in(alloc, content) },
         )
     }
 
-    /// Goes past a family, where an OCTET STRING is next; what `take_opt_from` refuses is refused.
+    /// Goes past a family, where an OCTET STRING is next; what `take_opt_from` refuses is refused. Memory is wanted as
+    /// by `take_from`.
     pub fn skip_opt_in<S: Source>(
         alloc: Global,
         cons: &mut Constructed<S>,
@@ -83,6 +103,8 @@ impl AddressFamily {
             (IsAnyFamily (here S.rest cons.old).mode) (here S.rest cons.old) result
             (here S.rest cons.new) }
         ensures failed { OnErr result ((here S.rest cons.new).failed ≡ true) }
+        ensures memory { IfErr result
+            (λ e. OnMemory e (WantsNext IsWhole octet_string_tag (here S.rest cons.old))) }
     {
         match AddressFamily::take_opt_from(alloc, cons)? {
             Some(_) => Ok(Some(())),
@@ -158,6 +180,7 @@ fn take_prefix<S: Source>(
         (AreAddressOctets family (plain S.rest prim.old).mode) (plain S.rest prim.old) result
         (plain S.rest prim.new) }
     ensures failed { OnErr result ((plain S.rest prim.new).failed ≡ true) }
+    ensures no_memory { IfErr result (λ e. e ≢ Memory) }
 {
     let count = request_all(prim)?;
     match stated(prim.mode, family, front(prim, count)) {
@@ -171,7 +194,7 @@ fn take_prefix<S: Source>(
 
 impl Prefix {
     /// The next value, a BIT STRING (RFC 3779 2.2.3.8): the addresses of the family that begin with its bits. More
-    /// bits than an address has are refused.
+    /// bits than an address has are refused. No memory is taken.
     pub fn take_from<S: Source>(
         alloc: Global,
         cons: &mut Constructed<S>,
@@ -180,11 +203,12 @@ impl Prefix {
         ensures reads { ReadsAs prefix_bits (IsAddress (here S.rest cons.old).mode family)
             (here S.rest cons.old) result (here S.rest cons.new) }
         ensures failed { OnErr result ((here S.rest cons.new).failed ≡ true) }
+        ensures no_memory { IfErr result (λ e. e ≢ Memory) }
     {
         cons.take_primitive_if(Tag::BIT_STRING, |prim| take_prefix(family, prim))
     }
 
-    /// Reads a prefix where a BIT STRING is next; else nothing is read.
+    /// Reads a prefix where a BIT STRING is next; else nothing is read. No memory is taken.
     pub fn take_opt_from<S: Source>(
         alloc: Global,
         cons: &mut Constructed<S>,
@@ -194,6 +218,7 @@ impl Prefix {
             (IsAddress (here S.rest cons.old).mode family) (here S.rest cons.old) result
             (here S.rest cons.new) }
         ensures failed { OnErr result ((here S.rest cons.new).failed ≡ true) }
+        ensures no_memory { IfErr result (λ e. e ≢ Memory) }
     {
         cons.take_opt_primitive_if(Tag::BIT_STRING, |prim| take_prefix(family, prim))
     }

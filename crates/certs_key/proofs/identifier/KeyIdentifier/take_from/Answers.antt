@@ -1,6 +1,13 @@
 use Rattle.certs_key.proofs.of_bcder_content.Tagged.{exact_tagged}
+use Rattle.certs_key.proofs.of_bcder_octets.Wanting.{value_wants}
+use Rattle.certs_key.specs.bcder_tree.Strings.{octet_string_tag}
+use Rattle.certs_key.specs.bcder_content.Here.{here}
+use Rattle.certs_key.specs.bcder_octets.Parts.{IsWhole}
 use Rattle.certs_key.proofs.Identifying.{identifier_tagged}
 use Rattle.certs_key.proofs.identifier.KeyIdentifier.take_from.Goals as goal
 
 pub returns-clause-reads : goal.returns-clause-reads
-returns-clause-reads g c = exact_tagged identifier_tagged (record { each = λ form tag v r w met. record { old = met.0.now; new = met.1.now; before = met.2; behind = met.3; form_is = met.4; reads = met.5.reads } }) c.take_value_if.ensures.taken
+returns-clause-reads g c = exact_tagged identifier_tagged (record { each = λ form tag v r w met. record { old = met.0.now; new = met.1.now; before = met.2; behind = met.3; form_is = met.4; reads = met.5.0.reads } }) c.take_value_if.ensures.taken
+
+pub returns-clause-memory : goal.returns-clause-memory
+returns-clause-memory g c = value_wants IsWhole g.S.Source.rest (here g.S.Source.rest c.args.cons.now) octet_string_tag c.take_value_if.result (record { each = λ form tag v r w met. record { content = met.0.now; shows = met.2.left_is; form_is = met.4; wants = met.5.1 } }) c.take_value_if.ensures.memory

@@ -10,4 +10,4 @@ use Rattle.resources_ip_block.proofs.range.AddressRange.take_from.Goals as goal
 pub returns-clause-reads : goal.returns-clause-reads
 returns-clause-reads g c =
     let rest = g.S.Source.rest in
-    exact_each (record { each = λ p q r m h. subst (λ (z : Mode). ReadsAllAs run_of_range (AreOrdered z c.args.family) (here rest p.now) r (here rest q.now)) m h }) c.take_sequence.ensures.ran
+    exact_each (record { each = λ p q r m h. subst (λ (z : Mode). ReadsAllAs run_of_range (AreOrdered z c.args.family) (here rest p.now) r (here rest q.now)) m h.0 }) c.take_sequence.ensures.ran
