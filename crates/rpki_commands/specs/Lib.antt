@@ -6,7 +6,6 @@ pub mod Faults
 pub mod Lines
 pub mod Verdicts
 pub mod Folders
-pub mod Limits
 pub mod Texts
 pub mod Asking
 -- What stands below, for the crates above.
