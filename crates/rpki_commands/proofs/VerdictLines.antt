@@ -4,7 +4,7 @@ use Rattle.rpki_commands.proofs.of_bcder_tree.Unique.{by_length}
 use Rattle.rpki_commands.proofs.of_rpki_bundle.OneBundle.{verdict_fields}
 use Rattle.rpki_commands.specs.rpki_bundle.declared.parts.Verdict.{Verdict}
 use Rattle.rpki_commands.specs.Lines.{IsLineEnd}
-use Rattle.rpki_commands.specs.Verdicts.{IsHex, TakesDigest, TakesNextDigest, TakesEnd, TakesVerdict, TellsVerdicts}
+use Rattle.rpki_commands.specs.Verdicts.{IsHex, StartsWithVerdict, TakesDigest, TakesNextDigest, TakesEnd, TakesVerdict, TellsVerdicts}
 use Rattle.rpki_commands.proofs.Hexes.{hex_length, one_digest}
 
 -- Two of the same are one, and so is what comes after them.
@@ -72,6 +72,11 @@ verdict_shorter t rest v a =
       ap length e.whole,
       length-append e.end rest,
     )
+
+-- The first line that is read states a verdict, and so does that of the text.
+pub started : {text s rest : List ℕ} {v : Verdict} → (s ≡ text) ⊎ StartsWithVerdict text → TakesVerdict s v rest → StartsWithVerdict text
+started {text} {s} {rest} {v} (inl same) one = record { verdict = v; rest = rest; front = subst (λ (t : List ℕ). TakesVerdict t v rest) same one }
+started (inr begun) one = begun
 
 -- These verdicts were read of the text, and rest is left.
 pub record Reading (text rest : List ℕ) (vs : List Verdict) : Type 0 where

@@ -5,12 +5,14 @@ use Rattle.std.specs.declared.alloc.Global.{Global}
 use Rattle.std.specs.Ordering.{nat_cmp}
 use Rattle.std.specs.Cmp.Lexicographic.{slice_cmp}
 use Rattle.std.specs.List.Sorted.{IsPermutation, IsSortedByKey}
+use Rattle.rpki_commands.specs.rpki_bundle.declared.error.BundleError.{BundleError}
+use Rattle.rpki_commands.specs.rpki_bundle.declared.error.BundleError.TheVariants.{NotABundle, Memory}
 use Rattle.rpki_commands.specs.rpki_bundle.declared.parts.Verdict.{Verdict}
 use Rattle.rpki_commands.specs.rpki_bundle.declared.version.Version.{Version}
 use Rattle.rpki_commands.specs.rpki_bundle.declared.version.Version.TheVariants.{Zero, One}
 use Rattle.rpki_commands.specs.rpki_bundle.Bundle.{BundleValue, verdict_row}
 use Rattle.rpki_commands.specs.Lines.{TellsMoment, TellsDepth, TellsFlag}
-use Rattle.rpki_commands.specs.Verdicts.{TellsVerdicts}
+use Rattle.rpki_commands.specs.Verdicts.{StartsWithVerdict, TellsVerdicts}
 use Rattle.rpki_commands.specs.declared.folder.parts.Contents.{Contents}
 use Rattle.rpki_commands.specs.declared.folder.parts.Parts.{Parts}
 
@@ -22,6 +24,26 @@ IsSortedOn row xs = IsSortedByKey row (slice_cmp nat_cmp) xs
 abbrev pub TellsVersion : Option (Vec ℕ Global) → Version → Type 0
 TellsVersion None version = version ≡ Zero
 TellsVersion (Some text) version = (relaxed : Bool) × TellsFlag text.items relaxed × (version ≡ One relaxed)
+
+-- The texts of one line are good, and `verdicts` isn't too long: what can be said before any memory is taken.
+pub record TellsLines (c : Contents) : Type 0 where
+  pub version : Version
+  pub version_is : TellsVersion c.relaxed version
+  pub moment : ℕ
+  pub moment_is : TellsMoment c.moment.items moment
+  pub depth : ℕ
+  pub depth_is : TellsDepth c.depth.items depth
+  pub short : length c.verdicts.items < 2 ^ 32
+
+-- That, and the first line of `verdicts` states one.
+pub record TellsSome (c : Contents) : Type 0 where
+  pub lines : TellsLines c
+  pub first : StartsWithVerdict c.verdicts.items
+
+-- A fact where a growth of memory was refused.
+abbrev pub OnMemory : BundleError → Type 0 → Type 0
+OnMemory NotABundle fact = Unit {0}
+OnMemory Memory fact = fact
 
 -- The parts, with all that was read and nothing else, the lists in any order.
 pub record Tells (c : Contents) (b : BundleValue) : Type 0 where

@@ -2,6 +2,7 @@ pub use Rattle.rpki_validator.specs.rpki_bundle.Bundle
 pub mod Arguments
 pub use Rattle.rpki_digests.specs.Fips
 pub mod Checks
+pub mod Faults
 pub mod Lines
 pub mod Verdicts
 pub mod Folders

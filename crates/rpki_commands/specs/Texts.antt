@@ -1,11 +1,13 @@
 -- The octets that a folder becomes.
-use Rattle.std.specs.Prelude.{◌≡◌, ℕ, ◌+◌, List, Option}
+use Rattle.std.specs.Prelude.{◌≡◌, ℕ, ◌+◌, List, Option, Some, None, Result, Ok, Err}
 use Rattle.std.specs.Io.KnownBytes.{Appends, Keeps}
 use Rattle.rpki_commands.specs.rpki_bundle.Bundle.{BundleValue, BundleText}
 use Rattle.rpki_validator.specs.Streams.{TakesSome}
-use Rattle.rpki_commands.specs.Folders.{Tells}
+use Rattle.rpki_commands.specs.Folders.{Tells, TellsLines}
 use Rattle.rpki_commands.specs.declared.folder.Fault.{Fault}
 use Rattle.rpki_commands.specs.declared.folder.Fault.TheVariants as faults
+use Rattle.rpki_commands.specs.declared.folder.ReadFault.{ReadFault}
+use Rattle.rpki_commands.specs.declared.folder.ReadFault.TheVariants as reads
 use Rattle.rpki_commands.specs.declared.folder.parts.Contents.{Contents}
 
 -- The text of a bundle of all that was read.
@@ -35,18 +37,30 @@ abbrev pub ContentsFail : Contents → Fault → Option (List ℕ) → Option (L
 ContentsFail c faults.Read before after = ⊥
 ContentsFail c faults.NotABundle before after = Keeps before after × TellsNoText c
 ContentsFail c faults.Write before after = StopsWriting c before after
-ContentsFail c faults.Memory before after = Keeps before after
+ContentsFail c faults.Memory before after = Keeps before after × TellsLines c
+
+-- Of what reading a folder answered: all of the text of the contents was written,
+abbrev pub WritesReading : Result (Option Contents) ReadFault → Option (List ℕ) → Option (List ℕ) → Type 0
+WritesReading (Ok (Some c)) before after = WritesContents c before after
+WritesReading (Ok None) before after = ⊥
+WritesReading (Err fault) before after = ⊥
+
+-- or the fault is that of the contents, or of the reading, and then nothing was written: too many octets are no bundle.
+abbrev pub ReadingFails : Result (Option Contents) ReadFault → Fault → Option (List ℕ) → Option (List ℕ) → Type 0
+ReadingFails (Ok (Some c)) fault before after = ContentsFail c fault before after
+ReadingFails (Ok None) fault before after = (fault ≡ faults.NotABundle) × Keeps before after
+ReadingFails (Err reads.Read) fault before after = (fault ≡ faults.Read) × Keeps before after
+ReadingFails (Err reads.Memory) fault before after = (fault ≡ faults.Memory) × Keeps before after
 
 -- All of the text of some contents was written: no clause can say which a folder on a disk has.
-abbrev pub WritesBundle : Option (List ℕ) → Option (List ℕ) → Type 0
-WritesBundle before after = (c : Contents) × WritesContents c before after
+pub record WritesBundle (before after : Option (List ℕ)) : Type 0 where
+  pub reading : Result (Option Contents) ReadFault
+  pub written : WritesReading reading before after
 
--- What each fault says of what was written of a folder.
-abbrev pub BundleFails : Fault → Option (List ℕ) → Option (List ℕ) → Type 0
-BundleFails faults.Read before after = Keeps before after
-BundleFails faults.NotABundle before after = Keeps before after
-BundleFails faults.Write before after = (c : Contents) × StopsWriting c before after
-BundleFails faults.Memory before after = Keeps before after
+-- What a fault says of what was read of a folder, and of what was written of that.
+pub record BundleFails (fault : Fault) (before after : Option (List ℕ)) : Type 0 where
+  pub reading : Result (Option Contents) ReadFault
+  pub failed : ReadingFails reading fault before after
 
 -- The writer's count of failures rises by one exactly at `Write`.
 abbrev pub CountsFault : Fault → ℕ → ℕ → Type 0

@@ -39,6 +39,12 @@ pub record TakesVerdict (text : List ℕ) (v : Verdict) (rest : List ℕ) : Type
   pub signature_is : TakesNextDigest behind_message v.signature behind_signature
   pub end_is : TakesEnd behind_signature rest
 
+-- The first line states a verdict.
+pub record StartsWithVerdict (text : List ℕ) : Type 0 where
+  pub verdict : Verdict
+  pub rest : List ℕ
+  pub front : TakesVerdict text verdict rest
+
 -- Such lines, one for each verdict, and nothing else.
 abbrev pub TellsVerdicts : List ℕ → List Verdict → Type 0
 TellsVerdicts text [] = text ≡ []

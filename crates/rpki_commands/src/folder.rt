@@ -7,10 +7,14 @@ mod verdicts;
 mod walk;
 mod written;
 
+ghost use Rattle.std.specs.Prelude.{◌≡◌};
+ghost use Rattle.rpki_commands.specs.Faults.{IsToldAs};
+ghost use Rattle.rpki_commands.specs.declared.folder.ReadFault.TheVariants.{Memory as memory_fault};
+
 use std::alloc::{AllocError, AllocFailed};
 use std::io::{self, ErrorKind};
 use thiserror::Error;
-pub use written::{write_bundle, write_contents};
+pub use written::{write_bundle, write_contents, write_reading};
 
 /// Why a folder became no bundle.
 #[derive(Clone, Copy, Debug, PartialEq, Eq, Hash, Error)]
@@ -39,18 +43,24 @@ pub enum ReadFault {
 }
 
 impl From<AllocError> for ReadFault {
+    ghost from_gives = { λ _ fault. fault ≡ memory_fault };
+
     fn from(_error: AllocError) -> Self {
         ReadFault::Memory
     }
 }
 
 impl<T: Drop> From<AllocFailed<T>> for ReadFault {
+    ghost from_gives = { λ _ fault. fault ≡ memory_fault };
+
     fn from(_failed: AllocFailed<T>) -> Self {
         ReadFault::Memory
     }
 }
 
 impl From<io::Error> for ReadFault {
+    ghost from_gives = { λ error fault. IsToldAs error fault };
+
     fn from(error: io::Error) -> Self {
         match error.kind() {
             ErrorKind::OutOfMemory => ReadFault::Memory,

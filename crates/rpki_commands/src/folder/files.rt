@@ -1,11 +1,12 @@
 //! Single files and folders: what stands at a path, and a file's octets.
 
-ghost use Rattle.std.specs.Prelude.{◌≤◌, length, IfOk};
+ghost use Rattle.std.specs.Prelude.{◌≤◌, length, IfOk, IfSome};
+ghost use Rattle.rpki_commands.specs.Faults.{Finds, FindsNoLink, IsLackOf};
 
 use crate::folder::ReadFault;
 use std::alloc::Global;
-use std::fs;
-use std::io::{ErrorKind, Read};
+use std::fs::{self, Metadata};
+use std::io::{self, ErrorKind, Read};
 use std::rt::Files;
 
 /// So many octets of a file are read at most.
@@ -22,22 +23,43 @@ pub(crate) enum Kind {
     Folder,
 }
 
-/// What stands at the path; a read fault for what is neither file nor folder, and for a broken link.
-pub(crate) fn kind_of<R: Files>(rt: &R, path: &str) -> Result<Kind, ReadFault> {
-    match fs::metadata(rt, path) {
+// That nothing is there where the error says so.
+fn lack_of(error: io::Error) -> Result<Kind, ReadFault>
+    ensures { IsLackOf error result }
+{
+    if error.kind() == ErrorKind::NotFound {
+        return Ok(Kind::Absent);
+    }
+    Err(ReadFault::from(error))
+}
+
+// What stands at a path, by what the system answers of it.
+fn found(answer: io::Result<Metadata>) -> Result<Kind, ReadFault>
+    ensures { Finds answer result }
+{
+    match answer {
         Ok(found) if found.is_dir() => Ok(Kind::Folder),
         Ok(found) if found.is_file() => Ok(Kind::File(found.len())),
         Ok(_) => Err(ReadFault::Read),
-        Err(error) if error.kind() == ErrorKind::NotFound => absent(rt, path),
-        Err(error) => Err(ReadFault::from(error)),
+        Err(error) => lack_of(error),
     }
 }
 
-// That there is not even a link.
-fn absent<R: Files>(rt: &R, path: &str) -> Result<Kind, ReadFault> {
-    match fs::symlink_metadata(rt, path) {
-        Err(error) if error.kind() == ErrorKind::NotFound => Ok(Kind::Absent),
-        _ => Err(ReadFault::Read),
+// That there is not even a link, by what the system answers of it.
+fn no_link(answer: io::Result<Metadata>) -> Result<Kind, ReadFault>
+    ensures { FindsNoLink answer result }
+{
+    match answer {
+        Ok(_) => Err(ReadFault::Read),
+        Err(error) => lack_of(error),
+    }
+}
+
+/// What stands at the path; a read fault for what is neither file nor folder, and for a broken link.
+pub(crate) fn kind_of<R: Files>(rt: &R, path: &str) -> Result<Kind, ReadFault> {
+    match found(fs::metadata(rt, path)) {
+        Ok(Kind::Absent) => no_link(fs::symlink_metadata(rt, path)),
+        kind => kind,
     }
 }
 
@@ -48,7 +70,9 @@ pub(crate) fn read_if_there<R: Files>(
     path: &str,
     most: usize,
     buffer: &mut [u8],
-) -> Result<Option<Vec<u8>>, ReadFault> {
+) -> Result<Option<Vec<u8>>, ReadFault>
+    ensures { IfOk result (λ found. IfSome found (λ octets. length octets.items ≤ most)) }
+{
     match kind_of(rt, path)? {
         Kind::Absent => Ok(None),
         Kind::File(size) => Ok(Some(read_file(rt, alloc, path, size, most, buffer)?)),

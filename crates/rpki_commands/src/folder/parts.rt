@@ -7,7 +7,7 @@ ghost use Rattle.std.specs.List.Sorted.{IsPermutation};
 ghost use Rattle.rpki_commands.specs.rpki_bundle.Bundle.{BundleValue, verdict_row};
 ghost use Rattle.rpki_commands.specs.rpki_bundle.declared.version.Version.{Version as VersionValue};
 ghost use Rattle.rpki_commands.specs.rpki_bundle.Errors.{OnNotABundle};
-ghost use Rattle.rpki_commands.specs.Folders.{IsSortedOn, Tells, TellsParts, TellsVersion};
+ghost use Rattle.rpki_commands.specs.Folders.{IsSortedOn, OnMemory, Tells, TellsParts, TellsSome, TellsVersion};
 
 use crate::folder::lines::{depth_of, flag_of, moment_of};
 use crate::folder::verdicts::verdicts_of;
@@ -109,6 +109,7 @@ pub fn parts_of(alloc: Global, contents: Contents) -> Result<Parts, BundleError>
     ensures ok { IfOk result (λ parts. TellsParts contents parts) }
     ensures refused { IfErr result
         (λ e. OnNotABundle e ((b : BundleValue) → Tells contents b → ⊥)) }
+    ensures memory { IfErr result (λ e. OnMemory e (TellsSome contents)) }
 {
     let Some(version) = version_of(&contents.relaxed) else {
         return Err(BundleError::NotABundle);

@@ -3,7 +3,8 @@
 ghost use Rattle.std.specs.Prelude.{◌≡◌, ◌∷◌, ℕ, List, IfSome, IfNone, IfOk, IfErr};
 ghost use Rattle.rpki_commands.specs.rpki_bundle.declared.parts.Verdict.{Verdict as VerdictValue};
 ghost use Rattle.rpki_commands.specs.rpki_bundle.Errors.{OnNotABundle};
-ghost use Rattle.rpki_commands.specs.Verdicts.{TakesDigest, TakesNextDigest, TakesEnd, TakesVerdict, TellsVerdicts};
+ghost use Rattle.rpki_commands.specs.Folders.{OnMemory};
+ghost use Rattle.rpki_commands.specs.Verdicts.{StartsWithVerdict, TakesDigest, TakesNextDigest, TakesEnd, TakesVerdict, TellsVerdicts};
 
 use hex::FromHex;
 use rpki_validator::{BundleError, Verdict};
@@ -99,6 +100,7 @@ pub(crate) fn verdicts_of(alloc: Global, text: &[u8]) -> Result<Vec<Verdict>, Bu
     ensures ok { IfOk result (λ verdicts. TellsVerdicts text.now verdicts.items) }
     ensures refused { IfErr result (λ e. OnNotABundle e
         ((verdicts : List VerdictValue) → TellsVerdicts text.now verdicts → ⊥)) }
+    ensures memory { IfErr result (λ e. OnMemory e (StartsWithVerdict text.now)) }
 {
     let mut verdicts = Vec::new(alloc);
     let mut rest = text;

@@ -4,8 +4,8 @@ ghost use Rattle.std.specs.Prelude.{◌≡◌, ◌<◌, ◌-◌, ◌^◌, IfOk, 
 ghost use Rattle.rpki_commands.specs.rpki_bundle.Bundle.{BundleText};
 ghost use Rattle.rpki_commands.specs.rpki_bundle.Errors.{OnNotABundle};
 ghost use Rattle.rpki_commands.specs.rpki_bundle.declared.error.BundleError.TheVariants.{NotABundle as not_a_bundle};
-ghost use Rattle.rpki_commands.specs.Folders.{value_of};
-ghost use Rattle.rpki_commands.specs.Texts.{TellsText, TellsNoText, WritesContents, ContentsFail, WritesBundle, BundleFails, CountsFault};
+ghost use Rattle.rpki_commands.specs.Folders.{OnMemory, TellsLines, value_of};
+ghost use Rattle.rpki_commands.specs.Texts.{TellsText, TellsNoText, WritesContents, ContentsFail, WritesReading, ReadingFails, WritesBundle, BundleFails, CountsFault};
 
 use crate::folder::parts::{Contents, Parts, parts_of};
 use crate::folder::walk::read_folder;
@@ -41,6 +41,7 @@ fn bundle_of(parts: Parts) -> Result<Bundle, BundleError>
 pub fn text_of(alloc: Global, contents: Contents) -> Result<Vec<u8>, BundleError>
     ensures ok { IfOk result (λ text. TellsText contents text.items) }
     ensures refused { IfErr result (λ e. OnNotABundle e (TellsNoText contents)) }
+    ensures memory { IfErr result (λ e. OnMemory e (TellsLines contents)) }
 {
     let parts = match parts_of(alloc, contents) {
         Ok(parts) => parts,
@@ -82,6 +83,30 @@ pub fn write_contents<W: Write>(
     }
 }
 
+/// Writes the bundle that a folder gives, by what reading it answered; a fault of the reading is told as that fault, and
+/// nothing is written then.
+pub fn write_reading<W: Write>(
+    alloc: Global,
+    reading: Result<Option<Contents>, ReadFault>,
+    writer: &mut Counted<W>,
+) -> Result<(), Fault>
+    requires few_writes { writer.old.failures < 2 ^ 64 - 1 }
+
+    ensures ok { OnOk result
+        (WritesReading reading (W.contents writer.old.inner) (W.contents writer.new.inner)) }
+    ensures refused { IfErr result (λ e. ReadingFails reading e
+        (W.contents writer.old.inner) (W.contents writer.new.inner)) }
+    ensures count { MatchResult result (λ _. writer.new.failures ≡ writer.old.failures)
+        (λ e. CountsFault e writer.old.failures writer.new.failures) }
+{
+    match reading {
+        Ok(Some(contents)) => write_contents(alloc, contents, writer),
+        Ok(None) => Err(Fault::NotABundle),
+        Err(ReadFault::Read) => Err(Fault::Read),
+        Err(ReadFault::Memory) => Err(Fault::Memory),
+    }
+}
+
 /// Reads a folder, and writes the bundle that it gives. Nothing is written before all was read.
 pub fn write_bundle<R: Files + AllocGlobal + Clone + Drop, W: Write>(
     rt: &R,
@@ -98,10 +123,6 @@ pub fn write_bundle<R: Files + AllocGlobal + Clone + Drop, W: Write>(
     ensures count { MatchResult result (λ _. writer.new.failures ≡ writer.old.failures)
         (λ e. CountsFault e writer.old.failures writer.new.failures) }
 {
-    match read_folder(rt, alloc, folder) {
-        Ok(Some(contents)) => write_contents(alloc, contents, writer),
-        Ok(None) => Err(Fault::NotABundle),
-        Err(ReadFault::Read) => Err(Fault::Read),
-        Err(ReadFault::Memory) => Err(Fault::Memory),
-    }
+    let reading = read_folder(rt, alloc, folder);
+    write_reading(alloc, reading, writer)
 }

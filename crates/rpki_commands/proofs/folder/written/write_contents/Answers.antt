@@ -2,6 +2,7 @@ use Rattle.std.proofs.Common.{subst, refl, ℕ, List, Option, Some, None}
 use Rattle.std.specs.Io.KnownBytes.{Appends, Keeps}
 use Rattle.rpki_validator.specs.Streams.{TakesSome}
 use Rattle.rpki_commands.specs.rpki_bundle.Errors.{OnNotABundle}
+use Rattle.rpki_commands.specs.Folders.{OnMemory, TellsLines}
 use Rattle.rpki_commands.specs.Texts.{TellsNoText}
 use Rattle.rpki_commands.proofs.folder.written.write_contents.Goals as goal
 
@@ -13,6 +14,12 @@ pub returns-in-Err-NotABundle-clause-refused : goal.returns-in-Err-NotABundle-cl
 returns-in-Err-NotABundle-clause-refused g c = (
   keeps _,
   subst (λ e. OnNotABundle e (TellsNoText c.args.contents)) c.in-Err-NotABundle.field-0-is c.in-Err-NotABundle.ensures.refused,
+)
+
+pub returns-in-Err-Memory-clause-refused : goal.returns-in-Err-Memory-clause-refused
+returns-in-Err-Memory-clause-refused g c = (
+  keeps _,
+  subst (λ e. OnMemory e (TellsLines c.args.contents)) c.in-Err-Memory.field-0-is c.in-Err-Memory.ensures.memory,
 )
 
 pub returns-in-Ok-write_all-clause-ok : goal.returns-in-Ok-write_all-clause-ok
