@@ -7,6 +7,7 @@ pub mod Lines
 pub mod Verdicts
 pub mod Folders
 pub mod Texts
+pub mod Programs
 pub mod Asking
 -- What stands below, for the crates above.
 pub use Rattle.rpki_validator.specs.certs_basics as certs_basics
