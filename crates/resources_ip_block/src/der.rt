@@ -75,8 +75,9 @@ impl AddressRange {
     {
         cons.take_sequence(
             |cons|
-                ensures reads { ReadsAllAs run_of_range (AreOrdered (here S.rest cons.old).mode family)
-                    (here S.rest cons.old) result (here S.rest cons.new) }
+                ensures reads { ReadsAllAs run_of_range
+                    (AreOrdered (here S.rest cons.old).mode family) (here S.rest cons.old) result
+                    (here S.rest cons.new) }
                 ensures no_memory { IfErr result (λ e. e ≢ Memory) }
             { range_in(alloc, cons, family) },
         )
@@ -96,8 +97,9 @@ impl AddressRange {
     {
         cons.take_opt_sequence(
             |cons|
-                ensures reads { ReadsAllAs run_of_range (AreOrdered (here S.rest cons.old).mode family)
-                    (here S.rest cons.old) result (here S.rest cons.new) }
+                ensures reads { ReadsAllAs run_of_range
+                    (AreOrdered (here S.rest cons.old).mode family) (here S.rest cons.old) result
+                    (here S.rest cons.new) }
                 ensures no_memory { IfErr result (λ e. e ≢ Memory) }
             { range_in(alloc, cons, family) },
         )
