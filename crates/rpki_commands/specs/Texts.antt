@@ -40,13 +40,15 @@ ContentsFail c faults.Write before after = StopsWriting c before after
 ContentsFail c faults.Memory before after = Keeps before after × TellsLines c
 
 -- Of what reading a folder answered: all of the text of the contents was written,
-abbrev pub WritesReading : Result (Option Contents) ReadFault → Option (List ℕ) → Option (List ℕ) → Type 0
+abbrev pub WritesReading : Result (Option Contents) ReadFault
+    → Option (List ℕ) → Option (List ℕ) → Type 0
 WritesReading (Ok (Some c)) before after = WritesContents c before after
 WritesReading (Ok None) before after = ⊥
 WritesReading (Err fault) before after = ⊥
 
 -- or the fault is that of the contents, or of the reading, and then nothing was written: too many octets are no bundle.
-abbrev pub ReadingFails : Result (Option Contents) ReadFault → Fault → Option (List ℕ) → Option (List ℕ) → Type 0
+abbrev pub ReadingFails : Result (Option Contents) ReadFault → Fault
+    → Option (List ℕ) → Option (List ℕ) → Type 0
 ReadingFails (Ok (Some c)) fault before after = ContentsFail c fault before after
 ReadingFails (Ok None) fault before after = (fault ≡ faults.NotABundle) × Keeps before after
 ReadingFails (Err reads.Read) fault before after = (fault ≡ faults.Read) × Keeps before after
