@@ -8,6 +8,7 @@ pub mod Ranks
 pub mod OneFolder
 pub mod Words
 pub mod Lacking
+pub mod QuestionWords
 pub mod of_bcder_tree
 pub mod of_certs_basics
 pub mod of_rpki_bundle

@@ -7,7 +7,9 @@ pub mod Lines
 pub mod Verdicts
 pub mod Folders
 pub mod Texts
+pub mod Requests
 pub mod Asking
+pub mod Programs
 -- What stands below, for the crates above.
 pub use Rattle.rpki_validator.specs.certs_basics as certs_basics
 pub use Rattle.rpki_validator.specs.rpki_bundle as rpki_bundle
