@@ -5,10 +5,12 @@
 pub mod arguments;
 pub mod commands;
 pub mod folder;
+pub mod programs;
 pub mod questions;
 
 pub use arguments::{Command, USAGE, command_of};
 pub use commands::{FAILED, bundle, check};
+pub use programs::{ask_program, check_program};
 pub use rpki_digests::Fips;
 pub use rpki_validator::{
     Bundle, Cause, Counted, Digester, Judgement, Path, Reach, Refusal, Report, RunError,

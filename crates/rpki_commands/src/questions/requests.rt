@@ -1,5 +1,8 @@
 //! What a program's arguments ask.
 
+ghost use Rattle.std.specs.Prelude.{◌∷◌, ◌≡◌, IfSome, IfNone, map, string_bytes};
+ghost use Rattle.rpki_commands.specs.Requests.{Asked, IsAskedBy, Requests, asked_of};
+
 /// A question about a bundle. URIs are taken by their lookup keys.
 #[derive(Clone, Copy, Debug)]
 pub enum Question<'a> {
@@ -40,7 +43,12 @@ pub const USAGE: &str = "usage: rpki_ask [--json] judge LOCATOR OBJECT CHAIN.. |
 rpki_ask [--json] reach URI.. | rpki_ask [--json] why URI\n";
 
 // The question that these words ask.
-fn question_of(words: &[String]) -> Option<Question<'_>> {
+fn question_of(words: &[String]) -> Option<Question<'_>>
+    ensures found { IfSome result (λ question. IsAskedBy (map string_bytes words.now)
+        (asked_of question)) }
+    ensures none { IfNone result
+        ((asked : Asked) → IsAskedBy (map string_bytes words.now) asked → ⊥) }
+{
     match words {
         [verb, locator, object, _, ..] if verb.as_str() == "judge" => Some(Question::Judge {
             locator: locator.as_str(),
@@ -54,7 +62,9 @@ fn question_of(words: &[String]) -> Option<Question<'_>> {
 }
 
 /// What the arguments ask, the first of which is the program's name.
-pub fn request_of(arguments: &[String]) -> Option<Request<'_>> {
+pub fn request_of(arguments: &[String]) -> Option<Request<'_>>
+    ensures { Requests (map string_bytes arguments.now) result }
+{
     match arguments {
         [_, flag, ..] if flag.as_str() == "--json" => Some(Request {
             json: true,
