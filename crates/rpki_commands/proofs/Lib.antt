@@ -9,6 +9,7 @@ pub mod OneFolder
 pub mod Words
 pub mod Lacking
 pub mod QuestionWords
+pub mod Told
 pub mod Walking
 pub mod of_bcder_tree
 pub mod of_certs_basics

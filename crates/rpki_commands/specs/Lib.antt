@@ -9,6 +9,8 @@ pub mod Folders
 pub mod Limits
 pub mod Texts
 pub mod Requests
+pub mod Shown
+pub mod Answers
 pub mod Asking
 pub mod Programs
 -- What stands below, for the crates above.

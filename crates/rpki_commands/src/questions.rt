@@ -5,6 +5,7 @@
 
 mod answers;
 pub mod asking;
+mod facts;
 pub mod requests;
 mod texts;
 
