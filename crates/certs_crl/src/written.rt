@@ -68,7 +68,7 @@ type FieldValues<'a, R> = encode::Constructed<
 /// What is written of what is signed of a list: a SEQUENCE of its fields.
 pub type TbsCertListValues<'a> = FieldValues<'a, RevokedValues<'a>>;
 
-/// The same with the entries by what they say.
+/// What is written of those fields with the entries by what they say.
 pub(crate) type DerValues<'a> = FieldValues<'a, EntriesValues<'a>>;
 
 // The identifier of the issuer's key (RFC 5280 5.2.1).
