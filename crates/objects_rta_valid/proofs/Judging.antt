@@ -1,0 +1,108 @@
+-- Tests over the paths that were found are tests over the only paths.
+use Rattle.std.proofs.Common.{◌≡◌, ℕ, Bool, List, [], ◌∷◌, Option, Result, Ok, Err, map, length, refl, sym, ap, ◌∙◌, subst}
+use Rattle.std.specs.Prelude.{◌↔◌, IfOk, IsTrue}
+use Rattle.std.specs.List.{AllZip}
+use Rattle.std.specs.declared.alloc.AllocError.{AllocError}
+use Rattle.certs_verify.specs.certs_basics.HandedIn.{Digests}
+use Rattle.certs_verify.specs.certs_basics.Lists.{Each}
+use Rattle.certs_verify.specs.certs_basics.Verdicts.{Verdicts}
+use Rattle.certs_verify.specs.certs_extension.Cert.{CertValue}
+use Rattle.certs_verify.specs.certs_extension.CrlText.{CrlValue}
+use Rattle.objects_cms.specs.Content.{object_with}
+use Rattle.objects_cms.specs.Signer.{SignerValue, signer_fields}
+use Rattle.objects_cms.specs.objects_payload.ObjectText.{Signer, Sound, signer_of}
+use Rattle.objects_rta.specs.AttestationParts.{RtaValue}
+use Rattle.objects_rta_valid.specs.declared.errors.RtaTest.TheVariants as test
+use Rattle.objects_rta_valid.specs.Apart.{AreApart}
+use Rattle.objects_rta_valid.specs.Places.{AreLinks, Stands, firsts, pairs}
+use Rattle.objects_rta_valid.specs.Certs.{ArePairSigned, IsPairUnrevoked, IsUsed}
+use Rattle.objects_rta_valid.specs.Vouched.{AreGoodOf, Has, IsVouched, Serves}
+use Rattle.objects_rta_valid.specs.Validity.{AreItsPaths, HaveForms, IsSoundAt, OfPaths, Passes, nodes, sids}
+use Rattle.objects_rta_valid.proofs.Signing.{unrevoked_told, vouched_told}
+use Rattle.objects_rta_valid.proofs.Walks.{only_these}
+
+pub of_paths_told : (r : RtaValue) (paths : List (List ℕ)) (P : List (List ℕ) → Type 0) (b : Bool) → AreItsPaths r paths → (IsTrue b ↔ P paths) → (IsTrue b ↔ OfPaths r P)
+of_paths_told r paths P b only h = (
+  (λ t others o. subst P (sym (only_these (nodes r) (sids r) paths others only o)) (h.0 t)),
+  (λ f. h.1 (f paths only)),
+)
+
+pub both_told : {A : Type 0} (r : RtaValue) (paths : List (List ℕ)) (P : List (List ℕ) → Type 0) (b : Bool) → AreItsPaths r paths → (IsTrue b ↔ (A × P paths)) → (IsTrue b ↔ (A × OfPaths r P))
+both_told r paths P b only h = (
+  (λ t. ((h.0 t).0, (λ others o. subst P (sym (only_these (nodes r) (sids r) paths others only o)) (h.0 t).1))),
+  (λ f. h.1 (f.0, f.1 paths only)),
+)
+
+-- Signers as they are read, and as an object has them.
+pub zip_signers : (P : Signer → ℕ → Type 0) (infos : List SignerValue) (places : List ℕ) → AllZip (λ s place. P (signer_of (signer_fields s)) place) infos places ↔ AllZip P (map signer_of (map signer_fields infos)) places
+zip_signers P infos places = (there P infos places, back P infos places)
+  where
+    there : (P : Signer → ℕ → Type 0) (infos : List SignerValue) (places : List ℕ) → AllZip (λ s place. P (signer_of (signer_fields s)) place) infos places → AllZip P (map signer_of (map signer_fields infos)) places
+    there P [] [] a = a
+    there P [] (x ∷ xs) a = a
+    there P (s ∷ ss) [] a = a
+    there P (s ∷ ss) (x ∷ xs) a = (a.0, there P ss xs a.1)
+
+    back : (P : Signer → ℕ → Type 0) (infos : List SignerValue) (places : List ℕ) → AllZip P (map signer_of (map signer_fields infos)) places → AllZip (λ s place. P (signer_of (signer_fields s)) place) infos places
+    back P [] [] a = a
+    back P [] (x ∷ xs) a = a
+    back P (s ∷ ss) [] a = a
+    back P (s ∷ ss) (x ∷ xs) a = (a.0, back P ss xs a.1)
+
+pub sids_same : (infos : List SignerValue) → map (λ (s : SignerValue). s.sid) infos ≡ map (λ (s : Signer). s.sid) (map signer_of (map signer_fields infos))
+sids_same [] = refl
+sids_same (s ∷ ss) = ap (λ (xs : List (List ℕ)). s.sid ∷ xs) (sids_same ss)
+
+iff_trans : {A B C : Type 0} → (A ↔ B) → (B ↔ C) → (A ↔ C)
+iff_trans h k = ((λ a. k.0 (h.0 a)), (λ c. h.1 (k.1 c)))
+
+-- The tests, one by one, from what the calls answer.
+pub content_told : (d : Digests) (good : Verdicts) (r : RtaValue) (paths : List (List ℕ)) (infos : List SignerValue) (content : List ℕ) (certs : List CertValue) (places : List ℕ) (answer : Result Bool AllocError)
+    → AreItsPaths r paths → map signer_of (map signer_fields infos) ≡ r.signed.signers → content ≡ r.signed.content → certs ≡ r.signed.certs → places ≡ firsts paths
+    → IfOk answer (λ yes. (ct : List ℕ) → IsTrue yes ↔ AllZip (λ s place. Stands certs place (λ c. Sound d good (object_with ct content c s))) infos places)
+    → IfOk answer (λ yes. (strict : Bool) (now : ℕ) → IsTrue yes ↔ Passes d good strict now r test.Content)
+content_told d good r paths infos content certs places (Ok b) only signers same carried first h = λ strict now.
+    let ct = r.signed.content_type in
+    let a = subst (λ (ps : List ℕ). IsTrue b ↔ AllZip (λ (s : SignerValue) (place : ℕ). Stands certs place (λ c. Sound d good (object_with ct content c s))) infos ps) first (h ct) in
+    let k = subst (λ (cs : List CertValue). IsTrue b ↔ AllZip (λ (s : SignerValue) (place : ℕ). Stands cs place (λ c. Sound d good (object_with ct content c s))) infos (firsts paths)) carried a in
+    let e = subst (λ (x : List ℕ). IsTrue b ↔ AllZip (λ (s : SignerValue) (place : ℕ). Stands r.signed.certs place (λ c. Sound d good (object_with ct x c s))) infos (firsts paths)) same k in
+    let f = iff_trans e (zip_signers (IsSoundAt d good r.signed) infos (firsts paths)) in
+    of_paths_told r paths (λ ps. AllZip (IsSoundAt d good r.signed) r.signed.signers (firsts ps)) b only
+    (subst (λ (ss : List Signer). IsTrue b ↔ AllZip (IsSoundAt d good r.signed) ss (firsts paths)) signers f)
+content_told d good r paths infos content certs places (Err e) only signers same carried first h = tt
+
+pub forms_told : (d : Digests) (strict : Bool) (r : RtaValue) (paths : List (List ℕ)) (certs : List CertValue) (answer : Result Bool AllocError)
+    → AreItsPaths r paths → certs ≡ r.signed.certs → IfOk answer (λ yes. IsTrue yes ↔ HaveForms d strict certs paths)
+    → IfOk answer (λ yes. (good : Verdicts) (now : ℕ) → IsTrue yes ↔ Passes d good strict now r test.Forms)
+forms_told d strict r paths certs (Ok b) only carried h = λ good now.
+    of_paths_told r paths (HaveForms d strict r.signed.certs) b only (subst (λ (cs : List CertValue). IsTrue b ↔ HaveForms d strict cs paths) carried h)
+forms_told d strict r paths certs (Err e) only carried h = tt
+
+pub signatures_told : (good : Verdicts) (now : ℕ) (r : RtaValue) (paths : List (List ℕ)) (certs : List CertValue) (ps : List (ℕ × ℕ)) (links : List (Option ℕ)) (count : ℕ) (b : Bool)
+    → AreItsPaths r paths → certs ≡ r.signed.certs → ps ≡ pairs paths → AreLinks ps count links → count ≡ length certs
+    → (IsTrue b ↔ AllZip (IsVouched good now certs) certs links) → (d : Digests) (strict : Bool) → IsTrue b ↔ Passes d good strict now r test.Signatures
+signatures_told good now r paths certs ps links count b only carried same behind long h d strict =
+    let linked : AreLinks (pairs paths) count links = subst (λ (xs : List (ℕ × ℕ)). AreLinks xs count links) same behind in
+    let e = subst (λ (cs : List CertValue). IsTrue b ↔ AllZip (IsVouched good now cs) cs links) carried h in
+    both_told r paths (λ paths. Each (ArePairSigned good now r.signed.certs) (pairs paths)) b only
+    (vouched_told good now r.signed.certs (sids r) paths links count only (long ∙ ap (λ (cs : List CertValue). length cs) carried) linked b e)
+
+pub lists_told : (r : RtaValue) (paths : List (List ℕ)) (certs : List CertValue) (ps : List (ℕ × ℕ)) (crls : List CrlValue) (b : Bool)
+    → AreItsPaths r paths → certs ≡ r.signed.certs → ps ≡ pairs paths → crls ≡ r.signed.crls → (IsTrue b ↔ Each (IsUsed certs ps) crls)
+    → (d : Digests) (good : Verdicts) (strict : Bool) (now : ℕ) → IsTrue b ↔ Passes d good strict now r test.Lists
+lists_told r paths certs ps crls b only carried same lists h d good strict now =
+    let e = subst (λ (cs : List CertValue). IsTrue b ↔ Each (IsUsed cs ps) crls) carried h in
+    let f = subst (λ (xs : List (ℕ × ℕ)). IsTrue b ↔ Each (IsUsed r.signed.certs xs) crls) same e in
+    of_paths_told r paths (λ paths. Each (IsUsed r.signed.certs (pairs paths)) r.signed.crls) b only (subst (λ (xs : List CrlValue). IsTrue b ↔ Each (IsUsed r.signed.certs (pairs paths)) xs) lists f)
+
+pub revocation_told : (good : Verdicts) (now : ℕ) (r : RtaValue) (paths : List (List ℕ)) (certs : List CertValue) (ps : List (ℕ × ℕ)) (crls lists : List CrlValue) (b : Bool)
+    → AreItsPaths r paths → AreApart (nodes r) → certs ≡ r.signed.certs → ps ≡ pairs paths → crls ≡ r.signed.crls → AreGoodOf good now certs crls lists
+    → (IsTrue b ↔ Each (λ (q : ℕ × ℕ). Stands certs q.0 (λ c. Stands certs q.1 (λ p. Has (Serves p c) lists))) ps)
+    → (d : Digests) (strict : Bool) → IsTrue b ↔ Passes d good strict now r test.Revocation
+revocation_told good now r paths certs ps crls lists b only apart carried same carried_lists of h d strict =
+    let e = subst (λ (cs : List CertValue). IsTrue b ↔ Each (λ (q : ℕ × ℕ). Stands cs q.0 (λ c. Stands cs q.1 (λ p. Has (Serves p c) lists))) ps) carried h in
+    let f = subst (λ (xs : List (ℕ × ℕ)). IsTrue b ↔ Each (λ (q : ℕ × ℕ). Stands r.signed.certs q.0 (λ c. Stands r.signed.certs q.1 (λ p. Has (Serves p c) lists))) xs) same e in
+    let g : AreGoodOf good now r.signed.certs r.signed.crls lists =
+    subst (λ (xs : List CrlValue). AreGoodOf good now r.signed.certs xs lists) carried_lists (subst (λ (cs : List CertValue). AreGoodOf good now cs crls lists) carried of) in
+    of_paths_told r paths (λ paths. Each (IsPairUnrevoked good now r.signed.certs r.signed.crls) (pairs paths)) b only
+    (unrevoked_told good now r.signed.certs r.signed.crls lists apart g b (pairs paths) f)

@@ -1,0 +1,16 @@
+mod Flat
+mod Tables
+mod Walks
+mod Apart
+mod Steps
+mod Decided
+mod Extend
+mod Standing
+mod Passing
+mod Vouching
+mod Signing
+mod Gathering
+mod Judging
+mod Answering
+mod Following
+mod Sounding

@@ -1,0 +1,8 @@
+use Rattle.certs_verify.specs.certs_key.Digesting.{digests_of}
+use Rattle.objects_rta_valid.proofs.Judging.{forms_told}
+use Rattle.objects_rta_valid.proofs.judge.passes_forms.Goals as goal
+
+pub returns : goal.returns
+returns g c =
+    forms_told (digests_of g.D.Digester.sha256_digest g.D.Digester.sha1_digest c.args.digester.now) c.args.strict c.args.rta.now c.args.paths.now.paths c.certs_of.result.now c.have_forms.result
+    c.requires.walk.only c.certs_of.ensures c.have_forms.ensures

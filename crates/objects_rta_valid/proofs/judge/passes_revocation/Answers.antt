@@ -1,0 +1,17 @@
+use Rattle.std.proofs.Common.{List, subst, sym, ◌∙◌}
+use Rattle.std.specs.Prelude.{◌↔◌, IsTrue}
+use Rattle.certs_verify.specs.certs_extension.CrlText.{CrlValue}
+use Rattle.objects_rta_valid.specs.Vouched.{AreGoodOf}
+use Rattle.objects_rta_valid.proofs.Following.{apart_carried, apart_told}
+use Rattle.objects_rta_valid.proofs.Judging.{revocation_told}
+use Rattle.objects_rta_valid.proofs.judge.passes_revocation.Goals as goal
+
+pub good_lists-requires : goal.good_lists-requires
+good_lists-requires g c = apart_carried c.args.rta.now c.args.paths.now c.certs_of-certs.result.now c.requires c.certs_of-certs.ensures
+
+pub returns-clause-passes : goal.returns-clause-passes
+returns-clause-passes g c d strict =
+    revocation_told (g.V.Verifier.says c.args.verifier.now) c.args.now c.args.rta.now c.args.paths.now.paths c.certs_of-certs.result.now c.as_slice.result.now c.crls_of.result.now c.as_slice-2.result.now c.are_served.result
+    c.requires.walk.only (apart_told c.args.rta.now c.args.paths.now c.requires) c.certs_of-certs.ensures (c.as_slice.ensures.value ∙ c.in_ok-pairs.ensures) c.crls_of.ensures
+    (subst (AreGoodOf (g.V.Verifier.says c.args.verifier.now) c.args.now c.certs_of-certs.result.now c.crls_of.result.now) (sym c.as_slice-2.ensures.value) c.in_ok-lists.ensures.lists)
+    c.are_served.ensures d strict

@@ -1,0 +1,6 @@
+pub mod Places
+pub mod Apart
+pub mod Certs
+pub mod Vouched
+pub mod Validity
+pub mod Answered
