@@ -59,7 +59,8 @@ fn is_sound_at<D: Digester, V: Verifier>(
     verifier: &mut V,
 ) -> Result<bool, AllocError>
     ensures sound { IfOk result (λ yes. (content_type : List ℕ) → IsTrue yes
-        ↔ Stands certs.now place (λ c. Sound (digests_of D.sha256_digest D.sha1_digest digester.now) (V.says verifier.old)
+        ↔ Stands certs.now place (λ c. Sound
+        (digests_of D.sha256_digest D.sha1_digest digester.now) (V.says verifier.old)
         (object_with content_type content.now c signer.now))) }
     ensures same { V.says verifier.new ≡ V.says verifier.old }
     ensures asked { V.count verifier.new ≤ V.count verifier.old + 1 }
