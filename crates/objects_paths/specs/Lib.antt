@@ -1,3 +1,5 @@
 pub mod Nodes
 pub mod Paths
 pub mod Keys
+pub mod Tables
+pub mod Stamps

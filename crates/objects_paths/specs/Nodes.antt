@@ -1,6 +1,6 @@
 -- Certificates as far as paths know them: by key identifiers (RFC 6487 4.8.1 to 4.8.3).
 use Rattle.std.specs.Prelude.{◌≡◌, ◌⊎◌, ℕ, Bool, List, Option, Some, None, map}
-use denote.Ref.{Bor}
+use Rattle.std.specs.Borrow.{Bor}
 
 -- The subject key identifier (RFC 6487 4.8.2), the authority key identifier, if there is one (4.8.3), and whether it is an
 -- authority's certificate (4.8.1).

@@ -1,9 +1,10 @@
 //! The only path of each signer.
 
-ghost use Rattle.std.specs.Prelude.{IfOk, MatchOption, Any};
+ghost use Rattle.std.specs.Prelude.{Any, IfOk, MatchOption};
 ghost use Rattle.objects_paths.specs.Nodes.{each_octets};
 ghost use Rattle.objects_paths.specs.Paths.{ArePaths, HasNoOnlyPath};
 
+use crate::index::Index;
 use crate::node::NodeKeys;
 use crate::places::Paths;
 use std::alloc::{AllocError, Global};
@@ -18,5 +19,14 @@ pub fn paths(
         (Any (HasNoOnlyPath nodes.now) (each_octets signers.now))
         (ArePaths nodes.now (each_octets signers.now))) }
 {
-    unreachable_body(alloc, nodes, signers)
+    let index = Index::of_nodes(alloc, nodes)?;
+    let mut stamps = vec![in alloc; 0; nodes.len()]?;
+    let mut paths = Vec::new(alloc);
+    for (place, signer) in signers.iter().enumerate() {
+        let Some(path) = index.path_of(alloc, signer, &mut stamps, place + 1)? else {
+            return Ok(None);
+        };
+        paths.push(path)?;
+    }
+    Ok(Some(Paths { stamps, paths }))
 }

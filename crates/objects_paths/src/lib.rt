@@ -9,9 +9,11 @@
 #![tactic(auto)]
 
 mod find;
+mod index;
 pub mod keys;
 pub mod node;
 pub mod places;
+mod table;
 
 pub use find::paths;
 pub use keys::are_same_keys;

@@ -10,17 +10,20 @@ use std::marker::Model;
 /// many certificates they are, and the paths as lists of places.
 #[derive(Drop)]
 pub struct Paths {
-    pub(crate) on: Vec<bool>,
+    pub(crate) stamps: Vec<usize>,
     pub(crate) paths: Vec<Vec<usize>>,
 }
 
 impl Model for Paths {
-    ghost use Rattle.std.specs.Prelude.{◌≢◌, ◌<◌, [], All, length, map};
+    ghost use Rattle.std.specs.Prelude.{length, map};
     ghost use Rattle.objects_paths.specs.Paths.{PathsValue};
+    ghost use Rattle.objects_paths.specs.Stamps.{Kept};
 
     ghost Value = { PathsValue };
 
-    ghost view = { λ p. record { count = length p.on.items; paths = map (λ path. path.items) p.paths.items } };
+    ghost view = { λ p. record { count = length p.stamps.items; paths = map (λ path. path.items) p.paths.items } };
+
+    ghost invariant = { λ p. Kept p.stamps.items (map (λ path. path.items) p.paths.items) };
 }
 
 /// The places of a path, one by one, from the signer's own certificate up. Contracts see those that are left.
@@ -56,7 +59,7 @@ impl Paths {
     pub fn count(&self) -> usize
         ensures { result ≡ self.now.count }
     {
-        self.on.len()
+        self.stamps.len()
     }
 
     /// How many signers there are, each of which has its path.
@@ -90,6 +93,6 @@ impl Paths {
         ensures { MatchOption result (AreAllOn self.now.paths self.now.count)
             (IsFirstOff self.now.paths self.now.count) }
     {
-        self.on.iter().position(|on| !*on)
+        self.stamps.iter().position(|stamp| *stamp == 0)
     }
 }
