@@ -1,0 +1,6 @@
+pub mod Members
+pub mod Deciding
+pub mod Completing
+pub mod Fronts
+pub mod Picking
+pub mod Following
