@@ -4,3 +4,5 @@ pub mod Completing
 pub mod Fronts
 pub mod Picking
 pub mod Following
+pub mod Gathering
+pub mod Sets

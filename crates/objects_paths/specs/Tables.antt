@@ -1,10 +1,11 @@
 -- Tables of certificates by key identifiers.
-use Rattle.std.specs.Prelude.{◌≡◌, ◌≢◌, ◌↔◌, ℕ, Bool, true, false, cond, IsTrue, List, [], Option, Some, None, Contains, bytes_eq}
+use Rattle.std.specs.Prelude.{◌≡◌, ◌≢◌, ℕ, Bool, true, false, cond, List, [], Option, Some, None, bytes_eq}
 use Rattle.std.specs.BTreeMap.{get_by}
 use Rattle.std.specs.BTreeSet.{BTreeSet, contains_by}
 use Rattle.std.specs.Borrow.{Bor}
 use Rattle.std.specs.Cmp.Lexicographic.{slice_cmp}
 use Rattle.std.specs.Ordering.{nat_cmp}
+use Rattle.std.specs.List.{list_any}
 use Rattle.std.specs.Option.{unwrap_or}
 use Rattle.objects_paths.specs.Nodes.{Node, IsSelfSigned}
 use Rattle.objects_paths.specs.Keys.{IsOnceEach}
@@ -70,4 +71,4 @@ holds set key = contains_by (λ k. slice_cmp nat_cmp key k.now) set
 -- The set of the identifiers of a list in which none occurs twice.
 pub record IsSetOf (keys : List (List ℕ)) (set : BTreeSet (Bor (List ℕ))) : Type 0 where
   pub once : IsOnceEach keys
-  pub same : (key : List ℕ) → IsTrue (holds set key) ↔ Contains keys key
+  pub same : (key : List ℕ) → holds set key ≡ list_any (bytes_eq key) keys

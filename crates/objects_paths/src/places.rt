@@ -93,6 +93,11 @@ impl Paths {
         ensures { MatchOption result (AreAllOn self.now.paths self.now.count)
             (IsFirstOff self.now.paths self.now.count) }
     {
-        self.stamps.iter().position(|stamp| *stamp == 0)
+        for (place, stamp) in self.stamps.iter().enumerate() {
+            if *stamp == 0 {
+                return Some(place);
+            }
+        }
+        None
     }
 }
