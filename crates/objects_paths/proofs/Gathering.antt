@@ -1,13 +1,12 @@
 -- What is kept of paths, one after another.
-use Rattle.std.proofs.Common.{◌≡◌, ◌≢◌, ◌⊎◌, ◌↔◌, ℕ, zero, suc, ◌+◌, ◌<◌, ◌≤◌, ◌||◌, Bool, true, false, not, cond, nat_eq, List, [], ◌∷◌, ◌++◌, length, get_or, take, drop, map, Option, Some, None, MatchOption, slice_get, All, Any, Contains, refl, sym, ap, subst, ◌∙◌, arith}
-use Rattle.std.proofs.lemmas.Bool.{both_ways, ne_eqb, eqb-false, eqb-true, eq-eqb, true_from_ne_false, not-true}
-use Rattle.std.proofs.lemmas.List.{get_or_default, get_or-map}
-use Rattle.std.proofs.lemmas.List.Elements.{All-cons, All-from_get_or, All-get_or, All-nil, All-push}
+use Rattle.std.proofs.Common.{◌≡◌, ◌≢◌, ℕ, ◌+◌, ◌<◌, ◌||◌, Bool, true, false, not, cond, nat_eq, List, [], ◌∷◌, ◌++◌, length, get_or, take, drop, Option, Some, None, MatchOption, slice_get, All, Any, refl, sym, ap, subst, ◌∙◌, arith}
+use Rattle.std.proofs.lemmas.Bool.{both_ways, ne_eqb, eq-eqb}
+use Rattle.std.proofs.lemmas.List.Elements.{All-cons, All-from_get_or, All-nil, All-push}
 use Rattle.std.proofs.lemmas.List.Folds.{list_any-append, Any-from_list_any, list_any-from_Any}
 use Rattle.std.proofs.lemmas.Option.{slice_get-get_or}
 use Rattle.std.proofs.Math.Seq.{take-append_seam}
 use Rattle.objects_paths.specs.Nodes.{Node}
-use Rattle.objects_paths.specs.Paths.{AreAllOn, Follows, IsFirstOff, IsOn, IsPath}
+use Rattle.objects_paths.specs.Paths.{Follows, IsOn, IsPath}
 use Rattle.objects_paths.specs.Stamps.{IsStamped, Kept, has, some_has}
 use Rattle.objects_paths.proofs.Members.{at_inside, has_from, has_to}
 
@@ -50,7 +49,7 @@ module _ (old new path : List ℕ) (stamp : ℕ) (is : IsStamped old new path st
       record {
         some = All-push (λ (p : List ℕ). p ≢ []) paths path kept.some some;
         inside = subst (λ (n : ℕ). All (λ (p : List ℕ). All (λ (place : ℕ). place < n) p) (paths ++ path ∷ [])) (sym is.size)
-          (All-push (λ (p : List ℕ). All (λ (place : ℕ). place < length old) p) paths path kept.inside inside);
+            (All-push (λ (p : List ℕ). All (λ (place : ℕ). place < length old) p) paths path kept.inside inside);
         on = on;
       }
     where

@@ -1,13 +1,13 @@
 -- What tables tell.
-use Rattle.std.proofs.Common.{◌≡◌, ◌≢◌, ◌⊎◌, ℕ, ◌+◌, ◌<◌, Bool, true, false, cond, List, [], ◌∷◌, length, Option, Some, None, BTreeMap, Bor, bytes_eq, unwrap_or, inl, inr, refl, sym, ap, subst, ◌∙◌, arith}
+use Rattle.std.proofs.Common.{◌≡◌, ◌⊎◌, ℕ, ◌+◌, ◌<◌, Bool, true, false, cond, List, [], length, Option, Some, None, BTreeMap, Bor, bytes_eq, unwrap_or, inl, inr, refl, sym, ap, subst, ◌∙◌, arith}
 use Rattle.std.specs.BTreeMap.{UpdatesBy}
 use Rattle.std.specs.Cmp.Lexicographic.{slice_cmp}
 use Rattle.std.specs.Ordering.{nat_cmp}
-use Rattle.std.proofs.lemmas.Bool.{both_ways, cases_eq, cond-true, cond-false}
+use Rattle.std.proofs.lemmas.Bool.{both_ways, cases_eq}
 use Rattle.std.proofs.lemmas.Map.Text.{btree_map_updates_str}
 use Rattle.std.proofs.lemmas.Slice.Eq.{bytes_eq-Decides}
-use Rattle.objects_paths.specs.Nodes.{Node, IsBelow, IsSelfSigned}
-use Rattle.objects_paths.specs.Paths.{At, Continues}
+use Rattle.objects_paths.specs.Nodes.{Node, IsSelfSigned}
+use Rattle.objects_paths.specs.Paths.{At}
 use Rattle.objects_paths.specs.Tables.{Adds, Goes, IsEntry, IsTableOf, Picks, above_in, one_more, told}
 use Rattle.objects_paths.specs.declared.table.Found.{Found}
 use Rattle.objects_paths.specs.declared.table.Found.TheVariants.{Nothing, One, Several}

@@ -1,5 +1,5 @@
 -- Sets of identifiers, and lists in which none occurs twice.
-use Rattle.std.proofs.Common.{◌≡◌, ◌≢◌, ◌↔◌, ℕ, ◌+◌, ◌<◌, ◌≤◌, ◌||◌, ◌&&◌, Bool, true, false, cond, IsTrue, Bor, List, [], ◌∷◌, ◌++◌, length, get_or, take, All, Any, Contains, bytes_eq, refl, sym, ap, subst, ◌∙◌, arith}
+use Rattle.std.proofs.Common.{◌≡◌, ◌≢◌, ℕ, ◌+◌, ◌<◌, ◌||◌, Bool, true, false, cond, IsTrue, Bor, List, [], ◌∷◌, ◌++◌, length, get_or, take, All, Any, Contains, bytes_eq, refl, sym, ap, subst, ◌∙◌, arith}
 use Rattle.std.specs.BTreeSet.{BTreeSet, UpdatesBy}
 use Rattle.std.specs.Cmp.Lexicographic.{slice_cmp}
 use Rattle.std.specs.List.{list_any}
@@ -80,7 +80,7 @@ module _ (signers keys : List (List ℕ)) (s k : BTreeSet (Bor (List ℕ))) (of_
         keys_once = of_k.once;
         same = λ key. (
           λ c. key_to keys key (sym (of_k.same key) ∙ All-contains (λ (x : List ℕ). IsTrue (holds k x)) signers key b c),
-          λ c. key_to signers key (sym (of_s.same key) ∙ All-contains (λ (x : List ℕ). IsTrue (holds s x)) keys key a c)
+          λ c. key_to signers key (sym (of_s.same key) ∙ All-contains (λ (x : List ℕ). IsTrue (holds s x)) keys key a c),
         );
       }
 

@@ -1,5 +1,5 @@
 -- Lists of key identifiers.
-use Rattle.std.specs.Prelude.{◌≡◌, ◌≢◌, ◌↔◌, ℕ, List, Contains, AllPairs}
+use Rattle.std.specs.Prelude.{◌≢◌, ◌↔◌, ℕ, List, Contains, AllPairs}
 
 -- No identifier occurs twice.
 abbrev pub IsOnceEach : List (List ℕ) → Type 0

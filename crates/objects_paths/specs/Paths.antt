@@ -1,6 +1,6 @@
 -- Paths from signers' certificates up, as lists of places in the list of all certificates that a document carries: one that is
 -- carried twice has two places (draft-ietf-sidrops-rpki-rta; this project's profile).
-use Rattle.std.specs.Prelude.{◌≡◌, ◌⊎◌, ℕ, ◌<◌, true, List, [], ◌∷◌, Option, Some, slice_get, length, Contains, Any}
+use Rattle.std.specs.Prelude.{◌≡◌, ◌⊎◌, ℕ, ◌<◌, true, List, [], ◌∷◌, Some, slice_get, length, Contains, Any}
 use Rattle.std.specs.List.{AllZip}
 use Rattle.objects_paths.specs.Nodes.{Node, IsBelow, IsSelfSigned}
 

@@ -1,4 +1,4 @@
-use Rattle.std.proofs.Common.{◌≡◌, ◌<◌, ◌≤◌, ◌+◌, All, length, map, take}
+use Rattle.std.proofs.Common.{◌≡◌, ◌<◌, ◌+◌, All, length, map, take}
 use Rattle.std.specs.List.{AllZip}
 use Rattle.objects_paths.specs.Nodes.{each_octets}
 use Rattle.objects_paths.specs.Paths.{IsOnlyPath}

@@ -1,7 +1,6 @@
-use Rattle.std.proofs.Common.{rules, ◌≡◌, ◌<◌, ℕ, Bool, false, List, [], ◌∷◌, ◌++◌, length, sym, ap, subst, ◌∙◌, arith}
+use Rattle.std.proofs.Common.{rules, ◌≡◌, ◌<◌, ℕ, List, [], length, sym, ap, subst, ◌∙◌, arith}
 use Rattle.std.proofs.lemmas.List.{length-set}
 use Rattle.objects_paths.specs.Stamps.{IsStamped, has}
-use Rattle.objects_paths.specs.Tables.{Goes, Picks}
 use Rattle.objects_paths.specs.declared.table.Found.TheVariants.{Nothing, One, Several}
 use Rattle.objects_paths.proofs.Following.{Stands, fewer_unseen, is_seen, not_seen, picks_inside, stamped_next, stamped_none, stands_closed, stands_end, stands_first, stands_forks, stands_inside, stands_next, stands_picks}
 use Rattle.objects_paths.proofs.index.Index.follow.Goals as goal

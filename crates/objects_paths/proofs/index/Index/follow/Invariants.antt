@@ -1,4 +1,4 @@
-use Rattle.std.proofs.Common.{◌≡◌, ◌<◌, Bool, false, cond, nat_eq, length, sum_by}
+use Rattle.std.proofs.Common.{◌≡◌, ◌<◌, false, cond, nat_eq, length, sum_by}
 use Rattle.objects_paths.specs.Stamps.{IsStamped, has}
 use Rattle.objects_paths.proofs.Following.{Stands}
 use Rattle.objects_paths.proofs.index.Index.follow.Given as goal

@@ -12,6 +12,6 @@ pub returns-in-Nothing : goal.returns-in-Nothing
 returns-in-Nothing c =
     let picks = c.requires.index.subjects c.args.signer.now in
     elim c.in-Nothing.is [
-      inl e ↦ record { path = none_first c.args.self.now.nodes.now c.args.signer.now (subst (λ (f : Found). Picks (IsEntry c.args.self.now.nodes.now false c.args.signer.now) f) (sym c.find.ensures ∙ e) picks); stamped = tt }
-    | inr e ↦ record { path = several_first c.args.self.now.nodes.now c.args.signer.now (subst (λ (f : Found). Picks (IsEntry c.args.self.now.nodes.now false c.args.signer.now) f) (sym c.find.ensures ∙ e) picks); stamped = tt }
+      | inl e ↦ record { path = none_first c.args.self.now.nodes.now c.args.signer.now (subst (λ (f : Found). Picks (IsEntry c.args.self.now.nodes.now false c.args.signer.now) f) (sym c.find.ensures ∙ e) picks); stamped = tt }
+      | inr e ↦ record { path = several_first c.args.self.now.nodes.now c.args.signer.now (subst (λ (f : Found). Picks (IsEntry c.args.self.now.nodes.now false c.args.signer.now) f) (sym c.find.ensures ∙ e) picks); stamped = tt }
     ]

@@ -1,7 +1,7 @@
-use Rattle.std.proofs.Common.{◌≡◌, ◌≢◌, ◌<◌, ℕ, Vec, Global, List, [], length, get_or, map, All, sym, ap, subst, ◌∙◌, arith}
+use Rattle.std.proofs.Common.{◌≡◌, ◌<◌, ℕ, Vec, Global, List, [], length, get_or, map, All, sym, ap, subst, ◌∙◌, arith}
 use Rattle.std.proofs.lemmas.List.{get_or-map, length-map}
 use Rattle.objects_paths.specs.Paths.{PathsValue}
-use Rattle.objects_paths.proofs.Gathering.{kept_at, kept_inside, kept_some}
+use Rattle.objects_paths.proofs.Gathering.{kept_inside, kept_some}
 use Rattle.objects_paths.proofs.places.Paths.path.Goals as goal
 
 inside_of : (c : goal.After-as_slice) → c.args.signer < length (map (λ (path : Vec ℕ Global). path.items) c.self.inside.paths.items)
@@ -25,4 +25,4 @@ pub returns-clause-inside : goal.returns-clause-inside
 returns-clause-inside c =
     let count = ap (λ (v : PathsValue). v.count) c.self.view_is in
     subst (λ (n : ℕ). All (λ (place : ℕ). place < n) c.as_slice.result.now) count
-      (kept_inside c.self.inside.stamps.items (map (λ (path : Vec ℕ Global). path.items) c.self.inside.paths.items) c.self.invariant c.args.signer (inside_of c) c.as_slice.result.now (path_is c))
+    (kept_inside c.self.inside.stamps.items (map (λ (path : Vec ℕ Global). path.items) c.self.inside.paths.items) c.self.invariant c.args.signer (inside_of c) c.as_slice.result.now (path_is c))
