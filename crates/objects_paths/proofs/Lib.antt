@@ -6,3 +6,7 @@ pub mod Picking
 pub mod Following
 pub mod Gathering
 pub mod Sets
+pub mod Apart
+pub mod Running
+pub mod Fresh
+pub mod Underway

@@ -11,6 +11,7 @@
 mod find;
 mod index;
 pub mod keys;
+mod lengths;
 pub mod node;
 pub mod places;
 mod table;
