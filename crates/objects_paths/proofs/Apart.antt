@@ -4,7 +4,7 @@ use Rattle.std.proofs.lemmas.Bool.{both_ways, eq-eqb, eqb-true, false_from_ne_tr
 use Rattle.std.proofs.lemmas.List.Elements.{All-head, All-tail}
 use Rattle.std.proofs.lemmas.List.Folds.{list_any-append}
 use Rattle.objects_paths.specs.Runs.{AreApart}
-use Rattle.objects_paths.specs.Stamps.{has}
+use Rattle.objects_paths.specs.Places.{has}
 use Rattle.objects_paths.proofs.Completing.{fresh, fresh_less}
 
 -- Nothing of the one is in the other.

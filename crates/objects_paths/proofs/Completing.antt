@@ -3,7 +3,7 @@ use Rattle.std.proofs.Common.{◌≡◌, ◌⊎◌, ℕ, zero, suc, ◌+◌, ◌
 use Rattle.std.proofs.lemmas.Bool.{cases_eq, eq-eqb}
 use Rattle.objects_paths.specs.Nodes.{Node, IsSelfSigned}
 use Rattle.objects_paths.specs.Paths.{Continues, Follows}
-use Rattle.objects_paths.specs.Stamps.{has}
+use Rattle.objects_paths.specs.Places.{has}
 use Rattle.objects_paths.proofs.Deciding.{next_told, self_told}
 use Rattle.objects_paths.proofs.Members.{at_inside, not_has}
 

@@ -4,7 +4,7 @@ use Rattle.std.proofs.lemmas.Bool.{both_ways, cases_eq}
 use Rattle.std.proofs.lemmas.Slice.Eq.{bytes_eq-Decides}
 use Rattle.objects_paths.specs.Nodes.{Node, IsBelow, IsSelfSigned}
 use Rattle.objects_paths.specs.Paths.{Continues}
-use Rattle.objects_paths.specs.Stamps.{has}
+use Rattle.objects_paths.specs.Places.{has}
 use Rattle.objects_paths.proofs.Members.{has_from, has_to, at_one}
 
 pub key_told : (a b : List ℕ) → (a ≡ b) ⊎ (a ≡ b → ⊥)

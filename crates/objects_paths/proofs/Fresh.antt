@@ -5,7 +5,7 @@ use Rattle.std.proofs.lemmas.List.{get_or-append_right, get_or_append_left, leng
 use Rattle.std.proofs.Math.Seq.{drop-cons}
 use Rattle.objects_paths.specs.Runs.{AreApart, AreFresh, AreInside, AreMeasured, AreUnderway, Ends, Forks, IsRun, Linked, RunFrom, known_at, length_at, on_at}
 use Rattle.objects_paths.specs.Following.{IsFollowed}
-use Rattle.objects_paths.specs.Stamps.{has}
+use Rattle.objects_paths.specs.Places.{has}
 use Rattle.objects_paths.specs.declared.lengths.Fresh.{Fresh}
 use Rattle.objects_paths.specs.declared.lengths.Length.{Length}
 use Rattle.objects_paths.specs.declared.table.Found.{Found}
@@ -108,7 +108,7 @@ module _ (steps : List Found) (old : List Length) (m : AreMeasured steps old) wh
               let run = each_c (k - length xs) (omega arith) in
               let same : suc (length cs) ≡ suc (length cs) + (length xs - k) = omega arith in
               subst (λ (p : ℕ). RunFrom steps p (suc (length cs) + (length xs - k))) (sym (get_or-append_right xs (c ∷ cs) (length xs) k 0 refl i))
-                (subst (λ (n : ℕ). RunFrom steps (get_or (c ∷ cs) (k - length xs) 0) n) same run)
+              (subst (λ (n : ℕ). RunFrom steps (get_or (c ∷ cs) (k - length xs) 0) n) same run)
 
       whole : (w : RunFrom steps first (suc (length cs) + length xs)) × ((p : ℕ) → has (first ∷ w.behind) p ≡ true → has (xs ++ c ∷ cs) p ≡ true) × ((p : ℕ) → has (xs ++ c ∷ cs) p ≡ true → has (first ∷ w.behind) p ≡ true)
       whole = go xs l a d

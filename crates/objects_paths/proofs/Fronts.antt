@@ -5,7 +5,7 @@ use Rattle.std.proofs.lemmas.List.{append_cancel_left}
 use Rattle.std.proofs.lemmas.List.Folds.{list_any-append}
 use Rattle.objects_paths.specs.Nodes.{Node, IsBelow, IsSelfSigned}
 use Rattle.objects_paths.specs.Paths.{At, Continues, Follows, HasNoOnlyPath, IsOnlyPath, IsPath}
-use Rattle.objects_paths.specs.Stamps.{has}
+use Rattle.objects_paths.specs.Places.{has}
 use Rattle.objects_paths.specs.Tables.{Goes, IsEntry, IsFirst, Picks}
 use Rattle.objects_paths.specs.declared.table.Found.TheVariants.{Nothing, One, Several}
 use Rattle.objects_paths.proofs.Completing.{goes_on}

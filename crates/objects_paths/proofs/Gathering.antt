@@ -1,18 +1,24 @@
 -- What is kept of paths, one after another.
-use Rattle.std.proofs.Common.{◌≡◌, ◌≢◌, ℕ, ◌+◌, ◌<◌, ◌||◌, Bool, true, false, not, cond, nat_eq, List, [], ◌∷◌, ◌++◌, length, get_or, take, drop, Option, Some, None, MatchOption, slice_get, All, Any, refl, sym, ap, subst, ◌∙◌, arith}
-use Rattle.std.proofs.lemmas.Bool.{both_ways, ne_eqb, eq-eqb}
-use Rattle.std.proofs.lemmas.List.Elements.{All-cons, All-from_get_or, All-nil, All-push}
+use Rattle.std.proofs.Common.{◌≡◌, ◌≢◌, ◌⊎◌, ℕ, zero, suc, ◌+◌, ◌-◌, ◌<◌, ◌≤◌, ◌||◌, Bool, true, false, List, [], ◌∷◌, ◌++◌, length, get_or, replicate, take, drop, Option, Some, None, MatchOption, slice_get, All, Any, refl, sym, ap, subst, ◌∙◌, arith}
+use Rattle.std.proofs.lemmas.Bool.{both_ways}
+use Rattle.std.proofs.lemmas.List.Elements.{All-cons, All-head, All-nil, All-push, All-tail}
 use Rattle.std.proofs.lemmas.List.Folds.{list_any-append, Any-from_list_any, list_any-from_Any}
 use Rattle.std.proofs.lemmas.Option.{slice_get-get_or}
 use Rattle.std.proofs.Math.Seq.{take-append_seam}
+use Rattle.objects_paths.specs.Kept.{Kept}
 use Rattle.objects_paths.specs.Nodes.{Node}
 use Rattle.objects_paths.specs.Paths.{Follows, IsOn, IsPath}
-use Rattle.objects_paths.specs.Stamps.{IsStamped, Kept, has, some_has}
+use Rattle.objects_paths.specs.Places.{has, some_has}
+use Rattle.objects_paths.specs.Runs.{AreMeasured, IsMeasured, Tells, known_at, length_at, on_at, onward, walk}
+use Rattle.objects_paths.specs.declared.lengths.Length.{Length}
+use Rattle.objects_paths.specs.declared.lengths.Length.TheVariants.{Unknown}
+use Rattle.objects_paths.specs.declared.table.Found.{Found}
 use Rattle.objects_paths.proofs.Members.{at_inside, has_from, has_to}
+use Rattle.objects_paths.proofs.Running.{linked_walk}
 
 -- A list that was lent as a whole, and handed back.
-pub handed_back : (n : ℕ) (new items : List ℕ) → n ≡ length items → length new ≡ length items → take n (new ++ drop (length new) items) ≡ new
-handed_back n new items e f =
+pub handed_back : {X : Type 0} (n : ℕ) (new items : List X) → n ≡ length items → length new ≡ length items → take n (new ++ drop (length new) items) ≡ new
+handed_back {X = X} n new items e f =
     ap (λ (m : ℕ). take m (new ++ drop (length new) items)) (e ∙ sym f) ∙ take-append_seam new (drop (length new) items)
 
 -- The places of a path are those of certificates, and it has one.
@@ -30,68 +36,95 @@ pub path_some : (nodes : List Node) (sid : List ℕ) (path : List ℕ) → IsPat
 path_some nodes sid [] h e = h
 path_some nodes sid (place ∷ places) h e = cc
 
-module _ (old new path : List ℕ) (stamp : ℕ) (is : IsStamped old new path stamp) where
-  pub fresh_next : All (λ seen. seen < stamp) old → All (λ seen. seen < stamp + 1) new
-  fresh_next fresh = All-from_get_or (λ (seen : ℕ). seen < stamp + 1) new 0 each
-    where
-      each : (i : ℕ) → i < length new → get_or new i 0 < stamp + 1
-      each i l = go (has path i) (is.each i)
-        where
-          go : (b : Bool) → get_or new i 0 ≡ cond b stamp (get_or old i 0) → get_or new i 0 < stamp + 1
-          go true e = omega (arith, e)
-          go false e =
-              let size = is.size in
-              let below : get_or old i 0 < stamp = fresh i 0 (omega arith) in
-              omega (arith, e)
+-- Nothing is known yet.
+unknown_at : (n place : ℕ) → get_or (replicate n Unknown) place Unknown ≡ Unknown
+unknown_at zero place = refl
+unknown_at (suc n) zero = refl
+unknown_at (suc n) (suc place) = unknown_at n place
 
-  pub kept_next : (paths : List (List ℕ)) → Kept old paths → stamp ≢ 0 → path ≢ [] → All (λ place. place < length old) path → Kept new (paths ++ path ∷ [])
-  kept_next paths kept counted some inside =
-      record {
-        some = All-push (λ (p : List ℕ). p ≢ []) paths path kept.some some;
-        inside = subst (λ (n : ℕ). All (λ (p : List ℕ). All (λ (place : ℕ). place < n) p) (paths ++ path ∷ [])) (sym is.size)
-            (All-push (λ (p : List ℕ). All (λ (place : ℕ). place < length old) p) paths path kept.inside inside);
-        on = on;
-      }
-    where
-      or_true : (b : Bool) → (b || (true || false)) ≡ true
-      or_true true = refl
-      or_true false = refl
+pub measured_none : (steps : List Found) (n : ℕ) (lengths : List Length) → length lengths ≡ length steps → lengths ≡ replicate n Unknown → AreMeasured steps lengths
+measured_none steps n lengths size e =
+    record {
+      size = size;
+      tells = λ p. subst (λ (x : Length). Tells steps p x) (sym (none p)) tt;
+      closed = λ p q k o. absurd (both_ways (known_at lengths p) (ap (λ (x : Length). known_of x) (none p)) k);
+    }
+  where
+    known_of : Length → Bool
+    known_of x = known_at (x ∷ []) 0
 
-      or_false : (b : Bool) → (b || (false || false)) ≡ b
-      or_false true = refl
-      or_false false = refl
+    none : (p : ℕ) → length_at lengths p ≡ Unknown
+    none p = ap (λ (ls : List Length). length_at ls p) e ∙ unknown_at n p
 
-      on : (x : ℕ) → some_has (paths ++ path ∷ []) x ≡ not (nat_eq (get_or new x 0) 0)
-      on x = list_any-append (λ (p : List ℕ). has p x) paths (path ∷ []) ∙ go (has path x) (is.each x)
-        where
-          go : (b : Bool) → get_or new x 0 ≡ cond b stamp (get_or old x 0) → (some_has paths x || (b || false)) ≡ not (nat_eq (get_or new x 0) 0)
-          go true e =
-              or_true (some_has paths x) ∙ (ap not (sym (ne_eqb stamp 0 counted)) ∙ ap (λ (n : ℕ). not (nat_eq n 0)) (sym e))
-          go false e =
-              or_false (some_has paths x) ∙ (kept.on x ∙ ap (λ (n : ℕ). not (nat_eq n 0)) (sym e))
+pub kept_none : (steps : List Found) (n : ℕ) (lengths : List Length) → length lengths ≡ length steps → lengths ≡ replicate n Unknown → Kept steps lengths []
+kept_none steps n lengths size e =
+    record {
+      size = size;
+      some = All-nil (λ (path : List ℕ). path ≢ []);
+      inside = All-nil (λ (path : List ℕ). All (λ (place : ℕ). place < length steps) path);
+      on = λ p. sym (ap (λ (ls : List Length). known_at ls p) e ∙ ap (λ (x : Length). known_at (x ∷ []) 0) (unknown_at n p));
+    }
 
--- A place is on a path exactly where it has a number.
-pub on_from : (stamps : List ℕ) (paths : List (List ℕ)) → Kept stamps paths → (x : ℕ) → (get_or stamps x 0 ≡ 0 → ⊥) → IsOn paths x
-on_from stamps paths kept x n =
-    let h : some_has paths x ≡ true = kept.on x ∙ ap not (ne_eqb (get_or stamps x 0) 0 n) in
-    let a : Any (λ (path : List ℕ). has path x ≡ true) paths = Any-from_list_any (λ (path : List ℕ). has path x) paths h in
+-- One path more.
+pub kept_next : (steps : List Found) (old new : List Length) (paths : List (List ℕ)) (first n : ℕ) → Kept steps old paths → (m : IsMeasured steps old new first n) → walk steps n first ≢ [] → All (λ place. place < length steps) (walk steps n first) → Kept steps new (paths ++ walk steps n first ∷ [])
+kept_next steps old new paths first n kept m some inside =
+    record {
+      size = m.measured.size;
+      some = All-push (λ (p : List ℕ). p ≢ []) paths path kept.some some;
+      inside = All-push (λ (p : List ℕ). All (λ (place : ℕ). place < length steps) p) paths path kept.inside inside;
+      on = on;
+    }
+  where
+    path : List ℕ
+    path = walk steps n first
+
+    whole : path ≡ first ∷ m.path.behind
+    whole = ap (λ (k : ℕ). walk steps k first) (sym m.path.long) ∙ linked_walk steps first m.path.behind m.path.run.end m.path.run.linked
+
+    or_false : (a b : Bool) → (a || (b || false)) ≡ (a || b)
+    or_false true b = refl
+    or_false false true = refl
+    or_false false false = refl
+
+    on : (x : ℕ) → some_has (paths ++ path ∷ []) x ≡ known_at new x
+    on x =
+        list_any-append (λ (p : List ℕ). has p x) paths (path ∷ [])
+        ∙ (or_false (some_has paths x) (has path x)
+        ∙ (ap (λ (a : Bool). a || has path x) (kept.on x)
+        ∙ (ap (λ (ps : List ℕ). known_at old x || has ps x) whole ∙ sym (m.on x))))
+
+-- A place is on a path exactly where its length is known.
+pub on_from : (steps : List Found) (lengths : List Length) (paths : List (List ℕ)) → Kept steps lengths paths → (x : ℕ) → known_at lengths x ≡ true → IsOn paths x
+on_from steps lengths paths kept x e =
+    let a : Any (λ (path : List ℕ). has path x ≡ true) paths = Any-from_list_any (λ (path : List ℕ). has path x) paths (kept.on x ∙ e) in
     (a.0, a.1, a.2, a.3, has_to a.1 x a.4)
 
-pub off_from : (stamps : List ℕ) (paths : List (List ℕ)) → Kept stamps paths → (x : ℕ) → get_or stamps x 0 ≡ 0 → IsOn paths x → ⊥
-off_from stamps paths kept x e a =
+pub off_from : (steps : List Found) (lengths : List Length) (paths : List (List ℕ)) → Kept steps lengths paths → (x : ℕ) → known_at lengths x ≡ false → IsOn paths x → ⊥
+off_from steps lengths paths kept x e a =
     let h : some_has paths x ≡ true = list_any-from_Any (λ (path : List ℕ). has path x) paths (a.0, a.1, a.2, a.3, has_from a.1 x a.4) in
-    both_ways (some_has paths x) (kept.on x ∙ ap not (eq-eqb (get_or stamps x 0) 0 e)) h
+    both_ways (some_has paths x) (kept.on x ∙ e) h
 
 -- One of the paths that are kept.
-module _ (stamps : List ℕ) (paths : List (List ℕ)) (kept : Kept stamps paths) (i : ℕ) (l : i < length paths) where
+module _ (steps : List Found) (lengths : List Length) (paths : List (List ℕ)) (kept : Kept steps lengths paths) (i : ℕ) (l : i < length paths) where
   pub kept_at : (path : List ℕ) → path ≡ get_or paths i [] → slice_get paths i ≡ Some path
   kept_at path e = slice_get-get_or paths i [] l ∙ ap (λ (p : List ℕ). let o : Option (List ℕ) = Some p in o) (sym e)
 
   pub kept_some : (path : List ℕ) → path ≡ get_or paths i [] → path ≢ []
   kept_some path e = subst (λ (p : List ℕ). p ≢ []) (sym e) (kept.some i [] l)
 
-  pub kept_inside : (path : List ℕ) → path ≡ get_or paths i [] → All (λ place. place < length stamps) path
-  kept_inside path e = subst (λ (p : List ℕ). All (λ (place : ℕ). place < length stamps) p) (sym e) (kept.inside i [] l)
+  pub kept_inside : (path : List ℕ) → path ≡ get_or paths i [] → All (λ place. place < length steps) path
+  kept_inside path e = subst (λ (p : List ℕ). All (λ (place : ℕ). place < length steps) p) (sym e) (kept.inside i [] l)
+
+-- The first place of a walk that isn't over, and those behind.
+pub walk_more : (steps : List Found) (n place : ℕ) → n ≢ 0 → walk steps n place ≡ place ∷ walk steps (n - 1) (onward (on_at steps place) place)
+walk_more steps zero place ne = absurd (ne refl)
+walk_more steps (suc n) place ne = let e : suc n - 1 ≡ n = omega arith in ap (λ (k : ℕ). place ∷ walk steps k (onward (on_at steps place) place)) (sym e)
+
+pub walk_head : (steps : List Found) (n place : ℕ) → n ≢ 0 → All (λ p. p < length steps) (walk steps n place) → place < length steps
+walk_head steps n place ne all = All-head (λ (p : ℕ). p < length steps) place (walk steps (n - 1) (onward (on_at steps place) place)) (subst (λ (ps : List ℕ). All (λ (p : ℕ). p < length steps) ps) (walk_more steps n place ne) all)
+
+pub walk_tail : (steps : List Found) (n place : ℕ) → n ≢ 0 → All (λ p. p < length steps) (walk steps n place) → All (λ p. p < length steps) (walk steps (n - 1) (onward (on_at steps place) place))
+walk_tail steps n place ne all = All-tail (λ (p : ℕ). p < length steps) place (walk steps (n - 1) (onward (on_at steps place) place)) (subst (λ (ps : List ℕ). All (λ (p : ℕ). p < length steps) ps) (walk_more steps n place ne) all)
 
 -- What is told of an option that is known.
 pub match_none : {X : Type 0} (o : Option X) (P : Type 0) (Q : X → Type 0) → o ≡ None → MatchOption o P Q → P

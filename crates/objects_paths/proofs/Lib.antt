@@ -10,3 +10,5 @@ pub mod Apart
 pub mod Running
 pub mod Fresh
 pub mod Underway
+pub mod Only
+pub mod Laws

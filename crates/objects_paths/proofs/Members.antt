@@ -7,7 +7,7 @@ use Rattle.std.proofs.lemmas.Map.Views.{list_any-from_Contains}
 use Rattle.std.proofs.lemmas.Option.{slice_get_within}
 use Rattle.std.proofs.Math.ListN.{get_or}
 use Rattle.objects_paths.specs.Paths.{At}
-use Rattle.objects_paths.specs.Stamps.{has}
+use Rattle.objects_paths.specs.Places.{has}
 
 -- The test tells members, both ways.
 pub has_from : (xs : List ℕ) (x : ℕ) → Contains xs x → has xs x ≡ true

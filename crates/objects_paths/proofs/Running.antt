@@ -4,7 +4,7 @@ use Rattle.std.proofs.lemmas.List.{take-append-drop}
 use Rattle.std.proofs.lemmas.List.Elements.{All-cons, All-nil}
 use Rattle.std.proofs.Math.Seq.{drop-cons}
 use Rattle.objects_paths.specs.Runs.{AreApart, AreInside, Ends, IsRun, Linked, RunFrom, on_at, onward, walk}
-use Rattle.objects_paths.specs.Stamps.{has}
+use Rattle.objects_paths.specs.Places.{has}
 use Rattle.objects_paths.specs.declared.table.Found.{Found}
 use Rattle.objects_paths.specs.declared.table.Found.TheVariants.{Nothing, One, Several}
 use Rattle.objects_paths.proofs.Apart.{AreDisjoint, apart_from, apart_parts, disjoint_swap, has_behind, has_cases, has_head, has_right}

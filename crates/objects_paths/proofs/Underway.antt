@@ -5,7 +5,7 @@ use Rattle.std.proofs.lemmas.List.{get_or-set_other, get_or-set_same, get_or_app
 use Rattle.std.proofs.lemmas.List.Sums.{sum_by-set}
 use Rattle.std.proofs.Math.Seq.{get_or-append_seam}
 use Rattle.objects_paths.specs.Runs.{AreFresh, AreMeasured, AreSet, AreUnderway, IsMeasured, RunFrom, Tells, is_known, known_at, length_at, on_at}
-use Rattle.objects_paths.specs.Stamps.{has}
+use Rattle.objects_paths.specs.Places.{has}
 use Rattle.objects_paths.specs.declared.lengths.Length.{Length}
 use Rattle.objects_paths.specs.declared.lengths.Length.TheVariants.{Unknown, Underway, Of}
 use Rattle.objects_paths.specs.declared.table.Found.{Found}

@@ -61,3 +61,20 @@ pub record PathsValue : Type 0 where
 pub record ArePaths (nodes : List Node) (sids : List (List ℕ)) (value : PathsValue) : Type 0 where
   pub all : value.count ≡ length nodes
   pub each : AllZip (IsOnlyPath nodes) sids value.paths
+
+-- At the first place stands a certificate that isn't self-signed, at the second an authority's that it is below.
+pub record IsStep (nodes : List Node) (below above : ℕ) : Type 0 where
+  pub c : Node
+  pub parent : Node
+  pub at : At nodes below c
+  pub at_parent : At nodes above parent
+  pub open_end : IsSelfSigned c → ⊥
+  pub issues : parent.issues ≡ true
+  pub is_below : IsBelow c parent
+
+-- So each place stands to the next.
+abbrev pub AreSteps : List Node → List ℕ → Type 0
+AreSteps nodes [] = Unit {0}
+AreSteps nodes (place ∷ []) = Unit {0}
+AreSteps nodes (place ∷ next ∷ places) =
+    IsStep nodes place next × AreSteps nodes (next ∷ places)

@@ -10,7 +10,6 @@ use Rattle.std.specs.Option.{unwrap_or}
 use Rattle.objects_paths.specs.Nodes.{Node, IsSelfSigned}
 use Rattle.objects_paths.specs.Keys.{IsOnceEach}
 use Rattle.objects_paths.specs.Paths.{At, Continues}
-use Rattle.objects_paths.specs.declared.index.Index.{Index}
 use Rattle.objects_paths.specs.declared.table.Found.{Found}
 use Rattle.objects_paths.specs.declared.table.Found.TheVariants.{Nothing, One, Several}
 use Rattle.objects_paths.specs.declared.table.Table.{Table}
@@ -54,11 +53,6 @@ Goes nodes c place = (IsSelfSigned c → ⊥) × Continues nodes [] c place
 abbrev pub above_in : Table → List ℕ → Option (List ℕ) → Found
 above_in table subject None = Nothing
 above_in table subject (Some key) = cond (bytes_eq key subject) Nothing (told table key)
-
--- Both tables are those of the certificates.
-pub record IsIndex (index : Index) : Type 0 where
-  pub subjects : IsTableOf index.nodes.now false index.subjects
-  pub issuers : IsTableOf index.nodes.now true index.issuers
 
 -- At that place stands the only certificate with that subject key identifier.
 abbrev pub IsFirst : List Node → List ℕ → ℕ → Type 0

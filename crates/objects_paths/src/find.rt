@@ -1,15 +1,27 @@
 //! The only path of each signer.
 
-ghost use Rattle.std.specs.Prelude.{Any, IfOk, MatchOption};
+ghost use Rattle.std.specs.Prelude.{◌≡◌, Any, IfOk, MatchOption, replicate};
 ghost use Rattle.objects_paths.specs.Nodes.{each_octets};
 ghost use Rattle.objects_paths.specs.Paths.{ArePaths, HasNoOnlyPath};
+ghost use Rattle.objects_paths.specs.declared.lengths.Length.TheVariants.{Unknown};
 
-use crate::index::Index;
+use crate::graph::steps_of;
+use crate::lengths::{Length, Start, length_of};
 use crate::node::NodeKeys;
 use crate::places::Paths;
+use crate::table::{Found, table_of};
 use std::alloc::{AllocError, Global};
 
-/// The only path of each signer, in their order; none where some signer has no path, or two.
+// As many lengths, none of which is known.
+fn unknown(alloc: Global, count: usize) -> Result<Vec<Length>, AllocError>
+    ensures { IfOk result (λ lengths. lengths.items ≡ replicate count Unknown) }
+{
+    let lengths = vec![in alloc; Length::Unknown; count]?;
+    Ok(lengths)
+}
+
+/// The only path of each signer, in their order; none where some signer has no path, or two. Each certificate is looked up
+/// once, and each place followed once, whichever paths it is on.
 pub fn paths(
     alloc: Global,
     nodes: &[NodeKeys<'_>],
@@ -19,14 +31,22 @@ pub fn paths(
         (Any (HasNoOnlyPath nodes.now) (each_octets signers.now))
         (ArePaths nodes.now (each_octets signers.now))) }
 {
-    let index = Index::of_nodes(alloc, nodes)?;
-    let mut stamps = vec![in alloc; 0; nodes.len()]?;
-    let mut paths = Vec::new(alloc);
-    for (place, signer) in signers.iter().enumerate() {
-        let Some(path) = index.path_of(alloc, signer, &mut stamps, place + 1)? else {
+    let subjects = table_of(alloc, nodes, false)?;
+    let steps = steps_of(alloc, nodes)?;
+    let mut lengths = unknown(alloc, nodes.len())?;
+    let mut starts = Vec::new(alloc);
+    for signer in signers {
+        let Found::One(first) = subjects.find(signer) else {
             return Ok(None);
         };
-        paths.push(path)?;
+        let Some(count) = length_of(alloc, &steps, &mut lengths, first)? else {
+            return Ok(None);
+        };
+        starts.push(Start { first, count })?;
     }
-    Ok(Some(Paths { stamps, paths }))
+    Ok(Some(Paths {
+        steps,
+        lengths,
+        starts,
+    }))
 }

@@ -1,7 +1,7 @@
 //! How many places the paths have.
 
 ghost use Rattle.std.specs.Prelude.{◌≡◌, ◌+◌, ◌<◌, ◌^◌, All, IfOk, IfSome, MatchOption, length};
-ghost use Rattle.objects_paths.specs.Runs.{AreFresh, AreInside, AreMeasured, AreSet, Forks, IsMeasured};
+ghost use Rattle.objects_paths.specs.Runs.{AreInside, AreMeasured, AreSet, Forks, IsMeasured, is_known};
 ghost use Rattle.objects_paths.specs.Following.{IsFollowed};
 
 use crate::table::Found;
@@ -14,6 +14,26 @@ pub(crate) enum Length {
     Unknown,
     Underway(usize),
     Of(usize),
+}
+
+impl Length {
+    /// Whether something is known of it.
+    pub(crate) fn is_known(&self) -> bool
+        ensures { result ≡ is_known self.now }
+    {
+        match self {
+            Length::Unknown => false,
+            Length::Underway(_) => true,
+            Length::Of(_) => true,
+        }
+    }
+}
+
+/// A path: its first place, and how many it has.
+#[derive(Clone, Copy, Debug)]
+pub(crate) struct Start {
+    pub(crate) first: usize,
+    pub(crate) count: usize,
 }
 
 // Places that are followed for the first time, in their order. The path from each has so many places as stand behind those

@@ -9,8 +9,9 @@
 #![tactic(auto)]
 
 mod find;
-mod index;
+mod graph;
 pub mod keys;
+pub mod laws;
 mod lengths;
 pub mod node;
 pub mod places;

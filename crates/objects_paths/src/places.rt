@@ -4,40 +4,51 @@ ghost use Rattle.std.specs.Prelude.{◌≡◌, ◌≢◌, ◌↔◌, ◌<◌, []
 ghost use Rattle.std.specs.Iterator.{YieldsFirst, item_count};
 ghost use Rattle.objects_paths.specs.Paths.{AreAllOn, IsFirstOff};
 
+use crate::lengths::{Length, Start};
+use crate::table::Found;
 use std::marker::Model;
 
 /// Of each signer, in their order, its path: the places of the certificates on it, the signer's own first. Contracts see of how
 /// many certificates they are, and the paths as lists of places.
+///
+/// However many signers there are and however long their paths, this has two words for each certificate, and two for each
+/// signer.
 #[derive(Drop)]
 pub struct Paths {
-    pub(crate) stamps: Vec<usize>,
-    pub(crate) paths: Vec<Vec<usize>>,
+    pub(crate) steps: Vec<Found>,
+    pub(crate) lengths: Vec<Length>,
+    pub(crate) starts: Vec<Start>,
 }
 
 impl Model for Paths {
-    ghost use Rattle.std.specs.Prelude.{length, map};
+    ghost use Rattle.std.specs.Prelude.{length};
+    ghost use Rattle.objects_paths.specs.Kept.{Kept, paths_of};
     ghost use Rattle.objects_paths.specs.Paths.{PathsValue};
-    ghost use Rattle.objects_paths.specs.Stamps.{Kept};
 
     ghost Value = { PathsValue };
 
-    ghost view = { λ p. record { count = length p.stamps.items; paths = map (λ path. path.items) p.paths.items } };
+    ghost view = { λ p. record { count = length p.steps.items; paths = paths_of p.steps.items p.starts.items } };
 
-    ghost invariant = { λ p. Kept p.stamps.items (map (λ path. path.items) p.paths.items) };
+    ghost invariant = { λ p. Kept p.steps.items p.lengths.items (paths_of p.steps.items p.starts.items) };
 }
 
 /// The places of a path, one by one, from the signer's own certificate up. Contracts see those that are left.
 #[derive(Drop)]
 pub struct PathPlaces<'a> {
-    rest: &'a [usize],
+    steps: &'a [Found],
+    place: usize,
+    left: usize,
 }
 
 impl<'a> Model for PathPlaces<'a> {
-    ghost use Rattle.std.specs.Prelude.{List, ℕ};
+    ghost use Rattle.std.specs.Prelude.{◌<◌, ℕ, List, All, length};
+    ghost use Rattle.objects_paths.specs.Runs.{walk};
 
     ghost Value = { List ℕ };
 
-    ghost view = { λ p. p.rest.now };
+    ghost view = { λ p. walk p.steps.now p.left p.place };
+
+    ghost invariant = { λ p. All (λ place. place < length p.steps.now) (walk p.steps.now p.left p.place) };
 }
 
 impl<'a> Iterator for PathPlaces<'a> {
@@ -48,9 +59,13 @@ impl<'a> Iterator for PathPlaces<'a> {
     ghost remaining = { item_count (λ s. s) };
 
     fn next(&mut self) -> Option<usize> {
-        let (first, rest) = self.rest.split_first()?;
-        self.rest = rest;
-        Some(*first)
+        if self.left == 0 {
+            return None;
+        }
+        let place = self.place;
+        self.place = self.steps[place].onward(place);
+        self.left -= 1;
+        Some(place)
     }
 }
 
@@ -59,21 +74,21 @@ impl Paths {
     pub fn count(&self) -> usize
         ensures { result ≡ self.now.count }
     {
-        self.stamps.len()
+        self.steps.len()
     }
 
     /// How many signers there are, each of which has its path.
     pub fn len(&self) -> usize
         ensures { result ≡ length self.now.paths }
     {
-        self.paths.len()
+        self.starts.len()
     }
 
     /// Whether there is no signer.
     pub fn is_empty(&self) -> bool
         ensures { IsTrue result ↔ (self.now.paths ≡ []) }
     {
-        self.paths.is_empty()
+        self.starts.is_empty()
     }
 
     /// The path of the signer at that place among the signers. It has one place at least, and each is that of a certificate.
@@ -83,8 +98,11 @@ impl Paths {
         ensures some { result ≢ [] }
         ensures inside { All (λ place. place < self.now.count) result }
     {
+        let start = &self.starts[signer];
         PathPlaces {
-            rest: self.paths[signer].as_slice(),
+            steps: self.steps.as_slice(),
+            place: start.first,
+            left: start.count,
         }
     }
 
@@ -93,8 +111,8 @@ impl Paths {
         ensures { MatchOption result (AreAllOn self.now.paths self.now.count)
             (IsFirstOff self.now.paths self.now.count) }
     {
-        for (place, stamp) in self.stamps.iter().enumerate() {
-            if *stamp == 0 {
+        for (place, length) in self.lengths.iter().enumerate() {
+            if !length.is_known() {
                 return Some(place);
             }
         }

@@ -1,6 +1,7 @@
 //! Tables of certificates by key identifiers.
 
 ghost use Rattle.std.specs.Prelude.{◌≡◌, IfOk, OnOk};
+ghost use Rattle.objects_paths.specs.Runs.{onward};
 ghost use Rattle.objects_paths.specs.Tables.{Adds, IsTableOf, one_more, told};
 
 use crate::node::NodeKeys;
@@ -16,6 +17,17 @@ pub(crate) enum Found {
 }
 
 impl Found {
+    /// The place after that one, or itself.
+    pub(crate) fn onward(self, place: usize) -> usize
+        ensures { result ≡ onward self place }
+    {
+        match self {
+            Found::Nothing => place,
+            Found::One(next) => next,
+            Found::Several => place,
+        }
+    }
+
     // With one more place.
     fn with(self, place: usize) -> Found
         ensures { result ≡ one_more self place }

@@ -2,7 +2,7 @@ use Rattle.std.proofs.Common.{◌≡◌, ◌<◌, ◌≤◌, ◌+◌, ◌-◌, �
 use Rattle.std.proofs.lemmas.List.{length-set}
 use Rattle.std.proofs.lemmas.List.Elements.{All-nil, All-push}
 use Rattle.objects_paths.specs.Runs.{AreApart, AreFresh, AreUnderway, known_at, length_at, on_at}
-use Rattle.objects_paths.specs.Stamps.{has}
+use Rattle.objects_paths.specs.Places.{has}
 use Rattle.objects_paths.specs.declared.lengths.Length.{Length}
 use Rattle.objects_paths.specs.declared.lengths.Length.TheVariants.{Unknown, Underway, Of}
 use Rattle.objects_paths.specs.declared.table.Found.TheVariants.{Nothing, One, Several}

@@ -19,7 +19,7 @@ loop-k-preserved c =
     let all : place < length c.args.lengths.now = c.requires.inside k 0 inside in
     let long = length-take-le k places (omega arith) in
     let n : c.args.fresh.now.behind + c.saturating_sub.result ≡ c.args.fresh.now.behind + (c.args.fresh.now.before - length (take k places)) =
-        ap (λ (x : ℕ). c.args.fresh.now.behind + x) (c.saturating_sub.ensures ∙ ap (λ (x : ℕ). c.args.fresh.now.before - x) (sym long)) in
+    ap (λ (x : ℕ). c.args.fresh.now.behind + x) (c.saturating_sub.ensures ∙ ap (λ (x : ℕ). c.args.fresh.now.before - x) (sym long)) in
     let next = set_more c.args.lengths.now c.loop-k.lengths (take k places) c.args.fresh.now.before c.args.fresh.now.behind place (c.args.fresh.now.behind + c.saturating_sub.result) n c.loop-k.invariant (omega arith) in
     let at : get_or c.deref-place-items.result.now k 0 ≡ place = ap (λ (ps : List ℕ). get_or ps k 0) same in
     let moved = subst (λ (x : ℕ). AreSet c.args.lengths.now (set c.loop-k.lengths x (Of (c.args.fresh.now.behind + c.saturating_sub.result))) (take k places ++ place ∷ []) c.args.fresh.now.before c.args.fresh.now.behind) (sym at) next in
