@@ -11,4 +11,4 @@ pub mod Running
 pub mod Fresh
 pub mod Underway
 pub mod Only
-pub mod Laws
+pub mod Neighbours

@@ -88,26 +88,39 @@ Tells steps place (Of n) = RunFrom steps place n
 pub record AreMeasured (steps : List Found) (lengths : List Length) : Type 0 where
   pub size : length lengths ≡ length steps
   pub tells : (place : ℕ) → Tells steps place (length_at lengths place)
-  pub closed : (p q : ℕ) → known_at lengths p ≡ true → on_at steps p ≡ One q → known_at lengths q ≡ true
+  pub closed :
+      (p q : ℕ) → known_at lengths p ≡ true → on_at steps p ≡ One q → known_at lengths q ≡ true
 
 -- Places that were followed for the first time: the length of the path from each, and of the whole path from the first.
-pub record AreFresh (steps : List Found) (lengths : List Length) (first : ℕ) (places : List ℕ) (before behind : ℕ) : Type 0 where
-  pub each : (k : ℕ) → k < length places → RunFrom steps (get_or places k 0) (behind + (before - k))
+pub record AreFresh (steps : List Found) (lengths : List Length) (first : ℕ) (places : List ℕ)
+    (before behind : ℕ) : Type 0 where
+  pub each :
+      (k : ℕ) → k < length places → RunFrom steps (get_or places k 0) (behind + (before - k))
   pub whole : RunFrom steps first (behind + before)
-  pub on : (p : ℕ) → has (first ∷ whole.behind) p ≡ true → (known_at lengths p || has places p) ≡ true
+  pub on :
+      (p : ℕ) → has (first ∷ whole.behind) p ≡ true
+      → (known_at lengths p || has places p) ≡ true
   pub off : (p : ℕ) → has places p ≡ true → has (first ∷ whole.behind) p ≡ true
-  pub closed : (p q : ℕ) → (known_at lengths p || has places p) ≡ true → on_at steps p ≡ One q → (known_at lengths q || has places q) ≡ true
+  pub closed :
+      (p q : ℕ) → (known_at lengths p || has places p) ≡ true → on_at steps p ≡ One q
+      → (known_at lengths q || has places q) ≡ true
 
 -- While places are followed, each has its number; the others have what they had.
 pub record AreUnderway (old new : List Length) (places : List ℕ) : Type 0 where
   pub size : length new ≡ length old
-  pub marked : (p : ℕ) → has places p ≡ true → (k : ℕ) × (k < length places) × (get_or places k 0 ≡ p) × (length_at new p ≡ Underway k)
+  pub marked :
+      (p : ℕ) → has places p ≡ true
+      → (k : ℕ) × (k < length places) × (get_or places k 0 ≡ p)
+      × (length_at new p ≡ Underway k)
   pub others : (p : ℕ) → has places p ≡ false → length_at new p ≡ length_at old p
 
 -- The places have their lengths; the others have what they had.
 pub record AreSet (old new : List Length) (places : List ℕ) (before behind : ℕ) : Type 0 where
   pub size : length new ≡ length old
-  pub each : (p : ℕ) → has places p ≡ true → (k : ℕ) × (k < length places) × (get_or places k 0 ≡ p) × (length_at new p ≡ Of (behind + (before - k)))
+  pub each :
+      (p : ℕ) → has places p ≡ true
+      → (k : ℕ) × (k < length places) × (get_or places k 0 ≡ p)
+      × (length_at new p ≡ Of (behind + (before - k)))
   pub others : (p : ℕ) → has places p ≡ false → length_at new p ≡ length_at old p
 
 -- The path from that place has so many places, and its places are told, too.

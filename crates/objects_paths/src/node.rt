@@ -19,7 +19,11 @@ impl<'a> Model for NodeKeys<'a> {
 
     ghost Value = { Node };
 
-    ghost view = { λ n. record { subject = n.subject.now; authority = lent_octets n.authority; issues = n.issues } };
+    ghost view = { λ n. record {
+      subject = n.subject.now;
+      authority = lent_octets n.authority;
+      issues = n.issues;
+    } };
 }
 
 impl<'a> NodeKeys<'a> {

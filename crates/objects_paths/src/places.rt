@@ -11,8 +11,8 @@ use std::marker::Model;
 /// Of each signer, in their order, its path: the places of the certificates on it, the signer's own first. Contracts see of how
 /// many certificates they are, and the paths as lists of places.
 ///
-/// However many signers there are and however long their paths, this has two words for each certificate, and two for each
-/// signer.
+/// However long the paths are, this has four words for each certificate, and two for each signer: what follows each place, how
+/// many places the path from each has, and of each signer its first place and that number.
 #[derive(Drop)]
 pub struct Paths {
     pub(crate) steps: Vec<Found>,
@@ -27,9 +27,13 @@ impl Model for Paths {
 
     ghost Value = { PathsValue };
 
-    ghost view = { λ p. record { count = length p.steps.items; paths = paths_of p.steps.items p.starts.items } };
+    ghost view = { λ p. record {
+      count = length p.steps.items;
+      paths = paths_of p.steps.items p.starts.items;
+    } };
 
-    ghost invariant = { λ p. Kept p.steps.items p.lengths.items (paths_of p.steps.items p.starts.items) };
+    ghost invariant = { λ p.
+        Kept p.steps.items p.lengths.items (paths_of p.steps.items p.starts.items) };
 }
 
 /// The places of a path, one by one, from the signer's own certificate up. Contracts see those that are left.
@@ -48,7 +52,8 @@ impl<'a> Model for PathPlaces<'a> {
 
     ghost view = { λ p. walk p.steps.now p.left p.place };
 
-    ghost invariant = { λ p. All (λ place. place < length p.steps.now) (walk p.steps.now p.left p.place) };
+    ghost invariant = { λ p.
+        All (λ place. place < length p.steps.now) (walk p.steps.now p.left p.place) };
 }
 
 impl<'a> Iterator for PathPlaces<'a> {

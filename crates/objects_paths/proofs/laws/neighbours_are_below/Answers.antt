@@ -1,4 +1,4 @@
-use Rattle.objects_paths.proofs.Laws.{path_steps}
+use Rattle.objects_paths.proofs.Neighbours.{path_steps}
 use Rattle.objects_paths.proofs.laws.neighbours_are_below.Goals as goal
 
 pub returns : goal.returns

@@ -1,4 +1,4 @@
-use Rattle.objects_paths.proofs.Laws.{path_from}
+use Rattle.objects_paths.proofs.Neighbours.{path_from}
 use Rattle.objects_paths.proofs.laws.some_path.Goals as goal
 
 pub returns : goal.returns

@@ -1,4 +1,4 @@
--- Laws of paths.
+-- Neighbours on paths, and that there are paths.
 use Rattle.std.proofs.Common.{◌≡◌, ℕ, List, [], ◌∷◌}
 use Rattle.objects_paths.specs.Nodes.{Node}
 use Rattle.objects_paths.specs.Paths.{AreSteps, At, Follows, IsPath}
