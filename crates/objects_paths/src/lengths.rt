@@ -36,8 +36,8 @@ pub(crate) struct Start {
     pub(crate) count: usize,
 }
 
-// Places that are followed for the first time, in their order. The path from each has so many places as stand behind those
-// at the front, and one more for each of these that comes after.
+// Places that are followed for the first time, in their order. The path from the one numbered k, from 0 on, has `behind` places
+// and `before - k` more; from `before` on, which is where a circle begins, no more.
 #[derive(Drop)]
 struct Fresh {
     places: Vec<usize>,
