@@ -1,20 +1,12 @@
 -- What following a path keeps.
-use Rattle.std.proofs.Common.{◌≡◌, ◌⊎◌, ℕ, ◌<◌, ◌||◌, Bool, true, false, cond, nat_eq, List, [], ◌∷◌, ◌++◌, length, get_or, set, All, sum_by, inl, inr, refl, sym, ap, subst, ◌∙◌, arith}
-use Rattle.std.proofs.lemmas.Bool.{cases_eq, eq-eqb, ne_eqb}
-use Rattle.std.proofs.lemmas.List.{get_or-set_same, get_or-set_other, length-set}
-use Rattle.std.proofs.lemmas.List.Folds.{list_any-append}
-use Rattle.std.proofs.lemmas.List.Sums.{sum_by-set}
-use Rattle.std.proofs.lemmas.Option.{get_or_from_slice_get}
+use Rattle.std.proofs.Common.{◌≡◌, ℕ, ◌<◌, true, false, List, [], ◌∷◌, ◌++◌, length, sym, subst}
 use Rattle.objects_paths.specs.Nodes.{Node}
 use Rattle.objects_paths.specs.Paths.{At, HasNoOnlyPath, IsOnlyPath}
 use Rattle.objects_paths.specs.Places.{has}
-use Rattle.objects_paths.specs.Tables.{Goes, IsFirst, IsTableOf, Picks, above_in}
-use Rattle.objects_paths.specs.declared.table.Found.{Found}
+use Rattle.objects_paths.specs.Tables.{Goes, IsFirst, Picks}
 use Rattle.objects_paths.specs.declared.table.Found.TheVariants.{Nothing, One, Several}
-use Rattle.objects_paths.specs.declared.table.Table.{Table}
 use Rattle.objects_paths.proofs.Fronts.{Front, front_closed, front_end, front_first, front_forks, front_next}
 use Rattle.objects_paths.proofs.Members.{at_inside}
-use Rattle.objects_paths.proofs.Picking.{above_picks}
 
 -- With that place the places are a front of the signer's paths.
 pub record Stands (nodes : List Node) (sid : List ℕ) (path : List ℕ) (place : ℕ) : Type 0 where

@@ -1,16 +1,16 @@
 -- Places that were followed for the first time, by where that ends.
-use Rattle.std.proofs.Common.{◌≡◌, ◌⊎◌, ℕ, zero, suc, ◌+◌, ◌-◌, ◌<◌, ◌≤◌, ◌||◌, Bool, true, false, List, [], ◌∷◌, ◌++◌, length, get_or, take, drop, All, length-append, inl, inr, refl, sym, ap, subst, ◌∙◌, arith}
+use Rattle.std.proofs.Common.{◌≡◌, ◌⊎◌, ℕ, zero, suc, ◌+◌, ◌-◌, ◌<◌, ◌≤◌, ◌||◌, true, false, List, [], ◌∷◌, ◌++◌, length, get_or, take, drop, All, length-append, inl, inr, refl, sym, ap, subst, ◌∙◌, arith}
 use Rattle.std.proofs.lemmas.Bool.{both_ways, cases_lt, false_from_ne_true, or_cases, or_left, or_right}
 use Rattle.std.proofs.lemmas.List.{get_or-append_right, get_or_append_left, length-take-le, take-append-drop}
 use Rattle.std.proofs.Math.Seq.{drop-cons}
-use Rattle.objects_paths.specs.Runs.{AreApart, AreFresh, AreInside, AreMeasured, AreUnderway, Ends, Forks, IsRun, Linked, RunFrom, known_at, length_at, on_at}
+use Rattle.objects_paths.specs.Runs.{AreApart, AreFresh, AreInside, AreMeasured, AreUnderway, Ends, Forks, IsRun, Linked, RunFrom, known_at, on_at}
 use Rattle.objects_paths.specs.Following.{IsFollowed}
 use Rattle.objects_paths.specs.Places.{has}
 use Rattle.objects_paths.specs.declared.lengths.Fresh.{Fresh}
 use Rattle.objects_paths.specs.declared.lengths.Length.{Length}
 use Rattle.objects_paths.specs.declared.table.Found.{Found}
 use Rattle.objects_paths.specs.declared.table.Found.TheVariants.{Nothing, One, Several}
-use Rattle.objects_paths.proofs.Apart.{AreDisjoint, apart_few, apart_parts, has_append, has_cases, has_either, has_head, has_left, has_right}
+use Rattle.objects_paths.proofs.Apart.{AreDisjoint, apart_few, apart_parts, has_either, has_head, has_left, has_right}
 use Rattle.objects_paths.proofs.Running.{circle, circle_each, linked_all, linked_inside, linked_join, linked_on, linked_split, run_each, run_prepend}
 
 -- The places lead from the first to that one.

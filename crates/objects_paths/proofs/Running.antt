@@ -1,9 +1,9 @@
 -- Runs: put before each other, turned round, and walked.
-use Rattle.std.proofs.Common.{◌≡◌, ◌⊎◌, ℕ, zero, suc, ◌+◌, ◌-◌, ◌<◌, ◌≤◌, Bool, true, false, List, [], ◌∷◌, ◌++◌, length, get_or, take, drop, All, length-append, inl, inr, refl, sym, ap, subst, ◌∙◌, arith}
+use Rattle.std.proofs.Common.{◌≡◌, ◌⊎◌, ℕ, zero, suc, ◌+◌, ◌-◌, ◌<◌, true, List, [], ◌∷◌, ◌++◌, length, get_or, take, drop, All, length-append, inl, inr, refl, sym, ap, subst, ◌∙◌, arith}
 use Rattle.std.proofs.lemmas.List.{take-append-drop}
 use Rattle.std.proofs.lemmas.List.Elements.{All-cons, All-nil}
 use Rattle.std.proofs.Math.Seq.{drop-cons}
-use Rattle.objects_paths.specs.Runs.{AreApart, AreInside, Ends, IsRun, Linked, RunFrom, on_at, onward, walk}
+use Rattle.objects_paths.specs.Runs.{AreApart, Ends, IsRun, Linked, RunFrom, on_at, onward, walk}
 use Rattle.objects_paths.specs.Places.{has}
 use Rattle.objects_paths.specs.declared.table.Found.{Found}
 use Rattle.objects_paths.specs.declared.table.Found.TheVariants.{Nothing, One, Several}

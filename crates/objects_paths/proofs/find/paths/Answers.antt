@@ -1,16 +1,15 @@
-use Rattle.std.proofs.Common.{◌≡◌, ◌≢◌, ◌<◌, ◌+◌, ℕ, false, List, [], ◌∷◌, ◌++◌, length, get_or, take, drop, map, All, MatchOption, sym, ap, subst, ◌∙◌, arith}
+use Rattle.std.proofs.Common.{◌≡◌, ◌<◌, ◌+◌, ℕ, false, List, [], ◌∷◌, ◌++◌, length, get_or, take, drop, All, sym, ap, subst, ◌∙◌, arith}
 use Rattle.std.specs.List.{AllZip}
 use Rattle.std.proofs.lemmas.List.{get_or_default, map-append}
 use Rattle.std.proofs.lemmas.List.Elements.{AllZip-push}
 use Rattle.objects_paths.specs.Kept.{Kept, paths_of}
 use Rattle.objects_paths.specs.Nodes.{Node, each_octets}
 use Rattle.objects_paths.specs.Paths.{HasNoOnlyPath, IsOnlyPath}
-use Rattle.objects_paths.specs.Runs.{AreInside, AreMeasured, Forks, IsGraph, IsMeasured, walk}
+use Rattle.objects_paths.specs.Runs.{AreInside, AreMeasured, Forks, IsMeasured, walk}
 use Rattle.objects_paths.specs.Tables.{IsEntry, IsFirst, Picks}
 use Rattle.objects_paths.specs.declared.lengths.Length.{Length}
 use Rattle.objects_paths.specs.declared.lengths.Start.{Start}
 use Rattle.objects_paths.specs.declared.table.Found.{Found}
-use Rattle.objects_paths.specs.declared.table.Found.TheVariants.{One}
 use Rattle.objects_paths.proofs.Gathering.{handed_back, kept_next, match_none, match_some, path_inside, path_some}
 use Rattle.objects_paths.proofs.Only.{first_inside, graph_inside, none_first_of, none_run, only_run}
 use Rattle.objects_paths.proofs.Sets.{each_at, each_length, each_more, lent_none}

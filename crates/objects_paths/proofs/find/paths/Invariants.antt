@@ -1,4 +1,4 @@
-use Rattle.std.proofs.Common.{◌≡◌, length, take}
+use Rattle.std.proofs.Common.{take}
 use Rattle.std.specs.List.{AllZip}
 use Rattle.objects_paths.specs.Kept.{Kept, paths_of}
 use Rattle.objects_paths.specs.Nodes.{each_octets}

@@ -1,14 +1,12 @@
-use Rattle.std.proofs.Common.{◌≡◌, ◌<◌, ◌≤◌, ◌+◌, ◌-◌, ◌⊎◌, ℕ, Bool, true, false, List, [], ◌∷◌, ◌++◌, length, set, All, length-append, inl, inr, refl, sym, ap, subst, ◌∙◌, arith}
-use Rattle.std.proofs.lemmas.List.{length-set}
-use Rattle.std.proofs.lemmas.List.Elements.{All-nil, All-push}
+use Rattle.std.proofs.Common.{◌≡◌, ◌<◌, ◌+◌, ◌-◌, ◌⊎◌, ℕ, true, false, List, [], ◌∷◌, ◌++◌, length, set, All, length-append, inl, inr, refl, sym, ap, subst, ◌∙◌, arith}
+use Rattle.std.proofs.lemmas.List.Elements.{All-push}
 use Rattle.objects_paths.specs.Runs.{AreApart, AreFresh, AreUnderway, known_at, length_at, on_at}
 use Rattle.objects_paths.specs.Places.{has}
-use Rattle.objects_paths.specs.declared.lengths.Length.{Length}
 use Rattle.objects_paths.specs.declared.lengths.Length.TheVariants.{Unknown, Underway, Of}
-use Rattle.objects_paths.specs.declared.table.Found.TheVariants.{Nothing, One, Several}
+use Rattle.objects_paths.specs.declared.table.Found.TheVariants.{Nothing, One}
 use Rattle.objects_paths.proofs.Apart.{apart_push, has_cases, has_either}
 use Rattle.objects_paths.proofs.Fresh.{Leads, followed, fresh_circle, fresh_joins, fresh_stops, leads_forks, leads_next}
-use Rattle.objects_paths.proofs.Underway.{fewer_unknown, of_known, of_run, underway_at, underway_next, underway_none, unknown_new, unknown_old}
+use Rattle.objects_paths.proofs.Underway.{of_known, of_run, underway_at, underway_next, unknown_new, unknown_old}
 use Rattle.objects_paths.proofs.lengths.follow.Goals.{In_ok-push}
 use Rattle.objects_paths.proofs.lengths.follow.Goals as goal
 

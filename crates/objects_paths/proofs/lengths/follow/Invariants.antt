@@ -1,4 +1,4 @@
-use Rattle.std.proofs.Common.{◌≡◌, ◌<◌, ℕ, Bool, true, false, cond, All, length, sum_by}
+use Rattle.std.proofs.Common.{◌≡◌, ◌<◌, ℕ, true, false, cond, All, length, sum_by}
 use Rattle.objects_paths.specs.Runs.{AreApart, AreUnderway, is_known, known_at}
 use Rattle.objects_paths.specs.Places.{has}
 use Rattle.objects_paths.proofs.Fresh.{Leads}

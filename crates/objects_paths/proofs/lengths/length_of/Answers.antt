@@ -1,4 +1,3 @@
-use Rattle.std.proofs.Common.{MatchOption}
 use Rattle.objects_paths.specs.Following.{IsFollowed}
 use Rattle.objects_paths.specs.Runs.{Forks}
 use Rattle.objects_paths.proofs.Gathering.{match_some}
