@@ -1,6 +1,6 @@
 //! How many places the paths have.
 
-ghost use Rattle.std.specs.Prelude.{◌≡◌, ◌+◌, ◌<◌, ◌^◌, All, IfOk, IfSome, MatchOption, length};
+ghost use Rattle.std.specs.Prelude.{◌≡◌, ◌+◌, ◌<◌, ◌^◌, All, IfOk, MatchOption, length};
 ghost use Rattle.objects_paths.specs.Runs.{AreInside, AreMeasured, AreSet, Forks, IsMeasured, is_known};
 ghost use Rattle.objects_paths.specs.Following.{IsFollowed};
 
