@@ -1,0 +1,14 @@
+pub mod Members
+pub mod Deciding
+pub mod Completing
+pub mod Fronts
+pub mod Picking
+pub mod Following
+pub mod Gathering
+pub mod Sets
+pub mod Apart
+pub mod Running
+pub mod Fresh
+pub mod Underway
+pub mod Only
+pub mod Neighbours
