@@ -15,11 +15,10 @@ use Rattle.objects_paths.specs.Keys.{AreSame}
 use Rattle.objects_rta.specs.AttestationParts.{RtaValue}
 use Rattle.objects_rta_valid.specs.declared.errors.RtaError.{RtaError}
 use Rattle.objects_rta_valid.specs.declared.errors.RtaError.TheVariants.{Test, Memory}
-use Rattle.objects_rta_valid.specs.declared.errors.RtaTest.{RtaTest}
 use Rattle.objects_rta_valid.specs.declared.errors.RtaTest.TheVariants as test
 use Rattle.objects_rta_valid.specs.Apart.{AreOnly}
 use Rattle.objects_rta_valid.specs.Certs.{node_of}
-use Rattle.objects_rta_valid.specs.Validity.{AreItsPaths, FailsFirst, IsValid, Passes, nodes, path_tests, rta_tests, sids}
+use Rattle.objects_rta_valid.specs.Validity.{AreItsPaths, FailsFirst, IsValid, Passes, nodes, path_tests, sids}
 use Rattle.objects_rta_valid.specs.Answered.{HasWalked, IsWalk, Validates, WalksTo}
 use Rattle.objects_rta_valid.proofs.Judging.{sids_same}
 use Rattle.objects_rta_valid.proofs.Walks.{only_these}

@@ -5,8 +5,7 @@ use Rattle.std.specs.List.{slice_get}
 use Rattle.std.proofs.lemmas.Bool.Decides.{eqb_tells}
 use Rattle.std.proofs.lemmas.Option.{same_Some}
 use Rattle.objects_paths.specs.Nodes.{Node, IsBelow, IsSelfSigned}
-use Rattle.objects_paths.specs.Paths.{At, Continues}
-use Rattle.certs_verify.specs.certs_basics.Lists.{Mem}
+use Rattle.objects_paths.specs.Paths.{Continues}
 
 abbrev pub Decided : Type 0 → Type 0
 Decided P = P ⊎ (P → ⊥)

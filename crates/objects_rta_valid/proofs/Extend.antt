@@ -1,15 +1,14 @@
 -- From each certificate some path goes on; so where each signer's path is the only one, no two certificates have one key's
 -- identifier.
-use Rattle.std.proofs.Common.{◌≡◌, ℕ, ◌+◌, ◌<◌, ◌≤◌, zero, suc, true, List, [], ◌∷◌, ◌++◌, Option, Some, None, length, get_or, refl, sym, ap, ◌∙◌, subst, inl, inr, arith}
+use Rattle.std.proofs.Common.{◌≡◌, ℕ, ◌<◌, ◌≤◌, zero, suc, true, List, [], ◌∷◌, Some, length, get_or, refl, sym, ap, ◌∙◌, subst, inl, inr, arith}
 use Rattle.std.specs.Prelude.{◌⊎◌, Contains}
-use Rattle.std.specs.List.{AllZip, slice_get}
 use Rattle.std.proofs.lemmas.Bool.Decides.{eqb_tells}
 use Rattle.std.proofs.lemmas.Option.{same_Some, slice_get_within}
-use Rattle.objects_paths.specs.Nodes.{Node, IsBelow, IsSelfSigned}
-use Rattle.objects_paths.specs.Paths.{AreAllOn, At, Continues, Follows, IsOn, IsOnlyPath, IsPath}
+use Rattle.objects_paths.specs.Nodes.{Node, IsSelfSigned}
+use Rattle.objects_paths.specs.Paths.{AreAllOn, At, Continues, Follows, IsOnlyPath}
 use Rattle.certs_verify.specs.certs_basics.Lists.{Mem}
 use Rattle.objects_rta_valid.specs.Apart.{AreApart, AreOnly}
-use Rattle.objects_rta_valid.proofs.Decided.{Decided, continues_decided, self_decided}
+use Rattle.objects_rta_valid.proofs.Decided.{continues_decided, self_decided}
 
 -- The list without one of its numbers.
 pub record Without (xs : List ℕ) (x : ℕ) : Type 0 where

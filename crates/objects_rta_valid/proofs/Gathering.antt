@@ -1,10 +1,10 @@
 -- The good lists among those that are carried, gathered one by one.
-use Rattle.std.proofs.Common.{◌≡◌, ℕ, Bool, List, [], ◌∷◌, ◌++◌, length, map, refl, sym, ap, ◌∙◌, subst, inl, inr, arith}
-use Rattle.std.specs.Prelude.{◌↔◌, ◌⊎◌, IsTrue}
+use Rattle.std.proofs.Common.{◌≡◌, ℕ, List, [], ◌∷◌, ◌++◌, length, refl, sym, ap, subst, inl, inr, arith}
+use Rattle.std.specs.Prelude.{◌↔◌, ◌⊎◌}
 use Rattle.certs_verify.specs.certs_basics.Lists.{Mem}
 use Rattle.certs_verify.specs.certs_basics.Verdicts.{Verdicts}
 use Rattle.certs_verify.specs.certs_extension.Cert.{CertValue}
-use Rattle.certs_verify.specs.certs_extension.CrlText.{CrlValue, IsOn, IsStale}
+use Rattle.certs_verify.specs.certs_extension.CrlText.{CrlValue}
 use Rattle.objects_rta_valid.specs.Places.{Stands}
 use Rattle.objects_rta_valid.specs.Certs.{IsUsed}
 use Rattle.objects_rta_valid.specs.Vouched.{AreGoodOf, IsGoodCarried, IsKept}

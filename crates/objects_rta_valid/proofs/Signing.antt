@@ -1,6 +1,6 @@
 -- What is asked of signatures and lists, certificate by certificate, is what is asked of neighbours on paths.
-use Rattle.std.proofs.Common.{◌≡◌, ℕ, ◌<◌, zero, suc, Bool, List, [], ◌∷◌, Option, Some, None, length, map, refl, sym, ap, ◌∙◌, subst, inl, inr, arith}
-use Rattle.std.specs.Prelude.{◌↔◌, ◌⊎◌, IsTrue}
+use Rattle.std.proofs.Common.{◌≡◌, ℕ, ◌<◌, zero, suc, Bool, List, [], ◌∷◌, Option, Some, None, length, map, refl, sym, ap, ◌∙◌, subst, arith}
+use Rattle.std.specs.Prelude.{◌↔◌, IsTrue}
 use Rattle.std.specs.List.{AllZip, slice_get}
 use Rattle.std.specs.Option.{option_map}
 use Rattle.std.proofs.lemmas.Option.{same_Some, slice_get-map, slice_get_within}
@@ -12,13 +12,12 @@ use Rattle.certs_verify.specs.certs_extension.CrlText.{CrlValue}
 use Rattle.certs_verify.specs.certs_extension.Verified.{IsSignedAt}
 use Rattle.objects_paths.specs.Nodes.{Node, IsSelfSigned}
 use Rattle.objects_rta_valid.specs.Apart.{AreApart, AreOnly}
-use Rattle.objects_rta_valid.specs.Places.{AreFunctional, AreLinks, BeginBelow, Stands, pairs}
+use Rattle.objects_rta_valid.specs.Places.{AreLinks, BeginBelow, Stands, pairs}
 use Rattle.objects_rta_valid.specs.Certs.{ArePairSigned, IsGoodList, IsOwnAnchor, IsPairUnrevoked, IsUnrevoked, NamesItself, node_of}
 use Rattle.objects_rta_valid.specs.Vouched.{AreGoodOf, Has, IsVouched, Serves}
-use Rattle.objects_rta_valid.proofs.Decided.{found}
 use Rattle.objects_rta_valid.proofs.Steps.{each_by, each_of, zip_at, zip_by}
 use Rattle.objects_rta_valid.proofs.Vouching.{at_mem, mem_at, one_of_key}
-use Rattle.objects_rta_valid.proofs.Walks.{pair_linked, pairs_begin, pairs_functional}
+use Rattle.objects_rta_valid.proofs.Walks.{pair_linked, pairs_begin}
 
 -- A certificate stands where its node does.
 pub record Noded (certs : List CertValue) (k : ℕ) (n : Node) : Type 0 where

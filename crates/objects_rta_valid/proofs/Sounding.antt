@@ -1,5 +1,5 @@
 -- What verification of a content says of its soundness.
-use Rattle.std.proofs.Common.{◌≡◌, ℕ, Bool, List, Result, Ok, Err, refl, sym, ◌∙◌, subst}
+use Rattle.std.proofs.Common.{◌≡◌, ℕ, Bool, List, Result, Ok, Err, refl}
 use Rattle.std.specs.Prelude.{◌↔◌, IfOk, IsTrue}
 use Rattle.std.specs.List.{slice_get}
 use Rattle.certs_verify.specs.certs_x509.declared.errors.verification.VerificationError.{VerificationError}
@@ -10,7 +10,7 @@ use Rattle.objects_cms.specs.Content.{FailsContent}
 use Rattle.objects_cms.specs.objects_payload.ObjectText.{Object, Sound}
 use Rattle.objects_rta_valid.specs.Places.{Stands}
 use Rattle.objects_rta_valid.proofs.Standing.{stands_told}
-use Rattle.std.specs.Prelude.{Option, Some}
+use Rattle.std.specs.Prelude.{Some}
 
 -- A test that fails says that the object isn't sound; lack of memory says nothing.
 pub fails_not : (d : Digests) (v : Verdicts) (o : Object) (e : VerificationError) → (e ≡ error.Memory → ⊥) → FailsContent d v o e → Sound d v o → ⊥

@@ -1,10 +1,10 @@
 -- What vouches for a certificate, in the code's cases.
 use Rattle.std.proofs.Common.{◌≡◌, ℕ, zero, suc, Bool, true, List, [], ◌∷◌, Option, Some, None, map, refl, sym, ap, ◌∙◌, subst, inl, inr}
-use Rattle.std.specs.Prelude.{◌↔◌, ◌⊎◌, IsTrue}
+use Rattle.std.specs.Prelude.{◌↔◌, IsTrue}
 use Rattle.std.specs.List.{slice_get}
 use Rattle.std.specs.Option.{option_map}
 use Rattle.std.proofs.lemmas.Option.{same_Some, slice_get-map}
-use Rattle.certs_verify.specs.certs_basics.Lists.{Each, Mem}
+use Rattle.certs_verify.specs.certs_basics.Lists.{Mem}
 use Rattle.certs_verify.specs.certs_basics.HandedIn.{Digests}
 use Rattle.certs_verify.specs.certs_basics.Verdicts.{Verdicts}
 use Rattle.certs_verify.specs.certs_extension.Cert.{CertValue}
@@ -12,11 +12,10 @@ use Rattle.certs_verify.specs.certs_extension.CrlText.{CrlValue, IsStale}
 use Rattle.certs_verify.specs.certs_extension.Profiles.{Profile}
 use Rattle.certs_verify.specs.certs_extension.Verified.{IsAnchorAt, IsSignedAt, IsSignedBy}
 use Rattle.certs_verify.specs.certs_extension.declared.forms.Role.TheVariants.{Ca, Ta}
-use Rattle.objects_paths.specs.Nodes.{Node}
 use Rattle.objects_rta_valid.specs.Apart.{AreApart}
 use Rattle.objects_rta_valid.specs.Places.{Stands}
 use Rattle.objects_rta_valid.specs.Certs.{HasIssuerForm, IsGoodList, NamesItself, node_of}
-use Rattle.objects_rta_valid.specs.Vouched.{Has, IsGoodCarried, IsVouched}
+use Rattle.objects_rta_valid.specs.Vouched.{IsGoodCarried, IsVouched}
 
 pub form_itself : (d : Digests) (strict : Bool) (c : CertValue) (r : Bool) → NamesItself c → (IsTrue r ↔ Profile d strict Ta c) → (IsTrue r ↔ HasIssuerForm d strict c)
 form_itself d strict c r self h = ((λ t. inl (self, h.0 t)), (λ f. elim f [ inl x ↦ h.1 x.1 | inr y ↦ absurd (y.0 self) ]))

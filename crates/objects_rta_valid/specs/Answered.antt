@@ -1,5 +1,5 @@
 -- What validation answers: the words of its clauses.
-use Rattle.std.specs.Prelude.{◌≡◌, ℕ, ◌+◌, ◌≤◌, Bool, List, length, Result, Ok, Err}
+use Rattle.std.specs.Prelude.{◌≡◌, ℕ, Bool, List, length, Result, Ok, Err}
 use Rattle.certs_verify.specs.certs_basics.HandedIn.{Digests}
 use Rattle.certs_verify.specs.certs_basics.Lists.{Each, FirstFailing}
 use Rattle.certs_verify.specs.certs_basics.Verdicts.{Verdicts}
@@ -7,9 +7,7 @@ use Rattle.objects_paths.specs.Paths.{AreAllOn, PathsValue}
 use Rattle.objects_rta.specs.AttestationParts.{RtaValue}
 use Rattle.objects_rta_valid.specs.declared.errors.RtaError.{RtaError}
 use Rattle.objects_rta_valid.specs.declared.errors.RtaError.TheVariants.{Test, Memory}
-use Rattle.objects_rta_valid.specs.declared.errors.RtaTest.{RtaTest}
-use Rattle.objects_rta_valid.specs.declared.errors.RtaTest.TheVariants as test
-use Rattle.objects_rta_valid.specs.Validity.{AreItsPaths, FailsFirst, IsValid, Passes, path_tests, rta_tests}
+use Rattle.objects_rta_valid.specs.Validity.{AreItsPaths, FailsFirst, IsValid, Passes, path_tests}
 
 -- The only paths, over all certificates that are carried.
 pub record IsWalk (r : RtaValue) (p : PathsValue) : Type 0 where

@@ -1,6 +1,6 @@
 -- When a resource tagged attestation is valid (draft-ietf-sidrops-rpki-rta; this project's profile): tests, each told apart,
 -- in their order. A path is a list of places of carried certificates, so that one that is carried twice is two.
-use Rattle.std.specs.Prelude.{◌≡◌, ℕ, Bool, List, [], ◌∷◌, map, length, Result, Ok, Err}
+use Rattle.std.specs.Prelude.{ℕ, Bool, List, [], ◌∷◌, map, length}
 use Rattle.std.specs.List.{AllZip}
 use Rattle.certs_verify.specs.certs_basics.HandedIn.{Digests}
 use Rattle.certs_verify.specs.certs_basics.Lists.{Each, FirstFailing}

@@ -1,7 +1,6 @@
 use Rattle.std.proofs.Common.{length}
 use Rattle.std.specs.Prelude.{◌↔◌}
 use Rattle.certs_verify.specs.certs_basics.Lists.{Each}
-use Rattle.certs_verify.specs.certs_extension.Cert.{CertValue}
 use Rattle.objects_rta_valid.specs.Certs.{IsCurrent}
 use Rattle.objects_rta_valid.proofs.forms.are_current.Given as goal
 

@@ -1,6 +1,4 @@
-use Rattle.std.proofs.Common.{List, subst, sym, ◌∙◌}
-use Rattle.std.specs.Prelude.{◌↔◌, IsTrue}
-use Rattle.certs_verify.specs.certs_extension.CrlText.{CrlValue}
+use Rattle.std.proofs.Common.{subst, sym, ◌∙◌}
 use Rattle.objects_rta_valid.specs.Vouched.{AreGoodOf}
 use Rattle.objects_rta_valid.proofs.Following.{apart_carried, apart_told}
 use Rattle.objects_rta_valid.proofs.Judging.{revocation_told}

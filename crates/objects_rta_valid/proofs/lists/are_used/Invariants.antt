@@ -1,7 +1,6 @@
 use Rattle.std.proofs.Common.{length}
 use Rattle.std.specs.Prelude.{◌↔◌}
 use Rattle.certs_verify.specs.certs_basics.Lists.{Each}
-use Rattle.certs_verify.specs.certs_extension.CrlText.{CrlValue}
 use Rattle.objects_rta_valid.specs.Certs.{IsUsed}
 use Rattle.objects_rta_valid.proofs.lists.are_used.Given as goal
 

@@ -1,4 +1,4 @@
-use Rattle.std.proofs.Common.{List, [], ap, length, subst, sym, ◌∙◌, arith}
+use Rattle.std.proofs.Common.{List, ap, length, subst, sym, ◌∙◌, arith}
 use Rattle.certs_verify.specs.certs_basics.Verdicts.{Verdicts}
 use Rattle.certs_verify.specs.certs_extension.CrlText.{CrlValue}
 use Rattle.objects_rta_valid.specs.Vouched.{IsGoodCarried, IsKept}

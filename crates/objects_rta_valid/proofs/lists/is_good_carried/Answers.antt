@@ -1,4 +1,3 @@
-use Rattle.std.specs.Prelude.{IfSome}
 use Rattle.objects_rta_valid.proofs.Standing.{not_told}
 use Rattle.objects_rta_valid.proofs.Vouching.{carried_told}
 use Rattle.objects_rta_valid.proofs.lists.is_good_carried.Goals as goal

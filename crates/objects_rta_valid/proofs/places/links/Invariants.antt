@@ -1,4 +1,4 @@
-use Rattle.std.proofs.Common.{◌≡◌, Option, None, length, replicate}
+use Rattle.std.proofs.Common.{◌≡◌, None, length, replicate}
 use Rattle.objects_rta_valid.specs.Places.{BeginBelow}
 use Rattle.objects_rta_valid.proofs.Tables.{linked}
 use Rattle.objects_rta_valid.proofs.places.links.Given as goal
