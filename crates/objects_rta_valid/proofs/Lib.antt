@@ -1,7 +1,6 @@
 mod Flat
 mod Tables
 mod Walks
-mod Apart
 mod Steps
 mod Decided
 mod Extend

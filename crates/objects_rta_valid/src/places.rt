@@ -1,7 +1,7 @@
 //! Places on paths, taken out of them: firsts, lasts, and pairs of neighbours.
 
 ghost use Rattle.std.specs.Prelude.{◌≡◌, ◌++◌, IfOk, OnOk};
-ghost use Rattle.objects_rta_valid.specs.Places.{AreFunctional, AreLinks, BeginBelow, first_of, firsts, last_of, lasts, pairs, pairs_from, pairs_of};
+ghost use Rattle.objects_rta_valid.specs.Places.{AreFunctional, AreLinks, BeginBelow, first_of, firsts, pairs, pairs_from, pairs_of};
 
 use objects_paths::{PathPlaces, Paths};
 use std::alloc::{AllocError, Global};

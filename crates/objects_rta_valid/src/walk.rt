@@ -1,6 +1,6 @@
 //! The paths of an attestation's signers, and what is tested of them.
 
-ghost use Rattle.std.specs.Prelude.{◌≡◌, ◌↔◌, IfOk, IsTrue, MatchOption, List, ℕ};
+ghost use Rattle.std.specs.Prelude.{◌↔◌, IfOk, IsTrue, MatchOption, List, ℕ};
 ghost use Rattle.objects_paths.specs.Keys.{AreSame};
 ghost use Rattle.objects_paths.specs.Paths.{AreAllOn};
 ghost use Rattle.objects_rta_valid.specs.Validity.{AreItsPaths, sids};
