@@ -1,0 +1,6 @@
+mod Words
+mod Signed
+mod ObjectAgain
+mod ContentAgain
+mod Taking
+mod Writing

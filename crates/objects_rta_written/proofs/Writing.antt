@@ -1,0 +1,126 @@
+-- What is written of parts, and why it isn't.
+use Rattle.std.proofs.Common.{◌≡◌, ◌≢◌, ◌<◌, ◌^◌, ◌↔◌, ℕ, Bool, true, false, IsTrue, List, [], ◌∷◌, length, map, Option, Some, None, Result, Ok, Err, IfErr, IfOk, refl, sym, ap, ◌∙◌, subst}
+use Rattle.std.specs.Prelude.{All}
+use Rattle.std.specs.Result.{IsErr, IsErrAnd}
+use Rattle.std.proofs.lemmas.List.Elements.{All-cons, All-nil}
+use Rattle.objects_written.specs.bcder_tree.declared.mode.Mode.{Mode}
+use Rattle.objects_written.specs.bcder_tree.declared.mode.Mode.TheVariants.{Der}
+use Rattle.objects_written.specs.bcder_tree.Tree.{Trees}
+use Rattle.objects_written.specs.bcder_content.Kept.{CapturedValue}
+use Rattle.objects_written.specs.bcder_values.Gathered.{ExtendRefused}
+use Rattle.objects_written.specs.bcder_primitive.declared.written.error.EncodeError.{EncodeError}
+use Rattle.objects_written.specs.bcder_primitive.declared.written.error.EncodeError.TheVariants as errors
+use Rattle.certs_cert.specs.certs_x509.Signed.{SignedDataValue, signed as signed_form, signed_fields}
+use Rattle.certs_cert.specs.Whole.{signed_of}
+use Rattle.objects_written.specs.certs_extension.Cert.{SignedValue}
+use Rattle.objects_written.specs.certs_extension.CrlText.{CrlValue}
+use Rattle.objects_written.specs.objects_payload.ObjectText.{Signer, signer_of}
+use Rattle.objects_written.specs.objects_cms.Signer.{SignerValue, signer_fields}
+use Rattle.objects_written.specs.Frames.{SignerParts}
+use Rattle.objects_written.specs.Outputs.{Output, each, inside, perhaps}
+use Rattle.objects_written.specs.bcder_tree.Tags.{context}
+use Rattle.resources_as.specs.Written.{HasMaximal}
+use Rattle.resources_as.specs.declared.resources.InheritedAsResources.{InheritedAsResources}
+use Rattle.resources_as.proofs.of_resources_chain.SetLemmas.{one_list_of}
+use Rattle.resources_ip.specs.resources_chain.Claims.{Choice, Lists}
+use Rattle.resources_ip.specs.resources_chain.Sets.{InRuns, IsRunsOf, Run}
+use Rattle.resources_ip.specs.resources_chain.declared.choice.ResourcesChoice.TheVariants.{Missing, Inherit, Blocks}
+use Rattle.resources_ip.specs.Encodings.{FamilyChoices}
+use Rattle.resources_ip.specs.WrittenFamilies.{both, is_said, says_any}
+use Rattle.certs.specs.Resources.{said_families}
+use Rattle.objects_rta.specs.Attestations.{Attestation}
+use Rattle.objects_rta.specs.MultiText.{Multi}
+use Rattle.objects_rta_written.specs.Again.{AgainRefused, AreCarriedInDer, IsSignerInDer, PartsRefused, SignersRefused, StandsInDer, WritesAgain, parts_of, signer_parts, signers_seen}
+use Rattle.objects_rta_written.specs.Contents.{AttestationRefused, NumbersRefused, attestation, families, key, listed, numbers, tagged_families, tagged_numbers}
+use Rattle.objects_rta_written.specs.Contents as contents
+use Rattle.objects_rta_written.specs.Frames.{crl, lists, object, signed, value_of}
+use Rattle.objects_rta_written.specs.Taking.{DerRefused, IsInDer, in_der}
+
+-- Items of slices.
+
+pub same_trees : (o : Output) (T : Mode → Trees → Type 0) → o.trees ≡ T → (m : Mode) (ts : Trees) → o.trees m ts ↔ T m ts
+same_trees o T e m ts = (subst (λ (U : Mode → Trees → Type 0). U m ts) e, subst (λ (U : Mode → Trees → Type 0). U m ts) (sym e))
+
+-- Signed data with these octets, algorithm and signature is the same.
+signed_same : (v : SignedDataValue) (s : SignedValue) → signed_of v ≡ s → v ≡ value_of s
+signed_same v s e = ap value_of e
+
+pub signed_trees : (v : SignedDataValue) (s : SignedValue) → signed_of v ≡ s → (m : Mode) (ts : Trees) → signed_form.trees (signed_fields v) m ts ↔ (signed s).trees m ts
+signed_trees v s e m ts = (
+  subst (λ (w : SignedDataValue). signed_form.trees (signed_fields w) m ts) (signed_same v s e),
+  subst (λ (w : SignedDataValue). signed_form.trees (signed_fields w) m ts) (sym (signed_same v s e)),
+)
+
+pub signed_text : (v : SignedDataValue) (s : SignedValue) → signed_of v ≡ s → (m : Mode) (text : List ℕ) → signed_form.writes (signed_fields v) m text ↔ (signed s).writes m text
+signed_text v s e m text = (
+  subst (λ (w : SignedDataValue). signed_form.writes (signed_fields w) m text) (signed_same v s e),
+  subst (λ (w : SignedDataValue). signed_form.writes (signed_fields w) m text) (sym (signed_same v s e)),
+)
+
+-- Lists that are some.
+pub some_lists : (cs : List CrlValue) → (length cs ≡ 0 → ⊥) → inside (context 1) (each crl cs) ≡ lists cs
+some_lists [] some = absurd (some refl)
+some_lists (c ∷ cs) some = refl
+
+pub no_lists : (cs : List CrlValue) → length cs ≡ 0 → lists [] ≡ lists cs
+no_lists [] e = refl
+no_lists (c ∷ cs) e = absurd cc
+
+-- Signers.
+
+pub seen_parts : SignerValue → SignerParts
+seen_parts s = signer_parts (signer_of (signer_fields s))
+
+-- Keys.
+
+pub key_trees : (k l : List ℕ) → k ≡ l → (m : Mode) (ts : Trees) → (key k).trees m ts ↔ (key l).trees m ts
+key_trees k l e m ts = (subst (λ (o : List ℕ). (key o).trees m ts) e, subst (λ (o : List ℕ). (key o).trees m ts) (sym e))
+
+pub key_text : (k l : List ℕ) → k ≡ l → (m : Mode) (text : List ℕ) → (key k).writes m text ↔ (key l).writes m text
+key_text k l e m text = (subst (λ (o : List ℕ). (key o).writes m text) e, subst (λ (o : List ℕ). (key o).writes m text) (sym e))
+
+-- What is said of a family, by whether it is missing.
+pub says : (b : Bool) (choice : Choice) → (IsTrue b ↔ ¬ (choice ≡ Missing)) → b ≡ is_said choice
+says true Missing h = absurd (h.0 refl refl)
+says true Inherit h = refl
+says true (Blocks runs) h = refl
+says false Missing h = refl
+says false Inherit h = h.1 (λ e. cc)
+says false (Blocks runs) h = h.1 (λ e. cc)
+
+-- A set that is listed, by its maximal runs.
+pub set_listed : (choice : Choice) (set : List Run) → (choice ≡ Missing → ⊥) → HasMaximal choice → IsRunsOf (Lists choice) set → (choice ≡ Inherit → ⊥) → Some set ≡ listed choice
+set_listed Missing set some maximal is own = absurd (some refl)
+set_listed Inherit set some maximal is own = absurd (own refl)
+set_listed (Blocks runs) set some maximal is own =
+    ap (λ (r : List Run). Some r) (one_list_of is (record { maximal = maximal; same = λ n. (λ i. i, λ i. i) }))
+
+-- Why nothing is written.
+
+pub too_long : (o : Output) (e : EncodeError) → e ≢ errors.Memory → ExtendRefused (o.trees Der) (o.writes Der) e → (text : List ℕ) → o.writes Der text → length text < 2 ^ 64 → ⊥
+too_long o errors.CerUnsupported n r text w few = let s = o.spelled Der text w in r s.trees s.is
+too_long o errors.TooLong n r text w few = r text w few
+too_long o errors.Write n r text w few = absurd r
+too_long o errors.Memory n r text w few = absurd (n refl)
+
+pub passed : {A : Type 0} (F G : EncodeError → Type 0) (r : Result A EncodeError) (e : EncodeError) → IsErr r × IsErrAnd r (λ x. x ≡ e) → F e → ((e : EncodeError) → F e → G e) → IfErr r G
+passed F G (Ok x) e a h f = absurd a.1
+passed F G (Err x) e a h f = subst G (sym a.1) (f e h)
+
+pub numbers_attested : (a : Attestation) (e : EncodeError) → NumbersRefused a.resources.asn e → AttestationRefused a e
+numbers_attested a errors.CerUnsupported h = h
+numbers_attested a errors.TooLong h = absurd h
+numbers_attested a errors.Write h = h
+numbers_attested a errors.Memory h = tt
+
+pub signers_parts : (o : Multi) → AreCarriedInDer o → (e : EncodeError) → SignersRefused o.signers e → PartsRefused o e
+signers_parts o carried errors.CerUnsupported h = λ s. h s.signers
+signers_parts o carried errors.TooLong h = absurd h
+signers_parts o carried errors.Write h = h
+signers_parts o carried errors.Memory h = carried
+
+pub parts_object : (o : Multi) (e : EncodeError) → PartsRefused o e → AgainRefused o e
+parts_object o errors.CerUnsupported h = h
+parts_object o errors.TooLong h = absurd h
+parts_object o errors.Write h = h
+parts_object o errors.Memory h = h

@@ -1,0 +1,7 @@
+pub mod Contents
+pub mod Frames
+pub mod Taking
+pub mod Again
+pub mod Builders
+pub mod Making
+pub mod Signing

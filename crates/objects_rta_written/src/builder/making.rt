@@ -1,0 +1,126 @@
+//! How an attestation is made of what was given: its sets, its octets, and what these say.
+
+ghost use Rattle.std.specs.Prelude.{◌≡◌, All, IfErr, IfOk};
+ghost use Rattle.objects_written.specs.bcder_tree.declared.mode.Mode.TheVariants.{Der};
+ghost use Rattle.objects_written.specs.bcder_content.Texts.{SpellsOf};
+ghost use Rattle.objects_written.specs.certs_basics.Basics.{IsTwentyLong};
+ghost use Rattle.objects_rta.specs.Attestations.{Attestation, IsAttestation};
+ghost use Rattle.objects_rta_written.specs.declared.builder.AttestationError.TheVariants.{Memory as NoMemory};
+ghost use Rattle.objects_rta_written.specs.Contents.{listed};
+ghost use Rattle.objects_rta_written.specs.Making.{AreSetsOf, IsStatedBy, MakingRefused, SetsRefused, chosen, said_by};
+
+use crate::attestation::AttestationValue;
+use crate::builder::AttestationError;
+use bytes::Bytes;
+use certs::written::{EncodeError, Mode, Values};
+use certs_key::KeyIdentifier;
+use certs_key::decode::DecodeError;
+use objects_rta::ResourceTaggedAttestation;
+use resources_as::{AsBlocks, AsBlocksBuilder};
+use resources_ip::{IpBlocks, IpBlocksBuilder, IpResources};
+use std::alloc::Global;
+
+/// Of each kind the set of all that was given; some set has a number, and that of IPv4 addresses is over whole ones.
+#[derive(Drop)]
+pub(crate) struct Sets {
+    asn: AsBlocks,
+    v4: IpBlocks,
+    v6: IpBlocks,
+}
+
+/// The sets of the blocks.
+pub(crate) fn sets_of(
+    alloc: Global,
+    asn: AsBlocksBuilder,
+    v4: IpBlocksBuilder,
+    v6: IpBlocksBuilder,
+) -> Result<Sets, AttestationError>
+    ensures sets { IfOk result (AreSetsOf asn v4 v6) }
+    ensures refused { IfErr result (SetsRefused asn v4 v6) }
+{
+    let asn = asn.finalize(alloc)?;
+    let v4 = v4.finalize(alloc)?;
+    let v6 = v6.finalize(alloc)?;
+    if asn.is_empty() && v4.is_empty() && v6.is_empty() {
+        return Err(AttestationError::NoResources);
+    }
+    if !v4.is_whole_v4() {
+        return Err(AttestationError::NotWhole);
+    }
+    Ok(Sets { asn, v4, v6 })
+}
+
+// The set, if it has a number.
+fn numbers_listed(set: AsBlocks) -> Option<AsBlocks>
+    ensures { result ≡ listed (chosen set) }
+{
+    set.runs_are_maximal();
+    if set.is_empty() {
+        drop(set);
+        return None;
+    }
+    Some(set)
+}
+
+// The set as resources, which are missing where it has no address.
+fn addresses_listed(set: IpBlocks) -> IpResources
+    ensures { result ≡ chosen set }
+{
+    set.runs_are_maximal();
+    if set.is_empty() {
+        drop(set);
+        return IpResources::missing();
+    }
+    IpResources::blocks(set)
+}
+
+// Identifiers of keys have 20 octets. This is a law about them: nothing is done.
+fn are_long(keys: &[KeyIdentifier])
+    ensures { All IsTwentyLong keys.now }
+{
+    for key in keys {
+        let _octets = key.as_slice();
+    }
+}
+
+// What octets say that spell an attestation; it takes memory alone.
+fn content_of(alloc: Global, octets: Bytes) -> Result<ResourceTaggedAttestation, AttestationError>
+    requires { (x : Attestation) × SpellsOf Der (IsAttestation Der) octets x }
+    ensures made { IfOk result (λ a. (x : Attestation) → SpellsOf Der (IsAttestation Der) octets x
+        → a ≡ x) }
+    ensures refused { IfErr result (λ e. e ≡ NoMemory) }
+{
+    match ResourceTaggedAttestation::decode(alloc, octets) {
+        Ok(content) => Ok(content),
+        Err(DecodeError::Memory) => Err(AttestationError::Memory),
+        Err(DecodeError::Source(never)) => match never {},
+        Err(DecodeError::Content(error, _)) => {
+            drop(error);
+            unreachable!()
+        }
+    }
+}
+
+/// The attestation of these keys, of the sets that have a number, and of the digest.
+pub(crate) fn attest(
+    alloc: Global,
+    keys: &[KeyIdentifier],
+    sets: Sets,
+    digest: &[u8],
+) -> Result<ResourceTaggedAttestation, AttestationError>
+    requires { IsStatedBy sets }
+    ensures made { IfOk result (λ a. a ≡ said_by keys.now sets digest.now) }
+    ensures refused { IfErr result (MakingRefused (said_by keys.now sets digest.now)) }
+{
+    are_long(keys);
+    let Sets { asn, v4, v6 } = sets;
+    let asn = numbers_listed(asn);
+    let v4 = addresses_listed(v4);
+    let v6 = addresses_listed(v6);
+    let values = AttestationValue::new(keys, asn, &v4, &v6, digest);
+    match values.to_captured(alloc, Mode::Der) {
+        Ok(octets) => content_of(alloc, octets.into_bytes()),
+        Err(EncodeError::Memory) => Err(AttestationError::Memory),
+        Err(_) => Err(AttestationError::TooLong),
+    }
+}
