@@ -4,3 +4,5 @@ mod ObjectAgain
 mod ContentAgain
 mod Taking
 mod Writing
+mod Making
+mod Signing

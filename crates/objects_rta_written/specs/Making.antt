@@ -40,11 +40,15 @@ pub record AreSetsOf (asn v4 v6 : List Run) (s : Sets) : Type 0 where
   pub v6_is : IsRunsOf (InRuns v6) s.v6
   pub stated : IsStatedBy s
 
+-- No block has a number.
+abbrev pub AreAllNone : List Run → List Run → List Run → Type 0
+AreAllNone asn v4 v6 = AreNone asn × (AreNone v4 × AreNone v6)
+
 -- Why there are no such sets.
 abbrev pub SetsRefused : List Run → List Run → List Run → AttestationError → Type 0
-SetsRefused asn v4 v6 errors.NoResources = AreNone asn × (AreNone v4 × AreNone v6)
+SetsRefused asn v4 v6 errors.NoResources = AreAllNone asn v4 v6
 SetsRefused asn v4 v6 errors.NotWhole =
-    (AreNone asn × (AreNone v4 × AreNone v6) → ⊥) × (AreWhole v4 → ⊥)
+    (AreAllNone asn v4 v6 → ⊥) × (AreWhole v4 → ⊥)
 SetsRefused asn v4 v6 errors.TooLong = ⊥
 SetsRefused asn v4 v6 errors.Memory = Unit {0}
 

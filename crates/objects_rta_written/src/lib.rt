@@ -10,12 +10,16 @@
 #![tactic(auto)]
 
 pub mod attestation;
+pub mod builder;
 mod der;
+pub mod draft;
 pub mod laws;
 pub mod object;
 pub mod signer;
 mod tags;
 
 pub use attestation::{AttestationValue, EncodeAttestation};
+pub use builder::{AttestationBuilder, AttestationError};
+pub use draft::RtaBuilder;
 pub use object::{EncodeMulti, MultiValues};
 pub use signer::{EncodeSigner, SignerValues};

@@ -1,13 +1,13 @@
 //! How an attestation is made of what was given: its sets, its octets, and what these say.
 
-ghost use Rattle.std.specs.Prelude.{◌≡◌, All, IfErr, IfOk};
+ghost use Rattle.std.specs.Prelude.{◌≡◌, ◌↔◌, All, IfErr, IfOk, IsTrue};
 ghost use Rattle.objects_written.specs.bcder_tree.declared.mode.Mode.TheVariants.{Der};
 ghost use Rattle.objects_written.specs.bcder_content.Texts.{SpellsOf};
 ghost use Rattle.objects_written.specs.certs_basics.Basics.{IsTwentyLong};
 ghost use Rattle.objects_rta.specs.Attestations.{Attestation, IsAttestation};
 ghost use Rattle.objects_rta_written.specs.declared.builder.AttestationError.TheVariants.{Memory as NoMemory};
-ghost use Rattle.objects_rta_written.specs.Contents.{listed};
-ghost use Rattle.objects_rta_written.specs.Making.{AreSetsOf, IsStatedBy, MakingRefused, SetsRefused, chosen, said_by};
+ghost use Rattle.objects_rta_written.specs.Contents.{IsReadable, listed};
+ghost use Rattle.objects_rta_written.specs.Making.{AreAllNone, AreSetsOf, IsStatedBy, MakingRefused, SetsRefused, chosen, said_by};
 
 use crate::attestation::AttestationValue;
 use crate::builder::AttestationError;
@@ -16,6 +16,7 @@ use certs::written::{EncodeError, Mode, Values};
 use certs_key::KeyIdentifier;
 use certs_key::decode::DecodeError;
 use objects_rta::ResourceTaggedAttestation;
+use objects_rta::laws::one_attestation;
 use resources_as::{AsBlocks, AsBlocksBuilder};
 use resources_ip::{IpBlocks, IpBlocksBuilder, IpResources};
 use std::alloc::Global;
@@ -26,6 +27,13 @@ pub(crate) struct Sets {
     asn: AsBlocks,
     v4: IpBlocks,
     v6: IpBlocks,
+}
+
+// Whether no set has a number.
+fn are_none(asn: &AsBlocks, v4: &IpBlocks, v6: &IpBlocks) -> bool
+    ensures { IsTrue result ↔ AreAllNone asn.now v4.now v6.now }
+{
+    asn.is_empty() && v4.is_empty() && v6.is_empty()
 }
 
 /// The sets of the blocks.
@@ -41,7 +49,7 @@ pub(crate) fn sets_of(
     let asn = asn.finalize(alloc)?;
     let v4 = v4.finalize(alloc)?;
     let v6 = v6.finalize(alloc)?;
-    if asn.is_empty() && v4.is_empty() && v6.is_empty() {
+    if are_none(&asn, &v4, &v6) {
         return Err(AttestationError::NoResources);
     }
     if !v4.is_whole_v4() {
@@ -90,6 +98,7 @@ fn content_of(alloc: Global, octets: Bytes) -> Result<ResourceTaggedAttestation,
         → a ≡ x) }
     ensures refused { IfErr result (λ e. e ≡ NoMemory) }
 {
+    one_attestation();
     match ResourceTaggedAttestation::decode(alloc, octets) {
         Ok(content) => Ok(content),
         Err(DecodeError::Memory) => Err(AttestationError::Memory),
@@ -110,6 +119,7 @@ pub(crate) fn attest(
 ) -> Result<ResourceTaggedAttestation, AttestationError>
     requires { IsStatedBy sets }
     ensures made { IfOk result (λ a. a ≡ said_by keys.now sets digest.now) }
+    ensures readable { IfOk result IsReadable }
     ensures refused { IfErr result (MakingRefused (said_by keys.now sets digest.now)) }
 {
     are_long(keys);

@@ -5,11 +5,13 @@ ghost use Rattle.objects_written.specs.bcder_tree.declared.mode.Mode.TheVariants
 ghost use Rattle.objects_written.specs.bcder_content.Captures.{rest_of};
 ghost use Rattle.objects_written.specs.bcder_content.Exact.{DecodesAs, ReadsAs};
 ghost use Rattle.objects_written.specs.bcder_content.Here.{here};
+ghost use Rattle.objects_written.specs.bcder_content.Texts.{InFront};
 ghost use Rattle.objects_written.specs.bcder_values.Writable.{Writable};
 ghost use Rattle.objects_written.specs.bcder_primitive.declared.written.error.EncodeError.TheVariants.{Memory as memory_lacks};
 ghost use Rattle.objects_written.specs.certs_basics.Keys.{KeyValue, identifier};
 ghost use Rattle.objects_written.specs.certs_key.Digesting.{digests_of};
-ghost use Rattle.objects_written.specs.objects_payload.ObjectText.{signer_of};
+ghost use Rattle.objects_written.specs.objects_payload.ObjectText.{SpellsSigner, signer_of};
+ghost use Rattle.objects_cms.specs.certs_x509.Took.{TookOctets};
 ghost use Rattle.objects_cms.specs.Signer.{IsSigner as IsSignerValue, signer_fields};
 ghost use Rattle.objects_written.specs.Attributes.{IsMessage, IsRefused, ToSign, WritesAttributes, to_sign};
 ghost use Rattle.objects_written.specs.Frames.{signer as written_signer};
@@ -81,15 +83,18 @@ fn sign<S: Signer>(
     }
 }
 
-// The signer that octets begin with, in DER.
+// The signer that octets begin with, in DER: by values, and by the very octets that stand there.
 fn read_signer(alloc: Global, octets: &[u8]) -> Result<SignerInfo, DecodeError<Infallible>>
-    ensures { DecodesAs signer_fields Der (IsSignerValue Der) octets.now result }
+    ensures reads { DecodesAs signer_fields Der (IsSignerValue Der) octets.now result }
+    ensures octets { IfOk result (λ x. InFront (SpellsSigner Der) octets.now (signer_fields x)) }
 {
     Mode::Der.decode(
         octets,
         |cons|
-            ensures { ReadsAs signer_fields (IsSignerValue (here rest_of cons.old).mode)
+            ensures reads { ReadsAs signer_fields (IsSignerValue (here rest_of cons.old).mode)
                 (here rest_of cons.old) result (here rest_of cons.new) }
+            ensures octets { IfOk result (λ x. TookOctets signer_fields SpellsSigner
+                (here rest_of cons.old) x (here rest_of cons.new)) }
         { SignerInfo::take_from(alloc, cons) },
     )
 }
