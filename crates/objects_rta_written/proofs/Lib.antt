@@ -6,3 +6,4 @@ mod Taking
 mod Writing
 mod Making
 mod Signing
+mod BuiltAgain

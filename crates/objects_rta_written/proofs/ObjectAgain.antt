@@ -122,7 +122,7 @@ info_again told o r =
     (joins_of (content_spelled o.content_type o.content r.known)
     (joins_of (wraps_of _ (certs_again o.certs r.certs r.some_certs))
     (joins_of (lists_again told o.crls r.crls)
-    (ends_of (wraps_of _ (signers_again o.content_type o.signers r.signers r.some_signers))))))))))))
+    (ends_of (wraps_of _ (signers_again o.content_type o.signers r.signers r.some_signers)))))))))))))
 
 object_says : (o : Multi) → with_null o ≡ multi_of (data_of o)
 object_says o =

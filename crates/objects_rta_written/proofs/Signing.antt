@@ -52,10 +52,7 @@ pub is_signer : (Signs : List ℕ → List ℕ → Type 0) (s : ToSign) (sid oct
 is_signer Signs s sid octets signature f e written p =
     subst (λ (g : SignerFields). IsSigner Signs s sid (signer_of g)) (sym e) (record {
       sid_is = refl;
-      attributes = written;
-      digest = refl;
-      time = refl;
-      binary_time = refl;
+      tells = record { attributes = written; digest = refl; time = refl; binary_time = refl };
       has_null = refl;
       message = p.message;
       message_is = record { size = p.message_is.size; size_is = p.message_is.size_is; whole = p.message_is.whole };

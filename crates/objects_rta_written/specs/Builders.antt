@@ -91,15 +91,19 @@ pub record IsBegun (a : Attestation) (b : Draft) : Type 0 where
 abbrev pub signs : Digests → Draft → ℕ → ToSign
 signs d b time = to_sign tagged_attestation (d.sha256 b.octets) time
 
+-- The attributes of a signer are just these (RFC 5652 11).
+pub record Tells (s : ToSign) (x : Signer) : Type 0 where
+  pub attributes : WritesAttributes s x.attributes
+  pub digest : x.digest ≡ s.digest
+  pub time : x.signing_time ≡ Some s.time
+  pub binary_time : x.binary_signing_time ≡ None
+
 -- A signer with that identifier of its key: its attributes tell the content, and it signed them, as they stand, as a SET
 -- (RFC 5652 5.3, 5.4). Signs says which octets may be a signature of a message by the key.
 pub record IsSigner (Signs : List ℕ → List ℕ → Type 0) (s : ToSign) (sid : List ℕ) (x : Signer)
     : Type 0 where
   pub sid_is : x.sid ≡ sid
-  pub attributes : WritesAttributes s x.attributes
-  pub digest : x.digest ≡ s.digest
-  pub time : x.signing_time ≡ Some s.time
-  pub binary_time : x.binary_signing_time ≡ None
+  pub tells : Tells s x
   pub has_null : x.has_null ≡ true
   pub message : List ℕ
   pub message_is : IsSignedMessage x message

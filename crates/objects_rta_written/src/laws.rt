@@ -6,7 +6,12 @@ ghost use Rattle.objects_written.specs.bcder_tree.Tree.{Tree};
 ghost use Rattle.objects_written.specs.bcder_content.Texts.{SpellsOf};
 ghost use Rattle.objects_rta.specs.Attestations.{Attestation, AttestationText, IsAttestation};
 ghost use Rattle.objects_rta.specs.MultiText.{Multi, MultiText};
-ghost use Rattle.objects_rta_written.specs.Again.{IsReadable as IsReadableObject, StandsInDer, WritesAgain, with_null};
+ghost use Rattle.objects_written.specs.bcder.Identifiers.{IsIdentifier};
+ghost use Rattle.objects_written.specs.certs_basics.Basics.{IsTwentyLong};
+ghost use Rattle.objects_written.specs.objects_payload.ObjectText.{Signer};
+ghost use Rattle.objects_written.specs.Attributes.{ToSign};
+ghost use Rattle.objects_rta_written.specs.Again.{IsReadable as IsReadableObject, IsReadableSigner, StandsInDer, WritesAgain, with_null};
+ghost use Rattle.objects_rta_written.specs.Builders.{Draft, IsBegun, Tells, object_of};
 ghost use Rattle.objects_rta_written.specs.Contents.{IsReadable, attestation};
 
 use certs_extension::forms::laws::crl_is_spelled;
@@ -47,6 +52,22 @@ pub fn attestations_are_read_again()
 {
     objects_are_read_again();
     what_is_read_can_be_read_again();
+}
+
+/// What is written of an attestation that was put together is read again, strictly, where all that it carries can be read, a
+/// certificate at least and a signer; and its octets say what it attests, as they do where they were written of it, or read. A
+/// signer whose attributes tell the content can be read.
+pub fn what_is_built_is_read_again()
+    ensures documents { (b : Draft) (text : List ℕ) → IsReadableObject (object_of b)
+        → SpellsOf Der (IsAttestation Der) b.octets b.content → WritesAgain (object_of b) text
+        → AttestationText true text (with_null (object_of b)) b.content }
+    ensures contents { (a : Attestation) (b : Draft) → IsReadable a → IsBegun a b
+        → SpellsOf Der (IsAttestation Der) b.octets b.content }
+    ensures signers { (s : ToSign) (x : Signer) → IsIdentifier s.content_type → IsTwentyLong x.sid
+        → Tells s x → IsReadableSigner s.content_type x }
+{
+    contents_are_read_again();
+    objects_are_read_again();
 }
 
 /// An object has one text that is written of it.
