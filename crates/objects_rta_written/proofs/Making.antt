@@ -24,20 +24,20 @@ use Rattle.objects_rta_written.specs.declared.builder.making.Sets.{Sets}
 
 -- Blocks and their set have the same numbers.
 
-pub none_came : {came set : List Run} → IsRunsOf (InRuns came) set → AreNone set → AreNone came
-none_came is none n i = none n ((is.same n).1 i)
+pub none_came : (came set : List Run) → IsRunsOf (InRuns came) set → AreNone set → AreNone came
+none_came came set is none n i = none n ((is.same n).1 i)
 
-pub none_set : {came set : List Run} → IsRunsOf (InRuns came) set → AreNone came → AreNone set
-none_set is none n i = none n ((is.same n).0 i)
+pub none_set : (came set : List Run) → IsRunsOf (InRuns came) set → AreNone came → AreNone set
+none_set came set is none n i = none n ((is.same n).0 i)
 
-pub whole_set : {came set : List Run} → IsRunsOf (InRuns came) set → AreWhole came → AreWhole set
-whole_set is whole n m e i = (is.same m).1 (whole n m e ((is.same n).0 i))
+pub whole_set : (came set : List Run) → IsRunsOf (InRuns came) set → AreWhole came → AreWhole set
+whole_set came set is whole n m e i = (is.same m).1 (whole n m e ((is.same n).0 i))
 
-pub all_came : {a b c x y z : List Run} → IsRunsOf (InRuns a) x → IsRunsOf (InRuns b) y → IsRunsOf (InRuns c) z → AreAllNone x y z → AreAllNone a b c
-all_came p q r none = (none_came p none.0, (none_came q none.1.0, none_came r none.1.1))
+pub all_came : (a b c x y z : List Run) → IsRunsOf (InRuns a) x → IsRunsOf (InRuns b) y → IsRunsOf (InRuns c) z → AreAllNone x y z → AreAllNone a b c
+all_came a b c x y z p q r none = (none_came a x p none.0, (none_came b y q none.1.0, none_came c z r none.1.1))
 
-pub all_set : {a b c x y z : List Run} → IsRunsOf (InRuns a) x → IsRunsOf (InRuns b) y → IsRunsOf (InRuns c) z → AreAllNone a b c → AreAllNone x y z
-all_set p q r none = (none_set p none.0, (none_set q none.1.0, none_set r none.1.1))
+pub all_set : (a b c x y z : List Run) → IsRunsOf (InRuns a) x → IsRunsOf (InRuns b) y → IsRunsOf (InRuns c) z → AreAllNone a b c → AreAllNone x y z
+all_set a b c x y z p q r none = (none_set a x p none.0, (none_set b y q none.1.0, none_set c z r none.1.1))
 
 -- A set without numbers is empty.
 pub none_is : (set : List Run) → AreMaximal set → AreNone set → set ≡ []

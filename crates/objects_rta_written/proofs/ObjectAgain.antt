@@ -13,7 +13,7 @@ use Rattle.objects_written.specs.certs_extension.CertText.{SpellsCert}
 use Rattle.objects_written.specs.certs_extension.CrlText.{CrlValue, IsCrl}
 use Rattle.certs_extension.specs.Spellings.{CrlIsSpelled}
 use Rattle.objects_written.specs.objects_payload.ObjectText.{Signer, SignerFields, SpellsSigner, signer_of}
-use Rattle.objects_written.specs.objects_payload.SignedAttributes.{AttributesValue}
+use Rattle.objects_written.specs.objects_payload.SignedAttributes.{AreAttributes, AttributesValue}
 use Rattle.objects_written.specs.Frames.{SignerParts, signer}
 use Rattle.objects_written.specs.Outputs.{each}
 use Rattle.objects_rta.specs.Several.{Perhaps, PerhapsCases, Repeats, RepeatsCases, Several}
@@ -32,7 +32,7 @@ map_itself (x ∷ xs) = ap (λ ys. x ∷ ys) (map_itself xs)
 
 certs_again : (cs : List CertValue) → All IsReadableCert cs → cs ≢ [] → (text : List ℕ) → (each cert cs).writes Der text → Several (SpellsCert Der) text cs
 certs_again cs all some text w = record {
-  are = record { cases = subst (λ (ds : List CertValue). RepeatsCases (SpellsCert Der) text ds) (map_itself cs) (repeats_of IsReadableCert cert (λ (c : CertValue). c) (λ c r o v. cert_again c r o v) cs all text w) };
+  are = record { cases = subst (λ (ds : List CertValue). RepeatsCases (SpellsCert Der) text ds) (map_itself cs) (repeats_of (SpellsCert Der) IsReadableCert cert (λ (c : CertValue). c) (λ c r o v. cert_again c r o v) cs all text w) };
   some = some;
 }
 
@@ -157,16 +157,13 @@ lists_read : (text : List ℕ) (l : Option (List CrlValue)) → PerhapsCases (Wr
 lists_read text None p = All-nil IsReadableCrl
 lists_read text (Some cs) p = crls_read p.content cs p.is.are.trees p.is.are.is.cases p.is.are.spelled
 
-abbrev IsSaid : List ℕ → SignerFields → Type 0
-IsSaid kind f = SignsType kind f
-
 signer_read : (kind text : List ℕ) (f : SignerFields) → SignsType kind f → SpellsSigner Der text f → IsReadableSigner kind (signer_of f)
 signer_read kind text f type p =
     let sid = p.is.rest in
     let attributes = sid.rest.rest.is.is in
     let said : f.1.1.1.0.1 ≡ said_of kind (signer_of f) = ap (λ (t : List ℕ). (let a : AttributesValue = record f.1.1.1.0.1 { content_type = t } in a)) type in
-    let same = subst (λ (o : List ℕ). InOrder Der _ o f.1.1.1.0.1) (sym attributes.same) attributes.is in
-    record { long = sid.is.is.meets; attributes = subst (λ (a : AttributesValue). InOrder Der _ f.1.1.1.0.0 a) said same }
+    let same = subst (λ (o : List ℕ). InOrder Der (AreAttributes Der) o f.1.1.1.0.1) (sym attributes.same) attributes.is in
+    record { long = sid.is.is.meets; attributes = subst (λ (a : AttributesValue). InOrder Der (AreAttributes Der) f.1.1.1.0.0 a) said same }
 
 signers_read : (kind text : List ℕ) (fs : List SignerFields) → All (SignsType kind) fs → RepeatsCases (SpellsSigner Der) text fs → All (IsReadableSigner kind) (map signer_of fs)
 signers_read kind text [] all p = All-nil (IsReadableSigner kind)

@@ -1,7 +1,8 @@
 -- What is written of a certificate and of a revocation list that stand in DER is read again.
 use Rattle.std.proofs.Common.{◌≡◌, ℕ, Bool, List, refl, sym, ap, ◌∙◌, subst}
 use Rattle.objects_written.specs.bcder_tree.declared.mode.Mode.TheVariants.{Der}
-use Rattle.objects_written.specs.bcder_tree.Tree.{Spells, SpellsAll, Tree, Trees, more, none}
+use Rattle.objects_written.specs.bcder_tree.Tree.{Spells, SpellsAll, Tree, Trees, constructed}
+use Rattle.objects_written.specs.bcder_tree.Tags.{sequence_tag}
 use Rattle.certs_cert.specs.bcder_octets.Bits.{BitsValue}
 use Rattle.certs_cert.specs.bcder_octets.BitContents.{IsBitString, IsPadded, bit_string_tag, padded_in}
 use Rattle.objects_written.specs.bcder_content.Grammar.{OctetsOf}
@@ -70,7 +71,8 @@ record OneValue (text : List ℕ) : Type 0 where
 one_value : (c : CrlValue) (text : List ℕ) → (crl c).writes Der text → OneValue text
 one_value c text w =
     let s = (crl c).spelled Der text w in
-    record { tree = _; spelled = only_spelled Der _ text (subst (λ (ts : Trees). SpellsAll Der ts text) s.is.whole s.spelled) }
+    let tree : Tree = constructed sequence_tag s.is.values in
+    record { tree = tree; spelled = only_spelled Der tree text (subst (λ (ts : Trees). SpellsAll Der ts text) s.is.whole s.spelled) }
 
 pub crl_again : CrlIsSpelled → (c : CrlValue) → IsReadableCrl c → (text : List ℕ) → (crl c).writes Der text → SpellsOf Der (IsCrl Der) text c
 crl_again told c r text w =

@@ -1,12 +1,12 @@
 -- What is written of parts, and why it isn't.
-use Rattle.std.proofs.Common.{◌≡◌, ◌≢◌, ◌<◌, ◌^◌, ◌↔◌, ℕ, Bool, true, false, IsTrue, List, [], ◌∷◌, length, map, Option, Some, None, Result, Ok, Err, IfErr, IfOk, refl, sym, ap, ◌∙◌, subst}
+use Rattle.std.proofs.Common.{◌≡◌, ◌≢◌, ◌<◌, ◌^◌, ◌↔◌, ℕ, Bool, true, false, IsTrue, List, [], ◌∷◌, length, map, Option, Some, None, Result, Ok, Err, IfErr, IfOk, refl, sym, ap, ◌∙◌, subst, ◌++◌, append_assoc, append-nil}
 use Rattle.std.specs.Prelude.{All}
 use Rattle.std.specs.Result.{IsErr, IsErrAnd}
 use Rattle.std.proofs.lemmas.List.Elements.{All-cons, All-nil}
 use Rattle.objects_written.specs.bcder_tree.declared.mode.Mode.{Mode}
 use Rattle.objects_written.specs.bcder_tree.declared.mode.Mode.TheVariants.{Der}
 use Rattle.objects_written.specs.bcder_tree.Tree.{Trees}
-use Rattle.objects_written.specs.bcder_content.Kept.{CapturedValue}
+use Rattle.objects_written.specs.bcder_content.Kept.{CapturedValue, SpellsValues}
 use Rattle.objects_written.specs.bcder_values.Gathered.{ExtendRefused}
 use Rattle.objects_written.specs.bcder_primitive.declared.written.error.EncodeError.{EncodeError}
 use Rattle.objects_written.specs.bcder_primitive.declared.written.error.EncodeError.TheVariants as errors
@@ -35,6 +35,7 @@ use Rattle.objects_rta_written.specs.Contents.{AttestationRefused, NumbersRefuse
 use Rattle.objects_rta_written.specs.Contents as contents
 use Rattle.objects_rta_written.specs.Frames.{crl, lists, object, signed, value_of}
 use Rattle.objects_rta_written.specs.Taking.{DerRefused, IsInDer, in_der}
+use Rattle.objects_rta_written.proofs.Words.{all_first, all_others}
 
 -- Items of slices.
 
@@ -66,11 +67,6 @@ pub no_lists : (cs : List CrlValue) → length cs ≡ 0 → lists [] ≡ lists c
 no_lists [] e = refl
 no_lists (c ∷ cs) e = absurd cc
 
--- Signers.
-
-pub seen_parts : SignerValue → SignerParts
-seen_parts s = signer_parts (signer_of (signer_fields s))
-
 -- Keys.
 
 pub key_trees : (k l : List ℕ) → k ≡ l → (m : Mode) (ts : Trees) → (key k).trees m ts ↔ (key l).trees m ts
@@ -87,6 +83,10 @@ says true (Blocks runs) h = refl
 says false Missing h = refl
 says false Inherit h = h.1 (λ e. cc)
 says false (Blocks runs) h = h.1 (λ e. cc)
+
+-- What a test decides isn't so where it says no.
+pub said_no : {b : Bool} {P : Type 0} → (IsTrue b ↔ P) → b ≡ false → P → ⊥
+said_no told turned p = let e : true ≡ false = sym (told.1 p) ∙ turned in absurd cc
 
 -- A set that is listed, by its maximal runs.
 pub set_listed : (choice : Choice) (set : List Run) → (choice ≡ Missing → ⊥) → HasMaximal choice → IsRunsOf (Lists choice) set → (choice ≡ Inherit → ⊥) → Some set ≡ listed choice
@@ -124,3 +124,43 @@ parts_object o errors.CerUnsupported h = h
 parts_object o errors.TooLong h = absurd h
 parts_object o errors.Write h = h
 parts_object o errors.Memory h = h
+
+-- Signers, one after the other.
+
+-- All stand in DER exactly where those that are left do.
+abbrev pub StandAlike : List SignerValue → List SignerValue → Type 0
+StandAlike rest whole = All IsSignerInDer (signers_seen rest) ↔ All IsSignerInDer (signers_seen whole)
+
+first_stands : (s : SignerValue) (others : List SignerValue) → SpellsValues Der (signer_of (signer_fields s)).attributes → All IsSignerInDer (signers_seen others)
+    → All IsSignerInDer (signers_seen (s ∷ others))
+first_stands s others p all = All-cons IsSignerInDer (signer_of (signer_fields s)) (signers_seen others) p all
+
+pub stand_next : (rest others whole : List SignerValue) (s : SignerValue) → rest ≡ s ∷ others → SpellsValues Der (signer_of (signer_fields s)).attributes → StandAlike rest whole → StandAlike others whole
+stand_next rest others whole s e p a =
+    let b : StandAlike (s ∷ others) whole = subst (λ (xs : List SignerValue). StandAlike xs whole) e a in
+    (λ all. b.0 (first_stands s others p all), λ all. all_others IsSignerInDer (signer_of (signer_fields s)) (signers_seen others) (b.1 all))
+
+pub parts_next : (old new : List SignerParts) (rest others whole : List SignerValue) (s : SignerValue) (v : SignerParts) → rest ≡ s ∷ others → v ≡ signer_parts (signer_of (signer_fields s)) → new ≡ old ++ (v ∷ [])
+    → old ++ map signer_parts (signers_seen rest) ≡ map signer_parts (signers_seen whole) → new ++ map signer_parts (signers_seen others) ≡ map signer_parts (signers_seen whole)
+parts_next old new rest others whole s v e is pushed h =
+    ap (λ (xs : List SignerParts). xs ++ map signer_parts (signers_seen others)) pushed
+    ∙ append_assoc old (v ∷ []) (map signer_parts (signers_seen others))
+    ∙ ap (λ (x : SignerParts). old ++ (x ∷ map signer_parts (signers_seen others))) is
+    ∙ sym (ap (λ (xs : List SignerValue). old ++ map signer_parts (signers_seen xs)) e)
+    ∙ h
+
+pub parts_end : (old : List SignerParts) (rest whole : List SignerValue) → rest ≡ [] → old ++ map signer_parts (signers_seen rest) ≡ map signer_parts (signers_seen whole) → old ≡ map signer_parts (signers_seen whole)
+parts_end old rest whole e h = sym (append-nil old) ∙ sym (ap (λ (xs : List SignerValue). old ++ map signer_parts (signers_seen xs)) e) ∙ h
+
+pub stand_end : (rest whole : List SignerValue) → rest ≡ [] → StandAlike rest whole → All IsSignerInDer (signers_seen whole)
+stand_end rest whole e a = (subst (λ (xs : List SignerValue). StandAlike xs whole) e a).0 (All-nil IsSignerInDer)
+
+-- The attributes of the next aren't values in DER.
+pub signers_stop : (rest others whole : List SignerValue) (s : SignerValue) → rest ≡ s ∷ others → StandAlike rest whole → (e : EncodeError) → DerRefused (signer_of (signer_fields s)).attributes e
+    → SignersRefused (signers_seen whole) e
+signers_stop rest others whole s e a errors.CerUnsupported h = λ all.
+    let b : StandAlike (s ∷ others) whole = subst (λ (xs : List SignerValue). StandAlike xs whole) e a in
+    h (all_first IsSignerInDer (signer_of (signer_fields s)) (signers_seen others) (b.1 all))
+signers_stop rest others whole s e a errors.TooLong h = absurd h
+signers_stop rest others whole s e a errors.Write h = h
+signers_stop rest others whole s e a errors.Memory h = tt

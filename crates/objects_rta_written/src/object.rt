@@ -268,11 +268,13 @@ fn signers_of(alloc: Global, signers: &[SignerInfo]) -> Result<Vec<SignerValues<
     ensures refused { IfErr result (SignersRefused (signers_seen signers.now)) }
 {
     let mut values = Vec::new(alloc);
-    for signer in signers {
+    let mut rest = signers;
+    while let Some((signer, others)) = rest.split_first() {
         let value = signer.encode_ref(alloc)?;
         if values.push(value).is_err() {
             return Err(EncodeError::Memory);
         }
+        rest = others;
     }
     Ok(values)
 }

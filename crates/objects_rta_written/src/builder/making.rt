@@ -86,8 +86,10 @@ fn addresses_listed(set: IpBlocks) -> IpResources
 fn are_long(keys: &[KeyIdentifier])
     ensures { All IsTwentyLong keys.now }
 {
-    for key in keys {
+    let mut rest = keys;
+    while let Some((key, others)) = rest.split_first() {
         let _octets = key.as_slice();
+        rest = others;
     }
 }
 

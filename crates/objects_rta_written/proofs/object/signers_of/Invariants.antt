@@ -1,11 +1,12 @@
-use Rattle.std.proofs.Common.{◌≡◌, map, take}
-use Rattle.std.specs.Prelude.{All}
-use Rattle.objects_written.specs.objects_payload.ObjectText.{signer_of}
-use Rattle.objects_written.specs.objects_cms.Signer.{signer_fields}
-use Rattle.objects_rta_written.specs.Again.{IsSignerInDer, signer_parts, signers_seen}
+use Rattle.std.proofs.Common.{◌≡◌, ◌++◌, length, map}
+use Rattle.objects_rta_written.specs.Again.{signer_parts, signers_seen}
+use Rattle.objects_rta_written.proofs.Writing.{StandAlike}
 use Rattle.objects_rta_written.proofs.object.signers_of.Given as goal
 
 abbrev pub invariant-loop-signer : goal.invariant-loop-signer
 invariant-loop-signer l =
-    (l.values.items ≡ map signer_parts (signers_seen (take l.signer-index l.signers)))
-    × All IsSignerInDer (signers_seen (take l.signer-index l.signers))
+    (l.values.items ++ map signer_parts (signers_seen l.rest) ≡ map signer_parts (signers_seen l.signers))
+    × StandAlike l.rest l.signers
+
+abbrev pub decreases-loop-signer : goal.decreases-loop-signer
+decreases-loop-signer l = length l.rest
