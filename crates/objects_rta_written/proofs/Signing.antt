@@ -1,5 +1,5 @@
 -- How a signer is made, and why it isn't.
-use Rattle.std.proofs.Common.{◌≡◌, ◌≢◌, ◌⊎◌, inl, inr, ℕ, List, [], ◌++◌, true, Some, None, Result, Ok, Err, IfErr, IfOk, refl, sym, ap, ◌∙◌, subst, append-nil}
+use Rattle.std.proofs.Common.{◌≡◌, ◌≢◌, ◌⊎◌, inl, inr, ℕ, List, [], ◌++◌, ◌∷◌, arith, true, Some, None, Result, Ok, Err, IfErr, IfOk, refl, sym, ap, ◌∙◌, subst, append-nil}
 use Rattle.objects_written.specs.bcder_tree.declared.mode.Mode.TheVariants.{Der}
 use Rattle.objects_written.specs.bcder_tree.Front.{Front}
 use Rattle.objects_written.specs.bcder_tree.Tree.{Tree}
@@ -10,6 +10,7 @@ use Rattle.objects_written.specs.bcder_values.Gathered.{ExtendRefused}
 use Rattle.objects_written.specs.bcder_values.Writable.{Writable}
 use Rattle.objects_written.specs.bcder_primitive.declared.written.error.EncodeError.{EncodeError}
 use Rattle.objects_written.specs.bcder_primitive.declared.written.error.EncodeError.TheVariants as causes
+use Rattle.objects_written.specs.bcder.Identifiers.{IsIdentifier}
 use Rattle.objects_written.specs.certs_basics.Basics.{IsTwentyLong}
 use Rattle.objects_written.specs.certs_basics.HandedIn.{Digests}
 use Rattle.objects_written.specs.certs_basics.Keys.{KeyValue, identifier}
@@ -108,3 +109,27 @@ pub add_refused : {A E : Type 0} (refuses : SigningError E → Type 0) (can : Ty
     → (r : Result A (SigningError E)) → IfErr r (BuildRefused refuses can (CannotMake Signs s sid)) → IfErr r (BuildRefused refuses can (CannotAdd d HasKey Signs s))
 add_refused refuses can d HasKey Signs s key sid has same r h =
     passed refuses can can (CannotMake Signs s sid) (CannotAdd d HasKey Signs s) (λ u. u) (cannot_add d HasKey Signs s key sid has same) r h
+
+-- What is put together.
+
+pub tagged_known : IsIdentifier tagged_attestation
+tagged_known = record { front = 42 ∷ 134 ∷ 72 ∷ 134 ∷ 247 ∷ 13 ∷ 1 ∷ 9 ∷ 16 ∷ 1 ∷ []; last = 36; whole = refl; ends = omega arith }
+
+pub attributes_told : {E : Type 0} (s t : ToSign) → t ≡ s → IsIdentifier s.content_type → (r : Result CapturedValue E) → IfOk r (λ c. WritesAttributes t c.octets) → IfOk r (λ c. AreAttributesOf s c.octets)
+attributes_told s t e known (Ok c) h = record { known = known; written = subst (λ (z : ToSign). WritesAttributes z c.octets) e h }
+attributes_told s t e known (Err x) h = tt
+
+abbrev pub parts : List ℕ → CapturedValue → List ℕ → SignerParts
+parts sid attributes signature = record { sid = sid; attributes = attributes; signature = signature }
+
+pub same_parts : (p : SignerParts) (octets sid : List ℕ) (attributes : CapturedValue) (signature : List ℕ) → p ≡ parts octets attributes signature → octets ≡ sid → p ≡ parts sid attributes signature
+same_parts p octets sid attributes signature e f = e ∙ ap (λ (o : List ℕ). parts o attributes signature) f
+
+pub unwritten_same : (p q : SignerParts) → p ≡ q → (e : EncodeError) → ExtendRefused ((written_signer p).trees Der) ((written_signer p).writes Der) e → e ≢ causes.Memory → Writable ((written_signer q).writes Der) → ⊥
+unwritten_same p q same e r n w = unwritten p e r n (subst (λ (z : SignerParts). Writable ((written_signer z).writes Der)) (sym same) w)
+
+pub made_fields : (p q : SignerParts) → p ≡ q → (s : ToSign) (text octets : List ℕ) → octets ≡ text → IsTwentyLong q.sid → AreAttributesOf s q.attributes.octets → (written_signer p).writes Der text
+    → SpellsSigner Der octets (fields_of q.sid q.attributes.octets s q.signature)
+made_fields p q same s text octets e long are w =
+    subst (λ (o : List ℕ). SpellsSigner Der o (fields_of q.sid q.attributes.octets s q.signature)) (sym e)
+    (fields_spelled q s text long are (subst (λ (z : SignerParts). (written_signer z).writes Der text) same w))

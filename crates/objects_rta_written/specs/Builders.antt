@@ -121,12 +121,14 @@ pub record AddsSigner (d : Digests) (HasKey : KeyValue → Type 0) (Signs : List
 -- Nothing can be written of a signer with that identifier.
 abbrev pub CannotPut : (List ℕ → List ℕ → Type 0) → ToSign → List ℕ → Type 0
 CannotPut Signs s sid =
-    (x : Signer) × IsSigner Signs s sid x × (Writable ((written_signer (signer_parts x)).writes Der) → ⊥)
+    (x : Signer) × IsSigner Signs s sid x
+    × (Writable ((written_signer (signer_parts x)).writes Der) → ⊥)
 
 -- The attributes can't be signed, or nothing can be written of the signer.
 abbrev pub CannotMake : (List ℕ → List ℕ → Type 0) → ToSign → List ℕ → Type 0
 CannotMake Signs s sid = CannotSign s ⊎ CannotPut Signs s sid
 
-abbrev pub CannotAdd : Digests → (KeyValue → Type 0) → (List ℕ → List ℕ → Type 0) → ToSign → Type 0
+abbrev pub CannotAdd : Digests → (KeyValue → Type 0) → (List ℕ → List ℕ → Type 0) → ToSign
+    → Type 0
 CannotAdd d HasKey Signs s =
     CannotSign s ⊎ ((key : KeyValue) × HasKey key × CannotPut Signs s (identifier d key))

@@ -93,7 +93,10 @@ listed (Blocks runs) = Some runs
 abbrev pub parts_of : Attestation → ContentParts
 parts_of a = record {
   keys = a.keys;
-  resources = record { asn = listed a.resources.asn; addresses = both a.resources.v4 a.resources.v6 };
+  resources = record {
+    asn = listed a.resources.asn;
+    addresses = both a.resources.v4 a.resources.v6;
+  };
   digest = a.digest;
 }
 

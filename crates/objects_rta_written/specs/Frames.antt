@@ -51,7 +51,8 @@ pub record MultiParts : Type 0 where
 -- The algorithm of digests is given with it.
 abbrev pub DataFields : Type 0
 DataFields =
-    ℕ × (AlgorithmValue × (List ℕ × (List ℕ × (List CertValue × (List CrlValue × List SignerParts)))))
+    ℕ × (AlgorithmValue
+    × (List ℕ × (List ℕ × (List CertValue × (List CrlValue × List SignerParts)))))
 
 abbrev pub data_fields : MultiParts → DataFields
 data_fields p = (3, (sha256, (p.content_type, (p.content, (p.certs, (p.crls, p.signers))))))

@@ -5,3 +5,4 @@ pub mod Again
 pub mod Builders
 pub mod Making
 pub mod Signing
+pub mod Lending

@@ -5,7 +5,8 @@ use Rattle.objects_written.specs.objects_payload.ObjectText.{SignerFields}
 use Rattle.objects_written.specs.Attributes.{IsMessage, ToSign, WritesAttributes, attributes_of}
 
 -- A signature of attributes: over them as a SET in DER.
-pub record SignsThem (Signs : List ℕ → List ℕ → Type 0) (attributes signature : List ℕ) : Type 0 where
+pub record SignsThem (Signs : List ℕ → List ℕ → Type 0) (attributes signature : List ℕ)
+    : Type 0 where
   pub message : List ℕ
   pub message_is : IsMessage attributes message
   pub is : Signs message signature

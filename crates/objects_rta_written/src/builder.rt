@@ -1,10 +1,12 @@
 //! Attestations that are put together (draft-ietf-sidrops-rpki-rta; this project's profile).
 
+ghost use Rattle.std.specs.Borrow.{sem};
 ghost use Rattle.std.specs.Prelude.{◌≡◌, ◌++◌, ◌∷◌, [], IfErr, IfOk, OnErr, OnOk};
 ghost use Rattle.resources_as.specs.resources_asn.Blocks.{as_run};
 ghost use Rattle.resources_ip.specs.Block.{run_of_block};
 ghost use Rattle.objects_rta_written.specs.Builders.{BuilderRefused, IsBegun, IsPutTogether};
 ghost use Rattle.objects_rta_written.specs.Contents.{IsReadable};
+ghost use Rattle.objects_rta_written.specs.Lending.{LendsNumbers, LendsV4, LendsV6};
 ghost use Rattle.objects_rta.specs.Attestations.{Attestation};
 
 mod making;
@@ -152,6 +154,14 @@ impl AttestationBuilder {
         &self.asn
     }
 
+    /// Lends the blocks of AS numbers, for a change.
+    pub fn as_resources_mut(&mut self) -> &mut AsBlocksBuilder
+        ensures* lends { sem 𝓛 (LendsNumbers self.entry result) }
+        ensures lent { result.now ≡ self.old.asn }
+    {
+        &mut self.asn
+    }
+
     /// The blocks of IPv4 addresses, as they came.
     pub fn v4_resources(&self) -> &IpBlocksBuilder
         ensures { result.now ≡ self.now.v4 }
@@ -159,11 +169,27 @@ impl AttestationBuilder {
         &self.v4
     }
 
+    /// Lends the blocks of IPv4 addresses, for a change.
+    pub fn v4_resources_mut(&mut self) -> &mut IpBlocksBuilder
+        ensures* lends { sem 𝓛 (LendsV4 self.entry result) }
+        ensures lent { result.now ≡ self.old.v4 }
+    {
+        &mut self.v4
+    }
+
     /// The blocks of IPv6 addresses, as they came.
     pub fn v6_resources(&self) -> &IpBlocksBuilder
         ensures { result.now ≡ self.now.v6 }
     {
         &self.v6
+    }
+
+    /// Lends the blocks of IPv6 addresses, for a change.
+    pub fn v6_resources_mut(&mut self) -> &mut IpBlocksBuilder
+        ensures* lends { sem 𝓛 (LendsV6 self.entry result) }
+        ensures lent { result.now ≡ self.old.v6 }
+    {
+        &mut self.v6
     }
 
     /// The attestation of all that was given: of each kind the set of all its blocks is stated, and a kind is missing where

@@ -1,0 +1,7 @@
+use Rattle.objects_written.specs.bcder_tree.declared.mode.Mode.TheVariants.{Der}
+use Rattle.objects_rta_written.proofs.Making.{same_content}
+use Rattle.objects_rta_written.proofs.builder.making.content_of.Goals as goal
+
+pub returns-in-Ok-clause-made : goal.returns-in-Ok-clause-made
+returns-in-Ok-clause-made c = λ x s.
+    same_content c.args.octets x _ (c.one_attestation.ensures Der) s c.in-Ok.ensures.0 c.in-Ok.ensures.1 c.in-Ok.ensures.2 c.in-Ok.ensures.3
