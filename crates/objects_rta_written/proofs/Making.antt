@@ -8,6 +8,12 @@ use Rattle.objects_written.specs.bcder_content.Grammar.{One}
 use Rattle.objects_written.specs.bcder_content.Texts.{SpellsOf}
 use Rattle.objects_written.specs.certs_basics.Basics.{IsTwentyLong}
 use Rattle.objects_written.proofs.Making.{same_front}
+use Rattle.certs_key.proofs.of_bcder_tree.Fronts.{whole_front}
+use Rattle.objects_written.specs.bcder_primitive.declared.written.error.EncodeError.{EncodeError}
+use Rattle.objects_written.specs.bcder_primitive.declared.written.error.EncodeError.TheVariants as causes
+use Rattle.objects_rta_written.specs.declared.builder.AttestationError.{AttestationError}
+use Rattle.objects_rta_written.specs.declared.builder.AttestationError.TheVariants as errors
+use Rattle.objects_rta_written.specs.Taking.{TextRefused}
 use Rattle.resources_as.specs.Written.{HasMaximal}
 use Rattle.resources_ip.specs.resources_chain.Claims.{Choice}
 use Rattle.resources_ip.specs.resources_chain.Sets.{AreMaximal, InRuns, IsRunsOf, Run}
@@ -17,9 +23,9 @@ use Rattle.resources_ip.specs.WholeSets.{AreWhole}
 use Rattle.resources_ip.specs.Written.{FitsChoice}
 use Rattle.resources_ip.specs.WrittenFamilies.{both}
 use Rattle.objects_rta.specs.Attestations.{Attestation, IsAttestation}
-use Rattle.objects_rta_written.specs.Builders.{AreNone, ContentBuilder, IsListed, IsPutTogether, StatesNone}
-use Rattle.objects_rta_written.specs.Contents.{AreStatable, ContentParts, IsReadable, attestation, listed, parts_of, written_parts}
-use Rattle.objects_rta_written.specs.Making.{AreAllNone, AreSetsOf, IsStatedBy, chosen, said_by}
+use Rattle.objects_rta_written.specs.Builders.{AreNone, BuilderRefused, ContentBuilder, IsListed, IsPutTogether, StatesNone}
+use Rattle.objects_rta_written.specs.Contents.{AreStatable, AttestationRefused, ContentParts, IsReadable, attestation, listed, parts_of}
+use Rattle.objects_rta_written.specs.Making.{AreAllNone, AreSetsOf, IsStatedBy, MakingRefused, SetsRefused, chosen, said_by, told_as}
 use Rattle.objects_rta_written.specs.declared.builder.making.Sets.{Sets}
 
 -- Blocks and their set have the same numbers.
@@ -122,3 +128,56 @@ put_together b keys s digest e f are = record {
 pub same_content : (octets : List ℕ) (x y : Attestation) → One (IsAttestation Der) → SpellsOf Der (IsAttestation Der) octets x → (t : Tree) (rest : List ℕ) → Front Der octets t rest → IsAttestation Der t y → y ≡ x
 same_content octets x y one s t rest front is =
     one.one s.tree y x (subst (λ (u : Tree). IsAttestation Der u y) (same_front front s.spelled) is) s.is
+
+pub not_refused : (octets : List ℕ) (x : Attestation) → SpellsOf Der (IsAttestation Der) octets x → ((t : Tree) (y : Attestation) (rest : List ℕ) → IsAttestation Der t y → Front Der octets t rest → ⊥) → ⊥
+not_refused octets x s none = none s.tree x [] s.is (whole_front s.spelled)
+
+-- Its parts, as they are written.
+
+pub said_parts : (keys : List (List ℕ)) (s : Sets) (digest : List ℕ) (p : ContentParts) (asn : Option (List Run)) (v4 v6 : Choice) → p ≡ record { keys = keys; resources = record { asn = asn; addresses = both v4 v6 }; digest = digest }
+    → asn ≡ listed (chosen s.asn) → v4 ≡ chosen s.v4 → v6 ≡ chosen s.v6 → p ≡ parts_of (said_by keys s digest)
+said_parts keys s digest p asn v4 v6 e f g h =
+    e
+    ∙ ap (λ (a : Option (List Run)). (let q : ContentParts = record { keys = keys; resources = record { asn = a; addresses = both v4 v6 }; digest = digest } in q)) f
+    ∙ ap (λ (a : Choice). (let q : ContentParts = record { keys = keys; resources = record { asn = listed (chosen s.asn); addresses = both a v6 }; digest = digest } in q)) g
+    ∙ ap (λ (a : Choice). (let q : ContentParts = record { keys = keys; resources = record { asn = listed (chosen s.asn); addresses = both (chosen s.v4) a }; digest = digest } in q)) h
+
+-- The attestation that octets say.
+
+pub attested : {E : Type 0} (octets : List ℕ) (a : Attestation) → SpellsOf Der (IsAttestation Der) octets a → (r : Result Attestation E) → IfOk r (λ x. (y : Attestation) → SpellsOf Der (IsAttestation Der) octets y → x ≡ y) → IfOk r (λ x. x ≡ a)
+attested octets a s (Ok x) h = h a s
+attested octets a s (Err e) h = tt
+
+pub has_it : {E : Type 0} (P : Attestation → Type 0) (a : Attestation) → P a → (r : Result Attestation E) → IfOk r (λ x. x ≡ a) → IfOk r P
+has_it P a p (Ok x) h = subst P (sym h) p
+has_it P a p (Err e) h = tt
+
+pub making_refused : (a : Attestation) (e : EncodeError) (x : AttestationError) → x ≡ told_as e → TextRefused ((attestation a).writes Der) e → MakingRefused a x
+making_refused a causes.CerUnsupported x same h = absurd h
+making_refused a causes.TooLong x same h = subst (MakingRefused a) (sym same) h
+making_refused a causes.Write x same h = absurd h
+making_refused a causes.Memory x same h = subst (MakingRefused a) (sym same) tt
+
+pub builder_refused : {A : Type 0} (b : ContentBuilder) (a : Attestation) → IsPutTogether b a → (r : Result A AttestationError) → IfErr r (MakingRefused a) → IfErr r (BuilderRefused b)
+builder_refused b a p (Ok x) h = tt
+builder_refused b a p (Err errors.NoResources) h = absurd h
+builder_refused b a p (Err errors.NotWhole) h = absurd h
+builder_refused b a p (Err errors.TooLong) h = (a, p, h)
+builder_refused b a p (Err errors.Memory) h = tt
+
+pub sets_refused : (b : ContentBuilder) (e : AttestationError) → SetsRefused b.asn b.v4 b.v6 e → BuilderRefused b e
+sets_refused b errors.NoResources h = record { asn = h.0; v4 = h.1.0; v6 = h.1.1 }
+sets_refused b errors.NotWhole h = (λ n. h.0 (n.asn, (n.v4, n.v6)), h.1)
+sets_refused b errors.TooLong h = absurd h
+sets_refused b errors.Memory h = tt
+
+-- What isn't written of an attestation that was put together.
+pub begun_refused : (b : ContentBuilder) (a : Attestation) → IsPutTogether b a → (e : EncodeError) (x : AttestationError) → x ≡ told_as e → AttestationRefused a e → BuilderRefused b x
+begun_refused b a p causes.CerUnsupported x same h =
+    elim p.asn [
+      | inl m ↦ let q : ◌≡◌ {A = Choice} Missing Inherit = sym m.0 ∙ h in absurd cc
+      | inr m ↦ let q : ◌≡◌ {A = Choice} (Blocks m.1) Inherit = sym m.2 ∙ h in absurd cc
+    ]
+begun_refused b a p causes.TooLong x same h = subst (BuilderRefused b) (sym same) (a, p, h)
+begun_refused b a p causes.Write x same h = absurd h
+begun_refused b a p causes.Memory x same h = subst (BuilderRefused b) (sym same) tt

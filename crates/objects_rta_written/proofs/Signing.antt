@@ -1,5 +1,5 @@
 -- How a signer is made, and why it isn't.
-use Rattle.std.proofs.Common.{◌≡◌, ◌≢◌, ◌⊎◌, inl, inr, ℕ, List, [], ◌++◌, ◌∷◌, arith, true, Some, None, Result, Ok, Err, IfErr, IfOk, refl, sym, ap, ◌∙◌, subst, append-nil}
+use Rattle.std.proofs.Common.{◌≡◌, ◌≢◌, ◌⊎◌, inl, inr, ℕ, List, [], ◌++◌, ◌∷◌, arith, true, Some, None, Result, Ok, Err, IfErr, IfOk, OnOk, refl, sym, ap, ◌∙◌, subst, append-nil}
 use Rattle.objects_written.specs.bcder_tree.declared.mode.Mode.TheVariants.{Der}
 use Rattle.objects_written.specs.bcder_tree.Front.{Front}
 use Rattle.objects_written.specs.bcder_tree.Tree.{Tree}
@@ -15,6 +15,7 @@ use Rattle.objects_written.specs.certs_basics.Basics.{IsTwentyLong}
 use Rattle.objects_written.specs.certs_basics.HandedIn.{Digests}
 use Rattle.objects_written.specs.certs_basics.Keys.{KeyValue, identifier}
 use Rattle.objects_written.specs.certs_key.declared.signer.SigningError.{SigningError}
+use Rattle.objects_written.specs.certs_key.declared.signer.SigningError.TheVariants as refusals
 use Rattle.objects_written.specs.objects_payload.ObjectText.{Signer, SignerFields, SpellsSigner, signer_of}
 use Rattle.objects_cms.specs.Signer.{IsSigner as IsSignerValue}
 use Rattle.objects_cms.proofs.Ones.{signer_one}
@@ -26,7 +27,7 @@ use Rattle.objects_written.proofs.Again.{attributes_again}
 use Rattle.objects_written.proofs.Refused.{enclosing, passed, weaker}
 use Rattle.objects_rta.specs.Attestations.{tagged_attestation}
 use Rattle.objects_rta_written.specs.Again.{signer_parts}
-use Rattle.objects_rta_written.specs.Builders.{CannotAdd, CannotMake, CannotPut, IsSigner}
+use Rattle.objects_rta_written.specs.Builders.{AddsSigner, CannotAdd, CannotMake, CannotPut, Draft, IsSigner}
 use Rattle.objects_rta_written.specs.Signing.{AreAttributesOf, SignsThem, fields_of}
 use Rattle.objects_rta_written.specs.Taking.{in_der}
 use Rattle.objects_rta_written.proofs.Words.{signer_spelled, signs}
@@ -133,3 +134,16 @@ pub made_fields : (p q : SignerParts) → p ≡ q → (s : ToSign) (text octets 
 made_fields p q same s text octets e long are w =
     subst (λ (o : List ℕ). SpellsSigner Der o (fields_of q.sid q.attributes.octets s q.signature)) (sym e)
     (fields_spelled q s text long are (subst (λ (z : SignerParts). (written_signer z).writes Der text) same w))
+
+-- A signer that was made is added.
+
+pub added_on : {A E : Type 0} (d : Digests) (HasKey : KeyValue → Type 0) (Signs : List ℕ → List ℕ → Type 0) (s : ToSign) (old new : Draft) (x : Signer)
+    → (k : KeyValue) × HasKey k × IsSigner Signs s (identifier d k) x → (r : Result A E) → OnOk r (new ≡ record old { signers = old.signers ++ (x ∷ []) }) → OnOk r (AddsSigner d HasKey Signs s old new)
+added_on d HasKey Signs s old new x m (Ok y) h = record { key = m.0; has = m.1; signer = x; is = m.2; added = h }
+added_on d HasKey Signs s old new x m (Err e) h = tt
+
+pub memory_refused : {A E : Type 0} (refuses : SigningError E → Type 0) (cannot : Type 0) (s : ToSign) (octets : List ℕ) → s.content_type ≡ tagged_attestation → WritesAttributes s octets → (r : Result A (SigningError E))
+    → IfErr r (λ e. e ≡ refusals.Memory) → IfErr r (BuildRefused refuses (CanTell tagged_attestation) cannot)
+memory_refused refuses cannot s octets kind w (Ok y) h = tt
+memory_refused refuses cannot s octets kind w (Err e) h =
+    subst (BuildRefused refuses (CanTell tagged_attestation) cannot) (sym h) (inr (subst CanTell kind (w.type_text, w.type_is)))

@@ -8,6 +8,7 @@ use Rattle.objects_written.specs.bcder_tree.declared.mode.Mode.TheVariants.{Der}
 use Rattle.objects_written.specs.bcder_tree.Tree.{Trees}
 use Rattle.objects_written.specs.bcder_content.Kept.{CapturedValue, SpellsValues}
 use Rattle.objects_written.specs.bcder_values.Gathered.{ExtendRefused}
+use Rattle.objects_written.specs.bcder_primitive.Encoded.{SpellsSome}
 use Rattle.objects_written.specs.bcder_primitive.declared.written.error.EncodeError.{EncodeError}
 use Rattle.objects_written.specs.bcder_primitive.declared.written.error.EncodeError.TheVariants as errors
 use Rattle.certs_cert.specs.certs_x509.Signed.{SignedDataValue, signed as signed_form, signed_fields}
@@ -34,7 +35,7 @@ use Rattle.objects_rta_written.specs.Again.{AgainRefused, AreCarriedInDer, IsSig
 use Rattle.objects_rta_written.specs.Contents.{AttestationRefused, NumbersRefused, attestation, families, key, listed, numbers, tagged_families, tagged_numbers}
 use Rattle.objects_rta_written.specs.Contents as contents
 use Rattle.objects_rta_written.specs.Frames.{crl, lists, object, signed, value_of}
-use Rattle.objects_rta_written.specs.Taking.{DerRefused, IsInDer, in_der}
+use Rattle.objects_rta_written.specs.Taking.{DerRefused, IsInDer, IsTooLong, TextRefused, cause_told, in_der}
 use Rattle.objects_rta_written.proofs.Words.{all_first, all_others}
 
 -- Items of slices.
@@ -58,14 +59,10 @@ signed_text v s e m text = (
   subst (λ (w : SignedDataValue). signed_form.writes (signed_fields w) m text) (sym (signed_same v s e)),
 )
 
--- Lists that are some.
-pub some_lists : (cs : List CrlValue) → (length cs ≡ 0 → ⊥) → inside (context 1) (each crl cs) ≡ lists cs
-some_lists [] some = absurd (some refl)
-some_lists (c ∷ cs) some = refl
-
-pub no_lists : (cs : List CrlValue) → length cs ≡ 0 → lists [] ≡ lists cs
-no_lists [] e = refl
-no_lists (c ∷ cs) e = absurd cc
+-- What is so of lists in [1] is so of lists that are some.
+pub lists_shown : (P : Output → Type 0) (cs : List CrlValue) → (length cs ≡ 0 → ⊥) → P (inside (context 1) (each crl cs)) → P (lists cs)
+lists_shown P [] some h = absurd (some refl)
+lists_shown P (c ∷ cs) some h = h
 
 -- Keys.
 
@@ -164,3 +161,27 @@ signers_stop rest others whole s e a errors.CerUnsupported h = λ all.
 signers_stop rest others whole s e a errors.TooLong h = absurd h
 signers_stop rest others whole s e a errors.Write h = h
 signers_stop rest others whole s e a errors.Memory h = tt
+
+-- What isn't written.
+
+pub text_stop : {A : Type 0} (F G : List ℕ → Type 0) (H : EncodeError → Type 0) → ((e : EncodeError) → TextRefused G e → H e) → F ≡ G → (r : Result A EncodeError) → IfErr r (TextRefused F) → IfErr r H
+text_stop F G H g same (Ok x) h = tt
+text_stop F G H g same (Err e) h = g e (subst (λ (P : List ℕ → Type 0). TextRefused P e) same h)
+
+pub attestation_text : (a : Attestation) (e : EncodeError) → TextRefused ((attestation a).writes Der) e → AttestationRefused a e
+attestation_text a errors.CerUnsupported h = absurd h
+attestation_text a errors.TooLong h = h
+attestation_text a errors.Write h = h
+attestation_text a errors.Memory h = tt
+
+pub object_text : (o : Multi) → StandsInDer o → (e : EncodeError) → TextRefused (WritesAgain o) e → AgainRefused o e
+object_text o s errors.CerUnsupported h = absurd h
+object_text o s errors.TooLong h = (s, h)
+object_text o s errors.Write h = h
+object_text o s errors.Memory h = s.carried
+
+pub text_told : {T : Trees → Type 0} {P : List ℕ → Type 0} (e x : EncodeError) → x ≡ cause_told e → ((text : List ℕ) → P text → SpellsSome Der T text) → ExtendRefused T P e → TextRefused P x
+text_told {P = P} errors.CerUnsupported x same spelled r = subst (TextRefused P) (sym same) (λ text w few. let s = spelled text w in r s.trees s.is)
+text_told {P = P} errors.TooLong x same spelled r = subst (TextRefused P) (sym same) r
+text_told errors.Write x same spelled r = absurd r
+text_told {P = P} errors.Memory x same spelled r = subst (TextRefused P) (sym same) tt

@@ -1,5 +1,5 @@
 -- Signed objects with several signers that were read, as they are written in DER (RFC 5652 3, 5.1).
-use Rattle.std.specs.Prelude.{◌≡◌, ◌≢◌, ℕ, ◌^◌, ◌<◌, List, [], length, map, true, All}
+use Rattle.std.specs.Prelude.{◌≡◌, ◌≢◌, ℕ, List, [], map, true, All}
 use Rattle.objects_written.specs.bcder_tree.declared.mode.Mode.TheVariants.{Der}
 use Rattle.objects_written.specs.bcder_tree.Tree.{Tree}
 use Rattle.objects_written.specs.bcder.Identifiers.{IsIdentifier}
@@ -17,7 +17,7 @@ use Rattle.objects_written.specs.Frames.{SignerParts}
 use Rattle.objects_written.specs.objects_cms.Signer.{SignerValue, signer_fields}
 use Rattle.objects_rta.specs.MultiText.{Multi}
 use Rattle.objects_rta_written.specs.Frames.{MultiParts, object}
-use Rattle.objects_rta_written.specs.Taking.{in_der}
+use Rattle.objects_rta_written.specs.Taking.{IsTooLong, in_der}
 
 -- What is written of a signer: its attributes as they stood (RFC 5652 5.4).
 abbrev pub signer_parts : Signer → SignerParts
@@ -62,10 +62,6 @@ SignersRefused ss errors.CerUnsupported = All IsSignerInDer ss → ⊥
 SignersRefused ss errors.TooLong = ⊥
 SignersRefused ss errors.Write = ⊥
 SignersRefused ss errors.Memory = Unit {0}
-
--- No octets of P can be counted.
-abbrev pub IsTooLong : (List ℕ → Type 0) → Type 0
-IsTooLong P = (text : List ℕ) → P text → length text < 2 ^ 64 → ⊥
 
 -- The octets that are written of an object.
 abbrev pub WritesAgain : Multi → List ℕ → Type 0

@@ -16,7 +16,8 @@ use Rattle.resources_ip.specs.resources_chain.declared.choice.ResourcesChoice.Th
 use Rattle.resources_ip.specs.WholeSets.{AreWhole}
 use Rattle.objects_rta.specs.Attestations.{Attestation, tagged_attestation}
 use Rattle.objects_rta.specs.MultiText.{Multi}
-use Rattle.objects_rta_written.specs.Again.{IsTooLong, signer_parts}
+use Rattle.objects_rta_written.specs.Again.{signer_parts}
+use Rattle.objects_rta_written.specs.Taking.{IsTooLong}
 use Rattle.objects_rta_written.specs.Contents.{attestation}
 use Rattle.objects_rta_written.specs.declared.builder.AttestationError.{AttestationError}
 use Rattle.objects_rta_written.specs.declared.builder.AttestationError.TheVariants as errors

@@ -1,12 +1,14 @@
 -- How an attestation is made of the sets of all blocks that were given.
 use Rattle.std.specs.Prelude.{◌≡◌, ℕ, List, [], ◌∷◌}
 use Rattle.objects_written.specs.bcder_tree.declared.mode.Mode.TheVariants.{Der}
+use Rattle.objects_written.specs.bcder_primitive.declared.written.error.EncodeError.{EncodeError}
+use Rattle.objects_written.specs.bcder_primitive.declared.written.error.EncodeError.TheVariants as causes
 use Rattle.resources_ip.specs.resources_chain.Claims.{Choice}
 use Rattle.resources_ip.specs.resources_chain.Sets.{AreMaximal, InRuns, IsRunsOf, Run}
 use Rattle.resources_ip.specs.resources_chain.declared.choice.ResourcesChoice.TheVariants.{Missing, Blocks}
 use Rattle.resources_ip.specs.WholeSets.{AreWhole}
 use Rattle.objects_rta.specs.Attestations.{Attestation}
-use Rattle.objects_rta_written.specs.Again.{IsTooLong}
+use Rattle.objects_rta_written.specs.Taking.{IsTooLong}
 use Rattle.objects_rta_written.specs.Builders.{AreNone}
 use Rattle.objects_rta_written.specs.Contents.{attestation}
 use Rattle.objects_rta_written.specs.declared.builder.AttestationError.{AttestationError}
@@ -58,3 +60,10 @@ MakingRefused a errors.NoResources = ⊥
 MakingRefused a errors.NotWhole = ⊥
 MakingRefused a errors.TooLong = IsTooLong ((attestation a).writes Der)
 MakingRefused a errors.Memory = Unit {0}
+
+-- Why an attestation isn't made of what isn't written.
+abbrev pub told_as : EncodeError → AttestationError
+told_as causes.CerUnsupported = errors.TooLong
+told_as causes.TooLong = errors.TooLong
+told_as causes.Write = errors.TooLong
+told_as causes.Memory = errors.Memory

@@ -1,5 +1,5 @@
 -- Octets that are taken as values in DER.
-use Rattle.std.specs.Prelude.{◌≡◌, ℕ, List, Result, Ok, Err}
+use Rattle.std.specs.Prelude.{◌≡◌, ℕ, ◌^◌, ◌<◌, List, length, Result, Ok, Err}
 use Rattle.objects_written.specs.bcder_tree.declared.mode.Mode.TheVariants.{Der}
 use Rattle.objects_written.specs.bcder_source.Errors.{OnContent}
 use Rattle.objects_written.specs.bcder_source.declared.error.DecodeError.{DecodeError}
@@ -35,3 +35,21 @@ DerRefused octets errors.CerUnsupported = SpellsValues Der octets → ⊥
 DerRefused octets errors.TooLong = ⊥
 DerRefused octets errors.Write = ⊥
 DerRefused octets errors.Memory = Unit {0}
+
+-- No octets of P can be counted.
+abbrev pub IsTooLong : (List ℕ → Type 0) → Type 0
+IsTooLong P = (text : List ℕ) → P text → length text < 2 ^ 64 → ⊥
+
+-- Why nothing of P is written: none can be, or there is no memory.
+abbrev pub TextRefused : (List ℕ → Type 0) → EncodeError → Type 0
+TextRefused P errors.CerUnsupported = ⊥
+TextRefused P errors.TooLong = IsTooLong P
+TextRefused P errors.Write = ⊥
+TextRefused P errors.Memory = Unit {0}
+
+-- What isn't written for another cause than memory is too long.
+abbrev pub cause_told : EncodeError → EncodeError
+cause_told errors.CerUnsupported = errors.TooLong
+cause_told errors.TooLong = errors.TooLong
+cause_told errors.Write = errors.TooLong
+cause_told errors.Memory = errors.Memory

@@ -9,6 +9,7 @@ ghost use Rattle.objects_rta_written.specs.Contents.{AttestationRefused, PartsRe
 pub(crate) mod stated;
 
 use crate::attestation::stated::{StatedValue, numbers_of};
+use crate::der::text_of;
 use crate::signer::octets_of;
 use certs::written::{AlgorithmIdentifier, Captured, EncodeError, Mode, Sequence, Values};
 use certs_key::encode::{Encodes, Slice, slice};
@@ -174,10 +175,6 @@ impl EncodeAttestation for ResourceTaggedAttestation {
 
     fn to_captured(&self, alloc: Global) -> Result<Captured, EncodeError> {
         let values = self.encode_ref()?;
-        match values.to_captured(alloc, Mode::Der) {
-            Ok(octets) => Ok(octets),
-            Err(EncodeError::Memory) => Err(EncodeError::Memory),
-            Err(_) => Err(EncodeError::TooLong),
-        }
+        text_of(alloc, &values)
     }
 }

@@ -11,10 +11,9 @@ ghost use Rattle.objects_rta.specs.Attestations.{Attestation};
 
 mod making;
 
-use crate::builder::making::{attest, sets_of};
+use crate::builder::making::{attest, cause_of, sets_of};
 use crate::draft::RtaBuilder;
 use crate::signer::octets_of;
-use certs::written::EncodeError;
 use certs_key::{DigestAlgorithm, KeyIdentifier, OctetString};
 use objects_rta::ResourceTaggedAttestation;
 use resources_as::{AsBlock, AsBlocksBuilder};
@@ -237,8 +236,7 @@ impl AttestationBuilder {
         let attestation = self.into_attestation(alloc)?;
         match RtaBuilder::from_attestation(alloc, attestation) {
             Ok(builder) => Ok(builder),
-            Err(EncodeError::Memory) => Err(AttestationError::Memory),
-            Err(_) => Err(AttestationError::TooLong),
+            Err(error) => Err(cause_of(error)),
         }
     }
 }

@@ -1,11 +1,15 @@
 //! Attestations that are signed by the holders of several keys, one after the other (RFC 5652 5.1, 5.3).
 
-ghost use Rattle.std.specs.Prelude.{◌≡◌, ◌++◌, ◌∷◌, IfErr, IfOk, OnErr, OnOk};
+ghost use Rattle.std.specs.Prelude.{◌≡◌, ◌++◌, ◌∷◌, [], IfErr, IfOk, OnErr, OnOk};
 ghost use Rattle.objects_written.specs.certs_key.Digesting.{digests_of};
 ghost use Rattle.objects_written.specs.Refusing.{BuildRefused, CanTell};
 ghost use Rattle.objects_rta.specs.Attestations.{tagged_attestation};
 ghost use Rattle.objects_rta_written.specs.Again.{signers_seen};
-ghost use Rattle.objects_rta_written.specs.Builders.{AddsSigner, CannotAdd, IsBegun, object_of, signs};
+ghost use Rattle.objects_rta_written.specs.Builders.{AddsSigner, CannotAdd, IsBegun, IsSigner, object_of, signs};
+ghost use Rattle.objects_written.specs.certs_basics.Keys.{KeyValue, identifier};
+ghost use Rattle.objects_written.specs.certs_key.declared.signer.SigningError.TheVariants.{Memory as no_memory};
+ghost use Rattle.objects_written.specs.objects_payload.ObjectText.{signer_of};
+ghost use Rattle.objects_cms.specs.Signer.{signer_fields};
 ghost use Rattle.objects_rta_written.specs.Contents.{AttestationRefused};
 
 mod signing;
@@ -169,8 +173,45 @@ impl RtaBuilder {
             (signs (digests_of D.sha256_digest D.sha1_digest digester.now)
             self.old signing_time))) }
     {
+        match self.make(alloc, signer, key, signing_time, digester) {
+            Ok(made) => self.add(made),
+            Err(error) => Err(error),
+        }
+    }
+
+    // A signer by that key, which signs the octets then.
+    fn make<S: Signer, D: Digester>(
+        &self,
+        alloc: Global,
+        signer: &S,
+        key: &S::KeyId,
+        signing_time: Time,
+        digester: &D,
+    ) -> Result<SignerInfo, SigningError<S::Error>>
+        ensures made { IfOk result (λ x. (k : KeyValue) × S.has_key signer.now key.now k
+            × IsSigner (S.signs signer.now key.now)
+            (signs (digests_of D.sha256_digest D.sha1_digest digester.now) self.now signing_time)
+            (identifier (digests_of D.sha256_digest D.sha1_digest digester.now) k)
+            (signer_of (signer_fields x))) }
+        ensures refused { IfErr result (BuildRefused (S.refuses signer.now)
+            (CanTell tagged_attestation) (CannotAdd
+            (digests_of D.sha256_digest D.sha1_digest digester.now)
+            (S.has_key signer.now key.now) (S.signs signer.now key.now)
+            (signs (digests_of D.sha256_digest D.sha1_digest digester.now)
+            self.now signing_time))) }
+    {
         let content = octets_of(&self.octets);
-        let made = signer_for(alloc, content, signing_time, signer, key, digester)?;
+        signer_for(alloc, content, signing_time, signer, key, digester)
+    }
+
+    // One signer more, after the others. On an error nothing changes.
+    fn add<E>(&mut self, made: SignerInfo) -> Result<(), SigningError<E>>
+        ensures added { OnOk result (self.new ≡ record self.old {
+          signers = self.old.signers ++ signer_of (signer_fields made) ∷ [];
+        }) }
+        ensures err { OnErr result (self.new ≡ self.old) }
+        ensures refused { IfErr result (λ e. e ≡ no_memory) }
+    {
         match self.signers.push(made) {
             Ok(()) => Ok(()),
             Err(_) => Err(SigningError::Memory),

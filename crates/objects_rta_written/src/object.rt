@@ -1,6 +1,7 @@
 //! Signed objects with several signers, written again (RFC 5652 3, 5.1).
 
-ghost use Rattle.std.specs.Prelude.{◌≡◌, ◌↔◌, All, IfErr, IfOk, IsTrue, map};
+ghost use Rattle.std.specs.Prelude.{◌≡◌, ◌↔◌, ◌++◌, ◌∷◌, [], All, IfErr, IfOk, IsTrue, OnOk, map};
+ghost use Rattle.objects_written.specs.bcder_primitive.declared.written.error.EncodeError.TheVariants.{Memory as memory_lacks};
 ghost use Rattle.objects_written.specs.bcder_tree.declared.mode.Mode.TheVariants.{Der};
 ghost use Rattle.objects_written.specs.objects_payload.ObjectText.{signer_of};
 ghost use Rattle.objects_cms.specs.Signer.{signer_fields};
@@ -9,14 +10,16 @@ ghost use Rattle.objects_rta.specs.MultiText.{Multi};
 ghost use Rattle.objects_rta_written.specs.Again.{AgainRefused, AreCarriedInDer, IsCertInDer, IsCrlInDer, IsSignerInDer, PartsRefused, SignersRefused, StandsInDer, WritesAgain, parts_of, signer_parts, signers_seen};
 ghost use Rattle.objects_rta_written.specs.Frames.{cert as cert_output, crl as crl_output, data_fields, lists, object as written_object, signed_data};
 
+use crate::der::text_of;
 use crate::signer::{EncodeSigner, SignerValues, octets_of};
 use crate::tags::Context1;
 use certs::written::{
     AlgorithmIdentifier, Captured, Context0, EncodeError, Identifier, Mode, Sequence, Values,
     Version,
 };
-use certs_cert::{Cert, CertValues};
-use certs_crl::{Crl, CrlValues};
+use certs_cert::Cert;
+use certs_cert::signed::SignedDataValues;
+use certs_crl::Crl;
 use certs_key::encode::{Encodes, Slice, slice};
 use certs_key::{ConstOid, DigestAlgorithm, Oid};
 use objects_cms::signed::SignerInfo;
@@ -37,13 +40,13 @@ const VERSION: u8 = 3;
 struct EachCert;
 
 impl<'a> Encodes<'a, Cert> for EachCert {
-    type Given = CertValues<'a>;
+    type Given = SignedDataValues<'a>;
 
     ghost trees = { λ e x m. (cert_output x).trees m };
 
     ghost writes = { λ e x m. (cert_output x).writes m };
 
-    fn values_of(&self, item: &'a Cert) -> CertValues<'a> {
+    fn values_of(&self, item: &'a Cert) -> SignedDataValues<'a> {
         item.encode_ref()
     }
 
@@ -57,13 +60,13 @@ impl<'a> Encodes<'a, Cert> for EachCert {
 struct EachCrl;
 
 impl<'a> Encodes<'a, Crl> for EachCrl {
-    type Given = CrlValues<'a>;
+    type Given = SignedDataValues<'a>;
 
     ghost trees = { λ e x m. (crl_output x).trees m };
 
     ghost writes = { λ e x m. (crl_output x).writes m };
 
-    fn values_of(&self, item: &'a Crl) -> CrlValues<'a> {
+    fn values_of(&self, item: &'a Crl) -> SignedDataValues<'a> {
         item.encode_ref()
     }
 
@@ -261,6 +264,17 @@ fn are_carried_in_der(object: &MultiSignedObject) -> bool
     are_certs_in_der(object.certificates()) && are_crls_in_der(object.crls())
 }
 
+// One signer more.
+fn push<'a>(values: &mut Vec<SignerValues<'a>>, value: SignerValues<'a>) -> Result<(), EncodeError>
+    ensures pushed { OnOk result (values.new.items ≡ values.old.items ++ value.entry ∷ []) }
+    ensures refused { IfErr result (λ e. e ≡ memory_lacks) }
+{
+    match values.push(value) {
+        Ok(()) => Ok(()),
+        Err(_) => Err(EncodeError::Memory),
+    }
+}
+
 // What is written of each signer.
 fn signers_of(alloc: Global, signers: &[SignerInfo]) -> Result<Vec<SignerValues<'_>>, EncodeError>
     ensures parts { IfOk result (λ v. v.items ≡ map signer_parts (signers_seen signers.now)) }
@@ -271,9 +285,7 @@ fn signers_of(alloc: Global, signers: &[SignerInfo]) -> Result<Vec<SignerValues<
     let mut rest = signers;
     while let Some((signer, others)) = rest.split_first() {
         let value = signer.encode_ref(alloc)?;
-        if values.push(value).is_err() {
-            return Err(EncodeError::Memory);
-        }
+        push(&mut values, value)?;
         rest = others;
     }
     Ok(values)
@@ -332,11 +344,7 @@ impl EncodeMulti for MultiSignedObject {
 
     fn to_captured(&self, alloc: Global) -> Result<Captured, EncodeError> {
         let values = values_of(alloc, self)?;
-        match values.to_captured(alloc, Mode::Der) {
-            Ok(octets) => Ok(octets),
-            Err(EncodeError::Memory) => Err(EncodeError::Memory),
-            Err(_) => Err(EncodeError::TooLong),
-        }
+        text_of(alloc, &values)
     }
 }
 

@@ -1,7 +1,9 @@
 //! What one signer signed, written again (RFC 5652 5.3).
 
 ghost use Rattle.std.specs.Prelude.{◌≡◌, IfErr, IfOk, IfSome, OnErr, true};
+ghost use Rattle.objects_written.specs.bcder_tree.declared.mode.Mode.TheVariants.{Der};
 ghost use Rattle.objects_written.specs.bcder_tree.Tags.{sequence_tag};
+ghost use Rattle.objects_written.specs.bcder_content.Kept.{SpellsValues};
 ghost use Rattle.objects_written.specs.bcder_content.Exact.{ReadsOptAs};
 ghost use Rattle.objects_written.specs.bcder_content.Here.{here};
 ghost use Rattle.objects_written.specs.objects_payload.ObjectText.{SignerFields as FieldsOf, SpellsSigner, signer_of};
@@ -94,6 +96,8 @@ pub trait EncodeSigner: Sized {
     /// `CerUnsupported` where the attributes aren't values in DER, as can be of an object that was read in BER.
     fn encode_ref(&self, alloc: Global) -> Result<SignerValues<'_>, EncodeError>
         ensures parts { IfOk result (λ v. v ≡ signer_parts (signer_of (fields self.now))) }
+        ensures stands { IfOk result
+            (λ v. SpellsValues Der (signer_of (fields self.now)).attributes) }
         ensures refused { IfErr result (DerRefused (signer_of (fields self.now)).attributes) };
 
     /// The signer that is next, if a SEQUENCE is next: by values in each mode, and by the very octets that stood there

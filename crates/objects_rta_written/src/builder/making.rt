@@ -6,13 +6,15 @@ ghost use Rattle.objects_written.specs.bcder_content.Texts.{SpellsOf};
 ghost use Rattle.objects_written.specs.certs_basics.Basics.{IsTwentyLong};
 ghost use Rattle.objects_rta.specs.Attestations.{Attestation, IsAttestation};
 ghost use Rattle.objects_rta_written.specs.declared.builder.AttestationError.TheVariants.{Memory as NoMemory};
-ghost use Rattle.objects_rta_written.specs.Contents.{IsReadable, listed};
-ghost use Rattle.objects_rta_written.specs.Making.{AreAllNone, AreSetsOf, IsStatedBy, MakingRefused, SetsRefused, chosen, said_by};
+ghost use Rattle.objects_rta_written.specs.Contents.{IsReadable, attestation, listed};
+ghost use Rattle.objects_rta_written.specs.Making.{AreAllNone, AreSetsOf, IsStatedBy, MakingRefused, SetsRefused, chosen, said_by, told_as};
+ghost use Rattle.objects_rta_written.specs.Taking.{TextRefused};
 
 use crate::attestation::AttestationValue;
 use crate::builder::AttestationError;
+use crate::der::text_of;
 use bytes::Bytes;
-use certs::written::{EncodeError, Mode, Values};
+use certs::written::{Captured, EncodeError};
 use certs_key::KeyIdentifier;
 use certs_key::decode::DecodeError;
 use objects_rta::ResourceTaggedAttestation;
@@ -112,6 +114,36 @@ fn content_of(alloc: Global, octets: Bytes) -> Result<ResourceTaggedAttestation,
     }
 }
 
+// The octets of the attestation of these keys, of the sets that have a number, and of the digest.
+fn write(
+    alloc: Global,
+    keys: &[KeyIdentifier],
+    sets: Sets,
+    digest: &[u8],
+) -> Result<Captured, EncodeError>
+    ensures written { IfOk result
+        (λ c. (attestation (said_by keys.now sets digest.now)).writes Der c.octets) }
+    ensures refused { IfErr result
+        (TextRefused ((attestation (said_by keys.now sets digest.now)).writes Der)) }
+{
+    let Sets { asn, v4, v6 } = sets;
+    let asn = numbers_listed(asn);
+    let v4 = addresses_listed(v4);
+    let v6 = addresses_listed(v6);
+    let values = AttestationValue::new(keys, asn, &v4, &v6, digest);
+    text_of(alloc, &values)
+}
+
+/// Why no attestation is made of what isn't written.
+pub(crate) fn cause_of(error: EncodeError) -> AttestationError
+    ensures { result ≡ told_as error }
+{
+    match error {
+        EncodeError::Memory => AttestationError::Memory,
+        _ => AttestationError::TooLong,
+    }
+}
+
 /// The attestation of these keys, of the sets that have a number, and of the digest.
 pub(crate) fn attest(
     alloc: Global,
@@ -125,14 +157,8 @@ pub(crate) fn attest(
     ensures refused { IfErr result (MakingRefused (said_by keys.now sets digest.now)) }
 {
     are_long(keys);
-    let Sets { asn, v4, v6 } = sets;
-    let asn = numbers_listed(asn);
-    let v4 = addresses_listed(v4);
-    let v6 = addresses_listed(v6);
-    let values = AttestationValue::new(keys, asn, &v4, &v6, digest);
-    match values.to_captured(alloc, Mode::Der) {
+    match write(alloc, keys, sets, digest) {
         Ok(octets) => content_of(alloc, octets.into_bytes()),
-        Err(EncodeError::Memory) => Err(AttestationError::Memory),
-        Err(_) => Err(AttestationError::TooLong),
+        Err(error) => Err(cause_of(error)),
     }
 }

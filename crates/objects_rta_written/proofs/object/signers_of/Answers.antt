@@ -12,6 +12,6 @@ returns-in_err-value-clause-refused c =
 
 pub loop-signer-preserved : goal.loop-signer-preserved
 loop-signer-preserved c = (
-  parts_next c.loop-signer.values.items _ c.loop-signer.rest.now c.in-Some.others.now c.args.signers.now c.in-Some.signer.now _ c.in-Some.ensures.cases.0 c.in_ok-value.ensures.parts _ c.loop-signer.invariant.0,
-  stand_next c.loop-signer.rest.now c.in-Some.others.now c.args.signers.now c.in-Some.signer.now c.in-Some.ensures.cases.0 _ c.loop-signer.invariant.1,
+  parts_next c.loop-signer.values.items _ c.loop-signer.rest.now c.in-Some.others.now c.args.signers.now c.in-Some.signer.now _ c.in-Some.ensures.cases.0 c.in_ok-value.ensures.parts c.in_ok-push.ensures.pushed c.loop-signer.invariant.0,
+  stand_next c.loop-signer.rest.now c.in-Some.others.now c.args.signers.now c.in-Some.signer.now c.in-Some.ensures.cases.0 c.in_ok-value.ensures.stands c.loop-signer.invariant.1,
 )
