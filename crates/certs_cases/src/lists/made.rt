@@ -57,7 +57,7 @@ pub fn revoked(alloc: Global, words: &[&str]) -> Result<RevokedCertificates> {
 }
 
 // The list of the words.
-fn list(alloc: Global, words: &[&str]) -> Result<TbsCertList> {
+fn list(alloc: Global, words: &[&str]) -> Result<TbsCertList<RevokedCertificates>> {
     let [
         signature,
         issuer,
@@ -98,7 +98,13 @@ fn say_both(alloc: Global, answer: &mut Answer, crl: Crl) {
 }
 
 // The octets of the list, signed by the signer that shows what it signed, and those of its clone; or how the signer refuses.
-fn signed(alloc: Global, answer: &mut Answer, tbs: TbsCertList, signer: Echo, key: u8) {
+fn signed(
+    alloc: Global,
+    answer: &mut Answer,
+    tbs: TbsCertList<RevokedCertificates>,
+    signer: Echo,
+    key: u8,
+) {
     match tbs.into_crl(alloc, &signer, &key) {
         Ok(crl) => say_both(alloc, answer, crl),
         Err(error) => answer.say(&error),
@@ -106,7 +112,7 @@ fn signed(alloc: Global, answer: &mut Answer, tbs: TbsCertList, signer: Echo, ke
 }
 
 // The clone of the list of the words, which is gone.
-fn copied(alloc: Global, words: &[&str]) -> Result<TbsCertList> {
+fn copied(alloc: Global, words: &[&str]) -> Result<TbsCertList<RevokedCertificates>> {
     let list = list(alloc, words)?;
     let copy: Result<_, _> = list.clone();
     drop(list);
@@ -129,7 +135,11 @@ fn written(alloc: Global, answer: &mut Answer, words: &[&str]) -> Result<()> {
 }
 
 // Sets a field to that of another list.
-fn set_field(list: &mut TbsCertList, field: &str, other: &TbsCertList) -> Result<()> {
+fn set_field(
+    list: &mut TbsCertList<RevokedCertificates>,
+    field: &str,
+    other: &TbsCertList<RevokedCertificates>,
+) -> Result<()> {
     match field {
         "signature" => list.set_signature(other.signature()),
         "issuer" => list.set_issuer(other.issuer().clone()?),
@@ -144,7 +154,12 @@ fn set_field(list: &mut TbsCertList, field: &str, other: &TbsCertList) -> Result
 }
 
 // Sets a field to that of the list of the words, or puts the entries of pairs where the list lent its own.
-fn set(alloc: Global, made: &mut TbsCertList, field: &str, words: &[&str]) -> Result<()> {
+fn set(
+    alloc: Global,
+    made: &mut TbsCertList<RevokedCertificates>,
+    field: &str,
+    words: &[&str],
+) -> Result<()> {
     if field == "lent" {
         *made.revoked_certs_mut() = revoked(alloc, words)?;
         return Ok(());

@@ -2,7 +2,7 @@ use Rattle.certs_crl.proofs.of_bcder_content.Choices.{stop_value}
 use Rattle.certs_crl.proofs.of_bcder_content.Keeping.{same_refusal}
 use Rattle.certs_crl.proofs.of_bcder_content.Taking.{weaker}
 use Rattle.certs_crl.proofs.Listed.{tbs_gives, tbs_lacks, tbs_refused}
-use Rattle.certs_crl.proofs.tbs.TbsCertList.take_from.Goals as goal
+use Rattle.certs_crl.proofs.reading.TbsCertList+RevokedCertificates.take_from.Goals as goal
 
 pub returns-in_err-listed-clause-reads : goal.returns-in_err-listed-clause-reads
 returns-in_err-listed-clause-reads g c = stop_value _ _ _ _ c.from_residual.ensures (λ l. tbs_lacks l) c.in_err-listed.ensures.reads
