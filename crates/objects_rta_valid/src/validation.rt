@@ -15,12 +15,14 @@ use objects_rta::Rta;
 use std::alloc::Global;
 use std::marker::Model;
 
-/// An attestation that is valid, with the paths of its signers. Contracts see both, the paths as lists of places of the
-/// certificates that it carries.
+/// An attestation that is valid, with the paths of its signers, how each is anchored, and the authorities that were supplied.
+/// Contracts see all of it, the paths as lists of places of the certificates that it carries.
 #[derive(Drop)]
 pub struct Validation {
     rta: Rta,
     paths: Paths,
+    anchors: Vec<Anchor>,
+    issuers: Vec<ResourceCert>,
 }
 
 impl Model for Validation {
@@ -28,7 +30,12 @@ impl Model for Validation {
 
     ghost Value = { ValidationValue };
 
-    ghost view = { λ v. record { rta = v.rta; paths = v.paths.paths } };
+    ghost view = { λ v. record {
+      rta = v.rta;
+      paths = v.paths.paths;
+      anchors = v.anchors.items;
+      issuers = v.issuers.items;
+    } };
 }
 
 // The paths, where the attestation passes the other tests, too; else the first that it doesn't pass.
@@ -82,6 +89,39 @@ fn examine<D: Digester, V: Verifier>(
     }
 }
 
+// As many paths, none of which is anchored.
+fn open_anchors(alloc: Global, count: usize) -> Result<Vec<Anchor>, AllocError>
+    ensures { IfOk result (λ v. v.items ≡ replicate count Open) }
+{
+    let anchors = vec![in alloc; Anchor::Open; count]?;
+    Ok(anchors)
+}
+
+// A valid attestation with its paths, of which none is anchored.
+fn with_anchors(alloc: Global, rta: Rta, paths: Paths) -> Result<Validation, RtaError>
+    ensures made { IfOk result (λ v. v ≡ record {
+      rta = rta;
+      paths = paths.paths;
+      anchors = replicate (length paths.paths) Open;
+      issuers = [];
+    }) }
+    ensures memory { IfErr result (λ e. e ≡ Memory) }
+{
+    match open_anchors(alloc, paths.len()) {
+        Ok(anchors) => Ok(Validation {
+            rta,
+            paths,
+            anchors,
+            issuers: Vec::new(alloc),
+        }),
+        Err(_) => {
+            drop(rta);
+            drop(paths);
+            Err(RtaError::Memory)
+        }
+    }
+}
+
 impl Validation {
     /// The attestation, where it is valid at that moment; else the first test that it doesn't pass, in the order of
     /// [`RtaTest`](crate::RtaTest). It is let go where it is refused. `strict` refuses UTF8Strings in names. `Memory` comes
@@ -101,12 +141,13 @@ impl Validation {
             (V.says verifier.old) strict now rta result }
         ensures kept { IfOk result (λ v. v.rta ≡ rta) }
         ensures paths { IfOk result (λ v. AreItsPaths rta v.paths) }
+        ensures unanchored { IfOk result (λ v. v.anchors ≡ replicate (length v.paths) Open) }
         ensures same { V.says verifier.new ≡ V.says verifier.old }
         ensures asked { V.count verifier.new ≤ V.count verifier.old
             + length rta.signed.signers + length rta.signed.certs + length rta.signed.crls }
     {
         match examine(alloc, &rta, strict, now, digester, verifier) {
-            Ok(paths) => Ok(Validation { rta, paths }),
+            Ok(paths) => with_anchors(alloc, rta, paths),
             Err(error) => {
                 drop(rta);
                 Err(error)
@@ -128,12 +169,41 @@ impl Validation {
             strict moment rta result }
         ensures kept { IfOk result (λ v. v.rta ≡ rta) }
         ensures paths { IfOk result (λ v. AreItsPaths rta v.paths) }
+        ensures unanchored { IfOk result (λ v. v.anchors ≡ replicate (length v.paths) Open) }
         ensures same { V.says verifier.new ≡ V.says verifier.old }
         ensures asked { V.count verifier.new ≤ V.count verifier.old
             + length rta.signed.signers + length rta.signed.certs + length rta.signed.crls }
     {
         let now = clock.now();
         Validation::new_at(alloc, rta, strict, now, digester, verifier)
+    }
+
+    /// Whether some path that isn't anchored ends with a certificate that names itself and has the locator's key, by its
+    /// encoded octets (RFC 8630 3); all such paths are anchored then. On no, and where memory is refused, nothing changes.
+    pub fn supply_tal(&mut self, alloc: Global, tal: &Tal) -> Result<bool, AllocError>
+        ensures found { IfOk result (λ yes. IsTrue yes ↔ SomeOpen
+            (λ place. Stands self.old.rta.signed.certs place (EndsAtLocator tal.now.key))
+            (lasts self.old.paths) self.old.anchors) }
+        ensures anchored { IfOk result (λ yes. IsTrue yes → AreMarked
+            (λ place. Stands self.old.rta.signed.certs place (EndsAtLocator tal.now.key))
+            Locator (lasts self.old.paths) self.old.anchors self.new.anchors) }
+        ensures others { self.new ≡ record self.old { anchors = self.new.anchors } }
+        ensures unfound { IfOk result (λ yes. yes ≡ false → self.new ≡ self.old) }
+        ensures refused { OnErr result (self.new ≡ self.old) }
+    {
+        let ends = last_places(alloc, &self.paths)?;
+        let marked = mark_locator(
+            alloc,
+            certs_of(&self.rta),
+            ends.as_slice(),
+            self.anchors.as_slice(),
+            tal.key_info(),
+        )?;
+        let Marked { anchors, found } = marked;
+        if found {
+            self.anchors = anchors;
+        }
+        Ok(found)
     }
 
     /// The attestation.
@@ -154,8 +224,15 @@ impl Validation {
     pub fn into_rta(self) -> Rta
         ensures { result ≡ self.rta }
     {
-        let Validation { rta, paths } = self;
+        let Validation {
+            rta,
+            paths,
+            anchors,
+            issuers,
+        } = self;
         drop(paths);
+        drop(anchors);
+        drop(issuers);
         rta
     }
 }
