@@ -14,3 +14,4 @@ mod Judging
 mod Answering
 mod Following
 mod Sounding
+mod Marking

@@ -3,6 +3,8 @@ use Rattle.std.specs.Prelude.{◌≡◌, ℕ, ◌+◌, ◌≤◌, Bool, List, le
 use Rattle.certs_verify.specs.certs_basics.HandedIn.{Digests}
 use Rattle.certs_verify.specs.certs_basics.Lists.{Each, FirstFailing}
 use Rattle.certs_verify.specs.certs_basics.Verdicts.{Verdicts}
+use Rattle.certs_verify.specs.Holders.{ResourceCertValue}
+use Rattle.objects_rta_valid.specs.declared.anchor.Anchor.{Anchor}
 use Rattle.objects_paths.specs.Paths.{AreAllOn, PathsValue}
 use Rattle.objects_rta.specs.AttestationParts.{RtaValue}
 use Rattle.objects_rta_valid.specs.declared.errors.RtaError.{RtaError}
@@ -36,7 +38,9 @@ Validates d good strict now r (Ok x) = IsValid d good strict now r
 Validates d good strict now r (Err (Test t)) = FailsFirst d good strict now r t
 Validates d good strict now r (Err Memory) = Unit {0}
 
--- A valid attestation, and the paths of its signers.
+-- A valid attestation, the paths of its signers, how each is anchored, and the authorities that were supplied.
 pub record ValidationValue : Type 0 where
   pub rta : RtaValue
   pub paths : List (List ℕ)
+  pub anchors : List Anchor
+  pub issuers : List ResourceCertValue

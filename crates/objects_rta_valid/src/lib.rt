@@ -15,6 +15,7 @@
 //! it doesn't pass.
 #![tactic(auto)]
 
+pub mod anchor;
 mod certs;
 mod content;
 pub mod errors;
@@ -26,5 +27,6 @@ mod places;
 pub mod validation;
 mod walk;
 
+pub use anchor::Anchor;
 pub use errors::{RtaError, RtaTest};
 pub use validation::Validation;

@@ -1,7 +1,7 @@
 //! Places on paths, taken out of them: firsts, lasts, and pairs of neighbours.
 
 ghost use Rattle.std.specs.Prelude.{◌≡◌, ◌++◌, IfOk, OnOk};
-ghost use Rattle.objects_rta_valid.specs.Places.{AreFunctional, AreLinks, BeginBelow, first_of, firsts, last_of, lasts, pairs, pairs_from, pairs_of};
+ghost use Rattle.objects_rta_valid.specs.Places.{AreFunctional, AreLinks, BeginBelow, first_of, firsts, last_from, last_of, lasts, pairs, pairs_from, pairs_of};
 
 use objects_paths::{PathPlaces, Paths};
 use std::alloc::{AllocError, Global};
@@ -43,6 +43,41 @@ fn push_pairs(pairs: &mut Vec<(usize, usize)>, path: PathPlaces<'_>) -> Result<(
         Some(first) => push_pairs_from(pairs, first, path),
         None => Ok(()),
     }
+}
+
+// The last place of a path that goes on from a place.
+fn last_behind(first: usize, path: PathPlaces<'_>) -> usize
+    ensures { result ≡ last_from first path.entry }
+{
+    let mut path = path;
+    let mut last = first;
+    while let Some(place) = path.next() {
+        last = place;
+    }
+    last
+}
+
+// Adds the last place of a path.
+fn push_last(lasts: &mut Vec<usize>, path: PathPlaces<'_>) -> Result<(), AllocError>
+    ensures { OnOk result (lasts.new.items ≡ lasts.old.items ++ last_of path.entry) }
+{
+    let mut path = path;
+    if let Some(first) = path.next() {
+        let last = last_behind(first, path);
+        lasts.push(last)?;
+    }
+    Ok(())
+}
+
+/// The last places of paths, in their order.
+pub(crate) fn last_places(alloc: Global, paths: &Paths) -> Result<Vec<usize>, AllocError>
+    ensures { IfOk result (λ v. v.items ≡ lasts paths.now.paths) }
+{
+    let mut lasts = Vec::new(alloc);
+    for signer in 0..paths.len() {
+        push_last(&mut lasts, paths.path(signer))?;
+    }
+    Ok(lasts)
 }
 
 /// The first places of paths, in their order.

@@ -1,18 +1,25 @@
 //! Validation of attestations.
 
-ghost use Rattle.std.specs.Prelude.{◌≡◌, ◌+◌, ◌≤◌, ℕ, IfOk, length};
+ghost use Rattle.std.specs.Prelude.{◌≡◌, ◌↔◌, ◌+◌, ◌≤◌, ◌∷◌, ◌++◌, [], ℕ, IfErr, IfOk, IsTrue, OnErr, false, length, replicate};
 ghost use Rattle.certs_verify.specs.certs_key.Digesting.{digests_of};
 ghost use Rattle.objects_rta_valid.specs.Answered.{HasWalked, IsWalk, Validates};
 ghost use Rattle.objects_rta_valid.specs.Validity.{AreItsPaths};
+ghost use Rattle.objects_rta_valid.specs.Anchors.{AreMarked, EndsAtLocator, EndsBelow, SomeOpen};
+ghost use Rattle.objects_rta_valid.specs.Places.{Stands, lasts};
+ghost use Rattle.objects_rta_valid.specs.declared.anchor.Anchor.TheVariants.{Issuer, Locator, Open};
+ghost use Rattle.objects_rta_valid.specs.declared.errors.RtaError.TheVariants.{Memory};
 
+use crate::anchor::{Anchor, Marked, mark_issuer, mark_locator};
 use crate::errors::RtaError;
-use crate::judge::judge;
+use crate::judge::{certs_of, judge};
+use crate::places::last_places;
 use crate::walk::walk;
-use certs_verify::{Digester, Verifier};
+use certs_verify::{Digester, ResourceCert, Verifier};
 use certs_x509::{Clock, Time};
 use objects_paths::Paths;
 use objects_rta::Rta;
-use std::alloc::Global;
+use objects_payload::locator::Tal;
+use std::alloc::{AllocError, Global};
 use std::marker::Model;
 
 /// An attestation that is valid, with the paths of its signers, how each is anchored, and the authorities that were supplied.
@@ -204,6 +211,61 @@ impl Validation {
             self.anchors = anchors;
         }
         Ok(found)
+    }
+
+    /// Whether some path that isn't anchored ends with a certificate that doesn't name itself, claims that authority, and is
+    /// signed by its key (RFC 6487 4.8.3, 4.8.7); all such paths are anchored then, by what it holds. On no, and where memory
+    /// is refused, nothing changes. The verifier is asked at most once for each path.
+    pub fn supply_ca<V: Verifier>(
+        &mut self,
+        alloc: Global,
+        ca: &ResourceCert,
+        verifier: &mut V,
+    ) -> Result<bool, AllocError>
+        ensures found { IfOk result (λ yes. IsTrue yes ↔ SomeOpen
+            (λ place. Stands self.old.rta.signed.certs place
+            (EndsBelow (V.says verifier.old) ca.now.holder.cert))
+            (lasts self.old.paths) self.old.anchors) }
+        ensures anchored { IfOk result (λ yes. IsTrue yes → AreMarked
+            (λ place. Stands self.old.rta.signed.certs place
+            (EndsBelow (V.says verifier.old) ca.now.holder.cert))
+            (Issuer (length self.old.issuers)) (lasts self.old.paths)
+            self.old.anchors self.new.anchors) }
+        ensures kept { IfOk result (λ yes. IsTrue yes
+            → self.new.issuers ≡ self.old.issuers ++ ca.now ∷ []) }
+        ensures rta { self.new.rta ≡ self.old.rta }
+        ensures paths { self.new.paths ≡ self.old.paths }
+        ensures unfound { IfOk result (λ yes. yes ≡ false → self.new ≡ self.old) }
+        ensures refused { OnErr result (self.new ≡ self.old) }
+        ensures same { V.says verifier.new ≡ V.says verifier.old }
+        ensures asked { V.count verifier.new
+            ≤ V.count verifier.old + length (lasts self.old.paths) }
+    {
+        let ends = last_places(alloc, &self.paths)?;
+        self.issuers.reserve(1)?;
+        let issuer = ca.clone()?;
+        let marked = mark_issuer(
+            alloc,
+            certs_of(&self.rta),
+            ends.as_slice(),
+            self.anchors.as_slice(),
+            ca.as_cert(),
+            self.issuers.len(),
+            verifier,
+        );
+        match marked {
+            Ok(Marked { anchors, found }) => {
+                if found {
+                    self.issuers.push(issuer).unwrap();
+                    self.anchors = anchors;
+                }
+                Ok(found)
+            }
+            Err(error) => {
+                drop(issuer);
+                Err(error)
+            }
+        }
     }
 
     /// The attestation.
