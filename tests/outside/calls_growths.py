@@ -274,6 +274,14 @@ ROWS = (
     Row("objects_cases", "rsc process", "Rsc: process_at", 3),
     Row("objects_cases", "rsc process-clock", "Rsc: process", 1),
     Row("objects_cases", "rsc sound", "Rsc: verify_content", 1),
+    # Resource tagged attestations.
+    Row(
+        "objects_cases",
+        "rta strict",
+        "Rta: decode; MultiSignedObject: take_from, decode; ResourceTaggedAttestation: take_from, decode; take_opt_signer",
+        4,
+    ),
+    Row("objects_cases", "rta relaxed", "the same, in BER", 4),
     # Bundles, points, validated objects.
     Row("rpki_cases", "decode", "Bundle: decode, decode_shared", 3),
     Row("rpki_cases", "again", "Bundle: decode, encode", 3),

@@ -66,6 +66,8 @@ READERS = {
     "rsc content": "ResourceSignedChecklist::decode",
     "rsc object strict": "Rsc::decode",
     "rsc object relaxed": "Rsc::decode, in BER",
+    "rta strict": "Rta::decode",
+    "rta relaxed": "Rta::decode, in BER",
     LOCATORS: "Tal::read_named",
 }
 
@@ -194,6 +196,7 @@ def deep():
         yield ["crl", "read", seq(octets, *signature).hex()], None
         for how in ("strict", "relaxed"):
             yield ["object", how, "any", octets.hex()], None
+            yield ["rta", how, octets.hex()], None
     # What is signed may be any value.
     for octets in (sequences, tagged):
         for mode in ("ber", "der"):

@@ -1,7 +1,8 @@
 //! Questions about certificates and signed objects, as data: each line of standard input asks one, by words with a tab
 //! between, and each line of standard output answers one. The first word names what is asked: what signed objects have in
-//! them, what is written of them again, and locators; behind `built`, objects that are built, and behind `rsc`, signed
-//! checklists; any other word is asked of `certs_cases`, about certificates, their parts and revocation lists.
+//! them, what is written of them again, and locators; behind `built`, objects that are built, behind `rsc`, signed
+//! checklists, and behind `rta`, resource tagged attestations; any other word is asked of `certs_cases`, about certificates,
+//! their parts and revocation lists.
 //!
 //! `tests/questions/objects_cases.py` writes both, and knows the answers by means of its own.
 #![tactic(auto)]
@@ -18,6 +19,7 @@ mod object;
 mod parts;
 mod roa;
 mod rsc;
+mod rta;
 mod values;
 
 use answers::{Answer, Questions, answer_lines, unknown};
@@ -46,6 +48,7 @@ impl Questions for Objects {
             "addresses" => addresses::answer(alloc, answer, rest),
             "built" => built::answer(alloc, answer, rest),
             "rsc" => rsc::answer(alloc, answer, rest),
+            "rta" => rta::answer(alloc, answer, rest),
             _ => certs_cases::answer(alloc, answer, words),
         }
     }

@@ -12,16 +12,17 @@ use sha2::{Digest, Sha256};
 use std::alloc::Global;
 use std::str::FromStr;
 
-fn string(alloc: Global, answer: &mut Answer, string: &OctetString) {
+/// The octets of a string.
+pub fn string(alloc: Global, answer: &mut Answer, string: &OctetString) {
     match string.to_bytes(alloc) {
         Ok(octets) => answer.octets(octets.as_slice()),
         Err(_) => answer.word("memory"),
     }
 }
 
-// The key's identifier, the attributes as they stand, the type and the digest that they tell,
-// whether NULL stands in the algorithm, and the signature.
-fn signer(alloc: Global, answer: &mut Answer, signer: &SignerInfo) {
+/// The key's identifier, the attributes as they stand, the type and the digest that they tell,
+/// whether NULL stands in the algorithm, and the signature.
+pub fn signer(alloc: Global, answer: &mut Answer, signer: &SignerInfo) {
     answer.octets(signer.sid().as_slice());
     answer.octets(signer.attributes().as_slice());
     let said = signer.attributes().attributes();

@@ -5,7 +5,7 @@
 
 mod below;
 mod stub;
-mod told;
+pub mod told;
 
 use answers::{Answer, unknown};
 use anyhow::Result;

@@ -59,11 +59,21 @@ fn pair(answer: &mut Answer, name: Option<&[u8]>, digest: &[u8]) {
     answer.octets(digest);
 }
 
+/// What is stated of AS numbers, of IPv4 addresses and of IPv6 addresses.
+pub fn stated(answer: &mut Answer, asn: &AsResources, v4: &IpResources, v6: &IpResources) {
+    numbers(answer, asn);
+    addresses(answer, AddressFamily::Ipv4, v4);
+    addresses(answer, AddressFamily::Ipv6, v6);
+}
+
 /// What is stated of each kind, how many files are listed, and each of these.
 pub fn shown(answer: &mut Answer, checklist: &ResourceSignedChecklist) {
-    numbers(answer, checklist.as_resources());
-    addresses(answer, AddressFamily::Ipv4, checklist.v4_resources());
-    addresses(answer, AddressFamily::Ipv6, checklist.v6_resources());
+    stated(
+        answer,
+        checklist.as_resources(),
+        checklist.v4_resources(),
+        checklist.v6_resources(),
+    );
     answer.say(&checklist.len());
     for file in checklist.iter() {
         pair(answer, file.file_name(), file.hash());
