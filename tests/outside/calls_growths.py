@@ -278,10 +278,12 @@ ROWS = (
     Row(
         "objects_cases",
         "rta strict",
-        "Rta: decode; MultiSignedObject: take_from, decode; ResourceTaggedAttestation: take_from, decode; take_opt_signer",
+        "Rta: decode; MultiSignedObject: take_from; ResourceTaggedAttestation: take_from; take_opt_signer",
         4,
     ),
     Row("objects_cases", "rta relaxed", "the same, in BER", 4),
+    Row("objects_cases", "rta multi", "MultiSignedObject: decode, decode_content", 4),
+    Row("objects_cases", "rta content", "ResourceTaggedAttestation: decode", 4),
     # Bundles, points, validated objects.
     Row("rpki_cases", "decode", "Bundle: decode, decode_shared", 3),
     Row("rpki_cases", "again", "Bundle: decode, encode", 3),

@@ -68,6 +68,9 @@ READERS = {
     "rsc object relaxed": "Rsc::decode, in BER",
     "rta strict": "Rta::decode",
     "rta relaxed": "Rta::decode, in BER",
+    "rta multi strict": "MultiSignedObject::decode",
+    "rta multi relaxed": "MultiSignedObject::decode, in BER",
+    "rta content": "ResourceTaggedAttestation::decode",
     LOCATORS: "Tal::read_named",
 }
 

@@ -1,5 +1,6 @@
-//! Questions about resource tagged attestations: `strict` or `relaxed`, and octets. `tests/questions/objects_rta_cases.py` knows
-//! the answers by means of its own.
+//! Questions about resource tagged attestations: `strict` or `relaxed`, and octets; behind `content`, what octets say as a
+//! content; behind `multi`, as a signed object with several signers, whatever its content is.
+//! `tests/questions/objects_rta_cases.py` knows the answers by means of its own.
 
 use crate::object::{signer, string};
 use crate::rsc::told::stated;
@@ -51,15 +52,55 @@ fn shown(alloc: Global, answer: &mut Answer, rta: Rta) {
     drop(signed);
 }
 
-/// What octets say as an attestation.
-pub fn answer(alloc: Global, answer: &mut Answer, words: &[&str]) -> Result<()> {
-    let [how, digits] = words else {
-        return unknown();
-    };
-    let octets = pieces_of(alloc, *digits)?;
-    match Rta::decode(alloc, octets.as_slice(), *how == "strict") {
+// What an object carries, and the value that its content begins with.
+fn begun(alloc: Global, answer: &mut Answer, signed: MultiSignedObject) {
+    carried(alloc, answer, &signed);
+    match signed.decode_content(alloc, |cons| cons.capture_one(alloc)) {
+        Ok(captured) => answer.octets(captured.as_slice()),
+        Err(error) => answer.refuse(error),
+    }
+    drop(signed);
+}
+
+// What octets say as a signed object with several signers.
+fn multi(alloc: Global, answer: &mut Answer, strict: bool, digits: &str) -> Result<()> {
+    let octets = pieces_of(alloc, digits)?;
+    match MultiSignedObject::decode(alloc, octets.as_slice(), strict) {
+        Ok(signed) => begun(alloc, answer, signed),
+        Err(error) => answer.refuse(error),
+    }
+    Ok(())
+}
+
+// What octets say as a content.
+fn content(alloc: Global, answer: &mut Answer, digits: &str) -> Result<()> {
+    let octets = pieces_of(alloc, digits)?;
+    match ResourceTaggedAttestation::decode(alloc, octets.as_slice()) {
+        Ok(content) => {
+            said(alloc, answer, &content);
+            drop(content);
+        }
+        Err(error) => answer.refuse(error),
+    }
+    Ok(())
+}
+
+// What octets say as an attestation.
+fn read(alloc: Global, answer: &mut Answer, strict: bool, digits: &str) -> Result<()> {
+    let octets = pieces_of(alloc, digits)?;
+    match Rta::decode(alloc, octets.as_slice(), strict) {
         Ok(rta) => shown(alloc, answer, rta),
         Err(error) => answer.refuse(error),
     }
     Ok(())
+}
+
+/// The answer to a question about a resource tagged attestation.
+pub fn answer(alloc: Global, answer: &mut Answer, words: &[&str]) -> Result<()> {
+    match words {
+        ["content", digits] => content(alloc, answer, *digits),
+        ["multi", how, digits] => multi(alloc, answer, *how == "strict", *digits),
+        [how, digits] => read(alloc, answer, *how == "strict", *digits),
+        _ => unknown(),
+    }
 }
