@@ -4,7 +4,8 @@
 What signed objects have in them, and locators, are read here by the grammars in this script's own words, over the reader of
 X.690 in certs_signed_cases.py; the worked cases have their answers by hand. Questions about certificates, their parts and
 revocation lists are those of certs_cases.py, those about checklists, with --all by all pairs of defects, those of
-objects_rsc_cases.py, and those about attestations those of objects_rta_cases.py. The gate runs the program on `stdin`, and compares what it prints with `stdout`.
+objects_rsc_cases.py, and those about attestations those of objects_rta_cases.py. The gate runs the program on `stdin`, and
+compares what it prints with `stdout`.
 """
 
 import calendar

@@ -17,11 +17,12 @@ sys.dont_write_bytecode = True
 sys.path.insert(0, str(pathlib.Path(__file__).resolve().parents[1] / "lib"))
 
 from objects_rsc_cases import Behind, nest  # noqa: E402
-from objects_rta_cases import made  # noqa: E402
+from objects_rta_cases import edits, made  # noqa: E402
 from objects_rta_documents import ALONE, ANCHOR, APART, BOTH, CA, EARLY, HIGH, ITSELF, LATE, LOW, MAKER, ONE, OTHER_CA, SECOND_ANCHOR  # noqa: E402
 from objects_rta_documents import SHORT, SOMEBODY, TOP, NEXT, TREE, TWO, WIDE, Base, anchor, authority, ca, certificate, chain  # noqa: E402
 from objects_rta_documents import holder, ring, tal  # noqa: E402
 from objects_rta_faults import TOPICS  # noqa: E402
+from rpki_attestations import Attestation  # noqa: E402
 from rpki_readers import KINDS, Refused, joined  # noqa: E402
 from rpki_relaxed import indefinite, spelled  # noqa: E402
 from rpki_repositories import FIRST, LAST, MOMENT, oid, seq, tlv  # noqa: E402
@@ -298,6 +299,7 @@ class Asked:
             self.said(f"{'yes ' * len(base.steps)}{wanted}", base, new, base.steps)
         self.moments()
         self.spellings()
+        self.edited()
         for _ in range(400):
             self.chance(*by_chance())
 
@@ -331,6 +333,17 @@ class Asked:
         for octets in (b"", deep, octets[:-1], octets[:5] + b"\x84\xff\xff\xff\xff" + octets[5:]):
             assert self.one(octets, TREE.steps)[0] == "unreadable"
 
+    def edited(self):
+        """A value left out, doubled, or behind the next one, where that is read; and an octet changed, of which a few are free."""
+        for base in (SHORT, ALONE):
+            for octets in edits(base.made()):
+                if is_read(octets):
+                    self.one(octets, base.steps)
+            octets = base.made()
+            for place in range(0, len(octets), 9):
+                changed = octets[:place] + bytes([octets[place] ^ 1 << rng.randrange(8)]) + octets[place + 1 :]
+                self.one(changed, base.steps)
+
     def chance(self, base, new, steps):
         octets = base.made(**new)
         answer, found = self.one(octets, steps)
@@ -343,6 +356,13 @@ class Asked:
                     fewer = stated[kind][:-1] if rng.random() < 0.5 else [*stated[kind], ({"as": (24, 24), "ipv4": ("10.0.0.24",) * 2}.get(kind, ("2001:db8::18",) * 2))]
                     _, found = self.one(base.made(**new, stated={**stated, kind: fewer}), steps)
                     assert not found.finalize()
+
+
+def is_read(octets):
+    try:
+        return bool(Attestation(octets))
+    except Refused:
+        return False
 
 
 def written(kind, said):
