@@ -54,8 +54,9 @@ pub fn is_checked<V: Verifier, F: FnOnce(&Cert) -> Result<(), ValidationError> +
         IsRefused (FnOnceReturnsAt F.FnOnce check_crl rsc.signed.cert) (V.says verifier.old)
         now issuer.now.holder rsc) }
 {
-    let (_holder, checklist) =
-        rsc.process_at(alloc, issuer, true, now, &Fips, verifier, check_crl)?;
+    let (_holder, checklist) = rsc.process_at(
+        alloc, issuer, true, now, &Fips, verifier, check_crl,
+    )?;
     let digest = Fips.sha256(file.octets);
     Ok(is_listed(&checklist, file.name, &digest))
 }

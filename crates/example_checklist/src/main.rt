@@ -36,24 +36,6 @@ fn anchor_of(alloc: Global, octets: &[u8], now: Time) -> Result<ResourceCert> {
     }
 }
 
-// Whether the checklist of octets is accepted below the anchor and lists the file.
-fn checked(
-    alloc: Global,
-    now: Time,
-    issuer: &ResourceCert,
-    octets: &[u8],
-    file: File<'_>,
-) -> Result<bool> {
-    let Ok(rsc) = Rsc::decode(alloc, octets, true) else {
-        return Err(anyhow!("no checklist"));
-    };
-    let mut verifier = StandIn { asked: 0 };
-    match is_checked(alloc, rsc, issuer, now, &mut verifier, |_| Ok(()), file) {
-        Ok(yes) => Ok(yes),
-        Err(error) => Err(anyhow!("{error}")),
-    }
-}
-
 // Whether the file of a line is one of its checklist.
 fn answer(alloc: Global, line: &str) -> Result<bool> {
     let words: Vec<&str> = line.split('\t').collect(alloc)?;
@@ -67,11 +49,18 @@ fn answer(alloc: Global, line: &str) -> Result<bool> {
     let checklist = hex::decode(alloc, *checklist)?;
     let octets = hex::decode(alloc, *octets)?;
     let issuer = anchor_of(alloc, anchor.as_slice(), now)?;
+    let Ok(rsc) = Rsc::decode(alloc, checklist.as_slice(), true) else {
+        return Err(anyhow!("no checklist"));
+    };
     let file = File {
         name: (*name).as_bytes(),
         octets: octets.as_slice(),
     };
-    checked(alloc, now, &issuer, checklist.as_slice(), file)
+    let mut verifier = StandIn { asked: 0 };
+    match is_checked(alloc, rsc, &issuer, now, &mut verifier, |_| Ok(()), file) {
+        Ok(yes) => Ok(yes),
+        Err(error) => Err(anyhow!("{error}")),
+    }
 }
 
 fn main(rt: HostRuntime) -> Result<()> {
