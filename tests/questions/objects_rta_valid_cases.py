@@ -5,10 +5,12 @@ good ones by one change each, and of authorities, lists and signers by chance.
 What becomes of them is told by tests/lib/rpki_validation.py; of those that are made by hand it is known what they lack, or what
 anchors them and what is then said.
 
-    objects_rta_valid_cases.py      makes all, compares the second reading with what is known by hand, and counts what is answered
+    objects_rta_valid_cases.py      makes all, compares the second reading with what is known by hand, and its paths with the lists of
+                                    places that are some by their definition; counts what is answered
 """
 
 import ipaddress
+import itertools
 import pathlib
 import random
 import sys
@@ -26,7 +28,7 @@ from rpki_attestations import Attestation  # noqa: E402
 from rpki_readers import KINDS, Refused, joined  # noqa: E402
 from rpki_relaxed import indefinite, spelled  # noqa: E402
 from rpki_repositories import FIRST, LAST, MOMENT, oid, seq, tlv  # noqa: E402
-from rpki_validation import FAULTS, Holder, Validation  # noqa: E402
+from rpki_validation import FAULTS, Holder, Validation, is_self_signed  # noqa: E402
 
 rng = random.Random(9691)
 
@@ -386,6 +388,33 @@ def validations(q):
     Asked(Behind(q, "rta")).ask()
 
 
+def is_path(certs, key, places):
+    """Whether a list of places, each once, is a path of the signer with that key's identifier, by the definition."""
+    path = [certs[place] for place in places]
+    if path[0].subject_key != key:
+        return False
+    for cert, issuer in zip(path, path[1:]):
+        if is_self_signed(cert) or not issuer.is_ca or cert.authority_key != issuer.subject_key:
+            return False
+    others = [cert for place, cert in enumerate(certs) if place not in places]
+    last = path[-1]
+    return is_self_signed(last) or not any(cert.is_ca and cert.subject_key == last.authority_key for cert in others)
+
+
+def compare_paths(count):
+    """Tries each list of places, each once, of some documents by chance."""
+    for _ in range(count):
+        base, _, _ = by_chance()
+        twice = [certificate(**how) for how in base.certs.values() if rng.random() < 0.1]
+        found = Validation(base.made(more_certs=twice), MOMENT[:14])
+        if len(found.certs) > 7:
+            continue
+        lists = [one for size in range(1, len(found.certs) + 1) for one in itertools.permutations(range(len(found.certs)), size)]
+        for signer, paths in zip(found.said.signers, found.found):
+            right = [list(one) for one in lists if is_path(found.certs, signer.key, one)]
+            assert paths == right if len(right) < 2 else len(paths) == 2 and all(path in right for path in paths), (paths, right)
+
+
 class Counted:
     """Counts questions by what is answered first."""
 
@@ -400,6 +429,7 @@ class Counted:
 def main():
     found = Counted()
     validations(found)
+    compare_paths(100)
     for head, count in sorted(found.counts.items()):
         print(count, head)
     print(f"{sum(found.counts.values())} questions")
