@@ -1,5 +1,6 @@
 -- When a file is one that an accepted checklist lists (RFC 9323).
-use Rattle.std.specs.Prelude.{◌≡◌, ℕ, List, Some, Any, true, Err}
+use Rattle.std.specs.Prelude.{◌≡◌, ℕ, List, Some, true, Err}
+use Rattle.certs_verify.specs.certs_basics.Lists.{Mem}
 use Rattle.certs_verify.specs.certs_basics.Verdicts.{Verdicts}
 use Rattle.certs_verify.specs.certs_x509.declared.errors.validation.ValidationError.{ValidationError}
 use Rattle.objects.specs.objects_rsc.Checklists.{CheckedFile, Checklist}
@@ -12,11 +13,11 @@ use Rattle.objects.specs.objects_valid.certs_extension.declared.forms.Role.TheVa
 use Rattle.rpki_digests.specs.Fips.{fips}
 
 -- A file is listed by that name, with that digest (RFC 9323 4.4).
-abbrev pub IsThat : List ℕ → List ℕ → CheckedFile → Type 0
-IsThat name digest f = (f.name ≡ Some name) × (f.hash ≡ digest)
-
-abbrev pub Lists : Checklist → List ℕ → List ℕ → Type 0
-Lists x name digest = Any (IsThat name digest) x.files
+pub record Lists (files : List CheckedFile) (name digest : List ℕ) : Type 0 where
+  pub file : CheckedFile
+  pub among : Mem files file
+  pub named : file.name ≡ Some name
+  pub same : file.hash ≡ digest
 
 -- The checklist is a sound object, whose certificate was issued by the issuer, is valid at the moment, passes the test of
 -- revocation, and holds what is stated (RFC 9323 5).

@@ -20,13 +20,11 @@ pub struct File<'a> {
 
 // Whether a file of that name, with that digest, is listed.
 fn is_listed(checklist: &ResourceSignedChecklist, name: &[u8], digest: &[u8]) -> bool
-    ensures { IsTrue result ↔ Lists checklist.now name.now digest.now }
+    ensures { IsTrue result ↔ Lists checklist.now.files name.now digest.now }
 {
     for file in checklist.iter() {
-        if let Some(given) = file.file_name() {
-            if given == name && file.hash() == digest {
-                return true;
-            }
+        if file.file_name() == Some(name) && file.hash() == digest {
+            return true;
         }
     }
     false
@@ -49,7 +47,7 @@ pub fn is_checked<V: Verifier, F: FnOnce(&Cert) -> Result<(), ValidationError> +
         IsAccepted (FnOnceReturnsAt F.FnOnce check_crl rsc.signed.cert) (V.says verifier.old)
         now issuer.now.holder rsc) }
     ensures listed { IfOk result (λ yes.
-        IsTrue yes ↔ Lists rsc.content file.name.now (sha256_of file.octets.now)) }
+        IsTrue yes ↔ Lists rsc.content.files file.name.now (sha256_of file.octets.now)) }
     ensures refused { IfErr result (
         IsRefused (FnOnceReturnsAt F.FnOnce check_crl rsc.signed.cert) (V.says verifier.old)
         now issuer.now.holder rsc) }
