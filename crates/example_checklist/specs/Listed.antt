@@ -21,11 +21,13 @@ pub record Lists (files : List CheckedFile) (name digest : List ℕ) : Type 0 wh
 
 -- The checklist is a sound object, whose certificate was issued by the issuer, is valid at the moment, passes the test of
 -- revocation, and holds what is stated (RFC 9323 5).
-pub record IsAccepted (says : Test) (good : Verdicts) (now : ℕ) (issuer : HolderValue) (k : KindValue Checklist) : Type 0 where
+pub record IsAccepted (says : Test) (good : Verdicts) (now : ℕ) (issuer : HolderValue)
+    (k : KindValue Checklist) : Type 0 where
   pub holder : HolderValue
   pub accepts : AcceptsObject fips good true DetachedEe now issuer k.signed holder
   pub passes : PassesChecklist says k.content holder
 
 -- The error tells the first test that the checklist fails.
-abbrev pub IsRefused : Test → Verdicts → ℕ → HolderValue → KindValue Checklist → ValidationError → Type 0
+abbrev pub IsRefused
+    : Test → Verdicts → ℕ → HolderValue → KindValue Checklist → ValidationError → Type 0
 IsRefused says good now issuer k e = ProcessesChecklist says fips good true now issuer k (Err e)

@@ -25,7 +25,8 @@ fn digest_of(bits: &[u8], message: &[u8]) -> [u8; 32]
 }
 
 impl Verifier for StandIn {
-    ghost says = { λ _ key _ message signature. bytes_eq (sha256_of (key.bits.octets ++ message)) signature };
+    ghost says = { λ _ key _ message signature.
+        bytes_eq (sha256_of (key.bits.octets ++ message)) signature };
 
     ghost count = { λ stand_in. stand_in.asked };
 
