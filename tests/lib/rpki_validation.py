@@ -11,19 +11,20 @@ from rpki_attestations import Attestation
 from rpki_readers import COMMON_NAME, INHERIT, KINDS, NONE, SERIAL_NUMBER, Cert, Locator, Refused, content, front, is_identical, is_tagged
 from rpki_readers import joined, need, parent, printable
 
-# What a document can lack, in the order of the profile's conditions: of keys and signers, of a signer's content, of its path, of
-# what is on a path, and of what is carried.
+# What a document can lack, in the order in which it is tested: subject keys that are the signers', each once; one path a signer;
+# certificates that are all on paths; contents that are signed; of each certificate its profile, its validity, who issued it, or as
+# a path's end by itself that it is an anchor; lists that are all used; certificates that are on no list.
 FAULTS = (
     "keys",
     "paths",
+    "certificates",
     "content",
     "profile",
     "time",
     "issued",
-    "revoked",
     "end",
-    "certificates",
     "lists",
+    "revoked",
 )
 
 

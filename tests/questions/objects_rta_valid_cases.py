@@ -31,6 +31,19 @@ from rpki_repositories import FIRST, LAST, MOMENT, oid, seq, tlv  # noqa: E402
 from rpki_validation import FAULTS, Holder, Validation, is_self_signed  # noqa: E402
 
 rng = random.Random(9691)
+# The tests of a document that it fails by its faults.
+TESTS = {
+    "keys": "Keys",
+    "paths": "Paths",
+    "certificates": "Certificates",
+    "content": "Content",
+    "profile": "Forms",
+    "time": "Validity",
+    "issued": "Signatures",
+    "end": "Signatures",
+    "lists": "Lists",
+    "revoked": "Revocation",
+}
 
 # What anchors documents, and what is then said: steps with their answers, and whether all is anchored and held.
 
@@ -374,7 +387,7 @@ def written(kind, said):
 def answers_of(found, steps):
     """What the document lacks first, or `valid` with what each step is answered and what is said at the end."""
     if found.faults:
-        yield f"refused: {found.faults[0]}"
+        yield f"refused {TESTS[found.faults[0]]}"
         return
     yield "valid"
     for kind, said in steps:
