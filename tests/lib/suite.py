@@ -109,6 +109,8 @@ TESTS = (
     Test("chance asks", "outside/rpki_asks.py {rpki_ask}", 400, 2400, less="--count 60", more="--count 1000", least="--count 10"),
     Test("chance worlds", "questions/rpki_worlds.py {rpki_cases}", 400, 2400, less="60", more="1000", least="20"),
     Test("roles", "questions/certs_roles.py --all {objects_cases}", 300),
+    # A second reading of which attestations are valid.
+    Test("attestations", "questions/objects_rta_valid_cases.py", 300),
     # Growths refused in turn.
     Test("growths", "outside/growths.py {rpki_check}", 500, needs=("cc", "plain")),
     *(Test(f"growths {name}", f"outside/calls_growths.py {{{name}}}", at, 3600, needs=("cc", "plain"), less="--few") for name, at in ASKED.items()),

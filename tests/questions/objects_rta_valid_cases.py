@@ -5,14 +5,18 @@ good ones by one change each, and of authorities, lists and signers by chance.
 What becomes of them is told by tests/lib/rpki_validation.py; of those that are made by hand it is known what they lack, or what
 anchors them and what is then said.
 
-    objects_rta_valid_cases.py      makes all, compares the second reading with what is known by hand, and its paths with the lists of
-                                    places that are some by their definition; counts what is answered
+    objects_rta_valid_cases.py [PROGRAM]
+
+makes all, compares the second reading with what is known by hand, and its paths with the lists of places that are some by their
+definition, and counts what is answered; asks PROGRAM all, if one is given (crates/objects_cases/out/objects_cases).
 """
 
+import collections
 import ipaddress
 import itertools
 import pathlib
 import random
+import subprocess
 import sys
 
 sys.dont_write_bytecode = True
@@ -428,25 +432,34 @@ def compare_paths(count):
             assert paths == right if len(right) < 2 else len(paths) == 2 and all(path in right for path in paths), (paths, right)
 
 
-class Counted:
-    """Counts questions by what is answered first."""
+class Rows:
+    """Questions with their answers."""
 
     def __init__(self):
-        self.counts = {}
+        self.rows = []
 
-    def ask(self, answer, *_):
-        head = answer if answer.startswith("refused") else answer.split()[0] + " .. " + answer.split()[-1]
-        self.counts[head] = self.counts.get(head, 0) + 1
+    def ask(self, answer, *words):
+        self.rows.append(("\t".join(words), answer))
 
 
 def main():
-    found = Counted()
+    found = Rows()
     validations(found)
     compare_paths(100)
-    for head, count in sorted(found.counts.items()):
-        print(count, head)
-    print(f"{sum(found.counts.values())} questions")
+    firsts = (answer.split() for _, answer in found.rows)
+    for said, count in sorted(collections.Counter(" ".join(words[:1] if words[0] == "valid" else words) for words in firsts).items()):
+        print(f"{count} {said}")
+    wrong = 0
+    if len(sys.argv) > 1:
+        asked = "".join(f"{question}\n" for question, _ in found.rows)
+        done = subprocess.run([pathlib.Path(sys.argv[1]).resolve()], input=asked, capture_output=True, text=True)
+        for (question, answer), said in itertools.zip_longest(found.rows, done.stdout.splitlines(), fillvalue=("", "")):
+            if said != answer:
+                wrong += 1
+                print(f"{said[:300]!r} in place of {answer[:300]!r}: {question[:3000]}")
+    print(f"{len(found.rows) - wrong} passed, {wrong} failed")
+    return 1 if wrong else 0
 
 
 if __name__ == "__main__":
-    main()
+    sys.exit(main())
