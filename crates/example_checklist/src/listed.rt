@@ -46,8 +46,8 @@ pub fn is_checked<V: Verifier, F: FnOnce(&Cert) -> Result<(), ValidationError> +
     ensures accepted { IfOk result (λ yes.
         IsAccepted (FnOnceReturnsAt F.FnOnce check_crl rsc.signed.cert) (V.says verifier.old)
         now issuer.now.holder rsc) }
-    ensures listed { IfOk result (λ yes.
-        IsTrue yes ↔ Lists rsc.content.files file.entry.name.now (sha256_of file.entry.octets.now)) }
+    ensures listed { IfOk result (λ yes. IsTrue yes
+        ↔ Lists rsc.content.files file.entry.name.now (sha256_of file.entry.octets.now)) }
     ensures refused { IfErr result (
         IsRefused (FnOnceReturnsAt F.FnOnce check_crl rsc.signed.cert) (V.says verifier.old)
         now issuer.now.holder rsc) }
