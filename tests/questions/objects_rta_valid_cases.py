@@ -279,25 +279,25 @@ def as_stated(found):
 
 
 class Asked:
-    """Questions, each of which is asked once."""
+    """Questions, each of which is asked once: whether documents are valid, and with `whole` what anchors them."""
 
-    def __init__(self, q):
-        self.q, self.seen = q, set()
+    def __init__(self, q, whole):
+        self.q, self.whole, self.seen = q, whole, set()
 
-    def one(self, octets, steps, how="strict", moment=MOMENT):
-        """What is answered; the second reading, if there is one."""
+    def one(self, octets, steps, how="strict", moment=MOMENT, call="valid"):
+        """What is said of the steps and at the end, if the document is valid; and the second reading, if the document is read."""
         try:
             found = Validation(octets, moment[:14], how == "strict")
         except Refused:
-            found, answer = None, "unreadable"
-        else:
-            answer = " ".join(answers_of(found, steps))
-        words = [word for kind, said in steps for word in (kind, written(kind, said))]
-        question = ("valid", how, moment.decode(), octets.hex(), *words)
+            found = None
+        answer = "unreadable" if found is None else " ".join(validated(found))
+        said = None if found is None or found.faults else " ".join(anchored(found, steps))
+        words = [word for kind, given in steps for word in (kind, written(kind, given))]
+        question = (call, how, moment.decode(), octets.hex(), *(words if self.whole else ()))
         if question not in self.seen:
             self.seen.add(question)
-            self.q.ask(answer, *question)
-        return answer, found
+            self.q.ask(f"{answer} {said}" if self.whole and said else answer, *question)
+        return said, found
 
     def refused_or_valid(self, wanted, base, new, **how):
         octets = base.made(**new)
@@ -305,10 +305,10 @@ class Asked:
         assert found.faults == [fault for fault in FAULTS if fault in wanted.split()], (wanted, found.faults, new)
 
     def said(self, wanted, base, new, steps, **how):
-        answer, _ = self.one(base.made(**new), steps, **how)
-        assert answer == f"valid {wanted}", (wanted, answer, new, len(steps))
+        said, _ = self.one(base.made(**new), steps, **how)
+        assert said == wanted, (wanted, said, new, len(steps))
 
-    def ask(self):
+    def ask(self, count):
         for topic in TOPICS:
             for wanted, base, new in topic():
                 self.refused_or_valid(wanted, base, new)
@@ -319,7 +319,7 @@ class Asked:
         self.moments()
         self.spellings()
         self.edited()
-        for _ in range(400):
+        for _ in range(count):
             self.chance(*by_chance())
 
     def moments(self):
@@ -329,8 +329,9 @@ class Asked:
                 faults = f"{wanted} revoked" if moment == LATE and base.lists else wanted
                 # (whoever is supplied is valid at another moment)
                 steps = [step for step in base.steps if step[0] == "tal"]
-                _, found = self.one(base.made(), steps, moment=moment)
-                assert found.faults == [fault for fault in FAULTS if fault in faults.split()], (moment, found.faults)
+                for call in ("valid", "valid-clock"):
+                    _, found = self.one(base.made(), steps, moment=moment, call=call)
+                    assert found.faults == [fault for fault in FAULTS if fault in faults.split()], (moment, found.faults)
 
     def spellings(self):
         """In BER; names that are right in BER alone; values in each other, and lengths past the end."""
@@ -339,18 +340,18 @@ class Asked:
         signed = {(1, 0, 5, at, 3, part) for at in range(2) for part in range(2)}
         kept = {(1, 0, 3, at, 0) for at in range(5)} | {(1, 0, 4, at) for at in range(3)} | signed
         in_ber = spelled(octets, {}, indefinite, kept)
-        assert self.one(in_ber, TREE.steps)[0] == "unreadable"
-        assert self.one(in_ber, TREE.steps, "relaxed")[0] == "valid yes yes"
-        assert self.one(octets, TREE.steps, "relaxed")[0] == "valid yes yes"
+        assert self.one(in_ber, TREE.steps)[1] is None
+        assert self.one(in_ber, TREE.steps, "relaxed")[0] == "yes yes"
+        assert self.one(octets, TREE.steps, "relaxed")[0] == "yes yes"
         utf8 = seq(tlv(0x31, seq(oid("2.5.4.3"), tlv(0x0C, b"a"))))
         for name in ("one", "ca", "anchor"):
             self.refused_or_valid("", TREE, {"certs": {name: {"subject_name": utf8}}}, how="relaxed")
         deep = nest(10_000)
         for part in ({"certs": deep}, {"lists": deep}, {"signers": deep}, {"certs": b"\x30\x84\xff\xff\xff\xff"}, {"lists": b"\x30\x84\xff\xff\xff\xff"}):
             for how in ("strict", "relaxed"):
-                assert self.one(made(**part), TREE.steps, how)[0] == "unreadable"
+                assert self.one(made(**part), TREE.steps, how)[1] is None
         for octets in (b"", deep, octets[:-1], octets[:5] + b"\x84\xff\xff\xff\xff" + octets[5:]):
-            assert self.one(octets, TREE.steps)[0] == "unreadable"
+            assert self.one(octets, TREE.steps)[1] is None
 
     def edited(self):
         """A value left out, doubled, or behind the next one, where that is read; and an octet changed, of which a few are free."""
@@ -359,14 +360,14 @@ class Asked:
                 if is_read(octets):
                     self.one(octets, base.steps)
             octets = base.made()
-            for place in range(0, len(octets), 9):
+            for place in range(0, len(octets), 17):
                 changed = octets[:place] + bytes([octets[place] ^ 1 << rng.randrange(8)]) + octets[place + 1 :]
                 self.one(changed, base.steps)
 
     def chance(self, base, new, steps):
         octets = base.made(**new)
-        answer, found = self.one(octets, steps)
-        if answer.startswith("valid") and len(found.anchored) == len(found.paths):
+        said, found = self.one(octets, steps)
+        if said and len(found.anchored) == len(found.paths):
             stated = as_stated(found)
             _, found = self.one(base.made(**new, stated=stated), steps)
             assert found.finalize()
@@ -388,21 +389,24 @@ def written(kind, said):
     return said.hex() if kind == "tal" else "+".join(octets.hex() for octets in said)
 
 
-def answers_of(found, steps):
-    """What the document lacks first, or `valid` with what each step is answered and what is said at the end."""
+def validated(found):
+    """The test that a document fails first; or `valid`, and the path of each signer by its places."""
     if found.faults:
-        yield f"refused {TESTS[found.faults[0]]}"
-        return
-    yield "valid"
-    for kind, said in steps:
-        is_anchored = found.supply_tal(said) if kind == "tal" else found.supply_ca(Holder(said, found.moment))
+        return ["refused", TESTS[found.faults[0]]]
+    return ["valid", *(",".join(map(str, path)) for path in found.paths)]
+
+
+def anchored(found, steps):
+    """What each step is answered, and what is said at the end, of a valid document."""
+    for kind, given in steps:
+        is_anchored = found.supply_tal(given) if kind == "tal" else found.supply_ca(Holder(given, found.moment))
         yield "yes" if is_anchored else "no"
     yield "yes" if found.finalize() else "no"
 
 
-def validations(q):
-    """Asks all."""
-    Asked(Behind(q, "rta")).ask()
+def validations(q, count, whole=False):
+    """Asks about all that are made by hand, and so many by chance."""
+    Asked(Behind(q, "rta"), whole).ask(count)
 
 
 def is_path(certs, key, places):
@@ -444,7 +448,7 @@ class Rows:
 
 def main():
     found = Rows()
-    validations(found)
+    validations(found, 400, len(sys.argv) == 1)
     compare_paths(100)
     firsts = (answer.split() for _, answer in found.rows)
     for said, count in sorted(collections.Counter(" ".join(words[:1] if words[0] == "valid" else words) for words in firsts).items()):
