@@ -110,7 +110,7 @@ TESTS = (
     Test("chance worlds", "questions/rpki_worlds.py {rpki_cases}", 400, 2400, less="60", more="1000", least="20"),
     Test("roles", "questions/certs_roles.py --all {objects_cases}", 300),
     # A second reading of which attestations are valid.
-    Test("attestations", "questions/objects_rta_valid_cases.py", 300),
+    Test("attestations", "questions/objects_rta_valid_cases.py {objects_cases}", 300),
     # Growths refused in turn.
     Test("growths", "outside/growths.py {rpki_check}", 500, needs=("cc", "plain")),
     *(Test(f"growths {name}", f"outside/calls_growths.py {{{name}}}", at, 3600, needs=("cc", "plain"), less="--few") for name, at in ASKED.items()),

@@ -4,7 +4,8 @@
 What signed objects have in them, and locators, are read here by the grammars in this script's own words, over the reader of
 X.690 in certs_signed_cases.py; the worked cases have their answers by hand. Questions about certificates, their parts and
 revocation lists are those of certs_cases.py, those about checklists, with --all by all pairs of defects, those of
-objects_rsc_cases.py, and those about attestations those of objects_rta_cases.py. The gate runs the program on `stdin`, and
+objects_rsc_cases.py, and those about attestations those of objects_rta_cases.py and, with --all of more documents by chance,
+objects_rta_valid_cases.py. The gate runs the program on `stdin`, and
 compares what it prints with `stdout`.
 """
 
@@ -25,6 +26,7 @@ from objects_built_cases import build  # noqa: E402
 from objects_locator_cases import locators  # noqa: E402
 from objects_rsc_cases import checklists  # noqa: E402
 from objects_rta_cases import attestations  # noqa: E402
+from objects_rta_valid_cases import validations  # noqa: E402
 from objects_signed_cases import signed  # noqa: E402
 
 FOLDER = pathlib.Path(__file__).resolve().parents[2] / "crates" / "objects_cases"
@@ -316,6 +318,7 @@ def main():
     build(q)
     checklists(q, "--all" in sys.argv)
     attestations(q)
+    validations(q, 400 if "--all" in sys.argv else 40)
     certificates(q)
     (FOLDER / "stdin").write_text("".join(f"{question}\n" for question, _ in q.rows))
     (FOLDER / "stdout").write_text("".join(f"{answer}\n" for _, answer in q.rows))

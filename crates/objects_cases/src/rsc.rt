@@ -3,8 +3,8 @@
 //! `process-clock`, whether it is accepted below a trust anchor. `tests/questions/objects_rsc_cases.py` knows the answers by
 //! means of its own.
 
-mod below;
-mod stub;
+pub mod below;
+pub mod stub;
 pub mod told;
 
 use answers::{Answer, unknown};

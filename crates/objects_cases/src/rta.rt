@@ -1,6 +1,9 @@
 //! Questions about resource tagged attestations: `strict` or `relaxed`, and octets; behind `content`, what octets say as a
-//! content; behind `multi`, as a signed object with several signers, whatever its content is.
-//! `tests/questions/objects_rta_cases.py` knows the answers by means of its own.
+//! content; behind `multi`, as a signed object with several signers, whatever its content is; behind `valid` and `valid-clock`,
+//! whether an attestation is valid at a moment. `tests/questions/objects_rta_cases.py` and `objects_rta_valid_cases.py` know the
+//! answers by means of their own.
+
+mod valid;
 
 use crate::object::{signer, string};
 use crate::rsc::told::stated;
@@ -99,6 +102,8 @@ fn read(alloc: Global, answer: &mut Answer, strict: bool, digits: &str) -> Resul
 pub fn answer(alloc: Global, answer: &mut Answer, words: &[&str]) -> Result<()> {
     match words {
         ["content", digits] => content(alloc, answer, *digits),
+        ["valid", rest @ ..] => valid::answer(alloc, answer, false, rest),
+        ["valid-clock", rest @ ..] => valid::answer(alloc, answer, true, rest),
         ["multi", how, digits] => multi(alloc, answer, *how == "strict", *digits),
         [how, digits] => read(alloc, answer, *how == "strict", *digits),
         _ => unknown(),

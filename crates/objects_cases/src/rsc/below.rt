@@ -24,8 +24,8 @@ fn verdict(word: &str) -> Result<(), ValidationError> {
     Err(ValidationError::Verification(cause))
 }
 
-// The moment of a text.
-fn moment_of(text: &[u8]) -> Result<Time> {
+/// The moment of a text.
+pub fn moment_of(text: &[u8]) -> Result<Time> {
     match Time::from_generalized(text) {
         Some(moment) => Ok(moment),
         None => Err(anyhow!("no moment")),
