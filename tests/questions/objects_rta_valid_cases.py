@@ -284,7 +284,7 @@ class Asked:
     def __init__(self, q, whole):
         self.q, self.whole, self.seen = q, whole, set()
 
-    def one(self, octets, steps, how="strict", moment=MOMENT, call="valid"):
+    def one(self, octets, steps, how="strict", moment=MOMENT, call="valid", is_asked=True):
         """What is said of the steps and at the end, if the document is valid; and the second reading, if the document is read."""
         try:
             found = Validation(octets, moment[:14], how == "strict")
@@ -294,7 +294,7 @@ class Asked:
         said = None if found is None or found.faults else " ".join(anchored(found, steps))
         words = [word for kind, given in steps for word in (kind, written(kind, given))]
         question = (call, how, moment.decode(), octets.hex(), *(words if self.whole else ()))
-        if question not in self.seen:
+        if is_asked and question not in self.seen:
             self.seen.add(question)
             self.q.ask(f"{answer} {said}" if self.whole and said else answer, *question)
         return said, found
@@ -315,7 +315,7 @@ class Asked:
         for base, new, steps, wanted in (*of_steps(), *of_supplied()):
             self.said(wanted, base, new, steps)
         for base, new, wanted in of_what_is_held():
-            self.said(f"{'yes ' * len(base.steps)}{wanted}", base, new, base.steps)
+            self.said(f"{'yes ' * len(base.steps)}{wanted}", base, new, base.steps, is_asked=self.whole)
         self.moments()
         self.spellings()
         self.edited()
@@ -369,12 +369,12 @@ class Asked:
         said, found = self.one(octets, steps)
         if said and len(found.anchored) == len(found.paths):
             stated = as_stated(found)
-            _, found = self.one(base.made(**new, stated=stated), steps)
+            _, found = self.one(base.made(**new, stated=stated), steps, is_asked=self.whole)
             assert found.finalize()
             for kind in KINDS:
                 if stated[kind] and rng.random() < 0.4:
                     fewer = stated[kind][:-1] if rng.random() < 0.5 else [*stated[kind], ({"as": (24, 24), "ipv4": ("10.0.0.24",) * 2}.get(kind, ("2001:db8::18",) * 2))]
-                    _, found = self.one(base.made(**new, stated={**stated, kind: fewer}), steps)
+                    _, found = self.one(base.made(**new, stated={**stated, kind: fewer}), steps, is_asked=self.whole)
                     assert not found.finalize()
 
 
