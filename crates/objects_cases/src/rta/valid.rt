@@ -12,8 +12,9 @@ use std::alloc::Global;
 
 // The path of each signer, by its places, with commas between.
 fn shown(answer: &mut Answer, validation: &Validation) {
-    for signer in 0..validation.paths().len() {
-        for (at, place) in validation.paths().path(signer).enumerate() {
+    let paths = validation.paths();
+    for signer in 0..paths.len() {
+        for (at, place) in paths.path(signer).enumerate() {
             if at == 0 {
                 answer.say(&place);
             } else {
