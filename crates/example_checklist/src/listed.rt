@@ -52,9 +52,11 @@ pub fn is_checked<V: Verifier, F: FnOnce(&Cert) -> Result<(), ValidationError> +
         IsRefused (FnOnceReturnsAt F.FnOnce check_crl rsc.signed.cert) (V.says verifier.old)
         now issuer.now.holder rsc) }
 {
-    let (_holder, checklist) = rsc.process_at(
-        alloc, issuer, true, now, &Fips, verifier, check_crl,
-    )?;
-    let digest = Fips.sha256(file.octets);
-    Ok(is_listed(&checklist, file.name, &digest))
+    match rsc.process_at(alloc, issuer, true, now, &Fips, verifier, check_crl) {
+        Ok((_holder, checklist)) => {
+            let digest = Fips.sha256(file.octets);
+            Ok(is_listed(&checklist, file.name, &digest))
+        }
+        Err(error) => Err(error),
+    }
 }
