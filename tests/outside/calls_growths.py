@@ -284,7 +284,7 @@ ROWS = (
     Row("objects_cases", "rta relaxed", "the same, in BER", 4),
     Row("objects_cases", "rta multi", "MultiSignedObject: decode, decode_content", 4),
     Row("objects_cases", "rta content", "ResourceTaggedAttestation: decode", 4),
-    Row("objects_cases", "rta valid +", "Validation: new_at; paths; are_same_keys", 6),
+    Row("objects_cases", "rta valid +", "Validation: new_at, supply_tal, supply_ca, finalize; paths; are_same_keys", 6),
     Row("objects_cases", "rta valid-clock", "Validation: new", 2),
     # Bundles, points, validated objects.
     Row("rpki_cases", "decode", "Bundle: decode, decode_shared", 3),

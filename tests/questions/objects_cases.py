@@ -318,7 +318,7 @@ def main():
     build(q)
     checklists(q, "--all" in sys.argv)
     attestations(q)
-    validations(q, 400 if "--all" in sys.argv else 40)
+    validations(q, 400 if "--all" in sys.argv else 40, whole=True)
     certificates(q)
     (FOLDER / "stdin").write_text("".join(f"{question}\n" for question, _ in q.rows))
     (FOLDER / "stdout").write_text("".join(f"{answer}\n" for _, answer in q.rows))

@@ -448,7 +448,7 @@ class Rows:
 
 def main():
     found = Rows()
-    validations(found, 400, len(sys.argv) == 1)
+    validations(found, 400, whole=True)
     compare_paths(100)
     firsts = (answer.split() for _, answer in found.rows)
     for said, count in sorted(collections.Counter(" ".join(words[:1] if words[0] == "valid" else words) for words in firsts).items()):

@@ -32,8 +32,8 @@ pub fn moment_of(text: &[u8]) -> Result<Time> {
     }
 }
 
-// The trust anchor of octets, with what it holds.
-fn anchor_of(alloc: Global, digits: &str) -> Result<ResourceCert> {
+/// The trust anchor of octets, with what it holds.
+pub fn anchor_of(alloc: Global, digits: &str) -> Result<ResourceCert> {
     let tal = TalInfo::from_name(String::from_str(alloc, "t")?).into_rc(alloc)?;
     let octets = octets_of(alloc, digits);
     let Ok(cert) = Cert::decode(alloc, octets.as_slice()) else {
