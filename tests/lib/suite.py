@@ -57,7 +57,7 @@ class Test:
 
 
 # Programs of questions and examples, whose answers are stored beside them.
-STORED = ("bcder_cases", "example_checklist", "example_codec", "example_resources", "objects_cases", "resources_cases", "rpki_ask", "rpki_cases", "rpki_check")
+STORED = ("bcder_cases", "example_codec", "example_resources", "objects_cases", "resources_cases", "rpki_ask", "rpki_cases", "rpki_check")
 
 # Programs of questions that are asked with each growth refused, and how long that may take at `quick`.
 ASKED = {"rpki_cases": 600, "bcder_cases": 0, "objects_cases": 0, "resources_cases": 0}
@@ -65,7 +65,7 @@ ASKED = {"rpki_cases": 600, "bcder_cases": 0, "objects_cases": 0, "resources_cas
 TESTS = (
     # What is stored is what the scripts write.
     Test("written bcder", "outside/written.py bcder_cases.py bcder_cases", 300),
-    Test("written examples", "outside/written.py examples.py example_checklist example_codec example_resources", 300),
+    Test("written examples", "outside/written.py examples.py example_codec example_resources", 300),
     Test("written objects", "outside/written.py objects_cases.py objects_cases", 400),
     Test("written resources", "outside/written.py resources_calls.py resources_cases", 300),
     Test("written rpki", "outside/written.py rpki_cases.py rpki_cases cases", 500),
