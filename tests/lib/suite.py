@@ -139,7 +139,7 @@ class Run:
     """One run of the table."""
 
     def __init__(self, level, only, built, seconds=None, behind_gate=False):
-        self.level, self.built = level, built
+        self.level, self.built, self.behind_gate = level, built, behind_gate
         self.until = math.inf if seconds is None else time.monotonic() + seconds
         self.tests = [test for test in TESTS if test.limit(level) and only in test.name and not (behind_gate and test.is_gates)]
         self.passed = self.failed = self.skipped = self.unended = 0
@@ -213,7 +213,8 @@ class Run:
 
     def call(self, words, limit, slower):
         began = time.monotonic()
-        limit, left = limit * slower, max(self.until - began, 0)
+        # (behind the gate the whole run has a limit, and the machine may be a slow one)
+        limit, left = limit * slower * (3 if self.behind_gate else 1), max(self.until - began, 0)
         # (a pipe could be kept open by whoever outlives the test)
         with tempfile.TemporaryFile("w+", encoding="utf-8", errors="replace") as told:
             how = {"cwd": TOP / "tests", "stdin": subprocess.DEVNULL, "stdout": told, "stderr": subprocess.STDOUT}
