@@ -123,7 +123,7 @@ module _ (w : World) (ca : Cert) where
   }
 
   module _ (held : Kind → ℕ → Type 0) where
-    stands_of : (p : Point) → HasGoodManifest w ca p.object p.manifest → HasList w p.object p.crl → Each (PassesList w held ca p) list_tests → StandsIn w held ca p
+    pub stands_of : (p : Point) → HasGoodManifest w ca p.object p.manifest → HasList w p.object p.crl → Each (PassesList w held ca p) list_tests → StandsIn w held ca p
     stands_of p g l all =
         let parts = parts_of p.object p.manifest g.passes in
         record {
@@ -135,13 +135,13 @@ module _ (w : World) (ca : Cert) where
           fits = kinds_fit held p.object.cert (each_map ManifestClaim (PassesList w held ca p) kinds all.1.1.1.1.1);
         }
 
-    good_in : (p : Point) → StandsIn w held ca p → HasGoodManifest w ca p.object p.manifest
+    pub good_in : (p : Point) → StandsIn w held ca p → HasGoodManifest w ca p.object p.manifest
     good_in p s = good_of p.object p.manifest p.crl s.point.manifest s.point.files s.point.crl
 
-    list_in : (p : Point) → StandsIn w held ca p → HasList w p.object p.crl
+    pub list_in : (p : Point) → StandsIn w held ca p → HasList w p.object p.crl
     list_in p s = let l = s.point.crl in record { uri = l.uri; uri_is = l.uri_is; octets = l.octets; held = l.held; reads = l.reads }
 
-    passes_in : (p : Point) → StandsIn w held ca p → Each (PassesList w held ca p) list_tests
+    pub passes_in : (p : Point) → StandsIn w held ca p → Each (PassesList w held ca p) list_tests
     passes_in p s =
         let l = s.point.crl in
         (l.authority, (l.current.0, (l.current.1, (l.not_revoked, (l.good, map_each ManifestClaim (PassesList w held ca p) kinds (fit_kinds held p.object.cert s.fits))))))
