@@ -17,6 +17,7 @@ mod OneOutput
 mod Outside
 mod Versions
 pub mod Firsts
+pub mod FirstParts
 pub mod ReasonTests
 mod TextFaults
 pub mod LocatorReasons
