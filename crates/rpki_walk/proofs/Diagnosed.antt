@@ -9,7 +9,8 @@ use Rattle.rpki_rules.specs.World.{World}
 use Rattle.rpki_rules.specs.Points.{Point, files}
 use Rattle.rpki_rules.specs.Chains.{StandsIn}
 use Rattle.rpki_rules.specs.Views.{PathValue}
-use Rattle.rpki_rules.specs.LocatorReasons.{LocatorReason, LocatorFails}
+use Rattle.rpki_rules.specs.declared.reason.locators.LocatorReason.{LocatorReason}
+use Rattle.rpki_rules.specs.LocatorReasons.{LocatorFails}
 use Rattle.rpki_rules.specs.PointReasons.{PointReason, PointFails}
 use Rattle.rpki_rules.specs.FileReasons.{FileReason, FileFails}
 use Rattle.rpki_rules.specs.Diagnoses.{OfLocator, OfPoint, OfFile, DiagnosisValue, ListTells, PointTells, CerTells, ObjectTells, FileTells, on_chain, DiagnosesLocator, DiagnosesFile, DiagnosesEnd, DiagnosesChain, TellsEnd, TellsChain}
