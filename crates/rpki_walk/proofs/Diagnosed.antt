@@ -1,5 +1,5 @@
 -- What is found to be wrong is what is wrong.
-use Rattle.std.proofs.Common.{◌≡◌, ℕ, ◌+◌, ◌<◌, ◌⊎◌, ◌↔◌, List, [], ◌∷◌, ◌++◌, map, length, take, get_or, Option, Some, None, Result, Ok, Err, OnOk, refl, sym, ap, subst, ◌∙◌, inl, inr}
+use Rattle.std.proofs.Common.{◌≡◌, ℕ, ◌+◌, ◌<◌, ◌⊎◌, ◌↔◌, List, [], ◌∷◌, ◌++◌, map, length, take, get_or, Option, Some, None, Result, Ok, Err, OnOk, IfSome, refl, sym, ap, subst, ◌∙◌, inl, inr}
 use Rattle.rpki_walk.specs.resources_chain.Sets.{Run}
 use Rattle.rpki_walk.specs.rpki_bundle.declared.parts.Locator.{Locator}
 use Rattle.rpki_rules.specs.Certs.{Cert}
@@ -255,6 +255,23 @@ told_next w ls i x l old mid new g h d m =
       | inl a ↦ elim (g d a) [ inl o ↦ inl o | inr p ↦ inr (e.1 (inl p)) ]
       | inr q ↦ inr (e.1 (inr q))
     ]
+
+-- What is answered is added, or nothing is.
+module _ {X : Type 0} (seen : Diagnosis → X) (P : X → Type 0) (o : Option Diagnosis) (only : IsOnly seen P o) (old new : List Diagnosis) where
+  pub only_adds : (z : Diagnosis) → o ≡ Some z → new ≡ old ++ z ∷ [] → Adds seen old P new
+  only_adds z e n = adds_one seen P old new z n (only_some seen P o z e only)
+
+  pub only_keeps : ((z : Diagnosis) → ¬ (o ≡ Some z)) → new ≡ old → Adds seen old P new
+  only_keeps n e = subst (λ (ds : List Diagnosis). Adds seen old P ds) (sym e) (adds_none seen P old (go o refl))
+    where
+      go : (q : Option Diagnosis) → o ≡ q → (x : X) → ¬ (P x)
+      go None f = only_none seen P o f only
+      go (Some z) f = absurd (n z f)
+
+pub only_told : (w : World) (l : Locator) (o : Option Diagnosis) (z : Diagnosis) → o ≡ Some z → IsOnly diagnosis_of (DiagnosesLocator w l) o → IfSome o (λ (d : Diagnosis). unheld_of d ≡ []) → IsOfLocator w l z
+only_told w l o z e only told =
+    let h : IfSome (Some z) (λ (d : Diagnosis). unheld_of d ≡ []) = subst (λ (q : Option Diagnosis). IfSome q (λ (d : Diagnosis). unheld_of d ≡ [])) e told in
+    ((only_some diagnosis_of (DiagnosesLocator w l) o z e only (diagnosis_of z)).1 refl, h)
 
 -- What a walk tells to be wrong is what is wrong at the ends of chains, with the numbers that this tells.
 pub told_wrong : (w : World) (d : DiagnosisValue) → IsFinding [] w (Diagnoses d) ↔ DiagnosesChain w d
