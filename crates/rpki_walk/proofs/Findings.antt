@@ -1,22 +1,19 @@
 -- What files and chains tell, and what the walk gains by them.
-use Rattle.std.proofs.Common.{◌≡◌, ◌-◌, Bool, IsTrue, drop, ℕ, ◌+◌, ◌<◌, ◌≤◌, ◌⊎◌, ◌↔◌, true, List, [], ◌∷◌, ◌++◌, length, Option, Some, None, refl, sym, ap, subst, ◌∙◌, inl, inr, arith, take, get_or}
-use Rattle.rpki_walk.specs.resources_chain.Claims.{Choice, FitsIn}
-use Rattle.rpki_walk.specs.resources_chain.declared.claims.Overclaim.{Overclaim}
-use Rattle.rpki_walk.specs.resources_chain.declared.claims.Overclaim.TheVariants.{Refuse, Trim}
+use Rattle.std.proofs.Common.{◌≡◌, ◌-◌, Bool, IsTrue, drop, ℕ, ◌<◌, ◌≤◌, ◌⊎◌, ◌↔◌, true, List, [], ◌∷◌, ◌++◌, length, Option, Some, None, refl, sym, ap, subst, ◌∙◌, inl, inr, arith, take, get_or}
 use Rattle.rpki_walk.specs.resources.Resources.{Resources}
 use Rattle.rpki_rules.specs.Certs.{Cert, ca_is_ca}
-use Rattle.rpki_rules.specs.Objects.{Object, RoaAddress}
+use Rattle.rpki_rules.specs.Objects.{Object}
 use Rattle.rpki_rules.specs.declared.cause.Cause.{Cause}
 use Rattle.rpki_rules.specs.declared.cause.Cause.TheVariants as cause
 use Rattle.rpki_rules.specs.Words.{Mem}
-use Rattle.rpki_rules.specs.Kinds.{Kind, Ipv4, Ipv6, As, claim, InSet}
+use Rattle.rpki_rules.specs.Kinds.{Kind, InSet}
 use Rattle.rpki_rules.specs.World.{World}
 use Rattle.rpki_rules.specs.Points.{Link, Point, files}
-use Rattle.rpki_rules.specs.Chains.{last_of, places, keys, Holds, Fits, StandsIn, Stands, HasExtension, roa, asa, IsChild, Accepted}
+use Rattle.rpki_rules.specs.Chains.{last_of, places, keys, Holds, StandsIn, Stands, HasExtension, roa, asa, IsChild, Accepted}
 use Rattle.rpki_rules.proofs.Readings.{one_cert_at, one_point, one_good, no_cer_payload}
 use Rattle.rpki_rules.proofs.Fronts.{front_itself, front_up, front_cases, accepted_front, keys_count}
 use Rattle.rpki_rules.specs.Views.{PathValue}
-use Rattle.rpki_rules.specs.Attests.{Payload, OfRoa, OfAspa, PayloadText, AreHeld, IsCovered, HoldsWith, WitnessValue, IsGood}
+use Rattle.rpki_rules.specs.Attests.{Payload, OfRoa, OfAspa, PayloadText, WitnessValue, IsGood}
 use Rattle.rpki_rules.specs.Refused.{IsFileRefused, IsBadCer, IsBadPayload, IsIssued}
 use Rattle.rpki_walk.specs.Repository.{IsIgnored, HasKept, IsRead}
 use Rattle.rpki_walk.specs.Facts.{Finding, Refuses, Shows, Originates, Provides, Reaches, Chains, Diagnoses, Unheld, ShownBy, ReachedBy, RefusedBy, TellsFile, Tells, Found, Stand, FromFile, Classified, Gains, Walks}

@@ -1,5 +1,5 @@
 -- What is wrong by one set of numbers is wrong by another with just these.
-use Rattle.std.proofs.Common.{ℕ, ◌↔◌, List, [], ◌⊎◌, length, inl, inr}
+use Rattle.std.proofs.Common.{ℕ, ◌↔◌, List, length, inl, inr}
 use Rattle.rpki_walk.specs.resources_chain.Sets.{Run}
 use Rattle.rpki_rules.specs.Certs.{Cert}
 use Rattle.rpki_rules.specs.Objects.{Object}

@@ -17,8 +17,8 @@ use Rattle.rpki_walk.specs.Facts.{Finding, Refuses, Shows, Originates, Provides,
 
 -- What is wrong with the file of the point at the end of a chain that holds so much, has these keys
 -- and these lookup keys.
-pub record DiagnosesAt (w : World) (held : Kind → ℕ → Type 0) (on : List (List ℕ)) (path : PathValue)
-    (ca : Cert) (p : Point) (uri : List ℕ) (d : DiagnosisValue) : Type 0 where
+pub record DiagnosesAt (w : World) (held : Kind → ℕ → Type 0) (on : List (List ℕ))
+    (path : PathValue) (ca : Cert) (p : Point) (uri : List ℕ) (d : DiagnosisValue) : Type 0 where
   pub reason : FileReason
   pub fails : FileFails w held on (length on) ca p uri reason
   pub is : d ≡ on_chain path uri (OfFile reason)

@@ -1,4 +1,4 @@
-use Rattle.std.proofs.Common.{◌≡◌, ℕ, List, get_or, take_all, sym, ap, subst, ◌∙◌}
+use Rattle.std.proofs.Common.{ℕ, List, get_or, take_all, sym, ap, subst, ◌∙◌}
 use Rattle.rpki_rules.specs.World.{World}
 use Rattle.rpki_rules.specs.Words.{Mem}
 use Rattle.rpki_rules.specs.Kinds.{InSet}

@@ -1,4 +1,4 @@
-use Rattle.std.proofs.Common.{◌≡◌, ◌⊎◌, ◌<◌, ◌≤◌, ℕ, List, [], length, take_all, ap, inl, subst, ◌∙◌}
+use Rattle.std.proofs.Common.{◌⊎◌, ◌<◌, ◌≤◌, ℕ, List, [], length, take_all, ap, inl, subst, ◌∙◌}
 use Rattle.rpki_walk.specs.rpki_bundle.declared.parts.Locator.{Locator}
 use Rattle.rpki_rules.specs.declared.reason.diagnosis.Diagnosis.{Diagnosis}
 use Rattle.rpki_rules.specs.World.{World}

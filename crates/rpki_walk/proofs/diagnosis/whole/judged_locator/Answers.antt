@@ -1,4 +1,4 @@
-use Rattle.std.proofs.Common.{◌≡◌, List, [], Some, ap, ◌∙◌}
+use Rattle.std.proofs.Common.{◌≡◌, [], Some, ap, ◌∙◌}
 use Rattle.rpki_rules.specs.World.{World}
 use Rattle.rpki_rules.specs.Views.{PathValue, path_of}
 use Rattle.rpki_rules.specs.Diagnoses.{OfLocator, on_chain, DiagnosesLocator}
