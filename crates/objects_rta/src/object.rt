@@ -136,6 +136,50 @@ impl MultiSignedObject {
         }
     }
 
+    /// The object of a content of that type, with these certificates, revocation lists and signers, in their order: for
+    /// builders. Nothing is tested.
+    pub fn new(
+        content_type: Oid,
+        content: OctetString,
+        certs: Vec<Cert>,
+        crls: Vec<Crl>,
+        signers: Vec<SignerInfo>,
+    ) -> MultiSignedObject
+        ensures { result ≡ record {
+          content_type = content_type.0;
+          content = content;
+          certs = certs.items;
+          crls = crls.items;
+          signers = map signer_of (map signer_fields signers.items);
+        } }
+    {
+        MultiSignedObject {
+            content_type,
+            content,
+            certs,
+            crls,
+            signers,
+        }
+    }
+
+    /// The content, the certificates, the revocation lists and the signers, handed over.
+    pub fn into_parts(self) -> (OctetString, Vec<Cert>, Vec<Crl>, Vec<SignerInfo>)
+        ensures content { result.0 ≡ self.content }
+        ensures certs { result.1.items ≡ self.certs }
+        ensures crls { result.2.items ≡ self.crls }
+        ensures signers { map signer_of (map signer_fields result.3.items) ≡ self.signers }
+    {
+        let MultiSignedObject {
+            content_type,
+            content,
+            certs,
+            crls,
+            signers,
+        } = self;
+        drop(content_type);
+        (content, certs, crls, signers)
+    }
+
     /// The signed object that is next, in the mode of the content: by the very octets that stood there, of which those that
     /// are signed are kept (RFC 5652 3, 5). Each signer's attribute for the content's type has that type. Revocation lists
     /// are DER in each mode.

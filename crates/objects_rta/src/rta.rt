@@ -63,6 +63,13 @@ fn decode_signed<I: IntoSource>(
 }
 
 impl Rta {
+    /// The attestation of a signed object, and of what its content says: for builders. Nothing is tested.
+    pub fn from_parts(signed: MultiSignedObject, content: ResourceTaggedAttestation) -> Self
+        ensures { result ≡ record { signed = signed; content = content } }
+    {
+        Rta { signed, content }
+    }
+
     /// The attestation that a source begins with, in DER, or where not `strict` in BER; octets after it stay unread. Its
     /// content and the revocation lists that it carries are DER in both. Its octets are shared where they stand in one
     /// piece.

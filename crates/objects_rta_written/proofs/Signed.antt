@@ -1,0 +1,89 @@
+-- What is written of a certificate and of a revocation list that stand in DER is read again.
+use Rattle.std.proofs.Common.{◌≡◌, ℕ, Bool, List, refl, sym, ap, ◌∙◌, subst}
+use Rattle.objects_written.specs.bcder_tree.declared.mode.Mode.TheVariants.{Der}
+use Rattle.objects_written.specs.bcder_tree.Tree.{Spells, SpellsAll, Tree, Trees, constructed}
+use Rattle.objects_written.specs.bcder_tree.Tags.{sequence_tag}
+use Rattle.certs_cert.specs.bcder_octets.Bits.{BitsValue}
+use Rattle.certs_cert.specs.bcder_octets.BitContents.{IsBitString, IsPadded, bit_string_tag, padded_in}
+use Rattle.objects_written.specs.bcder_content.Grammar.{OctetsOf}
+use Rattle.objects_written.specs.bcder_content.Kept.{CapturedValue}
+use Rattle.objects_written.specs.bcder_content.Texts.{SpellsOf, WithOctets}
+use Rattle.objects_written.specs.bcder_values.Captures.{CapturedText}
+use Rattle.objects_written.specs.bcder.Kinds.{bits}
+use Rattle.certs_key.proofs.Padded.{padded_same}
+use Rattle.certs_key.proofs.Written.{algorithm_spelled}
+use Rattle.certs_cert.specs.certs_x509.Signed.{signed as signed_form, signed_fields}
+use Rattle.objects_written.specs.certs_key.Algorithms.{x509_algorithm}
+use Rattle.objects_written.specs.certs_basics.Basics.{IsAlgorithm}
+use Rattle.objects_written.specs.certs_basics.Identifiers.{sha256_with_rsa}
+use Rattle.objects_written.specs.certs_extension.Cert.{CertValue}
+use Rattle.objects_written.specs.certs_extension.CertText.{SpellsCert, SpellsSigned, SpellsTbs, as_signed}
+use Rattle.objects_written.specs.certs_extension.CrlText.{CrlValue, IsCrl, SpellsCrl, SpellsTbsList}
+use Rattle.certs_extension.specs.Spellings.{CrlIsSpelled}
+use Rattle.objects_written.specs.Outputs.{of}
+use Rattle.objects_written.proofs.Words.{only_spelled, spelled_of}
+use Rattle.objects_rta_written.specs.Again.{IsCertInDer, IsCrlInDer, IsReadableCert, IsReadableCrl}
+use Rattle.objects_rta_written.specs.Frames.{cert, crl, signed, value_of}
+use Rattle.objects_rta_written.proofs.Words.{by_trees, ends_of, joins_of, only, wraps_of}
+
+-- Signed octets, an algorithm and the bits of a signature.
+abbrev SignedOctets : Type 0 → Type 0
+SignedOctets A = (List ℕ × A) × (Bool × (BitsValue × Unit {0}))
+
+algorithm_is : (b : Bool) (text : List ℕ) → (of x509_algorithm b).writes Der text → SpellsOf Der IsAlgorithm text b
+algorithm_is b text w =
+    let s = algorithm_spelled sha256_with_rsa b Der text w in
+    spelled_of Der (record { trees = s.trees; is = only s.is; spelled = s.spelled })
+
+bits_are : (v : BitsValue) → IsPadded Der v → (text : List ℕ) → (of bits v).writes Der text → SpellsOf Der (OctetsOf bit_string_tag (IsBitString Der)) text v
+bits_are v padded text w =
+    subst (SpellsOf Der (OctetsOf bit_string_tag (IsBitString Der)) text) (padded_same v padded)
+    (by_trees {Q = OctetsOf bit_string_tag (IsBitString Der)} (of bits v) (λ ts p. let a = bits.is_read tt v Der ts tt p in record { tree = a.tree; alone = a.alone; is = a.is }) text w)
+
+message_is : {A : Type 0} {P : List ℕ → A → Type 0} (k : CapturedValue) (x : A) → P k.octets x → (text : List ℕ) → CapturedText k Der text → WithOctets P text (k.octets, x)
+message_is {P = P} k x is text w = record { same = sym w.whole; is = subst (λ (o : List ℕ). P o x) (sym w.whole) is }
+
+signed_again : {A : Type 0} {P : List ℕ → A → Type 0} (f : SignedOctets A) (old text : List ℕ) → SpellsSigned Der P old f
+    → (signed (as_signed Der f)).writes Der text → SpellsSigned Der P text f
+signed_again {P = P} f old text p w =
+    let m = p.is.is in
+    let s = value_of (as_signed Der f) in
+    let body : P s.message.octets f.0.1 = subst (λ (o : List ℕ). P o f.0.1) (sym m.same) m.is in
+    let padded = p.is.rest.rest.is.is.is.padded in
+    wraps_of _ (joins_of (message_is s.message f.0.1 body) (joins_of (algorithm_is f.1.0) (ends_of (bits_are f.1.1.0 padded)))) text w
+
+pub cert_again : (c : CertValue) → IsReadableCert c → (text : List ℕ) → (cert c).writes Der text → SpellsCert Der text c
+cert_again c r text w =
+    let p = r.1 in
+    let written = subst (λ (k : CertValue). (cert k).writes Der text) p.says w in
+    record { fields = p.fields; is = signed_again p.fields r.0 text p.is written; says = p.says }
+
+spells_crl : (c : CrlValue) (old text : List ℕ) → SpellsCrl Der old c → (crl c).writes Der text → SpellsCrl Der text c
+spells_crl c old text p w =
+    let written = subst (λ (k : CrlValue). (crl k).writes Der text) p.says w in
+    record { fields = p.fields; is = signed_again p.fields old text p.is written; says = p.says; agree = p.agree }
+
+-- The octets that are written spell one value.
+record OneValue (text : List ℕ) : Type 0 where
+  tree : Tree
+  spelled : Spells Der tree text
+
+one_value : (c : CrlValue) (text : List ℕ) → (crl c).writes Der text → OneValue text
+one_value c text w =
+    let s = (crl c).spelled Der text w in
+    let tree : Tree = constructed sequence_tag s.is.values in
+    record { tree = tree; spelled = only_spelled Der tree text (subst (λ (ts : Trees). SpellsAll Der ts text) s.is.whole s.spelled) }
+
+pub crl_again : CrlIsSpelled → (c : CrlValue) → IsReadableCrl c → (text : List ℕ) → (crl c).writes Der text → SpellsOf Der (IsCrl Der) text c
+crl_again told c r text w =
+    let p = r.1 in
+    let o = one_value c text w in
+    let octets = spells_crl c r.0 text ((told p.tree r.0 c p.spelled).0 p.is) w in
+    record { tree = o.tree; is = (told o.tree text c o.spelled).1 octets; spelled = o.spelled }
+
+-- They stand in DER.
+pub cert_in_der : (c : CertValue) → IsReadableCert c → IsCertInDer c
+cert_in_der c r = ap (λ (k : CertValue). k.signed.mode) r.1.says
+
+pub crl_in_der : (c : CrlValue) → IsReadableCrl c → IsCrlInDer c
+crl_in_der c r = ap (λ (k : CrlValue). k.signed.mode) r.1.is.is.means

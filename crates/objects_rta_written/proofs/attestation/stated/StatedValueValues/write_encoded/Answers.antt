@@ -1,0 +1,9 @@
+use Rattle.objects_rta_written.specs.Contents.{stated}
+use Rattle.certs.proofs.Same.{refused_same, wrote_same}
+use Rattle.objects_rta_written.proofs.attestation.stated.StatedValueValues.write_encoded.Goals as goal
+
+pub returns-clause-written : goal.returns-clause-written
+returns-clause-written g c = wrote_same stated c.args.mode _ _ _ c.fields-value.ensures c.write_encoded.ensures.written
+
+pub returns-clause-refused : goal.returns-clause-refused
+returns-clause-refused g c = refused_same stated c.args.mode _ _ _ _ c.fields-value.ensures c.write_encoded.ensures.refused

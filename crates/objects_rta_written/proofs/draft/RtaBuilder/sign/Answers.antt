@@ -1,0 +1,15 @@
+use Rattle.std.proofs.Common.{refl}
+use Rattle.objects_written.specs.certs_key.Digesting.{digests_of}
+use Rattle.objects_cms.specs.Signer.{signer_fields}
+use Rattle.objects_written.specs.objects_payload.ObjectText.{signer_of}
+use Rattle.objects_rta_written.specs.Builders.{CannotAdd, signs}
+use Rattle.objects_rta_written.proofs.Signing.{added_on, memory_refused}
+use Rattle.objects_rta_written.proofs.draft.RtaBuilder.sign.Goals as goal
+
+pub returns-in-Ok-clause-added : goal.returns-in-Ok-clause-added
+returns-in-Ok-clause-added g c =
+    added_on (digests_of g.D.Digester.sha256_digest g.D.Digester.sha1_digest c.args.digester.now) (g.S.Signer.has_key c.args.signer.now c.args.key.now) (g.S.Signer.signs c.args.signer.now c.args.key.now) _ _ _
+    (signer_of (signer_fields c.in-Ok.made)) c.in-Ok.ensures.made c.add.result c.add.ensures.added
+
+pub returns-in-Ok-clause-refused : goal.returns-in-Ok-clause-refused
+returns-in-Ok-clause-refused g c = memory_refused (g.S.Signer.refuses c.args.signer.now) _ _ _ refl c.in-Ok.ensures.made.2.tells.attributes c.add.result c.add.ensures.refused
