@@ -8,6 +8,8 @@ pub mod Ranks
 pub mod OneFolder
 pub mod Words
 pub mod Lacking
+pub mod QuestionWords
+pub mod Telling
 pub mod of_bcder_tree
 pub mod of_certs_basics
 pub mod of_rpki_bundle

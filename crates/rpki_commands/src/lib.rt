@@ -10,7 +10,7 @@ pub mod questions;
 
 pub use arguments::{Command, USAGE, command_of};
 pub use commands::{FAILED, bundle, check};
-pub use programs::check_program;
+pub use programs::{ask_program, check_program};
 pub use rpki_digests::Fips;
 pub use rpki_validator::{
     Bundle, Cause, Counted, Digester, Judgement, Path, Reach, Refusal, Report, RunError,

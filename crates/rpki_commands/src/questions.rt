@@ -6,7 +6,13 @@
 mod answers;
 pub mod asking;
 mod costs;
+mod facts;
+mod json;
+mod judging;
+mod keys;
+mod reaching;
 pub mod requests;
+mod telling;
 mod texts;
 
 pub use asking::{FAULT, NO, YES, ask};

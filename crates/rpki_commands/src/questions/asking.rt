@@ -1,8 +1,9 @@
 //! A question, over any reader and writers.
 
-ghost use Rattle.std.specs.Prelude.{◌≡◌, ◌⊎◌, ◌<◌, ◌-◌, ◌^◌, IfErr, OnOk};
+ghost use Rattle.std.specs.Prelude.{◌≡◌, ◌⊎◌, ◌<◌, ◌-◌, ◌^◌, false, true, IfErr, IfOk};
 ghost use Rattle.rpki_validator.specs.Run.{CountsReads, CountsWrites};
 ghost use Rattle.rpki_commands.specs.Asking.{Answers, AskFails, EndsInFault};
+ghost use Rattle.rpki_commands.specs.Requests.{asked_of};
 
 use crate::questions::answers::answer_to;
 use crate::questions::requests::Request;
@@ -30,11 +31,13 @@ fn ask_all<R: Read, W: Write>(
     requires few_reads { reader.old.failures < 2 ^ 64 - 1 }
     requires few_writes { writer.old.failures < 2 ^ 64 - 1 }
 
-    ensures ok { OnOk result
-        (Answers (R.remaining reader.old.inner) (R.remaining reader.new.inner)
+    ensures ok { IfOk result (λ yes. Answers request.entry.json
+        (asked_of request.entry.question) yes
+        (R.remaining reader.old.inner) (R.remaining reader.new.inner)
         (W.contents writer.old.inner) (W.contents writer.new.inner)) }
-    ensures refused { IfErr result
-        (λ e. AskFails e (R.remaining reader.old.inner) (R.remaining reader.new.inner)
+    ensures refused { IfErr result (λ e. AskFails request.entry.json
+        (asked_of request.entry.question) e
+        (R.remaining reader.old.inner) (R.remaining reader.new.inner)
         (W.contents writer.old.inner) (W.contents writer.new.inner)) }
     ensures reads { CountsReads result reader.old.failures reader.new.failures }
     ensures writes { CountsWrites result writer.old.failures writer.new.failures }
@@ -68,14 +71,20 @@ pub fn ask<R: Read, W: Write, F: Write>(
     requires few_writes { writer.old.failures < 2 ^ 64 - 1 }
 
     ensures status { (result ≡ 0) ⊎ ((result ≡ 1) ⊎ (result ≡ 2)) }
-    ensures answered { result < 2
-        → Answers (R.remaining reader.old.inner) (R.remaining reader.new.inner)
+    ensures yes { result ≡ 0
+        → Answers request.entry.json (asked_of request.entry.question) true
+        (R.remaining reader.old.inner) (R.remaining reader.new.inner)
+        (W.contents writer.old.inner) (W.contents writer.new.inner) }
+    ensures no { result ≡ 1
+        → Answers request.entry.json (asked_of request.entry.question) false
+        (R.remaining reader.old.inner) (R.remaining reader.new.inner)
         (W.contents writer.old.inner) (W.contents writer.new.inner) }
     ensures answered_counts { result < 2
         → (reader.new.failures ≡ reader.old.failures)
         × (writer.new.failures ≡ writer.old.failures) }
     ensures failed { result ≡ 2
-        → EndsInFault (R.remaining reader.old.inner) (R.remaining reader.new.inner)
+        → EndsInFault request.entry.json (asked_of request.entry.question)
+        (R.remaining reader.old.inner) (R.remaining reader.new.inner)
         (W.contents writer.old.inner) (W.contents writer.new.inner)
         (record { before = reader.old.failures; after = reader.new.failures })
         (record { before = writer.old.failures; after = writer.new.failures }) }
