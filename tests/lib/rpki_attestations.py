@@ -56,16 +56,24 @@ def stated(value):
     return found
 
 
-class Attestation(MultiObject):
-    """A resource tagged attestation, in front of octets; its content is in DER whatever the object is in."""
+class Said:
+    """What the content of an attestation says, in front of octets, in DER."""
 
-    def __init__(self, octets, strict=True):
-        super().__init__(octets, strict)
-        need(self.kind == ATTESTATION)
-        fields = after_version(members(front(self.content), 16), 0)
+    def __init__(self, octets):
+        fields = after_version(members(front(octets), 16), 0)
         need(len(fields) == 4)
         self.keys = [octet_string(key) for key in members(fields[0], 17)]
         need(all(len(key) == 20 for key in self.keys))
         self.stated = stated(fields[1])
         digest_algorithm(fields[2])
         self.digest = octet_string(fields[3])
+
+
+class Attestation(MultiObject):
+    """A resource tagged attestation, in front of octets; its content is in DER whatever the object is in."""
+
+    def __init__(self, octets, strict=True):
+        super().__init__(octets, strict)
+        need(self.kind == ATTESTATION)
+        said = Said(self.content)
+        self.keys, self.stated, self.digest = said.keys, said.stated, said.digest

@@ -16,7 +16,7 @@ sys.path.insert(0, str(pathlib.Path(__file__).resolve().parents[1] / "lib"))
 
 import rpki_repositories as world  # noqa: E402
 from objects_rsc_cases import TEXTS, V4, V6, Behind, blocks, family, ip_part, nest, numbers  # noqa: E402
-from rpki_attestations import Attestation  # noqa: E402
+from rpki_attestations import Attestation, MultiObject, Said  # noqa: E402
 from rpki_readers import Refused, front  # noqa: E402
 from rpki_relaxed import indefinite, long, nested, segments, spelled, spelled_by_chance  # noqa: E402
 from rpki_repositories import NULL, SHA256, bits, integer, oid, seq, tlv  # noqa: E402
@@ -34,25 +34,56 @@ rng = random.Random(6488)
 KINDS = {"as": "as", "ipv4": 32, "ipv6": 128}
 
 
-def told(found):
-    words = [len(found.keys), *found.keys]
+def words_of(values):
+    return " ".join("x" + value.hex() if isinstance(value, bytes) else str(value) for value in values)
+
+
+def said(found):
+    """Of a content: its keys, what is stated of each kind, the digest."""
+    values = [len(found.keys), *found.keys]
     for kind, texts in KINDS.items():
         runs = found.stated[kind]
-        words.append("-" if runs is None else f"[{', '.join(TEXTS[texts](*run) for run in runs)}]")
-    words += [found.digest, found.kind, found.content, len(found.certs)]
+        values.append("-" if runs is None else f"[{', '.join(TEXTS[texts](*run) for run in runs)}]")
+    return [*values, found.digest]
+
+
+def carried(found):
+    """Of an object: its content and that one's type, certificates, lists, signers."""
+    values = [found.kind, found.content, len(found.certs)]
     for cert in found.certs:
-        words += [cert.serial, cert.subject_key]
-    words += [len(found.lists), *(one.number for one in found.lists), len(found.signers)]
+        values += [cert.serial, cert.subject_key]
+    values += [len(found.lists), *(one.number for one in found.lists), len(found.signers)]
     for one in found.signers:
-        words += [one.key, one.attributes, found.kind, one.digest, "true" if one.has_null else "false", one.signature]
-    return " ".join("x" + word.hex() if isinstance(word, bytes) else str(word) for word in words)
+        values += [one.key, one.attributes, found.kind, one.digest, "true" if one.has_null else "false", one.signature]
+    return values
 
 
 def answer_of(octets, how):
     try:
-        return told(Attestation(octets, how == "strict"))
+        found = Attestation(octets, how == "strict")
     except Refused:
         return "refused"
+    return words_of([*said(found), *carried(found)])
+
+
+def content_answer(octets):
+    try:
+        return words_of(said(Said(octets)))
+    except Refused:
+        return "refused"
+
+
+def multi_answer(octets, how):
+    """What an object carries, whatever its type is, and the value that its content begins with in DER."""
+    try:
+        found = MultiObject(octets, how == "strict")
+    except Refused:
+        return "refused"
+    try:
+        first = front(found.content).octets()
+    except Refused:
+        first = "refused"
+    return words_of([*carried(found), first])
 
 
 # The writer: three authorities' certificates and lists, those of three holders of keys, and documents of named parts.
@@ -642,6 +673,8 @@ class Asked:
             self.one(spelled_by_chance(rng, GOOD, rng.choice((0.01, 0.03, 0.1))), "relaxed")
         self.cut_and_changed()
         self.nested()
+        self.contents()
+        self.of_any_type()
 
     def cut_and_changed(self):
         """Fronts, of which none is read, and a document with each octet of its content changed, and others of its octets."""
@@ -675,6 +708,32 @@ class Asked:
         answer = answer_of(before + b"\x24\x80" * 10_000 + piece + b"\0\0" * 10_000 + behind, "relaxed")
         assert answer != "refused"
         self.q.ask(answer, "relaxed", f"{before.hex()}+2480*10000+{piece.hex()}+0000*10000+{behind.hex()}")
+
+
+    def contents(self):
+        """Contents by themselves: good ones, others, and fronts of one."""
+        for is_good, found in ((True, [CONTENT, *good_contents()]), (False, bad_contents())):
+            for content in found:
+                answer = content_answer(content)
+                assert (answer != "refused") == is_good, content.hex()
+                self.q.ask(answer, "content", content.hex())
+        for size in range(0, len(CONTENT), 3):
+            self.q.ask("refused", "content", CONTENT[:size].hex())
+        for octets in (nest(10_000), attestation(keys=nest(10_000)), attestation(resources=nest(10_000)), b"\x30\x84\xff\xff\xff\xff"):
+            self.q.ask("refused", "content", octets.hex())
+
+    def of_any_type(self):
+        """Objects by themselves: of other types, with contents that begin with no value in DER, and some that are none."""
+        other = oid("1.2.840.113549.1.9.16.1.37")
+        kinds = {"kind": other, "type": attribute("3", other)}
+        good = [GOOD, LARGE, made(**kinds), made(b"", **kinds), made(b"\x30\x80\0\0", **kinds), made(NULL + GOOD, **kinds), made(CERTS[FIRST])]
+        in_ber = [spelled(LARGE, {}, indefinite, {(*CRLS, 0), (*CRLS, 1)}), spelled(GOOD, {STRING: segments(5)})]
+        bad = [b"", GOOD[:-1], CERTS[FIRST], made(kind=other), made(certs=b""), made(signers=b""), made(lists=NULL), nest(10_000)]
+        for octets in (*good, *in_ber, *bad):
+            for how in ("strict", "relaxed"):
+                answer = multi_answer(octets, how)
+                assert (answer != "refused") == (octets in good or octets in in_ber and how == "relaxed"), octets.hex()
+                self.q.ask(answer, "multi", how, octets.hex())
 
 
 def attestations(q):
