@@ -3,6 +3,7 @@ pub mod Standing
 pub mod Places
 pub mod Lists
 pub mod Crls
+pub mod Tests
 pub mod Issued
 pub mod Lookups
 pub mod Names

@@ -19,4 +19,4 @@ pub use kept::Crl;
 pub use keys::key_in;
 pub use list::is_acceptable_crl;
 pub use names::differ_by_name;
-pub use revoked::is_unrevoked;
+pub use revoked::check_revocation;

@@ -1,32 +1,30 @@
 //! What is asked of any signed object (RFC 6488 3).
 
-ghost use Rattle.std.specs.Prelude.{◌≡◌, ◌↔◌, ◌+◌, ◌≤◌, IfOk, IsTrue};
-ghost use Rattle.certs_verify.specs.certs_x509.declared.errors.verification.VerificationError.TheVariants.{Memory};
+ghost use Rattle.std.specs.Prelude.{◌≡◌, ◌+◌, ◌≤◌, IfOk};
+ghost use Rattle.certs_verify.specs.TestAnswers.{Answers};
 ghost use Rattle.rpki_standing.specs.certs_key.Digesting.{digests_of};
-ghost use Rattle.rpki_rules.specs.Objects.{Sound};
+ghost use Rattle.rpki_standing.specs.rpki_bundle.Bundle.{BundleValue};
+ghost use Rattle.rpki_rules.specs.Reasons.{PassesContent, content_tests};
+ghost use Rattle.rpki_rules.specs.World.{world_of};
 
 use certs_verify::{Digester, VerificationError, Verifier};
 use objects_cms::signed::SignedObject;
 use objects_cms::verify::verify_content;
+use rpki_rules::reason::ContentTest;
 use std::alloc::{AllocError, Global};
 
-// Whether memory was wanted.
-fn is_memory(error: &VerificationError) -> bool
-    ensures { IsTrue result ↔ (error.now ≡ Memory) }
-{
-    matches!(error, VerificationError::Memory)
-}
-
 /// Whether the object is sound: the digest that is signed is its content's, it wasn't signed after its certificate's
-/// validity, and its signature is good (RFC 5652 5.4, 5.6; RFC 6488 3). The verifier is asked at most once.
-pub fn is_sound<D: Digester, V: Verifier>(
+/// validity, and its signature is good; else the first of these tests that fails (RFC 5652 5.4, 5.6; RFC 6488 3). The
+/// verifier is asked at most once.
+pub fn check_content<D: Digester, V: Verifier>(
     alloc: Global,
     signed: &SignedObject,
     digester: &D,
     verifier: &mut V,
-) -> Result<bool, AllocError>
-    ensures sound { IfOk result (λ yes. IsTrue yes ↔ Sound
-        (digests_of D.sha256_digest D.sha1_digest digester.now) (V.says verifier.old) signed.now) }
+) -> Result<Result<(), ContentTest>, AllocError>
+    ensures told { IfOk result (λ told. (b : BundleValue) → Answers (PassesContent (world_of
+        (digests_of D.sha256_digest D.sha1_digest digester.now) (V.says verifier.old) b)
+        signed.now) content_tests told) }
     ensures same { V.says verifier.new ≡ V.says verifier.old }
     ensures asked { V.count verifier.new ≤ V.count verifier.old + 1 }
 {
@@ -39,12 +37,10 @@ pub fn is_sound<D: Digester, V: Verifier>(
         verifier,
     );
     match verified {
-        Ok(()) => Ok(true),
-        Err(error) => {
-            if is_memory(&error) {
-                return Err(AllocError);
-            }
-            Ok(false)
-        }
+        Ok(()) => Ok(Ok(())),
+        Err(VerificationError::MessageDigest) => Ok(Err(ContentTest::Digest)),
+        Err(VerificationError::SigningTime) => Ok(Err(ContentTest::SigningTime)),
+        Err(VerificationError::BadSignature) => Ok(Err(ContentTest::Signature)),
+        Err(_) => Err(AllocError),
     }
 }
