@@ -1,0 +1,2 @@
+-- Lists of diagnoses.
+use Rattle.std.proofs.Common.{◌≡◌, List, refl}
