@@ -1,6 +1,6 @@
 -- Tests in their order: the first that fails is one alone, and none fails where all are passed. Where none fails first it
 -- can't be that not all are passed.
-use Rattle.std.proofs.Common.{◌≡◌, ◌≢◌, ◌↔◌, append_assoc, List, [], ◌∷◌, ◌++◌, map, flat_map, Option, Some, None, refl, sym, ap, ◌∙◌, subst}
+use Rattle.std.proofs.Common.{◌≡◌, ◌≢◌, List, [], ◌∷◌, ◌++◌, map, flat_map, Option, Some, None, refl, sym, ap, ◌∙◌, subst}
 use Rattle.rpki_rules.specs.certs_basics.Lists.{Each, FirstFailing}
 
 -- A test that is in the list is passed where all are.
@@ -66,54 +66,15 @@ pub each_also : {X : Type 0} (P Q : X → Type 0) (xs : List X) → ((x : X) →
 each_also P Q [] h all = tt
 each_also P Q (x ∷ xs) h all = (h x all.0, each_also P Q xs h all.1)
 
--- Tests in parts, of which one fails first.
-map_front : {X Y : Type 0} (g : X → Y) (xs ys : List X) → map g (xs ++ ys) ≡ map g xs ++ map g ys
-map_front g [] ys = refl
-map_front {X} {Y} g (x ∷ xs) ys = ap (λ (zs : List Y). g x ∷ zs) (map_front g xs ys)
-
--- The first test of all is failed.
-pub fails_here : {X : Type 0} (P : X → Type 0) (x : X) (xs : List X) → ¬ (P x) → FirstFailing P (x ∷ xs) x
-fails_here P x xs n = record { front = []; behind = xs; whole = refl; passed = tt; fails = n }
-
--- What fails first of some tests fails first of more behind them.
-pub fails_before : {X : Type 0} (P : X → Type 0) (xs ys : List X) (x : X) → FirstFailing P xs x → FirstFailing P (xs ++ ys) x
-fails_before {X} P xs ys x f = record {
-  front = f.front;
-  behind = f.behind ++ ys;
-  whole = ap (λ (zs : List X). zs ++ ys) f.whole ∙ append_assoc f.front (x ∷ f.behind) ys;
-  passed = f.passed;
-  fails = f.fails;
-}
-
--- And of more in front that are all passed.
-pub fails_behind : {X : Type 0} (P : X → Type 0) (xs ys : List X) (y : X) → Each P xs → FirstFailing P ys y → FirstFailing P (xs ++ ys) y
-fails_behind P [] ys y all f = f
-fails_behind P (x ∷ xs) ys y all f = fails_later P x (xs ++ ys) y all.0 (fails_behind P xs ys y all.1 f)
-
--- What fails first of tests fails first of what is made of them.
-pub fails_map : {X Y : Type 0} (g : X → Y) (P : Y → Type 0) (xs : List X) (x : X) → FirstFailing (λ z. P (g z)) xs x → FirstFailing P (map g xs) (g x)
-fails_map {X} {Y} g P xs x f = record {
-  front = map g f.front;
-  behind = map g f.behind;
-  whole = ap (λ (zs : List X). map g zs) f.whole ∙ map_front g f.front (x ∷ f.behind);
-  passed = map_each g P f.front f.passed;
-  fails = f.fails;
-}
-
--- What fails first by one condition fails first by another that holds of the same.
-pub fails_as : {X : Type 0} (P Q : X → Type 0) (xs : List X) (x : X) → ((y : X) → P y ↔ Q y) → FirstFailing P xs x → FirstFailing Q xs x
-fails_as P Q xs x e f = record {
+-- What fails first by one condition fails first by another, which what is passed by the one is passed by.
+pub fails_also : {X : Type 0} (P Q : X → Type 0) (xs : List X) (x : X) → ((y : X) → P y → Q y) → (Q x → P x) → FirstFailing P xs x → FirstFailing Q xs x
+fails_also P Q xs x to back f = record {
   front = f.front;
   behind = f.behind;
   whole = f.whole;
-  passed = each_also P Q f.front (λ y p. (e y).0 p) f.passed;
-  fails = λ q. f.fails ((e x).1 q);
+  passed = each_also P Q f.front to f.passed;
+  fails = λ q. f.fails (back q);
 }
-
--- Of the tests of each thing in turn, those of the things in front are passed, and one of this thing's fails first.
-pub fails_flat : {X Y : Type 0} (g : X → List Y) (P : Y → Type 0) (xs : List X) (x : X) (ys : List X) (y : Y) → Each (λ z. Each P (g z)) xs → FirstFailing P (g x) y → FirstFailing P (flat_map g (xs ++ x ∷ ys)) y
-fails_flat g P [] x ys y all f = fails_before P (g x) (flat_map g ys) y f
-fails_flat g P (z ∷ xs) x ys y all f = fails_behind P (g z) (flat_map g (xs ++ x ∷ ys)) y all.0 (fails_flat g P xs x ys y all.1 f)
 
 -- What may be missing and isn't.
 pub some_of : {X : Type 0} (o : Option X) → o ≢ None → (x : X) × (o ≡ Some x)

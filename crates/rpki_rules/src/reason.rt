@@ -12,7 +12,8 @@ pub mod locators;
 pub mod points;
 
 pub use certs::{CertTest, ContentTest};
-pub use certs_x509::Overclaimed;
+pub use certs_x509::forms::VerificationTest;
+pub use certs_x509::{InspectionError, Overclaimed};
 pub use diagnosis::{Diagnosis, Reason};
 pub use files::{CerTest, FileReason, ObjectTest, RevocationTest};
 pub use locators::{AnchorTest, LocatorReason};
