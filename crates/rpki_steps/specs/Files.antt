@@ -1,13 +1,15 @@
 -- What a file of an authority's publication point is, by what the authority holds.
-use Rattle.std.specs.Prelude.{◌≡◌, ℕ, List, Result, Ok, Err}
+use Rattle.std.specs.Prelude.{◌≡◌, ◌<◌, ◌≤◌, ℕ, List, length, Option, Some, None, Result, Ok, Err}
 use Rattle.rpki_steps.specs.Holders.{cert_of, sets_of}
 use Rattle.rpki_steps.specs.certs_verify.Holders.{ResourceCertValue}
 use Rattle.rpki_rules.specs.declared.cause.Cause.TheVariants as cause
 use Rattle.rpki_rules.specs.declared.reason.files.FileReason.{FileReason}
+use Rattle.rpki_rules.specs.declared.reason.files.FileReason.TheVariants as told
 use Rattle.rpki_rules.specs.Attests.{IsGood}
 use Rattle.rpki_rules.specs.Kinds.{InSet}
 use Rattle.rpki_rules.specs.Points.{Point}
 use Rattle.rpki_rules.specs.Refused.{IsIssued}
+use Rattle.rpki_rules.specs.Words.{Mem}
 use Rattle.rpki_rules.specs.World.{World}
 use Rattle.rpki_rules.specs.FileReasons.{FileFails, file_cause}
 use Rattle.rpki_rules.specs.ReasonViews.{FileUnheld, file_reason_of}
@@ -39,3 +41,14 @@ JudgesFile w ca p uri (Ok (Is.Child a)) =
 JudgesFile w ca p uri (Ok (Is.Attests x)) =
     IsGood w (InSet (sets_of ca)) (cert_of ca) p uri (payload_of x)
 JudgesFile w ca p uri (Err r) = IsBadFile w ca p uri r
+
+-- Why a certificate with that key may not follow a chain with these keys, if it may not: it is one of them, or they are as
+-- many as a chain may have.
+abbrev pub TellsChain : List ℕ → List (List ℕ) → ℕ → Option FileReason → Type 0
+TellsChain key on depth None = ¬ (Mem on key) × (length on < depth)
+TellsChain key on depth (Some told.BadCer) = ⊥
+TellsChain key on depth (Some (told.CerFails t)) = ⊥
+TellsChain key on depth (Some told.Loop) = Mem on key
+TellsChain key on depth (Some told.Depth) = ¬ (Mem on key) × (depth ≤ length on)
+TellsChain key on depth (Some told.BadObject) = ⊥
+TellsChain key on depth (Some (told.ObjectFails t)) = ⊥
