@@ -20,10 +20,12 @@ pub mod Firsts
 pub mod FirstParts
 pub mod ReasonTests
 mod TextFaults
-mod LocatorReasons
-mod NamesAlone
+pub mod LocatorReasons
+pub mod NamesAlone
 pub mod PointReasons
 pub mod FileReasons
+pub mod TestLaws
+pub mod Diagnoses
 pub mod Orders
 pub mod Sets
 pub mod Groups

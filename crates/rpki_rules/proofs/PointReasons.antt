@@ -33,7 +33,7 @@ pub record Parts (w : World) (ca : Cert) (o : Object) (m : Manifest) : Type 0 wh
 module _ (w : World) (ca : Cert) where
   -- One reading
 
-  pub one_has : (a b : List ℕ) → HasOctets w ca a → HasOctets w ca b → a ≡ b
+  one_has : (a b : List ℕ) → HasOctets w ca a → HasOctets w ca b → a ≡ b
   one_has a b h k =
       let u = same_some ca.tbs.access.manifest h.uri k.uri h.uri_is k.uri_is in
       one_octets w (lookup_key k.uri) a b (subst (λ (v : List ℕ). at w v ≡ Some a) u h.held) k.held
