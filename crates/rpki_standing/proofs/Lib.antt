@@ -10,6 +10,7 @@ pub mod Found
 pub mod Revoking
 pub mod Firsts
 pub mod Claims
+pub mod PassedTo
 pub mod TestsTold
 pub mod Contents
 pub mod CertTexts

@@ -14,7 +14,7 @@ use Rattle.rpki_rules.specs.PointReasons.{ManifestTest, ThisUpdate, NextUpdate, 
 use Rattle.rpki_rules.specs.ReasonViews.{manifest_test_of}
 use Rattle.rpki_rules.proofs.FirstParts.{first_behind, first_in_front, first_map}
 use Rattle.rpki_rules.proofs.Firsts.{each_join, each_map, each_split, map_each}
-use Rattle.rpki_rules.proofs.PointReasons.{one_has, same_manifest}
+use Rattle.rpki_rules.proofs.PointReasons.{same_manifest}
 use Rattle.rpki_rules.proofs.ReasonTests.{cert_passes, content_passes, passes_cert, passes_content}
 use Rattle.rpki_standing.specs.Manifests.{FindsManifest, IsOwnManifest}
 use Rattle.rpki_standing.specs.PointFaults.{FailsUnheld, held_tests, naming_tests, own_tests}
@@ -47,9 +47,14 @@ module _ (w : World) (ca : Cert) where
     has : HasOctets w ca octets
     has = record { uri = uri; uri_is = u; held = h }
 
+    -- All octets that are there are these.
+    same_octets : (other : List ℕ) → HasOctets w ca other → other ≡ octets
+    same_octets other g =
+        one_value other octets (at w uri) (subst (λ (x : List ℕ). at w x ≡ Some other) (one_value g.uri uri ca.tbs.access.manifest g.uri_is u) g.held) h
+
     pub none_reads : ((k : KindValue Manifest) → ¬ (ManifestText w.strict octets k.signed k.content)) → FindsManifest w ca (Err why.BadManifest)
     none_reads n = (
-      λ o m g. n (record { signed = o; content = m }) (subst (λ (t : List ℕ). ManifestText w.strict t o m) (one_has w ca g.octets octets g.has has) g.reads),
+      λ o m g. n (record { signed = o; content = m }) (subst (λ (t : List ℕ). ManifestText w.strict t o m) (same_octets g.octets g.has) g.reads),
       (octets, has, λ o m t. n (record { signed = o; content = m }) t),
     )
 

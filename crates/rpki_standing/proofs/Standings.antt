@@ -21,13 +21,14 @@ use Rattle.rpki_rules.specs.World.{World}
 use Rattle.rpki_rules.specs.PointReasons.{ManifestTest, HasGoodManifest, HasList, ListTest, ManifestClaim, PassesList, PassesManifest, PointFails, file_tests}
 use Rattle.rpki_rules.specs.Reasons.{kinds}
 use Rattle.rpki_rules.specs.ReasonViews.{list_test_of, manifest_test_of, point_reason_of}
-use Rattle.rpki_rules.proofs.FirstParts.{first_alike, first_behind, first_in_front}
+use Rattle.rpki_rules.proofs.FirstParts.{first_behind, first_in_front}
 use Rattle.rpki_rules.proofs.Firsts.{each_also, each_join, flat_each, none_fails, not_none}
 use Rattle.rpki_rules.proofs.PointReasons.{file_passes, one_list, refutes}
 use Rattle.rpki_standing.specs.Manifests.{IsOwnManifest}
 use Rattle.rpki_standing.specs.PointFaults.{FailsList, FailsUnheld, PassesUnheld, held_tests, naming_tests, own_tests, unheld_tests}
 use Rattle.rpki_standing.specs.Standing.{AreParts, IsStanding}
 use Rattle.rpki_standing.proofs.Failing.{one_value}
+use Rattle.rpki_standing.proofs.PassedTo.{first_alike}
 use Rattle.rpki_standing.proofs.OwnManifests.{own_has, own_passes, whole_tests}
 
 -- A point whose manifest has its files and its list stands.

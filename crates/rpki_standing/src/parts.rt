@@ -7,7 +7,6 @@ ghost use Rattle.rpki_standing.specs.Manifests.{IsOwnManifest};
 ghost use Rattle.rpki_standing.specs.PointFaults.{FailsList, FailsUnheld, held_tests};
 ghost use Rattle.rpki_standing.specs.Standing.{AreParts};
 ghost use Rattle.rpki_rules.specs.Certs.{Digests, Verdicts};
-ghost use Rattle.rpki_rules.specs.Objects.{Object};
 ghost use Rattle.rpki_rules.specs.PointReasons.{PassesManifest};
 ghost use Rattle.rpki_rules.specs.Points.{HasFiles, IsCrlOf, files as files_by};
 ghost use Rattle.rpki_rules.specs.ReasonViews.{manifest_test_of};
@@ -17,7 +16,7 @@ use crate::points::{Crl, check_files, files_of, find_crl};
 use crate::signed::{Cert, Digester, Verifier};
 use crate::table::Index;
 use bytes::Bytes;
-use objects_valid::kinds::{Manifest, ManifestContent};
+use objects_valid::kinds::Manifest;
 use rpki_rules::reason::{ManifestTest, PointReason};
 use std::alloc::{AllocError, Global};
 
@@ -26,26 +25,28 @@ use std::alloc::{AllocError, Global};
 pub fn held_files<D: Digester>(
     alloc: Global,
     ca: &Cert,
-    manifest: &ManifestContent,
+    manifest: &Manifest,
     index: &Index<'_>,
     digester: &D,
 ) -> Result<Result<Vec<Bytes>, ManifestTest>, AllocError>
     ensures held { IfOk result (λ told. IfOk told (λ keys. (v : Verdicts) → HasFiles (world_of
-        (digests_of D.sha256_digest D.sha1_digest digester.now) v index.now) ca.now manifest.now)) }
+        (digests_of D.sha256_digest D.sha1_digest digester.now) v index.now)
+        ca.now manifest.now.content)) }
     ensures keys { IfOk result (λ told. IfOk told
-        (λ keys. keys.items ≡ files_by ca.now manifest.now)) }
-    ensures refused { IfOk result (λ told. IfErr told (λ test. (v : Verdicts) (o : Object)
+        (λ keys. keys.items ≡ files_by ca.now manifest.now.content)) }
+    ensures refused { IfOk result (λ told. IfErr told (λ test. (v : Verdicts)
         → FirstFailing (PassesManifest (world_of
-        (digests_of D.sha256_digest D.sha1_digest digester.now) v index.now) ca.now o manifest.now)
-        (held_tests manifest.now) (manifest_test_of test))) }
+        (digests_of D.sha256_digest D.sha1_digest digester.now) v index.now)
+        ca.now manifest.now.signed manifest.now.content)
+        (held_tests manifest.now.content) (manifest_test_of test))) }
 {
     let Some(folder) = ca.tbs().ca_repository() else {
         return Ok(Err(ManifestTest::Folder));
     };
-    if let Err(test) = check_files(alloc, folder, manifest, index, digester)? {
+    if let Err(test) = check_files(alloc, folder, manifest.content(), index, digester)? {
         return Ok(Err(test));
     }
-    let keys = files_of(alloc, folder, manifest)?;
+    let keys = files_of(alloc, folder, manifest.content())?;
     Ok(Ok(keys))
 }
 
@@ -94,7 +95,7 @@ pub(crate) fn find_parts<D: Digester, V: Verifier>(
     ensures same { V.says verifier.new ≡ V.says verifier.old }
     ensures asked { V.count verifier.new ≤ V.count verifier.old + 1 }
 {
-    let keys = match held_files(alloc, ca, manifest.content(), index, digester)? {
+    let keys = match held_files(alloc, ca, manifest, index, digester)? {
         Ok(keys) => keys,
         Err(test) => return Ok(Err(PointReason::ManifestFails(test))),
     };
