@@ -18,39 +18,10 @@ use Rattle.rpki_standing.proofs.Firsts.{passed_told}
 abbrev Answer : Type 0
 Answer = Result (Unit {0}) VerificationError
 
-pub valid_told : (w : World) (c : Cert) (now : ℕ) (r : Answer) (answer : Bool) → now ≡ w.moment → answer ≡ is_ok r
-    → Answers (PassesAt w.good now c nothing c) validity r → IfErr r (λ e. e ≢ Memory) → IsTrue answer ↔ IsValid w c
-valid_told w c now r answer e is told n =
-    let h = passed_told (PassesAt w.good w.moment c nothing c) validity r answer is (subst (λ (m : ℕ). Answers (PassesAt w.good m c nothing c) validity r) e told) n in (
-      λ t. let p = h.0 t in (p.0, p.1.0),
-      λ v. h.1 (v.0, (v.1, tt)),
-    )
-
-pub claimed_told : (good : Verdicts) (ca c : Cert) (r : Answer) (answer : Bool) → answer ≡ is_ok r
-    → Answers (PassesAt good 0 ca nothing c) issuer_claim r → IfErr r (λ e. e ≢ Memory) → IsTrue answer ↔ ClaimsIssuer ca c
-claimed_told good ca c r answer is told n =
-    let h = passed_told (PassesAt good 0 ca nothing c) issuer_claim r answer is told n in (
-      λ t. let p = h.0 t in record { authority = p.1.0; issuer_uri = p.1.1.0 },
-      λ s. h.1 (there s, (s.authority, (s.issuer_uri, tt))),
-    )
-  where
-    there : ClaimsIssuer ca c → c.tbs.authority_key_identifier ≡ None → ⊥
-    there s e = let is : c.tbs.authority_key_identifier ≡ Some ca.tbs.subject_key_identifier = s.authority in absurd cc
-
-pub good_told : (good : Verdicts) (ca c : Cert) (r : Answer) (answer : Bool) → answer ≡ is_ok r
-    → Answers (PassesAt good 0 ca nothing c) (test.BadSignature ∷ []) r → IfErr r (λ e. e ≢ Memory) → IsTrue answer ↔ IsSignedBy good ca.tbs.key c.signed
-good_told good ca c r answer is told n =
-    let h = passed_told (PassesAt good 0 ca nothing c) (test.BadSignature ∷ []) r answer is told n in
-    (λ t. (h.0 t).0, λ s. h.1 (s, tt))
-
 pub own_told : (good : Verdicts) (c : Cert) (moment now : ℕ) (r : Answer) (answer : Bool) → now ≡ moment → answer ≡ is_ok r
     → Answers (PassesAt good now c nothing c) anchor_tests r → IfErr r (λ e. e ≢ Memory) → IsTrue answer ↔ IsAnchorAt good moment c
 own_told good c moment now r answer e is told n =
     passed_told (PassesAt good moment c nothing c) anchor_tests r answer is (subst (λ (m : ℕ). Answers (PassesAt good m c nothing c) anchor_tests r) e told) n
-
--- What is valid, claims the issuer and has a good signature of it is signed by it.
-pub signed_of : (w : World) (ca c : Cert) → IsValid w c → ClaimsIssuer ca c → IsSignedBy w.good ca.tbs.key c.signed → Signed w c ca
-signed_of w ca c v i g = record { authority = i.authority; issuer_uri = i.issuer_uri; good = g; valid = v }
 
 -- An anchor's certificate inherits nothing, is valid and signed itself, and its key is known.
 listed : (w : World) (c : Cert) → IsAnchorAt w.good w.moment c → (k : Kind) → claim c k ≡ Inherit → ⊥

@@ -10,7 +10,9 @@ pub mod Found
 pub mod Revoking
 pub mod Firsts
 pub mod Claims
-pub mod Sounding
+pub mod PassedTo
+pub mod TestsTold
+pub mod Contents
 pub mod CertTexts
 pub mod FirstHeld
 pub mod Following

@@ -1,7 +1,7 @@
 pub mod Manifests
 pub mod Standing
 pub mod Places
-pub mod Lists
+pub mod PointFaults
 pub mod Crls
 pub mod Tests
 pub mod Issued

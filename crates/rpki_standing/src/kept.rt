@@ -1,4 +1,4 @@
-//! Values that are kept only where a test is passed or something is found.
+//! Values that are kept only where a test is passed.
 
 ghost use Rattle.std.specs.Prelude.{◌≡◌, false, true, Err, IfErr, IfOk, MatchOption, None, Ok, Some};
 
@@ -16,19 +16,5 @@ pub fn keep_if<T: Drop>(value: T, passed: Result<bool, AllocError>) -> Result<Op
             drop(value);
             Err(error)
         }
-    }
-}
-
-/// The value with what was found, if something was.
-pub(crate) fn keep_with<T: Drop, U: Drop>(
-    value: T,
-    found: Result<Option<U>, AllocError>,
-) -> Result<Option<(T, U)>, AllocError>
-    ensures { IfOk result (λ kept. MatchOption kept (found ≡ Ok None)
-        (λ p. (p.0 ≡ value) × (found ≡ Ok (Some p.1)))) }
-{
-    match found? {
-        Some(other) => Ok(Some((value, other))),
-        None => Ok(None),
     }
 }

@@ -11,9 +11,9 @@ use Rattle.rpki_rules.specs.Reasons.{AreUnheld, FitsKind, kinds}
 use Rattle.rpki_rules.specs.ReasonViews.{kind_claimed, runs_claimed}
 use Rattle.rpki_walk.specs.Repository.{HasKept}
 use Rattle.rpki_walk.specs.Claimed.{ClaimValue}
-use Rattle.rpki_walk.specs.Steps.{AreKept, FindsHeld, FitsAll, FitsOf, FitsOrTells as FitsOrTellsOf, TellsUnfit, UnfitOf}
+use Rattle.rpki_walk.specs.Steps.{AreKept, FindsHeld, FitsAll, FitsOf, FitsOrTells, TellsUnfit, UnfitOf}
 use Rattle.rpki_rules.proofs.Firsts.{fails_also}
-use Rattle.rpki_steps.specs.Claims.{FindsSets, FitsOrTells, IsUnfit, claims_of}
+use Rattle.rpki_steps.specs.Claims.{FindsSets, IsUnfit, TellsFit, claims_of}
 
 module _ (c : Cert) (held : Resources) where
   pub all_fit : FitsAll (claims_of c) held → Fits (InSet held) c
@@ -54,13 +54,13 @@ module _ (c : Cert) (held : Resources) where
   sets_found (Ok next) h = (all_fit h.0, all_kept next h.1)
   sets_found (Err x) u = unfit x u
 
-  fit_found : (found : Result (Unit {0}) Overclaimed) → FitsOrTellsOf (claims_of c) held found → FitsOrTells (InSet held) c found
+  fit_found : (found : Result (Unit {0}) Overclaimed) → FitsOrTells (claims_of c) held found → TellsFit (InSet held) c found
   fit_found (Ok x) f = all_fit f
   fit_found (Err x) u = unfit x u
 
   module _ (claim : ClaimValue) (holding : Resources) (same : claim ≡ claims_of c) (lent : holding ≡ held) where
-    pub fits_told : {E : Type 0} (r : Result (Result (Unit {0}) Overclaimed) E) → IfOk r (FitsOrTellsOf claim holding) → IfOk r (FitsOrTells (InSet held) c)
-    fits_told (Ok found) h = fit_found found (subst (λ (x : ClaimValue). FitsOrTellsOf x held found) same (subst (λ (x : Resources). FitsOrTellsOf claim x found) lent h))
+    pub fits_told : {E : Type 0} (r : Result (Result (Unit {0}) Overclaimed) E) → IfOk r (FitsOrTells claim holding) → IfOk r (TellsFit (InSet held) c)
+    fits_told (Ok found) h = fit_found found (subst (λ (x : ClaimValue). FitsOrTells x held found) same (subst (λ (x : Resources). FitsOrTells claim x found) lent h))
     fits_told (Err e) h = tt
 
     pub fits_wanted : {A E : Type 0} (r : Result A E) → OnErr r (¬ (FitsAll claim holding)) → OnErr r (¬ (Fits (InSet held) c))

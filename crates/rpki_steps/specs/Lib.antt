@@ -1,6 +1,5 @@
 pub mod PlaceFiles
 pub mod Parts
-pub mod PlaceClaims
 pub mod Places
 pub mod Anchors
 pub mod Claims

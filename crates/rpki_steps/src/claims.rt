@@ -4,7 +4,7 @@ ghost use Rattle.std.specs.Prelude.{◌≡◌, IfOk, OnErr};
 ghost use Rattle.rpki_steps.specs.Holders.{sets_of};
 ghost use Rattle.rpki_rules.specs.Chains.{Fits};
 ghost use Rattle.rpki_rules.specs.Kinds.{InSet};
-ghost use Rattle.rpki_steps.specs.Claims.{FindsSets, FitsOrTells, claims_of};
+ghost use Rattle.rpki_steps.specs.Claims.{FindsSets, TellsFit, claims_of};
 
 use certs_verify::{Cert, ResourceCert};
 use rpki_rules::reason::Overclaimed;
@@ -36,20 +36,21 @@ fn claim_of(cert: &Cert) -> Claim<'_>
 }
 
 /// Whether the certificate's claim fits in what the authority holds, by the certificate's own policy; else the first kind of
-/// which it doesn't, with the numbers that are listed and aren't held. Memory is wanted only to tell these.
+/// which it doesn't, IPv4 first, then IPv6, with the numbers that are listed and aren't held. Memory is wanted only to tell
+/// these.
 pub fn fits_below(
     alloc: Global,
     cert: &Cert,
     ca: &ResourceCert,
 ) -> Result<Result<(), Overclaimed>, AllocError>
-    ensures told { IfOk result (FitsOrTells (InSet (sets_of ca.now)) cert.now) }
+    ensures told { IfOk result (TellsFit (InSet (sets_of ca.now)) cert.now) }
     ensures memory { OnErr result (¬ (Fits (InSet (sets_of ca.now)) cert.now)) }
 {
     claim_fits(alloc, &holding_of(ca), &claim_of(cert))
 }
 
-/// What the certificate holds below the authority; else the first kind of which its claim doesn't fit, with the numbers that
-/// are listed and aren't held.
+/// What the certificate holds below the authority; where its claim doesn't fit, the first kind of which it doesn't, with the
+/// numbers that are listed and aren't held.
 pub fn sets_below(
     alloc: Global,
     cert: &Cert,

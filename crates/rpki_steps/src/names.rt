@@ -68,8 +68,8 @@ fn listed_keys(alloc: Global, ca: &Cert, index: &Index<'_>) -> Result<Vec<Bytes>
         → Mem keys.items key ↔ NamesFile (world_of d v index.now) ca.now key) }
 {
     match manifest_at(alloc, ca, index)? {
-        Some(manifest) => keys_by(alloc, ca, manifest.content()),
-        None => Ok(Vec::new(alloc)),
+        Ok(manifest) => keys_by(alloc, ca, manifest.content()),
+        Err(_) => Ok(Vec::new(alloc)),
     }
 }
 
