@@ -12,6 +12,7 @@ pub mod Firsts
 pub mod Claims
 pub mod PassedTo
 pub mod TestsTold
+pub mod AnchorTests
 pub mod Contents
 pub mod CertTexts
 pub mod FirstHeld
