@@ -27,13 +27,12 @@ pub data Reason : Type 0 where
 
 -- What is refused, by the locator's name, by the lookup key of the certificate whose point it is, or
 -- by that of the file; on which chain, by the lookup keys from the anchor down, of a locator none;
--- and why. Of a claim that isn't held: the numbers that aren't, else none.
+-- and why.
 pub record DiagnosisValue : Type 0 where
   pub name : List ℕ
   pub locator : List ℕ
   pub chain : List (List ℕ)
   pub reason : Reason
-  pub unheld : List Run
 
 -- By name, then by locator and chain, as octets.
 abbrev pub diagnosis_cmp : DiagnosisValue → DiagnosisValue → Ordering
@@ -85,23 +84,22 @@ FileTells w held uri BadObject numbers = numbers ≡ []
 FileTells w held uri (ObjectFails t) numbers = ObjectTells w held uri t numbers
 
 -- Of a chain, by the reason of what has that name.
-abbrev pub on_chain : PathValue → List ℕ → Reason → List Run → DiagnosisValue
-on_chain path name reason unheld =
-    record { name = name; locator = path.locator; chain = path.chain; reason = reason; unheld = unheld }
+abbrev pub on_chain : PathValue → List ℕ → Reason → DiagnosisValue
+on_chain path name reason =
+    record { name = name; locator = path.locator; chain = path.chain; reason = reason }
 
 -- A locator's.
 pub record DiagnosesLocator (w : World) (l : Locator) (d : DiagnosisValue) : Type 0 where
   pub reason : LocatorReason
   pub fails : LocatorFails w l reason
-  pub is : d ≡ on_chain (record { locator = l.name; chain = [] }) l.name (OfLocator reason) []
+  pub is : d ≡ on_chain (record { locator = l.name; chain = [] }) l.name (OfLocator reason)
 
 -- That of the point of the authority at the URI.
 pub record DiagnosesPoint (w : World) (held : Kind → ℕ → Type 0) (path : PathValue) (uri : List ℕ)
     (ca : Cert) (d : DiagnosisValue) : Type 0 where
   pub reason : PointReason
   pub fails : PointFails w held ca reason
-  pub tells : PointTells w held ca reason d.unheld
-  pub is : d ≡ on_chain path uri (OfPoint reason) d.unheld
+  pub is : d ≡ on_chain path uri (OfPoint reason)
 
 -- That of a file of its point, which stands.
 pub record DiagnosesFile (w : World) (held : Kind → ℕ → Type 0) (on : List (List ℕ))
@@ -111,8 +109,7 @@ pub record DiagnosesFile (w : World) (held : Kind → ℕ → Type 0) (on : List
   pub listed : Mem (files ca point.manifest) d.name
   pub reason : FileReason
   pub fails : FileFails w held on (length on) ca point d.name reason
-  pub tells : FileTells w held d.name reason d.unheld
-  pub is : d ≡ on_chain path d.name (OfFile reason) d.unheld
+  pub is : d ≡ on_chain path d.name (OfFile reason)
 
 -- What is wrong at the end of a chain.
 abbrev pub DiagnosesEnd : World → (Kind → ℕ → Type 0) → List (List ℕ) → PathValue → List ℕ → Cert
@@ -134,3 +131,26 @@ pub record DiagnosesChain (w : World) (d : DiagnosisValue) : Type 0 where
 abbrev pub IsDiagnosis : World → DiagnosisValue → Type 0
 IsDiagnosis w d =
     ((l : Locator) × Mem w.locators l × DiagnosesLocator w l d) ⊎ DiagnosesChain w d
+
+-- Of what is wrong at the end of a chain these are the numbers that a reason tells.
+abbrev pub TellsEnd : World → (Kind → ℕ → Type 0) → List (List ℕ) → PathValue → List ℕ → Cert
+    → DiagnosisValue → List Run → Type 0
+TellsEnd w held on path uri ca d numbers =
+    ((f : DiagnosesPoint w held path uri ca d) × PointTells w held ca f.reason numbers)
+    ⊎ ((f : DiagnosesFile w held on path ca d) × FileTells w held d.name f.reason numbers)
+
+pub record TellsChain (w : World) (d : DiagnosisValue) (numbers : List Run) : Type 0 where
+  pub name : List ℕ
+  pub anchor : Link
+  pub below : List Link
+  pub accepted : Accepted w name anchor below
+  pub ends : TellsEnd w (Holds anchor below) (keys anchor below)
+      (record { locator = name; chain = places anchor below })
+      (last_of anchor below).uri (last_of anchor below).cert d numbers
+
+-- Of what is wrong with something of the world these are the numbers that a reason tells: of a claim
+-- that isn't held those that aren't, else none.
+abbrev pub IsTold : World → DiagnosisValue → List Run → Type 0
+IsTold w d numbers =
+    ((l : Locator) × Mem w.locators l × DiagnosesLocator w l d × (numbers ≡ []))
+    ⊎ TellsChain w d numbers
