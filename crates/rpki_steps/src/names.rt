@@ -45,7 +45,7 @@ fn keys_of(alloc: Global, uris: &[TalUri]) -> Result<Vec<Bytes>, AllocError>
 pub fn locator_keys(alloc: Global, locator: &Locator) -> Result<Option<Vec<Bytes>>, AllocError>
     ensures { IfOk result (AreLocatorKeys locator.now) }
 {
-    let Some(tal) = read_locator_text(alloc, locator)? else {
+    let Ok(tal) = read_locator_text(alloc, locator)? else {
         return Ok(None);
     };
     let keys = keys_of(alloc, tal.uris())?;

@@ -56,5 +56,11 @@ pub fn read_object<D: Digester, V: Verifier>(
         return Ok(None);
     }
     let (ee, crl) = (point.manifest_cert(), point.crl());
-    find_object(alloc, ca, ee, crl, uri, index, digester, verifier)
+    match find_object(alloc, ca, ee, crl, uri, index, digester, verifier)? {
+        Ok(object) => Ok(Some(object)),
+        Err(reason) => {
+            drop(reason);
+            Ok(None)
+        }
+    }
 }

@@ -1,0 +1,115 @@
+//! What is wrong at the ends of accepted chains.
+
+ghost use Rattle.std.specs.Prelude.{◌≡◌, [], OnOk, IfOk};
+ghost use Rattle.rpki_rules.specs.Words.{Mem};
+ghost use Rattle.rpki_rules.specs.Kinds.{InSet};
+ghost use Rattle.rpki_rules.specs.Points.{files};
+ghost use Rattle.rpki_rules.specs.Views.{path_of};
+ghost use Rattle.rpki_rules.specs.Diagnoses.{DiagnosesEnd};
+ghost use Rattle.rpki_walk.specs.Diagnosed.{Adds, DiagnosesAt, IsOnly, has_diagnosed, IsDiagnosed};
+
+use crate::diagnosis::asked::Diagnosing;
+use crate::visitor::Visitor;
+use bytes::Bytes;
+use rpki_rules::reason::{Diagnosis, Reason};
+use rpki_rules::{Cause, Path};
+use std::alloc::{AllocError, Global};
+use std::rc::Rc;
+
+/// What was found so far, in the order of the walk.
+#[derive(Drop)]
+pub(crate) struct Judged {
+    pub(crate) found: Vec<Diagnosis>,
+}
+
+// What is wrong with a file of a point, if anything is.
+fn judged_file<S: Diagnosing>(
+    alloc: Global,
+    repository: &mut S,
+    path: &Rc<Path>,
+    keys: &[Bytes],
+    ca: &S::Authority,
+    point: &S::Point,
+    file: &Bytes,
+) -> Result<Option<Diagnosis>, AllocError>
+    requires { Mem (files (S.cert ca.now) (S.point point.now).manifest) file.now }
+    ensures told { IfOk result (IsOnly (DiagnosesAt (S.world repository.old)
+        (InSet (S.sets ca.now)) keys.now (path_of path.now.value) (S.cert ca.now)
+        (S.point point.now) file.now)) }
+    ensures same { S.world repository.new ≡ S.world repository.old }
+    ensures lender { S.lender repository.new ≡ S.lender repository.old }
+{
+    match repository.file_reason(alloc, ca, point, keys, file.as_slice())? {
+        None => Ok(None),
+        Some(reason) => Ok(Some(Diagnosis::new(
+            file.clone()?,
+            path.clone()?,
+            Reason::File(reason),
+        ))),
+    }
+}
+
+// Adds what is wrong with a point, or with its files.
+fn judge_end<S: Diagnosing>(
+    alloc: Global,
+    repository: &mut S,
+    found: &mut Vec<Diagnosis>,
+    path: &Rc<Path>,
+    keys: &[Bytes],
+    uri: &Bytes,
+    ca: &S::Authority,
+) -> Result<(), AllocError>
+    ensures told { OnOk result (Adds found.old.items (DiagnosesEnd (S.world repository.old)
+        (InSet (S.sets ca.now)) keys.now (path_of path.now.value) uri.now (S.cert ca.now))
+        found.new.items) }
+    ensures same { S.world repository.new ≡ S.world repository.old }
+    ensures lender { S.lender repository.new ≡ S.lender repository.old }
+{
+    let point = match repository.judged_point(alloc, ca)? {
+        Ok(point) => point,
+        Err(reason) => {
+            found.push(Diagnosis::new(uri.clone()?, path.clone()?, Reason::Point(reason)))?;
+            return Ok(());
+        }
+    };
+    for file in repository.uris(ca, &point) {
+        if let Some(wrong) = judged_file(alloc, repository, path, keys, ca, &point, file)? {
+            found.push(wrong)?;
+        }
+    }
+    Ok(())
+}
+
+impl<S: Diagnosing> Visitor<S> for Judged {
+    ghost has = { has_diagnosed };
+
+    ghost wants = { IsDiagnosed };
+
+    ghost uris = { λ _. [] };
+
+    fn visit(
+        &mut self,
+        alloc: Global,
+        repository: &mut S,
+        path: &Rc<Path>,
+        keys: &[Bytes],
+        uri: &Bytes,
+        ca: &S::Authority,
+    ) -> Result<(), AllocError> {
+        judge_end(alloc, repository, &mut self.found, path, keys, uri, ca)
+    }
+
+    fn refuse(&mut self, _name: &Bytes, _why: Cause) -> Result<(), AllocError> {
+        Ok(())
+    }
+
+    fn show(
+        &mut self,
+        _repository: &S,
+        _path: &Rc<Path>,
+        _object: &Bytes,
+        _payload: S::Payload,
+    ) -> Result<(), AllocError> {
+        Ok(())
+    }
+}
