@@ -1,6 +1,6 @@
 //! Laws of tests and reasons.
 
-ghost use Rattle.rpki_rules.specs.TestLaws.{CertTestsAreRules, ContentTestsAreRules, ClaimTestsAreRules, RevocationTestsAreRules, AnchorTestsAreRules, CerTestsAreRules, ObjectTestsAreRules, PointTestsAreRules, PointReasonsRefute, FileReasonsRefuse, LocatorReasonsRefuse};
+ghost use Rattle.rpki_rules.specs.TestLaws.{CertTestsAreRules, ContentTestsAreRules, ClaimTestsAreRules, RevocationTestsAreRules, AnchorTestsAreRules, CerTestsAreRules, ObjectTestsAreRules, PointTestsAreRules, LocatorReasonsRefuse};
 
 /// The tests of a certificate ask together for its profile and for what its issuer signed.
 pub fn cert_tests_are_rules()
@@ -40,16 +40,6 @@ pub fn object_tests_are_rules()
 /// The tests of a manifest and of its revocation list ask together that the point stands.
 pub fn point_tests_are_rules()
     ensures { PointTestsAreRules }
-{}
-
-/// Where a publication point has a reason, none stands there.
-pub fn point_reasons_refute()
-    ensures { PointReasonsRefute }
-{}
-
-/// Where a file has a reason, it is refused by its cause.
-pub fn file_reasons_refuse()
-    ensures { FileReasonsRefuse }
 {}
 
 /// Where a locator has a reason, its text is none, or it reads and leads to no anchor.
