@@ -7,10 +7,11 @@
 pub mod anchors;
 pub mod issued;
 pub mod objects;
-mod tests;
+pub mod tests;
 
 pub use anchors::check_anchor_cert;
 pub use certs_verify::{Cert, Digester, PublicKey, Verifier};
 pub use issued::{check_authority_cert, check_object_cert};
 pub use objects::check_content;
 pub use objects_cms::signed::SignedObject;
+pub use tests::test_of;
