@@ -8,8 +8,6 @@ pub mod Rows
 pub mod Stocked
 pub mod Found
 pub mod Revoking
-pub mod Firsts
-pub mod Claims
 pub mod PassedTo
 pub mod TestsTold
 pub mod AnchorTests

@@ -8,7 +8,6 @@
 
 pub mod anchors;
 pub mod attested;
-pub mod kept;
 pub mod manifests;
 pub mod parts;
 pub mod payloads;
@@ -18,7 +17,6 @@ pub mod signed;
 pub mod table;
 
 pub use certs_verify::{Cert, Digester, PublicKey, Verifier};
-pub use kept::keep_if;
 pub use manifests::{find_manifest, manifest_at};
 pub use objects_cms::signed::SignedObject;
 pub use objects_valid::kinds::{Aspa, Manifest, ManifestContent, Roa, covers_aspa, covers_roa};

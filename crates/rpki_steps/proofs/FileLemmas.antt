@@ -16,10 +16,10 @@ use Rattle.rpki_rules.specs.Objects.{Object}
 use Rattle.rpki_rules.specs.Points.{files, Point}
 use Rattle.rpki_rules.specs.ReasonViews.{file_reason_of}
 use Rattle.rpki_rules.specs.Refused.{IsBadCer, IsBadPayload, IsFileRefused, IsIssued}
-use Rattle.rpki_rules.specs.TestLaws.{FileReasonsRefuse}
 use Rattle.rpki_rules.specs.Words.{Mem}
 use Rattle.rpki_rules.specs.World.{World}
 use Rattle.rpki_rules.proofs.Readings.{no_cer_payload, one_cert_at}
+use Rattle.rpki_rules.proofs.TestLaws.{file_reasons_refuse}
 use Rattle.rpki_steps.specs.Holders.{cert_of, sets_of}
 use Rattle.rpki_walk.specs.Asked.{HasFileReason}
 use Rattle.rpki_walk.specs.Repository.{IsIgnored}
@@ -92,18 +92,17 @@ module _ (w : World) (ca : ResourceCertValue) (p : Point) (uri : List ℕ) where
   filed (Is.Child a) h = h
   filed (Is.Attests x) h = h
 
-  module _ (refuse : FileReasonsRefuse) where
-    pub bad : (r : Told) → JudgesFile w ca p uri (Err r) → IsFile w ca p uri Is.Bad
-    bad r b =
-        subst (IsFileRefused w (InSet (sets_of ca)) [] 0 (cert_of ca) p uri) b.cause_is
-        (refuse w (InSet (sets_of ca)) [] 0 (cert_of ca) p uri (file_reason_of r) (b.fails [] 0))
+  pub bad : (r : Told) → JudgesFile w ca p uri (Err r) → IsFile w ca p uri Is.Bad
+  bad r b =
+      subst (IsFileRefused w (InSet (sets_of ca)) [] 0 (cert_of ca) p uri) b.cause_is
+      (file_reasons_refuse w (InSet (sets_of ca)) [] 0 (cert_of ca) p uri (file_reason_of r) (b.fails [] 0))
 
 payload_extension : (w : World) (uri octets : List ℕ) (o : Object) (x : PayloadValue) → PayloadText w uri octets o x → HasExtension roa uri ⊎ HasExtension asa uri
 payload_extension w uri octets o (OfRoa r) t = inl t.0
 payload_extension w uri octets o (OfAspa a) t = inr t.0
 
 -- Where a file isn't refused it has no reason.
-module _ (refuse : FileReasonsRefuse) (w : World) (held : Kind → ℕ → Type 0) (on : List (List ℕ)) (count : ℕ) (ca : Cert) (p : Point) (uri : List ℕ) where
+module _ (w : World) (held : Kind → ℕ → Type 0) (on : List (List ℕ)) (count : ℕ) (ca : Cert) (p : Point) (uri : List ℕ) where
   abbrev Fails : FileReason → Type 0
   Fails r = FileFails w held on count ca p uri r
 
@@ -113,12 +112,12 @@ module _ (refuse : FileReasonsRefuse) (w : World) (held : Kind → ℕ → Type 
   -- What is refused for itself is bad, and what is refused on its chain is issued.
   without : ¬ IsBad → ((c : Cert) → IsIssued w held ca p uri c → Mem on c.tbs.subject_key_identifier → ⊥)
       → ((c : Cert) → IsIssued w held ca p uri c → w.depth ≤ count → ⊥) → (r : FileReason) → ¬ (Fails r)
-  without b l d BadCer f = b (refuse w held on count ca p uri BadCer f)
-  without b l d (CerFails t) f = b (refuse w held on count ca p uri (CerFails t) f)
+  without b l d BadCer f = b (file_reasons_refuse w held on count ca p uri BadCer f)
+  without b l d (CerFails t) f = b (file_reasons_refuse w held on count ca p uri (CerFails t) f)
   without b l d Loop f = l f.0 f.1 f.2
   without b l d Depth f = d f.0 f.1 f.3
-  without b l d BadObject f = b (refuse w held on count ca p uri BadObject f)
-  without b l d (ObjectFails t) f = b (refuse w held on count ca p uri (ObjectFails t) f)
+  without b l d BadObject f = b (file_reasons_refuse w held on count ca p uri BadObject f)
+  without b l d (ObjectFails t) f = b (file_reasons_refuse w held on count ca p uri (ObjectFails t) f)
 
   unissued : ¬ IsBad → ((c : Cert) → ¬ (IsIssued w held ca p uri c)) → (r : FileReason) → ¬ (Fails r)
   unissued b n = without b (λ c i m. n c i) (λ c i e. n c i)
@@ -153,13 +152,13 @@ module _ (refuse : FileReasonsRefuse) (w : World) (held : Kind → ℕ → Type 
         (λ d j deep. omega (arith, short, deep))
 
 -- What a chain tells of a certificate that is issued.
-module _ (refuse : FileReasonsRefuse) (w : World) (ca : ResourceCertValue) (on : List (List ℕ)) (p : Point) (uri : List ℕ) where
+module _ (w : World) (ca : ResourceCertValue) (on : List (List ℕ)) (p : Point) (uri : List ℕ) where
   abbrev Has : Option Told → Type 0
   Has o = HasFileReason w (InSet (sets_of ca)) on (cert_of ca) p uri o
 
   pub child_told : (a : ResourceCertValue) (depth : ℕ) (o : Option Told) → depth ≡ w.depth → JudgesFile w ca p uri (Ok (Is.Child a)) → TellsChain (cert_of a).tbs.subject_key_identifier on depth o → Has o
   child_told a depth None e h t =
-      issued_none refuse w (InSet (sets_of ca)) on (length on) (cert_of ca) p uri (cert_of a) h.0 t.0 (subst (λ (n : ℕ). length on < n) e t.1)
+      issued_none w (InSet (sets_of ca)) on (length on) (cert_of ca) p uri (cert_of a) h.0 t.0 (subst (λ (n : ℕ). length on < n) e t.1)
   child_told a depth (Some told.BadCer) e h t = absurd t
   child_told a depth (Some (told.CerFails x)) e h t = absurd t
   child_told a depth (Some told.Loop) e h t = ((cert_of a, h.0, t), tt)
@@ -168,10 +167,10 @@ module _ (refuse : FileReasonsRefuse) (w : World) (ca : ResourceCertValue) (on :
   child_told a depth (Some (told.ObjectFails x)) e h t = absurd t
 
   pub other_told : (f : FileKind ResourceCertValue Payload) → ((a : ResourceCertValue) → f ≡ Is.Child a → ⊥) → JudgesFile w ca p uri (Ok f) → Has None
-  other_told Is.Nothing n h = ignored_none refuse w (InSet (sets_of ca)) on (length on) (cert_of ca) p uri h
+  other_told Is.Nothing n h = ignored_none w (InSet (sets_of ca)) on (length on) (cert_of ca) p uri h
   other_told Is.Bad n h = absurd h
   other_told (Is.Child a) n h = absurd (n a refl)
-  other_told (Is.Attests x) n h = good_none refuse w (InSet (sets_of ca)) on (length on) (cert_of ca) p uri (payload_of x) h
+  other_told (Is.Attests x) n h = good_none w (InSet (sets_of ca)) on (length on) (cert_of ca) p uri (payload_of x) h
 
   pub reason_told : (r : Told) → JudgesFile w ca p uri (Err r) → Has (Some r)
   reason_told r b = (b.fails on (length on), b.unheld)

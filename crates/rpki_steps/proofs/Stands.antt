@@ -9,7 +9,7 @@ use Rattle.rpki_rules.specs.Kinds.{Kind}
 use Rattle.rpki_rules.specs.Points.{IsPoint, Point}
 use Rattle.rpki_rules.specs.World.{World}
 use Rattle.rpki_standing.specs.Manifests.{IsOwnManifest}
-use Rattle.rpki_standing.proofs.OwnManifests.{one_read, own_read}
+use Rattle.rpki_standing.proofs.OwnManifests.{one_read, own_has}
 use Rattle.rpki_steps.specs.declared.places.files.File.{File}
 use Rattle.rpki_steps.specs.declared.places.standing.Point.{Point as Place}
 use Rattle.rpki_steps.specs.PlaceFiles.{AreFilesOf}
@@ -37,7 +37,7 @@ same_cert : (w : World) (ca : Cert) (p q : Point) → IsPoint w ca p → IsPoint
 same_cert w ca p q a b =
     let j : KindValue Manifest = record { signed = p.object; content = p.manifest } in
     let k : KindValue Manifest = record { signed = q.object; content = q.manifest } in
-    ap (λ (m : KindValue Manifest). m.signed.cert) (one_read w ca j k (own_read w ca j a.manifest) (own_read w ca k b.manifest))
+    ap (λ (m : KindValue Manifest). m.signed.cert) (one_read w ca j k (own_has w ca j a.manifest) (own_has w ca k b.manifest))
 
 -- By what the authority holds.
 module _ (w : World) (held : Kind → ℕ → Type 0) (ca : Cert) where

@@ -30,7 +30,7 @@ fn overclaimed(numbers: &Overclaimed) -> VerificationTest
     }
 }
 
-/// The test of a certificate that the error tells. Neither lack of memory nor a test of a content tells one.
+/// The test that the error tells. Neither lack of memory nor a test of a content tells one of a certificate.
 pub fn test_of(error: &VerificationError) -> VerificationTest
     requires { IsTest (fault_of error.now) }
     ensures { fault_of error.now ≡ Some (verified result) }
