@@ -126,9 +126,9 @@ module _ (w : World) (held : Kind → ℕ → Type 0) (on : List (List ℕ)) (co
   ignored_bad i (inl b) = elim i.no_authority [
     | inl n ↦ n b.extension
     | inr q ↦ elim b.cases [
-        | inl n ↦ n q.0 q.1
-        | inr s ↦ q.2 (subst (λ (c : Cert). c.tbs.basic_ca ≡ Some true) (one_cert_at w uri s.0 q.0 s.1 q.1) s.2)
-      ]
+      | inl n ↦ n q.0 q.1
+      | inr s ↦ q.2 (subst (λ (c : Cert). c.tbs.basic_ca ≡ Some true) (one_cert_at w uri s.0 q.0 s.1 q.1) s.2)
+    ]
   ]
   ignored_bad i (inr b) = i.no_payload b.extension
 
