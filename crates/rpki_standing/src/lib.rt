@@ -19,7 +19,7 @@ pub mod table;
 pub use certs_verify::{Cert, Digester, PublicKey, Verifier};
 pub use manifests::{find_manifest, manifest_at};
 pub use objects_cms::signed::SignedObject;
-pub use objects_valid::kinds::{Aspa, Manifest, ManifestContent, Roa, covers_aspa, covers_roa};
+pub use objects_valid::kinds::{Aspa, Manifest, ManifestContent, Roa};
 pub use point::{Point, point_unheld};
 pub use points::{Crl, check_revocation, decode, files_of};
 pub use signed::{check_anchor_cert, check_authority_cert, check_content, check_object_cert};
