@@ -5,6 +5,8 @@ use Rattle.std.specs.Ordering.{nat_cmp, ordering_then}
 use Rattle.std.specs.Cmp.Lexicographic.{slice_cmp}
 use Rattle.rpki_rules.specs.resources_chain.Sets.{Run}
 use Rattle.rpki_rules.specs.rpki_bundle.declared.parts.Locator.{Locator}
+use Rattle.rpki_rules.specs.declared.cause.Cause.{Cause}
+use Rattle.rpki_rules.specs.declared.cause.Cause.TheVariants as cause
 use Rattle.rpki_rules.specs.Certs.{Cert}
 use Rattle.rpki_rules.specs.Objects.{Object, Manifest}
 use Rattle.rpki_rules.specs.Words.{Mem}
@@ -13,11 +15,12 @@ use Rattle.rpki_rules.specs.World.{World}
 use Rattle.rpki_rules.specs.Points.{Link, Point, files}
 use Rattle.rpki_rules.specs.Chains.{last_of, places, keys, Holds, StandsIn, CertAt, Accepted}
 use Rattle.rpki_rules.specs.Attests.{Payload}
+use Rattle.rpki_rules.specs.Lines.{Refusal}
 use Rattle.rpki_rules.specs.Views.{PathValue}
 use Rattle.rpki_rules.specs.Reasons.{AreUnheld}
-use Rattle.rpki_rules.specs.LocatorReasons.{LocatorReason, LocatorFails}
+use Rattle.rpki_rules.specs.LocatorReasons.{LocatorReason, LocatorFails, locator_cause}
 use Rattle.rpki_rules.specs.PointReasons.{ListTest, ListAuthority, ListThisUpdate, ListNextUpdate, NotOnList, ListSignature, ManifestClaim, HasManifest, PointReason, NoManifest, BadManifest, ManifestFails, BadList, ListFails, PointFails}
-use Rattle.rpki_rules.specs.FileReasons.{CerTest, CerRevocation, CerCert, CerClaim, ObjectTest, ObjectRevocation, ObjectCert, ObjectContent, ObjectClaim, PrefixHeld, CustomerHeld, HasPayload, FileReason, BadCer, CerFails, Loop, Depth, BadObject, ObjectFails, FileFails}
+use Rattle.rpki_rules.specs.FileReasons.{CerTest, CerRevocation, CerCert, CerClaim, ObjectTest, ObjectRevocation, ObjectCert, ObjectContent, ObjectClaim, PrefixHeld, CustomerHeld, HasPayload, FileReason, BadCer, CerFails, Loop, Depth, BadObject, ObjectFails, FileFails, file_cause}
 
 -- Why a locator, a publication point or a file is refused.
 pub data Reason : Type 0 where
@@ -33,6 +36,16 @@ pub record DiagnosisValue : Type 0 where
   pub locator : List ℕ
   pub chain : List (List ℕ)
   pub reason : Reason
+
+-- The cause by which the line of a refusal tells a reason.
+abbrev pub cause_of : Reason → Cause
+cause_of (OfLocator r) = locator_cause r
+cause_of (OfPoint r) = cause.Point
+cause_of (OfFile r) = file_cause r
+
+-- The refusal that this is the diagnosis of.
+abbrev pub refusal_in : DiagnosisValue → Refusal
+refusal_in d = record { name = d.name; cause = cause_of d.reason }
 
 -- By name, then by locator and chain, as octets.
 abbrev pub diagnosis_cmp : DiagnosisValue → DiagnosisValue → Ordering
