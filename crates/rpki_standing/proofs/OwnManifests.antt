@@ -132,7 +132,7 @@ module _ (w : World) (ca : Cert) where
         content_fails t f =
             first_behind Passed (ThisUpdate ∷ NextUpdate ∷ []) (map ManifestCert (cert_tests Ee) ++ map ManifestContent content_tests) (ManifestContent t) updates
             (first_behind Passed (map ManifestCert (cert_tests Ee)) (map ManifestContent content_tests) (ManifestContent t)
-                (map_each ManifestCert Passed (cert_tests Ee) cert) (first_map ManifestContent Passed content_tests t f))
+            (map_each ManifestCert Passed (cert_tests Ee) cert) (first_map ManifestContent Passed content_tests t f))
 
         pub all_pass : Each (PassesContent w k.signed) content_tests → Each (PassesManifest w ca k.signed k.content) own_tests
         all_pass content = (

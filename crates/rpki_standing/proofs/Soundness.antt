@@ -112,7 +112,7 @@ module _ (w : World) (ca : Cert) (p : Point) (uri : List ℕ) where
         let none : Resources = record { asn = []; ipv4 = []; ipv6 = [] } in
         let e = one_reading w uri q o y x (reading_of q y s) h in
         none_fails (PassesObject w (InSet none) ca p o) signed_tests (object_test_of t)
-            (passes_signed (InSet none) o y (subst (λ (z : Object). IsSigned w ca p uri z y) e.0 s)) (f none);
+        (passes_signed (InSet none) o y (subst (λ (z : Object). IsSigned w ca p uri z y) e.0 s)) (f none);
     fails = λ e sets on count. (o, x, h, first_in_front (PassesObject w (InSet sets) ca p o) signed_tests (map ObjectClaim kinds ++ cover_tests x) (object_test_of t) (f sets));
     unheld = u;
     cause_is = refl;

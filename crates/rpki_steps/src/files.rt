@@ -12,8 +12,8 @@ ghost use Rattle.rpki_steps.specs.Files.{IsFile, JudgesFile, TellsChain};
 
 use crate::authority::Authority;
 use crate::certs::judged_cert_file;
-use crate::payloads::judged_payload_file;
 use crate::climb::files::is_listed;
+use crate::payloads::judged_payload_file;
 use bytes::Bytes;
 use certs_verify::{Digester, Verifier};
 use rpki_rules::reason::FileReason;
@@ -88,11 +88,7 @@ pub fn read_file<D: Digester, V: Verifier>(
 fn is_on(child: &Authority, keys: &[Bytes]) -> bool
     ensures { IsTrue result ↔ Mem keys.now (cert_of child.now).tbs.subject_key_identifier }
 {
-    let key = child
-        .verified()
-        .as_cert()
-        .tbs()
-        .subject_key_identifier();
+    let key = child.verified().as_cert().tbs().subject_key_identifier();
     is_listed(keys, key.as_slice())
 }
 

@@ -51,8 +51,7 @@ fn is_anchor_there<D: Digester, V: Verifier>(
     ensures asked { V.count verifier.new ≤ V.count verifier.old + 1 }
 {
     anchor_tests_are_rules();
-    object.uri.as_slice() == uri
-        && check_anchor_cert(cert, key, index, digester, verifier).is_ok()
+    object.uri.as_slice() == uri && check_anchor_cert(cert, key, index, digester, verifier).is_ok()
 }
 
 /// Whether the certificate at the lookup key is the anchor to which the locator leads. The verifier is asked once, at most.

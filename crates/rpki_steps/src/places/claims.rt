@@ -10,11 +10,7 @@ use rpki_standing::Cert;
 use std::alloc::{AllocError, Global};
 
 /// Whether the certificate's claim fits in what the authority holds, by the certificate's own policy.
-pub(crate) fn fits_below(
-    alloc: Global,
-    cert: &Cert,
-    ca: &ResourceCert,
-) -> Result<bool, AllocError>
+pub(crate) fn fits_below(alloc: Global, cert: &Cert, ca: &ResourceCert) -> Result<bool, AllocError>
     ensures { IfOk result (λ yes. IsTrue yes ↔ Fits (held_by ca.now.holder) cert.now) }
 {
     let told = claims::fits_below(alloc, cert, ca)?;
