@@ -20,9 +20,9 @@ use Rattle.rpki_rules.specs.Views.{PathValue}
 use Rattle.rpki_rules.specs.LocatorReasons.{LocatorReason, LocatorFails}
 use Rattle.rpki_rules.specs.PointReasons.{ListTest, ListAuthority, ListThisUpdate, ListNextUpdate, NotOnList, ListSignature, ManifestClaim, HasManifest, PointReason, NoManifest, BadManifest, ManifestFails, BadList, ListFails, PointFails}
 use Rattle.rpki_rules.specs.FileReasons.{CerTest, CerRevocation, CerCert, CerClaim, ObjectTest, ObjectRevocation, ObjectCert, ObjectContent, ObjectClaim, PrefixHeld, CustomerHeld, HasPayload, FileReason, BadCer, CerFails, Loop, Depth, BadObject, ObjectFails, FileFails}
-use Rattle.rpki_rules.specs.Diagnoses.{OfLocator, OfPoint, OfFile, DiagnosisValue, diagnosis_cmp, ListTells, PointTells, CerTells, ObjectTells, FileTells, on_chain, DiagnosesLocator, DiagnosesPoint, DiagnosesFile, DiagnosesEnd, DiagnosesChain, IsDiagnosis}
+use Rattle.rpki_rules.specs.Diagnoses.{OfLocator, OfPoint, OfFile, DiagnosisValue, diagnosis_cmp, ListTells, PointTells, CerTells, ObjectTells, FileTells, on_chain, DiagnosesLocator, DiagnosesPoint, DiagnosesFile, DiagnosesEnd, DiagnosesChain, IsDiagnosis, IsTold}
 use Rattle.rpki_rules.specs.declared.reason.diagnosis.Diagnosis.{Diagnosis}
-use Rattle.rpki_rules.specs.DiagnosisViews.{diagnosis_of, diagnoses_cmp, AreDiagnoses}
+use Rattle.rpki_rules.specs.DiagnosisViews.{diagnosis_of, unheld_of, diagnoses_cmp, AreDiagnoses}
 use Rattle.rpki_rules.proofs.Readings.{first_held, one_cert_at, one_point}
 use Rattle.rpki_rules.proofs.Groups.{not_empty}
 use Rattle.rpki_rules.proofs.WitnessNames.{some_places}
@@ -110,8 +110,7 @@ module _ (w : World) (held : Kind → ℕ → Type 0) (ca : Cert) where
     point_end : DiagnosesPoint w held path uri ca d → DiagnosesPoint w held path uri ca e → d ≡ e
     point_end f g =
         let q = one_point_reason w ca held f.reason g.reason f.fails g.fails in
-        let n = point_tells_one g.reason g.fails d.unheld e.unheld (subst (λ (r : PointReason). PointTells w held ca r d.unheld) q f.tells) g.tells in
-        let same : on_chain path uri (OfPoint f.reason) d.unheld ≡ on_chain path uri (OfPoint g.reason) e.unheld = λ i. on_chain path uri (OfPoint (q i)) (n i) in
+        let same : on_chain path uri (OfPoint f.reason) ≡ on_chain path uri (OfPoint g.reason) = λ i. on_chain path uri (OfPoint (q i)) in
         f.is ∙ (same ∙ sym g.is)
 
     file_end : d.name ≡ e.name → DiagnosesFile w held on path ca d → DiagnosesFile w held on path ca e → d ≡ e
@@ -120,9 +119,7 @@ module _ (w : World) (held : Kind → ℕ → Type 0) (ca : Cert) where
         let here = subst (λ (v : Point). FileFails w held on (length on) ca v d.name f.reason) p f.fails in
         let there = subst (λ (u : List ℕ). FileFails w held on (length on) ca g.point u f.reason) named here in
         let q = one_file_reason w held ca g.point e.name on (length on) f.reason g.reason there g.fails in
-        let told = subst (λ (u : List ℕ). FileTells w held u f.reason d.unheld) named f.tells in
-        let n = file_tells_one e.name on (length on) g.point g.reason g.fails d.unheld e.unheld (subst (λ (r : FileReason). FileTells w held e.name r d.unheld) q told) g.tells in
-        let same : on_chain path d.name (OfFile f.reason) d.unheld ≡ on_chain path e.name (OfFile g.reason) e.unheld = λ i. on_chain path (named i) (OfFile (q i)) (n i) in
+        let same : on_chain path d.name (OfFile f.reason) ≡ on_chain path e.name (OfFile g.reason) = λ i. on_chain path (named i) (OfFile (q i)) in
         f.is ∙ (same ∙ sym g.is)
 
     one_in_end : d.name ≡ e.name → DiagnosesEnd w held on path uri ca d → DiagnosesEnd w held on path uri ca e → d ≡ e
@@ -193,8 +190,8 @@ module _ (w : World) (apart : NoRepeat (map (λ (l : Locator). l.name) w.locator
       go (inr f) (inr g) = one_on_chain w d e parts.0 parts.1 parts.2 f g
 
   -- A list that has just the diagnoses of the world, sorted without repeats.
-  pub sorted_diagnoses : (old new : List Diagnosis) → ((d : DiagnosisValue) → Mem (map diagnosis_of old) d ↔ IsDiagnosis w d) → IsStrictlySortedBy diagnoses_cmp new → ((x : Diagnosis) → Mem new x → Mem old x) → ((x : Diagnosis) → Mem old x → (y : Diagnosis) × Mem new y × (diagnoses_cmp x y ≡ Equal)) → AreDiagnoses w new
-  sorted_diagnoses old new exact s from kept = record {
+  pub sorted_diagnoses : (old new : List Diagnosis) → ((d : DiagnosisValue) → Mem (map diagnosis_of old) d ↔ IsDiagnosis w d) → ((x : Diagnosis) → Mem old x → IsTold w (diagnosis_of x) (unheld_of x)) → IsStrictlySortedBy diagnoses_cmp new → ((x : Diagnosis) → Mem new x → Mem old x) → ((x : Diagnosis) → Mem old x → (y : Diagnosis) × Mem new y × (diagnoses_cmp x y ≡ Equal)) → AreDiagnoses w new
+  sorted_diagnoses old new exact told s from kept = record {
     ascend = sorted_map diagnosis_of diagnoses_cmp diagnosis_cmp (λ x y. refl) new s;
     exact = λ d. (
       λ m. let h = (mem_map diagnosis_of new d).0 m in (exact d).0 ((mem_map diagnosis_of old d).1 (h.0, from h.0 h.1, h.2)),
@@ -206,4 +203,5 @@ module _ (w : World) (apart : NoRepeat (map (λ (l : Locator). l.name) w.locator
           let e = one_diagnosis (diagnosis_of h.0) (diagnosis_of k.0) x y k.2 in
           (mem_map diagnosis_of new d).1 (k.0, k.1, sym e ∙ h.2),
     );
+    told = λ x m. told x (from x m);
   }

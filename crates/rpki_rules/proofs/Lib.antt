@@ -26,6 +26,7 @@ pub mod PointReasons
 pub mod FileReasons
 pub mod TestLaws
 pub mod Diagnoses
+mod DiagnosisLaws
 pub mod Orders
 pub mod Sets
 pub mod Groups

@@ -5,6 +5,8 @@ use Rattle.std.specs.Ordering.{nat_cmp, ordering_then}
 use Rattle.std.specs.Cmp.Lexicographic.{slice_cmp}
 use Rattle.rpki_rules.specs.resources_chain.Sets.{Run}
 use Rattle.rpki_rules.specs.rpki_bundle.declared.parts.Locator.{Locator}
+use Rattle.rpki_rules.specs.declared.cause.Cause.{Cause}
+use Rattle.rpki_rules.specs.declared.cause.Cause.TheVariants as cause
 use Rattle.rpki_rules.specs.Certs.{Cert}
 use Rattle.rpki_rules.specs.Objects.{Object, Manifest}
 use Rattle.rpki_rules.specs.Words.{Mem}
@@ -13,11 +15,12 @@ use Rattle.rpki_rules.specs.World.{World}
 use Rattle.rpki_rules.specs.Points.{Link, Point, files}
 use Rattle.rpki_rules.specs.Chains.{last_of, places, keys, Holds, StandsIn, CertAt, Accepted}
 use Rattle.rpki_rules.specs.Attests.{Payload}
+use Rattle.rpki_rules.specs.Lines.{Refusal}
 use Rattle.rpki_rules.specs.Views.{PathValue}
 use Rattle.rpki_rules.specs.Reasons.{AreUnheld}
-use Rattle.rpki_rules.specs.LocatorReasons.{LocatorReason, LocatorFails}
+use Rattle.rpki_rules.specs.LocatorReasons.{LocatorReason, LocatorFails, locator_cause}
 use Rattle.rpki_rules.specs.PointReasons.{ListTest, ListAuthority, ListThisUpdate, ListNextUpdate, NotOnList, ListSignature, ManifestClaim, HasManifest, PointReason, NoManifest, BadManifest, ManifestFails, BadList, ListFails, PointFails}
-use Rattle.rpki_rules.specs.FileReasons.{CerTest, CerRevocation, CerCert, CerClaim, ObjectTest, ObjectRevocation, ObjectCert, ObjectContent, ObjectClaim, PrefixHeld, CustomerHeld, HasPayload, FileReason, BadCer, CerFails, Loop, Depth, BadObject, ObjectFails, FileFails}
+use Rattle.rpki_rules.specs.FileReasons.{CerTest, CerRevocation, CerCert, CerClaim, ObjectTest, ObjectRevocation, ObjectCert, ObjectContent, ObjectClaim, PrefixHeld, CustomerHeld, HasPayload, FileReason, BadCer, CerFails, Loop, Depth, BadObject, ObjectFails, FileFails, file_cause}
 
 -- Why a locator, a publication point or a file is refused.
 pub data Reason : Type 0 where
@@ -27,13 +30,22 @@ pub data Reason : Type 0 where
 
 -- What is refused, by the locator's name, by the lookup key of the certificate whose point it is, or
 -- by that of the file; on which chain, by the lookup keys from the anchor down, of a locator none;
--- and why. Of a claim that isn't held: the numbers that aren't, else none.
+-- and why.
 pub record DiagnosisValue : Type 0 where
   pub name : List ℕ
   pub locator : List ℕ
   pub chain : List (List ℕ)
   pub reason : Reason
-  pub unheld : List Run
+
+-- The cause by which the line of a refusal tells a reason.
+abbrev pub cause_of : Reason → Cause
+cause_of (OfLocator r) = locator_cause r
+cause_of (OfPoint r) = cause.Point
+cause_of (OfFile r) = file_cause r
+
+-- The refusal that this is the diagnosis of.
+abbrev pub refusal_in : DiagnosisValue → Refusal
+refusal_in d = record { name = d.name; cause = cause_of d.reason }
 
 -- By name, then by locator and chain, as octets.
 abbrev pub diagnosis_cmp : DiagnosisValue → DiagnosisValue → Ordering
@@ -85,23 +97,22 @@ FileTells w held uri BadObject numbers = numbers ≡ []
 FileTells w held uri (ObjectFails t) numbers = ObjectTells w held uri t numbers
 
 -- Of a chain, by the reason of what has that name.
-abbrev pub on_chain : PathValue → List ℕ → Reason → List Run → DiagnosisValue
-on_chain path name reason unheld =
-    record { name = name; locator = path.locator; chain = path.chain; reason = reason; unheld = unheld }
+abbrev pub on_chain : PathValue → List ℕ → Reason → DiagnosisValue
+on_chain path name reason =
+    record { name = name; locator = path.locator; chain = path.chain; reason = reason }
 
 -- A locator's.
 pub record DiagnosesLocator (w : World) (l : Locator) (d : DiagnosisValue) : Type 0 where
   pub reason : LocatorReason
   pub fails : LocatorFails w l reason
-  pub is : d ≡ on_chain (record { locator = l.name; chain = [] }) l.name (OfLocator reason) []
+  pub is : d ≡ on_chain (record { locator = l.name; chain = [] }) l.name (OfLocator reason)
 
 -- That of the point of the authority at the URI.
 pub record DiagnosesPoint (w : World) (held : Kind → ℕ → Type 0) (path : PathValue) (uri : List ℕ)
     (ca : Cert) (d : DiagnosisValue) : Type 0 where
   pub reason : PointReason
   pub fails : PointFails w held ca reason
-  pub tells : PointTells w held ca reason d.unheld
-  pub is : d ≡ on_chain path uri (OfPoint reason) d.unheld
+  pub is : d ≡ on_chain path uri (OfPoint reason)
 
 -- That of a file of its point, which stands.
 pub record DiagnosesFile (w : World) (held : Kind → ℕ → Type 0) (on : List (List ℕ))
@@ -111,8 +122,7 @@ pub record DiagnosesFile (w : World) (held : Kind → ℕ → Type 0) (on : List
   pub listed : Mem (files ca point.manifest) d.name
   pub reason : FileReason
   pub fails : FileFails w held on (length on) ca point d.name reason
-  pub tells : FileTells w held d.name reason d.unheld
-  pub is : d ≡ on_chain path d.name (OfFile reason) d.unheld
+  pub is : d ≡ on_chain path d.name (OfFile reason)
 
 -- What is wrong at the end of a chain.
 abbrev pub DiagnosesEnd : World → (Kind → ℕ → Type 0) → List (List ℕ) → PathValue → List ℕ → Cert
@@ -134,3 +144,26 @@ pub record DiagnosesChain (w : World) (d : DiagnosisValue) : Type 0 where
 abbrev pub IsDiagnosis : World → DiagnosisValue → Type 0
 IsDiagnosis w d =
     ((l : Locator) × Mem w.locators l × DiagnosesLocator w l d) ⊎ DiagnosesChain w d
+
+-- Of what is wrong at the end of a chain these are the numbers that a reason tells.
+abbrev pub TellsEnd : World → (Kind → ℕ → Type 0) → List (List ℕ) → PathValue → List ℕ → Cert
+    → DiagnosisValue → List Run → Type 0
+TellsEnd w held on path uri ca d numbers =
+    ((f : DiagnosesPoint w held path uri ca d) × PointTells w held ca f.reason numbers)
+    ⊎ ((f : DiagnosesFile w held on path ca d) × FileTells w held d.name f.reason numbers)
+
+pub record TellsChain (w : World) (d : DiagnosisValue) (numbers : List Run) : Type 0 where
+  pub name : List ℕ
+  pub anchor : Link
+  pub below : List Link
+  pub accepted : Accepted w name anchor below
+  pub ends : TellsEnd w (Holds anchor below) (keys anchor below)
+      (record { locator = name; chain = places anchor below })
+      (last_of anchor below).uri (last_of anchor below).cert d numbers
+
+-- Of what is wrong with something of the world these are the numbers that a reason tells: of a claim
+-- that isn't held those that aren't, else none.
+abbrev pub IsTold : World → DiagnosisValue → List Run → Type 0
+IsTold w d numbers =
+    ((l : Locator) × Mem w.locators l × DiagnosesLocator w l d × (numbers ≡ []))
+    ⊎ TellsChain w d numbers

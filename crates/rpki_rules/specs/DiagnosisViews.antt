@@ -8,7 +8,7 @@ use Rattle.std.proofs.lemmas.Cmp.{on_total, then_total, lists_total, nat_list_cm
 use Rattle.rpki_rules.specs.resources_chain.Sets.{Run}
 use Rattle.rpki_rules.specs.Words.{Mem}
 use Rattle.rpki_rules.specs.World.{World}
-use Rattle.rpki_rules.specs.Diagnoses.{Reason, OfLocator, OfPoint, OfFile, DiagnosisValue, diagnosis_cmp, IsDiagnosis}
+use Rattle.rpki_rules.specs.Diagnoses.{Reason, OfLocator, OfPoint, OfFile, DiagnosisValue, diagnosis_cmp, IsDiagnosis, IsTold}
 use Rattle.rpki_rules.specs.ReasonViews.{runs_claimed, point_reason_of, file_reason_of}
 use Rattle.rpki_rules.specs.declared.reason.points.ListTest.{ListTest as CodeListTest}
 use Rattle.rpki_rules.specs.declared.reason.points.ListTest.TheVariants as crl
@@ -77,8 +77,11 @@ diagnosis_of d = record {
   locator = d.path.value.locator;
   chain = d.path.value.chain.items;
   reason = reason_of d.reason;
-  unheld = numbers_of d.reason;
 }
+
+-- The numbers that it tells.
+abbrev pub unheld_of : Diagnosis → List Run
+unheld_of d = numbers_of d.reason
 
 abbrev pub diagnoses_cmp : Diagnosis → Diagnosis → Ordering
 diagnoses_cmp d e = diagnosis_cmp (diagnosis_of d) (diagnosis_of e)
@@ -98,7 +101,9 @@ diagnoses_equiv = eq_by_cmp_equiv diagnoses_total
 pub diagnoses_ties : (d e : Diagnosis) → diagnoses_eq d e ≡ eq_by_cmp diagnoses_cmp d e
 diagnoses_ties d e = refl
 
--- Exactly the diagnoses of the world, each once, in order.
+-- Exactly the diagnoses of the world, each once, in order, and each tells just the numbers that
+-- aren't held.
 pub record AreDiagnoses (w : World) (ds : List Diagnosis) : Type 0 where
   pub ascend : IsStrictlySortedBy diagnosis_cmp (map diagnosis_of ds)
   pub exact : (d : DiagnosisValue) → Mem (map diagnosis_of ds) d ↔ IsDiagnosis w d
+  pub told : (d : Diagnosis) → Mem ds d → IsTold w (diagnosis_of d) (unheld_of d)

@@ -19,11 +19,11 @@ use Rattle.rpki_rules.specs.Views.{PathValue}
 use Rattle.rpki_rules.specs.Attests.{Payload, OfRoa, OfAspa, PayloadText, AreHeld, IsCovered, HoldsWith, WitnessValue, IsGood}
 use Rattle.rpki_rules.specs.Refused.{IsFileRefused, IsBadCer, IsBadPayload, IsIssued}
 use Rattle.rpki_walk.specs.Repository.{IsIgnored, HasKept, IsRead}
-use Rattle.rpki_walk.specs.Facts.{Finding, Refuses, Shows, Originates, Provides, Reaches, Chains, Diagnoses, ShownBy, ReachedBy, RefusedBy, TellsFile, Tells, Found, Stand, FromFile, Classified, Gains, Walks}
+use Rattle.rpki_walk.specs.Facts.{Finding, Refuses, Shows, Originates, Provides, Reaches, Chains, Diagnoses, Unheld, ShownBy, ReachedBy, RefusedBy, TellsFile, Tells, Found, Stand, FromFile, Classified, Gains, Walks}
 use Rattle.rpki_walk.specs.declared.chains.Outcome.{Outcome}
 use Rattle.rpki_walk.specs.declared.chains.Outcome.TheVariants as Does
 use Rattle.rpki_walk.proofs.Mems.{gains_same, gains_none, gains_more}
-use Rattle.rpki_walk.proofs.ReasonMoves.{ends_to}
+use Rattle.rpki_walk.proofs.ReasonMoves.{ends_to, tells_to}
 pub use Rattle.rpki_walk.proofs.Moves.{fits_to, stands_to, child_to, issued_to, good_to}
 
 pub refused_to : (h k : Kind → ℕ → Type 0) → ((i : Kind) (n : ℕ) → h i n ↔ k i n) → (w : World) (on : List (List ℕ)) (count : ℕ) (ca : Cert) (p : Point) (uri : List ℕ) (why : Cause) → IsFileRefused w h on count ca p uri why → IsFileRefused w k on count ca p uri why
@@ -51,6 +51,7 @@ refused_parts w held on ca p uri (Provides o) t = absurd t
 refused_parts w held on ca p uri (Reaches k n) t = absurd t
 refused_parts w held on ca p uri (Chains v) t = absurd t
 refused_parts w held on ca p uri (Diagnoses told) t = absurd t
+refused_parts w held on ca p uri (Unheld told numbers) t = absurd t
 
 pub reached_to : (uris : List (List ℕ)) (w : World) (h k : Kind → ℕ → Type 0) (on : List (List ℕ)) (path : PathValue) (uri : List ℕ) (ca : Cert) → ((i : Kind) (n : ℕ) → h i n ↔ k i n) → (x : Finding) → ReachedBy uris w h on path uri ca x → ReachedBy uris w k on path uri ca x
 reached_to uris w h k on path uri ca e (Refuses n why) r = r
@@ -60,6 +61,7 @@ reached_to uris w h k on path uri ca e (Provides o) r = r
 reached_to uris w h k on path uri ca e (Reaches i n) r = (r.0, (e i n).0 r.1)
 reached_to uris w h k on path uri ca e (Chains v) r = r
 reached_to uris w h k on path uri ca e (Diagnoses told) r = ends_to h k e w on path uri ca told r
+reached_to uris w h k on path uri ca e (Unheld told numbers) r = tells_to h k e w on path uri ca told numbers r
 
 module _ (uris : List (List ℕ)) (w : World) (name : List ℕ) (a : Link) (cs : List Link) where
   abbrev ca : Cert

@@ -10,7 +10,7 @@ use Rattle.rpki_rules.specs.Attests.{Payload, WitnessValue}
 use Rattle.rpki_rules.specs.Reach.{NamesOne, IsReached, SomeLocatorNames, IsReach, Held}
 use Rattle.rpki_rules.proofs.Orders.{mem_append}
 use Rattle.rpki_rules.specs.Views.{PathValue}
-use Rattle.rpki_walk.specs.Facts.{Refuses, Shows, Originates, Provides, Reaches, Chains, Diagnoses, ShownBy, ReachedBy, Gains, IsFinding}
+use Rattle.rpki_walk.specs.Facts.{Refuses, Shows, Originates, Provides, Reaches, Chains, Diagnoses, Unheld, ShownBy, ReachedBy, Gains, IsFinding}
 use Rattle.rpki_walk.specs.Gathered.{InSome, AreUnionOf, has_gathered, IsReaches}
 use Rattle.rpki_walk.specs.declared.reach.gather.Gatherer.{Gatherer}
 use Rattle.rpki_walk.proofs.Sets.{runs_same}
@@ -23,6 +23,7 @@ refuse_gains g name why (Provides s) t = absurd t
 refuse_gains g name why (Reaches k n) t = (λ m. inl m, λ m. elim m [ inl a ↦ a | inr e ↦ absurd (let p = e in cc) ])
 refuse_gains g name why (Chains v) t = absurd t
 refuse_gains g name why (Diagnoses told) t = absurd t
+refuse_gains g name why (Unheld told numbers) t = absurd t
 
 pub show_gains : (g : Gatherer) (t : WitnessValue) (x : Payload) → Gains IsReaches (has_gathered g) (ShownBy t x) (has_gathered g)
 show_gains g t x (Refuses n y) q = absurd q
@@ -32,6 +33,7 @@ show_gains g t x (Provides s) q = absurd q
 show_gains g t x (Reaches k n) q = (λ m. inl m, λ m. elim m [ inl a ↦ a | inr e ↦ absurd e ])
 show_gains g t x (Chains v) q = absurd q
 show_gains g t x (Diagnoses told) q = absurd q
+show_gains g t x (Unheld told numbers) q = absurd q
 
 -- An authority that names none, and one that names one.
 pub none_gains : (g : Gatherer) (uris : List (List ℕ)) (w : World) (sets : Resources) (on : List (List ℕ)) (path : PathValue) (uri : List ℕ) (ca : Cert) → ¬ (NamesOne uris w ca) → Gains IsReaches (has_gathered g) (ReachedBy uris w (InSet sets) on path uri ca) (has_gathered g)
@@ -42,6 +44,7 @@ none_gains g uris w sets on path uri ca lacks (Provides s) q = absurd q
 none_gains g uris w sets on path uri ca lacks (Reaches k n) q = (λ m. inl m, λ m. elim m [ inl a ↦ a | inr e ↦ absurd (lacks e.0) ])
 none_gains g uris w sets on path uri ca lacks (Chains v) q = absurd q
 none_gains g uris w sets on path uri ca lacks (Diagnoses told) q = absurd q
+none_gains g uris w sets on path uri ca lacks (Unheld told numbers) q = absurd q
 
 some_more : (old new : List Resources) (s sets : Resources) → new ≡ old ++ s ∷ [] → s ≡ sets → (k : Kind) (n : ℕ) → InSome new k n ↔ (InSome old k n ⊎ InSet sets k n)
 some_more old new s sets e f k n = (
@@ -66,6 +69,7 @@ one_gains f g uris w s sets on path uri ca names e h (Reaches k n) q = let m = s
 )
 one_gains f g uris w s sets on path uri ca names e h (Chains v) q = absurd q
 one_gains f g uris w s sets on path uri ca names e h (Diagnoses told) q = absurd q
+one_gains f g uris w s sets on path uri ca names e h (Unheld told numbers) q = absurd q
 
 -- What a walk tells as reached is what is reached.
 told_reached : (uris : List (List ℕ)) (w : World) (k : Kind) (n : ℕ) → IsFinding uris w (Reaches k n) ↔ IsReached uris w k n

@@ -10,7 +10,7 @@ use Rattle.rpki_rules.specs.Views.{PathValue}
 use Rattle.rpki_rules.specs.Reasons.{FitsKind, AreUnheld}
 use Rattle.rpki_rules.specs.PointReasons.{ListTest, ListAuthority, ListThisUpdate, ListNextUpdate, NotOnList, ListSignature, ManifestClaim, list_tests, PassesList, PointReason, NoManifest, BadManifest, ManifestFails, BadList, ListFails, PointFails}
 use Rattle.rpki_rules.specs.FileReasons.{CerTest, CerRevocation, CerCert, CerClaim, tests_of_cers, PassesCer, ObjectTest, ObjectRevocation, ObjectCert, ObjectContent, ObjectClaim, PrefixHeld, CustomerHeld, tests_of_objects, PassesObject, FileReason, BadCer, CerFails, Loop, Depth, BadObject, ObjectFails, FileFails}
-use Rattle.rpki_rules.specs.Diagnoses.{DiagnosisValue, ListTells, PointTells, CerTells, ObjectTells, FileTells, DiagnosesEnd}
+use Rattle.rpki_rules.specs.Diagnoses.{DiagnosisValue, ListTells, PointTells, CerTells, ObjectTells, FileTells, DiagnosesPoint, DiagnosesFile, DiagnosesEnd, TellsEnd}
 use Rattle.rpki_rules.proofs.Firsts.{fails_also}
 use Rattle.rpki_walk.proofs.Moves.{fits_in_to, stands_to, issued_to}
 
@@ -114,20 +114,24 @@ module _ (h k : Kind → ℕ → Type 0) (e : (i : Kind) (n : ℕ) → h i n ↔
   file_tells_to w uri BadObject numbers f = f
   file_tells_to w uri (ObjectFails t) numbers f = object_tells_to w uri t numbers f
 
-  -- What is wrong at the end of a chain.
-  pub ends_to : (w : World) (on : List (List ℕ)) (path : PathValue) (uri : List ℕ) (ca : Cert) (d : DiagnosisValue) → DiagnosesEnd w h on path uri ca d → DiagnosesEnd w k on path uri ca d
-  ends_to w on path uri ca d (inl f) = inl (record {
-    reason = f.reason;
-    fails = point_to w ca f.reason f.fails;
-    tells = point_tells_to w ca f.reason d.unheld f.tells;
-    is = f.is;
-  })
-  ends_to w on path uri ca d (inr f) = inr (record {
+  -- What is wrong at the end of a chain, and the numbers that this tells.
+  point_end_to : (w : World) (path : PathValue) (uri : List ℕ) (ca : Cert) (d : DiagnosisValue) → DiagnosesPoint w h path uri ca d → DiagnosesPoint w k path uri ca d
+  point_end_to w path uri ca d f = record { reason = f.reason; fails = point_to w ca f.reason f.fails; is = f.is }
+
+  file_end_to : (w : World) (on : List (List ℕ)) (path : PathValue) (ca : Cert) (d : DiagnosisValue) → DiagnosesFile w h on path ca d → DiagnosesFile w k on path ca d
+  file_end_to w on path ca d f = record {
     point = f.point;
     stands = stands_to h k there w ca f.point f.stands;
     listed = f.listed;
     reason = f.reason;
     fails = file_to w on (length on) ca f.point d.name f.reason f.fails;
-    tells = file_tells_to w d.name f.reason d.unheld f.tells;
     is = f.is;
-  })
+  }
+
+  pub ends_to : (w : World) (on : List (List ℕ)) (path : PathValue) (uri : List ℕ) (ca : Cert) (d : DiagnosisValue) → DiagnosesEnd w h on path uri ca d → DiagnosesEnd w k on path uri ca d
+  ends_to w on path uri ca d (inl f) = inl (point_end_to w path uri ca d f)
+  ends_to w on path uri ca d (inr f) = inr (file_end_to w on path ca d f)
+
+  pub tells_to : (w : World) (on : List (List ℕ)) (path : PathValue) (uri : List ℕ) (ca : Cert) (d : DiagnosisValue) (numbers : List Run) → TellsEnd w h on path uri ca d numbers → TellsEnd w k on path uri ca d numbers
+  tells_to w on path uri ca d numbers (inl f) = inl (point_end_to w path uri ca d f.0, point_tells_to w ca f.0.reason numbers f.1)
+  tells_to w on path uri ca d numbers (inr f) = inr (file_end_to w on path ca d f.0, file_tells_to w d.name f.0.reason numbers f.1)

@@ -19,7 +19,7 @@ use Rattle.rpki_rules.specs.declared.witness.Witness.{Witness as CodeWitness}
 use Rattle.rpki_rules.specs.declared.origin.Origin.{Origin as CodeOrigin}
 use Rattle.rpki_rules.specs.declared.customer.Provision.{Provision as CodeProvision}
 use Rattle.rpki_walk.specs.declared.whole.Findings.{Findings}
-use Rattle.rpki_walk.specs.Facts.{Finding, Refuses, Shows, Originates, Provides, Reaches, Chains, Diagnoses, ShownBy, IsFinding, Gains}
+use Rattle.rpki_walk.specs.Facts.{Finding, Refuses, Shows, Originates, Provides, Reaches, Chains, Diagnoses, Unheld, ShownBy, IsFinding, Gains}
 use Rattle.rpki_walk.specs.Lines.{has_found, IsLine}
 use Rattle.rpki_rules.proofs.Fronts.{keys_count}
 use Rattle.rpki_walk.proofs.Mems.{mem_push}
@@ -171,6 +171,7 @@ refuse_gains f g name why r er eo ep ew e (Provides s) t = (λ m. inl (subst (λ
 refuse_gains f g name why r er eo ep ew e (Reaches k n) t = absurd t
 refuse_gains f g name why r er eo ep ew e (Chains v) t = absurd t
 refuse_gains f g name why r er eo ep ew e (Diagnoses told) t = absurd t
+refuse_gains f g name why r er eo ep ew e (Unheld told numbers) t = absurd t
 
 -- One good object more.
 pub show_gains : (f g : Findings) (t : WitnessValue) (x : Payload) (z : CodeWitness) → witness_of z ≡ t → g.refusals ≡ f.refusals → map origin_of g.origins.items ≡ map origin_of f.origins.items ++ origins x → map provision_of g.provisions.items ≡ map provision_of f.provisions.items ++ provisions x → g.witnesses.items ≡ f.witnesses.items ++ z ∷ [] → Gains IsLine (has_found f) (ShownBy t x) (has_found g)
@@ -184,3 +185,4 @@ show_gains f g t x z et er eo ep ew (Provides s) k = more (map provision_of f.pr
 show_gains f g t x z et er eo ep ew (Reaches i n) k = absurd k
 show_gains f g t x z et er eo ep ew (Chains v) k = absurd k
 show_gains f g t x z et er eo ep ew (Diagnoses told) k = absurd k
+show_gains f g t x z et er eo ep ew (Unheld told numbers) k = absurd k

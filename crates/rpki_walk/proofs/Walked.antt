@@ -18,7 +18,7 @@ use Rattle.rpki_walk.specs.Repository.{IsIgnored, IsFileKind}
 use Rattle.rpki_walk.specs.declared.repository.FileKind.{FileKind}
 use Rattle.rpki_walk.specs.declared.repository.FileKind.TheVariants as Is
 use Rattle.rpki_rules.specs.Views.{PathValue}
-use Rattle.rpki_walk.specs.Facts.{Finding, Refuses, Shows, Originates, Provides, Reaches, Chains, Diagnoses, Stand, Found, ReachedBy, Gains}
+use Rattle.rpki_walk.specs.Facts.{Finding, Refuses, Shows, Originates, Provides, Reaches, Chains, Diagnoses, Unheld, Stand, Found, ReachedBy, Gains}
 use Rattle.rpki_walk.specs.Alike.{IsPrinted, Meets, EndAlike}
 use Rattle.rpki_walk.specs.Remembered.{IsRemembered, Remembers}
 use Rattle.rpki_walk.specs.Walked.{has_lines, Continues, MeetsFile, IsWalked, AreWalked, WalksLines}
@@ -96,6 +96,7 @@ not_reached w held ca (Provides p) i uris on path uri r = r
 not_reached w held ca (Reaches k n) i uris on path uri r = i
 not_reached w held ca (Chains v) i uris on path uri r = i
 not_reached w held ca (Diagnoses told) i uris on path uri r = i
+not_reached w held ca (Unheld told numbers) i uris on path uri r = i
 
 pub gains_printed : (old new P Q : Finding → Type 0) → Gains IsPrinted old P new → ((x : Finding) → IsPrinted x → P x ↔ Q x) → Gains IsPrinted old Q new
 gains_printed old new P Q g e x i = let h = g x i in (

@@ -4,7 +4,7 @@ use Rattle.rpki_walk.specs.resources_chain.Sets.{IsRunsOf}
 use Rattle.rpki_walk.specs.resources.Resources.{Resources}
 use Rattle.rpki_rules.specs.Words.{Mem}
 use Rattle.rpki_rules.specs.Kinds.{Kind, of_kind, InSet}
-use Rattle.rpki_walk.specs.Facts.{Finding, Refuses, Shows, Originates, Provides, Reaches, Chains, Diagnoses}
+use Rattle.rpki_walk.specs.Facts.{Finding, Refuses, Shows, Originates, Provides, Reaches, Chains, Diagnoses, Unheld}
 use Rattle.rpki_walk.specs.declared.reach.gather.Gatherer.{Gatherer}
 
 -- The number is in one of the sets.
@@ -24,6 +24,7 @@ has_gathered g (Provides p) = ⊥
 has_gathered g (Reaches k n) = InSome g.sets.items k n
 has_gathered g (Chains v) = ⊥
 has_gathered g (Diagnoses d) = ⊥
+has_gathered g (Unheld d numbers) = ⊥
 
 -- What is reached, and nothing else.
 abbrev pub IsReaches : Finding → Type 0
@@ -34,3 +35,4 @@ IsReaches (Provides p) = ⊥
 IsReaches (Reaches k n) = Unit {0}
 IsReaches (Chains v) = ⊥
 IsReaches (Diagnoses d) = ⊥
+IsReaches (Unheld d numbers) = ⊥

@@ -4,8 +4,8 @@ ghost use Rattle.std.specs.Prelude.{◌≡◌, refl};
 ghost use Rattle.std.specs.Cmp.{partial_equiv_from_equiv, po};
 ghost use Rattle.std.specs.Ordering.{as_partial_cmp};
 ghost use Rattle.rpki_rules.specs.Views.{path_of};
-ghost use Rattle.rpki_rules.specs.Diagnoses.{DiagnosisValue};
-ghost use Rattle.rpki_rules.specs.DiagnosisViews.{reason_of, numbers_of, diagnosis_of, diagnoses_cmp, diagnoses_eq, diagnoses_total, diagnoses_equiv, diagnoses_ties};
+ghost use Rattle.rpki_rules.specs.Diagnoses.{DiagnosisValue, on_chain};
+ghost use Rattle.rpki_rules.specs.DiagnosisViews.{reason_of, numbers_of, diagnosis_of, unheld_of, diagnoses_cmp, diagnoses_eq, diagnoses_total, diagnoses_equiv, diagnoses_ties};
 
 use crate::reason::files::FileReason;
 use crate::reason::locators::LocatorReason;
@@ -39,13 +39,9 @@ pub struct Diagnosis {
 impl Diagnosis {
     /// What has this name is refused on this chain for this reason.
     pub fn new(name: Bytes, path: Rc<Path>, reason: Reason) -> Self
-        ensures { diagnosis_of result ≡ record {
-          name = name;
-          locator = (path_of path.value).locator;
-          chain = (path_of path.value).chain;
-          reason = reason_of reason;
-          unheld = numbers_of reason;
-        } }
+        ensures value { diagnosis_of result ≡ on_chain (path_of path.value) name
+            (reason_of reason) }
+        ensures unheld { unheld_of result ≡ numbers_of reason }
     {
         Diagnosis { name, path, reason }
     }
@@ -74,7 +70,7 @@ impl Diagnosis {
     /// Why it is refused.
     pub fn reason(&self) -> &Reason
         ensures reason { reason_of result.now ≡ (diagnosis_of self.now).reason }
-        ensures unheld { numbers_of result.now ≡ (diagnosis_of self.now).unheld }
+        ensures unheld { numbers_of result.now ≡ unheld_of self.now }
     {
         &self.reason
     }

@@ -1,5 +1,6 @@
 //! Laws of tests and reasons.
 
+ghost use Rattle.rpki_rules.specs.DiagnosisLaws.{RefusalsAreDiagnosed};
 ghost use Rattle.rpki_rules.specs.TestLaws.{CertTestsAreRules, ContentTestsAreRules, ClaimTestsAreRules, RevocationTestsAreRules, AnchorTestsAreRules, CerTestsAreRules, ObjectTestsAreRules, PointTestsAreRules, LocatorReasonsRefuse};
 
 /// The tests of a certificate ask together for its profile and for what its issuer signed.
@@ -45,4 +46,9 @@ pub fn point_tests_are_rules()
 /// Where a locator has a reason, its text is none, or it reads and leads to no anchor.
 pub fn locator_reasons_refuse()
     ensures { LocatorReasonsRefuse }
+{}
+
+/// The refusals of a report are just those of the diagnoses of its world.
+pub fn refusals_are_diagnosed()
+    ensures { RefusalsAreDiagnosed }
 {}

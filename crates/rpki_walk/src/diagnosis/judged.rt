@@ -5,8 +5,9 @@ ghost use Rattle.rpki_rules.specs.Words.{Mem};
 ghost use Rattle.rpki_rules.specs.Kinds.{InSet};
 ghost use Rattle.rpki_rules.specs.Points.{files};
 ghost use Rattle.rpki_rules.specs.Views.{path_of};
-ghost use Rattle.rpki_rules.specs.Diagnoses.{DiagnosesEnd};
-ghost use Rattle.rpki_walk.specs.Diagnosed.{Adds, DiagnosesAt, IsOnly, has_diagnosed, IsDiagnosed};
+ghost use Rattle.rpki_rules.specs.Diagnoses.{DiagnosesEnd, TellsEnd};
+ghost use Rattle.rpki_rules.specs.DiagnosisViews.{diagnosis_of};
+ghost use Rattle.rpki_walk.specs.Diagnosed.{Adds, DiagnosesAt, IsOnly, TellsAt, has_diagnosed, told_of, IsDiagnosed};
 
 use crate::diagnosis::asked::Diagnosing;
 use crate::visitor::Visitor;
@@ -33,7 +34,10 @@ fn judged_file<S: Diagnosing>(
     file: &Bytes,
 ) -> Result<Option<Diagnosis>, AllocError>
     requires { Mem (files (S.cert ca.now) (S.point point.now).manifest) file.now }
-    ensures told { IfOk result (IsOnly (DiagnosesAt (S.world repository.old)
+    ensures wrong { IfOk result (IsOnly diagnosis_of (DiagnosesAt (S.world repository.old)
+        (InSet (S.sets ca.now)) keys.now (path_of path.now.value) (S.cert ca.now)
+        (S.point point.now) file.now)) }
+    ensures told { IfOk result (IsOnly told_of (TellsAt (S.world repository.old)
         (InSet (S.sets ca.now)) keys.now (path_of path.now.value) (S.cert ca.now)
         (S.point point.now) file.now)) }
     ensures same { S.world repository.new ≡ S.world repository.old }
@@ -59,8 +63,12 @@ fn judge_end<S: Diagnosing>(
     uri: &Bytes,
     ca: &S::Authority,
 ) -> Result<(), AllocError>
-    ensures told { OnOk result (Adds found.old.items (DiagnosesEnd (S.world repository.old)
-        (InSet (S.sets ca.now)) keys.now (path_of path.now.value) uri.now (S.cert ca.now))
+    ensures wrong { OnOk result (Adds diagnosis_of found.old.items
+        (DiagnosesEnd (S.world repository.old) (InSet (S.sets ca.now)) keys.now
+        (path_of path.now.value) uri.now (S.cert ca.now)) found.new.items) }
+    ensures told { OnOk result (Adds told_of found.old.items
+        (λ t. TellsEnd (S.world repository.old) (InSet (S.sets ca.now)) keys.now
+        (path_of path.now.value) uri.now (S.cert ca.now) t.diagnosis t.numbers)
         found.new.items) }
     ensures same { S.world repository.new ≡ S.world repository.old }
     ensures lender { S.lender repository.new ≡ S.lender repository.old }

@@ -1,10 +1,11 @@
 //! All that is wrong in a bundle.
 
-ghost use Rattle.std.specs.Prelude.{◌≡◌, ◌×◌, ◌<◌, length, List, ℕ, map, OnOk, IfOk};
+ghost use Rattle.std.specs.Prelude.{◌≡◌, ◌<◌, ◌⊎◌, [], length, map, OnOk, IfOk, IfSome};
 ghost use Rattle.rpki_rules.specs.rpki_bundle.declared.parts.Locator.{Locator};
 ghost use Rattle.rpki_rules.specs.Words.{Mem, NoRepeat};
 ghost use Rattle.rpki_rules.specs.Diagnoses.{DiagnosesLocator};
-ghost use Rattle.rpki_rules.specs.DiagnosisViews.{AreDiagnoses};
+ghost use Rattle.rpki_rules.specs.declared.reason.diagnosis.Diagnosis.{Diagnosis};
+ghost use Rattle.rpki_rules.specs.DiagnosisViews.{AreDiagnoses, diagnosis_of, unheld_of};
 ghost use Rattle.rpki_walk.specs.Repository.{locator_at};
 ghost use Rattle.rpki_walk.specs.Diagnosed.{Adds, IsOnly};
 
@@ -24,8 +25,9 @@ fn judged_locator<S: Diagnosing>(
     at: usize,
 ) -> Result<Option<Diagnosis>, AllocError>
     requires { at < length (S.world repository.old).locators }
-    ensures told { IfOk result (IsOnly (DiagnosesLocator (S.world repository.old)
+    ensures wrong { IfOk result (IsOnly diagnosis_of (DiagnosesLocator (S.world repository.old)
         (locator_at (S.world repository.old) at))) }
+    ensures told { IfOk result (λ wrong. IfSome wrong (λ d. unheld_of d ≡ [])) }
     ensures same { S.world repository.new ≡ S.world repository.old }
     ensures lender { S.lender repository.new ≡ S.lender repository.old }
 {
@@ -45,9 +47,13 @@ fn judge_locators<S: Diagnosing>(
     repository: &mut S,
     found: &mut Vec<Diagnosis>,
 ) -> Result<(), AllocError>
-    ensures told { OnOk result (Adds found.old.items (λ d. (l : Locator)
+    ensures wrong { OnOk result (Adds diagnosis_of found.old.items (λ d. (l : Locator)
         × Mem (S.world repository.old).locators l
         × DiagnosesLocator (S.world repository.old) l d) found.new.items) }
+    ensures told { OnOk result ((d : Diagnosis) → Mem found.new.items d →
+        Mem found.old.items d ⊎ ((l : Locator) × Mem (S.world repository.old).locators l
+        × DiagnosesLocator (S.world repository.old) l (diagnosis_of d)
+        × (unheld_of d ≡ []))) }
     ensures apart { OnOk result (NoRepeat (map (λ l. l.name)
         (S.world repository.old).locators)) }
     ensures same { S.world repository.new ≡ S.world repository.old }
