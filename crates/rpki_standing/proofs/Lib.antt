@@ -10,6 +10,7 @@ pub mod Found
 pub mod Revoking
 pub mod PassedTo
 pub mod TestsTold
+pub mod AnchorTests
 pub mod Contents
 pub mod CertTexts
 pub mod FirstHeld

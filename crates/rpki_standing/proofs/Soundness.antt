@@ -70,10 +70,10 @@ module _ (w : World) (held : Kind → ℕ → Type 0) (ca : Cert) (p : Point) (o
 
 -- What is sound passes them, and the other way round.
 module _ (w : World) (ca : Cert) (p : Point) (uri : List ℕ) where
-  reading_of : (o : Object) (x : Payload) → IsSigned w ca p uri o x → HasPayload w uri o x
+  pub reading_of : (o : Object) (x : Payload) → IsSigned w ca p uri o x → HasPayload w uri o x
   reading_of o x s = record { octets = s.octets; held = s.held; reads = s.reads }
 
-  passes_signed : (held : Kind → ℕ → Type 0) (o : Object) (x : Payload) → IsSigned w ca p uri o x → Each (PassesObject w held ca p o) signed_tests
+  pub passes_signed : (held : Kind → ℕ → Type 0) (o : Object) (x : Payload) → IsSigned w ca p uri o x → Each (PassesObject w held ca p o) signed_tests
   passes_signed held o x s =
       sound w held ca p o o.cert o.cert o refl refl refl (passes_revocation p o.cert s.unrevoked) (passes_cert w Ee ca o.cert s.profile s.signed) (passes_content w o s.sound)
 

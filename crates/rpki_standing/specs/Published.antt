@@ -29,13 +29,16 @@ FindsReading w uri (Some s) = HasPayload w uri s.object s.payload
 -- content.
 abbrev pub signed_tests : List ObjectTest
 signed_tests =
-    map ObjectRevocation revocation_tests ++ (map ObjectCert (cert_tests Ee) ++ map ObjectContent content_tests)
+    map ObjectRevocation revocation_tests
+    ++ (map ObjectCert (cert_tests Ee) ++ map ObjectContent content_tests)
 
 -- No object is sound there, for this reason, whatever is held.
-pub record IsUnsigned (w : World) (ca : Cert) (p : Point) (uri : List ℕ) (r : FileReason) : Type 0 where
+pub record IsUnsigned (w : World) (ca : Cert) (p : Point) (uri : List ℕ) (r : FileReason)
+    : Type 0 where
   pub none : (o : Object) (x : Payload) → ¬ (IsSigned w ca p uri o x)
-  pub fails : HasExtension roa uri ⊎ HasExtension asa uri → (sets : Resources) (on : List (List ℕ)) (count : ℕ)
-      → FileFails w (InSet sets) on count ca p uri (file_reason_of r)
+  pub fails : HasExtension roa uri ⊎ HasExtension asa uri →
+      (sets : Resources) (on : List (List ℕ)) (count : ℕ) →
+      FileFails w (InSet sets) on count ca p uri (file_reason_of r)
   pub unheld : (sets : Resources) → FileUnheld w (InSet sets) uri r
   pub cause_is : file_cause (file_reason_of r) ≡ cause.Object
 

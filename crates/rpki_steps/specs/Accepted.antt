@@ -50,4 +50,5 @@ cer_test_by test.OverclaimAs = CerClaim As
 -- That is the test which the error tells.
 abbrev pub TellsCer : ValidationError → CerTest → Type 0
 TellsCer (error.Inspection t) r = r ≡ CerCert (Inspection t)
-TellsCer (error.Verification e) r = (t : VerificationTest) → fault_of e ≡ Some (verified t) → r ≡ cer_test_by t
+TellsCer (error.Verification e) r =
+    (t : VerificationTest) → fault_of e ≡ Some (verified t) → r ≡ cer_test_by t

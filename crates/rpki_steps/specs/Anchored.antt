@@ -18,6 +18,7 @@ pub record IsFoundAnchor (w : World) (key : Key) (tal : String Global) (c : Cert
   pub name : r.tal ≡ tal
 
 -- The certificate as it was verified, or the first test that fails of a trust anchor's with that key.
-abbrev pub FindsAnchor : World → Key → String Global → Cert → Result ResourceCertValue AnchorTest → Type 0
+abbrev pub FindsAnchor : World → Key → String Global → Cert → Result ResourceCertValue AnchorTest
+    → Type 0
 FindsAnchor w key tal c (Ok r) = IsFoundAnchor w key tal c r
 FindsAnchor w key tal c (Err t) = FirstFailing (PassesAnchor w key c) tests_of_anchors t

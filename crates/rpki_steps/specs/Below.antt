@@ -41,7 +41,9 @@ TellsUnheld held c (told.CerClaim x) = AreUnheld held c (kind_claimed x) (runs_c
 
 -- The first of the tests that fails, and the numbers that aren't held.
 pub record FailsBelow (w : World) (issuer : ResourceCertValue) (c : Cert) (t : Told) : Type 0 where
-  pub fails : (p : Point) → FirstFailing (PassesCer w (InSet (sets_of issuer)) (cert_of issuer) p c) below_tests (cer_test_of t)
+  pub fails : (p : Point) →
+      FirstFailing (PassesCer w (InSet (sets_of issuer)) (cert_of issuer) p c) below_tests
+      (cer_test_of t)
   pub unheld : TellsUnheld (InSet (sets_of issuer)) c t
 
 -- The certificate as it was verified, or why it isn't below the issuer.
@@ -50,17 +52,21 @@ FindsBelow w issuer c (Ok r) = IsFoundBelow w issuer c r
 FindsBelow w issuer c (Err t) = FailsBelow w issuer c t
 
 -- The certificate is a child at the authority's point, and was verified, with what it then holds.
-pub record IsFoundChild (w : World) (ca : ResourceCertValue) (p : Point) (c : Cert) (r : ResourceCertValue) : Type 0 where
+pub record IsFoundChild (w : World) (ca : ResourceCertValue) (p : Point) (c : Cert)
+    (r : ResourceCertValue) : Type 0 where
   pub same : cert_of r ≡ c
   pub child : IsChild w (InSet (sets_of ca)) (cert_of ca) p c
   pub holds : HasKept (InSet (sets_of ca)) c (sets_of r)
 
 -- The first of a child's tests that fails, and the numbers that aren't held.
-pub record FailsChild (w : World) (ca : ResourceCertValue) (p : Point) (c : Cert) (t : Told) : Type 0 where
-  pub fails : FirstFailing (PassesCer w (InSet (sets_of ca)) (cert_of ca) p c) tests_of_cers (cer_test_of t)
+pub record FailsChild (w : World) (ca : ResourceCertValue) (p : Point) (c : Cert) (t : Told)
+    : Type 0 where
+  pub fails : FirstFailing (PassesCer w (InSet (sets_of ca)) (cert_of ca) p c) tests_of_cers
+      (cer_test_of t)
   pub unheld : TellsUnheld (InSet (sets_of ca)) c t
 
 -- The certificate as it was verified, or why it is no child there.
-abbrev pub FindsChild : World → ResourceCertValue → Point → Cert → Result ResourceCertValue Told → Type 0
+abbrev pub FindsChild : World → ResourceCertValue → Point → Cert → Result ResourceCertValue Told
+    → Type 0
 FindsChild w ca p c (Ok r) = IsFoundChild w ca p c r
 FindsChild w ca p c (Err t) = FailsChild w ca p c t

@@ -25,8 +25,10 @@ IsFile w ca p uri filed =
     IsFileKind cert_of sets_of payload_of w (InSet (sets_of ca)) (cert_of ca) p uri filed
 
 -- Why a file is refused, keys and depth of chains apart, with the numbers that aren't held where it claims them.
-pub record IsBadFile (w : World) (ca : ResourceCertValue) (p : Point) (uri : List ℕ) (r : FileReason) : Type 0 where
-  pub fails : (on : List (List ℕ)) (count : ℕ) → FileFails w (InSet (sets_of ca)) on count (cert_of ca) p uri (file_reason_of r)
+pub record IsBadFile (w : World) (ca : ResourceCertValue) (p : Point) (uri : List ℕ)
+    (r : FileReason) : Type 0 where
+  pub fails : (on : List (List ℕ)) (count : ℕ) →
+      FileFails w (InSet (sets_of ca)) on count (cert_of ca) p uri (file_reason_of r)
   pub unheld : FileUnheld w (InSet (sets_of ca)) uri r
   pub cause_is : file_cause (file_reason_of r) ≡ cause.Object
 

@@ -17,7 +17,6 @@ use crate::payloads::judged_payload_file;
 use bytes::Bytes;
 use certs_verify::{Digester, Verifier};
 use rpki_rules::reason::FileReason;
-use rpki_rules::reason::laws::file_reasons_refuse;
 use rpki_standing::Point;
 use rpki_standing::payloads::{Extension, Payload, extension_of};
 use rpki_standing::table::Index;
@@ -74,7 +73,6 @@ pub fn read_file<D: Digester, V: Verifier>(
         ca.now point.now.point uri.now filed) }
     ensures same { V.says verifier.new ≡ V.says verifier.old }
 {
-    file_reasons_refuse();
     match judged_file(alloc, ca, point, uri, index, digester, verifier)? {
         Ok(filed) => Ok(filed),
         Err(reason) => {
@@ -125,7 +123,6 @@ pub fn file_reason<D: Digester, V: Verifier>(
         (InSet (sets_of ca.now)) keys.now (cert_of ca.now) point.now.point uri.now reason) }
     ensures same { V.says verifier.new ≡ V.says verifier.old }
 {
-    file_reasons_refuse();
     match judged_file(alloc, ca, point, uri, index, digester, verifier)? {
         Ok(FileKind::Child(child)) => {
             let depth = usize::from(index.depth());
