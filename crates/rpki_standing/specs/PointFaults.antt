@@ -17,7 +17,8 @@ use Rattle.rpki_rules.specs.ReasonViews.{list_test_of, manifest_test_of}
 -- its certificate names a list which is a file.
 abbrev pub own_tests : List ManifestTest
 own_tests =
-    ThisUpdate ∷ NextUpdate ∷ (map ManifestCert (cert_tests Ee) ++ map ManifestContent content_tests)
+    ThisUpdate ∷ NextUpdate
+    ∷ (map ManifestCert (cert_tests Ee) ++ map ManifestContent content_tests)
 
 abbrev pub names_tests : Manifest → List ManifestTest
 names_tests m = NamesDiffer ∷ flat_map file_tests m.files
@@ -56,7 +57,8 @@ FailsList w ca o m (why.ListFails t) =
 abbrev pub FailsUnheld : World → Cert → PointReason → Type 0
 FailsUnheld w ca why.NoManifest = PointFails w nothing ca NoManifest
 FailsUnheld w ca why.BadManifest = PointFails w nothing ca BadManifest
-FailsUnheld w ca (why.ManifestFails t) = PointFails w nothing ca (ManifestFails (manifest_test_of t))
+FailsUnheld w ca (why.ManifestFails t) =
+    PointFails w nothing ca (ManifestFails (manifest_test_of t))
 FailsUnheld w ca why.BadList = PointFails w nothing ca BadList
 FailsUnheld w ca (why.ListFails t) =
     (p : Point) × HasGoodManifest w ca p.object p.manifest × HasList w p.object p.crl

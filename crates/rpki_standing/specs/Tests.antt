@@ -14,7 +14,8 @@ IsTest (Some (verified t)) = Unit {0}
 IsTest (Some wants_memory) = ⊥
 
 -- An answer, and the answer by the test that its error tells.
-abbrev pub TellsTest : Result (Unit {0}) VerificationError → Result (Unit {0}) VerificationTest → Type 0
+abbrev pub TellsTest : Result (Unit {0}) VerificationError
+    → Result (Unit {0}) VerificationTest → Type 0
 TellsTest (Ok x) (Ok y) = Unit {0}
 TellsTest (Ok x) (Err t) = ⊥
 TellsTest (Err e) (Ok y) = ⊥
