@@ -31,9 +31,9 @@ use Rattle.rpki_rules.proofs.LocatorReasons.{one_reason as one_locator_reason}
 use Rattle.rpki_rules.proofs.PointReasons.{one_reason as one_point_reason, refutes}
 use Rattle.rpki_rules.proofs.FileReasons.{one_reason as one_file_reason}
 use Rattle.rpki_rules.proofs.Diagnoses.{point_tells_one, file_tells_one}
-use Rattle.rpki_walk.specs.Diagnosed.{DiagnosesAt, ToldValue, TellsAt, IsOnly, Adds}
+use Rattle.rpki_walk.specs.Diagnosed.{DiagnosesAt, ToldValue, TellsAt, IsOfLocator, IsOnly, Adds}
 use Rattle.rpki_walk.specs.Facts.{Diagnoses, Unheld, IsFinding}
-use Rattle.rpki_walk.proofs.Mems.{any_more}
+use Rattle.rpki_walk.proofs.Mems.{any_more, mem_push}
 use Rattle.rpki_walk.proofs.Chained.{seen_more}
 
 abbrev pub told_at : DiagnosisValue → List Run → ToldValue
@@ -228,6 +228,27 @@ module _ {X : Type 0} (seen : Diagnosis → X) where
 
   pub only_some : (P : X → Type 0) (o : Option Diagnosis) (z : Diagnosis) → o ≡ Some z → IsOnly seen P o → (x : X) → P x ↔ (seen z ≡ x)
   only_some P o z e h = let n : IsOnly seen P (Some z) = subst (λ (q : Option Diagnosis). IsOnly seen P q) e h in n
+
+-- Of locators: what is listed is of one of them, and tells no numbers.
+pub told_first : (w : World) (old : List Diagnosis) (ls : List Locator) (d : Diagnosis) → Mem old d → Mem old d ⊎ ((u : Locator) × Mem ls u × IsOfLocator w u d)
+told_first w old ls d m = inl m
+
+pub told_more : (w : World) (old new : List Diagnosis) (z : Diagnosis) (l : Locator) → new ≡ old ++ z ∷ [] → IsOfLocator w l z → (d : Diagnosis) → Mem new d → Mem old d ⊎ IsOfLocator w l d
+told_more w old new z l e h d m = elim ((mem_push old z d).0 (subst (λ (xs : List Diagnosis). Mem xs d) e m)) [
+  | inl a ↦ inl a
+  | inr q ↦ inr (subst (λ (x : Diagnosis). IsOfLocator w l x) q h)
+]
+
+pub told_next : (w : World) (ls : List Locator) (i : ℕ) (x : Locator) → i < length ls → (old mid new : List Diagnosis)
+    → ((d : Diagnosis) → Mem mid d → Mem old d ⊎ ((u : Locator) × Mem (take i ls) u × IsOfLocator w u d))
+    → ((d : Diagnosis) → Mem new d → Mem mid d ⊎ IsOfLocator w (get_or ls i x) d)
+    → (d : Diagnosis) → Mem new d → Mem old d ⊎ ((u : Locator) × Mem (take (i + 1) ls) u × IsOfLocator w u d)
+told_next w ls i x l old mid new g h d m =
+    let e = any_more (λ (u : Locator). IsOfLocator w u d) ls i x l in
+    elim (h d m) [
+      | inl a ↦ elim (g d a) [ inl o ↦ inl o | inr p ↦ inr (e.1 (inl p)) ]
+      | inr q ↦ inr (e.1 (inr q))
+    ]
 
 -- What a walk tells to be wrong is what is wrong at the ends of chains, with the numbers that this tells.
 pub told_wrong : (w : World) (d : DiagnosisValue) → IsFinding [] w (Diagnoses d) ↔ DiagnosesChain w d

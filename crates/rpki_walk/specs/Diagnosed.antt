@@ -1,6 +1,7 @@
 -- What was found to be wrong.
-use Rattle.std.specs.Prelude.{◌≡◌, ◌⊎◌, ◌↔◌, ℕ, List, length, map, Option, Some, None}
+use Rattle.std.specs.Prelude.{◌≡◌, ◌⊎◌, ◌↔◌, ℕ, List, [], length, map, Option, Some, None}
 use Rattle.rpki_walk.specs.resources_chain.Sets.{Run}
+use Rattle.rpki_walk.specs.rpki_bundle.declared.parts.Locator.{Locator}
 use Rattle.rpki_rules.specs.Certs.{Cert}
 use Rattle.rpki_rules.specs.Words.{Mem}
 use Rattle.rpki_rules.specs.Kinds.{Kind}
@@ -8,7 +9,7 @@ use Rattle.rpki_rules.specs.World.{World}
 use Rattle.rpki_rules.specs.Points.{Point}
 use Rattle.rpki_rules.specs.Views.{PathValue}
 use Rattle.rpki_rules.specs.FileReasons.{FileReason, FileFails}
-use Rattle.rpki_rules.specs.Diagnoses.{OfFile, DiagnosisValue, FileTells, on_chain}
+use Rattle.rpki_rules.specs.Diagnoses.{OfFile, DiagnosisValue, FileTells, on_chain, DiagnosesLocator}
 use Rattle.rpki_rules.specs.declared.reason.diagnosis.Diagnosis.{Diagnosis}
 use Rattle.rpki_rules.specs.DiagnosisViews.{diagnosis_of, unheld_of}
 use Rattle.rpki_walk.specs.declared.diagnosis.judged.Judged.{Judged}
@@ -36,6 +37,10 @@ abbrev pub TellsAt : World → (Kind → ℕ → Type 0) → List (List ℕ) →
 TellsAt w held on path ca p uri t =
     (a : DiagnosesAt w held on path ca p uri t.diagnosis)
     × FileTells w held uri a.reason t.numbers
+
+-- It is the locator's, and tells no numbers.
+abbrev pub IsOfLocator : World → Locator → Diagnosis → Type 0
+IsOfLocator w l d = DiagnosesLocator w l (diagnosis_of d) × (unheld_of d ≡ [])
 
 -- As it is seen, it is the one that P holds of, or P holds of none.
 abbrev pub IsOnly : {X : Type 0} → (Diagnosis → X) → (X → Type 0) → Option Diagnosis → Type 0

@@ -4,7 +4,7 @@ ghost use Rattle.std.specs.Prelude.{◌≡◌, refl};
 ghost use Rattle.std.specs.Cmp.{partial_equiv_from_equiv, po};
 ghost use Rattle.std.specs.Ordering.{as_partial_cmp};
 ghost use Rattle.rpki_rules.specs.Views.{path_of};
-ghost use Rattle.rpki_rules.specs.Diagnoses.{DiagnosisValue, on_chain};
+ghost use Rattle.rpki_rules.specs.Diagnoses.{on_chain};
 ghost use Rattle.rpki_rules.specs.DiagnosisViews.{reason_of, numbers_of, diagnosis_of, unheld_of, diagnoses_cmp, diagnoses_eq, diagnoses_total, diagnoses_equiv, diagnoses_ties};
 
 use crate::reason::files::FileReason;

@@ -7,7 +7,7 @@ ghost use Rattle.rpki_rules.specs.Diagnoses.{DiagnosesLocator};
 ghost use Rattle.rpki_rules.specs.declared.reason.diagnosis.Diagnosis.{Diagnosis};
 ghost use Rattle.rpki_rules.specs.DiagnosisViews.{AreDiagnoses, diagnosis_of, unheld_of};
 ghost use Rattle.rpki_walk.specs.Repository.{locator_at};
-ghost use Rattle.rpki_walk.specs.Diagnosed.{Adds, IsOnly};
+ghost use Rattle.rpki_walk.specs.Diagnosed.{Adds, IsOfLocator, IsOnly};
 
 use crate::anchors::walk_all;
 use crate::diagnosis::asked::Diagnosing;
@@ -52,8 +52,7 @@ fn judge_locators<S: Diagnosing>(
         × DiagnosesLocator (S.world repository.old) l d) found.new.items) }
     ensures told { OnOk result ((d : Diagnosis) → Mem found.new.items d →
         Mem found.old.items d ⊎ ((l : Locator) × Mem (S.world repository.old).locators l
-        × DiagnosesLocator (S.world repository.old) l (diagnosis_of d)
-        × (unheld_of d ≡ []))) }
+        × IsOfLocator (S.world repository.old) l d)) }
     ensures apart { OnOk result (NoRepeat (map (λ l. l.name)
         (S.world repository.old).locators)) }
     ensures same { S.world repository.new ≡ S.world repository.old }
