@@ -166,8 +166,8 @@ module _ (w : World) (apart : NoRepeat (map (λ (l : Locator). l.name) w.locator
       let q : e.name ≡ k.name = ap (λ (x : DiagnosisValue). x.name) g.is in
       let s = names_alone w.locators apart l k m o (sym p ∙ (named ∙ q)) in
       let r = one_locator_reason w k f.reason g.reason (subst (λ (x : Locator). LocatorFails w x f.reason) s f.fails) g.fails in
-      let same : on_chain (record { locator = l.name; chain = [] }) l.name (OfLocator f.reason) [] ≡ on_chain (record { locator = k.name; chain = [] }) k.name (OfLocator g.reason) [] =
-      λ i. on_chain (record { locator = (s i).name; chain = [] }) (s i).name (OfLocator (r i)) [] in
+      let same : on_chain (record { locator = l.name; chain = [] }) l.name (OfLocator f.reason) ≡ on_chain (record { locator = k.name; chain = [] }) k.name (OfLocator g.reason) =
+      λ i. on_chain (record { locator = (s i).name; chain = [] }) (s i).name (OfLocator (r i)) in
       f.is ∙ (same ∙ sym g.is)
 
   no_chain : (d e : DiagnosisValue) → d.chain ≡ e.chain → (l : Locator) → DiagnosesLocator w l d → ¬ (DiagnosesChain w e)

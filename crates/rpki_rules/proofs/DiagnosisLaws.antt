@@ -36,13 +36,13 @@ refusals_same x y = elim (octets_dec x.name y.name) [
 ]
 
 found : (xs : List Refusal) (x : Refusal) → ¬ (¬ (Mem xs x)) → Mem xs x
-found xs x n = elim (decide xs) [ inl m ↦ m | inr no ↦ absurd (n no) ]
+found xs x n = elim (decide xs) [ inl m ↦ m | inr away ↦ absurd (n away) ]
   where
     decide : (ys : List Refusal) → Mem ys x ⊎ ¬ (Mem ys x)
     decide [] = inr (λ m. m)
     decide (y ∷ ys) = elim (refusals_same y x) [
       | inl e ↦ inl (inl e)
-      | inr d ↦ elim (decide ys) [ inl m ↦ inl (inr m) | inr no ↦ inr (λ m. elim m [ inl e ↦ d e | inr k ↦ no k ]) ]
+      | inr d ↦ elim (decide ys) [ inl m ↦ inl (inr m) | inr away ↦ inr (λ m. elim m [ inl e ↦ d e | inr k ↦ away k ]) ]
     ]
 
 module _ (w : World) (alone : (l : Locator) → Mem w.locators l → IsNamedAlone w l) where
