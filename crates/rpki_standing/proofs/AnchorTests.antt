@@ -12,8 +12,10 @@ use Rattle.rpki_standing.specs.certs_extension.declared.forms.VerificationTest.{
 use Rattle.rpki_standing.specs.certs_extension.Profiles.{FailsFirst, Profile, tests}
 use Rattle.rpki_standing.specs.certs_extension.Verified.{PassesAt, anchor_tests, nothing}
 use Rattle.rpki_rules.specs.Certs.{Cert, Key, Verdicts, encoded}
-use Rattle.rpki_rules.specs.LocatorReasons.{AnchorTest, SameKey, AnchorCert, PassesAnchor, tests_of_anchors}
-use Rattle.rpki_rules.specs.Reasons.{CertTest, Inspection, Verification, PassesCert}
+use Rattle.rpki_rules.specs.declared.reason.locators.AnchorTest.TheVariants.{SameKey, AnchorCert}
+use Rattle.rpki_rules.specs.LocatorReasons.{AnchorTest, PassesAnchor, tests_of_anchors}
+use Rattle.rpki_rules.specs.declared.reason.certs.CertTest.TheVariants.{Inspection, Verification}
+use Rattle.rpki_rules.specs.Reasons.{CertTest, PassesCert}
 use Rattle.rpki_rules.specs.World.{World}
 use Rattle.rpki_rules.proofs.Firsts.{each_join, map_each}
 use Rattle.rpki_rules.proofs.FirstParts.{first_behind, first_here, first_in_front, first_map}

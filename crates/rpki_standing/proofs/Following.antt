@@ -6,7 +6,8 @@ use Rattle.objects_payload.specs.Faults.{BehindComments, IsFault, StartsWithUri}
 use Rattle.objects_payload.specs.Tals.{TalValue}
 use Rattle.rpki_standing.specs.rpki_bundle.declared.parts.Locator.{Locator}
 use Rattle.rpki_rules.specs.Locators.{LocatorText, https_first}
-use Rattle.rpki_rules.specs.LocatorReasons.{LocatorFails, NoneHeld}
+use Rattle.rpki_rules.specs.declared.reason.locators.LocatorReason.TheVariants.{NoneHeld}
+use Rattle.rpki_rules.specs.LocatorReasons.{LocatorFails}
 use Rattle.rpki_rules.specs.Words.{Each}
 use Rattle.rpki_rules.specs.World.{World, at}
 use Rattle.rpki_rules.specs.Points.{Anchor, IsFirstHeld, Link}

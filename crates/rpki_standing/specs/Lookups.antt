@@ -7,7 +7,8 @@ use Rattle.objects_payload.specs.declared.locator.error.ReadError.TheVariants.{M
 use Rattle.rpki_standing.specs.rpki_bundle.declared.parts.Locator.{Locator}
 use Rattle.rpki_rules.specs.Certs.{Cert, CertText, Key}
 use Rattle.rpki_rules.specs.Locators.{LocatorText, https_first}
-use Rattle.rpki_rules.specs.LocatorReasons.{LocatorFails, BadText, NoneHeld}
+use Rattle.rpki_rules.specs.declared.reason.locators.LocatorReason.TheVariants.{BadText, NoneHeld}
+use Rattle.rpki_rules.specs.LocatorReasons.{LocatorFails}
 use Rattle.rpki_rules.specs.Chains.{CertAt}
 use Rattle.rpki_rules.specs.Points.{IsFirstHeld}
 use Rattle.rpki_rules.specs.World.{World}

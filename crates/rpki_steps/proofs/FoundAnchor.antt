@@ -14,8 +14,10 @@ use Rattle.rpki_steps.specs.certs_extension.Profiles.{tests}
 use Rattle.rpki_steps.specs.certs_extension.Verified.{AcceptsAnchor, anchor_tests}
 use Rattle.rpki_rules.specs.Certs.{Cert, Key, encoded}
 use Rattle.rpki_rules.specs.World.{World}
-use Rattle.rpki_rules.specs.Reasons.{CertTest, Inspection, Verification, PassesCert}
-use Rattle.rpki_rules.specs.LocatorReasons.{AnchorTest, SameKey, AnchorCert, PassesAnchor, tests_of_anchors}
+use Rattle.rpki_rules.specs.declared.reason.certs.CertTest.TheVariants.{Inspection, Verification}
+use Rattle.rpki_rules.specs.Reasons.{CertTest, PassesCert}
+use Rattle.rpki_rules.specs.declared.reason.locators.AnchorTest.TheVariants.{SameKey, AnchorCert}
+use Rattle.rpki_rules.specs.LocatorReasons.{AnchorTest, PassesAnchor, tests_of_anchors}
 use Rattle.rpki_rules.proofs.Firsts.{map_each}
 use Rattle.rpki_rules.proofs.FirstParts.{first_behind, first_here, first_in_front, first_map}
 use Rattle.rpki_steps.specs.Anchored.{IsFoundAnchor}

@@ -12,7 +12,8 @@ use Rattle.rpki_standing.specs.rpki_bundle.declared.parts.Object.{Object}
 use Rattle.rpki_standing.specs.declared.anchors.lookup.LocatorLookup.{LocatorLookup}
 use Rattle.rpki_standing.specs.declared.anchors.lookup.LocatorLookup.TheVariants as To
 use Rattle.objects_payload.specs.declared.locator.error.ReadError.{ReadError}
-use Rattle.rpki_rules.specs.LocatorReasons.{BadText, LocatorFails, NoneHeld}
+use Rattle.rpki_rules.specs.declared.reason.locators.LocatorReason.TheVariants.{BadText, NoneHeld}
+use Rattle.rpki_rules.specs.LocatorReasons.{LocatorFails}
 use Rattle.rpki_standing.specs.Lookups.{HoldsAt, IsLocatorLookup}
 use Rattle.rpki_steps.specs.ClimbAnchors.{IsAnchorOf}
 

@@ -8,7 +8,8 @@ ghost use Rattle.rpki_standing.specs.certs_extension.Verified.{PassesAt, anchor_
 ghost use Rattle.rpki_standing.specs.certs_extension.declared.forms.Role.TheVariants.{Ta};
 ghost use Rattle.rpki_rules.specs.Certs.{encoded};
 ghost use Rattle.rpki_rules.specs.LocatorReasons.{PassesAnchor, tests_of_anchors};
-ghost use Rattle.rpki_rules.specs.Reasons.{Inspection, PassesCert, Verification};
+ghost use Rattle.rpki_rules.specs.declared.reason.certs.CertTest.TheVariants.{Inspection, Verification};
+ghost use Rattle.rpki_rules.specs.Reasons.{PassesCert};
 ghost use Rattle.rpki_rules.specs.World.{world_of};
 
 use crate::signed::tests::test_told;
