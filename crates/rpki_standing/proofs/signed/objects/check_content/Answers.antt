@@ -1,4 +1,5 @@
 use Rattle.std.proofs.Common.{◌≡◌, ◌∙◌, Err, ap}
+use Rattle.certs_verify.specs.certs_x509.declared.errors.verification.VerificationError.{VerificationError}
 use Rattle.objects_cms.specs.Content.{object_with}
 use Rattle.rpki_standing.specs.certs_key.Digesting.{digests_of}
 use Rattle.rpki_standing.proofs.Contents.{content_passes, digest_fails, signature_fails, time_fails}
@@ -20,8 +21,7 @@ returns-in-Err-MessageDigest-clause-told g c b =
     let o = c.args.signed.now in
     let same : object_with o.content_type c.content.result.now c.cert.result.now c.signer.result.now ≡ o =
     λ i. record { content_type = o.content_type; content = c.content.ensures i; cert = c.cert.ensures i; signer = c.signer.ensures i } in
-    let h = c.in-Err-MessageDigest in
-    digest_fails d v o _ same _ (c.verify_content-verified.ensures.answers o.content_type) b ?
+    digest_fails d v o _ same _ (c.verify_content-verified.ensures.answers o.content_type) b (c.in-Err-MessageDigest.is ∙ ap (λ (e : VerificationError). Err e) c.in-Err-MessageDigest.field-0-is)
 
 pub returns-in-Err-SigningTime-clause-told : goal.returns-in-Err-SigningTime-clause-told
 returns-in-Err-SigningTime-clause-told g c b =
@@ -30,7 +30,7 @@ returns-in-Err-SigningTime-clause-told g c b =
     let o = c.args.signed.now in
     let same : object_with o.content_type c.content.result.now c.cert.result.now c.signer.result.now ≡ o =
     λ i. record { content_type = o.content_type; content = c.content.ensures i; cert = c.cert.ensures i; signer = c.signer.ensures i } in
-    time_fails d v o _ same _ (c.verify_content-verified.ensures.answers o.content_type) b ?
+    time_fails d v o _ same _ (c.verify_content-verified.ensures.answers o.content_type) b (c.in-Err-SigningTime.is ∙ ap (λ (e : VerificationError). Err e) c.in-Err-SigningTime.field-0-is)
 
 pub returns-in-Err-BadSignature-clause-told : goal.returns-in-Err-BadSignature-clause-told
 returns-in-Err-BadSignature-clause-told g c b =
@@ -39,4 +39,4 @@ returns-in-Err-BadSignature-clause-told g c b =
     let o = c.args.signed.now in
     let same : object_with o.content_type c.content.result.now c.cert.result.now c.signer.result.now ≡ o =
     λ i. record { content_type = o.content_type; content = c.content.ensures i; cert = c.cert.ensures i; signer = c.signer.ensures i } in
-    signature_fails d v o _ same _ (c.verify_content-verified.ensures.answers o.content_type) b ?
+    signature_fails d v o _ same _ (c.verify_content-verified.ensures.answers o.content_type) b (c.in-Err-BadSignature.is ∙ ap (λ (e : VerificationError). Err e) c.in-Err-BadSignature.field-0-is)
