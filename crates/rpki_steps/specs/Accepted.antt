@@ -11,7 +11,7 @@ use Rattle.rpki_steps.specs.certs_extension.declared.forms.VerificationTest.{Ver
 use Rattle.rpki_steps.specs.certs_extension.declared.forms.VerificationTest.TheVariants as test
 use Rattle.rpki_rules.specs.Kinds.{Ipv4, Ipv6, As}
 use Rattle.rpki_rules.specs.declared.reason.certs.CertTest.TheVariants.{Inspection, Verification}
-use Rattle.rpki_rules.specs.Reasons.{CertTest}
+use Rattle.rpki_rules.specs.declared.reason.certs.CertTest.{CertTest}
 use Rattle.rpki_rules.specs.FileReasons.{CerTest, CerCert, CerClaim}
 use Rattle.rpki_standing.specs.Tests.{IsTest}
 
