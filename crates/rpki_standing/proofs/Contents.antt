@@ -8,8 +8,8 @@ use Rattle.rpki_standing.specs.rpki_bundle.Bundle.{BundleValue}
 use Rattle.rpki_rules.specs.Certs.{Digests, Verdicts}
 use Rattle.rpki_rules.specs.Objects.{Object}
 use Rattle.rpki_rules.specs.declared.reason.certs.ContentTest.TheVariants.{Digest, SigningTime, Signature}
-use Rattle.rpki_rules.specs.declared.reason.certs.ContentTest.{ContentTest}
 use Rattle.rpki_rules.specs.Reasons.{PassesContent, content_tests}
+use Rattle.rpki_rules.specs.declared.reason.certs.ContentTest.{ContentTest}
 use Rattle.rpki_rules.specs.World.{world_of}
 use Rattle.rpki_rules.proofs.ReasonTests.{passes_content}
 

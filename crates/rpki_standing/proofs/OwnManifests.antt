@@ -9,9 +9,9 @@ use Rattle.rpki_rules.specs.declared.reason.points.PointReason.TheVariants as wh
 use Rattle.rpki_rules.specs.Certs.{Cert}
 use Rattle.rpki_rules.specs.Objects.{Manifest, ManifestText, Object}
 use Rattle.rpki_rules.specs.World.{World, at}
+use Rattle.rpki_rules.specs.Reasons.{PassesCert, PassesContent, cert_tests, content_tests}
 use Rattle.rpki_rules.specs.declared.reason.certs.CertTest.{CertTest}
 use Rattle.rpki_rules.specs.declared.reason.certs.ContentTest.{ContentTest}
-use Rattle.rpki_rules.specs.Reasons.{PassesCert, PassesContent, cert_tests, content_tests}
 use Rattle.rpki_rules.specs.PointReasons.{ManifestTest, ThisUpdate, NextUpdate, ManifestCert, ManifestContent, HasManifest, HasOctets, PassesManifest, manifest_tests}
 use Rattle.rpki_rules.specs.ReasonViews.{manifest_test_of}
 use Rattle.rpki_rules.proofs.FirstParts.{first_behind, first_in_front, first_map}

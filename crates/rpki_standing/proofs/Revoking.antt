@@ -11,8 +11,8 @@ use Rattle.rpki_standing.specs.certs_basics.Lists.{Each, FirstFailing}
 use Rattle.rpki_standing.specs.certs_basics.Uris.{lookup_key}
 use Rattle.rpki_rules.specs.Certs.{Cert, Crl, IsOn}
 use Rattle.rpki_rules.specs.declared.reason.files.RevocationTest.TheVariants.{NamesList, SameList, NotRevoked}
-use Rattle.rpki_rules.specs.declared.reason.files.RevocationTest.{RevocationTest}
 use Rattle.rpki_rules.specs.FileReasons.{PassesRevocation, revocation_tests}
+use Rattle.rpki_rules.specs.declared.reason.files.RevocationTest.{RevocationTest}
 use Rattle.rpki_rules.specs.Points.{Point}
 use Rattle.rpki_rules.proofs.Firsts.{not_none}
 use Rattle.rpki_standing.specs.Crls.{as_read}

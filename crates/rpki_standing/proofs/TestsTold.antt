@@ -16,8 +16,8 @@ use Rattle.rpki_standing.specs.certs_extension.Profiles.{Profile, FailsFirst, te
 use Rattle.rpki_standing.specs.certs_extension.Verified.{PassesAt, issuer_claim, nothing, validity}
 use Rattle.rpki_rules.specs.Certs.{Cert}
 use Rattle.rpki_rules.specs.declared.reason.certs.CertTest.TheVariants.{Inspection, Verification}
-use Rattle.rpki_rules.specs.declared.reason.certs.CertTest.{CertTest}
 use Rattle.rpki_rules.specs.Reasons.{PassesCert, cert_tests, signature_tests}
+use Rattle.rpki_rules.specs.declared.reason.certs.CertTest.{CertTest}
 use Rattle.rpki_rules.specs.World.{World}
 use Rattle.rpki_rules.proofs.Firsts.{each_join, map_each}
 use Rattle.rpki_rules.proofs.FirstParts.{first_behind, first_in_front, first_map}

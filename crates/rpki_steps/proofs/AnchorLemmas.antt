@@ -13,9 +13,9 @@ use Rattle.rpki_standing.specs.rpki_bundle.declared.parts.Locator.{Locator}
 use Rattle.objects_payload.specs.declared.locator.error.ReadError.{ReadError}
 use Rattle.rpki_rules.specs.Certs.{Cert, CertText, Key}
 use Rattle.rpki_rules.specs.declared.reason.locators.LocatorReason.TheVariants.{BadText, NoneHeld, NoCert, BadAnchor}
+use Rattle.rpki_rules.specs.LocatorReasons.{LocatorFails, LeadsTo as LeadsToOctets, PassesAnchor, tests_of_anchors}
 use Rattle.rpki_rules.specs.declared.reason.locators.AnchorTest.{AnchorTest}
 use Rattle.rpki_rules.specs.declared.reason.locators.LocatorReason.{LocatorReason}
-use Rattle.rpki_rules.specs.LocatorReasons.{LocatorFails, LeadsTo as LeadsToOctets, PassesAnchor, tests_of_anchors}
 use Rattle.rpki_rules.specs.Points.{IsAnchorCert}
 use Rattle.rpki_rules.specs.TestLaws.{LeadsNowhere, RefusesLocator}
 use Rattle.rpki_rules.specs.World.{World}

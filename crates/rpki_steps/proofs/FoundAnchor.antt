@@ -15,11 +15,11 @@ use Rattle.rpki_steps.specs.certs_extension.Verified.{AcceptsAnchor, anchor_test
 use Rattle.rpki_rules.specs.Certs.{Cert, Key, encoded}
 use Rattle.rpki_rules.specs.World.{World}
 use Rattle.rpki_rules.specs.declared.reason.certs.CertTest.TheVariants.{Inspection, Verification}
-use Rattle.rpki_rules.specs.declared.reason.certs.CertTest.{CertTest}
 use Rattle.rpki_rules.specs.Reasons.{PassesCert}
+use Rattle.rpki_rules.specs.declared.reason.certs.CertTest.{CertTest}
 use Rattle.rpki_rules.specs.declared.reason.locators.AnchorTest.TheVariants.{SameKey, AnchorCert}
-use Rattle.rpki_rules.specs.declared.reason.locators.AnchorTest.{AnchorTest}
 use Rattle.rpki_rules.specs.LocatorReasons.{PassesAnchor, tests_of_anchors}
+use Rattle.rpki_rules.specs.declared.reason.locators.AnchorTest.{AnchorTest}
 use Rattle.rpki_rules.proofs.Firsts.{map_each}
 use Rattle.rpki_rules.proofs.FirstParts.{first_behind, first_here, first_in_front, first_map}
 use Rattle.rpki_steps.specs.Anchored.{IsFoundAnchor}

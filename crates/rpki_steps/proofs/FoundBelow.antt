@@ -26,8 +26,8 @@ use Rattle.rpki_rules.specs.Kinds.{InSet}
 use Rattle.rpki_rules.specs.Points.{Point}
 use Rattle.rpki_rules.specs.World.{World}
 use Rattle.rpki_rules.specs.declared.reason.certs.CertTest.TheVariants.{Inspection, Verification}
-use Rattle.rpki_rules.specs.declared.reason.certs.CertTest.{CertTest}
 use Rattle.rpki_rules.specs.Reasons.{PassesCert, cert_tests, kinds, signature_tests}
+use Rattle.rpki_rules.specs.declared.reason.certs.CertTest.{CertTest}
 use Rattle.rpki_rules.specs.FileReasons.{CerTest, CerCert, CerClaim, PassesCer}
 use Rattle.rpki_rules.specs.ReasonViews.{cer_test_of}
 use Rattle.rpki_rules.proofs.Firsts.{fails_also, map_each}

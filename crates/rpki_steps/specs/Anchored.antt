@@ -5,8 +5,8 @@ use Rattle.certs_verify.specs.Holders.{ResourceCertValue}
 use Rattle.rpki_steps.specs.certs_basics.Lists.{FirstFailing}
 use Rattle.rpki_walk.specs.Repository.{HasListed}
 use Rattle.rpki_rules.specs.Certs.{Key, Cert}
-use Rattle.rpki_rules.specs.declared.reason.locators.AnchorTest.{AnchorTest}
 use Rattle.rpki_rules.specs.LocatorReasons.{PassesAnchor, tests_of_anchors}
+use Rattle.rpki_rules.specs.declared.reason.locators.AnchorTest.{AnchorTest}
 use Rattle.rpki_rules.specs.World.{World}
 use Rattle.rpki_rules.specs.Points.{IsAnchorCert}
 use Rattle.rpki_steps.specs.Holders.{cert_of, sets_of}

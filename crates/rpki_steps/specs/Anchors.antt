@@ -6,8 +6,8 @@ use Rattle.rpki_steps.specs.certs_verify.Holders.{ResourceCertValue}
 use Rattle.rpki_steps.specs.declared.anchors.TrustAnchor.{TrustAnchor}
 use Rattle.rpki_rules.specs.Certs.{Cert, CertText, Key}
 use Rattle.rpki_rules.specs.declared.reason.locators.LocatorReason.TheVariants.{BadText, NoneHeld, NoCert, BadAnchor}
-use Rattle.rpki_rules.specs.declared.reason.locators.LocatorReason.{LocatorReason}
 use Rattle.rpki_rules.specs.LocatorReasons.{LocatorFails, PassesAnchor, tests_of_anchors}
+use Rattle.rpki_rules.specs.declared.reason.locators.LocatorReason.{LocatorReason}
 use Rattle.rpki_rules.specs.Points.{IsAnchorCert}
 use Rattle.rpki_rules.specs.World.{World}
 use Rattle.rpki_standing.specs.Lookups.{IsNoCert}
