@@ -1,5 +1,5 @@
 -- What stands at a file of a publication point, of what the object there reads as.
-use Rattle.std.proofs.Common.{◌≡◌, ◌++◌, ℕ, List, [], map, None, Err, refl, subst}
+use Rattle.std.proofs.Common.{◌≡◌, ◌++◌, ℕ, List, [], map, None, Result, Ok, Err, refl, subst}
 use Rattle.certs_verify.specs.TestAnswers.{Answers}
 use Rattle.rpki_standing.specs.certs_basics.Lists.{Each, FirstFailing}
 use Rattle.rpki_standing.specs.certs_extension.declared.forms.Role.TheVariants.{Ee}
@@ -25,6 +25,11 @@ use Rattle.rpki_rules.proofs.ReasonTests.{cert_passes, passes_cert, content_pass
 use Rattle.rpki_rules.proofs.FileReasons.{revocation_passes, passes_revocation}
 use Rattle.rpki_standing.specs.Published.{FindsReading, IsUnsigned, signed_tests}
 use Rattle.rpki_standing.proofs.Reading.{one_reading}
+
+-- No test is told, so all are passed.
+pub all_passed : {X : Type 0} (P : X → Type 0) (ts : List X) (r : Result (Unit {0}) X) → ((x : X) → r ≡ Err x → ⊥) → Answers P ts r → Each P ts
+all_passed P ts (Ok x) n all = all
+all_passed P ts (Err x) n f = absurd (n x refl)
 
 -- The tests of an object that look at nothing that is held, one part after the other.
 module _ (w : World) (held : Kind → ℕ → Type 0) (ca : Cert) (p : Point) (o : Object) where

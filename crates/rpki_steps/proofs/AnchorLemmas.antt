@@ -65,6 +65,9 @@ module _ (w : World) (l : Locator) where
   held_led k u o (Err e) h f = tt
 
   -- What the walk is told.
+  pub found_led : (a : TrustAnchor) → IsFoundThere w l a → IsAnchorLookup cert_of sets_of w l (To.Anchor a.uri a.authority)
+  found_led a f = (f.leads, f.holds)
+
   nowhere_led : LeadsNowhere w l → IsAnchorLookup cert_of sets_of w l To.Nowhere
   nowhere_led n = (n.0, λ a h. n.1 h.uris h.key a.uri h.octets a.cert h.reads h.held h.cert h.is_anchor)
 

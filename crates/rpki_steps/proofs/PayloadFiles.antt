@@ -1,11 +1,16 @@
 -- Files of a publication point that attest something.
-use Rattle.std.proofs.Common.{◌≡◌, ◌⊎◌, [], ℕ, List, map, Result, Ok, Err, refl, sym, subst}
+use Rattle.std.proofs.Common.{◌≡◌, ◌↔◌, ◌⊎◌, ◌∷◌, ◌++◌, ◌∙◌, [], ℕ, Bool, true, false, IsTrue, List, map, Result, Ok, Err, refl, sym, ap, subst}
 use Rattle.rpki_steps.specs.Holders.{cert_of, sets_of}
 use Rattle.rpki_steps.specs.certs_basics.Lists.{Each, FirstFailing}
 use Rattle.rpki_steps.specs.certs_verify.Holders.{ResourceCertValue}
 use Rattle.rpki_steps.specs.certs_x509.declared.errors.verification.Overclaimed.{Overclaimed}
 use Rattle.rpki_steps.specs.resources.Resources.{Resources}
-use Rattle.rpki_steps.specs.resources_chain.Sets.{InRuns}
+use Rattle.rpki_steps.specs.resources_chain.Sets.{InRun, InRuns}
+use Rattle.rpki_rules.specs.resources_ip_prefix.Prefixes.{prefix_run}
+use Rattle.rpki_rules.specs.resources_ip_prefix.Encodings.{FirstBits, prefix_bits}
+use Rattle.rpki_rules.specs.resources_ip_prefix.Prefix.{run_of_prefix}
+use Rattle.rpki_rules.specs.resources_ip_prefix.declared.prefix.Prefix.{Prefix}
+use Rattle.rpki_standing.proofs.PassedTo.{PassedTo}
 use Rattle.rpki_rules.specs.declared.reason.files.ObjectTest.{ObjectTest as Told}
 use Rattle.rpki_rules.specs.declared.reason.files.ObjectTest.TheVariants as told
 use Rattle.rpki_rules.specs.declared.reason.files.FileReason.{FileReason}
@@ -36,6 +41,26 @@ use Rattle.rpki_rules.proofs.ReasonTests.{fit_kinds}
 use Rattle.rpki_steps.specs.Claims.{IsUnfit}
 use Rattle.rpki_steps.specs.Files.{IsBadFile, JudgesFile}
 use Rattle.rpki_steps.specs.Objects.{held_tests}
+
+-- A test of a prefix says of its addresses.
+abbrev AllHeld : (ℕ → Type 0) → FirstBits → Type 0
+AllHeld held b = (n : ℕ) → InRun (prefix_run b.addr b.len) n → held n
+
+pub next_held : (held : ℕ → Type 0) (p : Prefix) (a : RoaAddress) (b : Bool) → prefix_bits p ≡ record { addr = a.addr; len = a.len } → IsTrue b ↔ ((n : ℕ) → InRun (run_of_prefix p) n → held n) → b ≡ true → IsHeld held a
+next_held held p a b e told is = subst (AllHeld held) e (told.0 is)
+
+pub is_unheld : (held : ℕ → Type 0) (p : Prefix) (a : RoaAddress) (b : Bool) → prefix_bits p ≡ record { addr = a.addr; len = a.len } → IsTrue b ↔ ((n : ℕ) → InRun (run_of_prefix p) n → held n) → b ≡ false → IsHeld held a → ⊥
+is_unheld held p a b e told is h = let t : b ≡ true = told.1 (subst (AllHeld held) (sym e) h) in absurd cc
+
+-- The next of a list fails, and all before it passed.
+pub next_fails : {X : Type 0} (P : X → Type 0) (all left others : List X) (x : X) → left ≡ x ∷ others → PassedTo P all left → (P x → ⊥) → FirstFailing P all x
+next_fails {X} P all left others x e h n = record {
+  front = h.front;
+  behind = others;
+  whole = h.whole ∙ ap (λ (zs : List X). h.front ++ zs) e;
+  passed = h.passed;
+  fails = n;
+}
 
 -- What is attested, by the sets that the object's certificate holds below one that holds `above`.
 module _ (w : World) (above : Resources) (ca : Cert) (p : Point) (o : Object) (sets : Resources) (kept : HasKept (InSet above) o.cert sets) where

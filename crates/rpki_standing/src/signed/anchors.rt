@@ -56,9 +56,10 @@ fn check_own_cert<D: Digester, V: Verifier>(
     ensures same { V.says verifier.new ≡ V.says verifier.old }
     ensures asked { V.count verifier.new ≤ V.count verifier.old + 1 }
 {
-    cert.inspect_ta(true, digester)
-        .map_err(CertTest::Inspection)?;
-    check_own_issuer(cert, index, verifier).map_err(CertTest::Verification)
+    match cert.inspect_ta(true, digester) {
+        Ok(()) => check_own_issuer(cert, index, verifier).map_err(CertTest::Verification),
+        Err(test) => Err(CertTest::Inspection(test)),
+    }
 }
 
 /// Whether the certificate is one of a trust anchor with that key: it has the form, is valid at the bundle's moment,

@@ -1,0 +1,13 @@
+use Rattle.rpki_standing.specs.objects_payload.Addresses.{roa_address}
+use Rattle.rpki_steps.proofs.PayloadFiles.{roa_held, v4_fails, v6_fails}
+use Rattle.rpki_steps.proofs.payloads.check_roa.Goals as goal
+
+pub returns-in-Some-clause-told : goal.returns-in-Some-clause-told
+returns-in-Some-clause-told c = λ w above ca p o kept.
+    v4_fails w above ca p o c.args.held.now kept c.args.content.now (roa_address c.in-Some.address) ?
+
+pub returns-in-Some-first_unheld-clause-told : goal.returns-in-Some-first_unheld-clause-told
+returns-in-Some-first_unheld-clause-told c = λ w above ca p o kept. ?
+
+pub returns-clause-told : goal.returns-clause-told
+returns-clause-told c = λ w above ca p o kept. ?
