@@ -31,7 +31,7 @@ loop-file-preserved g c =
     let w : Verdicts → World = λ v. world_of (digests_of g.D.Digester.sha256_digest g.D.Digester.sha1_digest c.args.digester.now) v c.args.index.now in
     let there : File → Type 0 = IsThere w c.args.folder.now in
     passed_more there c.args.manifest.now.files c.loop-file.left _ c.in-Some.file c.in-Some.ensures.steps
-    (λ v ca o m is. all_told manifest_test_of (PassesManifest (w v) ca o m) (file_tests c.in-Some.file) c.in_ok-test.field-0 c.in_default.not-Err (c.in_ok-test.ensures v ca o m is))
+    (λ v ca o m is. all_told manifest_test_of (PassesManifest (w v) ca o m) (file_tests c.in-Some.file) c.in_ok-test.field-0 c.in_default-2.not-Err (c.in_ok-test.ensures v ca o m is))
     c.loop-file.invariant
 
 pub returns : goal.returns
