@@ -1,5 +1,5 @@
 -- What verification of a content says, by its tests.
-use Rattle.std.proofs.Common.{◌≡◌, [], ◌∷◌, Result, Ok, Err, refl, subst}
+use Rattle.std.proofs.Common.{◌≡◌, ◌∙◌, [], ◌∷◌, Result, Ok, Err, ap, refl, subst}
 use Rattle.certs_verify.specs.certs_x509.declared.errors.verification.VerificationError.{VerificationError}
 use Rattle.certs_verify.specs.certs_x509.declared.errors.verification.VerificationError.TheVariants as error
 use Rattle.objects_cms.specs.Content.{VerifiesContent}
@@ -36,3 +36,9 @@ module _ (d : Digests) (v : Verdicts) (o p : Object) (same : p ≡ o) (r : Resul
   signature_fails e =
       let f = moved (Err error.BadSignature) e in
       record { front = Digest ∷ SigningTime ∷ []; behind = []; whole = refl; passed = (f.0, (f.1.0, tt)); fails = λ s. f.1.1 (record { message = s.message; is = s.message_is; good = s.good }) }
+
+  -- The test that an error tells.
+  pub test_fails : (t : ContentTest) (e : VerificationError) → r ≡ Err e → (t ≡ Digest → e ≡ error.MessageDigest) → (t ≡ SigningTime → e ≡ error.SigningTime) → (t ≡ Signature → e ≡ error.BadSignature) → Fails t
+  test_fails Digest e is p q s = digest_fails (is ∙ ap (λ (x : VerificationError). Err x) (p refl))
+  test_fails SigningTime e is p q s = time_fails (is ∙ ap (λ (x : VerificationError). Err x) (q refl))
+  test_fails Signature e is p q s = signature_fails (is ∙ ap (λ (x : VerificationError). Err x) (s refl))
