@@ -2,6 +2,7 @@
 use Rattle.std.proofs.Common.{◌≡◌, ◌∙◌, [], ◌∷◌, Result, Ok, Err, ap, refl, subst}
 use Rattle.certs_verify.specs.certs_x509.declared.errors.verification.VerificationError.{VerificationError}
 use Rattle.certs_verify.specs.certs_x509.declared.errors.verification.VerificationError.TheVariants as error
+use Rattle.certs_verify.specs.TestAnswers.{Answers as TestAnswers}
 use Rattle.objects_cms.specs.Content.{VerifiesContent}
 use Rattle.rpki_standing.specs.certs_basics.Lists.{Each, FirstFailing}
 use Rattle.rpki_standing.specs.rpki_bundle.Bundle.{BundleValue}
@@ -42,3 +43,11 @@ module _ (d : Digests) (v : Verdicts) (o p : Object) (same : p ≡ o) (r : Resul
   test_fails Digest e is p q s = digest_fails (is ∙ ap (λ (x : VerificationError). Err x) (p refl))
   test_fails SigningTime e is p q s = time_fails (is ∙ ap (λ (x : VerificationError). Err x) (q refl))
   test_fails Signature e is p q s = signature_fails (is ∙ ap (λ (x : VerificationError). Err x) (s refl))
+
+-- What is told of an object that is the same, by verdicts that are.
+pub content_at : (d : Digests) (u v : Verdicts) (b : BundleValue) (q o : Object) (r s : Result (Unit {0}) ContentTest) → u ≡ v → q ≡ o → r ≡ s
+    → TestAnswers (PassesContent (world_of d u b) q) content_tests r → TestAnswers (PassesContent (world_of d v b) o) content_tests s
+content_at d u v b q o r s e f same told =
+    subst (λ (x : Verdicts). TestAnswers (PassesContent (world_of d x b) o) content_tests s) e
+    (subst (λ (x : Object). TestAnswers (PassesContent (world_of d u b) x) content_tests s) f
+    (subst (λ (x : Result (Unit {0}) ContentTest). TestAnswers (PassesContent (world_of d u b) q) content_tests x) same told))

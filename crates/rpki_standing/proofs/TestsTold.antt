@@ -1,5 +1,5 @@
 -- What verification of a certificate answers, by the tests that its errors tell.
-use Rattle.std.proofs.Common.{◌≡◌, ◌∙◌, true, List, [], ◌∷◌, ◌++◌, map, Option, Some, None, Result, Ok, Err, MatchResult, refl, sym, ap, subst}
+use Rattle.std.proofs.Common.{◌≡◌, ◌∙◌, ℕ, true, List, [], ◌∷◌, ◌++◌, map, Option, Some, None, Result, Ok, Err, MatchResult, refl, sym, ap, subst}
 use Rattle.std.proofs.lemmas.Result.{err_from_is_err_and}
 use Rattle.std.specs.Prelude.{◌≢◌, IfErr, IsErrAnd}
 use Rattle.certs_verify.specs.certs_x509.declared.errors.verification.VerificationError.{VerificationError}
@@ -14,14 +14,14 @@ use Rattle.rpki_standing.specs.certs_extension.declared.forms.VerificationTest.{
 use Rattle.rpki_standing.specs.certs_extension.declared.forms.VerificationTest.TheVariants as test
 use Rattle.rpki_standing.specs.certs_extension.Profiles.{Profile, FailsFirst, tests}
 use Rattle.rpki_standing.specs.certs_extension.Verified.{PassesAt, issuer_claim, nothing, validity}
-use Rattle.rpki_rules.specs.Certs.{Cert}
+use Rattle.rpki_rules.specs.Certs.{Cert, Verdicts}
 use Rattle.rpki_rules.specs.declared.reason.certs.CertTest.TheVariants.{Inspection, Verification}
 use Rattle.rpki_rules.specs.Reasons.{PassesCert, cert_tests, signature_tests}
 use Rattle.rpki_rules.specs.declared.reason.certs.CertTest.{CertTest}
 use Rattle.rpki_rules.specs.World.{World}
 use Rattle.rpki_rules.proofs.Firsts.{each_join, map_each}
 use Rattle.rpki_rules.proofs.FirstParts.{first_behind, first_in_front, first_map}
-use Rattle.rpki_standing.specs.Tests.{IsTest, TellsTest}
+use Rattle.rpki_standing.specs.Tests.{IsTest, Tells, TellsTest}
 
 -- An error whose fault is lack of memory is that of memory.
 memory_of : (e : VerificationError) → fault_of e ≡ Some wants_memory → e ≡ error.Memory
@@ -59,6 +59,21 @@ module _ (P : VerificationTest → Type 0) (ts : List VerificationTest) where
   test_answers (Err e) (Ok y) told same = absurd same
   test_answers (Err e) (Err t) told same = subst (Fails P ts) same told
 
+-- The answer of a verification at the world's moment.
+pub answers_at : (good : Verdicts) (moment now : ℕ) (issuer c : Cert) (ts : List VerificationTest) (q : Result (Unit {0}) VerificationError) (r : Result (Unit {0}) VerificationTest)
+    → now ≡ moment → Answers (PassesAt good now issuer nothing c) ts q → TellsTest q r → TestAnswers (PassesAt good moment issuer nothing c) ts r
+answers_at good moment now issuer c ts q r e told same =
+    subst (λ (n : ℕ). TestAnswers (PassesAt good n issuer nothing c) ts r) e (test_answers (PassesAt good now issuer nothing c) ts q r told same)
+
+-- Where an answer is no error all tests are passed.
+pub all_told : {A E X : Type 0} (test_of : E → X) (P : X → Type 0) (ts : List X) (r : Result A E) → ((e : E) → ¬ (r ≡ Err e)) → Tells test_of P ts r → Each P ts
+all_told test_of P ts (Ok x) n told = told
+all_told test_of P ts (Err e) n told = absurd (n e refl)
+
+pub all_answered : {X : Type 0} (P : X → Type 0) (ts : List X) (r : Result (Unit {0}) X) → ((e : X) → ¬ (r ≡ Err e)) → TestAnswers P ts r → Each P ts
+all_answered P ts (Ok x) n told = told
+all_answered P ts (Err e) n told = absurd (n e refl)
+
 -- Validity, the claim to the issuer and the signature, one after the other.
 module _ (P : VerificationTest → Type 0) where
   abbrev Told : List VerificationTest → Result (Unit {0}) VerificationTest → Type 0
@@ -85,6 +100,15 @@ module _ (w : World) (role : Role) (ca c : Cert) where
 
   pub form_fails : (t : InspectionError) → FailsFirst w.digests true role c t → FirstFailing (PassesCert w role ca c) (cert_tests role) (Inspection t)
   form_fails t f = first_in_front Passed (map Inspection (tests role)) (map Verification signature_tests) (Inspection t) (first_map Inspection Passed (tests role) t f)
+
+  -- By what an inspection answered.
+  pub form_told : (s : Result (Unit {0}) InspectionError) (t : CertTest) → MatchResult s (λ x. Err {T = Unit {0}} t ≡ Ok x) (λ e. IsErrAnd (Err {T = Unit {0}} t) (λ d. d ≡ Inspection e))
+      → ((e : InspectionError) → s ≡ Err e → FailsFirst w.digests true role c e) → FirstFailing (PassesCert w role ca c) (cert_tests role) t
+  form_told (Ok x) t same fails = let wrong : Err {T = Unit {0}} t ≡ Ok x = same in absurd cc
+  form_told (Err e) t same fails =
+      let p = err_from_is_err_and (Err {T = Unit {0}} t) same in
+      let first : t ≡ p.0 = cc in
+      subst (FirstFailing Passed (cert_tests role)) (sym (first ∙ p.2)) (form_fails e (fails e refl))
 
   pub cert_told : (s : Result (Unit {0}) VerificationTest) (r : Result (Unit {0}) CertTest) → Profile w.digests true role c → TestAnswers (PassesAt w.good w.moment ca nothing c) signature_tests s
       → MatchResult s (λ x. r ≡ Ok x) (λ e. IsErrAnd r (λ d. d ≡ Verification e)) → TestAnswers (PassesCert w role ca c) (cert_tests role) r

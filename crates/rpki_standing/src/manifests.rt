@@ -1,6 +1,6 @@
 //! The manifest of an authority (RFC 9286 6.2, 6.3).
 
-ghost use Rattle.std.specs.Prelude.{◌≡◌, ◌+◌, ◌≤◌, IfErr, IfOk, [], ◌∷◌};
+ghost use Rattle.std.specs.Prelude.{◌≡◌, ◌↔◌, ◌+◌, ◌≤◌, IfErr, IfOk, IsTrue, [], ◌∷◌};
 ghost use Rattle.rpki_standing.specs.certs_key.Digesting.{digests_of};
 ghost use Rattle.rpki_standing.specs.Crls.{Finds};
 ghost use Rattle.rpki_standing.specs.Manifests.{FindsManifest, IsOwnManifest, IsReadIn};
@@ -54,17 +54,30 @@ pub fn manifest_at(
     }
 }
 
+// Whether the manifest's update isn't to come at the bundle's moment (RFC 9286 6.3).
+fn is_made(manifest: &Manifest, index: &Index<'_>) -> bool
+    ensures { IsTrue result ↔ (manifest.now.content.this_update ≤ index.now.moment) }
+{
+    manifest.content().this_update() <= index.moment()
+}
+
+// Whether its next update isn't past.
+fn is_fresh(manifest: &Manifest, index: &Index<'_>) -> bool
+    ensures { IsTrue result ↔ (index.now.moment ≤ manifest.now.content.next_update) }
+{
+    index.moment() <= manifest.content().next_update()
+}
+
 // Whether the bundle's moment lies between both updates, which are both included; else which of them fails.
 fn check_updates(manifest: &Manifest, index: &Index<'_>) -> Result<(), ManifestTest>
     ensures { (d : Digests) (v : Verdicts) (ca : CertValue) → Tells manifest_test_of
         (PassesManifest (world_of d v index.now) ca manifest.now.signed manifest.now.content)
         (ThisUpdate ∷ NextUpdate ∷ []) result }
 {
-    let (content, now) = (manifest.content(), index.moment());
-    if content.this_update() > now {
+    if !is_made(manifest, index) {
         return Err(ManifestTest::ThisUpdate);
     }
-    if content.next_update() < now {
+    if !is_fresh(manifest, index) {
         return Err(ManifestTest::NextUpdate);
     }
     Ok(())
