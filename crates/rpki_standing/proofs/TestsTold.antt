@@ -101,15 +101,6 @@ module _ (w : World) (role : Role) (ca c : Cert) where
   pub form_fails : (t : InspectionError) → FailsFirst w.digests true role c t → FirstFailing (PassesCert w role ca c) (cert_tests role) (Inspection t)
   form_fails t f = first_in_front Passed (map Inspection (tests role)) (map Verification signature_tests) (Inspection t) (first_map Inspection Passed (tests role) t f)
 
-  -- By what an inspection answered.
-  pub form_told : (s : Result (Unit {0}) InspectionError) (t : CertTest) → MatchResult s (λ x. Err {T = Unit {0}} t ≡ Ok x) (λ e. IsErrAnd (Err {T = Unit {0}} t) (λ d. d ≡ Inspection e))
-      → ((e : InspectionError) → s ≡ Err e → FailsFirst w.digests true role c e) → FirstFailing (PassesCert w role ca c) (cert_tests role) t
-  form_told (Ok x) t same fails = let wrong : Err {T = Unit {0}} t ≡ Ok x = same in absurd cc
-  form_told (Err e) t same fails =
-      let p = err_from_is_err_and (Err {T = Unit {0}} t) same in
-      let first : t ≡ p.0 = cc in
-      subst (FirstFailing Passed (cert_tests role)) (sym (first ∙ p.2)) (form_fails e (fails e refl))
-
   pub cert_told : (s : Result (Unit {0}) VerificationTest) (r : Result (Unit {0}) CertTest) → Profile w.digests true role c → TestAnswers (PassesAt w.good w.moment ca nothing c) signature_tests s
       → MatchResult s (λ x. r ≡ Ok x) (λ e. IsErrAnd r (λ d. d ≡ Verification e)) → TestAnswers (PassesCert w role ca c) (cert_tests role) r
   cert_told (Ok x) r form told same =
