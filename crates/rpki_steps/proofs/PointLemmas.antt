@@ -1,26 +1,29 @@
 -- What stands at a publication point by what is held, and else why nothing does.
-use Rattle.std.proofs.Common.{◌≡◌, ℕ, List, [], ◌∷◌, ◌++◌, map, None, Some, sym, subst}
+use Rattle.std.proofs.Common.{◌≡◌, ℕ, List, [], ◌∷◌, ◌++◌, map, Result, Ok, Err, refl, sym, subst}
+use Rattle.std.specs.Prelude.{IfErr}
 use Rattle.rpki_steps.specs.certs_basics.Lists.{Each, FirstFailing}
 use Rattle.rpki_steps.specs.certs_extension.Verified.{nothing}
 use Rattle.rpki_rules.specs.certs_x509.declared.errors.verification.Overclaimed.{Overclaimed}
 use Rattle.rpki_rules.specs.declared.reason.points.ListTest.{ListTest as Told}
 use Rattle.rpki_rules.specs.declared.reason.points.ListTest.TheVariants as crl
+use Rattle.rpki_rules.specs.declared.reason.points.ManifestTest.{ManifestTest as ToldManifest}
 use Rattle.rpki_rules.specs.declared.reason.points.PointReason.{PointReason}
 use Rattle.rpki_rules.specs.declared.reason.points.PointReason.TheVariants as why
-use Rattle.rpki_rules.specs.Certs.{Cert}
+use Rattle.rpki_rules.specs.Certs.{Cert, Verdicts}
 use Rattle.rpki_rules.specs.Chains.{Fits, StandsIn}
 use Rattle.rpki_rules.specs.Kinds.{Kind}
 use Rattle.rpki_rules.specs.Objects.{Manifest, Object}
-use Rattle.rpki_rules.specs.PointReasons.{ListTest, ListAuthority, ListThisUpdate, ListNextUpdate, NotOnList, ListSignature, ManifestClaim, ListFails, HasGoodManifest, HasList, HasManifest, PassesList, PointFails}
-use Rattle.rpki_rules.specs.Points.{Point}
+use Rattle.rpki_rules.specs.PointReasons.{ListTest, ListAuthority, ListThisUpdate, ListNextUpdate, NotOnList, ListSignature, ManifestClaim, ListFails, HasGoodManifest, HasList, HasManifest, PassesList, PassesManifest, PointFails}
+use Rattle.rpki_rules.specs.Points.{HasFiles, IsPoint, Point}
 use Rattle.rpki_rules.specs.Reasons.{AreUnheld, kinds}
-use Rattle.rpki_rules.specs.ReasonViews.{ListUnheld, PointUnheld, kind_claimed, list_test_of, runs_claimed}
+use Rattle.rpki_rules.specs.ReasonViews.{ListUnheld, PointUnheld, kind_claimed, list_test_of, manifest_test_of, runs_claimed}
 use Rattle.rpki_rules.specs.World.{World}
 use Rattle.rpki_rules.proofs.FirstParts.{first_behind, first_map}
 use Rattle.rpki_rules.proofs.Firsts.{each_split}
 use Rattle.rpki_rules.proofs.PointReasons.{good_of, same_manifest}
-use Rattle.rpki_standing.specs.PointFaults.{FailsUnheld, unheld_tests}
+use Rattle.rpki_standing.specs.PointFaults.{FailsUnheld, held_tests, unheld_tests}
 use Rattle.rpki_standing.specs.Standing.{IsStanding, StandingValue}
+use Rattle.rpki_standing.proofs.Standings.{unheld_files, unheld_refutes}
 use Rattle.rpki_steps.specs.Claims.{IsUnfit}
 
 -- A test of a list that isn't one of a claim.
@@ -79,3 +82,13 @@ module _ (w : World) (held : Kind → ℕ → Type 0) (ca : Cert) where
     -- It fits.
     pub fit : Fits held s.point.object.cert → StandsIn w held ca s.point
     fit f = record { point = is.point; fits = f }
+
+-- What isn't found isn't there.
+pub none_found : {T : Type 0} (w : World) (ca : Cert) (r : Result T PointReason) → ((x : T) → ¬ (r ≡ Ok x)) → IfErr r (FailsUnheld w ca) → (p : Point) → ¬ (IsPoint w ca p)
+none_found w ca (Ok x) n f = absurd (n x refl)
+none_found w ca (Err r) n f = unheld_refutes w ca r f
+
+pub no_files : {T : Type 0} (w : Verdicts → World) (ca : Cert) (o : Object) (m : Manifest) (r : Result T ToldManifest) → ((x : T) → ¬ (r ≡ Ok x))
+    → IfErr r (λ t. (v : Verdicts) → FirstFailing (PassesManifest (w v) ca o m) (held_tests m) (manifest_test_of t)) → (v : Verdicts) → ¬ (HasFiles (w v) ca m)
+no_files w ca o m (Ok x) n f = absurd (n x refl)
+no_files w ca o m (Err t) n f = λ v. unheld_files (w v) ca o m (manifest_test_of t) (f v)

@@ -13,7 +13,7 @@ use Rattle.rpki_standing.proofs.OwnManifests.{one_read, own_has}
 use Rattle.rpki_steps.specs.declared.places.files.File.{File}
 use Rattle.rpki_steps.specs.declared.places.standing.Point.{Point as Place}
 use Rattle.rpki_steps.specs.PlaceFiles.{AreFilesOf}
-use Rattle.rpki_steps.specs.Parts.{ArePartsOf}
+use Rattle.rpki_steps.specs.Parts.{ArePartsOf, HasNoParts}
 use Rattle.rpki_steps.specs.Places.{FindsPoint, IsStandingPlace}
 
 -- A manifest of the authority, with its parts, makes a point that stands.
@@ -31,6 +31,13 @@ module _ (w : World) (ca : Cert) (k : KindValue Manifest) (own : IsOwnManifest w
       files_are = subst (λ (x : List File). AreFilesOf w.object ca k.content x) (sym listed) are.files_are;
     };
   }
+
+-- Without its parts there is no point.
+pub no_parts : (w : World) (ca : Cert) (k : KindValue Manifest) → IsOwnManifest w ca k → HasNoParts w ca k → (p : Point) → IsPoint w ca p → ⊥
+no_parts w ca k own none p is =
+    let j : KindValue Manifest = record { signed = p.object; content = p.manifest } in
+    let same : k ≡ j = one_read w ca k j (own_has w ca k own) (own_has w ca j is.manifest) in
+    (subst (HasNoParts w ca) same none) is.files p.crl is.crl
 
 -- All that stands at an authority's point has one manifest.
 same_cert : (w : World) (ca : Cert) (p q : Point) → IsPoint w ca p → IsPoint w ca q → p.object.cert ≡ q.object.cert

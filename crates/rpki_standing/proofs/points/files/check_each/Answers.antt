@@ -1,4 +1,4 @@
-use Rattle.std.proofs.Common.{subst}
+use Rattle.std.proofs.Common.{subst, sym}
 use Rattle.certs_cert.specs.certs_key.Digesting.{digests_of}
 use Rattle.rpki_rules.specs.Certs.{Verdicts}
 use Rattle.rpki_rules.specs.Objects.{File}
@@ -8,14 +8,16 @@ use Rattle.rpki_rules.specs.World.{World, world_of}
 use Rattle.rpki_rules.specs.certs_basics.Lists.{Each}
 use Rattle.rpki_rules.proofs.Firsts.{each_also, flat_each}
 use Rattle.rpki_standing.specs.Tests.{Tells}
-use Rattle.rpki_standing.proofs.PassedTo.{failed_next, passed_all, passed_more, passed_none}
+use Rattle.rpki_standing.proofs.PassedTo.{PassedTo, failed_next, passed_all, passed_more, passed_none}
 use Rattle.rpki_standing.proofs.Stocked.{IsThere}
 use Rattle.rpki_standing.proofs.TestsTold.{all_told}
 use Rattle.rpki_standing.proofs.points.files.check_each.Goals as goal
 
 pub loop-file-init : goal.loop-file-init
 loop-file-init g c =
-    passed_none _ _
+    let w : Verdicts → World = λ v. world_of (digests_of g.D.Digester.sha256_digest g.D.Digester.sha1_digest c.args.digester.now) v c.args.index.now in
+    let there : File → Type 0 = IsThere w c.args.folder.now in
+    subst (PassedTo there c.args.manifest.now.files) (sym c.iter-left.ensures) (passed_none there c.args.manifest.now.files)
 
 pub returns-in-Err : goal.returns-in-Err
 returns-in-Err g c v ca o m is =
