@@ -1,5 +1,5 @@
 -- What verification of a content says, by its tests.
-use Rattle.std.proofs.Common.{◌≡◌, ◌∙◌, [], ◌∷◌, Result, Ok, Err, refl, ap, subst}
+use Rattle.std.proofs.Common.{◌≡◌, ◌∙◌, [], ◌∷◌, Result, Ok, Err, ap, refl, subst}
 use Rattle.certs_verify.specs.certs_x509.declared.errors.verification.VerificationError.{VerificationError}
 use Rattle.certs_verify.specs.certs_x509.declared.errors.verification.VerificationError.TheVariants as error
 use Rattle.certs_verify.specs.TestAnswers.{Answers as TestAnswers}
@@ -13,7 +13,6 @@ use Rattle.rpki_rules.specs.Reasons.{PassesContent, content_tests}
 use Rattle.rpki_rules.specs.declared.reason.certs.ContentTest.{ContentTest}
 use Rattle.rpki_rules.specs.World.{world_of}
 use Rattle.rpki_rules.proofs.ReasonTests.{passes_content}
-use Rattle.rpki_standing.specs.Tests.{content_error}
 
 -- What was verified is the object.
 module _ (d : Digests) (v : Verdicts) (o p : Object) (same : p ≡ o) (r : Result (Unit {0}) VerificationError) (told : VerifiesContent d v p r) (b : BundleValue) where
@@ -26,23 +25,24 @@ module _ (d : Digests) (v : Verdicts) (o p : Object) (same : p ≡ o) (r : Resul
   pub content_passes : (x : Unit {0}) → r ≡ Ok x → Each (PassesContent (world_of d v b) o) content_tests
   content_passes x e = passes_content (world_of d v b) o (moved (Ok x) e)
 
-  digest_fails : r ≡ Err error.MessageDigest → Fails Digest
+  pub digest_fails : r ≡ Err error.MessageDigest → Fails Digest
   digest_fails e = record { front = []; behind = SigningTime ∷ Signature ∷ []; whole = refl; passed = tt; fails = moved (Err error.MessageDigest) e }
 
-  time_fails : r ≡ Err error.SigningTime → Fails SigningTime
+  pub time_fails : r ≡ Err error.SigningTime → Fails SigningTime
   time_fails e =
       let f = moved (Err error.SigningTime) e in
       record { front = Digest ∷ []; behind = Signature ∷ []; whole = refl; passed = (f.0, tt); fails = f.1 }
 
-  signature_fails : r ≡ Err error.BadSignature → Fails Signature
+  pub signature_fails : r ≡ Err error.BadSignature → Fails Signature
   signature_fails e =
       let f = moved (Err error.BadSignature) e in
       record { front = Digest ∷ SigningTime ∷ []; behind = []; whole = refl; passed = (f.0, (f.1.0, tt)); fails = λ s. f.1.1 (record { message = s.message; is = s.message_is; good = s.good }) }
 
-  pub content_fails : (e : VerificationError) (t : ContentTest) → r ≡ Err e → e ≡ content_error t → Fails t
-  content_fails e Digest is same = digest_fails (is ∙ ap (λ (x : VerificationError). Err x) same)
-  content_fails e SigningTime is same = time_fails (is ∙ ap (λ (x : VerificationError). Err x) same)
-  content_fails e Signature is same = signature_fails (is ∙ ap (λ (x : VerificationError). Err x) same)
+  -- The test that an error tells.
+  pub test_fails : (t : ContentTest) (e : VerificationError) → r ≡ Err e → (t ≡ Digest → e ≡ error.MessageDigest) → (t ≡ SigningTime → e ≡ error.SigningTime) → (t ≡ Signature → e ≡ error.BadSignature) → Fails t
+  test_fails Digest e is p q s = digest_fails (is ∙ ap (λ (x : VerificationError). Err x) (p refl))
+  test_fails SigningTime e is p q s = time_fails (is ∙ ap (λ (x : VerificationError). Err x) (q refl))
+  test_fails Signature e is p q s = signature_fails (is ∙ ap (λ (x : VerificationError). Err x) (s refl))
 
 -- What is told of an object that is the same, by verdicts that are.
 pub content_at : (d : Digests) (u v : Verdicts) (b : BundleValue) (q o : Object) (r s : Result (Unit {0}) ContentTest) → u ≡ v → q ≡ o → r ≡ s

@@ -65,11 +65,6 @@ pub answers_at : (good : Verdicts) (moment now : ℕ) (issuer c : Cert) (ts : Li
 answers_at good moment now issuer c ts q r e told same =
     subst (λ (n : ℕ). TestAnswers (PassesAt good n issuer nothing c) ts r) e (test_answers (PassesAt good now issuer nothing c) ts q r told same)
 
--- A test before the others is passed.
-pub told_behind : {A E X : Type 0} (test_of : E → X) (P : X → Type 0) (x : X) (ts : List X) (r : Result A E) → P x → Tells test_of P ts r → Tells test_of P (x ∷ ts) r
-told_behind test_of P x ts (Ok a) p told = (p, told)
-told_behind test_of P x ts (Err e) p told = first_behind P (x ∷ []) ts (test_of e) (p, tt) told
-
 -- Where an answer is no error all tests are passed.
 pub all_told : {A E X : Type 0} (test_of : E → X) (P : X → Type 0) (ts : List X) (r : Result A E) → ((e : E) → ¬ (r ≡ Err e)) → Tells test_of P ts r → Each P ts
 all_told test_of P ts (Ok x) n told = told
@@ -105,18 +100,6 @@ module _ (w : World) (role : Role) (ca c : Cert) where
 
   pub form_fails : (t : InspectionError) → FailsFirst w.digests true role c t → FirstFailing (PassesCert w role ca c) (cert_tests role) (Inspection t)
   form_fails t f = first_in_front Passed (map Inspection (tests role)) (map Verification signature_tests) (Inspection t) (first_map Inspection Passed (tests role) t f)
-
-  -- By what an inspection answered.
-  abbrev failed : CertTest → Result (Unit {0}) CertTest
-  failed t = Err t
-
-  pub form_told : (s : Result (Unit {0}) InspectionError) (t : CertTest) → MatchResult s (λ x. failed t ≡ Ok x) (λ e. IsErrAnd (failed t) (λ d. d ≡ Inspection e))
-      → ((e : InspectionError) → s ≡ Err e → FailsFirst w.digests true role c e) → FirstFailing (PassesCert w role ca c) (cert_tests role) t
-  form_told (Ok x) t same fails = let wrong : failed t ≡ Ok x = same in absurd cc
-  form_told (Err e) t same fails =
-      let p = err_from_is_err_and (failed t) same in
-      let first : t ≡ p.0 = cc in
-      subst (FirstFailing Passed (cert_tests role)) (sym (first ∙ p.2)) (form_fails e (fails e refl))
 
   pub cert_told : (s : Result (Unit {0}) VerificationTest) (r : Result (Unit {0}) CertTest) → Profile w.digests true role c → TestAnswers (PassesAt w.good w.moment ca nothing c) signature_tests s
       → MatchResult s (λ x. r ≡ Ok x) (λ e. IsErrAnd r (λ d. d ≡ Verification e)) → TestAnswers (PassesCert w role ca c) (cert_tests role) r

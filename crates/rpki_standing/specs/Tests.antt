@@ -1,13 +1,10 @@
 -- What tests answer: all are passed, or the first that isn't.
 use Rattle.std.specs.Prelude.{◌≡◌, List, Option, Some, None, Result, Ok, Err}
 use Rattle.certs_verify.specs.certs_x509.declared.errors.verification.VerificationError.{VerificationError}
-use Rattle.certs_verify.specs.certs_x509.declared.errors.verification.VerificationError.TheVariants as error
 use Rattle.certs_verify.specs.Answers.{fault_of}
 use Rattle.rpki_standing.specs.certs_basics.Lists.{Each, FirstFailing}
 use Rattle.rpki_standing.specs.certs_extension.Calls.{Fault, inspected, verified, wants_memory}
 use Rattle.rpki_standing.specs.certs_extension.declared.forms.VerificationTest.{VerificationTest}
-use Rattle.rpki_rules.specs.declared.reason.certs.ContentTest.{ContentTest}
-use Rattle.rpki_rules.specs.declared.reason.certs.ContentTest.TheVariants as content
 
 -- The fault is a test of verification that fails.
 abbrev pub IsTest : Option Fault → Type 0
@@ -23,12 +20,6 @@ TellsTest (Ok x) (Ok y) = Unit {0}
 TellsTest (Ok x) (Err t) = ⊥
 TellsTest (Err e) (Ok y) = ⊥
 TellsTest (Err e) (Err t) = fault_of e ≡ Some (verified t)
-
--- The error by which verification of a content tells the test.
-abbrev pub content_error : ContentTest → VerificationError
-content_error content.Digest = error.MessageDigest
-content_error content.SigningTime = error.SigningTime
-content_error content.Signature = error.BadSignature
 
 -- All tests are passed, or the error tells the first that isn't; `test_of` says which that is.
 abbrev pub Tells : {A X E : Type 0} → (E → X) → (X → Type 0) → List X → Result A E → Type 0

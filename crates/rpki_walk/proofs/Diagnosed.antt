@@ -1,20 +1,21 @@
 -- What is found to be wrong is what is wrong.
-use Rattle.std.proofs.Common.{◌≡◌, ℕ, ◌+◌, ◌<◌, ◌⊎◌, ◌↔◌, List, [], ◌∷◌, ◌++◌, map, length, take, get_or, Option, Some, None, Result, Ok, Err, refl, sym, ap, subst, ◌∙◌, inl, inr}
+use Rattle.std.proofs.Common.{◌≡◌, ℕ, ◌+◌, ◌<◌, ◌⊎◌, ◌↔◌, List, [], ◌∷◌, ◌++◌, map, length, take, get_or, Option, Some, None, Result, Ok, Err, OnOk, IfSome, refl, sym, ap, subst, ◌∙◌, inl, inr}
 use Rattle.rpki_walk.specs.resources_chain.Sets.{Run}
 use Rattle.rpki_walk.specs.rpki_bundle.declared.parts.Locator.{Locator}
 use Rattle.rpki_rules.specs.Certs.{Cert}
-use Rattle.rpki_rules.specs.Words.{Mem}
+use Rattle.rpki_rules.specs.Words.{Mem, NoRepeat}
 use Rattle.rpki_rules.specs.Kinds.{Kind}
 use Rattle.rpki_rules.specs.World.{World}
 use Rattle.rpki_rules.specs.Points.{Point, files}
 use Rattle.rpki_rules.specs.Chains.{StandsIn}
 use Rattle.rpki_rules.specs.Views.{PathValue}
-use Rattle.rpki_rules.specs.LocatorReasons.{LocatorReason, LocatorFails}
+use Rattle.rpki_rules.specs.declared.reason.locators.LocatorReason.{LocatorReason}
+use Rattle.rpki_rules.specs.LocatorReasons.{LocatorFails}
 use Rattle.rpki_rules.specs.PointReasons.{PointReason, PointFails}
 use Rattle.rpki_rules.specs.FileReasons.{FileReason, FileFails}
-use Rattle.rpki_rules.specs.Diagnoses.{OfLocator, OfPoint, OfFile, DiagnosisValue, ListTells, PointTells, CerTells, ObjectTells, FileTells, on_chain, DiagnosesLocator, DiagnosesFile, DiagnosesEnd, DiagnosesChain, TellsEnd, TellsChain}
+use Rattle.rpki_rules.specs.Diagnoses.{OfLocator, OfPoint, OfFile, DiagnosisValue, ListTells, PointTells, CerTells, ObjectTells, FileTells, on_chain, DiagnosesLocator, DiagnosesFile, DiagnosesEnd, DiagnosesChain, TellsEnd, TellsChain, IsDiagnosis, IsTold}
 use Rattle.rpki_rules.specs.ReasonViews.{list_test_of, point_reason_of, cer_test_of, object_test_of, file_reason_of, ListUnheld, PointUnheld, CerUnheld, ObjectUnheld, FileUnheld}
-use Rattle.rpki_rules.specs.DiagnosisViews.{list_numbers, point_numbers, cer_numbers, object_numbers, file_numbers, diagnosis_of}
+use Rattle.rpki_rules.specs.DiagnosisViews.{list_numbers, point_numbers, cer_numbers, object_numbers, file_numbers, diagnosis_of, unheld_of, diagnoses_cmp, AreDiagnoses}
 use Rattle.rpki_rules.specs.declared.reason.points.ListTest.{ListTest as CodeListTest}
 use Rattle.rpki_rules.specs.declared.reason.points.ListTest.TheVariants as crl
 use Rattle.rpki_rules.specs.declared.reason.points.PointReason.{PointReason as CodePointReason}
@@ -26,13 +27,18 @@ use Rattle.rpki_rules.specs.declared.reason.files.ObjectTest.TheVariants as obje
 use Rattle.rpki_rules.specs.declared.reason.files.FileReason.{FileReason as CodeFileReason}
 use Rattle.rpki_rules.specs.declared.reason.files.FileReason.TheVariants as file
 use Rattle.rpki_rules.specs.declared.reason.diagnosis.Diagnosis.{Diagnosis}
+use Rattle.std.specs.declared.cmp.Ordering.TheVariants.{Equal}
+use Rattle.std.specs.List.Sorted.{IsStrictlySortedBy}
 use Rattle.rpki_rules.proofs.Readings.{one_point}
+use Rattle.rpki_rules.proofs.Orders.{mem_map}
 use Rattle.rpki_rules.proofs.LocatorReasons.{one_reason as one_locator_reason}
 use Rattle.rpki_rules.proofs.PointReasons.{one_reason as one_point_reason, refutes}
 use Rattle.rpki_rules.proofs.FileReasons.{one_reason as one_file_reason}
-use Rattle.rpki_rules.proofs.Diagnoses.{point_tells_one, file_tells_one}
-use Rattle.rpki_walk.specs.Diagnosed.{DiagnosesAt, ToldValue, TellsAt, IsOfLocator, IsOnly, Adds}
-use Rattle.rpki_walk.specs.Facts.{Diagnoses, Unheld, IsFinding}
+use Rattle.rpki_rules.proofs.Diagnoses.{point_tells_one, file_tells_one, sorted_diagnoses}
+use Rattle.rpki_walk.specs.Asked.{HasLocatorReason, IsJudged, HasFileReason}
+use Rattle.rpki_walk.specs.Diagnosed.{DiagnosesAt, ToldValue, told_of, TellsAt, IsOfLocator, IsOnly, Adds, has_diagnosed, IsDiagnosed}
+use Rattle.rpki_walk.specs.declared.diagnosis.judged.Judged.{Judged}
+use Rattle.rpki_walk.specs.Facts.{Refuses, Shows, Originates, Provides, Reaches, Chains, Diagnoses, Unheld, ReachedBy, Gains, IsFinding}
 use Rattle.rpki_walk.proofs.Mems.{any_more, mem_push}
 use Rattle.rpki_walk.proofs.Chained.{seen_more}
 
@@ -133,7 +139,7 @@ module _ (w : World) (held : Kind → ℕ → Type 0) where
 
       -- Where it stands they are those of its files.
       module _ (p : Point) (s : StandsIn w held ca p) where
-        at_file : (d : DiagnosisValue) → (a : DiagnosesFile w held on path ca d) → (b : DiagnosesAt w held on path ca p d.name d) × (b.reason ≡ a.reason)
+        abbrev at_file : (d : DiagnosisValue) → (a : DiagnosesFile w held on path ca d) → (b : DiagnosesAt w held on path ca p d.name d) × (b.reason ≡ a.reason)
         at_file d a =
             let o = one_point w ca a.point p a.stands.point s.point in
             (record { reason = a.reason; fails = subst (λ (v : Point). FileFails w held on (length on) ca v d.name a.reason) o a.fails; is = a.is }, refl)
@@ -144,7 +150,7 @@ module _ (w : World) (held : Kind → ℕ → Type 0) where
         named : (u : List ℕ) (d : DiagnosisValue) → DiagnosesAt w held on path ca p u d → u ≡ d.name
         named u d a = sym (ap (λ (x : DiagnosisValue). x.name) a.is)
 
-        of_file : (u : List ℕ) (d : DiagnosisValue) → Mem (files ca p.manifest) u → (a : DiagnosesAt w held on path ca p u d) → (b : DiagnosesFile w held on path ca d) × (b.reason ≡ a.reason)
+        abbrev of_file : (u : List ℕ) (d : DiagnosisValue) → Mem (files ca p.manifest) u → (a : DiagnosesAt w held on path ca p u d) → (b : DiagnosesFile w held on path ca d) × (b.reason ≡ a.reason)
         of_file u d m a = let e = named u d a in (
           record {
             point = p;
@@ -250,6 +256,23 @@ told_next w ls i x l old mid new g h d m =
       | inr q ↦ inr (e.1 (inr q))
     ]
 
+-- What is answered is added, or nothing is.
+module _ {X : Type 0} (seen : Diagnosis → X) (P : X → Type 0) (o : Option Diagnosis) (only : IsOnly seen P o) (old new : List Diagnosis) where
+  pub only_adds : (z : Diagnosis) → o ≡ Some z → new ≡ old ++ z ∷ [] → Adds seen old P new
+  only_adds z e n = adds_one seen P old new z n (only_some seen P o z e only)
+
+  pub only_keeps : ((z : Diagnosis) → ¬ (o ≡ Some z)) → new ≡ old → Adds seen old P new
+  only_keeps n e = subst (λ (ds : List Diagnosis). Adds seen old P ds) (sym e) (adds_none seen P old (go o refl))
+    where
+      go : (q : Option Diagnosis) → o ≡ q → (x : X) → ¬ (P x)
+      go None f = only_none seen P o f only
+      go (Some z) f = absurd (n z f)
+
+pub only_told : (w : World) (l : Locator) (o : Option Diagnosis) (z : Diagnosis) → o ≡ Some z → IsOnly diagnosis_of (DiagnosesLocator w l) o → IfSome o (λ (d : Diagnosis). unheld_of d ≡ []) → IsOfLocator w l z
+only_told w l o z e only told =
+    let h : IfSome (Some z) (λ (d : Diagnosis). unheld_of d ≡ []) = subst (λ (q : Option Diagnosis). IfSome q (λ (d : Diagnosis). unheld_of d ≡ [])) e told in
+    ((only_some diagnosis_of (DiagnosesLocator w l) o z e only (diagnosis_of z)).1 refl, h)
+
 -- What a walk tells to be wrong is what is wrong at the ends of chains, with the numbers that this tells.
 pub told_wrong : (w : World) (d : DiagnosisValue) → IsFinding [] w (Diagnoses d) ↔ DiagnosesChain w d
 told_wrong w d = (to, λ r. inr (inr (r.name, r.anchor, r.below, r.accepted, inl r.ends)))
@@ -275,3 +298,77 @@ told_unheld w d numbers (inr (inr t)) = elim t.4 [
     | inr q ↦ elim q.4 [ inl r ↦ absurd r | inr y ↦ absurd y.2 ]
   ]
 ]
+
+-- What is answered of a file and of a locator.
+pub file_answer : (w : World) (held : Kind → ℕ → Type 0) (on : List (List ℕ)) (ca : Cert) (p : Point) (u v : List ℕ) → u ≡ v → (o q : Option CodeFileReason) → o ≡ q → HasFileReason w held on ca p u o → HasFileReason w held on ca p v q
+file_answer w held on ca p u v e o q f h = subst (λ (x : Option CodeFileReason). HasFileReason w held on ca p v x) f (subst (λ (x : List ℕ). HasFileReason w held on ca p x o) e h)
+
+pub locator_answer : (w : World) (l : Locator) (o q : Option LocatorReason) → o ≡ q → HasLocatorReason w l o → HasLocatorReason w l q
+locator_answer w l o q e h = subst (λ (x : Option LocatorReason). HasLocatorReason w l x) e h
+
+pub point_answer : {P : Type 0} (point : P → Point) (w : World) (held : Kind → ℕ → Type 0) (ca : Cert) (o q : Result P CodePointReason) → o ≡ q → IsJudged point w held ca o → IsJudged point w held ca q
+point_answer {P = P} point w held ca o q e h = subst (λ (x : Result P CodePointReason). IsJudged point w held ca x) e h
+
+-- It is what this is, too.
+pub only_same : {X : Type 0} (P : X → Type 0) (a b : X) → a ≡ b → ((x : X) → P x ↔ (b ≡ x)) → (x : X) → P x ↔ (a ≡ x)
+only_same P a b e h x = (λ p. e ∙ (h x).0 p, λ q. (h x).1 (sym e ∙ q))
+
+-- What is gained by a chain.
+pub visit_gains : {E : Type 0} (r : Result (Unit {0}) E) (w : World) (held : Kind → ℕ → Type 0) (on : List (List ℕ)) (path : PathValue) (uri : List ℕ) (ca : Cert) (old new : Judged) → OnOk r (Adds diagnosis_of old.found.items (DiagnosesEnd w held on path uri ca) new.found.items) → OnOk r (Adds told_of old.found.items (λ (t : ToldValue). TellsEnd w held on path uri ca t.diagnosis t.numbers) new.found.items) → OnOk r (Gains IsDiagnosed (has_diagnosed old) (ReachedBy [] w held on path uri ca) (has_diagnosed new))
+visit_gains (Err e) w held on path uri ca old new f g = tt
+visit_gains (Ok u) w held on path uri ca old new f g = go
+  where
+    go : Gains IsDiagnosed (has_diagnosed old) (ReachedBy [] w held on path uri ca) (has_diagnosed new)
+    go (Refuses n y) i = absurd i
+    go (Shows s) i = absurd i
+    go (Originates s) i = absurd i
+    go (Provides s) i = absurd i
+    go (Reaches k n) i = absurd i
+    go (Chains v) i = absurd i
+    go (Diagnoses d) i = f d
+    go (Unheld d numbers) i = g (told_at d numbers)
+
+-- All that is wrong, sorted.
+pub all_diagnosed : (w v : World) → v ≡ w → (first walked : Judged) → first.found.items ≡ []
+    → Gains IsDiagnosed (has_diagnosed first) (IsFinding [] w) (has_diagnosed walked)
+    → (old : List Diagnosis)
+    → Adds diagnosis_of walked.found.items (λ (d : DiagnosisValue). (l : Locator) × Mem v.locators l × DiagnosesLocator v l d) old
+    → ((d : Diagnosis) → Mem old d → Mem walked.found.items d ⊎ ((l : Locator) × Mem v.locators l × IsOfLocator v l d))
+    → NoRepeat (map (λ (l : Locator). l.name) v.locators)
+    → (new : List Diagnosis) → IsStrictlySortedBy diagnoses_cmp new → ((x : Diagnosis) → Mem new x → Mem old x)
+    → ((x : Diagnosis) → Mem old x → (y : Diagnosis) × Mem new y × (diagnoses_cmp x y ≡ Equal)) → AreDiagnoses w new
+all_diagnosed w v e first walked empty gained old wrong told apart new s from kept =
+    sorted_diagnoses w apart_there old new exact numbers s from kept
+  where
+    apart_there : NoRepeat (map (λ (l : Locator). l.name) w.locators)
+    apart_there = subst (λ (z : World). NoRepeat (map (λ (l : Locator). l.name) z.locators)) e apart
+
+    wrong_there : Adds diagnosis_of walked.found.items (λ (d : DiagnosisValue). (l : Locator) × Mem w.locators l × DiagnosesLocator w l d) old
+    wrong_there = subst (λ (z : World). Adds diagnosis_of walked.found.items (λ (d : DiagnosisValue). (l : Locator) × Mem z.locators l × DiagnosesLocator z l d) old) e wrong
+
+    told_there : (d : Diagnosis) → Mem old d → Mem walked.found.items d ⊎ ((l : Locator) × Mem w.locators l × IsOfLocator w l d)
+    told_there = subst (λ (z : World). (d : Diagnosis) → Mem old d → Mem walked.found.items d ⊎ ((l : Locator) × Mem z.locators l × IsOfLocator z l d)) e told
+
+    none_first : {X : Type 0} (seen : Diagnosis → X) (x : X) → ¬ (Mem (map seen first.found.items) x)
+    none_first seen x m = let h = (mem_map seen first.found.items x).0 m in subst (λ (ds : List Diagnosis). Mem ds h.0) empty h.1
+
+    exact : (d : DiagnosisValue) → Mem (map diagnosis_of old) d ↔ IsDiagnosis w d
+    exact d =
+        let h = wrong_there d in let k = gained (Diagnoses d) tt in let t = told_wrong w d in (
+          λ m. elim (h.0 m) [
+            | inl a ↦ elim (k.0 a) [ inl o ↦ absurd (none_first diagnosis_of d o) | inr f ↦ inr (t.0 f) ]
+            | inr q ↦ inl q
+          ],
+          λ i. elim i [ inl q ↦ h.1 (inr q) | inr c ↦ h.1 (inl (k.1 (inr (t.1 c)))) ],
+        )
+
+    numbers : (x : Diagnosis) → Mem old x → IsTold w (diagnosis_of x) (unheld_of x)
+    numbers x m = elim (told_there x m) [
+      | inl a ↦
+          let k = gained (Unheld (diagnosis_of x) (unheld_of x)) tt in
+          elim (k.0 ((mem_map told_of walked.found.items (told_of x)).1 (x, a, refl))) [
+            | inl o ↦ absurd (none_first told_of (told_of x) o)
+            | inr f ↦ inr (told_unheld w (diagnosis_of x) (unheld_of x) f)
+          ]
+      | inr q ↦ inl (q.0, q.1, q.2.0, q.2.1)
+    ]

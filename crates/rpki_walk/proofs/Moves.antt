@@ -1,5 +1,5 @@
 -- What is said by one set of numbers is said by another that has them, too.
-use Rattle.std.proofs.Common.{ℕ, List}
+use Rattle.std.proofs.Common.{ℕ, List, [], ◌∷◌}
 use Rattle.rpki_walk.specs.resources_chain.Claims.{Choice, FitsIn}
 use Rattle.rpki_walk.specs.resources_chain.declared.claims.Overclaim.{Overclaim}
 use Rattle.rpki_walk.specs.resources_chain.declared.claims.Overclaim.TheVariants.{Refuse, Trim}

@@ -75,7 +75,7 @@ module _ (h k : Kind → ℕ → Type 0) (e : (i : Kind) (n : ℕ) → h i n ↔
         λ q. s.1 (q.0, λ z. q.1 (there i n z)),
       );
     };
-    some = (u.some.0, u.some.1, λ z. u.some.2 (back i u.some.0 z));
+    some = (u.some.0, (u.some.1.0, λ z. u.some.1.1 (back i u.some.0 z)));
   }
 
   list_tells_to : (w : World) (ca : Cert) (t : ListTest) (numbers : List Run) → ListTells w h ca t numbers → ListTells w k ca t numbers
@@ -115,10 +115,10 @@ module _ (h k : Kind → ℕ → Type 0) (e : (i : Kind) (n : ℕ) → h i n ↔
   file_tells_to w uri (ObjectFails t) numbers f = object_tells_to w uri t numbers f
 
   -- What is wrong at the end of a chain, and the numbers that this tells.
-  point_end_to : (w : World) (path : PathValue) (uri : List ℕ) (ca : Cert) (d : DiagnosisValue) → DiagnosesPoint w h path uri ca d → DiagnosesPoint w k path uri ca d
+  abbrev point_end_to : (w : World) (path : PathValue) (uri : List ℕ) (ca : Cert) (d : DiagnosisValue) → DiagnosesPoint w h path uri ca d → DiagnosesPoint w k path uri ca d
   point_end_to w path uri ca d f = record { reason = f.reason; fails = point_to w ca f.reason f.fails; is = f.is }
 
-  file_end_to : (w : World) (on : List (List ℕ)) (path : PathValue) (ca : Cert) (d : DiagnosisValue) → DiagnosesFile w h on path ca d → DiagnosesFile w k on path ca d
+  abbrev file_end_to : (w : World) (on : List (List ℕ)) (path : PathValue) (ca : Cert) (d : DiagnosisValue) → DiagnosesFile w h on path ca d → DiagnosesFile w k on path ca d
   file_end_to w on path ca d f = record {
     point = f.point;
     stands = stands_to h k there w ca f.point f.stands;

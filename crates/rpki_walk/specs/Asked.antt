@@ -6,7 +6,8 @@ use Rattle.rpki_rules.specs.Kinds.{Kind}
 use Rattle.rpki_rules.specs.World.{World}
 use Rattle.rpki_rules.specs.Points.{Point}
 use Rattle.rpki_rules.specs.Chains.{StandsIn}
-use Rattle.rpki_rules.specs.LocatorReasons.{LocatorReason, LocatorFails}
+use Rattle.rpki_rules.specs.declared.reason.locators.LocatorReason.{LocatorReason}
+use Rattle.rpki_rules.specs.LocatorReasons.{LocatorFails}
 use Rattle.rpki_rules.specs.PointReasons.{PointFails}
 use Rattle.rpki_rules.specs.FileReasons.{FileReason, FileFails}
 use Rattle.rpki_rules.specs.declared.reason.points.PointReason.{PointReason as CodePointReason}

@@ -28,9 +28,13 @@ fn check_signed<V: Verifier>(
     ensures asked { V.count verifier.new ≤ V.count verifier.old + 1 }
 {
     let valid = cert.verify_validity(index.moment());
-    test_told(valid)?;
+    if let Err(test) = test_told(valid) {
+        return Err(test);
+    }
     let claimed = cert.verify_issuer_claim(issuer);
-    test_told(claimed)?;
+    if let Err(test) = test_told(claimed) {
+        return Err(test);
+    }
     let signed = cert.verify_signature(issuer, verifier);
     test_told(signed)
 }
@@ -50,9 +54,10 @@ pub fn check_authority_cert<D: Digester, V: Verifier>(
     ensures same { V.says verifier.new ≡ V.says verifier.old }
     ensures asked { V.count verifier.new ≤ V.count verifier.old + 1 }
 {
-    cert.inspect_ca(true, digester)
-        .map_err(CertTest::Inspection)?;
-    check_signed(cert, issuer, index, verifier).map_err(CertTest::Verification)
+    match cert.inspect_ca(true, digester) {
+        Ok(()) => check_signed(cert, issuer, index, verifier).map_err(CertTest::Verification),
+        Err(test) => Err(CertTest::Inspection(test)),
+    }
 }
 
 /// Whether the certificate has the form of a published object's, and the issuer signed it; else the first test that fails.
@@ -70,7 +75,8 @@ pub fn check_object_cert<D: Digester, V: Verifier>(
     ensures same { V.says verifier.new ≡ V.says verifier.old }
     ensures asked { V.count verifier.new ≤ V.count verifier.old + 1 }
 {
-    cert.inspect_ee(true, digester)
-        .map_err(CertTest::Inspection)?;
-    check_signed(cert, issuer, index, verifier).map_err(CertTest::Verification)
+    match cert.inspect_ee(true, digester) {
+        Ok(()) => check_signed(cert, issuer, index, verifier).map_err(CertTest::Verification),
+        Err(test) => Err(CertTest::Inspection(test)),
+    }
 }

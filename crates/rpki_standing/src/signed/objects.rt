@@ -1,10 +1,11 @@
 //! What is asked of any signed object (RFC 6488 3).
 
-ghost use Rattle.std.specs.Prelude.{◌≡◌, ◌+◌, ◌≤◌, IfOk};
+ghost use Rattle.std.specs.Prelude.{◌≡◌, ◌+◌, ◌≤◌, IfOk, Some};
+ghost use Rattle.certs_verify.specs.certs_x509.declared.errors.verification.VerificationError.TheVariants as told;
 ghost use Rattle.certs_verify.specs.TestAnswers.{Answers};
 ghost use Rattle.rpki_standing.specs.certs_key.Digesting.{digests_of};
 ghost use Rattle.rpki_standing.specs.rpki_bundle.Bundle.{BundleValue};
-ghost use Rattle.rpki_standing.specs.Tests.{content_error};
+ghost use Rattle.rpki_rules.specs.declared.reason.certs.ContentTest.TheVariants.{Digest, Signature, SigningTime};
 ghost use Rattle.rpki_rules.specs.Reasons.{PassesContent, content_tests};
 ghost use Rattle.rpki_rules.specs.World.{world_of};
 
@@ -14,15 +15,17 @@ use objects_cms::verify::verify_content;
 use rpki_rules::reason::ContentTest;
 use std::alloc::{AllocError, Global};
 
-// The test of a content that the error tells. All others say that there was no memory.
-fn failed_test(error: &VerificationError) -> Result<ContentTest, AllocError>
-    ensures { IfOk result (λ test. error.now ≡ content_error test) }
+// The test of a content that the error tells; none where memory was wanted, nor of a certificate's.
+fn content_test(error: &VerificationError) -> Option<ContentTest>
+    ensures digest { result ≡ Some Digest → error.now ≡ told.MessageDigest }
+    ensures time { result ≡ Some SigningTime → error.now ≡ told.SigningTime }
+    ensures signature { result ≡ Some Signature → error.now ≡ told.BadSignature }
 {
     match error {
-        VerificationError::MessageDigest => Ok(ContentTest::Digest),
-        VerificationError::SigningTime => Ok(ContentTest::SigningTime),
-        VerificationError::BadSignature => Ok(ContentTest::Signature),
-        _ => Err(AllocError),
+        VerificationError::MessageDigest => Some(ContentTest::Digest),
+        VerificationError::SigningTime => Some(ContentTest::SigningTime),
+        VerificationError::BadSignature => Some(ContentTest::Signature),
+        _ => None,
     }
 }
 
@@ -51,9 +54,9 @@ pub fn check_content<D: Digester, V: Verifier>(
     );
     match verified {
         Ok(()) => Ok(Ok(())),
-        Err(error) => {
-            let test = failed_test(&error)?;
-            Ok(Err(test))
-        }
+        Err(error) => match content_test(&error) {
+            Some(test) => Ok(Err(test)),
+            None => Err(AllocError),
+        },
     }
 }

@@ -1,6 +1,6 @@
 //! What is wrong at the ends of accepted chains.
 
-ghost use Rattle.std.specs.Prelude.{◌≡◌, [], OnOk, IfOk};
+ghost use Rattle.std.specs.Prelude.{◌≡◌, [], ℕ, List, OnOk, IfOk};
 ghost use Rattle.rpki_rules.specs.Words.{Mem};
 ghost use Rattle.rpki_rules.specs.Kinds.{InSet};
 ghost use Rattle.rpki_rules.specs.Points.{files};
@@ -53,6 +53,36 @@ fn judged_file<S: Diagnosing>(
     }
 }
 
+// Adds what is wrong with the files of a point that was read of the authority.
+fn judge_files<S: Diagnosing>(
+    alloc: Global,
+    repository: &mut S,
+    found: &mut Vec<Diagnosis>,
+    path: &Rc<Path>,
+    keys: &[Bytes],
+    ca: &S::Authority,
+    point: &S::Point,
+) -> Result<(), AllocError>
+    requires { S.listed point.now ≡ files (S.cert ca.now) (S.point point.now).manifest }
+    ensures wrong { OnOk result (Adds diagnosis_of found.old.items (λ d. (u : List ℕ)
+        × Mem (files (S.cert ca.now) (S.point point.now).manifest) u
+        × DiagnosesAt (S.world repository.old) (InSet (S.sets ca.now)) keys.now
+        (path_of path.now.value) (S.cert ca.now) (S.point point.now) u d) found.new.items) }
+    ensures told { OnOk result (Adds told_of found.old.items (λ t. (u : List ℕ)
+        × Mem (files (S.cert ca.now) (S.point point.now).manifest) u
+        × TellsAt (S.world repository.old) (InSet (S.sets ca.now)) keys.now
+        (path_of path.now.value) (S.cert ca.now) (S.point point.now) u t) found.new.items) }
+    ensures same { S.world repository.new ≡ S.world repository.old }
+    ensures lender { S.lender repository.new ≡ S.lender repository.old }
+{
+    for file in repository.uris(ca, point) {
+        if let Some(wrong) = judged_file(alloc, repository, path, keys, ca, point, file)? {
+            found.push(wrong)?;
+        }
+    }
+    Ok(())
+}
+
 // Adds what is wrong with a point, or with its files.
 fn judge_end<S: Diagnosing>(
     alloc: Global,
@@ -73,19 +103,14 @@ fn judge_end<S: Diagnosing>(
     ensures same { S.world repository.new ≡ S.world repository.old }
     ensures lender { S.lender repository.new ≡ S.lender repository.old }
 {
-    let point = match repository.judged_point(alloc, ca)? {
-        Ok(point) => point,
+    match repository.judged_point(alloc, ca)? {
+        Ok(point) => judge_files(alloc, repository, found, path, keys, ca, &point),
         Err(reason) => {
-            found.push(Diagnosis::new(uri.clone()?, path.clone()?, Reason::Point(reason)))?;
-            return Ok(());
-        }
-    };
-    for file in repository.uris(ca, &point) {
-        if let Some(wrong) = judged_file(alloc, repository, path, keys, ca, &point, file)? {
+            let wrong = Diagnosis::new(uri.clone()?, path.clone()?, Reason::Point(reason));
             found.push(wrong)?;
+            Ok(())
         }
     }
-    Ok(())
 }
 
 impl<S: Diagnosing> Visitor<S> for Judged {

@@ -5,7 +5,7 @@ use Rattle.rpki_rules.specs.Views.{path_of}
 use Rattle.rpki_rules.specs.Diagnoses.{DiagnosisValue}
 use Rattle.rpki_rules.specs.DiagnosisViews.{diagnosis_of}
 use Rattle.rpki_walk.specs.Diagnosed.{DiagnosesAt, ToldValue, TellsAt, Adds, told_of}
-use Rattle.rpki_walk.proofs.diagnosis.judged.judge_end.Given as goal
+use Rattle.rpki_walk.proofs.diagnosis.judged.judge_files.Given as goal
 
 abbrev pub invariant-loop-file : goal.invariant-loop-file
 invariant-loop-file g l = record {
