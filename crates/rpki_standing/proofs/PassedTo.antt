@@ -1,8 +1,9 @@
 -- The first of tests that ask the same, and tests of things of a list that are gone through one after another.
-use Rattle.std.proofs.Common.{◌≡◌, ◌↔◌, List, [], ◌∷◌, ◌++◌, flat_map, refl, sym, ap, ◌∙◌, subst, append_assoc, append-nil}
+use Rattle.std.proofs.Common.{◌≡◌, ◌↔◌, List, [], ◌∷◌, ◌++◌, flat_map, Result, Ok, Err, refl, sym, ap, ◌∙◌, subst, append_assoc, append-nil}
 use Rattle.rpki_standing.specs.certs_basics.Lists.{Each, FirstFailing}
-use Rattle.rpki_rules.proofs.FirstParts.{first_flat}
+use Rattle.rpki_rules.proofs.FirstParts.{first_behind, first_flat}
 use Rattle.rpki_rules.proofs.Firsts.{each_also, each_join, each_split}
+use Rattle.rpki_standing.specs.Tests.{Tells}
 
 -- Of tests that ask the same.
 each_turn : {X : Type 0} (P Q : X → Type 0) (xs : List X) → Each (λ (z : X). P z ↔ Q z) xs → Each P xs → Each Q xs
@@ -46,3 +47,8 @@ pub failed_next : {X Y : Type 0} (g : X → List Y) (P : X → Type 0) (Q : Y �
 failed_next {X} g P Q all left others x y also e h f =
     subst (λ (zs : List X). FirstFailing Q (flat_map g zs) y) (sym (h.whole ∙ ap (λ (zs : List X). h.front ++ zs) e))
     (first_flat g Q h.front x others y (each_also P (λ z. Each Q (g z)) h.front also h.passed) f)
+
+-- A test before the others is passed.
+pub told_behind : {A E X : Type 0} (test_of : E → X) (P : X → Type 0) (x : X) (ts : List X) (r : Result A E) → P x → Tells test_of P ts r → Tells test_of P (x ∷ ts) r
+told_behind test_of P x ts (Ok a) p told = (p, told)
+told_behind test_of P x ts (Err e) p told = first_behind P (x ∷ []) ts (test_of e) (p, tt) told

@@ -9,7 +9,7 @@ use Rattle.rpki_rules.specs.declared.reason.points.ManifestTest.{ManifestTest}
 use Rattle.rpki_rules.proofs.FirstParts.{first_here}
 use Rattle.rpki_standing.specs.Tests.{Tells}
 use Rattle.rpki_standing.proofs.Failing.{if_ok}
-use Rattle.rpki_standing.proofs.TestsTold.{told_behind}
+use Rattle.rpki_standing.proofs.PassedTo.{told_behind}
 use Rattle.rpki_standing.proofs.points.files.check_files.Goals as goal
 
 pub returns-then-not-branch : goal.returns-then-not-branch
