@@ -91,7 +91,7 @@ module _ (w : World) (l : Locator) where
       refuted (BadAnchor t) n = led n
 
 -- The locator at a place.
-locator_there : (w : World) (at : ℕ) (ls : List Locator) (l : Locator) → ls ≡ w.locators → at < length w.locators → l ≡ get_or ls at l → l ≡ locator_at w at
+pub locator_there : (w : World) (at : ℕ) (ls : List Locator) (l : Locator) → ls ≡ w.locators → at < length w.locators → l ≡ get_or ls at l → l ≡ locator_at w at
 locator_there w at ls l same inside is =
     let none : Locator = record { name = []; text = [] } in
     let here : l ≡ get_or w.locators at l = subst (λ (xs : List Locator). l ≡ get_or xs at l) same is in
