@@ -1,5 +1,6 @@
 -- Files of a publication point that attest something.
 use Rattle.std.proofs.Common.{◌≡◌, ◌↔◌, ◌⊎◌, ◌∷◌, ◌++◌, ◌∙◌, [], ℕ, Bool, true, false, IsTrue, List, map, Result, Ok, Err, refl, sym, ap, subst}
+use Rattle.std.specs.Prelude.{IfErr}
 use Rattle.rpki_steps.specs.Holders.{cert_of, sets_of}
 use Rattle.rpki_steps.specs.certs_basics.Lists.{Each, FirstFailing}
 use Rattle.rpki_steps.specs.certs_verify.Holders.{ResourceCertValue}
@@ -135,6 +136,12 @@ claim_unheld w held uri o x c t e h u = λ q y k.
   where
     same_payload_there : (q : Object) (y : Payload) → HasPayload w uri q y → o ≡ q
     same_payload_there q y k = (one_reading w uri o q x y h k).0
+
+-- What is said of whatever is held is said of this.
+pub cover_unheld : (above : Resources) (o : Object) (x : Payload) (r : Result (Unit {0}) Told) → IfErr r (λ t. (w : World) (held : Resources) (uri : List ℕ) → ObjectUnheld w (InSet held) uri t)
+    → IfErr r (λ t. (w : World) (uri : List ℕ) → HasPayload w uri o x → ObjectUnheld w (InSet above) uri t)
+cover_unheld above o x (Ok y) h = tt
+cover_unheld above o x (Err t) h = λ w uri k. h w above uri
 
 module _ (w : World) (ca : ResourceCertValue) (p : Point) (uri : List ℕ) where
   -- No object is sound there.

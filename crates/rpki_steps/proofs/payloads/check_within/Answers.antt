@@ -1,7 +1,7 @@
 use Rattle.rpki_steps.specs.Holders.{cert_of, sets_of}
 use Rattle.rpki_rules.specs.Kinds.{InSet}
 use Rattle.rpki_standing.specs.Views.{payload_of}
-use Rattle.rpki_steps.proofs.PayloadFiles.{claim_fails, claim_unheld, cover_told}
+use Rattle.rpki_steps.proofs.PayloadFiles.{claim_fails, claim_unheld, cover_told, cover_unheld}
 use Rattle.rpki_steps.proofs.payloads.check_within.Goals as goal
 
 pub returns-in-Ok-clause-told : goal.returns-in-Ok-clause-told
@@ -11,7 +11,7 @@ returns-in-Ok-clause-told c = λ w p.
     (c.check_cover.ensures.told w (sets_of c.args.ca.now) (cert_of c.args.ca.now) p c.args.object.now.object (rw c.cert.ensures at h.1))
 
 pub returns-in-Ok-clause-unheld : goal.returns-in-Ok-clause-unheld
-returns-in-Ok-clause-unheld c = ?
+returns-in-Ok-clause-unheld c = cover_unheld (sets_of c.args.ca.now) c.args.object.now.object c.args.object.now.payload c.check_cover.result c.check_cover.ensures.unheld
 
 pub returns-in-Err-clause-told : goal.returns-in-Err-clause-told
 returns-in-Err-clause-told c = λ w p.

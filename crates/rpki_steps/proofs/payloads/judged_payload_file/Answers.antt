@@ -6,6 +6,7 @@ use Rattle.rpki_rules.specs.Points.{files}
 use Rattle.rpki_rules.specs.Words.{Mem}
 use Rattle.rpki_rules.specs.World.{world_of}
 use Rattle.rpki_standing.specs.Published.{FindsObject}
+use Rattle.rpki_standing.proofs.Soundness.{reading_of}
 use Rattle.rpki_steps.proofs.PayloadFiles.{good, no_object, not_within}
 use Rattle.rpki_steps.proofs.payloads.judged_payload_file.Goals as goal
 
@@ -37,4 +38,5 @@ returns-in-Err-2-clause-judged g c =
     let uri = c.args.uri.now in
     let ca : c.as_cert-cert.result.now ≡ cert_of c.args.ca.now = c.as_cert-cert.ensures ∙ ap cert_of c.verified-ca.ensures.cert in
     let found = subst (λ (x : Cert). Mem (files x p.manifest) uri → FindsObject w x p uri c.in_ok-object.field-0) ca (c.in_ok-object.ensures.found p (sym c.manifest_cert-ee.ensures) (sym c.crl-crl.ensures)) in
-    λ e l. not_within w c.args.ca.now p uri c.in-Ok.object (rw c.in-Ok.is at (found l)) c.in-Err-2.test ((rw (c.verified-ca.ensures.cert, c.in-Err-2.is) at c.in_ok-check_within.ensures.told) w p) ?
+    λ e l. not_within w c.args.ca.now p uri c.in-Ok.object (rw c.in-Ok.is at (found l)) c.in-Err-2.test ((rw (c.verified-ca.ensures.cert, c.in-Err-2.is) at c.in_ok-check_within.ensures.told) w p)
+    ((rw (c.verified-ca.ensures.cert, c.in-Err-2.is) at c.in_ok-check_within.ensures.unheld) w uri (reading_of w (cert_of c.args.ca.now) p uri c.in-Ok.object.object c.in-Ok.object.payload (rw c.in-Ok.is at (found l))))
