@@ -14,7 +14,6 @@ pub mod FileLemmas
 pub mod NameLemmas
 pub mod PayloadFiles
 pub mod PointLemmas
-pub mod JudgedPoints
 pub mod WholeLemmas
 pub mod AcceptedClaims
 pub mod FoundBelow
