@@ -10,7 +10,7 @@ use Rattle.rpki_steps.specs.certs_basics.Lists.{FirstFailing}
 use Rattle.rpki_steps.specs.certs_verify.Holders.{ResourceCertValue}
 use Rattle.rpki_steps.specs.declared.anchors.TrustAnchor.{TrustAnchor}
 use Rattle.rpki_standing.specs.rpki_bundle.declared.parts.Locator.{Locator}
-use Rattle.objects_payload.specs.declared.locator.error.ReadError.{ReadError}
+use Rattle.rpki_standing.specs.objects_payload.declared.locator.error.ReadError.{ReadError}
 use Rattle.rpki_rules.specs.Certs.{Cert, CertText, Key}
 use Rattle.rpki_rules.specs.declared.reason.locators.LocatorReason.TheVariants.{BadText, NoneHeld, NoCert, BadAnchor}
 use Rattle.rpki_rules.specs.LocatorReasons.{LocatorFails, LeadsTo as LeadsToOctets, PassesAnchor, tests_of_anchors}

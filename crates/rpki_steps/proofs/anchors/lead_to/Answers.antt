@@ -4,8 +4,8 @@ use Rattle.rpki_rules.specs.Kinds.{Ipv4}
 use Rattle.rpki_steps.proofs.AnchorLemmas.{is_anchor, no_anchor}
 use Rattle.rpki_steps.proofs.anchors.lead_to.Goals as goal
 
-pub new-requires : goal.new-requires
-new-requires g c =
+pub new-authority-requires : goal.new-authority-requires
+new-authority-requires g c =
     let r = c.in-Ok.anchor in
     let a = rw c.in-Ok.is at c.in_ok-anchor.ensures.found in
     let law = c.addresses_are_whole.ensures in
