@@ -1,11 +1,11 @@
 //! What stands at a publication point.
 
-ghost use Rattle.std.specs.Prelude.{◌≡◌, ◌+◌, ◌≤◌, IfOk, option_copied};
+ghost use Rattle.std.specs.Prelude.{◌≡◌, ◌+◌, ◌≤◌, IfErr, IfOk, option_copied};
 ghost use Rattle.rpki_standing.specs.certs_key.Digesting.{digests_of};
 ghost use Rattle.rpki_rules.specs.World.{world_of};
-ghost use Rattle.rpki_standing.specs.Standing.{FindsPoint};
+ghost use Rattle.rpki_standing.specs.PointFaults.{FailsUnheld};
+ghost use Rattle.rpki_standing.specs.Standing.{IsStanding};
 
-use crate::kept::keep_with;
 use crate::manifests::find_manifest;
 use crate::parts::find_parts;
 use crate::points::{Crl, Rsync};
@@ -13,6 +13,7 @@ use crate::signed::{Cert, Digester, Verifier};
 use crate::table::Index;
 use bytes::Bytes;
 use objects_valid::kinds::Manifest;
+use rpki_rules::reason::PointReason;
 use std::alloc::{AllocError, Global};
 use std::marker::Model;
 
@@ -70,32 +71,42 @@ impl Point {
     }
 }
 
-/// What stands at the authority's publication point, what the manifest's certificate claims apart; nothing where the point is
-/// refused (RFC 9286 6.2 to 6.6). The verifier is asked three times, at most: for the manifest's certificate, for its
-/// content, and for the revocation list.
+/// What stands at the authority's publication point, what the manifest's certificate claims apart; else why the point is
+/// refused: the first test that fails (RFC 9286 6.2 to 6.6). The verifier is asked three times, at most: for the manifest's
+/// certificate, for its content, and for the revocation list.
 pub fn point_unheld<D: Digester, V: Verifier>(
     alloc: Global,
     ca: &Cert,
     index: &Index<'_>,
     digester: &D,
     verifier: &mut V,
-) -> Result<Option<Point>, AllocError>
-    ensures found { IfOk result (FindsPoint (world_of
+) -> Result<Result<Point, PointReason>, AllocError>
+    ensures found { IfOk result (λ told. IfOk told (IsStanding (world_of
         (digests_of D.sha256_digest D.sha1_digest digester.now) (V.says verifier.old) index.now)
-        ca.now) }
+        ca.now)) }
+    ensures refused { IfOk result (λ told. IfErr told (FailsUnheld (world_of
+        (digests_of D.sha256_digest D.sha1_digest digester.now) (V.says verifier.old) index.now)
+        ca.now)) }
     ensures same { V.says verifier.new ≡ V.says verifier.old }
     ensures asked { V.count verifier.new ≤ V.count verifier.old + 3 }
 {
-    let Some(manifest) = find_manifest(alloc, ca, index, digester, verifier)? else {
-        return Ok(None);
+    let manifest = match find_manifest(alloc, ca, index, digester, verifier)? {
+        Ok(manifest) => manifest,
+        Err(reason) => return Ok(Err(reason)),
     };
-    let found = find_parts(alloc, ca, &manifest, index, digester, verifier);
-    let Some((manifest, (keys, crl))) = keep_with(manifest, found)? else {
-        return Ok(None);
-    };
-    Ok(Some(Point {
-        manifest,
-        keys,
-        crl,
-    }))
+    match find_parts(alloc, ca, &manifest, index, digester, verifier) {
+        Ok(Ok((keys, crl))) => Ok(Ok(Point {
+            manifest,
+            keys,
+            crl,
+        })),
+        Ok(Err(reason)) => {
+            drop(manifest);
+            Ok(Err(reason))
+        }
+        Err(error) => {
+            drop(manifest);
+            Err(error)
+        }
+    }
 }

@@ -3,15 +3,13 @@ use Rattle.std.proofs.Common.{◌≡◌, ◌∙◌, ℕ, List, Option, Some, Non
 use Rattle.std.specs.Prelude.{IfOk}
 use Rattle.rpki_standing.specs.objects_valid.Kinds.{KindValue}
 use Rattle.rpki_standing.specs.rpki_bundle.Bundle.{BundleValue}
-use Rattle.rpki_standing.specs.Crls.{Finds}
 use Rattle.rpki_rules.specs.Certs.{Cert, Crl, Digests, Verdicts}
 use Rattle.rpki_rules.specs.Objects.{Manifest}
 use Rattle.rpki_rules.specs.Points.{HasFiles, IsCrlOf, files}
 use Rattle.rpki_rules.specs.World.{find_object, world_of}
-use Rattle.rpki_standing.specs.Standing.{HasNoParts}
 use Rattle.rpki_steps.specs.declared.places.files.File.{File}
 use Rattle.rpki_steps.specs.PlaceFiles.{AreFilesOf, NoFilesOf}
-use Rattle.rpki_steps.specs.Parts.{AreHeld, ArePartsOf, HasNoList, IsNamedList}
+use Rattle.rpki_steps.specs.Parts.{AreHeld, ArePartsOf, HasNoList, HasNoParts, IsNamedList}
 use Rattle.rpki_steps.proofs.Repository.{files_there}
 
 -- A value that was kept with what was found.
@@ -36,20 +34,6 @@ module _ {K V E : Type 0} (d : Digests) (b : BundleValue) (ca : Cert) (m : Manif
         keys_are = ap keys_of kept.0 ∙ (has v).1;
         files_are = subst (λ (f : Result (Option V) E). IfOk f (λ o. MatchOption o (NoFilesOf (find_object b.objects) ca m) (λ x. AreFilesOf (find_object b.objects) ca m (files_of x)))) kept.1 told;
       }
-
--- The revocation list, with its URI.
-module _ {E : Type 0} (good : Verdicts) (b : BundleValue) (ca : Cert) (k : KindValue Manifest) where
-  pub list_told : (uri named : List ℕ) (found : Result (Option Crl) E) (r : Result (Option (List ℕ × Crl)) E)
-      → k.signed.cert.tbs.crl_uri ≡ Some named → uri ≡ named
-      → IfOk found (λ o. (d : Digests) → Finds (IsCrlOf (world_of d good b) ca k.signed k.content) o)
-      → IsKeptWith uri found r
-      → IfOk r (λ kept. (d : Digests) → MatchOption kept (HasNoList (world_of d good b) ca k) (λ p. IsNamedList (world_of d good b) ca k p.0 p.1))
-  list_told uri named found (Err e) is same told kept = tt
-  list_told uri named found (Ok None) is same told kept =
-      subst (λ (f : Result (Option Crl) E). IfOk f (λ o. (d : Digests) → Finds (IsCrlOf (world_of d good b) ca k.signed k.content) o)) kept told
-  list_told uri named found (Ok (Some p)) is same told kept = λ d.
-      let list = subst (λ (f : Result (Option Crl) E). IfOk f (λ o. (e : Digests) → Finds (IsCrlOf (world_of e good b) ca k.signed k.content) o)) kept.1 told in
-      record { list = list d; uri_is = is ∙ ap (λ (u : List ℕ). Some u) (sym (kept.0 ∙ same)) }
 
 -- Both.
 module _ {V E : Type 0} (d : Digests) (good : Verdicts) (b : BundleValue) (ca : Cert) (k : KindValue Manifest) (files_of : V → List File) where

@@ -1,3 +1,4 @@
+mod Claimed
 mod Plain
 mod Spelled
 mod Unheld
@@ -6,7 +7,6 @@ mod Repository
 mod Found
 mod Stands
 mod Told
-mod Claimed
 pub mod AnchorLemmas
 pub mod CertFiles
 pub mod ClaimLemmas
@@ -15,12 +15,10 @@ pub mod NameLemmas
 pub mod PayloadFiles
 pub mod PointLemmas
 pub mod WholeLemmas
-pub mod Firsts
 pub mod AcceptedClaims
 pub mod FoundBelow
 pub mod FoundAnchor
-pub mod Children
-pub mod AcceptedOrNone
+pub mod Refusing
 mod Passing
 mod Named
 mod Looked

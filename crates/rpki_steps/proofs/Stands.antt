@@ -9,11 +9,11 @@ use Rattle.rpki_rules.specs.Kinds.{Kind}
 use Rattle.rpki_rules.specs.Points.{IsPoint, Point}
 use Rattle.rpki_rules.specs.World.{World}
 use Rattle.rpki_standing.specs.Manifests.{IsOwnManifest}
-use Rattle.rpki_standing.proofs.OwnManifests.{one_read, own_read}
+use Rattle.rpki_standing.proofs.OwnManifests.{one_read, own_has}
 use Rattle.rpki_steps.specs.declared.places.files.File.{File}
 use Rattle.rpki_steps.specs.declared.places.standing.Point.{Point as Place}
 use Rattle.rpki_steps.specs.PlaceFiles.{AreFilesOf}
-use Rattle.rpki_steps.specs.Parts.{ArePartsOf}
+use Rattle.rpki_steps.specs.Parts.{ArePartsOf, HasNoParts}
 use Rattle.rpki_steps.specs.Places.{FindsPoint, IsStandingPlace}
 
 -- A manifest of the authority, with its parts, makes a point that stands.
@@ -32,12 +32,19 @@ module _ (w : World) (ca : Cert) (k : KindValue Manifest) (own : IsOwnManifest w
     };
   }
 
+-- Without its parts there is no point.
+pub no_parts : (w : World) (ca : Cert) (k : KindValue Manifest) → IsOwnManifest w ca k → HasNoParts w ca k → (p : Point) → IsPoint w ca p → ⊥
+no_parts w ca k own none p is =
+    let j : KindValue Manifest = record { signed = p.object; content = p.manifest } in
+    let same : k ≡ j = one_read w ca k j (own_has w ca k own) (own_has w ca j is.manifest) in
+    (subst (HasNoParts w ca) same none) is.files p.crl is.crl
+
 -- All that stands at an authority's point has one manifest.
 same_cert : (w : World) (ca : Cert) (p q : Point) → IsPoint w ca p → IsPoint w ca q → p.object.cert ≡ q.object.cert
 same_cert w ca p q a b =
     let j : KindValue Manifest = record { signed = p.object; content = p.manifest } in
     let k : KindValue Manifest = record { signed = q.object; content = q.manifest } in
-    ap (λ (m : KindValue Manifest). m.signed.cert) (one_read w ca j k (own_read w ca j a.manifest) (own_read w ca k b.manifest))
+    ap (λ (m : KindValue Manifest). m.signed.cert) (one_read w ca j k (own_has w ca j a.manifest) (own_has w ca k b.manifest))
 
 -- By what the authority holds.
 module _ (w : World) (held : Kind → ℕ → Type 0) (ca : Cert) where

@@ -1,6 +1,5 @@
 pub mod PlaceFiles
 pub mod Parts
-pub mod PlaceClaims
 pub mod Places
 pub mod Anchors
 pub mod Claims
@@ -10,7 +9,7 @@ pub mod Points
 pub mod Holders
 pub mod Below
 pub mod Anchored
-pub mod AcceptedOrNone
+pub mod Accepted
 pub mod ClimbAnchors
 -- What stands below, for the crates above.
 pub use Rattle.rpki_standing.specs.certs_key as certs_key

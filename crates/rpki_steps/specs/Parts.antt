@@ -18,6 +18,10 @@ pub record AreHeld (w : World) (ca : Cert) (m : Manifest) (keys : List (List ℕ
 abbrev pub HasNoList : World → Cert → KindValue Manifest → Type 0
 HasNoList w ca k = (crl : Crl) → ¬ (IsCrlOf w ca k.signed k.content crl)
 
+-- The manifest's files aren't held as listed, or there is no such revocation list.
+abbrev pub HasNoParts : World → Cert → KindValue Manifest → Type 0
+HasNoParts w ca k = HasFiles w ca k.content → HasNoList w ca k
+
 -- The revocation list is the one that the manifest's certificate names, and this is how it is named.
 pub record IsNamedList (w : World) (ca : Cert) (k : KindValue Manifest) (uri : List ℕ) (crl : Crl) : Type 0 where
   pub list : IsCrlOf w ca k.signed k.content crl

@@ -10,6 +10,7 @@ pub mod authority;
 pub mod certs;
 pub mod claims;
 pub mod climb;
+pub mod diagnosing;
 pub mod files;
 pub mod names;
 pub mod naming;

@@ -45,7 +45,7 @@ fn keys_of(alloc: Global, uris: &[TalUri]) -> Result<Vec<Bytes>, AllocError>
 pub fn locator_keys(alloc: Global, locator: &Locator) -> Result<Option<Vec<Bytes>>, AllocError>
     ensures { IfOk result (AreLocatorKeys locator.now) }
 {
-    let Some(tal) = read_locator_text(alloc, locator)? else {
+    let Ok(tal) = read_locator_text(alloc, locator)? else {
         return Ok(None);
     };
     let keys = keys_of(alloc, tal.uris())?;
@@ -68,8 +68,8 @@ fn listed_keys(alloc: Global, ca: &Cert, index: &Index<'_>) -> Result<Vec<Bytes>
         → Mem keys.items key ↔ NamesFile (world_of d v index.now) ca.now key) }
 {
     match manifest_at(alloc, ca, index)? {
-        Some(manifest) => keys_by(alloc, ca, manifest.content()),
-        None => Ok(Vec::new(alloc)),
+        Ok(manifest) => keys_by(alloc, ca, manifest.content()),
+        Err(_) => Ok(Vec::new(alloc)),
     }
 }
 

@@ -10,7 +10,7 @@ ghost use Rattle.rpki_steps.specs.Points.{point_of};
 use crate::anchors::read_locator;
 use crate::authority::Authority;
 use crate::files::read_file;
-use crate::points::read_point;
+use crate::points::find_point;
 use bytes::Bytes;
 use certs_verify::{Digester, Verifier};
 use rpki_standing::Point;
@@ -97,7 +97,7 @@ impl<'a, D: Digester, V: Verifier> Repository for BundleRepository<'a, D, V> {
     }
 
     fn read_point(&mut self, alloc: Global, ca: &Authority) -> Result<Option<Point>, AllocError> {
-        read_point(
+        find_point(
             alloc,
             ca.verified(),
             &self.index,

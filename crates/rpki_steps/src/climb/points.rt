@@ -28,7 +28,10 @@ pub fn read_point<D: Digester, V: Verifier>(
     ensures same { V.says verifier.new ≡ V.says verifier.old }
     ensures asked { V.count verifier.new ≤ V.count verifier.old + 3 }
 {
-    point_unheld(alloc, ca, index, digester, verifier)
+    match point_unheld(alloc, ca, index, digester, verifier)? {
+        Ok(point) => Ok(Some(point)),
+        Err(_) => Ok(None),
+    }
 }
 
 /// The object at a file of the authority's point that is sound there, what its certificate claims apart, if it is one. The
@@ -53,5 +56,11 @@ pub fn read_object<D: Digester, V: Verifier>(
         return Ok(None);
     }
     let (ee, crl) = (point.manifest_cert(), point.crl());
-    find_object(alloc, ca, ee, crl, uri, index, digester, verifier)
+    match find_object(alloc, ca, ee, crl, uri, index, digester, verifier)? {
+        Ok(object) => Ok(Some(object)),
+        Err(reason) => {
+            drop(reason);
+            Ok(None)
+        }
+    }
 }

@@ -5,8 +5,7 @@ ghost use Rattle.rpki_standing.specs.certs_key.Digesting.{digests_of};
 ghost use Rattle.rpki_rules.specs.Certs.{Digests, Verdicts};
 ghost use Rattle.rpki_rules.specs.Points.{HasFiles, files as files_by};
 ghost use Rattle.rpki_rules.specs.World.{world_of};
-ghost use Rattle.rpki_standing.specs.Standing.{HasNoParts};
-ghost use Rattle.rpki_steps.specs.Parts.{AreHeld, ArePartsOf, HasNoList, IsNamedList};
+ghost use Rattle.rpki_steps.specs.Parts.{AreHeld, ArePartsOf, HasNoList, HasNoParts, IsNamedList};
 
 use crate::places::files::{File, read_files};
 use crate::places::kept::keep_with;
@@ -14,7 +13,7 @@ use bytes::Bytes;
 use certs_basics::uri::Rsync;
 use rpki_bundle::Bundle;
 use rpki_standing::parts::{held_files, own_list};
-use rpki_standing::{Cert, Crl, Digester, Index, Manifest, ManifestContent, Verifier};
+use rpki_standing::{Cert, Crl, Digester, Index, Manifest, Verifier};
 use std::alloc::{AllocError, Global};
 
 // The lookup keys of the files that the manifest lists, and the files, if they differ by name and each is there as it is
@@ -22,21 +21,21 @@ use std::alloc::{AllocError, Global};
 fn listed_files<D: Digester>(
     alloc: Global,
     ca: &Cert,
-    manifest: &ManifestContent,
+    manifest: &Manifest,
     bundle: &Bundle,
     digester: &D,
 ) -> Result<Option<(Vec<Bytes>, Vec<File>)>, AllocError>
     ensures { IfOk result (λ found. (v : Verdicts) → MatchOption found
         (¬ (HasFiles (world_of (digests_of D.sha256_digest D.sha1_digest digester.now) v bundle.now)
-        ca.now manifest.now))
+        ca.now manifest.now.content))
         (λ p. AreHeld (world_of (digests_of D.sha256_digest D.sha1_digest digester.now) v
-        bundle.now) ca.now manifest.now p.0.items p.1.items)) }
+        bundle.now) ca.now manifest.now.content p.0.items p.1.items)) }
 {
     let index = Index::new(bundle);
-    let Some(keys) = held_files(alloc, ca, manifest, &index, digester)? else {
+    let Ok(keys) = held_files(alloc, ca, manifest, &index, digester)? else {
         return Ok(None);
     };
-    let files = read_files(alloc, ca, manifest, bundle);
+    let files = read_files(alloc, ca, manifest.content(), bundle);
     keep_with(keys, files)
 }
 
@@ -63,8 +62,17 @@ fn named_list<V: Verifier>(
     };
     let uri = named.clone()?;
     let index = Index::new(bundle);
-    let found = own_list(alloc, ca, manifest, keys, &index, verifier);
-    keep_with(uri, found)
+    match own_list(alloc, ca, manifest, keys, &index, verifier) {
+        Ok(Ok(crl)) => Ok(Some((uri, crl))),
+        Ok(Err(_)) => {
+            drop(uri);
+            Ok(None)
+        }
+        Err(error) => {
+            drop(uri);
+            Err(error)
+        }
+    }
 }
 
 /// The files of the authority's point, and its revocation list with its URI, by its manifest; nothing where a file isn't as
@@ -84,7 +92,7 @@ pub(crate) fn find_parts<D: Digester, V: Verifier>(
     ensures same { V.says verifier.new ≡ V.says verifier.old }
     ensures asked { V.count verifier.new ≤ V.count verifier.old + 1 }
 {
-    let Some((keys, files)) = listed_files(alloc, ca, manifest.content(), bundle, digester)? else {
+    let Some((keys, files)) = listed_files(alloc, ca, manifest, bundle, digester)? else {
         return Ok(None);
     };
     let list = named_list(alloc, ca, manifest, keys.as_slice(), bundle, verifier);

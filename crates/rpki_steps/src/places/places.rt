@@ -37,8 +37,13 @@ pub fn point<D: Digester, V: Verifier>(
     let Some(point) = point_unheld(alloc, bundle, ca.as_cert(), digester, verifier)? else {
         return Ok(None);
     };
-    let fits = fits_below(alloc, &point.manifest_cert, ca);
-    Ok(fits.then_some(point))
+    match fits_below(alloc, &point.manifest_cert, ca) {
+        Ok(fits) => Ok(fits.then_some(point)),
+        Err(error) => {
+            drop(point);
+            Err(error)
+        }
+    }
 }
 
 /// What stands at the authority's publication point, what the certificate of its manifest claims apart; nothing where the
@@ -58,7 +63,7 @@ pub fn point_unheld<D: Digester, V: Verifier>(
     ensures asked { V.count verifier.new ≤ V.count verifier.old + 3 }
 {
     let index = Index::new(bundle);
-    let Some(manifest) = find_manifest(alloc, ca, &index, digester, verifier)? else {
+    let Ok(manifest) = find_manifest(alloc, ca, &index, digester, verifier)? else {
         return Ok(None);
     };
     let parts = find_parts(alloc, ca, &manifest, bundle, digester, verifier);

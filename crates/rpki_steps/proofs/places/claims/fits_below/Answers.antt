@@ -2,4 +2,5 @@ use Rattle.rpki_steps.proofs.Claimed.{fits_told}
 use Rattle.rpki_steps.proofs.places.claims.fits_below.Goals as goal
 
 pub returns : goal.returns
-returns c = fits_told c.args.cert.now c.args.ca.now.holder c.claim_of.result c.holding_of.result c.claim_of.ensures c.holding_of.ensures c.claim_fits.result c.claim_fits.ensures
+returns c =
+    fits_told c.args.cert.now c.args.ca.now c.in_ok-told.told c.is_ok.result c.is_ok.ensures.value c.in_ok-told.ensures.told
