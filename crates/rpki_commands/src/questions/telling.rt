@@ -107,14 +107,24 @@ fn report_of(alloc: Global, bundle: &Bundle) -> Result<Report, AllocError>
     walk(alloc, bundle, &Fips, &mut verifier)
 }
 
+// The URI, as a list of one.
+fn alone(alloc: Global, name: &str) -> Result<Vec<Bytes>, AllocError>
+    ensures { IfOk result (λ uris. uris.items ≡ name.now ∷ []) }
+{
+    let mut uris = Vec::new(alloc);
+    let uri = Bytes::copy_from_slice(alloc, name.as_bytes())?;
+    uris.push(uri)?;
+    Ok(uris)
+}
+
 // The accepted chains that name the URI.
 fn chains_of(alloc: Global, bundle: &Bundle, name: &str) -> Result<Vec<Rc<Path>>, AllocError>
     ensures { IfOk result (λ paths. AreNamingChains (name.now ∷ []) (run_world fips bundle.now)
         (map (λ path. path_of path.value) paths.items)) }
 {
+    let uris = alone(alloc, name)?;
     let mut verifier = TableVerifier::new(bundle, &Fips);
-    let uris = [Bytes::copy_from_slice(alloc, name.as_bytes())?];
-    naming_chains(alloc, bundle, &uris, &Fips, &mut verifier)
+    naming_chains(alloc, bundle, uris.as_slice(), &Fips, &mut verifier)
 }
 
 /// Why the URI, or the locator of that name, is attested or refused; a yes where there is a fact.
