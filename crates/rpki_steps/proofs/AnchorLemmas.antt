@@ -10,7 +10,7 @@ use Rattle.rpki_steps.specs.certs_basics.Lists.{FirstFailing}
 use Rattle.rpki_steps.specs.certs_verify.Holders.{ResourceCertValue}
 use Rattle.rpki_steps.specs.declared.anchors.TrustAnchor.{TrustAnchor}
 use Rattle.rpki_standing.specs.rpki_bundle.declared.parts.Locator.{Locator}
-use Rattle.objects_payload.specs.declared.locator.error.ReadError.{ReadError}
+use Rattle.rpki_standing.specs.objects_payload.declared.locator.error.ReadError.{ReadError}
 use Rattle.rpki_rules.specs.Certs.{Cert, CertText, Key}
 use Rattle.rpki_rules.specs.declared.reason.locators.LocatorReason.TheVariants.{BadText, NoneHeld, NoCert, BadAnchor}
 use Rattle.rpki_rules.specs.LocatorReasons.{LocatorFails, LeadsTo as LeadsToOctets, PassesAnchor, tests_of_anchors}
@@ -91,7 +91,7 @@ module _ (w : World) (l : Locator) where
       refuted (BadAnchor t) n = led n
 
 -- The locator at a place.
-locator_there : (w : World) (at : ℕ) (ls : List Locator) (l : Locator) → ls ≡ w.locators → at < length w.locators → l ≡ get_or ls at l → l ≡ locator_at w at
+pub locator_there : (w : World) (at : ℕ) (ls : List Locator) (l : Locator) → ls ≡ w.locators → at < length w.locators → l ≡ get_or ls at l → l ≡ locator_at w at
 locator_there w at ls l same inside is =
     let none : Locator = record { name = []; text = [] } in
     let here : l ≡ get_or w.locators at l = subst (λ (xs : List Locator). l ≡ get_or xs at l) same is in

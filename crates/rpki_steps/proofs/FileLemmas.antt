@@ -166,11 +166,14 @@ module _ (w : World) (ca : ResourceCertValue) (on : List (List ℕ)) (p : Point)
   child_told a depth (Some told.BadObject) e h t = absurd t
   child_told a depth (Some (told.ObjectFails x)) e h t = absurd t
 
-  pub other_told : (f : FileKind ResourceCertValue Payload) → ((a : ResourceCertValue) → f ≡ Is.Child a → ⊥) → JudgesFile w ca p uri (Ok f) → Has None
-  other_told Is.Nothing n h = ignored_none w (InSet (sets_of ca)) on (length on) (cert_of ca) p uri h
-  other_told Is.Bad n h = absurd h
-  other_told (Is.Child a) n h = absurd (n a refl)
-  other_told (Is.Attests x) n h = good_none w (InSet (sets_of ca)) on (length on) (cert_of ca) p uri (payload_of x) h
+  pub ignored_told : JudgesFile w ca p uri (Ok Is.Nothing) → Has None
+  ignored_told h = ignored_none w (InSet (sets_of ca)) on (length on) (cert_of ca) p uri h
+
+  pub good_told : (x : Payload) → JudgesFile w ca p uri (Ok (Is.Attests x)) → Has None
+  good_told x h = good_none w (InSet (sets_of ca)) on (length on) (cert_of ca) p uri (payload_of x) h
+
+  pub unread_told : JudgesFile w ca p uri (Ok Is.Bad) → Has None
+  unread_told h = absurd h
 
   pub reason_told : (r : Told) → JudgesFile w ca p uri (Err r) → Has (Some r)
   reason_told r b = (b.fails on (length on), b.unheld)

@@ -11,7 +11,7 @@ use Rattle.rpki_standing.specs.rpki_bundle.declared.parts.Locator.{Locator}
 use Rattle.rpki_standing.specs.rpki_bundle.declared.parts.Object.{Object}
 use Rattle.rpki_standing.specs.declared.anchors.lookup.LocatorLookup.{LocatorLookup}
 use Rattle.rpki_standing.specs.declared.anchors.lookup.LocatorLookup.TheVariants as To
-use Rattle.objects_payload.specs.declared.locator.error.ReadError.{ReadError}
+use Rattle.rpki_standing.specs.objects_payload.declared.locator.error.ReadError.{ReadError}
 use Rattle.rpki_rules.specs.declared.reason.locators.LocatorReason.TheVariants.{BadText, NoneHeld}
 use Rattle.rpki_rules.specs.LocatorReasons.{LocatorFails}
 use Rattle.rpki_standing.specs.Lookups.{HoldsAt, IsLocatorLookup}

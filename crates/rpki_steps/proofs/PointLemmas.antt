@@ -1,6 +1,6 @@
 -- What stands at a publication point by what is held, and else why nothing does.
 use Rattle.std.proofs.Common.{◌≡◌, ℕ, List, [], ◌∷◌, ◌++◌, map, Result, Ok, Err, refl, sym, subst}
-use Rattle.std.specs.Prelude.{IfErr}
+use Rattle.std.specs.Prelude.{IfErr, IfOk}
 use Rattle.rpki_steps.specs.certs_basics.Lists.{Each, FirstFailing}
 use Rattle.rpki_steps.specs.certs_extension.Verified.{nothing}
 use Rattle.rpki_rules.specs.certs_x509.declared.errors.verification.Overclaimed.{Overclaimed}
@@ -16,7 +16,7 @@ use Rattle.rpki_rules.specs.Objects.{Manifest, Object}
 use Rattle.rpki_rules.specs.PointReasons.{ListTest, ListAuthority, ListThisUpdate, ListNextUpdate, NotOnList, ListSignature, ManifestClaim, ListFails, HasGoodManifest, HasList, HasManifest, PassesList, PassesManifest, PointFails}
 use Rattle.rpki_rules.specs.Points.{HasFiles, IsPoint, Point}
 use Rattle.rpki_rules.specs.Reasons.{AreUnheld, kinds}
-use Rattle.rpki_rules.specs.ReasonViews.{ListUnheld, PointUnheld, kind_claimed, list_test_of, manifest_test_of, runs_claimed}
+use Rattle.rpki_rules.specs.ReasonViews.{ListUnheld, PointUnheld, kind_claimed, list_test_of, manifest_test_of, point_reason_of, runs_claimed}
 use Rattle.rpki_rules.specs.World.{World}
 use Rattle.rpki_rules.proofs.FirstParts.{first_behind, first_map}
 use Rattle.rpki_rules.proofs.Firsts.{each_split}
@@ -24,6 +24,7 @@ use Rattle.rpki_rules.proofs.PointReasons.{good_of, same_manifest}
 use Rattle.rpki_standing.specs.PointFaults.{FailsUnheld, held_tests, unheld_tests}
 use Rattle.rpki_standing.specs.Standing.{IsStanding, StandingValue}
 use Rattle.rpki_standing.proofs.Standings.{unheld_files, unheld_refutes}
+use Rattle.rpki_walk.specs.Asked.{IsJudged}
 use Rattle.rpki_steps.specs.Claims.{IsUnfit}
 
 -- A test of a list that isn't one of a claim.
@@ -92,3 +93,11 @@ pub no_files : {T : Type 0} (w : Verdicts → World) (ca : Cert) (o : Object) (m
     → IfErr r (λ t. (v : Verdicts) → FirstFailing (PassesManifest (w v) ca o m) (held_tests m) (manifest_test_of t)) → (v : Verdicts) → ¬ (HasFiles (w v) ca m)
 no_files w ca o m (Ok x) n f = absurd (n x refl)
 no_files w ca o m (Err t) n f = λ v. unheld_files (w v) ca o m (manifest_test_of t) (f v)
+
+-- The point that stands, or why none does.
+pub judged : {P E : Type 0} (point : P → Point) (w : World) (held : Kind → ℕ → Type 0) (ca : Cert) (r : Result (Result P PointReason) E)
+    → IfOk r (λ told. IfOk told (λ p. StandsIn w held ca (point p))) → IfOk r (λ told. IfErr told (λ x. PointFails w held ca (point_reason_of x)))
+    → IfOk r (λ told. IfErr told (PointUnheld w held ca)) → IfOk r (IsJudged point w held ca)
+judged point w held ca (Ok (Ok p)) stands fails unheld = stands
+judged point w held ca (Ok (Err x)) stands fails unheld = (fails, unheld)
+judged point w held ca (Err e) stands fails unheld = tt

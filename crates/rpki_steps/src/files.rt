@@ -128,7 +128,9 @@ pub fn file_reason<D: Digester, V: Verifier>(
             let depth = usize::from(index.depth());
             Ok(chain_reason(&child, keys, depth))
         }
-        Ok(_) => Ok(None),
+        Ok(FileKind::Attests(_)) => Ok(None),
+        Ok(FileKind::Nothing) => Ok(None),
+        Ok(FileKind::Bad) => Ok(None),
         Err(reason) => Ok(Some(reason)),
     }
 }

@@ -33,10 +33,10 @@ pub fn is_sound_below<D: Digester, V: Verifier>(
 {
     cert_tests_are_rules();
     revocation_tests_are_rules();
-    if check_revocation(alloc, cert, point.manifest_cert(), point.crl())?.is_err() {
-        return Ok(false);
+    match check_revocation(alloc, cert, point.manifest_cert(), point.crl())? {
+        Ok(()) => Ok(check_authority_cert(cert, ca, index, digester, verifier).is_ok()),
+        Err(_) => Ok(false),
     }
-    Ok(check_authority_cert(cert, ca, index, digester, verifier).is_ok())
 }
 
 /// Whether the certificate at the lookup key is at a file of the authority's point, for an authority's certificate, and sound

@@ -4,10 +4,10 @@ use Rattle.rpki_rules.specs.Kinds.{Ipv4}
 use Rattle.rpki_steps.proofs.AnchorLemmas.{is_anchor, no_anchor}
 use Rattle.rpki_steps.proofs.anchors.lead_to.Goals as goal
 
-pub new-requires : goal.new-requires
-new-requires g c =
+pub new-authority-requires : goal.new-authority-requires
+new-authority-requires g c =
     let r = c.in-Ok.anchor in
-    let a = rw c.in-Ok.is at c.in_ok-anchor_in.ensures.found in
+    let a = rw c.in-Ok.is at c.in_ok-anchor.ensures.found in
     let law = c.addresses_are_whole.ensures in
     law.own r.holder.cert.tbs.v4 r.holder.v4 (law.listed c.args.object.now.octets r.holder.cert a.reads) (a.holds Ipv4)
 
@@ -19,7 +19,7 @@ returns-in-Ok-clause-judged g c =
     let k = c.args.tal.now.key in
     let u = c.args.object.now.uri in
     let o = c.args.object.now.octets in
-    λ h. is_anchor w l k u o h (record { uri = c.in_ok-uri.uri; authority = c.new-authority.result }) c.in-Ok.anchor c.in_ok-uri.ensures.cases c.new-authority.ensures (rw (c.in-Ok.is, c.key_info-key.ensures) at c.in_ok-anchor_in.ensures.found)
+    λ h. is_anchor w l k u o h (record { uri = c.in_ok-uri.uri; authority = c.new-authority.result }) c.in-Ok.anchor c.in_ok-uri.ensures.cases c.new-authority.ensures (rw (c.in-Ok.is, c.key_info-key.ensures) at c.in_ok-anchor.ensures.found)
 
 pub returns-in-Err-clause-judged : goal.returns-in-Err-clause-judged
 returns-in-Err-clause-judged g c =
@@ -29,4 +29,4 @@ returns-in-Err-clause-judged g c =
     let k = c.args.tal.now.key in
     let u = c.args.object.now.uri in
     let o = c.args.object.now.octets in
-    λ h. no_anchor w l k u o h c.in-Err.reason (rw (c.in-Err.is, c.key_info-key.ensures) at c.in_ok-anchor_in.ensures.found)
+    λ h. no_anchor w l k u o h c.in-Err.reason (rw (c.in-Err.is, c.key_info-key.ensures) at c.in_ok-anchor.ensures.found)

@@ -7,4 +7,4 @@ pub returns-in-Ok-clause-reason : goal.returns-in-Ok-clause-reason
 returns-in-Ok-clause-reason g c =
     let d = digests_of g.D.Digester.sha256_digest g.D.Digester.sha1_digest c.args.digester.now in
     let w = world_of d (g.V.Verifier.says c.args.verifier.now) c.args.index.now in
-    no_reason w c.args.locator.now (c.locator_reasons_refuse.ensures w c.args.locator.now) c.in-Ok.anchor (rw c.in-Ok.is at c.in_ok-judged_locator.ensures.judged)
+    no_reason w c.args.locator.now (c.locator_reasons_refuse.ensures w c.args.locator.now) c.in-Ok.anchor (rw c.in-Ok.is at c.in_ok-anchor.ensures.judged)

@@ -30,7 +30,7 @@ returns-in-Ok-clause-judged g c =
     let d = digests_of g.D.Digester.sha256_digest g.D.Digester.sha1_digest c.args.digester.now in
     let w = world_of d (g.V.Verifier.says c.args.verifier.now) c.args.index.now in
     let v = g.V.Verifier.says c.args.verifier.now in
-    λ h. child w c.args.ca.now c.args.point.now.point c.args.uri.now c.in-Some.cert c.in-Ok.child h (rw c.in-Some.is at (c.in_ok-cert.ensures.cert d v)) (rw c.in-Ok.is at c.in_ok-child_at.ensures.found)
+    λ h. child w c.args.ca.now c.args.point.now.point c.args.uri.now c.in-Some.cert c.in-Ok.child h (rw c.in-Some.is at (c.in_ok-cert.ensures.cert d v)) (rw c.in-Ok.is at c.in_ok-child.ensures.found)
 
 pub returns-in-Err-clause-judged : goal.returns-in-Err-clause-judged
 returns-in-Err-clause-judged g c =
@@ -38,4 +38,4 @@ returns-in-Err-clause-judged g c =
     let w = world_of d (g.V.Verifier.says c.args.verifier.now) c.args.index.now in
     let v = g.V.Verifier.says c.args.verifier.now in
     λ h. no_child w c.args.ca.now c.args.point.now.point c.args.uri.now c.in-Some.cert c.in-Err.test h (rw c.in-Some.is at (c.in_ok-cert.ensures.cert d v)) (is_true c.ne.result c.in-Some.cert.tbs.basic_ca (rw (c.basic_ca.ensures, c.tbs.ensures) at c.ne.ensures) c.if-ne.false)
-    (rw c.in-Err.is at c.in_ok-child_at.ensures.found)
+    (rw c.in-Err.is at c.in_ok-child.ensures.found)

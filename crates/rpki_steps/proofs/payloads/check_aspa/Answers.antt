@@ -7,4 +7,4 @@ returns-then-contains_asn-clause-told c = λ w above ca p o kept.
 
 pub returns-else-contains_asn-clause-told : goal.returns-else-contains_asn-clause-told
 returns-else-contains_asn-clause-told c = λ w above ca p o kept.
-    rw c.customer_as-2.ensures (customer_fails w above ca p o c.args.held.now kept c.args.content.now (λ h. let t = (rw (c.asn.ensures, c.customer_as.ensures) at c.contains_asn.ensures).1 h in let f = c.if-contains_asn.false in absurd cc))
+    rw c.customer_as-else-contains_asn.ensures (customer_fails w above ca p o c.args.held.now kept c.args.content.now (λ h. let t = (rw (c.asn.ensures, c.customer_as.ensures) at c.contains_asn.ensures).1 h in let f = c.if-contains_asn.false in absurd cc))

@@ -18,4 +18,4 @@ pub returns : goal.returns
 returns g c =
     held_told (digests_of g.D.Digester.sha256_digest g.D.Digester.sha1_digest c.args.digester.now) c.args.bundle.now c.args.ca.now c.args.manifest.now.content
     (λ (k : Vec (List ℕ) Global). k.items) (λ (v : Vec File Global). v.items) c.in-Ok.keys c.read_files-files.result c.keep_with.result
-    (λ v. ((rw (c.in-Ok.is, c.new-index.ensures) at c.in_ok-keys.ensures.held) v, rw (c.in-Ok.is, c.new-index.ensures) at c.in_ok-keys.ensures.keys)) (rw c.content.ensures at c.read_files-files.ensures) c.keep_with.ensures
+    (λ v. ((rw (c.in-Ok.is, c.new-index.ensures) at c.in_ok-keys.ensures.held) v, rw c.in-Ok.is at c.in_ok-keys.ensures.keys)) (rw c.content.ensures at c.read_files-files.ensures) c.keep_with.ensures
