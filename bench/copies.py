@@ -22,16 +22,28 @@ def with_those_below(names, needs):
     return found
 
 
-def copy(folder, libraries, parts=PARTS):
+def link(there, here):
+    """The same file here, by a link where the disk is the same one."""
+    if os.path.exists(here):
+        os.remove(here)
+    try:
+        return os.link(there, here)
+    except OSError:
+        return shutil.copy2(there, here)
+
+
+def copy(folder, libraries, parts=PARTS, linked=False):
     """Copies the crates among the libraries and all that they stand on, with their out/ where they have one and it is among the
-    parts, or brings the copies that are there up to date; of each the libraries that it stands on."""
+    parts, or brings the copies that are there up to date; of each the libraries that it stands on. Where `linked`, what was
+    built stands there by links to the same files."""
     needs = stands_on()
     copied = {name: needs[name] for name in sorted(with_those_below(libraries, needs))}
     for name in copied:
         for part in parts:
             there = os.path.join(ROOT, "crates", name, part)
             if os.path.isdir(there):
-                shutil.copytree(there, os.path.join(folder, "crates", name, part), dirs_exist_ok=True)
+                one = link if linked and part == "out" else shutil.copy2
+                shutil.copytree(there, os.path.join(folder, "crates", name, part), copy_function=one, dirs_exist_ok=True)
     write_rows(folder, copied)
     shutil.copy(os.path.join(ROOT, "HANDLES"), os.path.join(folder, "HANDLES"))
     return copied

@@ -2,6 +2,7 @@
 """Shows the processor time and the memory that the built program takes to walk repositories, and how both grow.
 
     walks.py PROGRAM [--rsa] [--beside DEBIAN]        (PROGRAM is crates/rpki_check/out/rpki_check)
+    walks.py PROGRAM.. --instructions [WORDS]         how many instructions each takes for the smallest of the bundles
 
 Bundles of some 1,000, 10,000 and 100,000 objects are read from a file as standard input, several times each: a trust anchor
 over 10, 102 and 1,020 authorities, each with 90 ROAs, 5 ASPAs, a revocation list and a manifest, and two verdicts or more
@@ -16,6 +17,9 @@ With --beside the same bundles are walked in Rust too, in turns: by walk.rs.in o
 librust-*-dev of bcder, bytes, smallvec, sha1, sha2, digest, block-buffer, generic-array, crypto-common, typenum, cpufeatures,
 libc, cfg-if, rand-core, subtle and version-check.
 
+With --instructions `valgrind --tool=callgrind` counts those of a run of `check`, or of WORDS (`--instructions refusals`, of
+rpki_ask), on the bundle of some 1,000 objects, which other work on the machine doesn't change.
+
 Targets: 1,000 objects take at most 25 ms; ten times the objects take at most 11 times the time; and the peak is at most 2.2
 times the bundle's size, where that is 10 MB or more. Exits with 1 where one of them is missed or an answer is wrong.
 """
@@ -25,6 +29,7 @@ import collections
 import filecmp
 import math
 import os
+import re
 import subprocess
 import sys
 import tempfile
@@ -124,14 +129,38 @@ def cells(row):
     return [*found, f"{row.peak / 1e6:.1f}", f"{row.peak / row.size:.2f}"]
 
 
+def instructions(programs, words):
+    """Prints how many instructions a run of each takes, and how they compare with the first one's; 1 where an answer is wrong."""
+    first, wrong = None, 0
+    with tempfile.TemporaryDirectory() as folder:
+        bundle, lines = make(folder, AUTHORITIES[0], False)
+        with open(lines, "rb") as file:
+            right = file.read() if words == "check" else b""
+        for program in programs:
+            command = ["valgrind", "--tool=callgrind", "--callgrind-out-file=/dev/null", os.path.abspath(program), *words.split()]
+            with open(bundle, "rb") as file:
+                done = subprocess.run(command, stdin=file, capture_output=True)
+            count = int(re.search(rb"Collected : (\d+)", done.stderr)[1])
+            first = first or count
+            wrong |= done.stdout != right
+            said = ", WRONG ANSWER" if done.stdout != right else ""
+            print(f"{program}: {count / 1e6:.1f} million instructions for {OBJECTS[AUTHORITIES[0]]} objects, x {count / first:.4f}{said}")
+    return int(wrong)
+
+
 def main():
     parser = argparse.ArgumentParser(description=__doc__, formatter_class=argparse.RawDescriptionHelpFormatter)
-    parser.add_argument("program")
+    parser.add_argument("programs", nargs="+", metavar="PROGRAM")
+    parser.add_argument("--instructions", nargs="?", const="check", metavar="WORDS", help="count the instructions of such a run")
     parser.add_argument("--rsa", action="store_true", help="real keys and signatures")
     parser.add_argument("--beside", metavar="DEBIAN", help="the same walk in Rust, over crates that are unpacked there")
     given = parser.parse_args()
+    if given.instructions:
+        return instructions(given.programs, given.instructions)
+    if len(given.programs) > 1:
+        parser.error("one program is measured at a time")
     with tempfile.TemporaryDirectory() as folder:
-        programs = [os.path.abspath(given.program)]
+        programs = [os.path.abspath(given.programs[0])]
         if given.beside:
             modules = ["rust_cert", "rust_object"]
             programs.append(content.build_rust(folder, given.beside, "walk.rs.in", "walk", modules, PATCHES + NAMED))

@@ -11,17 +11,17 @@ providers differ, both lines are listed.
 With --bundle, the bundle that OURS came of (a file, or a folder that validate.py kept), the reasons stand below each line:
 
   good OBJECT LOCATOR CHAIN..      what `rpki_ask why` says of an object that lists it: it is good, by this chain
-  refused NAME CAUSE               an object that lists it is refused; `rpki_ask why` has the same line
+  refused NAME CAUSE: ..; by ..    an object that lists it is refused, why, and on which chain; `rpki_ask why` has the same line
   unlisted OBJECT                  an object of the bundle lists it, and no accepted authority lists that object: it is
                                    neither good nor refused
-  above refused NAME CAUSE         and one of the certificates above it, as these name their issuers themselves, is refused
+  above refused NAME CAUSE: ..     and one of the certificates above it, as these name their issuers themselves, is refused
   absent URI                       OTHER names this object as the source, and the bundle has none there
 
 What no line says isn't known: that no object of the bundle lists it is all that can be told of some, and of what OURS has
 alone never why OTHER lacks it. What an object lists is read here, outside what is proved.
 
-`rpki_check check` is run once for all refusals, and `rpki_ask why` once for each trust anchor that the bundle has: every
-good object is below one of them. --summary prints the summary alone.
+`rpki_check check` is run once for all refusals, `rpki_ask refusals` once for their reasons, and `rpki_ask why` once for each
+trust anchor that the bundle has: every good object is below one of them. --summary prints the summary alone.
 
 Exit status: 0 where both have the same, 1 where they differ, 2 for other arguments and for what can't be read or asked.
 """
@@ -30,6 +30,7 @@ import argparse
 import collections
 import hashlib
 import os
+import re
 import subprocess
 import sys
 import time
@@ -44,6 +45,8 @@ SAME, DIFFERENT, FAULT = 0, 1, 2
 # So many certificates are looked at above an object; a bundle's chains have no more.
 MOST_ABOVE = 32
 SIDES = ("ours alone", "other alone")
+# The part of a reason that names something stands behind these words; the summary leaves it out.
+NAMED = re.compile(r"(overclaims|unheld prefix|unheld customer|missing file|changed file) .*")
 
 
 class Fault(Exception):
@@ -62,11 +65,19 @@ class Answers:
         for line in self.lines([checker, "check"], (0,)):
             if line.startswith("refused "):
                 self.refused.setdefault(line.split(" ")[1], []).append(line)
+        self.add_reasons(self.lines([asker, "refusals"], (0, 1)))
         for uri in bundle.anchors():
             for line in self.lines([asker, "why", uri], (0, 1)):
                 parts = line.split(" ")
                 if parts[0] == "good" and parts[1] in wanted:
                     self.good.setdefault(parts[1], []).append(line)
+
+    def add_reasons(self, told):
+        """Puts in the place of each refusal the lines that tell its reasons, on one chain each."""
+        reasons = collections.defaultdict(list)
+        for line in told:
+            reasons[line.partition(": ")[0]].append(line)
+        self.refused = {name: [row for line in rows for row in reasons[line] or [line]] for name, rows in self.refused.items()}
 
     def lines(self, words, statuses):
         """What a program prints of the bundle, line by line."""
@@ -97,11 +108,17 @@ class Answers:
         """What is known of an object that lists the line in question."""
         good, refused = self.good.get(uri, []), self.refused.get(uri, [])
         if good or refused:
-            return Reason(good + refused, "good" if good else f"refused: {refused[0].split(' ')[-1]}")
+            return Reason(good + refused, "good" if good else f"refused: {reason_of(refused[0])}")
         above = self.above(uri)
         rows = [f"unlisted {uri}", *(f"above {row}" for row in above)]
-        causes = f", above it refused: {above[0].split(' ')[-1]}" if above else ""
+        causes = f", above it refused: {reason_of(above[0])}" if above else ""
         return Reason(rows, f"no accepted authority lists the object{causes}")
+
+
+def reason_of(row):
+    """The reason of a refusal, or its cause, as the summary counts it."""
+    first, found, said = row.partition(": ")
+    return NAMED.sub(r"\1", said.rpartition("; by ")[0]) if found else first.split(" ")[-1]
 
 
 class Why:

@@ -22,6 +22,10 @@ lines, and the exit status is 3; standard error, the summary and the JSON's `met
 FILE is replaced in one rename, once everything else went well and its octets are on the disk. So whoever reads it finds
 the old file or the new one, never a part; where a step fails, or the run is ended at any point, FILE is as it was.
 
+Where something is refused, `rpki_ask --json refusals` tells the reasons, which the summary counts. It has --time-limit at most,
+and no more than 10 seconds and four times what `check` took; where that doesn't suffice, or memory or the program is
+missing, the summary says that they aren't known, and all else is as it would be.
+
 All else is written below the folder `.NAME.work` beside FILE (NAME is FILE's; --work says where else), which takes up to
 three times the space of the objects in CACHE. It is removed at the end, and a killed run's by the next one. It is locked,
 so that there is one run at a time for a FILE.
@@ -47,6 +51,7 @@ process ends by that signal. Standard error has the steps' own words, how far th
 """
 
 import argparse
+import collections
 import hashlib
 import json
 import os
@@ -80,6 +85,8 @@ PIECE = 1 << 20
 TIME_LIMIT, MOST_LEFT_OUT = 120, 3
 # So many chains `rpki_ask cost` counts at most; fewer, where that takes too long.
 BUDGET = 1_000_000
+# The reasons of refusals may take so many seconds, and so many times what `check` took; and be so many octets.
+REASONS_LEAST, REASONS_TIMES, REASONS_OCTETS = 10, 4, 1 << 26
 OUT_OF_MEMORY = b"out of memory\n"
 
 
@@ -268,6 +275,34 @@ def asked(given, steps, work, *words):
         return status, answer.read().decode("ascii", "replace")
 
 
+def reasons(given, steps, work, lines):
+    """How many refused lines have each reason, and why that isn't known, if it isn't. A line that several chains refuse may have
+    several reasons."""
+    if not lines.refusals:
+        return {}, None
+    if not os.access(given.asker, os.X_OK):
+        return None, f"{given.asker} is no program"
+    limit = REASONS_LEAST + REASONS_TIMES * steps.seconds["check"]
+    limit = min(limit, given.time_limit or limit)
+    try:
+        with open(work.path("bundle"), "rb") as bundle, open(work.path("reasons"), "w+b") as told:
+            words = [given.asker, "--json", "refusals"]
+            status = steps.run("refusals", words, limit, stdin=bundle, stdout=told)
+            size = told.seek(0, os.SEEK_END)
+            told.seek(0)
+            if status:
+                return None, ended("rpki_ask refusals", status)
+            if status is None or size > REASONS_OCTETS:
+                return None, f"rpki_ask refusals hadn't ended after {limit:.0f} seconds" if status is None else "they are too many"
+            rows = json.load(told)["refused"]
+            found = {(row["name"], row["cause"], row["reason"]) for row in rows}
+    except Failed as why:
+        return None, str(why)
+    except (ValueError, KeyError, TypeError):
+        return None, f"what {given.asker} tells aren't reasons"
+    return dict(sorted(collections.Counter(reason for _, _, reason in found).items())), None
+
+
 def reached(given, steps, work, found):
     """The numbers that whoever was left out can reach, by kind; None where they aren't known."""
     status, text = asked(given, steps, work, "reach", *found.manifests)
@@ -275,8 +310,8 @@ def reached(given, steps, work, found):
     return rows if status in (0, 1) else None
 
 
-def summary_of(given, steps, work, lines, left_out, digests):
-    """What became of the run, for those who look after it."""
+def summary_of(given, steps, work, lines, left_out, digests, told):
+    """What became of the run, for those who look after it. `told` are the reasons of refusals, and why they aren't known."""
     with open(work.path("verdicts.json")) as file:
         verdicts = json.load(file)
     return {
@@ -286,6 +321,8 @@ def summary_of(given, steps, work, lines, left_out, digests):
         "origins": len(lines.origins),
         "customers": len(lines.customers),
         "refused": lines.causes(),
+        "reasons": told[0],
+        "reasons_unknown": told[1],
         "quarantined": left_out,
         "sha256": digests,
         "seconds": steps.seconds,
@@ -300,6 +337,10 @@ def text_of(summary, lines):
     yield f"moment {summary['moment']}: {summary['origins']:,} origins, {summary['customers']:,} customers"
     yield f"refused: {refused}"
     yield from (f"refused {name} {cause}" for name, cause in lines.refusals if cause in TOLD)
+    if summary["reasons_unknown"]:
+        yield f"reasons: not known: {summary['reasons_unknown']}"
+    elif summary["reasons"]:
+        yield "reasons: " + ", ".join(f"{reason} {count:,}" for reason, count in summary["reasons"].items())
     used = summary["processor_seconds"]
     times = (f"{name} {seconds:.1f} (processor {used[name]:.1f})" for name, seconds in summary["seconds"].items())
     yield f"seconds: {', '.join(times)}"
@@ -324,6 +365,7 @@ def validate(given, steps, work, evidence):
     make_bundle(given, steps, work)
     lines, left_out = make_lines(given, steps, work)
     left_out = [{**one._asdict(), "reach": reached(given, steps, work, one)} for one in left_out]
+    told = reasons(given, steps, work, lines)
     began, used = time.monotonic(), time.process_time()
     digests = {name: digest_of(work.path(name)) for name in ("bundle", "lines", "verdicts") if given.keep}
     more = {"bundle": digests["bundle"]} if given.keep else {}
@@ -334,7 +376,7 @@ def validate(given, steps, work, evidence):
     steps.note(given.form, began, time.process_time() - used)
     for text in lines_to.unsaid(given.form, lines, how):
         tell(text)
-    summary = summary_of(given, steps, work, lines, left_out, digests)
+    summary = summary_of(given, steps, work, lines, left_out, digests, told)
     publish(given.out, octets, steps.go_on, lambda: evidence.keep(work, summary))
     return summary, lines
 

@@ -16,6 +16,7 @@
  * names for them (glibc) do the work.
  */
 #include <errno.h>
+#include <malloc.h>
 #include <stddef.h>
 #include <stdlib.h>
 #include <string.h>
@@ -56,16 +57,21 @@ void *calloc(size_t count, size_t size)
     return is_refused() ? NULL : __libc_calloc(count, size);
 }
 
-/* How many octets of what grows are compared with the answer. */
-enum { TOLD = 4 };
+/* How many octets of what grows are compared with the answer, and how many the C library gives at least. */
+enum { TOLD = 4, LEAST = 24 };
 
-/* Whether the octets there are a part of the answer: four of them, or, where the answer has fewer, all. */
-static int is_answer(const void *old)
+/* Whether the octets there are a part of the answer: four of them, or all of a text that has fewer, behind which the first room of
+ * an answer has zeros. */
+static int is_answer(void *old)
 {
     const char *spare = getenv("SPARE");
     if (old == NULL || spare == NULL || *spare == '\0')
         return 0;
     size_t size = strlen(spare), told = size < TOLD ? size : TOLD;
+    if (malloc_usable_size(old) <= LEAST)
+        told = strnlen(old, told);
+    if (told == 0)
+        return 0;
     for (size_t at = 0; at + told <= size; at++)
         if (memcmp(old, spare + at, told) == 0)
             return 1;
@@ -96,7 +102,9 @@ static int is_question(size_t size)
 
 void *malloc(size_t size)
 {
-    return !is_question(size) && is_refused() ? NULL : __libc_malloc(size);
+    if (!is_question(size) && is_refused())
+        return NULL;
+    return size <= LEAST ? __libc_calloc(1, size) : __libc_malloc(size);
 }
 
 void *realloc(void *old, size_t size)

@@ -39,6 +39,19 @@ def fits(held, cert):
     )
 
 
+def outside(runs, held):
+    """The runs of the numbers that are in these runs and aren't held."""
+    found = []
+    for first, last in runs:
+        for low, high in common([(first, last)], joined(held)):
+            if first < low:
+                found.append((first, low - 1))
+            first = high + 1
+        if first <= last:
+            found.append((first, last))
+    return joined(found)
+
+
 def keeps(needed, cert):
     """Whether the certificate lists what is needed of each kind, or inherits the kind."""
     return all(cert.claims[kind] is INHERIT or lies_in(needed[kind], cert.claims[kind] or []) for kind in KINDS)
@@ -348,6 +361,16 @@ def address_text(kind, address):
     if length < 2:
         return ":".join(groups)
     return ":".join(groups[:-at]) + "::" + ":".join(groups[-at + length :])
+
+
+def run_text(kind, first, last):
+    """A block as texts have it: one number, a prefix, or two ends."""
+    if kind == "as":
+        return f"AS{first}" if first == last else f"AS{first}-AS{last}"
+    size, width = last - first + 1, 32 if kind == "ipv4" else 128
+    if size & size - 1 == 0 and first % size == 0:
+        return f"{address_text(kind, first)}/{width - size.bit_length() + 1}"
+    return f"{address_text(kind, first)}-{address_text(kind, last)}"
 
 
 def zeros(groups):

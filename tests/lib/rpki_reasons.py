@@ -3,7 +3,8 @@
 
     rpki_reasons.py < BUNDLE     prints a row for each reason: name and cause of the refused line, the reason, and where
                                  there is a chain, the locator's name and the lookup keys of its certificates
-    rpki_reasons.py --test       asks worked cases and bundles by chance: the lines that have reasons are those refused
+    rpki_reasons.py --test       asks worked cases and bundles by chance: the lines that have reasons are those refused; and
+                                 worlds that are made for each reason (rpki_refused.py): each line has its own
 
 Tests stand in the order in which the program asks them, each with its word; a reason is the first that fails, or that
 nothing reads. Words are those of `specs/LocatorReasons`, `PointReasons` and `FileReasons` of `rpki_rules`. Rules and octets
@@ -11,11 +12,13 @@ are read by rpki_model.py and rpki_readers.py.
 """
 
 import argparse
+import collections
 import re
 import sys
 
-from rpki_model import Walk, address_text, kept, lies_in, prefix_runs, read_bundle
+from rpki_model import Walk, address_text, kept, lies_in, outside, prefix_runs, read_bundle, run_text
 from rpki_readers import INHERIT, KINDS, NONE, Aspa, Cert, Crl, Locator, Manifest, Refused, Roa
+from rpki_reason_words import bare, shortfalls
 from rpki_readers import front, is_identical, is_rpki_name, join, lookup_key, parent, uri_kind
 
 TA, CA, EE = "Ta", "Ca", "Ee"
@@ -145,7 +148,8 @@ class Reasons:
     def of_claim(self, cert, held):
         for kind in KINDS:
             claims = cert.claims[kind]
-            yield (kind,), cert.policy == "trim" or claims in (NONE, INHERIT) or lies_in(claims, held[kind])
+            unheld = () if cert.policy == "trim" or claims in (NONE, INHERIT) else outside(claims, held[kind])
+            yield (kind, ", ".join(run_text(kind, *run) for run in unheld)), not unheld
 
     # Locators (RFC 8630).
 
@@ -312,8 +316,8 @@ STATED = {
     "revoked-roa": "ObjectFails ObjectRevocation NotRevoked",
     "loop-and-depth": "Loop",
     "loop-and-depth, depth 2": "Depth",
-    "trimmed-ca, Refuse": "CerFails CerClaim ipv4",
-    "manifest-overclaim": "ListFails ManifestClaim as",
+    "trimmed-ca, Refuse": "CerFails CerClaim ipv4 11.0.0.0/8",
+    "manifest-overclaim": "ListFails ManifestClaim as AS64500",
     "manifest-lists, a.roa twice": "ManifestFails NamesDiffer",
     "manifest-lists, z.txt": "ManifestFails FileHeld z.txt",
     "first-uri, held": "NoCert",
@@ -342,10 +346,24 @@ TEXTS = {
 }
 
 
+def shown():
+    """How often each reason is shown by the worlds that are made for reasons, of which each line has the stated one."""
+    import rpki_refused
+
+    found = collections.Counter()
+    for name, world in (*rpki_refused.alone(), *rpki_refused.beside()):
+        told = {row[0]: bare(row[2]) for row in check(name, world.bundle())}
+        assert told == world.stated, f"{name}: {sorted(told.items() ^ world.stated.items())}"
+        found.update(told.values())
+    return found
+
+
 def test(count):
     import rpki_chance
     import rpki_walks
 
+    lacking = list(shortfalls(shown()))
+    assert not lacking, "\n".join(lacking)
     for text, fault in TEXTS.items():
         assert read(Locator, text) is None and text_fault(text) == fault, f"{text}: {text_fault(text)}"
     seen, stated = set(), dict(STATED)

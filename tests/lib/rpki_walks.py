@@ -8,6 +8,7 @@ import base64
 
 import rpki_model
 import rpki_relaxed
+from rpki_model import run_text
 from rpki_repositories import FIRST, HOST, LAST, MOMENT, PKIX, Authority, Constant, Fips, World
 from rpki_repositories import access, aspa, basic, bits, claims_of, crl_point, extension, integer, issuer_at, locator_text
 from rpki_repositories import oid, policies, roa, seq, tlv, uri_name, usage
@@ -536,16 +537,6 @@ def constant(q):
     world.objects[uri] = world.objects[uri].replace(b"\2\3\0\xfb\xf0", b"\2\3\0\xfb\xf1", 1)
     q.ask("ok roa AS64497 192.0.2.0/24 24|", "walk", "constant", world.bundle().hex())
     flips(q, octets, "constant", Constant)
-
-
-def run_text(kind, first, last):
-    """A block as texts have it: one number, a prefix, or two ends."""
-    if kind == "as":
-        return f"AS{first}" if first == last else f"AS{first}-AS{last}"
-    size, width = last - first + 1, 32 if kind == "ipv4" else 128
-    if size & size - 1 == 0 and first % size == 0:
-        return f"{rpki_model.address_text(kind, first)}/{width - size.bit_length() + 1}"
-    return f"{rpki_model.address_text(kind, first)}-{rpki_model.address_text(kind, last)}"
 
 
 def reach_text(reached):

@@ -15,7 +15,7 @@ import time
 
 from programs import KEPT, TOP, is_newer, proved, unproved
 
-# A program without its proof is so many times as slow, more or less, and may take so much longer.
+# A program with the checks of AddressSanitizer is so many times as slow, more or less, and may take so much longer.
 SLOWER = 6
 COUNTS = re.compile(r"(\d+) passed, (\d+) failed\b.*")
 PROGRAM = re.compile(r"\{([\w.-]+)\}")
@@ -27,7 +27,7 @@ FOUND = {
 LACKS = {
     "cc": "there is no C compiler with its headers (`cc`, or $CC)",
     "cryptography": "Python has no `cryptography`",
-    "plain": "it takes a program that is built with its proof, without the checks of AddressSanitizer",
+    "plain": "it takes a program without the checks of AddressSanitizer",
     "second": "Rattle's own compiler built none",
 }
 
@@ -57,15 +57,16 @@ class Test:
 
 
 # Programs of questions and examples, whose answers are stored beside them.
-STORED = ("bcder_cases", "example_codec", "example_resources", "objects_cases", "resources_cases", "rpki_ask", "rpki_cases", "rpki_check")
+STORED = ("attestations_cases", "bcder_cases", "example_checklist", "example_codec", "example_resources", "objects_cases", "resources_cases", "rpki_ask", "rpki_cases", "rpki_check")
 
 # Programs of questions that are asked with each growth refused, and how long that may take at `quick`.
-ASKED = {"rpki_cases": 600, "bcder_cases": 0, "objects_cases": 0, "resources_cases": 0}
+ASKED = {"rpki_cases": 600, "attestations_cases": 0, "bcder_cases": 0, "objects_cases": 0, "resources_cases": 0}
 
 TESTS = (
     # What is stored is what the scripts write.
+    Test("written attestations", "outside/written.py attestations_cases.py attestations_cases", 300),
     Test("written bcder", "outside/written.py bcder_cases.py bcder_cases", 300),
-    Test("written examples", "outside/written.py examples.py example_codec example_resources", 300),
+    Test("written examples", "outside/written.py examples.py example_checklist example_codec example_resources", 300),
     Test("written objects", "outside/written.py objects_cases.py objects_cases", 400),
     Test("written resources", "outside/written.py resources_calls.py resources_cases", 300),
     Test("written rpki", "outside/written.py rpki_cases.py rpki_cases cases", 500),
@@ -73,6 +74,7 @@ TESTS = (
     Test("promise", "tools/promise.py", 300),
     Test("definitions", "tools/definitions.py --check", 0, 60),
     Test("calling", "tools/calling.py --check", 0, 60),
+    Test("hops", "tools/hops.py", 60),
     # Definitions and clauses that are wider than 100 columns are listed.
     Test("widths", "tools/widths.py", 300),
     # Calls that can lack memory are asked with their growths refused.
@@ -87,7 +89,7 @@ TESTS = (
     Test("folders", "outside/folders.py {rpki_check}", 300, 1200, less="--few"),
     Test("hostile", "outside/hostile.py {rpki_check}", 0, 1200),
     Test("readme", "outside/readme.py {rpki_check}", 300, needs=("cryptography",)),
-    Test("cache", "outside/cache.py {rpki_check}", 300, needs=("cryptography",)),
+    Test("cache", "outside/cache.py {rpki_check} {rpki_ask}", 300, needs=("cryptography",)),
     Test("odd caches", "outside/odd_caches.py {rpki_check}", 0, 600, needs=("cryptography",)),
     Test("odd signatures", "outside/odd_signatures.py", 0, 600, needs=("cryptography",)),
     Test("interrupted", "outside/interrupted.py", 0, 1800, needs=("cryptography",)),
@@ -96,7 +98,7 @@ TESTS = (
     Test("routers", "outside/routers.py {rpki_check} {rpki_ask}", 0, 900, needs=("cryptography",)),
     Test("large", "outside/large.py {rpki_check} {rpki_ask} {rpki_cases}", 500, 1800, more="--huge", least="--small"),
     Test("lattices", "outside/lattices.py {rpki_check}", 500, needs=("cc", "plain")),
-    Test("octets", "outside/octets.py {objects_cases}", 400, 900, less="--most 2", more="--most 12", least="--most 1"),
+    Test("octets", "outside/octets.py {objects_cases} {attestations_cases}", 400, 900, less="--most 2", more="--most 12", least="--most 1"),
     # The build by Rattle's own compiler, from outside.
     Test("cases, second compiler", "outside/cases.sh {rpki_check.by-rattle} cases", 300, needs=("second",)),
     Test("faults, second compiler", "outside/faults.py {rpki_check.by-rattle}", 300, needs=("second", "plain")),
@@ -107,12 +109,15 @@ TESTS = (
     Test("long chances", "outside/rpki_random.py {rpki_check} --long", 600, 7200, less="--count 2000", more="--count 50000", least="--count 100"),
     Test("relaxed chances", "outside/rpki_random.py {rpki_check} --relaxed", 500, 7200, less="--count 1000", more="--count 20000", least="--count 100"),
     Test("chance asks", "outside/rpki_asks.py {rpki_ask}", 400, 2400, less="--count 60", more="--count 1000", least="--count 10"),
+    Test("refusals", "outside/rpki_refusals.py {rpki_ask}", 400, 3600, less="--lines 800", more="--lines 12000", least="--lines 250"),
     Test("chance worlds", "questions/rpki_worlds.py {rpki_cases}", 400, 2400, less="60", more="1000", least="20"),
     Test("roles", "questions/certs_roles.py --all {objects_cases}", 300),
+    # A second reading of which attestations are valid.
+    Test("attestations", "questions/objects_rta_valid_cases.py {attestations_cases}", 300),
     # Growths refused in turn.
     Test("growths", "outside/growths.py {rpki_check}", 500, needs=("cc", "plain")),
     *(Test(f"growths {name}", f"outside/calls_growths.py {{{name}}}", at, 3600, needs=("cc", "plain"), less="--few") for name, at in ASKED.items()),
-    Test("content growths", "outside/content_growths.py", 0, 3600),
+    Test("content growths", "outside/content_growths.py", 300, needs=("cc",)),
     # Bodies that always tell lack of memory.
     Test("always memory", "outside/always_memory.py", 0, 3600),
     # Callers in C and in Rust.
@@ -139,7 +144,7 @@ class Run:
     """One run of the table."""
 
     def __init__(self, level, only, built, seconds=None, behind_gate=False):
-        self.level, self.built = level, built
+        self.level, self.built, self.behind_gate = level, built, behind_gate
         self.until = math.inf if seconds is None else time.monotonic() + seconds
         self.tests = [test for test in TESTS if test.limit(level) and only in test.name and not (behind_gate and test.is_gates)]
         self.passed = self.failed = self.skipped = self.unended = 0
@@ -173,7 +178,7 @@ class Run:
         began = time.monotonic()
         try:
             made = unproved(name)
-        except (OSError, RuntimeError) as error:
+        except (OSError, RuntimeError, subprocess.SubprocessError) as error:
             return None, str(error)
         print(f"{name}: built without its proof ({time.monotonic() - began:.0f} s)", flush=True)
         return made, None
@@ -184,8 +189,8 @@ class Run:
             self.programs = dict(zip(names, pool.map(self.find, names)))
 
     def is_plain(self, test):
-        """Whether each program that the test takes is built with its proof."""
-        return all(KEPT not in self.programs[name][0].parents for name in programs_of(test))
+        """Whether no program that the test takes has the checks of AddressSanitizer."""
+        return all(self.programs[name][0].parent != KEPT for name in programs_of(test))
 
     def why_skipped(self, test):
         """Why a test is left out: something that isn't on this machine, or a program that isn't built as it needs it."""
@@ -213,7 +218,8 @@ class Run:
 
     def call(self, words, limit, slower):
         began = time.monotonic()
-        limit, left = limit * slower, max(self.until - began, 0)
+        # (behind the gate the whole run has a limit, and the machine may be a slow one)
+        limit, left = limit * slower * (3 if self.behind_gate else 1), max(self.until - began, 0)
         # (a pipe could be kept open by whoever outlives the test)
         with tempfile.TemporaryFile("w+", encoding="utf-8", errors="replace") as told:
             how = {"cwd": TOP / "tests", "stdin": subprocess.DEVNULL, "stdout": told, "stderr": subprocess.STDOUT}

@@ -3,9 +3,10 @@
 
     always_memory.py
 
-In a temporary folder stands a copy of rpki_cases with what it stands on, in which `run`, `walk`, `judge`, `reach` and `naming_chains` of
-rpki_validator answer lack of memory and do nothing else. `rt try` makes that program without a proof, and asks it some of the stored
-questions of the topics that ask these calls: each has to be answered by lack of memory, and so otherwise than it is stored.
+In a temporary folder stands a copy of rpki_cases with what it stands on, in which `run`, `walk`, `judge`, `reach`, `naming_chains` and
+`diagnose` of rpki_validator answer lack of memory and do nothing else. That program is made without a proof (`programs.py`), once for all of them, and
+asked some of the stored questions of the topics that ask these calls: each has to be answered by lack of memory, and so otherwise than
+it is stored.
 
 Prints a line for each answer that isn't right, and `N passed, M failed`; exits with 1 where one failed.
 """
@@ -19,10 +20,12 @@ import tempfile
 
 sys.dont_write_bytecode = True
 TOP = pathlib.Path(__file__).resolve().parents[2]
-sys.path.insert(0, str(TOP / "bench"))
+sys.path[:0] = [str(TOP / "bench"), str(TOP / "tests" / "lib")]
 
 import copies  # noqa: E402
+from programs import tried  # noqa: E402
 
+SECONDS = 900
 PROGRAM = "rpki_cases"
 REFUSED = "Err(AllocError)"
 # Of each call the file that has it, and its body.
@@ -32,10 +35,15 @@ BODIES = {
     "judge": ("bundles.rt", REFUSED),
     "reach": ("bundles.rt", REFUSED),
     "naming_chains": ("bundles.rt", REFUSED),
+    "diagnose": ("bundles.rt", REFUSED),
 }
-# The topic of the questions that ask each call, how many are asked, and what is to be answered.
+# How the questions that ask each call begin, how many are asked, and what is to be answered.
 LACKS = "memory allocation failed"
 TOPICS = {"check": (20, "1 [] [out of memory|]"), "witnesses": (4, LACKS), "judge": (8, LACKS), "reach": (8, LACKS), "naming": (8, LACKS)}
+TOPICS["ask\trefusals"] = 6, "2 [] [out of memory|]"
+
+# Of these topics only what is answered well.
+GOOD = ("check", "ask\trefusals")
 
 
 def replaced(text, call, body):
@@ -65,17 +73,17 @@ def stored():
     folder = TOP / "crates" / PROGRAM
     with open(folder / "stdin") as asked, open(folder / "stdout") as answered:
         for question, answer in zip((line for line in asked if not line.startswith("world")), answered):
-            topic = question.split("\t")[0]
-            if topic in TOPICS and found[topic] < TOPICS[topic][0] and (topic != "check" or answer.startswith("0 ")):
+            topic = next((topic for topic in TOPICS if question.startswith(f"{topic}\t")), None)
+            if topic and found[topic] < TOPICS[topic][0] and (topic not in GOOD or answer.startswith("0 ")):
                 found[topic] += 1
                 yield topic, question, answer[:-1]
 
 
 def main():
     asked = list(stored())
-    with tempfile.TemporaryDirectory() as folder:
-        how = {"input": "".join(question for _, question, _ in asked), "capture_output": True, "text": True}
-        done = subprocess.run(["rt", "try", "--seconds", "900"], cwd=lay(folder), **how)
+    with tempfile.TemporaryDirectory() as folder, tempfile.TemporaryDirectory() as room:
+        how = {"input": "".join(question for _, question, _ in asked), "capture_output": True, "text": True, "timeout": SECONDS}
+        done = subprocess.run([tried(lay(folder), pathlib.Path(room))], cwd=room, **how)
     said = done.stdout.splitlines()
     wrong = [] if len(said) == len(asked) else [f"{len(said)} answers to {len(asked)} questions: {done.stderr[-1500:]}"]
     for (topic, question, answer), told in zip(asked, said):

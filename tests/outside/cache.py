@@ -1,12 +1,12 @@
 #!/usr/bin/env python3
 """Asks tools/verdicts.py and tools/lines_to.py on a repository that bench/repository.py makes.
 
-    cache.py [PROGRAM]
+    cache.py [PROGRAM [ASKER]]
 
 What is compared comes from what was made: how many signatures there are, which of them are good after one octet was
 changed, which objects lie where in each layout. With PROGRAM, a built `rpki_check`, the folder that verdicts.py wrote is
-made a bundle too, and what is printed of it compared with the lines that the repository means. Exits with 1 at the first
-answer that differs.
+made a bundle too, and what is printed of it compared with the lines that the repository means; with ASKER, a built `rpki_ask`, the
+reasons of what is refused, too. Exits with 1 at the first answer that differs.
 """
 
 import hashlib
@@ -161,7 +161,14 @@ def printed(program, out):
     return done.returncode, done.stdout.decode(), done.stderr.decode()
 
 
-def bundle(program, made, room, tals):
+def told(asker, program, out):
+    """What `refusals` prints of the bundle of a folder."""
+    octets = subprocess.run([program, "bundle", out], capture_output=True).stdout
+    done = subprocess.run([asker, "refusals"], input=octets, capture_output=True)
+    return done.returncode, done.stdout.decode(), done.stderr.decode()
+
+
+def bundle(made, room, tals, program, asker=None):
     """From a cache to lines; and of the one with changed octets, where one authority's list and another's ROA are bad."""
     out = os.path.join(room, "out")
     verdicts(os.path.join(room, "plain"), out, tals)
@@ -170,6 +177,15 @@ def bundle(program, made, room, tals):
     place = f"rsync://{repository.HOST}/repository/ta/"
     refused = "".join(f"refused {place}a{number}.cer point\n" for number in range(AUTHORITIES))
     same("lines of changed octets", printed(program, out), (0, refused, ""))
+    if asker:
+        chain = f"by example {made.anchor.at}"
+        reasons = "".join(
+            f"refused {place}{name}.cer point: manifest: changed file {file}; {chain} {place}{name}.cer\n"
+            for name, file in (("a0", "a0.crl"), ("a1", "o1.roa"))
+        )
+        same("reasons of changed octets", told(asker, program, out), (0, reasons, ""))
+        verdicts(os.path.join(room, "plain"), out, tals)
+        same("no reasons", told(asker, program, out), (1, "", ""))
 
 
 def main():
@@ -182,7 +198,7 @@ def main():
         formats(made, room, tals)
         refusals(room, tals)
         if sys.argv[1:]:
-            bundle(sys.argv[1], made, room, tals)
+            bundle(made, room, tals, *sys.argv[1:])
     to_routers()
 
 

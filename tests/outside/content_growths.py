@@ -1,26 +1,28 @@
 #!/usr/bin/env python3
 """Refuses each growth of memory in turn, one a run, while `bcder_content` skips and captures values.
 
-    content_growths.py [FOLDER]
+    content_growths.py
 
-In FOLDER, or in a temporary folder, a repository is made of crates/bcder_content with what it stands on and the
-program content_growths.rt.in, which `rt try` runs with no proof, half a minute for each growth. The program itself
-tells what is wrong: a refused growth has to be answered `Memory`, a refused skip leaves its content failed, and a
-refused capture or part leaves all as it was. Exits with 1 where anything is told.
+In a temporary folder a repository is made of crates/bcder_content with what it stands on and the program
+content_growths.rt.in, which is made without a proof (`programs.py`). The program itself tells what is wrong: a refused
+growth has to be answered `Memory`, a refused skip leaves its content failed, and a refused capture or part leaves all
+as it was. Each growth is refused alone, by `refuse_growth.c`, which is preloaded.
+
+Prints `N passed, M failed`, a run being one test; exits with 1 where one failed.
 """
 
-import itertools
 import os
-import re
-import subprocess
+import pathlib
 import sys
 import tempfile
 
 HERE = os.path.dirname(os.path.abspath(__file__))
 sys.dont_write_bytecode = True
-sys.path.insert(0, os.path.join(HERE, os.pardir, os.pardir, "bench"))
+sys.path[:0] = [os.path.join(HERE, os.pardir, os.pardir, "bench"), os.path.join(HERE, os.pardir, "lib")]
 
 import copies  # noqa: E402
+from programs import tried  # noqa: E402
+from refusals import compiled, run  # noqa: E402
 
 NAME = "content_growths"
 
@@ -31,38 +33,23 @@ def make(folder):
     return copies.make(folder, NAME, source, ["bcder_content", "bcder_source"])
 
 
-def run(crate, flags):
-    """Whether a run told nothing, how many growths it had, and what it printed."""
-    done = subprocess.run(["rt", "try", *flags], cwd=crate, capture_output=True, text=True)
-    printed = done.stdout + done.stderr
-    counted = re.search(r"^allocations: (\d+)$", printed, re.MULTILINE)
-    right = done.returncode == 0 and "wrong" not in printed
-    return right, int(counted.group(1)) if counted else 0, printed
-
-
-def run_all(crate):
-    """Refuses no growth, and then each in turn, until there is none to refuse; how many runs went wrong."""
-    failures = 0
-    for growth in itertools.count():
-        right, growths, printed = run(crate, ["--fail-alloc", str(growth)] if growth else [])
-        if not right:
-            failures += 1
-            print(f"growth {growth}:\n{printed}", flush=True)
-        if growths < growth:
-            break
-    print(f"{growth + 1 - failures} passed, {failures} failed")
-    return failures
-
-
 def main():
-    if len(sys.argv) > 2:
-        sys.exit("usage: content_growths.py [FOLDER]")
-    if len(sys.argv) == 2:
-        failures = run_all(make(sys.argv[1]))
-    else:
-        with tempfile.TemporaryDirectory() as folder:
-            failures = run_all(make(folder))
-    sys.exit(1 if failures else 0)
+    if len(sys.argv) > 1:
+        sys.exit("usage: content_growths.py")
+    with tempfile.TemporaryDirectory() as folder:
+        room = pathlib.Path(folder) / "room"
+        room.mkdir()
+        program, shim = tried(pathlib.Path(make(folder)), room), compiled(folder)
+        outcome, growths = run(program, shim, [], b"", {})
+        outcomes = {"nothing refused": outcome}
+        for at in range(1, len(growths) + 1):
+            outcomes[f"growth {at}"] = run(program, shim, [], b"", {"REFUSE_AT": str(at)})[0]
+    wrong = {name: outcome for name, outcome in outcomes.items() if outcome != (0, b"", b"")}
+    for name, outcome in wrong.items():
+        print(f"{name}: {outcome}")
+    print(f"{len(growths)} growths")
+    print(f"{len(outcomes) - len(wrong)} passed, {len(wrong)} failed")
+    sys.exit(1 if wrong or not growths else 0)
 
 
 if __name__ == "__main__":

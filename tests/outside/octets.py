@@ -1,9 +1,9 @@
 #!/usr/bin/env python3
 """Asks the readers of certificates and signed objects about values that are cut off, and about 10,000 values in each other.
 
-    octets.py PROGRAM [--most N]      (PROGRAM is crates/objects_cases/out/objects_cases)
+    octets.py PROGRAM.. [--most N]      (each PROGRAM is crates/NAME/out/NAME of objects_cases or attestations_cases)
 
-A row of the table below names a reader and the questions that ask it; each public `decode` of the crates below the program has a
+A row of the tables below names a reader and the questions that ask it; each public `decode` of the crates below the programs has a
 row. Of the stored questions that a reader answers with a value some are taken, of all lengths, and each proper front of their octets
 has to be refused; a locator's has to be where a second reading (`rpki_readers.py`) refuses it. Values in each other are asked of the
 readers as a whole, and where a reader takes any value.
@@ -20,60 +20,69 @@ sys.dont_write_bytecode = True
 sys.path.insert(0, os.path.join(os.path.dirname(os.path.abspath(__file__)), os.pardir, "lib"))
 
 import calls  # noqa: E402
-from outcomes import TOP  # noqa: E402
+from outcomes import SLOWER, TOP  # noqa: E402
 from programs import CRATES, libraries  # noqa: E402
 from rpki_readers import Locator, Refused  # noqa: E402
 from rpki_repositories import ALGORITHM, NULL, bits, integer, oid, seq, tlv  # noqa: E402
 
-SECONDS = 900
+SECONDS = 900 * SLOWER
 DEPTH = 10_000
 LONGEST = 8000  # digits of a value that is cut off
 LOCATORS = "locator name"
-# The first words of questions whose last word is a value's octets, and the calls that they ask.
+# Of each program the first words of questions whose last word is a value's octets, and the calls that they ask.
 READERS = {
-    "cert read told": "Cert::decode",
-    "cert within taken": "Cert::take_from",
-    "key decode": "PublicKey::decode",
-    "key read": "PublicKey::take_from",
-    "key identifier read": "KeyIdentifier::take_from",
-    "serial read": "Serial::take_from",
-    "signed data": "SignedData::take_from",
-    "signed front": "SignedData::decode",
-    "signed x509": "X.509's signature algorithms: take_from",
-    "signed cms": "CMS's signature algorithms: take_from",
-    "signed digest": "DigestAlgorithm::take_from",
-    "signed digests": "DigestAlgorithm::take_set_from",
-    "name inspect": "Name::take_from",
-    "time read": "Time::take_from",
-    "time validity": "Validity::take_from",
-    "crl read": "Crl::decode",
-    "within fields": "TbsCertList::take_from",
-    "within taken": "Crl::take_from",
-    "entry taken": "CrlEntry::take_from",
-    "listed taken": "RevokedCertificates::take_from",
-    "object strict any": "SignedObject::decode",
-    "object relaxed any": "SignedObject::decode, in BER",
-    "object strict manifest": "Manifest::decode",
-    "object relaxed manifest": "Manifest::decode, in BER",
-    "object strict roa": "Roa::decode",
-    "object relaxed roa": "Roa::decode, in BER",
-    "object strict aspa": "Aspa::decode",
-    "object relaxed aspa": "Aspa::decode, in BER",
-    "manifest read": "ManifestContent::decode",
-    "roa": "RouteOriginAttestation::decode",
-    "aspa": "AsProviderAttestation::decode",
-    "message": "SignedAttrs::take_from",
-    "rsc content": "ResourceSignedChecklist::decode",
-    "rsc object strict": "Rsc::decode",
-    "rsc object relaxed": "Rsc::decode, in BER",
-    LOCATORS: "Tal::read_named",
+    "objects_cases": {
+        "cert read told": "Cert::decode",
+        "cert within taken": "Cert::take_from",
+        "key decode": "PublicKey::decode",
+        "key read": "PublicKey::take_from",
+        "key identifier read": "KeyIdentifier::take_from",
+        "serial read": "Serial::take_from",
+        "signed data": "SignedData::take_from",
+        "signed front": "SignedData::decode",
+        "signed x509": "X.509's signature algorithms: take_from",
+        "signed cms": "CMS's signature algorithms: take_from",
+        "signed digest": "DigestAlgorithm::take_from",
+        "signed digests": "DigestAlgorithm::take_set_from",
+        "name inspect": "Name::take_from",
+        "time read": "Time::take_from",
+        "time validity": "Validity::take_from",
+        "crl read": "Crl::decode",
+        "within fields": "TbsCertList::take_from",
+        "within taken": "Crl::take_from",
+        "entry taken": "CrlEntry::take_from",
+        "listed taken": "RevokedCertificates::take_from",
+        "object strict any": "SignedObject::decode",
+        "object relaxed any": "SignedObject::decode, in BER",
+        "object strict manifest": "Manifest::decode",
+        "object relaxed manifest": "Manifest::decode, in BER",
+        "object strict roa": "Roa::decode",
+        "object relaxed roa": "Roa::decode, in BER",
+        "object strict aspa": "Aspa::decode",
+        "object relaxed aspa": "Aspa::decode, in BER",
+        "manifest read": "ManifestContent::decode",
+        "roa": "RouteOriginAttestation::decode",
+        "aspa": "AsProviderAttestation::decode",
+        "message": "SignedAttrs::take_from",
+        "rsc content": "ResourceSignedChecklist::decode",
+        "rsc object strict": "Rsc::decode",
+        "rsc object relaxed": "Rsc::decode, in BER",
+        LOCATORS: "Tal::read_named",
+    },
+    "attestations_cases": {
+        "read strict": "Rta::decode",
+        "read relaxed": "Rta::decode, in BER",
+        "multi strict": "MultiSignedObject::decode",
+        "multi relaxed": "MultiSignedObject::decode, in BER",
+        "content": "ResourceTaggedAttestation::decode",
+    },
 }
 
 
 def without_row():
-    """The public calls `decode` of the crates of certificates and objects below the program that no row names."""
-    named = {call.partition(",")[0] for call in READERS.values()}
-    for crate in sorted(libraries()["objects_cases"]):
+    """The public calls `decode` of the crates of certificates and objects below the programs that no row names."""
+    named = {call.partition(",")[0] for rows in READERS.values() for call in rows.values()}
+    for crate in sorted(set().union(*map(libraries().get, READERS))):
         if crate.startswith(("certs", "objects")) and "answers" not in libraries()[crate]:
             for path in sorted((CRATES / crate / "src").rglob("*.rt")):
                 for call in calls.calls_of(crate, path, path.read_text(), ()):
@@ -81,11 +90,15 @@ def without_row():
                         yield f"{crate}: {call.owner}::decode"
 
 
-def stored():
-    """The stored questions, as words, with their answers."""
-    folder = os.path.join(TOP, "crates", "objects_cases")
+def stored(name):
+    """The stored questions of a program, as words, with their answers."""
+    folder = os.path.join(TOP, "crates", name)
     with open(os.path.join(folder, "stdin")) as asked, open(os.path.join(folder, "stdout")) as answered:
         return [(question[:-1].split("\t"), answer[:-1]) for question, answer in zip(asked, answered, strict=True)]
+
+
+# Readers of what may be missing: no octets at all are lawful there.
+OPTIONAL = ("listed taken",)
 
 
 def is_octets(word):
@@ -149,16 +162,17 @@ def is_right(reader, octets, answer):
     return is_read(reader, answer) == (reader == LOCATORS and reads(octets))
 
 
-def fronts(rows, most):
-    """Each proper front of some good values of each reader: the reader, the question, what the octets are."""
-    for reader in READERS:
+def fronts(name, most):
+    """Each proper front of some good values of each reader of a program: the reader, the question, what the octets are."""
+    rows = stored(name)
+    for reader in READERS[name]:
         head = reader.split()
         good = [words for words, answer in rows if words[: len(head)] == head and is_octets(words[-1]) and is_read(reader, answer)]
         good = [words for words in good if len(words[-1]) <= LONGEST and is_whole(reader, bytes.fromhex(words[-1]))]
         assert good, reader
         for words in spread(good, most):
             octets = bytes.fromhex(words[-1])
-            for size in range(len(octets)):
+            for size in range(reader in OPTIONAL, len(octets)):
                 yield reader, [*words[:-1], octets[:size].hex()], octets[:size]
 
 
@@ -169,10 +183,23 @@ def nested(tag=0x30):
     return octets
 
 
+def values_within():
+    """Values in each other: SEQUENCEs, values with tags, and such without lengths, which end or don't."""
+    return nested(), nested(0xA0), b"\x30\x80" * DEPTH, b"\x30\x80" * DEPTH + b"\0\0" * DEPTH
+
+
+def deep_attestations():
+    """Questions about attestations that are values in each other."""
+    for octets in values_within():
+        for how in ("strict", "relaxed"):
+            yield ["read", how, octets.hex()], None
+            yield ["multi", how, octets.hex()], None
+        yield ["content", octets.hex()], None
+
+
 def deep():
     """Questions about values in each other: the words, and the right answer, or None where the octets have to be refused."""
-    sequences, tagged = nested(), nested(0xA0)
-    endless, ended = b"\x30\x80" * DEPTH, b"\x30\x80" * DEPTH + b"\0\0" * DEPTH
+    sequences, tagged, endless, ended = values_within()
     rsa = seq(oid("1.2.840.113549.1.1.1"), NULL)
     signature = (ALGORITHM, bits(b""))
     for octets in (sequences, tagged, endless, ended):
@@ -192,8 +219,11 @@ def deep():
             yield ["signed", "data", mode, seq(NULL, seq(oid("1.2.840.113549.1.1.11"), octets), bits(b"")).hex()], None
         yield ["crl", "read", octets.hex()], None
         yield ["crl", "read", seq(octets, *signature).hex()], None
+        for reader in ("manifest read", "roa", "aspa", "rsc content", "rsc object strict", "rsc object relaxed"):
+            yield [*reader.split(), octets.hex()], None
         for how in ("strict", "relaxed"):
-            yield ["object", how, "any", octets.hex()], None
+            for kind in ("any", "manifest", "roa", "aspa"):
+                yield ["object", how, kind, octets.hex()], None
     # What is signed may be any value.
     for octets in (sequences, tagged):
         for mode in ("ber", "der"):
@@ -205,16 +235,16 @@ def deep():
     yield ["signed", "data", "der", whole], None
 
 
-def main():
-    parser = argparse.ArgumentParser(description=__doc__, formatter_class=argparse.RawDescriptionHelpFormatter)
-    parser.add_argument("program")
-    parser.add_argument("--most", type=int, default=3, help="how many values of each reader are cut off")
-    given = parser.parse_args()
-    cut, values = list(fronts(stored(), given.most)), list(deep())
+DEEP = {"objects_cases": deep, "attestations_cases": deep_attestations}
+
+
+def tried(program, most):
+    """How many fronts and other questions a program is asked, and what is wrong about its answers."""
+    name = os.path.basename(program)
+    cut, values = list(fronts(name, most)), list(DEEP[name]())
     lines = "".join("\t".join(words) + "\n" for words in [*(words for _, words, _ in cut), *(words for words, _ in values)])
-    done = subprocess.run([os.path.abspath(given.program)], input=lines, capture_output=True, text=True, timeout=SECONDS)
-    said = done.stdout.splitlines()
-    wrong = [f"{call} has no row in tests/outside/octets.py" for call in without_row()]
+    done = subprocess.run([os.path.abspath(program)], input=lines, capture_output=True, text=True, timeout=SECONDS)
+    said, wrong = done.stdout.splitlines(), []
     if done.returncode or len(said) != len(cut) + len(values):
         wrong.append(f"status {done.returncode}, {len(said)} answers to {len(cut) + len(values)} questions: {done.stderr[-500:]}")
     for (reader, words, octets), answer in zip(cut, said):
@@ -223,9 +253,22 @@ def main():
     for (words, right), answer in zip(values, said[len(cut) :]):
         if answer != right if right is not None else not answer.startswith("refused"):
             wrong.append(f"{' '.join(words)[:120]}: {answer[:200]}, and {str(right)[:200]} is right")
+    return len(cut), len(values), wrong
+
+
+def main():
+    parser = argparse.ArgumentParser(description=__doc__, formatter_class=argparse.RawDescriptionHelpFormatter)
+    parser.add_argument("programs", nargs="+", metavar="PROGRAM")
+    parser.add_argument("--most", type=int, default=3, help="how many values of each reader are cut off")
+    given = parser.parse_args()
+    wrong = [f"{call} has no row in tests/outside/octets.py" for call in without_row()]
+    cut = values = 0
+    for program in given.programs:
+        counts = tried(program, given.most)
+        cut, values, wrong = cut + counts[0], values + counts[1], wrong + counts[2]
     print("\n".join(wrong[:50]))
-    print(f"{len(cut)} fronts, {len(values)} questions about {DEPTH} values in each other")
-    print(f"{len(cut) + len(values) - len(wrong)} passed, {len(wrong)} failed")
+    print(f"{cut} fronts, {values} questions about {DEPTH} values in each other")
+    print(f"{cut + values - len(wrong)} passed, {len(wrong)} failed")
     sys.exit(1 if wrong else 0)
 
 

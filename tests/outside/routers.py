@@ -283,18 +283,26 @@ def compared(room):
         same(f"none of the forms: {text!r}", (done.returncode, "Traceback" in done.stderr), (2, False))
 
 
+# Of the example cache: a ROA has a changed octet in its signature, one's certificate claims others' addresses, one's is revoked.
+REASONS = {"object-bad-signature": 1, "object-certificate-overclaim": 1, "object-certificate-revoked": 1}
+
+
 def reasons(room, program, asker):
     """compare.py with the example cache's bundle: each cause."""
     top, ours, kept = os.path.join(TOP, "examples"), os.path.join(room, "ours.json"), os.path.join(room, "kept")
     tool("validate.py", os.path.join(top, "cache"), "--tals", os.path.join(top, "cache", "tals"), "--out", ours, "--keep", kept,
-         "--moment", repository.MOMENT, "--checker", program, check=True)
+         "--moment", repository.MOMENT, "--checker", program, "--asker", asker, check=True)
+    with open(os.path.join(kept, "summary.json")) as file:
+        same("reasons: validate.py's", json.load(file)["reasons"], REASONS)
     host = "rsync://rpki.example/repository/"
     other = write(os.path.join(room, "jsonext"), json.dumps(JSONEXT))
     words = ["--bundle", kept, "--checker", program, "--asker", asker]
     said = tool("compare.py", ours, other, *words).stdout
+    chain = f"{NAME} {host}ta.cer {host}ta/registry.cer {host}registry/operator.cer"
     for line in (f"  good {host}registry/own.roa {NAME} {host}ta.cer {host}ta/registry.cer",
-                 f"  refused {host}operator/revoked.roa object", f"  absent {host}operator/none.roa",
-                 "  good: 2", "  OTHER's object isn't in the bundle; refused: object: 1"):
+                 f"  refused {host}operator/revoked.roa object: certificate of the object: revoked; by {chain}",
+                 f"  absent {host}operator/none.roa", "  good: 2",
+                 "  OTHER's object isn't in the bundle; refused: certificate of the object: revoked: 1"):
         same(f"reasons: {line.strip()}", line in said.splitlines(), True)
     write(other, FORT + "AS1,10.0.0.0/8,8\n")
     said = tool("compare.py", ours, other, *words, "--summary").stdout
@@ -315,8 +323,9 @@ def unlisted(room, program, asker):
     other = write(os.path.join(room, "fort.csv"), FORT)
     said = tool("compare.py", ours, other, "--bundle", kept, "--checker", program, "--asker", asker).stdout.splitlines()
     host = "rsync://rpki.example/repository/"
-    for line in (f"  unlisted {host}operator/v4.roa", f"  above refused {host}registry/operator.cer point",
-                 "  no accepted authority lists the object, above it refused: point: 2"):
+    chain = f"{NAME} {host}ta.cer {host}ta/registry.cer {host}registry/operator.cer"
+    for line in (f"  unlisted {host}operator/v4.roa", f"  above refused {host}registry/operator.cer point: manifest: missing; by {chain}",
+                 "  no accepted authority lists the object, above it refused: manifest: missing: 2"):
         same(f"unlisted: {line.strip()}", line in said, True)
 
 

@@ -22,7 +22,8 @@ import rpki_model  # noqa: E402
 from outcomes import SECONDS  # noqa: E402
 from rpki_chance import bundle_by_chance, long_bundle  # noqa: E402
 from rpki_facts import fact_object, fact_rows  # noqa: E402
-from rpki_walks import run_text, worked_cases  # noqa: E402
+from rpki_model import run_text  # noqa: E402
+from rpki_walks import worked_cases  # noqa: E402
 
 
 LONG = 4  # of so many seeds one has a bundle with long chains, too

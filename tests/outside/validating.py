@@ -38,14 +38,19 @@ OLD = "what was there before\n"
 # So long a stand-in that hangs is waited for; all others have to start and end meanwhile.
 TIME_LIMIT = str(5 * SLOWER)
 LINES = "roa AS64496 192.0.2.0/24 24\naspa AS64496 AS64497\nrefused example anchor\nrefused rsync://rpki.example/x object\n"
+# Of these refusals the reasons: the object's on two chains.
+OBJECT = '"name":"rsync://rpki.example/x","cause":"object","reason":"object-unreadable","locator":"example"'
+REASONS = '{"refused":[{"name":"example","cause":"anchor","reason":"anchor-expired","locator":"example","chain":[]},'
+REASONS += f'{{{OBJECT},"chain":["rsync://rpki.example/a"]}},{{{OBJECT},"chain":["rsync://rpki.example/b"]}}]}}\n'
 # What stands in the place of both programs: the word in FAKE is a step and what it does there. With BUNDLE, a file, that is the
 # bundle; then `check` hangs, or lacks memory, while an object stands at one of the URIs in AT, and `cost` prints what COST has.
 STAND_IN = f"""#!{sys.executable}
 import os, sys, time
 step, _, deed = os.environ.get("FAKE", "").partition(" ")
-asked, bundle = sys.argv[1], os.environ.get("BUNDLE")
+json, bundle = sys.argv[1] == "--json", os.environ.get("BUNDLE")
+asked = sys.argv[1 + json]
 told = {{"bundle": "bundle\\n", "check": os.environ["LINES"], "cost": os.environ.get("COST"),
-        "reach": "as \\nipv4 10.1.0.0/16\\nipv6 \\n"}}
+        "reach": "as \\nipv4 10.1.0.0/16\\nipv6 \\n", "refusals": os.environ.get("REASONS", {REASONS!r})}}
 text = open(bundle, "rb").read() if bundle and asked == "bundle" else told[asked].encode()
 if bundle and asked == "check":
     octets = sys.stdin.buffer.read()
@@ -197,12 +202,40 @@ def told(room):
     for text in ("1 origins, 1 customers", "refused: anchor 1, object 1", "refused example anchor", "check", "is new"):
         same(f"told: {text}", text in done.stderr, True)
     same("nothing on standard output", (done.returncode, done.stdout), (0, ""))
+    same("told: reasons", "reasons: anchor-expired 1, object-unreadable 1\n" in done.stderr, True)
     same("build time", json.loads(read(room.out))["metadata"]["buildtime"], "2025-01-01T00:00:00Z")
     done = room.run("--form", "csv")
     wanted = "ASN,Prefix,Max prefix length\nAS64496,192.0.2.0/24,24\n"
     same("csv", (read(room.out), "providers left out: 1" in done.stderr), (wanted, True))
     room.run("--form", "openbgpd", "--no-aspa", "--name", "here", "--lifetime", "0")
     same("openbgpd", read(room.out).splitlines()[1:], ["roa-set {", "\t192.0.2.0/24 source-as 64496", "}"])
+
+
+def reasons(room):
+    """Refusals are counted by reason; where reasons can't be had the file is new all the same, and the summary says why."""
+    done = room.run(lines="roa AS64496 192.0.2.0/24 24\n", fake="refusals fails")
+    same("no refusals, no reasons", (done.returncode, "reasons" in done.stderr), (0, False))
+    kept, none, empty = (room.path(name) for name in ("reasons", "none", "no-program"))
+    os.chmod(write(empty, ""), 0o755)
+    others = f"what {room.fake} tells aren't reasons"
+    for what, words, how, wanted in (
+        ("none that are known", ("--asker", none), {}, f"{none} is no program"),
+        ("an asker that doesn't start", ("--asker", empty), {}, f"{empty} doesn't start: Exec format error"),
+        ("a failure", (), {"fake": "refusals fails"}, "rpki_ask refusals ended with status 1"),
+        ("a death", (), {"fake": "refusals dies"}, "rpki_ask refusals was ended by signal 9"),
+        ("no end", ("--time-limit", TIME_LIMIT), {"fake": "refusals hangs 600"}, f"rpki_ask refusals hadn't ended after {TIME_LIMIT} seconds"),
+        ("no JSON", (), {"REASONS": "refused\n"}, others),
+        ("other JSON", (), {"REASONS": "[]\n"}, others),
+        ("other rows", (), {"REASONS": '{"refused":[1]}\n'}, others),
+        ("all", (), {}, None),
+    ):
+        room.reset()
+        done = room.run("--keep", kept, *words, **how)
+        same(f"reasons, {what}", (done.returncode, read(room.out) == OLD, room.left()), (0, False, []))
+        told = json.loads(read(os.path.join(kept, "summary.json")))
+        counted = None if wanted else {"anchor-expired": 1, "object-unreadable": 1}
+        same(f"reasons, {what}: kept", (told["reasons"], told["reasons_unknown"]), (counted, wanted))
+        same(f"reasons, {what}: told", f"reasons: not known: {wanted}\n" in done.stderr, bool(wanted))
 
 
 def files(room):
@@ -432,6 +465,7 @@ def main():
         room = Room(folder)
         statuses(room)
         told(room)
+        reasons(room)
         files(room)
         evidence(room)
         ended(room)

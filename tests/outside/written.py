@@ -20,7 +20,7 @@ STORED = ("stdin", "stdout", "data")
 
 def lay(room, names):
     """Copies what the script stands on and what it writes; the folders that it writes."""
-    for part in ("tests/questions", "tests/lib", "bench"):
+    for part in ("tests/questions", "tests/lib", "bench", "crates/rpki_rules/src", "crates/certs_extension/src", "crates/objects_payload/src"):
         shutil.copytree(TOP / part, room / part, ignore=shutil.ignore_patterns("__pycache__"))
     for name in names:
         folder = "tests/cases" if name == "cases" else f"crates/{name}"

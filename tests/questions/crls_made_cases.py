@@ -86,26 +86,32 @@ def some_lists():
         yield List(entries=[(rng.choice(SERIALS + (rng.randrange(2**64),)), rng.choice(DATES)) for _ in range(count)])
 
 
+def of_both(q, answer, kind, words):
+    """The same is asked of a list over the octets of its entries, and over a vector of entries."""
+    q.ask(answer, "made", kind, *words)
+    q.ask(answer, "made", "gathered", kind, *words)
+
+
 def built(q):
     """Lists with their signatures, the signer's refusals, and fields in each mode."""
     for made in some_lists():
         read_elsewhere(made)
         text = "x" + made.der().hex()
-        q.ask(f"{text} {text}", "made", "build", *made.words())
+        of_both(q, f"{text} {text}", "build", made.words())
         for mode in ("der", "ber"):
             q.ask("x" + made.fields().hex(), "made", "fields", mode, *made.words())
         q.ask("no form in CER", "made", "fields", "cer", *made.words())
-        q.ask("key not found", "made", "lost", *made.words())
-        q.ask("no pen", "made", "refuse", *made.words())
+        of_both(q, "key not found", "lost", made.words())
+        of_both(q, "no pen", "refuse", made.words())
     # Years that the other reader doesn't know, and a name that was read in BER, of which nothing is written in DER: the
     # signer isn't asked.
     for date in ("00000101000000Z", "19491231235959Z"):
         made = List(this=date, following=date, entries=[(1, date)])
         text = "x" + made.der().hex()
-        q.ask(f"{text} {text}", "made", "build", *made.words())
+        of_both(q, f"{text} {text}", "build", made.words())
     for made in (List(), List(entries=[(12, DATES[0])])):
         for kind in ("build", "lost", "refuse"):
-            q.ask("a value that is too long", "made", kind, *made.words("ber"))
+            of_both(q, "a value that is too long", kind, made.words("ber"))
         q.ask("no form in CER", "made", "fields", "der", *made.words("ber"))
         q.ask("x" + made.fields().hex(), "made", "fields", "ber", *made.words("ber"))
 

@@ -1,8 +1,17 @@
 #!/usr/bin/env python3
-"""Writes the questions and answers of the examples that are programs: `stdin` and `stdout` of `crates/example_codec` and
-`crates/example_resources`. Tallies are written by an encoder of its own; what isn't held was thought out by hand."""
+"""Writes the questions and answers of the examples that are programs: `stdin` and `stdout` of `crates/example_codec`,
+`crates/example_resources` and `crates/example_checklist`. Tallies are written by an encoder of its own; what isn't held, and
+what becomes of a checklist, was thought out by hand. Checklists are those of objects_rsc_cases.py."""
 
+import hashlib
 import pathlib
+import sys
+
+sys.dont_write_bytecode = True
+sys.path.insert(0, str(pathlib.Path(__file__).resolve().parents[1] / "lib"))
+
+import objects_rsc_cases as rsc  # noqa: E402
+import rpki_repositories as world  # noqa: E402
 
 CRATES = pathlib.Path(__file__).resolve().parents[2] / "crates"
 
@@ -78,8 +87,34 @@ def resources():
     yield "claim", "refused: not a word and three texts"
 
 
+def checklists():
+    """A checklist of two files, of which one has no name, below an anchor."""
+    files = {"a.txt": b"the first file", "b.txt": b"the second file"}
+    digests = {name: world.tlv(4, hashlib.sha256(octets).digest()) for name, octets in files.items()}
+    entries = [world.seq(world.tlv(0x16, b"a.txt"), digests["a.txt"]), world.seq(digests["b.txt"])]
+    content = rsc.checklist(rsc.STATED, entries=world.seq(*entries))
+
+    def line(name, octets, moment=world.MOMENT, **parts):
+        made = rsc.Made(place=b"", content=content, **parts).octets()
+        return "\t".join((moment.decode(), rsc.ANCHOR.hex(), made.hex(), name, octets.hex()))
+
+    yield line("a.txt", files["a.txt"]), "listed"
+    yield line("a.txt", files["a.txt"] + b"."), "not listed"
+    yield line("A.txt", files["a.txt"]), "not listed"
+    yield line("b.txt", files["b.txt"]), "not listed"
+    yield line("", files["b.txt"]), "not listed"
+    yield line("a.txt", files["a.txt"], content_key=2), "refused: bad signature"
+    yield line("a.txt", files["a.txt"], moment=world.FIRST), "listed"
+    yield line("a.txt", files["a.txt"], moment=b"20270101000000Z"), "refused: no trust anchor"
+    yield line("a.txt", files["a.txt"], claims={"as": [64496]}), "refused: uncovered resources"
+    yield line("a.txt", files["a.txt"], kind=world.ROA), "refused: no checklist"
+    yield line("a.txt", files["a.txt"], moment=b"20250101"), "refused: no moment"
+    yield "a.txt", "refused: not five words"
+
+
 def main():
-    for name, rows in (("example_codec", list(codec())), ("example_resources", list(resources()))):
+    for name, rows in (("example_codec", codec()), ("example_resources", resources()), ("example_checklist", checklists())):
+        rows = list(rows)
         for file, at in (("stdin", 0), ("stdout", 1)):
             (CRATES / name / file).write_text("".join(row[at] + "\n" for row in rows))
 

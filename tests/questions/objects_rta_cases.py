@@ -1,5 +1,5 @@
 #!/usr/bin/env python3
-"""Resource tagged attestations that crates/objects_cases is asked about, for tests/questions/objects_cases.py.
+"""Resource tagged attestations that are read, for tests/questions/attestations_cases.py.
 
 Documents are made of named parts, of which one is another, or are good ones of which one value is left out, doubled, moved, or
 spelled otherwise. What is read of them is told by tests/lib/rpki_attestations.py; of the worked cases, and of what is good and what
@@ -15,7 +15,7 @@ sys.dont_write_bytecode = True
 sys.path.insert(0, str(pathlib.Path(__file__).resolve().parents[1] / "lib"))
 
 import rpki_repositories as world  # noqa: E402
-from objects_rsc_cases import TEXTS, V4, V6, Behind, blocks, family, ip_part, nest, numbers  # noqa: E402
+from objects_rsc_cases import TEXTS, V4, V6, blocks, family, ip_part, nest, numbers  # noqa: E402
 from rpki_attestations import Attestation, MultiObject, Said  # noqa: E402
 from rpki_readers import Refused, front  # noqa: E402
 from rpki_relaxed import indefinite, long, nested, segments, spelled, spelled_by_chance  # noqa: E402
@@ -179,19 +179,27 @@ STRING = (*INFO, 1, 0)
 # The worked case: one signer below an authority, which isn't carried; and with that one, its anchor, and the lists of both.
 
 
-def worked():
+def worked_parts():
+    """The certificates of the signer, of its authority and of the anchor, and the lists of both."""
     held = {"as": [64496]}
     anchor = MAKER.anchor(ANCHOR, held, locator=None, serial=1)
     authority = MAKER.authority(CA, world.HOST + b"ca/", b"ca")
     anchor.certify(b"ca.cer", authority, held, serial=2)
     extensions = [*authority.below(FIRST, False), world.policies(False), *world.claims_of(held)]
     holder = MAKER.cert(FIRST, CA, extensions, serial=3)
-    content = attestation(keys=tlv(0x31, key_of(FIRST)))
-    alone = {"content": content, "signers": signer(FIRST, content)}
-    small = made(certs=holder, crls=b"", **alone)
-    carried = [holder, anchor.files[b"ca.cer"], MAKER.objects[anchor.at]]
-    lists = [authority.list_of_revoked(), anchor.list_of_revoked()]
-    large = made(certs=b"".join(carried), lists=b"".join(lists), **alone)
+    return [holder, anchor.files[b"ca.cer"], MAKER.objects[anchor.at]], [authority.list_of_revoked(), anchor.list_of_revoked()]
+
+
+def worked_document(certs, lists, stated=STATED):
+    content = attestation(keys=tlv(0x31, key_of(FIRST)), resources=stated)
+    crls = {"lists": b"".join(lists)} if lists else {"crls": b""}
+    return content, made(content, certs=b"".join(certs), signers=signer(FIRST, content), **crls)
+
+
+def worked():
+    certs, lists = worked_parts()
+    content, small = worked_document(certs[:1], [])
+    _, large = worked_document(certs, lists)
     key, parent, top = (f"x{MAKER.identifier(one).hex()}" for one in (FIRST, CA, ANCHOR))
     said = f"1 {key} [AS64496] - - x{DIGEST.hex()} x{oid(ATTESTATION)[2:].hex()} x{content.hex()}"
     attributes = attribute("3", oid(ATTESTATION)) + attribute("4", tlv(4, hashlib.sha256(content).digest()))
@@ -643,7 +651,7 @@ class Asked:
         for how in modes or ("strict", "relaxed"):
             if (how, octets) not in self.seen:
                 self.seen.add((how, octets))
-                self.q.ask(answer_of(octets, how), how, octets.hex())
+                self.q.ask(answer_of(octets, how), "read", how, octets.hex())
 
     def known(self, octets, is_good, *modes):
         """What has to be read, or to be refused."""
@@ -699,15 +707,15 @@ class Asked:
             for how, (opening, ending) in ends.items():
                 middle = b"\x30\x80" * 10_000 + (b"\0\0" * 10_000 if ending else b"")
                 assert answer_of(before + middle + behind, "relaxed") == "refused", (name, how)
-                self.q.ask("refused", "relaxed", "+".join(filter(None, (before.hex(), opening, ending, behind.hex()))))
-        self.q.ask("refused", "relaxed", "3080*10000")
-        self.q.ask("refused", "strict", "3080*10000")
+                self.q.ask("refused", "read", "relaxed", "+".join(filter(None, (before.hex(), opening, ending, behind.hex()))))
+        self.q.ask("refused", "read", "relaxed", "3080*10000")
+        self.q.ask("refused", "read", "strict", "3080*10000")
         # a string in ten thousand segments in each other is one
         before, behind = spelled(made(string=mark, crls=b""), {}, indefinite).split(mark)
         piece = tlv(4, CONTENT)
         answer = answer_of(before + b"\x24\x80" * 10_000 + piece + b"\0\0" * 10_000 + behind, "relaxed")
         assert answer != "refused"
-        self.q.ask(answer, "relaxed", f"{before.hex()}+2480*10000+{piece.hex()}+0000*10000+{behind.hex()}")
+        self.q.ask(answer, "read", "relaxed", f"{before.hex()}+2480*10000+{piece.hex()}+0000*10000+{behind.hex()}")
 
 
     def contents(self):
@@ -738,4 +746,4 @@ class Asked:
 
 def attestations(q):
     """Asks all."""
-    Asked(Behind(q, "rta")).ask()
+    Asked(q).ask()

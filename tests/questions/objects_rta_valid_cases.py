@@ -1,5 +1,5 @@
 #!/usr/bin/env python3
-"""Questions about which resource tagged attestations are valid, for tests/questions/objects_cases.py: documents that are made from
+"""Questions about which resource tagged attestations are valid, for tests/questions/attestations_cases.py: documents that are made from
 good ones by one change each, and of authorities, lists and signers by chance.
 
 What becomes of them is told by tests/lib/rpki_validation.py; of those that are made by hand it is known what they lack, or what
@@ -8,7 +8,7 @@ anchors them and what is then said.
     objects_rta_valid_cases.py [PROGRAM]
 
 makes all, compares the second reading with what is known by hand, and its paths with the lists of places that are some by their
-definition, and counts what is answered; asks PROGRAM all, if one is given (crates/objects_cases/out/objects_cases).
+definition, and counts what is answered; asks PROGRAM all, if one is given (crates/attestations_cases/out/attestations_cases).
 """
 
 import collections
@@ -22,11 +22,11 @@ import sys
 sys.dont_write_bytecode = True
 sys.path.insert(0, str(pathlib.Path(__file__).resolve().parents[1] / "lib"))
 
-from objects_rsc_cases import Behind, nest  # noqa: E402
-from objects_rta_cases import edits, made  # noqa: E402
+from objects_rsc_cases import nest  # noqa: E402
+from objects_rta_cases import as_part, edits, made, worked_document, worked_parts  # noqa: E402
 from objects_rta_documents import ALONE, ANCHOR, APART, BOTH, CA, EARLY, HIGH, ITSELF, LATE, LOW, MAKER, ONE, OTHER_CA, SECOND_ANCHOR  # noqa: E402
 from objects_rta_documents import SHORT, SOMEBODY, TOP, NEXT, TREE, TWO, WIDE, Base, anchor, authority, ca, certificate, chain  # noqa: E402
-from objects_rta_documents import holder, ring, tal  # noqa: E402
+from objects_rta_documents import holder, revocations, ring, tal  # noqa: E402
 from objects_rta_faults import TOPICS  # noqa: E402
 from rpki_attestations import Attestation  # noqa: E402
 from rpki_readers import KINDS, Refused, joined  # noqa: E402
@@ -316,11 +316,32 @@ class Asked:
             self.said(wanted, base, new, steps)
         for base, new, wanted in of_what_is_held():
             self.said(f"{'yes ' * len(base.steps)}{wanted}", base, new, base.steps, is_asked=self.whole)
+        self.worked()
         self.moments()
         self.spellings()
         self.edited()
         for _ in range(count):
             self.chance(*by_chance())
+
+    def worked(self):
+        """The worked case: one who signs, below an authority that isn't carried, and is supplied; or carried with its anchor and the
+        lists of both, also with a certificate, or a list, that no path uses."""
+        certs, lists = worked_parts()
+        supplied, more = ("ca", (certs[2], certs[1])), seq(as_part(64496, 64497))
+        other_cert, other_list = certificate(**authority(SOMEBODY, SECOND_ANCHOR, LOW)), revocations(SOMEBODY)
+        for carried, stated, steps, faults, wanted in (
+            ((certs[:1], []), None, [], [], "no"),
+            ((certs[:1], []), None, [supplied], [], "yes yes"),
+            ((certs[:1], []), more, [supplied], [], "yes no"),
+            ((certs, lists), None, [tal(ANCHOR)], [], "yes yes"),
+            ((certs, lists), more, [tal(ANCHOR)], [], "yes no"),
+            (([*certs, other_cert], lists), None, [tal(ANCHOR)], ["certificates"], None),
+            ((certs, [*lists, other_list]), None, [tal(ANCHOR)], ["lists"], None),
+        ):
+            _, octets = worked_document(*carried, *([stated] if stated else []))
+            said, found = self.one(octets, steps)
+            assert (found.faults, said) == (faults, wanted), (found.faults, said, wanted)
+            assert found.faults or found.paths == [list(range(len(carried[0])))]
 
     def moments(self):
         """Both ends of what is valid, and a second outside."""
@@ -329,7 +350,7 @@ class Asked:
                 faults = f"{wanted} revoked" if moment == LATE and base.lists else wanted
                 # (whoever is supplied is valid at another moment)
                 steps = [step for step in base.steps if step[0] == "tal"]
-                for call in ("valid", "valid-clock"):
+                for call in ("valid", "clock"):
                     _, found = self.one(base.made(), steps, moment=moment, call=call)
                     assert found.faults == [fault for fault in FAULTS if fault in faults.split()], (moment, found.faults)
 
@@ -406,7 +427,7 @@ def anchored(found, steps):
 
 def validations(q, count, whole=False):
     """Asks about all that are made by hand, and so many by chance."""
-    Asked(Behind(q, "rta"), whole).ask(count)
+    Asked(q, whole).ask(count)
 
 
 def is_path(certs, key, places):
@@ -448,7 +469,7 @@ class Rows:
 
 def main():
     found = Rows()
-    validations(found, 400, len(sys.argv) == 1)
+    validations(found, 400, whole=True)
     compare_paths(100)
     firsts = (answer.split() for _, answer in found.rows)
     for said, count in sorted(collections.Counter(" ".join(words[:1] if words[0] == "valid" else words) for words in firsts).items()):

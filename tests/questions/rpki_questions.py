@@ -1,11 +1,16 @@
-"""Questions to the program of questions, as rows of crates/rpki_cases: why something is attested or refused, what a judge
-says, what is reached, what a walk costs, and wrong words.
+"""Questions to the program of questions, as rows of crates/rpki_cases: why something is attested or refused, all that is refused,
+what a judge says, what is reached, what a walk costs, and wrong words.
 
-`tests/questions/rpki_cases.py` calls `questions`; what is right is stated here or comes of tests/lib/rpki_model.py.
+`tests/questions/rpki_cases.py` calls `questions`; what is right is stated here or comes of tests/lib/rpki_model.py and, of what
+is refused, of tests/lib/rpki_reasons.py. Each reason that can come is shown twice at least.
 """
 
+import collections
+
 import rpki_model
-from rpki_facts import fact_object, fact_rows
+import rpki_refused
+from rpki_facts import fact_object, fact_rows, reasons_of, refusal_rows, refusals_object
+from rpki_reason_words import bare, shortfalls
 from rpki_repositories import HOST
 from rpki_walks import OTHER, cycle, overclaiming, parents, refused_authorities, second, single, text, trimmed
 
@@ -29,7 +34,7 @@ def way(*uris):
     return b" ".join((b"t", *uris)).decode()
 
 
-def reasons(q):
+def facts(q):
     """Refusals, good objects and chains of the worked cases."""
     (world, _), a, ta = single(), HOST + b"ta/a.roa", HOST + b"ta.cer"
     good = f"good {a.decode()} {way(ta)}"
@@ -39,17 +44,51 @@ def reasons(q):
     whys(q, world, b"RSYNC://R.example/m/ta/ta.crl", [f"chain {way(ta)}"])
     for name in (b"t", b"x", HOST + b"none"):
         whys(q, world, name, [])
-    whys(q, overclaiming(), ta, [f"refused {ta.decode()} point"])
+    overclaim = "certificate of the manifest: overclaims AS64500"
+    whys(q, overclaiming(), ta, [f"refused {ta.decode()} point: {overclaim}; by {way(ta)}"])
     whys(q, overclaiming(), a, [f"chain {way(ta)}"])
     whys(q, second(), OTHER + b"ta/b.cer")
     whys(q, second(), HOST + b"ta/ta.mft")
     y, ca = HOST + b"ca/y.roa", HOST + b"ta/ca.cer"
-    whys(q, trimmed(), y, [f"refused {y.decode()} object", f"chain {way(ta, ca)}"])
+    whys(q, trimmed(), y, [f"refused {y.decode()} object: object: unheld prefix 11.1.0.0/16; by {way(ta, ca)}", f"chain {way(ta, ca)}"])
     c = HOST + b"c/c.roa"
     first, last = (way(ta, HOST + b"ta/" + by + b".cer", HOST + by + b"/c.cer") for by in (b"a", b"b"))
-    whys(q, parents(), c, [f"refused {c.decode()} object", f"good {c.decode()} {last}", f"chain {first}", f"chain {last}"])
+    refused = f"refused {c.decode()} object: object: unheld prefix 10.200.0.0/16; by {first}"
+    whys(q, parents(), c, [refused, f"good {c.decode()} {last}", f"chain {first}", f"chain {last}"])
     for name in sorted(cycle(3).objects)[:8]:
         whys(q, cycle(3), name)
+
+
+def refusals(q, world, json=False, stated=None):
+    """Asks of all that is refused; the rows."""
+    found = rpki_model.walk(world.bundle())
+    rows = refusal_rows(found)
+    assert stated is None or rows == stated, rows
+    said = refusals_object(found) + "|" if json else text(rows)
+    asks(q, world, int(not rows), said, *(["--json"] if json else []), "refusals")
+    return reasons_of(found)
+
+
+def reasons(q):
+    """All reasons: with one fault a line in text, with two of them as JSON; some by themselves."""
+    counts = collections.Counter()
+    for json, worlds in ((False, rpki_refused.alone()), (True, rpki_refused.beside())):
+        for name, world in worlds:
+            told = {row[0]: bare(row[2]) for row in refusals(q, world, json)}
+            assert told == world.stated, (name, told)
+            counts.update(told.values())
+    lacking = list(shortfalls(counts))
+    assert not lacking, "\n".join(lacking)
+    for world in rpki_refused.single_ones():
+        ((refused, _),) = world.stated.items()
+        refusals(q, world)
+        whys(q, world, refused)
+    chain = way(*(HOST + uri for uri in (b"ta.cer", b"ta/a.cer", b"a/c.cer")))
+    unheld = f"refused {(HOST + b'c/c.roa').decode()} object: object: unheld prefix 10.200.0.0/16; by {chain}"
+    for world, stated in ((single()[0], []), (parents(), [unheld]), (overclaiming(), None), (second(), None), (cycle(3), None)):
+        refusals(q, world, stated=stated)
+        refusals(q, world, True, stated)
+    q.ask("2 [] [not a bundle|]", "ask", "refusals", "3000")
 
 
 def others(q):
@@ -67,7 +106,8 @@ def others(q):
     asks(q, world, 0, "locator|", "reach", ta)
     asks(q, world, 0, '{"locator":true}|', "--json", "reach", ta)
     asks(q, world, 1, "as |ipv4 |ipv6 |", "reach", "x")
-    for words in ([], ["why"], ["why", "x", "y"], ["judge", "t", a], ["reach"], ["--json"], ["told", "x"]):
+    wrong_refusals = ["refusals", "x"], ["--json", "refusals", "x"], ["refusals", "--json"]
+    for words in ([], ["why"], ["why", "x", "y"], ["judge", "t", a], ["reach"], ["--json"], ["told", "x"], *wrong_refusals):
         q.ask("usage", "ask", *words, world.bundle().hex())
     q.ask("2 [] [not a bundle|]", "ask", "why", "x", "3000")
 
@@ -93,6 +133,7 @@ def costs(q):
 
 def questions(q):
     """Asks all questions."""
+    facts(q)
     reasons(q)
     others(q)
     costs(q)

@@ -202,10 +202,10 @@ def item_text(key, given):
     given it another name."""
     crate, names, name = key
     kind, parts, last = source(crate, names).items[name], [], None
-    if kind in ("type", "const"):
+    if kind == "const" or kind == "type" and not calls_of(key):
         return f"- `{lines_of(key)}` (`{crate}`)"
     traits = ", ".join(f"`{it}`" for it in implemented(key)) if kind in ("struct", "enum") else ""
-    place = f"`{given}` (`{crate}`" + (f", there `{name}`)" if given != name else ")")
+    place = f"`{lines_of(key)}` (`{crate}`)" if kind == "type" else f"`{given}` (`{crate}`" + (f", there `{name}`)" if given != name else ")")
     for call in calls_of(key):
         if call.block and call.block != last:
             parts.append("\n".join([call.block, *(ghosts(key) if kind == "trait" else [])]))

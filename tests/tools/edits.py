@@ -1,8 +1,9 @@
 #!/usr/bin/env python3
 """Tries wrong bodies of crates, at the gate and beside it: the check must refuse each.
 
-    edits.py [--in FOLDER] [--stale] CRATE[/NAME]..
+    edits.py [--in FOLDER] [--stale] [--built] CRATE[/NAME]..
     edits.py --list
+    edits.py --fits
 
 Of each crate the edits of crates/CRATE/must-fail and tests/edits/CRATE are tried, or the named one; with --stale only
 those that weren't tried at the present state of the crate. In FOLDER, or in a temporary folder, copies of the crate and
@@ -13,8 +14,10 @@ function calls was refused, is tried again alone by a check of the whole crate.
 
 A line says of each whether it was refused. tests/edits/TRIED.tsv keeps what was tried at which state of the crate (a
 digest of its sources, specs and proofs and of the edit, as far as they aren't comments, say nothing of where a name
-stands and aren't laid out by the formatter); --list prints the edits that it doesn't have so. Exits with 1 where an edit
-wasn't refused or can't be applied.
+stands and aren't laid out by the formatter); with --built the crate's library is there, built from the text as it stands, and is taken as proved, so that
+only the functions of edits are checked, and what none of them refuses isn't tried. --list prints the edits that it doesn't have so. --fits checks nothing, and prints the edits that can't be
+applied, since a text of theirs doesn't stand in its file just once. Exits with 1 where an edit wasn't refused or can't be
+applied.
 """
 
 import argparse
@@ -103,6 +106,10 @@ class Edit:
                 return None
             made[file] = made[file].replace(old, new)
         return made
+
+    def fits(self):
+        """Whether it can be applied to the crate as it stands in the repository."""
+        return bool(self.applied({}, os.path.join(copies.ROOT, "crates", self.crate)))
 
     def functions(self, folder):
         """The modules and functions in which the edit stands, None where a text stands in no function."""
@@ -267,19 +274,51 @@ def try_group(group, folder, known):
     return [f"{REFUSED}: {' '.join(sorted(paths))[:160]}" if paths else None for paths in where]
 
 
-def try_crate(folder, crate, edits):
+IMPL = re.compile(r"^(?:impl|pub trait|trait)\b(?:<[^{]*?>(?= ))? ?(.*?)(?: where\b.*)?(?: \{.*)?$")
+
+
+def named(text):
+    """The last name of a type's path, without its parameters."""
+    return re.sub(r"<.*", "", text.strip()).split("::")[-1].lstrip("&")
+
+
+def functions_in(crate, folder):
+    """The paths of all functions of a crate, by the text of its sources."""
+    found = []
+    for path in sorted(glob.glob(os.path.join(folder, "src", "**", "*.rt"), recursive=True)):
+        module = re.sub(r"(/mod)?\.rt$", "", os.path.relpath(path, os.path.join(folder, "src"))).replace("/", "::")
+        front = [crate] if module in ("lib", "main") else [crate, module]
+        owner = []
+        for line in read(path).split("\n"):
+            head = IMPL.match(line)
+            if head:
+                trait, is_of, owned = head.group(1).partition(" for ")
+                owner = [named(owned) + named(trait)] if is_of else [named(trait.partition(":")[0])]
+            elif line.startswith("}"):
+                owner = []
+            name = re.match(r"^\s*(?:pub(?:\([a-z]+\))? )?fn (\w+)", line)
+            if name:
+                found.append("::".join([*front, *owner, name.group(1)]))
+    return found
+
+
+def try_crate(folder, crate, edits, built):
     """Tries the edits of a crate; how many were not refused."""
-    copies.copy(folder, [crate])
+    copies.copy(folder, [crate], linked=built)
     crate_folder = os.path.join(folder, "crates", crate)
-    proved, known, _ = check(crate_folder)
-    if proved is not True:
-        sys.exit(f"{crate} isn't proved as it stands")
+    if built:
+        known = {path: "" for path in functions_in(crate, crate_folder)}
+    else:
+        proved, known, _ = check(crate_folder)
+        if proved is not True:
+            sys.exit(f"{crate} isn't proved as it stands")
     failures = 0
     for group in groups(edits, crate_folder):
         for edit, answer in zip(group, try_group(group, crate_folder, known)):
-            answer = answer or try_alone(edit, crate_folder)
+            answer = answer or ("not tried" if built else try_alone(edit, crate_folder))
             failures += not answer.startswith(REFUSED)
-            record(edit, answer)
+            if answer.startswith(REFUSED) or not built:
+                record(edit, answer)
             print(f"{crate}/{edit.name}: {answer}", flush=True)
     return failures
 
@@ -289,10 +328,12 @@ def main():
     parser.add_argument("--in", dest="folder", help="the folder for the copies")
     parser.add_argument("--stale", action="store_true", help="only those that weren't tried at the present state")
     parser.add_argument("--list", action="store_true", help="print those that weren't tried at the present state")
+    parser.add_argument("--built", action="store_true", help="take the crate as proved, and check functions of edits alone")
+    parser.add_argument("--fits", action="store_true", help="print those that can't be applied, and check nothing")
     parser.add_argument("words", nargs="*", metavar="CRATE[/NAME]")
     given = parser.parse_args()
     wanted = {}
-    for word in given.words or (sorted(copies.stands_on()) if given.list else []):
+    for word in given.words or (sorted(copies.stands_on()) if given.list or given.fits else []):
         crate, _, name = word.partition("/")
         wanted.setdefault(crate, []).extend([name] if name else [])
     if not wanted:
@@ -301,12 +342,16 @@ def main():
     edits = {crate: edits_of(crate, names) for crate, names in wanted.items()}
     if given.list or given.stale:
         edits = {crate: [edit for edit in found if is_stale(edit, rows)] for crate, found in edits.items()}
+    if given.fits:
+        lost = [edit for found in edits.values() for edit in found if not edit.fits()]
+        print("\n".join([f"{edit.crate}/{edit.name}" for edit in lost] or ["all can be applied"]))
+        sys.exit(1 if lost else 0)
     if given.list:
         print("\n".join(f"{edit.crate}/{edit.name}" for found in edits.values() for edit in found))
         return
     with tempfile.TemporaryDirectory() as made:
         folder = given.folder or made
-        failures = sum(try_crate(folder, crate, found) for crate, found in edits.items() if found)
+        failures = sum(try_crate(folder, crate, found, given.built) for crate, found in edits.items() if found)
     sys.exit(1 if failures else 0)
 
 

@@ -151,8 +151,9 @@ def page(status, wall, sums, log):
         "",
         "`.ci/run` is the gate: `rt ci` at the top of the repository. "
         "It proves every function of every crate from nothing, tries each wrong body in `crates/*/must-fail`, which the "
-        "prover has to refuse, and runs each program as two compilers build it. `tests/run quick` isn't part of it yet. "
-        "`tests/tools/gate.py` runs the gate and writes this page.",
+        "prover has to refuse, and runs each program as two compilers build it. Then, over the programs that it built, come the "
+        "tests of `tests/run quick`, some minutes; they get what is left of 175 minutes, and 15 at most. `tests/tools/gate.py` "
+        "runs the gate and writes this page.",
         "",
         f"{datetime.date.today()}, commit {commit.strip()}, {version}, {len(os.sched_getaffinity(0))} processors: "
         f"**{wall / 60:.0f} minutes**, {sum(total.values()):,.0f} processor seconds in all, status {status}, "

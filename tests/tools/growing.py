@@ -31,6 +31,7 @@ GROWTHS = ("AllocError", "AllocFailed", "Memory")
 NAME = re.compile(r"\w+(?:\.\.)?")
 # Calls that programs ask by others alone, which call them.
 WITHIN = {
+    "SignedContent::from_content": "decode",
     "Values::write_known": "write_encoded",
     "write_octets": "write_header",
     "read_front": "decode_partial",
@@ -55,6 +56,8 @@ WITHIN = {
     "judge_by": "judge",
     "Bundle::decode_shared": "run",
     "cost": "ask",
+    "diagnose": "ask",
+    "Path::of_locator": "ask",
 }
 
 

@@ -3,8 +3,8 @@
 pub use certs_crl::crl::CrlValues;
 pub use certs_crl::written::ListExtensionValues;
 pub use certs_crl::{
-    Crl, CrlEntry, CrlStore, InvalidExtension, RevokedCertificates, RevokedCertificatesIter,
-    SerialCache, TbsCertList, TbsCertListValues,
+    Crl, CrlEntry, CrlStore, IntoRevoked, InvalidExtension, RevokedCertificates,
+    RevokedCertificatesIter, SerialCache, TbsCertList, TbsCertListValues,
 };
 pub use certs_x509::revoked::entry::EntryValues;
 pub use certs_x509::revoked::revoked::RevokedValues;

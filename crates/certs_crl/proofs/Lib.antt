@@ -8,4 +8,5 @@ mod Again
 mod Writing
 mod Alone
 mod Signed
+mod Gathered
 pub mod of_bcder_content

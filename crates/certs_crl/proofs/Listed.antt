@@ -18,6 +18,7 @@ use Rattle.certs_x509.proofs.of_certs_extension.Values.{extension_one}
 use Rattle.certs_x509.specs.Listing.{entry_one}
 use Rattle.certs_x509.specs.certs_extension.CrlText.{AreRevoked, HasListExtensions, IsTbsList, IsTbsListBody, ListFields, RevokedValue, TbsListValue}
 use Rattle.certs_x509.specs.certs_extension.Extensions.{Extension, IsExtension}
+use Rattle.certs_crl.specs.Fields.{ListOf}
 use Rattle.certs_crl.specs.Reading.{Finishes, IsOfList, IsPair, IsRead, IsReadBody, IsTail, Pair, ReadFields, SaysBoth, SaysRead, TailFields, list_of, pair_of}
 use Rattle.certs_crl.proofs.Pairs.{both_known}
 
@@ -196,7 +197,7 @@ tbs_refused {m} {f = f} g refuses = record {
 }
 
 -- `?` passes on why the extensions were refused.
-pub stop_finish : {E : Type 0} (f : ReadFields) (r : Result TbsListValue (DecodeError E)) (e : DecodeError E) → IsErr r × IsErrAnd r (λ x. x ≡ e)
+pub stop_finish : {E : Type 0} (f : ReadFields) (r : Result (ListOf (List RevokedValue)) (DecodeError E)) (e : DecodeError E) → IsErr r × IsErrAnd r (λ x. x ≡ e)
     → OnContent e ((key : List ℕ) (number : ℕ) → SaysBoth (list_of (pair_of f)) key number → ⊥) → Finishes f r
 stop_finish f (Ok x) e a fact = absurd a.1
 stop_finish {E} f (Err x) e a fact = subst (λ (y : DecodeError E). OnContent y ((key : List ℕ) (number : ℕ) → SaysBoth (list_of (pair_of f)) key number → ⊥)) (sym a.1) fact

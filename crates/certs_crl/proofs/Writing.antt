@@ -168,8 +168,13 @@ fields_at w r =
       };
     }
 
+-- The entries stand there.
+pub entries_stand : {R : List ℕ → Type 0} {c : TbsListValue} {m : Mode} {text : List ℕ} → WritesFields R c m text → (part : List ℕ) × R part
+entries_stand w = (entries_in w, w.fields.is.is_second.is_second.is_second.is_second.is_second.is_first)
+
 pub fields_as : {R V : List ℕ → Type 0} {c : TbsListValue} {m : Mode} {text : List ℕ} → ((part : List ℕ) → R part → V part) → WritesFields R c m text → WritesFields V c m text
-fields_as f w = fields_at w (f (entries_in w) w.fields.is.is_second.is_second.is_second.is_second.is_second.is_first)
+unfolding entries_stand
+fields_as f w = let e = entries_stand w in fields_at w (f e.0 e.1)
 
 pub list_as : {R : List ℕ → Type 0} (c : TbsListValue) (m : Mode) (text : List ℕ) → ((part : List ℕ) → R part → ∥ WritesRevoked c.revoked m part ∥₁) → WritesFields R c m text
     → ∥ WritesTbsList c m text ∥₁

@@ -5,7 +5,7 @@ pub mod Whole
 pub mod Written
 pub mod Signing
 pub mod Invalid
-pub mod Lending
+pub mod Fields
 -- What stands below, for the crates above.
 pub use Rattle.certs_x509.specs.bcder_source as bcder_source
 pub use Rattle.certs_x509.specs.bcder_content as bcder_content

@@ -8,6 +8,7 @@ use Rattle.certs_crl.specs.bcder_source.declared.error.DecodeError.{DecodeError}
 use Rattle.certs_crl.specs.bcder_content.Grammar.{Inside, Then, Opt, End, Such}
 use Rattle.certs_crl.specs.bcder_content.Kept.{CapturedValue}
 use Rattle.certs_crl.specs.bcder_content.Texts.{ReadsFront}
+use Rattle.certs_crl.specs.Fields.{ListOf, as_list}
 use Rattle.certs_crl.specs.certs_basics.Basics.{IsSerial, IsAlgorithm}
 use Rattle.certs_crl.specs.certs_basics.Identifiers as id
 use Rattle.certs_crl.specs.certs_basics.Names.{IsKeptName}
@@ -107,6 +108,6 @@ pub record SaysRead (f : ReadFields) (c : TbsListValue) : Type 0 where
   pub revoked : c.revoked ≡ entries f.1.1.1.1.1.0
   pub extensions : SaysBoth (list_of f.1.1.1.1.1.1.0.0) c.authority_key_identifier c.number
 
-abbrev pub Finishes : {E : Type 0} → ReadFields → Result TbsListValue (DecodeError E) → Type 0
-Finishes f (Ok c) = SaysRead f c
+abbrev pub Finishes : {E : Type 0} → ReadFields → Result (ListOf (List RevokedValue)) (DecodeError E) → Type 0
+Finishes f (Ok t) = SaysRead f (as_list t)
 Finishes f (Err e) = OnContent e ((key : List ℕ) (number : ℕ) → SaysBoth (list_of (pair_of f)) key number → ⊥)

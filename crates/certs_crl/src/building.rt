@@ -1,6 +1,7 @@
 //! Revocation lists that are built: what is signed of a list, and a signature over it (RFC 5280 5.1.1).
 
 ghost use Rattle.std.specs.Prelude.{◌≡◌, false, IfErr, IfOk};
+ghost use Rattle.certs_crl.specs.Fields.{as_list};
 ghost use Rattle.certs_crl.specs.bcder_tree.declared.mode.Mode.TheVariants.{Der};
 ghost use Rattle.certs_crl.specs.Signing.{LacksText, NotWritten, SigningRefused};
 ghost use Rattle.certs_crl.specs.Written.{WritesInDer, WritesTbsList};
@@ -10,6 +11,7 @@ use crate::tbs::TbsCertList;
 use bcder::encode::{EncodeError, Values};
 use bcder::{Captured, Mode};
 use certs_key::{Signer, SigningError};
+use certs_x509::revoked::RevokedCertificates;
 use certs_x509::signed::SignedData;
 use std::alloc::Global;
 
@@ -23,10 +25,13 @@ fn in_der<V: Values>(alloc: Global, values: &V) -> Result<Captured, EncodeError>
 }
 
 // The octets that are signed.
-fn message_of(alloc: Global, tbs: &TbsCertList) -> Result<Captured, EncodeError>
+fn message_of(
+    alloc: Global,
+    tbs: &TbsCertList<RevokedCertificates>,
+) -> Result<Captured, EncodeError>
     ensures mode { IfOk result (λ c. c.mode ≡ Der) }
-    ensures written { IfOk result (λ c. WritesInDer tbs.now c.octets) }
-    ensures refused { IfErr result (NotWritten tbs.now) }
+    ensures written { IfOk result (λ c. WritesInDer (as_list tbs.now) c.octets) }
+    ensures refused { IfErr result (NotWritten (as_list tbs.now)) }
 {
     let values = tbs.encode_in_der();
     in_der(alloc, &values)
@@ -35,16 +40,16 @@ fn message_of(alloc: Global, tbs: &TbsCertList) -> Result<Captured, EncodeError>
 // These fields, with a signature over what is written of them.
 fn signed_by<S: Signer>(
     alloc: Global,
-    tbs: &TbsCertList,
+    tbs: &TbsCertList<RevokedCertificates>,
     signer: &S,
     key: &S::KeyId,
 ) -> Result<SignedData, SigningError<S::Error>>
-    ensures message { IfOk result (λ signed. WritesInDer tbs.now signed.message.octets) }
+    ensures message { IfOk result (λ signed. WritesInDer (as_list tbs.now) signed.message.octets) }
     ensures mode { IfOk result (λ signed. signed.message.mode ≡ Der) }
     ensures algorithm { IfOk result (λ signed. signed.signature.algorithm ≡ tbs.now.has_null) }
     ensures signed { IfOk result (λ signed. S.signs signer.now key.now
         signed.message.octets signed.signature.bits.octets) }
-    ensures refused { IfErr result (SigningRefused (S.refuses signer.now) tbs.now) }
+    ensures refused { IfErr result (SigningRefused (S.refuses signer.now) (as_list tbs.now)) }
 {
     let message = match message_of(alloc, tbs) {
         Ok(message) => message,
@@ -55,36 +60,28 @@ fn signed_by<S: Signer>(
     Ok(SignedData::new(message, signature))
 }
 
-impl TbsCertList {
-    /// The list with these fields, and with a signature over what is written of them in DER, by that key of the signer,
-    /// which is asked just once and by the algorithm that the fields name.
-    ///
-    /// The entries are written by what they say, in whichever mode they are kept. What the signer refuses is refused as it
-    /// says. Before it is asked, lack of memory is refused as `Memory`, and fields are refused as `TooLong` of which
-    /// nothing can be written in DER: where a content would have more than 2^32 - 1 octets, and where the name is kept in
-    /// another mode. Of the list that is built no serial numbers are kept aside.
-    pub fn into_crl<S: Signer>(
-        self,
-        alloc: Global,
-        signer: &S,
-        key: &S::KeyId,
-    ) -> Result<Crl, SigningError<S::Error>>
-        ensures fields { IfOk result (λ crl. crl.tbs ≡ self) }
-        ensures algorithm { IfOk result (λ crl. crl.signed.has_null ≡ self.has_null) }
-        ensures message { IfOk result (λ crl. ∥ WritesTbsList self Der crl.signed.message ∥₁) }
-        ensures entries { IfOk result (λ crl. WritesInDer self crl.signed.message) }
-        ensures mode { IfOk result (λ crl. crl.signed.mode ≡ Der) }
-        ensures uncached { IfOk result (λ crl. crl.caches ≡ false) }
-        ensures signed { IfOk result (λ crl. S.signs signer.now key.now
-            crl.signed.message crl.signed.signature) }
-        ensures refused { IfErr result (SigningRefused (S.refuses signer.now) self) }
-    {
-        match signed_by(alloc, &self, signer, key) {
-            Ok(signed) => Ok(Crl::from_parts(signed, self)),
-            Err(error) => {
-                drop(self);
-                Err(error)
-            }
+// The list with these fields, and with a signature over what is written of them in DER.
+pub(crate) fn crl_of<S: Signer>(
+    alloc: Global,
+    tbs: TbsCertList<RevokedCertificates>,
+    signer: &S,
+    key: &S::KeyId,
+) -> Result<Crl, SigningError<S::Error>>
+    ensures fields { IfOk result (λ crl. crl.tbs ≡ as_list tbs) }
+    ensures algorithm { IfOk result (λ crl. crl.signed.has_null ≡ tbs.has_null) }
+    ensures message { IfOk result (λ crl. ∥ WritesTbsList (as_list tbs) Der crl.signed.message ∥₁) }
+    ensures entries { IfOk result (λ crl. WritesInDer (as_list tbs) crl.signed.message) }
+    ensures mode { IfOk result (λ crl. crl.signed.mode ≡ Der) }
+    ensures uncached { IfOk result (λ crl. crl.caches ≡ false) }
+    ensures signed { IfOk result (λ crl. S.signs signer.now key.now
+        crl.signed.message crl.signed.signature) }
+    ensures refused { IfErr result (SigningRefused (S.refuses signer.now) (as_list tbs)) }
+{
+    match signed_by(alloc, &tbs, signer, key) {
+        Ok(signed) => Ok(Crl::from_parts(signed, tbs)),
+        Err(error) => {
+            drop(tbs);
+            Err(error)
         }
     }
 }

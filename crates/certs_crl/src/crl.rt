@@ -3,6 +3,7 @@
 ghost use Rattle.std.specs.Prelude.{◌≡◌, ◌↔◌, ◌≤◌, ◌+◌, ◌-◌, ◌^◌, min, false, true, IfErr, IfOk, IfSome, IsOk, IsSome, IsTrue, OnErr, OnOk};
 ghost use Rattle.certs_crl.specs.bcder_tree.declared.mode.Mode.TheVariants.{Der};
 ghost use Rattle.certs_crl.specs.Caches.{IsCache, IsLeft, IsLookedUp};
+ghost use Rattle.certs_crl.specs.Fields.{as_list, fields_of};
 ghost use Rattle.certs_crl.specs.Whole.{signed_of};
 ghost use Rattle.certs_crl.specs.Written.{RefusesCrl, WritesCrl};
 ghost use Rattle.certs_x509.specs.declared.errors.verification.VerificationError.TheVariants.{BadSignature};
@@ -13,7 +14,7 @@ use bcder::Captured;
 use bcder::encode::EncodeError;
 use certs_name::Serial;
 use certs_x509::errors::VerificationError;
-use certs_x509::revoked::SerialCache;
+use certs_x509::revoked::{RevokedCertificates, SerialCache};
 use certs_x509::signed::{PublicKey, SignedData, SignedDataValues, Verifier};
 use std::alloc::{AllocError, Global};
 use std::marker::Model;
@@ -23,7 +24,7 @@ use std::marker::Model;
 #[derive(Debug, Drop)]
 pub struct Crl {
     signed: SignedData,
-    tbs: TbsCertList,
+    tbs: TbsCertList<RevokedCertificates>,
     serials: Option<SerialCache>,
 }
 
@@ -31,13 +32,14 @@ impl Model for Crl {
     ghost use Rattle.std.specs.Prelude.{is_some};
     ghost use Rattle.certs_x509.specs.certs_extension.CrlText.{CrlValue};
     ghost use Rattle.certs_crl.specs.Caches.{IsCached};
+    ghost use Rattle.certs_crl.specs.Fields.{as_list};
     ghost use Rattle.certs_crl.specs.Whole.{signed_of};
 
     ghost Value = { CrlValue };
 
     ghost view = { λ c. record {
       signed = signed_of c.signed;
-      tbs = c.tbs;
+      tbs = as_list c.tbs;
       caches = is_some c.serials;
     } };
 
@@ -49,8 +51,9 @@ pub type CrlValues<'a> = SignedDataValues<'a>;
 
 impl Crl {
     // The list of signed octets, and of the fields that were read of them. No serial numbers are kept aside.
-    pub(crate) fn from_parts(signed: SignedData, tbs: TbsCertList) -> Crl
-        ensures { result ≡ record { signed = signed_of signed; tbs = tbs; caches = false } }
+    pub(crate) fn from_parts(signed: SignedData, tbs: TbsCertList<RevokedCertificates>) -> Crl
+        ensures { result
+            ≡ record { signed = signed_of signed; tbs = as_list tbs; caches = false } }
     {
         Crl {
             signed,
@@ -67,8 +70,8 @@ impl Crl {
     }
 
     /// The fields.
-    pub fn as_cert_list(&self) -> &TbsCertList
-        ensures { result.now ≡ self.now.tbs }
+    pub fn as_cert_list(&self) -> &TbsCertList<RevokedCertificates>
+        ensures { result.now ≡ fields_of self.now.tbs }
     {
         &self.tbs
     }

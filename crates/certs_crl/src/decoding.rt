@@ -7,6 +7,7 @@ ghost use Rattle.certs_crl.specs.bcder_content.Exact.{DecodesAs, ReadsAs, ReadsO
 ghost use Rattle.certs_crl.specs.bcder_content.Here.{here};
 ghost use Rattle.certs_crl.specs.bcder_content.InMode.{ReadsFields};
 ghost use Rattle.certs_crl.specs.bcder_tree.Tags.{sequence_tag};
+ghost use Rattle.certs_crl.specs.Fields.{as_list};
 ghost use Rattle.certs_crl.specs.Whole.{AreCrl};
 ghost use Rattle.certs_x509.specs.certs_extension.Calls.{DecodesCrl};
 ghost use Rattle.certs_x509.specs.certs_extension.CrlText.{IsCrl, IsTbsList};
@@ -15,7 +16,7 @@ use crate::crl::Crl;
 use crate::tbs::TbsCertList;
 use bcder::decode::{Constructed, ContentError, Decode, DecodeError, IntoSource, Source};
 use bcder::{Captured, Mode};
-use certs_x509::revoked::crl_is_spelled;
+use certs_x509::revoked::{RevokedCertificates, crl_is_spelled};
 use certs_x509::signed::SignedData;
 use std::alloc::{AllocError, Global};
 use std::convert::Infallible;
@@ -32,21 +33,21 @@ fn tbs_of(
     alloc: Global,
     signed: &SignedData,
     mode: Mode,
-) -> Result<TbsCertList, DecodeError<Infallible>>
-    ensures { DecodesAs (λ t. t) mode (IsTbsList mode) signed.now.message.octets result }
+) -> Result<TbsCertList<RevokedCertificates>, DecodeError<Infallible>>
+    ensures { DecodesAs as_list mode (IsTbsList mode) signed.now.message.octets result }
 {
     let message = message_of(signed)?;
     mode.decode(
         message.into_bytes(),
         |cons|
-            ensures { ReadsAs (λ t. t) (IsTbsList (here rest_of cons.old).mode)
+            ensures { ReadsAs as_list (IsTbsList (here rest_of cons.old).mode)
                 (here rest_of cons.old) result (here rest_of cons.new) }
         { TbsCertList::take_from(alloc, cons) },
     )
 }
 
 // Whether both algorithms are the same, in what is signed and after it.
-fn agree(tbs: &TbsCertList, signed: &SignedData) -> bool
+fn agree(tbs: &TbsCertList<RevokedCertificates>, signed: &SignedData) -> bool
     ensures { IsTrue result ↔ (tbs.now.has_null ≡ signed.now.signature.algorithm) }
 {
     tbs.signature == *signed.signature().algorithm()

@@ -5,16 +5,16 @@
 //! list, with a cache of the serial numbers and without. [`TbsCertList::into_crl`] builds a list of fields and a
 //! signature, which is read again with the same fields.
 //!
-//! What differs from the Rust crate: a [`TbsCertList`] has its revoked certificates as the octets of their entries alone,
-//! which [`RevokedCertificates::from_entries`] makes; a [`Crl`] lends its fields by `as_cert_list`, and isn't dereferenced;
-//! whether a list is stale is asked of a moment that is handed in; what takes memory is given an allocator and answers a
-//! `Result`.
+//! What differs from the Rust crate: what holds the revoked certificates of a [`TbsCertList`] that is signed is a `Vec` of
+//! entries or their octets, by [`IntoRevoked`]; a [`Crl`] lends its fields by `as_cert_list`, and isn't dereferenced; whether
+//! a list is stale is asked of a moment that is handed in; what takes memory is given an allocator and answers a `Result`.
 #![tactic(auto)]
 
 mod building;
 mod claim;
 pub mod crl;
 mod decoding;
+pub mod entries;
 mod extensions;
 pub mod invalid;
 pub mod laws;
@@ -31,6 +31,7 @@ pub use certs_x509::revoked::{
     CrlEntry, RevokedCertificates, RevokedCertificatesIter, SerialCache,
 };
 pub use crl::Crl;
+pub use entries::IntoRevoked;
 pub use invalid::InvalidExtension;
 pub use store::CrlStore;
 pub use tbs::TbsCertList;

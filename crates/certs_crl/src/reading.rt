@@ -4,6 +4,7 @@ ghost use Rattle.std.specs.Prelude.{◌≡◌, OnErr, true};
 ghost use Rattle.certs_crl.specs.bcder_content.Exact.{ReadsAs};
 ghost use Rattle.certs_crl.specs.bcder_content.Here.{here};
 ghost use Rattle.certs_crl.specs.bcder_content.InMode.{ReadsFields};
+ghost use Rattle.certs_crl.specs.Fields.{as_list};
 ghost use Rattle.certs_crl.specs.Reading.{Finishes, IsRead, IsReadBody, IsTail, read_fields, tail_fields};
 ghost use Rattle.certs_x509.specs.certs_extension.CrlText.{IsTbsList, entries};
 
@@ -84,7 +85,10 @@ fn revoked_in(revoked: Option<RevokedCertificates>) -> RevokedCertificates
 }
 
 // The list's fields, if the extensions say what they have to.
-fn finished(alloc: Global, listed: Listed) -> Result<TbsCertList, DecodeError<Infallible>>
+fn finished(
+    alloc: Global,
+    listed: Listed,
+) -> Result<TbsCertList<RevokedCertificates>, DecodeError<Infallible>>
     ensures { Finishes (read_fields listed) result }
 {
     let (signature, issuer, this_update, next_update, tail) = listed;
@@ -102,14 +106,14 @@ fn finished(alloc: Global, listed: Listed) -> Result<TbsCertList, DecodeError<In
     })
 }
 
-impl TbsCertList {
+impl TbsCertList<RevokedCertificates> {
     /// What is signed of a revocation list, where it is next: its fields in their order, and its two extensions in either
     /// order (RFC 5280 5.1.2, RFC 6487 5).
     pub fn take_from<S: Source>(
         alloc: Global,
         cons: &mut Constructed<S>,
-    ) -> Result<TbsCertList, DecodeError<S::Error>>
-        ensures reads { ReadsAs (λ t. t) (IsTbsList (here S.rest cons.old).mode)
+    ) -> Result<TbsCertList<RevokedCertificates>, DecodeError<S::Error>>
+        ensures reads { ReadsAs as_list (IsTbsList (here S.rest cons.old).mode)
             (here S.rest cons.old) result (here S.rest cons.new) }
         ensures failed { OnErr result ((here S.rest cons.new).failed ≡ true) }
     {

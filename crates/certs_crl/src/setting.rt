@@ -1,17 +1,16 @@
 //! Setters of what is signed of a revocation list. Each changes its own field alone, or lends it for a change.
 
-ghost use Rattle.std.specs.Borrow.{sem};
+ghost use Rattle.std.specs.Borrow.{Lends, sem};
 ghost use Rattle.std.specs.Prelude.{◌≡◌};
-ghost use Rattle.certs_crl.specs.Lending.{LendsRevoked};
+ghost use Rattle.certs_crl.specs.contracts.tbs.TbsCertList.{the_row};
 
 use crate::tbs::TbsCertList;
 use certs_basics::time::Time;
 use certs_key::algorithm::RpkiSignatureAlgorithm;
 use certs_name::{Name, Serial};
-use certs_x509::revoked::RevokedCertificates;
 use certs_x509::signed::KeyIdentifier;
 
-impl TbsCertList {
+impl<C: Drop> TbsCertList<C> {
     /// Sets the algorithm with which the list is signed (RFC 5280 5.1.2.2).
     pub fn set_signature(&mut self, signature: RpkiSignatureAlgorithm)
         ensures { self.new ≡ record self.old { has_null = signature } }
@@ -40,16 +39,18 @@ impl TbsCertList {
         self.next_update = next_update;
     }
 
-    /// Sets the revoked certificates (RFC 5280 5.1.2.6).
-    pub fn set_revoked_certs(&mut self, revoked_certs: RevokedCertificates)
+    /// Sets what holds the revoked certificates (RFC 5280 5.1.2.6).
+    pub fn set_revoked_certs(&mut self, revoked_certs: C)
         ensures { self.new ≡ record self.old { revoked = revoked_certs } }
     {
         self.revoked_certs = revoked_certs;
     }
 
-    /// Lends the revoked certificates, for a change (RFC 5280 5.1.2.6).
-    pub fn revoked_certs_mut(&mut self) -> &mut RevokedCertificates
-        ensures* lends { sem 𝓛 (LendsRevoked self.entry result) }
+    /// Lends what holds the revoked certificates, for a change (RFC 5280 5.1.2.6). Once the borrow ends the list has what
+    /// the borrow left, and its other fields are what they were.
+    pub fn revoked_certs_mut(&mut self) -> &mut C
+        ensures* lends { sem 𝓛 (Lends (the_row C.row) C.row self.entry result
+            (λ revoked. record self.old { revoked = revoked })) }
         ensures lent { result.now ≡ self.old.revoked }
     {
         &mut self.revoked_certs

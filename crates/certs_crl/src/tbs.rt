@@ -10,23 +10,23 @@ use certs_x509::signed::KeyIdentifier;
 use std::alloc::AllocError;
 use std::marker::Model;
 
-/// What is signed of a revocation list: its fields and its two extensions (RFC 5280 5.1.2, RFC 6487 5). Contracts see all
-/// of them.
+/// What is signed of a revocation list: its fields and its two extensions (RFC 5280 5.1.2, RFC 6487 5), with a `C` that
+/// holds the revoked certificates. Contracts see all of them.
 #[derive(Debug, Drop)]
-pub struct TbsCertList {
+pub struct TbsCertList<C> {
     pub(crate) signature: RpkiSignatureAlgorithm,
     pub(crate) issuer: Name,
     pub(crate) this_update: Time,
     pub(crate) next_update: Time,
-    pub(crate) revoked_certs: RevokedCertificates,
+    pub(crate) revoked_certs: C,
     pub(crate) authority_key_id: KeyIdentifier,
     pub(crate) crl_number: Serial,
 }
 
-impl Model for TbsCertList {
-    ghost use Rattle.certs_x509.specs.certs_extension.CrlText.{TbsListValue};
+impl<C> Model for TbsCertList<C> {
+    ghost use Rattle.certs_crl.specs.Fields.{ListOf};
 
-    ghost Value = { TbsListValue };
+    ghost Value = { ListOf C };
 
     ghost view = { λ t. record {
       has_null = t.signature;
@@ -39,17 +39,17 @@ impl Model for TbsCertList {
     } };
 }
 
-impl TbsCertList {
+impl<C> TbsCertList<C> {
     /// A list with these fields and extensions.
     pub fn new(
         signature: RpkiSignatureAlgorithm,
         issuer: Name,
         this_update: Time,
         next_update: Time,
-        revoked_certs: RevokedCertificates,
+        revoked_certs: C,
         authority_key_id: KeyIdentifier,
         crl_number: Serial,
-    ) -> TbsCertList
+    ) -> TbsCertList<C>
         ensures { result ≡ record {
           has_null = signature;
           issuer = issuer;
@@ -106,8 +106,8 @@ impl TbsCertList {
         self.next_update < now
     }
 
-    /// The revoked certificates.
-    pub fn revoked_certs(&self) -> &RevokedCertificates
+    /// What holds the revoked certificates.
+    pub fn revoked_certs(&self) -> &C
         ensures { result.now ≡ self.now.revoked }
     {
         &self.revoked_certs
@@ -129,7 +129,7 @@ impl TbsCertList {
 }
 
 /// A clone has the same fields. It takes no memory, but a count of copies can be full.
-impl Clone for TbsCertList {
+impl Clone for TbsCertList<RevokedCertificates> {
     ghost is_clone = { λ list copy. copy ≡ list };
 
     fn clone(&self) -> Result<Self, AllocError> {

@@ -9,6 +9,7 @@ ghost use Rattle.certs_crl.specs.bcder_tree.Tree.{primitive};
 ghost use Rattle.certs_crl.specs.certs_basics.Basics.{IsTwentyLong};
 ghost use Rattle.certs_crl.specs.certs_basics.Forms.{WritesTime};
 ghost use Rattle.certs_crl.specs.certs_basics.Identifiers as id;
+ghost use Rattle.certs_crl.specs.Fields.{as_list};
 ghost use Rattle.certs_crl.specs.Written.{WritesCrlNumber, WritesExtension, WritesInDer, WritesKey, WritesListExtensions, WritesTbsList};
 ghost use Rattle.certs_name.specs.Named.{IsNamed};
 
@@ -20,6 +21,7 @@ use bcder::{ConstOid, Mode, Tag};
 use certs_basics::time::text::VariedTime;
 use certs_key::algorithm::{AlgorithmIdentifier, SignatureAlgorithm};
 use certs_name::{Name, Serial};
+use certs_x509::revoked::RevokedCertificates;
 use certs_x509::revoked::revoked::{EntriesValues, RevokedValues};
 use certs_x509::signed::KeyIdentifier;
 
@@ -164,7 +166,7 @@ fn name_of(name: &Name) -> &Name
     name
 }
 
-impl TbsCertList {
+impl TbsCertList<RevokedCertificates> {
     // The encoders of its fields but for the entries, in their order.
     fn parts<'a>(&'a self) -> Parts<'a>
         ensures version_tag { result.0.tag ≡ integer_tag }
@@ -209,8 +211,9 @@ impl TbsCertList {
     pub fn encode_ref<'a>(&'a self) -> TbsCertListValues<'a>
         ensures writes { (m : ModeValue) (text : List ℕ)
             → ⟦<TbsCertListValues<'a> as Values>⟧.writes result m text
-            → ∥ WritesTbsList self.now m text ∥₁ }
-        ensures alone { self.now.revoked ≡ [] → (text : List ℕ) → WritesTbsList self.now Der text
+            → ∥ WritesTbsList (as_list self.now) m text ∥₁ }
+        ensures alone { self.now.revoked ≡ [] → (text : List ℕ)
+            → WritesTbsList (as_list self.now) Der text
             → Writable (⟦<TbsCertListValues<'a> as Values>⟧.writes result Der) }
     {
         let (version, signature, issuer, this_update, next_update, extensions) = self.parts();
@@ -232,9 +235,11 @@ impl TbsCertList {
     // What is written of it in DER, with the entries by what they say.
     pub(crate) fn encode_in_der<'a>(&'a self) -> DerValues<'a>
         ensures writes { (text : List ℕ)
-            → ⟦<DerValues<'a> as Values>⟧.writes result Der text → WritesInDer self.now text }
+            → ⟦<DerValues<'a> as Values>⟧.writes result Der text
+            → WritesInDer (as_list self.now) text }
         ensures whole { (text : List ℕ)
-            → WritesInDer self.now text → ⟦<DerValues<'a> as Values>⟧.writes result Der text }
+            → WritesInDer (as_list self.now) text
+            → ⟦<DerValues<'a> as Values>⟧.writes result Der text }
     {
         let (version, signature, issuer, this_update, next_update, extensions) = self.parts();
         let revoked = self.revoked_certs.encode_entries();

@@ -4,7 +4,10 @@ use crate::read::cert_of;
 use crate::shown::written;
 use crate::terms::{Judge, Terms, locator};
 use answers::{Answer, word_at};
-use certs_verify::{Cert, Refused, ResourceCert, TalInfo, Validate, Verifier, Verify};
+use certs_verify::{
+    Cert, Refused, ResourceCert, TalInfo, Validate, ValidationError, VerificationError, Verifier,
+    Verify,
+};
 use resources::IpBlocksForFamily;
 use rpki_digests::Fips;
 use std::alloc::{AllocError, Global};
@@ -54,25 +57,46 @@ fn copied(alloc: Global, answer: &mut Answer, cert: ResourceCert) {
     }
 }
 
-// The certificate as a trust anchor; none where it is refused.
-fn anchor_of(cert: Cert, tal: Rc<TalInfo>, terms: &Terms) -> Option<ResourceCert> {
+// The certificate as a trust anchor; none where it is refused. That memory ran out is told.
+fn anchor_of(
+    answer: &mut Answer,
+    cert: Cert,
+    tal: Rc<TalInfo>,
+    terms: &Terms,
+) -> Option<ResourceCert> {
     let mut judge = Judge::new(true);
-    cert.validate_ta_at(tal, terms.strict, terms.now, &Fips, &mut judge)
-        .ok()
+    match cert.validate_ta_at(tal, terms.strict, terms.now, &Fips, &mut judge) {
+        Ok(anchor) => Some(anchor),
+        Err(refused) => {
+            if let ValidationError::Verification(VerificationError::Memory) = &refused.error {
+                answer.word("memory");
+            }
+            drop(refused);
+            None
+        }
+    }
 }
 
-/// The trust anchor of hexadecimal digits; none where they have none.
-pub fn anchor(alloc: Global, digits: &str, terms: &Terms) -> Option<ResourceCert> {
-    let tal = locator(alloc).ok()?;
-    match cert_of(alloc, digits) {
-        Some(cert) => anchor_of(cert, tal, terms),
+/// The trust anchor of hexadecimal digits; none where they have none. That memory ran out is told.
+pub fn anchor(
+    alloc: Global,
+    answer: &mut Answer,
+    digits: &str,
+    terms: &Terms,
+) -> Option<ResourceCert> {
+    let Ok(tal) = locator(alloc) else {
+        answer.word("memory");
+        return None;
+    };
+    match cert_of(alloc, answer, digits) {
+        Some(cert) => anchor_of(answer, cert, tal, terms),
         None => None,
     }
 }
 
 // The copy of the trust anchor of hexadecimal digits.
 fn copy(alloc: Global, answer: &mut Answer, digits: &str, terms: &Terms) {
-    match anchor(alloc, digits, terms) {
+    match anchor(alloc, answer, digits, terms) {
         Some(cert) => copied(alloc, answer, cert),
         None => answer.word("no anchor"),
     }
@@ -111,7 +135,7 @@ fn of_cert(
     let Ok(tal) = locator(alloc) else {
         return answer.word("memory");
     };
-    match cert_of(alloc, digits) {
+    match cert_of(alloc, answer, digits) {
         Some(cert) => told(answer, call, cert, tal, terms, judge),
         None => answer.word("no certificate"),
     }

@@ -30,7 +30,7 @@ fn told(answer: &mut Answer, inspected: Result<(), InspectionError>, by_text: bo
 /// The answer to a question about a form.
 pub fn answer(alloc: Global, answer: &mut Answer, words: &[&str]) {
     let strict = word_at(words, 1) == "strict";
-    match cert_of(alloc, word_at(words, 2)) {
+    match cert_of(alloc, answer, word_at(words, 2)) {
         Some(cert) => {
             let found = inspected(&cert, word_at(words, 0), strict);
             drop(cert);

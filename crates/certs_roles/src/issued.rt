@@ -99,7 +99,7 @@ fn of_cert(
     terms: &Terms,
 ) {
     let mut judge = Judge::new(word_at(words, 4) == "good");
-    match cert_of(alloc, word_at(words, 6)) {
+    match cert_of(alloc, answer, word_at(words, 6)) {
         Some(cert) => told(alloc, answer, words, cert, issuer, terms, &mut judge),
         None => answer.word("no certificate"),
     }
@@ -108,7 +108,7 @@ fn of_cert(
 
 // A certificate below the anchor that the words give.
 fn under(alloc: Global, answer: &mut Answer, words: &[&str], terms: &Terms) {
-    match anchor(alloc, word_at(words, 5), terms) {
+    match anchor(alloc, answer, word_at(words, 5), terms) {
         Some(issuer) => {
             of_cert(alloc, answer, words, &issuer, terms);
             drop(issuer);

@@ -1,15 +1,44 @@
-//! Questions about what is read of a certificate in DER: what is asked, and octets.
+//! Questions about what is read of a certificate in DER: what is asked, and octets. That memory ran out for a part of a question
+//! is told in front of what is answered without it.
 
 use crate::shown::{last_shown, shown, written};
 use answers::{Answer, octets_of, word_at};
 use bcder::decode::DecodeError;
 use certs_cert::Cert;
+use hex::FromHexError;
 use std::alloc::{AllocError, Global};
 
-/// The certificate of hexadecimal digits, in DER; none where they have no such.
-pub fn cert_of(alloc: Global, word: &str) -> Option<Cert> {
-    let octets = octets_of(alloc, word);
-    Cert::decode(alloc, octets.as_slice()).ok()
+/// The octets of hexadecimal digits; none where the word has others. That memory ran out is told.
+pub fn octets_told(alloc: Global, answer: &mut Answer, word: &str) -> Vec<u8> {
+    match hex::decode(alloc, word) {
+        Ok(octets) => octets,
+        Err(FromHexError::OutOfMemory) => {
+            answer.word("memory");
+            Vec::new(alloc)
+        }
+        Err(_) => Vec::new(alloc),
+    }
+}
+
+/// What was read, if it was. That memory ran out is told.
+pub fn found<T, E: Drop>(answer: &mut Answer, read: Result<T, DecodeError<E>>) -> Option<T> {
+    match read {
+        Ok(value) => Some(value),
+        Err(DecodeError::Memory) => {
+            answer.word("memory");
+            None
+        }
+        Err(error) => {
+            drop(error);
+            None
+        }
+    }
+}
+
+/// The certificate of hexadecimal digits, in DER; none where they have no such. That memory ran out is told.
+pub fn cert_of(alloc: Global, answer: &mut Answer, word: &str) -> Option<Cert> {
+    let octets = octets_told(alloc, answer, word);
+    found(answer, Cert::decode(alloc, octets.as_slice()))
 }
 
 // By which text octets were refused, by their source, or for lack of memory.
@@ -65,7 +94,7 @@ fn copied(alloc: Global, answer: &mut Answer, cert: Cert) {
 
 // All that is answered of a copy of the certificate of digits.
 fn copy(alloc: Global, answer: &mut Answer, digits: &str) {
-    match cert_of(alloc, digits) {
+    match cert_of(alloc, answer, digits) {
         Some(cert) => copied(alloc, answer, cert),
         None => answer.word("no certificate"),
     }

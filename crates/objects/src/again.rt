@@ -10,17 +10,14 @@
 //! an object owns the octets of its certificate and its attributes; the signature of a certificate is written with its count
 //! of unused bits, which there is 0; and an object that can't be written is refused as `CerUnsupported`.
 
-mod aspa;
 pub mod attributes;
 mod cert;
-mod checklist;
 pub mod content;
 mod der;
+mod kinds;
 pub mod laws;
 pub mod making;
-mod manifest;
 pub mod object;
-mod roa;
 pub mod uris;
 
 pub use attributes::{EncodeAttributes, MessageDigest};

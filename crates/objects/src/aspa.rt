@@ -3,4 +3,4 @@
 pub use crate::attested::{AspaBuilder, AspaValue, DuplicateProviderAs, ProviderError};
 pub use objects_payload::aspa::attestation::AttestationValues;
 pub use objects_payload::aspa::{AsProviderAttestation, ProviderAsIter, ProviderAsSet};
-pub use objects_valid::{Aspa, ProcessAspa};
+pub use objects_valid::Aspa;

@@ -28,9 +28,9 @@
 //! - What takes memory is given an allocator, first of all, and answers a `Result`: lack of memory is an error of its own,
 //!   and never another answer.
 //! - Digests, verdicts on signatures, keys that sign and clocks are handed in.
-//! - Validation, processing and encoding are calls of traits ([`sigobj::ProcessObject`], [`manifest::ValidateManifest`],
-//!   [`roa::ProcessRoa`], [`aspa::ProcessAspa`], [`sigobj::EncodeObject`], [`roa::EncodeRoa`], [`manifest::EncodeManifest`],
-//!   [`roa::FinalizeRoa`], [`manifest::IntoManifest`] and others), since they stand apart from the types' own crates.
+//! - Validation of an object of any kind and encoding are calls of traits ([`sigobj::ProcessObject`],
+//!   [`sigobj::EncodeObject`], [`roa::EncodeRoa`], [`manifest::EncodeManifest`], [`roa::FinalizeRoa`],
+//!   [`manifest::IntoManifest`] and others), since they stand apart from the types' own crates.
 //!
 //! Each part's page has the rest.
 #![tactic(auto)]

@@ -5,5 +5,5 @@ pub use objects_payload::roa::{
     FriendlyRoaIpAddress, FriendlyRoaIpAddressIter, RoaBuilder, RoaIpAddress, RoaIpAddressIter,
     RoaIpAddresses, RoaIpAddressesBuilder, RouteOriginAttestation, RouteOriginIter,
 };
-pub use objects_valid::{ProcessRoa, Roa, UncoveredPrefix};
+pub use objects_valid::{Roa, UncoveredPrefix};
 pub use objects_written::{Addresses, EncodeAddresses, EncodeRoa, RoaValue, has_address};

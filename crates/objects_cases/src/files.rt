@@ -34,9 +34,7 @@ pub fn uris(alloc: Global, answer: &mut Answer, words: &[&str]) -> Result<()> {
     let [folder, digits] = words else {
         return unknown();
     };
-    let Ok(base) = Rsync::from_slice(alloc, folder.as_bytes()) else {
-        return Err(anyhow!("no URI"));
-    };
+    let base = Rsync::from_slice(alloc, folder.as_bytes())?;
     let octets = pieces_of(alloc, *digits)?;
     match ManifestContent::decode(alloc, octets.as_slice()) {
         Ok(content) => {

@@ -3,6 +3,7 @@
 use crate::values::{moment, say_moment};
 use answers::{Answer, pieces_of, unknown};
 use anyhow::{Result, anyhow};
+use bcder::decode::DecodeError;
 use objects_cms::manifest::file::is_file_name;
 use objects_cms::manifest::{FileAndHash, ManifestContent};
 use std::alloc::Global;
@@ -50,6 +51,7 @@ fn stale(alloc: Global, answer: &mut Answer, digits: &str, word: &str) -> Result
             drop(content);
             Ok(())
         }
+        Err(DecodeError::Memory) => Err(anyhow!("memory")),
         Err(error) => {
             drop(error);
             Err(anyhow!("no manifest"))

@@ -2,7 +2,6 @@ pub mod Checklists
 pub mod Entries
 pub mod Lent
 pub mod Processed
-pub mod Typed
 -- What stands below, for the crates above.
 pub use Rattle.objects_payload.specs.bcder as bcder
 pub use Rattle.objects_payload.specs.bcder_content as bcder_content

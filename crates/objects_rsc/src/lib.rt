@@ -11,7 +11,6 @@
 //! What differs from the Rust crate stands on the modules' pages.
 #![tactic(auto)]
 
-mod caller;
 pub mod checklist;
 pub mod laws;
 pub mod process;

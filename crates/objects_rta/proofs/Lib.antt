@@ -5,3 +5,6 @@ mod MultiTrees
 mod Relisting
 mod Multi
 mod Checking
+pub mod of_bcder_content
+pub mod of_objects_cms
+pub mod of_objects_valid

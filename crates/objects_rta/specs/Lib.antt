@@ -9,4 +9,5 @@ pub use Rattle.objects_cms.specs.bcder_content as bcder_content
 pub use Rattle.objects_cms.specs.bcder_tree as bcder_tree
 pub use Rattle.objects_cms.specs.objects_payload as objects_payload
 pub use Rattle.objects_cms.specs as objects_cms
+pub use Rattle.objects_cms.specs.certs_x509 as certs_x509
 pub use Rattle.objects_valid.specs as objects_valid

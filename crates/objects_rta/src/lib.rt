@@ -19,7 +19,10 @@ pub mod rta;
 pub mod signers;
 
 pub use attestation::ResourceTaggedAttestation;
-pub use certs_cert::{Cert, KeyIdentifier};
+pub use certs_cert::errors::{Clock, Time};
+pub use certs_cert::{Cert, KeyIdentifier, OctetString};
 pub use certs_crl::Crl;
 pub use object::MultiSignedObject;
+pub use objects_cms::signed::SignerInfo;
+pub use objects_cms::verify::verify_content;
 pub use rta::Rta;

@@ -4,8 +4,8 @@ use Rattle.std.specs.Prelude.{◌↔◌, Any, IfOk, IsTrue, MatchOption, is_some
 use Rattle.std.specs.Borrow.{Bor}
 use Rattle.std.specs.declared.alloc.AllocError.{AllocError}
 use Rattle.std.proofs.lemmas.List.{length-map}
-use Rattle.objects_cms.specs.Signer.{SignerValue, signer_fields}
-use Rattle.objects_cms.specs.objects_payload.ObjectText.{Signer, signer_of}
+use Rattle.objects_rta.specs.objects_cms.Signer.{SignerValue, signer_fields}
+use Rattle.objects_rta.specs.objects_payload.ObjectText.{Signer, signer_of}
 use Rattle.certs_verify.specs.certs_basics.HandedIn.{Digests}
 use Rattle.certs_verify.specs.certs_basics.Lists.{Each, FirstFailing}
 use Rattle.certs_verify.specs.certs_basics.Verdicts.{Verdicts}

@@ -5,7 +5,7 @@ use Rattle.std.proofs.lemmas.Option.{same_Some}
 use Rattle.std.proofs.Math.Numerals.{add-one}
 
 -- What is left of the list, from a place on.
-cut : {X : Type 0} (xs : List X) (i : ℕ) (x : X) → slice_get xs i ≡ Some x → drop i xs ≡ x ∷ drop (suc i) xs
+pub cut : {X : Type 0} (xs : List X) (i : ℕ) (x : X) → slice_get xs i ≡ Some x → drop i xs ≡ x ∷ drop (suc i) xs
 cut [] i x e = absurd cc
 cut {X} (y ∷ ys) zero x e = ap (λ (z : X). z ∷ ys) (same_Some y x e)
 cut (y ∷ ys) (suc i) x e = cut ys i x e

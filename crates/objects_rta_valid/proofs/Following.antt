@@ -1,5 +1,5 @@
 -- What follows from the tests of paths.
-use Rattle.std.proofs.Common.{◌≡◌, ℕ, List, length, map, sym, ap, ◌∙◌, subst}
+use Rattle.std.proofs.Common.{◌≡◌, ℕ, List, length, map, refl, sym, ap, ◌∙◌, subst}
 use Rattle.std.proofs.lemmas.List.{length-map}
 use Rattle.certs_verify.specs.certs_extension.Cert.{CertValue}
 use Rattle.objects_paths.specs.Paths.{AreAllOn, PathsValue}
@@ -26,3 +26,9 @@ functional_told r p ps h e = subst AreFunctional (sym e) (pairs_functional (node
 pub begins_told : (r : RtaValue) (p : PathsValue) (certs : List CertValue) (count : ℕ) (ps : List (ℕ × ℕ)) → HasWalked r p → ps ≡ pairs p.paths → certs ≡ r.signed.certs → count ≡ length certs → BeginBelow count ps
 begins_told r p certs count ps h e carried long =
     subst (BeginBelow count) (sym e) (begin_certs r.signed.certs (sids r) p.paths count (long ∙ ap (λ (cs : List CertValue). length cs) carried) h.walk.only)
+
+pub begins_walked : (r : RtaValue) (p : PathsValue) → HasWalked r p → BeginBelow p.count (pairs p.paths)
+begins_walked r p h = begins_told r p r.signed.certs p.count (pairs p.paths) h refl refl h.walk.all
+
+pub functional_walked : (r : RtaValue) (p : PathsValue) → HasWalked r p → AreFunctional (pairs p.paths)
+functional_walked r p h = functional_told r p (pairs p.paths) h refl

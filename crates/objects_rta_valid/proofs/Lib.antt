@@ -13,3 +13,6 @@ mod Judging
 mod Answering
 mod Following
 mod Sounding
+mod Keying
+mod Sought
+mod Using

@@ -8,13 +8,13 @@ use Rattle.std.proofs.lemmas.List.{length-map}
 use Rattle.certs_verify.specs.certs_basics.Lists.{Each, Mem}
 use Rattle.certs_verify.specs.certs_basics.Verdicts.{Verdicts}
 use Rattle.certs_verify.specs.certs_extension.Cert.{CertValue}
-use Rattle.certs_verify.specs.certs_extension.CrlText.{CrlValue}
+use Rattle.certs_verify.specs.certs_extension.CrlText.{CrlValue, IsOn}
 use Rattle.certs_verify.specs.certs_extension.Verified.{IsSignedAt}
 use Rattle.objects_paths.specs.Nodes.{Node, IsSelfSigned}
 use Rattle.objects_rta_valid.specs.Apart.{AreApart, AreOnly}
 use Rattle.objects_rta_valid.specs.Places.{AreLinks, BeginBelow, Stands, pairs}
 use Rattle.objects_rta_valid.specs.Certs.{ArePairSigned, IsGoodList, IsOwnAnchor, IsPairUnrevoked, IsUnrevoked, NamesItself, node_of}
-use Rattle.objects_rta_valid.specs.Vouched.{AreGoodOf, Has, IsVouched, Serves}
+use Rattle.objects_rta_valid.specs.Vouched.{AreGoodOf, Has, IsVouched, Serves, authority_of, kept_aside}
 use Rattle.objects_rta_valid.proofs.Steps.{each_by, each_of, zip_at, zip_by}
 use Rattle.objects_rta_valid.proofs.Vouching.{at_mem, mem_at, one_of_key}
 use Rattle.objects_rta_valid.proofs.Walks.{pair_linked, pairs_begin}
@@ -73,18 +73,31 @@ module _ (good : Verdicts) (now : ℕ) (certs : List CertValue) (sids paths : Li
         (vouched_of (λ c m. each_of (IsOwnAnchor good now) certs c s.0 m) (λ q m. each_of (ArePairSigned good now certs) (pairs paths) q s.1 m)))),
   )
 
+-- A serial number that is kept aside is on the list, and the other way round.
+on_aside : (crl : CrlValue) (serial : ℕ) → IsOn crl serial → IsOn (kept_aside crl) serial
+on_aside crl serial on = record { entry = on.entry; listed = on.listed; same = on.same }
+
+aside_on : (crl : CrlValue) (serial : ℕ) → IsOn (kept_aside crl) serial → IsOn crl serial
+aside_on crl serial on = record { entry = on.entry; listed = on.listed; same = on.same }
+
 module _ (good : Verdicts) (now : ℕ) (certs : List CertValue) (crls lists : List CrlValue) (apart : AreApart (map node_of certs)) (of : AreGoodOf good now certs crls lists) where
   served : (c p : CertValue) → Mem certs p → Has (Serves p c) lists → IsUnrevoked good now crls p c
   served c p m h =
       let g = of.good_ones h.one h.among in
-      let same : g.1.one ≡ p = one_of_key certs g.1.one p apart g.1.among m (sym g.1.is.of_issuer ∙ h.is.0) in
-      record { crl = h.one; carried = g.0; good_list = subst (λ (x : CertValue). IsGoodList good now x h.one) same g.1.is; unlisted = h.is.1 }
+      let by = g.is.1 in
+      let same : by.one ≡ p = one_of_key certs by.one p apart by.among m (sym by.is.of_issuer ∙ sym (ap authority_of g.is.0) ∙ h.is.0) in
+      record {
+        crl = g.one;
+        carried = g.among;
+        good_list = subst (λ (x : CertValue). IsGoodList good now x g.one) same by.is;
+        unlisted = λ on. h.is.1 (subst (λ (x : CrlValue). IsOn x c.tbs.serial) (sym g.is.0) (on_aside g.one c.tbs.serial on));
+      }
 
   serving : (c p : CertValue) → Mem certs p → IsUnrevoked good now crls p c → Has (Serves p c) lists
   serving c p m u = record {
-    one = u.crl;
+    one = kept_aside u.crl;
     among = of.all u.crl u.carried (record { one = p; among = m; is = u.good_list });
-    is = (u.good_list.of_issuer, u.unlisted);
+    is = (u.good_list.of_issuer, λ on. u.unlisted (aside_on u.crl c.tbs.serial on));
   }
 
   abbrev IsServed : ℕ × ℕ → Type 0

@@ -6,8 +6,8 @@ use Rattle.certs_verify.specs.certs_x509.declared.errors.verification.Verificati
 use Rattle.certs_verify.specs.certs_x509.declared.errors.verification.VerificationError.TheVariants as error
 use Rattle.certs_verify.specs.certs_basics.HandedIn.{Digests}
 use Rattle.certs_verify.specs.certs_basics.Verdicts.{Verdicts}
-use Rattle.objects_cms.specs.Content.{FailsContent}
-use Rattle.objects_cms.specs.objects_payload.ObjectText.{Object, Sound}
+use Rattle.objects_rta.specs.objects_cms.Content.{FailsContent}
+use Rattle.objects_rta.specs.objects_payload.ObjectText.{Object, Sound}
 use Rattle.objects_rta_valid.specs.Places.{Stands}
 use Rattle.objects_rta_valid.proofs.Standing.{stands_told}
 use Rattle.std.specs.Prelude.{Some}

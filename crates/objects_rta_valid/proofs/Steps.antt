@@ -30,6 +30,15 @@ mem_split [] ys x m = inr m
 mem_split (y ∷ xs) ys x (inl e) = inl (inl e)
 mem_split (y ∷ xs) ys x (inr m) = elim (mem_split xs ys x m) [ inl a ↦ inl (inr a) | inr b ↦ inr b ]
 
+pub mem_left : {X : Type 0} (xs ys : List X) (x : X) → Mem xs x → Mem (xs ++ ys) x
+mem_left [] ys x m = absurd m
+mem_left (y ∷ xs) ys x (inl e) = inl e
+mem_left (y ∷ xs) ys x (inr m) = inr (mem_left xs ys x m)
+
+pub mem_right : {X : Type 0} (xs ys : List X) (x : X) → Mem ys x → Mem (xs ++ ys) x
+mem_right [] ys x m = m
+mem_right (y ∷ xs) ys x m = inr (mem_right xs ys x m)
+
 -- The next of two lists at once.
 pub zip_more : {A B : Type 0} (P : A → B → Type 0) (xs others : List A) (ys left : List B) (x : A) (y : B) (W : Type 0)
     → xs ≡ x ∷ others → ys ≡ y ∷ left → P x y → (AllZip P xs ys ↔ W) → (AllZip P others left ↔ W)

@@ -1,5 +1,5 @@
 -- Places on paths: the first of each path, the last, and each two that are neighbours, the lower one first.
-use Rattle.std.specs.Prelude.{◌≡◌, ◌↔◌, ℕ, ◌<◌, List, [], ◌∷◌, Option, Some, length, slice_get}
+use Rattle.std.specs.Prelude.{◌≡◌, ◌↔◌, ℕ, ◌<◌, List, [], ◌∷◌, Option, Some, None, length, set, slice_get}
 use Rattle.std.specs.List.{flat_map}
 use Rattle.certs_verify.specs.certs_basics.Lists.{Mem}
 
@@ -53,3 +53,22 @@ BeginBelow count ps = (a b : ℕ) → Mem ps (a, b) → a < count
 pub record AreLinks (ps : List (ℕ × ℕ)) (count : ℕ) (links : List (Option ℕ)) : Type 0 where
   pub long : length links ≡ count
   pub same : (a b : ℕ) → (slice_get links a ≡ Some (Some b)) ↔ Mem ps (a, b)
+
+-- The table once each pair is written into it.
+abbrev pub linked : List (Option ℕ) → List (ℕ × ℕ) → List (Option ℕ)
+linked links [] = links
+linked links (p ∷ ps) = linked (set links p.0 (Some p.1)) ps
+
+-- The pair of a place and of what stands behind it, if anything does.
+abbrev pub link_pair : ℕ → Option ℕ → List (ℕ × ℕ)
+link_pair place None = []
+link_pair place (Some next) = (place, next) ∷ []
+
+-- The pairs of a table, of the places below the bound.
+abbrev pub ArePairsTo : List (Option ℕ) → ℕ → List (ℕ × ℕ) → Type 0
+ArePairsTo links bound ps =
+    (a b : ℕ) → Mem ps (a, b) ↔ ((a < bound) × (slice_get links a ≡ Some (Some b)))
+
+-- Both lists have the same members.
+abbrev pub HaveSame : {X : Type 0} → List X → List X → Type 0
+HaveSame {X} xs ys = (x : X) → Mem xs x ↔ Mem ys x

@@ -9,7 +9,7 @@ use Rattle.certs_verify.specs.certs_extension.Cert.{CertValue}
 use Rattle.objects_paths.specs.Keys.{AreSame}
 use Rattle.objects_paths.specs.Nodes.{Node}
 use Rattle.objects_paths.specs.Paths.{AreAllOn}
-use Rattle.objects_cms.specs.objects_payload.ObjectText.{Object, Signer, Sound}
+use Rattle.objects_rta.specs.objects_payload.ObjectText.{Object, Signer, Sound}
 use Rattle.objects_rta.specs.AttestationParts.{RtaValue}
 use Rattle.objects_rta.specs.MultiText.{Multi}
 use Rattle.objects_rta_valid.specs.declared.errors.RtaTest.{RtaTest}

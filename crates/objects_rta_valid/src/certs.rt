@@ -9,7 +9,7 @@ ghost use Rattle.objects_rta_valid.specs.Certs.{HasIssuerForm, HasSignerForm, Is
 ghost use Rattle.objects_rta_valid.specs.Vouched.{IsVouched};
 
 use certs_verify::{Cert, Digester, Inspect, Verifier, Verify};
-use certs_x509::Time;
+use objects_rta::Time;
 
 /// The certificate at that place, if there is one.
 pub(crate) fn cert_at(certs: &[Cert], place: usize) -> Option<&Cert>

@@ -4,15 +4,13 @@ ghost use Rattle.std.specs.Prelude.{◌≡◌, ◌↔◌, ◌+◌, ◌≤◌, �
 ghost use Rattle.std.specs.List.{AllZip};
 ghost use Rattle.certs_verify.specs.certs_key.Digesting.{digests_of};
 ghost use Rattle.certs_verify.specs.certs_x509.declared.errors.verification.VerificationError.TheVariants.{Memory};
-ghost use Rattle.objects_cms.specs.Content.{object_with};
-ghost use Rattle.objects_cms.specs.objects_payload.ObjectText.{Sound};
+ghost use Rattle.objects_rta.specs.objects_cms.Content.{object_with};
+ghost use Rattle.objects_rta.specs.objects_payload.ObjectText.{Sound};
 ghost use Rattle.objects_rta_valid.specs.Places.{Stands};
 
 use crate::certs::cert_at;
 use certs_verify::{Cert, Digester, VerificationError, Verifier};
-use certs_x509::signed::OctetString;
-use objects_cms::signed::SignerInfo;
-use objects_cms::verify::verify_content;
+use objects_rta::{OctetString, SignerInfo, verify_content};
 use std::alloc::{AllocError, Global};
 
 // Whether memory was wanted.

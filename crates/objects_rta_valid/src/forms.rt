@@ -8,7 +8,7 @@ ghost use Rattle.objects_rta_valid.specs.Certs.{HasIssuerForm, HasSignerForm, Is
 
 use crate::certs::{cert_at, has_issuer_form, has_signer_form, is_current};
 use certs_verify::{Cert, Digester};
-use certs_x509::Time;
+use objects_rta::Time;
 
 /// Whether each certificate is valid at the moment.
 pub(crate) fn are_current(certs: &[Cert], now: Time) -> bool

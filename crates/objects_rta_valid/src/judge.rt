@@ -4,9 +4,10 @@ ghost use Rattle.std.specs.Prelude.{◌≡◌, ◌↔◌, ◌+◌, ◌≤◌, �
 ghost use Rattle.certs_verify.specs.certs_basics.HandedIn.{Digests};
 ghost use Rattle.certs_verify.specs.certs_basics.Verdicts.{Verdicts};
 ghost use Rattle.certs_verify.specs.certs_key.Digesting.{digests_of};
-ghost use Rattle.objects_cms.specs.Signer.{signer_fields};
-ghost use Rattle.objects_cms.specs.objects_payload.ObjectText.{signer_of};
+ghost use Rattle.objects_rta.specs.objects_cms.Signer.{signer_fields};
+ghost use Rattle.objects_rta.specs.objects_payload.ObjectText.{signer_of};
 ghost use Rattle.objects_rta_valid.specs.declared.errors.RtaTest.TheVariants.{Content, Forms, Lists, Revocation, Signatures, Validity};
+ghost use Rattle.objects_rta_valid.specs.Places.{AreFunctional, BeginBelow, pairs};
 ghost use Rattle.objects_rta_valid.specs.Validity.{HaveForms, Passes};
 ghost use Rattle.objects_rta_valid.specs.Answered.{HasWalked, Validates};
 
@@ -17,10 +18,8 @@ use crate::forms::{are_current, are_issuers, are_signers};
 use crate::lists::{are_served, are_used, good_lists};
 use crate::places::{first_places, links, neighbours};
 use certs_verify::{Cert, Digester, Verifier};
-use certs_x509::Time;
-use objects_cms::signed::SignerInfo;
 use objects_paths::Paths;
-use objects_rta::{Crl, Rta};
+use objects_rta::{Crl, Rta, SignerInfo, Time};
 use std::alloc::{AllocError, Global};
 
 /// The certificates that are carried.
@@ -81,6 +80,8 @@ fn have_forms<D: Digester>(
     strict: bool,
     digester: &D,
 ) -> Result<bool, AllocError>
+    requires inside { BeginBelow paths.now.count (pairs paths.now.paths) }
+    requires functional { AreFunctional (pairs paths.now.paths) }
     ensures { IfOk result (λ yes. IsTrue yes ↔ HaveForms
         (digests_of D.sha256_digest D.sha1_digest digester.now) strict certs.now paths.now.paths) }
 {
@@ -129,10 +130,8 @@ fn passes_signatures<V: Verifier>(
     ensures same { V.says verifier.new ≡ V.says verifier.old }
     ensures asked { V.count verifier.new ≤ V.count verifier.old + length rta.now.signed.certs }
 {
-    let certs = certs_of(rta);
-    let pairs = neighbours(alloc, paths)?;
-    let behind = links(alloc, certs.len(), pairs.as_slice())?;
-    Ok(are_vouched(certs, behind.as_slice(), now, verifier))
+    let behind = links(alloc, paths)?;
+    Ok(are_vouched(certs_of(rta), behind.as_slice(), now, verifier))
 }
 
 // Whether each list is of an issuer that follows another certificate.
@@ -142,7 +141,7 @@ fn passes_lists(alloc: Global, rta: &Rta, paths: &Paths) -> Result<bool, AllocEr
         → IsTrue yes ↔ Passes d good strict now rta.now Lists) }
 {
     let pairs = neighbours(alloc, paths)?;
-    Ok(are_used(certs_of(rta), pairs.as_slice(), crls_of(rta)))
+    are_used(alloc, certs_of(rta), pairs.as_slice(), crls_of(rta))
 }
 
 // Whether no certificate that another follows is revoked. The verifier is asked at most once for each list.
@@ -162,7 +161,7 @@ fn passes_revocation<V: Verifier>(
     let certs = certs_of(rta);
     let pairs = neighbours(alloc, paths)?;
     let lists = good_lists(alloc, certs, crls_of(rta), now, verifier)?;
-    Ok(are_served(certs, pairs.as_slice(), lists.as_slice()))
+    are_served(alloc, certs, pairs.as_slice(), lists.as_slice())
 }
 
 /// Whether an attestation passes all tests, of which it passes those of its paths; else the first that it doesn't pass. The

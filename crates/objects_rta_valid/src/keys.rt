@@ -1,13 +1,14 @@
 //! The identifiers of keys that an attestation carries, lent for the search of paths.
 
-ghost use Rattle.std.specs.Prelude.{◌≡◌, IfOk, map};
+ghost use Rattle.std.specs.Prelude.{◌≡◌, ◌++◌, IfOk, OnOk, map};
 ghost use Rattle.objects_paths.specs.Nodes.{each_octets};
 ghost use Rattle.objects_rta_valid.specs.Certs.{node_of};
+ghost use Rattle.objects_rta_valid.specs.Vouched.{authority_of, subject_of, upper_key, upper_keys};
 
+use crate::certs::cert_at;
 use certs_verify::Cert;
-use certs_x509::KeyIdentifier;
-use objects_cms::signed::SignerInfo;
 use objects_paths::NodeKeys;
+use objects_rta::{Crl, KeyIdentifier, SignerInfo};
 use std::alloc::{AllocError, Global};
 use std::marker::Model;
 
@@ -113,4 +114,57 @@ pub(crate) fn lend_keys(alloc: Global, keys: &[KeyIdentifier]) -> Result<Vec<&[u
         rest = others;
     }
     Ok(lent)
+}
+
+/// The identifiers of certificates' keys, in their order.
+pub(crate) fn subjects_of(alloc: Global, certs: &[Cert]) -> Result<Vec<KeyIdentifier>, AllocError>
+    ensures { IfOk result (λ v. v.items ≡ map subject_of certs.now) }
+{
+    let mut subjects = Vec::new(alloc);
+    let mut rest = certs;
+    while let Some((cert, others)) = rest.split_first() {
+        subjects.push(cert.tbs().subject_key_identifier())?;
+        rest = others;
+    }
+    Ok(subjects)
+}
+
+/// The identifiers of the keys of lists' issuers, in their order.
+pub(crate) fn authorities_of(alloc: Global, crls: &[Crl]) -> Result<Vec<KeyIdentifier>, AllocError>
+    ensures { IfOk result (λ v. v.items ≡ map authority_of crls.now) }
+{
+    let mut authorities = Vec::new(alloc);
+    let mut rest = crls;
+    while let Some((crl, others)) = rest.split_first() {
+        authorities.push(*crl.as_cert_list().authority_key_identifier())?;
+        rest = others;
+    }
+    Ok(authorities)
+}
+
+// Adds the identifier of the key of the certificate at the place, if there is one.
+fn push_upper(keys: &mut Vec<KeyIdentifier>, certs: &[Cert], place: usize) -> Result<(), AllocError>
+    ensures { OnOk result (keys.new.items ≡ keys.old.items ++ upper_key certs.now place) }
+{
+    if let Some(cert) = cert_at(certs, place) {
+        keys.push(cert.tbs().subject_key_identifier())?;
+    }
+    Ok(())
+}
+
+/// The identifiers of the keys of the neighbours' upper certificates, in their order.
+pub(crate) fn uppers_of(
+    alloc: Global,
+    certs: &[Cert],
+    pairs: &[(usize, usize)],
+) -> Result<Vec<KeyIdentifier>, AllocError>
+    ensures { IfOk result (λ v. v.items ≡ upper_keys certs.now pairs.now) }
+{
+    let mut keys = Vec::new(alloc);
+    let mut rest = pairs;
+    while let Some((pair, others)) = rest.split_first() {
+        push_upper(&mut keys, certs, pair.1)?;
+        rest = others;
+    }
+    Ok(keys)
 }

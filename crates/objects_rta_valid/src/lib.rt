@@ -20,11 +20,15 @@ mod content;
 pub mod errors;
 mod forms;
 mod judge;
+mod keyed;
 mod keys;
 mod lists;
 mod places;
 pub mod validation;
 mod walk;
 
+pub use certs_verify::{Cert, Digester, ResourceCert, Verifier};
 pub use errors::{RtaError, RtaTest};
+pub use objects_paths::{PathPlaces, Paths};
+pub use objects_rta::{Clock, Rta, Time};
 pub use validation::Validation;

@@ -1,17 +1,20 @@
 //! What is asked of the revocation lists that are carried (RFC 6487 5).
 
-ghost use Rattle.std.specs.Prelude.{◌≡◌, ◌↔◌, ◌+◌, ◌≤◌, IfOk, IfSome, IfNone, IsTrue, OnOk, length, map};
+ghost use Rattle.std.specs.Prelude.{◌≡◌, ◌↔◌, ◌+◌, ◌≤◌, IfOk, IfSome, IfNone, IsTrue, MatchOption, None, OnOk, Some, length, map, slice_get};
 ghost use Rattle.certs_verify.specs.certs_basics.Lists.{Each, Mem};
 ghost use Rattle.certs_verify.specs.certs_extension.Cert.{CertValue};
+ghost use Rattle.certs_verify.specs.certs_extension.CrlText.{IsOn};
 ghost use Rattle.objects_rta_valid.specs.Apart.{AreApart};
 ghost use Rattle.objects_rta_valid.specs.Places.{Stands};
+ghost use Rattle.objects_rta_valid.specs.Keyed.{HasPlace, IsKeyed, last_place};
 ghost use Rattle.objects_rta_valid.specs.Certs.{IsGoodList, IsUsed, node_of};
-ghost use Rattle.objects_rta_valid.specs.Vouched.{AreGoodOf, Has, IsGoodCarried, IsKept, Serves};
+ghost use Rattle.objects_rta_valid.specs.Vouched.{AreGoodOf, Has, IsGoodCarried, IsKept, Serves, authority_of, kept_aside, subject_of};
 
 use crate::certs::cert_at;
-use certs_crl::Crl;
+use crate::keyed::{KeyPlaces, places_of};
+use crate::keys::{authorities_of, lend_keys, subjects_of, uppers_of};
 use certs_verify::{Cert, Verifier};
-use certs_x509::Time;
+use objects_rta::{Crl, Time};
 use std::alloc::{AllocError, Global};
 
 // Whether the list is the certificate's by its authority key identifier.
@@ -35,63 +38,119 @@ fn is_good<V: Verifier>(crl: &Crl, issuer: &Cert, now: Time, verifier: &mut V) -
         .is_ok()
 }
 
-// The first certificate whose list it is, by key identifiers.
-fn issuer_of<'a>(certs: &'a [Cert], crl: &Crl) -> Option<&'a Cert>
+// The last place of the key of the list's issuer.
+fn place_of_list(places: &KeyPlaces<'_>, crl: &Crl) -> Option<usize>
+    ensures { result ≡ last_place places.now (authority_of crl.now) }
+{
+    places.last(crl.as_cert_list().authority_key_identifier().as_slice())
+}
+
+// The last place of the certificate's key.
+fn place_of_key(places: &KeyPlaces<'_>, cert: &Cert) -> Option<usize>
+    ensures { result ≡ last_place places.now (subject_of cert.now) }
+{
+    let key = cert.tbs().subject_key_identifier();
+    places.last(key.as_slice())
+}
+
+// The certificate whose list it is, by key identifiers.
+fn issuer_of<'a>(certs: &'a [Cert], places: &KeyPlaces<'_>, crl: &Crl) -> Option<&'a Cert>
+    requires { IsKeyed (map subject_of certs.now) places.now }
     ensures there { IfSome result (λ p. Mem certs.now p.now) }
     ensures of_issuer { IfSome result (λ p. crl.now.tbs.authority_key_identifier
         ≡ p.now.tbs.subject_key_identifier) }
     ensures none { IfNone result ((p : CertValue) → Mem certs.now p
         → crl.now.tbs.authority_key_identifier ≡ p.tbs.subject_key_identifier → ⊥) }
 {
-    let mut rest = certs;
-    while let Some((cert, others)) = rest.split_first() {
-        if is_of(crl, cert) {
-            return Some(cert);
-        }
-        rest = others;
+    match place_of_list(places, crl) {
+        Some(place) => cert_at(certs, place),
+        None => None,
     }
-    None
 }
 
 // Whether the list is a good one of the certificate whose it is. The verifier is asked once, at most.
-fn is_good_carried<V: Verifier>(certs: &[Cert], crl: &Crl, now: Time, verifier: &mut V) -> bool
-    requires { AreApart (map node_of certs.now) }
+fn is_good_carried<V: Verifier>(
+    certs: &[Cert],
+    places: &KeyPlaces<'_>,
+    crl: &Crl,
+    now: Time,
+    verifier: &mut V,
+) -> bool
+    requires apart { AreApart (map node_of certs.now) }
+    requires keyed { IsKeyed (map subject_of certs.now) places.now }
     ensures good_list { IsTrue result
         ↔ IsGoodCarried (V.says verifier.old) now certs.now crl.now }
     ensures same { V.says verifier.new ≡ V.says verifier.old }
     ensures asked { V.count verifier.new ≤ V.count verifier.old + 1 }
 {
-    match issuer_of(certs, crl) {
+    match issuer_of(certs, places, crl) {
         Some(issuer) => is_good(crl, issuer, now, verifier),
         None => false,
     }
 }
 
-// Keeps a copy of the list, which shares its octets, if it is a good one of some carried issuer. The verifier is asked once,
-// at most.
+// A copy of the list, which shares its octets, with its serial numbers kept aside.
+fn with_serials(alloc: Global, crl: &Crl) -> Result<Crl, AllocError>
+    ensures { IfOk result (λ copy. copy ≡ kept_aside crl.now) }
+{
+    let mut copy = crl.clone()?;
+    copy.cache_serials(alloc)?;
+    Ok(copy)
+}
+
+// Keeps a copy of the list, with its serial numbers aside, if it is a good one of some carried issuer. The verifier is asked
+// once, at most.
 fn keep_if_good<V: Verifier>(
+    alloc: Global,
     lists: &mut Vec<Crl>,
     certs: &[Cert],
+    places: &KeyPlaces<'_>,
     crl: &Crl,
     now: Time,
     verifier: &mut V,
 ) -> Result<(), AllocError>
-    requires { AreApart (map node_of certs.now) }
+    requires apart { AreApart (map node_of certs.now) }
+    requires keyed { IsKeyed (map subject_of certs.now) places.now }
     ensures kept { OnOk result (IsKept
-        (IsGoodCarried (V.says verifier.old) now certs.now crl.now) crl.now
+        (IsGoodCarried (V.says verifier.old) now certs.now crl.now) (kept_aside crl.now)
         lists.old.items lists.new.items) }
     ensures same { V.says verifier.new ≡ V.says verifier.old }
     ensures asked { V.count verifier.new ≤ V.count verifier.old + 1 }
 {
-    if !is_good_carried(certs, crl, now, verifier) {
+    if !is_good_carried(certs, places, crl, now, verifier) {
         return Ok(());
     }
-    let copy = crl.clone()?;
+    let copy = with_serials(alloc, crl)?;
     lists.push(copy)?;
     Ok(())
 }
 
-/// The good lists, of all that are carried. The verifier is asked at most once for each.
+// The good lists, of all that are carried, by the places of certificates' keys. The verifier is asked at most once for each.
+fn good_among<V: Verifier>(
+    alloc: Global,
+    certs: &[Cert],
+    places: &KeyPlaces<'_>,
+    crls: &[Crl],
+    now: Time,
+    verifier: &mut V,
+) -> Result<Vec<Crl>, AllocError>
+    requires apart { AreApart (map node_of certs.now) }
+    requires keyed { IsKeyed (map subject_of certs.now) places.now }
+    ensures lists { IfOk result (λ v. AreGoodOf (V.says verifier.old) now certs.now crls.now
+        v.items) }
+    ensures same { V.says verifier.new ≡ V.says verifier.old }
+    ensures asked { V.count verifier.new ≤ V.count verifier.old + length crls.now }
+{
+    let mut lists = Vec::new(alloc);
+    let mut rest = crls;
+    while let Some((crl, others)) = rest.split_first() {
+        keep_if_good(alloc, &mut lists, certs, places, crl, now, verifier)?;
+        rest = others;
+    }
+    Ok(lists)
+}
+
+/// The good lists, of all that are carried, with their serial numbers kept aside. The verifier is asked at most once for each.
 pub(crate) fn good_lists<V: Verifier>(
     alloc: Global,
     certs: &[Cert],
@@ -105,38 +164,63 @@ pub(crate) fn good_lists<V: Verifier>(
     ensures same { V.says verifier.new ≡ V.says verifier.old }
     ensures asked { V.count verifier.new ≤ V.count verifier.old + length crls.now }
 {
-    let mut lists = Vec::new(alloc);
-    let mut rest = crls;
-    while let Some((crl, others)) = rest.split_first() {
-        keep_if_good(&mut lists, certs, crl, now, verifier)?;
-        rest = others;
-    }
-    Ok(lists)
+    let subjects = subjects_of(alloc, certs)?;
+    let keys = lend_keys(alloc, subjects.as_slice())?;
+    let places = places_of(alloc, keys.as_slice())?;
+    good_among(alloc, certs, &places, crls, now, verifier)
 }
 
-// Whether the list is the issuer's, and the certificate isn't on it.
-fn serves(crl: &Crl, issuer: &Cert, cert: &Cert) -> bool
-    ensures { IsTrue result ↔ Serves issuer.now cert.now crl.now }
+// The list at that place, if there is one.
+fn list_at(lists: &[Crl], place: usize) -> Option<&Crl>
+    ensures { MatchOption result (slice_get lists.now place ≡ None)
+        (λ crl. slice_get lists.now place ≡ Some crl.now) }
 {
-    is_of(crl, issuer) && !crl.contains(cert.tbs().serial_number())
+    lists.get(place)
 }
 
-// Whether some list is the issuer's, without the certificate on it.
-fn is_served(lists: &[Crl], issuer: &Cert, cert: &Cert) -> bool
+// Whether the certificate isn't on the list.
+fn is_off(crl: &Crl, cert: &Cert) -> bool
+    ensures { IsTrue result ↔ (IsOn crl.now cert.now.tbs.serial → ⊥) }
+{
+    !crl.contains(cert.tbs().serial_number())
+}
+
+// Whether a list stands at the place, and the certificate isn't on it.
+fn is_off_at(lists: &[Crl], place: usize, cert: &Cert) -> bool
+    ensures { IsTrue result
+        ↔ Stands lists.now place (λ crl. IsOn crl cert.now.tbs.serial → ⊥) }
+{
+    match list_at(lists, place) {
+        Some(crl) => is_off(crl, cert),
+        None => false,
+    }
+}
+
+// Whether some list is the issuer's, without the certificate on it: of the issuer's lists each is looked at, from the last one
+// on, until one lacks the certificate.
+fn is_served(lists: &[Crl], places: &KeyPlaces<'_>, issuer: &Cert, cert: &Cert) -> bool
+    requires { IsKeyed (map authority_of lists.now) places.now }
     ensures { IsTrue result ↔ Has (Serves issuer.now cert.now) lists.now }
 {
-    let mut rest = lists;
-    while let Some((crl, others)) = rest.split_first() {
-        if serves(crl, issuer, cert) {
+    let mut next = place_of_key(places, issuer);
+    while let Some(place) = next {
+        if is_off_at(lists, place, cert) {
             return true;
         }
-        rest = others;
+        let prior = places.earlier(place);
+        next = prior;
     }
     false
 }
 
 // Whether that holds of two neighbours.
-fn is_pair_served(certs: &[Cert], pair: (usize, usize), lists: &[Crl]) -> bool
+fn is_pair_served(
+    certs: &[Cert],
+    pair: (usize, usize),
+    lists: &[Crl],
+    places: &KeyPlaces<'_>,
+) -> bool
+    requires { IsKeyed (map authority_of lists.now) places.now }
     ensures { IsTrue result ↔ Stands certs.now pair.0 (λ c. Stands certs.now pair.1
         (λ p. Has (Serves p c) lists.now)) }
 {
@@ -146,17 +230,23 @@ fn is_pair_served(certs: &[Cert], pair: (usize, usize), lists: &[Crl]) -> bool
     let Some(issuer) = cert_at(certs, pair.1) else {
         return false;
     };
-    is_served(lists, issuer, cert)
+    is_served(lists, places, issuer, cert)
 }
 
-/// Whether of each of the neighbours some list is the upper's, without the lower on it.
-pub(crate) fn are_served(certs: &[Cert], pairs: &[(usize, usize)], lists: &[Crl]) -> bool
+// Whether that holds of each of the neighbours.
+fn are_pairs_served(
+    certs: &[Cert],
+    pairs: &[(usize, usize)],
+    lists: &[Crl],
+    places: &KeyPlaces<'_>,
+) -> bool
+    requires { IsKeyed (map authority_of lists.now) places.now }
     ensures { IsTrue result ↔ Each (λ q. Stands certs.now q.0 (λ c. Stands certs.now q.1
         (λ p. Has (Serves p c) lists.now))) pairs.now }
 {
     let mut rest = pairs;
     while let Some((pair, others)) = rest.split_first() {
-        if !is_pair_served(certs, *pair, lists) {
+        if !is_pair_served(certs, *pair, lists, places) {
             return false;
         }
         rest = others;
@@ -164,41 +254,58 @@ pub(crate) fn are_served(certs: &[Cert], pairs: &[(usize, usize)], lists: &[Crl]
     true
 }
 
-// Whether the list is of the certificate at the place.
-fn is_of_place(certs: &[Cert], place: usize, crl: &Crl) -> bool
-    ensures { IsTrue result ↔ Stands certs.now place (λ p.
-        crl.now.tbs.authority_key_identifier ≡ p.tbs.subject_key_identifier) }
+/// Whether of each of the neighbours some list is the upper's, without the lower on it.
+pub(crate) fn are_served(
+    alloc: Global,
+    certs: &[Cert],
+    pairs: &[(usize, usize)],
+    lists: &[Crl],
+) -> Result<bool, AllocError>
+    ensures { IfOk result (λ yes. IsTrue yes ↔ Each (λ q. Stands certs.now q.0 (λ c.
+        Stands certs.now q.1 (λ p. Has (Serves p c) lists.now))) pairs.now) }
 {
-    match cert_at(certs, place) {
-        Some(issuer) => is_of(crl, issuer),
+    let authorities = authorities_of(alloc, lists)?;
+    let keys = lend_keys(alloc, authorities.as_slice())?;
+    let places = places_of(alloc, keys.as_slice())?;
+    Ok(are_pairs_served(certs, pairs, lists, &places))
+}
+
+// Whether the list's key has a place.
+fn has_place(places: &KeyPlaces<'_>, crl: &Crl) -> bool
+    ensures { IsTrue result ↔ HasPlace places.now (authority_of crl.now) }
+{
+    match place_of_list(places, crl) {
+        Some(_place) => true,
         None => false,
     }
 }
 
-// Whether the list is of the upper certificate of some neighbours.
-fn is_used(certs: &[Cert], pairs: &[(usize, usize)], crl: &Crl) -> bool
-    ensures { IsTrue result ↔ IsUsed certs.now pairs.now crl.now }
-{
-    let mut rest = pairs;
-    while let Some((pair, others)) = rest.split_first() {
-        if is_of_place(certs, pair.1, crl) {
-            return true;
-        }
-        rest = others;
-    }
-    false
-}
-
-/// Whether each list is of the upper certificate of some neighbours.
-pub(crate) fn are_used(certs: &[Cert], pairs: &[(usize, usize)], crls: &[Crl]) -> bool
-    ensures { IsTrue result ↔ Each (IsUsed certs.now pairs.now) crls.now }
+// Whether each list's key has a place.
+fn have_places(places: &KeyPlaces<'_>, crls: &[Crl]) -> bool
+    ensures { IsTrue result
+        ↔ Each (λ crl. HasPlace places.now (authority_of crl)) crls.now }
 {
     let mut rest = crls;
     while let Some((crl, others)) = rest.split_first() {
-        if !is_used(certs, pairs, crl) {
+        if !has_place(places, crl) {
             return false;
         }
         rest = others;
     }
     true
+}
+
+/// Whether each list is of the upper certificate of some neighbours.
+pub(crate) fn are_used(
+    alloc: Global,
+    certs: &[Cert],
+    pairs: &[(usize, usize)],
+    crls: &[Crl],
+) -> Result<bool, AllocError>
+    ensures { IfOk result (λ yes. IsTrue yes ↔ Each (IsUsed certs.now pairs.now) crls.now) }
+{
+    let uppers = uppers_of(alloc, certs, pairs)?;
+    let keys = lend_keys(alloc, uppers.as_slice())?;
+    let places = places_of(alloc, keys.as_slice())?;
+    Ok(have_places(&places, crls))
 }

@@ -9,9 +9,8 @@ use crate::errors::RtaError;
 use crate::judge::judge;
 use crate::walk::walk;
 use certs_verify::{Digester, Verifier};
-use certs_x509::{Clock, Time};
 use objects_paths::Paths;
-use objects_rta::Rta;
+use objects_rta::{Clock, Rta, Time};
 use std::alloc::Global;
 use std::marker::Model;
 

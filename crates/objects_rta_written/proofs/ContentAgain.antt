@@ -35,9 +35,9 @@ use Rattle.certs.specs.Resources.{said_families}
 use Rattle.objects_written.specs.Outputs.{beside, each, of, perhaps}
 use Rattle.objects_written.specs.Frames.{algorithm, sha256}
 use Rattle.objects_written.proofs.Words.{inside_of, last_of, then_of}
-use Rattle.objects_valid.specs.Stated.{AreListed, AreParts, AreStated, AreStatedFamilies, IsAsPart, IsStated, Parts, SaysSome, Stated, asn_of, families_of, stated_of}
-use Rattle.objects_valid.specs.declared.stated.AsForm.TheVariants.{BlocksAlone}
-use Rattle.objects_valid.proofs.Parts.{own_asn, own_v4, own_v6}
+use Rattle.objects_rta.specs.objects_valid.Stated.{AreListed, AreParts, AreStated, AreStatedFamilies, IsAsPart, IsStated, Parts, SaysSome, Stated, asn_of, families_of, stated_of}
+use Rattle.objects_rta.specs.objects_valid.declared.stated.AsForm.TheVariants.{BlocksAlone}
+use Rattle.objects_rta.proofs.of_objects_valid.Parts.{own_asn, own_v4, own_v6}
 use Rattle.objects_rta.specs.Attestations.{AreFields, AreSubjectKeys, Attestation, Fields, IsAttestation, IsSubjectKey, attestation_of}
 use Rattle.objects_rta_written.specs.Contents.{AreStatable, IsReadable, StatedParts, attestation, key, listed, numbers, parts_of, stated, tagged_families, tagged_numbers}
 use Rattle.objects_rta_written.proofs.Words.{all_first, all_others, by_trees, string_alone}

@@ -17,9 +17,9 @@ use Rattle.objects_written.specs.certs_basics.Keys.{KeyValue, identifier}
 use Rattle.objects_written.specs.certs_key.declared.signer.SigningError.{SigningError}
 use Rattle.objects_written.specs.certs_key.declared.signer.SigningError.TheVariants as refusals
 use Rattle.objects_written.specs.objects_payload.ObjectText.{Signer, SignerFields, SpellsSigner, signer_of}
-use Rattle.objects_cms.specs.Signer.{IsSigner as IsSignerValue}
-use Rattle.objects_cms.proofs.Ones.{signer_one}
-use Rattle.objects_cms.proofs.Spelled.{signer_tree}
+use Rattle.objects_rta.specs.objects_cms.Signer.{IsSigner as IsSignerValue}
+use Rattle.objects_rta.proofs.of_objects_cms.Ones.{signer_one}
+use Rattle.objects_rta.proofs.of_objects_cms.Spelled.{signer_tree}
 use Rattle.objects_written.specs.Attributes.{IsMessage, ToSign, WritesAttributes, attributes_of}
 use Rattle.objects_written.specs.Frames.{SignerParts, signer as written_signer}
 use Rattle.objects_written.specs.Refusing.{BuildRefused, CanTell, CannotSign, told_as}

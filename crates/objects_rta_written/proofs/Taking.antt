@@ -14,7 +14,7 @@ use Rattle.objects_written.specs.bcder_source.Errors.{OnContent}
 use Rattle.objects_written.specs.bcder_source.Views.{limited, more_limit}
 use Rattle.objects_written.specs.bcder_source.declared.error.DecodeError.{DecodeError}
 use Rattle.objects_written.specs.bcder_source.declared.error.DecodeError.TheVariants.{Content, Source, Memory}
-use Rattle.objects_cms.proofs.Wholes.{spelled_whole}
+use Rattle.objects_rta.proofs.of_objects_cms.Wholes.{spelled_whole}
 use Rattle.objects_rta_written.specs.Taking.{DecodesDer, IsInDer, TakesAll, in_der}
 
 -- Values that are all of a source are spelled by all its octets.

@@ -19,7 +19,7 @@ use Rattle.certs.specs.Resources.{said_families}
 use Rattle.certs.specs.Values.{addresses}
 use Rattle.objects_written.specs.Outputs.{Output, beside, each, inside, of, perhaps}
 use Rattle.objects_written.specs.Frames.{algorithm, sha256}
-use Rattle.objects_valid.specs.Stated.{Stated}
+use Rattle.objects_rta.specs.objects_valid.Stated.{Stated}
 use Rattle.objects_rta.specs.Attestations.{Attestation}
 
 -- SubjectKeyIdentifier ::= OCTET STRING (RFC 6487 4.8.2)

@@ -9,7 +9,7 @@ ghost use Rattle.objects_rta_written.specs.Builders.{AddsSigner, CannotAdd, IsBe
 ghost use Rattle.objects_written.specs.certs_basics.Keys.{KeyValue, identifier};
 ghost use Rattle.objects_written.specs.certs_key.declared.signer.SigningError.TheVariants.{Memory as no_memory};
 ghost use Rattle.objects_written.specs.objects_payload.ObjectText.{signer_of};
-ghost use Rattle.objects_cms.specs.Signer.{signer_fields};
+ghost use Rattle.objects_rta.specs.objects_cms.Signer.{signer_fields};
 ghost use Rattle.objects_rta_written.specs.Contents.{AttestationRefused};
 
 mod signing;
@@ -20,10 +20,8 @@ use crate::signer::octets_of;
 use bytes::Bytes;
 use certs::written::{EncodeError, Time};
 use certs_cert::Cert;
-use certs_crl::Crl;
 use certs_key::{Digester, OctetString, Oid, Signer, SigningError};
-use objects_cms::signed::SignerInfo;
-use objects_rta::{MultiSignedObject, ResourceTaggedAttestation, Rta};
+use objects_rta::{Crl, MultiSignedObject, ResourceTaggedAttestation, Rta, SignerInfo};
 use std::alloc::{AllocError, Global};
 use std::marker::Model;
 

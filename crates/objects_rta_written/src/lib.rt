@@ -22,4 +22,5 @@ pub use attestation::{AttestationValue, EncodeAttestation};
 pub use builder::{AttestationBuilder, AttestationError};
 pub use draft::RtaBuilder;
 pub use object::{EncodeMulti, MultiValues};
+pub use objects_rta::{Crl, MultiSignedObject, ResourceTaggedAttestation, Rta, SignerInfo};
 pub use signer::{EncodeSigner, SignerValues};

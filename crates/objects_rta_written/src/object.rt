@@ -4,7 +4,7 @@ ghost use Rattle.std.specs.Prelude.{◌≡◌, ◌↔◌, ◌++◌, ◌∷◌, [
 ghost use Rattle.objects_written.specs.bcder_primitive.declared.written.error.EncodeError.TheVariants.{Memory as memory_lacks};
 ghost use Rattle.objects_written.specs.bcder_tree.declared.mode.Mode.TheVariants.{Der};
 ghost use Rattle.objects_written.specs.objects_payload.ObjectText.{signer_of};
-ghost use Rattle.objects_cms.specs.Signer.{signer_fields};
+ghost use Rattle.objects_rta.specs.objects_cms.Signer.{signer_fields};
 ghost use Rattle.certs_cert.specs.Whole.{signed_of};
 ghost use Rattle.objects_rta.specs.MultiText.{Multi};
 ghost use Rattle.objects_rta_written.specs.Again.{AgainRefused, AreCarriedInDer, IsCertInDer, IsCrlInDer, IsSignerInDer, PartsRefused, SignersRefused, StandsInDer, WritesAgain, parts_of, signer_parts, signers_seen};
@@ -19,11 +19,9 @@ use certs::written::{
 };
 use certs_cert::Cert;
 use certs_cert::signed::SignedDataValues;
-use certs_crl::Crl;
 use certs_key::encode::{Encodes, Slice, slice};
 use certs_key::{ConstOid, DigestAlgorithm, Oid};
-use objects_cms::signed::SignerInfo;
-use objects_rta::{MultiSignedObject, Rta};
+use objects_rta::{Crl, MultiSignedObject, Rta, SignerInfo};
 use objects_written::frame::attributes::{OidValue, SetOf, StringValue};
 use std::alloc::Global;
 use std::io::Write;

@@ -1,4 +1,4 @@
-mod Texts
+pub mod Texts
 pub mod Accepting
 pub mod IfType
 pub mod Processing

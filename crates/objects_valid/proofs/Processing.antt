@@ -7,35 +7,34 @@ use Rattle.certs_verify.specs.certs_basics.Verdicts.{Verdicts}
 use Rattle.certs_verify.specs.certs_x509.declared.errors.validation.ValidationError.{ValidationError}
 use Rattle.objects_valid.specs.certs_extension.Cert.{CertValue}
 use Rattle.objects_valid.specs.certs_extension.Verified.{HolderValue}
-use Rattle.objects_valid.specs.certs_extension.declared.forms.Role.TheVariants.{Ee}
+use Rattle.objects_valid.specs.certs_extension.declared.forms.Role.{Role}
 use Rattle.certs_verify.specs.Holders.{ResourceCertValue}
-use Rattle.objects_valid.specs.Kinds.{KindValue}
 use Rattle.objects_valid.specs.objects_payload.Aspas.{Aspa}
 use Rattle.objects_valid.specs.objects_payload.ObjectText.{Object}
 use Rattle.objects_valid.specs.Accepted.{AcceptsObject, FailsObject}
-use Rattle.objects_valid.specs.Processed.{Answers, CallableIfAccepted, CallableIfCovered, CoversAspa, Failing, FailsAny, FailsAspa, FailsTest, Passing, PassesAny, PassesAspa, PassesTest, Processes, Test}
+use Rattle.objects_valid.specs.Processed.{Answers, CallableAfter, CoversAspa, Failing, FailsAny, FailsAspa, FailsTest, Passing, PassesAny, PassesAspa, PassesTest, Processes, Test}
 use Rattle.objects_valid.specs.Together.{joined_if}
 
 -- The tests were asked of the holder's certificate, which is the object's.
-pub processed : {A : Type 0} (passes : CertValue → A → Passing) (fails : CertValue → A → Failing) (d : Digests) (good : Verdicts) (strict : Bool) (now : ℕ) (issuer : HolderValue) (o s : Object) (content x : A) (r : ResourceCertValue) (tested : Result (Unit {0}) ValidationError)
-    → s ≡ o → x ≡ content → AcceptsObject d good strict Ee now issuer s r.holder → Answers (passes r.holder.cert x) (fails r.holder.cert x) r.holder tested
-    → Processes (passes o.cert content) (fails o.cert content) d good strict now issuer o content (joined_if r x tested)
-processed {A} passes fails d good strict now issuer o s content x r tested same is accepted told =
-    let a : AcceptsObject d good strict Ee now issuer o r.holder = subst (λ (p : Object). AcceptsObject d good strict Ee now issuer p r.holder) same accepted in
+pub processed : {A : Type 0} (role : Role) (passes : CertValue → A → Passing) (fails : CertValue → A → Failing) (d : Digests) (good : Verdicts) (strict : Bool) (now : ℕ) (issuer : HolderValue) (o s : Object) (content x : A) (r : ResourceCertValue) (tested : Result (Unit {0}) ValidationError)
+    → s ≡ o → x ≡ content → AcceptsObject d good strict role now issuer s r.holder → Answers (passes r.holder.cert x) (fails r.holder.cert x) r.holder tested
+    → Processes role (passes o.cert content) (fails o.cert content) d good strict now issuer o content (joined_if r x tested)
+processed {A} role passes fails d good strict now issuer o s content x r tested same is accepted told =
+    let a : AcceptsObject d good strict role now issuer o r.holder = subst (λ (p : Object). AcceptsObject d good strict role now issuer p r.holder) same accepted in
     let t : Answers (passes o.cert content) (fails o.cert content) r.holder tested =
     subst (λ (y : A). Answers (passes o.cert y) (fails o.cert y) r.holder tested) is
     (subst (λ (c : CertValue). Answers (passes c x) (fails c x) r.holder tested) a.holds.cert told) in
     closed tested a t
   where
-    closed : (tested : Result (Unit {0}) ValidationError) → AcceptsObject d good strict Ee now issuer o r.holder → Answers (passes o.cert content) (fails o.cert content) r.holder tested
-        → Processes (passes o.cert content) (fails o.cert content) d good strict now issuer o content (joined_if r x tested)
+    closed : (tested : Result (Unit {0}) ValidationError) → AcceptsObject d good strict role now issuer o r.holder → Answers (passes o.cert content) (fails o.cert content) r.holder tested
+        → Processes role (passes o.cert content) (fails o.cert content) d good strict now issuer o content (joined_if r x tested)
     closed (Ok u) a t = (a, (t, is))
     closed (Err e) a t = inr (r.holder, a, t)
 
 -- The object failed a test of its own.
-pub refused : {A : Type 0} (passes : Passing) (fails : Failing) (d : Digests) (good : Verdicts) (strict : Bool) (now : ℕ) (issuer : HolderValue) (o s : Object) (content : A) (e : ValidationError)
-    → s ≡ o → FailsObject d good strict Ee now issuer s e → Processes passes fails d good strict now issuer o content (Err e)
-refused passes fails d good strict now issuer o s content e same f = inl (subst (λ (p : Object). FailsObject d good strict Ee now issuer p e) same f)
+pub refused : {A : Type 0} (role : Role) (passes : Passing) (fails : Failing) (d : Digests) (good : Verdicts) (strict : Bool) (now : ℕ) (issuer : HolderValue) (o s : Object) (content : A) (e : ValidationError)
+    → s ≡ o → FailsObject d good strict role now issuer s e → Processes role passes fails d good strict now issuer o content (Err e)
+refused role passes fails d good strict now issuer o s content e same f = inl (subst (λ (p : Object). FailsObject d good strict role now issuer p e) same f)
 
 -- What is said of the locator and of the numbers outside holds of these too.
 pub processed_tal : {A : Type 0} (x : A) (tal : String Global) (r : ResourceCertValue) (tested : Result (Unit {0}) ValidationError) → r.tal ≡ tal → IfOk (joined_if r x tested) (λ p. p.0.tal ≡ tal)
@@ -45,6 +44,10 @@ processed_tal x tal r (Err e) t = tt
 pub processed_outside : {A : Type 0} (x : A) (P : ValidationError → Type 0) (r : ResourceCertValue) (tested : Result (Unit {0}) ValidationError) → IfErr tested P → IfErr (joined_if r x tested) P
 processed_outside x P r (Ok u) t = tt
 processed_outside x P r (Err e) t = t
+
+pub outside_joined : {A : Type 0} (x : A) (P : ValidationError → Type 0) (r : ResourceCertValue) (tested : Result (Unit {0}) ValidationError) (s : Result (ResourceCertValue × A) ValidationError)
+    → s ≡ joined_if r x tested → IfErr tested P → IfErr s P
+outside_joined {A} x P r tested s e t = subst (λ (k : Result (ResourceCertValue × A) ValidationError). IfErr k P) (sym e) (processed_outside x P r tested t)
 
 -- What a caller's test answers, of the certificate that is the holder's.
 abbrev Answered : (CertValue → Test) → CertValue → Result (Unit {0}) ValidationError → Type 0
@@ -61,15 +64,10 @@ pub asked_last : (says : CertValue → Test) (given : CertValue) (x : Aspa) (h :
 asked_last says given x h (Ok u) same covers a = (covers, subst (λ (c : CertValue). PassesTest (says c)) same (a h))
 asked_last says given x h (Err e) same covers a = inr (covers, subst (λ (c : CertValue). FailsTest (says c) e) same (a h))
 
--- The caller's test may be asked of the holder's certificate, which is the accepted object's.
-pub callable_here : (takes : CertValue → Type 0) (d : Digests) (good : Verdicts) (strict : Bool) (now : ℕ) (issuer : HolderValue) (o s : Object) (h : HolderValue)
-    → s ≡ o → AcceptsObject d good strict Ee now issuer s h → CallableIfAccepted (takes o.cert) d good strict now issuer o → takes h.cert
-callable_here takes d good strict now issuer o s h same accepted callable =
-    let a = subst (λ (p : Object). AcceptsObject d good strict Ee now issuer p h) same accepted in
-    subst takes (sym a.holds.cert) (callable h a)
-
-pub callable_covered : (takes : CertValue → Type 0) (d : Digests) (good : Verdicts) (strict : Bool) (now : ℕ) (issuer : HolderValue) (k : KindValue Aspa) (s : Object) (x : Aspa) (h : HolderValue)
-    → s ≡ k.signed → x ≡ k.content → AcceptsObject d good strict Ee now issuer s h → CallableIfCovered (takes k.signed.cert) d good strict now issuer k → CoversAspa x h → takes h.cert
-callable_covered takes d good strict now issuer k s x h same is accepted callable covers =
-    let a = subst (λ (p : Object). AcceptsObject d good strict Ee now issuer p h) same accepted in
-    subst takes (sym a.holds.cert) (callable h a (subst (λ (y : Aspa). CoversAspa y h) is covers))
+-- The caller's test may be asked of the holder's certificate, which is the accepted object's, where the tests before it pass
+-- of the content, which is the object's.
+pub callable_after : {A : Type 0} (role : Role) (before : A → Passing) (takes : CertValue → Type 0) (d : Digests) (good : Verdicts) (strict : Bool) (now : ℕ) (issuer : HolderValue) (o s : Object) (content x : A) (h : HolderValue)
+    → s ≡ o → x ≡ content → AcceptsObject d good strict role now issuer s h → CallableAfter role (before content) (takes o.cert) d good strict now issuer o → before x h → takes h.cert
+callable_after {A} role before takes d good strict now issuer o s content x h same is accepted callable first =
+    let a = subst (λ (p : Object). AcceptsObject d good strict role now issuer p h) same accepted in
+    subst takes (sym a.holds.cert) (callable h a (subst (λ (y : A). before y h) is first))

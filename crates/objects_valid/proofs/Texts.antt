@@ -4,12 +4,14 @@ use Rattle.std.specs.Prelude.{IsErr, IsErrAnd}
 use Rattle.objects_cms.specs.bcder_tree.declared.mode.Mode.TheVariants.{Der}
 use Rattle.objects_cms.specs.bcder_tree.Tree.{Tree}
 use Rattle.objects_cms.specs.bcder_tree.Front.{Front}
+use Rattle.objects_cms.specs.bcder_content.Exact.{DecodesAs}
 use Rattle.objects_cms.specs.bcder_content.Texts.{ReadsFront}
 use Rattle.objects_cms.specs.bcder_source.Errors.{OnContent, SameCause}
 use Rattle.objects_cms.specs.bcder_source.declared.error.DecodeError.{DecodeError}
 use Rattle.bcder.proofs.of_bcder_content.Keeping.{same_refusal}
 use Rattle.bcder.proofs.of_bcder_content.Taking.{weaker}
 use Rattle.objects_cms.specs.objects_payload.Contents.{ReadsAs}
+use Rattle.objects_cms.specs.objects_payload.Decoded.{DecodesFront}
 use Rattle.objects_cms.specs.objects_payload.ObjectText.{Object, ObjectText}
 use Rattle.objects_cms.proofs.of_objects_payload.Objects.{one_object}
 use Rattle.objects_valid.specs.Kinds.{DecodesKind, DecodesTyped, IsTyped, KindValue}
@@ -57,12 +59,16 @@ no_content {A} {kind = kind} Q strict {octets} {content} {o} p e told same lacks
         lacking x (subst (λ (y : List ℕ). ReadsFront Q y x) (sym is) q.content_is)
 
 -- What a reader of trees in front says, by the octets in front.
-pub front_lacks : {A E : Type 0} (Q : Tree → A → Type 0) (octets : List ℕ) (e : DecodeError E)
+front_lacks : {A E : Type 0} (Q : Tree → A → Type 0) (octets : List ℕ) (e : DecodeError E)
     → OnContent e ((t : Tree) (x : A) (rest : List ℕ) → Q t x → Front Der octets t rest → ⊥) → OnContent e ((x : A) → ReadsFront Q octets x → ⊥)
 front_lacks Q octets e = weaker e (λ none x p. none p.is.tree x p.rest p.is.is (record { text = p.text; spelled = p.is.spelled; whole = p.whole }))
 
-pub front_reads : {A : Type 0} (Q : Tree → A → Type 0) {octets : List ℕ} {x : A} → (t : Tree) × (rest : List ℕ) × Front Der octets t rest × Q t x → ReadsFront Q octets x
+front_reads : {A : Type 0} (Q : Tree → A → Type 0) {octets : List ℕ} {x : A} → (t : Tree) × (rest : List ℕ) × Front Der octets t rest × Q t x → ReadsFront Q octets x
 front_reads Q h = record { text = h.2.text; rest = h.1; whole = h.2.whole; is = record { tree = h.0; is = h.3; spelled = h.2.spelled } }
+
+pub front_decoded : {A E : Type 0} (Q : Tree → A → Type 0) (octets : List ℕ) (r : Result A (DecodeError E)) → DecodesAs (λ x. x) Der Q octets r → DecodesFront Q octets r
+front_decoded Q octets (Ok x) h = front_reads Q h
+front_decoded Q octets (Err e) h = front_lacks Q octets e h
 
 -- What a test decides isn't so where it says no.
 pub said_no : {b : Bool} {P : Type 0} → (IsTrue b ↔ P) → b ≡ false → P → ⊥

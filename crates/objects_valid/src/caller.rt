@@ -38,7 +38,7 @@ fn told(cause: ValidationError) -> ValidationError
 
 /// What the test says of the certificate, of which it is asked once: lack of memory is reported as that, and all other
 /// causes as one refusal.
-pub(crate) fn ask<F: FnOnce(&Cert) -> Result<(), ValidationError>>(
+pub fn ask<F: FnOnce(&Cert) -> Result<(), ValidationError>>(
     test: F,
     cert: &Cert,
 ) -> Result<(), ValidationError>

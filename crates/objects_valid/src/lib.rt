@@ -6,34 +6,37 @@
 //! that fails is answered. `process` asks a caller's test of the certificate beside that, which looks it up on a
 //! revocation list, and whether what is attested is within what the certificate holds.
 //!
-//! [`kinds`] has objects with what their contents say, [`stated`] the resources that a content states (RFC 9323 4.1). `decode_if_type` reads an object whose content is of a type that is asked for, and refuses any other.
+//! [`kinds`] has objects with what their contents say, all of one type, [`Signed`], of which a kind has what differs by
+//! [`SignedContent`] and [`Attested`]; [`stated`] has the resources that a content states (RFC 9323 4.1). `decode_if_type`
+//! reads an object whose content is of a type that is asked for, and refuses any other.
 //!
-//! What differs from the Rust crate: the calls are those of traits, one a type; the verifier, the digester and the clock
-//! are handed in, and each call has a form that is given the moment; what takes memory is given an allocator, and lack of
-//! memory is an error of its own; whatever a caller's test refuses with is reported as one error, but for lack of memory;
-//! the content of an object of any kind is handed over as it stands.
+//! What differs from the Rust crate: the calls of an object of any kind are those of traits; the verifier, the digester and
+//! the clock are handed in, and each call has a form that is given the moment; what takes memory is given an allocator, and
+//! lack of memory is an error of its own; whatever a caller's test refuses with is reported as one error, but for lack of
+//! memory; the content of an object of any kind is handed over as it stands.
 #![tactic(auto)]
 
 pub mod aspa;
-mod caller;
+pub mod attested;
+pub mod caller;
 pub mod if_type;
 mod inspected;
 pub mod kinds;
 pub mod manifest;
 pub mod object;
+pub mod process;
 pub mod roa;
 pub mod stated;
 mod together;
 
-pub use aspa::ProcessAspa;
+pub use attested::Attested;
 pub use certs_verify::{
     Cert, Digester, InspectionError, ResourceCert, ValidationError, VerificationError, Verifier,
 };
 pub use if_type::DecodeIfType;
-pub use kinds::{Aspa, Manifest, ManifestContent, Roa, SignedObject};
-pub use manifest::ValidateManifest;
+pub use kinds::{Aspa, Manifest, ManifestContent, Roa, Signed, SignedContent, SignedObject};
 pub use object::ProcessObject;
 pub use resources_as::AsResources;
 pub use resources_ip::IpResources;
-pub use roa::{ProcessRoa, UncoveredPrefix};
+pub use roa::UncoveredPrefix;
 pub use stated::{AsForm, StatedResources};

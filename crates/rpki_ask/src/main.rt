@@ -1,10 +1,9 @@
-//! `rpki_ask` answers questions about a bundle on standard input: `judge`, `reach`, `why` and `cost`.
+//! `rpki_ask` answers questions about a bundle on standard input: `judge`, `reach`, `why`, `refusals` and `cost`.
 #![tactic(auto)]
 
-use rpki_commands::questions::{Counted, FAULT, RunError, USAGE, ask, request_of};
-use std::env;
-use std::io::{self, ErrorKind, Write};
+use rpki_questions::{Counted, ask_program};
 use std::process::ExitCode;
+use std::{env, io};
 
 // All arguments; an error for one that isn't UTF-8, too.
 fn arguments(rt: &HostRuntime) -> io::Result<Vec<String>> {
@@ -12,25 +11,12 @@ fn arguments(rt: &HostRuntime) -> io::Result<Vec<String>> {
 }
 
 fn main(rt: HostRuntime) -> ExitCode {
-    let mut faults = rt.stderr();
     let arguments = arguments(&rt);
-    let request = match &arguments {
-        Ok(arguments) => request_of(arguments.as_slice()),
-        Err(error) if error.kind() == ErrorKind::OutOfMemory => {
-            let _ = writeln!(faults, "{}", RunError::Memory);
-            return ExitCode::from(FAULT);
-        }
-        Err(_) => None,
-    };
-    let Some(request) = request else {
-        let _ = faults.write_all(USAGE.as_bytes());
-        return ExitCode::from(FAULT);
-    };
-    ExitCode::from(ask(
+    ExitCode::from(ask_program(
         rt.alloc(),
-        request,
+        &arguments,
         &mut Counted::new(rt.stdin()),
         &mut Counted::new(rt.stdout()),
-        &mut faults,
+        &mut rt.stderr(),
     ))
 }

@@ -8,8 +8,8 @@ use certs_x509::signed::OctetString;
 use objects_payload::aspa::AsProviderAttestation;
 use objects_payload::roa::RouteOriginAttestation;
 use objects_valid::{
-    Aspa, Cert, Manifest, ManifestContent, ProcessAspa, ProcessObject, ProcessRoa, ResourceCert,
-    Roa, SignedObject, ValidateManifest, ValidationError, VerificationError,
+    Aspa, Cert, Manifest, ManifestContent, ProcessObject, ResourceCert, Roa, SignedObject,
+    ValidationError, VerificationError,
 };
 use rpki_commands::Fips;
 use std::alloc::Global;

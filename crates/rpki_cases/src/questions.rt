@@ -4,8 +4,7 @@ use crate::commands::end;
 use crate::octets::push_texts;
 use answers::{Answer, pieces_of};
 use anyhow::{Result, anyhow};
-use rpki_commands::Counted;
-use rpki_commands::questions::{ask, request_of};
+use rpki_questions::{Counted, ask, request_of};
 use std::alloc::Global;
 
 // What is answered to these words, of the bundle of these octets.

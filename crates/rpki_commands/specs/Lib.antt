@@ -6,9 +6,9 @@ pub mod Faults
 pub mod Lines
 pub mod Verdicts
 pub mod Folders
+pub mod Limits
 pub mod Texts
 pub mod Programs
-pub mod Asking
 -- What stands below, for the crates above.
 pub use Rattle.rpki_validator.specs.certs_basics as certs_basics
 pub use Rattle.rpki_validator.specs.rpki_bundle as rpki_bundle

@@ -2,18 +2,14 @@
 use Rattle.std.specs.Prelude.{◌≡◌, ℕ, List, Option, Some, None, Result, Ok, Err, Vec, String, map, string_bytes}
 use Rattle.std.specs.Global.{Global}
 use Rattle.std.specs.declared.io.Error.{Error}
+use Rattle.rpki_validator.specs.Counts.{Counts, IsLeft}
 use Rattle.rpki_validator.specs.Run.{Prints}
 use Rattle.rpki_digests.specs.Fips.{fips}
 use Rattle.rpki_commands.specs.Arguments.{Asks}
-use Rattle.rpki_commands.specs.Checks.{Counts, EndsInFault}
+use Rattle.rpki_commands.specs.Checks.{EndsInFault}
 use Rattle.rpki_commands.specs.Texts.{WritesBundle, EndsWithFault}
 use Rattle.rpki_commands.specs.declared.arguments.Command.{Command}
 use Rattle.rpki_commands.specs.declared.arguments.Command.TheVariants.{Check, Bundle}
-
--- Nothing was read, or written, and no call failed.
-pub record IsLeft (before after : Option (List ℕ)) (counts : Counts) : Type 0 where
-  pub octets : after ≡ before
-  pub failures : counts.after ≡ counts.before
 
 -- The command that the words ask for; where they can't be had, there is none.
 abbrev pub AskedFor : Result (Vec (String Global) Global) Error → Option Command → Type 0

@@ -4,6 +4,7 @@ use Rattle.std.specs.Io.KnownBytes.{Appends, Keeps}
 use Rattle.rpki_commands.specs.rpki_bundle.Bundle.{BundleValue, BundleText}
 use Rattle.rpki_validator.specs.Streams.{TakesSome}
 use Rattle.rpki_commands.specs.Folders.{Tells, TellsLines}
+use Rattle.rpki_commands.specs.Limits.{IsReading}
 use Rattle.rpki_commands.specs.declared.folder.Fault.{Fault}
 use Rattle.rpki_commands.specs.declared.folder.Fault.TheVariants as faults
 use Rattle.rpki_commands.specs.declared.folder.ReadFault.{ReadFault}
@@ -54,14 +55,16 @@ ReadingFails (Ok None) fault before after = (fault ≡ faults.NotABundle) × Kee
 ReadingFails (Err reads.Read) fault before after = (fault ≡ faults.Read) × Keeps before after
 ReadingFails (Err reads.Memory) fault before after = (fault ≡ faults.Memory) × Keeps before after
 
--- All of the text of some contents was written: no clause can say which a folder on a disk has.
+-- All of the text of some contents within the limits was written: no clause can say which a folder on a disk has.
 pub record WritesBundle (before after : Option (List ℕ)) : Type 0 where
   pub reading : Result (Option Contents) ReadFault
+  pub read : IsReading reading
   pub written : WritesReading reading before after
 
 -- What a fault says of what was read of a folder, and of what was written of that.
 pub record BundleFails (fault : Fault) (before after : Option (List ℕ)) : Type 0 where
   pub reading : Result (Option Contents) ReadFault
+  pub read : IsReading reading
   pub failed : ReadingFails reading fault before after
 
 -- The writer's count of failures rises by one exactly at `Write`.

@@ -1,12 +1,10 @@
-//! The commands of the program `rpki_check`, over any reader and writers, and over a runtime's files; and the
-//! questions of the program `rpki_ask` ([`questions`]).
+//! The commands of the program `rpki_check`, over any reader and writers, and over a runtime's files.
 #![tactic(auto)]
 
 pub mod arguments;
 pub mod commands;
 pub mod folder;
 pub mod programs;
-pub mod questions;
 
 pub use arguments::{Command, USAGE, command_of};
 pub use commands::{FAILED, bundle, check};

@@ -1,26 +1,15 @@
-//! The program `rpki_check`, over any files, reader and writers: what its arguments ask for is done. It answers the exit
-//! status.
+//! The program `rpki_check`, over any files, reader and writers: what its arguments ask for is done. It answers the exit status.
 
-ghost use Rattle.std.specs.Prelude.{◌≡◌, ◌⊎◌, ◌<◌, ◌-◌, ◌^◌, false, true};
+ghost use Rattle.std.specs.Prelude.{◌≡◌, ◌⊎◌, ◌<◌, ◌-◌, ◌^◌};
 ghost use Rattle.rpki_commands.specs.Programs.{Does, DoesAsked, Fails, FailsAsked};
 
 use crate::arguments::{self, Command, command_of};
 use crate::commands::{FAILED, bundle, check};
-use rpki_validator::{Counted, RunError};
+use rpki_validator::Counted;
+use rpki_validator::programs::tell_unread;
 use std::alloc::Global;
-use std::io::{self, ErrorKind, Read, Write};
+use std::io::{self, Read, Write};
 use std::rt::Files;
-
-// Says what is wrong with arguments that can't be had: there is no memory for them, or one isn't UTF-8, and then how the
-// program is used.
-fn tell_unread<F: Write>(error: &io::Error, usage: &str, faults: &mut F) {
-    // What can't be written is lost; the status says that there was something.
-    if error.kind() == ErrorKind::OutOfMemory {
-        let _ = writeln!(faults, "{}", RunError::Memory);
-    } else {
-        let _ = faults.write_all(usage.as_bytes());
-    }
-}
 
 // What the arguments ask for, if anything; else it is said how the program is used.
 fn do_command<R: Files + AllocGlobal + Clone + Drop, I: Read, W: Write, F: Write>(

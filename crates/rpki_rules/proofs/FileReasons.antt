@@ -22,12 +22,12 @@ use Rattle.rpki_rules.proofs.Firsts.{none_fails, one_fails, some_fails, each_spl
 use Rattle.rpki_rules.proofs.ReasonTests.{cert_passes, passes_cert, content_passes, passes_content, kinds_fit, fit_kinds}
 
 -- What the tests ask together is what the rules ask.
-revocation_passes : (p : Point) (c : Cert) → Each (PassesRevocation p c) revocation_tests → Unrevoked p c
+pub revocation_passes : (p : Point) (c : Cert) → Each (PassesRevocation p c) revocation_tests → Unrevoked p c
 revocation_passes p c all =
     let s = some_of c.tbs.crl_uri all.0 in let l = all.1.0 s.0 s.1 in
     record { uri = s.0; uri_is = s.1; point_uri = l.point_uri; point_uri_is = l.point_uri_is; same = l.same; not_revoked = all.1.1.0 }
 
-passes_revocation : (p : Point) (c : Cert) → Unrevoked p c → Each (PassesRevocation p c) revocation_tests
+pub passes_revocation : (p : Point) (c : Cert) → Unrevoked p c → Each (PassesRevocation p c) revocation_tests
 passes_revocation p c u = (
   not_none c.tbs.crl_uri u.uri u.uri_is,
   (
@@ -41,7 +41,7 @@ payload_extension w uri octets o (OfRoa r) h = inl h.0
 payload_extension w uri octets o (OfAspa a) h = inr h.0
 
 module _ (w : World) (held : Kind → ℕ → Type 0) (ca : Cert) (p : Point) where
-  cer_passes : (c : Cert) → Each (PassesCer w held ca p c) tests_of_cers → IsChild w held ca p c
+  pub cer_passes : (c : Cert) → Each (PassesCer w held ca p c) tests_of_cers → IsChild w held ca p c
   cer_passes c all =
       let P : CerTest → Type 0 = PassesCer w held ca p c in
       let a = each_split P (map CerRevocation revocation_tests) (map CerCert (cert_tests Ca) ++ map CerClaim kinds) all in
@@ -52,7 +52,7 @@ module _ (w : World) (held : Kind → ℕ → Type 0) (ca : Cert) (p : Point) wh
         fits = kinds_fit held c (each_map CerClaim P kinds b.1);
       }
 
-  passes_cer : (c : Cert) → IsChild w held ca p c → Each (PassesCer w held ca p c) tests_of_cers
+  pub passes_cer : (c : Cert) → IsChild w held ca p c → Each (PassesCer w held ca p c) tests_of_cers
   passes_cer c i =
       let P : CerTest → Type 0 = PassesCer w held ca p c in
       each_join P (map CerRevocation revocation_tests) (map CerCert (cert_tests Ca) ++ map CerClaim kinds)
@@ -75,7 +75,7 @@ module _ (w : World) (held : Kind → ℕ → Type 0) (ca : Cert) (p : Point) wh
   passes_cover o (OfAspa a) c = (c, tt)
 
   module _ (uri : List ℕ) where
-    object_passes : (o : Object) (x : Payload) → Mem (files ca p.manifest) uri → HasPayload w uri o x → Each (PassesObject w held ca p o) (tests_of_objects x) → IsGood w held ca p uri x
+    pub object_passes : (o : Object) (x : Payload) → Mem (files ca p.manifest) uri → HasPayload w uri o x → Each (PassesObject w held ca p o) (tests_of_objects x) → IsGood w held ca p uri x
     object_passes o x listed h all =
         let P : ObjectTest → Type 0 = PassesObject w held ca p o in
         let c : List ObjectTest = map ObjectClaim kinds ++ cover_tests x in
@@ -101,7 +101,7 @@ module _ (w : World) (held : Kind → ℕ → Type 0) (ca : Cert) (p : Point) wh
           covered = cover_passes o x k.1;
         }
 
-    passes_object : (x : Payload) → (g : IsGood w held ca p uri x) → Each (PassesObject w held ca p g.object) (tests_of_objects x)
+    pub passes_object : (x : Payload) → (g : IsGood w held ca p uri x) → Each (PassesObject w held ca p g.object) (tests_of_objects x)
     passes_object x g =
         let o = g.object in let i = g.is_signed in
         let P : ObjectTest → Type 0 = PassesObject w held ca p o in
@@ -117,10 +117,10 @@ module _ (w : World) (held : Kind → ℕ → Type 0) (ca : Cert) (p : Point) wh
         (map_each ObjectClaim P kinds (fit_kinds held o.cert g.fits))
         (passes_cover o x g.covered))))
 
-    payload_of : (x : Payload) → (g : IsGood w held ca p uri x) → HasPayload w uri g.object x
+    pub payload_of : (x : Payload) → (g : IsGood w held ca p uri x) → HasPayload w uri g.object x
     payload_of x g = let i = g.is_signed in record { octets = i.octets; held = i.held; reads = i.reads }
 
-    same_payload : (o o' : Object) (x x' : Payload) → HasPayload w uri o x → HasPayload w uri o' x' → (o ≡ o') × (x ≡ x')
+    pub same_payload : (o o' : Object) (x x' : Payload) → HasPayload w uri o x → HasPayload w uri o' x' → (o ≡ o') × (x ≡ x')
     same_payload o o' x x' h k =
         one_payload w uri k.octets o o' x x' (subst (λ (t : List ℕ). PayloadText w uri t o x) (one_octets w uri h.octets k.octets h.held k.held) h.reads) k.reads
 

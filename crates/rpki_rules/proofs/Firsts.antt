@@ -24,7 +24,7 @@ pub one_fails : {X : Type 0} (P : X → Type 0) (xs : List X) (x y : X) → Firs
 one_fails P xs x y f g = one_first P f.front g.front x y f.behind g.behind (sym f.whole ∙ g.whole) f.passed g.passed f.fails g.fails
 
 -- The first test is passed, and one of the others fails first.
-fails_later : {X : Type 0} (P : X → Type 0) (x : X) (xs : List X) (y : X) → P x → FirstFailing P xs y → FirstFailing P (x ∷ xs) y
+pub fails_later : {X : Type 0} (P : X → Type 0) (x : X) (xs : List X) (y : X) → P x → FirstFailing P xs y → FirstFailing P (x ∷ xs) y
 fails_later {X} P x xs y p f = record { front = x ∷ f.front; behind = f.behind; whole = ap (λ (ys : List X). x ∷ ys) f.whole; passed = (p, f.passed); fails = f.fails }
 
 pub some_fails : {X : Type 0} (P : X → Type 0) (xs : List X) → ((x : X) → ¬ (FirstFailing P xs x)) → ¬ (¬ (Each P xs))
@@ -65,6 +65,16 @@ flat_each f P (x ∷ xs) all = each_join P (f x) (flat_map f xs) all.0 (flat_eac
 pub each_also : {X : Type 0} (P Q : X → Type 0) (xs : List X) → ((x : X) → P x → Q x) → Each P xs → Each Q xs
 each_also P Q [] h all = tt
 each_also P Q (x ∷ xs) h all = (h x all.0, each_also P Q xs h all.1)
+
+-- What fails first by one condition fails first by another, which what is passed by the one is passed by.
+pub fails_also : {X : Type 0} (P Q : X → Type 0) (xs : List X) (x : X) → ((y : X) → P y → Q y) → (Q x → P x) → FirstFailing P xs x → FirstFailing Q xs x
+fails_also P Q xs x to back f = record {
+  front = f.front;
+  behind = f.behind;
+  whole = f.whole;
+  passed = each_also P Q f.front to f.passed;
+  fails = λ q. f.fails (back q);
+}
 
 -- What may be missing and isn't.
 pub some_of : {X : Type 0} (o : Option X) → o ≢ None → (x : X) × (o ≡ Some x)

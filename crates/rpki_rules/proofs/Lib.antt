@@ -16,13 +16,17 @@ mod Untouched
 mod OneOutput
 mod Outside
 mod Versions
-mod Firsts
-mod ReasonTests
+pub mod Firsts
+pub mod FirstParts
+pub mod ReasonTests
 mod TextFaults
-mod LocatorReasons
-mod NamesAlone
-mod PointReasons
-mod FileReasons
+pub mod LocatorReasons
+pub mod NamesAlone
+pub mod PointReasons
+pub mod FileReasons
+pub mod TestLaws
+pub mod Diagnoses
+mod DiagnosisLaws
 pub mod Orders
 pub mod Sets
 pub mod Groups

@@ -49,7 +49,7 @@ one_held w (u ∷ us) uri uri' o p (inr h) (inl k) = let z : Some p ≡ None = s
 one_held w (u ∷ us) uri uri' o p (inr h) (inr k) = one_held w us uri uri' o p h.1 k.1
 
 -- The tests of an anchor's certificate ask together what the rules ask.
-anchor_passes : (w : World) (key : Key) (c : Cert) → Each (PassesAnchor w key c) tests_of_anchors → IsAnchorCert w key c
+pub anchor_passes : (w : World) (key : Key) (c : Cert) → Each (PassesAnchor w key c) tests_of_anchors → IsAnchorCert w key c
 anchor_passes w key c all =
     let P : CertTest → Type 0 = PassesCert w Ta c c in
     let forms : List CertTest = map Inspection (tests Ta) in
@@ -57,7 +57,7 @@ anchor_passes w key c all =
     let parts = each_split P forms others (each_map AnchorCert (PassesAnchor w key c) (forms ++ others) all.1) in
     (anchor_is_verified w key c).1 (each_map Inspection P (tests Ta) parts.0, each_map Verification P anchor_tests parts.1, all.0)
 
-passes_anchor : (w : World) (key : Key) (c : Cert) → IsAnchorCert w key c → Each (PassesAnchor w key c) tests_of_anchors
+pub passes_anchor : (w : World) (key : Key) (c : Cert) → IsAnchorCert w key c → Each (PassesAnchor w key c) tests_of_anchors
 passes_anchor w key c i =
     let P : CertTest → Type 0 = PassesCert w Ta c c in
     let forms : List CertTest = map Inspection (tests Ta) in
@@ -71,16 +71,16 @@ module _ (w : World) (l : Locator) where
       let e = one_locator l.text h.uris j.uris k k' h.reads j.reads in
       (e.1, one_held w (https_first j.uris) h.uri j.uri o o' (subst (λ (us : List (List ℕ)). IsFirstHeld w (https_first us) h.uri o) e.0 h.held) j.held)
 
-  nowhere : LocatorFails w l NoneHeld → (k : Key) (o : List ℕ) → ¬ (LeadsTo w l k o)
+  pub nowhere : LocatorFails w l NoneHeld → (k : Key) (o : List ℕ) → ¬ (LeadsTo w l k o)
   nowhere f k o h =
       let e = one_locator l.text h.uris f.0 k f.1 h.reads f.2 in
       none_held w (https_first f.0) h.uri o f.3 (subst (λ (us : List (List ℕ)). IsFirstHeld w (https_first us) h.uri o) e.0 h.held)
 
-  unread : LocatorFails w l NoCert → (k : Key) (o : List ℕ) (c : Cert) → LeadsTo w l k o → ¬ (CertText o c)
+  pub unread : LocatorFails w l NoCert → (k : Key) (o : List ℕ) (c : Cert) → LeadsTo w l k o → ¬ (CertText o c)
   unread f k o c h t = f.3 c (subst (λ (v : List ℕ). CertText v c) (same_lead k f.0 o f.1 h f.2).1 t)
 
   -- What is said of a key and a certificate is said of those to which the locator leads, too.
-  moved : (Q : Key → Cert → Type 0) (k k' : Key) (o o' : List ℕ) (c c' : Cert) → LeadsTo w l k o → LeadsTo w l k' o' → CertText o c → CertText o' c' → Q k c → Q k' c'
+  pub moved : (Q : Key → Cert → Type 0) (k k' : Key) (o o' : List ℕ) (c c' : Cert) → LeadsTo w l k o → LeadsTo w l k' o' → CertText o c → CertText o' c' → Q k c → Q k' c'
   moved Q k k' o o' c c' h j s t x =
       let e = same_lead k k' o o' h j in
       let d = one_cert o' c c' (subst (λ (v : List ℕ). CertText v c) e.1 s) t in
@@ -91,10 +91,10 @@ module _ (w : World) (l : Locator) where
       one_fails (PassesAnchor w g.0 g.2) tests_of_anchors t u
       (moved (λ k c. FirstFailing (PassesAnchor w k c) tests_of_anchors t) f.0 g.0 f.1 g.1 f.2 g.2 f.3 g.3 f.4 g.4 f.5) g.5
 
-  no_text : (e : ReadError) → LocatorFails w l (BadText e) → (uris : List (List ℕ)) (key : Key) → ¬ (LocatorText l.text uris key)
+  pub no_text : (e : ReadError) → LocatorFails w l (BadText e) → (uris : List (List ℕ)) (key : Key) → ¬ (LocatorText l.text uris key)
   no_text e f uris key t = no_locator e l.text uris key f.0 f.1 t
 
-  one_reason : (r s : LocatorReason) → LocatorFails w l r → LocatorFails w l s → r ≡ s
+  pub one_reason : (r s : LocatorReason) → LocatorFails w l r → LocatorFails w l s → r ≡ s
   one_reason (BadText d) (BadText e) f g = ap BadText (one_fault d e l.text f.0 g.0 f.1 g.1)
   one_reason (BadText d) NoneHeld f g = absurd (no_text d f g.0 g.1 g.2)
   one_reason (BadText d) NoCert f g = absurd (no_text d f g.2.uris g.0 g.2.reads)

@@ -19,16 +19,16 @@ use Rattle.rpki_rules.proofs.Firsts.{none_fails, one_fails, some_fails, each_spl
 use Rattle.rpki_rules.proofs.ReasonTests.{cert_passes, passes_cert, content_passes, passes_content, kinds_fit, fit_kinds}
 
 -- A manifest's tests, in parts.
-record Parts (w : World) (ca : Cert) (o : Object) (m : Manifest) : Type 0 where
-  this : m.this_update ≤ w.moment
-  next : w.moment ≤ m.next_update
-  cert : Each (PassesCert w Ee ca o.cert) (cert_tests Ee)
-  content : Each (PassesContent w o) content_tests
-  folder : ca.tbs.access.repository ≢ None
-  names : NoRepeat (map (λ f. f.name) m.files)
-  each : Each (λ f. Each (PassesManifest w ca o m) (file_tests f)) m.files
-  named : o.cert.tbs.crl_uri ≢ None
-  listed : (uri : List ℕ) → o.cert.tbs.crl_uri ≡ Some uri → Mem (files ca m) (lookup_key uri)
+pub record Parts (w : World) (ca : Cert) (o : Object) (m : Manifest) : Type 0 where
+  pub this : m.this_update ≤ w.moment
+  pub next : w.moment ≤ m.next_update
+  pub cert : Each (PassesCert w Ee ca o.cert) (cert_tests Ee)
+  pub content : Each (PassesContent w o) content_tests
+  pub folder : ca.tbs.access.repository ≢ None
+  pub names : NoRepeat (map (λ f. f.name) m.files)
+  pub each : Each (λ f. Each (PassesManifest w ca o m) (file_tests f)) m.files
+  pub named : o.cert.tbs.crl_uri ≢ None
+  pub listed : (uri : List ℕ) → o.cert.tbs.crl_uri ≡ Some uri → Mem (files ca m) (lookup_key uri)
 
 module _ (w : World) (ca : Cert) where
   -- One reading
@@ -38,11 +38,11 @@ module _ (w : World) (ca : Cert) where
       let u = same_some ca.tbs.access.manifest h.uri k.uri h.uri_is k.uri_is in
       one_octets w (lookup_key k.uri) a b (subst (λ (v : List ℕ). at w v ≡ Some a) u h.held) k.held
 
-  same_manifest : (o o' : Object) (m m' : Manifest) → HasManifest w ca o m → HasManifest w ca o' m' → (o ≡ o') × (m ≡ m')
+  pub same_manifest : (o o' : Object) (m m' : Manifest) → HasManifest w ca o m → HasManifest w ca o' m' → (o ≡ o') × (m ≡ m')
   same_manifest o o' m m' h k =
       one_manifest w.strict k.octets o o' m m' (subst (λ (t : List ℕ). ManifestText w.strict t o m) (one_has h.octets k.octets h.has k.has) h.reads) k.reads
 
-  one_list : (o : Object) (crl crl' : Crl) → HasList w o crl → HasList w o crl' → crl ≡ crl'
+  pub one_list : (o : Object) (crl crl' : Crl) → HasList w o crl → HasList w o crl' → crl ≡ crl'
   one_list o crl crl' h k =
       let u = same_some o.cert.tbs.crl_uri h.uri k.uri h.uri_is k.uri_is in
       let e = one_octets w (lookup_key k.uri) h.octets k.octets (subst (λ (v : List ℕ). at w v ≡ Some h.octets) u h.held) k.held in
@@ -54,7 +54,7 @@ module _ (w : World) (ca : Cert) where
       let e = same_manifest o o' m m' h k in
       subst (λ (y : Manifest). P o' y) e.1 (subst (λ (y : Object). P y m) e.0 x)
 
-  parts_of : (o : Object) (m : Manifest) → Each (PassesManifest w ca o m) (manifest_tests m) → Parts w ca o m
+  pub parts_of : (o : Object) (m : Manifest) → Each (PassesManifest w ca o m) (manifest_tests m) → Parts w ca o m
   parts_of o m all =
       let P : ManifestTest → Type 0 = PassesManifest w ca o m in
       let last : List ManifestTest = ListNamed ∷ ListListed ∷ [] in
@@ -74,7 +74,7 @@ module _ (w : World) (ca : Cert) where
         listed = d.1.1.0;
       }
 
-  whole_of : (o : Object) (m : Manifest) → Parts w ca o m → Each (PassesManifest w ca o m) (manifest_tests m)
+  pub whole_of : (o : Object) (m : Manifest) → Parts w ca o m → Each (PassesManifest w ca o m) (manifest_tests m)
   whole_of o m p =
       let P : ManifestTest → Type 0 = PassesManifest w ca o m in
       let last : List ManifestTest = ListNamed ∷ ListListed ∷ [] in
@@ -90,23 +90,23 @@ module _ (w : World) (ca : Cert) where
       )
 
   -- A manifest that passes its tests is the authority's, and has its files.
-  manifest_of : (o : Object) (m : Manifest) → HasGoodManifest w ca o m → IsManifestOf w ca o m
+  pub manifest_of : (o : Object) (m : Manifest) → HasGoodManifest w ca o m → IsManifestOf w ca o m
   manifest_of o m g =
       let p = parts_of o m g.passes in let c = cert_passes w Ee ca o.cert p.cert in let h = g.has in
       record { uri = h.has.uri; uri_is = h.has.uri_is; octets = h.octets; held = h.has.held; reads = h.reads; profile = c.0; signed = c.1; sound = content_passes w o p.content; current = (p.this, p.next) }
 
-  files_of : (o : Object) (m : Manifest) → HasGoodManifest w ca o m → HasFiles w ca m
+  pub files_of : (o : Object) (m : Manifest) → HasGoodManifest w ca o m → HasFiles w ca m
   files_of o m g =
       let p = parts_of o m g.passes in let s = some_of ca.tbs.access.repository p.folder in
       record { folder = s.0; folder_is = s.1; distinct = p.names; each = each_also (λ f. Each (PassesManifest w ca o m) (file_tests f)) (IsHeld w s.0) m.files (λ f all. all.1.0 s.0 s.1) p.each }
 
   -- The tests of a file that is held.
-  file_passes : (o : Object) (m : Manifest) (folder : List ℕ) → IsFolder ca folder → (f : File) → IsHeld w folder f → Each (PassesManifest w ca o m) (file_tests f)
+  pub file_passes : (o : Object) (m : Manifest) (folder : List ℕ) → IsFolder ca folder → (f : File) → IsHeld w folder f → Each (PassesManifest w ca o m) (file_tests f)
   file_passes o m folder is f h =
       let there : (other : List ℕ) → IsFolder ca other → IsHeld w other f = λ other also. subst (λ (v : List ℕ). IsHeld w v f) (same_some ca.tbs.access.repository folder other is also) h in
       (λ other also. let k = there other also in not_none (at w (join other f.name)) k.octets k.held, (there, tt))
 
-  good_of : (o : Object) (m : Manifest) (crl : Crl) → IsManifestOf w ca o m → HasFiles w ca m → IsCrlOf w ca o m crl → HasGoodManifest w ca o m
+  pub good_of : (o : Object) (m : Manifest) (crl : Crl) → IsManifestOf w ca o m → HasFiles w ca m → IsCrlOf w ca o m crl → HasGoodManifest w ca o m
   good_of o m crl i h l = record {
     has = record { octets = i.octets; has = record { uri = i.uri; uri_is = i.uri_is; held = i.held }; reads = i.reads };
     passes = whole_of o m (record {
@@ -123,7 +123,7 @@ module _ (w : World) (ca : Cert) where
   }
 
   module _ (held : Kind → ℕ → Type 0) where
-    stands_of : (p : Point) → HasGoodManifest w ca p.object p.manifest → HasList w p.object p.crl → Each (PassesList w held ca p) list_tests → StandsIn w held ca p
+    pub stands_of : (p : Point) → HasGoodManifest w ca p.object p.manifest → HasList w p.object p.crl → Each (PassesList w held ca p) list_tests → StandsIn w held ca p
     stands_of p g l all =
         let parts = parts_of p.object p.manifest g.passes in
         record {
@@ -135,19 +135,19 @@ module _ (w : World) (ca : Cert) where
           fits = kinds_fit held p.object.cert (each_map ManifestClaim (PassesList w held ca p) kinds all.1.1.1.1.1);
         }
 
-    good_in : (p : Point) → StandsIn w held ca p → HasGoodManifest w ca p.object p.manifest
+    pub good_in : (p : Point) → StandsIn w held ca p → HasGoodManifest w ca p.object p.manifest
     good_in p s = good_of p.object p.manifest p.crl s.point.manifest s.point.files s.point.crl
 
-    list_in : (p : Point) → StandsIn w held ca p → HasList w p.object p.crl
+    pub list_in : (p : Point) → StandsIn w held ca p → HasList w p.object p.crl
     list_in p s = let l = s.point.crl in record { uri = l.uri; uri_is = l.uri_is; octets = l.octets; held = l.held; reads = l.reads }
 
-    passes_in : (p : Point) → StandsIn w held ca p → Each (PassesList w held ca p) list_tests
+    pub passes_in : (p : Point) → StandsIn w held ca p → Each (PassesList w held ca p) list_tests
     passes_in p s =
         let l = s.point.crl in
         (l.authority, (l.current.0, (l.current.1, (l.not_revoked, (l.good, map_each ManifestClaim (PassesList w held ca p) kinds (fit_kinds held p.object.cert s.fits))))))
 
     -- Two points whose manifest and list read there are one.
-    same_point : (p q : Point) → HasManifest w ca p.object p.manifest → HasManifest w ca q.object q.manifest → HasList w p.object p.crl → HasList w q.object q.crl → p ≡ q
+    pub same_point : (p q : Point) → HasManifest w ca p.object p.manifest → HasManifest w ca q.object q.manifest → HasList w p.object p.crl → HasList w q.object q.crl → p ≡ q
     same_point p q h k l n =
         let e = same_manifest p.object q.object p.manifest q.manifest h k in
         let f = one_list q.object p.crl q.crl (subst (λ (o : Object). HasList w o p.crl) e.0 l) n in

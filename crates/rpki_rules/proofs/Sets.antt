@@ -109,7 +109,7 @@ letter_tells cause.Loop = refl
 letter_tells cause.Depth = refl
 
 -- No two causes have one text.
-one_cause : (a b : Cause) → cause_text a ≡ cause_text b → a ≡ b
+pub one_cause : (a b : Cause) → cause_text a ≡ cause_text b → a ≡ b
 one_cause a b e = sym (letter_tells a) ∙ (ap cause_of (sym (letter_is a) ∙ (ap first e ∙ letter_is b)) ∙ letter_tells b)
 
 pub one_refusal : (r s : Refusal) → refusal_cmp r s ≡ Equal → r ≡ s

@@ -33,7 +33,7 @@ places_kept : (w : World) (name : List ℕ) (a : Link) (cs : List Link) → Desc
 places_kept w name a [] h = let q = first_held w (https_first h.uris) a.uri h.octets h.held in ((h.octets, q), tt)
 places_kept w name a (c ∷ cs) h = each_append (IsKept w) (places a cs) c.uri (places_kept w name a cs h.0) (h.3.file.reads.octets, h.3.file.reads.held)
 
-some_places : (a : Link) (cs : List Link) → places a cs ≢ []
+pub some_places : (a : Link) (cs : List Link) → places a cs ≢ []
 some_places a [] e = absurd cc
 some_places a (c ∷ cs) e = not_empty (places a cs) c.uri e
 

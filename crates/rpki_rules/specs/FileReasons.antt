@@ -18,14 +18,12 @@ use Rattle.rpki_rules.specs.Chains.{HasExtension, cer, roa, asa, CertAt}
 use Rattle.rpki_rules.specs.Attests.{Payload, OfRoa, OfAspa, PayloadText, HoldsWith}
 use Rattle.rpki_rules.specs.Refused.{IsIssued}
 use Rattle.rpki_rules.specs.Reasons.{CertTest, cert_tests, PassesCert, ContentTest, content_tests, PassesContent, kinds, FitsKind}
-
 -- A test of revocation: the certificate names a list, it is the point's, and the certificate isn't
 -- on it (RFC 6487 7.2).
-pub data RevocationTest : Type 0 where
-  NamesList : RevocationTest
-  SameList : RevocationTest
-  NotRevoked : RevocationTest
+pub use Rattle.rpki_rules.specs.declared.reason.files.RevocationTest.{RevocationTest}
+pub use Rattle.rpki_rules.specs.declared.reason.files.RevocationTest.TheVariants.{NamesList, SameList, NotRevoked}
 
+-- The tests of revocation.
 abbrev pub revocation_tests : List RevocationTest
 revocation_tests = NamesList ∷ SameList ∷ NotRevoked ∷ []
 

@@ -8,7 +8,6 @@ use Rattle.rpki_rules.specs.certs_extension.Verified.{anchor_tests}
 use Rattle.rpki_rules.specs.rpki_bundle.declared.parts.Locator.{Locator}
 use Rattle.rpki_rules.specs.declared.cause.Cause.{Cause}
 use Rattle.rpki_rules.specs.declared.cause.Cause.TheVariants as cause
-use Rattle.objects_payload.specs.declared.locator.error.ReadError.{ReadError}
 use Rattle.objects_payload.specs.declared.locator.error.ReadError.TheVariants.{Memory}
 use Rattle.objects_payload.specs.Faults.{IsFault}
 use Rattle.rpki_rules.specs.Certs.{Key, Cert, CertText, encoded}
@@ -16,12 +15,14 @@ use Rattle.rpki_rules.specs.Locators.{LocatorText, https_first}
 use Rattle.rpki_rules.specs.World.{World, at}
 use Rattle.rpki_rules.specs.Points.{IsFirstHeld}
 use Rattle.rpki_rules.specs.Reasons.{CertTest, Inspection, Verification, PassesCert}
-
 -- A test of an anchor's certificate: that it has the locator's key, or one of the certificate as
 -- its own issuer.
-pub data AnchorTest : Type 0 where
-  SameKey : AnchorTest
-  AnchorCert : CertTest → AnchorTest
+pub use Rattle.rpki_rules.specs.declared.reason.locators.AnchorTest.{AnchorTest}
+pub use Rattle.rpki_rules.specs.declared.reason.locators.AnchorTest.TheVariants.{SameKey, AnchorCert}
+-- The text has this fault; no URI is held; what is held there reads as no certificate; a test
+-- fails.
+pub use Rattle.rpki_rules.specs.declared.reason.locators.LocatorReason.{LocatorReason}
+pub use Rattle.rpki_rules.specs.declared.reason.locators.LocatorReason.TheVariants.{BadText, NoneHeld, NoCert, BadAnchor}
 
 -- The key first, then the form, and that it is valid, inherits nothing and signed itself.
 abbrev pub tests_of_anchors : List AnchorTest
@@ -39,14 +40,6 @@ pub record LeadsTo (w : World) (l : Locator) (key : Key) (octets : List ℕ) : T
   pub reads : LocatorText l.text uris key
   pub uri : List ℕ
   pub held : IsFirstHeld w (https_first uris) uri octets
-
--- The text has this fault; no URI is held; what is held there reads as no certificate; a test
--- fails.
-pub data LocatorReason : Type 0 where
-  BadText : ReadError → LocatorReason
-  NoneHeld : LocatorReason
-  NoCert : LocatorReason
-  BadAnchor : AnchorTest → LocatorReason
 
 -- All before holds, and this doesn't. Lack of memory is no fault of a text.
 abbrev pub LocatorFails : World → Locator → LocatorReason → Type 0

@@ -5,7 +5,6 @@ use Rattle.std.specs.Prelude.{◌≡◌, ℕ, true, List, [], ◌∷◌, ◌++�
 use Rattle.rpki_rules.specs.resources_chain.Sets.{Run}
 use Rattle.rpki_rules.specs.resources_chain.Claims.{FitsIn, Unfit}
 use Rattle.rpki_rules.specs.certs_extension.declared.forms.Role.{Role}
-use Rattle.rpki_rules.specs.certs_extension.declared.forms.InspectionError.{InspectionError}
 use Rattle.rpki_rules.specs.certs_extension.declared.forms.VerificationTest.{VerificationTest}
 use Rattle.rpki_rules.specs.certs_extension.declared.forms.VerificationTest.TheVariants.{BadSignature}
 use Rattle.rpki_rules.specs.certs_extension.Profiles.{tests, Passes}
@@ -15,11 +14,13 @@ use Rattle.objects_payload.specs.ObjectText.{IsNotAfter, IsSignedMessage}
 use Rattle.rpki_rules.specs.Objects.{Object}
 use Rattle.rpki_rules.specs.Kinds.{Kind, Ipv4, Ipv6, As, claim}
 use Rattle.rpki_rules.specs.World.{World}
-
 -- A test of a certificate: of its form, or of what its issuer and the moment say.
-pub data CertTest : Type 0 where
-  Inspection : InspectionError → CertTest
-  Verification : VerificationTest → CertTest
+pub use Rattle.rpki_rules.specs.declared.reason.certs.CertTest.{CertTest}
+pub use Rattle.rpki_rules.specs.declared.reason.certs.CertTest.TheVariants.{Inspection, Verification}
+-- A test of a signed object: its digest, its signing time, its signature (RFC 5652 5.4, 5.6;
+-- RFC 6488 3).
+pub use Rattle.rpki_rules.specs.declared.reason.certs.ContentTest.{ContentTest}
+pub use Rattle.rpki_rules.specs.declared.reason.certs.ContentTest.TheVariants.{Digest, SigningTime, Signature}
 
 -- Validity, the claim to the issuer, and the signature (RFC 6487 7.2); what is claimed of numbers
 -- is tested apart.
@@ -34,13 +35,7 @@ abbrev pub PassesCert : World → Role → Cert → Cert → CertTest → Type 0
 PassesCert w role issuer c (Inspection t) = Passes w.digests true role c t
 PassesCert w role issuer c (Verification t) = PassesAt w.good w.moment issuer nothing c t
 
--- A test of a signed object: its digest, its signing time, its signature (RFC 5652 5.4, 5.6;
--- RFC 6488 3).
-pub data ContentTest : Type 0 where
-  Digest : ContentTest
-  SigningTime : ContentTest
-  Signature : ContentTest
-
+-- The tests of a signed object.
 abbrev pub content_tests : List ContentTest
 content_tests = Digest ∷ SigningTime ∷ Signature ∷ []
 

@@ -15,6 +15,16 @@ pub struct Path {
 }
 
 impl Path {
+    /// The locator alone, without a chain.
+    pub fn of_locator(alloc: Global, locator: Bytes) -> Self
+        ensures { path_of result ≡ record { locator = locator; chain = [] } }
+    {
+        Path {
+            locator,
+            chain: Vec::new(alloc),
+        }
+    }
+
     /// The chain of the anchor alone.
     pub fn new(alloc: Global, locator: Bytes, anchor: Bytes) -> Result<Self, AllocError>
         ensures { IfOk result (λ p. path_of p ≡ record { locator = locator; chain = anchor ∷ [] }) }

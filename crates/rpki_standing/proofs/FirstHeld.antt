@@ -1,12 +1,12 @@
 -- The first of the URIs at which there is an object, as far as they were tried.
-use Rattle.std.proofs.Common.{◌≡◌, ℕ, ◌+◌, ◌<◌, ◌≤◌, List, [], ◌∷◌, length, drop, map, get_or, Some, None, inl, inr, sym, ap, subst, ◌∙◌}
+use Rattle.std.proofs.Common.{◌≡◌, ℕ, ◌+◌, ◌<◌, ◌≤◌, List, [], ◌∷◌, length, drop, map, get_or, Option, Some, None, inl, inr, refl, sym, ap, subst, ◌∙◌}
 use Rattle.std.proofs.lemmas.List.{at_drop_more, drop_all}
 use Rattle.objects_payload.specs.declared.locator.uri.TalUri.{TalUri}
 use Rattle.objects_payload.specs.Uris.{text_of}
 use Rattle.rpki_standing.specs.certs_basics.Uris.{lookup_key}
 use Rattle.rpki_rules.specs.World.{World, at}
 use Rattle.rpki_rules.specs.Points.{IsFirstHeld}
-use Rattle.rpki_standing.specs.Lookups.{NoneHeld}
+use Rattle.rpki_rules.specs.Words.{Each}
 
 -- The first of the others at which there is an object is the first of all.
 pub record Passes (w : World) (others all : List (List ℕ)) : Type 0 where
@@ -29,6 +29,16 @@ one_more us i u inside e =
     let next : map text_of (drop i us) ≡ text_of (get_or us i u) ∷ map text_of (drop (i + 1) us) = at_drop_more (map text_of) us i u inside in
     next ∙ ap (λ (x : TalUri). text_of x ∷ map text_of (drop (i + 1) us)) (sym e)
 
+-- Where none is the first at which there is an object, there is one at none.
+next_none : (w : World) (u : List ℕ) (us : List (List ℕ)) (o : Option (List ℕ)) → at w u ≡ o → (at w u ≡ None → Each (λ v. at w v ≡ None) us) → ((octets : List ℕ) → at w u ≡ Some octets → ⊥) → Each (λ v. at w v ≡ None) (u ∷ us)
+next_none w u us None e rest never = (e, rest e)
+next_none w u us (Some octets) e rest never = absurd (never octets e)
+
+each_none : (w : World) (us : List (List ℕ)) → ((key octets : List ℕ) → ¬ (IsFirstHeld w us key octets)) → Each (λ u. at w u ≡ None) us
+each_none w [] never = tt
+each_none w (u ∷ us) never =
+    next_none w u us (at w u) refl (λ e. each_none w us (λ key octets h. never key octets (inr (e, h)))) (λ octets e. never (lookup_key u) octets (inl (refl, e)))
+
 module _ (w : World) (us : List TalUri) where
   -- Before the first is tried.
   pub passes_none : Passes w (map text_of (drop 0 us)) (map text_of us)
@@ -45,8 +55,8 @@ module _ (w : World) (us : List TalUri) where
       p.there key octets (subst (λ (os : List (List ℕ)). IsFirstHeld w os key octets) (sym (one_more us i u inside e)) (inl (sym k, held)))
 
   -- All were tried.
-  pub found_none : (i : ℕ) → length us ≤ i → Passes w (map text_of (drop i us)) (map text_of us) → NoneHeld w (map text_of us)
-  found_none i past p = λ key octets h.
+  pub found_none : (i : ℕ) → length us ≤ i → Passes w (map text_of (drop i us)) (map text_of us) → Each (λ u. at w u ≡ None) (map text_of us)
+  found_none i past p = each_none w (map text_of us) (λ key octets h.
       let ended : map text_of (drop i us) ≡ [] = ap (map text_of) (drop_all i us past) in
       let held : IsFirstHeld w [] key octets = subst (λ (os : List (List ℕ)). IsFirstHeld w os key octets) ended (p.back key octets h) in
-      absurd held
+      absurd held)

@@ -6,9 +6,12 @@ use Rattle.objects_payload.specs.Faults.{BehindComments, IsFault, StartsWithUri}
 use Rattle.objects_payload.specs.Tals.{TalValue}
 use Rattle.rpki_standing.specs.rpki_bundle.declared.parts.Locator.{Locator}
 use Rattle.rpki_rules.specs.Locators.{LocatorText, https_first}
-use Rattle.rpki_rules.specs.World.{World}
+use Rattle.rpki_rules.specs.declared.reason.locators.LocatorReason.TheVariants.{NoneHeld}
+use Rattle.rpki_rules.specs.LocatorReasons.{LocatorFails}
+use Rattle.rpki_rules.specs.Words.{Each}
+use Rattle.rpki_rules.specs.World.{World, at}
 use Rattle.rpki_rules.specs.Points.{Anchor, IsFirstHeld, Link}
-use Rattle.rpki_standing.specs.Lookups.{HoldsAt, HoldsNowhere, IsNoLocator, NoneHeld}
+use Rattle.rpki_standing.specs.Lookups.{HoldsAt, IsNoLocator}
 
 -- The first at which there is an object is one.
 one_held : (w : World) (us : List (List ℕ)) (u v o p : List ℕ) → IsFirstHeld w us u o → IsFirstHeld w us v p → (u ≡ v) × (o ≡ p)
@@ -34,13 +37,8 @@ module _ (w : World) (l : Locator) (read tal : TalValue) (us : List (List ℕ)) 
     held = subst (λ (vs : List (List ℕ)). IsFirstHeld w vs u o) (same ∙ ap (λ (t : TalValue). t.uris) e) h;
   }
 
-  pub holds_nowhere : LocatorText l.text read.uris read.key → tal ≡ record read { uris = https_first read.uris } → us ≡ tal.uris → NoneHeld w us → HoldsNowhere w l
-  holds_nowhere reads e same n = record {
-    uris = read.uris;
-    key = read.key;
-    reads = reads;
-    none = subst (λ (vs : List (List ℕ)). NoneHeld w vs) (same ∙ ap (λ (t : TalValue). t.uris) e) n;
-  }
+  pub holds_nowhere : LocatorText l.text read.uris read.key → tal ≡ record read { uris = https_first read.uris } → us ≡ tal.uris → Each (λ u. at w u ≡ None) us → LocatorFails w l NoneHeld
+  holds_nowhere reads e same n = (read.uris, read.key, reads, subst (λ (vs : List (List ℕ)). Each (λ u. at w u ≡ None) vs) (same ∙ ap (λ (t : TalValue). t.uris) e) n)
 
 -- What was read of a text, by the octets that were seen of it.
 pub text_told : (e : ReadError) (seen text : List ℕ) → seen ≡ text → e ≡ Memory → IsFault e seen → BehindComments StartsWithUri text
@@ -48,6 +46,12 @@ text_told e seen text same is f = subst (BehindComments StartsWithUri) same (sub
 
 pub text_refused : (e : ReadError) (seen text : List ℕ) → seen ≡ text → (e ≡ Memory → ⊥) → ((e ≡ Memory → ⊥) → IsNoLocator seen) → IsNoLocator text
 text_refused e seen text same other n = subst IsNoLocator same (n other)
+
+-- At none of the URIs there is an object.
+pub none_held : (w : World) (us : List (List ℕ)) (u o : List ℕ) → Each (λ v. at w v ≡ None) us → ¬ (IsFirstHeld w us u o)
+none_held w [] u o n h = h
+none_held w (v ∷ us) u o n (inl h) = let wrong : None ≡ Some o = sym n.0 ∙ h.1 in absurd cc
+none_held w (v ∷ us) u o n (inr h) = none_held w us u o n.1 h.1
 
 -- The object to which the locator of an anchor leads.
 pub lead_of : (w : World) (name : List ℕ) (a : Link) (h : Anchor w name a) → HoldsAt w h.locator h.key a.uri h.octets

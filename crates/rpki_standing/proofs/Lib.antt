@@ -8,9 +8,10 @@ pub mod Rows
 pub mod Stocked
 pub mod Found
 pub mod Revoking
-pub mod Firsts
-pub mod Claims
-pub mod Sounding
+pub mod PassedTo
+pub mod TestsTold
+pub mod AnchorTests
+pub mod Contents
 pub mod CertTexts
 pub mod FirstHeld
 pub mod Following

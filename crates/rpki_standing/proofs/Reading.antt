@@ -12,7 +12,8 @@ use Rattle.rpki_rules.specs.Objects.{Object, Roa, RoaText, Aspa, AspaText, one_r
 use Rattle.rpki_rules.specs.Attests.{Payload, OfRoa, OfAspa, PayloadText}
 use Rattle.rpki_rules.specs.Chains.{HasExtension, roa, asa}
 use Rattle.rpki_rules.specs.World.{World, is_strict, world_of}
-use Rattle.rpki_standing.specs.Published.{FindsReading, PublishedValue, ReadsAt}
+use Rattle.rpki_standing.specs.Published.{FindsReading, PublishedValue}
+use Rattle.rpki_rules.specs.FileReasons.{HasPayload}
 use Rattle.rpki_standing.specs.Texts.{FindsText, TextOf}
 use Rattle.rpki_standing.proofs.Failing.{one_value}
 
@@ -28,12 +29,12 @@ one_text w uri octets o p (OfAspa a) (OfRoa r) h k = absurd (roa_asa uri k.0 h.0
 one_text w uri octets o p (OfAspa a) (OfAspa b) h k = let e = one_aspa w.strict octets o p a b h.1 k.1 in (e.0, ap (λ (z : Aspa). OfAspa z) e.1)
 
 -- What the object with a lookup key reads as, in its octets.
-text_there : (w : World) (uri octets : List ℕ) (o : Object) (x : Payload) → w.object uri ≡ Some octets → ReadsAt w uri o x → PayloadText w uri octets o x
+text_there : (w : World) (uri octets : List ℕ) (o : Object) (x : Payload) → w.object uri ≡ Some octets → HasPayload w uri o x → PayloadText w uri octets o x
 text_there w uri octets o x held t =
-    subst (λ (z : List ℕ). PayloadText w uri z o x) (one_value t.octets octets (w.object uri) t.held held) t.text
+    subst (λ (z : List ℕ). PayloadText w uri z o x) (one_value t.octets octets (w.object uri) t.held held) t.reads
 
-pub one_reading : (w : World) (uri : List ℕ) (o p : Object) (x y : Payload) → ReadsAt w uri o x → ReadsAt w uri p y → (o ≡ p) × (x ≡ y)
-one_reading w uri o p x y h k = one_text w uri k.octets o p x y (text_there w uri k.octets o x k.held h) k.text
+pub one_reading : (w : World) (uri : List ℕ) (o p : Object) (x y : Payload) → HasPayload w uri o x → HasPayload w uri p y → (o ≡ p) × (x ≡ y)
+one_reading w uri o p x y h k = one_text w uri k.octets o p x y (text_there w uri k.octets o x k.held h) k.reads
 
 -- No object of a kind is in front of the octets.
 abbrev pub NoneIn : {X : Type 0} → (List ℕ → Object → X → Type 0) → List ℕ → Type 0
@@ -79,11 +80,11 @@ no_text : (w : World) (uri octets : List ℕ) (found : Option Extension) → fou
 no_text w uri octets found none told o (OfRoa r) t = let e : found ≡ Some extension.Roa = (told extension.Roa).1 t.0 in absurd cc
 no_text w uri octets found none told o (OfAspa a) t = let e : found ≡ Some extension.Asa = (told extension.Asa).1 t.0 in absurd cc
 
-pub no_extension : (w : World) (uri : List ℕ) (found : Option Extension) → found ≡ None → IsFound uri found → (o : Object) (x : Payload) → ¬ (ReadsAt w uri o x)
-no_extension w uri found none told o x t = no_text w uri t.octets found none told o x t.text
+pub no_extension : (w : World) (uri : List ℕ) (found : Option Extension) → found ≡ None → IsFound uri found → (o : Object) (x : Payload) → ¬ (HasPayload w uri o x)
+no_extension w uri found none told o x t = no_text w uri t.octets found none told o x t.reads
 
 -- There is no object.
-pub not_there : (w : World) (uri : List ℕ) → w.object uri ≡ None → (o : Object) (x : Payload) → ¬ (ReadsAt w uri o x)
+pub not_there : (w : World) (uri : List ℕ) → w.object uri ≡ None → (o : Object) (x : Payload) → ¬ (HasPayload w uri o x)
 not_there w uri none o x t = let wrong : None ≡ Some t.octets = sym none ∙ t.held in absurd cc
 
 module _ (d : Digests) (v : Verdicts) (b : BundleValue) (uri octets : List ℕ) (e : Extension) (found : Option Extension) (is : found ≡ Some e) (told : IsFound uri found) where
@@ -113,5 +114,5 @@ reading_told d v b uri octets e found is told held None n = λ o x t.
 reading_told d v b uri octets e found is told held (Some s) t = record {
   octets = octets;
   held = held;
-  text = text_by d v b uri octets e s.object s.payload (named d v b uri octets e found is told) t;
+  reads = text_by d v b uri octets e s.object s.payload (named d v b uri octets e found is told) t;
 }

@@ -1,68 +1,91 @@
--- Which certificates a point doesn't revoke.
-use Rattle.std.proofs.Common.{◌≡◌, ℕ, List, Some, None, refl, sym, ap, ◌∙◌, subst}
+-- Which certificates a point doesn't revoke, and else which test fails.
+use Rattle.std.proofs.Common.{◌≡◌, ℕ, List, [], ◌∷◌, Some, None, refl, sym, ap, ◌∙◌, subst}
 use Rattle.std.proofs.lemmas.Cmp.{tied_itself}
 use Rattle.std.proofs.lemmas.Map.Lookups.{exact_bytes}
-use Rattle.std.specs.Prelude.{◌↔◌, Bool, true, false, not, IsTrue}
+use Rattle.std.specs.Prelude.{◌↔◌, Bool, true, IsTrue}
 use Rattle.std.specs.declared.cmp.Ordering.{Ordering}
 use Rattle.std.specs.declared.cmp.Ordering.TheVariants.{Less, Equal, Greater}
 use Rattle.std.specs.Ordering.{nat_cmp, is_eq}
 use Rattle.std.specs.Cmp.Lexicographic.{slice_cmp, nat_list_cmp_total}
+use Rattle.rpki_standing.specs.certs_basics.Lists.{Each, FirstFailing}
 use Rattle.rpki_standing.specs.certs_basics.Uris.{lookup_key}
 use Rattle.rpki_rules.specs.Certs.{Cert, Crl, IsOn}
-use Rattle.rpki_rules.specs.Points.{Point, Unrevoked}
+use Rattle.rpki_rules.specs.declared.reason.files.RevocationTest.TheVariants.{NamesList, SameList, NotRevoked}
+use Rattle.rpki_rules.specs.FileReasons.{PassesRevocation, revocation_tests}
+use Rattle.rpki_rules.specs.declared.reason.files.RevocationTest.{RevocationTest}
+use Rattle.rpki_rules.specs.Points.{Point}
+use Rattle.rpki_rules.proofs.Firsts.{not_none}
 use Rattle.rpki_standing.specs.Crls.{as_read}
 use Rattle.rpki_standing.proofs.Failing.{one_value}
 
--- A certificate that names no list.
-pub names_none : (p : Point) (c : Cert) → c.tbs.crl_uri ≡ None → Unrevoked p c → ⊥
-names_none p c h u = let wrong : None ≡ Some u.uri = sym h ∙ u.uri_is in absurd cc
+module _ (p : Point) (c : Cert) where
+  abbrev Fails : RevocationTest → Type 0
+  Fails t = FirstFailing (PassesRevocation p c) revocation_tests t
 
--- A manifest's certificate that names no list.
-pub point_names_none : (p : Point) (c ee : Cert) → p.object.cert ≡ ee → ee.tbs.crl_uri ≡ None → Unrevoked p c → ⊥
-point_names_none p c ee e h u = let wrong : None ≡ Some u.point_uri = sym h ∙ ap (λ (x : Cert). x.tbs.crl_uri) (sym e) ∙ u.point_uri_is in absurd cc
+  -- The certificate names no list.
+  pub names_none : c.tbs.crl_uri ≡ None → Fails NamesList
+  names_none h = record { front = []; behind = SameList ∷ NotRevoked ∷ []; whole = refl; passed = tt; fails = λ n. n h }
 
--- Both name one, by their lookup keys, and the certificate isn't on it.
-pub unrevoked_is : (p : Point) (c ee : Cert) (crl : Crl) (uri point_uri : List ℕ) → p.object.cert ≡ ee → p.crl ≡ crl → c.tbs.crl_uri ≡ Some uri → ee.tbs.crl_uri ≡ Some point_uri
-    → lookup_key uri ≡ lookup_key point_uri → (IsOn crl c.tbs.serial → ⊥) → Unrevoked p c
-unrevoked_is p c ee crl uri point_uri e f h k same n = record {
-  uri = uri;
-  uri_is = h;
-  point_uri = point_uri;
-  point_uri_is = ap (λ (x : Cert). x.tbs.crl_uri) e ∙ k;
-  same = same;
-  not_revoked = subst (λ (l : Crl). ¬ (IsOn l c.tbs.serial)) (sym f) n;
-}
+  module _ (ee : Cert) (uri : List ℕ) (e : p.object.cert ≡ ee) (h : c.tbs.crl_uri ≡ Some uri) where
+    -- The manifest's certificate names none.
+    pub point_names_none : ee.tbs.crl_uri ≡ None → Fails SameList
+    point_names_none k = record {
+      front = NamesList ∷ [];
+      behind = NotRevoked ∷ [];
+      whole = refl;
+      passed = (not_none c.tbs.crl_uri uri h, tt);
+      fails = λ all.
+          let l = all uri h in
+          let wrong : None ≡ Some l.point_uri = sym k ∙ ap (λ (x : Cert). x.tbs.crl_uri) (sym e) ∙ l.point_uri_is in
+          absurd cc;
+    }
 
-pub unrevoked_alike : (p : Point) (c ee : Cert) (uri point_uri : List ℕ) → p.object.cert ≡ ee → c.tbs.crl_uri ≡ Some uri → ee.tbs.crl_uri ≡ Some point_uri → Unrevoked p c → lookup_key uri ≡ lookup_key point_uri
-unrevoked_alike p c ee uri point_uri e h k u =
-    let first : u.uri ≡ uri = one_value u.uri uri c.tbs.crl_uri u.uri_is h in
-    let second : u.point_uri ≡ point_uri = one_value u.point_uri point_uri ee.tbs.crl_uri (ap (λ (x : Cert). x.tbs.crl_uri) (sym e) ∙ u.point_uri_is) k in
-    ap lookup_key (sym first) ∙ u.same ∙ ap lookup_key second
+    module _ (point_uri : List ℕ) (k : ee.tbs.crl_uri ≡ Some point_uri) where
+      point_named : p.object.cert.tbs.crl_uri ≡ Some point_uri
+      point_named = ap (λ (x : Cert). x.tbs.crl_uri) e ∙ k
 
-pub unrevoked_not_on : (p : Point) (c : Cert) (crl : Crl) → p.crl ≡ crl → Unrevoked p c → IsOn crl c.tbs.serial → ⊥
-unrevoked_not_on p c crl f u on = u.not_revoked (subst (λ (l : Crl). IsOn l c.tbs.serial) (sym f) on)
+      -- It names another.
+      pub other_list : (lookup_key uri ≡ lookup_key point_uri → ⊥) → Fails SameList
+      other_list n = record {
+        front = NamesList ∷ [];
+        behind = NotRevoked ∷ [];
+        whole = refl;
+        passed = (not_none c.tbs.crl_uri uri h, tt);
+        fails = λ all. let l = all uri h in n (l.same ∙ ap lookup_key (one_value l.point_uri point_uri p.object.cert.tbs.crl_uri l.point_uri_is point_named));
+      }
+
+      module _ (same : lookup_key uri ≡ lookup_key point_uri) where
+        same_list : PassesRevocation p c SameList
+        same_list u also = record {
+          point_uri = point_uri;
+          point_uri_is = point_named;
+          same = ap lookup_key (one_value u uri c.tbs.crl_uri also h) ∙ same;
+        }
+
+        -- Both name one, and the certificate is on it, or isn't.
+        pub revoked : (crl : Crl) (serial : ℕ) → p.crl ≡ crl → serial ≡ c.tbs.serial → IsOn crl serial → Fails NotRevoked
+        revoked crl serial f s on = record {
+          front = NamesList ∷ SameList ∷ [];
+          behind = [];
+          whole = refl;
+          passed = (not_none c.tbs.crl_uri uri h, (same_list, tt));
+          fails = λ n. n (subst (λ (l : Crl). IsOn l c.tbs.serial) (sym f) (subst (IsOn crl) s on));
+        }
+
+        pub unrevoked : (crl : Crl) (serial : ℕ) → p.crl ≡ crl → serial ≡ c.tbs.serial → (IsOn crl serial → ⊥) → Each (PassesRevocation p c) revocation_tests
+        unrevoked crl serial f s n = (
+          not_none c.tbs.crl_uri uri h,
+          (
+            same_list,
+            (λ on. n (subst (IsOn crl) (sym s) (subst (λ (l : Crl). IsOn l c.tbs.serial) f on)), tt),
+          ),
+        )
 
 -- A list that keeps its serial numbers aside has the same certificates on it.
 pub on_read : {b : Bool} (crl list : Crl) {serial : ℕ} → as_read list ≡ crl → (IsTrue b ↔ IsOn list serial) → IsTrue b ↔ IsOn crl serial
 on_read {b} crl list {serial} e told = subst (λ (l : Crl). IsTrue b ↔ IsOn l serial) e (
   λ t. let o = told.0 t in record { entry = o.entry; listed = o.listed; same = o.same },
   λ o. told.1 (record { entry = o.entry; listed = o.listed; same = o.same }),
-)
-
-untrue : (b : Bool) → IsTrue (not b) → IsTrue b → ⊥
-untrue true t u = let wrong : false ≡ true = t in absurd cc
-untrue false t u = let wrong : false ≡ true = u in absurd cc
-
-is_untrue : (b : Bool) → (IsTrue b → ⊥) → IsTrue (not b)
-is_untrue true n = absurd (n refl)
-is_untrue false n = refl
-
--- Where both name one list, what is left to ask is whether the certificate is on it.
-pub unrevoked_told : (p : Point) (c ee : Cert) (crl : Crl) (uri point_uri : List ℕ) (on : Bool) (serial : ℕ) → p.object.cert ≡ ee → p.crl ≡ crl → c.tbs.crl_uri ≡ Some uri → ee.tbs.crl_uri ≡ Some point_uri
-    → lookup_key uri ≡ lookup_key point_uri → (IsTrue on ↔ IsOn crl serial) → serial ≡ c.tbs.serial → IsTrue (not on) ↔ Unrevoked p c
-unrevoked_told p c ee crl uri point_uri on serial e f h k same told s = (
-  λ t. unrevoked_is p c ee crl uri point_uri e f h k same (λ o. untrue on t (told.1 (subst (IsOn crl) (sym s) o))),
-  λ u. is_untrue on (λ t. unrevoked_not_on p c crl f u (subst (IsOn crl) s (told.0 t))),
 )
 
 equal_is : (o : Ordering) → is_eq o ≡ true → o ≡ Equal

@@ -1,94 +1,124 @@
 -- What stands at a file of a publication point, of what the object there reads as.
-use Rattle.std.proofs.Common.{◌≡◌, ◌↔◌, ℕ, Bool, true, false, IsTrue, List, Option, Some, None, Result, Ok, Err, MatchOption, refl, sym, subst}
-use Rattle.std.specs.Prelude.{IfOk}
-use Rattle.rpki_rules.specs.Certs.{Cert, Crl, Digests, Verdicts}
-use Rattle.rpki_standing.specs.Issued.{IsIssued}
+use Rattle.std.proofs.Common.{◌≡◌, ◌++◌, ℕ, List, [], map, None, Result, Ok, Err, refl, subst}
+use Rattle.certs_verify.specs.TestAnswers.{Answers}
+use Rattle.rpki_standing.specs.certs_basics.Lists.{Each, FirstFailing}
 use Rattle.rpki_standing.specs.certs_extension.declared.forms.Role.TheVariants.{Ee}
-use Rattle.rpki_rules.specs.Objects.{Object, Sound}
+use Rattle.rpki_rules.specs.resources.Resources.{Resources}
+use Rattle.rpki_rules.specs.declared.reason.files.ObjectTest.{ObjectTest as Told}
+use Rattle.rpki_rules.specs.declared.reason.files.FileReason.TheVariants as reason
+use Rattle.rpki_rules.specs.declared.reason.files.RevocationTest.{RevocationTest}
+use Rattle.rpki_rules.specs.declared.reason.certs.CertTest.{CertTest}
+use Rattle.rpki_rules.specs.declared.reason.certs.ContentTest.{ContentTest}
+use Rattle.rpki_rules.specs.Certs.{Cert}
+use Rattle.rpki_rules.specs.Objects.{Object}
 use Rattle.rpki_rules.specs.Attests.{Payload, IsSigned}
-use Rattle.rpki_rules.specs.Points.{Point, Unrevoked, files}
+use Rattle.rpki_rules.specs.Kinds.{InSet, Kind}
+use Rattle.rpki_rules.specs.Points.{Point, files}
 use Rattle.rpki_rules.specs.Words.{Mem}
 use Rattle.rpki_rules.specs.World.{World}
-use Rattle.rpki_standing.specs.Published.{FindsObject, FindsReading, IsSoundAt, PublishedValue, ReadsAt}
+use Rattle.rpki_rules.specs.Reasons.{PassesCert, cert_tests, PassesContent, content_tests, kinds}
+use Rattle.rpki_rules.specs.FileReasons.{PassesRevocation, revocation_tests, ObjectTest, ObjectRevocation, ObjectCert, ObjectContent, ObjectClaim, cover_tests, PassesObject, HasPayload}
+use Rattle.rpki_rules.specs.ReasonViews.{FileUnheld, object_test_of}
+use Rattle.rpki_rules.proofs.Firsts.{none_fails, each_split, each_join, each_map, map_each}
+use Rattle.rpki_rules.proofs.FirstParts.{first_in_front, first_behind, first_map}
+use Rattle.rpki_rules.proofs.ReasonTests.{cert_passes, passes_cert, content_passes, passes_content}
+use Rattle.rpki_rules.proofs.FileReasons.{revocation_passes, passes_revocation}
+use Rattle.rpki_standing.specs.Published.{FindsReading, IsUnsigned, signed_tests}
 use Rattle.rpki_standing.proofs.Reading.{one_reading}
 
-module _ (w : World) (ca : Cert) (p : Point) (uri : List ℕ) where
-  reading_of : (o : Object) (x : Payload) → IsSigned w ca p uri o x → ReadsAt w uri o x
-  reading_of o x s = record { octets = s.octets; held = s.held; text = s.reads }
+-- No test is told, so all are passed.
+pub all_passed : {X : Type 0} (P : X → Type 0) (ts : List X) (r : Result (Unit {0}) X) → ((x : X) → r ≡ Err x → ⊥) → Answers P ts r → Each P ts
+all_passed P ts (Ok x) n all = all
+all_passed P ts (Err x) n f = absurd (n x refl)
 
-  soundness_of : (o : Object) (x : Payload) → IsSigned w ca p uri o x → IsSoundAt w ca p o
-  soundness_of o x s = record {
-    issued = record { profile = s.profile; signed = s.signed };
-    unrevoked = s.unrevoked;
-    sound = s.sound;
-  }
+-- The tests of an object that look at nothing that is held, one part after the other.
+module _ (w : World) (held : Kind → ℕ → Type 0) (ca : Cert) (p : Point) (o : Object) where
+  abbrev P : ObjectTest → Type 0
+  P = PassesObject w held ca p o
+
+  abbrev revocations : List ObjectTest
+  revocations = map ObjectRevocation revocation_tests
+
+  abbrev certs : List ObjectTest
+  certs = map ObjectCert (cert_tests Ee)
+
+  abbrev contents : List ObjectTest
+  contents = map ObjectContent content_tests
+
+  pub revoked : (c : Cert) (t : RevocationTest) → c ≡ o.cert → Answers (PassesRevocation p c) revocation_tests (Err t) → FirstFailing P signed_tests (ObjectRevocation t)
+  revoked c t e f =
+      let h : FirstFailing (PassesRevocation p o.cert) revocation_tests t = subst (λ (x : Cert). FirstFailing (PassesRevocation p x) revocation_tests t) e f in
+      first_in_front P revocations (certs ++ contents) (ObjectRevocation t) (first_map ObjectRevocation P revocation_tests t h)
+
+  unrevoked : (c : Cert) → c ≡ o.cert → Each (PassesRevocation p c) revocation_tests → Each P revocations
+  unrevoked c e all = map_each ObjectRevocation P revocation_tests (subst (λ (x : Cert). Each (PassesRevocation p x) revocation_tests) e all)
+
+  pub unissued : (c d : Cert) (t : CertTest) → c ≡ o.cert → d ≡ o.cert → Each (PassesRevocation p c) revocation_tests → Answers (PassesCert w Ee ca d) (cert_tests Ee) (Err t) → FirstFailing P signed_tests (ObjectCert t)
+  unissued c d t e g all f =
+      let h : FirstFailing (PassesCert w Ee ca o.cert) (cert_tests Ee) t = subst (λ (x : Cert). FirstFailing (PassesCert w Ee ca x) (cert_tests Ee) t) g f in
+      first_behind P revocations (certs ++ contents) (ObjectCert t) (unrevoked c e all) (first_in_front P certs contents (ObjectCert t) (first_map ObjectCert P (cert_tests Ee) t h))
+
+  issued : (d : Cert) → d ≡ o.cert → Each (PassesCert w Ee ca d) (cert_tests Ee) → Each P certs
+  issued d g all = map_each ObjectCert P (cert_tests Ee) (subst (λ (x : Cert). Each (PassesCert w Ee ca x) (cert_tests Ee)) g all)
+
+  module _ (c d : Cert) (q : Object) (e : c ≡ o.cert) (g : d ≡ o.cert) (same : q ≡ o) (all : Each (PassesRevocation p c) revocation_tests) (by : Each (PassesCert w Ee ca d) (cert_tests Ee)) where
+    pub unsound : (t : ContentTest) → Answers (PassesContent w q) content_tests (Err t) → FirstFailing P signed_tests (ObjectContent t)
+    unsound t f =
+        let h : FirstFailing (PassesContent w o) content_tests t = subst (λ (x : Object). FirstFailing (PassesContent w x) content_tests t) same f in
+        first_behind P revocations (certs ++ contents) (ObjectContent t) (unrevoked c e all)
+        (first_behind P certs contents (ObjectContent t) (issued d g by) (first_map ObjectContent P content_tests t h))
+
+    pub sound : Each (PassesContent w q) content_tests → Each P signed_tests
+    sound signed =
+        let h : Each (PassesContent w o) content_tests = subst (λ (x : Object). Each (PassesContent w x) content_tests) same signed in
+        each_join P revocations (certs ++ contents) (unrevoked c e all) (each_join P certs contents (issued d g by) (map_each ObjectContent P content_tests h))
+
+-- What is sound passes them, and the other way round.
+module _ (w : World) (ca : Cert) (p : Point) (uri : List ℕ) where
+  pub reading_of : (o : Object) (x : Payload) → IsSigned w ca p uri o x → HasPayload w uri o x
+  reading_of o x s = record { octets = s.octets; held = s.held; reads = s.reads }
+
+  pub passes_signed : (held : Kind → ℕ → Type 0) (o : Object) (x : Payload) → IsSigned w ca p uri o x → Each (PassesObject w held ca p o) signed_tests
+  passes_signed held o x s =
+      sound w held ca p o o.cert o.cert o refl refl refl (passes_revocation p o.cert s.unrevoked) (passes_cert w Ee ca o.cert s.profile s.signed) (passes_content w o s.sound)
 
   -- What it reads as is sound.
-  found_sound : Mem (files ca p.manifest) uri → (s : PublishedValue) → ReadsAt w uri s.object s.payload → IsSoundAt w ca p s.object → FindsObject w ca p uri (Some s)
-  found_sound listed s t k = record {
-    listed = listed;
-    octets = t.octets;
-    held = t.held;
-    reads = t.text;
-    profile = k.issued.profile;
-    signed = k.issued.signed;
-    unrevoked = k.unrevoked;
-    sound = k.sound;
-  }
+  pub found_sound : (held : Kind → ℕ → Type 0) → Mem (files ca p.manifest) uri → (o : Object) (x : Payload) → HasPayload w uri o x → Each (PassesObject w held ca p o) signed_tests → IsSigned w ca p uri o x
+  found_sound held listed o x h all =
+      let P : ObjectTest → Type 0 = PassesObject w held ca p o in
+      let a = each_split P (map ObjectRevocation revocation_tests) (map ObjectCert (cert_tests Ee) ++ map ObjectContent content_tests) all in
+      let b = each_split P (map ObjectCert (cert_tests Ee)) (map ObjectContent content_tests) a.1 in
+      let c = cert_passes w Ee ca o.cert (each_map ObjectCert P (cert_tests Ee) b.0) in
+      record {
+        listed = listed;
+        octets = h.octets;
+        held = h.held;
+        reads = h.reads;
+        profile = c.0;
+        signed = c.1;
+        unrevoked = revocation_passes p o.cert (each_map ObjectRevocation P revocation_tests a.0);
+        sound = content_passes w o (each_map ObjectContent P content_tests b.1);
+      }
 
   -- It reads as nothing.
-  pub found_none : FindsReading w uri None → FindsObject w ca p uri None
-  found_none n = λ o x s. n o x (reading_of o x s)
+  pub found_none : FindsReading w uri None → IsUnsigned w ca p uri reason.BadObject
+  found_none n = record {
+    none = λ o x s. n o x (reading_of o x s);
+    fails = λ e sets on count. (e, n);
+    unheld = λ sets. tt;
+    cause_is = refl;
+  }
 
-  -- What it reads as isn't sound.
-  found_unsound : (o : Object) (x : Payload) → ReadsAt w uri o x → (IsSoundAt w ca p o → ⊥) → FindsObject w ca p uri None
-  found_unsound o x t n = λ q y s.
-      n (subst (IsSoundAt w ca p) (one_reading w uri q o y x (reading_of q y s) t).0 (soundness_of q y s))
-
--- What it reads as is kept where it is sound.
-pub found_kept : {E : Type 0} (w : World) (ca ee : Cert) (crl : Crl) (uri : List ℕ) (s : PublishedValue) → ReadsAt w uri s.object s.payload → (passed : Result Bool E) (r : Result (Option PublishedValue) E)
-    → IfOk passed (λ yes. (p : Point) → p.object.cert ≡ ee → p.crl ≡ crl → IsTrue yes ↔ IsSoundAt w ca p s.object)
-    → IfOk r (λ kept. MatchOption kept (passed ≡ Ok false) (λ x. (x ≡ s) × (passed ≡ Ok true)))
-    → IfOk r (λ found. (p : Point) → p.object.cert ≡ ee → p.crl ≡ crl → Mem (files ca p.manifest) uri → FindsObject w ca p uri found)
-found_kept {E} w ca ee crl uri s t passed (Err e) told kept = tt
-found_kept {E} w ca ee crl uri s t passed (Ok None) told kept = λ p a b listed.
-    found_unsound w ca p uri s.object s.payload t (unsound p a b)
-  where
-    unsound : (p : Point) → p.object.cert ≡ ee → p.crl ≡ crl → IsSoundAt w ca p s.object → ⊥
-    unsound p a b k =
-        let not = subst (λ (q : Result Bool E). IfOk q (λ yes. (p : Point) → p.object.cert ≡ ee → p.crl ≡ crl → IsTrue yes ↔ IsSoundAt w ca p s.object)) kept told in
-        let wrong : false ≡ true = (not p a b).1 k in
-        absurd cc
-found_kept {E} w ca ee crl uri s t passed (Ok (Some x)) told kept = λ p a b listed.
-    let is = subst (λ (q : Result Bool E). IfOk q (λ yes. (p : Point) → p.object.cert ≡ ee → p.crl ≡ crl → IsTrue yes ↔ IsSoundAt w ca p s.object)) kept.1 told in
-    subst (λ (y : PublishedValue). FindsObject w ca p uri (Some y)) (sym kept.0) (found_sound w ca p uri listed s t ((is p a b).0 refl))
-
--- What a test decides isn't so where it says no.
-said_no : (b : Bool) (P : Type 0) → (IsTrue b ↔ P) → b ≡ false → P → ⊥
-said_no b P told turned h = let is : b ≡ true = told.1 h in absurd cc
-
--- Whether an object is sound, by the same verdicts and of the same object.
-pub said_sound : (d : Digests) (u v : Verdicts) (q o : Object) (b : Bool) → u ≡ v → q ≡ o → (IsTrue b ↔ Sound d u q) → IsTrue b ↔ Sound d v o
-said_sound d u v q o b e f told = (
-  λ t. subst (λ (x : Verdicts). Sound d x o) e (subst (Sound d u) f (told.0 t)),
-  λ s. told.1 (subst (Sound d u) (sym f) (subst (λ (x : Verdicts). Sound d x o) (sym e) s)),
-)
-
-module _ (w : World) (ca : Cert) (p : Point) (o : Object) where
-  unsound : (IsSoundAt w ca p o → ⊥) → IsTrue false ↔ IsSoundAt w ca p o
-  unsound n = (λ t. let wrong : false ≡ true = t in absurd cc, λ s. absurd (n s))
-
-  -- The object's certificate is revoked.
-  pub revoked : (c : Cert) (b : Bool) → c ≡ o.cert → (IsTrue b ↔ Unrevoked p c) → b ≡ false → IsTrue false ↔ IsSoundAt w ca p o
-  revoked c b same told turned = unsound (λ s. said_no b (Unrevoked p c) told turned (subst (Unrevoked p) (sym same) s.unrevoked))
-
-  -- It isn't one that the authority issued.
-  pub unissued : (c : Cert) (b : Bool) → c ≡ o.cert → (IsTrue b ↔ IsIssued w Ee ca c) → b ≡ false → IsTrue false ↔ IsSoundAt w ca p o
-  unissued c b same told turned = unsound (λ s. said_no b (IsIssued w Ee ca c) told turned (subst (IsIssued w Ee ca) (sym same) s.issued))
-
-  -- It is one, so what is left to ask is whether the object's content is signed.
-  pub sound_told : (c k : Cert) (b : Bool) → c ≡ o.cert → k ≡ o.cert → Unrevoked p c → IsIssued w Ee ca k → (IsTrue b ↔ Sound w.digests w.good o) → IsTrue b ↔ IsSoundAt w ca p o
-  sound_told c k b same is unrevoked issued told = (
-    λ t. record { issued = subst (IsIssued w Ee ca) is issued; unrevoked = subst (Unrevoked p) same unrevoked; sound = told.0 t },
-    λ s. told.1 s.sound,
-  )
+  -- A test of what it reads as fails.
+  pub found_unsound : (o : Object) (x : Payload) (t : Told) → HasPayload w uri o x → ((sets : Resources) → FirstFailing (PassesObject w (InSet sets) ca p o) signed_tests (object_test_of t))
+      → ((sets : Resources) → FileUnheld w (InSet sets) uri (reason.ObjectFails t)) → IsUnsigned w ca p uri (reason.ObjectFails t)
+  found_unsound o x t h f u = record {
+    none = λ q y s.
+        let none : Resources = record { asn = []; ipv4 = []; ipv6 = [] } in
+        let e = one_reading w uri q o y x (reading_of q y s) h in
+        none_fails (PassesObject w (InSet none) ca p o) signed_tests (object_test_of t)
+        (passes_signed (InSet none) o y (subst (λ (z : Object). IsSigned w ca p uri z y) e.0 s)) (f none);
+    fails = λ e sets on count. (o, x, h, first_in_front (PassesObject w (InSet sets) ca p o) signed_tests (map ObjectClaim kinds ++ cover_tests x) (object_test_of t) (f sets));
+    unheld = u;
+    cause_is = refl;
+  }

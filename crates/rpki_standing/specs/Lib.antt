@@ -1,8 +1,9 @@
 pub mod Manifests
 pub mod Standing
 pub mod Places
-pub mod Lists
+pub mod PointFaults
 pub mod Crls
+pub mod Tests
 pub mod Issued
 pub mod Lookups
 pub mod Names

@@ -1,5 +1,5 @@
 -- What stands at a publication point, with the lookup keys of its files (RFC 9286 6).
-use Rattle.std.specs.Prelude.{◌≡◌, ℕ, List, Option, Some, None}
+use Rattle.std.specs.Prelude.{◌≡◌, ℕ, List}
 use Rattle.objects_valid.specs.Kinds.{KindValue}
 use Rattle.rpki_rules.specs.Certs.{Cert, Crl}
 use Rattle.rpki_rules.specs.Objects.{Manifest}
@@ -13,10 +13,6 @@ pub record AreParts (w : World) (ca : Cert) (k : KindValue Manifest) (keys : Lis
   pub keys_are : keys ≡ files ca k.content
   pub list : IsCrlOf w ca k.signed k.content crl
 
--- The manifest's files aren't held as listed, or there is no such revocation list.
-abbrev pub HasNoParts : World → Cert → KindValue Manifest → Type 0
-HasNoParts w ca k = HasFiles w ca k.content → (crl : Crl) → ¬ (IsCrlOf w ca k.signed k.content crl)
-
 pub record StandingValue : Type 0 where
   pub point : Point
   -- the lookup keys of its files, in the manifest's order
@@ -26,8 +22,3 @@ pub record StandingValue : Type 0 where
 pub record IsStanding (w : World) (ca : Cert) (s : StandingValue) : Type 0 where
   pub point : IsPoint w ca s.point
   pub keys : s.keys ≡ files ca s.point.manifest
-
--- The authority's point, or nothing where it has none.
-abbrev pub FindsPoint : World → Cert → Option StandingValue → Type 0
-FindsPoint w ca None = (p : Point) → ¬ (IsPoint w ca p)
-FindsPoint w ca (Some s) = IsStanding w ca s

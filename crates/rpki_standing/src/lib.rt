@@ -8,7 +8,6 @@
 
 pub mod anchors;
 pub mod attested;
-pub mod kept;
 pub mod manifests;
 pub mod parts;
 pub mod payloads;
@@ -18,11 +17,10 @@ pub mod signed;
 pub mod table;
 
 pub use certs_verify::{Cert, Digester, PublicKey, Verifier};
-pub use kept::keep_if;
 pub use manifests::{find_manifest, manifest_at};
 pub use objects_cms::signed::SignedObject;
-pub use objects_valid::kinds::{Aspa, Manifest, ManifestContent, Roa, covers_aspa, covers_roa};
-pub use point::{Point, point_unheld};
-pub use points::{Crl, decode, files_of, is_unrevoked};
-pub use signed::{is_anchor_cert, is_issued_to_authority, is_issued_to_object, is_sound};
+pub use objects_valid::kinds::{Aspa, Manifest, ManifestContent, Roa};
+pub use point::{StandingPoint, standing_point};
+pub use points::{Crl, check_revocation, decode, files_of};
+pub use signed::{check_anchor_cert, check_authority_cert, check_content, check_object_cert};
 pub use table::{Index, Locator, Object, TableVerifier};

@@ -1,18 +1,22 @@
 //! The manifest of an authority (RFC 9286 6.2, 6.3).
 
-ghost use Rattle.std.specs.Prelude.{◌≡◌, ◌↔◌, ◌+◌, ◌≤◌, IfOk, IsTrue};
+ghost use Rattle.std.specs.Prelude.{◌≡◌, ◌↔◌, ◌+◌, ◌≤◌, IfErr, IfOk, IsTrue, [], ◌∷◌};
 ghost use Rattle.rpki_standing.specs.certs_key.Digesting.{digests_of};
 ghost use Rattle.rpki_standing.specs.Crls.{Finds};
-ghost use Rattle.rpki_rules.specs.Certs.{Digests, Verdicts};
+ghost use Rattle.rpki_standing.specs.Manifests.{FindsManifest, IsOwnManifest, IsReadIn};
+ghost use Rattle.rpki_standing.specs.PointFaults.{FailsUnheld, own_tests};
+ghost use Rattle.rpki_standing.specs.Tests.{Tells};
+ghost use Rattle.rpki_rules.specs.Certs.{Cert as CertValue, Digests, Verdicts};
+ghost use Rattle.rpki_rules.specs.PointReasons.{NextUpdate, PassesManifest, ThisUpdate};
+ghost use Rattle.rpki_rules.specs.ReasonViews.{manifest_test_of};
 ghost use Rattle.rpki_rules.specs.World.{world_of};
-ghost use Rattle.rpki_standing.specs.Manifests.{IsCurrent, IsOwnManifest, IsReadAt, IsReadIn, IsSoundFor};
 
-use crate::kept::keep_if;
 use crate::points::decode::DecodeError;
-use crate::signed::{Cert, Digester, Verifier, is_issued_to_object, is_sound};
+use crate::signed::{Cert, Digester, Verifier, check_content, check_object_cert};
 use crate::table::Index;
 use bytes::Bytes;
 use objects_valid::kinds::Manifest;
+use rpki_rules::reason::{ManifestTest, PointReason};
 use std::alloc::{AllocError, Global};
 
 // The manifest that those octets begin with (RFC 9286 4), where strict in DER, and else in BER. Nothing of it is verified.
@@ -27,76 +31,118 @@ fn manifest_in(alloc: Global, octets: &Bytes, strict: bool) -> Result<Option<Man
     }
 }
 
-/// The manifest that the object at the authority's manifest URI reads as, as strictly as the bundle asks, whosever it is;
-/// nothing where the authority names no such URI, no object is there, or it reads as no manifest. Nothing of it is verified.
+/// The manifest that the object at the authority's manifest URI reads as, as strictly as the bundle asks, whosever it is.
+/// Else why none does: the authority names no such URI, or no object is there (`NoManifest`), or it reads as no manifest
+/// (`BadManifest`). Nothing of it is verified.
 pub fn manifest_at(
     alloc: Global,
     ca: &Cert,
     index: &Index<'_>,
-) -> Result<Option<Manifest>, AllocError>
+) -> Result<Result<Manifest, PointReason>, AllocError>
     ensures { IfOk result (λ found. (d : Digests) (v : Verdicts)
-        → Finds (IsReadAt (world_of d v index.now) ca.now) found) }
+        → FindsManifest (world_of d v index.now) ca.now found) }
 {
     let Some(uri) = ca.tbs().rpki_manifest() else {
-        return Ok(None);
+        return Ok(Err(PointReason::NoManifest));
     };
     let Some(object) = index.object_at(uri.as_slice()) else {
-        return Ok(None);
+        return Ok(Err(PointReason::NoManifest));
     };
-    manifest_in(alloc, &object.octets, index.strict())
+    match manifest_in(alloc, &object.octets, index.strict())? {
+        Some(manifest) => Ok(Ok(manifest)),
+        None => Ok(Err(PointReason::BadManifest)),
+    }
 }
 
-// Whether the bundle's moment lies between both updates, which are both included.
-fn is_current(manifest: &Manifest, index: &Index<'_>) -> bool
-    ensures { IsTrue result ↔ IsCurrent index.now.moment manifest.now }
+// Whether the manifest's update isn't to come at the bundle's moment (RFC 9286 6.3).
+fn is_made(manifest: &Manifest, index: &Index<'_>) -> bool
+    ensures { IsTrue result ↔ (manifest.now.content.this_update ≤ index.now.moment) }
 {
-    let (content, now) = (manifest.content(), index.moment());
-    content.this_update() <= now && now <= content.next_update()
+    manifest.content().this_update() <= index.moment()
 }
 
-// Whether the manifest is current and the authority's own: its certificate is issued by it, and the object is sound. The
-// verifier is asked twice, at most.
-fn is_own<D: Digester, V: Verifier>(
+// Whether its next update isn't past.
+fn is_fresh(manifest: &Manifest, index: &Index<'_>) -> bool
+    ensures { IsTrue result ↔ (index.now.moment ≤ manifest.now.content.next_update) }
+{
+    index.moment() <= manifest.content().next_update()
+}
+
+// Whether the bundle's moment lies between both updates, which are both included; else which of them fails.
+fn check_updates(manifest: &Manifest, index: &Index<'_>) -> Result<(), ManifestTest>
+    ensures { (d : Digests) (v : Verdicts) (ca : CertValue) → Tells manifest_test_of
+        (PassesManifest (world_of d v index.now) ca manifest.now.signed manifest.now.content)
+        (ThisUpdate ∷ NextUpdate ∷ []) result }
+{
+    if !is_made(manifest, index) {
+        return Err(ManifestTest::ThisUpdate);
+    }
+    if !is_fresh(manifest, index) {
+        return Err(ManifestTest::NextUpdate);
+    }
+    Ok(())
+}
+
+// Whether the manifest is current and the authority's own: its certificate is issued by it, and the object is sound; else
+// the first test that fails. The verifier is asked twice, at most.
+fn check_own<D: Digester, V: Verifier>(
     alloc: Global,
     manifest: &Manifest,
     ca: &Cert,
     index: &Index<'_>,
     digester: &D,
     verifier: &mut V,
-) -> Result<bool, AllocError>
-    ensures own { IfOk result (λ yes. IsTrue yes ↔ IsSoundFor (world_of
+) -> Result<Result<(), ManifestTest>, AllocError>
+    ensures told { IfOk result (Tells manifest_test_of (PassesManifest (world_of
         (digests_of D.sha256_digest D.sha1_digest digester.now) (V.says verifier.old) index.now)
-        ca.now manifest.now) }
+        ca.now manifest.now.signed manifest.now.content) own_tests) }
     ensures same { V.says verifier.new ≡ V.says verifier.old }
     ensures asked { V.count verifier.new ≤ V.count verifier.old + 2 }
 {
-    if !is_current(manifest, index) {
-        return Ok(false);
+    if let Err(test) = check_updates(manifest, index) {
+        return Ok(Err(test));
     }
-    if !is_issued_to_object(manifest.cert(), ca, index, digester, verifier) {
-        return Ok(false);
+    if let Err(test) = check_object_cert(manifest.cert(), ca, index, digester, verifier) {
+        return Ok(Err(ManifestTest::ManifestCert(test)));
     }
-    is_sound(alloc, manifest.signed(), digester, verifier)
+    match check_content(alloc, manifest.signed(), digester, verifier)? {
+        Ok(()) => Ok(Ok(())),
+        Err(test) => Ok(Err(ManifestTest::ManifestContent(test))),
+    }
 }
 
-/// The authority's manifest: the one at its manifest URI, if it is current and its own. What its certificate claims isn't
-/// looked at. The verifier is asked twice, at most: for its certificate, and for its content.
+/// The authority's manifest: the one at its manifest URI, if it is current and its own; else why it has none. What the
+/// certificate of the manifest claims isn't looked at. The verifier is asked twice, at most: for its certificate, and for
+/// its content.
 pub fn find_manifest<D: Digester, V: Verifier>(
     alloc: Global,
     ca: &Cert,
     index: &Index<'_>,
     digester: &D,
     verifier: &mut V,
-) -> Result<Option<Manifest>, AllocError>
-    ensures found { IfOk result (Finds (IsOwnManifest (world_of
+) -> Result<Result<Manifest, PointReason>, AllocError>
+    ensures found { IfOk result (λ told. IfOk told (IsOwnManifest (world_of
+        (digests_of D.sha256_digest D.sha1_digest digester.now) (V.says verifier.old) index.now)
+        ca.now)) }
+    ensures refused { IfOk result (λ told. IfErr told (FailsUnheld (world_of
         (digests_of D.sha256_digest D.sha1_digest digester.now) (V.says verifier.old) index.now)
         ca.now)) }
     ensures same { V.says verifier.new ≡ V.says verifier.old }
     ensures asked { V.count verifier.new ≤ V.count verifier.old + 2 }
 {
-    let Some(manifest) = manifest_at(alloc, ca, index)? else {
-        return Ok(None);
+    let manifest = match manifest_at(alloc, ca, index)? {
+        Ok(manifest) => manifest,
+        Err(reason) => return Ok(Err(reason)),
     };
-    let own = is_own(alloc, &manifest, ca, index, digester, verifier);
-    keep_if(manifest, own)
+    match check_own(alloc, &manifest, ca, index, digester, verifier) {
+        Ok(Ok(())) => Ok(Ok(manifest)),
+        Ok(Err(test)) => {
+            drop(manifest);
+            Ok(Err(PointReason::ManifestFails(test)))
+        }
+        Err(error) => {
+            drop(manifest);
+            Err(error)
+        }
+    }
 }

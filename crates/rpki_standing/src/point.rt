@@ -1,31 +1,32 @@
 //! What stands at a publication point.
 
-ghost use Rattle.std.specs.Prelude.{◌≡◌, ◌+◌, ◌≤◌, IfOk, option_copied};
+ghost use Rattle.std.specs.Prelude.{◌≡◌, ◌+◌, ◌≤◌, IfErr, IfOk, option_copied};
 ghost use Rattle.rpki_standing.specs.certs_key.Digesting.{digests_of};
 ghost use Rattle.rpki_rules.specs.World.{world_of};
-ghost use Rattle.rpki_standing.specs.Standing.{FindsPoint};
+ghost use Rattle.rpki_standing.specs.PointFaults.{FailsUnheld};
+ghost use Rattle.rpki_standing.specs.Standing.{IsStanding};
 
-use crate::kept::keep_with;
 use crate::manifests::find_manifest;
 use crate::parts::find_parts;
 use crate::points::{Crl, Rsync};
 use crate::signed::{Cert, Digester, Verifier};
 use crate::table::Index;
 use bytes::Bytes;
-use objects_valid::kinds::Manifest;
+use objects_valid::kinds::{Manifest, ManifestContent};
+use rpki_rules::reason::PointReason;
 use std::alloc::{AllocError, Global};
 use std::marker::Model;
 
 /// A publication point: the manifest, the lookup keys of the files that it lists, and the revocation list. Contracts see the
 /// manifest with its content, the list, and the keys.
 #[derive(Drop)]
-pub struct Point {
+pub struct StandingPoint {
     manifest: Manifest,
     keys: Vec<Bytes>,
     crl: Crl,
 }
 
-impl Model for Point {
+impl Model for StandingPoint {
     ghost use Rattle.rpki_standing.specs.Standing.{StandingValue};
 
     ghost Value = { StandingValue };
@@ -40,7 +41,7 @@ impl Model for Point {
     } };
 }
 
-impl Point {
+impl StandingPoint {
     /// The certificate of the manifest.
     pub fn manifest_cert(&self) -> &Cert
         ensures { result.now ≡ self.now.point.object.cert }
@@ -68,34 +69,67 @@ impl Point {
     {
         &self.keys
     }
+
+    /// What the manifest says.
+    pub fn content(&self) -> &ManifestContent
+        ensures { result.now ≡ self.now.point.manifest }
+    {
+        self.manifest.content()
+    }
+
+    /// The certificate of the manifest and the revocation list, handed over.
+    pub fn into_parts(self) -> (Cert, Crl)
+        ensures cert { result.0 ≡ self.point.object.cert }
+        ensures list { result.1 ≡ self.point.crl }
+    {
+        let StandingPoint {
+            manifest,
+            keys,
+            crl,
+        } = self;
+        drop(keys);
+        let (signed, content) = manifest.into_parts();
+        drop(content);
+        (signed.into_cert(), crl)
+    }
 }
 
-/// What stands at the authority's publication point, what the manifest's certificate claims apart; nothing where the point is
-/// refused (RFC 9286 6.2 to 6.6). The verifier is asked three times, at most: for the manifest's certificate, for its
-/// content, and for the revocation list.
-pub fn point_unheld<D: Digester, V: Verifier>(
+/// What stands at the authority's publication point, what the manifest's certificate claims apart; else why the point is
+/// refused: the first test that fails (RFC 9286 6.2 to 6.6). The verifier is asked three times, at most: for the manifest's
+/// certificate, for its content, and for the revocation list.
+pub fn standing_point<D: Digester, V: Verifier>(
     alloc: Global,
     ca: &Cert,
     index: &Index<'_>,
     digester: &D,
     verifier: &mut V,
-) -> Result<Option<Point>, AllocError>
-    ensures found { IfOk result (FindsPoint (world_of
+) -> Result<Result<StandingPoint, PointReason>, AllocError>
+    ensures found { IfOk result (λ told. IfOk told (IsStanding (world_of
         (digests_of D.sha256_digest D.sha1_digest digester.now) (V.says verifier.old) index.now)
-        ca.now) }
+        ca.now)) }
+    ensures refused { IfOk result (λ told. IfErr told (FailsUnheld (world_of
+        (digests_of D.sha256_digest D.sha1_digest digester.now) (V.says verifier.old) index.now)
+        ca.now)) }
     ensures same { V.says verifier.new ≡ V.says verifier.old }
     ensures asked { V.count verifier.new ≤ V.count verifier.old + 3 }
 {
-    let Some(manifest) = find_manifest(alloc, ca, index, digester, verifier)? else {
-        return Ok(None);
+    let manifest = match find_manifest(alloc, ca, index, digester, verifier)? {
+        Ok(manifest) => manifest,
+        Err(reason) => return Ok(Err(reason)),
     };
-    let found = find_parts(alloc, ca, &manifest, index, digester, verifier);
-    let Some((manifest, (keys, crl))) = keep_with(manifest, found)? else {
-        return Ok(None);
-    };
-    Ok(Some(Point {
-        manifest,
-        keys,
-        crl,
-    }))
+    match find_parts(alloc, ca, &manifest, index, digester, verifier) {
+        Ok(Ok((keys, crl))) => Ok(Ok(StandingPoint {
+            manifest,
+            keys,
+            crl,
+        })),
+        Ok(Err(reason)) => {
+            drop(manifest);
+            Ok(Err(reason))
+        }
+        Err(error) => {
+            drop(manifest);
+            Err(error)
+        }
+    }
 }

@@ -1,5 +1,5 @@
 -- What verification tests of a certificate below an authority, or of an anchor's, in the words of the rules.
-use Rattle.std.proofs.Common.{◌≡◌, ℕ, true, Some, None}
+use Rattle.std.proofs.Common.{◌≡◌, ℕ}
 use Rattle.certs_verify.specs.Holders.{ResourceCertValue}
 use Rattle.rpki_steps.specs.resources_chain.Claims.{FitsIn, Kept, Lists}
 use Rattle.rpki_steps.specs.resources_chain.Sets.{IsRunsOf}
@@ -8,8 +8,7 @@ use Rattle.rpki_steps.specs.certs_extension.Verified.{IsIssuedAt, IsAnchorAt, Ho
 use Rattle.rpki_rules.specs.Certs.{Cert}
 use Rattle.rpki_rules.specs.Kinds.{Kind, Ipv4, Ipv6, As, claim, of_kind, InSet}
 use Rattle.rpki_rules.specs.World.{World}
-use Rattle.rpki_rules.specs.Points.{Signed, IsValid}
-use Rattle.rpki_rules.specs.Chains.{Fits}
+use Rattle.rpki_rules.specs.Points.{Signed}
 use Rattle.rpki_steps.specs.Holders.{sets_of}
 
 -- What is issued is signed by the issuer, and its claim fits.
@@ -20,14 +19,6 @@ pub issued_fits : (w : World) (ca : Cert) (held : Kind → ℕ → Type 0) (c : 
 issued_fits w ca held c p Ipv4 = p.1.1.1.1.1.1.0
 issued_fits w ca held c p Ipv6 = p.1.1.1.1.1.1.1.0
 issued_fits w ca held c p As = p.1.1.1.1.1.1.1.1.0
-
--- And the other way.
-pub signed_issued : (w : World) (ca : Cert) (held : Kind → ℕ → Type 0) (c : Cert) → Signed w c ca → Fits held c → IsIssuedAt w.good w.moment ca held c
-signed_issued w ca held c s f =
-    (s.valid.0, (s.valid.1, (there, (s.authority, (s.issuer_uri, (s.good, (f Ipv4, (f Ipv6, (f As, tt)))))))))
-  where
-    there : c.tbs.authority_key_identifier ≡ None → ⊥
-    there e = let is : c.tbs.authority_key_identifier ≡ Some ca.tbs.subject_key_identifier = s.authority in absurd cc
 
 -- What is held by a certificate that was verified, as sets.
 pub below_keeps : (issuer r : ResourceCertValue) (c : Cert) → HoldsBelow (held_by issuer.holder) c r.holder → (k : Kind) → IsRunsOf (Kept (claim c k) (InSet (sets_of issuer) k)) (of_kind (sets_of r) k)
@@ -45,6 +36,3 @@ pub anchor_own : (w : World) (c : Cert) → IsAnchorAt w.good w.moment c → (k 
 anchor_own w c p Ipv4 = p.1.1.0
 anchor_own w c p Ipv6 = p.1.1.1.0
 anchor_own w c p As = p.1.1.1.1.0
-
-pub own_anchor : (w : World) (c : Cert) → ((k : Kind) → claim c k ≡ Inherit → ⊥) → IsValid w c → w.good c.tbs.key c.signed.has_null c.signed.message c.signed.signature ≡ true → IsAnchorAt w.good w.moment c
-own_anchor w c own valid good = (valid.0, (valid.1, (own Ipv4, (own Ipv6, (own As, (good, tt))))))

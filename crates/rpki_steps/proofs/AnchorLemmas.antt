@@ -1,68 +1,98 @@
 -- What a locator leads to, by the first object that is there.
-use Rattle.std.proofs.Common.{◌≡◌, ◌<◌, ℕ, List, [], length, get_or, Option, Some, None, Result, Ok, Err, sym, subst}
+use Rattle.std.proofs.Common.{◌≡◌, ◌<◌, ℕ, List, [], length, get_or, Option, Some, None, Result, Ok, Err, refl, sym, ap, ◌∙◌, subst}
 use Rattle.std.proofs.lemmas.List.{get_or_read}
 use Rattle.std.specs.Prelude.{IfOk, String}
 use Rattle.std.specs.declared.alloc.Global.{Global}
-use Rattle.rpki_standing.specs.Lookups.{HoldsAt, HoldsNowhere, IsNoCert}
-use Rattle.rpki_steps.specs.Anchored.{FindsAnchor}
+use Rattle.std.specs.Str.Lossy.{utf8_lossy}
+use Rattle.std.specs.String.{string_bytes}
+use Rattle.rpki_standing.specs.Lookups.{HoldsAt}
+use Rattle.rpki_steps.specs.Anchored.{IsFoundAnchor}
 use Rattle.rpki_steps.specs.Holders.{cert_of, sets_of}
+use Rattle.rpki_steps.specs.certs_basics.Lists.{FirstFailing}
 use Rattle.rpki_steps.specs.certs_verify.Holders.{ResourceCertValue}
+use Rattle.rpki_steps.specs.declared.anchors.TrustAnchor.{TrustAnchor}
 use Rattle.rpki_standing.specs.rpki_bundle.declared.parts.Locator.{Locator}
-use Rattle.rpki_rules.specs.Certs.{Cert, CertText, Key, one_cert}
-use Rattle.rpki_rules.specs.Points.{IsAnchorCert, Link}
+use Rattle.rpki_standing.specs.objects_payload.declared.locator.error.ReadError.{ReadError}
+use Rattle.rpki_rules.specs.Certs.{Cert, CertText, Key}
+use Rattle.rpki_rules.specs.declared.reason.locators.LocatorReason.TheVariants.{BadText, NoneHeld, NoCert, BadAnchor}
+use Rattle.rpki_rules.specs.LocatorReasons.{LocatorFails, LeadsTo as LeadsToOctets, PassesAnchor, tests_of_anchors}
+use Rattle.rpki_rules.specs.declared.reason.locators.AnchorTest.{AnchorTest}
+use Rattle.rpki_rules.specs.declared.reason.locators.LocatorReason.{LocatorReason}
+use Rattle.rpki_rules.specs.Points.{IsAnchorCert}
+use Rattle.rpki_rules.specs.TestLaws.{LeadsNowhere, RefusesLocator}
 use Rattle.rpki_rules.specs.World.{World}
+use Rattle.rpki_walk.specs.Asked.{HasLocatorReason}
 use Rattle.rpki_walk.specs.Repository.{HasListed, IsAnchorLookup, LeadsTo, locator_at}
 use Rattle.rpki_walk.specs.declared.repository.AnchorLookup.{AnchorLookup}
 use Rattle.rpki_walk.specs.declared.repository.AnchorLookup.TheVariants as To
-use Rattle.rpki_steps.specs.Anchors.{FindsAnchorIn, IsAnchorIn}
+use Rattle.rpki_steps.specs.Anchors.{FindsAnchorIn, IsAnchorIn, IsFoundThere, JudgesLocator}
 
-module _ (w : World) (key : Key) (octets : List ℕ) where
-  -- The octets are no certificate.
-  pub none_read : IsNoCert octets → FindsAnchorIn w key octets None
-  none_read n = λ c t a. n c t
-
-  -- They are this one, which is a trust anchor's or not.
-  anchor_read : (tal : String Global) (c : Cert) (o : Option ResourceCertValue) → CertText octets c → FindsAnchor w key tal c o → FindsAnchorIn w key octets o
-  anchor_read tal c None t n = λ d u a. n (subst (λ (x : Cert). IsAnchorCert w key x) (one_cert octets d c u t) a)
-  anchor_read tal c (Some r) t f = record {
+module _ (w : World) (key : Key) (tal : String Global) (octets : List ℕ) (c : Cert) (t : CertText octets c) where
+  -- The octets are this certificate, which is a trust anchor's.
+  pub anchor_read : (r : ResourceCertValue) → IsFoundAnchor w key tal c r → FindsAnchorIn w key tal octets (Ok r)
+  anchor_read r f = record {
     reads = subst (λ (x : Cert). CertText octets x) (sym f.same) t;
     anchor = subst (λ (x : Cert). IsAnchorCert w key x) (sym f.same) f.anchor;
     holds = subst (λ (x : Cert). HasListed x (sets_of r)) (sym f.same) f.holds;
+    name = f.name;
   }
 
-  pub anchor_told : {E : Type 0} (tal : String Global) (c : Cert) (r : Result (Option ResourceCertValue) E) → CertText octets c → IfOk r (FindsAnchor w key tal c) → IfOk r (FindsAnchorIn w key octets)
-  anchor_told tal c (Ok o) t f = anchor_read tal c o t f
-  anchor_told tal c (Err e) t f = tt
-
--- What a locator leads to is by an object that it leads to.
-lead_held : (w : World) (l : Locator) (a : Link) (h : LeadsTo w l a) → HoldsAt w l h.key a.uri h.octets
-lead_held w l a h = record { uris = h.uris; reads = h.reads; held = h.held }
+  -- It isn't.
+  pub anchor_fails : (test : AnchorTest) → FirstFailing (PassesAnchor w key c) tests_of_anchors test → FindsAnchorIn w key tal octets (Err (BadAnchor test))
+  anchor_fails test f = (c, t, f)
 
 module _ (w : World) (l : Locator) where
-  -- There is no object at any of its URIs.
-  pub nowhere : ((k : Key) (u o : List ℕ) → HoldsNowhere w l → ¬ (HoldsAt w l k u o)) → HoldsNowhere w l → IsAnchorLookup cert_of sets_of w l To.Nowhere
-  nowhere none n = ((n.uris, n.key, n.reads), λ a h. none h.key a.uri h.octets n (lead_held w l a h))
+  module _ (k : Key) (tal : String Global) (u o : List ℕ) (h : HoldsAt w l k u o) where
+    lead : LeadsToOctets w l k o
+    lead = record { uris = h.uris; reads = h.reads; uri = u; held = h.held }
 
-  module _ (k : Key) (u o : List ℕ) where
     -- The object is no trust anchor's certificate.
-    pub no_anchor : ((j : Key) (v p : List ℕ) → HoldsAt w l j v p → HoldsAt w l k u o → j ≡ k) → ((j : Key) (v p : List ℕ) → HoldsAt w l j v p → HoldsAt w l k u o → p ≡ o)
-        → HoldsAt w l k u o → FindsAnchorIn w k o None → IsAnchorLookup cert_of sets_of w l To.Nowhere
-    no_anchor keys octets h n = (
-      (h.uris, k, h.reads),
-      λ a b.
-          let g = lead_held w l a b in
-          n a.cert (subst (λ (t : List ℕ). CertText t a.cert) (octets b.key a.uri b.octets g h) b.cert) (subst (λ (j : Key). IsAnchorCert w j a.cert) (keys b.key a.uri b.octets g h) b.is_anchor),
-    )
+    pub no_anchor : (r : LocatorReason) → FindsAnchorIn w k tal o (Err r) → JudgesLocator w l (Err r)
+    no_anchor (BadText e) f = absurd f
+    no_anchor NoneHeld f = absurd f
+    no_anchor NoCert f = (k, o, lead, f)
+    no_anchor (BadAnchor t) f = (k, o, f.0, lead, f.1, f.2)
 
     -- The object is one.
-    pub is_anchor : (uri : List ℕ) (r s : ResourceCertValue) → uri ≡ u → s ≡ r → HoldsAt w l k u o → IsAnchorIn w k o r → IsAnchorLookup cert_of sets_of w l (To.Anchor uri s)
-    is_anchor uri r s e same h a = subst (λ (v : List ℕ). IsAnchorLookup cert_of sets_of w l (To.Anchor v s)) (sym e) (subst (λ (x : ResourceCertValue). IsAnchorLookup cert_of sets_of w l (To.Anchor u x)) (sym same)
-        (record { uris = h.uris; key = k; reads = h.reads; octets = o; held = h.held; cert = a.reads; is_anchor = a.anchor }, a.holds))
+    pub is_anchor : (a : TrustAnchor) (r : ResourceCertValue) → a.uri ≡ u → a.authority ≡ r → string_bytes tal ≡ utf8_lossy l.name → IsAnchorIn w k tal o r → IsFoundThere w l a
+    is_anchor a r e same called f = record {
+      leads = subst (λ (v : List ℕ). LeadsTo w l (record { uri = v; cert = cert_of a.authority })) (sym e)
+          (subst (λ (x : ResourceCertValue). LeadsTo w l (record { uri = u; cert = cert_of x })) (sym same)
+          (record { uris = h.uris; key = k; reads = h.reads; octets = o; held = h.held; cert = f.reads; is_anchor = f.anchor }));
+      holds = subst (λ (x : ResourceCertValue). HasListed (cert_of x) (sets_of x)) (sym same) f.holds;
+      name = ap (λ (x : ResourceCertValue). string_bytes x.tal) same ∙ (ap string_bytes f.name ∙ called);
+    }
 
-    -- It leads to the object.
-    pub held_led : {E : Type 0} (r : Result (AnchorLookup ResourceCertValue) E) → HoldsAt w l k u o → IfOk r (λ led. HoldsAt w l k u o → IsAnchorLookup cert_of sets_of w l led) → IfOk r (IsAnchorLookup cert_of sets_of w l)
-    held_led (Ok led) h f = f h
-    held_led (Err e) h f = tt
+  -- It leads to the object.
+  pub held_led : {E : Type 0} (k : Key) (u o : List ℕ) (r : Result (Result TrustAnchor LocatorReason) E) → HoldsAt w l k u o → IfOk r (λ judged. HoldsAt w l k u o → JudgesLocator w l judged) → IfOk r (JudgesLocator w l)
+  held_led k u o (Ok judged) h f = f h
+  held_led k u o (Err e) h f = tt
+
+  -- What the walk is told.
+  pub found_led : (a : TrustAnchor) → IsFoundThere w l a → IsAnchorLookup cert_of sets_of w l (To.Anchor a.uri a.authority)
+  found_led a f = (f.leads, f.holds)
+
+  nowhere_led : LeadsNowhere w l → IsAnchorLookup cert_of sets_of w l To.Nowhere
+  nowhere_led n = (n.0, λ a h. n.1 h.uris h.key a.uri h.octets a.cert h.reads h.held h.cert h.is_anchor)
+
+  pub nowhere : (r : LocatorReason) → ((e : ReadError) → r ≡ BadText e → ⊥) → RefusesLocator w l r → IsAnchorLookup cert_of sets_of w l To.Nowhere
+  nowhere (BadText e) n f = absurd (n e refl)
+  nowhere NoneHeld n f = nowhere_led f
+  nowhere NoCert n f = nowhere_led f
+  nowhere (BadAnchor t) n f = nowhere_led f
+
+  -- A locator that leads to a trust anchor has no reason.
+  pub no_reason : (refuse : (r : LocatorReason) → LocatorFails w l r → RefusesLocator w l r) (a : TrustAnchor) → IsFoundThere w l a → HasLocatorReason w l None
+  no_reason refuse a f r h = refuted r (refuse r h)
+    where
+      led : LeadsNowhere w l → ⊥
+      led n = let g = f.leads in n.1 g.uris g.key a.uri g.octets (cert_of a.authority) g.reads g.held g.cert g.is_anchor
+
+      refuted : (r : LocatorReason) → RefusesLocator w l r → ⊥
+      refuted (BadText e) n = n f.leads.uris f.leads.key f.leads.reads
+      refuted NoneHeld n = led n
+      refuted NoCert n = led n
+      refuted (BadAnchor t) n = led n
 
 -- The locator at a place.
 pub locator_there : (w : World) (at : ℕ) (ls : List Locator) (l : Locator) → ls ≡ w.locators → at < length w.locators → l ≡ get_or ls at l → l ≡ locator_at w at
@@ -74,3 +104,7 @@ locator_there w at ls l same inside is =
 pub place_led : {E : Type 0} (w : World) (at : ℕ) (ls : List Locator) (l : Locator) (r : Result (AnchorLookup ResourceCertValue) E) → ls ≡ w.locators → at < length w.locators → l ≡ get_or ls at l
     → IfOk r (IsAnchorLookup cert_of sets_of w l) → IfOk r (IsAnchorLookup cert_of sets_of w (locator_at w at))
 place_led w at ls l r same inside is h = subst (λ (x : Locator). IfOk r (IsAnchorLookup cert_of sets_of w x)) (locator_there w at ls l same inside is) h
+
+pub place_told : {E : Type 0} (w : World) (at : ℕ) (ls : List Locator) (l : Locator) (r : Result (Option LocatorReason) E) → ls ≡ w.locators → at < length w.locators → l ≡ get_or ls at l
+    → IfOk r (HasLocatorReason w l) → IfOk r (HasLocatorReason w (locator_at w at))
+place_told w at ls l r same inside is h = subst (λ (x : Locator). IfOk r (HasLocatorReason w x)) (locator_there w at ls l same inside is) h

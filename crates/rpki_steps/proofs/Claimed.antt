@@ -1,26 +1,34 @@
--- Claims kind by kind.
-use Rattle.std.proofs.Common.{◌≡◌, Bool, subst}
-use Rattle.std.specs.Prelude.{◌↔◌, IsTrue}
-use Rattle.rpki_standing.specs.certs_extension.Verified.{HolderValue, held_by}
+-- What an authority holds, by its value.
+use Rattle.std.proofs.Common.{ℕ}
+use Rattle.rpki_standing.specs.certs_extension.Verified.{held_by}
+use Rattle.rpki_steps.specs.certs_verify.Holders.{ResourceCertValue}
+use Rattle.rpki_rules.specs.certs_x509.declared.errors.verification.Overclaimed.{Overclaimed}
 use Rattle.rpki_rules.specs.Certs.{Cert}
 use Rattle.rpki_rules.specs.Chains.{Fits}
-use Rattle.rpki_rules.specs.Kinds.{Ipv4, Ipv6, As}
-use Rattle.rpki_walk.specs.Claimed.{ClaimValue}
-use Rattle.rpki_walk.specs.resources.Resources.{Resources}
-use Rattle.rpki_walk.specs.Steps.{FitsAll}
-use Rattle.rpki_steps.specs.PlaceClaims.{sets_of}
-use Rattle.rpki_steps.specs.Claims.{claims_of}
+use Rattle.rpki_rules.specs.Kinds.{Kind, Ipv4, Ipv6, As, InSet}
+use Rattle.rpki_rules.specs.Reasons.{FitsKind, kinds}
+use Rattle.rpki_rules.specs.ReasonViews.{kind_claimed}
+use Rattle.rpki_rules.proofs.Firsts.{none_fails}
+use Rattle.rpki_rules.proofs.ReasonTests.{fit_kinds}
+use Rattle.rpki_steps.specs.Claims.{IsUnfit}
+use Rattle.rpki_steps.specs.Holders.{sets_of}
 
-module _ (c : Cert) (h : HolderValue) where
-  all_fit : FitsAll (claims_of c) (sets_of h) → Fits (held_by h) c
-  all_fit f Ipv4 = f.v4s
-  all_fit f Ipv6 = f.v6s
-  all_fit f As = f.asns
+-- A claim of which a kind doesn't fit doesn't fit.
+pub unfit_not : (held : Kind → ℕ → Type 0) (c : Cert) (x : Overclaimed) → IsUnfit held c x → ¬ (Fits held c)
+unfit_not held c x u f = none_fails (FitsKind held c) kinds (kind_claimed x) (fit_kinds held c f) u.first
 
-  fit_all : Fits (held_by h) c → FitsAll (claims_of c) (sets_of h)
-  fit_all f = record { asns = f As; v4s = f Ipv4; v6s = f Ipv6 }
+module _ (c : Cert) (ca : ResourceCertValue) where
+  -- What fits in the sets that an authority has fits in what it holds.
+  pub by_holder : Fits (InSet (sets_of ca)) c → Fits (held_by ca.holder) c
+  by_holder f Ipv4 = f Ipv4
+  by_holder f Ipv6 = f Ipv6
+  by_holder f As = f As
 
-  pub fits_told : (claim : ClaimValue) (held : Resources) → claim ≡ claims_of c → held ≡ sets_of h → (b : Bool) → IsTrue b ↔ FitsAll claim held → IsTrue b ↔ Fits (held_by h) c
-  fits_told claim held same lent b told =
-      let k : IsTrue b ↔ FitsAll (claims_of c) (sets_of h) = subst (λ (x : ClaimValue). IsTrue b ↔ FitsAll x (sets_of h)) same (subst (λ (x : Resources). IsTrue b ↔ FitsAll claim x) lent told) in
-      (λ t. all_fit (k.0 t), λ f. k.1 (fit_all f))
+  by_sets : Fits (held_by ca.holder) c → Fits (InSet (sets_of ca)) c
+  by_sets f Ipv4 = f Ipv4
+  by_sets f Ipv6 = f Ipv6
+  by_sets f As = f As
+
+  -- What doesn't fit in the sets that it has doesn't fit in what it holds.
+  pub unfit_there : (x : Overclaimed) → IsUnfit (InSet (sets_of ca)) c x → ¬ (Fits (held_by ca.holder) c)
+  unfit_there x u f = unfit_not (InSet (sets_of ca)) c x u (by_sets f)

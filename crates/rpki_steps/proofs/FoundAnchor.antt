@@ -1,23 +1,30 @@
--- A validation of an anchor, and the test of its key, decide whether the certificate is a trust anchor's.
-use Rattle.std.proofs.Common.{◌≡◌, ℕ, true, Option, Some, None, Result, Ok, Err, refl, sym, ap, subst}
+-- A validation of an anchor, and the test of its key, decide whether the certificate is a trust anchor's, and why not.
+use Rattle.std.proofs.Common.{◌≡◌, ◌∷◌, ◌++◌, [], ℕ, true, List, map, Option, Some, Result, Ok, Err, sym, subst}
 use Rattle.std.specs.Prelude.{IfOk, String}
 use Rattle.std.specs.declared.alloc.Global.{Global}
 use Rattle.certs_verify.specs.declared.refused.Refused.{Refused}
 use Rattle.certs_verify.specs.Holders.{ResourceCertValue}
 use Rattle.certs_verify.specs.Validated.{MeetsValid, cause_of}
 use Rattle.certs_verify.specs.Words.{RefusedBy}
+use Rattle.rpki_steps.specs.certs_basics.Lists.{Each, FirstFailing}
 use Rattle.rpki_steps.specs.certs_x509.declared.errors.validation.ValidationError.{ValidationError}
 use Rattle.rpki_steps.specs.certs_extension.declared.forms.Role.TheVariants.{Ta}
-use Rattle.rpki_steps.specs.certs_extension.Calls.{Fault, inspected, verified, wants_memory, FailsAnchor, ValidatesAnchor}
-use Rattle.rpki_steps.specs.certs_extension.Profiles.{Passes, tests}
-use Rattle.rpki_steps.specs.certs_extension.Verified.{AcceptsAnchor, PassesAt, anchor_tests, nothing}
+use Rattle.rpki_steps.specs.certs_extension.Calls.{Fault, ValidatesAnchor}
+use Rattle.rpki_steps.specs.certs_extension.Profiles.{tests}
+use Rattle.rpki_steps.specs.certs_extension.Verified.{AcceptsAnchor, anchor_tests}
 use Rattle.rpki_rules.specs.Certs.{Cert, Key, encoded}
 use Rattle.rpki_rules.specs.World.{World}
-use Rattle.rpki_rules.specs.Points.{IsAnchorCert}
-use Rattle.rpki_steps.specs.Anchored.{IsFoundAnchor, FindsAnchor}
-use Rattle.rpki_steps.specs.AcceptedOrNone.{IsAcceptedOrNone}
-use Rattle.rpki_steps.proofs.AcceptedClaims.{anchor_own, own_anchor, own_lists}
-use Rattle.rpki_steps.proofs.Firsts.{none_fails}
+use Rattle.rpki_rules.specs.declared.reason.certs.CertTest.TheVariants.{Inspection, Verification}
+use Rattle.rpki_rules.specs.Reasons.{PassesCert}
+use Rattle.rpki_rules.specs.declared.reason.certs.CertTest.{CertTest}
+use Rattle.rpki_rules.specs.declared.reason.locators.AnchorTest.TheVariants.{SameKey, AnchorCert}
+use Rattle.rpki_rules.specs.LocatorReasons.{PassesAnchor, tests_of_anchors}
+use Rattle.rpki_rules.specs.declared.reason.locators.AnchorTest.{AnchorTest}
+use Rattle.rpki_rules.proofs.Firsts.{map_each}
+use Rattle.rpki_rules.proofs.FirstParts.{first_behind, first_here, first_in_front, first_map}
+use Rattle.rpki_steps.specs.Anchored.{IsFoundAnchor}
+use Rattle.rpki_steps.specs.Accepted.{IsAcceptedOrRefused, cert_fault}
+use Rattle.rpki_steps.proofs.AcceptedClaims.{anchor_own, own_lists}
 
 -- What is accepted, with that key, is a trust anchor's.
 is_anchor : (w : World) (key : Key) (tal : String Global) (c : Cert) (r : ResourceCertValue) → encoded c.tbs.key ≡ encoded key
@@ -35,34 +42,45 @@ is_anchor w key tal c r k a t = record {
   name = t;
 }
 
--- What fails a test isn't.
-failed : (w : World) (key : Key) (c : Cert) (fault : Fault) → (fault ≡ wants_memory → ⊥)
-    → FailsAnchor w.digests w.good true w.moment c fault → ¬ (IsAnchorCert w key c)
-failed w key c (inspected t) n f b = none_fails (Passes w.digests true Ta c) (tests Ta) t f b.profile
-failed w key c (verified t) n f b = none_fails (PassesAt w.good w.moment c nothing c) anchor_tests t f.1 (own_anchor w c b.listed b.valid b.good)
-failed w key c wants_memory n f b = n refl
+module _ (w : World) (key : Key) (c : Cert) where
+  abbrev Q : AnchorTest → Type 0
+  Q = PassesAnchor w key c
 
-refused : (w : World) (key : Key) (c given : Cert) (o : Option Fault) → (o ≡ Some wants_memory → ⊥)
-    → RefusedBy (ValidatesAnchor w.digests w.good true w.moment c) given o → ¬ (IsAnchorCert w key c)
-refused w key c given None n m = absurd m
-refused w key c given (Some fault) n m = failed w key c fault (λ e. n (ap (λ (x : Fault). Some x) e)) m.1
+  abbrev P : CertTest → Type 0
+  P = PassesCert w Ta c c
 
-settled : (w : World) (key : Key) (tal : String Global) (c : Cert) (v : Result ResourceCertValue (Refused ValidationError)) (o : Option ResourceCertValue)
-    → encoded c.tbs.key ≡ encoded key → MeetsValid (ValidatesAnchor w.digests w.good true w.moment c) v → IfOk v (λ r. r.tal ≡ tal) → IsAcceptedOrNone v o → FindsAnchor w key tal c o
-settled w key tal c (Ok r) (Some s) k m t e = subst (λ (x : ResourceCertValue). IsFoundAnchor w key tal c x) (sym e) (is_anchor w key tal c r k m t)
-settled w key tal c (Ok r) None k m t e = absurd e
-settled w key tal c (Err x) (Some s) k m t e = absurd e
-settled w key tal c (Err x) None k m t n = refused w key c x.cert (cause_of x.error) n m
+  abbrev forms : List CertTest
+  forms = map Inspection (tests Ta)
 
--- So what the validation settles is the answer, at the world's moment.
-pub found_anchor : {E : Type 0} (w : World) (key : Key) (tal : String Global) (c : Cert) (now : ℕ)
-    (v : Result ResourceCertValue (Refused ValidationError)) (r : Result (Option ResourceCertValue) E)
-    → now ≡ w.moment → encoded c.tbs.key ≡ encoded key → MeetsValid (ValidatesAnchor w.digests w.good true now c) v → IfOk v (λ r. r.tal ≡ tal)
-    → IfOk r (IsAcceptedOrNone v) → IfOk r (FindsAnchor w key tal c)
-found_anchor w key tal c now v (Ok o) e k m t s =
-    settled w key tal c v o k (subst (λ (n : ℕ). MeetsValid (ValidatesAnchor w.digests w.good true n c) v) e m) t s
-found_anchor w key tal c now v (Err x) e k m t s = tt
+  abbrev others : List CertTest
+  others = map Verification anchor_tests
 
--- Another key is no trust anchor's with this one.
-pub other_key : (w : World) (key : Key) (c : Cert) → (encoded c.tbs.key ≡ encoded key → ⊥) → ¬ (IsAnchorCert w key c)
-other_key w key c n a = n a.same_key
+  -- Another key is none of a trust anchor's with this one.
+  pub other_key : (encoded c.tbs.key ≡ encoded key → ⊥) → FirstFailing Q tests_of_anchors SameKey
+  other_key n = first_here Q SameKey (map AnchorCert (forms ++ others)) n
+
+  module _ (k : encoded c.tbs.key ≡ encoded key) where
+    later : (t : CertTest) → FirstFailing P (forms ++ others) t → FirstFailing Q tests_of_anchors (AnchorCert t)
+    later t f = first_behind Q (SameKey ∷ []) (map AnchorCert (forms ++ others)) (AnchorCert t) (k, tt) (first_map AnchorCert Q (forms ++ others) t f)
+
+    fails_told : (given : Cert) (t : CertTest) → RefusedBy (ValidatesAnchor w.digests w.good true w.moment c) given (Some (cert_fault t)) → FirstFailing Q tests_of_anchors (AnchorCert t)
+    fails_told given (Inspection t) h = later (Inspection t) (first_in_front P forms others (Inspection t) (first_map Inspection P (tests Ta) t h.1))
+    fails_told given (Verification t) h =
+        let all : Each P forms = map_each Inspection P (tests Ta) h.1.0 in
+        later (Verification t) (first_behind P forms others (Verification t) all (first_map Verification P anchor_tests t h.1.1))
+
+    -- What the validation settles is the answer, at the world's moment.
+    module _ (now : ℕ) (at : now ≡ w.moment) where
+      pub accepted : (tal : String Global) (v : Result ResourceCertValue (Refused ValidationError)) (r : ResourceCertValue)
+          → MeetsValid (ValidatesAnchor w.digests w.good true now c) v → IfOk v (λ r. r.tal ≡ tal) → IsAcceptedOrRefused v (Ok r) → IsFoundAnchor w key tal c r
+      accepted tal (Ok r) s m t e =
+          subst (λ (x : ResourceCertValue). IsFoundAnchor w key tal c x) (sym e) (is_anchor w key tal c r k (subst (λ (n : ℕ). AcceptsAnchor w.digests w.good true n c r.holder) at m) t)
+      accepted tal (Err x) s m t e = absurd e
+
+      pub refused : (v : Result ResourceCertValue (Refused ValidationError)) (e : ValidationError) (t : CertTest)
+          → MeetsValid (ValidatesAnchor w.digests w.good true now c) v → IsAcceptedOrRefused v (Err e) → cause_of e ≡ Some (cert_fault t) → FirstFailing Q tests_of_anchors (AnchorCert t)
+      refused (Ok r) e t m s told = absurd s
+      refused (Err x) e t m s told =
+          let h : RefusedBy (ValidatesAnchor w.digests w.good true now c) x.cert (cause_of e) = subst (λ (f : ValidationError). RefusedBy (ValidatesAnchor w.digests w.good true now c) x.cert (cause_of f)) (sym s.0) m in
+          let g : RefusedBy (ValidatesAnchor w.digests w.good true now c) x.cert (Some (cert_fault t)) = subst (λ (o : Option Fault). RefusedBy (ValidatesAnchor w.digests w.good true now c) x.cert o) told h in
+          fails_told x.cert t (subst (λ (n : ℕ). RefusedBy (ValidatesAnchor w.digests w.good true n c) x.cert (Some (cert_fault t))) at g)

@@ -1,12 +1,12 @@
+mod Claimed
 mod Plain
 mod Spelled
 mod Unheld
 mod Listed
-mod Repository
+mod RepositoryFiles
 mod Found
 mod Stands
 mod Told
-mod Claimed
 pub mod AnchorLemmas
 pub mod CertFiles
 pub mod ClaimLemmas
@@ -15,12 +15,10 @@ pub mod NameLemmas
 pub mod PayloadFiles
 pub mod PointLemmas
 pub mod WholeLemmas
-pub mod Firsts
 pub mod AcceptedClaims
 pub mod FoundBelow
 pub mod FoundAnchor
-pub mod Children
-pub mod AcceptedOrNone
+pub mod Refusing
 mod Passing
 mod Named
 mod Looked

@@ -4,7 +4,7 @@ use Rattle.std.specs.Prelude.{MatchOption}
 use Rattle.rpki_rules.specs.Certs.{Cert}
 use Rattle.rpki_rules.specs.Chains.{CertAt}
 use Rattle.rpki_rules.specs.World.{World}
-use Rattle.rpki_walk.specs.Evidence.{IsReadCert}
+use Rattle.rpki_judge.specs.Evidence.{IsReadCert}
 use Rattle.rpki_standing.specs.Lookups.{NoCertAt}
 
 -- The certificate there, as the judge is given it.

@@ -4,40 +4,33 @@ use Rattle.std.specs.Prelude.{◌↔◌, IfOk}
 use Rattle.rpki_standing.specs.objects_valid.Kinds.{KindValue}
 use Rattle.rpki_rules.specs.Certs.{Cert, Digests, Verdicts}
 use Rattle.rpki_standing.specs.rpki_bundle.Bundle.{BundleValue}
-use Rattle.rpki_rules.specs.Objects.{Manifest, ManifestText, one_manifest}
+use Rattle.rpki_rules.specs.Objects.{Manifest, Object}
 use Rattle.rpki_rules.specs.Points.{files}
 use Rattle.rpki_rules.specs.Reach.{NamesFile}
 use Rattle.rpki_rules.specs.Words.{Mem}
-use Rattle.rpki_rules.specs.World.{World, at, world_of}
+use Rattle.rpki_rules.specs.World.{World, world_of}
 use Rattle.rpki_standing.specs.certs_basics.Uris.{lookup_key}
 use Rattle.rpki_walk.specs.Naming.{AreNamed}
-use Rattle.rpki_standing.specs.Manifests.{IsReadAt}
+use Rattle.rpki_rules.specs.PointReasons.{HasManifest}
+use Rattle.rpki_rules.proofs.PointReasons.{same_manifest}
 
 module _ (w : World) (ca : Cert) where
   -- The manifest that an authority's named file is listed by.
-  read_of : (key : List ℕ) (n : NamesFile w ca key) → IsReadAt w ca (record { signed = n.object; content = n.content })
-  read_of key n = record { uri = n.uri; uri_is = n.uri_is; octets = n.octets; held = n.held; reads = n.reads }
-
-  one_read : (k j : KindValue Manifest) → IsReadAt w ca k → IsReadAt w ca j → k.content ≡ j.content
-  one_read k j p q =
-      let u : Some p.uri ≡ Some q.uri = sym p.uri_is ∙ q.uri_is in
-      let uri : p.uri ≡ q.uri = cc in
-      let o : Some p.octets ≡ Some q.octets = sym p.held ∙ (ap (λ (x : List ℕ). at w x) uri ∙ q.held) in
-      let octets : p.octets ≡ q.octets = cc in
-      (one_manifest w.strict q.octets k.signed j.signed k.content j.content (subst (λ (x : List ℕ). ManifestText w.strict x k.signed k.content) octets p.reads) q.reads).1
+  read_of : (key : List ℕ) (n : NamesFile w ca key) → HasManifest w ca n.object n.content
+  read_of key n = record { octets = n.octets; has = record { uri = n.uri; uri_is = n.uri_is; held = n.held }; reads = n.reads }
 
   -- A manifest reads there.
-  pub listed_by : (k : KindValue Manifest) (keys : List (List ℕ)) → IsReadAt w ca k → keys ≡ files ca k.content → (key : List ℕ) → Mem keys key ↔ NamesFile w ca key
+  pub listed_by : (k : KindValue Manifest) (keys : List (List ℕ)) → HasManifest w ca k.signed k.content → keys ≡ files ca k.content → (key : List ℕ) → Mem keys key ↔ NamesFile w ca key
   listed_by k keys p e key = (
-    λ m. record { uri = p.uri; uri_is = p.uri_is; octets = p.octets; held = p.held; object = k.signed; content = k.content; reads = p.reads; listed = subst (λ (ks : List (List ℕ)). Mem ks key) e m },
-    λ n. subst (λ (ks : List (List ℕ)). Mem ks key) (sym e) (subst (λ (m : Manifest). Mem (files ca m) key) (one_read (record { signed = n.object; content = n.content }) k (read_of key n) p) n.listed),
+    λ m. record { uri = p.has.uri; uri_is = p.has.uri_is; octets = p.octets; held = p.has.held; object = k.signed; content = k.content; reads = p.reads; listed = subst (λ (ks : List (List ℕ)). Mem ks key) e m },
+    λ n. subst (λ (ks : List (List ℕ)). Mem ks key) (sym e) (subst (λ (m : Manifest). Mem (files ca m) key) (same_manifest w ca n.object k.signed n.content k.content (read_of key n) p).1 n.listed),
   )
 
   -- None does.
-  pub listed_none : (keys : List (List ℕ)) → ((k : KindValue Manifest) → ¬ (IsReadAt w ca k)) → keys ≡ [] → (key : List ℕ) → Mem keys key ↔ NamesFile w ca key
+  pub listed_none : (keys : List (List ℕ)) → ((o : Object) (m : Manifest) → ¬ (HasManifest w ca o m)) → keys ≡ [] → (key : List ℕ) → Mem keys key ↔ NamesFile w ca key
   listed_none keys n e key = (
     λ m. let wrong : ⊥ = subst (λ (ks : List (List ℕ)). Mem ks key) e m in absurd wrong,
-    λ f. absurd (n (record { signed = f.object; content = f.content }) (read_of key f)),
+    λ f. absurd (n f.object f.content (read_of key f)),
   )
 
   -- The authority has a manifest URI.
@@ -74,7 +67,7 @@ module _ (w : World) (ca : Cert) where
     ],
   )
 
-pub listed_told : {E : Type 0} (b : BundleValue) (ca : Cert) (k : KindValue Manifest) (m : Manifest) (r : Result (Vec (List ℕ) Global) E) → m ≡ k.content → ((d : Digests) (v : Verdicts) → IsReadAt (world_of d v b) ca k)
+pub listed_told : {E : Type 0} (b : BundleValue) (ca : Cert) (k : KindValue Manifest) (m : Manifest) (r : Result (Vec (List ℕ) Global) E) → m ≡ k.content → ((d : Digests) (v : Verdicts) → HasManifest (world_of d v b) ca k.signed k.content)
     → IfOk r (λ keys. keys.items ≡ files ca m) → IfOk r (λ keys. (d : Digests) (v : Verdicts) (key : List ℕ) → Mem keys.items key ↔ NamesFile (world_of d v b) ca key)
 listed_told b ca k m (Ok keys) e reads is = λ d v. listed_by (world_of d v b) ca k keys.items (reads d v) (is ∙ ap (files ca) e)
 listed_told b ca k m (Err x) e reads is = tt

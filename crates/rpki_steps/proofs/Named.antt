@@ -11,7 +11,10 @@ use Rattle.rpki_standing.specs.rpki_bundle.declared.parts.Locator.{Locator}
 use Rattle.rpki_standing.specs.rpki_bundle.declared.parts.Object.{Object}
 use Rattle.rpki_standing.specs.declared.anchors.lookup.LocatorLookup.{LocatorLookup}
 use Rattle.rpki_standing.specs.declared.anchors.lookup.LocatorLookup.TheVariants as To
-use Rattle.rpki_standing.specs.Lookups.{HoldsAt, HoldsNowhere, IsLocatorLookup, IsNoLocator}
+use Rattle.rpki_standing.specs.objects_payload.declared.locator.error.ReadError.{ReadError}
+use Rattle.rpki_rules.specs.declared.reason.locators.LocatorReason.TheVariants.{BadText, NoneHeld}
+use Rattle.rpki_rules.specs.LocatorReasons.{LocatorFails}
+use Rattle.rpki_standing.specs.Lookups.{HoldsAt, IsLocatorLookup}
 use Rattle.rpki_steps.specs.ClimbAnchors.{IsAnchorOf}
 
 -- The first that is held is held.
@@ -42,8 +45,8 @@ anchor_by w l key there octets uri c b leads at one_key one_uri h = (
 
 -- A locator that leads to no object has no anchor.
 pub no_anchor : (w : World) (l : Locator) (lead : LocatorLookup) → ((object : Bor Object) (tal : _) → lead ≡ To.Held object tal → ⊥) → IsLocatorLookup w l lead
-    → ((k : Key) (u o : List ℕ) → IsNoLocator l.text → ¬ (HoldsAt w l k u o)) → ((k : Key) (u o : List ℕ) → HoldsNowhere w l → ¬ (HoldsAt w l k u o)) → (a : Link) → ¬ (IsAnchorOf w l a)
-no_anchor w l To.Unreadable other lead unreadable nowhere a h = unreadable h.key a.uri h.octets lead h.leads
+    → ((fault : ReadError) (k : Key) (u o : List ℕ) → LocatorFails w l (BadText fault) → ¬ (HoldsAt w l k u o)) → ((k : Key) (u o : List ℕ) → LocatorFails w l NoneHeld → ¬ (HoldsAt w l k u o)) → (a : Link) → ¬ (IsAnchorOf w l a)
+no_anchor w l (To.Unreadable fault) other lead unreadable nowhere a h = unreadable fault h.key a.uri h.octets lead h.leads
 no_anchor w l To.Nowhere other lead unreadable nowhere a h = nowhere h.key a.uri h.octets lead h.leads
 no_anchor w l (To.Held object tal) other lead unreadable nowhere a h = other object tal refl
 

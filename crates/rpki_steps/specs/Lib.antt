@@ -1,6 +1,5 @@
 pub mod PlaceFiles
 pub mod Parts
-pub mod PlaceClaims
 pub mod Places
 pub mod Anchors
 pub mod Claims
@@ -10,7 +9,7 @@ pub mod Points
 pub mod Holders
 pub mod Below
 pub mod Anchored
-pub mod AcceptedOrNone
+pub mod Accepted
 pub mod ClimbAnchors
 -- What stands below, for the crates above.
 pub use Rattle.rpki_standing.specs.certs_key as certs_key
@@ -23,3 +22,4 @@ pub use Rattle.certs_verify.specs.certs_x509 as certs_x509
 pub use Rattle.rpki_walk.specs.resources_chain as resources_chain
 pub use Rattle.rpki_walk.specs.resources as resources
 pub use Rattle.rpki_walk.specs as rpki_walk
+pub use Rattle.rpki_judge.specs as rpki_judge

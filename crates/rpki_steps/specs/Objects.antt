@@ -1,12 +1,10 @@
 -- What objects attest, by what is held (RFC 9582 5, draft-ietf-sidrops-aspa-profile 4).
-use Rattle.std.specs.Prelude.{ℕ}
-use Rattle.rpki_rules.specs.Attests.{HoldsWith, IsCovered}
-use Rattle.rpki_rules.specs.Chains.{Fits}
-use Rattle.rpki_rules.specs.Kinds.{Kind}
-use Rattle.rpki_standing.specs.Published.{PublishedValue}
+use Rattle.std.specs.Prelude.{◌++◌, List, map}
+use Rattle.rpki_rules.specs.Attests.{Payload}
+use Rattle.rpki_rules.specs.Reasons.{kinds}
+use Rattle.rpki_rules.specs.FileReasons.{ObjectTest, ObjectClaim, cover_tests}
 
--- The claim of the object's certificate fits, and what it attests is held with that certificate. `held` says what is
--- held above it.
-pub record IsWithin (held : Kind → ℕ → Type 0) (x : PublishedValue) : Type 0 where
-  pub fits : Fits held x.object.cert
-  pub covered : IsCovered (HoldsWith held x.object.cert) x.payload
+-- The tests of an object that look at what is held: the claim of its certificate, kind by kind, and that what it attests is
+-- held with that.
+abbrev pub held_tests : Payload → List ObjectTest
+held_tests x = map ObjectClaim kinds ++ cover_tests x

@@ -1,31 +1,17 @@
--- What a publication point has beside its manifest: its files and its revocation list (RFC 9286 6.2, 6.4, 6.5).
-use Rattle.std.specs.Prelude.{◌≡◌, ℕ, List, Some}
-use Rattle.rpki_standing.specs.objects_valid.Kinds.{KindValue}
-use Rattle.rpki_rules.specs.Certs.{Cert, Crl}
-use Rattle.rpki_rules.specs.Objects.{Manifest}
-use Rattle.rpki_rules.specs.Points.{HasFiles, IsCrlOf, files}
-use Rattle.rpki_rules.specs.World.{World}
+-- What a publication point is told with: its files' octets, and where its revocation list stands (RFC 9286 6.4, RFC 6487 5).
+use Rattle.std.specs.Prelude.{◌≡◌, ℕ, List, Option, Some}
+use Rattle.rpki_rules.specs.Certs.{Cert}
+use Rattle.rpki_rules.specs.Points.{Point}
 use Rattle.rpki_steps.specs.declared.places.files.File.{File}
 use Rattle.rpki_steps.specs.PlaceFiles.{AreFilesOf}
 
--- The manifest's files are held as it lists them; these are their lookup keys, and the files.
-pub record AreHeld (w : World) (ca : Cert) (m : Manifest) (keys : List (List ℕ)) (fs : List File) : Type 0 where
-  pub held : HasFiles w ca m
-  pub keys_are : keys ≡ files ca m
-  pub files_are : AreFilesOf w.object ca m fs
+-- The certificate of the point's manifest names the revocation list by that URI, and these are the files that the manifest
+-- lists. `object` gives the octets of the object with a lookup key.
+pub record ArePartsOf (object : List ℕ → Option (List ℕ)) (ca : Cert) (p : Point)
+    (uri : List ℕ) (fs : List File) : Type 0 where
+  pub uri_is : p.object.cert.tbs.crl_uri ≡ Some uri
+  pub files_are : AreFilesOf object ca p.manifest fs
 
--- No revocation list is the one that the manifest's certificate names.
-abbrev pub HasNoList : World → Cert → KindValue Manifest → Type 0
-HasNoList w ca k = (crl : Crl) → ¬ (IsCrlOf w ca k.signed k.content crl)
-
--- The revocation list is the one that the manifest's certificate names, and this is how it is named.
-pub record IsNamedList (w : World) (ca : Cert) (k : KindValue Manifest) (uri : List ℕ) (crl : Crl) : Type 0 where
-  pub list : IsCrlOf w ca k.signed k.content crl
-  pub uri_is : k.signed.cert.tbs.crl_uri ≡ Some uri
-
--- The manifest's files are held as it lists them, these are they, and the revocation list is the one that its certificate
--- names by that URI.
-pub record ArePartsOf (w : World) (ca : Cert) (k : KindValue Manifest) (fs : List File) (uri : List ℕ) (crl : Crl) : Type 0 where
-  pub held : HasFiles w ca k.content
-  pub files_are : AreFilesOf w.object ca k.content fs
-  pub list_is : IsNamedList w ca k uri crl
+-- It names no list, or one of those files isn't held.
+abbrev pub HasNoParts : (List ℕ → Option (List ℕ)) → Cert → Point → Type 0
+HasNoParts object ca p = (uri : List ℕ) (fs : List File) → ¬ (ArePartsOf object ca p uri fs)

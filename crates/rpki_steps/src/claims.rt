@@ -1,12 +1,13 @@
 //! What a certificate claims of number resources below an authority (RFC 6487 7.2, RFC 8360 4.2).
 
-ghost use Rattle.std.specs.Prelude.{◌≡◌, ◌↔◌, IfOk, IsTrue};
+ghost use Rattle.std.specs.Prelude.{◌≡◌, IfOk, OnErr};
 ghost use Rattle.rpki_steps.specs.Holders.{sets_of};
 ghost use Rattle.rpki_rules.specs.Chains.{Fits};
 ghost use Rattle.rpki_rules.specs.Kinds.{InSet};
-ghost use Rattle.rpki_steps.specs.Claims.{FindsSets, claims_of};
+ghost use Rattle.rpki_steps.specs.Claims.{FindsSets, TellsFit, claims_of};
 
 use certs_verify::{Cert, ResourceCert};
+use rpki_rules::reason::Overclaimed;
 use rpki_walk::step::{Claim, Held, Holding, claim_fits, held_below};
 use std::alloc::{AllocError, Global};
 
@@ -34,15 +35,27 @@ fn claim_of(cert: &Cert) -> Claim<'_>
     }
 }
 
-/// Whether the certificate's claim fits in what the authority holds, by the certificate's own policy.
-pub fn fits_below(alloc: Global, cert: &Cert, ca: &ResourceCert) -> bool
-    ensures { IsTrue result ↔ Fits (InSet (sets_of ca.now)) cert.now }
+/// Whether the certificate's claim fits in what the authority holds, by the certificate's own policy; else the first kind of
+/// which it doesn't, IPv4 first, then IPv6, with the numbers that are listed and aren't held. Memory is wanted only to tell
+/// these.
+pub fn fits_below(
+    alloc: Global,
+    cert: &Cert,
+    ca: &ResourceCert,
+) -> Result<Result<(), Overclaimed>, AllocError>
+    ensures told { IfOk result (TellsFit (InSet (sets_of ca.now)) cert.now) }
+    ensures memory { OnErr result (¬ (Fits (InSet (sets_of ca.now)) cert.now)) }
 {
     claim_fits(alloc, &holding_of(ca), &claim_of(cert))
 }
 
-/// What the certificate holds below the authority, or nothing where its claim doesn't fit.
-pub fn sets_below(alloc: Global, cert: &Cert, ca: &ResourceCert) -> Result<Option<Held>, AllocError>
+/// What the certificate holds below the authority; where its claim doesn't fit, the first kind of which it doesn't, with the
+/// numbers that are listed and aren't held.
+pub fn sets_below(
+    alloc: Global,
+    cert: &Cert,
+    ca: &ResourceCert,
+) -> Result<Result<Held, Overclaimed>, AllocError>
     ensures { IfOk result (FindsSets (InSet (sets_of ca.now)) cert.now) }
 {
     held_below(alloc, &holding_of(ca), &claim_of(cert))

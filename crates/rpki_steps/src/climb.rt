@@ -1,8 +1,8 @@
 //! What the judge asks of a bundle (RFC 6487 7.2, RFC 8630 3, RFC 9286 6): the certificate at a lookup key, whether it is a
 //! locator's anchor, an authority's publication point, and the certificates and objects at its files.
 //!
-//! [`BundleEvidence`] answers each question of [`rpki_walk::judge::Evidence`] exactly, so that [`rpki_walk::judge::judge`] decides about
-//! a real bundle. What chains hold is looked at nowhere.
+//! [`crate::BundleRepository`] answers each question of [`rpki_judge::Evidence`] exactly, so that
+//! [`rpki_judge::judge`] decides about a real bundle. What chains hold is looked at nowhere.
 
 pub mod anchors;
 pub mod below;
@@ -12,7 +12,6 @@ pub mod files;
 pub mod needs;
 pub mod points;
 
-pub use evidence::BundleEvidence;
 pub use needs::needs_of;
+pub use rpki_judge::{Judgement, judge, laws};
 pub use rpki_standing::table::{Index, TableVerifier};
-pub use rpki_walk::judge::{Judgement, judge, laws};

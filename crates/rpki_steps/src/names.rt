@@ -11,23 +11,12 @@ ghost use Rattle.rpki_standing.specs.certs_basics.Uris.{lookup_key as key_of};
 ghost use Rattle.rpki_walk.specs.Naming.{AreLocatorKeys, AreNamed};
 
 use bytes::Bytes;
-use certs_basics::uri::grammar::lookup_key;
 use certs_verify::Cert;
 use rpki_standing::anchors::{TalUri, read_locator_text};
+use rpki_standing::points::key_at;
 use rpki_standing::table::{Index, Locator};
 use rpki_standing::{ManifestContent, files_of, manifest_at};
 use std::alloc::{AllocError, Global};
-
-// The lookup key of a URI.
-fn key_at(alloc: Global, uri: &[u8]) -> Result<Bytes, AllocError>
-    ensures { IfOk result (λ key. key ≡ key_of uri.now) }
-{
-    let key = lookup_key(alloc, uri)?;
-    match Bytes::from_vec(key) {
-        Ok(octets) => Ok(octets),
-        Err(_) => Err(AllocError),
-    }
-}
 
 // The lookup keys of URIs.
 fn keys_of(alloc: Global, uris: &[TalUri]) -> Result<Vec<Bytes>, AllocError>
@@ -45,7 +34,7 @@ fn keys_of(alloc: Global, uris: &[TalUri]) -> Result<Vec<Bytes>, AllocError>
 pub fn locator_keys(alloc: Global, locator: &Locator) -> Result<Option<Vec<Bytes>>, AllocError>
     ensures { IfOk result (AreLocatorKeys locator.now) }
 {
-    let Some(tal) = read_locator_text(alloc, locator)? else {
+    let Ok(tal) = read_locator_text(alloc, locator)? else {
         return Ok(None);
     };
     let keys = keys_of(alloc, tal.uris())?;
@@ -68,8 +57,8 @@ fn listed_keys(alloc: Global, ca: &Cert, index: &Index<'_>) -> Result<Vec<Bytes>
         → Mem keys.items key ↔ NamesFile (world_of d v index.now) ca.now key) }
 {
     match manifest_at(alloc, ca, index)? {
-        Some(manifest) => keys_by(alloc, ca, manifest.content()),
-        None => Ok(Vec::new(alloc)),
+        Ok(manifest) => keys_by(alloc, ca, manifest.content()),
+        Err(_) => Ok(Vec::new(alloc)),
     }
 }
 

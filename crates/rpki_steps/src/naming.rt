@@ -2,7 +2,7 @@
 
 use crate::authority::Authority;
 use crate::names::{locator_keys, named_keys};
-use crate::steps::BundleRepository;
+use crate::repository::BundleRepository;
 use bytes::Bytes;
 use certs_verify::{Digester, Verifier};
 use rpki_walk::reach::{Naming, ResourceSet};

@@ -4,7 +4,6 @@
 //! Each call decides exactly: it answers the point where one stands, and nothing where none does. Of a point that doesn't
 //! stand nothing counts.
 
-mod claims;
 pub mod files;
 mod kept;
 pub mod laws;

@@ -1,5 +1,6 @@
 mod Pieces
 pub mod Ends
+pub mod Options
 mod Forging
 mod Judging
 mod Printing

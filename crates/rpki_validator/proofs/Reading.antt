@@ -3,7 +3,7 @@ use Rattle.std.proofs.Common.{◌≡◌, ℕ, List, Result, Ok, Err, ap, ◌∙�
 use Rattle.std.specs.Prelude.{IfOk}
 use Rattle.rpki_validator.specs.rpki_rules.Attests.{WitnessValue}
 use Rattle.rpki_validator.specs.rpki_rules.World.{World}
-use Rattle.rpki_walk.specs.Counted.{ReadsPoints}
+use Rattle.rpki_steps.specs.rpki_judge.Counted.{ReadsPoints}
 
 abbrev witness_with : List ℕ → List (List ℕ) → List ℕ → WitnessValue
 witness_with name chain object = record { locator = name; chain = chain; object = object }

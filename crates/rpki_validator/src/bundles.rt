@@ -5,18 +5,20 @@ ghost use Rattle.rpki_validator.specs.certs_key.Digesting.{digests_of};
 ghost use Rattle.rpki_validator.specs.rpki_rules.Judge.{IsJudged, may_ask};
 ghost use Rattle.rpki_validator.specs.rpki_rules.Reach.{IsReach};
 ghost use Rattle.rpki_validator.specs.rpki_rules.World.{world_of};
+ghost use Rattle.rpki_rules.specs.DiagnosisViews.{AreDiagnoses};
 ghost use Rattle.rpki_rules.specs.Report.{IsReport};
 ghost use Rattle.rpki_rules.specs.Views.{witness_of, path_of};
 ghost use Rattle.rpki_walk.specs.Chained.{AreNamingChains};
 ghost use Rattle.rpki_walk.specs.Cost.{IsCost};
-ghost use Rattle.rpki_walk.specs.Counted.{ReadsPoints, may_ask_reading};
+ghost use Rattle.rpki_steps.specs.rpki_judge.Counted.{ReadsPoints, may_ask_reading};
 ghost use Rattle.rpki_walk.specs.Naming.{answer_of};
 ghost use Rattle.rpki_walk.specs.Printed.{AreLines};
 
 use bytes::Bytes;
 use rpki_bundle::{Bundle, Digester, Verifier};
+use rpki_rules::reason::Diagnosis;
 use rpki_rules::{Path, Report, Witness};
-use rpki_steps::climb::{BundleEvidence, Judgement};
+use rpki_steps::climb::Judgement;
 use rpki_steps::{BundleRepository, Index};
 use rpki_walk::cost::Cost;
 use rpki_walk::reach::Reach;
@@ -72,13 +74,38 @@ pub fn walk_lines<D: Digester, V: Verifier>(
     report
 }
 
+/// All that is refused in a bundle, by these digests and this verifier, each with the first test that fails: locators,
+/// publication points of accepted chains, and files of those that stand. Each stands once, by name, then by locator and chain;
+/// of a claim that isn't held it tells the numbers that aren't. Refused for lack of memory alone.
+pub fn diagnose<D: Digester, V: Verifier>(
+    alloc: Global,
+    bundle: &Bundle,
+    digester: &D,
+    verifier: &mut V,
+) -> Result<Vec<Diagnosis>, AllocError>
+    ensures diagnoses { IfOk result (λ found. AreDiagnoses (world_of
+        (digests_of D.sha256_digest D.sha1_digest digester.now) (V.says verifier.old)
+        bundle.now) found.items) }
+    ensures same { V.says verifier.new ≡ V.says verifier.old }
+{
+    let mut repository = BundleRepository::new(Index::new(bundle), digester, verifier);
+    let diagnosed = rpki_walk::diagnose(alloc, &mut repository);
+    // So the caller's verifier is the one that was asked.
+    let BundleRepository {
+        verifier: asked,
+        ..
+    } = repository;
+    let _asked = asked;
+    diagnosed
+}
+
 /// Whether the witness is one of those that a walk of the bundle lists. It is read from its object upward, so that the
 /// verifier is asked for a few signatures a certificate, however much the bundle has: at most 4 times the chain's length
 /// and 2 more, whatever the answer, and at most 4 times the publication points that were read and 4 more. Refused for lack
 /// of memory alone.
 pub fn judge_by<D: Digester, V: Verifier>(
     alloc: Global,
-    evidence: &mut BundleEvidence<'_, D, V>,
+    evidence: &mut BundleRepository<'_, D, V>,
     witness: &Witness,
 ) -> Result<Judgement, AllocError>
     ensures judged { IfOk result (λ j. IsJudged (world_of
@@ -129,10 +156,10 @@ pub fn judge<D: Digester, V: Verifier>(
     ensures asked_reading { IfOk result (λ j. V.count verifier.new
         ≤ V.count verifier.old + may_ask_reading j.points) }
 {
-    let mut evidence = BundleEvidence::new(Index::new(bundle), digester, verifier);
+    let mut evidence = BundleRepository::new(Index::new(bundle), digester, verifier);
     let judged = judge_by(alloc, &mut evidence, witness);
     // So the caller's verifier is the one that was asked.
-    let BundleEvidence {
+    let BundleRepository {
         verifier: asked,
         ..
     } = evidence;

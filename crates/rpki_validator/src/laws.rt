@@ -6,6 +6,7 @@ ghost use Rattle.rpki_rules.specs.Versions.{RelaxedKeeps};
 
 pub use rpki_bundle::laws::bundle_length;
 pub use rpki_rules::laws::upgrade_stays;
+pub use rpki_rules::reason::laws::refusals_are_diagnosed;
 pub use rpki_steps::climb::laws::{
     cut_down_keeps, deeper_keeps, verdict_removal, what_is_attested_is_listed,
 };

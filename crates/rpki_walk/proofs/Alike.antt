@@ -10,7 +10,7 @@ use Rattle.rpki_rules.specs.declared.cause.Cause.{Cause}
 use Rattle.rpki_rules.specs.declared.cause.Cause.TheVariants as cause
 use Rattle.rpki_rules.specs.Refused.{IsIssued, IsFileRefused}
 use Rattle.rpki_rules.proofs.Fronts.{front_itself, accepted_up, keys_count}
-use Rattle.rpki_walk.specs.Facts.{Finding, Refuses, Shows, Originates, Provides, Reaches, Chains, ShownBy, RefusedBy, Tells, Found}
+use Rattle.rpki_walk.specs.Facts.{Finding, Refuses, Shows, Originates, Provides, Reaches, Chains, Diagnoses, Unheld, ShownBy, RefusedBy, Tells, Found}
 use Rattle.rpki_walk.specs.Alike.{IsPrinted, IsMetAt, Meets, EndAlike, AlikeTellAlike}
 use Rattle.rpki_walk.proofs.Findings.{stands_to, issued_to, good_to, refused_to}
 
@@ -151,6 +151,8 @@ module _ (w : World) (met : List (List ℕ)) (name other : List ℕ) (a b : Link
   shown_alike s t y (Provides z) i h = h
   shown_alike s t y (Reaches k n) i h = h
   shown_alike s t y (Chains v) i h = h
+  shown_alike s t y (Diagnoses told) i h = h
+  shown_alike s t y (Unheld told numbers) i h = h
 
   refused_told : (o es : List Link) (e : EndAlike met a o b es) (p : Point) (uri : List ℕ) → ((c : Cert) → IsIssued w (Holds a o) (last_of a o).cert p uri c → Mem met c.tbs.subject_key_identifier) → (x : Finding) → RefusedBy w (Holds b es) (keys b es) (last_of b es).cert p uri x → RefusedBy w (Holds a o) (keys a o) (last_of a o).cert p uri x
   refused_told o es e p uri known (Refuses n why) r = (r.0, refused_alike o es e p uri known why r.1)
@@ -159,17 +161,21 @@ module _ (w : World) (met : List (List ℕ)) (name other : List ℕ) (a b : Link
   refused_told o es e p uri known (Provides z) r = r
   refused_told o es e p uri known (Reaches k n) r = r
   refused_told o es e p uri known (Chains v) r = r
+  refused_told o es e p uri known (Diagnoses told) r = r
+  refused_told o es e p uri known (Unheld told numbers) r = r
 
   tells_alike : (o es : List Link) (f : IsFront cs o) (h : Accepted w name a o) (e : EndAlike met a o b es) (x : Finding) → IsPrinted x → Tells [] w other b es x → Tells [] w name a o x
   tells_alike o es f h e x i (inl r) = absurd (not_reached x i r)
     where
-      not_reached : (x : Finding) → IsPrinted x → ¬ (Rattle.rpki_walk.specs.Facts.ReachedBy [] w (Holds b es) (record { locator = other; chain = places b es }) (last_of b es).cert x)
+      not_reached : (x : Finding) → IsPrinted x → ¬ (Rattle.rpki_walk.specs.Facts.ReachedBy [] w (Holds b es) (keys b es) (record { locator = other; chain = places b es }) (last_of b es).uri (last_of b es).cert x)
       not_reached (Refuses n why) i r = r
       not_reached (Shows u) i r = r
       not_reached (Originates z) i r = r
       not_reached (Provides z) i r = r
       not_reached (Reaches k n) i r = i
       not_reached (Chains v) i r = i
+      not_reached (Diagnoses told) i r = i
+      not_reached (Unheld told numbers) i r = i
   tells_alike o es f h e x i (inr (inl t)) = inr (inl (
     subst (λ (l : Link). Refuses l.uri cause.Point ≡ x) (sym e.last) t.0,
     λ p s. t.1 p (stands_alike w met b a es o (alike_turned met a b o es e) p s),

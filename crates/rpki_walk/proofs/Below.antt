@@ -244,7 +244,7 @@ module _ (w : World) (old : LinesWalk) (name : List ℕ) (a : Link) (cs : List L
   -- Where no point stands, the refusal is all.
   pub none_told : (new : LinesWalk) (from : ℕ) → ((p : Point) → ¬ (StandsIn w (InSet sets) ca p)) → Gains IsPrinted (has_lines old.lines) (λ x. Refuses uri cause.Point ≡ x) (has_lines new.lines) → new.met.items ≡ old.met.items → new.before.walked.items ≡ old.before.walked.items → AreWalked w old → TellsBelow w old new name a cs from
   none_told new from n g em eb all = record {
-    gained = none_here IsPrinted [] w name a cs here on uri ca sets st acc n (has_lines old.lines) (has_lines old.lines) (has_lines new.lines) (λ x i. (λ m. inl m, λ m. elim m [ inl o ↦ o | inr r ↦ absurd (not_reached w (InSet sets) ca x i [] here r) ])) g;
+    gained = none_here IsPrinted [] w name a cs here on uri ca sets st acc n (has_lines old.lines) (has_lines old.lines) (has_lines new.lines) (λ x i. (λ m. inl m, λ m. elim m [ inl o ↦ o | inr r ↦ absurd (not_reached w (InSet sets) ca x i [] on here uri r) ])) g;
     grown = grown;
     meets = meets_at_none w name a cs (drop from new.met.items) (λ p s. n p (stands_back p s));
     walked = walked_more w old new eb grown (gained_more (has_lines old.lines) (has_lines new.lines) (λ x. Refuses uri cause.Point ≡ x) g) all;
@@ -270,7 +270,7 @@ module _ (w : World) (old : LinesWalk) (name : List ℕ) (a : Link) (cs : List L
           let f = all_here IsPrinted [] w name a cs here on uri ca sets st p acc s x in (
             λ q. elim q [ inl n ↦ absurd n | inr h ↦ f.0 (inr (h.0, subst (λ (xs : List (List ℕ)). Mem xs h.0) ef h.1, h.2)) ],
             λ q. elim (f.1 q) [
-              | inl y ↦ absurd (not_reached w (InSet sets) ca x i [] here y)
+              | inl y ↦ absurd (not_reached w (InSet sets) ca x i [] on here uri y)
               | inr h ↦ inr (h.0, subst (λ (xs : List (List ℕ)). Mem xs h.0) (sym ef) h.1, h.2)
             ],
           )

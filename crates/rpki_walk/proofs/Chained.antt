@@ -14,7 +14,7 @@ use Rattle.rpki_rules.specs.Words.{Mem}
 use Rattle.rpki_rules.specs.World.{World}
 use Rattle.rpki_rules.proofs.Orders.{mem_append, mem_map}
 use Rattle.rpki_rules.proofs.Sets.{list_equal, octets_equal, then_equal}
-use Rattle.rpki_walk.specs.Facts.{Chains, Gains, IsFinding, Originates, Provides, ReachedBy, Reaches, Refuses, ShownBy, Shows}
+use Rattle.rpki_walk.specs.Facts.{Chains, Diagnoses, Unheld, Gains, IsFinding, Originates, Provides, ReachedBy, Reaches, Refuses, ShownBy, Shows}
 use Rattle.rpki_walk.specs.Chained.{AreNamingChains, IsChains, IsNamingChain, has_chained, path_cmp}
 use Rattle.rpki_walk.specs.declared.reach.chains.Namer.{Namer}
 
@@ -25,6 +25,8 @@ refuse_gains n name why (Originates s) t = absurd t
 refuse_gains n name why (Provides s) t = absurd t
 refuse_gains n name why (Reaches k m) t = absurd t
 refuse_gains n name why (Chains v) t = (λ m. inl m, λ m. elim m [ inl a ↦ a | inr e ↦ absurd (let p = e in cc) ])
+refuse_gains n name why (Diagnoses told) t = absurd t
+refuse_gains n name why (Unheld told numbers) t = absurd t
 
 pub show_gains : (n : Namer) (t : WitnessValue) (x : Payload) → Gains IsChains (has_chained n) (ShownBy t x) (has_chained n)
 show_gains n t x (Refuses m y) q = absurd q
@@ -33,23 +35,29 @@ show_gains n t x (Originates s) q = absurd q
 show_gains n t x (Provides s) q = absurd q
 show_gains n t x (Reaches k m) q = absurd q
 show_gains n t x (Chains v) q = (λ m. inl m, λ m. elim m [ inl a ↦ a | inr e ↦ absurd e ])
+show_gains n t x (Diagnoses told) q = absurd q
+show_gains n t x (Unheld told numbers) q = absurd q
 
 -- A chain that names none, and one that names one.
-module _ (uris : List (List ℕ)) (w : World) (held : Kind → ℕ → Type 0) (path : PathValue) (ca : Cert) where
-  pub none_gains : (n : Namer) → ¬ (NamesOne uris w ca) → Gains IsChains (has_chained n) (ReachedBy uris w held path ca) (has_chained n)
+module _ (uris : List (List ℕ)) (w : World) (held : Kind → ℕ → Type 0) (on : List (List ℕ)) (path : PathValue) (uri : List ℕ) (ca : Cert) where
+  pub none_gains : (n : Namer) → ¬ (NamesOne uris w ca) → Gains IsChains (has_chained n) (ReachedBy uris w held on path uri ca) (has_chained n)
   none_gains n lacks (Refuses m y) q = absurd q
   none_gains n lacks (Shows s) q = absurd q
   none_gains n lacks (Originates s) q = absurd q
   none_gains n lacks (Provides s) q = absurd q
   none_gains n lacks (Reaches k m) q = absurd q
   none_gains n lacks (Chains v) q = (λ m. inl m, λ m. elim m [ inl a ↦ a | inr e ↦ absurd (lacks e.0) ])
+  none_gains n lacks (Diagnoses told) q = absurd q
+  none_gains n lacks (Unheld told numbers) q = absurd q
 
-  pub one_gains : (n m : Namer) → NamesOne uris w ca → (seen : PathValue) → ((v : PathValue) → Mem (map (λ p. path_of p.value) m.paths.items) v ↔ (Mem (map (λ p. path_of p.value) n.paths.items) v ⊎ (seen ≡ v))) → seen ≡ path → Gains IsChains (has_chained n) (ReachedBy uris w held path ca) (has_chained m)
+  pub one_gains : (n m : Namer) → NamesOne uris w ca → (seen : PathValue) → ((v : PathValue) → Mem (map (λ p. path_of p.value) m.paths.items) v ↔ (Mem (map (λ p. path_of p.value) n.paths.items) v ⊎ (seen ≡ v))) → seen ≡ path → Gains IsChains (has_chained n) (ReachedBy uris w held on path uri ca) (has_chained m)
   one_gains n m names seen more same (Refuses k y) q = absurd q
   one_gains n m names seen more same (Shows s) q = absurd q
   one_gains n m names seen more same (Originates s) q = absurd q
   one_gains n m names seen more same (Provides s) q = absurd q
   one_gains n m names seen more same (Reaches k i) q = absurd q
+  one_gains n m names seen more same (Diagnoses told) q = absurd q
+  one_gains n m names seen more same (Unheld told numbers) q = absurd q
   one_gains n m names seen more same (Chains v) q = let h = more v in (
     λ a. elim (h.0 a) [ inl b ↦ inl b | inr b ↦ inr (names, sym same ∙ b) ],
     λ a. h.1 (elim a [ inl b ↦ inl b | inr b ↦ inr (same ∙ b.1) ]),

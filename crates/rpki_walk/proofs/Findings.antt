@@ -1,57 +1,27 @@
 -- What files and chains tell, and what the walk gains by them.
-use Rattle.std.proofs.Common.{◌≡◌, ◌-◌, Bool, IsTrue, drop, ℕ, ◌+◌, ◌<◌, ◌≤◌, ◌⊎◌, ◌↔◌, true, List, [], ◌∷◌, ◌++◌, length, Option, Some, None, refl, sym, ap, subst, ◌∙◌, inl, inr, arith, take, get_or}
-use Rattle.rpki_walk.specs.resources_chain.Claims.{Choice, FitsIn}
-use Rattle.rpki_walk.specs.resources_chain.declared.claims.Overclaim.{Overclaim}
-use Rattle.rpki_walk.specs.resources_chain.declared.claims.Overclaim.TheVariants.{Refuse, Trim}
+use Rattle.std.proofs.Common.{◌≡◌, ◌-◌, Bool, IsTrue, drop, ℕ, ◌<◌, ◌≤◌, ◌⊎◌, ◌↔◌, true, List, [], ◌∷◌, ◌++◌, length, Option, Some, None, refl, sym, ap, subst, ◌∙◌, inl, inr, arith, take, get_or}
 use Rattle.rpki_walk.specs.resources.Resources.{Resources}
 use Rattle.rpki_rules.specs.Certs.{Cert, ca_is_ca}
-use Rattle.rpki_rules.specs.Objects.{Object, RoaAddress}
+use Rattle.rpki_rules.specs.Objects.{Object}
 use Rattle.rpki_rules.specs.declared.cause.Cause.{Cause}
 use Rattle.rpki_rules.specs.declared.cause.Cause.TheVariants as cause
 use Rattle.rpki_rules.specs.Words.{Mem}
-use Rattle.rpki_rules.specs.Kinds.{Kind, Ipv4, Ipv6, As, claim, InSet}
+use Rattle.rpki_rules.specs.Kinds.{Kind, InSet}
 use Rattle.rpki_rules.specs.World.{World}
 use Rattle.rpki_rules.specs.Points.{Link, Point, files}
-use Rattle.rpki_rules.specs.Chains.{last_of, places, keys, Holds, Fits, StandsIn, Stands, HasExtension, roa, asa, IsChild, Accepted}
+use Rattle.rpki_rules.specs.Chains.{last_of, places, keys, Holds, StandsIn, Stands, HasExtension, roa, asa, IsChild, Accepted}
 use Rattle.rpki_rules.proofs.Readings.{one_cert_at, one_point, one_good, no_cer_payload}
 use Rattle.rpki_rules.proofs.Fronts.{front_itself, front_up, front_cases, accepted_front, keys_count}
 use Rattle.rpki_rules.specs.Views.{PathValue}
-use Rattle.rpki_rules.specs.Attests.{Payload, OfRoa, OfAspa, PayloadText, AreHeld, IsCovered, HoldsWith, WitnessValue, IsGood}
+use Rattle.rpki_rules.specs.Attests.{Payload, OfRoa, OfAspa, PayloadText, WitnessValue, IsGood}
 use Rattle.rpki_rules.specs.Refused.{IsFileRefused, IsBadCer, IsBadPayload, IsIssued}
 use Rattle.rpki_walk.specs.Repository.{IsIgnored, HasKept, IsRead}
-use Rattle.rpki_walk.specs.Facts.{Finding, Refuses, Shows, Originates, Provides, Reaches, Chains, ShownBy, ReachedBy, RefusedBy, TellsFile, Tells, Found, Stand, FromFile, Classified, Gains, Walks}
+use Rattle.rpki_walk.specs.Facts.{Finding, Refuses, Shows, Originates, Provides, Reaches, Chains, Diagnoses, Unheld, ShownBy, ReachedBy, RefusedBy, TellsFile, Tells, Found, Stand, FromFile, Classified, Gains, Walks}
 use Rattle.rpki_walk.specs.declared.chains.Outcome.{Outcome}
 use Rattle.rpki_walk.specs.declared.chains.Outcome.TheVariants as Does
 use Rattle.rpki_walk.proofs.Mems.{gains_same, gains_none, gains_more}
-
--- Between two sets with the same numbers.
-module _ (h k : Kind → ℕ → Type 0) (to : (i : Kind) (n : ℕ) → h i n → k i n) where
-  fits_in_to : (m : Overclaim) (c : Choice) (i : Kind) → FitsIn m c (h i) → FitsIn m c (k i)
-  fits_in_to Refuse c i f = λ n l. to i n (f n l)
-  fits_in_to Trim c i f = f
-
-  pub fits_to : (c : Cert) → Fits h c → Fits k c
-  fits_to c f i = fits_in_to c.tbs.overclaim (claim c i) i (f i)
-
-  pub stands_to : (w : World) (ca : Cert) (p : Point) → StandsIn w h ca p → StandsIn w k ca p
-  stands_to w ca p s = record { point = s.point; fits = fits_to p.object.cert s.fits }
-
-  pub child_to : (w : World) (ca : Cert) (p : Point) (c : Cert) → IsChild w h ca p c → IsChild w k ca p c
-  child_to w ca p c i = record { sound = i.sound; fits = fits_to c i.fits }
-
-  pub issued_to : (w : World) (ca : Cert) (p : Point) (uri : List ℕ) (c : Cert) → IsIssued w h ca p uri c → IsIssued w k ca p uri c
-  issued_to w ca p uri c i = record { extension = i.extension; reads = i.reads; child = child_to w ca p c i.child }
-
-  held_to : (c : Cert) (i : Kind) (rs : List RoaAddress) → AreHeld (HoldsWith h c i) rs → AreHeld (HoldsWith k c i) rs
-  held_to c i [] e = e
-  held_to c i (a ∷ rs) e = (λ n m. let p = e.0 n m in (p.0, to i n p.1), held_to c i rs e.1)
-
-  covered_to : (c : Cert) (x : Payload) → IsCovered (HoldsWith h c) x → IsCovered (HoldsWith k c) x
-  covered_to c (OfRoa r) e = (held_to c Ipv4 r.v4 e.0, held_to c Ipv6 r.v6 e.1)
-  covered_to c (OfAspa a) e = (e.0, to As a.customer e.1)
-
-  pub good_to : (w : World) (ca : Cert) (p : Point) (uri : List ℕ) (x : Payload) → IsGood w h ca p uri x → IsGood w k ca p uri x
-  good_to w ca p uri x g = record { object = g.object; is_signed = g.is_signed; fits = fits_to g.object.cert g.fits; covered = covered_to g.object.cert x g.covered }
+use Rattle.rpki_walk.proofs.ReasonMoves.{ends_to, tells_to}
+pub use Rattle.rpki_walk.proofs.Moves.{fits_to, stands_to, child_to, issued_to, good_to}
 
 pub refused_to : (h k : Kind → ℕ → Type 0) → ((i : Kind) (n : ℕ) → h i n ↔ k i n) → (w : World) (on : List (List ℕ)) (count : ℕ) (ca : Cert) (p : Point) (uri : List ℕ) (why : Cause) → IsFileRefused w h on count ca p uri why → IsFileRefused w k on count ca p uri why
 refused_to h k e w on count ca p uri cause.Tal r = r
@@ -77,14 +47,18 @@ refused_parts w held on ca p uri (Originates o) t = absurd t
 refused_parts w held on ca p uri (Provides o) t = absurd t
 refused_parts w held on ca p uri (Reaches k n) t = absurd t
 refused_parts w held on ca p uri (Chains v) t = absurd t
+refused_parts w held on ca p uri (Diagnoses told) t = absurd t
+refused_parts w held on ca p uri (Unheld told numbers) t = absurd t
 
-pub reached_to : (uris : List (List ℕ)) (w : World) (h k : Kind → ℕ → Type 0) (path : PathValue) (ca : Cert) → ((i : Kind) (n : ℕ) → h i n → k i n) → (x : Finding) → ReachedBy uris w h path ca x → ReachedBy uris w k path ca x
-reached_to uris w h k path ca to (Refuses n why) r = r
-reached_to uris w h k path ca to (Shows s) r = r
-reached_to uris w h k path ca to (Originates o) r = r
-reached_to uris w h k path ca to (Provides o) r = r
-reached_to uris w h k path ca to (Reaches i n) r = (r.0, to i n r.1)
-reached_to uris w h k path ca to (Chains v) r = r
+pub reached_to : (uris : List (List ℕ)) (w : World) (h k : Kind → ℕ → Type 0) (on : List (List ℕ)) (path : PathValue) (uri : List ℕ) (ca : Cert) → ((i : Kind) (n : ℕ) → h i n ↔ k i n) → (x : Finding) → ReachedBy uris w h on path uri ca x → ReachedBy uris w k on path uri ca x
+reached_to uris w h k on path uri ca e (Refuses n why) r = r
+reached_to uris w h k on path uri ca e (Shows s) r = r
+reached_to uris w h k on path uri ca e (Originates o) r = r
+reached_to uris w h k on path uri ca e (Provides o) r = r
+reached_to uris w h k on path uri ca e (Reaches i n) r = (r.0, (e i n).0 r.1)
+reached_to uris w h k on path uri ca e (Chains v) r = r
+reached_to uris w h k on path uri ca e (Diagnoses told) r = ends_to h k e w on path uri ca told r
+reached_to uris w h k on path uri ca e (Unheld told numbers) r = tells_to h k e w on path uri ca told numbers r
 
 module _ (uris : List (List ℕ)) (w : World) (name : List ℕ) (a : Link) (cs : List Link) where
   abbrev ca : Cert
@@ -94,7 +68,7 @@ module _ (uris : List (List ℕ)) (w : World) (name : List ℕ) (a : Link) (cs :
   here = record { locator = name; chain = places a cs }
 
   -- Where the point stands, what is found is what the chain reaches and what its files add.
-  pub found_at_point : (p : Point) → Accepted w name a cs → Stands w a cs p → (x : Finding) → (ReachedBy uris w (Holds a cs) here ca x ⊎ ((uri : List ℕ) × Mem (files ca p.manifest) uri × FromFile uris w name a cs p uri x)) ↔ Found uris w name a cs x
+  pub found_at_point : (p : Point) → Accepted w name a cs → Stands w a cs p → (x : Finding) → (ReachedBy uris w (Holds a cs) (keys a cs) here (last_of a cs).uri ca x ⊎ ((uri : List ℕ) × Mem (files ca p.manifest) uri × FromFile uris w name a cs p uri x)) ↔ Found uris w name a cs x
   found_at_point p acc s x = (
     λ g. elim g [
       | inl r ↦ record { chain = cs; front = front_itself cs; accepted = acc; tells = inl r }
@@ -128,7 +102,7 @@ module _ (uris : List (List ℕ)) (w : World) (name : List ℕ) (a : Link) (cs :
   )
 
   -- And where none stands, what the chain reaches and the refusal.
-  pub found_at_none : Accepted w name a cs → ((p : Point) → ¬ (Stands w a cs p)) → (x : Finding) → (ReachedBy uris w (Holds a cs) here ca x ⊎ (Refuses (last_of a cs).uri cause.Point ≡ x)) ↔ Found uris w name a cs x
+  pub found_at_none : Accepted w name a cs → ((p : Point) → ¬ (Stands w a cs p)) → (x : Finding) → (ReachedBy uris w (Holds a cs) (keys a cs) here (last_of a cs).uri ca x ⊎ (Refuses (last_of a cs).uri cause.Point ≡ x)) ↔ Found uris w name a cs x
   found_at_none acc n x = (
     λ g. record { chain = cs; front = front_itself cs; accepted = acc; tells = elim g [ inl r ↦ inl r | inr e ↦ inr (inl (e, n)) ] },
     λ f. elim (front_cases cs f.chain f.front) [
@@ -293,16 +267,24 @@ module _ (wants : Finding → Type 0) (uris : List (List ℕ)) (w : World) (name
   path_is_told : path ≡ told_path
   path_is_told = λ i. record { locator = st.name_is i; chain = st.path_is i }
 
-  reached_here : (x : Finding) → ReachedBy uris w (InSet sets) path ca x ↔ ReachedBy uris w (Holds a cs) told_path (last_of a cs).cert x
-  reached_here x =
-      let own : ReachedBy uris w (InSet sets) path ca x ↔ ReachedBy uris w (Holds a cs) path ca x =
-      (reached_to uris w (InSet sets) (Holds a cs) path ca (λ k n. (st.holds k n).0) x, reached_to uris w (Holds a cs) (InSet sets) path ca (λ k n. (st.holds k n).1) x) in
-      let by_path = subst (λ (v : PathValue). ReachedBy uris w (InSet sets) path ca x ↔ ReachedBy uris w (Holds a cs) v ca x) path_is_told own in
-      subst (λ (l : Cert). ReachedBy uris w (InSet sets) path ca x ↔ ReachedBy uris w (Holds a cs) told_path l x) st.ca_is by_path
+  -- What the chain reaches by the walk's variables.
+  abbrev Reached : Finding → Type 0
+  Reached x = ReachedBy uris w (InSet sets) on path uri ca x
 
-  pub none_here : Accepted w name a cs → ((p : Point) → ¬ (StandsIn w (InSet sets) ca p)) → (old mid new : Finding → Type 0) → Gains wants old (ReachedBy uris w (InSet sets) path ca) mid → Gains wants mid (λ x. Refuses uri cause.Point ≡ x) new → Gains wants old (Found uris w name a cs) new
+  reached_here : (x : Finding) → Reached x ↔ ReachedBy uris w (Holds a cs) (keys a cs) told_path (last_of a cs).uri (last_of a cs).cert x
+  reached_here x =
+      let own : Reached x ↔ ReachedBy uris w (Holds a cs) on path uri ca x = (
+        reached_to uris w (InSet sets) (Holds a cs) on path uri ca st.holds x,
+        reached_to uris w (Holds a cs) (InSet sets) on path uri ca (λ k n. ((st.holds k n).1, (st.holds k n).0)) x,
+      ) in
+      let by_keys = subst (λ (k : List (List ℕ)). Reached x ↔ ReachedBy uris w (Holds a cs) k path uri ca x) st.on_is own in
+      let by_path = subst (λ (v : PathValue). Reached x ↔ ReachedBy uris w (Holds a cs) (keys a cs) v uri ca x) path_is_told by_keys in
+      let by_uri = subst (λ (u : List ℕ). Reached x ↔ ReachedBy uris w (Holds a cs) (keys a cs) told_path u ca x) st.uri_is by_path in
+      subst (λ (l : Cert). Reached x ↔ ReachedBy uris w (Holds a cs) (keys a cs) told_path (last_of a cs).uri l x) st.ca_is by_uri
+
+  pub none_here : Accepted w name a cs → ((p : Point) → ¬ (StandsIn w (InSet sets) ca p)) → (old mid new : Finding → Type 0) → Gains wants old (ReachedBy uris w (InSet sets) on path uri ca) mid → Gains wants mid (λ x. Refuses uri cause.Point ≡ x) new → Gains wants old (Found uris w name a cs) new
   none_here acc n old mid new g h =
-      gains_more wants old mid new (ReachedBy uris w (InSet sets) path ca) (λ x. Refuses uri cause.Point ≡ x) (Found uris w name a cs) g h (λ x.
+      gains_more wants old mid new (ReachedBy uris w (InSet sets) on path uri ca) (λ x. Refuses uri cause.Point ≡ x) (Found uris w name a cs) g h (λ x.
       let f = found_at_none uris w name a cs acc (λ p s. n p (stands_there p s)) x in
       let r = reached_here x in
       let e : (Refuses uri cause.Point ≡ x) ↔ (Refuses (last_of a cs).uri cause.Point ≡ x) = subst (λ (u : List ℕ). (Refuses uri cause.Point ≡ x) ↔ (Refuses u cause.Point ≡ x)) st.uri_is (λ q. q, λ q. q) in (
@@ -310,9 +292,9 @@ module _ (wants : Finding → Type 0) (uris : List (List ℕ)) (w : World) (name
         λ q. f.0 (elim q [ inl y ↦ inl (r.0 y) | inr y ↦ inr (e.0 y) ]),
       ))
 
-  pub all_here : (p : Point) → Accepted w name a cs → StandsIn w (InSet sets) ca p → (x : Finding) → (ReachedBy uris w (InSet sets) path ca x ⊎ ((u : List ℕ) × Mem (files ca p.manifest) u × FromFile uris w name a cs p u x)) ↔ Found uris w name a cs x
+  pub all_here : (p : Point) → Accepted w name a cs → StandsIn w (InSet sets) ca p → (x : Finding) → (ReachedBy uris w (InSet sets) on path uri ca x ⊎ ((u : List ℕ) × Mem (files ca p.manifest) u × FromFile uris w name a cs p u x)) ↔ Found uris w name a cs x
   all_here p acc s x =
-      let f = subst (λ (l : Cert). (ReachedBy uris w (Holds a cs) told_path (last_of a cs).cert x ⊎ ((u : List ℕ) × Mem (files l p.manifest) u × FromFile uris w name a cs p u x)) ↔ Found uris w name a cs x) (sym st.ca_is) (found_at_point uris w name a cs p acc (stands_here p s) x) in
+      let f = subst (λ (l : Cert). (ReachedBy uris w (Holds a cs) (keys a cs) told_path (last_of a cs).uri (last_of a cs).cert x ⊎ ((u : List ℕ) × Mem (files l p.manifest) u × FromFile uris w name a cs p u x)) ↔ Found uris w name a cs x) (sym st.ca_is) (found_at_point uris w name a cs p acc (stands_here p s) x) in
       let r = reached_here x in (
         λ q. f.0 (elim q [ inl y ↦ inl (r.0 y) | inr y ↦ inr y ]),
         λ q. elim (f.1 q) [ inl y ↦ inl (r.1 y) | inr y ↦ inr y ],

@@ -8,7 +8,7 @@ use Rattle.rpki_rules.specs.declared.refusal.Refusal.{Refusal}
 use Rattle.rpki_rules.specs.declared.origin.Origin.{Origin}
 use Rattle.rpki_rules.specs.declared.customer.Provision.{Provision}
 use Rattle.rpki_rules.proofs.Orders.{mem_append}
-use Rattle.rpki_walk.specs.Facts.{Refuses, Shows, Originates, Provides, Reaches, Chains, ShownBy, Gains}
+use Rattle.rpki_walk.specs.Facts.{Refuses, Shows, Originates, Provides, Reaches, Chains, Diagnoses, Unheld, ShownBy, Gains}
 use Rattle.rpki_walk.specs.Alike.{IsPrinted}
 use Rattle.rpki_walk.specs.Walked.{has_lines}
 use Rattle.rpki_walk.specs.declared.lines.found.LinesFound.{LinesFound}
@@ -28,6 +28,8 @@ refuse_gains f g name why r er eo ep e (Originates s) t = (λ m. inl (subst (λ 
 refuse_gains f g name why r er eo ep e (Provides s) t = (λ m. inl (subst (λ (v : Vec Provision Global). Mem (map provision_of v.items) s) ep m), λ m. elim m [ inl a ↦ subst (λ (v : Vec Provision Global). Mem (map provision_of v.items) s) (sym ep) a | inr q ↦ absurd (let p = q in cc) ])
 refuse_gains f g name why r er eo ep e (Reaches k n) t = absurd t
 refuse_gains f g name why r er eo ep e (Chains v) t = absurd t
+refuse_gains f g name why r er eo ep e (Diagnoses told) t = absurd t
+refuse_gains f g name why r er eo ep e (Unheld told numbers) t = absurd t
 
 -- One good object more, by whichever chain.
 pub show_gains : (f g : LinesFound) (x : Payload) → g.refusals ≡ f.refusals → map origin_of g.origins.items ≡ map origin_of f.origins.items ++ origins x → map provision_of g.provisions.items ≡ map provision_of f.provisions.items ++ provisions x → (t : WitnessValue) → Gains IsPrinted (has_lines f) (ShownBy t x) (has_lines g)
@@ -37,3 +39,5 @@ show_gains f g x er eo ep t (Originates s) k = more (map origin_of f.origins.ite
 show_gains f g x er eo ep t (Provides s) k = more (map provision_of f.provisions.items) (map provision_of g.provisions.items) (provisions x) ep s
 show_gains f g x er eo ep t (Reaches i n) k = absurd k
 show_gains f g x er eo ep t (Chains v) k = absurd k
+show_gains f g x er eo ep t (Diagnoses told) k = absurd k
+show_gains f g x er eo ep t (Unheld told numbers) k = absurd k

@@ -10,7 +10,7 @@ use Rattle.rpki_rules.specs.Attests.{Payload, WitnessValue}
 use Rattle.rpki_rules.specs.Reach.{NamesOne, IsReached, SomeLocatorNames, IsReach, Held}
 use Rattle.rpki_rules.proofs.Orders.{mem_append}
 use Rattle.rpki_rules.specs.Views.{PathValue}
-use Rattle.rpki_walk.specs.Facts.{Refuses, Shows, Originates, Provides, Reaches, Chains, ShownBy, ReachedBy, Gains, IsFinding}
+use Rattle.rpki_walk.specs.Facts.{Refuses, Shows, Originates, Provides, Reaches, Chains, Diagnoses, Unheld, ShownBy, ReachedBy, Gains, IsFinding}
 use Rattle.rpki_walk.specs.Gathered.{InSome, AreUnionOf, has_gathered, IsReaches}
 use Rattle.rpki_walk.specs.declared.reach.gather.Gatherer.{Gatherer}
 use Rattle.rpki_walk.proofs.Sets.{runs_same}
@@ -22,6 +22,8 @@ refuse_gains g name why (Originates s) t = absurd t
 refuse_gains g name why (Provides s) t = absurd t
 refuse_gains g name why (Reaches k n) t = (λ m. inl m, λ m. elim m [ inl a ↦ a | inr e ↦ absurd (let p = e in cc) ])
 refuse_gains g name why (Chains v) t = absurd t
+refuse_gains g name why (Diagnoses told) t = absurd t
+refuse_gains g name why (Unheld told numbers) t = absurd t
 
 pub show_gains : (g : Gatherer) (t : WitnessValue) (x : Payload) → Gains IsReaches (has_gathered g) (ShownBy t x) (has_gathered g)
 show_gains g t x (Refuses n y) q = absurd q
@@ -30,15 +32,19 @@ show_gains g t x (Originates s) q = absurd q
 show_gains g t x (Provides s) q = absurd q
 show_gains g t x (Reaches k n) q = (λ m. inl m, λ m. elim m [ inl a ↦ a | inr e ↦ absurd e ])
 show_gains g t x (Chains v) q = absurd q
+show_gains g t x (Diagnoses told) q = absurd q
+show_gains g t x (Unheld told numbers) q = absurd q
 
 -- An authority that names none, and one that names one.
-pub none_gains : (g : Gatherer) (uris : List (List ℕ)) (w : World) (sets : Resources) (path : PathValue) (ca : Cert) → ¬ (NamesOne uris w ca) → Gains IsReaches (has_gathered g) (ReachedBy uris w (InSet sets) path ca) (has_gathered g)
-none_gains g uris w sets path ca lacks (Refuses n y) q = absurd q
-none_gains g uris w sets path ca lacks (Shows s) q = absurd q
-none_gains g uris w sets path ca lacks (Originates s) q = absurd q
-none_gains g uris w sets path ca lacks (Provides s) q = absurd q
-none_gains g uris w sets path ca lacks (Reaches k n) q = (λ m. inl m, λ m. elim m [ inl a ↦ a | inr e ↦ absurd (lacks e.0) ])
-none_gains g uris w sets path ca lacks (Chains v) q = absurd q
+pub none_gains : (g : Gatherer) (uris : List (List ℕ)) (w : World) (sets : Resources) (on : List (List ℕ)) (path : PathValue) (uri : List ℕ) (ca : Cert) → ¬ (NamesOne uris w ca) → Gains IsReaches (has_gathered g) (ReachedBy uris w (InSet sets) on path uri ca) (has_gathered g)
+none_gains g uris w sets on path uri ca lacks (Refuses n y) q = absurd q
+none_gains g uris w sets on path uri ca lacks (Shows s) q = absurd q
+none_gains g uris w sets on path uri ca lacks (Originates s) q = absurd q
+none_gains g uris w sets on path uri ca lacks (Provides s) q = absurd q
+none_gains g uris w sets on path uri ca lacks (Reaches k n) q = (λ m. inl m, λ m. elim m [ inl a ↦ a | inr e ↦ absurd (lacks e.0) ])
+none_gains g uris w sets on path uri ca lacks (Chains v) q = absurd q
+none_gains g uris w sets on path uri ca lacks (Diagnoses told) q = absurd q
+none_gains g uris w sets on path uri ca lacks (Unheld told numbers) q = absurd q
 
 some_more : (old new : List Resources) (s sets : Resources) → new ≡ old ++ s ∷ [] → s ≡ sets → (k : Kind) (n : ℕ) → InSome new k n ↔ (InSome old k n ⊎ InSet sets k n)
 some_more old new s sets e f k n = (
@@ -52,16 +58,18 @@ some_more old new s sets e f k n = (
   ],
 )
 
-pub one_gains : (f g : Gatherer) (uris : List (List ℕ)) (w : World) (s sets : Resources) (path : PathValue) (ca : Cert) → NamesOne uris w ca → g.sets.items ≡ f.sets.items ++ s ∷ [] → s ≡ sets → Gains IsReaches (has_gathered f) (ReachedBy uris w (InSet sets) path ca) (has_gathered g)
-one_gains f g uris w s sets path ca names e h (Refuses n y) q = absurd q
-one_gains f g uris w s sets path ca names e h (Shows t) q = absurd q
-one_gains f g uris w s sets path ca names e h (Originates t) q = absurd q
-one_gains f g uris w s sets path ca names e h (Provides t) q = absurd q
-one_gains f g uris w s sets path ca names e h (Reaches k n) q = let m = some_more f.sets.items g.sets.items s sets e h k n in (
+pub one_gains : (f g : Gatherer) (uris : List (List ℕ)) (w : World) (s sets : Resources) (on : List (List ℕ)) (path : PathValue) (uri : List ℕ) (ca : Cert) → NamesOne uris w ca → g.sets.items ≡ f.sets.items ++ s ∷ [] → s ≡ sets → Gains IsReaches (has_gathered f) (ReachedBy uris w (InSet sets) on path uri ca) (has_gathered g)
+one_gains f g uris w s sets on path uri ca names e h (Refuses n y) q = absurd q
+one_gains f g uris w s sets on path uri ca names e h (Shows t) q = absurd q
+one_gains f g uris w s sets on path uri ca names e h (Originates t) q = absurd q
+one_gains f g uris w s sets on path uri ca names e h (Provides t) q = absurd q
+one_gains f g uris w s sets on path uri ca names e h (Reaches k n) q = let m = some_more f.sets.items g.sets.items s sets e h k n in (
   λ a. elim (m.0 a) [ inl b ↦ inl b | inr b ↦ inr (names, b) ],
   λ a. m.1 (elim a [ inl b ↦ inl b | inr b ↦ inr b.1 ]),
 )
-one_gains f g uris w s sets path ca names e h (Chains v) q = absurd q
+one_gains f g uris w s sets on path uri ca names e h (Chains v) q = absurd q
+one_gains f g uris w s sets on path uri ca names e h (Diagnoses told) q = absurd q
+one_gains f g uris w s sets on path uri ca names e h (Unheld told numbers) q = absurd q
 
 -- What a walk tells as reached is what is reached.
 told_reached : (uris : List (List ℕ)) (w : World) (k : Kind) (n : ℕ) → IsFinding uris w (Reaches k n) ↔ IsReached uris w k n

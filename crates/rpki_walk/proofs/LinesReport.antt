@@ -8,7 +8,7 @@ use Rattle.rpki_rules.specs.Lines.{Refusal}
 use Rattle.rpki_rules.specs.Report.{ReportValue, IsReportOf}
 use Rattle.rpki_rules.specs.Views.{origin_of, provision_of, refusal_of}
 use Rattle.rpki_rules.proofs.Groups.{customers_to}
-use Rattle.rpki_walk.specs.Facts.{Finding, Refuses, Shows, Originates, Provides, Reaches, Chains, IsFinding, Gains}
+use Rattle.rpki_walk.specs.Facts.{Finding, Refuses, Shows, Originates, Provides, Reaches, Chains, Diagnoses, Unheld, IsFinding, Gains}
 use Rattle.rpki_walk.specs.Alike.{IsPrinted}
 use Rattle.rpki_walk.specs.Walked.{has_lines}
 use Rattle.rpki_walk.specs.Printed.{AreLines}
@@ -30,6 +30,8 @@ nothing_found f eo ep er (Originates o) h = none origin_of f.origins.items o eo 
 nothing_found f eo ep er (Provides o) h = none provision_of f.provisions.items o ep h
 nothing_found f eo ep er (Reaches k n) h = h
 nothing_found f eo ep er (Chains v) h = h
+nothing_found f eo ep er (Diagnoses told) h = h
+nothing_found f eo ep er (Unheld told numbers) h = h
 
 pub lines_are : (w : World) (f : LinesFound) → Gains IsPrinted (λ x. ⊥) (IsFinding [] w) (has_lines f) → (r : ReportValue) → IsReportOf (map origin_of f.origins.items) (map provision_of f.provisions.items) (map refusal_of f.refusals.items) [] r → AreLines w r
 lines_are w f gained r h =

@@ -19,7 +19,7 @@ use Rattle.rpki_rules.specs.declared.witness.Witness.{Witness as CodeWitness}
 use Rattle.rpki_rules.specs.declared.origin.Origin.{Origin as CodeOrigin}
 use Rattle.rpki_rules.specs.declared.customer.Provision.{Provision as CodeProvision}
 use Rattle.rpki_walk.specs.declared.whole.Findings.{Findings}
-use Rattle.rpki_walk.specs.Facts.{Finding, Refuses, Shows, Originates, Provides, Reaches, Chains, ShownBy, IsFinding, Gains}
+use Rattle.rpki_walk.specs.Facts.{Finding, Refuses, Shows, Originates, Provides, Reaches, Chains, Diagnoses, Unheld, ShownBy, IsFinding, Gains}
 use Rattle.rpki_walk.specs.Lines.{has_found, IsLine}
 use Rattle.rpki_rules.proofs.Fronts.{keys_count}
 use Rattle.rpki_walk.proofs.Mems.{mem_push}
@@ -170,6 +170,8 @@ refuse_gains f g name why r er eo ep ew e (Originates s) t = (λ m. inl (subst (
 refuse_gains f g name why r er eo ep ew e (Provides s) t = (λ m. inl (subst (λ (v : Vec CodeProvision Global). Mem (map provision_of v.items) s) ep m), λ m. elim m [ inl a ↦ subst (λ (v : Vec CodeProvision Global). Mem (map provision_of v.items) s) (sym ep) a | inr q ↦ absurd (let p = q in cc) ])
 refuse_gains f g name why r er eo ep ew e (Reaches k n) t = absurd t
 refuse_gains f g name why r er eo ep ew e (Chains v) t = absurd t
+refuse_gains f g name why r er eo ep ew e (Diagnoses told) t = absurd t
+refuse_gains f g name why r er eo ep ew e (Unheld told numbers) t = absurd t
 
 -- One good object more.
 pub show_gains : (f g : Findings) (t : WitnessValue) (x : Payload) (z : CodeWitness) → witness_of z ≡ t → g.refusals ≡ f.refusals → map origin_of g.origins.items ≡ map origin_of f.origins.items ++ origins x → map provision_of g.provisions.items ≡ map provision_of f.provisions.items ++ provisions x → g.witnesses.items ≡ f.witnesses.items ++ z ∷ [] → Gains IsLine (has_found f) (ShownBy t x) (has_found g)
@@ -182,3 +184,5 @@ show_gains f g t x z et er eo ep ew (Originates s) k = more (map origin_of f.ori
 show_gains f g t x z et er eo ep ew (Provides s) k = more (map provision_of f.provisions.items) (map provision_of g.provisions.items) (provisions x) ep s
 show_gains f g t x z et er eo ep ew (Reaches i n) k = absurd k
 show_gains f g t x z et er eo ep ew (Chains v) k = absurd k
+show_gains f g t x z et er eo ep ew (Diagnoses told) k = absurd k
+show_gains f g t x z et er eo ep ew (Unheld told numbers) k = absurd k

@@ -18,7 +18,7 @@ use Rattle.rpki_walk.specs.Repository.{IsIgnored, IsFileKind}
 use Rattle.rpki_walk.specs.declared.repository.FileKind.{FileKind}
 use Rattle.rpki_walk.specs.declared.repository.FileKind.TheVariants as Is
 use Rattle.rpki_rules.specs.Views.{PathValue}
-use Rattle.rpki_walk.specs.Facts.{Finding, Refuses, Shows, Originates, Provides, Reaches, Chains, Stand, Found, ReachedBy, Gains}
+use Rattle.rpki_walk.specs.Facts.{Finding, Refuses, Shows, Originates, Provides, Reaches, Chains, Diagnoses, Unheld, Stand, Found, ReachedBy, Gains}
 use Rattle.rpki_walk.specs.Alike.{IsPrinted, Meets, EndAlike}
 use Rattle.rpki_walk.specs.Remembered.{IsRemembered, Remembers}
 use Rattle.rpki_walk.specs.Walked.{has_lines, Continues, MeetsFile, IsWalked, AreWalked, WalksLines}
@@ -88,13 +88,15 @@ continues_long xs ys g = let e : length ys ≡ length (xs ++ g.0) = ap length g.
     long (u ∷ us) vs = let h = long us vs in omega arith
 
 -- Nothing that lines tell is told of what is reached.
-pub not_reached : (w : World) (held : Kind → ℕ → Type 0) (ca : Cert) → (x : Finding) → IsPrinted x → (uris : List (List ℕ)) → (path : PathValue) → ¬ (ReachedBy uris w held path ca x)
-not_reached w held ca (Refuses n why) i uris path r = r
-not_reached w held ca (Shows t) i uris path r = r
-not_reached w held ca (Originates o) i uris path r = r
-not_reached w held ca (Provides p) i uris path r = r
-not_reached w held ca (Reaches k n) i uris path r = i
-not_reached w held ca (Chains v) i uris path r = i
+pub not_reached : (w : World) (held : Kind → ℕ → Type 0) (ca : Cert) → (x : Finding) → IsPrinted x → (uris : List (List ℕ)) (on : List (List ℕ)) (path : PathValue) (uri : List ℕ) → ¬ (ReachedBy uris w held on path uri ca x)
+not_reached w held ca (Refuses n why) i uris on path uri r = r
+not_reached w held ca (Shows t) i uris on path uri r = r
+not_reached w held ca (Originates o) i uris on path uri r = r
+not_reached w held ca (Provides p) i uris on path uri r = r
+not_reached w held ca (Reaches k n) i uris on path uri r = i
+not_reached w held ca (Chains v) i uris on path uri r = i
+not_reached w held ca (Diagnoses told) i uris on path uri r = i
+not_reached w held ca (Unheld told numbers) i uris on path uri r = i
 
 pub gains_printed : (old new P Q : Finding → Type 0) → Gains IsPrinted old P new → ((x : Finding) → IsPrinted x → P x ↔ Q x) → Gains IsPrinted old Q new
 gains_printed old new P Q g e x i = let h = g x i in (

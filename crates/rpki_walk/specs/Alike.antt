@@ -7,7 +7,7 @@ use Rattle.rpki_rules.specs.World.{World}
 use Rattle.rpki_rules.specs.Points.{Link, Point, files}
 use Rattle.rpki_rules.specs.Chains.{last_of, keys, IsFront, Holds, Stands, Accepted}
 use Rattle.rpki_rules.specs.Refused.{IsIssued}
-use Rattle.rpki_walk.specs.Facts.{Finding, Refuses, Shows, Originates, Provides, Reaches, Chains, Found}
+use Rattle.rpki_walk.specs.Facts.{Finding, Refuses, Shows, Originates, Provides, Reaches, Chains, Diagnoses, Unheld, Found}
 
 -- What lines tell: what is attested and what is refused, and not by which chain.
 abbrev pub IsPrinted : Finding → Type 0
@@ -17,6 +17,8 @@ IsPrinted (Originates o) = Unit {0}
 IsPrinted (Provides p) = Unit {0}
 IsPrinted (Reaches k n) = ⊥
 IsPrinted (Chains v) = ⊥
+IsPrinted (Diagnoses d) = ⊥
+IsPrinted (Unheld d numbers) = ⊥
 
 -- At a point at the end of the chain this certificate is issued as it should, keys and depth apart (RFC 6487 7.2).
 pub record IsMetAt (w : World) (a : Link) (cs : List Link) (c : Cert) : Type 0 where

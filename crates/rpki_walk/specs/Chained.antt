@@ -10,7 +10,7 @@ use Rattle.rpki_rules.specs.Points.{Link}
 use Rattle.rpki_rules.specs.Reach.{NamesOne}
 use Rattle.rpki_rules.specs.Words.{Mem}
 use Rattle.rpki_rules.specs.World.{World}
-use Rattle.rpki_walk.specs.Facts.{Finding, Refuses, Shows, Originates, Provides, Reaches, Chains}
+use Rattle.rpki_walk.specs.Facts.{Finding, Refuses, Shows, Originates, Provides, Reaches, Chains, Diagnoses, Unheld}
 use Rattle.rpki_walk.specs.declared.reach.chains.Namer.{Namer}
 
 -- The locator's name and the lookup keys are those of an accepted chain whose last certificate names one of the URIs: its
@@ -41,6 +41,8 @@ has_chained n (Originates o) = ⊥
 has_chained n (Provides p) = ⊥
 has_chained n (Reaches k m) = ⊥
 has_chained n (Chains v) = Mem (map (λ p. path_of p.value) n.paths.items) v
+has_chained n (Diagnoses d) = ⊥
+has_chained n (Unheld d numbers) = ⊥
 
 -- By which chains is reached, and nothing else.
 abbrev pub IsChains : Finding → Type 0
@@ -50,3 +52,5 @@ IsChains (Originates o) = ⊥
 IsChains (Provides p) = ⊥
 IsChains (Reaches k n) = ⊥
 IsChains (Chains v) = Unit {0}
+IsChains (Diagnoses d) = ⊥
+IsChains (Unheld d numbers) = ⊥

@@ -4,7 +4,7 @@ use Rattle.rpki_walk.specs.resources_chain.Sets.{IsRunsOf}
 use Rattle.rpki_walk.specs.resources.Resources.{Resources}
 use Rattle.rpki_rules.specs.Words.{Mem}
 use Rattle.rpki_rules.specs.Kinds.{Kind, of_kind, InSet}
-use Rattle.rpki_walk.specs.Facts.{Finding, Refuses, Shows, Originates, Provides, Reaches, Chains}
+use Rattle.rpki_walk.specs.Facts.{Finding, Refuses, Shows, Originates, Provides, Reaches, Chains, Diagnoses, Unheld}
 use Rattle.rpki_walk.specs.declared.reach.gather.Gatherer.{Gatherer}
 
 -- The number is in one of the sets.
@@ -23,6 +23,8 @@ has_gathered g (Originates o) = ⊥
 has_gathered g (Provides p) = ⊥
 has_gathered g (Reaches k n) = InSome g.sets.items k n
 has_gathered g (Chains v) = ⊥
+has_gathered g (Diagnoses d) = ⊥
+has_gathered g (Unheld d numbers) = ⊥
 
 -- What is reached, and nothing else.
 abbrev pub IsReaches : Finding → Type 0
@@ -32,3 +34,5 @@ IsReaches (Originates o) = ⊥
 IsReaches (Provides p) = ⊥
 IsReaches (Reaches k n) = Unit {0}
 IsReaches (Chains v) = ⊥
+IsReaches (Diagnoses d) = ⊥
+IsReaches (Unheld d numbers) = ⊥

@@ -3,7 +3,7 @@ use Rattle.std.specs.Prelude.{map}
 use Rattle.rpki_rules.specs.Words.{Mem}
 use Rattle.rpki_rules.specs.Views.{origin_of, provision_of, refusal_of, witness_of}
 use Rattle.rpki_walk.specs.declared.whole.Findings.{Findings}
-use Rattle.rpki_walk.specs.Facts.{Finding, Refuses, Shows, Originates, Provides, Reaches, Chains}
+use Rattle.rpki_walk.specs.Facts.{Finding, Refuses, Shows, Originates, Provides, Reaches, Chains, Diagnoses, Unheld}
 
 -- What was found has this.
 abbrev pub has_found : Findings → Finding → Type 0
@@ -13,6 +13,8 @@ has_found f (Originates o) = Mem (map origin_of f.origins.items) o
 has_found f (Provides p) = Mem (map provision_of f.provisions.items) p
 has_found f (Reaches k n) = ⊥
 has_found f (Chains v) = ⊥
+has_found f (Diagnoses d) = ⊥
+has_found f (Unheld d numbers) = ⊥
 
 -- What is attested or refused, and not what is reached, and by which chains.
 abbrev pub IsLine : Finding → Type 0
@@ -22,3 +24,5 @@ IsLine (Originates o) = Unit {0}
 IsLine (Provides p) = Unit {0}
 IsLine (Reaches k n) = ⊥
 IsLine (Chains v) = ⊥
+IsLine (Diagnoses d) = ⊥
+IsLine (Unheld d numbers) = ⊥

@@ -10,7 +10,7 @@ use Rattle.rpki_rules.specs.Points.{Link, Point}
 use Rattle.rpki_rules.specs.Chains.{last_of, places, keys, Holds, Accepted}
 use Rattle.rpki_rules.specs.Refused.{IsIssued}
 use Rattle.rpki_rules.specs.Views.{origin_of, provision_of, refusal_of}
-use Rattle.rpki_walk.specs.Facts.{Finding, Refuses, Shows, Originates, Provides, Reaches, Chains, Stand, Found, FromLocator, Gains}
+use Rattle.rpki_walk.specs.Facts.{Finding, Refuses, Shows, Originates, Provides, Reaches, Chains, Diagnoses, Unheld, Stand, Found, FromLocator, Gains}
 use Rattle.rpki_walk.specs.Alike.{IsPrinted, Meets}
 use Rattle.rpki_walk.specs.declared.lines.found.LinesFound.{LinesFound}
 use Rattle.rpki_walk.specs.declared.lines.remembered.Walked.{Walked}
@@ -25,6 +25,8 @@ has_lines f (Originates o) = Mem (map origin_of f.origins.items) o
 has_lines f (Provides p) = Mem (map provision_of f.provisions.items) p
 has_lines f (Reaches k n) = ⊥
 has_lines f (Chains v) = ⊥
+has_lines f (Diagnoses d) = ⊥
+has_lines f (Unheld d numbers) = ⊥
 
 -- The one list is the other with more behind it.
 abbrev pub Continues : List (List ℕ) → List (List ℕ) → Type 0

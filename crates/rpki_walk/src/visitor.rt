@@ -21,17 +21,19 @@ pub trait Visitor<S: Repository> {
     // The URIs that it looks for in what authorities name.
     ghost uris: { Self → List (List ℕ) };
 
-    /// An accepted chain has this last certificate.
+    /// An accepted chain has these keys, the last first, and this last certificate, at this lookup key.
     fn visit(
         &mut self,
         alloc: Global,
         repository: &mut S,
         path: &Rc<Path>,
+        keys: &[Bytes],
+        uri: &Bytes,
         ca: &S::Authority,
     ) -> Result<(), AllocError>
         ensures gained { OnOk result (Gains wants (has self.old)
-            (ReachedBy (uris self.old) (S.world repository.old) (InSet (S.sets ca.now))
-            (path_of path.now.value) (S.cert ca.now)) (has self.new)) }
+            (ReachedBy (uris self.old) (S.world repository.old) (InSet (S.sets ca.now)) keys.now
+            (path_of path.now.value) uri.now (S.cert ca.now)) (has self.new)) }
         ensures kept { uris self.new ≡ uris self.old }
         ensures same { S.world repository.new ≡ S.world repository.old }
         ensures lender { S.lender repository.new ≡ S.lender repository.old };

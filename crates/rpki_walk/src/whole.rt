@@ -33,6 +33,8 @@ impl<S: Repository> Visitor<S> for Findings {
         _alloc: Global,
         _repository: &mut S,
         _path: &Rc<Path>,
+        _keys: &[Bytes],
+        _uri: &Bytes,
         _ca: &S::Authority,
     ) -> Result<(), AllocError> {
         Ok(())

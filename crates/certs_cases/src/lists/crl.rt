@@ -9,7 +9,7 @@ use anyhow::Result;
 use bcder::Mode;
 use bcder::encode::Values;
 use certs_cert::Cert;
-use certs_crl::{Crl, TbsCertList};
+use certs_crl::{Crl, RevokedCertificates, TbsCertList};
 use certs_key::Serial;
 use std::alloc::Global;
 
@@ -21,7 +21,7 @@ pub fn list(alloc: Global, word: &str) -> Result<Crl> {
 
 /// What is signed of a list: whether NULL stands after the algorithm, the moments, the number, the issuer's key identifier
 /// and name, and the serial numbers of the entries in their order.
-pub fn shown(alloc: Global, answer: &mut Answer, tbs: &TbsCertList) {
+pub fn shown(alloc: Global, answer: &mut Answer, tbs: &TbsCertList<RevokedCertificates>) {
     answer.say(&tbs.signature().has_null());
     show(answer, tbs.this_update());
     show(answer, tbs.next_update());

@@ -12,7 +12,7 @@ use anyhow::{Result, anyhow};
 use bcder::Mode;
 use bcder::decode::Decode;
 use bcder::encode::Values;
-use certs_crl::{Crl, CrlEntry, RevokedCertificates, TbsCertList};
+use certs_crl::{Crl, CrlEntry, IntoRevoked, RevokedCertificates, TbsCertList};
 use certs_key::{KeyIdentifier, Name, RpkiSignatureAlgorithm, SignatureAlgorithm};
 use std::alloc::Global;
 
@@ -56,8 +56,8 @@ pub fn revoked(alloc: Global, words: &[&str]) -> Result<RevokedCertificates> {
     Ok(RevokedCertificates::from_entries(alloc, entries.as_slice())?)
 }
 
-// The list of the words.
-fn list(alloc: Global, words: &[&str]) -> Result<TbsCertList> {
+// The list of the words, whose entries a vector holds.
+fn listed(alloc: Global, words: &[&str]) -> Result<TbsCertList<Vec<CrlEntry>>> {
     let [
         signature,
         issuer,
@@ -74,13 +74,18 @@ fn list(alloc: Global, words: &[&str]) -> Result<TbsCertList> {
     let (this, next) = (moment_of(*this)?, moment_of(*next)?);
     let (identifier, number) = (key(alloc, *identifier)?, serial_of(alloc, *number)?);
     let issuer = name(alloc, *issuer)?;
-    match revoked(alloc, entries) {
+    match pairs(alloc, entries) {
         Ok(list) => Ok(TbsCertList::new(signature, issuer, this, next, list, identifier, number)),
         Err(error) => {
             drop(issuer);
             Err(error)
         }
     }
+}
+
+// The list of the words.
+fn list(alloc: Global, words: &[&str]) -> Result<TbsCertList<RevokedCertificates>> {
+    Ok(listed(alloc, words)?.into_revoked(alloc)?)
 }
 
 // What is written of a list and of its clone, which is all that is left then.
@@ -98,15 +103,35 @@ fn say_both(alloc: Global, answer: &mut Answer, crl: Crl) {
 }
 
 // The octets of the list, signed by the signer that shows what it signed, and those of its clone; or how the signer refuses.
-fn signed(alloc: Global, answer: &mut Answer, tbs: TbsCertList, signer: Echo, key: u8) {
+fn signed<C: IntoRevoked>(
+    alloc: Global,
+    answer: &mut Answer,
+    tbs: TbsCertList<C>,
+    signer: Echo,
+    key: u8,
+) {
     match tbs.into_crl(alloc, &signer, &key) {
         Ok(crl) => say_both(alloc, answer, crl),
         Err(error) => answer.say(&error),
     }
 }
 
+// What is signed of a list whose entries a vector holds: the first word says whether it is signed, or how the signer refuses.
+fn gathered(alloc: Global, answer: &mut Answer, words: &[&str]) -> Result<()> {
+    let [kind, fields @ ..] = words else {
+        return unknown();
+    };
+    let (refuses, key) = match *kind {
+        "build" => (false, 1),
+        "lost" => (false, 0),
+        _ => (true, 0),
+    };
+    signed(alloc, answer, listed(alloc, fields)?, Echo { refuses }, key);
+    Ok(())
+}
+
 // The clone of the list of the words, which is gone.
-fn copied(alloc: Global, words: &[&str]) -> Result<TbsCertList> {
+fn copied(alloc: Global, words: &[&str]) -> Result<TbsCertList<RevokedCertificates>> {
     let list = list(alloc, words)?;
     let copy: Result<_, _> = list.clone();
     drop(list);
@@ -129,7 +154,11 @@ fn written(alloc: Global, answer: &mut Answer, words: &[&str]) -> Result<()> {
 }
 
 // Sets a field to that of another list.
-fn set_field(list: &mut TbsCertList, field: &str, other: &TbsCertList) -> Result<()> {
+fn set_field(
+    list: &mut TbsCertList<RevokedCertificates>,
+    field: &str,
+    other: &TbsCertList<RevokedCertificates>,
+) -> Result<()> {
     match field {
         "signature" => list.set_signature(other.signature()),
         "issuer" => list.set_issuer(other.issuer().clone()?),
@@ -144,7 +173,12 @@ fn set_field(list: &mut TbsCertList, field: &str, other: &TbsCertList) -> Result
 }
 
 // Sets a field to that of the list of the words, or puts the entries of pairs where the list lent its own.
-fn set(alloc: Global, made: &mut TbsCertList, field: &str, words: &[&str]) -> Result<()> {
+fn set(
+    alloc: Global,
+    made: &mut TbsCertList<RevokedCertificates>,
+    field: &str,
+    words: &[&str],
+) -> Result<()> {
     if field == "lent" {
         *made.revoked_certs_mut() = revoked(alloc, words)?;
         return Ok(());
@@ -199,6 +233,7 @@ pub fn answer(alloc: Global, answer: &mut Answer, words: &[&str]) -> Result<()> 
             Echo { refuses: true },
             0,
         ),
+        "gathered" => return gathered(alloc, answer, fields),
         "fields" => return written(alloc, answer, fields),
         "lent" => return changed(alloc, answer, words),
         "set" => return changed(alloc, answer, fields),

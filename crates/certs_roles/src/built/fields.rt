@@ -1,28 +1,14 @@
 //! The values of fields, each of a word. A word that has no such value has none; that memory ran out is told.
 
-use answers::{Answer, octets_of};
+use crate::read::{found, octets_told};
+use answers::Answer;
 use bcder::Mode;
-use bcder::decode::{Decode, DecodeError};
+use bcder::decode::Decode;
 use certs_cert::{ExtendedKeyUsage, KeyUsage};
 use certs_x509::uri::{Error, Https, Rsync};
 use certs_x509::{KeyIdentifier, Name, PublicKey, Serial, Time, Validity};
 use resources::Overclaim;
 use std::alloc::Global;
-
-// What was read, if it was.
-fn found<T, E: Drop>(answer: &mut Answer, read: Result<T, DecodeError<E>>) -> Option<T> {
-    match read {
-        Ok(value) => Some(value),
-        Err(DecodeError::Memory) => {
-            answer.word("memory");
-            None
-        }
-        Err(error) => {
-            drop(error);
-            None
-        }
-    }
-}
 
 // The URI, if there is one.
 fn uri_of<T>(answer: &mut Answer, made: Result<T, Error>) -> Option<T> {
@@ -37,13 +23,13 @@ fn uri_of<T>(answer: &mut Answer, made: Result<T, Error>) -> Option<T> {
 }
 
 /// A serial number, in base 256.
-pub fn serial_of(alloc: Global, digits: &str) -> Option<Serial> {
-    Serial::from_slice(octets_of(alloc, digits).as_slice()).ok()
+pub fn serial_of(alloc: Global, answer: &mut Answer, digits: &str) -> Option<Serial> {
+    Serial::from_slice(octets_told(alloc, answer, digits).as_slice()).ok()
 }
 
 /// A name, which is kept in the mode.
 pub fn name_of(alloc: Global, answer: &mut Answer, mode: Mode, digits: &str) -> Option<Name> {
-    let octets = octets_of(alloc, digits);
+    let octets = octets_told(alloc, answer, digits);
     let read = mode.decode(octets.as_slice(), |cons| Name::take_from(alloc, cons));
     found(answer, read)
 }
@@ -58,7 +44,7 @@ pub fn validity_of(word: &str) -> Option<Validity> {
 
 /// A key.
 pub fn key_of(alloc: Global, answer: &mut Answer, digits: &str) -> Option<PublicKey> {
-    let octets = octets_of(alloc, digits);
+    let octets = octets_told(alloc, answer, digits);
     found(answer, PublicKey::decode(alloc, octets.as_slice()))
 }
 
@@ -88,8 +74,8 @@ pub fn truth_of(word: &str) -> Option<bool> {
 }
 
 /// The identifier of a key.
-pub fn identifier_of(alloc: Global, digits: &str) -> Option<KeyIdentifier> {
-    KeyIdentifier::from_slice(octets_of(alloc, digits).as_slice())
+pub fn identifier_of(alloc: Global, answer: &mut Answer, digits: &str) -> Option<KeyIdentifier> {
+    KeyIdentifier::from_slice(octets_told(alloc, answer, digits).as_slice())
 }
 
 /// The purposes of a router's key.

@@ -20,9 +20,9 @@ struct Plain {
 }
 
 // These fields of the words.
-fn plain_of(alloc: Global, words: &[&str]) -> Option<Plain> {
+fn plain_of(alloc: Global, answer: &mut Answer, words: &[&str]) -> Option<Plain> {
     Some(Plain {
-        serial: serial_of(alloc, word_at(words, 0))?,
+        serial: serial_of(alloc, answer, word_at(words, 0))?,
         validity: validity_of(word_at(words, 2))?,
         usage: usage_of(word_at(words, 5)),
         overclaim: overclaim_of(word_at(words, 6)),
@@ -57,7 +57,7 @@ fn fresh(
 
 /// The fields of the first seven words; the subject's name is the key's where the word for it has none.
 pub fn made(alloc: Global, answer: &mut Answer, words: &[&str]) -> Option<TbsCert> {
-    let plain = plain_of(alloc, words)?;
+    let plain = plain_of(alloc, answer, words)?;
     let key = key_of(alloc, answer, word_at(words, 4))?;
     let subject = name_of(alloc, answer, Mode::Der, word_at(words, 3));
     match name_of(alloc, answer, Mode::Der, word_at(words, 1)) {

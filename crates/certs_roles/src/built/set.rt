@@ -12,7 +12,7 @@ use rpki_digests::Fips;
 use std::alloc::Global;
 
 fn serial(alloc: Global, answer: &mut Answer, tbs: &mut TbsCert, value: &str) {
-    match serial_of(alloc, value) {
+    match serial_of(alloc, answer, value) {
         Some(serial) => tbs.set_serial_number(serial),
         None => answer.word("no serial number"),
     }
@@ -65,7 +65,7 @@ fn usages(alloc: Global, answer: &mut Answer, tbs: &mut TbsCert, name: &str, val
         "usage" => tbs.set_key_usage(usage_of(value)),
         "overclaim" => tbs.set_overclaim(overclaim_of(value)),
         "ca" => tbs.set_basic_ca(truth_of(value)),
-        "authority" => tbs.set_authority_key_identifier(identifier_of(alloc, value)),
+        "authority" => tbs.set_authority_key_identifier(identifier_of(alloc, answer, value)),
         "purposes" => tbs.set_extended_key_usage(purposes_of(alloc, answer, value)),
         _ => identity(alloc, answer, tbs, name, value),
     }

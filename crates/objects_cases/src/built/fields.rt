@@ -3,7 +3,7 @@
 use answers::Answer;
 use anyhow::{Result, anyhow};
 use bcder::Mode;
-use bcder::decode::Decode;
+use bcder::decode::{Decode, DecodeError};
 use bytes::Bytes;
 use certs_x509::uri::Rsync;
 use certs_x509::{Name, Serial, Time, Validity};
@@ -52,6 +52,7 @@ fn name_of(alloc: Global, words: &[&str], name: &str) -> Result<Option<Name>> {
         Name::take_from(alloc, cons)
     }) {
         Ok(name) => Ok(Some(name)),
+        Err(DecodeError::Memory) => Err(anyhow!("memory")),
         Err(_) => Err(anyhow!("no name")),
     }
 }

@@ -10,6 +10,7 @@ use crate::built::signer::Stub;
 use crate::built::told::say_built;
 use answers::Answer;
 use anyhow::{Result, anyhow};
+use bcder::decode::DecodeError;
 use objects::manifest::IntoManifest;
 use objects::roa::{FinalizeRoa, are_of_family};
 use objects_cms::manifest::ManifestContent;
@@ -169,6 +170,7 @@ fn manifest_of(alloc: Global, words: &[&str]) -> Result<ManifestContent> {
     let octets = fields::octets(alloc, words, "content")?;
     match ManifestContent::decode(alloc, octets) {
         Ok(content) => Ok(content),
+        Err(DecodeError::Memory) => Err(anyhow!("memory")),
         Err(_) => Err(anyhow!("no manifest")),
     }
 }

@@ -4,6 +4,7 @@ use crate::rsc::stub::{Standing, Stub};
 use crate::rsc::told::shown;
 use answers::{Answer, octets_of, unknown};
 use anyhow::{Result, anyhow};
+use bcder::decode::DecodeError;
 use certs_verify::{Cert, ResourceCert, TalInfo, Validate, ValidationError, VerificationError};
 use certs_x509::errors::Time;
 use objects::rsc::{ResourceSignedChecklist, Rsc};
@@ -36,15 +37,18 @@ fn moment_of(text: &[u8]) -> Result<Time> {
 fn anchor_of(alloc: Global, digits: &str) -> Result<ResourceCert> {
     let tal = TalInfo::from_name(String::from_str(alloc, "t")?).into_rc(alloc)?;
     let octets = octets_of(alloc, digits);
-    let Ok(cert) = Cert::decode(alloc, octets.as_slice()) else {
-        return Err(anyhow!("no certificate"));
+    let cert = match Cert::decode(alloc, octets.as_slice()) {
+        Ok(cert) => cert,
+        Err(DecodeError::Memory) => return Err(anyhow!("memory")),
+        Err(_) => return Err(anyhow!("no certificate")),
     };
     let mut stub = Stub { asked: 0 };
     match cert.validate_ta_at(tal, true, moment_of(AT)?, &Fips, &mut stub) {
         Ok(anchor) => Ok(anchor),
         Err(refused) => {
+            let error = anyhow!("{}", refused.error);
             drop(refused);
-            Err(anyhow!("no anchor"))
+            Err(error)
         }
     }
 }
@@ -113,6 +117,7 @@ fn answered(alloc: Global, answer: &mut Answer, asked: &Asked<'_>, digits: &str)
     let mut stub = Stub { asked: 0 };
     match Rsc::decode(alloc, octets.as_slice(), asked.strict) {
         Ok(rsc) => accepted(alloc, answer, asked, rsc, &mut stub),
+        Err(DecodeError::Memory) => answer.word("memory"),
         Err(error) => {
             drop(error);
             answer.word("unreadable");
@@ -145,8 +150,10 @@ pub fn processed(alloc: Global, answer: &mut Answer, by_clock: bool, words: &[&s
 pub fn sound(alloc: Global, answer: &mut Answer, strict: bool, digits: &str) -> Result<()> {
     let octets = octets_of(alloc, digits);
     let mut stub = Stub { asked: 0 };
-    let Ok(rsc) = Rsc::decode(alloc, octets.as_slice(), strict) else {
-        return Err(anyhow!("unreadable"));
+    let rsc = match Rsc::decode(alloc, octets.as_slice(), strict) {
+        Ok(rsc) => rsc,
+        Err(DecodeError::Memory) => return Err(anyhow!("memory")),
+        Err(_) => return Err(anyhow!("unreadable")),
     };
     let tested = rsc.verify_content(alloc, &Fips, &mut stub);
     drop(rsc);

@@ -11,8 +11,8 @@ ghost use Rattle.objects_written.specs.bcder_primitive.declared.written.error.En
 ghost use Rattle.objects_written.specs.certs_basics.Keys.{KeyValue, identifier};
 ghost use Rattle.objects_written.specs.certs_key.Digesting.{digests_of};
 ghost use Rattle.objects_written.specs.objects_payload.ObjectText.{SpellsSigner, signer_of};
-ghost use Rattle.objects_cms.specs.certs_x509.Took.{TookOctets};
-ghost use Rattle.objects_cms.specs.Signer.{IsSigner as IsSignerValue, signer_fields};
+ghost use Rattle.objects_rta.specs.certs_x509.Took.{TookOctets};
+ghost use Rattle.objects_rta.specs.objects_cms.Signer.{IsSigner as IsSignerValue, signer_fields};
 ghost use Rattle.objects_written.specs.Attributes.{IsMessage, IsRefused, ToSign, WritesAttributes, to_sign};
 ghost use Rattle.objects_written.specs.Frames.{signer as written_signer};
 ghost use Rattle.objects_written.specs.Refusing.{BuildRefused, CanTell, CannotSign, told_as};
@@ -25,7 +25,7 @@ use certs_key::decode::{Decode, DecodeError};
 use certs_key::{
     Digester, KeyIdentifier, RpkiSignature, RpkiSignatureAlgorithm, Signer, SigningError,
 };
-use objects_cms::signed::SignerInfo;
+use objects_rta::SignerInfo;
 use objects_written::frame::{SignerValue, signed_attributes, signed_message};
 use std::alloc::Global;
 use std::convert::Infallible;

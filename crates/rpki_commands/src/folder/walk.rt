@@ -1,6 +1,7 @@
 //! The reading of a folder, one open folder at a time.
 
-ghost use Rattle.std.specs.Prelude.{◌≡◌, ◌↔◌, ◌+◌, ◌≤◌, ◌++◌, ◌∷◌, codes, length, string_bytes, vec_len, IsTrue, IfOk, IfErr, OnOk, MatchOption, ◌≢◌, ℕ, List};
+ghost use Rattle.std.specs.Prelude.{◌≡◌, ◌↔◌, ◌+◌, ◌^◌, ◌≤◌, ◌++◌, ◌∷◌, [], codes, length, string_bytes, vec_len, IsTrue, IfOk, IfErr, IfSome, OnOk, MatchOption, ◌≢◌, ℕ, List};
+ghost use Rattle.rpki_commands.specs.Limits.{IsAtLevel, IsEntryName, IsFileUri, IsPending, IsReading, IsScheme, IsWalked};
 
 use crate::folder::ReadFault;
 use crate::folder::files::{Kind, MOST_OCTETS, kind_of, read_file, read_if_there};
@@ -83,7 +84,9 @@ fn count_entry(entries_left: &mut u32) -> Result<(), ReadFault>
 
 impl Walk {
     // Nothing was read yet.
-    fn new(alloc: Global) -> Result<Walk, AllocError> {
+    fn new(alloc: Global) -> Result<Walk, AllocError>
+        ensures { IfOk result (IsWalked 0) }
+    {
         Ok(Walk {
             pending: Vec::new(alloc),
             locators: Vec::new(alloc),
@@ -112,7 +115,11 @@ impl Walk {
         ensures counted { IfOk result
             (λ octets. self.new.octets_left + length octets ≡ self.old.octets_left) }
         ensures entries { self.new.entries_left ≡ self.old.entries_left }
-        ensures pending { vec_len self.new.pending ≡ vec_len self.old.pending }
+        ensures pending { self.new.pending ≡ self.old.pending }
+        ensures kept { OnOk result (self.new.octets_left ≢ 0
+            → (self.new.locators ≡ self.old.locators) × (self.new.objects ≡ self.old.objects)) }
+        ensures none_kept { OnOk result (self.new.octets_left ≡ 0
+            → (self.new.locators.items ≡ []) × (self.new.objects.items ≡ [])) }
     {
         let octets = read_file(
             rt,
@@ -140,7 +147,9 @@ impl Walk {
         size: u64,
     ) -> Result<(), ReadFault>
         ensures entries { self.new.entries_left ≡ self.old.entries_left }
-        ensures pending { vec_len self.new.pending ≡ vec_len self.old.pending }
+        ensures pending { self.new.pending ≡ self.old.pending }
+        ensures walked { IsWalked 1 self.old → IsFileUri (string_bytes uri)
+            → OnOk result (IsWalked 0 self.new) }
     {
         let octets = self.octets_of(rt, alloc, path, size)?;
         if !self.is_full() {
@@ -158,7 +167,9 @@ impl Walk {
         path: &str,
         name: &str,
         size: u64,
-    ) -> Result<(), ReadFault> {
+    ) -> Result<(), ReadFault>
+        ensures { IsWalked 1 self.old → IsEntryName name.now → OnOk result (IsWalked 0 self.new) }
+    {
         let text = self.octets_of(rt, alloc, path, size)?;
         if !self.is_full() {
             let name = Bytes::copy_from_slice(alloc, name.as_bytes())?;
@@ -167,7 +178,7 @@ impl Walk {
         Ok(())
     }
 
-    // An entry of a folder: an object, or one more folder to list.
+    // An entry of a folder of that level: an object, or one more folder to list.
     fn take_entry<R: Files>(
         &mut self,
         rt: &R,
@@ -176,7 +187,9 @@ impl Walk {
         uri: String,
         level: u8,
     ) -> Result<(), ReadFault>
-        ensures { OnOk result
+        ensures walked { IsWalked 0 self.old → 1 ≤ level → level ≤ 64
+            → IsAtLevel level (string_bytes uri) → OnOk result (IsWalked 0 self.new) }
+        ensures fewer { OnOk result
             (self.new.entries_left + vec_len self.new.pending
             ≤ self.old.entries_left + vec_len self.old.pending) }
     {
@@ -200,7 +213,9 @@ impl Walk {
         alloc: Global,
         folder: Pending,
     ) -> Result<(), ReadFault>
-        ensures { OnOk result
+        ensures walked { IsWalked 0 self.old → IsPending folder
+            → OnOk result (IsWalked 0 self.new) }
+        ensures fewer { OnOk result
             (self.new.entries_left + vec_len self.new.pending
             ≤ self.old.entries_left + vec_len self.old.pending) }
     {
@@ -219,7 +234,9 @@ impl Walk {
         alloc: Global,
         path: String,
         uri: &str,
-    ) -> Result<(), ReadFault> {
+    ) -> Result<(), ReadFault>
+        ensures { IsWalked 0 self.old → IsScheme uri.now → OnOk result (IsWalked 0 self.new) }
+    {
         match kind_of(rt, path.as_str())? {
             Kind::Absent => return Ok(()),
             Kind::File(_) => return Err(ReadFault::Read),
@@ -243,7 +260,9 @@ impl Walk {
         rt: &R,
         alloc: Global,
         path: &str,
-    ) -> Result<(), ReadFault> {
+    ) -> Result<(), ReadFault>
+        ensures { IsWalked 0 self.old → OnOk result (IsWalked 0 self.new) }
+    {
         match kind_of(rt, path)? {
             Kind::Absent => return Ok(()),
             Kind::File(_) => return Err(ReadFault::Read),
@@ -270,7 +289,9 @@ impl Walk {
         rt: &R,
         alloc: Global,
         folder: &str,
-    ) -> Result<(), ReadFault> {
+    ) -> Result<(), ReadFault>
+        ensures { IsWalked 0 self.old → OnOk result (IsWalked 0 self.new) }
+    {
         let tals = joined(alloc, folder, "tals")?;
         self.take_locators(rt, alloc, tals.as_str())?;
         self.walk(rt, alloc, joined(alloc, folder, "rsync")?, "rsync:/")?;
@@ -292,7 +313,9 @@ fn read_line<R: Files>(
     alloc: Global,
     path: &str,
     buffer: &mut [u8],
-) -> Result<Vec<u8>, ReadFault> {
+) -> Result<Vec<u8>, ReadFault>
+    ensures { IfOk result (λ octets. length octets.items ≤ 64) }
+{
     match read_if_there(rt, alloc, path, MOST_LINE, buffer)? {
         Some(octets) => Ok(octets),
         None => Err(ReadFault::Read),
@@ -305,7 +328,13 @@ fn read_lines<R: Files>(
     alloc: Global,
     folder: &str,
     buffer: &mut [u8],
-) -> Result<Lines, ReadFault> {
+) -> Result<Lines, ReadFault>
+    ensures moment { IfOk result (λ lines. length lines.moment.items ≤ 64) }
+    ensures depth { IfOk result (λ lines. length lines.depth.items ≤ 64) }
+    ensures relaxed { IfOk result
+        (λ lines. IfSome lines.relaxed (λ text. length text.items ≤ 64)) }
+    ensures verdicts { IfOk result (λ lines. length lines.verdicts.items ≤ 2 ^ 32) }
+{
     let moment = joined(alloc, folder, "moment")?;
     let moment = read_line(rt, alloc, moment.as_str(), buffer)?;
     let depth = joined(alloc, folder, "depth")?;
@@ -331,7 +360,9 @@ pub fn read_folder<R: Files + AllocGlobal + Clone + Drop>(
     rt: &R,
     alloc: Global,
     folder: &str,
-) -> Result<Option<Contents>, ReadFault> {
+) -> Result<Option<Contents>, ReadFault>
+    ensures { IsReading result }
+{
     if kind_of(rt, folder)? != Kind::Folder {
         return Err(ReadFault::Read);
     }

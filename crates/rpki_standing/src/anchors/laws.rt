@@ -1,14 +1,17 @@
 //! Laws of what locators lead to: the contracts of functions that do nothing.
 
 ghost use Rattle.std.specs.Prelude.{◌≡◌, List, ℕ};
+ghost use Rattle.objects_payload.specs.declared.locator.error.ReadError.{ReadError};
 ghost use Rattle.rpki_standing.specs.rpki_bundle.declared.parts.Locator.{Locator};
 ghost use Rattle.rpki_rules.specs.Certs.{Cert, CertText, Key};
+ghost use Rattle.rpki_rules.specs.declared.reason.locators.LocatorReason.TheVariants.{BadText, NoneHeld};
+ghost use Rattle.rpki_rules.specs.LocatorReasons.{LocatorFails};
 ghost use Rattle.rpki_rules.specs.Points.{Anchor, IsAnchorCert, Link};
 ghost use Rattle.rpki_rules.specs.Words.{Mem};
 ghost use Rattle.rpki_rules.specs.World.{World};
-ghost use Rattle.rpki_standing.specs.Lookups.{HoldsAt, HoldsNowhere, IsNoLocator};
+ghost use Rattle.rpki_standing.specs.Lookups.{HoldsAt};
 
-use objects_payload::locator::laws::one_locator;
+use objects_payload::locator::laws::{faults_are_refused, one_locator};
 
 /// A locator leads to one object at most.
 pub fn one_lead()
@@ -22,14 +25,15 @@ pub fn one_lead()
     one_locator();
 }
 
-/// What is no locator, or has no object at any of its URIs, leads to no object.
+/// A locator whose text has a fault, or that has no object at any of its URIs, leads to no object.
 pub fn no_lead()
-    ensures unreadable { (w : World) (l : Locator) (k : Key) (u o : List ℕ)
-        → IsNoLocator l.text → ¬ (HoldsAt w l k u o) }
+    ensures unreadable { (w : World) (l : Locator) (fault : ReadError) (k : Key) (u o : List ℕ)
+        → LocatorFails w l (BadText fault) → ¬ (HoldsAt w l k u o) }
     ensures nowhere { (w : World) (l : Locator) (k : Key) (u o : List ℕ)
-        → HoldsNowhere w l → ¬ (HoldsAt w l k u o) }
+        → LocatorFails w l NoneHeld → ¬ (HoldsAt w l k u o) }
 {
     one_locator();
+    faults_are_refused();
 }
 
 /// Where a locator of the bundle leads to an object, and the object is a certificate as a trust anchor's has to be, it

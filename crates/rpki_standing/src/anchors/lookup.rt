@@ -9,14 +9,14 @@ ghost use Rattle.rpki_standing.specs.Lookups.{IsLocatorLookup};
 use crate::anchors::held::first_held;
 use crate::anchors::texts::read_locator_text;
 use crate::table::{Index, Locator, Object};
-use objects_payload::locator::Tal;
+use objects_payload::locator::{ReadError, Tal};
 use std::alloc::{AllocError, Global};
 
 /// What a locator leads to, whatever the octets there are.
 #[derive(Drop)]
 pub enum LocatorLookup<'a> {
-    /// Its text is no locator's.
-    Unreadable,
+    /// Its text is no locator's, since it has this fault.
+    Unreadable(ReadError),
     /// There is no object at any of its URIs.
     Nowhere,
     /// The first object that is there, https URIs first, and the locator with the key that the anchor has to have.
@@ -34,8 +34,9 @@ pub fn follow<'a>(
         → IsLocatorLookup (world_of d v index.now) locator.now lead) }
     ensures asked { OnErr result (BehindComments StartsWithUri locator.now.text) }
 {
-    let Some(mut tal) = read_locator_text(alloc, locator)? else {
-        return Ok(LocatorLookup::Unreadable);
+    let mut tal = match read_locator_text(alloc, locator)? {
+        Ok(tal) => tal,
+        Err(fault) => return Ok(LocatorLookup::Unreadable(fault)),
     };
     tal.prefer_https();
     match first_held(tal.uris(), index) {

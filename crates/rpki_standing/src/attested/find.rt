@@ -1,22 +1,29 @@
-//! The object at a file of a publication point, if it is sound there.
+//! The object at a file of a publication point, if it is sound there, and else why not.
 
-ghost use Rattle.std.specs.Prelude.{◌≡◌, ◌↔◌, ◌+◌, ◌≤◌, IfOk, IsTrue};
+ghost use Rattle.std.specs.Prelude.{◌≡◌, ◌+◌, ◌≤◌, IfErr, IfOk, List, ℕ};
 ghost use Rattle.rpki_standing.specs.certs_key.Digesting.{digests_of};
+ghost use Rattle.rpki_rules.specs.resources.Resources.{Resources};
+ghost use Rattle.rpki_rules.specs.declared.reason.files.FileReason.TheVariants as reason;
+ghost use Rattle.rpki_rules.specs.FileReasons.{PassesObject};
+ghost use Rattle.rpki_rules.specs.Kinds.{InSet};
 ghost use Rattle.rpki_rules.specs.Points.{Point as PointValue, files as files_by};
+ghost use Rattle.rpki_rules.specs.ReasonViews.{FileUnheld, object_test_of};
 ghost use Rattle.rpki_rules.specs.Words.{Mem};
-ghost use Rattle.rpki_rules.specs.World.{world_of};
-ghost use Rattle.rpki_standing.specs.Published.{FindsObject, IsSoundAt};
+ghost use Rattle.rpki_rules.specs.World.{World, world_of};
+ghost use Rattle.rpki_standing.specs.Published.{FindsObject, signed_tests};
+ghost use Rattle.rpki_standing.specs.Tests.{Tells};
 
 use crate::attested::published::Published;
 use crate::attested::readings::object_at;
 use crate::{
-    Cert, Crl, Digester, Index, Verifier, is_issued_to_object, is_sound, is_unrevoked, keep_if,
+    Cert, Crl, Digester, Index, Verifier, check_content, check_object_cert, check_revocation,
 };
+use rpki_rules::reason::{FileReason, ObjectTest};
 use std::alloc::{AllocError, Global};
 
-// Whether the object is sound at a point of the authority: its certificate is issued by the authority and isn't revoked
-// there, and its content is signed. The verifier is asked twice, at most.
-fn is_sound_at<D: Digester, V: Verifier>(
+// Whether the object is sound at a point of the authority: its certificate isn't revoked there and is issued by the
+// authority, and its content is signed; else the first test that fails. The verifier is asked twice, at most.
+fn check_object<D: Digester, V: Verifier>(
     alloc: Global,
     object: &Published,
     ca: &Cert,
@@ -25,27 +32,34 @@ fn is_sound_at<D: Digester, V: Verifier>(
     index: &Index<'_>,
     digester: &D,
     verifier: &mut V,
-) -> Result<bool, AllocError>
-    ensures sound { IfOk result (λ yes. (p : PointValue)
-        → p.object.cert ≡ ee.now → p.crl ≡ crl.now → IsTrue yes ↔ IsSoundAt (world_of
+) -> Result<Result<(), ObjectTest>, AllocError>
+    ensures told { IfOk result (λ told. (p : PointValue) (sets : Resources)
+        → p.object.cert ≡ ee.now → p.crl ≡ crl.now
+        → Tells object_test_of (PassesObject (world_of
         (digests_of D.sha256_digest D.sha1_digest digester.now) (V.says verifier.old) index.now)
-        ca.now p object.now.object) }
+        (InSet sets) ca.now p object.now.object) signed_tests told) }
+    ensures unheld { IfOk result (λ told. IfErr told (λ t. (w : World) (sets : Resources)
+        (uri : List ℕ) → FileUnheld w (InSet sets) uri (reason.ObjectFails t))) }
     ensures same { V.says verifier.new ≡ V.says verifier.old }
     ensures asked { V.count verifier.new ≤ V.count verifier.old + 2 }
 {
-    if !is_unrevoked(alloc, object.cert(), ee, crl)? {
-        return Ok(false);
+    if let Err(test) = check_revocation(alloc, object.cert(), ee, crl)? {
+        return Ok(Err(ObjectTest::ObjectRevocation(test)));
     }
-    if !is_issued_to_object(object.cert(), ca, index, digester, verifier) {
-        return Ok(false);
+    if let Err(test) = check_object_cert(object.cert(), ca, index, digester, verifier) {
+        return Ok(Err(ObjectTest::ObjectCert(test)));
     }
-    is_sound(alloc, object.signed(), digester, verifier)
+    match check_content(alloc, object.signed(), digester, verifier)? {
+        Ok(()) => Ok(Ok(())),
+        Err(test) => Ok(Err(ObjectTest::ObjectContent(test))),
+    }
 }
 
 /// The object at a file of a point of the authority, if it is a route origin or provider attestation that is sound there,
-/// what its certificate claims apart; else nothing. `ee` is the certificate of the point's manifest, and `crl` its
-/// revocation list; `key` is the file's lookup key. The verifier is asked twice, at most: for the object's certificate, and
-/// for its content.
+/// what its certificate claims apart; else why not: it doesn't read, or a test of its certificate's revocation, of its
+/// certificate or of its content fails first. `ee` is the certificate of the point's manifest, and `crl` its revocation
+/// list; `key` is the file's lookup key. The verifier is asked twice, at most: for the object's certificate, and for its
+/// content.
 pub fn find_object<D: Digester, V: Verifier>(
     alloc: Global,
     ca: &Cert,
@@ -55,7 +69,7 @@ pub fn find_object<D: Digester, V: Verifier>(
     index: &Index<'_>,
     digester: &D,
     verifier: &mut V,
-) -> Result<Option<Published>, AllocError>
+) -> Result<Result<Published, FileReason>, AllocError>
     ensures found { IfOk result (λ found. (p : PointValue)
         → p.object.cert ≡ ee.now → p.crl ≡ crl.now → Mem (files_by ca.now p.manifest) key.now
         → FindsObject (world_of
@@ -65,8 +79,13 @@ pub fn find_object<D: Digester, V: Verifier>(
     ensures asked { V.count verifier.new ≤ V.count verifier.old + 2 }
 {
     let Some(object) = object_at(alloc, key, index)? else {
-        return Ok(None);
+        return Ok(Err(FileReason::BadObject));
     };
-    let sound = is_sound_at(alloc, &object, ca, ee, crl, index, digester, verifier);
-    keep_if(object, sound)
+    match check_object(alloc, &object, ca, ee, crl, index, digester, verifier)? {
+        Ok(()) => Ok(Ok(object)),
+        Err(test) => {
+            drop(object);
+            Ok(Err(FileReason::ObjectFails(test)))
+        }
+    }
 }

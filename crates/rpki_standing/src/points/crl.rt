@@ -1,36 +1,27 @@
 //! The revocation list of a publication point (RFC 6487 5, RFC 9286 6.2).
 
-ghost use Rattle.std.specs.Prelude.{◌≡◌, ◌↔◌, ◌+◌, ◌≤◌, IfOk, IsTrue, Some};
-ghost use Rattle.rpki_standing.specs.Crls.{Finds, IsCrlAt, IsListAt, IsListOf};
+ghost use Rattle.std.specs.Prelude.{◌≡◌, ◌↔◌, ◌+◌, ◌≤◌, IfErr, IfOk, IsTrue, Some};
+ghost use Rattle.rpki_standing.specs.Crls.{Finds, IsListAt};
+ghost use Rattle.rpki_standing.specs.PointFaults.{FailsList, PassesUnheld, unheld_tests};
+ghost use Rattle.rpki_standing.specs.Tests.{Tells};
 ghost use Rattle.rpki_standing.specs.certs_basics.Uris.{lookup_key as key_of};
 ghost use Rattle.rpki_rules.specs.Certs.{CrlText, Digests, Verdicts};
 ghost use Rattle.rpki_rules.specs.Objects.{Manifest, Object};
 ghost use Rattle.rpki_rules.specs.Points.{IsCrlOf, files as files_by};
+ghost use Rattle.rpki_rules.specs.ReasonViews.{list_test_of};
 ghost use Rattle.rpki_rules.specs.Words.{Mem};
 ghost use Rattle.rpki_rules.specs.World.{world_of};
 
 use crate::points::kept::Crl;
-use crate::points::list::is_acceptable_crl;
+use crate::points::keys::is_listed;
+use crate::points::list::check_said;
 use crate::table::Index;
 use bytes::Bytes;
 use certs_cert::{Cert, Rsync, Verifier};
 use certs_crl::Crl as List;
 use certs_crl::decode::DecodeError;
+use rpki_rules::reason::{ListTest, ManifestTest, PointReason};
 use std::alloc::{AllocError, Global};
-
-// Whether the lookup key is one of those. They are gone through, one by one.
-fn is_listed(files: &[Bytes], key: &[u8]) -> bool
-    ensures { IsTrue result ↔ Mem files.now key.now }
-{
-    let mut rest = files;
-    while let Some((file, others)) = rest.split_first() {
-        if file.as_slice() == key {
-            return true;
-        }
-        rest = others;
-    }
-    false
-}
 
 // Whether the URI is one of the files, by their lookup keys.
 fn is_file(alloc: Global, uri: &Rsync, files: &[Bytes]) -> Result<bool, AllocError>
@@ -63,28 +54,32 @@ fn list_at(alloc: Global, uri: &Rsync, index: &Index<'_>) -> Result<Option<List>
 }
 
 // Whether the list is the authority's: by what it says, and by its signature, for which the verifier is asked once, at
-// most. The manifest's certificate mustn't be on it.
-fn is_list_of<V: Verifier>(
+// most. The manifest's certificate mustn't be on it. Else the first of these tests that fails.
+fn check_list<V: Verifier>(
     crl: &List,
     ca: &Cert,
     ee: &Cert,
     index: &Index<'_>,
     verifier: &mut V,
-) -> bool
-    ensures answer { (d : Digests) → IsTrue result ↔ IsListOf
-        (world_of d (V.says verifier.old) index.now) ca.now ee.now crl.now }
+) -> Result<(), ListTest>
+    ensures told { (d : Digests) (o : Object) (m : Manifest) → o.cert ≡ ee.now
+        → Tells list_test_of (PassesUnheld (world_of d (V.says verifier.old) index.now)
+        ca.now o m crl.now) unheld_tests result }
     ensures same { V.says verifier.new ≡ V.says verifier.old }
     ensures asked { V.count verifier.new ≤ V.count verifier.old + 1 }
 {
-    is_acceptable_crl(crl, ca, ee, index.moment())
-        && crl
-            .verify_signature(ca.tbs().subject_public_key_info(), verifier)
-            .is_ok()
+    check_said(crl, ca, ee, index)?;
+    let signed = crl.verify_signature(ca.tbs().subject_public_key_info(), verifier);
+    if signed.is_err() {
+        return Err(ListTest::ListSignature);
+    }
+    Ok(())
 }
 
-/// The authority's revocation list at that URI, which has to be one of those files, by their lookup keys: it is current and
-/// signed by the authority, and the manifest's certificate isn't on it. Its serial numbers are kept aside, so that one is
-/// found by halving. The verifier is asked once, at most.
+/// The revocation list of a point: of the authority, by the certificate of its manifest, which names the list's URI, and by
+/// the lookup keys of the files that the manifest lists. The list is one of the files, current and signed by the authority,
+/// and the manifest's certificate isn't on it; else the first of these tests that fails. Its serial numbers are kept aside,
+/// so that one is found by halving. The verifier is asked once, at most.
 pub fn find_crl<V: Verifier>(
     alloc: Global,
     uri: &Rsync,
@@ -93,42 +88,27 @@ pub fn find_crl<V: Verifier>(
     ee: &Cert,
     index: &Index<'_>,
     verifier: &mut V,
-) -> Result<Option<Crl>, AllocError>
-    ensures found { IfOk result (λ found. (d : Digests) → Finds (IsCrlAt
-        (world_of d (V.says verifier.old) index.now) uri.now files.now ca.now ee.now) found) }
+) -> Result<Result<Crl, PointReason>, AllocError>
+    ensures found { IfOk result (λ told. IfOk told (λ crl. (d : Digests) (o : Object) (m : Manifest)
+        → o.cert ≡ ee.now → ee.now.tbs.crl_uri ≡ Some uri.now → files_by ca.now m ≡ files.now
+        → IsCrlOf (world_of d (V.says verifier.old) index.now) ca.now o m crl)) }
+    ensures refused { IfOk result (λ told. IfErr told (λ why. (d : Digests) (o : Object)
+        (m : Manifest) → o.cert ≡ ee.now → ee.now.tbs.crl_uri ≡ Some uri.now
+        → files_by ca.now m ≡ files.now
+        → FailsList (world_of d (V.says verifier.old) index.now) ca.now o m why)) }
     ensures same { V.says verifier.new ≡ V.says verifier.old }
     ensures asked { V.count verifier.new ≤ V.count verifier.old + 1 }
 {
     if !is_file(alloc, uri, files)? {
-        return Ok(None);
+        return Ok(Err(PointReason::ManifestFails(ManifestTest::ListListed)));
     }
     let Some(crl) = list_at(alloc, uri, index)? else {
-        return Ok(None);
+        return Ok(Err(PointReason::BadList));
     };
-    if !is_list_of(&crl, ca, ee, index, verifier) {
+    if let Err(test) = check_list(&crl, ca, ee, index, verifier) {
         drop(crl);
-        return Ok(None);
+        return Ok(Err(PointReason::ListFails(test)));
     }
     let kept = Crl::keep(alloc, crl)?;
-    Ok(Some(kept))
-}
-
-/// The revocation list of a point: of the authority, by the certificate of its manifest, which names the list's URI, and by
-/// the lookup keys of the files that the manifest lists. The verifier is asked once, at most.
-pub fn read_crl<V: Verifier>(
-    alloc: Global,
-    uri: &Rsync,
-    files: &[Bytes],
-    ca: &Cert,
-    ee: &Cert,
-    index: &Index<'_>,
-    verifier: &mut V,
-) -> Result<Option<Crl>, AllocError>
-    ensures found { IfOk result (λ found. (d : Digests) (o : Object) (m : Manifest)
-        → o.cert ≡ ee.now → ee.now.tbs.crl_uri ≡ Some uri.now → files_by ca.now m ≡ files.now
-        → Finds (IsCrlOf (world_of d (V.says verifier.old) index.now) ca.now o m) found) }
-    ensures same { V.says verifier.new ≡ V.says verifier.old }
-    ensures asked { V.count verifier.new ≤ V.count verifier.old + 1 }
-{
-    find_crl(alloc, uri, files, ca, ee, index, verifier)
+    Ok(Ok(kept))
 }

@@ -1,19 +1,24 @@
 //! The files that a manifest lists: their lookup keys, and whether all of them are there (RFC 9286 6.4, 6.5).
 
-ghost use Rattle.std.specs.Prelude.{◌≡◌, ◌↔◌, IfOk, IsTrue, Some};
+ghost use Rattle.std.specs.Prelude.{◌≡◌, IfOk, Some, flat_map};
 ghost use Rattle.certs_cert.specs.certs_key.Digesting.{digests_of};
-ghost use Rattle.rpki_rules.specs.Certs.{Verdicts};
-ghost use Rattle.rpki_rules.specs.Points.{HasFiles, IsHeld, files_in};
-ghost use Rattle.rpki_rules.specs.Words.{Each};
+ghost use Rattle.rpki_standing.specs.PointFaults.{names_tests};
+ghost use Rattle.rpki_standing.specs.Tests.{Tells};
+ghost use Rattle.rpki_rules.specs.Certs.{Cert, Verdicts};
+ghost use Rattle.rpki_rules.specs.Objects.{Manifest, Object};
+ghost use Rattle.rpki_rules.specs.PointReasons.{IsFolder, PassesManifest, file_tests};
+ghost use Rattle.rpki_rules.specs.Points.{files_in};
+ghost use Rattle.rpki_rules.specs.ReasonViews.{manifest_test_of};
 ghost use Rattle.rpki_rules.specs.World.{world_of};
 
-use crate::points::held::is_held;
+use crate::points::held::check_held;
 use crate::points::keys::key_in;
 use crate::points::names::differ_by_name;
 use crate::table::Index;
 use bytes::Bytes;
-use certs_cert::{Cert, Digester, Rsync};
+use certs_cert::{Digester, Rsync};
 use objects_cms::manifest::ManifestContent;
+use rpki_rules::reason::ManifestTest;
 use std::alloc::{AllocError, Global};
 
 /// The lookup keys of the files that a manifest lists, in its order: their names joined to the folder.
@@ -34,46 +39,46 @@ pub fn files_of(
     Ok(keys)
 }
 
-// Whether each of the files that a manifest lists is in that folder, with the hash that is listed. One digest a file is
-// made, up to the first that isn't.
-fn are_held<D: Digester>(
+// Whether each of the files that a manifest lists is in that folder, with the hash that is listed; else the first test that
+// fails, of the first file. One digest a file is made, up to the first that isn't there so.
+fn check_each<D: Digester>(
     alloc: Global,
     folder: &Rsync,
     manifest: &ManifestContent,
     index: &Index<'_>,
     digester: &D,
-) -> Result<bool, AllocError>
-    ensures { IfOk result (λ held. (v : Verdicts) → IsTrue held ↔ Each (IsHeld
-        (world_of (digests_of D.sha256_digest D.sha1_digest digester.now) v index.now)
-        folder.now) manifest.now.files) }
+) -> Result<Result<(), ManifestTest>, AllocError>
+    ensures { IfOk result (λ told. (v : Verdicts) (ca : Cert) (o : Object) (m : Manifest)
+        → IsFolder ca folder.now → Tells manifest_test_of (PassesManifest (world_of
+        (digests_of D.sha256_digest D.sha1_digest digester.now) v index.now) ca o m)
+        (flat_map file_tests manifest.now.files) told) }
 {
     let mut left = manifest.iter();
     while let Some(file) = left.next() {
-        if !is_held(alloc, folder, &file, index, digester)? {
-            return Ok(false);
+        if let Err(test) = check_held(alloc, folder, &file, index, digester)? {
+            return Ok(Err(test));
         }
     }
-    Ok(true)
+    Ok(Ok(()))
 }
 
-/// Whether the authority's repository has the files that its manifest lists: they differ by name, and each is there with
-/// the hash that is listed. One digest a file is made, up to the first that isn't; none where two have one name.
-pub fn has_files<D: Digester>(
+/// Whether that folder has the files that a manifest lists: they differ by name, and each is there with the hash that is
+/// listed; else the first test that fails. One digest a file is made, up to the first that isn't there so; none where two
+/// have one name.
+pub fn check_files<D: Digester>(
     alloc: Global,
-    ca: &Cert,
+    folder: &Rsync,
     manifest: &ManifestContent,
     index: &Index<'_>,
     digester: &D,
-) -> Result<bool, AllocError>
-    ensures { IfOk result (λ yes. (v : Verdicts) → IsTrue yes ↔ HasFiles
-        (world_of (digests_of D.sha256_digest D.sha1_digest digester.now) v index.now)
-        ca.now manifest.now) }
+) -> Result<Result<(), ManifestTest>, AllocError>
+    ensures { IfOk result (λ told. (v : Verdicts) (ca : Cert) (o : Object)
+        → IsFolder ca folder.now → Tells manifest_test_of (PassesManifest (world_of
+        (digests_of D.sha256_digest D.sha1_digest digester.now) v index.now) ca o manifest.now)
+        (names_tests manifest.now) told) }
 {
-    let Some(folder) = ca.tbs().ca_repository() else {
-        return Ok(false);
-    };
     if !differ_by_name(alloc, manifest)? {
-        return Ok(false);
+        return Ok(Err(ManifestTest::NamesDiffer));
     }
-    are_held(alloc, folder, manifest, index, digester)
+    check_each(alloc, folder, manifest, index, digester)
 }

@@ -7,8 +7,10 @@ ghost use Rattle.rpki_rules.specs.Certs.{encoded};
 ghost use Rattle.rpki_rules.specs.World.{world_of};
 ghost use Rattle.rpki_steps.specs.Anchored.{FindsAnchor};
 
-use crate::accepted::validated::accepted_or_none;
+use crate::accepted::tests::cert_test;
+use crate::accepted::validated::accepted_or_refused;
 use certs_verify::{Cert, Digester, PublicKey, ResourceCert, TalInfo, Validate, Verifier};
+use rpki_rules::reason::AnchorTest;
 use rpki_standing::table::Index;
 use std::alloc::AllocError;
 use std::rc::Rc;
@@ -21,8 +23,8 @@ fn has_key(cert: &Cert, key: &PublicKey) -> bool
     own.encoded() == key.encoded()
 }
 
-/// The certificate as one of a trust anchor with that key, with what it lists, or nothing where it is none. `tal` is what
-/// the locator is called by which it was found.
+/// The certificate as one of a trust anchor with that key, with what it lists; else the first test that fails, of which the
+/// key is the first. `tal` is what the locator is called by which it was found.
 pub fn anchor_cert<D: Digester, V: Verifier>(
     cert: Cert,
     key: &PublicKey,
@@ -30,7 +32,7 @@ pub fn anchor_cert<D: Digester, V: Verifier>(
     index: &Index<'_>,
     digester: &D,
     verifier: &mut V,
-) -> Result<Option<ResourceCert>, AllocError>
+) -> Result<Result<ResourceCert, AnchorTest>, AllocError>
     ensures found { IfOk result (FindsAnchor (world_of
         (digests_of D.sha256_digest D.sha1_digest digester.now) (V.says verifier.old) index.now)
         key.now tal.value cert) }
@@ -40,9 +42,12 @@ pub fn anchor_cert<D: Digester, V: Verifier>(
     if !has_key(&cert, key) {
         drop(tal);
         drop(cert);
-        return Ok(None);
+        return Ok(Err(AnchorTest::SameKey));
     }
     let now = index.moment();
     let validated = cert.validate_ta_at(tal, true, now, digester, verifier);
-    accepted_or_none(validated)
+    match accepted_or_refused(validated)? {
+        Ok(anchor) => Ok(Ok(anchor)),
+        Err(error) => Ok(Err(AnchorTest::AnchorCert(cert_test(&error)))),
+    }
 }

@@ -1,9 +1,9 @@
-//! What a validation accepted, or that it accepted none.
+//! What a validation accepted, or the error of the test that refused.
 
 ghost use Rattle.std.specs.Prelude.{◌≡◌, ◌↔◌, IfOk, IsTrue, Some};
 ghost use Rattle.certs_verify.specs.Validated.{cause_of};
 ghost use Rattle.rpki_steps.specs.certs_extension.Calls.{wants_memory};
-ghost use Rattle.rpki_steps.specs.AcceptedOrNone.{IsAcceptedOrNone};
+ghost use Rattle.rpki_steps.specs.Accepted.{IsAcceptedOrRefused};
 
 use certs_verify::{Refused, ResourceCert, ValidationError, VerificationError};
 use std::alloc::AllocError;
@@ -18,21 +18,21 @@ fn is_memory(error: &ValidationError) -> bool
     )
 }
 
-/// The certificate that was accepted, or none where a test refused it; lack of memory is neither.
-pub(crate) fn accepted_or_none(
+/// The certificate that was accepted, or the error of the test that refused it; lack of memory is neither.
+pub(crate) fn accepted_or_refused(
     validated: Result<ResourceCert, Refused<ValidationError>>,
-) -> Result<Option<ResourceCert>, AllocError>
-    ensures { IfOk result (IsAcceptedOrNone validated) }
+) -> Result<Result<ResourceCert, ValidationError>, AllocError>
+    ensures { IfOk result (IsAcceptedOrRefused validated) }
 {
     match validated {
-        Ok(found) => Ok(Some(found)),
+        Ok(found) => Ok(Ok(found)),
         Err(refused) => {
-            let memory = is_memory(&refused.error);
-            drop(refused);
-            if memory {
+            let Refused { cert, error } = refused;
+            drop(cert);
+            if is_memory(&error) {
                 return Err(AllocError);
             }
-            Ok(None)
+            Ok(Err(error))
         }
     }
 }

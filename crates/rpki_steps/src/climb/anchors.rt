@@ -9,10 +9,11 @@ ghost use Rattle.rpki_standing.specs.rpki_bundle.declared.parts.Locator.{Locator
 ghost use Rattle.rpki_standing.specs.certs_key.Digesting.{digests_of};
 ghost use Rattle.rpki_steps.specs.ClimbAnchors.{IsAnchorOf};
 
+use rpki_rules::reason::laws::anchor_tests_are_rules;
 use rpki_standing::anchors::laws::{no_lead, one_lead};
 use rpki_standing::anchors::{LocatorLookup, follow};
 use rpki_standing::table::{Locator, Object};
-use rpki_standing::{Cert, Digester, Index, PublicKey, Verifier, is_anchor_cert};
+use rpki_standing::{Cert, Digester, Index, PublicKey, Verifier, check_anchor_cert};
 use std::alloc::{AllocError, Global};
 
 /// The locator of that name among those. They are gone through, one by one.
@@ -49,7 +50,8 @@ fn is_anchor_there<D: Digester, V: Verifier>(
     ensures same { V.says verifier.new ≡ V.says verifier.old }
     ensures asked { V.count verifier.new ≤ V.count verifier.old + 1 }
 {
-    object.uri.as_slice() == uri && is_anchor_cert(cert, key, index, digester, verifier)
+    anchor_tests_are_rules();
+    object.uri.as_slice() == uri && check_anchor_cert(cert, key, index, digester, verifier).is_ok()
 }
 
 /// Whether the certificate at the lookup key is the anchor to which the locator leads. The verifier is asked once, at most.

@@ -1,14 +1,17 @@
 //! Certificates below an authority (RFC 6487 7.2).
 
 ghost use Rattle.std.specs.Prelude.{◌≡◌, ◌↔◌, ◌+◌, ◌≤◌, IfOk, IsTrue};
-ghost use Rattle.rpki_walk.specs.Evidence.{IsBelow};
+ghost use Rattle.rpki_judge.specs.Evidence.{IsBelow};
 ghost use Rattle.rpki_rules.specs.Chains.{CertAt, IsSound};
 ghost use Rattle.rpki_rules.specs.Points.{files as files_by};
 ghost use Rattle.rpki_rules.specs.World.{world_of};
 ghost use Rattle.rpki_standing.specs.certs_key.Digesting.{digests_of};
 
 use crate::climb::files::is_cer_file;
-use rpki_standing::{Cert, Digester, Index, Point, Verifier, is_issued_to_authority, is_unrevoked};
+use rpki_rules::reason::laws::{cert_tests_are_rules, revocation_tests_are_rules};
+use rpki_standing::{
+    Cert, Digester, Index, StandingPoint, Verifier, check_authority_cert, check_revocation,
+};
 use std::alloc::{AllocError, Global};
 
 /// Whether the certificate is sound at the authority's point: it has the form of an authority's, it isn't revoked there, and
@@ -16,7 +19,7 @@ use std::alloc::{AllocError, Global};
 pub fn is_sound_below<D: Digester, V: Verifier>(
     alloc: Global,
     ca: &Cert,
-    point: &Point,
+    point: &StandingPoint,
     cert: &Cert,
     index: &Index<'_>,
     digester: &D,
@@ -28,10 +31,12 @@ pub fn is_sound_below<D: Digester, V: Verifier>(
     ensures same { V.says verifier.new ≡ V.says verifier.old }
     ensures asked { V.count verifier.new ≤ V.count verifier.old + 1 }
 {
-    if !is_unrevoked(alloc, cert, point.manifest_cert(), point.crl())? {
-        return Ok(false);
+    cert_tests_are_rules();
+    revocation_tests_are_rules();
+    match check_revocation(alloc, cert, point.manifest_cert(), point.crl())? {
+        Ok(()) => Ok(check_authority_cert(cert, ca, index, digester, verifier).is_ok()),
+        Err(_) => Ok(false),
     }
-    Ok(is_issued_to_authority(cert, ca, index, digester, verifier))
 }
 
 /// Whether the certificate at the lookup key is at a file of the authority's point, for an authority's certificate, and sound
@@ -39,7 +44,7 @@ pub fn is_sound_below<D: Digester, V: Verifier>(
 pub fn is_below<D: Digester, V: Verifier>(
     alloc: Global,
     ca: &Cert,
-    point: &Point,
+    point: &StandingPoint,
     uri: &[u8],
     cert: &Cert,
     index: &Index<'_>,

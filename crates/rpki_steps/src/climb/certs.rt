@@ -1,14 +1,14 @@
 //! Certificates: what they claim, whether two have one key, and the one at a lookup key (RFC 6487 4.8).
 
 ghost use Rattle.std.specs.Prelude.{◌≡◌, ◌↔◌, IfOk, IsTrue};
-ghost use Rattle.rpki_walk.specs.Evidence.{IsReadCert};
-ghost use Rattle.rpki_walk.specs.Needed.{AreClaims};
+ghost use Rattle.rpki_judge.specs.Evidence.{IsReadCert};
+ghost use Rattle.rpki_judge.specs.Needed.{AreClaims};
 ghost use Rattle.rpki_rules.specs.Certs.{Digests, Verdicts};
 ghost use Rattle.rpki_rules.specs.World.{world_of};
 
+use rpki_judge::Claims;
 use rpki_standing::anchors::cert_at;
 use rpki_standing::{Cert, Index};
-use rpki_walk::judge::Claims;
 use std::alloc::{AllocError, Global};
 
 /// What the certificate claims, by its policy (RFC 6487 4.8.10, 4.8.11, RFC 8360 4.2).

@@ -1,6 +1,5 @@
-//! A bundle with a digester and a verifier, as the judge asks it.
+//! A bundle, as the judge asks it.
 
-ghost use Rattle.std.specs.Prelude.{◌≡◌};
 ghost use Rattle.rpki_standing.specs.certs_key.Digesting.{digests_of};
 ghost use Rattle.rpki_rules.specs.World.{world_of};
 
@@ -9,42 +8,16 @@ use crate::climb::below::is_below;
 use crate::climb::certs::{claims_of, find_cert, have_one_key};
 use crate::climb::needs::needs_of;
 use crate::climb::points::{read_object, read_point};
+use crate::repository::BundleRepository;
+use rpki_judge::{Claims, Evidence, Needed};
 use rpki_standing::attested::Published;
-use rpki_standing::{Cert, Digester, Index, Point, Verifier};
-use rpki_walk::judge::{Claims, Evidence, Needed};
+use rpki_standing::{Cert, Digester, StandingPoint, Verifier};
 use std::alloc::{AllocError, Global};
 
-/// A bundle with a digester and a verifier: what the judge asks of its objects.
-#[derive(Drop)]
-pub struct BundleEvidence<'a, D, V> {
-    /// The bundle.
-    pub index: Index<'a>,
-    /// What the digests are made by.
-    pub digester: &'a D,
-    /// What says which signatures are good.
-    pub verifier: &'a mut V,
-}
-
-impl<'a, D: Digester, V: Verifier> BundleEvidence<'a, D, V> {
-    /// The bundle with this digester and this verifier, which is asked through it as long as it is lent.
-    pub fn new(index: Index<'a>, digester: &'a D, verifier: &'a mut V) -> Self
-        ensures index { result.index ≡ index.entry }
-        ensures digester { result.digester.now ≡ digester.now }
-        ensures verifier { result.verifier.now ≡ verifier.old }
-        ensures lender { result.verifier.ghost_name ≡ verifier.entry.ghost_name }
-    {
-        BundleEvidence {
-            index,
-            digester,
-            verifier,
-        }
-    }
-}
-
-impl<'a, D: Digester, V: Verifier> Evidence for BundleEvidence<'a, D, V> {
+impl<'a, D: Digester, V: Verifier> Evidence for BundleRepository<'a, D, V> {
     type Cert = Cert;
 
-    type Point = Point;
+    type Point = StandingPoint;
 
     type Object = Published;
 
@@ -77,7 +50,7 @@ impl<'a, D: Digester, V: Verifier> Evidence for BundleEvidence<'a, D, V> {
         claims_of(c)
     }
 
-    fn manifest_cert<'p>(&self, p: &'p Point) -> &'p Cert {
+    fn manifest_cert<'p>(&self, p: &'p StandingPoint) -> &'p Cert {
         p.manifest_cert()
     }
 
@@ -104,7 +77,11 @@ impl<'a, D: Digester, V: Verifier> Evidence for BundleEvidence<'a, D, V> {
         is_anchor(alloc, locator, uri, c, index, digester, self.verifier)
     }
 
-    fn read_point(&mut self, alloc: Global, ca: &Cert) -> Result<Option<Point>, AllocError> {
+    fn read_point(
+        &mut self,
+        alloc: Global,
+        ca: &Cert,
+    ) -> Result<Option<StandingPoint>, AllocError> {
         read_point(alloc, ca, &self.index, self.digester, self.verifier)
     }
 
@@ -112,7 +89,7 @@ impl<'a, D: Digester, V: Verifier> Evidence for BundleEvidence<'a, D, V> {
         &mut self,
         alloc: Global,
         ca: &Cert,
-        p: &Point,
+        p: &StandingPoint,
         uri: &[u8],
         c: &Cert,
     ) -> Result<bool, AllocError> {
@@ -124,7 +101,7 @@ impl<'a, D: Digester, V: Verifier> Evidence for BundleEvidence<'a, D, V> {
         &mut self,
         alloc: Global,
         ca: &Cert,
-        p: &Point,
+        p: &StandingPoint,
         uri: &[u8],
     ) -> Result<Option<Published>, AllocError> {
         let (index, digester) = (&self.index, self.digester);

@@ -6,20 +6,7 @@ ghost use Rattle.rpki_rules.specs.Words.{Mem};
 
 use bytes::Bytes;
 use rpki_standing::payloads::{Extension, extension_of};
-
-/// Whether the lookup key is one of those. They are gone through, one by one.
-pub fn is_listed(files: &[Bytes], key: &[u8]) -> bool
-    ensures { IsTrue result ↔ Mem files.now key.now }
-{
-    let mut rest = files;
-    while let Some((file, others)) = rest.split_first() {
-        if file.as_slice() == key {
-            return true;
-        }
-        rest = others;
-    }
-    false
-}
+use rpki_standing::points::is_listed;
 
 // Whether the name says that the file is a certificate (RFC 6481 2.2).
 fn is_cer(uri: &[u8]) -> bool

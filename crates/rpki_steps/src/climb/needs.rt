@@ -9,15 +9,15 @@ ghost use Rattle.rpki_standing.specs.objects_payload.Addresses.{roa_address};
 ghost use Rattle.rpki_standing.specs.Views.{payload_of};
 ghost use Rattle.rpki_rules.specs.Attests.{OfAspa, OfRoa};
 ghost use Rattle.rpki_rules.specs.Judge.{Needs, runs_of};
-ghost use Rattle.rpki_walk.specs.Needed.{IsNeed};
+ghost use Rattle.rpki_judge.specs.Needed.{IsNeed};
 
+use rpki_judge::Needed;
+use rpki_judge::asres::AsBlock;
+use rpki_judge::chain::{Block, OwnedChain, SharedChain};
+use rpki_judge::ipres::IpBlock;
 use rpki_standing::payloads::{
     AsProviderAttestation, Payload, RoaIpAddress, RoaIpAddresses, RouteOriginAttestation,
 };
-use rpki_walk::judge::Needed;
-use rpki_walk::judge::asres::AsBlock;
-use rpki_walk::judge::chain::{Block, OwnedChain, SharedChain};
-use rpki_walk::judge::ipres::IpBlock;
 use std::alloc::{AllocError, Global};
 
 // The block of the addresses of one prefix.

@@ -1,14 +1,14 @@
 //! Publication points, and the objects at their files (RFC 9286 6, RFC 6488 3).
 
 ghost use Rattle.std.specs.Prelude.{◌≡◌, ◌+◌, ◌≤◌, IfOk, IfSome};
-ghost use Rattle.rpki_walk.specs.Evidence.{IsReadObject, IsReadPoint};
+ghost use Rattle.rpki_judge.specs.Evidence.{IsReadObject, IsReadPoint};
 ghost use Rattle.rpki_rules.specs.Points.{files as files_by};
 ghost use Rattle.rpki_rules.specs.World.{world_of};
 ghost use Rattle.rpki_standing.specs.certs_key.Digesting.{digests_of};
 
-use crate::climb::files::is_listed;
 use rpki_standing::attested::{Published, find_object};
-use rpki_standing::{Cert, Digester, Index, Point, Verifier, point_unheld};
+use rpki_standing::points::is_listed;
+use rpki_standing::{Cert, Digester, Index, StandingPoint, Verifier, standing_point};
 use std::alloc::{AllocError, Global};
 
 /// The authority's publication point, what the certificate of its manifest claims apart, if it is one. The verifier is asked
@@ -19,7 +19,7 @@ pub fn read_point<D: Digester, V: Verifier>(
     index: &Index<'_>,
     digester: &D,
     verifier: &mut V,
-) -> Result<Option<Point>, AllocError>
+) -> Result<Option<StandingPoint>, AllocError>
     ensures read { IfOk result (IsReadPoint (λ p. p.point) (world_of
         (digests_of D.sha256_digest D.sha1_digest digester.now) (V.says verifier.old) index.now)
         ca.now) }
@@ -28,7 +28,10 @@ pub fn read_point<D: Digester, V: Verifier>(
     ensures same { V.says verifier.new ≡ V.says verifier.old }
     ensures asked { V.count verifier.new ≤ V.count verifier.old + 3 }
 {
-    point_unheld(alloc, ca, index, digester, verifier)
+    match standing_point(alloc, ca, index, digester, verifier)? {
+        Ok(point) => Ok(Some(point)),
+        Err(_) => Ok(None),
+    }
 }
 
 /// The object at a file of the authority's point that is sound there, what its certificate claims apart, if it is one. The
@@ -36,7 +39,7 @@ pub fn read_point<D: Digester, V: Verifier>(
 pub fn read_object<D: Digester, V: Verifier>(
     alloc: Global,
     ca: &Cert,
-    point: &Point,
+    point: &StandingPoint,
     uri: &[u8],
     index: &Index<'_>,
     digester: &D,
@@ -53,5 +56,11 @@ pub fn read_object<D: Digester, V: Verifier>(
         return Ok(None);
     }
     let (ee, crl) = (point.manifest_cert(), point.crl());
-    find_object(alloc, ca, ee, crl, uri, index, digester, verifier)
+    match find_object(alloc, ca, ee, crl, uri, index, digester, verifier)? {
+        Ok(object) => Ok(Some(object)),
+        Err(reason) => {
+            drop(reason);
+            Ok(None)
+        }
+    }
 }

@@ -8,13 +8,13 @@ ghost use Rattle.rpki_rules.specs.Points.{IsPoint};
 ghost use Rattle.rpki_rules.specs.World.{world_of};
 ghost use Rattle.rpki_steps.specs.Places.{FindsPoint};
 
-use crate::places::claims::fits_below;
+use crate::claims::fits_below;
 use crate::places::kept::keep_with;
-use crate::places::parts::find_parts;
+use crate::places::parts::read_parts;
 use crate::places::standing::Point;
 use certs_verify::ResourceCert;
 use rpki_bundle::Bundle;
-use rpki_standing::{Cert, Digester, Index, Verifier, find_manifest};
+use rpki_standing::{Cert, Digester, Index, Verifier, standing_point};
 use std::alloc::{AllocError, Global};
 
 /// What stands at the authority's publication point, by what the authority holds: the point, or nothing where it is refused,
@@ -37,8 +37,18 @@ pub fn point<D: Digester, V: Verifier>(
     let Some(point) = point_unheld(alloc, bundle, ca.as_cert(), digester, verifier)? else {
         return Ok(None);
     };
-    let fits = fits_below(alloc, &point.manifest_cert, ca);
-    Ok(fits.then_some(point))
+    match fits_below(alloc, &point.manifest_cert, ca) {
+        Ok(Ok(())) => Ok(Some(point)),
+        Ok(Err(numbers)) => {
+            drop(numbers);
+            drop(point);
+            Ok(None)
+        }
+        Err(error) => {
+            drop(point);
+            Err(error)
+        }
+    }
 }
 
 /// What stands at the authority's publication point, what the certificate of its manifest claims apart; nothing where the
@@ -58,12 +68,12 @@ pub fn point_unheld<D: Digester, V: Verifier>(
     ensures asked { V.count verifier.new ≤ V.count verifier.old + 3 }
 {
     let index = Index::new(bundle);
-    let Some(manifest) = find_manifest(alloc, ca, &index, digester, verifier)? else {
+    let Ok(point) = standing_point(alloc, ca, &index, digester, verifier)? else {
         return Ok(None);
     };
-    let parts = find_parts(alloc, ca, &manifest, bundle, digester, verifier);
-    let Some((manifest, parts)) = keep_with(manifest, parts)? else {
+    let parts = read_parts(alloc, ca, &point, bundle);
+    let Some((point, parts)) = keep_with(point, parts)? else {
         return Ok(None);
     };
-    Ok(Some(Point::of(manifest, parts)))
+    Ok(Some(Point::of(point, parts)))
 }

@@ -4,7 +4,7 @@ ghost use Rattle.std.specs.Prelude.{◌≡◌};
 
 use crate::places::files::File;
 use certs_basics::uri::Rsync;
-use rpki_standing::{Cert, Crl, Manifest};
+use rpki_standing::{Cert, Crl, StandingPoint};
 
 /// What stands at an authority's publication point.
 #[derive(Drop)]
@@ -20,21 +20,20 @@ pub struct Point {
 }
 
 impl Point {
-    /// The point of that manifest, with its files and its revocation list, whose URI stands before it.
-    pub(crate) fn of(manifest: Manifest, parts: (Vec<File>, (Rsync, Crl))) -> Point
-        ensures cert { result.manifest_cert ≡ manifest.signed.cert }
-        ensures files { result.files ≡ parts.0 }
-        ensures uri { result.crl_uri ≡ parts.1.0 }
-        ensures list { result.crl ≡ parts.1.1 }
+    /// That point, with the URI of its revocation list and with its files.
+    pub(crate) fn of(point: StandingPoint, parts: (Rsync, Vec<File>)) -> Point
+        ensures cert { result.manifest_cert ≡ point.point.object.cert }
+        ensures list { result.crl ≡ point.point.crl }
+        ensures uri { result.crl_uri ≡ parts.0 }
+        ensures files { result.files ≡ parts.1 }
     {
-        let (signed, content) = manifest.into_parts();
-        drop(content);
-        let (files, (crl_uri, crl)) = parts;
+        let (manifest_cert, crl) = point.into_parts();
+        let (crl_uri, files) = parts;
         Point {
             crl_uri,
             crl,
             files,
-            manifest_cert: signed.into_cert(),
+            manifest_cert,
         }
     }
 }

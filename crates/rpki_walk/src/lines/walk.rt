@@ -59,12 +59,20 @@ impl LinesWalk {
         self.met.as_slice().len()
     }
 
-    // Since when the keys were met that are met below a chain which was walked and ends like this one.
-    fn find(&self, uri: &Bytes, keys: &[Bytes], held: &ResourceSet) -> Option<usize>
-        ensures { IfSome result (IsRemembered self.now.before.walked.items self.now.met.items
-            uri.now keys.now held.now) }
+    // Since when the keys were met that are met below a chain which was walked and ends like this one, whose last certificate
+    // is this one.
+    fn find<S: Naming>(
+        &self,
+        repository: &S,
+        uri: &Bytes,
+        keys: &[Bytes],
+        ca: &S::Authority,
+    ) -> Result<Option<usize>, AllocError>
+        ensures { IfOk result (λ from. IfSome from (IsRemembered self.now.before.walked.items
+            self.now.met.items uri.now keys.now (S.sets ca.now))) }
     {
-        self.before.find(self.met.as_slice(), uri, keys, held)
+        let held = repository.held(ca)?;
+        Ok(self.before.find(self.met.as_slice(), uri, keys, &held))
     }
 
     // Remembers that all below this chain was walked, where the keys that are met there were met since then.
@@ -157,8 +165,7 @@ pub(crate) fn lines_from<S: Naming>(
     ensures same { S.world repository.new ≡ S.world repository.old }
     ensures lender { S.lender repository.new ≡ S.lender repository.old }
 {
-    let held = repository.held(ca)?;
-    if let Some(from) = walk.find(uri, keys, &held) {
+    if let Some(from) = walk.find(repository, uri, keys, ca)? {
         return Ok(from);
     }
     let mut from = walk.met_count();
@@ -179,6 +186,7 @@ pub(crate) fn lines_from<S: Naming>(
             }
         }
     }
+    let held = repository.held(ca)?;
     walk.remember(alloc, uri, held, keys, from)?;
     Ok(from)
 }

@@ -30,6 +30,8 @@ impl<'a, S: Naming> Visitor<S> for Namer<'a> {
         alloc: Global,
         repository: &mut S,
         path: &Rc<Path>,
+        _keys: &[Bytes],
+        _uri: &Bytes,
         ca: &S::Authority,
     ) -> Result<(), AllocError> {
         let keys = repository.named_keys(alloc, ca)?;

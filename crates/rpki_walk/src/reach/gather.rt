@@ -29,6 +29,8 @@ impl<'a, S: Naming> Visitor<S> for Gatherer<'a> {
         alloc: Global,
         repository: &mut S,
         _path: &Rc<Path>,
+        _keys: &[Bytes],
+        _uri: &Bytes,
         ca: &S::Authority,
     ) -> Result<(), AllocError> {
         let keys = repository.named_keys(alloc, ca)?;

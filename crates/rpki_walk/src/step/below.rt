@@ -4,7 +4,11 @@ ghost use Rattle.std.specs.Prelude.{◌≡◌, IfOk};
 ghost use Rattle.rpki_walk.specs.Steps.{FindsHeld, FindsKept};
 
 use crate::step::lent::{Claim, Holding};
-use resources::{AsBlocks, AsResources, ClaimError, IpBlocks, IpResources, Overclaim};
+use resources::{
+    AsBlocks, AsResources, ClaimError, IpBlocks, IpResources, Overclaim, OverclaimedAsResources,
+    OverclaimedIpResources,
+};
+use rpki_rules::reason::Overclaimed;
 use std::alloc::{AllocError, Global};
 use std::marker::Model;
 
@@ -47,56 +51,59 @@ impl Held {
     }
 }
 
-// The addresses of one family that are held below, or nothing where the claim doesn't fit.
+// The addresses of one family that are held below, or those that are listed and not held.
 fn kept_addresses(
     alloc: Global,
     held: &IpBlocks,
     claim: &IpResources,
     mode: Overclaim,
-) -> Result<Option<IpBlocks>, AllocError>
+) -> Result<Result<IpBlocks, OverclaimedIpResources>, AllocError>
     ensures { IfOk result (FindsKept mode claim.now held.now) }
 {
     match held.verify_issued(alloc, claim, mode) {
-        Ok(kept) => Ok(Some(kept)),
-        Err(ClaimError::Overclaimed(_)) => Ok(None),
+        Ok(kept) => Ok(Ok(kept)),
+        Err(ClaimError::Overclaimed(numbers)) => Ok(Err(numbers)),
         Err(ClaimError::Memory) => Err(AllocError),
     }
 }
 
-// The AS numbers that are held below, or nothing where the claim doesn't fit.
+// The AS numbers that are held below, or those that are listed and not held.
 fn kept_numbers(
     alloc: Global,
     held: &AsBlocks,
     claim: &AsResources,
     mode: Overclaim,
-) -> Result<Option<AsBlocks>, AllocError>
+) -> Result<Result<AsBlocks, OverclaimedAsResources>, AllocError>
     ensures { IfOk result (FindsKept mode claim.now held.now) }
 {
     match held.verify_issued(alloc, claim, mode) {
-        Ok(kept) => Ok(Some(kept)),
-        Err(ClaimError::Overclaimed(_)) => Ok(None),
+        Ok(kept) => Ok(Ok(kept)),
+        Err(ClaimError::Overclaimed(numbers)) => Ok(Err(numbers)),
         Err(ClaimError::Memory) => Err(AllocError),
     }
 }
 
-/// What a certificate that claims so much then holds, or nothing where its claim doesn't fit: of a kind that is missing
-/// nothing, of one that is inherited all that is held above, and of one that is listed what it lists and is held above (RFC
-/// 6487 7.2, RFC 8360 4.2).
+/// What a certificate that claims so much then holds: of a kind that is missing nothing, of one that is inherited all that
+/// is held above, and of one that is listed what it lists and is held above (RFC 6487 7.2, RFC 8360 4.2). Where its claim
+/// doesn't fit: the first kind of which it lists what isn't held, IPv4 first, then IPv6, and the numbers of it that aren't.
 pub fn held_below(
     alloc: Global,
     holding: &Holding<'_>,
     claim: &Claim<'_>,
-) -> Result<Option<Held>, AllocError>
+) -> Result<Result<Held, Overclaimed>, AllocError>
     ensures { IfOk result (FindsHeld claim.now holding.now) }
 {
-    let Some(ipv4) = kept_addresses(alloc, holding.ipv4, claim.ipv4, claim.mode)? else {
-        return Ok(None);
+    let ipv4 = match kept_addresses(alloc, holding.ipv4, claim.ipv4, claim.mode)? {
+        Ok(kept) => kept,
+        Err(numbers) => return Ok(Err(Overclaimed::V4(numbers.v4()))),
     };
-    let Some(ipv6) = kept_addresses(alloc, holding.ipv6, claim.ipv6, claim.mode)? else {
-        return Ok(None);
+    let ipv6 = match kept_addresses(alloc, holding.ipv6, claim.ipv6, claim.mode)? {
+        Ok(kept) => kept,
+        Err(numbers) => return Ok(Err(Overclaimed::V6(numbers.v6()))),
     };
-    let Some(asn) = kept_numbers(alloc, holding.asn, claim.asn, claim.mode)? else {
-        return Ok(None);
+    let asn = match kept_numbers(alloc, holding.asn, claim.asn, claim.mode)? {
+        Ok(kept) => kept,
+        Err(numbers) => return Ok(Err(Overclaimed::Asn(numbers))),
     };
-    Ok(Some(Held { asn, ipv4, ipv6 }))
+    Ok(Ok(Held { asn, ipv4, ipv6 }))
 }

@@ -3,9 +3,9 @@ use Rattle.std.specs.Prelude.{◌↔◌, IsTrue}
 use Rattle.certs_verify.specs.certs_basics.Verdicts.{Verdicts}
 use Rattle.certs_verify.specs.certs_extension.Cert.{CertValue}
 use Rattle.certs_verify.specs.certs_key.Digesting.{digests_of}
-use Rattle.objects_cms.specs.Content.{object_with}
-use Rattle.objects_cms.specs.Signer.{SignerValue}
-use Rattle.objects_cms.specs.objects_payload.ObjectText.{Sound}
+use Rattle.objects_rta.specs.objects_cms.Content.{object_with}
+use Rattle.objects_rta.specs.objects_cms.Signer.{SignerValue}
+use Rattle.objects_rta.specs.objects_payload.ObjectText.{Sound}
 use Rattle.objects_rta_valid.specs.Places.{Stands}
 use Rattle.objects_rta_valid.proofs.Standing.{empty_told, not_told, told_not}
 use Rattle.objects_rta_valid.proofs.Steps.{zip_ends, zip_more, zip_short, zip_stops}

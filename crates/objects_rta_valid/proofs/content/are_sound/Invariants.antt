@@ -3,9 +3,9 @@ use Rattle.std.specs.Prelude.{◌↔◌}
 use Rattle.std.specs.List.{AllZip}
 use Rattle.certs_verify.specs.certs_extension.Cert.{CertValue}
 use Rattle.certs_verify.specs.certs_key.Digesting.{digests_of}
-use Rattle.objects_cms.specs.Content.{object_with}
-use Rattle.objects_cms.specs.Signer.{SignerValue}
-use Rattle.objects_cms.specs.objects_payload.ObjectText.{Sound}
+use Rattle.objects_rta.specs.objects_cms.Content.{object_with}
+use Rattle.objects_rta.specs.objects_cms.Signer.{SignerValue}
+use Rattle.objects_rta.specs.objects_payload.ObjectText.{Sound}
 use Rattle.objects_rta_valid.specs.Places.{Stands}
 use Rattle.objects_rta_valid.proofs.content.are_sound.Given as goal
 

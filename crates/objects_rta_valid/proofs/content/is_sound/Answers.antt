@@ -1,5 +1,5 @@
 use Rattle.certs_verify.specs.certs_key.Digesting.{digests_of}
-use Rattle.objects_cms.specs.Content.{object_with}
+use Rattle.objects_rta.specs.objects_cms.Content.{object_with}
 use Rattle.objects_rta_valid.proofs.Sounding.{fails_not}
 use Rattle.objects_rta_valid.proofs.Standing.{always_told, not_told, told_not}
 use Rattle.objects_rta_valid.proofs.content.is_sound.Goals as goal

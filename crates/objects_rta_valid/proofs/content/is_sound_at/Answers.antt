@@ -1,8 +1,8 @@
 use Rattle.std.proofs.Common.{ℕ, List}
 use Rattle.certs_verify.specs.certs_extension.Cert.{CertValue}
 use Rattle.certs_verify.specs.certs_key.Digesting.{digests_of}
-use Rattle.objects_cms.specs.Content.{object_with}
-use Rattle.objects_cms.specs.objects_payload.ObjectText.{Sound}
+use Rattle.objects_rta.specs.objects_cms.Content.{object_with}
+use Rattle.objects_rta.specs.objects_payload.ObjectText.{Sound}
 use Rattle.objects_rta_valid.proofs.Sounding.{stands_ok}
 use Rattle.objects_rta_valid.proofs.content.is_sound_at.Goals as goal
 

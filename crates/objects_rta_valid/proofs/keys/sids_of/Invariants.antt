@@ -1,5 +1,5 @@
 use Rattle.std.proofs.Common.{◌≡◌, ◌++◌, length, map}
-use Rattle.objects_cms.specs.Signer.{SignerValue}
+use Rattle.objects_rta.specs.objects_cms.Signer.{SignerValue}
 use Rattle.objects_rta_valid.proofs.keys.sids_of.Given as goal
 
 abbrev pub invariant-loop-signer : goal.invariant-loop-signer

@@ -1,14 +1,10 @@
-use Rattle.std.proofs.Common.{◌≡◌, None, length, replicate}
-use Rattle.objects_rta_valid.specs.Places.{BeginBelow}
-use Rattle.objects_rta_valid.proofs.Tables.{linked}
+use Rattle.std.proofs.Common.{◌≡◌, None, drop, length, replicate}
+use Rattle.std.specs.List.{flat_map}
+use Rattle.objects_rta_valid.specs.Places.{linked, pairs, pairs_of}
 use Rattle.objects_rta_valid.proofs.places.links.Given as goal
 
-abbrev pub invariant-loop-pair : goal.invariant-loop-pair
-invariant-loop-pair l = record {
-  table : linked l.links.items l.rest ≡ linked (replicate l.fn.count None) l.fn.pairs;
-  long : length l.links.items ≡ l.fn.count;
-  inside : BeginBelow l.fn.count l.rest;
+abbrev pub invariant-loop-signer : goal.invariant-loop-signer
+invariant-loop-signer l = record {
+  table : linked l.links.items (flat_map pairs_of (drop l.signer l.paths.paths)) ≡ linked (replicate l.paths.count None) (pairs l.paths.paths);
+  long : length l.links.items ≡ l.paths.count;
 }
-
-abbrev pub decreases-loop-pair : goal.decreases-loop-pair
-decreases-loop-pair l = length l.rest

@@ -1,6 +1,9 @@
-use Rattle.objects_rta_valid.specs.Places.{pairs_of}
-use Rattle.objects_rta_valid.proofs.Flat.{flat_step}
+use Rattle.std.proofs.Common.{ℕ, List, Option, length, subst}
+use Rattle.objects_rta_valid.specs.Places.{ArePairsTo, pairs}
+use Rattle.objects_rta_valid.proofs.Tables.{same_pairs}
 use Rattle.objects_rta_valid.proofs.places.neighbours.Goals as goal
 
-pub loop-signer-preserved : goal.loop-signer-preserved
-loop-signer-preserved c = rw c.in_ok-push_pairs.ensures (flat_step pairs_of c.args.paths.now.paths c.loop-signer.signer c.path.result c.loop-signer.found.items _ c.path.ensures.path c.loop-signer.invariant)
+pub returns : goal.returns
+returns c =
+    same_pairs c.in_ok-behind.behind.items c.args.paths.now.count c.in_ok-found.found.items (pairs c.args.paths.now.paths) c.in_ok-behind.ensures
+    (subst (λ (ls : List (Option ℕ)). ArePairsTo ls (length ls) c.in_ok-found.found.items) c.as_slice.ensures.value c.in_ok-found.ensures)

@@ -2,7 +2,7 @@ use Rattle.objects_rta_written.proofs.Writing.{parts_end, parts_next, passed, si
 use Rattle.objects_rta_written.specs.Again.{SignersRefused, signers_seen}
 use Rattle.objects_rta_written.specs.Taking.{DerRefused}
 use Rattle.objects_written.specs.objects_payload.ObjectText.{signer_of}
-use Rattle.objects_cms.specs.Signer.{signer_fields}
+use Rattle.objects_rta.specs.objects_cms.Signer.{signer_fields}
 use Rattle.objects_rta_written.proofs.object.signers_of.Goals as goal
 
 pub returns-in_err-value-clause-refused : goal.returns-in_err-value-clause-refused

@@ -1,4 +1,4 @@
-use Rattle.std.proofs.Common.{◌≡◌, ℕ, List, None, Option, Result, Ok, Vec, String, map, refl, string_bytes, subst, sym}
+use Rattle.std.proofs.Common.{◌≡◌, List, Option, Result, Ok, Vec, String, map, string_bytes, subst, sym}
 use Rattle.std.specs.Global.{Global}
 use Rattle.std.specs.declared.io.Error.{Error}
 use Rattle.rpki_commands.specs.Arguments.{Asks}

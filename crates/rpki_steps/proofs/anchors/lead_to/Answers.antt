@@ -4,29 +4,29 @@ use Rattle.rpki_rules.specs.Kinds.{Ipv4}
 use Rattle.rpki_steps.proofs.AnchorLemmas.{is_anchor, no_anchor}
 use Rattle.rpki_steps.proofs.anchors.lead_to.Goals as goal
 
-pub new-requires : goal.new-requires
-new-requires g c =
-    let r = c.in-Some.anchor in
-    let a = rw c.in-Some.is at c.in_ok-anchor.ensures.found in
+pub new-authority-requires : goal.new-authority-requires
+new-authority-requires g c =
+    let r = c.in-Ok.anchor in
+    let a = rw c.in-Ok.is at c.in_ok-anchor.ensures.found in
     let law = c.addresses_are_whole.ensures in
     law.own r.holder.cert.tbs.v4 r.holder.v4 (law.listed c.args.object.now.octets r.holder.cert a.reads) (a.holds Ipv4)
 
-pub returns-in-Some-clause-led : goal.returns-in-Some-clause-led
-returns-in-Some-clause-led g c =
+pub returns-in-Ok-clause-judged : goal.returns-in-Ok-clause-judged
+returns-in-Ok-clause-judged g c =
     let d = digests_of g.D.Digester.sha256_digest g.D.Digester.sha1_digest c.args.digester.now in
     let w = world_of d (g.V.Verifier.says c.args.verifier.now) c.args.index.now in
     let l = c.args.locator.now in
     let k = c.args.tal.now.key in
     let u = c.args.object.now.uri in
     let o = c.args.object.now.octets in
-    λ h. is_anchor w l k u o c.in_ok-uri.uri c.in-Some.anchor c.new.result c.in_ok-uri.ensures.cases c.new.ensures h (rw (c.in-Some.is, c.key_info-key.ensures) at c.in_ok-anchor.ensures.found)
+    λ h. is_anchor w l k c.in_ok-name.name.value u o h (record { uri = c.in_ok-uri.uri; authority = c.new-authority.result }) c.in-Ok.anchor c.in_ok-uri.ensures.cases c.new-authority.ensures c.in_ok-name.ensures (rw (c.in-Ok.is, c.key_info-key.ensures) at c.in_ok-anchor.ensures.found)
 
-pub returns-in-None-clause-led : goal.returns-in-None-clause-led
-returns-in-None-clause-led g c =
+pub returns-in-Err-clause-judged : goal.returns-in-Err-clause-judged
+returns-in-Err-clause-judged g c =
     let d = digests_of g.D.Digester.sha256_digest g.D.Digester.sha1_digest c.args.digester.now in
     let w = world_of d (g.V.Verifier.says c.args.verifier.now) c.args.index.now in
     let l = c.args.locator.now in
     let k = c.args.tal.now.key in
     let u = c.args.object.now.uri in
     let o = c.args.object.now.octets in
-    λ h. no_anchor w l k u o (λ j v p. c.one_lead.ensures.key w l j k v u p o) (λ j v p. c.one_lead.ensures.octets w l j k v u p o) h (rw (c.in-None.is, c.key_info-key.ensures) at c.in_ok-anchor.ensures.found)
+    λ h. no_anchor w l k c.in_ok-name.name.value u o h c.in-Err.reason (rw (c.in-Err.is, c.key_info-key.ensures) at c.in_ok-anchor.ensures.found)

@@ -1,30 +1,16 @@
 use Rattle.rpki_steps.specs.certs_key.Digesting.{digests_of}
 use Rattle.rpki_rules.specs.World.{world_of}
-use Rattle.rpki_standing.specs.declared.payloads.names.Extension.TheVariants as extension
-use Rattle.rpki_steps.proofs.FileLemmas.{as_cert_file, as_payload_file, has_this, no_extension}
-use Rattle.std.proofs.Common.{inl, inr}
+use Rattle.rpki_steps.proofs.FileLemmas.{bad, filed}
 use Rattle.rpki_steps.proofs.files.read_file.Goals as goal
 
-pub returns-in-Some-Cer-clause-filed : goal.returns-in-Some-Cer-clause-filed
-returns-in-Some-Cer-clause-filed g c =
+pub returns-in-Ok-clause-filed : goal.returns-in-Ok-clause-filed
+returns-in-Ok-clause-filed g c =
     let d = digests_of g.D.Digester.sha256_digest g.D.Digester.sha1_digest c.args.digester.now in
     let w = world_of d (g.V.Verifier.says c.args.verifier.now) c.args.index.now in
-    as_cert_file w c.args.ca.now c.args.point.now.point c.args.uri.now c.read_cert_file.result (has_this c.args.uri.now extension.Cer (rw c.in-Some-Cer.field-0-is at c.in-Some-Cer.ensures)) c.read_cert_file.ensures.filed
+    λ l. filed w c.args.ca.now c.args.point.now.point c.args.uri.now c.in-Ok.filed ((rw c.in-Ok.is at c.in_ok-filed.ensures.judged) l)
 
-pub returns-in-Some-Roa-clause-filed : goal.returns-in-Some-Roa-clause-filed
-returns-in-Some-Roa-clause-filed g c =
+pub returns-in-Err-clause-filed : goal.returns-in-Err-clause-filed
+returns-in-Err-clause-filed g c =
     let d = digests_of g.D.Digester.sha256_digest g.D.Digester.sha1_digest c.args.digester.now in
     let w = world_of d (g.V.Verifier.says c.args.verifier.now) c.args.index.now in
-    as_payload_file w c.args.ca.now c.args.point.now.point c.args.uri.now c.read_payload_file.result (inl (has_this c.args.uri.now extension.Roa (rw c.in-Some-Roa.field-0-is at c.in-Some-Roa.ensures))) c.read_payload_file.ensures.filed
-
-pub returns-in-Some-Asa-clause-filed : goal.returns-in-Some-Asa-clause-filed
-returns-in-Some-Asa-clause-filed g c =
-    let d = digests_of g.D.Digester.sha256_digest g.D.Digester.sha1_digest c.args.digester.now in
-    let w = world_of d (g.V.Verifier.says c.args.verifier.now) c.args.index.now in
-    as_payload_file w c.args.ca.now c.args.point.now.point c.args.uri.now c.read_payload_file-in-Some-Asa.result (inr (has_this c.args.uri.now extension.Asa (rw c.in-Some-Asa.field-0-is at c.in-Some-Asa.ensures))) c.read_payload_file-in-Some-Asa.ensures.filed
-
-pub returns-in-None-clause-filed : goal.returns-in-None-clause-filed
-returns-in-None-clause-filed g c =
-    let d = digests_of g.D.Digester.sha256_digest g.D.Digester.sha1_digest c.args.digester.now in
-    let w = world_of d (g.V.Verifier.says c.args.verifier.now) c.args.index.now in
-    λ l. no_extension w c.args.ca.now c.args.point.now.point c.args.uri.now c.in-None.ensures
+    λ l. bad w c.args.ca.now c.args.point.now.point c.args.uri.now c.in-Err.reason ((rw c.in-Err.is at c.in_ok-filed.ensures.judged) l)

@@ -67,16 +67,16 @@ loop-file-preserved g t c =
         same = ap (λ q. g.S.Repository.world q) v.repository-is ∙ (c.in_ok-classify.ensures.same ∙ inv.same);
         lender = ap (λ q. g.S.Repository.lender q) v.repository-is ∙ (c.in_ok-classify.ensures.lender ∙ inv.lender);
         kept = ap (λ q. g.V.Visitor.uris q) v.visitor-is ∙ inv.kept;
-        gained = λ name a cs p st acc s. subst (λ q. Gains wants first (λ x. ReachedBy uris w held path ca x ⊎ ((u : List ℕ) × Mem (take (i + 1) fs) u × FromFile uris w name a cs p u x)) (g.V.Visitor.has q)) (sym v.visitor-is)
-            (gains_next wants first old old (ReachedBy uris w held path ca) (FromFile uris w name a cs p) fs i d c.loop-file-test.true (inv.gained name a cs p st acc s)
+        gained = λ name a cs p st acc s. subst (λ q. Gains wants first (λ x. ReachedBy uris w held on path uri ca x ⊎ ((u : List ℕ) × Mem (take (i + 1) fs) u × FromFile uris w name a cs p u x)) (g.V.Visitor.has q)) (sym v.visitor-is)
+            (gains_next wants first old old (ReachedBy uris w held on path uri ca) (FromFile uris w name a cs p) fs i d c.loop-file-test.true (inv.gained name a cs p st acc s)
             (arm_nothing g.S.Repository.cert g.S.Repository.sets g.S.Repository.payload wants uris w w1 inv.same name a cs path on uri ca csets st acc p p0 s s0 file o cl v.in-Nothing.is old));
       }
       | in-Refused+in_ok-refuse-in-Refused v ↦ record {
         same = ap (λ q. g.S.Repository.world q) v.repository-is ∙ (c.in_ok-classify.ensures.same ∙ inv.same);
         lender = ap (λ q. g.S.Repository.lender q) v.repository-is ∙ (c.in_ok-classify.ensures.lender ∙ inv.lender);
         kept = ap (λ q. g.V.Visitor.uris q) v.visitor-is ∙ (v.in_ok-refuse-in-Refused.ensures.kept ∙ inv.kept);
-        gained = λ name a cs p st acc s. subst (λ q. Gains wants first (λ x. ReachedBy uris w held path ca x ⊎ ((u : List ℕ) × Mem (take (i + 1) fs) u × FromFile uris w name a cs p u x)) (g.V.Visitor.has q)) (sym v.visitor-is)
-            (gains_next wants first old _ (ReachedBy uris w held path ca) (FromFile uris w name a cs p) fs i d c.loop-file-test.true (inv.gained name a cs p st acc s)
+        gained = λ name a cs p st acc s. subst (λ q. Gains wants first (λ x. ReachedBy uris w held on path uri ca x ⊎ ((u : List ℕ) × Mem (take (i + 1) fs) u × FromFile uris w name a cs p u x)) (g.V.Visitor.has q)) (sym v.visitor-is)
+            (gains_next wants first old _ (ReachedBy uris w held on path uri ca) (FromFile uris w name a cs p) fs i d c.loop-file-test.true (inv.gained name a cs p st acc s)
             (arm_refused g.S.Repository.cert g.S.Repository.sets g.S.Repository.payload wants uris w w1 inv.same name a cs path on uri ca csets st acc p p0 s s0 file o cl v.in-Refused.cause v.in-Refused.is old _
             (moved_refuse wants old _ d file v.in-Refused.cause c.file-item.is v.in_ok-refuse-in-Refused.ensures.gained)));
       }
@@ -84,8 +84,8 @@ loop-file-preserved g t c =
         same = ap (λ q. g.S.Repository.world q) v.repository-is ∙ (c.in_ok-classify.ensures.same ∙ inv.same);
         lender = ap (λ q. g.S.Repository.lender q) v.repository-is ∙ (c.in_ok-classify.ensures.lender ∙ inv.lender);
         kept = ap (λ q. g.V.Visitor.uris q) v.visitor-is ∙ (v.in_ok-show-in-Attests.ensures.kept ∙ inv.kept);
-        gained = λ name a cs p st acc s. subst (λ q. Gains wants first (λ x. ReachedBy uris w held path ca x ⊎ ((u : List ℕ) × Mem (take (i + 1) fs) u × FromFile uris w name a cs p u x)) (g.V.Visitor.has q)) (sym v.visitor-is)
-            (gains_next wants first old _ (ReachedBy uris w held path ca) (FromFile uris w name a cs p) fs i d c.loop-file-test.true (inv.gained name a cs p st acc s)
+        gained = λ name a cs p st acc s. subst (λ q. Gains wants first (λ x. ReachedBy uris w held on path uri ca x ⊎ ((u : List ℕ) × Mem (take (i + 1) fs) u × FromFile uris w name a cs p u x)) (g.V.Visitor.has q)) (sym v.visitor-is)
+            (gains_next wants first old _ (ReachedBy uris w held on path uri ca) (FromFile uris w name a cs p) fs i d c.loop-file-test.true (inv.gained name a cs p st acc s)
             (arm_attests g.S.Repository.cert g.S.Repository.sets g.S.Repository.payload wants uris w w1 inv.same name a cs path on uri ca csets st acc p p0 s s0 file o cl v.in-Attests.payload v.in-Attests.is old _
             (moved_show wants old _ path (g.S.Repository.payload v.in-Attests.payload) d file c.file-item.is v.in_ok-show-in-Attests.ensures.gained)));
       }
@@ -93,8 +93,8 @@ loop-file-preserved g t c =
         same = ap (λ q. g.S.Repository.world q) v.repository-is ∙ (v.in_ok-walk_from-in-Child.ensures.same ∙ (c.in_ok-classify.ensures.same ∙ inv.same));
         lender = ap (λ q. g.S.Repository.lender q) v.repository-is ∙ (v.in_ok-walk_from-in-Child.ensures.lender ∙ (c.in_ok-classify.ensures.lender ∙ inv.lender));
         kept = ap (λ q. g.V.Visitor.uris q) v.visitor-is ∙ (v.in_ok-walk_from-in-Child.ensures.kept ∙ inv.kept);
-        gained = λ name a cs p st acc s. subst (λ q. Gains wants first (λ x. ReachedBy uris w held path ca x ⊎ ((u : List ℕ) × Mem (take (i + 1) fs) u × FromFile uris w name a cs p u x)) (g.V.Visitor.has q)) (sym v.visitor-is)
-            (gains_next wants first old _ (ReachedBy uris w held path ca) (FromFile uris w name a cs p) fs i d c.loop-file-test.true (inv.gained name a cs p st acc s)
+        gained = λ name a cs p st acc s. subst (λ q. Gains wants first (λ x. ReachedBy uris w held on path uri ca x ⊎ ((u : List ℕ) × Mem (take (i + 1) fs) u × FromFile uris w name a cs p u x)) (g.V.Visitor.has q)) (sym v.visitor-is)
+            (gains_next wants first old _ (ReachedBy uris w held on path uri ca) (FromFile uris w name a cs p) fs i d c.loop-file-test.true (inv.gained name a cs p st acc s)
             (arm_child g.S.Repository.cert g.S.Repository.sets g.S.Repository.payload wants uris w w1 inv.same name a cs path on uri ca csets st acc p p0 s s0 file o cl v.in-Child.child v.in-Child.key v.in-Child.is m
             (path_of v.in_ok-longer-in-Child-2.longer.value) v.deref.result.now
             (ap path_of v.in_ok-longer-in-Child-2.ensures.ok ∙ (v.in_ok-longer-in-Child.ensures ∙ λ j. record { locator = (path_of (v.as_ref.ensures j)).locator; chain = (path_of (v.as_ref.ensures j)).chain ++ c.file-item.is j ∷ [] }))
@@ -110,13 +110,13 @@ returns-clause-facts g t c name a cs st acc =
     let held = InSet (g.S.Repository.sets c.args.ca.now) in
     let ca = g.S.Repository.cert c.args.ca.now in
     let uris = g.V.Visitor.uris c.args.visitor.now in
-    let path = path_of c.args.path.now.value in
+    let path = path_of c.args.path.now.value in let on = c.args.keys.now in let uri = c.args.uri.now in
     let p0 = g.S.Repository.point c.in-Some.point in
     let fs = c.uris-file-items.result.now in
     let s : StandsIn w held ca p0 = subst (λ v. StandsIn v held ca p0) c.in_ok-visit.ensures.same (read_some g.S.Repository.point (g.S.Repository.world c.visit.new.repository) held ca c.in_ok-point.field-0 c.in-Some.point c.in-Some.is c.in_ok-point.ensures.read) in
     let h = c.loop-file.invariant.gained name a cs p0 st acc s in
     gains_same g.V.Visitor.wants _ _ _ _ h (λ x.
-    subst (λ (xs : List (List ℕ)). (ReachedBy uris w held path ca x ⊎ ((u : List ℕ) × Mem xs u × FromFile uris w name a cs p0 u x)) ↔ Found uris w name a cs x)
+    subst (λ (xs : List (List ℕ)). (ReachedBy uris w held on path uri ca x ⊎ ((u : List ℕ) × Mem xs u × FromFile uris w name a cs p0 u x)) ↔ Found uris w name a cs x)
     (sym (take_all c.loop-file.file-index fs c.loop-file-test.false ∙ c.uris-file-items.ensures))
     (all_here g.V.Visitor.wants uris w name a cs path c.args.keys.now c.args.uri.now ca (g.S.Repository.sets c.args.ca.now) st p0 acc s x))
 

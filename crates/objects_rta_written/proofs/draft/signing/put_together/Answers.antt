@@ -2,7 +2,7 @@ use Rattle.std.proofs.Common.{◌≢◌}
 use Rattle.objects_written.specs.bcder_tree.declared.mode.Mode.TheVariants.{Der}
 use Rattle.objects_written.specs.bcder_primitive.declared.written.error.EncodeError.TheVariants as causes
 use Rattle.objects_written.specs.bcder_values.Writable.{Writable}
-use Rattle.objects_cms.specs.Signer.{signer_fields}
+use Rattle.objects_rta.specs.objects_cms.Signer.{signer_fields}
 use Rattle.objects_written.specs.Frames.{signer}
 use Rattle.objects_written.proofs.Refusing.{stopped}
 use Rattle.objects_rta_written.specs.Signing.{fields_of}

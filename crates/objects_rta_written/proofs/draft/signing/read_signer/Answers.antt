@@ -4,8 +4,8 @@ use Rattle.objects_written.specs.bcder_content.Captures.{rest_of}
 use Rattle.objects_written.specs.bcder_content.Exact.{ReadsAs}
 use Rattle.objects_written.specs.bcder_content.Here.{here}
 use Rattle.objects_written.specs.objects_payload.ObjectText.{SpellsSigner}
-use Rattle.objects_cms.specs.Signer.{IsSigner, signer_fields}
-use Rattle.objects_cms.proofs.of_bcder_content.Decoding.{exact_decode}
+use Rattle.objects_rta.specs.objects_cms.Signer.{IsSigner, signer_fields}
+use Rattle.objects_rta.proofs.of_bcder_content.Decoding.{exact_decode}
 use Rattle.certs_cert.proofs.of_certs_x509.Octets.{front_took}
 use Rattle.objects_rta_written.proofs.draft.signing.read_signer.Goals as goal
 

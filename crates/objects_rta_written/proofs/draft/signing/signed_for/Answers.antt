@@ -1,5 +1,5 @@
 use Rattle.std.proofs.Common.{List, refl, subst, sym, ℕ}
-use Rattle.objects_cms.specs.Signer.{signer_fields}
+use Rattle.objects_rta.specs.objects_cms.Signer.{signer_fields}
 use Rattle.objects_written.specs.Attributes.{to_sign}
 use Rattle.objects_written.specs.Refusing.{CanTell}
 use Rattle.objects_written.proofs.Refused.{attributes_refused}

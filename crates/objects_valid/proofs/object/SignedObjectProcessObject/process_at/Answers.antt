@@ -8,9 +8,9 @@ use Rattle.certs_verify.specs.certs_x509.declared.errors.validation.ValidationEr
 use Rattle.certs_verify.specs.certs_key.Digesting.{digests_of}
 use Rattle.certs_verify.specs.Holders.{ResourceCertValue}
 use Rattle.certs_verify.specs.Validated.{Inspects, TellsNumbers}
-use Rattle.objects_valid.specs.Processed.{Answers, FailsAny, PassesAny, ProcessesObject}
+use Rattle.objects_valid.specs.Processed.{Answers, FailsAny, PassesAny, ProcessesObject, before_none}
 use Rattle.objects_valid.proofs.Accepting.{inspects_by}
-use Rattle.objects_valid.proofs.Processing.{callable_here, processed, processed_outside, processed_tal}
+use Rattle.objects_valid.proofs.Processing.{callable_after, processed, processed_outside, processed_tal}
 use Rattle.objects_valid.proofs.Sparing.{issued_signed, spared_accepted}
 use Rattle.objects_valid.proofs.object.SignedObjectProcessObject.process_at.Goals as goal
 
@@ -33,7 +33,7 @@ returns-in-Ok-clause-processes g c =
     let holder = c.in-Ok.holder in
     let asked = subst (λ (x : CertValue). Answers (PassesAny (says x)) (FailsAny (says x)) holder.holder c.ask-tested.result) c.as_cert.ensures (c.ask-tested.ensures.answers holder.holder) in
     subst (ProcessesObject (says o.cert) d v c.args.strict c.args.now issuer o) (sym c.join_if.ensures)
-    (processed (λ x content. PassesAny (says x)) (λ x content. FailsAny (says x)) d v c.args.strict c.args.now issuer o o o.content c.in-Ok.content holder c.ask-tested.result refl validated.1 validated.0 asked)
+    (processed Ee (λ x content. PassesAny (says x)) (λ x content. FailsAny (says x)) d v c.args.strict c.args.now issuer o o o.content c.in-Ok.content holder c.ask-tested.result refl validated.1 validated.0 asked)
 
 pub returns-in-Ok-clause-tal : goal.returns-in-Ok-clause-tal
 returns-in-Ok-clause-tal g c =
@@ -54,7 +54,7 @@ ask-tested-requires g c =
     let form = subst (λ (x : CertValue). Inspects d c.args.strict Ee x c.inspect_ee-form.result) c.cert.ensures (inspects_by d c.args.strict Ee c.cert.result.now c.inspect_ee-form.result c.inspect_ee-form.ensures.passed c.inspect_ee-form.ensures.refused) in
     let takes = FnOnceTakesAt g.F.FnOnce c.args.check_crl in
     subst takes (sym c.as_cert.ensures)
-    (callable_here takes d (g.V.Verifier.says c.args.verifier.now) c.args.strict c.args.now c.args.issuer.now.holder o o c.in-Ok.holder.holder refl (c.in-Ok.ensures.validates Ee form).0 c.requires)
+    (callable_after Ee before_none takes d (g.V.Verifier.says c.args.verifier.now) c.args.strict c.args.now c.args.issuer.now.holder o o o o c.in-Ok.holder.holder refl refl (c.in-Ok.ensures.validates Ee form).0 (λ h a u. c.requires h a) tt)
 
 pub returns-in-Ok-clause-memory : goal.returns-in-Ok-clause-memory
 returns-in-Ok-clause-memory g c =

@@ -2,7 +2,7 @@ use Rattle.std.proofs.Common.{◌≡◌, length, sym, ◌∙◌, subst}
 use Rattle.rpki_commands.proofs.of_bcder_tree.Unique.{by_length}
 use Rattle.rpki_commands.specs.certs_basics.Times.{IsMoment}
 use Rattle.rpki_commands.proofs.Moments.{moment_length}
-use Rattle.rpki_commands.proofs.Options.{none_then}
+use Rattle.rpki_validator.proofs.Options.{none_then}
 use Rattle.rpki_commands.proofs.Splits.{split_whole}
 use Rattle.rpki_commands.proofs.folder.lines.moment_of.Goals as goal
 

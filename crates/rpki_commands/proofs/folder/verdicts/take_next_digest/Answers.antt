@@ -1,6 +1,6 @@
 use Rattle.std.proofs.Common.{◌≡◌, ◌∷◌, sym, ◌∙◌, subst}
 use Rattle.rpki_commands.specs.Verdicts.{TakesDigest}
-use Rattle.rpki_commands.proofs.Options.{none_then}
+use Rattle.rpki_validator.proofs.Options.{none_then}
 use Rattle.rpki_commands.proofs.folder.verdicts.take_next_digest.Goals as goal
 
 pub returns-in-Some-eq32-default-clause-none : goal.returns-in-Some-eq32-default-clause-none

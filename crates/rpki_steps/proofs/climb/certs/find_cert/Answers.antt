@@ -1,6 +1,6 @@
 use Rattle.std.proofs.Common.{Option}
 use Rattle.std.specs.Prelude.{MatchOption}
-use Rattle.rpki_walk.specs.Evidence.{IsReadCert}
+use Rattle.rpki_judge.specs.Evidence.{IsReadCert}
 use Rattle.rpki_rules.specs.Certs.{Cert, Digests, Verdicts}
 use Rattle.rpki_rules.specs.Chains.{CertAt}
 use Rattle.rpki_rules.specs.World.{world_of}

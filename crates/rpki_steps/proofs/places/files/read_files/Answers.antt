@@ -3,7 +3,7 @@ use Rattle.std.specs.Prelude.{Vec}
 use Rattle.std.specs.declared.alloc.Global.{Global}
 use Rattle.rpki_rules.specs.World.{find_object}
 use Rattle.rpki_steps.specs.declared.places.files.File.{File}
-use Rattle.rpki_steps.proofs.Repository.{files_told}
+use Rattle.rpki_steps.proofs.RepositoryFiles.{files_told}
 use Rattle.rpki_steps.proofs.places.files.read_files.Goals as goal
 
 pub returns : goal.returns

@@ -1,43 +1,36 @@
-use Rattle.std.proofs.Common.{◌∙◌, ap, subst}
+use Rattle.std.proofs.Common.{◌∙◌, ap}
 use Rattle.std.specs.Prelude.{Vec}
 use Rattle.std.specs.declared.alloc.Global.{Global}
 use Rattle.rpki_standing.specs.certs_key.Digesting.{digests_of}
-use Rattle.rpki_standing.specs.objects_valid.Kinds.{KindValue}
-use Rattle.rpki_standing.specs.Crls.{Finds}
-use Rattle.rpki_rules.specs.Certs.{Verdicts}
-use Rattle.rpki_rules.specs.Objects.{Manifest}
+use Rattle.rpki_standing.specs.Standing.{IsStanding, StandingValue}
 use Rattle.rpki_rules.specs.World.{World, world_of}
-use Rattle.rpki_standing.specs.Manifests.{IsOwnManifest}
-use Rattle.rpki_standing.specs.Standing.{HasNoParts}
-use Rattle.rpki_standing.proofs.Standings.{no_manifest, no_point}
 use Rattle.rpki_steps.specs.declared.places.files.File.{File}
-use Rattle.rpki_steps.specs.Parts.{ArePartsOf}
-use Rattle.rpki_steps.proofs.Stands.{parts_stand}
+use Rattle.rpki_steps.proofs.PointLemmas.{none_found}
+use Rattle.rpki_steps.proofs.Stands.{has_parts, parts_stand}
 use Rattle.rpki_steps.proofs.places.places.point_unheld.Goals as goal
 
 pub returns-in_default-clause-found : goal.returns-in_default-clause-found
 returns-in_default-clause-found g c =
-    let w : World = world_of (digests_of g.D.Digester.sha256_digest g.D.Digester.sha1_digest c.args.digester.now) (g.V.Verifier.says c.args.verifier.now) c.args.bundle.now in
-    no_manifest w c.args.ca.now c.in_ok-manifest.field-0 c.in_default.is (rw c.new-index.ensures at c.in_ok-manifest.ensures.found)
+    let d = digests_of g.D.Digester.sha256_digest g.D.Digester.sha1_digest c.args.digester.now in
+    let w : World = world_of d (g.V.Verifier.says c.args.verifier.now) c.args.bundle.now in
+    none_found w c.args.ca.now c.in_ok-point.field-0 c.in_default.not-Ok (rw c.new-index.ensures at c.in_ok-point.ensures.refused)
 
 pub returns-in_default-2-clause-found : goal.returns-in_default-2-clause-found
 returns-in_default-2-clause-found g c =
     let d = digests_of g.D.Digester.sha256_digest g.D.Digester.sha1_digest c.args.digester.now in
     let w : World = world_of d (g.V.Verifier.says c.args.verifier.now) c.args.bundle.now in
-    let own : IsOwnManifest w c.args.ca.now c.in-Some.manifest = subst (Finds (IsOwnManifest w c.args.ca.now)) c.in-Some.is (rw c.new-index.ensures at c.in_ok-manifest.ensures.found) in
-    let found = rw c.in_default-2.is at c.in_ok-manifest-2.ensures in
-    let none = rw found at c.find_parts-parts.ensures.found in
-    no_point w c.args.ca.now c.in-Some.manifest own (subst (λ (v : Verdicts). HasNoParts (world_of d v c.args.bundle.now) c.args.ca.now c.in-Some.manifest) c.find_manifest.ensures.same none)
+    let s = c.in-Ok.point in
+    let is : IsStanding w c.args.ca.now s = rw (c.in-Ok.is, c.new-index.ensures) at c.in_ok-point.ensures.found in
+    let found = rw c.in_default-2.is at c.in_ok-point-2.ensures in
+    absurd (has_parts w c.args.ca.now s is (rw found at c.read_parts-parts.ensures))
 
 pub returns-clause-found : goal.returns-clause-found
 returns-clause-found g c =
     let d = digests_of g.D.Digester.sha256_digest g.D.Digester.sha1_digest c.args.digester.now in
     let w : World = world_of d (g.V.Verifier.says c.args.verifier.now) c.args.bundle.now in
-    let k = c.in-Some.manifest in
-    let fs = c.in-Some-2.parts.0.items in
-    let own : IsOwnManifest w c.args.ca.now k = subst (Finds (IsOwnManifest w c.args.ca.now)) c.in-Some.is (rw c.new-index.ensures at c.in_ok-manifest.ensures.found) in
-    let kept = rw c.in-Some-2.is at c.in_ok-manifest-2.ensures in
-    let found = rw kept.1 at c.find_parts-parts.ensures.found in
-    let are = subst (λ (v : Verdicts). ArePartsOf (world_of d v c.args.bundle.now) c.args.ca.now k fs c.in-Some-2.parts.1.0 c.in-Some-2.parts.1.1) c.find_manifest.ensures.same found in
-    parts_stand w c.args.ca.now k own fs c.in-Some-2.parts.1.0 c.in-Some-2.parts.1.1 c.of.result are
-    (c.of.ensures.cert ∙ ap (λ (m : KindValue Manifest). m.signed.cert) kept.0) (ap (λ (v : Vec File Global). v.items) c.of.ensures.files) c.of.ensures.uri c.of.ensures.list
+    let s = c.in-Ok.point in
+    let is : IsStanding w c.args.ca.now s = rw (c.in-Ok.is, c.new-index.ensures) at c.in_ok-point.ensures.found in
+    let kept = rw c.in-Some.is at c.in_ok-point-2.ensures in
+    parts_stand w c.args.ca.now s is c.in-Some.parts.0 c.in-Some.parts.1.items c.of.result (rw kept.1 at c.read_parts-parts.ensures)
+    (c.of.ensures.cert ∙ ap (λ (t : StandingValue). t.point.object.cert) kept.0) (ap (λ (v : Vec File Global). v.items) c.of.ensures.files) c.of.ensures.uri
+    (c.of.ensures.list ∙ ap (λ (t : StandingValue). t.point.crl) kept.0)

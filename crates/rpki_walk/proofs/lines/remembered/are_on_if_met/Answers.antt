@@ -1,4 +1,4 @@
-use Rattle.std.proofs.Common.{◌≡◌, ℕ, List, false, true, take_all, refl, sym, subst, ◌∙◌, inl, inr}
+use Rattle.std.proofs.Common.{◌≡◌, ℕ, List, take_all, refl, sym, subst, ◌∙◌, inl, inr}
 use Rattle.rpki_rules.specs.Words.{Mem}
 use Rattle.rpki_walk.proofs.Mems.{mem_take_more}
 use Rattle.rpki_walk.proofs.lines.remembered.are_on_if_met.Goals as goal

@@ -1,4 +1,5 @@
-use Rattle.std.proofs.Common.{◌≡◌, ℕ, ◌+◌, List, [], take, take_all, get_or, drop, length, refl, sym, ap, subst, ◌∙◌}
+use Rattle.std.proofs.Common.{◌≡◌, Option, ℕ, ◌+◌, List, [], take, take_all, get_or, drop, length, refl, sym, ap, subst, ◌∙◌}
+use Rattle.std.specs.Prelude.{IfSome}
 use Rattle.rpki_rules.specs.World.{World}
 use Rattle.rpki_rules.specs.Words.{Mem}
 use Rattle.rpki_walk.specs.resources.Resources.{Resources}
@@ -9,6 +10,7 @@ use Rattle.rpki_rules.specs.Chains.{places, StandsIn}
 use Rattle.rpki_rules.specs.Views.{PathValue}
 use Rattle.rpki_walk.specs.Facts.{Finding, Refuses, Gains, Classified}
 use Rattle.rpki_walk.specs.Alike.{IsPrinted}
+use Rattle.rpki_walk.specs.Remembered.{IsRemembered}
 use Rattle.rpki_walk.specs.Walked.{has_lines, Continues, MeetsFile, WalksLines}
 use Rattle.rpki_walk.specs.declared.lines.walk.LinesWalk.{LinesWalk}
 use Rattle.rpki_walk.proofs.Mems.{mem_get_or}
@@ -33,7 +35,10 @@ moved_up w first q s n m name a cs p xs e k t = subst (λ (z : LinesWalk). Tells
 
 pub returns-in-Some-clause-facts : goal.returns-in-Some-clause-facts
 returns-in-Some-clause-facts g t c =
-    remembered_tells (g.S.Repository.world c.args.repository.now) c.args.walk.now c.args.uri.now (g.S.Repository.cert c.args.ca.now) (g.S.Repository.sets c.args.ca.now) c.in_ok-held.held c.args.keys.now c.in-Some.from c.in_ok-held.ensures c.in-Some.ensures
+    let sets = g.S.Repository.sets c.args.ca.now in
+    let walk = c.args.walk.now in
+    remembered_tells (g.S.Repository.world c.args.repository.now) walk c.args.uri.now (g.S.Repository.cert c.args.ca.now) sets sets c.args.keys.now c.in-Some.from refl
+    (subst (λ (o : Option ℕ). IfSome o (IsRemembered walk.before.walked.items walk.met.items c.args.uri.now c.args.keys.now sets)) c.in-Some.is c.in_ok-from.ensures)
 
 pub returns-in_default-2-clause-facts : goal.returns-in_default-2-clause-facts
 returns-in_default-2-clause-facts g t c name a cs st acc all =
@@ -83,7 +88,7 @@ loop-file-preserved g t c =
     let grown : Continues mid.met.items seen.met.items = c.in_ok-classify_met.ensures.grown in
     let keyed : MeetsFile w1 held ca p0 file met = moved_keyed w1 held ca p0 met c.as_slice.result.now file here c.in_ok-classify_met.ensures.keyed in
     let old = has_lines mid.lines in
-    elim c.match-branch-6.branch [
+    elim c.match-branch-7.branch [
       | in-Nothing v ↦ record {
         same = ap (λ q. g.S.Repository.world q) v.repository-is ∙ (c.in_ok-classify_met.ensures.same ∙ inv.same);
         lender = ap (λ q. g.S.Repository.lender q) v.repository-is ∙ (c.in_ok-classify_met.ensures.lender ∙ inv.lender);

@@ -1,0 +1,116 @@
+//! How what attestations say, and what they carry, is told.
+
+use answers::Answer;
+use bcder::OctetString;
+use bcder::encode::EncodeError;
+use objects_cms::signed::SignerInfo;
+use objects_rta::{MultiSignedObject, ResourceTaggedAttestation, Rta};
+use resources_as::AsResources;
+use resources_ip::{AddressFamily, IpBlocks, IpBlocksForFamily, IpResources};
+use std::alloc::Global;
+
+// The octets of a string.
+fn string(alloc: Global, answer: &mut Answer, string: &OctetString) {
+    match string.to_bytes(alloc) {
+        Ok(octets) => answer.octets(octets.as_slice()),
+        Err(_) => answer.word("memory"),
+    }
+}
+
+// What is stated of AS numbers: a set in brackets, or `-`.
+fn numbers(answer: &mut Answer, resources: &AsResources) {
+    if resources.is_missing() {
+        answer.word("-");
+        return;
+    }
+    match resources.to_blocks() {
+        Ok(set) => {
+            answer.say(&format_args!("[{set}]"));
+            drop(set);
+        }
+        Err(_) => answer.word("inherit"),
+    }
+}
+
+// A set of one family, in brackets.
+fn set_of(answer: &mut Answer, family: AddressFamily, set: &IpBlocks) {
+    let shown = match family {
+        AddressFamily::Ipv4 => IpBlocksForFamily::v4(set),
+        AddressFamily::Ipv6 => IpBlocksForFamily::v6(set),
+    };
+    answer.say(&format_args!("[{shown}]"));
+}
+
+// What is stated of the addresses of a family: a set in brackets, or `-`.
+fn addresses(answer: &mut Answer, family: AddressFamily, resources: &IpResources) {
+    if resources.is_missing() {
+        answer.word("-");
+        return;
+    }
+    match resources.to_blocks() {
+        Ok(set) => {
+            set_of(answer, family, &set);
+            drop(set);
+        }
+        Err(_) => answer.word("inherit"),
+    }
+}
+
+/// The keys that sign, what is stated of each kind, and the digest.
+pub fn content(alloc: Global, answer: &mut Answer, content: &ResourceTaggedAttestation) {
+    answer.say(&content.subject_keys().len());
+    for key in content.subject_keys() {
+        answer.octets(key.as_slice());
+    }
+    numbers(answer, content.as_resources());
+    addresses(answer, AddressFamily::Ipv4, content.v4_resources());
+    addresses(answer, AddressFamily::Ipv6, content.v6_resources());
+    string(alloc, answer, content.message_digest());
+}
+
+/// The key's identifier, the attributes as they stand, the type and the digest that they tell, whether NULL stands in the
+/// algorithm, and the signature.
+pub fn signer(alloc: Global, answer: &mut Answer, signer: &SignerInfo) {
+    answer.octets(signer.sid().as_slice());
+    answer.octets(signer.attributes().as_slice());
+    let said = signer.attributes().attributes();
+    answer.octets(said.content_type.as_slice());
+    string(alloc, answer, &said.message_digest);
+    answer.say(&signer.algorithm().has_null());
+    string(alloc, answer, signer.signature());
+}
+
+/// The content and its type, the certificates by their serial numbers and keys, the lists by their numbers, and the signers.
+pub fn carried(alloc: Global, answer: &mut Answer, signed: &MultiSignedObject) {
+    answer.octets(signed.content_type().as_slice());
+    string(alloc, answer, signed.content());
+    answer.say(&signed.certificates().len());
+    for cert in signed.certificates() {
+        answer.say(&cert.tbs().serial_number());
+        answer.octets(cert.tbs().subject_key_identifier().as_slice());
+    }
+    answer.say(&signed.crls().len());
+    for list in signed.crls() {
+        answer.say(&list.as_cert_list().crl_number());
+    }
+    answer.say(&signed.signer_infos().len());
+    for one in signed.signer_infos() {
+        signer(alloc, answer, one);
+    }
+}
+
+/// What an attestation says, and what it carries.
+pub fn attestation(alloc: Global, answer: &mut Answer, rta: &Rta) {
+    content(alloc, answer, rta.content());
+    carried(alloc, answer, rta.signed());
+}
+
+/// Why something isn't written.
+pub fn unwritten(answer: &mut Answer, error: EncodeError) {
+    match error {
+        EncodeError::CerUnsupported => answer.word("unsupported"),
+        EncodeError::TooLong => answer.word("long"),
+        EncodeError::Write => answer.word("write"),
+        EncodeError::Memory => answer.word("memory"),
+    }
+}

@@ -1,0 +1,8 @@
+mod Standing
+mod Marking
+mod Ending
+mod Opening
+mod Keeping
+mod Covering
+mod Starting
+mod Finishing

@@ -1,0 +1,4 @@
+pub mod Anchors
+pub mod Coverage
+pub mod Ends
+pub mod Beginnings

@@ -1,0 +1,5 @@
+mod Needs
+mod Links
+mod Climbs
+mod ClimbSteps
+mod OneCount

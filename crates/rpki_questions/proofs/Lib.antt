@@ -1,0 +1,3 @@
+pub mod QuestionWords
+pub mod FactTexts
+pub mod AllRefused

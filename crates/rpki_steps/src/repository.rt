@@ -1,0 +1,134 @@
+//! A bundle with what digests and verifies, and how the walk reads it.
+
+ghost use Rattle.std.specs.Prelude.{◌≡◌};
+ghost use Rattle.rpki_steps.specs.Holders.{cert_of, sets_of};
+ghost use Rattle.rpki_steps.specs.certs_key.Digesting.{digests_of};
+ghost use Rattle.rpki_rules.specs.World.{world_of};
+ghost use Rattle.rpki_standing.specs.Views.{payload_of};
+ghost use Rattle.rpki_steps.specs.Points.{point_of};
+
+use crate::anchors::read_locator;
+use crate::authority::Authority;
+use crate::files::read_file;
+use crate::points::find_point;
+use bytes::Bytes;
+use certs_verify::{Digester, Verifier};
+use rpki_standing::StandingPoint;
+use rpki_standing::payloads::{Origin, Payload, Provision};
+use rpki_standing::table::Index;
+use rpki_walk::{AnchorLookup, FileKind, Repository};
+use std::alloc::{AllocError, Global};
+
+/// A bundle with a digester and a verifier: what the walk and the judge ask of it is read of its objects.
+#[derive(Drop)]
+pub struct BundleRepository<'a, D: Digester, V: Verifier> {
+    /// The bundle.
+    pub index: Index<'a>,
+    /// What digests are made by.
+    pub digester: &'a D,
+    /// What says which signatures are good.
+    pub verifier: &'a mut V,
+}
+
+impl<'a, D: Digester, V: Verifier> BundleRepository<'a, D, V> {
+    /// The bundle, with this digester and this verifier, which is asked through it as long as it is lent.
+    pub fn new(index: Index<'a>, digester: &'a D, verifier: &'a mut V) -> Self
+        ensures index { result.index ≡ index.entry }
+        ensures digester { result.digester.now ≡ digester.now }
+        ensures verifier { result.verifier.now ≡ verifier.old }
+        ensures lender { result.verifier.ghost_name ≡ verifier.entry.ghost_name }
+    {
+        BundleRepository {
+            index,
+            digester,
+            verifier,
+        }
+    }
+}
+
+impl<'a, D: Digester, V: Verifier> Repository for BundleRepository<'a, D, V> {
+    type Authority = Authority;
+
+    type Point = StandingPoint;
+
+    type Payload = Payload;
+
+    ghost world = { λ s. world_of (digests_of D.sha256_digest D.sha1_digest s.digester.now)
+        (V.says s.verifier.now) s.index };
+
+    ghost lender = { λ s. s.verifier.ghost_name };
+
+    ghost cert = { cert_of };
+
+    ghost sets = { sets_of };
+
+    ghost point = { point_of };
+
+    ghost listed = { λ p. p.keys };
+
+    ghost payload = { payload_of };
+
+    fn depth(&self) -> usize {
+        usize::from(self.index.depth())
+    }
+
+    fn locator_count(&self) -> usize {
+        // So a chain may have an anchor.
+        let _ = self.index.depth();
+        self.index.locators().len()
+    }
+
+    fn locator_name(&self, at: usize) -> Result<Bytes, AllocError> {
+        self.index.locators()[at].name.clone()
+    }
+
+    fn read_locator(
+        &mut self,
+        alloc: Global,
+        at: usize,
+    ) -> Result<AnchorLookup<Authority>, AllocError> {
+        let locator = &self.index.locators()[at];
+        read_locator(alloc, locator, &self.index, self.digester, self.verifier)
+    }
+
+    fn key_identifier(&self, alloc: Global, ca: &Authority) -> Result<Bytes, AllocError> {
+        let key = ca.verified().as_cert().tbs().subject_key_identifier();
+        Bytes::copy_from_slice(alloc, key.as_slice())
+    }
+
+    fn read_point(
+        &mut self,
+        alloc: Global,
+        ca: &Authority,
+    ) -> Result<Option<StandingPoint>, AllocError> {
+        find_point(
+            alloc,
+            ca.verified(),
+            &self.index,
+            self.digester,
+            self.verifier,
+        )
+    }
+
+    fn uris<'p>(&self, _ca: &Authority, p: &'p StandingPoint) -> &'p [Bytes] {
+        p.files()
+    }
+
+    fn read_file(
+        &mut self,
+        alloc: Global,
+        ca: &Authority,
+        p: &StandingPoint,
+        uri: &[u8],
+    ) -> Result<FileKind<Authority, Payload>, AllocError> {
+        read_file(alloc, ca, p, uri, &self.index, self.digester, self.verifier)
+    }
+
+    fn add_origins(&self, object: &Payload, out: &mut Vec<Origin>) -> Result<(), AllocError> {
+        object.add_origins(out)
+    }
+
+    fn add_provisions(&self, object: &Payload, out: &mut Vec<Provision>) -> Result<(), AllocError> {
+        object.add_provisions(out)
+    }
+}

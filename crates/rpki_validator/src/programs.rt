@@ -1,0 +1,15 @@
+//! What programs over a run have in common: what they say of arguments that can't be had.
+
+use crate::runs::RunError;
+use std::io::{self, ErrorKind, Write};
+
+/// Says what is wrong with arguments that can't be had: there is no memory for them, or one isn't UTF-8, and then how the
+/// program is used.
+pub fn tell_unread<F: Write>(error: &io::Error, usage: &str, faults: &mut F) {
+    // What can't be written is lost; the status says that there was something.
+    if error.kind() == ErrorKind::OutOfMemory {
+        let _ = writeln!(faults, "{}", RunError::Memory);
+    } else {
+        let _ = faults.write_all(usage.as_bytes());
+    }
+}

@@ -1,5 +1,0 @@
-use Rattle.std.proofs.Common.{length}
-use Rattle.rpki_walk.proofs.judge.climb.+climb.Given as goal
-
-abbrev pub decreases-climb : goal.decreases-climb
-decreases-climb g l = length l.links.now

@@ -1,5 +1,0 @@
-use Rattle.std.proofs.Common.{length}
-use Rattle.rpki_walk.proofs.judge.climb.+is_on.Given as goal
-
-abbrev pub decreases-is_on : goal.decreases-is_on
-decreases-is_on g l = length l.links.now
