@@ -2,6 +2,7 @@
 //! their URIs ([`uri`]) and moments ([`time`]).
 #![tactic(auto)]
 
+pub mod oid;
 pub mod time;
 pub mod uri;
 
