@@ -1,7 +1,8 @@
 //! What certificates, revocation lists and signed objects share: definitions of names, keys, algorithms and identifiers, and
-//! their URIs ([`uri`]) and moments ([`time`]).
+//! their URIs ([`uri`]) and moments ([`time`]), and what trust anchor locators are called ([`tal`]).
 #![tactic(auto)]
 
+pub mod tal;
 pub mod time;
 pub mod uri;
 
