@@ -10,7 +10,7 @@ use Rattle.rpki_steps.specs.Anchored.{IsFoundAnchor}
 use Rattle.rpki_steps.specs.Holders.{cert_of, sets_of}
 use Rattle.rpki_steps.specs.certs_basics.Lists.{FirstFailing}
 use Rattle.rpki_steps.specs.certs_verify.Holders.{ResourceCertValue}
-use Rattle.rpki_steps.specs.declared.anchors.TrustAnchor.{TrustAnchor}
+use Rattle.rpki_steps.specs.declared.anchor.locator.TrustAnchor.{TrustAnchor}
 use Rattle.rpki_standing.specs.rpki_bundle.declared.parts.Locator.{Locator}
 use Rattle.rpki_standing.specs.objects_payload.declared.locator.error.ReadError.{ReadError}
 use Rattle.rpki_rules.specs.Certs.{Cert, CertText, Key}
