@@ -1,6 +1,6 @@
 //! What a file of a publication point is (RFC 6481 2.2).
 
-ghost use Rattle.std.specs.Prelude.{◌≡◌, ◌≤◌, ◌↔◌, IfNone, IfOk, IfSome, IsTrue, length};
+ghost use Rattle.std.specs.Prelude.{◌≡◌, ◌↔◌, IfOk, IsTrue};
 ghost use Rattle.rpki_steps.specs.Holders.{cert_of, sets_of};
 ghost use Rattle.rpki_steps.specs.certs_key.Digesting.{digests_of};
 ghost use Rattle.rpki_rules.specs.Kinds.{InSet};
@@ -126,9 +126,14 @@ pub fn file_reason<D: Digester, V: Verifier>(
     match judged_file(alloc, ca, point, uri, index, digester, verifier)? {
         Ok(FileKind::Child(child)) => {
             let depth = usize::from(index.depth());
-            Ok(chain_reason(&child, keys, depth))
+            let reason = chain_reason(&child, keys, depth);
+            drop(child);
+            Ok(reason)
         }
-        Ok(FileKind::Attests(_)) => Ok(None),
+        Ok(FileKind::Attests(payload)) => {
+            drop(payload);
+            Ok(None)
+        }
         Ok(FileKind::Nothing) => Ok(None),
         Ok(FileKind::Bad) => Ok(None),
         Err(reason) => Ok(Some(reason)),

@@ -30,8 +30,15 @@ fn listed_keys(alloc: Global, ca: &Cert, index: &Index<'_>) -> Result<Vec<Bytes>
         → Mem keys.items key ↔ NamesFile (world_of d v index.now) ca.now key) }
 {
     match manifest_at(alloc, ca, index)? {
-        Ok(manifest) => keys_by(alloc, ca, manifest.content()),
-        Err(_) => Ok(Vec::new(alloc)),
+        Ok(manifest) => {
+            let keys = keys_by(alloc, ca, manifest.content());
+            drop(manifest);
+            keys
+        }
+        Err(reason) => {
+            drop(reason);
+            Ok(Vec::new(alloc))
+        }
     }
 }
 

@@ -48,6 +48,10 @@ pub fn anchor_cert<D: Digester, V: Verifier>(
     let validated = cert.validate_ta_at(tal, true, now, digester, verifier);
     match accepted_or_refused(validated)? {
         Ok(anchor) => Ok(Ok(anchor)),
-        Err(error) => Ok(Err(AnchorTest::AnchorCert(cert_test(&error)))),
+        Err(error) => {
+            let test = cert_test(&error);
+            drop(error);
+            Ok(Err(AnchorTest::AnchorCert(test)))
+        }
     }
 }

@@ -30,6 +30,7 @@ pub fn locator_keys(alloc: Global, locator: &Locator) -> Result<Option<Vec<Bytes
     let Ok(tal) = read_locator_text(alloc, locator)? else {
         return Ok(None);
     };
-    let keys = keys_of(alloc, tal.uris())?;
-    Ok(Some(keys))
+    let keys = keys_of(alloc, tal.uris());
+    drop(tal);
+    Ok(Some(keys?))
 }

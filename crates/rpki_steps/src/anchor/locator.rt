@@ -115,7 +115,9 @@ pub fn judged_locator<D: Digester, V: Verifier>(
         LocatorLookup::Unreadable(fault) => Ok(Err(LocatorReason::BadText(fault))),
         LocatorLookup::Nowhere => Ok(Err(LocatorReason::NoneHeld)),
         LocatorLookup::Held(object, tal) => {
-            lead_to(alloc, locator, object, &tal, index, digester, verifier)
+            let led = lead_to(alloc, locator, object, &tal, index, digester, verifier);
+            drop(tal);
+            led
         }
     }
 }

@@ -77,7 +77,9 @@ pub fn is_anchor_of<D: Digester, V: Verifier>(
     let LocatorLookup::Held(object, tal) = follow(alloc, locator, index)? else {
         return Ok(false);
     };
-    Ok(is_anchor_there(object, tal.key_info(), uri, cert, index, digester, verifier))
+    let is = is_anchor_there(object, tal.key_info(), uri, cert, index, digester, verifier);
+    drop(tal);
+    Ok(is)
 }
 
 /// Whether the certificate at the lookup key is the anchor to which the bundle's locator of that name leads; no where no

@@ -36,7 +36,11 @@ pub(crate) fn cer_test(error: ValidationError) -> CerTest
         ValidationError::Inspection(test) => CerTest::CerCert(CertTest::Inspection(test)),
         ValidationError::Verification(told) => match told {
             VerificationError::Overclaim(numbers) => CerTest::CerClaim(numbers),
-            other => CerTest::CerCert(CertTest::Verification(test_of(&other))),
+            other => {
+                let test = test_of(&other);
+                drop(other);
+                CerTest::CerCert(CertTest::Verification(test))
+            }
         },
     }
 }

@@ -30,6 +30,7 @@ pub(crate) fn accepted_or_refused(
             let Refused { cert, error } = refused;
             drop(cert);
             if is_memory(&error) {
+                drop(error);
                 return Err(AllocError);
             }
             Ok(Err(error))

@@ -37,9 +37,16 @@ fn child_at<D: Digester, V: Verifier>(
         ca.now point.now.point cert) }
     ensures same { V.says verifier.new ≡ V.says verifier.old }
 {
-    if let Err(test) = check_revocation(alloc, &cert, point.manifest_cert(), point.crl())? {
-        drop(cert);
-        return Ok(Err(CerTest::CerRevocation(test)));
+    match check_revocation(alloc, &cert, point.manifest_cert(), point.crl()) {
+        Ok(Ok(())) => {}
+        Ok(Err(test)) => {
+            drop(cert);
+            return Ok(Err(CerTest::CerRevocation(test)));
+        }
+        Err(error) => {
+            drop(cert);
+            return Err(error);
+        }
     }
     addresses_are_whole();
     match authority_below(alloc, cert, ca.verified(), index, digester, verifier)? {

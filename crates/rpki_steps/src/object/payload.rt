@@ -120,7 +120,11 @@ fn check_within(
         → ObjectUnheld w (InSet (sets_of ca.now)) uri t)) }
 {
     match sets_below(alloc, object.cert(), ca)? {
-        Ok(held) => Ok(check_cover(object.payload(), &held)),
+        Ok(held) => {
+            let told = check_cover(object.payload(), &held);
+            drop(held);
+            Ok(told)
+        }
         Err(claimed) => Ok(Err(ObjectTest::ObjectClaim(claimed))),
     }
 }
@@ -149,11 +153,15 @@ pub fn judged_payload_file<D: Digester, V: Verifier>(
         Ok(object) => object,
         Err(reason) => return Ok(Err(reason)),
     };
-    match check_within(alloc, &object, ca)? {
-        Ok(()) => Ok(Ok(FileKind::Attests(object.into_payload()))),
-        Err(test) => {
+    match check_within(alloc, &object, ca) {
+        Ok(Ok(())) => Ok(Ok(FileKind::Attests(object.into_payload()))),
+        Ok(Err(test)) => {
             drop(object);
             Ok(Err(FileReason::ObjectFails(test)))
+        }
+        Err(error) => {
+            drop(object);
+            Err(error)
         }
     }
 }

@@ -78,6 +78,9 @@ pub fn find_point<D: Digester, V: Verifier>(
 {
     match read_point(alloc, ca, index, digester, verifier)? {
         Ok(point) => Ok(Some(point)),
-        Err(_) => Ok(None),
+        Err(reason) => {
+            drop(reason);
+            Ok(None)
+        }
     }
 }

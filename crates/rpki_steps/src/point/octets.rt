@@ -68,8 +68,12 @@ pub fn point_unheld<D: Digester, V: Verifier>(
     ensures asked { V.count verifier.new ≤ V.count verifier.old + 3 }
 {
     let index = Index::new(bundle);
-    let Ok(point) = standing_point(alloc, ca, &index, digester, verifier)? else {
-        return Ok(None);
+    let point = match standing_point(alloc, ca, &index, digester, verifier)? {
+        Ok(point) => point,
+        Err(reason) => {
+            drop(reason);
+            return Ok(None);
+        }
     };
     let parts = read_parts(alloc, ca, &point, bundle);
     let Some((point, parts)) = keep_with(point, parts)? else {

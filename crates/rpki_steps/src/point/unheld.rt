@@ -28,6 +28,9 @@ pub fn read_point<D: Digester, V: Verifier>(
 {
     match standing_point(alloc, ca, index, digester, verifier)? {
         Ok(point) => Ok(Some(point)),
-        Err(_) => Ok(None),
+        Err(reason) => {
+            drop(reason);
+            Ok(None)
+        }
     }
 }

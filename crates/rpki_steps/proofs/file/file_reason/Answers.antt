@@ -9,7 +9,7 @@ pub returns-in-Ok-Child-clause-reason : goal.returns-in-Ok-Child-clause-reason
 returns-in-Ok-Child-clause-reason g c =
     let d = digests_of g.D.Digester.sha256_digest g.D.Digester.sha1_digest c.args.digester.now in
     let w = world_of d (g.V.Verifier.says c.args.verifier.now) c.args.index.now in
-    λ l. child_told w c.args.ca.now c.args.keys.now c.args.point.now.point c.args.uri.now c.in-Ok-Child.child c.from-depth.result c.chain_reason.result (c.from-depth.ensures ∙ c.depth.ensures.depth) ((rw (c.in-Ok-Child.is, c.in-Ok-Child.field-0-is) at c.in_ok-child.ensures.judged) l) c.chain_reason.ensures
+    λ l. child_told w c.args.ca.now c.args.keys.now c.args.point.now.point c.args.uri.now c.in-Ok-Child.child c.from-depth.result c.chain_reason-reason.result (c.from-depth.ensures ∙ c.depth.ensures.depth) ((rw (c.in-Ok-Child.is, c.in-Ok-Child.field-0-is) at c.in_ok-child.ensures.judged) l) c.chain_reason-reason.ensures
 
 pub returns-in-Ok-Attests-clause-reason : goal.returns-in-Ok-Attests-clause-reason
 returns-in-Ok-Attests-clause-reason g c =

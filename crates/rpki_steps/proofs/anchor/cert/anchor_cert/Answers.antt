@@ -19,8 +19,8 @@ returns-in-Ok-clause-found g c =
     accepted w c.args.key.now c.args.cert (c.has_key.ensures.0 c.if-not-has_key.false) c.moment-now.result c.moment-now.ensures c.args.tal.value c.validate_ta_at-validated.result c.in-Ok.anchor c.validate_ta_at-validated.ensures.validates c.validate_ta_at-validated.ensures.tal
     (rw c.in-Ok.is at c.in_ok-anchor.ensures)
 
-pub cert_test-requires : goal.cert_test-requires
-cert_test-requires g c =
+pub cert_test-test-requires : goal.cert_test-test-requires
+cert_test-test-requires g c =
     let d = digests_of g.D.Digester.sha256_digest g.D.Digester.sha1_digest c.args.digester.now in
     let v = g.V.Verifier.says c.args.verifier.now in
     is_refusal (ValidatesAnchor d v true c.moment-now.result c.args.cert) c.validate_ta_at-validated.result c.in-Err.error c.validate_ta_at-validated.ensures.validates
@@ -30,5 +30,5 @@ pub returns-in-Err-clause-found : goal.returns-in-Err-clause-found
 returns-in-Err-clause-found g c =
     let d = digests_of g.D.Digester.sha256_digest g.D.Digester.sha1_digest c.args.digester.now in
     let w = world_of d (g.V.Verifier.says c.args.verifier.now) c.args.index.now in
-    refused w c.args.key.now c.args.cert (c.has_key.ensures.0 c.if-not-has_key.false) c.moment-now.result c.moment-now.ensures c.validate_ta_at-validated.result c.in-Err.error c.cert_test.result c.validate_ta_at-validated.ensures.validates
-    (rw c.in-Err.is at c.in_ok-anchor.ensures) c.cert_test.ensures
+    refused w c.args.key.now c.args.cert (c.has_key.ensures.0 c.if-not-has_key.false) c.moment-now.result c.moment-now.ensures c.validate_ta_at-validated.result c.in-Err.error c.cert_test-test.result c.validate_ta_at-validated.ensures.validates
+    (rw c.in-Err.is at c.in_ok-anchor.ensures) c.cert_test-test.ensures

@@ -18,4 +18,4 @@ returns-in-Held-clause-judged g c =
     let d = digests_of g.D.Digester.sha256_digest g.D.Digester.sha1_digest c.args.digester.now in
     let w = world_of d (g.V.Verifier.says c.args.verifier.now) c.args.index.now in
     let v = g.V.Verifier.says c.args.verifier.now in
-    held_led w c.args.locator.now c.in-Held.tal.key c.in-Held.object.now.uri c.in-Held.object.now.octets c.lead_to.result (rw c.in-Held.is at (c.in_ok-fault.ensures.lead d v)) c.lead_to.ensures.judged
+    held_led w c.args.locator.now c.in-Held.tal.key c.in-Held.object.now.uri c.in-Held.object.now.octets c.lead_to-led.result (rw c.in-Held.is at (c.in_ok-fault.ensures.lead d v)) c.lead_to-led.ensures.judged

@@ -19,4 +19,4 @@ returns-clause-anchor g c =
     let l = c.args.locator.now in
     let o = c.in-Held.object.now in
     let leads : HoldsAt w l c.key_info.result.now o.uri o.octets = subst (λ (k : Key). HoldsAt w l k o.uri o.octets) (sym c.key_info.ensures) (subst (IsLocatorLookup w l) c.in-Held.is (c.in_ok-object.ensures.lead w.digests w.good)) in
-    anchor_by w l c.key_info.result.now o.uri o.octets c.args.uri.now c.args.cert.now c.is_anchor_there.result leads c.requires (c.one_lead.ensures.key w l) (c.one_lead.ensures.uri w l) c.is_anchor_there.ensures.anchor
+    anchor_by w l c.key_info.result.now o.uri o.octets c.args.uri.now c.args.cert.now c.is_anchor_there-is.result leads c.requires (c.one_lead.ensures.key w l) (c.one_lead.ensures.uri w l) c.is_anchor_there-is.ensures.anchor

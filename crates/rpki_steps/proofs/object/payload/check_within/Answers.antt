@@ -7,11 +7,11 @@ use Rattle.rpki_steps.proofs.object.payload.check_within.Goals as goal
 pub returns-in-Ok-clause-told : goal.returns-in-Ok-clause-told
 returns-in-Ok-clause-told c = λ w p.
     let h = rw c.in-Ok.is at c.in_ok-held.ensures in
-    cover_told w (sets_of c.args.ca.now) (cert_of c.args.ca.now) p c.args.object.now.object c.args.object.now.payload c.cert.result.now (payload_of c.payload.result.now) c.check_cover.result c.cert.ensures c.payload.ensures h.0
-    (c.check_cover.ensures.told w (sets_of c.args.ca.now) (cert_of c.args.ca.now) p c.args.object.now.object (rw c.cert.ensures at h.1))
+    cover_told w (sets_of c.args.ca.now) (cert_of c.args.ca.now) p c.args.object.now.object c.args.object.now.payload c.cert.result.now (payload_of c.payload.result.now) c.check_cover-told.result c.cert.ensures c.payload.ensures h.0
+    (c.check_cover-told.ensures.told w (sets_of c.args.ca.now) (cert_of c.args.ca.now) p c.args.object.now.object (rw c.cert.ensures at h.1))
 
 pub returns-in-Ok-clause-unheld : goal.returns-in-Ok-clause-unheld
-returns-in-Ok-clause-unheld c = cover_unheld (sets_of c.args.ca.now) c.args.object.now.object c.args.object.now.payload c.check_cover.result c.check_cover.ensures.unheld
+returns-in-Ok-clause-unheld c = cover_unheld (sets_of c.args.ca.now) c.args.object.now.object c.args.object.now.payload c.check_cover-told.result c.check_cover-told.ensures.unheld
 
 pub returns-in-Err-clause-told : goal.returns-in-Err-clause-told
 returns-in-Err-clause-told c = λ w p.

@@ -14,9 +14,9 @@ pub returns-in-Ok-clause-listed : goal.returns-in-Ok-clause-listed
 returns-in-Ok-clause-listed g c =
     rw c.in-Ok.is at c.in_ok-point.ensures.listed
 
-pub returns-clause-read : goal.returns-clause-read
-returns-clause-read g c =
+pub returns-in-Err-clause-read : goal.returns-in-Err-clause-read
+returns-in-Err-clause-read g c =
     let w : World = world_of (digests_of g.D.Digester.sha256_digest g.D.Digester.sha1_digest c.args.digester.now) (g.V.Verifier.says c.args.verifier.now) c.args.index.now in
     let held = InSet (sets_of c.args.ca.now) in
     let ca = cert_of c.args.ca.now in
-    refutes w ca held (point_reason_of c.in-Err.field-0) (rw c.in-Err.is at c.in_ok-point.ensures.refused)
+    refutes w ca held (point_reason_of c.in-Err.reason) (rw c.in-Err.is at c.in_ok-point.ensures.refused)

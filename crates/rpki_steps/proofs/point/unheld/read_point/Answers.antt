@@ -16,7 +16,7 @@ returns-in-Ok-clause-listed g c =
     let is : IsStanding w c.args.ca.now c.in-Ok.point = rw c.in-Ok.is at c.in_ok-point.ensures.found in
     is.keys
 
-pub returns-clause-read : goal.returns-clause-read
-returns-clause-read g c =
+pub returns-in-Err-clause-read : goal.returns-in-Err-clause-read
+returns-in-Err-clause-read g c =
     let w : World = world_of (digests_of g.D.Digester.sha256_digest g.D.Digester.sha1_digest c.args.digester.now) (g.V.Verifier.says c.args.verifier.now) c.args.index.now in
-    unheld_refutes w c.args.ca.now c.in-Err.field-0 (rw c.in-Err.is at c.in_ok-point.ensures.refused)
+    unheld_refutes w c.args.ca.now c.in-Err.reason (rw c.in-Err.is at c.in_ok-point.ensures.refused)
