@@ -7,8 +7,8 @@ use answers::{Answer, word_at};
 use anyhow::{Result, anyhow};
 use bytes::Bytes;
 use certs_key::Verifier;
-use rpki_commands::{Bundle, Fips, Path, Reach, TableVerifier, Witness, judge, reach};
-use rpki_validator::naming_chains;
+use rpki_digests::Fips;
+use rpki_validator::{Bundle, Path, Reach, TableVerifier, Witness, judge, naming_chains, reach};
 use std::alloc::Global;
 use std::rc::Rc;
 

@@ -3,8 +3,8 @@
 use crate::shown::tell_lines;
 use answers::Answer;
 use anyhow::Result;
-use rpki_commands::{Bundle, Fips, Report, TableVerifier, walk};
-use rpki_validator::render;
+use rpki_digests::Fips;
+use rpki_validator::{Bundle, Report, TableVerifier, render, walk};
 use std::alloc::Global;
 
 // What a walk reports of a bundle.
