@@ -31,7 +31,6 @@ pub fn say_octets(answer: &mut Answer, octets: &[u8]) {
 
 /// A moment's text, as more of the last word.
 pub fn tell_moment(answer: &mut Answer, moment: Time) {
-    for octet in moment.generalized() {
-        answer.join_as(&char::from(octet));
-    }
+    let text = moment.generalized();
+    answer.join(str::from_utf8(text.as_slice()).unwrap_or("no text"));
 }

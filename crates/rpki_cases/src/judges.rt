@@ -127,6 +127,13 @@ fn tell_chain(answer: &mut Answer, path: &Path) {
     }
 }
 
+// Chains, one after the other.
+fn tell_chains(answer: &mut Answer, chains: &[Rc<Path>]) {
+    for path in chains {
+        tell_chain(answer, path.as_ref());
+    }
+}
+
 /// The accepted chains whose last certificate names one of the URIs, with commas between.
 pub fn naming(alloc: Global, answer: &mut Answer, uris: &str, bundle: &Bundle) -> Result<()> {
     let uris = uris_of(alloc, uris)?;
@@ -135,9 +142,7 @@ pub fn naming(alloc: Global, answer: &mut Answer, uris: &str, bundle: &Bundle) -
     drop(verifier);
     drop(uris);
     let chains = chains?;
-    for path in &chains {
-        tell_chain(answer, path.as_ref());
-    }
+    tell_chains(answer, chains.as_slice());
     drop(chains);
     Ok(())
 }
