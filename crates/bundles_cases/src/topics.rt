@@ -4,27 +4,7 @@ use crate::octets::bundle_of;
 use crate::{bundles, objects, parts, points, times, uris, written};
 use answers::{Answer, unknown, word_at};
 use anyhow::Result;
-use rpki_bundle::Bundle;
 use std::alloc::Global;
-
-// The answer to a question about a bundle.
-fn of_bundle(
-    alloc: Global,
-    answer: &mut Answer,
-    topic: &str,
-    words: &[&str],
-    bundle: &Bundle,
-) -> Result<()> {
-    match topic {
-        "decode" => bundles::tell(answer, bundle),
-        "again" => return bundles::encode(alloc, answer, bundle),
-        "get" => return bundles::get(alloc, answer, word_at(words, 1), bundle),
-        "point" | "unheld" => return points::answer(alloc, answer, topic, words, bundle),
-        "sound" => objects::sound(alloc, answer, words, bundle),
-        _ => return objects::accepted(alloc, answer, topic, words, bundle),
-    }
-    Ok(())
-}
 
 // The answer to a question about a bundle whose octets are one of the words.
 fn of_octets(alloc: Global, answer: &mut Answer, topic: &str, words: &[&str]) -> Result<()> {
@@ -35,7 +15,20 @@ fn of_octets(alloc: Global, answer: &mut Answer, topic: &str, words: &[&str]) ->
         _ => return unknown(),
     };
     let bundle = bundle_of(alloc, word_at(words, place))?;
-    let said = of_bundle(alloc, answer, topic, words, &bundle);
+    let said = match topic {
+        "decode" => {
+            bundles::tell(answer, &bundle);
+            Ok(())
+        }
+        "again" => bundles::encode(alloc, answer, &bundle),
+        "get" => bundles::get(alloc, answer, word_at(words, 1), &bundle),
+        "point" | "unheld" => points::answer(alloc, answer, topic, words, &bundle),
+        "sound" => {
+            objects::sound(alloc, answer, words, &bundle);
+            Ok(())
+        }
+        _ => objects::accepted(alloc, answer, topic, words, &bundle),
+    };
     drop(bundle);
     said
 }

@@ -85,17 +85,11 @@ fn tell(alloc: Global, answer: &mut Answer, topic: &str, witness: &Witness, bund
     drop(verifier);
 }
 
-/// What a judge says of the witness of words.
-pub fn judged(
-    alloc: Global,
-    answer: &mut Answer,
-    topic: &str,
-    words: &[&str],
-    bundle: &Bundle,
-) -> Result<()> {
-    let (locator, chain, object) = (word_at(words, 0), word_at(words, 1), word_at(words, 2));
+/// What a judge says of the witness of words behind the topic.
+pub fn judged(alloc: Global, answer: &mut Answer, words: &[&str], bundle: &Bundle) -> Result<()> {
+    let (locator, chain, object) = (word_at(words, 1), word_at(words, 2), word_at(words, 3));
     let witness = witness_of(alloc, locator, chain, object)?;
-    tell(alloc, answer, topic, &witness, bundle);
+    tell(alloc, answer, word_at(words, 0), &witness, bundle);
     drop(witness);
     Ok(())
 }

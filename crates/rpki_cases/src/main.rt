@@ -46,7 +46,7 @@ fn take(rt: HostRuntime, world: &mut World, line: &str) -> Result<()> {
         return Ok(());
     }
     let mut answer = Answer::new(rt.alloc());
-    if let Err(error) = topics::answer(&rt, &mut answer, world, *topic, rest) {
+    if let Err(error) = topics::answer(&rt, &mut answer, world, words.as_slice()) {
         answer.say(&error);
     }
     println!(rt; "{}", answer.text())?;

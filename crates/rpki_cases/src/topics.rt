@@ -8,46 +8,35 @@ use rpki_validator::Bundle;
 use std::alloc::Global;
 
 // The answer to a question about a bundle.
-fn of_bundle(
-    alloc: Global,
-    answer: &mut Answer,
-    topic: &str,
-    words: &[&str],
-    bundle: &Bundle,
-) -> Result<()> {
-    match topic {
+fn of_bundle(alloc: Global, answer: &mut Answer, words: &[&str], bundle: &Bundle) -> Result<()> {
+    match word_at(words, 0) {
         "witnesses" => reports::witnesses(alloc, answer, bundle),
         "walk" => reports::walked(alloc, answer, bundle),
-        "reach" => judges::reached(alloc, answer, word_at(words, 0), bundle),
-        "naming" => judges::naming(alloc, answer, word_at(words, 0), bundle),
-        "judge" | "asks" => judges::judged(alloc, answer, topic, words, bundle),
+        "reach" => judges::reached(alloc, answer, word_at(words, 1), bundle),
+        "naming" => judges::naming(alloc, answer, word_at(words, 1), bundle),
+        "judge" | "asks" => judges::judged(alloc, answer, words, bundle),
         _ => unknown(),
     }
 }
 
-// The answer to a question about a bundle whose octets are one of the words.
-fn of_octets(alloc: Global, answer: &mut Answer, topic: &str, words: &[&str]) -> Result<()> {
-    let place = match topic {
-        "witnesses" => 0,
-        "reach" | "naming" => 1,
-        _ => 3,
+// The answer to a question about the bundle whose octets are its last word.
+fn of_octets(alloc: Global, answer: &mut Answer, words: &[&str]) -> Result<()> {
+    let Some(octets) = words.last() else {
+        return unknown();
     };
-    let octets = pieces_of(alloc, word_at(words, place))?;
+    let octets = pieces_of(alloc, *octets)?;
     let read = Bundle::decode(alloc, octets.as_slice());
     drop(octets);
     let bundle = read?;
-    let said = of_bundle(alloc, answer, topic, words, &bundle);
+    let said = of_bundle(alloc, answer, words, &bundle);
     drop(bundle);
     said
 }
 
 // The answer to a question about a world.
 fn of_world(alloc: Global, answer: &mut Answer, world: &World, words: &[&str]) -> Result<()> {
-    let Some((question, words)) = words.split_first() else {
-        return unknown();
-    };
     let bundle = world.bundle(alloc)?;
-    let said = of_bundle(alloc, answer, *question, words, &bundle);
+    let said = of_bundle(alloc, answer, words, &bundle);
     drop(bundle);
     said
 }
@@ -66,29 +55,26 @@ fn of_words(alloc: Global, answer: &mut Answer, topic: &str, words: &[&str]) -> 
         "walk" | "flips" | "cuts" | "rooms" | "reads" => {
             return walks::answer(alloc, answer, topic, words);
         }
-        "witnesses" | "reach" | "naming" | "judge" | "asks" => {
-            return of_octets(alloc, answer, topic, words);
-        }
         _ => return unknown(),
     }
     Ok(())
 }
 
 /// The answer to a question, which may make or read files.
-pub fn answer(
-    rt: &HostRuntime,
-    answer: &mut Answer,
-    world: &World,
-    topic: &str,
-    words: &[&str],
-) -> Result<()> {
-    match topic {
-        "put" | "folder" | "link" | "mode" => files::answer(rt, answer, topic, words),
+pub fn answer(rt: &HostRuntime, answer: &mut Answer, world: &World, words: &[&str]) -> Result<()> {
+    let Some((topic, rest)) = words.split_first() else {
+        return unknown();
+    };
+    match *topic {
+        "put" | "folder" | "link" | "mode" => files::answer(rt, answer, *topic, rest),
         "bundle" => {
-            commands::bundle_of(rt, answer, words);
+            commands::bundle_of(rt, answer, rest);
             Ok(())
         }
-        "world" => of_world(rt.alloc(), answer, world, words),
-        _ => of_words(rt.alloc(), answer, topic, words),
+        "world" => of_world(rt.alloc(), answer, world, rest),
+        "witnesses" | "reach" | "naming" | "judge" | "asks" => {
+            of_octets(rt.alloc(), answer, words)
+        }
+        _ => of_words(rt.alloc(), answer, *topic, rest),
     }
 }
