@@ -4,7 +4,7 @@ use anyhow::{Result, anyhow};
 use certs_verify::{Cert, ResourceCert, TalInfo, Validate};
 use rpki_bundle::Bundle;
 use rpki_digests::Fips;
-use rpki_steps::climb::TableVerifier;
+use rpki_steps::TableVerifier;
 use std::alloc::Global;
 
 /// The verifier that a bundle's table is.
