@@ -11,9 +11,13 @@ use anyhow::{Result, anyhow};
 use certs_key::Oid;
 use certs_x509::errors::Time;
 use objects_cms::verify::verify_content;
-use objects_valid::{Aspa, DecodeIfType, Manifest, ResourceCert, Roa, SignedObject};
+use objects_payload::aspa::AsProviderAttestation;
+use objects_payload::roa::RouteOriginAttestation;
+use objects_valid::{
+    DecodeIfType, ManifestContent, ResourceCert, Signed, SignedContent, SignedObject,
+};
 use rpki_bundle::Bundle;
-use rpki_commands::Fips;
+use rpki_digests::Fips;
 use std::alloc::Global;
 
 /// The content of an object, where it is one of a content of a type.
@@ -53,57 +57,15 @@ fn test_object(
     }
 }
 
-// Whether a manifest is sound.
-fn test_manifest(
+// Whether an object with a content of a type is sound.
+fn test_signed<T: SignedContent>(
     alloc: Global,
     answer: &mut Answer,
     strict: bool,
     octets: &[u8],
     verifier: &mut Table<'_>,
 ) {
-    match Manifest::decode(alloc, octets, strict) {
-        Ok(object) => {
-            let tested = object.verify_content(alloc, &Fips, verifier);
-            drop(object);
-            said::sound(answer, tested);
-        }
-        Err(error) => {
-            drop(error);
-            answer.word(UNREADABLE);
-        }
-    }
-}
-
-// Whether a route origin attestation is sound.
-fn test_roa(
-    alloc: Global,
-    answer: &mut Answer,
-    strict: bool,
-    octets: &[u8],
-    verifier: &mut Table<'_>,
-) {
-    match Roa::decode(alloc, octets, strict) {
-        Ok(object) => {
-            let tested = object.verify_content(alloc, &Fips, verifier);
-            drop(object);
-            said::sound(answer, tested);
-        }
-        Err(error) => {
-            drop(error);
-            answer.word(UNREADABLE);
-        }
-    }
-}
-
-// Whether a provider attestation is sound.
-fn test_aspa(
-    alloc: Global,
-    answer: &mut Answer,
-    strict: bool,
-    octets: &[u8],
-    verifier: &mut Table<'_>,
-) {
-    match Aspa::decode(alloc, octets, strict) {
+    match Signed::<T>::decode(alloc, octets, strict) {
         Ok(object) => {
             let tested = object.verify_content(alloc, &Fips, verifier);
             drop(object);
@@ -126,9 +88,9 @@ fn test_kind(
     verifier: &mut Table<'_>,
 ) {
     match kind {
-        "manifest" => test_manifest(alloc, answer, strict, octets, verifier),
-        "roa" => test_roa(alloc, answer, strict, octets, verifier),
-        "aspa" => test_aspa(alloc, answer, strict, octets, verifier),
+        "manifest" => test_signed::<ManifestContent>(alloc, answer, strict, octets, verifier),
+        "roa" => test_signed::<RouteOriginAttestation>(alloc, answer, strict, octets, verifier),
+        "aspa" => test_signed::<AsProviderAttestation>(alloc, answer, strict, octets, verifier),
         _ => test_object(alloc, answer, strict, octets, verifier),
     }
 }
@@ -171,15 +133,8 @@ fn below(
     };
     let octets = octets_of(alloc, word_at(words, 6));
     let mut verifier = Table::new(bundle, &Fips);
-    match kind {
-        "manifest" => validated::manifest(&asked, answer, octets.as_slice(), &mut verifier),
-        "roa" => validated::roa(&asked, answer, octets.as_slice(), &mut verifier),
-        "aspa" => validated::aspa(&asked, answer, octets.as_slice(), &mut verifier),
-        _ => {
-            let call = word_at(words, 0);
-            validated::object(&asked, call, answer, octets.as_slice(), &mut verifier);
-        }
-    }
+    let call = word_at(words, 0);
+    validated::answer(&asked, answer, kind, call, octets.as_slice(), &mut verifier);
     answer.say(&format_args!("asked {}", verifier.asked));
     Ok(())
 }

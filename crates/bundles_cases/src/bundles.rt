@@ -1,7 +1,8 @@
 //! Questions about bundles: octets that are decoded and written again, and objects that are looked up.
 
-use crate::shown::{tell_lines, tell_octets};
-use answers::{Answer, pieces_of};
+use crate::octets::bundle_of;
+use crate::shown::{tell_moment, tell_octets};
+use answers::{Answer, pieces_of, word_at};
 use anyhow::Result;
 use rpki_bundle::{Bundle, Version};
 use std::alloc::Global;
@@ -13,7 +14,7 @@ fn mode_word(relaxed: bool) -> &'static str {
 
 /// All that the getters of a bundle tell.
 pub fn tell(answer: &mut Answer, bundle: &Bundle) {
-    tell_lines(answer, &bundle.moment().generalized());
+    tell_moment(answer, bundle.moment());
     answer.say(&bundle.depth());
     if let Version::One { relaxed } = bundle.version() {
         answer.word(mode_word(relaxed));
@@ -48,19 +49,22 @@ pub fn encode(alloc: Global, answer: &mut Answer, bundle: &Bundle) -> Result<()>
 
 /// The octets of the bundle of version 1 with the parts of a bundle, relaxed or not; or those of the bundle that was handed
 /// back.
-pub fn upgrade(alloc: Global, answer: &mut Answer, word: &str, bundle: Bundle) -> Result<()> {
-    match bundle.upgrade(word == "relaxed") {
+pub fn upgrade(alloc: Global, answer: &mut Answer, words: &[&str]) -> Result<()> {
+    let bundle = bundle_of(alloc, word_at(words, 1))?;
+    let bundle = match bundle.upgrade(word_at(words, 0) == "relaxed") {
         Ok(bundle) => {
             answer.word(mode_word(bundle.relaxed()));
-            answer.join(" ");
-            encode(alloc, answer, &bundle)
+            bundle
         }
         Err((bundle, error)) => {
             answer.say(&error);
-            answer.join(" ");
-            encode(alloc, answer, &bundle)
+            bundle
         }
-    }
+    };
+    answer.join(" ");
+    let said = encode(alloc, answer, &bundle);
+    drop(bundle);
+    said
 }
 
 /// The object of a bundle at a text.

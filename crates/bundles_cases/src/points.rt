@@ -6,7 +6,7 @@ use answers::{Answer, word_at};
 use anyhow::Result;
 use certs_verify::ResourceCert;
 use rpki_bundle::Bundle;
-use rpki_commands::Fips;
+use rpki_digests::Fips;
 use rpki_steps::point::{Point, point, point_unheld};
 use std::alloc::{AllocError, Global};
 

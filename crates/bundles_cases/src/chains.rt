@@ -3,7 +3,8 @@
 use anyhow::{Result, anyhow};
 use certs_verify::{Cert, ResourceCert, TalInfo, Validate};
 use rpki_bundle::Bundle;
-use rpki_commands::{Fips, TableVerifier};
+use rpki_digests::Fips;
+use rpki_steps::TableVerifier;
 use std::alloc::Global;
 
 /// The verifier that a bundle's table is.

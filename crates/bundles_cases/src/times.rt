@@ -1,6 +1,6 @@
 //! Questions about moments.
 
-use crate::shown::tell_lines;
+use crate::shown::tell_moment;
 use answers::{Answer, count_of, word_at};
 use rpki_bundle::Time;
 
@@ -21,7 +21,7 @@ pub fn tell(answer: &mut Answer, topic: &str, words: &[&str]) {
         _ => Time::from_generalized(first.as_bytes()),
     };
     match moment {
-        Some(moment) => tell_lines(answer, &moment.generalized()),
+        Some(moment) => tell_moment(answer, moment),
         None => answer.word("none"),
     }
 }

@@ -9,7 +9,7 @@ use objects_cms::manifest::{FileAndHash, ManifestHash};
 use objects_payload::roa::RouteOriginAttestation;
 use objects_valid::ManifestContent;
 use objects_written::{EncodeFile, EncodeManifest, EncodeRoa, has_address, has_file_names};
-use rpki_commands::Fips;
+use rpki_digests::Fips;
 use std::alloc::Global;
 
 // What is written, or why nothing is.

@@ -1,14 +1,15 @@
 //! Signed objects that are validated below an authority, and what their contents say.
 
 use crate::asked::{
-    Asked, process_aspa, process_object, process_roa, validate_detached, validate_manifest,
-    validate_object,
+    Asked, process_attested, process_object, validate_detached, validate_manifest, validate_object,
 };
 use crate::chains::Table;
 use crate::said::{self, UNREADABLE};
 use crate::shown::say_octets;
 use answers::Answer;
-use objects_valid::{Aspa, Cert, Manifest, Roa, SignedObject};
+use objects_payload::aspa::AsProviderAttestation;
+use objects_payload::roa::RouteOriginAttestation;
+use objects_valid::{Attested, Cert, Manifest, Signed, SignedObject};
 
 // A signed object that is processed, and its content.
 fn processed(
@@ -45,8 +46,8 @@ fn of_call(
     }
 }
 
-/// A signed object of any kind: that it is processed, stands apart, or is validated.
-pub fn object(
+// A signed object of any kind: that it is processed, stands apart, or is validated.
+fn object(
     asked: &Asked<'_>,
     call: &str,
     answer: &mut Answer,
@@ -62,8 +63,8 @@ pub fn object(
     }
 }
 
-/// A manifest, and how many files it lists.
-pub fn manifest(asked: &Asked<'_>, answer: &mut Answer, octets: &[u8], verifier: &mut Table<'_>) {
+// A manifest, and how many files it lists.
+fn manifest(asked: &Asked<'_>, answer: &mut Answer, octets: &[u8], verifier: &mut Table<'_>) {
     match Manifest::decode(asked.alloc, octets, asked.strict) {
         Ok(manifest) => {
             let validated = validate_manifest(asked, manifest, verifier);
@@ -82,25 +83,56 @@ pub fn manifest(asked: &Asked<'_>, answer: &mut Answer, octets: &[u8], verifier:
     }
 }
 
-// A route origin attestation that is accepted, and its origins.
-fn origins(asked: &Asked<'_>, answer: &mut Answer, roa: Roa, verifier: &mut Table<'_>) {
+// What a content attests.
+trait Told: Attested {
+    // Answers it, word by word.
+    fn tell(&self, answer: &mut Answer);
+}
+
+impl Told for RouteOriginAttestation {
+    fn tell(&self, answer: &mut Answer) {
+        for origin in self.iter_origins() {
+            answer.say(&format_args!("{}-{}={}", origin.prefix, origin.max_len, origin.asn));
+        }
+    }
+}
+
+impl Told for AsProviderAttestation {
+    fn tell(&self, answer: &mut Answer) {
+        answer.say(&self.customer_as());
+        for provider in self.provider_as_set().iter() {
+            answer.say(&provider);
+        }
+    }
+}
+
+// An object that attests something, and what that is.
+fn tell_attested<T: Told>(
+    asked: &Asked<'_>,
+    answer: &mut Answer,
+    object: Signed<T>,
+    verifier: &mut Table<'_>,
+) {
     let test = asked.test;
-    let processed = process_roa(asked, roa, verifier, move |_: &Cert| test.verdict());
+    let processed = process_attested(asked, object, verifier, move |_: &Cert| test.verdict());
     match said::accepted_with(answer, processed) {
         Some(content) => {
-            for origin in content.iter_origins() {
-                answer.say(&format_args!("{}-{}={}", origin.prefix, origin.max_len, origin.asn));
-            }
+            content.tell(answer);
             drop(content);
         }
         None => {}
     }
 }
 
-/// A route origin attestation.
-pub fn roa(asked: &Asked<'_>, answer: &mut Answer, octets: &[u8], verifier: &mut Table<'_>) {
-    match Roa::decode(asked.alloc, octets, asked.strict) {
-        Ok(roa) => origins(asked, answer, roa, verifier),
+// An object that attests something.
+fn attested<T: Told>(
+    asked: &Asked<'_>,
+    answer: &mut Answer,
+    octets: &[u8],
+    verifier: &mut Table<'_>,
+) {
+    match Signed::<T>::decode(asked.alloc, octets, asked.strict) {
+        Ok(object) => tell_attested(asked, answer, object, verifier),
         Err(error) => {
             drop(error);
             answer.word(UNREADABLE);
@@ -108,29 +140,19 @@ pub fn roa(asked: &Asked<'_>, answer: &mut Answer, octets: &[u8], verifier: &mut
     }
 }
 
-// A provider attestation that is accepted, its customer and its providers.
-fn providers(asked: &Asked<'_>, answer: &mut Answer, aspa: Aspa, verifier: &mut Table<'_>) {
-    let test = asked.test;
-    let processed = process_aspa(asked, aspa, verifier, move |_: &Cert| test.verdict());
-    match said::accepted_with(answer, processed) {
-        Some(content) => {
-            answer.say(&content.customer_as());
-            for provider in content.provider_as_set().iter() {
-                answer.say(&provider);
-            }
-            drop(content);
-        }
-        None => {}
-    }
-}
-
-/// A provider attestation.
-pub fn aspa(asked: &Asked<'_>, answer: &mut Answer, octets: &[u8], verifier: &mut Table<'_>) {
-    match Aspa::decode(asked.alloc, octets, asked.strict) {
-        Ok(aspa) => providers(asked, answer, aspa, verifier),
-        Err(error) => {
-            drop(error);
-            answer.word(UNREADABLE);
-        }
+/// An object of that kind, by a call.
+pub fn answer(
+    asked: &Asked<'_>,
+    answer: &mut Answer,
+    kind: &str,
+    call: &str,
+    octets: &[u8],
+    verifier: &mut Table<'_>,
+) {
+    match kind {
+        "manifest" => manifest(asked, answer, octets, verifier),
+        "roa" => attested::<RouteOriginAttestation>(asked, answer, octets, verifier),
+        "aspa" => attested::<AsProviderAttestation>(asked, answer, octets, verifier),
+        _ => object(asked, call, answer, octets, verifier),
     }
 }

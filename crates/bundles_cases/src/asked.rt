@@ -5,13 +5,11 @@ ghost use Rattle.std.specs.Prelude.{◌≡◌};
 use crate::chains::Table;
 use certs_x509::errors::{Clock, Time};
 use certs_x509::signed::OctetString;
-use objects_payload::aspa::AsProviderAttestation;
-use objects_payload::roa::RouteOriginAttestation;
 use objects_valid::{
-    Aspa, Cert, Manifest, ManifestContent, ProcessObject, ResourceCert, Roa, SignedObject,
+    Attested, Cert, Manifest, ManifestContent, ProcessObject, ResourceCert, Signed, SignedObject,
     ValidationError, VerificationError,
 };
-use rpki_commands::Fips;
+use rpki_digests::Fips;
 use std::alloc::Global;
 
 /// What the caller's test of a certificate says.
@@ -93,39 +91,21 @@ pub fn process_object<F: FnOnce(&Cert) -> Result<(), ValidationError> + Drop>(
     }
 }
 
-/// A route origin attestation, with a test of its certificate.
-pub fn process_roa<F: FnOnce(&Cert) -> Result<(), ValidationError> + Drop>(
+/// An object that attests something, with a test of its certificate.
+pub fn process_attested<T: Attested, F: FnOnce(&Cert) -> Result<(), ValidationError> + Drop>(
     asked: &Asked<'_>,
-    roa: Roa,
+    object: Signed<T>,
     verifier: &mut Table<'_>,
     check_crl: F,
-) -> Result<(ResourceCert, RouteOriginAttestation), ValidationError>
+) -> Result<(ResourceCert, T), ValidationError>
     requires { F.IsAlwaysCallable check_crl }
 {
     let (alloc, issuer, strict) = (asked.alloc, asked.issuer, asked.strict);
     if asked.by_clock {
         let clock = Standing(asked.now);
-        roa.process(alloc, issuer, strict, &clock, &Fips, verifier, check_crl)
+        object.process(alloc, issuer, strict, &clock, &Fips, verifier, check_crl)
     } else {
-        roa.process_at(alloc, issuer, strict, asked.now, &Fips, verifier, check_crl)
-    }
-}
-
-/// A provider attestation, with a test of its certificate.
-pub fn process_aspa<F: FnOnce(&Cert) -> Result<(), ValidationError> + Drop>(
-    asked: &Asked<'_>,
-    aspa: Aspa,
-    verifier: &mut Table<'_>,
-    check_crl: F,
-) -> Result<(ResourceCert, AsProviderAttestation), ValidationError>
-    requires { F.IsAlwaysCallable check_crl }
-{
-    let (alloc, issuer, strict) = (asked.alloc, asked.issuer, asked.strict);
-    if asked.by_clock {
-        let clock = Standing(asked.now);
-        aspa.process(alloc, issuer, strict, &clock, &Fips, verifier, check_crl)
-    } else {
-        aspa.process_at(alloc, issuer, strict, asked.now, &Fips, verifier, check_crl)
+        object.process_at(alloc, issuer, strict, asked.now, &Fips, verifier, check_crl)
     }
 }
 
