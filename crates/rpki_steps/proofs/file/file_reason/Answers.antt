@@ -29,8 +29,8 @@ returns-in-Ok-Bad-clause-reason g c =
     let w = world_of d (g.V.Verifier.says c.args.verifier.now) c.args.index.now in
     λ l. unread_told w c.args.ca.now c.args.keys.now c.args.point.now.point c.args.uri.now ((rw (c.in-Ok-Bad.is, c.in-Ok-Bad.field-0-is) at c.in_ok-child.ensures.judged) l)
 
-pub returns-clause-reason : goal.returns-clause-reason
-returns-clause-reason g c =
+pub returns-in-Err-clause-reason : goal.returns-in-Err-clause-reason
+returns-in-Err-clause-reason g c =
     let d = digests_of g.D.Digester.sha256_digest g.D.Digester.sha1_digest c.args.digester.now in
     let w = world_of d (g.V.Verifier.says c.args.verifier.now) c.args.index.now in
     λ l. reason_told w c.args.ca.now c.args.keys.now c.args.point.now.point c.args.uri.now c.in-Err.reason ((rw c.in-Err.is at c.in_ok-child.ensures.judged) l)
