@@ -70,9 +70,9 @@ fn bundle_of(alloc: Global, words: &[&str]) -> Result<Bundle> {
         return Err(anyhow!("no moment"));
     };
     let depth = count_of(word_at(words, 1)).min(255) as u8;
-    let locators = list_of(alloc, word_at(words, 2))?;
-    let objects = list_of(alloc, word_at(words, 3))?;
-    let verdicts = list_of(alloc, word_at(words, 4))?;
+    let locators: Vec<Locator> = list_of(alloc, word_at(words, 2))?;
+    let objects: Vec<Object> = list_of(alloc, word_at(words, 3))?;
+    let verdicts: Vec<Verdict> = list_of(alloc, word_at(words, 4))?;
     let made = match word_at(words, 5) {
         "relaxed" => Bundle::from_parts_v1(true, moment, depth, locators, objects, verdicts),
         "strict" => Bundle::from_parts_v1(false, moment, depth, locators, objects, verdicts),
