@@ -658,6 +658,11 @@ def faults(q, world):
     q.check(octets, reader=("1", MANY), writer=("1", MANY, "fails"))
 
 
+def asked_whole():
+    """The worlds whose bundles are asked octet by octet."""
+    return single()[0], customers(), parents(), trimmed(), rpki_relaxed.ber_roa(True)
+
+
 def walks(q):
     """Asks all questions."""
     for name, world, lines in worked_cases():
@@ -672,8 +677,8 @@ def walks(q):
         q.check(world.bundle(), wanted=(0, text(found), ""))
     for name, world in rpki_relaxed.worlds():
         q.check(world.bundle())
-    for world in (single()[0], customers(), parents(), trimmed(), rpki_relaxed.ber_roa(True)):
-        q.is_bundle(world.bundle())
+    for world in asked_whole():
+        q.check(world.bundle())
         faults(q, world)
     flips(q, rpki_relaxed.ber_roa(True).bundle(), "fips", Fips)
     octets = single()[0].bundle()

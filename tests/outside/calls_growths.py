@@ -4,10 +4,10 @@
     calls_growths.py PROGRAM.. [--few] [--only WORD]
 
 Each PROGRAM is crates/NAME/out/NAME of a program of questions. A row of the table below names calls, and the stored questions that
-ask them; of `rpki_cases` walks, judges, reaches, chains and points of five worked cases are asked, too, whose answers are those of
-the second reading (`rpki_model.py`). Some questions of each kind of each row are asked, and one for each setting, one a run, with each
-growth of memory refused in turn, alone and with all that come after it (with --few, one question of each kind, and each growth alone),
-by `refuse_growth.c`, which is preloaded.
+ask them; of five worked cases walks, judges, reaches and chains (`rpki_cases`) and points (`bundles_cases`) are asked, too, whose
+answers are those of the second reading (`rpki_model.py`). Some questions of each kind of each row are asked, and one for each
+setting, one a run, with each growth of memory refused in turn, alone and with all that come after it (with --few, one question of
+each kind, and each growth alone), by `refuse_growth.c`, which is preloaded.
 
 The answer has to be the right one, or a front of its words and then that memory is lacking, or that something is refused for lack of
 memory; or the program ends with that fault and no answer. A word of an answer that finds no memory is left out, and octets of a
@@ -50,8 +50,8 @@ MEMORY = re.compile(r"(?:out of |no )?memory", re.IGNORECASE)
 SIGNS = string.whitespace + string.punctuation.replace("_", "")
 # What these programs of questions answer where something that they need first can't be read, whatever the error. (The others tell it.)
 UNTOLD = {
+    "bundles_cases": re.compile(r"no (anchor|authority|certificate|chain)|unreadable( asked 0)?"),
     "resources_cases": re.compile(r"refused: no (AS resources|IP resources|family)"),
-    "rpki_cases": re.compile(r"no (anchor|authority|certificate|chain)|unreadable( asked 0)?"),
 }
 NOTHING = re.compile(r"(?!)")
 
@@ -307,28 +307,29 @@ ROWS = (
     Row("attestations_cases", "built", "AttestationBuilder: new, push_key, push_as, push_v4, push_v6, into_attestation", 8),
     Row("attestations_cases", "signed", "AttestationBuilder: into_rta_builder; RtaBuilder: from_attestation, push_cert, push_crl, sign", 12),
     # Bundles, points, validated objects.
-    Row("rpki_cases", "decode", "Bundle: decode, decode_shared", 3),
-    Row("rpki_cases", "again", "Bundle: decode, encode", 3),
-    Row("rpki_cases", "parts", "Bundle: from_parts, from_parts_v1", 4),
-    Row("rpki_cases", "upgrade +", "Bundle: upgrade"),
-    Row("rpki_cases", "uri", "lookup_key", 2),
-    Row("rpki_cases", "manifest +", "Manifest: validate_at, validate; Signed: decode, verify_content; SignedContent: from_content"),
-    Row("rpki_cases", "roa +", "Signed: decode, verify_content, process_at, process"),
-    Row("rpki_cases", "aspa +", "Signed: decode, verify_content, process_at, process"),
-    Row("rpki_cases", "object +", "ProcessObject: validate_at, validate_detached_at, process_at, validate, validate_detached, process"),
-    Row("rpki_cases", "sound +", "verify_content; SignedObject: verify_content", others="unsound: out of memory asked 0"),
-    Row("rpki_cases", "typed +", "DecodeIfType: decode_if_type"),
-    Row("rpki_cases", "written +", "EncodeManifest, EncodeRoa: to_octets", 3),
-    Row("rpki_cases", "ask +", "judge, reach, naming_chains, cost, point, through rpki_ask", 2, r"2 \[\] \[(out of memory|write fault)\|\]"),
+    Row("bundles_cases", "decode", "Bundle: decode", 3),
+    Row("bundles_cases", "again", "Bundle: decode, encode", 3),
+    Row("bundles_cases", "parts", "Bundle: from_parts, from_parts_v1", 4),
+    Row("bundles_cases", "upgrade +", "Bundle: upgrade"),
+    Row("bundles_cases", "uri", "lookup_key", 2),
+    Row("bundles_cases", "manifest +", "Manifest: validate_at, validate; Signed: decode, verify_content; SignedContent: from_content"),
+    Row("bundles_cases", "roa +", "Signed: decode, verify_content, process_at, process"),
+    Row("bundles_cases", "aspa +", "Signed: decode, verify_content, process_at, process"),
+    Row("bundles_cases", "object +", "ProcessObject: validate_at, validate_detached_at, process_at, validate, validate_detached, process"),
+    Row("bundles_cases", "sound +", "verify_content; SignedObject: verify_content", others="unsound: out of memory asked 0"),
+    Row("bundles_cases", "typed +", "DecodeIfType: decode_if_type"),
+    Row("bundles_cases", "written +", "EncodeManifest, EncodeRoa: to_octets", 3),
+    # Walks, and the programs' commands.
+    Row("rpki_cases", "ask +", "judge, reach, naming_chains, cost, through rpki_ask", 2, r"2 \[\] \[(out of memory|write fault)\|\]"),
     Row("rpki_cases", "ask refusals", "diagnose; Path: of_locator", 6, r"2 \[\] \[(out of memory|write fault)\|\]"),
     # (what asks these is made below)
-    Row("rpki_cases", "walk", "walk, walk_lines, run, read_bundle, render; Report, Path: new, longer", 4, "write fault "),
+    Row("rpki_cases", "walk", "walk, walk_lines, run, read_bundle, render; Bundle: decode_shared; Report, Path: new, longer", 4, "write fault "),
     Row("rpki_cases", "witnesses", "walk; Report: new", 4),
     Row("rpki_cases", "judge", "judge, judge_by", 4),
     Row("rpki_cases", "reach", "reach", 4),
     Row("rpki_cases", "naming", "naming_chains", 4),
-    Row("rpki_cases", "point", "point", 4),
-    Row("rpki_cases", "unheld", "point_unheld", 4),
+    Row("bundles_cases", "point", "point", 4),
+    Row("bundles_cases", "unheld", "point_unheld", 4),
 )
 
 CASES = {
@@ -343,27 +344,32 @@ CASES = {
 # Questions.
 
 
-def of_cases(few):
-    """Walks, witnesses, judges of each witness, reaches of each object, or of a few, the chains that name it, and points of each chain,
-    by what it holds and whatever that is, of the worked cases."""
+def walks(octets, few):
+    """Walks, witnesses, judges of each witness, reaches of each object, or of a few, and the chains that name it."""
+    found = rpki_model.walk(octets)
+    yield "walk", ("walk", "fips", octets.hex()), rpki_walks.outcome(octets)
+    rows = sorted((file, locator, chain) for locator, chain, file in found.witnesses)
+    said = " ".join(" ".join(part.decode() for part in (b"good", file, locator, *chain)) for file, locator, chain in rows)
+    yield "witnesses", ("witnesses", octets.hex()), said
+    for locator, chain, file in sorted(found.witnesses):
+        words = (locator.decode(), b",".join(chain).decode(), file.decode(), octets.hex())
+        yield "judge", ("judge", *words), f"yes {len(chain)}"
+    for uri in sorted(found.held)[:: 4 if few else 1]:
+        yield "reach", ("reach", uri.decode(), octets.hex()), rpki_walks.reach_text(found.reach([uri]))
+        yield "naming", ("naming", uri.decode(), octets.hex()), rpki_walks.naming_text(found, [uri])
+
+
+def points(octets, _few):
+    """Points of each chain, by what it holds and whatever that is."""
     import rpki_points
 
-    for make in CASES.values():
-        octets = make().bundle()
-        found = rpki_model.walk(octets)
-        yield "walk", ("walk", "fips", octets.hex()), rpki_walks.outcome(octets)
-        rows = sorted((file, locator, chain) for locator, chain, file in found.witnesses)
-        said = " ".join(" ".join(part.decode() for part in (b"good", file, locator, *chain)) for file, locator, chain in rows)
-        yield "witnesses", ("witnesses", octets.hex()), said
-        for locator, chain, file in sorted(found.witnesses):
-            words = (locator.decode(), b",".join(chain).decode(), file.decode(), octets.hex())
-            yield "judge", ("judge", *words), f"yes {len(chain)}"
-        for uri in sorted(found.held)[:: 4 if few else 1]:
-            yield "reach", ("reach", uri.decode(), octets.hex()), rpki_walks.reach_text(found.reach([uri]))
-            yield "naming", ("naming", uri.decode(), octets.hex()), rpki_walks.naming_text(found, [uri])
-        for words, answer, (topic, _) in rpki_points.asked(octets):
-            if topic in ("point", "unheld"):
-                yield topic, tuple(word.decode() if isinstance(word, bytes) else word for word in words), answer
+    for words, answer, (topic, _) in rpki_points.asked(octets):
+        if topic in ("point", "unheld"):
+            yield topic, tuple(word.decode() if isinstance(word, bytes) else word for word in words), answer
+
+
+# What is asked of the bundles of the worked cases, by the program.
+OF_CASES = {"bundles_cases": points, "rpki_cases": walks}
 
 
 def stored(name):
@@ -411,8 +417,8 @@ def questions(name, few):
     asked = {row: [it for kind in found[row].values() for it in spread(kind, 1 if few else row.most)] for row in rows}
     for row in shortest:
         asked[row] += settings_left(shortest[row], asked[row])
-    if name == "rpki_cases":
-        for topic, words, answer in of_cases(few):
+    for make in CASES.values() if name in OF_CASES else ():
+        for topic, words, answer in OF_CASES[name](make().bundle(), few):
             row = next(row for row in rows if row.words == topic)
             asked[row].append(("\t".join(words), answer))
     return asked

@@ -1,8 +1,8 @@
 #!/usr/bin/env python3
-"""Questions about publication points, validated objects and written contents, for tests/questions/rpki_cases.py.
+"""Questions about publication points, validated objects and written contents, for tests/questions/bundles_cases.py.
 
-    rpki_places.py IN OUT   writes all of them into two files; rpki_cases.py asks some hundred of each topic, chosen so that
-                            each branch has one
+    rpki_places.py IN OUT   writes all of them into two files; bundles_cases.py asks some hundred of each topic, chosen so
+                            that each branch has one
 
 What stands at publication points comes of a second reading of the rules (rpki_points.py), what is said of validated objects of
 the defects that they are made with (objects_valid_cases.py), and what is written of contents of the writers below.
@@ -18,6 +18,7 @@ sys.path.insert(0, str(pathlib.Path(__file__).resolve().parents[1] / "lib"))
 import objects_valid_cases  # noqa: E402
 import rpki_points  # noqa: E402
 import rpki_repositories as world  # noqa: E402
+from rpki_asked import Rows  # noqa: E402
 from rpki_repositories import bits, integer, oid, tlv  # noqa: E402
 
 NUMBER = 2**32 - 1
@@ -112,21 +113,10 @@ def questions(q, whole=False):
     files(q.ask)
 
 
-class Rows:
-    """Questions beside their answers."""
-
-    def __init__(self):
-        self.rows = []
-
-    def ask(self, answer, *words):
-        self.rows.append(("\t".join(words), answer))
-
-
 def main():
     q = Rows()
     questions(q, True)
-    for path, lines in zip(map(pathlib.Path, sys.argv[1:3]), zip(*q.rows)):
-        path.write_text("".join(f"{line}\n" for line in lines))
+    q.write(*map(pathlib.Path, sys.argv[1:3]))
 
 
 if __name__ == "__main__":

@@ -1,17 +1,16 @@
 //! Questions about runs and commands: the exit status, what was written, and what was written of faults.
 
 use crate::octets::push_texts;
-use crate::shown::{tell_lines, tell_octets};
+use crate::shown::{say_octets, tell_lines};
 use crate::streams::Stream;
 use crate::walks::tell_run;
 use answers::{Answer, count_of, pieces_of, word_at};
 use anyhow::Result;
 use objects_payload::locator::Tal;
-use rpki_bundle::{BundleError, Digester};
 use rpki_commands::folder::Fault;
-use rpki_commands::{
-    Cause, Command, Counted, FAILED, Fips, RunError, bundle, check, command_of, word_of, write_all,
-};
+use rpki_commands::{Command, FAILED, bundle, check, command_of};
+use rpki_digests::Fips;
+use rpki_validator::{BundleError, Cause, Counted, Digester, RunError, word_of, write_all};
 use std::alloc::Global;
 use std::fmt::Display;
 use std::io::{Read, Write};
@@ -66,8 +65,7 @@ fn tell_written(alloc: Global, answer: &mut Answer, words: &[&str], text: &[u8])
     let ends = [word_at(words, 1), word_at(words, 2), word_at(words, 3)];
     let mut writer = Counted::new(Stream::of_words(alloc, &[], ends));
     answer.say(&write_all(&mut writer, text).is_ok());
-    answer.word("");
-    tell_octets(answer, writer.inner.taken.as_slice());
+    say_octets(answer, writer.inner.taken.as_slice());
     answer.say(&writer.failures());
 }
 
@@ -93,8 +91,7 @@ pub fn bundle_of(rt: &HostRuntime, answer: &mut Answer, words: &[&str]) {
     let mut faults = Vec::new(rt.alloc());
     let status = bundle(rt, rt.alloc(), word_at(words, 0), &mut writer, &mut faults);
     answer.say(&status);
-    answer.word("");
-    tell_octets(answer, writer.inner.taken.as_slice());
+    say_octets(answer, writer.inner.taken.as_slice());
     answer.word("");
     tell_lines(answer, faults.as_slice());
 }

@@ -7,8 +7,8 @@ use answers::{Answer, word_at};
 use anyhow::{Result, anyhow};
 use bytes::Bytes;
 use certs_key::Verifier;
-use rpki_commands::{Bundle, Fips, Path, Reach, TableVerifier, Witness, judge, reach};
-use rpki_validator::naming_chains;
+use rpki_digests::Fips;
+use rpki_validator::{Bundle, Path, Reach, TableVerifier, Witness, judge, naming_chains, reach};
 use std::alloc::Global;
 use std::rc::Rc;
 
@@ -85,17 +85,11 @@ fn tell(alloc: Global, answer: &mut Answer, topic: &str, witness: &Witness, bund
     drop(verifier);
 }
 
-/// What a judge says of the witness of words.
-pub fn judged(
-    alloc: Global,
-    answer: &mut Answer,
-    topic: &str,
-    words: &[&str],
-    bundle: &Bundle,
-) -> Result<()> {
-    let (locator, chain, object) = (word_at(words, 0), word_at(words, 1), word_at(words, 2));
+/// What a judge says of the witness of words behind the topic.
+pub fn judged(alloc: Global, answer: &mut Answer, words: &[&str], bundle: &Bundle) -> Result<()> {
+    let (locator, chain, object) = (word_at(words, 1), word_at(words, 2), word_at(words, 3));
     let witness = witness_of(alloc, locator, chain, object)?;
-    tell(alloc, answer, topic, &witness, bundle);
+    tell(alloc, answer, word_at(words, 0), &witness, bundle);
     drop(witness);
     Ok(())
 }
@@ -127,6 +121,13 @@ fn tell_chain(answer: &mut Answer, path: &Path) {
     }
 }
 
+// Chains, one after the other.
+fn tell_chains(answer: &mut Answer, chains: &[Rc<Path>]) {
+    for path in chains {
+        tell_chain(answer, path.as_ref());
+    }
+}
+
 /// The accepted chains whose last certificate names one of the URIs, with commas between.
 pub fn naming(alloc: Global, answer: &mut Answer, uris: &str, bundle: &Bundle) -> Result<()> {
     let uris = uris_of(alloc, uris)?;
@@ -135,9 +136,7 @@ pub fn naming(alloc: Global, answer: &mut Answer, uris: &str, bundle: &Bundle) -
     drop(verifier);
     drop(uris);
     let chains = chains?;
-    for path in &chains {
-        tell_chain(answer, path.as_ref());
-    }
+    tell_chains(answer, chains.as_slice());
     drop(chains);
     Ok(())
 }

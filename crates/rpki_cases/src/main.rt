@@ -1,6 +1,5 @@
-//! Worked cases of bundles, of the validator and of the program's commands, of publication points, validated objects and
-//! written contents, as data: each line of standard input asks a question, by words with a tab between, and each line of
-//! standard output answers one. The first word names the topic.
+//! Worked cases of walks, of judges and of the programs' commands, as data: each line of standard input asks a question, by
+//! words with a tab between, and each line of standard output answers one. The first word names the topic.
 //!
 //! Worlds are told line by line. A line of these gives one thing, and has no answer, or asks one question:
 //!
@@ -20,29 +19,18 @@
 //! `tests/questions/rpki_cases.py` writes both, and the folders of `data/`, and knows the answers by means of its own.
 #![tactic(auto)]
 
-mod asked;
-mod bundles;
-mod chains;
 mod commands;
 mod files;
 mod judges;
 mod noting;
-mod objects;
 mod octets;
-mod parts;
-mod points;
 mod questions;
 mod reports;
-mod said;
 mod shown;
 mod streams;
-mod times;
 mod topics;
-mod uris;
-mod validated;
 mod walks;
 mod world;
-mod written;
 
 use answers::Answer;
 use anyhow::Result;
@@ -58,7 +46,7 @@ fn take(rt: HostRuntime, world: &mut World, line: &str) -> Result<()> {
         return Ok(());
     }
     let mut answer = Answer::new(rt.alloc());
-    if let Err(error) = topics::answer(&rt, &mut answer, world, *topic, rest) {
+    if let Err(error) = topics::answer(&rt, &mut answer, world, words.as_slice()) {
         answer.say(&error);
     }
     println!(rt; "{}", answer.text())?;

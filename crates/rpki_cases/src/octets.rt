@@ -1,22 +1,13 @@
-//! Octets, texts and bundles as the words of a question have them.
+//! Octets and texts as the words of a question have them.
 
 use answers::pieces_of;
 use anyhow::Result;
 use bytes::Bytes;
 use hex::FromHex;
-use rpki_bundle::Bundle;
 use std::alloc::Global;
 
 /// The digests of a good signature, in the order in which a bundle's table has them: its key's, its message's, its own.
 pub type Row = [[u8; 32]; 3];
-
-/// The bundle of a word's octets.
-pub fn bundle_of(alloc: Global, word: &str) -> Result<Bundle> {
-    let octets = pieces_of(alloc, word)?;
-    let bundle = Bundle::decode(alloc, octets.as_slice());
-    drop(octets);
-    Ok(bundle?)
-}
 
 /// The octets of a word, as a bundle shares them.
 pub fn shared(alloc: Global, word: &str) -> Result<Bytes> {

@@ -4,7 +4,8 @@ use crate::commands::end;
 use crate::octets::push_texts;
 use answers::{Answer, pieces_of};
 use anyhow::{Result, anyhow};
-use rpki_questions::{Counted, ask, request_of};
+use rpki_questions::{ask, request_of};
+use rpki_validator::Counted;
 use std::alloc::Global;
 
 // What is answered to these words, of the bundle of these octets.

@@ -3,8 +3,8 @@
 use crate::shown::tell_lines;
 use answers::Answer;
 use anyhow::Result;
-use rpki_commands::{Bundle, Fips, Report, TableVerifier, walk};
-use rpki_validator::render;
+use rpki_digests::Fips;
+use rpki_validator::{Bundle, Report, TableVerifier, Witness, render, walk};
 use std::alloc::Global;
 
 // What a walk reports of a bundle.
@@ -15,19 +15,29 @@ fn report_of(alloc: Global, bundle: &Bundle) -> Result<Report> {
     Ok(report?)
 }
 
+// An object that is good, the name of a locator, and the URIs of a chain's certificates.
+fn tell_witness(answer: &mut Answer, witness: &Witness) {
+    answer.word("good ");
+    tell_lines(answer, witness.object().as_slice());
+    answer.word("");
+    tell_lines(answer, witness.locator().as_slice());
+    for uri in witness.chain() {
+        answer.word("");
+        tell_lines(answer, uri.as_slice());
+    }
+}
+
+// The witnesses of a report.
+fn tell_witnesses(answer: &mut Answer, report: &Report) {
+    for witness in report.witnesses() {
+        tell_witness(answer, witness);
+    }
+}
+
 /// All witnesses that a walk lists.
 pub fn witnesses(alloc: Global, answer: &mut Answer, bundle: &Bundle) -> Result<()> {
     let report = report_of(alloc, bundle)?;
-    for witness in report.witnesses() {
-        answer.word("good ");
-        tell_lines(answer, witness.object().as_slice());
-        answer.word("");
-        tell_lines(answer, witness.locator().as_slice());
-        for uri in witness.chain() {
-            answer.word("");
-            tell_lines(answer, uri.as_slice());
-        }
-    }
+    tell_witnesses(answer, &report);
     drop(report);
     Ok(())
 }

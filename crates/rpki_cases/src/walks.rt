@@ -7,7 +7,8 @@ use crate::shown::tell_lines;
 use crate::streams::Stream;
 use answers::{Answer, count_of, pieces_of, word_at};
 use anyhow::Result;
-use rpki_commands::{Counted, Digester, Fips, run};
+use rpki_digests::Fips;
+use rpki_validator::{Counted, Digester, run};
 use std::alloc::Global;
 
 // More places than any question has to try.

@@ -1,11 +1,10 @@
 //! A world, given part by part in any order.
 
 use crate::octets::{Row, row_of, shared, text_of};
-use crate::parts::Parts;
 use answers::{count_of, word_at};
-use anyhow::Result;
+use anyhow::{Result, anyhow};
 use bytes::Bytes;
-use rpki_bundle::{Bundle, Locator, Object, Verdict};
+use rpki_validator::{Bundle, Locator, Object, Time, Verdict};
 use std::alloc::Global;
 use std::collections::{BTreeMap, BTreeSet};
 
@@ -68,21 +67,29 @@ impl World {
         Ok(true)
     }
 
-    // Adds its parts to those of a bundle.
-    fn give(&self, parts: &mut Parts) -> Result<()> {
+    // Appends its locators, in their order.
+    fn give_locators(&self, locators: &mut Vec<Locator>) -> Result<()> {
         for (name, text) in self.locators.iter() {
-            let name = name.clone()?;
-            let text = text.clone()?;
-            parts.locators.push(Locator { name, text })?;
+            let (name, text) = (name.clone()?, text.clone()?);
+            locators.push(Locator { name, text })?;
         }
+        Ok(())
+    }
+
+    // Appends its objects, in their order.
+    fn give_objects(&self, objects: &mut Vec<Object>) -> Result<()> {
         for (uri, octets) in self.objects.iter() {
-            let uri = uri.clone()?;
-            let octets = octets.clone()?;
-            parts.objects.push(Object { uri, octets })?;
+            let (uri, octets) = (uri.clone()?, octets.clone()?);
+            objects.push(Object { uri, octets })?;
         }
+        Ok(())
+    }
+
+    // Appends the digests of its good signatures, in their order.
+    fn give_verdicts(&self, verdicts: &mut Vec<Verdict>) -> Result<()> {
         for row in self.verdicts.iter() {
             let [key, message, signature] = *row;
-            parts.verdicts.push(Verdict {
+            verdicts.push(Verdict {
                 key,
                 message,
                 signature,
@@ -93,13 +100,16 @@ impl World {
 
     /// The bundle of these parts.
     pub fn bundle(&self, alloc: Global) -> Result<Bundle> {
-        let mut parts = Parts::new(alloc);
-        match self.give(&mut parts) {
-            Ok(()) => parts.bundle(MOMENT, self.depth, None),
-            Err(error) => {
-                drop(parts);
-                Err(error)
-            }
-        }
+        let Some(moment) = Time::from_generalized(MOMENT.as_bytes()) else {
+            return Err(anyhow!("no moment"));
+        };
+        let mut locators = Vec::new(alloc);
+        self.give_locators(&mut locators)?;
+        let mut objects = Vec::new(alloc);
+        self.give_objects(&mut objects)?;
+        let mut verdicts = Vec::new(alloc);
+        self.give_verdicts(&mut verdicts)?;
+        let bundle = Bundle::from_parts(moment, self.depth, locators, objects, verdicts);
+        Ok(bundle?)
     }
 }
