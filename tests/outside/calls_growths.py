@@ -50,7 +50,6 @@ MEMORY = re.compile(r"(?:out of |no )?memory", re.IGNORECASE)
 SIGNS = string.whitespace + string.punctuation.replace("_", "")
 # What these programs of questions answer where something that they need first can't be read, whatever the error. (The others tell it.)
 UNTOLD = {
-    "attestations_cases": re.compile(r"no (anchor|attestation|authority|certificate|content|list)|unreadable"),
     "bundles_cases": re.compile(r"no (anchor|authority|certificate|chain)|unreadable( asked 0)?"),
     "resources_cases": re.compile(r"refused: no (AS resources|IP resources|family)"),
 }

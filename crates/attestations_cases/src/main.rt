@@ -8,6 +8,7 @@
 
 mod again;
 mod built;
+mod given;
 mod read;
 mod signed;
 mod signer;
@@ -24,16 +25,19 @@ struct Attestations;
 
 impl Questions for Attestations {
     fn answer(&self, alloc: Global, answer: &mut Answer, words: &[&str]) -> Result<()> {
-        match words {
-            ["read", how, digits] => read::attestation(alloc, answer, *how == "strict", *digits),
-            ["multi", how, digits] => read::multi(alloc, answer, *how == "strict", *digits),
-            ["content", digits] => read::content(alloc, answer, *digits),
-            ["signer", how, digits] => read::signer(alloc, answer, *how == "strict", *digits),
-            ["again", how, digits] => again::answer(alloc, answer, *how == "strict", *digits),
-            ["valid", rest @ ..] => valid::answer(alloc, answer, false, rest),
-            ["clock", rest @ ..] => valid::answer(alloc, answer, true, rest),
-            ["built", rest @ ..] => built::answer(alloc, answer, rest),
-            ["signed", rest @ ..] => signed::answer(alloc, answer, rest),
+        let [topic, rest @ ..] = words else {
+            return unknown();
+        };
+        match *topic {
+            "read" => read::attestation(alloc, answer, rest),
+            "multi" => read::multi(alloc, answer, rest),
+            "content" => read::content(alloc, answer, rest),
+            "signer" => read::signer(alloc, answer, rest),
+            "again" => again::answer(alloc, answer, rest),
+            "valid" => valid::at(alloc, answer, rest),
+            "clock" => valid::by_clock(alloc, answer, rest),
+            "built" => built::answer(alloc, answer, rest),
+            "signed" => signed::answer(alloc, answer, rest),
             _ => unknown(),
         }
     }

@@ -12,35 +12,52 @@ use certs_key::{PublicKey, Signature, SignatureAlgorithm, Signer, SigningError};
 use std::alloc::Global;
 use std::convert::Infallible;
 
-// What an RSA key begins with in DER, whose bits are eight octets.
-const FRONT: &[u8] = &[
-    48, 26, 48, 13, 6, 9, 42, 134, 72, 134, 247, 13, 1, 1, 1, 5, 0, 3, 9, 0,
-];
-
 /// Signs by the SHA-256 digest of a key's bits and of the message. A key is named by a number, which in eight octets is its
 /// bits; there is none named 0.
 #[derive(Clone, Copy)]
 pub struct Pen;
+
+// An RSA key in DER, whose bits are the number in eight octets.
+fn octets_of(number: u64) -> [u8; 28] {
+    let [a, b, c, d, e, f, g, h] = number.to_be_bytes();
+    [
+        48, 26, 48, 13, 6, 9, 42, 134, 72, 134, 247, 13, 1, 1, 1, 5, 0, 3, 9, 0, a, b, c, d, e, f,
+        g, h,
+    ]
+}
+
+// The key of octets in DER.
+fn read_key(alloc: Global, octets: &[u8]) -> Result<PublicKey, DecodeError<Infallible>>
+    ensures { IfOk result (λ key. IsPadded Der key.bits) }
+{
+    PublicKey::decode(alloc, octets)
+}
+
+// Why the octets of a key aren't read.
+fn cause_of(error: DecodeError<Infallible>) -> SigningError<Infallible>
+    ensures { result ≢ TooLong }
+{
+    match error {
+        DecodeError::Memory => SigningError::Memory,
+        error => {
+            drop(error);
+            SigningError::IncompatibleKey
+        }
+    }
+}
 
 // The key of its number.
 fn key_of(alloc: Global, number: u64) -> Result<PublicKey, SigningError<Infallible>>
     ensures padded { IfOk result (λ key. IsPadded Der key.bits) }
     ensures refused { IfErr result (λ e. e ≢ TooLong) }
 {
-    let Ok(octets) = Vec::from_slice(alloc, FRONT) else {
-        return Err(SigningError::Memory);
-    };
-    let mut octets = octets;
     if number == 0 {
         return Err(SigningError::KeyNotFound);
     }
-    if octets.extend_from_slice(&number.to_be_bytes()).is_err() {
-        return Err(SigningError::Memory);
-    }
-    match PublicKey::decode(alloc, octets.as_slice()) {
+    let octets = octets_of(number);
+    match read_key(alloc, octets.as_slice()) {
         Ok(key) => Ok(key),
-        Err(DecodeError::Memory) => Err(SigningError::Memory),
-        Err(_) => Err(SigningError::IncompatibleKey),
+        Err(error) => Err(cause_of(error)),
     }
 }
 

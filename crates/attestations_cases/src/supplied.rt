@@ -1,56 +1,94 @@
 //! What anchors the paths of a valid attestation, and whether just what they cover is stated then.
 
+use crate::given::{cert_of, no_memory, octets_of};
 use crate::verifier::Stub;
-use answers::{Answer, octets_of};
-use anyhow::{Result, anyhow};
-use certs_verify::{Cert, ResourceCert, TalInfo, Validate};
+use answers::Answer;
+use anyhow::{Error, Result, anyhow};
+use certs_verify::{
+    Cert, Refused, ResourceCert, TalInfo, Validate, ValidationError, VerificationError,
+};
 use certs_x509::Time;
 use objects_rta_anchors::{Tal, Validation};
 use rpki_digests::Fips;
-use std::alloc::Global;
+use std::alloc::{AllocError, Global};
+use std::rc::Rc;
 
-// The certificate of octets.
-fn cert_of(alloc: Global, digits: &str) -> Result<Cert> {
-    let octets = octets_of(alloc, digits);
-    match Cert::decode(alloc, octets.as_slice()) {
-        Ok(cert) => Ok(cert),
-        Err(error) => {
-            drop(error);
-            Err(anyhow!("no certificate"))
+// What is lacking where a certificate is refused; or that memory ran out.
+fn cause_of(error: &ValidationError, lacking: &str) -> Error {
+    match error {
+        ValidationError::Verification(VerificationError::Memory) => no_memory(),
+        _ => anyhow!("{lacking}"),
+    }
+}
+
+// The certificate that was accepted; or what is lacking.
+fn accepted(
+    said: Result<ResourceCert, Refused<ValidationError>>,
+    lacking: &str,
+) -> Result<ResourceCert> {
+    match said {
+        Ok(holder) => Ok(holder),
+        Err(refused) => {
+            let error = cause_of(&refused.error, lacking);
+            drop(refused);
+            Err(error)
+        }
+    }
+}
+
+// What the locator of each anchor is called.
+fn locator(alloc: Global) -> Result<Rc<TalInfo>, AllocError> {
+    TalInfo::from_name(String::from_str(alloc, "t")?).into_rc(alloc)
+}
+
+// The certificate as a trust anchor, with what it holds.
+fn anchored(alloc: Global, cert: Cert, now: Time) -> Result<ResourceCert> {
+    let mut stub = Stub { asked: 0 };
+    match locator(alloc) {
+        Ok(tal) => accepted(
+            cert.validate_ta_at(tal, true, now, &Fips, &mut stub),
+            "no anchor",
+        ),
+        Err(_) => {
+            drop(cert);
+            Err(no_memory())
         }
     }
 }
 
 // The trust anchor of octets, with what it holds.
 fn anchor_of(alloc: Global, digits: &str, now: Time) -> Result<ResourceCert> {
-    let tal = TalInfo::from_name(String::from_str(alloc, "t")?).into_rc(alloc)?;
+    anchored(alloc, cert_of(alloc, digits)?, now)
+}
+
+// The authority of octets, below a trust anchor.
+fn authority_below(
+    alloc: Global,
+    issuer: &ResourceCert,
+    digits: &str,
+    now: Time,
+) -> Result<ResourceCert> {
     let cert = cert_of(alloc, digits)?;
     let mut stub = Stub { asked: 0 };
-    match cert.validate_ta_at(tal, true, now, &Fips, &mut stub) {
-        Ok(anchor) => Ok(anchor),
-        Err(refused) => {
-            drop(refused);
-            Err(anyhow!("no anchor"))
-        }
-    }
+    accepted(
+        cert.validate_ca_at(alloc, issuer, true, now, &Fips, &mut stub),
+        "no authority",
+    )
+}
+
+// The authority of octets, below the trust anchor of others.
+fn authority_of(alloc: Global, above: &str, below: &str, now: Time) -> Result<ResourceCert> {
+    let issuer = anchor_of(alloc, above, now)?;
+    let said = authority_below(alloc, &issuer, below, now);
+    drop(issuer);
+    said
 }
 
 // The trust anchor of octets; or below it the authority of the octets behind a plus sign.
 fn holder_of(alloc: Global, digits: &str, now: Time) -> Result<ResourceCert> {
-    let Some((above, below)) = digits.split_once('+') else {
-        return anchor_of(alloc, digits, now);
-    };
-    let cert = cert_of(alloc, below)?;
-    let issuer = anchor_of(alloc, above, now)?;
-    let mut stub = Stub { asked: 0 };
-    let said = cert.validate_ca_at(alloc, &issuer, true, now, &Fips, &mut stub);
-    drop(issuer);
-    match said {
-        Ok(holder) => Ok(holder),
-        Err(refused) => {
-            drop(refused);
-            Err(anyhow!("no authority"))
-        }
+    match digits.split_once('+') {
+        Some((above, below)) => authority_of(alloc, above, below, now),
+        None => anchor_of(alloc, digits, now),
     }
 }
 
@@ -60,16 +98,22 @@ fn supply_ca(alloc: Global, validation: &mut Validation, digits: &str, now: Time
     let mut stub = Stub { asked: 0 };
     let said = validation.supply_ca(&holder, &mut stub);
     drop(holder);
-    Ok(said?)
+    match said {
+        Ok(found) => Ok(found),
+        Err(_) => Err(no_memory()),
+    }
+}
+
+// The locator of a text.
+fn read_locator(alloc: Global, text: &[u8]) -> Result<Tal> {
+    let name = String::from_str(alloc, "t")?;
+    Ok(Tal::from_text(alloc, name, text)?)
 }
 
 // The locator of octets.
 fn locator_of(alloc: Global, digits: &str) -> Result<Tal> {
-    let name = String::from_str(alloc, "t")?;
-    let octets = octets_of(alloc, digits);
-    let read = Tal::from_text(alloc, name, octets.as_slice());
-    drop(octets);
-    Ok(read?)
+    let octets = octets_of(alloc, digits)?;
+    read_locator(alloc, octets.as_slice())
 }
 
 // Whether the locator of the octets anchors a path.
@@ -80,9 +124,27 @@ fn supply_tal(alloc: Global, validation: &mut Validation, digits: &str) -> Resul
     Ok(said)
 }
 
-/// Whether what each step supplies anchors a path, and whether at the end all paths are anchored, and just what they cover is
-/// stated. A step is two words: `ca` or `tal`, and octets.
-pub fn answer(
+// Whether what a step supplies anchors a path.
+fn supply(
+    alloc: Global,
+    validation: &mut Validation,
+    kind: &str,
+    digits: &str,
+    now: Time,
+) -> Result<bool> {
+    match kind {
+        "ca" => supply_ca(alloc, validation, digits, now),
+        _ => supply_tal(alloc, validation, digits),
+    }
+}
+
+// Whether something is so.
+fn truth(answer: &mut Answer, is_so: bool) {
+    answer.word(if is_so { "yes" } else { "no" });
+}
+
+// Whether what each step supplies anchors a path. A step is two words: `ca` or `tal`, and octets.
+fn all(
     alloc: Global,
     answer: &mut Answer,
     validation: &mut Validation,
@@ -91,14 +153,32 @@ pub fn answer(
 ) -> Result<()> {
     for step in steps.chunks_exact(2) {
         if let [kind, digits] = step {
-            let found = match *kind {
-                "ca" => supply_ca(alloc, validation, *digits, now)?,
-                _ => supply_tal(alloc, validation, *digits)?,
-            };
-            answer.word(if found { "yes" } else { "no" });
+            truth(answer, supply(alloc, validation, *kind, *digits, now)?);
         }
     }
-    let holds = validation.finalize(alloc)?;
-    answer.word(if holds { "yes" } else { "no" });
     Ok(())
+}
+
+// Whether all paths are anchored, and just what they cover is stated.
+fn held(alloc: Global, answer: &mut Answer, validation: &Validation) -> Result<()> {
+    match validation.finalize(alloc) {
+        Ok(holds) => {
+            truth(answer, holds);
+            Ok(())
+        }
+        Err(_) => Err(no_memory()),
+    }
+}
+
+/// Whether what each step supplies anchors a path, and whether at the end all paths are anchored, and just what they cover is
+/// stated.
+pub fn answer(
+    alloc: Global,
+    answer: &mut Answer,
+    validation: &mut Validation,
+    steps: &[&str],
+    now: Time,
+) -> Result<()> {
+    all(alloc, answer, validation, steps, now)?;
+    held(alloc, answer, validation)
 }

@@ -3,10 +3,11 @@
 use answers::Answer;
 use bcder::OctetString;
 use bcder::encode::EncodeError;
+use certs_key::KeyIdentifier;
 use objects_cms::signed::SignerInfo;
-use objects_rta::{MultiSignedObject, ResourceTaggedAttestation, Rta};
-use resources_as::AsResources;
-use resources_ip::{AddressFamily, IpBlocks, IpBlocksForFamily, IpResources};
+use objects_rta::{Cert, Crl, MultiSignedObject, ResourceTaggedAttestation, Rta};
+use resources_as::{AsResources, InheritedAsResources};
+use resources_ip::{AddressFamily, InheritedIpResources, IpBlocks, IpBlocksForFamily, IpResources};
 use std::alloc::Global;
 
 // The octets of a string.
@@ -28,7 +29,8 @@ fn numbers(answer: &mut Answer, resources: &AsResources) {
             answer.say(&format_args!("[{set}]"));
             drop(set);
         }
-        Err(_) => answer.word("inherit"),
+        Err(InheritedAsResources::Inherited) => answer.word("inherit"),
+        Err(InheritedAsResources::Memory) => answer.word("memory"),
     }
 }
 
@@ -52,16 +54,22 @@ fn addresses(answer: &mut Answer, family: AddressFamily, resources: &IpResources
             set_of(answer, family, &set);
             drop(set);
         }
-        Err(_) => answer.word("inherit"),
+        Err(InheritedIpResources::Inherited) => answer.word("inherit"),
+        Err(InheritedIpResources::Memory) => answer.word("memory"),
+    }
+}
+
+// How many keys sign, and each of them.
+fn keys(answer: &mut Answer, keys: &[KeyIdentifier]) {
+    answer.say(&keys.len());
+    for key in keys {
+        answer.octets(key.as_slice());
     }
 }
 
 /// The keys that sign, what is stated of each kind, and the digest.
 pub fn content(alloc: Global, answer: &mut Answer, content: &ResourceTaggedAttestation) {
-    answer.say(&content.subject_keys().len());
-    for key in content.subject_keys() {
-        answer.octets(key.as_slice());
-    }
+    keys(answer, content.subject_keys());
     numbers(answer, content.as_resources());
     addresses(answer, AddressFamily::Ipv4, content.v4_resources());
     addresses(answer, AddressFamily::Ipv6, content.v6_resources());
@@ -80,23 +88,38 @@ pub fn signer(alloc: Global, answer: &mut Answer, signer: &SignerInfo) {
     string(alloc, answer, signer.signature());
 }
 
+// How many certificates there are, and each by its serial number and key.
+fn certs(answer: &mut Answer, certs: &[Cert]) {
+    answer.say(&certs.len());
+    for cert in certs {
+        answer.say(&cert.tbs().serial_number());
+        answer.octets(cert.tbs().subject_key_identifier().as_slice());
+    }
+}
+
+// How many lists there are, and each by its number.
+fn lists(answer: &mut Answer, lists: &[Crl]) {
+    answer.say(&lists.len());
+    for list in lists {
+        answer.say(&list.as_cert_list().crl_number());
+    }
+}
+
+// How many signers there are, and what each says.
+fn signers(alloc: Global, answer: &mut Answer, signers: &[SignerInfo]) {
+    answer.say(&signers.len());
+    for one in signers {
+        signer(alloc, answer, one);
+    }
+}
+
 /// The content and its type, the certificates by their serial numbers and keys, the lists by their numbers, and the signers.
 pub fn carried(alloc: Global, answer: &mut Answer, signed: &MultiSignedObject) {
     answer.octets(signed.content_type().as_slice());
     string(alloc, answer, signed.content());
-    answer.say(&signed.certificates().len());
-    for cert in signed.certificates() {
-        answer.say(&cert.tbs().serial_number());
-        answer.octets(cert.tbs().subject_key_identifier().as_slice());
-    }
-    answer.say(&signed.crls().len());
-    for list in signed.crls() {
-        answer.say(&list.as_cert_list().crl_number());
-    }
-    answer.say(&signed.signer_infos().len());
-    for one in signed.signer_infos() {
-        signer(alloc, answer, one);
-    }
+    certs(answer, signed.certificates());
+    lists(answer, signed.crls());
+    signers(alloc, answer, signed.signer_infos());
 }
 
 /// What an attestation says, and what it carries.
