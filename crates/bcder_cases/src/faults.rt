@@ -3,9 +3,10 @@
 use crate::contents::Values;
 use crate::steps::{Step, Steps};
 use crate::trickle::Trickle;
-use answers::{Answer, octets_of};
+use answers::Answer;
 use bcder::Mode;
 use bcder::decode::Decode;
+use bcder_values_cases::octets_told;
 use std::alloc::Global;
 
 /// The most requests and retries.
@@ -47,7 +48,7 @@ pub fn fails(alloc: Global, answer: &mut Answer, words: &[&str]) {
     let [digits, word] = words else {
         return answer.unknown();
     };
-    let octets = octets_of(alloc, *digits);
+    let octets = octets_told(alloc, answer, *digits);
     let mut last = Answer::new(alloc);
     for before in 0..MOST {
         if !failing(
@@ -89,7 +90,7 @@ pub fn dry(alloc: Global, answer: &mut Answer, words: &[&str]) {
     let [digits, word] = words else {
         return answer.unknown();
     };
-    let octets = octets_of(alloc, *digits);
+    let octets = octets_told(alloc, answer, *digits);
     let _ = Mode::Ber.decode(Trickle::dry(octets.as_slice(), 20), |cons| {
         first_and_last(alloc, answer, cons, Step::of(*word));
         Ok(())
