@@ -7,20 +7,28 @@ use answers::Answer;
 use bcder::Mode;
 use bcder::decode::Decode;
 use bcder_values_cases::octets_told;
-use std::alloc::Global;
+use std::alloc::{AllocError, Global};
 
 /// The most requests and retries.
 const MOST: usize = 64;
 
+/// Room for the answers of a step that is taken twice.
+const ROOM: usize = 1024;
+
 // The answers of a step that is taken twice, of a source that fails once, after so many requests.
-fn after(alloc: Global, octets: &[u8], before: usize, step: Step<'_>) -> Answer {
-    let mut answer = Answer::new(alloc);
+fn after(
+    alloc: Global,
+    octets: &[u8],
+    before: usize,
+    step: Step<'_>,
+) -> Result<Answer, AllocError> {
+    let mut answer = Answer::with_capacity(alloc, ROOM)?;
     let _ = Mode::Ber.decode(Trickle::failing_after(octets, before), |cons| {
         cons.step(alloc, &mut answer, step);
         cons.step(alloc, &mut answer, step);
         Ok(())
     });
-    answer
+    Ok(answer)
 }
 
 // Says the answers of a step with a failure after so many requests, unless the last ones were the same. Whether it
@@ -33,7 +41,10 @@ fn failing(
     before: usize,
     step: Step<'_>,
 ) -> bool {
-    let next = after(alloc, octets, before, step);
+    let Ok(next) = after(alloc, octets, before, step) else {
+        answer.word("memory");
+        return false;
+    };
     if next.text() != last.text() {
         answer.word(next.text());
     }
@@ -66,7 +77,10 @@ pub fn fails(alloc: Global, answer: &mut Answer, words: &[&str]) {
 
 // Says the answer of a step, unless that is lack of memory. Whether it is.
 fn again(alloc: Global, answer: &mut Answer, cons: &mut Values<'_>, step: Step<'_>) -> bool {
-    let mut next = Answer::new(alloc);
+    let Ok(mut next) = Answer::with_capacity(alloc, ROOM) else {
+        answer.word("memory");
+        return false;
+    };
     cons.step(alloc, &mut next, step);
     let is_dry = next.text() == "memory";
     if !is_dry {
