@@ -1,4 +1,5 @@
-//! What a question, or the answer to it, needs memory for beside what is asked. That memory ran out for it is told.
+//! What a question, or the answer to it, needs memory for beside what is asked. That memory ran out for
+//! it is told.
 
 use answers::Answer;
 use bcder::decode::DecodeError;
