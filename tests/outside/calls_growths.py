@@ -452,7 +452,7 @@ def is_short(outcome, answer):
     fewer = (" ".join(words[:at] + lost + words[at + 1 :]) for at, word in enumerate(words) for lost in ([], [""], [word[1:]]) if WORD.fullmatch(word))
     # (a bundle is told by a number, a word and a digest with nothing between)
     glued = answer.replace("octets", "", 1)
-    return answer.endswith(line.strip()) or line in fewer or (glued != answer and line != "" and glued.startswith(line))
+    return answer.strip().endswith(line.strip()) or line in fewer or (glued != answer and line != "" and glued.startswith(line))
 
 
 def try_question(program, shim, row, question, answer, few):
